@@ -1,0 +1,12 @@
+pub mod Ascent
+pub mod Unique
+pub mod Framed
+pub mod Aligned
+pub mod Rooted
+pub mod Places
+pub mod Paths
+pub mod Stood
+pub mod Edits
+pub mod SameShape
+pub mod Evaluate
+pub mod Evaluated

@@ -1,0 +1,5 @@
+use Rattle.archive_shape_layout.proofs.Edits.{edit_of_text_law}
+use Rattle.archive_shape_layout.proofs.laws.edit_of_text.Goals as goal
+
+pub returns : goal.returns
+returns c = edit_of_text_law

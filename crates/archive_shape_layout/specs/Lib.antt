@@ -1,0 +1,9 @@
+pub mod Bytes
+pub mod Shape
+pub mod Value
+pub mod Content
+pub mod Holds
+pub mod Laws
+pub mod Path
+pub mod Edit
+pub mod Denotes

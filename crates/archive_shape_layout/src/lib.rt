@@ -1,0 +1,15 @@
+//! The byte layout of archives, for every form of the format, and its laws.
+//!
+//! `content_of` says, one step deep, what stands at a place. `Holds` says that the bytes there have a value, and which
+//! regions are claimed on the way. `HasRoot` says that a buffer has a value at a position, with regions that ascend.
+//! Each function of `laws` has no body: it carries a law. `Shape` is a layout at run time.
+#![tactic(auto)]
+
+mod laws;
+mod shape;
+
+pub use laws::{
+    alignments_are_small_powers, ascent_is_apart, ascent_splits, edit_of_leaf, edit_of_text, frame,
+    one_value, paths_join, root_regions, value_at_path,
+};
+pub use shape::{Alignment, Pointee, Shape, Shapes, Width, same_shape};
