@@ -1,0 +1,4 @@
+pub mod Joined
+pub mod Reading
+pub mod Spelling
+pub mod Written
