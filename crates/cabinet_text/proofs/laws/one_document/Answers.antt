@@ -1,0 +1,5 @@
+use Rattle.cabinet_text.proofs.Heads.{one_document}
+use Rattle.cabinet_text.proofs.laws.one_document.Goals as goal
+
+pub returns : goal.returns
+returns c = one_document

@@ -1,0 +1,10 @@
+pub mod Tree
+pub mod Kinds
+pub mod Spelling
+pub mod Answering
+pub mod Line
+pub mod Reading
+pub mod Session
+pub mod Fault
+pub mod View
+pub mod Laws

@@ -1,0 +1,19 @@
+/// What a question was answered with.
+#[derive(Clone, Copy, Debug, PartialEq, Eq)]
+pub enum Asked {
+    /// The path leads to a node, and the answer tells of it.
+    Answered,
+    /// The path leads nowhere.
+    Missing,
+}
+
+/// What came of setting a leaf.
+#[derive(Clone, Copy, Debug, PartialEq, Eq)]
+pub enum SetAnswer {
+    /// The leaf stands there now.
+    Done,
+    /// The path leads nowhere.
+    Missing,
+    /// What stands there has another kind, or is a text of another length.
+    Refused,
+}

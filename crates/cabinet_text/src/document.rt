@@ -1,0 +1,39 @@
+ghost use Rattle.std.specs.Prelude.{◌≡◌};
+ghost use Rattle.cabinet_text.specs.Tree.{IsDocument};
+ghost use Rattle.cabinet_text.specs.View.{node_tree};
+
+use crate::node::Node;
+use std::marker::Model;
+
+/// A document.
+#[derive(Debug, Drop)]
+pub struct Document {
+    root: Node,
+}
+
+impl Model for Document {
+    ghost use Rattle.cabinet_text.specs.Tree.{Tree, IsDocument};
+    ghost use Rattle.cabinet_text.specs.View.{node_tree};
+
+    ghost Value = { Tree };
+
+    ghost view = { λ d. node_tree d.root };
+
+    ghost invariant = { λ d. IsDocument (node_tree d.root) };
+}
+
+impl Document {
+    pub(crate) fn new(root: Node) -> Document
+        requires { IsDocument (node_tree root) }
+        ensures { result ≡ node_tree root }
+    {
+        Document { root }
+    }
+
+    pub fn root(&self) -> &Node
+        ensures tree { node_tree result.now ≡ self.now }
+        ensures document { IsDocument self.now }
+    {
+        &self.root
+    }
+}

@@ -1,0 +1,114 @@
+ghost use Rattle.std.specs.Prelude.{◌≡◌, ◌↔◌, Some, IsTrue, IsUtf8, IfOk, IfErr, string_bytes};
+ghost use Rattle.cabinet_text.specs.Tree.{IsLeaf};
+ghost use Rattle.cabinet_text.specs.Spelling.{escaped, spelled_leaf};
+ghost use Rattle.cabinet_text.specs.Line.{Says, IsQuestion};
+ghost use Rattle.cabinet_text.specs.Reading.{RefusesLine, RefusesLeaf, RefusesText};
+ghost use Rattle.cabinet_text.specs.View.{leaf_of, line_of};
+
+use crate::escape::{is_escaped, unescape_text};
+use crate::leaf::Leaf;
+use crate::number::read_number;
+use crate::spelling::{behind, read_truth};
+use std::alloc::Global;
+use thiserror::Error;
+
+/// A step down a document.
+#[derive(Debug, Drop)]
+pub enum Step {
+    /// Into a map, by a key.
+    Key(String),
+    /// Into a list, by a place counted from 0.
+    Place(u64),
+    /// Into an option.
+    Inside,
+}
+
+/// What is asked for.
+#[derive(Debug, Drop)]
+pub enum Line {
+    /// The head of the node at a path.
+    Get(Vec<Step>),
+    /// To put a leaf at a path.
+    Set { path: Vec<Step>, leaf: Leaf },
+}
+
+/// Why bytes were not read as a line.
+#[derive(Clone, Copy, Debug, PartialEq, Eq, Error)]
+pub enum LineRefusal {
+    #[error("no line is spelled so")]
+    Bad,
+    #[error("out of memory")]
+    OutOfMemory,
+}
+
+impl Line {
+    /// Whether the line changes nothing.
+    pub fn is_question(&self) -> bool
+        ensures { IsTrue result ↔ IsQuestion (line_of self.now) }
+    {
+        match self {
+            Line::Get(_) => true,
+            Line::Set { .. } => false,
+        }
+    }
+}
+
+/// The text that is escaped so.
+fn read_argument(alloc: Global, argument: &[u8]) -> Result<String, LineRefusal>
+    ensures text { IfOk result (λ t. IsUtf8 (string_bytes t)) }
+    ensures escaped { IfOk result (λ t. argument.now ≡ escaped (string_bytes t)) }
+    ensures refused { IfErr result (RefusesText argument.now) }
+{
+    if !is_escaped(argument) {
+        return Err(LineRefusal::Bad);
+    }
+    match unescape_text(alloc, argument) {
+        Ok(text) => Ok(text),
+        Err(_) => Err(LineRefusal::OutOfMemory),
+    }
+}
+
+/// The leaf that is spelled so.
+fn read_leaf(alloc: Global, bytes: &[u8]) -> Result<Leaf, LineRefusal>
+    ensures leaf { IfOk result (λ l. IsLeaf (leaf_of l)) }
+    ensures spelled { IfOk result (λ l. bytes.now ≡ spelled_leaf (leaf_of l)) }
+    ensures refused { IfErr result (RefusesLeaf bytes.now) }
+{
+    if let Some(argument) = behind(bytes, b"text '".as_slice()) {
+        let text = match read_argument(alloc, argument) {
+            Ok(text) => text,
+            Err(refusal) => return Err(refusal),
+        };
+        return Ok(Leaf::Text(text));
+    }
+    if let Some(digits) = behind(bytes, b"int ".as_slice()) {
+        let Some(number) = read_number(digits) else {
+            return Err(LineRefusal::Bad);
+        };
+        return Ok(Leaf::Int(number));
+    }
+    let Some(value) = read_truth(bytes) else {
+        return Err(LineRefusal::Bad);
+    };
+    Ok(Leaf::Bool(value))
+}
+
+/// The line that is spelled so.
+pub fn read_line(alloc: Global, bytes: &[u8]) -> Result<Line, LineRefusal>
+    ensures said { IfOk result (λ line. Says bytes.now (Some (line_of line))) }
+    ensures refused { IfErr result (RefusesLine bytes.now) }
+{
+    if bytes == b"get".as_slice() {
+        return Ok(Line::Get(Vec::new(alloc)));
+    }
+    let Some(spelled) = behind(bytes, b"set ".as_slice()) else {
+        return Err(LineRefusal::Bad);
+    };
+    match read_leaf(alloc, spelled) {
+        Ok(leaf) => Ok(Line::Set {
+            path: Vec::new(alloc),
+            leaf,
+        }),
+        Err(refusal) => Err(refusal),
+    }
+}
