@@ -1,0 +1,145 @@
+-- A leaf that fits, written over the own bytes of another.
+use Rattle.std.proofs.Common.{◌≡◌, ℕ, ℤ, pos, negsuc, ◌^◌, ◌+◌, ◌-◌, ◌*◌, ◌/◌, ◌≤◌, ◌<◌, ◌==◌, Bool, true, false, w64, List, [], ◌∷◌, ◌++◌, length, drop, slice_index, refl, sym, ap, subst, ◌∙◌, arith, FitsSigned, IsUtf8, length-append, append_assoc}
+use Rattle.std.specs.Int.{from_le_bytes, cast_signed, cast_unsigned}
+use Rattle.std.proofs.lemmas.Int.{to_z-of_z}
+use Rattle.std.proofs.lemmas.Nat.{from_le_bytes-to_le_bytes_8}
+use Rattle.std.proofs.lemmas.Bool.{eqb-true}
+use Rattle.std.proofs.lemmas.List.{length-replicate, drop-append-le, drop_at}
+use Rattle.archive_shape_layout.specs.Bytes.{window}
+use Rattle.archive_shape_layout.specs.Content.{before_ff}
+use Rattle.archive_shape.specs.Bytes.{overwrite}
+use Rattle.cabinet_text.specs.Tree.{Tree, Leaf, leaf, truth, number, text, IsLeaf, IsDocument}
+use Rattle.cabinet_text.specs.Answering.{fits}
+use Rattle.cabinet_layout.specs.Bytes.{Stands, zeros, filler, truth_byte, number_bytes}
+use Rattle.cabinet_layout.specs.Node.{root_position}
+use Rattle.cabinet_layout.specs.Spelled.{IsLeafAt, HasRootLeaf}
+use Rattle.cabinet_layout.specs.Denotes.{Accepted}
+use Rattle.cabinet_layout.specs.Image.{own_offset, own_bytes, IsLeafClean, IsClean, Image}
+use Rattle.cabinet_layout.specs.Fault.{IsOutOfLine}
+use Rattle.cabinet_layout.specs.Laws.{own_place, OwnBytesWithin, EditKeepsAccepted, EditKeepsImage}
+use Rattle.cabinet_layout.proofs.Roots.{accepted_says}
+use Rattle.cabinet_layout.proofs.Making.{leaf_accepted}
+use Rattle.cabinet_layout.proofs.Pieces.{length-overwrite, length-window, window_behind, stands_there, stands_before, stands_behind, byte_before, window_from, stands_byte}
+use Rattle.cabinet_layout.proofs.Texts.{StartsFilled, text_before, Split, split_at_filler, starts_inline}
+use Rattle.cabinet_layout.proofs.Images.{IsLeafImage, image_says, image_of}
+
+-- the own bytes of a leaf lie in its node
+pub own_bytes_short : (l : Leaf) → IsDocument (leaf l) → own_offset l + length (own_bytes l) ≤ 24
+own_bytes_short (truth b) d = omega arith
+own_bytes_short (number n) d = omega arith
+own_bytes_short (text t) d = omega (arith, d.1)
+
+pub root_fits : (bytes : List ℕ) → 24 ≤ length bytes → root_position (length bytes) + 24 ≤ length bytes
+root_fits bytes h = omega arith
+
+pub own_bytes_within : OwnBytesWithin
+own_bytes_within bytes l a =
+    let r = (accepted_says bytes l a).root_leaf in
+    let s = own_bytes_short l r.document in
+    let f = root_fits bytes r.room in
+    omega arith
+
+-- a leaf that fits in a document is one of a document
+pub fits_document : (old new : Leaf) → IsDocument (leaf old) → IsLeaf new → fits old new ≡ true → IsDocument (leaf new)
+fits_document (truth b) (truth c) d l f = (tt, tt)
+fits_document (number m) (number n) d l f = (l, tt)
+fits_document (text t) (text u) d l f = let e = eqb-true _ _ f in let s = d.1 in (l, omega arith)
+fits_document (truth b) (number n) d l f = absurd (cc)
+fits_document (truth b) (text u) d l f = absurd (cc)
+fits_document (number m) (truth c) d l f = absurd (cc)
+fits_document (number m) (text u) d l f = absurd (cc)
+fits_document (text t) (truth c) d l f = absurd (cc)
+fits_document (text t) (number n) d l f = absurd (cc)
+
+truth_reads : (b : Bool) → (truth_byte b < 2) × ((truth_byte b == 1) ≡ b)
+truth_reads true = (omega arith, refl)
+truth_reads false = (omega arith, refl)
+
+number_fits : (n : ℤ) → FitsSigned w64 n → cast_unsigned w64 n < 2 ^ 64
+number_fits (pos n) f = let h = f.sfits in omega arith
+number_fits (negsuc n) f = omega arith
+
+number_reads : (n : ℤ) → FitsSigned w64 n → cast_signed w64 (from_le_bytes w64 (number_bytes n)) ≡ n
+number_reads n f = ap (cast_signed w64) (from_le_bytes-to_le_bytes_8 (cast_unsigned w64 n) (number_fits n f)) ∙ to_z-of_z w64 n f
+
+module _ (bytes : List ℕ) (pos : ℕ) (room : pos + 24 ≤ length bytes) where
+  leaf_edit : (old new : Leaf) → IsDocument (leaf old) → IsLeaf new → fits old new ≡ true → IsLeafAt bytes pos old → IsLeafAt (overwrite bytes (pos + own_offset new) (own_bytes new)) pos new
+  leaf_edit (truth b) (truth c) d l f i =
+      let w = truth_reads c in
+      let at : slice_index (overwrite bytes (pos + 1) (truth_byte c ∷ [])) (pos + 1) ≡ truth_byte c = stands_byte _ (pos + 1) (truth_byte c) (stands_there bytes (pos + 1) (truth_byte c ∷ []) (omega arith)) in
+      (byte_before bytes (pos + 1) (truth_byte c ∷ []) (omega arith) pos (omega arith) ∙ i.0, omega (arith, w.0), ap (λ x. x == 1) at ∙ w.1)
+  leaf_edit (number m) (number n) d l f i =
+      (byte_before bytes (pos + 8) (number_bytes n) (omega arith) pos (omega arith) ∙ i.0, ap (λ x. cast_signed w64 (from_le_bytes w64 x)) (stands_there bytes (pos + 8) (number_bytes n) (omega arith)) ∙ number_reads n l)
+  leaf_edit (text t) (text u) d l f i =
+      let e : length t ≡ length u = eqb-true _ _ f in
+      let short = d.1 in
+      let s = split_at_filler (window bytes (pos + 4) 8) in
+      let own : window bytes (pos + 4) 8 ≡ t ++ s.rest = s.whole ∙ ap (λ x. x ++ s.rest) i.2 in
+      let r : drop (length u) (window bytes (pos + 4) 8) ≡ s.rest = ap (λ n. drop n (window bytes (pos + 4) 8)) (sym e) ∙ ap (drop (length t)) own ∙ drop_at t s.rest (length t) refl in
+      let new : window (overwrite bytes (pos + 4) u) (pos + 4) 8 ≡ u ++ s.rest = window_from bytes (pos + 4) u 8 (omega arith) (omega arith) ∙ ap (λ x. u ++ x) r in
+      let total : length (t ++ s.rest) ≡ 8 = sym (ap length own) ∙ length-window bytes (pos + 4) 8 (omega arith) in
+      let some : 0 < length (u ++ s.rest) = omega (arith, length-append t s.rest, length-append u s.rest) in (
+        byte_before bytes (pos + 4) u (omega arith) pos (omega arith) ∙ i.0,
+        subst (λ x. IsOutOfLine x → ⊥) (sym new) (starts_inline u s.rest l s.filled some),
+        ap before_ff new ∙ text_before u s.rest l s.filled,
+      )
+  leaf_edit (truth b) (number n) d l f i = absurd (cc)
+  leaf_edit (truth b) (text u) d l f i = absurd (cc)
+  leaf_edit (number m) (truth c) d l f i = absurd (cc)
+  leaf_edit (number m) (text u) d l f i = absurd (cc)
+  leaf_edit (text t) (truth c) d l f i = absurd (cc)
+  leaf_edit (text t) (number n) d l f i = absurd (cc)
+
+  clean_edit : (old new : Leaf) → IsDocument (leaf old) → fits old new ≡ true → IsClean bytes pos (leaf old) → IsClean (overwrite bytes (pos + own_offset new) (own_bytes new)) pos (leaf new)
+  clean_edit (truth b) (truth c) d f i =
+      let own : List ℕ = truth_byte c ∷ [] in
+      (stands_there bytes (pos + 1) own (omega arith), stands_behind bytes (pos + 1) own (omega arith) (pos + 2) (zeros 22) (omega arith) i.1)
+  clean_edit (number m) (number n) d f i =
+      let own : List ℕ = number_bytes n in
+      (stands_there bytes (pos + 8) own (omega arith), (stands_before bytes (pos + 8) own (omega arith) (pos + 1) (zeros 7) (omega arith) i.1.0, stands_behind bytes (pos + 8) own (omega arith) (pos + 16) (zeros 8) (omega arith) i.1.1))
+  clean_edit (text t) (text u) d f i =
+      let e : length t ≡ length u = eqb-true _ _ f in
+      let short = d.1 in (
+        stands_there bytes (pos + 4) u (omega arith),
+        (
+          stands_before bytes (pos + 4) u (omega arith) (pos + 1) (zeros 3) (omega arith) i.1.0,
+          stands_behind bytes (pos + 4) u (omega arith) (pos + (4 + length u)) (filler (8 - length u)) (omega arith) (subst (λ n. Stands bytes (pos + (4 + n)) (filler (8 - n))) e i.1.1),
+          stands_behind bytes (pos + 4) u (omega arith) (pos + 12) (zeros 12) (omega arith) i.1.2,
+        ),
+      )
+  clean_edit (truth b) (number n) d f i = absurd (cc)
+  clean_edit (truth b) (text u) d f i = absurd (cc)
+  clean_edit (number m) (truth c) d f i = absurd (cc)
+  clean_edit (number m) (text u) d f i = absurd (cc)
+  clean_edit (text t) (truth c) d f i = absurd (cc)
+  clean_edit (text t) (number n) d f i = absurd (cc)
+
+pub edit_keeps_accepted : EditKeepsAccepted
+edit_keeps_accepted bytes old new a l f =
+    let r = (accepted_says bytes old a).root_leaf in
+    let pos = root_position (length bytes) in
+    let fit = root_fits bytes r.room in
+    let d = fits_document old new r.document l f in
+    let s = own_bytes_short new d in
+    let e : length (overwrite bytes (own_place bytes new) (own_bytes new)) ≡ length bytes = length-overwrite bytes (own_place bytes new) (own_bytes new) (omega arith) in
+    let room = r.room in
+    leaf_accepted _ new (record {
+      room = omega arith;
+      at_root = subst (λ n. IsLeafAt (overwrite bytes (own_place bytes new) (own_bytes new)) (root_position n) new) (sym e) (leaf_edit bytes pos fit old new r.document l f r.at_root);
+      document = d;
+    })
+
+pub edit_keeps_image : EditKeepsImage
+edit_keeps_image bytes old new i l f =
+    let s = image_says old bytes i in
+    let z = s.size in
+    let begins : root_position (length bytes) ≡ 0 = ap root_position s.size in
+    let d = fits_document old new s.document l f in
+    let short = own_bytes_short new d in
+    let e : length (overwrite bytes (own_place bytes new) (own_bytes new)) ≡ length bytes = length-overwrite bytes (own_place bytes new) (own_bytes new) (omega arith) in
+    image_of new (overwrite bytes (own_place bytes new) (own_bytes new)) (record {
+      size = e ∙ z;
+      node = subst (λ p. IsLeafAt (overwrite bytes (p + own_offset new) (own_bytes new)) 0 new) (sym begins) (leaf_edit bytes 0 (omega arith) old new s.document l f s.node);
+      document = d;
+      clean = subst (λ p. IsClean (overwrite bytes (p + own_offset new) (own_bytes new)) 0 (leaf new)) (sym begins) (clean_edit bytes 0 (omega arith) old new s.document f s.clean);
+    })

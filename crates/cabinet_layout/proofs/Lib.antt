@@ -1,0 +1,9 @@
+pub mod Inversions
+pub mod Roots
+pub mod Making
+pub mod Utf8
+pub mod Pieces
+pub mod Texts
+pub mod Images
+pub mod Faults
+pub mod Edits

@@ -1,0 +1,7 @@
+pub mod Bytes
+pub mod Node
+pub mod Denotes
+pub mod Image
+pub mod Fault
+pub mod Laws
+pub mod Spelled

@@ -1,0 +1,50 @@
+//! The archives of documents: their definitions, and the laws that reading, saving and editing rest on.
+#![tactic(auto)]
+
+ghost use Rattle.cabinet_layout.specs.Spelled.{SpelledOut};
+ghost use Rattle.cabinet_layout.specs.Laws.{OneDocument, OneImage, FaultRefuses, OneFault, OwnBytesWithin, EditKeepsAccepted, EditKeepsImage, RootPositions};
+
+/// What the fields of a root node say is what the layout accepts.
+pub fn spelled_out()
+    ensures { SpelledOut }
+{}
+
+/// Bytes are the archive of one document at most.
+pub fn one_document()
+    ensures { OneDocument }
+{}
+
+/// A document has one image.
+pub fn one_image()
+    ensures { OneImage }
+{}
+
+/// Bytes with a fault are the archive of no document.
+pub fn fault_refuses()
+    ensures { FaultRefuses }
+{}
+
+/// Bytes have one first fault.
+pub fn one_fault()
+    ensures { OneFault }
+{}
+
+/// The own bytes of a leaf lie in its archive.
+pub fn own_bytes_within()
+    ensures { OwnBytesWithin }
+{}
+
+/// An edit leaves an archive of the document with the new leaf.
+pub fn edit_keeps_accepted()
+    ensures { EditKeepsAccepted }
+{}
+
+/// An edit of an image leaves the image of the document with the new leaf.
+pub fn edit_keeps_image()
+    ensures { EditKeepsImage }
+{}
+
+/// The root node lies where the layout has a root of its shape: at the end of the bytes, rounded down to a multiple of 8.
+pub fn root_positions()
+    ensures { RootPositions }
+{}
