@@ -1,0 +1,4 @@
+pub mod Documents
+pub mod Doubtful
+pub mod Boxes
+pub mod Refused

@@ -1,0 +1,5 @@
+use Rattle.archive_examples.proofs.Refused.{surrogate_char}
+use Rattle.archive_examples.proofs.surrogate_char.Goals as goal
+
+pub returns : goal.returns
+returns c = surrogate_char
