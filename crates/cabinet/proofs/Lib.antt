@@ -1,0 +1,10 @@
+pub mod Short
+pub mod Outcomes
+pub mod Setting
+pub mod Fresh
+pub mod Questions
+pub mod Sessions
+pub mod SessionsGiven
+pub mod SessionsProgress
+pub mod SessionsResults
+pub mod WorkedAnswers

@@ -1,0 +1,143 @@
+-- Lines carried out, one after another.
+use Rattle.std.proofs.Common.{◌≡◌, ℕ, ◌+◌, ◌≤◌, suc, zero, List, [], ◌∷◌, ◌++◌, length, take, drop, refl, sym, ap, subst, ◌∙◌, append_assoc, append-nil, length-append, arith, Option, Some, add-one}
+use Rattle.std.proofs.lemmas.List.Elements.{All-push, All-same}
+use Rattle.archive_shape.specs.Bytes.{overwrite}
+use Rattle.archive_shape.specs.Writing.{Cut}
+use Rattle.cabinet_text.specs.Tree.{Tree, Leaf, Step}
+use Rattle.cabinet_text.specs.Answering.{outcome, change}
+use Rattle.cabinet_text.specs.declared.answer.SetAnswer.{SetAnswer}
+use Rattle.cabinet_text.specs.Line.{Line, set, Says}
+use Rattle.cabinet_text.specs.Session.{lines_of, AllSay, reply, next, answers, after, edits, edits_by}
+use Rattle.cabinet_layout.specs.Denotes.{Accepted}
+use Rattle.cabinet_layout.specs.Image.{Image, own_bytes}
+use Rattle.cabinet_layout.specs.Laws.{own_place}
+use Rattle.cabinet.specs.Editing.{Edited, put_if_done, bytes_next, bytes_after}
+use Rattle.cabinet.specs.Steps.{longest_line, Carried, Torn}
+
+-- ---- one more element
+
+pub take_next : {A : Type 0} (n : ℕ) (xs : List A) (y : A) (ys : List A) → drop n xs ≡ y ∷ ys → take (suc n) xs ≡ take n xs ++ y ∷ []
+take_next zero [] y ys e = absurd (cc)
+take_next (suc n) [] y ys e = absurd (cc)
+take_next zero (x ∷ xs) y ys e = cc
+take_next (suc n) (x ∷ xs) y ys e = ap (λ l. x ∷ l) (take_next n xs y ys e)
+
+pub take_one_more : {A : Type 0} (n : ℕ) (xs : List A) (y : A) (ys : List A) → drop n xs ≡ y ∷ ys → take (n + 1) xs ≡ take n xs ++ y ∷ []
+take_one_more n xs y ys e = rw add-one (take_next n xs y ys e)
+
+-- ---- one more line
+
+say_push : (ls : List (List ℕ)) (ss : List (Option Line)) (l : List ℕ) (s : Option Line) → AllSay ls ss → Says l s → AllSay (ls ++ l ∷ []) (ss ++ s ∷ [])
+say_push [] [] l s h k = (k, tt)
+say_push (m ∷ ls) (n ∷ ss) l s h k = (h.0, say_push ls ss l s h.1 k)
+say_push [] (n ∷ ss) l s h k = absurd h
+say_push (m ∷ ls) [] l s h k = absurd h
+
+pub say_length : (ls : List (List ℕ)) (ss : List (Option Line)) → AllSay ls ss → length ls ≡ length ss
+say_length [] [] h = refl
+say_length (m ∷ ls) (n ∷ ss) h = ap suc (say_length ls ss h.1)
+say_length [] (n ∷ ss) h = absurd h
+say_length (m ∷ ls) [] h = absurd h
+
+after_push : (t : Tree) (ss : List (Option Line)) (s : Option Line) → after t (ss ++ s ∷ []) ≡ next (after t ss) s
+after_push t [] s = refl
+after_push t (r ∷ ss) s = after_push (next t r) ss s
+
+answers_push : (t : Tree) (ss : List (Option Line)) (s : Option Line) → answers t (ss ++ s ∷ []) ≡ answers t ss ++ reply (after t ss) s
+answers_push t [] s = append-nil (reply t s)
+answers_push t (r ∷ ss) s = ap (λ x. reply t r ++ x) (answers_push (next t r) ss s) ∙ sym (append_assoc (reply t r) (answers (next t r) ss) (reply (after (next t r) ss) s))
+
+edits_push : (t : Tree) (ss : List (Option Line)) (s : Option Line) → edits t (ss ++ s ∷ []) ≡ edits t ss + edits_by (after t ss) s
+edits_push t [] s = omega arith
+edits_push t (r ∷ ss) s = omega (arith, edits_push (next t r) ss s)
+
+bytes_push : (x : List ℕ) (t : Tree) (ss : List (Option Line)) (s : Option Line) → bytes_after x t (ss ++ s ∷ []) ≡ bytes_next (bytes_after x t ss) (after t ss) s
+bytes_push x t [] s = refl
+bytes_push x t (r ∷ ss) s = bytes_push (bytes_next x t r) (next t r) ss s
+
+edited_none : (x : List ℕ) → Edited x x []
+edited_none x = record { bytes = λ t a. refl; document = λ t a. a; image = λ t i. i }
+
+edited_push : (x y z : List ℕ) (ss : List (Option Line)) (s : Option Line) → Edited x y ss → Edited y z (s ∷ []) → Edited x z (ss ++ s ∷ [])
+edited_push x y z ss s h k = record {
+  bytes = λ t a. k.bytes (after t ss) (h.document t a) ∙ ap (λ b. bytes_next b (after t ss) s) (h.bytes t a) ∙ sym (bytes_push x t ss s);
+  document = λ t a. subst (Accepted z) (sym (after_push t ss s)) (k.document (after t ss) (h.document t a));
+  image = λ t i. subst (λ u. Image u z) (sym (after_push t ss s)) (k.image (after t ss) (h.image t i));
+}
+
+-- setting a leaf is an edit
+pub edited_by_set : (x y : List ℕ) (path : List Step) (l : Leaf) (s : Option Line) (r : SetAnswer) → s ≡ Some (set path l)
+    → ((t : Tree) → Accepted x t → r ≡ outcome t path l)
+    → y ≡ put_if_done r (overwrite x (own_place x l) (own_bytes l)) x
+    → ((t : Tree) → Accepted x t → Accepted y (change t path l))
+    → ((t : Tree) → Image t x → Image (change t path l) y)
+    → Edited x y (s ∷ [])
+edited_by_set x y path l s r e answer b d i =
+    subst (λ q. Edited x y (q ∷ [])) (sym e) (record {
+      bytes = λ t a. b ∙ ap (λ q. put_if_done q (overwrite x (own_place x l) (own_bytes l)) x) (answer t a);
+      document = d;
+      image = i;
+    })
+
+-- ---- what was carried out
+
+pub none_carried : (input x old : List ℕ) → Carried input x x old old 0 0
+none_carried input x old = record {
+  said = [];
+  say = tt;
+  count = refl;
+  short = λ k d h. absurd (omega arith);
+  edits_done = edited_none x;
+  answered = λ t a. sym (append-nil old);
+  edits_counted = λ t a. refl;
+}
+
+module _ (input x y z old mid new : List ℕ) (lines edited now : ℕ) (line : List ℕ) (more : List (List ℕ)) (s : Option Line)
+    (c : Carried input x y old mid lines edited)
+    (next_is : drop lines (lines_of input) ≡ line ∷ more)
+    (short : length line ≤ longest_line)
+    (says : Says line s)
+    (edit : Edited y z (s ∷ []))
+    (counted : (t : Tree) → Accepted y t → now ≡ edited + edits_by t s) where
+  lines_say : AllSay (take (lines + 1) (lines_of input)) (c.said ++ s ∷ [])
+  lines_say = subst (λ ls. AllSay ls (c.said ++ s ∷ [])) (sym (take_one_more lines (lines_of input) line more next_is)) (say_push (take lines (lines_of input)) c.said line s c.say says)
+
+  one_more : length (c.said ++ s ∷ []) ≡ lines + 1
+  one_more = omega (arith, length-append c.said (s ∷ []), c.count)
+
+  edits_more : (t : Tree) → Accepted x t → now ≡ edits t (c.said ++ s ∷ [])
+  edits_more t a =
+      let e = counted (after t c.said) (c.edits_done.document t a) in
+      let d = c.edits_counted t a in
+      e ∙ ap (λ n. n + edits_by (after t c.said) s) d ∙ sym (edits_push t c.said s)
+
+  -- the next line was carried out and answered
+  pub step : ((t : Tree) → Accepted y t → new ≡ mid ++ reply t s) → Carried input x z old new (lines + 1) now
+  step a = record {
+    said = c.said ++ s ∷ [];
+    say = lines_say;
+    count = one_more;
+    short =
+        All-same (λ (l : List ℕ). length l ≤ longest_line) _ _ (take_one_more lines (lines_of input) line more next_is)
+        (All-push (λ (l : List ℕ). length l ≤ longest_line) (take lines (lines_of input)) line c.short short);
+    edits_done = edited_push x y z c.said s c.edits_done edit;
+    answered = λ t b.
+        a (after t c.said) (c.edits_done.document t b) ∙ ap (λ m. m ++ reply (after t c.said) s) (c.answered t b)
+        ∙ append_assoc old (answers t c.said) (reply (after t c.said) s) ∙ ap (λ m. old ++ m) (sym (answers_push t c.said s));
+    edits_counted = edits_more;
+  }
+
+  -- or carried out, and its answer cut
+  pub torn : ((t : Tree) → Accepted y t → Cut mid new (reply t s)) → Torn input x z old new (lines + 1) now
+  torn a = record {
+    before = c.said;
+    last = s;
+    say = lines_say;
+    count = one_more;
+    short =
+        All-same (λ (l : List ℕ). length l ≤ longest_line) _ _ (take_one_more lines (lines_of input) line more next_is)
+        (All-push (λ (l : List ℕ). length l ≤ longest_line) (take lines (lines_of input)) line c.short short);
+    edits_done = edited_push x y z c.said s c.edits_done edit;
+    answered = λ t b. subst (λ m. Cut m new (reply (after t c.said) s)) (c.answered t b) (a (after t c.said) (c.edits_done.document t b));
+    edits_counted = edits_more;
+  }

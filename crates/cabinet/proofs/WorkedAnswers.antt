@@ -1,0 +1,56 @@
+-- What a session in the image of a document comes to.
+use Rattle.std.proofs.Common.{◌≡◌, ◌≤◌, ◌++◌, ℕ, List, length, take, drop, Ok, Err, subst, sym, ap, ◌∙◌, append-nil, arith}
+use Rattle.std.specs.Prelude.{Result, IfOk, IfErr}
+use Rattle.std.proofs.lemmas.List.{take_all, drop_all}
+use Rattle.cabinet_text.specs.Tree.{Tree}
+use Rattle.cabinet_layout.specs.Denotes.{Accepted}
+use Rattle.cabinet_layout.specs.Image.{Image}
+use Rattle.cabinet.specs.Steps.{Carried, Torn, Completed, Faulted, read_failed, write_failed, memory_refused, line_too_long, input_too_long}
+use Rattle.cabinet.specs.Headline.{AnswersAsDocument, AnswersCut, AnswersUpTo, WorksInPlace}
+use Rattle.cabinet.specs.declared.session.Count.{Count}
+use Rattle.cabinet.specs.declared.session.RunFault.{RunFault}
+use Rattle.cabinet.specs.declared.session.RunCause.{RunCause}
+
+module _ (t : Tree) (input left x y old new : List ℕ) (i : Image t x) where
+  carried_answers : (lines edited : ℕ) → Carried input x y old new lines edited → AnswersAsDocument t input old new y lines
+  carried_answers lines edited c = record {
+    said = c.said;
+    say = c.say;
+    count = c.count;
+    written = c.answered t i.accepted;
+    image = c.edits_done.image t i;
+  }
+
+  torn_answers : (lines edited : ℕ) → Torn input x y old new lines edited → AnswersCut t input old new y lines
+  torn_answers lines edited c = record {
+    before = c.before;
+    last = c.last;
+    say = c.say;
+    count = c.count;
+    written = c.answered t i.accepted;
+    image = c.edits_done.image t i;
+  }
+
+  faulted_answers : (lines edited : ℕ) (cause : RunCause) → Faulted input left x y old new lines edited cause → AnswersUpTo cause t input old new y lines
+  faulted_answers lines edited cause (read_failed e c r) = subst (λ k. AnswersUpTo k t input old new y lines) (sym e) (carried_answers lines edited c)
+  faulted_answers lines edited cause (write_failed e c) = subst (λ k. AnswersUpTo k t input old new y lines) (sym e) (torn_answers lines edited c)
+  faulted_answers lines edited cause (memory_refused e c) = subst (λ k. AnswersUpTo k t input old new y lines) (sym e) (carried_answers lines edited c)
+  faulted_answers lines edited cause (line_too_long e c r) = subst (λ k. AnswersUpTo k t input old new y lines) (sym e) (carried_answers lines edited c)
+  faulted_answers lines edited cause (input_too_long e c r) = subst (λ k. AnswersUpTo k t input old new y lines) (sym e) (carried_answers lines edited c)
+
+  pub works : (r : Result Count RunFault)
+      → IfOk r (λ n. Completed input x y old new n.lines n.edits)
+      → IfErr r (λ f. Faulted input left x y old new f.lines f.edits f.cause)
+      → WorksInPlace t input old new y r
+  works (Ok n) done fault = (carried_answers n.lines n.edits done.carried, done.all)
+  works (Err f) done fault = faulted_answers f.lines f.edits f.cause fault
+
+-- bytes that are those of an archive are an archive
+pub accepted-along : (x y : List ℕ) → x ≡ y → ∥ ((s : Tree) × Accepted y s) ∥₁ → ∥ ((s : Tree) × Accepted x s) ∥₁
+accepted-along x y same accepted =
+    let P : List ℕ → Type 0 = λ bytes. ∥ ((s : Tree) × Accepted bytes s) ∥₁ in subst P (sym same) accepted
+
+-- a slice of a whole list, written back
+pub whole_back : (n : ℕ) (x y : List ℕ) → length y ≡ length x → length y ≤ n → take n (y ++ drop (length y) x) ≡ y
+whole_back n x y e h =
+    ap (λ d. take n (y ++ d)) (drop_all (length y) x (omega arith)) ∙ ap (take n) (append-nil y) ∙ take_all n y h

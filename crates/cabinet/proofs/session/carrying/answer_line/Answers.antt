@@ -1,0 +1,20 @@
+use Rattle.std.proofs.Common.{refl}
+use Rattle.std.specs.Prelude.{option_map}
+use Rattle.cabinet_text.specs.View.{line_of}
+use Rattle.cabinet.specs.Steps.{memory_refused, write_failed}
+use Rattle.cabinet.proofs.Sessions.{step, torn}
+use Rattle.cabinet.proofs.session.carrying.answer_line.Goals as goal
+
+pub returns-in_default-clause-carried : goal.returns-in_default-clause-carried
+returns-in_default-clause-carried g c = λ w input x old left more p n s. memory_refused refl p
+
+pub returns-in-Ok-carry_out-clause-carried : goal.returns-in-Ok-carry_out-clause-carried
+returns-in-Ok-carry_out-clause-carried g c = λ w input x old left more p n s.
+    let e = c.in-Ok-carry_out.ensures in
+    step input x _ _ old _ _ _ _ _ c.args.line.now more (option_map line_of c.in-Ok.said) p n s c.in-Ok.ensures e.edited e.edits_counted (λ t a. (e.written t a).gains w)
+
+pub returns-clause-carried : goal.returns-clause-carried
+returns-clause-carried g c = λ w input x old left more p n s.
+    let e = c.in-Err.ensures in
+    write_failed refl
+    (torn input x _ _ old _ _ _ _ _ c.args.line.now more (option_map line_of c.in-Ok.said) p n s c.in-Ok.ensures e.edited e.edits_counted (λ t a. (e.written t a).is_cut w))

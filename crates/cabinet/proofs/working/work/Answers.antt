@@ -1,0 +1,14 @@
+use Rattle.std.proofs.Common.{◌≡◌, ◌≤◌, ◌++◌, length, subst, sym, ap, ◌∙◌, refl, arith, rules}
+use Rattle.cabinet_layout.specs.Image.{Image}
+use Rattle.cabinet.proofs.WorkedAnswers.{works, whole_back}
+use Rattle.cabinet.proofs.working.work.Goals as goal
+
+pub returns-clause-works : goal.returns-clause-works
+returns-clause-works g c = λ r w.
+    let s = c.in-Ok.ensures.saved refl in
+    let items : c.save.new.writer.items ≡ s.image = s.written ∙ ap (λ x. x ++ s.image) c.new-bytes.ensures.items in
+    let i : Image c.args.document.now c.as_mut_slice.result.now = subst (Image c.args.document.now) (sym (c.as_mut_slice.ensures.value ∙ items)) s.is_image in
+    let e : length c.run_in-outcome.new.bytes ≡ length c.save.new.writer.items = search rules in
+    let k : length c.run_in-outcome.new.bytes ≤ c.save.new.writer.len = grind arith in
+    rw (whole_back _ _ _ e k)
+    (works c.args.document.now _ _ c.as_mut_slice.result.now _ _ _ i c.run_in-outcome.result (c.run_in-outcome.ensures.all r w) (c.run_in-outcome.ensures.fault r w))

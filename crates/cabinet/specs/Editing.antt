@@ -1,0 +1,33 @@
+-- What an edit does to bytes.
+use Rattle.std.specs.Prelude.{◌≡◌, ℕ, List, [], ◌∷◌, Option, Some, None}
+use Rattle.archive_shape.specs.Bytes.{overwrite}
+use Rattle.cabinet_text.specs.Tree.{Tree}
+use Rattle.cabinet_text.specs.Line.{Line, get, set}
+use Rattle.cabinet_text.specs.Answering.{outcome}
+use Rattle.cabinet_text.specs.declared.answer.SetAnswer.{SetAnswer}
+use Rattle.cabinet_text.specs.declared.answer.SetAnswer.TheVariants.{Done, Missing, Refused}
+use Rattle.cabinet_text.specs.Session.{next, after}
+use Rattle.cabinet_layout.specs.Denotes.{Accepted}
+use Rattle.cabinet_layout.specs.Image.{Image, own_bytes}
+use Rattle.cabinet_layout.specs.Laws.{own_place}
+
+-- an edit that is done writes the own bytes of its leaf, and nothing else does
+abbrev pub put_if_done : SetAnswer → List ℕ → List ℕ → List ℕ
+put_if_done Done edited bytes = edited
+put_if_done Missing edited bytes = bytes
+put_if_done Refused edited bytes = bytes
+
+abbrev pub bytes_next : List ℕ → Tree → Option Line → List ℕ
+bytes_next bytes t None = bytes
+bytes_next bytes t (Some (get path)) = bytes
+bytes_next bytes t (Some (set path l)) = put_if_done (outcome t path l) (overwrite bytes (own_place bytes l) (own_bytes l)) bytes
+
+abbrev pub bytes_after : List ℕ → Tree → List (Option Line) → List ℕ
+bytes_after bytes t [] = bytes
+bytes_after bytes t (line ∷ lines) = bytes_after (bytes_next bytes t line) (next t line) lines
+
+-- the bytes x become y by lines: those edits are written, an archive stays one, and an image stays one
+pub record Edited (x y : List ℕ) (said : List (Option Line)) : Type 0 where
+  pub bytes : (t : Tree) → Accepted x t → y ≡ bytes_after x t said
+  pub document : (t : Tree) → Accepted x t → Accepted y (after t said)
+  pub image : (t : Tree) → Image t x → Image (after t said) y

@@ -1,0 +1,41 @@
+-- What opening, asking and setting answer.
+use Rattle.std.specs.Prelude.{◌≡◌, ℕ, ◌≤◌, Bool, List, length, Result, MatchResult, IsUtf8}
+use Rattle.archive_shape_layout.specs.Content.{before_ff}
+use Rattle.archive_shape.specs.declared.error.Error.{Error}
+use Rattle.archive_shape.specs.declared.error.Error.TheVariants.{CheckStringRepr, InvalidUtf8}
+use Rattle.archive_shape.specs.Writing.{IsCounted}
+use Rattle.cabinet_text.specs.Tree.{Tree}
+use Rattle.cabinet_text.specs.Line.{Line, get, set}
+use Rattle.cabinet_text.specs.Answering.{asked_of}
+use Rattle.cabinet_text.specs.declared.answer.Asked.{Asked}
+use Rattle.cabinet_text.specs.declared.answer.Asked.TheVariants.{Answered}
+use Rattle.cabinet_layout.specs.Fault.{Fault, IsOutOfLine}
+use Rattle.cabinet.specs.declared.opened.OpenRefusal.{OpenRefusal}
+use Rattle.cabinet.specs.declared.opened.OpenRefusal.TheVariants.{Access, OutOfMemory}
+
+-- the eight bytes of a text say that it is inline, and what it is
+pub record IsInlineText (own t : List ℕ) : Type 0 where
+  pub is_inline : IsOutOfLine own → ⊥
+  pub text_is : before_ff own ≡ t
+  pub short : length t ≤ 8
+
+-- or why they do not
+pub data IsNoInlineText (own : List ℕ) (e : Error) : Type 0 where
+  is_elsewhere : IsOutOfLine own → e ≡ CheckStringRepr → IsNoInlineText own e
+  is_no_text : (IsOutOfLine own → ⊥) → (IsUtf8 (before_ff own) → ⊥) → e ≡ InvalidUtf8 → IsNoInlineText own e
+
+-- why bytes are not opened; for now opening takes no memory
+abbrev pub IsRefusedFor : List ℕ → OpenRefusal → Type 0
+IsRefusedFor bytes (Access e) = Fault bytes e
+IsRefusedFor bytes OutOfMemory = ⊥
+
+-- what a question comes to
+abbrev pub asked_by : Tree → Line → Asked
+asked_by t (get path) = asked_of t path
+asked_by t (set path l) = Answered
+
+-- a call fails exactly where its writer does
+abbrev pub Counts : {W A : Type 0} → record { pos : W → ℕ; TELLS : Bool; COUNTS : Bool; contents : W → List ℕ; failures : W → ℕ }
+    → W → W → Result A Error → Type 0
+Counts w old new result =
+    MatchResult result (λ _. w.failures new ≡ w.failures old) (IsCounted w.COUNTS (w.failures old) (w.failures new))

@@ -1,0 +1,28 @@
+-- How far a session is in its input.
+use Rattle.std.specs.Prelude.{◌≡◌, ℕ, List, ◌++◌, length, Result, MatchResult}
+use Rattle.cabinet.specs.Steps.{Carried, Faulted, newlines, begun_in}
+use Rattle.cabinet.specs.declared.session.RunCause.{RunCause}
+use Rattle.cabinet.specs.declared.session.begun.Begun.{Begun}
+
+-- Of the bytes given so far each whole line was carried out, and the line begun is what stands behind them.
+pub record Progress (input x y old new : List ℕ) (lines edited : ℕ) (begun : List ℕ) (total : ℕ) (rest : List ℕ) : Type 0 where
+  pub carried : Carried input x y old new lines edited
+  pub given : List ℕ
+  pub input_is : input ≡ given ++ rest
+  pub total_is : total ≡ length given
+  pub lines_are : lines ≡ newlines given
+  pub begun_is : begun ≡ begun_in given
+
+-- so far is a session that keeps this
+abbrev pub IsAt : List ℕ → List ℕ → List ℕ → List ℕ → List ℕ → Begun → List ℕ → Type 0
+IsAt input x y old new begun rest = Progress input x y old new begun.count.lines begun.count.edits begun.line.items begun.total rest
+
+abbrev pub StopsAt : List ℕ → List ℕ → List ℕ → List ℕ → List ℕ → List ℕ → Begun → RunCause → Type 0
+StopsAt input left x y old new begun cause = Faulted input left x y old new begun.count.lines begun.count.edits cause
+
+-- A call takes these bytes of the input, or stops. It finds the archive as y and the writer's bytes as mid, and leaves
+-- them as z and new.
+abbrev pub Takes : {A : Type 0} → List ℕ → (y z mid new : List ℕ) → Begun → Begun → Result A RunCause → Type 0
+Takes bytes y z mid new before after result =
+    (input x old left more : List ℕ) → IsAt input x y old mid before (bytes ++ more)
+    → MatchResult result (λ _. IsAt input x z old new after more) (StopsAt input left x z old new after)

@@ -1,0 +1,100 @@
+-- What the lines of a session do to the bytes that they work in, and to what is written.
+use Rattle.std.specs.Prelude.{◌≡◌, ℕ, ◌+◌, ◌<◌, ◌≤◌, ◌==◌, if◌then◌else◌, List, [], ◌∷◌, ◌++◌, length, take, count_by, Option, All}
+use Rattle.archive_shape.specs.Writing.{Cut}
+use Rattle.cabinet_text.specs.Tree.{Tree}
+use Rattle.cabinet_text.specs.Line.{Line}
+use Rattle.cabinet_text.specs.Session.{lines_of, AllSay, reply, answers, after, edits}
+use Rattle.cabinet_layout.specs.Denotes.{Accepted}
+use Rattle.cabinet.specs.Editing.{Edited}
+use Rattle.cabinet.specs.declared.session.RunCause.{RunCause}
+use Rattle.cabinet.specs.declared.session.RunCause.TheVariants.{Read, Write, OutOfMemory, LineTooLong, InputTooLong}
+
+-- the most bytes of a line and of an input
+abbrev pub longest_line : ℕ
+longest_line = 1048576
+
+abbrev pub longest_input : ℕ
+longest_input = 4294967295
+
+-- The first lines of the input were carried out, and no other: their edits are done, and their answers written.
+pub record Carried (input x y old new : List ℕ) (lines edited : ℕ) : Type 0 where
+  pub said : List (Option Line)
+  pub say : AllSay (take lines (lines_of input)) said
+  pub count : length said ≡ lines
+  pub short : All (λ line. length line ≤ longest_line) (take lines (lines_of input))
+  pub edits_done : Edited x y said
+  pub answered : (t : Tree) → Accepted x t → new ≡ old ++ answers t said
+  pub edits_counted : (t : Tree) → Accepted x t → edited ≡ edits t said
+
+-- They were, but of the answer to the last of them only a prefix was written.
+pub record Torn (input x y old new : List ℕ) (lines edited : ℕ) : Type 0 where
+  pub before : List (Option Line)
+  pub last : Option Line
+  pub say : AllSay (take lines (lines_of input)) (before ++ last ∷ [])
+  pub count : length (before ++ last ∷ []) ≡ lines
+  pub short : All (λ line. length line ≤ longest_line) (take lines (lines_of input))
+  pub edits_done : Edited x y (before ++ last ∷ [])
+  pub answered : (t : Tree) → Accepted x t → Cut (old ++ answers t before) new (reply (after t before) last)
+  pub edits_counted : (t : Tree) → Accepted x t → edited ≡ edits t (before ++ last ∷ [])
+
+-- ---- faults
+
+abbrev pub newlines : List ℕ → ℕ
+newlines bytes = count_by (λ b. b == 10) bytes
+
+-- what stands behind the last newline
+abbrev pub line_begun : List ℕ → List ℕ → List ℕ
+line_begun begun [] = begun
+line_begun begun (b ∷ bs) = if b == 10 then line_begun [] bs else line_begun (begun ++ b ∷ []) bs
+
+abbrev pub begun_in : List ℕ → List ℕ
+begun_in bytes = line_begun [] bytes
+
+-- Each whole line of what the source gave was carried out.
+pub record IsReadFault (input left : List ℕ) (lines : ℕ) : Type 0 where
+  pub given : List ℕ
+  pub input_is : input ≡ given ++ left
+  pub lines_are : lines ≡ newlines given
+
+-- A line has more bytes than a line may have, and the first byte too many is not behind the first too many of the input.
+pub record IsLineTooLong (input : List ℕ) (lines : ℕ) : Type 0 where
+  pub given : List ℕ
+  pub rest : List ℕ
+  pub input_is : input ≡ given ++ rest
+  pub within : length given ≤ longest_input + 1
+  pub long : longest_line < length (begun_in given)
+  pub lines_are : lines ≡ newlines given
+
+-- The input has more bytes than it may have, the line that the first of them is in has not, and each line that ends
+-- before it was carried out.
+pub record IsInputTooLong (input : List ℕ) (lines : ℕ) : Type 0 where
+  pub long : longest_input < length input
+  pub no_long_line : length (begun_in (take (longest_input + 1) input)) ≤ longest_line
+  pub lines_are : lines ≡ newlines (take longest_input input)
+
+-- What a fault leaves.
+pub data Faulted (input left x y old new : List ℕ) (lines edited : ℕ) (cause : RunCause) : Type 0 where
+  read_failed :
+      cause ≡ Read
+      → Carried input x y old new lines edited
+      → IsReadFault input left lines
+      → Faulted input left x y old new lines edited cause
+  write_failed : cause ≡ Write → Torn input x y old new lines edited → Faulted input left x y old new lines edited cause
+  memory_refused :
+      cause ≡ OutOfMemory → Carried input x y old new lines edited → Faulted input left x y old new lines edited cause
+  line_too_long :
+      cause ≡ LineTooLong
+      → Carried input x y old new lines edited
+      → IsLineTooLong input lines
+      → Faulted input left x y old new lines edited cause
+  input_too_long :
+      cause ≡ InputTooLong
+      → Carried input x y old new lines edited
+      → IsInputTooLong input lines
+      → Faulted input left x y old new lines edited cause
+
+-- The whole input was carried out.
+pub record Completed (input x y old new : List ℕ) (lines edited : ℕ) : Type 0 where
+  pub carried : Carried input x y old new lines edited
+  pub all : lines ≡ length (lines_of input)
+  pub short : length input ≤ longest_input

@@ -1,0 +1,27 @@
+//! Documents in archives: saved, opened, asked and edited in place.
+#![tactic(auto)]
+
+mod asking;
+#[cfg(test)]
+mod doubles;
+mod fault;
+mod node;
+mod opened;
+mod reading;
+mod saving;
+mod session;
+mod source;
+#[cfg(test)]
+mod tests;
+mod working;
+
+pub use cabinet_text::{
+    Asked, Cause, Document, Kind, Leaf, LeafRef, Line, LineRefusal, Node, SetAnswer, Step,
+    TextRefusal, read_line, read_text,
+};
+pub use fault::{Fault, fault_line};
+pub use opened::{OpenRefusal, Opened, check, open};
+pub use saving::{SaveRefusal, save};
+pub use session::{Count, RunCause, RunFault, run};
+pub use source::{Source, SourceFailed};
+pub use working::{Worked, run_in, work};

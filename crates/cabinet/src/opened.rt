@@ -1,0 +1,120 @@
+ghost use Rattle.std.specs.Prelude.{◌≡◌, ◌≢◌, ℕ, ◌+◌, ◌-◌, ◌^◌, ◌<◌, ◌≤◌, length, IfOk, IfErr, OnOk};
+ghost use Rattle.archive_shape.specs.Bytes.{overwrite};
+ghost use Rattle.cabinet_text.specs.Tree.{Tree, leaf, IsLeaf};
+ghost use Rattle.cabinet_text.specs.Answering.{outcome, change};
+ghost use Rattle.cabinet_text.specs.View.{leaf_of, lent_leaf, path_of};
+ghost use Rattle.cabinet_layout.specs.Denotes.{Accepted};
+ghost use Rattle.cabinet_layout.specs.Image.{Image, own_bytes};
+ghost use Rattle.cabinet_layout.specs.Laws.{own_place};
+ghost use Rattle.cabinet.specs.Opening.{IsRefusedFor};
+ghost use Rattle.cabinet.specs.Editing.{put_if_done};
+
+use crate::node::write_own;
+use crate::reading::{read_root, root_position};
+use archive_shape::Error;
+use cabinet_text::{Leaf, LeafRef, SetAnswer, Step, fits};
+use std::alloc::Global;
+use thiserror::Error as Described;
+
+/// Why bytes were not opened.
+#[derive(Clone, Copy, Debug, PartialEq, Eq, Described)]
+pub enum OpenRefusal {
+    /// They do not hold a node at their root position.
+    #[error("the bytes are not an archive: {0}")]
+    Access(Error),
+    #[error("out of memory")]
+    OutOfMemory,
+}
+
+/// Bytes that are the archive of a document.
+#[derive(Drop)]
+pub struct Opened<'a> {
+    pub bytes: &'a mut [u8],
+    ghost accepted: { ∥ ((t : Tree) × Accepted bytes.now t) ∥₁ },
+}
+
+/// Whether bytes are the archive of a document.
+pub fn check(_alloc: Global, bytes: &[u8]) -> Result<(), OpenRefusal>
+    ensures accepted { OnOk result ((t : Tree) × Accepted bytes.now t) }
+    ensures refused { IfErr result (IsRefusedFor bytes.now) }
+{
+    match read_root(bytes) {
+        Ok(_) => Ok(()),
+        Err(refusal) => Err(OpenRefusal::Access(refusal)),
+    }
+}
+
+/// Opens bytes that are the archive of a document, and no others; refused bytes stay as they were.
+pub fn open(alloc: Global, bytes: &mut [u8]) -> Result<Opened<'_>, OpenRefusal>
+    ensures same { IfOk result (λ o. o.bytes.ghost_name ≡ bytes.entry.ghost_name) }
+    ensures contents { IfOk result (λ o. o.bytes.now ≡ bytes.old) }
+    ensures accepted { OnOk result ((t : Tree) × Accepted bytes.old t) }
+    ensures refused { IfErr result (IsRefusedFor bytes.old) }
+{
+    match check(alloc, bytes) {
+        Ok(()) => Ok(Opened { bytes }),
+        Err(refusal) => Err(refusal),
+    }
+}
+
+impl<'a> Opened<'a> {
+    /// Opens bytes that `check` has accepted.
+    pub fn new(bytes: &'a mut [u8]) -> Opened<'a>
+        requires { ∥ ((t : Tree) × Accepted bytes.old t) ∥₁ }
+        ensures same { result.bytes.ghost_name ≡ bytes.entry.ghost_name }
+        ensures contents { result.bytes.now ≡ bytes.old }
+    {
+        Opened { bytes }
+    }
+
+    /// The bytes as they are now.
+    pub fn bytes(&self) -> &[u8]
+        ensures { result.now ≡ self.now.bytes.now }
+    {
+        self.bytes
+    }
+
+    /// The leaf that the root is.
+    pub(crate) fn root(&self) -> LeafRef<'_>
+        ensures { Accepted self.now.bytes.now (leaf (lent_leaf result)) }
+    {
+        match read_root(self.bytes) {
+            Ok(leaf) => leaf,
+            Err(_) => unreachable!(),
+        }
+    }
+
+    /// Puts a leaf at a path, if one of its kind stands there, and a text of as many bytes where it is a text. Takes no
+    /// memory.
+    pub fn set(&mut self, path: &[Step], leaf: &Leaf) -> SetAnswer
+        ensures same { self.new.bytes.ghost_name ≡ self.old.bytes.ghost_name }
+        ensures answer { (t : Tree) → Accepted self.old.bytes.now t → result ≡ outcome t (path_of path.now) (leaf_of leaf.now) }
+        ensures bytes { self.new.bytes.now ≡ put_if_done result (overwrite self.old.bytes.now (own_place self.old.bytes.now (leaf_of leaf.now)) (own_bytes (leaf_of leaf.now))) self.old.bytes.now }
+        ensures document { (t : Tree) → Accepted self.old.bytes.now t → Accepted self.new.bytes.now (change t (path_of path.now) (leaf_of leaf.now)) }
+        ensures image { (t : Tree) → Image t self.old.bytes.now → Image (change t (path_of path.now) (leaf_of leaf.now)) self.new.bytes.now }
+    {
+        set_root(self.bytes, path, leaf)
+    }
+}
+
+/// Puts a leaf at a path of the document that bytes are the archive of.
+fn set_root(bytes: &mut [u8], path: &[Step], leaf: &Leaf) -> SetAnswer
+    requires { ∥ ((t : Tree) × Accepted bytes.old t) ∥₁ }
+    ensures root { (t : Tree) → Accepted bytes.old t → result ≡ outcome t (path_of path.now) (leaf_of leaf.now) }
+    ensures legal { IsLeaf (leaf_of leaf.now) }
+    ensures bytes { bytes.new ≡ put_if_done result (overwrite bytes.old (own_place bytes.old (leaf_of leaf.now)) (own_bytes (leaf_of leaf.now))) bytes.old }
+{
+    let there = match read_root(bytes) {
+        Ok(there) => there,
+        Err(_) => unreachable!(),
+    };
+    let new = leaf.as_ref();
+    if !path.is_empty() {
+        return SetAnswer::Missing;
+    }
+    if !fits(there, new) {
+        return SetAnswer::Refused;
+    }
+    write_own(bytes, root_position(bytes.len()), new);
+    SetAnswer::Done
+}

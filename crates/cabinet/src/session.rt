@@ -1,0 +1,107 @@
+ghost use Rattle.std.specs.Prelude.{◌≡◌, ℕ, ◌-◌, ◌^◌, ◌<◌, IfOk, IfErr, MatchResult, IsTrue};
+ghost use Rattle.cabinet.specs.Steps.{Completed, Faulted};
+ghost use Rattle.cabinet.specs.Failures.{ReaderFails, WriterFails};
+
+mod begun;
+mod carrying;
+#[cfg(test)]
+mod tests;
+
+use crate::opened::Opened;
+use crate::source::Source;
+use archive_shape::Writer;
+use begun::Begun;
+use carrying::{end_input, take_piece};
+use std::alloc::Global;
+use thiserror::Error;
+
+/// How many lines were carried out, and how many of them were edits that were done.
+#[derive(Clone, Copy, Debug, PartialEq, Eq)]
+pub struct Count {
+    pub lines: u64,
+    pub edits: u64,
+}
+
+/// Why a run ended before its input.
+#[derive(Clone, Copy, Debug, PartialEq, Eq, Error)]
+pub enum RunCause {
+    /// The source failed.
+    #[error("the source failed")]
+    Read,
+    /// The writer failed, or memory was refused to it.
+    #[error("the writer failed")]
+    Write,
+    /// Memory was refused for a line.
+    #[error("out of memory")]
+    OutOfMemory,
+    /// A line of more than 1,048,576 bytes.
+    #[error("a line is too long")]
+    LineTooLong,
+    /// An input of more than 4,294,967,295 bytes.
+    #[error("the input is too long")]
+    InputTooLong,
+}
+
+/// A fault, and what was carried out before it.
+#[derive(Clone, Copy, Debug, PartialEq, Eq, Error)]
+#[error("{cause} after {lines} lines, {edits} of them edits")]
+pub struct RunFault {
+    pub cause: RunCause,
+    pub lines: u64,
+    pub edits: u64,
+}
+
+impl RunFault {
+    /// The fault of this cause after so much.
+    fn after(count: Count, cause: RunCause) -> RunFault
+        ensures cause { result.cause ≡ cause }
+        ensures lines { result.lines ≡ count.lines }
+        ensures edits { result.edits ≡ count.edits }
+    {
+        RunFault {
+            cause,
+            lines: count.lines,
+            edits: count.edits,
+        }
+    }
+}
+
+/// The most bytes that are read at once.
+const PIECE: usize = 16384;
+
+/// Carries out the lines of a source, and answers each. Memory is taken for a line that does not lie whole in what one
+/// read gives, and for the text of a line.
+pub fn run<R: Source, W: Writer>(
+    alloc: Global,
+    opened: &mut Opened<'_>,
+    reader: &mut R,
+    writer: &mut W,
+) -> Result<Count, RunFault>
+    requires reader_counts { R.failures reader.old < 2 ^ 64 - 1 }
+    requires writer_counts { W.failures writer.old < 2 ^ 64 - 1 }
+    ensures same { opened.new.bytes.ghost_name ≡ opened.old.bytes.ghost_name }
+    ensures all { IsTrue R.TELLS → IsTrue W.TELLS → IfOk result (λ n. Completed (R.left reader.old) opened.old.bytes.now opened.new.bytes.now (W.contents writer.old) (W.contents writer.new) n.lines n.edits) }
+    ensures fault { IsTrue R.TELLS → IsTrue W.TELLS → IfErr result (λ f. Faulted (R.left reader.old) (R.left reader.new) opened.old.bytes.now opened.new.bytes.now (W.contents writer.old) (W.contents writer.new) f.lines f.edits f.cause) }
+    ensures reader_fails { MatchResult result (λ _. R.failures reader.new ≡ R.failures reader.old) (λ f. ReaderFails f.cause (R.failures reader.old) (R.failures reader.new)) }
+    ensures writer_fails { MatchResult result (λ _. W.failures writer.new ≡ W.failures writer.old) (λ f. WriterFails W.COUNTS f.cause (W.failures writer.old) (W.failures writer.new)) }
+{
+    let mut piece = [0u8; PIECE];
+    let mut begun = Begun::new(alloc);
+    loop {
+        let len = match reader.read(&mut piece) {
+            Ok(len) => len,
+            Err(_) => return Err(RunFault::after(begun.count, RunCause::Read)),
+        };
+        if len == 0 {
+            break;
+        }
+        match take_piece(alloc, opened, &mut begun, &piece[..len], writer) {
+            Ok(()) => {}
+            Err(cause) => return Err(RunFault::after(begun.count, cause)),
+        }
+    }
+    match end_input(alloc, opened, &mut begun, writer) {
+        Ok(()) => Ok(begun.count),
+        Err(cause) => Err(RunFault::after(begun.count, cause)),
+    }
+}

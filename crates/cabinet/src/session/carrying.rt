@@ -1,0 +1,229 @@
+// Lines are carried out.
+ghost use Rattle.std.specs.Prelude.{◌≡◌, ◌≢◌, ℕ, ◌+◌, ◌-◌, ◌^◌, ◌<◌, ◌≤◌, ◌==◌, ◌++◌, List, [], ◌∷◌, length, drop, IfOk, IfErr, OnOk, MatchResult, option_map, position, IsTrue};
+ghost use Rattle.archive_shape.specs.Writing.{Writes};
+ghost use Rattle.cabinet_text.specs.Tree.{Tree};
+ghost use Rattle.cabinet_text.specs.Line.{Says};
+ghost use Rattle.cabinet_text.specs.Session.{lines_of, reply, edits_by};
+ghost use Rattle.cabinet_text.specs.View.{line_of};
+ghost use Rattle.cabinet_layout.specs.Denotes.{Accepted};
+ghost use Rattle.cabinet.specs.Opening.{Counts};
+ghost use Rattle.cabinet.specs.Editing.{Edited};
+ghost use Rattle.cabinet.specs.Steps.{longest_line, newlines, Carried, Faulted, Completed};
+ghost use Rattle.cabinet.specs.Failures.{WriterFails};
+ghost use Rattle.cabinet.specs.Progress.{IsAt, StopsAt, Takes};
+
+use super::begun::{Begun, LONGEST_INPUT, LONGEST_LINE};
+use super::{Count, RunCause};
+use crate::opened::Opened;
+use archive_shape::{Error, Writer};
+use cabinet_text::{Line, LineRefusal, SetAnswer, read_line, write_bad, write_outcome};
+use std::alloc::{AllocError, Global};
+
+/// What bytes say, if anything.
+fn read_said(alloc: Global, bytes: &[u8]) -> Result<Option<Line>, AllocError>
+    ensures { IfOk result (λ line. Says bytes.now (option_map line_of line)) }
+{
+    match read_line(alloc, bytes) {
+        Ok(line) => Ok(Some(line)),
+        Err(LineRefusal::Bad) => Ok(None),
+        Err(LineRefusal::OutOfMemory) => Err(AllocError),
+    }
+}
+
+/// Carries out what a line says, and answers it.
+fn carry_out<W: Writer>(
+    opened: &mut Opened<'_>,
+    said: &Option<Line>,
+    edits: &mut u64,
+    writer: &mut W,
+) -> Result<(), Error>
+    requires room { W.failures writer.old < 2 ^ 64 - 1 }
+    requires edits_fit { edits.old < 2 ^ 64 - 1 }
+    ensures same { opened.new.bytes.ghost_name ≡ opened.old.bytes.ghost_name }
+    ensures edited { Edited opened.old.bytes.now opened.new.bytes.now (option_map line_of said.now ∷ []) }
+    ensures written { (t : Tree) → Accepted opened.old.bytes.now t → Writes W.Writer writer.old writer.new (reply t (option_map line_of said.now)) result }
+    ensures counted { Counts W.Writer writer.old writer.new result }
+    ensures edits_counted { (t : Tree) → Accepted opened.old.bytes.now t → edits.new ≡ edits.old + edits_by t (option_map line_of said.now) }
+    ensures edits_grow { edits.new ≤ edits.old + 1 }
+{
+    match said {
+        None => write_bad(writer),
+        Some(Line::Set { path, leaf }) => {
+            let outcome = opened.set(path, leaf);
+            if outcome == SetAnswer::Done {
+                *edits += 1;
+            }
+            write_outcome(outcome, writer)
+        }
+        Some(question) => match opened.ask(question, writer) {
+            Ok(_) => Ok(()),
+            Err(refusal) => Err(refusal),
+        },
+    }
+}
+
+/// Carries out a line, and answers it.
+fn answer_line<W: Writer>(
+    alloc: Global,
+    opened: &mut Opened<'_>,
+    line: &[u8],
+    count: &mut Count,
+    writer: &mut W,
+) -> Result<(), RunCause>
+    requires room { W.failures writer.old < 2 ^ 64 - 1 }
+    requires lines_fit { count.old.lines < 2 ^ 64 - 1 }
+    requires edits_within { count.old.edits ≤ count.old.lines }
+    ensures same { opened.new.bytes.ghost_name ≡ opened.old.bytes.ghost_name }
+    ensures lines_grow { count.new.lines ≤ count.old.lines + 1 }
+    ensures line_counted { OnOk result (count.new.lines ≡ count.old.lines + 1) }
+    ensures edits_within { count.new.edits ≤ count.new.lines }
+    ensures not_read { IfErr result (λ cause. cause ≢ RunCause.Read) }
+    ensures writer_fails { MatchResult result (λ _. W.failures writer.new ≡ W.failures writer.old) (λ cause. WriterFails W.COUNTS cause (W.failures writer.old) (W.failures writer.new)) }
+    ensures carried { IsTrue W.TELLS → (input x old left : List ℕ) (more : List (List ℕ))
+        → Carried input x opened.old.bytes.now old (W.contents writer.old) count.old.lines count.old.edits
+        → drop count.old.lines (lines_of input) ≡ line.now ∷ more
+        → length line.now ≤ longest_line
+        → MatchResult result
+        (λ _. Carried input x opened.new.bytes.now old (W.contents writer.new) count.new.lines count.new.edits)
+        (λ cause. Faulted input left x opened.new.bytes.now old (W.contents writer.new) count.new.lines count.new.edits cause) }
+{
+    let Ok(said) = read_said(alloc, line) else {
+        return Err(RunCause::OutOfMemory);
+    };
+    count.lines += 1;
+    match carry_out(opened, &said, &mut count.edits, writer) {
+        Ok(()) => Ok(()),
+        Err(_) => Err(RunCause::Write),
+    }
+}
+
+/// Takes the rest of a line, whose newline is next, and carries the line out.
+fn end_line<W: Writer>(
+    alloc: Global,
+    opened: &mut Opened<'_>,
+    begun: &mut Begun,
+    rest: &[u8],
+    writer: &mut W,
+) -> Result<(), RunCause>
+    requires room { W.failures writer.old < 2 ^ 64 - 1 }
+    requires within { begun.old.total + length rest.now < 4294967295 }
+    ensures same { opened.new.bytes.ghost_name ≡ opened.old.bytes.ghost_name }
+    ensures total { OnOk result (begun.new.total ≡ begun.old.total + length rest.now + 1) }
+    ensures not_read { IfErr result (λ cause. cause ≢ RunCause.Read) }
+    ensures writer_fails { MatchResult result (λ _. W.failures writer.new ≡ W.failures writer.old) (λ cause. WriterFails W.COUNTS cause (W.failures writer.old) (W.failures writer.new)) }
+    ensures taken { IsTrue W.TELLS → newlines rest.now ≡ 0 → Takes (rest.now ++ 10 ∷ []) opened.old.bytes.now opened.new.bytes.now (W.contents writer.old) (W.contents writer.new) begun.old begun.new result }
+{
+    if rest.len() > LONGEST_LINE - begun.line.len() {
+        return Err(RunCause::LineTooLong);
+    }
+    begun.total += rest.len() as u64 + 1;
+    if begun.line.is_empty() {
+        return answer_line(alloc, opened, rest, &mut begun.count, writer);
+    }
+    match begun.line.extend_from_slice(rest) {
+        Ok(()) => {}
+        Err(_) => return Err(RunCause::OutOfMemory),
+    }
+    let answered = answer_line(
+        alloc,
+        opened,
+        begun.line.as_slice(),
+        &mut begun.count,
+        writer,
+    );
+    begun.line.clear();
+    answered
+}
+
+/// Where the first newline stands.
+fn newline_in(bytes: &[u8]) -> Option<usize>
+    ensures { result ≡ position (λ b. b == 10) bytes.now }
+{
+    bytes.iter().position(|byte| *byte == b'\n')
+}
+
+/// Takes a piece of the input whole.
+fn feed<W: Writer>(
+    alloc: Global,
+    opened: &mut Opened<'_>,
+    begun: &mut Begun,
+    piece: &[u8],
+    writer: &mut W,
+) -> Result<(), RunCause>
+    requires room { W.failures writer.old < 2 ^ 64 - 1 }
+    requires within { begun.old.total + length piece.now ≤ 4294967295 }
+    ensures total { OnOk result (begun.new.total ≡ begun.old.total + length piece.now) }
+    ensures same { opened.new.bytes.ghost_name ≡ opened.old.bytes.ghost_name }
+    ensures not_read { IfErr result (λ cause. cause ≢ RunCause.Read) }
+    ensures writer_fails { MatchResult result (λ _. W.failures writer.new ≡ W.failures writer.old) (λ cause. WriterFails W.COUNTS cause (W.failures writer.old) (W.failures writer.new)) }
+    ensures taken { IsTrue W.TELLS → Takes piece.now opened.old.bytes.now opened.new.bytes.now (W.contents writer.old) (W.contents writer.new) begun.old begun.new result }
+{
+    let mut rest = piece;
+    while let Some(end) = newline_in(rest) {
+        match end_line(alloc, opened, begun, &rest[..end], writer) {
+            Ok(()) => rest = &rest[end + 1..],
+            Err(cause) => return Err(cause),
+        }
+    }
+    begun.take(rest)
+}
+
+/// Takes a piece of the input, as much of it as an input may have.
+pub(super) fn take_piece<W: Writer>(
+    alloc: Global,
+    opened: &mut Opened<'_>,
+    begun: &mut Begun,
+    piece: &[u8],
+    writer: &mut W,
+) -> Result<(), RunCause>
+    requires { W.failures writer.old < 2 ^ 64 - 1 }
+    ensures total { OnOk result (begun.new.total ≡ begun.old.total + length piece.now) }
+    ensures same { opened.new.bytes.ghost_name ≡ opened.old.bytes.ghost_name }
+    ensures not_read { IfErr result (λ cause. cause ≢ RunCause.Read) }
+    ensures writer_fails { MatchResult result (λ _. W.failures writer.new ≡ W.failures writer.old) (λ cause. WriterFails W.COUNTS cause (W.failures writer.old) (W.failures writer.new)) }
+    ensures taken { IsTrue W.TELLS → Takes piece.now opened.old.bytes.now opened.new.bytes.now (W.contents writer.old) (W.contents writer.new) begun.old begun.new result }
+{
+    let room = LONGEST_INPUT - begun.total;
+    if piece.len() as u64 <= room {
+        return feed(alloc, opened, begun, piece, writer);
+    }
+    let allowed = room as usize;
+    match feed(alloc, opened, begun, &piece[..allowed], writer) {
+        Ok(()) => {}
+        Err(cause) => return Err(cause),
+    }
+    if piece[allowed] == b'\n' || begun.line.len() < LONGEST_LINE {
+        return Err(RunCause::InputTooLong);
+    }
+    Err(RunCause::LineTooLong)
+}
+
+/// Carries out the last line, if it has no newline.
+pub(super) fn end_input<W: Writer>(
+    alloc: Global,
+    opened: &mut Opened<'_>,
+    begun: &mut Begun,
+    writer: &mut W,
+) -> Result<(), RunCause>
+    requires { W.failures writer.old < 2 ^ 64 - 1 }
+    ensures same { opened.new.bytes.ghost_name ≡ opened.old.bytes.ghost_name }
+    ensures not_read { IfErr result (λ cause. cause ≢ RunCause.Read) }
+    ensures writer_fails { MatchResult result (λ _. W.failures writer.new ≡ W.failures writer.old) (λ cause. WriterFails W.COUNTS cause (W.failures writer.old) (W.failures writer.new)) }
+    ensures ended { IsTrue W.TELLS → (input x old left : List ℕ) → IsAt input x opened.old.bytes.now old (W.contents writer.old) begun.old []
+        → MatchResult result
+        (λ _. Completed input x opened.new.bytes.now old (W.contents writer.new) begun.new.count.lines begun.new.count.edits)
+        (StopsAt input left x opened.new.bytes.now old (W.contents writer.new) begun.new) }
+{
+    if begun.line.is_empty() {
+        return Ok(());
+    }
+    let answered = answer_line(
+        alloc,
+        opened,
+        begun.line.as_slice(),
+        &mut begun.count,
+        writer,
+    );
+    begun.line.clear();
+    answered
+}

@@ -1,0 +1,66 @@
+ghost use Rattle.std.specs.Prelude.{◌≡◌, ◌-◌, ◌^◌, ◌<◌, false, IsTrue, IfOk, IfErr};
+ghost use Rattle.cabinet_text.specs.Tree.{Tree};
+ghost use Rattle.cabinet_layout.specs.Denotes.{Accepted};
+ghost use Rattle.cabinet.specs.Saving.{IsUnsavedFor};
+ghost use Rattle.cabinet.specs.Steps.{Completed, Faulted};
+ghost use Rattle.cabinet.specs.Headline.{WorksInPlace};
+
+use crate::opened::{Opened, check};
+use crate::saving::{SaveRefusal, save};
+use crate::session::{Count, RunFault, run};
+use crate::source::Source;
+use archive_shape::Writer;
+use cabinet_text::Document;
+use std::alloc::Global;
+
+/// What working in a saved document left, and what came of it.
+#[derive(Drop)]
+pub struct Worked {
+    pub bytes: Vec<u8>,
+    pub outcome: Result<Count, RunFault>,
+}
+
+/// Carries out the lines of a source in bytes that `check` accepts. Whatever fails, they stay an archive.
+pub fn run_in<R: Source, W: Writer>(
+    alloc: Global,
+    bytes: &mut [u8],
+    reader: &mut R,
+    writer: &mut W,
+) -> Result<Count, RunFault>
+    requires accepted { ∥ ((t : Tree) × Accepted bytes.old t) ∥₁ }
+    requires reader_counts { R.failures reader.old < 2 ^ 64 - 1 }
+    requires writer_counts { W.failures writer.old < 2 ^ 64 - 1 }
+    ensures kept { ∥ ((t : Tree) × Accepted bytes.new t) ∥₁ }
+    ensures all { IsTrue R.TELLS → IsTrue W.TELLS → IfOk result (λ n. Completed (R.left reader.old) bytes.old bytes.new (W.contents writer.old) (W.contents writer.new) n.lines n.edits) }
+    ensures fault { IsTrue R.TELLS → IsTrue W.TELLS → IfErr result (λ f. Faulted (R.left reader.old) (R.left reader.new) bytes.old bytes.new (W.contents writer.old) (W.contents writer.new) f.lines f.edits f.cause) }
+{
+    match check(alloc, bytes) {
+        Ok(()) => {}
+        Err(_) => unreachable!(),
+    }
+    let mut opened = Opened::new(bytes);
+    run(alloc, &mut opened, reader, writer)
+}
+
+/// Saves a document, opens what was saved, and carries out the lines of a source in it: line for line the answers are
+/// those of the document, and the bytes are those that saving it, as edited so far, writes.
+pub fn work<R: Source, W: Writer>(
+    alloc: Global,
+    document: &Document,
+    reader: &mut R,
+    writer: &mut W,
+) -> Result<Worked, SaveRefusal>
+    requires reader_counts { R.failures reader.old < 2 ^ 64 - 1 }
+    requires writer_counts { W.failures writer.old < 2 ^ 64 - 1 }
+    ensures works { IsTrue R.TELLS → IsTrue W.TELLS → IfOk result (λ w. WorksInPlace document.now (R.left reader.old) (W.contents writer.old) (W.contents writer.new) w.bytes.items w.outcome) }
+    // The document is saved into a vector, which counts no failures.
+    ensures refused { IfErr result (IsUnsavedFor document.now false 0 0) }
+{
+    let mut bytes = Vec::new(alloc);
+    match save(alloc, document, &mut bytes) {
+        Ok(()) => {}
+        Err(refusal) => return Err(refusal),
+    }
+    let outcome = run_in(alloc, bytes.as_mut_slice(), reader, writer);
+    Ok(Worked { bytes, outcome })
+}
