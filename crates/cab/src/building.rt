@@ -1,0 +1,55 @@
+ghost use Rattle.std.specs.Prelude.{◌≡◌, ◌<◌, IfOk, IfErr, string_bytes, string_len, codes};
+ghost use Rattle.cabinet.specs.Reporting.{status_of};
+ghost use Rattle.cab.specs.Building.{Builds, RefusesText};
+
+use cabinet::{Fault, read_text, save};
+use std::alloc::Global;
+use std::fs;
+use std::rt::Files;
+
+/// The archive of the document that has a text.
+pub fn archive_of(alloc: Global, text: &[u8]) -> Result<Vec<u8>, Fault>
+    ensures built { IfOk result (λ archive. Builds text.now archive.items) }
+    ensures refused { IfErr result (RefusesText text.now) }
+{
+    let document = match read_text(alloc, text) {
+        Ok(document) => document,
+        Err(refusal) => return Err(Fault::Text(refusal)),
+    };
+    let mut archive = Vec::new(alloc);
+    match save(alloc, &document, &mut archive) {
+        Ok(()) => Ok(archive),
+        Err(refusal) => Err(Fault::Save(refusal)),
+    }
+}
+
+/// The path that stands for the standard output, in the memory of another.
+fn standard_output(mut path: String) -> String
+    ensures { 0 < string_len path → string_bytes result ≡ codes "-" }
+{
+    path.clear();
+    let _ = path.push('-');
+    path
+}
+
+/// Saves the document that a text file holds as an archive file, and prints how many bytes it has.
+pub fn build<R: Files + Print + AllocGlobal>(
+    rt: &R,
+    text: String,
+    archive: String,
+) -> Result<(), Fault>
+    ensures { IfErr result (λ fault. status_of fault ≡ 1) }
+{
+    let Ok(bytes) = fs::read(rt, text.as_str()) else {
+        return Err(Fault::CannotRead(text));
+    };
+    let image = archive_of(rt.alloc(), bytes.as_slice())?;
+    if fs::write(rt, archive.as_str(), image.as_slice()).is_err() {
+        return Err(Fault::CannotWrite(archive));
+    }
+    let len = image.len();
+    match println!(rt; "built {len}") {
+        Ok(()) => Ok(()),
+        Err(_) => Err(Fault::CannotWrite(standard_output(text))),
+    }
+}

@@ -1,0 +1,68 @@
+// The standard output and error, as what lines are written to. Of their bytes nothing is known, so they do not tell what
+// they hold.
+ghost use Rattle.std.specs.Prelude.{◌≡◌, false, true, []};
+
+use archive_shape::{Error, Positional, Writer};
+use std::io;
+use std::io::Write;
+
+/// A stream that bytes are written to, how many were, and how many writes failed.
+#[derive(Drop)]
+pub struct OutputStream<W: Write + Drop> {
+    stream: W,
+    pub position: usize,
+    pub failures: u64,
+}
+
+impl<W: Write + Drop> OutputStream<W> {
+    pub fn new(stream: W) -> OutputStream<W>
+        ensures position { result.position ≡ 0 }
+        ensures failures { result.failures ≡ 0 }
+    {
+        OutputStream {
+            stream,
+            position: 0,
+            failures: 0,
+        }
+    }
+
+    /// Writes what a buffer still holds.
+    pub fn flush(&mut self) -> io::Result<()> {
+        self.stream.flush()
+    }
+}
+
+impl<W: Write + Drop> Positional for OutputStream<W> {
+    ghost pos = { λ w. w.position };
+
+    fn pos(&self) -> usize {
+        self.position
+    }
+}
+
+impl<W: Write + Drop> Writer for OutputStream<W> {
+    ghost TELLS = { false };
+
+    ghost COUNTS = { true };
+
+    ghost contents = { λ _. [] };
+
+    ghost failures = { λ w. w.failures };
+
+    fn counts() -> bool {
+        true
+    }
+
+    fn write(&mut self, bytes: &[u8]) -> Result<(), Error> {
+        let Some(position) = self.position.checked_add(bytes.len()) else {
+            self.failures += 1;
+            return Err(Error::PositionTooLarge);
+        };
+        if self.stream.write_all(bytes).is_err() {
+            self.failures += 1;
+            return Err(Error::WriterFailed);
+        }
+        self.position = position;
+        Ok(())
+    }
+}

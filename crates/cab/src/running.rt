@@ -1,0 +1,119 @@
+ghost use Rattle.std.specs.Prelude.{◌≡◌, ◌-◌, ◌^◌, ◌<◌, true, IfErr, MatchResult};
+ghost use Rattle.cabinet_text.specs.Tree.{Tree};
+ghost use Rattle.cabinet_layout.specs.Denotes.{Accepted};
+ghost use Rattle.cabinet.specs.Reporting.{status_of};
+ghost use Rattle.cab.specs.Ending.{IsFlushed, IsFirstFault};
+
+use crate::input::InputStream;
+use crate::output::OutputStream;
+use cabinet::{Count, Fault, RunCause, RunFault, check, run_in};
+use std::alloc::Global;
+use std::fs::OpenOptions;
+use std::io::{BufWriter, Write};
+use std::rt::Files;
+use std::{fs, io};
+
+/// The most bytes of answers that wait to be written.
+const BUFFER: usize = 65536;
+
+/// What a run comes to whose last answers were written, or not.
+fn flushed(outcome: Result<Count, RunFault>, is_written: bool) -> Result<Count, RunFault>
+    ensures { IsFlushed outcome is_written result }
+{
+    match outcome {
+        Ok(Count { lines, edits }) if !is_written => Err(RunFault {
+            cause: RunCause::Write,
+            lines,
+            edits,
+        }),
+        outcome => outcome,
+    }
+}
+
+/// Carries out the lines of the standard input in an accepted archive. Answers are written once `BUFFER` bytes of them
+/// wait, and at the end.
+fn run_lines<R: Input + Print>(rt: &R, alloc: Global, archive: &mut [u8]) -> Result<Count, RunFault>
+    requires { ∥ ((t : Tree) × Accepted archive.old t) ∥₁ }
+    ensures { ∥ ((t : Tree) × Accepted archive.new t) ∥₁ }
+{
+    let Ok(stream) = BufWriter::with_capacity(alloc, BUFFER, io::writer(rt)) else {
+        return Err(RunFault {
+            cause: RunCause::OutOfMemory,
+            lines: 0,
+            edits: 0,
+        });
+    };
+    let mut answers = OutputStream::new(stream);
+    let mut lines = InputStream::new(rt.reader());
+    let outcome = run_in(alloc, archive, &mut lines, &mut answers);
+    let is_written = answers.flush().is_ok();
+    flushed(outcome, is_written)
+}
+
+/// How many edits were done.
+fn edits_of(outcome: &Result<Count, RunFault>) -> u64
+    ensures { MatchResult outcome.now (λ count. result ≡ count.edits) (λ fault. result ≡ fault.edits) }
+{
+    match outcome {
+        Ok(count) => count.edits,
+        Err(fault) => fault.edits,
+    }
+}
+
+/// Writes an archive over the file that it was read from. Edits keep its length.
+fn write_back<R: Files>(rt: &R, path: &str, archive: &[u8]) -> io::Result<()>
+    requires { ∥ ((t : Tree) × Accepted archive.now t) ∥₁ }
+{
+    OpenOptions::new()
+        .write(true)
+        .open(rt, path)?
+        .write_all(archive)
+}
+
+/// Writes an archive back if it was edited, and says whether all edits are in its file.
+fn keep_edits<R: Files>(rt: &R, path: &str, archive: &[u8], edits: u64) -> bool
+    requires { ∥ ((t : Tree) × Accepted archive.now t) ∥₁ }
+    ensures { edits ≡ 0 → result ≡ true }
+{
+    edits == 0 || write_back(rt, path, archive).is_ok()
+}
+
+/// What is told of a run whose archive was written back, or not: the first fault.
+fn first_fault(outcome: Result<Count, RunFault>, is_kept: bool, path: String) -> Result<(), Fault>
+    ensures { IsFirstFault outcome is_kept path result }
+{
+    match outcome {
+        Err(fault) => Err(Fault::Run(fault)),
+        Ok(_) if is_kept => Ok(()),
+        Ok(_) => Err(Fault::CannotWrite(path)),
+    }
+}
+
+/// Carries out the lines of the standard input in what was read from a file, if it is an archive.
+fn edit_archive<R: Files + Input + Print + AllocGlobal>(
+    rt: &R,
+    path: String,
+    archive: &mut [u8],
+) -> Result<(), Fault>
+    ensures { IfErr result (λ fault. status_of fault ≡ 1) }
+{
+    if let Err(refusal) = check(rt.alloc(), archive) {
+        return Err(Fault::Open(refusal));
+    }
+    let outcome = run_lines(rt, rt.alloc(), archive);
+    let is_kept = keep_edits(rt, path.as_str(), archive, edits_of(&outcome));
+    first_fault(outcome, is_kept, path)
+}
+
+/// Carries out the lines of the standard input in an archive file, and writes it back where one of them was an edit.
+pub fn run_archive<R: Files + Input + Print + AllocGlobal>(
+    rt: &R,
+    path: String,
+) -> Result<(), Fault>
+    ensures { IfErr result (λ fault. status_of fault ≡ 1) }
+{
+    match fs::read(rt, path.as_str()) {
+        Ok(mut archive) => edit_archive(rt, path, archive.as_mut_slice()),
+        Err(_) => Err(Fault::CannotRead(path)),
+    }
+}

@@ -1,0 +1,475 @@
+#!/usr/bin/env bash
+# Runs cab on files in a temporary folder. Each case compares what cab prints, its faults, its status and what it leaves
+# in its files with what is written here.
+set -u
+root=$(cd "$(dirname "$0")/.." && pwd)
+work=$(mktemp -d)
+trap 'rm -rf "$work"' EXIT
+cab=$root/crates/cab/out/cab
+
+# Proves and builds cab, if that was not done.
+echo 'proving and building cab'
+if ! (cd "$root/crates/cab" && rt run -- build "$root/examples/first/text" "$work/first.cab") < /dev/null > "$work/log" 2>&1; then
+    cat "$work/log"
+    echo 'cab was not built'
+    echo '0 passed, 1 failed'
+    exit 1
+fi
+mkdir "$work/files"
+cd "$work/files" || exit 1
+
+usage='cab: usage: cab build TEXT ARCHIVE | cab run ARCHIVE\n'
+five=010000000000000005000000000000000000000000000000
+six=010000000000000006000000000000000000000000000000
+passed=0
+failed=0
+
+# ---- the steps of a case
+
+begin() {
+    name=$1
+    wrong=
+    rm -rf ./*
+    : > input
+}
+
+# text FORMAT: the file text, as printf writes it
+text() {
+    printf "$1" > text
+}
+
+# lines FORMAT: the standard input
+lines() {
+    printf "$1" > input
+}
+
+# archive HEX: the file a.cab
+archive() {
+    printf "$(sed 's/../\\x&/g' <<< "$1")" > a.cab
+}
+
+# cab runs on the words
+run() {
+    "$cab" "$@" < input > output 2> errors
+    ended=$?
+}
+
+differs() {
+    wrong="$wrong; $1"
+}
+
+# prints FORMAT: what cab wrote to its standard output
+prints() {
+    printf "$1" | cmp -s - output || differs "it printed $(head -c 200 output | tr '\n' '|')"
+}
+
+# ends STATUS FORMAT: the status that cab ended with, and what it wrote to its standard error
+ends() {
+    [ "$ended" = "$1" ] || differs "it ended with status $ended"
+    printf "$2" | cmp -s - errors || differs "its faults were $(head -c 200 errors | tr '\n' '|')"
+}
+
+# holds FILE HEX: the bytes of a file
+holds() {
+    [ "$(od -An -v -t x1 "$1" 2> /dev/null | tr -d ' \n')" = "$2" ] || differs "$1 has other bytes"
+}
+
+lacks() {
+    [ ! -e "$1" ] || differs "$1 is there"
+}
+
+finish() {
+    if [ -z "$wrong" ]; then
+        passed=$((passed + 1))
+        echo "ok: $name"
+    else
+        failed=$((failed + 1))
+        echo "FAILED: $name$wrong"
+    fi
+}
+
+# ---- the cases that differ in their texts alone
+
+# builds TEXT HEX
+builds() {
+    begin "the archive of: $1"
+    text "$1\n"
+    run build text a.cab
+    prints "built $((${#2} / 2))\n"
+    ends 0 ''
+    holds a.cab "$2"
+    finish
+}
+
+# refuses NAME TEXT LINE CAUSE
+refuses() {
+    begin "a text refused: $1"
+    text "$2"
+    run build text new.cab
+    prints ''
+    ends 1 "cab: text line $3: $4\n"
+    lacks new.cab
+    archive "${five}bbbb"
+    run build text a.cab
+    ends 1 "cab: text line $3: $4\n"
+    holds a.cab "${five}bbbb"
+    finish
+}
+
+# answers NAME LINES ANSWERS HEX: in the archive of int 5
+answers() {
+    begin "$1"
+    archive "$five"
+    lines "$2"
+    run run a.cab
+    prints "$3"
+    ends 0 ''
+    holds a.cab "$4"
+    finish
+}
+
+# misused WORD..
+misused() {
+    begin "other words: $*"
+    run "$@"
+    prints ''
+    ends 2 "$usage"
+    lacks build
+    lacks run
+    lacks a.cab
+    finish
+}
+
+# a line of so many bytes
+long_line() {
+    head -c "$1" /dev/zero | tr '\0' x
+    echo
+}
+
+# ---- build
+
+builds 'int 5' "$five"
+builds 'int -1' 0100000000000000ffffffffffffffff0000000000000000
+builds 'int 9223372036854775807' 0100000000000000ffffffffffffff7f0000000000000000
+builds 'int -9223372036854775808' 010000000000000000000000000000800000000000000000
+builds 'bool true' 000100000000000000000000000000000000000000000000
+builds 'bool false' 000000000000000000000000000000000000000000000000
+builds "text 'world" 02000000776f726c64ffffff000000000000000000000000
+builds "text '" 02000000ffffffffffffffff000000000000000000000000
+builds "text 'a\\\\sb\\\\nc" 020000006120620a63ffffff000000000000000000000000
+
+refuses 'int 05' 'int 05\n' 1 BadNumber
+refuses 'int -0' 'int -0\n' 1 BadNumber
+refuses 'int 9223372036854775808' 'int 9223372036854775808\n' 1 BadNumber
+refuses 'no newline' 'int 5' 1 NoNewline
+refuses 'a second line' 'int 5\nint 5\n' 2 LineAfterEnd
+refuses "text 'a b" "text 'a b\n" 1 BadEscape
+refuses 'bytes that are not UTF-8' '\xff\n' 1 NotUtf8
+refuses 'the empty text' '' 1 EndTooEarly
+refuses 'another head' 'float 5\n' 1 UnknownHead
+
+begin 'a longer old archive is cut'
+text 'int 5\n'
+archive "$six$six"
+run build text a.cab
+prints 'built 24\n'
+ends 0 ''
+holds a.cab "$five"
+finish
+
+begin 'a text that is not there'
+run build no-text a.cab
+prints ''
+ends 1 'cab: cannot read no-text\n'
+lacks a.cab
+finish
+
+begin 'a text that is a folder'
+mkdir folder
+run build folder a.cab
+prints ''
+ends 1 'cab: cannot read folder\n'
+lacks a.cab
+finish
+
+begin 'a path of no bytes'
+run build '' a.cab
+prints ''
+ends 1 'cab: cannot read \n'
+lacks a.cab
+finish
+
+begin 'an archive in a folder that is not there'
+text 'int 5\n'
+run build text no-folder/a.cab
+prints ''
+ends 1 'cab: cannot write no-folder/a.cab\n'
+finish
+
+for output in /dev/full closed; do
+    begin "the number of bytes is not printed: $output"
+    text 'int 5\n'
+    if [ $output = closed ]; then
+        "$cab" build text a.cab < input >&- 2> errors
+    else
+        "$cab" build text a.cab < input > $output 2> errors
+    fi
+    ended=$?
+    ends 1 'cab: cannot write -\n'
+    holds a.cab "$five"
+    finish
+done
+
+# ---- words
+
+misused
+misused build
+misused build text
+misused build text a.cab more
+misused run
+misused run a.cab more
+misused saves a.cab
+misused BUILD text a.cab
+misused '' a.cab
+misused --help
+misused run $'\xff.cab'
+misused $'\xff' a.cab
+misused build text $'a\xff.cab'
+
+# ---- run
+
+answers 'a question, an edit, a question' 'get\nset int 6\nget\n' 'int 5\nok\nint 6\n' "$six"
+answers 'two spaces' "get  'a\n" 'bad\n' "$five"
+answers 'an empty line' '\n' 'bad\n' "$five"
+answers 'a line that is not UTF-8' 'get\xff\n' 'bad\n' "$five"
+answers 'a line for another kind' "set shared 'x\n" 'bad\n' "$five"
+answers 'a range' "range 'a 'b\n" 'bad\n' "$five"
+answers 'a leaf of another kind' 'set bool true\nget\n' 'refused\nint 5\n' "$five"
+answers 'a line goes on after a refused one' 'get x\nset int 6\n' 'bad\nok\n' "$six"
+answers 'the last line without a newline' 'set int 6\nget' 'ok\nint 6\n' "$six"
+answers 'a byte 0 in a line' 'get\0\nget\n' 'bad\nint 5\n' "$five"
+
+begin 'no input: the file is untouched'
+archive "$five"
+touch -d '2001-02-03 04:05:06' a.cab
+before=$(stat -c '%i %y' a.cab)
+run run a.cab
+prints ''
+ends 0 ''
+holds a.cab "$five"
+[ "$(stat -c '%i %y' a.cab)" = "$before" ] || differs 'it was written'
+finish
+
+begin 'questions alone: the file is untouched'
+archive "$five"
+lines 'get\nset bool true\nget\n'
+touch -d '2001-02-03 04:05:06' a.cab
+before=$(stat -c '%i %y' a.cab)
+run run a.cab
+prints 'int 5\nrefused\nint 5\n'
+ends 0 ''
+[ "$(stat -c '%i %y' a.cab)" = "$before" ] || differs 'it was written'
+finish
+
+begin 'an edit to the value that is there writes the file'
+archive "$five"
+lines 'set int 5\n'
+touch -d '2001-02-03 04:05:06' a.cab
+before=$(stat -c '%i %y' a.cab)
+run run a.cab
+prints 'ok\n'
+ends 0 ''
+holds a.cab "$five"
+[ "$(stat -c '%i %y' a.cab)" != "$before" ] || differs 'it was not written'
+finish
+
+begin 'edits of a text'
+archive 02000000776f726c64ffffff000000000000000000000000
+lines "get\nset text 'WORLD\nset text 'worlds\nset text 'wor\nget\n"
+run run a.cab
+prints "text 'world\nok\nrefused\nrefused\ntext 'WORLD\n"
+ends 0 ''
+holds a.cab 02000000574f524c44ffffff000000000000000000000000
+finish
+
+begin 'an edit of a truth value'
+archive 000100000000000000000000000000000000000000000000
+lines 'get\nset bool false\nget\n'
+run run a.cab
+prints 'bool true\nok\nbool false\n'
+ends 0 ''
+holds a.cab 000000000000000000000000000000000000000000000000
+finish
+
+begin 'bytes behind the archive stay'
+archive "${five}bbbbbbbbbbbbbb"
+lines 'get\n'
+run run a.cab
+prints 'int 5\n'
+ends 0 ''
+holds a.cab "${five}bbbbbbbbbbbbbb"
+lines 'set int 6\nget\n'
+run run a.cab
+prints 'ok\nint 6\n'
+ends 0 ''
+holds a.cab "${six}bbbbbbbbbbbbbb"
+finish
+
+begin 'bytes that no field has stay'
+archive 01aaaaaaaaaaaaaa0500000000000000aaaaaaaaaaaaaaaa
+lines 'get\nset int 6\nget\n'
+run run a.cab
+prints 'int 5\nok\nint 6\n'
+ends 0 ''
+holds a.cab 01aaaaaaaaaaaaaa0600000000000000aaaaaaaaaaaaaaaa
+finish
+
+for bytes in '' 01 "${five:2}" ff0000000000000005000000000000000000000000000000 000200000000000000000000000000000000000000000000 02000000fe6f726c64ffffff000000000000000000000000; do
+    begin "no archive: ${bytes:-no bytes}"
+    archive "$bytes"
+    lines 'get\nset int 6\n'
+    run run a.cab
+    prints ''
+    ends 1 'cab: open: Access\n'
+    holds a.cab "$bytes"
+    finish
+done
+
+begin 'an archive that is not there'
+lines 'get\n'
+run run a.cab
+prints ''
+ends 1 'cab: cannot read a.cab\n'
+lacks a.cab
+finish
+
+begin 'the longest line'
+archive "$five"
+{ long_line 1048576; echo get; } > input
+run run a.cab
+prints 'bad\nint 5\n'
+ends 0 ''
+finish
+
+begin 'a line that is too long'
+archive "$five"
+{ printf 'get\nset int 6\n'; long_line 1048577; echo get; } > input
+run run a.cab
+prints 'int 5\nok\n'
+ends 1 'cab: run: LineTooLong after 2 lines\n'
+holds a.cab "$six"
+finish
+
+begin 'a line that is too long, and has no end'
+archive "$five"
+head -c 3000000 /dev/zero > input
+run run a.cab
+prints ''
+ends 1 'cab: run: LineTooLong after 0 lines\n'
+holds a.cab "$five"
+finish
+
+for output in /dev/full closed; do
+    begin "answers are not written: $output"
+    archive "$five"
+    lines 'get\n'
+    if [ $output = closed ]; then
+        "$cab" run a.cab < input >&- 2> errors
+    else
+        "$cab" run a.cab < input > $output 2> errors
+    fi
+    ended=$?
+    ends 1 'cab: run: Write after 1 lines\n'
+    holds a.cab "$five"
+    lines 'set int 6\n'
+    if [ $output = closed ]; then
+        "$cab" run a.cab < input >&- 2> errors
+    else
+        "$cab" run a.cab < input > $output 2> errors
+    fi
+    ended=$?
+    ends 1 'cab: run: Write after 1 lines\n'
+    holds a.cab "$six"
+    finish
+done
+
+begin 'a reader of the answers that goes away'
+archive "$five"
+{ echo 'set int 6'; yes get | head -n 1000000; } > input
+{ "$cab" run a.cab < input 2> errors; echo $? > status; } | head -n 1 > output
+ended=$(cat status)
+prints 'ok\n'
+grep -qx 'cab: run: Write after [0-9]* lines' errors || differs "its faults were $(cat errors)"
+[ "$ended" = 1 ] || differs "it ended with status $ended"
+holds a.cab "$six"
+finish
+
+# More than a pipe holds, so that cab has read its archive when the last of them are written.
+many_gets() {
+    yes get | head -n 100000
+}
+
+prints_many() {
+    { yes 'int 5' | head -n 100000; printf "$1"; } | cmp -s - output || differs 'it printed something else'
+}
+
+begin 'a file that goes away before it is written back'
+archive "$five"
+{ many_gets; rm a.cab; echo 'set int 6'; } | "$cab" run a.cab > output 2> errors
+ended=$?
+prints_many 'ok\n'
+ends 1 'cab: cannot write a.cab\n'
+lacks a.cab
+finish
+
+begin 'of two faults the first is told'
+archive "$five"
+{ many_gets; rm a.cab; echo 'set int 6'; long_line 1048577; } | "$cab" run a.cab > output 2> errors
+ended=$?
+prints_many 'ok\n'
+ends 1 'cab: run: LineTooLong after 100001 lines\n'
+lacks a.cab
+finish
+
+begin 'the standard input is closed'
+archive "$five"
+"$cab" run a.cab <&- > output 2> errors
+ended=$?
+prints ''
+ends 1 'cab: run: Read after 0 lines\n'
+holds a.cab "$five"
+finish
+
+begin 'the standard error is closed'
+archive "$five"
+lines 'set int 6\n'
+"$cab" run a.cab more < input > output 2>&-
+ended=$?
+: > errors
+ends 2 ''
+"$cab" run a.cab < input > /dev/full 2>&-
+ended=$?
+ends 1 ''
+holds a.cab "$six"
+finish
+
+begin 'lines that come in pieces'
+archive "$five"
+{ printf 'ge'; sleep 0.2; printf 't\nset '; sleep 0.2; printf 'int 6\nget\n'; } | "$cab" run a.cab > output 2> errors
+ended=$?
+prints 'int 5\nok\nint 6\n'
+ends 0 ''
+holds a.cab "$six"
+finish
+
+begin 'many lines'
+archive "$five"
+{ seq 1 100000 | sed 's/^/set int /; a get'; } > input
+run run a.cab
+seq 1 100000 | sed 's/^/int /; i ok' | cmp -s - output || differs 'it printed something else'
+ends 0 ''
+holds a.cab 0100000000000000a0860100000000000000000000000000
+finish
+
+echo "$passed passed, $failed failed"
+[ "$failed" -eq 0 ]
