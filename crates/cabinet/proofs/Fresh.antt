@@ -1,5 +1,5 @@
 -- The images of leaves, made of the images of `bool false`, `int 0` and the empty text.
-use Rattle.std.proofs.Common.{◌≡◌, ℕ, ℤ, pos, ◌+◌, ◌-◌, ◌≤◌, ◌<◌, Bool, true, false, w64, List, [], ◌∷◌, ◌++◌, length, take, drop, replicate, slice_index, refl, sym, ap, subst, ◌∙◌, arith, FitsSigned, IsUtf8, length-append, lit<, zero-add}
+use Rattle.std.proofs.Common.{◌≡◌, ℕ, ℤ, pos, ◌+◌, ◌-◌, ◌≤◌, ◌<◌, Bool, false, w64, List, [], ◌∷◌, ◌++◌, length, take, drop, refl, sym, ap, subst, ◌∙◌, arith, FitsSigned, length-append, lit<, zero-add}
 use Rattle.std.proofs.lemmas.List.{drop-drop, drop-append-le, drop-replicate, length-replicate, take_at}
 use Rattle.archive_shape_layout.specs.Bytes.{window}
 use Rattle.archive_shape_layout.specs.Content.{before_ff}
@@ -11,7 +11,7 @@ use Rattle.cabinet.specs.Saving.{blank}
 use Rattle.cabinet_layout.specs.Fault.{IsOutOfLine}
 use Rattle.cabinet_layout.proofs.Pieces.{length-overwrite, window_from, byte_before, stands_there, stands_before, stands_behind}
 use Rattle.cabinet_layout.proofs.Texts.{StartsFilled, text_before, starts_inline}
-use Rattle.cabinet_layout.proofs.Images.{IsLeafImage, image_of}
+use Rattle.cabinet_layout.proofs.Images.{image_of}
 use Rattle.cabinet_layout.proofs.Edits.{edit_keeps_image}
 
 zero_fits : FitsSigned w64 (pos 0)

@@ -1,5 +1,5 @@
 -- What stands before the first ff is no longer than the bytes.
-use Rattle.std.proofs.Common.{ℕ, suc, ◌≤◌, ◌==◌, Bool, true, false, cond, List, [], ◌∷◌, length, arith, le_refl}
+use Rattle.std.proofs.Common.{ℕ, suc, ◌≤◌, ◌==◌, true, false, cond, List, [], ◌∷◌, length, arith, le_refl}
 use Rattle.archive_shape_layout.specs.Content.{before_ff}
 
 pub before_ff-short : (bytes : List ℕ) → length (before_ff bytes) ≤ length bytes

@@ -1,8 +1,6 @@
 -- What saving answers.
 use Rattle.std.specs.Prelude.{◌≡◌, ℕ, ◌+◌, Bool, true, false, List, ◌∷◌, ◌++◌}
-use Rattle.archive_shape.specs.declared.error.Error.{Error}
 use Rattle.archive_shape.specs.declared.error.Error.TheVariants.{StringTooLong}
-use Rattle.archive_shape.specs.Writing.{Cut}
 use Rattle.cabinet_text.specs.Tree.{Tree, Leaf, truth, number, text}
 use Rattle.cabinet_layout.specs.Bytes.{zeros}
 use Rattle.cabinet_layout.specs.Image.{Image, IsPastLimits}

@@ -1,27 +1,26 @@
 -- A leaf that fits, written over the own bytes of another.
-use Rattle.std.proofs.Common.{◌≡◌, ℕ, ℤ, pos, negsuc, ◌^◌, ◌+◌, ◌-◌, ◌*◌, ◌/◌, ◌≤◌, ◌<◌, ◌==◌, Bool, true, false, w64, List, [], ◌∷◌, ◌++◌, length, drop, slice_index, refl, sym, ap, subst, ◌∙◌, arith, FitsSigned, IsUtf8, length-append, append_assoc}
+use Rattle.std.proofs.Common.{◌≡◌, ℕ, ℤ, pos, negsuc, ◌^◌, ◌+◌, ◌-◌, ◌≤◌, ◌<◌, ◌==◌, Bool, true, false, w64, List, [], ◌∷◌, ◌++◌, length, drop, slice_index, refl, sym, ap, subst, ◌∙◌, arith, FitsSigned, length-append}
 use Rattle.std.specs.Int.{from_le_bytes, cast_signed, cast_unsigned}
 use Rattle.std.proofs.lemmas.Int.{to_z-of_z}
 use Rattle.std.proofs.lemmas.Nat.{from_le_bytes-to_le_bytes_8}
 use Rattle.std.proofs.lemmas.Bool.{eqb-true}
-use Rattle.std.proofs.lemmas.List.{length-replicate, drop-append-le, drop_at}
+use Rattle.std.proofs.lemmas.List.{drop_at}
 use Rattle.archive_shape_layout.specs.Bytes.{window}
 use Rattle.archive_shape_layout.specs.Content.{before_ff}
 use Rattle.archive_shape.specs.Bytes.{overwrite}
-use Rattle.cabinet_text.specs.Tree.{Tree, Leaf, leaf, truth, number, text, IsLeaf, IsDocument}
+use Rattle.cabinet_text.specs.Tree.{Leaf, leaf, truth, number, text, IsLeaf, IsDocument}
 use Rattle.cabinet_text.specs.Answering.{fits}
 use Rattle.cabinet_layout.specs.Bytes.{Stands, zeros, filler, truth_byte, number_bytes}
 use Rattle.cabinet_layout.specs.Node.{root_position}
-use Rattle.cabinet_layout.specs.Spelled.{IsLeafAt, HasRootLeaf}
-use Rattle.cabinet_layout.specs.Denotes.{Accepted}
-use Rattle.cabinet_layout.specs.Image.{own_offset, own_bytes, IsLeafClean, IsClean, Image}
+use Rattle.cabinet_layout.specs.Spelled.{IsLeafAt}
+use Rattle.cabinet_layout.specs.Image.{own_offset, own_bytes, IsClean}
 use Rattle.cabinet_layout.specs.Fault.{IsOutOfLine}
 use Rattle.cabinet_layout.specs.Laws.{own_place, OwnBytesWithin, EditKeepsAccepted, EditKeepsImage}
 use Rattle.cabinet_layout.proofs.Roots.{accepted_says}
 use Rattle.cabinet_layout.proofs.Making.{leaf_accepted}
-use Rattle.cabinet_layout.proofs.Pieces.{length-overwrite, length-window, window_behind, stands_there, stands_before, stands_behind, byte_before, window_from, stands_byte}
-use Rattle.cabinet_layout.proofs.Texts.{StartsFilled, text_before, Split, split_at_filler, starts_inline}
-use Rattle.cabinet_layout.proofs.Images.{IsLeafImage, image_says, image_of}
+use Rattle.cabinet_layout.proofs.Pieces.{length-overwrite, length-window, stands_there, stands_before, stands_behind, byte_before, window_from, stands_byte}
+use Rattle.cabinet_layout.proofs.Texts.{text_before, split_at_filler, starts_inline}
+use Rattle.cabinet_layout.proofs.Images.{image_says, image_of}
 
 -- the own bytes of a leaf lie in its node
 pub own_bytes_short : (l : Leaf) → IsDocument (leaf l) → own_offset l + length (own_bytes l) ≤ 24

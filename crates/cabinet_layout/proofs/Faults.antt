@@ -1,5 +1,5 @@
 -- Bytes with a fault are no archive, and denote one document at most.
-use Rattle.std.proofs.Common.{◌≡◌, ℕ, ◌≤◌, List, length, arith, subst, sym, ap, ◌∙◌}
+use Rattle.std.proofs.Common.{◌≡◌, ℕ, List, length, arith, subst, sym}
 use Rattle.std.specs.Prelude.{IsUtf8}
 use Rattle.archive_shape_layout.specs.Value.{Value}
 use Rattle.archive_shape_layout.proofs.Unique.{one_value_law}
@@ -7,7 +7,7 @@ use Rattle.archive_shape.specs.declared.error.Error.{Error}
 use Rattle.cabinet_text.specs.Tree.{Tree, Leaf, leaf, truth, number, text, IsDocument}
 use Rattle.cabinet_layout.specs.Node.{root_position}
 use Rattle.cabinet_layout.specs.Spelled.{IsLeafAt, HasRootLeaf}
-use Rattle.cabinet_layout.specs.Denotes.{Denotes, denotes_truth, denotes_number, denotes_text, Accepted}
+use Rattle.cabinet_layout.specs.Denotes.{Denotes, denotes_truth, denotes_number, denotes_text}
 use Rattle.cabinet_layout.specs.Fault.{NodeFault, no_such_tag, no_truth_value, text_elsewhere, no_text, Fault, too_short, in_the_root}
 use Rattle.cabinet_layout.specs.Laws.{OneDocument, FaultRefuses}
 use Rattle.cabinet_layout.proofs.Roots.{accepted_says}

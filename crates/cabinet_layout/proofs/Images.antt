@@ -1,16 +1,15 @@
 -- What the image of a leaf is: 24 bytes, covered by the pieces of its node.
-use Rattle.std.proofs.Common.{◌≡◌, ℕ, ◌+◌, ◌-◌, ◌*◌, ◌/◌, ◌≤◌, ◌<◌, List, [], ◌∷◌, length, refl, sym, ap, subst, ◌∙◌, arith, replicate}
+use Rattle.std.proofs.Common.{◌≡◌, ℕ, ◌+◌, ◌-◌, List, [], ◌∷◌, length, refl, sym, ap, subst, ◌∙◌, arith}
 use Rattle.std.proofs.lemmas.List.{length-replicate}
 use Rattle.archive_shape_layout.specs.Bytes.{align_up}
-use Rattle.archive_shape_layout.specs.Holds.{Region, end_after}
-use Rattle.cabinet_text.specs.Tree.{Tree, Leaf, leaf, truth, number, text, IsDocument}
+use Rattle.archive_shape_layout.specs.Holds.{end_after}
+use Rattle.cabinet_text.specs.Tree.{Leaf, leaf, truth, number, text, IsDocument}
 use Rattle.cabinet_layout.specs.Bytes.{Stands, zeros, filler, truth_byte, number_bytes}
 use Rattle.cabinet_layout.specs.Node.{root_position}
 use Rattle.cabinet_layout.specs.Spelled.{IsLeafAt, HasRootLeaf}
-use Rattle.cabinet_layout.specs.Denotes.{Accepted}
-use Rattle.cabinet_layout.specs.Image.{own_offset, own_bytes, IsLeafClean, IsClean, ArePlaced, IsPastLimits, Image}
+use Rattle.cabinet_layout.specs.Image.{IsClean, ArePlaced, IsPastLimits, Image}
 use Rattle.cabinet_layout.specs.Laws.{OneImage}
-use Rattle.cabinet_layout.proofs.Roots.{root_region, RootSays, accepted_says}
+use Rattle.cabinet_layout.proofs.Roots.{root_region, accepted_says}
 use Rattle.cabinet_layout.proofs.Making.{leaf_accepted, regions_of_leaf}
 use Rattle.cabinet_layout.proofs.Pieces.{Covers, same_cover, byte_stands}
 

@@ -1,16 +1,15 @@
 -- What the layout relation rests on at a part whose content is known.
-use Rattle.std.proofs.Common.{◌≡◌, ℕ, suc, List, [], ◌∷◌, ◌++◌, Option, Some, None, refl, sym, subst, ap, ◌∙◌, append-nil}
-use Rattle.archive_shape_layout.specs.Shape.{Shape}
+use Rattle.std.proofs.Common.{◌≡◌, ℕ, List, [], ◌∷◌, ◌++◌, Some, sym, subst, ap, ◌∙◌, append-nil}
 use Rattle.archive_shape_layout.specs.Value.{Value, Values}
 use Rattle.archive_shape_layout.specs.Value.Values.{no_values, more_values}
 use Rattle.archive_shape_layout.specs.Value.Value.{chosen}
-use Rattle.archive_shape_layout.specs.Content.{Names, Part, Span, Label, Content, content_of, made, IsLegal, option_content}
+use Rattle.archive_shape_layout.specs.Content.{Names, Part, Span, content_of, made, IsLegal}
 use Rattle.archive_shape_layout.specs.Content.Label.{same, tagged, leaf, written}
 use Rattle.archive_shape_layout.specs.Content.Content.{illegal, plain, claimed}
 use Rattle.archive_shape_layout.specs.Holds.{Region, region_of, Visit, Opened, Holds, HoldAll}
 use Rattle.archive_shape_layout.specs.Holds.Holds.{holds_plain, holds_claimed, holds_first, holds_later, holds_back}
 use Rattle.archive_shape_layout.specs.Holds.HoldAll.{holds_none, holds_more}
-use Rattle.archive_shape_layout.proofs.Unique.{PlainHolds, ClaimedHolds, by_plain, by_claimed}
+use Rattle.archive_shape_layout.proofs.Unique.{by_plain, by_claimed}
 
 module _ (names : Names) (bytes : List ℕ) where
   -- a part that is not legal holds nothing

@@ -1,32 +1,29 @@
 -- The layout relation at the root, spelled out: what the bytes of a root node say.
-use Rattle.std.proofs.Common.{◌≡◌, ℕ, zero, suc, ◌+◌, ◌-◌, ◌*◌, ◌/◌, ◌≤◌, ◌<◌, ℤ, Bool, true, false, cond, ◌==◌, ◌||◌, nat_lt, nat_le, List, [], ◌∷◌, ◌++◌, length, take, drop, slice_index, Option, Some, None, refl, sym, subst, ap, ◌∙◌, append-nil, arith, w64, get_or-take, get_or-drop, add-zero, ltb-true, leb-true, length-take, length-drop, lt-ltb, le-ltb, eqb-true, ◌⊎◌, inl, inr, ⊎_elim, rules}
+use Rattle.std.proofs.Common.{◌≡◌, ℕ, ◌+◌, ◌≤◌, ◌<◌, Bool, true, false, ◌==◌, ◌||◌, nat_lt, nat_le, List, [], ◌∷◌, ◌++◌, length, drop, slice_index, Option, Some, None, refl, sym, subst, ap, ◌∙◌, arith, w64, get_or-take, get_or-drop, add-zero, ltb-true, length-take, length-drop}
 use Rattle.std.proofs.lemmas.Bool.Decides.{nat_tests}
-use Rattle.std.specs.Prelude.{⊤, IsUtf8}
+use Rattle.std.specs.Prelude.{IsUtf8}
 use Rattle.std.specs.Int.{from_le_bytes, cast_signed}
 use Rattle.archive_shape_layout.specs.Bytes.{window, align_up, word_at, target_from}
-use Rattle.archive_shape_layout.specs.Shape.{Shape, size_of, align_of}
+use Rattle.archive_shape_layout.specs.Shape.{Shape, align_of}
 use Rattle.archive_shape_layout.specs.Shape.Shape.{choice, number as number_shape, truth as truth_shape, text as text_shape}
-use Rattle.archive_shape_layout.specs.Shape.Shapes.{no_shapes, more_shapes}
 use Rattle.archive_shape_layout.specs.Shape.Pointee.{sized, str}
-use Rattle.archive_shape_layout.specs.Value.{Value, Values}
+use Rattle.archive_shape_layout.specs.Value.{Value}
 use Rattle.archive_shape_layout.specs.Value.Value.{integer, boolean, string, chosen}
 use Rattle.archive_shape_layout.specs.Value.Values.{no_values, more_values}
-use Rattle.archive_shape_layout.specs.Content.{Names, Part, Span, Label, Content, choose, content_of, made, IsLegal, option_content, shape_content, pointee_content, text_content, text_length, following, before_ff, shape_tagged, number_value}
+use Rattle.archive_shape_layout.specs.Content.{Names, Content, choose, content_of, made, option_content, shape_content, pointee_content, text_content, text_length, following, before_ff, shape_tagged, number_value}
 use Rattle.archive_shape_layout.specs.Content.Part.{at, behind}
 use Rattle.archive_shape_layout.specs.Content.Label.{same, tagged, written, leaf as leaf_label}
 use Rattle.archive_shape_layout.specs.Content.Content.{illegal, plain, claimed}
-use Rattle.archive_shape_layout.specs.Holds.{Region, region_of, Visit, Opened, Holds, HoldAll, HasRoot, Ascends, Follows, end_after}
-use Rattle.archive_shape_layout.specs.Holds.Holds.{holds_plain, holds_claimed}
-use Rattle.archive_shape_layout.specs.Holds.HoldAll.{holds_none, holds_more}
+use Rattle.archive_shape_layout.specs.Holds.{Region, region_of, Visit, Opened, Holds, Ascends, end_after}
 use Rattle.archive_shape_layout.proofs.Ascent.{Ascends-append}
-use Rattle.archive_shape_layout.proofs.Unique.{PlainHolds, ClaimedHolds, by_plain, by_claimed}
+use Rattle.archive_shape_layout.proofs.Unique.{by_claimed}
 use Rattle.cabinet_text.specs.Tree as tree
 use Rattle.cabinet_text.specs.Tree.{Tree, Leaf, IsDocument}
 use Rattle.cabinet_layout.specs.Node.{node_shape, node_names, payloads, root_position}
 use Rattle.cabinet_layout.specs.Denotes.{Denotes, denotes_truth, denotes_number, denotes_text, tagged_value, Accepted}
 use Rattle.cabinet_layout.specs.Fault.{IsOutOfLine}
 use Rattle.cabinet_layout.specs.Spelled.{IsLeafAt, HasRootLeaf}
-use Rattle.cabinet_layout.proofs.Inversions.{none_illegal, Lone, lone, passed_on, Tagged, by_tag, Alone, by_leaf, AloneText, by_text, by_claimed_text}
+use Rattle.cabinet_layout.proofs.Inversions.{none_illegal, lone, passed_on, by_tag, by_leaf, by_text, by_claimed_text}
 
 -- the first byte of a window
 pub first_of : (bytes : List ℕ) (pos size : ℕ) → 0 < size → slice_index (window bytes pos size) 0 ≡ slice_index bytes pos

@@ -1,5 +1,5 @@
 -- Pieces of bytes.
-use Rattle.std.specs.Prelude.{◌≡◌, ℕ, ℤ, ◌+◌, ◌-◌, ◌*◌, ◌/◌, Bool, true, false, List, [], ◌∷◌, ◌++◌, length, take, drop, replicate}
+use Rattle.std.specs.Prelude.{◌≡◌, ℕ, ℤ, Bool, true, false, List, length, replicate}
 use Rattle.std.specs.Int.{w64, to_le_bytes, cast_unsigned}
 use Rattle.archive_shape_layout.specs.Bytes.{window}
 

@@ -1,5 +1,5 @@
 -- Why bytes are no archive of a document: the first fault that a check meets.
-use Rattle.std.specs.Prelude.{◌≡◌, ℕ, ◌+◌, ◌<◌, ◌≤◌, ◌==◌, List, [], length, slice_index, ◌&&◌, nat_lt, nat_le, IsTrue, IsUtf8}
+use Rattle.std.specs.Prelude.{◌≡◌, ℕ, ◌+◌, ◌<◌, ◌≤◌, List, length, slice_index, IsUtf8}
 use Rattle.archive_shape_layout.specs.Bytes.{window}
 use Rattle.archive_shape_layout.specs.Content.{before_ff}
 use Rattle.archive_shape.specs.declared.error.Error.{Error}

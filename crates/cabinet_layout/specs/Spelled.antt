@@ -1,5 +1,5 @@
 -- What the bytes of a root node say, field by field.
-use Rattle.std.specs.Prelude.{◌≡◌, ℕ, ◌+◌, ◌<◌, ◌≤◌, ◌==◌, ◌↔◌, true, List, length, slice_index}
+use Rattle.std.specs.Prelude.{◌≡◌, ℕ, ◌+◌, ◌<◌, ◌≤◌, ◌==◌, ◌↔◌, List, length, slice_index}
 use Rattle.std.specs.Int.{w64, from_le_bytes, cast_signed}
 use Rattle.archive_shape_layout.specs.Bytes.{window}
 use Rattle.archive_shape_layout.specs.Content.{before_ff}

@@ -1,6 +1,6 @@
-use Rattle.std.proofs.Common.{subst, sym}
+use Rattle.std.proofs.Common.{subst}
 use Rattle.cabinet_text.specs.View.{lent_leaf}
-use Rattle.cabinet_layout.specs.Fault.{Fault, NodeFault, in_the_root}
+use Rattle.cabinet_layout.specs.Fault.{NodeFault, in_the_root}
 use Rattle.cabinet_layout.specs.Spelled.{IsLeafAt}
 use Rattle.cabinet_layout.proofs.Making.{leaf_accepted}
 use Rattle.cabinet.proofs.Outcomes.{match_weaker}
