@@ -1,20 +1,20 @@
 -- What can be said against a line, and that nothing can be said against a head.
-use Rattle.std.proofs.Common.{◌≡◌, ◌≢◌, ℕ, ℤ, ◌<◌, ◌≤◌, Bool, true, false, List, ◌∷◌, ◌++◌, length, Option, Some, None, IsUtf8, sym, ap, ◌∙◌, refl, inl, inr, subst, arith, codes, FitsSigned, w64}
-use Rattle.std.specs.Prelude.{slice_get, if◌then◌else◌, ◌==◌}
-use Rattle.std.specs.Fmt.{signed_decimal}
-use Rattle.std.proofs.lemmas.Fmt.{IsAscii-signed}
+use Rattle.std.proofs.Common.{◌≡◌, ◌≢◌, ℕ, ℤ, ◌<◌, ◌≤◌, ◌^◌, Bool, true, false, List, ◌++◌, length, Option, None, IsUtf8, sym, ap, ◌∙◌, refl, inl, inr, subst, arith, codes, FitsSigned, w64}
+use Rattle.std.specs.Prelude.{if◌then◌else◌, ◌==◌}
+use Rattle.std.specs.Fmt.{decimal, signed_decimal}
+use Rattle.std.proofs.lemmas.Fmt.{IsAscii-decimal, IsAscii-signed}
 use Rattle.std.proofs.lemmas.Str.{IsUtf8-append, IsUtf8-from_ascii}
 use Rattle.std.proofs.lemmas.List.{append_cancel_left}
 use Rattle.std.proofs.lemmas.Bool.{false≢true, cases_order}
-use Rattle.cabinet_text.specs.Tree.{Leaf, truth, number, text, IsLeaf, IsShort, Tree, leaf, IsDocument}
-use Rattle.cabinet_text.specs.Spelling.{escaped, spelled_leaf, head, text_of}
-use Rattle.cabinet_text.specs.Fault.{Piece, pieces_of, Due, a_head, nothing_more, Blames, HasBadEscape, HasBadNumber, IsUnknownHead, rank, IsFirstCause, FirstFault, fault_at_head, fault_behind}
+use Rattle.cabinet_text.specs.Tree.{Leaf, truth, number, text, IsLeaf, IsShort, Tree, leaf, list, count, IsDocument}
+use Rattle.cabinet_text.specs.Spelling.{escaped, spelled_leaf, list_head, head}
+use Rattle.cabinet_text.specs.Fault.{Piece, Due, a_head, nothing_more, Blames, HasBadEscape, HasBadNumber, bad_number, bad_count, IsUnknownHead, IsTooDeep, rank, IsFirstCause}
 use Rattle.cabinet_text.specs.declared.text.Cause.{Cause}
-use Rattle.cabinet_text.specs.declared.text.Cause.TheVariants.{NotUtf8, NoNewline, EndTooEarly, BadEscape, UnknownHead, BadNumber, LineAfterEnd, OutOfMemory}
-use Rattle.cabinet_text.specs.Laws.{SameFault}
+use Rattle.cabinet_text.specs.declared.text.Cause.TheVariants.{NotUtf8, NoNewline, EndTooEarly, BadEscape, UnknownHead, BadNumber, TooDeep, LineAfterEnd, OutOfMemory}
 use Rattle.cabinet_text.proofs.Escapes.{first_differs, escaped_injective}
 use Rattle.cabinet_text.proofs.Utf8.{IsUtf8-escaped, IsUtf8-unescaped, IsUtf8-word, IsUtf8-past_word}
-use Rattle.cabinet_text.proofs.Pieces.{pieces-text_of}
+use Rattle.cabinet_text.proofs.Pieces.{ended_piece}
+use Rattle.cabinet_text.proofs.Documents.{no_list_head}
 
 pub IsUtf8-leaf : (l : Leaf) → IsLeaf l → IsUtf8 (spelled_leaf l)
 IsUtf8-leaf (truth true) p = IsUtf8-word (codes "bool true") refl
@@ -31,35 +31,63 @@ no_bad_escape (text t) p (rest, inl h, bad) = bad t p (sym (append_cancel_left (
 no_bad_escape (text t) p (rest, inr h, bad) = first_differs refl h
 
 no_bad_number : (l : Leaf) → IsLeaf l → HasBadNumber (spelled_leaf l) → ⊥
-no_bad_number (truth b) p (rest, h, bad) = first_differs refl h
-no_bad_number (number n) p (rest, h, bad) = bad n p (sym (append_cancel_left (codes "int ") _ _ h))
-no_bad_number (text t) p (rest, h, bad) = first_differs refl h
+no_bad_number (truth b) p (bad_number rest h bad) = first_differs refl h
+no_bad_number (truth b) p (bad_count rest h bad) = first_differs refl h
+no_bad_number (number n) p (bad_number rest h bad) = bad n p (sym (append_cancel_left (codes "int ") _ _ h))
+no_bad_number (number n) p (bad_count rest h bad) = first_differs refl h
+no_bad_number (text t) p (bad_number rest h bad) = first_differs refl h
+no_bad_number (text t) p (bad_count rest h bad) = first_differs refl h
 
--- nothing but a want of memory can be said against the line of a document
-blameless : (l : Leaf) → IsLeaf l → IsShort l → (cause : Cause) → cause ≢ OutOfMemory → Blames a_head (Some (record { bytes = spelled_leaf l; ended = true })) cause → ⊥
-blameless l p q NotUtf8 other blames = blames (IsUtf8-leaf l p)
-blameless l p q NoNewline other blames = false≢true (sym blames)
-blameless l p q EndTooEarly other blames = blames
-blameless l p q BadEscape other blames = no_bad_escape l p blames
-blameless l p q UnknownHead other blames = blames.no_head (leaf l) (p, q) refl
-blameless l p q BadNumber other blames = no_bad_number l p blames
-blameless l p q LineAfterEnd other blames = blames
-blameless l p q OutOfMemory other blames = other refl
+-- nothing but a want of memory can be said against the line of a leaf
+pub blameless : (depth : ℕ) (l : Leaf) → IsLeaf l → IsShort l → (cause : Cause) → cause ≢ OutOfMemory → Blames (a_head depth) (ended_piece (spelled_leaf l)) cause → ⊥
+blameless depth l p q NotUtf8 other blames = blames (IsUtf8-leaf l p)
+blameless depth l p q NoNewline other blames = false≢true (sym blames)
+blameless depth l p q EndTooEarly other blames = blames
+blameless depth l p q BadEscape other blames = no_bad_escape l p blames
+blameless depth l p q UnknownHead other blames = blames.no_head (leaf l) (p, q) refl
+blameless depth l p q BadNumber other blames = no_bad_number l p blames
+blameless depth l p q TooDeep other blames = no_list_head l blames.1.0 blames.1.2
+blameless depth l p q LineAfterEnd other blames = blames
+blameless depth l p q OutOfMemory other blames = other refl
 
-nothing_behind : (cause : Cause) → Blames nothing_more None cause → ⊥
+IsUtf8-list_head : (n : ℕ) → n < 2 ^ 64 → IsUtf8 (list_head n)
+IsUtf8-list_head n below = IsUtf8-append (codes "list ") (decimal n) (IsUtf8-word (codes "list ") refl) (IsUtf8-from_ascii (decimal n) (IsAscii-decimal n below))
+
+list_escapes : (line argument : List ℕ) → line ≡ codes "list " ++ argument → HasBadEscape line → ⊥
+list_escapes line argument h (rest, inl f, bad) = first_differs refl (sym h ∙ f)
+list_escapes line argument h (rest, inr f, bad) = first_differs refl (sym h ∙ f)
+
+list_bad_number : (n : ℕ) → n < 2 ^ 64 → HasBadNumber (list_head n) → ⊥
+list_bad_number n below (bad_number rest h bad) = first_differs refl h
+list_bad_number n below (bad_count rest h bad) = bad n below (sym (append_cancel_left (codes "list ") _ _ h))
+
+-- nor against the head of a list that stands in none
+pub list_blameless : (n : ℕ) → n < 2 ^ 64 → (cause : Cause) → cause ≢ OutOfMemory → Blames (a_head 0) (ended_piece (list_head n)) cause → ⊥
+list_blameless n below NotUtf8 other blames = blames (IsUtf8-list_head n below)
+list_blameless n below NoNewline other blames = false≢true (sym blames)
+list_blameless n below EndTooEarly other blames = blames
+list_blameless n below BadEscape other blames = list_escapes (list_head n) (decimal n) refl blames
+list_blameless n below UnknownHead other blames = blames.no_count (decimal n) refl
+list_blameless n below BadNumber other blames = list_bad_number n below blames
+list_blameless n below TooDeep other blames = omega (arith, blames.0)
+list_blameless n below LineAfterEnd other blames = blames
+list_blameless n below OutOfMemory other blames = other refl
+
+pub nothing_behind : (cause : Cause) → Blames nothing_more None cause → ⊥
 nothing_behind NotUtf8 blames = blames
 nothing_behind NoNewline blames = blames
 nothing_behind EndTooEarly blames = blames
 nothing_behind BadEscape blames = blames
 nothing_behind UnknownHead blames = blames
 nothing_behind BadNumber blames = blames
+nothing_behind TooDeep blames = blames
 nothing_behind LineAfterEnd blames = blames
 nothing_behind OutOfMemory blames = blames
 
 -- causes of one rank are one
 cause_of : ℕ → Cause
 cause_of n =
-    if n == 0 then NotUtf8 else (if n == 1 then NoNewline else (if n == 2 then EndTooEarly else (if n == 3 then BadEscape else (if n == 4 then UnknownHead else (if n == 5 then BadNumber else (if n == 6 then LineAfterEnd else OutOfMemory))))))
+    if n == 0 then NotUtf8 else (if n == 1 then NoNewline else (if n == 2 then EndTooEarly else (if n == 3 then BadEscape else (if n == 4 then UnknownHead else (if n == 5 then BadNumber else (if n == 6 then TooDeep else (if n == 7 then LineAfterEnd else OutOfMemory)))))))
 
 cause_of-rank : (cause : Cause) → cause_of (rank cause) ≡ cause
 unfolding cause_of
@@ -69,13 +97,14 @@ cause_of-rank EndTooEarly = refl
 cause_of-rank BadEscape = refl
 cause_of-rank UnknownHead = refl
 cause_of-rank BadNumber = refl
+cause_of-rank TooDeep = refl
 cause_of-rank LineAfterEnd = refl
 cause_of-rank OutOfMemory = refl
 
 same_rank : (cause reason : Cause) → rank cause ≡ rank reason → cause ≡ reason
 same_rank cause reason h = sym (cause_of-rank cause) ∙ ap cause_of h ∙ cause_of-rank reason
 
-same_first_cause : (due : Due) (piece : Option Piece) (cause reason : Cause) → IsFirstCause due piece cause → IsFirstCause due piece reason → cause ≡ reason
+pub same_first_cause : (due : Due) (piece : Option Piece) (cause reason : Cause) → IsFirstCause due piece cause → IsFirstCause due piece reason → cause ≡ reason
 same_first_cause due piece cause reason a b =
     elim (cases_order (rank cause) (rank reason)) [
       | inl same ↦ same_rank cause reason same
@@ -85,70 +114,60 @@ same_first_cause due piece cause reason a b =
       ]
     ]
 
--- nothing is said against a document's own text
-pub fault_refuses : (input : List ℕ) (line : ℕ) (cause : Cause) (t : Tree) → FirstFault input line cause → cause ≢ OutOfMemory → IsDocument t → input ≢ text_of t
-fault_refuses input line cause (leaf l) (fault_at_head one fault) other document h =
-    let first = ap (λ ps. slice_get ps 0) (ap pieces_of h ∙ pieces-text_of l document.0) in
-    blameless l document.0 document.1 cause other (subst (λ piece. Blames a_head piece cause) first fault.blames)
-fault_refuses input line cause (leaf l) (fault_behind s is first two fault) other document h =
-    let second = ap (λ ps. slice_get ps 1) (ap pieces_of h ∙ pieces-text_of l document.0) in
-    nothing_behind cause (subst (λ piece. Blames nothing_more piece cause) second fault.blames)
-
-blameless_first : (input : List ℕ) (t : Tree) (cause : Cause) → IsDocument t → slice_get (pieces_of input) 0 ≡ Some (record { bytes = head t; ended = true }) → cause ≢ OutOfMemory → Blames a_head (slice_get (pieces_of input) 0) cause → ⊥
-blameless_first input (leaf l) cause document first other blames =
-    blameless l document.0 document.1 cause other (subst (λ piece. Blames a_head piece cause) first blames)
-
-pub one_fault : (input : List ℕ) (line other : ℕ) (cause reason : Cause) → FirstFault input line cause → FirstFault input other reason → cause ≢ OutOfMemory → reason ≢ OutOfMemory → SameFault line other cause reason
-one_fault input line other cause reason (fault_at_head one a) (fault_at_head two b) p q =
-    record { same_line = one ∙ sym two; same_cause = same_first_cause a_head _ cause reason a b }
-one_fault input line other cause reason (fault_at_head one a) (fault_behind t is first two b) p q = absurd (blameless_first input t cause is first p a.blames)
-one_fault input line other cause reason (fault_behind t is first one a) (fault_at_head two b) p q = absurd (blameless_first input t reason is first q b.blames)
-one_fault input line other cause reason (fault_behind s is first one a) (fault_behind t is' first' two b) p q =
-    record { same_line = one ∙ sym two; same_cause = same_first_cause nothing_more _ cause reason a b }
-
--- a line that is UTF-8 and ended, as a piece
-abbrev pub line_of : List ℕ → Option Piece
-line_of line = Some (record { bytes = line; ended = true })
-
-rank_most : (cause : Cause) → rank cause ≤ 7
+rank_most : (cause : Cause) → rank cause ≤ 8
 rank_most NotUtf8 = omega arith
 rank_most NoNewline = omega arith
 rank_most EndTooEarly = omega arith
 rank_most BadEscape = omega arith
 rank_most UnknownHead = omega arith
 rank_most BadNumber = omega arith
+rank_most TooDeep = omega arith
 rank_most LineAfterEnd = omega arith
 rank_most OutOfMemory = omega arith
 
--- only three causes can come before another at a line that is UTF-8 and ended
-none_before : (line : List ℕ) (cause : Cause) → IsUtf8 line → (3 < rank cause → HasBadEscape line → ⊥) → (4 < rank cause → IsUnknownHead line → ⊥) → (5 < rank cause → HasBadNumber line → ⊥) → (other : Cause) → rank other < rank cause → Blames a_head (line_of line) other → ⊥
-none_before line cause utf8 escapes heads numbers NotUtf8 l blames = blames utf8
-none_before line cause utf8 escapes heads numbers NoNewline l blames = false≢true (sym blames)
-none_before line cause utf8 escapes heads numbers EndTooEarly l blames = blames
-none_before line cause utf8 escapes heads numbers BadEscape l blames = escapes l blames
-none_before line cause utf8 escapes heads numbers UnknownHead l blames = heads l blames
-none_before line cause utf8 escapes heads numbers BadNumber l blames = numbers l blames
-none_before line cause utf8 escapes heads numbers LineAfterEnd l blames = blames
-none_before line cause utf8 escapes heads numbers OutOfMemory l blames = omega (arith, l, rank_most cause)
+-- only four causes can come before another at a line that is UTF-8 and ended
+none_before : (depth : ℕ) (line : List ℕ) (cause : Cause) → IsUtf8 line → (3 < rank cause → HasBadEscape line → ⊥) → (4 < rank cause → IsUnknownHead line → ⊥) → (5 < rank cause → HasBadNumber line → ⊥) → (6 < rank cause → IsTooDeep depth line → ⊥) → (other : Cause) → rank other < rank cause → Blames (a_head depth) (ended_piece line) other → ⊥
+none_before depth line cause utf8 escapes heads numbers deep NotUtf8 l blames = blames utf8
+none_before depth line cause utf8 escapes heads numbers deep NoNewline l blames = false≢true (sym blames)
+none_before depth line cause utf8 escapes heads numbers deep EndTooEarly l blames = blames
+none_before depth line cause utf8 escapes heads numbers deep BadEscape l blames = escapes l blames
+none_before depth line cause utf8 escapes heads numbers deep UnknownHead l blames = heads l blames
+none_before depth line cause utf8 escapes heads numbers deep BadNumber l blames = numbers l blames
+none_before depth line cause utf8 escapes heads numbers deep TooDeep l blames = deep l blames
+none_before depth line cause utf8 escapes heads numbers deep LineAfterEnd l blames = blames
+none_before depth line cause utf8 escapes heads numbers deep OutOfMemory l blames = omega (arith, l, rank_most cause)
 
-bad_escape_first : (line : List ℕ) → IsUtf8 line → HasBadEscape line → IsFirstCause a_head (line_of line) BadEscape
-bad_escape_first line utf8 bad = record {
+bad_escape_first : (depth : ℕ) (line : List ℕ) → IsUtf8 line → HasBadEscape line → IsFirstCause (a_head depth) (ended_piece line) BadEscape
+bad_escape_first depth line utf8 bad = record {
   blames = bad;
-  first = none_before line BadEscape utf8 (λ l b. omega (arith, l)) (λ l b. omega (arith, l)) (λ l b. omega (arith, l));
+  first = none_before depth line BadEscape utf8 (λ l b. omega (arith, l)) (λ l b. omega (arith, l)) (λ l b. omega (arith, l)) (λ l b. omega (arith, l));
 }
 
-unknown_head_first : (line : List ℕ) → IsUtf8 line → (HasBadEscape line → ⊥) → IsUnknownHead line → IsFirstCause a_head (line_of line) UnknownHead
-unknown_head_first line utf8 good unknown = record {
+unknown_head_first : (depth : ℕ) (line : List ℕ) → IsUtf8 line → (HasBadEscape line → ⊥) → IsUnknownHead line → IsFirstCause (a_head depth) (ended_piece line) UnknownHead
+unknown_head_first depth line utf8 good unknown = record {
   blames = unknown;
-  first = none_before line UnknownHead utf8 (λ l. good) (λ l b. omega (arith, l)) (λ l b. omega (arith, l));
+  first = none_before depth line UnknownHead utf8 (λ l. good) (λ l b. omega (arith, l)) (λ l b. omega (arith, l)) (λ l b. omega (arith, l));
+}
+
+bad_number_first : (depth : ℕ) (line : List ℕ) → IsUtf8 line → (HasBadEscape line → ⊥) → (IsUnknownHead line → ⊥) → HasBadNumber line → IsFirstCause (a_head depth) (ended_piece line) BadNumber
+bad_number_first depth line utf8 good known bad = record {
+  blames = bad;
+  first = none_before depth line BadNumber utf8 (λ l. good) (λ l. known) (λ l b. omega (arith, l)) (λ l b. omega (arith, l));
+}
+
+-- the head of a list inside a list
+pub list_too_deep : (n : ℕ) → n < 2 ^ 64 → IsFirstCause (a_head 1) (ended_piece (list_head n)) TooDeep
+list_too_deep n below = record {
+  blames = (omega arith, (n, below, refl));
+  first = none_before 1 (list_head n) TooDeep (IsUtf8-list_head n below) (λ l. list_escapes (list_head n) (decimal n) refl) (λ l b. b.no_count (decimal n) refl) (λ l. list_bad_number n below) (λ l b. omega (arith, l));
 }
 
 -- behind the words `text '` and `shared '` stands the escaped form of no text
-pub text_unescaped : (line argument : List ℕ) → line ≡ codes "text '" ++ argument → IsUtf8 line → ((t : List ℕ) → argument ≢ escaped t) → IsFirstCause a_head (line_of line) BadEscape
-text_unescaped line argument h utf8 none = bad_escape_first line utf8 (argument, inl h, λ t u. none t)
+pub text_unescaped : (depth : ℕ) (line argument : List ℕ) → line ≡ codes "text '" ++ argument → IsUtf8 line → ((t : List ℕ) → argument ≢ escaped t) → IsFirstCause (a_head depth) (ended_piece line) BadEscape
+text_unescaped depth line argument h utf8 none = bad_escape_first depth line utf8 (argument, inl h, λ t u. none t)
 
-pub shared_unescaped : (line argument : List ℕ) → line ≡ codes "shared '" ++ argument → IsUtf8 line → ((t : List ℕ) → argument ≢ escaped t) → IsFirstCause a_head (line_of line) BadEscape
-shared_unescaped line argument h utf8 none = bad_escape_first line utf8 (argument, inr h, λ t u. none t)
+pub shared_unescaped : (depth : ℕ) (line argument : List ℕ) → line ≡ codes "shared '" ++ argument → IsUtf8 line → ((t : List ℕ) → argument ≢ escaped t) → IsFirstCause (a_head depth) (ended_piece line) BadEscape
+shared_unescaped depth line argument h utf8 none = bad_escape_first depth line utf8 (argument, inr h, λ t u. none t)
 
 -- an escaped text in a line that is UTF-8 is the escaped form of UTF-8
 pub text_utf8 : (line argument t : List ℕ) → line ≡ codes "text '" ++ argument → IsUtf8 line → argument ≡ escaped t → IsUtf8 t
@@ -176,69 +195,70 @@ long_no_head line argument t h e long (leaf (number n)) p f = first_differs refl
 long_no_head line argument t h e long (leaf (text u)) p f =
     let same = escaped_injective t u (sym e ∙ append_cancel_left (codes "text '") _ _ (sym h ∙ f)) in
     omega (arith, ap length same, p.1, long)
+long_no_head line argument t h e long (list ts) p f = first_differs refl (sym h ∙ f)
 
-pub text_long : (line argument t : List ℕ) → line ≡ codes "text '" ++ argument → IsUtf8 line → argument ≡ escaped t → 8 < length t → IsFirstCause a_head (line_of line) UnknownHead
-text_long line argument t h utf8 e long =
-    unknown_head_first line utf8 (text_escaped line argument t h utf8 e) (record {
+pub text_long : (depth : ℕ) (line argument t : List ℕ) → line ≡ codes "text '" ++ argument → IsUtf8 line → argument ≡ escaped t → 8 < length t → IsFirstCause (a_head depth) (ended_piece line) UnknownHead
+text_long depth line argument t h utf8 e long =
+    unknown_head_first depth line utf8 (text_escaped line argument t h utf8 e) (record {
       no_head = long_no_head line argument t h e long;
       no_number = λ rest f. first_differs refl (sym h ∙ f);
+      no_count = λ rest f. first_differs refl (sym h ∙ f);
     })
 
 shared_no_head : (line argument : List ℕ) → line ≡ codes "shared '" ++ argument → (s : Tree) → line ≢ head s
 shared_no_head line argument h (leaf (truth b)) f = first_differs refl (sym h ∙ f)
 shared_no_head line argument h (leaf (number n)) f = first_differs refl (sym h ∙ f)
 shared_no_head line argument h (leaf (text t)) f = first_differs refl (sym h ∙ f)
+shared_no_head line argument h (list ts) f = first_differs refl (sym h ∙ f)
 
-pub shared_unknown : (line argument t : List ℕ) → line ≡ codes "shared '" ++ argument → IsUtf8 line → argument ≡ escaped t → IsFirstCause a_head (line_of line) UnknownHead
-shared_unknown line argument t h utf8 e =
-    unknown_head_first line utf8 (shared_escaped line argument t h utf8 e) (record {
+pub shared_unknown : (depth : ℕ) (line argument t : List ℕ) → line ≡ codes "shared '" ++ argument → IsUtf8 line → argument ≡ escaped t → IsFirstCause (a_head depth) (ended_piece line) UnknownHead
+shared_unknown depth line argument t h utf8 e =
+    unknown_head_first depth line utf8 (shared_escaped line argument t h utf8 e) (record {
       no_head = λ s p. shared_no_head line argument h s;
       no_number = λ rest f. first_differs refl (sym h ∙ f);
+      no_count = λ rest f. first_differs refl (sym h ∙ f);
     })
 
 number_escapes : (line argument : List ℕ) → line ≡ codes "int " ++ argument → HasBadEscape line → ⊥
 number_escapes line argument h (rest, inl f, bad) = first_differs refl (sym h ∙ f)
 number_escapes line argument h (rest, inr f, bad) = first_differs refl (sym h ∙ f)
 
--- behind the word `int ` stands no number
-pub number_unread : (line argument : List ℕ) → line ≡ codes "int " ++ argument → IsUtf8 line → ((n : ℤ) → FitsSigned w64 n → argument ≢ signed_decimal n) → IsFirstCause a_head (line_of line) BadNumber
-number_unread line argument h utf8 none = record {
-  blames = (argument, h, none);
-  first = none_before line BadNumber utf8 (λ l. number_escapes line argument h) (λ l b. b.no_number argument h) (λ l b. omega (arith, l));
-}
+-- behind the word `int ` stands no number, or behind the word `list ` no count
+pub number_unread : (depth : ℕ) (line argument : List ℕ) → line ≡ codes "int " ++ argument → IsUtf8 line → ((n : ℤ) → FitsSigned w64 n → argument ≢ signed_decimal n) → IsFirstCause (a_head depth) (ended_piece line) BadNumber
+number_unread depth line argument h utf8 none =
+    bad_number_first depth line utf8 (number_escapes line argument h) (λ b. b.no_number argument h) (bad_number argument h none)
+
+pub count_unread : (depth : ℕ) (line argument : List ℕ) → line ≡ codes "list " ++ argument → IsUtf8 line → ((n : ℕ) → n < 2 ^ 64 → argument ≢ decimal n) → IsFirstCause (a_head depth) (ended_piece line) BadNumber
+count_unread depth line argument h utf8 none =
+    bad_number_first depth line utf8 (list_escapes line argument h) (λ b. b.no_count argument h) (bad_count argument h none)
 
 no_words : (line : List ℕ) → ((rest : List ℕ) → line ≢ codes "text '" ++ rest) → ((rest : List ℕ) → line ≢ codes "shared '" ++ rest) → HasBadEscape line → ⊥
 no_words line no_text no_shared (rest, inl f, bad) = no_text rest f
 no_words line no_text no_shared (rest, inr f, bad) = no_shared rest f
 
-no_head : (line : List ℕ) → ((rest : List ℕ) → line ≢ codes "text '" ++ rest) → ((rest : List ℕ) → line ≢ codes "int " ++ rest) → ((b : Bool) → line ≢ spelled_leaf (truth b)) → (s : Tree) → line ≢ head s
-no_head line no_text no_number no_truth (leaf (truth b)) f = no_truth b f
-no_head line no_text no_number no_truth (leaf (number n)) f = no_number (signed_decimal n) f
-no_head line no_text no_number no_truth (leaf (text t)) f = no_text (escaped t) f
+no_head : (line : List ℕ) → ((rest : List ℕ) → line ≢ codes "text '" ++ rest) → ((rest : List ℕ) → line ≢ codes "int " ++ rest) → ((rest : List ℕ) → line ≢ codes "list " ++ rest) → ((b : Bool) → line ≢ spelled_leaf (truth b)) → (s : Tree) → line ≢ head s
+no_head line no_text no_number no_count no_truth (leaf (truth b)) f = no_truth b f
+no_head line no_text no_number no_count no_truth (leaf (number n)) f = no_number (signed_decimal n) f
+no_head line no_text no_number no_count no_truth (leaf (text t)) f = no_text (escaped t) f
+no_head line no_text no_number no_count no_truth (list ts) f = no_count (decimal (count ts)) f
 
 -- a line that begins with none of the words
-pub other_unknown : (line : List ℕ) → IsUtf8 line → ((rest : List ℕ) → line ≢ codes "text '" ++ rest) → ((rest : List ℕ) → line ≢ codes "shared '" ++ rest) → ((rest : List ℕ) → line ≢ codes "int " ++ rest) → ((b : Bool) → line ≢ spelled_leaf (truth b)) → IsFirstCause a_head (line_of line) UnknownHead
-other_unknown line utf8 no_text no_shared no_number no_truth =
-    unknown_head_first line utf8 (no_words line no_text no_shared) (record {
-      no_head = λ s p. no_head line no_text no_number no_truth s;
+pub other_unknown : (depth : ℕ) (line : List ℕ) → IsUtf8 line → ((rest : List ℕ) → line ≢ codes "text '" ++ rest) → ((rest : List ℕ) → line ≢ codes "shared '" ++ rest) → ((rest : List ℕ) → line ≢ codes "int " ++ rest) → ((rest : List ℕ) → line ≢ codes "list " ++ rest) → ((b : Bool) → line ≢ spelled_leaf (truth b)) → IsFirstCause (a_head depth) (ended_piece line) UnknownHead
+other_unknown depth line utf8 no_text no_shared no_number no_count no_truth =
+    unknown_head_first depth line utf8 (no_words line no_text no_shared) (record {
+      no_head = λ s p. no_head line no_text no_number no_count no_truth s;
       no_number = no_number;
+      no_count = no_count;
     })
 
 -- memory is asked for where nothing else can be said
-pub text_memory : (line argument t : List ℕ) → line ≡ codes "text '" ++ argument → IsUtf8 line → argument ≡ escaped t → length t ≤ 8 → IsFirstCause a_head (line_of line) OutOfMemory
-text_memory line argument t h utf8 e short = record {
+pub memory_first : (depth : ℕ) (l : Leaf) → IsLeaf l → IsShort l → IsFirstCause (a_head depth) (ended_piece (spelled_leaf l)) OutOfMemory
+memory_first depth l p q = record {
   blames = tt;
-  first = λ other l blames.
-      let is : line ≡ spelled_leaf (text t) = h ∙ ap (λ rest. codes "text '" ++ rest) e in
-      blameless (text t) (text_utf8 line argument t h utf8 e) short other (λ same. omega (arith, l, ap rank same)) (subst (λ x. Blames a_head (line_of x) other) is blames);
+  first = λ other below blames. blameless depth l p q other (λ same. omega (arith, below, ap rank same)) blames;
 }
 
--- a fault behind the document that the first line is
-pub fault_after : (input line rest : List ℕ) (ended : Bool) (t : Tree) (cause : Cause) → IsDocument t → pieces_of input ≡ record { bytes = line; ended = ended } ∷ pieces_of rest → ended ≡ true → line ≡ head t → IsFirstCause nothing_more (slice_get (pieces_of rest) 0) cause → FirstFault input 2 cause
-fault_after input line rest ended t cause document pieces is_ended is_head first =
-    let one : slice_get (pieces_of input) 0 ≡ Some (record { bytes = head t; ended = true }) =
-    ap (λ ps. slice_get ps 0) pieces
-    ∙ ap (λ b. Some (record { bytes = b; ended = ended })) is_head
-    ∙ ap (λ e. Some (record { bytes = head t; ended = e })) is_ended in
-    let two : slice_get (pieces_of rest) 0 ≡ slice_get (pieces_of input) 1 = ap (λ ps. slice_get ps 1) (sym pieces) in
-    fault_behind t document one refl (subst (λ piece. IsFirstCause nothing_more piece cause) two first)
+pub text_memory : (depth : ℕ) (line argument t : List ℕ) → line ≡ codes "text '" ++ argument → IsUtf8 line → argument ≡ escaped t → length t ≤ 8 → IsFirstCause (a_head depth) (ended_piece line) OutOfMemory
+text_memory depth line argument t h utf8 e short =
+    let is : line ≡ spelled_leaf (text t) = h ∙ ap (λ rest. codes "text '" ++ rest) e in
+    rw is (memory_first depth (text t) (text_utf8 line argument t h utf8 e) short)

@@ -1,11 +1,12 @@
--- Leaves, lines and texts with the same spelling are the same.
+-- Leaves and lines with the same spelling are the same.
 use Rattle.std.proofs.Common.{◌≢◌, ◌++◌, ◌≡◌, ℕ, List, Bool, true, false, Option, Some, None, sym, ap, ◌∙◌, refl, codes}
 use Rattle.std.proofs.lemmas.Fmt.{signed_decimal_injective}
-use Rattle.cabinet_text.specs.Tree.{Leaf, truth, number, text, IsLeaf, Tree, leaf, IsDocument}
-use Rattle.cabinet_text.specs.Spelling.{spelled_leaf, text_of}
-use Rattle.cabinet_text.specs.Line.{Line, get, set, spelling, IsPossible, Says}
+use Rattle.cabinet_text.specs.Tree.{Leaf, truth, number, text, IsLeaf}
+use Rattle.cabinet_text.specs.Spelling.{spelled_leaf}
+use Rattle.cabinet_text.specs.Line.{Line, get, set, spelling, spelled_path, IsPossible, Says}
 use Rattle.cabinet_text.proofs.Escapes.{escaped_injective, first_differs}
-use Rattle.std.proofs.lemmas.List.{append_cancel_left, append_cancel_right}
+use Rattle.cabinet_text.proofs.Paths.{same_path, same_words, two_words, IsAtSpace-path}
+use Rattle.std.proofs.lemmas.List.{append_cancel_left}
 
 same_truth : (b c : Bool) → spelled_leaf (truth b) ≡ spelled_leaf (truth c) → b ≡ c
 same_truth true true h = refl
@@ -25,12 +26,13 @@ same_leaf (text s) (number n) p q h = absurd (first_differs refl h)
 same_leaf (text s) (text t) p q h = ap text (escaped_injective s t (append_cancel_left (codes "text '") _ _ h))
 
 same_line : (k l : Line) → IsPossible k → IsPossible l → spelling k ≡ spelling l → k ≡ l
-same_line (get k) (get l) p q h = ap get (p ∙ sym q)
+same_line (get k) (get l) p q h = ap get (same_path k l p q (append_cancel_left (codes "get") _ _ h))
 same_line (get k) (set l new) p q h = absurd (first_differs refl h)
 same_line (set k old) (get l) p q h = absurd (first_differs refl h)
 same_line (set k old) (set l new) p q h =
-    let paths : k ≡ l = p.0 ∙ sym q.0 in
-    let leaves = same_leaf old new p.1 q.1 (append_cancel_left (codes "set ") _ _ h) in
+    let cut = same_words (spelled_leaf old) (spelled_leaf new) (spelled_path k) (spelled_path l) (two_words old p.1) (two_words new q.1) (IsAtSpace-path k) (IsAtSpace-path l) (append_cancel_left (codes "set ") _ _ h) in
+    let paths = same_path k l p.0 q.0 cut.1 in
+    let leaves = same_leaf old new p.1 q.1 cut.0 in
     cc
 
 pub one_line : (bytes : List ℕ) (a b : Option Line) → Says bytes a → Says bytes b → a ≡ b
@@ -38,10 +40,6 @@ one_line bytes None None p q = refl
 one_line bytes None (Some l) p q = absurd (p l q.0 q.1)
 one_line bytes (Some k) None p q = absurd (q k p.0 p.1)
 one_line bytes (Some k) (Some l) p q = ap Some (same_line k l p.0 q.0 (sym p.1 ∙ q.1))
-
--- no document's text is another's
-pub one_document : (s t : Tree) → IsDocument s → IsDocument t → text_of s ≡ text_of t → s ≡ t
-one_document (leaf k) (leaf l) p q h = ap leaf (same_leaf k l p.0 q.0 (append_cancel_right _ _ (codes "\n") h))
 
 -- what stands behind a word, where the bytes and the word are known by other names
 pub behind_word : (line bytes prefix word rest : List ℕ) → bytes ≡ line → prefix ≡ word → bytes ≡ prefix ++ rest → line ≡ word ++ rest

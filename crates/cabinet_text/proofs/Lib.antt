@@ -1,7 +1,15 @@
 pub mod Numbers
 pub mod Escapes
+pub mod Lacking
+pub mod Paths
 pub mod Heads
+pub mod Changes
+pub mod Cuts
 pub mod Pieces
 pub mod Utf8
+pub mod Documents
+pub mod Texts
 pub mod Faults
+pub mod Firsts
+pub mod Elements
 pub mod Runs

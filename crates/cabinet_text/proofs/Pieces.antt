@@ -1,5 +1,5 @@
 -- Texts cut behind their newlines, and what has none.
-use Rattle.std.proofs.Common.{◌≡◌, ◌≢◌, ℕ, suc, ◌+◌, ◌<◌, ◌^◌, ℤ, pos, negsuc, Bool, true, false, not, ◌&&◌, eqb, List, [], ◌∷◌, ◌++◌, length, get_or, sym, ap, ◌∙◌, refl, inl, inr, arith, FitsSigned, w64, codes, take, drop, add-one, drop-cons, length-take, get_or-take}
+use Rattle.std.proofs.Common.{◌≡◌, ◌≢◌, ℕ, suc, ◌+◌, ◌<◌, ◌^◌, ℤ, pos, negsuc, Bool, true, false, not, ◌&&◌, eqb, List, [], ◌∷◌, ◌++◌, length, get_or, sym, ap, ◌∙◌, refl, inl, inr, arith, FitsSigned, w64, codes, take, drop, add-one, drop-cons, length-take, get_or-take, Option, Some}
 use Rattle.std.proofs.lemmas.List.{take-append-drop}
 use Rattle.std.specs.Fmt.{signed_decimal, decimal}
 use Rattle.std.specs.Str.Parse.{AllDigits}
@@ -8,9 +8,10 @@ use Rattle.std.proofs.lemmas.Str.Parse.{not_in_digits, numerals_by_value, tells_
 use Rattle.std.proofs.lemmas.Bool.Decides.{eqb_tells}
 use Rattle.std.proofs.lemmas.Bool.{false≢true}
 use Rattle.std.specs.Str.Parse.{digits_value}
-use Rattle.cabinet_text.specs.Tree.{Leaf, truth, number, text, IsLeaf, leaf}
-use Rattle.cabinet_text.specs.Spelling.{escaped, escaped_byte, spelled_leaf, text_of}
-use Rattle.cabinet_text.specs.Fault.{pieces_of, onto_first_piece}
+use Rattle.std.specs.Prelude.{slice_get}
+use Rattle.cabinet_text.specs.Tree.{Leaf, truth, number, text, IsLeaf}
+use Rattle.cabinet_text.specs.Spelling.{escaped, escaped_byte, spelled_leaf, list_head}
+use Rattle.cabinet_text.specs.Fault.{Piece, pieces_of, onto_first_piece}
 use Rattle.cabinet_text.proofs.Escapes.{Form, backslash, newline, space, plain, form_of}
 
 abbrev pub HasNoNewline : List ℕ → Type 0
@@ -90,9 +91,22 @@ piece_open b (d ∷ ds) p =
       | inr differs ↦ rw differs.0 (ap (onto_first_piece b) (piece_open d ds p.1))
     ]
 
--- the text of a document is one piece
-pub pieces-text_of : (t : Leaf) → IsLeaf t → pieces_of (text_of (leaf t)) ≡ record { bytes = spelled_leaf t; ended = true } ∷ []
-pieces-text_of t p = piece_ended (spelled_leaf t) [] (HasNoNewline-leaf t p)
+pub HasNoNewline-list_head : (n : ℕ) → n < 2 ^ 64 → HasNoNewline (list_head n)
+HasNoNewline-list_head n h = HasNoNewline-append (codes "list ") (decimal n) (HasNoNewline-tested (codes "list ") refl) (HasNoNewline-decimal n h)
+
+-- a piece that a newline ends, as the first of some
+abbrev pub ended_piece : List ℕ → Option Piece
+ended_piece line = Some (record { bytes = line; ended = true })
+
+pub first_piece : (line rest : List ℕ) → HasNoNewline line → slice_get (pieces_of (line ++ 10 ∷ rest)) 0 ≡ ended_piece line
+first_piece line rest p = ap (λ ps. slice_get ps 0) (piece_ended line rest p)
+
+-- two texts that begin with lines, as far as their newlines
+pub same_line : (x y r s : List ℕ) → HasNoNewline x → HasNoNewline y → x ++ 10 ∷ r ≡ y ++ 10 ∷ s → x ≡ y
+same_line x y r s p q h =
+    let one : ended_piece x ≡ ended_piece y = sym (first_piece x r p) ∙ ap (λ t. slice_get (pieces_of t) 0) h ∙ first_piece y s q in
+    let both : record { bytes = x; ended = true } ≡ record { bytes = y; ended = true } = cc in
+    ap (λ (p : Piece). p.bytes) both
 
 HasNoNewline-take : (xs : List ℕ) (i : ℕ) → i < length xs → ((k : ℕ) → k < i → get_or xs k 0 ≢ 10) → HasNoNewline (take i xs)
 HasNoNewline-take xs i within before =

@@ -1,5 +1,5 @@
 -- Texts that are written in runs between their escapes.
-use Rattle.std.proofs.Common.{◌≡◌, ℕ, ◌+◌, ◌-◌, ◌<◌, ◌≤◌, Bool, List, [], ◌∷◌, ◌++◌, length, get_or, take, drop, sym, ap, ◌∙◌, subst, arith, append_assoc, append-nil, length-drop, Result, Ok, Err}
+use Rattle.std.proofs.Common.{◌≡◌, ℕ, ◌+◌, ◌-◌, ◌<◌, ◌≤◌, Bool, List, [], ◌∷◌, ◌++◌, length, get_or, take, drop, sym, ap, ◌∙◌, subst, arith, append_assoc, append-nil, length-drop, Result}
 use Rattle.std.proofs.lemmas.List.{take_more, take-append-drop, take_all, get_or-drop}
 use Rattle.archive_shape.specs.declared.error.Error.{Error}
 use Rattle.archive_shape.specs.Writing.{Written, Failed, Appends}

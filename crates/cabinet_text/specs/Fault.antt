@@ -1,11 +1,11 @@
 -- The first fault of a text that is not the text of a document.
-use Rattle.std.specs.Prelude.{◌≡◌, ℕ, ◌==◌, ◌<◌, ℤ, Bool, true, false, if◌then◌else◌, List, [], ◌∷◌, ◌++◌, Option, Some, None, ◌⊎◌, ⊤, slice_get, codes, IsUtf8, FitsSigned}
+use Rattle.std.specs.Prelude.{◌≡◌, ℕ, ◌==◌, ◌+◌, ◌<◌, ◌≤◌, ◌^◌, ℤ, Bool, true, false, if◌then◌else◌, List, [], ◌∷◌, ◌++◌, length, Option, Some, None, ◌⊎◌, ⊤, slice_get, codes, IsUtf8, FitsSigned}
 use Rattle.std.specs.Int.{w64}
-use Rattle.std.specs.Fmt.{signed_decimal}
-use Rattle.cabinet_text.specs.Tree.{Tree, IsDocument}
-use Rattle.cabinet_text.specs.Spelling.{escaped, head}
+use Rattle.std.specs.Fmt.{decimal, signed_decimal}
+use Rattle.cabinet_text.specs.Tree.{Tree, Trees, count, AreLeaves, IsDocument}
+use Rattle.cabinet_text.specs.Spelling.{escaped, head, list_head, lines_of_tree, lines_of_trees, ended}
 use Rattle.cabinet_text.specs.declared.text.Cause.{Cause}
-use Rattle.cabinet_text.specs.declared.text.Cause.TheVariants.{NotUtf8, NoNewline, EndTooEarly, BadEscape, UnknownHead, BadNumber, LineAfterEnd, OutOfMemory}
+use Rattle.cabinet_text.specs.declared.text.Cause.TheVariants.{NotUtf8, NoNewline, EndTooEarly, BadEscape, UnknownHead, BadNumber, TooDeep, LineAfterEnd, OutOfMemory}
 
 -- a line of a text, and whether a newline ends it
 pub record Piece : Type 0 where
@@ -21,10 +21,24 @@ abbrev pub pieces_of : List ℕ → List Piece
 pieces_of [] = []
 pieces_of (b ∷ bs) = if b == 10 then record { bytes = []; ended = true } ∷ pieces_of bs else onto_first_piece b (pieces_of bs)
 
--- what may stand next: the head of a node, or, behind a document, nothing
+-- what may stand next: a head inside so many lists, or, behind a document, nothing
 pub data Due : Type 0 where
-  a_head : Due
+  a_head : ℕ → Due
   nothing_more : Due
+
+-- what is due behind some lines of a text
+pub data Reached (lines : List (List ℕ)) (due : Due) : Type 0 where
+  at_the_start : lines ≡ [] → due ≡ a_head 0 → Reached lines due
+  -- behind the head of a list and fewer elements than it says
+  in_a_list :
+      (n : ℕ) (ts : Trees)
+      → n < 2 ^ 64
+      → AreLeaves ts
+      → count ts < n
+      → lines ≡ list_head n ∷ lines_of_trees ts
+      → due ≡ a_head 1
+      → Reached lines due
+  behind_a_document : (t : Tree) → IsDocument t → lines ≡ lines_of_tree t → due ≡ nothing_more → Reached lines due
 
 -- a text behind a quote is not the escaped form of any
 abbrev pub HasBadEscape : List ℕ → Type 0
@@ -33,25 +47,40 @@ HasBadEscape line =
     × ((line ≡ codes "text '" ++ rest) ⊎ (line ≡ codes "shared '" ++ rest))
     × ((t : List ℕ) → IsUtf8 t → rest ≡ escaped t → ⊥)
 
--- neither the head of a document nor the word of a number with something behind it
+-- neither the head of a document nor the word of a number or a count with something behind it
 pub record IsUnknownHead (line : List ℕ) : Type 0 where
   pub no_head : (t : Tree) → IsDocument t → line ≡ head t → ⊥
   pub no_number : (rest : List ℕ) → line ≡ codes "int " ++ rest → ⊥
+  pub no_count : (rest : List ℕ) → line ≡ codes "list " ++ rest → ⊥
 
-abbrev pub HasBadNumber : List ℕ → Type 0
-HasBadNumber line =
-    (rest : List ℕ) × (line ≡ codes "int " ++ rest) × ((n : ℤ) → FitsSigned w64 n → rest ≡ signed_decimal n → ⊥)
+-- behind the word `int ` no number, or behind the word `list ` no count
+pub data HasBadNumber (line : List ℕ) : Type 0 where
+  bad_number :
+      (rest : List ℕ)
+      → line ≡ codes "int " ++ rest
+      → ((n : ℤ) → FitsSigned w64 n → rest ≡ signed_decimal n → ⊥)
+      → HasBadNumber line
+  bad_count :
+      (rest : List ℕ)
+      → line ≡ codes "list " ++ rest
+      → ((n : ℕ) → n < 2 ^ 64 → rest ≡ decimal n → ⊥)
+      → HasBadNumber line
+
+-- the head of a list inside a list; for now lists do not nest
+abbrev pub IsTooDeep : ℕ → List ℕ → Type 0
+IsTooDeep depth line = (1 ≤ depth) × ((n : ℕ) × (n < 2 ^ 64) × (line ≡ list_head n))
 
 -- What can be said against the piece that stands where something is due; None: the input has ended. Memory may be
 -- refused at any head.
 abbrev pub Blames : Due → Option Piece → Cause → Type 0
-Blames a_head None EndTooEarly = ⊤
-Blames a_head (Some p) NotUtf8 = IsUtf8 p.bytes → ⊥
-Blames a_head (Some p) NoNewline = p.ended ≡ false
-Blames a_head (Some p) BadEscape = HasBadEscape p.bytes
-Blames a_head (Some p) UnknownHead = IsUnknownHead p.bytes
-Blames a_head (Some p) BadNumber = HasBadNumber p.bytes
-Blames a_head (Some p) OutOfMemory = ⊤
+Blames (a_head depth) None EndTooEarly = ⊤
+Blames (a_head depth) (Some p) NotUtf8 = IsUtf8 p.bytes → ⊥
+Blames (a_head depth) (Some p) NoNewline = p.ended ≡ false
+Blames (a_head depth) (Some p) BadEscape = HasBadEscape p.bytes
+Blames (a_head depth) (Some p) UnknownHead = IsUnknownHead p.bytes
+Blames (a_head depth) (Some p) BadNumber = HasBadNumber p.bytes
+Blames (a_head depth) (Some p) TooDeep = IsTooDeep depth p.bytes
+Blames (a_head depth) (Some p) OutOfMemory = ⊤
 Blames nothing_more (Some p) NotUtf8 = IsUtf8 p.bytes → ⊥
 Blames nothing_more (Some p) NoNewline = p.ended ≡ false
 Blames nothing_more (Some p) LineAfterEnd = ⊤
@@ -65,21 +94,22 @@ rank EndTooEarly = 2
 rank BadEscape = 3
 rank UnknownHead = 4
 rank BadNumber = 5
-rank LineAfterEnd = 6
-rank OutOfMemory = 7
+rank TooDeep = 6
+rank LineAfterEnd = 7
+rank OutOfMemory = 8
 
 -- the first cause of all that can be said
 pub record IsFirstCause (due : Due) (piece : Option Piece) (cause : Cause) : Type 0 where
   pub blames : Blames due piece cause
   pub first : (other : Cause) → rank other < rank cause → Blames due piece other → ⊥
 
--- the first faulty line, counted from 1, and its first cause
-pub data FirstFault (input : List ℕ) (line : ℕ) (cause : Cause) : Type 0 where
-  fault_at_head : line ≡ 1 → IsFirstCause a_head (slice_get (pieces_of input) 0) cause → FirstFault input line cause
-  fault_behind :
-      (t : Tree)
-      → IsDocument t
-      → slice_get (pieces_of input) 0 ≡ Some (record { bytes = head t; ended = true })
-      → line ≡ 2
-      → IsFirstCause nothing_more (slice_get (pieces_of input) 1) cause
-      → FirstFault input line cause
+-- The first faulty line, counted from 1, and its first cause: the lines before it lead to where something is due, and
+-- the fault is of what stands there.
+pub record FirstFault (input : List ℕ) (line : ℕ) (cause : Cause) : Type 0 where
+  pub before : List (List ℕ)
+  pub rest : List ℕ
+  pub due : Due
+  pub input_is : input ≡ ended before ++ rest
+  pub reached : Reached before due
+  pub line_is : line ≡ length before + 1
+  pub first : IsFirstCause due (slice_get (pieces_of rest) 0) cause

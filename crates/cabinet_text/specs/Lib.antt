@@ -1,4 +1,5 @@
 pub mod Tree
+pub mod Code
 pub mod Kinds
 pub mod Spelling
 pub mod Answering
@@ -8,3 +9,4 @@ pub mod Session
 pub mod Fault
 pub mod View
 pub mod Laws
+pub mod Head

@@ -13,9 +13,12 @@ pub struct Document {
 
 impl Model for Document {
     ghost use Rattle.cabinet_text.specs.Tree.{Tree, IsDocument};
+    ghost use Rattle.cabinet_text.specs.Code.{tree_code};
     ghost use Rattle.cabinet_text.specs.View.{node_tree};
 
     ghost Value = { Tree };
+
+    ghost coded = { tree_code };
 
     ghost view = { λ d. node_tree d.root };
 

@@ -25,4 +25,4 @@ pub use line::{Line, LineRefusal, Step, read_line};
 pub use node::{Kind, Node};
 pub use number::Decimal;
 pub use text::{Cause, TextRefusal, read_text};
-pub use writing::{write_bad, write_leaf_line, write_missing, write_outcome};
+pub use writing::{write_bad, write_leaf_line, write_list_line, write_missing, write_outcome};

@@ -1,14 +1,17 @@
-ghost use Rattle.std.specs.Prelude.{◌≡◌, ◌↔◌, Some, IsTrue, IsUtf8, IfOk, IfErr, string_bytes};
+ghost use Rattle.std.specs.Prelude.{◌≡◌, ◌↔◌, ◌++◌, Some, codes, IsTrue, IsUtf8, IfOk, IfErr, string_bytes};
 ghost use Rattle.cabinet_text.specs.Tree.{IsLeaf};
 ghost use Rattle.cabinet_text.specs.Spelling.{escaped, spelled_leaf};
 ghost use Rattle.cabinet_text.specs.Line.{Says, IsQuestion};
-ghost use Rattle.cabinet_text.specs.Reading.{RefusesLine, RefusesLeaf, RefusesText};
+ghost use Rattle.cabinet_text.specs.Reading.{IsCutBehindLeaf, RefusesLine, RefusesLeaf, RefusesText};
 ghost use Rattle.cabinet_text.specs.View.{leaf_of, line_of};
+
+mod path;
 
 use crate::escape::{is_escaped, unescape_text};
 use crate::leaf::Leaf;
 use crate::number::read_number;
-use crate::spelling::{behind, read_truth};
+use crate::spelling::{behind, read_truth, split_word};
+use path::{is_path, read_path};
 use std::alloc::Global;
 use thiserror::Error;
 
@@ -93,22 +96,62 @@ fn read_leaf(alloc: Global, bytes: &[u8]) -> Result<Leaf, LineRefusal>
     Ok(Leaf::Bool(value))
 }
 
+/// Cuts what stands behind `set ` where its leaf ends: behind a word, a space and another word.
+fn split_leaf(bytes: &[u8]) -> (&[u8], &[u8])
+    ensures whole { bytes.now ≡ result.0.now ++ result.1.now }
+    ensures cut { IsCutBehindLeaf bytes.now result.0.now result.1.now }
+{
+    let (_, spaced) = split_word(bytes);
+    let Some(argument) = behind(spaced, b" ".as_slice()) else {
+        return (bytes, &[]);
+    };
+    let (_, path) = split_word(argument);
+    bytes.split_at(bytes.len() - path.len())
+}
+
+/// The question about the path that is spelled so.
+fn read_question(alloc: Global, bytes: &[u8]) -> Result<Line, LineRefusal>
+    ensures said { IfOk result (λ line. Says (codes "get" ++ bytes.now) (Some (line_of line))) }
+    ensures refused { IfErr result (RefusesLine (codes "get" ++ bytes.now)) }
+{
+    if !is_path(bytes) {
+        return Err(LineRefusal::Bad);
+    }
+    match read_path(alloc, bytes) {
+        Ok(path) => Ok(Line::Get(path)),
+        Err(_) => Err(LineRefusal::OutOfMemory),
+    }
+}
+
+/// The edit whose leaf and path are spelled so.
+fn read_edit(alloc: Global, bytes: &[u8]) -> Result<Line, LineRefusal>
+    ensures said { IfOk result (λ line. Says (codes "set " ++ bytes.now) (Some (line_of line))) }
+    ensures refused { IfErr result (RefusesLine (codes "set " ++ bytes.now)) }
+{
+    let (spelled, path) = split_leaf(bytes);
+    if !is_path(path) {
+        return Err(LineRefusal::Bad);
+    }
+    let leaf = match read_leaf(alloc, spelled) {
+        Ok(leaf) => leaf,
+        Err(refusal) => return Err(refusal),
+    };
+    match read_path(alloc, path) {
+        Ok(path) => Ok(Line::Set { path, leaf }),
+        Err(_) => Err(LineRefusal::OutOfMemory),
+    }
+}
+
 /// The line that is spelled so.
 pub fn read_line(alloc: Global, bytes: &[u8]) -> Result<Line, LineRefusal>
     ensures said { IfOk result (λ line. Says bytes.now (Some (line_of line))) }
     ensures refused { IfErr result (RefusesLine bytes.now) }
 {
-    if bytes == b"get".as_slice() {
-        return Ok(Line::Get(Vec::new(alloc)));
+    if let Some(path) = behind(bytes, b"get".as_slice()) {
+        return read_question(alloc, path);
     }
-    let Some(spelled) = behind(bytes, b"set ".as_slice()) else {
+    let Some(edit) = behind(bytes, b"set ".as_slice()) else {
         return Err(LineRefusal::Bad);
     };
-    match read_leaf(alloc, spelled) {
-        Ok(leaf) => Ok(Line::Set {
-            path: Vec::new(alloc),
-            leaf,
-        }),
-        Err(refusal) => Err(refusal),
-    }
+    read_edit(alloc, edit)
 }

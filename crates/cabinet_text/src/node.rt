@@ -1,5 +1,5 @@
-ghost use Rattle.std.specs.Prelude.{◌≡◌};
-ghost use Rattle.cabinet_text.specs.Tree.{leaf};
+ghost use Rattle.std.specs.Prelude.{◌≡◌, ◌≢◌, MatchOption};
+ghost use Rattle.cabinet_text.specs.Tree.{Leaf, leaf};
 ghost use Rattle.cabinet_text.specs.View.{node_tree, lent_leaf};
 ghost use Rattle.cabinet_text.specs.Kinds.{kind_of};
 
@@ -11,6 +11,7 @@ pub enum Node {
     Bool(bool),
     Int(i64),
     Text(String),
+    List(Vec<Node>),
 }
 
 /// The kinds of nodes.
@@ -19,6 +20,7 @@ pub enum Kind {
     Bool,
     Int,
     Text,
+    List,
 }
 
 impl Node {
@@ -29,17 +31,19 @@ impl Node {
             Node::Bool(_) => Kind::Bool,
             Node::Int(_) => Kind::Int,
             Node::Text(_) => Kind::Text,
+            Node::List(_) => Kind::List,
         }
     }
 
-    /// The leaf that the node is.
-    pub fn as_leaf(&self) -> LeafRef<'_>
-        ensures { leaf (lent_leaf result) ≡ node_tree self.now }
+    /// The leaf that the node is, if it is one.
+    pub fn as_leaf(&self) -> Option<LeafRef<'_>>
+        ensures { MatchOption result ((l : Leaf) → node_tree self.now ≢ leaf l) (λ l. node_tree self.now ≡ leaf (lent_leaf l)) }
     {
         match self {
-            Node::Bool(value) => LeafRef::Bool(*value),
-            Node::Int(number) => LeafRef::Int(*number),
-            Node::Text(text) => LeafRef::Text(text.as_str()),
+            Node::Bool(value) => Some(LeafRef::Bool(*value)),
+            Node::Int(number) => Some(LeafRef::Int(*number)),
+            Node::Text(text) => Some(LeafRef::Text(text.as_str())),
+            Node::List(_) => None,
         }
     }
 }

@@ -1,4 +1,4 @@
-ghost use Rattle.std.specs.Prelude.{◌≡◌, ◌≢◌, ℤ, ◌<◌, ◌≤◌, drop, MatchOption, FitsSigned};
+ghost use Rattle.std.specs.Prelude.{◌≡◌, ◌≢◌, ℕ, ℤ, ◌^◌, ◌<◌, ◌≤◌, drop, MatchOption, FitsSigned};
 ghost use Rattle.std.specs.Int.{w64};
 ghost use Rattle.std.specs.Fmt.{decimal, signed_decimal};
 
@@ -66,6 +66,23 @@ impl Decimal {
         ensures { result.now ≡ self.now }
     {
         &self.bytes[self.start..]
+    }
+}
+
+/// The count that is written so.
+pub(crate) fn read_count(digits: &[u8]) -> Option<u64>
+    ensures { MatchOption result ((n : ℕ) → n < 2 ^ 64 → digits.now ≢ decimal n) (λ n. digits.now ≡ decimal n) }
+{
+    let Ok(text) = std::str::from_utf8(digits) else {
+        return None;
+    };
+    let Ok(count) = text.parse::<u64>() else {
+        return None;
+    };
+    if Decimal::unsigned(count).as_bytes() == digits {
+        Some(count)
+    } else {
+        None
     }
 }
 

@@ -1,12 +1,34 @@
-ghost use Rattle.std.specs.Prelude.{◌≡◌, ◌≢◌, ◌++◌, List, ℕ, Bool, MatchOption};
+ghost use Rattle.std.specs.Prelude.{◌≡◌, ◌≢◌, ◌<◌, ◌≤◌, ◌++◌, List, ℕ, Bool, length, slice_index, MatchOption};
 ghost use Rattle.cabinet_text.specs.Tree.{truth};
 ghost use Rattle.cabinet_text.specs.Spelling.{spelled_leaf};
+ghost use Rattle.cabinet_text.specs.Reading.{HasNoSpace, IsAtSpace};
 
 /// What stands behind a prefix.
 pub(crate) fn behind<'a>(bytes: &'a [u8], prefix: &[u8]) -> Option<&'a [u8]>
     ensures { MatchOption result ((rest : List ℕ) → bytes.now ≢ prefix.now ++ rest) (λ rest. bytes.now ≡ prefix.now ++ rest.now) }
 {
     bytes.strip_prefix(prefix)
+}
+
+/// How many bytes stand before the first space.
+fn word_len(bytes: &[u8]) -> usize
+    ensures within { result ≤ length bytes.now }
+    ensures before { (k : ℕ) → k < result → slice_index bytes.now k ≢ 32 }
+    ensures space { result < length bytes.now → slice_index bytes.now result ≡ 32 }
+{
+    match bytes.iter().position(|byte| *byte == b' ') {
+        Some(len) => len,
+        None => bytes.len(),
+    }
+}
+
+/// The bytes before the first space, and the others.
+pub(crate) fn split_word(bytes: &[u8]) -> (&[u8], &[u8])
+    ensures whole { bytes.now ≡ result.0.now ++ result.1.now }
+    ensures word { HasNoSpace result.0.now }
+    ensures rest { IsAtSpace result.1.now }
+{
+    bytes.split_at(word_len(bytes))
 }
 
 /// The truth value that is written so.

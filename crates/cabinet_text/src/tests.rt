@@ -1,5 +1,5 @@
 use crate::{
-    Cause, Decimal, Kind, LeafRef, Line, LineRefusal, Node, SetAnswer, TextRefusal, fits,
+    Cause, Decimal, Kind, LeafRef, Line, LineRefusal, Node, SetAnswer, Step, TextRefusal, fits,
     read_line, read_text, write_bad, write_leaf_line, write_missing, write_outcome,
 };
 use std::test::Fail;
@@ -28,8 +28,38 @@ fn first_faults_of_texts(rt: HostRuntime) -> Result<(), Fail> {
         (b"text 'abcdefghi\n".as_slice(), 1, Cause::UnknownHead),
         (b"shared 'a b\n".as_slice(), 1, Cause::BadEscape),
         (b"shared 'a\n".as_slice(), 1, Cause::UnknownHead),
-        (b"list 0\n".as_slice(), 1, Cause::UnknownHead),
         (b"int 9223372036854775808\n".as_slice(), 1, Cause::BadNumber),
+    ];
+    for (text, line, cause) in faults {
+        let refusal = read_text(rt.alloc(), text).err();
+        assert_eq!(rt; refusal, Some(TextRefusal { line, cause }), "at {text:?}");
+    }
+    Ok(())
+}
+
+#[test]
+fn first_faults_of_lists(rt: HostRuntime) -> Result<(), Fail> {
+    let faults = [
+        (b"list 4000000000\n".as_slice(), 2, Cause::EndTooEarly),
+        (b"list 1\n'a\n".as_slice(), 2, Cause::UnknownHead),
+        (b"list 2\nint 7\n".as_slice(), 3, Cause::EndTooEarly),
+        (b"list 1\nlist 0\n".as_slice(), 2, Cause::TooDeep),
+        (b"list 1\nlist x\n".as_slice(), 2, Cause::BadNumber),
+        (b"list 1 2\n".as_slice(), 1, Cause::BadNumber),
+        (b"list 05\n".as_slice(), 1, Cause::BadNumber),
+        (b"list \n".as_slice(), 1, Cause::BadNumber),
+        (b"list -1\n".as_slice(), 1, Cause::BadNumber),
+        (
+            b"list 18446744073709551616\n".as_slice(),
+            1,
+            Cause::BadNumber,
+        ),
+        (b"list\n".as_slice(), 1, Cause::UnknownHead),
+        (b"list 1\nint 7\nint 8\n".as_slice(), 3, Cause::LineAfterEnd),
+        (b"list 1\nint 7".as_slice(), 2, Cause::NoNewline),
+        (b"list 1\ntext 'a b\n".as_slice(), 2, Cause::BadEscape),
+        (b"list 1\n\xff\n".as_slice(), 2, Cause::NotUtf8),
+        (b"some\n".as_slice(), 1, Cause::UnknownHead),
     ];
     for (text, line, cause) in faults {
         let refusal = read_text(rt.alloc(), text).err();
@@ -50,11 +80,34 @@ fn texts_of_documents(rt: HostRuntime) -> Result<(), Fail> {
     };
     assert_eq!(rt; text.as_str(), "a\\b\nc d");
     let mut bytes = Vec::new(rt.alloc());
-    write_leaf_line(least.root().as_leaf(), &mut bytes)?;
-    write_leaf_line(truth.root().as_leaf(), &mut bytes)?;
-    write_leaf_line(escaped.root().as_leaf(), &mut bytes)?;
+    for document in [&least, &truth, &escaped] {
+        let Some(leaf) = document.root().as_leaf() else {
+            return Err(Fail::from("no leaf"));
+        };
+        write_leaf_line(leaf, &mut bytes)?;
+    }
     let lines = b"int -9223372036854775808\nbool false\ntext 'a\\\\b\\nc\\sd\n";
     assert_eq!(rt; bytes.as_slice(), lines.as_slice());
+    Ok(())
+}
+
+#[test]
+fn texts_of_lists(rt: HostRuntime) -> Result<(), Fail> {
+    let empty = read_text(rt.alloc(), b"list 0\n")?;
+    assert_eq!(rt; empty.root().kind(), Kind::List);
+    assert!(rt; empty.root().as_leaf().is_none());
+    let numbers = read_text(rt.alloc(), b"list 2\nint 7\nint 19\n")?;
+    let Node::List(elements) = numbers.root() else {
+        return Err(Fail::from("no list"));
+    };
+    let mut bytes = Vec::new(rt.alloc());
+    for element in elements {
+        let Some(leaf) = element.as_leaf() else {
+            return Err(Fail::from("no leaf"));
+        };
+        write_leaf_line(leaf, &mut bytes)?;
+    }
+    assert_eq!(rt; bytes.as_slice(), b"int 7\nint 19\n".as_slice());
     Ok(())
 }
 
@@ -64,12 +117,30 @@ fn lines_are_read(rt: HostRuntime) -> Result<(), Fail> {
         b"".as_slice(),
         b"get ",
         b"get 'a",
+        b"get ?",
+        b"get  #1",
+        b"get #1 ",
+        b"get #",
+        b"get #01",
+        b"get #-1",
+        b"get #18446744073709551616",
+        b"get#1",
+        b"gets",
+        b"get #1x",
         b"get\n",
+        b"set",
+        b"set ",
+        b"set #1",
         b"set  int 5",
         b"set int 5 ",
+        b"set int 5 6",
         b"set int 05",
         b"set int",
+        b"set int 20 #",
+        b"set int 20 1",
+        b"set bool true  #1",
         b"set text 'a b",
+        b"set text 'a b #1",
         b"set text 'a\\",
         b"set text '\xff",
         b"keys",
@@ -77,6 +148,40 @@ fn lines_are_read(rt: HostRuntime) -> Result<(), Fail> {
     for bytes in bad {
         let refusal = read_line(rt.alloc(), bytes).err();
         assert_eq!(rt; refusal, Some(LineRefusal::Bad), "at {bytes:?}");
+    }
+    Ok(())
+}
+
+fn steps_of(line: &Line) -> &[Step] {
+    match line {
+        Line::Get(path) => path.as_slice(),
+        Line::Set { path, .. } => path.as_slice(),
+    }
+}
+
+#[test]
+fn lines_have_steps(rt: HostRuntime) -> Result<(), Fail> {
+    let good = [
+        (b"get".as_slice(), [].as_slice()),
+        (b"get #0", &[0]),
+        (b"get #18446744073709551615", &[u64::MAX]),
+        (b"get #1 #2", &[1, 2]),
+        (b"set int 20 #1", &[1]),
+        (b"set bool true #0", &[0]),
+        (b"set text 'a\\sb #3", &[3]),
+        (b"set text '", &[]),
+        (b"set text ' #2", &[2]),
+    ];
+    for (bytes, places) in good {
+        let line = read_line(rt.alloc(), bytes)?;
+        let path = steps_of(&line);
+        assert_eq!(rt; path.len(), places.len(), "at {bytes:?}");
+        for (step, place) in path.iter().zip(places) {
+            let Step::Place(read) = step else {
+                return Err(Fail::from("no place"));
+            };
+            assert_eq!(rt; read, place, "at {bytes:?}");
+        }
     }
     Ok(())
 }

@@ -1,7 +1,7 @@
-ghost use Rattle.std.specs.Prelude.{◌≡◌, ◌≢◌, ℕ, ◌+◌, ◌-◌, ◌^◌, ◌<◌, ◌++◌, List, [], ◌∷◌, None, length, take, drop, codes, slice_index, MatchOption};
+ghost use Rattle.std.specs.Prelude.{◌≡◌, ◌+◌, ◌-◌, ◌^◌, ◌<◌, ◌++◌, [], ◌∷◌, None, codes, MatchOption};
 ghost use Rattle.archive_shape.specs.Writing.{Writes};
 ghost use Rattle.cabinet_text.specs.Answering.{answer_about, spelled_outcome};
-ghost use Rattle.cabinet_text.specs.Spelling.{escaped, escaped_byte, spelled_leaf};
+ghost use Rattle.cabinet_text.specs.Spelling.{escaped, escaped_byte, spelled_leaf, list_head};
 ghost use Rattle.cabinet_text.specs.View.{lent_leaf};
 
 use crate::answer::SetAnswer;
@@ -67,6 +67,14 @@ pub fn write_leaf_line<W: Writer>(leaf: LeafRef<'_>, writer: &mut W) -> Result<(
         }
         LeafRef::Text(text) => write_text_line(text.as_bytes(), writer),
     }
+}
+
+/// Writes the line of a list with so many elements.
+pub fn write_list_line<W: Writer>(len: u64, writer: &mut W) -> Result<(), Error>
+    requires { W.failures writer.old < 2 ^ 64 - 1 }
+    ensures { Writes W.Writer writer.old writer.new (list_head len ++ codes "\n") result }
+{
+    write_three_pieces(writer, b"list ", Decimal::unsigned(len).as_bytes(), b"\n")
 }
 
 /// Writes the line that answers an edit.

@@ -1,4 +1,4 @@
-use Rattle.cabinet_text.proofs.Faults.{one_fault}
+use Rattle.cabinet_text.proofs.Firsts.{one_fault}
 use Rattle.cabinet_text.proofs.laws.one_fault.Goals as goal
 
 pub returns : goal.returns

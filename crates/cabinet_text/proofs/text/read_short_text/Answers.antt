@@ -4,12 +4,12 @@ use Rattle.cabinet_text.proofs.Faults.{text_unescaped, text_long, text_memory, t
 use Rattle.cabinet_text.proofs.text.read_short_text.Goals as goal
 
 pub returns-in_default-clause-fault : goal.returns-in_default-clause-fault
-returns-in_default-clause-fault c = text_unescaped _ c.args.argument.now refl c.requires c.in_default.ensures
+returns-in_default-clause-fault c = λ depth. text_unescaped depth _ c.args.argument.now refl c.requires c.in_default.ensures
 
 pub returns-then-len-gt-MOST-clause-fault : goal.returns-then-len-gt-MOST-clause-fault
 returns-then-len-gt-MOST-clause-fault c =
     let read = c.in-Some.ensures in
-    text_long _ c.args.argument.now read.0 refl c.requires read.2 (omega (arith, read.1))
+    λ depth. text_long depth _ c.args.argument.now read.0 refl c.requires read.2 (omega (arith, read.1))
 
 pub unescape_text-requires : goal.unescape_text-requires
 unescape_text-requires c =
@@ -25,4 +25,4 @@ returns-in-Ok-clause-short c =
 pub returns-in-Err-clause-fault : goal.returns-in-Err-clause-fault
 returns-in-Err-clause-fault c =
     let read = c.in-Some.ensures in
-    text_memory _ c.args.argument.now read.0 refl c.requires read.2 (omega (arith, read.1))
+    λ depth. text_memory depth _ c.args.argument.now read.0 refl c.requires read.2 (omega (arith, read.1))

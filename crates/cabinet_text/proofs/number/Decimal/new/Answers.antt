@@ -1,4 +1,4 @@
-use Rattle.std.proofs.Common.{◌≡◌, ◌<◌, length, drop, unsigned_abs, ap, ◌∙◌, arith, w64}
+use Rattle.std.proofs.Common.{◌<◌, length, ap, ◌∙◌, arith, w64}
 use Rattle.std.specs.Fmt.{decimal, signed_decimal}
 use Rattle.std.proofs.lemmas.Int.{to_z-of_z}
 use Rattle.cabinet_text.proofs.Numbers.{signed_from_zero_on, sign_put}
