@@ -11,32 +11,11 @@ use Rattle.archive_shape.specs.Bytes.{overwrite}
 use Rattle.cabinet_text.specs.Tree.{Leaf, leaf, truth, number, text, IsLeaf, IsDocument}
 use Rattle.cabinet_text.specs.Answering.{fits}
 use Rattle.cabinet_layout.specs.Bytes.{Stands, zeros, filler, truth_byte, number_bytes}
-use Rattle.cabinet_layout.specs.Node.{root_position}
 use Rattle.cabinet_layout.specs.Spelled.{IsLeafAt}
 use Rattle.cabinet_layout.specs.Image.{own_offset, own_bytes, IsClean}
 use Rattle.cabinet_layout.specs.Fault.{IsOutOfLine}
-use Rattle.cabinet_layout.specs.Laws.{own_place, OwnBytesWithin, EditKeepsAccepted, EditKeepsImage}
-use Rattle.cabinet_layout.proofs.Roots.{accepted_says}
-use Rattle.cabinet_layout.proofs.Making.{leaf_accepted}
-use Rattle.cabinet_layout.proofs.Pieces.{length-overwrite, length-window, stands_there, stands_before, stands_behind, byte_before, window_from, stands_byte}
+use Rattle.cabinet_layout.proofs.Pieces.{length-window, stands_there, stands_before, stands_behind, byte_before, window_from, stands_byte}
 use Rattle.cabinet_layout.proofs.Texts.{text_before, split_at_filler, starts_inline}
-use Rattle.cabinet_layout.proofs.Images.{image_says, image_of}
-
--- the own bytes of a leaf lie in its node
-pub own_bytes_short : (l : Leaf) → IsDocument (leaf l) → own_offset l + length (own_bytes l) ≤ 24
-own_bytes_short (truth b) d = omega arith
-own_bytes_short (number n) d = omega arith
-own_bytes_short (text t) d = omega (arith, d.1)
-
-pub root_fits : (bytes : List ℕ) → 24 ≤ length bytes → root_position (length bytes) + 24 ≤ length bytes
-root_fits bytes h = omega arith
-
-pub own_bytes_within : OwnBytesWithin
-own_bytes_within bytes l a =
-    let r = (accepted_says bytes l a).root_leaf in
-    let s = own_bytes_short l r.document in
-    let f = root_fits bytes r.room in
-    omega arith
 
 -- a leaf that fits in a document is one of a document
 pub fits_document : (old new : Leaf) → IsDocument (leaf old) → IsLeaf new → fits old new ≡ true → IsDocument (leaf new)
@@ -50,7 +29,7 @@ fits_document (number m) (text u) d l f = absurd (cc)
 fits_document (text t) (truth c) d l f = absurd (cc)
 fits_document (text t) (number n) d l f = absurd (cc)
 
-truth_reads : (b : Bool) → (truth_byte b < 2) × ((truth_byte b == 1) ≡ b)
+pub truth_reads : (b : Bool) → (truth_byte b < 2) × ((truth_byte b == 1) ≡ b)
 truth_reads true = (omega arith, refl)
 truth_reads false = (omega arith, refl)
 
@@ -58,11 +37,11 @@ number_fits : (n : ℤ) → FitsSigned w64 n → cast_unsigned w64 n < 2 ^ 64
 number_fits (pos n) f = let h = f.sfits in omega arith
 number_fits (negsuc n) f = omega arith
 
-number_reads : (n : ℤ) → FitsSigned w64 n → cast_signed w64 (from_le_bytes w64 (number_bytes n)) ≡ n
+pub number_reads : (n : ℤ) → FitsSigned w64 n → cast_signed w64 (from_le_bytes w64 (number_bytes n)) ≡ n
 number_reads n f = ap (cast_signed w64) (from_le_bytes-to_le_bytes_8 (cast_unsigned w64 n) (number_fits n f)) ∙ to_z-of_z w64 n f
 
 module _ (bytes : List ℕ) (pos : ℕ) (room : pos + 24 ≤ length bytes) where
-  leaf_edit : (old new : Leaf) → IsDocument (leaf old) → IsLeaf new → fits old new ≡ true → IsLeafAt bytes pos old → IsLeafAt (overwrite bytes (pos + own_offset new) (own_bytes new)) pos new
+  pub leaf_edit : (old new : Leaf) → IsDocument (leaf old) → IsLeaf new → fits old new ≡ true → IsLeafAt bytes pos old → IsLeafAt (overwrite bytes (pos + own_offset new) (own_bytes new)) pos new
   leaf_edit (truth b) (truth c) d l f i =
       let w = truth_reads c in
       let at : slice_index (overwrite bytes (pos + 1) (truth_byte c ∷ [])) (pos + 1) ≡ truth_byte c = stands_byte _ (pos + 1) (truth_byte c) (stands_there bytes (pos + 1) (truth_byte c ∷ []) (omega arith)) in
@@ -89,7 +68,7 @@ module _ (bytes : List ℕ) (pos : ℕ) (room : pos + 24 ≤ length bytes) where
   leaf_edit (text t) (truth c) d l f i = absurd (cc)
   leaf_edit (text t) (number n) d l f i = absurd (cc)
 
-  clean_edit : (old new : Leaf) → IsDocument (leaf old) → fits old new ≡ true → IsClean bytes pos (leaf old) → IsClean (overwrite bytes (pos + own_offset new) (own_bytes new)) pos (leaf new)
+  pub clean_edit : (old new : Leaf) → IsDocument (leaf old) → fits old new ≡ true → IsClean bytes pos (leaf old) → IsClean (overwrite bytes (pos + own_offset new) (own_bytes new)) pos (leaf new)
   clean_edit (truth b) (truth c) d f i =
       let own : List ℕ = truth_byte c ∷ [] in
       (stands_there bytes (pos + 1) own (omega arith), stands_behind bytes (pos + 1) own (omega arith) (pos + 2) (zeros 22) (omega arith) i.1)
@@ -112,33 +91,3 @@ module _ (bytes : List ℕ) (pos : ℕ) (room : pos + 24 ≤ length bytes) where
   clean_edit (number m) (text u) d f i = absurd (cc)
   clean_edit (text t) (truth c) d f i = absurd (cc)
   clean_edit (text t) (number n) d f i = absurd (cc)
-
-pub edit_keeps_accepted : EditKeepsAccepted
-edit_keeps_accepted bytes old new a l f =
-    let r = (accepted_says bytes old a).root_leaf in
-    let pos = root_position (length bytes) in
-    let fit = root_fits bytes r.room in
-    let d = fits_document old new r.document l f in
-    let s = own_bytes_short new d in
-    let e : length (overwrite bytes (own_place bytes new) (own_bytes new)) ≡ length bytes = length-overwrite bytes (own_place bytes new) (own_bytes new) (omega arith) in
-    let room = r.room in
-    leaf_accepted _ new (record {
-      room = omega arith;
-      at_root = subst (λ n. IsLeafAt (overwrite bytes (own_place bytes new) (own_bytes new)) (root_position n) new) (sym e) (leaf_edit bytes pos fit old new r.document l f r.at_root);
-      document = d;
-    })
-
-pub edit_keeps_image : EditKeepsImage
-edit_keeps_image bytes old new i l f =
-    let s = image_says old bytes i in
-    let z = s.size in
-    let begins : root_position (length bytes) ≡ 0 = ap root_position s.size in
-    let d = fits_document old new s.document l f in
-    let short = own_bytes_short new d in
-    let e : length (overwrite bytes (own_place bytes new) (own_bytes new)) ≡ length bytes = length-overwrite bytes (own_place bytes new) (own_bytes new) (omega arith) in
-    image_of new (overwrite bytes (own_place bytes new) (own_bytes new)) (record {
-      size = e ∙ z;
-      node = subst (λ p. IsLeafAt (overwrite bytes (p + own_offset new) (own_bytes new)) 0 new) (sym begins) (leaf_edit bytes 0 (omega arith) old new s.document l f s.node);
-      document = d;
-      clean = subst (λ p. IsClean (overwrite bytes (p + own_offset new) (own_bytes new)) 0 (leaf new)) (sym begins) (clean_edit bytes 0 (omega arith) old new s.document f s.clean);
-    })

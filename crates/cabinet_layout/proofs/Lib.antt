@@ -1,9 +1,17 @@
 pub mod Inversions
+pub mod Lists
 pub mod Roots
 pub mod Making
 pub mod Utf8
 pub mod Pieces
+pub mod Frames
+pub mod Paths
 pub mod Texts
+pub mod Leaves
 pub mod Images
 pub mod Faults
 pub mod Edits
+pub mod Changes
+pub mod Orders
+pub mod Kept
+pub mod ImageEdits

@@ -1,8 +1,9 @@
 -- Pieces of bytes, and writes over them.
-use Rattle.std.proofs.Common.{◌≡◌, ℕ, ◌+◌, ◌≤◌, ◌<◌, List, [], ◌∷◌, ◌++◌, length, take, drop, slice_index, sym, ap, ◌∙◌, arith, length-append, rules, get_or-take, get_or-drop, add-zero, drop-cons}
-use Rattle.std.specs.List.{concat}
-use Rattle.std.proofs.lemmas.List.{take-append-drop, length-take, length-drop, drop-drop, drop_all, places, same_lists}
-use Rattle.archive_shape_layout.specs.Bytes.{window}
+use Rattle.std.proofs.Common.{◌≡◌, ℕ, ◌+◌, ◌≤◌, ◌<◌, List, [], ◌∷◌, ◌++◌, refl, length, take, drop, slice_index, sym, ap, ◌∙◌, arith, length-append, rules, get_or-take, get_or-drop, add-zero, drop-cons}
+use Rattle.std.proofs.Math.Seq.{take-add, take-append_seam}
+use Rattle.std.specs.Int.{w32, from_le_bytes}
+use Rattle.std.proofs.lemmas.List.{length-take, length-drop, drop-drop, drop-take, drop_at, take-take, take_all, places, same_lists}
+use Rattle.archive_shape_layout.specs.Bytes.{window, word_at}
 use Rattle.archive_shape.specs.Bytes.{overwrite}
 use Rattle.cabinet_layout.specs.Bytes.{Stands}
 
@@ -38,21 +39,59 @@ pub window_from : (bytes : List ℕ) (at : ℕ) (piece : List ℕ) (size : ℕ) 
     → window (overwrite bytes at piece) at size ≡ piece ++ drop (length piece) (window bytes at size)
 window_from bytes at piece size h k = same_lists _ _ (search (rules, places)) (λ i e l. grind (arith, places))
 
--- pieces that stand one behind the other, from a position to the end
-abbrev pub Covers : List ℕ → ℕ → List (List ℕ) → Type 0
-Covers bytes pos [] = length bytes ≤ pos
-Covers bytes pos (piece ∷ pieces) = Stands bytes pos piece × Covers bytes (pos + length piece) pieces
+-- writes that do not meet, in either order
+pub overwrites_commute :
+    (bytes : List ℕ) (at : ℕ) (piece : List ℕ) (from : ℕ) (other : List ℕ)
+    → at + length piece ≤ from
+    → from + length other ≤ length bytes
+    → overwrite (overwrite bytes at piece) from other ≡ overwrite (overwrite bytes from other) at piece
+overwrites_commute bytes at piece from other h k =
+    let e = length-overwrite bytes at piece (omega arith) in
+    let f = length-overwrite bytes from other k in
+    same_lists _ _ (length-overwrite (overwrite bytes at piece) from other (omega arith) ∙ e ∙ sym (length-overwrite (overwrite bytes from other) at piece (omega arith) ∙ f)) (λ i e l. grind (arith, places))
 
-covered : (bytes : List ℕ) (pos : ℕ) (pieces : List (List ℕ)) → Covers bytes pos pieces → drop pos bytes ≡ concat pieces
-covered bytes pos [] h = drop_all pos bytes h
-covered bytes pos (piece ∷ pieces) h =
-    sym (take-append-drop (length piece) (drop pos bytes))
-    ∙ ap (λ y. y ++ drop (length piece) (drop pos bytes)) h.0
-    ∙ ap (λ y. piece ++ y) (drop-drop (length piece) pos bytes ∙ covered bytes (pos + length piece) pieces h.1)
+-- a byte of a window
+pub window_byte : (bytes : List ℕ) (pos size i : ℕ) → i < size → slice_index (window bytes pos size) i ≡ slice_index bytes (pos + i)
+window_byte bytes pos size i h = get_or-take size (drop pos bytes) i 0 h ∙ get_or-drop pos bytes i 0
 
--- bytes covered by the same pieces are the same
-pub same_cover : (bytes others : List ℕ) (pieces : List (List ℕ)) → Covers bytes 0 pieces → Covers others 0 pieces → bytes ≡ others
-same_cover bytes others pieces h k = covered bytes 0 pieces h ∙ sym (covered others 0 pieces k)
+-- the word at a position is that of its four bytes
+pub word_of_window : (bytes : List ℕ) (pos : ℕ) → word_at bytes pos ≡ from_le_bytes w32 (window bytes pos 4)
+unfolding word_at
+word_of_window bytes pos =
+    let b0 = get_or-take 4 (drop pos bytes) 0 0 (omega arith) in
+    let b1 = get_or-take 4 (drop pos bytes) 1 0 (omega arith) in
+    let b2 = get_or-take 4 (drop pos bytes) 2 0 (omega arith) in
+    let b3 = get_or-take 4 (drop pos bytes) 3 0 (omega arith) in
+    rw (b0, b1, b2, b3)
+
+-- one piece behind another
+pub stands_append : (bytes : List ℕ) (pos : ℕ) (xs ys : List ℕ) (next : ℕ) → pos + length xs ≡ next → Stands bytes pos xs → Stands bytes next ys → Stands bytes pos (xs ++ ys)
+stands_append bytes pos xs ys next e s t =
+    ap (λ n. window bytes pos n) (length-append xs ys)
+    ∙ take-add (length xs) (length ys) (drop pos bytes)
+    ∙ ap (λ x. x ++ take (length ys) (drop (length xs) (drop pos bytes))) s
+    ∙ ap (λ x. xs ++ take (length ys) x) (drop-drop (length xs) pos bytes)
+    ∙ ap (λ n. xs ++ window bytes n (length ys)) e
+    ∙ ap (λ x. xs ++ x) t
+
+pub stands_left : (bytes : List ℕ) (pos : ℕ) (xs ys : List ℕ) → Stands bytes pos (xs ++ ys) → Stands bytes pos xs
+stands_left bytes pos xs ys s =
+    sym (take-take (length xs) (length (xs ++ ys)) (drop pos bytes) (omega (arith, length-append xs ys)))
+    ∙ ap (take (length xs)) s
+    ∙ take-append_seam xs ys
+
+pub stands_right : (bytes : List ℕ) (pos : ℕ) (xs ys : List ℕ) (next : ℕ) → pos + length xs ≡ next → Stands bytes pos (xs ++ ys) → Stands bytes next ys
+stands_right bytes pos xs ys next e s =
+    ap (λ n. window bytes n (length ys)) (sym e)
+    ∙ ap (take (length ys)) (sym (drop-drop (length xs) pos bytes))
+    ∙ sym (drop-take (length xs) (length ys) (drop pos bytes))
+    ∙ ap (λ n. drop (length xs) (window bytes pos n)) (sym (length-append xs ys))
+    ∙ ap (drop (length xs)) s
+    ∙ drop_at xs ys (length xs) refl
+
+-- a piece that stands at the beginning and is as long is the whole
+pub stands_whole : (bytes piece : List ℕ) → length bytes ≡ length piece → Stands bytes 0 piece → bytes ≡ piece
+stands_whole bytes piece e s = sym (take_all (length piece) bytes (omega arith)) ∙ s
 
 -- a byte as a piece
 pub byte_stands : (bytes : List ℕ) (pos b : ℕ) → pos < length bytes → slice_index bytes pos ≡ b → Stands bytes pos (b ∷ [])

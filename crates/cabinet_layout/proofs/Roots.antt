@@ -1,28 +1,30 @@
 -- The layout relation at the root, spelled out: what the bytes of a root node say.
-use Rattle.std.proofs.Common.{◌≡◌, ℕ, ◌+◌, ◌≤◌, ◌<◌, Bool, true, false, ◌==◌, ◌||◌, nat_lt, nat_le, List, [], ◌∷◌, ◌++◌, length, drop, slice_index, Option, Some, None, refl, sym, subst, ap, ◌∙◌, arith, w64, get_or-take, get_or-drop, add-zero, ltb-true, length-take, length-drop}
+use Rattle.std.proofs.Common.{◌≡◌, ℕ, zero, suc, ◌+◌, ◌*◌, ◌≤◌, ◌<◌, Bool, true, false, ◌==◌, ◌||◌, nat_lt, nat_le, List, [], ◌∷◌, ◌++◌, length, drop, slice_index, Option, Some, None, refl, sym, subst, ap, ap₂, ◌∙◌, arith, w64, get_or-take, get_or-drop, add-zero, ltb-true, length-take, length-drop}
 use Rattle.std.proofs.lemmas.Bool.Decides.{nat_tests}
 use Rattle.std.specs.Prelude.{IsUtf8}
 use Rattle.std.specs.Int.{from_le_bytes, cast_signed}
 use Rattle.archive_shape_layout.specs.Bytes.{window, align_up, word_at, target_from}
 use Rattle.archive_shape_layout.specs.Shape.{Shape, align_of}
-use Rattle.archive_shape_layout.specs.Shape.Shape.{choice, number as number_shape, truth as truth_shape, text as text_shape}
+use Rattle.archive_shape_layout.specs.Shape.Shape.{choice, vector, number as number_shape, truth as truth_shape, text as text_shape}
 use Rattle.archive_shape_layout.specs.Shape.Pointee.{sized, str}
-use Rattle.archive_shape_layout.specs.Value.{Value}
+use Rattle.archive_shape_layout.specs.Value.{Value, Values}
 use Rattle.archive_shape_layout.specs.Value.Value.{integer, boolean, string, chosen}
 use Rattle.archive_shape_layout.specs.Value.Values.{no_values, more_values}
-use Rattle.archive_shape_layout.specs.Content.{Names, Content, choose, content_of, made, option_content, shape_content, pointee_content, text_content, text_length, following, before_ff, shape_tagged, number_value}
+use Rattle.archive_shape_layout.specs.Content.{Names, Content, choose, content_of, made, option_content, shape_content, pointee_content, text_content, text_length, following, before_ff, shape_tagged, number_value, elements}
 use Rattle.archive_shape_layout.specs.Content.Part.{at, behind}
 use Rattle.archive_shape_layout.specs.Content.Label.{same, tagged, written, leaf as leaf_label}
 use Rattle.archive_shape_layout.specs.Content.Content.{illegal, plain, claimed}
-use Rattle.archive_shape_layout.specs.Holds.{Region, region_of, Visit, Opened, Holds, Ascends, end_after}
+use Rattle.archive_shape_layout.specs.Holds.{Region, region_of, Visit, Opened, Holds, HoldAll, Follows, Ascends, end_after}
+use Rattle.archive_shape_layout.specs.Holds.HoldAll.{holds_none, holds_more}
 use Rattle.archive_shape_layout.proofs.Ascent.{Ascends-append}
 use Rattle.archive_shape_layout.proofs.Unique.{by_claimed}
 use Rattle.cabinet_text.specs.Tree as tree
-use Rattle.cabinet_text.specs.Tree.{Tree, Leaf, IsDocument}
-use Rattle.cabinet_layout.specs.Node.{node_shape, node_names, payloads, root_position}
-use Rattle.cabinet_layout.specs.Denotes.{Denotes, denotes_truth, denotes_number, denotes_text, tagged_value, Accepted}
+use Rattle.cabinet_text.specs.Tree.{Tree, list, Trees, no_trees, more_trees, count, Leaf, AreLeaves, IsDocument}
+use Rattle.cabinet_layout.specs.Node.{node_shape, node_names, payloads, root_position, target_of_list, len_of_list, elements_at}
+use Rattle.cabinet_layout.specs.Denotes.{Denotes, denotes_truth, denotes_number, denotes_text, denotes_list, DenoteAll, denote_none, denote_more, tagged_value, Accepted}
 use Rattle.cabinet_layout.specs.Fault.{IsOutOfLine}
-use Rattle.cabinet_layout.specs.Spelled.{IsLeafAt, HasRootLeaf}
+use Rattle.cabinet_layout.specs.Spelled.{IsLeafAt, AreNodesAt, HasRootNode}
+use Rattle.cabinet_layout.proofs.Lists.{elements_span, by_vector}
 use Rattle.cabinet_layout.proofs.Inversions.{none_illegal, lone, passed_on, by_tag, by_leaf, by_text, by_claimed_text}
 
 -- the first byte of a window
@@ -214,26 +216,149 @@ node_says bytes pos low {regions = regions} l (denotes_text {s = s} d e) documen
     let is_document : IsDocument (tree.leaf (tree.text s)) = subst (λ x. IsDocument (tree.leaf x)) k document in
     let a = text_at node_names bytes (pos + 4) low is_document.1 ascends (behind_tag bytes pos {s = text_shape} d (choice_content bytes pos 2 t) c) in
     subst (λ x. NodeSays bytes pos x regions) (sym k) (record { leaf_at = (t, a.is_inline, a.value_is); no_regions = a.no_regions })
+node_says bytes pos low l (denotes_list d e all) document ascends h = absurd (cc)
+
+-- ---- elements side by side
+
+pub record ElementsSay (bytes : List ℕ) (pos len : ℕ) (ts : Trees) (regions : List Region) : Type 0 where
+  pub nodes_at : AreNodesAt bytes pos ts
+  pub number : len ≡ count ts
+  pub no_regions : regions ≡ []
+
+elements_say :
+    (bytes : List ℕ) (ts : Trees) (pos len low : ℕ) {level : ℕ} {inside : List Opened} {vs : Values} {regions : List Region} {before after : List Visit}
+    → DenoteAll vs ts
+    → AreLeaves ts
+    → Ascends low (length bytes) regions
+    → HoldAll node_names bytes level inside (elements pos len node_shape) vs regions before after
+    → ElementsSay bytes pos len ts regions
+unfolding elements
+elements_say bytes no_trees pos zero low (denote_none d e) leaves ascends (holds_none f g k) =
+    record { nodes_at = tt; number = refl; no_regions = g }
+elements_say bytes no_trees pos zero low (denote_more d e one rest) leaves ascends h = absurd (cc)
+elements_say bytes no_trees pos (suc len) low (denote_none d e) leaves ascends (holds_more one rest f g) = absurd (cc)
+elements_say bytes no_trees pos (suc len) low (denote_more d e one rest) leaves ascends h = absurd (cc)
+elements_say bytes (more_trees t ts) pos len low (denote_none d e) leaves ascends h = absurd (cc)
+elements_say bytes (more_trees (list us) ts) pos len low (denote_more d e one rest) leaves ascends h = absurd leaves
+elements_say bytes (more_trees (tree.leaf l) ts) pos zero low (denote_more d e one rest) leaves ascends (holds_none f g k) = absurd (cc)
+elements_say bytes (more_trees (tree.leaf l) ts) pos (suc len) low {regions = regions} (denote_more {v = v} {vs = vs} {t = t} {ts = us} d e one rest) leaves ascends (holds_more {v = w} {vs = ws} {here = here} {later = later} first others f g) =
+    let same_value : v ≡ w = cc in
+    let same_values : vs ≡ ws = cc in
+    let same_tree : t ≡ tree.leaf l = cc in
+    let same_trees : us ≡ ts = cc in
+    let both = (Ascends-append low (length bytes) here later).0 (subst (Ascends low (length bytes)) g ascends) in
+    let n = node_says bytes pos low l (subst (λ x. Denotes x (tree.leaf l)) same_value (subst (Denotes v) same_tree one)) leaves.0 both.0 first in
+    let r = elements_say bytes ts (pos + 24) len (end_after low here) (subst (λ x. DenoteAll x ts) same_values (subst (DenoteAll vs) same_trees rest)) leaves.1 both.1 others in
+    record {
+      nodes_at = (n.leaf_at, r.nodes_at);
+      number = ap suc r.number;
+      no_regions = g ∙ ap₂ (λ (x y : List Region). x ++ y) n.no_regions r.no_regions;
+    }
+
+-- ---- a list
+
+abbrev pub list_region : List ℕ → ℕ → ℕ → ℕ → Region
+list_region bytes pos len level = record { start = elements_at bytes pos; size = len * 24; align = 8; level = level }
+
+record ListSays (bytes : List ℕ) (pos level : ℕ) (ts : Trees) (regions : List Region) : Type 0 where
+  tag : slice_index bytes pos ≡ 5
+  pointer : target_of_list bytes pos ≡ Some (elements_at bytes pos)
+  number : len_of_list bytes pos ≡ count ts
+  nodes_at : AreNodesAt bytes (elements_at bytes pos) ts
+  regions_are : regions ≡ list_region bytes pos (count ts) level ∷ []
+
+list_says :
+    (bytes : List ℕ) (pos low : ℕ) {level : ℕ} {inside : List Opened} {v : Value} {regions : List Region} {before after : List Visit} (ts : Trees)
+    → Denotes v (list ts)
+    → IsDocument (list ts)
+    → Ascends low (length bytes) regions
+    → Holds node_names bytes level inside (at pos node_shape) v regions before after
+    → ListSays bytes pos level ts regions
+unfolding align_up
+list_says bytes pos low ts (denotes_truth d e) document ascends h = absurd (cc)
+list_says bytes pos low ts (denotes_number d e) document ascends h = absurd (cc)
+list_says bytes pos low ts (denotes_text d e) document ascends h = absurd (cc)
+list_says bytes pos low {level = level} {regions = regions} ts (denotes_list {vs = vs} {ts = us} d e all) document ascends h =
+    let same_trees : us ≡ ts = cc in
+    let c = passed_on node_names bytes (node_content bytes pos) h in
+    let t = tag_is bytes pos d c in
+    let a = by_vector bytes pos (behind_tag bytes pos {s = vector node_shape} d (choice_content bytes pos 5 t) c) in
+    let own = region_of (elements_span (elements_at bytes pos) (len_of_list bytes pos)) level in
+    let both = (Ascends-append low (length bytes) a.within (own ∷ [])).0 (subst (Ascends low (length bytes)) a.regions_are ascends) in
+    let s = elements_say bytes ts (elements_at bytes pos) (len_of_list bytes pos) low (subst (DenoteAll vs) same_trees all) document.0 both.0 a.all in
+    record {
+      tag = t;
+      pointer = a.pointer;
+      number = s.number;
+      nodes_at = s.nodes_at;
+      regions_are = a.regions_are ∙ ap₂ (λ (x : List Region) (n : ℕ). x ++ list_region bytes pos n level ∷ []) s.no_regions s.number;
+    }
 
 -- ---- the root
 
-pub record RootSays (bytes : List ℕ) (l : Leaf) (regions : List Region) : Type 0 where
-  pub root_leaf : HasRootLeaf bytes l
-  pub regions_are : regions ≡ root_region (root_position (length bytes)) ∷ []
+abbrev pub regions_of : List ℕ → Tree → List Region
+regions_of bytes (tree.leaf l) = root_region (root_position (length bytes)) ∷ []
+regions_of bytes (list ts) = list_region bytes (root_position (length bytes)) (count ts) 1 ∷ (root_region (root_position (length bytes)) ∷ [])
 
-pub accepted_says : (bytes : List ℕ) (l : Leaf) (a : Accepted bytes (tree.leaf l)) → RootSays bytes l a.regions
-unfolding Ascends made end_after
-accepted_says bytes l a =
+pub record RootSays (bytes : List ℕ) (t : Tree) (regions : List Region) : Type 0 where
+  pub root_node : HasRootNode bytes t
+  pub regions_are : regions ≡ regions_of bytes t
+
+-- what the root's region and the regions inside it rest on
+record RootHolds (bytes : List ℕ) (t : Tree) (regions : List Region) : Type 0 where
+  value : Value
+  within : List Region
+  visits : List Visit
+  denotes : Denotes value t
+  holds : Holds node_names bytes 1 [] (at (root_position (length bytes)) node_shape) value within [] visits
+  regions_are : regions ≡ within ++ root_region (root_position (length bytes)) ∷ []
+  ascends : Ascends 0 (length bytes) within
+  last : Follows (end_after 0 within) (length bytes) (root_region (root_position (length bytes)))
+
+by_root : (bytes : List ℕ) (t : Tree) (a : Accepted bytes t) → RootHolds bytes t a.regions
+unfolding Ascends made
+by_root bytes t a =
     let pos = root_position (length bytes) in
     let c = by_claimed node_names bytes (root_content bytes pos) a.root.holds in
     let one = lone node_names bytes c.all in
     let m : made same (more_values one.value no_values) ≡ Some a.value = subst (λ x. made same x ≡ Some a.value) one.values_are c.is_made in
     let e : one.value ≡ a.value = cc in
-    let d : Denotes one.value (tree.leaf l) = subst (λ x. Denotes x (tree.leaf l)) (sym e) a.denotes in
     let both = (Ascends-append 0 (length bytes) c.within (root_region pos ∷ [])).0 (subst (Ascends 0 (length bytes)) c.regions_are a.root.ascends) in
-    let n = node_says bytes pos 0 l d a.document both.0 one.holds in
-    let room = both.1.0.inside in
     record {
-      root_leaf = record { room = omega arith; at_root = n.leaf_at; document = a.document };
-      regions_are = c.regions_are ∙ ap (λ x. x ++ root_region pos ∷ []) n.no_regions;
+      value = one.value;
+      within = c.within;
+      visits = a.visits;
+      denotes = subst (λ x. Denotes x t) (sym e) a.denotes;
+      holds = one.holds;
+      regions_are = c.regions_are;
+      ascends = both.0;
+      last = both.1.0;
+    }
+
+pub accepted_says : (bytes : List ℕ) (t : Tree) (a : Accepted bytes t) → RootSays bytes t a.regions
+unfolding Ascends end_after
+accepted_says bytes (tree.leaf l) a =
+    let pos = root_position (length bytes) in
+    let r = by_root bytes (tree.leaf l) a in
+    let n = node_says bytes pos 0 l r.denotes a.document r.ascends r.holds in
+    let room = r.last.inside in
+    record {
+      root_node = record { room = omega arith; at_root = n.leaf_at; document = a.document };
+      regions_are = r.regions_are ∙ ap (λ x. x ++ root_region pos ∷ []) n.no_regions;
+    }
+accepted_says bytes (list ts) a =
+    let pos = root_position (length bytes) in
+    let r = by_root bytes (list ts) a in
+    let n = list_says bytes pos 0 ts r.denotes a.document r.ascends r.holds in
+    let first = subst (Ascends 0 (length bytes)) n.regions_are r.ascends in
+    let last = subst (λ x. Follows (end_after 0 x) (length bytes) (root_region pos)) n.regions_are r.last in
+    let after = last.after in
+    let room = last.inside in
+    record {
+      root_node = record {
+        room = omega arith;
+        at_root = (record { tag = n.tag; pointer = n.pointer; length = n.number; aligned = first.0.aligned; before = omega arith }, n.nodes_at);
+        document = a.document;
+      };
+      regions_are = r.regions_are ∙ ap (λ x. x ++ root_region pos ∷ []) n.regions_are;
     }

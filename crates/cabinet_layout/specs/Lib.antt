@@ -2,6 +2,7 @@ pub mod Bytes
 pub mod Node
 pub mod Denotes
 pub mod Image
+pub mod Written
 pub mod Fault
 pub mod Laws
 pub mod Spelled

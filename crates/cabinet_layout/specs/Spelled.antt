@@ -1,10 +1,10 @@
--- What the bytes of a root node say, field by field.
-use Rattle.std.specs.Prelude.{◌≡◌, ℕ, ◌+◌, ◌<◌, ◌≤◌, ◌==◌, ◌↔◌, List, length, slice_index}
+-- What the bytes of nodes say, field by field.
+use Rattle.std.specs.Prelude.{◌≡◌, ℕ, ◌+◌, ◌*◌, ◌%◌, ◌<◌, ◌≤◌, ◌==◌, ◌↔◌, List, length, slice_index, Some, ⊤}
 use Rattle.std.specs.Int.{w64, from_le_bytes, cast_signed}
 use Rattle.archive_shape_layout.specs.Bytes.{window}
 use Rattle.archive_shape_layout.specs.Content.{before_ff}
-use Rattle.cabinet_text.specs.Tree.{Leaf, truth, number, text, leaf, IsDocument}
-use Rattle.cabinet_layout.specs.Node.{root_position}
+use Rattle.cabinet_text.specs.Tree.{Leaf, truth, number, text, Tree, leaf, list, Trees, no_trees, more_trees, count, IsDocument}
+use Rattle.cabinet_layout.specs.Node.{root_position, target_of_list, len_of_list, elements_at}
 use Rattle.cabinet_layout.specs.Denotes.{Accepted}
 use Rattle.cabinet_layout.specs.Fault.{IsOutOfLine}
 
@@ -17,12 +17,32 @@ IsLeafAt bytes pos (number n) =
 IsLeafAt bytes pos (text t) =
     (slice_index bytes pos ≡ 2) × (IsOutOfLine (window bytes (pos + 4) 8) → ⊥) × (before_ff (window bytes (pos + 4) 8) ≡ t)
 
--- the node lies in the bytes, and they say that it is this leaf
-pub record HasRootLeaf (bytes : List ℕ) (l : Leaf) : Type 0 where
+-- The tag of a list, and behind it where its elements begin and how many they are: they are aligned, and end before the
+-- list's own node.
+pub record IsListAt (bytes : List ℕ) (pos len : ℕ) : Type 0 where
+  pub tag : slice_index bytes pos ≡ 5
+  pub pointer : target_of_list bytes pos ≡ Some (elements_at bytes pos)
+  pub length : len_of_list bytes pos ≡ len
+  pub aligned : elements_at bytes pos % 8 ≡ 0
+  pub before : elements_at bytes pos + 24 * len ≤ pos
+
+abbrev mutual
+  -- the node at a position is this tree
+  pub IsNodeAt : List ℕ → ℕ → Tree → Type 0
+  IsNodeAt bytes pos (leaf l) = IsLeafAt bytes pos l
+  IsNodeAt bytes pos (list ts) = IsListAt bytes pos (count ts) × AreNodesAt bytes (elements_at bytes pos) ts
+
+  -- side by side
+  pub AreNodesAt : List ℕ → ℕ → Trees → Type 0
+  AreNodesAt bytes pos no_trees = ⊤
+  AreNodesAt bytes pos (more_trees t ts) = IsNodeAt bytes pos t × AreNodesAt bytes (pos + 24) ts
+
+-- the root node lies in the bytes, and they say that it is this document
+pub record HasRootNode (bytes : List ℕ) (t : Tree) : Type 0 where
   pub room : 24 ≤ length bytes
-  pub at_root : IsLeafAt bytes (root_position (length bytes)) l
-  pub document : IsDocument (leaf l)
+  pub at_root : IsNodeAt bytes (root_position (length bytes)) t
+  pub document : IsDocument t
 
 -- such bytes are just those that the layout accepts
 abbrev pub SpelledOut : Type 0
-SpelledOut = (bytes : List ℕ) (l : Leaf) → Accepted bytes (leaf l) ↔ HasRootLeaf bytes l
+SpelledOut = (bytes : List ℕ) (t : Tree) → Accepted bytes t ↔ HasRootNode bytes t

@@ -2,9 +2,9 @@
 #![tactic(auto)]
 
 ghost use Rattle.cabinet_layout.specs.Spelled.{SpelledOut};
-ghost use Rattle.cabinet_layout.specs.Laws.{OneDocument, OneImage, FaultRefuses, OneFault, OwnBytesWithin, EditKeepsAccepted, EditKeepsImage, RootPositions};
+ghost use Rattle.cabinet_layout.specs.Laws.{OneDocument, OneImage, ImageWritten, FaultRefuses, OneFault, OwnBytesWithin, OwnBytesApart, EditKeepsAccepted, EditKeepsImage, EditsInEitherOrder, RootPositions};
 
-/// What the fields of a root node say is what the layout accepts.
+/// What the fields of nodes say is what the layout accepts.
 pub fn spelled_out()
     ensures { SpelledOut }
 {}
@@ -17,6 +17,11 @@ pub fn one_document()
 /// A document has one image.
 pub fn one_image()
     ensures { OneImage }
+{}
+
+/// A document within the limits of archives has an image.
+pub fn image_written()
+    ensures { ImageWritten }
 {}
 
 /// Bytes with a fault are the archive of no document.
@@ -34,6 +39,11 @@ pub fn own_bytes_within()
     ensures { OwnBytesWithin }
 {}
 
+/// The own bytes of leaves at different paths do not meet.
+pub fn own_bytes_apart()
+    ensures { OwnBytesApart }
+{}
+
 /// An edit leaves an archive of the document with the new leaf.
 pub fn edit_keeps_accepted()
     ensures { EditKeepsAccepted }
@@ -42,6 +52,11 @@ pub fn edit_keeps_accepted()
 /// An edit of an image leaves the image of the document with the new leaf.
 pub fn edit_keeps_image()
     ensures { EditKeepsImage }
+{}
+
+/// Two edits at different paths give the same bytes and the same document in either order.
+pub fn edits_in_either_order()
+    ensures { EditsInEitherOrder }
 {}
 
 /// The root node lies where the layout has a root of its shape: at the end of the bytes, rounded down to a multiple of 8.

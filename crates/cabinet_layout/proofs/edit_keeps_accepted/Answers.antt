@@ -1,4 +1,4 @@
-use Rattle.cabinet_layout.proofs.Edits.{edit_keeps_accepted}
+use Rattle.cabinet_layout.proofs.Kept.{edit_keeps_accepted}
 use Rattle.cabinet_layout.proofs.edit_keeps_accepted.Goals as goal
 
 pub returns : goal.returns

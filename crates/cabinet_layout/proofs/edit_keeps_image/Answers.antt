@@ -1,4 +1,4 @@
-use Rattle.cabinet_layout.proofs.Edits.{edit_keeps_image}
+use Rattle.cabinet_layout.proofs.ImageEdits.{edit_keeps_image}
 use Rattle.cabinet_layout.proofs.edit_keeps_image.Goals as goal
 
 pub returns : goal.returns

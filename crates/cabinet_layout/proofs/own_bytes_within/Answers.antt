@@ -1,4 +1,4 @@
-use Rattle.cabinet_layout.proofs.Edits.{own_bytes_within}
+use Rattle.cabinet_layout.proofs.Kept.{own_bytes_within}
 use Rattle.cabinet_layout.proofs.own_bytes_within.Goals as goal
 
 pub returns : goal.returns
