@@ -1,21 +1,26 @@
--- What is answered to a question about the root, where that is a leaf.
-use Rattle.std.proofs.Common.{◌≡◌, ◌==◌, ℕ, true, List, [], ◌∷◌, ◌++◌, length, map, Some, refl, sym, ap, ◌∙◌, eqb-true}
+-- What is answered to a question, by what its path leads to.
+use Rattle.std.proofs.Common.{◌≡◌, ◌++◌, ℕ, List, Some, sym, ap, ◌∙◌}
 use Rattle.std.specs.Prelude.{codes}
-use Rattle.std.proofs.lemmas.List.{length-map}
-use Rattle.cabinet_text.specs.Tree.{Leaf, Tree, leaf, Step}
-use Rattle.cabinet_text.specs.Spelling.{spelled_leaf}
+use Rattle.cabinet_text.specs.Tree.{Tree, Step}
+use Rattle.cabinet_text.specs.Spelling.{head}
+use Rattle.cabinet_text.specs.Answering.{answer_about, asked_about}
 use Rattle.cabinet_text.specs.Line.{Line, get}
 use Rattle.cabinet_text.specs.Session.{reply}
+use Rattle.cabinet_text.specs.declared.answer.Asked.TheVariants.{Answered, Missing}
 use Rattle.cabinet_layout.specs.Denotes.{Accepted}
-use Rattle.cabinet_layout.proofs.Faults.{one_document}
+use Rattle.cabinet.specs.Opening.{asked_by, LeadsNowhere, LeadsTo}
+use Rattle.cabinet.specs.declared.reading.node.NodeRef.{NodeRef}
 
-pub no_steps : {A B : Type 0} (f : A → B) (path : List A) (n : ℕ) → n ≡ length path → (n == 0) ≡ true → length (map f path) ≡ 0
-no_steps f path n e z = length-map path f ∙ sym e ∙ eqb-true n 0 z
+module _ (x : List ℕ) (path : List Step) (line : Line) (e : line ≡ get path) (t : Tree) (a : Accepted x t) where
+  pub reply_nowhere : LeadsNowhere x path → reply t (Some line) ≡ codes "missing\n"
+  reply_nowhere h = ap (λ q. reply t (Some q)) e ∙ ap answer_about (h t a)
 
-reply_to_leaf : (l : Leaf) (path : List Step) → length path ≡ 0 → reply (leaf l) (Some (get path)) ≡ spelled_leaf l ++ codes "\n"
-reply_to_leaf l [] e = refl
-reply_to_leaf l (step ∷ path) e = absurd (cc)
+  pub asked_nowhere : LeadsNowhere x path → Missing ≡ asked_by t line
+  asked_nowhere h = sym (ap (asked_by t) e ∙ ap asked_about (h t a))
 
-pub reply_at_root : (x : List ℕ) (t : Tree) (l : Leaf) (line : Line) (path : List Step) → Accepted x t → Accepted x (leaf l) → line ≡ get path → length path ≡ 0 → reply t (Some line) ≡ spelled_leaf l ++ codes "\n"
-reply_at_root x t l line path a b e n =
-    ap (λ u. reply u (Some line)) (one_document x t (leaf l) a b) ∙ ap (λ q. reply (leaf l) (Some q)) e ∙ reply_to_leaf l path n
+  module _ (node : NodeRef) (h : LeadsTo x path node) where
+    pub reply_to_node : reply t (Some line) ≡ head (h t a).0 ++ codes "\n"
+    reply_to_node = ap (λ q. reply t (Some q)) e ∙ ap answer_about (h t a).1
+
+    pub asked_of_node : Answered ≡ asked_by t line
+    asked_of_node = sym (ap (asked_by t) e ∙ ap asked_about (h t a).1)

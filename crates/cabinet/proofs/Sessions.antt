@@ -1,7 +1,6 @@
 -- Lines carried out, one after another.
 use Rattle.std.proofs.Common.{◌≡◌, ℕ, ◌+◌, ◌≤◌, suc, zero, List, [], ◌∷◌, ◌++◌, length, take, drop, refl, sym, ap, subst, ◌∙◌, append_assoc, append-nil, length-append, arith, Option, Some, add-one}
 use Rattle.std.proofs.lemmas.List.Elements.{All-push, All-same}
-use Rattle.archive_shape.specs.Bytes.{overwrite}
 use Rattle.archive_shape.specs.Writing.{Cut}
 use Rattle.cabinet_text.specs.Tree.{Tree, Leaf, Step}
 use Rattle.cabinet_text.specs.Answering.{outcome, change}
@@ -9,8 +8,8 @@ use Rattle.cabinet_text.specs.declared.answer.SetAnswer.{SetAnswer}
 use Rattle.cabinet_text.specs.Line.{Line, set, Says}
 use Rattle.cabinet_text.specs.Session.{lines_of, AllSay, reply, next, answers, after, edits, edits_by}
 use Rattle.cabinet_layout.specs.Denotes.{Accepted}
-use Rattle.cabinet_layout.specs.Image.{Image, own_bytes}
-use Rattle.cabinet_layout.specs.Laws.{own_place}
+use Rattle.cabinet_layout.specs.Image.{Image}
+use Rattle.cabinet_layout.specs.Laws.{written_at}
 use Rattle.cabinet.specs.Editing.{Edited, put_if_done, bytes_next, bytes_after}
 use Rattle.cabinet.specs.Steps.{longest_line, Carried, Torn}
 
@@ -68,13 +67,13 @@ edited_push x y z ss s h k = record {
 -- setting a leaf is an edit
 pub edited_by_set : (x y : List ℕ) (path : List Step) (l : Leaf) (s : Option Line) (r : SetAnswer) → s ≡ Some (set path l)
     → ((t : Tree) → Accepted x t → r ≡ outcome t path l)
-    → y ≡ put_if_done r (overwrite x (own_place x l) (own_bytes l)) x
+    → y ≡ put_if_done r (written_at x path l) x
     → ((t : Tree) → Accepted x t → Accepted y (change t path l))
     → ((t : Tree) → Image t x → Image (change t path l) y)
     → Edited x y (s ∷ [])
 edited_by_set x y path l s r e answer b d i =
     subst (λ q. Edited x y (q ∷ [])) (sym e) (record {
-      bytes = λ t a. b ∙ ap (λ q. put_if_done q (overwrite x (own_place x l) (own_bytes l)) x) (answer t a);
+      bytes = λ t a. b ∙ ap (λ q. put_if_done q (written_at x path l) x) (answer t a);
       document = d;
       image = i;
     })

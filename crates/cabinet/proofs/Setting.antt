@@ -1,91 +1,81 @@
--- What setting a leaf comes to, by the leaf that is the root.
-use Rattle.std.proofs.Common.{◌≡◌, ◌≢◌, ◌+◌, ◌≤◌, ℕ, Bool, true, false, List, [], ◌∷◌, length, refl, sym, ap, subst, ◌∙◌, arith}
-use Rattle.archive_shape.specs.Bytes.{overwrite}
-use Rattle.cabinet_text.specs.Tree.{Tree, Leaf, leaf, Step, IsLeaf}
-use Rattle.cabinet_text.specs.Answering.{fits, outcome, change}
+-- What setting a leaf comes to, by what its path leads to.
+use Rattle.std.proofs.Common.{◌≡◌, ℕ, ◌+◌, ◌≤◌, true, false, if◌then◌else◌, List, length, Some, sym, ap, subst, ◌∙◌, arith}
+use Rattle.std.proofs.lemmas.Bool.{false≢true}
+use Rattle.std.proofs.Math.Bridge.{le_prop}
+use Rattle.std.proofs.Math.Logic.{∥∥₁_elim}
+use Rattle.cabinet_text.specs.Tree.{Tree, Leaf, Step, IsLeaf}
+use Rattle.cabinet_text.specs.Answering.{outcome, outcome_there, change}
+use Rattle.cabinet_text.specs.View.{lent_leaf}
 use Rattle.cabinet_text.specs.declared.answer.SetAnswer.{SetAnswer}
 use Rattle.cabinet_text.specs.declared.answer.SetAnswer.TheVariants.{Done, Missing, Refused}
+use Rattle.cabinet_text.proofs.Changes.{only_done_changes}
 use Rattle.cabinet_layout.specs.Denotes.{Accepted}
-use Rattle.cabinet_layout.specs.Image.{Image, own_bytes}
-use Rattle.cabinet_layout.specs.Laws.{own_place}
-use Rattle.cabinet_layout.proofs.Faults.{one_document}
+use Rattle.cabinet_layout.specs.Image.{Image, own_offset, own_bytes}
+use Rattle.cabinet_layout.specs.Laws.{written_at}
 use Rattle.cabinet_layout.proofs.Roots.{accepted_says}
-use Rattle.cabinet_layout.proofs.Edits.{own_bytes_short, root_fits, fits_document, edit_keeps_accepted, edit_keeps_image}
+use Rattle.cabinet_layout.proofs.Frames.{own_bytes_short}
+use Rattle.cabinet_layout.proofs.Edits.{fits_document}
+use Rattle.cabinet_layout.proofs.Kept.{leaf_within, edit_keeps_accepted}
+use Rattle.cabinet_layout.proofs.ImageEdits.{edit_keeps_image}
 use Rattle.cabinet.specs.Editing.{put_if_done}
+use Rattle.cabinet.specs.Opening.{LeadsNowhere, LeadsTo, fits_at}
+use Rattle.cabinet.specs.declared.reading.node.NodeRef.{NodeRef}
+use Rattle.cabinet.specs.declared.reading.node.NodeRef.TheVariants as lent
 
--- an answer, and what it left of the bytes
-pub record IsSet (x y : List ℕ) (there new : Leaf) (path : List Step) (answer : SetAnswer) : Type 0 where
-  pub root : Accepted x (leaf there)
-  pub legal : IsLeaf new
-  pub answer_is : answer ≡ outcome (leaf there) path new
-  pub bytes_are : y ≡ put_if_done answer (overwrite x (own_place x new) (own_bytes new)) x
+-- ---- the answer
 
-module _ (x y : List ℕ) (there new : Leaf) (path : List Step) (answer : SetAnswer) (s : IsSet x y there new path answer) where
-  edited : List ℕ
-  edited = overwrite x (own_place x new) (own_bytes new)
+module _ (x : List ℕ) (path : List Step) (new : Leaf) where
+  pub missing : LeadsNowhere x path → (t : Tree) → Accepted x t → Missing ≡ outcome t path new
+  missing h t a = sym (ap (λ o. outcome_there o new) (h t a))
 
-  pub answer_of_any : (t : Tree) → Accepted x t → answer ≡ outcome t path new
-  answer_of_any t a = s.answer_is ∙ ap (λ u. outcome u path new) (one_document x (leaf there) t s.root a)
+  outcome_at : (node : NodeRef) → LeadsTo x path node → (t : Tree) → Accepted x t → outcome t path new ≡ (if fits_at node new then Done else Refused)
+  outcome_at (lent.Leaf l) h t a =
+      let s = h t a in
+      ap (λ o. outcome_there o new) s.1 ∙ ap (λ u. outcome_there (Some u) new) s.2
+  outcome_at (lent.List e) h t a =
+      let s = h t a in
+      ap (λ o. outcome_there o new) s.1 ∙ ap (λ u. outcome_there (Some u) new) s.2.1
 
-  bytes_by : (p : List Step) → answer ≡ outcome (leaf there) p new → y ≡ put_if_done (outcome (leaf there) p new) (overwrite x (own_place x new) (own_bytes new)) x
-  bytes_by p e = s.bytes_are ∙ ap (λ a. put_if_done a (overwrite x (own_place x new) (own_bytes new)) x) e
+  pub refused : (node : NodeRef) → LeadsTo x path node → fits_at node new ≡ false → (t : Tree) → Accepted x t → Refused ≡ outcome t path new
+  refused node h f t a = sym (outcome_at node h t a ∙ ap (λ c. if c then Done else Refused) f)
 
-  -- by the path, and by whether the leaf fits
-  by_cases : (P : Tree → List ℕ → Type 0) → P (leaf there) x → (fits there new ≡ true → P (leaf new) (overwrite x (own_place x new) (own_bytes new)))
-      → (p : List Step) (test : Bool) → fits there new ≡ test → answer ≡ outcome (leaf there) p new → P (change (leaf there) p new) y
-  by_cases P same done (step ∷ p) test f e = subst (P (leaf there)) (sym (bytes_by (step ∷ p) e)) same
-  by_cases P same done [] true f e = rw f (subst (P (leaf new)) (sym (simp f at (bytes_by [] e))) (done f))
-  by_cases P same done [] false f e = rw f (subst (P (leaf there)) (sym (simp f at (bytes_by [] e))) same)
+  pub done : (node : NodeRef) → LeadsTo x path node → fits_at node new ≡ true → (t : Tree) → Accepted x t → Done ≡ outcome t path new
+  done node h f t a = sym (outcome_at node h t a ∙ ap (λ c. if c then Done else Refused) f)
 
-  pub document_after : (t : Tree) → Accepted x t → Accepted y (change t path new)
-  document_after t a =
-      let d = by_cases (λ u b. Accepted b u) s.root (λ f. edit_keeps_accepted x there new s.root s.legal f) path (fits there new) refl s.answer_is in
-      subst (λ u. Accepted y (change u path new)) (one_document x (leaf there) t s.root a) d
+  -- there is room for a leaf that fits
+  pub room_for : (node : NodeRef) (pos : ℕ) → ∥ ((t : Tree) × Accepted x t) ∥₁ → LeadsTo x path node → fits_at node new ≡ true → IsLeaf new
+      → pos + 24 ≤ length x → pos + own_offset new + length (own_bytes new) ≤ length x
+  room_for (lent.Leaf l) pos a h f legal within =
+      ∥∥₁_elim a le_prop (λ p.
+      let s = h p.0 p.1 in
+      let w = leaf_within x p.0 path (lent_leaf l) (accepted_says x p.0 p.1).root_node (s.1 ∙ ap Some s.2) in
+      let short = own_bytes_short new (fits_document (lent_leaf l) new w.document legal f) in
+      omega arith)
+  room_for (lent.List e) pos a h f legal within = absurd (false≢true f)
 
-  pub image_after : (t : Tree) → Image t x → Image (change t path new) y
-  image_after t i =
-      let e = one_document x t (leaf there) i.accepted s.root in
-      let j : Image (leaf there) x = subst (λ u. Image u x) e i in
-      let d = by_cases (λ u b. Image u b) j (λ f. edit_keeps_image x there new j s.legal f) path (fits there new) refl s.answer_is in
-      subst (λ u. Image (change u path new) y) (sym e) d
-
--- at the root, where the path is empty
-pub outcome_at_root : (l new : Leaf) (path : List Step) → length path ≡ 0 → outcome (leaf l) path new ≡ outcome (leaf l) [] new
-outcome_at_root l new [] e = refl
-outcome_at_root l new (step ∷ path) e = absurd (cc)
-
-pub missing_inside : (t : Tree) (new : Leaf) (path : List Step) → length path ≢ 0 → outcome t path new ≡ Missing
-missing_inside (leaf l) new [] e = absurd (e refl)
-missing_inside (leaf l) new (step ∷ path) e = refl
-
--- what it comes to, by whether the new leaf fits the one that is there
-pub refused_at_root : (x : List ℕ) (t : Tree) (there new : Leaf) (path : List Step) → Accepted x t → Accepted x (leaf there) → length path ≡ 0 → fits there new ≡ false → Refused ≡ outcome t path new
-refused_at_root x t there new path a b e f =
-    let o : outcome (leaf there) [] new ≡ Refused = rw f refl in
-    sym (ap (λ u. outcome u path new) (one_document x t (leaf there) a b) ∙ outcome_at_root there new path e ∙ o)
-
-pub done_at_root : (x : List ℕ) (t : Tree) (there new : Leaf) (path : List Step) → Accepted x t → Accepted x (leaf there) → length path ≡ 0 → fits there new ≡ true → Done ≡ outcome t path new
-done_at_root x t there new path a b e f =
-    let o : outcome (leaf there) [] new ≡ Done = rw f refl in
-    sym (ap (λ u. outcome u path new) (one_document x t (leaf there) a b) ∙ outcome_at_root there new path e ∙ o)
-
--- there is room for a leaf that fits
-pub room_for : (x : List ℕ) (there new : Leaf) → Accepted x (leaf there) → fits there new ≡ true → IsLeaf new → own_place x new + length (own_bytes new) ≤ length x
-room_for x there new a f l =
-    let d = (accepted_says x there a).root_leaf in
-    let s = own_bytes_short new (fits_document there new d.document l f) in
-    let r = root_fits x d.room in
-    omega arith
+-- ---- what is left
 
 -- what a call says that answers for every tree that the bytes denote
-module _ (x y : List ℕ) (new : Leaf) (path : List Step) (answer : SetAnswer)
-    (any : (t : Tree) → Accepted x t → answer ≡ outcome t path new)
-    (legal : IsLeaf new)
-    (bytes : y ≡ put_if_done answer (overwrite x (own_place x new) (own_bytes new)) x) where
-  pub document_set : (t : Tree) → Accepted x t → Accepted y (change t path new)
-  document_set (leaf l) a =
-      document_after x y l new path answer (record { root = a; legal = legal; answer_is = any (leaf l) a; bytes_are = bytes }) (leaf l) a
+module _ (x y : List ℕ) (path : List Step) (new : Leaf) (legal : IsLeaf new) where
+  document_of : (answer : SetAnswer) → y ≡ put_if_done answer (written_at x path new) x → (t : Tree) → answer ≡ outcome t path new → Accepted x t
+      → Accepted y (change t path new)
+  document_of Done e t o a = subst (λ b. Accepted b (change t path new)) (sym e) (edit_keeps_accepted x t path new a legal (sym o))
+  document_of Missing e t o a =
+      subst (λ b. Accepted b (change t path new)) (sym e) (subst (Accepted x) (sym (only_done_changes t path new (λ d. absurd (cc)))) a)
+  document_of Refused e t o a =
+      subst (λ b. Accepted b (change t path new)) (sym e) (subst (Accepted x) (sym (only_done_changes t path new (λ d. absurd (cc)))) a)
 
-  pub image_set : (t : Tree) → Image t x → Image (change t path new) y
-  image_set (leaf l) i =
-      image_after x y l new path answer (record { root = i.accepted; legal = legal; answer_is = any (leaf l) i.accepted; bytes_are = bytes }) (leaf l) i
+  image_of : (answer : SetAnswer) → y ≡ put_if_done answer (written_at x path new) x → (t : Tree) → answer ≡ outcome t path new → Image t x
+      → Image (change t path new) y
+  image_of Done e t o i = subst (Image (change t path new)) (sym e) (edit_keeps_image x t path new i legal (sym o))
+  image_of Missing e t o i =
+      subst (Image (change t path new)) (sym e) (subst (λ u. Image u x) (sym (only_done_changes t path new (λ d. absurd (cc)))) i)
+  image_of Refused e t o i =
+      subst (Image (change t path new)) (sym e) (subst (λ u. Image u x) (sym (only_done_changes t path new (λ d. absurd (cc)))) i)
+
+  module _ (answer : SetAnswer) (any : (t : Tree) → Accepted x t → answer ≡ outcome t path new) (bytes : y ≡ put_if_done answer (written_at x path new) x) where
+    pub document_set : (t : Tree) → Accepted x t → Accepted y (change t path new)
+    document_set t a = document_of answer bytes t (any t a) a
+
+    pub image_set : (t : Tree) → Image t x → Image (change t path new) y
+    image_set t i = image_of answer bytes t (any t i.accepted) i

@@ -1,6 +1,5 @@
 -- What an edit does to bytes.
 use Rattle.std.specs.Prelude.{◌≡◌, ℕ, List, [], ◌∷◌, Option, Some, None}
-use Rattle.archive_shape.specs.Bytes.{overwrite}
 use Rattle.cabinet_text.specs.Tree.{Tree}
 use Rattle.cabinet_text.specs.Line.{Line, get, set}
 use Rattle.cabinet_text.specs.Answering.{outcome}
@@ -8,8 +7,8 @@ use Rattle.cabinet_text.specs.declared.answer.SetAnswer.{SetAnswer}
 use Rattle.cabinet_text.specs.declared.answer.SetAnswer.TheVariants.{Done, Missing, Refused}
 use Rattle.cabinet_text.specs.Session.{next, after}
 use Rattle.cabinet_layout.specs.Denotes.{Accepted}
-use Rattle.cabinet_layout.specs.Image.{Image, own_bytes}
-use Rattle.cabinet_layout.specs.Laws.{own_place}
+use Rattle.cabinet_layout.specs.Image.{Image}
+use Rattle.cabinet_layout.specs.Laws.{written_at}
 
 -- an edit that is done writes the own bytes of its leaf, and nothing else does
 abbrev pub put_if_done : SetAnswer → List ℕ → List ℕ → List ℕ
@@ -20,7 +19,7 @@ put_if_done Refused edited bytes = bytes
 abbrev pub bytes_next : List ℕ → Tree → Option Line → List ℕ
 bytes_next bytes t None = bytes
 bytes_next bytes t (Some (get path)) = bytes
-bytes_next bytes t (Some (set path l)) = put_if_done (outcome t path l) (overwrite bytes (own_place bytes l) (own_bytes l)) bytes
+bytes_next bytes t (Some (set path l)) = put_if_done (outcome t path l) (written_at bytes path l) bytes
 
 abbrev pub bytes_after : List ℕ → Tree → List (Option Line) → List ℕ
 bytes_after bytes t [] = bytes

@@ -20,6 +20,7 @@ cause_name cause.EndTooEarly = codes "EndTooEarly"
 cause_name cause.BadEscape = codes "BadEscape"
 cause_name cause.UnknownHead = codes "UnknownHead"
 cause_name cause.BadNumber = codes "BadNumber"
+cause_name cause.TooDeep = codes "TooDeep"
 cause_name cause.LineAfterEnd = codes "LineAfterEnd"
 cause_name cause.OutOfMemory = codes "OutOfMemory"
 

@@ -1,9 +1,8 @@
 -- What saving answers.
 use Rattle.std.specs.Prelude.{◌≡◌, ℕ, ◌+◌, Bool, true, false, List, ◌∷◌, ◌++◌}
-use Rattle.archive_shape.specs.declared.error.Error.TheVariants.{StringTooLong}
 use Rattle.cabinet_text.specs.Tree.{Tree, Leaf, truth, number, text}
 use Rattle.cabinet_layout.specs.Bytes.{zeros}
-use Rattle.cabinet_layout.specs.Image.{Image, IsPastLimits}
+use Rattle.cabinet_layout.specs.Image.{Image, IsPast}
 use Rattle.cabinet.specs.declared.saving.SaveRefusal.{SaveRefusal}
 use Rattle.cabinet.specs.declared.saving.SaveRefusal.TheVariants.{Limit, Writer, OutOfMemory}
 
@@ -13,13 +12,13 @@ pub record Saved (t : Tree) (old new : List ℕ) : Type 0 where
   pub is_image : Image t image
   pub written : new ≡ old ++ image
 
--- why it was not: a text is too long for an archive; the writer's failures rose; memory was refused
+-- why it was not: something of it is past what archives hold; the writer's failures rose; memory was refused
 abbrev pub IsUnsavedFor : Tree → (counts : Bool) → (before after : ℕ) → SaveRefusal → Type 0
-IsUnsavedFor t counts before after (Limit e) = IsPastLimits t × (e ≡ StringTooLong) × (after ≡ before)
+IsUnsavedFor t counts before after (Limit e) = IsPast t e × (after ≡ before)
 IsUnsavedFor t counts before after (Writer e) = (counts ≡ true) × (after ≡ before + 1)
 IsUnsavedFor t counts before after OutOfMemory = (counts ≡ false) × (after ≡ before)
 
--- the images of `bool false`, `int 0` and the empty text
+-- the bytes of `bool false`, `int 0` and the empty text
 abbrev pub blank : Leaf → List ℕ
 blank (truth b) = zeros 24
 blank (number n) = 1 ∷ zeros 23

@@ -1,15 +1,17 @@
-ghost use Rattle.std.specs.Prelude.{◌≡◌, ℕ, ◌-◌, ◌^◌, ◌<◌, Some, IfOk};
+ghost use Rattle.std.specs.Prelude.{◌≡◌, ◌-◌, ◌^◌, ◌<◌, ◌++◌, Some, IfOk, codes};
 ghost use Rattle.archive_shape.specs.Writing.{Writes};
 ghost use Rattle.cabinet_text.specs.Tree.{Tree};
+ghost use Rattle.cabinet_text.specs.Spelling.{head};
 ghost use Rattle.cabinet_text.specs.Line.{IsQuestion};
 ghost use Rattle.cabinet_text.specs.Session.{reply};
 ghost use Rattle.cabinet_text.specs.View.{line_of};
 ghost use Rattle.cabinet_layout.specs.Denotes.{Accepted};
-ghost use Rattle.cabinet.specs.Opening.{asked_by, Counts};
+ghost use Rattle.cabinet.specs.Opening.{asked_by, Counts, Tells};
 
 use crate::opened::Opened;
+use crate::reading::NodeRef;
 use archive_shape::{Error, Writer};
-use cabinet_text::{Asked, Line, write_leaf_line, write_missing};
+use cabinet_text::{Asked, Line, write_leaf_line, write_list_line, write_missing};
 
 impl Opened<'_> {
     /// Writes the line that answers a question. Takes no memory.
@@ -24,13 +26,27 @@ impl Opened<'_> {
             Line::Get(path) => path,
             Line::Set { .. } => unreachable!(),
         };
-        if !path.is_empty() {
-            write_missing(writer)?;
-            return Ok(Asked::Missing);
-        }
-        match write_leaf_line(self.root(), writer) {
+        let Some(node) = self.find(path) else {
+            return match write_missing(writer) {
+                Ok(()) => Ok(Asked::Missing),
+                Err(refusal) => Err(refusal),
+            };
+        };
+        match write_node_line(node, writer) {
             Ok(()) => Ok(Asked::Answered),
             Err(refusal) => Err(refusal),
         }
+    }
+}
+
+/// Writes the line of a node.
+fn write_node_line<W: Writer>(node: NodeRef<'_>, writer: &mut W) -> Result<(), Error>
+    requires { W.failures writer.old < 2 ^ 64 - 1 }
+    ensures written { (t : Tree) → Tells node.entry t → Writes W.Writer writer.old writer.new (head t ++ codes "\n") result }
+    ensures counted { Counts W.Writer writer.old writer.new result }
+{
+    match node {
+        NodeRef::Leaf(leaf) => write_leaf_line(leaf, writer),
+        NodeRef::List(elements) => write_list_line(elements.len as u64, writer),
     }
 }

@@ -45,6 +45,7 @@ fn name_of_cause(cause: Cause) -> &'static [u8]
         Cause::BadEscape => b"BadEscape",
         Cause::UnknownHead => b"UnknownHead",
         Cause::BadNumber => b"BadNumber",
+        Cause::TooDeep => b"TooDeep",
         Cause::LineAfterEnd => b"LineAfterEnd",
         Cause::OutOfMemory => b"OutOfMemory",
     }

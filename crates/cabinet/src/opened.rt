@@ -1,16 +1,15 @@
-ghost use Rattle.std.specs.Prelude.{◌≡◌, ◌≢◌, ℕ, ◌+◌, ◌-◌, ◌^◌, ◌<◌, ◌≤◌, length, IfOk, IfErr, OnOk};
-ghost use Rattle.archive_shape.specs.Bytes.{overwrite};
-ghost use Rattle.cabinet_text.specs.Tree.{Tree, leaf, IsLeaf};
+ghost use Rattle.std.specs.Prelude.{◌≡◌, IfOk, IfErr, OnOk, MatchOption};
+ghost use Rattle.cabinet_text.specs.Tree.{Tree, IsLeaf};
 ghost use Rattle.cabinet_text.specs.Answering.{outcome, change};
 ghost use Rattle.cabinet_text.specs.View.{leaf_of, lent_leaf, path_of};
 ghost use Rattle.cabinet_layout.specs.Denotes.{Accepted};
-ghost use Rattle.cabinet_layout.specs.Image.{Image, own_bytes};
-ghost use Rattle.cabinet_layout.specs.Laws.{own_place};
-ghost use Rattle.cabinet.specs.Opening.{IsRefusedFor};
+ghost use Rattle.cabinet_layout.specs.Image.{Image};
+ghost use Rattle.cabinet_layout.specs.Laws.{written_at};
+ghost use Rattle.cabinet.specs.Opening.{IsRefusedFor, LeadsNowhere, LeadsTo, fits_at};
 ghost use Rattle.cabinet.specs.Editing.{put_if_done};
 
 use crate::node::write_own;
-use crate::reading::{read_root, root_position};
+use crate::reading::{Found, NodeRef, check_root, find};
 use archive_shape::Error;
 use cabinet_text::{Leaf, LeafRef, SetAnswer, Step, fits};
 use std::alloc::Global;
@@ -19,7 +18,7 @@ use thiserror::Error as Described;
 /// Why bytes were not opened.
 #[derive(Clone, Copy, Debug, PartialEq, Eq, Described)]
 pub enum OpenRefusal {
-    /// They do not hold a node at their root position.
+    /// They do not hold a document at their root position.
     #[error("the bytes are not an archive: {0}")]
     Access(Error),
     #[error("out of memory")]
@@ -38,8 +37,8 @@ pub fn check(_alloc: Global, bytes: &[u8]) -> Result<(), OpenRefusal>
     ensures accepted { OnOk result ((t : Tree) × Accepted bytes.now t) }
     ensures refused { IfErr result (IsRefusedFor bytes.now) }
 {
-    match read_root(bytes) {
-        Ok(_) => Ok(()),
+    match check_root(bytes) {
+        Ok(()) => Ok(()),
         Err(refusal) => Err(OpenRefusal::Access(refusal)),
     }
 }
@@ -74,47 +73,53 @@ impl<'a> Opened<'a> {
         self.bytes
     }
 
-    /// The leaf that the root is.
-    pub(crate) fn root(&self) -> LeafRef<'_>
-        ensures { Accepted self.now.bytes.now (leaf (lent_leaf result)) }
+    /// The node that a path leads to.
+    pub(crate) fn find(&self, path: &[Step]) -> Option<NodeRef<'_>>
+        ensures { MatchOption result (LeadsNowhere self.now.bytes.now (path_of path.now)) (LeadsTo self.now.bytes.now (path_of path.now)) }
     {
-        match read_root(self.bytes) {
-            Ok(leaf) => leaf,
-            Err(_) => unreachable!(),
+        match find(self.bytes, path) {
+            Some(found) => Some(found.node),
+            None => None,
         }
     }
 
-    /// Puts a leaf at a path, if one of its kind stands there, and a text of as many bytes where it is a text. Takes no
-    /// memory.
+    /// Puts a leaf at a path, if one of its kind stands there, and a text of as many bytes where it is a text. Reads the
+    /// nodes on the path alone, and takes no memory.
     pub fn set(&mut self, path: &[Step], leaf: &Leaf) -> SetAnswer
         ensures same { self.new.bytes.ghost_name ≡ self.old.bytes.ghost_name }
         ensures answer { (t : Tree) → Accepted self.old.bytes.now t → result ≡ outcome t (path_of path.now) (leaf_of leaf.now) }
-        ensures bytes { self.new.bytes.now ≡ put_if_done result (overwrite self.old.bytes.now (own_place self.old.bytes.now (leaf_of leaf.now)) (own_bytes (leaf_of leaf.now))) self.old.bytes.now }
+        ensures bytes { self.new.bytes.now ≡ put_if_done result (written_at self.old.bytes.now (path_of path.now) (leaf_of leaf.now)) self.old.bytes.now }
         ensures document { (t : Tree) → Accepted self.old.bytes.now t → Accepted self.new.bytes.now (change t (path_of path.now) (leaf_of leaf.now)) }
         ensures image { (t : Tree) → Image t self.old.bytes.now → Image (change t (path_of path.now) (leaf_of leaf.now)) self.new.bytes.now }
     {
-        set_root(self.bytes, path, leaf)
+        set_at(self.bytes, path, leaf)
+    }
+}
+
+/// Whether a leaf may be put where a node stands.
+fn fits_at(node: NodeRef<'_>, new: LeafRef<'_>) -> bool
+    ensures { result ≡ fits_at node.entry (lent_leaf new.entry) }
+{
+    match node {
+        NodeRef::Leaf(there) => fits(there, new),
+        NodeRef::List(_) => false,
     }
 }
 
 /// Puts a leaf at a path of the document that bytes are the archive of.
-fn set_root(bytes: &mut [u8], path: &[Step], leaf: &Leaf) -> SetAnswer
+fn set_at(bytes: &mut [u8], path: &[Step], leaf: &Leaf) -> SetAnswer
     requires { ∥ ((t : Tree) × Accepted bytes.old t) ∥₁ }
-    ensures root { (t : Tree) → Accepted bytes.old t → result ≡ outcome t (path_of path.now) (leaf_of leaf.now) }
+    ensures answer { (t : Tree) → Accepted bytes.old t → result ≡ outcome t (path_of path.now) (leaf_of leaf.now) }
     ensures legal { IsLeaf (leaf_of leaf.now) }
-    ensures bytes { bytes.new ≡ put_if_done result (overwrite bytes.old (own_place bytes.old (leaf_of leaf.now)) (own_bytes (leaf_of leaf.now))) bytes.old }
+    ensures bytes { bytes.new ≡ put_if_done result (written_at bytes.old (path_of path.now) (leaf_of leaf.now)) bytes.old }
 {
-    let there = match read_root(bytes) {
-        Ok(there) => there,
-        Err(_) => unreachable!(),
-    };
     let new = leaf.as_ref();
-    if !path.is_empty() {
+    let Some(Found { pos, node }) = find(bytes, path) else {
         return SetAnswer::Missing;
-    }
-    if !fits(there, new) {
+    };
+    if !fits_at(node, new) {
         return SetAnswer::Refused;
     }
-    write_own(bytes, root_position(bytes.len()), new);
+    write_own(bytes, pos, new);
     SetAnswer::Done
 }

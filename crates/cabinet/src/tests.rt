@@ -54,6 +54,67 @@ fn documents_are_saved_as_their_images(rt: HostRuntime) -> Result<(), Fail> {
     Ok(())
 }
 
+/// The archive of a list of `int 7` and `int 19`.
+const TWO: [u8; 72] = [
+    1, 0, 0, 0, 0, 0, 0, 0, 7, 0, 0, 0, 0, 0, 0, 0, 0, 0, 0, 0, 0, 0, 0, 0, 1, 0, 0, 0, 0, 0, 0, 0,
+    19, 0, 0, 0, 0, 0, 0, 0, 0, 0, 0, 0, 0, 0, 0, 0, 5, 0, 0, 0, 0xcc, 0xff, 0xff, 0xff, 2, 0, 0,
+    0, 0, 0, 0, 0, 0, 0, 0, 0, 0, 0, 0, 0,
+];
+
+#[test]
+fn lists_are_saved_behind_their_elements(rt: HostRuntime) -> Result<(), Fail> {
+    let empty = [
+        5, 0, 0, 0, 0xfc, 0xff, 0xff, 0xff, 0, 0, 0, 0, 0, 0, 0, 0, 0, 0, 0, 0, 0, 0, 0, 0,
+    ];
+    let cases: [(&[u8], &[u8]); 2] = [(b"list 2\nint 7\nint 19\n", &TWO), (b"list 0\n", &empty)];
+    for (text, image) in cases {
+        let bytes = saved(rt.alloc(), text).ok_or("not saved")?;
+        assert!(rt; bytes.as_slice() == image);
+        assert!(rt; check(rt.alloc(), bytes.as_slice()).is_ok());
+    }
+    Ok(())
+}
+
+#[test]
+fn lists_that_are_no_archive_are_refused(rt: HostRuntime) {
+    let mut ahead = TWO;
+    ahead[52] = 0xd4;
+    let mut unaligned = TWO;
+    unaligned[52] = 0xce;
+    unaligned[56] = 1;
+    let mut nested = TWO;
+    nested[0] = 5;
+    let cases: [([u8; 72], Error); 3] = [
+        (ahead, Error::InvalidSubtreePointer { size: 48 }),
+        (unaligned, Error::Unaligned { align: 8 }),
+        (nested, Error::InvalidTag),
+    ];
+    for (bytes, refusal) in cases {
+        assert_eq!(rt;
+            check(rt.alloc(), &bytes),
+            Err(OpenRefusal::Access(refusal))
+        );
+    }
+}
+
+#[test]
+fn elements_are_asked_and_set_at_their_places(rt: HostRuntime) -> Result<(), Fail> {
+    let document = read_text(rt.alloc(), b"list 2\nint 7\nint 19\n").map_err(|_| "no document")?;
+    let input: &[u8] = b"get\nget #1\nset int 20 #1\nget #1\nget #2\nset bool true #0\nget #0 #0\n";
+    let mut source = SliceSource::new(input, usize::MAX, 16384);
+    let mut writer = FailingWriter::new(rt.alloc(), usize::MAX);
+    assert_eq!(rt; source.failures(), 0);
+    assert_eq!(rt; writer.failures(), 0);
+    let worked = work(rt.alloc(), &document, &mut source, &mut writer).map_err(|_| "not saved")?;
+    assert!(rt; worked.outcome.is_ok());
+    let output: &[u8] = b"list 2\nint 19\nok\nint 20\nmissing\nrefused\nmissing\n";
+    assert!(rt; writer.bytes() == output);
+    let mut wanted = TWO;
+    wanted[32] = 20;
+    assert!(rt; worked.bytes.as_slice() == wanted.as_slice());
+    Ok(())
+}
+
 #[test]
 fn a_writer_that_fails_is_told_of(rt: HostRuntime) -> Result<(), Fail> {
     let document = read_text(rt.alloc(), b"int 5\n").map_err(|_| "no document")?;

@@ -6,16 +6,16 @@ use Rattle.cabinet.proofs.opened.Opened.set.Goals as goal
 
 pub returns-clause-document : goal.returns-clause-document
 returns-clause-document c =
-    document_set _ _ (leaf_of c.args.leaf.now) (path_of c.args.path.now) c.set_root.result c.set_root.ensures.root c.set_root.ensures.legal c.set_root.ensures.bytes
+    document_set _ _ (path_of c.args.path.now) (leaf_of c.args.leaf.now) c.set_at.ensures.legal c.set_at.result c.set_at.ensures.answer c.set_at.ensures.bytes
 
 pub returns-clause-image : goal.returns-clause-image
 returns-clause-image c =
-    image_set _ _ (leaf_of c.args.leaf.now) (path_of c.args.path.now) c.set_root.result c.set_root.ensures.root c.set_root.ensures.legal c.set_root.ensures.bytes
+    image_set _ _ (path_of c.args.path.now) (leaf_of c.args.leaf.now) c.set_at.ensures.legal c.set_at.result c.set_at.ensures.answer c.set_at.ensures.bytes
 
 pub invariant_of-self : goal.invariant_of-self
 invariant_of-self c = record {
   accepted = ∥∥₁_elim c.args.self.now.accepted ∥∥₁_prop (λ p. ∣ (
     change p.0 (path_of c.args.path.now) (leaf_of c.args.leaf.now),
-    document_set _ _ (leaf_of c.args.leaf.now) (path_of c.args.path.now) c.set_root.result c.set_root.ensures.root c.set_root.ensures.legal c.set_root.ensures.bytes p.0 p.1,
+    document_set _ _ (path_of c.args.path.now) (leaf_of c.args.leaf.now) c.set_at.ensures.legal c.set_at.result c.set_at.ensures.answer c.set_at.ensures.bytes p.0 p.1,
   ) ∣₁);
 }

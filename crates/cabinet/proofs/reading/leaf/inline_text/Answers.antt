@@ -1,7 +1,7 @@
 use Rattle.std.proofs.Common.{◌∙◌, length, ap, sym, arith}
 use Rattle.cabinet.proofs.Short.{before_ff-short}
-use Rattle.cabinet.proofs.reading.inline_text.Goals as goal
-use Rattle.cabinet.proofs.reading.inline_text.Goals.{else-own-ge128-via-then-own-ge128+else-own-lt192, else-own-ge128-via-else-own-ge128}
+use Rattle.cabinet.proofs.reading.leaf.inline_text.Goals as goal
+use Rattle.cabinet.proofs.reading.leaf.inline_text.Goals.{else-own-ge128-via-then-own-ge128+else-own-lt192, else-own-ge128-via-else-own-ge128}
 
 pub returns-in-Ok : goal.returns-in-Ok
 returns-in-Ok c =
