@@ -5,3 +5,4 @@ pub mod Documents
 pub mod Doubtful
 pub mod Boxes
 pub mod Refused
+pub mod Images
