@@ -1,5 +1,5 @@
 #!/usr/bin/env bash
-# Proves and builds cab, saves the document examples/first/text as an archive, and carries out examples/first/lines in it.
+# Proves and builds cab, and of each example saves the document as an archive and carries out the lines in it.
 set -euo pipefail
 cd "$(dirname "$0")"
 folder=$(mktemp -d)
@@ -20,19 +20,23 @@ fi
 grep '^logic=proved' "$folder/log" | tail -n 1 | cut -d ' ' -f 1-2 || echo 'proved before, and nothing has changed since'
 PATH=$PWD/crates/cab/out:$PATH
 
-show cat examples/first/text
-show cab build examples/first/text "$folder/first.cab"
-show od -A d -t x1 "$folder/first.cab"
-show cat examples/first/lines
-echo
-echo "\$ cab run $folder/first.cab < examples/first/lines"
-cab run "$folder/first.cab" < examples/first/lines | tee "$folder/answers"
-show od -A d -t x1 "$folder/first.cab"
+for name in first list; do
+    example=examples/$name
+    archive=$folder/$name.cab
+    show cat "$example/text"
+    show cab build "$example/text" "$archive"
+    show od -A d -t x1 "$archive"
+    show cat "$example/lines"
+    echo
+    echo "\$ cab run $archive < $example/lines"
+    cab run "$archive" < "$example/lines" | tee "$folder/answers"
+    show od -A d -t x1 "$archive"
 
-echo
-if cmp "$folder/answers" examples/first/answers; then
-    echo 'The answers are those of examples/first/answers.'
-else
-    echo 'The answers differ from examples/first/answers.'
-    exit 1
-fi
+    echo
+    if cmp "$folder/answers" "$example/answers"; then
+        echo "The answers are those of $example/answers."
+    else
+        echo "The answers differ from $example/answers."
+        exit 1
+    fi
+done

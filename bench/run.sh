@@ -1,6 +1,7 @@
 #!/usr/bin/env bash
-# Times cab run over a million lines beside sed over the same lines, and tells the most memory that cab held.
-# Each time is the least of three, taken in turns.
+# Times cab run over a million lines beside sed over the same lines, and tells the most memory that cab held; then times
+# questions and edits of one element in lists of several lengths, and building and opening them.
+# Each time is the least of three, those of a comparison taken in turns.
 set -eu
 root=$(cd "$(dirname "$0")/.." && pwd)
 work=$(mktemp -d)
@@ -68,3 +69,35 @@ echo "most memory of cab, 10,000 lines get: $(peak few-gets)"
 echo "most memory of cab, 1,000,000 lines get: $(peak gets)"
 echo "most memory of cab, 10,000 lines set int N: $(peak few-sets)"
 echo "most memory of cab, 1,000,000 lines set int N: $(peak sets)"
+
+# ---- lists
+
+# the least of three times that a command takes
+timed() {
+    local least_time=0
+    for _ in 1 2 3; do
+        least_time=$(least $least_time "$(taken /dev/null "$@")")
+    done
+    echo "$least_time"
+}
+
+# the time of so many lines about the last element, less that of opening the archive
+lines_about_last() {
+    local word=$1 length=$2 least_time=0 opening
+    yes "$word #$((length - 1))" | head -n 1000000 > about-last
+    opening=$(timed "$cab" run "list-$length.cab")
+    for _ in 1 2 3; do
+        cp "list-$length.cab" a.cab
+        least_time=$(least $least_time "$(taken about-last "$cab" run a.cab)")
+    done
+    echo $((least_time - opening))
+}
+
+for length in 10 1000 100000 1000000; do
+    { echo "list $length"; seq 1 $length | sed 's/^/int /'; } > "list-$length"
+    building=$(timed "$cab" build "list-$length" "list-$length.cab")
+    opening=$(timed "$cab" run "list-$length.cab")
+    echo "a list of $length: built in $(seconds "$building"), opened in $(seconds "$opening");" \
+        "1,000,000 lines get #N in $(seconds "$(lines_about_last get $length)")," \
+        "set int 5 #N in $(seconds "$(lines_about_last 'set int 5' $length)")"
+done

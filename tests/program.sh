@@ -21,6 +21,10 @@ cd "$work/files" || exit 1
 usage='cab: usage: cab build TEXT ARCHIVE | cab run ARCHIVE\n'
 five=010000000000000005000000000000000000000000000000
 six=010000000000000006000000000000000000000000000000
+seven=010000000000000007000000000000000000000000000000
+nineteen=010000000000000013000000000000000000000000000000
+twenty=010000000000000014000000000000000000000000000000
+two=05000000ccffffff02000000000000000000000000000000
 passed=0
 failed=0
 
@@ -116,16 +120,21 @@ refuses() {
     finish
 }
 
+# answers_in HEX NAME LINES ANSWERS HEX: in an archive, which then holds other bytes
+answers_in() {
+    begin "$2"
+    archive "$1"
+    lines "$3"
+    run run a.cab
+    prints "$4"
+    ends 0 ''
+    holds a.cab "$5"
+    finish
+}
+
 # answers NAME LINES ANSWERS HEX: in the archive of int 5
 answers() {
-    begin "$1"
-    archive "$five"
-    lines "$2"
-    run run a.cab
-    prints "$3"
-    ends 0 ''
-    holds a.cab "$4"
-    finish
+    answers_in "$five" "$@"
 }
 
 # misused WORD..
@@ -158,6 +167,10 @@ builds "text 'world" 02000000776f726c64ffffff000000000000000000000000
 builds "text '" 02000000ffffffffffffffff000000000000000000000000
 builds "text 'a\\\\sb\\\\nc" 020000006120620a63ffffff000000000000000000000000
 
+builds 'list 0' 05000000fcffffff00000000000000000000000000000000
+builds 'list 2\nint 7\nint 19' "$seven$nineteen$two"
+builds "list 2\ntext '\nbool true" 02000000ffffffffffffffff000000000000000000000000000100000000000000000000000000000000000000000000"$two"
+
 refuses 'int 05' 'int 05\n' 1 BadNumber
 refuses 'int -0' 'int -0\n' 1 BadNumber
 refuses 'int 9223372036854775808' 'int 9223372036854775808\n' 1 BadNumber
@@ -167,6 +180,24 @@ refuses "text 'a b" "text 'a b\n" 1 BadEscape
 refuses 'bytes that are not UTF-8' '\xff\n' 1 NotUtf8
 refuses 'the empty text' '' 1 EndTooEarly
 refuses 'another head' 'float 5\n' 1 UnknownHead
+refuses 'a list with too few elements' 'list 2\nint 7\n' 3 EndTooEarly
+refuses 'a list with too many elements' 'list 1\nint 7\nint 8\n' 3 LineAfterEnd
+refuses 'a fault in an element' 'list 2\nint 7\nint 08\n' 3 BadNumber
+refuses 'a key in a list' "list 1\n'a\n" 2 UnknownHead
+refuses 'a count with a leading zero' 'list 01\nint 7\n' 1 BadNumber
+refuses 'a count past 64 bits' 'list 18446744073709551616\n' 1 BadNumber
+refuses 'a head without a count' 'list\n' 1 UnknownHead
+refuses 'a list in a list' 'list 1\nlist 0\n' 2 TooDeep
+refuses 'a list in a list, with no count' 'list 1\nlist x\n' 2 BadNumber
+
+begin 'no memory is taken for a count'
+text 'list 4000000000\n'
+(ulimit -v 1000000 && "$cab" build text a.cab < input > output 2> errors)
+ended=$?
+prints ''
+ends 1 'cab: text line 2: EndTooEarly\n'
+lacks a.cab
+finish
 
 begin 'a longer old archive is cut'
 text 'int 5\n'
@@ -249,6 +280,20 @@ answers 'a line goes on after a refused one' 'get x\nset int 6\n' 'bad\nok\n' "$
 answers 'the last line without a newline' 'set int 6\nget' 'ok\nint 6\n' "$six"
 answers 'a byte 0 in a line' 'get\0\nget\n' 'bad\nint 5\n' "$five"
 
+answers 'a place in a leaf' 'get #0\nset int 6 #0\n' 'missing\nmissing\n' "$five"
+answers 'places that are spelled otherwise' 'get #\nget #00\nget 0\nget  #0\nget #0 \nget #-1\n' 'bad\nbad\nbad\nbad\nbad\nbad\n' "$five"
+
+answers_in "$seven$nineteen$two" 'questions and edits in a list' \
+    'get\nget #1\nset int 20 #1\nget #1\nget #2\nset bool true #0\n' \
+    'list 2\nint 19\nok\nint 20\nmissing\nrefused\n' "$seven$twenty$two"
+answers_in "$seven$nineteen$two" 'edits of a list and past its end' \
+    'set int 5\nset int 5 #2\nset int 5 #18446744073709551615\nset int 5 #0 #0\nget #0 #0\nget #0\n' \
+    'refused\nmissing\nmissing\nmissing\nmissing\nint 7\n' "$seven$nineteen$two"
+answers_in 05000000fcffffff00000000000000000000000000000000 'an empty list' \
+    'get\nget #0\nset int 5 #0\n' 'list 0\nmissing\nmissing\n' 05000000fcffffff00000000000000000000000000000000
+answers_in "$nineteen$seven${five}05000000b4ffffff02000000000000000000000000000000" 'elements with other bytes behind them' \
+    'get #1\nset int 19 #1\nget #1\n' 'int 7\nok\nint 19\n' "$nineteen$nineteen${five}05000000b4ffffff02000000000000000000000000000000"
+
 begin 'no input: the file is untouched'
 archive "$five"
 touch -d '2001-02-03 04:05:06' a.cab
@@ -324,7 +369,12 @@ ends 0 ''
 holds a.cab 01aaaaaaaaaaaaaa0600000000000000aaaaaaaaaaaaaaaa
 finish
 
-for bytes in '' 01 "${five:2}" ff0000000000000005000000000000000000000000000000 000200000000000000000000000000000000000000000000 02000000fe6f726c64ffffff000000000000000000000000; do
+for bytes in '' 01 "${five:2}" ff0000000000000005000000000000000000000000000000 000200000000000000000000000000000000000000000000 02000000fe6f726c64ffffff000000000000000000000000 \
+    "$seven${nineteen}05000000d4ffffff02000000000000000000000000000000" \
+    "$seven${nineteen}05000000ceffffff01000000000000000000000000000000" \
+    "$seven${nineteen}05000000c8ffffff02000000000000000000000000000000" \
+    "$seven${nineteen}05000000ccffffff03000000000000000000000000000000" \
+    "$seven${two}05000000ccffffff02000000000000000000000000000000"; do
     begin "no archive: ${bytes:-no bytes}"
     archive "$bytes"
     lines 'get\nset int 6\n'
@@ -470,6 +520,32 @@ seq 1 100000 | sed 's/^/int /; i ok' | cmp -s - output || differs 'it printed so
 ends 0 ''
 holds a.cab 0100000000000000a0860100000000000000000000000000
 finish
+
+begin 'an edit of one element of many'
+{ echo 'list 100000'; seq 1 100000 | sed 's/^/int /'; } > text
+run build text a.cab
+prints 'built 2400024\n'
+cp a.cab before.cab
+lines 'get #99999\nset int 5 #50000\nget #50000\nget #49999\nget #50001\nget\n'
+run run a.cab
+prints 'int 100000\nok\nint 5\nint 50000\nint 50002\nlist 100000\n'
+ends 0 ''
+sed -i '50002s/.*/int 5/' text
+run build text after.cab
+cmp -s a.cab after.cab || differs 'the bytes are not those of the edited document'
+[ "$(cmp -l before.cab a.cab | wc -l)" = 2 ] || differs 'other bytes were written'
+finish
+
+for example in "$root"/examples/*/; do
+    begin "the example $(basename "$example")"
+    run build "$example/text" a.cab
+    ends 0 ''
+    cp "$example/lines" input
+    run run a.cab
+    cmp -s output "$example/answers" || differs 'the answers are others'
+    ends 0 ''
+    finish
+done
 
 echo "$passed passed, $failed failed"
 [ "$failed" -eq 0 ]

@@ -3,7 +3,7 @@ use Rattle.std.specs.Prelude.{◌≡◌, ℕ, List}
 use Rattle.cabinet_text.specs.Tree.{Tree}
 use Rattle.cabinet_text.specs.Spelling.{text_of}
 use Rattle.cabinet_text.specs.Fault.{FirstFault}
-use Rattle.cabinet_layout.specs.Image.{Image, IsPastLimits}
+use Rattle.cabinet_layout.specs.Image.{Image, IsPast}
 use Rattle.cabinet.specs.declared.fault.Fault.{Fault}
 use Rattle.cabinet.specs.declared.fault.Fault.TheVariants.{Text, Save}
 use Rattle.cabinet.specs.declared.saving.SaveRefusal.TheVariants.{Limit, OutOfMemory}
@@ -18,5 +18,5 @@ pub record Builds (text archive : List ℕ) : Type 0 where
 abbrev pub RefusesText : List ℕ → Fault → Type 0
 RefusesText text (Text refusal) = FirstFault text refusal.line refusal.cause
 RefusesText text (Save OutOfMemory) = (t : Tree) × (text ≡ text_of t)
-RefusesText text (Save (Limit e)) = (t : Tree) × (text ≡ text_of t) × IsPastLimits t
+RefusesText text (Save (Limit e)) = (t : Tree) × (text ≡ text_of t) × IsPast t e
 RefusesText text _ = ⊥
