@@ -10,3 +10,5 @@ pub mod Edits
 pub mod SameShape
 pub mod Evaluate
 pub mod Evaluated
+pub mod Utf8
+pub mod Texts

@@ -113,14 +113,14 @@ pub fn same_shape(first: &Shape, second: &Shape) -> bool
         ) => a == c && b == d,
         (
             Shape::NonZero {
-                width: a,
-                signed: b,
+                width: n,
+                signed: a,
             },
             Shape::NonZero {
-                width: c,
-                signed: d,
+                width: m,
+                signed: b,
             },
-        ) => a == c && b == d,
+        ) => n == m && a == b,
         (Shape::Truth, Shape::Truth) => true,
         (Shape::Character, Shape::Character) => true,
         (Shape::Text, Shape::Text) => true,
@@ -152,14 +152,14 @@ pub fn same_shape(first: &Shape, second: &Shape) -> bool
         ) => n == m && same_pointee(a, b),
         (
             Shape::Weak {
-                cyclic: n,
+                cyclic: c,
                 pointee: a,
             },
             Shape::Weak {
-                cyclic: m,
+                cyclic: d,
                 pointee: b,
             },
-        ) => n == m && same_pointee(a, b),
+        ) => c == d && same_pointee(a, b),
         (
             Shape::Tree {
                 entries: n,

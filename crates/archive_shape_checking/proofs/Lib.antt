@@ -1,0 +1,11 @@
+pub mod Ranges
+pub mod Inverted
+pub mod Asked
+pub mod AskedRegions
+pub mod Shared
+pub mod Refused
+pub mod Texts
+pub mod ByContent
+pub mod Once
+pub mod Listed
+pub mod Leaves

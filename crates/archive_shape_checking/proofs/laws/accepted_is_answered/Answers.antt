@@ -1,0 +1,5 @@
+use Rattle.archive_shape_checking.proofs.AskedRegions.{accepted_answered_law}
+use Rattle.archive_shape_checking.proofs.laws.accepted_is_answered.Goals as goal
+
+pub returns : goal.returns
+returns c = accepted_answered_law

@@ -1,0 +1,2 @@
+pub mod Nonzero
+pub mod Numbers

@@ -1,0 +1,67 @@
+//! Archived values without parts.
+ghost use Rattle.std.specs.Prelude.{◌≡◌, ℕ, List, length, IsTrue, IsFalse};
+ghost use Rattle.archive_shape_layout.specs.Value.{Value};
+ghost use Rattle.archive_shape_native.specs.Numbers.{IsLeafShape, Reads, IsIllegal};
+
+use crate::{LittleEndian, Portable};
+use archive_shape_native::Native;
+
+/// A type of archived values without parts. Their own bytes say which native value each stands for.
+pub trait ArchivedLeaf: Portable {
+    /// What is read from the own bytes, and stored as them.
+    type Native: Copy;
+
+    /// The bytes that spell the native value.
+    ghost bytes_of: { Self.Native → List ℕ };
+
+    /// What the layout has for the native value.
+    ghost value_of: { Self.Native → Value };
+
+    /// Whether bytes are the own bytes of a value of this type.
+    ghost is_legal: { List ℕ → Type 0 };
+
+    /// Whether the own bytes spell a value of this type.
+    fn accepts(own: &[u8]) -> bool
+        requires { length own.now ≡ Self.SIZE }
+        ensures legal { IsTrue result → is_legal own.now }
+        ensures illegal { IsFalse result → IsIllegal Self.shape own.now };
+
+    /// The native value that the own bytes spell.
+    fn read(own: &[u8]) -> Self::Native
+        requires width { length own.now ≡ Self.SIZE }
+        requires legal { is_legal own.now }
+        ensures bytes { bytes_of result ≡ own.now }
+        ensures value { Reads Self.shape own.now (value_of result) };
+
+    /// Writes the bytes that spell the native value.
+    fn store(native: Self::Native, out: &mut [u8])
+        requires { length out.old ≡ Self.SIZE }
+        ensures bytes { out.new ≡ bytes_of native }
+        ensures value { Reads Self.shape out.new (value_of native) };
+
+    ghost is_leaf: { IsLeafShape Self.shape };
+}
+
+impl<N: Native> ArchivedLeaf for LittleEndian<N> {
+    type Native = N;
+
+    ghost bytes_of = { N.bytes_of };
+
+    ghost value_of = { N.value_of };
+
+    ghost is_legal = { N.is_legal };
+
+    ghost is_leaf = { N.is_leaf };
+
+    fn accepts(own: &[u8]) -> bool {
+        N::accepts(own)
+    }
+
+    fn read(own: &[u8]) -> N {
+        N::read(own)
+    }
+
+    fn store(native: N, out: &mut [u8]) {
+        native.store(out);
+    }
+}

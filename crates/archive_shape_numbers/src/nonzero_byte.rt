@@ -1,0 +1,64 @@
+//! Bytes without 0, which are archived as themselves.
+ghost use Rattle.std.specs.Prelude.{◌<◌, false, refl, ⊤, [], ◌∷◌};
+ghost use Rattle.std.specs.Int.{w8, from_le_bytes};
+ghost use Rattle.std.specs.Int.NonZero.{non_zero_u8_get};
+ghost use Rattle.std.proofs.Common.{lit<, lit≤};
+ghost use Rattle.archive_shape_layout.specs.Shape.Shape.{nonzero};
+ghost use Rattle.archive_shape_layout.specs.Value.Value.{natural};
+
+use crate::{ArchivedLeaf, NoUndef, Portable, Shape, Width};
+use std::alloc::{AllocError, Global};
+use std::num::NonZeroU8;
+
+impl NoUndef for NonZeroU8 {}
+
+impl Portable for NonZeroU8 {
+    ghost SIZE = { 1 };
+
+    ghost ALIGN = { 1 };
+
+    ghost shape = { nonzero w8 false };
+
+    ghost knows = { λ _. ⊤ };
+
+    const SIZE: usize = 1;
+
+    const ALIGN: usize = 1;
+
+    fn shape(_alloc: Global) -> Result<Shape, AllocError> {
+        Ok(Shape::NonZero {
+            width: Width::Bits8,
+            signed: false,
+        })
+    }
+
+    ghost sized = { refl };
+
+    ghost aligned = { refl };
+
+    ghost aligns = { (lit< tt, lit≤ tt) };
+}
+
+impl ArchivedLeaf for NonZeroU8 {
+    type Native = NonZeroU8;
+
+    ghost bytes_of = { λ n. non_zero_u8_get n ∷ [] };
+
+    ghost value_of = { λ n. natural (non_zero_u8_get n) };
+
+    ghost is_legal = { λ own. 0 < from_le_bytes w8 own };
+
+    ghost is_leaf = { tt };
+
+    fn accepts(own: &[u8]) -> bool {
+        u8::read(own) != 0
+    }
+
+    fn read(own: &[u8]) -> NonZeroU8 {
+        NonZeroU8::new(u8::read(own)).unwrap()
+    }
+
+    fn store(native: NonZeroU8, out: &mut [u8]) {
+        u8::store(native.get(), out);
+    }
+}
