@@ -1,0 +1,16 @@
+-- Bytes at a position.
+use Rattle.std.specs.Prelude.{◌≡◌, ℕ, ◌+◌, ◌≤◌, List, ◌++◌, length, take, drop}
+use Rattle.archive_shape_layout.specs.Bytes.{window}
+use Rattle.archive_shape_layout.specs.Edit.{Spares}
+
+-- the bytes with a piece at a position in place of what stood there
+abbrev pub overwrite : List ℕ → ℕ → List ℕ → List ℕ
+overwrite bytes at piece = take at bytes ++ (piece ++ drop (at + length piece) bytes)
+
+-- bytes written at a position stand there, and those outside stay
+pub record IsOverwritten (bytes : List ℕ) (pos : ℕ) (piece : List ℕ) : Type 0 where
+  pub stands : window (overwrite bytes pos piece) pos (length piece) ≡ piece
+  pub spares : Spares bytes (overwrite bytes pos piece) pos (length piece)
+
+abbrev pub OverwriteSpares : Type 0
+OverwriteSpares = (bytes : List ℕ) (pos : ℕ) (piece : List ℕ) → pos + length piece ≤ length bytes → IsOverwritten bytes pos piece

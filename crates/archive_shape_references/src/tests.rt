@@ -1,0 +1,3 @@
+mod own_values;
+mod pointees;
+mod values;
