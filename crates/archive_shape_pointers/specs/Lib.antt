@@ -1,0 +1,4 @@
+pub mod Fitting
+pub mod Offsets
+pub mod Pointers
+pub mod PointerSizes

@@ -1,0 +1,19 @@
+-- Offsets between positions, and what stored offsets are read as.
+use Rattle.std.specs.Prelude.{◌≡◌, ℕ, ℤ, pos, ◌+ℤ◌, ◌-ℤ◌, List}
+use Rattle.std.specs.Int.{Width, from_le_bytes, cast_signed}
+
+-- how far `to` is above `from`
+abbrev pub difference : ℕ → ℕ → ℤ
+difference from to = pos to -ℤ pos from
+
+-- the number that a signed field's bytes spell
+abbrev pub signed_number : Width → List ℕ → ℤ
+signed_number w own = cast_signed w (from_le_bytes w own)
+
+-- the number that an unsigned field's bytes spell
+abbrev pub unsigned_number : Width → List ℕ → ℤ
+unsigned_number w own = pos (from_le_bytes w own)
+
+-- an offset from a position leads to a position
+abbrev pub Leads : ℕ → ℤ → ℕ → Type 0
+Leads from offset to = pos from +ℤ offset ≡ pos to

@@ -1,0 +1,3 @@
+mod offsets;
+mod pointers;
+mod rel_pointers;
