@@ -1,7 +1,7 @@
 -- Pieces that are written one after the other.
 use Rattle.std.proofs.Common.{Ok, Err, ◌<◌, arith, ◌∷◌, zero, suc, flat_map, take, drop, get_or, ◌≡◌, ℕ, ◌+◌, Bool, List, [], ◌++◌, append_assoc, append-nil, length, length-append, ap, ◌∙◌, sym, refl, add_assoc, add-zero, subst}
 use Rattle.std.proofs.lemmas.List.{take-append-drop}
-use Rattle.archive_shape.specs.declared.error.Error.{Error}
+use Rattle.archive_shape_checking.specs.declared.error.Error.{Error}
 use Rattle.std.specs.Prelude.{Result}
 use Rattle.archive_shape.specs.Writing.{Cut, IsCounted, Written, Failed, Appends}
 

@@ -1,4 +1,1 @@
 pub mod Joined
-pub mod Reading
-pub mod Spelling
-pub mod Written

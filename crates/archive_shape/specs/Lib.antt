@@ -1,3 +1,4 @@
-pub mod Bytes
-pub mod Numbers
+pub mod Pooling
+pub mod Progress
+pub mod Sharing
 pub mod Writing

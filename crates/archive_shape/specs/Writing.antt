@@ -2,8 +2,8 @@
 -- its failures, its contents, its position, and how many of its writes failed. Of the contents of a writer that does not
 -- tell them, as a file's, nothing is said.
 use Rattle.std.specs.Prelude.{◌≡◌, ℕ, ◌+◌, Bool, List, ◌++◌, length, IsTrue, MatchBool, Result, MatchResult}
-use Rattle.archive_shape.specs.declared.error.Error.{Error}
-use Rattle.archive_shape.specs.declared.error.Error.TheVariants.{OutOfMemory}
+use Rattle.archive_shape_checking.specs.declared.error.Error.{Error}
+use Rattle.archive_shape_checking.specs.declared.error.Error.TheVariants.{OutOfMemory}
 
 -- a prefix of the piece was written
 pub record Cut (old new piece : List ℕ) : Type 0 where

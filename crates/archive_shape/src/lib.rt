@@ -1,29 +1,42 @@
 //! The lowest layer of an archive library: refusals, writers, numbers, layouts and references.
 #![tactic(auto)]
 
-mod error;
-mod laws;
-mod number;
+mod copy;
+mod key;
+mod memory;
 mod pieces;
-mod place;
-mod portable;
-mod refs;
-mod seal;
+mod pooling;
+mod sharing;
+mod steps;
 #[cfg(test)]
 mod tests;
-mod truth;
 mod writer;
 
-pub use archive_shape_layout::{Alignment, Pointee, Shape, Shapes, Width, same_shape};
-pub use error::Error;
-pub use laws::{leaf_is_read, overwrite_spares};
-pub use number::{
-    ArchivedI16, ArchivedI32, ArchivedI64, ArchivedIsize, ArchivedU16, ArchivedU32, ArchivedU64,
-    ArchivedUsize, FixedIsize, FixedUsize, LittleEndian, Native,
+pub use archive_shape_checking::{
+    ArchiveContext, CheckBytes, Error, PushedRange, SharedContext, ValidationState,
+    accepted_is_answered, check_leaf, fault_refuses, one_fault,
 };
+pub use archive_shape_numbers::{
+    Alignment, ArchivedChar, ArchivedI16, ArchivedI32, ArchivedI64, ArchivedI128, ArchivedIsize,
+    ArchivedLeaf, ArchivedNonZeroI16, ArchivedNonZeroI32, ArchivedNonZeroI64, ArchivedNonZeroI128,
+    ArchivedNonZeroIsize, ArchivedNonZeroU16, ArchivedNonZeroU32, ArchivedNonZeroU64,
+    ArchivedNonZeroU128, ArchivedNonZeroUsize, ArchivedU16, ArchivedU32, ArchivedU64, ArchivedU128,
+    ArchivedUsize, FixedIsize, FixedNonZeroIsize, FixedNonZeroUsize, FixedUsize, LittleEndian,
+    Native, NoUndef, Pointee, Portable, Shape, Shapes, Width, illegal_is_refused, leaf_is_read,
+    same_shape,
+};
+pub use archive_shape_pointers::{
+    Offset, RawRelPtr, RawRelPtrI8, RawRelPtrI16, RawRelPtrI32, RawRelPtrI64, RawRelPtrU8,
+    RawRelPtrU16, RawRelPtrU32, RawRelPtrU64, RelPtr, signed_offset,
+};
+pub use archive_shape_references::{
+    ArchivePointee, LayoutRaw, Metadata, OwnSeal, Place, Ref, Seal, Slice, Str, overwrite_spares,
+};
+pub use copy::CopyOptimization;
+pub use key::ArchivedKey;
+pub use memory::Allocator;
 pub use pieces::{write_all_pieces, write_three_pieces, write_two_pieces};
-pub use place::Place;
-pub use portable::{NoUndef, Portable};
-pub use refs::Ref;
-pub use seal::{Seal, Str};
+pub use pooling::{Pooling, PoolingState};
+pub use sharing::{Sharing, SharingState};
+pub use steps::Steps;
 pub use writer::{Positional, Writer};

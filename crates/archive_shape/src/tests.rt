@@ -1,8 +1,13 @@
-use crate::{Error, Positional, Writer, write_all_pieces, write_three_pieces, write_two_pieces};
+use crate::{
+    CopyOptimization, Error, Positional, Steps, Writer, write_all_pieces, write_three_pieces,
+    write_two_pieces,
+};
 use std::test::Fail;
 
 mod failing;
-mod values;
+mod keys;
+mod shared;
+mod slots;
 
 use failing::FailingWriter;
 
@@ -53,5 +58,19 @@ fn a_failed_write_keeps_a_prefix(rt: HostRuntime) -> Result<(), Fail> {
     assert_eq!(rt; result, Err(Error::WriterFailed));
     assert_eq!(rt; writer.bytes(), [1, 2, 3, 4, 5].as_slice());
     assert_eq!(rt; writer.failures(), 1);
+    Ok(())
+}
+
+#[test]
+fn flags_and_counts(rt: HostRuntime) -> Result<(), Fail> {
+    assert!(rt; CopyOptimization::<u8>::enable().is_enabled());
+    assert!(rt; !CopyOptimization::<bool>::disable().is_enabled());
+    assert!(rt; CopyOptimization::<u8>::enable_if(true).is_enabled());
+    let none = Steps {
+        comparisons: 0,
+        strides: 0,
+    };
+    assert!(rt; none == Steps { ..none });
+    assert!(rt; none != Steps { strides: 1, ..none });
     Ok(())
 }

@@ -1,7 +1,0 @@
-use Rattle.std.proofs.Common.{rules}
-use Rattle.std.specs.Int.{w64}
-use Rattle.archive_shape.proofs.Reading.{signed_stored}
-use Rattle.archive_shape.proofs.number.signed.I64Native.store.Goals as goal
-
-pub returns-clause-value : goal.returns-clause-value
-returns-clause-value c = signed_stored w64 _ _ c.ranges.self (search rules)

@@ -1,0 +1,10 @@
+-- What the state of a shared position tells of its progress.
+use Rattle.archive_shape.specs.Progress.{Progress}
+use Rattle.archive_shape.specs.Progress.Progress.{unmet, begun, ended}
+use Rattle.archive_shape.specs.declared.pooling.PoolingState.{PoolingState}
+use Rattle.archive_shape.specs.declared.pooling.PoolingState.TheVariants.{Started, Pending, Finished}
+
+abbrev pub told : {T : Type 0} → PoolingState T → Progress T
+told Started = unmet
+told Pending = begun
+told (Finished value) = ended value

@@ -1,0 +1,36 @@
+-- Work that is done once for each number: a shared value is written once for its key, and read once from its position.
+use Rattle.std.specs.Prelude.{◌≡◌, ◌≢◌, ℕ, Result, Ok, Err}
+use Rattle.archive_shape_checking.specs.declared.error.Error.{Error}
+use Rattle.archive_shape_checking.specs.declared.error.Error.TheVariants.{NotStarted, AlreadyFinished}
+
+-- it was not met, has begun, or has ended with an outcome
+pub data Progress (A : Type 0) : Type 0 where
+  unmet : Progress A
+  begun : Progress A
+  ended : A → Progress A
+
+module _ {A : Type 0} (old new : ℕ → Progress A) where
+  -- nothing changes
+  abbrev pub IsSame : Type 0
+  IsSame = (n : ℕ) → new n ≡ old n
+
+  -- the progress of one number changes, and no other
+  pub record IsSet (n : ℕ) (progress : Progress A) : Type 0 where
+    pub here : new n ≡ progress
+    pub elsewhere : (other : ℕ) → other ≢ n → new other ≡ old other
+
+  -- starting tells the progress so far, and begins what was not met
+  abbrev pub Begins : ℕ → Progress A → Type 0
+  Begins n unmet = IsSet n begun
+  Begins n begun = IsSame
+  Begins n (ended x) = IsSame
+
+  pub record Starts (n : ℕ) (told : Progress A) : Type 0 where
+    pub is_told : old n ≡ told
+    pub begins : Begins n told
+
+  -- finishing ends what has begun with this outcome, and refuses all else
+  abbrev pub Finishes : ℕ → A → Result (Unit {0}) Error → Progress A → Type 0
+  Finishes n outcome result unmet = result ≡ Err NotStarted
+  Finishes n outcome result begun = (result ≡ Ok tt) × IsSet n (ended outcome)
+  Finishes n outcome result (ended x) = result ≡ Err AlreadyFinished

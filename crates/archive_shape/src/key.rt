@@ -1,0 +1,60 @@
+//! Archived keys against queries.
+ghost use Rattle.std.specs.Prelude.{◌≡◌, ℕ, ◌+◌, ◌≤◌, List, length};
+ghost use Rattle.std.proofs.Common.{ap};
+ghost use Rattle.std.specs.Cmp.{IsTotalOrder};
+ghost use Rattle.std.specs.Ordering.{is_eq};
+ghost use Rattle.std.specs.declared.cmp.Ordering.{Ordering};
+ghost use Rattle.archive_shape_layout.specs.Bytes.{window};
+ghost use Rattle.archive_shape_native.specs.Numbers.{Reads};
+ghost use Rattle.archive_shape_native.proofs.Reading.{one_reading};
+
+use crate::{LittleEndian, Native, Portable, Ref};
+use std::cmp::Ordering;
+
+/// A type of archived keys that a query of type `Q` is compared with.
+pub trait ArchivedKey<Q>: Portable {
+    /// Whether bytes have at a position a key of this type.
+    ghost is_key: { List ℕ → ℕ → Type 0 };
+
+    /// Whether the key that bytes have at a position stands for this.
+    ghost key_of: { List ℕ → ℕ → Q → Type 0 };
+
+    /// The keys' own order.
+    ghost order: { Q → Q → Ordering };
+
+    /// Whether the key and the query are equal: exactly where `compare` answers `Equal`.
+    fn same(this: &Ref<'_, Self>, query: &Q) -> bool
+        requires { is_key this.now.bytes.now this.now.pos }
+        ensures { (key : Q) × key_of this.now.bytes.now this.now.pos key × (result ≡ is_eq (order key query.now)) };
+
+    /// How the key stands to the query in the keys' own order.
+    fn compare(this: &Ref<'_, Self>, query: &Q) -> Ordering
+        requires { is_key this.now.bytes.now this.now.pos }
+        ensures { (key : Q) × key_of this.now.bytes.now this.now.pos key × (result ≡ order key query.now) };
+
+    /// All that the key at a position stands for is alike in the order.
+    ghost one_key: { (bytes : List ℕ) (pos : ℕ) (a b : Q) → key_of bytes pos a → key_of bytes pos b → (query : Q) → order a query ≡ order b query };
+
+    ghost is_total: { IsTotalOrder order };
+}
+
+/// Numbers and chars, in their own order.
+impl<N: Native + Ord> ArchivedKey<N> for LittleEndian<N> {
+    ghost is_key = { λ bytes pos. (pos + N.WIDTH ≤ length bytes) × N.is_legal (window bytes pos N.WIDTH) };
+
+    ghost key_of = { λ bytes pos key. (N.bytes_of key ≡ window bytes pos N.WIDTH) × Reads N.shape (window bytes pos N.WIDTH) (N.value_of key) };
+
+    ghost order = { N.cmp };
+
+    fn same(this: &Ref<'_, Self>, query: &N) -> bool {
+        this.to_native() == *query
+    }
+
+    fn compare(this: &Ref<'_, Self>, query: &N) -> Ordering {
+        this.to_native().cmp(query)
+    }
+
+    ghost one_key = { λ bytes pos a b x y query. ap (λ key. N.cmp key query) (N.one_number a b (one_reading N.shape (window bytes pos N.WIDTH) _ _ x.1 y.1)) };
+
+    ghost is_total = { N.total };
+}

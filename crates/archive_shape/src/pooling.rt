@@ -1,0 +1,44 @@
+//! What keeps the values that are shared, while an archive is read.
+ghost use Rattle.std.specs.Prelude.{◌≡◌, ℕ, MatchResult};
+ghost use Rattle.archive_shape.specs.Pooling.{told};
+ghost use Rattle.archive_shape.specs.Progress.{Progress, Starts, Finishes};
+ghost use Rattle.archive_shape_checking.specs.declared.error.Error.TheVariants.{OutOfMemory};
+
+use crate::Error;
+
+/// What is known of the value at a shared position.
+#[derive(Clone, Copy, Drop, Debug, PartialEq, Eq)]
+pub enum PoolingState<T> {
+    /// It was not met before, and is begun now.
+    Started,
+    /// It has begun and not finished: the value lies inside itself.
+    Pending,
+    /// It has finished, and this was made of it.
+    Finished(T),
+}
+
+/// What has each shared value read once. After a refusal it is not used again.
+pub trait Pooling<T> {
+    /// What is known of each position.
+    ghost known: { Self → ℕ → Progress T };
+
+    /// Tells what is known of the value at a position, and begins one that was not met.
+    fn start_pooling(&mut self, pos: usize) -> Result<PoolingState<T>, Error>
+        ensures { MatchResult result (λ state. Starts (known self.old) (known self.new) pos (told state)) (λ e. e ≡ OutOfMemory) };
+
+    /// Finishes a value that has begun, of which this was made. It takes no memory: the entry was made at its start.
+    fn finish_pooling(&mut self, pos: usize, value: T) -> Result<(), Error>
+        ensures { Finishes (known self.old) (known self.new) pos value result (known self.old pos) };
+}
+
+impl<T, P: Pooling<T>> Pooling<T> for &mut P {
+    ghost known = { λ r. P.known r.now };
+
+    fn start_pooling(&mut self, pos: usize) -> Result<PoolingState<T>, Error> {
+        (**self).start_pooling(pos)
+    }
+
+    fn finish_pooling(&mut self, pos: usize, value: T) -> Result<(), Error> {
+        (**self).finish_pooling(pos, value)
+    }
+}

@@ -1,0 +1,45 @@
+//! What keeps the values that are shared, while an archive is written.
+ghost use Rattle.std.specs.Prelude.{◌≡◌, ℕ, MatchResult};
+ghost use Rattle.archive_shape.specs.Progress.{Progress, Starts, Finishes};
+ghost use Rattle.archive_shape.specs.Sharing.{told};
+ghost use Rattle.archive_shape_checking.specs.declared.error.Error.TheVariants.{OutOfMemory};
+
+use crate::Error;
+
+/// What is known of a shared value.
+#[derive(Clone, Copy, Debug, PartialEq, Eq)]
+pub enum SharingState {
+    /// It was not met before, and is begun now.
+    Started,
+    /// It has begun and not finished: the value lies inside itself.
+    Pending,
+    /// It has finished, at this position.
+    Finished(usize),
+}
+
+/// What has each shared value written once. Keys are of the user's choosing, one for each shared value. After a refusal
+/// it is not used again.
+pub trait Sharing {
+    /// What is known of each key.
+    ghost known: { Self → ℕ → Progress ℕ };
+
+    /// Tells what is known of the value, and begins one that was not met.
+    fn start_sharing(&mut self, key: usize) -> Result<SharingState, Error>
+        ensures { MatchResult result (λ state. Starts (known self.old) (known self.new) key (told state)) (λ e. e ≡ OutOfMemory) };
+
+    /// Finishes a value that has begun, at this position. It takes no memory: the entry was made at its start.
+    fn finish_sharing(&mut self, key: usize, pos: usize) -> Result<(), Error>
+        ensures { Finishes (known self.old) (known self.new) key pos result (known self.old key) };
+}
+
+impl<S: Sharing> Sharing for &mut S {
+    ghost known = { λ r. S.known r.now };
+
+    fn start_sharing(&mut self, key: usize) -> Result<SharingState, Error> {
+        (**self).start_sharing(key)
+    }
+
+    fn finish_sharing(&mut self, key: usize, pos: usize) -> Result<(), Error> {
+        (**self).finish_sharing(key, pos)
+    }
+}
