@@ -1,0 +1,5 @@
+mod Checked
+mod Claims
+mod Held
+mod Placed
+mod Words

@@ -1,0 +1,32 @@
+//! Archived texts as keys.
+ghost use Rattle.std.specs.Ordering.{nat_cmp};
+ghost use Rattle.std.specs.Cmp.{on_total};
+ghost use Rattle.std.specs.Cmp.Lexicographic.{slice_cmp};
+ghost use Rattle.std.proofs.Common.{ap};
+ghost use Rattle.std.proofs.lemmas.Cmp.{nat_list_cmp_total};
+ghost use Rattle.archive_forms_text.specs.Once.{one_text_law};
+ghost use Rattle.archive_forms_text.specs.Text.{HasText, IsText};
+
+use crate::ArchivedString;
+use archive_shape::{ArchivedKey, Ref};
+use std::cmp::Ordering;
+
+impl<'q> ArchivedKey<&'q str> for ArchivedString {
+    ghost is_key = { HasText };
+
+    ghost key_of = { λ bytes pos key. IsText bytes pos key.now };
+
+    ghost order = { λ key query. slice_cmp nat_cmp key.now query.now };
+
+    fn same(this: &Ref<'_, Self>, query: &&'q str) -> bool {
+        ArchivedString::as_str(*this) == *query
+    }
+
+    fn compare(this: &Ref<'_, Self>, query: &&'q str) -> Ordering {
+        ArchivedString::as_str(*this).cmp(*query)
+    }
+
+    ghost one_key = { λ bytes pos a b x y query. ap (λ key. slice_cmp nat_cmp key query.now) (one_text_law bytes pos a.now b.now x y) };
+
+    ghost is_total = { on_total (λ key. key.now) nat_list_cmp_total };
+}

@@ -1,0 +1,5 @@
+mod checked;
+mod checks;
+mod keys;
+mod narrow_context;
+mod reading;
