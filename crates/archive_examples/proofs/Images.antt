@@ -1,7 +1,7 @@
 -- The images are what is said: the law gives each document's, and computation its bytes.
 use Rattle.std.proofs.Common.{◌≡◌, ℕ, ◌^◌, ◌<◌, pos, refl, subst, arith, lit<, lit≤, FitsSigned, w64, ⊎_elim, List, codes}
 use Rattle.cabinet_text.proofs.Utf8.{IsUtf8-word}
-use Rattle.archive_shape.specs.declared.error.Error.{Error}
+use Rattle.archive_shape_checking.specs.declared.error.Error.{Error}
 use Rattle.cabinet_text.specs.Tree.{Tree, IsDocument}
 use Rattle.cabinet_layout.specs.Image.{Image, IsPast}
 use Rattle.cabinet_layout.specs.Written.{image_bytes}

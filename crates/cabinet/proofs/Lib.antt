@@ -1,12 +1,4 @@
-pub mod Short
-pub mod Targets
-pub mod ListElements
-pub mod Paths
-pub mod Outcomes
 pub mod Setting
-pub mod Fresh
-pub mod Elements
-pub mod Limits
 pub mod Saves
 pub mod Questions
 pub mod Sessions

@@ -8,8 +8,9 @@ use Rattle.cabinet_text.specs.Line.{Line, get}
 use Rattle.cabinet_text.specs.Session.{reply}
 use Rattle.cabinet_text.specs.declared.answer.Asked.TheVariants.{Answered, Missing}
 use Rattle.cabinet_layout.specs.Denotes.{Accepted}
-use Rattle.cabinet.specs.Opening.{asked_by, LeadsNowhere, LeadsTo}
-use Rattle.cabinet.specs.declared.reading.node.NodeRef.{NodeRef}
+use Rattle.cabinet_nodes.specs.Reading.{LeadsNowhere, LeadsTo}
+use Rattle.cabinet_nodes.specs.declared.reading.node.NodeRef.{NodeRef}
+use Rattle.cabinet.specs.Opening.{asked_by}
 
 module _ (x : List ℕ) (path : List Step) (line : Line) (e : line ≡ get path) (t : Tree) (a : Accepted x t) where
   pub reply_nowhere : LeadsNowhere x path → reply t (Some line) ≡ codes "missing\n"

@@ -10,7 +10,8 @@ use Rattle.cabinet_text.specs.Session.{lines_of, AllSay, reply, next, answers, a
 use Rattle.cabinet_layout.specs.Denotes.{Accepted}
 use Rattle.cabinet_layout.specs.Image.{Image}
 use Rattle.cabinet_layout.specs.Laws.{written_at}
-use Rattle.cabinet.specs.Editing.{Edited, put_if_done, bytes_next, bytes_after}
+use Rattle.cabinet_nodes.specs.Setting.{put_if_done}
+use Rattle.cabinet.specs.Editing.{Edited, bytes_next, bytes_after}
 use Rattle.cabinet.specs.Steps.{longest_line, Carried, Torn}
 
 -- ---- one more element

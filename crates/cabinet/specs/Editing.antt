@@ -3,19 +3,13 @@ use Rattle.std.specs.Prelude.{◌≡◌, ℕ, List, [], ◌∷◌, Option, Some,
 use Rattle.cabinet_text.specs.Tree.{Tree}
 use Rattle.cabinet_text.specs.Line.{Line, get, set}
 use Rattle.cabinet_text.specs.Answering.{outcome}
-use Rattle.cabinet_text.specs.declared.answer.SetAnswer.{SetAnswer}
-use Rattle.cabinet_text.specs.declared.answer.SetAnswer.TheVariants.{Done, Missing, Refused}
 use Rattle.cabinet_text.specs.Session.{next, after}
 use Rattle.cabinet_layout.specs.Denotes.{Accepted}
 use Rattle.cabinet_layout.specs.Image.{Image}
 use Rattle.cabinet_layout.specs.Laws.{written_at}
+use Rattle.cabinet_nodes.specs.Setting.{put_if_done}
 
--- an edit that is done writes the own bytes of its leaf, and nothing else does
-abbrev pub put_if_done : SetAnswer → List ℕ → List ℕ → List ℕ
-put_if_done Done edited bytes = edited
-put_if_done Missing edited bytes = bytes
-put_if_done Refused edited bytes = bytes
-
+-- what a line leaves of the bytes, and what lines leave
 abbrev pub bytes_next : List ℕ → Tree → Option Line → List ℕ
 bytes_next bytes t None = bytes
 bytes_next bytes t (Some (get path)) = bytes

@@ -1,90 +1,15 @@
--- What opening, asking and setting answer.
-use Rattle.std.specs.Prelude.{◌≡◌, ℕ, ◌+◌, ◌*◌, ◌<◌, ◌≤◌, Bool, false, List, length, Some, None, Result, MatchResult, IsUtf8}
-use Rattle.archive_shape_layout.specs.Content.{before_ff}
-use Rattle.archive_shape.specs.declared.error.Error.{Error}
-use Rattle.archive_shape.specs.declared.error.Error.TheVariants.{CheckStringRepr, InvalidUtf8}
+-- What opening and asking answer.
+use Rattle.std.specs.Prelude.{◌≡◌, ℕ, Bool, List, Result, MatchResult}
+use Rattle.archive_shape_checking.specs.declared.error.Error.{Error}
 use Rattle.archive_shape.specs.Writing.{IsCounted}
-use Rattle.cabinet_text.specs.Tree.{Leaf, Tree, leaf, list, Trees, count, AreLeaves, IsDocument, Step, key, place, inside, node_at}
+use Rattle.cabinet_text.specs.Tree.{Tree}
 use Rattle.cabinet_text.specs.Line.{Line, get, set}
-use Rattle.cabinet_text.specs.Answering.{asked_of, fits}
-use Rattle.cabinet_text.specs.View.{lent_leaf}
+use Rattle.cabinet_text.specs.Answering.{asked_of}
 use Rattle.cabinet_text.specs.declared.answer.Asked.{Asked}
 use Rattle.cabinet_text.specs.declared.answer.Asked.TheVariants.{Answered}
-use Rattle.cabinet_layout.specs.Node.{elements_at}
-use Rattle.cabinet_layout.specs.Denotes.{Accepted}
-use Rattle.cabinet_layout.specs.Spelled.{IsLeafAt, IsListAt, AreNodesAt}
-use Rattle.cabinet_layout.specs.Fault.{Fault, ElementFault, IsOutOfLine}
+use Rattle.cabinet_layout.specs.Fault.{Fault}
 use Rattle.cabinet.specs.declared.opened.OpenRefusal.{OpenRefusal}
 use Rattle.cabinet.specs.declared.opened.OpenRefusal.TheVariants.{Access, OutOfMemory}
-use Rattle.cabinet.specs.declared.reading.node.NodeRef.{NodeRef}
-use Rattle.cabinet.specs.declared.reading.node.NodeRef.TheVariants as lent
-
--- the eight bytes of a text say that it is inline, and what it is
-pub record IsInlineText (own t : List ℕ) : Type 0 where
-  pub is_inline : IsOutOfLine own → ⊥
-  pub text_is : before_ff own ≡ t
-  pub short : length t ≤ 8
-
--- or why they do not
-pub data IsNoInlineText (own : List ℕ) (e : Error) : Type 0 where
-  is_elsewhere : IsOutOfLine own → e ≡ CheckStringRepr → IsNoInlineText own e
-  is_no_text : (IsOutOfLine own → ⊥) → (IsUtf8 (before_ff own) → ⊥) → e ≡ InvalidUtf8 → IsNoInlineText own e
-
--- the node at a position, as it is read: a leaf, or where the elements of a list begin and how many they are
-abbrev pub IsReadAt : List ℕ → ℕ → NodeRef → Type 0
-IsReadAt bytes pos (lent.Leaf l) = IsLeafAt bytes pos (lent_leaf l) × IsDocument (leaf (lent_leaf l))
-IsReadAt bytes pos (lent.List e) = IsListAt bytes pos e.len × (e.pos ≡ elements_at bytes pos)
-
--- and what tree it is
-abbrev pub Tells : NodeRef → Tree → Type 0
-Tells (lent.Leaf l) t = t ≡ leaf (lent_leaf l)
-Tells (lent.List e) t = (ts : Trees) × (t ≡ list ts) × (count ts ≡ e.len)
-
--- the elements of a node end by a limit
-abbrev pub EndBy : ℕ → NodeRef → Type 0
-EndBy limit (lent.Leaf l) = Unit {0}
-EndBy limit (lent.List e) = e.pos + 24 * e.len ≤ limit
-
--- a step leads from a node to the one at a position: only a place in a list leads anywhere
-abbrev pub StepsTo : NodeRef → Step → ℕ → Type 0
-StepsTo (lent.List e) (place i) to = (i < e.len) × (to ≡ e.pos + 24 * i)
-StepsTo (lent.List e) (key k) to = ⊥
-StepsTo (lent.List e) inside to = ⊥
-StepsTo (lent.Leaf l) step to = ⊥
-
--- or nowhere
-abbrev pub StepsNowhere : NodeRef → Step → Type 0
-StepsNowhere (lent.List e) (place i) = e.len ≤ i
-StepsNowhere (lent.List e) (key k) = Unit {0}
-StepsNowhere (lent.List e) inside = Unit {0}
-StepsNowhere (lent.Leaf l) step = Unit {0}
-
--- so many elements of a list from a position on
-pub record AreElements (bytes : List ℕ) (pos len : ℕ) : Type 0 where
-  pub trees : Trees
-  pub counted : count trees ≡ len
-  pub stand : AreNodesAt bytes pos trees
-  pub leaves : AreLeaves trees
-
--- the first of them that has a fault
-pub record IsFirstElementFault (bytes : List ℕ) (pos len : ℕ) (e : Error) : Type 0 where
-  pub index : ℕ
-  pub within : index < len
-  pub before : (k : ℕ) (d : Error) → k < index → ElementFault bytes (pos + 24 * k) d → ⊥
-  pub fault : ElementFault bytes (pos + 24 * index) e
-
--- a path leads nowhere in each document that the bytes are the archive of
-abbrev pub LeadsNowhere : List ℕ → List Step → Type 0
-LeadsNowhere bytes path = (t : Tree) → Accepted bytes t → node_at t path ≡ None
-
--- or in each to a tree which the node tells of
-abbrev pub LeadsTo : List ℕ → List Step → NodeRef → Type 0
-LeadsTo bytes path node = (t : Tree) → Accepted bytes t → (s : Tree) × (node_at t path ≡ Some s) × Tells node s
-
--- a leaf may be put where a leaf stands that it fits
-abbrev pub fits_at : NodeRef → Leaf → Bool
-fits_at (lent.Leaf l) new = fits (lent_leaf l) new
-fits_at (lent.List e) new = false
 
 -- why bytes are not opened; for now opening takes no memory
 abbrev pub IsRefusedFor : List ℕ → OpenRefusal → Type 0

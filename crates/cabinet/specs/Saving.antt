@@ -1,7 +1,6 @@
 -- What saving answers.
-use Rattle.std.specs.Prelude.{◌≡◌, ℕ, ◌+◌, Bool, true, false, List, ◌∷◌, ◌++◌}
-use Rattle.cabinet_text.specs.Tree.{Tree, Leaf, truth, number, text}
-use Rattle.cabinet_layout.specs.Bytes.{zeros}
+use Rattle.std.specs.Prelude.{◌≡◌, ℕ, ◌+◌, Bool, true, false, List, ◌++◌}
+use Rattle.cabinet_text.specs.Tree.{Tree}
 use Rattle.cabinet_layout.specs.Image.{Image, IsPast}
 use Rattle.cabinet.specs.declared.saving.SaveRefusal.{SaveRefusal}
 use Rattle.cabinet.specs.declared.saving.SaveRefusal.TheVariants.{Limit, Writer, OutOfMemory}
@@ -17,9 +16,3 @@ abbrev pub IsUnsavedFor : Tree → (counts : Bool) → (before after : ℕ) → 
 IsUnsavedFor t counts before after (Limit e) = IsPast t e × (after ≡ before)
 IsUnsavedFor t counts before after (Writer e) = (counts ≡ true) × (after ≡ before + 1)
 IsUnsavedFor t counts before after OutOfMemory = (counts ≡ false) × (after ≡ before)
-
--- the bytes of `bool false`, `int 0` and the empty text
-abbrev pub blank : Leaf → List ℕ
-blank (truth b) = zeros 24
-blank (number n) = 1 ∷ zeros 23
-blank (text t) = 2 ∷ 0 ∷ 0 ∷ 0 ∷ 255 ∷ 255 ∷ 255 ∷ 255 ∷ 255 ∷ 255 ∷ 255 ∷ 255 ∷ zeros 12

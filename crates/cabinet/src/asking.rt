@@ -6,11 +6,12 @@ ghost use Rattle.cabinet_text.specs.Line.{IsQuestion};
 ghost use Rattle.cabinet_text.specs.Session.{reply};
 ghost use Rattle.cabinet_text.specs.View.{line_of};
 ghost use Rattle.cabinet_layout.specs.Denotes.{Accepted};
-ghost use Rattle.cabinet.specs.Opening.{asked_by, Counts, Tells};
+ghost use Rattle.cabinet_nodes.specs.Reading.{Tells};
+ghost use Rattle.cabinet.specs.Opening.{asked_by, Counts};
 
 use crate::opened::Opened;
-use crate::reading::NodeRef;
 use archive_shape::{Error, Writer};
+use cabinet_nodes::NodeRef;
 use cabinet_text::{Asked, Line, write_leaf_line, write_list_line, write_missing};
 
 impl Opened<'_> {

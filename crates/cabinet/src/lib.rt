@@ -5,9 +5,7 @@ mod asking;
 #[cfg(test)]
 mod doubles;
 mod fault;
-mod node;
 mod opened;
-mod reading;
 mod saving;
 mod session;
 mod source;

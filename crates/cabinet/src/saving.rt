@@ -1,18 +1,11 @@
-ghost use Rattle.std.specs.Prelude.{◌≡◌, ◌+◌, ◌-◌, ◌*◌, ◌^◌, ◌<◌, ◌≤◌, ℕ, List, length, IsTrue, OnOk, OnErr, IfErr, MatchBool};
-ghost use Rattle.archive_shape.specs.Writing.{Cut, Writes};
-ghost use Rattle.archive_shape.specs.declared.error.Error.{Error};
-ghost use Rattle.archive_shape.specs.declared.error.Error.TheVariants.{IsizeOverflow};
-ghost use Rattle.cabinet_text.specs.Tree as tree;
-ghost use Rattle.cabinet_text.specs.Tree.{Leaf, AreLeaves, IsDocument};
-ghost use Rattle.cabinet_text.specs.View.{lent_leaf, node_tree, node_trees};
-ghost use Rattle.cabinet_layout.specs.Image.{Image, IsPast};
-ghost use Rattle.cabinet_layout.specs.Written.{leaf_bytes, list_bytes, image_bytes, elements_bytes};
-ghost use Rattle.cabinet.specs.Saving.{Saved, IsUnsavedFor, blank};
+ghost use Rattle.std.specs.Prelude.{◌≡◌, ◌-◌, ◌^◌, ◌<◌, ℕ, List, IsTrue, OnOk, OnErr, IfErr};
+ghost use Rattle.archive_shape.specs.Writing.{Cut};
+ghost use Rattle.cabinet_layout.specs.Image.{Image};
+ghost use Rattle.cabinet.specs.Saving.{Saved, IsUnsavedFor};
 
-use crate::node::write_own;
-use crate::reading::NODE_SIZE;
 use archive_shape::{Error, Writer};
-use cabinet_text::{Document, LeafRef, Node};
+use cabinet_nodes::{is_past_limits, write_root};
+use cabinet_text::Document;
 use std::alloc::Global;
 use thiserror::Error as Described;
 
@@ -28,116 +21,6 @@ pub enum SaveRefusal {
     /// Memory was refused, also to a writer that counts no failures.
     #[error("out of memory")]
     OutOfMemory,
-}
-
-/// The image of `bool false`.
-const FALSE: [u8; NODE_SIZE] = [0; NODE_SIZE];
-
-/// The image of `int 0`.
-const ZERO: [u8; NODE_SIZE] = [
-    1, 0, 0, 0, 0, 0, 0, 0, 0, 0, 0, 0, 0, 0, 0, 0, 0, 0, 0, 0, 0, 0, 0, 0,
-];
-
-/// The image of the empty text.
-const EMPTY_TEXT: [u8; NODE_SIZE] = [
-    2, 0, 0, 0, 0xff, 0xff, 0xff, 0xff, 0xff, 0xff, 0xff, 0xff, 0, 0, 0, 0, 0, 0, 0, 0, 0, 0, 0, 0,
-];
-
-/// The most elements of a list: so many that an offset of 32 bits leads from behind the last to the first.
-const MOST_ELEMENTS: usize = 89_478_485;
-
-/// The image of a leaf of this kind.
-fn blank_image(leaf: LeafRef<'_>) -> [u8; NODE_SIZE]
-    ensures { result ≡ blank (lent_leaf leaf.entry) }
-{
-    match leaf {
-        LeafRef::Bool(_) => FALSE,
-        LeafRef::Int(_) => ZERO,
-        LeafRef::Text(_) => EMPTY_TEXT,
-    }
-}
-
-/// The node of a leaf.
-fn leaf_node(leaf: LeafRef<'_>) -> [u8; NODE_SIZE]
-    requires { IsDocument (tree.leaf (lent_leaf leaf)) }
-    ensures { result ≡ leaf_bytes (lent_leaf leaf.entry) }
-{
-    let mut node = blank_image(leaf);
-    write_own(&mut node, 0, leaf);
-    node
-}
-
-/// The node of a list that stands behind its elements.
-fn list_node(len: u32) -> [u8; NODE_SIZE]
-    requires { 24 * len + 4 ≤ 2 ^ 31 }
-    ensures { result ≡ list_bytes len }
-{
-    let back = (NODE_SIZE as u32 * len + 4).wrapping_neg().to_le_bytes();
-    let len = len.to_le_bytes();
-    [
-        5, 0, 0, 0, back[0], back[1], back[2], back[3], len[0], len[1], len[2], len[3], 0, 0, 0, 0,
-        0, 0, 0, 0, 0, 0, 0, 0,
-    ]
-}
-
-/// Writes a leaf.
-fn write_leaf<W: Writer>(node: &Node, writer: &mut W) -> Result<(), Error>
-    requires room { W.failures writer.old < 2 ^ 64 - 1 }
-    requires document { IsDocument (node_tree node.now) }
-    requires leaf { (l : Leaf) × (node_tree node.now ≡ tree.leaf l) }
-    ensures { Writes W.Writer writer.old writer.new (image_bytes (node_tree node.now)) result }
-{
-    let Some(leaf) = node.as_leaf() else {
-        unreachable!()
-    };
-    writer.write(&leaf_node(leaf))
-}
-
-/// Writes the elements of a list side by side.
-fn write_elements<W: Writer>(nodes: &[Node], writer: &mut W) -> Result<(), Error>
-    requires room { W.failures writer.old < 2 ^ 64 - 1 }
-    requires leaves { AreLeaves (node_trees nodes.now) }
-    ensures { Writes W.Writer writer.old writer.new (elements_bytes (node_trees nodes.now)) result }
-{
-    for node in nodes {
-        write_leaf(node, writer)?;
-    }
-    Ok(())
-}
-
-/// Writes a list: its elements, and behind them its node.
-fn write_list<W: Writer>(nodes: &[Node], writer: &mut W) -> Result<(), Error>
-    requires room { W.failures writer.old < 2 ^ 64 - 1 }
-    requires leaves { AreLeaves (node_trees nodes.now) }
-    requires near { length nodes.now ≤ 89478485 }
-    ensures { Writes W.Writer writer.old writer.new (image_bytes (tree.list (node_trees nodes.now))) result }
-{
-    write_elements(nodes, writer)?;
-    writer.write(&list_node(nodes.len() as u32))
-}
-
-/// Whether a document is past the limits of archives.
-fn is_past_limits(root: &Node) -> bool
-    requires { IsDocument (node_tree root.now) }
-    ensures { MatchBool result (IsPast (node_tree root.now) IsizeOverflow) ((e : Error) → IsPast (node_tree root.now) e → ⊥) }
-{
-    match root {
-        Node::List(nodes) => nodes.len() > MOST_ELEMENTS,
-        _ => false,
-    }
-}
-
-/// Writes the image of a document that is within the limits.
-fn write_root<W: Writer>(root: &Node, writer: &mut W) -> Result<(), Error>
-    requires room { W.failures writer.old < 2 ^ 64 - 1 }
-    requires document { IsDocument (node_tree root.now) }
-    requires within { (e : Error) → IsPast (node_tree root.now) e → ⊥ }
-    ensures { Writes W.Writer writer.old writer.new (image_bytes (node_tree root.now)) result }
-{
-    match root {
-        Node::List(nodes) => write_list(nodes.as_slice(), writer),
-        leaf => write_leaf(leaf, writer),
-    }
 }
 
 /// Writes the image of a document. The writer's position is to be 0, so that positions are those in its bytes.

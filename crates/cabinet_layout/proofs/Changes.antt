@@ -3,14 +3,14 @@ use Rattle.std.proofs.Common.{◌≡◌, ℕ, zero, suc, ◌^◌, ◌+◌, ◌*�
 use Rattle.std.specs.Int.{w32, to_le_bytes}
 use Rattle.archive_shape_layout.specs.Laws.{AgreesOn}
 use Rattle.archive_shape_layout.specs.Edit.{Apart}
-use Rattle.archive_shape.specs.Bytes.{overwrite}
+use Rattle.archive_shape_references.specs.Bytes.{overwrite}
 use Rattle.cabinet_text.specs.Tree.{Leaf, IsLeaf, IsDocument, Tree, leaf, list, Trees, no_trees, more_trees, count, AreLeaves, Step, key, place, inside, node_at, node_in}
 use Rattle.cabinet_text.specs.Answering.{fits, change, change_in}
 use Rattle.cabinet_layout.specs.Bytes.{Stands}
 use Rattle.cabinet_layout.specs.Node.{elements_at, node_position}
 use Rattle.cabinet_layout.specs.Spelled.{IsLeafAt, IsListAt, IsNodeAt, AreNodesAt}
 use Rattle.cabinet_layout.specs.Image.{own_offset, own_bytes, IsClean, AreClean}
-use Rattle.cabinet_layout.proofs.Pieces.{length-overwrite, window_before, window_behind}
+use Rattle.archive_shape_references.proofs.Written.{length-overwrite, window_before, window_behind}
 use Rattle.cabinet_layout.proofs.Frames.{own_bytes_short, frame_leaf, frame_elements, frame_list, frame_leaves, frame_clean, frame_list_clean, frame_leaf_clean}
 use Rattle.cabinet_layout.proofs.Paths.{in_list}
 use Rattle.cabinet_layout.proofs.Edits.{fits_document, leaf_edit, clean_edit}

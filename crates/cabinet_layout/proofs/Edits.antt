@@ -7,15 +7,16 @@ use Rattle.std.proofs.lemmas.Bool.{eqb-true}
 use Rattle.std.proofs.lemmas.List.{drop_at}
 use Rattle.archive_shape_layout.specs.Bytes.{window}
 use Rattle.archive_shape_layout.specs.Content.{before_ff}
-use Rattle.archive_shape.specs.Bytes.{overwrite}
+use Rattle.archive_shape_references.specs.Bytes.{overwrite}
 use Rattle.cabinet_text.specs.Tree.{Leaf, leaf, truth, number, text, IsLeaf, IsDocument}
 use Rattle.cabinet_text.specs.Answering.{fits}
 use Rattle.cabinet_layout.specs.Bytes.{Stands, zeros, filler, truth_byte, number_bytes}
 use Rattle.cabinet_layout.specs.Spelled.{IsLeafAt}
 use Rattle.cabinet_layout.specs.Image.{own_offset, own_bytes, IsClean}
 use Rattle.cabinet_layout.specs.Fault.{IsOutOfLine}
-use Rattle.cabinet_layout.proofs.Pieces.{length-window, stands_there, stands_before, stands_behind, byte_before, window_from, stands_byte}
-use Rattle.cabinet_layout.proofs.Texts.{text_before, split_at_filler, starts_inline}
+use Rattle.archive_shape_references.proofs.Written.{window_there, byte_before, window_from}
+use Rattle.cabinet_layout.proofs.Pieces.{length-window, stands_before, stands_behind, stands_byte}
+use Rattle.archive_shape_layout.proofs.Texts.{text_before, split_at_filler, starts_inline}
 
 -- a leaf that fits in a document is one of a document
 pub fits_document : (old new : Leaf) → IsDocument (leaf old) → IsLeaf new → fits old new ≡ true → IsDocument (leaf new)
@@ -44,10 +45,10 @@ module _ (bytes : List ℕ) (pos : ℕ) (room : pos + 24 ≤ length bytes) where
   pub leaf_edit : (old new : Leaf) → IsDocument (leaf old) → IsLeaf new → fits old new ≡ true → IsLeafAt bytes pos old → IsLeafAt (overwrite bytes (pos + own_offset new) (own_bytes new)) pos new
   leaf_edit (truth b) (truth c) d l f i =
       let w = truth_reads c in
-      let at : slice_index (overwrite bytes (pos + 1) (truth_byte c ∷ [])) (pos + 1) ≡ truth_byte c = stands_byte _ (pos + 1) (truth_byte c) (stands_there bytes (pos + 1) (truth_byte c ∷ []) (omega arith)) in
+      let at : slice_index (overwrite bytes (pos + 1) (truth_byte c ∷ [])) (pos + 1) ≡ truth_byte c = stands_byte _ (pos + 1) (truth_byte c) (window_there bytes (pos + 1) (truth_byte c ∷ []) (omega arith)) in
       (byte_before bytes (pos + 1) (truth_byte c ∷ []) (omega arith) pos (omega arith) ∙ i.0, omega (arith, w.0), ap (λ x. x == 1) at ∙ w.1)
   leaf_edit (number m) (number n) d l f i =
-      (byte_before bytes (pos + 8) (number_bytes n) (omega arith) pos (omega arith) ∙ i.0, ap (λ x. cast_signed w64 (from_le_bytes w64 x)) (stands_there bytes (pos + 8) (number_bytes n) (omega arith)) ∙ number_reads n l)
+      (byte_before bytes (pos + 8) (number_bytes n) (omega arith) pos (omega arith) ∙ i.0, ap (λ x. cast_signed w64 (from_le_bytes w64 x)) (window_there bytes (pos + 8) (number_bytes n) (omega arith)) ∙ number_reads n l)
   leaf_edit (text t) (text u) d l f i =
       let e : length t ≡ length u = eqb-true _ _ f in
       let short = d.1 in
@@ -58,7 +59,7 @@ module _ (bytes : List ℕ) (pos : ℕ) (room : pos + 24 ≤ length bytes) where
       let total : length (t ++ s.rest) ≡ 8 = sym (ap length own) ∙ length-window bytes (pos + 4) 8 (omega arith) in
       let some : 0 < length (u ++ s.rest) = omega (arith, length-append t s.rest, length-append u s.rest) in (
         byte_before bytes (pos + 4) u (omega arith) pos (omega arith) ∙ i.0,
-        subst (λ x. IsOutOfLine x → ⊥) (sym new) (starts_inline u s.rest l s.filled some),
+        subst (λ x. IsOutOfLine x → ⊥) (sym new) (λ o. starts_inline u s.rest l s.filled some o.0 o.1),
         ap before_ff new ∙ text_before u s.rest l s.filled,
       )
   leaf_edit (truth b) (number n) d l f i = absurd (cc)
@@ -71,14 +72,14 @@ module _ (bytes : List ℕ) (pos : ℕ) (room : pos + 24 ≤ length bytes) where
   pub clean_edit : (old new : Leaf) → IsDocument (leaf old) → fits old new ≡ true → IsClean bytes pos (leaf old) → IsClean (overwrite bytes (pos + own_offset new) (own_bytes new)) pos (leaf new)
   clean_edit (truth b) (truth c) d f i =
       let own : List ℕ = truth_byte c ∷ [] in
-      (stands_there bytes (pos + 1) own (omega arith), stands_behind bytes (pos + 1) own (omega arith) (pos + 2) (zeros 22) (omega arith) i.1)
+      (window_there bytes (pos + 1) own (omega arith), stands_behind bytes (pos + 1) own (omega arith) (pos + 2) (zeros 22) (omega arith) i.1)
   clean_edit (number m) (number n) d f i =
       let own : List ℕ = number_bytes n in
-      (stands_there bytes (pos + 8) own (omega arith), (stands_before bytes (pos + 8) own (omega arith) (pos + 1) (zeros 7) (omega arith) i.1.0, stands_behind bytes (pos + 8) own (omega arith) (pos + 16) (zeros 8) (omega arith) i.1.1))
+      (window_there bytes (pos + 8) own (omega arith), (stands_before bytes (pos + 8) own (omega arith) (pos + 1) (zeros 7) (omega arith) i.1.0, stands_behind bytes (pos + 8) own (omega arith) (pos + 16) (zeros 8) (omega arith) i.1.1))
   clean_edit (text t) (text u) d f i =
       let e : length t ≡ length u = eqb-true _ _ f in
       let short = d.1 in (
-        stands_there bytes (pos + 4) u (omega arith),
+        window_there bytes (pos + 4) u (omega arith),
         (
           stands_before bytes (pos + 4) u (omega arith) (pos + 1) (zeros 3) (omega arith) i.1.0,
           stands_behind bytes (pos + 4) u (omega arith) (pos + (4 + length u)) (filler (8 - length u)) (omega arith) (subst (λ n. Stands bytes (pos + (4 + n)) (filler (8 - n))) e i.1.1),

@@ -5,7 +5,7 @@ use Rattle.std.specs.Prelude.{IsUtf8, slice_index}
 use Rattle.archive_shape_layout.specs.Value.{Value, Values}
 use Rattle.archive_shape_layout.specs.Value.Value.{group}
 use Rattle.archive_shape_layout.proofs.Unique.{one_value_law}
-use Rattle.archive_shape.specs.declared.error.Error.{Error}
+use Rattle.archive_shape_checking.specs.declared.error.Error.{Error}
 use Rattle.cabinet_text.specs.Tree.{Tree, Leaf, leaf, list, truth, number, text, Trees, no_trees, more_trees, count, IsLeaf, IsShort, AreLeaves, IsDocument}
 use Rattle.cabinet_layout.specs.Node.{root_position, len_of_list, elements_at}
 use Rattle.cabinet_layout.specs.Spelled.{IsLeafAt, IsListAt, IsNodeAt, AreNodesAt, HasRootNode}

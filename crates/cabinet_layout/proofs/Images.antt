@@ -6,8 +6,8 @@ use Rattle.std.proofs.lemmas.Bool.{cases_lt}
 use Rattle.std.proofs.lemmas.Bool.Decides.{nat_tests}
 use Rattle.std.proofs.lemmas.List.{take_all}
 use Rattle.std.proofs.lemmas.Nat.{from_le_bytes-to_le_bytes_4}
-use Rattle.archive_shape.specs.declared.error.Error.{Error}
-use Rattle.archive_shape.specs.declared.error.Error.TheVariants.{IsizeOverflow}
+use Rattle.archive_shape_checking.specs.declared.error.Error.{Error}
+use Rattle.archive_shape_checking.specs.declared.error.Error.TheVariants.{IsizeOverflow}
 use Rattle.archive_shape_layout.specs.Bytes.{align_up, word_at, target_from}
 use Rattle.archive_shape_layout.specs.Holds.{end_after}
 use Rattle.cabinet_text.specs.Tree.{Leaf, truth, number, text, Tree, leaf, list, Trees, no_trees, more_trees, count, AreLeaves, IsDocument}

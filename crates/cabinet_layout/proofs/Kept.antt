@@ -1,6 +1,6 @@
 -- Where the own bytes of leaves lie, and edits of archives.
 use Rattle.std.proofs.Common.{◌≡◌, ℕ, ◌+◌, ◌≤◌, true, List, length, Some, sym, ap, subst, ◌∙◌, arith}
-use Rattle.archive_shape.specs.Bytes.{overwrite}
+use Rattle.archive_shape_references.specs.Bytes.{overwrite}
 use Rattle.cabinet_text.specs.Tree.{Leaf, Tree, leaf, IsLeaf, IsDocument, Step, node_at}
 use Rattle.cabinet_text.specs.Answering.{fits, outcome_there, change}
 use Rattle.cabinet_text.specs.declared.answer.SetAnswer.TheVariants.{Done}

@@ -11,7 +11,7 @@ use Rattle.cabinet_layout.specs.Image.{IsClean, AreClean}
 use Rattle.cabinet_layout.specs.Fault.{IsOutOfLine}
 use Rattle.cabinet_layout.specs.Written.{leaf_bytes, list_bytes, elements_bytes}
 use Rattle.cabinet_layout.proofs.Pieces.{stands_append, stands_left, stands_right, byte_stands, stands_byte}
-use Rattle.cabinet_layout.proofs.Texts.{text_before, starts_inline, StartsFilled}
+use Rattle.archive_shape_layout.proofs.Texts.{text_before, starts_inline, StartsFilled}
 use Rattle.cabinet_layout.proofs.Edits.{truth_reads, number_reads}
 
 -- ---- how long they are
@@ -97,7 +97,7 @@ leaf_says bytes pos (text t) d s =
     let whole : window bytes (pos + 4) 8 ≡ t ++ fill = ap (window bytes (pos + 4)) (sym eight) ∙ stands_append bytes (pos + 4) t fill (pos + (4 + length t)) (omega arith) own filled in (
       (
         tag,
-        subst (λ x. IsOutOfLine x → ⊥) (sym whole) (starts_inline t fill d.0 (starts_filled (8 - length t)) (omega arith)),
+        subst (λ x. IsOutOfLine x → ⊥) (sym whole) (λ o. starts_inline t fill d.0 (starts_filled (8 - length t)) (omega arith) o.0 o.1),
         ap before_ff whole ∙ text_before t fill d.0 (starts_filled (8 - length t)),
       ),
       (own, (stands_left bytes (pos + 1) (zeros 3) (t ++ (fill ++ zeros 12)) behind, filled, stands_right bytes (pos + (4 + length t)) fill (zeros 12) (pos + 12) (omega arith) rest)),

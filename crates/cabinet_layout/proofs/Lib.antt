@@ -2,11 +2,9 @@ pub mod Inversions
 pub mod Lists
 pub mod Roots
 pub mod Making
-pub mod Utf8
 pub mod Pieces
 pub mod Frames
 pub mod Paths
-pub mod Texts
 pub mod Leaves
 pub mod Images
 pub mod Faults

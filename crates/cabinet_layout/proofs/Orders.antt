@@ -1,11 +1,11 @@
 -- Leaves changed at two paths.
 use Rattle.std.proofs.Common.{◌≡◌, ◌≢◌, ℕ, zero, suc, ◌+◌, ◌≤◌, true, false, Bool, List, [], ◌∷◌, length, Option, Some, None, refl, sym, ap, ◌∙◌, ⊎_elim}
 use Rattle.archive_shape_layout.specs.Edit.{Apart}
-use Rattle.archive_shape.specs.Bytes.{overwrite}
+use Rattle.archive_shape_references.specs.Bytes.{overwrite}
 use Rattle.cabinet_text.specs.Tree.{Leaf, Tree, leaf, list, Trees, no_trees, more_trees, IsDocument, Step, key, place, inside, node_at, node_in}
 use Rattle.cabinet_text.specs.Answering.{fits, outcome_there, change, change_in}
 use Rattle.cabinet_text.specs.declared.answer.SetAnswer.TheVariants.{Done}
-use Rattle.cabinet_layout.proofs.Pieces.{overwrites_commute}
+use Rattle.archive_shape_references.proofs.Written.{overwrites_commute}
 use Rattle.cabinet_layout.proofs.Paths.{in_list}
 
 -- where a leaf may be put

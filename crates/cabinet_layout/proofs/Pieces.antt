@@ -1,54 +1,22 @@
 -- Pieces of bytes, and writes over them.
-use Rattle.std.proofs.Common.{◌≡◌, ℕ, ◌+◌, ◌≤◌, ◌<◌, List, [], ◌∷◌, ◌++◌, refl, length, take, drop, slice_index, sym, ap, ◌∙◌, arith, length-append, rules, get_or-take, get_or-drop, add-zero, drop-cons}
+use Rattle.std.proofs.Common.{◌≡◌, ℕ, ◌+◌, ◌≤◌, ◌<◌, List, [], ◌∷◌, ◌++◌, refl, length, take, drop, slice_index, sym, ap, ◌∙◌, arith, length-append, get_or-take, get_or-drop, add-zero, drop-cons}
 use Rattle.std.proofs.Math.Seq.{take-add, take-append_seam}
 use Rattle.std.specs.Int.{w32, from_le_bytes}
-use Rattle.std.proofs.lemmas.List.{length-take, length-drop, drop-drop, drop-take, drop_at, take-take, take_all, places, same_lists}
+use Rattle.std.proofs.lemmas.List.{length-take, length-drop, drop-drop, drop-take, drop_at, take-take, take_all}
 use Rattle.archive_shape_layout.specs.Bytes.{window, word_at}
-use Rattle.archive_shape.specs.Bytes.{overwrite}
+use Rattle.archive_shape_references.specs.Bytes.{overwrite}
+use Rattle.archive_shape_references.proofs.Written.{window_before, window_behind}
 use Rattle.cabinet_layout.specs.Bytes.{Stands}
-
-pub length-overwrite : (bytes : List ℕ) (at : ℕ) (piece : List ℕ) → at + length piece ≤ length bytes → length (overwrite bytes at piece) ≡ length bytes
-length-overwrite bytes at piece h =
-    omega (arith, length-append (take at bytes) (piece ++ drop (at + length piece) bytes), length-append piece (drop (at + length piece) bytes), length-take at bytes, length-drop (at + length piece) bytes)
 
 pub length-window : (bytes : List ℕ) (pos size : ℕ) → pos + size ≤ length bytes → length (window bytes pos size) ≡ size
 length-window bytes pos size h = omega (arith, length-take size (drop pos bytes), length-drop pos bytes)
 
 module _ (bytes : List ℕ) (at : ℕ) (piece : List ℕ) (fits : at + length piece ≤ length bytes) where
-  -- what lies before the write, or behind it, stays
-  pub window_before : (pos size : ℕ) → pos + size ≤ at → window (overwrite bytes at piece) pos size ≡ window bytes pos size
-  window_before pos size h = same_lists _ _ (search (rules, places)) (λ i e l. grind (arith, places))
-
-  pub window_behind : (pos size : ℕ) → at + length piece ≤ pos → window (overwrite bytes at piece) pos size ≡ window bytes pos size
-  window_behind pos size h = same_lists _ _ (search (rules, places)) (λ i e l. grind (arith, places))
-
-  pub stands_there : Stands (overwrite bytes at piece) at piece
-  stands_there = same_lists _ _ (search (rules, places)) (λ i e l. grind (arith, places))
-
   pub stands_before : (pos : ℕ) (other : List ℕ) → pos + length other ≤ at → Stands bytes pos other → Stands (overwrite bytes at piece) pos other
-  stands_before pos other h s = window_before pos (length other) h ∙ s
+  stands_before pos other h s = window_before bytes at piece fits pos (length other) h ∙ s
 
   pub stands_behind : (pos : ℕ) (other : List ℕ) → at + length piece ≤ pos → Stands bytes pos other → Stands (overwrite bytes at piece) pos other
-  stands_behind pos other h s = window_behind pos (length other) h ∙ s
-
-  pub byte_before : (i : ℕ) → i < at → slice_index (overwrite bytes at piece) i ≡ slice_index bytes i
-  byte_before i h = grind (arith, places)
-
--- a window that begins with the write
-pub window_from : (bytes : List ℕ) (at : ℕ) (piece : List ℕ) (size : ℕ) → length piece ≤ size → at + size ≤ length bytes
-    → window (overwrite bytes at piece) at size ≡ piece ++ drop (length piece) (window bytes at size)
-window_from bytes at piece size h k = same_lists _ _ (search (rules, places)) (λ i e l. grind (arith, places))
-
--- writes that do not meet, in either order
-pub overwrites_commute :
-    (bytes : List ℕ) (at : ℕ) (piece : List ℕ) (from : ℕ) (other : List ℕ)
-    → at + length piece ≤ from
-    → from + length other ≤ length bytes
-    → overwrite (overwrite bytes at piece) from other ≡ overwrite (overwrite bytes from other) at piece
-overwrites_commute bytes at piece from other h k =
-    let e = length-overwrite bytes at piece (omega arith) in
-    let f = length-overwrite bytes from other k in
-    same_lists _ _ (length-overwrite (overwrite bytes at piece) from other (omega arith) ∙ e ∙ sym (length-overwrite (overwrite bytes from other) at piece (omega arith) ∙ f)) (λ i e l. grind (arith, places))
+  stands_behind pos other h s = window_behind bytes at piece fits pos (length other) h ∙ s
 
 -- a byte of a window
 pub window_byte : (bytes : List ℕ) (pos size i : ℕ) → i < size → slice_index (window bytes pos size) i ≡ slice_index bytes (pos + i)

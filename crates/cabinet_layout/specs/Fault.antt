@@ -2,8 +2,8 @@
 use Rattle.std.specs.Prelude.{◌≡◌, ◌≢◌, ℕ, ◌+◌, ◌*◌, ◌%◌, ◌<◌, ◌≤◌, List, length, slice_index, Option, Some, None, IsUtf8, ⊤}
 use Rattle.archive_shape_layout.specs.Bytes.{window}
 use Rattle.archive_shape_layout.specs.Content.{before_ff}
-use Rattle.archive_shape.specs.declared.error.Error.{Error}
-use Rattle.archive_shape.specs.declared.error.Error.TheVariants.{InvalidSubtreePointer, Unaligned, InvalidTag, CheckStringRepr, InvalidUtf8}
+use Rattle.archive_shape_checking.specs.declared.error.Error.{Error}
+use Rattle.archive_shape_checking.specs.declared.error.Error.TheVariants.{InvalidSubtreePointer, Unaligned, InvalidTag, CheckStringRepr, InvalidUtf8}
 use Rattle.cabinet_layout.specs.Node.{root_position, target_of_list, len_of_list, elements_at}
 
 -- the eight bytes of an archived text say that it lies elsewhere

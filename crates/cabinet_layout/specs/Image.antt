@@ -3,8 +3,8 @@ use Rattle.std.specs.Prelude.{◌≡◌, ℕ, ◌+◌, ◌-◌, ◌*◌, ◌^◌
 use Rattle.std.specs.Int.{w32, to_le_bytes}
 use Rattle.archive_shape_layout.specs.Bytes.{align_up, word_at}
 use Rattle.archive_shape_layout.specs.Holds.{Region, end_after}
-use Rattle.archive_shape.specs.declared.error.Error.{Error}
-use Rattle.archive_shape.specs.declared.error.Error.TheVariants.{StringTooLong, IsizeOverflow}
+use Rattle.archive_shape_checking.specs.declared.error.Error.{Error}
+use Rattle.archive_shape_checking.specs.declared.error.Error.TheVariants.{StringTooLong, IsizeOverflow}
 use Rattle.cabinet_text.specs.Tree.{Leaf, truth, number, text, Tree, leaf, list, Trees, no_trees, more_trees, count}
 use Rattle.cabinet_layout.specs.Bytes.{Stands, zeros, filler, truth_byte, number_bytes}
 use Rattle.cabinet_layout.specs.Node.{root_position, elements_at}

@@ -1,7 +1,7 @@
 -- Laws of the archives of documents, as statements.
 use Rattle.std.specs.Prelude.{◌≡◌, ◌≢◌, ℕ, ◌+◌, ◌≤◌, List, length, Some}
-use Rattle.archive_shape.specs.declared.error.Error.{Error}
-use Rattle.archive_shape.specs.Bytes.{overwrite}
+use Rattle.archive_shape_checking.specs.declared.error.Error.{Error}
+use Rattle.archive_shape_references.specs.Bytes.{overwrite}
 use Rattle.cabinet_text.specs.Tree.{Leaf, Tree, leaf, IsLeaf, IsDocument, Step, node_at}
 use Rattle.cabinet_text.specs.Answering.{outcome, change}
 use Rattle.cabinet_text.specs.declared.answer.SetAnswer.TheVariants.{Done}

@@ -1,7 +1,7 @@
 -- Texts that are written in runs between their escapes.
 use Rattle.std.proofs.Common.{◌≡◌, ℕ, ◌+◌, ◌-◌, ◌<◌, ◌≤◌, Bool, List, [], ◌∷◌, ◌++◌, length, get_or, take, drop, sym, ap, ◌∙◌, subst, arith, append_assoc, append-nil, length-drop, Result}
 use Rattle.std.proofs.lemmas.List.{take_more, take-append-drop, take_all, get_or-drop}
-use Rattle.archive_shape.specs.declared.error.Error.{Error}
+use Rattle.archive_shape_checking.specs.declared.error.Error.{Error}
 use Rattle.archive_shape.specs.Writing.{Written, Failed, Appends}
 use Rattle.archive_shape.proofs.Joined.{written_both, failed_first, failed_after, appends_after}
 use Rattle.cabinet_text.specs.Spelling.{escaped, escaped_byte}
