@@ -8,7 +8,7 @@ use Rattle.archive_bench.specs.Writes.{with_i64, with_i64s}
 pub signed_sum_more : (term : ℕ → ℤ) (n : ℕ) → signed_sum_below term (n + 1) ≡ signed_sum_below term n +ℤ term n
 signed_sum_more term n = ap (λ (k : ℕ). signed_sum_below term k) (add-one n)
 
--- the number after so many others
+-- the number after n others
 pub next_number : (m n : ℕ) → m < 2 ^ 64 → n < 2 ^ 63 → to_z w64 ((m + n) % 2 ^ 64) ≡ int_wrap w64 (to_z w64 m +ℤ pos n)
 next_number m n small below =
     wrapping_add-bits w64 m n small (omega (arith, below))

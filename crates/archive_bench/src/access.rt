@@ -3,8 +3,8 @@ ghost use Rattle.std.specs.Prelude.{◌≡◌, ◌+◌, ◌≤◌, length};
 ghost use Rattle.archive_bench.specs.Sums.{i64_at, u32_at, target_at};
 ghost use Rattle.archive_bench.specs.Writes.{with_i64};
 
-use archive_shape_numbers::{ArchivedI32, ArchivedI64, ArchivedU32};
 use archive_shape_pointers::RelPtr;
+use archive_shape_portable::{ArchivedI32, ArchivedI64, ArchivedU32};
 use archive_shape_references::{Place, Ref, Seal};
 
 /// The relative pointers that are timed.

@@ -13,14 +13,14 @@ use Rattle.archive_shape_layout.specs.Holds.Holds.{holds_claimed}
 use Rattle.archive_shape_layout.specs.Holds.HoldAll.{holds_none}
 use Rattle.archive_shape_checking.specs.Range.{Range, InRange}
 use Rattle.archive_shape_checking.specs.Accepts.{NestsBelow}
-use Rattle.archive_shape_checking.specs.Asked.{AreAnswered, FirstUnanswered, claim, out_of_range, pointee_span}
-use Rattle.archive_shape_checking.specs.Asked.FirstUnanswered.{unanswered_here, unanswered_later}
-use Rattle.archive_shape_checking.specs.Fault.Fault.{fault_asked, fault_text_behind}
+use Rattle.archive_shape_checking.specs.Questions.{AreAnswered, FirstUnanswered, claim, out_of_range, pointee_span}
+use Rattle.archive_shape_checking.specs.Questions.FirstUnanswered.{unanswered_here, unanswered_later}
+use Rattle.archive_shape_checking.specs.PartFault.PartFault.{fault_unanswered, fault_text_behind}
 use Rattle.archive_shape_checking.specs.Kept.{Kept, range_of, pushed, popped, started_again}
 use Rattle.archive_shape_checking.specs.Checks.{Checks}
 use Rattle.archive_shape_checking.specs.declared.context.PushedRange.{PushedRange}
-use Rattle.archive_shape_checking.specs.declared.error.Error.{Error}
-use Rattle.archive_shape_checking.specs.declared.error.Error.TheVariants.{Unaligned, OutOfMemory, InvalidUtf8, ExceededMaximumSubtreeDepth}
+use Rattle.archive_shape_writing.specs.declared.error.Error.{Error}
+use Rattle.archive_shape_writing.specs.declared.error.Error.TheVariants.{Unaligned, OutOfMemory, InvalidUtf8, ExceededMaximumSubtreeDepth}
 
 -- ---- what is asked of a claim
 
@@ -73,14 +73,14 @@ module _ (names : Names) (bytes : List ℕ) (start len : ℕ) where
   behind_is = refl
 
   pub behind_unclaimed : (k l : Kept) (r : Result (Unit {0}) Error) (e : Error) → r ≡ Err e → (e ≢ OutOfMemory → FirstUnanswered (range_of k) e (claim (pointee_span start str len))) → Checks names bytes (behind start str len) k r l
-  behind_unclaimed k l r e is f inside before tells = rw is (λ other. fault_asked (f other))
+  behind_unclaimed k l r e is f inside before records = rw is (λ other. fault_unanswered (f other))
 
   pub behind_illegal : (k l : Kept) → AreAnswered (range_of k) (claim (pointee_span start str len)) → (IsUtf8 (window bytes start len) → ⊥) → Checks names bytes (behind start str len) k (Err InvalidUtf8) l
-  behind_illegal k l answered illegal inside before tells other = fault_text_behind answered behind_is illegal refl
+  behind_illegal k l answered illegal inside before records other = fault_text_behind answered behind_is illegal refl
 
   pub behind_passes : (k l : Kept) → AreAnswered (range_of k) (claim (pointee_span start str len)) → IsUtf8 (window bytes start len) → l ≡ started_again k (start + len) k.seen → Checks names bytes (behind start str len) k (Ok tt) l
   unfolding Ascends end_after NestsBelow made
-  behind_passes k l answered legal again inside before tells =
+  behind_passes k l answered legal again inside before records =
       let within : InRange (range_of k) start len = answered.0 in
       record {
         passes = record {
@@ -95,5 +95,5 @@ module _ (names : Names) (bytes : List ℕ) (start len : ℕ) where
         };
         seen = k.seen;
         moves = again;
-        tells = tells;
+        records = records;
       }

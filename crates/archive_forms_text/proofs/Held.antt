@@ -7,17 +7,16 @@ use Rattle.archive_shape_layout.specs.Shape.Pointee.{str}
 use Rattle.archive_shape_layout.specs.Value.{Value, Values}
 use Rattle.archive_shape_layout.specs.Value.Value.{string}
 use Rattle.archive_shape_layout.specs.Value.Values.{no_values, more_values}
-use Rattle.archive_shape_layout.specs.Content.{Names, made, before_ff, text_length, shape_content, text_content, pointee_content}
+use Rattle.archive_shape_layout.specs.Content.{Names, made, IsInline, before_ff, text_length, shape_content, text_content, pointee_content}
 use Rattle.archive_shape_layout.specs.Content.Part.{at, behind}
 use Rattle.archive_shape_layout.specs.Content.Label.{written, same}
-use Rattle.archive_shape_layout.specs.Holds.{Region, Visit, Opened, Holds, HoldAll}
+use Rattle.archive_shape_layout.specs.Holds.{Region, Visit, OpenShared, Holds, HoldAll}
 use Rattle.archive_shape_layout.specs.Holds.HoldAll.{holds_none, holds_more}
 use Rattle.archive_shape_layout.proofs.Unique.{by_plain, by_claimed}
 use Rattle.archive_shape_checking.proofs.Inverted.{IsKnown, held_is_known}
-use Rattle.archive_shape_checking.proofs.Asked.{tested_known, followed_known}
+use Rattle.archive_shape_checking.proofs.Questions.{tested_known, followed_known}
 use Rattle.archive_forms_text.specs.Text.{own_bytes, IsTextThere, HeldIsText}
-use Rattle.archive_shape_references.specs.Sealing.{begins_inline}
-use Rattle.archive_forms_text.specs.Text.Stands.{inline, out_of_line}
+use Rattle.archive_forms_text.specs.Text.LiesAt.{inline, out_of_line}
 use Rattle.archive_forms_text.proofs.Checked.{chosen_no, inline_is, far_is}
 use Rattle.archive_forms_text.proofs.Placed.{before_ff-take}
 
@@ -43,7 +42,7 @@ unfolding made
 made_same w v vs one e = let some : made same (more_values w no_values) ≡ Some v = subst (λ x. made same x ≡ Some v) one e in cc
 
 module _ (names : Names) (bytes : List ℕ) where
-  no_parts : {level : ℕ} {inside : List Opened} {vs : Values} {regions : List Region} {before after : List Visit} → HoldAll names bytes level inside [] vs regions before after → vs ≡ no_values
+  no_parts : {level : ℕ} {inside : List OpenShared} {vs : Values} {regions : List Region} {before after : List Visit} → HoldAll names bytes level inside [] vs regions before after → vs ≡ no_values
   no_parts (holds_none e r a) = e
 
   -- the text that a pointer leads to
@@ -52,7 +51,7 @@ module _ (names : Names) (bytes : List ℕ) where
     value : v ≡ string (window bytes start len)
     claims : All (λ r. r.start + r.size ≤ length bytes) regions → start + len ≤ length bytes
 
-  text_behind : {level : ℕ} {inside : List Opened} {v : Value} {regions : List Region} {before after : List Visit} (start len : ℕ) → Holds names bytes level inside (behind start str len) v regions before after → TextBehind start len v regions
+  text_behind : {level : ℕ} {inside : List OpenShared} {v : Value} {regions : List Region} {before after : List Visit} (start len : ℕ) → Holds names bytes level inside (behind start str len) v regions before after → TextBehind start len v regions
   unfolding pointee_content
   text_behind start len h =
       let own = by_claimed names bytes refl h in
@@ -62,7 +61,7 @@ module _ (names : Names) (bytes : List ℕ) where
         claims = λ all. last_passes (λ r. r.start + r.size ≤ length bytes) own.within _ (subst (All (λ r. r.start + r.size ≤ length bytes)) own.regions_are all);
       }
 
-  one_behind : {level : ℕ} {inside : List Opened} {vs : Values} {v : Value} {regions : List Region} {before after : List Visit} (start len : ℕ) → HoldAll names bytes level inside (behind start str len ∷ []) vs regions before after → made same vs ≡ Some v → TextBehind start len v regions
+  one_behind : {level : ℕ} {inside : List OpenShared} {vs : Values} {v : Value} {regions : List Region} {before after : List Visit} (start len : ℕ) → HoldAll names bytes level inside (behind start str len ∷ []) vs regions before after → made same vs ≡ Some v → TextBehind start len v regions
   one_behind start len (holds_more {v = w} {here = here} x (holds_none none empty stays) is joined) e =
       let there = text_behind start len x in
       record {
@@ -71,9 +70,9 @@ module _ (names : Names) (bytes : List ℕ) where
         claims = λ all. there.claims (subst (All (λ r. r.start + r.size ≤ length bytes)) (joined ∙ ap (λ rs. here ++ rs) empty ∙ append-nil here) all);
       }
 
-module _ (names : Names) (bytes : List ℕ) (level : ℕ) (inside : List Opened) (pos : ℕ) (v : Value) (regions : List Region) (before after : List Visit)
+module _ (names : Names) (bytes : List ℕ) (level : ℕ) (inside : List OpenShared) (pos : ℕ) (v : Value) (regions : List Region) (before after : List Visit)
     (fits : pos + 8 ≤ length bytes) (within : All (λ r. r.start + r.size ≤ length bytes) regions) (h : Holds names bytes level inside (at pos text) v regions before after) where
-  held_inline : begins_inline (slice_index (own_bytes bytes pos) 0) → IsTextThere bytes pos v
+  held_inline : IsInline (slice_index (own_bytes bytes pos) 0) → IsTextThere bytes pos v
   held_inline begins =
       let own = own_bytes bytes pos in
       let says = by_plain names bytes (inline_is names bytes pos own refl begins) h in
@@ -89,7 +88,7 @@ module _ (names : Names) (bytes : List ℕ) (level : ℕ) (inside : List Opened)
         value = made_written _ _ _ (no_parts names bytes says.all) says.is_made;
       }
 
-  held_far : (begins_inline (slice_index (own_bytes bytes pos) 0) → ⊥) → IsTextThere bytes pos v
+  held_far : (IsInline (slice_index (own_bytes bytes pos) 0) → ⊥) → IsTextThere bytes pos v
   unfolding shape_content text_content
   held_far begins =
       let own = own_bytes bytes pos in

@@ -1,14 +1,13 @@
 -- Where a text stands, by its own bytes.
 use Rattle.std.proofs.Common.{◌≡◌, ℕ, zero, suc, ◌==◌, ◌<◌, Bool, true, false, List, [], ◌∷◌, length, take, drop, slice_index, Some, cond, if◌then◌else◌, refl, sym, ap, subst, ◌∙◌, arith, length-take, length-drop}
 use Rattle.archive_shape_layout.specs.Bytes.{window, word_at, target_from}
-use Rattle.archive_shape_layout.specs.Content.{before_ff, text_length}
+use Rattle.archive_shape_layout.specs.Content.{IsInline, before_ff, text_length}
 use Rattle.archive_forms_text.specs.Once.{one_place}
 use Rattle.archive_forms_text.specs.Repr.{length_of}
-use Rattle.archive_forms_text.specs.Text.{own_bytes, Stands, HasText, IsText}
-use Rattle.archive_shape_references.specs.Sealing.{begins_inline}
-use Rattle.archive_forms_text.specs.Text.Stands.{inline, out_of_line}
+use Rattle.archive_forms_text.specs.Text.{own_bytes, LiesAt, HasText, IsText}
+use Rattle.archive_forms_text.specs.Text.LiesAt.{inline, out_of_line}
 
--- the bytes before the first ff of so many bytes are the first of them
+-- the bytes before the first ff of n bytes are the first of them
 pub before_ff-take : (n : ℕ) (xs : List ℕ) → before_ff (take n xs) ≡ take (length (before_ff (take n xs))) xs
 before_ff-take zero xs = refl
 before_ff-take (suc n) [] = refl
@@ -26,7 +25,7 @@ pub record StandsFar (bytes : List ℕ) (pos start len : ℕ) : Type 0 where
   pub long : 8 < len
   pub leads : target_from pos (word_at (own_bytes bytes pos) 4) ≡ Some start
 
-pub stands_far : (bytes : List ℕ) (pos start len : ℕ) → Stands bytes pos start len → (begins_inline (slice_index (own_bytes bytes pos) 0) → ⊥) → StandsFar bytes pos start len
+pub stands_far : (bytes : List ℕ) (pos start len : ℕ) → LiesAt bytes pos start len → (IsInline (slice_index (own_bytes bytes pos) 0) → ⊥) → StandsFar bytes pos start len
 stands_far bytes pos start len (inline a e) n = absurd (n a)
 stands_far bytes pos start len (out_of_line a e f g) n = record { says = e; long = f; leads = g }
 
@@ -37,7 +36,7 @@ chosen_false : (b : Bool) (m n : ℕ) → (b ≡ true → ⊥) → (if b then m 
 chosen_false true m n h = absurd (h refl)
 chosen_false false m n h = refl
 
-pub stands_long : (bytes : List ℕ) (pos start len : ℕ) → Stands bytes pos start len → len ≡ length_of (own_bytes bytes pos)
+pub stands_long : (bytes : List ℕ) (pos start len : ℕ) → LiesAt bytes pos start len → len ≡ length_of (own_bytes bytes pos)
 stands_long bytes pos start len (inline a e) =
     e ∙ sym (chosen_true _ (length (before_ff (own_bytes bytes pos))) (text_length (word_at (own_bytes bytes pos) 0)) a)
 stands_long bytes pos start len (out_of_line a e f g) =
@@ -46,19 +45,19 @@ stands_long bytes pos start len (out_of_line a e f g) =
 -- ---- the text itself
 
 module _ (bytes : List ℕ) (pos : ℕ) (there : HasText bytes pos) (own : List ℕ) (is : own ≡ own_bytes bytes pos) where
-  text_from : (start len : ℕ) (t : List ℕ) → Stands bytes pos start len → t ≡ window bytes start len → IsText bytes pos t
+  text_from : (start len : ℕ) (t : List ℕ) → LiesAt bytes pos start len → t ≡ window bytes start len → IsText bytes pos t
   text_from start len t stands e =
       let place = one_place bytes pos start len there.start there.len stands there.stands in
       record { there = there; is = e ∙ ap (λ n. window bytes n len) place.0 ∙ ap (window bytes there.start) place.1 }
 
-  pub inline_text : (t : List ℕ) → begins_inline (slice_index own 0) → t ≡ before_ff own → IsText bytes pos t
+  pub inline_text : (t : List ℕ) → IsInline (slice_index own 0) → t ≡ before_ff own → IsText bytes pos t
   inline_text t begins e =
-      let first : begins_inline (slice_index (own_bytes bytes pos) 0) = subst (λ bs. begins_inline (slice_index bs 0)) is begins in
+      let first : IsInline (slice_index (own_bytes bytes pos) 0) = subst (λ bs. IsInline (slice_index bs 0)) is begins in
       text_from pos (length (before_ff (own_bytes bytes pos))) t (inline first refl) (e ∙ ap before_ff is ∙ before_ff-take 8 (drop pos bytes))
 
-  pub far_text : (start len : ℕ) (t : List ℕ) → (begins_inline (slice_index own 0) → ⊥) → len ≡ text_length (word_at own 0) → target_from pos (word_at own 4) ≡ Some start → t ≡ window bytes start len → IsText bytes pos t
+  pub far_text : (start len : ℕ) (t : List ℕ) → (IsInline (slice_index own 0) → ⊥) → len ≡ text_length (word_at own 0) → target_from pos (word_at own 4) ≡ Some start → t ≡ window bytes start len → IsText bytes pos t
   far_text start len t begins says leads e =
-      let first : begins_inline (slice_index (own_bytes bytes pos) 0) → ⊥ = subst (λ bs. begins_inline (slice_index bs 0) → ⊥) is begins in
+      let first : IsInline (slice_index (own_bytes bytes pos) 0) → ⊥ = subst (λ bs. IsInline (slice_index bs 0) → ⊥) is begins in
       let far = stands_far bytes pos there.start there.len there.stands first in
       let length_says : len ≡ text_length (word_at (own_bytes bytes pos) 0) = says ∙ ap (λ bs. text_length (word_at bs 0)) is in
       let long : 8 < len = subst (λ n. 8 < n) (far.says ∙ sym length_says) far.long in

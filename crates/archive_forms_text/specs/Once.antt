@@ -1,11 +1,11 @@
 -- One text stands at a position.
 use Rattle.std.proofs.Common.{◌≡◌, ℕ, List, Option, Some, refl, sym, ap, ◌∙◌}
 use Rattle.archive_shape_layout.specs.Bytes.{window}
-use Rattle.archive_forms_text.specs.Text.{Stands, OneText}
-use Rattle.archive_forms_text.specs.Text.Stands.{inline, out_of_line}
+use Rattle.archive_forms_text.specs.Text.{LiesAt, OneText}
+use Rattle.archive_forms_text.specs.Text.LiesAt.{inline, out_of_line}
 
 -- it begins at one position and has one length
-pub one_place : (bytes : List ℕ) (pos start len begin size : ℕ) → Stands bytes pos start len → Stands bytes pos begin size → (start ≡ begin) × (len ≡ size)
+pub one_place : (bytes : List ℕ) (pos start len begin size : ℕ) → LiesAt bytes pos start len → LiesAt bytes pos begin size → (start ≡ begin) × (len ≡ size)
 one_place bytes pos start len begin size (inline a e) (inline b f) = (refl, e ∙ sym f)
 one_place bytes pos start len begin size (inline a e) (out_of_line b f g h) = absurd (b a)
 one_place bytes pos start len begin size (out_of_line a e f g) (inline b h) = absurd (a b)

@@ -1,13 +1,12 @@
 -- What the eight bytes of an archived text say.
-use Rattle.std.specs.Prelude.{◌≡◌, ℕ, ◌<◌, ◌≤◌, ◌^◌, List, length, slice_index, nat_lt, nat_le, ◌||◌, if◌then◌else◌}
+use Rattle.std.specs.Prelude.{◌≡◌, ℕ, ◌<◌, ◌≤◌, ◌^◌, List, length, slice_index, if◌then◌else◌}
 use Rattle.archive_shape_layout.specs.Bytes.{word_at}
-use Rattle.archive_shape_layout.specs.Content.{before_ff, text_length}
+use Rattle.archive_shape_layout.specs.Content.{begins_inline, before_ff, text_length}
 
 -- the length of the text
 abbrev pub length_of : List ℕ → ℕ
 length_of own =
-    let first = slice_index own 0 in
-    if nat_lt first 128 || nat_le 192 first then length (before_ff own) else text_length (word_at own 0)
+    if begins_inline (slice_index own 0) then length (before_ff own) else text_length (word_at own 0)
 
 -- the greatest length that a length word says
 pub record IsGreatestLength (most : ℕ) : Type 0 where

@@ -4,35 +4,34 @@ use Rattle.archive_shape_layout.specs.Bytes.{window, word_at, target_from}
 use Rattle.archive_shape_layout.specs.Shape.Shape.{text}
 use Rattle.archive_shape_layout.specs.Value.{Value}
 use Rattle.archive_shape_layout.specs.Value.Value.{string}
-use Rattle.archive_shape_layout.specs.Content.{Names, before_ff, text_length}
+use Rattle.archive_shape_layout.specs.Content.{Names, IsInline, before_ff, text_length}
 use Rattle.archive_shape_layout.specs.Content.Part.{at}
-use Rattle.archive_shape_layout.specs.Holds.{Region, Visit, Opened, Holds}
-use Rattle.archive_shape_references.specs.Sealing.{begins_inline}
+use Rattle.archive_shape_layout.specs.Holds.{Region, Visit, OpenShared, Holds}
 
 -- the eight bytes of an archived text
 abbrev pub own_bytes : List ℕ → ℕ → List ℕ
 own_bytes bytes pos = window bytes pos 8
 
--- so many bytes from a position on are those of the archived text at a position
-pub data Stands (bytes : List ℕ) (pos : ℕ) : (start len : ℕ) → Type 0 where
+-- n bytes from a position on are those of the archived text at a position
+pub data LiesAt (bytes : List ℕ) (pos : ℕ) : (start len : ℕ) → Type 0 where
   -- the bytes before the first ff
   inline : {len : ℕ}
-      → begins_inline (slice_index (own_bytes bytes pos) 0)
+      → IsInline (slice_index (own_bytes bytes pos) 0)
       → len ≡ length (before_ff (own_bytes bytes pos))
-      → Stands bytes pos pos len
+      → LiesAt bytes pos pos len
   -- at the target of the offset, as many as the length word says, and more than eight
   out_of_line : {start len : ℕ}
-      → (begins_inline (slice_index (own_bytes bytes pos) 0) → ⊥)
+      → (IsInline (slice_index (own_bytes bytes pos) 0) → ⊥)
       → len ≡ text_length (word_at (own_bytes bytes pos) 0)
       → 8 < len
       → target_from pos (word_at (own_bytes bytes pos) 4) ≡ Some start
-      → Stands bytes pos start len
+      → LiesAt bytes pos start len
 
 -- bytes have an archived text at a position
 pub record HasText (bytes : List ℕ) (pos : ℕ) : Type 0 where
   pub start : ℕ
   pub len : ℕ
-  pub stands : Stands bytes pos start len
+  pub stands : LiesAt bytes pos start len
   pub own_within : pos + 8 ≤ length bytes
   pub within : start + len ≤ length bytes
   pub is_text : IsUtf8 (window bytes start len)
@@ -55,7 +54,7 @@ pub record IsTextThere (bytes : List ℕ) (pos : ℕ) (v : Value) : Type 0 where
 -- where the layout has a value of the shape of texts, and what it claims lies in the buffer, that text stands there
 abbrev pub HeldIsText : Type 0
 HeldIsText =
-    (names : Names) (bytes : List ℕ) (level : ℕ) (inside : List Opened) (pos : ℕ) (v : Value) (regions : List Region) (before after : List Visit)
+    (names : Names) (bytes : List ℕ) (level : ℕ) (inside : List OpenShared) (pos : ℕ) (v : Value) (regions : List Region) (before after : List Visit)
     → pos + 8 ≤ length bytes
     → All (λ r. r.start + r.size ≤ length bytes) regions
     → Holds names bytes level inside (at pos text) v regions before after

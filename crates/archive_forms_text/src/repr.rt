@@ -2,9 +2,8 @@
 ghost use Rattle.std.specs.Prelude.{◌≡◌, ◌+◌, ◌↔◌, ◌<◌, ◌≤◌, ◌^◌, length, slice_index, IsTrue};
 ghost use Rattle.std.specs.Int.{w32, cast_signed};
 ghost use Rattle.archive_shape_layout.specs.Bytes.{word_at, target_from};
-ghost use Rattle.archive_shape_layout.specs.Content.{before_ff, text_length};
+ghost use Rattle.archive_shape_layout.specs.Content.{IsInline, before_ff, text_length};
 ghost use Rattle.archive_forms_text.specs.Text.{own_bytes};
-ghost use Rattle.archive_shape_references.specs.Sealing.{begins_inline};
 ghost use Rattle.archive_forms_text.specs.Repr.{length_of};
 
 /// The eight bytes of the text at `pos`.
@@ -61,7 +60,7 @@ impl ArchivedStringRepr {
     /// Whether the text stands in the eight bytes.
     pub fn is_inline(own: &[u8]) -> bool
         requires { length own.now ≡ 8 }
-        ensures { IsTrue result ↔ begins_inline (slice_index own.now 0) }
+        ensures { IsTrue result ↔ IsInline (slice_index own.now 0) }
     {
         own[0] < 0x80 || 0xc0 <= own[0]
     }
@@ -70,7 +69,7 @@ impl ArchivedStringRepr {
     pub fn len(own: &[u8]) -> usize
         requires { length own.now ≡ 8 }
         ensures length { result ≡ length_of own.now }
-        ensures inline_capacity { begins_inline (slice_index own.now 0) → result ≤ ArchivedStringRepr.INLINE_CAPACITY }
+        ensures inline_capacity { IsInline (slice_index own.now 0) → result ≤ ArchivedStringRepr.INLINE_CAPACITY }
         ensures capacity { result ≤ ArchivedStringRepr.OUT_OF_LINE_CAPACITY }
     {
         if ArchivedStringRepr::is_inline(own) {

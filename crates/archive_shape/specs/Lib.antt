@@ -1,4 +1,3 @@
 pub mod Pooling
 pub mod Progress
 pub mod Sharing
-pub mod Writing

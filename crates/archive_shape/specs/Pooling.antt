@@ -4,7 +4,7 @@ use Rattle.archive_shape.specs.Progress.Progress.{unmet, begun, ended}
 use Rattle.archive_shape.specs.declared.pooling.PoolingState.{PoolingState}
 use Rattle.archive_shape.specs.declared.pooling.PoolingState.TheVariants.{Started, Pending, Finished}
 
-abbrev pub told : {T : Type 0} → PoolingState T → Progress T
-told Started = unmet
-told Pending = begun
-told (Finished value) = ended value
+abbrev pub progress_of : {T : Type 0} → PoolingState T → Progress T
+progress_of Started = unmet
+progress_of Pending = begun
+progress_of (Finished value) = ended value

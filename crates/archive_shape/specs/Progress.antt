@@ -1,7 +1,7 @@
 -- Work that is done once for each number: a shared value is written once for its key, and read once from its position.
 use Rattle.std.specs.Prelude.{◌≡◌, ◌≢◌, ℕ, Result, Ok, Err}
-use Rattle.archive_shape_checking.specs.declared.error.Error.{Error}
-use Rattle.archive_shape_checking.specs.declared.error.Error.TheVariants.{NotStarted, AlreadyFinished}
+use Rattle.archive_shape_writing.specs.declared.error.Error.{Error}
+use Rattle.archive_shape_writing.specs.declared.error.Error.TheVariants.{NotStarted, AlreadyFinished}
 
 -- it was not met, has begun, or has ended with an outcome
 pub data Progress (A : Type 0) : Type 0 where
@@ -25,9 +25,9 @@ module _ {A : Type 0} (old new : ℕ → Progress A) where
   Begins n begun = IsSame
   Begins n (ended x) = IsSame
 
-  pub record Starts (n : ℕ) (told : Progress A) : Type 0 where
-    pub is_told : old n ≡ told
-    pub begins : Begins n told
+  pub record Starts (n : ℕ) (was_known : Progress A) : Type 0 where
+    pub was : old n ≡ was_known
+    pub begins : Begins n was_known
 
   -- finishing ends what has begun with this outcome, and refuses all else
   abbrev pub Finishes : ℕ → A → Result (Unit {0}) Error → Progress A → Type 0

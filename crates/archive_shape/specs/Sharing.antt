@@ -5,7 +5,7 @@ use Rattle.archive_shape.specs.Progress.Progress.{unmet, begun, ended}
 use Rattle.archive_shape.specs.declared.sharing.SharingState.{SharingState}
 use Rattle.archive_shape.specs.declared.sharing.SharingState.TheVariants.{Started, Pending, Finished}
 
-abbrev pub told : SharingState → Progress ℕ
-told Started = unmet
-told Pending = begun
-told (Finished pos) = ended pos
+abbrev pub progress_of : SharingState → Progress ℕ
+progress_of Started = unmet
+progress_of Pending = begun
+progress_of (Finished pos) = ended pos

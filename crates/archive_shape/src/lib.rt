@@ -4,19 +4,21 @@
 mod copy;
 mod key;
 mod memory;
-mod pieces;
 mod pooling;
 mod sharing;
 mod steps;
 #[cfg(test)]
 mod tests;
-mod writer;
 
 pub use archive_shape_checking::{
-    ArchiveContext, CheckBytes, Error, PushedRange, SharedContext, ValidationState,
-    accepted_is_answered, check_leaf, fault_refuses, one_fault,
+    ArchiveContext, CheckBytes, PushedRange, SharedContext, ValidationState, accepted_is_answered,
+    check_leaf, fault_refuses, one_fault,
 };
-pub use archive_shape_numbers::{
+pub use archive_shape_pointers::{
+    Offset, RawRelPtr, RawRelPtrI8, RawRelPtrI16, RawRelPtrI32, RawRelPtrI64, RawRelPtrU8,
+    RawRelPtrU16, RawRelPtrU32, RawRelPtrU64, RelPtr, signed_offset,
+};
+pub use archive_shape_portable::{
     Alignment, ArchivedChar, ArchivedI16, ArchivedI32, ArchivedI64, ArchivedI128, ArchivedIsize,
     ArchivedLeaf, ArchivedNonZeroI16, ArchivedNonZeroI32, ArchivedNonZeroI64, ArchivedNonZeroI128,
     ArchivedNonZeroIsize, ArchivedNonZeroU16, ArchivedNonZeroU32, ArchivedNonZeroU64,
@@ -25,18 +27,15 @@ pub use archive_shape_numbers::{
     Native, NoUndef, Pointee, Portable, Shape, Shapes, Width, illegal_is_refused, leaf_is_read,
     same_shape,
 };
-pub use archive_shape_pointers::{
-    Offset, RawRelPtr, RawRelPtrI8, RawRelPtrI16, RawRelPtrI32, RawRelPtrI64, RawRelPtrU8,
-    RawRelPtrU16, RawRelPtrU32, RawRelPtrU64, RelPtr, signed_offset,
-};
 pub use archive_shape_references::{
     ArchivePointee, LayoutRaw, Metadata, OwnSeal, Place, Ref, Seal, Slice, Str, overwrite_spares,
+};
+pub use archive_shape_writing::{
+    Error, Positional, Writer, write_all_pieces, write_three_pieces, write_two_pieces,
 };
 pub use copy::CopyOptimization;
 pub use key::ArchivedKey;
 pub use memory::Allocator;
-pub use pieces::{write_all_pieces, write_three_pieces, write_two_pieces};
 pub use pooling::{Pooling, PoolingState};
 pub use sharing::{Sharing, SharingState};
 pub use steps::Steps;
-pub use writer::{Positional, Writer};

@@ -1,8 +1,8 @@
 //! What keeps the values that are shared, while an archive is read.
 ghost use Rattle.std.specs.Prelude.{◌≡◌, ℕ, MatchResult};
-ghost use Rattle.archive_shape.specs.Pooling.{told};
+ghost use Rattle.archive_shape.specs.Pooling.{progress_of};
 ghost use Rattle.archive_shape.specs.Progress.{Progress, Starts, Finishes};
-ghost use Rattle.archive_shape_checking.specs.declared.error.Error.TheVariants.{OutOfMemory};
+ghost use Rattle.archive_shape_writing.specs.declared.error.Error.TheVariants.{OutOfMemory};
 
 use crate::Error;
 
@@ -24,7 +24,7 @@ pub trait Pooling<T> {
 
     /// Tells what is known of the value at a position, and begins one that was not met.
     fn start_pooling(&mut self, pos: usize) -> Result<PoolingState<T>, Error>
-        ensures { MatchResult result (λ state. Starts (known self.old) (known self.new) pos (told state)) (λ e. e ≡ OutOfMemory) };
+        ensures { MatchResult result (λ state. Starts (known self.old) (known self.new) pos (progress_of state)) (λ e. e ≡ OutOfMemory) };
 
     /// Finishes a value that has begun, of which this was made. It takes no memory: the entry was made at its start.
     fn finish_pooling(&mut self, pos: usize, value: T) -> Result<(), Error>

@@ -1,8 +1,8 @@
 //! What keeps the values that are shared, while an archive is written.
 ghost use Rattle.std.specs.Prelude.{◌≡◌, ℕ, MatchResult};
 ghost use Rattle.archive_shape.specs.Progress.{Progress, Starts, Finishes};
-ghost use Rattle.archive_shape.specs.Sharing.{told};
-ghost use Rattle.archive_shape_checking.specs.declared.error.Error.TheVariants.{OutOfMemory};
+ghost use Rattle.archive_shape.specs.Sharing.{progress_of};
+ghost use Rattle.archive_shape_writing.specs.declared.error.Error.TheVariants.{OutOfMemory};
 
 use crate::Error;
 
@@ -25,7 +25,7 @@ pub trait Sharing {
 
     /// Tells what is known of the value, and begins one that was not met.
     fn start_sharing(&mut self, key: usize) -> Result<SharingState, Error>
-        ensures { MatchResult result (λ state. Starts (known self.old) (known self.new) key (told state)) (λ e. e ≡ OutOfMemory) };
+        ensures { MatchResult result (λ state. Starts (known self.old) (known self.new) key (progress_of state)) (λ e. e ≡ OutOfMemory) };
 
     /// Finishes a value that has begun, at this position. It takes no memory: the entry was made at its start.
     fn finish_sharing(&mut self, key: usize, pos: usize) -> Result<(), Error>

@@ -8,14 +8,14 @@ use Rattle.archive_shape_layout.specs.Content.Part.{at, behind, buckets}
 use Rattle.archive_shape_layout.specs.Content.{place}
 use Rattle.archive_shape_layout.specs.Content.Label.{total}
 use Rattle.archive_shape_layout.specs.Content.Content.{plain, claimed, counting}
-use Rattle.archive_shape_layout.specs.Holds.{Visit, Opened}
+use Rattle.archive_shape_layout.specs.Holds.{Visit, OpenShared}
 use Rattle.archive_shape_checking.specs.Range.{Range, narrowed_to}
 use Rattle.archive_shape_checking.specs.Accepts.{Passes, PassesAll}
-use Rattle.archive_shape_checking.specs.Asked.{AreAnswered, FirstUnanswered, asked_of, out_of_range}
-use Rattle.archive_shape_checking.specs.Fault.{Fault, FaultIn, Entry, entry_at, Clash, HasTable, HasNoEntries, entries_size, counted_items}
-use Rattle.archive_shape_checking.specs.Fault.Fault.{fault_asked, fault_plain, fault_claimed, fault_text, fault_text_behind, fault_total, fault_table, fault_entries, fault_again, fault_first}
-use Rattle.archive_shape_checking.specs.declared.error.Error.{Error}
-use Rattle.archive_shape_checking.specs.declared.error.Error.TheVariants.{InvalidUtf8, EntriesLengthMismatch}
+use Rattle.archive_shape_checking.specs.Questions.{AreAnswered, FirstUnanswered, questions_of, out_of_range}
+use Rattle.archive_shape_checking.specs.PartFault.{PartFault, PartsFault, Entry, entry_at, Clash, HasTable, HasNoEntries, entries_size, counted_items}
+use Rattle.archive_shape_checking.specs.PartFault.PartFault.{fault_unanswered, fault_plain, fault_claimed, fault_text, fault_text_behind, fault_total, fault_table, fault_entries, fault_again, fault_first}
+use Rattle.archive_shape_writing.specs.declared.error.Error.{Error}
+use Rattle.archive_shape_writing.specs.declared.error.Error.TheVariants.{InvalidUtf8, EntriesLengthMismatch}
 use Rattle.archive_shape_checking.proofs.Refused.{answered_or_not, map_illegal}
 
 -- a kept map has one table
@@ -26,30 +26,30 @@ one_table bytes pos q r h i =
     let same : h.target ≡ i.target = cc in
     h.part ∙ ap (λ t. buckets t len (word_at (window bytes pos 16) 8) (place len)) same ∙ sym i.part
 
-module _ (names : Names) (bytes : List ℕ) (inside : List Opened) (before : List Visit) where
+module _ (names : Names) (bytes : List ℕ) (inside : List OpenShared) (before : List Visit) where
   -- with nothing claimed round its parts
   pub data InPlain (l : Label) (ps : List Part) (k : Range) (e : Error) : Type 0 where
-    plain_parts : FaultIn names bytes inside before ps k e → InPlain l ps k e
+    plain_parts : PartsFault names bytes inside before ps k e → InPlain l ps k e
     plain_text : (IsLegal l → ⊥) → e ≡ InvalidUtf8 → InPlain l ps k e
     plain_total : {n : ℕ} → l ≡ total n → (q : PassesAll names bytes inside before ps k) → counted_items q.values ≢ n → e ≡ EntriesLengthMismatch (counted_items q.values) n → InPlain l ps k e
 
-  -- with a region claimed behind them
+  -- with a region claimed after them
   pub data InClaimed (s : Span) (l : Label) (ps : List Part) (k : Range) (e : Error) : Type 0 where
-    claimed_parts : FaultIn names bytes inside before ps (narrowed_to k s.start) e → InClaimed s l ps k e
+    claimed_parts : PartsFault names bytes inside before ps (narrowed_to k s.start) e → InClaimed s l ps k e
     claimed_text : (IsLegal l → ⊥) → e ≡ InvalidUtf8 → InClaimed s l ps k e
 
   -- of a kept map whose entries lie before the bytes
   pub data InMap (pos : ℕ) (key value : Shape) (q : Part) (k : Range) (e : Error) : Type 0 where
-    map_table : Fault names bytes inside before q k e → InMap pos key value q k e
+    map_table : PartFault names bytes inside before q k e → InMap pos key value q k e
     map_entries : Passes names bytes inside before q k → e ≡ out_of_range (entries_size bytes pos key value) → InMap pos key value q k e
 
   -- of a counted pointer
   pub data InCounting (t : ℕ) (q : Pointee) (len : ℕ) (k : Range) (e : Error) : Type 0 where
     counting_again : {x : Entry} → entry_at inside before t ≡ Some x → Clash q len x e → InCounting t q len k e
-    counting_first : entry_at inside before t ≡ None → Fault names bytes (record { pos = t; pointee = q; len = len } ∷ inside) before (behind t q len) k e → InCounting t q len k e
+    counting_first : entry_at inside before t ≡ None → PartFault names bytes (record { pos = t; pointee = q; len = len } ∷ inside) before (behind t q len) k e → InCounting t q len k e
 
-  pub asked_again : (p : Part) (k : Range) (e d : Error) → FirstUnanswered k e (asked_of names bytes p) → Fault names bytes inside before p k d → FirstUnanswered k d (asked_of names bytes p)
-  asked_again p k e d f (fault_asked g) = g
+  pub asked_again : (p : Part) (k : Range) (e d : Error) → FirstUnanswered k e (questions_of names bytes p) → PartFault names bytes inside before p k d → FirstUnanswered k d (questions_of names bytes p)
+  asked_again p k e d f (fault_unanswered g) = g
   asked_again p k e d f (fault_plain a c g) = absurd (answered_or_not k e _ f a)
   asked_again p k e d f (fault_claimed a c g) = absurd (answered_or_not k e _ f a)
   asked_again p k e d f (fault_text a c n g) = absurd (answered_or_not k e _ f a)
@@ -60,11 +60,11 @@ module _ (names : Names) (bytes : List ℕ) (inside : List Opened) (before : Lis
   asked_again p k e d f (fault_again a c m g) = absurd (answered_or_not k e _ f a)
   asked_again p k e d f (fault_first a c n g) = absurd (answered_or_not k e _ f a)
 
-  pub in_plain : (p : Part) (k : Range) (e : Error) (l : Label) (ps : List Part) → AreAnswered k (asked_of names bytes p) → content_of names bytes p ≡ plain l ps → Fault names bytes inside before p k e → InPlain l ps k e
-  in_plain p k e l ps a c (fault_asked f) = absurd (answered_or_not k e _ f a)
+  pub in_plain : (p : Part) (k : Range) (e : Error) (l : Label) (ps : List Part) → AreAnswered k (questions_of names bytes p) → content_of names bytes p ≡ plain l ps → PartFault names bytes inside before p k e → InPlain l ps k e
+  in_plain p k e l ps a c (fault_unanswered f) = absurd (answered_or_not k e _ f a)
   in_plain p k e l ps a c (fault_plain {ps = qs} b d f) =
       let same : qs ≡ ps = cc in
-      plain_parts (subst (λ x. FaultIn names bytes inside before x k e) same f)
+      plain_parts (subst (λ x. PartsFault names bytes inside before x k e) same f)
   in_plain p k e l ps a c (fault_claimed b d f) = absurd (cc)
   in_plain p k e l ps a c (fault_text {l = m} b d n f) =
       let same : m ≡ l = cc in
@@ -82,14 +82,14 @@ module _ (names : Names) (bytes : List ℕ) (inside : List Opened) (before : Lis
   in_plain p k e l ps a c (fault_again b d m f) = absurd (cc)
   in_plain p k e l ps a c (fault_first b d n f) = absurd (cc)
 
-  pub in_claimed : (p : Part) (k : Range) (e : Error) (s : Span) (l : Label) (ps : List Part) → AreAnswered k (asked_of names bytes p) → content_of names bytes p ≡ claimed s l ps → Fault names bytes inside before p k e → InClaimed s l ps k e
-  in_claimed p k e s l ps a c (fault_asked f) = absurd (answered_or_not k e _ f a)
+  pub in_claimed : (p : Part) (k : Range) (e : Error) (s : Span) (l : Label) (ps : List Part) → AreAnswered k (questions_of names bytes p) → content_of names bytes p ≡ claimed s l ps → PartFault names bytes inside before p k e → InClaimed s l ps k e
+  in_claimed p k e s l ps a c (fault_unanswered f) = absurd (answered_or_not k e _ f a)
   in_claimed p k e s l ps a c (fault_plain b d f) = absurd (cc)
   in_claimed p k e s l ps a c (fault_claimed {s = r} {ps = qs} b d f) =
       let same : qs ≡ ps = cc in
       let span : r ≡ s = cc in
-      claimed_parts (subst (λ x. FaultIn names bytes inside before ps (narrowed_to k x.start) e) span
-      (subst (λ x. FaultIn names bytes inside before x (narrowed_to k r.start) e) same f))
+      claimed_parts (subst (λ x. PartsFault names bytes inside before ps (narrowed_to k x.start) e) span
+      (subst (λ x. PartsFault names bytes inside before x (narrowed_to k r.start) e) same f))
   in_claimed p k e s l ps a c (fault_text b d n f) = absurd (cc)
   in_claimed p k e s l ps a c (fault_text_behind {l = m} b d n f) =
       let same : m ≡ l = cc in
@@ -116,8 +116,8 @@ module _ (names : Names) (bytes : List ℕ) (inside : List Opened) (before : Lis
       (subst (λ x. InMap pos x v' r k e) keys
       (subst (λ x. InMap x k' v' r k e) place h)))
 
-  pub in_map : (p : Part) (k : Range) (e : Error) (pos : ℕ) (key value : Shape) (q : Part) → AreAnswered k (asked_of names bytes p) → p ≡ at pos (index_map key value) → HasTable bytes pos q → HasNoEntries bytes pos → Fault names bytes inside before p k e → InMap pos key value q k e
-  in_map p k e pos key value q a i t n (fault_asked f) = absurd (answered_or_not k e _ f a)
+  pub in_map : (p : Part) (k : Range) (e : Error) (pos : ℕ) (key value : Shape) (q : Part) → AreAnswered k (questions_of names bytes p) → p ≡ at pos (index_map key value) → HasTable bytes pos q → HasNoEntries bytes pos → PartFault names bytes inside before p k e → InMap pos key value q k e
+  in_map p k e pos key value q a i t n (fault_unanswered f) = absurd (answered_or_not k e _ f a)
   in_map p k e pos key value q a i t n (fault_plain b d f) = let c = map_illegal names bytes p pos key value q i t n in absurd (cc)
   in_map p k e pos key value q a i t n (fault_claimed b d f) = let c = map_illegal names bytes p pos key value q i t n in absurd (cc)
   in_map p k e pos key value q a i t n (fault_text b d m f) = let c = map_illegal names bytes p pos key value q i t n in absurd (cc)
@@ -142,8 +142,8 @@ module _ (names : Names) (bytes : List ℕ) (inside : List Opened) (before : Lis
       (subst (λ x. InCounting t x n k e) pointees
       (subst (λ x. InCounting x r n k e) place h))
 
-  pub in_counting : (p : Part) (k : Range) (e : Error) (t : ℕ) (q : Pointee) (len : ℕ) → AreAnswered k (asked_of names bytes p) → content_of names bytes p ≡ counting false t q len → Fault names bytes inside before p k e → InCounting t q len k e
-  in_counting p k e t q len a c (fault_asked f) = absurd (answered_or_not k e _ f a)
+  pub in_counting : (p : Part) (k : Range) (e : Error) (t : ℕ) (q : Pointee) (len : ℕ) → AreAnswered k (questions_of names bytes p) → content_of names bytes p ≡ counting false t q len → PartFault names bytes inside before p k e → InCounting t q len k e
+  in_counting p k e t q len a c (fault_unanswered f) = absurd (answered_or_not k e _ f a)
   in_counting p k e t q len a c (fault_plain b d f) = absurd (cc)
   in_counting p k e t q len a c (fault_claimed b d f) = absurd (cc)
   in_counting p k e t q len a c (fault_text b d n f) = absurd (cc)

@@ -3,14 +3,14 @@ use Rattle.std.proofs.Common.{◌≡◌, ℕ, suc, ◌+◌, List, ◌∷◌, sym
 use Rattle.archive_shape_layout.specs.Value.{Value, Values}
 use Rattle.archive_shape_layout.specs.Content.{Names, Part, Span, Label, Content, content_of}
 use Rattle.archive_shape_layout.specs.Content.Content.{plain, claimed, illegal}
-use Rattle.archive_shape_layout.specs.Holds.{Region, region_of, Visit, Opened, Holds, HoldAll, Ascends, end_after}
+use Rattle.archive_shape_layout.specs.Holds.{Region, region_of, Visit, OpenShared, Holds, HoldAll, Ascends, end_after}
 use Rattle.archive_shape_layout.specs.Holds.Holds.{holds_plain, holds_claimed, holds_first, holds_later, holds_back}
 use Rattle.archive_shape_layout.specs.Holds.HoldAll.{holds_more}
 use Rattle.archive_shape_layout.proofs.Unique.{ClaimedHolds, by_plain, by_claimed, one_value, one_list}
 use Rattle.archive_shape_layout.proofs.Ascent.{Ascends-append}
 use Rattle.archive_shape_checking.specs.Range.{Range, narrowed_to}
 use Rattle.archive_shape_checking.specs.Accepts.{Passes, PassesAll, NestsBelow, range_after}
-use Rattle.archive_shape_checking.specs.Asked.{claim, AreAnswered}
+use Rattle.archive_shape_checking.specs.Questions.{claim, AreAnswered}
 use Rattle.archive_shape_checking.proofs.Ranges.{NestsBelow-split, LastOf, last_of}
 
 -- some value may have it
@@ -20,7 +20,7 @@ IsKnown _ = Unit {0}
 
 module _ (names : Names) (bytes : List ℕ) where
   pub held_is_known :
-      {level : ℕ} {inside : List Opened} {p : Part} {v : Value} {rs : List Region} {before after : List Visit}
+      {level : ℕ} {inside : List OpenShared} {p : Part} {v : Value} {rs : List Region} {before after : List Visit}
       → Holds names bytes level inside p v rs before after
       → IsKnown (content_of names bytes p)
   held_is_known (holds_plain e l a m) = subst IsKnown (sym e) tt
@@ -29,7 +29,7 @@ module _ (names : Names) (bytes : List ℕ) where
   held_is_known (holds_later e x y d g h) = subst IsKnown (sym e) tt
   held_is_known (holds_back e x d g h) = subst IsKnown (sym e) tt
 
-  module _ (inside : List Opened) (before : List Visit) where
+  module _ (inside : List OpenShared) (before : List Visit) where
     pub passing_is_known : (p : Part) (k : Range) → Passes names bytes inside before p k → IsKnown (content_of names bytes p)
     passing_is_known p k h = held_is_known h.accepts.holds
 
@@ -82,7 +82,7 @@ module _ (names : Names) (bytes : List ℕ) where
             let nest = NestsBelow-split k.most here later (subst (NestsBelow k.most) r nests) in
             record { value = v; regions = here; after = between; accepts = record { holds = x; ascends = both.0; nests = nest.0 } }
 
-    -- and the others behind what it claims
+    -- and the others after what it claims
     pub later_parts : (p : Part) (ps : List Part) (k : Range) (q : Passes names bytes inside before p k) → PassesAll names bytes inside before (p ∷ ps) k → PassesAll names bytes inside q.after ps (range_after k q.regions)
     later_parts p ps k q h = go h.values h.regions h.accepts.all h.accepts.ascends h.accepts.nests
       where

@@ -19,12 +19,12 @@ use Rattle.archive_shape_layout.specs.Holds.HoldAll.{holds_none}
 use Rattle.archive_shape_native.specs.Numbers.{IsLeafShape, IsIllegal, Reads}
 use Rattle.archive_shape_checking.specs.Range.{Range}
 use Rattle.archive_shape_checking.specs.Accepts.{NestsBelow}
-use Rattle.archive_shape_checking.specs.Asked.{FirstUnanswered, asked_of_shape}
-use Rattle.archive_shape_checking.specs.Asked.FirstUnanswered.{unanswered_here}
-use Rattle.archive_shape_checking.specs.Fault.Fault.{fault_asked}
+use Rattle.archive_shape_checking.specs.Questions.{FirstUnanswered, questions_of_shape}
+use Rattle.archive_shape_checking.specs.Questions.FirstUnanswered.{unanswered_here}
+use Rattle.archive_shape_checking.specs.PartFault.PartFault.{fault_unanswered}
 use Rattle.archive_shape_checking.specs.Kept.{Kept}
 use Rattle.archive_shape_checking.specs.Checks.{Checks}
-use Rattle.archive_shape_checking.specs.declared.error.Error.TheVariants.{InvalidTag}
+use Rattle.archive_shape_writing.specs.declared.error.Error.TheVariants.{InvalidTag}
 
 -- a part without parts is accepted wherever it stands, and what is kept stays as it is
 pub alone_checked :
@@ -34,7 +34,7 @@ pub alone_checked :
     → made l no_values ≡ Some v
     → Checks names bytes p kept (Ok tt) kept
 unfolding Ascends end_after NestsBelow
-alone_checked names bytes p kept l v e legal is_made inside before tells =
+alone_checked names bytes p kept l v e legal is_made inside before records =
     record {
       passes = record {
         value = v;
@@ -44,7 +44,7 @@ alone_checked names bytes p kept l v e legal is_made inside before tells =
       };
       seen = kept.seen;
       moves = refl;
-      tells = tells;
+      records = records;
     }
 
 -- the unit type's value, which has no bytes
@@ -72,7 +72,7 @@ unfolding choose
 chosen_illegal true l e f = let h : false ≡ true = f in cc
 chosen_illegal false l e f = absurd (cc)
 
-pub illegal_unanswered : (names : Names) (k : Range) (pos : ℕ) (own : List ℕ) (s : Shape) → IsLeafShape s → shape_content names pos own s ≡ illegal → FirstUnanswered k InvalidTag (asked_of_shape pos own s)
+pub illegal_unanswered : (names : Names) (k : Range) (pos : ℕ) (own : List ℕ) (s : Shape) → IsLeafShape s → shape_content names pos own s ≡ illegal → FirstUnanswered k InvalidTag (questions_of_shape pos own s)
 unfolding shape_content
 illegal_unanswered names k pos own (number w signed) is_leaf e = absurd (cc)
 illegal_unanswered names k pos own (nonzero w signed) is_leaf e = unanswered_here (chosen_illegal (from_le_bytes w own == 0) _ e) refl
@@ -94,6 +94,6 @@ illegal_unanswered names k pos own (index_map key value) is_leaf e = absurd is_l
 illegal_unanswered names k pos own (named name size align) is_leaf e = absurd is_leaf
 
 pub leaf_refused : (names : Names) (bytes : List ℕ) (pos size : ℕ) (s : Shape) (kept : Kept) → IsLeafShape s → size ≡ size_of s → IsIllegal s (window bytes pos size) → Checks names bytes (at pos s) kept (Err InvalidTag) kept
-leaf_refused names bytes pos size s kept is_leaf e is_illegal inside before tells other =
+leaf_refused names bytes pos size s kept is_leaf e is_illegal inside before records other =
     let own : IsIllegal s (window bytes pos (size_of s)) = subst (λ n. IsIllegal s (window bytes pos n)) e is_illegal in
-    fault_asked (illegal_unanswered names _ pos (window bytes pos (size_of s)) s is_leaf (own names pos))
+    fault_unanswered (illegal_unanswered names _ pos (window bytes pos (size_of s)) s is_leaf (own names pos))

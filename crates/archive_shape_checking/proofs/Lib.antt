@@ -1,7 +1,7 @@
 pub mod Ranges
 pub mod Inverted
-pub mod Asked
-pub mod AskedRegions
+pub mod Questions
+pub mod QuestionedRegions
 pub mod Shared
 pub mod Refused
 pub mod Texts

@@ -11,9 +11,9 @@ use Rattle.std.proofs.lemmas.Option.{slice_get-get_or, slice_get_past}
 use Rattle.std.specs.List.{position_or_len}
 use Rattle.std.specs.Option.{option_or}
 use Rattle.archive_shape_layout.specs.Shape.{Pointee}
-use Rattle.archive_shape_checking.specs.Fault.{Entry}
+use Rattle.archive_shape_checking.specs.PartFault.{Entry}
 use Rattle.archive_shape_checking.specs.Kept.{Kept, Seen, seen_with, with_entry, FinishesShared}
-use Rattle.archive_shape_checking.specs.declared.error.Error.TheVariants.{NotStarted, AlreadyFinished}
+use Rattle.archive_shape_writing.specs.declared.error.Error.TheVariants.{NotStarted, AlreadyFinished}
 
 -- ---- the first place
 

@@ -5,16 +5,16 @@ use Rattle.archive_shape_layout.specs.Content.{Names, Part, Span, Label, content
 use Rattle.archive_shape_layout.specs.Content.Part.{behind}
 use Rattle.archive_shape_layout.specs.Content.Label.{total}
 use Rattle.archive_shape_layout.specs.Content.Content.{plain, claimed}
-use Rattle.archive_shape_layout.specs.Holds.{Visit, Opened}
+use Rattle.archive_shape_layout.specs.Holds.{Visit, OpenShared}
 use Rattle.archive_shape_checking.specs.Range.{Range, narrowed_to}
 use Rattle.archive_shape_checking.specs.Accepts.{Passes, PassesAll, range_after}
-use Rattle.archive_shape_checking.specs.Fault.{Fault, FaultIn, Entry, entry_at, entries_size, Clash, counted_items}
-use Rattle.archive_shape_checking.specs.Fault.Fault.{fault_asked, fault_plain, fault_claimed, fault_text, fault_text_behind, fault_total, fault_table, fault_entries, fault_again, fault_first}
-use Rattle.archive_shape_checking.specs.Fault.FaultIn.{fault_here, fault_later}
-use Rattle.archive_shape_checking.specs.Asked.{out_of_range}
+use Rattle.archive_shape_checking.specs.PartFault.{PartFault, PartsFault, Entry, entry_at, entries_size, Clash, counted_items}
+use Rattle.archive_shape_checking.specs.PartFault.PartFault.{fault_unanswered, fault_plain, fault_claimed, fault_text, fault_text_behind, fault_total, fault_table, fault_entries, fault_again, fault_first}
+use Rattle.archive_shape_checking.specs.PartFault.PartsFault.{fault_here, fault_later}
+use Rattle.archive_shape_checking.specs.Questions.{out_of_range}
 use Rattle.archive_shape_checking.specs.Laws.{OneFault}
-use Rattle.archive_shape_checking.specs.declared.error.Error.{Error}
-use Rattle.archive_shape_checking.specs.declared.error.Error.TheVariants.{InvalidUtf8, EntriesLengthMismatch}
+use Rattle.archive_shape_writing.specs.declared.error.Error.{Error}
+use Rattle.archive_shape_writing.specs.declared.error.Error.TheVariants.{InvalidUtf8, EntriesLengthMismatch}
 use Rattle.archive_shape_checking.proofs.Inverted.{one_passing, one_list_passing}
 use Rattle.archive_shape_checking.proofs.Shared.{one_entry, one_clash}
 use Rattle.archive_shape_checking.proofs.Texts.{illegal_plain, illegal_claimed}
@@ -28,17 +28,17 @@ use Rattle.archive_shape_checking.proofs.ByContent.InCounting.{counting_again, c
 legal_total : (l : Label) (n : ℕ) → l ≡ total n → IsLegal l
 legal_total l n e = subst IsLegal (sym e) tt
 
-module _ (names : Names) (bytes : List ℕ) (inside : List Opened) (before : List Visit) where
-  no_parts : (ps : List Part) (k : Range) (e : Error) → ps ≡ [] → FaultIn names bytes inside before ps k e → ⊥
-  no_parts ps k e n f = none (subst (λ x. FaultIn names bytes inside before x k e) n f)
+module _ (names : Names) (bytes : List ℕ) (inside : List OpenShared) (before : List Visit) where
+  no_parts : (ps : List Part) (k : Range) (e : Error) → ps ≡ [] → PartsFault names bytes inside before ps k e → ⊥
+  no_parts ps k e n f = none (subst (λ x. PartsFault names bytes inside before x k e) n f)
     where
-      none : FaultIn names bytes inside before [] k e → ⊥
+      none : PartsFault names bytes inside before [] k e → ⊥
       none f = elim f [ ]
 
   -- ---- with nothing claimed round the parts
 
   module _ (p : Part) (l : Label) (ps : List Part) (k : Range) (e d : Error) (c : content_of names bytes p ≡ plain l ps) where
-    parts_once : FaultIn names bytes inside before ps k e → (FaultIn names bytes inside before ps k d → e ≡ d) → InPlain names bytes inside before l ps k d → e ≡ d
+    parts_once : PartsFault names bytes inside before ps k e → (PartsFault names bytes inside before ps k d → e ≡ d) → InPlain names bytes inside before l ps k d → e ≡ d
     parts_once f again (plain_parts g) = again g
     parts_once f again (plain_text n g) = absurd (no_parts ps k e (illegal_plain names bytes p l ps c n) f)
     parts_once f again (plain_total h q m g) = absurd (refused_in names bytes inside before ps k e f q)
@@ -56,10 +56,10 @@ module _ (names : Names) (bytes : List ℕ) (inside : List Opened) (before : Lis
         let both : n ≡ m = cc in
         f ∙ ap (λ vs. EntriesLengthMismatch (counted_items vs) n) same ∙ ap (λ x. EntriesLengthMismatch (counted_items r.values) x) both ∙ sym g
 
-  -- ---- with a region claimed behind them
+  -- ---- with a region claimed after them
 
   module _ (p : Part) (s : Span) (l : Label) (ps : List Part) (k : Range) (e d : Error) (c : content_of names bytes p ≡ claimed s l ps) where
-    claimed_once : FaultIn names bytes inside before ps (narrowed_to k s.start) e → (FaultIn names bytes inside before ps (narrowed_to k s.start) d → e ≡ d) → InClaimed names bytes inside before s l ps k d → e ≡ d
+    claimed_once : PartsFault names bytes inside before ps (narrowed_to k s.start) e → (PartsFault names bytes inside before ps (narrowed_to k s.start) d → e ≡ d) → InClaimed names bytes inside before s l ps k d → e ≡ d
     claimed_once f again (claimed_parts g) = again g
     claimed_once f again (claimed_text n g) = absurd (no_parts ps (narrowed_to k s.start) e (illegal_claimed names bytes p s l ps c n) f)
 
@@ -70,7 +70,7 @@ module _ (names : Names) (bytes : List ℕ) (inside : List Opened) (before : Lis
   -- ---- kept maps
 
   module _ (pos : ℕ) (key value : Shape) (q : Part) (k : Range) (e d : Error) where
-    table_once : Fault names bytes inside before q k e → (Fault names bytes inside before q k d → e ≡ d) → InMap names bytes inside before pos key value q k d → e ≡ d
+    table_once : PartFault names bytes inside before q k e → (PartFault names bytes inside before q k d → e ≡ d) → InMap names bytes inside before pos key value q k d → e ≡ d
     table_once f again (map_table g) = again g
     table_once f again (map_entries y g) = absurd (refused names bytes inside before q k e f y)
 
@@ -87,21 +87,21 @@ module _ (names : Names) (bytes : List ℕ) (inside : List Opened) (before : Lis
         one_clash q len x e d f (subst (λ z. Clash q len z d) same g)
     again_once x m f (counting_first n g) = absurd (cc)
 
-    first_once : entry_at inside before t ≡ None → (Fault names bytes (record { pos = t; pointee = q; len = len } ∷ inside) before (behind t q len) k d → e ≡ d) → InCounting names bytes inside before t q len k d → e ≡ d
+    first_once : entry_at inside before t ≡ None → (PartFault names bytes (record { pos = t; pointee = q; len = len } ∷ inside) before (behind t q len) k d → e ≡ d) → InCounting names bytes inside before t q len k d → e ≡ d
     first_once m again (counting_again n g) = absurd (cc)
     first_once m again (counting_first n g) = again g
 
   -- after a part that is accepted
-  after_once : (p : Part) (ps : List Part) (k : Range) (d : Error) (q r : Passes names bytes inside before p k) → FaultIn names bytes inside r.after ps (range_after k r.regions) d → FaultIn names bytes inside q.after ps (range_after k q.regions) d
+  after_once : (p : Part) (ps : List Part) (k : Range) (d : Error) (q r : Passes names bytes inside before p k) → PartsFault names bytes inside r.after ps (range_after k r.regions) d → PartsFault names bytes inside q.after ps (range_after k q.regions) d
   after_once p ps k d q r g =
       let same = one_passing names bytes inside before p k r q in
-      subst (λ x. FaultIn names bytes inside x ps (range_after k q.regions) d) same.1
-      (subst (λ x. FaultIn names bytes inside r.after ps (range_after k x) d) same.0 g)
+      subst (λ x. PartsFault names bytes inside x ps (range_after k q.regions) d) same.1
+      (subst (λ x. PartsFault names bytes inside r.after ps (range_after k x) d) same.0 g)
 
 module _ (names : Names) (bytes : List ℕ) where
   mutual
-    once : (inside : List Opened) (before : List Visit) (p : Part) (k : Range) (e d : Error) → Fault names bytes inside before p k e → Fault names bytes inside before p k d → e ≡ d
-    once inside before p k e d (fault_asked f) g = one_unanswered k e d _ f (asked_again names bytes inside before p k e d f g)
+    once : (inside : List OpenShared) (before : List Visit) (p : Part) (k : Range) (e d : Error) → PartFault names bytes inside before p k e → PartFault names bytes inside before p k d → e ≡ d
+    once inside before p k e d (fault_unanswered f) g = one_unanswered k e d _ f (asked_again names bytes inside before p k e d f g)
     once inside before p k e d (fault_plain {l = l} {ps = ps} a c f) g =
         parts_once names bytes inside before p l ps k e d c f (λ h. once_in inside before ps k e d f h) (in_plain names bytes inside before p k d l ps a c g)
     once inside before p k e d (fault_claimed {s = s} {l = l} {ps = ps} a c f) g =
@@ -121,7 +121,7 @@ module _ (names : Names) (bytes : List ℕ) where
     once inside before p k e d (fault_first {t = t} {q = q} {len = len} a c n f) g =
         first_once names bytes inside before t q len k e d n (λ h. once (record { pos = t; pointee = q; len = len } ∷ inside) before (behind t q len) k e d f h) (in_counting names bytes inside before p k d t q len a c g)
 
-    once_in : (inside : List Opened) (before : List Visit) (ps : List Part) (k : Range) (e d : Error) → FaultIn names bytes inside before ps k e → FaultIn names bytes inside before ps k d → e ≡ d
+    once_in : (inside : List OpenShared) (before : List Visit) (ps : List Part) (k : Range) (e d : Error) → PartsFault names bytes inside before ps k e → PartsFault names bytes inside before ps k d → e ≡ d
     once_in inside before [] k e d f g = elim f [ ]
     once_in inside before (p ∷ ps) k e d (fault_here f) (fault_here g) = once inside before p k e d f g
     once_in inside before (p ∷ ps) k e d (fault_here f) (fault_later q g) = absurd (refused names bytes inside before p k e f q)

@@ -9,19 +9,19 @@ use Rattle.archive_shape_layout.specs.Content.{Names, Part, Content, content_of,
 use Rattle.archive_shape_layout.specs.Content.Part.{at, behind}
 use Rattle.archive_shape_layout.specs.Content.Label.{total}
 use Rattle.archive_shape_layout.specs.Content.Content.{plain, illegal}
-use Rattle.archive_shape_layout.specs.Holds.{Visit, Opened}
+use Rattle.archive_shape_layout.specs.Holds.{Visit, OpenShared}
 use Rattle.archive_shape_layout.proofs.Unique.{by_plain, by_claimed, one_list}
 use Rattle.archive_shape_checking.specs.Range.{Range, narrowed_to}
 use Rattle.archive_shape_checking.specs.Accepts.{Passes, PassesAll, range_after}
-use Rattle.archive_shape_checking.specs.Asked.{Question, AreAnswered, FirstUnanswered}
-use Rattle.archive_shape_checking.specs.Asked.FirstUnanswered.{unanswered_here, unanswered_later}
-use Rattle.archive_shape_checking.specs.Fault.{Fault, FaultIn, HasTable, HasNoEntries, counted_items}
-use Rattle.archive_shape_checking.specs.Fault.Fault.{fault_asked, fault_plain, fault_claimed, fault_text, fault_text_behind, fault_total, fault_table, fault_entries, fault_again, fault_first}
-use Rattle.archive_shape_checking.specs.Fault.FaultIn.{fault_here, fault_later}
+use Rattle.archive_shape_checking.specs.Questions.{Question, AreAnswered, FirstUnanswered}
+use Rattle.archive_shape_checking.specs.Questions.FirstUnanswered.{unanswered_here, unanswered_later}
+use Rattle.archive_shape_checking.specs.PartFault.{PartFault, PartsFault, HasTable, HasNoEntries, counted_items}
+use Rattle.archive_shape_checking.specs.PartFault.PartFault.{fault_unanswered, fault_plain, fault_claimed, fault_text, fault_text_behind, fault_total, fault_table, fault_entries, fault_again, fault_first}
+use Rattle.archive_shape_checking.specs.PartFault.PartsFault.{fault_here, fault_later}
 use Rattle.archive_shape_checking.specs.Laws.{FaultRefuses}
-use Rattle.archive_shape_checking.specs.declared.error.Error.{Error}
+use Rattle.archive_shape_writing.specs.declared.error.Error.{Error}
 use Rattle.archive_shape_checking.proofs.Inverted.{known_content, plain_parts, claimed_parts, first_part, later_parts}
-use Rattle.archive_shape_checking.proofs.AskedRegions.{accepted_answered}
+use Rattle.archive_shape_checking.proofs.QuestionedRegions.{accepted_answered}
 use Rattle.archive_shape_checking.proofs.Shared.{again_refused, first_visited}
 
 -- ---- what is asked
@@ -53,7 +53,7 @@ map_illegal names bytes p pos key value q e t n =
 
 -- ---- search trees
 
--- a value is made of that of the one part, which has so many items
+-- a value is made of that of the one part, which has n items
 made_total : (n : ℕ) (vs : Values) (v : Value) → made (total n) vs ≡ Some v → counted_items vs ≡ n
 unfolding made
 made_total n no_values v e = absurd (cc)
@@ -67,15 +67,15 @@ made_total n (more_values u (more_values w ws)) v e = absurd (cc)
 -- ---- faults
 
 module _ (names : Names) (bytes : List ℕ) where
-  total_refused : (inside : List Opened) (before : List Visit) (p : Part) (k : Range) (n : ℕ) (ps : List Part) → content_of names bytes p ≡ plain (total n) ps → (q : PassesAll names bytes inside before ps k) → counted_items q.values ≢ n → Passes names bytes inside before p k → ⊥
+  total_refused : (inside : List OpenShared) (before : List Visit) (p : Part) (k : Range) (n : ℕ) (ps : List Part) → content_of names bytes p ≡ plain (total n) ps → (q : PassesAll names bytes inside before ps k) → counted_items q.values ≢ n → Passes names bytes inside before p k → ⊥
   total_refused inside before p k n ps c q differs h =
       let own = by_plain names bytes c h.accepts.holds in
       let same = one_list names bytes own.vs h.regions h.after q.accepts.all own.all in
       differs (ap counted_items same.values ∙ made_total n own.vs h.value own.is_made)
 
   mutual
-    pub refused : (inside : List Opened) (before : List Visit) (p : Part) (k : Range) (e : Error) → Fault names bytes inside before p k e → Passes names bytes inside before p k → ⊥
-    refused inside before p k e (fault_asked f) h = answered_or_not k e _ f (accepted_answered names bytes inside before p k h)
+    pub refused : (inside : List OpenShared) (before : List Visit) (p : Part) (k : Range) (e : Error) → PartFault names bytes inside before p k e → Passes names bytes inside before p k → ⊥
+    refused inside before p k e (fault_unanswered f) h = answered_or_not k e _ f (accepted_answered names bytes inside before p k h)
     refused inside before p k e (fault_plain {l = l} {ps = ps} a c f) h = refused_in inside before ps k e f (plain_parts names bytes inside before p k l ps c h)
     refused inside before p k e (fault_claimed {s = s} {l = l} {ps = ps} a c f) h = refused_in inside before ps (narrowed_to k s.start) e f (claimed_parts names bytes inside before p k s l ps c h)
     refused inside before p k e (fault_text a c n f) h = n (by_plain names bytes c h.accepts.holds).legal
@@ -86,7 +86,7 @@ module _ (names : Names) (bytes : List ℕ) where
     refused inside before p k e (fault_again {t = t} {q = q} {len = len} {x = x} a c m f) h = again_refused names bytes inside before p k t q len x e c m f h
     refused inside before p k e (fault_first {t = t} {q = q} {len = len} a c n f) h = refused (record { pos = t; pointee = q; len = len } ∷ inside) before (behind t q len) k e f (first_visited names bytes inside before p k t q len c n h)
 
-    pub refused_in : (inside : List Opened) (before : List Visit) (ps : List Part) (k : Range) (e : Error) → FaultIn names bytes inside before ps k e → PassesAll names bytes inside before ps k → ⊥
+    pub refused_in : (inside : List OpenShared) (before : List Visit) (ps : List Part) (k : Range) (e : Error) → PartsFault names bytes inside before ps k e → PassesAll names bytes inside before ps k → ⊥
     refused_in inside before [] k e f h = elim f [ ]
     refused_in inside before (p ∷ ps) k e (fault_here f) h = refused inside before p k e f (first_part names bytes inside before p ps k h)
     refused_in inside before (p ∷ ps) k e (fault_later q f) h = refused_in inside q.after ps (range_after k q.regions) e f (later_parts names bytes inside before p ps k q h)

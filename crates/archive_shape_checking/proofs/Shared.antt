@@ -5,15 +5,15 @@ use Rattle.archive_shape_layout.specs.Value.{Value}
 use Rattle.archive_shape_layout.specs.Content.{Names, Part, content_of}
 use Rattle.archive_shape_layout.specs.Content.Part.{behind}
 use Rattle.archive_shape_layout.specs.Content.Content.{counting}
-use Rattle.archive_shape_layout.specs.Holds.{Region, Visit, Opened}
+use Rattle.archive_shape_layout.specs.Holds.{Region, Visit, OpenShared}
 use Rattle.archive_shape_layout.proofs.Unique.{by_counting, CountedHolds}
 use Rattle.archive_shape_layout.proofs.Unique.CountedHolds.{is_first, is_later, is_back}
 use Rattle.archive_shape_checking.specs.Range.{Range}
 use Rattle.archive_shape_checking.specs.Accepts.{Passes}
-use Rattle.archive_shape_checking.specs.Fault.{Entry, entry_at, Differs, Clash}
-use Rattle.archive_shape_checking.specs.Fault.Differs.{other_shape, other_length}
-use Rattle.archive_shape_checking.specs.Fault.Clash.{differs, inside_itself}
-use Rattle.archive_shape_checking.specs.declared.error.Error.{Error}
+use Rattle.archive_shape_checking.specs.PartFault.{Entry, entry_at, Differs, Clash}
+use Rattle.archive_shape_checking.specs.PartFault.Differs.{other_shape, other_length}
+use Rattle.archive_shape_checking.specs.PartFault.Clash.{differs, inside_itself}
+use Rattle.archive_shape_writing.specs.declared.error.Error.{Error}
 
 pub one_entry : (o : Option Entry) (x y : Entry) → o ≡ Some x → o ≡ Some y → x ≡ y
 one_entry o x y e f = cc
@@ -44,7 +44,7 @@ one_clash q len x e d (inside_itself s m n f) (inside_itself t l o g) = f ∙ sy
 
 -- ---- accepted pointers
 
-module _ (names : Names) (bytes : List ℕ) (inside : List Opened) (before : List Visit) where
+module _ (names : Names) (bytes : List ℕ) (inside : List OpenShared) (before : List Visit) where
   -- what was met is of the same shape and length, and its check has ended
   counted_entry :
       (level : ℕ) (t : ℕ) (q : Pointee) (len : ℕ) (v : Value) (rs : List Region) (after : List Visit) (x : Entry)

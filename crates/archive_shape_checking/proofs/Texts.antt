@@ -93,7 +93,7 @@ unfolding child_content buckets_content place_content
 text_is_whole names bytes (at pos s) = shape_whole names pos _ s
 text_is_whole names bytes (behind pos p len) = pointee_whole bytes pos p len
 text_is_whole names bytes (node level most k v pos) = node_whole level most k v pos _ _
-text_is_whole names bytes (child level most k v pos) = chosen_whole _ _ _ tt (following_whole _ _ (λ t. tt))
+text_is_whole names bytes (child level most k v pos) = chosen_whole _ _ _ tt (chosen_whole _ _ _ (following_whole _ _ (λ t. tt)) tt)
 text_is_whole names bytes (entry k key_pos v value_pos) = tt
 text_is_whole names bytes (buckets target len cap it) = chosen_whole _ _ _ tt tt
 text_is_whole names bytes (place_at pos limit) = chosen_whole _ _ _ tt tt

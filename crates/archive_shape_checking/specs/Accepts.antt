@@ -2,16 +2,16 @@
 use Rattle.std.specs.Prelude.{ℕ, ◌<◌, List, [], ◌∷◌, ⊤}
 use Rattle.archive_shape_layout.specs.Value.{Value, Values}
 use Rattle.archive_shape_layout.specs.Content.{Names, Part}
-use Rattle.archive_shape_layout.specs.Holds.{Region, Visit, Opened, Holds, HoldAll, Ascends, end_after}
+use Rattle.archive_shape_layout.specs.Holds.{Region, Visit, OpenShared, Holds, HoldAll, Ascends, end_after}
 use Rattle.archive_shape_checking.specs.Range.{Range, started_at}
 
--- each region lies inside fewer than so many others
+-- each region lies inside fewer than n others
 unfoldable pub NestsBelow : ℕ → List Region → Type 0
 NestsBelow most [] = ⊤
 NestsBelow most (r ∷ rs) = (r.level < most) × NestsBelow most rs
 
 -- inside the shared positions that are open, after those that were visited
-module _ (names : Names) (bytes : List ℕ) (inside : List Opened) (before : List Visit) where
+module _ (names : Names) (bytes : List ℕ) (inside : List OpenShared) (before : List Visit) where
   -- a part has a value, with the regions that it claims of a range
   pub record Accepts (p : Part) (k : Range) (v : Value) (regions : List Region) (after : List Visit) : Type 0 where
     pub holds : Holds names bytes k.level inside p v regions before after
@@ -36,6 +36,6 @@ module _ (names : Names) (bytes : List ℕ) (inside : List Opened) (before : Lis
     pub after : List Visit
     pub accepts : AcceptsAll ps k values regions after
 
--- the range behind what was accepted
+-- the range after what was accepted
 abbrev pub range_after : Range → List Region → Range
 range_after k regions = started_at k (end_after k.start regions)

@@ -1,14 +1,14 @@
 -- What a context of checks keeps: a range, its open pushes, and the shared positions that were met.
 use Rattle.std.specs.Prelude.{◌≡◌, ℕ, ◌≤◌, true, false, List, [], ◌∷◌, ◌++◌, length, Option, Some, None, Result, Ok, Err, MatchBool, ◌==◌, if◌then◌else◌}
 use Rattle.archive_shape_layout.specs.Shape.{Pointee}
-use Rattle.archive_shape_layout.specs.Holds.{Visit, Opened}
+use Rattle.archive_shape_layout.specs.Holds.{Visit, OpenShared}
 use Rattle.archive_shape_checking.specs.Range.{Range}
-use Rattle.archive_shape_checking.specs.Fault.{Entry, entry_at, Differs}
+use Rattle.archive_shape_checking.specs.PartFault.{Entry, entry_at, Differs}
 use Rattle.archive_shape_checking.specs.declared.context.PushedRange.{PushedRange}
 use Rattle.archive_shape_checking.specs.declared.context.ValidationState.{ValidationState}
 use Rattle.archive_shape_checking.specs.declared.context.ValidationState.TheVariants.{Started, Pending, Finished}
-use Rattle.archive_shape_checking.specs.declared.error.Error.{Error}
-use Rattle.archive_shape_checking.specs.declared.error.Error.TheVariants.{NotStarted, AlreadyFinished}
+use Rattle.archive_shape_writing.specs.declared.error.Error.{Error}
+use Rattle.archive_shape_writing.specs.declared.error.Error.TheVariants.{NotStarted, AlreadyFinished}
 
 -- what stands at each shared position
 abbrev pub Seen : Type 0
@@ -19,8 +19,8 @@ unfoldable pub seen_with : Seen → ℕ → Entry → Seen
 seen_with seen pos x other = if other == pos then Some x else seen other
 
 -- the positions that are open and those that were visited, and no other
-abbrev pub Tells : Seen → List Opened → List Visit → Type 0
-Tells seen inside before = (pos : ℕ) → seen pos ≡ entry_at inside before pos
+abbrev pub Records : Seen → List OpenShared → List Visit → Type 0
+Records seen inside before = (pos : ℕ) → seen pos ≡ entry_at inside before pos
 
 pub record Kept : Type 0 where
   pub start : ℕ
@@ -34,7 +34,7 @@ pub record Kept : Type 0 where
 abbrev pub range_of : Kept → Range
 range_of k = record { start = k.start; end = k.end; most = k.most; level = length k.pushes }
 
--- it lies in so many bytes
+-- it lies in n bytes
 pub record IsWithin (k : Kept) (len : ℕ) : Type 0 where
   pub ordered : k.start ≤ k.end
   pub covered : k.end ≤ len
@@ -46,14 +46,14 @@ started_again k pos seen = record { start = pos; end = k.end; most = k.most; pus
 abbrev pub pushed : Kept → PushedRange → Kept
 pushed k r = record { start = k.start; end = r.pos; most = k.most; pushes = k.pushes ++ r ∷ []; seen = k.seen }
 
--- started again behind the region of the last push, where the pushes before it are these
+-- started again after the region of the last push, where the pushes before it are these
 abbrev pub popped : Kept → PushedRange → List PushedRange → Kept
 popped k r rest = record { start = r.end; end = r.outer; most = k.most; pushes = rest; seen = k.seen }
 
 abbrev pub with_entry : Kept → ℕ → Entry → Kept
 with_entry k pos x = started_again k k.start (seen_with k.seen pos x)
 
--- it was started again at or behind where it began
+-- it was started again at or after where it began
 pub record Advances (k l : Kept) : Type 0 where
   pub begins : k.start ≤ l.start
   pub ordered : l.start ≤ l.end
@@ -61,7 +61,7 @@ pub record Advances (k l : Kept) : Type 0 where
 
 -- ---- shared positions
 
--- what starting one tells, and does to what is kept
+-- what starting one records, and does to what is kept
 abbrev pub StartsShared : Kept → ℕ → Pointee → ℕ → Kept → ValidationState → Type 0
 StartsShared old pos p len new Started =
     (old.seen pos ≡ None) × (new ≡ with_entry old pos (record { pointee = p; len = len; done = false }))

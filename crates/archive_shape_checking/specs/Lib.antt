@@ -1,7 +1,7 @@
 pub mod Range
 pub mod Accepts
-pub mod Asked
-pub mod Fault
+pub mod Questions
+pub mod PartFault
 pub mod Kept
 pub mod Checks
 pub mod Laws

@@ -9,7 +9,7 @@ pub record Range : Type 0 where
   -- how many regions the range lies inside
   pub level : ℕ
 
--- so many bytes at a position lie in the range
+-- n bytes at a position lie in the range
 pub record InRange (k : Range) (pos size : ℕ) : Type 0 where
   pub begins : k.start ≤ pos
   pub ends : pos + size ≤ k.end

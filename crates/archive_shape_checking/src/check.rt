@@ -10,13 +10,13 @@ mod leaves;
 mod without_bytes;
 
 use crate::{ArchiveContext, Error};
-use archive_shape_numbers::Portable;
+use archive_shape_portable::Portable;
 pub use leaves::check_leaf;
 use std::alloc::Global;
 
 /// A type whose values are checked in a context.
 pub trait CheckBytes<C: ArchiveContext>: Portable {
-    /// Checks the value at `pos`, and starts the context's range again behind the last region that it claims.
+    /// Checks the value at `pos`, and starts the context's range again after the last region that it claims.
     fn check(alloc: Global, bytes: &[u8], pos: usize, context: &mut C) -> Result<(), Error>
         requires fits { pos + size_of Self.shape ≤ length bytes.now }
         requires range { IsWithin (C.kept context.old) (length bytes.now) }

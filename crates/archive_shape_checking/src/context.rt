@@ -1,12 +1,12 @@
 //! What checks are made in.
 ghost use Rattle.std.specs.Prelude.{◌≡◌, ◌≢◌, ℕ, ◌+◌, ◌%◌, ◌<◌, ◌≤◌, ◌++◌, ◌∷◌, [], List, length, Result, Ok, Err, MatchResult, Some, None};
-ghost use Rattle.archive_shape_layout.specs.Denotes.{pointee_of};
+ghost use Rattle.archive_shape_layout.specs.RuntimeShape.{pointee_of};
 ghost use Rattle.archive_shape_checking.specs.Range.{InRange};
-ghost use Rattle.archive_shape_checking.specs.Asked.{out_of_range};
+ghost use Rattle.archive_shape_checking.specs.Questions.{out_of_range};
 ghost use Rattle.archive_shape_checking.specs.Kept.{Kept, range_of, pushed, popped, StartsShared, RefusesShared, FinishesShared};
 
-use crate::error::Error;
 use archive_shape_layout::Pointee;
+use archive_shape_writing::Error;
 
 /// A push that is open: the region before which the range ends, and where the range ended before.
 #[derive(Clone, Copy, Debug, PartialEq, Eq)]
@@ -46,7 +46,7 @@ pub trait ArchiveContext {
             × (length (kept self.old).pushes < (kept self.old).most) × (kept self.new ≡ pushed (kept self.old) r))
             (λ e. e ≢ Error.OutOfMemory → ((kept self.old).most ≤ length (kept self.old).pushes) × (e ≡ Error.ExceededMaximumSubtreeDepth)) };
 
-    /// Starts the range again behind the region of the last open push.
+    /// Starts the range again after the region of the last open push.
     fn pop_subtree_range(&mut self, range: PushedRange) -> Result<(), Error>
         ensures none { (kept self.old).pushes ≡ [] → result ≡ Err Error.RangePoppedTooManyTimes }
         ensures other { (rest : List PushedRange) (last : PushedRange) → (kept self.old).pushes ≡ rest ++ last ∷ [] → last ≢ range → result ≡ Err Error.RangePoppedOutOfOrder }
@@ -55,7 +55,7 @@ pub trait ArchiveContext {
 
 /// What also keeps the shared positions that were met.
 pub trait SharedContext: ArchiveContext {
-    /// Tells what is known of a shared position with so many elements, and starts its check at its first visit.
+    /// Returns what is known of a shared position with n elements, and starts its check at its first visit.
     fn start_shared(
         &mut self,
         pos: usize,

@@ -9,7 +9,7 @@ use Rattle.archive_shape_layout.specs.Content.{choose, Names, Part, Span, Label,
 use Rattle.archive_shape_layout.specs.Content.Part.{at, behind, node, child, entry, buckets, place_at}
 use Rattle.archive_shape_layout.specs.Content.Content.{illegal, plain, claimed, counting}
 use Rattle.archive_shape_layout.specs.Laws.{AgreesOn, OwnAgrees, RegionsAgree}
-use Rattle.archive_shape_layout.specs.Holds.{Region, region_of, Visit, Opened, Holds, HoldAll, Ascends, HasRoot, end_after}
+use Rattle.archive_shape_layout.specs.Holds.{Region, region_of, Visit, OpenShared, Holds, HoldAll, Ascends, HasRoot, end_after}
 use Rattle.archive_shape_layout.specs.Holds.Holds.{holds_plain, holds_claimed}
 use Rattle.archive_shape_layout.specs.Holds.HoldAll.{holds_none, holds_more}
 use Rattle.archive_shape_layout.specs.Edit.{Spares, EditOfLeaf, EditOfText}
@@ -273,11 +273,11 @@ module _
     LiesIn own low rs = own ⊎ ((low ≤ w) × (w + n ≤ end_after low rs))
 
     -- what is known of a part: where the window lies in it, and its value in the other bytes
-    pub record Edited (level : ℕ) (inside : List Opened) (p : Part) (v : Value) (rs : List Region) (before after : List Visit) (low : ℕ) : Type 0 where
+    pub record Edited (level : ℕ) (inside : List OpenShared) (p : Part) (v : Value) (rs : List Region) (before after : List Visit) (low : ℕ) : Type 0 where
       pub lies : LiesIn (InOwn w n p) low rs
       pub holds : Holds names others level inside p v rs before after
 
-    pub record EditedAll (level : ℕ) (inside : List Opened) (ps : List Part) (vs : Values) (rs : List Region) (before after : List Visit) (low : ℕ) : Type 0 where
+    pub record EditedAll (level : ℕ) (inside : List OpenShared) (ps : List Part) (vs : Values) (rs : List Region) (before after : List Visit) (low : ℕ) : Type 0 where
       pub lies : LiesIn (InAny w n ps) low rs
       pub all : HoldAll names others level inside ps vs rs before after
 
@@ -289,12 +289,12 @@ module _
         own_more (own_agrees bytes others w n spares r (f.outside _ _ (inl b))) (all_own base top p ps fs (inr b))
 
     module _
-        (at_leaf : (level : ℕ) (inside : List Opened) (rs : List Region) (before after : List Visit) (low high : ℕ)
+        (at_leaf : (level : ℕ) (inside : List OpenShared) (rs : List Region) (before after : List Visit) (low high : ℕ)
         → Ascends low high rs → Holds names bytes level inside q old rs before after → Edited level inside q new rs before after low)
       where
         mutual
           pub edit :
-              {level : ℕ} {inside : List Opened} {p : Part} {v : Value} {path : List ℕ} {rs : List Region} {before after : List Visit} (low high base top : ℕ)
+              {level : ℕ} {inside : List OpenShared} {p : Part} {v : Value} {path : List ℕ} {rs : List Region} {before after : List Visit} (low high base top : ℕ)
               → Stands names bytes q old level inside before p v path
               → Fits base top p
               → end_after low rs ≤ base
@@ -346,7 +346,7 @@ module _
               }
 
           pub edit_in :
-              {level : ℕ} {inside : List Opened} {ps : List Part} {vs us : Values} {i : ℕ} {path : List ℕ} {rs : List Region} {before after : List Visit} (low high base top : ℕ)
+              {level : ℕ} {inside : List OpenShared} {ps : List Part} {vs us : Values} {i : ℕ} {path : List ℕ} {rs : List Region} {before after : List Visit} (low high base top : ℕ)
               → StandsIn names bytes q old level inside before ps vs i path
               → AllFit base top ps
               → Separate ps
@@ -400,7 +400,7 @@ pub edit_of_leaf_law : EditOfLeaf
 edit_of_leaf_law names bytes others pos s v regions visits path leaf_pos leaf_shape old new k l root stands spares was is legal makes =
     edit_root names bytes others leaf_pos (size_of leaf_shape) (at leaf_pos leaf_shape) old new spares in_place root stands
   where
-    in_place : (level : ℕ) (inside : List Opened) (rs : List Region) (before after : List Visit) (low high : ℕ)
+    in_place : (level : ℕ) (inside : List OpenShared) (rs : List Region) (before after : List Visit) (low high : ℕ)
         → Ascends low high rs → Holds names bytes level inside (at leaf_pos leaf_shape) old rs before after
         → Edited names bytes others leaf_pos (size_of leaf_shape) (at leaf_pos leaf_shape) old new spares level inside (at leaf_pos leaf_shape) new rs before after low
     in_place level inside rs before after low high a h = record { lies = inl (le_refl leaf_pos, le_refl _); holds = of_none (by_plain names bytes was h).all }
@@ -413,7 +413,7 @@ unfolding pointee_content made
 edit_of_text_law names bytes others pos s v regions visits path text_pos len old root stands spares legal =
     edit_root names bytes others text_pos len (behind text_pos str len) old (string (window others text_pos len)) spares behind_it root stands
   where
-    behind_it : (level : ℕ) (inside : List Opened) (rs : List Region) (before after : List Visit) (low high : ℕ)
+    behind_it : (level : ℕ) (inside : List OpenShared) (rs : List Region) (before after : List Visit) (low high : ℕ)
         → Ascends low high rs → Holds names bytes level inside (behind text_pos str len) old rs before after
         → Edited names bytes others text_pos len (behind text_pos str len) old (string (window others text_pos len)) spares level inside (behind text_pos str len) (string (window others text_pos len)) rs before after low
     behind_it level inside rs before after low high a h =

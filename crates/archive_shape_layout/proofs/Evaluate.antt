@@ -13,7 +13,7 @@ use Rattle.archive_shape_layout.specs.Content.{choose, Names, Part, Span, Label,
 use Rattle.archive_shape_layout.specs.Content.Part.{behind}
 use Rattle.archive_shape_layout.specs.Content.Label.{written}
 use Rattle.archive_shape_layout.specs.Content.Content.{illegal, plain, claimed, counting}
-use Rattle.archive_shape_layout.specs.Holds.{Region, region_of, Visit, Opened, visited, opened, end_after, root_position}
+use Rattle.archive_shape_layout.specs.Holds.{Region, region_of, Visit, OpenShared, visited, open_at, end_after, root_position}
 use Rattle.archive_shape_layout.proofs.SameShape.{same_pointee}
 
 pub data Answer (A : Type 0) : Type 0 where
@@ -33,7 +33,7 @@ pub record Readings : Type 0 where
 
 -- of a list of parts, from a level on, inside positions, in a range, from the visits so far
 abbrev pub Evaluator : Type 0
-Evaluator = ℕ → List Opened → ℕ → ℕ → List Part → List Visit → Answer Readings
+Evaluator = ℕ → List OpenShared → ℕ → ℕ → List Part → List Visit → Answer Readings
 
 abbrev pub legal : Label → Bool
 legal (written bs) = is_utf8 bs
@@ -69,7 +69,7 @@ again false v before = refused
 unfoldable pub same_visit : Visit → ℕ → Pointee → ℕ → Bool
 same_visit v t q len = (v.pos == t) && (same_pointee v.pointee q && (v.len == len))
 
-unfoldable pub same_opened : Opened → ℕ → Pointee → ℕ → Bool
+unfoldable pub same_opened : OpenShared → ℕ → Pointee → ℕ → Bool
 same_opened o t q len = (o.pos == t) && (same_pointee o.pointee q && (o.len == len))
 
 unfoldable pub of_first : ℕ → Pointee → ℕ → List Region → List Visit → Values → Answer Reading
@@ -83,13 +83,13 @@ of_counted t q len unfinished = unfinished
 of_counted t q len refused = refused
 of_counted t q len (found r) = of_first t q len r.regions r.after r.values
 
-unfoldable pub counted_part : Evaluator → ℕ → List Opened → ℕ → ℕ → List Visit → Bool → ℕ → Pointee → ℕ → Option Opened → Option Visit → Answer Reading
+unfoldable pub counted_part : Evaluator → ℕ → List OpenShared → ℕ → ℕ → List Visit → Bool → ℕ → Pointee → ℕ → Option OpenShared → Option Visit → Answer Reading
 counted_part all level inside low high before cyclic t q len (Some o) w = again (cyclic && same_opened o t q len) (back t) before
 counted_part all level inside low high before cyclic t q len None (Some w) = again (same_visit w t q len) (counted t w.value) before
 counted_part all level inside low high before cyclic t q len None None =
     of_counted t q len (all level (record { pos = t; pointee = q; len = len } ∷ inside) low high (behind t q len ∷ []) before)
 
-unfoldable pub one_part : Evaluator → ℕ → List Opened → ℕ → ℕ → List Visit → Content → Answer Reading
+unfoldable pub one_part : Evaluator → ℕ → List OpenShared → ℕ → ℕ → List Visit → Content → Answer Reading
 one_part all level inside low high before illegal = refused
 one_part all level inside low high before (plain l ps) = of_plain l (all level inside low high ps before)
 one_part all level inside low high before (claimed s l ps) = elim (fits low high s) [
@@ -97,7 +97,7 @@ one_part all level inside low high before (claimed s l ps) = elim (fits low high
   | false ↦ refused
 ]
 one_part all level inside low high before (counting cyclic t q len) =
-    counted_part all level inside low high before cyclic t q len (opened inside t) (visited before t)
+    counted_part all level inside low high before cyclic t q len (open_at inside t) (visited before t)
 
 unfoldable pub joined : Reading → Answer Readings → Answer Readings
 joined r unfinished = unfinished
@@ -128,7 +128,7 @@ alone (found r) = of_values r.values
     of_values (more_values v (more_values w vs)) = unfinished
 
 -- one part, in the range from `low` to `high`
-unfoldable pub evaluate : ℕ → Names → List ℕ → ℕ → List Opened → ℕ → ℕ → Part → List Visit → Answer Reading
+unfoldable pub evaluate : ℕ → Names → List ℕ → ℕ → List OpenShared → ℕ → ℕ → Part → List Visit → Answer Reading
 evaluate fuel names bytes level inside low high p before = alone (evaluate_all fuel names bytes level inside low high (p ∷ []) before)
 
 -- a root at a position

@@ -12,7 +12,7 @@ use Rattle.archive_shape_layout.specs.Content.{Names, Part, Span, Label, Content
 use Rattle.archive_shape_layout.specs.Content.Part.{behind}
 use Rattle.archive_shape_layout.specs.Content.Label.{leaf, written, same, second, whole, tagged, woven, total}
 use Rattle.archive_shape_layout.specs.Content.Content.{illegal, plain, claimed, counting}
-use Rattle.archive_shape_layout.specs.Holds.{Region, region_of, Visit, Opened, visited, opened, end_after, Ascends, Follows, Holds, HoldAll, HasRoot}
+use Rattle.archive_shape_layout.specs.Holds.{Region, region_of, Visit, OpenShared, visited, open_at, end_after, Ascends, Follows, Holds, HoldAll, HasRoot}
 use Rattle.archive_shape_layout.specs.Holds.Holds.{holds_plain, holds_claimed, holds_first, holds_later, holds_back}
 use Rattle.archive_shape_layout.specs.Holds.HoldAll.{holds_none, holds_more}
 use Rattle.archive_shape_layout.proofs.SameShape.{same_pointee, pointee_is, pointee_itself, both_left, both_right, both, equal}
@@ -72,7 +72,7 @@ visit_itself : (t : ℕ) (q : Pointee) (len : ℕ) (v : Value) → same_visit (r
 unfolding same_visit
 visit_itself t q len v = both _ _ (equal t) (both _ _ (pointee_itself q) (equal len))
 
-opened_is : (o : Opened) (t : ℕ) (q : Pointee) (len : ℕ) → same_opened o t q len ≡ true → o ≡ record { pos = t; pointee = q; len = len }
+opened_is : (o : OpenShared) (t : ℕ) (q : Pointee) (len : ℕ) → same_opened o t q len ≡ true → o ≡ record { pos = t; pointee = q; len = len }
 unfolding same_opened
 opened_is o t q len e =
     let rest = both_right (o.pos == t) _ e in
@@ -81,7 +81,7 @@ opened_is o t q len e =
     let c = eqb-true o.len len (both_right (same_pointee o.pointee q) _ rest) in
     made_of o.pos t o.pointee q o.len len a b c
   where
-    made_of : (s t : ℕ) (r q : Pointee) (m n : ℕ) → s ≡ t → r ≡ q → m ≡ n → ◌≡◌ {A = Opened} (record { pos = s; pointee = r; len = m }) (record { pos = t; pointee = q; len = n })
+    made_of : (s t : ℕ) (r q : Pointee) (m n : ℕ) → s ≡ t → r ≡ q → m ≡ n → ◌≡◌ {A = OpenShared} (record { pos = s; pointee = r; len = m }) (record { pos = t; pointee = q; len = n })
     made_of s t r q m n a b c = cc
 
 opened_itself : (t : ℕ) (q : Pointee) (len : ℕ) → same_opened (record { pos = t; pointee = q; len = len }) t q len ≡ true
@@ -112,33 +112,33 @@ ascends_raised low top high (r ∷ rs) h a =
 -- ---- what an answer says
 
 module _ (names : Names) (bytes : List ℕ) where
-  abbrev pub Tells : ℕ → List Opened → ℕ → ℕ → Part → List Visit → Answer Reading → Type 0
-  Tells level inside low high p before unfinished = ⊤
-  Tells level inside low high p before refused =
+  abbrev pub IsReading : ℕ → List OpenShared → ℕ → ℕ → Part → List Visit → Answer Reading → Type 0
+  IsReading level inside low high p before unfinished = ⊤
+  IsReading level inside low high p before refused =
       (v : Value) (rs : List Region) (after : List Visit) → Holds names bytes level inside p v rs before after → Ascends low high rs → ⊥
-  Tells level inside low high p before (found r) = Holds names bytes level inside p r.value r.regions before r.after × Ascends low high r.regions
+  IsReading level inside low high p before (found r) = Holds names bytes level inside p r.value r.regions before r.after × Ascends low high r.regions
 
-  abbrev pub TellsAll : ℕ → List Opened → ℕ → ℕ → List Part → List Visit → Answer Readings → Type 0
+  abbrev pub TellsAll : ℕ → List OpenShared → ℕ → ℕ → List Part → List Visit → Answer Readings → Type 0
   TellsAll level inside low high ps before unfinished = ⊤
   TellsAll level inside low high ps before refused =
       (vs : Values) (rs : List Region) (after : List Visit) → HoldAll names bytes level inside ps vs rs before after → Ascends low high rs → ⊥
   TellsAll level inside low high ps before (found r) = HoldAll names bytes level inside ps r.values r.regions before r.after × Ascends low high r.regions
 
-  illegal_tells : (level : ℕ) (inside : List Opened) (low high : ℕ) (p : Part) (before : List Visit) → content_of names bytes p ≡ illegal → Tells level inside low high p before refused
+  illegal_tells : (level : ℕ) (inside : List OpenShared) (low high : ℕ) (p : Part) (before : List Visit) → content_of names bytes p ≡ illegal → IsReading level inside low high p before refused
   illegal_tells level inside low high p before e v rs after (holds_plain f legal all m) a = cc
   illegal_tells level inside low high p before e v rs after (holds_claimed f legal all m r) a = cc
   illegal_tells level inside low high p before e v rs after (holds_first f x y h d g) a = cc
   illegal_tells level inside low high p before e v rs after (holds_later f x y d g h) a = cc
   illegal_tells level inside low high p before e v rs after (holds_back f x d g h) a = cc
 
-  plain_tells : (level : ℕ) (inside : List Opened) (low high : ℕ) (p : Part) (before : List Visit) (l : Label) (ps : List Part)
-      → content_of names bytes p ≡ plain l ps → (a : Answer Readings) → TellsAll level inside low high ps before a → Tells level inside low high p before (of_plain l a)
+  plain_tells : (level : ℕ) (inside : List OpenShared) (low high : ℕ) (p : Part) (before : List Visit) (l : Label) (ps : List Part)
+      → content_of names bytes p ≡ plain l ps → (a : Answer Readings) → TellsAll level inside low high ps before a → IsReading level inside low high p before (of_plain l a)
   unfolding of_plain finished valued
   plain_tells level inside low high p before l ps e unfinished h = tt
   plain_tells level inside low high p before l ps e refused h = λ v rs after k a. let o = by_plain names bytes e k in h o.vs rs after o.all a
   plain_tells level inside low high p before l ps e (found r) h = by_tests (legal l) refl (made l r.values) refl
     where
-      by_tests : (b : Bool) → legal l ≡ b → (m : Option Value) → made l r.values ≡ m → Tells level inside low high p before (finished b (valued r.regions r.after m))
+      by_tests : (b : Bool) → legal l ≡ b → (m : Option Value) → made l r.values ≡ m → IsReading level inside low high p before (finished b (valued r.regions r.after m))
       by_tests true x (Some v) y = (holds_plain e (is_legal l x) h.0 y, h.1)
       by_tests true x None y = λ v rs after k a.
           let o = by_plain names bytes e k in
@@ -150,10 +150,10 @@ module _ (names : Names) (bytes : List ℕ) where
           let t = tests_legal l o.legal in
           cc
 
-  claimed_tells : (level : ℕ) (inside : List Opened) (low high : ℕ) (p : Part) (before : List Visit) (s : Span) (l : Label) (ps : List Part)
+  claimed_tells : (level : ℕ) (inside : List OpenShared) (low high : ℕ) (p : Part) (before : List Visit) (s : Span) (l : Label) (ps : List Part)
       → content_of names bytes p ≡ claimed s l ps
       → (low ≤ s.start) × (s.start + s.size ≤ high) × (s.start % s.align ≡ 0)
-      → (a : Answer Readings) → TellsAll (suc level) inside low s.start ps before a → Tells level inside low high p before (of_claimed l (region_of s level) a)
+      → (a : Answer Readings) → TellsAll (suc level) inside low s.start ps before a → IsReading level inside low high p before (of_claimed l (region_of s level) a)
   unfolding of_claimed finished valued Ascends
   claimed_tells level inside low high p before s l ps e f unfinished h = tt
   claimed_tells level inside low high p before s l ps e f refused h = λ v rs after k a.
@@ -168,7 +168,7 @@ module _ (names : Names) (bytes : List ℕ) where
       one_region : (from : ℕ) → from ≤ s.start → Ascends from high (region_of s level ∷ [])
       one_region from below = (record { after = below; aligned = f.2; inside = f.1 }, tt)
 
-      by_tests : (b : Bool) → legal l ≡ b → (m : Option Value) → made l r.values ≡ m → Tells level inside low high p before (finished b (valued (r.regions ++ region_of s level ∷ []) r.after m))
+      by_tests : (b : Bool) → legal l ≡ b → (m : Option Value) → made l r.values ≡ m → IsReading level inside low high p before (finished b (valued (r.regions ++ region_of s level ∷ []) r.after m))
       by_tests true x (Some v) y = (
         holds_claimed e (is_legal l x) h.0 y refl,
         (Ascends-append low high r.regions (region_of s level ∷ [])).1 (
@@ -186,8 +186,8 @@ module _ (names : Names) (bytes : List ℕ) where
           let t = tests_legal l o.legal in
           cc
 
-  claims_elsewhere : (level : ℕ) (inside : List Opened) (low high : ℕ) (p : Part) (before : List Visit) (s : Span) (l : Label) (ps : List Part)
-      → content_of names bytes p ≡ claimed s l ps → fits low high s ≡ false → Tells level inside low high p before refused
+  claims_elsewhere : (level : ℕ) (inside : List OpenShared) (low high : ℕ) (p : Part) (before : List Visit) (s : Span) (l : Label) (ps : List Part)
+      → content_of names bytes p ≡ claimed s l ps → fits low high s ≡ false → IsReading level inside low high p before refused
   unfolding Ascends
   claims_elsewhere level inside low high p before s l ps e f v rs after k a =
       let o = by_claimed names bytes e k in
@@ -200,10 +200,10 @@ module _ (names : Names) (bytes : List ℕ) where
       first_follows : (from : ℕ) → Ascends from high (region_of s level ∷ []) → Follows from high (region_of s level)
       first_follows from a = a.0
 
-  first_tells : (level : ℕ) (inside : List Opened) (low high : ℕ) (p : Part) (before : List Visit) (cyclic : Bool) (t : ℕ) (q : Pointee) (len : ℕ)
-      → content_of names bytes p ≡ counting cyclic t q len → opened inside t ≡ None → visited before t ≡ None
+  first_tells : (level : ℕ) (inside : List OpenShared) (low high : ℕ) (p : Part) (before : List Visit) (cyclic : Bool) (t : ℕ) (q : Pointee) (len : ℕ)
+      → content_of names bytes p ≡ counting cyclic t q len → open_at inside t ≡ None → visited before t ≡ None
       → (a : Answer Readings) → TellsAll level (record { pos = t; pointee = q; len = len } ∷ inside) low high (behind t q len ∷ []) before a
-      → Tells level inside low high p before (of_counted t q len a)
+      → IsReading level inside low high p before (of_counted t q len a)
   unfolding of_counted of_first
   first_tells level inside low high p before cyclic t q len e x y unfinished h = tt
   first_tells level inside low high p before cyclic t q len e x y refused h = λ v rs after k a. none_first (by_counting names bytes e k) a
@@ -217,7 +217,7 @@ module _ (names : Names) (bytes : List ℕ) where
     where
       by_values : (vs : Values) (rs : List Region) (after : List Visit)
           → HoldAll names bytes level (record { pos = t; pointee = q; len = len } ∷ inside) (behind t q len ∷ []) vs rs before after → Ascends low high rs
-          → Tells level inside low high p before (of_first t q len rs after vs)
+          → IsReading level inside low high p before (of_first t q len rs after vs)
       by_values no_values rs after k a = tt
       by_values (more_values v no_values) rs after k a = (held k, a)
         where
@@ -234,9 +234,9 @@ module _ (names : Names) (bytes : List ℕ) where
               refl refl
       by_values (more_values v (more_values w vs)) rs after k a = tt
 
-  later_tells : (level : ℕ) (inside : List Opened) (low high : ℕ) (p : Part) (before : List Visit) (cyclic : Bool) (t : ℕ) (q : Pointee) (len : ℕ) (w : Visit)
-      → content_of names bytes p ≡ counting cyclic t q len → opened inside t ≡ None → visited before t ≡ Some w
-      → (b : Bool) → same_visit w t q len ≡ b → Tells level inside low high p before (again b (counted t w.value) before)
+  later_tells : (level : ℕ) (inside : List OpenShared) (low high : ℕ) (p : Part) (before : List Visit) (cyclic : Bool) (t : ℕ) (q : Pointee) (len : ℕ) (w : Visit)
+      → content_of names bytes p ≡ counting cyclic t q len → open_at inside t ≡ None → visited before t ≡ Some w
+      → (b : Bool) → same_visit w t q len ≡ b → IsReading level inside low high p before (again b (counted t w.value) before)
   unfolding again Ascends
   later_tells level inside low high p before cyclic t q len w e x y true f =
       (holds_later e x (y ∙ ap Some (visit_is w t q len f)) refl refl refl, tt)
@@ -254,9 +254,9 @@ module _ (names : Names) (bytes : List ℕ) where
           some_is z = cc
       other (is_back c x' d g h') = cc
 
-  back_tells : (level : ℕ) (inside : List Opened) (low high : ℕ) (p : Part) (before : List Visit) (cyclic : Bool) (t : ℕ) (q : Pointee) (len : ℕ) (o : Opened)
-      → content_of names bytes p ≡ counting cyclic t q len → opened inside t ≡ Some o
-      → (b : Bool) → (cyclic && same_opened o t q len) ≡ b → Tells level inside low high p before (again b (back t) before)
+  back_tells : (level : ℕ) (inside : List OpenShared) (low high : ℕ) (p : Part) (before : List Visit) (cyclic : Bool) (t : ℕ) (q : Pointee) (len : ℕ) (o : OpenShared)
+      → content_of names bytes p ≡ counting cyclic t q len → open_at inside t ≡ Some o
+      → (b : Bool) → (cyclic && same_opened o t q len) ≡ b → IsReading level inside low high p before (again b (back t) before)
   unfolding again Ascends
   back_tells level inside low high p before cyclic t q len o e x true f =
       let c = both_left cyclic _ f in
@@ -272,37 +272,37 @@ module _ (names : Names) (bytes : List ℕ) where
           let m = both cyclic (same_opened o t q len) c (k ∙ opened_itself t q len) in
           cc
         where
-          some_is : {a b : Opened} → ◌≡◌ {A = Option Opened} (Some a) (Some b) → a ≡ b
+          some_is : {a b : OpenShared} → ◌≡◌ {A = Option OpenShared} (Some a) (Some b) → a ≡ b
           some_is z = cc
 
-  counted_tells : (all : Evaluator) → ((level : ℕ) (inside : List Opened) (low high : ℕ) (ps : List Part) (before : List Visit) → TellsAll level inside low high ps before (all level inside low high ps before))
-      → (level : ℕ) (inside : List Opened) (low high : ℕ) (p : Part) (before : List Visit) (cyclic : Bool) (t : ℕ) (q : Pointee) (len : ℕ)
+  counted_tells : (all : Evaluator) → ((level : ℕ) (inside : List OpenShared) (low high : ℕ) (ps : List Part) (before : List Visit) → TellsAll level inside low high ps before (all level inside low high ps before))
+      → (level : ℕ) (inside : List OpenShared) (low high : ℕ) (p : Part) (before : List Visit) (cyclic : Bool) (t : ℕ) (q : Pointee) (len : ℕ)
       → content_of names bytes p ≡ counting cyclic t q len
-      → (o : Option Opened) → opened inside t ≡ o → (w : Option Visit) → visited before t ≡ w
-      → Tells level inside low high p before (counted_part all level inside low high before cyclic t q len o w)
+      → (o : Option OpenShared) → open_at inside t ≡ o → (w : Option Visit) → visited before t ≡ w
+      → IsReading level inside low high p before (counted_part all level inside low high before cyclic t q len o w)
   unfolding counted_part
   counted_tells all h level inside low high p before cyclic t q len e (Some o) x w y = back_tells level inside low high p before cyclic t q len o e x _ refl
   counted_tells all h level inside low high p before cyclic t q len e None x (Some w) y = later_tells level inside low high p before cyclic t q len w e x y _ refl
   counted_tells all h level inside low high p before cyclic t q len e None x None y =
       first_tells level inside low high p before cyclic t q len e x y _ (h level (record { pos = t; pointee = q; len = len } ∷ inside) low high (behind t q len ∷ []) before)
 
-  part_tells : (all : Evaluator) → ((level : ℕ) (inside : List Opened) (low high : ℕ) (ps : List Part) (before : List Visit) → TellsAll level inside low high ps before (all level inside low high ps before))
-      → (level : ℕ) (inside : List Opened) (low high : ℕ) (p : Part) (before : List Visit) (c : Content)
-      → content_of names bytes p ≡ c → Tells level inside low high p before (one_part all level inside low high before c)
+  part_tells : (all : Evaluator) → ((level : ℕ) (inside : List OpenShared) (low high : ℕ) (ps : List Part) (before : List Visit) → TellsAll level inside low high ps before (all level inside low high ps before))
+      → (level : ℕ) (inside : List OpenShared) (low high : ℕ) (p : Part) (before : List Visit) (c : Content)
+      → content_of names bytes p ≡ c → IsReading level inside low high p before (one_part all level inside low high before c)
   unfolding one_part
   part_tells all h level inside low high p before illegal e = illegal_tells level inside low high p before e
   part_tells all h level inside low high p before (plain l ps) e = plain_tells level inside low high p before l ps e _ (h level inside low high ps before)
   part_tells all h level inside low high p before (claimed s l ps) e = by_test (fits low high s) refl
     where
       by_test : (b : Bool) → fits low high s ≡ b
-          → Tells level inside low high p before (elim b [ true ↦ of_claimed l (region_of s level) (all (suc level) inside low s.start ps before) | false ↦ refused ])
+          → IsReading level inside low high p before (elim b [ true ↦ of_claimed l (region_of s level) (all (suc level) inside low s.start ps before) | false ↦ refused ])
       by_test true f = claimed_tells level inside low high p before s l ps e (it_fits low high s f) _ (h (suc level) inside low s.start ps before)
       by_test false f = claims_elsewhere level inside low high p before s l ps e f
   part_tells all h level inside low high p before (counting cyclic t q len) e =
-      counted_tells all h level inside low high p before cyclic t q len e (opened inside t) refl (visited before t) refl
+      counted_tells all h level inside low high p before cyclic t q len e (open_at inside t) refl (visited before t) refl
 
-  joined_tells : (level : ℕ) (inside : List Opened) (low high : ℕ) (p : Part) (ps : List Part) (before : List Visit) (first : Reading)
-      → Tells level inside low high p before (found first)
+  joined_tells : (level : ℕ) (inside : List OpenShared) (low high : ℕ) (p : Part) (ps : List Part) (before : List Visit) (first : Reading)
+      → IsReading level inside low high p before (found first)
       → (a : Answer Readings) → TellsAll level inside (end_after low first.regions) high ps first.after a → TellsAll level inside low high (p ∷ ps) before (joined first a)
   unfolding joined
   joined_tells level inside low high p ps before first h unfinished k = tt
@@ -318,8 +318,8 @@ module _ (names : Names) (bytes : List ℕ) where
   joined_tells level inside low high p ps before first h (found r) k =
       (holds_more h.0 k.0 refl refl, (Ascends-append low high first.regions r.regions).1 (h.1, k.1))
 
-  and_then_tells : (level : ℕ) (inside : List Opened) (low high : ℕ) (p : Part) (ps : List Part) (before : List Visit) (a : Answer Reading) (rest : Reading → Answer Readings)
-      → Tells level inside low high p before a
+  and_then_tells : (level : ℕ) (inside : List OpenShared) (low high : ℕ) (p : Part) (ps : List Part) (before : List Visit) (a : Answer Reading) (rest : Reading → Answer Readings)
+      → IsReading level inside low high p before a
       → ((r : Reading) → TellsAll level inside (end_after low r.regions) high ps r.after (rest r))
       → TellsAll level inside low high (p ∷ ps) before (and_then a rest)
   unfolding and_then
@@ -331,7 +331,7 @@ module _ (names : Names) (bytes : List ℕ) where
           h v here between g ((Ascends-append low high here later).0 (subst (Ascends low high) r a)).0
   and_then_tells level inside low high p ps before (found r) rest h k = joined_tells level inside low high p ps before r h (rest r) (k r)
 
-  pub evaluate_all_tells : (fuel level : ℕ) (inside : List Opened) (low high : ℕ) (ps : List Part) (before : List Visit)
+  pub evaluate_all_tells : (fuel level : ℕ) (inside : List OpenShared) (low high : ℕ) (ps : List Part) (before : List Visit)
       → TellsAll level inside low high ps before (evaluate_all fuel names bytes level inside low high ps before)
   unfolding evaluate_all Ascends
   evaluate_all_tells zero level inside low high ps before = tt
@@ -341,8 +341,8 @@ module _ (names : Names) (bytes : List ℕ) where
       (part_tells _ (λ l i a b qs w. evaluate_all_tells fuel l i a b qs w) level inside low high p before (content_of names bytes p) refl)
       (λ r. evaluate_all_tells fuel level inside (end_after low r.regions) high ps r.after)
 
-  alone_tells : (level : ℕ) (inside : List Opened) (low high : ℕ) (p : Part) (before : List Visit) (a : Answer Readings)
-      → TellsAll level inside low high (p ∷ []) before a → Tells level inside low high p before (alone a)
+  alone_tells : (level : ℕ) (inside : List OpenShared) (low high : ℕ) (p : Part) (before : List Visit) (a : Answer Readings)
+      → TellsAll level inside low high (p ∷ []) before a → IsReading level inside low high p before (alone a)
   unfolding alone
   alone_tells level inside low high p before unfinished h = tt
   alone_tells level inside low high p before refused h = λ v rs after k a.
@@ -350,7 +350,7 @@ module _ (names : Names) (bytes : List ℕ) where
   alone_tells level inside low high p before (found r) h = by_values r.values r.regions r.after h.0 h.1
     where
       by_values : (vs : Values) (rs : List Region) (after : List Visit) → HoldAll names bytes level inside (p ∷ []) vs rs before after → Ascends low high rs
-          → Tells level inside low high p before (alone (found (record { values = vs; regions = rs; after = after })))
+          → IsReading level inside low high p before (alone (found (record { values = vs; regions = rs; after = after })))
       by_values no_values rs after k a = tt
       by_values (more_values v no_values) rs after k a = (held k, a)
         where
@@ -364,8 +364,8 @@ module _ (names : Names) (bytes : List ℕ) where
               (subst (λ b. Holds names bytes level inside p b here before between) ev k))
       by_values (more_values v (more_values w vs)) rs after k a = tt
 
-  pub evaluate_tells : (fuel level : ℕ) (inside : List Opened) (low high : ℕ) (p : Part) (before : List Visit)
-      → Tells level inside low high p before (evaluate fuel names bytes level inside low high p before)
+  pub evaluate_tells : (fuel level : ℕ) (inside : List OpenShared) (low high : ℕ) (p : Part) (before : List Visit)
+      → IsReading level inside low high p before (evaluate fuel names bytes level inside low high p before)
   unfolding evaluate
   evaluate_tells fuel level inside low high p before = alone_tells level inside low high p before _ (evaluate_all_tells fuel level inside low high (p ∷ []) before)
 
@@ -374,7 +374,7 @@ module _ (names : Names) (bytes : List ℕ) where
       → evaluate_root fuel names bytes pos s ≡ found (record { value = v; regions = rs; after = visits }) → HasRoot names bytes pos s v rs visits
   unfolding evaluate_root
   root_found fuel pos s v rs visits e =
-      let h = subst (Tells 0 [] 0 (length bytes) (behind pos (sized s) 1) []) e (evaluate_tells fuel 0 [] 0 (length bytes) (behind pos (sized s) 1) []) in
+      let h = subst (IsReading 0 [] 0 (length bytes) (behind pos (sized s) 1) []) e (evaluate_tells fuel 0 [] 0 (length bytes) (behind pos (sized s) 1) []) in
       record { holds = h.0; ascends = h.1 }
 
   -- where a root is refused there is none
@@ -382,5 +382,5 @@ module _ (names : Names) (bytes : List ℕ) where
       → (v : Value) (rs : List Region) (visits : List Visit) → HasRoot names bytes pos s v rs visits → ⊥
   unfolding evaluate_root
   root_refused fuel pos s e v rs visits root =
-      let h = subst (Tells 0 [] 0 (length bytes) (behind pos (sized s) 1) []) e (evaluate_tells fuel 0 [] 0 (length bytes) (behind pos (sized s) 1) []) in
+      let h = subst (IsReading 0 [] 0 (length bytes) (behind pos (sized s) 1) []) e (evaluate_tells fuel 0 [] 0 (length bytes) (behind pos (sized s) 1) []) in
       h v rs visits root.holds root.ascends

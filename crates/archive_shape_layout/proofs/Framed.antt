@@ -13,7 +13,7 @@ use Rattle.archive_shape_layout.specs.Content.Item.{item, place}
 use Rattle.archive_shape_layout.specs.Content.Part.{at, behind, node, child, entry, buckets, place_at}
 use Rattle.archive_shape_layout.specs.Content.Content.{illegal, plain, claimed, counting}
 use Rattle.archive_shape_layout.specs.Laws.{AgreesOn, OwnAgrees, RegionsAgree, Frame}
-use Rattle.archive_shape_layout.specs.Holds.{Region, region_of, Visit, Opened, Holds, HoldAll}
+use Rattle.archive_shape_layout.specs.Holds.{Region, region_of, Visit, OpenShared, Holds, HoldAll}
 use Rattle.archive_shape_layout.specs.Holds.Holds.{holds_plain, holds_claimed, holds_first, holds_later, holds_back}
 use Rattle.archive_shape_layout.specs.Holds.HoldAll.{holds_none, holds_more}
 
@@ -237,7 +237,8 @@ module _ (bytes others : List ℕ) where
 
   child_settled : (level most : ℕ) (k v : Shape) (pos : ℕ) (own : List ℕ) → Settled (child_content level most k v pos own)
   unfolding child_content
-  child_settled level most k v pos own = choose_settled _ _ _ (λ _. no_parts) (following_settled _ _ (λ t. one_node))
+  child_settled level most k v pos own =
+      choose_settled _ _ _ (λ _. no_parts) (choose_settled _ _ _ (λ _. following_settled _ _ (λ t. one_node)) is_illegal)
 
   place_settled : (limit : ℕ) (own : List ℕ) → Settled (place_content limit own)
   unfolding place_content
@@ -374,7 +375,7 @@ module _ (bytes others : List ℕ) where
       unfolding Agreed
 
       pub frame :
-          {level : ℕ} {inside : List Opened} {p : Part} {v : Value} {rs : List Region} {before after : List Visit}
+          {level : ℕ} {inside : List OpenShared} {p : Part} {v : Value} {rs : List Region} {before after : List Visit}
           → OwnAgrees bytes others p
           → RegionsAgree bytes others rs
           → Holds names bytes level inside p v rs before after
@@ -395,7 +396,7 @@ module _ (bytes others : List ℕ) where
           holds_back (stable names p (counting true t q len) own e tt) a d g h
 
       pub frame_all :
-          {level : ℕ} {inside : List Opened} {ps : List Part} {vs : Values} {rs : List Region} {before after : List Visit}
+          {level : ℕ} {inside : List OpenShared} {ps : List Part} {vs : Values} {rs : List Region} {before after : List Visit}
           → AllOwn ps
           → RegionsAgree bytes others rs
           → HoldAll names bytes level inside ps vs rs before after

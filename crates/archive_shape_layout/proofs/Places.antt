@@ -1,4 +1,4 @@
--- Where parts' own bytes lie: parts of one content stand apart, behind what the content itself reads.
+-- Where parts' own bytes lie: parts of one content stand apart, after what the content itself reads.
 use Rattle.std.proofs.Common.{◌≡◌, ℕ, ◌+◌, ◌-◌, ◌*◌, ◌≤◌, max, zero, suc, Bool, true, false, cond, ◌==◌, ◌&&◌, nat_lt, List, [], ◌∷◌, ◌++◌, take, length, slice_index, Option, Some, None, refl, arith, le_refl, ◌⊎◌, inl, inr, ⊎_elim, mul-le-mul_right, suc-mul, leb-true, length-take}
 use Rattle.std.specs.Prelude.{⊤}
 use Rattle.archive_shape_layout.specs.Bytes.{align_up, word_at}
@@ -388,7 +388,7 @@ keys_follow : (k : Shape) → 1 ≤ keys_offset k
 unfolding keys_offset
 keys_follow k = le_align_up 1 (align_of k)
 
--- the kind byte, and behind the entries a leaf's length or an inner node's pointers
+-- the kind byte, and after the entries a leaf's length or an inner node's pointers
 abbrev pub node_high : ℕ → ℕ → Shape → Shape → ℕ
 node_high zero most k v = links_offset most k v
 node_high (suc kind) most k v = link_node_size (most + 1) most k v
@@ -439,7 +439,8 @@ buckets_laid target len many it controls =
 -- where no part has bytes of its own for a leaf, any bounds do
 pub child_laid : (low high level most : ℕ) (k v : Shape) (pos : ℕ) (own : List ℕ) → Laid low high false (child_content level most k v pos own)
 unfolding child_content
-child_laid low high level most k v pos own = choose_laid _ _ _ (λ _. none_laid) (following_laid _ _ (λ t. node_one))
+child_laid low high level most k v pos own =
+    choose_laid _ _ _ (λ _. none_laid) (choose_laid _ _ _ (λ _. following_laid _ _ (λ t. node_one)) laid_illegal)
 
 pub place_laid : (low high limit : ℕ) (own : List ℕ) → Laid low high false (place_content limit own)
 unfolding place_content

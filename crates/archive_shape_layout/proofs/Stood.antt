@@ -2,7 +2,7 @@
 use Rattle.std.proofs.Common.{◌≡◌, ℕ, zero, suc, ◌-◌, cond, nat_lt, Bool, true, false, List, [], ◌∷◌, ◌++◌, Option, Some, None, refl, ap, ap₂, sym, subst, ◌∙◌}
 use Rattle.archive_shape_layout.specs.Value.{Value, Values}
 use Rattle.archive_shape_layout.specs.Content.{Names, Part}
-use Rattle.archive_shape_layout.specs.Holds.{Region, Visit, Opened, Holds, HoldAll}
+use Rattle.archive_shape_layout.specs.Holds.{Region, Visit, OpenShared, Holds, HoldAll}
 use Rattle.archive_shape_layout.specs.Holds.HoldAll.{holds_none, holds_more}
 use Rattle.archive_shape_layout.specs.Path.{value_in, value_at, child_place, entry_place, in_child, in_entry, through, Stands, StandsIn}
 use Rattle.archive_shape_layout.specs.Path.Stands.{stands_here, stands_plain, stands_claimed}
@@ -19,7 +19,7 @@ pub record InValue (i : ℕ) (vs : Values) (path : List ℕ) (w : Value) : Type 
 
 module _ (names : Names) (bytes : List ℕ) (q : Part) (w : Value) where
   mutual
-    pub stands_value : {level : ℕ} {inside : List Opened} {before : List Visit} {p : Part} {v : Value} {path : List ℕ}
+    pub stands_value : {level : ℕ} {inside : List OpenShared} {before : List Visit} {p : Part} {v : Value} {path : List ℕ}
         → Stands names bytes q w level inside before p v path → value_at path v ≡ Some w
     stands_value (stands_here ep ev er) = ap₂ (λ r x. value_at r x) er ev
     stands_value {v = v} {path = path} (stands_plain {inner = inner} {l = l} {vs = vs} {i = i} e within is_made through) =
@@ -29,7 +29,7 @@ module _ (names : Names) (bytes : List ℕ) (q : Part) (w : Value) where
         let u = stands_in_value within in
         (put_label l vs i inner path v w u.value w is_made u.there u.inner through).is_there
 
-    pub stands_in_value : {level : ℕ} {inside : List Opened} {before : List Visit} {ps : List Part} {vs : Values} {i : ℕ} {path : List ℕ}
+    pub stands_in_value : {level : ℕ} {inside : List OpenShared} {before : List Visit} {ps : List Part} {vs : Values} {i : ℕ} {path : List ℕ}
         → StandsIn names bytes q w level inside before ps vs i path → InValue i vs path w
     stands_in_value (stands_first {v = v} stands holds rest is zero_is) =
         record { value = v; there = ap₂ (λ k x. value_in k x) zero_is is; inner = stands_value stands }
@@ -37,12 +37,12 @@ module _ (names : Names) (bytes : List ℕ) (q : Part) (w : Value) where
         let u = stands_in_value stands in
         record { value = u.value; there = ap₂ (λ k x. value_in k x) suc_is is ∙ u.there; inner = u.inner }
 
-  pub record AllHeld (level : ℕ) (inside : List Opened) (ps : List Part) (vs : Values) (before : List Visit) : Type 0 where
+  pub record AllHeld (level : ℕ) (inside : List OpenShared) (ps : List Part) (vs : Values) (before : List Visit) : Type 0 where
     pub regions : List Region
     pub after : List Visit
     pub all : HoldAll names bytes level inside ps vs regions before after
 
-  pub stands_all : {level : ℕ} {inside : List Opened} {before : List Visit} {ps : List Part} {vs : Values} {i : ℕ} {path : List ℕ}
+  pub stands_all : {level : ℕ} {inside : List OpenShared} {before : List Visit} {ps : List Part} {vs : Values} {i : ℕ} {path : List ℕ}
       → StandsIn names bytes q w level inside before ps vs i path → AllHeld level inside ps vs before
   stands_all (stands_first {after = after} {here = here} {later = later} stands holds rest is zero_is) =
       record { regions = here ++ later; after = after; all = holds_more holds rest is refl }
@@ -53,7 +53,7 @@ module _ (names : Names) (bytes : List ℕ) (q : Part) (w : Value) where
 pub value_at_path_law : ValueAtPath
 value_at_path_law names bytes level inside before p q v w path stands = stands_value names bytes q w stands
 
--- ---- a path behind another
+-- ---- a path after another
 
 module _ (more : List ℕ) where
   in_child_more : (o : Option ℕ) (inner path : List ℕ) → in_child o inner ≡ Some path → in_child o (inner ++ more) ≡ Some (path ++ more)
@@ -88,11 +88,11 @@ module _ (more : List ℕ) where
 
   module _
       (names : Names) (bytes : List ℕ) (q r : Part) (w u : Value)
-      (on : (level : ℕ) (inside : List Opened) (before after : List Visit) (regions : List Region)
+      (on : (level : ℕ) (inside : List OpenShared) (before after : List Visit) (regions : List Region)
       → Holds names bytes level inside q w regions before after → Stands names bytes r u level inside before q w more)
     where
       mutual
-        pub joined : {level : ℕ} {inside : List Opened} {before : List Visit} {p : Part} {v : Value} {path : List ℕ} (regions : List Region) (after : List Visit)
+        pub joined : {level : ℕ} {inside : List OpenShared} {before : List Visit} {p : Part} {v : Value} {path : List ℕ} (regions : List Region) (after : List Visit)
             → Holds names bytes level inside p v regions before after
             → Stands names bytes q w level inside before p v path → Stands names bytes r u level inside before p v (path ++ more)
         joined {level = level} {inside = inside} {before = before} {p = p} {v = v} {path = path} regions after h (stands_here ep ev er) =
@@ -106,7 +106,7 @@ module _ (more : List ℕ) where
         joined regions after h (stands_claimed {inner = inner} {path = path} {l = l} {vs = vs} {i = i} e within is_made through) =
             stands_claimed e (joined_in within) is_made (through_more l vs i inner path through)
 
-        joined_in : {level : ℕ} {inside : List Opened} {before : List Visit} {ps : List Part} {vs : Values} {i : ℕ} {path : List ℕ}
+        joined_in : {level : ℕ} {inside : List OpenShared} {before : List Visit} {ps : List Part} {vs : Values} {i : ℕ} {path : List ℕ}
             → StandsIn names bytes q w level inside before ps vs i path → StandsIn names bytes r u level inside before ps vs i (path ++ more)
         joined_in (stands_first {between = between} {here = here} stands holds rest is zero_is) = stands_first (joined here between holds stands) holds rest is zero_is
         joined_in (stands_later holds stands is suc_is) = stands_later holds (joined_in stands) is suc_is
@@ -124,7 +124,7 @@ part_in (suc i) (p ∷ ps) = part_in i ps
 
 module _ (names : Names) (bytes : List ℕ) where
   -- part i of a list that holds: its value, its context, and that what stands in it stands in the list
-  pub record IsPicked (level : ℕ) (inside : List Opened) (before : List Visit) (ps : List Part) (vs : Values) (i : ℕ) (p : Part) : Type 0 where
+  pub record IsPicked (level : ℕ) (inside : List OpenShared) (before : List Visit) (ps : List Part) (vs : Values) (i : ℕ) (p : Part) : Type 0 where
     pub value : Value
     pub regions : List Region
     pub since : List Visit
@@ -133,7 +133,7 @@ module _ (names : Names) (bytes : List ℕ) where
     pub holds : Holds names bytes level inside p value regions since until
     pub within : (q : Part) (w : Value) (path : List ℕ) → Stands names bytes q w level inside since p value path → StandsIn names bytes q w level inside before ps vs i path
 
-  pub picked : {level : ℕ} {inside : List Opened} {ps : List Part} {vs : Values} {regions : List Region} {before after : List Visit} (i : ℕ) (p : Part)
+  pub picked : {level : ℕ} {inside : List OpenShared} {ps : List Part} {vs : Values} {regions : List Region} {before after : List Visit} (i : ℕ) (p : Part)
       → HoldAll names bytes level inside ps vs regions before after → part_in i ps ≡ Some p → IsPicked level inside before ps vs i p
   unfolding part_in
   picked i p (holds_none x y z) e = absurd (cc)

@@ -7,7 +7,7 @@ use Rattle.archive_shape_layout.specs.Content.{Names, Part, Span, Label, content
 use Rattle.archive_shape_layout.specs.Content.Part.{behind}
 use Rattle.archive_shape_layout.specs.Content.Content.{plain, claimed, counting}
 use Rattle.archive_shape_layout.specs.Laws.{Agree, OneValue}
-use Rattle.archive_shape_layout.specs.Holds.{Region, region_of, Visit, Opened, visited, opened, Holds, HoldAll}
+use Rattle.archive_shape_layout.specs.Holds.{Region, region_of, Visit, OpenShared, visited, open_at, Holds, HoldAll}
 use Rattle.archive_shape_layout.specs.Holds.Holds.{holds_plain, holds_claimed, holds_first, holds_later, holds_back}
 use Rattle.archive_shape_layout.specs.Holds.HoldAll.{holds_none, holds_more}
 
@@ -17,13 +17,13 @@ visit_value x y e = let same : x ≡ y = cc in ap (λ (v : Visit). v.value) same
 
 module _ (names : Names) (bytes : List ℕ) where
   -- what a plain part's value rests on
-  pub record PlainHolds (level : ℕ) (inside : List Opened) (l : Label) (ps : List Part) (v : Value) (regions : List Region) (before after : List Visit) : Type 0 where
+  pub record PlainHolds (level : ℕ) (inside : List OpenShared) (l : Label) (ps : List Part) (v : Value) (regions : List Region) (before after : List Visit) : Type 0 where
     pub vs : Values
     pub legal : IsLegal l
     pub all : HoldAll names bytes level inside ps vs regions before after
     pub is_made : made l vs ≡ Some v
 
-  pub record ClaimedHolds (level : ℕ) (inside : List Opened) (s : Span) (l : Label) (ps : List Part) (v : Value) (regions : List Region) (before after : List Visit) : Type 0 where
+  pub record ClaimedHolds (level : ℕ) (inside : List OpenShared) (s : Span) (l : Label) (ps : List Part) (v : Value) (regions : List Region) (before after : List Visit) : Type 0 where
     pub vs : Values
     pub within : List Region
     pub legal : IsLegal l
@@ -31,34 +31,34 @@ module _ (names : Names) (bytes : List ℕ) where
     pub is_made : made l vs ≡ Some v
     pub regions_are : regions ≡ within ++ region_of s level ∷ []
 
-  pub data CountedHolds : ℕ → List Opened → Bool → ℕ → Pointee → ℕ → Value → List Region → List Visit → List Visit → Type 0 where
+  pub data CountedHolds : ℕ → List OpenShared → Bool → ℕ → Pointee → ℕ → Value → List Region → List Visit → List Visit → Type 0 where
     is_first :
-        {level : ℕ} {inside : List Opened} {v w : Value} {regions : List Region} {before after between : List Visit} {cyclic : Bool} {t : ℕ} {q : Pointee} {len : ℕ}
-        → opened inside t ≡ None
+        {level : ℕ} {inside : List OpenShared} {v w : Value} {regions : List Region} {before after between : List Visit} {cyclic : Bool} {t : ℕ} {q : Pointee} {len : ℕ}
+        → open_at inside t ≡ None
         → visited before t ≡ None
         → Holds names bytes level (record { pos = t; pointee = q; len = len } ∷ inside) (behind t q len) w regions before between
         → v ≡ counted t w
         → after ≡ record { pos = t; pointee = q; len = len; value = w } ∷ between
         → CountedHolds level inside cyclic t q len v regions before after
     is_later :
-        {level : ℕ} {inside : List Opened} {v w : Value} {regions : List Region} {before after : List Visit} {cyclic : Bool} {t : ℕ} {q : Pointee} {len : ℕ}
-        → opened inside t ≡ None
+        {level : ℕ} {inside : List OpenShared} {v w : Value} {regions : List Region} {before after : List Visit} {cyclic : Bool} {t : ℕ} {q : Pointee} {len : ℕ}
+        → open_at inside t ≡ None
         → visited before t ≡ Some (record { pos = t; pointee = q; len = len; value = w })
         → v ≡ counted t w
         → regions ≡ []
         → after ≡ before
         → CountedHolds level inside cyclic t q len v regions before after
     is_back :
-        {level : ℕ} {inside : List Opened} {v : Value} {regions : List Region} {before after : List Visit} {cyclic : Bool} {t : ℕ} {q : Pointee} {len : ℕ}
+        {level : ℕ} {inside : List OpenShared} {v : Value} {regions : List Region} {before after : List Visit} {cyclic : Bool} {t : ℕ} {q : Pointee} {len : ℕ}
         → cyclic ≡ true
-        → opened inside t ≡ Some (record { pos = t; pointee = q; len = len })
+        → open_at inside t ≡ Some (record { pos = t; pointee = q; len = len })
         → v ≡ back t
         → regions ≡ []
         → after ≡ before
         → CountedHolds level inside cyclic t q len v regions before after
 
   pub by_plain :
-      {level : ℕ} {inside : List Opened} {p : Part} {l : Label} {ps : List Part} {v : Value} {regions : List Region} {before after : List Visit}
+      {level : ℕ} {inside : List OpenShared} {p : Part} {l : Label} {ps : List Part} {v : Value} {regions : List Region} {before after : List Visit}
       → content_of names bytes p ≡ plain l ps
       → Holds names bytes level inside p v regions before after
       → PlainHolds level inside l ps v regions before after
@@ -72,7 +72,7 @@ module _ (names : Names) (bytes : List ℕ) where
   by_plain e (holds_back f a b c d) = absurd (cc)
 
   pub by_claimed :
-      {level : ℕ} {inside : List Opened} {p : Part} {s : Span} {l : Label} {ps : List Part} {v : Value} {regions : List Region} {before after : List Visit}
+      {level : ℕ} {inside : List OpenShared} {p : Part} {s : Span} {l : Label} {ps : List Part} {v : Value} {regions : List Region} {before after : List Visit}
       → content_of names bytes p ≡ claimed s l ps
       → Holds names bytes level inside p v regions before after
       → ClaimedHolds level inside s l ps v regions before after
@@ -94,7 +94,7 @@ module _ (names : Names) (bytes : List ℕ) where
   by_claimed e (holds_back f a b c d) = absurd (cc)
 
   pub by_counting :
-      {level : ℕ} {inside : List Opened} {p : Part} {cyclic : Bool} {t : ℕ} {q : Pointee} {len : ℕ} {v : Value} {regions : List Region} {before after : List Visit}
+      {level : ℕ} {inside : List OpenShared} {p : Part} {cyclic : Bool} {t : ℕ} {q : Pointee} {len : ℕ} {v : Value} {regions : List Region} {before after : List Visit}
       → content_of names bytes p ≡ counting cyclic t q len
       → Holds names bytes level inside p v regions before after
       → CountedHolds level inside cyclic t q len v regions before after
@@ -138,9 +138,9 @@ module _ (names : Names) (bytes : List ℕ) where
     pub after : a ≡ b
 
   first_agrees :
-      {level : ℕ} {inside : List Opened} {cyclic : Bool} {t : ℕ} {q : Pointee} {len : ℕ} {v w w' : Value} {rs qs : List Region} {before between after b : List Visit}
+      {level : ℕ} {inside : List OpenShared} {cyclic : Bool} {t : ℕ} {q : Pointee} {len : ℕ} {v w w' : Value} {rs qs : List Region} {before between after b : List Visit}
       → ((u : Value) (us : List Region) (c : List Visit) → Holds names bytes level (record { pos = t; pointee = q; len = len } ∷ inside) (behind t q len) u us before c → Agree w u rs us between c)
-      → opened inside t ≡ None
+      → open_at inside t ≡ None
       → visited before t ≡ None
       → v ≡ counted t w
       → after ≡ record { pos = t; pointee = q; len = len; value = w } ∷ between
@@ -155,8 +155,8 @@ module _ (names : Names) (bytes : List ℕ) where
   first_agrees ih x y d g (is_back c x' d' g' h') = absurd (cc)
 
   later_agrees :
-      {level : ℕ} {inside : List Opened} {cyclic : Bool} {t : ℕ} {q : Pointee} {len : ℕ} {v w w' : Value} {rs qs : List Region} {before after b : List Visit}
-      → opened inside t ≡ None
+      {level : ℕ} {inside : List OpenShared} {cyclic : Bool} {t : ℕ} {q : Pointee} {len : ℕ} {v w w' : Value} {rs qs : List Region} {before after b : List Visit}
+      → open_at inside t ≡ None
       → visited before t ≡ Some (record { pos = t; pointee = q; len = len; value = w })
       → v ≡ counted t w
       → rs ≡ []
@@ -170,8 +170,8 @@ module _ (names : Names) (bytes : List ℕ) where
   later_agrees x y d g h (is_back c x' d' g' h') = absurd (cc)
 
   back_agrees :
-      {level : ℕ} {inside : List Opened} {cyclic : Bool} {t : ℕ} {q : Pointee} {len : ℕ} {v w' : Value} {rs qs : List Region} {before after b : List Visit}
-      → opened inside t ≡ Some (record { pos = t; pointee = q; len = len })
+      {level : ℕ} {inside : List OpenShared} {cyclic : Bool} {t : ℕ} {q : Pointee} {len : ℕ} {v w' : Value} {rs qs : List Region} {before after b : List Visit}
+      → open_at inside t ≡ Some (record { pos = t; pointee = q; len = len })
       → v ≡ back t
       → rs ≡ []
       → after ≡ before
@@ -183,7 +183,7 @@ module _ (names : Names) (bytes : List ℕ) where
 
   mutual
     pub one_value :
-        {level : ℕ} {inside : List Opened} {p : Part} {v : Value} {rs : List Region} {before a : List Visit} (w : Value) (qs : List Region) (b : List Visit)
+        {level : ℕ} {inside : List OpenShared} {p : Part} {v : Value} {rs : List Region} {before a : List Visit} (w : Value) (qs : List Region) (b : List Visit)
         → Holds names bytes level inside p v rs before a
         → Holds names bytes level inside p w qs before b
         → Agree v w rs qs a b
@@ -207,7 +207,7 @@ module _ (names : Names) (bytes : List ℕ) where
     one_value w qs b (holds_back f x d g h) other = back_agrees x d g h (by_counting f other)
 
     pub one_list :
-        {level : ℕ} {inside : List Opened} {ps : List Part} {vs : Values} {rs : List Region} {before a : List Visit} (ws : Values) (qs : List Region) (b : List Visit)
+        {level : ℕ} {inside : List OpenShared} {ps : List Part} {vs : Values} {rs : List Region} {before a : List Visit} (ws : Values) (qs : List Region) (b : List Visit)
         → HoldAll names bytes level inside ps vs rs before a
         → HoldAll names bytes level inside ps ws qs before b
         → AgreeAll vs ws rs qs a b

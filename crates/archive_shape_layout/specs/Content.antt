@@ -1,6 +1,6 @@
 -- What stands at a place, one step deep and by cases of the shape: what its own bytes say, the parts below it in the
 -- order in which they are visited, and the region that it claims. `Holds` closes it, by recursion.
-use Rattle.std.specs.Prelude.{ℕ, zero, suc, ◌+◌, ◌-◌, ◌*◌, ◌/◌, ◌%◌, max, Bool, true, false, cond, ◌&&◌, ◌||◌, nat_le, nat_lt, ◌==◌, IsUtf8, List, [], ◌∷◌, ◌++◌, take, drop, slice_index, count_by, Option, Some, None, ⊤}
+use Rattle.std.specs.Prelude.{ℕ, zero, suc, ◌+◌, ◌-◌, ◌*◌, ◌/◌, ◌%◌, max, Bool, true, false, cond, ◌&&◌, ◌||◌, nat_le, nat_lt, ◌==◌, IsTrue, IsUtf8, List, [], ◌∷◌, ◌++◌, take, drop, slice_index, count_by, Option, Some, None, ⊤}
 use Rattle.std.specs.Int.{Width, from_le_bytes, cast_signed}
 use Rattle.archive_shape_layout.specs.Bytes.{window, align_up, word_at, target_from}
 use Rattle.archive_shape_layout.specs.Shape.{Shape, Shapes, Pointee, alignment_bytes, align_of, size_of}
@@ -47,9 +47,9 @@ pub data Label : Type 0 where
   same second whole : Label
   -- a tag and the payload
   tagged : ℕ → Label
-  -- of so many children and then entries, the items in order
+  -- of n children and then entries, the items in order
   woven : ℕ → Label
-  -- its one part's value, which is a group of so many
+  -- its one part's value, which is a group of n
   total : ℕ → Label
 
 pub data Content : Type 0 where
@@ -188,14 +188,20 @@ before_ff (b ∷ bs) = cond (b == 255) [] (b ∷ before_ff bs)
 unfoldable pub text_length : ℕ → ℕ
 text_length word = word % 64 + word / 256 * 64
 
--- a text stands inline where the top two bits of its first byte are not 10; else its length is a u32 and an offset
--- follows, counted from the text's own position. One of at most eight bytes stands inline only.
+-- a text stands inline where the top two bits of its first byte are not 10
+abbrev pub begins_inline : ℕ → Bool
+begins_inline first = nat_lt first 128 || nat_le 192 first
+
+abbrev pub IsInline : ℕ → Type 0
+IsInline first = IsTrue (begins_inline first)
+
+-- Out of line, its length is a u32 and an offset follows, counted from the text's own position. A text of at most eight
+-- bytes stands inline only.
 unfoldable pub text_content : ℕ → List ℕ → Content
 text_content pos own =
-    let first = slice_index own 0 in
     let len = text_length (word_at own 0) in
     choose
-    (nat_lt first 128 || nat_le 192 first)
+    (begins_inline (slice_index own 0))
     (plain (written (before_ff own)) [])
     (choose (nat_lt 8 len) (following (target_from pos (word_at own 4)) (λ t. plain same (behind t str len ∷ []))) illegal)
 
@@ -286,7 +292,7 @@ pointee_content bytes pos (sized s) len = claimed (record { start = pos; size = 
 pointee_content bytes pos (slice s) len = claimed (record { start = pos; size = len * size_of s; align = align_of s }) whole (elements pos len s)
 pointee_content bytes pos str len = claimed (record { start = pos; size = len; align = 1 }) (written (window bytes pos len)) []
 
--- ---- a search tree's node: a kind byte, the keys and the values, and behind them, in a leaf, its length, in an inner
+-- ---- a search tree's node: a kind byte, the keys and the values, and after them, in a leaf, its length, in an inner
 -- node the pointers to its children. Where its parts stand:
 
 unfoldable pub keys_offset : Shape → ℕ
@@ -305,7 +311,7 @@ links_offset most k v = align_up (node_size most k v) 4
 unfoldable pub link_node_align : Shape → Shape → ℕ
 link_node_align k v = max (max (align_of k) (align_of v)) 4
 
--- of a node with so many words of four bytes behind its keys and values
+-- of a node with n words of four bytes after its keys and values
 unfoldable pub link_node_size : ℕ → ℕ → Shape → Shape → ℕ
 link_node_size words most k v = align_up (links_offset most k v + words * 4) (link_node_align k v)
 
@@ -313,7 +319,7 @@ abbrev pub node_span : ℕ → ℕ → Shape → Shape → ℕ → Span
 node_span words most k v pos =
     record { start = pos; size = link_node_size words most k v; align = link_node_align k v }
 
--- a leaf has its length behind them, an inner node a lesser pointer for each entry, and the greater one
+-- a leaf has its length after them, an inner node a lesser pointer for each entry, and the greater one
 abbrev pub words_of : ℕ → ℕ → ℕ
 words_of zero most = 1
 words_of (suc kind) most = most + 1
@@ -336,13 +342,13 @@ node_content level most k v pos (suc zero) own =
     illegal
 node_content level most k v pos (suc (suc kind)) own = illegal
 
--- an offset of 1 is no child
+-- an offset of 1 is no child; a child lies on one of 32 levels
 unfoldable pub child_content : ℕ → ℕ → Shape → Shape → ℕ → List ℕ → Content
 child_content level most k v pos own =
     choose
     (word_at own 0 == 1)
     (plain whole [])
-    (following (target_from pos (word_at own 0)) (λ t. plain same (node level most k v t ∷ [])))
+    (choose (nat_le level 32) (following (target_from pos (word_at own 0)) (λ t. plain same (node level most k v t ∷ []))) illegal)
 
 -- ---- a table's buckets
 

@@ -9,7 +9,7 @@ use Rattle.archive_shape_layout.specs.Value.Values.{no_values}
 use Rattle.archive_shape_layout.specs.Content.{Names, Part, Label, content_of, made, IsLegal}
 use Rattle.archive_shape_layout.specs.Content.Part.{at, behind}
 use Rattle.archive_shape_layout.specs.Content.Content.{plain}
-use Rattle.archive_shape_layout.specs.Holds.{Region, Visit, Opened, Holds, HasRoot}
+use Rattle.archive_shape_layout.specs.Holds.{Region, Visit, OpenShared, Holds, HasRoot}
 use Rattle.archive_shape_layout.specs.Laws.{AgreesOn}
 use Rattle.archive_shape_layout.specs.Path.{value_at, put_at, Stands}
 
@@ -25,17 +25,17 @@ pub record Spares (bytes others : List ℕ) (w n : ℕ) : Type 0 where
 -- the value at the path is that of the part which stands there
 abbrev pub ValueAtPath : Type 0
 ValueAtPath =
-    (names : Names) (bytes : List ℕ) (level : ℕ) (inside : List Opened) (before : List Visit) (p q : Part) (v w : Value) (path : List ℕ)
+    (names : Names) (bytes : List ℕ) (level : ℕ) (inside : List OpenShared) (before : List Visit) (p q : Part) (v w : Value) (path : List ℕ)
     → Stands names bytes q w level inside before p v path
     → value_at path v ≡ Some w
 
--- a part in a part stands at the one path behind the other
+-- a part in a part stands at the one path after the other
 abbrev pub PathsJoin : Type 0
 PathsJoin =
-    (names : Names) (bytes : List ℕ) (level : ℕ) (inside : List Opened) (before after : List Visit) (p q r : Part) (v w u : Value) (regions : List Region) (path inner : List ℕ)
+    (names : Names) (bytes : List ℕ) (level : ℕ) (inside : List OpenShared) (before after : List Visit) (p q r : Part) (v w u : Value) (regions : List Region) (path inner : List ℕ)
     → Holds names bytes level inside p v regions before after
     → Stands names bytes q w level inside before p v path
-    → ((deeper : ℕ) (around : List Opened) (since until : List Visit) (claims : List Region)
+    → ((deeper : ℕ) (around : List OpenShared) (since until : List Visit) (claims : List Region)
     → Holds names bytes deeper around q w claims since until
     → Stands names bytes r u deeper around since q w inner)
     → Stands names bytes r u level inside before p v (path ++ inner)

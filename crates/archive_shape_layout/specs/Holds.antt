@@ -26,7 +26,7 @@ pub record Visit : Type 0 where
   pub value : Value
 
 -- a shared position that is being visited
-pub record Opened : Type 0 where
+pub record OpenShared : Type 0 where
   pub pos : ℕ
   pub pointee : Pointee
   pub len : ℕ
@@ -35,25 +35,25 @@ abbrev pub visited : List Visit → ℕ → Option Visit
 visited [] pos = None
 visited (v ∷ vs) pos = cond (v.pos == pos) (Some v) (visited vs pos)
 
-abbrev pub opened : List Opened → ℕ → Option Opened
-opened [] pos = None
-opened (o ∷ os) pos = cond (o.pos == pos) (Some o) (opened os pos)
+abbrev pub open_at : List OpenShared → ℕ → Option OpenShared
+open_at [] pos = None
+open_at (o ∷ os) pos = cond (o.pos == pos) (Some o) (open_at os pos)
 
 mutual
   -- at a level, inside the shared positions that are open, a part has a value. It claims regions, those inside a region
   -- before it, and takes the shared positions visited so far from `before` to `after`. A shared pointee is claimed at
   -- the first visit of its position; each later visit has the same shape and length. No position lies inside itself
   -- where the pointer's flavor forbids cycles.
-  pub data Holds (names : Names) (bytes : List ℕ) : ℕ → List Opened → Part → Value → List Region → List Visit → List Visit → Type 0 where
+  pub data Holds (names : Names) (bytes : List ℕ) : ℕ → List OpenShared → Part → Value → List Region → List Visit → List Visit → Type 0 where
     holds_plain :
-        {level : ℕ} {inside : List Opened} {p : Part} {v : Value} {regions : List Region} {before after : List Visit} {l : Label} {ps : List Part} {vs : Values}
+        {level : ℕ} {inside : List OpenShared} {p : Part} {v : Value} {regions : List Region} {before after : List Visit} {l : Label} {ps : List Part} {vs : Values}
         → content_of names bytes p ≡ plain l ps
         → IsLegal l
         → HoldAll names bytes level inside ps vs regions before after
         → made l vs ≡ Some v
         → Holds names bytes level inside p v regions before after
     holds_claimed :
-        {level : ℕ} {inside : List Opened} {p : Part} {v : Value} {regions within : List Region} {before after : List Visit} {s : Span} {l : Label} {ps : List Part} {vs : Values}
+        {level : ℕ} {inside : List OpenShared} {p : Part} {v : Value} {regions within : List Region} {before after : List Visit} {s : Span} {l : Label} {ps : List Part} {vs : Values}
         → content_of names bytes p ≡ claimed s l ps
         → IsLegal l
         → HoldAll names bytes (suc level) inside ps vs within before after
@@ -61,42 +61,42 @@ mutual
         → regions ≡ within ++ region_of s level ∷ []
         → Holds names bytes level inside p v regions before after
     holds_first :
-        {level : ℕ} {inside : List Opened} {p : Part} {v w : Value} {regions : List Region} {before after between : List Visit} {cyclic : Bool} {t : ℕ} {q : Pointee} {len : ℕ}
+        {level : ℕ} {inside : List OpenShared} {p : Part} {v w : Value} {regions : List Region} {before after between : List Visit} {cyclic : Bool} {t : ℕ} {q : Pointee} {len : ℕ}
         → content_of names bytes p ≡ counting cyclic t q len
-        → opened inside t ≡ None
+        → open_at inside t ≡ None
         → visited before t ≡ None
         → Holds names bytes level (record { pos = t; pointee = q; len = len } ∷ inside) (behind t q len) w regions before between
         → v ≡ counted t w
         → after ≡ record { pos = t; pointee = q; len = len; value = w } ∷ between
         → Holds names bytes level inside p v regions before after
     holds_later :
-        {level : ℕ} {inside : List Opened} {p : Part} {v w : Value} {regions : List Region} {before after : List Visit} {cyclic : Bool} {t : ℕ} {q : Pointee} {len : ℕ}
+        {level : ℕ} {inside : List OpenShared} {p : Part} {v w : Value} {regions : List Region} {before after : List Visit} {cyclic : Bool} {t : ℕ} {q : Pointee} {len : ℕ}
         → content_of names bytes p ≡ counting cyclic t q len
-        → opened inside t ≡ None
+        → open_at inside t ≡ None
         → visited before t ≡ Some (record { pos = t; pointee = q; len = len; value = w })
         → v ≡ counted t w
         → regions ≡ []
         → after ≡ before
         → Holds names bytes level inside p v regions before after
     holds_back :
-        {level : ℕ} {inside : List Opened} {p : Part} {v : Value} {regions : List Region} {before after : List Visit} {t : ℕ} {q : Pointee} {len : ℕ}
+        {level : ℕ} {inside : List OpenShared} {p : Part} {v : Value} {regions : List Region} {before after : List Visit} {t : ℕ} {q : Pointee} {len : ℕ}
         → content_of names bytes p ≡ counting true t q len
-        → opened inside t ≡ Some (record { pos = t; pointee = q; len = len })
+        → open_at inside t ≡ Some (record { pos = t; pointee = q; len = len })
         → v ≡ back t
         → regions ≡ []
         → after ≡ before
         → Holds names bytes level inside p v regions before after
 
   -- parts one after the other
-  pub data HoldAll (names : Names) (bytes : List ℕ) : ℕ → List Opened → List Part → Values → List Region → List Visit → List Visit → Type 0 where
+  pub data HoldAll (names : Names) (bytes : List ℕ) : ℕ → List OpenShared → List Part → Values → List Region → List Visit → List Visit → Type 0 where
     holds_none :
-        {level : ℕ} {inside : List Opened} {vs : Values} {regions : List Region} {before after : List Visit}
+        {level : ℕ} {inside : List OpenShared} {vs : Values} {regions : List Region} {before after : List Visit}
         → vs ≡ no_values
         → regions ≡ []
         → after ≡ before
         → HoldAll names bytes level inside [] vs regions before after
     holds_more :
-        {level : ℕ} {inside : List Opened} {p : Part} {ps : List Part} {v : Value} {ws vs : Values} {here later regions : List Region} {before between after : List Visit}
+        {level : ℕ} {inside : List OpenShared} {p : Part} {ps : List Part} {v : Value} {ws vs : Values} {here later regions : List Region} {before between after : List Visit}
         → Holds names bytes level inside p v here before between
         → HoldAll names bytes level inside ps vs later between after
         → ws ≡ more_values v vs

@@ -6,7 +6,7 @@ use Rattle.archive_shape_layout.specs.Shape.{Shape, align_of, size_of}
 use Rattle.archive_shape_layout.specs.Value.{Value}
 use Rattle.archive_shape_layout.specs.Content.{Names, Part}
 use Rattle.archive_shape_layout.specs.Content.Part.{at, behind, node, child, entry, buckets, place_at}
-use Rattle.archive_shape_layout.specs.Holds.{Region, Visit, Opened, Holds, Ascends, HasRoot, end_after}
+use Rattle.archive_shape_layout.specs.Holds.{Region, Visit, OpenShared, Holds, Ascends, HasRoot, end_after}
 
 -- two readings agree
 pub record Agree (v w : Value) (rs qs : List Region) (a b : List Visit) : Type 0 where
@@ -17,7 +17,7 @@ pub record Agree (v w : Value) (rs qs : List Region) (a b : List Visit) : Type 0
 -- bytes have one value of a part, one list of regions, and leave one list of visits
 abbrev pub OneValue : Type 0
 OneValue =
-    (names : Names) (bytes : List ℕ) (level : ℕ) (inside : List Opened) (p : Part) (before : List Visit)
+    (names : Names) (bytes : List ℕ) (level : ℕ) (inside : List OpenShared) (p : Part) (before : List Visit)
     (v w : Value) (rs qs : List Region) (a b : List Visit)
     → Holds names bytes level inside p v rs before a
     → Holds names bytes level inside p w qs before b
@@ -89,7 +89,7 @@ RegionsAgree bytes others (r ∷ rs) = AgreesOn bytes others r.start r.size × R
 -- where other bytes agree on a part's own bytes and on what it claims, they have the same value, regions and visits
 abbrev pub Frame : Type 0
 Frame =
-    (names : Names) (bytes others : List ℕ) (level : ℕ) (inside : List Opened) (p : Part) (v : Value) (rs : List Region) (before after : List Visit)
+    (names : Names) (bytes others : List ℕ) (level : ℕ) (inside : List OpenShared) (p : Part) (v : Value) (rs : List Region) (before after : List Visit)
     → OwnAgrees bytes others p
     → RegionsAgree bytes others rs
     → Holds names bytes level inside p v rs before after

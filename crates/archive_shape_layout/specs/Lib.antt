@@ -6,4 +6,4 @@ pub mod Holds
 pub mod Laws
 pub mod Path
 pub mod Edit
-pub mod Denotes
+pub mod RuntimeShape

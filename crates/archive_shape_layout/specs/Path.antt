@@ -6,7 +6,7 @@ use Rattle.archive_shape_layout.specs.Value.Values.{no_values, more_values}
 use Rattle.archive_shape_layout.specs.Content.{Names, Part, Span, Label, content_of, made, members, first_values, other_values}
 use Rattle.archive_shape_layout.specs.Content.Content.{plain, claimed}
 use Rattle.archive_shape_layout.specs.Content.Label.{same, second, whole, tagged, woven, total}
-use Rattle.archive_shape_layout.specs.Holds.{Region, Visit, Opened, Holds, HoldAll}
+use Rattle.archive_shape_layout.specs.Holds.{Region, Visit, OpenShared, Holds, HoldAll}
 
 -- ---- paths: each step is the number of a member of a group, or of a payload
 
@@ -86,22 +86,22 @@ through _ vs i path = None
 mutual
   -- at a level, inside the shared positions that are open and from those visited so far, the part q stands in a part at
   -- a path of its value, and has the value w there. No shared pointer lies between.
-  pub data Stands (names : Names) (bytes : List ℕ) (q : Part) (w : Value) : ℕ → List Opened → List Visit → Part → Value → List ℕ → Type 0 where
+  pub data Stands (names : Names) (bytes : List ℕ) (q : Part) (w : Value) : ℕ → List OpenShared → List Visit → Part → Value → List ℕ → Type 0 where
     stands_here :
-        {level : ℕ} {inside : List Opened} {before : List Visit} {p : Part} {v : Value} {path : List ℕ}
+        {level : ℕ} {inside : List OpenShared} {before : List Visit} {p : Part} {v : Value} {path : List ℕ}
         → p ≡ q
         → v ≡ w
         → path ≡ []
         → Stands names bytes q w level inside before p v path
     stands_plain :
-        {level : ℕ} {inside : List Opened} {before : List Visit} {p : Part} {v : Value} {inner path : List ℕ} {l : Label} {ps : List Part} {vs : Values} {i : ℕ}
+        {level : ℕ} {inside : List OpenShared} {before : List Visit} {p : Part} {v : Value} {inner path : List ℕ} {l : Label} {ps : List Part} {vs : Values} {i : ℕ}
         → content_of names bytes p ≡ plain l ps
         → StandsIn names bytes q w level inside before ps vs i inner
         → made l vs ≡ Some v
         → through l vs i inner ≡ Some path
         → Stands names bytes q w level inside before p v path
     stands_claimed :
-        {level : ℕ} {inside : List Opened} {before : List Visit} {p : Part} {v : Value} {inner path : List ℕ} {s : Span} {l : Label} {ps : List Part} {vs : Values} {i : ℕ}
+        {level : ℕ} {inside : List OpenShared} {before : List Visit} {p : Part} {v : Value} {inner path : List ℕ} {s : Span} {l : Label} {ps : List Part} {vs : Values} {i : ℕ}
         → content_of names bytes p ≡ claimed s l ps
         → StandsIn names bytes q w (suc level) inside before ps vs i inner
         → made l vs ≡ Some v
@@ -109,9 +109,9 @@ mutual
         → Stands names bytes q w level inside before p v path
 
   -- it stands in part i of a list of parts, with their values
-  pub data StandsIn (names : Names) (bytes : List ℕ) (q : Part) (w : Value) : ℕ → List Opened → List Visit → List Part → Values → ℕ → List ℕ → Type 0 where
+  pub data StandsIn (names : Names) (bytes : List ℕ) (q : Part) (w : Value) : ℕ → List OpenShared → List Visit → List Part → Values → ℕ → List ℕ → Type 0 where
     stands_first :
-        {level : ℕ} {inside : List Opened} {before between after : List Visit} {p : Part} {ps : List Part} {v : Value} {vs ws : Values} {here later : List Region} {i : ℕ} {path : List ℕ}
+        {level : ℕ} {inside : List OpenShared} {before between after : List Visit} {p : Part} {ps : List Part} {v : Value} {vs ws : Values} {here later : List Region} {i : ℕ} {path : List ℕ}
         → Stands names bytes q w level inside before p v path
         → Holds names bytes level inside p v here before between
         → HoldAll names bytes level inside ps vs later between after
@@ -119,7 +119,7 @@ mutual
         → i ≡ 0
         → StandsIn names bytes q w level inside before (p ∷ ps) ws i path
     stands_later :
-        {level : ℕ} {inside : List Opened} {before between : List Visit} {p : Part} {ps : List Part} {v : Value} {vs ws : Values} {here : List Region} {i j : ℕ} {path : List ℕ}
+        {level : ℕ} {inside : List OpenShared} {before between : List Visit} {p : Part} {ps : List Part} {v : Value} {vs ws : Values} {here : List Region} {i j : ℕ} {path : List ℕ}
         → Holds names bytes level inside p v here before between
         → StandsIn names bytes q w level inside between ps vs i path
         → ws ≡ more_values v vs

@@ -50,7 +50,7 @@ mutual
     no_shapes : Shapes
     more_shapes : Shape → Shapes → Shapes
 
-  -- what a pointer leads to: one value, so many elements, or the bytes of a text
+  -- what a pointer leads to: one value, n elements, or the bytes of a text
   pub data Pointee : Type 0 where
     sized : Shape → Pointee
     slice : Shape → Pointee
@@ -115,7 +115,7 @@ abbrev mutual
   fields_end no_shapes offset = offset
   fields_end (more_shapes s ss) offset = fields_end ss (align_up offset (align_of s) + size_of s)
 
-  -- where the longest payload behind a tag byte ends
+  -- where the longest payload after a tag byte ends
   pub payloads_end : Shapes → ℕ
   payloads_end no_shapes = 1
   payloads_end (more_shapes s ss) = max (align_up 1 (align_of s) + size_of s) (payloads_end ss)

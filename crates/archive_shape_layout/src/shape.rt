@@ -1,6 +1,6 @@
 //! Layouts as values.
 ghost use Rattle.std.specs.Prelude.{◌≡◌, ◌↔◌, IsTrue};
-ghost use Rattle.archive_shape_layout.specs.Denotes.{denotes, pointee_of, shapes_of};
+ghost use Rattle.archive_shape_layout.specs.RuntimeShape.{layout_of, pointee_of, shapes_of};
 
 /// How many bits a number has.
 #[derive(Clone, Copy, Debug, PartialEq, Eq)]
@@ -98,7 +98,7 @@ pub enum Pointee {
 /// Whether two shapes are the same layout.
 #[cycle(same)]
 pub fn same_shape(first: &Shape, second: &Shape) -> bool
-    ensures { IsTrue result ↔ (denotes first.now ≡ denotes second.now) }
+    ensures { IsTrue result ↔ (layout_of first.now ≡ layout_of second.now) }
 {
     match (first, second) {
         (

@@ -17,7 +17,7 @@ use Rattle.archive_shape_layout.specs.Content.{Names, Part, choose, made, shape_
 use Rattle.archive_shape_layout.specs.Content.Content.{illegal, plain}
 use Rattle.archive_shape_layout.specs.Content.Label.{leaf}
 use Rattle.archive_shape_layout.specs.Content.Part.{at}
-use Rattle.archive_shape_layout.specs.Holds.{Holds, Region, Visit, Opened}
+use Rattle.archive_shape_layout.specs.Holds.{Holds, Region, Visit, OpenShared}
 use Rattle.archive_shape_layout.specs.Holds.Holds.{holds_plain, holds_claimed, holds_first, holds_later, holds_back}
 use Rattle.archive_shape_layout.specs.Holds.HoldAll.{holds_none}
 use Rattle.archive_shape_layout.proofs.Unique.{one_value_law}
@@ -198,13 +198,13 @@ only_set (a ∷ c ∷ out) b l = absurd (omega (arith, l))
 -- ---- bytes that are not legal
 
 -- no value is there
-pub refused : {names : Names} {bytes : List ℕ} {level : ℕ} {inside : List Opened} {p : Part} {v : Value} {regions : List Region} {before after : List Visit}
+pub refused : {names : Names} {bytes : List ℕ} {level : ℕ} {inside : List OpenShared} {p : Part} {v : Value} {regions : List Region} {before after : List Visit}
     → content_of names bytes p ≡ illegal → Holds names bytes level inside p v regions before after → ⊥
 refused e (holds_plain f legal all value) = let h = f in cc
 refused e (holds_claimed f legal all value claims) = cc
-refused e (holds_first f opened visited within value visits) = cc
-refused e (holds_later f opened visited value claims visits) = cc
-refused e (holds_back f opened value claims visits) = cc
+refused e (holds_first f open_at visited within value visits) = cc
+refused e (holds_later f open_at visited value claims visits) = cc
+refused e (holds_back f open_at value claims visits) = cc
 
 pub illegal_is_refused_law : IllegalIsRefused
 illegal_is_refused_law shape bytes pos is_illegal names level inside value regions before after holds = refused (is_illegal names pos) holds

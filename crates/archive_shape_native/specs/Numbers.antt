@@ -8,7 +8,7 @@ use Rattle.archive_shape_layout.specs.Content.{Names, shape_content}
 use Rattle.archive_shape_layout.specs.Content.Content.{illegal, plain}
 use Rattle.archive_shape_layout.specs.Content.Label.{leaf}
 use Rattle.archive_shape_layout.specs.Content.Part.{at}
-use Rattle.archive_shape_layout.specs.Holds.{Holds, Region, Visit, Opened}
+use Rattle.archive_shape_layout.specs.Holds.{Holds, Region, Visit, OpenShared}
 use Rattle.archive_shape_layout.specs.Laws.{Agree}
 
 -- the shapes of numbers, truth values and chars
@@ -33,7 +33,7 @@ abbrev pub LeafIsRead : Type 0
 LeafIsRead =
     (shape : Shape) (bytes : List ℕ) (pos : ℕ) (value : Value)
     → Reads shape (window bytes pos (size_of shape)) value
-    → (names : Names) (level : ℕ) (inside : List Opened) (read : Value) (regions : List Region) (before after : List Visit)
+    → (names : Names) (level : ℕ) (inside : List OpenShared) (read : Value) (regions : List Region) (before after : List Visit)
     → Holds names bytes level inside (at pos shape) read regions before after ↔ Agree read value regions [] after before
 
 -- where the own bytes are not legal, the layout has no value
@@ -41,7 +41,7 @@ abbrev pub IllegalIsRefused : Type 0
 IllegalIsRefused =
     (shape : Shape) (bytes : List ℕ) (pos : ℕ)
     → IsIllegal shape (window bytes pos (size_of shape))
-    → (names : Names) (level : ℕ) (inside : List Opened) (value : Value) (regions : List Region) (before after : List Visit)
+    → (names : Names) (level : ℕ) (inside : List OpenShared) (value : Value) (regions : List Region) (before after : List Visit)
     → Holds names bytes level inside (at pos shape) value regions before after → ⊥
 
 -- the byte of a truth value

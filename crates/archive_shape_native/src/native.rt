@@ -2,7 +2,7 @@
 ghost use Rattle.std.specs.Prelude.{◌≡◌, ℕ, ◌<◌, ◌≤◌, List, length, IsTrue, IsFalse};
 ghost use Rattle.archive_shape_layout.specs.Shape.{Shape as Layout, size_of, align_of};
 ghost use Rattle.archive_shape_layout.specs.Value.{Value};
-ghost use Rattle.archive_shape_layout.specs.Denotes.{denotes};
+ghost use Rattle.archive_shape_layout.specs.RuntimeShape.{layout_of};
 ghost use Rattle.archive_shape_native.specs.Numbers.{IsLeafShape, Reads, IsIllegal};
 
 use archive_shape_layout::Shape;
@@ -27,7 +27,7 @@ pub trait Native: Copy {
 
     /// The layout of the number.
     fn shape() -> Shape
-        ensures { denotes result ≡ shape };
+        ensures { layout_of result ≡ shape };
 
     /// Whether the bytes spell a number of this type.
     fn accepts(bytes: &[u8]) -> bool

@@ -18,7 +18,7 @@ filled_up : (n align : ℕ) → 0 < align → align_up n align < n + align
 unfolding align_up
 filled_up n align positive = let rest : (align - n % align) % align < align = mod-lt (align - n % align) positive in omega (arith, rest)
 
--- metadata ends a few bytes behind where the pointer begins
+-- metadata ends a few bytes after where the pointer begins
 pub end_is_small : (o m b : ℕ) → o ≤ 8 → m ≤ 8 → (0 < b) × (b ≤ 32) → metadata_end o b m ≤ 47
 end_is_small o m b small_offset small second = let from : metadata_at o b < o + b = filled_up o b second.0 in omega (arith, from, second)
 

@@ -4,12 +4,12 @@ ghost use Rattle.std.specs.Int.{w8, w16, w32, w64, FitsUnsignedBits, to_le_bytes
 ghost use Rattle.std.proofs.Common.{lit<, lit≤};
 ghost use Rattle.archive_shape_pointers.specs.Offsets.{difference, signed_number, unsigned_number};
 ghost use Rattle.archive_shape_pointers.specs.Fitting.{signed_fits, unsigned_fits};
-ghost use Rattle.archive_shape_checking.specs.declared.error.Error.TheVariants.{IsizeOverflow};
+ghost use Rattle.archive_shape_writing.specs.declared.error.Error.TheVariants.{IsizeOverflow};
 
-use archive_shape_checking::Error;
-use archive_shape_numbers::{
+use archive_shape_portable::{
     ArchivedI16, ArchivedI32, ArchivedI64, ArchivedLeaf, ArchivedU16, ArchivedU32, ArchivedU64,
 };
+use archive_shape_writing::Error;
 
 /// How far `to` is above `from`.
 pub fn signed_offset(from: usize, to: usize) -> Result<isize, Error>

@@ -4,15 +4,15 @@ ghost use Rattle.std.specs.Int.{w64, FitsUnsigned};
 ghost use Rattle.archive_shape_layout.specs.Bytes.{window};
 ghost use Rattle.archive_shape_references.specs.Bytes.{overwrite};
 ghost use Rattle.archive_shape_pointers.specs.Offsets.{difference, Leads};
-ghost use Rattle.archive_shape_checking.specs.declared.error.Error.TheVariants.{IsizeOverflow};
+ghost use Rattle.archive_shape_writing.specs.declared.error.Error.TheVariants.{IsizeOverflow};
 
 use crate::{Offset, signed_offset};
-use archive_shape_checking::Error;
 use archive_shape_layout::Shape;
-use archive_shape_numbers::{
+use archive_shape_portable::{
     ArchivedI16, ArchivedI32, ArchivedI64, ArchivedU16, ArchivedU32, ArchivedU64, Portable,
 };
 use archive_shape_references::{Place, Ref};
+use archive_shape_writing::Error;
 use std::alloc::{AllocError, Global};
 use std::marker::PhantomData;
 

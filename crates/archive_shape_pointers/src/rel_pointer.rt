@@ -8,24 +8,24 @@ ghost use Rattle.archive_shape_references.specs.Bytes.{overwrite};
 ghost use Rattle.archive_shape_pointers.specs.Offsets.{difference, Leads};
 ghost use Rattle.archive_shape_pointers.specs.Pointers.{metadata_at, metadata_end, pointer_written};
 ghost use Rattle.archive_shape_pointers.specs.PointerSizes.{pointer_sized, pointer_aligned, pointer_aligns};
-ghost use Rattle.archive_shape_checking.specs.declared.error.Error.TheVariants.{IsizeOverflow};
+ghost use Rattle.archive_shape_writing.specs.declared.error.Error.TheVariants.{IsizeOverflow};
 
 use crate::{Offset, RawRelPtr};
-use archive_shape_checking::Error;
 use archive_shape_layout::{Shape, Shapes};
-use archive_shape_numbers::Portable;
+use archive_shape_portable::Portable;
 use archive_shape_references::{ArchivePointee, Metadata, Place, Ref};
+use archive_shape_writing::Error;
 use std::alloc::{AllocError, Global};
 use std::marker::PhantomData;
 
-/// A pointer to a `T` that is stored as an offset of type `O` from its own position. The metadata of `T` stands behind it,
+/// A pointer to a `T` that is stored as an offset of type `O` from its own position. The metadata of `T` stands after it,
 /// at the next multiple of the metadata's alignment.
 #[derive_where(Clone, Copy)]
 pub struct RelPtr<T, O> {
     pub of: PhantomData<(T, O)>,
 }
 
-/// Where a pointer's metadata stands, in bytes behind the pointer's own position.
+/// Where a pointer's metadata stands, in bytes after the pointer's own position.
 trait MetadataLayout {
     ghost METADATA_OFFSET: { ℕ };
 

@@ -8,11 +8,11 @@ use Rattle.archive_shape_layout.specs.Shape.{Shape, size_of}
 use Rattle.archive_shape_layout.specs.Shape.Shape.{number, nonzero, truth, character, text, tuple, array, option, result, choice, box, vector, shared, weak, tree, table, index_map, named}
 use Rattle.archive_shape_layout.specs.Value.{Value, Values}
 use Rattle.archive_shape_layout.specs.Value.Value.{string}
-use Rattle.archive_shape_layout.specs.Content.{Names, Part, Content, shape_content, text_content, choose, made, before_ff, is_scalar}
+use Rattle.archive_shape_layout.specs.Content.{Names, Part, Content, shape_content, text_content, choose, made, IsInline, before_ff, is_scalar}
 use Rattle.archive_shape_layout.specs.Content.Part.{at}
 use Rattle.archive_shape_layout.specs.Content.Content.{plain, illegal}
 use Rattle.archive_shape_layout.specs.Content.Label.{leaf, written}
-use Rattle.archive_shape_layout.specs.Holds.{Region, Visit, Opened, Holds, HasRoot}
+use Rattle.archive_shape_layout.specs.Holds.{Region, Visit, OpenShared, Holds, HasRoot}
 use Rattle.archive_shape_layout.specs.Edit.{Spares}
 use Rattle.archive_shape_layout.specs.Path.{put_at, Stands, StandsIn}
 use Rattle.archive_shape_layout.specs.Path.Stands.{stands_here, stands_plain, stands_claimed}
@@ -22,7 +22,7 @@ use Rattle.archive_shape_layout.proofs.Texts.{text_before, StartsFilled, split_a
 use Rattle.archive_shape_native.specs.Numbers.{IsLeafShape}
 use Rattle.archive_shape_native.proofs.Reading.{refused}
 use Rattle.archive_shape_references.specs.Bytes.{overwrite}
-use Rattle.archive_shape_references.specs.Sealing.{StandsInRoot, begins_inline, SealedLeaf, SealedText}
+use Rattle.archive_shape_references.specs.Sealing.{StandsInRoot, SealedLeaf, SealedText}
 use Rattle.archive_shape_references.specs.Sealing.TextStands.{stands_inline, stands_out_of_line}
 use Rattle.archive_shape_references.proofs.Written.{overwrite_spares_law, window_from}
 
@@ -30,14 +30,14 @@ use Rattle.archive_shape_references.proofs.Written.{overwrite_spares_law, window
 module _ (names : Names) (bytes : List ℕ) (q : Part) (w : Value) where
   pub record IsHeld : Type 0 where
     pub level : ℕ
-    pub inside : List Opened
+    pub inside : List OpenShared
     pub regions : List Region
     pub before : List Visit
     pub after : List Visit
     pub holds : Holds names bytes level inside q w regions before after
 
   mutual
-    pub held : {level : ℕ} {inside : List Opened} {before after : List Visit} {p : Part} {v : Value} {regions : List Region} {path : List ℕ}
+    pub held : {level : ℕ} {inside : List OpenShared} {before after : List Visit} {p : Part} {v : Value} {regions : List Region} {path : List ℕ}
         → Holds names bytes level inside p v regions before after → Stands names bytes q w level inside before p v path → IsHeld
     held {level = level} {inside = inside} {before = before} {after = after} {v = v} {regions = regions} h (stands_here ep ev er) = record {
       level = level;
@@ -50,7 +50,7 @@ module _ (names : Names) (bytes : List ℕ) (q : Part) (w : Value) where
     held h (stands_plain e within is_made through) = held_in within
     held h (stands_claimed e within is_made through) = held_in within
 
-    pub held_in : {level : ℕ} {inside : List Opened} {before : List Visit} {ps : List Part} {vs : Values} {i : ℕ} {path : List ℕ}
+    pub held_in : {level : ℕ} {inside : List OpenShared} {before : List Visit} {ps : List Part} {vs : Values} {i : ℕ} {path : List ℕ}
         → StandsIn names bytes q w level inside before ps vs i path → IsHeld
     held_in (stands_first stands holds rest is zero_is) = held holds stands
     held_in (stands_later holds stands is suc_is) = held_in stands
@@ -109,7 +109,7 @@ sealed_leaf_law names bytes own pos s v regions visits path leaf_pos leaf_shape 
 
 -- ---- texts
 
-inline_content : (names : Names) (pos : ℕ) (own : List ℕ) → begins_inline (slice_index own 0) → shape_content names pos own text ≡ plain (written (before_ff own)) []
+inline_content : (names : Names) (pos : ℕ) (own : List ℕ) → IsInline (slice_index own 0) → shape_content names pos own text ≡ plain (written (before_ff own)) []
 unfolding shape_content text_content choose
 inline_content names pos own inline = rw inline refl
 
@@ -118,10 +118,10 @@ not_false true h = refl
 not_false false h = absurd (h refl)
 
 -- a first byte that is not the second one of a char
-inline_byte : (b : ℕ) → (128 ≤ b → b < 192 → ⊥) → begins_inline b
+inline_byte : (b : ℕ) → (128 ≤ b → b < 192 → ⊥) → IsInline b
 inline_byte b h = not_false (nat_lt b 128 || nat_le 192 b) (λ e. h (grind (arith, nat_tests)) (grind (arith, nat_tests)))
 
-inline_after : (t rest : List ℕ) → IsUtf8 t → StartsFilled rest → begins_inline (slice_index (t ++ rest) 0)
+inline_after : (t rest : List ℕ) → IsUtf8 t → StartsFilled rest → IsInline (slice_index (t ++ rest) 0)
 inline_after [] [] u filled = refl
 inline_after [] (b ∷ bs) u filled = inline_byte b (starts_inline [] (b ∷ bs) u filled (omega arith))
 inline_after (b ∷ bs) rest u filled = inline_byte b (starts_inline (b ∷ bs) rest u filled (omega arith))
@@ -137,7 +137,7 @@ sealed_inline :
     (path : List ℕ) (start : ℕ) (old : Value)
     → HasRoot names bytes pos s v regions visits
     → StandsInRoot names bytes pos s v path (at start text) old
-    → begins_inline (slice_index (window bytes start 8) 0)
+    → IsInline (slice_index (window bytes start 8) 0)
     → length t ≡ length (before_ff (window bytes start 8))
     → start + length t ≤ length bytes
     → IsUtf8 t
@@ -155,7 +155,7 @@ sealed_inline names bytes t pos s v regions visits path start old root stands in
     edit_of_leaf_law names bytes others pos s v regions visits path start text old (string t) (written (before_ff own)) (written t) root stands
     (spares_more bytes others start (length t) 8 short sealed.spares)
     (inline_content names start own inline)
-    (inline_content names start (window others start 8) (subst (λ x. begins_inline (slice_index x 0)) (sym own_is) (inline_after t split.rest utf8 split.filled)) ∙ ap (λ x. plain (written x) []) (ap before_ff own_is ∙ text_before t split.rest utf8 split.filled))
+    (inline_content names start (window others start 8) (subst (λ x. IsInline (slice_index x 0)) (sym own_is) (inline_after t split.rest utf8 split.filled)) ∙ ap (λ x. plain (written x) []) (ap before_ff own_is ∙ text_before t split.rest utf8 split.filled))
     utf8
     refl
 

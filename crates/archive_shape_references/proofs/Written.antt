@@ -11,7 +11,7 @@ length-overwrite bytes at piece h =
     omega (arith, length-append (take at bytes) (piece ++ drop (at + length piece) bytes), length-append piece (drop (at + length piece) bytes), length-take at bytes, length-drop (at + length piece) bytes)
 
 module _ (bytes : List ℕ) (at : ℕ) (piece : List ℕ) (fits : at + length piece ≤ length bytes) where
-  -- what lies before the write, or behind it, stays
+  -- what lies before the write, or after it, stays
   pub window_before : (pos size : ℕ) → pos + size ≤ at → window (overwrite bytes at piece) pos size ≡ window bytes pos size
   window_before pos size h = same_lists _ _ (search (rules, places)) (λ i e l. grind (arith, places))
 

@@ -1,13 +1,13 @@
 -- What a write over a leaf's own bytes does to the root that it stands in: the leaf at that path is another one, and
 -- nothing else changes.
-use Rattle.std.specs.Prelude.{◌≡◌, ℕ, ◌+◌, ◌≤◌, ◌||◌, List, [], length, slice_index, nat_lt, nat_le, IsTrue, IsUtf8}
+use Rattle.std.specs.Prelude.{◌≡◌, ℕ, ◌+◌, ◌≤◌, List, [], length, slice_index, IsUtf8}
 use Rattle.archive_shape_layout.specs.Bytes.{window}
 use Rattle.archive_shape_layout.specs.Shape.{Shape, size_of}
 use Rattle.archive_shape_layout.specs.Shape.Shape.{text}
 use Rattle.archive_shape_layout.specs.Shape.Pointee.{sized, str}
 use Rattle.archive_shape_layout.specs.Value.{Value}
 use Rattle.archive_shape_layout.specs.Value.Value.{string}
-use Rattle.archive_shape_layout.specs.Content.{Names, Part, before_ff}
+use Rattle.archive_shape_layout.specs.Content.{Names, Part, IsInline, before_ff}
 use Rattle.archive_shape_layout.specs.Content.Part.{at, behind}
 use Rattle.archive_shape_layout.specs.Holds.{Region, Visit, HasRoot}
 use Rattle.archive_shape_layout.specs.Path.{put_at, Stands}
@@ -18,17 +18,13 @@ use Rattle.archive_shape_references.specs.Bytes.{overwrite}
 abbrev pub StandsInRoot : Names → List ℕ → ℕ → Shape → Value → List ℕ → Part → Value → Type 0
 StandsInRoot names bytes pos s v path part value = Stands names bytes part value 0 [] [] (behind pos (sized s) 1) v path
 
--- a text that begins with this byte stands inline
-abbrev pub begins_inline : ℕ → Type 0
-begins_inline first = IsTrue (nat_lt first 128 || nat_le 192 first)
-
 module _ (names : Names) (bytes : List ℕ) (pos : ℕ) (s : Shape) (v : Value) (path : List ℕ) where
-  -- so many bytes of a text stand from a position on, for the text at the path: inline, or out of line
+  -- n bytes of a text stand from a position on, for the text at the path: inline, or out of line
   pub data TextStands (start len : ℕ) : Type 0 where
     stands_inline :
         {old : Value}
         → StandsInRoot names bytes pos s v path (at start text) old
-        → begins_inline (slice_index (window bytes start 8) 0)
+        → IsInline (slice_index (window bytes start 8) 0)
         → len ≡ length (before_ff (window bytes start 8))
         → TextStands start len
     stands_out_of_line :

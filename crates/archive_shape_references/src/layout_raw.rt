@@ -2,11 +2,11 @@
 ghost use Rattle.std.specs.Prelude.{◌≡◌, ℕ, ◌*◌, ◌^◌, ◌<◌, ◌≤◌, MatchOption};
 
 use crate::{Slice, Str};
-use archive_shape_numbers::Portable;
+use archive_shape_portable::Portable;
 
 /// What a pointer may lead to, of which the size follows from its number of elements.
 pub trait LayoutRaw {
-    /// How many bytes so many elements take.
+    /// How many bytes n elements take.
     ghost extent: { ℕ → ℕ };
 
     /// What the position of a value is a multiple of.

@@ -3,7 +3,7 @@ ghost use Rattle.std.specs.Prelude.{◌≡◌, length};
 ghost use Rattle.archive_shape_native.specs.Numbers.{Reads};
 
 use crate::{Ref, Str};
-use archive_shape_numbers::ArchivedLeaf;
+use archive_shape_portable::ArchivedLeaf;
 use std::marker::PhantomData;
 
 /// A value that may be edited and reaches only its own bytes. They stand at `pos` of the archive.

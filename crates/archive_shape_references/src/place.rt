@@ -3,7 +3,7 @@ ghost use Rattle.std.specs.Prelude.{◌≡◌, ◌+◌, ◌*◌, ◌<◌, ◌≤
 ghost use Rattle.archive_shape_references.specs.Bytes.{overwrite};
 ghost use Rattle.archive_shape_native.specs.Numbers.{Reads};
 
-use archive_shape_numbers::{ArchivedLeaf, Portable};
+use archive_shape_portable::{ArchivedLeaf, Portable};
 use std::marker::PhantomData;
 
 /// A value that is to be written. Its own bytes begin at `start` of `out`, and will stand at `pos` of the archive.

@@ -5,7 +5,7 @@ ghost use Rattle.std.proofs.Common.{lit≤};
 ghost use Rattle.archive_shape_layout.specs.Bytes.{window};
 
 use crate::{Ref, Str};
-use archive_shape_numbers::{ArchivedUsize, LittleEndian, Native, Portable};
+use archive_shape_portable::{ArchivedUsize, LittleEndian, Native, Portable};
 use std::marker::PhantomData;
 
 /// What a pointer to a slice leads to: elements side by side.

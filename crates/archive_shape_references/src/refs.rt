@@ -3,7 +3,7 @@ ghost use Rattle.std.specs.Prelude.{◌≡◌, ◌+◌, ◌≤◌, length};
 ghost use Rattle.archive_shape_layout.specs.Bytes.{window};
 ghost use Rattle.archive_shape_native.specs.Numbers.{Reads};
 
-use archive_shape_numbers::ArchivedLeaf;
+use archive_shape_portable::ArchivedLeaf;
 use std::marker::PhantomData;
 
 /// A value in a buffer that was checked.

@@ -4,7 +4,7 @@ ghost use Rattle.archive_shape_references.specs.Bytes.{overwrite};
 ghost use Rattle.archive_shape_native.specs.Numbers.{Reads};
 
 use crate::Ref;
-use archive_shape_numbers::ArchivedLeaf;
+use archive_shape_portable::ArchivedLeaf;
 use std::marker::PhantomData;
 
 /// What a pointer to a text leads to: the text's bytes.

@@ -2,7 +2,7 @@
 use Rattle.std.specs.Prelude.{◌≡◌, ℕ, List}
 use Rattle.cabinet_text.specs.Tree.{Tree}
 use Rattle.cabinet_text.specs.Spelling.{text_of}
-use Rattle.cabinet_text.specs.Fault.{FirstFault}
+use Rattle.cabinet_text.specs.FirstFault.{FirstFault}
 use Rattle.cabinet_layout.specs.Image.{Image, IsPast}
 use Rattle.cabinet.specs.declared.fault.Fault.{Fault}
 use Rattle.cabinet.specs.declared.fault.Fault.TheVariants.{Text, Save}

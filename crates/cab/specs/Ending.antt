@@ -9,12 +9,12 @@ use Rattle.cabinet.specs.declared.session.RunCause.TheVariants.{Write}
 
 -- A run that was done fails where its last answers were not written. Of two faults the first stays.
 abbrev pub IsFlushed : Result Count RunFault → (written : Bool) → Result Count RunFault → Type 0
-IsFlushed (Ok count) true told = told ≡ Ok count
-IsFlushed (Ok count) false told = told ≡ Err (record { cause = Write; lines = count.lines; edits = count.edits })
-IsFlushed (Err fault) _ told = told ≡ Err fault
+IsFlushed (Ok count) true ending = ending ≡ Ok count
+IsFlushed (Ok count) false ending = ending ≡ Err (record { cause = Write; lines = count.lines; edits = count.edits })
+IsFlushed (Err fault) _ ending = ending ≡ Err fault
 
 -- A run that was done fails where its archive was not written back. Of two faults the first is told.
 abbrev pub IsFirstFault : Result Count RunFault → (written : Bool) → String Global → Result (Unit {0}) Fault → Type 0
-IsFirstFault (Ok count) true path told = IsOk told
-IsFirstFault (Ok count) false path told = told ≡ Err (CannotWrite path)
-IsFirstFault (Err fault) _ path told = told ≡ Err (Run fault)
+IsFirstFault (Ok count) true path ending = IsOk ending
+IsFirstFault (Ok count) false path ending = ending ≡ Err (CannotWrite path)
+IsFirstFault (Err fault) _ path ending = ending ≡ Err (Run fault)

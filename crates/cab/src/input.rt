@@ -37,7 +37,7 @@ impl<R: Read + Drop> InputStream<R> {
 }
 
 impl<R: Read + Drop> Source for InputStream<R> {
-    ghost TELLS = { false };
+    ghost OBSERVABLE = { false };
 
     ghost left = { λ _. [] };
 

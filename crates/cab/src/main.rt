@@ -23,7 +23,7 @@ use std::io::ErrorKind;
 use std::process::ExitCode;
 use std::rt::{Env, Files};
 
-/// The words that the program was given, behind its own name.
+/// The words that the program was given, after its own name.
 fn words<R: Env + AllocGlobal>(rt: &R) -> Result<Args, Fault> {
     match env::args(rt) {
         Ok(mut words) => {

@@ -1,8 +1,8 @@
 // The standard output and error, as what lines are written to. Of their bytes nothing is known, so they do not tell what
 // they hold.
-ghost use Rattle.std.specs.Prelude.{◌≡◌, false, true, []};
+ghost use Rattle.std.specs.Prelude.{◌≡◌, ◌+◌, ◌-◌, ◌^◌, ◌<◌, false, true, []};
 
-use archive_shape::{Error, Positional, Writer};
+use archive_shape_writing::{Error, Positional, Writer};
 use std::io;
 use std::io::Write;
 
@@ -12,6 +12,7 @@ pub struct OutputStream<W: Write + Drop> {
     stream: W,
     pub position: usize,
     pub failures: u64,
+    last_error: Error,
 }
 
 impl<W: Write + Drop> OutputStream<W> {
@@ -23,7 +24,20 @@ impl<W: Write + Drop> OutputStream<W> {
             stream,
             position: 0,
             failures: 0,
+            last_error: Error::WriterFailed,
         }
+    }
+
+    /// Counts a write that failed, and keeps its error.
+    fn failed(&mut self, error: Error) -> Error
+        requires { self.old.failures < 2 ^ 64 - 1 }
+        ensures failures { self.new.failures ≡ self.old.failures + 1 }
+        ensures last_error { self.new.last_error ≡ error }
+        ensures same { result ≡ error }
+    {
+        self.failures += 1;
+        self.last_error = error;
+        error
     }
 
     /// Writes what a buffer still holds.
@@ -41,7 +55,7 @@ impl<W: Write + Drop> Positional for OutputStream<W> {
 }
 
 impl<W: Write + Drop> Writer for OutputStream<W> {
-    ghost TELLS = { false };
+    ghost OBSERVABLE = { false };
 
     ghost COUNTS = { true };
 
@@ -49,18 +63,18 @@ impl<W: Write + Drop> Writer for OutputStream<W> {
 
     ghost failures = { λ w. w.failures };
 
+    ghost last_error = { λ w. w.last_error };
+
     fn counts() -> bool {
         true
     }
 
     fn write(&mut self, bytes: &[u8]) -> Result<(), Error> {
         let Some(position) = self.position.checked_add(bytes.len()) else {
-            self.failures += 1;
-            return Err(Error::PositionTooLarge);
+            return Err(self.failed(Error::PositionTooLarge));
         };
         if self.stream.write_all(bytes).is_err() {
-            self.failures += 1;
-            return Err(Error::WriterFailed);
+            return Err(self.failed(Error::WriterFailed));
         }
         self.position = position;
         Ok(())

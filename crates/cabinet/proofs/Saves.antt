@@ -1,7 +1,7 @@
 -- A document whose bytes were written, whole or in part.
 use Rattle.std.proofs.Common.{◌≡◌, ℕ, List, ◌++◌, sym, subst}
-use Rattle.archive_shape_checking.specs.declared.error.Error.{Error}
-use Rattle.archive_shape.specs.Writing.{Cut}
+use Rattle.archive_shape_writing.specs.declared.error.Error.{Error}
+use Rattle.archive_shape_writing.specs.Writing.{Cut}
 use Rattle.cabinet_text.specs.Tree.{Tree, IsDocument}
 use Rattle.cabinet_layout.specs.Image.{Image, IsPast}
 use Rattle.cabinet_layout.specs.Written.{image_bytes}

@@ -1,7 +1,7 @@
 -- Lines carried out, one after another.
 use Rattle.std.proofs.Common.{◌≡◌, ℕ, ◌+◌, ◌≤◌, suc, zero, List, [], ◌∷◌, ◌++◌, length, take, drop, refl, sym, ap, subst, ◌∙◌, append_assoc, append-nil, length-append, arith, Option, Some, add-one}
 use Rattle.std.proofs.lemmas.List.Elements.{All-push, All-same}
-use Rattle.archive_shape.specs.Writing.{Cut}
+use Rattle.archive_shape_writing.specs.Writing.{Cut}
 use Rattle.cabinet_text.specs.Tree.{Tree, Leaf, Step}
 use Rattle.cabinet_text.specs.Answering.{outcome, change}
 use Rattle.cabinet_text.specs.declared.answer.SetAnswer.{SetAnswer}
@@ -12,7 +12,7 @@ use Rattle.cabinet_layout.specs.Image.{Image}
 use Rattle.cabinet_layout.specs.Laws.{written_at}
 use Rattle.cabinet_nodes.specs.Setting.{put_if_done}
 use Rattle.cabinet.specs.Editing.{Edited, bytes_next, bytes_after}
-use Rattle.cabinet.specs.Steps.{longest_line, Carried, Torn}
+use Rattle.cabinet.specs.Steps.{longest_line, Carried, CarriedCut}
 
 -- ---- one more element
 
@@ -128,8 +128,8 @@ module _ (input x y z old mid new : List ℕ) (lines edited now : ℕ) (line : L
   }
 
   -- or carried out, and its answer cut
-  pub torn : ((t : Tree) → Accepted y t → Cut mid new (reply t s)) → Torn input x z old new (lines + 1) now
-  torn a = record {
+  pub carried_cut : ((t : Tree) → Accepted y t → Cut mid new (reply t s)) → CarriedCut input x z old new (lines + 1) now
+  carried_cut a = record {
     before = c.said;
     last = s;
     say = lines_say;

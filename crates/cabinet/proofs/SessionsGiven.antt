@@ -79,7 +79,7 @@ left_at_other b c g r e =
     let n : newlines (c ∷ g) ≡ newlines g = omega (arith, newlines-cons c g) in
     ap (λ m. drop m (lines_of (b ++ (c ∷ g ++ r)))) n ∙ ap (λ l. drop (newlines g) (lines_of l)) (sym (append_assoc b (c ∷ []) (g ++ r)))
 
--- behind the lines that end in what was given stand the line begun and what is left
+-- after the lines that end in what was given stand the line begun and what is left
 lines_left : (b g r : List ℕ) → newlines b ≡ 0 → drop (newlines g) (lines_of (b ++ (g ++ r))) ≡ lines_of (line_begun b g ++ r)
 lines_left b [] r h = refl
 lines_left b (c ∷ g) r h =
@@ -133,7 +133,7 @@ no_position i m l e =
 pub no_newline : (bytes : List ℕ) → position (λ b. b == 10) bytes ≡ None → newlines bytes ≡ 0
 no_newline bytes e = all_other bytes (no_position _ _ (prefix_len-le-length (λ b. not (b == 10)) bytes) e)
 
--- what stands behind it, as a slice of the piece
+-- what stands after it, as a slice of the piece
 abbrev pub behind : ℕ → List ℕ → List ℕ
 behind end bytes = take (length bytes - (end + 1)) (drop (end + 1) bytes)
 

@@ -79,7 +79,7 @@ module _ (input x y old new : List ℕ) (lines edited : ℕ) (begun : List ℕ) 
         lines_are = q.lines_are;
       }
 
-  -- the byte behind the last one that an input may have
+  -- the byte after the last one that an input may have
   one_more : (b : ℕ) (more : List ℕ) (p : Progress input x y old new lines edited begun total (b ∷ more)) → total ≡ longest_input
       → take (longest_input + 1) input ≡ p.given ++ b ∷ []
   one_more b more p t =

@@ -5,7 +5,7 @@ use Rattle.std.proofs.lemmas.List.{take_all, drop_all}
 use Rattle.cabinet_text.specs.Tree.{Tree}
 use Rattle.cabinet_layout.specs.Denotes.{Accepted}
 use Rattle.cabinet_layout.specs.Image.{Image}
-use Rattle.cabinet.specs.Steps.{Carried, Torn, Completed, Faulted, read_failed, write_failed, memory_refused, line_too_long, input_too_long}
+use Rattle.cabinet.specs.Steps.{Carried, CarriedCut, Completed, Faulted, read_failed, write_failed, memory_refused, line_too_long, input_too_long}
 use Rattle.cabinet.specs.Headline.{AnswersAsDocument, AnswersCut, AnswersUpTo, WorksInPlace}
 use Rattle.cabinet.specs.declared.session.Count.{Count}
 use Rattle.cabinet.specs.declared.session.RunFault.{RunFault}
@@ -21,7 +21,7 @@ module _ (t : Tree) (input left x y old new : List ℕ) (i : Image t x) where
     image = c.edits_done.image t i;
   }
 
-  torn_answers : (lines edited : ℕ) → Torn input x y old new lines edited → AnswersCut t input old new y lines
+  torn_answers : (lines edited : ℕ) → CarriedCut input x y old new lines edited → AnswersCut t input old new y lines
   torn_answers lines edited c = record {
     before = c.before;
     last = c.last;

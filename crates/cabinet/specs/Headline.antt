@@ -1,6 +1,6 @@
 -- Working in the bytes of a saved document, as against working on the document.
 use Rattle.std.specs.Prelude.{◌≡◌, ℕ, List, [], ◌∷◌, ◌++◌, length, take, Option, Result, Ok, Err}
-use Rattle.archive_shape.specs.Writing.{Cut}
+use Rattle.archive_shape_writing.specs.Writing.{Cut}
 use Rattle.cabinet_text.specs.Tree.{Tree}
 use Rattle.cabinet_text.specs.Line.{Line}
 use Rattle.cabinet_text.specs.Session.{lines_of, AllSay, reply, answers, after}

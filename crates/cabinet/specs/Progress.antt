@@ -4,7 +4,7 @@ use Rattle.cabinet.specs.Steps.{Carried, Faulted, newlines, begun_in}
 use Rattle.cabinet.specs.declared.session.RunCause.{RunCause}
 use Rattle.cabinet.specs.declared.session.begun.Begun.{Begun}
 
--- Of the bytes given so far each whole line was carried out, and the line begun is what stands behind them.
+-- Of the bytes given so far each whole line was carried out, and the line begun is what stands after them.
 pub record Progress (input x y old new : List ℕ) (lines edited : ℕ) (begun : List ℕ) (total : ℕ) (rest : List ℕ) : Type 0 where
   pub carried : Carried input x y old new lines edited
   pub given : List ℕ

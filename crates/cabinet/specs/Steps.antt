@@ -1,6 +1,6 @@
 -- What the lines of a session do to the bytes that they work in, and to what is written.
 use Rattle.std.specs.Prelude.{◌≡◌, ℕ, ◌+◌, ◌<◌, ◌≤◌, ◌==◌, if◌then◌else◌, List, [], ◌∷◌, ◌++◌, length, take, count_by, Option, All}
-use Rattle.archive_shape.specs.Writing.{Cut}
+use Rattle.archive_shape_writing.specs.Writing.{Cut}
 use Rattle.cabinet_text.specs.Tree.{Tree}
 use Rattle.cabinet_text.specs.Line.{Line}
 use Rattle.cabinet_text.specs.Session.{lines_of, AllSay, reply, answers, after, edits}
@@ -27,7 +27,7 @@ pub record Carried (input x y old new : List ℕ) (lines edited : ℕ) : Type 0 
   pub edits_counted : (t : Tree) → Accepted x t → edited ≡ edits t said
 
 -- They were, but of the answer to the last of them only a prefix was written.
-pub record Torn (input x y old new : List ℕ) (lines edited : ℕ) : Type 0 where
+pub record CarriedCut (input x y old new : List ℕ) (lines edited : ℕ) : Type 0 where
   pub before : List (Option Line)
   pub last : Option Line
   pub say : AllSay (take lines (lines_of input)) (before ++ last ∷ [])
@@ -42,7 +42,7 @@ pub record Torn (input x y old new : List ℕ) (lines edited : ℕ) : Type 0 whe
 abbrev pub newlines : List ℕ → ℕ
 newlines bytes = count_by (λ b. b == 10) bytes
 
--- what stands behind the last newline
+-- what stands after the last newline
 abbrev pub line_begun : List ℕ → List ℕ → List ℕ
 line_begun begun [] = begun
 line_begun begun (b ∷ bs) = if b == 10 then line_begun [] bs else line_begun (begun ++ b ∷ []) bs
@@ -56,7 +56,7 @@ pub record IsReadFault (input left : List ℕ) (lines : ℕ) : Type 0 where
   pub input_is : input ≡ given ++ left
   pub lines_are : lines ≡ newlines given
 
--- A line has more bytes than a line may have, and the first byte too many is not behind the first too many of the input.
+-- A line has more bytes than a line may have, and the first byte too many is not after the first too many of the input.
 pub record IsLineTooLong (input : List ℕ) (lines : ℕ) : Type 0 where
   pub given : List ℕ
   pub rest : List ℕ
@@ -79,7 +79,7 @@ pub data Faulted (input left x y old new : List ℕ) (lines edited : ℕ) (cause
       → Carried input x y old new lines edited
       → IsReadFault input left lines
       → Faulted input left x y old new lines edited cause
-  write_failed : cause ≡ Write → Torn input x y old new lines edited → Faulted input left x y old new lines edited cause
+  write_failed : cause ≡ Write → CarriedCut input x y old new lines edited → Faulted input left x y old new lines edited cause
   memory_refused :
       cause ≡ OutOfMemory → Carried input x y old new lines edited → Faulted input left x y old new lines edited cause
   line_too_long :

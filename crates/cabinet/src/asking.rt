@@ -1,16 +1,16 @@
 ghost use Rattle.std.specs.Prelude.{◌≡◌, ◌-◌, ◌^◌, ◌<◌, ◌++◌, Some, IfOk, codes};
-ghost use Rattle.archive_shape.specs.Writing.{Writes};
+ghost use Rattle.archive_shape_writing.specs.Writing.{Writes};
 ghost use Rattle.cabinet_text.specs.Tree.{Tree};
 ghost use Rattle.cabinet_text.specs.Spelling.{head};
 ghost use Rattle.cabinet_text.specs.Line.{IsQuestion};
 ghost use Rattle.cabinet_text.specs.Session.{reply};
 ghost use Rattle.cabinet_text.specs.View.{line_of};
 ghost use Rattle.cabinet_layout.specs.Denotes.{Accepted};
-ghost use Rattle.cabinet_nodes.specs.Reading.{Tells};
+ghost use Rattle.cabinet_nodes.specs.Reading.{IsNodeOf};
 ghost use Rattle.cabinet.specs.Opening.{asked_by, Counts};
 
 use crate::opened::Opened;
-use archive_shape::{Error, Writer};
+use archive_shape_writing::{Error, Writer};
 use cabinet_nodes::NodeRef;
 use cabinet_text::{Asked, Line, write_leaf_line, write_list_line, write_missing};
 
@@ -43,7 +43,7 @@ impl Opened<'_> {
 /// Writes the line of a node.
 fn write_node_line<W: Writer>(node: NodeRef<'_>, writer: &mut W) -> Result<(), Error>
     requires { W.failures writer.old < 2 ^ 64 - 1 }
-    ensures written { (t : Tree) → Tells node.entry t → Writes W.Writer writer.old writer.new (head t ++ codes "\n") result }
+    ensures written { (t : Tree) → IsNodeOf node.entry t → Writes W.Writer writer.old writer.new (head t ++ codes "\n") result }
     ensures counted { Counts W.Writer writer.old writer.new result }
 {
     match node {

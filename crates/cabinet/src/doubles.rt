@@ -2,10 +2,10 @@
 ghost use Rattle.std.specs.Prelude.{◌≡◌, ◌<◌, true, vec_len};
 
 use crate::source::{Source, SourceFailed};
-use archive_shape::{Error, Positional, Writer};
+use archive_shape_writing::{Error, Positional, Writer};
 use std::alloc::Global;
 
-/// A source that gives at most so many bytes at a time, and fails after so many reads.
+/// A source that gives at most n bytes at a time, and fails after n reads.
 #[derive(Drop)]
 pub struct SliceSource<'a> {
     bytes: &'a [u8],
@@ -32,7 +32,7 @@ impl<'a> SliceSource<'a> {
 }
 
 impl Source for SliceSource<'_> {
-    ghost TELLS = { true };
+    ghost OBSERVABLE = { true };
 
     ghost left = { λ s. s.bytes.now };
 
@@ -52,12 +52,13 @@ impl Source for SliceSource<'_> {
     }
 }
 
-/// A writer that fails after so many writes, and writes nothing of the piece that failed.
+/// A writer that fails after n writes, and writes nothing of the piece that failed.
 #[derive(Drop)]
 pub struct FailingWriter {
     bytes: Vec<u8>,
     writes_left: usize,
     failures: u64,
+    last_error: Error,
 }
 
 impl FailingWriter {
@@ -66,6 +67,7 @@ impl FailingWriter {
             bytes: Vec::new(alloc),
             writes_left: writes,
             failures: 0,
+            last_error: Error::WriterFailed,
         }
     }
 
@@ -89,13 +91,15 @@ impl Positional for FailingWriter {
 }
 
 impl Writer for FailingWriter {
-    ghost TELLS = { true };
+    ghost OBSERVABLE = { true };
 
     ghost COUNTS = { true };
 
     ghost contents = { λ w. w.bytes.items };
 
     ghost failures = { λ w. w.failures };
+
+    ghost last_error = { λ w. w.last_error };
 
     fn counts() -> bool {
         true
@@ -104,10 +108,12 @@ impl Writer for FailingWriter {
     fn write(&mut self, bytes: &[u8]) -> Result<(), Error> {
         if self.writes_left == 0 {
             self.failures += 1;
+            self.last_error = Error::WriterFailed;
             return Err(Error::WriterFailed);
         }
         if self.bytes.extend_from_slice(bytes).is_err() {
             self.failures += 1;
+            self.last_error = Error::OutOfMemory;
             return Err(Error::OutOfMemory);
         }
         self.writes_left -= 1;

@@ -1,11 +1,11 @@
 ghost use Rattle.std.specs.Prelude.{◌≡◌, ◌-◌, ◌^◌, ◌<◌};
-ghost use Rattle.archive_shape.specs.Writing.{Writes};
+ghost use Rattle.archive_shape_writing.specs.Writing.{Writes};
 ghost use Rattle.cabinet.specs.Reporting.{cause_name, save_refusal_name, open_refusal_name, run_cause_name, spelled_fault, status_of};
 
 use crate::opened::OpenRefusal;
 use crate::saving::SaveRefusal;
 use crate::session::{RunCause, RunFault};
-use archive_shape::{Error, Writer, write_all_pieces, write_three_pieces};
+use archive_shape_writing::{Error, Writer, write_all_pieces, write_three_pieces};
 use cabinet_text::{Cause, Decimal, TextRefusal};
 
 /// A fault of the program.

@@ -9,7 +9,7 @@ ghost use Rattle.cabinet_nodes.specs.Reading.{LeadsNowhere, LeadsTo};
 ghost use Rattle.cabinet_nodes.specs.Setting.{put_if_done};
 ghost use Rattle.cabinet.specs.Opening.{IsRefusedFor};
 
-use archive_shape::Error;
+use archive_shape_writing::Error;
 use cabinet_nodes::{NodeRef, check_root, find, set_at};
 use cabinet_text::{Leaf, SetAnswer, Step};
 use std::alloc::Global;

@@ -1,9 +1,9 @@
 ghost use Rattle.std.specs.Prelude.{◌≡◌, ◌-◌, ◌^◌, ◌<◌, ℕ, List, IsTrue, OnOk, OnErr, IfErr};
-ghost use Rattle.archive_shape.specs.Writing.{Cut};
+ghost use Rattle.archive_shape_writing.specs.Writing.{Cut};
 ghost use Rattle.cabinet_layout.specs.Image.{Image};
 ghost use Rattle.cabinet.specs.Saving.{Saved, IsUnsavedFor};
 
-use archive_shape::{Error, Writer};
+use archive_shape_writing::{Error, Writer};
 use cabinet_nodes::{is_past_limits, write_root};
 use cabinet_text::Document;
 use std::alloc::Global;
@@ -31,11 +31,11 @@ pub fn save<W: Writer>(
 ) -> Result<(), SaveRefusal>
     requires start { W.pos writer.old ≡ 0 }
     requires room { W.failures writer.old < 2 ^ 64 - 1 }
-    ensures saved { OnOk result (IsTrue W.TELLS → Saved document.now (W.contents writer.old) (W.contents writer.new)) }
+    ensures saved { OnOk result (IsTrue W.OBSERVABLE → Saved document.now (W.contents writer.old) (W.contents writer.new)) }
     ensures quiet { OnOk result (W.failures writer.new ≡ W.failures writer.old) }
     ensures refused { IfErr result (IsUnsavedFor document.now W.COUNTS (W.failures writer.old) (W.failures writer.new)) }
     // What the writer took is a prefix of the image.
-    ensures cut { OnErr result ((image : List ℕ) → Image document.now image → IsTrue W.TELLS → Cut (W.contents writer.old) (W.contents writer.new) image) }
+    ensures cut { OnErr result ((image : List ℕ) → Image document.now image → IsTrue W.OBSERVABLE → Cut (W.contents writer.old) (W.contents writer.new) image) }
 {
     let root = document.root();
     if is_past_limits(root) {

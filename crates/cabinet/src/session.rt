@@ -9,7 +9,7 @@ mod tests;
 
 use crate::opened::Opened;
 use crate::source::Source;
-use archive_shape::Writer;
+use archive_shape_writing::Writer;
 use begun::Begun;
 use carrying::{end_input, take_piece};
 use std::alloc::Global;
@@ -80,8 +80,8 @@ pub fn run<R: Source, W: Writer>(
     requires reader_counts { R.failures reader.old < 2 ^ 64 - 1 }
     requires writer_counts { W.failures writer.old < 2 ^ 64 - 1 }
     ensures same { opened.new.bytes.ghost_name ≡ opened.old.bytes.ghost_name }
-    ensures all { IsTrue R.TELLS → IsTrue W.TELLS → IfOk result (λ n. Completed (R.left reader.old) opened.old.bytes.now opened.new.bytes.now (W.contents writer.old) (W.contents writer.new) n.lines n.edits) }
-    ensures fault { IsTrue R.TELLS → IsTrue W.TELLS → IfErr result (λ f. Faulted (R.left reader.old) (R.left reader.new) opened.old.bytes.now opened.new.bytes.now (W.contents writer.old) (W.contents writer.new) f.lines f.edits f.cause) }
+    ensures all { IsTrue R.OBSERVABLE → IsTrue W.OBSERVABLE → IfOk result (λ n. Completed (R.left reader.old) opened.old.bytes.now opened.new.bytes.now (W.contents writer.old) (W.contents writer.new) n.lines n.edits) }
+    ensures fault { IsTrue R.OBSERVABLE → IsTrue W.OBSERVABLE → IfErr result (λ f. Faulted (R.left reader.old) (R.left reader.new) opened.old.bytes.now opened.new.bytes.now (W.contents writer.old) (W.contents writer.new) f.lines f.edits f.cause) }
     ensures reader_fails { MatchResult result (λ _. R.failures reader.new ≡ R.failures reader.old) (λ f. ReaderFails f.cause (R.failures reader.old) (R.failures reader.new)) }
     ensures writer_fails { MatchResult result (λ _. W.failures writer.new ≡ W.failures writer.old) (λ f. WriterFails W.COUNTS f.cause (W.failures writer.old) (W.failures writer.new)) }
 {

@@ -10,7 +10,7 @@ pub struct SourceFailed;
 /// What bytes are read from.
 pub trait Source {
     /// Whether the source tells what it gives: `left` says nothing where it does not, as for a file.
-    ghost TELLS: { Bool };
+    ghost OBSERVABLE: { Bool };
 
     /// The bytes that have not been read yet.
     ghost left: { Self → List ℕ };
@@ -22,9 +22,9 @@ pub trait Source {
     fn read(&mut self, buffer: &mut [u8]) -> Result<usize, SourceFailed>
         requires { failures self.old < 2 ^ 64 - 1 }
         ensures count { IfOk result (λ n. n ≤ length buffer.new) }
-        ensures bytes { IsTrue TELLS → IfOk result (λ n. left self.old ≡ take n buffer.new ++ left self.new) }
-        ensures end { IsTrue TELLS → IfOk result (λ n. n ≡ 0 → 0 < length buffer.old → left self.old ≡ []) }
+        ensures bytes { IsTrue OBSERVABLE → IfOk result (λ n. left self.old ≡ take n buffer.new ++ left self.new) }
+        ensures end { IsTrue OBSERVABLE → IfOk result (λ n. n ≡ 0 → 0 < length buffer.old → left self.old ≡ []) }
         ensures quiet { OnOk result (failures self.new ≡ failures self.old) }
-        ensures kept { IsTrue TELLS → OnErr result (left self.new ≡ left self.old) }
+        ensures kept { IsTrue OBSERVABLE → OnErr result (left self.new ≡ left self.old) }
         ensures counted { OnErr result (failures self.new ≡ failures self.old + 1) };
 }

@@ -1,6 +1,6 @@
 use crate::doubles::{FailingWriter, SliceSource};
 use crate::{Fault, OpenRefusal, SaveRefusal, check, fault_line, open, read_text, save, work};
-use archive_shape::{Error, Positional};
+use archive_shape_writing::{Error, Positional};
 use std::test::Fail;
 
 #[test]

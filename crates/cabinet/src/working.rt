@@ -9,7 +9,7 @@ use crate::opened::{Opened, check};
 use crate::saving::{SaveRefusal, save};
 use crate::session::{Count, RunFault, run};
 use crate::source::Source;
-use archive_shape::Writer;
+use archive_shape_writing::Writer;
 use cabinet_text::Document;
 use std::alloc::Global;
 
@@ -31,8 +31,8 @@ pub fn run_in<R: Source, W: Writer>(
     requires reader_counts { R.failures reader.old < 2 ^ 64 - 1 }
     requires writer_counts { W.failures writer.old < 2 ^ 64 - 1 }
     ensures kept { ∥ ((t : Tree) × Accepted bytes.new t) ∥₁ }
-    ensures all { IsTrue R.TELLS → IsTrue W.TELLS → IfOk result (λ n. Completed (R.left reader.old) bytes.old bytes.new (W.contents writer.old) (W.contents writer.new) n.lines n.edits) }
-    ensures fault { IsTrue R.TELLS → IsTrue W.TELLS → IfErr result (λ f. Faulted (R.left reader.old) (R.left reader.new) bytes.old bytes.new (W.contents writer.old) (W.contents writer.new) f.lines f.edits f.cause) }
+    ensures all { IsTrue R.OBSERVABLE → IsTrue W.OBSERVABLE → IfOk result (λ n. Completed (R.left reader.old) bytes.old bytes.new (W.contents writer.old) (W.contents writer.new) n.lines n.edits) }
+    ensures fault { IsTrue R.OBSERVABLE → IsTrue W.OBSERVABLE → IfErr result (λ f. Faulted (R.left reader.old) (R.left reader.new) bytes.old bytes.new (W.contents writer.old) (W.contents writer.new) f.lines f.edits f.cause) }
 {
     match check(alloc, bytes) {
         Ok(()) => {}
@@ -52,7 +52,7 @@ pub fn work<R: Source, W: Writer>(
 ) -> Result<Worked, SaveRefusal>
     requires reader_counts { R.failures reader.old < 2 ^ 64 - 1 }
     requires writer_counts { W.failures writer.old < 2 ^ 64 - 1 }
-    ensures works { IsTrue R.TELLS → IsTrue W.TELLS → IfOk result (λ w. WorksInPlace document.now (R.left reader.old) (W.contents writer.old) (W.contents writer.new) w.bytes.items w.outcome) }
+    ensures works { IsTrue R.OBSERVABLE → IsTrue W.OBSERVABLE → IfOk result (λ w. WorksInPlace document.now (R.left reader.old) (W.contents writer.old) (W.contents writer.new) w.bytes.items w.outcome) }
     // The document is saved into a vector, which counts no failures.
     ensures refused { IfErr result (IsUnsavedFor document.now false 0 0) }
 {

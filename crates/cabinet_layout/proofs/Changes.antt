@@ -6,7 +6,7 @@ use Rattle.archive_shape_layout.specs.Edit.{Apart}
 use Rattle.archive_shape_references.specs.Bytes.{overwrite}
 use Rattle.cabinet_text.specs.Tree.{Leaf, IsLeaf, IsDocument, Tree, leaf, list, Trees, no_trees, more_trees, count, AreLeaves, Step, key, place, inside, node_at, node_in}
 use Rattle.cabinet_text.specs.Answering.{fits, change, change_in}
-use Rattle.cabinet_layout.specs.Bytes.{Stands}
+use Rattle.cabinet_layout.specs.Bytes.{HasBytes}
 use Rattle.cabinet_layout.specs.Node.{elements_at, node_position}
 use Rattle.cabinet_layout.specs.Spelled.{IsLeafAt, IsListAt, IsNodeAt, AreNodesAt}
 use Rattle.cabinet_layout.specs.Image.{own_offset, own_bytes, IsClean, AreClean}
@@ -15,7 +15,7 @@ use Rattle.cabinet_layout.proofs.Frames.{own_bytes_short, frame_leaf, frame_elem
 use Rattle.cabinet_layout.proofs.Paths.{in_list}
 use Rattle.cabinet_layout.proofs.Edits.{fits_document, leaf_edit, clean_edit}
 
--- the node at a position was one leaf and is another, and what lies before or behind it stays
+-- the node at a position was one leaf and is another, and what lies before or after it stays
 pub record Edited (bytes others : List ℕ) (pos : ℕ) (old new : Leaf) : Type 0 where
   pub size : length others ≡ length bytes
   pub says : IsLeafAt bytes pos old → IsLeafAt others pos new
@@ -184,7 +184,7 @@ tree_clean bytes others pos (list ts) (place i ∷ []) old new d e f edit h c =
     let stays = list_stays bytes others pos (count ts) i old new h.0 r.below edit in
     let k = clean_edited bytes others (elements_at bytes pos + 24 * i) old new f edit (elements_at bytes pos) ts i d.0 e refl c.4 in
     let own = frame_list_clean bytes others pos stays (count ts) (c.0, c.1, c.2, c.3) in
-    let number = subst (λ n. Stands others (pos + 8) (to_le_bytes w32 n)) (sym (count-change_in ts i [] new)) own.2 in
+    let number = subst (λ n. HasBytes others (pos + 8) (to_le_bytes w32 n)) (sym (count-change_in ts i [] new)) own.2 in
     (own.0, own.1, number, own.3, subst (λ from. AreClean others from (change_in ts i [] new)) (frame_elements bytes others pos stays) k)
 tree_clean bytes others pos (list ts) (place i ∷ (step ∷ path)) old new d e f edit h c = let r = in_list ts i (step ∷ path) old d.0 e in let ends = r.ends in absurd (cc)
 

@@ -10,10 +10,10 @@ use Rattle.archive_shape_layout.specs.Content.{before_ff}
 use Rattle.archive_shape_references.specs.Bytes.{overwrite}
 use Rattle.cabinet_text.specs.Tree.{Leaf, leaf, truth, number, text, IsLeaf, IsDocument}
 use Rattle.cabinet_text.specs.Answering.{fits}
-use Rattle.cabinet_layout.specs.Bytes.{Stands, zeros, filler, truth_byte, number_bytes}
+use Rattle.cabinet_layout.specs.Bytes.{HasBytes, zeros, filler, truth_byte, number_bytes}
 use Rattle.cabinet_layout.specs.Spelled.{IsLeafAt}
 use Rattle.cabinet_layout.specs.Image.{own_offset, own_bytes, IsClean}
-use Rattle.cabinet_layout.specs.Fault.{IsOutOfLine}
+use Rattle.cabinet_layout.specs.ArchiveFault.{IsOutOfLine}
 use Rattle.archive_shape_references.proofs.Written.{window_there, byte_before, window_from}
 use Rattle.cabinet_layout.proofs.Pieces.{length-window, stands_before, stands_behind, stands_byte}
 use Rattle.archive_shape_layout.proofs.Texts.{text_before, split_at_filler, starts_inline}
@@ -82,7 +82,7 @@ module _ (bytes : List ℕ) (pos : ℕ) (room : pos + 24 ≤ length bytes) where
         window_there bytes (pos + 4) u (omega arith),
         (
           stands_before bytes (pos + 4) u (omega arith) (pos + 1) (zeros 3) (omega arith) i.1.0,
-          stands_behind bytes (pos + 4) u (omega arith) (pos + (4 + length u)) (filler (8 - length u)) (omega arith) (subst (λ n. Stands bytes (pos + (4 + n)) (filler (8 - n))) e i.1.1),
+          stands_behind bytes (pos + 4) u (omega arith) (pos + (4 + length u)) (filler (8 - length u)) (omega arith) (subst (λ n. HasBytes bytes (pos + (4 + n)) (filler (8 - n))) e i.1.1),
           stands_behind bytes (pos + 4) u (omega arith) (pos + 12) (zeros 12) (omega arith) i.1.2,
         ),
       )

@@ -5,12 +5,12 @@ use Rattle.std.specs.Prelude.{IsUtf8, slice_index}
 use Rattle.archive_shape_layout.specs.Value.{Value, Values}
 use Rattle.archive_shape_layout.specs.Value.Value.{group}
 use Rattle.archive_shape_layout.proofs.Unique.{one_value_law}
-use Rattle.archive_shape_checking.specs.declared.error.Error.{Error}
+use Rattle.archive_shape_writing.specs.declared.error.Error.{Error}
 use Rattle.cabinet_text.specs.Tree.{Tree, Leaf, leaf, list, truth, number, text, Trees, no_trees, more_trees, count, IsLeaf, IsShort, AreLeaves, IsDocument}
 use Rattle.cabinet_layout.specs.Node.{root_position, len_of_list, elements_at}
 use Rattle.cabinet_layout.specs.Spelled.{IsLeafAt, IsListAt, IsNodeAt, AreNodesAt, HasRootNode}
 use Rattle.cabinet_layout.specs.Denotes.{tagged_value, Denotes, denotes_truth, denotes_number, denotes_text, denotes_list, DenoteAll, denote_none, denote_more}
-use Rattle.cabinet_layout.specs.Fault.{LeavesRange, PayloadFault, no_truth_value, text_elsewhere, no_text, ElementFault, no_leaf, in_the_leaf, ListFault, out_of_range, not_aligned, in_an_element, NodeFault, no_such_tag, in_the_payload, in_the_list, Fault, too_short, in_the_root}
+use Rattle.cabinet_layout.specs.ArchiveFault.{LeavesRange, PayloadFault, no_truth_value, text_elsewhere, no_text, ElementFault, no_leaf, in_the_leaf, ListFault, out_of_range, not_aligned, in_an_element, NodeFault, no_such_tag, in_the_payload, in_the_list, ArchiveFault, too_short, in_the_root}
 use Rattle.cabinet_layout.specs.Laws.{OneDocument, FaultRefuses, OneFault}
 use Rattle.cabinet_layout.proofs.Roots.{accepted_says}
 
@@ -69,7 +69,7 @@ node_fault bytes pos e (list ts) d i (no_such_tag h g k) = g i.0.tag
 node_fault bytes pos e (list ts) d i (in_the_payload f) = let tag = payload_tag bytes pos e f in let five = i.0.tag in omega arith
 node_fault bytes pos e (list ts) d i (in_the_list h f) = list_fault bytes pos e ts d.0 i.0 i.1 f
 
-root_fault : (bytes : List ℕ) (e : Error) (t : Tree) → Fault bytes e → HasRootNode bytes t → ⊥
+root_fault : (bytes : List ℕ) (e : Error) (t : Tree) → ArchiveFault bytes e → HasRootNode bytes t → ⊥
 root_fault bytes e t (too_short h k) r = let room = r.room in omega arith
 root_fault bytes e t (in_the_root h f) r = node_fault bytes (root_position (length bytes)) e t r.document r.at_root f
 

@@ -7,11 +7,11 @@ use Rattle.archive_shape_layout.specs.Content.{before_ff}
 use Rattle.archive_shape_layout.specs.Laws.{AgreesOn}
 use Rattle.archive_shape_layout.proofs.Framed.{agrees_within}
 use Rattle.cabinet_text.specs.Tree.{Leaf, truth, number, text, leaf, list, Trees, no_trees, more_trees, count, AreLeaves, IsDocument}
-use Rattle.cabinet_layout.specs.Bytes.{Stands, zeros, filler}
+use Rattle.cabinet_layout.specs.Bytes.{HasBytes, zeros, filler}
 use Rattle.cabinet_layout.specs.Node.{elements_at, or_zero}
 use Rattle.cabinet_layout.specs.Spelled.{IsLeafAt, IsListAt, AreNodesAt}
 use Rattle.cabinet_layout.specs.Image.{own_offset, own_bytes, IsClean, AreClean}
-use Rattle.cabinet_layout.specs.Fault.{IsOutOfLine}
+use Rattle.cabinet_layout.specs.ArchiveFault.{IsOutOfLine}
 use Rattle.cabinet_layout.proofs.Pieces.{window_byte, word_of_window}
 
 -- the own bytes of a leaf lie in its node
@@ -27,10 +27,10 @@ agrees_byte bytes others pos size i h same =
 -- what is clean of the node of a list alone
 abbrev pub IsNodeClean : List ℕ → ℕ → ℕ → Type 0
 IsNodeClean bytes pos len =
-    Stands bytes (pos + 1) (zeros 3)
-    × Stands bytes (pos + 4) (to_le_bytes w32 (word_at bytes (pos + 4)))
-    × Stands bytes (pos + 8) (to_le_bytes w32 len)
-    × Stands bytes (pos + 12) (zeros 12)
+    HasBytes bytes (pos + 1) (zeros 3)
+    × HasBytes bytes (pos + 4) (to_le_bytes w32 (word_at bytes (pos + 4)))
+    × HasBytes bytes (pos + 8) (to_le_bytes w32 len)
+    × HasBytes bytes (pos + 12) (zeros 12)
 
 module _ (bytes others : List ℕ) (pos : ℕ) (same : AgreesOn bytes others pos 24) where
   window_in : (k n : ℕ) → k + n ≤ 24 → window bytes (pos + k) n ≡ window others (pos + k) n
@@ -47,7 +47,7 @@ module _ (bytes others : List ℕ) (pos : ℕ) (same : AgreesOn bytes others pos
   word_in : (k : ℕ) → k + 4 ≤ 24 → word_at bytes (pos + k) ≡ word_at others (pos + k)
   word_in k h = word_of_window bytes (pos + k) ∙ ap (from_le_bytes w32) (window_in k 4 h) ∙ sym (word_of_window others (pos + k))
 
-  stands_in : (k : ℕ) (piece : List ℕ) → k + length piece ≤ 24 → Stands bytes (pos + k) piece → Stands others (pos + k) piece
+  stands_in : (k : ℕ) (piece : List ℕ) → k + length piece ≤ 24 → HasBytes bytes (pos + k) piece → HasBytes others (pos + k) piece
   stands_in k piece h s = sym (window_in k (length piece) h) ∙ s
 
   pub frame_leaf : (l : Leaf) → IsLeafAt bytes pos l → IsLeafAt others pos l
@@ -79,7 +79,7 @@ module _ (bytes others : List ℕ) (pos : ℕ) (same : AgreesOn bytes others pos
   frame_list_clean len h =
       let word : List ℕ = to_le_bytes w32 (word_at bytes (pos + 4)) in (
         stands_in 1 (zeros 3) (omega arith) h.0,
-        subst (λ w. Stands others (pos + 4) (to_le_bytes w32 w)) (word_in 4 (omega arith)) (stands_in 4 word (omega arith) h.1),
+        subst (λ w. HasBytes others (pos + 4) (to_le_bytes w32 w)) (word_in 4 (omega arith)) (stands_in 4 word (omega arith) h.1),
         stands_in 8 (to_le_bytes w32 len) (omega arith) h.2,
         stands_in 12 (zeros 12) (omega arith) h.3,
       )

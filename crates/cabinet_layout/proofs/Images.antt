@@ -1,4 +1,4 @@
--- What the image of a document is: its elements, side by side from the first byte on, and behind them its root.
+-- What the image of a document is: its elements, side by side from the first byte on, and after them its root.
 use Rattle.std.proofs.Common.{◌≡◌, ℕ, ◌+◌, ◌-◌, ◌*◌, ◌%◌, ◌^◌, ◌≤◌, ◌<◌, Bool, true, false, cond, nat_lt, nat_le, w32, List, [], ◌∷◌, ◌++◌, length, Some, None, refl, sym, ap, subst, ◌∙◌, arith, length-append, ⊎_elim, inl}
 use Rattle.std.specs.Prelude.{⊤}
 use Rattle.std.specs.Int.{from_le_bytes, to_le_bytes}
@@ -6,12 +6,12 @@ use Rattle.std.proofs.lemmas.Bool.{cases_lt}
 use Rattle.std.proofs.lemmas.Bool.Decides.{nat_tests}
 use Rattle.std.proofs.lemmas.List.{take_all}
 use Rattle.std.proofs.lemmas.Nat.{from_le_bytes-to_le_bytes_4}
-use Rattle.archive_shape_checking.specs.declared.error.Error.{Error}
-use Rattle.archive_shape_checking.specs.declared.error.Error.TheVariants.{IsizeOverflow}
+use Rattle.archive_shape_writing.specs.declared.error.Error.{Error}
+use Rattle.archive_shape_writing.specs.declared.error.Error.TheVariants.{IsizeOverflow}
 use Rattle.archive_shape_layout.specs.Bytes.{align_up, word_at, target_from}
 use Rattle.archive_shape_layout.specs.Holds.{end_after}
 use Rattle.cabinet_text.specs.Tree.{Leaf, truth, number, text, Tree, leaf, list, Trees, no_trees, more_trees, count, AreLeaves, IsDocument}
-use Rattle.cabinet_layout.specs.Bytes.{Stands, zeros}
+use Rattle.cabinet_layout.specs.Bytes.{HasBytes, zeros}
 use Rattle.cabinet_layout.specs.Node.{root_position, elements_at, or_zero}
 use Rattle.cabinet_layout.specs.Spelled.{IsListAt, IsNodeAt, AreNodesAt, HasRootNode}
 use Rattle.cabinet_layout.specs.Image.{IsClean, AreClean, ArePlaced, IsPast, ArePast, Image}
@@ -105,7 +105,7 @@ image_says t bytes i =
       limit = limit_of t i.within_limits;
     }
 
--- the root of so many bytes lies at their end
+-- the root of n bytes lies at their end
 pub root_is : (t : Tree) (bytes : List ℕ) → length bytes ≡ before_root t + 24 → root_position (length bytes) ≡ before_root t
 root_is (leaf l) bytes e = omega arith
 root_is (list ts) bytes e = omega arith
@@ -155,11 +155,11 @@ first_led from some h =
 
 -- ---- the node of a list
 
-stands_word : (bytes : List ℕ) (at word : ℕ) → word < 2 ^ 32 → Stands bytes at (to_le_bytes w32 word) → word_at bytes at ≡ word
+stands_word : (bytes : List ℕ) (at word : ℕ) → word < 2 ^ 32 → HasBytes bytes at (to_le_bytes w32 word) → word_at bytes at ≡ word
 stands_word bytes at word h s = word_of_window bytes at ∙ ap (from_le_bytes w32) s ∙ from_le_bytes-to_le_bytes_4 word h
 
 module _ (bytes : List ℕ) (pos len : ℕ) (behind : pos ≡ 24 * len) (limit : 24 * len + 4 ≤ 2 ^ 31) where
-  list_stands : pos + 24 ≤ length bytes → IsListAt bytes pos len → elements_at bytes pos ≡ 0 → IsNodeClean bytes pos len → Stands bytes pos (list_bytes len)
+  list_stands : pos + 24 ≤ length bytes → IsListAt bytes pos len → elements_at bytes pos ≡ 0 → IsNodeClean bytes pos len → HasBytes bytes pos (list_bytes len)
   list_stands room h first c =
       let from : pos + 4 ≡ 24 * len + 4 = omega arith in
       let pointer : word_at bytes (pos + 4) ≡ 2 ^ 32 - (24 * len + 4) = leads_first (pos + 4) (word_at bytes (pos + 4)) (omega arith) (h.pointer ∙ ap Some first) ∙ ap (λ x. 2 ^ 32 - x) from in
@@ -167,7 +167,7 @@ module _ (bytes : List ℕ) (pos len : ℕ) (behind : pos ≡ 24 * len) (limit :
       let number : List ℕ = to_le_bytes w32 len in
       stands_append bytes pos (5 ∷ []) (zeros 3 ++ (word ++ (number ++ zeros 12))) (pos + 1) refl (byte_stands bytes pos 5 (omega arith) h.tag)
       (stands_append bytes (pos + 1) (zeros 3) (word ++ (number ++ zeros 12)) (pos + 4) (omega arith) c.0
-      (stands_append bytes (pos + 4) word (number ++ zeros 12) (pos + 8) (omega arith) (subst (λ w. Stands bytes (pos + 4) (to_le_bytes w32 w)) pointer c.1)
+      (stands_append bytes (pos + 4) word (number ++ zeros 12) (pos + 8) (omega arith) (subst (λ w. HasBytes bytes (pos + 4) (to_le_bytes w32 w)) pointer c.1)
       (stands_append bytes (pos + 8) number (zeros 12) (pos + 12) (omega arith) c.2 c.3)))
 
   record ListSays : Type 0 where
@@ -175,7 +175,7 @@ module _ (bytes : List ℕ) (pos len : ℕ) (behind : pos ≡ 24 * len) (limit :
     first : elements_at bytes pos ≡ 0
     clean : IsNodeClean bytes pos len
 
-  list_says : Stands bytes pos (list_bytes len) → ListSays
+  list_says : HasBytes bytes pos (list_bytes len) → ListSays
   list_says s =
       let word : List ℕ = to_le_bytes w32 (2 ^ 32 - (24 * len + 4)) in
       let number : List ℕ = to_le_bytes w32 len in
@@ -199,7 +199,7 @@ module _ (bytes : List ℕ) (pos len : ℕ) (behind : pos ≡ 24 * len) (limit :
         first = first;
         clean = (
           stands_left bytes (pos + 1) (zeros 3) (word ++ (number ++ zeros 12)) behind_tag,
-          subst (λ w. Stands bytes (pos + 4) (to_le_bytes w32 w)) (sym pointer) words_stand,
+          subst (λ w. HasBytes bytes (pos + 4) (to_le_bytes w32 w)) (sym pointer) words_stand,
           stands_left bytes (pos + 8) number (zeros 12) numbers,
           stands_right bytes (pos + 8) number (zeros 12) (pos + 12) (omega arith) numbers,
         );
@@ -229,7 +229,7 @@ image_is (list ts) bytes i =
     (elements_stand bytes 0 ts (omega arith) i.document.0 nodes clean)
     (list_stands bytes (24 * count ts) (count ts) refl i.limit (omega arith) i.node.0 first (i.clean.0, i.clean.1, i.clean.2, i.clean.3)))
 
-stands_itself : (bytes : List ℕ) → Stands bytes 0 bytes
+stands_itself : (bytes : List ℕ) → HasBytes bytes 0 bytes
 stands_itself bytes = take_all (length bytes) bytes (omega arith)
 
 is_image : (t : Tree) → IsDocument t → before_root t + 4 ≤ 2 ^ 31 → IsImage t (image_bytes t)

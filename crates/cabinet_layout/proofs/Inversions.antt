@@ -6,7 +6,7 @@ use Rattle.archive_shape_layout.specs.Value.Value.{chosen}
 use Rattle.archive_shape_layout.specs.Content.{Names, Part, Span, content_of, made, IsLegal}
 use Rattle.archive_shape_layout.specs.Content.Label.{same, tagged, leaf, written}
 use Rattle.archive_shape_layout.specs.Content.Content.{illegal, plain, claimed}
-use Rattle.archive_shape_layout.specs.Holds.{Region, region_of, Visit, Opened, Holds, HoldAll}
+use Rattle.archive_shape_layout.specs.Holds.{Region, region_of, Visit, OpenShared, Holds, HoldAll}
 use Rattle.archive_shape_layout.specs.Holds.Holds.{holds_plain, holds_claimed, holds_first, holds_later, holds_back}
 use Rattle.archive_shape_layout.specs.Holds.HoldAll.{holds_none, holds_more}
 use Rattle.archive_shape_layout.proofs.Unique.{by_plain, by_claimed}
@@ -14,7 +14,7 @@ use Rattle.archive_shape_layout.proofs.Unique.{by_plain, by_claimed}
 module _ (names : Names) (bytes : List ℕ) where
   -- a part that is not legal holds nothing
   pub none_illegal :
-      {level : ℕ} {inside : List Opened} {p : Part} {v : Value} {regions : List Region} {before after : List Visit}
+      {level : ℕ} {inside : List OpenShared} {p : Part} {v : Value} {regions : List Region} {before after : List Visit}
       → content_of names bytes p ≡ illegal → Holds names bytes level inside p v regions before after → ⊥
   none_illegal e (holds_plain f legal all m) = cc
   none_illegal e (holds_claimed f legal all m r) = cc
@@ -23,13 +23,13 @@ module _ (names : Names) (bytes : List ℕ) where
   none_illegal e (holds_back f x d g h) = cc
 
   -- the value of a lone part
-  pub record Lone (level : ℕ) (inside : List Opened) (p : Part) (vs : Values) (regions : List Region) (before after : List Visit) : Type 0 where
+  pub record Lone (level : ℕ) (inside : List OpenShared) (p : Part) (vs : Values) (regions : List Region) (before after : List Visit) : Type 0 where
     pub value : Value
     pub values_are : vs ≡ more_values value no_values
     pub holds : Holds names bytes level inside p value regions before after
 
   pub lone :
-      {level : ℕ} {inside : List Opened} {p : Part} {vs : Values} {regions : List Region} {before after : List Visit}
+      {level : ℕ} {inside : List OpenShared} {p : Part} {vs : Values} {regions : List Region} {before after : List Visit}
       → HoldAll names bytes level inside (p ∷ []) vs regions before after → Lone level inside p vs regions before after
   lone {level = level} {inside = inside} {p = p} {before = before} {after = after} (holds_more {v = v} {here = here} {between = between} h (holds_none f g k) d r) =
       record {
@@ -40,7 +40,7 @@ module _ (names : Names) (bytes : List ℕ) where
 
   -- a part that passes on the value of its one part
   pub passed_on :
-      {level : ℕ} {inside : List Opened} {p q : Part} {v : Value} {regions : List Region} {before after : List Visit}
+      {level : ℕ} {inside : List OpenShared} {p q : Part} {v : Value} {regions : List Region} {before after : List Visit}
       → content_of names bytes p ≡ plain same (q ∷ [])
       → Holds names bytes level inside p v regions before after
       → Holds names bytes level inside q v regions before after
@@ -52,14 +52,14 @@ module _ (names : Names) (bytes : List ℕ) where
       let f : l.value ≡ v = cc in
       subst (λ x. Holds names bytes level inside q x regions before after) f l.holds
 
-  -- a part with a tag and one part behind it
-  pub record Tagged (tag : ℕ) (level : ℕ) (inside : List Opened) (q : Part) (v : Value) (regions : List Region) (before after : List Visit) : Type 0 where
+  -- a part with a tag and one part after it
+  pub record Tagged (tag : ℕ) (level : ℕ) (inside : List OpenShared) (q : Part) (v : Value) (regions : List Region) (before after : List Visit) : Type 0 where
     pub payload : Value
     pub value_is : v ≡ chosen tag (more_values payload no_values)
     pub holds : Holds names bytes level inside q payload regions before after
 
   pub by_tag :
-      {tag level : ℕ} {inside : List Opened} {p q : Part} {v : Value} {regions : List Region} {before after : List Visit}
+      {tag level : ℕ} {inside : List OpenShared} {p q : Part} {v : Value} {regions : List Region} {before after : List Visit}
       → content_of names bytes p ≡ plain (tagged tag) (q ∷ [])
       → Holds names bytes level inside p v regions before after
       → Tagged tag level inside q v regions before after
@@ -77,13 +77,13 @@ module _ (names : Names) (bytes : List ℕ) where
     pub same_visits : after ≡ before
 
   no_parts :
-      {level : ℕ} {inside : List Opened} {vs : Values} {regions : List Region} {before after : List Visit}
+      {level : ℕ} {inside : List OpenShared} {vs : Values} {regions : List Region} {before after : List Visit}
       → HoldAll names bytes level inside [] vs regions before after
       → (vs ≡ no_values) × (regions ≡ []) × (after ≡ before)
   no_parts (holds_none f g h) = (f, g, h)
 
   pub by_leaf :
-      {level : ℕ} {inside : List Opened} {p : Part} {v w : Value} {regions : List Region} {before after : List Visit}
+      {level : ℕ} {inside : List OpenShared} {p : Part} {v w : Value} {regions : List Region} {before after : List Visit}
       → content_of names bytes p ≡ plain (leaf w) []
       → Holds names bytes level inside p v regions before after
       → Alone w v regions before after
@@ -99,7 +99,7 @@ module _ (names : Names) (bytes : List ℕ) where
     pub alone : Alone (Value.string text) v regions before after
 
   pub by_text :
-      {level : ℕ} {inside : List Opened} {p : Part} {v : Value} {text : List ℕ} {regions : List Region} {before after : List Visit}
+      {level : ℕ} {inside : List OpenShared} {p : Part} {v : Value} {text : List ℕ} {regions : List Region} {before after : List Visit}
       → content_of names bytes p ≡ plain (written text) []
       → Holds names bytes level inside p v regions before after
       → AloneText text v regions before after
@@ -116,7 +116,7 @@ module _ (names : Names) (bytes : List ℕ) where
     pub regions_are : regions ≡ region_of s level ∷ []
 
   pub by_claimed_text :
-      {level : ℕ} {inside : List Opened} {p : Part} {s : Span} {v : Value} {text : List ℕ} {regions : List Region} {before after : List Visit}
+      {level : ℕ} {inside : List OpenShared} {p : Part} {s : Span} {v : Value} {text : List ℕ} {regions : List Region} {before after : List Visit}
       → content_of names bytes p ≡ claimed s (written text) []
       → Holds names bytes level inside p v regions before after
       → ClaimedText s level text v regions

@@ -5,10 +5,10 @@ use Rattle.std.specs.Int.{from_le_bytes, cast_signed}
 use Rattle.archive_shape_layout.specs.Bytes.{window}
 use Rattle.archive_shape_layout.specs.Content.{before_ff}
 use Rattle.cabinet_text.specs.Tree.{Leaf, truth, number, text, leaf, list, Trees, no_trees, more_trees, count, AreLeaves, IsDocument}
-use Rattle.cabinet_layout.specs.Bytes.{Stands, zeros, filler, truth_byte, number_bytes}
+use Rattle.cabinet_layout.specs.Bytes.{HasBytes, zeros, filler, truth_byte, number_bytes}
 use Rattle.cabinet_layout.specs.Spelled.{IsLeafAt, AreNodesAt}
 use Rattle.cabinet_layout.specs.Image.{IsClean, AreClean}
-use Rattle.cabinet_layout.specs.Fault.{IsOutOfLine}
+use Rattle.cabinet_layout.specs.ArchiveFault.{IsOutOfLine}
 use Rattle.cabinet_layout.specs.Written.{leaf_bytes, list_bytes, elements_bytes}
 use Rattle.cabinet_layout.proofs.Pieces.{stands_append, stands_left, stands_right, byte_stands, stands_byte}
 use Rattle.archive_shape_layout.proofs.Texts.{text_before, starts_inline, StartsFilled}
@@ -34,7 +34,7 @@ length-elements_bytes (more_trees (leaf l) ts) d =
 
 -- ---- a clean leaf has these bytes
 
-pub leaf_stands : (bytes : List ℕ) (pos : ℕ) (l : Leaf) → pos + 24 ≤ length bytes → IsDocument (leaf l) → IsLeafAt bytes pos l → IsClean bytes pos (leaf l) → Stands bytes pos (leaf_bytes l)
+pub leaf_stands : (bytes : List ℕ) (pos : ℕ) (l : Leaf) → pos + 24 ≤ length bytes → IsDocument (leaf l) → IsLeafAt bytes pos l → IsClean bytes pos (leaf l) → HasBytes bytes pos (leaf_bytes l)
 leaf_stands bytes pos (truth b) room d h c =
     stands_append bytes pos (0 ∷ []) (truth_byte b ∷ zeros 22) (pos + 1) refl (byte_stands bytes pos 0 (omega arith) h.0)
     (stands_append bytes (pos + 1) (truth_byte b ∷ []) (zeros 22) (pos + 2) (omega arith) c.0 c.1)
@@ -50,7 +50,7 @@ leaf_stands bytes pos (text t) room d h c =
     (stands_append bytes (pos + 4) t (filler (8 - length t) ++ zeros 12) (pos + (4 + length t)) (omega arith) c.0
     (stands_append bytes (pos + (4 + length t)) (filler (8 - length t)) (zeros 12) (pos + 12) (omega arith) c.1.1 c.1.2)))
 
-pub elements_stand : (bytes : List ℕ) (pos : ℕ) (ts : Trees) → pos + 24 * count ts ≤ length bytes → AreLeaves ts → AreNodesAt bytes pos ts → AreClean bytes pos ts → Stands bytes pos (elements_bytes ts)
+pub elements_stand : (bytes : List ℕ) (pos : ℕ) (ts : Trees) → pos + 24 * count ts ≤ length bytes → AreLeaves ts → AreNodesAt bytes pos ts → AreClean bytes pos ts → HasBytes bytes pos (elements_bytes ts)
 elements_stand bytes pos no_trees room d h c = refl
 elements_stand bytes pos (more_trees (list us) ts) room d h c = absurd d
 elements_stand bytes pos (more_trees (leaf l) ts) room d h c =
@@ -65,7 +65,7 @@ starts_filled : (n : ℕ) → StartsFilled (filler n)
 starts_filled zero = tt
 starts_filled (suc n) = refl
 
-pub leaf_says : (bytes : List ℕ) (pos : ℕ) (l : Leaf) → IsDocument (leaf l) → Stands bytes pos (leaf_bytes l) → IsLeafAt bytes pos l × IsClean bytes pos (leaf l)
+pub leaf_says : (bytes : List ℕ) (pos : ℕ) (l : Leaf) → IsDocument (leaf l) → HasBytes bytes pos (leaf_bytes l) → IsLeafAt bytes pos l × IsClean bytes pos (leaf l)
 leaf_says bytes pos (truth b) d s =
     let tag = stands_byte bytes pos 0 (stands_left bytes pos (0 ∷ []) (truth_byte b ∷ zeros 22) s) in
     let behind = stands_right bytes pos (0 ∷ []) (truth_byte b ∷ zeros 22) (pos + 1) refl s in
@@ -103,7 +103,7 @@ leaf_says bytes pos (text t) d s =
       (own, (stands_left bytes (pos + 1) (zeros 3) (t ++ (fill ++ zeros 12)) behind, filled, stands_right bytes (pos + (4 + length t)) fill (zeros 12) (pos + 12) (omega arith) rest)),
     )
 
-pub elements_say : (bytes : List ℕ) (pos : ℕ) (ts : Trees) → AreLeaves ts → Stands bytes pos (elements_bytes ts) → AreNodesAt bytes pos ts × AreClean bytes pos ts
+pub elements_say : (bytes : List ℕ) (pos : ℕ) (ts : Trees) → AreLeaves ts → HasBytes bytes pos (elements_bytes ts) → AreNodesAt bytes pos ts × AreClean bytes pos ts
 elements_say bytes pos no_trees d s = (tt, tt)
 elements_say bytes pos (more_trees (list us) ts) d s = absurd d
 elements_say bytes pos (more_trees (leaf l) ts) d s =

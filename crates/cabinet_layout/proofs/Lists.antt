@@ -9,7 +9,7 @@ use Rattle.archive_shape_layout.specs.Content.{Span, content_of, made, shape_con
 use Rattle.archive_shape_layout.specs.Content.Part.{at, behind}
 use Rattle.archive_shape_layout.specs.Content.Label.{same, whole}
 use Rattle.archive_shape_layout.specs.Content.Content.{plain, claimed}
-use Rattle.archive_shape_layout.specs.Holds.{Region, region_of, Visit, Opened, Holds, HoldAll}
+use Rattle.archive_shape_layout.specs.Holds.{Region, region_of, Visit, OpenShared, Holds, HoldAll}
 use Rattle.archive_shape_layout.proofs.Unique.{by_claimed}
 use Rattle.cabinet_layout.specs.Node.{node_shape, node_names, target_of_list, len_of_list, or_zero, elements_at}
 use Rattle.cabinet_layout.proofs.Inversions.{none_illegal, passed_on}
@@ -48,14 +48,14 @@ module _ (bytes : List ℕ) (pos : ℕ) where
   elements_content len = refl
 
   -- what the vector of a list rests on
-  pub record VectorHolds (level : ℕ) (inside : List Opened) (vs : Values) (regions : List Region) (before after : List Visit) : Type 0 where
+  pub record VectorHolds (level : ℕ) (inside : List OpenShared) (vs : Values) (regions : List Region) (before after : List Visit) : Type 0 where
     pub pointer : target_of_list bytes pos ≡ Some (elements_at bytes pos)
     pub within : List Region
     pub all : HoldAll node_names bytes (suc level) inside (elements (elements_at bytes pos) (len_of_list bytes pos) node_shape) vs within before after
     pub regions_are : regions ≡ within ++ region_of (elements_span (elements_at bytes pos) (len_of_list bytes pos)) level ∷ []
 
 pub by_vector :
-    (bytes : List ℕ) (pos : ℕ) {level : ℕ} {inside : List Opened} {vs : Values} {regions : List Region} {before after : List Visit}
+    (bytes : List ℕ) (pos : ℕ) {level : ℕ} {inside : List OpenShared} {vs : Values} {regions : List Region} {before after : List Visit}
     → Holds node_names bytes level inside (at (pos + 4) (vector node_shape)) (group vs) regions before after
     → VectorHolds bytes pos level inside vs regions before after
 unfolding made following

@@ -6,16 +6,16 @@ use Rattle.std.proofs.lemmas.List.{length-take, length-drop, drop-drop, drop-tak
 use Rattle.archive_shape_layout.specs.Bytes.{window, word_at}
 use Rattle.archive_shape_references.specs.Bytes.{overwrite}
 use Rattle.archive_shape_references.proofs.Written.{window_before, window_behind}
-use Rattle.cabinet_layout.specs.Bytes.{Stands}
+use Rattle.cabinet_layout.specs.Bytes.{HasBytes}
 
 pub length-window : (bytes : List ℕ) (pos size : ℕ) → pos + size ≤ length bytes → length (window bytes pos size) ≡ size
 length-window bytes pos size h = omega (arith, length-take size (drop pos bytes), length-drop pos bytes)
 
 module _ (bytes : List ℕ) (at : ℕ) (piece : List ℕ) (fits : at + length piece ≤ length bytes) where
-  pub stands_before : (pos : ℕ) (other : List ℕ) → pos + length other ≤ at → Stands bytes pos other → Stands (overwrite bytes at piece) pos other
+  pub stands_before : (pos : ℕ) (other : List ℕ) → pos + length other ≤ at → HasBytes bytes pos other → HasBytes (overwrite bytes at piece) pos other
   stands_before pos other h s = window_before bytes at piece fits pos (length other) h ∙ s
 
-  pub stands_behind : (pos : ℕ) (other : List ℕ) → at + length piece ≤ pos → Stands bytes pos other → Stands (overwrite bytes at piece) pos other
+  pub stands_behind : (pos : ℕ) (other : List ℕ) → at + length piece ≤ pos → HasBytes bytes pos other → HasBytes (overwrite bytes at piece) pos other
   stands_behind pos other h s = window_behind bytes at piece fits pos (length other) h ∙ s
 
 -- a byte of a window
@@ -32,8 +32,8 @@ word_of_window bytes pos =
     let b3 = get_or-take 4 (drop pos bytes) 3 0 (omega arith) in
     rw (b0, b1, b2, b3)
 
--- one piece behind another
-pub stands_append : (bytes : List ℕ) (pos : ℕ) (xs ys : List ℕ) (next : ℕ) → pos + length xs ≡ next → Stands bytes pos xs → Stands bytes next ys → Stands bytes pos (xs ++ ys)
+-- one piece after another
+pub stands_append : (bytes : List ℕ) (pos : ℕ) (xs ys : List ℕ) (next : ℕ) → pos + length xs ≡ next → HasBytes bytes pos xs → HasBytes bytes next ys → HasBytes bytes pos (xs ++ ys)
 stands_append bytes pos xs ys next e s t =
     ap (λ n. window bytes pos n) (length-append xs ys)
     ∙ take-add (length xs) (length ys) (drop pos bytes)
@@ -42,13 +42,13 @@ stands_append bytes pos xs ys next e s t =
     ∙ ap (λ n. xs ++ window bytes n (length ys)) e
     ∙ ap (λ x. xs ++ x) t
 
-pub stands_left : (bytes : List ℕ) (pos : ℕ) (xs ys : List ℕ) → Stands bytes pos (xs ++ ys) → Stands bytes pos xs
+pub stands_left : (bytes : List ℕ) (pos : ℕ) (xs ys : List ℕ) → HasBytes bytes pos (xs ++ ys) → HasBytes bytes pos xs
 stands_left bytes pos xs ys s =
     sym (take-take (length xs) (length (xs ++ ys)) (drop pos bytes) (omega (arith, length-append xs ys)))
     ∙ ap (take (length xs)) s
     ∙ take-append_seam xs ys
 
-pub stands_right : (bytes : List ℕ) (pos : ℕ) (xs ys : List ℕ) (next : ℕ) → pos + length xs ≡ next → Stands bytes pos (xs ++ ys) → Stands bytes next ys
+pub stands_right : (bytes : List ℕ) (pos : ℕ) (xs ys : List ℕ) (next : ℕ) → pos + length xs ≡ next → HasBytes bytes pos (xs ++ ys) → HasBytes bytes next ys
 stands_right bytes pos xs ys next e s =
     ap (λ n. window bytes n (length ys)) (sym e)
     ∙ ap (take (length ys)) (sym (drop-drop (length xs) pos bytes))
@@ -58,13 +58,13 @@ stands_right bytes pos xs ys next e s =
     ∙ drop_at xs ys (length xs) refl
 
 -- a piece that stands at the beginning and is as long is the whole
-pub stands_whole : (bytes piece : List ℕ) → length bytes ≡ length piece → Stands bytes 0 piece → bytes ≡ piece
+pub stands_whole : (bytes piece : List ℕ) → length bytes ≡ length piece → HasBytes bytes 0 piece → bytes ≡ piece
 stands_whole bytes piece e s = sym (take_all (length piece) bytes (omega arith)) ∙ s
 
 -- a byte as a piece
-pub byte_stands : (bytes : List ℕ) (pos b : ℕ) → pos < length bytes → slice_index bytes pos ≡ b → Stands bytes pos (b ∷ [])
+pub byte_stands : (bytes : List ℕ) (pos b : ℕ) → pos < length bytes → slice_index bytes pos ≡ b → HasBytes bytes pos (b ∷ [])
 byte_stands bytes pos b h e = ap (take 1) (drop-cons bytes pos 0 h) ∙ ap (λ x. x ∷ []) e
 
-pub stands_byte : (bytes : List ℕ) (pos b : ℕ) → Stands bytes pos (b ∷ []) → slice_index bytes pos ≡ b
+pub stands_byte : (bytes : List ℕ) (pos b : ℕ) → HasBytes bytes pos (b ∷ []) → slice_index bytes pos ≡ b
 stands_byte bytes pos b s =
     ap (slice_index bytes) (sym (add-zero pos)) ∙ sym (get_or-drop pos bytes 0 0) ∙ sym (get_or-take 1 (drop pos bytes) 0 0 (omega arith)) ∙ ap (λ x. slice_index x 0) s

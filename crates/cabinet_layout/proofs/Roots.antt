@@ -14,7 +14,7 @@ use Rattle.archive_shape_layout.specs.Content.{Names, Content, choose, content_o
 use Rattle.archive_shape_layout.specs.Content.Part.{at, behind}
 use Rattle.archive_shape_layout.specs.Content.Label.{same, tagged, written, leaf as leaf_label}
 use Rattle.archive_shape_layout.specs.Content.Content.{illegal, plain, claimed}
-use Rattle.archive_shape_layout.specs.Holds.{Region, region_of, Visit, Opened, Holds, HoldAll, Follows, Ascends, end_after}
+use Rattle.archive_shape_layout.specs.Holds.{Region, region_of, Visit, OpenShared, Holds, HoldAll, Follows, Ascends, end_after}
 use Rattle.archive_shape_layout.specs.Holds.HoldAll.{holds_none, holds_more}
 use Rattle.archive_shape_layout.proofs.Ascent.{Ascends-append}
 use Rattle.archive_shape_layout.proofs.Unique.{by_claimed}
@@ -22,7 +22,7 @@ use Rattle.cabinet_text.specs.Tree as tree
 use Rattle.cabinet_text.specs.Tree.{Tree, list, Trees, no_trees, more_trees, count, Leaf, AreLeaves, IsDocument}
 use Rattle.cabinet_layout.specs.Node.{node_shape, node_names, payloads, root_position, target_of_list, len_of_list, elements_at}
 use Rattle.cabinet_layout.specs.Denotes.{Denotes, denotes_truth, denotes_number, denotes_text, denotes_list, DenoteAll, denote_none, denote_more, tagged_value, Accepted}
-use Rattle.cabinet_layout.specs.Fault.{IsOutOfLine}
+use Rattle.cabinet_layout.specs.ArchiveFault.{IsOutOfLine}
 use Rattle.cabinet_layout.specs.Spelled.{IsLeafAt, AreNodesAt, HasRootNode}
 use Rattle.cabinet_layout.proofs.Lists.{elements_span, by_vector}
 use Rattle.cabinet_layout.proofs.Inversions.{none_illegal, lone, passed_on, by_tag, by_leaf, by_text, by_claimed_text}
@@ -51,7 +51,7 @@ module _ (bytes : List ℕ) (pos : ℕ) where
 
   -- the tag of a node's value is its first byte
   tag_is :
-      {level k : ℕ} {inside : List Opened} {w v : Value} {regions : List Region} {before after : List Visit}
+      {level k : ℕ} {inside : List OpenShared} {w v : Value} {regions : List Region} {before after : List Visit}
       → v ≡ tagged_value k w
       → Holds node_names bytes level inside (at pos (choice payloads)) v regions before after
       → slice_index bytes pos ≡ k
@@ -67,9 +67,9 @@ module _ (bytes : List ℕ) (pos : ℕ) where
           let f : chosen k (more_values w no_values) ≡ chosen tag (more_values t.payload no_values) = sym d ∙ t.value_is in
           cc
 
-  -- what stands behind the tag of a node
+  -- what stands after the tag of a node
   behind_tag :
-      {level k : ℕ} {inside : List Opened} {w v : Value} {regions : List Region} {before after : List Visit} {s : Shape}
+      {level k : ℕ} {inside : List OpenShared} {w v : Value} {regions : List Region} {before after : List Visit} {s : Shape}
       → v ≡ tagged_value k w
       → content_of node_names bytes (at pos (choice payloads)) ≡ plain (tagged k) (at (pos + align_up 1 (align_of s)) s ∷ [])
       → Holds node_names bytes level inside (at pos (choice payloads)) v regions before after
@@ -106,7 +106,7 @@ module _ (names : Names) (bytes : List ℕ) (pos : ℕ) where
   unfolding shape_content
   truth_content = ap (λ n. choose (nat_lt n 2) (plain (leaf_label (boolean (n == 1))) []) illegal) (first_of bytes pos 1 (omega arith))
 
-  truth_at : {level : ℕ} {inside : List Opened} {b : Bool} {regions : List Region} {before after : List Visit}
+  truth_at : {level : ℕ} {inside : List OpenShared} {b : Bool} {regions : List Region} {before after : List Visit}
       → Holds names bytes level inside (at pos truth_shape) (boolean b) regions before after → TruthAt bytes pos b regions
   truth_at {b = b} {regions = regions} h = by_test (nat_lt (slice_index bytes pos) 2)
       (λ e. let a = by_leaf names bytes (truth_content ∙ choose_true _ _ e) h in
@@ -130,7 +130,7 @@ module _ (names : Names) (bytes : List ℕ) (pos : ℕ) where
   text_content_is = refl
 
   -- a text out of line is longer than eight bytes
-  text_behind : (low target : ℕ) {level : ℕ} {inside : List Opened} {t : List ℕ} {regions : List Region} {before after : List Visit}
+  text_behind : (low target : ℕ) {level : ℕ} {inside : List OpenShared} {t : List ℕ} {regions : List Region} {before after : List Visit}
       → 8 < length_word
       → Ascends low (length bytes) regions
       → Holds names bytes level inside (behind target str length_word) (string t) regions before after
@@ -158,7 +158,7 @@ module _ (names : Names) (bytes : List ℕ) (pos : ℕ) where
   elsewhere_test h = by_test text_starts_inline (λ e. e) (λ e. absurd (h (grind (arith, nat_tests))))
 
   -- a pointer of a text out of line leads to a longer text
-  text_elsewhere : (low : ℕ) (o : Option ℕ) {level : ℕ} {inside : List Opened} {t : List ℕ} {regions : List Region} {before after : List Visit}
+  text_elsewhere : (low : ℕ) (o : Option ℕ) {level : ℕ} {inside : List OpenShared} {t : List ℕ} {regions : List Region} {before after : List Visit}
       → 8 < length_word
       → content_of names bytes (at pos text_shape) ≡ following o (λ t. plain same (behind t str length_word ∷ []))
       → Ascends low (length bytes) regions
@@ -168,7 +168,7 @@ module _ (names : Names) (bytes : List ℕ) (pos : ℕ) where
   text_elsewhere low None long e ascends h = absurd (none_illegal names bytes e h)
   text_elsewhere low (Some target) long e ascends h = text_behind low target long ascends (passed_on names bytes e h)
 
-  text_at : (low : ℕ) {level : ℕ} {inside : List Opened} {t : List ℕ} {regions : List Region} {before after : List Visit}
+  text_at : (low : ℕ) {level : ℕ} {inside : List OpenShared} {t : List ℕ} {regions : List Region} {before after : List Visit}
       → length t ≤ 8
       → Ascends low (length bytes) regions
       → Holds names bytes level inside (at pos text_shape) (string t) regions before after
@@ -188,7 +188,7 @@ pub record NodeSays (bytes : List ℕ) (pos : ℕ) (l : Leaf) (regions : List Re
   pub leaf_at : IsLeafAt bytes pos l
   pub no_regions : regions ≡ []
 
-node_says : (bytes : List ℕ) (pos low : ℕ) {level : ℕ} {inside : List Opened} {v : Value} {regions : List Region} {before after : List Visit} (l : Leaf)
+node_says : (bytes : List ℕ) (pos low : ℕ) {level : ℕ} {inside : List OpenShared} {v : Value} {regions : List Region} {before after : List Visit} (l : Leaf)
     → Denotes v (tree.leaf l)
     → IsDocument (tree.leaf l)
     → Ascends low (length bytes) regions
@@ -226,7 +226,7 @@ pub record ElementsSay (bytes : List ℕ) (pos len : ℕ) (ts : Trees) (regions 
   pub no_regions : regions ≡ []
 
 elements_say :
-    (bytes : List ℕ) (ts : Trees) (pos len low : ℕ) {level : ℕ} {inside : List Opened} {vs : Values} {regions : List Region} {before after : List Visit}
+    (bytes : List ℕ) (ts : Trees) (pos len low : ℕ) {level : ℕ} {inside : List OpenShared} {vs : Values} {regions : List Region} {before after : List Visit}
     → DenoteAll vs ts
     → AreLeaves ts
     → Ascends low (length bytes) regions
@@ -268,7 +268,7 @@ record ListSays (bytes : List ℕ) (pos level : ℕ) (ts : Trees) (regions : Lis
   regions_are : regions ≡ list_region bytes pos (count ts) level ∷ []
 
 list_says :
-    (bytes : List ℕ) (pos low : ℕ) {level : ℕ} {inside : List Opened} {v : Value} {regions : List Region} {before after : List Visit} (ts : Trees)
+    (bytes : List ℕ) (pos low : ℕ) {level : ℕ} {inside : List OpenShared} {v : Value} {regions : List Region} {before after : List Visit} (ts : Trees)
     → Denotes v (list ts)
     → IsDocument (list ts)
     → Ascends low (length bytes) regions

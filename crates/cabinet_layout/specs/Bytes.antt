@@ -4,8 +4,8 @@ use Rattle.std.specs.Int.{w64, to_le_bytes, cast_unsigned}
 use Rattle.archive_shape_layout.specs.Bytes.{window}
 
 -- a piece stands at a position
-abbrev pub Stands : List ℕ → ℕ → List ℕ → Type 0
-Stands bytes pos piece = window bytes pos (length piece) ≡ piece
+abbrev pub HasBytes : List ℕ → ℕ → List ℕ → Type 0
+HasBytes bytes pos piece = window bytes pos (length piece) ≡ piece
 
 abbrev pub zeros : ℕ → List ℕ
 zeros n = replicate n 0

@@ -7,7 +7,7 @@ use Rattle.archive_shape_layout.specs.Holds.{Region, Visit, HasRoot}
 use Rattle.cabinet_text.specs.Tree.{Tree, leaf, list, Trees, no_trees, more_trees, truth, number, text, IsDocument}
 use Rattle.cabinet_layout.specs.Node.{node_shape, node_names, root_position}
 
--- a tag, with one value behind it
+-- a tag, with one value after it
 abbrev pub tagged_value : ℕ → Value → Value
 tagged_value tag v = chosen tag (more_values v no_values)
 

@@ -3,10 +3,10 @@ use Rattle.std.specs.Prelude.{◌≡◌, ℕ, ◌+◌, ◌-◌, ◌*◌, ◌^◌
 use Rattle.std.specs.Int.{w32, to_le_bytes}
 use Rattle.archive_shape_layout.specs.Bytes.{align_up, word_at}
 use Rattle.archive_shape_layout.specs.Holds.{Region, end_after}
-use Rattle.archive_shape_checking.specs.declared.error.Error.{Error}
-use Rattle.archive_shape_checking.specs.declared.error.Error.TheVariants.{StringTooLong, IsizeOverflow}
+use Rattle.archive_shape_writing.specs.declared.error.Error.{Error}
+use Rattle.archive_shape_writing.specs.declared.error.Error.TheVariants.{StringTooLong, IsizeOverflow}
 use Rattle.cabinet_text.specs.Tree.{Leaf, truth, number, text, Tree, leaf, list, Trees, no_trees, more_trees, count}
-use Rattle.cabinet_layout.specs.Bytes.{Stands, zeros, filler, truth_byte, number_bytes}
+use Rattle.cabinet_layout.specs.Bytes.{HasBytes, zeros, filler, truth_byte, number_bytes}
 use Rattle.cabinet_layout.specs.Node.{root_position, elements_at}
 use Rattle.cabinet_layout.specs.Denotes.{Accepted}
 
@@ -23,22 +23,22 @@ own_bytes (text t) = t
 
 -- the bytes of no field of a node are zero, and the rest of an inline text is ff
 abbrev pub IsLeafClean : List ℕ → ℕ → Leaf → Type 0
-IsLeafClean bytes pos (truth b) = Stands bytes (pos + 2) (zeros 22)
-IsLeafClean bytes pos (number n) = Stands bytes (pos + 1) (zeros 7) × Stands bytes (pos + 16) (zeros 8)
+IsLeafClean bytes pos (truth b) = HasBytes bytes (pos + 2) (zeros 22)
+IsLeafClean bytes pos (number n) = HasBytes bytes (pos + 1) (zeros 7) × HasBytes bytes (pos + 16) (zeros 8)
 IsLeafClean bytes pos (text t) =
-    Stands bytes (pos + 1) (zeros 3)
-    × Stands bytes (pos + (4 + length t)) (filler (8 - length t))
-    × Stands bytes (pos + 12) (zeros 12)
+    HasBytes bytes (pos + 1) (zeros 3)
+    × HasBytes bytes (pos + (4 + length t)) (filler (8 - length t))
+    × HasBytes bytes (pos + 12) (zeros 12)
 
 -- likewise, and the offset and the number of elements of a list are spelled by bytes
 abbrev mutual
   pub IsClean : List ℕ → ℕ → Tree → Type 0
-  IsClean bytes pos (leaf l) = Stands bytes (pos + own_offset l) (own_bytes l) × IsLeafClean bytes pos l
+  IsClean bytes pos (leaf l) = HasBytes bytes (pos + own_offset l) (own_bytes l) × IsLeafClean bytes pos l
   IsClean bytes pos (list ts) =
-      Stands bytes (pos + 1) (zeros 3)
-      × Stands bytes (pos + 4) (to_le_bytes w32 (word_at bytes (pos + 4)))
-      × Stands bytes (pos + 8) (to_le_bytes w32 (count ts))
-      × Stands bytes (pos + 12) (zeros 12)
+      HasBytes bytes (pos + 1) (zeros 3)
+      × HasBytes bytes (pos + 4) (to_le_bytes w32 (word_at bytes (pos + 4)))
+      × HasBytes bytes (pos + 8) (to_le_bytes w32 (count ts))
+      × HasBytes bytes (pos + 12) (zeros 12)
       × AreClean bytes (elements_at bytes pos) ts
 
   -- side by side
@@ -52,7 +52,7 @@ ArePlaced low [] = ⊤
 ArePlaced low (r ∷ rs) = (r.start ≡ align_up low r.align) × ArePlaced (r.start + r.size) rs
 
 -- What a document has that no archive holds, and what that is called: a text of 2^30 bytes or more; more elements than
--- an offset from behind the last one reaches back over, which is one of 32 bits with a sign.
+-- an offset from after the last one reaches back over, which is one of 32 bits with a sign.
 abbrev mutual
   pub IsPast : Tree → Error → Type 0
   IsPast (leaf (truth b)) e = ⊥

@@ -1,6 +1,6 @@
 -- Laws of the archives of documents, as statements.
 use Rattle.std.specs.Prelude.{◌≡◌, ◌≢◌, ℕ, ◌+◌, ◌≤◌, List, length, Some}
-use Rattle.archive_shape_checking.specs.declared.error.Error.{Error}
+use Rattle.archive_shape_writing.specs.declared.error.Error.{Error}
 use Rattle.archive_shape_references.specs.Bytes.{overwrite}
 use Rattle.cabinet_text.specs.Tree.{Leaf, Tree, leaf, IsLeaf, IsDocument, Step, node_at}
 use Rattle.cabinet_text.specs.Answering.{outcome, change}
@@ -11,7 +11,7 @@ use Rattle.cabinet_layout.specs.Node.{node_shape, root_position, node_position}
 use Rattle.cabinet_layout.specs.Denotes.{Accepted}
 use Rattle.cabinet_layout.specs.Image.{Image, IsPast, own_offset, own_bytes}
 use Rattle.cabinet_layout.specs.Written.{image_bytes}
-use Rattle.cabinet_layout.specs.Fault.{Fault}
+use Rattle.cabinet_layout.specs.ArchiveFault.{ArchiveFault}
 
 -- accepted bytes denote one document
 abbrev pub OneDocument : Type 0
@@ -27,11 +27,11 @@ ImageWritten = (t : Tree) → IsDocument t → ((e : Error) → IsPast t e → �
 
 -- bytes with a fault are the archive of no document
 abbrev pub FaultRefuses : Type 0
-FaultRefuses = (bytes : List ℕ) (e : Error) (t : Tree) → Fault bytes e → Accepted bytes t → ⊥
+FaultRefuses = (bytes : List ℕ) (e : Error) (t : Tree) → ArchiveFault bytes e → Accepted bytes t → ⊥
 
 -- bytes have one first fault
 abbrev pub OneFault : Type 0
-OneFault = (bytes : List ℕ) (e d : Error) → Fault bytes e → Fault bytes d → e ≡ d
+OneFault = (bytes : List ℕ) (e d : Error) → ArchiveFault bytes e → ArchiveFault bytes d → e ≡ d
 
 -- where the own bytes of a leaf lie that stands at a path
 abbrev pub own_place : List ℕ → List Step → Leaf → ℕ

@@ -3,6 +3,6 @@ pub mod Node
 pub mod Denotes
 pub mod Image
 pub mod Written
-pub mod Fault
+pub mod ArchiveFault
 pub mod Laws
 pub mod Spelled

@@ -35,7 +35,7 @@ payloads =
 abbrev pub node_names : Names
 node_names = (0, choice payloads) ∷ []
 
--- where the root node of so many bytes lies: at their end, rounded down
+-- where the root node of n bytes lies: at their end, rounded down
 abbrev pub root_position : ℕ → ℕ
 root_position len = (len - 24) / 8 * 8
 

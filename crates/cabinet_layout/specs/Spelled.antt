@@ -6,9 +6,9 @@ use Rattle.archive_shape_layout.specs.Content.{before_ff}
 use Rattle.cabinet_text.specs.Tree.{Leaf, truth, number, text, Tree, leaf, list, Trees, no_trees, more_trees, count, IsDocument}
 use Rattle.cabinet_layout.specs.Node.{root_position, target_of_list, len_of_list, elements_at}
 use Rattle.cabinet_layout.specs.Denotes.{Accepted}
-use Rattle.cabinet_layout.specs.Fault.{IsOutOfLine}
+use Rattle.cabinet_layout.specs.ArchiveFault.{IsOutOfLine}
 
--- the tag, and behind it the truth value, the number, or the text, which is inline
+-- the tag, and after it the truth value, the number, or the text, which is inline
 abbrev pub IsLeafAt : List ℕ → ℕ → Leaf → Type 0
 IsLeafAt bytes pos (truth b) =
     (slice_index bytes pos ≡ 0) × (slice_index bytes (pos + 1) < 2) × ((slice_index bytes (pos + 1) == 1) ≡ b)
@@ -17,7 +17,7 @@ IsLeafAt bytes pos (number n) =
 IsLeafAt bytes pos (text t) =
     (slice_index bytes pos ≡ 2) × (IsOutOfLine (window bytes (pos + 4) 8) → ⊥) × (before_ff (window bytes (pos + 4) 8) ≡ t)
 
--- The tag of a list, and behind it where its elements begin and how many they are: they are aligned, and end before the
+-- The tag of a list, and after it where its elements begin and how many they are: they are aligned, and end before the
 -- list's own node.
 pub record IsListAt (bytes : List ℕ) (pos len : ℕ) : Type 0 where
   pub tag : slice_index bytes pos ≡ 5

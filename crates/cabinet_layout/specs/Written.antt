@@ -9,11 +9,11 @@ leaf_bytes (truth b) = 0 ∷ (truth_byte b ∷ zeros 22)
 leaf_bytes (number n) = 1 ∷ (zeros 7 ++ (number_bytes n ++ zeros 8))
 leaf_bytes (text t) = 2 ∷ (zeros 3 ++ (t ++ (filler (8 - length t) ++ zeros 12)))
 
--- the node of a list with so many elements, whose last one it stands behind
+-- the node of a list with n elements, whose last one it stands after
 abbrev pub list_bytes : ℕ → List ℕ
 list_bytes len = 5 ∷ (zeros 3 ++ (to_le_bytes w32 (2 ^ 32 - (24 * len + 4)) ++ (to_le_bytes w32 len ++ zeros 12)))
 
--- the elements of a list, and behind them its node; for now they are leaves
+-- the elements of a list, and after them its node; for now they are leaves
 abbrev mutual
   pub image_bytes : Tree → List ℕ
   image_bytes (leaf l) = leaf_bytes l

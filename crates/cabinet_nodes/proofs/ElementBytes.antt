@@ -1,8 +1,8 @@
 -- The elements of a list: as rows of its node, and their bytes side by side.
 use Rattle.std.proofs.Common.{◌≡◌, ℕ, zero, suc, ◌<◌, List, [], ◌∷◌, ◌++◌, length, get_or, take, flat_map, refl, sym, ap, subst, ◌∙◌, arith, Bool, Vec, Global, rules}
-use Rattle.archive_shape_checking.specs.declared.error.Error.{Error}
-use Rattle.archive_shape.specs.Writing.{Written, Failed}
-use Rattle.archive_shape.proofs.Joined.{failed_among}
+use Rattle.archive_shape_writing.specs.declared.error.Error.{Error}
+use Rattle.archive_shape_writing.specs.Writing.{Written, Failed}
+use Rattle.archive_shape_writing.proofs.Joined.{failed_among}
 use Rattle.cabinet_text.specs.declared.node.Node.TheViews.{the_lemmas}
 use Rattle.cabinet_text.specs.declared.node.Node.{Node, List as Listed, Row_of-Node, end_of-Node, more_of-Node, items-the_row-Node}
 use Rattle.cabinet_text.specs.Tree.{Leaf, Tree, Trees, leaf, list, more_trees, AreLeaves, IsDocument, count}
@@ -47,12 +47,12 @@ elements_in (n ∷ ns) zero d below leaves = (element_of n (node_trees ns) (node
 elements_in (n ∷ ns) (suc i) d below leaves = elements_in ns i d (omega (arith, below)) (element_of n (node_trees ns) (node_tree n) refl leaves).1
 
 -- the elements before one were written, and the writer failed in that one
-pub failed_in : {W : Type 0} {tells counts : Bool} {contents : W → List ℕ} {pos failures : W → ℕ} {old mid new : W} {e : Error}
+pub failed_in : {W : Type 0} {observable counts : Bool} {contents : W → List ℕ} {pos failures : W → ℕ} {last_error : W → Error} {old mid new : W} {e : Error}
     (ns : List Node) (i : ℕ) (n : Node) → i < length ns → n ≡ get_or ns i n
-    → Written tells counts contents pos failures old mid (flat_map bytes_of (take i ns))
-    → Failed tells counts contents pos failures mid new (bytes_of n) e
-    → Failed tells counts contents pos failures old new (elements_bytes (node_trees ns)) e
-failed_in {tells = tells} {counts = counts} {contents = contents} {pos = pos} {failures = failures} {old = old} {mid = mid} {new = new} {e = e} ns i n below is before failed =
-    let P : Node → Type 0 = λ m. Failed tells counts contents pos failures mid new (bytes_of m) e in
-    let Q : List ℕ → Type 0 = λ bytes. Failed tells counts contents pos failures old new bytes e in
+    → Written observable counts contents pos failures last_error old mid (flat_map bytes_of (take i ns))
+    → Failed observable counts contents pos failures last_error mid new (bytes_of n) e
+    → Failed observable counts contents pos failures last_error old new (elements_bytes (node_trees ns)) e
+failed_in {observable = observable} {counts = counts} {contents = contents} {pos = pos} {failures = failures} {last_error = last_error} {old = old} {mid = mid} {new = new} {e = e} ns i n below is before failed =
+    let P : Node → Type 0 = λ m. Failed observable counts contents pos failures last_error mid new (bytes_of m) e in
+    let Q : List ℕ → Type 0 = λ bytes. Failed observable counts contents pos failures last_error old new bytes e in
     subst Q (sym (elements_are ns)) (failed_among bytes_of ns i n below before (subst P is failed))

@@ -8,7 +8,7 @@ use Rattle.cabinet_layout.specs.Image.{own_offset, own_bytes}
 use Rattle.cabinet_layout.specs.Written.{leaf_bytes}
 use Rattle.cabinet_nodes.specs.Writing.{blank}
 
--- what stands behind a text in the node of the empty one
+-- what stands after a text in the node of the empty one
 filler_behind : (n : ℕ) → n ≤ 8 → drop (4 + n) (blank (text [])) ≡ filler (8 - n) ++ zeros 12
 filler_behind n h =
     let rest : List ℕ = zeros 12 in

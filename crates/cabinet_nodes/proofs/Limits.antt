@@ -2,8 +2,8 @@
 use Rattle.std.proofs.Common.{◌≡◌, ℕ, suc, ◌<◌, ◌≤◌, nat_lt, List, length, inl, inr, arith, refl, sym, subst}
 use Rattle.std.specs.Bool.{MatchBool}
 use Rattle.std.proofs.lemmas.Bool.Decides.{leb_tells}
-use Rattle.archive_shape_checking.specs.declared.error.Error.{Error}
-use Rattle.archive_shape_checking.specs.declared.error.Error.TheVariants.{IsizeOverflow}
+use Rattle.archive_shape_writing.specs.declared.error.Error.{Error}
+use Rattle.archive_shape_writing.specs.declared.error.Error.TheVariants.{IsizeOverflow}
 use Rattle.cabinet_text.specs.declared.node.Node.{Node}
 use Rattle.cabinet_text.specs.Tree.{Tree, list, count, IsDocument}
 use Rattle.cabinet_text.specs.View.{node_trees}

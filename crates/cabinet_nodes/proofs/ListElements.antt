@@ -1,8 +1,8 @@
 -- The elements of a list: one more of them, and the one at a place.
 use Rattle.std.proofs.Common.{◌≡◌, ℕ, zero, suc, ◌+◌, ◌*◌, ◌<◌, ◌≤◌, List, None, refl, ap, subst, sym, arith, le_of_suc-le-suc}
-use Rattle.archive_shape_checking.specs.declared.error.Error.{Error}
+use Rattle.archive_shape_writing.specs.declared.error.Error.{Error}
 use Rattle.cabinet_text.specs.Tree.{Leaf, leaf, list, Trees, no_trees, more_trees, count, AreLeaves, IsDocument, Step, node_at, node_in}
-use Rattle.cabinet_layout.specs.Fault.{ElementFault}
+use Rattle.cabinet_layout.specs.ArchiveFault.{ElementFault}
 use Rattle.cabinet_layout.specs.Spelled.{IsLeafAt, AreNodesAt}
 use Rattle.cabinet_layout.proofs.Faults.{element_fault}
 use Rattle.cabinet_nodes.specs.Reading.{AreElements}

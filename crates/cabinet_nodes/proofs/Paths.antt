@@ -2,16 +2,16 @@
 use Rattle.std.proofs.Common.{◌≡◌, ℕ, ◌+◌, ◌*◌, ◌<◌, ◌≤◌, List, [], ◌∷◌, length, None, refl, ap, subst, sym, ◌∙◌, arith, slice_index}
 use Rattle.std.proofs.Math.Bridge.{le_prop}
 use Rattle.std.proofs.Math.Logic.{∥∥₁_elim}
-use Rattle.archive_shape_checking.specs.declared.error.Error.{Error}
+use Rattle.archive_shape_writing.specs.declared.error.Error.{Error}
 use Rattle.cabinet_text.specs.Tree.{Leaf, truth, number, text, Tree, leaf, list, IsDocument, Step, key, place, inside, node_at}
 use Rattle.cabinet_text.specs.View.{lent_leaf}
 use Rattle.cabinet_layout.specs.Node.{root_position, elements_at, node_position}
 use Rattle.cabinet_layout.specs.Denotes.{Accepted}
-use Rattle.cabinet_layout.specs.Fault.{NodeFault}
+use Rattle.cabinet_layout.specs.ArchiveFault.{NodeFault}
 use Rattle.cabinet_layout.specs.Spelled.{IsLeafAt, IsNodeAt}
 use Rattle.cabinet_layout.proofs.Roots.{accepted_says}
 use Rattle.cabinet_layout.proofs.Faults.{node_fault}
-use Rattle.cabinet_nodes.specs.Reading.{IsReadAt, Tells, StepsTo, StepsNowhere, LeadsNowhere, LeadsTo}
+use Rattle.cabinet_nodes.specs.Reading.{IsReadAt, IsNodeOf, StepsTo, StepsNowhere, LeadsNowhere, LeadsTo}
 use Rattle.cabinet_nodes.specs.declared.reading.list.Elements.{Elements}
 use Rattle.cabinet_nodes.specs.declared.reading.node.NodeRef.{NodeRef}
 use Rattle.cabinet_nodes.specs.declared.reading.node.NodeRef.TheVariants as lent
@@ -34,7 +34,7 @@ no_list_at_leaf bytes pos (truth b) i h = omega (arith, i.0)
 no_list_at_leaf bytes pos (number n) i h = omega (arith, i.0)
 no_list_at_leaf bytes pos (text t) i h = omega (arith, i.0)
 
-told_of : (bytes : List ℕ) (pos : ℕ) (node : NodeRef) (t : Tree) → IsReadAt bytes pos node → IsNodeAt bytes pos t → Tells node t
+told_of : (bytes : List ℕ) (pos : ℕ) (node : NodeRef) (t : Tree) → IsReadAt bytes pos node → IsNodeAt bytes pos t → IsNodeOf node t
 told_of bytes pos (lent.Leaf l) (leaf m) r i = ap leaf (one_leaf bytes pos m (lent_leaf l) i r.0)
 told_of bytes pos (lent.Leaf l) (list ts) r i = absurd (no_list_at_leaf bytes pos (lent_leaf l) r.0 i.0.tag)
 told_of bytes pos (lent.List e) (leaf m) r i = absurd (no_list_at_leaf bytes pos m i r.0.tag)
@@ -75,7 +75,7 @@ module _ (bytes : List ℕ) (path : List Step) (pos : ℕ) where
       (w.here, w.leads ∙ ap (node_at w.here) e, told_of bytes pos node w.here h w.at_pos)
 
   -- a step further
-  nowhere_from : (t : Tree) (node : NodeRef) (step : Step) (rest : List Step) → Tells node t → StepsNowhere node step → node_at t (step ∷ rest) ≡ None
+  nowhere_from : (t : Tree) (node : NodeRef) (step : Step) (rest : List Step) → IsNodeOf node t → StepsNowhere node step → node_at t (step ∷ rest) ≡ None
   nowhere_from t (lent.Leaf l) step rest h n = ap (λ s. node_at s (step ∷ rest)) h
   nowhere_from t (lent.List e) (place i) rest h n = ap (λ s. node_at s (place i ∷ rest)) h.1 ∙ none_past h.0 i rest (omega (arith, h.2))
   nowhere_from t (lent.List e) (key k) rest h n = ap (λ s. node_at s (key k ∷ rest)) h.1

@@ -1,14 +1,14 @@
 -- What reading nodes answers.
 use Rattle.std.specs.Prelude.{◌≡◌, ℕ, ◌+◌, ◌*◌, ◌<◌, ◌≤◌, List, length, Some, None, IsUtf8}
 use Rattle.archive_shape_layout.specs.Content.{before_ff}
-use Rattle.archive_shape_checking.specs.declared.error.Error.{Error}
-use Rattle.archive_shape_checking.specs.declared.error.Error.TheVariants.{CheckStringRepr, InvalidUtf8}
+use Rattle.archive_shape_writing.specs.declared.error.Error.{Error}
+use Rattle.archive_shape_writing.specs.declared.error.Error.TheVariants.{CheckStringRepr, InvalidUtf8}
 use Rattle.cabinet_text.specs.Tree.{Tree, leaf, list, Trees, count, AreLeaves, IsDocument, Step, key, place, inside, node_at}
 use Rattle.cabinet_text.specs.View.{lent_leaf}
 use Rattle.cabinet_layout.specs.Node.{elements_at}
 use Rattle.cabinet_layout.specs.Denotes.{Accepted}
 use Rattle.cabinet_layout.specs.Spelled.{IsLeafAt, IsListAt, AreNodesAt}
-use Rattle.cabinet_layout.specs.Fault.{ElementFault, IsOutOfLine}
+use Rattle.cabinet_layout.specs.ArchiveFault.{ElementFault, IsOutOfLine}
 use Rattle.cabinet_nodes.specs.declared.reading.node.NodeRef.{NodeRef}
 use Rattle.cabinet_nodes.specs.declared.reading.node.NodeRef.TheVariants as lent
 
@@ -29,9 +29,9 @@ IsReadAt bytes pos (lent.Leaf l) = IsLeafAt bytes pos (lent_leaf l) × IsDocumen
 IsReadAt bytes pos (lent.List e) = IsListAt bytes pos e.len × (e.pos ≡ elements_at bytes pos)
 
 -- and what tree it is
-abbrev pub Tells : NodeRef → Tree → Type 0
-Tells (lent.Leaf l) t = t ≡ leaf (lent_leaf l)
-Tells (lent.List e) t = (ts : Trees) × (t ≡ list ts) × (count ts ≡ e.len)
+abbrev pub IsNodeOf : NodeRef → Tree → Type 0
+IsNodeOf (lent.Leaf l) t = t ≡ leaf (lent_leaf l)
+IsNodeOf (lent.List e) t = (ts : Trees) × (t ≡ list ts) × (count ts ≡ e.len)
 
 -- the elements of a node end by a limit
 abbrev pub EndBy : ℕ → NodeRef → Type 0
@@ -52,7 +52,7 @@ StepsNowhere (lent.List e) (key k) = Unit {0}
 StepsNowhere (lent.List e) inside = Unit {0}
 StepsNowhere (lent.Leaf l) step = Unit {0}
 
--- so many elements of a list from a position on
+-- n elements of a list from a position on
 pub record AreElements (bytes : List ℕ) (pos len : ℕ) : Type 0 where
   pub trees : Trees
   pub counted : count trees ≡ len
@@ -72,4 +72,4 @@ LeadsNowhere bytes path = (t : Tree) → Accepted bytes t → node_at t path ≡
 
 -- or in each to a tree which the node tells of
 abbrev pub LeadsTo : List ℕ → List Step → NodeRef → Type 0
-LeadsTo bytes path node = (t : Tree) → Accepted bytes t → (s : Tree) × (node_at t path ≡ Some s) × Tells node s
+LeadsTo bytes path node = (t : Tree) → Accepted bytes t → (s : Tree) × (node_at t path ≡ Some s) × IsNodeOf node s

@@ -4,7 +4,8 @@ ghost use Rattle.archive_shape_references.specs.Bytes.{overwrite};
 ghost use Rattle.cabinet_text.specs.View.{lent_leaf};
 ghost use Rattle.cabinet_layout.specs.Image.{own_offset, own_bytes};
 
-use archive_shape::{ArchivedI64, Seal, Str};
+use archive_shape_portable::ArchivedI64;
+use archive_shape_references::{Seal, Str};
 use cabinet_text::LeafRef;
 
 /// Writes the own bytes of a leaf into the node at a position.

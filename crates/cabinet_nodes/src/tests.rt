@@ -1,5 +1,5 @@
 use crate::{NodeRef, check_root, find, is_past_limits, set_at, write_root};
-use archive_shape::Error;
+use archive_shape_writing::Error;
 use cabinet_text::{Leaf, LeafRef, SetAnswer, Step, read_text};
 use std::alloc::Global;
 use std::test::Fail;

@@ -1,8 +1,8 @@
 // Nodes are made and written.
 ghost use Rattle.std.specs.Prelude.{◌≡◌, ◌+◌, ◌-◌, ◌*◌, ◌^◌, ◌<◌, ◌≤◌, length, MatchBool};
-ghost use Rattle.archive_shape.specs.Writing.{Writes};
-ghost use Rattle.archive_shape_checking.specs.declared.error.Error.{Error};
-ghost use Rattle.archive_shape_checking.specs.declared.error.Error.TheVariants.{IsizeOverflow};
+ghost use Rattle.archive_shape_writing.specs.Writing.{Writes};
+ghost use Rattle.archive_shape_writing.specs.declared.error.Error.{Error};
+ghost use Rattle.archive_shape_writing.specs.declared.error.Error.TheVariants.{IsizeOverflow};
 ghost use Rattle.cabinet_text.specs.Tree as tree;
 ghost use Rattle.cabinet_text.specs.Tree.{Leaf, AreLeaves, IsDocument};
 ghost use Rattle.cabinet_text.specs.View.{lent_leaf, node_tree, node_trees};
@@ -12,7 +12,7 @@ ghost use Rattle.cabinet_nodes.specs.Writing.{blank};
 
 use crate::node::write_own;
 use crate::reading::NODE_SIZE;
-use archive_shape::{Error, Writer};
+use archive_shape_writing::{Error, Writer};
 use cabinet_text::{LeafRef, Node};
 
 /// The image of `bool false`.
@@ -28,7 +28,7 @@ const EMPTY_TEXT: [u8; NODE_SIZE] = [
     2, 0, 0, 0, 0xff, 0xff, 0xff, 0xff, 0xff, 0xff, 0xff, 0xff, 0, 0, 0, 0, 0, 0, 0, 0, 0, 0, 0, 0,
 ];
 
-/// The most elements of a list: so many that an offset of 32 bits leads from behind the last to the first.
+/// The most elements of a list: n that an offset of 32 bits leads from after the last to the first.
 const MOST_ELEMENTS: usize = 89_478_485;
 
 /// The image of a leaf of this kind.
@@ -52,7 +52,7 @@ fn leaf_node(leaf: LeafRef<'_>) -> [u8; NODE_SIZE]
     node
 }
 
-/// The node of a list that stands behind its elements.
+/// The node of a list that stands after its elements.
 fn list_node(len: u32) -> [u8; NODE_SIZE]
     requires { 24 * len + 4 ≤ 2 ^ 31 }
     ensures { result ≡ list_bytes len }
@@ -90,7 +90,7 @@ fn write_elements<W: Writer>(nodes: &[Node], writer: &mut W) -> Result<(), Error
     Ok(())
 }
 
-/// Writes a list: its elements, and behind them its node.
+/// Writes a list: its elements, and after them its node.
 fn write_list<W: Writer>(nodes: &[Node], writer: &mut W) -> Result<(), Error>
     requires room { W.failures writer.old < 2 ^ 64 - 1 }
     requires leaves { AreLeaves (node_trees nodes.now) }

@@ -5,7 +5,7 @@ use Rattle.cabinet_text.specs.Spelling.{spelled_leaf, list_head, lines_of_tree, 
 use Rattle.cabinet_text.proofs.Escapes.{first_differs}
 use Rattle.cabinet_text.proofs.Heads.{same_leaf}
 
--- one more tree, behind some
+-- one more tree, after some
 abbrev pub then_tree : Trees → Tree → Trees
 then_tree no_trees s = more_trees s no_trees
 then_tree (more_trees t ts) s = more_trees t (then_tree ts s)

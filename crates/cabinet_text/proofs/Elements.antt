@@ -4,7 +4,7 @@ use Rattle.std.specs.Prelude.{slice_get}
 use mathlib.Core.Former.{Count}
 use Rattle.cabinet_text.specs.Tree.{Leaf, IsLeaf, IsShort, Tree, leaf, list, more_trees, count, AreLeaves, IsDocument}
 use Rattle.cabinet_text.specs.Spelling.{spelled_leaf, list_head, lines_of_tree, lines_of_trees, ended, text_of}
-use Rattle.cabinet_text.specs.Fault.{pieces_of, a_head, nothing_more, at_the_start, in_a_list, behind_a_document, IsFirstCause, FirstFault}
+use Rattle.cabinet_text.specs.FirstFault.{pieces_of, a_head, nothing_more, at_the_start, in_a_list, after_a_document, IsFirstCause, FirstFault}
 use Rattle.cabinet_text.specs.declared.text.Cause.{Cause}
 use Rattle.cabinet_text.specs.declared.node.Node.{Node, List as list_of, List', Row_of-Node, end_of-Node, more_of-Node, items-the_row-Node, items_hidden-the_row-Node-0}
 use Rattle.cabinet_text.specs.declared.text.Head.{Head}
@@ -54,14 +54,14 @@ one_more text ns rest after n l read is leaf_is next =
       parts = read.parts ∙ ap (λ w. ended lines ++ w) next ∙ sym more ∙ ap (λ ls. ended ls ++ after) (sym (ap lines_of_trees trees ∙ lines-then (node_trees ns) l));
     }
 
--- a fault of what stands where an element is due
+-- a fault of what stands where an element is expected
 pub element_fault : (text : List ℕ) (ns : List Node) (rest : List ℕ) (i n : ℕ) (cause : Cause) → HasRead text ns rest → length ns ≡ i → i < n → n < 2 ^ 64 → IsFirstCause (a_head 1) (slice_get (pieces_of rest) 0) cause → FirstFault (list_head n ++ 10 ∷ text) (i + 2) cause
 element_fault text ns rest i n cause read counted fewer below first =
     let lines = lines_of_trees (node_trees ns) in
     record {
       before = list_head n ∷ lines;
       rest = rest;
-      due = a_head 1;
+      expected = a_head 1;
       input_is = ap (λ t. list_head n ++ 10 ∷ t) read.parts ∙ sym (append_assoc (list_head n) (10 ∷ ended lines) rest);
       reached = in_a_list n (node_trees ns) below read.leaves (omega (arith, count-node_trees ns)) refl refl;
       line_is = omega (arith, count-node_trees ns, length-lines (node_trees ns) read.leaves);
@@ -96,21 +96,21 @@ pub head_fault : (text : List ℕ) (cause : Cause) → IsFirstCause (a_head 0) (
 head_fault text cause first = record {
   before = [];
   rest = text;
-  due = a_head 0;
+  expected = a_head 0;
   input_is = refl;
   reached = at_the_start refl refl;
   line_is = refl;
   first = first;
 }
 
--- a fault of what stands behind a document
+-- a fault of what stands after a document
 pub fault_after : (t : Tree) (rest : List ℕ) (line : ℕ) (cause : Cause) → IsDocument t → line ≡ length (lines_of_tree t) + 1 → IsFirstCause nothing_more (slice_get (pieces_of rest) 0) cause → FirstFault (text_of t ++ rest) line cause
 fault_after t rest line cause document line_is first = record {
   before = lines_of_tree t;
   rest = rest;
-  due = nothing_more;
+  expected = nothing_more;
   input_is = refl;
-  reached = behind_a_document t document refl refl;
+  reached = after_a_document t document refl refl;
   line_is = line_is;
   first = first;
 }

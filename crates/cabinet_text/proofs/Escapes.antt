@@ -61,7 +61,7 @@ written b _ x (newline e) h = cc
 written b _ x (space e) h = cc
 written b _ x (plain p q r) h = cc
 
--- what stands behind an escaped front of an escaped text is an escaped text
+-- what stands after an escaped front of an escaped text is an escaped text
 pub record Behind (front tail t : List ℕ) : Type 0 where
   pub text : List ℕ
   pub whole : t ≡ front ++ text

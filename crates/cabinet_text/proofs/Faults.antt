@@ -8,7 +8,7 @@ use Rattle.std.proofs.lemmas.List.{append_cancel_left}
 use Rattle.std.proofs.lemmas.Bool.{false≢true, cases_order}
 use Rattle.cabinet_text.specs.Tree.{Leaf, truth, number, text, IsLeaf, IsShort, Tree, leaf, list, count, IsDocument}
 use Rattle.cabinet_text.specs.Spelling.{escaped, spelled_leaf, list_head, head}
-use Rattle.cabinet_text.specs.Fault.{Piece, Due, a_head, nothing_more, Blames, HasBadEscape, HasBadNumber, bad_number, bad_count, IsUnknownHead, IsTooDeep, rank, IsFirstCause}
+use Rattle.cabinet_text.specs.FirstFault.{Piece, Expected, a_head, nothing_more, HasCause, HasBadEscape, HasBadNumber, bad_number, bad_count, IsUnknownHead, IsTooDeep, rank, IsFirstCause}
 use Rattle.cabinet_text.specs.declared.text.Cause.{Cause}
 use Rattle.cabinet_text.specs.declared.text.Cause.TheVariants.{NotUtf8, NoNewline, EndTooEarly, BadEscape, UnknownHead, BadNumber, TooDeep, LineAfterEnd, OutOfMemory}
 use Rattle.cabinet_text.proofs.Escapes.{first_differs, escaped_injective}
@@ -39,16 +39,16 @@ no_bad_number (text t) p (bad_number rest h bad) = first_differs refl h
 no_bad_number (text t) p (bad_count rest h bad) = first_differs refl h
 
 -- nothing but a want of memory can be said against the line of a leaf
-pub blameless : (depth : ℕ) (l : Leaf) → IsLeaf l → IsShort l → (cause : Cause) → cause ≢ OutOfMemory → Blames (a_head depth) (ended_piece (spelled_leaf l)) cause → ⊥
-blameless depth l p q NotUtf8 other blames = blames (IsUtf8-leaf l p)
-blameless depth l p q NoNewline other blames = false≢true (sym blames)
-blameless depth l p q EndTooEarly other blames = blames
-blameless depth l p q BadEscape other blames = no_bad_escape l p blames
-blameless depth l p q UnknownHead other blames = blames.no_head (leaf l) (p, q) refl
-blameless depth l p q BadNumber other blames = no_bad_number l p blames
-blameless depth l p q TooDeep other blames = no_list_head l blames.1.0 blames.1.2
-blameless depth l p q LineAfterEnd other blames = blames
-blameless depth l p q OutOfMemory other blames = other refl
+pub blameless : (depth : ℕ) (l : Leaf) → IsLeaf l → IsShort l → (cause : Cause) → cause ≢ OutOfMemory → HasCause (a_head depth) (ended_piece (spelled_leaf l)) cause → ⊥
+blameless depth l p q NotUtf8 other has_cause = has_cause (IsUtf8-leaf l p)
+blameless depth l p q NoNewline other has_cause = false≢true (sym has_cause)
+blameless depth l p q EndTooEarly other has_cause = has_cause
+blameless depth l p q BadEscape other has_cause = no_bad_escape l p has_cause
+blameless depth l p q UnknownHead other has_cause = has_cause.no_head (leaf l) (p, q) refl
+blameless depth l p q BadNumber other has_cause = no_bad_number l p has_cause
+blameless depth l p q TooDeep other has_cause = no_list_head l has_cause.1.0 has_cause.1.2
+blameless depth l p q LineAfterEnd other has_cause = has_cause
+blameless depth l p q OutOfMemory other has_cause = other refl
 
 IsUtf8-list_head : (n : ℕ) → n < 2 ^ 64 → IsUtf8 (list_head n)
 IsUtf8-list_head n below = IsUtf8-append (codes "list ") (decimal n) (IsUtf8-word (codes "list ") refl) (IsUtf8-from_ascii (decimal n) (IsAscii-decimal n below))
@@ -62,27 +62,27 @@ list_bad_number n below (bad_number rest h bad) = first_differs refl h
 list_bad_number n below (bad_count rest h bad) = bad n below (sym (append_cancel_left (codes "list ") _ _ h))
 
 -- nor against the head of a list that stands in none
-pub list_blameless : (n : ℕ) → n < 2 ^ 64 → (cause : Cause) → cause ≢ OutOfMemory → Blames (a_head 0) (ended_piece (list_head n)) cause → ⊥
-list_blameless n below NotUtf8 other blames = blames (IsUtf8-list_head n below)
-list_blameless n below NoNewline other blames = false≢true (sym blames)
-list_blameless n below EndTooEarly other blames = blames
-list_blameless n below BadEscape other blames = list_escapes (list_head n) (decimal n) refl blames
-list_blameless n below UnknownHead other blames = blames.no_count (decimal n) refl
-list_blameless n below BadNumber other blames = list_bad_number n below blames
-list_blameless n below TooDeep other blames = omega (arith, blames.0)
-list_blameless n below LineAfterEnd other blames = blames
-list_blameless n below OutOfMemory other blames = other refl
+pub list_blameless : (n : ℕ) → n < 2 ^ 64 → (cause : Cause) → cause ≢ OutOfMemory → HasCause (a_head 0) (ended_piece (list_head n)) cause → ⊥
+list_blameless n below NotUtf8 other has_cause = has_cause (IsUtf8-list_head n below)
+list_blameless n below NoNewline other has_cause = false≢true (sym has_cause)
+list_blameless n below EndTooEarly other has_cause = has_cause
+list_blameless n below BadEscape other has_cause = list_escapes (list_head n) (decimal n) refl has_cause
+list_blameless n below UnknownHead other has_cause = has_cause.no_count (decimal n) refl
+list_blameless n below BadNumber other has_cause = list_bad_number n below has_cause
+list_blameless n below TooDeep other has_cause = omega (arith, has_cause.0)
+list_blameless n below LineAfterEnd other has_cause = has_cause
+list_blameless n below OutOfMemory other has_cause = other refl
 
-pub nothing_behind : (cause : Cause) → Blames nothing_more None cause → ⊥
-nothing_behind NotUtf8 blames = blames
-nothing_behind NoNewline blames = blames
-nothing_behind EndTooEarly blames = blames
-nothing_behind BadEscape blames = blames
-nothing_behind UnknownHead blames = blames
-nothing_behind BadNumber blames = blames
-nothing_behind TooDeep blames = blames
-nothing_behind LineAfterEnd blames = blames
-nothing_behind OutOfMemory blames = blames
+pub nothing_behind : (cause : Cause) → HasCause nothing_more None cause → ⊥
+nothing_behind NotUtf8 has_cause = has_cause
+nothing_behind NoNewline has_cause = has_cause
+nothing_behind EndTooEarly has_cause = has_cause
+nothing_behind BadEscape has_cause = has_cause
+nothing_behind UnknownHead has_cause = has_cause
+nothing_behind BadNumber has_cause = has_cause
+nothing_behind TooDeep has_cause = has_cause
+nothing_behind LineAfterEnd has_cause = has_cause
+nothing_behind OutOfMemory has_cause = has_cause
 
 -- causes of one rank are one
 cause_of : ℕ → Cause
@@ -104,13 +104,13 @@ cause_of-rank OutOfMemory = refl
 same_rank : (cause reason : Cause) → rank cause ≡ rank reason → cause ≡ reason
 same_rank cause reason h = sym (cause_of-rank cause) ∙ ap cause_of h ∙ cause_of-rank reason
 
-pub same_first_cause : (due : Due) (piece : Option Piece) (cause reason : Cause) → IsFirstCause due piece cause → IsFirstCause due piece reason → cause ≡ reason
-same_first_cause due piece cause reason a b =
+pub same_first_cause : (expected : Expected) (piece : Option Piece) (cause reason : Cause) → IsFirstCause expected piece cause → IsFirstCause expected piece reason → cause ≡ reason
+same_first_cause expected piece cause reason a b =
     elim (cases_order (rank cause) (rank reason)) [
       | inl same ↦ same_rank cause reason same
       | inr apart ↦ elim apart [
-        | inl before ↦ absurd (b.first cause before a.blames)
-        | inr behind ↦ absurd (a.first reason behind b.blames)
+        | inl before ↦ absurd (b.first cause before a.has_cause)
+        | inr behind ↦ absurd (a.first reason behind b.has_cause)
       ]
     ]
 
@@ -126,43 +126,43 @@ rank_most LineAfterEnd = omega arith
 rank_most OutOfMemory = omega arith
 
 -- only four causes can come before another at a line that is UTF-8 and ended
-none_before : (depth : ℕ) (line : List ℕ) (cause : Cause) → IsUtf8 line → (3 < rank cause → HasBadEscape line → ⊥) → (4 < rank cause → IsUnknownHead line → ⊥) → (5 < rank cause → HasBadNumber line → ⊥) → (6 < rank cause → IsTooDeep depth line → ⊥) → (other : Cause) → rank other < rank cause → Blames (a_head depth) (ended_piece line) other → ⊥
-none_before depth line cause utf8 escapes heads numbers deep NotUtf8 l blames = blames utf8
-none_before depth line cause utf8 escapes heads numbers deep NoNewline l blames = false≢true (sym blames)
-none_before depth line cause utf8 escapes heads numbers deep EndTooEarly l blames = blames
-none_before depth line cause utf8 escapes heads numbers deep BadEscape l blames = escapes l blames
-none_before depth line cause utf8 escapes heads numbers deep UnknownHead l blames = heads l blames
-none_before depth line cause utf8 escapes heads numbers deep BadNumber l blames = numbers l blames
-none_before depth line cause utf8 escapes heads numbers deep TooDeep l blames = deep l blames
-none_before depth line cause utf8 escapes heads numbers deep LineAfterEnd l blames = blames
-none_before depth line cause utf8 escapes heads numbers deep OutOfMemory l blames = omega (arith, l, rank_most cause)
+none_before : (depth : ℕ) (line : List ℕ) (cause : Cause) → IsUtf8 line → (3 < rank cause → HasBadEscape line → ⊥) → (4 < rank cause → IsUnknownHead line → ⊥) → (5 < rank cause → HasBadNumber line → ⊥) → (6 < rank cause → IsTooDeep depth line → ⊥) → (other : Cause) → rank other < rank cause → HasCause (a_head depth) (ended_piece line) other → ⊥
+none_before depth line cause utf8 escapes heads numbers deep NotUtf8 l has_cause = has_cause utf8
+none_before depth line cause utf8 escapes heads numbers deep NoNewline l has_cause = false≢true (sym has_cause)
+none_before depth line cause utf8 escapes heads numbers deep EndTooEarly l has_cause = has_cause
+none_before depth line cause utf8 escapes heads numbers deep BadEscape l has_cause = escapes l has_cause
+none_before depth line cause utf8 escapes heads numbers deep UnknownHead l has_cause = heads l has_cause
+none_before depth line cause utf8 escapes heads numbers deep BadNumber l has_cause = numbers l has_cause
+none_before depth line cause utf8 escapes heads numbers deep TooDeep l has_cause = deep l has_cause
+none_before depth line cause utf8 escapes heads numbers deep LineAfterEnd l has_cause = has_cause
+none_before depth line cause utf8 escapes heads numbers deep OutOfMemory l has_cause = omega (arith, l, rank_most cause)
 
 bad_escape_first : (depth : ℕ) (line : List ℕ) → IsUtf8 line → HasBadEscape line → IsFirstCause (a_head depth) (ended_piece line) BadEscape
 bad_escape_first depth line utf8 bad = record {
-  blames = bad;
+  has_cause = bad;
   first = none_before depth line BadEscape utf8 (λ l b. omega (arith, l)) (λ l b. omega (arith, l)) (λ l b. omega (arith, l)) (λ l b. omega (arith, l));
 }
 
 unknown_head_first : (depth : ℕ) (line : List ℕ) → IsUtf8 line → (HasBadEscape line → ⊥) → IsUnknownHead line → IsFirstCause (a_head depth) (ended_piece line) UnknownHead
 unknown_head_first depth line utf8 good unknown = record {
-  blames = unknown;
+  has_cause = unknown;
   first = none_before depth line UnknownHead utf8 (λ l. good) (λ l b. omega (arith, l)) (λ l b. omega (arith, l)) (λ l b. omega (arith, l));
 }
 
 bad_number_first : (depth : ℕ) (line : List ℕ) → IsUtf8 line → (HasBadEscape line → ⊥) → (IsUnknownHead line → ⊥) → HasBadNumber line → IsFirstCause (a_head depth) (ended_piece line) BadNumber
 bad_number_first depth line utf8 good known bad = record {
-  blames = bad;
+  has_cause = bad;
   first = none_before depth line BadNumber utf8 (λ l. good) (λ l. known) (λ l b. omega (arith, l)) (λ l b. omega (arith, l));
 }
 
 -- the head of a list inside a list
 pub list_too_deep : (n : ℕ) → n < 2 ^ 64 → IsFirstCause (a_head 1) (ended_piece (list_head n)) TooDeep
 list_too_deep n below = record {
-  blames = (omega arith, (n, below, refl));
+  has_cause = (omega arith, (n, below, refl));
   first = none_before 1 (list_head n) TooDeep (IsUtf8-list_head n below) (λ l. list_escapes (list_head n) (decimal n) refl) (λ l b. b.no_count (decimal n) refl) (λ l. list_bad_number n below) (λ l b. omega (arith, l));
 }
 
--- behind the words `text '` and `shared '` stands the escaped form of no text
+-- after the words `text '` and `shared '` stands the escaped form of no text
 pub text_unescaped : (depth : ℕ) (line argument : List ℕ) → line ≡ codes "text '" ++ argument → IsUtf8 line → ((t : List ℕ) → argument ≢ escaped t) → IsFirstCause (a_head depth) (ended_piece line) BadEscape
 text_unescaped depth line argument h utf8 none = bad_escape_first depth line utf8 (argument, inl h, λ t u. none t)
 
@@ -223,7 +223,7 @@ number_escapes : (line argument : List ℕ) → line ≡ codes "int " ++ argumen
 number_escapes line argument h (rest, inl f, bad) = first_differs refl (sym h ∙ f)
 number_escapes line argument h (rest, inr f, bad) = first_differs refl (sym h ∙ f)
 
--- behind the word `int ` stands no number, or behind the word `list ` no count
+-- after the word `int ` stands no number, or after the word `list ` no count
 pub number_unread : (depth : ℕ) (line argument : List ℕ) → line ≡ codes "int " ++ argument → IsUtf8 line → ((n : ℤ) → FitsSigned w64 n → argument ≢ signed_decimal n) → IsFirstCause (a_head depth) (ended_piece line) BadNumber
 number_unread depth line argument h utf8 none =
     bad_number_first depth line utf8 (number_escapes line argument h) (λ b. b.no_number argument h) (bad_number argument h none)
@@ -254,8 +254,8 @@ other_unknown depth line utf8 no_text no_shared no_number no_count no_truth =
 -- memory is asked for where nothing else can be said
 pub memory_first : (depth : ℕ) (l : Leaf) → IsLeaf l → IsShort l → IsFirstCause (a_head depth) (ended_piece (spelled_leaf l)) OutOfMemory
 memory_first depth l p q = record {
-  blames = tt;
-  first = λ other below blames. blameless depth l p q other (λ same. omega (arith, below, ap rank same)) blames;
+  has_cause = tt;
+  first = λ other below has_cause. blameless depth l p q other (λ same. omega (arith, below, ap rank same)) has_cause;
 }
 
 pub text_memory : (depth : ℕ) (line argument t : List ℕ) → line ≡ codes "text '" ++ argument → IsUtf8 line → argument ≡ escaped t → length t ≤ 8 → IsFirstCause (a_head depth) (ended_piece line) OutOfMemory

@@ -1,11 +1,11 @@
--- What is due behind some lines of a text, and that a text has one first fault.
+-- What is expected after some lines of a text, and that a text has one first fault.
 use Rattle.std.proofs.Common.{◌≡◌, ◌≢◌, ℕ, ◌+◌, ◌<◌, ◌^◌, List, [], ◌∷◌, ◌++◌, length, sym, ap, ◌∙◌, refl, subst, arith, append-nil, length-append, codes}
 use Rattle.std.specs.Prelude.{slice_get}
 use Rattle.std.proofs.lemmas.Fmt.{decimal_injective}
 use Rattle.std.proofs.lemmas.List.{append_cancel_left}
 use Rattle.cabinet_text.specs.Tree.{Leaf, IsLeaf, IsShort, Tree, leaf, list, Trees, no_trees, more_trees, count, AreLeaves, IsDocument}
 use Rattle.cabinet_text.specs.Spelling.{spelled_leaf, list_head, lines_of_tree, lines_of_trees, text_of}
-use Rattle.cabinet_text.specs.Fault.{pieces_of, Due, a_head, nothing_more, Reached, at_the_start, in_a_list, behind_a_document, Blames, IsFirstCause, FirstFault}
+use Rattle.cabinet_text.specs.FirstFault.{pieces_of, Expected, a_head, nothing_more, Reached, at_the_start, in_a_list, after_a_document, HasCause, IsFirstCause, FirstFault}
 use Rattle.cabinet_text.specs.declared.text.Cause.{Cause}
 use Rattle.cabinet_text.specs.declared.text.Cause.TheVariants.{OutOfMemory}
 use Rattle.cabinet_text.specs.Laws.{SameFault}
@@ -15,10 +15,10 @@ use Rattle.cabinet_text.proofs.Texts.{HaveNoNewline, HaveNoNewline-trees, HaveNo
 use Rattle.cabinet_text.proofs.Pieces.{HasNoNewline-list_head}
 use Rattle.cabinet_text.proofs.Faults.{blameless, list_blameless, nothing_behind, same_first_cause}
 
-HaveNoNewline-reached : (lines : List (List ℕ)) (due : Due) → Reached lines due → HaveNoNewline lines
-HaveNoNewline-reached lines due (at_the_start is due_is) = subst HaveNoNewline (sym is) tt
-HaveNoNewline-reached lines due (in_a_list n ts below are fewer is due_is) = subst HaveNoNewline (sym is) (HasNoNewline-list_head n below, HaveNoNewline-trees ts are)
-HaveNoNewline-reached lines due (behind_a_document t document is due_is) = subst HaveNoNewline (sym is) (HaveNoNewline-tree t document)
+HaveNoNewline-reached : (lines : List (List ℕ)) (expected : Expected) → Reached lines expected → HaveNoNewline lines
+HaveNoNewline-reached lines expected (at_the_start is expected_is) = subst HaveNoNewline (sym is) tt
+HaveNoNewline-reached lines expected (in_a_list n ts below are fewer is expected_is) = subst HaveNoNewline (sym is) (HasNoNewline-list_head n below, HaveNoNewline-trees ts are)
+HaveNoNewline-reached lines expected (after_a_document t document is expected_is) = subst HaveNoNewline (sym is) (HaveNoNewline-tree t document)
 
 -- a line among those of some leaves is a leaf's
 leaf_among : (ts : Trees) (ls : List (List ℕ)) (line : List ℕ) (more : List (List ℕ)) → AreLeaves ts → lines_of_trees ts ≡ ls ++ line ∷ more → (l : Leaf) × (IsLeaf l × IsShort l) × (line ≡ spelled_leaf l)
@@ -32,16 +32,16 @@ leaf_among (more_trees (leaf l) ts) (x ∷ ls) line more are h =
     let rest : lines_of_trees ts ≡ ls ++ line ∷ more = cc in
     leaf_among ts ls line more are.1 rest
 
--- behind the first line stand the lines of leaves
-later_leaf : (lines : List (List ℕ)) (due : Due) (first : List ℕ) (ls : List (List ℕ)) (line : List ℕ) (more : List (List ℕ)) → Reached lines due → lines ≡ first ∷ (ls ++ line ∷ more) → (l : Leaf) × (IsLeaf l × IsShort l) × (line ≡ spelled_leaf l)
-later_leaf lines due first ls line more (at_the_start is due_is) h = cc
-later_leaf lines due first ls line more (in_a_list n ts below are fewer is due_is) h =
+-- after the first line stand the lines of leaves
+later_leaf : (lines : List (List ℕ)) (expected : Expected) (first : List ℕ) (ls : List (List ℕ)) (line : List ℕ) (more : List (List ℕ)) → Reached lines expected → lines ≡ first ∷ (ls ++ line ∷ more) → (l : Leaf) × (IsLeaf l × IsShort l) × (line ≡ spelled_leaf l)
+later_leaf lines expected first ls line more (at_the_start is expected_is) h = cc
+later_leaf lines expected first ls line more (in_a_list n ts below are fewer is expected_is) h =
     let rest : lines_of_trees ts ≡ ls ++ line ∷ more = cc in
     leaf_among ts ls line more are rest
-later_leaf lines due first ls line more (behind_a_document (leaf l) document is due_is) h =
+later_leaf lines expected first ls line more (after_a_document (leaf l) document is expected_is) h =
     let rest : lines_of_trees no_trees ≡ ls ++ line ∷ more = cc in
     leaf_among no_trees ls line more tt rest
-later_leaf lines due first ls line more (behind_a_document (list ts) document is due_is) h =
+later_leaf lines expected first ls line more (after_a_document (list ts) document is expected_is) h =
     let rest : lines_of_trees ts ≡ ls ++ line ∷ more = cc in
     leaf_among ts ls line more document.0 rest
 
@@ -59,53 +59,53 @@ rest_of_list (list us) n ts more document below are h =
     omega (arith, same_count (count us) n document.1 below first, ap length rest, length-append (lines_of_trees ts) more, length-lines us document.0, length-lines ts are)
 
 -- nothing goes on where a document has ended
-no_more : (t : Tree) (lines : List (List ℕ)) (due : Due) (line : List ℕ) (more : List (List ℕ)) → IsDocument t → Reached lines due → lines ≡ lines_of_tree t ++ line ∷ more → ⊥
-no_more (leaf l) lines due line more document (at_the_start is due_is) h = cc
-no_more (leaf l) lines due line more document (in_a_list n ts below are fewer is due_is) h =
+no_more : (t : Tree) (lines : List (List ℕ)) (expected : Expected) (line : List ℕ) (more : List (List ℕ)) → IsDocument t → Reached lines expected → lines ≡ lines_of_tree t ++ line ∷ more → ⊥
+no_more (leaf l) lines expected line more document (at_the_start is expected_is) h = cc
+no_more (leaf l) lines expected line more document (in_a_list n ts below are fewer is expected_is) h =
     let first : spelled_leaf l ≡ list_head n = cc in
     no_list_head l n first
-no_more (leaf l) lines due line more document (behind_a_document (leaf k) other is due_is) h = cc
-no_more (leaf l) lines due line more document (behind_a_document (list ts) other is due_is) h =
+no_more (leaf l) lines expected line more document (after_a_document (leaf k) other is expected_is) h = cc
+no_more (leaf l) lines expected line more document (after_a_document (list ts) other is expected_is) h =
     let first : spelled_leaf l ≡ list_head (count ts) = cc in
     no_list_head l (count ts) first
-no_more (list us) lines due line more document (at_the_start is due_is) h = cc
-no_more (list us) lines due line more document (in_a_list n ts below are fewer is due_is) h =
+no_more (list us) lines expected line more document (at_the_start is expected_is) h = cc
+no_more (list us) lines expected line more document (in_a_list n ts below are fewer is expected_is) h =
     let first : list_head n ≡ list_head (count us) = cc in
     let rest : lines_of_trees ts ≡ lines_of_trees us ++ line ∷ more = cc in
     omega (arith, same_count n (count us) below document.1 first, ap length rest, length-append (lines_of_trees us) (line ∷ more), length-lines ts are, length-lines us document.0)
-no_more (list us) lines due line more document (behind_a_document t other is due_is) h =
+no_more (list us) lines expected line more document (after_a_document t other is expected_is) h =
     let all = rest_of_list t (count us) us (line ∷ more) other document.1 document.0 (sym is ∙ h) in
     omega (arith, all)
 
 -- a line that goes on to another place of some text
-blameless_line : (xs ys : List (List ℕ)) (due later : Due) (line : List ℕ) (more : List (List ℕ)) (cause : Cause) → Reached xs due → Reached ys later → ys ≡ xs ++ line ∷ more → cause ≢ OutOfMemory → Blames due (ended_piece line) cause → ⊥
-blameless_line xs ys due later line more cause (at_the_start is due_is) there h other blames =
-    first_line there (h ∙ ap (λ w. w ++ line ∷ more) is) (subst (λ d. Blames d (ended_piece line) cause) due_is blames)
+causeless_line : (xs ys : List (List ℕ)) (expected later : Expected) (line : List ℕ) (more : List (List ℕ)) (cause : Cause) → Reached xs expected → Reached ys later → ys ≡ xs ++ line ∷ more → cause ≢ OutOfMemory → HasCause expected (ended_piece line) cause → ⊥
+causeless_line xs ys expected later line more cause (at_the_start is expected_is) there h other has_cause =
+    first_line there (h ∙ ap (λ w. w ++ line ∷ more) is) (subst (λ d. HasCause d (ended_piece line) cause) expected_is has_cause)
   where
-    first_line : Reached ys later → ys ≡ line ∷ more → Blames (a_head 0) (ended_piece line) cause → ⊥
+    first_line : Reached ys later → ys ≡ line ∷ more → HasCause (a_head 0) (ended_piece line) cause → ⊥
     first_line (at_the_start it_is d) e b = cc
     first_line (in_a_list n ts below are fewer it_is d) e b =
         let first : line ≡ list_head n = cc in
-        list_blameless n below cause other (subst (λ w. Blames (a_head 0) (ended_piece w) cause) first b)
-    first_line (behind_a_document (leaf l) document it_is d) e b =
+        list_blameless n below cause other (subst (λ w. HasCause (a_head 0) (ended_piece w) cause) first b)
+    first_line (after_a_document (leaf l) document it_is d) e b =
         let first : line ≡ spelled_leaf l = cc in
-        blameless 0 l document.0 document.1 cause other (subst (λ w. Blames (a_head 0) (ended_piece w) cause) first b)
-    first_line (behind_a_document (list ts) document it_is d) e b =
+        blameless 0 l document.0 document.1 cause other (subst (λ w. HasCause (a_head 0) (ended_piece w) cause) first b)
+    first_line (after_a_document (list ts) document it_is d) e b =
         let first : line ≡ list_head (count ts) = cc in
-        list_blameless (count ts) document.1 cause other (subst (λ w. Blames (a_head 0) (ended_piece w) cause) first b)
-blameless_line xs ys due later line more cause (in_a_list n ts below are fewer is due_is) there h other blames =
+        list_blameless (count ts) document.1 cause other (subst (λ w. HasCause (a_head 0) (ended_piece w) cause) first b)
+causeless_line xs ys expected later line more cause (in_a_list n ts below are fewer is expected_is) there h other has_cause =
     let found = later_leaf ys later (list_head n) (lines_of_trees ts) line more there (h ∙ ap (λ w. w ++ line ∷ more) is) in
-    let at_leaf = subst (λ d. Blames d (ended_piece line) cause) due_is blames in
-    blameless 1 found.0 found.1.0 found.1.1 cause other (subst (λ w. Blames (a_head 1) (ended_piece w) cause) found.2 at_leaf)
-blameless_line xs ys due later line more cause (behind_a_document t document is due_is) there h other blames =
+    let at_leaf = subst (λ d. HasCause d (ended_piece line) cause) expected_is has_cause in
+    blameless 1 found.0 found.1.0 found.1.1 cause other (subst (λ w. HasCause (a_head 1) (ended_piece w) cause) found.2 at_leaf)
+causeless_line xs ys expected later line more cause (after_a_document t document is expected_is) there h other has_cause =
     no_more t ys later line more document there (h ∙ ap (λ w. w ++ line ∷ more) is)
 
 -- and nothing can be said against the text that begins with it
-blameless_text : (xs ys : List (List ℕ)) (due later : Due) (line : List ℕ) (more : List (List ℕ)) (r rest : List ℕ) (cause : Cause) → Reached xs due → Reached ys later → ys ≡ xs ++ line ∷ more → r ≡ line ++ 10 ∷ rest → cause ≢ OutOfMemory → Blames due (slice_get (pieces_of r) 0) cause → ⊥
-blameless_text xs ys due later line more r rest cause here there h text other blames =
+causeless_text : (xs ys : List (List ℕ)) (expected later : Expected) (line : List ℕ) (more : List (List ℕ)) (r rest : List ℕ) (cause : Cause) → Reached xs expected → Reached ys later → ys ≡ xs ++ line ∷ more → r ≡ line ++ 10 ∷ rest → cause ≢ OutOfMemory → HasCause expected (slice_get (pieces_of r) 0) cause → ⊥
+causeless_text xs ys expected later line more r rest cause here there h text other has_cause =
     let none = HasNoNewline-among xs line more (subst HaveNoNewline h (HaveNoNewline-reached ys later there)) in
     let piece : slice_get (pieces_of r) 0 ≡ ended_piece line = ap (λ w. slice_get (pieces_of w) 0) text ∙ first_piece line rest none in
-    blameless_line xs ys due later line more cause here there h other (subst (λ p. Blames due p cause) piece blames)
+    causeless_line xs ys expected later line more cause here there h other (subst (λ p. HasCause expected p cause) piece has_cause)
 
 some_line : (t : Tree) → [] ≡ lines_of_tree t → ⊥
 some_line (leaf l) h = cc
@@ -116,51 +116,51 @@ inside_or_behind n ts t below are fewer document h =
     let all = rest_of_list t n ts [] document below are (sym h ∙ ap (λ w. list_head n ∷ w) (sym (append-nil (lines_of_trees ts)))) in
     omega (arith, all)
 
--- behind some lines one thing is due
-same_due : (lines : List (List ℕ)) (due other : Due) → Reached lines due → Reached lines other → due ≡ other
-same_due lines due other (at_the_start is due_is) (at_the_start it_is other_is) = due_is ∙ sym other_is
-same_due lines due other (at_the_start is due_is) (in_a_list n ts below are fewer it_is other_is) = cc
-same_due lines due other (at_the_start is due_is) (behind_a_document t document it_is other_is) = absurd (some_line t (sym is ∙ it_is))
-same_due lines due other (in_a_list n ts below are fewer is due_is) (at_the_start it_is other_is) = cc
-same_due lines due other (in_a_list n ts below are fewer is due_is) (in_a_list m us b a f it_is other_is) = due_is ∙ sym other_is
-same_due lines due other (in_a_list n ts below are fewer is due_is) (behind_a_document t document it_is other_is) =
+-- after some lines one thing is expected
+same_expected : (lines : List (List ℕ)) (expected other : Expected) → Reached lines expected → Reached lines other → expected ≡ other
+same_expected lines expected other (at_the_start is expected_is) (at_the_start it_is other_is) = expected_is ∙ sym other_is
+same_expected lines expected other (at_the_start is expected_is) (in_a_list n ts below are fewer it_is other_is) = cc
+same_expected lines expected other (at_the_start is expected_is) (after_a_document t document it_is other_is) = absurd (some_line t (sym is ∙ it_is))
+same_expected lines expected other (in_a_list n ts below are fewer is expected_is) (at_the_start it_is other_is) = cc
+same_expected lines expected other (in_a_list n ts below are fewer is expected_is) (in_a_list m us b a f it_is other_is) = expected_is ∙ sym other_is
+same_expected lines expected other (in_a_list n ts below are fewer is expected_is) (after_a_document t document it_is other_is) =
     absurd (inside_or_behind n ts t below are fewer document (sym is ∙ it_is))
-same_due lines due other (behind_a_document t document is due_is) (at_the_start it_is other_is) = absurd (some_line t (sym it_is ∙ is))
-same_due lines due other (behind_a_document t document is due_is) (in_a_list n ts below are fewer it_is other_is) =
+same_expected lines expected other (after_a_document t document is expected_is) (at_the_start it_is other_is) = absurd (some_line t (sym it_is ∙ is))
+same_expected lines expected other (after_a_document t document is expected_is) (in_a_list n ts below are fewer it_is other_is) =
     absurd (inside_or_behind n ts t below are fewer document (sym it_is ∙ is))
-same_due lines due other (behind_a_document t document is due_is) (behind_a_document s d it_is other_is) = due_is ∙ sym other_is
+same_expected lines expected other (after_a_document t document is expected_is) (after_a_document s d it_is other_is) = expected_is ∙ sym other_is
 
 pub one_fault : (input : List ℕ) (line other : ℕ) (cause reason : Cause) → FirstFault input line cause → FirstFault input other reason → cause ≢ OutOfMemory → reason ≢ OutOfMemory → SameFault line other cause reason
 one_fault input line other cause reason a b p q =
-    at_cuts (cuts_of a.before b.before a.rest b.rest (HaveNoNewline-reached a.before a.due a.reached) (HaveNoNewline-reached b.before b.due b.reached) (sym a.input_is ∙ b.input_is))
+    at_cuts (cuts_of a.before b.before a.rest b.rest (HaveNoNewline-reached a.before a.expected a.reached) (HaveNoNewline-reached b.before b.expected b.reached) (sym a.input_is ∙ b.input_is))
   where
     at_cuts : Cuts a.before a.rest b.before b.rest → SameFault line other cause reason
     at_cuts (one_cut lines rests) =
-        let due = same_due b.before a.due b.due (subst (λ ls. Reached ls a.due) lines a.reached) b.reached in
-        let here = subst (λ d. IsFirstCause d (slice_get (pieces_of a.rest) 0) cause) due a.first in
-        let there = subst (λ r. IsFirstCause b.due (slice_get (pieces_of r) 0) cause) rests here in
+        let expected = same_expected b.before a.expected b.expected (subst (λ ls. Reached ls a.expected) lines a.reached) b.reached in
+        let here = subst (λ d. IsFirstCause d (slice_get (pieces_of a.rest) 0) cause) expected a.first in
+        let there = subst (λ r. IsFirstCause b.expected (slice_get (pieces_of r) 0) cause) rests here in
         record {
           same_line = a.line_is ∙ ap (λ ls. length ls + 1) lines ∙ sym b.line_is;
-          same_cause = same_first_cause b.due _ cause reason there b.first;
+          same_cause = same_first_cause b.expected _ cause reason there b.first;
         }
     at_cuts (first_before next more rest lines rests) =
-        absurd (blameless_text a.before b.before a.due b.due next more a.rest rest cause a.reached b.reached lines rests p a.first.blames)
+        absurd (causeless_text a.before b.before a.expected b.expected next more a.rest rest cause a.reached b.reached lines rests p a.first.has_cause)
     at_cuts (first_behind next more rest lines rests) =
-        absurd (blameless_text b.before a.before b.due a.due next more b.rest rest reason b.reached a.reached lines rests q b.first.blames)
+        absurd (causeless_text b.before a.before b.expected a.expected next more b.rest rest reason b.reached a.reached lines rests q b.first.has_cause)
 
 -- nothing is said against a document's own text
 pub fault_refuses : (input : List ℕ) (line : ℕ) (cause : Cause) (t : Tree) → FirstFault input line cause → cause ≢ OutOfMemory → IsDocument t → input ≢ text_of t
 fault_refuses input line cause t a other document h =
-    at_cuts (cuts_of a.before (lines_of_tree t) a.rest [] (HaveNoNewline-reached a.before a.due a.reached) (HaveNoNewline-tree t document) (sym a.input_is ∙ h ∙ sym (append-nil (text_of t))))
+    at_cuts (cuts_of a.before (lines_of_tree t) a.rest [] (HaveNoNewline-reached a.before a.expected a.reached) (HaveNoNewline-tree t document) (sym a.input_is ∙ h ∙ sym (append-nil (text_of t))))
   where
     whole : Reached (lines_of_tree t) nothing_more
-    whole = behind_a_document t document refl refl
+    whole = after_a_document t document refl refl
 
     at_cuts : Cuts a.before a.rest (lines_of_tree t) [] → ⊥
     at_cuts (one_cut lines rests) =
-        let due = same_due (lines_of_tree t) a.due nothing_more (subst (λ ls. Reached ls a.due) lines a.reached) whole in
-        let here = subst (λ d. Blames d (slice_get (pieces_of a.rest) 0) cause) due a.first.blames in
-        nothing_behind cause (subst (λ r. Blames nothing_more (slice_get (pieces_of r) 0) cause) rests here)
+        let expected = same_expected (lines_of_tree t) a.expected nothing_more (subst (λ ls. Reached ls a.expected) lines a.reached) whole in
+        let here = subst (λ d. HasCause d (slice_get (pieces_of a.rest) 0) cause) expected a.first.has_cause in
+        nothing_behind cause (subst (λ r. HasCause nothing_more (slice_get (pieces_of r) 0) cause) rests here)
     at_cuts (first_before next more rest lines rests) =
-        blameless_text a.before (lines_of_tree t) a.due nothing_more next more a.rest rest cause a.reached whole lines rests other a.first.blames
+        causeless_text a.before (lines_of_tree t) a.expected nothing_more next more a.rest rest cause a.reached whole lines rests other a.first.has_cause
     at_cuts (first_behind next more rest lines rests) = no_line next rest rests

@@ -41,7 +41,7 @@ one_line bytes None (Some l) p q = absurd (p l q.0 q.1)
 one_line bytes (Some k) None p q = absurd (q k p.0 p.1)
 one_line bytes (Some k) (Some l) p q = ap Some (same_line k l p.0 q.0 (sym p.1 ∙ q.1))
 
--- what stands behind a word, where the bytes and the word are known by other names
+-- what stands after a word, where the bytes and the word are known by other names
 pub behind_word : (line bytes prefix word rest : List ℕ) → bytes ≡ line → prefix ≡ word → bytes ≡ prefix ++ rest → line ≡ word ++ rest
 behind_word line bytes prefix word rest same_line same_word h = sym same_line ∙ h ∙ ap (λ w. w ++ rest) same_word
 

@@ -68,7 +68,7 @@ two_words (text t) p = record {
   second_word = (λ e. omega (arith, e), Lacks-escaped 32 t (inr refl));
 }
 
--- two words and what stands behind them are cut in one way only
+-- two words and what stands after them are cut in one way only
 pub same_words : (u v x y : List ℕ) → TwoWords u → TwoWords v → IsAtSpace x → IsAtSpace y → u ++ x ≡ v ++ y → (u ≡ v) × (x ≡ y)
 same_words u v x y a b r s h =
     let whole : a.word ++ 32 ∷ (a.argument ++ x) ≡ b.word ++ 32 ∷ (b.argument ++ y) =
@@ -85,7 +85,7 @@ one_word word v y p b h =
     let cut = same_cut word b.word [] (32 ∷ (b.argument ++ y)) p b.first_word tt refl whole in
     absurd (cc (cut.1))
 
--- a step to a place, and what stands behind it
+-- a step to a place, and what stands after it
 pub same_step : (m n : ℕ) (x y : List ℕ) → m < 2 ^ 64 → n < 2 ^ 64 → IsAtSpace x → IsAtSpace y → 32 ∷ 35 ∷ (decimal m ++ x) ≡ 32 ∷ 35 ∷ (decimal n ++ y) → (m ≡ n) × (x ≡ y)
 same_step m n x y p q r s h =
     let cut = same_cut (decimal m) (decimal n) x y (Lacks-decimal 32 m (omega arith) p) (Lacks-decimal 32 n (omega arith) q) r s (rest_same (rest_same h)) in
@@ -105,7 +105,7 @@ same_path (place m ∷ p) (place n ∷ q) a b h =
     let place_same = firsts.0 in
     cc
 
--- a path is nothing, or a step to a place and a path behind it
+-- a path is nothing, or a step to a place and a path after it
 pub IsPath-nil : IsPath []
 IsPath-nil = ([], All-nil IsStep, refl)
 
@@ -147,7 +147,7 @@ no_step (b ∷ bytes) sign e none p =
     let step = first_step b bytes p in
     absurd (none (decimal step.at ++ step.rest) (step.begins.spelled ∙ ap (λ w. w ++ (decimal step.at ++ step.rest)) (sym e)))
 
--- nor is what has no count behind the sign
+-- nor is what has no count after the sign
 pub no_place : (bytes sign spelled digits rest : List ℕ) → sign ≡ codes " #" → bytes ≡ sign ++ spelled → spelled ≡ digits ++ rest → HasNoSpace digits → IsAtSpace rest → ((n : ℕ) → n < 2 ^ 64 → digits ≢ decimal n) → IsPath bytes → bytes ≡ []
 no_place [] sign spelled digits rest e h cut word space none p = refl
 no_place (b ∷ bytes) sign spelled digits rest e h cut word space none p =

@@ -1,4 +1,4 @@
--- Texts cut behind their newlines, and what has none.
+-- Texts cut after their newlines, and what has none.
 use Rattle.std.proofs.Common.{◌≡◌, ◌≢◌, ℕ, suc, ◌+◌, ◌<◌, ◌^◌, ℤ, pos, negsuc, Bool, true, false, not, ◌&&◌, eqb, List, [], ◌∷◌, ◌++◌, length, get_or, sym, ap, ◌∙◌, refl, inl, inr, arith, FitsSigned, w64, codes, take, drop, add-one, drop-cons, length-take, get_or-take, Option, Some}
 use Rattle.std.proofs.lemmas.List.{take-append-drop}
 use Rattle.std.specs.Fmt.{signed_decimal, decimal}
@@ -11,7 +11,7 @@ use Rattle.std.specs.Str.Parse.{digits_value}
 use Rattle.std.specs.Prelude.{slice_get}
 use Rattle.cabinet_text.specs.Tree.{Leaf, truth, number, text, IsLeaf}
 use Rattle.cabinet_text.specs.Spelling.{escaped, escaped_byte, spelled_leaf, list_head}
-use Rattle.cabinet_text.specs.Fault.{Piece, pieces_of, onto_first_piece}
+use Rattle.cabinet_text.specs.FirstFault.{Piece, pieces_of, onto_first_piece}
 use Rattle.cabinet_text.proofs.Escapes.{Form, backslash, newline, space, plain, form_of}
 
 abbrev pub HasNoNewline : List ℕ → Type 0
@@ -69,7 +69,7 @@ HasNoNewline-leaf (truth false) p = HasNoNewline-tested (codes "bool false") ref
 HasNoNewline-leaf (number n) p = HasNoNewline-append (codes "int ") (signed_decimal n) (HasNoNewline-tested (codes "int ") refl) (HasNoNewline-signed n p)
 HasNoNewline-leaf (text t) p = HasNoNewline-append (codes "text '") (escaped t) (HasNoNewline-tested (codes "text '") refl) (HasNoNewline-escaped t)
 
--- the piece before a newline, and those behind it
+-- the piece before a newline, and those after it
 pub piece_ended : (xs rest : List ℕ) → HasNoNewline xs → pieces_of (xs ++ 10 ∷ rest) ≡ record { bytes = xs; ended = true } ∷ pieces_of rest
 piece_ended [] rest p = refl
 piece_ended (b ∷ bs) rest p =

@@ -1,4 +1,4 @@
--- Texts cut behind some of their lines.
+-- Texts cut after some of their lines.
 use Rattle.std.proofs.Common.{◌≡◌, ℕ, List, [], ◌∷◌, ◌++◌, sym, ap, ◌∙◌, refl, append_assoc, append-nil}
 use Rattle.std.proofs.lemmas.List.{append_cancel_left}
 use Rattle.cabinet_text.specs.Tree.{Tree, leaf, list, Trees, no_trees, more_trees, count, AreLeaves, IsDocument}

@@ -17,7 +17,7 @@ leaf_from (inl b) = truth b
 leaf_from (inr (inl n)) = number n
 leaf_from (inr (inr t)) = text t
 
--- a leaf, or a list of so many elements
+-- a leaf, or a list of n elements
 abbrev pub Head : Type 0
 Head = LeafParts ⊎ ℕ
 

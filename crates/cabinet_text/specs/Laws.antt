@@ -4,7 +4,7 @@ use Rattle.cabinet_text.specs.Tree.{Tree, IsDocument, Leaf, IsLeaf, Step}
 use Rattle.cabinet_text.specs.Spelling.{text_of}
 use Rattle.cabinet_text.specs.Answering.{change, outcome}
 use Rattle.cabinet_text.specs.Line.{Line, Says}
-use Rattle.cabinet_text.specs.Fault.{FirstFault}
+use Rattle.cabinet_text.specs.FirstFault.{FirstFault}
 use Rattle.cabinet_text.specs.declared.text.Cause.{Cause}
 use Rattle.cabinet_text.specs.declared.text.Cause.TheVariants.{OutOfMemory}
 use Rattle.cabinet_text.specs.declared.answer.SetAnswer.TheVariants.{Done}

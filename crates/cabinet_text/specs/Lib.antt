@@ -6,7 +6,7 @@ pub mod Answering
 pub mod Line
 pub mod Reading
 pub mod Session
-pub mod Fault
+pub mod FirstFault
 pub mod View
 pub mod Laws
 pub mod Head

@@ -13,7 +13,7 @@ spelled_step (key k) = codes "'" ++ escaped k
 spelled_step (place n) = codes "#" ++ decimal n
 spelled_step inside = codes "?"
 
--- each step behind one space
+-- each step after one space
 abbrev pub spelled_path : List Step → List ℕ
 spelled_path [] = []
 spelled_path (step ∷ path) = codes " " ++ (spelled_step step ++ spelled_path path)

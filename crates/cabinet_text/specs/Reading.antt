@@ -23,13 +23,13 @@ abbrev pub IsAtSpace : List ℕ → Type 0
 IsAtSpace [] = Unit {0}
 IsAtSpace (b ∷ bytes) = b ≡ 32
 
--- bytes begin with a step to a place, and the rest stands behind the step
+-- bytes begin with a step to a place, and the rest stands after the step
 pub record BeginsWithStep (bytes : List ℕ) (at : ℕ) (rest : List ℕ) : Type 0 where
   pub below : at < 2 ^ 64
   pub spelled : bytes ≡ codes " #" ++ (decimal at ++ rest)
   pub space : IsAtSpace rest
 
--- where bytes are the spellings of a leaf and of a path behind it, they end and begin where the bytes are cut
+-- where bytes are the spellings of a leaf and of a path after it, they end and begin where the bytes are cut
 abbrev pub IsCutBehindLeaf : List ℕ → List ℕ → List ℕ → Type 0
 IsCutBehindLeaf bytes front rest =
     (l : Leaf) (path : List Step)

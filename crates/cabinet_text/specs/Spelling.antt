@@ -21,7 +21,7 @@ spelled_leaf (truth b) = codes "bool " ++ truth_word b
 spelled_leaf (number n) = codes "int " ++ signed_decimal n
 spelled_leaf (text t) = codes "text '" ++ escaped t
 
--- of a list with so many elements
+-- of a list with n elements
 abbrev pub list_head : ℕ → List ℕ
 list_head n = codes "list " ++ decimal n
 
@@ -30,7 +30,7 @@ abbrev pub head : Tree → List ℕ
 head (leaf l) = spelled_leaf l
 head (list ts) = list_head (count ts)
 
--- the lines of a tree's text: its head, and behind the head of a list the lines of its elements in order
+-- the lines of a tree's text: its head, and after the head of a list the lines of its elements in order
 abbrev mutual
   pub lines_of_tree : Tree → List (List ℕ)
   lines_of_tree (leaf l) = head (leaf l) ∷ []

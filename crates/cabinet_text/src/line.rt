@@ -96,7 +96,7 @@ fn read_leaf(alloc: Global, bytes: &[u8]) -> Result<Leaf, LineRefusal>
     Ok(Leaf::Bool(value))
 }
 
-/// Cuts what stands behind `set ` where its leaf ends: behind a word, a space and another word.
+/// Cuts what stands after `set ` where its leaf ends: after a word, a space and another word.
 fn split_leaf(bytes: &[u8]) -> (&[u8], &[u8])
     ensures whole { bytes.now ≡ result.0.now ++ result.1.now }
     ensures cut { IsCutBehindLeaf bytes.now result.0.now result.1.now }

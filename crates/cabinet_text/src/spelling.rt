@@ -3,7 +3,7 @@ ghost use Rattle.cabinet_text.specs.Tree.{truth};
 ghost use Rattle.cabinet_text.specs.Spelling.{spelled_leaf};
 ghost use Rattle.cabinet_text.specs.Reading.{HasNoSpace, IsAtSpace};
 
-/// What stands behind a prefix.
+/// What stands after a prefix.
 pub(crate) fn behind<'a>(bytes: &'a [u8], prefix: &[u8]) -> Option<&'a [u8]>
     ensures { MatchOption result ((rest : List ℕ) → bytes.now ≢ prefix.now ++ rest) (λ rest. bytes.now ≡ prefix.now ++ rest.now) }
 {

@@ -2,7 +2,7 @@ ghost use Rattle.std.specs.Prelude.{◌≡◌, ◌≢◌, ℕ, ◌+◌, ◌<◌,
 ghost use Rattle.cabinet_text.specs.Tree as tree;
 ghost use Rattle.cabinet_text.specs.Tree.{IsLeaf, IsShort, AreLeaves, IsDocument};
 ghost use Rattle.cabinet_text.specs.Spelling.{escaped, spelled_leaf, list_head, lines_of_tree, lines_of_trees, ended, text_of};
-ghost use Rattle.cabinet_text.specs.Fault.{Piece, pieces_of, a_head, nothing_more, IsFirstCause, FirstFault};
+ghost use Rattle.cabinet_text.specs.FirstFault.{Piece, pieces_of, a_head, nothing_more, IsFirstCause, FirstFault};
 ghost use Rattle.cabinet_text.specs.Head.{spelled_head, IsHead};
 ghost use Rattle.cabinet_text.specs.View.{leaf_of, node_tree, node_trees};
 
@@ -26,7 +26,7 @@ pub enum Cause {
     /// The last line lacks its newline.
     #[error("NoNewline")]
     NoNewline,
-    /// A line is due and the input has ended.
+    /// A line is expected and the input has ended.
     #[error("EndTooEarly")]
     EndTooEarly,
     /// A backslash before another character than `\`, `n` and `s`, or a space.
@@ -59,7 +59,7 @@ pub struct TextRefusal {
 #[derive(Drop)]
 enum Head {
     Leaf(Leaf),
-    /// A list of so many elements.
+    /// A list of n elements.
     List(u64),
 }
 
@@ -80,7 +80,7 @@ fn newline_at(text: &[u8]) -> Option<usize>
     text.iter().position(|byte| *byte == b'\n')
 }
 
-/// Cuts a text behind its first newline.
+/// Cuts a text after its first newline.
 fn first_line(text: &[u8]) -> FirstLine<'_>
     requires { 0 < length text.now }
     ensures pieces { pieces_of text.now ≡ record { bytes = result.bytes.now; ended = result.ended } ∷ pieces_of result.rest.now }
@@ -156,7 +156,7 @@ fn read_head(alloc: Global, line: &str) -> Result<Head, Cause>
     }
 }
 
-/// The first line of a text where a head is due, and what follows it.
+/// The first line of a text where a head is expected, and what follows it.
 fn next_line(text: &[u8]) -> Result<(&str, &[u8]), Cause>
     ensures piece { IfOk result (λ next. slice_get (pieces_of text.now) 0 ≡ Some (record { bytes = next.0.now; ended = true })) }
     ensures parts { IfOk result (λ next. text.now ≡ next.0.now ++ 10 ∷ next.1.now) }
@@ -209,7 +209,7 @@ fn node_of(leaf: Leaf) -> Node
     }
 }
 
-/// The elements of a list, read behind its head, and what follows them.
+/// The elements of a list, read after its head, and what follows them.
 fn read_elements(alloc: Global, text: &[u8], count: u64) -> Result<(Vec<Node>, &[u8]), TextRefusal>
     ensures leaves { IfOk result (λ read. AreLeaves (node_trees read.0.items)) }
     ensures counted { IfOk result (λ read. tree.count (node_trees read.0.items) ≡ count) }
@@ -233,7 +233,7 @@ fn read_elements(alloc: Global, text: &[u8], count: u64) -> Result<(Vec<Node>, &
     Ok((elements, rest))
 }
 
-/// What is wrong behind a document.
+/// What is wrong after a document.
 fn fault_behind(rest: &[u8]) -> Option<Cause>
     ensures { MatchOption result (rest.now ≡ []) (IsFirstCause nothing_more (slice_get (pieces_of rest.now) 0)) }
 {

@@ -1,5 +1,5 @@
 ghost use Rattle.std.specs.Prelude.{◌≡◌, ◌+◌, ◌-◌, ◌^◌, ◌<◌, ◌++◌, [], ◌∷◌, None, codes, MatchOption};
-ghost use Rattle.archive_shape.specs.Writing.{Writes};
+ghost use Rattle.archive_shape_writing.specs.Writing.{Writes};
 ghost use Rattle.cabinet_text.specs.Answering.{answer_about, spelled_outcome};
 ghost use Rattle.cabinet_text.specs.Spelling.{escaped, escaped_byte, spelled_leaf, list_head};
 ghost use Rattle.cabinet_text.specs.View.{lent_leaf};
@@ -7,7 +7,7 @@ ghost use Rattle.cabinet_text.specs.View.{lent_leaf};
 use crate::answer::SetAnswer;
 use crate::leaf::LeafRef;
 use crate::number::Decimal;
-use archive_shape::{Error, Writer, write_three_pieces, write_two_pieces};
+use archive_shape_writing::{Error, Writer, write_three_pieces, write_two_pieces};
 
 /// How a byte is escaped, if it does not stand for itself.
 fn escape_of(byte: u8) -> Option<&'static [u8]>
@@ -69,7 +69,7 @@ pub fn write_leaf_line<W: Writer>(leaf: LeafRef<'_>, writer: &mut W) -> Result<(
     }
 }
 
-/// Writes the line of a list with so many elements.
+/// Writes the line of a list with n elements.
 pub fn write_list_line<W: Writer>(len: u64, writer: &mut W) -> Result<(), Error>
     requires { W.failures writer.old < 2 ^ 64 - 1 }
     ensures { Writes W.Writer writer.old writer.new (list_head len ++ codes "\n") result }

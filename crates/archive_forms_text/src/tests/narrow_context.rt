@@ -13,7 +13,7 @@ pub struct NarrowContext {
 }
 
 impl NarrowContext {
-    /// Of so many bytes, with so many pushes at most.
+    /// Of n bytes, with n pushes at most.
     pub fn new(alloc: Global, len: usize, most: usize) -> Self
         ensures start { result.start ≡ 0 }
         ensures end { result.end ≡ len }

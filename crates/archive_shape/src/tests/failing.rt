@@ -3,12 +3,13 @@ ghost use Rattle.std.specs.Prelude.{◌≡◌, true, vec_len};
 use crate::{Error, Positional, Writer};
 use std::alloc::Global;
 
-/// A writer that fails after so many writes, and keeps half of the piece that failed.
+/// A writer that fails after n writes, and keeps half of the piece that failed.
 #[derive(Drop)]
 pub struct FailingWriter {
     bytes: Vec<u8>,
     writes_left: usize,
     failures: u64,
+    last_error: Error,
 }
 
 impl FailingWriter {
@@ -19,6 +20,7 @@ impl FailingWriter {
             bytes: Vec::new(alloc),
             writes_left: writes,
             failures: 0,
+            last_error: Error::WriterFailed,
         }
     }
 
@@ -41,13 +43,15 @@ impl Positional for FailingWriter {
 
 #[tactic(auto, using(crate::proofs::Joined::cut_none, crate::proofs::Joined::cut_take))]
 impl Writer for FailingWriter {
-    ghost TELLS = { true };
+    ghost OBSERVABLE = { true };
 
     ghost COUNTS = { true };
 
     ghost contents = { λ w. w.bytes.items };
 
     ghost failures = { λ w. w.failures };
+
+    ghost last_error = { λ w. w.last_error };
 
     fn counts() -> bool {
         true
@@ -57,11 +61,14 @@ impl Writer for FailingWriter {
         if self.writes_left == 0 {
             self.failures += 1;
             let half = bytes.len() / 2;
+            self.last_error = Error::OutOfMemory;
             self.bytes.extend_from_slice(&bytes[..half])?;
+            self.last_error = Error::WriterFailed;
             return Err(Error::WriterFailed);
         }
         if self.bytes.extend_from_slice(bytes).is_err() {
             self.failures += 1;
+            self.last_error = Error::OutOfMemory;
             return Err(Error::OutOfMemory);
         }
         self.writes_left -= 1;

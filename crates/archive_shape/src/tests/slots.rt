@@ -1,5 +1,5 @@
 ghost use Rattle.std.specs.Prelude.{slice_index_or};
-ghost use Rattle.archive_shape.specs.Pooling.{told};
+ghost use Rattle.archive_shape.specs.Pooling.{progress_of};
 ghost use Rattle.archive_shape.specs.declared.pooling.PoolingState.TheVariants.{Started};
 
 use crate::{Error, Pooling, PoolingState, Sharing, SharingState};
@@ -19,7 +19,7 @@ impl<T: Copy> Slots<T> {
 }
 
 impl<T: Copy> Pooling<T> for Slots<T> {
-    ghost known = { λ s pos. told (slice_index_or s.states pos Started) };
+    ghost known = { λ s pos. progress_of (slice_index_or s.states pos Started) };
 
     fn start_pooling(&mut self, pos: usize) -> Result<PoolingState<T>, Error> {
         if pos >= self.states.len() {
@@ -48,7 +48,7 @@ impl<T: Copy> Pooling<T> for Slots<T> {
 }
 
 impl Sharing for Slots<usize> {
-    ghost known = { λ s key. told (slice_index_or s.states key Started) };
+    ghost known = { λ s key. progress_of (slice_index_or s.states key Started) };
 
     fn start_sharing(&mut self, key: usize) -> Result<SharingState, Error> {
         match self.start_pooling(key)? {

@@ -7,7 +7,7 @@ ghost use Rattle.archive_shape_checking.specs.Kept.{Kept};
 ghost use Rattle.archive_shape_checking.specs.Checks.{Checks};
 
 use crate::{ArchiveContext, CheckBytes, Error};
-use archive_shape_numbers::{ArchivedLeaf, LittleEndian, Native};
+use archive_shape_portable::{ArchivedLeaf, LittleEndian, Native};
 use std::alloc::Global;
 use std::num::{NonZeroI8, NonZeroU8};
 

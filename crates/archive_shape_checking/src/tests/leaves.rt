@@ -3,7 +3,7 @@ ghost use Rattle.archive_shape_layout.specs.Shape.{size_of};
 
 use super::list_context::ListContext;
 use crate::{ArchiveContext, CheckBytes, Error};
-use archive_shape_numbers::{
+use archive_shape_portable::{
     ArchivedChar, ArchivedI64, ArchivedNonZeroI128, ArchivedNonZeroU16, ArchivedU16,
 };
 use std::alloc::Global;

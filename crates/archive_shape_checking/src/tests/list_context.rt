@@ -1,6 +1,6 @@
 ghost use Rattle.std.specs.Prelude.{◌≡◌, ◌==◌, ◌≤◌, ◌↔◌, IsTrue, length, find, option_map};
 ghost use Rattle.std.specs.List.{position_or_len};
-ghost use Rattle.archive_shape_layout.specs.Denotes.{pointee_of};
+ghost use Rattle.archive_shape_layout.specs.RuntimeShape.{pointee_of};
 
 use crate::{ArchiveContext, Error, PushedRange, SharedContext, ValidationState};
 use archive_shape_layout::{Pointee, same_shape};
@@ -37,7 +37,7 @@ fn same_pointee(first: &Pointee, second: &Pointee) -> bool
 }
 
 impl ListContext {
-    /// Of so many bytes, with so many pushes at most.
+    /// Of n bytes, with n pushes at most.
     pub fn new(alloc: Global, len: usize, most: usize) -> Self
         ensures start { result.start ≡ 0 }
         ensures end { result.end ≡ len }
@@ -51,7 +51,7 @@ impl ListContext {
         }
     }
 
-    /// Where a shared position stands among those that were met; behind the last one where it was not.
+    /// Where a shared position stands among those that were met; after the last one where it was not.
     fn place_of(&self, pos: usize) -> usize
         ensures first { result ≡ position_or_len (λ m. m.pos == pos) self.now.met.items }
         ensures within { result ≤ length self.now.met.items }

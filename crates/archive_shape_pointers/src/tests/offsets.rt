@@ -1,8 +1,8 @@
 use crate::{Offset, signed_offset};
-use archive_shape_checking::Error;
-use archive_shape_numbers::{
+use archive_shape_portable::{
     ArchivedI16, ArchivedI32, ArchivedI64, ArchivedU16, ArchivedU32, ArchivedU64,
 };
+use archive_shape_writing::Error;
 use std::test::Fail;
 
 #[test]

@@ -2,9 +2,9 @@ use crate::{
     RawRelPtr, RawRelPtrI8, RawRelPtrI16, RawRelPtrI32, RawRelPtrI64, RawRelPtrU8, RawRelPtrU16,
     RawRelPtrU64,
 };
-use archive_shape_checking::Error;
-use archive_shape_numbers::Portable;
+use archive_shape_portable::Portable;
 use archive_shape_references::{Place, Ref};
+use archive_shape_writing::Error;
 use std::test::Fail;
 
 #[test]

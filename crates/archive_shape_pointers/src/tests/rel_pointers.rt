@@ -1,13 +1,13 @@
 #![tactic(auto, unfolding(archive_shape_layout::specs::Bytes::align_up))]
 
 use crate::RelPtr;
-use archive_shape_checking::Error;
 use archive_shape_layout::{Shape, Shapes, Width, same_shape};
-use archive_shape_numbers::{
+use archive_shape_portable::{
     ArchivedI16, ArchivedI32, ArchivedI64, ArchivedU16, ArchivedU32, ArchivedU64, LittleEndian,
     Portable,
 };
 use archive_shape_references::{Place, Ref, Slice, Str};
+use archive_shape_writing::Error;
 use std::test::Fail;
 
 #[test]

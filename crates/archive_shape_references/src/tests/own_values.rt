@@ -2,7 +2,7 @@ ghost use Rattle.std.specs.Prelude.{◌≡◌, length};
 ghost use Rattle.std.specs.Int.{w64, to_le_bytes, cast_unsigned};
 
 use crate::{OwnSeal, Str};
-use archive_shape_numbers::ArchivedI64;
+use archive_shape_portable::ArchivedI64;
 use std::test::Fail;
 
 // A caller that seals a number's own bytes knows them afterwards.

@@ -1,5 +1,5 @@
 use crate::{ArchivePointee, LayoutRaw, Ref, Slice, Str};
-use archive_shape_numbers::{ArchivedI64, ArchivedU32, ArchivedUsize};
+use archive_shape_portable::{ArchivedI64, ArchivedU32, ArchivedUsize};
 use std::test::Fail;
 
 #[test]

@@ -4,7 +4,7 @@ ghost use Rattle.archive_shape_references.specs.Bytes.{overwrite};
 
 use crate::{Place, Ref, Seal, Str};
 use archive_shape_layout::{Alignment, Pointee, Shape, Shapes, Width, same_shape};
-use archive_shape_numbers::{
+use archive_shape_portable::{
     ArchivedI32, ArchivedI64, ArchivedU16, ArchivedU32, LittleEndian, Native, Portable,
 };
 use std::test::Fail;

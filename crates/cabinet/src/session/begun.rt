@@ -13,7 +13,7 @@ pub(super) const LONGEST_INPUT: u64 = 4_294_967_295;
 /// What a run keeps from one piece of the input to the next.
 #[derive(Drop)]
 pub(super) struct Begun {
-    /// What stands behind the last newline.
+    /// What stands after the last newline.
     pub(super) line: Vec<u8>,
     pub(super) count: Count,
     /// The number of bytes of the input so far.

@@ -1,6 +1,6 @@
 // Lines are carried out.
 ghost use Rattle.std.specs.Prelude.{◌≡◌, ◌≢◌, ℕ, ◌+◌, ◌-◌, ◌^◌, ◌<◌, ◌≤◌, ◌==◌, ◌++◌, List, [], ◌∷◌, length, drop, IfOk, IfErr, OnOk, MatchResult, option_map, position, IsTrue};
-ghost use Rattle.archive_shape.specs.Writing.{Writes};
+ghost use Rattle.archive_shape_writing.specs.Writing.{Writes};
 ghost use Rattle.cabinet_text.specs.Tree.{Tree};
 ghost use Rattle.cabinet_text.specs.Line.{Says};
 ghost use Rattle.cabinet_text.specs.Session.{lines_of, reply, edits_by};
@@ -15,7 +15,7 @@ ghost use Rattle.cabinet.specs.Progress.{IsAt, StopsAt, Takes};
 use super::begun::{Begun, LONGEST_INPUT, LONGEST_LINE};
 use super::{Count, RunCause};
 use crate::opened::Opened;
-use archive_shape::{Error, Writer};
+use archive_shape_writing::{Error, Writer};
 use cabinet_text::{Line, LineRefusal, SetAnswer, read_line, write_bad, write_outcome};
 use std::alloc::{AllocError, Global};
 
@@ -79,7 +79,7 @@ fn answer_line<W: Writer>(
     ensures edits_within { count.new.edits ≤ count.new.lines }
     ensures not_read { IfErr result (λ cause. cause ≢ RunCause.Read) }
     ensures writer_fails { MatchResult result (λ _. W.failures writer.new ≡ W.failures writer.old) (λ cause. WriterFails W.COUNTS cause (W.failures writer.old) (W.failures writer.new)) }
-    ensures carried { IsTrue W.TELLS → (input x old left : List ℕ) (more : List (List ℕ))
+    ensures carried { IsTrue W.OBSERVABLE → (input x old left : List ℕ) (more : List (List ℕ))
         → Carried input x opened.old.bytes.now old (W.contents writer.old) count.old.lines count.old.edits
         → drop count.old.lines (lines_of input) ≡ line.now ∷ more
         → length line.now ≤ longest_line
@@ -111,7 +111,7 @@ fn end_line<W: Writer>(
     ensures total { OnOk result (begun.new.total ≡ begun.old.total + length rest.now + 1) }
     ensures not_read { IfErr result (λ cause. cause ≢ RunCause.Read) }
     ensures writer_fails { MatchResult result (λ _. W.failures writer.new ≡ W.failures writer.old) (λ cause. WriterFails W.COUNTS cause (W.failures writer.old) (W.failures writer.new)) }
-    ensures taken { IsTrue W.TELLS → newlines rest.now ≡ 0 → Takes (rest.now ++ 10 ∷ []) opened.old.bytes.now opened.new.bytes.now (W.contents writer.old) (W.contents writer.new) begun.old begun.new result }
+    ensures taken { IsTrue W.OBSERVABLE → newlines rest.now ≡ 0 → Takes (rest.now ++ 10 ∷ []) opened.old.bytes.now opened.new.bytes.now (W.contents writer.old) (W.contents writer.new) begun.old begun.new result }
 {
     if rest.len() > LONGEST_LINE - begun.line.len() {
         return Err(RunCause::LineTooLong);
@@ -156,7 +156,7 @@ fn feed<W: Writer>(
     ensures same { opened.new.bytes.ghost_name ≡ opened.old.bytes.ghost_name }
     ensures not_read { IfErr result (λ cause. cause ≢ RunCause.Read) }
     ensures writer_fails { MatchResult result (λ _. W.failures writer.new ≡ W.failures writer.old) (λ cause. WriterFails W.COUNTS cause (W.failures writer.old) (W.failures writer.new)) }
-    ensures taken { IsTrue W.TELLS → Takes piece.now opened.old.bytes.now opened.new.bytes.now (W.contents writer.old) (W.contents writer.new) begun.old begun.new result }
+    ensures taken { IsTrue W.OBSERVABLE → Takes piece.now opened.old.bytes.now opened.new.bytes.now (W.contents writer.old) (W.contents writer.new) begun.old begun.new result }
 {
     let mut rest = piece;
     while let Some(end) = newline_in(rest) {
@@ -181,7 +181,7 @@ pub(super) fn take_piece<W: Writer>(
     ensures same { opened.new.bytes.ghost_name ≡ opened.old.bytes.ghost_name }
     ensures not_read { IfErr result (λ cause. cause ≢ RunCause.Read) }
     ensures writer_fails { MatchResult result (λ _. W.failures writer.new ≡ W.failures writer.old) (λ cause. WriterFails W.COUNTS cause (W.failures writer.old) (W.failures writer.new)) }
-    ensures taken { IsTrue W.TELLS → Takes piece.now opened.old.bytes.now opened.new.bytes.now (W.contents writer.old) (W.contents writer.new) begun.old begun.new result }
+    ensures taken { IsTrue W.OBSERVABLE → Takes piece.now opened.old.bytes.now opened.new.bytes.now (W.contents writer.old) (W.contents writer.new) begun.old begun.new result }
 {
     let room = LONGEST_INPUT - begun.total;
     if piece.len() as u64 <= room {
@@ -209,7 +209,7 @@ pub(super) fn end_input<W: Writer>(
     ensures same { opened.new.bytes.ghost_name ≡ opened.old.bytes.ghost_name }
     ensures not_read { IfErr result (λ cause. cause ≢ RunCause.Read) }
     ensures writer_fails { MatchResult result (λ _. W.failures writer.new ≡ W.failures writer.old) (λ cause. WriterFails W.COUNTS cause (W.failures writer.old) (W.failures writer.new)) }
-    ensures ended { IsTrue W.TELLS → (input x old left : List ℕ) → IsAt input x opened.old.bytes.now old (W.contents writer.old) begun.old []
+    ensures ended { IsTrue W.OBSERVABLE → (input x old left : List ℕ) → IsAt input x opened.old.bytes.now old (W.contents writer.old) begun.old []
         → MatchResult result
         (λ _. Completed input x opened.new.bytes.now old (W.contents writer.new) begun.new.count.lines begun.new.count.edits)
         (StopsAt input left x opened.new.bytes.now old (W.contents writer.new) begun.new) }

@@ -111,7 +111,7 @@ fn a_refusal_of_memory_is_told(rt: HostRuntime) {
     }
 }
 
-/// A line, and then so many bytes without a newline.
+/// A line, and then n bytes without a newline.
 fn long_line(alloc: Global, first: &[u8], len: usize) -> Result<Vec<u8>, AllocError> {
     let mut input = Vec::from_slice(alloc, first)?;
     for _ in 0..len {

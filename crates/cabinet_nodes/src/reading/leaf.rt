@@ -5,11 +5,11 @@ ghost use Rattle.archive_shape_layout.specs.Bytes.{window};
 ghost use Rattle.archive_shape_layout.specs.Content.{before_ff};
 ghost use Rattle.cabinet_text.specs.Tree.{leaf, IsDocument};
 ghost use Rattle.cabinet_text.specs.View.{lent_leaf};
-ghost use Rattle.cabinet_layout.specs.Fault.{ElementFault};
+ghost use Rattle.cabinet_layout.specs.ArchiveFault.{ElementFault};
 ghost use Rattle.cabinet_layout.specs.Spelled.{IsLeafAt};
 ghost use Rattle.cabinet_nodes.specs.Reading.{IsInlineText, IsNoInlineText};
 
-use archive_shape::Error;
+use archive_shape_writing::Error;
 use cabinet_text::LeafRef;
 
 /// What stands before the first ff.

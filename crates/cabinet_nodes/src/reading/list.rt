@@ -2,13 +2,13 @@
 ghost use Rattle.std.specs.Prelude.{◌≡◌, ℕ, ◌+◌, ◌*◌, ◌^◌, ◌<◌, ◌≤◌, length, slice_index, Some, MatchOption, MatchResult, OnOk, IfErr};
 ghost use Rattle.archive_shape_layout.specs.Bytes as layout;
 ghost use Rattle.cabinet_layout.specs.Node.{elements_at, target_of_list};
-ghost use Rattle.cabinet_layout.specs.Fault.{LeavesRange, ListFault};
+ghost use Rattle.cabinet_layout.specs.ArchiveFault.{LeavesRange, ListFault};
 ghost use Rattle.cabinet_layout.specs.Spelled.{IsListAt};
 ghost use Rattle.cabinet_nodes.specs.Reading.{AreElements, IsFirstElementFault};
 
 use super::leaf::read_leaf;
 use super::node::NODE_SIZE;
-use archive_shape::Error;
+use archive_shape_writing::Error;
 
 /// The alignment of a node in bytes.
 const NODE_ALIGN: usize = 8;

@@ -3,12 +3,12 @@ ghost use Rattle.std.specs.Prelude.{◌≡◌, ℕ, ◌+◌, ◌≤◌, length, 
 ghost use Rattle.cabinet_text.specs.Tree.{Tree};
 ghost use Rattle.cabinet_layout.specs.Node as layout;
 ghost use Rattle.cabinet_layout.specs.Denotes.{Accepted};
-ghost use Rattle.cabinet_layout.specs.Fault.{Fault, NodeFault};
+ghost use Rattle.cabinet_layout.specs.ArchiveFault.{ArchiveFault, NodeFault};
 ghost use Rattle.cabinet_nodes.specs.Reading.{IsReadAt};
 
 use super::leaf::read_leaf;
 use super::list::{Elements, check_elements, read_elements};
-use archive_shape::Error;
+use archive_shape_writing::Error;
 use cabinet_text::LeafRef;
 
 /// The size of a node in bytes.
@@ -52,7 +52,7 @@ pub(super) fn read_node(bytes: &[u8], pos: usize) -> Result<NodeRef<'_>, Error>
 
 /// Whether bytes are the archive of a document; if not, their first fault.
 pub fn check_root(bytes: &[u8]) -> Result<(), Error>
-    ensures { MatchResult result (λ _. (t : Tree) × Accepted bytes.now t) (Fault bytes.now) }
+    ensures { MatchResult result (λ _. (t : Tree) × Accepted bytes.now t) (ArchiveFault bytes.now) }
 {
     if bytes.len() < NODE_SIZE {
         return Err(Error::InvalidSubtreePointer { size: NODE_SIZE });

@@ -1,4 +1,4 @@
-use Rattle.archive_shape_checking.proofs.AskedRegions.{accepted_answered_law}
+use Rattle.archive_shape_checking.proofs.QuestionedRegions.{accepted_answered_law}
 use Rattle.archive_shape_checking.proofs.laws.accepted_is_answered.Goals as goal
 
 pub returns : goal.returns

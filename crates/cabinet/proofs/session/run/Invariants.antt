@@ -8,7 +8,7 @@ invariant-loop-len g l = record {
   same : l.opened.bytes.ghost_name ≡ l.fn.opened.bytes.ghost_name;
   reader_quiet : g.R.Source.failures l.reader ≡ g.R.Source.failures l.fn.reader;
   writer_quiet : g.W.Writer.failures l.writer ≡ g.W.Writer.failures l.fn.writer;
-  progress : IsTrue g.R.Source.TELLS → IsTrue g.W.Writer.TELLS → IsAt (g.R.Source.left l.fn.reader) l.fn.opened.bytes.now l.opened.bytes.now (g.W.Writer.contents l.fn.writer) (g.W.Writer.contents l.writer) l.begun (g.R.Source.left l.reader);
+  progress : IsTrue g.R.Source.OBSERVABLE → IsTrue g.W.Writer.OBSERVABLE → IsAt (g.R.Source.left l.fn.reader) l.fn.opened.bytes.now l.opened.bytes.now (g.W.Writer.contents l.fn.writer) (g.W.Writer.contents l.writer) l.begun (g.R.Source.left l.reader);
 }
 
 abbrev pub decreases-loop-len : goal.decreases-loop-len

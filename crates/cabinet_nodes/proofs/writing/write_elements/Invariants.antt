@@ -1,5 +1,5 @@
 use Rattle.std.proofs.Common.{take, flat_map}
-use Rattle.archive_shape.specs.Writing.{Written}
+use Rattle.archive_shape_writing.specs.Writing.{Written}
 use Rattle.cabinet_nodes.proofs.ElementBytes.{bytes_of}
 use Rattle.cabinet_nodes.proofs.writing.write_elements.Given as goal
 
@@ -7,4 +7,4 @@ use Rattle.cabinet_nodes.proofs.writing.write_elements.Given as goal
 abbrev pub invariant-loop-node : goal.invariant-loop-node
 invariant-loop-node g l =
     let w = g.W.Writer in
-    Written w.TELLS w.COUNTS w.contents g.W.Positional.pos w.failures l.fn.writer l.writer (flat_map bytes_of (take l.node-index l.nodes))
+    Written w.OBSERVABLE w.COUNTS w.contents g.W.Positional.pos w.failures w.last_error l.fn.writer l.writer (flat_map bytes_of (take l.node-index l.nodes))

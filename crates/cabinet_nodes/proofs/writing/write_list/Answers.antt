@@ -1,4 +1,4 @@
-use Rattle.archive_shape.proofs.Joined.{appends_after}
+use Rattle.archive_shape_writing.proofs.Joined.{appends_after}
 use Rattle.cabinet_nodes.proofs.ElementBytes.{count_is}
 use Rattle.cabinet_nodes.proofs.writing.write_list.Goals as goal
 

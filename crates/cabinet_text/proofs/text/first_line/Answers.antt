@@ -1,6 +1,6 @@
 use Rattle.std.proofs.Common.{◌+◌, ◌-◌, ◌≤◌, ◌∷◌, length, take, drop, ap, ◌∙◌, sym, arith, true, length-drop}
 use Rattle.std.proofs.lemmas.List.{take_all}
-use Rattle.cabinet_text.specs.Fault.{pieces_of}
+use Rattle.cabinet_text.specs.FirstFault.{pieces_of}
 use Rattle.cabinet_text.proofs.Pieces.{pieces_cut_at, pieces_not_cut}
 use Rattle.cabinet_text.proofs.text.first_line.Goals as goal
 

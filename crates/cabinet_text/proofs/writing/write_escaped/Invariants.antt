@@ -1,5 +1,5 @@
 use Rattle.std.proofs.Common.{◌≤◌, take}
-use Rattle.archive_shape.specs.Writing.{Written}
+use Rattle.archive_shape_writing.specs.Writing.{Written}
 use Rattle.cabinet_text.specs.Spelling.{escaped}
 use Rattle.cabinet_text.proofs.Runs.{IsRun}
 use Rattle.cabinet_text.proofs.writing.write_escaped.Given as goal
@@ -10,6 +10,6 @@ invariant-loop-end g l =
     let w = g.W.Writer in
     record {
       below : l.start ≤ l.end;
-      written : Written w.TELLS w.COUNTS w.contents g.W.Positional.pos w.failures l.fn.writer l.writer (escaped (take l.start l.text));
+      written : Written w.OBSERVABLE w.COUNTS w.contents g.W.Positional.pos w.failures w.last_error l.fn.writer l.writer (escaped (take l.start l.text));
       is_run : IsRun l.text l.start l.end;
     }

@@ -1,7 +1,7 @@
 use Rattle.std.proofs.Common.{◌++◌}
 use Rattle.std.specs.Prelude.{codes}
 use Rattle.std.proofs.lemmas.Result.{err_from_is_err_and}
-use Rattle.archive_shape.proofs.Joined.{appends_after, failed_first}
+use Rattle.archive_shape_writing.proofs.Joined.{appends_after, failed_first}
 use Rattle.cabinet_text.specs.Spelling.{escaped}
 use Rattle.cabinet_text.proofs.writing.write_text_line.Goals as goal
 

@@ -2,7 +2,7 @@ use Rattle.std.proofs.Common.{refl}
 use Rattle.std.specs.Prelude.{option_map}
 use Rattle.cabinet_text.specs.View.{line_of}
 use Rattle.cabinet.specs.Steps.{memory_refused, write_failed}
-use Rattle.cabinet.proofs.Sessions.{step, torn}
+use Rattle.cabinet.proofs.Sessions.{step, carried_cut}
 use Rattle.cabinet.proofs.session.carrying.answer_line.Goals as goal
 
 pub returns-in_default-clause-carried : goal.returns-in_default-clause-carried
@@ -17,4 +17,4 @@ pub returns-clause-carried : goal.returns-clause-carried
 returns-clause-carried g c = λ w input x old left more p n s.
     let e = c.in-Err.ensures in
     write_failed refl
-    (torn input x _ _ old _ _ _ _ _ c.args.line.now more (option_map line_of c.in-Ok.said) p n s c.in-Ok.ensures e.edited e.edits_counted (λ t a. (e.written t a).is_cut w))
+    (carried_cut input x _ _ old _ _ _ _ _ c.args.line.now more (option_map line_of c.in-Ok.said) p n s c.in-Ok.ensures e.edited e.edits_counted (λ t a. (e.written t a).is_cut w))

@@ -9,7 +9,7 @@ invariant-loop-end g l = record {
   quiet : g.W.Writer.failures l.writer ≡ g.W.Writer.failures l.fn.writer;
   within : l.begun.total + length l.rest ≤ 4294967295;
   total : l.begun.total + length l.rest ≡ l.fn.begun.total + length l.piece;
-  taken : IsTrue g.W.Writer.TELLS → (input x old more : List ℕ)
+  taken : IsTrue g.W.Writer.OBSERVABLE → (input x old more : List ℕ)
       → IsAt input x l.fn.opened.bytes.now old (g.W.Writer.contents l.fn.writer) l.fn.begun (l.piece ++ more)
       → IsAt input x l.opened.bytes.now old (g.W.Writer.contents l.writer) l.begun (l.rest ++ more);
 }

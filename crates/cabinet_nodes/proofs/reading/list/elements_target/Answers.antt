@@ -3,7 +3,7 @@ use Rattle.std.specs.Option.{SomeIff}
 use Rattle.std.specs.Prelude.{List, MatchOption}
 use Rattle.archive_shape_layout.specs.Bytes.{word_at}
 use Rattle.cabinet_layout.specs.Node.{target_of_list}
-use Rattle.cabinet_layout.specs.Fault.{LeavesRange}
+use Rattle.cabinet_layout.specs.ArchiveFault.{LeavesRange}
 use Rattle.cabinet_nodes.proofs.Targets.{leads_on, leads_back, leads_before}
 use Rattle.cabinet_nodes.proofs.reading.list.elements_target.Goals as goal
 

@@ -1,11 +1,11 @@
 use Rattle.std.proofs.Common.{◌≡◌, ◌+◌, ◌*◌, ◌<◌, ◌≤◌, ◌^◌, ℕ, List, Ok, Err, length, subst, sym, arith}
 use Rattle.std.specs.Prelude.{Result, MatchResult, OnOk, IfErr}
-use Rattle.archive_shape_checking.specs.declared.error.Error.{Error}
+use Rattle.archive_shape_writing.specs.declared.error.Error.{Error}
 use Rattle.cabinet_text.specs.Tree.{Tree, leaf, list, IsDocument}
 use Rattle.cabinet_text.specs.View.{lent_leaf}
 use Rattle.cabinet_layout.specs.Node.{root_position, target_of_list, len_of_list, elements_at}
 use Rattle.cabinet_layout.specs.Denotes.{Accepted}
-use Rattle.cabinet_layout.specs.Fault.{LeavesRange, ElementFault, in_an_element, NodeFault, in_the_list, Fault, in_the_root}
+use Rattle.cabinet_layout.specs.ArchiveFault.{LeavesRange, ElementFault, in_an_element, NodeFault, in_the_list, ArchiveFault, in_the_root}
 use Rattle.cabinet_layout.specs.Spelled.{IsListAt, IsNodeAt, AreNodesAt}
 use Rattle.cabinet_layout.proofs.Making.{tree_accepted}
 use Rattle.cabinet_nodes.specs.Reading.{AreElements, IsFirstElementFault}
@@ -16,7 +16,7 @@ module _ (bytes : List ℕ) (pos : ℕ) (room : 24 ≤ length bytes) (at_root : 
   accepted t i d =
       (t, tree_accepted bytes t (record { room = room; at_root = subst (λ p. IsNodeAt bytes p t) at_root i; document = d }))
 
-  refused : (e : Error) → NodeFault bytes pos e → Fault bytes e
+  refused : (e : Error) → NodeFault bytes pos e → ArchiveFault bytes e
   refused e f = in_the_root room (subst (λ p. NodeFault bytes p e) at_root f)
 
   module _ (start len : ℕ) (l : IsListAt bytes pos len) (s : start ≡ elements_at bytes pos) where
@@ -31,7 +31,7 @@ module _ (bytes : List ℕ) (pos : ℕ) (room : 24 ≤ length bytes) (at_root : 
         let past = subst (λ o. LeavesRange o (24 * len_of_list bytes pos) pos) l.pointer r in
         omega (arith, l.length, l.before)
 
-    element_refused : (e : Error) → IsFirstElementFault bytes start len e → Fault bytes e
+    element_refused : (e : Error) → IsFirstElementFault bytes start len e → ArchiveFault bytes e
     element_refused e f =
         refused e
         (in_the_list l.tag
@@ -40,7 +40,7 @@ module _ (bytes : List ℕ) (pos : ℕ) (room : 24 ≤ length bytes) (at_root : 
         (subst (λ p. ElementFault bytes (p + 24 * f.index) e) s f.fault)))
 
     list_checked : {A : Type 0} (r : Result A Error) → len < 2 ^ 64 → OnOk r (AreElements bytes start len) → IfErr r (IsFirstElementFault bytes start len)
-        → MatchResult r (λ _. (t : Tree) × Accepted bytes t) (Fault bytes)
+        → MatchResult r (λ _. (t : Tree) × Accepted bytes t) (ArchiveFault bytes)
     list_checked (Ok u) fits e f = list_accepted fits e
     list_checked (Err d) fits e f = element_refused d f
 

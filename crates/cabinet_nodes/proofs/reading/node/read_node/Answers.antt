@@ -1,4 +1,4 @@
-use Rattle.cabinet_layout.specs.Fault.{in_the_list}
+use Rattle.cabinet_layout.specs.ArchiveFault.{in_the_list}
 use Rattle.cabinet_nodes.proofs.reading.node.read_node.Goals as goal
 
 pub returns-in-Err : goal.returns-in-Err

@@ -1,7 +1,7 @@
 use Rattle.std.proofs.Common.{ℕ, ◌<◌, List, length, ap, ◌∙◌, true, arith}
 use Rattle.std.proofs.Math.ListN.{set}
-use Rattle.archive_shape_layout.specs.Denotes.{pointee_of}
-use Rattle.archive_shape_checking.specs.Fault.{Entry}
+use Rattle.archive_shape_layout.specs.RuntimeShape.{pointee_of}
+use Rattle.archive_shape_checking.specs.PartFault.{Entry}
 use Rattle.archive_shape_checking.specs.Kept.{Kept, Seen}
 use Rattle.archive_shape_checking.specs.declared.context.PushedRange.{PushedRange}
 use Rattle.archive_shape_checking.specs.declared.tests.list_context.Met.{Met}

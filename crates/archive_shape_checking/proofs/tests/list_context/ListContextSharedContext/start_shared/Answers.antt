@@ -1,7 +1,7 @@
 use Rattle.std.proofs.Common.{◌≡◌, ℕ, List, false, true, ap, ◌∙◌, refl, arith}
-use Rattle.archive_shape_layout.specs.Denotes.{pointee_of}
-use Rattle.archive_shape_checking.specs.Fault.{Entry}
-use Rattle.archive_shape_checking.specs.Fault.Differs.{other_shape, other_length}
+use Rattle.archive_shape_layout.specs.RuntimeShape.{pointee_of}
+use Rattle.archive_shape_checking.specs.PartFault.{Entry}
+use Rattle.archive_shape_checking.specs.PartFault.Differs.{other_shape, other_length}
 use Rattle.archive_shape_checking.specs.Kept.{Kept, Seen}
 use Rattle.archive_shape_checking.specs.declared.context.PushedRange.{PushedRange}
 use Rattle.archive_shape_checking.specs.declared.tests.list_context.Met.{Met}

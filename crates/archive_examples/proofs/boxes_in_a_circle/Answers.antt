@@ -1,5 +1,0 @@
-use Rattle.archive_examples.proofs.Boxes.{boxes_in_a_circle}
-use Rattle.archive_examples.proofs.boxes_in_a_circle.Goals as goal
-
-pub returns : goal.returns
-returns c = boxes_in_a_circle

@@ -1,5 +1,0 @@
-use Rattle.archive_examples.proofs.Documents.{empty_kept_map}
-use Rattle.archive_examples.proofs.empty_kept_map.Goals as goal
-
-pub returns : goal.returns
-returns c = empty_kept_map

@@ -1,5 +1,0 @@
-use Rattle.archive_examples.proofs.Documents.{empty_list}
-use Rattle.archive_examples.proofs.empty_list.Goals as goal
-
-pub returns : goal.returns
-returns c = empty_list

@@ -1,5 +1,0 @@
-use Rattle.archive_examples.proofs.Documents.{empty_shared_text_twice}
-use Rattle.archive_examples.proofs.empty_shared_text_twice.Goals as goal
-
-pub returns : goal.returns
-returns c = empty_shared_text_twice

@@ -1,5 +1,0 @@
-use Rattle.archive_examples.proofs.Documents.{hashed_map_of_one}
-use Rattle.archive_examples.proofs.hashed_map_of_one.Goals as goal
-
-pub returns : goal.returns
-returns c = hashed_map_of_one

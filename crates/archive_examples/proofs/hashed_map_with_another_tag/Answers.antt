@@ -1,5 +1,0 @@
-use Rattle.archive_examples.proofs.Doubtful.{hashed_map_with_another_tag}
-use Rattle.archive_examples.proofs.hashed_map_with_another_tag.Goals as goal
-
-pub returns : goal.returns
-returns c = hashed_map_with_another_tag

@@ -1,5 +1,0 @@
-use Rattle.archive_examples.proofs.Documents.{long_text_at_the_root}
-use Rattle.archive_examples.proofs.long_text_at_the_root.Goals as goal
-
-pub returns : goal.returns
-returns c = long_text_at_the_root

@@ -1,5 +1,0 @@
-use Rattle.archive_examples.proofs.Documents.{number_at_the_root}
-use Rattle.archive_examples.proofs.number_at_the_root.Goals as goal
-
-pub returns : goal.returns
-returns c = number_at_the_root

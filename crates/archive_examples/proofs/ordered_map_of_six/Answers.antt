@@ -1,5 +1,0 @@
-use Rattle.archive_examples.proofs.Documents.{ordered_map_of_six}
-use Rattle.archive_examples.proofs.ordered_map_of_six.Goals as goal
-
-pub returns : goal.returns
-returns c = ordered_map_of_six

@@ -1,5 +1,0 @@
-use Rattle.archive_examples.proofs.Documents.{ordered_map_of_two}
-use Rattle.archive_examples.proofs.ordered_map_of_two.Goals as goal
-
-pub returns : goal.returns
-returns c = ordered_map_of_two

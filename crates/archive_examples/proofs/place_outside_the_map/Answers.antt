@@ -1,5 +1,0 @@
-use Rattle.archive_examples.proofs.Refused.{place_outside_the_map}
-use Rattle.archive_examples.proofs.place_outside_the_map.Goals as goal
-
-pub returns : goal.returns
-returns c = place_outside_the_map

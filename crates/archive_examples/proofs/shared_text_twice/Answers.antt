@@ -1,5 +1,0 @@
-use Rattle.archive_examples.proofs.Documents.{shared_text_twice}
-use Rattle.archive_examples.proofs.shared_text_twice.Goals as goal
-
-pub returns : goal.returns
-returns c = shared_text_twice

@@ -1,5 +1,0 @@
-use Rattle.archive_examples.proofs.Documents.{some_number}
-use Rattle.archive_examples.proofs.some_number.Goals as goal
-
-pub returns : goal.returns
-returns c = some_number

@@ -1,5 +1,0 @@
-use Rattle.archive_examples.proofs.Refused.{surrogate_char}
-use Rattle.archive_examples.proofs.surrogate_char.Goals as goal
-
-pub returns : goal.returns
-returns c = surrogate_char

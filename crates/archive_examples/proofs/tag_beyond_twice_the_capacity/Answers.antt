@@ -1,5 +1,0 @@
-use Rattle.archive_examples.proofs.Refused.{tag_beyond_twice_the_capacity}
-use Rattle.archive_examples.proofs.tag_beyond_twice_the_capacity.Goals as goal
-
-pub returns : goal.returns
-returns c = tag_beyond_twice_the_capacity

@@ -1,5 +1,0 @@
-use Rattle.archive_examples.proofs.Images.{true_image}
-use Rattle.archive_examples.proofs.true_image.Goals as goal
-
-pub returns : goal.returns
-returns c = true_image

@@ -1,5 +1,0 @@
-use Rattle.archive_examples.proofs.Refused.{truth_value_of_two}
-use Rattle.archive_examples.proofs.truth_value_of_two.Goals as goal
-
-pub returns : goal.returns
-returns c = truth_value_of_two

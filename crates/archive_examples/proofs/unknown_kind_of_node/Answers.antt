@@ -1,5 +1,0 @@
-use Rattle.archive_examples.proofs.Refused.{unknown_kind_of_node}
-use Rattle.archive_examples.proofs.unknown_kind_of_node.Goals as goal
-
-pub returns : goal.returns
-returns c = unknown_kind_of_node

@@ -1,5 +1,0 @@
-use Rattle.archive_examples.proofs.Refused.{unknown_tag}
-use Rattle.archive_examples.proofs.unknown_tag.Goals as goal
-
-pub returns : goal.returns
-returns c = unknown_tag

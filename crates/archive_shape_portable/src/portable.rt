@@ -1,0 +1,68 @@
+//! Types with a layout.
+ghost use Rattle.std.specs.Prelude.{◌≡◌, ℕ, ◌-◌, ◌^◌, ◌<◌, ◌≤◌, min, IfOk, ⊤};
+ghost use Rattle.std.proofs.Common.{arith};
+ghost use Rattle.archive_shape_layout.specs.Shape.{Shape as Layout, size_of, align_of};
+ghost use Rattle.archive_shape_layout.specs.Content.{Names};
+ghost use Rattle.archive_shape_layout.specs.RuntimeShape.{layout_of};
+
+use crate::{LittleEndian, Shape};
+use archive_shape_native::Native;
+use std::alloc::{AllocError, Global};
+
+/// A type of archived values. Sizes stop at `usize::MAX`, which no buffer has.
+pub trait Portable {
+    ghost SIZE: { ℕ };
+
+    ghost ALIGN: { ℕ };
+
+    ghost shape: { Layout };
+
+    /// Which lists of named types the layout is read under. A type that holds itself asks that the list has its shape
+    /// under its name.
+    ghost knows: { Names → Type 0 };
+
+    /// How many bytes a value has.
+    const SIZE: usize;
+
+    /// What the position of a value is a multiple of.
+    const ALIGN: usize;
+
+    /// The type's layout.
+    fn shape(alloc: Global) -> Result<Shape, AllocError>
+        ensures { IfOk result (λ s. layout_of s ≡ shape) };
+
+    ghost sized: { SIZE ≡ min (size_of shape) (2 ^ 64 - 1) };
+
+    ghost aligned: { ALIGN ≡ align_of shape };
+
+    ghost aligns: { (0 < ALIGN) × (ALIGN ≤ 32) };
+}
+
+/// A type whose values have no bytes that are left open.
+pub trait NoUndef {}
+
+impl<N: Native> NoUndef for LittleEndian<N> {}
+
+impl<N: Native> Portable for LittleEndian<N> {
+    ghost SIZE = { N.WIDTH };
+
+    ghost ALIGN = { N.WIDTH };
+
+    ghost shape = { N.shape };
+
+    ghost knows = { λ _. ⊤ };
+
+    const SIZE: usize = N::WIDTH;
+
+    const ALIGN: usize = N::WIDTH;
+
+    fn shape(_alloc: Global) -> Result<Shape, AllocError> {
+        Ok(N::shape())
+    }
+
+    ghost sized = { Prim.omega (arith, N.sized, N.aligns.1) };
+
+    ghost aligned = { N.aligned };
+
+    ghost aligns = { N.aligns };
+}

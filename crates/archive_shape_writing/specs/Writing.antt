@@ -1,0 +1,39 @@
+-- What a call that writes does to its writer, of which clauses give: whether its contents are observable, whether it
+-- counts its failures, its contents, its position, how many of its writes failed, and the error of the last that did. Of
+-- contents that are not observable, as those of a file, nothing is said.
+use Rattle.std.specs.Prelude.{◌≡◌, ℕ, ◌+◌, Bool, List, ◌++◌, length, IsTrue, MatchBool, Result, MatchResult}
+use Rattle.archive_shape_writing.specs.declared.error.Error.{Error}
+use Rattle.archive_shape_writing.specs.declared.error.Error.TheVariants.{OutOfMemory}
+
+-- a prefix of the piece was written
+pub record Cut (old new piece : List ℕ) : Type 0 where
+  pub written : List ℕ
+  pub lost : List ℕ
+  pub new_is : new ≡ old ++ written
+  pub piece_is : piece ≡ written ++ lost
+
+-- a writer that counts its failures has one more, and one that does not fails for want of memory
+abbrev pub IsCounted : Bool → ℕ → ℕ → Error → Type 0
+IsCounted counts old new e = MatchBool counts (new ≡ old + 1) ((new ≡ old) × (e ≡ OutOfMemory))
+
+module _ {W : Type 0} (observable counts : Bool) (contents : W → List ℕ) (pos failures : W → ℕ) (last_error : W → Error) where
+  -- the whole piece was written
+  pub record Written (old new : W) (piece : List ℕ) : Type 0 where
+    pub gains : IsTrue observable → contents new ≡ contents old ++ piece
+    pub moves : pos new ≡ pos old + length piece
+    pub is_quiet : failures new ≡ failures old
+
+  -- the writer failed in the piece, by an error that is its last one
+  pub record Failed (old new : W) (piece : List ℕ) (e : Error) : Type 0 where
+    pub is_cut : IsTrue observable → Cut (contents old) (contents new) piece
+    pub is_counted : IsCounted counts (failures old) (failures new) e
+    pub is_last : last_error new ≡ e
+
+  -- what a call that writes the piece promises
+  abbrev pub Appends : {A : Type 0} → W → W → List ℕ → Result A Error → Type 0
+  Appends old new piece result = MatchResult result (λ _. Written old new piece) (Failed old new piece)
+
+-- the same of a writer under a bound `Writer`, whose members are given as one record
+abbrev pub Writes : {W A : Type 0} → record { pos : W → ℕ; OBSERVABLE : Bool; COUNTS : Bool; contents : W → List ℕ; failures : W → ℕ; last_error : W → Error }
+    → W → W → List ℕ → Result A Error → Type 0
+Writes w old new piece result = Appends w.OBSERVABLE w.COUNTS w.contents w.pos w.failures w.last_error old new piece result

@@ -1,0 +1,108 @@
+//! What bytes are written to.
+ghost use Rattle.std.specs.Prelude.{◌≡◌, ℕ, ◌-◌, ◌^◌, ◌<◌, List, Bool, true, false, vec_len};
+ghost use Rattle.archive_shape_writing.specs.Writing.{Appends};
+ghost use Rattle.archive_shape_writing.specs.declared.error.Error.{Error};
+ghost use Rattle.archive_shape_writing.specs.declared.error.Error.TheVariants.{OutOfMemory};
+
+use crate::Error;
+
+/// What has a position in the bytes that it writes.
+pub trait Positional {
+    ghost pos: { Self → ℕ };
+
+    /// The number of bytes before the next one.
+    fn pos(&self) -> usize
+        ensures { result ≡ pos self.now };
+}
+
+/// What bytes are appended to.
+pub trait Writer: Positional {
+    /// Whether contracts can name what the writer holds. Where they cannot, as of a file, `contents` says nothing.
+    ghost OBSERVABLE: { Bool };
+
+    /// Whether the writer keeps a count of its failures.
+    ghost COUNTS: { Bool };
+
+    /// All bytes that were written.
+    ghost contents: { Self → List ℕ };
+
+    /// How many writes failed.
+    ghost failures: { Self → ℕ };
+
+    /// The error of the last write that failed.
+    ghost last_error: { Self → Error };
+
+    /// Whether the writer keeps a count of its failures. One that can't fails for want of memory only.
+    fn counts() -> bool
+        ensures { result ≡ COUNTS };
+
+    /// Appends the bytes.
+    fn write(&mut self, bytes: &[u8]) -> Result<(), Error>
+        requires { failures self.old < 2 ^ 64 - 1 }
+        ensures { Appends OBSERVABLE COUNTS contents Self.pos failures last_error self.old self.new bytes.now result };
+}
+
+impl Positional for Vec<u8> {
+    ghost pos = { vec_len };
+
+    fn pos(&self) -> usize {
+        self.len()
+    }
+}
+
+impl Writer for Vec<u8> {
+    ghost OBSERVABLE = { true };
+
+    ghost COUNTS = { false };
+
+    ghost contents = { λ v. v.items };
+
+    ghost failures = { λ _. 0 };
+
+    ghost last_error = { λ _. OutOfMemory };
+
+    fn counts() -> bool {
+        false
+    }
+
+    fn write(&mut self, bytes: &[u8]) -> Result<(), Error> {
+        self.extend_from_slice(bytes)?;
+        Ok(())
+    }
+}
+
+impl<T: Positional> Positional for &T {
+    ghost pos = { λ r. T.pos r.now };
+
+    fn pos(&self) -> usize {
+        T::pos(*self)
+    }
+}
+
+impl<T: Positional> Positional for &mut T {
+    ghost pos = { λ r. T.pos r.now };
+
+    fn pos(&self) -> usize {
+        (**self).pos()
+    }
+}
+
+impl<T: Writer> Writer for &mut T {
+    ghost OBSERVABLE = { T.OBSERVABLE };
+
+    ghost COUNTS = { T.COUNTS };
+
+    ghost contents = { λ r. T.contents r.now };
+
+    ghost failures = { λ r. T.failures r.now };
+
+    ghost last_error = { λ r. T.last_error r.now };
+
+    fn counts() -> bool {
+        T::counts()
+    }
+
+    fn write(&mut self, bytes: &[u8]) -> Result<(), Error> {
+        (**self).write(bytes)
+    }
+}

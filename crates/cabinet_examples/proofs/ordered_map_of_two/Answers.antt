@@ -1,0 +1,5 @@
+use Rattle.cabinet_examples.proofs.Documents.{ordered_map_of_two}
+use Rattle.cabinet_examples.proofs.ordered_map_of_two.Goals as goal
+
+pub returns : goal.returns
+returns c = ordered_map_of_two
