@@ -1,18 +1,30 @@
 #!/usr/bin/env bash
-# Proves every crate and runs every test: the toolchain's merge gate, and then the program on files.
+# Proves every crate and runs every test: the toolchain's merge gate, and then the program on files. The last line says
+# how many processor minutes that took.
 set -u
 cd "$(dirname "$0")" || exit 1
+log=$(mktemp)
+trap 'rm -f "$log"' EXIT
+
+# Says a line, and the processor minutes that this script's commands have taken so far.
+say() {
+    # in this shell, since a pipe's shell would tell of itself
+    times > "$log"
+    awk -v line="$1" -F '[ms ]+' 'NR == 2 { printf "%s; %.1f processor minutes\n", line, $1 + $3 + ($2 + $4) / 60 }' "$log"
+}
 
 echo '== the merge gate'
-log=$(mktemp)
 rt ci < /dev/null | tee "$log"
 status=${PIPESTATUS[0]}
-said=$(tail -n 1 "$log")
-rm -f "$log"
-if [ "$status" -ne 0 ] || ! [[ $said =~ ^[0-9]+\ passed,\ 0\ failed$ ]]; then
-    echo 'the merge gate failed'
+if [ "$status" -ne 0 ] || ! [[ $(tail -n 1 "$log") =~ ^[0-9]+\ passed,\ 0\ failed$ ]]; then
+    say 'the merge gate failed'
     exit 1
 fi
+say 'the merge gate passed'
 
 echo '== the program on files'
-exec tests/program.sh
+if ! tests/program.sh; then
+    say 'the program failed'
+    exit 1
+fi
+say 'all passed'
