@@ -4,19 +4,19 @@ ghost use Rattle.archive_shape_portable.specs.Naming.{IsConsistent};
 
 use crate::Portable;
 
-/// Where a number, char or truth value stands, its own bytes say which: the layout has there what they spell and nothing
-/// else. With what `read` ensures, that is the native value.
+/// Where own bytes stand for a number, char or truth value, the layout has that value there, and nothing else. With what
+/// `read` ensures, that is the native value.
 pub fn leaf_is_read()
     ensures { LeafIsRead }
 {}
 
-/// Where the layout has a number, char or truth value, its own bytes say which. With `leaf_is_read`, it has just what they
-/// spell.
+/// Where the layout has a number, char or truth value, the own bytes there stand for it. With `leaf_is_read`, it has just
+/// the values that own bytes stand for.
 pub fn held_leaf_is_read()
     ensures { HeldLeafIsRead }
 {}
 
-/// Own bytes are legal just where some value has them. With `legal_by_shape` of a type, its `is_legal` leaves out none.
+/// Own bytes are legal just where some value has them. With `legal_by_shape`, so are those that `is_legal` says are.
 pub fn legal_is_readable()
     ensures { LegalIsReadable }
 {}

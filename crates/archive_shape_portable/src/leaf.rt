@@ -11,7 +11,7 @@ pub trait ArchivedLeaf: Portable {
     /// What is read from the own bytes, and stored as them.
     type Native: Copy;
 
-    /// The bytes that spell the native value.
+    /// The own bytes of the native value.
     ghost bytes_of: { Self.Native → List ℕ };
 
     /// What the layout has for the native value.
@@ -20,20 +20,20 @@ pub trait ArchivedLeaf: Portable {
     /// Whether bytes are the own bytes of a value of this type.
     ghost is_legal: { List ℕ → Type 0 };
 
-    /// Whether the own bytes spell a value of this type.
+    /// Whether the own bytes are those of a value of this type.
     fn accepts(own: &[u8]) -> bool
         requires { length own.now ≡ Self.SIZE }
         ensures legal { IsTrue result → is_legal own.now }
         ensures illegal { IsFalse result → IsIllegal Self.shape own.now };
 
-    /// The native value that the own bytes spell.
+    /// The native value that has these own bytes.
     fn read(own: &[u8]) -> Self::Native
         requires width { length own.now ≡ Self.SIZE }
         requires legal { is_legal own.now }
         ensures bytes { bytes_of result ≡ own.now }
         ensures value { Reads Self.shape own.now (value_of result) };
 
-    /// Writes the bytes that spell the native value.
+    /// Writes the own bytes of the native value.
     fn store(native: Self::Native, out: &mut [u8])
         requires { length out.old ≡ Self.SIZE }
         ensures bytes { out.new ≡ bytes_of native }
