@@ -24,7 +24,7 @@ use Rattle.archive_shape_layout.proofs.Unique.{one_value_law}
 use Rattle.archive_shape_native.specs.Numbers.{Reads, IsIllegal, LeafIsRead, IllegalIsRefused, truth_bytes}
 use Rattle.archive_shape_native.proofs.Spelling.{from_le_bytes-to_le_bytes, signed-from_le_bytes, to_le_bytes-from_le_bytes, signed-to_le_bytes}
 
--- bytes stand for the signed number that they spell
+-- bytes stand for the signed number that is read from them
 pub signed_reads : (w : Width) (own : List ℕ) (z : ℤ) → z ≡ cast_signed w (from_le_bytes w own) → Reads (number w true) own (integer z)
 unfolding shape_content number_value
 signed_reads w own z e names pos = ap (λ (x : ℤ). plain (leaf (integer x)) []) (sym e)
@@ -71,7 +71,7 @@ truth_reads own true e names pos = subst (λ (bs : List ℕ). shape_content name
 pub byte_reads : (own : List ℕ) (b : ℕ) → b ∷ [] ≡ own → Reads (number w8 false) own (natural b)
 byte_reads own b e = unsigned_reads w8 own b (ap (λ (bs : List ℕ). from_le_bytes w8 bs) e)
 
--- the number that bytes spell is spelled by them
+-- the number that is read from bytes has those bytes
 pub unsigned_spells : (w : Width) (own : List ℕ) (n : ℕ) → n ≡ from_le_bytes w own → length own ≡ byte_len w → ((i : ℕ) → get_or own i 0 < 256) → to_le_bytes w n ≡ own
 unsigned_spells w own n e l small = ap (λ (m : ℕ). to_le_bytes w m) e ∙ to_le_bytes-from_le_bytes w own l small
 
@@ -150,7 +150,7 @@ char_content own n b reads e names pos =
     ap (λ (m : ℕ). choose (is_scalar m) (plain (leaf (natural m)) []) illegal) (read_number w32 own n reads)
     ∙ ap (λ (c : Bool). choose c (plain (leaf (natural n)) []) illegal) (scalar_same n ∙ e)
 
--- bytes that spell the code of a char stand for it
+-- the bytes of a char's code stand for it
 pub char_reads : (own : List ℕ) (n m : ℕ) → Reads (number w32 false) own (natural n) → n ≡ m → IsScalar m → Reads character own (natural m)
 unfolding choose
 char_reads own n m reads e scalar names pos =
@@ -167,13 +167,13 @@ denied : (b : Bool) → (b ≡ true → ⊥) → b ≡ false
 denied true deny = absurd (deny refl)
 denied false deny = refl
 
--- bytes that spell no such code are not legal there
+-- the bytes of no such code are not legal there
 pub char_illegal : (own : List ℕ) (n : ℕ) (found : Option ℕ) → Reads (number w32 false) own (natural n) → SomeIff found (IsScalar n) n → is_some found ≡ false → IsIllegal character own
 unfolding choose
 char_illegal own n None reads value test names pos = char_content own n false reads (denied (scalar n) value) names pos
 char_illegal own n (Some m) reads value test names pos = let differ : true ≡ false = test in cc
 
--- the bytes are legal just where they spell such a code
+-- the bytes are legal just where they are those of such a code
 pub char_is_legal : (own : List ℕ) (n : ℕ) (found : Option ℕ) → Reads (number w32 false) own (natural n) → SomeIff found (IsScalar n) n → is_some found ≡ true → IsTrue (is_scalar (word_at own 0))
 char_is_legal own n None reads value test = let differ : false ≡ true = test in cc
 char_is_legal own n (Some m) reads value test = word_scalar own n reads ∙ value.0

@@ -1,4 +1,4 @@
-//! The native numbers and chars that archives have a form of, and the bytes that spell them.
+//! The native numbers and chars that archives have a form of, and their bytes.
 #![tactic(auto)]
 
 mod character;

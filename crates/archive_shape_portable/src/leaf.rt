@@ -1,7 +1,7 @@
 //! Archived values without parts.
-ghost use Rattle.std.specs.Prelude.{◌≡◌, ℕ, List, length, IsTrue, IsFalse};
+ghost use Rattle.std.specs.Prelude.{◌≡◌, ℕ, ◌↔◌, List, length, IsTrue, IsFalse};
 ghost use Rattle.archive_shape_layout.specs.Value.{Value};
-ghost use Rattle.archive_shape_native.specs.Numbers.{IsLeafShape, Reads, IsIllegal};
+ghost use Rattle.archive_shape_native.specs.Numbers.{IsLeafShape, Reads, AreLegal, IsIllegal};
 
 use crate::{LittleEndian, Portable};
 use archive_shape_native::Native;
@@ -11,7 +11,7 @@ pub trait ArchivedLeaf: Portable {
     /// What is read from the own bytes, and stored as them.
     type Native: Copy;
 
-    /// The bytes that spell the native value.
+    /// The own bytes of the native value.
     ghost bytes_of: { Self.Native → List ℕ };
 
     /// What the layout has for the native value.
@@ -20,26 +20,32 @@ pub trait ArchivedLeaf: Portable {
     /// Whether bytes are the own bytes of a value of this type.
     ghost is_legal: { List ℕ → Type 0 };
 
-    /// Whether the own bytes spell a value of this type.
+    /// Whether the own bytes are those of a value of this type.
     fn accepts(own: &[u8]) -> bool
         requires { length own.now ≡ Self.SIZE }
         ensures legal { IsTrue result → is_legal own.now }
         ensures illegal { IsFalse result → IsIllegal Self.shape own.now };
 
-    /// The native value that the own bytes spell.
+    /// The native value that has these own bytes.
     fn read(own: &[u8]) -> Self::Native
         requires width { length own.now ≡ Self.SIZE }
         requires legal { is_legal own.now }
         ensures bytes { bytes_of result ≡ own.now }
         ensures value { Reads Self.shape own.now (value_of result) };
 
-    /// Writes the bytes that spell the native value.
+    /// Writes the own bytes of the native value.
     fn store(native: Self::Native, out: &mut [u8])
         requires { length out.old ≡ Self.SIZE }
         ensures bytes { out.new ≡ bytes_of native }
         ensures value { Reads Self.shape out.new (value_of native) };
 
     ghost is_leaf: { IsLeafShape Self.shape };
+
+    /// Which bytes are legal rests on the layout alone: those that some value has.
+    ghost legal_by_shape: { (own : List ℕ) → is_legal own ↔ AreLegal Self.shape own };
+
+    /// No two native values have one value.
+    ghost one_native: { (a b : Self.Native) → value_of a ≡ value_of b → a ≡ b };
 }
 
 impl<N: Native> ArchivedLeaf for LittleEndian<N> {
@@ -52,6 +58,10 @@ impl<N: Native> ArchivedLeaf for LittleEndian<N> {
     ghost is_legal = { N.is_legal };
 
     ghost is_leaf = { N.is_leaf };
+
+    ghost legal_by_shape = { N.legal_by_shape };
+
+    ghost one_native = { N.one_number };
 
     fn accepts(own: &[u8]) -> bool {
         N::accepts(own)

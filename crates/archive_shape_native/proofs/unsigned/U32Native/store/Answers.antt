@@ -3,5 +3,8 @@ use Rattle.std.specs.Int.{w32}
 use Rattle.archive_shape_native.proofs.Reading.{unsigned_stored}
 use Rattle.archive_shape_native.proofs.unsigned.U32Native.store.Goals as goal
 
+pub returns-clause-bytes : goal.returns-clause-bytes
+returns-clause-bytes c = search rules
+
 pub returns-clause-value : goal.returns-clause-value
 returns-clause-value c = unsigned_stored w32 _ _ c.ranges.self (search rules)

@@ -1,0 +1,5 @@
+//! Tests of the lowest layer of an archive library, with a module for each crate that is tested.
+#![tactic(auto)]
+
+#[cfg(test)]
+mod portable;
