@@ -1,5 +1,6 @@
-mod Checked
-mod Claims
-mod Held
-mod Placed
-mod Words
+pub mod Checked
+pub mod Claims
+pub mod Held
+pub mod Once
+pub mod Placed
+pub mod Words

@@ -2,7 +2,7 @@
 use Rattle.std.proofs.Common.{◌≡◌, ℕ, zero, suc, ◌==◌, ◌<◌, Bool, true, false, List, [], ◌∷◌, length, take, drop, slice_index, Some, cond, if◌then◌else◌, refl, sym, ap, subst, ◌∙◌, arith, length-take, length-drop}
 use Rattle.archive_shape_layout.specs.Bytes.{window, word_at, target_from}
 use Rattle.archive_shape_layout.specs.Content.{IsInline, before_ff, text_length}
-use Rattle.archive_forms_text.specs.Once.{one_place}
+use Rattle.archive_forms_text.proofs.Once.{one_place}
 use Rattle.archive_forms_text.specs.Repr.{length_of}
 use Rattle.archive_forms_text.specs.Text.{own_bytes, LiesAt, HasText, IsText}
 use Rattle.archive_forms_text.specs.Text.LiesAt.{inline, out_of_line}

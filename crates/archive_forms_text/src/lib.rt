@@ -9,8 +9,6 @@ mod key;
 mod laws;
 mod repr;
 mod string;
-#[cfg(test)]
-mod tests;
 
 pub use laws::{held_is_text, one_text, out_of_line_capacity};
 pub use repr::ArchivedStringRepr;

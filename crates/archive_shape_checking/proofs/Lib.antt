@@ -2,7 +2,6 @@ pub mod ByContent
 pub mod Inverted
 pub mod Leaves
 pub mod Levels
-pub mod Listed
 pub mod Once
 pub mod QuestionedRegions
 pub mod Questions

@@ -10,8 +10,6 @@
 mod check;
 mod context;
 mod laws;
-#[cfg(test)]
-mod tests;
 
 pub use archive_shape_writing::Error;
 pub use check::{CheckBytes, check_leaf};

@@ -1,4 +1,4 @@
-use Rattle.archive_forms_text.specs.Once.{one_text_law}
+use Rattle.archive_forms_text.proofs.Once.{one_text_law}
 use Rattle.archive_forms_text.proofs.laws.one_text.Goals as goal
 
 pub returns : goal.returns

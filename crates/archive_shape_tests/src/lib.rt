@@ -1,0 +1,9 @@
+//! Tests of the lowest layer of an archive library, with a module for each crate that is tested.
+#![tactic(auto)]
+
+#[cfg(test)]
+mod checking;
+#[cfg(test)]
+mod shape;
+#[cfg(test)]
+mod writing;
