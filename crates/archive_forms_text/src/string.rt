@@ -1,5 +1,5 @@
 //! Archived texts.
-ghost use Rattle.std.specs.Prelude.{◌≡◌, ◌↔◌, List, ℕ, length, IsTrue, refl, ⊤};
+ghost use Rattle.std.specs.Prelude.{◌≡◌, ◌↔◌, List, ℕ, length, [], IsTrue, refl, ⊤};
 ghost use Rattle.std.proofs.Common.{lit<, lit≤};
 ghost use Rattle.archive_shape_layout.specs.Shape.Shape.{text};
 ghost use Rattle.archive_forms_text.specs.Text.{HasText, IsText};
@@ -24,6 +24,8 @@ impl Portable for ArchivedString {
 
     ghost knows = { λ _. ⊤ };
 
+    ghost named = { [] };
+
     const SIZE: usize = 8;
 
     const ALIGN: usize = 4;
@@ -37,6 +39,8 @@ impl Portable for ArchivedString {
     ghost aligned = { refl };
 
     ghost aligns = { (lit< tt, lit≤ tt) };
+
+    ghost known = { λ _ _. tt };
 }
 
 impl ArchivedString {

@@ -12,3 +12,5 @@ pub mod Evaluate
 pub mod Evaluated
 pub mod Utf8
 pub mod Texts
+pub mod Sizes
+pub mod Nonzero

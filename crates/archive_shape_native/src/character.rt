@@ -29,6 +29,8 @@ impl Native for char {
 
     ghost is_leaf = { tt };
 
+    ghost legal_by_shape = { λ own. (λ legal. legal, λ legal. legal) };
+
     ghost one_number = { λ a b e. Prim.cc };
 
     const WIDTH: usize = 4;

@@ -1,9 +1,9 @@
 //! Numbers and chars as programs have them.
-ghost use Rattle.std.specs.Prelude.{◌≡◌, ℕ, ◌<◌, ◌≤◌, List, length, IsTrue, IsFalse};
+ghost use Rattle.std.specs.Prelude.{◌≡◌, ℕ, ◌<◌, ◌≤◌, ◌↔◌, List, length, IsTrue, IsFalse};
 ghost use Rattle.archive_shape_layout.specs.Shape.{Shape as Layout, size_of, align_of};
 ghost use Rattle.archive_shape_layout.specs.Value.{Value};
 ghost use Rattle.archive_shape_layout.specs.RuntimeShape.{layout_of};
-ghost use Rattle.archive_shape_native.specs.Numbers.{IsLeafShape, Reads, IsIllegal};
+ghost use Rattle.archive_shape_native.specs.Numbers.{IsLeafShape, Reads, AreLegal, IsIllegal};
 
 use archive_shape_layout::Shape;
 
@@ -55,6 +55,9 @@ pub trait Native: Copy {
     ghost aligns: { (0 < WIDTH) × (WIDTH ≤ 32) };
 
     ghost is_leaf: { IsLeafShape shape };
+
+    /// Which bytes are legal rests on the layout alone: those that some value has.
+    ghost legal_by_shape: { (own : List ℕ) → is_legal own ↔ AreLegal shape own };
 
     /// No two numbers have one value.
     ghost one_number: { (a b : Self) → value_of a ≡ value_of b → a ≡ b };

@@ -5,7 +5,7 @@ ghost use Rattle.std.specs.Int.NonZero.{non_zero_i16_get, non_zero_i32_get, non_
 ghost use Rattle.std.proofs.Common.{lit<, lit≤};
 ghost use Rattle.archive_shape_layout.specs.Shape.Shape.{nonzero};
 ghost use Rattle.archive_shape_layout.specs.Value.Value.{integer};
-ghost use Rattle.archive_shape_native.specs.Nonzero.{one_nonzero};
+ghost use Rattle.archive_shape_layout.proofs.Nonzero.{one_nonzero};
 
 use crate::Native;
 use archive_shape_layout::{Shape, Width};
@@ -29,6 +29,8 @@ impl Native for NonZeroI16 {
     ghost aligns = { (lit< tt, lit≤ tt) };
 
     ghost is_leaf = { tt };
+
+    ghost legal_by_shape = { λ own. (λ legal. legal, λ legal. legal) };
 
     ghost one_number = { λ a b e. one_nonzero (unsigned_abs) (λ n p. record { value = n; ok = p }) a.value b.value a.ok b.ok (Prim.cc) };
 
@@ -73,6 +75,8 @@ impl Native for NonZeroI32 {
 
     ghost is_leaf = { tt };
 
+    ghost legal_by_shape = { λ own. (λ legal. legal, λ legal. legal) };
+
     ghost one_number = { λ a b e. one_nonzero (unsigned_abs) (λ n p. record { value = n; ok = p }) a.value b.value a.ok b.ok (Prim.cc) };
 
     const WIDTH: usize = 4;
@@ -116,6 +120,8 @@ impl Native for NonZeroI64 {
 
     ghost is_leaf = { tt };
 
+    ghost legal_by_shape = { λ own. (λ legal. legal, λ legal. legal) };
+
     ghost one_number = { λ a b e. one_nonzero (unsigned_abs) (λ n p. record { value = n; ok = p }) a.value b.value a.ok b.ok (Prim.cc) };
 
     const WIDTH: usize = 8;
@@ -158,6 +164,8 @@ impl Native for NonZeroI128 {
     ghost aligns = { (lit< tt, lit≤ tt) };
 
     ghost is_leaf = { tt };
+
+    ghost legal_by_shape = { λ own. (λ legal. legal, λ legal. legal) };
 
     ghost one_number = { λ a b e. one_nonzero (unsigned_abs) (λ n p. record { value = n; ok = p }) a.value b.value a.ok b.ok (Prim.cc) };
 

@@ -27,6 +27,8 @@ impl Native for u16 {
 
     ghost is_leaf = { tt };
 
+    ghost legal_by_shape = { λ own. (λ legal. legal, λ legal. legal) };
+
     ghost one_number = { λ a b e. Prim.cc };
 
     const WIDTH: usize = 2;
@@ -70,6 +72,8 @@ impl Native for u32 {
 
     ghost is_leaf = { tt };
 
+    ghost legal_by_shape = { λ own. (λ legal. legal, λ legal. legal) };
+
     ghost one_number = { λ a b e. Prim.cc };
 
     const WIDTH: usize = 4;
@@ -112,6 +116,8 @@ impl Native for u64 {
     ghost aligns = { (lit< tt, lit≤ tt) };
 
     ghost is_leaf = { tt };
+
+    ghost legal_by_shape = { λ own. (λ legal. legal, λ legal. legal) };
 
     ghost one_number = { λ a b e. Prim.cc };
 
@@ -157,6 +163,8 @@ impl Native for u128 {
     ghost aligns = { (lit< tt, lit≤ tt) };
 
     ghost is_leaf = { tt };
+
+    ghost legal_by_shape = { λ own. (λ legal. legal, λ legal. legal) };
 
     ghost one_number = { λ a b e. Prim.cc };
 

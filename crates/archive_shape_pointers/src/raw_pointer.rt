@@ -47,6 +47,8 @@ impl<O: Offset> Portable for RawRelPtr<O> {
 
     ghost knows = { O.knows };
 
+    ghost named = { O.named };
+
     const SIZE: usize = O::SIZE;
 
     const ALIGN: usize = O::ALIGN;
@@ -60,6 +62,8 @@ impl<O: Offset> Portable for RawRelPtr<O> {
     ghost aligned = { O.aligned };
 
     ghost aligns = { O.aligns };
+
+    ghost known = { O.known };
 }
 
 impl<O: Offset> RawRelPtr<O> {

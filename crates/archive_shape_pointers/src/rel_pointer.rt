@@ -1,9 +1,10 @@
 //! Pointers that have metadata beside the offset.
-ghost use Rattle.std.specs.Prelude.{◌≡◌, ℕ, ◌+◌, ◌≤◌, ◌↔◌, pos, ◌+ℤ◌, max, length, IsTrue, IsOk, OnOk, MatchOption, MatchResult};
+ghost use Rattle.std.specs.Prelude.{◌≡◌, ℕ, ◌+◌, ◌≤◌, ◌↔◌, pos, ◌+ℤ◌, ◌++◌, max, length, IsTrue, IsOk, OnOk, MatchOption, MatchResult};
 ghost use Rattle.std.specs.Int.{w64, FitsUnsigned};
 ghost use Rattle.archive_shape_layout.specs.Bytes.{window, align_up};
 ghost use Rattle.archive_shape_layout.specs.Shape.Shape.{tuple};
 ghost use Rattle.archive_shape_layout.specs.Shape.Shapes.{no_shapes, more_shapes};
+ghost use Rattle.archive_shape_portable.proofs.Naming.{first_types, other_types};
 ghost use Rattle.archive_shape_references.specs.Bytes.{overwrite};
 ghost use Rattle.archive_shape_pointers.specs.Offsets.{difference, Leads};
 ghost use Rattle.archive_shape_pointers.specs.Pointers.{metadata_at, metadata_end, pointer_written};
@@ -58,6 +59,8 @@ impl<T: ArchivePointee, O: Offset> Portable for RelPtr<T, O> {
 
     ghost knows = { λ names. O.knows names × T.ArchivedMetadata.knows names };
 
+    ghost named = { O.named ++ T.ArchivedMetadata.named };
+
     const SIZE: usize = Self::METADATA_END
         + (Self::ALIGN - Self::METADATA_END % Self::ALIGN) % Self::ALIGN;
 
@@ -84,6 +87,9 @@ impl<T: ArchivePointee, O: Offset> Portable for RelPtr<T, O> {
         O.aligned T.ArchivedMetadata.aligned T.ArchivedMetadata.aligns.0 };
 
     ghost aligns = { pointer_aligns O.ALIGN T.ArchivedMetadata.ALIGN O.aligns T.ArchivedMetadata.aligns };
+
+    ghost known = { λ names has. (O.known names (first_types names O.named T.ArchivedMetadata.named has),
+        T.ArchivedMetadata.known names (other_types names O.named T.ArchivedMetadata.named has)) };
 }
 
 impl<T: Portable, O: Offset> RelPtr<T, O> {

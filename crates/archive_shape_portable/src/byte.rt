@@ -19,6 +19,8 @@ impl Portable for u8 {
 
     ghost knows = { λ _. ⊤ };
 
+    ghost named = { [] };
+
     const SIZE: usize = 1;
 
     const ALIGN: usize = 1;
@@ -35,6 +37,8 @@ impl Portable for u8 {
     ghost aligned = { refl };
 
     ghost aligns = { (lit< tt, lit≤ tt) };
+
+    ghost known = { λ _ _. tt };
 }
 
 impl ArchivedLeaf for u8 {
@@ -47,6 +51,10 @@ impl ArchivedLeaf for u8 {
     ghost is_legal = { λ _. ⊤ };
 
     ghost is_leaf = { tt };
+
+    ghost legal_by_shape = { λ own. (λ legal. legal, λ legal. legal) };
+
+    ghost one_native = { λ a b e. Prim.cc };
 
     fn accepts(_own: &[u8]) -> bool {
         true

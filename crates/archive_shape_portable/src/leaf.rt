@@ -1,7 +1,7 @@
 //! Archived values without parts.
-ghost use Rattle.std.specs.Prelude.{◌≡◌, ℕ, List, length, IsTrue, IsFalse};
+ghost use Rattle.std.specs.Prelude.{◌≡◌, ℕ, ◌↔◌, List, length, IsTrue, IsFalse};
 ghost use Rattle.archive_shape_layout.specs.Value.{Value};
-ghost use Rattle.archive_shape_native.specs.Numbers.{IsLeafShape, Reads, IsIllegal};
+ghost use Rattle.archive_shape_native.specs.Numbers.{IsLeafShape, Reads, AreLegal, IsIllegal};
 
 use crate::{LittleEndian, Portable};
 use archive_shape_native::Native;
@@ -40,6 +40,12 @@ pub trait ArchivedLeaf: Portable {
         ensures value { Reads Self.shape out.new (value_of native) };
 
     ghost is_leaf: { IsLeafShape Self.shape };
+
+    /// Which bytes are legal rests on the layout alone: those that some value has.
+    ghost legal_by_shape: { (own : List ℕ) → is_legal own ↔ AreLegal Self.shape own };
+
+    /// No two native values have one value.
+    ghost one_native: { (a b : Self.Native) → value_of a ≡ value_of b → a ≡ b };
 }
 
 impl<N: Native> ArchivedLeaf for LittleEndian<N> {
@@ -52,6 +58,10 @@ impl<N: Native> ArchivedLeaf for LittleEndian<N> {
     ghost is_legal = { N.is_legal };
 
     ghost is_leaf = { N.is_leaf };
+
+    ghost legal_by_shape = { N.legal_by_shape };
+
+    ghost one_native = { N.one_number };
 
     fn accepts(own: &[u8]) -> bool {
         N::accepts(own)

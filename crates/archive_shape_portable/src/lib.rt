@@ -10,14 +10,14 @@ mod phantom;
 mod portable;
 mod signed_byte;
 mod signed_nonzero_byte;
-#[cfg(test)]
-mod tests;
 mod truth;
 mod unit;
 
 pub use archive_shape_layout::{Alignment, Pointee, Shape, Shapes, Width, same_shape};
 pub use archive_shape_native::Native;
-pub use laws::{illegal_is_refused, leaf_is_read};
+pub use laws::{
+    held_leaf_is_read, illegal_is_refused, leaf_is_read, legal_is_readable, named_is_known,
+};
 pub use leaf::ArchivedLeaf;
 pub use number::{
     ArchivedChar, ArchivedI16, ArchivedI32, ArchivedI64, ArchivedI128, ArchivedIsize,

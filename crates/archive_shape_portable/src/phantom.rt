@@ -1,9 +1,9 @@
 //! Marks of types, whose values have no bytes.
-ghost use Rattle.std.specs.Prelude.{refl, ⊤};
+ghost use Rattle.std.specs.Prelude.{refl, ⊤, []};
 ghost use Rattle.std.proofs.Common.{lit<, lit≤};
 ghost use Rattle.archive_shape_layout.specs.Shape.Shape.{tuple};
 ghost use Rattle.archive_shape_layout.specs.Shape.Shapes.{no_shapes};
-ghost use Rattle.archive_shape_portable.specs.Sizes.{unit_sized};
+ghost use Rattle.archive_shape_layout.proofs.Sizes.{unit_sized};
 
 use crate::{NoUndef, Portable, Shape, Shapes};
 use std::alloc::{AllocError, Global};
@@ -20,6 +20,8 @@ impl<T> Portable for PhantomData<T> {
 
     ghost knows = { λ _. ⊤ };
 
+    ghost named = { [] };
+
     const SIZE: usize = 0;
 
     const ALIGN: usize = 1;
@@ -33,4 +35,6 @@ impl<T> Portable for PhantomData<T> {
     ghost aligned = { refl };
 
     ghost aligns = { (lit< tt, lit≤ tt) };
+
+    ghost known = { λ _ _. tt };
 }

@@ -1,9 +1,10 @@
 //! Types with a layout.
-ghost use Rattle.std.specs.Prelude.{◌≡◌, ℕ, ◌-◌, ◌^◌, ◌<◌, ◌≤◌, min, IfOk, ⊤};
+ghost use Rattle.std.specs.Prelude.{◌≡◌, ℕ, ◌-◌, ◌^◌, ◌<◌, ◌≤◌, min, IfOk, ⊤, []};
 ghost use Rattle.std.proofs.Common.{arith};
 ghost use Rattle.archive_shape_layout.specs.Shape.{Shape as Layout, size_of, align_of};
 ghost use Rattle.archive_shape_layout.specs.Content.{Names};
 ghost use Rattle.archive_shape_layout.specs.RuntimeShape.{layout_of};
+ghost use Rattle.archive_shape_portable.specs.Naming.{HasTypes};
 
 use crate::{LittleEndian, Shape};
 use archive_shape_native::Native;
@@ -21,6 +22,10 @@ pub trait Portable {
     /// under its name.
     ghost knows: { Names → Type 0 };
 
+    /// The types that hold themselves which this type is made of, each with its shape under its name. It is a list, so
+    /// that a composed type has the lists of its parts, one after the other.
+    ghost named: { Names };
+
     /// How many bytes a value has.
     const SIZE: usize;
 
@@ -36,6 +41,10 @@ pub trait Portable {
     ghost aligned: { ALIGN ≡ align_of shape };
 
     ghost aligns: { (0 < ALIGN) × (ALIGN ≤ 32) };
+
+    /// The layout is read under every list that has these types. So such a list is there wherever one name stands for
+    /// one shape: `named` itself.
+    ghost known: { (names : Names) → HasTypes names named → knows names };
 }
 
 /// A type whose values have no bytes that are left open.
@@ -52,6 +61,8 @@ impl<N: Native> Portable for LittleEndian<N> {
 
     ghost knows = { λ _. ⊤ };
 
+    ghost named = { [] };
+
     const SIZE: usize = N::WIDTH;
 
     const ALIGN: usize = N::WIDTH;
@@ -65,4 +76,6 @@ impl<N: Native> Portable for LittleEndian<N> {
     ghost aligned = { N.aligned };
 
     ghost aligns = { N.aligns };
+
+    ghost known = { λ _ _. tt };
 }

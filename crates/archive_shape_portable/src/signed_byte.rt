@@ -1,5 +1,5 @@
 //! Signed numbers of one byte, which are archived as themselves.
-ghost use Rattle.std.specs.Prelude.{true, refl, ⊤};
+ghost use Rattle.std.specs.Prelude.{true, refl, ⊤, []};
 ghost use Rattle.std.specs.Int.{w8, to_le_bytes, cast_unsigned};
 ghost use Rattle.std.proofs.Common.{lit<, lit≤};
 ghost use Rattle.archive_shape_layout.specs.Shape.Shape.{number};
@@ -19,6 +19,8 @@ impl Portable for i8 {
 
     ghost knows = { λ _. ⊤ };
 
+    ghost named = { [] };
+
     const SIZE: usize = 1;
 
     const ALIGN: usize = 1;
@@ -35,6 +37,8 @@ impl Portable for i8 {
     ghost aligned = { refl };
 
     ghost aligns = { (lit< tt, lit≤ tt) };
+
+    ghost known = { λ _ _. tt };
 }
 
 impl ArchivedLeaf for i8 {
@@ -47,6 +51,10 @@ impl ArchivedLeaf for i8 {
     ghost is_legal = { λ _. ⊤ };
 
     ghost is_leaf = { tt };
+
+    ghost legal_by_shape = { λ own. (λ legal. legal, λ legal. legal) };
+
+    ghost one_native = { λ a b e. Prim.cc };
 
     fn accepts(_own: &[u8]) -> bool {
         true

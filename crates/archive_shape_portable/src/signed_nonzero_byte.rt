@@ -1,10 +1,11 @@
 //! Signed numbers of one byte without 0, which are archived as themselves.
-ghost use Rattle.std.specs.Prelude.{◌<◌, true, refl, ⊤};
+ghost use Rattle.std.specs.Prelude.{◌<◌, true, refl, unsigned_abs, ⊤, []};
 ghost use Rattle.std.specs.Int.{w8, to_le_bytes, from_le_bytes, cast_unsigned};
 ghost use Rattle.std.specs.Int.NonZero.{non_zero_i8_get};
 ghost use Rattle.std.proofs.Common.{lit<, lit≤};
 ghost use Rattle.archive_shape_layout.specs.Shape.Shape.{nonzero};
 ghost use Rattle.archive_shape_layout.specs.Value.Value.{integer};
+ghost use Rattle.archive_shape_layout.proofs.Nonzero.{one_nonzero};
 
 use crate::{ArchivedLeaf, NoUndef, Portable, Shape, Width};
 use std::alloc::{AllocError, Global};
@@ -20,6 +21,8 @@ impl Portable for NonZeroI8 {
     ghost shape = { nonzero w8 true };
 
     ghost knows = { λ _. ⊤ };
+
+    ghost named = { [] };
 
     const SIZE: usize = 1;
 
@@ -37,6 +40,8 @@ impl Portable for NonZeroI8 {
     ghost aligned = { refl };
 
     ghost aligns = { (lit< tt, lit≤ tt) };
+
+    ghost known = { λ _ _. tt };
 }
 
 impl ArchivedLeaf for NonZeroI8 {
@@ -49,6 +54,10 @@ impl ArchivedLeaf for NonZeroI8 {
     ghost is_legal = { λ own. 0 < from_le_bytes w8 own };
 
     ghost is_leaf = { tt };
+
+    ghost legal_by_shape = { λ own. (λ legal. legal, λ legal. legal) };
+
+    ghost one_native = { λ a b e. one_nonzero (unsigned_abs) (λ n p. record { value = n; ok = p }) a.value b.value a.ok b.ok (Prim.cc) };
 
     fn accepts(own: &[u8]) -> bool {
         i8::read(own) != 0

@@ -1,5 +1,5 @@
 //! Truth values, which are archived as themselves.
-ghost use Rattle.std.specs.Prelude.{◌<◌, slice_index, refl, ⊤};
+ghost use Rattle.std.specs.Prelude.{◌<◌, slice_index, refl, ⊤, []};
 ghost use Rattle.std.proofs.Common.{lit<, lit≤};
 ghost use Rattle.archive_shape_layout.specs.Shape.Shape.{truth};
 ghost use Rattle.archive_shape_layout.specs.Value.Value.{boolean};
@@ -19,6 +19,8 @@ impl Portable for bool {
 
     ghost knows = { λ _. ⊤ };
 
+    ghost named = { [] };
+
     const SIZE: usize = 1;
 
     const ALIGN: usize = 1;
@@ -32,6 +34,8 @@ impl Portable for bool {
     ghost aligned = { refl };
 
     ghost aligns = { (lit< tt, lit≤ tt) };
+
+    ghost known = { λ _ _. tt };
 }
 
 impl ArchivedLeaf for bool {
@@ -44,6 +48,10 @@ impl ArchivedLeaf for bool {
     ghost is_legal = { λ own. slice_index own 0 < 2 };
 
     ghost is_leaf = { tt };
+
+    ghost legal_by_shape = { λ own. (λ legal. legal, λ legal. legal) };
+
+    ghost one_native = { λ a b e. Prim.cc };
 
     fn accepts(own: &[u8]) -> bool {
         own[0] < 2

@@ -1,9 +1,9 @@
 //! The unit type, whose values have no bytes.
-ghost use Rattle.std.specs.Prelude.{refl, ⊤};
+ghost use Rattle.std.specs.Prelude.{refl, ⊤, []};
 ghost use Rattle.std.proofs.Common.{lit<, lit≤};
 ghost use Rattle.archive_shape_layout.specs.Shape.Shape.{tuple};
 ghost use Rattle.archive_shape_layout.specs.Shape.Shapes.{no_shapes};
-ghost use Rattle.archive_shape_portable.specs.Sizes.{unit_sized};
+ghost use Rattle.archive_shape_layout.proofs.Sizes.{unit_sized};
 
 use crate::{NoUndef, Portable, Shape, Shapes};
 use std::alloc::{AllocError, Global};
@@ -19,6 +19,8 @@ impl Portable for () {
 
     ghost knows = { λ _. ⊤ };
 
+    ghost named = { [] };
+
     const SIZE: usize = 0;
 
     const ALIGN: usize = 1;
@@ -32,4 +34,6 @@ impl Portable for () {
     ghost aligned = { refl };
 
     ghost aligns = { (lit< tt, lit≤ tt) };
+
+    ghost known = { λ _ _. tt };
 }

@@ -4,6 +4,8 @@
 #[cfg(test)]
 mod checking;
 #[cfg(test)]
+mod portable;
+#[cfg(test)]
 mod shape;
 #[cfg(test)]
 mod writing;

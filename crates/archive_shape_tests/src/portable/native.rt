@@ -1,0 +1,15 @@
+//! Native numbers, beside their archived forms.
+use archive_shape_native::Native;
+use archive_shape_portable::LittleEndian;
+use std::num::NonZeroU64;
+use std::test::Fail;
+
+#[test]
+fn native_numbers(rt: HostRuntime) -> Result<(), Fail> {
+    assert_eq!(rt; LittleEndian::from_native(5i64).to_native(), 5);
+    assert_eq!(rt; <u128 as Native>::WIDTH, 16);
+    assert_eq!(rt; <char as Native>::WIDTH, 4);
+    assert_eq!(rt; NonZeroU64::WIDTH, 8);
+    assert!(rt; u16::accepts(&[0, 0]));
+    Ok(())
+}
