@@ -1,15 +1,15 @@
 //! Archived keys against queries.
 ghost use Rattle.std.specs.Prelude.{◌≡◌, ℕ, ◌+◌, ◌≤◌, List, length};
-ghost use Rattle.std.proofs.Common.{ap, sym, ◌∙◌};
+ghost use Rattle.std.proofs.Common.{ap, arith, sym, ◌∙◌};
 ghost use Rattle.std.specs.Cmp.{IsTotalOrder};
 ghost use Rattle.std.specs.Ordering.{is_eq};
 ghost use Rattle.std.specs.declared.cmp.Ordering.{Ordering};
 ghost use Rattle.archive_shape_layout.specs.Bytes.{window};
 ghost use Rattle.archive_shape_layout.specs.Value.{Value};
 ghost use Rattle.archive_shape_native.specs.Numbers.{Reads};
+ghost use Rattle.archive_shape_native.proofs.Held.{held_reads, held_legal};
 ghost use Rattle.archive_shape_native.proofs.Reading.{one_reading};
 ghost use Rattle.archive_shape.specs.Key.{HeldAt};
-ghost use Rattle.archive_shape.proofs.Keys.{held_reads, held_legal, held_within};
 
 use crate::{LittleEndian, Native, Portable, Ref};
 use std::cmp::Ordering;
@@ -72,9 +72,9 @@ impl<N: Native + Ord> ArchivedKey<N> for LittleEndian<N> {
         this.to_native().cmp(query)
     }
 
-    ghost held_is_key = { λ bytes pos value h. (held_within N.shape N.is_leaf N.WIDTH N.sized h, (N.legal_by_shape (window bytes pos N.WIDTH)).1 (held_legal N.shape N.is_leaf N.WIDTH N.sized h)) };
+    ghost held_is_key = { λ bytes pos value h. (Prim.omega (arith, N.sized, h.own_within), (N.legal_by_shape (window bytes pos N.WIDTH)).1 (held_legal N.shape N.is_leaf N.WIDTH N.sized h.holds)) };
 
-    ghost held_stands_for = { λ bytes pos value h key is. one_reading N.shape (window bytes pos N.WIDTH) _ _ (held_reads N.shape N.is_leaf N.WIDTH N.sized h) is.1 };
+    ghost held_stands_for = { λ bytes pos value h key is. one_reading N.shape (window bytes pos N.WIDTH) _ _ (held_reads N.shape N.is_leaf N.WIDTH N.sized h.holds) is.1 };
 
     ghost one_value = { λ value a b x y query. ap (λ key. N.cmp key query) (N.one_number a b (sym x ∙ y)) };
 
