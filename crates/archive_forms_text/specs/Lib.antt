@@ -1,2 +1,1 @@
 pub mod Repr
-pub mod Text

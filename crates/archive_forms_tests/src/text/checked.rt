@@ -1,6 +1,6 @@
 //! Texts that were checked.
 ghost use Rattle.std.specs.Prelude.{◌+◌, ◌≤◌, length, IfOk};
-ghost use Rattle.archive_forms_text.specs.Text.{HasText};
+ghost use Rattle.archive_forms_layout.specs.Text.{HasText};
 
 use super::narrow_context::NarrowContext;
 use archive_forms_text::ArchivedString;

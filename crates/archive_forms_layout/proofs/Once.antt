@@ -1,8 +1,8 @@
 -- One text stands at a position.
 use Rattle.std.proofs.Common.{◌≡◌, ℕ, List, Option, Some, refl, sym, ap, ◌∙◌}
 use Rattle.archive_shape_layout.specs.Bytes.{window}
-use Rattle.archive_forms_text.specs.Text.{LiesAt, OneText}
-use Rattle.archive_forms_text.specs.Text.LiesAt.{inline, out_of_line}
+use Rattle.archive_forms_layout.specs.Text.{LiesAt, OneText}
+use Rattle.archive_forms_layout.specs.Text.LiesAt.{inline, out_of_line}
 
 -- it begins at one position and has one length
 pub one_place : (bytes : List ℕ) (pos start len begin size : ℕ) → LiesAt bytes pos start len → LiesAt bytes pos begin size → (start ≡ begin) × (len ≡ size)

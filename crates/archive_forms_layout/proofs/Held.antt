@@ -13,14 +13,12 @@ use Rattle.archive_shape_layout.specs.Content.Label.{written, same}
 use Rattle.archive_shape_layout.specs.Holds.{Region, Visit, OpenShared, Holds, HoldAll}
 use Rattle.archive_shape_layout.specs.Holds.HoldAll.{holds_none, holds_more}
 use Rattle.archive_shape_layout.proofs.Unique.{by_plain, by_claimed}
-use Rattle.archive_shape.specs.Key.{HeldAt}
 use Rattle.archive_shape_checking.proofs.Inverted.{IsKnown, held_is_known}
 use Rattle.archive_shape_checking.proofs.Questions.{tested_known, followed_known}
-use Rattle.archive_forms_text.specs.Text.{own_bytes, HasText, IsText, IsTextThere, HeldIsText}
-use Rattle.archive_forms_text.specs.Text.LiesAt.{inline, out_of_line}
-use Rattle.archive_forms_text.proofs.Checked.{chosen_no, inline_is, far_is}
-use Rattle.archive_forms_text.proofs.Once.{one_text_law}
-use Rattle.archive_forms_text.proofs.Placed.{before_ff-take}
+use Rattle.archive_forms_layout.specs.Text.{own_bytes, IsText, IsTextThere, HeldIsText}
+use Rattle.archive_forms_layout.specs.Text.LiesAt.{inline, out_of_line}
+use Rattle.archive_forms_layout.proofs.Once.{one_text_law}
+use Rattle.archive_forms_layout.proofs.TextContent.{before_ff-take, chosen_no, inline_is, far_is}
 
 -- the last of a list
 last_passes : {X : Type 0} (P : X → Type 0) (xs : List X) (x : X) → All P (xs ++ x ∷ []) → P x
@@ -118,19 +116,9 @@ pub held_is_text_law : HeldIsText
 held_is_text_law names bytes level inside pos v regions before after fits within h =
     held names bytes level inside pos v regions before after fits within h _ refl
 
--- ---- as a key
-
-held_text : {knows : Names → Type 0} (bytes : List ℕ) (pos : ℕ) (value : Value) → HeldAt text knows bytes pos value → IsTextThere bytes pos value
-held_text bytes pos value h =
-    held_is_text_law h.names bytes h.level h.inside pos value h.regions h.before h.after h.own_within h.within h.holds
-
-pub held_is_key : {knows : Names → Type 0} (bytes : List ℕ) (pos : ℕ) (value : Value) → HeldAt text knows bytes pos value → HasText bytes pos
-held_is_key bytes pos value h = (held_text bytes pos value h).stands.there
-
-pub held_stands_for : {knows : Names → Type 0} (bytes : List ℕ) (pos : ℕ) (value : Value) → HeldAt text knows bytes pos value → (key : List ℕ) → IsText bytes pos key → value ≡ string key
-held_stands_for bytes pos value h key is =
-    let there = held_text bytes pos value h in
-    there.value ∙ ap string (one_text_law bytes pos there.text key there.stands is)
+-- the text that stands there is the value's
+pub text_value : (bytes : List ℕ) (pos : ℕ) (t : List ℕ) (v : Value) → IsTextThere bytes pos v → IsText bytes pos t → v ≡ string t
+text_value bytes pos t v there is = there.value ∙ ap string (one_text_law bytes pos there.text t there.stands is)
 
 pub one_string : {a b : List ℕ} → string a ≡ string b → a ≡ b
 one_string e = cc
