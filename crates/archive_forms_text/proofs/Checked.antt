@@ -21,23 +21,10 @@ use Rattle.archive_shape_checking.specs.Checks.{Checks}
 use Rattle.archive_shape_writing.specs.declared.error.Error.{Error}
 use Rattle.archive_shape_writing.specs.declared.error.Error.TheVariants.{CheckStringRepr, InvalidSubtreePointer, InvalidUtf8}
 use Rattle.archive_shape_checking.proofs.Leaves.{alone_checked}
-use Rattle.archive_forms_text.specs.Text.{own_bytes}
+use Rattle.archive_forms_layout.proofs.TextContent.{first_is, first_is_not, len_is, target_is, is_long, inline_is, far_is}
+use Rattle.archive_forms_layout.specs.Text.{own_bytes}
 
 -- ---- by a test
-
-chosen_yes : (b : Bool) (x y : Content) → b ≡ true → choose b x y ≡ x
-unfolding choose
-chosen_yes true x y e = refl
-chosen_yes false x y e = absurd (cc)
-
-pub chosen_no : (b : Bool) (x y : Content) → (b ≡ true → ⊥) → choose b x y ≡ y
-unfolding choose
-chosen_no true x y n = absurd (n refl)
-chosen_no false x y n = refl
-
-followed : (o : Option ℕ) (t : ℕ) (f : ℕ → Content) → o ≡ Some t → following o f ≡ f t
-unfolding following
-followed o t f e = rw e refl
 
 answered_yes : (k : Range) (b : Bool) (qs : List Question) → b ≡ true → AreAnswered k (cond b [] qs)
 answered_yes k b qs e = rw e tt
@@ -60,53 +47,45 @@ leads_there o t e = rw e refl
 
 module _ (names : Names) (bytes : List ℕ) (pos : ℕ) (own : List ℕ) (is : own ≡ own_bytes bytes pos) where
   module _ (begins : IsInline (slice_index own 0)) where
-    first_is : IsInline (slice_index (own_bytes bytes pos) 0)
-    first_is = subst (λ bs. IsInline (slice_index bs 0)) is begins
+    here : IsInline (slice_index (own_bytes bytes pos) 0)
+    here = first_is names bytes pos own is begins
 
-    pub inline_is : content_of names bytes (at pos text) ≡ plain (written (before_ff own)) []
-    unfolding shape_content text_content
-    inline_is = chosen_yes _ _ _ first_is ∙ ap (λ bs. plain (written (before_ff bs)) []) (sym is)
+    content : content_of names bytes (at pos text) ≡ plain (written (before_ff own)) []
+    content = inline_is names bytes pos own is begins
 
     pub inline_checked : (kept : Kept) → IsUtf8 (before_ff own) → Checks names bytes (at pos text) kept (Ok tt) kept
     unfolding made
-    inline_checked kept utf8 = alone_checked names bytes (at pos text) kept (written (before_ff own)) (string (before_ff own)) inline_is utf8 refl
+    inline_checked kept utf8 = alone_checked names bytes (at pos text) kept (written (before_ff own)) (string (before_ff own)) content utf8 refl
 
     pub inline_refused : (kept after : Kept) → (IsUtf8 (before_ff own) → ⊥) → Checks names bytes (at pos text) kept (Err InvalidUtf8) after
-    inline_refused kept after no_text inside before records other = fault_text (answered_yes _ _ _ first_is) inline_is no_text refl
+    inline_refused kept after no_text inside before records other = fault_text (answered_yes _ _ _ here) content no_text refl
 
   module _ (begins : IsInline (slice_index own 0) → ⊥) (len : ℕ) (says : len ≡ text_length (word_at own 0)) where
-    first_is_not : IsInline (slice_index (own_bytes bytes pos) 0) → ⊥
-    first_is_not = subst (λ bs. IsInline (slice_index bs 0) → ⊥) is begins
+    elsewhere : IsInline (slice_index (own_bytes bytes pos) 0) → ⊥
+    elsewhere = first_is_not names bytes pos own is begins
 
-    len_is : len ≡ text_length (word_at (own_bytes bytes pos) 0)
-    len_is = says ∙ ap (λ bs. text_length (word_at bs 0)) is
-
-    target_is : (o : Option ℕ) → target_from pos (word_at own 4) ≡ o → target_from pos (word_at (own_bytes bytes pos) 4) ≡ o
-    target_is o e = ap (λ bs. target_from pos (word_at bs 4)) (sym is) ∙ e
-
-    is_long : 8 < len → nat_lt 8 (text_length (word_at (own_bytes bytes pos) 0)) ≡ true
-    is_long h = lt-ltb 8 (text_length (word_at (own_bytes bytes pos) 0)) (subst (λ n. 8 < n) len_is h)
+    same_len : len ≡ text_length (word_at (own_bytes bytes pos) 0)
+    same_len = len_is names bytes pos own is len says
 
     pub short_refused : (kept after : Kept) → len ≤ 8 → Checks names bytes (at pos text) kept (Err CheckStringRepr) after
     short_refused kept after short inside before records other =
-        fault_unanswered (unanswered_no _ _ _ _ first_is_not (unanswered_here (λ long. let low = ltb-true 8 (text_length (word_at (own_bytes bytes pos) 0)) long in let same = len_is in omega arith) refl))
+        fault_unanswered (unanswered_no _ _ _ _ elsewhere (unanswered_here (λ long. let low = ltb-true 8 (text_length (word_at (own_bytes bytes pos) 0)) long in let is_same = same_len in omega arith) refl))
 
     pub astray_refused : (kept after : Kept) → 8 < len → len < 2 ^ 64 → target_from pos (word_at own 4) ≡ None → Checks names bytes (at pos text) kept (Err (InvalidSubtreePointer len)) after
     astray_refused kept after long small astray inside before records other =
         let size : InvalidSubtreePointer len ≡ out_of_range (text_length (word_at (own_bytes bytes pos) 0)) =
-        ap InvalidSubtreePointer (let same = len_is in omega arith) in
-        fault_unanswered (unanswered_no _ _ _ _ first_is_not
-        (unanswered_later (is_long long) (unanswered_here (leads_nowhere _ (target_is None astray)) size)))
+        ap InvalidSubtreePointer (let is_same = same_len in omega arith) in
+        fault_unanswered (unanswered_no _ _ _ _ elsewhere
+        (unanswered_later (is_long names bytes pos own is len says long) (unanswered_here (leads_nowhere _ (target_is names bytes pos own is None astray)) size)))
 
     module _ (long : 8 < len) (start : ℕ) (leads : target_from pos (word_at own 4) ≡ Some start) where
-      pub far_is : content_of names bytes (at pos text) ≡ plain same (behind start str len ∷ [])
-      unfolding shape_content text_content
-      far_is =
-          chosen_no _ _ _ first_is_not ∙ chosen_yes _ _ _ (is_long long) ∙ followed _ start _ (target_is (Some start) leads)
-          ∙ ap (λ n. plain same (behind start str n ∷ [])) (sym len_is)
+      far_content : content_of names bytes (at pos text) ≡ plain same (behind start str len ∷ [])
+      far_content = far_is names bytes pos own is begins len says long start leads
 
       far_answered : (k : Range) → AreAnswered k (questions_of names bytes (at pos text))
-      far_answered k = answered_no k _ _ first_is_not (is_long long, (leads_there _ start (target_is (Some start) leads), tt))
+      far_answered k =
+          answered_no k _ _ elsewhere
+          (is_long names bytes pos own is len says long, (leads_there _ start (target_is names bytes pos own is (Some start) leads), tt))
 
       pub far_checked : (kept after : Kept) (r : Result (Unit {0}) Error) → Checks names bytes (behind start str len) kept r after → Checks names bytes (at pos text) kept r after
       unfolding made
@@ -119,7 +98,7 @@ module _ (names : Names) (bytes : List ℕ) (pos : ℕ) (own : List ℕ) (is : o
               regions = own_check.passes.regions;
               after = own_check.passes.after;
               accepts = record {
-                holds = holds_plain far_is tt (holds_more held.holds (holds_none refl refl refl) refl (sym (append-nil own_check.passes.regions))) refl;
+                holds = holds_plain far_content tt (holds_more held.holds (holds_none refl refl refl) refl (sym (append-nil own_check.passes.regions))) refl;
                 ascends = held.ascends;
                 nests = held.nests;
               };
@@ -128,4 +107,4 @@ module _ (names : Names) (bytes : List ℕ) (pos : ℕ) (own : List ℕ) (is : o
             moves = own_check.moves;
             records = own_check.records;
           }
-      far_checked kept after (Err e) h inside before records = λ other. fault_plain (far_answered _) far_is (fault_here (h inside before records other))
+      far_checked kept after (Err e) h inside before records = λ other. fault_plain (far_answered _) far_content (fault_here (h inside before records other))

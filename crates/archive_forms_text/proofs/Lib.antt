@@ -1,5 +1,4 @@
-mod Checked
-mod Claims
-mod Held
-mod Placed
-mod Words
+pub mod Checked
+pub mod Claims
+pub mod Placed
+pub mod Words

@@ -2,20 +2,11 @@
 use Rattle.std.proofs.Common.{◌≡◌, ℕ, zero, suc, ◌==◌, ◌<◌, Bool, true, false, List, [], ◌∷◌, length, take, drop, slice_index, Some, cond, if◌then◌else◌, refl, sym, ap, subst, ◌∙◌, arith, length-take, length-drop}
 use Rattle.archive_shape_layout.specs.Bytes.{window, word_at, target_from}
 use Rattle.archive_shape_layout.specs.Content.{IsInline, before_ff, text_length}
-use Rattle.archive_forms_text.specs.Once.{one_place}
+use Rattle.archive_forms_layout.proofs.Once.{one_place}
+use Rattle.archive_forms_layout.proofs.TextContent.{before_ff-take}
 use Rattle.archive_forms_text.specs.Repr.{length_of}
-use Rattle.archive_forms_text.specs.Text.{own_bytes, LiesAt, HasText, IsText}
-use Rattle.archive_forms_text.specs.Text.LiesAt.{inline, out_of_line}
-
--- the bytes before the first ff of n bytes are the first of them
-pub before_ff-take : (n : ℕ) (xs : List ℕ) → before_ff (take n xs) ≡ take (length (before_ff (take n xs))) xs
-before_ff-take zero xs = refl
-before_ff-take (suc n) [] = refl
-before_ff-take (suc n) (x ∷ xs) = more (x == 255) (before_ff-take n xs)
-  where
-    more : (b : Bool) → before_ff (take n xs) ≡ take (length (before_ff (take n xs))) xs → cond b [] (x ∷ before_ff (take n xs)) ≡ take (length (cond b [] (x ∷ before_ff (take n xs)))) (x ∷ xs)
-    more true e = refl
-    more false e = ap (λ ys. x ∷ ys) e
+use Rattle.archive_forms_layout.specs.Text.{own_bytes, LiesAt, HasText, IsText}
+use Rattle.archive_forms_layout.specs.Text.LiesAt.{inline, out_of_line}
 
 -- ---- by what stands there
 

@@ -1,3 +1,1 @@
-pub mod Once
 pub mod Repr
-pub mod Text

@@ -1,7 +1,6 @@
 //! Archived texts: their check, their reading, and texts as keys.
 //!
-//! An archived text is eight bytes. A text of at most eight bytes stands inline, in front of the first ff. A longer one
-//! stands elsewhere, and the eight bytes are its length and its offset (specs/Text).
+//! An archived text is eight bytes, which archive_forms_layout tells how to read.
 #![tactic(auto)]
 
 mod check;
@@ -9,9 +8,8 @@ mod key;
 mod laws;
 mod repr;
 mod string;
-#[cfg(test)]
-mod tests;
 
-pub use laws::{held_is_text, one_text, out_of_line_capacity};
+pub use archive_forms_layout::{held_is_text, one_text};
+pub use laws::out_of_line_capacity;
 pub use repr::ArchivedStringRepr;
 pub use string::ArchivedString;

@@ -3,7 +3,7 @@ ghost use Rattle.std.specs.Prelude.{◌≡◌, ◌+◌, ◌↔◌, ◌<◌, ◌�
 ghost use Rattle.std.specs.Int.{w32, cast_signed};
 ghost use Rattle.archive_shape_layout.specs.Bytes.{word_at, target_from};
 ghost use Rattle.archive_shape_layout.specs.Content.{IsInline, before_ff, text_length};
-ghost use Rattle.archive_forms_text.specs.Text.{own_bytes};
+ghost use Rattle.archive_forms_layout.specs.Text.{own_bytes};
 ghost use Rattle.archive_forms_text.specs.Repr.{length_of};
 
 /// The eight bytes of the text at `pos`.

@@ -2,7 +2,7 @@
 ghost use Rattle.std.specs.Prelude.{◌≡◌, ◌↔◌, List, ℕ, length, [], IsTrue, refl, ⊤};
 ghost use Rattle.std.proofs.Common.{lit<, lit≤};
 ghost use Rattle.archive_shape_layout.specs.Shape.Shape.{text};
-ghost use Rattle.archive_forms_text.specs.Text.{HasText, IsText};
+ghost use Rattle.archive_forms_layout.specs.Text.{HasText, IsText};
 
 use crate::ArchivedStringRepr;
 use crate::repr::{before_filler, out_of_line_len, out_of_line_start, own_bytes};

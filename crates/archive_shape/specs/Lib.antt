@@ -1,3 +1,4 @@
+pub mod Key
 pub mod Pooling
 pub mod Progress
 pub mod Sharing

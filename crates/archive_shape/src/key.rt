@@ -1,23 +1,30 @@
 //! Archived keys against queries.
 ghost use Rattle.std.specs.Prelude.{◌≡◌, ℕ, ◌+◌, ◌≤◌, List, length};
-ghost use Rattle.std.proofs.Common.{ap};
+ghost use Rattle.std.proofs.Common.{ap, arith, sym, ◌∙◌};
 ghost use Rattle.std.specs.Cmp.{IsTotalOrder};
 ghost use Rattle.std.specs.Ordering.{is_eq};
 ghost use Rattle.std.specs.declared.cmp.Ordering.{Ordering};
 ghost use Rattle.archive_shape_layout.specs.Bytes.{window};
+ghost use Rattle.archive_shape_layout.specs.Value.{Value};
 ghost use Rattle.archive_shape_native.specs.Numbers.{Reads};
+ghost use Rattle.archive_shape_native.proofs.Held.{held_reads, held_legal};
 ghost use Rattle.archive_shape_native.proofs.Reading.{one_reading};
+ghost use Rattle.archive_shape.specs.Key.{HeldAt};
 
 use crate::{LittleEndian, Native, Portable, Ref};
 use std::cmp::Ordering;
 
-/// A type of archived keys that a query of type `Q` is compared with.
+/// A type of archived keys that a query of type `Q` is compared with. How a key compares rests on the value that the layout
+/// has for it, wherever it lies.
 pub trait ArchivedKey<Q>: Portable {
     /// Whether bytes have at a position a key of this type.
     ghost is_key: { List ℕ → ℕ → Type 0 };
 
     /// Whether the key that bytes have at a position stands for this.
     ghost key_of: { List ℕ → ℕ → Q → Type 0 };
+
+    /// Whether a key of this value stands for this.
+    ghost stands_for: { Value → Q → Type 0 };
 
     /// The keys' own order.
     ghost order: { Q → Q → Ordering };
@@ -32,6 +39,15 @@ pub trait ArchivedKey<Q>: Portable {
         requires { is_key this.now.bytes.now this.now.pos }
         ensures { (key : Q) × key_of this.now.bytes.now this.now.pos key × (result ≡ order key query.now) };
 
+    /// What the layout has at a position is a key.
+    ghost held_is_key: { (bytes : List ℕ) (pos : ℕ) (value : Value) → HeldAt Self.shape Self.knows bytes pos value → is_key bytes pos };
+
+    /// All that this key stands for, its value stands for.
+    ghost held_stands_for: { (bytes : List ℕ) (pos : ℕ) (value : Value) → HeldAt Self.shape Self.knows bytes pos value → (key : Q) → key_of bytes pos key → stands_for value key };
+
+    /// All that a value stands for is alike in the order.
+    ghost one_value: { (value : Value) (a b : Q) → stands_for value a → stands_for value b → (query : Q) → order a query ≡ order b query };
+
     /// All that the key at a position stands for is alike in the order.
     ghost one_key: { (bytes : List ℕ) (pos : ℕ) (a b : Q) → key_of bytes pos a → key_of bytes pos b → (query : Q) → order a query ≡ order b query };
 
@@ -44,6 +60,8 @@ impl<N: Native + Ord> ArchivedKey<N> for LittleEndian<N> {
 
     ghost key_of = { λ bytes pos key. (N.bytes_of key ≡ window bytes pos N.WIDTH) × Reads N.shape (window bytes pos N.WIDTH) (N.value_of key) };
 
+    ghost stands_for = { λ value key. value ≡ N.value_of key };
+
     ghost order = { N.cmp };
 
     fn same(this: &Ref<'_, Self>, query: &N) -> bool {
@@ -53,6 +71,12 @@ impl<N: Native + Ord> ArchivedKey<N> for LittleEndian<N> {
     fn compare(this: &Ref<'_, Self>, query: &N) -> Ordering {
         this.to_native().cmp(query)
     }
+
+    ghost held_is_key = { λ bytes pos value h. (Prim.omega (arith, N.sized, h.own_within), (N.legal_by_shape (window bytes pos N.WIDTH)).1 (held_legal N.shape N.is_leaf N.WIDTH N.sized h.holds)) };
+
+    ghost held_stands_for = { λ bytes pos value h key is. one_reading N.shape (window bytes pos N.WIDTH) _ _ (held_reads N.shape N.is_leaf N.WIDTH N.sized h.holds) is.1 };
+
+    ghost one_value = { λ value a b x y query. ap (λ key. N.cmp key query) (N.one_number a b (sym x ∙ y)) };
 
     ghost one_key = { λ bytes pos a b x y query. ap (λ key. N.cmp key query) (N.one_number a b (one_reading N.shape (window bytes pos N.WIDTH) _ _ x.1 y.1)) };
 

@@ -3,16 +3,19 @@
 
 mod copy;
 mod key;
+mod laws;
 mod memory;
 mod pooling;
 mod sharing;
 mod steps;
-#[cfg(test)]
-mod tests;
 
 pub use archive_shape_checking::{
     ArchiveContext, CheckBytes, PushedRange, SharedContext, ValidationState, accepted_is_answered,
-    check_leaf, fault_refuses, one_fault,
+    check_leaf, deep_child_is_refused, fault_refuses, one_fault,
+};
+pub use archive_shape_layout::{
+    alignments_are_small_powers, ascent_is_apart, ascent_splits, edit_of_leaf, edit_of_text, frame,
+    one_value, paths_join, root_regions, value_at_path,
 };
 pub use archive_shape_pointers::{
     Offset, RawRelPtr, RawRelPtrI8, RawRelPtrI16, RawRelPtrI32, RawRelPtrI64, RawRelPtrU8,
@@ -24,17 +27,19 @@ pub use archive_shape_portable::{
     ArchivedNonZeroIsize, ArchivedNonZeroU16, ArchivedNonZeroU32, ArchivedNonZeroU64,
     ArchivedNonZeroU128, ArchivedNonZeroUsize, ArchivedU16, ArchivedU32, ArchivedU64, ArchivedU128,
     ArchivedUsize, FixedIsize, FixedNonZeroIsize, FixedNonZeroUsize, FixedUsize, LittleEndian,
-    Native, NoUndef, Pointee, Portable, Shape, Shapes, Width, illegal_is_refused, leaf_is_read,
-    same_shape,
+    Native, NoUndef, Pointee, Portable, Shape, Shapes, Width, held_leaf_is_read, illegal_is_refused,
+    leaf_is_read, legal_is_readable, named_is_known, same_shape,
 };
 pub use archive_shape_references::{
     ArchivePointee, LayoutRaw, Metadata, OwnSeal, Place, Ref, Seal, Slice, Str, overwrite_spares,
+    sealed_leaf, sealed_text,
 };
 pub use archive_shape_writing::{
     Error, Positional, Writer, write_all_pieces, write_three_pieces, write_two_pieces,
 };
 pub use copy::CopyOptimization;
 pub use key::ArchivedKey;
+pub use laws::keys_of_one_value_are_alike;
 pub use memory::Allocator;
 pub use pooling::{Pooling, PoolingState};
 pub use sharing::{Sharing, SharingState};

@@ -1,5 +1,5 @@
 -- A fault, by the content of its part.
-use Rattle.std.proofs.Common.{◌≡◌, ◌≢◌, ℕ, List, ◌∷◌, false, Option, Some, None, sym, ap, subst, ◌∙◌}
+use Rattle.std.proofs.Common.{◌≡◌, ◌≢◌, ℕ, Bool, List, ◌∷◌, Option, Some, None, sym, ap, subst, ◌∙◌}
 use Rattle.archive_shape_layout.specs.Bytes.{window, word_at}
 use Rattle.archive_shape_layout.specs.Shape.{Shape, Pointee}
 use Rattle.archive_shape_layout.specs.Shape.Shape.{index_map}
@@ -12,7 +12,7 @@ use Rattle.archive_shape_layout.specs.Holds.{Visit, OpenShared}
 use Rattle.archive_shape_checking.specs.Range.{Range, narrowed_to}
 use Rattle.archive_shape_checking.specs.Accepts.{Passes, PassesAll}
 use Rattle.archive_shape_checking.specs.Questions.{AreAnswered, FirstUnanswered, questions_of, out_of_range}
-use Rattle.archive_shape_checking.specs.PartFault.{PartFault, PartsFault, Entry, entry_at, Clash, HasTable, HasNoEntries, entries_size, counted_items}
+use Rattle.archive_shape_checking.specs.PartFault.{PartFault, PartsFault, Entry, entry_at, Clash, HasTable, HasNoEntries, entries_size, counted_items, counted_as_usize}
 use Rattle.archive_shape_checking.specs.PartFault.PartFault.{fault_unanswered, fault_plain, fault_claimed, fault_text, fault_text_behind, fault_total, fault_table, fault_entries, fault_again, fault_first}
 use Rattle.archive_shape_writing.specs.declared.error.Error.{Error}
 use Rattle.archive_shape_writing.specs.declared.error.Error.TheVariants.{InvalidUtf8, EntriesLengthMismatch}
@@ -31,7 +31,7 @@ module _ (names : Names) (bytes : List ℕ) (inside : List OpenShared) (before :
   pub data InPlain (l : Label) (ps : List Part) (k : Range) (e : Error) : Type 0 where
     plain_parts : PartsFault names bytes inside before ps k e → InPlain l ps k e
     plain_text : (IsLegal l → ⊥) → e ≡ InvalidUtf8 → InPlain l ps k e
-    plain_total : {n : ℕ} → l ≡ total n → (q : PassesAll names bytes inside before ps k) → counted_items q.values ≢ n → e ≡ EntriesLengthMismatch (counted_items q.values) n → InPlain l ps k e
+    plain_total : {n : ℕ} → l ≡ total n → (q : PassesAll names bytes inside before ps k) → counted_items q.values ≢ n → e ≡ EntriesLengthMismatch (counted_as_usize q.values) n → InPlain l ps k e
 
   -- with a region claimed after them
   pub data InClaimed (s : Span) (l : Label) (ps : List Part) (k : Range) (e : Error) : Type 0 where
@@ -44,9 +44,9 @@ module _ (names : Names) (bytes : List ℕ) (inside : List OpenShared) (before :
     map_entries : Passes names bytes inside before q k → e ≡ out_of_range (entries_size bytes pos key value) → InMap pos key value q k e
 
   -- of a counted pointer
-  pub data InCounting (t : ℕ) (q : Pointee) (len : ℕ) (k : Range) (e : Error) : Type 0 where
-    counting_again : {x : Entry} → entry_at inside before t ≡ Some x → Clash q len x e → InCounting t q len k e
-    counting_first : entry_at inside before t ≡ None → PartFault names bytes (record { pos = t; pointee = q; len = len } ∷ inside) before (behind t q len) k e → InCounting t q len k e
+  pub data InCounting (cyclic : Bool) (t : ℕ) (q : Pointee) (len : ℕ) (k : Range) (e : Error) : Type 0 where
+    counting_again : {x : Entry} → entry_at inside before t ≡ Some x → Clash cyclic q len x e → InCounting cyclic t q len k e
+    counting_first : entry_at inside before t ≡ None → PartFault names bytes (record { pos = t; pointee = q; len = len } ∷ inside) before (behind t q len) k e → InCounting cyclic t q len k e
 
   pub asked_again : (p : Part) (k : Range) (e d : Error) → FirstUnanswered k e (questions_of names bytes p) → PartFault names bytes inside before p k d → FirstUnanswered k d (questions_of names bytes p)
   asked_again p k e d f (fault_unanswered g) = g
@@ -131,29 +131,31 @@ module _ (names : Names) (bytes : List ℕ) (inside : List OpenShared) (before :
   in_map p k e pos key value q a i t n (fault_first b d m f) = let c = map_illegal names bytes p pos key value q i t n in absurd (cc)
 
   counting_same :
-      (p : Part) (k : Range) (e : Error) (t u : ℕ) (q r : Pointee) (len n : ℕ)
-      → content_of names bytes p ≡ counting false t q len → content_of names bytes p ≡ counting false u r n
-      → InCounting u r n k e → InCounting t q len k e
-  counting_same p k e t u q r len n c d h =
+      (p : Part) (k : Range) (e : Error) (cyclic other : Bool) (t u : ℕ) (q r : Pointee) (len n : ℕ)
+      → content_of names bytes p ≡ counting cyclic t q len → content_of names bytes p ≡ counting other u r n
+      → InCounting other u r n k e → InCounting cyclic t q len k e
+  counting_same p k e cyclic other t u q r len n c d h =
+      let flavors : other ≡ cyclic = cc in
       let place : u ≡ t = cc in
       let pointees : r ≡ q = cc in
       let lens : n ≡ len = cc in
-      subst (λ x. InCounting t q x k e) lens
-      (subst (λ x. InCounting t x n k e) pointees
-      (subst (λ x. InCounting x r n k e) place h))
+      subst (λ x. InCounting x t q len k e) flavors
+      (subst (λ x. InCounting other t q x k e) lens
+      (subst (λ x. InCounting other t x n k e) pointees
+      (subst (λ x. InCounting other x r n k e) place h)))
 
-  pub in_counting : (p : Part) (k : Range) (e : Error) (t : ℕ) (q : Pointee) (len : ℕ) → AreAnswered k (questions_of names bytes p) → content_of names bytes p ≡ counting false t q len → PartFault names bytes inside before p k e → InCounting t q len k e
-  in_counting p k e t q len a c (fault_unanswered f) = absurd (answered_or_not k e _ f a)
-  in_counting p k e t q len a c (fault_plain b d f) = absurd (cc)
-  in_counting p k e t q len a c (fault_claimed b d f) = absurd (cc)
-  in_counting p k e t q len a c (fault_text b d n f) = absurd (cc)
-  in_counting p k e t q len a c (fault_text_behind b d n f) = absurd (cc)
-  in_counting p k e t q len a c (fault_total b d y m f) = absurd (cc)
-  in_counting p k e t q len a c (fault_table {pos = pos} {key = key} {value = value} {q = r} b i u n f) =
+  pub in_counting : (p : Part) (k : Range) (e : Error) (cyclic : Bool) (t : ℕ) (q : Pointee) (len : ℕ) → AreAnswered k (questions_of names bytes p) → content_of names bytes p ≡ counting cyclic t q len → PartFault names bytes inside before p k e → InCounting cyclic t q len k e
+  in_counting p k e cyclic t q len a c (fault_unanswered f) = absurd (answered_or_not k e _ f a)
+  in_counting p k e cyclic t q len a c (fault_plain b d f) = absurd (cc)
+  in_counting p k e cyclic t q len a c (fault_claimed b d f) = absurd (cc)
+  in_counting p k e cyclic t q len a c (fault_text b d n f) = absurd (cc)
+  in_counting p k e cyclic t q len a c (fault_text_behind b d n f) = absurd (cc)
+  in_counting p k e cyclic t q len a c (fault_total b d y m f) = absurd (cc)
+  in_counting p k e cyclic t q len a c (fault_table {pos = pos} {key = key} {value = value} {q = r} b i u n f) =
       let d = map_illegal names bytes p pos key value r i u n in absurd (cc)
-  in_counting p k e t q len a c (fault_entries {pos = pos} {key = key} {value = value} {q = r} b i u n y f) =
+  in_counting p k e cyclic t q len a c (fault_entries {pos = pos} {key = key} {value = value} {q = r} b i u n y f) =
       let d = map_illegal names bytes p pos key value r i u n in absurd (cc)
-  in_counting p k e t q len a c (fault_again {t = u} {q = r} {len = n} b d m f) =
-      counting_same p k e t u q r len n c d (counting_again m f)
-  in_counting p k e t q len a c (fault_first {t = u} {q = r} {len = n} b d m f) =
-      counting_same p k e t u q r len n c d (counting_first m f)
+  in_counting p k e cyclic t q len a c (fault_again {cyclic = o} {t = u} {q = r} {len = n} b d m f) =
+      counting_same p k e cyclic o t u q r len n c d (counting_again m f)
+  in_counting p k e cyclic t q len a c (fault_first {cyclic = o} {t = u} {q = r} {len = n} b d m f) =
+      counting_same p k e cyclic o t u q r len n c d (counting_first m f)

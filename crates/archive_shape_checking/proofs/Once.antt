@@ -1,5 +1,5 @@
 -- Two faults of a part are the same.
-use Rattle.std.proofs.Common.{◌≡◌, ℕ, List, [], ◌∷◌, Some, None, refl, sym, ap, subst, ◌∙◌}
+use Rattle.std.proofs.Common.{◌≡◌, ℕ, Bool, List, [], ◌∷◌, Some, None, refl, sym, ap, subst, ◌∙◌}
 use Rattle.archive_shape_layout.specs.Shape.{Shape, Pointee}
 use Rattle.archive_shape_layout.specs.Content.{Names, Part, Span, Label, content_of, IsLegal}
 use Rattle.archive_shape_layout.specs.Content.Part.{behind}
@@ -8,7 +8,7 @@ use Rattle.archive_shape_layout.specs.Content.Content.{plain, claimed}
 use Rattle.archive_shape_layout.specs.Holds.{Visit, OpenShared}
 use Rattle.archive_shape_checking.specs.Range.{Range, narrowed_to}
 use Rattle.archive_shape_checking.specs.Accepts.{Passes, PassesAll, range_after}
-use Rattle.archive_shape_checking.specs.PartFault.{PartFault, PartsFault, Entry, entry_at, entries_size, Clash, counted_items}
+use Rattle.archive_shape_checking.specs.PartFault.{PartFault, PartsFault, Entry, entry_at, entries_size, Clash, counted_as_usize}
 use Rattle.archive_shape_checking.specs.PartFault.PartFault.{fault_unanswered, fault_plain, fault_claimed, fault_text, fault_text_behind, fault_total, fault_table, fault_entries, fault_again, fault_first}
 use Rattle.archive_shape_checking.specs.PartFault.PartsFault.{fault_here, fault_later}
 use Rattle.archive_shape_checking.specs.Questions.{out_of_range}
@@ -48,13 +48,13 @@ module _ (names : Names) (bytes : List ℕ) (inside : List OpenShared) (before :
     text_once n f (plain_text m g) = f ∙ sym g
     text_once n f (plain_total {n = m} h q o g) = absurd (n (legal_total l m h))
 
-    total_once : (n : ℕ) (q : PassesAll names bytes inside before ps k) → l ≡ total n → e ≡ EntriesLengthMismatch (counted_items q.values) n → InPlain names bytes inside before l ps k d → e ≡ d
+    total_once : (n : ℕ) (q : PassesAll names bytes inside before ps k) → l ≡ total n → e ≡ EntriesLengthMismatch (counted_as_usize q.values) n → InPlain names bytes inside before l ps k d → e ≡ d
     total_once n q h f (plain_parts g) = absurd (refused_in names bytes inside before ps k d g q)
     total_once n q h f (plain_text m g) = absurd (m (legal_total l n h))
     total_once n q h f (plain_total {n = m} i r o g) =
         let same = one_list_passing names bytes inside before ps k q r in
         let both : n ≡ m = cc in
-        f ∙ ap (λ vs. EntriesLengthMismatch (counted_items vs) n) same ∙ ap (λ x. EntriesLengthMismatch (counted_items r.values) x) both ∙ sym g
+        f ∙ ap (λ vs. EntriesLengthMismatch (counted_as_usize vs) n) same ∙ ap (λ x. EntriesLengthMismatch (counted_as_usize r.values) x) both ∙ sym g
 
   -- ---- with a region claimed after them
 
@@ -80,14 +80,14 @@ module _ (names : Names) (bytes : List ℕ) (inside : List OpenShared) (before :
 
   -- ---- counted pointers
 
-  module _ (t : ℕ) (q : Pointee) (len : ℕ) (k : Range) (e d : Error) where
-    again_once : (x : Entry) → entry_at inside before t ≡ Some x → Clash q len x e → InCounting names bytes inside before t q len k d → e ≡ d
+  module _ (cyclic : Bool) (t : ℕ) (q : Pointee) (len : ℕ) (k : Range) (e d : Error) where
+    again_once : (x : Entry) → entry_at inside before t ≡ Some x → Clash cyclic q len x e → InCounting names bytes inside before cyclic t q len k d → e ≡ d
     again_once x m f (counting_again {x = y} n g) =
         let same = one_entry (entry_at inside before t) y x n m in
-        one_clash q len x e d f (subst (λ z. Clash q len z d) same g)
+        one_clash cyclic q len x e d f (subst (λ z. Clash cyclic q len z d) same g)
     again_once x m f (counting_first n g) = absurd (cc)
 
-    first_once : entry_at inside before t ≡ None → (PartFault names bytes (record { pos = t; pointee = q; len = len } ∷ inside) before (behind t q len) k d → e ≡ d) → InCounting names bytes inside before t q len k d → e ≡ d
+    first_once : entry_at inside before t ≡ None → (PartFault names bytes (record { pos = t; pointee = q; len = len } ∷ inside) before (behind t q len) k d → e ≡ d) → InCounting names bytes inside before cyclic t q len k d → e ≡ d
     first_once m again (counting_again n g) = absurd (cc)
     first_once m again (counting_first n g) = again g
 
@@ -116,10 +116,10 @@ module _ (names : Names) (bytes : List ℕ) where
         table_once names bytes inside before pos key value q k e d f (λ h. once inside before q k e d f h) (in_map names bytes inside before p k d pos key value q a i t n g)
     once inside before p k e d (fault_entries {pos = pos} {key = key} {value = value} {q = q} a i t n y f) g =
         entries_once names bytes inside before pos key value q k e d y f (in_map names bytes inside before p k d pos key value q a i t n g)
-    once inside before p k e d (fault_again {t = t} {q = q} {len = len} {x = x} a c m f) g =
-        again_once names bytes inside before t q len k e d x m f (in_counting names bytes inside before p k d t q len a c g)
-    once inside before p k e d (fault_first {t = t} {q = q} {len = len} a c n f) g =
-        first_once names bytes inside before t q len k e d n (λ h. once (record { pos = t; pointee = q; len = len } ∷ inside) before (behind t q len) k e d f h) (in_counting names bytes inside before p k d t q len a c g)
+    once inside before p k e d (fault_again {cyclic = cyclic} {t = t} {q = q} {len = len} {x = x} a c m f) g =
+        again_once names bytes inside before cyclic t q len k e d x m f (in_counting names bytes inside before p k d cyclic t q len a c g)
+    once inside before p k e d (fault_first {cyclic = cyclic} {t = t} {q = q} {len = len} a c n f) g =
+        first_once names bytes inside before cyclic t q len k e d n (λ h. once (record { pos = t; pointee = q; len = len } ∷ inside) before (behind t q len) k e d f h) (in_counting names bytes inside before p k d cyclic t q len a c g)
 
     once_in : (inside : List OpenShared) (before : List Visit) (ps : List Part) (k : Range) (e d : Error) → PartsFault names bytes inside before ps k e → PartsFault names bytes inside before ps k d → e ≡ d
     once_in inside before [] k e d f g = elim f [ ]

@@ -83,8 +83,8 @@ module _ (names : Names) (bytes : List ℕ) where
     refused inside before p k e (fault_total {n = n} {ps = ps} a c q m f) h = total_refused inside before p k n ps c q m h
     refused inside before p k e (fault_table {pos = pos} {key = key} {value = value} {q = q} a i t n f) h = known_content names bytes inside before p k illegal (map_illegal names bytes p pos key value q i t n) h
     refused inside before p k e (fault_entries {pos = pos} {key = key} {value = value} {q = q} a i t n y f) h = known_content names bytes inside before p k illegal (map_illegal names bytes p pos key value q i t n) h
-    refused inside before p k e (fault_again {t = t} {q = q} {len = len} {x = x} a c m f) h = again_refused names bytes inside before p k t q len x e c m f h
-    refused inside before p k e (fault_first {t = t} {q = q} {len = len} a c n f) h = refused (record { pos = t; pointee = q; len = len } ∷ inside) before (behind t q len) k e f (first_visited names bytes inside before p k t q len c n h)
+    refused inside before p k e (fault_again {cyclic = cyclic} {t = t} {q = q} {len = len} {x = x} a c m f) h = again_refused names bytes inside before p k cyclic t q len x e c m f h
+    refused inside before p k e (fault_first {cyclic = cyclic} {t = t} {q = q} {len = len} a c n f) h = refused (record { pos = t; pointee = q; len = len } ∷ inside) before (behind t q len) k e f (first_visited names bytes inside before p k cyclic t q len c n h)
 
     pub refused_in : (inside : List OpenShared) (before : List Visit) (ps : List Part) (k : Range) (e : Error) → PartsFault names bytes inside before ps k e → PassesAll names bytes inside before ps k → ⊥
     refused_in inside before [] k e f h = elim f [ ]

@@ -1,5 +1,5 @@
 -- Shared positions: what an accepted part says of what was met there, and that one entry clashes in one way.
-use Rattle.std.proofs.Common.{◌≡◌, ℕ, List, ◌∷◌, true, false, Option, Some, None, refl, sym, ap, ◌∙◌}
+use Rattle.std.proofs.Common.{◌≡◌, ℕ, List, ◌∷◌, Bool, true, false, Option, Some, None, refl, sym, ap, ◌∙◌}
 use Rattle.archive_shape_layout.specs.Shape.{Pointee}
 use Rattle.archive_shape_layout.specs.Value.{Value}
 use Rattle.archive_shape_layout.specs.Content.{Names, Part, content_of}
@@ -20,11 +20,11 @@ one_entry o x y e f = cc
 
 -- ---- clashes
 
--- an entry of the same shape and length, whose check has ended, does not clash
-pub no_clash : (q : Pointee) (len : ℕ) (x : Entry) (e : Error) → x.pointee ≡ q → x.len ≡ len → x.done ≡ true → Clash q len x e → ⊥
-no_clash q len x e p l d (differs (other_shape n f)) = n p
-no_clash q len x e p l d (differs (other_length s n f)) = n l
-no_clash q len x e p l d (inside_itself s m n f) = let b : true ≡ false = sym d ∙ n in cc
+-- an entry of the same shape and length, whose check has ended where its flavor forbids cycles, does not clash
+pub no_clash : (cyclic : Bool) (q : Pointee) (len : ℕ) (x : Entry) (e : Error) → x.pointee ≡ q → x.len ≡ len → (cyclic ≡ false → x.done ≡ true) → Clash cyclic q len x e → ⊥
+no_clash cyclic q len x e p l d (differs (other_shape n f)) = n p
+no_clash cyclic q len x e p l d (differs (other_length s n f)) = n l
+no_clash cyclic q len x e p l d (inside_itself c s m n f) = let b : true ≡ false = sym (d c) ∙ n in cc
 
 one_difference : (q : Pointee) (len : ℕ) (x : Entry) (e d : Error) → Differs q len x e → Differs q len x d → e ≡ d
 one_difference q len x e d (other_shape n f) (other_shape m g) = f ∙ sym g
@@ -36,43 +36,47 @@ same_does_not_differ : (q : Pointee) (len : ℕ) (x : Entry) (e : Error) → x.p
 same_does_not_differ q len x e p l (other_shape n f) = n p
 same_does_not_differ q len x e p l (other_length s n f) = n l
 
-pub one_clash : (q : Pointee) (len : ℕ) (x : Entry) (e d : Error) → Clash q len x e → Clash q len x d → e ≡ d
-one_clash q len x e d (differs f) (differs g) = one_difference q len x e d f g
-one_clash q len x e d (differs f) (inside_itself s m n g) = absurd (same_does_not_differ q len x e s m f)
-one_clash q len x e d (inside_itself s m n f) (differs g) = absurd (same_does_not_differ q len x d s m g)
-one_clash q len x e d (inside_itself s m n f) (inside_itself t l o g) = f ∙ sym g
+pub one_clash : (cyclic : Bool) (q : Pointee) (len : ℕ) (x : Entry) (e d : Error) → Clash cyclic q len x e → Clash cyclic q len x d → e ≡ d
+one_clash cyclic q len x e d (differs f) (differs g) = one_difference q len x e d f g
+one_clash cyclic q len x e d (differs f) (inside_itself c s m n g) = absurd (same_does_not_differ q len x e s m f)
+one_clash cyclic q len x e d (inside_itself c s m n f) (differs g) = absurd (same_does_not_differ q len x d s m g)
+one_clash cyclic q len x e d (inside_itself c s m n f) (inside_itself b t l o g) = f ∙ sym g
 
 -- ---- accepted pointers
 
 module _ (names : Names) (bytes : List ℕ) (inside : List OpenShared) (before : List Visit) where
-  -- what was met is of the same shape and length, and its check has ended
+  -- what was met is of the same shape and length, and its check has ended, or its flavor allows cycles
   counted_entry :
-      (level : ℕ) (t : ℕ) (q : Pointee) (len : ℕ) (v : Value) (rs : List Region) (after : List Visit) (x : Entry)
-      → CountedHolds names bytes level inside false t q len v rs before after
+      (level : ℕ) (cyclic : Bool) (t : ℕ) (q : Pointee) (len : ℕ) (v : Value) (rs : List Region) (after : List Visit) (x : Entry)
+      → CountedHolds names bytes level inside cyclic t q len v rs before after
       → entry_at inside before t ≡ Some x
-      → x ≡ record { pointee = q; len = len; done = true }
-  counted_entry level t q len v rs after x (is_first a b h d g) e =
+      → (x.pointee ≡ q) × ((x.len ≡ len) × (cyclic ≡ false → x.done ≡ true))
+  counted_entry level cyclic t q len v rs after x (is_first a b h d g) e =
       let none : ◌≡◌ {A = Option Entry} None (Some x) = rw (a, b) at e in absurd (cc)
-  counted_entry level t q len v rs after x (is_later a b d g h) e =
-      one_entry (entry_at inside before t) x (record { pointee = q; len = len; done = true }) e (rw (a, b) refl)
-  counted_entry level t q len v rs after x (is_back c a d g h) e = absurd (cc c)
+  counted_entry level cyclic t q len v rs after x (is_later a b d g h) e =
+      let same = one_entry (entry_at inside before t) x (record { pointee = q; len = len; done = true }) e (rw (a, b) refl) in
+      (ap (λ (y : Entry). y.pointee) same, (ap (λ (y : Entry). y.len) same, λ c. ap (λ (y : Entry). y.done) same))
+  counted_entry level cyclic t q len v rs after x (is_back c a d g h) e =
+      let same = one_entry (entry_at inside before t) x (record { pointee = q; len = len; done = false }) e (rw a refl) in
+      (ap (λ (y : Entry). y.pointee) same, (ap (λ (y : Entry). y.len) same, λ f. let b : true ≡ false = sym c ∙ f in cc))
 
-  pub again_refused : (p : Part) (k : Range) (t : ℕ) (q : Pointee) (len : ℕ) (x : Entry) (e : Error) → content_of names bytes p ≡ counting false t q len → entry_at inside before t ≡ Some x → Clash q len x e → Passes names bytes inside before p k → ⊥
-  again_refused p k t q len x e c met clash h =
-      let same = counted_entry k.level t q len h.value h.regions h.after x (by_counting names bytes c h.accepts.holds) met in
-      no_clash q len x e (ap (λ (y : Entry). y.pointee) same) (ap (λ (y : Entry). y.len) same) (ap (λ (y : Entry). y.done) same) clash
+  pub again_refused : (p : Part) (k : Range) (cyclic : Bool) (t : ℕ) (q : Pointee) (len : ℕ) (x : Entry) (e : Error) → content_of names bytes p ≡ counting cyclic t q len → entry_at inside before t ≡ Some x → Clash cyclic q len x e → Passes names bytes inside before p k → ⊥
+  again_refused p k cyclic t q len x e c met clash h =
+      let same = counted_entry k.level cyclic t q len h.value h.regions h.after x (by_counting names bytes c h.accepts.holds) met in
+      no_clash cyclic q len x e same.0 same.1.0 same.1.1 clash
 
   first_counted :
-      (k : Range) (t : ℕ) (q : Pointee) (len : ℕ) (p : Part) (h : Passes names bytes inside before p k)
-      → CountedHolds names bytes k.level inside false t q len h.value h.regions before h.after
+      (k : Range) (cyclic : Bool) (t : ℕ) (q : Pointee) (len : ℕ) (p : Part) (h : Passes names bytes inside before p k)
+      → CountedHolds names bytes k.level inside cyclic t q len h.value h.regions before h.after
       → entry_at inside before t ≡ None
       → Passes names bytes (record { pos = t; pointee = q; len = len } ∷ inside) before (behind t q len) k
-  first_counted k t q len p h (is_first {w = w} {between = between} a b i d g) e =
+  first_counted k cyclic t q len p h (is_first {w = w} {between = between} a b i d g) e =
       record { value = w; regions = h.regions; after = between; accepts = record { holds = i; ascends = h.accepts.ascends; nests = h.accepts.nests } }
-  first_counted k t q len p h (is_later {w = w} a b d g i) e =
+  first_counted k cyclic t q len p h (is_later {w = w} a b d g i) e =
       let some : ◌≡◌ {A = Option Entry} (Some (record { pointee = q; len = len; done = true })) None = rw (a, b) at e in absurd (cc)
-  first_counted k t q len p h (is_back c a d g i) e = absurd (cc c)
+  first_counted k cyclic t q len p h (is_back c a d g i) e =
+      let some : ◌≡◌ {A = Option Entry} (Some (record { pointee = q; len = len; done = false })) None = rw a at e in absurd (cc)
 
   -- at the first visit, what the pointer leads to is accepted
-  pub first_visited : (p : Part) (k : Range) (t : ℕ) (q : Pointee) (len : ℕ) → content_of names bytes p ≡ counting false t q len → entry_at inside before t ≡ None → Passes names bytes inside before p k → Passes names bytes (record { pos = t; pointee = q; len = len } ∷ inside) before (behind t q len) k
-  first_visited p k t q len c none h = first_counted k t q len p h (by_counting names bytes c h.accepts.holds) none
+  pub first_visited : (p : Part) (k : Range) (cyclic : Bool) (t : ℕ) (q : Pointee) (len : ℕ) → content_of names bytes p ≡ counting cyclic t q len → entry_at inside before t ≡ None → Passes names bytes inside before p k → Passes names bytes (record { pos = t; pointee = q; len = len } ∷ inside) before (behind t q len) k
+  first_visited p k cyclic t q len c none h = first_counted k cyclic t q len p h (by_counting names bytes c h.accepts.holds) none

@@ -1,12 +1,16 @@
 -- Laws of faults, as statements.
-use Rattle.std.specs.Prelude.{◌≡◌, ℕ, List}
+use Rattle.std.specs.Prelude.{◌≡◌, ◌≢◌, ℕ, ◌<◌, List}
+use Rattle.archive_shape_layout.specs.Bytes.{window, word_at}
+use Rattle.archive_shape_layout.specs.Shape.{Shape}
 use Rattle.archive_shape_layout.specs.Content.{Names, Part}
+use Rattle.archive_shape_layout.specs.Content.Part.{child}
 use Rattle.archive_shape_layout.specs.Holds.{Visit, OpenShared}
 use Rattle.archive_shape_checking.specs.Range.{Range}
 use Rattle.archive_shape_checking.specs.Accepts.{Passes}
 use Rattle.archive_shape_checking.specs.Questions.{questions_of, AreAnswered}
 use Rattle.archive_shape_checking.specs.PartFault.{PartFault}
 use Rattle.archive_shape_writing.specs.declared.error.Error.{Error}
+use Rattle.archive_shape_writing.specs.declared.error.Error.TheVariants.{TooManyLevels}
 
 -- a part with a fault is not accepted
 abbrev pub FaultRefuses : Type 0
@@ -30,3 +34,11 @@ AcceptedIsAnswered =
     (names : Names) (bytes : List ℕ) (inside : List OpenShared) (before : List Visit) (p : Part) (k : Range)
     → Passes names bytes inside before p k
     → AreAnswered k (questions_of names bytes p)
+
+-- a pointer to a child below level 32 is refused before anything is asked of where it leads; the word 1 is no child
+abbrev pub DeepChildIsRefused : Type 0
+DeepChildIsRefused =
+    (names : Names) (bytes : List ℕ) (inside : List OpenShared) (before : List Visit) (level most : ℕ) (key value : Shape) (pos : ℕ) (k : Range)
+    → 32 < level
+    → word_at (window bytes pos 4) 0 ≢ 1
+    → PartFault names bytes inside before (child level most key value pos) k TooManyLevels

@@ -1,5 +1,5 @@
 -- The first fault that a check meets, and the error that names it.
-use Rattle.std.specs.Prelude.{◌≡◌, ◌≢◌, ℕ, ◌+◌, ◌*◌, Bool, true, false, List, ◌∷◌, Option, Some, None}
+use Rattle.std.specs.Prelude.{◌≡◌, ◌≢◌, ℕ, ◌+◌, ◌-◌, ◌*◌, ◌^◌, min, Bool, true, false, List, ◌∷◌, Option, Some, None}
 use Rattle.archive_shape_layout.specs.Bytes.{window, word_at, target_from}
 use Rattle.archive_shape_layout.specs.Shape.{Shape, Pointee, size_of}
 use Rattle.archive_shape_layout.specs.Shape.Shape.{tuple, index_map}
@@ -36,10 +36,10 @@ pub data Differs (p : Pointee) (len : ℕ) (x : Entry) (e : Error) : Type 0 wher
   other_shape : x.pointee ≢ p → e ≡ TypeMismatch → Differs p len x e
   other_length : x.pointee ≡ p → x.len ≢ len → e ≡ MetadataMismatch → Differs p len x e
 
--- what it is refused for
-pub data Clash (p : Pointee) (len : ℕ) (x : Entry) (e : Error) : Type 0 where
-  differs : Differs p len x e → Clash p len x e
-  inside_itself : x.pointee ≡ p → x.len ≡ len → x.done ≡ false → e ≡ CyclicSharedPointer → Clash p len x e
+-- what it is refused for; inside itself only where the pointer's flavor forbids cycles
+pub data Clash (cyclic : Bool) (p : Pointee) (len : ℕ) (x : Entry) (e : Error) : Type 0 where
+  differs : Differs p len x e → Clash cyclic p len x e
+  inside_itself : cyclic ≡ false → x.pointee ≡ p → x.len ≡ len → x.done ≡ false → e ≡ CyclicSharedPointer → Clash cyclic p len x e
 
 -- of a kept map that is not empty: the part that is its table
 pub record HasTable (bytes : List ℕ) (pos : ℕ) (p : Part) : Type 0 where
@@ -59,6 +59,10 @@ entries_size bytes pos k v = word_at (window bytes pos 16) 4 * size_of (tuple (m
 abbrev pub counted_items : Values → ℕ
 counted_items no_values = 0
 counted_items (more_values v vs) = count_values (members v)
+
+-- a refusal has their number as a usize
+abbrev pub counted_as_usize : Values → ℕ
+counted_as_usize vs = min (counted_items vs) (2 ^ 64 - 1)
 
 mutual
   pub data PartFault (names : Names) (bytes : List ℕ) : List OpenShared → List Visit → Part → Range → Error → Type 0 where
@@ -103,7 +107,7 @@ mutual
         → content_of names bytes p ≡ plain (total n) ps
         → (q : PassesAll names bytes inside before ps k)
         → counted_items q.values ≢ n
-        → e ≡ EntriesLengthMismatch (counted_items q.values) n
+        → e ≡ EntriesLengthMismatch (counted_as_usize q.values) n
         → PartFault names bytes inside before p k e
     -- in the table of a kept map whose entries lie before the bytes
     fault_table :
@@ -126,17 +130,17 @@ mutual
         → PartFault names bytes inside before p k e
     -- a shared position that was met before, under another shape or length, or inside itself
     fault_again :
-        {inside : List OpenShared} {before : List Visit} {p : Part} {k : Range} {e : Error} {t : ℕ} {q : Pointee} {len : ℕ} {x : Entry}
+        {inside : List OpenShared} {before : List Visit} {p : Part} {k : Range} {e : Error} {cyclic : Bool} {t : ℕ} {q : Pointee} {len : ℕ} {x : Entry}
         → AreAnswered k (questions_of names bytes p)
-        → content_of names bytes p ≡ counting false t q len
+        → content_of names bytes p ≡ counting cyclic t q len
         → entry_at inside before t ≡ Some x
-        → Clash q len x e
+        → Clash cyclic q len x e
         → PartFault names bytes inside before p k e
     -- in what it leads to, at the first visit
     fault_first :
-        {inside : List OpenShared} {before : List Visit} {p : Part} {k : Range} {e : Error} {t : ℕ} {q : Pointee} {len : ℕ}
+        {inside : List OpenShared} {before : List Visit} {p : Part} {k : Range} {e : Error} {cyclic : Bool} {t : ℕ} {q : Pointee} {len : ℕ}
         → AreAnswered k (questions_of names bytes p)
-        → content_of names bytes p ≡ counting false t q len
+        → content_of names bytes p ≡ counting cyclic t q len
         → entry_at inside before t ≡ None
         → PartFault names bytes (record { pos = t; pointee = q; len = len } ∷ inside) before (behind t q len) k e
         → PartFault names bytes inside before p k e

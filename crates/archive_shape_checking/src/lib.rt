@@ -10,10 +10,8 @@
 mod check;
 mod context;
 mod laws;
-#[cfg(test)]
-mod tests;
 
 pub use archive_shape_writing::Error;
 pub use check::{CheckBytes, check_leaf};
 pub use context::{ArchiveContext, PushedRange, SharedContext, ValidationState};
-pub use laws::{accepted_is_answered, fault_refuses, one_fault};
+pub use laws::{accepted_is_answered, deep_child_is_refused, fault_refuses, one_fault};

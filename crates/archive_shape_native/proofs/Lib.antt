@@ -1,3 +1,4 @@
+pub mod Held
 pub mod Reading
 pub mod Readable
 pub mod Spelling

@@ -2,4 +2,10 @@
 #![tactic(auto)]
 
 #[cfg(test)]
+mod checking;
+#[cfg(test)]
 mod portable;
+#[cfg(test)]
+mod shape;
+#[cfg(test)]
+mod writing;

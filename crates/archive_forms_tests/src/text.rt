@@ -1,0 +1,6 @@
+//! Tests of archived texts.
+mod checked;
+mod checks;
+mod keys;
+mod narrow_context;
+mod reading;

@@ -1,0 +1,18 @@
+//! Texts that were checked.
+ghost use Rattle.std.specs.Prelude.{◌+◌, ◌≤◌, length, IfOk};
+ghost use Rattle.archive_forms_layout.specs.Text.{HasText};
+
+use super::narrow_context::NarrowContext;
+use archive_forms_text::ArchivedString;
+use archive_shape::{CheckBytes, Error, Ref};
+use std::alloc::Global;
+
+/// Checks the text at a position in a context of its own.
+pub fn checked(alloc: Global, bytes: &[u8], pos: usize) -> Result<Ref<'_, ArchivedString>, Error>
+    requires { pos + 8 ≤ length bytes.now }
+    ensures { IfOk result (λ text. HasText text.bytes.now text.pos) }
+{
+    let mut context = NarrowContext::new(alloc, bytes.len(), 1);
+    ArchivedString::check(alloc, bytes, pos, &mut context)?;
+    Ok(Ref::new(bytes, pos))
+}

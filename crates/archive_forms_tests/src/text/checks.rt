@@ -1,0 +1,108 @@
+//! Tests of the check of texts.
+ghost use Rattle.std.specs.Prelude.{◌+◌, ◌≤◌, length};
+
+use super::narrow_context::NarrowContext;
+use archive_forms_text::ArchivedString;
+use archive_shape::{ArchiveContext, CheckBytes, Error};
+use std::alloc::Global;
+
+/// Checks the text at a position in a context of its own.
+fn check_alone(alloc: Global, bytes: &[u8], pos: usize, most: usize) -> Result<(), Error>
+    requires { pos + 8 ≤ length bytes.now }
+{
+    let mut context = NarrowContext::new(alloc, bytes.len(), most);
+    ArchivedString::check(alloc, bytes, pos, &mut context)
+}
+
+/// `hello world!`, and at 12 a text of twelve bytes with this offset.
+fn twelve_bytes_and(offset: u8) -> [u8; 20] {
+    let mut bytes = *b"hello world!\x8c\0\0\0\0\xff\xff\xff";
+    bytes[16] = offset;
+    bytes
+}
+
+#[test]
+fn texts_inline(rt: HostRuntime) {
+    let alloc = rt.alloc();
+    let rows = [
+        (*b"world\xff\xff\xff", Ok(())),
+        ([0xff; 8], Ok(())),
+        (*b"12345678", Ok(())),
+        (*b"\xfeorld\xff\xff\xff", Err(Error::InvalidUtf8)),
+        (*b"worl\xc3\xff\xff\xff", Err(Error::InvalidUtf8)),
+        (*b"\xc0\x80orld\xff\xff", Err(Error::InvalidUtf8)),
+    ];
+    for (own, result) in rows {
+        assert_eq!(rt; check_alone(alloc, &own, 0, 0), result, "{own:?}");
+    }
+    assert_eq!(rt;
+        check_alone(alloc, b".\xc3\xa9\xff\xff\xff\xff\xff\xff", 1, 0),
+        Ok(())
+    );
+}
+
+#[test]
+fn texts_out_of_line(rt: HostRuntime) {
+    let alloc = rt.alloc();
+    assert_eq!(rt; check_alone(alloc, &twelve_bytes_and(0xf4), 12, 1), Ok(()));
+    assert_eq!(rt;
+        check_alone(alloc, &twelve_bytes_and(0xf3), 12, 1),
+        Err(Error::InvalidSubtreePointer { size: 12 })
+    );
+    assert_eq!(rt;
+        check_alone(alloc, &twelve_bytes_and(0xf4), 12, 0),
+        Err(Error::ExceededMaximumSubtreeDepth)
+    );
+    assert_eq!(rt;
+        check_alone(alloc, b"hello\xff world\x8c\0\0\0\xf4\xff\xff\xff", 12, 1),
+        Err(Error::InvalidUtf8)
+    );
+}
+
+#[test]
+fn faults_of_own_bytes(rt: HostRuntime) {
+    let alloc = rt.alloc();
+    let rows = [
+        (*b"\x81\0\0\0\xf8\xff\xff\xff", Error::CheckStringRepr),
+        (
+            *b"\x80\x01\0\0\xff\xff\xff\xff",
+            Error::InvalidSubtreePointer { size: 64 },
+        ),
+        (
+            *b"\xbf\xff\xff\xff\0\0\0\0",
+            Error::InvalidSubtreePointer { size: 0x3fff_ffff },
+        ),
+    ];
+    for (own, error) in rows {
+        assert_eq!(rt; check_alone(alloc, &own, 0, 1), Err(error), "{own:?}");
+    }
+}
+
+#[test]
+fn shortest_text_out_of_line(rt: HostRuntime) {
+    let alloc = rt.alloc();
+    assert_eq!(rt;
+        check_alone(alloc, b"12345678\x88\0\0\0\xf8\xff\xff\xff", 8, 1),
+        Err(Error::CheckStringRepr)
+    );
+    assert_eq!(rt;
+        check_alone(alloc, b"123456789...\x89\0\0\0\xf4\xff\xff\xff", 12, 1),
+        Ok(())
+    );
+}
+
+#[test]
+fn checked_text_is_not_claimed_again(rt: HostRuntime) {
+    let alloc = rt.alloc();
+    let bytes = twelve_bytes_and(0xf4);
+    let mut context = NarrowContext::new(alloc, bytes.len(), 1);
+    assert_eq!(rt;
+        ArchivedString::check(alloc, &bytes, 12, &mut context),
+        Ok(())
+    );
+    assert_eq!(rt; context.check_subtree_ptr(12, 8, 4), Ok(()));
+    assert_eq!(rt;
+        context.check_subtree_ptr(11, 1, 1),
+        Err(Error::InvalidSubtreePointer { size: 1 })
+    );
+}

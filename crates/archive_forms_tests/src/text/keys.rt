@@ -1,0 +1,54 @@
+//! Tests of texts as keys.
+use super::checked::checked;
+use archive_forms_text::ArchivedString;
+use archive_shape::{ArchivedKey, Ref};
+use std::cmp::Ordering;
+use std::test::Fail;
+
+/// Whether a key is a text, and how it stands to it.
+fn compared<'q, K: ArchivedKey<&'q str>>(key: &Ref<'_, K>, query: &'q str) -> (bool, Ordering)
+    requires { K.is_key key.now.bytes.now key.now.pos }
+{
+    (K::same(key, &query), K::compare(key, &query))
+}
+
+#[test]
+fn keys_inline(rt: HostRuntime) -> Result<(), Fail> {
+    let world = checked(rt.alloc(), b"world\xff\xff\xff", 0)?;
+    let rows = [
+        ("world", true, Ordering::Equal),
+        ("worl", false, Ordering::Greater),
+        ("worlds", false, Ordering::Less),
+        ("wos", false, Ordering::Less),
+        ("World", false, Ordering::Greater),
+    ];
+    for (query, same, order) in rows {
+        assert_eq!(rt; compared(&world, query), (same, order), "{query}");
+    }
+    Ok(())
+}
+
+#[test]
+fn empty_key(rt: HostRuntime) -> Result<(), Fail> {
+    let empty = checked(rt.alloc(), &[0xff; 8], 0)?;
+    assert_eq!(rt; compared(&empty, ""), (true, Ordering::Equal));
+    assert_eq!(rt; compared(&empty, "a"), (false, Ordering::Less));
+    Ok(())
+}
+
+#[test]
+fn keys_out_of_line(rt: HostRuntime) -> Result<(), Fail> {
+    let bytes = b"hello world!........\x8c\0\0\0\xec\xff\xff\xff";
+    let hello = checked(rt.alloc(), bytes, 20)?;
+    let rows = [
+        ("hello world!", true, Ordering::Equal),
+        ("hello", false, Ordering::Greater),
+        ("hello world?", false, Ordering::Less),
+        ("hello world!!", false, Ordering::Less),
+        ("", false, Ordering::Greater),
+    ];
+    for (query, same, order) in rows {
+        assert_eq!(rt; compared(&hello, query), (same, order), "{query}");
+    }
+    Ok(())
+}

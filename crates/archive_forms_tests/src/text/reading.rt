@@ -1,0 +1,104 @@
+//! Tests of the reading of texts.
+use super::checked::checked;
+use archive_forms_text::{ArchivedString, ArchivedStringRepr};
+use archive_shape::{NoUndef, Portable, Shape};
+use std::test::Fail;
+
+#[test]
+fn lengths_of_texts(rt: HostRuntime) {
+    let rows = [
+        (*b"world\xff\xff\xff", 5),
+        (*b"12345678", 8),
+        ([0xff; 8], 0),
+        (*b"\x8c\0\0\0\xf4\xff\xff\xff", 12),
+        (*b"\xbf\0\0\0\xf4\xff\xff\xff", 63),
+        (*b"\x80\x01\0\0\xf4\xff\xff\xff", 64),
+        (*b"\xbf\xff\xff\xff\xf4\xff\xff\xff", 1_073_741_823),
+    ];
+    for (own, len) in rows {
+        assert_eq!(rt; ArchivedStringRepr::len(&own), len, "{own:?}");
+        assert_eq!(rt; ArchivedStringRepr::is_empty(&own), len == 0, "{own:?}");
+    }
+    assert_eq!(rt; ArchivedStringRepr::OUT_OF_LINE_CAPACITY, 1_073_741_823);
+    assert_eq!(rt; ArchivedStringRepr::INLINE_CAPACITY, 8);
+}
+
+#[test]
+fn first_bytes_of_texts(rt: HostRuntime) {
+    let rows = [
+        (0, true),
+        (0x7f, true),
+        (0x80, false),
+        (0xbf, false),
+        (0xc0, true),
+        (0xff, true),
+    ];
+    for (first, inline) in rows {
+        let own = [first, 0, 0, 0, 0, 0, 0, 0];
+        assert_eq!(rt; ArchivedStringRepr::is_inline(&own), inline, "{first}");
+    }
+}
+
+#[test]
+fn offsets_of_texts(rt: HostRuntime) {
+    let rows = [
+        (*b"\x8c\0\0\0\xec\xff\xff\xff", -20),
+        (*b"\x8c\0\0\0\x08\0\0\0", 8),
+        (*b"\x8c\0\0\0\0\0\0\x80", -2_147_483_648),
+    ];
+    for (own, offset) in rows {
+        assert_eq!(rt;
+            ArchivedStringRepr::out_of_line_offset(&own),
+            offset,
+            "{own:?}"
+        );
+    }
+}
+
+#[test]
+fn texts_inline_are_read(rt: HostRuntime) -> Result<(), Fail> {
+    let alloc = rt.alloc();
+    let world = checked(alloc, b"world\xff\xff\xff", 0)?;
+    assert_eq!(rt; ArchivedString::as_str(world), "world");
+    assert_eq!(rt; ArchivedString::as_bytes(world), "world".as_bytes());
+    assert_eq!(rt; ArchivedString::len(world), 5);
+    assert!(rt; !ArchivedString::is_empty(world));
+    let full = checked(alloc, b"..12345678", 2)?;
+    assert_eq!(rt; ArchivedString::as_str(full), "12345678");
+    assert_eq!(rt; ArchivedString::len(full), 8);
+    Ok(())
+}
+
+#[test]
+fn empty_text_is_read(rt: HostRuntime) -> Result<(), Fail> {
+    let empty = checked(rt.alloc(), &[0xff; 8], 0)?;
+    assert_eq!(rt; ArchivedString::as_str(empty), "");
+    assert!(rt; ArchivedString::is_empty(empty));
+    Ok(())
+}
+
+#[test]
+fn texts_out_of_line_are_read(rt: HostRuntime) -> Result<(), Fail> {
+    let alloc = rt.alloc();
+    let bytes = b"hello world!........\x8c\0\0\0\xec\xff\xff\xff";
+    let hello = checked(alloc, bytes, 20)?;
+    assert_eq!(rt; ArchivedString::as_str(hello), "hello world!");
+    assert_eq!(rt; ArchivedString::as_bytes(hello), "hello world!".as_bytes());
+    assert_eq!(rt; ArchivedString::len(hello), 12);
+    assert!(rt; !ArchivedString::is_empty(hello));
+    let ahead = checked(alloc, b"\x89\0\0\0\x08\0\0\0123456789", 0)?;
+    assert_eq!(rt; ArchivedString::as_str(ahead), "123456789");
+    Ok(())
+}
+
+fn size_without_undef<T: NoUndef + Portable>() -> usize {
+    T::SIZE
+}
+
+#[test]
+fn layout_of_texts(rt: HostRuntime) -> Result<(), Fail> {
+    assert_eq!(rt; size_without_undef::<ArchivedString>(), 8);
+    assert_eq!(rt; ArchivedString::ALIGN, 4);
+    assert!(rt; matches!(ArchivedString::shape(rt.alloc())?, Shape::Text));
+    Ok(())
+}

@@ -1,5 +1,0 @@
-use Rattle.archive_forms_text.specs.Once.{one_text_law}
-use Rattle.archive_forms_text.proofs.laws.one_text.Goals as goal
-
-pub returns : goal.returns
-returns c = one_text_law

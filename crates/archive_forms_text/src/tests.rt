@@ -1,5 +1,0 @@
-mod checked;
-mod checks;
-mod keys;
-mod narrow_context;
-mod reading;

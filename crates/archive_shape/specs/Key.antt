@@ -1,0 +1,34 @@
+-- What a key has in the layout.
+use Rattle.std.specs.Prelude.{◌≡◌, ℕ, ◌+◌, ◌≤◌, List, length, All}
+use Rattle.std.specs.declared.cmp.Ordering.{Ordering}
+use Rattle.archive_shape_layout.specs.Shape.{Shape, size_of}
+use Rattle.archive_shape_layout.specs.Value.{Value}
+use Rattle.archive_shape_layout.specs.Content.{Names}
+use Rattle.archive_shape_layout.specs.Content.Part.{at}
+use Rattle.archive_shape_layout.specs.Holds.{Region, Visit, OpenShared, Holds}
+
+-- under names that a type knows, the layout has this value at a position, and its own bytes and all that it claims lie in
+-- the buffer
+pub record HeldAt (shape : Shape) (knows : Names → Type 0) (bytes : List ℕ) (pos : ℕ) (value : Value) : Type 0 where
+  pub names : Names
+  pub known : knows names
+  pub level : ℕ
+  pub inside : List OpenShared
+  pub regions : List Region
+  pub before : List Visit
+  pub after : List Visit
+  pub own_within : pos + size_of shape ≤ length bytes
+  pub within : All (λ r. r.start + r.size ≤ length bytes) regions
+  pub holds : Holds names bytes level inside (at pos shape) value regions before after
+
+-- two keys of one value, wherever each lies, compare alike with every query
+abbrev pub AreAlike : {Q : Type 0} → Shape → (Names → Type 0) → (List ℕ → ℕ → Q → Type 0) → (Q → Q → Ordering) → Type 0
+AreAlike {Q = Q} shape knows key_of order =
+    (bytes other : List ℕ) (pos other_pos : ℕ) (value : Value)
+    → HeldAt shape knows bytes pos value
+    → HeldAt shape knows other other_pos value
+    → (a b : Q)
+    → key_of bytes pos a
+    → key_of other other_pos b
+    → (query : Q)
+    → order a query ≡ order b query

@@ -1,0 +1,102 @@
+//! Tests of checks of leaves.
+ghost use Rattle.std.specs.Prelude.{◌≤◌, length};
+ghost use Rattle.archive_shape_layout.specs.Shape.{size_of};
+
+use super::list_context::ListContext;
+use archive_shape_checking::{ArchiveContext, CheckBytes, Error};
+use archive_shape_portable::{
+    ArchivedChar, ArchivedI64, ArchivedNonZeroI128, ArchivedNonZeroU16, ArchivedU16,
+};
+use std::alloc::Global;
+use std::marker::PhantomData;
+use std::num::{NonZeroI8, NonZeroU8};
+use std::test::Fail;
+
+/// Checks the value at 0 in a context of its own, of which the whole range is then still free.
+fn check_alone<T: CheckBytes<ListContext>>(alloc: Global, bytes: &[u8]) -> Result<(), Error>
+    requires { size_of T.shape ≤ length bytes.now }
+{
+    let mut context = ListContext::new(alloc, bytes.len(), 1);
+    let result = T::check(alloc, bytes, 0, &mut context);
+    context.check_subtree_ptr(0, bytes.len(), 1)?;
+    result
+}
+
+#[test]
+fn truth_values(rt: HostRuntime) {
+    let rows = [
+        (0, Ok(())),
+        (1, Ok(())),
+        (2, Err(Error::InvalidTag)),
+        (0xff, Err(Error::InvalidTag)),
+    ];
+    for (byte, result) in rows {
+        assert_eq!(rt; check_alone::<bool>(rt.alloc(), &[byte]), result, "{byte}");
+    }
+}
+
+#[test]
+fn leaves_of_one_byte(rt: HostRuntime) {
+    let alloc = rt.alloc();
+    assert_eq!(rt; check_alone::<u8>(alloc, &[0]), Ok(()));
+    assert_eq!(rt; check_alone::<i8>(alloc, &[0xff]), Ok(()));
+    assert_eq!(rt; check_alone::<NonZeroU8>(alloc, &[1]), Ok(()));
+    assert_eq!(rt;
+        check_alone::<NonZeroU8>(alloc, &[0]),
+        Err(Error::InvalidTag)
+    );
+    assert_eq!(rt;
+        check_alone::<NonZeroI8>(alloc, &[0]),
+        Err(Error::InvalidTag)
+    );
+}
+
+#[test]
+fn values_without_bytes(rt: HostRuntime) {
+    let alloc = rt.alloc();
+    assert_eq!(rt; check_alone::<()>(alloc, &[]), Ok(()));
+    assert_eq!(rt; check_alone::<PhantomData<u64>>(alloc, &[]), Ok(()));
+}
+
+#[test]
+fn numbers_of_more_bytes(rt: HostRuntime) {
+    let alloc = rt.alloc();
+    assert_eq!(rt; check_alone::<ArchivedU16>(alloc, &[0, 0]), Ok(()));
+    assert_eq!(rt; check_alone::<ArchivedI64>(alloc, &[0xff; 8]), Ok(()));
+    assert_eq!(rt; check_alone::<ArchivedNonZeroU16>(alloc, &[0, 1]), Ok(()));
+    assert_eq!(rt;
+        check_alone::<ArchivedNonZeroU16>(alloc, &[0, 0]),
+        Err(Error::InvalidTag)
+    );
+    assert_eq!(rt;
+        check_alone::<ArchivedNonZeroI128>(alloc, &[0; 16]),
+        Err(Error::InvalidTag)
+    );
+}
+
+#[test]
+fn chars(rt: HostRuntime) {
+    let alloc = rt.alloc();
+    assert_eq!(rt;
+        check_alone::<ArchivedChar>(alloc, &[0xff, 0xd7, 0, 0]),
+        Ok(())
+    );
+    assert_eq!(rt;
+        check_alone::<ArchivedChar>(alloc, &[0, 0xd8, 0, 0]),
+        Err(Error::InvalidTag)
+    );
+}
+
+#[test]
+fn leaves_at_several_positions(rt: HostRuntime) -> Result<(), Fail> {
+    let alloc = rt.alloc();
+    let bytes = [1u8, 2, 1];
+    let mut context = ListContext::new(alloc, bytes.len(), 1);
+    bool::check(alloc, &bytes, 2, &mut context)?;
+    bool::check(alloc, &bytes, 0, &mut context)?;
+    assert_eq!(rt;
+        bool::check(alloc, &bytes, 1, &mut context),
+        Err(Error::InvalidTag)
+    );
+    Ok(())
+}

@@ -1,0 +1,159 @@
+//! A context of checks for tests.
+ghost use Rattle.std.specs.Prelude.{◌≡◌, ◌==◌, ◌≤◌, ◌↔◌, IsTrue, length, find, option_map};
+ghost use Rattle.std.specs.List.{position_or_len};
+ghost use Rattle.archive_shape_layout.specs.RuntimeShape.{pointee_of};
+
+use archive_shape_checking::{ArchiveContext, Error, PushedRange, SharedContext, ValidationState};
+use archive_shape_layout::{Pointee, same_shape};
+use std::alloc::Global;
+
+/// What was met at a shared position.
+#[derive(Drop)]
+struct Met {
+    pos: usize,
+    pointee: Pointee,
+    len: usize,
+    done: bool,
+}
+
+/// A context that keeps what it met in lists.
+#[derive(Drop)]
+pub struct ListContext {
+    start: usize,
+    end: usize,
+    most: usize,
+    pushes: Vec<PushedRange>,
+    met: Vec<Met>,
+}
+
+fn same_pointee(first: &Pointee, second: &Pointee) -> bool
+    ensures { IsTrue result ↔ (pointee_of first.now ≡ pointee_of second.now) }
+{
+    match (first, second) {
+        (Pointee::Sized(a), Pointee::Sized(b)) => same_shape(a, b),
+        (Pointee::Slice(a), Pointee::Slice(b)) => same_shape(a, b),
+        (Pointee::Text, Pointee::Text) => true,
+        _ => false,
+    }
+}
+
+impl ListContext {
+    /// Of n bytes, with n pushes at most.
+    pub fn new(alloc: Global, len: usize, most: usize) -> Self
+        ensures start { result.start ≡ 0 }
+        ensures end { result.end ≡ len }
+    {
+        ListContext {
+            start: 0,
+            end: len,
+            most,
+            pushes: Vec::new(alloc),
+            met: Vec::new(alloc),
+        }
+    }
+
+    /// Where a shared position stands among those that were met; after the last one where it was not.
+    fn place_of(&self, pos: usize) -> usize
+        ensures first { result ≡ position_or_len (λ m. m.pos == pos) self.now.met.items }
+        ensures within { result ≤ length self.now.met.items }
+    {
+        let mut i = 0;
+        while i < self.met.len() {
+            if self.met[i].pos == pos {
+                return i;
+            }
+            i += 1;
+        }
+        i
+    }
+}
+
+impl ArchiveContext for ListContext {
+    ghost kept = { λ c. record {
+      start = c.start;
+      end = c.end;
+      most = c.most;
+      pushes = c.pushes.items;
+      seen = λ pos. option_map (λ m. record { pointee = pointee_of m.pointee; len = m.len; done = m.done }) (find (λ m. m.pos == pos) c.met.items);
+    } };
+
+    fn check_subtree_ptr(&self, pos: usize, size: usize, align: usize) -> Result<(), Error> {
+        if pos < self.start || self.end < pos || self.end - pos < size {
+            return Err(Error::InvalidSubtreePointer { size });
+        }
+        if pos % align != 0 {
+            return Err(Error::Unaligned { align });
+        }
+        Ok(())
+    }
+
+    fn push_subtree_range(&mut self, pos: usize, end: usize) -> Result<PushedRange, Error> {
+        if self.most <= self.pushes.len() {
+            return Err(Error::ExceededMaximumSubtreeDepth);
+        }
+        let range = PushedRange {
+            pos,
+            end,
+            outer: self.end,
+        };
+        self.pushes.push(range)?;
+        self.end = pos;
+        Ok(range)
+    }
+
+    fn pop_subtree_range(&mut self, range: PushedRange) -> Result<(), Error> {
+        let Some(last) = self.pushes.pop() else {
+            return Err(Error::RangePoppedTooManyTimes);
+        };
+        if last != range {
+            return Err(Error::RangePoppedOutOfOrder);
+        }
+        self.start = range.end;
+        self.end = range.outer;
+        Ok(())
+    }
+}
+
+impl SharedContext for ListContext {
+    fn start_shared(
+        &mut self,
+        pos: usize,
+        len: usize,
+        pointee: Pointee,
+    ) -> Result<ValidationState, Error> {
+        let place = self.place_of(pos);
+        if place == self.met.len() {
+            self.met.push(Met {
+                pos,
+                pointee,
+                len,
+                done: false,
+            })?;
+            return Ok(ValidationState::Started);
+        }
+        let met = &self.met[place];
+        if !same_pointee(&met.pointee, &pointee) {
+            return Err(Error::TypeMismatch);
+        }
+        if met.len != len {
+            return Err(Error::MetadataMismatch);
+        }
+        if met.done {
+            Ok(ValidationState::Finished)
+        } else {
+            Ok(ValidationState::Pending)
+        }
+    }
+
+    fn finish_shared(&mut self, pos: usize) -> Result<(), Error> {
+        let place = self.place_of(pos);
+        if place == self.met.len() {
+            return Err(Error::NotStarted);
+        }
+        if self.met[place].done {
+            return Err(Error::AlreadyFinished);
+        }
+        self.met[place].done = true;
+        Ok(())
+    }
+}

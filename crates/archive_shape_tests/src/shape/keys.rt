@@ -1,0 +1,79 @@
+//! Tests of numbers and chars as keys.
+ghost use Rattle.std.specs.Prelude.{◌≡◌, ◌+◌, ◌≤◌, length};
+ghost use Rattle.std.specs.Ordering.{nat_cmp};
+ghost use Rattle.std.specs.Int.{w32, from_le_bytes};
+ghost use Rattle.archive_shape_layout.specs.Bytes.{window};
+
+use archive_shape::{
+    ArchivedChar, ArchivedI32, ArchivedI64, ArchivedI128, ArchivedKey, ArchivedNonZeroU32,
+    ArchivedU32, ArchivedU64, Ref,
+};
+use std::cmp::Ordering;
+use std::num::NonZeroU32;
+
+// A caller that compares a key knows how the number there stands to the query.
+fn compare_number(bytes: &[u8], pos: usize, query: u32) -> Ordering
+    requires { pos + 4 ≤ length bytes.now }
+    ensures { result ≡ nat_cmp (from_le_bytes w32 (window bytes.now pos 4)) query }
+{
+    ArchivedU32::compare(&Ref::new(bytes, pos), &query)
+}
+
+#[test]
+fn keys_are_compared_with_queries(rt: HostRuntime) {
+    let bytes = [9, 0x2c, 1, 0, 0];
+    let rows = [
+        (299, false, Ordering::Greater),
+        (300, true, Ordering::Equal),
+        (301, false, Ordering::Less),
+    ];
+    let key = Ref::<ArchivedU32>::new(&bytes, 1);
+    for (query, same, order) in rows {
+        assert_eq!(rt; compare_number(&bytes, 1, query), order, "{query}");
+        assert_eq!(rt; ArchivedU32::same(&key, &query), same, "{query}");
+    }
+}
+
+#[test]
+fn signed_keys(rt: HostRuntime) {
+    let bytes = [0xff; 16];
+    let key = Ref::<ArchivedI32>::new(&bytes, 0);
+    assert!(rt; ArchivedI32::same(&key, &-1));
+    assert_eq!(rt; ArchivedI32::compare(&key, &0), Ordering::Less);
+    let wide = Ref::<ArchivedI64>::new(&bytes, 0);
+    assert!(rt; !ArchivedI64::same(&wide, &1));
+    assert_eq!(rt; ArchivedI64::compare(&wide, &-2), Ordering::Greater);
+}
+
+#[test]
+fn widest_keys(rt: HostRuntime) {
+    let bytes = [0xff; 16];
+    let key = Ref::<ArchivedU64>::new(&bytes, 0);
+    assert!(rt; ArchivedU64::same(&key, &u64::MAX));
+    assert_eq!(rt; ArchivedU64::compare(&key, &1), Ordering::Greater);
+    let widest = Ref::<ArchivedI128>::new(&bytes, 0);
+    assert!(rt; ArchivedI128::same(&widest, &-1));
+    assert_eq!(rt; ArchivedI128::compare(&widest, &-2), Ordering::Greater);
+    assert_eq!(rt; ArchivedI128::compare(&widest, &0), Ordering::Less);
+}
+
+#[test]
+#[tactic(auto, unfolding(archive_shape_layout::specs::Content::is_scalar, archive_shape_layout::specs::Bytes::word_at))]
+fn char_keys(rt: HostRuntime) {
+    let bytes = [0x6b, 0, 0, 0];
+    let key = Ref::<ArchivedChar>::new(&bytes, 0);
+    assert!(rt; ArchivedChar::same(&key, &'k'));
+    assert!(rt; !ArchivedChar::same(&key, &'K'));
+    assert_eq!(rt; ArchivedChar::compare(&key, &'z'), Ordering::Less);
+}
+
+#[test]
+fn nonzero_keys(rt: HostRuntime) {
+    let bytes = [0x6b, 0, 0, 0];
+    let key = Ref::<ArchivedNonZeroU32>::new(&bytes, 0);
+    assert!(rt; ArchivedNonZeroU32::same(&key, &NonZeroU32::new(107).unwrap()));
+    assert_eq!(rt;
+        ArchivedNonZeroU32::compare(&key, &NonZeroU32::MIN),
+        Ordering::Greater
+    );
+}

@@ -1,0 +1,78 @@
+//! A writer that fails.
+ghost use Rattle.std.specs.Prelude.{◌≡◌, true, vec_len};
+
+use archive_shape_writing::{Error, Positional, Writer};
+use std::alloc::Global;
+
+/// A writer that fails after n writes, and keeps half of the piece that failed.
+#[derive(Drop)]
+pub struct FailingWriter {
+    bytes: Vec<u8>,
+    writes_left: usize,
+    failures: u64,
+    last_error: Error,
+}
+
+impl FailingWriter {
+    pub fn new(alloc: Global, writes: usize) -> Self
+        ensures { result.failures ≡ 0 }
+    {
+        FailingWriter {
+            bytes: Vec::new(alloc),
+            writes_left: writes,
+            failures: 0,
+            last_error: Error::WriterFailed,
+        }
+    }
+
+    pub fn bytes(&self) -> &[u8] {
+        self.bytes.as_slice()
+    }
+
+    pub fn failures(&self) -> u64 {
+        self.failures
+    }
+}
+
+impl Positional for FailingWriter {
+    ghost pos = { λ w. vec_len w.bytes };
+
+    fn pos(&self) -> usize {
+        self.bytes.len()
+    }
+}
+
+#[tactic(auto, using(archive_shape_writing::proofs::Joined::cut_none, archive_shape_writing::proofs::Joined::cut_take))]
+impl Writer for FailingWriter {
+    ghost OBSERVABLE = { true };
+
+    ghost COUNTS = { true };
+
+    ghost contents = { λ w. w.bytes.items };
+
+    ghost failures = { λ w. w.failures };
+
+    ghost last_error = { λ w. w.last_error };
+
+    fn counts() -> bool {
+        true
+    }
+
+    fn write(&mut self, bytes: &[u8]) -> Result<(), Error> {
+        if self.writes_left == 0 {
+            self.failures += 1;
+            let half = bytes.len() / 2;
+            self.last_error = Error::OutOfMemory;
+            self.bytes.extend_from_slice(&bytes[..half])?;
+            self.last_error = Error::WriterFailed;
+            return Err(Error::WriterFailed);
+        }
+        if self.bytes.extend_from_slice(bytes).is_err() {
+            self.failures += 1;
+            self.last_error = Error::OutOfMemory;
+            return Err(Error::OutOfMemory);
+        }
+        self.writes_left -= 1;
+        Ok(())
+    }
+}
