@@ -115,10 +115,7 @@ fn number(signed: bool) -> Shape {
 }
 
 fn fields(alloc: Global, first: Shape, others: Shapes) -> Result<Shapes, AllocError> {
-    Ok(Shapes::Another(
-        Box::new(alloc, first)?,
-        Box::new(alloc, others)?,
-    ))
+    Ok(Shapes::Another(Box::new(alloc, first)?, Box::new(alloc, others)?))
 }
 
 #[test]
