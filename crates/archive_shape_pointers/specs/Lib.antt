@@ -1,4 +1,2 @@
-pub mod Fitting
 pub mod Offsets
 pub mod Pointers
-pub mod PointerSizes

@@ -6,11 +6,11 @@ use Rattle.std.specs.Int.{Width, from_le_bytes, cast_signed}
 abbrev pub difference : ℕ → ℕ → ℤ
 difference from to = pos to -ℤ pos from
 
--- the number that a signed field's bytes spell
+-- the number that a signed field's bytes are read as
 abbrev pub signed_number : Width → List ℕ → ℤ
 signed_number w own = cast_signed w (from_le_bytes w own)
 
--- the number that an unsigned field's bytes spell
+-- the number that an unsigned field's bytes are read as
 abbrev pub unsigned_number : Width → List ℕ → ℤ
 unsigned_number w own = pos (from_le_bytes w own)
 

@@ -11,6 +11,6 @@ metadata_at offset_size metadata_align = align_up offset_size metadata_align
 abbrev pub metadata_end : ℕ → ℕ → ℕ → ℕ
 metadata_end offset_size metadata_align metadata_size = metadata_at offset_size metadata_align + metadata_size
 
--- the bytes with an offset at a position, and metadata so far after where it begins
+-- the bytes with an offset written at `start`, and metadata `at` bytes after `start`
 abbrev pub pointer_written : List ℕ → ℕ → List ℕ → ℕ → List ℕ → List ℕ
 pointer_written bytes start offset at metadata = overwrite (overwrite bytes start offset) (start + at) metadata

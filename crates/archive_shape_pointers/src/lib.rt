@@ -4,8 +4,6 @@
 mod offset;
 mod raw_pointer;
 mod rel_pointer;
-#[cfg(test)]
-mod tests;
 
 pub use offset::{Offset, signed_offset};
 pub use raw_pointer::{

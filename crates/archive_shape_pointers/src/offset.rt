@@ -2,8 +2,9 @@
 ghost use Rattle.std.specs.Prelude.{◌≡◌, ℤ, pos, List, ℕ, OnOk, MatchResult, FitsSigned, unsigned_abs, ◌≤◌, ◌∷◌, []};
 ghost use Rattle.std.specs.Int.{w8, w16, w32, w64, FitsUnsignedBits, to_le_bytes, cast_unsigned};
 ghost use Rattle.std.proofs.Common.{lit<, lit≤};
+ghost use Rattle.std.proofs.Math.Facts.{sfits_widen};
 ghost use Rattle.archive_shape_pointers.specs.Offsets.{difference, signed_number, unsigned_number};
-ghost use Rattle.archive_shape_pointers.specs.Fitting.{signed_fits, unsigned_fits};
+ghost use Rattle.archive_shape_references.proofs.Offsets.{unsigned_fits};
 ghost use Rattle.archive_shape_writing.specs.declared.error.Error.TheVariants.{IsizeOverflow};
 
 use archive_shape_portable::{
@@ -72,7 +73,7 @@ impl Offset for i8 {
 
     ghost one_fits = { record { sfits = lit< tt } };
 
-    ghost fits_isize = { λ z. signed_fits w8 z (lit≤ tt) };
+    ghost fits_isize = { λ _. sfits_widen tt };
 
     ghost is_small = { lit≤ tt };
 }
@@ -99,7 +100,7 @@ impl Offset for ArchivedI16 {
 
     ghost one_fits = { record { sfits = lit< tt } };
 
-    ghost fits_isize = { λ z. signed_fits w16 z (lit≤ tt) };
+    ghost fits_isize = { λ _. sfits_widen tt };
 
     ghost is_small = { lit≤ tt };
 }
@@ -126,7 +127,7 @@ impl Offset for ArchivedI32 {
 
     ghost one_fits = { record { sfits = lit< tt } };
 
-    ghost fits_isize = { λ z. signed_fits w32 z (lit≤ tt) };
+    ghost fits_isize = { λ _. sfits_widen tt };
 
     ghost is_small = { lit≤ tt };
 }
@@ -153,7 +154,7 @@ impl Offset for ArchivedI64 {
 
     ghost one_fits = { record { sfits = lit< tt } };
 
-    ghost fits_isize = { λ z. signed_fits w64 z (lit≤ tt) };
+    ghost fits_isize = { λ _. sfits_widen tt };
 
     ghost is_small = { lit≤ tt };
 }

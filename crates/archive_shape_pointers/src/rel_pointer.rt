@@ -1,14 +1,17 @@
-//! Pointers that have metadata beside the offset.
+//! Pointers that have metadata after the offset.
 ghost use Rattle.std.specs.Prelude.{◌≡◌, ℕ, ◌+◌, ◌≤◌, ◌↔◌, pos, ◌+ℤ◌, ◌++◌, max, length, IsTrue, IsOk, OnOk, MatchOption, MatchResult};
 ghost use Rattle.std.specs.Int.{w64, FitsUnsigned};
 ghost use Rattle.archive_shape_layout.specs.Bytes.{window, align_up};
+ghost use Rattle.archive_shape_layout.specs.Content.{pointee_length};
+ghost use Rattle.archive_shape_layout.specs.Shape.{pointer_size};
 ghost use Rattle.archive_shape_layout.specs.Shape.Shape.{tuple};
 ghost use Rattle.archive_shape_layout.specs.Shape.Shapes.{no_shapes, more_shapes};
 ghost use Rattle.archive_shape_portable.proofs.Naming.{first_types, other_types};
 ghost use Rattle.archive_shape_references.specs.Bytes.{overwrite};
+ghost use Rattle.archive_shape_references.specs.Pointees.{GivesLength};
 ghost use Rattle.archive_shape_pointers.specs.Offsets.{difference, Leads};
 ghost use Rattle.archive_shape_pointers.specs.Pointers.{metadata_at, metadata_end, pointer_written};
-ghost use Rattle.archive_shape_pointers.specs.PointerSizes.{pointer_sized, pointer_aligned, pointer_aligns};
+ghost use Rattle.archive_shape_references.proofs.PointerSizes.{pointer_sized, pointer_aligned, pointer_aligns};
 ghost use Rattle.archive_shape_writing.specs.declared.error.Error.TheVariants.{IsizeOverflow};
 
 use crate::{Offset, RawRelPtr};
@@ -74,8 +77,8 @@ impl<T: ArchivePointee, O: Offset> Portable for RelPtr<T, O> {
         let offset = Box::new(alloc, O::shape(alloc)?)?;
         let metadata = Box::new(alloc, T::ArchivedMetadata::shape(alloc)?)?;
         let end = Box::new(alloc, Shapes::Empty)?;
-        let behind = Box::new(alloc, Shapes::Another(metadata, end))?;
-        Ok(Shape::Tuple(Shapes::Another(offset, behind)))
+        let rest = Box::new(alloc, Shapes::Another(metadata, end))?;
+        Ok(Shape::Tuple(Shapes::Another(offset, rest)))
     }
 
     ghost sized = { pointer_sized O.shape T.ArchivedMetadata.shape
@@ -197,12 +200,15 @@ impl<T: ArchivePointee, O: Offset> RelPtr<T, O> {
         RawRelPtr::target(Self::raw(this))
     }
 
-    /// The metadata's number: 0 at a sized type, else the length.
+    /// How many elements the pointer leads to: 1 at a sized type, else the length. With an offset of four bytes it is what
+    /// the layout says of the pointer's own bytes.
     pub fn metadata(this: Ref<'_, Self>) -> usize
         requires { this.pos + metadata_end O.SIZE T.ArchivedMetadata.ALIGN T.ArchivedMetadata.SIZE ≤ length this.bytes.now }
-        ensures { T.tells
+        ensures length { GivesLength T.pointee
             (window this.entry.bytes.now (this.entry.pos + metadata_at O.SIZE T.ArchivedMetadata.ALIGN) T.ArchivedMetadata.SIZE)
             result }
+        ensures own { O.SIZE ≡ 4
+            → pointee_length T.pointee (window this.entry.bytes.now this.entry.pos (pointer_size T.pointee)) ≡ result }
     {
         T::pointer_metadata(&Ref::new(this.bytes, this.pos + Self::METADATA_OFFSET))
     }

@@ -1,2 +1,5 @@
+pub mod Offsets
+pub mod Pointees
+pub mod PointerSizes
 pub mod Written
 pub mod Sealed

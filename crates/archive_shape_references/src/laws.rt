@@ -1,5 +1,6 @@
 //! Laws. Each function below has no body: it carries a law.
 ghost use Rattle.archive_shape_references.specs.Bytes.{OverwriteSpares};
+ghost use Rattle.archive_shape_references.specs.Pointees.{ExtentIsClaimed};
 ghost use Rattle.archive_shape_references.specs.Sealing.{SealedLeaf, SealedText};
 
 /// What is written at a position stands there, and the bytes outside stay as they were.
@@ -17,4 +18,10 @@ pub fn sealed_leaf()
 /// changes that leaf of the root's value alone.
 pub fn sealed_text()
     ensures { SealedText }
+{}
+
+/// The size and the alignment that `LayoutRaw::layout_raw` gives are those of the region that an archive has for what a
+/// pointer leads to, where one element is smaller than any buffer may be.
+pub fn extent_is_claimed()
+    ensures { ExtentIsClaimed }
 {}

@@ -1,6 +1,7 @@
 //! References into archives, what pointers may lead to, and where values are resolved to.
 #![tactic(auto)]
 
+mod dynamically_sized;
 mod laws;
 mod layout_raw;
 mod own_seal;
@@ -8,13 +9,12 @@ mod place;
 mod pointee;
 mod refs;
 mod seal;
-#[cfg(test)]
-mod tests;
 
-pub use laws::{overwrite_spares, sealed_leaf, sealed_text};
+pub use dynamically_sized::{Slice, Str};
+pub use laws::{extent_is_claimed, overwrite_spares, sealed_leaf, sealed_text};
 pub use layout_raw::LayoutRaw;
 pub use own_seal::OwnSeal;
 pub use place::Place;
-pub use pointee::{ArchivePointee, Metadata, Slice};
+pub use pointee::{ArchivePointee, Metadata};
 pub use refs::Ref;
-pub use seal::{Seal, Str};
+pub use seal::Seal;

@@ -43,6 +43,7 @@ impl<'a, T> OwnSeal<'a, T> {
         Ref::new(self.own, 0)
     }
 
+    /// The value, for a shorter loan. A caller that is to know the bytes after the loan makes the seal anew by `new`.
     pub fn reborrow(&mut self) -> OwnSeal<'_, T>
         ensures bytes { result.own.now ≡ self.old.own.now }
         ensures pos { result.pos ≡ self.old.pos }

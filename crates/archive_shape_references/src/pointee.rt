@@ -1,18 +1,17 @@
 //! What pointers may lead to.
-ghost use Rattle.std.specs.Prelude.{◌≡◌, ℕ, ◌+◌, ◌≤◌, List, [], length};
+ghost use Rattle.std.specs.Prelude.{◌≡◌, ℕ, ◌+◌, ◌%◌, ◌≤◌, List, [], length, IfOk, refl};
 ghost use Rattle.std.specs.Int.{w32, to_le_bytes};
 ghost use Rattle.std.proofs.Common.{lit≤};
 ghost use Rattle.archive_shape_layout.specs.Bytes.{window};
+ghost use Rattle.archive_shape_layout.specs.Shape.{Pointee as Layout, pointer_size};
+ghost use Rattle.archive_shape_layout.specs.Shape.Pointee.{sized, slice, str};
+ghost use Rattle.archive_shape_layout.specs.RuntimeShape.{pointee_of};
+ghost use Rattle.archive_shape_references.specs.Pointees.{GivesLength};
 
-use crate::{Ref, Str};
+use crate::{Ref, Slice, Str};
+use archive_shape_layout::Pointee;
 use archive_shape_portable::{ArchivedUsize, LittleEndian, Native, Portable};
-use std::marker::PhantomData;
-
-/// What a pointer to a slice leads to: elements side by side.
-#[derive_where(Clone, Copy)]
-pub struct Slice<T> {
-    pub of: PhantomData<T>,
-}
+use std::alloc::{AllocError, Global};
 
 /// What stands beside the offset of a pointer, at most 8 bytes.
 pub trait Metadata: Portable + Copy {
@@ -62,46 +61,79 @@ impl Metadata for ArchivedUsize {
     ghost is_small = { lit≤ tt };
 }
 
-/// What a pointer may lead to, with what an archive has beside the offset: nothing at a sized type, else the length.
+/// What a pointer may lead to, with what an archive has after the offset: nothing at a sized type, else the length.
 pub trait ArchivePointee {
-    /// The archived form of what stands beside the offset.
+    /// The archived form of what stands after the offset.
     type ArchivedMetadata: Metadata;
 
-    /// Whether the own bytes of the metadata spell this number.
-    ghost tells: { List ℕ → ℕ → Type 0 };
+    ghost pointee: { Layout };
 
-    /// The metadata's number: 0 at a sized type, else the length.
+    /// What the layout calls it.
+    fn pointee(alloc: Global) -> Result<Pointee, AllocError>
+        ensures { IfOk result (λ p. pointee_of p ≡ pointee) };
+
+    /// How many elements the pointer leads to: 1 at a sized type, else the length.
     fn pointer_metadata(archived: &Ref<'_, Self::ArchivedMetadata>) -> usize
         requires { archived.now.pos + Self.ArchivedMetadata.SIZE ≤ length archived.now.bytes.now }
-        ensures { tells (window archived.now.bytes.now archived.now.pos Self.ArchivedMetadata.SIZE) result };
+        ensures { GivesLength pointee (window archived.now.bytes.now archived.now.pos Self.ArchivedMetadata.SIZE) result };
+
+    /// Metadata follows an offset of four bytes without a gap.
+    ghost metadata_follows: { 4 % Self.ArchivedMetadata.ALIGN ≡ 0 };
+
+    /// It ends where the layout's pointer ends.
+    ghost metadata_ends: { pointer_size pointee ≡ 4 + Self.ArchivedMetadata.SIZE };
 }
 
 impl<T: Portable> ArchivePointee for T {
     type ArchivedMetadata = ();
 
-    ghost tells = { λ _ number. number ≡ 0 };
+    ghost pointee = { sized T.shape };
+
+    fn pointee(alloc: Global) -> Result<Pointee, AllocError> {
+        Ok(Pointee::Sized(Box::new(alloc, T::shape(alloc)?)?))
+    }
 
     fn pointer_metadata(_archived: &Ref<'_, ()>) -> usize {
-        0
+        1
     }
+
+    ghost metadata_follows = { refl };
+
+    ghost metadata_ends = { refl };
 }
 
 impl<T: Portable> ArchivePointee for Slice<T> {
     type ArchivedMetadata = ArchivedUsize;
 
-    ghost tells = { λ own number. own ≡ to_le_bytes w32 number };
+    ghost pointee = { slice T.shape };
+
+    fn pointee(alloc: Global) -> Result<Pointee, AllocError> {
+        Ok(Pointee::Slice(Box::new(alloc, T::shape(alloc)?)?))
+    }
 
     fn pointer_metadata(archived: &Ref<'_, ArchivedUsize>) -> usize {
         archived.to_native() as usize
     }
+
+    ghost metadata_follows = { refl };
+
+    ghost metadata_ends = { refl };
 }
 
 impl ArchivePointee for Str {
     type ArchivedMetadata = ArchivedUsize;
 
-    ghost tells = { λ own number. own ≡ to_le_bytes w32 number };
+    ghost pointee = { str };
+
+    fn pointee(_alloc: Global) -> Result<Pointee, AllocError> {
+        Ok(Pointee::Text)
+    }
 
     fn pointer_metadata(archived: &Ref<'_, ArchivedUsize>) -> usize {
         Slice::<u8>::pointer_metadata(archived)
     }
+
+    ghost metadata_follows = { refl };
+
+    ghost metadata_ends = { refl };
 }

@@ -43,6 +43,7 @@ impl<'a, T> Ref<'a, T> {
 }
 
 impl<'a, T: ArchivedLeaf> Ref<'a, T> {
+    /// The value that stands there.
     pub fn to_native(self) -> T::Native
         requires room { self.pos + T.SIZE ≤ length self.bytes.now }
         requires legal { T.is_legal (window self.bytes.now self.pos T.SIZE) }

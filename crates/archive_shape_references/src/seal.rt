@@ -3,13 +3,9 @@ ghost use Rattle.std.specs.Prelude.{◌≡◌, ◌+◌, ◌≤◌, length};
 ghost use Rattle.archive_shape_references.specs.Bytes.{overwrite};
 ghost use Rattle.archive_shape_native.specs.Numbers.{Reads};
 
-use crate::Ref;
+use crate::{Ref, Str};
 use archive_shape_portable::ArchivedLeaf;
 use std::marker::PhantomData;
-
-/// What a pointer to a text leads to: the text's bytes.
-#[derive(Clone, Copy, Debug, PartialEq, Eq)]
-pub struct Str;
 
 /// A value in a buffer that may be edited.
 #[derive(Drop)]
@@ -40,6 +36,7 @@ impl<'a, T> Seal<'a, T> {
         self.pos
     }
 
+    /// The value, to be read.
     pub fn as_ref(&self) -> Ref<'_, T>
         ensures bytes { result.bytes.now ≡ self.now.bytes.now }
         ensures pos { result.pos ≡ self.now.pos }
@@ -47,6 +44,7 @@ impl<'a, T> Seal<'a, T> {
         Ref::new(self.bytes, self.pos)
     }
 
+    /// The value, for a shorter loan. A caller that is to know the buffer after the loan makes the seal anew by `new`.
     pub fn reborrow(&mut self) -> Seal<'_, T>
         ensures bytes { result.bytes.now ≡ self.old.bytes.now }
         ensures pos { result.pos ≡ self.old.pos }

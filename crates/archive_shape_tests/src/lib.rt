@@ -4,7 +4,13 @@
 #[cfg(test)]
 mod checking;
 #[cfg(test)]
+mod layout;
+#[cfg(test)]
+mod pointers;
+#[cfg(test)]
 mod portable;
+#[cfg(test)]
+mod references;
 #[cfg(test)]
 mod shape;
 #[cfg(test)]

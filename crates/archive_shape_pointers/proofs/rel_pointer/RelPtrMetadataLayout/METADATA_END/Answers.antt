@@ -1,5 +1,5 @@
 use Rattle.std.proofs.Common.{arith}
-use Rattle.archive_shape_pointers.specs.PointerSizes.{end_is_small}
+use Rattle.archive_shape_references.proofs.PointerSizes.{end_is_small}
 use Rattle.archive_shape_pointers.proofs.rel_pointer.RelPtrMetadataLayout.METADATA_END.Goals as goal
 
 pub overflow_add-result : goal.overflow_add-result

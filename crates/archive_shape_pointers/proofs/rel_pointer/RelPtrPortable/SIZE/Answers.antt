@@ -1,6 +1,6 @@
 use Rattle.std.proofs.Common.{arith}
 use Rattle.archive_shape_layout.specs.Bytes.{align_up}
-use Rattle.archive_shape_pointers.specs.PointerSizes.{pointer_is_small}
+use Rattle.archive_shape_references.proofs.PointerSizes.{pointer_is_small}
 use Rattle.archive_shape_pointers.proofs.rel_pointer.RelPtrPortable.SIZE.Goals as goal
 
 pub overflow_add-result : goal.overflow_add-result

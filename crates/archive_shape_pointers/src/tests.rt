@@ -1,3 +1,0 @@
-mod offsets;
-mod pointers;
-mod rel_pointers;

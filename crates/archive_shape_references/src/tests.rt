@@ -1,3 +1,0 @@
-mod own_values;
-mod pointees;
-mod values;

@@ -1,0 +1,72 @@
+//! Offsets, at the ends of what fits.
+
+use archive_shape_pointers::{Offset, signed_offset};
+use archive_shape_portable::{
+    ArchivedI16, ArchivedI32, ArchivedI64, ArchivedU16, ArchivedU32, ArchivedU64,
+};
+use archive_shape_writing::Error;
+use std::test::Fail;
+
+const HALF: usize = 0x8000_0000_0000_0000;
+
+#[test]
+fn differences(rt: HostRuntime) -> Result<(), Fail> {
+    for (from, to, want) in [
+        (180, 0, Ok(-180)),
+        (0, HALF, Err(Error::IsizeOverflow)),
+        (HALF, 0, Ok(isize::MIN)),
+        (0, HALF - 1, Ok(isize::MAX)),
+    ] {
+        assert_eq!(rt; signed_offset(from, to), want, "from {from} to {to}");
+    }
+    Ok(())
+}
+
+#[test]
+fn offsets_of_one_byte(rt: HostRuntime) -> Result<(), Fail> {
+    for (offset, signed, unsigned) in [
+        (-129, None, None),
+        (-128, Some(-128), None),
+        (-1, Some(-1), None),
+        (0, Some(0), Some(0)),
+        (127, Some(127), Some(127)),
+        (128, None, Some(128)),
+        (255, None, Some(255)),
+        (256, None, None),
+    ] {
+        let signed = signed.ok_or(Error::IsizeOverflow);
+        let unsigned = unsigned.ok_or(Error::IsizeOverflow);
+        assert_eq!(rt; i8::from_isize(offset), signed, "offset {offset}");
+        assert_eq!(rt; u8::from_isize(offset), unsigned, "offset {offset}");
+    }
+    Ok(())
+}
+
+#[test]
+fn offsets_of_two_and_four_bytes(rt: HostRuntime) -> Result<(), Fail> {
+    let refused = Error::IsizeOverflow;
+    assert_eq!(rt; ArchivedI16::from_isize(0x8000), Err(refused));
+    assert_eq!(rt; ArchivedU16::from_isize(0x8000), Ok(0x8000));
+    assert_eq!(rt; ArchivedI32::from_isize(0x8000_0000), Err(refused));
+    assert_eq!(rt; ArchivedU32::from_isize(-1), Err(refused));
+    Ok(())
+}
+
+#[test]
+fn offsets_of_eight_bytes(rt: HostRuntime) -> Result<(), Fail> {
+    assert_eq!(rt; ArchivedI64::from_isize(isize::MIN), Ok(i64::MIN));
+    assert_eq!(rt;
+        ArchivedU64::from_isize(isize::MAX),
+        Ok(0x7fff_ffff_ffff_ffff)
+    );
+    assert_eq!(rt; ArchivedU64::from_isize(-1), Err(Error::IsizeOverflow));
+    Ok(())
+}
+
+#[test]
+fn stored_offsets_are_read_by_their_sign(rt: HostRuntime) -> Result<(), Fail> {
+    assert_eq!(rt; ArchivedU64::to_isize(u64::MAX), -1);
+    assert_eq!(rt; u8::to_isize(255), 255);
+    assert_eq!(rt; i8::to_isize(-128), -128);
+    Ok(())
+}

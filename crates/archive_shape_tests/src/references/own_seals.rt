@@ -1,0 +1,74 @@
+//! What seals of a value's own bytes write.
+ghost use Rattle.std.specs.Prelude.{◌≡◌, length};
+ghost use Rattle.std.specs.Int.{w64, to_le_bytes, cast_unsigned};
+
+use archive_shape_portable::{ArchivedI64, ArchivedU16};
+use archive_shape_references::{OwnSeal, Str};
+use std::test::Fail;
+
+// A caller that seals a number's own bytes knows them afterwards.
+fn set_own_number(own: &mut [u8], pos: usize, value: i64)
+    requires { length own.old ≡ 8 }
+    ensures { own.new ≡ to_le_bytes w64 (cast_unsigned w64 value) }
+{
+    OwnSeal::<ArchivedI64>::new(own, pos).write(value);
+}
+
+#[test]
+fn own_numbers_are_written_and_put(rt: HostRuntime) -> Result<(), Fail> {
+    let mut bytes = [9u8; 8];
+    set_own_number(&mut bytes, 33, 300);
+    assert_eq!(rt; bytes, [0x2c, 1, 0, 0, 0, 0, 0, 0]);
+    let mut number = OwnSeal::<ArchivedI64>::new(&mut bytes, 33);
+    number.put(-180);
+    assert_eq!(rt; number.pos(), 33);
+    assert_eq!(rt; number.as_ref().pos(), 0);
+    Ok(())
+}
+
+#[test]
+fn own_texts_are_written_and_put(rt: HostRuntime) -> Result<(), Fail> {
+    let mut bytes = [9u8; 3];
+    let mut text = OwnSeal::<Str>::new(&mut bytes, 33);
+    text.put_text("abc");
+    text.put_text("xyz");
+    assert_eq!(rt; text.pos(), 33);
+    assert_eq!(rt; bytes, *b"xyz");
+    let mut empty = [9u8; 0];
+    OwnSeal::<Str>::new(&mut empty, 33).put_text("");
+    let mut text = [9u8; 2];
+    OwnSeal::<Str>::new(&mut text, 32).write_text("ab");
+    assert_eq!(rt; text, *b"ab");
+    Ok(())
+}
+
+#[test]
+fn own_texts_are_put_through_seals_reborrowed_twice(rt: HostRuntime) -> Result<(), Fail> {
+    let mut bytes = [9u8; 3];
+    let mut text = OwnSeal::<Str>::new(&mut bytes, 33);
+    let mut again = text.reborrow();
+    assert_eq!(rt; again.pos(), 33);
+    again.put_text("xyz");
+    let mut third = again.reborrow();
+    assert_eq!(rt; third.pos(), 33);
+    third.put_text("pqr");
+    assert_eq!(rt; text.pos(), 33);
+    assert_eq!(rt; bytes, *b"pqr");
+    Ok(())
+}
+
+#[test]
+fn what_is_put_through_a_reborrowed_seal_is_read_through_the_lending_one(
+    rt: HostRuntime,
+) -> Result<(), Fail> {
+    let mut own = [9u8; 2];
+    let mut number = OwnSeal::<ArchivedU16>::new(&mut own, 34);
+    let mut lent = number.reborrow();
+    lent.put(0x0807);
+    assert_eq!(rt; number.pos(), 34);
+    let own_bytes = number.as_ref();
+    assert!(rt; own_bytes.bytes().len() == 2);
+    assert_eq!(rt; own_bytes.to_native(), 0x0807);
+    assert_eq!(rt; own, [7, 8]);
+    Ok(())
+}

@@ -1,0 +1,84 @@
+//! Where values are resolved to.
+ghost use Rattle.std.specs.Prelude.{◌≡◌, ◌+◌, ◌<◌, ◌≤◌, ◌^◌, [], ◌∷◌, length};
+ghost use Rattle.std.specs.Int.{w64, to_le_bytes, cast_unsigned};
+ghost use Rattle.archive_shape_references.specs.Bytes.{overwrite};
+
+use archive_shape_portable::{ArchivedI64, ArchivedU16};
+use archive_shape_references::Place;
+use std::test::Fail;
+
+// A caller that writes a field knows the whole struct afterwards.
+fn write_field(out: &mut [u8], pos: usize, number: i64)
+    requires room { 16 ≤ length out.old }
+    requires fits { pos + 8 < 2 ^ 64 }
+    ensures { out.new ≡ overwrite out.old 8 (to_le_bytes w64 (cast_unsigned w64 number)) }
+{
+    Place::<ArchivedI64>::within(out, 8, pos + 8).write(number);
+}
+
+// So does one that writes two fields.
+fn write_two_bytes(out: &mut [u8], pos: usize, first: u8, second: u8)
+    requires room { 2 ≤ length out.old }
+    requires fits { pos + 1 < 2 ^ 64 }
+    ensures { out.new ≡ overwrite (overwrite out.old 0 (first ∷ [])) 1 (second ∷ []) }
+{
+    Place::<u8>::new(&mut *out, pos).write(first);
+    Place::<u8>::within(out, 1, pos + 1).write(second);
+}
+
+#[test]
+fn fields_are_written_in_place(rt: HostRuntime) -> Result<(), Fail> {
+    let mut bytes = [0u8; 16];
+    write_two_bytes(&mut bytes, 32, 7, 0);
+    write_field(&mut bytes, 32, -2);
+    assert_eq!(rt;
+        bytes,
+        [
+            7, 0, 0, 0, 0, 0, 0, 0, 0xfe, 0xff, 0xff, 0xff, 0xff, 0xff, 0xff, 0xff
+        ]
+    );
+    Place::<(u8, ArchivedI64)>::new(&mut bytes, 32)
+        .field::<u8>(0)
+        .write(5);
+    assert_eq!(rt; bytes[0], 5);
+    Place::<bool>::within(&mut bytes, 0, 0).write(false);
+    assert_eq!(rt; bytes[0], 0);
+    Ok(())
+}
+
+#[test]
+fn elements_are_written_up_to_both_ends(rt: HostRuntime) -> Result<(), Fail> {
+    let mut bytes = [0u8; 6];
+    let last = Place::<[ArchivedU16; 3]>::new(&mut bytes, 32).index(2);
+    assert_eq!(rt; last.pos(), 36);
+    last.write(0x0605);
+    let first = Place::<[ArchivedU16; 3]>::new(&mut bytes, 32).index(0);
+    assert_eq!(rt; first.pos(), 32);
+    first.write(0x0201);
+    assert_eq!(rt; bytes, [1, 2, 0, 0, 5, 6]);
+    Ok(())
+}
+
+#[test]
+fn wide_elements_stand_side_by_side(rt: HostRuntime) -> Result<(), Fail> {
+    let mut bytes = [9u8; 16];
+    let numbers = Place::<[ArchivedI64; 2]>::new(&mut bytes, 32);
+    let number = numbers.index(1);
+    assert_eq!(rt; number.pos(), 40);
+    number.write(3);
+    assert_eq!(rt; bytes[8], 3);
+    Ok(())
+}
+
+#[test]
+fn fields_are_written_up_to_the_last_position(rt: HostRuntime) -> Result<(), Fail> {
+    let mut bytes = [1, 2, 0, 0, 5, 6];
+    let place = Place::<(u8, u8)>::within(&mut bytes, 3, usize::MAX - 2).field::<u8>(2);
+    assert_eq!(rt; place.pos(), usize::MAX);
+    place.write(9);
+    Place::<(u8, u8)>::within(&mut bytes, 2, 34)
+        .field::<u8>(0)
+        .write(8);
+    assert_eq!(rt; bytes, [1, 2, 8, 0, 5, 9]);
+    Ok(())
+}
