@@ -8,6 +8,11 @@ use Rattle.cabinet_layout.specs.Image.{own_offset, own_bytes}
 use Rattle.cabinet_layout.specs.Written.{leaf_bytes}
 use Rattle.cabinet_nodes.specs.Writing.{blank}
 
+pub length-blank : (l : Leaf) → length (blank l) ≡ 24
+length-blank (truth b) = refl
+length-blank (number n) = refl
+length-blank (text t) = refl
+
 -- what stands after a text in the node of the empty one
 filler_behind : (n : ℕ) → n ≤ 8 → drop (4 + n) (blank (text [])) ≡ filler (8 - n) ++ zeros 12
 filler_behind n h =

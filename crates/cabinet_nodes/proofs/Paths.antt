@@ -1,17 +1,14 @@
 -- The nodes along a path.
 use Rattle.std.proofs.Common.{◌≡◌, ℕ, ◌+◌, ◌*◌, ◌<◌, ◌≤◌, List, [], ◌∷◌, length, None, refl, ap, subst, sym, ◌∙◌, arith, slice_index}
 use Rattle.std.proofs.Math.Bridge.{le_prop}
-use Rattle.std.proofs.Math.Logic.{∥∥₁_elim}
-use Rattle.archive_shape_writing.specs.declared.error.Error.{Error}
+use Rattle.std.proofs.Math.Logic.{∥∥₁_elim, ∥∥₁_map}
 use Rattle.cabinet_text.specs.Tree.{Leaf, truth, number, text, Tree, leaf, list, IsDocument, Step, key, place, inside, node_at}
 use Rattle.cabinet_text.specs.View.{lent_leaf}
 use Rattle.cabinet_layout.specs.Node.{root_position, elements_at, node_position}
 use Rattle.cabinet_layout.specs.Denotes.{Accepted}
-use Rattle.cabinet_layout.specs.ArchiveFault.{NodeFault}
 use Rattle.cabinet_layout.specs.Spelled.{IsLeafAt, IsNodeAt}
 use Rattle.cabinet_layout.proofs.Roots.{accepted_says}
-use Rattle.cabinet_layout.proofs.Faults.{node_fault}
-use Rattle.cabinet_nodes.specs.Reading.{IsReadAt, IsNodeOf, StepsTo, StepsNowhere, LeadsNowhere, LeadsTo}
+use Rattle.cabinet_nodes.specs.Reading.{HasNodeAt, IsReadAt, IsNodeOf, StepsTo, StepsNowhere, LeadsNowhere, LeadsTo}
 use Rattle.cabinet_nodes.specs.declared.reading.list.Elements.{Elements}
 use Rattle.cabinet_nodes.specs.declared.reading.node.NodeRef.{NodeRef}
 use Rattle.cabinet_nodes.specs.declared.reading.node.NodeRef.TheVariants as lent
@@ -65,9 +62,8 @@ at_root bytes path pos e h = record {
 }
 
 module _ (bytes : List ℕ) (path : List Step) (pos : ℕ) where
-  pub no_fault : (rest : List Step) (e : Error) → IsReached bytes path pos rest → ∥ ((t : Tree) × Accepted bytes t) ∥₁ → NodeFault bytes pos e → ⊥
-  no_fault rest e r a f =
-      ∥∥₁_elim a (λ x y. absurd x) (λ p. let w = r.in_each p.0 p.1 in node_fault bytes pos e w.here w.document w.at_pos f)
+  pub has_node : (rest : List Step) → IsReached bytes path pos rest → ∥ ((t : Tree) × Accepted bytes t) ∥₁ → ∥ HasNodeAt bytes pos ∥₁
+  has_node rest r a = ∥∥₁_map a (λ p. let w = r.in_each p.0 p.1 in (w.here, w.at_pos, w.document))
 
   pub leads_to : (rest : List Step) (node : NodeRef) → rest ≡ [] → IsReached bytes path pos rest → IsReadAt bytes pos node → LeadsTo bytes path node
   leads_to rest node e r h = λ t a.
