@@ -81,6 +81,6 @@ pub record IsFirstElementFault (bytes : List ℕ) (pos len : ℕ) (e : Error) : 
 abbrev pub LeadsNowhere : List ℕ → List Step → Type 0
 LeadsNowhere bytes path = (t : Tree) → Accepted bytes t → node_at t path ≡ None
 
--- or in each to a tree which the node tells of
+-- or in each to a tree that the node is of
 abbrev pub LeadsTo : List ℕ → List Step → NodeRef → Type 0
 LeadsTo bytes path node = (t : Tree) → Accepted bytes t → (s : Tree) × (node_at t path ≡ Some s) × IsNodeOf node s

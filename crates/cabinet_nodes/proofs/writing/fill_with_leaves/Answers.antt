@@ -1,4 +1,5 @@
 use Rattle.std.proofs.Common.{◌≡◌, ◌*◌, take, flat_map, sym, ap, subst, ◌∙◌, arith}
+use Rattle.std.proofs.lemmas.Grind.{common_steps}
 use Rattle.std.proofs.lemmas.List.{take_all}
 use Rattle.cabinet_nodes.proofs.ElementBytes.{bytes_of, elements_are, elements_in, IsElement}
 use Rattle.cabinet_nodes.proofs.writing.fill_with_leaves.Goals as goal
@@ -19,3 +20,6 @@ returns c =
     ∙ c.loop-place.invariant
     ∙ ap (flat_map bytes_of) (take_all i ns c.loop-place-test.false)
     ∙ sym (elements_are ns)
+
+pub loop-place-preserved : goal.loop-place-preserved
+loop-place-preserved c = grind (arith, common_steps)

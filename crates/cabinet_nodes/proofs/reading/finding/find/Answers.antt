@@ -1,4 +1,5 @@
-use Rattle.std.proofs.Common.{◌≡◌, ◌+◌, ◌∷◌, ◌<◌, [], List, ℕ, length, drop, get_or, ap, sym, subst, ◌∙◌}
+use Rattle.std.proofs.Common.{◌≡◌, ◌+◌, ◌∷◌, ◌<◌, [], List, ℕ, length, drop, get_or, ap, sym, subst, ◌∙◌, arith}
+use Rattle.std.proofs.lemmas.Grind.{common_steps}
 use Rattle.std.proofs.lemmas.List.{drop_all, drop_more}
 use Rattle.cabinet_text.specs.View.{path_of, step_of}
 use Rattle.cabinet_text.specs.declared.line.Step.{Step}
@@ -54,3 +55,6 @@ returns-clause-leads c =
     let path = c.args.path.now in
     let end : path_of (drop c.loop-step.step-index path) ≡ [] = ap path_of (drop_all c.loop-step.step-index path c.loop-step-test.false) in
     leads_to c.args.bytes.now (path_of path) c.loop-step.pos (path_of (drop c.loop-step.step-index path)) c.node_at-node.result end c.loop-step.invariant c.node_at-node.ensures
+
+pub returns-clause-position : goal.returns-clause-position
+returns-clause-position c = grind (arith, common_steps)

@@ -1,3 +1,4 @@
+use Rattle.std.proofs.Common.{rules}
 use Rattle.std.proofs.Common.{◌≡◌, ◌+◌, ◌-◌, take, drop, arith, refl, sym, ap, subst, ◌∙◌, IsUtf8}
 use Rattle.std.proofs.Math.Logic.{∥∥₁_map}
 use Rattle.archive_shape_layout.specs.Content.{before_ff}
@@ -28,3 +29,6 @@ returns-in_default c =
     text_is bytes pos c.inline_text.result.now c.requires.room (omega arith) (inline_there bytes pos _ there)
     (c.inline_text.ensures.text ∙ ap (λ n. before_ff (take n (drop (pos + 4) bytes))) eight)
     c.inline_text.ensures.utf8
+
+pub returns-in-1 : goal.returns-in-1
+returns-in-1 c = search rules
