@@ -121,7 +121,7 @@ not_false false h = absurd (h refl)
 inline_byte : (b : ℕ) → (128 ≤ b → b < 192 → ⊥) → IsInline b
 inline_byte b h = not_false (nat_lt b 128 || nat_le 192 b) (λ e. h (grind (arith, nat_tests)) (grind (arith, nat_tests)))
 
-inline_after : (t rest : List ℕ) → IsUtf8 t → StartsFilled rest → IsInline (slice_index (t ++ rest) 0)
+pub inline_after : (t rest : List ℕ) → IsUtf8 t → StartsFilled rest → IsInline (slice_index (t ++ rest) 0)
 inline_after [] [] u filled = refl
 inline_after [] (b ∷ bs) u filled = inline_byte b (starts_inline [] (b ∷ bs) u filled (omega arith))
 inline_after (b ∷ bs) rest u filled = inline_byte b (starts_inline (b ∷ bs) rest u filled (omega arith))

@@ -1,22 +1,22 @@
 -- A leaf that fits, written over the own bytes of another.
-use Rattle.std.proofs.Common.{◌≡◌, ℕ, ℤ, pos, negsuc, ◌^◌, ◌+◌, ◌-◌, ◌≤◌, ◌<◌, ◌==◌, Bool, true, false, w64, List, [], ◌∷◌, ◌++◌, length, drop, slice_index, refl, sym, ap, subst, ◌∙◌, arith, FitsSigned, length-append}
+use Rattle.std.proofs.Common.{◌≡◌, ℕ, ℤ, pos, negsuc, ◌^◌, ◌+◌, ◌-◌, ◌≤◌, ◌<◌, ◌==◌, Bool, true, false, w64, List, [], ◌∷◌, ◌++◌, length, drop, slice_index, refl, sym, ap, subst, ◌∙◌, arith, FitsSigned}
 use Rattle.std.specs.Int.{from_le_bytes, cast_signed, cast_unsigned}
 use Rattle.std.proofs.lemmas.Int.{to_z-of_z}
 use Rattle.std.proofs.lemmas.Nat.{from_le_bytes-to_le_bytes_8}
 use Rattle.std.proofs.lemmas.Bool.{eqb-true}
 use Rattle.std.proofs.lemmas.List.{drop_at}
 use Rattle.archive_shape_layout.specs.Bytes.{window}
-use Rattle.archive_shape_layout.specs.Content.{before_ff}
+use Rattle.archive_shape_layout.specs.Content.{IsInline, before_ff}
 use Rattle.archive_shape_references.specs.Bytes.{overwrite}
 use Rattle.cabinet_text.specs.Tree.{Leaf, leaf, truth, number, text, IsLeaf, IsDocument}
 use Rattle.cabinet_text.specs.Answering.{fits}
 use Rattle.cabinet_layout.specs.Bytes.{HasBytes, zeros, filler, truth_byte, number_bytes}
 use Rattle.cabinet_layout.specs.Spelled.{IsLeafAt}
 use Rattle.cabinet_layout.specs.Image.{own_offset, own_bytes, IsClean}
-use Rattle.cabinet_layout.specs.ArchiveFault.{IsOutOfLine}
 use Rattle.archive_shape_references.proofs.Written.{window_there, byte_before, window_from}
-use Rattle.cabinet_layout.proofs.Pieces.{length-window, stands_before, stands_behind, stands_byte}
-use Rattle.archive_shape_layout.proofs.Texts.{text_before, split_at_filler, starts_inline}
+use Rattle.cabinet_layout.proofs.Pieces.{stands_before, stands_behind, stands_byte}
+use Rattle.archive_shape_layout.proofs.Texts.{text_before, split_at_filler}
+use Rattle.archive_shape_references.proofs.Sealed.{inline_after}
 
 -- a leaf that fits in a document is one of a document
 pub fits_document : (old new : Leaf) → IsDocument (leaf old) → IsLeaf new → fits old new ≡ true → IsDocument (leaf new)
@@ -55,11 +55,9 @@ module _ (bytes : List ℕ) (pos : ℕ) (room : pos + 24 ≤ length bytes) where
       let s = split_at_filler (window bytes (pos + 4) 8) in
       let own : window bytes (pos + 4) 8 ≡ t ++ s.rest = s.whole ∙ ap (λ x. x ++ s.rest) i.2 in
       let r : drop (length u) (window bytes (pos + 4) 8) ≡ s.rest = ap (λ n. drop n (window bytes (pos + 4) 8)) (sym e) ∙ ap (drop (length t)) own ∙ drop_at t s.rest (length t) refl in
-      let new : window (overwrite bytes (pos + 4) u) (pos + 4) 8 ≡ u ++ s.rest = window_from bytes (pos + 4) u 8 (omega arith) (omega arith) ∙ ap (λ x. u ++ x) r in
-      let total : length (t ++ s.rest) ≡ 8 = sym (ap length own) ∙ length-window bytes (pos + 4) 8 (omega arith) in
-      let some : 0 < length (u ++ s.rest) = omega (arith, length-append t s.rest, length-append u s.rest) in (
+      let new : window (overwrite bytes (pos + 4) u) (pos + 4) 8 ≡ u ++ s.rest = window_from bytes (pos + 4) u 8 (omega arith) (omega arith) ∙ ap (λ x. u ++ x) r in (
         byte_before bytes (pos + 4) u (omega arith) pos (omega arith) ∙ i.0,
-        subst (λ x. IsOutOfLine x → ⊥) (sym new) (λ o. starts_inline u s.rest l s.filled some o.0 o.1),
+        subst (λ x. IsInline (slice_index x 0)) (sym new) (inline_after u s.rest l s.filled),
         ap before_ff new ∙ text_before u s.rest l s.filled,
       )
   leaf_edit (truth b) (number n) d l f i = absurd (cc)

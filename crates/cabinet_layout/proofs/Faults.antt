@@ -16,7 +16,7 @@ use Rattle.cabinet_layout.proofs.Roots.{accepted_says}
 
 -- ---- nodes that are there have no fault
 
-leaf_tag : (bytes : List ℕ) (pos : ℕ) (l : Leaf) → IsLeafAt bytes pos l → slice_index bytes pos < 3
+pub leaf_tag : (bytes : List ℕ) (pos : ℕ) (l : Leaf) → IsLeafAt bytes pos l → slice_index bytes pos < 3
 leaf_tag bytes pos (truth b) i = omega (arith, i.0)
 leaf_tag bytes pos (number n) i = omega (arith, i.0)
 leaf_tag bytes pos (text t) i = omega (arith, i.0)
@@ -34,7 +34,7 @@ payload_fault bytes pos e (number n) d i (no_truth_value h g k) = omega (arith, 
 payload_fault bytes pos e (number n) d i (text_elsewhere h g k) = omega (arith, i.0)
 payload_fault bytes pos e (number n) d i (no_text h g u k) = omega (arith, i.0)
 payload_fault bytes pos e (text t) d i (no_truth_value h g k) = omega (arith, i.0)
-payload_fault bytes pos e (text t) d i (text_elsewhere h g k) = i.1 g
+payload_fault bytes pos e (text t) d i (text_elsewhere h g k) = g i.1
 payload_fault bytes pos e (text t) d i (no_text h g u k) = u (subst IsUtf8 (sym i.2) d.0)
 
 pub element_fault : (bytes : List ℕ) (pos : ℕ) (d : Error) (l : Leaf) → IsLeaf l × IsShort l → IsLeafAt bytes pos l → ElementFault bytes pos d → ⊥
@@ -84,9 +84,9 @@ one_payload_fault bytes pos e d (no_truth_value h g k) (text_elsewhere h' g' k')
 one_payload_fault bytes pos e d (no_truth_value h g k) (no_text h' g' u' k') = absurd (omega arith)
 one_payload_fault bytes pos e d (text_elsewhere h g k) (no_truth_value h' g' k') = absurd (omega arith)
 one_payload_fault bytes pos e d (text_elsewhere h g k) (text_elsewhere h' g' k') = cc
-one_payload_fault bytes pos e d (text_elsewhere h g k) (no_text h' g' u' k') = absurd (g' g)
+one_payload_fault bytes pos e d (text_elsewhere h g k) (no_text h' g' u' k') = absurd (g g')
 one_payload_fault bytes pos e d (no_text h g u k) (no_truth_value h' g' k') = absurd (omega arith)
-one_payload_fault bytes pos e d (no_text h g u k) (text_elsewhere h' g' k') = absurd (g g')
+one_payload_fault bytes pos e d (no_text h g u k) (text_elsewhere h' g' k') = absurd (g' g)
 one_payload_fault bytes pos e d (no_text h g u k) (no_text h' g' u' k') = cc
 
 one_element_fault : (bytes : List ℕ) (pos : ℕ) (e d : Error) → ElementFault bytes pos e → ElementFault bytes pos d → e ≡ d

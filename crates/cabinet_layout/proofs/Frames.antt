@@ -3,7 +3,7 @@ use Rattle.std.proofs.Common.{◌≡◌, ℕ, suc, ◌+◌, ◌-◌, ◌*◌, �
 use Rattle.std.specs.Int.{from_le_bytes, to_le_bytes, cast_signed}
 use Rattle.std.proofs.lemmas.List.{length-replicate}
 use Rattle.archive_shape_layout.specs.Bytes.{window, word_at, target_from}
-use Rattle.archive_shape_layout.specs.Content.{before_ff}
+use Rattle.archive_shape_layout.specs.Content.{IsInline, before_ff}
 use Rattle.archive_shape_layout.specs.Laws.{AgreesOn}
 use Rattle.archive_shape_layout.proofs.Framed.{agrees_within}
 use Rattle.cabinet_text.specs.Tree.{Leaf, truth, number, text, leaf, list, Trees, no_trees, more_trees, count, AreLeaves, IsDocument}
@@ -11,7 +11,6 @@ use Rattle.cabinet_layout.specs.Bytes.{HasBytes, zeros, filler}
 use Rattle.cabinet_layout.specs.Node.{elements_at, or_zero}
 use Rattle.cabinet_layout.specs.Spelled.{IsLeafAt, IsListAt, AreNodesAt}
 use Rattle.cabinet_layout.specs.Image.{own_offset, own_bytes, IsClean, AreClean}
-use Rattle.cabinet_layout.specs.ArchiveFault.{IsOutOfLine}
 use Rattle.cabinet_layout.proofs.Pieces.{window_byte, word_of_window}
 
 -- the own bytes of a leaf lie in its node
@@ -58,7 +57,7 @@ module _ (bytes others : List ℕ) (pos : ℕ) (same : AgreesOn bytes others pos
       (sym first_in ∙ h.0, ap (λ x. cast_signed w64 (from_le_bytes w64 x)) (sym (window_in 8 8 (omega arith))) ∙ h.1)
   frame_leaf (text t) h =
       let e = window_in 4 8 (omega arith) in
-      (sym first_in ∙ h.0, subst (λ x. IsOutOfLine x → ⊥) e h.1, ap before_ff (sym e) ∙ h.2)
+      (sym first_in ∙ h.0, subst (λ x. IsInline (slice_index x 0)) e h.1, ap before_ff (sym e) ∙ h.2)
 
   pub frame_elements : elements_at bytes pos ≡ elements_at others pos
   frame_elements = ap (λ w. or_zero (target_from (pos + 4) w)) (word_in 4 (omega arith))

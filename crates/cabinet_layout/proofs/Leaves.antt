@@ -1,17 +1,17 @@
 -- The bytes of a clean leaf, in an archive.
-use Rattle.std.proofs.Common.{◌≡◌, ℕ, zero, suc, ◌+◌, ◌-◌, ◌*◌, ◌≤◌, ◌<◌, ◌==◌, w64, List, [], ◌∷◌, ◌++◌, length, refl, sym, ap, subst, ◌∙◌, arith, length-append}
+use Rattle.std.proofs.Common.{◌≡◌, ℕ, zero, suc, ◌+◌, ◌-◌, ◌*◌, ◌≤◌, ◌<◌, ◌==◌, w64, List, [], ◌∷◌, ◌++◌, length, slice_index, refl, sym, ap, subst, ◌∙◌, arith, length-append}
 use Rattle.std.proofs.lemmas.List.{length-replicate}
 use Rattle.std.specs.Int.{from_le_bytes, cast_signed}
 use Rattle.archive_shape_layout.specs.Bytes.{window}
-use Rattle.archive_shape_layout.specs.Content.{before_ff}
+use Rattle.archive_shape_layout.specs.Content.{IsInline, before_ff}
 use Rattle.cabinet_text.specs.Tree.{Leaf, truth, number, text, leaf, list, Trees, no_trees, more_trees, count, AreLeaves, IsDocument}
 use Rattle.cabinet_layout.specs.Bytes.{HasBytes, zeros, filler, truth_byte, number_bytes}
 use Rattle.cabinet_layout.specs.Spelled.{IsLeafAt, AreNodesAt}
 use Rattle.cabinet_layout.specs.Image.{IsClean, AreClean}
-use Rattle.cabinet_layout.specs.ArchiveFault.{IsOutOfLine}
 use Rattle.cabinet_layout.specs.Written.{leaf_bytes, list_bytes, elements_bytes}
 use Rattle.cabinet_layout.proofs.Pieces.{stands_append, stands_left, stands_right, byte_stands, stands_byte}
-use Rattle.archive_shape_layout.proofs.Texts.{text_before, starts_inline, StartsFilled}
+use Rattle.archive_shape_layout.proofs.Texts.{text_before, StartsFilled}
+use Rattle.archive_shape_references.proofs.Sealed.{inline_after}
 use Rattle.cabinet_layout.proofs.Edits.{truth_reads, number_reads}
 
 -- ---- how long they are
@@ -97,7 +97,7 @@ leaf_says bytes pos (text t) d s =
     let whole : window bytes (pos + 4) 8 ≡ t ++ fill = ap (window bytes (pos + 4)) (sym eight) ∙ stands_append bytes (pos + 4) t fill (pos + (4 + length t)) (omega arith) own filled in (
       (
         tag,
-        subst (λ x. IsOutOfLine x → ⊥) (sym whole) (λ o. starts_inline t fill d.0 (starts_filled (8 - length t)) (omega arith) o.0 o.1),
+        subst (λ x. IsInline (slice_index x 0)) (sym whole) (inline_after t fill d.0 (starts_filled (8 - length t))),
         ap before_ff whole ∙ text_before t fill d.0 (starts_filled (8 - length t)),
       ),
       (own, (stands_left bytes (pos + 1) (zeros 3) (t ++ (fill ++ zeros 12)) behind, filled, stands_right bytes (pos + (4 + length t)) fill (zeros 12) (pos + 12) (omega arith) rest)),

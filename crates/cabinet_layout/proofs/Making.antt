@@ -21,7 +21,7 @@ use Rattle.cabinet_layout.specs.Node.{node_shape, node_names, payloads, root_pos
 use Rattle.cabinet_layout.specs.Spelled.{IsLeafAt, IsListAt, AreNodesAt, HasRootNode, SpelledOut}
 use Rattle.cabinet_layout.specs.Denotes.{Denotes, denotes_truth, denotes_number, denotes_text, denotes_list, DenoteAll, denote_none, denote_more, tagged_value, Accepted}
 use Rattle.cabinet_layout.proofs.Lists.{vector_content, elements_content}
-use Rattle.cabinet_layout.proofs.Roots.{list_region, regions_of, root_region, root_content, node_content, choice_content, truth_content, number_content, text_content_is, elsewhere_test, choose_true, accepted_says}
+use Rattle.cabinet_layout.proofs.Roots.{list_region, regions_of, root_region, root_content, node_content, choice_content, truth_content, number_content, text_content_is, choose_true, accepted_says}
 
 -- a part with a value and no regions
 abbrev pub HoldsBare : Names → List ℕ → ℕ → Part → Value → Type 0
@@ -59,7 +59,7 @@ leaf_holds bytes pos level (tree.number n) d h =
     (holds_plain (number_content node_names bytes (pos + 8)) tt (holds_none refl refl refl) (ap (λ x. Some (integer x)) h.1))
 leaf_holds bytes pos level (tree.text t) d h =
     node_made bytes pos level 2 (string t) (at (pos + 4) text_shape) (choice_content bytes pos 2 h.0)
-    (holds_plain (text_content_is node_names bytes (pos + 4) ∙ choose_true _ _ (elsewhere_test node_names bytes (pos + 4) h.1)) (subst IsUtf8 (sym h.2) d.0) (holds_none refl refl refl) (ap (λ x. Some (string x)) h.2))
+    (holds_plain (text_content_is node_names bytes (pos + 4) ∙ choose_true _ _ h.1) (subst IsUtf8 (sym h.2) d.0) (holds_none refl refl refl) (ap (λ x. Some (string x)) h.2))
 
 -- ---- a list
 

@@ -1,6 +1,5 @@
 -- The layout relation at the root, spelled out: what the bytes of a root node say.
-use Rattle.std.proofs.Common.{◌≡◌, ℕ, zero, suc, ◌+◌, ◌*◌, ◌≤◌, ◌<◌, Bool, true, false, ◌==◌, ◌||◌, nat_lt, nat_le, List, [], ◌∷◌, ◌++◌, length, drop, slice_index, Option, Some, None, refl, sym, subst, ap, ap₂, ◌∙◌, arith, w64, get_or-take, get_or-drop, add-zero, ltb-true, length-take, length-drop}
-use Rattle.std.proofs.lemmas.Bool.Decides.{nat_tests}
+use Rattle.std.proofs.Common.{◌≡◌, ℕ, zero, suc, ◌+◌, ◌*◌, ◌≤◌, ◌<◌, Bool, true, false, ◌==◌, nat_lt, List, [], ◌∷◌, ◌++◌, length, drop, slice_index, Option, Some, None, refl, sym, subst, ap, ap₂, ◌∙◌, arith, w64, get_or-take, get_or-drop, add-zero, ltb-true, length-take, length-drop}
 use Rattle.std.specs.Prelude.{IsUtf8}
 use Rattle.std.specs.Int.{from_le_bytes, cast_signed}
 use Rattle.archive_shape_layout.specs.Bytes.{window, align_up, word_at, target_from}
@@ -10,7 +9,7 @@ use Rattle.archive_shape_layout.specs.Shape.Pointee.{sized, str}
 use Rattle.archive_shape_layout.specs.Value.{Value, Values}
 use Rattle.archive_shape_layout.specs.Value.Value.{integer, boolean, string, chosen}
 use Rattle.archive_shape_layout.specs.Value.Values.{no_values, more_values}
-use Rattle.archive_shape_layout.specs.Content.{Names, Content, choose, content_of, made, option_content, shape_content, pointee_content, text_content, text_length, following, before_ff, shape_tagged, number_value, elements}
+use Rattle.archive_shape_layout.specs.Content.{Names, Content, choose, content_of, made, option_content, shape_content, pointee_content, text_content, text_length, following, IsInline, begins_inline, before_ff, shape_tagged, number_value, elements}
 use Rattle.archive_shape_layout.specs.Content.Part.{at, behind}
 use Rattle.archive_shape_layout.specs.Content.Label.{same, tagged, written, leaf as leaf_label}
 use Rattle.archive_shape_layout.specs.Content.Content.{illegal, plain, claimed}
@@ -22,7 +21,6 @@ use Rattle.cabinet_text.specs.Tree as tree
 use Rattle.cabinet_text.specs.Tree.{Tree, list, Trees, no_trees, more_trees, count, Leaf, AreLeaves, IsDocument}
 use Rattle.cabinet_layout.specs.Node.{node_shape, node_names, payloads, root_position, target_of_list, len_of_list, elements_at}
 use Rattle.cabinet_layout.specs.Denotes.{Denotes, denotes_truth, denotes_number, denotes_text, denotes_list, DenoteAll, denote_none, denote_more, tagged_value, Accepted}
-use Rattle.cabinet_layout.specs.ArchiveFault.{IsOutOfLine}
 use Rattle.cabinet_layout.specs.Spelled.{IsLeafAt, AreNodesAt, HasRootNode}
 use Rattle.cabinet_layout.proofs.Lists.{elements_span, by_vector}
 use Rattle.cabinet_layout.proofs.Inversions.{none_illegal, lone, passed_on, by_tag, by_leaf, by_text, by_claimed_text}
@@ -119,7 +117,7 @@ module _ (names : Names) (bytes : List ℕ) (pos : ℕ) where
   number_content = refl
 
   abbrev pub text_starts_inline : Bool
-  text_starts_inline = nat_lt (slice_index (window bytes pos 8) 0) 128 || nat_le 192 (slice_index (window bytes pos 8) 0)
+  text_starts_inline = begins_inline (slice_index (window bytes pos 8) 0)
 
   abbrev pub length_word : ℕ
   length_word = text_length (word_at (window bytes pos 8) 0)
@@ -146,16 +144,10 @@ module _ (names : Names) (bytes : List ℕ) (pos : ℕ) where
       omega (arith, length-take length_word (drop target bytes), length-drop target bytes)
 
   pub record TextAt (t : List ℕ) (regions : List Region) : Type 0 where
-    pub is_inline : IsOutOfLine (window bytes pos 8) → ⊥
+    pub is_inline : IsInline (slice_index (window bytes pos 8) 0)
     pub value_is : before_ff (window bytes pos 8) ≡ t
     pub utf8 : IsUtf8 t
     pub no_regions : regions ≡ []
-
-  pub inline_test : text_starts_inline ≡ true → IsOutOfLine (window bytes pos 8) → ⊥
-  inline_test e o = grind (arith, nat_tests)
-
-  pub elsewhere_test : (IsOutOfLine (window bytes pos 8) → ⊥) → text_starts_inline ≡ true
-  elsewhere_test h = by_test text_starts_inline (λ e. e) (λ e. absurd (h (grind (arith, nat_tests))))
 
   -- a pointer of a text out of line leads to a longer text
   text_elsewhere : (low : ℕ) (o : Option ℕ) {level : ℕ} {inside : List OpenShared} {t : List ℕ} {regions : List Region} {before after : List Visit}
@@ -177,7 +169,7 @@ module _ (names : Names) (bytes : List ℕ) (pos : ℕ) where
       (λ e. let a = by_text names bytes (text_content_is ∙ choose_true _ _ e) h in
       let f : string t ≡ string (before_ff (window bytes pos 8)) = a.alone.value_is in
       let g : before_ff (window bytes pos 8) ≡ t = cc in
-      record { is_inline = inline_test e; value_is = g; utf8 = subst IsUtf8 g a.legal; no_regions = a.alone.no_regions })
+      record { is_inline = e; value_is = g; utf8 = subst IsUtf8 g a.legal; no_regions = a.alone.no_regions })
       (λ e. by_test (nat_lt 8 length_word)
       (λ long. let l = text_elsewhere low (target_from pos (word_at (window bytes pos 8) 4)) (ltb-true _ _ long) (text_content_is ∙ choose_false _ _ e ∙ choose_true _ _ long) ascends h in absurd (omega arith))
       (λ k. absurd (none_illegal names bytes (text_content_is ∙ choose_false _ _ e ∙ choose_false _ _ k) h)))

@@ -1,23 +1,22 @@
 -- Why bytes are no archive of a document: the first fault that a check meets.
 use Rattle.std.specs.Prelude.{◌≡◌, ◌≢◌, ℕ, ◌+◌, ◌*◌, ◌%◌, ◌<◌, ◌≤◌, List, length, slice_index, Option, Some, None, IsUtf8, ⊤}
 use Rattle.archive_shape_layout.specs.Bytes.{window}
-use Rattle.archive_shape_layout.specs.Content.{before_ff}
+use Rattle.archive_shape_layout.specs.Content.{IsInline, before_ff}
 use Rattle.archive_shape_writing.specs.declared.error.Error.{Error}
 use Rattle.archive_shape_writing.specs.declared.error.Error.TheVariants.{InvalidSubtreePointer, Unaligned, InvalidTag, CheckStringRepr, InvalidUtf8}
 use Rattle.cabinet_layout.specs.Node.{root_position, target_of_list, len_of_list, elements_at}
-
--- the eight bytes of an archived text say that it lies elsewhere
-abbrev pub IsOutOfLine : List ℕ → Type 0
-IsOutOfLine own = (128 ≤ slice_index own 0) × (slice_index own 0 < 192)
 
 -- of the payload of a leaf at a position; for now a text is inline
 pub data PayloadFault (bytes : List ℕ) (pos : ℕ) (e : Error) : Type 0 where
   no_truth_value : slice_index bytes pos ≡ 0 → 2 ≤ slice_index bytes (pos + 1) → e ≡ InvalidTag → PayloadFault bytes pos e
   text_elsewhere :
-      slice_index bytes pos ≡ 2 → IsOutOfLine (window bytes (pos + 4) 8) → e ≡ CheckStringRepr → PayloadFault bytes pos e
+      slice_index bytes pos ≡ 2
+      → (IsInline (slice_index (window bytes (pos + 4) 8) 0) → ⊥)
+      → e ≡ CheckStringRepr
+      → PayloadFault bytes pos e
   no_text :
       slice_index bytes pos ≡ 2
-      → (IsOutOfLine (window bytes (pos + 4) 8) → ⊥)
+      → IsInline (slice_index (window bytes (pos + 4) 8) 0)
       → (IsUtf8 (before_ff (window bytes (pos + 4) 8)) → ⊥)
       → e ≡ InvalidUtf8
       → PayloadFault bytes pos e

@@ -2,11 +2,10 @@
 use Rattle.std.specs.Prelude.{◌≡◌, ℕ, ◌+◌, ◌*◌, ◌%◌, ◌<◌, ◌≤◌, ◌==◌, ◌↔◌, List, length, slice_index, Some, ⊤}
 use Rattle.std.specs.Int.{w64, from_le_bytes, cast_signed}
 use Rattle.archive_shape_layout.specs.Bytes.{window}
-use Rattle.archive_shape_layout.specs.Content.{before_ff}
+use Rattle.archive_shape_layout.specs.Content.{IsInline, before_ff}
 use Rattle.cabinet_text.specs.Tree.{Leaf, truth, number, text, Tree, leaf, list, Trees, no_trees, more_trees, count, IsDocument}
 use Rattle.cabinet_layout.specs.Node.{root_position, target_of_list, len_of_list, elements_at}
 use Rattle.cabinet_layout.specs.Denotes.{Accepted}
-use Rattle.cabinet_layout.specs.ArchiveFault.{IsOutOfLine}
 
 -- the tag, and after it the truth value, the number, or the text, which is inline
 abbrev pub IsLeafAt : List ℕ → ℕ → Leaf → Type 0
@@ -15,7 +14,9 @@ IsLeafAt bytes pos (truth b) =
 IsLeafAt bytes pos (number n) =
     (slice_index bytes pos ≡ 1) × (cast_signed w64 (from_le_bytes w64 (window bytes (pos + 8) 8)) ≡ n)
 IsLeafAt bytes pos (text t) =
-    (slice_index bytes pos ≡ 2) × (IsOutOfLine (window bytes (pos + 4) 8) → ⊥) × (before_ff (window bytes (pos + 4) 8) ≡ t)
+    (slice_index bytes pos ≡ 2)
+    × IsInline (slice_index (window bytes (pos + 4) 8) 0)
+    × (before_ff (window bytes (pos + 4) 8) ≡ t)
 
 -- The tag of a list, and after it where its elements begin and how many they are: they are aligned, and end before the
 -- list's own node.

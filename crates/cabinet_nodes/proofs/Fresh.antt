@@ -8,9 +8,14 @@ use Rattle.cabinet_layout.specs.Image.{own_offset, own_bytes}
 use Rattle.cabinet_layout.specs.Written.{leaf_bytes}
 use Rattle.cabinet_nodes.specs.Writing.{blank}
 
+pub length-blank : (l : Leaf) → length (blank l) ≡ 24
+length-blank (truth b) = refl
+length-blank (number n) = refl
+length-blank (text t) = refl
+
 -- what stands after a text in the node of the empty one
-filler_behind : (n : ℕ) → n ≤ 8 → drop (4 + n) (blank (text [])) ≡ filler (8 - n) ++ zeros 12
-filler_behind n h =
+filler_after : (n : ℕ) → n ≤ 8 → drop (4 + n) (blank (text [])) ≡ filler (8 - n) ++ zeros 12
+filler_after n h =
     let rest : List ℕ = zeros 12 in
     let ff : List ℕ = filler 8 in
     sym (drop-drop n 4 (blank (text []))) ∙ drop-append-le n ff rest h ∙ ap (λ x. x ++ rest) (drop-replicate n 8 255)
@@ -20,4 +25,4 @@ pub node_of_leaf : (l : Leaf) → IsDocument (leaf l) → overwrite (blank l) (0
 node_of_leaf (truth b) d = refl
 node_of_leaf (number n) d = refl
 node_of_leaf (text t) d =
-    ap (λ x. 2 ∷ (zeros 3 ++ (t ++ x))) (filler_behind (length t) d.1)
+    ap (λ x. 2 ∷ (zeros 3 ++ (t ++ x))) (filler_after (length t) d.1)

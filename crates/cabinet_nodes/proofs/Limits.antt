@@ -11,7 +11,7 @@ use Rattle.cabinet_layout.specs.Image.{IsPast}
 use Rattle.cabinet_layout.proofs.Images.{within_limits}
 use Rattle.cabinet_nodes.proofs.ElementBytes.{count_is}
 
--- what a count tells that is compared with the most that an offset reaches back over
+-- what follows from comparing a count with the most that an offset reaches back over
 by_count : {P Q : Type 0} (most n : ℕ) → (most < n → P) → (n ≤ most → Q) → MatchBool (nat_lt most n) P Q
 by_count most n far near =
     elim (leb_tells (suc most) n) [

@@ -1,17 +1,14 @@
 -- The nodes along a path.
 use Rattle.std.proofs.Common.{◌≡◌, ℕ, ◌+◌, ◌*◌, ◌<◌, ◌≤◌, List, [], ◌∷◌, length, None, refl, ap, subst, sym, ◌∙◌, arith, slice_index}
 use Rattle.std.proofs.Math.Bridge.{le_prop}
-use Rattle.std.proofs.Math.Logic.{∥∥₁_elim}
-use Rattle.archive_shape_writing.specs.declared.error.Error.{Error}
+use Rattle.std.proofs.Math.Logic.{∥∥₁_elim, ∥∥₁_map}
 use Rattle.cabinet_text.specs.Tree.{Leaf, truth, number, text, Tree, leaf, list, IsDocument, Step, key, place, inside, node_at}
 use Rattle.cabinet_text.specs.View.{lent_leaf}
 use Rattle.cabinet_layout.specs.Node.{root_position, elements_at, node_position}
 use Rattle.cabinet_layout.specs.Denotes.{Accepted}
-use Rattle.cabinet_layout.specs.ArchiveFault.{NodeFault}
 use Rattle.cabinet_layout.specs.Spelled.{IsLeafAt, IsNodeAt}
 use Rattle.cabinet_layout.proofs.Roots.{accepted_says}
-use Rattle.cabinet_layout.proofs.Faults.{node_fault}
-use Rattle.cabinet_nodes.specs.Reading.{IsReadAt, IsNodeOf, StepsTo, StepsNowhere, LeadsNowhere, LeadsTo}
+use Rattle.cabinet_nodes.specs.Reading.{HasNodeAt, IsReadAt, IsNodeOf, StepsTo, StepsNowhere, LeadsNowhere, LeadsTo}
 use Rattle.cabinet_nodes.specs.declared.reading.list.Elements.{Elements}
 use Rattle.cabinet_nodes.specs.declared.reading.node.NodeRef.{NodeRef}
 use Rattle.cabinet_nodes.specs.declared.reading.node.NodeRef.TheVariants as lent
@@ -34,11 +31,11 @@ no_list_at_leaf bytes pos (truth b) i h = omega (arith, i.0)
 no_list_at_leaf bytes pos (number n) i h = omega (arith, i.0)
 no_list_at_leaf bytes pos (text t) i h = omega (arith, i.0)
 
-told_of : (bytes : List ℕ) (pos : ℕ) (node : NodeRef) (t : Tree) → IsReadAt bytes pos node → IsNodeAt bytes pos t → IsNodeOf node t
-told_of bytes pos (lent.Leaf l) (leaf m) r i = ap leaf (one_leaf bytes pos m (lent_leaf l) i r.0)
-told_of bytes pos (lent.Leaf l) (list ts) r i = absurd (no_list_at_leaf bytes pos (lent_leaf l) r.0 i.0.tag)
-told_of bytes pos (lent.List e) (leaf m) r i = absurd (no_list_at_leaf bytes pos m i r.0.tag)
-told_of bytes pos (lent.List e) (list ts) r i = (ts, refl, sym i.0.length ∙ r.0.length)
+node_of : (bytes : List ℕ) (pos : ℕ) (node : NodeRef) (t : Tree) → IsReadAt bytes pos node → IsNodeAt bytes pos t → IsNodeOf node t
+node_of bytes pos (lent.Leaf l) (leaf m) r i = ap leaf (one_leaf bytes pos m (lent_leaf l) i r.0)
+node_of bytes pos (lent.Leaf l) (list ts) r i = absurd (no_list_at_leaf bytes pos (lent_leaf l) r.0 i.0.tag)
+node_of bytes pos (lent.List e) (leaf m) r i = absurd (no_list_at_leaf bytes pos m i r.0.tag)
+node_of bytes pos (lent.List e) (list ts) r i = (ts, refl, sym i.0.length ∙ r.0.length)
 
 -- ---- the nodes that a path leads through
 
@@ -65,14 +62,13 @@ at_root bytes path pos e h = record {
 }
 
 module _ (bytes : List ℕ) (path : List Step) (pos : ℕ) where
-  pub no_fault : (rest : List Step) (e : Error) → IsReached bytes path pos rest → ∥ ((t : Tree) × Accepted bytes t) ∥₁ → NodeFault bytes pos e → ⊥
-  no_fault rest e r a f =
-      ∥∥₁_elim a (λ x y. absurd x) (λ p. let w = r.in_each p.0 p.1 in node_fault bytes pos e w.here w.document w.at_pos f)
+  pub has_node : (rest : List Step) → IsReached bytes path pos rest → ∥ ((t : Tree) × Accepted bytes t) ∥₁ → ∥ HasNodeAt bytes pos ∥₁
+  has_node rest r a = ∥∥₁_map a (λ p. let w = r.in_each p.0 p.1 in (w.here, w.at_pos, w.document))
 
   pub leads_to : (rest : List Step) (node : NodeRef) → rest ≡ [] → IsReached bytes path pos rest → IsReadAt bytes pos node → LeadsTo bytes path node
   leads_to rest node e r h = λ t a.
       let w = r.in_each t a in
-      (w.here, w.leads ∙ ap (node_at w.here) e, told_of bytes pos node w.here h w.at_pos)
+      (w.here, w.leads ∙ ap (node_at w.here) e, node_of bytes pos node w.here h w.at_pos)
 
   -- a step further
   nowhere_from : (t : Tree) (node : NodeRef) (step : Step) (rest : List Step) → IsNodeOf node t → StepsNowhere node step → node_at t (step ∷ rest) ≡ None
@@ -85,7 +81,7 @@ module _ (bytes : List ℕ) (path : List Step) (pos : ℕ) where
       → LeadsNowhere bytes path
   leads_nowhere node step rest r h n = λ t a.
       let w = r.in_each t a in
-      w.leads ∙ nowhere_from w.here node step rest (told_of bytes pos node w.here h w.at_pos) n
+      w.leads ∙ nowhere_from w.here node step rest (node_of bytes pos node w.here h w.at_pos) n
 
 -- the node that a place in a list leads to
 module _ (bytes : List ℕ) (path : List Step) (pos to : ℕ) (e : Elements) (i : ℕ) (rest : List Step)
@@ -98,13 +94,13 @@ module _ (bytes : List ℕ) (path : List Step) (pos to : ℕ) (e : Elements) (i 
 
   element_on_path : (t : Tree) → IsOnPath bytes t path pos (place i ∷ rest) → IsOnPath bytes t path to rest
   element_on_path t w =
-      let told = told_of bytes pos (lent.List e) w.here read w.at_pos in
-      let node : IsNodeAt bytes pos (list told.0) = subst (IsNodeAt bytes pos) told.1 w.at_pos in
-      let document : IsDocument (list told.0) = subst IsDocument told.1 w.document in
-      let s = element_at bytes (elements_at bytes pos) told.0 i document.0 node.1 (omega (arith, told.2)) in
+      let node_here = node_of bytes pos (lent.List e) w.here read w.at_pos in
+      let node : IsNodeAt bytes pos (list node_here.0) = subst (IsNodeAt bytes pos) node_here.1 w.at_pos in
+      let document : IsDocument (list node_here.0) = subst IsDocument node_here.1 w.document in
+      let s = element_at bytes (elements_at bytes pos) node_here.0 i document.0 node.1 (omega (arith, node_here.2)) in
       record {
         here = leaf s.leaf_there;
-        leads = w.leads ∙ ap (λ u. node_at u (place i ∷ rest)) told.1 ∙ s.leads_there rest;
+        leads = w.leads ∙ ap (λ u. node_at u (place i ∷ rest)) node_here.1 ∙ s.leads_there rest;
         at_pos = subst (λ p. IsLeafAt bytes p s.leaf_there) to_place s.at_place;
         document = s.document;
       }

@@ -4,8 +4,6 @@
 mod node;
 mod reading;
 mod setting;
-#[cfg(test)]
-mod tests;
 mod writing;
 
 pub use reading::{Elements, Found, NodeRef, check_root, find};

@@ -1,4 +1,4 @@
-// The own bytes of a node's leaf.
+//! The own bytes of a node's leaf.
 ghost use Rattle.std.specs.Prelude.{◌≡◌, ◌+◌, ◌≤◌, length};
 ghost use Rattle.archive_shape_references.specs.Bytes.{overwrite};
 ghost use Rattle.cabinet_text.specs.View.{lent_leaf};

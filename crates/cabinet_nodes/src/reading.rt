@@ -1,4 +1,4 @@
-// The nodes of an archive.
+//! The nodes of an archive.
 mod finding;
 mod leaf;
 mod list;

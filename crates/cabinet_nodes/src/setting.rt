@@ -1,4 +1,4 @@
-// A leaf is put in the place of another.
+//! A leaf is put in the place of another.
 ghost use Rattle.std.specs.Prelude.{◌≡◌};
 ghost use Rattle.cabinet_text.specs.Tree.{Tree, IsLeaf};
 ghost use Rattle.cabinet_text.specs.Answering.{outcome};

@@ -1,4 +1,4 @@
-// Nodes are made and written.
+//! Nodes are made and written.
 ghost use Rattle.std.specs.Prelude.{◌≡◌, ◌+◌, ◌-◌, ◌*◌, ◌^◌, ◌<◌, ◌≤◌, length, MatchBool};
 ghost use Rattle.archive_shape_writing.specs.Writing.{Writes};
 ghost use Rattle.archive_shape_writing.specs.declared.error.Error.{Error};
@@ -7,7 +7,7 @@ ghost use Rattle.cabinet_text.specs.Tree as tree;
 ghost use Rattle.cabinet_text.specs.Tree.{Leaf, AreLeaves, IsDocument};
 ghost use Rattle.cabinet_text.specs.View.{lent_leaf, node_tree, node_trees};
 ghost use Rattle.cabinet_layout.specs.Image.{IsPast};
-ghost use Rattle.cabinet_layout.specs.Written.{leaf_bytes, list_bytes, image_bytes, elements_bytes};
+ghost use Rattle.cabinet_layout.specs.Written.{list_bytes, image_bytes, elements_bytes};
 ghost use Rattle.cabinet_nodes.specs.Writing.{blank};
 
 use crate::node::write_own;
@@ -28,6 +28,12 @@ const EMPTY_TEXT: [u8; NODE_SIZE] = [
     2, 0, 0, 0, 0xff, 0xff, 0xff, 0xff, 0xff, 0xff, 0xff, 0xff, 0, 0, 0, 0, 0, 0, 0, 0, 0, 0, 0, 0,
 ];
 
+/// The most elements that are written at once.
+const RUN: usize = 64;
+
+/// The size of that many in bytes.
+const RUN_SIZE: usize = NODE_SIZE * RUN;
+
 /// The most elements of a list: n that an offset of 32 bits leads from after the last to the first.
 const MOST_ELEMENTS: usize = 89_478_485;
 
@@ -42,14 +48,16 @@ fn blank_image(leaf: LeafRef<'_>) -> [u8; NODE_SIZE]
     }
 }
 
-/// The node of a leaf.
-fn leaf_node(leaf: LeafRef<'_>) -> [u8; NODE_SIZE]
-    requires { IsDocument (tree.leaf (lent_leaf leaf)) }
-    ensures { result ≡ leaf_bytes (lent_leaf leaf.entry) }
+/// The image of a leaf.
+fn leaf_image(node: &Node) -> [u8; NODE_SIZE]
+    requires document { IsDocument (node_tree node.now) }
+    requires leaf { (l : Leaf) × (node_tree node.now ≡ tree.leaf l) }
+    ensures { result ≡ image_bytes (node_tree node.now) }
 {
-    let mut node = blank_image(leaf);
-    write_own(&mut node, 0, leaf);
-    node
+    let leaf = node.as_leaf().unwrap();
+    let mut image = blank_image(leaf);
+    write_own(&mut image, 0, leaf);
+    image
 }
 
 /// The node of a list that stands after its elements.
@@ -72,10 +80,32 @@ fn write_leaf<W: Writer>(node: &Node, writer: &mut W) -> Result<(), Error>
     requires leaf { (l : Leaf) × (node_tree node.now ≡ tree.leaf l) }
     ensures { Writes W.Writer writer.old writer.new (image_bytes (node_tree node.now)) result }
 {
-    let Some(leaf) = node.as_leaf() else {
-        unreachable!()
-    };
-    writer.write(&leaf_node(leaf))
+    writer.write(&leaf_image(node))
+}
+
+/// Fills a buffer with the images of leaves, side by side.
+fn fill_with_leaves(images: &mut [u8], nodes: &[Node])
+    requires leaves { AreLeaves (node_trees nodes.now) }
+    requires size { length images.old ≡ 24 * length nodes.now }
+    ensures { images.new ≡ elements_bytes (node_trees nodes.now) }
+{
+    for (place, node) in nodes.iter().enumerate() {
+        let start = NODE_SIZE * place;
+        images[start..start + NODE_SIZE].copy_from_slice(&leaf_image(node));
+    }
+}
+
+/// Writes elements of a list side by side, as one piece.
+fn write_run<W: Writer>(nodes: &[Node], writer: &mut W) -> Result<(), Error>
+    requires room { W.failures writer.old < 2 ^ 64 - 1 }
+    requires leaves { AreLeaves (node_trees nodes.now) }
+    requires few { length nodes.now ≤ 64 }
+    ensures { Writes W.Writer writer.old writer.new (elements_bytes (node_trees nodes.now)) result }
+{
+    let mut buffer = [0; RUN_SIZE];
+    let images = &mut buffer[..NODE_SIZE * nodes.len()];
+    fill_with_leaves(images, nodes);
+    writer.write(images)
 }
 
 /// Writes the elements of a list side by side.
@@ -84,8 +114,11 @@ fn write_elements<W: Writer>(nodes: &[Node], writer: &mut W) -> Result<(), Error
     requires leaves { AreLeaves (node_trees nodes.now) }
     ensures { Writes W.Writer writer.old writer.new (elements_bytes (node_trees nodes.now)) result }
 {
-    for node in nodes {
-        write_leaf(node, writer)?;
+    let mut rest = nodes;
+    while !rest.is_empty() {
+        let (run, later) = rest.split_at(rest.len().min(RUN));
+        write_run(run, writer)?;
+        rest = later;
     }
     Ok(())
 }

@@ -1,4 +1,4 @@
-// The node that a path leads to.
+//! The node that a path leads to.
 ghost use Rattle.std.specs.Prelude.{◌≡◌, ℕ, ◌+◌, ◌-◌, ◌^◌, ◌≤◌, length, MatchOption, IfSome};
 ghost use Rattle.cabinet_text.specs.Tree.{Tree};
 ghost use Rattle.cabinet_text.specs.View.{path_of, step_of};
@@ -6,7 +6,7 @@ ghost use Rattle.cabinet_layout.specs.Node as layout;
 ghost use Rattle.cabinet_layout.specs.Denotes.{Accepted};
 ghost use Rattle.cabinet_nodes.specs.Reading.{EndBy, IsReadAt, LeadsNowhere, LeadsTo, StepsNowhere, StepsTo};
 
-use super::node::{NODE_SIZE, NodeRef, read_node, root_position};
+use super::node::{NODE_SIZE, NodeRef, node_at, root_position};
 use cabinet_text::Step;
 
 /// A node, and where it lies: its first byte, counted from the start of the archive.
@@ -39,13 +39,8 @@ pub fn find<'a>(bytes: &'a [u8], path: &[Step]) -> Option<Found<'a>>
 {
     let mut pos = root_position(bytes.len());
     for step in path {
-        match read_node(bytes, pos) {
-            Ok(node) => pos = step_down(node, step)?,
-            Err(_) => unreachable!(),
-        }
+        pos = step_down(node_at(bytes, pos), step)?;
     }
-    match read_node(bytes, pos) {
-        Ok(node) => Some(Found { pos, node }),
-        Err(_) => unreachable!(),
-    }
+    let node = node_at(bytes, pos);
+    Some(Found { pos, node })
 }

@@ -1,18 +1,24 @@
-// Leaves.
-ghost use Rattle.std.specs.Prelude.{◌≡◌, ℕ, ◌+◌, ◌<◌, ◌≤◌, length, take, MatchResult, IsUtf8};
+//! Leaves: their check, and what a node of an accepted archive has for a leaf.
+ghost use Rattle.std.specs.Prelude.{◌≡◌, ℕ, ◌+◌, ◌<◌, ◌≤◌, ◌↔◌, length, take, slice_index, MatchResult, IsTrue, IsUtf8};
 ghost use Rattle.std.specs.Int.{w64, from_le_bytes, cast_signed};
 ghost use Rattle.archive_shape_layout.specs.Bytes.{window};
-ghost use Rattle.archive_shape_layout.specs.Content.{before_ff};
-ghost use Rattle.cabinet_text.specs.Tree.{leaf, IsDocument};
+ghost use Rattle.archive_shape_layout.specs.Content.{IsInline, before_ff};
 ghost use Rattle.cabinet_text.specs.View.{lent_leaf};
 ghost use Rattle.cabinet_layout.specs.ArchiveFault.{ElementFault};
-ghost use Rattle.cabinet_layout.specs.Spelled.{IsLeafAt};
-ghost use Rattle.cabinet_nodes.specs.Reading.{IsInlineText, IsNoInlineText};
+ghost use Rattle.cabinet_nodes.specs.Reading.{HasInlineText, HasLeafAt, IsDocumentLeafAt, IsNoInlineText};
 
 use archive_shape_writing::Error;
 use cabinet_text::LeafRef;
 
-/// What stands before the first ff.
+/// Whether the text of these eight bytes stands in them.
+fn is_inline(own: &[u8]) -> bool
+    requires { length own.now ≡ 8 }
+    ensures { IsTrue result ↔ IsInline (slice_index own.now 0) }
+{
+    own[0] < 0x80 || 0xc0 <= own[0]
+}
+
+/// The bytes before the first ff.
 fn before_filler(bytes: &[u8]) -> &[u8]
     ensures { result.now ≡ before_ff bytes.now }
 {
@@ -24,18 +30,27 @@ fn before_filler(bytes: &[u8]) -> &[u8]
     bytes
 }
 
-/// The text that stands inline in its eight bytes.
-fn inline_text(own: &[u8]) -> Result<&str, Error>
+/// Whether a text stands in its eight bytes.
+fn check_inline_text(own: &[u8]) -> Result<(), Error>
     requires { length own.now ≡ 8 }
-    ensures { MatchResult result (λ t. IsInlineText own.now t.now) (IsNoInlineText own.now) }
+    ensures { MatchResult result (λ _. HasInlineText own.now) (IsNoInlineText own.now) }
 {
-    if own[0] >= 0x80 && own[0] < 0xc0 {
+    if !is_inline(own) {
         return Err(Error::CheckStringRepr);
     }
     match std::str::from_utf8(before_filler(own)) {
-        Ok(text) => Ok(text),
+        Ok(_) => Ok(()),
         Err(_) => Err(Error::InvalidUtf8),
     }
+}
+
+/// The text that stands in its eight bytes.
+fn inline_text(own: &[u8]) -> &str
+    requires { ∥ IsUtf8 (before_ff own.now) ∥₁ }
+    ensures text { result.now ≡ before_ff own.now }
+    ensures utf8 { IsUtf8 result.now }
+{
+    std::str::from_utf8(before_filler(own)).unwrap()
 }
 
 /// The number at a position.
@@ -49,22 +64,28 @@ fn number_at(bytes: &[u8], pos: usize) -> i64
     ])
 }
 
-/// The leaf that the node at a position is.
-pub(super) fn read_leaf(bytes: &[u8], pos: usize) -> Result<LeafRef<'_>, Error>
+/// Whether the node at a position is a leaf.
+pub(super) fn check_leaf(bytes: &[u8], pos: usize) -> Result<(), Error>
     requires { pos + 24 ≤ length bytes.now }
-    ensures { MatchResult result (λ l. IsLeafAt bytes.now pos (lent_leaf l) × IsDocument (leaf (lent_leaf l))) (ElementFault bytes.now pos) }
+    ensures { MatchResult result (λ _. HasLeafAt bytes.now pos) (ElementFault bytes.now pos) }
 {
     match bytes[pos] {
-        0 => match bytes[pos + 1] {
-            0 => Ok(LeafRef::Bool(false)),
-            1 => Ok(LeafRef::Bool(true)),
-            _ => Err(Error::InvalidTag),
-        },
-        1 => Ok(LeafRef::Int(number_at(bytes, pos + 8))),
-        2 => match inline_text(&bytes[pos + 4..pos + 12]) {
-            Ok(text) => Ok(LeafRef::Text(text)),
-            Err(refusal) => Err(refusal),
-        },
+        0 if bytes[pos + 1] < 2 => Ok(()),
+        1 => Ok(()),
+        2 => check_inline_text(&bytes[pos + 4..pos + 12]),
         _ => Err(Error::InvalidTag),
+    }
+}
+
+/// The leaf that the node at a position is.
+pub(super) fn leaf_at(bytes: &[u8], pos: usize) -> LeafRef<'_>
+    requires room { pos + 24 ≤ length bytes.now }
+    requires leaf { ∥ HasLeafAt bytes.now pos ∥₁ }
+    ensures { IsDocumentLeafAt bytes.now pos (lent_leaf result) }
+{
+    match bytes[pos] {
+        0 => LeafRef::Bool(bytes[pos + 1] == 1),
+        1 => LeafRef::Int(number_at(bytes, pos + 8)),
+        _ => LeafRef::Text(inline_text(&bytes[pos + 4..pos + 12])),
     }
 }

@@ -1,12 +1,12 @@
-// Lists.
+//! Lists: their check, and where the elements of a list of an accepted archive lie.
 ghost use Rattle.std.specs.Prelude.{◌≡◌, ℕ, ◌+◌, ◌*◌, ◌^◌, ◌<◌, ◌≤◌, length, slice_index, Some, MatchOption, MatchResult, OnOk, IfErr};
 ghost use Rattle.archive_shape_layout.specs.Bytes as layout;
-ghost use Rattle.cabinet_layout.specs.Node.{elements_at, target_of_list};
+ghost use Rattle.cabinet_layout.specs.Node.{elements_at, len_of_list, target_of_list};
 ghost use Rattle.cabinet_layout.specs.ArchiveFault.{LeavesRange, ListFault};
 ghost use Rattle.cabinet_layout.specs.Spelled.{IsListAt};
 ghost use Rattle.cabinet_nodes.specs.Reading.{AreElements, IsFirstElementFault};
 
-use super::leaf::read_leaf;
+use super::leaf::check_leaf;
 use super::node::NODE_SIZE;
 use archive_shape_writing::Error;
 
@@ -43,8 +43,8 @@ fn elements_target(bytes: &[u8], pos: usize) -> Option<usize>
     }
 }
 
-/// The elements of the list at a position, which are to end before it.
-pub(super) fn read_elements(bytes: &[u8], pos: usize) -> Result<Elements, Error>
+/// The elements of the list at a position, if they are aligned and end before it.
+pub(super) fn check_list(bytes: &[u8], pos: usize) -> Result<Elements, Error>
     requires room { pos + 24 ≤ length bytes.now }
     requires tag { slice_index bytes.now pos ≡ 5 }
     ensures { MatchResult result (λ e. IsListAt bytes.now pos e.len × (e.pos ≡ elements_at bytes.now pos)) (ListFault bytes.now pos) }
@@ -63,6 +63,19 @@ pub(super) fn read_elements(bytes: &[u8], pos: usize) -> Result<Elements, Error>
     Ok(Elements { pos: start, len })
 }
 
+/// The elements of the list at a position.
+pub(super) fn list_at(bytes: &[u8], pos: usize) -> Elements
+    requires room { pos + 24 ≤ length bytes.now }
+    requires list { IsListAt bytes.now pos (len_of_list bytes.now pos) }
+    ensures { IsListAt bytes.now pos result.len × (result.pos ≡ elements_at bytes.now pos) }
+{
+    let back = (1 << 32) - word_at(bytes, pos + 4) as usize;
+    Elements {
+        pos: pos + 4 - back,
+        len: word_at(bytes, pos + 8) as usize,
+    }
+}
+
 /// Whether each element is one that a list may have.
 pub(super) fn check_elements(bytes: &[u8], elements: Elements) -> Result<(), Error>
     requires { elements.pos + 24 * elements.len ≤ length bytes.now }
@@ -70,8 +83,8 @@ pub(super) fn check_elements(bytes: &[u8], elements: Elements) -> Result<(), Err
     ensures fault { IfErr result (IsFirstElementFault bytes.now elements.pos elements.len) }
 {
     for place in 0..elements.len {
-        match read_leaf(bytes, elements.pos + NODE_SIZE * place) {
-            Ok(_) => {}
+        match check_leaf(bytes, elements.pos + NODE_SIZE * place) {
+            Ok(()) => {}
             Err(refusal) => return Err(refusal),
         }
     }

@@ -1,13 +1,13 @@
-// Nodes, and the root.
+//! Nodes, and the check of the root.
 ghost use Rattle.std.specs.Prelude.{◌≡◌, ℕ, ◌+◌, ◌≤◌, length, MatchResult};
 ghost use Rattle.cabinet_text.specs.Tree.{Tree};
 ghost use Rattle.cabinet_layout.specs.Node as layout;
 ghost use Rattle.cabinet_layout.specs.Denotes.{Accepted};
-ghost use Rattle.cabinet_layout.specs.ArchiveFault.{ArchiveFault, NodeFault};
-ghost use Rattle.cabinet_nodes.specs.Reading.{IsReadAt};
+ghost use Rattle.cabinet_layout.specs.ArchiveFault.{ArchiveFault};
+ghost use Rattle.cabinet_nodes.specs.Reading.{HasNodeAt, IsReadAt};
 
-use super::leaf::read_leaf;
-use super::list::{Elements, check_elements, read_elements};
+use super::leaf::{check_leaf, leaf_at};
+use super::list::{Elements, check_elements, check_list, list_at};
 use archive_shape_writing::Error;
 use cabinet_text::LeafRef;
 
@@ -34,19 +34,15 @@ pub(super) fn root_position(len: usize) -> usize
 }
 
 /// The node at a position. The elements of a list are not looked at.
-pub(super) fn read_node(bytes: &[u8], pos: usize) -> Result<NodeRef<'_>, Error>
-    requires { pos + 24 ≤ length bytes.now }
-    ensures { MatchResult result (IsReadAt bytes.now pos) (NodeFault bytes.now pos) }
+pub(super) fn node_at(bytes: &[u8], pos: usize) -> NodeRef<'_>
+    requires room { pos + 24 ≤ length bytes.now }
+    requires node { ∥ HasNodeAt bytes.now pos ∥₁ }
+    ensures { IsReadAt bytes.now pos result }
 {
     if bytes[pos] == LIST {
-        return match read_elements(bytes, pos) {
-            Ok(elements) => Ok(NodeRef::List(elements)),
-            Err(refusal) => Err(refusal),
-        };
-    }
-    match read_leaf(bytes, pos) {
-        Ok(leaf) => Ok(NodeRef::Leaf(leaf)),
-        Err(refusal) => Err(refusal),
+        NodeRef::List(list_at(bytes, pos))
+    } else {
+        NodeRef::Leaf(leaf_at(bytes, pos))
     }
 }
 
@@ -57,9 +53,12 @@ pub fn check_root(bytes: &[u8]) -> Result<(), Error>
     if bytes.len() < NODE_SIZE {
         return Err(Error::InvalidSubtreePointer { size: NODE_SIZE });
     }
-    match read_node(bytes, root_position(bytes.len())) {
-        Ok(NodeRef::Leaf(_)) => Ok(()),
-        Ok(NodeRef::List(elements)) => check_elements(bytes, elements),
+    let pos = root_position(bytes.len());
+    if bytes[pos] != LIST {
+        return check_leaf(bytes, pos);
+    }
+    match check_list(bytes, pos) {
+        Ok(elements) => check_elements(bytes, elements),
         Err(refusal) => Err(refusal),
     }
 }

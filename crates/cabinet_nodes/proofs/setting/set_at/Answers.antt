@@ -1,3 +1,4 @@
+use Rattle.std.proofs.Common.{rules}
 use Rattle.std.proofs.Common.{◌≡◌, true, false, ap, sym, ◌∙◌}
 use Rattle.cabinet_text.specs.View.{leaf_of, path_of}
 use Rattle.cabinet_nodes.specs.Setting.{fits_at}
@@ -22,3 +23,6 @@ returns-clause-answer c =
     let node = c.in-Some.field-0.node in
     let f : fits_at node (leaf_of c.args.leaf.now) ≡ true = ap (fits_at node) (sym c.as_ref-new.ensures.value) ∙ sym c.if-not-fits_at.ensures in
     done c.args.bytes.now (path_of c.args.path.now) (leaf_of c.args.leaf.now) node c.in-Some.ensures.leads f
+
+pub returns-in_default-clause-answer : goal.returns-in_default-clause-answer
+returns-in_default-clause-answer c = search rules

@@ -1,10 +1,11 @@
-use Rattle.std.proofs.Common.{take, flat_map}
-use Rattle.archive_shape_writing.specs.Writing.{Written}
-use Rattle.cabinet_nodes.proofs.ElementBytes.{bytes_of}
+use Rattle.std.proofs.Common.{length}
+use Rattle.cabinet_nodes.proofs.ElementBytes.{AreWrittenBefore}
 use Rattle.cabinet_nodes.proofs.writing.write_elements.Given as goal
 
--- the elements before the next one were written
-abbrev pub invariant-loop-node : goal.invariant-loop-node
-invariant-loop-node g l =
+abbrev pub invariant-loop-rest : goal.invariant-loop-rest
+invariant-loop-rest g l =
     let w = g.W.Writer in
-    Written w.OBSERVABLE w.COUNTS w.contents g.W.Positional.pos w.failures w.last_error l.fn.writer l.writer (flat_map bytes_of (take l.node-index l.nodes))
+    AreWrittenBefore w.OBSERVABLE w.COUNTS w.contents g.W.Positional.pos w.failures w.last_error l.fn.writer l.writer l.nodes l.rest
+
+abbrev pub decreases-loop-rest : goal.decreases-loop-rest
+decreases-loop-rest g l = length l.rest

@@ -1,17 +1,12 @@
-use Rattle.std.proofs.Common.{◌∙◌, length, ap, sym, arith}
-use Rattle.cabinet_nodes.proofs.Short.{before_ff-short}
+use Rattle.std.proofs.Common.{Ok, Err, refl, sym, subst, IsUtf8}
+use Rattle.std.proofs.Math.Logic.{∥∥₁_elim}
+use Rattle.std.specs.Prelude.{Result, MatchResult, IsOk}
 use Rattle.cabinet_nodes.proofs.reading.leaf.inline_text.Goals as goal
-use Rattle.cabinet_nodes.proofs.reading.leaf.inline_text.Goals.{else-own-ge128-via-then-own-ge128+else-own-lt192, else-own-ge128-via-else-own-ge128}
 
-pub returns-in-Ok : goal.returns-in-Ok
-returns-in-Ok c =
-    let e = c.in-Ok.ensures.cases.0 ∙ c.before_filler.ensures in
-    let s = before_ff-short c.args.own.now in
-    record {
-      is_inline = elim c.else-own-ge128.branch [
-        | else-own-ge128-via-then-own-ge128+else-own-lt192 w ↦ λ o. omega arith
-        | else-own-ge128-via-else-own-ge128 w ↦ λ o. omega arith
-      ];
-      text_is = sym e;
-      short = omega (arith, ap length e);
-    }
+is_ok : {A E P : Type 0} (Q : A → Type 0) (R : E → Type 0) (r : Result A E) → ∥ P ∥₁ → MatchResult r Q (λ e. ¬ P × R e) → IsOk r
+is_ok Q R (Ok x) h m = refl
+is_ok Q R (Err e) h m = absurd (∥∥₁_elim h (λ x y. absurd x) m.0)
+
+pub unwrap-requires : goal.unwrap-requires
+unwrap-requires c =
+    is_ok _ _ c.from_utf8.result (subst (λ bytes. ∥ IsUtf8 bytes ∥₁) (sym c.before_filler.ensures) c.requires) c.from_utf8.ensures.cases

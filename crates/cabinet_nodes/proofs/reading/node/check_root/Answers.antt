@@ -1,14 +1,13 @@
-use Rattle.std.proofs.Common.{◌≡◌, ◌+◌, ◌*◌, ◌<◌, ◌≤◌, ◌^◌, ℕ, List, Ok, Err, length, subst, sym, arith}
+use Rattle.std.proofs.Common.{◌≡◌, ◌+◌, ◌*◌, ◌<◌, ◌≤◌, ◌^◌, ℕ, List, Ok, Err, length, slice_index, subst, sym, arith}
 use Rattle.std.specs.Prelude.{Result, MatchResult, OnOk, IfErr}
 use Rattle.archive_shape_writing.specs.declared.error.Error.{Error}
 use Rattle.cabinet_text.specs.Tree.{Tree, leaf, list, IsDocument}
-use Rattle.cabinet_text.specs.View.{lent_leaf}
 use Rattle.cabinet_layout.specs.Node.{root_position, target_of_list, len_of_list, elements_at}
 use Rattle.cabinet_layout.specs.Denotes.{Accepted}
-use Rattle.cabinet_layout.specs.ArchiveFault.{LeavesRange, ElementFault, in_an_element, NodeFault, in_the_list, ArchiveFault, in_the_root}
+use Rattle.cabinet_layout.specs.ArchiveFault.{LeavesRange, ElementFault, no_leaf, in_the_leaf, in_an_element, NodeFault, no_such_tag, in_the_payload, in_the_list, ArchiveFault, in_the_root}
 use Rattle.cabinet_layout.specs.Spelled.{IsListAt, IsNodeAt, AreNodesAt}
 use Rattle.cabinet_layout.proofs.Making.{tree_accepted}
-use Rattle.cabinet_nodes.specs.Reading.{AreElements, IsFirstElementFault}
+use Rattle.cabinet_nodes.specs.Reading.{HasLeafAt, AreElements, IsFirstElementFault}
 use Rattle.cabinet_nodes.proofs.reading.node.check_root.Goals as goal
 
 module _ (bytes : List ℕ) (pos : ℕ) (room : 24 ≤ length bytes) (at_root : pos ≡ root_position (length bytes)) where
@@ -44,18 +43,26 @@ module _ (bytes : List ℕ) (pos : ℕ) (room : 24 ≤ length bytes) (at_root : 
     list_checked (Ok u) fits e f = list_accepted fits e
     list_checked (Err d) fits e f = element_refused d f
 
-pub returns-in-Ok-Leaf : goal.returns-in-Ok-Leaf
-returns-in-Ok-Leaf c =
-    let r = rw c.in-Ok-Leaf.field-0-is at c.in-Ok-Leaf.ensures in
-    accepted c.args.bytes.now c.root_position.result c.if-bytes-lt-NODE_SIZE.false c.root_position.ensures.position (leaf (lent_leaf c.in-Ok-Leaf.field-0-0)) r.0 r.1
+  element_fault : (e : Error) → (slice_index bytes pos ≡ 5 → ⊥) → ElementFault bytes pos e → NodeFault bytes pos e
+  element_fault e ne (no_leaf h k) = no_such_tag h ne k
+  element_fault e ne (in_the_leaf f) = in_the_payload f
 
-pub returns-in-Ok-List : goal.returns-in-Ok-List
-returns-in-Ok-List c =
-    let r = rw c.in-Ok-List.field-0-is at c.in-Ok-List.ensures in
-    let e = c.in-Ok-List.elements in
-    list_checked c.args.bytes.now c.root_position.result c.if-bytes-lt-NODE_SIZE.false c.root_position.ensures.position e.pos e.len r.0 r.1 c.check_elements.result (omega arith)
+  leaf_checked : {A : Type 0} (r : Result A Error) → (slice_index bytes pos ≡ 5 → ⊥) → MatchResult r (λ _. HasLeafAt bytes pos) (ElementFault bytes pos)
+      → MatchResult r (λ _. (t : Tree) × Accepted bytes t) (ArchiveFault bytes)
+  leaf_checked (Ok u) ne h = accepted (leaf h.0) h.1.0 h.1.1
+  leaf_checked (Err e) ne h = refused e (element_fault e ne h)
+
+pub returns-then-bytes-pos-ne-LIST : goal.returns-then-bytes-pos-ne-LIST
+returns-then-bytes-pos-ne-LIST c =
+    leaf_checked c.args.bytes.now c.root_position-pos.result c.if-bytes-lt-NODE_SIZE.false c.root_position-pos.ensures.position c.check_leaf.result c.if-bytes-pos-ne-LIST.true c.check_leaf.ensures
+
+pub returns-in-Ok : goal.returns-in-Ok
+returns-in-Ok c =
+    let r = c.in-Ok.ensures in
+    let e = c.in-Ok.elements in
+    list_checked c.args.bytes.now c.root_position-pos.result c.if-bytes-lt-NODE_SIZE.false c.root_position-pos.ensures.position e.pos e.len r.0 r.1 c.check_elements.result (omega arith)
     c.check_elements.ensures.stand c.check_elements.ensures.fault
 
 pub returns-in-Err : goal.returns-in-Err
 returns-in-Err c =
-    refused c.args.bytes.now c.root_position.result c.if-bytes-lt-NODE_SIZE.false c.root_position.ensures.position c.in-Err.refusal c.in-Err.ensures
+    refused c.args.bytes.now c.root_position-pos.result c.if-bytes-lt-NODE_SIZE.false c.root_position-pos.ensures.position c.in-Err.refusal (in_the_list c.if-bytes-pos-ne-LIST.false c.in-Err.ensures)

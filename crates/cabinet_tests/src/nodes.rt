@@ -1,5 +1,6 @@
-use crate::{NodeRef, check_root, find, is_past_limits, set_at, write_root};
+//! Nodes of archives: written, checked, found and edited.
 use archive_shape_writing::Error;
+use cabinet_nodes::{NodeRef, check_root, find, is_past_limits, set_at, write_root};
 use cabinet_text::{Leaf, LeafRef, SetAnswer, Step, read_text};
 use std::alloc::Global;
 use std::test::Fail;
@@ -66,7 +67,7 @@ const TWO: [u8; 72] = [
 ];
 
 #[test]
-fn lists_are_written_behind_their_elements(rt: HostRuntime) -> Result<(), Fail> {
+fn lists_are_written_after_their_elements(rt: HostRuntime) -> Result<(), Fail> {
     let empty = [
         5, 0, 0, 0, 0xfc, 0xff, 0xff, 0xff, 0, 0, 0, 0, 0, 0, 0, 0, 0, 0, 0, 0, 0, 0, 0, 0,
     ];
@@ -124,7 +125,7 @@ fn bytes_that_are_no_archive_are_refused(rt: HostRuntime) {
 }
 
 #[test]
-fn bytes_behind_the_root_are_accepted_and_stay(rt: HostRuntime) {
+fn bytes_after_the_root_are_accepted_and_stay(rt: HostRuntime) {
     let mut bytes = [0xbb; 31];
     bytes[..24].copy_from_slice(&[
         1, 0, 0, 0, 0, 0, 0, 0, 5, 0, 0, 0, 0, 0, 0, 0, 0, 0, 0, 0, 0, 0, 0, 0,
