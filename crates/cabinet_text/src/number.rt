@@ -1,9 +1,10 @@
+//! Numbers in decimal: the bytes of a number, and the number that bytes are the shortest form of.
 ghost use Rattle.std.specs.Prelude.{◌≡◌, ◌≢◌, ℕ, ℤ, ◌^◌, ◌<◌, ◌≤◌, ◌∷◌, drop, MatchOption, FitsSigned};
 ghost use Rattle.std.specs.Int.{w64};
 ghost use Rattle.std.specs.Fmt.{decimal, signed_decimal};
 ghost use Rattle.std.specs.Str.Parse.{AllDigits, digits_value};
 
-use crate::spelling::behind;
+use crate::spelling::after_prefix;
 use std::marker::Model;
 
 /// Room for a sign and the twenty digits of the greatest number.
@@ -121,7 +122,7 @@ fn below_zero(distance: u64) -> Option<i64>
 pub(crate) fn read_number(bytes: &[u8]) -> Option<i64>
     ensures { MatchOption result ((n : ℤ) → FitsSigned w64 n → bytes.now ≢ signed_decimal n) (λ n. FitsSigned w64 n × (bytes.now ≡ signed_decimal n)) }
 {
-    if let Some(digits) = behind(bytes, b"-".as_slice()) {
+    if let Some(digits) = after_prefix(bytes, b"-".as_slice()) {
         let Some(distance) = read_count(digits) else {
             return None;
         };
