@@ -55,7 +55,11 @@ fn no_numbers(rt: HostRuntime) {
     for text in texts {
         let refusal = read_text(rt.alloc(), text).err();
         let cause = Cause::BadNumber;
-        assert_eq!(rt; refusal, Some(TextRefusal { line: 1, cause }), "at {text:?}");
+        assert_eq!(rt;
+            refusal,
+            Some(TextRefusal { line: 1, cause }),
+            "at {text:?}"
+        );
     }
 }
 
