@@ -4,14 +4,14 @@ use Rattle.std.proofs.Math.Seq.{take-append_seam, drop-append_seam}
 use Rattle.cabinet_text.specs.Tree.{Leaf, text, IsLeaf, Step}
 use Rattle.cabinet_text.specs.Spelling.{spelled_leaf}
 use Rattle.cabinet_text.specs.Line.{Line, get, set, IsPossible, spelled_path, spelling}
-use Rattle.cabinet_text.specs.Reading.{IsPath, IsAtSpace, HasNoSpace, IsCutBehindLeaf, HasSteps, RefusesLine, RefusesLeaf}
+use Rattle.cabinet_text.specs.Reading.{IsPath, IsAtSpace, HasNoSpace, IsCutAfterLeaf, HasSteps, RefusesLine, RefusesLeaf}
 use Rattle.cabinet_text.specs.declared.line.LineRefusal.{LineRefusal}
 use Rattle.cabinet_text.specs.declared.line.LineRefusal.TheVariants.{Bad, OutOfMemory}
 use Rattle.cabinet_text.proofs.Escapes.{rest_same, first_differs}
 use Rattle.cabinet_text.proofs.Paths.{TwoWords, two_words, one_word, same_words, IsAtSpace-path, Lacks-from_HasNoSpace}
 
 -- where no second word begins, no leaf is spelled
-pub one_word_cut : (bytes word spaced sign : List ℕ) → bytes ≡ word ++ spaced → HasNoSpace word → IsAtSpace spaced → sign ≡ codes " " → ((rest : List ℕ) → spaced ≢ sign ++ rest) → IsCutBehindLeaf bytes bytes []
+pub one_word_cut : (bytes word spaced sign : List ℕ) → bytes ≡ word ++ spaced → HasNoSpace word → IsAtSpace spaced → sign ≡ codes " " → ((rest : List ℕ) → spaced ≢ sign ++ rest) → IsCutAfterLeaf bytes bytes []
 one_word_cut bytes word [] sign whole lacks space e none = λ l path p h.
     absurd (one_word word (spelled_leaf l) (spelled_path path) (Lacks-from_HasNoSpace word lacks) (two_words l p) (sym (append-nil word) ∙ sym whole ∙ h))
 one_word_cut bytes word (b ∷ rest) sign whole lacks space e none =
@@ -19,15 +19,15 @@ one_word_cut bytes word (b ∷ rest) sign whole lacks space e none =
 
 -- two words before a path, cut where the path begins
 pub two_words_cut :
-    (bytes word spaced sign behind argument path front back : List ℕ) (n : ℕ)
-    → bytes ≡ word ++ spaced → spaced ≡ sign ++ behind → sign ≡ codes " " → behind ≡ argument ++ path
+    (bytes word spaced sign after argument path front back : List ℕ) (n : ℕ)
+    → bytes ≡ word ++ spaced → spaced ≡ sign ++ after → sign ≡ codes " " → after ≡ argument ++ path
     → HasNoSpace word → HasNoSpace argument → IsAtSpace path
     → front ≡ take n bytes → back ≡ drop n bytes → n ≡ length bytes - length path
-    → IsCutBehindLeaf bytes front back
-two_words_cut bytes word spaced sign behind argument path front back n whole rest_is e behind_is first second space front_is back_is size =
+    → IsCutAfterLeaf bytes front back
+two_words_cut bytes word spaced sign after argument path front back n whole rest_is e after_is first second space front_is back_is size =
     let leaf = word ++ 32 ∷ argument in
     let spelled : bytes ≡ leaf ++ path =
-    whole ∙ ap (λ w. word ++ w) (rest_is ∙ ap (λ w. w ++ behind) e ∙ ap (λ w. 32 ∷ w) behind_is) ∙ sym (append_assoc word (32 ∷ argument) path) in
+    whole ∙ ap (λ w. word ++ w) (rest_is ∙ ap (λ w. w ++ after) e ∙ ap (λ w. 32 ∷ w) after_is) ∙ sym (append_assoc word (32 ∷ argument) path) in
     let words : TwoWords leaf = record {
       word = word;
       argument = argument;
@@ -66,7 +66,7 @@ no_memory_for_edit bytes front rest l whole p e (path, steps, h) some =
     (set path l, ((steps, p), edit_spelled bytes front rest path l whole e h), inl (has_steps rest path h some))
 
 -- the leaf of an edit is refused
-pub leaf_refused : (bytes front rest : List ℕ) (refusal : LineRefusal) → bytes ≡ front ++ rest → IsCutBehindLeaf bytes front rest → IsPath rest → RefusesLeaf front refusal → RefusesLine (codes "set " ++ bytes) refusal
+pub leaf_refused : (bytes front rest : List ℕ) (refusal : LineRefusal) → bytes ≡ front ++ rest → IsCutAfterLeaf bytes front rest → IsPath rest → RefusesLeaf front refusal → RefusesLine (codes "set " ++ bytes) refusal
 leaf_refused bytes front rest Bad whole cut is_path refused =
     elim [
       | get path ↦ λ p h. absurd (first_differs refl h)

@@ -62,17 +62,17 @@ written b _ x (space e) h = cc
 written b _ x (plain p q r) h = cc
 
 -- what stands after an escaped front of an escaped text is an escaped text
-pub record Behind (front tail t : List ℕ) : Type 0 where
+pub record After (front tail t : List ℕ) : Type 0 where
   pub text : List ℕ
   pub whole : t ≡ front ++ text
   pub escapes : tail ≡ escaped text
 
-pub behind_front : (front tail t : List ℕ) → escaped front ++ tail ≡ escaped t → Behind front tail t
-behind_front [] tail t h = record { text = t; whole = refl; escapes = h }
-behind_front (b ∷ bs) tail [] h = absurd (written b (escaped_byte b) (escaped bs ++ tail) (form_of b) (sym (append_assoc (escaped_byte b) (escaped bs) tail) ∙ h))
-behind_front (b ∷ bs) tail (d ∷ ds) h =
+pub after_front : (front tail t : List ℕ) → escaped front ++ tail ≡ escaped t → After front tail t
+after_front [] tail t h = record { text = t; whole = refl; escapes = h }
+after_front (b ∷ bs) tail [] h = absurd (written b (escaped_byte b) (escaped bs ++ tail) (form_of b) (sym (append_assoc (escaped_byte b) (escaped bs) tail) ∙ h))
+after_front (b ∷ bs) tail (d ∷ ds) h =
     let firsts = same_first b d _ _ _ _ (form_of b) (form_of d) (sym (append_assoc (escaped_byte b) (escaped bs) tail) ∙ h) in
-    let rest = behind_front bs tail ds firsts.1 in
+    let rest = after_front bs tail ds firsts.1 in
     record { text = rest.text; whole = cc; escapes = rest.escapes }
 
 pub escaped_injective : (s t : List ℕ) → escaped s ≡ escaped t → s ≡ t
@@ -104,13 +104,18 @@ shorter b _ rest after (plain p q r) h = omega (arith, ap length h)
 
 -- where no byte is written, no text is
 pub none_more : (whole t rest : List ℕ) → whole ≡ escaped t ++ rest → ((b : ℕ) (u : List ℕ) → rest ≢ escaped (b ∷ u)) → 0 < length rest → (u : List ℕ) → whole ≢ escaped u
-none_more whole t rest h none more u e = no_text behind.text behind.escapes where
-  behind : Behind t rest u
-  behind = behind_front t rest u (sym h ∙ e)
+none_more whole t rest h none more u e = no_text after.text after.escapes where
+  after : After t rest u
+  after = after_front t rest u (sym h ∙ e)
 
   no_text : (v : List ℕ) → rest ≡ escaped v → ⊥
   no_text [] f = omega (arith, ap length f, more)
   no_text (b ∷ bs) f = none b bs f
+
+-- where no byte is written any more, the text was read
+pub nothing_left : (whole t rest : List ℕ) → whole ≡ escaped t ++ rest → ((b : ℕ) (u : List ℕ) → rest ≢ escaped (b ∷ u)) → (u : List ℕ) → whole ≡ escaped u → whole ≡ escaped t
+nothing_left whole t [] h none u e = h ∙ append-nil (escaped t)
+nothing_left whole t (b ∷ rest) h none u e = absurd (none_more whole t (b ∷ rest) h none (omega arith) u e)
 
 -- the front of an escaped text was read, and `rest` is left
 pub record HasRead (whole rest : List ℕ) (len : ℕ) : Type 0 where

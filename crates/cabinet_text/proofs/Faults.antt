@@ -73,16 +73,16 @@ list_blameless n below TooDeep other has_cause = omega (arith, has_cause.0)
 list_blameless n below LineAfterEnd other has_cause = has_cause
 list_blameless n below OutOfMemory other has_cause = other refl
 
-pub nothing_behind : (cause : Cause) → HasCause nothing_more None cause → ⊥
-nothing_behind NotUtf8 has_cause = has_cause
-nothing_behind NoNewline has_cause = has_cause
-nothing_behind EndTooEarly has_cause = has_cause
-nothing_behind BadEscape has_cause = has_cause
-nothing_behind UnknownHead has_cause = has_cause
-nothing_behind BadNumber has_cause = has_cause
-nothing_behind TooDeep has_cause = has_cause
-nothing_behind LineAfterEnd has_cause = has_cause
-nothing_behind OutOfMemory has_cause = has_cause
+pub nothing_after : (cause : Cause) → HasCause nothing_more None cause → ⊥
+nothing_after NotUtf8 has_cause = has_cause
+nothing_after NoNewline has_cause = has_cause
+nothing_after EndTooEarly has_cause = has_cause
+nothing_after BadEscape has_cause = has_cause
+nothing_after UnknownHead has_cause = has_cause
+nothing_after BadNumber has_cause = has_cause
+nothing_after TooDeep has_cause = has_cause
+nothing_after LineAfterEnd has_cause = has_cause
+nothing_after OutOfMemory has_cause = has_cause
 
 -- causes of one rank are one
 cause_of : ℕ → Cause
@@ -110,7 +110,7 @@ same_first_cause expected piece cause reason a b =
       | inl same ↦ same_rank cause reason same
       | inr apart ↦ elim apart [
         | inl before ↦ absurd (b.first cause before a.has_cause)
-        | inr behind ↦ absurd (a.first reason behind b.has_cause)
+        | inr after ↦ absurd (a.first reason after b.has_cause)
       ]
     ]
 

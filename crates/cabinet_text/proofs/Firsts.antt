@@ -11,9 +11,9 @@ use Rattle.cabinet_text.specs.declared.text.Cause.TheVariants.{OutOfMemory}
 use Rattle.cabinet_text.specs.Laws.{SameFault}
 use Rattle.cabinet_text.proofs.Pieces.{ended_piece, first_piece}
 use Rattle.cabinet_text.proofs.Documents.{length-lines, no_list_head}
-use Rattle.cabinet_text.proofs.Texts.{HaveNoNewline, HaveNoNewline-trees, HaveNoNewline-tree, HasNoNewline-among, Cuts, one_cut, first_before, first_behind, cuts_of, no_line}
+use Rattle.cabinet_text.proofs.Texts.{HaveNoNewline, HaveNoNewline-trees, HaveNoNewline-tree, HasNoNewline-among, Cuts, one_cut, first_before, first_after, cuts_of, no_line}
 use Rattle.cabinet_text.proofs.Pieces.{HasNoNewline-list_head}
-use Rattle.cabinet_text.proofs.Faults.{blameless, list_blameless, nothing_behind, same_first_cause}
+use Rattle.cabinet_text.proofs.Faults.{blameless, list_blameless, nothing_after, same_first_cause}
 
 HaveNoNewline-reached : (lines : List (List ℕ)) (expected : Expected) → Reached lines expected → HaveNoNewline lines
 HaveNoNewline-reached lines expected (at_the_start is expected_is) = subst HaveNoNewline (sym is) tt
@@ -111,8 +111,8 @@ some_line : (t : Tree) → [] ≡ lines_of_tree t → ⊥
 some_line (leaf l) h = cc
 some_line (list ts) h = cc
 
-inside_or_behind : (n : ℕ) (ts : Trees) (t : Tree) → n < 2 ^ 64 → AreLeaves ts → count ts < n → IsDocument t → list_head n ∷ lines_of_trees ts ≡ lines_of_tree t → ⊥
-inside_or_behind n ts t below are fewer document h =
+inside_or_after : (n : ℕ) (ts : Trees) (t : Tree) → n < 2 ^ 64 → AreLeaves ts → count ts < n → IsDocument t → list_head n ∷ lines_of_trees ts ≡ lines_of_tree t → ⊥
+inside_or_after n ts t below are fewer document h =
     let all = rest_of_list t n ts [] document below are (sym h ∙ ap (λ w. list_head n ∷ w) (sym (append-nil (lines_of_trees ts)))) in
     omega (arith, all)
 
@@ -124,10 +124,10 @@ same_expected lines expected other (at_the_start is expected_is) (after_a_docume
 same_expected lines expected other (in_a_list n ts below are fewer is expected_is) (at_the_start it_is other_is) = cc
 same_expected lines expected other (in_a_list n ts below are fewer is expected_is) (in_a_list m us b a f it_is other_is) = expected_is ∙ sym other_is
 same_expected lines expected other (in_a_list n ts below are fewer is expected_is) (after_a_document t document it_is other_is) =
-    absurd (inside_or_behind n ts t below are fewer document (sym is ∙ it_is))
+    absurd (inside_or_after n ts t below are fewer document (sym is ∙ it_is))
 same_expected lines expected other (after_a_document t document is expected_is) (at_the_start it_is other_is) = absurd (some_line t (sym it_is ∙ is))
 same_expected lines expected other (after_a_document t document is expected_is) (in_a_list n ts below are fewer it_is other_is) =
-    absurd (inside_or_behind n ts t below are fewer document (sym it_is ∙ is))
+    absurd (inside_or_after n ts t below are fewer document (sym it_is ∙ is))
 same_expected lines expected other (after_a_document t document is expected_is) (after_a_document s d it_is other_is) = expected_is ∙ sym other_is
 
 pub one_fault : (input : List ℕ) (line other : ℕ) (cause reason : Cause) → FirstFault input line cause → FirstFault input other reason → cause ≢ OutOfMemory → reason ≢ OutOfMemory → SameFault line other cause reason
@@ -145,7 +145,7 @@ one_fault input line other cause reason a b p q =
         }
     at_cuts (first_before next more rest lines rests) =
         absurd (causeless_text a.before b.before a.expected b.expected next more a.rest rest cause a.reached b.reached lines rests p a.first.has_cause)
-    at_cuts (first_behind next more rest lines rests) =
+    at_cuts (first_after next more rest lines rests) =
         absurd (causeless_text b.before a.before b.expected a.expected next more b.rest rest reason b.reached a.reached lines rests q b.first.has_cause)
 
 -- nothing is said against a document's own text
@@ -160,7 +160,7 @@ fault_refuses input line cause t a other document h =
     at_cuts (one_cut lines rests) =
         let expected = same_expected (lines_of_tree t) a.expected nothing_more (subst (λ ls. Reached ls a.expected) lines a.reached) whole in
         let here = subst (λ d. HasCause d (slice_get (pieces_of a.rest) 0) cause) expected a.first.has_cause in
-        nothing_behind cause (subst (λ r. HasCause nothing_more (slice_get (pieces_of r) 0) cause) rests here)
+        nothing_after cause (subst (λ r. HasCause nothing_more (slice_get (pieces_of r) 0) cause) rests here)
     at_cuts (first_before next more rest lines rests) =
         causeless_text a.before (lines_of_tree t) a.expected nothing_more next more a.rest rest cause a.reached whole lines rests other a.first.has_cause
-    at_cuts (first_behind next more rest lines rests) = no_line next rest rests
+    at_cuts (first_after next more rest lines rests) = no_line next rest rests

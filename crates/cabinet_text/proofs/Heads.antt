@@ -42,9 +42,9 @@ one_line bytes (Some k) None p q = absurd (q k p.0 p.1)
 one_line bytes (Some k) (Some l) p q = ap Some (same_line k l p.0 q.0 (sym p.1 ∙ q.1))
 
 -- what stands after a word, where the bytes and the word are known by other names
-pub behind_word : (line bytes prefix word rest : List ℕ) → bytes ≡ line → prefix ≡ word → bytes ≡ prefix ++ rest → line ≡ word ++ rest
-behind_word line bytes prefix word rest same_line same_word h = sym same_line ∙ h ∙ ap (λ w. w ++ rest) same_word
+pub after_word : (line bytes prefix word rest : List ℕ) → bytes ≡ line → prefix ≡ word → bytes ≡ prefix ++ rest → line ≡ word ++ rest
+after_word line bytes prefix word rest same_line same_word h = sym same_line ∙ h ∙ ap (λ w. w ++ rest) same_word
 
-pub not_behind_word : (line bytes prefix word : List ℕ) → bytes ≡ line → prefix ≡ word → ((rest : List ℕ) → bytes ≢ prefix ++ rest) → (rest : List ℕ) → line ≢ word ++ rest
-not_behind_word line bytes prefix word same_line same_word none rest h =
+pub not_after_word : (line bytes prefix word : List ℕ) → bytes ≡ line → prefix ≡ word → ((rest : List ℕ) → bytes ≢ prefix ++ rest) → (rest : List ℕ) → line ≢ word ++ rest
+not_after_word line bytes prefix word same_line same_word none rest h =
     none rest (same_line ∙ h ∙ ap (λ w. w ++ rest) (sym same_word))

@@ -1,8 +1,11 @@
 -- Numbers written in decimal, digit by digit from the last.
-use Rattle.std.proofs.Common.{◌≡◌, ℕ, ◌+◌, ◌-◌, ◌/◌, ◌%◌, ◌^◌, ◌<◌, ◌≤◌, ℤ, pos, negsuc, List, [], ◌∷◌, ◌++◌, length, drop, unsigned_abs, sym, ap, ◌∙◌, refl, arith, append_assoc, length-append}
+use Rattle.std.proofs.Common.{◌≡◌, ◌≢◌, ℕ, zero, suc, ◌+◌, ◌-◌, ◌/◌, ◌%◌, ◌^◌, ◌<◌, ◌≤◌, ℤ, pos, negsuc, List, [], ◌∷◌, ◌++◌, length, drop, get_or, Option, Some, None, MatchOption, FitsSigned, w64, unsigned_abs, sym, ap, subst, ◌∙◌, refl, arith, append_assoc, length-append}
 use Rattle.std.proofs.lemmas.List.{drop-set}
 use Rattle.std.proofs.lemmas.Int.{ints}
-use Rattle.std.proofs.lemmas.Fmt.{decimal_step, decimal_digit}
+use Rattle.std.proofs.lemmas.Fmt.{decimal_step, decimal_digit, decimal_nonempty, decimal_injective, first_decimal, digits_decimal, digits_value-decimal, decimal-digits_value}
+use Rattle.std.proofs.lemmas.Str.Parse.{IsNumeralModel, numerals_by_value, tells_digits, digit_at}
+use Rattle.std.proofs.lemmas.List.{append_cancel_left}
+use Rattle.std.specs.Str.Parse.{AllDigits, digits_value}
 use Rattle.std.specs.Fmt.{decimal, signed_decimal}
 use Rattle.std.proofs.Math.ListN.{set}
 use lib.Signed.{lt_z}
@@ -37,3 +40,63 @@ pub sign_put : (bytes : List ℕ) (start : ℕ) (z : ℤ) → 1 ≤ start → st
 sign_put bytes start z room within digits negative =
     let before : (start - 1) + 1 ≡ start = omega arith in
     drop-set bytes (start - 1) 45 (omega arith) ∙ ap (λ d. 45 ∷ d) (rw before digits) ∙ signed_below_zero z negative
+
+digits_model : IsNumeralModel (AllDigits 10) (digits_value 10)
+digits_model = numerals_by_value (AllDigits 10) tells_digits
+
+-- digits are a count in its shortest form where no zero stands before others
+pub count_read : (digits : List ℕ) (r : Option ℕ)
+    → 0 < length digits
+    → (get_or digits 0 0 ≡ 48 → length digits ≡ 1)
+    → MatchOption r (AllDigits 10 digits → 2 ^ 64 ≤ digits_value 10 digits) (λ n. (n < 2 ^ 64) × AllDigits 10 digits × (digits_value 10 digits ≡ n))
+    → MatchOption r ((n : ℕ) → n < 2 ^ 64 → digits ≢ decimal n) (λ n. digits ≡ decimal n)
+count_read digits None some short none = λ n below e.
+    let all = subst (AllDigits 10) (sym e) (digits_decimal digits_model n below) in
+    let value : digits_value 10 digits ≡ n = ap (digits_value 10) e ∙ digits_value-decimal digits_model n below in
+    absurd (omega (arith, none all))
+count_read digits (Some n) some short read =
+    let small : digits_value 10 digits < 2 ^ 64 = omega (arith, read.0, read.2) in
+    sym (decimal-digits_value digits_model digits read.1 some short small) ∙ ap decimal read.2
+
+-- a zero stands before no other digit
+pub leading_zero : (n : ℕ) → n < 2 ^ 64 → get_or (decimal n) 0 0 ≡ 48 → length (decimal n) ≡ 1
+leading_zero zero below e = ap length (decimal_digit 0 (omega arith))
+leading_zero (suc n) below e = absurd (omega (arith, first_decimal (suc n) (omega arith) below, e))
+
+-- a count has no sign
+pub no_sign : (n : ℕ) (rest : List ℕ) → n < 2 ^ 64 → decimal n ≢ 45 ∷ rest
+no_sign n rest below e =
+    let digit = digit_at (decimal n) 0 (digits_decimal digits_model n below) (decimal_nonempty n below) in
+    let first : get_or (decimal n) 0 0 ≡ 45 = ap (λ l. get_or l 0 0) e in
+    absurd (omega (arith, digit, first))
+
+-- the number after a sign is no distance from zero that 64 bits have
+pub no_distance : (digits bytes : List ℕ)
+    → bytes ≡ 45 ∷ digits
+    → ((n : ℕ) → n < 2 ^ 64 → digits ≢ decimal n)
+    → (z : ℤ) → FitsSigned w64 z → bytes ≢ signed_decimal z
+no_distance digits bytes signed none (pos n) fits e = no_sign n digits (omega (arith, fits.sfits)) (sym e ∙ signed)
+no_distance digits bytes signed none (negsuc n) fits e =
+    none (suc n) (omega (arith, fits.sfits)) (append_cancel_left (45 ∷ []) digits (decimal (suc n)) (sym signed ∙ e))
+
+-- the number at a distance below zero
+pub distance_is : (distance : ℕ) (z : ℤ) → distance < 2 ^ 64 → FitsSigned w64 z → signed_decimal z ≡ 45 ∷ decimal distance
+    → (0 < distance) × (distance ≤ 2 ^ 63)
+distance_is distance (pos n) below fits e = absurd (no_sign n (decimal distance) (omega (arith, fits.sfits)) e)
+distance_is distance (negsuc n) below fits e =
+    let same = decimal_injective (suc n) distance (omega (arith, fits.sfits)) below (append_cancel_left (45 ∷ []) _ _ e) in
+    (omega (arith, same), omega (arith, same, fits.sfits))
+
+-- a count past the greatest number is no number
+pub count_too_great : (n : ℕ) (z : ℤ) → n < 2 ^ 64 → 2 ^ 63 ≤ n → FitsSigned w64 z → decimal n ≢ signed_decimal z
+count_too_great n (pos m) below great fits e =
+    absurd (omega (arith, decimal_injective n m below (omega (arith, fits.sfits)) e, fits.sfits))
+count_too_great n (negsuc m) below great fits e = no_sign n (decimal (suc m)) below e
+
+-- neither after a sign nor a count
+pub no_number : (bytes : List ℕ)
+    → ((digits : List ℕ) → bytes ≢ 45 ∷ digits)
+    → ((n : ℕ) → n < 2 ^ 64 → bytes ≢ decimal n)
+    → (z : ℤ) → FitsSigned w64 z → bytes ≢ signed_decimal z
+no_number bytes unsigned none (pos n) fits e = none n (omega (arith, fits.sfits)) e
+no_number bytes unsigned none (negsuc n) fits e = unsigned (decimal (suc n)) e

@@ -1,5 +1,5 @@
 -- Where the words of a line end, and what no two paths share.
-use Rattle.std.proofs.Common.{◌≡◌, ◌≢◌, ℕ, ◌<◌, ◌^◌, true, false, List, [], ◌∷◌, ◌++◌, sym, ap, ◌∙◌, inr, refl, arith, append_assoc, append-nil, codes, All}
+use Rattle.std.proofs.Common.{◌≡◌, ◌≢◌, ℕ, ◌+◌, ◌<◌, ◌^◌, true, false, List, [], ◌∷◌, ◌++◌, length, Option, Some, None, MatchOption, Result, Ok, Err, IfErr, Bor, sym, ap, ◌∙◌, inr, refl, arith, append_assoc, append-nil, length-append, codes, All}
 use Rattle.std.specs.Fmt.{signed_decimal, decimal}
 use Rattle.std.proofs.lemmas.Fmt.{decimal_injective}
 use Rattle.std.proofs.lemmas.List.{map-append}
@@ -113,11 +113,11 @@ pub IsPath-step : (bytes : List ℕ) (n : ℕ) (rest : List ℕ) → BeginsWithS
 IsPath-step bytes n rest begins p =
     (place n ∷ p.0, All-cons IsStep (place n) p.0 begins.below p.1, begins.spelled ∙ ap (λ w. 32 ∷ 35 ∷ (decimal n ++ w)) p.2)
 
-pub IsPath-behind_step : (bytes : List ℕ) (n : ℕ) (rest : List ℕ) → BeginsWithStep bytes n rest → IsPath bytes → IsPath rest
-IsPath-behind_step bytes n rest begins ([], steps, h) = absurd (cc (begins.spelled, h))
-IsPath-behind_step bytes n rest begins (key k ∷ path, steps, h) = absurd (All-head IsStep (key k) path steps)
-IsPath-behind_step bytes n rest begins (inside ∷ path, steps, h) = absurd (All-head IsStep inside path steps)
-IsPath-behind_step bytes n rest begins (place m ∷ path, steps, h) =
+pub IsPath-after_step : (bytes : List ℕ) (n : ℕ) (rest : List ℕ) → BeginsWithStep bytes n rest → IsPath bytes → IsPath rest
+IsPath-after_step bytes n rest begins ([], steps, h) = absurd (cc (begins.spelled, h))
+IsPath-after_step bytes n rest begins (key k ∷ path, steps, h) = absurd (All-head IsStep (key k) path steps)
+IsPath-after_step bytes n rest begins (inside ∷ path, steps, h) = absurd (All-head IsStep inside path steps)
+IsPath-after_step bytes n rest begins (place m ∷ path, steps, h) =
     let cut = same_step n m rest (spelled_path path) begins.below (All-head IsStep (place m) path steps) begins.space (IsAtSpace-path path) (sym begins.spelled ∙ h) in
     (path, All-tail IsStep (place m) path steps, cut.1)
 
@@ -176,3 +176,27 @@ spelled-step path n bytes rest after h e =
     h ∙ ap (λ w. spelled_path (path_of path) ++ w) (e ∙ sym one)
     ∙ sym (append_assoc (spelled_path (path_of path)) (spelled_path (place n ∷ [])) after)
     ∙ ap (λ w. w ++ after) (sym whole)
+
+-- a path begins with its next step, or has none
+pub next_is : (left : List ℕ) (r : Option (ℕ × Bor (List ℕ))) → IsPath left
+    → MatchOption r (IsPath left → left ≡ []) (λ p. BeginsWithStep left p.0 p.1.now)
+    → MatchOption r (left ≡ []) (λ p. BeginsWithStep left p.0 p.1.now)
+next_is left None is_path h = h is_path
+next_is left (Some p) is_path h = h
+
+-- the length of what is left of a path, whose next step was read
+abbrev pub length_left : Option (ℕ × Bor (List ℕ)) → ℕ
+length_left None = 0
+length_left (Some p) = length p.1.now + 1
+
+pub length_left-less : (r o : Option (ℕ × Bor (List ℕ))) (p : ℕ × Bor (List ℕ)) → o ≡ Some p → MatchOption r (IsPath p.1.now → p.1.now ≡ []) (λ q. BeginsWithStep p.1.now q.0 q.1.now) → length_left r < length_left o
+length_left-less None o p e h = rw e (omega arith)
+length_left-less (Some q) o p e h = rw e (omega (arith, ap length h.spelled, length-append (decimal q.0) q.1.now))
+
+pub not_empty : (bytes front left rest : List ℕ) (n : ℕ) → bytes ≡ front ++ left → BeginsWithStep left n rest → bytes ≢ []
+not_empty bytes front left rest n whole begins e =
+    absurd (omega (arith, ap length e, ap length whole, length-append front left, ap length begins.spelled))
+
+pub with_any_error : {T E P : Type 0} (r : Result T E) → P → IfErr r (λ error. P)
+with_any_error (Ok x) p = tt
+with_any_error (Err e) p = p

@@ -58,13 +58,13 @@ last_run text start end whole is_run =
     sym (ap escaped all) ∙ is_run ∙ ap (λ n. escaped (take start text) ++ run text start n) whole
 
 -- what is left after an escape
-pub text_behind : (text escape : List ℕ) (start end : ℕ) → end < length text → escaped_byte (get_or text end 0) ≡ escape → IsRun text start end → escaped text ≡ escaped (take start text) ++ ((run text start end ++ escape) ++ escaped (drop (end + 1) text))
-text_behind text escape start end within is_escape is_run =
-    let behind = escaped (drop (end + 1) text) in
+pub text_after : (text escape : List ℕ) (start end : ℕ) → end < length text → escaped_byte (get_or text end 0) ≡ escape → IsRun text start end → escaped text ≡ escaped (take start text) ++ ((run text start end ++ escape) ++ escaped (drop (end + 1) text))
+text_after text escape start end within is_escape is_run =
+    let after = escaped (drop (end + 1) text) in
     sym (ap escaped (take-append-drop (end + 1) text))
     ∙ escaped-append (take (end + 1) text) (drop (end + 1) text)
-    ∙ ap (λ w. w ++ behind) (run_and_escape text escape start end within is_escape is_run)
-    ∙ append_assoc (escaped (take start text)) (run text start end ++ escape) behind
+    ∙ ap (λ w. w ++ after) (run_and_escape text escape start end within is_escape is_run)
+    ∙ append_assoc (escaped (take start text)) (run text start end ++ escape) after
 
 module _ {W : Type 0} {observable counts : Bool} {contents : W → List ℕ} {pos failures : W → ℕ} {last_error : W → Error} where
   -- a run and the escape after it were written
@@ -83,7 +83,7 @@ module _ {W : Type 0} {observable counts : Bool} {contents : W → List ℕ} {po
       → Failed observable counts contents pos failures last_error old new (escaped text) e
   failed_among_runs {old = old} {new = new} {e = e} text escape start end within is_escape is_run before failed =
       let P : List ℕ → Type 0 = λ piece. Failed observable counts contents pos failures last_error old new piece e in
-      subst P (sym (text_behind text escape start end within is_escape is_run)) (failed_after before (failed_first (escaped (drop (end + 1) text)) failed))
+      subst P (sym (text_after text escape start end within is_escape is_run)) (failed_after before (failed_first (escaped (drop (end + 1) text)) failed))
 
   -- the last run is written
   pub appends_last : {A : Type 0} {old mid : W} (new : W) (text : List ℕ) (start end : ℕ) (result : Result A Error) → end ≡ length text → IsRun text start end

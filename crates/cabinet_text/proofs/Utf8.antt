@@ -8,7 +8,7 @@ use lib.Utf8.{scalar, scalars}
 use Rattle.std.specs.Bool.{OnTrue}
 use Rattle.cabinet_text.specs.Reading.{IsEscaped}
 use Rattle.cabinet_text.specs.Spelling.{escaped, escaped_byte}
-use Rattle.cabinet_text.proofs.Escapes.{Form, backslash, newline, space, plain, form_of, escaped-append, behind_front, Behind, first_same}
+use Rattle.cabinet_text.proofs.Escapes.{Form, backslash, newline, space, plain, form_of, escaped-append, after_front, After, first_same}
 
 high_form : (b : ℕ) (v : List ℕ) → 128 ≤ b → Form b v → v ≡ b ∷ []
 high_form b _ high (backslash e) = absurd (omega arith)
@@ -83,8 +83,8 @@ past_form b _ rest low (space e) h = IsUtf8-past_ascii 115 rest (omega arith) (I
 past_form b _ rest low (plain p q r) h = IsUtf8-past_ascii b rest low h
 
 -- a text whose escaped form begins with a character above ASCII begins with it
-high_front : (c : ℕ) (rest t : List ℕ) → 128 ≤ c → encode_utf8 c ++ rest ≡ escaped t → Behind (encode_utf8 c) rest t
-high_front c rest t high h = behind_front (encode_utf8 c) rest t (ap (λ x. x ++ rest) (escaped-encode c high) ∙ h)
+high_front : (c : ℕ) (rest t : List ℕ) → 128 ≤ c → encode_utf8 c ++ rest ≡ escaped t → After (encode_utf8 c) rest t
+high_front c rest t high h = after_front (encode_utf8 c) rest t (ap (λ x. x ++ rest) (escaped-encode c high) ∙ h)
 
 above_ascii : (b c : ℕ) (bs rest : List ℕ) → 128 ≤ b → b ∷ bs ≡ encode_utf8 c ++ rest → 128 ≤ c
 above_ascii b c bs rest high h =
@@ -93,8 +93,8 @@ above_ascii b c bs rest high h =
       | inr above ↦ above
     ]
 
-length_behind : (c n : ℕ) (t u : List ℕ) → t ≡ encode_utf8 c ++ u → length t ≤ suc n → length u ≤ n
-length_behind c n t u h most =
+length_after : (c n : ℕ) (t u : List ℕ) → t ≡ encode_utf8 c ++ u → length t ≤ suc n → length u ≤ n
+length_after c n t u h most =
     let bounds = len_utf8_bounds c in
     omega (arith, ap length h, length-append (encode_utf8 c) u, length-encode c)
 
@@ -105,9 +105,9 @@ unescaped_high : (n b : ℕ) (bs cs : List ℕ) → ((u : List ℕ) → length u
 unescaped_high n b bs [] shorter most high s e = absurd (omega (arith, ap length (e ∙ high_escaped b bs high)))
 unescaped_high n b bs (c ∷ cs) shorter most high s e =
     let above = above_ascii b c (escaped bs) (encode_utf8_all cs) high (sym (high_escaped b bs high) ∙ sym e) in
-    let behind = high_front c (encode_utf8_all cs) (b ∷ bs) above e in
-    let rest = shorter behind.text (length_behind c n (b ∷ bs) behind.text behind.whole most) (cs, (second_true (scalar c) (scalars cs) s, behind.escapes)) in
-    subst IsUtf8 (sym behind.whole) (IsUtf8-append (encode_utf8 c) behind.text (IsUtf8-encode c (first_true (scalar c) (scalars cs) s)) rest)
+    let after = high_front c (encode_utf8_all cs) (b ∷ bs) above e in
+    let rest = shorter after.text (length_after c n (b ∷ bs) after.text after.whole most) (cs, (second_true (scalar c) (scalars cs) s, after.escapes)) in
+    subst IsUtf8 (sym after.whole) (IsUtf8-append (encode_utf8 c) after.text (IsUtf8-encode c (first_true (scalar c) (scalars cs) s)) rest)
 
 unescaped_within : (n : ℕ) (t : List ℕ) → length t ≤ n → IsUtf8 (escaped t) → IsUtf8 t
 unescaped_within n [] most h = IsUtf8-nil
@@ -137,7 +137,7 @@ IsUtf8-past_word [] rest h utf8 = utf8
 IsUtf8-past_word (b ∷ bs) rest h utf8 =
     IsUtf8-past_word bs rest (second_true (ltb b 128) (is_ascii_word bs) h) (IsUtf8-past_ascii b (bs ++ rest) (ltb-true b 128 (first_true (ltb b 128) (is_ascii_word bs) h)) utf8)
 
--- an argument that is UTF-8 is escaped where some text is escaped so
+-- an argument that is UTF-8 is an escaped text where it is the escaped form of some bytes
 pub escaped_where_counted : (argument : List ℕ) (r : Option ℕ) (b : Bool) → b ≡ is_some r → IsUtf8 argument
     → MatchOption r ((t : List ℕ) → argument ≢ escaped t) (λ n. (t : List ℕ) × (length t ≡ n) × (argument ≡ escaped t))
     → OnTrue b (IsEscaped argument)

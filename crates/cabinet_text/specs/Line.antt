@@ -33,7 +33,7 @@ abbrev pub IsPossible : Line → Type 0
 IsPossible (get path) = All IsStep path
 IsPossible (set path l) = All IsStep path × IsLeaf l
 
--- what bytes say: a line that is spelled so, or nothing where there is none
+-- what bytes say: the line that they are the spelling of, or nothing where there is none
 abbrev pub Says : List ℕ → Option Line → Type 0
 Says bytes None = (line : Line) → IsPossible line → bytes ≢ spelling line
 Says bytes (Some line) = IsPossible line × (bytes ≡ spelling line)

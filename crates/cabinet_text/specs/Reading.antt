@@ -30,8 +30,8 @@ pub record BeginsWithStep (bytes : List ℕ) (at : ℕ) (rest : List ℕ) : Type
   pub space : IsAtSpace rest
 
 -- where bytes are the spellings of a leaf and of a path after it, they end and begin where the bytes are cut
-abbrev pub IsCutBehindLeaf : List ℕ → List ℕ → List ℕ → Type 0
-IsCutBehindLeaf bytes front rest =
+abbrev pub IsCutAfterLeaf : List ℕ → List ℕ → List ℕ → Type 0
+IsCutAfterLeaf bytes front rest =
     (l : Leaf) (path : List Step)
     → IsLeaf l → bytes ≡ spelled_leaf l ++ spelled_path path → (front ≡ spelled_leaf l) × (rest ≡ spelled_path path)
 
@@ -49,17 +49,17 @@ abbrev pub TakesMemory : Line → Type 0
 TakesMemory (get path) = HasSteps path
 TakesMemory (set path l) = HasSteps path ⊎ IsText l
 
--- no line is spelled so; memory is asked for only where a line that takes some is spelled so
+-- the bytes are no line; memory is refused only to a line that takes some
 abbrev pub RefusesLine : List ℕ → LineRefusal → Type 0
 RefusesLine bytes Bad = Says bytes None
 RefusesLine bytes OutOfMemory = (line : Line) × Says bytes (Some line) × TakesMemory line
 
--- no leaf is spelled so
+-- the bytes are no leaf
 abbrev pub RefusesLeaf : List ℕ → LineRefusal → Type 0
 RefusesLeaf bytes Bad = (l : Leaf) → IsLeaf l → bytes ≢ spelled_leaf l
 RefusesLeaf bytes OutOfMemory = (rest : List ℕ) × (bytes ≡ codes "text '" ++ rest) × IsEscaped rest
 
--- no text is escaped so
+-- the bytes are the escaped form of no text
 abbrev pub RefusesText : List ℕ → LineRefusal → Type 0
 RefusesText bytes Bad = (t : List ℕ) → IsUtf8 t → bytes ≢ escaped t
 RefusesText bytes OutOfMemory = IsEscaped bytes

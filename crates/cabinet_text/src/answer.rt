@@ -1,3 +1,4 @@
+//! What a question was answered with, and what came of an edit.
 /// What a question was answered with.
 #[derive(Clone, Copy, Debug, PartialEq, Eq)]
 pub enum Asked {

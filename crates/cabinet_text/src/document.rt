@@ -1,3 +1,4 @@
+//! A document, which begins at its root.
 ghost use Rattle.std.specs.Prelude.{◌≡◌};
 ghost use Rattle.cabinet_text.specs.Tree.{IsDocument};
 ghost use Rattle.cabinet_text.specs.View.{node_tree};

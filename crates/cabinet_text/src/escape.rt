@@ -1,3 +1,4 @@
+//! Escaped texts: which bytes are one, and the text that they stand for.
 ghost use Rattle.std.specs.Prelude.{◌≡◌, ◌≢◌, ℕ, List, ◌∷◌, ◌++◌, length, string_bytes, MatchOption, IfOk};
 ghost use Rattle.std.specs.Bool.{OnTrue, OnFalse};
 ghost use Rattle.cabinet_text.specs.Reading.{IsEscaped};
@@ -18,7 +19,7 @@ fn first_byte(escaped_text: &[u8]) -> Option<(u8, &[u8])>
     }
 }
 
-/// How many bytes the text has that is escaped so, if there is one.
+/// The length of the text that bytes are the escaped form of, if there is one.
 pub(crate) fn unescaped_len(argument: &[u8]) -> Option<usize>
     ensures { MatchOption result ((t : List ℕ) → argument.now ≢ escaped t) (λ n. (t : List ℕ) × (length t ≡ n) × (argument.now ≡ escaped t)) }
 {
@@ -34,7 +35,7 @@ pub(crate) fn unescaped_len(argument: &[u8]) -> Option<usize>
     Some(len)
 }
 
-/// Whether a text is escaped so.
+/// Whether bytes are the escaped form of a text.
 pub(crate) fn is_escaped(argument: &[u8]) -> bool
     ensures yes { OnTrue result (IsEscaped argument.now) }
     ensures no { OnFalse result (IsEscaped argument.now → ⊥) }
@@ -45,24 +46,21 @@ pub(crate) fn is_escaped(argument: &[u8]) -> bool
     }
 }
 
-/// The bytes of the text that is escaped so.
+/// The bytes that escaped ones stand for.
 fn unescape(alloc: Global, argument: &[u8]) -> Result<Vec<u8>, AllocError>
     requires { (t : List ℕ) × (argument.now ≡ escaped t) }
     ensures { IfOk result (λ text. argument.now ≡ escaped text.items) }
 {
     let mut text = Vec::new(alloc);
     let mut rest = argument;
-    while !rest.is_empty() {
-        let Some((byte, after)) = first_byte(rest) else {
-            unreachable!()
-        };
+    while let Some((byte, after)) = first_byte(rest) {
         text.push(byte)?;
         rest = after;
     }
     Ok(text)
 }
 
-/// The text that is escaped so.
+/// The text that escaped bytes stand for.
 pub(crate) fn unescape_text(alloc: Global, argument: &[u8]) -> Result<String, AllocError>
     requires { IsEscaped argument.now }
     ensures { IfOk result (λ text. argument.now ≡ escaped (string_bytes text)) }

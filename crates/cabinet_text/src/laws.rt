@@ -1,3 +1,4 @@
+//! Laws of texts, lines and edits, to be cited.
 ghost use Rattle.cabinet_text.specs.Laws.{OneDocument, OneLine, FaultRefuses, OneFault, OnlyDoneChanges, ChangeKeepsDocument};
 
 /// No two documents have one text.

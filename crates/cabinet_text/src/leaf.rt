@@ -1,3 +1,4 @@
+//! Leaves, owned and borrowed, and which of them may be put in the place of which.
 ghost use Rattle.std.specs.Prelude.{◌≡◌};
 ghost use Rattle.cabinet_text.specs.Answering as answering;
 ghost use Rattle.cabinet_text.specs.Tree.{IsLeaf};

@@ -10,8 +10,6 @@ mod line;
 mod node;
 mod number;
 mod spelling;
-#[cfg(test)]
-mod tests;
 mod text;
 mod writing;
 

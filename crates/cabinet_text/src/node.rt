@@ -1,3 +1,4 @@
+//! The nodes of documents and their kinds.
 ghost use Rattle.std.specs.Prelude.{◌≡◌, ◌≢◌, MatchOption};
 ghost use Rattle.cabinet_text.specs.Tree.{Leaf, leaf};
 ghost use Rattle.cabinet_text.specs.View.{node_tree, lent_leaf};

@@ -1,10 +1,11 @@
+//! What texts and lines have in common: prefixes, words and truth values.
 ghost use Rattle.std.specs.Prelude.{◌≡◌, ◌≢◌, ◌<◌, ◌≤◌, ◌++◌, List, ℕ, Bool, length, slice_index, MatchOption};
 ghost use Rattle.cabinet_text.specs.Tree.{truth};
 ghost use Rattle.cabinet_text.specs.Spelling.{spelled_leaf};
 ghost use Rattle.cabinet_text.specs.Reading.{HasNoSpace, IsAtSpace};
 
-/// What stands after a prefix.
-pub(crate) fn behind<'a>(bytes: &'a [u8], prefix: &[u8]) -> Option<&'a [u8]>
+/// What follows a prefix.
+pub(crate) fn after_prefix<'a>(bytes: &'a [u8], prefix: &[u8]) -> Option<&'a [u8]>
     ensures { MatchOption result ((rest : List ℕ) → bytes.now ≢ prefix.now ++ rest) (λ rest. bytes.now ≡ prefix.now ++ rest.now) }
 {
     bytes.strip_prefix(prefix)
@@ -31,7 +32,7 @@ pub(crate) fn split_word(bytes: &[u8]) -> (&[u8], &[u8])
     bytes.split_at(word_len(bytes))
 }
 
-/// The truth value that is written so.
+/// The truth value whose line bytes are.
 pub(crate) fn read_truth(bytes: &[u8]) -> Option<bool>
     ensures { MatchOption result ((b : Bool) → bytes.now ≢ spelled_leaf (truth b)) (λ b. bytes.now ≡ spelled_leaf (truth b)) }
 {

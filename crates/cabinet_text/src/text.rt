@@ -1,3 +1,4 @@
+//! Texts of documents: the document that has a text, or the first faulty line.
 ghost use Rattle.std.specs.Prelude.{◌≡◌, ◌≢◌, ℕ, ◌+◌, ◌<◌, ◌≤◌, ◌++◌, ◌∷◌, [], true, length, slice_get, slice_index, EachIndex, IfNone, IfSome, codes, IsUtf8, IfOk, IfErr, MatchOption, string_bytes};
 ghost use Rattle.cabinet_text.specs.Tree as tree;
 ghost use Rattle.cabinet_text.specs.Tree.{IsLeaf, IsShort, AreLeaves, IsDocument};
@@ -11,7 +12,7 @@ use crate::escape::{unescape_text, unescaped_len};
 use crate::leaf::Leaf;
 use crate::node::Node;
 use crate::number::{read_count, read_number};
-use crate::spelling::{behind, read_truth};
+use crate::spelling::{after_prefix, read_truth};
 use std::alloc::Global;
 use thiserror::Error;
 
@@ -100,7 +101,7 @@ fn first_line(text: &[u8]) -> FirstLine<'_>
     }
 }
 
-/// The text of at most eight bytes that is escaped so.
+/// The text of at most eight bytes that an argument is the escaped form of.
 fn read_short_text(alloc: Global, argument: &[u8]) -> Result<String, Cause>
     requires { IsUtf8 (codes "text '" ++ argument.now) }
     ensures short { IfOk result (λ text. length (string_bytes text) ≤ 8) }
@@ -126,25 +127,25 @@ fn read_head(alloc: Global, line: &str) -> Result<Head, Cause>
     ensures fault { IfErr result (λ cause. (depth : ℕ) → IsFirstCause (a_head depth) (Some (record { bytes = line.now; ended = true })) cause) }
 {
     let line = line.as_bytes();
-    if let Some(argument) = behind(line, b"text '".as_slice()) {
+    if let Some(argument) = after_prefix(line, b"text '".as_slice()) {
         return match read_short_text(alloc, argument) {
             Ok(text) => Ok(Head::Leaf(Leaf::Text(text))),
             Err(cause) => Err(cause),
         };
     }
-    if let Some(argument) = behind(line, b"shared '".as_slice()) {
+    if let Some(argument) = after_prefix(line, b"shared '".as_slice()) {
         return match unescaped_len(argument) {
             None => Err(Cause::BadEscape),
             Some(_) => Err(Cause::UnknownHead),
         };
     }
-    if let Some(digits) = behind(line, b"int ".as_slice()) {
+    if let Some(digits) = after_prefix(line, b"int ".as_slice()) {
         return match read_number(digits) {
             None => Err(Cause::BadNumber),
             Some(number) => Ok(Head::Leaf(Leaf::Int(number))),
         };
     }
-    if let Some(digits) = behind(line, b"list ".as_slice()) {
+    if let Some(digits) = after_prefix(line, b"list ".as_slice()) {
         return match read_count(digits) {
             None => Err(Cause::BadNumber),
             Some(count) => Ok(Head::List(count)),
@@ -233,8 +234,8 @@ fn read_elements(alloc: Global, text: &[u8], count: u64) -> Result<(Vec<Node>, &
     Ok((elements, rest))
 }
 
-/// What is wrong after a document.
-fn fault_behind(rest: &[u8]) -> Option<Cause>
+/// What is wrong with what follows a document.
+fn fault_after(rest: &[u8]) -> Option<Cause>
     ensures { MatchOption result (rest.now ≡ []) (IsFirstCause nothing_more (slice_get (pieces_of rest.now) 0)) }
 {
     if rest.is_empty() {
@@ -258,7 +259,7 @@ fn end_document(root: Node, rest: &[u8], line: u64) -> Result<Document, TextRefu
     ensures document { IfOk result (λ document. text_of (node_tree root) ++ rest.now ≡ text_of document) }
     ensures fault { IfErr result (λ refusal. FirstFault (text_of (node_tree root) ++ rest.now) refusal.line refusal.cause) }
 {
-    match fault_behind(rest) {
+    match fault_after(rest) {
         None => Ok(Document::new(root)),
         Some(cause) => Err(TextRefusal { line, cause }),
     }

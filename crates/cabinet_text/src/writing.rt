@@ -1,3 +1,4 @@
+//! Answers to lines, which are also the lines of texts.
 ghost use Rattle.std.specs.Prelude.{◌≡◌, ◌+◌, ◌-◌, ◌^◌, ◌<◌, ◌++◌, [], ◌∷◌, None, codes, MatchOption};
 ghost use Rattle.archive_shape_writing.specs.Writing.{Writes};
 ghost use Rattle.cabinet_text.specs.Answering.{answer_about, spelled_outcome};

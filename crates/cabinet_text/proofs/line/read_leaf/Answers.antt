@@ -8,6 +8,6 @@ pub returns-in_default-read_truth-clause-refused : goal.returns-in_default-read_
 returns-in_default-read_truth-clause-refused c =
     elim [
       | truth b ↦ λ p e. c.in_default-read_truth.ensures b e
-      | number n ↦ λ p e. c.in_default-behind.ensures (signed_decimal n) (e ∙ ap (λ w. w ++ signed_decimal n) (sym c.as_slice-2.ensures))
+      | number n ↦ λ p e. c.in_default-after_prefix.ensures (signed_decimal n) (e ∙ ap (λ w. w ++ signed_decimal n) (sym c.as_slice-2.ensures))
       | text t ↦ λ p e. c.in_default.ensures (escaped t) (e ∙ ap (λ w. w ++ escaped t) (sym c.as_slice.ensures))
     ]

@@ -1,23 +1,20 @@
-use Rattle.std.proofs.Common.{◌≡◌, Ok, ◌∙◌, sym, ap, subst, IsUtf8, true}
-use Rattle.std.proofs.lemmas.Slice.Eq.{slice_eq-Decides}
-use Rattle.std.proofs.lemmas.Bool.Decides.{Decides-eqb}
-use Rattle.std.specs.Fmt.{decimal}
-use Rattle.std.proofs.lemmas.Fmt.{parse-decimal, IsAscii-decimal}
-use Rattle.std.proofs.lemmas.Str.{IsUtf8-from_ascii}
+use Rattle.std.proofs.Common.{length, get_or, ◌≡◌, ◌<◌, ap, sym, ◌∙◌, arith}
+use Rattle.std.proofs.lemmas.Fmt.{decimal_nonempty}
+use Rattle.std.proofs.lemmas.Bool.Decides.{nat_tests}
+use Rattle.cabinet_text.proofs.Numbers.{count_read, leading_zero}
 use Rattle.cabinet_text.proofs.number.read_count.Goals as goal
 
-pub returns-in_default : goal.returns-in_default
-returns-in_default c = λ n below e. c.in_default.ensures.cases.0 (subst IsUtf8 (sym e) (IsUtf8-from_ascii _ (IsAscii-decimal n below)))
+pub returns-then-is_empty : goal.returns-then-is_empty
+returns-then-is_empty c = λ n below e.
+    let empty : length c.args.digits.now ≡ 0 = grind (arith, nat_tests) in
+    absurd (omega (arith, ap length e, decimal_nonempty n below))
 
-pub returns-in_default-parse : goal.returns-in_default-parse
-returns-in_default-parse c = λ n below e.
-    let p : c.parse.result ≡ Ok n = parse-decimal 64 n c.in-Ok.text.now _ below below (c.in-Ok.ensures.cases.0 ∙ e) c.parse.ensures.value.0 in
-    c.in_default-parse.not-Ok n p
+pub returns-then-digits-gt1 : goal.returns-then-digits-gt1
+returns-then-digits-gt1 c = λ n below e.
+    let zero : get_or c.args.digits.now 0 0 ≡ 48 = omega arith in
+    absurd (omega (arith, ap length e, leading_zero n below (ap (λ l. get_or l 0 0) (sym e) ∙ zero)))
 
-pub returns-else-eq : goal.returns-else-eq
-returns-else-eq c = λ n below e.
-    let p : c.parse.result ≡ Ok n = parse-decimal 64 n c.in-Ok.text.now _ below below (c.in-Ok.ensures.cases.0 ∙ e) c.parse.ensures.value.0 in
-    let same : c.in-Ok-parse.count ≡ n = cc in
-    let printed : c.as_bytes.result.now ≡ c.args.digits.now = c.as_bytes.ensures ∙ c.unsigned.ensures ∙ ap decimal same ∙ sym e in
-    let equal : c.eq.result ≡ true = (slice_eq-Decides Decides-eqb _ _ _ c.eq.ensures).1 printed in
-    cc
+pub returns : goal.returns
+returns c =
+    let some : 0 < length c.args.digits.now = grind (arith, nat_tests) in
+    count_read c.args.digits.now _ some (λ zero. omega arith) c.value_of.ensures

@@ -1,4 +1,4 @@
-use Rattle.cabinet_text.proofs.Paths.{IsPath-step, IsPath-behind_step}
+use Rattle.cabinet_text.proofs.Paths.{IsPath-step, IsPath-after_step}
 use Rattle.cabinet_text.proofs.line.path.is_path.Goals as goal
 
 pub loop-rest-preserved : goal.loop-rest-preserved
@@ -6,5 +6,5 @@ loop-rest-preserved c =
     let begins = c.in-Some.ensures in
     record {
       back = λ p. c.loop-rest.invariant.back (IsPath-step _ _ _ begins p);
-      on = λ p. IsPath-behind_step _ _ _ begins (c.loop-rest.invariant.on p);
+      on = λ p. IsPath-after_step _ _ _ begins (c.loop-rest.invariant.on p);
     }

@@ -1,14 +1,45 @@
-use Rattle.cabinet_text.proofs.Paths.{IsPath-behind_step, All-step, spelled-step}
+use Rattle.std.proofs.Common.{◌≡◌, [], ◌++◌, MatchOption, subst, ap, ◌∙◌, append-nil, rules}
+use Rattle.cabinet_text.specs.Line.{spelled_path}
+use Rattle.cabinet_text.specs.Reading.{BeginsWithStep}
+use Rattle.cabinet_text.specs.View.{path_of}
+use Rattle.cabinet_text.proofs.Paths.{IsPath-after_step, All-step, spelled-step, next_is, length_left-less, not_empty, with_any_error}
 use Rattle.cabinet_text.proofs.line.path.read_path.Goals as goal
 
-pub loop-rest-preserved : goal.loop-rest-preserved
-loop-rest-preserved c =
-    let i = c.loop-rest.invariant in
-    let path = c.loop-rest.path.items in
+pub loop-next-init : goal.loop-next-init
+loop-next-init c = record {
+  left = c.args.bytes.now;
+  is_path = c.requires.path;
+  next = c.requires.first;
+  steps = search rules;
+  spelled = search rules;
+}
+
+pub loop-next-preserved : goal.loop-next-preserved
+loop-next-preserved c =
+    let i = c.loop-next.invariant in
+    let path = c.loop-next.path.items in
     let place = c.in-Some.place in
-    let begins = c.in-Some.ensures in
+    let begins = subst (λ o. MatchOption o (i.left ≡ []) (λ p. BeginsWithStep i.left p.0 p.1.now)) c.in-Some.is i.next in
+    let is_path = IsPath-after_step i.left place c.in-Some.rest.now begins i.is_path in
     rw c.in_ok-push.ensures.items (record {
+      left = c.in-Some.rest.now;
+      is_path = is_path;
+      next = next_is c.in-Some.rest.now c.next_step-next.result is_path c.next_step-next.ensures;
       steps = All-step path place begins.below i.steps;
       spelled = spelled-step path place _ _ _ i.spelled begins.spelled;
-      is_path = IsPath-behind_step _ place _ begins i.is_path;
     })
+
+pub loop-next-smaller : goal.loop-next-smaller
+loop-next-smaller c = length_left-less c.next_step-next.result c.loop-next.next _ c.in-Some.is c.next_step-next.ensures
+
+pub returns-clause-spelled : goal.returns-clause-spelled
+returns-clause-spelled c =
+    let i = c.loop-next.invariant in
+    let none_left = subst (λ o. MatchOption o (i.left ≡ []) (λ p. BeginsWithStep i.left p.0 p.1.now)) c.in_default.is i.next in
+    i.spelled ∙ ap (λ w. spelled_path (path_of c.loop-next.path.items) ++ w) none_left ∙ append-nil _
+
+pub returns-in_err-push-clause-refused : goal.returns-in_err-push-clause-refused
+returns-in_err-push-clause-refused c =
+    let i = c.loop-next.invariant in
+    let begins = subst (λ o. MatchOption o (i.left ≡ []) (λ p. BeginsWithStep i.left p.0 p.1.now)) c.in-Some.is i.next in
+    with_any_error c.from_residual.result (not_empty _ _ i.left _ _ i.spelled begins)
