@@ -5,6 +5,7 @@ mod asking;
 #[cfg(test)]
 mod doubles;
 mod fault;
+mod laws;
 mod opened;
 mod saving;
 mod session;
@@ -18,6 +19,7 @@ pub use cabinet_text::{
     TextRefusal, read_line, read_text,
 };
 pub use fault::{Fault, fault_line};
+pub use laws::{accepted_after_each_line, image_after_each_line, unedited_bytes_stay};
 pub use opened::{OpenRefusal, Opened, check, open};
 pub use saving::{SaveRefusal, save};
 pub use session::{Count, RunCause, RunFault, run};

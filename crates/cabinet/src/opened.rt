@@ -1,3 +1,4 @@
+//! Bytes are checked, opened as the archive of a document, and edited.
 ghost use Rattle.std.specs.Prelude.{◌≡◌, IfOk, IfErr, OnOk, MatchOption};
 ghost use Rattle.cabinet_text.specs.Tree.{Tree};
 ghost use Rattle.cabinet_text.specs.Answering.{outcome, change};
