@@ -43,8 +43,8 @@ module _ (input x y old new : List ℕ) (lines edited : ℕ) (begun : List ℕ) 
   pub line_left : (rest : List ℕ) → Progress input x y old new lines edited begun total rest → 0 < length rest → IsMemoryRefused input lines
   line_left rest p l =
       let left : drop lines (lines_of input) ≡ lines_of (begun_in p.given ++ rest) =
-          ap (λ n. drop n (lines_of input)) p.lines_are ∙ ap (λ i. drop (newlines p.given) (lines_of i)) p.input_is
-          ∙ lines_behind p.given rest
+      ap (λ n. drop n (lines_of input)) p.lines_are ∙ ap (λ i. drop (newlines p.given) (lines_of i)) p.input_is
+      ∙ lines_behind p.given rest
       in
       let some = some_lines (begun_in p.given ++ rest) (omega (arith, length-append (begun_in p.given) rest)) in
       omega (arith, length-drop lines (lines_of input), ap length left, some)

@@ -2,16 +2,12 @@
 #![tactic(auto)]
 
 mod asking;
-#[cfg(test)]
-mod doubles;
 mod fault;
 mod laws;
 mod opened;
 mod saving;
 mod session;
 mod source;
-#[cfg(test)]
-mod tests;
 mod working;
 
 pub use cabinet_text::{

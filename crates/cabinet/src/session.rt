@@ -6,8 +6,6 @@ ghost use Rattle.cabinet.specs.Failures.{ReaderFails, WriterFails};
 
 mod begun;
 mod carrying;
-#[cfg(test)]
-mod tests;
 
 use crate::opened::Opened;
 use crate::source::Source;

@@ -1,39 +1,40 @@
-use super::{Count, RunCause, RunFault, run};
-use crate::doubles::{FailingWriter, SliceSource};
-use crate::opened::open;
-use std::alloc::{AllocError, Global};
-use std::test::Fail;
+//! Sessions in the archive of one number: their answers, counts and faults.
+ghost use Rattle.std.specs.Prelude.{◌≡◌};
+
+use super::doubles::{FailingWriter, SliceSource};
+use cabinet::{Count, RunCause, RunFault, open, run};
+use std::alloc::Global;
 
 /// The archive of `int 5`.
-fn five() -> [u8; 24] {
+pub fn five() -> [u8; 24] {
     let mut bytes = [0u8; 24];
     bytes[0] = 1;
     bytes[8] = 5;
     bytes
 }
 
-/// What a run in these bytes came to, if they are an archive.
-fn run_in(
+/// What a run in these bytes comes to, if they are an archive.
+pub fn run_in(
     alloc: Global,
     bytes: &mut [u8],
     source: SliceSource<'_>,
     writer: &mut FailingWriter,
-) -> Option<Result<Count, RunFault>> {
+) -> Option<Result<Count, RunFault>>
+    requires reads { source.failures ≡ 0 }
+    requires writes { writer.old.failures ≡ 0 }
+{
     let mut source = source;
     let Ok(mut opened) = open(alloc, bytes) else {
         return None;
     };
-    if source.failures() > 0 || writer.failures() > 0 {
-        return None;
-    }
     Some(run(alloc, &mut opened, &mut source, writer))
 }
 
-fn counted(lines: u64, edits: u64) -> Option<Result<Count, RunFault>> {
+pub fn counted(lines: u64, edits: u64) -> Option<Result<Count, RunFault>> {
     Some(Ok(Count { lines, edits }))
 }
 
-fn faulted(cause: RunCause, lines: u64, edits: u64) -> Option<Result<Count, RunFault>> {
+pub fn faulted(cause: RunCause, lines: u64, edits: u64) -> Option<Result<Count, RunFault>> {
     Some(Err(RunFault {
         cause,
         lines,
@@ -68,6 +69,22 @@ fn lines_are_answered(rt: HostRuntime) {
 }
 
 #[test]
+fn a_vector_takes_the_answers(rt: HostRuntime) {
+    let mut bytes = five();
+    let mut source = SliceSource::new(b"get\nset int 6\nget", usize::MAX, 3);
+    let mut answers = Vec::new(rt.alloc());
+    match open(rt.alloc(), &mut bytes) {
+        Ok(mut opened) => {
+            let came = run(rt.alloc(), &mut opened, &mut source, &mut answers);
+            assert_eq!(rt; came, Ok(Count { lines: 3, edits: 1 }));
+        }
+        Err(_) => panic!(rt; "the archive was refused"),
+    }
+    assert!(rt; answers.as_slice() == b"int 5\nok\nint 6\n".as_slice());
+    assert_eq!(rt; bytes[8], 6);
+}
+
+#[test]
 fn a_failed_write_ends_the_run(rt: HostRuntime) {
     let mut bytes = five();
     let mut writer = FailingWriter::new(rt.alloc(), 1);
@@ -89,7 +106,7 @@ fn a_failed_read_ends_the_run(rt: HostRuntime) {
     assert_eq!(rt; bytes[8], 6);
 }
 
-// Memory is taken for the line begun, for a line's text and by the writer.
+// Memory is taken for the line begun, for a line's text and by the writer. It may be refused where a test runs with little.
 #[test]
 fn a_refusal_of_memory_is_told(rt: HostRuntime) {
     let mut bytes = five();
@@ -109,34 +126,4 @@ fn a_refusal_of_memory_is_told(rt: HostRuntime) {
         }
         None => panic!(rt; "the archive was refused"),
     }
-}
-
-/// A line, and then n bytes without a newline.
-fn long_line(alloc: Global, first: &[u8], len: usize) -> Result<Vec<u8>, AllocError> {
-    let mut input = Vec::from_slice(alloc, first)?;
-    for _ in 0..len {
-        input.push(b'x')?;
-    }
-    Ok(input)
-}
-
-#[test]
-fn lines_have_a_longest(rt: HostRuntime) -> Result<(), Fail> {
-    for most in [1, 16384, 2_000_000] {
-        let mut bytes = five();
-        let mut writer = FailingWriter::new(rt.alloc(), usize::MAX);
-        let input = long_line(rt.alloc(), b"get\n", 1_048_577)?;
-        let source = SliceSource::new(input.as_slice(), usize::MAX, most);
-        let came = run_in(rt.alloc(), &mut bytes, source, &mut writer);
-        assert_eq!(rt; came, faulted(RunCause::LineTooLong, 1, 0));
-        assert!(rt; writer.bytes() == b"int 5\n".as_slice());
-        let mut writer = FailingWriter::new(rt.alloc(), usize::MAX);
-        let mut input = long_line(rt.alloc(), b"", 1_048_576)?;
-        input.push(b'\n')?;
-        let source = SliceSource::new(input.as_slice(), usize::MAX, most);
-        let came = run_in(rt.alloc(), &mut bytes, source, &mut writer);
-        assert_eq!(rt; came, counted(1, 0));
-        assert!(rt; writer.bytes() == b"bad\n".as_slice());
-    }
-    Ok(())
 }

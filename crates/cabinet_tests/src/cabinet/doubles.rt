@@ -1,8 +1,8 @@
-// A source and a writer that fail.
+//! A source and a writer that fail after a number of calls.
 ghost use Rattle.std.specs.Prelude.{◌≡◌, ◌<◌, true, vec_len};
 
-use crate::source::{Source, SourceFailed};
 use archive_shape_writing::{Error, Positional, Writer};
+use cabinet::{Source, SourceFailed};
 use std::alloc::Global;
 
 /// A source that gives at most n bytes at a time, and fails after n reads.
@@ -15,19 +15,15 @@ pub struct SliceSource<'a> {
 }
 
 impl<'a> SliceSource<'a> {
-    pub fn new(bytes: &'a [u8], reads: usize, most: usize) -> Self {
+    pub fn new(bytes: &'a [u8], reads: usize, most: usize) -> Self
+        ensures { result.failures ≡ 0 }
+    {
         SliceSource {
             bytes,
             reads_left: reads,
             most: most.max(1),
             failures: 0,
         }
-    }
-
-    pub fn failures(&self) -> u64
-        ensures { result ≡ self.now.failures }
-    {
-        self.failures
     }
 }
 
@@ -62,7 +58,9 @@ pub struct FailingWriter {
 }
 
 impl FailingWriter {
-    pub fn new(alloc: Global, writes: usize) -> Self {
+    pub fn new(alloc: Global, writes: usize) -> Self
+        ensures { result.failures ≡ 0 }
+    {
         FailingWriter {
             bytes: Vec::new(alloc),
             writes_left: writes,
@@ -73,12 +71,6 @@ impl FailingWriter {
 
     pub fn bytes(&self) -> &[u8] {
         self.bytes.as_slice()
-    }
-
-    pub fn failures(&self) -> u64
-        ensures { result ≡ self.now.failures }
-    {
-        self.failures
     }
 }
 

@@ -1,0 +1,5 @@
+//! Tests of the cabinet, with a module for each crate that is tested.
+#![tactic(auto)]
+
+#[cfg(test)]
+mod cabinet;
