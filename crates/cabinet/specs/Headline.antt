@@ -39,7 +39,7 @@ AnswersUpTo counts OutOfMemory t input old new bytes lines edited = AnswersAsDoc
 AnswersUpTo counts LineTooLong t input old new bytes lines edited = AnswersAsDocument t input old new bytes lines edited
 AnswersUpTo counts InputTooLong t input old new bytes lines edited = AnswersAsDocument t input old new bytes lines edited
 
--- what is so of the input where work ends by a fault
+-- what is so of the input where work ends by a fault; `AnswersCut` says what is so of a failed write
 abbrev pub IsMet : RunCause → (input left : List ℕ) → ℕ → Type 0
 IsMet Read input left lines = IsReadFault input left lines
 IsMet Write input left lines = ⊤

@@ -15,7 +15,7 @@ use archive_shape_writing::{Error, Writer};
 use cabinet_nodes::NodeRef;
 use cabinet_text::{Asked, Line, Step, write_leaf_line, write_list_line, write_missing};
 
-/// The path in a line.
+/// The path that a line names.
 fn path_in(line: &Line) -> &[Step]
     ensures { IsQuestion (line_of line.now) → line_of line.now ≡ get (path_of result.now) }
 {

@@ -1,5 +1,5 @@
 //! Working in the bytes of a saved document.
-ghost use Rattle.std.specs.Prelude.{◌≡◌, ◌-◌, ◌^◌, ◌<◌, IsTrue, IfOk, IfErr, MatchResult};
+ghost use Rattle.std.specs.Prelude.{◌≡◌, ◌-◌, ◌^◌, ◌<◌, IsTrue, IfOk, IfErr, OnErr, MatchResult};
 ghost use Rattle.cabinet_text.specs.Tree.{Tree};
 ghost use Rattle.cabinet_layout.specs.Denotes.{Accepted};
 ghost use Rattle.cabinet.specs.Saving.{HasNoImageFor};
@@ -59,12 +59,15 @@ pub fn work<R: Source, W: Writer>(
     ensures reader_fails { IfOk result (λ w. MatchResult w.outcome (λ _. R.failures reader.new ≡ R.failures reader.old) (λ f. ReaderFails f.cause (R.failures reader.old) (R.failures reader.new))) }
     ensures writer_fails { IfOk result (λ w. MatchResult w.outcome (λ _. W.failures writer.new ≡ W.failures writer.old) (λ f. WriterFails W.COUNTS f.cause (W.failures writer.old) (W.failures writer.new))) }
     ensures refused { IfErr result (HasNoImageFor document.now) }
+    ensures unread { OnErr result (reader.new ≡ reader.old) }
+    ensures unwritten { OnErr result (writer.new ≡ writer.old) }
 {
     let mut bytes = Vec::new(alloc);
     match save(alloc, document, &mut bytes) {
         Ok(()) => {}
         Err(refusal) => return Err(refusal),
     }
+    // What was saved is an archive.
     check(alloc, bytes.as_slice()).unwrap();
     let outcome = run_in(alloc, bytes.as_mut_slice(), reader, writer);
     Ok(Worked { bytes, outcome })
