@@ -536,6 +536,24 @@ cmp -s a.cab after.cab || differs 'the bytes are not those of the edited documen
 [ "$(cmp -l before.cab a.cab | wc -l)" = 2 ] || differs 'other bytes were written'
 finish
 
+# waits up to ten seconds until the answer to the first question is there, while the input has no end yet
+until_answered() {
+    for _ in $(seq 100); do
+        grep -q 'int 5' output && break
+        sleep 0.1
+    done
+    cp output early
+}
+
+if command -v script > /dev/null; then
+    begin 'an answer comes at once where the input is a terminal'
+    archive "$five"
+    : > output
+    { echo get; until_answered; } | script -qec "'$cab' run a.cab" /dev/null > output 2> errors
+    grep -q 'int 5' early || differs 'the answer waited for the end of the input'
+    finish
+fi
+
 # edited_as_built PATH LEAF LINE: after an edit in the file text's document, the bytes are those that cab build makes of
 # the text whose line of this number is the leaf
 edited_as_built() {
