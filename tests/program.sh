@@ -536,6 +536,56 @@ cmp -s a.cab after.cab || differs 'the bytes are not those of the edited documen
 [ "$(cmp -l before.cab a.cab | wc -l)" = 2 ] || differs 'other bytes were written'
 finish
 
+# waits up to ten seconds until the answer to the first question is there, while the input has no end yet
+until_answered() {
+    for _ in $(seq 100); do
+        grep -q 'int 5' output && break
+        sleep 0.1
+    done
+    cp output early
+}
+
+if command -v script > /dev/null; then
+    begin 'an answer comes at once where the input is a terminal'
+    archive "$five"
+    : > output
+    { echo get; until_answered; } | script -qec "'$cab' run a.cab" /dev/null > output 2> errors
+    grep -q 'int 5' early || differs 'the answer waited for the end of the input'
+    finish
+fi
+
+# edited_as_built PATH LEAF LINE: after an edit in the file text's document, the bytes are those that cab build makes of
+# the text whose line of this number is the leaf
+edited_as_built() {
+    run build text a.cab
+    lines "set $2 $1\n"
+    run run a.cab
+    prints 'ok\n'
+    ends 0 ''
+    sed -i "$3s/.*/$2/" text
+    run build text after.cab
+    cmp -s a.cab after.cab || differs 'the bytes are not those of the edited document'
+}
+
+begin 'an edit of the last element of many'
+{ echo 'list 100000'; seq 1 100000 | sed 's/^/int /'; } > text
+edited_as_built '#99999' 'int -9223372036854775808' 100001
+finish
+
+begin 'an edit of the last of three elements to a negative number'
+text "list 3\ntext 'a\nbool true\nint 7\n"
+edited_as_built '#2' 'int -2' 4
+finish
+
+begin 'a document is printed by asking for it and for each element'
+{ echo 'list 70000'; seq 1 35000 | sed "s/^/int -/; s/$/\ntext 'ab/"; } > text
+run build text a.cab
+{ echo get; seq -f 'get #%.0f' 0 69999; } > input
+run run a.cab
+cmp -s output text || differs 'it is not the text that the archive was built from'
+ends 0 ''
+finish
+
 for example in "$root"/examples/*/; do
     begin "the example $(basename "$example")"
     run build "$example/text" a.cab

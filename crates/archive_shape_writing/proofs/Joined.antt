@@ -54,15 +54,21 @@ module _ {W : Type 0} {observable counts : Bool} {contents : W → List ℕ} {po
   pub failed_first : {old new : W} {a : List ℕ} {e : Error} (b : List ℕ)
       → Failed observable counts contents pos failures last_error old new a e
       → Failed observable counts contents pos failures last_error old new (a ++ b) e
-  failed_first b h = record { is_cut = λ t. cut_first b (h.is_cut t); is_counted = h.is_counted; is_last = h.is_last }
+  failed_first {a = a} b h = record {
+    is_cut = λ t. cut_first b (h.is_cut t);
+    is_short = λ t u. omega (arith, h.is_short t u, length-append a b);
+    is_counted = h.is_counted;
+    is_last = h.is_last;
+  }
 
   -- a piece was written, and the next one failed
   pub failed_after : {old mid new : W} {a b : List ℕ} {e : Error}
       → Written observable counts contents pos failures last_error old mid a
       → Failed observable counts contents pos failures last_error mid new b e
       → Failed observable counts contents pos failures last_error old new (a ++ b) e
-  failed_after {old = old} {new = new} {a = a} {e = e} f h = record {
+  failed_after {old = old} {new = new} {a = a} {b = b} {e = e} f h = record {
     is_cut = λ t. cut_after (contents old) a (f.gains t) (h.is_cut t);
+    is_short = λ t u. omega (arith, h.is_short t u, ap length (f.gains t), length-append (contents old) a, length-append a b);
     is_counted = let P : ℕ → Type 0 = λ n. IsCounted counts n (failures new) e in subst P f.is_quiet h.is_counted;
     is_last = h.is_last;
   }

@@ -1,7 +1,7 @@
 -- What a call that writes does to its writer, of which clauses give: whether its contents are observable, whether it
 -- counts its failures, its contents, its position, how many of its writes failed, and the error of the last that did. Of
 -- contents that are not observable, as those of a file, nothing is said.
-use Rattle.std.specs.Prelude.{◌≡◌, ℕ, ◌+◌, Bool, List, ◌++◌, length, IsTrue, MatchBool, Result, MatchResult}
+use Rattle.std.specs.Prelude.{◌≡◌, ℕ, ◌+◌, ◌<◌, Bool, false, List, ◌++◌, length, IsTrue, MatchBool, Result, MatchResult}
 use Rattle.archive_shape_writing.specs.declared.error.Error.{Error}
 use Rattle.archive_shape_writing.specs.declared.error.Error.TheVariants.{OutOfMemory}
 
@@ -23,9 +23,11 @@ module _ {W : Type 0} (observable counts : Bool) (contents : W → List ℕ) (po
     pub moves : pos new ≡ pos old + length piece
     pub is_quiet : failures new ≡ failures old
 
-  -- the writer failed in the piece, by an error that is its last one
+  -- The writer failed in the piece, by an error that is its last one. A count that is higher shows the fault; a writer
+  -- that counts none has lost some of the piece.
   pub record Failed (old new : W) (piece : List ℕ) (e : Error) : Type 0 where
     pub is_cut : IsTrue observable → Cut (contents old) (contents new) piece
+    pub is_short : IsTrue observable → counts ≡ false → length (contents new) < length (contents old) + length piece
     pub is_counted : IsCounted counts (failures old) (failures new) e
     pub is_last : last_error new ≡ e
 

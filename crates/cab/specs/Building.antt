@@ -1,12 +1,13 @@
 -- What building an archive answers.
-use Rattle.std.specs.Prelude.{◌≡◌, ℕ, List}
+use Rattle.std.specs.Prelude.{◌≡◌, ℕ, ◌<◌, ◌⊎◌, List, String, string_bytes, string_len, codes}
+use Rattle.std.specs.declared.alloc.Global.{Global}
 use Rattle.cabinet_text.specs.Tree.{Tree}
 use Rattle.cabinet_text.specs.Spelling.{text_of}
 use Rattle.cabinet_text.specs.FirstFault.{FirstFault}
-use Rattle.cabinet_layout.specs.Image.{Image, IsPast}
+use Rattle.cabinet_layout.specs.Image.{Image}
+use Rattle.cabinet.specs.Saving.{HasNoImageFor}
 use Rattle.cabinet.specs.declared.fault.Fault.{Fault}
-use Rattle.cabinet.specs.declared.fault.Fault.TheVariants.{Text, Save}
-use Rattle.cabinet.specs.declared.saving.SaveRefusal.TheVariants.{Limit, OutOfMemory}
+use Rattle.cabinet.specs.declared.fault.Fault.TheVariants.{Usage, CannotRead, CannotWrite, Text, Save, Open, Run}
 
 -- the bytes are an image of the document that has the text
 pub record Builds (text archive : List ℕ) : Type 0 where
@@ -17,6 +18,15 @@ pub record Builds (text archive : List ℕ) : Type 0 where
 -- why there is none: the text's first fault, a document past the limits, or want of memory
 abbrev pub RefusesText : List ℕ → Fault → Type 0
 RefusesText text (Text refusal) = FirstFault text refusal.line refusal.cause
-RefusesText text (Save OutOfMemory) = (t : Tree) × (text ≡ text_of t)
-RefusesText text (Save (Limit e)) = (t : Tree) × (text ≡ text_of t) × IsPast t e
+RefusesText text (Save refusal) = (t : Tree) × (text ≡ text_of t) × HasNoImageFor t refusal
 RefusesText text _ = ⊥
+
+-- the faults that building an archive file ends by; what is printed goes to no file of a name
+abbrev pub EndsBuildBy : (text archive : String Global) → Fault → Type 0
+EndsBuildBy text archive (CannotRead path) = path ≡ text
+EndsBuildBy text archive (Text refusal) = (bytes : List ℕ) × FirstFault bytes refusal.line refusal.cause
+EndsBuildBy text archive (Save refusal) = (t : Tree) × HasNoImageFor t refusal
+EndsBuildBy text archive (CannotWrite path) = (path ≡ archive) ⊎ (0 < string_len text → string_bytes path ≡ codes "-")
+EndsBuildBy text archive Usage = ⊥
+EndsBuildBy text archive (Open refusal) = ⊥
+EndsBuildBy text archive (Run fault) = ⊥

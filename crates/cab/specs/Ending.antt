@@ -1,8 +1,10 @@
 -- What is told of a run in which more than one thing may fail.
-use Rattle.std.specs.Prelude.{◌≡◌, Bool, true, false, String, Result, Ok, Err, IsOk}
+use Rattle.std.specs.Prelude.{◌≡◌, ℕ, ◌<◌, Bool, true, false, List, String, Result, Ok, Err, IsOk}
 use Rattle.std.specs.declared.alloc.Global.{Global}
+use Rattle.cabinet.specs.Opening.{IsRefusedFor}
+use Rattle.cabinet.specs.Editing.{EditedByLines}
 use Rattle.cabinet.specs.declared.fault.Fault.{Fault}
-use Rattle.cabinet.specs.declared.fault.Fault.TheVariants.{CannotWrite, Run}
+use Rattle.cabinet.specs.declared.fault.Fault.TheVariants.{Usage, CannotRead, CannotWrite, Text, Save, Open, Run}
 use Rattle.cabinet.specs.declared.session.Count.{Count}
 use Rattle.cabinet.specs.declared.session.RunFault.{RunFault}
 use Rattle.cabinet.specs.declared.session.RunCause.TheVariants.{Write}
@@ -18,3 +20,31 @@ abbrev pub IsFirstFault : Result Count RunFault → (written : Bool) → String 
 IsFirstFault (Ok count) true path ending = IsOk ending
 IsFirstFault (Ok count) false path ending = ending ≡ Err (CannotWrite path)
 IsFirstFault (Err fault) _ path ending = ending ≡ Err (Run fault)
+
+-- the bytes old became new by some lines, of which this many were edits that were done
+pub record EditedTo (old new : List ℕ) : Type 0 where
+  pub lines : ℕ
+  pub edits : ℕ
+  pub edited : EditedByLines old new lines edits
+
+-- What working in the bytes of a file comes to: lines were carried out, up to a fault of the run; there was an edit,
+-- which could not be written back; or the bytes are no archive, and are as they were.
+abbrev pub EditsArchive : (old new : List ℕ) → String Global → Result (Unit {0}) Fault → Type 0
+EditsArchive old new path (Ok done) = EditedTo old new
+EditsArchive old new path (Err (Run fault)) = EditedByLines old new fault.lines fault.edits
+EditsArchive old new path (Err (CannotWrite other)) = (other ≡ path) × ((e : EditedTo old new) × (0 < e.edits))
+EditsArchive old new path (Err (Open refusal)) = IsRefusedFor old refusal × (new ≡ old)
+EditsArchive old new path (Err Usage) = ⊥
+EditsArchive old new path (Err (CannotRead other)) = ⊥
+EditsArchive old new path (Err (Text refusal)) = ⊥
+EditsArchive old new path (Err (Save refusal)) = ⊥
+
+-- the faults that running an archive file ends by
+abbrev pub EndsRunBy : String Global → Fault → Type 0
+EndsRunBy path (CannotRead other) = other ≡ path
+EndsRunBy path (Open refusal) = (bytes : List ℕ) × IsRefusedFor bytes refusal
+EndsRunBy path (Run fault) = (old : List ℕ) × (new : List ℕ) × EditedByLines old new fault.lines fault.edits
+EndsRunBy path (CannotWrite other) = other ≡ path
+EndsRunBy path Usage = ⊥
+EndsRunBy path (Text refusal) = ⊥
+EndsRunBy path (Save refusal) = ⊥

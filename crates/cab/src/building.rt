@@ -1,6 +1,6 @@
+//! `cab build`: the archive of the document that a text file holds.
 ghost use Rattle.std.specs.Prelude.{◌≡◌, ◌<◌, IfOk, IfErr, string_bytes, string_len, codes};
-ghost use Rattle.cabinet.specs.Reporting.{status_of};
-ghost use Rattle.cab.specs.Building.{Builds, RefusesText};
+ghost use Rattle.cab.specs.Building.{Builds, RefusesText, EndsBuildBy};
 
 use cabinet::{Fault, read_text, save};
 use std::alloc::Global;
@@ -38,7 +38,7 @@ pub fn build<R: Files + Print + AllocGlobal>(
     text: String,
     archive: String,
 ) -> Result<(), Fault>
-    ensures { IfErr result (λ fault. status_of fault ≡ 1) }
+    ensures { IfErr result (EndsBuildBy text archive) }
 {
     let Ok(bytes) = fs::read(rt, text.as_str()) else {
         return Err(Fault::CannotRead(text));

@@ -1,4 +1,4 @@
-// The standard input, as what lines are read from. Of its bytes nothing is known, so it does not tell what it gives.
+//! The standard input, as what lines are read from. Of its bytes nothing is known, so contracts can't name what it gives.
 ghost use Rattle.std.specs.Prelude.{◌≡◌, ◌≤◌, false, [], length, IfOk};
 
 use cabinet::{Source, SourceFailed};

@@ -19,7 +19,7 @@ use output::OutputStream;
 use running::run_archive;
 use std::env;
 use std::env::Args;
-use std::io::ErrorKind;
+use std::io::{ErrorKind, IsTerminal};
 use std::process::ExitCode;
 use std::rt::{Env, Files};
 
@@ -37,7 +37,10 @@ fn words<R: Env + AllocGlobal>(rt: &R) -> Result<Args, Fault> {
 }
 
 /// Does what the words say.
-fn carry_out<R: Env + Files + Input + Print + AllocGlobal>(rt: &R) -> Result<(), Fault> {
+fn carry_out<R: Env + Files + Input + Print + AllocGlobal>(rt: &R) -> Result<(), Fault>
+where
+    R::Reader: IsTerminal,
+{
     match parse(words(rt)?) {
         Some(Command::Build { text, archive }) => build(rt, text, archive),
         Some(Command::Run { archive }) => run_archive(rt, archive),
@@ -59,7 +62,7 @@ fn main(rt: HostRuntime) -> ExitCode {
     let outcome = carry_out(&rt);
     if let Err(fault) = &outcome {
         // Where the standard error takes no line, the status alone tells of the fault.
-        let _ = fault_line(fault, &mut OutputStream::new(rt.stderr()));
+        let _ = fault_line(fault, &mut OutputStream::new(rt.stderr(), false));
     }
     exit_code(&outcome)
 }

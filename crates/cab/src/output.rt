@@ -1,5 +1,5 @@
-// The standard output and error, as what lines are written to. Of their bytes nothing is known, so they do not tell what
-// they hold.
+//! The standard output and error, as what lines are written to. Of their bytes nothing is known, so contracts can't name
+//! what they hold.
 ghost use Rattle.std.specs.Prelude.{◌≡◌, ◌+◌, ◌-◌, ◌^◌, ◌<◌, false, true, []};
 
 use archive_shape_writing::{Error, Positional, Writer};
@@ -10,18 +10,30 @@ use std::io::Write;
 #[derive(Drop)]
 pub struct OutputStream<W: Write + Drop> {
     stream: W,
+    /// Whether each line is written as soon as it ends.
+    is_prompt: bool,
     pub position: usize,
     pub failures: u64,
     last_error: Error,
 }
 
+/// Writes bytes, and where answers are prompt also those that wait, once a line ends.
+fn write_some<W: Write>(stream: &mut W, bytes: &[u8], is_prompt: bool) -> io::Result<()> {
+    stream.write_all(bytes)?;
+    if is_prompt && bytes.ends_with(b"\n") {
+        stream.flush()?;
+    }
+    Ok(())
+}
+
 impl<W: Write + Drop> OutputStream<W> {
-    pub fn new(stream: W) -> OutputStream<W>
+    pub fn new(stream: W, is_prompt: bool) -> OutputStream<W>
         ensures position { result.position ≡ 0 }
         ensures failures { result.failures ≡ 0 }
     {
         OutputStream {
             stream,
+            is_prompt,
             position: 0,
             failures: 0,
             last_error: Error::WriterFailed,
@@ -73,7 +85,7 @@ impl<W: Write + Drop> Writer for OutputStream<W> {
         let Some(position) = self.position.checked_add(bytes.len()) else {
             return Err(self.failed(Error::PositionTooLarge));
         };
-        if self.stream.write_all(bytes).is_err() {
+        if write_some(&mut self.stream, bytes, self.is_prompt).is_err() {
             return Err(self.failed(Error::WriterFailed));
         }
         self.position = position;

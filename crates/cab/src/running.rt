@@ -1,15 +1,16 @@
+//! `cab run`: the lines of the standard input, carried out in an archive file.
 ghost use Rattle.std.specs.Prelude.{◌≡◌, ◌-◌, ◌^◌, ◌<◌, true, IfErr, MatchResult};
 ghost use Rattle.cabinet_text.specs.Tree.{Tree};
 ghost use Rattle.cabinet_layout.specs.Denotes.{Accepted};
-ghost use Rattle.cabinet.specs.Reporting.{status_of};
-ghost use Rattle.cab.specs.Ending.{IsFlushed, IsFirstFault};
+ghost use Rattle.cabinet.specs.Editing.{EditedByLines};
+ghost use Rattle.cab.specs.Ending.{IsFlushed, IsFirstFault, EditsArchive, EndsRunBy};
 
 use crate::input::InputStream;
 use crate::output::OutputStream;
 use cabinet::{Count, Fault, RunCause, RunFault, check, run_in};
 use std::alloc::Global;
 use std::fs::OpenOptions;
-use std::io::{BufWriter, Write};
+use std::io::{BufWriter, IsTerminal, Write};
 use std::rt::Files;
 use std::{fs, io};
 
@@ -31,10 +32,15 @@ fn flushed(outcome: Result<Count, RunFault>, is_written: bool) -> Result<Count, 
 }
 
 /// Carries out the lines of the standard input in an accepted archive. Answers are written once `BUFFER` bytes of them
-/// wait, and at the end.
+/// wait, and at the end; where the input is a terminal, each at once.
 fn run_lines<R: Input + Print>(rt: &R, alloc: Global, archive: &mut [u8]) -> Result<Count, RunFault>
+where
+    R::Reader: IsTerminal,
     requires { ∥ ((t : Tree) × Accepted archive.old t) ∥₁ }
-    ensures { ∥ ((t : Tree) × Accepted archive.new t) ∥₁ }
+    ensures kept { ∥ ((t : Tree) × Accepted archive.new t) ∥₁ }
+    ensures edited { MatchResult result (λ n. EditedByLines archive.old archive.new n.lines n.edits) (λ f. EditedByLines archive.old archive.new f.lines f.edits) }
+    // Only bytes that were edited need to be written back.
+    ensures unedited { MatchResult result (λ n. n.edits ≡ 0 → archive.new ≡ archive.old) (λ f. f.edits ≡ 0 → archive.new ≡ archive.old) }
 {
     let Ok(stream) = BufWriter::with_capacity(alloc, BUFFER, io::writer(rt)) else {
         return Err(RunFault {
@@ -43,8 +49,9 @@ fn run_lines<R: Input + Print>(rt: &R, alloc: Global, archive: &mut [u8]) -> Res
             edits: 0,
         });
     };
-    let mut answers = OutputStream::new(stream);
-    let mut lines = InputStream::new(rt.reader());
+    let reader = rt.reader();
+    let mut answers = OutputStream::new(stream, reader.is_terminal());
+    let mut lines = InputStream::new(reader);
     let outcome = run_in(alloc, archive, &mut lines, &mut answers);
     let is_written = answers.flush().is_ok();
     flushed(outcome, is_written)
@@ -95,7 +102,9 @@ fn edit_archive<R: Files + Input + Print + AllocGlobal>(
     path: String,
     archive: &mut [u8],
 ) -> Result<(), Fault>
-    ensures { IfErr result (λ fault. status_of fault ≡ 1) }
+where
+    R::Reader: IsTerminal,
+    ensures { EditsArchive archive.old archive.new path result }
 {
     if let Err(refusal) = check(rt.alloc(), archive) {
         return Err(Fault::Open(refusal));
@@ -110,7 +119,9 @@ pub fn run_archive<R: Files + Input + Print + AllocGlobal>(
     rt: &R,
     path: String,
 ) -> Result<(), Fault>
-    ensures { IfErr result (λ fault. status_of fault ≡ 1) }
+where
+    R::Reader: IsTerminal,
+    ensures { IfErr result (EndsRunBy path) }
 {
     match fs::read(rt, path.as_str()) {
         Ok(mut archive) => edit_archive(rt, path, archive.as_mut_slice()),

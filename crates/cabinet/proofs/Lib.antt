@@ -6,3 +6,4 @@ pub mod SessionsGiven
 pub mod SessionsProgress
 pub mod SessionsResults
 pub mod WorkedAnswers
+pub mod SessionLaws

@@ -1,5 +1,5 @@
 -- Lines carried out, one after another.
-use Rattle.std.proofs.Common.{◌≡◌, ℕ, ◌+◌, ◌≤◌, suc, zero, List, [], ◌∷◌, ◌++◌, length, take, drop, refl, sym, ap, subst, ◌∙◌, append_assoc, append-nil, length-append, arith, Option, Some, add-one}
+use Rattle.std.proofs.Common.{◌≡◌, ℕ, ◌+◌, ◌<◌, ◌≤◌, Bool, false, suc, zero, List, [], ◌∷◌, ◌++◌, length, take, drop, refl, sym, ap, subst, ◌∙◌, append_assoc, append-nil, length-append, arith, Option, Some, add-one}
 use Rattle.std.proofs.lemmas.List.Elements.{All-push, All-same}
 use Rattle.archive_shape_writing.specs.Writing.{Cut}
 use Rattle.cabinet_text.specs.Tree.{Tree, Leaf, Step}
@@ -11,7 +11,7 @@ use Rattle.cabinet_layout.specs.Denotes.{Accepted}
 use Rattle.cabinet_layout.specs.Image.{Image}
 use Rattle.cabinet_layout.specs.Laws.{written_at}
 use Rattle.cabinet_nodes.specs.Setting.{put_if_done}
-use Rattle.cabinet.specs.Editing.{Edited, bytes_next, bytes_after}
+use Rattle.cabinet.specs.Editing.{Edited, EditedByLines, bytes_next, bytes_after}
 use Rattle.cabinet.specs.Steps.{longest_line, Carried, CarriedCut}
 
 -- ---- one more element
@@ -79,6 +79,25 @@ edited_by_set x y path l s r e answer b d i =
       image = i;
     })
 
+-- ---- lines and their edits
+
+pub none_edited : (x : List ℕ) → EditedByLines x x 0 0
+none_edited x = record { texts = []; said = []; say = tt; count = refl; edits_done = edited_none x; edits_counted = λ t a. refl }
+
+-- a further line was carried out
+pub edited_by_one : (x y z : List ℕ) (lines edited now : ℕ) (text : List ℕ) (s : Option Line) → Says text s → Edited y z (s ∷ [])
+    → ((t : Tree) → Accepted y t → now ≡ edited + edits_by t s) → EditedByLines x y lines edited → EditedByLines x z (lines + 1) now
+edited_by_one x y z lines edited now text s says edit counted e = record {
+  texts = e.texts ++ text ∷ [];
+  said = e.said ++ s ∷ [];
+  say = say_push e.texts e.said text s e.say says;
+  count = omega (arith, length-append e.said (s ∷ []), e.count);
+  edits_done = edited_push x y z e.said s e.edits_done edit;
+  edits_counted = λ t a.
+      counted (after t e.said) (e.edits_done.document t a) ∙ ap (λ n. n + edits_by (after t e.said) s) (e.edits_counted t a)
+      ∙ sym (edits_push t e.said s);
+}
+
 -- ---- what was carried out
 
 pub none_carried : (input x old : List ℕ) → Carried input x x old old 0 0
@@ -128,8 +147,10 @@ module _ (input x y z old mid new : List ℕ) (lines edited now : ℕ) (line : L
   }
 
   -- or carried out, and its answer cut
-  pub carried_cut : ((t : Tree) → Accepted y t → Cut mid new (reply t s)) → CarriedCut input x z old new (lines + 1) now
-  carried_cut a = record {
+  pub carried_cut : (counts : Bool) → ((t : Tree) → Accepted y t → Cut mid new (reply t s))
+      → (counts ≡ false → (t : Tree) → Accepted y t → length new < length mid + length (reply t s))
+      → CarriedCut counts input x z old new (lines + 1) now
+  carried_cut counts a short_of = record {
     before = c.said;
     last = s;
     say = lines_say;
@@ -139,5 +160,8 @@ module _ (input x y z old mid new : List ℕ) (lines edited now : ℕ) (line : L
         (All-push (λ (l : List ℕ). length l ≤ longest_line) (take lines (lines_of input)) line c.short short);
     edits_done = edited_push x y z c.said s c.edits_done edit;
     answered = λ t b. subst (λ m. Cut m new (reply (after t c.said) s)) (c.answered t b) (a (after t c.said) (c.edits_done.document t b));
+    lost = λ u t b.
+        subst (λ m. length new < length m + length (reply (after t c.said) s)) (c.answered t b)
+        (short_of u (after t c.said) (c.edits_done.document t b));
     edits_counted = edits_more;
   }

@@ -58,6 +58,19 @@ lines_begun : (b rest : List ℕ) → newlines b ≡ 0 → lines_of (b ++ 10 ∷
 lines_begun [] rest h = refl
 lines_begun (c ∷ cs) rest h = let d = clean c cs h in rw d.0 (ap (onto_first c) (lines_begun cs rest d.1))
 
+-- bytes have a line
+onto_some : (b : ℕ) (lines : List (List ℕ)) → 0 < length (onto_first b lines)
+onto_some b [] = omega arith
+onto_some b (line ∷ lines) = omega arith
+
+pub some_lines : (bytes : List ℕ) → 0 < length bytes → 0 < length (lines_of bytes)
+some_lines [] l = absurd (omega arith)
+some_lines (b ∷ bs) l =
+    elim (b == 10) as (λ t. 0 < length (cond t ([] ∷ lines_of bs) (onto_first b (lines_of bs)))) [
+      | true ↦ omega arith
+      | false ↦ onto_some b (lines_of bs)
+    ]
+
 -- a last line needs no newline
 pub line_alone : (b : List ℕ) → newlines b ≡ 0 → 0 < length b → lines_of b ≡ b ∷ []
 line_alone [] h l = absurd (omega arith)

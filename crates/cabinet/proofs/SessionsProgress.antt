@@ -1,13 +1,14 @@
 -- How a session goes on in its input.
-use Rattle.std.proofs.Common.{◌≡◌, ◌≢◌, ℕ, ◌+◌, ◌<◌, ◌≤◌, ◌==◌, ◌⊎◌, inl, inr, true, false, cond, List, [], ◌∷◌, ◌++◌, length, take, drop, refl, sym, ap, subst, ◌∙◌, append_assoc, append-nil, length-append, length-take, length-drop, get_or, arith}
+use Rattle.std.proofs.Common.{◌≡◌, ◌≢◌, ℕ, Bool, ◌+◌, ◌<◌, ◌≤◌, ◌==◌, ◌⊎◌, inl, inr, true, false, cond, List, [], ◌∷◌, ◌++◌, length, take, drop, refl, sym, ap, subst, ◌∙◌, append_assoc, append-nil, length-append, length-take, length-drop, get_or, arith}
 use Rattle.std.proofs.lemmas.Bool.{ne_eqb}
 use Rattle.std.proofs.lemmas.List.{take_all, take-append-le, take-append-drop, drop_more}
 use Rattle.cabinet_text.specs.Session.{lines_of}
-use Rattle.cabinet.specs.Steps.{longest_line, longest_input, newlines, line_begun, begun_in, Carried, IsReadFault, IsLineTooLong, IsInputTooLong, Completed, Faulted}
+use Rattle.cabinet.specs.Steps.{longest_line, longest_input, newlines, line_begun, begun_in, Carried, IsMemoryRefused, IsReadFault, IsLineTooLong, IsInputTooLong, Completed, Faulted}
 use Rattle.cabinet.specs.declared.session.RunCause.{RunCause}
+use Rattle.cabinet.specs.Editing.{EditedByLines}
 use Rattle.cabinet.specs.Progress.{Progress}
-use Rattle.cabinet.proofs.Sessions.{none_carried, say_length}
-use Rattle.cabinet.proofs.SessionsGiven.{newlines-append, line_begun-append, line_begun-clean, begun_clean, line_alone, lines_behind, next_line}
+use Rattle.cabinet.proofs.Sessions.{none_carried, none_edited, say_length}
+use Rattle.cabinet.proofs.SessionsGiven.{newlines-append, line_begun-append, line_begun-clean, begun_clean, some_lines, line_alone, lines_behind, next_line}
 
 pub begins : (input x old : List ℕ) → Progress input x x old old 0 0 [] 0 input
 begins input x old = record { carried = none_carried input x old; given = []; input_is = refl; total_is = refl; lines_are = refl; begun_is = refl }
@@ -37,6 +38,16 @@ module _ (input x y old new : List ℕ) (lines edited : ℕ) (begun : List ℕ) 
   no_line_is p e =
       ap (λ n. drop n (lines_of input)) p.lines_are ∙ ap (λ i. drop (newlines p.given) (lines_of i)) p.input_is
       ∙ lines_behind p.given [] ∙ ap (λ b. lines_of (b ++ [])) (sym p.begun_is ∙ e)
+
+  -- a line is left where bytes are
+  pub line_left : (rest : List ℕ) → Progress input x y old new lines edited begun total rest → 0 < length rest → IsMemoryRefused input lines
+  line_left rest p l =
+      let left : drop lines (lines_of input) ≡ lines_of (begun_in p.given ++ rest) =
+      ap (λ n. drop n (lines_of input)) p.lines_are ∙ ap (λ i. drop (newlines p.given) (lines_of i)) p.input_is
+      ∙ lines_behind p.given rest
+      in
+      let some = some_lines (begun_in p.given ++ rest) (omega (arith, length-append (begun_in p.given) rest)) in
+      omega (arith, length-drop lines (lines_of input), ap length left, some)
 
   -- ---- more of the input
 
@@ -156,7 +167,15 @@ pub begins_at : (input x old : List ℕ) (lines edited : ℕ) (begun : List ℕ)
     → Progress input x x old old lines edited begun total input
 begins_at input x old lines edited begun total l e b t = rw (l, e, b, t) (begins input x old)
 
--- a fault as it is told
-pub told : (input left x y old new : List ℕ) (lines edited : ℕ) (cause : RunCause) (lines' edited' : ℕ) (cause' : RunCause)
-    → lines' ≡ lines → edited' ≡ edited → cause' ≡ cause → Faulted input left x y old new lines edited cause → Faulted input left x y old new lines' edited' cause'
-told input left x y old new lines edited cause lines' edited' cause' l e c f = rw (l, e, c) f
+pub none_edited_at : (x : List ℕ) (lines edited : ℕ) → lines ≡ 0 → edited ≡ 0 → EditedByLines x x lines edited
+none_edited_at x lines edited l e = rw (l, e) (none_edited x)
+
+-- a fault of the same counts and cause
+pub faulted_along : (counts : Bool) (input left x y old new : List ℕ) (lines edited : ℕ) (cause : RunCause) (lines' edited' : ℕ) (cause' : RunCause)
+    → lines' ≡ lines → edited' ≡ edited → cause' ≡ cause → Faulted counts input left x y old new lines edited cause
+    → Faulted counts input left x y old new lines' edited' cause'
+faulted_along counts input left x y old new lines edited cause lines' edited' cause' l e c f = rw (l, e, c) f
+
+-- a line that comes next is left
+pub next_left : (input line : List ℕ) (lines : ℕ) (more : List (List ℕ)) → drop lines (lines_of input) ≡ line ∷ more → IsMemoryRefused input lines
+next_left input line lines more e = omega (arith, length-drop lines (lines_of input), ap length e)

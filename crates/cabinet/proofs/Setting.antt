@@ -14,7 +14,7 @@ use Rattle.cabinet_nodes.specs.Setting.{put_if_done}
 
 -- what a call says that answers for every tree that the bytes denote
 module _ (x y : List ℕ) (path : List Step) (new : Leaf) (legal : IsLeaf new) where
-  document_of : (answer : SetAnswer) → y ≡ put_if_done answer (written_at x path new) x → (t : Tree) → answer ≡ outcome t path new → Accepted x t
+  pub document_of : (answer : SetAnswer) → y ≡ put_if_done answer (written_at x path new) x → (t : Tree) → answer ≡ outcome t path new → Accepted x t
       → Accepted y (change t path new)
   document_of Done e t o a = subst (λ b. Accepted b (change t path new)) (sym e) (edit_keeps_accepted x t path new a legal (sym o))
   document_of Missing e t o a =
@@ -22,7 +22,7 @@ module _ (x y : List ℕ) (path : List Step) (new : Leaf) (legal : IsLeaf new) w
   document_of Refused e t o a =
       subst (λ b. Accepted b (change t path new)) (sym e) (subst (Accepted x) (sym (only_done_changes t path new (λ d. absurd (cc)))) a)
 
-  image_of : (answer : SetAnswer) → y ≡ put_if_done answer (written_at x path new) x → (t : Tree) → answer ≡ outcome t path new → Image t x
+  pub image_of : (answer : SetAnswer) → y ≡ put_if_done answer (written_at x path new) x → (t : Tree) → answer ≡ outcome t path new → Image t x
       → Image (change t path new) y
   image_of Done e t o i = subst (Image (change t path new)) (sym e) (edit_keeps_image x t path new i legal (sym o))
   image_of Missing e t o i =

@@ -1,49 +1,62 @@
 -- What a session in the image of a document comes to.
-use Rattle.std.proofs.Common.{◌≡◌, ◌≤◌, ◌++◌, ℕ, List, length, take, drop, Ok, Err, subst, sym, ap, ◌∙◌, append-nil, arith}
-use Rattle.std.specs.Prelude.{Result, IfOk, IfErr}
+use Rattle.std.proofs.Common.{◌≡◌, ◌≤◌, ◌++◌, ℕ, List, length, take, drop, Ok, Err, refl, subst, sym, ap, ◌∙◌, append-nil, arith}
+use Rattle.std.specs.Prelude.{Bool, Result, IfOk, IfErr, IsOk}
 use Rattle.std.proofs.lemmas.List.{take_all, drop_all}
 use Rattle.cabinet_text.specs.Tree.{Tree}
 use Rattle.cabinet_layout.specs.Denotes.{Accepted}
 use Rattle.cabinet_layout.specs.Image.{Image}
+use Rattle.cabinet_layout.proofs.Faults.{fault_refuses}
+use Rattle.cabinet.specs.Opening.{IsRefusedFor}
+use Rattle.cabinet.specs.declared.opened.OpenRefusal.{OpenRefusal}
+use Rattle.cabinet.specs.declared.opened.OpenRefusal.TheVariants.{Access, OutOfMemory}
 use Rattle.cabinet.specs.Steps.{Carried, CarriedCut, Completed, Faulted, read_failed, write_failed, memory_refused, line_too_long, input_too_long}
-use Rattle.cabinet.specs.Headline.{AnswersAsDocument, AnswersCut, AnswersUpTo, WorksInPlace}
+use Rattle.cabinet.specs.Headline.{AnswersAsDocument, AnswersCut, AnswersUpTo, IsMet, WorksInPlace}
 use Rattle.cabinet.specs.declared.session.Count.{Count}
 use Rattle.cabinet.specs.declared.session.RunFault.{RunFault}
 use Rattle.cabinet.specs.declared.session.RunCause.{RunCause}
 
-module _ (t : Tree) (input left x y old new : List ℕ) (i : Image t x) where
-  carried_answers : (lines edited : ℕ) → Carried input x y old new lines edited → AnswersAsDocument t input old new y lines
+module _ (counts : Bool) (t : Tree) (input left x y old new : List ℕ) (i : Image t x) where
+  carried_answers : (lines edited : ℕ) → Carried input x y old new lines edited → AnswersAsDocument t input old new y lines edited
   carried_answers lines edited c = record {
     said = c.said;
     say = c.say;
     count = c.count;
     written = c.answered t i.accepted;
     image = c.edits_done.image t i;
+    edits_counted = c.edits_counted t i.accepted;
   }
 
-  torn_answers : (lines edited : ℕ) → CarriedCut input x y old new lines edited → AnswersCut t input old new y lines
-  torn_answers lines edited c = record {
+  cut_answers : (lines edited : ℕ) → CarriedCut counts input x y old new lines edited → AnswersCut counts t input old new y lines edited
+  cut_answers lines edited c = record {
     before = c.before;
     last = c.last;
     say = c.say;
     count = c.count;
     written = c.answered t i.accepted;
+    lost = λ u. c.lost u t i.accepted;
     image = c.edits_done.image t i;
+    edits_counted = c.edits_counted t i.accepted;
   }
 
-  faulted_answers : (lines edited : ℕ) (cause : RunCause) → Faulted input left x y old new lines edited cause → AnswersUpTo cause t input old new y lines
-  faulted_answers lines edited cause (read_failed e c r) = subst (λ k. AnswersUpTo k t input old new y lines) (sym e) (carried_answers lines edited c)
-  faulted_answers lines edited cause (write_failed e c) = subst (λ k. AnswersUpTo k t input old new y lines) (sym e) (torn_answers lines edited c)
-  faulted_answers lines edited cause (memory_refused e c) = subst (λ k. AnswersUpTo k t input old new y lines) (sym e) (carried_answers lines edited c)
-  faulted_answers lines edited cause (line_too_long e c r) = subst (λ k. AnswersUpTo k t input old new y lines) (sym e) (carried_answers lines edited c)
-  faulted_answers lines edited cause (input_too_long e c r) = subst (λ k. AnswersUpTo k t input old new y lines) (sym e) (carried_answers lines edited c)
+  faulted_answers : (lines edited : ℕ) (cause : RunCause) → Faulted counts input left x y old new lines edited cause → AnswersUpTo counts cause t input old new y lines edited × IsMet cause input left lines
+  faulted_answers lines edited cause (read_failed e c r) = subst (λ k. AnswersUpTo counts k t input old new y lines edited × IsMet k input left lines) (sym e) (carried_answers lines edited c, r)
+  faulted_answers lines edited cause (write_failed e c) = subst (λ k. AnswersUpTo counts k t input old new y lines edited × IsMet k input left lines) (sym e) (cut_answers lines edited c, tt)
+  faulted_answers lines edited cause (memory_refused e c r) = subst (λ k. AnswersUpTo counts k t input old new y lines edited × IsMet k input left lines) (sym e) (carried_answers lines edited c, r)
+  faulted_answers lines edited cause (line_too_long e c r) = subst (λ k. AnswersUpTo counts k t input old new y lines edited × IsMet k input left lines) (sym e) (carried_answers lines edited c, r)
+  faulted_answers lines edited cause (input_too_long e c r) = subst (λ k. AnswersUpTo counts k t input old new y lines edited × IsMet k input left lines) (sym e) (carried_answers lines edited c, r)
 
   pub works : (r : Result Count RunFault)
       → IfOk r (λ n. Completed input x y old new n.lines n.edits)
-      → IfErr r (λ f. Faulted input left x y old new f.lines f.edits f.cause)
-      → WorksInPlace t input old new y r
+      → IfErr r (λ f. Faulted counts input left x y old new f.lines f.edits f.cause)
+      → WorksInPlace counts t input left old new y r
   works (Ok n) done fault = (carried_answers n.lines n.edits done.carried, done.all)
   works (Err f) done fault = faulted_answers f.lines f.edits f.cause fault
+
+-- an archive is not refused
+pub accepted_is_ok : (bytes : List ℕ) (t : Tree) (r : Result (Unit {0}) OpenRefusal) → Accepted bytes t → IfErr r (IsRefusedFor bytes) → IsOk r
+accepted_is_ok bytes t (Ok x) a h = refl
+accepted_is_ok bytes t (Err (Access e)) a h = absurd (fault_refuses bytes e t h a)
+accepted_is_ok bytes t (Err OutOfMemory) a h = absurd h
 
 -- bytes that are those of an archive are an archive
 pub accepted-along : (x y : List ℕ) → x ≡ y → ∥ ((s : Tree) × Accepted y s) ∥₁ → ∥ ((s : Tree) × Accepted x s) ∥₁

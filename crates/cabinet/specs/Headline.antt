@@ -1,10 +1,11 @@
 -- Working in the bytes of a saved document, as against working on the document.
-use Rattle.std.specs.Prelude.{◌≡◌, ℕ, List, [], ◌∷◌, ◌++◌, length, take, Option, Result, Ok, Err}
+use Rattle.std.specs.Prelude.{◌≡◌, ℕ, ◌+◌, ◌<◌, Bool, false, List, [], ◌∷◌, ◌++◌, length, take, Option, Result, Ok, Err, ⊤}
 use Rattle.archive_shape_writing.specs.Writing.{Cut}
 use Rattle.cabinet_text.specs.Tree.{Tree}
 use Rattle.cabinet_text.specs.Line.{Line}
-use Rattle.cabinet_text.specs.Session.{lines_of, AllSay, reply, answers, after}
+use Rattle.cabinet_text.specs.Session.{lines_of, AllSay, reply, answers, after, edits}
 use Rattle.cabinet_layout.specs.Image.{Image}
+use Rattle.cabinet.specs.Steps.{IsMemoryRefused, IsReadFault, IsLineTooLong, IsInputTooLong}
 use Rattle.cabinet.specs.declared.session.Count.{Count}
 use Rattle.cabinet.specs.declared.session.RunFault.{RunFault}
 use Rattle.cabinet.specs.declared.session.RunCause.{RunCause}
@@ -12,31 +13,43 @@ use Rattle.cabinet.specs.declared.session.RunCause.TheVariants.{Read, Write, Out
 
 -- The first lines of the input got the answers that the document gives, and the bytes are the image of the document
 -- that they made of it.
-pub record AnswersAsDocument (t : Tree) (input old new bytes : List ℕ) (lines : ℕ) : Type 0 where
+pub record AnswersAsDocument (t : Tree) (input old new bytes : List ℕ) (lines edited : ℕ) : Type 0 where
   pub said : List (Option Line)
   pub say : AllSay (take lines (lines_of input)) said
   pub count : length said ≡ lines
   pub written : new ≡ old ++ answers t said
   pub image : Image (after t said) bytes
+  pub edits_counted : edited ≡ edits t said
 
--- They did, but of the last answer only a prefix was written.
-pub record AnswersCut (t : Tree) (input old new bytes : List ℕ) (lines : ℕ) : Type 0 where
+-- They did, but of the last answer only a prefix was written, which is not all of it where the writer counts no failures.
+pub record AnswersCut (counts : Bool) (t : Tree) (input old new bytes : List ℕ) (lines edited : ℕ) : Type 0 where
   pub before : List (Option Line)
   pub last : Option Line
   pub say : AllSay (take lines (lines_of input)) (before ++ last ∷ [])
   pub count : length (before ++ last ∷ []) ≡ lines
   pub written : Cut (old ++ answers t before) new (reply (after t before) last)
+  pub lost : counts ≡ false → length new < length (old ++ answers t before) + length (reply (after t before) last)
   pub image : Image (after t (before ++ last ∷ [])) bytes
+  pub edits_counted : edited ≡ edits t (before ++ last ∷ [])
 
-abbrev pub AnswersUpTo : RunCause → Tree → (input old new bytes : List ℕ) → ℕ → Type 0
-AnswersUpTo Write t input old new bytes lines = AnswersCut t input old new bytes lines
-AnswersUpTo Read t input old new bytes lines = AnswersAsDocument t input old new bytes lines
-AnswersUpTo OutOfMemory t input old new bytes lines = AnswersAsDocument t input old new bytes lines
-AnswersUpTo LineTooLong t input old new bytes lines = AnswersAsDocument t input old new bytes lines
-AnswersUpTo InputTooLong t input old new bytes lines = AnswersAsDocument t input old new bytes lines
+abbrev pub AnswersUpTo : Bool → RunCause → Tree → (input old new bytes : List ℕ) → (lines edited : ℕ) → Type 0
+AnswersUpTo counts Write t input old new bytes lines edited = AnswersCut counts t input old new bytes lines edited
+AnswersUpTo counts Read t input old new bytes lines edited = AnswersAsDocument t input old new bytes lines edited
+AnswersUpTo counts OutOfMemory t input old new bytes lines edited = AnswersAsDocument t input old new bytes lines edited
+AnswersUpTo counts LineTooLong t input old new bytes lines edited = AnswersAsDocument t input old new bytes lines edited
+AnswersUpTo counts InputTooLong t input old new bytes lines edited = AnswersAsDocument t input old new bytes lines edited
 
--- up to the end of the input, or to the first fault
-abbrev pub WorksInPlace : Tree → (input old new bytes : List ℕ) → Result Count RunFault → Type 0
-WorksInPlace t input old new bytes (Ok n) =
-    AnswersAsDocument t input old new bytes n.lines × (n.lines ≡ length (lines_of input))
-WorksInPlace t input old new bytes (Err f) = AnswersUpTo f.cause t input old new bytes f.lines
+-- what is so of the input where work ends by a fault; `AnswersCut` says what is so of a failed write
+abbrev pub IsMet : RunCause → (input left : List ℕ) → ℕ → Type 0
+IsMet Read input left lines = IsReadFault input left lines
+IsMet Write input left lines = ⊤
+IsMet OutOfMemory input left lines = IsMemoryRefused input lines
+IsMet LineTooLong input left lines = IsLineTooLong input lines
+IsMet InputTooLong input left lines = IsInputTooLong input lines
+
+-- up to the end of the input, or to the first fault, which was met
+abbrev pub WorksInPlace : (counts : Bool) → Tree → (input left old new bytes : List ℕ) → Result Count RunFault → Type 0
+WorksInPlace counts t input left old new bytes (Ok n) =
+    AnswersAsDocument t input old new bytes n.lines n.edits × (n.lines ≡ length (lines_of input))
+WorksInPlace counts t input left old new bytes (Err f) =
+    AnswersUpTo counts f.cause t input old new bytes f.lines f.edits × IsMet f.cause input left f.lines

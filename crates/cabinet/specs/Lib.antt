@@ -6,3 +6,4 @@ pub mod Reporting
 pub mod Failures
 pub mod Progress
 pub mod Headline
+pub mod Laws

@@ -21,8 +21,9 @@ abbrev pub asked_by : Tree → Line → Asked
 asked_by t (get path) = asked_of t path
 asked_by t (set path l) = Answered
 
--- a call fails exactly where its writer does
-abbrev pub Counts : {W A : Type 0} → record { pos : W → ℕ; OBSERVABLE : Bool; COUNTS : Bool; contents : W → List ℕ; failures : W → ℕ; last_error : W → Error }
+-- a call fails exactly where its writer does, by the writer's error
+abbrev pub FailsByWriter : {W A : Type 0} → record { pos : W → ℕ; OBSERVABLE : Bool; COUNTS : Bool; contents : W → List ℕ; failures : W → ℕ; last_error : W → Error }
     → W → W → Result A Error → Type 0
-Counts w old new result =
-    MatchResult result (λ _. w.failures new ≡ w.failures old) (IsCounted w.COUNTS (w.failures old) (w.failures new))
+FailsByWriter w old new result =
+    MatchResult result (λ _. w.failures new ≡ w.failures old)
+    (λ e. IsCounted w.COUNTS (w.failures old) (w.failures new) e × (w.last_error new ≡ e))

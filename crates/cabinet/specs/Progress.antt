@@ -1,6 +1,8 @@
 -- How far a session is in its input.
-use Rattle.std.specs.Prelude.{◌≡◌, ℕ, List, ◌++◌, length, Result, MatchResult}
+use Rattle.std.specs.Prelude.{◌≡◌, ℕ, Bool, List, ◌++◌, length, Result, MatchResult}
+use Rattle.cabinet.specs.Editing.{EditedByLines}
 use Rattle.cabinet.specs.Steps.{Carried, Faulted, newlines, begun_in}
+use Rattle.cabinet.specs.declared.session.Count.{Count}
 use Rattle.cabinet.specs.declared.session.RunCause.{RunCause}
 use Rattle.cabinet.specs.declared.session.begun.Begun.{Begun}
 
@@ -17,12 +19,18 @@ pub record Progress (input x y old new : List ℕ) (lines edited : ℕ) (begun :
 abbrev pub IsAt : List ℕ → List ℕ → List ℕ → List ℕ → List ℕ → Begun → List ℕ → Type 0
 IsAt input x y old new begun rest = Progress input x y old new begun.count.lines begun.count.edits begun.line.items begun.total rest
 
-abbrev pub StopsAt : List ℕ → List ℕ → List ℕ → List ℕ → List ℕ → List ℕ → Begun → RunCause → Type 0
-StopsAt input left x y old new begun cause = Faulted input left x y old new begun.count.lines begun.count.edits cause
+abbrev pub StopsAt : Bool → List ℕ → List ℕ → List ℕ → List ℕ → List ℕ → List ℕ → Begun → RunCause → Type 0
+StopsAt counts input left x y old new begun cause = Faulted counts input left x y old new begun.count.lines begun.count.edits cause
 
 -- A call takes these bytes of the input, or stops. It finds the archive as y and the writer's bytes as mid, and leaves
 -- them as z and new.
-abbrev pub Takes : {A : Type 0} → List ℕ → (y z mid new : List ℕ) → Begun → Begun → Result A RunCause → Type 0
-Takes bytes y z mid new before after result =
+abbrev pub Takes : {A : Type 0} → Bool → List ℕ → (y z mid new : List ℕ) → Begun → Begun → Result A RunCause → Type 0
+Takes counts bytes y z mid new before after result =
     (input x old left more : List ℕ) → IsAt input x y old mid before (bytes ++ more)
-    → MatchResult result (λ _. IsAt input x z old new after more) (StopsAt input left x z old new after)
+    → MatchResult result (λ _. IsAt input x z old new after more) (StopsAt counts input left x z old new after)
+
+-- A call finds the bytes as y and leaves them as z: where y came from other bytes by the lines counted before, z comes
+-- from those by the lines counted after.
+abbrev pub KeepsEdits : (y z : List ℕ) → Count → Count → Type 0
+KeepsEdits y z before after =
+    (x : List ℕ) → EditedByLines x y before.lines before.edits → EditedByLines x z after.lines after.edits

@@ -1,5 +1,5 @@
 -- What the lines of a session do to the bytes that they work in, and to what is written.
-use Rattle.std.specs.Prelude.{◌≡◌, ℕ, ◌+◌, ◌<◌, ◌≤◌, ◌==◌, if◌then◌else◌, List, [], ◌∷◌, ◌++◌, length, take, count_by, Option, All}
+use Rattle.std.specs.Prelude.{◌≡◌, ℕ, ◌+◌, ◌<◌, ◌≤◌, ◌==◌, if◌then◌else◌, Bool, false, List, [], ◌∷◌, ◌++◌, length, take, count_by, Option, All}
 use Rattle.archive_shape_writing.specs.Writing.{Cut}
 use Rattle.cabinet_text.specs.Tree.{Tree}
 use Rattle.cabinet_text.specs.Line.{Line}
@@ -26,8 +26,9 @@ pub record Carried (input x y old new : List ℕ) (lines edited : ℕ) : Type 0 
   pub answered : (t : Tree) → Accepted x t → new ≡ old ++ answers t said
   pub edits_counted : (t : Tree) → Accepted x t → edited ≡ edits t said
 
--- They were, but of the answer to the last of them only a prefix was written.
-pub record CarriedCut (input x y old new : List ℕ) (lines edited : ℕ) : Type 0 where
+-- They were, but of the answer to the last of them only a prefix was written, which is not all of it where the writer
+-- counts no failures.
+pub record CarriedCut (counts : Bool) (input x y old new : List ℕ) (lines edited : ℕ) : Type 0 where
   pub before : List (Option Line)
   pub last : Option Line
   pub say : AllSay (take lines (lines_of input)) (before ++ last ∷ [])
@@ -35,6 +36,8 @@ pub record CarriedCut (input x y old new : List ℕ) (lines edited : ℕ) : Type
   pub short : All (λ line. length line ≤ longest_line) (take lines (lines_of input))
   pub edits_done : Edited x y (before ++ last ∷ [])
   pub answered : (t : Tree) → Accepted x t → Cut (old ++ answers t before) new (reply (after t before) last)
+  pub lost :
+      counts ≡ false → (t : Tree) → Accepted x t → length new < length (old ++ answers t before) + length (reply (after t before) last)
   pub edits_counted : (t : Tree) → Accepted x t → edited ≡ edits t (before ++ last ∷ [])
 
 -- ---- faults
@@ -49,6 +52,10 @@ line_begun begun (b ∷ bs) = if b == 10 then line_begun [] bs else line_begun (
 
 abbrev pub begun_in : List ℕ → List ℕ
 begun_in bytes = line_begun [] bytes
+
+-- A line is left that was not carried out: memory for it was refused.
+abbrev pub IsMemoryRefused : List ℕ → ℕ → Type 0
+IsMemoryRefused input lines = lines < length (lines_of input)
 
 -- Each whole line of what the source gave was carried out.
 pub record IsReadFault (input left : List ℕ) (lines : ℕ) : Type 0 where
@@ -73,25 +80,31 @@ pub record IsInputTooLong (input : List ℕ) (lines : ℕ) : Type 0 where
   pub lines_are : lines ≡ newlines (take longest_input input)
 
 -- What a fault leaves.
-pub data Faulted (input left x y old new : List ℕ) (lines edited : ℕ) (cause : RunCause) : Type 0 where
+pub data Faulted (counts : Bool) (input left x y old new : List ℕ) (lines edited : ℕ) (cause : RunCause) : Type 0 where
   read_failed :
       cause ≡ Read
       → Carried input x y old new lines edited
       → IsReadFault input left lines
-      → Faulted input left x y old new lines edited cause
-  write_failed : cause ≡ Write → CarriedCut input x y old new lines edited → Faulted input left x y old new lines edited cause
+      → Faulted counts input left x y old new lines edited cause
+  write_failed :
+      cause ≡ Write
+      → CarriedCut counts input x y old new lines edited
+      → Faulted counts input left x y old new lines edited cause
   memory_refused :
-      cause ≡ OutOfMemory → Carried input x y old new lines edited → Faulted input left x y old new lines edited cause
+      cause ≡ OutOfMemory
+      → Carried input x y old new lines edited
+      → IsMemoryRefused input lines
+      → Faulted counts input left x y old new lines edited cause
   line_too_long :
       cause ≡ LineTooLong
       → Carried input x y old new lines edited
       → IsLineTooLong input lines
-      → Faulted input left x y old new lines edited cause
+      → Faulted counts input left x y old new lines edited cause
   input_too_long :
       cause ≡ InputTooLong
       → Carried input x y old new lines edited
       → IsInputTooLong input lines
-      → Faulted input left x y old new lines edited cause
+      → Faulted counts input left x y old new lines edited cause
 
 -- The whole input was carried out.
 pub record Completed (input x y old new : List ℕ) (lines edited : ℕ) : Type 0 where

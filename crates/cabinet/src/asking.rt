@@ -1,18 +1,29 @@
+//! Questions about a document in an archive.
 ghost use Rattle.std.specs.Prelude.{◌≡◌, ◌-◌, ◌^◌, ◌<◌, ◌++◌, Some, IfOk, codes};
 ghost use Rattle.archive_shape_writing.specs.Writing.{Writes};
 ghost use Rattle.cabinet_text.specs.Tree.{Tree};
 ghost use Rattle.cabinet_text.specs.Spelling.{head};
-ghost use Rattle.cabinet_text.specs.Line.{IsQuestion};
+ghost use Rattle.cabinet_text.specs.Line.{IsQuestion, get};
 ghost use Rattle.cabinet_text.specs.Session.{reply};
-ghost use Rattle.cabinet_text.specs.View.{line_of};
+ghost use Rattle.cabinet_text.specs.View.{line_of, path_of};
 ghost use Rattle.cabinet_layout.specs.Denotes.{Accepted};
 ghost use Rattle.cabinet_nodes.specs.Reading.{IsNodeOf};
-ghost use Rattle.cabinet.specs.Opening.{asked_by, Counts};
+ghost use Rattle.cabinet.specs.Opening.{asked_by, FailsByWriter};
 
 use crate::opened::Opened;
 use archive_shape_writing::{Error, Writer};
 use cabinet_nodes::NodeRef;
-use cabinet_text::{Asked, Line, write_leaf_line, write_list_line, write_missing};
+use cabinet_text::{Asked, Line, Step, write_leaf_line, write_list_line, write_missing};
+
+/// The path that a line names.
+fn path_in(line: &Line) -> &[Step]
+    ensures { IsQuestion (line_of line.now) → line_of line.now ≡ get (path_of result.now) }
+{
+    match line {
+        Line::Get(path) => path,
+        Line::Set { path, .. } => path,
+    }
+}
 
 impl Opened<'_> {
     /// Writes the line that answers a question. Takes no memory.
@@ -21,13 +32,9 @@ impl Opened<'_> {
         requires room { W.failures writer.old < 2 ^ 64 - 1 }
         ensures written { (t : Tree) → Accepted self.now.bytes.now t → Writes W.Writer writer.old writer.new (reply t (Some (line_of line.now))) result }
         ensures asked { IfOk result (λ a. (t : Tree) → Accepted self.now.bytes.now t → a ≡ asked_by t (line_of line.now)) }
-        ensures counted { Counts W.Writer writer.old writer.new result }
+        ensures counted { FailsByWriter W.Writer writer.old writer.new result }
     {
-        let path = match line {
-            Line::Get(path) => path,
-            Line::Set { .. } => unreachable!(),
-        };
-        let Some(node) = self.find(path) else {
+        let Some(node) = self.find(path_in(line)) else {
             return match write_missing(writer) {
                 Ok(()) => Ok(Asked::Missing),
                 Err(refusal) => Err(refusal),
@@ -44,7 +51,7 @@ impl Opened<'_> {
 fn write_node_line<W: Writer>(node: NodeRef<'_>, writer: &mut W) -> Result<(), Error>
     requires { W.failures writer.old < 2 ^ 64 - 1 }
     ensures written { (t : Tree) → IsNodeOf node.entry t → Writes W.Writer writer.old writer.new (head t ++ codes "\n") result }
-    ensures counted { Counts W.Writer writer.old writer.new result }
+    ensures counted { FailsByWriter W.Writer writer.old writer.new result }
 {
     match node {
         NodeRef::Leaf(leaf) => write_leaf_line(leaf, writer),

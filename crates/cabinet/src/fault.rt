@@ -1,3 +1,4 @@
+//! The faults of the program, and the lines about them.
 ghost use Rattle.std.specs.Prelude.{◌≡◌, ◌-◌, ◌^◌, ◌<◌};
 ghost use Rattle.archive_shape_writing.specs.Writing.{Writes};
 ghost use Rattle.cabinet.specs.Reporting.{cause_name, save_refusal_name, open_refusal_name, run_cause_name, spelled_fault, status_of};

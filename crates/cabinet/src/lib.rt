@@ -2,15 +2,12 @@
 #![tactic(auto)]
 
 mod asking;
-#[cfg(test)]
-mod doubles;
 mod fault;
+mod laws;
 mod opened;
 mod saving;
 mod session;
 mod source;
-#[cfg(test)]
-mod tests;
 mod working;
 
 pub use cabinet_text::{
@@ -18,6 +15,7 @@ pub use cabinet_text::{
     TextRefusal, read_line, read_text,
 };
 pub use fault::{Fault, fault_line};
+pub use laws::{accepted_after_each_line, image_after_each_line, unedited_bytes_stay};
 pub use opened::{OpenRefusal, Opened, check, open};
 pub use saving::{SaveRefusal, save};
 pub use session::{Count, RunCause, RunFault, run};

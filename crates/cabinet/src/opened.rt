@@ -1,3 +1,4 @@
+//! Bytes are checked, opened as the archive of a document, and edited.
 ghost use Rattle.std.specs.Prelude.{◌≡◌, IfOk, IfErr, OnOk, MatchOption};
 ghost use Rattle.cabinet_text.specs.Tree.{Tree};
 ghost use Rattle.cabinet_text.specs.Answering.{outcome, change};
@@ -43,7 +44,8 @@ pub fn check(_alloc: Global, bytes: &[u8]) -> Result<(), OpenRefusal>
     }
 }
 
-/// Opens bytes that are the archive of a document, and no others; refused bytes stay as they were.
+/// Opens bytes that are the archive of a document, and no others. Refused bytes stay as they were: that is proved of
+/// `check`, which this calls, and tested of `open`, since no clause tells a caller what a lent slice holds after an `Err`.
 pub fn open(alloc: Global, bytes: &mut [u8]) -> Result<Opened<'_>, OpenRefusal>
     ensures same { IfOk result (λ o. o.bytes.ghost_name ≡ bytes.entry.ghost_name) }
     ensures contents { IfOk result (λ o. o.bytes.now ≡ bytes.old) }

@@ -1,3 +1,4 @@
+//! Documents are saved as archives.
 ghost use Rattle.std.specs.Prelude.{◌≡◌, ◌-◌, ◌^◌, ◌<◌, ℕ, List, IsTrue, OnOk, OnErr, IfErr};
 ghost use Rattle.archive_shape_writing.specs.Writing.{Cut};
 ghost use Rattle.cabinet_layout.specs.Image.{Image};
@@ -33,7 +34,7 @@ pub fn save<W: Writer>(
     requires room { W.failures writer.old < 2 ^ 64 - 1 }
     ensures saved { OnOk result (IsTrue W.OBSERVABLE → Saved document.now (W.contents writer.old) (W.contents writer.new)) }
     ensures quiet { OnOk result (W.failures writer.new ≡ W.failures writer.old) }
-    ensures refused { IfErr result (IsUnsavedFor document.now W.COUNTS (W.failures writer.old) (W.failures writer.new)) }
+    ensures refused { IfErr result (IsUnsavedFor W.Writer document.now writer.old writer.new) }
     // What the writer took is a prefix of the image.
     ensures cut { OnErr result ((image : List ℕ) → Image document.now image → IsTrue W.OBSERVABLE → Cut (W.contents writer.old) (W.contents writer.new) image) }
 {

@@ -1,11 +1,11 @@
+//! Sessions: the lines of a source, carried out in the bytes of an archive.
 ghost use Rattle.std.specs.Prelude.{◌≡◌, ℕ, ◌-◌, ◌^◌, ◌<◌, IfOk, IfErr, MatchResult, IsTrue};
+ghost use Rattle.cabinet.specs.Editing.{EditedByLines};
 ghost use Rattle.cabinet.specs.Steps.{Completed, Faulted};
 ghost use Rattle.cabinet.specs.Failures.{ReaderFails, WriterFails};
 
 mod begun;
 mod carrying;
-#[cfg(test)]
-mod tests;
 
 use crate::opened::Opened;
 use crate::source::Source;
@@ -80,8 +80,10 @@ pub fn run<R: Source, W: Writer>(
     requires reader_counts { R.failures reader.old < 2 ^ 64 - 1 }
     requires writer_counts { W.failures writer.old < 2 ^ 64 - 1 }
     ensures same { opened.new.bytes.ghost_name ≡ opened.old.bytes.ghost_name }
+    // Whatever reader and writer tell.
+    ensures edits { MatchResult result (λ n. EditedByLines opened.old.bytes.now opened.new.bytes.now n.lines n.edits) (λ f. EditedByLines opened.old.bytes.now opened.new.bytes.now f.lines f.edits) }
     ensures all { IsTrue R.OBSERVABLE → IsTrue W.OBSERVABLE → IfOk result (λ n. Completed (R.left reader.old) opened.old.bytes.now opened.new.bytes.now (W.contents writer.old) (W.contents writer.new) n.lines n.edits) }
-    ensures fault { IsTrue R.OBSERVABLE → IsTrue W.OBSERVABLE → IfErr result (λ f. Faulted (R.left reader.old) (R.left reader.new) opened.old.bytes.now opened.new.bytes.now (W.contents writer.old) (W.contents writer.new) f.lines f.edits f.cause) }
+    ensures fault { IsTrue R.OBSERVABLE → IsTrue W.OBSERVABLE → IfErr result (λ f. Faulted W.COUNTS (R.left reader.old) (R.left reader.new) opened.old.bytes.now opened.new.bytes.now (W.contents writer.old) (W.contents writer.new) f.lines f.edits f.cause) }
     ensures reader_fails { MatchResult result (λ _. R.failures reader.new ≡ R.failures reader.old) (λ f. ReaderFails f.cause (R.failures reader.old) (R.failures reader.new)) }
     ensures writer_fails { MatchResult result (λ _. W.failures writer.new ≡ W.failures writer.old) (λ f. WriterFails W.COUNTS f.cause (W.failures writer.old) (W.failures writer.new)) }
 {

@@ -1,3 +1,4 @@
+//! What the lines of a session are read from.
 ghost use Rattle.std.specs.Prelude.{◌≡◌, ℕ, ◌+◌, ◌-◌, ◌^◌, ◌<◌, ◌≤◌, ◌++◌, List, Bool, [], length, take, IsTrue, IfOk, OnOk, OnErr};
 
 use thiserror::Error;

@@ -1,9 +1,12 @@
-ghost use Rattle.std.specs.Prelude.{◌≡◌, ◌-◌, ◌^◌, ◌<◌, false, IsTrue, IfOk, IfErr};
+//! Working in the bytes of a saved document.
+ghost use Rattle.std.specs.Prelude.{◌≡◌, ◌-◌, ◌^◌, ◌<◌, IsTrue, IfOk, IfErr, OnErr, MatchResult};
 ghost use Rattle.cabinet_text.specs.Tree.{Tree};
 ghost use Rattle.cabinet_layout.specs.Denotes.{Accepted};
-ghost use Rattle.cabinet.specs.Saving.{IsUnsavedFor};
+ghost use Rattle.cabinet.specs.Saving.{HasNoImageFor};
+ghost use Rattle.cabinet.specs.Editing.{EditedByLines};
 ghost use Rattle.cabinet.specs.Steps.{Completed, Faulted};
 ghost use Rattle.cabinet.specs.Headline.{WorksInPlace};
+ghost use Rattle.cabinet.specs.Failures.{ReaderFails, WriterFails};
 
 use crate::opened::{Opened, check};
 use crate::saving::{SaveRefusal, save};
@@ -31,13 +34,13 @@ pub fn run_in<R: Source, W: Writer>(
     requires reader_counts { R.failures reader.old < 2 ^ 64 - 1 }
     requires writer_counts { W.failures writer.old < 2 ^ 64 - 1 }
     ensures kept { ∥ ((t : Tree) × Accepted bytes.new t) ∥₁ }
+    // Whatever reader and writer tell.
+    ensures edits { MatchResult result (λ n. EditedByLines bytes.old bytes.new n.lines n.edits) (λ f. EditedByLines bytes.old bytes.new f.lines f.edits) }
     ensures all { IsTrue R.OBSERVABLE → IsTrue W.OBSERVABLE → IfOk result (λ n. Completed (R.left reader.old) bytes.old bytes.new (W.contents writer.old) (W.contents writer.new) n.lines n.edits) }
-    ensures fault { IsTrue R.OBSERVABLE → IsTrue W.OBSERVABLE → IfErr result (λ f. Faulted (R.left reader.old) (R.left reader.new) bytes.old bytes.new (W.contents writer.old) (W.contents writer.new) f.lines f.edits f.cause) }
+    ensures fault { IsTrue R.OBSERVABLE → IsTrue W.OBSERVABLE → IfErr result (λ f. Faulted W.COUNTS (R.left reader.old) (R.left reader.new) bytes.old bytes.new (W.contents writer.old) (W.contents writer.new) f.lines f.edits f.cause) }
+    ensures reader_fails { MatchResult result (λ _. R.failures reader.new ≡ R.failures reader.old) (λ f. ReaderFails f.cause (R.failures reader.old) (R.failures reader.new)) }
+    ensures writer_fails { MatchResult result (λ _. W.failures writer.new ≡ W.failures writer.old) (λ f. WriterFails W.COUNTS f.cause (W.failures writer.old) (W.failures writer.new)) }
 {
-    match check(alloc, bytes) {
-        Ok(()) => {}
-        Err(_) => unreachable!(),
-    }
     let mut opened = Opened::new(bytes);
     run(alloc, &mut opened, reader, writer)
 }
@@ -52,15 +55,20 @@ pub fn work<R: Source, W: Writer>(
 ) -> Result<Worked, SaveRefusal>
     requires reader_counts { R.failures reader.old < 2 ^ 64 - 1 }
     requires writer_counts { W.failures writer.old < 2 ^ 64 - 1 }
-    ensures works { IsTrue R.OBSERVABLE → IsTrue W.OBSERVABLE → IfOk result (λ w. WorksInPlace document.now (R.left reader.old) (W.contents writer.old) (W.contents writer.new) w.bytes.items w.outcome) }
-    // The document is saved into a vector, which counts no failures.
-    ensures refused { IfErr result (IsUnsavedFor document.now false 0 0) }
+    ensures works { IsTrue R.OBSERVABLE → IsTrue W.OBSERVABLE → IfOk result (λ w. WorksInPlace W.COUNTS document.now (R.left reader.old) (R.left reader.new) (W.contents writer.old) (W.contents writer.new) w.bytes.items w.outcome) }
+    ensures reader_fails { IfOk result (λ w. MatchResult w.outcome (λ _. R.failures reader.new ≡ R.failures reader.old) (λ f. ReaderFails f.cause (R.failures reader.old) (R.failures reader.new))) }
+    ensures writer_fails { IfOk result (λ w. MatchResult w.outcome (λ _. W.failures writer.new ≡ W.failures writer.old) (λ f. WriterFails W.COUNTS f.cause (W.failures writer.old) (W.failures writer.new))) }
+    ensures refused { IfErr result (HasNoImageFor document.now) }
+    ensures unread { OnErr result (reader.new ≡ reader.old) }
+    ensures unwritten { OnErr result (writer.new ≡ writer.old) }
 {
     let mut bytes = Vec::new(alloc);
     match save(alloc, document, &mut bytes) {
         Ok(()) => {}
         Err(refusal) => return Err(refusal),
     }
+    // What was saved is an archive.
+    check(alloc, bytes.as_slice()).unwrap();
     let outcome = run_in(alloc, bytes.as_mut_slice(), reader, writer);
     Ok(Worked { bytes, outcome })
 }

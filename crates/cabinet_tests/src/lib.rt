@@ -2,4 +2,6 @@
 #![tactic(auto)]
 
 #[cfg(test)]
+mod cabinet;
+#[cfg(test)]
 mod nodes;

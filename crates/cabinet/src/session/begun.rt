@@ -1,5 +1,5 @@
-// The line begun.
-ghost use Rattle.std.specs.Prelude.{◌≡◌, ◌≢◌, ℕ, ◌+◌, ◌≤◌, List, [], length, vec_len, IfErr, OnOk};
+//! What a run keeps from one piece of its input to the next.
+ghost use Rattle.std.specs.Prelude.{◌≡◌, ◌≢◌, ℕ, ◌+◌, ◌≤◌, Bool, List, [], length, vec_len, IfErr, OnOk};
 
 use super::{Count, RunCause};
 use std::alloc::Global;
@@ -47,8 +47,12 @@ impl Begun {
         ensures total { OnOk result (self.new.total ≡ self.old.total + length bytes.now) }
         ensures not_read { IfErr result (λ cause. cause ≢ RunCause.Read) }
         ensures not_write { IfErr result (λ cause. cause ≢ RunCause.Write) }
-        ensures taken { newlines bytes.now ≡ 0 → (y new : List ℕ) → Takes bytes.now y y new new self.old self.new result }
+        ensures count { self.new.count ≡ self.old.count }
+        ensures taken { newlines bytes.now ≡ 0 → (counts : Bool) (y new : List ℕ) → Takes counts bytes.now y y new new self.old self.new result }
     {
+        if bytes.is_empty() {
+            return Ok(());
+        }
         if bytes.len() > LONGEST_LINE - self.line.len() {
             return Err(RunCause::LineTooLong);
         }

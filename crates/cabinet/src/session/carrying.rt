@@ -1,4 +1,4 @@
-// Lines are carried out.
+//! The lines of an input are carried out and answered.
 ghost use Rattle.std.specs.Prelude.{◌≡◌, ◌≢◌, ℕ, ◌+◌, ◌-◌, ◌^◌, ◌<◌, ◌≤◌, ◌==◌, ◌++◌, List, [], ◌∷◌, length, drop, IfOk, IfErr, OnOk, MatchResult, option_map, position, IsTrue};
 ghost use Rattle.archive_shape_writing.specs.Writing.{Writes};
 ghost use Rattle.cabinet_text.specs.Tree.{Tree};
@@ -6,11 +6,11 @@ ghost use Rattle.cabinet_text.specs.Line.{Says};
 ghost use Rattle.cabinet_text.specs.Session.{lines_of, reply, edits_by};
 ghost use Rattle.cabinet_text.specs.View.{line_of};
 ghost use Rattle.cabinet_layout.specs.Denotes.{Accepted};
-ghost use Rattle.cabinet.specs.Opening.{Counts};
+ghost use Rattle.cabinet.specs.Opening.{FailsByWriter};
 ghost use Rattle.cabinet.specs.Editing.{Edited};
 ghost use Rattle.cabinet.specs.Steps.{longest_line, newlines, Carried, Faulted, Completed};
 ghost use Rattle.cabinet.specs.Failures.{WriterFails};
-ghost use Rattle.cabinet.specs.Progress.{IsAt, StopsAt, Takes};
+ghost use Rattle.cabinet.specs.Progress.{IsAt, StopsAt, Takes, KeepsEdits};
 
 use super::begun::{Begun, LONGEST_INPUT, LONGEST_LINE};
 use super::{Count, RunCause};
@@ -42,7 +42,7 @@ fn carry_out<W: Writer>(
     ensures same { opened.new.bytes.ghost_name ≡ opened.old.bytes.ghost_name }
     ensures edited { Edited opened.old.bytes.now opened.new.bytes.now (option_map line_of said.now ∷ []) }
     ensures written { (t : Tree) → Accepted opened.old.bytes.now t → Writes W.Writer writer.old writer.new (reply t (option_map line_of said.now)) result }
-    ensures counted { Counts W.Writer writer.old writer.new result }
+    ensures counted { FailsByWriter W.Writer writer.old writer.new result }
     ensures edits_counted { (t : Tree) → Accepted opened.old.bytes.now t → edits.new ≡ edits.old + edits_by t (option_map line_of said.now) }
     ensures edits_grow { edits.new ≤ edits.old + 1 }
 {
@@ -79,13 +79,14 @@ fn answer_line<W: Writer>(
     ensures edits_within { count.new.edits ≤ count.new.lines }
     ensures not_read { IfErr result (λ cause. cause ≢ RunCause.Read) }
     ensures writer_fails { MatchResult result (λ _. W.failures writer.new ≡ W.failures writer.old) (λ cause. WriterFails W.COUNTS cause (W.failures writer.old) (W.failures writer.new)) }
+    ensures edits { KeepsEdits opened.old.bytes.now opened.new.bytes.now count.old count.new }
     ensures carried { IsTrue W.OBSERVABLE → (input x old left : List ℕ) (more : List (List ℕ))
         → Carried input x opened.old.bytes.now old (W.contents writer.old) count.old.lines count.old.edits
         → drop count.old.lines (lines_of input) ≡ line.now ∷ more
         → length line.now ≤ longest_line
         → MatchResult result
         (λ _. Carried input x opened.new.bytes.now old (W.contents writer.new) count.new.lines count.new.edits)
-        (λ cause. Faulted input left x opened.new.bytes.now old (W.contents writer.new) count.new.lines count.new.edits cause) }
+        (λ cause. Faulted W.COUNTS input left x opened.new.bytes.now old (W.contents writer.new) count.new.lines count.new.edits cause) }
 {
     let Ok(said) = read_said(alloc, line) else {
         return Err(RunCause::OutOfMemory);
@@ -111,7 +112,8 @@ fn end_line<W: Writer>(
     ensures total { OnOk result (begun.new.total ≡ begun.old.total + length rest.now + 1) }
     ensures not_read { IfErr result (λ cause. cause ≢ RunCause.Read) }
     ensures writer_fails { MatchResult result (λ _. W.failures writer.new ≡ W.failures writer.old) (λ cause. WriterFails W.COUNTS cause (W.failures writer.old) (W.failures writer.new)) }
-    ensures taken { IsTrue W.OBSERVABLE → newlines rest.now ≡ 0 → Takes (rest.now ++ 10 ∷ []) opened.old.bytes.now opened.new.bytes.now (W.contents writer.old) (W.contents writer.new) begun.old begun.new result }
+    ensures edits { KeepsEdits opened.old.bytes.now opened.new.bytes.now begun.old.count begun.new.count }
+    ensures taken { IsTrue W.OBSERVABLE → newlines rest.now ≡ 0 → Takes W.COUNTS (rest.now ++ 10 ∷ []) opened.old.bytes.now opened.new.bytes.now (W.contents writer.old) (W.contents writer.new) begun.old begun.new result }
 {
     if rest.len() > LONGEST_LINE - begun.line.len() {
         return Err(RunCause::LineTooLong);
@@ -156,7 +158,8 @@ fn feed<W: Writer>(
     ensures same { opened.new.bytes.ghost_name ≡ opened.old.bytes.ghost_name }
     ensures not_read { IfErr result (λ cause. cause ≢ RunCause.Read) }
     ensures writer_fails { MatchResult result (λ _. W.failures writer.new ≡ W.failures writer.old) (λ cause. WriterFails W.COUNTS cause (W.failures writer.old) (W.failures writer.new)) }
-    ensures taken { IsTrue W.OBSERVABLE → Takes piece.now opened.old.bytes.now opened.new.bytes.now (W.contents writer.old) (W.contents writer.new) begun.old begun.new result }
+    ensures edits { KeepsEdits opened.old.bytes.now opened.new.bytes.now begun.old.count begun.new.count }
+    ensures taken { IsTrue W.OBSERVABLE → Takes W.COUNTS piece.now opened.old.bytes.now opened.new.bytes.now (W.contents writer.old) (W.contents writer.new) begun.old begun.new result }
 {
     let mut rest = piece;
     while let Some(end) = newline_in(rest) {
@@ -181,7 +184,8 @@ pub(super) fn take_piece<W: Writer>(
     ensures same { opened.new.bytes.ghost_name ≡ opened.old.bytes.ghost_name }
     ensures not_read { IfErr result (λ cause. cause ≢ RunCause.Read) }
     ensures writer_fails { MatchResult result (λ _. W.failures writer.new ≡ W.failures writer.old) (λ cause. WriterFails W.COUNTS cause (W.failures writer.old) (W.failures writer.new)) }
-    ensures taken { IsTrue W.OBSERVABLE → Takes piece.now opened.old.bytes.now opened.new.bytes.now (W.contents writer.old) (W.contents writer.new) begun.old begun.new result }
+    ensures edits { KeepsEdits opened.old.bytes.now opened.new.bytes.now begun.old.count begun.new.count }
+    ensures taken { IsTrue W.OBSERVABLE → Takes W.COUNTS piece.now opened.old.bytes.now opened.new.bytes.now (W.contents writer.old) (W.contents writer.new) begun.old begun.new result }
 {
     let room = LONGEST_INPUT - begun.total;
     if piece.len() as u64 <= room {
@@ -209,10 +213,11 @@ pub(super) fn end_input<W: Writer>(
     ensures same { opened.new.bytes.ghost_name ≡ opened.old.bytes.ghost_name }
     ensures not_read { IfErr result (λ cause. cause ≢ RunCause.Read) }
     ensures writer_fails { MatchResult result (λ _. W.failures writer.new ≡ W.failures writer.old) (λ cause. WriterFails W.COUNTS cause (W.failures writer.old) (W.failures writer.new)) }
+    ensures edits { KeepsEdits opened.old.bytes.now opened.new.bytes.now begun.old.count begun.new.count }
     ensures ended { IsTrue W.OBSERVABLE → (input x old left : List ℕ) → IsAt input x opened.old.bytes.now old (W.contents writer.old) begun.old []
         → MatchResult result
         (λ _. Completed input x opened.new.bytes.now old (W.contents writer.new) begun.new.count.lines begun.new.count.edits)
-        (StopsAt input left x opened.new.bytes.now old (W.contents writer.new) begun.new) }
+        (StopsAt W.COUNTS input left x opened.new.bytes.now old (W.contents writer.new) begun.new) }
 {
     if begun.line.is_empty() {
         return Ok(());

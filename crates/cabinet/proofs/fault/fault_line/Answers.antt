@@ -1,5 +1,8 @@
 use Rattle.cabinet.proofs.fault.fault_line.Goals as goal
 
+pub returns-in-Usage : goal.returns-in-Usage
+returns-in-Usage g c = rw c.in-Usage.is c.write.ensures
+
 pub returns-in-CannotRead : goal.returns-in-CannotRead
 returns-in-CannotRead g c = rw c.in-CannotRead.is (simp c.as_bytes.ensures.value at c.write_three_pieces.ensures)
 

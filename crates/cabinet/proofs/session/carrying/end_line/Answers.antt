@@ -25,7 +25,7 @@ returns-then-is_empty-clause-taken g c = λ w h input x old left more q.
     (omega arith))
 
 pub returns-in-Err-clause-taken : goal.returns-in-Err-clause-taken
-returns-in-Err-clause-taken g c = λ w h input x old left more q. memory_refused refl q.carried
+returns-in-Err-clause-taken g c = λ w h input x old left more q. memory_refused refl q.carried (progress.line_left _ _ _ _ _ _ _ _ _ _ q (omega (arith, length-append (c.args.rest.now ++ 10 ∷ []) more, length-append c.args.rest.now (10 ∷ []))))
 
 pub returns-clause-taken : goal.returns-clause-taken
 returns-clause-taken g c = λ w h input x old left more q.

@@ -15,6 +15,7 @@ loop-end-preserved g c =
       quiet = c.in-Ok.ensures.writer_fails ∙ i.quiet;
       within = within;
       total = omega (arith, c.in-Ok.ensures.total, parts_length bytes end e, i.total);
+      edits = λ x h. c.in-Ok.ensures.edits x (i.edits x h);
       taken = λ w input x old more p.
           c.in-Ok.ensures.taken w ((newline_at bytes end e).1) input x old [] (behind end bytes ++ more)
           (same_left _ _ _ _ _ _ _ _ _ _ _ (parts bytes more end e) (i.taken w input x old more p));
@@ -29,4 +30,4 @@ returns-in-Err-clause-taken g c = λ w input x old left more p.
 
 pub returns-clause-taken : goal.returns-clause-taken
 returns-clause-taken g c = λ w input x old left more p.
-    c.take.ensures.taken (no_newline c.loop-end.rest.now (sym c.in_default.ensures)) _ _ input x old left more (c.loop-end.invariant.taken w input x old more p)
+    c.take.ensures.taken (no_newline c.loop-end.rest.now (sym c.in_default.ensures)) _ _ _ input x old left more (c.loop-end.invariant.taken w input x old more p)
