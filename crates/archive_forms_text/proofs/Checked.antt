@@ -1,11 +1,11 @@
 -- The check of a text, by its own bytes.
-use Rattle.std.proofs.Common.{◌≡◌, ℕ, ◌<◌, ◌≤◌, ◌^◌, nat_lt, Bool, true, false, cond, List, [], ◌∷◌, slice_index, Option, Some, None, Result, Ok, Err, IsUtf8, refl, sym, ap, subst, ◌∙◌, arith, lt-ltb, append-nil}
+use Rattle.std.proofs.Common.{◌≡◌, ℕ, ◌<◌, ◌≤◌, ◌^◌, Bool, true, false, cond, List, [], ◌∷◌, slice_index, Option, Some, None, Result, Ok, Err, IsUtf8, refl, sym, ap, arith, append-nil}
 use Rattle.std.proofs.lemmas.Bool.{ltb-true}
 use Rattle.archive_shape_layout.specs.Bytes.{word_at, target_from}
 use Rattle.archive_shape_layout.specs.Shape.Shape.{text}
 use Rattle.archive_shape_layout.specs.Shape.Pointee.{str}
 use Rattle.archive_shape_layout.specs.Value.Value.{string}
-use Rattle.archive_shape_layout.specs.Content.{Names, Content, content_of, made, choose, following, IsInline, before_ff, text_length, shape_content, text_content}
+use Rattle.archive_shape_layout.specs.Content.{Names, content_of, made, IsInline, before_ff, text_length}
 use Rattle.archive_shape_layout.specs.Content.Part.{at, behind}
 use Rattle.archive_shape_layout.specs.Content.Label.{written, same}
 use Rattle.archive_shape_layout.specs.Content.Content.{plain}

@@ -19,15 +19,16 @@ module _ {A : Type 0} (old new : ℕ → Progress A) where
     pub here : new n ≡ progress
     pub elsewhere : (other : ℕ) → other ≢ n → new other ≡ old other
 
-  -- starting tells the progress so far, and begins what was not met
+  -- starting begins what was not met
   abbrev pub Begins : ℕ → Progress A → Type 0
   Begins n unmet = IsSet n begun
   Begins n begun = IsSame
   Begins n (ended x) = IsSame
 
-  pub record Starts (n : ℕ) (was_known : Progress A) : Type 0 where
-    pub was : old n ≡ was_known
-    pub begins : Begins n was_known
+  -- it tells the progress that it found
+  pub record Starts (n : ℕ) (found : Progress A) : Type 0 where
+    pub is_found : old n ≡ found
+    pub begins : Begins n found
 
   -- finishing ends what has begun with this outcome, and refuses all else
   abbrev pub Finishes : ℕ → A → Result (Unit {0}) Error → Progress A → Type 0

@@ -27,8 +27,8 @@ pub use archive_shape_portable::{
     ArchivedNonZeroIsize, ArchivedNonZeroU16, ArchivedNonZeroU32, ArchivedNonZeroU64,
     ArchivedNonZeroU128, ArchivedNonZeroUsize, ArchivedU16, ArchivedU32, ArchivedU64, ArchivedU128,
     ArchivedUsize, FixedIsize, FixedNonZeroIsize, FixedNonZeroUsize, FixedUsize, LittleEndian,
-    Native, NoUndef, Pointee, Portable, Shape, Shapes, Width, held_leaf_is_read, illegal_is_refused,
-    leaf_is_read, legal_is_readable, named_is_known, same_shape,
+    Native, NoUndef, Pointee, Portable, Shape, Shapes, Width, held_leaf_is_read,
+    illegal_is_refused, leaf_is_read, legal_is_readable, named_is_known, same_shape,
 };
 pub use archive_shape_references::{
     ArchivePointee, LayoutRaw, Metadata, OwnSeal, Place, Ref, Seal, Slice, Str, overwrite_spares,

@@ -1,10 +1,9 @@
 -- A child on a level that no tree has.
-use Rattle.std.proofs.Common.{◌≡◌, ◌≢◌, ℕ, ◌==◌, ◌<◌, nat_le, Bool, true, false, List, [], ◌∷◌, cond, refl, arith}
+use Rattle.std.proofs.Common.{◌≡◌, Bool, false, List, [], cond, refl, arith}
 use Rattle.std.proofs.lemmas.Bool.{leb-true, ne_eqb}
 use Rattle.archive_shape_layout.specs.Bytes.{window, word_at}
 use Rattle.archive_shape_checking.specs.Range.{Range}
 use Rattle.archive_shape_checking.specs.Questions.{Question, FirstUnanswered}
-use Rattle.archive_shape_checking.specs.Questions.Question.{test}
 use Rattle.archive_shape_checking.specs.Questions.FirstUnanswered.{unanswered_here}
 use Rattle.archive_shape_checking.specs.PartFault.PartFault.{fault_unanswered}
 use Rattle.archive_shape_checking.specs.Laws.{DeepChildIsRefused}

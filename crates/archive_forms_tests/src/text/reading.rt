@@ -56,14 +56,18 @@ fn offsets_of_texts(rt: HostRuntime) {
 }
 
 #[test]
-fn texts_inline_are_read(rt: HostRuntime) -> Result<(), Fail> {
-    let alloc = rt.alloc();
-    let world = checked(alloc, b"world\xff\xff\xff", 0)?;
+fn text_inline_is_read(rt: HostRuntime) -> Result<(), Fail> {
+    let world = checked(rt.alloc(), b"world\xff\xff\xff", 0)?;
     assert_eq!(rt; ArchivedString::as_str(world), "world");
     assert_eq!(rt; ArchivedString::as_bytes(world), "world".as_bytes());
     assert_eq!(rt; ArchivedString::len(world), 5);
     assert!(rt; !ArchivedString::is_empty(world));
-    let full = checked(alloc, b"..12345678", 2)?;
+    Ok(())
+}
+
+#[test]
+fn full_text_inline_is_read(rt: HostRuntime) -> Result<(), Fail> {
+    let full = checked(rt.alloc(), b"..12345678", 2)?;
     assert_eq!(rt; ArchivedString::as_str(full), "12345678");
     assert_eq!(rt; ArchivedString::len(full), 8);
     Ok(())
@@ -78,15 +82,19 @@ fn empty_text_is_read(rt: HostRuntime) -> Result<(), Fail> {
 }
 
 #[test]
-fn texts_out_of_line_are_read(rt: HostRuntime) -> Result<(), Fail> {
-    let alloc = rt.alloc();
+fn text_out_of_line_is_read(rt: HostRuntime) -> Result<(), Fail> {
     let bytes = b"hello world!........\x8c\0\0\0\xec\xff\xff\xff";
-    let hello = checked(alloc, bytes, 20)?;
+    let hello = checked(rt.alloc(), bytes, 20)?;
     assert_eq!(rt; ArchivedString::as_str(hello), "hello world!");
     assert_eq!(rt; ArchivedString::as_bytes(hello), "hello world!".as_bytes());
     assert_eq!(rt; ArchivedString::len(hello), 12);
     assert!(rt; !ArchivedString::is_empty(hello));
-    let ahead = checked(alloc, b"\x89\0\0\0\x08\0\0\0123456789", 0)?;
+    Ok(())
+}
+
+#[test]
+fn text_after_its_own_bytes_is_read(rt: HostRuntime) -> Result<(), Fail> {
+    let ahead = checked(rt.alloc(), b"\x89\0\0\0\x08\0\0\0123456789", 0)?;
     assert_eq!(rt; ArchivedString::as_str(ahead), "123456789");
     Ok(())
 }
