@@ -8,7 +8,7 @@ use Rattle.cabinet_text.specs.Tree.{Leaf, IsLeaf, IsDocument, Tree, leaf, list, 
 use Rattle.cabinet_text.specs.Answering.{fits, change, change_in}
 use Rattle.cabinet_layout.specs.Bytes.{HasBytes}
 use Rattle.cabinet_layout.specs.Node.{elements_at, node_position}
-use Rattle.cabinet_layout.specs.Spelled.{IsLeafAt, IsListAt, IsNodeAt, AreNodesAt}
+use Rattle.cabinet_layout.specs.Fields.{IsLeafAt, IsListAt, IsNodeAt, AreNodesAt}
 use Rattle.cabinet_layout.specs.Image.{own_offset, own_bytes, IsClean, AreClean}
 use Rattle.archive_shape_references.proofs.Written.{length-overwrite, window_before, window_behind}
 use Rattle.cabinet_layout.proofs.Frames.{own_bytes_short, frame_leaf, frame_elements, frame_list, frame_leaves, frame_clean, frame_list_clean, frame_leaf_clean}

@@ -11,7 +11,7 @@ use Rattle.archive_shape_references.specs.Bytes.{overwrite}
 use Rattle.cabinet_text.specs.Tree.{Leaf, leaf, truth, number, text, IsLeaf, IsDocument}
 use Rattle.cabinet_text.specs.Answering.{fits}
 use Rattle.cabinet_layout.specs.Bytes.{HasBytes, zeros, filler, truth_byte, number_bytes}
-use Rattle.cabinet_layout.specs.Spelled.{IsLeafAt}
+use Rattle.cabinet_layout.specs.Fields.{IsLeafAt}
 use Rattle.cabinet_layout.specs.Image.{own_offset, own_bytes, IsClean}
 use Rattle.archive_shape_references.proofs.Written.{window_there, byte_before, window_from}
 use Rattle.cabinet_layout.proofs.Pieces.{stands_before, stands_behind, stands_byte}

@@ -8,7 +8,7 @@ use Rattle.archive_shape_layout.proofs.Unique.{one_value_law}
 use Rattle.archive_shape_writing.specs.declared.error.Error.{Error}
 use Rattle.cabinet_text.specs.Tree.{Tree, Leaf, leaf, list, truth, number, text, Trees, no_trees, more_trees, count, IsLeaf, IsShort, AreLeaves, IsDocument}
 use Rattle.cabinet_layout.specs.Node.{root_position, len_of_list, elements_at}
-use Rattle.cabinet_layout.specs.Spelled.{IsLeafAt, IsListAt, IsNodeAt, AreNodesAt, HasRootNode}
+use Rattle.cabinet_layout.specs.Fields.{IsLeafAt, IsListAt, IsNodeAt, AreNodesAt, HasRootNode}
 use Rattle.cabinet_layout.specs.Denotes.{tagged_value, Denotes, denotes_truth, denotes_number, denotes_text, denotes_list, DenoteAll, denote_none, denote_more}
 use Rattle.cabinet_layout.specs.ArchiveFault.{LeavesRange, PayloadFault, no_truth_value, text_elsewhere, no_text, ElementFault, no_leaf, in_the_leaf, ListFault, out_of_range, not_aligned, in_an_element, NodeFault, no_such_tag, in_the_payload, in_the_list, ArchiveFault, too_short, in_the_root}
 use Rattle.cabinet_layout.specs.Laws.{OneDocument, FaultRefuses, OneFault}

@@ -9,7 +9,7 @@ use Rattle.archive_shape_layout.proofs.Framed.{agrees_within}
 use Rattle.cabinet_text.specs.Tree.{Leaf, truth, number, text, leaf, list, Trees, no_trees, more_trees, count, AreLeaves, IsDocument}
 use Rattle.cabinet_layout.specs.Bytes.{HasBytes, zeros, filler}
 use Rattle.cabinet_layout.specs.Node.{elements_at, or_zero}
-use Rattle.cabinet_layout.specs.Spelled.{IsLeafAt, IsListAt, AreNodesAt}
+use Rattle.cabinet_layout.specs.Fields.{IsLeafAt, IsListAt, AreNodesAt}
 use Rattle.cabinet_layout.specs.Image.{own_offset, own_bytes, IsClean, AreClean}
 use Rattle.cabinet_layout.proofs.Pieces.{window_byte, word_of_window}
 

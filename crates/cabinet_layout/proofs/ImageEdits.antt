@@ -3,7 +3,7 @@ use Rattle.std.proofs.Common.{◌≡◌, ℕ, ◌+◌, ◌*◌, ◌^◌, ◌≤�
 use Rattle.cabinet_text.specs.Tree.{Leaf, Tree, leaf, list, count, IsDocument, Step, key, place, inside, node_at}
 use Rattle.cabinet_text.specs.Answering.{fits, change}
 use Rattle.cabinet_layout.specs.Node.{node_position}
-use Rattle.cabinet_layout.specs.Spelled.{IsNodeAt}
+use Rattle.cabinet_layout.specs.Fields.{IsNodeAt}
 use Rattle.cabinet_layout.specs.Image.{IsClean}
 use Rattle.cabinet_layout.specs.Laws.{written_at, EditKeepsImage}
 use Rattle.cabinet_layout.proofs.Roots.{accepted_says}

@@ -13,7 +13,7 @@ use Rattle.archive_shape_layout.specs.Holds.{end_after}
 use Rattle.cabinet_text.specs.Tree.{Leaf, truth, number, text, Tree, leaf, list, Trees, no_trees, more_trees, count, AreLeaves, IsDocument}
 use Rattle.cabinet_layout.specs.Bytes.{HasBytes, zeros}
 use Rattle.cabinet_layout.specs.Node.{root_position, elements_at, or_zero}
-use Rattle.cabinet_layout.specs.Spelled.{IsListAt, IsNodeAt, AreNodesAt, HasRootNode}
+use Rattle.cabinet_layout.specs.Fields.{IsListAt, IsNodeAt, AreNodesAt, HasRootNode}
 use Rattle.cabinet_layout.specs.Image.{IsClean, AreClean, ArePlaced, IsPast, ArePast, Image}
 use Rattle.cabinet_layout.specs.Written.{leaf_bytes, list_bytes, elements_bytes, image_bytes}
 use Rattle.cabinet_layout.specs.Laws.{OneImage, ImageWritten}

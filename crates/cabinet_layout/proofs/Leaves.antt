@@ -6,7 +6,7 @@ use Rattle.archive_shape_layout.specs.Bytes.{window}
 use Rattle.archive_shape_layout.specs.Content.{IsInline, before_ff}
 use Rattle.cabinet_text.specs.Tree.{Leaf, truth, number, text, leaf, list, Trees, no_trees, more_trees, count, AreLeaves, IsDocument}
 use Rattle.cabinet_layout.specs.Bytes.{HasBytes, zeros, filler, truth_byte, number_bytes}
-use Rattle.cabinet_layout.specs.Spelled.{IsLeafAt, AreNodesAt}
+use Rattle.cabinet_layout.specs.Fields.{IsLeafAt, AreNodesAt}
 use Rattle.cabinet_layout.specs.Image.{IsClean, AreClean}
 use Rattle.cabinet_layout.specs.Written.{leaf_bytes, list_bytes, elements_bytes}
 use Rattle.cabinet_layout.proofs.Pieces.{stands_append, stands_left, stands_right, byte_stands, stands_byte}

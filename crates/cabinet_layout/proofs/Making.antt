@@ -18,7 +18,7 @@ use Rattle.archive_shape_layout.specs.Holds.HoldAll.{holds_none, holds_more}
 use Rattle.cabinet_text.specs.Tree as tree
 use Rattle.cabinet_text.specs.Tree.{Tree, list, Trees, no_trees, more_trees, count, Leaf, AreLeaves, IsDocument}
 use Rattle.cabinet_layout.specs.Node.{node_shape, node_names, payloads, root_position, elements_at}
-use Rattle.cabinet_layout.specs.Spelled.{IsLeafAt, IsListAt, AreNodesAt, HasRootNode, SpelledOut}
+use Rattle.cabinet_layout.specs.Fields.{IsLeafAt, IsListAt, AreNodesAt, HasRootNode, AcceptedByFields}
 use Rattle.cabinet_layout.specs.Denotes.{Denotes, denotes_truth, denotes_number, denotes_text, denotes_list, DenoteAll, denote_none, denote_more, tagged_value, Accepted}
 use Rattle.cabinet_layout.proofs.Lists.{vector_content, elements_content}
 use Rattle.cabinet_layout.proofs.Roots.{list_region, regions_of, root_region, root_content, node_content, choice_content, truth_content, number_content, text_content_is, choose_true, accepted_says}
@@ -142,5 +142,5 @@ unfolding tree_accepted
 regions_made bytes (tree.leaf l) h = refl
 regions_made bytes (list ts) h = refl
 
-pub spelled_out : SpelledOut
-spelled_out bytes t = (λ a. (accepted_says bytes t a).root_node, tree_accepted bytes t)
+pub accepted_by_fields : AcceptedByFields
+accepted_by_fields bytes t = (λ a. (accepted_says bytes t a).root_node, tree_accepted bytes t)

@@ -1,4 +1,4 @@
--- The layout relation at the root, spelled out: what the bytes of a root node say.
+-- The layout relation at the root, field by field: what the bytes of a root node say.
 use Rattle.std.proofs.Common.{◌≡◌, ℕ, zero, suc, ◌+◌, ◌*◌, ◌≤◌, ◌<◌, Bool, true, false, ◌==◌, nat_lt, List, [], ◌∷◌, ◌++◌, length, drop, slice_index, Option, Some, None, refl, sym, subst, ap, ap₂, ◌∙◌, arith, w64, get_or-take, get_or-drop, add-zero, ltb-true, length-take, length-drop}
 use Rattle.std.specs.Prelude.{IsUtf8}
 use Rattle.std.specs.Int.{from_le_bytes, cast_signed}
@@ -21,7 +21,7 @@ use Rattle.cabinet_text.specs.Tree as tree
 use Rattle.cabinet_text.specs.Tree.{Tree, list, Trees, no_trees, more_trees, count, Leaf, AreLeaves, IsDocument}
 use Rattle.cabinet_layout.specs.Node.{node_shape, node_names, payloads, root_position, target_of_list, len_of_list, elements_at}
 use Rattle.cabinet_layout.specs.Denotes.{Denotes, denotes_truth, denotes_number, denotes_text, denotes_list, DenoteAll, denote_none, denote_more, tagged_value, Accepted}
-use Rattle.cabinet_layout.specs.Spelled.{IsLeafAt, AreNodesAt, HasRootNode}
+use Rattle.cabinet_layout.specs.Fields.{IsLeafAt, AreNodesAt, HasRootNode}
 use Rattle.cabinet_layout.proofs.Lists.{elements_span, by_vector}
 use Rattle.cabinet_layout.proofs.Inversions.{none_illegal, lone, passed_on, by_tag, by_leaf, by_text, by_claimed_text}
 

@@ -30,7 +30,7 @@ IsLeafClean bytes pos (text t) =
     × HasBytes bytes (pos + (4 + length t)) (filler (8 - length t))
     × HasBytes bytes (pos + 12) (zeros 12)
 
--- likewise, and the offset and the number of elements of a list are spelled by bytes
+-- likewise, and the offset of a list and its number of elements are stored in little endian order
 abbrev mutual
   pub IsClean : List ℕ → ℕ → Tree → Type 0
   IsClean bytes pos (leaf l) = HasBytes bytes (pos + own_offset l) (own_bytes l) × IsLeafClean bytes pos l

@@ -5,4 +5,4 @@ pub mod Image
 pub mod Written
 pub mod ArchiveFault
 pub mod Laws
-pub mod Spelled
+pub mod Fields

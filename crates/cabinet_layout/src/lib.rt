@@ -1,12 +1,12 @@
 //! The archives of documents: their definitions, and the laws that reading, saving and editing rest on.
 #![tactic(auto)]
 
-ghost use Rattle.cabinet_layout.specs.Spelled.{SpelledOut};
+ghost use Rattle.cabinet_layout.specs.Fields.{AcceptedByFields};
 ghost use Rattle.cabinet_layout.specs.Laws.{OneDocument, OneImage, ImageWritten, FaultRefuses, OneFault, OwnBytesWithin, OwnBytesApart, EditKeepsAccepted, EditKeepsImage, EditsInEitherOrder, RootPositions};
 
 /// What the fields of nodes say is what the layout accepts.
-pub fn spelled_out()
-    ensures { SpelledOut }
+pub fn accepted_by_fields()
+    ensures { AcceptedByFields }
 {}
 
 /// Bytes are the archive of one document at most.

@@ -3,7 +3,7 @@ use Rattle.std.proofs.Common.{◌≡◌, ℕ, zero, suc, ◌+◌, ◌*◌, ◌<�
 use Rattle.archive_shape_writing.specs.declared.error.Error.{Error}
 use Rattle.cabinet_text.specs.Tree.{Leaf, leaf, list, Trees, no_trees, more_trees, count, AreLeaves, IsDocument, Step, node_at, node_in}
 use Rattle.cabinet_layout.specs.ArchiveFault.{ElementFault}
-use Rattle.cabinet_layout.specs.Spelled.{IsLeafAt, AreNodesAt}
+use Rattle.cabinet_layout.specs.Fields.{IsLeafAt, AreNodesAt}
 use Rattle.cabinet_layout.proofs.Faults.{element_fault}
 use Rattle.cabinet_nodes.specs.Reading.{AreElements}
 

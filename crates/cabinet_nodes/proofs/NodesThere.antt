@@ -1,5 +1,5 @@
 -- What the bytes of a node say, where it is known that one stands there.
-use Rattle.std.proofs.Common.{◌≡◌, ℕ, ◌+◌, ◌-◌, ◌<◌, ◌≤◌, ◌^◌, ◌==◌, List, length, Ok, Err, inl, inr, refl, sym, ap, subst, arith, slice_index, FitsSigned, w64}
+use Rattle.std.proofs.Common.{◌≡◌, ℕ, ◌+◌, ◌<◌, ◌≤◌, ◌^◌, List, length, Ok, Err, inl, inr, refl, sym, ap, subst, arith, slice_index, FitsSigned, w64}
 use Rattle.std.proofs.lemmas.Bool.{lt-ltb, le-ltb}
 use Rattle.std.proofs.lemmas.Bool.Decides.{leb_tells}
 use denote.Struct.Props.{props}
@@ -14,7 +14,7 @@ use Rattle.archive_shape_writing.specs.declared.error.Error.{Error}
 use Rattle.cabinet_text.specs.Tree.{Leaf, truth, number, text, Tree, leaf, list, IsDocument}
 use Rattle.cabinet_layout.specs.Node.{len_of_list}
 use Rattle.cabinet_layout.specs.ArchiveFault.{text_elsewhere, no_text, ElementFault, in_the_leaf}
-use Rattle.cabinet_layout.specs.Spelled.{IsLeafAt, IsListAt, IsNodeAt}
+use Rattle.cabinet_layout.specs.Fields.{IsLeafAt, IsListAt, IsNodeAt}
 use Rattle.cabinet_layout.proofs.Faults.{leaf_tag}
 use Rattle.cabinet_layout.proofs.Pieces.{length-window}
 use Rattle.cabinet_nodes.specs.Reading.{HasInlineText, IsNoInlineText, is_elsewhere, is_no_text, IsDocumentLeafAt, HasLeafAt, HasNodeAt}

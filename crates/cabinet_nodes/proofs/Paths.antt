@@ -6,7 +6,7 @@ use Rattle.cabinet_text.specs.Tree.{Leaf, truth, number, text, Tree, leaf, list,
 use Rattle.cabinet_text.specs.View.{lent_leaf}
 use Rattle.cabinet_layout.specs.Node.{root_position, elements_at, node_position}
 use Rattle.cabinet_layout.specs.Denotes.{Accepted}
-use Rattle.cabinet_layout.specs.Spelled.{IsLeafAt, IsNodeAt}
+use Rattle.cabinet_layout.specs.Fields.{IsLeafAt, IsNodeAt}
 use Rattle.cabinet_layout.proofs.Roots.{accepted_says}
 use Rattle.cabinet_nodes.specs.Reading.{HasNodeAt, IsReadAt, IsNodeOf, StepsTo, StepsNowhere, LeadsNowhere, LeadsTo}
 use Rattle.cabinet_nodes.specs.declared.reading.list.Elements.{Elements}

@@ -7,7 +7,7 @@ use Rattle.cabinet_text.specs.Tree.{Leaf, Tree, leaf, list, Trees, count, AreLea
 use Rattle.cabinet_text.specs.View.{lent_leaf}
 use Rattle.cabinet_layout.specs.Node.{elements_at}
 use Rattle.cabinet_layout.specs.Denotes.{Accepted}
-use Rattle.cabinet_layout.specs.Spelled.{IsLeafAt, IsListAt, IsNodeAt, AreNodesAt}
+use Rattle.cabinet_layout.specs.Fields.{IsLeafAt, IsListAt, IsNodeAt, AreNodesAt}
 use Rattle.cabinet_layout.specs.ArchiveFault.{ElementFault}
 use Rattle.cabinet_nodes.specs.declared.reading.node.NodeRef.{NodeRef}
 use Rattle.cabinet_nodes.specs.declared.reading.node.NodeRef.TheVariants as lent

@@ -3,7 +3,7 @@ ghost use Rattle.std.specs.Prelude.{◌≡◌, ℕ, ◌+◌, ◌*◌, ◌^◌, �
 ghost use Rattle.archive_shape_layout.specs.Bytes as layout;
 ghost use Rattle.cabinet_layout.specs.Node.{elements_at, len_of_list, target_of_list};
 ghost use Rattle.cabinet_layout.specs.ArchiveFault.{LeavesRange, ListFault};
-ghost use Rattle.cabinet_layout.specs.Spelled.{IsListAt};
+ghost use Rattle.cabinet_layout.specs.Fields.{IsListAt};
 ghost use Rattle.cabinet_nodes.specs.Reading.{AreElements, IsFirstElementFault};
 
 use super::leaf::check_leaf;

@@ -1,7 +1,7 @@
-use Rattle.std.proofs.Common.{◌≡◌, ◌+◌, length, sym, ap, subst, ◌∙◌, arith}
+use Rattle.std.proofs.Common.{◌+◌, length, sym, ap, subst, ◌∙◌, arith}
 use Rattle.archive_shape_references.specs.Bytes.{overwrite}
-use Rattle.cabinet_text.specs.Tree.{leaf, IsDocument}
-use Rattle.cabinet_text.specs.View.{lent_leaf, node_tree}
+use Rattle.cabinet_text.specs.Tree.{IsDocument}
+use Rattle.cabinet_text.specs.View.{lent_leaf}
 use Rattle.cabinet_layout.specs.Image.{own_offset, own_bytes}
 use Rattle.cabinet_layout.specs.Written.{image_bytes}
 use Rattle.cabinet_layout.proofs.Frames.{own_bytes_short}

@@ -1,7 +1,7 @@
-use Rattle.std.proofs.Common.{◌≡◌, ◌+◌, ◌<◌, ◌^◌, ap, sym, subst, arith, ◌∙◌}
+use Rattle.std.proofs.Common.{◌≡◌, ◌+◌, sym, subst, arith}
 use Rattle.archive_shape_layout.specs.Bytes.{word_at}
 use Rattle.cabinet_layout.specs.Node.{elements_at, len_of_list}
-use Rattle.cabinet_layout.specs.Spelled.{IsListAt}
+use Rattle.cabinet_layout.specs.Fields.{IsListAt}
 use Rattle.cabinet_nodes.proofs.Targets.{only_back}
 use Rattle.cabinet_nodes.proofs.reading.list.list_at.Goals as goal
 

@@ -5,7 +5,7 @@ use Rattle.cabinet_text.specs.Tree.{Tree, leaf, list, IsDocument}
 use Rattle.cabinet_layout.specs.Node.{root_position, target_of_list, len_of_list, elements_at}
 use Rattle.cabinet_layout.specs.Denotes.{Accepted}
 use Rattle.cabinet_layout.specs.ArchiveFault.{LeavesRange, ElementFault, no_leaf, in_the_leaf, in_an_element, NodeFault, no_such_tag, in_the_payload, in_the_list, ArchiveFault, in_the_root}
-use Rattle.cabinet_layout.specs.Spelled.{IsListAt, IsNodeAt, AreNodesAt}
+use Rattle.cabinet_layout.specs.Fields.{IsListAt, IsNodeAt, AreNodesAt}
 use Rattle.cabinet_layout.proofs.Making.{tree_accepted}
 use Rattle.cabinet_nodes.specs.Reading.{HasLeafAt, AreElements, IsFirstElementFault}
 use Rattle.cabinet_nodes.proofs.reading.node.check_root.Goals as goal

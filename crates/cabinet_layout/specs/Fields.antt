@@ -45,5 +45,5 @@ pub record HasRootNode (bytes : List ℕ) (t : Tree) : Type 0 where
   pub document : IsDocument t
 
 -- such bytes are just those that the layout accepts
-abbrev pub SpelledOut : Type 0
-SpelledOut = (bytes : List ℕ) (t : Tree) → Accepted bytes t ↔ HasRootNode bytes t
+abbrev pub AcceptedByFields : Type 0
+AcceptedByFields = (bytes : List ℕ) (t : Tree) → Accepted bytes t ↔ HasRootNode bytes t
