@@ -1,5 +1,6 @@
 //! The two commands of cab in plain Rust, for documents of one leaf and lists of leaves: what bench/run.sh measures cab
-//! against. Refused input ends with a panic or one line; its wording is not that of cab.
+//! against. Archives and answers are those of cab, and so is which texts and archives are refused; the wording of a refusal
+//! is not, and lines have no longest.
 
 use std::env;
 use std::error::Error;
