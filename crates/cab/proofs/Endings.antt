@@ -1,5 +1,5 @@
 -- How a run in an archive file ends.
-use Rattle.std.proofs.Common.{◌≡◌, ℕ, ◌<◌, Bool, true, false, suc, zero, List, Ok, Err, refl, sym, ap, subst, arith}
+use Rattle.std.proofs.Common.{◌≡◌, ℕ, ◌<◌, Bool, true, false, suc, zero, List, Ok, Err, refl, sym, subst, arith}
 use Rattle.std.specs.Prelude.{String, Result, MatchResult}
 use Rattle.std.specs.declared.alloc.Global.{Global}
 use Rattle.std.specs.Coded.{Coded-set, coded_list, coded_ℕ}
@@ -9,11 +9,9 @@ use Rattle.cabinet_layout.specs.Denotes.{Accepted}
 use Rattle.cabinet.specs.Editing.{EditedByLines}
 use Rattle.cabinet.proofs.SessionLaws.{unedited_bytes_stay}
 use Rattle.cabinet.specs.declared.fault.Fault.{Fault}
-use Rattle.cabinet.specs.declared.fault.Fault.TheVariants.{CannotWrite, Run}
 use Rattle.cabinet.specs.declared.session.Count.{Count}
 use Rattle.cabinet.specs.declared.session.RunFault.{RunFault}
-use Rattle.cabinet.specs.declared.session.RunCause.TheVariants.{Write}
-use Rattle.cab.specs.Ending.{IsFlushed, IsFirstFault, EditedTo, EditsArchive}
+use Rattle.cab.specs.Ending.{IsFlushed, IsFirstFault, EditsArchive}
 
 -- the counts of a run are those of its lines
 abbrev pub EditsCounted : (old new : List ℕ) → Result Count RunFault → Type 0

@@ -1,16 +1,16 @@
 -- The laws of sessions.
-use Rattle.std.proofs.Common.{◌≡◌, ℕ, ◌+◌, suc, zero, List, [], ◌∷◌, take, refl, sym, ap, subst, ◌∙◌, arith, Option, Some, None}
-use Rattle.cabinet_text.specs.Tree.{Tree, Leaf, Step, IsLeaf}
-use Rattle.cabinet_text.specs.Answering.{outcome, change}
+use Rattle.std.proofs.Common.{◌≡◌, ℕ, suc, zero, List, [], ◌∷◌, refl, sym, ap, ◌∙◌, arith, Option, Some, None}
+use Rattle.cabinet_text.specs.Tree.{Tree}
+use Rattle.cabinet_text.specs.Answering.{outcome}
 use Rattle.cabinet_text.specs.declared.answer.SetAnswer.{SetAnswer}
 use Rattle.cabinet_text.specs.declared.answer.SetAnswer.TheVariants.{Done, Missing, Refused}
 use Rattle.cabinet_text.specs.Line.{Line, get, set, Says}
-use Rattle.cabinet_text.specs.Session.{AllSay, next, after, edits, edits_by, one_if_done}
+use Rattle.cabinet_text.specs.Session.{next, edits, edits_by, one_if_done}
 use Rattle.cabinet_layout.specs.Denotes.{Accepted}
 use Rattle.cabinet_layout.specs.Image.{Image}
 use Rattle.cabinet_layout.specs.Laws.{written_at}
 use Rattle.cabinet_nodes.specs.Setting.{put_if_done}
-use Rattle.cabinet.specs.Editing.{bytes_next, bytes_after, EditedByLines}
+use Rattle.cabinet.specs.Editing.{bytes_next, bytes_after}
 use Rattle.cabinet.specs.Laws.{AcceptedAfterEachLine, ImageAfterEachLine, UneditedBytesStay}
 use Rattle.cabinet.proofs.Setting.{document_of, image_of}
 
