@@ -91,8 +91,10 @@ impl<T: ArchivePointee, O: Offset> Portable for RelPtr<T, O> {
 
     ghost aligns = { pointer_aligns O.ALIGN T.ArchivedMetadata.ALIGN O.aligns T.ArchivedMetadata.aligns };
 
-    ghost known = { λ names has. (O.known names (first_types names O.named T.ArchivedMetadata.named has),
-        T.ArchivedMetadata.known names (other_types names O.named T.ArchivedMetadata.named has)) };
+    ghost known = { λ names has. (
+      O.known names (first_types names O.named T.ArchivedMetadata.named has),
+      T.ArchivedMetadata.known names (other_types names O.named T.ArchivedMetadata.named has),
+    ) };
 }
 
 impl<T: Portable, O: Offset> RelPtr<T, O> {
