@@ -1,16 +1,16 @@
 -- The lengths that metadata gives, and the extents of what pointers lead to.
-use Rattle.std.proofs.Common.{◌≡◌, ℕ, ◌+◌, ◌*◌, ◌-◌, ◌^◌, ◌<◌, min, List, [], ◌∷◌, ◌++◌, drop, length, ap, sym, ◌∙◌, refl, arith}
+use Rattle.std.proofs.Common.{◌≡◌, ℕ, ◌-◌, ◌^◌, ◌<◌, min, List, [], ◌∷◌, ◌++◌, length, ap, sym, ◌∙◌, refl, arith}
 use Rattle.std.proofs.Math.Nat.{min-eq_left}
 use Rattle.std.proofs.lemmas.List.{drop_at}
 use Rattle.std.proofs.lemmas.Nat.{from_le_bytes-to_le_bytes_4}
 use Rattle.std.specs.Int.{w32, from_le_bytes, to_le_bytes}
 use Rattle.archive_shape_layout.specs.Bytes.{window, word_at}
-use Rattle.archive_shape_layout.specs.Shape.{Pointee, size_of, element_size, element_align}
+use Rattle.archive_shape_layout.specs.Shape.{size_of}
 use Rattle.archive_shape_layout.specs.Shape.Pointee.{sized, slice, str}
 use Rattle.archive_shape_layout.specs.Content.{elements, pointee_content}
 use Rattle.archive_shape_layout.specs.Content.Part.{at}
 use Rattle.archive_shape_layout.specs.Content.Label.{same, whole, written}
-use Rattle.archive_shape_references.specs.Pointees.{extent_of, Claims, ExtentIsClaimed}
+use Rattle.archive_shape_references.specs.Pointees.{ExtentIsClaimed}
 
 -- a word after an offset of four bytes
 pub word_after : (metadata : List ℕ) (n : ℕ) → n < 2 ^ 32 → to_le_bytes w32 n ≡ metadata
