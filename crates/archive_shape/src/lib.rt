@@ -3,110 +3,36 @@
 
 mod copy;
 mod key;
-mod laws;
+pub mod laws;
 mod memory;
 mod pooling;
 mod sharing;
 mod steps;
 
-pub use archive_shape_checking::ArchiveContext;
-pub use archive_shape_checking::CheckBytes;
-pub use archive_shape_checking::PushedRange;
-pub use archive_shape_checking::SharedContext;
-pub use archive_shape_checking::ValidationState;
-pub use archive_shape_checking::accepted_is_answered;
-pub use archive_shape_checking::check_leaf;
-pub use archive_shape_checking::deep_child_is_refused;
-pub use archive_shape_checking::fault_refuses;
-pub use archive_shape_checking::one_fault;
-pub use archive_shape_layout::alignments_are_small_powers;
-pub use archive_shape_layout::ascent_is_apart;
-pub use archive_shape_layout::ascent_splits;
-pub use archive_shape_layout::edit_of_leaf;
-pub use archive_shape_layout::edit_of_text;
-pub use archive_shape_layout::frame;
-pub use archive_shape_layout::one_value;
-pub use archive_shape_layout::paths_join;
-pub use archive_shape_layout::root_regions;
-pub use archive_shape_layout::value_at_path;
-pub use archive_shape_pointers::Offset;
-pub use archive_shape_pointers::RawRelPtr;
-pub use archive_shape_pointers::RawRelPtrI8;
-pub use archive_shape_pointers::RawRelPtrI16;
-pub use archive_shape_pointers::RawRelPtrI32;
-pub use archive_shape_pointers::RawRelPtrI64;
-pub use archive_shape_pointers::RawRelPtrU8;
-pub use archive_shape_pointers::RawRelPtrU16;
-pub use archive_shape_pointers::RawRelPtrU32;
-pub use archive_shape_pointers::RawRelPtrU64;
-pub use archive_shape_pointers::RelPtr;
-pub use archive_shape_pointers::signed_offset;
-pub use archive_shape_portable::Alignment;
-pub use archive_shape_portable::ArchivedChar;
-pub use archive_shape_portable::ArchivedI16;
-pub use archive_shape_portable::ArchivedI32;
-pub use archive_shape_portable::ArchivedI64;
-pub use archive_shape_portable::ArchivedI128;
-pub use archive_shape_portable::ArchivedIsize;
-pub use archive_shape_portable::ArchivedLeaf;
-pub use archive_shape_portable::ArchivedNonZeroI16;
-pub use archive_shape_portable::ArchivedNonZeroI32;
-pub use archive_shape_portable::ArchivedNonZeroI64;
-pub use archive_shape_portable::ArchivedNonZeroI128;
-pub use archive_shape_portable::ArchivedNonZeroIsize;
-pub use archive_shape_portable::ArchivedNonZeroU16;
-pub use archive_shape_portable::ArchivedNonZeroU32;
-pub use archive_shape_portable::ArchivedNonZeroU64;
-pub use archive_shape_portable::ArchivedNonZeroU128;
-pub use archive_shape_portable::ArchivedNonZeroUsize;
-pub use archive_shape_portable::ArchivedU16;
-pub use archive_shape_portable::ArchivedU32;
-pub use archive_shape_portable::ArchivedU64;
-pub use archive_shape_portable::ArchivedU128;
-pub use archive_shape_portable::ArchivedUsize;
-pub use archive_shape_portable::FixedIsize;
-pub use archive_shape_portable::FixedNonZeroIsize;
-pub use archive_shape_portable::FixedNonZeroUsize;
-pub use archive_shape_portable::FixedUsize;
-pub use archive_shape_portable::LittleEndian;
-pub use archive_shape_portable::Native;
-pub use archive_shape_portable::NoUndef;
-pub use archive_shape_portable::Pointee;
-pub use archive_shape_portable::Portable;
-pub use archive_shape_portable::Shape;
-pub use archive_shape_portable::Shapes;
-pub use archive_shape_portable::Width;
-pub use archive_shape_portable::held_leaf_is_read;
-pub use archive_shape_portable::illegal_is_refused;
-pub use archive_shape_portable::leaf_is_read;
-pub use archive_shape_portable::legal_is_readable;
-pub use archive_shape_portable::named_is_known;
-pub use archive_shape_portable::same_shape;
-pub use archive_shape_references::ArchivePointee;
-pub use archive_shape_references::LayoutRaw;
-pub use archive_shape_references::Metadata;
-pub use archive_shape_references::OwnSeal;
-pub use archive_shape_references::Place;
-pub use archive_shape_references::Ref;
-pub use archive_shape_references::Seal;
-pub use archive_shape_references::Slice;
-pub use archive_shape_references::Str;
-pub use archive_shape_references::extent_is_claimed;
-pub use archive_shape_references::overwrite_spares;
-pub use archive_shape_references::sealed_leaf;
-pub use archive_shape_references::sealed_text;
-pub use archive_shape_writing::Error;
-pub use archive_shape_writing::Positional;
-pub use archive_shape_writing::Writer;
-pub use archive_shape_writing::write_all_pieces;
-pub use archive_shape_writing::write_three_pieces;
-pub use archive_shape_writing::write_two_pieces;
+pub use archive_shape_checking::{
+    ArchiveContext, CheckBytes, PushedRange, SharedContext, ValidationState, check_leaf,
+};
+pub use archive_shape_pointers::{
+    Offset, RawRelPtr, RawRelPtrI8, RawRelPtrI16, RawRelPtrI32, RawRelPtrI64, RawRelPtrU8,
+    RawRelPtrU16, RawRelPtrU32, RawRelPtrU64, RelPtr, signed_offset,
+};
+pub use archive_shape_portable::{
+    Alignment, ArchivedChar, ArchivedI16, ArchivedI32, ArchivedI64, ArchivedI128, ArchivedIsize,
+    ArchivedLeaf, ArchivedNonZeroI16, ArchivedNonZeroI32, ArchivedNonZeroI64, ArchivedNonZeroI128,
+    ArchivedNonZeroIsize, ArchivedNonZeroU16, ArchivedNonZeroU32, ArchivedNonZeroU64,
+    ArchivedNonZeroU128, ArchivedNonZeroUsize, ArchivedU16, ArchivedU32, ArchivedU64, ArchivedU128,
+    ArchivedUsize, FixedIsize, FixedNonZeroIsize, FixedNonZeroUsize, FixedUsize, LittleEndian,
+    Native, NoUndef, Pointee, Portable, Shape, Shapes, Width, same_shape,
+};
+pub use archive_shape_references::{
+    ArchivePointee, LayoutRaw, Metadata, OwnSeal, Place, Ref, Seal, Slice, Str,
+};
+pub use archive_shape_writing::{
+    Error, Positional, Writer, write_all_pieces, write_three_pieces, write_two_pieces,
+};
 pub use copy::CopyOptimization;
 pub use key::ArchivedKey;
-pub use laws::keys_of_one_value_are_alike;
 pub use memory::Allocator;
-pub use pooling::Pooling;
-pub use pooling::PoolingState;
-pub use sharing::Sharing;
-pub use sharing::SharingState;
+pub use pooling::{Pooling, PoolingState};
+pub use sharing::{Sharing, SharingState};
 pub use steps::Steps;
