@@ -66,8 +66,5 @@ pub(crate) fn unescape_text(alloc: Global, argument: &[u8]) -> Result<String, Al
     ensures { IfOk result (λ text. argument.now ≡ escaped (string_bytes text)) }
 {
     let bytes = unescape(alloc, argument)?;
-    match String::from_utf8(bytes) {
-        Ok(text) => Ok(text),
-        Err(_) => unreachable!(),
-    }
+    Ok(String::from_utf8(bytes).unwrap())
 }
