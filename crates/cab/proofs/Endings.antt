@@ -11,7 +11,7 @@ use Rattle.cabinet.proofs.SessionLaws.{unedited_bytes_stay}
 use Rattle.cabinet.specs.declared.fault.Fault.{Fault}
 use Rattle.cabinet.specs.declared.session.Count.{Count}
 use Rattle.cabinet.specs.declared.session.RunFault.{RunFault}
-use Rattle.cab.specs.Ending.{IsFlushed, IsFirstFault, EditsArchive}
+use Rattle.cab.specs.Ending.{IsFlushed, IsFirstFault, IsArchive, EditsArchive}
 
 -- the counts of a run are those of its lines
 abbrev pub EditsCounted : (old new : List ℕ) → Result Count RunFault → Type 0
@@ -38,14 +38,15 @@ some_edit edits zero kept same lost h = let k : kept ≡ true = h same in absurd
 some_edit edits (suc n) kept same lost h = omega arith
 
 pub ends_by : (old new : List ℕ) (path : String Global) (r : Result Count RunFault) (edits : ℕ) (kept : Bool) (ending : Result (Unit {0}) Fault)
+    → IsArchive old
     → EditsCounted old new r
     → MatchResult r (λ n. edits ≡ n.edits) (λ f. edits ≡ f.edits)
     → (edits ≡ 0 → kept ≡ true)
     → IsFirstFault r kept path ending
     → EditsArchive old new path ending
-ends_by old new path (Ok n) edits true (Ok done) e c k f = record { lines = n.lines; edits = n.edits; edited = e }
-ends_by old new path (Ok n) edits true (Err fault) e c k f = absurd (cc)
-ends_by old new path (Ok n) edits false ending e c k f =
+ends_by old new path (Ok n) edits true (Ok done) a e c k f = (a, record { lines = n.lines; edits = n.edits; edited = e })
+ends_by old new path (Ok n) edits true (Err fault) a e c k f = absurd (cc)
+ends_by old new path (Ok n) edits false ending a e c k f =
     let some = some_edit edits n.edits false c refl k in
-    subst (EditsArchive old new path) (sym f) (refl, (record { lines = n.lines; edits = n.edits; edited = e }, some))
-ends_by old new path (Err fault) edits kept ending e c k f = subst (EditsArchive old new path) (sym f) e
+    subst (EditsArchive old new path) (sym f) (refl, a, (record { lines = n.lines; edits = n.edits; edited = e }, some))
+ends_by old new path (Err fault) edits kept ending a e c k f = subst (EditsArchive old new path) (sym f) (a, e)

@@ -1,6 +1,8 @@
 -- What is told of a run in which more than one thing may fail.
 use Rattle.std.specs.Prelude.{◌≡◌, ℕ, ◌<◌, Bool, true, false, List, String, Result, Ok, Err, IsOk}
 use Rattle.std.specs.declared.alloc.Global.{Global}
+use Rattle.cabinet_text.specs.Tree.{Tree}
+use Rattle.cabinet_layout.specs.Denotes.{Accepted}
 use Rattle.cabinet.specs.Opening.{IsRefusedFor}
 use Rattle.cabinet.specs.Editing.{EditedByLines}
 use Rattle.cabinet.specs.declared.fault.Fault.{Fault}
@@ -27,12 +29,16 @@ pub record EditedTo (old new : List ℕ) : Type 0 where
   pub edits : ℕ
   pub edited : EditedByLines old new lines edits
 
--- What working in the bytes of a file comes to: lines were carried out, up to a fault of the run; there was an edit,
--- which could not be written back; or the bytes are no archive, and are as they were.
+-- they are the archive of some document
+abbrev pub IsArchive : List ℕ → Type 0
+IsArchive bytes = ∥ ((t : Tree) × Accepted bytes t) ∥₁
+
+-- What working in the bytes of a file comes to: they are an archive, and lines were carried out, up to a fault of the run;
+-- or there was an edit too, which could not be written back; or they are no archive, and are as they were.
 abbrev pub EditsArchive : (old new : List ℕ) → String Global → Result (Unit {0}) Fault → Type 0
-EditsArchive old new path (Ok done) = EditedTo old new
-EditsArchive old new path (Err (Run fault)) = EditedByLines old new fault.lines fault.edits
-EditsArchive old new path (Err (CannotWrite other)) = (other ≡ path) × ((e : EditedTo old new) × (0 < e.edits))
+EditsArchive old new path (Ok done) = IsArchive old × EditedTo old new
+EditsArchive old new path (Err (Run fault)) = IsArchive old × EditedByLines old new fault.lines fault.edits
+EditsArchive old new path (Err (CannotWrite other)) = (other ≡ path) × IsArchive old × ((e : EditedTo old new) × (0 < e.edits))
 EditsArchive old new path (Err (Open refusal)) = IsRefusedFor old refusal × (new ≡ old)
 EditsArchive old new path (Err Usage) = ⊥
 EditsArchive old new path (Err (CannotRead other)) = ⊥
@@ -43,7 +49,7 @@ EditsArchive old new path (Err (Save refusal)) = ⊥
 abbrev pub EndsRunBy : String Global → Fault → Type 0
 EndsRunBy path (CannotRead other) = other ≡ path
 EndsRunBy path (Open refusal) = (bytes : List ℕ) × IsRefusedFor bytes refusal
-EndsRunBy path (Run fault) = (old : List ℕ) × (new : List ℕ) × EditedByLines old new fault.lines fault.edits
+EndsRunBy path (Run fault) = (old : List ℕ) × (new : List ℕ) × IsArchive old × EditedByLines old new fault.lines fault.edits
 EndsRunBy path (CannotWrite other) = other ≡ path
 EndsRunBy path Usage = ⊥
 EndsRunBy path (Text refusal) = ⊥
