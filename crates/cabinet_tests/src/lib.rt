@@ -2,6 +2,6 @@
 #![tactic(auto)]
 
 #[cfg(test)]
-mod cabinet;
+mod archives;
 #[cfg(test)]
 mod nodes;
