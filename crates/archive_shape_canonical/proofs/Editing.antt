@@ -1,0 +1,656 @@
+-- A write to one leaf's own bytes leaves a neat reading neat.
+use Rattle.std.proofs.Common.{Bool, true, false, ◌≡◌, ℕ, zero, suc, ◌+◌, ◌-◌, ◌*◌, ◌≤◌, ◌<◌, List, [], ◌∷◌, ◌++◌, drop, length, slice_index, Some, refl, ap, ap₂, sym, subst, ◌∙◌, arith, le_refl, ◌⊎◌, inl, inr, ⊎_elim, get_or-take, get_or-drop, add_assoc, nat_le, ◌&&◌, max, ◌==◌}
+use Rattle.archive_shape_layout.specs.Bytes.{window, align_up, word_at}
+use Rattle.archive_shape_layout.specs.Shape.{Shape, size_of, align_of}
+use Rattle.archive_shape_layout.specs.Shape.Shape.{number, nonzero, truth, character, text, tuple, array, option, result, choice, box, vector, shared, weak, tree, table, index_map, named}
+use Rattle.archive_shape_layout.specs.Shape.Pointee.{sized, slice, str}
+use Rattle.archive_shape_layout.specs.Value.{Value, Values}
+use Rattle.archive_shape_layout.specs.Content.{choose, Names, Part, Item, Span, Label, Content, content_of, made, IsLegal, shape_content, shape_tagged, option_content, pointee_content, links_offset, keys_offset, values_offset, entries, node_span, link_node_size, words_of, node_content, item_size, control_count, buckets_content}
+use Rattle.archive_shape_layout.specs.Content.Part.{at, behind, node, child, entry, buckets, place_at}
+use Rattle.archive_shape_layout.specs.Content.Content.{illegal, plain, claimed, counting}
+use Rattle.archive_shape_layout.specs.Laws.{AgreesOn, OwnAgrees, RegionsAgree}
+use Rattle.archive_shape_layout.specs.Holds.{Region, region_of, Visit, OpenShared, Holds, HoldAll, Ascends, end_after}
+use Rattle.archive_shape_layout.specs.Holds.Holds.{holds_plain, holds_claimed, holds_first, holds_later, holds_back}
+use Rattle.archive_shape_layout.specs.Holds.HoldAll.{holds_none, holds_more}
+use Rattle.archive_shape_layout.specs.Edit.{Spares}
+use Rattle.archive_shape_layout.specs.Path.{change_in, put_at, Stands, StandsIn}
+use Rattle.archive_shape_layout.specs.Path.Stands.{stands_here, stands_plain, stands_claimed}
+use Rattle.archive_shape_layout.specs.Path.StandsIn.{stands_first, stands_later}
+use Rattle.archive_shape_layout.specs.Value.Value.{natural, integer, boolean, string, group, chosen, counted, back}
+use Rattle.archive_shape_layout.specs.Value.Values.{no_values, more_values}
+use Rattle.archive_shape_layout.proofs.Ascent.{end_after-append, end_after-grows, Ascends-append}
+use Rattle.archive_shape_layout.proofs.Unique.{one_value, one_list}
+use Rattle.archive_shape_layout.proofs.Framed.{stable_plain, stable_claimed, own_more, own_none, AllOwn, first_alike, links_fit}
+use Rattle.archive_shape_layout.proofs.Places.{behind_fits, Within, InOwn, OutOwn, Fits, AllFit, AllApart, Separate, Laid, at_laid, node_laid, buckets_laid, child_laid, place_laid, pointee_laid, entry_laid, behind_span, widen_all, node_high, header_size}
+use Rattle.archive_shape_layout.proofs.Paths.{put_label}
+use Rattle.archive_shape_layout.proofs.Stood.{stands_in_value, stands_all}
+use Rattle.archive_shape_layout.proofs.Edits.{InAny, any_here, any_later}
+use Rattle.archive_shape_canonical.specs.Clean.{IsIn, IsClean}
+use Rattle.archive_shape_canonical.specs.Canonical.{key_alone, keys_alone, by_keys, all_by_keys, blank, blanks, all_blank, first_seen_values, seen_values, seen_bytes_of, Obeys, end_of, end_of_all, Rule, IsCanonical, AreCanonical, InRegions, CanonicalArchive}
+use Rattle.archive_shape_canonical.specs.Laws.{IsBehindKey, IsOnward, AvoidsItemKey, AvoidsKey, AvoidsKeys, AvoidKeys, CanonicalEditOfLeaf, CanonicalEditOfText}
+use Rattle.archive_shape_canonical.proofs.Kept.{plain_looks, claimed_looks, span_looks, either, plain_stays, claimed_stays, plain_leads, claimed_leads}
+use Rattle.archive_shape_canonical.proofs.Framing.{ruled, SeenCanonicalIn, SeenAllCanonicalIn, framed, framed_all}
+
+any_fits : (w n low high : ℕ) (ps : List Part) → AllFit low high ps → InAny w n ps → (low ≤ w) × (w + n ≤ high)
+any_fits w n low high [] _ i = elim i [ ]
+any_fits w n low high (p ∷ ps) (AllFit.fit_more f fs) (any_here i) = f.inside w n i
+any_fits w n low high (p ∷ ps) (AllFit.fit_more f fs) (any_later i) = any_fits w n low high ps fs i
+
+plain_fits : {low high : ℕ} {l : Label} {ps : List Part} → Laid low high false (plain l ps) → AllFit low high ps × Separate ps
+plain_fits (Laid.laid_plain f s) = (f, s)
+
+pub record ClaimFits (s : Span) (ps : List Part) : Type 0 where
+  pub fits : AllFit s.start (s.start + s.size) ps
+  pub separate : Separate ps
+
+claimed_fits : {low high : ℕ} {s : Span} {l : Label} {ps : List Part} → Laid low high true (claimed s l ps) → ClaimFits s ps
+claimed_fits {low = low} {high = high} {s = s} {ps = ps} (Laid.laid_claimed a b f t) = record { fits = widen_all low high s.start (s.start + s.size) ps a b f; separate = t }
+
+not_claimed : {low high : ℕ} {s : Span} {l : Label} {ps : List Part} → Laid low high false (claimed s l ps) → ⊥
+not_claimed h = elim h [ ]
+
+not_plain : {low high : ℕ} {l : Label} {ps : List Part} → Laid low high true (plain l ps) → ⊥
+not_plain h = elim h [ ]
+
+claimed_all : {low high : ℕ} {s : Span} {l : Label} {ps : List Part} → Laid low high true (claimed s l ps) → AllFit low high ps
+claimed_all (Laid.laid_claimed a b f t) = f
+
+byte_of : (bs : List ℕ) (pos size off i : ℕ) → off + 4 ≤ size → i < 4 → slice_index (drop off (window bs pos size)) i ≡ slice_index (window bs (pos + off) 4) i
+byte_of bs pos size off i h k =
+    get_or-drop off (window bs pos size) i 0
+    ∙ get_or-take size (drop pos bs) (off + i) 0 (omega arith)
+    ∙ get_or-drop pos bs (off + i) 0
+    ∙ ap (slice_index bs) (sym (add_assoc pos off i))
+    ∙ sym (get_or-drop (pos + off) bs i 0)
+    ∙ sym (get_or-take 4 (drop (pos + off) bs) i 0 k)
+
+word_of : (bs : List ℕ) (pos size off : ℕ) → off + 4 ≤ size → word_at (window bs pos size) off ≡ word_at (window bs (pos + off) 4) 0
+unfolding word_at
+word_of bs pos size off h =
+    let b0 = byte_of bs pos size off 0 h (omega arith) in
+    let b1 = byte_of bs pos size off 1 h (omega arith) in
+    let b2 = byte_of bs pos size off 2 h (omega arith) in
+    let b3 = byte_of bs pos size off 3 h (omega arith) in
+    rw (b0, b1, b2, b3)
+
+module _ (bytes others : List ℕ) (w n : ℕ) (spares : Spares bytes others w n) where
+  pub own_agrees : (p : Part) → OutOwn w n p → OwnAgrees bytes others p
+  own_agrees (at pos s) o = spares.outside pos (size_of s) o
+  own_agrees (child level most k v pos) o = spares.outside pos 4 o
+  own_agrees (entry k key_pos v value_pos) o = (spares.outside key_pos (size_of k) o.0, spares.outside value_pos (size_of v) o.1)
+  own_agrees (place_at pos limit) o = spares.outside pos 4 o
+  own_agrees (behind pos p len) o = tt
+  own_agrees (node level most k v pos) o = tt
+  own_agrees (buckets target len many it) o = tt
+
+  pub regions_agree : (low high : ℕ) (rs : List Region) → Ascends low high rs → (w + n ≤ low) ⊎ (end_after low rs ≤ w) → RegionsAgree bytes others rs
+  unfolding Ascends RegionsAgree end_after
+  regions_agree low high [] a o = tt
+  regions_agree low high (r ∷ rs) a o =
+      let first = a.0.after in
+      let grows = end_after-grows (r.start + r.size) high rs a.1 in (
+        spares.outside r.start r.size (⊎_elim (λ x. inl (omega arith)) (λ x. inr (omega arith)) o),
+        regions_agree (r.start + r.size) high rs a.1 (⊎_elim (λ x. inl (omega arith)) (λ x. inr (omega arith)) o),
+      )
+
+  -- ---- what a content reads itself
+
+  first_byte : (pos size : ℕ) → AgreesOn bytes others pos 1 → slice_index (window bytes pos size) 0 ≡ slice_index (window others pos size) 0
+  first_byte pos zero same = refl
+  first_byte pos (suc size) same =
+      get_or-take (suc size) (drop pos bytes) 0 0 (omega arith) ∙ first_alike bytes others pos 1 (omega arith) same ∙ sym (get_or-take (suc size) (drop pos others) 0 0 (omega arith))
+
+  at_header : (names : Names) (pos : ℕ) (s : Shape) → AgreesOn bytes others pos (header_size s) → content_of names bytes (at pos s) ≡ content_of names others (at pos s)
+  unfolding shape_content
+  at_header names pos (number t signed) same = ap (λ o. shape_content names pos o (number t signed)) same
+  at_header names pos (nonzero t signed) same = ap (λ o. shape_content names pos o (nonzero t signed)) same
+  at_header names pos truth same = ap (λ o. shape_content names pos o truth) same
+  at_header names pos character same = ap (λ o. shape_content names pos o character) same
+  at_header names pos text same = ap (λ o. shape_content names pos o text) same
+  at_header names pos (tuple ss) same = refl
+  at_header names pos (array k s) same = refl
+  at_header names pos (option s) same =
+      ap (λ tag. choose (tag == 0) (plain (Label.tagged 0) []) (choose (tag == 1) (plain (Label.tagged 1) (at (pos + align_up 1 (align_of s)) s ∷ [])) illegal)) (first_byte pos (size_of (option s)) same)
+  at_header names pos (result s t) same =
+      let offset = align_up 1 (max (align_of s) (align_of t)) in
+      ap (λ tag. choose (tag == 0) (plain (Label.tagged 0) (at (pos + offset) s ∷ [])) (choose (tag == 1) (plain (Label.tagged 1) (at (pos + offset) t ∷ [])) illegal)) (first_byte pos (size_of (result s t)) same)
+  at_header names pos (choice ss) same =
+      ap (λ tag. option_content (shape_tagged tag ss) (λ s. plain (Label.tagged tag) (at (pos + align_up 1 (align_of s)) s ∷ []))) (first_byte pos (size_of (choice ss)) same)
+  at_header names pos (box p) same = ap (λ o. shape_content names pos o (box p)) same
+  at_header names pos (vector s) same = ap (λ o. shape_content names pos o (vector s)) same
+  at_header names pos (shared cyclic p) same = ap (λ o. shape_content names pos o (shared cyclic p)) same
+  at_header names pos (weak cyclic p) same =
+      ap (λ tag. choose (tag == 0) (plain (Label.tagged 0) []) (choose (tag == 1) (plain (Label.tagged 1) (at (pos + 4) (shared cyclic p) ∷ [])) illegal)) (first_byte pos (size_of (weak cyclic p)) same)
+  at_header names pos (tree most k v) same = ap (λ o. shape_content names pos o (tree most k v)) same
+  at_header names pos (table s) same = ap (λ o. shape_content names pos o (table s)) same
+  at_header names pos (index_map k v) same = ap (λ o. shape_content names pos o (index_map k v)) same
+  at_header names pos (named name size align) same = refl
+
+  -- ---- the edit
+
+  -- below a part whose parts lead to the leaf, each content is what it was
+  pub Kept : Names → Part → Type 0
+  Kept names p = content_of names others p ≡ content_of names bytes p
+
+  pub parts_of : Content → List Part
+  parts_of illegal = []
+  parts_of (plain l ps) = ps
+  parts_of (claimed s l ps) = ps
+  parts_of (counting cyclic t p len) = []
+
+  laid_range : (low high : ℕ) {claims : Bool} (c : Content) → Laid low high claims c → InAny w n (parts_of c) → (low ≤ w) × (w + n ≤ high)
+  unfolding parts_of
+  laid_range low high illegal h i = elim i [ ]
+  laid_range low high {claims = false} (plain l ps) h i = any_fits w n low high ps (plain_fits h).0 i
+  laid_range low high {claims = true} (plain l ps) h i = absurd (not_plain h)
+  laid_range low high {claims = true} (claimed s l ps) h i = any_fits w n low high ps (claimed_all h) i
+  laid_range low high {claims = false} (claimed s l ps) h i = absurd (not_claimed h)
+  laid_range low high (counting cyclic t p len) h i = elim i [ ]
+
+  word_alike : (pos size off : ℕ) → off + 4 ≤ size → AgreesOn bytes others (pos + off) 4 → word_at (window bytes pos size) off ≡ word_at (window others pos size) off
+  word_alike pos size off h same = word_of bytes pos size off h ∙ ap (λ o. word_at o 0) same ∙ sym (word_of others pos size off h)
+
+  node_same : (level most : ℕ) (k v : Shape) (pos kind : ℕ) → w + n ≤ pos + node_high kind most k v
+      → node_content level most k v pos kind (window others pos (link_node_size (words_of kind most) most k v)) ≡ node_content level most k v pos kind (window bytes pos (link_node_size (words_of kind most) most k v))
+  unfolding node_content
+  node_same level most k v pos zero h =
+      let size = link_node_size 1 most k v in
+      let room = links_fit 1 most k v in
+      let word = word_alike pos size (links_offset most k v) (omega arith) (spares.outside (pos + links_offset most k v) 4 (inl h)) in
+      ap (λ len. choose (nat_le level 32 && nat_le len most) (claimed (node_span 1 most k v pos) Label.whole (entries len k (pos + keys_offset k) v (pos + values_offset most k v))) illegal) (sym word)
+  node_same level most k v pos (suc zero) h = refl
+  node_same level most k v pos (suc (suc kind)) h = refl
+
+  pub kept : (names : Names) (p : Part) → InAny w n (parts_of (content_of names bytes p)) → Kept names p
+  unfolding Kept pointee_content parts_of
+  kept names (at pos s) i =
+      let range = laid_range (pos + header_size s) (pos + size_of s) (content_of names bytes (at pos s)) (at_laid names pos (window bytes pos (size_of s)) s) i in
+      sym (at_header names pos s (spares.outside pos (header_size s) (inr (range.0))))
+  kept names (behind pos (sized s) len) i = refl
+  kept names (behind pos (slice s) len) i = refl
+  kept names (behind pos str len) i = elim i [ ]
+  kept names (node level most k v pos) i =
+      let kind = slice_index (drop pos bytes) 0 in
+      let size = λ (m : ℕ). link_node_size (words_of m most) most k v in
+      let range = laid_range (pos + 1) (pos + node_high kind most k v) (content_of names bytes (node level most k v pos)) (node_laid level most k v pos kind (window bytes pos (size kind))) i in
+      let alike = first_alike bytes others pos 1 (omega arith) (spares.outside pos 1 (inr range.0)) in
+      ap (λ m. node_content level most k v pos m (window others pos (size m))) (sym alike) ∙ node_same level most k v pos kind range.1
+  kept names (child level most k v pos) i =
+      let range = laid_range (w + 1) w (content_of names bytes (child level most k v pos)) (child_laid (w + 1) w level most k v pos (window bytes pos 4)) i in
+      absurd (omega arith)
+  kept names (entry k a v b) i = refl
+  kept names (buckets target len many it) i =
+      let range = laid_range (target - many * item_size it) target (content_of names bytes (buckets target len many it)) (buckets_laid target len many it (window bytes target (control_count many))) i in
+      ap (buckets_content target len many it) (sym (spares.outside target (control_count many) (inl range.1)))
+  kept names (place_at pos limit) i =
+      let range = laid_range (w + 1) w (content_of names bytes (place_at pos limit)) (place_laid (w + 1) w limit (window bytes pos 4)) i in
+      absurd (omega arith)
+
+  -- the leaf lies below the controls
+  pub controls_alike : (names : Names) (target len many : ℕ) (it : Item) {s : Span} {l : Label} {ps : List Part} → content_of names bytes (buckets target len many it) ≡ claimed s l ps → InAny w n ps → AgreesOn bytes others target (control_count many)
+  unfolding parts_of
+  controls_alike names target len many it e i =
+      let range = laid_range (target - many * item_size it) target (content_of names bytes (buckets target len many it)) (buckets_laid target len many it (window bytes target (control_count many))) (subst (λ c. InAny w n (parts_of c)) (sym e) i) in
+      spares.outside target (control_count many) (inl range.1)
+
+  pub kept_plain : (names : Names) (p : Part) {l : Label} {ps : List Part} → content_of names bytes p ≡ plain l ps → InAny w n ps → content_of names others p ≡ plain l ps
+  unfolding parts_of Kept
+  kept_plain names p e i = kept names p (subst (λ c. InAny w n (parts_of c)) (sym e) i) ∙ e
+
+  pub kept_claimed : (names : Names) (p : Part) {s : Span} {l : Label} {ps : List Part} → content_of names bytes p ≡ claimed s l ps → InAny w n ps → content_of names others p ≡ claimed s l ps
+  unfolding parts_of Kept
+  kept_claimed names p e i = kept names p (subst (λ c. InAny w n (parts_of c)) (sym e) i) ∙ e
+
+any_apart : (w n : ℕ) (p : Part) (qs : List Part) → AllApart p qs → InAny w n qs → OutOwn w n p
+any_apart w n p [] a i = elim i [ ]
+any_apart w n p (q ∷ qs) (AllApart.apart_more o os) (any_here i) = o.second w n i
+any_apart w n p (q ∷ qs) (AllApart.apart_more o os) (any_later i) = any_apart w n p qs os i
+
+-- ---- the parts of a content, from where the part itself lies
+
+-- a part that leads on in place: its parts lie in its own bytes
+plain_parts : (names : Names) (bytes : List ℕ) (base top : ℕ) (p : Part) {l : Label} {ps : List Part} → Fits base top p → content_of names bytes p ≡ plain l ps → AllFit base top ps × Separate ps
+plain_parts names bytes base top (at pos s) {l = l} {ps = ps} f e =
+    let own = f.inside pos (size_of s) (le_refl pos, le_refl _) in
+    let laid = plain_fits (subst (Laid (pos + header_size s) (pos + size_of s) false) e (at_laid names pos (window bytes pos (size_of s)) s)) in
+    (widen_all (pos + header_size s) (pos + size_of s) base top ps (omega arith) own.1 laid.0, laid.1)
+plain_parts names bytes base top (behind pos q len) f e = absurd (not_plain (subst (Laid pos (pos + behind_span q len) true) e (pointee_laid bytes pos q len)))
+plain_parts names bytes base top (node level most k v pos) f e =
+    let kind = slice_index (drop pos bytes) 0 in
+    absurd (not_plain (subst (Laid (pos + 1) (pos + node_high kind most k v) true) e (node_laid level most k v pos kind (window bytes pos (link_node_size (words_of kind most) most k v)))))
+plain_parts names bytes base top (child level most k v pos) f e = plain_fits (subst (Laid base top false) e (child_laid base top level most k v pos (window bytes pos 4)))
+plain_parts names bytes base top (entry k a v b) f e = plain_fits (subst (Laid base top false) e (entry_laid base top k a v b f))
+plain_parts names bytes base top (buckets target len many it) f e =
+    absurd (not_plain (subst (Laid (target - many * item_size it) target true) e (buckets_laid target len many it (window bytes target (control_count many)))))
+plain_parts names bytes base top (place_at pos limit) f e = plain_fits (subst (Laid base top false) e (place_laid base top limit (window bytes pos 4)))
+
+claimed_parts : (names : Names) (bytes : List ℕ) (base top : ℕ) (p : Part) {s : Span} {l : Label} {ps : List Part} → Fits base top p → content_of names bytes p ≡ claimed s l ps → ClaimFits s ps
+claimed_parts names bytes base top (at pos s) f e = absurd (not_claimed (subst (Laid (pos + header_size s) (pos + size_of s) false) e (at_laid names pos (window bytes pos (size_of s)) s)))
+claimed_parts names bytes base top (behind pos q len) f e = claimed_fits (subst (Laid pos (pos + behind_span q len) true) e (pointee_laid bytes pos q len))
+claimed_parts names bytes base top (node level most k v pos) f e =
+    let kind = slice_index (drop pos bytes) 0 in
+    claimed_fits (subst (Laid (pos + 1) (pos + node_high kind most k v) true) e (node_laid level most k v pos kind (window bytes pos (link_node_size (words_of kind most) most k v))))
+claimed_parts names bytes base top (child level most k v pos) f e = absurd (not_claimed (subst (Laid base top false) e (child_laid base top level most k v pos (window bytes pos 4))))
+claimed_parts names bytes base top (entry k a v b) f e = absurd (cc)
+claimed_parts names bytes base top (buckets target len many it) f e =
+    claimed_fits (subst (Laid (target - many * item_size it) target true) e (buckets_laid target len many it (window bytes target (control_count many))))
+claimed_parts names bytes base top (place_at pos limit) f e = absurd (not_claimed (subst (Laid base top false) e (place_laid base top limit (window bytes pos 4))))
+
+-- a window in a plain part's parts lies in the part's own bytes
+own_up : (names : Names) (bytes : List ℕ) (w n : ℕ) (p : Part) {l : Label} {ps : List Part} → content_of names bytes p ≡ plain l ps → InAny w n ps → InOwn w n p
+own_up names bytes w n (at pos s) {l = l} {ps = ps} e i =
+    let laid = plain_fits (subst (Laid (pos + header_size s) (pos + size_of s) false) e (at_laid names pos (window bytes pos (size_of s)) s)) in
+    let range = any_fits w n (pos + header_size s) (pos + size_of s) ps laid.0 i in
+    (omega arith, range.1)
+own_up names bytes w n (behind pos q len) e i = absurd (not_plain (subst (Laid pos (pos + behind_span q len) true) e (pointee_laid bytes pos q len)))
+own_up names bytes w n (node level most k v pos) e i =
+    let kind = slice_index (drop pos bytes) 0 in
+    absurd (not_plain (subst (Laid (pos + 1) (pos + node_high kind most k v) true) e (node_laid level most k v pos kind (window bytes pos (link_node_size (words_of kind most) most k v)))))
+own_up names bytes w n (child level most k v pos) {ps = ps} e i =
+    let range = any_fits w n (w + 1) w ps (plain_fits (subst (Laid (w + 1) w false) e (child_laid (w + 1) w level most k v pos (window bytes pos 4)))).0 i in
+    absurd (omega arith)
+own_up names bytes w n (entry k a v b) {l = l} {ps = ps} e i = of_two (subst (InAny w n) (same_parts (sym e)) i)
+  where
+    same_parts : {m : Label} {qs : List Part} → plain l ps ≡ plain m qs → ps ≡ qs
+    same_parts x = cc
+
+    of_two : InAny w n (at a k ∷ (at b v ∷ [])) → Within w n a (size_of k) ⊎ Within w n b (size_of v)
+    of_two (any_here h) = inl h
+    of_two (any_later (any_here h)) = inr h
+    of_two (any_later (any_later h)) = elim h [ ]
+own_up names bytes w n (buckets target len many it) e i =
+    absurd (not_plain (subst (Laid (target - many * item_size it) target true) e (buckets_laid target len many it (window bytes target (control_count many)))))
+own_up names bytes w n (place_at pos limit) {ps = ps} e i =
+    let range = any_fits w n (w + 1) w ps (plain_fits (subst (Laid (w + 1) w false) e (place_laid (w + 1) w limit (window bytes pos 4)))).0 i in
+    absurd (omega arith)
+
+-- ---- the edit
+
+narrow : (low high : ℕ) (xs ys rs : List Region) → rs ≡ xs ++ ys → Ascends low high rs → (Ascends low high xs × Ascends (end_after low xs) high ys) × (end_after low rs ≡ end_after (end_after low xs) ys)
+narrow low high xs ys rs e a =
+    ((Ascends-append low high xs ys).0 (subst (Ascends low high) e a), ap (end_after low) e ∙ end_after-append low xs ys)
+
+one_follows : (low high : ℕ) (s : Span) (level : ℕ) → Ascends low high (region_of s level ∷ []) → (low ≤ s.start) × (end_after low (region_of s level ∷ []) ≡ s.start + s.size)
+unfolding Ascends end_after
+one_follows low high s level a = (a.0.after, refl)
+
+-- ---- readings that are neat, by what stands at the part
+
+module _ (rule : Rule) (names : Names) (bytes : List ℕ) where
+  record NeatPlain (level : ℕ) (inside : List OpenShared) (p : Part) (l : Label) (ps : List Part) (v : Value) (rs : List Region) (before after : List Visit) (low end : ℕ) : Type 0 where
+    vs : Values
+    legal : IsLegal l
+    all : HoldAll names bytes level inside ps vs rs before after
+    is_made : made l vs ≡ Some v
+    clean : IsClean names bytes p
+    by_rule : Obeys rule bytes p ps vs
+    canonical : AreCanonical rule all low
+    ends : end ≡ end_of_all all low
+
+  record NeatClaimed (level : ℕ) (inside : List OpenShared) (p : Part) (s : Span) (l : Label) (ps : List Part) (v : Value) (rs : List Region) (before after : List Visit) (low end : ℕ) : Type 0 where
+    vs : Values
+    within : List Region
+    legal : IsLegal l
+    all : HoldAll names bytes (suc level) inside ps vs within before after
+    is_made : made l vs ≡ Some v
+    regions_are : rs ≡ within ++ region_of s level ∷ []
+    clean : IsClean names bytes p
+    by_rule : Obeys rule bytes p ps vs
+    canonical : AreCanonical rule all low
+    placed : s.start ≡ align_up (end_of_all all low) s.align
+    ends : end ≡ s.start + s.size
+
+  neat_plain : {level : ℕ} {inside : List OpenShared} {p : Part} {l : Label} {ps : List Part} {v : Value} {rs : List Region} {before after : List Visit} (low : ℕ)
+      → content_of names bytes p ≡ plain l ps → (h : Holds names bytes level inside p v rs before after) → IsCanonical rule h low
+      → NeatPlain level inside p l ps v rs before after low (end_of h low)
+  neat_plain {level = level} {inside = inside} {p = p} {l = l} {ps = ps} {v = v} {rs = rs} {before = before} {after = after} low e (holds_plain {l = l'} {ps = ps'} {vs = vs} f legal all m) n =
+      let el : l' ≡ l = cc in
+      let ep : ps' ≡ ps = cc in
+      let here : NeatPlain level inside p l' ps' v rs before after low (end_of_all all low) =
+      record { vs = vs; legal = legal; all = all; is_made = m; clean = n.0; by_rule = n.1; canonical = n.2; ends = refl } in
+      subst (λ x. NeatPlain level inside p l x v rs before after low (end_of_all all low)) ep
+      (subst (λ x. NeatPlain level inside p x ps' v rs before after low (end_of_all all low)) el here)
+  neat_plain low e (holds_claimed f legal all m r) n = absurd (cc)
+  neat_plain low e (holds_first f a b h d g) n = absurd (cc)
+  neat_plain low e (holds_later f a b d g h) n = absurd (cc)
+  neat_plain low e (holds_back f a b c d) n = absurd (cc)
+
+  neat_claimed : {level : ℕ} {inside : List OpenShared} {p : Part} {s : Span} {l : Label} {ps : List Part} {v : Value} {rs : List Region} {before after : List Visit} (low : ℕ)
+      → content_of names bytes p ≡ claimed s l ps → (h : Holds names bytes level inside p v rs before after) → IsCanonical rule h low
+      → NeatClaimed level inside p s l ps v rs before after low (end_of h low)
+  neat_claimed low e (holds_plain f legal all m) n = absurd (cc)
+  neat_claimed {level = level} {inside = inside} {p = p} {s = s} {l = l} {ps = ps} {v = v} {rs = rs} {before = before} {after = after} low e (holds_claimed {within = within} {s = s'} {l = l'} {ps = ps'} {vs = vs} f legal all m r) n =
+      let es : s' ≡ s = cc in
+      let el : l' ≡ l = cc in
+      let ep : ps' ≡ ps = cc in
+      let here : NeatClaimed level inside p s' l' ps' v rs before after low (s'.start + s'.size) =
+      record { vs = vs; within = within; legal = legal; all = all; is_made = m; regions_are = r; clean = n.0; by_rule = n.1; canonical = n.2; placed = n.3; ends = refl } in
+      subst (λ x. NeatClaimed level inside p s l x v rs before after low (s'.start + s'.size)) ep
+      (subst (λ x. NeatClaimed level inside p s x ps' v rs before after low (s'.start + s'.size)) el
+      (subst (λ x. NeatClaimed level inside p x l' ps' v rs before after low (s'.start + s'.size)) es here))
+  neat_claimed low e (holds_first f a b h d g) n = absurd (cc)
+  neat_claimed low e (holds_later f a b d g h) n = absurd (cc)
+  neat_claimed low e (holds_back f a b c d) n = absurd (cc)
+
+InRegions-left : (rs qs : List Region) (i : ℕ) → InRegions rs i → InRegions (rs ++ qs) i
+InRegions-left [] qs i h = absurd h
+InRegions-left (r ∷ rs) qs i h = ⊎_elim (λ a. inl a) (λ b. inr (InRegions-left rs qs i b)) h
+
+InRegions-right : (rs qs : List Region) (i : ℕ) → InRegions qs i → InRegions (rs ++ qs) i
+InRegions-right [] qs i h = h
+InRegions-right (r ∷ rs) qs i h = inr (InRegions-right rs qs i h)
+
+-- ---- what a rule may see of values stays where no key changes
+
+keyed_stays : (j : ℕ) (path : List ℕ) (new : Value) (v : Value) → key_alone (put_at (suc j ∷ path) new v) ≡ key_alone v
+keyed_stays j path new (group no_values) = refl
+keyed_stays j path new (group (more_values k vs)) = refl
+keyed_stays j path new (chosen t vs) = refl
+keyed_stays j path new (natural m) = refl
+keyed_stays j path new (integer m) = refl
+keyed_stays j path new (boolean m) = refl
+keyed_stays j path new (string m) = refl
+keyed_stays j path new (counted t v) = refl
+keyed_stays j path new (back t) = refl
+
+all_keyed_stay : (i j : ℕ) (path : List ℕ) (new : Value) (vs : Values) → keys_alone (change_in i (λ x. put_at (suc j ∷ path) new x) vs) ≡ keys_alone vs
+all_keyed_stay i j path new no_values = refl
+all_keyed_stay zero j path new (more_values v vs) = ap (λ x. more_values x (keys_alone vs)) (keyed_stays j path new v)
+all_keyed_stay (suc i) j path new (more_values v vs) = ap (λ x. more_values (key_alone v) x) (all_keyed_stay i j path new vs)
+
+outlined_stays : (inner : List ℕ) (new : Value) (v : Value) → IsBehindKey inner → by_keys (put_at inner new v) ≡ by_keys v
+outlined_stays [] new v h = absurd h
+outlined_stays (i ∷ []) new v h = absurd h
+outlined_stays (i ∷ (zero ∷ path)) new v h = absurd h
+outlined_stays (i ∷ (suc j ∷ path)) new (group vs) h = ap (λ x. group x) (all_keyed_stay i j path new vs)
+outlined_stays (i ∷ (suc j ∷ path)) new (chosen t vs) h = refl
+outlined_stays (i ∷ (suc j ∷ path)) new (natural m) h = refl
+outlined_stays (i ∷ (suc j ∷ path)) new (integer m) h = refl
+outlined_stays (i ∷ (suc j ∷ path)) new (boolean m) h = refl
+outlined_stays (i ∷ (suc j ∷ path)) new (string m) h = refl
+outlined_stays (i ∷ (suc j ∷ path)) new (counted t v) h = refl
+outlined_stays (i ∷ (suc j ∷ path)) new (back t) h = refl
+
+all_outlined_stay : (i : ℕ) (inner : List ℕ) (new : Value) (vs : Values) → IsBehindKey inner → all_by_keys (change_in i (λ x. put_at inner new x) vs) ≡ all_by_keys vs
+all_outlined_stay i inner new no_values h = refl
+all_outlined_stay zero inner new (more_values v vs) h = ap (λ x. more_values x (all_by_keys vs)) (outlined_stays inner new v h)
+all_outlined_stay (suc i) inner new (more_values v vs) h = ap (λ x. more_values (by_keys v) x) (all_outlined_stay i inner new vs h)
+
+blanks_stay : (i : ℕ) (f : Value → Value) (vs : Values) → blanks (change_in i f vs) ≡ blanks vs
+blanks_stay i f no_values = refl
+blanks_stay zero f (more_values v vs) = refl
+blanks_stay (suc i) f (more_values v vs) = ap (λ x. more_values (natural 0) x) (blanks_stay i f vs)
+
+blank_stays : (inner : List ℕ) (new : Value) (v : Value) → IsOnward inner → blank (put_at inner new v) ≡ blank v
+blank_stays [] new v h = absurd h
+blank_stays (i ∷ path) new (group vs) h = ap (λ x. group x) (blanks_stay i (λ x. put_at path new x) vs)
+blank_stays (i ∷ path) new (chosen t vs) h = refl
+blank_stays (i ∷ path) new (natural m) h = refl
+blank_stays (i ∷ path) new (integer m) h = refl
+blank_stays (i ∷ path) new (boolean m) h = refl
+blank_stays (i ∷ path) new (string m) h = refl
+blank_stays (i ∷ path) new (counted t v) h = refl
+blank_stays (i ∷ path) new (back t) h = refl
+
+all_blank_stay : (i : ℕ) (inner : List ℕ) (new : Value) (vs : Values) → IsOnward inner → all_blank (change_in i (λ x. put_at inner new x) vs) ≡ all_blank vs
+all_blank_stay i inner new no_values h = refl
+all_blank_stay zero inner new (more_values v vs) h = ap (λ x. more_values x (all_blank vs)) (blank_stays inner new v h)
+all_blank_stay (suc i) inner new (more_values v vs) h = ap (λ x. more_values (blank v) x) (all_blank_stay i inner new vs h)
+
+first_shown_stays : (ps : List Part) (vs : Values) (i : ℕ) (inner : List ℕ) (new : Value) → AvoidsItemKey ps inner → first_seen_values ps (change_in i (λ x. put_at inner new x) vs) ≡ first_seen_values ps vs
+first_shown_stays [] vs i inner new h = refl
+first_shown_stays (at pos s ∷ ps) vs i inner new h = refl
+first_shown_stays (behind pos q len ∷ ps) vs i inner new h = refl
+first_shown_stays (node level most k v pos ∷ ps) vs i inner new h = all_outlined_stay i inner new vs h
+first_shown_stays (child level most k v pos ∷ ps) vs i inner new h = refl
+first_shown_stays (entry k a v b ∷ ps) vs i inner new h = refl
+first_shown_stays (buckets target len many it ∷ ps) vs i inner new h = all_outlined_stay i inner new vs h
+first_shown_stays (place_at pos limit ∷ ps) vs i inner new h = refl
+
+shown_stays : (p : Part) (ps : List Part) (vs : Values) (i : ℕ) (inner : List ℕ) (new : Value) → AvoidsKey p ps inner → seen_values p ps (change_in i (λ x. put_at inner new x) vs) ≡ seen_values p ps vs
+shown_stays (at pos s) ps vs i inner new h = first_shown_stays ps vs i inner new h
+shown_stays (behind pos q len) ps vs i inner new h = refl
+shown_stays (node level most k v pos) ps vs i inner new h = all_blank_stay i inner new vs h
+shown_stays (child level most k v pos) ps vs i inner new h = first_shown_stays ps vs i inner new h
+shown_stays (entry k a v b) ps vs i inner new h = refl
+shown_stays (buckets target len many it) ps vs i inner new h = refl
+shown_stays (place_at pos limit) ps vs i inner new h = refl
+
+module _
+    (rule : Rule) (names : Names) (bytes others : List ℕ) (w n : ℕ) (q : Part) (old new : Value)
+    (spares : Spares bytes others w n)
+  where
+    abbrev LiesIn : Type 0 → ℕ → List Region → Type 0
+    LiesIn own low rs = own ⊎ ((low ≤ w) × (w + n ≤ end_after low rs) × ((i : ℕ) → IsIn w n i → InRegions rs i))
+
+    -- what is known of a part: where the window lies in it, and its neat reading in the other bytes
+    record Edited (level : ℕ) (inside : List OpenShared) (p : Part) (v : Value) (rs : List Region) (before after : List Visit) (low from end : ℕ) : Type 0 where
+      lies : LiesIn (InOwn w n p) low rs
+      there : SeenCanonicalIn bytes others names rule level inside p v rs before after from end
+
+    record EditedAll (level : ℕ) (inside : List OpenShared) (ps : List Part) (vs : Values) (rs : List Region) (before after : List Visit) (low from end : ℕ) : Type 0 where
+      lies : LiesIn (InAny w n ps) low rs
+      there : SeenAllCanonicalIn bytes others names rule level inside ps vs rs before after from end
+
+    all_own : (base top : ℕ) (p : Part) (ps : List Part) → AllFit base top ps → (InOwn w n p × AllApart p ps) ⊎ (w + n ≤ base) → AllOwn bytes others ps
+    all_own base top p [] AllFit.fit_none o = own_none
+    all_own base top p (r ∷ ps) (AllFit.fit_more f fs) (inl (i, AllApart.apart_more o os)) =
+        own_more (own_agrees bytes others w n spares r (o.first _ _ i)) (all_own base top p ps fs (inl (i, os)))
+    all_own base top p (r ∷ ps) (AllFit.fit_more f fs) (inr b) =
+        own_more (own_agrees bytes others w n spares r (f.outside _ _ (inl b))) (all_own base top p ps fs (inr b))
+
+    module _
+        (at_leaf : (level : ℕ) (inside : List OpenShared) (p : Part) (v : Value) (rs : List Region) (before after : List Visit) (low high from to : ℕ)
+        → p ≡ q → v ≡ old → Ascends low high rs → (h : Holds names bytes level inside p v rs before after) → IsCanonical rule h from → to ≡ from
+        → Edited level inside p new rs before after low to (end_of h from))
+      where
+        mutual
+          edit :
+              {level : ℕ} {inside : List OpenShared} {p : Part} {v u : Value} {path : List ℕ} {rs : List Region} {since before after : List Visit} (low high base top from to : ℕ)
+              → (stands : Stands names bytes q old level inside since p v path)
+              → AvoidsKeys stands
+              → since ≡ before
+              → v ≡ u
+              → Fits base top p
+              → end_after low rs ≤ base
+              → Ascends low high rs
+              → (h : Holds names bytes level inside p u rs before after)
+              → IsCanonical rule h from
+              → to ≡ from
+              → Edited level inside p (put_at path new u) rs before after low to (end_of h from)
+          edit {level = level} {inside = inside} {p = p} {u = u} {rs = rs} {before = before} {after = after} low high base top from to (stands_here ep ev er) free es eu f under a h k eq =
+              let d = at_leaf level inside p u rs before after low high from to ep (sym eu ∙ ev) a h k eq in
+              subst (λ x. Edited level inside p (put_at x new u) rs before after low to (end_of h from)) (sym er) d
+          edit {level = level} {inside = inside} {p = p} {v = v} {u = u} {path = path} {rs = rs} {since = since} {before = before} {after = after} low high base top from to (stands_plain {inner = inner} {l = m} {ps = ps} {vs = vs} {i = i} e within is_made through) free es eu f under a h k eq =
+              let o = neat_plain rule names bytes from e h k in
+              let parts = plain_parts names bytes base top p f e in
+              let s = stands_all names bytes q old within in
+              let us = one_list names bytes o.vs rs after (subst (λ b. HoldAll names bytes level inside ps vs s.regions b s.after) es s.all) o.all in
+              let d = edit_in low high base top from to within free.1 es us.values parts.0 parts.1 under a o.all o.canonical eq in
+              let x = stands_in_value names bytes q old within in
+              let put = put_label m vs i inner path u new x.value old (is_made ∙ ap Some eu) x.there x.inner through in
+              let apart = λ (b : (low ≤ w) × (w + n ≤ end_after low rs) × ((j : ℕ) → IsIn w n j → InRegions rs j)). own_agrees bytes others w n spares p (f.outside w n (inl (let y = b.1 in omega arith))) in
+              let alike : content_of names others p ≡ plain m ps =
+              ⊎_elim (λ j. kept_plain bytes others w n spares names p e j) (λ b. stable_plain bytes others names p (apart b) e) d.lies in
+              let seen = plain_looks bytes others names p e in
+              let clean = ⊎_elim (λ j. plain_leads bytes others w n spares names p e alike j o.clean) (λ b. plain_stays bytes others names p e alike (apart b) o.clean) d.lies in
+              let made_is = ap (λ y. made m (change_in i (λ z. put_at inner new z) y)) (sym us.values) ∙ put.is_made in
+              let there = d.there in
+              record {
+                lies = ⊎_elim (λ j. inl (own_up names bytes w n p e j)) (λ b. inr b) d.lies;
+                there = record {
+                  seen_bytes = seen;
+                  holds = holds_plain alike o.legal there.all made_is;
+                  canonical = (clean, ruled bytes others names rule p ps o.vs _ seen there.seen_bytes (shown_stays p ps o.vs i inner new free.0) o.by_rule, there.canonical);
+                  ends = there.ends ∙ sym o.ends;
+                };
+              }
+          edit {level = level} {inside = inside} {p = p} {v = v} {u = u} {path = path} {rs = rs} {since = since} {before = before} {after = after} low high base top from to (stands_claimed {inner = inner} {s = s} {l = m} {ps = ps} {vs = vs} {i = i} e within is_made through) free es eu f under a h k eq =
+              let o = neat_claimed rule names bytes from e h k in
+              let both = narrow low high o.within (region_of s level ∷ []) rs o.regions_are a in
+              let next = one_follows (end_after low o.within) high s level both.0.1 in
+              let total = both.1 in
+              let parts = claimed_parts names bytes base top p f e in
+              let t = stands_all names bytes q old within in
+              let us = one_list names bytes o.vs o.within after (subst (λ b. HoldAll names bytes (suc level) inside ps vs t.regions b t.after) es t.all) o.all in
+              let d = edit_in low high s.start (s.start + s.size) from to within free.1 es us.values parts.fits parts.separate next.0 both.0.0 o.all o.canonical eq in
+              let x = stands_in_value names bytes q old within in
+              let put = put_label m vs i inner path u new x.value old (is_made ∙ ap Some eu) x.there x.inner through in
+              let grows = end_after-grows low high o.within both.0.0 in
+              let apart = λ (b : (low ≤ w) × (w + n ≤ end_after low o.within) × ((j : ℕ) → IsIn w n j → InRegions o.within j)). own_agrees bytes others w n spares p (f.outside w n (inl (let y = b.1 in omega arith))) in
+              let here = λ (b : (low ≤ w) × (w + n ≤ end_after low o.within) × ((j : ℕ) → IsIn w n j → InRegions o.within j)). spares.outside s.start s.size (inl (let y = b.1 in omega arith)) in
+              let alike : content_of names others p ≡ claimed s m ps =
+              ⊎_elim (λ j. kept_claimed bytes others w n spares names p e j) (λ b. stable_claimed bytes others names p (apart b) (here b) e) d.lies in
+              let seen = ⊎_elim (λ j. claimed_looks bytes others names p e alike (λ target len cap it is. controls_alike bytes others w n spares names target len cap it (subst (λ y. content_of names bytes y ≡ claimed s m ps) is e) j)) (λ b. span_looks bytes others names p e alike (here b)) d.lies in
+              let clean = ⊎_elim (λ j. claimed_leads bytes others w n spares names p e alike j o.clean) (λ b. claimed_stays bytes others names p e alike (apart b) (here b) o.clean) d.lies in
+              let made_is = ap (λ y. made m (change_in i (λ z. put_at inner new z) y)) (sym us.values) ∙ put.is_made in
+              let there = d.there in
+              record {
+                lies = ⊎_elim
+                    (λ j. let range = any_fits w n s.start (s.start + s.size) ps parts.fits j in
+                    inr (omega arith, omega arith, λ z c. subst (λ r. InRegions r z) (sym o.regions_are) (InRegions-right o.within (region_of s level ∷ []) z (inl (let c0 = c.0 in let c1 = c.1 in (omega arith, omega arith))))))
+                    (λ b. let b0 = b.0 in let b1 = b.1 in inr (omega arith, omega arith, λ z c. subst (λ r. InRegions r z) (sym o.regions_are) (InRegions-left o.within (region_of s level ∷ []) z (b.2 z c))))
+                    d.lies;
+                there = record {
+                  seen_bytes = seen;
+                  holds = holds_claimed alike o.legal there.all made_is o.regions_are;
+                  canonical = (clean, ruled bytes others names rule p ps o.vs _ seen there.seen_bytes (shown_stays p ps o.vs i inner new free.0) o.by_rule, there.canonical, o.placed ∙ ap (λ y. align_up y s.align) (sym there.ends));
+                  ends = sym o.ends;
+                };
+              }
+
+          edit_in :
+              {level : ℕ} {inside : List OpenShared} {ps : List Part} {vs us : Values} {i : ℕ} {path : List ℕ} {rs : List Region} {since before after : List Visit} (low high base top from to : ℕ)
+              → (stands : StandsIn names bytes q old level inside since ps vs i path)
+              → AvoidKeys stands
+              → since ≡ before
+              → vs ≡ us
+              → AllFit base top ps
+              → Separate ps
+              → end_after low rs ≤ base
+              → Ascends low high rs
+              → (all : HoldAll names bytes level inside ps us rs before after)
+              → AreCanonical rule all from
+              → to ≡ from
+              → EditedAll level inside ps (change_in i (λ x. put_at path new x) us) rs before after low to (end_of_all all from)
+          edit_in {level = level} {inside = inside} {path = path} {rs = rs} {before = before} {after = after} low high base top from to (stands_first {p = p} {ps = ps} {v = v} {vs = vs} stands holds rest_holds is zero_is) free es eu (AllFit.fit_more f fs) (Separate.sep_more apart sep) under a (holds_more {v = u} {vs = us} {here = here} {later = later} {between = between} h hs e r) k eq =
+              let both = narrow low high here later rs r a in
+              let total = both.1 in
+              let grows = end_after-grows (end_after low here) high later both.0.1 in
+              let pair : more_values v vs ≡ more_values u us = sym is ∙ eu ∙ e in
+              let alike : v ≡ u = cc in
+              let d = edit low high base top from to stands free es alike f (omega arith) both.0.0 h k.0 eq in
+              let first = d.there in
+              let own = all_own base top p ps fs (⊎_elim (λ i. inl (i, apart)) (λ b. inr (let b1 = b.1 in omega arith)) d.lies) in
+              let claims = regions_agree bytes others w n spares (end_after low here) high later both.0.1 (⊎_elim (λ i. let b = f.inside w n i in inr (omega arith)) (λ b. inl b.1) d.lies) in
+              let rest = framed_all bytes others names rule (end_of h from) (end_of first.holds to) own claims hs k.1 first.ends in
+              record {
+                lies = ⊎_elim (λ i. inl (any_here i)) (λ b. let b1 = b.1 in inr (b.0, omega arith, λ z c. subst (λ x. InRegions x z) (sym r) (InRegions-left here later z (b.2 z c)))) d.lies;
+                there = record {
+                  seen_bytes = first.seen_bytes;
+                  all = holds_more first.holds rest.all (ap₂ (λ j x. change_in j (λ y. put_at path new y) x) zero_is e) r;
+                  canonical = (first.canonical, rest.canonical);
+                  ends = rest.ends;
+                };
+              }
+          edit_in {level = level} {inside = inside} {path = path} {rs = rs} {before = before} {after = after} low high base top from to (stands_later {between = since_then} {p = p} {ps = ps} {v = v} {vs = vs} {here = claims_there} {i = i} holds stands is suc_is) free es eu (AllFit.fit_more f fs) (Separate.sep_more apart sep) under a (holds_more {v = u} {vs = us} {here = here} {later = later} {between = between} h hs e r) k eq =
+              let both = narrow low high here later rs r a in
+              let total = both.1 in
+              let first_grows = end_after-grows low high here both.0.0 in
+              let grows = end_after-grows (end_after low here) high later both.0.1 in
+              let pair : more_values v vs ≡ more_values u us = sym is ∙ eu ∙ e in
+              let alike : vs ≡ us = cc in
+              let reached = (one_value names bytes u here between (subst (λ b. Holds names bytes level inside p v claims_there b since_then) es holds) h).after in
+              let probe = edit_in (end_after low here) high base top (end_of h from) (end_of h from) stands free reached alike fs sep (omega arith) both.0.1 hs k.1 refl in
+              let own = own_agrees bytes others w n spares p (⊎_elim (λ i. any_apart w n p ps apart i) (λ b. f.outside w n (inl (let b1 = b.1 in omega arith))) probe.lies) in
+              let claims = regions_agree bytes others w n spares low high here both.0.0 (⊎_elim (λ i. let b = any_fits w n base top ps fs i in inr (omega arith)) (λ b. inr b.0) probe.lies) in
+              let first = framed bytes others names rule from to own claims h k.0 eq in
+              let d = edit_in (end_after low here) high base top (end_of h from) (end_of first.holds to) stands free reached alike fs sep (omega arith) both.0.1 hs k.1 first.ends in
+              let rest = d.there in
+              record {
+                lies = ⊎_elim (λ i. inl (any_later i)) (λ b. let b0 = b.0 in let b1 = b.1 in inr (omega arith, omega arith, λ z c. subst (λ x. InRegions x z) (sym r) (InRegions-right here later z (b.2 z c)))) d.lies;
+                there = record {
+                  seen_bytes = first.seen_bytes;
+                  all = holds_more first.holds rest.all (ap₂ (λ j x. change_in j (λ y. put_at path new y) x) suc_is e) r;
+                  canonical = (first.canonical, rest.canonical);
+                  ends = rest.ends;
+                };
+              }
+
+        -- the root, with the window at the leaf
+        edit_canonical : {pos : ℕ} {s : Shape} {v : Value} {path : List ℕ} {regions : List Region} {visits : List Visit}
+            → CanonicalArchive rule names bytes pos s v regions visits
+            → (stands : Stands names bytes q old 0 [] [] (behind pos (sized s) 1) v path)
+            → AvoidsKeys stands
+            → ((i : ℕ) → slice_index others i < 256)
+            → CanonicalArchive rule names others pos s (put_at path new v) regions visits
+        edit_canonical {pos = pos} {s = s} {regions = regions} x stands free small =
+            let base = end_after 0 regions in
+            let root = x.root in
+            let d = edit 0 (length bytes) base base 0 0 stands free refl refl (behind_fits base base pos (sized s) 1) (le_refl base) root.ascends root.holds x.canonical refl in
+            let there = d.there in
+            record {
+              root = record { holds = there.holds; ascends = subst (λ m. Ascends 0 m regions) (sym spares.length) root.ascends };
+              canonical = there.canonical;
+              ends = there.ends ∙ x.ends ∙ sym spares.length;
+              gaps = λ i. ⊎_elim (λ c. inl (⊎_elim (λ o. absurd o) (λ b. b.2 i c) d.lies)) (λ alike. ⊎_elim (λ c. inl c) (λ z. inr (sym alike ∙ z)) (x.gaps i)) (either bytes others w n spares i);
+              once = x.once;
+              bytes_are = small;
+            }
+
+-- ---- the two leaves
+
+pub canonical_edit_of_leaf_law : CanonicalEditOfLeaf
+canonical_edit_of_leaf_law rule names bytes others pos s v regions visits path leaf_pos leaf_shape old new k l x stands free spares was is legal makes clean small =
+    edit_canonical rule names bytes others leaf_pos (size_of leaf_shape) (at leaf_pos leaf_shape) old new spares in_place x stands free small
+  where
+    in_place : (level : ℕ) (inside : List OpenShared) (p : Part) (u : Value) (rs : List Region) (before after : List Visit) (low high from to : ℕ)
+        → p ≡ at leaf_pos leaf_shape → u ≡ old → Ascends low high rs → (h : Holds names bytes level inside p u rs before after) → IsCanonical rule h from → to ≡ from
+        → Edited rule names bytes others leaf_pos (size_of leaf_shape) (at leaf_pos leaf_shape) old new spares level inside p new rs before after low to (end_of h from)
+    in_place level inside p u rs before after low high from to ep eu a h neat eq =
+        let o = neat_plain rule names bytes from (ap (content_of names bytes) ep ∙ was) h neat in
+        let same_looks : seen_bytes_of bytes p ≡ seen_bytes_of others p = subst (λ y. seen_bytes_of bytes y ≡ seen_bytes_of others y) (sym ep) refl in
+        let same_shown : seen_values p [] no_values ≡ seen_values p [] o.vs = subst (λ y. seen_values y [] no_values ≡ seen_values y [] o.vs) (sym ep) refl in
+        let none = of_none o.all in
+        record {
+          lies = inl (subst (λ y. InOwn leaf_pos (size_of leaf_shape) y) (sym ep) (le_refl leaf_pos, le_refl _));
+          there = record {
+            seen_bytes = same_looks;
+            holds = holds_plain (ap (content_of names others) ep ∙ is) legal (holds_none refl none.0 none.1) makes;
+            canonical = (subst (IsClean names others) (sym ep) clean, ruled bytes others names rule p [] o.vs no_values same_looks refl same_shown o.by_rule, tt);
+            ends = eq ∙ sym (o.ends ∙ none.2 from);
+          };
+        }
+      where
+        of_none : {vs : Values} → (all : HoldAll names bytes level inside [] vs rs before after) → (rs ≡ []) × (after ≡ before) × ((m : ℕ) → end_of_all all m ≡ m)
+        of_none (holds_none y z g) = (z, g, λ m. refl)
+
+pub canonical_edit_of_text_law : CanonicalEditOfText
+unfolding pointee_content made
+canonical_edit_of_text_law rule names bytes others pos s v regions visits path text_pos len old x stands free spares legal small =
+    edit_canonical rule names bytes others text_pos len (behind text_pos str len) old (string (window others text_pos len)) spares behind_it x stands free small
+  where
+    behind_it : (level : ℕ) (inside : List OpenShared) (p : Part) (u : Value) (rs : List Region) (before after : List Visit) (low high from to : ℕ)
+        → p ≡ behind text_pos str len → u ≡ old → Ascends low high rs → (h : Holds names bytes level inside p u rs before after) → IsCanonical rule h from → to ≡ from
+        → Edited rule names bytes others text_pos len (behind text_pos str len) old (string (window others text_pos len)) spares level inside p (string (window others text_pos len)) rs before after low to (end_of h from)
+    behind_it level inside p u rs before after low high from to ep eu a h neat eq =
+        let span : Span = record { start = text_pos; size = len; align = 1 } in
+        let o = neat_claimed rule names bytes {s = span} {l = Label.written (window bytes text_pos len)} {ps = []} from (ap (content_of names bytes) ep) h neat in
+        let same_looks : seen_bytes_of bytes p ≡ seen_bytes_of others p = subst (λ y. seen_bytes_of bytes y ≡ seen_bytes_of others y) (sym ep) refl in
+        let same_shown : seen_values p [] no_values ≡ seen_values p [] o.vs = subst (λ y. seen_values y [] no_values ≡ seen_values y [] o.vs) (sym ep) refl in
+        let none = of_none o.all in
+        let own : Region = region_of span level in
+        let alone : rs ≡ own ∷ [] = o.regions_are ∙ ap (λ b. b ++ own ∷ []) none.0 in
+        let follows = one_follows low high span level (subst (Ascends low high) alone a) in
+        record {
+          lies = inr (follows.0, (let e = ap (end_after low) alone ∙ follows.1 in omega arith), λ z c. subst (λ r. InRegions r z) (sym alone) (inl c));
+          there = record {
+            seen_bytes = same_looks;
+            holds = holds_claimed (ap (content_of names others) ep) legal (holds_none refl refl none.1) refl alone;
+            canonical = (subst (IsClean names others) (sym ep) (record { padding = λ i c. inl c; filled = tt }), ruled bytes others names rule p [] o.vs no_values same_looks refl same_shown o.by_rule, tt, o.placed ∙ ap (λ m. align_up m 1) (none.2 from ∙ sym eq));
+            ends = sym o.ends;
+          };
+        }
+      where
+        of_none : {vs : Values} {within : List Region} → (all : HoldAll names bytes (suc level) inside [] vs within before after) → (within ≡ []) × (after ≡ before) × ((m : ℕ) → end_of_all all m ≡ m)
+        of_none (holds_none y z g) = (z, g, λ m. refl)
