@@ -13,7 +13,7 @@ use Rattle.archive_shape_layout.specs.Shape.Shapes.{no_shapes, more_shapes}
 use Rattle.archive_shape_layout.specs.Shape.Pointee.{sized, slice, str}
 use Rattle.archive_shape_layout.specs.Value.{Value}
 use Rattle.archive_shape_layout.specs.Bytes.{window, align_up, word_at, target_from}
-use Rattle.archive_shape_canonical.specs.Canonical.{erased}
+use Rattle.archive_shape_canonical.specs.Sharing.{erased}
 
 -- one value counts for one
 abbrev pub SameCount : Pointee → ℕ → ℕ → Type 0

@@ -1,42 +1,62 @@
--- The rule that lets no part be in which the layout leaves a choice.
-use Rattle.std.proofs.Common.{arith, refl, ap, ap₂, sym, subst, ◌∙◌, ◌<◌, ◌≤◌, Bool, false, zero, suc, ◌+◌, ◌==◌, ◌&&◌, nat_lt, eqb-true, ltb-true, leb-true, drop, slice_index, ◌≡◌, ℕ, true, List, [], ◌∷◌}
+-- What is settled where the layout leaves a choice, in_field of whole values and not of what is seen of them.
+use Rattle.std.proofs.Common.{arith, refl, ap, ap₂, sym, subst, ◌∙◌, ◌<◌, ◌≤◌, zero, suc, ◌+◌, drop, slice_index, ◌≡◌, ℕ, List, [], ◌∷◌}
+use Rattle.std.specs.Prelude.{⊤}
+use Rattle.archive_shape_layout.specs.Bytes.{window}
 use Rattle.archive_shape_layout.specs.Value.{Value, Values, count_values, append_values}
 use Rattle.archive_shape_layout.specs.Value.Value.{natural, integer, boolean, string, group, chosen, counted, back}
 use Rattle.archive_shape_layout.specs.Value.Values.{no_values, more_values}
-use Rattle.archive_shape_layout.specs.Content.{Part, members, weave, first_values, other_values}
+use Rattle.archive_shape_layout.specs.Content.{Part, members, weave, first_values, other_values, control_count}
 use Rattle.archive_shape_layout.specs.Content.Part.{at, behind, node, child, entry, buckets, place_at}
-use Rattle.archive_shape_canonical.specs.Canonical.{blank, blanks, all_blank, keys_alone, by_keys, all_by_keys, first_seen_values}
-use Rattle.archive_shape_canonical.specs.Laws.{NoChoiceIsLeft, PackedSettles}
-use Rattle.archive_shape_canonical.specs.Choice.{Fit, IsLed, lead_nowhere, is_packed, are_packed, have_items, lead_to_items, IsPacked, ArePacked, HasItems, child_items}
+use Rattle.archive_shape_canonical.specs.Packed.{IsPacked, ArePacked}
+use Rattle.archive_shape_canonical.specs.Seen.{first_seen_bytes, blank, blanks, all_blank, key_alone, keys_alone, by_keys, all_by_keys, first_seen_values}
+use Rattle.archive_shape_canonical.specs.Settled.{Fit, IsFitted, HasItems, LeadsSettled, IsSettled, naturals}
+use Rattle.archive_shape_canonical.specs.Sharing.{erased, all_erased}
 
-led : (fit : Fit) (bytes : List ℕ) (ps : List Part) (vs : Values) → lead_nowhere ps ≡ true → IsLed fit bytes ps vs
-led fit bytes [] vs e = tt
-led fit bytes (at pos s ∷ ps) vs e = tt
-led fit bytes (behind pos p len ∷ ps) vs e = tt
-led fit bytes (node level most k v pos ∷ ps) vs e = absurd (cc)
-led fit bytes (child level most k v pos ∷ ps) vs e = tt
-led fit bytes (entry k key_pos v value_pos ∷ ps) vs e = tt
-led fit bytes (buckets target len cap it ∷ ps) vs e = absurd (cc)
-led fit bytes (place_at pos limit ∷ ps) vs e = tt
+-- ---- the same of whole values
 
-pub no_choice_is_left : NoChoiceIsLeft
-no_choice_is_left fit bytes (at pos s) ps vs e = led fit bytes ps vs e
-no_choice_is_left fit bytes (behind pos p len) ps vs e = tt
-no_choice_is_left fit bytes (node level most k v pos) ps vs e = absurd (cc)
-no_choice_is_left fit bytes (child level most k v pos) ps vs e = led fit bytes ps vs e
-no_choice_is_left fit bytes (entry k key_pos v value_pos) ps vs e = tt
-no_choice_is_left fit bytes (buckets target len cap it) ps vs e = tt
-no_choice_is_left fit bytes (place_at pos limit) ps vs e = tt
+-- what is chosen for a table or an index map, by its items or entries but for where shared ones stand
+pub record Choices : Type 0 where
+  pub capacity : ℕ → ℕ
+  pub table_controls : Value → List ℕ
+  pub map_controls : Value → List ℕ
+  pub map_numbers : Value → Value
+
+abbrev pub choices : Fit → Choices
+choices fit = record {
+  capacity = fit.capacity;
+  table_controls = λ items. fit.table_controls (keys_alone (members items));
+  map_controls = λ entries. fit.map_controls (keys_alone (members entries));
+  map_numbers = λ entries. group (naturals (fit.map_numbers (keys_alone (members entries))));
+}
+
+abbrev pub IsFilledAs : Choices → List ℕ → ℕ → ℕ → ℕ → Values → Type 0
+IsFilledAs fit bytes target len cap (more_values items no_values) =
+    (count_values (members items) ≡ len) × (cap ≡ fit.capacity len) × (window bytes target (control_count cap) ≡ fit.table_controls (erased items))
+IsFilledAs fit bytes target len cap (more_values numbers (more_values entries no_values)) =
+    (count_values (members entries) ≡ len) × (cap ≡ fit.capacity len) × (window bytes target (control_count cap) ≡ fit.map_controls (erased entries))
+    × (numbers ≡ fit.map_numbers (erased entries))
+IsFilledAs fit bytes target len cap vs = ⊥
+
+abbrev pub LeadsChosen : Choices → List ℕ → List Part → Values → Type 0
+LeadsChosen fit bytes [] vs = ⊤
+LeadsChosen fit bytes (at pos s ∷ ps) vs = ⊤
+LeadsChosen fit bytes (behind pos p len ∷ ps) vs = ⊤
+LeadsChosen fit bytes (node level most k v pos ∷ ps) vs = HasItems vs
+LeadsChosen fit bytes (child level most k v pos ∷ ps) vs = ⊤
+LeadsChosen fit bytes (entry k key_pos v value_pos ∷ ps) vs = ⊤
+LeadsChosen fit bytes (buckets target len cap it ∷ ps) vs = IsFilledAs fit bytes target len cap vs
+LeadsChosen fit bytes (place_at pos limit ∷ ps) vs = ⊤
+
+abbrev pub IsChosen : Choices → List ℕ → Part → List Part → Values → Type 0
+IsChosen fit bytes (at pos s) ps vs = LeadsChosen fit bytes ps vs
+IsChosen fit bytes (node level most k v pos) ps vs = IsPacked most (slice_index (drop pos bytes) 0) vs
+IsChosen fit bytes (child level most k v pos) ps vs = LeadsChosen fit bytes ps vs
+IsChosen fit bytes (behind pos p len) ps vs = ⊤
+IsChosen fit bytes (entry k key_pos v value_pos) ps vs = ⊤
+IsChosen fit bytes (buckets target len cap it) ps vs = ⊤
+IsChosen fit bytes (place_at pos limit) ps vs = ⊤
 
 -- ---- packed trees
-
-left : (a b : Bool) → (a && b) ≡ true → a ≡ true
-left true b e = refl
-left false b e = e
-
-right : (a b : Bool) → (a && b) ≡ true → b ≡ true
-right true b e = e
-right false b e = absurd (cc)
 
 count_append : (vs us : Values) → count_values (append_values vs us) ≡ count_values vs + count_values us
 count_append no_values us = omega arith
@@ -81,63 +101,127 @@ count_woven (more_values c cs) (more_values e es) =
 count_all : (n : ℕ) (vs : Values) → count_values (weave (first_values n (all_blank vs)) (other_values n (all_blank vs))) ≡ count_values (weave (first_values n vs) (other_values n vs))
 count_all n vs = ap₂ (λ x y. count_values (weave x y)) (first_blank n vs) (other_blank n vs) ∙ count_woven (first_values n vs) (other_values n vs)
 
-children_packed : (most n i : ℕ) (vs : Values) → are_packed most n i (all_blank vs) ≡ true → ArePacked most n i vs
+children_packed : (most n i : ℕ) (vs : Values) → ArePacked most n i (all_blank vs) → ArePacked most n i vs
 children_packed most n i no_values e = tt
-children_packed most n i (more_values (group us) vs) e =
-    (sym (count_blanks us) ∙ eqb-true (count_values (blanks us)) (child_items most n i) (left _ _ e), children_packed most n (i + 1) vs (right (count_values (blanks us) == child_items most n i) _ e))
-children_packed most n i (more_values (natural m) vs) e = absurd (cc)
-children_packed most n i (more_values (integer m) vs) e = absurd (cc)
-children_packed most n i (more_values (boolean m) vs) e = absurd (cc)
-children_packed most n i (more_values (string m) vs) e = absurd (cc)
-children_packed most n i (more_values (chosen m us) vs) e = absurd (cc)
-children_packed most n i (more_values (counted m u) vs) e = absurd (cc)
-children_packed most n i (more_values (back m) vs) e = absurd (cc)
+children_packed most n i (more_values (group us) vs) e = (sym (count_blanks us) ∙ e.0, children_packed most n (i + 1) vs e.1)
+children_packed most n i (more_values (natural m) vs) e = absurd e
+children_packed most n i (more_values (integer m) vs) e = absurd e
+children_packed most n i (more_values (boolean m) vs) e = absurd e
+children_packed most n i (more_values (string m) vs) e = absurd e
+children_packed most n i (more_values (chosen m us) vs) e = absurd e
+children_packed most n i (more_values (counted m u) vs) e = absurd e
+children_packed most n i (more_values (back m) vs) e = absurd e
 
-pub node_packed : (most kind : ℕ) (vs : Values) → is_packed most kind (all_blank vs) ≡ true → IsPacked most kind vs
+node_packed : (most kind : ℕ) (vs : Values) → IsPacked most kind (all_blank vs) → IsPacked most kind vs
 node_packed most zero vs e = tt
 node_packed most (suc kind) vs e =
     let n = count_values (weave (first_values (most + 1) vs) (other_values (most + 1) vs)) in
     let m = count_values (weave (first_values (most + 1) (all_blank vs)) (other_values (most + 1) (all_blank vs))) in
     let same : m ≡ n = count_all (most + 1) vs in
-    let packed_too = right (nat_lt most m) _ e in
-    let there : are_packed most n 0 (all_blank (first_values (most + 1) vs)) ≡ true =
-    subst (λ x. are_packed most x 0 (all_blank (first_values (most + 1) vs)) ≡ true) same
-    (subst (λ x. are_packed most m 0 x ≡ true) (first_blank (most + 1) vs) packed_too) in
-    (subst (λ x. most < x) same (ltb-true most m (left _ _ e)), children_packed most n 0 (first_values (most + 1) vs) there)
+    let there : ArePacked most n 0 (all_blank (first_values (most + 1) vs)) =
+    subst (λ x. ArePacked most x 0 (all_blank (first_values (most + 1) vs))) same (subst (ArePacked most m 0) (first_blank (most + 1) vs) e.1) in
+    (subst (λ x. most < x) same e.0, children_packed most n 0 (first_values (most + 1) vs) there)
 
-count_keyed : (vs : Values) → count_values (keys_alone vs) ≡ count_values vs
-count_keyed no_values = refl
-count_keyed (more_values v vs) = ap (λ n. 1 + n) (count_keyed vs)
+-- ---- items by their keys
 
-pub count_outlined : (v : Value) → count_values (members (by_keys v)) ≡ count_values (members v)
-count_outlined (group vs) = count_keyed vs
-count_outlined (natural m) = refl
-count_outlined (integer m) = refl
-count_outlined (boolean m) = refl
-count_outlined (string m) = refl
-count_outlined (chosen m us) = refl
-count_outlined (counted m u) = refl
-count_outlined (back m) = refl
+pub count_keys_alone : (vs : Values) → count_values (keys_alone vs) ≡ count_values vs
+count_keys_alone no_values = refl
+count_keys_alone (more_values v vs) = ap (λ n. 1 + n) (count_keys_alone vs)
 
-pub items_there : (vs : Values) → have_items (all_by_keys vs) ≡ true → HasItems vs
-items_there no_values e = absurd (cc)
-items_there (more_values v vs) e = subst (λ n. 1 ≤ n) (count_outlined v) (leb-true 1 (count_values (members (by_keys v))) e)
+pub count_by_keys : (v : Value) → count_values (members (by_keys v)) ≡ count_values (members v)
+count_by_keys (group vs) = count_keys_alone vs
+count_by_keys (natural m) = refl
+count_by_keys (integer m) = refl
+count_by_keys (boolean m) = refl
+count_by_keys (string m) = refl
+count_by_keys (chosen m us) = refl
+count_by_keys (counted m u) = refl
+count_by_keys (back m) = refl
 
-led_to_items : (fit : Fit) (bytes : List ℕ) (ps : List Part) (vs : Values) → lead_to_items ps (first_seen_values ps vs) ≡ true → IsLed fit bytes ps vs
-led_to_items fit bytes [] vs e = tt
-led_to_items fit bytes (at pos s ∷ ps) vs e = tt
-led_to_items fit bytes (behind pos p len ∷ ps) vs e = tt
-led_to_items fit bytes (node level most k v pos ∷ ps) vs e = items_there vs e
-led_to_items fit bytes (child level most k v pos ∷ ps) vs e = tt
-led_to_items fit bytes (entry k key_pos v value_pos ∷ ps) vs e = tt
-led_to_items fit bytes (buckets target len cap it ∷ ps) vs e = absurd (cc)
-led_to_items fit bytes (place_at pos limit ∷ ps) vs e = tt
+erased_key : (v : Value) → erased (key_alone v) ≡ key_alone (erased v)
+erased_key (group no_values) = refl
+erased_key (group (more_values k vs)) = refl
+erased_key (natural m) = refl
+erased_key (integer m) = refl
+erased_key (boolean m) = refl
+erased_key (string m) = refl
+erased_key (chosen m us) = refl
+erased_key (counted m u) = refl
+erased_key (back m) = refl
 
-pub packed_settles : PackedSettles
-packed_settles fit bytes (at pos s) ps vs e = led_to_items fit bytes ps vs e
-packed_settles fit bytes (behind pos p len) ps vs e = tt
-packed_settles fit bytes (node level most k v pos) ps vs e = node_packed most (slice_index (drop pos bytes) 0) vs e
-packed_settles fit bytes (child level most k v pos) ps vs e = led_to_items fit bytes ps vs e
-packed_settles fit bytes (entry k key_pos v value_pos) ps vs e = tt
-packed_settles fit bytes (buckets target len cap it) ps vs e = tt
-packed_settles fit bytes (place_at pos limit) ps vs e = tt
+erased_keys : (vs : Values) → all_erased (keys_alone vs) ≡ keys_alone (all_erased vs)
+erased_keys no_values = refl
+erased_keys (more_values v vs) = ap₂ (λ a b. more_values a b) (erased_key v) (erased_keys vs)
+
+pub erased_by_keys : (v : Value) → all_erased (members (by_keys v)) ≡ keys_alone (members (erased v))
+erased_by_keys (group vs) = erased_keys vs
+erased_by_keys (natural m) = refl
+erased_by_keys (integer m) = refl
+erased_by_keys (boolean m) = refl
+erased_by_keys (string m) = refl
+erased_by_keys (chosen m us) = refl
+erased_by_keys (counted m u) = refl
+erased_by_keys (back m) = refl
+
+are_naturals : (ns : List ℕ) (vs : Values) → keys_alone vs ≡ naturals ns → vs ≡ naturals ns
+are_naturals [] no_values e = refl
+are_naturals [] (more_values v vs) e = absurd (cc)
+are_naturals (n ∷ ns) no_values e = absurd (cc)
+are_naturals (n ∷ ns) (more_values (natural m) vs) e =
+    let same : m ≡ n = cc in
+    let rest : keys_alone vs ≡ naturals ns = cc in
+    ap₂ (λ a b. more_values (natural a) b) same (are_naturals ns vs rest)
+are_naturals (n ∷ ns) (more_values (group no_values) vs) e = absurd (cc)
+are_naturals (n ∷ ns) (more_values (group (more_values k us)) vs) e = absurd (cc)
+are_naturals (n ∷ ns) (more_values (integer m) vs) e = absurd (cc)
+are_naturals (n ∷ ns) (more_values (boolean m) vs) e = absurd (cc)
+are_naturals (n ∷ ns) (more_values (string bs) vs) e = absurd (cc)
+are_naturals (n ∷ ns) (more_values (chosen t us) vs) e = absurd (cc)
+are_naturals (n ∷ ns) (more_values (counted t u) vs) e = absurd (cc)
+are_naturals (n ∷ ns) (more_values (back t) vs) e = absurd (cc)
+
+of_numbers : (ns : List ℕ) (v : Value) → by_keys v ≡ group (naturals ns) → v ≡ group (naturals ns)
+of_numbers ns (group vs) e = let inner : keys_alone vs ≡ naturals ns = cc in ap (λ x. group x) (are_naturals ns vs inner)
+of_numbers ns (natural m) e = absurd (cc)
+of_numbers ns (integer m) e = absurd (cc)
+of_numbers ns (boolean m) e = absurd (cc)
+of_numbers ns (string bs) e = absurd (cc)
+of_numbers ns (chosen t us) e = absurd (cc)
+of_numbers ns (counted t u) e = absurd (cc)
+of_numbers ns (back t) e = absurd (cc)
+
+pub buckets_filled : (fit : Fit) (bytes : List ℕ) (target len cap : ℕ) (vs : Values)
+    → IsFitted fit (window bytes target (control_count cap)) len cap (all_by_keys vs) → IsFilledAs (choices fit) bytes target len cap vs
+buckets_filled fit bytes target len cap no_values e = absurd e
+buckets_filled fit bytes target len cap (more_values items no_values) e =
+    (sym (count_by_keys items) ∙ e.0, e.1, e.2 ∙ ap fit.table_controls (erased_by_keys items))
+buckets_filled fit bytes target len cap (more_values numbers (more_values entries no_values)) e =
+    (sym (count_by_keys entries) ∙ e.0, e.1, e.2 ∙ ap fit.map_controls (erased_by_keys entries),
+    of_numbers (fit.map_numbers (keys_alone (members (erased entries)))) numbers (e.3 ∙ ap (λ ks. group (naturals (fit.map_numbers ks))) (erased_by_keys entries)))
+buckets_filled fit bytes target len cap (more_values numbers (more_values entries (more_values v vs))) e = absurd e
+
+items_there : (vs : Values) → HasItems (all_by_keys vs) → HasItems vs
+items_there no_values e = absurd e
+items_there (more_values v vs) e = subst (λ n. 1 ≤ n) (count_by_keys v) e
+
+leads_chosen : (fit : Fit) (bytes : List ℕ) (ps : List Part) (vs : Values) (seen : List ℕ) → seen ≡ first_seen_bytes bytes ps
+    → LeadsSettled fit seen ps (first_seen_values ps vs) → LeadsChosen (choices fit) bytes ps vs
+leads_chosen fit bytes [] vs seen s e = tt
+leads_chosen fit bytes (at pos s ∷ ps) vs seen is e = tt
+leads_chosen fit bytes (behind pos p len ∷ ps) vs seen is e = tt
+leads_chosen fit bytes (node level most k v pos ∷ ps) vs seen is e = items_there vs e
+leads_chosen fit bytes (child level most k v pos ∷ ps) vs seen is e = tt
+leads_chosen fit bytes (entry k key_pos v value_pos ∷ ps) vs seen is e = tt
+leads_chosen fit bytes (buckets target len cap it ∷ ps) vs seen is e =
+    buckets_filled fit bytes target len cap vs (subst (λ x. IsFitted fit x len cap (all_by_keys vs)) is e)
+leads_chosen fit bytes (place_at pos limit ∷ ps) vs seen is e = tt
+
+-- what is settled is chosen
+pub settled_chosen : (fit : Fit) (bytes : List ℕ) (p : Part) (ps : List Part) (vs : Values) → IsSettled fit bytes p ps vs → IsChosen (choices fit) bytes p ps vs
+settled_chosen fit bytes (at pos s) ps vs e = leads_chosen fit bytes ps vs _ refl e
+settled_chosen fit bytes (behind pos p len) ps vs e = tt
+settled_chosen fit bytes (node level most k v pos) ps vs e = node_packed most (slice_index (drop pos bytes) 0) vs e
+settled_chosen fit bytes (child level most k v pos) ps vs e = leads_chosen fit bytes ps vs _ refl e
+settled_chosen fit bytes (entry k key_pos v value_pos) ps vs e = tt
+settled_chosen fit bytes (buckets target len cap it) ps vs e = tt
+settled_chosen fit bytes (place_at pos limit) ps vs e = tt

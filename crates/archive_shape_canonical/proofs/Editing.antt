@@ -1,4 +1,4 @@
--- A write to one leaf's own bytes leaves a neat reading neat.
+-- A write to one leaf's own bytes leaves a canonical archive canonical.
 use Rattle.std.proofs.Common.{Bool, true, false, ◌≡◌, ℕ, zero, suc, ◌+◌, ◌-◌, ◌*◌, ◌≤◌, ◌<◌, List, [], ◌∷◌, ◌++◌, drop, length, slice_index, Some, refl, ap, ap₂, sym, subst, ◌∙◌, arith, le_refl, ◌⊎◌, inl, inr, ⊎_elim, get_or-take, get_or-drop, add_assoc, nat_le, ◌&&◌, max, ◌==◌}
 use Rattle.archive_shape_layout.specs.Bytes.{window, align_up, word_at}
 use Rattle.archive_shape_layout.specs.Shape.{Shape, size_of, align_of}
@@ -26,10 +26,12 @@ use Rattle.archive_shape_layout.proofs.Paths.{put_label}
 use Rattle.archive_shape_layout.proofs.Stood.{stands_in_value, stands_all}
 use Rattle.archive_shape_layout.proofs.Edits.{InAny, any_here, any_later}
 use Rattle.archive_shape_canonical.specs.Clean.{IsIn, IsClean}
-use Rattle.archive_shape_canonical.specs.Canonical.{key_alone, keys_alone, by_keys, all_by_keys, blank, blanks, all_blank, first_seen_values, seen_values, seen_bytes_of, Obeys, end_of, end_of_all, Rule, IsCanonical, AreCanonical, InRegions, CanonicalArchive}
+use Rattle.archive_shape_canonical.specs.Seen.{key_alone, keys_alone, by_keys, all_by_keys, blank, blanks, all_blank, first_seen_values, seen_values, seen_bytes_of}
+use Rattle.archive_shape_canonical.specs.Settled.{Fit, IsSettled}
+use Rattle.archive_shape_canonical.specs.Canonical.{end_of, end_of_all, IsCanonical, AreCanonical, InRegions, CanonicalArchive}
 use Rattle.archive_shape_canonical.specs.Laws.{IsBehindKey, IsOnward, AvoidsItemKey, AvoidsKey, AvoidsKeys, AvoidKeys, CanonicalEditOfLeaf, CanonicalEditOfText}
-use Rattle.archive_shape_canonical.proofs.Kept.{plain_looks, claimed_looks, span_looks, either, plain_stays, claimed_stays, plain_leads, claimed_leads}
-use Rattle.archive_shape_canonical.proofs.Framing.{ruled, SeenCanonicalIn, SeenAllCanonicalIn, framed, framed_all}
+use Rattle.archive_shape_canonical.proofs.Kept.{plain_seen, claimed_seen, span_seen, either, plain_stays, claimed_stays, plain_leads, claimed_leads}
+use Rattle.archive_shape_canonical.proofs.Framing.{settled_still, SeenCanonicalIn, SeenAllCanonicalIn, framed, framed_all}
 
 any_fits : (w n low high : ℕ) (ps : List Part) → AllFit low high ps → InAny w n ps → (low ≤ w) × (w + n ≤ high)
 any_fits w n low high [] _ i = elim i [ ]
@@ -274,20 +276,20 @@ one_follows : (low high : ℕ) (s : Span) (level : ℕ) → Ascends low high (re
 unfolding Ascends end_after
 one_follows low high s level a = (a.0.after, refl)
 
--- ---- readings that are neat, by what stands at the part
+-- ---- canonical parts, by what stands at them
 
-module _ (rule : Rule) (names : Names) (bytes : List ℕ) where
-  record NeatPlain (level : ℕ) (inside : List OpenShared) (p : Part) (l : Label) (ps : List Part) (v : Value) (rs : List Region) (before after : List Visit) (low end : ℕ) : Type 0 where
+module _ (fit : Fit) (names : Names) (bytes : List ℕ) where
+  record CanonicalPlain (level : ℕ) (inside : List OpenShared) (p : Part) (l : Label) (ps : List Part) (v : Value) (rs : List Region) (before after : List Visit) (low end : ℕ) : Type 0 where
     vs : Values
     legal : IsLegal l
     all : HoldAll names bytes level inside ps vs rs before after
     is_made : made l vs ≡ Some v
     clean : IsClean names bytes p
-    by_rule : Obeys rule bytes p ps vs
-    canonical : AreCanonical rule all low
+    settled : IsSettled fit bytes p ps vs
+    canonical : AreCanonical fit all low
     ends : end ≡ end_of_all all low
 
-  record NeatClaimed (level : ℕ) (inside : List OpenShared) (p : Part) (s : Span) (l : Label) (ps : List Part) (v : Value) (rs : List Region) (before after : List Visit) (low end : ℕ) : Type 0 where
+  record CanonicalClaimed (level : ℕ) (inside : List OpenShared) (p : Part) (s : Span) (l : Label) (ps : List Part) (v : Value) (rs : List Region) (before after : List Visit) (low end : ℕ) : Type 0 where
     vs : Values
     within : List Region
     legal : IsLegal l
@@ -295,42 +297,42 @@ module _ (rule : Rule) (names : Names) (bytes : List ℕ) where
     is_made : made l vs ≡ Some v
     regions_are : rs ≡ within ++ region_of s level ∷ []
     clean : IsClean names bytes p
-    by_rule : Obeys rule bytes p ps vs
-    canonical : AreCanonical rule all low
+    settled : IsSettled fit bytes p ps vs
+    canonical : AreCanonical fit all low
     placed : s.start ≡ align_up (end_of_all all low) s.align
     ends : end ≡ s.start + s.size
 
-  neat_plain : {level : ℕ} {inside : List OpenShared} {p : Part} {l : Label} {ps : List Part} {v : Value} {rs : List Region} {before after : List Visit} (low : ℕ)
-      → content_of names bytes p ≡ plain l ps → (h : Holds names bytes level inside p v rs before after) → IsCanonical rule h low
-      → NeatPlain level inside p l ps v rs before after low (end_of h low)
-  neat_plain {level = level} {inside = inside} {p = p} {l = l} {ps = ps} {v = v} {rs = rs} {before = before} {after = after} low e (holds_plain {l = l'} {ps = ps'} {vs = vs} f legal all m) n =
+  canonical_plain : {level : ℕ} {inside : List OpenShared} {p : Part} {l : Label} {ps : List Part} {v : Value} {rs : List Region} {before after : List Visit} (low : ℕ)
+      → content_of names bytes p ≡ plain l ps → (h : Holds names bytes level inside p v rs before after) → IsCanonical fit h low
+      → CanonicalPlain level inside p l ps v rs before after low (end_of h low)
+  canonical_plain {level = level} {inside = inside} {p = p} {l = l} {ps = ps} {v = v} {rs = rs} {before = before} {after = after} low e (holds_plain {l = l'} {ps = ps'} {vs = vs} f legal all m) n =
       let el : l' ≡ l = cc in
       let ep : ps' ≡ ps = cc in
-      let here : NeatPlain level inside p l' ps' v rs before after low (end_of_all all low) =
-      record { vs = vs; legal = legal; all = all; is_made = m; clean = n.0; by_rule = n.1; canonical = n.2; ends = refl } in
-      subst (λ x. NeatPlain level inside p l x v rs before after low (end_of_all all low)) ep
-      (subst (λ x. NeatPlain level inside p x ps' v rs before after low (end_of_all all low)) el here)
-  neat_plain low e (holds_claimed f legal all m r) n = absurd (cc)
-  neat_plain low e (holds_first f a b h d g) n = absurd (cc)
-  neat_plain low e (holds_later f a b d g h) n = absurd (cc)
-  neat_plain low e (holds_back f a b c d) n = absurd (cc)
+      let here : CanonicalPlain level inside p l' ps' v rs before after low (end_of_all all low) =
+      record { vs = vs; legal = legal; all = all; is_made = m; clean = n.0; settled = n.1; canonical = n.2; ends = refl } in
+      subst (λ x. CanonicalPlain level inside p l x v rs before after low (end_of_all all low)) ep
+      (subst (λ x. CanonicalPlain level inside p x ps' v rs before after low (end_of_all all low)) el here)
+  canonical_plain low e (holds_claimed f legal all m r) n = absurd (cc)
+  canonical_plain low e (holds_first f a b h d g) n = absurd (cc)
+  canonical_plain low e (holds_later f a b d g h) n = absurd (cc)
+  canonical_plain low e (holds_back f a b c d) n = absurd (cc)
 
-  neat_claimed : {level : ℕ} {inside : List OpenShared} {p : Part} {s : Span} {l : Label} {ps : List Part} {v : Value} {rs : List Region} {before after : List Visit} (low : ℕ)
-      → content_of names bytes p ≡ claimed s l ps → (h : Holds names bytes level inside p v rs before after) → IsCanonical rule h low
-      → NeatClaimed level inside p s l ps v rs before after low (end_of h low)
-  neat_claimed low e (holds_plain f legal all m) n = absurd (cc)
-  neat_claimed {level = level} {inside = inside} {p = p} {s = s} {l = l} {ps = ps} {v = v} {rs = rs} {before = before} {after = after} low e (holds_claimed {within = within} {s = s'} {l = l'} {ps = ps'} {vs = vs} f legal all m r) n =
+  canonical_claimed : {level : ℕ} {inside : List OpenShared} {p : Part} {s : Span} {l : Label} {ps : List Part} {v : Value} {rs : List Region} {before after : List Visit} (low : ℕ)
+      → content_of names bytes p ≡ claimed s l ps → (h : Holds names bytes level inside p v rs before after) → IsCanonical fit h low
+      → CanonicalClaimed level inside p s l ps v rs before after low (end_of h low)
+  canonical_claimed low e (holds_plain f legal all m) n = absurd (cc)
+  canonical_claimed {level = level} {inside = inside} {p = p} {s = s} {l = l} {ps = ps} {v = v} {rs = rs} {before = before} {after = after} low e (holds_claimed {within = within} {s = s'} {l = l'} {ps = ps'} {vs = vs} f legal all m r) n =
       let es : s' ≡ s = cc in
       let el : l' ≡ l = cc in
       let ep : ps' ≡ ps = cc in
-      let here : NeatClaimed level inside p s' l' ps' v rs before after low (s'.start + s'.size) =
-      record { vs = vs; within = within; legal = legal; all = all; is_made = m; regions_are = r; clean = n.0; by_rule = n.1; canonical = n.2; placed = n.3; ends = refl } in
-      subst (λ x. NeatClaimed level inside p s l x v rs before after low (s'.start + s'.size)) ep
-      (subst (λ x. NeatClaimed level inside p s x ps' v rs before after low (s'.start + s'.size)) el
-      (subst (λ x. NeatClaimed level inside p x l' ps' v rs before after low (s'.start + s'.size)) es here))
-  neat_claimed low e (holds_first f a b h d g) n = absurd (cc)
-  neat_claimed low e (holds_later f a b d g h) n = absurd (cc)
-  neat_claimed low e (holds_back f a b c d) n = absurd (cc)
+      let here : CanonicalClaimed level inside p s' l' ps' v rs before after low (s'.start + s'.size) =
+      record { vs = vs; within = within; legal = legal; all = all; is_made = m; regions_are = r; clean = n.0; settled = n.1; canonical = n.2; placed = n.3; ends = refl } in
+      subst (λ x. CanonicalClaimed level inside p s l x v rs before after low (s'.start + s'.size)) ep
+      (subst (λ x. CanonicalClaimed level inside p s x ps' v rs before after low (s'.start + s'.size)) el
+      (subst (λ x. CanonicalClaimed level inside p x l' ps' v rs before after low (s'.start + s'.size)) es here))
+  canonical_claimed low e (holds_first f a b h d g) n = absurd (cc)
+  canonical_claimed low e (holds_later f a b d g h) n = absurd (cc)
+  canonical_claimed low e (holds_back f a b c d) n = absurd (cc)
 
 InRegions-left : (rs qs : List Region) (i : ℕ) → InRegions rs i → InRegions (rs ++ qs) i
 InRegions-left [] qs i h = absurd h
@@ -340,41 +342,41 @@ InRegions-right : (rs qs : List Region) (i : ℕ) → InRegions qs i → InRegio
 InRegions-right [] qs i h = h
 InRegions-right (r ∷ rs) qs i h = inr (InRegions-right rs qs i h)
 
--- ---- what a rule may see of values stays where no key changes
+-- ---- what a fit may see of values stays where no key changes
 
-keyed_stays : (j : ℕ) (path : List ℕ) (new : Value) (v : Value) → key_alone (put_at (suc j ∷ path) new v) ≡ key_alone v
-keyed_stays j path new (group no_values) = refl
-keyed_stays j path new (group (more_values k vs)) = refl
-keyed_stays j path new (chosen t vs) = refl
-keyed_stays j path new (natural m) = refl
-keyed_stays j path new (integer m) = refl
-keyed_stays j path new (boolean m) = refl
-keyed_stays j path new (string m) = refl
-keyed_stays j path new (counted t v) = refl
-keyed_stays j path new (back t) = refl
+key_alone_stays : (j : ℕ) (path : List ℕ) (new : Value) (v : Value) → key_alone (put_at (suc j ∷ path) new v) ≡ key_alone v
+key_alone_stays j path new (group no_values) = refl
+key_alone_stays j path new (group (more_values k vs)) = refl
+key_alone_stays j path new (chosen t vs) = refl
+key_alone_stays j path new (natural m) = refl
+key_alone_stays j path new (integer m) = refl
+key_alone_stays j path new (boolean m) = refl
+key_alone_stays j path new (string m) = refl
+key_alone_stays j path new (counted t v) = refl
+key_alone_stays j path new (back t) = refl
 
-all_keyed_stay : (i j : ℕ) (path : List ℕ) (new : Value) (vs : Values) → keys_alone (change_in i (λ x. put_at (suc j ∷ path) new x) vs) ≡ keys_alone vs
-all_keyed_stay i j path new no_values = refl
-all_keyed_stay zero j path new (more_values v vs) = ap (λ x. more_values x (keys_alone vs)) (keyed_stays j path new v)
-all_keyed_stay (suc i) j path new (more_values v vs) = ap (λ x. more_values (key_alone v) x) (all_keyed_stay i j path new vs)
+keys_alone_stay : (i j : ℕ) (path : List ℕ) (new : Value) (vs : Values) → keys_alone (change_in i (λ x. put_at (suc j ∷ path) new x) vs) ≡ keys_alone vs
+keys_alone_stay i j path new no_values = refl
+keys_alone_stay zero j path new (more_values v vs) = ap (λ x. more_values x (keys_alone vs)) (key_alone_stays j path new v)
+keys_alone_stay (suc i) j path new (more_values v vs) = ap (λ x. more_values (key_alone v) x) (keys_alone_stay i j path new vs)
 
-outlined_stays : (inner : List ℕ) (new : Value) (v : Value) → IsBehindKey inner → by_keys (put_at inner new v) ≡ by_keys v
-outlined_stays [] new v h = absurd h
-outlined_stays (i ∷ []) new v h = absurd h
-outlined_stays (i ∷ (zero ∷ path)) new v h = absurd h
-outlined_stays (i ∷ (suc j ∷ path)) new (group vs) h = ap (λ x. group x) (all_keyed_stay i j path new vs)
-outlined_stays (i ∷ (suc j ∷ path)) new (chosen t vs) h = refl
-outlined_stays (i ∷ (suc j ∷ path)) new (natural m) h = refl
-outlined_stays (i ∷ (suc j ∷ path)) new (integer m) h = refl
-outlined_stays (i ∷ (suc j ∷ path)) new (boolean m) h = refl
-outlined_stays (i ∷ (suc j ∷ path)) new (string m) h = refl
-outlined_stays (i ∷ (suc j ∷ path)) new (counted t v) h = refl
-outlined_stays (i ∷ (suc j ∷ path)) new (back t) h = refl
+by_keys_stays : (inner : List ℕ) (new : Value) (v : Value) → IsBehindKey inner → by_keys (put_at inner new v) ≡ by_keys v
+by_keys_stays [] new v h = absurd h
+by_keys_stays (i ∷ []) new v h = absurd h
+by_keys_stays (i ∷ (zero ∷ path)) new v h = absurd h
+by_keys_stays (i ∷ (suc j ∷ path)) new (group vs) h = ap (λ x. group x) (keys_alone_stay i j path new vs)
+by_keys_stays (i ∷ (suc j ∷ path)) new (chosen t vs) h = refl
+by_keys_stays (i ∷ (suc j ∷ path)) new (natural m) h = refl
+by_keys_stays (i ∷ (suc j ∷ path)) new (integer m) h = refl
+by_keys_stays (i ∷ (suc j ∷ path)) new (boolean m) h = refl
+by_keys_stays (i ∷ (suc j ∷ path)) new (string m) h = refl
+by_keys_stays (i ∷ (suc j ∷ path)) new (counted t v) h = refl
+by_keys_stays (i ∷ (suc j ∷ path)) new (back t) h = refl
 
-all_outlined_stay : (i : ℕ) (inner : List ℕ) (new : Value) (vs : Values) → IsBehindKey inner → all_by_keys (change_in i (λ x. put_at inner new x) vs) ≡ all_by_keys vs
-all_outlined_stay i inner new no_values h = refl
-all_outlined_stay zero inner new (more_values v vs) h = ap (λ x. more_values x (all_by_keys vs)) (outlined_stays inner new v h)
-all_outlined_stay (suc i) inner new (more_values v vs) h = ap (λ x. more_values (by_keys v) x) (all_outlined_stay i inner new vs h)
+all_by_keys_stay : (i : ℕ) (inner : List ℕ) (new : Value) (vs : Values) → IsBehindKey inner → all_by_keys (change_in i (λ x. put_at inner new x) vs) ≡ all_by_keys vs
+all_by_keys_stay i inner new no_values h = refl
+all_by_keys_stay zero inner new (more_values v vs) h = ap (λ x. more_values x (all_by_keys vs)) (by_keys_stays inner new v h)
+all_by_keys_stay (suc i) inner new (more_values v vs) h = ap (λ x. more_values (by_keys v) x) (all_by_keys_stay i inner new vs h)
 
 blanks_stay : (i : ℕ) (f : Value → Value) (vs : Values) → blanks (change_in i f vs) ≡ blanks vs
 blanks_stay i f no_values = refl
@@ -397,40 +399,40 @@ all_blank_stay i inner new no_values h = refl
 all_blank_stay zero inner new (more_values v vs) h = ap (λ x. more_values x (all_blank vs)) (blank_stays inner new v h)
 all_blank_stay (suc i) inner new (more_values v vs) h = ap (λ x. more_values (blank v) x) (all_blank_stay i inner new vs h)
 
-first_shown_stays : (ps : List Part) (vs : Values) (i : ℕ) (inner : List ℕ) (new : Value) → AvoidsItemKey ps inner → first_seen_values ps (change_in i (λ x. put_at inner new x) vs) ≡ first_seen_values ps vs
-first_shown_stays [] vs i inner new h = refl
-first_shown_stays (at pos s ∷ ps) vs i inner new h = refl
-first_shown_stays (behind pos q len ∷ ps) vs i inner new h = refl
-first_shown_stays (node level most k v pos ∷ ps) vs i inner new h = all_outlined_stay i inner new vs h
-first_shown_stays (child level most k v pos ∷ ps) vs i inner new h = refl
-first_shown_stays (entry k a v b ∷ ps) vs i inner new h = refl
-first_shown_stays (buckets target len many it ∷ ps) vs i inner new h = all_outlined_stay i inner new vs h
-first_shown_stays (place_at pos limit ∷ ps) vs i inner new h = refl
+first_values_stay : (ps : List Part) (vs : Values) (i : ℕ) (inner : List ℕ) (new : Value) → AvoidsItemKey ps inner → first_seen_values ps (change_in i (λ x. put_at inner new x) vs) ≡ first_seen_values ps vs
+first_values_stay [] vs i inner new h = refl
+first_values_stay (at pos s ∷ ps) vs i inner new h = refl
+first_values_stay (behind pos q len ∷ ps) vs i inner new h = refl
+first_values_stay (node level most k v pos ∷ ps) vs i inner new h = all_by_keys_stay i inner new vs h
+first_values_stay (child level most k v pos ∷ ps) vs i inner new h = refl
+first_values_stay (entry k a v b ∷ ps) vs i inner new h = refl
+first_values_stay (buckets target len many it ∷ ps) vs i inner new h = all_by_keys_stay i inner new vs h
+first_values_stay (place_at pos limit ∷ ps) vs i inner new h = refl
 
-shown_stays : (p : Part) (ps : List Part) (vs : Values) (i : ℕ) (inner : List ℕ) (new : Value) → AvoidsKey p ps inner → seen_values p ps (change_in i (λ x. put_at inner new x) vs) ≡ seen_values p ps vs
-shown_stays (at pos s) ps vs i inner new h = first_shown_stays ps vs i inner new h
-shown_stays (behind pos q len) ps vs i inner new h = refl
-shown_stays (node level most k v pos) ps vs i inner new h = all_blank_stay i inner new vs h
-shown_stays (child level most k v pos) ps vs i inner new h = first_shown_stays ps vs i inner new h
-shown_stays (entry k a v b) ps vs i inner new h = refl
-shown_stays (buckets target len many it) ps vs i inner new h = refl
-shown_stays (place_at pos limit) ps vs i inner new h = refl
+values_stay : (p : Part) (ps : List Part) (vs : Values) (i : ℕ) (inner : List ℕ) (new : Value) → AvoidsKey p ps inner → seen_values p ps (change_in i (λ x. put_at inner new x) vs) ≡ seen_values p ps vs
+values_stay (at pos s) ps vs i inner new h = first_values_stay ps vs i inner new h
+values_stay (behind pos q len) ps vs i inner new h = refl
+values_stay (node level most k v pos) ps vs i inner new h = all_blank_stay i inner new vs h
+values_stay (child level most k v pos) ps vs i inner new h = first_values_stay ps vs i inner new h
+values_stay (entry k a v b) ps vs i inner new h = refl
+values_stay (buckets target len many it) ps vs i inner new h = refl
+values_stay (place_at pos limit) ps vs i inner new h = refl
 
 module _
-    (rule : Rule) (names : Names) (bytes others : List ℕ) (w n : ℕ) (q : Part) (old new : Value)
+    (fit : Fit) (names : Names) (bytes others : List ℕ) (w n : ℕ) (q : Part) (old new : Value)
     (spares : Spares bytes others w n)
   where
     abbrev LiesIn : Type 0 → ℕ → List Region → Type 0
     LiesIn own low rs = own ⊎ ((low ≤ w) × (w + n ≤ end_after low rs) × ((i : ℕ) → IsIn w n i → InRegions rs i))
 
-    -- what is known of a part: where the window lies in it, and its neat reading in the other bytes
+    -- what is known of a part: where the window lies in it, and that it is canonical in the other bytes
     record Edited (level : ℕ) (inside : List OpenShared) (p : Part) (v : Value) (rs : List Region) (before after : List Visit) (low from end : ℕ) : Type 0 where
       lies : LiesIn (InOwn w n p) low rs
-      there : SeenCanonicalIn bytes others names rule level inside p v rs before after from end
+      there : SeenCanonicalIn bytes others names fit level inside p v rs before after from end
 
     record EditedAll (level : ℕ) (inside : List OpenShared) (ps : List Part) (vs : Values) (rs : List Region) (before after : List Visit) (low from end : ℕ) : Type 0 where
       lies : LiesIn (InAny w n ps) low rs
-      there : SeenAllCanonicalIn bytes others names rule level inside ps vs rs before after from end
+      there : SeenAllCanonicalIn bytes others names fit level inside ps vs rs before after from end
 
     all_own : (base top : ℕ) (p : Part) (ps : List Part) → AllFit base top ps → (InOwn w n p × AllApart p ps) ⊎ (w + n ≤ base) → AllOwn bytes others ps
     all_own base top p [] AllFit.fit_none o = own_none
@@ -441,7 +443,7 @@ module _
 
     module _
         (at_leaf : (level : ℕ) (inside : List OpenShared) (p : Part) (v : Value) (rs : List Region) (before after : List Visit) (low high from to : ℕ)
-        → p ≡ q → v ≡ old → Ascends low high rs → (h : Holds names bytes level inside p v rs before after) → IsCanonical rule h from → to ≡ from
+        → p ≡ q → v ≡ old → Ascends low high rs → (h : Holds names bytes level inside p v rs before after) → IsCanonical fit h from → to ≡ from
         → Edited level inside p new rs before after low to (end_of h from))
       where
         mutual
@@ -455,14 +457,14 @@ module _
               → end_after low rs ≤ base
               → Ascends low high rs
               → (h : Holds names bytes level inside p u rs before after)
-              → IsCanonical rule h from
+              → IsCanonical fit h from
               → to ≡ from
               → Edited level inside p (put_at path new u) rs before after low to (end_of h from)
           edit {level = level} {inside = inside} {p = p} {u = u} {rs = rs} {before = before} {after = after} low high base top from to (stands_here ep ev er) free es eu f under a h k eq =
               let d = at_leaf level inside p u rs before after low high from to ep (sym eu ∙ ev) a h k eq in
               subst (λ x. Edited level inside p (put_at x new u) rs before after low to (end_of h from)) (sym er) d
           edit {level = level} {inside = inside} {p = p} {v = v} {u = u} {path = path} {rs = rs} {since = since} {before = before} {after = after} low high base top from to (stands_plain {inner = inner} {l = m} {ps = ps} {vs = vs} {i = i} e within is_made through) free es eu f under a h k eq =
-              let o = neat_plain rule names bytes from e h k in
+              let o = canonical_plain fit names bytes from e h k in
               let parts = plain_parts names bytes base top p f e in
               let s = stands_all names bytes q old within in
               let us = one_list names bytes o.vs rs after (subst (λ b. HoldAll names bytes level inside ps vs s.regions b s.after) es s.all) o.all in
@@ -472,7 +474,7 @@ module _
               let apart = λ (b : (low ≤ w) × (w + n ≤ end_after low rs) × ((j : ℕ) → IsIn w n j → InRegions rs j)). own_agrees bytes others w n spares p (f.outside w n (inl (let y = b.1 in omega arith))) in
               let alike : content_of names others p ≡ plain m ps =
               ⊎_elim (λ j. kept_plain bytes others w n spares names p e j) (λ b. stable_plain bytes others names p (apart b) e) d.lies in
-              let seen = plain_looks bytes others names p e in
+              let seen = plain_seen bytes others names p e in
               let clean = ⊎_elim (λ j. plain_leads bytes others w n spares names p e alike j o.clean) (λ b. plain_stays bytes others names p e alike (apart b) o.clean) d.lies in
               let made_is = ap (λ y. made m (change_in i (λ z. put_at inner new z) y)) (sym us.values) ∙ put.is_made in
               let there = d.there in
@@ -481,12 +483,12 @@ module _
                 there = record {
                   seen_bytes = seen;
                   holds = holds_plain alike o.legal there.all made_is;
-                  canonical = (clean, ruled bytes others names rule p ps o.vs _ seen there.seen_bytes (shown_stays p ps o.vs i inner new free.0) o.by_rule, there.canonical);
+                  canonical = (clean, settled_still bytes others names fit p ps o.vs _ seen there.seen_bytes (values_stay p ps o.vs i inner new free.0) o.settled, there.canonical);
                   ends = there.ends ∙ sym o.ends;
                 };
               }
           edit {level = level} {inside = inside} {p = p} {v = v} {u = u} {path = path} {rs = rs} {since = since} {before = before} {after = after} low high base top from to (stands_claimed {inner = inner} {s = s} {l = m} {ps = ps} {vs = vs} {i = i} e within is_made through) free es eu f under a h k eq =
-              let o = neat_claimed rule names bytes from e h k in
+              let o = canonical_claimed fit names bytes from e h k in
               let both = narrow low high o.within (region_of s level ∷ []) rs o.regions_are a in
               let next = one_follows (end_after low o.within) high s level both.0.1 in
               let total = both.1 in
@@ -501,7 +503,7 @@ module _
               let here = λ (b : (low ≤ w) × (w + n ≤ end_after low o.within) × ((j : ℕ) → IsIn w n j → InRegions o.within j)). spares.outside s.start s.size (inl (let y = b.1 in omega arith)) in
               let alike : content_of names others p ≡ claimed s m ps =
               ⊎_elim (λ j. kept_claimed bytes others w n spares names p e j) (λ b. stable_claimed bytes others names p (apart b) (here b) e) d.lies in
-              let seen = ⊎_elim (λ j. claimed_looks bytes others names p e alike (λ target len cap it is. controls_alike bytes others w n spares names target len cap it (subst (λ y. content_of names bytes y ≡ claimed s m ps) is e) j)) (λ b. span_looks bytes others names p e alike (here b)) d.lies in
+              let seen = ⊎_elim (λ j. claimed_seen bytes others names p e alike (λ target len cap it is. controls_alike bytes others w n spares names target len cap it (subst (λ y. content_of names bytes y ≡ claimed s m ps) is e) j)) (λ b. span_seen bytes others names p e alike (here b)) d.lies in
               let clean = ⊎_elim (λ j. claimed_leads bytes others w n spares names p e alike j o.clean) (λ b. claimed_stays bytes others names p e alike (apart b) (here b) o.clean) d.lies in
               let made_is = ap (λ y. made m (change_in i (λ z. put_at inner new z) y)) (sym us.values) ∙ put.is_made in
               let there = d.there in
@@ -514,7 +516,7 @@ module _
                 there = record {
                   seen_bytes = seen;
                   holds = holds_claimed alike o.legal there.all made_is o.regions_are;
-                  canonical = (clean, ruled bytes others names rule p ps o.vs _ seen there.seen_bytes (shown_stays p ps o.vs i inner new free.0) o.by_rule, there.canonical, o.placed ∙ ap (λ y. align_up y s.align) (sym there.ends));
+                  canonical = (clean, settled_still bytes others names fit p ps o.vs _ seen there.seen_bytes (values_stay p ps o.vs i inner new free.0) o.settled, there.canonical, o.placed ∙ ap (λ y. align_up y s.align) (sym there.ends));
                   ends = sym o.ends;
                 };
               }
@@ -530,7 +532,7 @@ module _
               → end_after low rs ≤ base
               → Ascends low high rs
               → (all : HoldAll names bytes level inside ps us rs before after)
-              → AreCanonical rule all from
+              → AreCanonical fit all from
               → to ≡ from
               → EditedAll level inside ps (change_in i (λ x. put_at path new x) us) rs before after low to (end_of_all all from)
           edit_in {level = level} {inside = inside} {path = path} {rs = rs} {before = before} {after = after} low high base top from to (stands_first {p = p} {ps = ps} {v = v} {vs = vs} stands holds rest_holds is zero_is) free es eu (AllFit.fit_more f fs) (Separate.sep_more apart sep) under a (holds_more {v = u} {vs = us} {here = here} {later = later} {between = between} h hs e r) k eq =
@@ -543,7 +545,7 @@ module _
               let first = d.there in
               let own = all_own base top p ps fs (⊎_elim (λ i. inl (i, apart)) (λ b. inr (let b1 = b.1 in omega arith)) d.lies) in
               let claims = regions_agree bytes others w n spares (end_after low here) high later both.0.1 (⊎_elim (λ i. let b = f.inside w n i in inr (omega arith)) (λ b. inl b.1) d.lies) in
-              let rest = framed_all bytes others names rule (end_of h from) (end_of first.holds to) own claims hs k.1 first.ends in
+              let rest = framed_all bytes others names fit (end_of h from) (end_of first.holds to) own claims hs k.1 first.ends in
               record {
                 lies = ⊎_elim (λ i. inl (any_here i)) (λ b. let b1 = b.1 in inr (b.0, omega arith, λ z c. subst (λ x. InRegions x z) (sym r) (InRegions-left here later z (b.2 z c)))) d.lies;
                 there = record {
@@ -564,7 +566,7 @@ module _
               let probe = edit_in (end_after low here) high base top (end_of h from) (end_of h from) stands free reached alike fs sep (omega arith) both.0.1 hs k.1 refl in
               let own = own_agrees bytes others w n spares p (⊎_elim (λ i. any_apart w n p ps apart i) (λ b. f.outside w n (inl (let b1 = b.1 in omega arith))) probe.lies) in
               let claims = regions_agree bytes others w n spares low high here both.0.0 (⊎_elim (λ i. let b = any_fits w n base top ps fs i in inr (omega arith)) (λ b. inr b.0) probe.lies) in
-              let first = framed bytes others names rule from to own claims h k.0 eq in
+              let first = framed bytes others names fit from to own claims h k.0 eq in
               let d = edit_in (end_after low here) high base top (end_of h from) (end_of first.holds to) stands free reached alike fs sep (omega arith) both.0.1 hs k.1 first.ends in
               let rest = d.there in
               record {
@@ -578,22 +580,22 @@ module _
               }
 
         -- the root, with the window at the leaf
-        edit_canonical : {pos : ℕ} {s : Shape} {v : Value} {path : List ℕ} {regions : List Region} {visits : List Visit}
-            → CanonicalArchive rule names bytes pos s v regions visits
+        edit_canonical : {start pos : ℕ} {s : Shape} {v : Value} {path : List ℕ} {regions : List Region} {visits : List Visit}
+            → CanonicalArchive fit names bytes start pos s v regions visits
             → (stands : Stands names bytes q old 0 [] [] (behind pos (sized s) 1) v path)
             → AvoidsKeys stands
             → ((i : ℕ) → slice_index others i < 256)
-            → CanonicalArchive rule names others pos s (put_at path new v) regions visits
-        edit_canonical {pos = pos} {s = s} {regions = regions} x stands free small =
+            → CanonicalArchive fit names others start pos s (put_at path new v) regions visits
+        edit_canonical {start = start} {pos = pos} {s = s} {regions = regions} x stands free small =
             let base = end_after 0 regions in
             let root = x.root in
-            let d = edit 0 (length bytes) base base 0 0 stands free refl refl (behind_fits base base pos (sized s) 1) (le_refl base) root.ascends root.holds x.canonical refl in
+            let d = edit 0 (length bytes) base base start start stands free refl refl (behind_fits base base pos (sized s) 1) (le_refl base) root.ascends root.holds x.canonical refl in
             let there = d.there in
             record {
               root = record { holds = there.holds; ascends = subst (λ m. Ascends 0 m regions) (sym spares.length) root.ascends };
               canonical = there.canonical;
               ends = there.ends ∙ x.ends ∙ sym spares.length;
-              gaps = λ i. ⊎_elim (λ c. inl (⊎_elim (λ o. absurd o) (λ b. b.2 i c) d.lies)) (λ alike. ⊎_elim (λ c. inl c) (λ z. inr (sym alike ∙ z)) (x.gaps i)) (either bytes others w n spares i);
+              gaps = λ i far. ⊎_elim (λ c. inl (⊎_elim (λ o. absurd o) (λ b. b.2 i c) d.lies)) (λ alike. ⊎_elim (λ c. inl c) (λ z. inr (sym alike ∙ z)) (x.gaps i far)) (either bytes others w n spares i);
               once = x.once;
               bytes_are = small;
             }
@@ -601,23 +603,23 @@ module _
 -- ---- the two leaves
 
 pub canonical_edit_of_leaf_law : CanonicalEditOfLeaf
-canonical_edit_of_leaf_law rule names bytes others pos s v regions visits path leaf_pos leaf_shape old new k l x stands free spares was is legal makes clean small =
-    edit_canonical rule names bytes others leaf_pos (size_of leaf_shape) (at leaf_pos leaf_shape) old new spares in_place x stands free small
+canonical_edit_of_leaf_law fit names bytes others start pos s v regions visits path leaf_pos leaf_shape old new k l x stands free spares was is legal makes clean small =
+    edit_canonical fit names bytes others leaf_pos (size_of leaf_shape) (at leaf_pos leaf_shape) old new spares in_place x stands free small
   where
     in_place : (level : ℕ) (inside : List OpenShared) (p : Part) (u : Value) (rs : List Region) (before after : List Visit) (low high from to : ℕ)
-        → p ≡ at leaf_pos leaf_shape → u ≡ old → Ascends low high rs → (h : Holds names bytes level inside p u rs before after) → IsCanonical rule h from → to ≡ from
-        → Edited rule names bytes others leaf_pos (size_of leaf_shape) (at leaf_pos leaf_shape) old new spares level inside p new rs before after low to (end_of h from)
-    in_place level inside p u rs before after low high from to ep eu a h neat eq =
-        let o = neat_plain rule names bytes from (ap (content_of names bytes) ep ∙ was) h neat in
-        let same_looks : seen_bytes_of bytes p ≡ seen_bytes_of others p = subst (λ y. seen_bytes_of bytes y ≡ seen_bytes_of others y) (sym ep) refl in
-        let same_shown : seen_values p [] no_values ≡ seen_values p [] o.vs = subst (λ y. seen_values y [] no_values ≡ seen_values y [] o.vs) (sym ep) refl in
+        → p ≡ at leaf_pos leaf_shape → u ≡ old → Ascends low high rs → (h : Holds names bytes level inside p u rs before after) → IsCanonical fit h from → to ≡ from
+        → Edited fit names bytes others leaf_pos (size_of leaf_shape) (at leaf_pos leaf_shape) old new spares level inside p new rs before after low to (end_of h from)
+    in_place level inside p u rs before after low high from to ep eu a h canon eq =
+        let o = canonical_plain fit names bytes from (ap (content_of names bytes) ep ∙ was) h canon in
+        let same_bytes_seen : seen_bytes_of bytes p ≡ seen_bytes_of others p = subst (λ y. seen_bytes_of bytes y ≡ seen_bytes_of others y) (sym ep) refl in
+        let same_values_seen : seen_values p [] no_values ≡ seen_values p [] o.vs = subst (λ y. seen_values y [] no_values ≡ seen_values y [] o.vs) (sym ep) refl in
         let none = of_none o.all in
         record {
           lies = inl (subst (λ y. InOwn leaf_pos (size_of leaf_shape) y) (sym ep) (le_refl leaf_pos, le_refl _));
           there = record {
-            seen_bytes = same_looks;
+            seen_bytes = same_bytes_seen;
             holds = holds_plain (ap (content_of names others) ep ∙ is) legal (holds_none refl none.0 none.1) makes;
-            canonical = (subst (IsClean names others) (sym ep) clean, ruled bytes others names rule p [] o.vs no_values same_looks refl same_shown o.by_rule, tt);
+            canonical = (subst (IsClean names others) (sym ep) clean, settled_still bytes others names fit p [] o.vs no_values same_bytes_seen refl same_values_seen o.settled, tt);
             ends = eq ∙ sym (o.ends ∙ none.2 from);
           };
         }
@@ -627,17 +629,17 @@ canonical_edit_of_leaf_law rule names bytes others pos s v regions visits path l
 
 pub canonical_edit_of_text_law : CanonicalEditOfText
 unfolding pointee_content made
-canonical_edit_of_text_law rule names bytes others pos s v regions visits path text_pos len old x stands free spares legal small =
-    edit_canonical rule names bytes others text_pos len (behind text_pos str len) old (string (window others text_pos len)) spares behind_it x stands free small
+canonical_edit_of_text_law fit names bytes others start pos s v regions visits path text_pos len old x stands free spares legal small =
+    edit_canonical fit names bytes others text_pos len (behind text_pos str len) old (string (window others text_pos len)) spares behind_it x stands free small
   where
     behind_it : (level : ℕ) (inside : List OpenShared) (p : Part) (u : Value) (rs : List Region) (before after : List Visit) (low high from to : ℕ)
-        → p ≡ behind text_pos str len → u ≡ old → Ascends low high rs → (h : Holds names bytes level inside p u rs before after) → IsCanonical rule h from → to ≡ from
-        → Edited rule names bytes others text_pos len (behind text_pos str len) old (string (window others text_pos len)) spares level inside p (string (window others text_pos len)) rs before after low to (end_of h from)
-    behind_it level inside p u rs before after low high from to ep eu a h neat eq =
+        → p ≡ behind text_pos str len → u ≡ old → Ascends low high rs → (h : Holds names bytes level inside p u rs before after) → IsCanonical fit h from → to ≡ from
+        → Edited fit names bytes others text_pos len (behind text_pos str len) old (string (window others text_pos len)) spares level inside p (string (window others text_pos len)) rs before after low to (end_of h from)
+    behind_it level inside p u rs before after low high from to ep eu a h canon eq =
         let span : Span = record { start = text_pos; size = len; align = 1 } in
-        let o = neat_claimed rule names bytes {s = span} {l = Label.written (window bytes text_pos len)} {ps = []} from (ap (content_of names bytes) ep) h neat in
-        let same_looks : seen_bytes_of bytes p ≡ seen_bytes_of others p = subst (λ y. seen_bytes_of bytes y ≡ seen_bytes_of others y) (sym ep) refl in
-        let same_shown : seen_values p [] no_values ≡ seen_values p [] o.vs = subst (λ y. seen_values y [] no_values ≡ seen_values y [] o.vs) (sym ep) refl in
+        let o = canonical_claimed fit names bytes {s = span} {l = Label.written (window bytes text_pos len)} {ps = []} from (ap (content_of names bytes) ep) h canon in
+        let same_bytes_seen : seen_bytes_of bytes p ≡ seen_bytes_of others p = subst (λ y. seen_bytes_of bytes y ≡ seen_bytes_of others y) (sym ep) refl in
+        let same_values_seen : seen_values p [] no_values ≡ seen_values p [] o.vs = subst (λ y. seen_values y [] no_values ≡ seen_values y [] o.vs) (sym ep) refl in
         let none = of_none o.all in
         let own : Region = region_of span level in
         let alone : rs ≡ own ∷ [] = o.regions_are ∙ ap (λ b. b ++ own ∷ []) none.0 in
@@ -645,9 +647,9 @@ canonical_edit_of_text_law rule names bytes others pos s v regions visits path t
         record {
           lies = inr (follows.0, (let e = ap (end_after low) alone ∙ follows.1 in omega arith), λ z c. subst (λ r. InRegions r z) (sym alone) (inl c));
           there = record {
-            seen_bytes = same_looks;
+            seen_bytes = same_bytes_seen;
             holds = holds_claimed (ap (content_of names others) ep) legal (holds_none refl refl none.1) refl alone;
-            canonical = (subst (IsClean names others) (sym ep) (record { padding = λ i c. inl c; filled = tt }), ruled bytes others names rule p [] o.vs no_values same_looks refl same_shown o.by_rule, tt, o.placed ∙ ap (λ m. align_up m 1) (none.2 from ∙ sym eq));
+            canonical = (subst (IsClean names others) (sym ep) (record { padding = λ i c. inl c; filled = tt }), settled_still bytes others names fit p [] o.vs no_values same_bytes_seen refl same_values_seen o.settled, tt, o.placed ∙ ap (λ m. align_up m 1) (none.2 from ∙ sym eq));
             ends = sym o.ends;
           };
         }

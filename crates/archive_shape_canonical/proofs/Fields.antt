@@ -1,4 +1,4 @@
--- Where two buffers have one content at a part, they have the same bytes where it is told.
+-- Where two buffers have one content at a part, they have the same bytes where it is in_field.
 use Rattle.std.proofs.Common.{◌≡◌, ℕ, ◌+◌, ◌-◌, ◌%◌, ◌^◌, ◌≤◌, ◌<◌, zero, suc, Bool, true, false, cond, ◌==◌, ◌||◌, nat_lt, nat_le, List, [], ◌∷◌, drop, length, get_or, slice_index, Option, Some, None, refl, ap, sym, subst, ◌∙◌, arith, ⊎_elim, get_or-drop, eqb-true, leb-true, ℤ}
 use Rattle.std.specs.Prelude.{⊤}
 use Rattle.std.specs.Int.{Width, w8, w16, w32, w64, w128, byte_len, from_le_bytes, cast_signed, cast_unsigned}
@@ -73,9 +73,9 @@ module _ (xs ys : List ℕ) (small : AreBytes xs) (tiny : AreBytes ys) where
   of_leaf v u c e f = cc
 
   -- the u32 at an offset
-  pub word_told : (n : ℕ) → word_at xs n ≡ word_at ys n → (i : ℕ) → i < 4 → get_or xs (n + i) 0 ≡ get_or ys (n + i) 0
+  pub word_field : (n : ℕ) → word_at xs n ≡ word_at ys n → (i : ℕ) → i < 4 → get_or xs (n + i) 0 ≡ get_or ys (n + i) 0
   unfolding word_at
-  word_told n e i h =
+  word_field n e i h =
       sym (get_or-drop n xs i 0)
       ∙ same_spelled (drop n xs) (drop n ys) (drop_bytes n xs small) (drop_bytes n ys tiny) w32 e i h
       ∙ get_or-drop n ys i 0
@@ -91,14 +91,14 @@ module _ (xs ys : List ℕ) (small : AreBytes xs) (tiny : AreBytes ys) where
   two_words e f i h =
       ⊎_elim
       (λ l. word_first e i l)
-      (λ g. let s : 4 + (i - 4) ≡ i = omega arith in subst (λ m. get_or xs m 0 ≡ get_or ys m 0) s (word_told 4 f (i - 4) (omega arith)))
+      (λ g. let s : 4 + (i - 4) ≡ i = omega arith in subst (λ m. get_or xs m 0 ≡ get_or ys m 0) s (word_field 4 f (i - 4) (omega arith)))
       (cases_lt i 4)
 
   word_lt : (zs : List ℕ) (n : ℕ) → AreBytes zs → word_at zs n < 2 ^ 32
   unfolding word_at
   word_lt zs n h = spelled_lt w32 (drop n zs) (drop_bytes n zs h)
 
-  -- an offset is told by where it leads
+  -- an offset is in_field by where it leads
   one_word : (pos t m n : ℕ) → m < 2 ^ 32 → n < 2 ^ 32 → target_from pos m ≡ Some t → target_from pos n ≡ Some t → m ≡ n
   unfolding target_from
   one_word pos t m n low high e f = by_tests (nat_lt m (2 ^ 31)) (nat_lt n (2 ^ 31)) (nat_le (2 ^ 32 - m) pos) (nat_le (2 ^ 32 - n) pos) refl refl refl refl e f
@@ -256,7 +256,7 @@ module _ (xs ys : List ℕ) (small : AreBytes xs) (tiny : AreBytes ys) where
   more_word n first e i h =
       ⊎_elim
       (λ l. first i l)
-      (λ g. let s : n + (i - n) ≡ i = omega arith in subst (λ m. get_or xs m 0 ≡ get_or ys m 0) s (word_told n e (i - n) (omega arith)))
+      (λ g. let s : n + (i - n) ≡ i = omega arith in subst (λ m. get_or xs m 0 ≡ get_or ys m 0) s (word_field n e (i - n) (omega arith)))
       (cases_lt i n)
 
   one_more : (m n : ℕ) → m ≡ n → SameFirst m xs ys → SameFirst n xs ys
@@ -378,9 +378,9 @@ module _ (xs ys : List ℕ) (small : AreBytes xs) (tiny : AreBytes ys) where
       by_test false true b d e' f' = absurd (no_read xs (map_read pos xs (tuple (more_shapes k (more_shapes v no_shapes))) c e' h) f')
       by_test false false b d e' f' = by_read (map_read pos xs (tuple (more_shapes k (more_shapes v no_shapes))) c e' h) (map_read pos ys (tuple (more_shapes k (more_shapes v no_shapes))) c f' h)
 
-  pub child_told : (level most : ℕ) (k v : Shape) (pos : ℕ) (c : Content) → child_content level most k v pos xs ≡ c → child_content level most k v pos ys ≡ c → IsContent c → SameFirst 4 xs ys
+  pub child_field : (level most : ℕ) (k v : Shape) (pos : ℕ) (c : Content) → child_content level most k v pos xs ≡ c → child_content level most k v pos ys ≡ c → IsContent c → SameFirst 4 xs ys
   unfolding child_content choose
-  child_told level most k v pos c e f h = by_test (word_at xs 0 == 1) (word_at ys 0 == 1) (λ x. eqb-true (word_at xs 0) 1 x) (λ x. eqb-true (word_at ys 0) 1 x) e f
+  child_field level most k v pos c e f h = by_test (word_at xs 0 == 1) (word_at ys 0 == 1) (λ x. eqb-true (word_at xs 0) 1 x) (λ x. eqb-true (word_at ys 0) 1 x) e f
     where
       to : List ℕ → Content
       to zs = following (target_from pos (word_at zs 0)) (λ t. plain same (node level most k v t ∷ []))
@@ -399,20 +399,20 @@ module _ (xs ys : List ℕ) (small : AreBytes xs) (tiny : AreBytes ys) where
           let here : l'.target ≡ l.target = cc in
           word_first (one_word pos l.target (word_at xs 0) (word_at ys 0) (word_lt xs 0 small) (word_lt ys 0 tiny) l.there (subst (λ z. target_from pos (word_at ys 0) ≡ Some z) here l'.there))
 
-  pub place_told : (limit : ℕ) (c : Content) → place_content limit xs ≡ c → place_content limit ys ≡ c → IsContent c → SameFirst 4 xs ys
+  pub place_field : (limit : ℕ) (c : Content) → place_content limit xs ≡ c → place_content limit ys ≡ c → IsContent c → SameFirst 4 xs ys
   unfolding place_content
-  place_told limit c e f h =
+  place_field limit c e f h =
       let a = chosen _ _ c e h in
       let b = chosen _ _ c f h in
       let of_natural : (m n : ℕ) → natural m ≡ natural n → m ≡ n = λ m n g. cc in
       word_first (of_natural _ _ (of_leaf _ _ c a.1 b.1))
 
-  pub shape_told : (names : Names) (pos : ℕ) (s : Shape) (c : Content)
+  pub shape_field : (names : Names) (pos : ℕ) (s : Shape) (c : Content)
       → shape_content names pos xs s ≡ c → shape_content names pos ys s ≡ c → IsContent c → IsShapeFilled xs c s → IsShapeFilled ys c s → SameFirst (field_size s) xs ys
   unfolding shape_content shared_content
-  shape_told names pos (number w signed) c e f h full filled = number_told w signed (of_leaf _ _ c e f)
-  shape_told names pos (nonzero w signed) c e f h full filled = number_told w signed (of_leaf _ _ c (not_chosen _ _ c e h) (not_chosen _ _ c f h))
-  shape_told names pos truth c e f h full filled =
+  shape_field names pos (number w signed) c e f h full filled = number_told w signed (of_leaf _ _ c e f)
+  shape_field names pos (nonzero w signed) c e f h full filled = number_told w signed (of_leaf _ _ c (not_chosen _ _ c e h) (not_chosen _ _ c f h))
+  shape_field names pos truth c e f h full filled =
       let a = chosen _ _ c e h in
       let b = chosen _ _ c f h in
       let same_test : boolean (get_or xs 0 0 == 1) ≡ boolean (get_or ys 0 0 == 1) = of_leaf _ _ c a.1 b.1 in
@@ -429,24 +429,24 @@ module _ (xs ys : List ℕ) (small : AreBytes xs) (tiny : AreBytes ys) where
           tested false false u v w = grind (arith, nat_tests)
           tested true false u v w = absurd (cc)
           tested false true u v w = absurd (cc)
-  shape_told names pos character c e f h full filled =
+  shape_field names pos character c e f h full filled =
       let a = chosen _ _ c e h in
       let b = chosen _ _ c f h in
       let of_natural : (m n : ℕ) → natural m ≡ natural n → m ≡ n = λ m n g. cc in
       word_first (of_natural _ _ (of_leaf _ _ c a.1 b.1))
-  shape_told names pos text c e f h full filled = text_told pos c e f h full filled
-  shape_told names pos (tuple ss) c e f h full filled = λ i l. absurd (omega arith)
-  shape_told names pos (array n s) c e f h full filled = λ i l. absurd (omega arith)
-  shape_told names pos (option s) c e f h full filled = one_tag 1 1 refl c (two_tags _ _ _ c e h) (two_tags _ _ _ c f h)
-  shape_told names pos (result s t) c e f h full filled = one_tag 1 1 refl c (two_tags _ _ _ c e h) (two_tags _ _ _ c f h)
-  shape_told names pos (choice ss) c e f h full filled =
+  shape_field names pos text c e f h full filled = text_told pos c e f h full filled
+  shape_field names pos (tuple ss) c e f h full filled = λ i l. absurd (omega arith)
+  shape_field names pos (array n s) c e f h full filled = λ i l. absurd (omega arith)
+  shape_field names pos (option s) c e f h full filled = one_tag 1 1 refl c (two_tags _ _ _ c e h) (two_tags _ _ _ c f h)
+  shape_field names pos (result s t) c e f h full filled = one_tag 1 1 refl c (two_tags _ _ _ c e h) (two_tags _ _ _ c f h)
+  shape_field names pos (choice ss) c e f h full filled =
       one_tag 1 1 refl c (payload_tag (slice_index xs 0) 0 (shape_tagged (slice_index xs 0) ss) pos c e h) (payload_tag (slice_index ys 0) 0 (shape_tagged (slice_index ys 0) ss) pos c f h)
-  shape_told names pos (box p) c e f h full filled = pointers_told pos p _ _ c (λ t t' a b. (cc, cc)) e f h
-  shape_told names pos (vector s) c e f h full filled = pointers_told pos (slice s) _ _ c (λ t t' a b. (cc, cc)) e f h
-  shape_told names pos (shared cyclic p) c e f h full filled = pointers_told pos p _ _ c (λ t t' a b. (cc, cc)) e f h
-  shape_told names pos (weak cyclic p) c e f h full filled = one_tag 1 1 refl c (two_tags _ _ _ c e h) (two_tags _ _ _ c f h)
-  shape_told names pos (tree most u v) c e f h full filled =
+  shape_field names pos (box p) c e f h full filled = pointers_told pos p _ _ c (λ t t' a b. (cc, cc)) e f h
+  shape_field names pos (vector s) c e f h full filled = pointers_told pos (slice s) _ _ c (λ t t' a b. (cc, cc)) e f h
+  shape_field names pos (shared cyclic p) c e f h full filled = pointers_told pos p _ _ c (λ t t' a b. (cc, cc)) e f h
+  shape_field names pos (weak cyclic p) c e f h full filled = one_tag 1 1 refl c (two_tags _ _ _ c e h) (two_tags _ _ _ c f h)
+  shape_field names pos (tree most u v) c e f h full filled =
       both_read pos (word_at xs 4) (word_at ys 4) _ _ c h full filled e f (λ t t' a b. (cc, cc)) (λ t a. cc) (λ t a. cc)
-  shape_told names pos (table r) c e f h full filled = tables_told pos r c e f h full filled
-  shape_told names pos (index_map u v) c e f h full filled = maps_told pos u v c e f h full filled
-  shape_told names pos (named name size align) c e f h full filled = λ i l. absurd (omega arith)
+  shape_field names pos (table r) c e f h full filled = tables_told pos r c e f h full filled
+  shape_field names pos (index_map u v) c e f h full filled = maps_told pos u v c e f h full filled
+  shape_field names pos (named name size align) c e f h full filled = λ i l. absurd (omega arith)

@@ -1,4 +1,4 @@
--- A neat reading stays one where the part's own bytes and those that it claims stay.
+-- What is canonical stays so where the part's own bytes and those that it claims stay.
 use Rattle.std.proofs.Common.{◌++◌, ap₂, ◌≡◌, ℕ, Bool, true, false, zero, suc, List, [], ◌∷◌, refl, ap, sym, subst, ◌∙◌}
 use Rattle.archive_shape_layout.specs.Bytes.{align_up}
 use Rattle.archive_shape_layout.specs.Value.{Value, Values}
@@ -12,9 +12,12 @@ use Rattle.archive_shape_layout.specs.Holds.{Region, region_of, Visit, OpenShare
 use Rattle.archive_shape_layout.specs.Holds.Holds.{holds_plain, holds_claimed, holds_first, holds_later, holds_back}
 use Rattle.archive_shape_layout.specs.Holds.HoldAll.{holds_none, holds_more}
 use Rattle.archive_shape_layout.proofs.Framed.{AllOwn, own_more, Settled, is_plain, is_claimed, settled, stable_plain, stable_claimed, RegionsAgree-append}
-use Rattle.archive_shape_canonical.specs.Canonical.{seen_bytes_of, first_seen_bytes, seen_values, Obeys, end_of_shared, end_of, end_of_all, Rule, IsCanonical, AreCanonical}
+use Rattle.archive_shape_canonical.specs.Seen.{seen_bytes_of, seen_bytes, first_seen_bytes, seen_values}
+use Rattle.archive_shape_canonical.specs.Sharing.{end_of_shared}
+use Rattle.archive_shape_canonical.specs.Settled.{Fit, SeenSettled, IsSettled}
+use Rattle.archive_shape_canonical.specs.Canonical.{end_of, end_of_all, IsCanonical, AreCanonical}
 use Rattle.archive_shape_canonical.specs.Laws.{CanonicalFrame}
-use Rattle.archive_shape_canonical.proofs.Kept.{plain_looks, counting_looks, span_looks, plain_stays, claimed_stays, counting_stays}
+use Rattle.archive_shape_canonical.proofs.Kept.{plain_seen, counting_seen, span_seen, plain_stays, claimed_stays, counting_stays}
 
 never_counts : (b : Bool) (s : Span) (l : Label) (ps : List Part) {cyclic : Bool} {t : ℕ} {q : Pointee} {len : ℕ} → choose b (claimed s l ps) illegal ≡ counting cyclic t q len → ⊥
 unfolding choose
@@ -37,16 +40,16 @@ buckets_claims : (target n cap : ℕ) (it : Item) (own : List ℕ) {cyclic : Boo
 unfolding buckets_content
 buckets_claims target n cap it own e = never_counts _ _ _ _ e
 
-module _ (bytes others : List ℕ) (names : Names) (rule : Rule) where
+module _ (bytes others : List ℕ) (names : Names) (fit : Fit) where
   pub record SeenCanonicalIn (level : ℕ) (inside : List OpenShared) (p : Part) (v : Value) (rs : List Region) (before after : List Visit) (low end : ℕ) : Type 0 where
     pub holds : Holds names others level inside p v rs before after
-    pub canonical : IsCanonical rule holds low
+    pub canonical : IsCanonical fit holds low
     pub ends : end_of holds low ≡ end
     pub seen_bytes : seen_bytes_of bytes p ≡ seen_bytes_of others p
 
   pub record SeenAllCanonicalIn (level : ℕ) (inside : List OpenShared) (ps : List Part) (vs : Values) (rs : List Region) (before after : List Visit) (low end : ℕ) : Type 0 where
     pub all : HoldAll names others level inside ps vs rs before after
-    pub canonical : AreCanonical rule all low
+    pub canonical : AreCanonical fit all low
     pub ends : end_of_all all low ≡ end
     pub seen_bytes : first_seen_bytes bytes ps ≡ first_seen_bytes others ps
 
@@ -60,9 +63,10 @@ module _ (bytes others : List ℕ) (names : Names) (rule : Rule) where
   unfolding RegionsAgree
   one_region s level h = h.0
 
-  pub ruled : (p : Part) (ps : List Part) (vs us : Values) → seen_bytes_of bytes p ≡ seen_bytes_of others p → first_seen_bytes bytes ps ≡ first_seen_bytes others ps → seen_values p ps us ≡ seen_values p ps vs
-      → Obeys rule bytes p ps vs → Obeys rule others p ps us
-  ruled p ps vs us a b same h = ap₂ (λ x y. rule x p ps y) (sym (ap₂ (λ x y. x ++ y) a b)) same ∙ h
+  pub settled_still : (p : Part) (ps : List Part) (vs us : Values) → seen_bytes_of bytes p ≡ seen_bytes_of others p → first_seen_bytes bytes ps ≡ first_seen_bytes others ps → seen_values p ps us ≡ seen_values p ps vs
+      → IsSettled fit bytes p ps vs → IsSettled fit others p ps us
+  settled_still p ps vs us a b same h =
+      subst (λ x. SeenSettled fit x p ps (seen_values p ps us)) (ap₂ (λ x y. x ++ y) a b) (subst (SeenSettled fit (seen_bytes bytes p ps) p ps) (sym same) h)
 
   stable_counting : (p : Part) (cyclic : Bool) (t : ℕ) (q : Pointee) (len : ℕ) → OwnAgrees bytes others p → content_of names bytes p ≡ counting cyclic t q len → content_of names others p ≡ counting cyclic t q len
   stable_counting (at pos s) cyclic t q len own e = ap (λ w. shape_content names pos w s) (sym own) ∙ e
@@ -77,40 +81,40 @@ module _ (bytes others : List ℕ) (names : Names) (rule : Rule) where
     pub framed :
         {level : ℕ} {inside : List OpenShared} {p : Part} {v : Value} {rs : List Region} {before after : List Visit} (low low' : ℕ)
         → OwnAgrees bytes others p → RegionsAgree bytes others rs
-        → (h : Holds names bytes level inside p v rs before after) → IsCanonical rule h low → low' ≡ low
+        → (h : Holds names bytes level inside p v rs before after) → IsCanonical fit h low → low' ≡ low
         → SeenCanonicalIn level inside p v rs before after low' (end_of h low)
     framed low low' own regions (holds_plain {p = p} {l = l} {ps = ps} {vs = vs} e legal all m) n eq =
         let parts = plain_own (subst (Settled bytes others) e (settled bytes others names p own)) in
         let alike = stable_plain bytes others names p own e in
-        let seen = plain_looks bytes others names p e in
+        let seen = plain_seen bytes others names p e in
         let d = framed_all low low' parts regions all n.2 eq in
-        record { seen_bytes = seen; holds = holds_plain alike legal d.all m; canonical = (plain_stays bytes others names p e alike own n.0, ruled p ps vs vs seen d.seen_bytes refl n.1, d.canonical); ends = d.ends }
+        record { seen_bytes = seen; holds = holds_plain alike legal d.all m; canonical = (plain_stays bytes others names p e alike own n.0, settled_still p ps vs vs seen d.seen_bytes refl n.1, d.canonical); ends = d.ends }
     framed low low' own regions (holds_claimed {level = level} {p = p} {within = within} {s = s} {l = l} {ps = ps} {vs = vs} e legal all m r) n eq =
         let split = RegionsAgree-append bytes others within (region_of s level ∷ []) (subst (RegionsAgree bytes others) r regions) in
         let here = one_region s level split.1 in
         let parts = claimed_own (subst (Settled bytes others) e (settled bytes others names p own)) here in
         let alike = stable_claimed bytes others names p own here e in
-        let seen = span_looks bytes others names p e alike here in
+        let seen = span_seen bytes others names p e alike here in
         let d = framed_all low low' parts split.0 all n.2 eq in
         record {
           seen_bytes = seen;
           holds = holds_claimed alike legal d.all m r;
-          canonical = (claimed_stays bytes others names p e alike own here n.0, ruled p ps vs vs seen d.seen_bytes refl n.1, d.canonical, n.3 ∙ ap (λ x. align_up x s.align) (sym d.ends));
+          canonical = (claimed_stays bytes others names p e alike own here n.0, settled_still p ps vs vs seen d.seen_bytes refl n.1, d.canonical, n.3 ∙ ap (λ x. align_up x s.align) (sym d.ends));
           ends = refl;
         }
     framed low low' own regions (holds_first {p = p} {cyclic = cyclic} {t = t} {q = q} {len = len} e a b h x g) n eq =
         let alike = stable_counting p cyclic t q len own e in
         let d = framed low low' tt regions h n.1 eq in
-        record { seen_bytes = counting_looks bytes others names p e; holds = holds_first alike a b d.holds x g; canonical = (counting_stays bytes others names p e alike own n.0, d.canonical); ends = ap (end_of_shared t) d.ends }
+        record { seen_bytes = counting_seen bytes others names p e; holds = holds_first alike a b d.holds x g; canonical = (counting_stays bytes others names p e alike own n.0, d.canonical); ends = ap (end_of_shared t) d.ends }
     framed low low' own regions (holds_later {p = p} {cyclic = cyclic} {t = t} {q = q} {len = len} e a b x r g) n eq =
         let alike = stable_counting p cyclic t q len own e in
-        record { seen_bytes = counting_looks bytes others names p e; holds = holds_later alike a b x r g; canonical = counting_stays bytes others names p e alike own n; ends = eq }
+        record { seen_bytes = counting_seen bytes others names p e; holds = holds_later alike a b x r g; canonical = counting_stays bytes others names p e alike own n; ends = eq }
     framed low low' own regions (holds_back e a x r g) n eq = absurd n
 
     pub framed_all :
         {level : ℕ} {inside : List OpenShared} {ps : List Part} {vs : Values} {rs : List Region} {before after : List Visit} (low low' : ℕ)
         → AllOwn bytes others ps → RegionsAgree bytes others rs
-        → (all : HoldAll names bytes level inside ps vs rs before after) → AreCanonical rule all low → low' ≡ low
+        → (all : HoldAll names bytes level inside ps vs rs before after) → AreCanonical fit all low → low' ≡ low
         → SeenAllCanonicalIn level inside ps vs rs before after low' (end_of_all all low)
     framed_all low low' own regions (holds_none e f g) n eq = record { seen_bytes = refl; all = holds_none e f g; canonical = tt; ends = eq }
     framed_all low low' (own_more here rest) regions (holds_more {here = rs} {later = qs} h hs e r) n eq =
@@ -120,6 +124,6 @@ module _ (bytes others : List ℕ) (names : Names) (rule : Rule) where
         record { seen_bytes = d.seen_bytes; all = holds_more d.holds ds.all e r; canonical = (d.canonical, ds.canonical); ends = ds.ends }
 
 pub canonical_frame_law : CanonicalFrame
-canonical_frame_law rule names bytes others level inside p v regions before after low own agree h n =
-    let d = framed bytes others names rule low low own agree h n refl in
+canonical_frame_law fit names bytes others level inside p v regions before after low own agree h n =
+    let d = framed bytes others names fit low low own agree h n refl in
     record { holds = d.holds; canonical = d.canonical; ends = d.ends }

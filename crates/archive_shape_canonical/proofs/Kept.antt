@@ -14,7 +14,7 @@ use Rattle.archive_shape_layout.specs.Edit.{Spares}
 use Rattle.archive_shape_layout.proofs.Framed.{agrees_within}
 use Rattle.archive_shape_layout.proofs.Places.{InOwn, AllFit, Laid, at_laid, buckets_laid, header_size}
 use Rattle.archive_shape_layout.proofs.Edits.{InAny, any_here, any_later}
-use Rattle.archive_shape_canonical.specs.Canonical.{seen_bytes_of}
+use Rattle.archive_shape_canonical.specs.Seen.{seen_bytes_of}
 use Rattle.archive_shape_canonical.specs.Clean.{IsIn, Owns, InParts, InField, InFieldOfNode, FieldPartOrZero, PaddingIsZero, IsTextFilled, IsShapeFilled, AreControlsFilled, IsFilled, IsClean}
 
 pub any_fits : (w n low high : ℕ) (ps : List Part) → AllFit low high ps → InAny w n ps → (low ≤ w) × (w + n ≤ high)
@@ -46,7 +46,7 @@ module _ (bytes others : List ℕ) where
   own_byte (node level most k v pos) i h o = absurd o
   own_byte (buckets target len cap it) i h o = absurd o
 
-  -- ---- which bytes are told rests on the content
+  -- ---- which bytes are in_field rests on the content
 
   abbrev pub kind_of : Content → ℕ
   kind_of (claimed s (Label.woven n) ps) = 1
@@ -67,19 +67,19 @@ module _ (bytes others : List ℕ) where
   node_kind level most k v pos (suc zero) own d e h = sym (chosen_kind _ _ d 1 e h refl)
   node_kind level most k v pos (suc (suc kind)) own d e h = absurd (subst IsClaim (sym e) h)
 
-  pub told_claimed : (names : Names) (p : Part) (s : Span) (l : Label) (ps : List Part) → content_of names bytes p ≡ claimed s l ps → content_of names others p ≡ claimed s l ps → (i : ℕ) → InField bytes p i → InField others p i
-  told_claimed names (at pos r) s l ps e f i t = t
-  told_claimed names (behind pos (sized r) len) s l ps e f i t = t
-  told_claimed names (behind pos (slice r) len) s l ps e f i t = t
-  told_claimed names (behind pos str len) s l ps e f i t = t
-  told_claimed names (node level most k v pos) s l ps e f i t =
+  pub field_claimed : (names : Names) (p : Part) (s : Span) (l : Label) (ps : List Part) → content_of names bytes p ≡ claimed s l ps → content_of names others p ≡ claimed s l ps → (i : ℕ) → InField bytes p i → InField others p i
+  field_claimed names (at pos r) s l ps e f i t = t
+  field_claimed names (behind pos (sized r) len) s l ps e f i t = t
+  field_claimed names (behind pos (slice r) len) s l ps e f i t = t
+  field_claimed names (behind pos str len) s l ps e f i t = t
+  field_claimed names (node level most k v pos) s l ps e f i t =
       let a = node_kind level most k v pos (slice_index (drop pos bytes) 0) _ (claimed s l ps) e tt in
       let b = node_kind level most k v pos (slice_index (drop pos others) 0) _ (claimed s l ps) f tt in
       subst (λ n. InFieldOfNode n most k v pos i) (a ∙ sym b) t
-  told_claimed names (child level most k v pos) s l ps e f i t = t
-  told_claimed names (entry k key_pos v value_pos) s l ps e f i t = t
-  told_claimed names (buckets target len cap it) s l ps e f i t = t
-  told_claimed names (place_at pos limit) s l ps e f i t = t
+  field_claimed names (child level most k v pos) s l ps e f i t = t
+  field_claimed names (entry k key_pos v value_pos) s l ps e f i t = t
+  field_claimed names (buckets target len cap it) s l ps e f i t = t
+  field_claimed names (place_at pos limit) s l ps e f i t = t
 
   -- a part that claims nothing is no node
   abbrev NoClaim : Content → Type 0
@@ -99,16 +99,16 @@ module _ (bytes others : List ℕ) where
   no_node level most k v pos (suc zero) own h = unclaimed _ _ _ _ h
   no_node level most k v pos (suc (suc kind)) own h = h
 
-  told_plain : (names : Names) (p : Part) (c : Content) → content_of names bytes p ≡ c → NoClaim c → (i : ℕ) → InField bytes p i → InField others p i
-  told_plain names (at pos r) c e h i t = t
-  told_plain names (behind pos (sized r) len) c e h i t = t
-  told_plain names (behind pos (slice r) len) c e h i t = t
-  told_plain names (behind pos str len) c e h i t = t
-  told_plain names (node level most k v pos) c e h i t = absurd (no_node level most k v pos (slice_index (drop pos bytes) 0) _ (subst NoClaim (sym e) h))
-  told_plain names (child level most k v pos) c e h i t = t
-  told_plain names (entry k key_pos v value_pos) c e h i t = t
-  told_plain names (buckets target len cap it) c e h i t = t
-  told_plain names (place_at pos limit) c e h i t = t
+  field_plain : (names : Names) (p : Part) (c : Content) → content_of names bytes p ≡ c → NoClaim c → (i : ℕ) → InField bytes p i → InField others p i
+  field_plain names (at pos r) c e h i t = t
+  field_plain names (behind pos (sized r) len) c e h i t = t
+  field_plain names (behind pos (slice r) len) c e h i t = t
+  field_plain names (behind pos str len) c e h i t = t
+  field_plain names (node level most k v pos) c e h i t = absurd (no_node level most k v pos (slice_index (drop pos bytes) 0) _ (subst NoClaim (sym e) h))
+  field_plain names (child level most k v pos) c e h i t = t
+  field_plain names (entry k key_pos v value_pos) c e h i t = t
+  field_plain names (buckets target len cap it) c e h i t = t
+  field_plain names (place_at pos limit) c e h i t = t
 
   -- ---- filled
 
@@ -158,61 +158,61 @@ module _ (bytes others : List ℕ) where
   unfolding buckets_content
   buckets_unclaimed target len cap it own k = unclaimed _ _ _ _ k
 
-  -- ---- what a rule may look at
+  -- ---- what a fit may look at
 
-  looks_still : (names : Names) (p : Part) (c : Content) → content_of names bytes p ≡ c → NoClaim c → seen_bytes_of bytes p ≡ seen_bytes_of others p
-  looks_still names (at pos s) c e h = refl
-  looks_still names (behind pos q len) c e h = refl
-  looks_still names (node level most k v pos) c e h = absurd (no_node level most k v pos (slice_index (drop pos bytes) 0) _ (subst NoClaim (sym e) h))
-  looks_still names (child level most k v pos) c e h = refl
-  looks_still names (entry k key_pos v value_pos) c e h = refl
-  looks_still names (buckets target len cap it) c e h = absurd (buckets_unclaimed target len cap it (window bytes target (control_count cap)) (subst NoClaim (sym e) h))
-  looks_still names (place_at pos limit) c e h = refl
+  seen_still : (names : Names) (p : Part) (c : Content) → content_of names bytes p ≡ c → NoClaim c → seen_bytes_of bytes p ≡ seen_bytes_of others p
+  seen_still names (at pos s) c e h = refl
+  seen_still names (behind pos q len) c e h = refl
+  seen_still names (node level most k v pos) c e h = absurd (no_node level most k v pos (slice_index (drop pos bytes) 0) _ (subst NoClaim (sym e) h))
+  seen_still names (child level most k v pos) c e h = refl
+  seen_still names (entry k key_pos v value_pos) c e h = refl
+  seen_still names (buckets target len cap it) c e h = absurd (buckets_unclaimed target len cap it (window bytes target (control_count cap)) (subst NoClaim (sym e) h))
+  seen_still names (place_at pos limit) c e h = refl
 
-  pub plain_looks : (names : Names) (p : Part) {l : Label} {ps : List Part} → content_of names bytes p ≡ plain l ps → seen_bytes_of bytes p ≡ seen_bytes_of others p
-  plain_looks names p {l = l} {ps = ps} e = looks_still names p (plain l ps) e tt
+  pub plain_seen : (names : Names) (p : Part) {l : Label} {ps : List Part} → content_of names bytes p ≡ plain l ps → seen_bytes_of bytes p ≡ seen_bytes_of others p
+  plain_seen names p {l = l} {ps = ps} e = seen_still names p (plain l ps) e tt
 
-  pub counting_looks : (names : Names) (p : Part) {cyclic : Bool} {t : ℕ} {q : Pointee} {len : ℕ} → content_of names bytes p ≡ counting cyclic t q len → seen_bytes_of bytes p ≡ seen_bytes_of others p
-  counting_looks names p {cyclic = cyclic} {t = t} {q = q} {len = len} e = looks_still names p (counting cyclic t q len) e tt
+  pub counting_seen : (names : Names) (p : Part) {cyclic : Bool} {t : ℕ} {q : Pointee} {len : ℕ} → content_of names bytes p ≡ counting cyclic t q len → seen_bytes_of bytes p ≡ seen_bytes_of others p
+  counting_seen names p {cyclic = cyclic} {t = t} {q = q} {len = len} e = seen_still names p (counting cyclic t q len) e tt
 
   -- the controls are given apart
-  pub claimed_looks : (names : Names) (p : Part) {s : Span} {l : Label} {ps : List Part} → content_of names bytes p ≡ claimed s l ps → content_of names others p ≡ claimed s l ps
+  pub claimed_seen : (names : Names) (p : Part) {s : Span} {l : Label} {ps : List Part} → content_of names bytes p ≡ claimed s l ps → content_of names others p ≡ claimed s l ps
       → ((target len cap : ℕ) (it : Item) → p ≡ buckets target len cap it → AgreesOn bytes others target (control_count cap))
       → seen_bytes_of bytes p ≡ seen_bytes_of others p
-  claimed_looks names (at pos r) e f g = refl
-  claimed_looks names (behind pos q len) e f g = refl
-  claimed_looks names (node level most k v pos) {s = s} {l = l} {ps = ps} e f g =
+  claimed_seen names (at pos r) e f g = refl
+  claimed_seen names (behind pos q len) e f g = refl
+  claimed_seen names (node level most k v pos) {s = s} {l = l} {ps = ps} e f g =
       let a = node_kind level most k v pos (slice_index (drop pos bytes) 0) _ (claimed s l ps) e tt in
       let b = node_kind level most k v pos (slice_index (drop pos others) 0) _ (claimed s l ps) f tt in
       ap (λ n. n ∷ []) (a ∙ sym b)
-  claimed_looks names (child level most k v pos) e f g = refl
-  claimed_looks names (entry k key_pos v value_pos) e f g = refl
-  claimed_looks names (buckets target len cap it) e f g = g target len cap it refl
-  claimed_looks names (place_at pos limit) e f g = refl
+  claimed_seen names (child level most k v pos) e f g = refl
+  claimed_seen names (entry k key_pos v value_pos) e f g = refl
+  claimed_seen names (buckets target len cap it) e f g = g target len cap it refl
+  claimed_seen names (place_at pos limit) e f g = refl
 
-  pub span_looks : (names : Names) (p : Part) {s : Span} {l : Label} {ps : List Part} → content_of names bytes p ≡ claimed s l ps → content_of names others p ≡ claimed s l ps
+  pub span_seen : (names : Names) (p : Part) {s : Span} {l : Label} {ps : List Part} → content_of names bytes p ≡ claimed s l ps → content_of names others p ≡ claimed s l ps
       → AgreesOn bytes others s.start s.size → seen_bytes_of bytes p ≡ seen_bytes_of others p
-  span_looks names p {s = s} {l = l} {ps = ps} e f here =
-      claimed_looks names p e f
+  span_seen names p {s = s} {l = l} {ps = ps} e f here =
+      claimed_seen names p e f
       (λ target len cap it is. controls_in target len cap it (window bytes target (control_count cap)) s l ps (subst (λ y. content_of names bytes y ≡ claimed s l ps) is e) here)
 
-  trim_plain : (names : Names) (p : Part) (c : Content) → content_of names bytes p ≡ c → NoClaim c → OwnAgrees bytes others p → IsFilled bytes p c → IsFilled others p c
-  trim_plain names (at pos s) c e h own t = header_fits s pos c own t
-  trim_plain names (behind pos q len) c e h own t = tt
-  trim_plain names (node level most k v pos) c e h own t = tt
-  trim_plain names (child level most k v pos) c e h own t = tt
-  trim_plain names (entry k key_pos v value_pos) c e h own t = tt
-  trim_plain names (buckets target len cap it) c e h own t = absurd (buckets_unclaimed target len cap it (window bytes target (control_count cap)) (subst NoClaim (sym e) h))
-  trim_plain names (place_at pos limit) c e h own t = tt
+  filled_plain : (names : Names) (p : Part) (c : Content) → content_of names bytes p ≡ c → NoClaim c → OwnAgrees bytes others p → IsFilled bytes p c → IsFilled others p c
+  filled_plain names (at pos s) c e h own t = header_fits s pos c own t
+  filled_plain names (behind pos q len) c e h own t = tt
+  filled_plain names (node level most k v pos) c e h own t = tt
+  filled_plain names (child level most k v pos) c e h own t = tt
+  filled_plain names (entry k key_pos v value_pos) c e h own t = tt
+  filled_plain names (buckets target len cap it) c e h own t = absurd (buckets_unclaimed target len cap it (window bytes target (control_count cap)) (subst NoClaim (sym e) h))
+  filled_plain names (place_at pos limit) c e h own t = tt
 
-  trim_claimed : (names : Names) (p : Part) (s : Span) (l : Label) (ps : List Part) → content_of names bytes p ≡ claimed s l ps → OwnAgrees bytes others p → AgreesOn bytes others s.start s.size → IsFilled bytes p (claimed s l ps) → IsFilled others p (claimed s l ps)
-  trim_claimed names (at pos r) s l ps e own h t = header_fits r pos (claimed s l ps) own t
-  trim_claimed names (behind pos q len) s l ps e own h t = tt
-  trim_claimed names (node level most k v pos) s l ps e own h t = tt
-  trim_claimed names (child level most k v pos) s l ps e own h t = tt
-  trim_claimed names (entry k key_pos v value_pos) s l ps e own h t = tt
-  trim_claimed names (buckets target len cap it) s l ps e own h t = controls_trim target cap (controls_in target len cap it (window bytes target (control_count cap)) s l ps e h) t
-  trim_claimed names (place_at pos limit) s l ps e own h t = tt
+  filled_claimed : (names : Names) (p : Part) (s : Span) (l : Label) (ps : List Part) → content_of names bytes p ≡ claimed s l ps → OwnAgrees bytes others p → AgreesOn bytes others s.start s.size → IsFilled bytes p (claimed s l ps) → IsFilled others p (claimed s l ps)
+  filled_claimed names (at pos r) s l ps e own h t = header_fits r pos (claimed s l ps) own t
+  filled_claimed names (behind pos q len) s l ps e own h t = tt
+  filled_claimed names (node level most k v pos) s l ps e own h t = tt
+  filled_claimed names (child level most k v pos) s l ps e own h t = tt
+  filled_claimed names (entry k key_pos v value_pos) s l ps e own h t = tt
+  filled_claimed names (buckets target len cap it) s l ps e own h t = controls_trim target cap (controls_in target len cap it (window bytes target (control_count cap)) s l ps e h) t
+  filled_claimed names (place_at pos limit) s l ps e own h t = tt
 
   moved : (p : Part) (ps : List Part) (i : ℕ) → (InField bytes p i → InField others p i) → Alike i → FieldPartOrZero bytes p ps i → FieldPartOrZero others p ps i
   moved p ps i f e a = ⊎_elim (λ x. inl (f x)) (λ x. inr (⊎_elim (λ y. inl y) (λ y. inr (sym e ∙ y)) x)) a
@@ -222,8 +222,8 @@ module _ (bytes others : List ℕ) where
       let padding = subst (λ c. PaddingIsZero bytes p c) e clean.padding in
       let filled = subst (λ c. IsFilled bytes p c) e clean.filled in
       record {
-        padding = subst (λ c. PaddingIsZero others p c) (sym f) (λ i o. moved p ps i (told_plain names p (plain l ps) e tt i) (own_byte p i own o) (padding i o));
-        filled = subst (λ c. IsFilled others p c) (sym f) (trim_plain names p (plain l ps) e tt own filled);
+        padding = subst (λ c. PaddingIsZero others p c) (sym f) (λ i o. moved p ps i (field_plain names p (plain l ps) e tt i) (own_byte p i own o) (padding i o));
+        filled = subst (λ c. IsFilled others p c) (sym f) (filled_plain names p (plain l ps) e tt own filled);
       }
 
   pub counting_stays : (names : Names) (p : Part) {cyclic : Bool} {t : ℕ} {q : Pointee} {len : ℕ} → content_of names bytes p ≡ counting cyclic t q len → content_of names others p ≡ counting cyclic t q len
@@ -232,8 +232,8 @@ module _ (bytes others : List ℕ) where
       let padding = subst (λ c. PaddingIsZero bytes p c) e clean.padding in
       let filled = subst (λ c. IsFilled bytes p c) e clean.filled in
       record {
-        padding = subst (λ c. PaddingIsZero others p c) (sym f) (λ i o. moved p [] i (told_plain names p (counting cyclic t q len) e tt i) (own_byte p i own o) (padding i o));
-        filled = subst (λ c. IsFilled others p c) (sym f) (trim_plain names p (counting cyclic t q len) e tt own filled);
+        padding = subst (λ c. PaddingIsZero others p c) (sym f) (λ i o. moved p [] i (field_plain names p (counting cyclic t q len) e tt i) (own_byte p i own o) (padding i o));
+        filled = subst (λ c. IsFilled others p c) (sym f) (filled_plain names p (counting cyclic t q len) e tt own filled);
       }
 
   pub claimed_stays : (names : Names) (p : Part) {s : Span} {l : Label} {ps : List Part} → content_of names bytes p ≡ claimed s l ps → content_of names others p ≡ claimed s l ps
@@ -242,8 +242,8 @@ module _ (bytes others : List ℕ) where
       let padding = subst (λ c. PaddingIsZero bytes p c) e clean.padding in
       let filled = subst (λ c. IsFilled bytes p c) e clean.filled in
       record {
-        padding = subst (λ c. PaddingIsZero others p c) (sym f) (λ i o. moved p ps i (told_claimed names p s l ps e f i) (in_window s.start s.size i here o) (padding i o));
-        filled = subst (λ c. IsFilled others p c) (sym f) (trim_claimed names p s l ps e own here filled);
+        padding = subst (λ c. PaddingIsZero others p c) (sym f) (λ i o. moved p ps i (field_claimed names p s l ps e f i) (in_window s.start s.size i here o) (padding i o));
+        filled = subst (λ c. IsFilled others p c) (sym f) (filled_claimed names p s l ps e own here filled);
       }
 
   -- ---- parts in whose parts a window changes
@@ -289,17 +289,17 @@ module _ (bytes others : List ℕ) where
     not_claimed : {low high : ℕ} {s : Span} {l : Label} {ps : List Part} → Laid low high false (claimed s l ps) → ⊥
     not_claimed h = elim h [ ]
 
-    trim_in : (names : Names) (p : Part) {l : Label} {ps : List Part} → content_of names bytes p ≡ plain l ps → InAny w n ps → IsFilled bytes p (plain l ps) → IsFilled others p (plain l ps)
-    trim_in names (at pos s) {l = l} {ps = ps} e a t =
+    filled_in : (names : Names) (p : Part) {l : Label} {ps : List Part} → content_of names bytes p ≡ plain l ps → InAny w n ps → IsFilled bytes p (plain l ps) → IsFilled others p (plain l ps)
+    filled_in names (at pos s) {l = l} {ps = ps} e a t =
         let laid = subst (Laid (pos + header_size s) (pos + size_of s) false) e (at_laid names pos (window bytes pos (size_of s)) s) in
         let range = any_fits w n (pos + header_size s) (pos + size_of s) ps (plain_all laid) a in
         shape_trim pos s (plain l ps) (spares.outside pos (header_size s) (inr range.0)) t
-    trim_in names (behind pos q len) e a t = tt
-    trim_in names (node level most k v pos) e a t = tt
-    trim_in names (child level most k v pos) e a t = tt
-    trim_in names (entry k key_pos v value_pos) e a t = tt
-    trim_in names (buckets target len cap it) e a t = absurd (not_plain (subst (Laid (target - cap * item_size it) target true) e (buckets_laid target len cap it (window bytes target (control_count cap)))))
-    trim_in names (place_at pos limit) e a t = tt
+    filled_in names (behind pos q len) e a t = tt
+    filled_in names (node level most k v pos) e a t = tt
+    filled_in names (child level most k v pos) e a t = tt
+    filled_in names (entry k key_pos v value_pos) e a t = tt
+    filled_in names (buckets target len cap it) e a t = absurd (not_plain (subst (Laid (target - cap * item_size it) target true) e (buckets_laid target len cap it (window bytes target (control_count cap)))))
+    filled_in names (place_at pos limit) e a t = tt
 
     trim_in_claimed : (names : Names) (p : Part) {s : Span} {l : Label} {ps : List Part} → content_of names bytes p ≡ claimed s l ps → InAny w n ps → IsFilled bytes p (claimed s l ps) → IsFilled others p (claimed s l ps)
     trim_in_claimed names (at pos r) e a t = absurd (not_claimed (subst (Laid (pos + header_size r) (pos + size_of r) false) e (at_laid names pos (window bytes pos (size_of r)) r)))
@@ -318,8 +318,8 @@ module _ (bytes others : List ℕ) where
         let padding = subst (λ c. PaddingIsZero bytes p c) e clean.padding in
         let filled = subst (λ c. IsFilled bytes p c) e clean.filled in
         record {
-          padding = subst (λ c. PaddingIsZero others p c) (sym f) (λ i o. moved_in p ps i (told_plain names p (plain l ps) e tt i) a (padding i o));
-          filled = subst (λ c. IsFilled others p c) (sym f) (trim_in names p e a filled);
+          padding = subst (λ c. PaddingIsZero others p c) (sym f) (λ i o. moved_in p ps i (field_plain names p (plain l ps) e tt i) a (padding i o));
+          filled = subst (λ c. IsFilled others p c) (sym f) (filled_in names p e a filled);
         }
 
     pub claimed_leads : (names : Names) (p : Part) {s : Span} {l : Label} {ps : List Part} → content_of names bytes p ≡ claimed s l ps → content_of names others p ≡ claimed s l ps → InAny w n ps → IsClean names bytes p → IsClean names others p
@@ -327,6 +327,6 @@ module _ (bytes others : List ℕ) where
         let padding = subst (λ c. PaddingIsZero bytes p c) e clean.padding in
         let filled = subst (λ c. IsFilled bytes p c) e clean.filled in
         record {
-          padding = subst (λ c. PaddingIsZero others p c) (sym f) (λ i o. moved_in p ps i (told_claimed names p s l ps e f i) a (padding i o));
+          padding = subst (λ c. PaddingIsZero others p c) (sym f) (λ i o. moved_in p ps i (field_claimed names p s l ps e f i) a (padding i o));
           filled = subst (λ c. IsFilled others p c) (sym f) (trim_in_claimed names p e a filled);
         }

@@ -1,13 +1,13 @@
-mod Numbers
-mod Akin
-mod Fields
-mod Steps
-mod Nodes
-mod Once
-pub mod One
-mod Kept
-mod Framing
-mod Editing
+pub mod Numbers
+pub mod Akin
+pub mod Fields
+pub mod Steps
+pub mod Nodes
+pub mod Once
 pub mod Choosing
-mod Exampled
-mod Joining
+pub mod One
+pub mod Kept
+pub mod Framing
+pub mod Editing
+pub mod Joining
+pub mod Orders

@@ -10,12 +10,12 @@ use Rattle.archive_shape_layout.specs.Value.Value.{natural, integer, boolean, st
 use Rattle.archive_shape_layout.specs.Value.Values.{no_values, more_values}
 use Rattle.archive_shape_layout.specs.Bytes.{word_at}
 use Rattle.archive_shape_layout.specs.Holds.{Region, Visit, OpenShared, HoldAll}
-use Rattle.archive_shape_canonical.specs.Canonical.{erased, all_erased}
-use Rattle.archive_shape_canonical.specs.Choice.{ArePacked, IsPacked}
+use Rattle.archive_shape_canonical.specs.Sharing.{erased, all_erased}
+use Rattle.archive_shape_canonical.specs.Packed.{ArePacked, IsPacked}
 use Rattle.archive_shape_canonical.proofs.Akin.{Akin, AllAkin, akin_none, akin_more, akin_at, akin_child, akin_entry, akin_place}
 use Rattle.archive_shape_canonical.proofs.Steps.{SameStep, made_whole, count_parts, count_erased, same_members}
 
--- ---- children and entries, told apart in what is made of them
+-- ---- children and entries, in_field apart in what is made of them
 
 made_woven : (n : ℕ) (v : Value) (vs : Values) → made (woven n) vs ≡ Some v → v ≡ group (weave (first_values n vs) (other_values n vs))
 unfolding made

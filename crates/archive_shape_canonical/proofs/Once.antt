@@ -5,7 +5,7 @@ use Rattle.archive_shape_layout.specs.Content.{Names, Part}
 use Rattle.archive_shape_layout.specs.Holds.{Region, Visit, OpenShared, visited, Holds, HoldAll}
 use Rattle.archive_shape_layout.specs.Holds.Holds.{holds_plain, holds_claimed, holds_first, holds_later, holds_back}
 use Rattle.archive_shape_layout.specs.Holds.HoldAll.{holds_none, holds_more}
-use Rattle.archive_shape_canonical.specs.Canonical.{erased, Differ, AllDiffer, AreDistinct}
+use Rattle.archive_shape_canonical.specs.Sharing.{erased, Differ, AllDiffer, AreDistinct}
 
 module _ (names : Names) (bytes : List ℕ) (R : List Visit → Type 0) (rest : (x : Visit) (xs : List Visit) → R (x ∷ xs) → R xs) where
   mutual

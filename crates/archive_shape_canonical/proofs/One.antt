@@ -1,5 +1,5 @@
 -- A value has one canonical archive.
-use Rattle.std.proofs.Common.{zero, ◌&&◌, nat_lt, nat_le, ◌≡◌, ℕ, ◌+◌, ◌-◌, ◌≤◌, ◌<◌, suc, Bool, true, false, List, [], ◌∷◌, ◌++◌, take, drop, length, get_or, slice_index, Some, refl, ap, ap₂, sym, subst, ◌∙◌, arith, ◌⊎◌, inl, inr, ⊎_elim, get_or-take, get_or-drop, length-take}
+use Rattle.std.proofs.Common.{zero, ◌&&◌, nat_lt, nat_le, ◌≡◌, ℕ, ◌+◌, ◌-◌, ◌≤◌, ◌<◌, suc, Bool, true, false, List, [], ◌∷◌, ◌++◌, take, drop, length, get_or, slice_index, Some, refl, ap, ap₂, sym, subst, ◌∙◌, arith, ◌⊎◌, inl, inr, ⊎_elim, get_or-take, get_or-drop, length-take, length-drop}
 use Rattle.std.specs.Prelude.{⊤}
 use Rattle.std.proofs.Math.ListN.{get_or-eq_default}
 use Rattle.std.proofs.lemmas.List.{ext_get_or}
@@ -19,15 +19,17 @@ use Rattle.archive_shape_layout.specs.Holds.Holds.{holds_plain, holds_claimed, h
 use Rattle.archive_shape_layout.specs.Holds.HoldAll.{holds_none, holds_more}
 use Rattle.archive_shape_layout.proofs.Ascent.{Ascends-append}
 use Rattle.archive_shape_canonical.specs.Clean.{IsIn, Owns, InParts, InField, InFieldOfNode, FieldPartOrZero, PaddingIsZero, IsFilled, IsClean}
-use Rattle.archive_shape_canonical.specs.Canonical.{end_of_shared, end_of, end_of_all, Rule, IsCanonical, AreCanonical, erased, all_erased, AllDiffer, AreDistinct, InRegions}
+use Rattle.archive_shape_canonical.specs.Sharing.{end_of_shared, erased, all_erased, AllDiffer, AreDistinct}
+use Rattle.archive_shape_canonical.specs.Settled.{Fit}
+use Rattle.archive_shape_canonical.specs.Canonical.{end_of, end_of_all, IsCanonical, AreCanonical, InRegions}
 use Rattle.archive_shape_canonical.specs.Laws.{OneArchive}
-use Rattle.archive_shape_canonical.specs.Choice.{Fit, IsLed, IsChosen, Settles}
-use Rattle.archive_shape_canonical.proofs.Kept.{node_kind, told_claimed}
+use Rattle.archive_shape_canonical.proofs.Choosing.{choices, LeadsChosen, IsChosen, settled_chosen}
+use Rattle.archive_shape_canonical.proofs.Kept.{node_kind, field_claimed}
 use Rattle.archive_shape_canonical.proofs.Nodes.{SameClaim, step_node, step_buckets, chosen_claim, length-entries}
 use Rattle.archive_shape_layout.proofs.Framed.{links_fit}
 use Rattle.archive_shape_canonical.proofs.Numbers.{SameFirst, AreBytes}
 use Rattle.archive_shape_canonical.proofs.Akin.{Akin, AllAkin, akin_none, akin_more, akin_at, akin_behind, akin_node, akin_child, akin_entry, akin_buckets, akin_place, SameCount, Match, no_left, no_right, leaves, texts, wholes, ones, tags, short_long, long_short, totals, empty_total, total_empty, tables, empty_table, table_empty, maps, empty_map, map_empty, no_child, child_no, counts, shape_match, child_match, place_match}
-use Rattle.archive_shape_canonical.proofs.Fields.{IsContent, shape_told, child_told, place_told, word_told}
+use Rattle.archive_shape_canonical.proofs.Fields.{IsContent, shape_field, child_field, place_field, word_field}
 use Rattle.archive_shape_canonical.proofs.Steps.{is_counted, step, step_behind}
 use Rattle.archive_shape_canonical.proofs.Once.{shrink, shrink_all, found_before, one_visit}
 
@@ -148,7 +150,7 @@ place_parts limit own {l = l} {ps = ps} e = tested (nat_lt (word_at own 0) limit
     tested true e' = cc
     tested false e' = absurd (cc)
 
-module _ (fit : Fit) (rule : Rule) (settles : Settles fit rule) (names : Names) (bytes others : List ℕ) (small : AreBytes bytes) (tiny : AreBytes others) where
+module _ (fit : Fit) (names : Names) (bytes others : List ℕ) (small : AreBytes bytes) (tiny : AreBytes others) where
   abbrev Agree : ℕ → Type 0
   Agree i = slice_index bytes i ≡ slice_index others i
 
@@ -208,45 +210,45 @@ module _ (fit : Fit) (rule : Rule) (settles : Settles fit rule) (names : Names) 
       (λ never. let both = claims_both k never e e' h h' in both.0 ∙ sym both.1)
       (place_or_claim p)
 
-  four_told : (pos : ℕ) → SameFirst 4 (window bytes pos 4) (window others pos 4) → (i : ℕ) → IsIn pos 4 i → Agree i
-  four_told pos first i own =
+  four_field : (pos : ℕ) → SameFirst 4 (window bytes pos 4) (window others pos 4) → (i : ℕ) → IsIn pos 4 i → Agree i
+  four_field pos first i own =
       let low = own.0 in
       let high = own.1 in
       at_window bytes pos 4 i own.0 own.1 ∙ first (i - pos) (omega arith) ∙ sym (at_window others pos 4 i own.0 own.1)
 
-  place_told_same : (p : Part) (c : Content) → IsPlace p → content_of names bytes p ≡ c → content_of names others p ≡ c → IsContent c
+  place_field_same : (p : Part) (c : Content) → IsPlace p → content_of names bytes p ≡ c → content_of names others p ≡ c → IsContent c
       → IsFilled bytes p c → IsFilled others p c → (i : ℕ) → Owns p i → InField bytes p i → Agree i
-  place_told_same (at pos s) c k e e' h t t' i own told =
+  place_field_same (at pos s) c k e e' h t t' i own in_field =
       let w = window bytes pos (size_of s) in
       let w' = window others pos (size_of s) in
-      let first = shape_told w w' (window_bytes bytes pos (size_of s) small) (window_bytes others pos (size_of s) tiny) names pos s c e e' h t t' in
+      let first = shape_field w w' (window_bytes bytes pos (size_of s) small) (window_bytes others pos (size_of s) tiny) names pos s c e e' h t t' in
       let low = own.0 in
-      let high = told.1 in
+      let high = in_field.1 in
       at_window bytes pos (size_of s) i own.0 own.1 ∙ first (i - pos) (omega arith) ∙ sym (at_window others pos (size_of s) i own.0 own.1)
-  place_told_same (child level most x v pos) c k e e' h t t' i own told =
-      four_told pos (child_told (window bytes pos 4) (window others pos 4) (window_bytes bytes pos 4 small) (window_bytes others pos 4 tiny) level most x v pos c e e' h) i own
-  place_told_same (entry x a v b) c k e e' h t t' i own told = absurd told
-  place_told_same (place_at pos limit) c k e e' h t t' i own told =
-      four_told pos (place_told (window bytes pos 4) (window others pos 4) (window_bytes bytes pos 4 small) (window_bytes others pos 4 tiny) limit c e e' h) i own
-  place_told_same (behind pos q len) c k e e' h t t' i own told = absurd k
-  place_told_same (node level most x v pos) c k e e' h t t' i own told = absurd k
-  place_told_same (buckets target len cap it) c k e e' h t t' i own told = absurd k
+  place_field_same (child level most x v pos) c k e e' h t t' i own in_field =
+      four_field pos (child_field (window bytes pos 4) (window others pos 4) (window_bytes bytes pos 4 small) (window_bytes others pos 4 tiny) level most x v pos c e e' h) i own
+  place_field_same (entry x a v b) c k e e' h t t' i own in_field = absurd in_field
+  place_field_same (place_at pos limit) c k e e' h t t' i own in_field =
+      four_field pos (place_field (window bytes pos 4) (window others pos 4) (window_bytes bytes pos 4 small) (window_bytes others pos 4 tiny) limit c e e' h) i own
+  place_field_same (behind pos q len) c k e e' h t t' i own in_field = absurd k
+  place_field_same (node level most x v pos) c k e e' h t t' i own in_field = absurd k
+  place_field_same (buckets target len cap it) c k e e' h t t' i own in_field = absurd k
 
-  place_told_back : (p : Part) → IsPlace p → (i : ℕ) → InField others p i → InField bytes p i
-  place_told_back (at pos s) k i h = h
-  place_told_back (child level most x v pos) k i h = h
-  place_told_back (entry x a v b) k i h = h
-  place_told_back (place_at pos limit) k i h = h
-  place_told_back (behind pos q len) k i h = absurd k
-  place_told_back (node level most x v pos) k i h = absurd k
-  place_told_back (buckets target len cap it) k i h = absurd k
+  place_field_back : (p : Part) → IsPlace p → (i : ℕ) → InField others p i → InField bytes p i
+  place_field_back (at pos s) k i h = h
+  place_field_back (child level most x v pos) k i h = h
+  place_field_back (entry x a v b) k i h = h
+  place_field_back (place_at pos limit) k i h = h
+  place_field_back (behind pos q len) k i h = absurd k
+  place_field_back (node level most x v pos) k i h = absurd k
+  place_field_back (buckets target len cap it) k i h = absurd k
 
-  -- what is ruled where a spot leads
-  led_bytes : (bs : List ℕ) (p : Part) (l : Label) (ps : List Part) (vs : Values) → IsPlace p → content_of names bs p ≡ plain l ps → IsChosen fit bs p ps vs → IsLed fit bs ps vs
+  -- what is settled where a spot leads
+  led_bytes : (bs : List ℕ) (p : Part) (l : Label) (ps : List Part) (vs : Values) → IsPlace p → content_of names bs p ≡ plain l ps → IsChosen (choices fit) bs p ps vs → LeadsChosen (choices fit) bs ps vs
   led_bytes bs (at pos s) l ps vs k e h = h
   led_bytes bs (child level most x v pos) l ps vs k e h = h
-  led_bytes bs (entry x a v b) l ps vs k e h = let here : at a x ∷ (at b v ∷ []) ≡ ps = cc in subst (λ y. IsLed fit bs y vs) here tt
-  led_bytes bs (place_at pos limit) l ps vs k e h = subst (λ y. IsLed fit bs y vs) (place_parts limit (window bs pos 4) e) tt
+  led_bytes bs (entry x a v b) l ps vs k e h = let here : at a x ∷ (at b v ∷ []) ≡ ps = cc in subst (λ y. LeadsChosen (choices fit) bs y vs) here tt
+  led_bytes bs (place_at pos limit) l ps vs k e h = subst (λ y. LeadsChosen (choices fit) bs y vs) (place_parts limit (window bs pos 4) e) tt
   led_bytes bs (behind pos q len) l ps vs k e h = absurd k
   led_bytes bs (node level most x v pos) l ps vs k e h = absurd k
   led_bytes bs (buckets target len cap it) l ps vs k e h = absurd k
@@ -260,7 +262,7 @@ module _ (fit : Fit) (rule : Rule) (settles : Settles fit rule) (names : Names) 
   akin_place_too akin_node h = absurd h
   akin_place_too (akin_buckets g) h = absurd h
 
-  -- a byte that is told, or a part's, or zero, in both
+  -- a byte that is in_field, or a part's, or zero, in both
   accounted : (p : Part) (ps : List Part) (i : ℕ) → (InField bytes p i → Agree i) → (InField others p i → Agree i) → (InParts ps i → Agree i)
       → FieldPartOrZero bytes p ps i → FieldPartOrZero others p ps i → Agree i
   accounted p ps i f g h a b =
@@ -304,12 +306,12 @@ module _ (fit : Fit) (rule : Rule) (settles : Settles fit rule) (names : Names) 
       let f2 = subst (λ y. PaddingIsZero others p y) there cleaned.padding in
       let t1 = subst (λ y. IsFilled bytes p y) e clean.filled in
       let t2 = subst (λ y. IsFilled others p y) there cleaned.filled in
-      let told = place_told_same p c spot e there h t1 t2 i o in
-      accounted p ps i told (λ z. told (place_told_back p spot i z)) (own i) (g f1 i o) (g' f2 i o)
+      let in_field = place_field_same p c spot e there h t1 t2 i o in
+      accounted p ps i in_field (λ z. in_field (place_field_back p spot i z)) (own i) (g f1 i o) (g' f2 i o)
 
   plain_case : {P : Type 0} {p p' : Part} {v v' : Value} {rs rs' : List Region} {after after' : List Visit} {end end' : ℕ} {l l' : Label} {ps ps' : List Part} {vs vs' : Values}
       {level level' : ℕ} {inside inside' : List OpenShared} {before before' : List Visit} (low low' : ℕ)
-      → IsChosen fit bytes p ps vs → IsChosen fit others p' ps' vs'
+      → IsChosen (choices fit) bytes p ps vs → IsChosen (choices fit) others p' ps' vs'
       → Akin bytes others P p p' → content_of names bytes p ≡ plain l ps → content_of names others p' ≡ plain l' ps'
       → HoldAll names bytes level inside ps vs rs before after → HoldAll names others level' inside' ps' vs' rs' before' after'
       → Ascends low (length bytes) rs → Ascends low' (length others) rs'
@@ -317,11 +319,11 @@ module _ (fit : Fit) (rule : Rule) (settles : Settles fit rule) (names : Names) 
       → IsClean names bytes p → IsClean names others p'
       → (AllAkin bytes others P ps ps' → all_erased vs ≡ all_erased vs' → SameAll P ps ps' vs vs' rs rs' after after' end end')
       → Same P p p' v v' rs rs' after after' end end'
-  plain_case {P = P} {p = p} {p' = p'} {v = v} {v' = v'} {l = l} {l' = l'} {ps = ps} {ps' = ps'} {vs = vs} {vs' = vs'} low low' ruled ruled' k e e' all all' asc asc' m m' alike clean clean' on =
+  plain_case {P = P} {p = p} {p' = p'} {v = v} {v' = v'} {l = l} {l' = l'} {ps = ps} {ps' = ps'} {vs = vs} {vs' = vs'} low low' settled settled' k e e' all all' asc asc' m m' alike clean clean' on =
       let spot = is_place p (plain l ps) e tt (λ x. omega (arith, x)) in
-      let led = led_bytes bytes p l ps vs spot e ruled in
-      let led' = led_bytes others p' l' ps' vs' (akin_place_too k spot) e' ruled' in
-      let st = step fit names bytes others P low low' all all' asc asc' v v' m m' alike led led' (content_match k spot) e e' in
+      let led = led_bytes bytes p l ps vs spot e settled in
+      let led' = led_bytes others p' l' ps' vs' (akin_place_too k spot) e' settled' in
+      let st = step (choices fit) names bytes others P low low' all all' asc asc' v v' m m' alike led led' (content_match k spot) e e' in
       let d = on st.parts st.values in
       record {
         value = made_one l l' vs vs' v v' st.label d.values m m';
@@ -335,17 +337,17 @@ module _ (fit : Fit) (rule : Rule) (settles : Settles fit rule) (names : Names) 
 
   -- ---- what is claimed
 
-  behind_told : (t : ℕ) (q : Pointee) (len : ℕ) (s s' : Span) (l l' : Label) (ps ps' : List Part) → pointee_content bytes t q len ≡ claimed s l ps → pointee_content others t q len ≡ claimed s' l' ps' → l ≡ l'
+  behind_field : (t : ℕ) (q : Pointee) (len : ℕ) (s s' : Span) (l l' : Label) (ps ps' : List Part) → pointee_content bytes t q len ≡ claimed s l ps → pointee_content others t q len ≡ claimed s' l' ps' → l ≡ l'
       → (i : ℕ) → InField bytes (behind t q len) i → Agree i
   unfolding pointee_content
-  behind_told t (sized r) len s s' l l' ps ps' e e' el i told = absurd told
-  behind_told t (slice r) len s s' l l' ps ps' e e' el i told = absurd told
-  behind_told t str len s s' l l' ps ps' e e' el i told =
+  behind_field t (sized r) len s s' l l' ps ps' e e' el i in_field = absurd in_field
+  behind_field t (slice r) len s s' l l' ps ps' e e' el i in_field = absurd in_field
+  behind_field t str len s s' l l' ps ps' e e' el i in_field =
       let l1 : written (window bytes t len) ≡ l = cc in
       let l2 : written (window others t len) ≡ l' = cc in
       let both : written (window bytes t len) ≡ written (window others t len) = l1 ∙ el ∙ sym l2 in
       let one : window bytes t len ≡ window others t len = cc in
-      at_window bytes t len i told.0 told.1 ∙ ap (λ w. get_or w (i - t) 0) one ∙ sym (at_window others t len i told.0 told.1)
+      at_window bytes t len i in_field.0 in_field.1 ∙ ap (λ w. get_or w (i - t) 0) one ∙ sym (at_window others t len i in_field.0 in_field.1)
 
   leaf_length : (level most : ℕ) (k v : Shape) (pos : ℕ) (own : List ℕ) (s : Span) (l : Label) (ps : List Part) → node_content level most k v pos zero own ≡ claimed s l ps → word_at own (links_offset most k v) ≡ length ps
   unfolding node_content
@@ -354,11 +356,11 @@ module _ (fit : Fit) (rule : Rule) (settles : Settles fit rule) (names : Names) 
       let here : entries (word_at own (links_offset most k v)) k (pos + keys_offset k) v (pos + values_offset most k v) ≡ ps = cc in
       sym (length-entries (word_at own (links_offset most k v)) k (pos + keys_offset k) v (pos + values_offset most k v)) ∙ ap length here
 
-  node_told_kind : (level most : ℕ) (k v : Shape) (pos m m' : ℕ) (own own' : List ℕ) (s : Span) (l : Label) (ps : List Part) → m ≡ m'
+  node_field_kind : (level most : ℕ) (k v : Shape) (pos m m' : ℕ) (own own' : List ℕ) (s : Span) (l : Label) (ps : List Part) → m ≡ m'
       → own ≡ window bytes pos (link_node_size (words_of m most) most k v) → own' ≡ window others pos (link_node_size (words_of m' most) most k v)
       → node_content level most k v pos m own ≡ claimed s l ps → node_content level most k v pos m' own' ≡ claimed s l ps
       → slice_index bytes pos ≡ slice_index others pos → (i : ℕ) → InFieldOfNode m most k v pos i → Agree i
-  node_told_kind level most k v pos zero zero own own' s l ps em eo eo' e e' first i told =
+  node_field_kind level most k v pos zero zero own own' s l ps em eo eo' e e' first i in_field =
       ⊎_elim
       (λ z. ap (λ n. get_or bytes n 0) z ∙ first ∙ ap (λ n. get_or others n 0) (sym z))
       (λ z.
@@ -369,18 +371,18 @@ module _ (fit : Fit) (rule : Rule) (settles : Settles fit rule) (names : Names) 
       let high = z.1 in
       let room = links_fit 1 most k v in
       let j : links_offset most k v + (i - (pos + links_offset most k v)) ≡ i - pos = omega (arith, low, high) in
-      let there = word_told (window bytes pos size) (window others pos size) (window_bytes bytes pos size small) (window_bytes others pos size tiny) (links_offset most k v) word (i - (pos + links_offset most k v)) (omega (arith, low, high)) in
+      let there = word_field (window bytes pos size) (window others pos size) (window_bytes bytes pos size small) (window_bytes others pos size tiny) (links_offset most k v) word (i - (pos + links_offset most k v)) (omega (arith, low, high)) in
       at_window bytes pos size i (omega (arith, low)) (omega (arith, high, room))
       ∙ subst (λ n. get_or (window bytes pos size) n 0 ≡ get_or (window others pos size) n 0) j there
       ∙ sym (at_window others pos size i (omega (arith, low)) (omega (arith, high, room))))
-      told
-  node_told_kind level most k v pos (suc m) m' own own' s l ps em eo eo' e e' first i told = ap (λ n. get_or bytes n 0) told ∙ first ∙ ap (λ n. get_or others n 0) (sym told)
-  node_told_kind level most k v pos zero (suc m') own own' s l ps em eo eo' e e' first i told = absurd (omega (arith, em))
+      in_field
+  node_field_kind level most k v pos (suc m) m' own own' s l ps em eo eo' e e' first i in_field = ap (λ n. get_or bytes n 0) in_field ∙ first ∙ ap (λ n. get_or others n 0) (sym in_field)
+  node_field_kind level most k v pos zero (suc m') own own' s l ps em eo eo' e e' first i in_field = absurd (omega (arith, em))
 
-  node_told : (level most : ℕ) (k v : Shape) (pos : ℕ) (s : Span) (l : Label) (ps : List Part)
+  node_field : (level most : ℕ) (k v : Shape) (pos : ℕ) (s : Span) (l : Label) (ps : List Part)
       → content_of names bytes (node level most k v pos) ≡ claimed s l ps → content_of names others (node level most k v pos) ≡ claimed s l ps
       → (i : ℕ) → InField bytes (node level most k v pos) i → Agree i
-  node_told level most k v pos s l ps e e' i told =
+  node_field level most k v pos s l ps e e' i in_field =
       let m = slice_index (drop pos bytes) 0 in
       let m' = slice_index (drop pos others) 0 in
       let a = node_kind bytes others level most k v pos m _ (claimed s l ps) e tt in
@@ -388,14 +390,14 @@ module _ (fit : Fit) (rule : Rule) (settles : Settles fit rule) (names : Names) 
       let zero_more : pos + 0 ≡ pos = omega arith in
       let first : slice_index bytes pos ≡ slice_index others pos =
       ap (λ n. get_or bytes n 0) (sym zero_more) ∙ sym (get_or-drop pos bytes 0 0) ∙ a ∙ sym b ∙ get_or-drop pos others 0 0 ∙ ap (λ n. get_or others n 0) zero_more in
-      node_told_kind level most k v pos m m' _ _ s l ps (a ∙ sym b) refl refl e e' first i told
+      node_field_kind level most k v pos m m' _ _ s l ps (a ∙ sym b) refl refl e e' first i in_field
 
   record Claims (p p' : Part) (l l' : Label) (ps ps' : List Part) (vs vs' : Values) (s s' : Span) : Type 0 where
     from : ℕ
     to : ℕ
     claim : SameClaim bytes others from to l l' ps ps' vs vs' s s'
     whole : from ≡ to → p ≡ p'
-    told : content_of names bytes p ≡ claimed s l ps → content_of names others p ≡ claimed s l ps → p ≡ p' → (i : ℕ) → InField bytes p i → Agree i
+    in_field : content_of names bytes p ≡ claimed s l ps → content_of names others p ≡ claimed s l ps → p ≡ p' → (i : ℕ) → InField bytes p i → Agree i
 
   no_own : (p : Part) → (IsPlace p → ⊥) → (i : ℕ) → Owns p i → ⊥
   no_own (at pos s) never i o = never tt
@@ -411,7 +413,7 @@ module _ (fit : Fit) (rule : Rule) (settles : Settles fit rule) (names : Names) 
 
   claims_of : {P : Type 0} {p p' : Part} {v v' : Value} {rs rs' within within' : List Region} {after after' : List Visit} {s s' : Span} {l l' : Label} {ps ps' : List Part} {vs vs' : Values}
       {level : ℕ} {inside inside' : List OpenShared} {before before' : List Visit} (low low' : ℕ)
-      → IsChosen fit bytes p ps vs → IsChosen fit others p' ps' vs'
+      → IsChosen (choices fit) bytes p ps vs → IsChosen (choices fit) others p' ps' vs'
       → Akin bytes others P p p' → Holds names bytes level inside p v rs before after → Holds names others level inside' p' v' rs' before' after'
       → content_of names bytes p ≡ claimed s l ps → content_of names others p' ≡ claimed s' l' ps'
       → HoldAll names bytes (suc level) inside ps vs within before after → HoldAll names others (suc level) inside' ps' vs' within' before' after'
@@ -426,13 +428,13 @@ module _ (fit : Fit) (rule : Rule) (settles : Settles fit rule) (names : Names) 
   claims_of {v = v} {v' = v'} {s = s} {s' = s'} {l = l} {l' = l'} {ps = ps} {ps' = ps'} low low' ch ch' (akin_behind {t = t} {t' = t'} {len = len} {len' = len'} {q = q} g) h h' e e' all all' asc asc' below below' m m' alike =
       let n = is_counted names bytes low t q len h asc in
       let n' = is_counted names others low' t' q len' h' asc' in
-      let b = step_behind fit names bytes others (t ≡ t') low low' all all' below below' v v' m m' alike t t' q len len' s s' g n n' e e' in
+      let b = step_behind (choices fit) names bytes others (t ≡ t') low low' all all' below below' v v' m m' alike t t' q len len' s s' g n n' e e' in
       record {
         from = t;
         to = t';
         claim = record { steps = b.steps; here = λ z. sym b.starts ∙ z ∙ b.starts'; size = b.size; align = b.align };
         whole = λ z. ap₂ (λ x y. behind x q y) z b.len;
-        told = λ c c' same_part. behind_told t q len s s l l ps ps c c' refl;
+        in_field = λ c c' same_part. behind_field t q len s s l l ps ps c c' refl;
       }
   claims_of {v = v} {v' = v'} {s = s} {s' = s'} {l = l} {l' = l'} {ps = ps} {ps' = ps'} low low' ch ch' (akin_node {level = level} {most = most} {k = k} {v = x} {pos = pos} {pos' = pos'}) h h' e e' all all' asc asc' below below' m m' alike =
       record {
@@ -440,7 +442,7 @@ module _ (fit : Fit) (rule : Rule) (settles : Settles fit rule) (names : Names) 
         to = pos';
         claim = step_node names bytes others all all' v v' m m' alike level most k x pos pos' _ _ _ _ s s' ch ch' e e';
         whole = λ z. ap (node level most k x) z;
-        told = λ c c' same_part. node_told level most k x pos s l ps c c';
+        in_field = λ c c' same_part. node_field level most k x pos s l ps c c';
       }
   claims_of {v = v} {v' = v'} {s = s} {s' = s'} {l = l} {l' = l'} {ps = ps} {ps' = ps'} low low' ch ch' (akin_buckets {t = t} {t' = t'} {len = len} {cap = cap} {it = it} g) h h' e e' all all' asc asc' below below' m m' alike =
       record {
@@ -448,14 +450,14 @@ module _ (fit : Fit) (rule : Rule) (settles : Settles fit rule) (names : Names) 
         to = t';
         claim = step_buckets names bytes others all all' v v' m m' alike t t' len cap it _ _ s s' g e e';
         whole = λ z. ap (λ y. buckets y len cap it) z;
-        told = λ c c' same_part i told.
+        in_field = λ c c' same_part i in_field.
             let here : t' ≡ t = cc in
-            at_window bytes t (control_count cap) i told.0 told.1 ∙ ap (λ w. get_or w (i - t) 0) (g ∙ ap (λ y. window others y (control_count cap)) here) ∙ sym (at_window others t (control_count cap) i told.0 told.1);
+            at_window bytes t (control_count cap) i in_field.0 in_field.1 ∙ ap (λ w. get_or w (i - t) 0) (g ∙ ap (λ y. window others y (control_count cap)) here) ∙ sym (at_window others t (control_count cap) i in_field.0 in_field.1);
       }
 
   claimed_case : {P : Type 0} {p p' : Part} {v v' : Value} {rs rs' within within' : List Region} {after after' : List Visit} {s s' : Span} {l l' : Label} {ps ps' : List Part} {vs vs' : Values}
       {level : ℕ} {inside inside' : List OpenShared} {before before' : List Visit} (low low' mid mid' : ℕ)
-      → IsChosen fit bytes p ps vs → IsChosen fit others p' ps' vs'
+      → IsChosen (choices fit) bytes p ps vs → IsChosen (choices fit) others p' ps' vs'
       → Akin bytes others P p p' → Holds names bytes level inside p v rs before after → Holds names others level inside' p' v' rs' before' after'
       → content_of names bytes p ≡ claimed s l ps → content_of names others p' ≡ claimed s' l' ps'
       → HoldAll names bytes (suc level) inside ps vs within before after → HoldAll names others (suc level) inside' ps' vs' within' before' after'
@@ -483,7 +485,7 @@ module _ (fit : Fit) (rule : Rule) (settles : Settles fit rule) (names : Names) 
       let cleaned = subst (λ y. IsClean names others y) (sym same_part) clean' in
       let f1 = subst (λ c. PaddingIsZero bytes p c) e clean.padding in
       let f2 = subst (λ c. PaddingIsZero others p c) there cleaned.padding in
-      let told = a.told e there same_part in
+      let in_field = a.in_field e there same_part in
       record {
         value = made_one l l' vs vs' v v' x.label d.values m m';
         regions = r ∙ ap₂ (λ y z. y ++ z ∷ []) d.regions one_span ∙ sym r';
@@ -491,7 +493,7 @@ module _ (fit : Fit) (rule : Rule) (settles : Settles fit rule) (names : Names) 
         ends = ap₂ (λ y z. y + z) start b.size;
         inside = λ i o.
             ⊎_elim (d.inside i)
-            (λ z. ⊎_elim (λ y. accounted p ps i (told i) (λ w. told i (told_claimed others bytes names p s l ps there e i w)) (d.own here i) (f1 i y) (f2 i y)) (λ y. absurd y) z)
+            (λ z. ⊎_elim (λ y. accounted p ps i (in_field i) (λ w. in_field i (field_claimed others bytes names p s l ps there e i w)) (d.own here i) (f1 i y) (f2 i y)) (λ y. absurd y) z)
             (InRegions-append within (region_of s level ∷ []) i (subst (λ y. InRegions y i) r o));
         part = λ y. same_part;
         own = λ y i o. absurd (no_own p (not_place p k e e') i o);
@@ -573,15 +575,15 @@ module _ (fit : Fit) (rule : Rule) (settles : Settles fit rule) (names : Names) 
     one :
         {P : Type 0} {level : ℕ} {inside inside' : List OpenShared} {p p' : Part} {v v' : Value} {rs rs' : List Region} {before before' after after' : List Visit} (low low' a a' : ℕ)
         → (h : Holds names bytes level inside p v rs before after) (h' : Holds names others level inside' p' v' rs' before' after')
-        → Akin bytes others P p p' → erased v ≡ erased v' → before ≡ before' → low ≡ low' → IsCanonical rule h low → IsCanonical rule h' low'
+        → Akin bytes others P p p' → erased v ≡ erased v' → before ≡ before' → low ≡ low' → IsCanonical fit h low → IsCanonical fit h' low'
         → Ascends a (length bytes) rs → Ascends a' (length others) rs' → AreDistinct after → AreDistinct after'
         → Same P p p' v v' rs rs' after after' (end_of h low) (end_of h' low')
     one {P = P} low low' a a' (holds_plain e legal all m) (holds_plain e' legal' all' m') k alike since eq n n' asc asc' d d' =
-        plain_case a a' (settles bytes _ _ _ n.1) (settles others _ _ _ n'.1) k e e' all all' asc asc' m m' alike n.0 n'.0 (λ parts values. one_all low low' a a' all all' parts values since eq n.2 n'.2 asc asc' d d')
+        plain_case a a' (settled_chosen fit bytes _ _ _ n.1) (settled_chosen fit others _ _ _ n'.1) k e e' all all' asc asc' m m' alike n.0 n'.0 (λ parts values. one_all low low' a a' all all' parts values since eq n.2 n'.2 asc asc' d d')
     one low low' a a' (holds_claimed {level = level} {regions = rs} {within = within} {s = s} e legal all m r) (holds_claimed {regions = rs'} {within = within'} {s = s'} e' legal' all' m' r') k alike since eq n n' asc asc' d d' =
         let below = ((Ascends-append a (length bytes) within (region_of s level ∷ [])).0 (subst (Ascends a (length bytes)) r asc)).0 in
         let below' = ((Ascends-append a' (length others) within' (region_of s' level ∷ [])).0 (subst (Ascends a' (length others)) r' asc')).0 in
-        claimed_case a a' (end_of_all all low) (end_of_all all' low') (settles bytes _ _ _ n.1) (settles others _ _ _ n'.1) k (holds_claimed e legal all m r) (holds_claimed e' legal' all' m' r') e e' all all' r r' asc asc' m m' alike n.0 n'.0 n.3 n'.3
+        claimed_case a a' (end_of_all all low) (end_of_all all' low') (settled_chosen fit bytes _ _ _ n.1) (settled_chosen fit others _ _ _ n'.1) k (holds_claimed e legal all m r) (holds_claimed e' legal' all' m' r') e e' all all' r r' asc asc' m m' alike n.0 n'.0 n.3 n'.3
         (λ Q parts values. one_all low low' a a' all all' parts values since eq n.2 n'.2 below below' d d')
     one low low' a a' (holds_first {w = w} {t = t} {q = q} {len = len} e x y h z g) (holds_first {w = w'} {t = t'} {q = q'} {len = len'} e' x' y' h' z' g') k alike since eq n n' asc asc' d d' =
         let c = counted_case k e e' n.0 n'.0 in
@@ -645,7 +647,7 @@ module _ (fit : Fit) (rule : Rule) (settles : Settles fit rule) (names : Names) 
     one_all :
         {P : Type 0} {level : ℕ} {inside inside' : List OpenShared} {ps ps' : List Part} {vs vs' : Values} {rs rs' : List Region} {before before' after after' : List Visit} (low low' a a' : ℕ)
         → (all : HoldAll names bytes level inside ps vs rs before after) (all' : HoldAll names others level inside' ps' vs' rs' before' after')
-        → AllAkin bytes others P ps ps' → all_erased vs ≡ all_erased vs' → before ≡ before' → low ≡ low' → AreCanonical rule all low → AreCanonical rule all' low'
+        → AllAkin bytes others P ps ps' → all_erased vs ≡ all_erased vs' → before ≡ before' → low ≡ low' → AreCanonical fit all low → AreCanonical fit all' low'
         → Ascends a (length bytes) rs → Ascends a' (length others) rs' → AreDistinct after → AreDistinct after'
         → SameAll P ps ps' vs vs' rs rs' after after' (end_of_all all low) (end_of_all all' low')
     one_all low low' a a' (holds_none e f g) (holds_none e' f' g') akin_none values since eq n n' asc asc' d d' = record {
@@ -678,9 +680,13 @@ module _ (fit : Fit) (rule : Rule) (settles : Settles fit rule) (names : Names) 
         }
 
 pub one_archive_law : OneArchive
-one_archive_law fit rule names bytes others pos from s v w rs qs a b settles x y alike =
-    let start : Akin bytes others ⊤ (behind pos (sized s) 1) (behind from (sized s) 1) = akin_behind refl in
-    let o = one fit rule settles names bytes others x.bytes_are y.bytes_are 0 0 0 0 x.root.holds y.root.holds start alike refl refl x.canonical y.canonical x.root.ascends y.root.ascends x.once y.once in
-    let r = o.regions in
-    ext_get_or 0 bytes others (sym x.ends ∙ o.ends ∙ y.ends)
-    (λ i l. ⊎_elim (o.inside i) (λ z. ⊎_elim (λ t. o.inside i (subst (λ u. InRegions u i) (sym r) t)) (λ u. z ∙ sym u) (y.gaps i)) (x.gaps i))
+one_archive_law fit names bytes others start pos from s v w rs qs a b x y alike =
+    let first : Akin bytes others ⊤ (behind pos (sized s) 1) (behind from (sized s) 1) = akin_behind refl in
+    let o = one fit names bytes others x.bytes_are y.bytes_are start start 0 0 x.root.holds y.root.holds first alike refl refl x.canonical y.canonical x.root.ascends y.root.ascends x.once y.once in
+    let lengths : length bytes ≡ length others = sym x.ends ∙ o.ends ∙ y.ends in
+    ext_get_or 0 (drop start bytes) (drop start others) (length-drop start bytes ∙ ap (λ n. n - start) lengths ∙ sym (length-drop start others))
+    (λ i l. get_or-drop start bytes i 0 ∙ same_byte (start + i) o.regions o.inside (x.gaps (start + i) (omega arith)) (y.gaps (start + i) (omega arith)) ∙ sym (get_or-drop start others i 0))
+  where
+    same_byte : (i : ℕ) → rs ≡ qs → ((j : ℕ) → InRegions rs j → slice_index bytes j ≡ slice_index others j)
+        → InRegions rs i ⊎ (slice_index bytes i ≡ 0) → InRegions qs i ⊎ (slice_index others i ≡ 0) → slice_index bytes i ≡ slice_index others i
+    same_byte i r inside f g = ⊎_elim (inside i) (λ z. ⊎_elim (λ t. inside i (subst (λ u. InRegions u i) (sym r) t)) (λ u. z ∙ sym u) g) f

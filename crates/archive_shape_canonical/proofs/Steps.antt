@@ -16,8 +16,9 @@ use Rattle.archive_shape_layout.specs.Holds.{Region, region_of, Visit, OpenShare
 use Rattle.archive_shape_layout.specs.Holds.HoldAll.{holds_none, holds_more}
 use Rattle.archive_shape_layout.proofs.Ascent.{Ascends-append}
 use Rattle.archive_shape_layout.proofs.Unique.{by_claimed}
-use Rattle.archive_shape_canonical.specs.Canonical.{erased, all_erased}
-use Rattle.archive_shape_canonical.specs.Choice.{Fit, IsFitted, HasItems, IsLed}
+use Rattle.archive_shape_canonical.specs.Sharing.{erased, all_erased}
+use Rattle.archive_shape_canonical.specs.Settled.{HasItems}
+use Rattle.archive_shape_canonical.proofs.Choosing.{Choices, IsFilledAs, LeadsChosen}
 use Rattle.archive_shape_canonical.proofs.Akin.{Akin, AllAkin, akin_none, akin_more, akin_at, akin_behind, akin_buckets, SameCount, Match, no_left, no_right, leaves, texts, wholes, ones, tags, short_long, long_short, totals, empty_total, total_empty, tables, empty_table, table_empty, maps, empty_map, map_empty, no_child, child_no, counts, elements_akin}
 
 -- ---- what is made of what
@@ -182,13 +183,13 @@ not_written : {l : Label} {ps : List Part} {c : Content} → c ≡ illegal → c
 not_written e f = cc
 
 module _
-    (fit : Fit) (names : Names) (bytes others : List ℕ) (P : Type 0)
+    (fit : Choices) (names : Names) (bytes others : List ℕ) (P : Type 0)
     {level level' : ℕ} {inside inside' : List OpenShared} {ps ps' : List Part} {vs vs' : Values} {rs rs' : List Region} {before after before' after' : List Visit} (low low' : ℕ)
     (all : HoldAll names bytes level inside ps vs rs before after) (all' : HoldAll names others level' inside' ps' vs' rs' before' after')
     (a : Ascends low (length bytes) rs) (a' : Ascends low' (length others) rs')
     {l l' : Label} (v v' : Value) (m : made l vs ≡ Some v) (m' : made l' vs' ≡ Some v') (alike : erased v ≡ erased v')
   where
-    pub step : {c c' : Content} → IsLed fit bytes ps vs → IsLed fit others ps' vs' → Match bytes others P c c' → c ≡ plain l ps → c' ≡ plain l' ps' → SameStep bytes others P l l' ps ps' vs vs'
+    pub step : {c c' : Content} → LeadsChosen fit bytes ps vs → LeadsChosen fit others ps' vs' → Match bytes others P c c' → c ≡ plain l ps → c' ≡ plain l' ps' → SameStep bytes others P l l' ps ps' vs vs'
     step led led' no_left e e' = absurd (cc)
     step led led' no_right e e' = absurd (cc)
     step led led' (leaves {v = u} {v' = u'} s s') e e' =
@@ -314,8 +315,8 @@ module _
         let p2 : buckets t' len' cap' (item s) ∷ [] ≡ ps' = cc in
         let x = made_same v vs (subst (λ y. made y vs ≡ Some v) (sym l1) m) in
         let x' = made_same v' vs' (subst (λ y. made y vs' ≡ Some v') (sym l2) m') in
-        let f : IsFitted fit bytes t len cap (more_values v no_values) = subst (λ y. IsLed fit bytes (buckets t len cap (item s) ∷ []) y) x (subst (λ y. IsLed fit bytes y vs) (sym p1) led) in
-        let f' : IsFitted fit others t' len' cap' (more_values v' no_values) = subst (λ y. IsLed fit others (buckets t' len' cap' (item s) ∷ []) y) x' (subst (λ y. IsLed fit others y vs') (sym p2) led') in
+        let f : IsFilledAs fit bytes t len cap (more_values v no_values) = subst (λ y. LeadsChosen fit bytes (buckets t len cap (item s) ∷ []) y) x (subst (λ y. LeadsChosen fit bytes y vs) (sym p1) led) in
+        let f' : IsFilledAs fit others t' len' cap' (more_values v' no_values) = subst (λ y. LeadsChosen fit others (buckets t' len' cap' (item s) ∷ []) y) x' (subst (λ y. LeadsChosen fit others y vs') (sym p2) led') in
         let one : len ≡ len' = sym f.0 ∙ same_members v v' alike ∙ f'.0 in
         let room : cap ≡ cap' = f.1 ∙ ap fit.capacity one ∙ sym f'.1 in
         let controls : window bytes t (control_count cap) ≡ window others t' (control_count cap') = f.2 ∙ ap fit.table_controls alike ∙ sym f'.2 in
@@ -331,7 +332,7 @@ module _
         let p2 : buckets t len cap (item s) ∷ [] ≡ ps' = cc in
         let x = made_whole v vs (subst (λ y. made y vs ≡ Some v) (sym l1) m) in
         let x' = made_same v' vs' (subst (λ y. made y vs' ≡ Some v') (sym l2) m') in
-        let f' : IsFitted fit others t len cap (more_values v' no_values) = subst (λ y. IsLed fit others (buckets t len cap (item s) ∷ []) y) x' (subst (λ y. IsLed fit others y vs') (sym p2) led') in
+        let f' : IsFilledAs fit others t len cap (more_values v' no_values) = subst (λ y. LeadsChosen fit others (buckets t len cap (item s) ∷ []) y) x' (subst (λ y. LeadsChosen fit others y vs') (sym p2) led') in
         absurd (nothing v vs ps (count_parts names bytes all) p1 x (same_members v v' alike ∙ f'.0) some)
     step led led' (table_empty {t = t} {len = len} {cap = cap} {s = s} some) e e' =
         let l1 : same ≡ l = cc in
@@ -340,7 +341,7 @@ module _
         let p2 : ps' ≡ [] = cc in
         let x = made_same v vs (subst (λ y. made y vs ≡ Some v) (sym l1) m) in
         let x' = made_whole v' vs' (subst (λ y. made y vs' ≡ Some v') (sym l2) m') in
-        let f : IsFitted fit bytes t len cap (more_values v no_values) = subst (λ y. IsLed fit bytes (buckets t len cap (item s) ∷ []) y) x (subst (λ y. IsLed fit bytes y vs) (sym p1) led) in
+        let f : IsFilledAs fit bytes t len cap (more_values v no_values) = subst (λ y. LeadsChosen fit bytes (buckets t len cap (item s) ∷ []) y) x (subst (λ y. LeadsChosen fit bytes y vs) (sym p1) led) in
         absurd (nothing v' vs' ps' (count_parts names others all') p2 x' (sym (same_members v v' alike) ∙ f.0) some)
     step led led' (maps {t = t} {t' = t'} {len = len} {len' = len'} {cap = cap} {cap' = cap'} {u = u} {u' = u'} {s = s}) e e' =
         let l1 : second ≡ l = cc in
@@ -351,8 +352,8 @@ module _
         let p2 : qs' ≡ ps' = cc in
         let x = made_second v vs (subst (λ y. made y vs ≡ Some v) (sym l1) m) in
         let x' = made_second v' vs' (subst (λ y. made y vs' ≡ Some v') (sym l2) m') in
-        let f : IsFitted fit bytes t len cap (more_values x.first (more_values v no_values)) = subst (λ y. IsLed fit bytes qs y) x.is (subst (λ y. IsLed fit bytes y vs) (sym p1) led) in
-        let f' : IsFitted fit others t' len' cap' (more_values x'.first (more_values v' no_values)) = subst (λ y. IsLed fit others qs' y) x'.is (subst (λ y. IsLed fit others y vs') (sym p2) led') in
+        let f : IsFilledAs fit bytes t len cap (more_values x.first (more_values v no_values)) = subst (λ y. LeadsChosen fit bytes qs y) x.is (subst (λ y. LeadsChosen fit bytes y vs) (sym p1) led) in
+        let f' : IsFilledAs fit others t' len' cap' (more_values x'.first (more_values v' no_values)) = subst (λ y. LeadsChosen fit others qs' y) x'.is (subst (λ y. LeadsChosen fit others y vs') (sym p2) led') in
         let one : len ≡ len' = sym f.0 ∙ same_members v v' alike ∙ f'.0 in
         let room : cap ≡ cap' = f.1 ∙ ap fit.capacity one ∙ sym f'.1 in
         let controls : window bytes t (control_count cap) ≡ window others t' (control_count cap') = f.2 ∙ ap fit.map_controls alike ∙ sym f'.2 in
@@ -371,7 +372,7 @@ module _
         let p2 : qs' ≡ ps' = cc in
         let x = made_whole v vs (subst (λ y. made y vs ≡ Some v) (sym l1) m) in
         let x' = made_second v' vs' (subst (λ y. made y vs' ≡ Some v') (sym l2) m') in
-        let f' : IsFitted fit others t len cap (more_values x'.first (more_values v' no_values)) = subst (λ y. IsLed fit others qs' y) x'.is (subst (λ y. IsLed fit others y vs') (sym p2) led') in
+        let f' : IsFilledAs fit others t len cap (more_values x'.first (more_values v' no_values)) = subst (λ y. LeadsChosen fit others qs' y) x'.is (subst (λ y. LeadsChosen fit others y vs') (sym p2) led') in
         absurd (nothing v vs ps (count_parts names bytes all) p1 x (same_members v v' alike ∙ f'.0) some)
     step led led' (map_empty {t = t} {len = len} {cap = cap} {u = u} {s = s} some) e e' =
         let l1 : second ≡ l = cc in
@@ -381,7 +382,7 @@ module _
         let p2 : ps' ≡ [] = cc in
         let x = made_second v vs (subst (λ y. made y vs ≡ Some v) (sym l1) m) in
         let x' = made_whole v' vs' (subst (λ y. made y vs' ≡ Some v') (sym l2) m') in
-        let f : IsFitted fit bytes t len cap (more_values x.first (more_values v no_values)) = subst (λ y. IsLed fit bytes qs y) x.is (subst (λ y. IsLed fit bytes y vs) (sym p1) led) in
+        let f : IsFilledAs fit bytes t len cap (more_values x.first (more_values v no_values)) = subst (λ y. LeadsChosen fit bytes qs y) x.is (subst (λ y. LeadsChosen fit bytes y vs) (sym p1) led) in
         absurd (nothing v' vs' ps' (count_parts names others all') p2 x' (sym (same_members v v' alike) ∙ f.0) some)
     step led led' (no_child {level = j} {most = most} {k = k} {v = r} {pos = pos}) e e' =
         let l1 : whole ≡ l = cc in
@@ -390,7 +391,7 @@ module _
         let p2 : node j most k r pos ∷ [] ≡ ps' = cc in
         let x = made_whole v vs (subst (λ y. made y vs ≡ Some v) (sym l1) m) in
         let x' = made_same v' vs' (subst (λ y. made y vs' ≡ Some v') (sym l2) m') in
-        let f' : HasItems (more_values v' no_values) = subst (λ y. IsLed fit others (node j most k r pos ∷ []) y) x' (subst (λ y. IsLed fit others y vs') (sym p2) led') in
+        let f' : HasItems (more_values v' no_values) = subst (λ y. LeadsChosen fit others (node j most k r pos ∷ []) y) x' (subst (λ y. LeadsChosen fit others y vs') (sym p2) led') in
         absurd (nothing v vs ps (count_parts names bytes all) p1 x (same_members v v' alike) f')
     step led led' (child_no {level = j} {most = most} {k = k} {v = r} {pos = pos}) e e' =
         let l1 : same ≡ l = cc in
@@ -399,7 +400,7 @@ module _
         let p2 : ps' ≡ [] = cc in
         let x = made_same v vs (subst (λ y. made y vs ≡ Some v) (sym l1) m) in
         let x' = made_whole v' vs' (subst (λ y. made y vs' ≡ Some v') (sym l2) m') in
-        let f : HasItems (more_values v no_values) = subst (λ y. IsLed fit bytes (node j most k r pos ∷ []) y) x (subst (λ y. IsLed fit bytes y vs) (sym p1) led) in
+        let f : HasItems (more_values v no_values) = subst (λ y. LeadsChosen fit bytes (node j most k r pos ∷ []) y) x (subst (λ y. LeadsChosen fit bytes y vs) (sym p1) led) in
         absurd (nothing v' vs' ps' (count_parts names others all') p2 x' (sym (same_members v v' alike)) f)
 
     pub step_behind : (t t' : ℕ) (q : Pointee) (len len' : ℕ) (s s' : Span) → SameCount q len len'

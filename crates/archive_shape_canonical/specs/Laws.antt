@@ -1,14 +1,14 @@
 -- The laws of canonical archives, as statements.
-use Rattle.std.specs.Prelude.{◌≡◌, ℕ, zero, suc, ◌<◌, IsUtf8, List, [], ◌∷◌, ◌++◌, slice_index, Some, ⊤}
+use Rattle.std.specs.Prelude.{◌≡◌, ℕ, zero, suc, ◌<◌, IsUtf8, List, [], ◌∷◌, ◌++◌, drop, slice_index, Some, ⊤}
 use Rattle.archive_shape_layout.specs.Bytes.{window}
 use Rattle.archive_shape_layout.specs.Shape.{Shape, size_of}
 use Rattle.archive_shape_layout.specs.Shape.Pointee.{sized, str}
 use Rattle.archive_shape_layout.specs.Value.{Value, Values}
-use Rattle.archive_shape_layout.specs.Content.{Names, Part, Label, content_of, made, IsLegal}
+use Rattle.archive_shape_layout.specs.Content.{Names, Part, Item, Label, content_of, made, members, IsLegal}
 use Rattle.archive_shape_layout.specs.Content.Part.{at, behind, node, child, entry, buckets, place_at}
 use Rattle.archive_shape_layout.specs.Content.Content.{plain}
 use Rattle.archive_shape_layout.specs.Value.Value.{string}
-use Rattle.archive_shape_layout.specs.Value.Values.{no_values}
+use Rattle.archive_shape_layout.specs.Value.Values.{no_values, more_values}
 use Rattle.archive_shape_layout.specs.Edit.{Spares}
 use Rattle.archive_shape_layout.specs.Path.{put_at, Stands, StandsIn}
 use Rattle.archive_shape_layout.specs.Path.Stands.{stands_here, stands_plain, stands_claimed}
@@ -16,44 +16,46 @@ use Rattle.archive_shape_layout.specs.Path.StandsIn.{stands_first, stands_later}
 use Rattle.archive_shape_canonical.specs.Clean.{IsClean}
 use Rattle.archive_shape_layout.specs.Holds.{Region, Visit, OpenShared, Holds}
 use Rattle.archive_shape_layout.specs.Laws.{OwnAgrees, RegionsAgree}
-use Rattle.archive_shape_canonical.specs.Canonical.{Rule, CanonicalArchive, IsCanonical, end_of, erased}
-use Rattle.archive_shape_canonical.specs.Choice.{Fit, Settles, no_choice, packed}
+use Rattle.archive_shape_canonical.specs.Settled.{Fit, IsSettled}
+use Rattle.archive_shape_canonical.specs.Sharing.{erased}
+use Rattle.archive_shape_canonical.specs.FirstFit.{first_fit, by_key}
+use Rattle.archive_shape_canonical.specs.Canonical.{CanonicalArchive, IsCanonical, end_of}
 
--- a value has one canonical archive
+-- a value has one canonical archive from a position on
 abbrev pub OneArchive : Type 0
 OneArchive =
-    (fit : Fit) (rule : Rule) (names : Names) (bytes others : List ℕ) (pos from : ℕ) (s : Shape) (v w : Value) (rs qs : List Region) (a b : List Visit)
-    → Settles fit rule
-    → CanonicalArchive rule names bytes pos s v rs a
-    → CanonicalArchive rule names others from s w qs b
+    (fit : Fit) (names : Names) (bytes others : List ℕ) (start pos from : ℕ) (s : Shape) (v w : Value) (rs qs : List Region) (a b : List Visit)
+    → CanonicalArchive fit names bytes start pos s v rs a
+    → CanonicalArchive fit names others start from s w qs b
     → erased v ≡ erased w
-    → bytes ≡ others
+    → drop start bytes ≡ drop start others
 
--- archives without trees and tables leave no choice
-abbrev pub NoChoiceIsLeft : Type 0
-NoChoiceIsLeft = (fit : Fit) → Settles fit no_choice
-
--- nor do those with packed trees and without tables that have items
-abbrev pub PackedSettles : Type 0
-PackedSettles = (fit : Fit) → Settles fit packed
+-- two tables by first fit that are of one finite map have their items in one order
+abbrev pub TablesOfOneMap : Type 0
+TablesOfOneMap =
+    (hash : List ℕ → ℕ) (bytes others : List ℕ) (pos from : ℕ) (s r : Shape) (target goal len count cap room : ℕ) (it that : Item) (ps qs : List Part) (v w : Value)
+    → IsSettled (first_fit hash) bytes (at pos s) (buckets target len cap it ∷ ps) (more_values v no_values)
+    → IsSettled (first_fit hash) others (at from r) (buckets goal count room that ∷ qs) (more_values w no_values)
+    → by_key (members (erased v)) ≡ by_key (members (erased w))
+    → members (erased v) ≡ members (erased w)
 
 -- ---- edits
 
--- a neat reading in other bytes, from where it begins to where it ends
-pub record CanonicalIn (rule : Rule) (names : Names) (bytes : List ℕ) (level : ℕ) (inside : List OpenShared) (p : Part) (v : Value) (regions : List Region) (before after : List Visit) (low end : ℕ) : Type 0 where
+-- bytes have a value of a part as writing it makes them, from one position to another
+pub record CanonicalIn (fit : Fit) (names : Names) (bytes : List ℕ) (level : ℕ) (inside : List OpenShared) (p : Part) (v : Value) (regions : List Region) (before after : List Visit) (low end : ℕ) : Type 0 where
   pub holds : Holds names bytes level inside p v regions before after
-  pub canonical : IsCanonical rule holds low
+  pub canonical : IsCanonical fit holds low
   pub ends : end_of holds low ≡ end
 
--- where other bytes agree on a part's own bytes and on what it claims, its reading there is as neat
+-- where other bytes agree on a part's own bytes and on what it claims, what is canonical there is so in them
 abbrev pub CanonicalFrame : Type 0
 CanonicalFrame =
-    (rule : Rule) (names : Names) (bytes others : List ℕ) (level : ℕ) (inside : List OpenShared) (p : Part) (v : Value) (regions : List Region) (before after : List Visit) (low : ℕ)
+    (fit : Fit) (names : Names) (bytes others : List ℕ) (level : ℕ) (inside : List OpenShared) (p : Part) (v : Value) (regions : List Region) (before after : List Visit) (low : ℕ)
     → OwnAgrees bytes others p
     → RegionsAgree bytes others regions
     → (h : Holds names bytes level inside p v regions before after)
-    → IsCanonical rule h low
-    → CanonicalIn rule names others level inside p v regions before after low (end_of h low)
+    → IsCanonical fit h low
+    → CanonicalIn fit names others level inside p v regions before after low (end_of h low)
 
 -- a path in an item leads on from the item, and not to its key
 abbrev pub IsBehindKey : List ℕ → Type 0
@@ -103,9 +105,9 @@ abbrev mutual
 -- the leaf put there
 abbrev pub CanonicalEditOfLeaf : Type 0
 CanonicalEditOfLeaf =
-    (rule : Rule) (names : Names) (bytes others : List ℕ) (pos : ℕ) (s : Shape) (v : Value) (regions : List Region) (visits : List Visit)
+    (fit : Fit) (names : Names) (bytes others : List ℕ) (start pos : ℕ) (s : Shape) (v : Value) (regions : List Region) (visits : List Visit)
     (path : List ℕ) (leaf_pos : ℕ) (leaf_shape : Shape) (old new : Value) (was is : Label)
-    → CanonicalArchive rule names bytes pos s v regions visits
+    → CanonicalArchive fit names bytes start pos s v regions visits
     → (stands : Stands names bytes (at leaf_pos leaf_shape) old 0 [] [] (behind pos (sized s) 1) v path)
     → AvoidsKeys stands
     → Spares bytes others leaf_pos (size_of leaf_shape)
@@ -115,20 +117,20 @@ CanonicalEditOfLeaf =
     → made is no_values ≡ Some new
     → IsClean names others (at leaf_pos leaf_shape)
     → ((i : ℕ) → slice_index others i < 256)
-    → CanonicalArchive rule names others pos s (put_at path new v) regions visits
+    → CanonicalArchive fit names others start pos s (put_at path new v) regions visits
 
 -- likewise the bytes of a text out of line, where the other text is as long
 abbrev pub CanonicalEditOfText : Type 0
 CanonicalEditOfText =
-    (rule : Rule) (names : Names) (bytes others : List ℕ) (pos : ℕ) (s : Shape) (v : Value) (regions : List Region) (visits : List Visit)
+    (fit : Fit) (names : Names) (bytes others : List ℕ) (start pos : ℕ) (s : Shape) (v : Value) (regions : List Region) (visits : List Visit)
     (path : List ℕ) (text_pos len : ℕ) (old : Value)
-    → CanonicalArchive rule names bytes pos s v regions visits
+    → CanonicalArchive fit names bytes start pos s v regions visits
     → (stands : Stands names bytes (behind text_pos str len) old 0 [] [] (behind pos (sized s) 1) v path)
     → AvoidsKeys stands
     → Spares bytes others text_pos len
     → IsUtf8 (window others text_pos len)
     → ((i : ℕ) → slice_index others i < 256)
-    → CanonicalArchive rule names others pos s (put_at path (string (window others text_pos len)) v) regions visits
+    → CanonicalArchive fit names others start pos s (put_at path (string (window others text_pos len)) v) regions visits
 
 -- ---- paths that spare keys, one behind another
 
