@@ -59,12 +59,12 @@ drop_bytes : (n : ℕ) (xs : List ℕ) → AreBytes xs → AreBytes (drop n xs)
 drop_bytes n xs small i = subst (λ m. m < 256) (sym (get_or-drop n xs i 0)) (small (n + i))
 
 module _ (xs ys : List ℕ) (small : AreBytes xs) (tiny : AreBytes ys) where
-  number_told : (w : Width) (signed : Bool) → number_value w signed (from_le_bytes w xs) ≡ number_value w signed (from_le_bytes w ys) → SameFirst (byte_len w) xs ys
+  number_field : (w : Width) (signed : Bool) → number_value w signed (from_le_bytes w xs) ≡ number_value w signed (from_le_bytes w ys) → SameFirst (byte_len w) xs ys
   unfolding number_value
-  number_told w false e =
+  number_field w false e =
       let of_natural : (m n : ℕ) → natural m ≡ natural n → m ≡ n = λ m n f. cc in
       same_spelled xs ys small tiny w (of_natural _ _ e)
-  number_told w true e =
+  number_field w true e =
       let of_integer : (m n : ℤ) → integer m ≡ integer n → m ≡ n = λ m n f. cc in
       same_spelled xs ys small tiny w
       (sym (fits_of w xs small (spelled_lt w xs small)) ∙ ap (λ z. cast_unsigned w z) (of_integer _ _ e) ∙ fits_of w ys tiny (spelled_lt w ys tiny))
@@ -84,8 +84,8 @@ module _ (xs ys : List ℕ) (small : AreBytes xs) (tiny : AreBytes ys) where
   unfolding word_at
   word_first e = same_spelled xs ys small tiny w32 e
 
-  first_told : (n : ℕ) → get_or xs 0 0 ≡ get_or ys 0 0 → n ≡ 1 → SameFirst n xs ys
-  first_told n e one i h = let z : i ≡ 0 = omega arith in ap (λ m. get_or xs m 0) z ∙ e ∙ ap (λ m. get_or ys m 0) (sym z)
+  first_field : (n : ℕ) → get_or xs 0 0 ≡ get_or ys 0 0 → n ≡ 1 → SameFirst n xs ys
+  first_field n e one i h = let z : i ≡ 0 = omega arith in ap (λ m. get_or xs m 0) z ∙ e ∙ ap (λ m. get_or ys m 0) (sym z)
 
   two_words : word_at xs 0 ≡ word_at ys 0 → word_at xs 4 ≡ word_at ys 4 → SameFirst 8 xs ys
   two_words e f i h =
@@ -123,11 +123,11 @@ module _ (xs ys : List ℕ) (small : AreBytes xs) (tiny : AreBytes ys) where
       by_tests false false true false ha hb hc hd e' f' = absurd (cc)
       by_tests false false false d ha hb hc hd e' f' = absurd (cc)
 
-  pointer_told : (pos t : ℕ) (p : Pointee) → target_from pos (word_at xs 0) ≡ Some t → target_from pos (word_at ys 0) ≡ Some t
+  pointer_field : (pos t : ℕ) (p : Pointee) → target_from pos (word_at xs 0) ≡ Some t → target_from pos (word_at ys 0) ≡ Some t
       → pointee_length p xs ≡ pointee_length p ys → SameFirst (pointer_size p) xs ys
-  pointer_told pos t (sized s) e f g = word_first (one_word pos t (word_at xs 0) (word_at ys 0) (word_lt xs 0 small) (word_lt ys 0 tiny) e f)
-  pointer_told pos t (slice s) e f g = two_words (one_word pos t (word_at xs 0) (word_at ys 0) (word_lt xs 0 small) (word_lt ys 0 tiny) e f) g
-  pointer_told pos t str e f g = two_words (one_word pos t (word_at xs 0) (word_at ys 0) (word_lt xs 0 small) (word_lt ys 0 tiny) e f) g
+  pointer_field pos t (sized s) e f g = word_first (one_word pos t (word_at xs 0) (word_at ys 0) (word_lt xs 0 small) (word_lt ys 0 tiny) e f)
+  pointer_field pos t (slice s) e f g = two_words (one_word pos t (word_at xs 0) (word_at ys 0) (word_lt xs 0 small) (word_lt ys 0 tiny) e f) g
+  pointer_field pos t str e f g = two_words (one_word pos t (word_at xs 0) (word_at ys 0) (word_lt xs 0 small) (word_lt ys 0 tiny) e f) g
 
   -- ---- tags
 
@@ -152,9 +152,9 @@ module _ (xs ys : List ℕ) (small : AreBytes xs) (tiny : AreBytes ys) where
 
   -- ---- texts
 
-  inline_told : (n : ℕ) (bs : List ℕ) → before_ff xs ≡ bs → before_ff ys ≡ bs
+  inline_field : (n : ℕ) (bs : List ℕ) → before_ff xs ≡ bs → before_ff ys ≡ bs
       → ((i : ℕ) → length bs ≤ i → i < n → get_or xs i 0 ≡ 255) → ((i : ℕ) → length bs ≤ i → i < n → get_or ys i 0 ≡ 255) → SameFirst n xs ys
-  inline_told n bs e f full filled i h =
+  inline_field n bs e f full filled i h =
       ⊎_elim
       (λ l. before xs i (subst (λ cs. i < length cs) (sym e) l) ∙ ap (λ cs. get_or cs i 0) (e ∙ sym f) ∙ sym (before ys i (subst (λ cs. i < length cs) (sym f) l)))
       (λ g. full i g h ∙ sym (filled i g h))
@@ -170,9 +170,9 @@ module _ (xs ys : List ℕ) (small : AreBytes xs) (tiny : AreBytes ys) where
           tested false zero l later = refl
           tested false (suc m) l later = later m (omega arith)
 
-  length_told : (m n : ℕ) → 128 ≤ m % 256 → m % 256 < 192 → 128 ≤ n % 256 → n % 256 < 192 → text_length m ≡ text_length n → m ≡ n
+  length_field : (m n : ℕ) → 128 ≤ m % 256 → m % 256 < 192 → 128 ≤ n % 256 → n % 256 < 192 → text_length m ≡ text_length n → m ≡ n
   unfolding text_length
-  length_told m n a b c d e = omega arith
+  length_field m n a b c d e = omega arith
 
   first_byte : (zs : List ℕ) → AreBytes zs → word_at zs 0 % 256 ≡ get_or zs 0 0
   unfolding word_at
@@ -211,13 +211,13 @@ module _ (xs ys : List ℕ) (small : AreBytes xs) (tiny : AreBytes ys) where
   filled_by : (zs : List ℕ) (c : Content) (bs : List ℕ) → plain (written bs) [] ≡ c → IsTextFilled zs c → (i : ℕ) → length bs ≤ i → i < 8 → get_or zs i 0 ≡ 255
   filled_by zs c bs e h = subst (λ x. IsTextFilled zs x) (sym e) h
 
-  text_told : (pos : ℕ) (c : Content) → text_content pos xs ≡ c → text_content pos ys ≡ c → IsContent c → IsTextFilled xs c → IsTextFilled ys c → SameFirst 8 xs ys
-  text_told pos c e f h full filled = by_read (text_read pos xs c e h) (text_read pos ys c f h)
+  text_field : (pos : ℕ) (c : Content) → text_content pos xs ≡ c → text_content pos ys ≡ c → IsContent c → IsTextFilled xs c → IsTextFilled ys c → SameFirst 8 xs ys
+  text_field pos c e f h full filled = by_read (text_read pos xs c e h) (text_read pos ys c f h)
     where
       by_read : TextRead pos xs c → TextRead pos ys c → SameFirst 8 xs ys
       by_read (is_inline a) (is_inline b) =
           let same_text : before_ff ys ≡ before_ff xs = cc in
-          inline_told 8 (before_ff xs) refl same_text (filled_by xs c (before_ff xs) a full) (filled_by ys c (before_ff xs) (ap (λ bs. plain (written bs) []) (sym same_text) ∙ b) filled)
+          inline_field 8 (before_ff xs) refl same_text (filled_by xs c (before_ff xs) a full) (filled_by ys c (before_ff xs) (ap (λ bs. plain (written bs) []) (sym same_text) ∙ b) filled)
       by_read (is_inline a) (is_long b) = absurd (let x = b.content in cc)
       by_read (is_long a) (is_inline b) = absurd (let x = a.content in cc)
       by_read (is_long a) (is_long b) =
@@ -233,22 +233,22 @@ module _ (xs ys : List ℕ) (small : AreBytes xs) (tiny : AreBytes ys) where
           let b2 = b.high in
           let there = subst (λ n. target_from pos (word_at ys 4) ≡ Some n) t b.there in
           two_words
-          (length_told (word_at xs 0) (word_at ys 0) (omega arith) (omega arith) (omega arith) (omega arith) len)
+          (length_field (word_at xs 0) (word_at ys 0) (omega arith) (omega arith) (omega arith) (omega arith) len)
           (one_word pos a.target (word_at xs 4) (word_at ys 4) (word_lt xs 4 small) (word_lt ys 4 tiny) a.there there)
 
   -- ---- by shape
 
-  pointers_told : (pos : ℕ) (p : Pointee) (k k' : ℕ → Content) (c : Content)
+  pointers_field : (pos : ℕ) (p : Pointee) (k k' : ℕ → Content) (c : Content)
       → ((t t' : ℕ) → k t ≡ c → k' t' ≡ c → (t ≡ t') × (pointee_length p xs ≡ pointee_length p ys))
       → following (target_from pos (word_at xs 0)) k ≡ c → following (target_from pos (word_at ys 0)) k' ≡ c → IsContent c → SameFirst (pointer_size p) xs ys
-  pointers_told pos p k k' c alike e f h =
+  pointers_field pos p k k' c alike e f h =
       let a = leads (target_from pos (word_at xs 0)) k c e h in
       let b = leads (target_from pos (word_at ys 0)) k' c f h in
       let both = alike a.target b.target a.content b.content in
-      pointer_told pos a.target p a.there (subst (λ n. target_from pos (word_at ys 0) ≡ Some n) (sym both.0) b.there) both.1
+      pointer_field pos a.target p a.there (subst (λ n. target_from pos (word_at ys 0) ≡ Some n) (sym both.0) b.there) both.1
 
   one_tag : (n m : ℕ) → m ≡ 1 → (c : Content) → get_or xs 0 0 ≡ tag_in c → get_or ys 0 0 ≡ tag_in c → SameFirst m xs ys
-  one_tag n m one c e f = first_told m (e ∙ sym f) one
+  one_tag n m one c e f = first_field m (e ∙ sym f) one
 
   -- trees, tables and maps: empty ones, and others
 
@@ -302,12 +302,12 @@ module _ (xs ys : List ℕ) (small : AreBytes xs) (tiny : AreBytes ys) where
       let y = leads (target_from pos (word_at zs 0)) _ c x.1 h in
       is_table y.target y.there y.content
 
-  tables_told : (pos : ℕ) (r : Shape) (c : Content)
+  tables_field : (pos : ℕ) (r : Shape) (c : Content)
       → choose (word_at xs 4 == 0) (plain Label.whole []) (table_parts pos xs (item r) [] same) ≡ c
       → choose (word_at ys 4 == 0) (plain Label.whole []) (table_parts pos ys (item r) [] same) ≡ c
       → IsContent c → (word_at xs 4 ≡ 0 → (word_at xs 0 ≡ 1) × (word_at xs 8 ≡ 0)) → (word_at ys 4 ≡ 0 → (word_at ys 0 ≡ 1) × (word_at ys 8 ≡ 0)) → SameFirst 12 xs ys
   unfolding choose
-  tables_told pos r c e f h full filled = by_test (word_at xs 4 == 0) (word_at ys 4 == 0) refl refl e f
+  tables_field pos r c e f h full filled = by_test (word_at xs 4 == 0) (word_at ys 4 == 0) refl refl e f
     where
       by_read : TableRead pos xs (item r) [] same c → TableRead pos ys (item r) [] same c → SameFirst 12 xs ys
       by_read (is_table t a x) (is_table t' a' x') =
@@ -342,11 +342,11 @@ module _ (xs ys : List ℕ) (small : AreBytes xs) (tiny : AreBytes ys) where
       of_table : (u : ℕ) → target_from (pos + 12) (word_at zs 12) ≡ Some u → TableRead pos zs (place (word_at zs 4)) (behind u (slice pair) (word_at zs 4) ∷ []) Label.second c → MapRead pos zs pair c
       of_table u there (is_table t a x) = is_map t u a there x
 
-  maps_told : (pos : ℕ) (k v : Shape) (c : Content)
+  maps_field : (pos : ℕ) (k v : Shape) (c : Content)
       → shape_content [] pos xs (index_map k v) ≡ c → shape_content [] pos ys (index_map k v) ≡ c
       → IsContent c → IsShapeFilled xs c (index_map k v) → IsShapeFilled ys c (index_map k v) → SameFirst 16 xs ys
   unfolding choose shape_content
-  maps_told pos k v c e f h full filled = by_test (word_at xs 4 == 0) (word_at ys 4 == 0) refl refl e f
+  maps_field pos k v c e f h full filled = by_test (word_at xs 4 == 0) (word_at ys 4 == 0) refl refl e f
     where
       pair : Shape
       pair = tuple (more_shapes k (more_shapes v no_shapes))
@@ -410,13 +410,13 @@ module _ (xs ys : List ℕ) (small : AreBytes xs) (tiny : AreBytes ys) where
   pub shape_field : (names : Names) (pos : ℕ) (s : Shape) (c : Content)
       → shape_content names pos xs s ≡ c → shape_content names pos ys s ≡ c → IsContent c → IsShapeFilled xs c s → IsShapeFilled ys c s → SameFirst (field_size s) xs ys
   unfolding shape_content shared_content
-  shape_field names pos (number w signed) c e f h full filled = number_told w signed (of_leaf _ _ c e f)
-  shape_field names pos (nonzero w signed) c e f h full filled = number_told w signed (of_leaf _ _ c (not_chosen _ _ c e h) (not_chosen _ _ c f h))
+  shape_field names pos (number w signed) c e f h full filled = number_field w signed (of_leaf _ _ c e f)
+  shape_field names pos (nonzero w signed) c e f h full filled = number_field w signed (of_leaf _ _ c (not_chosen _ _ c e h) (not_chosen _ _ c f h))
   shape_field names pos truth c e f h full filled =
       let a = chosen _ _ c e h in
       let b = chosen _ _ c f h in
       let same_test : boolean (get_or xs 0 0 == 1) ≡ boolean (get_or ys 0 0 == 1) = of_leaf _ _ c a.1 b.1 in
-      first_told 1 (bit (get_or xs 0 0) (get_or ys 0 0) a.0 b.0 (of_boolean _ _ same_test)) refl
+      first_field 1 (bit (get_or xs 0 0) (get_or ys 0 0) a.0 b.0 (of_boolean _ _ same_test)) refl
     where
       of_boolean : (x y : Bool) → boolean x ≡ boolean y → x ≡ y
       of_boolean x y g = cc
@@ -434,19 +434,19 @@ module _ (xs ys : List ℕ) (small : AreBytes xs) (tiny : AreBytes ys) where
       let b = chosen _ _ c f h in
       let of_natural : (m n : ℕ) → natural m ≡ natural n → m ≡ n = λ m n g. cc in
       word_first (of_natural _ _ (of_leaf _ _ c a.1 b.1))
-  shape_field names pos text c e f h full filled = text_told pos c e f h full filled
+  shape_field names pos text c e f h full filled = text_field pos c e f h full filled
   shape_field names pos (tuple ss) c e f h full filled = λ i l. absurd (omega arith)
   shape_field names pos (array n s) c e f h full filled = λ i l. absurd (omega arith)
   shape_field names pos (option s) c e f h full filled = one_tag 1 1 refl c (two_tags _ _ _ c e h) (two_tags _ _ _ c f h)
   shape_field names pos (result s t) c e f h full filled = one_tag 1 1 refl c (two_tags _ _ _ c e h) (two_tags _ _ _ c f h)
   shape_field names pos (choice ss) c e f h full filled =
       one_tag 1 1 refl c (payload_tag (slice_index xs 0) 0 (shape_tagged (slice_index xs 0) ss) pos c e h) (payload_tag (slice_index ys 0) 0 (shape_tagged (slice_index ys 0) ss) pos c f h)
-  shape_field names pos (box p) c e f h full filled = pointers_told pos p _ _ c (λ t t' a b. (cc, cc)) e f h
-  shape_field names pos (vector s) c e f h full filled = pointers_told pos (slice s) _ _ c (λ t t' a b. (cc, cc)) e f h
-  shape_field names pos (shared cyclic p) c e f h full filled = pointers_told pos p _ _ c (λ t t' a b. (cc, cc)) e f h
+  shape_field names pos (box p) c e f h full filled = pointers_field pos p _ _ c (λ t t' a b. (cc, cc)) e f h
+  shape_field names pos (vector s) c e f h full filled = pointers_field pos (slice s) _ _ c (λ t t' a b. (cc, cc)) e f h
+  shape_field names pos (shared cyclic p) c e f h full filled = pointers_field pos p _ _ c (λ t t' a b. (cc, cc)) e f h
   shape_field names pos (weak cyclic p) c e f h full filled = one_tag 1 1 refl c (two_tags _ _ _ c e h) (two_tags _ _ _ c f h)
   shape_field names pos (tree most u v) c e f h full filled =
       both_read pos (word_at xs 4) (word_at ys 4) _ _ c h full filled e f (λ t t' a b. (cc, cc)) (λ t a. cc) (λ t a. cc)
-  shape_field names pos (table r) c e f h full filled = tables_told pos r c e f h full filled
-  shape_field names pos (index_map u v) c e f h full filled = maps_told pos u v c e f h full filled
+  shape_field names pos (table r) c e f h full filled = tables_field pos r c e f h full filled
+  shape_field names pos (index_map u v) c e f h full filled = maps_field pos u v c e f h full filled
   shape_field names pos (named name size align) c e f h full filled = λ i l. absurd (omega arith)

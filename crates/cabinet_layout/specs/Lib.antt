@@ -1,5 +1,6 @@
 pub mod Bytes
 pub mod Node
+pub mod Hash
 pub mod Denotes
 pub mod Image
 pub mod Written
