@@ -1,5 +1,6 @@
 pub mod Inversions
 pub mod Lists
+pub mod Limits
 pub mod Roots
 pub mod Making
 pub mod Pieces

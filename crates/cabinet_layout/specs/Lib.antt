@@ -2,6 +2,7 @@ pub mod Bytes
 pub mod Node
 pub mod Hash
 pub mod Denotes
+pub mod Limits
 pub mod Image
 pub mod Written
 pub mod ArchiveFault
