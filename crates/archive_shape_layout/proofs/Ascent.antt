@@ -23,6 +23,7 @@ end_after-grows low high (r ∷ xs) h =
     let first = h.0.after in
     omega arith
 
+-- the last region ends below the bound
 pub end_after-below : (low high : ℕ) (xs : List Region) → low ≤ high → Ascends low high xs → end_after low xs ≤ high
 unfolding end_after Ascends
 end_after-below low high [] below h = below
