@@ -1,14 +1,13 @@
--- A path that spares keys behind another.
-use Rattle.std.proofs.Common.{◌≡◌, ℕ, zero, suc, ◌-◌, cond, nat_lt, Bool, true, false, List, [], ◌∷◌, ◌++◌, Option, Some, None, ap, sym, subst}
+-- A path that leads to no key, behind another.
+use Rattle.std.proofs.Common.{ℕ, zero, suc, List, [], ◌∷◌, ◌++◌, sym, subst}
 use Rattle.archive_shape_layout.specs.Value.{Value, Values}
-use Rattle.archive_shape_layout.specs.Content.{Names, Part, Label, first_values, other_values}
+use Rattle.archive_shape_layout.specs.Content.{Names, Part}
 use Rattle.archive_shape_layout.specs.Content.Part.{at, behind, node, child, entry, buckets, place_at}
-use Rattle.archive_shape_layout.specs.Content.Label.{leaf, written, same, second, whole, tagged, woven, total}
 use Rattle.archive_shape_layout.specs.Holds.{Region, Visit, OpenShared, Holds}
-use Rattle.archive_shape_layout.specs.Path.{child_place, entry_place, in_child, in_entry, through, Stands, StandsIn}
+use Rattle.archive_shape_layout.specs.Path.{through, Stands, StandsIn}
 use Rattle.archive_shape_layout.specs.Path.Stands.{stands_here, stands_plain, stands_claimed}
 use Rattle.archive_shape_layout.specs.Path.StandsIn.{stands_first, stands_later}
-use Rattle.archive_shape_layout.proofs.Paths.{path_is}
+use Rattle.archive_shape_layout.proofs.Stood.{through_more}
 use Rattle.archive_shape_canonical.specs.Laws.{IsBehindKey, IsOnward, AvoidsItemKey, AvoidsKey, AvoidsKeys, AvoidKeys, AvoidingStands, AvoidingPathsJoin}
 
 behind_more : (inner more : List ℕ) → IsBehindKey inner → IsBehindKey (inner ++ more)
@@ -40,71 +39,40 @@ key_more (entry k a v b) ps inner more h = tt
 key_more (buckets target len cap it) ps inner more h = tt
 key_more (place_at pos limit) ps inner more h = tt
 
-module _ (more : List ℕ) where
-  in_child_more : (o : Option ℕ) (inner path : List ℕ) → in_child o inner ≡ Some path → in_child o (inner ++ more) ≡ Some (path ++ more)
-  in_child_more None inner path e = absurd (cc)
-  in_child_more (Some n) [] path e = absurd (cc)
-  in_child_more (Some n) (j ∷ rest) path e = ap (λ r. Some (r ++ more)) (path_is e)
+module _
+    (more : List ℕ) (names : Names) (bytes : List ℕ) (q r : Part) (w u : Value)
+    (on : (level : ℕ) (inside : List OpenShared) (before after : List Visit) (regions : List Region)
+    → Holds names bytes level inside q w regions before after → AvoidingStands names bytes r u level inside before q w more)
+  where
+    record SparingIn (level : ℕ) (inside : List OpenShared) (before : List Visit) (ps : List Part) (vs : Values) (i : ℕ) (path : List ℕ) : Type 0 where
+      stands : StandsIn names bytes r u level inside before ps vs i path
+      spares : AvoidKeys stands
 
-  in_entry_more : (o : Option ℕ) (inner path : List ℕ) → in_entry o inner ≡ Some path → in_entry o (inner ++ more) ≡ Some (path ++ more)
-  in_entry_more None inner path e = absurd (cc)
-  in_entry_more (Some n) inner path e = ap (λ r. Some (r ++ more)) (path_is e)
+    mutual
+      joined : {level : ℕ} {inside : List OpenShared} {before : List Visit} {p : Part} {v : Value} {path : List ℕ} (regions : List Region) (after : List Visit)
+          → Holds names bytes level inside p v regions before after
+          → (stands : Stands names bytes q w level inside before p v path) → AvoidsKeys stands → AvoidingStands names bytes r u level inside before p v (path ++ more)
+      joined {level = level} {inside = inside} {before = before} {p = p} {v = v} {path = path} regions after h (stands_here ep ev er) free =
+          let at_q = subst (λ x. Holds names bytes level inside x v regions before after) ep h in
+          let there = on level inside before after regions (subst (λ x. Holds names bytes level inside q x regions before after) ev at_q) in
+          subst (λ x. AvoidingStands names bytes r u level inside before x v (path ++ more)) (sym ep)
+          (subst (λ x. AvoidingStands names bytes r u level inside before q x (path ++ more)) (sym ev)
+          (subst (λ x. AvoidingStands names bytes r u level inside before q w (x ++ more)) (sym er) there))
+      joined {p = p} regions after h (stands_plain {inner = inner} {path = path} {l = l} {ps = ps} {vs = vs} {i = i} e within is_made through) free =
+          let d = joined_in within free.1 in
+          record { stands = stands_plain e d.stands is_made (through_more more l vs i inner path through); spares = (key_more p ps inner more free.0, d.spares) }
+      joined {p = p} regions after h (stands_claimed {inner = inner} {path = path} {l = l} {ps = ps} {vs = vs} {i = i} e within is_made through) free =
+          let d = joined_in within free.1 in
+          record { stands = stands_claimed e d.stands is_made (through_more more l vs i inner path through); spares = (key_more p ps inner more free.0, d.spares) }
 
-  either_more : (t : Bool) (a b : Option ℕ) (inner path : List ℕ) → cond t (in_child a inner) (in_entry b inner) ≡ Some path
-      → cond t (in_child a (inner ++ more)) (in_entry b (inner ++ more)) ≡ Some (path ++ more)
-  either_more true a b inner path e = in_child_more a inner path e
-  either_more false a b inner path e = in_entry_more b inner path e
-
-  through_more : (l : Label) (vs : Values) (i : ℕ) (inner path : List ℕ) → through l vs i inner ≡ Some path → through l vs i (inner ++ more) ≡ Some (path ++ more)
-  through_more (leaf v) vs i inner path e = absurd (cc)
-  through_more (written bs) vs i inner path e = absurd (cc)
-  through_more same vs zero inner path e = ap (λ r. Some (r ++ more)) (path_is e)
-  through_more same vs (suc i) inner path e = absurd (cc)
-  through_more second vs zero inner path e = absurd (cc)
-  through_more second vs (suc zero) inner path e = ap (λ r. Some (r ++ more)) (path_is e)
-  through_more second vs (suc (suc i)) inner path e = absurd (cc)
-  through_more whole vs i inner path e = ap (λ r. Some (r ++ more)) (path_is e)
-  through_more (tagged t) vs i inner path e = ap (λ r. Some (r ++ more)) (path_is e)
-  through_more (woven n) vs i inner path e =
-      either_more (nat_lt i n) (child_place i (first_values n vs) (other_values n vs)) (entry_place (i - n) (first_values n vs) (other_values n vs)) inner path e
-  through_more (total n) vs zero [] path e = absurd (cc)
-  through_more (total n) vs zero (j ∷ rest) path e = ap (λ r. Some (r ++ more)) (path_is e)
-  through_more (total n) vs (suc i) inner path e = absurd (cc)
-
-  module _
-      (names : Names) (bytes : List ℕ) (q r : Part) (w u : Value)
-      (on : (level : ℕ) (inside : List OpenShared) (before after : List Visit) (regions : List Region)
-      → Holds names bytes level inside q w regions before after → AvoidingStands names bytes r u level inside before q w more)
-    where
-      record SparingIn (level : ℕ) (inside : List OpenShared) (before : List Visit) (ps : List Part) (vs : Values) (i : ℕ) (path : List ℕ) : Type 0 where
-        stands : StandsIn names bytes r u level inside before ps vs i path
-        spares : AvoidKeys stands
-
-      mutual
-        joined : {level : ℕ} {inside : List OpenShared} {before : List Visit} {p : Part} {v : Value} {path : List ℕ} (regions : List Region) (after : List Visit)
-            → Holds names bytes level inside p v regions before after
-            → (stands : Stands names bytes q w level inside before p v path) → AvoidsKeys stands → AvoidingStands names bytes r u level inside before p v (path ++ more)
-        joined {level = level} {inside = inside} {before = before} {p = p} {v = v} {path = path} regions after h (stands_here ep ev er) free =
-            let at_q = subst (λ x. Holds names bytes level inside x v regions before after) ep h in
-            let there = on level inside before after regions (subst (λ x. Holds names bytes level inside q x regions before after) ev at_q) in
-            subst (λ x. AvoidingStands names bytes r u level inside before x v (path ++ more)) (sym ep)
-            (subst (λ x. AvoidingStands names bytes r u level inside before q x (path ++ more)) (sym ev)
-            (subst (λ x. AvoidingStands names bytes r u level inside before q w (x ++ more)) (sym er) there))
-        joined {p = p} regions after h (stands_plain {inner = inner} {path = path} {l = l} {ps = ps} {vs = vs} {i = i} e within is_made through) free =
-            let d = joined_in within free.1 in
-            record { stands = stands_plain e d.stands is_made (through_more l vs i inner path through); spares = (key_more p ps inner more free.0, d.spares) }
-        joined {p = p} regions after h (stands_claimed {inner = inner} {path = path} {l = l} {ps = ps} {vs = vs} {i = i} e within is_made through) free =
-            let d = joined_in within free.1 in
-            record { stands = stands_claimed e d.stands is_made (through_more l vs i inner path through); spares = (key_more p ps inner more free.0, d.spares) }
-
-        joined_in : {level : ℕ} {inside : List OpenShared} {before : List Visit} {ps : List Part} {vs : Values} {i : ℕ} {path : List ℕ}
-            → (stands : StandsIn names bytes q w level inside before ps vs i path) → AvoidKeys stands → SparingIn level inside before ps vs i (path ++ more)
-        joined_in (stands_first {between = between} {here = here} stands holds rest is zero_is) free =
-            let d = joined here between holds stands free in
-            record { stands = stands_first d.stands holds rest is zero_is; spares = d.spares }
-        joined_in (stands_later holds stands is suc_is) free =
-            let d = joined_in stands free in
-            record { stands = stands_later holds d.stands is suc_is; spares = d.spares }
+      joined_in : {level : ℕ} {inside : List OpenShared} {before : List Visit} {ps : List Part} {vs : Values} {i : ℕ} {path : List ℕ}
+          → (stands : StandsIn names bytes q w level inside before ps vs i path) → AvoidKeys stands → SparingIn level inside before ps vs i (path ++ more)
+      joined_in (stands_first {between = between} {here = here} stands holds rest is zero_is) free =
+          let d = joined here between holds stands free in
+          record { stands = stands_first d.stands holds rest is zero_is; spares = d.spares }
+      joined_in (stands_later holds stands is suc_is) free =
+          let d = joined_in stands free in
+          record { stands = stands_later holds d.stands is suc_is; spares = d.spares }
 
 pub avoiding_paths_join_law : AvoidingPathsJoin
 avoiding_paths_join_law names bytes level inside before after p q r v w u regions path inner h stands on =

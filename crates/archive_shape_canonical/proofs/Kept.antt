@@ -12,15 +12,10 @@ use Rattle.archive_shape_layout.specs.Content.Content.{illegal, plain, claimed, 
 use Rattle.archive_shape_layout.specs.Laws.{AgreesOn, OwnAgrees}
 use Rattle.archive_shape_layout.specs.Edit.{Spares}
 use Rattle.archive_shape_layout.proofs.Framed.{agrees_within}
-use Rattle.archive_shape_layout.proofs.Places.{InOwn, AllFit, Laid, at_laid, buckets_laid, header_size}
-use Rattle.archive_shape_layout.proofs.Edits.{InAny, any_here, any_later}
+use Rattle.archive_shape_layout.proofs.Places.{InOwn, Laid, at_laid, buckets_laid, header_size}
+use Rattle.archive_shape_layout.proofs.Edits.{InAny, any_here, any_later, any_fits, plain_fits, claimed_all, not_plain, not_claimed}
 use Rattle.archive_shape_canonical.specs.Seen.{seen_bytes_of}
 use Rattle.archive_shape_canonical.specs.Clean.{IsIn, Owns, InParts, InField, InFieldOfNode, FieldPartOrZero, PaddingIsZero, IsTextFilled, IsShapeFilled, AreControlsFilled, IsFilled, IsClean}
-
-pub any_fits : (w n low high : ℕ) (ps : List Part) → AllFit low high ps → InAny w n ps → (low ≤ w) × (w + n ≤ high)
-any_fits w n low high [] _ i = elim i [ ]
-any_fits w n low high (p ∷ ps) (AllFit.fit_more f fs) (any_here i) = f.inside w n i
-any_fits w n low high (p ∷ ps) (AllFit.fit_more f fs) (any_later i) = any_fits w n low high ps fs i
 
 module _ (bytes others : List ℕ) where
   abbrev Alike : ℕ → Type 0
@@ -277,22 +272,10 @@ module _ (bytes others : List ℕ) where
     moved_in : (p : Part) (ps : List Part) (i : ℕ) → (InField bytes p i → InField others p i) → InAny w n ps → FieldPartOrZero bytes p ps i → FieldPartOrZero others p ps i
     moved_in p ps i f a h = ⊎_elim (λ x. inr (inl (any_owned ps i a x))) (λ e. moved p ps i f e h) (either i)
 
-    plain_all : {low high : ℕ} {l : Label} {ps : List Part} → Laid low high false (plain l ps) → AllFit low high ps
-    plain_all (Laid.laid_plain f s) = f
-
-    claimed_all : {low high : ℕ} {s : Span} {l : Label} {ps : List Part} → Laid low high true (claimed s l ps) → AllFit low high ps
-    claimed_all (Laid.laid_claimed a b f s) = f
-
-    not_plain : {low high : ℕ} {l : Label} {ps : List Part} → Laid low high true (plain l ps) → ⊥
-    not_plain h = elim h [ ]
-
-    not_claimed : {low high : ℕ} {s : Span} {l : Label} {ps : List Part} → Laid low high false (claimed s l ps) → ⊥
-    not_claimed h = elim h [ ]
-
     filled_in : (names : Names) (p : Part) {l : Label} {ps : List Part} → content_of names bytes p ≡ plain l ps → InAny w n ps → IsFilled bytes p (plain l ps) → IsFilled others p (plain l ps)
     filled_in names (at pos s) {l = l} {ps = ps} e a t =
         let laid = subst (Laid (pos + header_size s) (pos + size_of s) false) e (at_laid names pos (window bytes pos (size_of s)) s) in
-        let range = any_fits w n (pos + header_size s) (pos + size_of s) ps (plain_all laid) a in
+        let range = any_fits w n (pos + header_size s) (pos + size_of s) ps (plain_fits laid).0 a in
         shape_trim pos s (plain l ps) (spares.outside pos (header_size s) (inr range.0)) t
     filled_in names (behind pos q len) e a t = tt
     filled_in names (node level most k v pos) e a t = tt

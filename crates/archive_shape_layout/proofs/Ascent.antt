@@ -23,6 +23,12 @@ end_after-grows low high (r ∷ xs) h =
     let first = h.0.after in
     omega arith
 
+-- the last region ends below the bound
+pub end_after-below : (low high : ℕ) (xs : List Region) → low ≤ high → Ascends low high xs → end_after low xs ≤ high
+unfolding end_after Ascends
+end_after-below low high [] below h = below
+end_after-below low high (r ∷ xs) below h = end_after-below (r.start + r.size) high xs h.0.inside h.1
+
 -- what comes after lies above
 pub above_low : (low high : ℕ) (xs : List Region) → Ascends low high xs → All (λ r. low ≤ r.start) xs
 unfolding Ascends

@@ -28,12 +28,12 @@ pub data InAny (w n : ℕ) : List Part → Type 0 where
   any_here : {p : Part} {ps : List Part} → InOwn w n p → InAny w n (p ∷ ps)
   any_later : {p : Part} {ps : List Part} → InAny w n ps → InAny w n (p ∷ ps)
 
-any_fits : (w n low high : ℕ) (ps : List Part) → AllFit low high ps → InAny w n ps → (low ≤ w) × (w + n ≤ high)
+pub any_fits : (w n low high : ℕ) (ps : List Part) → AllFit low high ps → InAny w n ps → (low ≤ w) × (w + n ≤ high)
 any_fits w n low high [] _ i = elim i [ ]
 any_fits w n low high (p ∷ ps) (AllFit.fit_more f fs) (any_here i) = f.inside w n i
 any_fits w n low high (p ∷ ps) (AllFit.fit_more f fs) (any_later i) = any_fits w n low high ps fs i
 
-plain_fits : {low high : ℕ} {l : Label} {ps : List Part} → Laid low high false (plain l ps) → AllFit low high ps × Separate ps
+pub plain_fits : {low high : ℕ} {l : Label} {ps : List Part} → Laid low high false (plain l ps) → AllFit low high ps × Separate ps
 plain_fits (Laid.laid_plain f s) = (f, s)
 
 pub record ClaimFits (s : Span) (ps : List Part) : Type 0 where
@@ -43,13 +43,13 @@ pub record ClaimFits (s : Span) (ps : List Part) : Type 0 where
 claimed_fits : {low high : ℕ} {s : Span} {l : Label} {ps : List Part} → Laid low high true (claimed s l ps) → ClaimFits s ps
 claimed_fits {low = low} {high = high} {s = s} {ps = ps} (Laid.laid_claimed a b f t) = record { fits = widen_all low high s.start (s.start + s.size) ps a b f; separate = t }
 
-not_claimed : {low high : ℕ} {s : Span} {l : Label} {ps : List Part} → Laid low high false (claimed s l ps) → ⊥
+pub not_claimed : {low high : ℕ} {s : Span} {l : Label} {ps : List Part} → Laid low high false (claimed s l ps) → ⊥
 not_claimed h = elim h [ ]
 
-not_plain : {low high : ℕ} {l : Label} {ps : List Part} → Laid low high true (plain l ps) → ⊥
+pub not_plain : {low high : ℕ} {l : Label} {ps : List Part} → Laid low high true (plain l ps) → ⊥
 not_plain h = elim h [ ]
 
-claimed_all : {low high : ℕ} {s : Span} {l : Label} {ps : List Part} → Laid low high true (claimed s l ps) → AllFit low high ps
+pub claimed_all : {low high : ℕ} {s : Span} {l : Label} {ps : List Part} → Laid low high true (claimed s l ps) → AllFit low high ps
 claimed_all (Laid.laid_claimed a b f t) = f
 
 byte_of : (bs : List ℕ) (pos size off i : ℕ) → off + 4 ≤ size → i < 4 → slice_index (drop off (window bs pos size)) i ≡ slice_index (window bs (pos + off) 4) i
@@ -89,6 +89,14 @@ module _ (bytes others : List ℕ) (w n : ℕ) (spares : Spares bytes others w n
         spares.outside r.start r.size (⊎_elim (λ x. inl (omega arith)) (λ x. inr (omega arith)) o),
         regions_agree (r.start + r.size) high rs a.1 (⊎_elim (λ x. inl (omega arith)) (λ x. inr (omega arith)) o),
       )
+
+  -- of parts that do not meet a window, or lie above it, no own byte changes
+  pub all_own : (base top : ℕ) (p : Part) (ps : List Part) → AllFit base top ps → (InOwn w n p × AllApart p ps) ⊎ (w + n ≤ base) → AllOwn bytes others ps
+  all_own base top p [] AllFit.fit_none o = own_none
+  all_own base top p (r ∷ ps) (AllFit.fit_more f fs) (inl (i, AllApart.apart_more o os)) =
+      own_more (own_agrees r (o.first _ _ i)) (all_own base top p ps fs (inl (i, os)))
+  all_own base top p (r ∷ ps) (AllFit.fit_more f fs) (inr b) =
+      own_more (own_agrees r (f.outside _ _ (inl b))) (all_own base top p ps fs (inr b))
 
   -- ---- what a content reads itself
 
@@ -191,7 +199,7 @@ module _ (bytes others : List ℕ) (w n : ℕ) (spares : Spares bytes others w n
   unfolding parts_of Kept
   kept_claimed names p e i = kept names p (subst (λ c. InAny w n (parts_of c)) (sym e) i) ∙ e
 
-any_apart : (w n : ℕ) (p : Part) (qs : List Part) → AllApart p qs → InAny w n qs → OutOwn w n p
+pub any_apart : (w n : ℕ) (p : Part) (qs : List Part) → AllApart p qs → InAny w n qs → OutOwn w n p
 any_apart w n p [] a i = elim i [ ]
 any_apart w n p (q ∷ qs) (AllApart.apart_more o os) (any_here i) = o.second w n i
 any_apart w n p (q ∷ qs) (AllApart.apart_more o os) (any_later i) = any_apart w n p qs os i
@@ -199,7 +207,7 @@ any_apart w n p (q ∷ qs) (AllApart.apart_more o os) (any_later i) = any_apart 
 -- ---- the parts of a content, from where the part itself lies
 
 -- a part that leads on in place: its parts lie in its own bytes
-plain_parts : (names : Names) (bytes : List ℕ) (base top : ℕ) (p : Part) {l : Label} {ps : List Part} → Fits base top p → content_of names bytes p ≡ plain l ps → AllFit base top ps × Separate ps
+pub plain_parts : (names : Names) (bytes : List ℕ) (base top : ℕ) (p : Part) {l : Label} {ps : List Part} → Fits base top p → content_of names bytes p ≡ plain l ps → AllFit base top ps × Separate ps
 plain_parts names bytes base top (at pos s) {l = l} {ps = ps} f e =
     let own = f.inside pos (size_of s) (le_refl pos, le_refl _) in
     let laid = plain_fits (subst (Laid (pos + header_size s) (pos + size_of s) false) e (at_laid names pos (window bytes pos (size_of s)) s)) in
@@ -214,7 +222,7 @@ plain_parts names bytes base top (buckets target len many it) f e =
     absurd (not_plain (subst (Laid (target - many * item_size it) target true) e (buckets_laid target len many it (window bytes target (control_count many)))))
 plain_parts names bytes base top (place_at pos limit) f e = plain_fits (subst (Laid base top false) e (place_laid base top limit (window bytes pos 4)))
 
-claimed_parts : (names : Names) (bytes : List ℕ) (base top : ℕ) (p : Part) {s : Span} {l : Label} {ps : List Part} → Fits base top p → content_of names bytes p ≡ claimed s l ps → ClaimFits s ps
+pub claimed_parts : (names : Names) (bytes : List ℕ) (base top : ℕ) (p : Part) {s : Span} {l : Label} {ps : List Part} → Fits base top p → content_of names bytes p ≡ claimed s l ps → ClaimFits s ps
 claimed_parts names bytes base top (at pos s) f e = absurd (not_claimed (subst (Laid (pos + header_size s) (pos + size_of s) false) e (at_laid names pos (window bytes pos (size_of s)) s)))
 claimed_parts names bytes base top (behind pos q len) f e = claimed_fits (subst (Laid pos (pos + behind_span q len) true) e (pointee_laid bytes pos q len))
 claimed_parts names bytes base top (node level most k v pos) f e =
@@ -227,7 +235,7 @@ claimed_parts names bytes base top (buckets target len many it) f e =
 claimed_parts names bytes base top (place_at pos limit) f e = absurd (not_claimed (subst (Laid base top false) e (place_laid base top limit (window bytes pos 4))))
 
 -- a window in a plain part's parts lies in the part's own bytes
-own_up : (names : Names) (bytes : List ℕ) (w n : ℕ) (p : Part) {l : Label} {ps : List Part} → content_of names bytes p ≡ plain l ps → InAny w n ps → InOwn w n p
+pub own_up : (names : Names) (bytes : List ℕ) (w n : ℕ) (p : Part) {l : Label} {ps : List Part} → content_of names bytes p ≡ plain l ps → InAny w n ps → InOwn w n p
 own_up names bytes w n (at pos s) {l = l} {ps = ps} e i =
     let laid = plain_fits (subst (Laid (pos + header_size s) (pos + size_of s) false) e (at_laid names pos (window bytes pos (size_of s)) s)) in
     let range = any_fits w n (pos + header_size s) (pos + size_of s) ps laid.0 i in
@@ -256,11 +264,11 @@ own_up names bytes w n (place_at pos limit) {ps = ps} e i =
 
 -- ---- the edit
 
-narrow : (low high : ℕ) (xs ys rs : List Region) → rs ≡ xs ++ ys → Ascends low high rs → (Ascends low high xs × Ascends (end_after low xs) high ys) × (end_after low rs ≡ end_after (end_after low xs) ys)
+pub narrow : (low high : ℕ) (xs ys rs : List Region) → rs ≡ xs ++ ys → Ascends low high rs → (Ascends low high xs × Ascends (end_after low xs) high ys) × (end_after low rs ≡ end_after (end_after low xs) ys)
 narrow low high xs ys rs e a =
     ((Ascends-append low high xs ys).0 (subst (Ascends low high) e a), ap (end_after low) e ∙ end_after-append low xs ys)
 
-one_follows : (low high : ℕ) (s : Span) (level : ℕ) → Ascends low high (region_of s level ∷ []) → (low ≤ s.start) × (end_after low (region_of s level ∷ []) ≡ s.start + s.size)
+pub one_follows : (low high : ℕ) (s : Span) (level : ℕ) → Ascends low high (region_of s level ∷ []) → (low ≤ s.start) × (end_after low (region_of s level ∷ []) ≡ s.start + s.size)
 unfolding Ascends end_after
 one_follows low high s level a = (a.0.after, refl)
 
@@ -280,13 +288,6 @@ module _
     pub record EditedAll (level : ℕ) (inside : List OpenShared) (ps : List Part) (vs : Values) (rs : List Region) (before after : List Visit) (low : ℕ) : Type 0 where
       pub lies : LiesIn (InAny w n ps) low rs
       pub all : HoldAll names others level inside ps vs rs before after
-
-    all_own : (base top : ℕ) (p : Part) (ps : List Part) → AllFit base top ps → (InOwn w n p × AllApart p ps) ⊎ (w + n ≤ base) → AllOwn bytes others ps
-    all_own base top p [] AllFit.fit_none o = own_none
-    all_own base top p (r ∷ ps) (AllFit.fit_more f fs) (inl (i, AllApart.apart_more o os)) =
-        own_more (own_agrees bytes others w n spares r (o.first _ _ i)) (all_own base top p ps fs (inl (i, os)))
-    all_own base top p (r ∷ ps) (AllFit.fit_more f fs) (inr b) =
-        own_more (own_agrees bytes others w n spares r (f.outside _ _ (inl b))) (all_own base top p ps fs (inr b))
 
     module _
         (at_leaf : (level : ℕ) (inside : List OpenShared) (rs : List Region) (before after : List Visit) (low high : ℕ)
@@ -361,7 +362,7 @@ module _
               let alike = (one_value names bytes u here between holds h).value in
               let d = edit low high base top stands f (omega arith) both.0.0 (subst (λ x. Holds names bytes level inside p x here before between) (sym alike) h) in
               let first = subst (λ x. Holds names others level inside p (put_at path new x) here before between) alike d.holds in
-              let own = all_own base top p ps fs (⊎_elim (λ i. inl (i, apart)) (λ b. inr (omega arith)) d.lies) in
+              let own = all_own bytes others w n spares base top p ps fs (⊎_elim (λ i. inl (i, apart)) (λ b. inr (omega arith)) d.lies) in
               let claims = regions_agree bytes others w n spares (end_after low here) high later both.0.1 (⊎_elim (λ i. let b = f.inside w n i in inr (omega arith)) (λ b. inl b.1) d.lies) in
               let rest = frame_all bytes others names own claims hs in
               record {

@@ -7,6 +7,7 @@ pub mod Places
 pub mod Paths
 pub mod Stood
 pub mod Edits
+pub mod Leaves
 pub mod SameShape
 pub mod Evaluate
 pub mod Evaluated

@@ -70,7 +70,7 @@ module _ (more : List ℕ) where
   either_more true a b inner path e = in_child_more a inner path e
   either_more false a b inner path e = in_entry_more b inner path e
 
-  through_more : (l : Label) (vs : Values) (i : ℕ) (inner path : List ℕ) → through l vs i inner ≡ Some path → through l vs i (inner ++ more) ≡ Some (path ++ more)
+  pub through_more : (l : Label) (vs : Values) (i : ℕ) (inner path : List ℕ) → through l vs i inner ≡ Some path → through l vs i (inner ++ more) ≡ Some (path ++ more)
   through_more (leaf v) vs i inner path e = absurd (cc)
   through_more (written bs) vs i inner path e = absurd (cc)
   through_more same vs zero inner path e = ap (λ r. Some (r ++ more)) (path_is e)

@@ -1,5 +1,5 @@
--- A write to one leaf's own bytes.
-use Rattle.std.specs.Prelude.{◌≡◌, ℕ, ◌+◌, ◌≤◌, ◌⊎◌, IsUtf8, List, [], ◌++◌, length, Some}
+-- A write to one leaf's own bytes, and where the bytes of leaves lie.
+use Rattle.std.specs.Prelude.{◌≡◌, ◌≢◌, ℕ, ◌+◌, ◌≤◌, ◌⊎◌, IsUtf8, List, [], ◌++◌, length, Some}
 use Rattle.archive_shape_layout.specs.Bytes.{window}
 use Rattle.archive_shape_layout.specs.Shape.{Shape, size_of}
 use Rattle.archive_shape_layout.specs.Shape.Pointee.{sized, str}
@@ -65,3 +65,34 @@ EditOfText =
     → Spares bytes others text_pos len
     → IsUtf8 (window others text_pos len)
     → HasRoot names others pos s (put_at path (string (window others text_pos len)) v) regions visits
+
+-- ---- where leaves lie
+
+-- a part is a leaf whose bytes lie in the window of `size` from `start`: a value in place that has no part, or a text
+-- out of line
+pub data IsLeafIn (names : Names) (bytes : List ℕ) (p : Part) (start size : ℕ) : Type 0 where
+  in_place : {s : Shape} {l : Label} → p ≡ at start s → size ≡ size_of s → content_of names bytes p ≡ plain l [] → IsLeafIn names bytes p start size
+  out_of_line : p ≡ behind start str size → IsLeafIn names bytes p start size
+
+-- the bytes of two leaves at different paths do not meet
+abbrev pub LeavesApart : Type 0
+LeavesApart =
+    (names : Names) (bytes : List ℕ) (pos : ℕ) (s : Shape) (v : Value) (regions : List Region) (visits : List Visit)
+    (path other : List ℕ) (p q : Part) (u w : Value) (start size from len : ℕ)
+    → HasRoot names bytes pos s v regions visits
+    → Stands names bytes p u 0 [] [] (behind pos (sized s) 1) v path
+    → Stands names bytes q w 0 [] [] (behind pos (sized s) 1) v other
+    → IsLeafIn names bytes p start size
+    → IsLeafIn names bytes q from len
+    → path ≢ other
+    → Apart start size from len
+
+-- a leaf's bytes lie in the buffer
+abbrev pub LeafWithin : Type 0
+LeafWithin =
+    (names : Names) (bytes : List ℕ) (pos : ℕ) (s : Shape) (v : Value) (regions : List Region) (visits : List Visit)
+    (path : List ℕ) (p : Part) (u : Value) (start size : ℕ)
+    → HasRoot names bytes pos s v regions visits
+    → Stands names bytes p u 0 [] [] (behind pos (sized s) 1) v path
+    → IsLeafIn names bytes p start size
+    → start + size ≤ length bytes

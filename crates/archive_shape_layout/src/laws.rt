@@ -1,6 +1,6 @@
 //! Laws. Each function below has no body: it carries a law.
 ghost use Rattle.archive_shape_layout.specs.Laws.{OneValue, AscentSplits, AscentIsApart, AlignmentsAreSmallPowers, RootRegions, Frame};
-ghost use Rattle.archive_shape_layout.specs.Edit.{ValueAtPath, PathsJoin, EditOfLeaf, EditOfText};
+ghost use Rattle.archive_shape_layout.specs.Edit.{ValueAtPath, PathsJoin, EditOfLeaf, EditOfText, LeavesApart, LeafWithin};
 
 /// Bytes have at most one value of a shape at a place, and with it one list of regions and one list of the shared
 /// positions that have been visited.
@@ -55,4 +55,15 @@ pub fn edit_of_leaf()
 /// The same for the bytes of a text that stands out of line, which stay UTF-8 and as many.
 pub fn edit_of_text()
     ensures { EditOfText }
+{}
+
+/// The bytes of two leaves at different paths do not meet. A leaf is a value in place that has no part, or a text out
+/// of line.
+pub fn leaves_apart()
+    ensures { LeavesApart }
+{}
+
+/// A leaf's bytes lie in the buffer.
+pub fn leaf_within()
+    ensures { LeafWithin }
 {}
