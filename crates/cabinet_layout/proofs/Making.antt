@@ -38,12 +38,12 @@ with_tag names bytes level p q k v e h = holds_plain e tt (holds_more h (holds_n
 node_made : (bytes : List ℕ) (pos level k : ℕ) (v : Value) (q : Part) → content_of node_names bytes (at pos (choice payloads)) ≡ plain (tagged k) (q ∷ []) → HoldsBare node_names bytes level q v → HoldsBare node_names bytes level (at pos node_shape) (tagged_value k v)
 node_made bytes pos level k v q e h = pass_on node_names bytes level (at pos node_shape) (at pos (choice payloads)) (tagged_value k v) (node_content bytes pos) (with_tag node_names bytes level (at pos (choice payloads)) q k v e h)
 
-leaf_value : Leaf → Value
+unfoldable pub leaf_value : Leaf → Value
 leaf_value (tree.truth b) = tagged_value 0 (boolean b)
 leaf_value (tree.number n) = tagged_value 1 (integer n)
 leaf_value (tree.text t) = tagged_value 2 (string t)
 
-leaf_denotes : (l : Leaf) → Denotes (leaf_value l) (tree.leaf l)
+pub leaf_denotes : (l : Leaf) → Denotes (leaf_value l) (tree.leaf l)
 unfolding leaf_value
 leaf_denotes (tree.truth b) = denotes_truth refl refl
 leaf_denotes (tree.number n) = denotes_number refl refl
@@ -63,12 +63,12 @@ leaf_holds bytes pos level (tree.text t) d h =
 
 -- ---- a list
 
-values_of : Trees → Values
+unfoldable pub values_of : Trees → Values
 values_of no_trees = no_values
 values_of (more_trees (tree.leaf l) ts) = more_values (leaf_value l) (values_of ts)
 values_of (more_trees (list us) ts) = no_values
 
-elements_denote : (ts : Trees) → AreLeaves ts → DenoteAll (values_of ts) ts
+pub elements_denote : (ts : Trees) → AreLeaves ts → DenoteAll (values_of ts) ts
 unfolding values_of
 elements_denote no_trees d = denote_none refl refl
 elements_denote (more_trees (tree.leaf l) ts) d = denote_more refl refl (leaf_denotes l) (elements_denote ts d.1)
