@@ -195,9 +195,12 @@ pub buckets_filled : (fit : Fit) (bytes : List ℕ) (target len cap : ℕ) (vs :
 buckets_filled fit bytes target len cap no_values e = absurd e
 buckets_filled fit bytes target len cap (more_values items no_values) e =
     (sym (count_by_keys items) ∙ e.0, e.1, e.2 ∙ ap fit.table_controls (erased_by_keys items))
-buckets_filled fit bytes target len cap (more_values numbers (more_values entries no_values)) e =
-    (sym (count_by_keys entries) ∙ e.0, e.1, e.2 ∙ ap fit.map_controls (erased_by_keys entries),
-    of_numbers (fit.map_numbers (keys_alone (members (erased entries)))) numbers (e.3 ∙ ap (λ ks. group (naturals (fit.map_numbers ks))) (erased_by_keys entries)))
+buckets_filled fit bytes target len cap (more_values numbers (more_values entries no_values)) e = (
+  sym (count_by_keys entries) ∙ e.0,
+  e.1,
+  e.2 ∙ ap fit.map_controls (erased_by_keys entries),
+  of_numbers (fit.map_numbers (keys_alone (members (erased entries)))) numbers (e.3 ∙ ap (λ ks. group (naturals (fit.map_numbers ks))) (erased_by_keys entries)),
+)
 buckets_filled fit bytes target len cap (more_values numbers (more_values entries (more_values v vs))) e = absurd e
 
 items_there : (vs : Values) → HasItems (all_by_keys vs) → HasItems vs

@@ -10,4 +10,5 @@ pub mod Kept
 pub mod Framing
 pub mod Editing
 pub mod Joining
+pub mod Everywhere
 pub mod Orders

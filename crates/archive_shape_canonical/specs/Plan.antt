@@ -1,5 +1,5 @@
 -- The plan of a value: what its own bytes lead to, without positions, whatever the widths of fields.
-use Rattle.std.specs.Prelude.{◌≡◌, ℕ, ◌+◌, ◌*◌, ◌<◌, ◌≤◌, Bool, max, List, [], ◌∷◌, ◌++◌, length, take, Option, Some}
+use Rattle.std.specs.Prelude.{◌≡◌, ℕ, ◌+◌, ◌*◌, ◌<◌, ◌≤◌, Bool, max, List, [], ◌∷◌, ◌++◌, length, take, Some}
 use Rattle.std.specs.Int.{Width}
 use Rattle.archive_shape_layout.specs.Bytes.{align_up}
 use Rattle.archive_shape_layout.specs.Shape.{Shape, Shapes, Pointee, Alignment, align_of, size_of}
@@ -9,8 +9,8 @@ use Rattle.archive_shape_layout.specs.Shape.Pointee.{sized, slice, str}
 use Rattle.archive_shape_layout.specs.Value.{Value, Values, count_values}
 use Rattle.archive_shape_layout.specs.Value.Value.{string, group, chosen, counted}
 use Rattle.archive_shape_layout.specs.Value.Values.{no_values, more_values}
-use Rattle.archive_shape_layout.specs.Content.{Names, Part, Item, shape_named, shape_tagged, fields, elements, entries, children, tagged_items, weave, first_values, other_values, keys_offset, values_offset, links_offset, node_span, control_count}
-use Rattle.archive_shape_layout.specs.Content.Part.{at, entry, child, place_at}
+use Rattle.archive_shape_layout.specs.Content.{Names, Part, shape_named, shape_tagged, fields, elements, entries, children, tagged_items, weave, first_values, other_values, keys_offset, values_offset, links_offset, node_span, control_count}
+use Rattle.archive_shape_layout.specs.Content.Part.{at, entry, child}
 use Rattle.archive_shape_layout.specs.Content.Item.{item}
 use Rattle.archive_shape_canonical.specs.Packed.{IsPacked}
 use Rattle.archive_shape_canonical.specs.Seen.{keys_alone}

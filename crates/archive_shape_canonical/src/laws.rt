@@ -1,4 +1,5 @@
 //! Laws. Each function below has no body: it carries a law.
+ghost use Rattle.archive_shape_canonical.specs.Everywhere.{WrittenEverywhere};
 ghost use Rattle.archive_shape_canonical.specs.Laws.{AvoidingPathsJoin, CanonicalEditOfLeaf, CanonicalEditOfText, CanonicalFrame, OneArchive, TablesOfOneMap};
 
 /// A value has one canonical archive at most, whatever positions its shared values are known by: at every shape, search
@@ -31,4 +32,10 @@ pub fn avoiding_paths_join()
 /// Two tables of one finite map, filled by first fit, have their items in one order.
 pub fn tables_of_one_map()
     ensures { TablesOfOneMap }
+{}
+
+/// Every part that the root of a canonical archive reaches, shared ones too, has the bytes that say nothing as they are
+/// written, and what the layout leaves open at it is settled.
+pub fn written_everywhere()
+    ensures { WrittenEverywhere }
 {}

@@ -9,5 +9,5 @@ mod laws;
 
 pub use laws::{
     avoiding_paths_join, canonical_edit_of_leaf, canonical_edit_of_text, canonical_frame,
-    one_archive, tables_of_one_map,
+    one_archive, tables_of_one_map, written_everywhere,
 };
