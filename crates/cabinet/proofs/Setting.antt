@@ -9,6 +9,7 @@ use Rattle.cabinet_layout.specs.Denotes.{Accepted}
 use Rattle.cabinet_layout.specs.Image.{Image}
 use Rattle.cabinet_layout.specs.Laws.{written_at}
 use Rattle.cabinet_layout.proofs.Kept.{edit_keeps_accepted}
+use Rattle.cabinet_layout.proofs.Images.{accepted_of}
 use Rattle.cabinet_layout.proofs.ImageEdits.{edit_keeps_image}
 use Rattle.cabinet_nodes.specs.Setting.{put_if_done}
 
@@ -35,4 +36,4 @@ module _ (x y : List ℕ) (path : List Step) (new : Leaf) (legal : IsLeaf new) w
     document_set t a = document_of answer bytes t (any t a) a
 
     pub image_set : (t : Tree) → Image t x → Image (change t path new) y
-    image_set t i = image_of answer bytes t (any t i.accepted) i
+    image_set t i = image_of answer bytes t (any t (accepted_of t x i)) i

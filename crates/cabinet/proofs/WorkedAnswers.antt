@@ -6,6 +6,7 @@ use Rattle.cabinet_text.specs.Tree.{Tree}
 use Rattle.cabinet_layout.specs.Denotes.{Accepted}
 use Rattle.cabinet_layout.specs.Image.{Image}
 use Rattle.cabinet_layout.proofs.Faults.{fault_refuses}
+use Rattle.cabinet_layout.proofs.Images.{accepted_of}
 use Rattle.cabinet.specs.Opening.{IsRefusedFor}
 use Rattle.cabinet.specs.declared.opened.OpenRefusal.{OpenRefusal}
 use Rattle.cabinet.specs.declared.opened.OpenRefusal.TheVariants.{Access, OutOfMemory}
@@ -16,14 +17,17 @@ use Rattle.cabinet.specs.declared.session.RunFault.{RunFault}
 use Rattle.cabinet.specs.declared.session.RunCause.{RunCause}
 
 module _ (counts : Bool) (t : Tree) (input left x y old new : List ℕ) (i : Image t x) where
+  a : Accepted x t
+  a = accepted_of t x i
+
   carried_answers : (lines edited : ℕ) → Carried input x y old new lines edited → AnswersAsDocument t input old new y lines edited
   carried_answers lines edited c = record {
     said = c.said;
     say = c.say;
     count = c.count;
-    written = c.answered t i.accepted;
+    written = c.answered t a;
     image = c.edits_done.image t i;
-    edits_counted = c.edits_counted t i.accepted;
+    edits_counted = c.edits_counted t a;
   }
 
   cut_answers : (lines edited : ℕ) → CarriedCut counts input x y old new lines edited → AnswersCut counts t input old new y lines edited
@@ -32,10 +36,10 @@ module _ (counts : Bool) (t : Tree) (input left x y old new : List ℕ) (i : Ima
     last = c.last;
     say = c.say;
     count = c.count;
-    written = c.answered t i.accepted;
-    lost = λ u. c.lost u t i.accepted;
+    written = c.answered t a;
+    lost = λ u. c.lost u t a;
     image = c.edits_done.image t i;
-    edits_counted = c.edits_counted t i.accepted;
+    edits_counted = c.edits_counted t a;
   }
 
   faulted_answers : (lines edited : ℕ) (cause : RunCause) → Faulted counts input left x y old new lines edited cause → AnswersUpTo counts cause t input old new y lines edited × IsMet cause input left lines

@@ -3,7 +3,8 @@ use Rattle.std.proofs.Common.{◌≡◌, ℕ, ◌^◌, ◌<◌, pos, refl, subst
 use Rattle.cabinet_text.proofs.Utf8.{IsUtf8-word}
 use Rattle.archive_shape_writing.specs.declared.error.Error.{Error}
 use Rattle.cabinet_text.specs.Tree.{Tree, IsDocument}
-use Rattle.cabinet_layout.specs.Image.{Image, IsPast}
+use Rattle.cabinet_layout.specs.Image.{Image}
+use Rattle.cabinet_layout.specs.Limits.{IsPast}
 use Rattle.cabinet_layout.specs.Written.{image_bytes}
 use Rattle.cabinet_layout.proofs.Images.{image_written}
 use Rattle.cabinet_examples.specs.Images.{FiveImage, TrueImage, WorldImage, SevenAndNineteenImage, EmptyListImage, seven_and_nineteen, seven_and_nineteen_bytes}

@@ -1,6 +1,5 @@
 -- A leaf, changed at its path in a document.
-use Rattle.std.proofs.Common.{◌≡◌, ℕ, zero, suc, ◌^◌, ◌+◌, ◌*◌, ◌≤◌, ◌<◌, true, List, [], ◌∷◌, length, Some, refl, sym, ap, subst, ◌∙◌, arith, ⊎_elim, inl, inr}
-use Rattle.std.specs.Int.{w32, to_le_bytes}
+use Rattle.std.proofs.Common.{◌≡◌, ℕ, zero, suc, ◌^◌, ◌+◌, ◌*◌, ◌≤◌, ◌<◌, true, List, [], ◌∷◌, ◌++◌, length, Some, refl, sym, ap, subst, ◌∙◌, arith, ⊎_elim, inl, inr}
 use Rattle.archive_shape_layout.specs.Laws.{AgreesOn}
 use Rattle.archive_shape_layout.specs.Edit.{Apart}
 use Rattle.archive_shape_references.specs.Bytes.{overwrite}
@@ -9,17 +8,20 @@ use Rattle.cabinet_text.specs.Answering.{fits, change, change_in}
 use Rattle.cabinet_layout.specs.Bytes.{HasBytes}
 use Rattle.cabinet_layout.specs.Node.{elements_at, node_position}
 use Rattle.cabinet_layout.specs.Fields.{IsLeafAt, IsListAt, IsNodeAt, AreNodesAt}
-use Rattle.cabinet_layout.specs.Image.{own_offset, own_bytes, IsClean, AreClean}
+use Rattle.cabinet_layout.specs.Image.{own_offset, own_bytes}
+use Rattle.cabinet_layout.specs.Written.{leaf_bytes, elements_bytes, image_bytes}
 use Rattle.archive_shape_references.proofs.Written.{length-overwrite, window_before, window_behind}
-use Rattle.cabinet_layout.proofs.Frames.{own_bytes_short, frame_leaf, frame_elements, frame_list, frame_leaves, frame_clean, frame_list_clean, frame_leaf_clean}
+use Rattle.cabinet_layout.proofs.Frames.{own_bytes_short, frame_leaf, frame_elements, frame_list, frame_leaves}
 use Rattle.cabinet_layout.proofs.Paths.{in_list}
-use Rattle.cabinet_layout.proofs.Edits.{fits_document, leaf_edit, clean_edit}
+use Rattle.cabinet_layout.proofs.Edits.{fits_document, leaf_edit, bytes_edit}
+use Rattle.cabinet_layout.proofs.Leaves.{length-leaf_bytes, length-elements_bytes, first_element, other_elements}
+use Rattle.cabinet_layout.proofs.Pieces.{stands_append}
 
 -- the node at a position was one leaf and is another, and what lies before or after it stays
 pub record Edited (bytes others : List ℕ) (pos : ℕ) (old new : Leaf) : Type 0 where
   pub size : length others ≡ length bytes
   pub says : IsLeafAt bytes pos old → IsLeafAt others pos new
-  pub clean : IsClean bytes pos (leaf old) → IsClean others pos (leaf new)
+  pub stands : HasBytes bytes pos (leaf_bytes old) → HasBytes others pos (leaf_bytes new)
   pub outside : (start size : ℕ) → Apart start size pos 24 → AgreesOn bytes others start size
 
 pub edited :
@@ -36,7 +38,7 @@ edited bytes pos old new room d l f =
     record {
       size = length-overwrite bytes at (own_bytes new) inside;
       says = leaf_edit bytes pos room old new d l f;
-      clean = clean_edit bytes pos room old new d f;
+      stands = bytes_edit bytes pos room old new d f;
       outside = λ start size a. ⊎_elim
           (λ h. sym (window_before bytes at (own_bytes new) inside start size (omega arith)))
           (λ h. sym (window_behind bytes at (own_bytes new) inside start size (omega arith)))
@@ -69,6 +71,9 @@ leaves_changed (more_trees (leaf m) ts) zero old new d e l f =
 leaves_changed (more_trees (leaf m) ts) (suc i) old new d e l f = (d.0, leaves_changed ts i old new d.1 e l f)
 
 module _ (bytes others : List ℕ) (pos : ℕ) (old new : Leaf) (f : fits old new ≡ true) (edit : Edited bytes others pos old new) where
+  stays_standing : (start : ℕ) (piece : List ℕ) → AgreesOn bytes others start (length piece) → HasBytes bytes start piece → HasBytes others start piece
+  stays_standing start piece same s = sym same ∙ s
+
   -- leaves side by side, one of them edited
   leaves_edited :
       (from : ℕ) (ts : Trees) (i : ℕ)
@@ -89,26 +94,30 @@ module _ (bytes others : List ℕ) (pos : ℕ) (old new : Leaf) (f : fits old ne
   leaves_edited from (more_trees (leaf m) ts) (suc i) d e p h =
       (frame_leaf bytes others from (edit.outside from 24 (inl (omega arith))) m h.0, leaves_edited (from + 24) ts i d.1 e (omega arith) h.1)
 
-  clean_edited :
+  pub bytes_edited :
       (from : ℕ) (ts : Trees) (i : ℕ)
+      → IsDocument (leaf new)
       → AreLeaves ts
       → node_in ts i [] ≡ Some (leaf old)
       → pos ≡ from + 24 * i
-      → AreClean bytes from ts
-      → AreClean others from (change_in ts i [] new)
-  clean_edited from no_trees i d e p h = tt
-  clean_edited from (more_trees (list us) ts) i d e p h = absurd d
-  clean_edited from (more_trees (leaf m) ts) zero d e p h =
+      → HasBytes bytes from (elements_bytes ts)
+      → HasBytes others from (elements_bytes (change_in ts i [] new))
+  bytes_edited from no_trees i is d e p s = refl
+  bytes_edited from (more_trees (list us) ts) i is d e p s = absurd d
+  bytes_edited from (more_trees (leaf m) ts) zero is d e p s =
       let same : m ≡ old = cc in
       let here : pos ≡ from = omega arith in
-      let was : IsClean bytes pos (leaf old) = subst (λ x. IsClean bytes x (leaf old)) (sym here) (subst (λ x. IsClean bytes from (leaf x)) same h.0) in (
-        subst (IsClean others from) (sym (changed_leaf m old new e f)) (subst (λ x. IsClean others x (leaf new)) here (edit.clean was)),
-        frame_clean bytes others (from + 24) ts d.1 (edit.outside (from + 24) (24 * count ts) (inr (omega arith))) h.1,
-      )
-  clean_edited from (more_trees (leaf m) ts) (suc i) d e p h = (
-    frame_leaf_clean bytes others from (edit.outside from 24 (inl (omega arith))) m (own_bytes_short m d.0) h.0,
-    clean_edited (from + 24) ts i d.1 e (omega arith) h.1,
-  )
+      let was : HasBytes bytes pos (leaf_bytes old) = subst (λ x. HasBytes bytes x (leaf_bytes old)) (sym here) (subst (λ x. HasBytes bytes from (leaf_bytes x)) same (first_element bytes from m ts s)) in
+      let size = length-elements_bytes ts d.1 in
+      let rest = stays_standing (from + 24) (elements_bytes ts) (edit.outside (from + 24) (length (elements_bytes ts)) (inr (omega arith))) (other_elements bytes from m ts d.0 s) in
+      let n = length-leaf_bytes new is in
+      subst (λ t. HasBytes others from (image_bytes t ++ elements_bytes ts)) (sym (changed_leaf m old new e f))
+      (stands_append others from (leaf_bytes new) (elements_bytes ts) (from + 24) (omega arith) (subst (λ x. HasBytes others x (leaf_bytes new)) here (edit.stands was)) rest)
+  bytes_edited from (more_trees (leaf m) ts) (suc i) is d e p s =
+      let n = length-leaf_bytes m d.0 in
+      stands_append others from (leaf_bytes m) (elements_bytes (change_in ts i [] new)) (from + 24) (omega arith)
+      (stays_standing from (leaf_bytes m) (edit.outside from (length (leaf_bytes m)) (inl (omega arith))) (first_element bytes from m ts s))
+      (bytes_edited (from + 24) ts i is d.1 e (omega arith) (other_elements bytes from m ts d.0 s))
 
 -- ---- and at its path in a document
 
@@ -131,7 +140,7 @@ document_changed (list ts) (place i ∷ []) old new d e l f =
 document_changed (list ts) (place i ∷ (step ∷ path)) old new d e l f = let r = in_list ts i (step ∷ path) old d.0 e in let ends = r.ends in absurd (cc)
 
 -- where the elements of a list begin stays
-pub list_stays :
+list_stays :
     (bytes others : List ℕ) (pos len i : ℕ) (old new : Leaf)
     → IsListAt bytes pos len
     → i < len
@@ -162,31 +171,6 @@ tree_edited bytes others pos (list ts) (place i ∷ []) old new d e f edit h =
       subst (λ from. AreNodesAt others from (change_in ts i [] new)) (frame_elements bytes others pos stays) k,
     )
 tree_edited bytes others pos (list ts) (place i ∷ (step ∷ path)) old new d e f edit h = let r = in_list ts i (step ∷ path) old d.0 e in let ends = r.ends in absurd (cc)
-
-pub tree_clean :
-    (bytes others : List ℕ) (pos : ℕ) (t : Tree) (path : List Step) (old new : Leaf)
-    → IsDocument t
-    → node_at t path ≡ Some (leaf old)
-    → fits old new ≡ true
-    → Edited bytes others (node_position bytes pos path) old new
-    → IsNodeAt bytes pos t
-    → IsClean bytes pos t
-    → IsClean others pos (change t path new)
-tree_clean bytes others pos (leaf m) [] old new d e f edit h c =
-    let same : m ≡ old = cc in
-    subst (IsClean others pos) (sym (changed_leaf m old new e f)) (edit.clean (subst (λ x. IsClean bytes pos (leaf x)) same c))
-tree_clean bytes others pos (leaf m) (step ∷ path) old new d e f edit h c = absurd (cc)
-tree_clean bytes others pos (list ts) [] old new d e f edit h c = absurd (cc)
-tree_clean bytes others pos (list ts) (key k ∷ path) old new d e f edit h c = absurd (cc)
-tree_clean bytes others pos (list ts) (inside ∷ path) old new d e f edit h c = absurd (cc)
-tree_clean bytes others pos (list ts) (place i ∷ []) old new d e f edit h c =
-    let r = in_list ts i [] old d.0 e in
-    let stays = list_stays bytes others pos (count ts) i old new h.0 r.below edit in
-    let k = clean_edited bytes others (elements_at bytes pos + 24 * i) old new f edit (elements_at bytes pos) ts i d.0 e refl c.4 in
-    let own = frame_list_clean bytes others pos stays (count ts) (c.0, c.1, c.2, c.3) in
-    let number = subst (λ n. HasBytes others (pos + 8) (to_le_bytes w32 n)) (sym (count-change_in ts i [] new)) own.2 in
-    (own.0, own.1, number, own.3, subst (λ from. AreClean others from (change_in ts i [] new)) (frame_elements bytes others pos stays) k)
-tree_clean bytes others pos (list ts) (place i ∷ (step ∷ path)) old new d e f edit h c = let r = in_list ts i (step ∷ path) old d.0 e in let ends = r.ends in absurd (cc)
 
 -- where the leaves of a document stand stays
 pub places_stay :

@@ -12,9 +12,10 @@ use Rattle.cabinet_text.specs.Tree.{Leaf, leaf, truth, number, text, IsLeaf, IsD
 use Rattle.cabinet_text.specs.Answering.{fits}
 use Rattle.cabinet_layout.specs.Bytes.{HasBytes, zeros, filler, truth_byte, number_bytes}
 use Rattle.cabinet_layout.specs.Fields.{IsLeafAt}
-use Rattle.cabinet_layout.specs.Image.{own_offset, own_bytes, IsClean}
+use Rattle.cabinet_layout.specs.Image.{own_offset, own_bytes}
+use Rattle.cabinet_layout.specs.Written.{leaf_bytes}
 use Rattle.archive_shape_references.proofs.Written.{window_there, byte_before, window_from}
-use Rattle.cabinet_layout.proofs.Pieces.{stands_before, stands_behind, stands_byte}
+use Rattle.cabinet_layout.proofs.Pieces.{stands_replaced, stands_byte}
 use Rattle.archive_shape_layout.proofs.Texts.{text_before, split_at_filler}
 use Rattle.archive_shape_references.proofs.Sealed.{inline_after}
 
@@ -67,26 +68,19 @@ module _ (bytes : List ℕ) (pos : ℕ) (room : pos + 24 ≤ length bytes) where
   leaf_edit (text t) (truth c) d l f i = absurd (cc)
   leaf_edit (text t) (number n) d l f i = absurd (cc)
 
-  pub clean_edit : (old new : Leaf) → IsDocument (leaf old) → fits old new ≡ true → IsClean bytes pos (leaf old) → IsClean (overwrite bytes (pos + own_offset new) (own_bytes new)) pos (leaf new)
-  clean_edit (truth b) (truth c) d f i =
-      let own : List ℕ = truth_byte c ∷ [] in
-      (window_there bytes (pos + 1) own (omega arith), stands_behind bytes (pos + 1) own (omega arith) (pos + 2) (zeros 22) (omega arith) i.1)
-  clean_edit (number m) (number n) d f i =
-      let own : List ℕ = number_bytes n in
-      (window_there bytes (pos + 8) own (omega arith), (stands_before bytes (pos + 8) own (omega arith) (pos + 1) (zeros 7) (omega arith) i.1.0, stands_behind bytes (pos + 8) own (omega arith) (pos + 16) (zeros 8) (omega arith) i.1.1))
-  clean_edit (text t) (text u) d f i =
-      let e : length t ≡ length u = eqb-true _ _ f in
-      let short = d.1 in (
-        window_there bytes (pos + 4) u (omega arith),
-        (
-          stands_before bytes (pos + 4) u (omega arith) (pos + 1) (zeros 3) (omega arith) i.1.0,
-          stands_behind bytes (pos + 4) u (omega arith) (pos + (4 + length u)) (filler (8 - length u)) (omega arith) (subst (λ n. HasBytes bytes (pos + (4 + n)) (filler (8 - n))) e i.1.1),
-          stands_behind bytes (pos + 4) u (omega arith) (pos + 12) (zeros 12) (omega arith) i.1.2,
-        ),
-      )
-  clean_edit (truth b) (number n) d f i = absurd (cc)
-  clean_edit (truth b) (text u) d f i = absurd (cc)
-  clean_edit (number m) (truth c) d f i = absurd (cc)
-  clean_edit (number m) (text u) d f i = absurd (cc)
-  clean_edit (text t) (truth c) d f i = absurd (cc)
-  clean_edit (text t) (number n) d f i = absurd (cc)
+  -- and its bytes become those of the other leaf
+  pub bytes_edit : (old new : Leaf) → IsDocument (leaf old) → fits old new ≡ true → HasBytes bytes pos (leaf_bytes old) → HasBytes (overwrite bytes (pos + own_offset new) (own_bytes new)) pos (leaf_bytes new)
+  bytes_edit (truth b) (truth c) d f s = stands_replaced bytes pos (0 ∷ []) (truth_byte b ∷ []) (truth_byte c ∷ []) (zeros 22) (pos + 1) refl refl (omega arith) s
+  bytes_edit (number m) (number n) d f s = stands_replaced bytes pos (1 ∷ zeros 7) (number_bytes m) (number_bytes n) (zeros 8) (pos + 8) refl refl (omega arith) s
+  bytes_edit (text t) (text u) d f s = text_edit (eqb-true _ _ f) s
+    where
+      text_edit : length t ≡ length u → HasBytes bytes pos (leaf_bytes (text t)) → HasBytes (overwrite bytes (pos + 4) u) pos (leaf_bytes (text u))
+      text_edit e s =
+          stands_replaced bytes pos (2 ∷ zeros 3) t u (filler (8 - length u) ++ zeros 12) (pos + 4) refl (sym e) (omega (arith, d.1))
+          (subst (λ n. HasBytes bytes pos (2 ∷ (zeros 3 ++ (t ++ (filler (8 - n) ++ zeros 12))))) e s)
+  bytes_edit (truth b) (number n) d f s = absurd (cc)
+  bytes_edit (truth b) (text u) d f s = absurd (cc)
+  bytes_edit (number m) (truth c) d f s = absurd (cc)
+  bytes_edit (number m) (text u) d f s = absurd (cc)
+  bytes_edit (text t) (truth c) d f s = absurd (cc)
+  bytes_edit (text t) (number n) d f s = absurd (cc)

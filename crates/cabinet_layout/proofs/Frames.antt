@@ -1,16 +1,14 @@
 -- What a node says rests on its own bytes.
-use Rattle.std.proofs.Common.{◌≡◌, ℕ, suc, ◌+◌, ◌-◌, ◌*◌, ◌%◌, ◌≤◌, ◌<◌, ◌==◌, List, length, slice_index, Some, sym, ap, subst, ◌∙◌, arith, w32, w64}
-use Rattle.std.specs.Int.{from_le_bytes, to_le_bytes, cast_signed}
-use Rattle.std.proofs.lemmas.List.{length-replicate}
+use Rattle.std.proofs.Common.{◌≡◌, ℕ, suc, ◌+◌, ◌*◌, ◌%◌, ◌≤◌, ◌<◌, ◌==◌, List, length, slice_index, Some, sym, ap, subst, ◌∙◌, arith, w32, w64}
+use Rattle.std.specs.Int.{from_le_bytes, cast_signed}
 use Rattle.archive_shape_layout.specs.Bytes.{window, word_at, target_from}
 use Rattle.archive_shape_layout.specs.Content.{IsInline, before_ff}
 use Rattle.archive_shape_layout.specs.Laws.{AgreesOn}
 use Rattle.archive_shape_layout.proofs.Framed.{agrees_within}
 use Rattle.cabinet_text.specs.Tree.{Leaf, truth, number, text, leaf, list, Trees, no_trees, more_trees, count, AreLeaves, IsDocument}
-use Rattle.cabinet_layout.specs.Bytes.{HasBytes, zeros, filler}
 use Rattle.cabinet_layout.specs.Node.{elements_at, or_zero}
 use Rattle.cabinet_layout.specs.Fields.{IsLeafAt, IsListAt, AreNodesAt}
-use Rattle.cabinet_layout.specs.Image.{own_offset, own_bytes, IsClean, AreClean}
+use Rattle.cabinet_layout.specs.Image.{own_offset, own_bytes}
 use Rattle.cabinet_layout.proofs.Pieces.{window_byte, word_of_window}
 
 -- the own bytes of a leaf lie in its node
@@ -22,14 +20,6 @@ own_bytes_short (text t) d = omega (arith, d.1)
 pub agrees_byte : (bytes others : List ℕ) (pos size i : ℕ) → i < size → AgreesOn bytes others pos size → slice_index bytes (pos + i) ≡ slice_index others (pos + i)
 agrees_byte bytes others pos size i h same =
     sym (window_byte bytes pos size i h) ∙ ap (λ w. slice_index w i) same ∙ window_byte others pos size i h
-
--- what is clean of the node of a list alone
-abbrev pub IsNodeClean : List ℕ → ℕ → ℕ → Type 0
-IsNodeClean bytes pos len =
-    HasBytes bytes (pos + 1) (zeros 3)
-    × HasBytes bytes (pos + 4) (to_le_bytes w32 (word_at bytes (pos + 4)))
-    × HasBytes bytes (pos + 8) (to_le_bytes w32 len)
-    × HasBytes bytes (pos + 12) (zeros 12)
 
 module _ (bytes others : List ℕ) (pos : ℕ) (same : AgreesOn bytes others pos 24) where
   window_in : (k n : ℕ) → k + n ≤ 24 → window bytes (pos + k) n ≡ window others (pos + k) n
@@ -45,9 +35,6 @@ module _ (bytes others : List ℕ) (pos : ℕ) (same : AgreesOn bytes others pos
 
   word_in : (k : ℕ) → k + 4 ≤ 24 → word_at bytes (pos + k) ≡ word_at others (pos + k)
   word_in k h = word_of_window bytes (pos + k) ∙ ap (from_le_bytes w32) (window_in k 4 h) ∙ sym (word_of_window others (pos + k))
-
-  stands_in : (k : ℕ) (piece : List ℕ) → k + length piece ≤ 24 → HasBytes bytes (pos + k) piece → HasBytes others (pos + k) piece
-  stands_in k piece h s = sym (window_in k (length piece) h) ∙ s
 
   pub frame_leaf : (l : Leaf) → IsLeafAt bytes pos l → IsLeafAt others pos l
   frame_leaf (truth b) h =
@@ -73,24 +60,6 @@ module _ (bytes others : List ℕ) (pos : ℕ) (same : AgreesOn bytes others pos
         before = subst (λ x. x + 24 * len ≤ pos) e h.before;
       }
 
-  -- the bytes of a list's own node that are not its tag
-  pub frame_list_clean : (len : ℕ) → IsNodeClean bytes pos len → IsNodeClean others pos len
-  frame_list_clean len h =
-      let word : List ℕ = to_le_bytes w32 (word_at bytes (pos + 4)) in (
-        stands_in 1 (zeros 3) (omega arith) h.0,
-        subst (λ w. HasBytes others (pos + 4) (to_le_bytes w32 w)) (word_in 4 (omega arith)) (stands_in 4 word (omega arith) h.1),
-        stands_in 8 (to_le_bytes w32 len) (omega arith) h.2,
-        stands_in 12 (zeros 12) (omega arith) h.3,
-      )
-
-  pub frame_leaf_clean : (l : Leaf) → own_offset l + length (own_bytes l) ≤ 24 → IsClean bytes pos (leaf l) → IsClean others pos (leaf l)
-  frame_leaf_clean (truth b) s h = (stands_in 1 (own_bytes (truth b)) s h.0, stands_in 2 (zeros 22) (omega arith) h.1)
-  frame_leaf_clean (number n) s h =
-      (stands_in 8 (own_bytes (number n)) s h.0, (stands_in 1 (zeros 7) (omega arith) h.1.0, stands_in 16 (zeros 8) (omega arith) h.1.1))
-  frame_leaf_clean (text t) s h =
-      let n : length (filler (8 - length t)) ≡ 8 - length t = length-replicate {A = ℕ} (8 - length t) 255 in
-      (stands_in 4 t s h.0, (stands_in 1 (zeros 3) (omega arith) h.1.0, stands_in (4 + length t) (filler (8 - length t)) (omega arith) h.1.1, stands_in 12 (zeros 12) (omega arith) h.1.2))
-
 -- leaves side by side
 pub frame_leaves :
     (bytes others : List ℕ) (pos : ℕ) (ts : Trees)
@@ -103,17 +72,4 @@ frame_leaves bytes others pos (more_trees (list us) ts) d same h = absurd d
 frame_leaves bytes others pos (more_trees (leaf l) ts) d same h = (
   frame_leaf bytes others pos (agrees_within bytes others pos (24 * suc (count ts)) pos 24 (omega arith) (omega arith) same) l h.0,
   frame_leaves bytes others (pos + 24) ts d.1 (agrees_within bytes others pos (24 * suc (count ts)) (pos + 24) (24 * count ts) (omega arith) (omega arith) same) h.1,
-)
-
-pub frame_clean :
-    (bytes others : List ℕ) (pos : ℕ) (ts : Trees)
-    → AreLeaves ts
-    → AgreesOn bytes others pos (24 * count ts)
-    → AreClean bytes pos ts
-    → AreClean others pos ts
-frame_clean bytes others pos no_trees d same h = tt
-frame_clean bytes others pos (more_trees (list us) ts) d same h = absurd d
-frame_clean bytes others pos (more_trees (leaf l) ts) d same h = (
-  frame_leaf_clean bytes others pos (agrees_within bytes others pos (24 * suc (count ts)) pos 24 (omega arith) (omega arith) same) l (own_bytes_short l d.0) h.0,
-  frame_clean bytes others (pos + 24) ts d.1 (agrees_within bytes others pos (24 * suc (count ts)) (pos + 24) (24 * count ts) (omega arith) (omega arith) same) h.1,
 )

@@ -1,17 +1,20 @@
 -- An edit of an image.
-use Rattle.std.proofs.Common.{◌≡◌, ℕ, ◌+◌, ◌*◌, ◌^◌, ◌≤◌, true, List, [], ◌∷◌, Some, refl, sym, ap, subst, ◌∙◌}
+use Rattle.std.proofs.Common.{◌≡◌, ℕ, ◌+◌, ◌*◌, ◌^◌, ◌≤◌, true, List, [], ◌∷◌, ◌++◌, length, Some, refl, sym, ap, subst, ◌∙◌, arith, inr}
 use Rattle.cabinet_text.specs.Tree.{Leaf, Tree, leaf, list, count, IsDocument, Step, key, place, inside, node_at}
-use Rattle.cabinet_text.specs.Answering.{fits, change}
+use Rattle.cabinet_text.specs.Answering.{fits, change, change_in}
+use Rattle.cabinet_layout.specs.Bytes.{HasBytes}
 use Rattle.cabinet_layout.specs.Node.{node_position}
-use Rattle.cabinet_layout.specs.Fields.{IsNodeAt}
-use Rattle.cabinet_layout.specs.Image.{IsClean}
+use Rattle.cabinet_layout.specs.Image.{Image}
+use Rattle.cabinet_layout.specs.Written.{leaf_bytes, list_bytes, elements_bytes, image_bytes}
 use Rattle.cabinet_layout.specs.Laws.{written_at, EditKeepsImage}
 use Rattle.cabinet_layout.proofs.Roots.{accepted_says}
-use Rattle.cabinet_layout.proofs.Frames.{frame_elements}
+use Rattle.cabinet_layout.proofs.Pieces.{stands_append, stands_whole}
+use Rattle.cabinet_layout.proofs.Leaves.{length-elements_bytes}
 use Rattle.cabinet_layout.proofs.Paths.{in_list}
-use Rattle.cabinet_layout.proofs.Changes.{Edited, changed_leaf, count-change_in, list_stays, tree_edited, tree_clean}
+use Rattle.cabinet_layout.proofs.Changes.{Edited, changed_leaf, count-change_in, document_changed, bytes_edited}
 use Rattle.cabinet_layout.proofs.Kept.{edit_keeps}
-use Rattle.cabinet_layout.proofs.Images.{before_root, BeginsFirst, image_says, root_is, image_of}
+use Rattle.cabinet_layout.proofs.Limits.{before_root, limit_of, within_limits}
+use Rattle.cabinet_layout.proofs.Images.{length-image_bytes, stands_itself, root_is, two_pieces, accepted_of, image_written, one_image}
 
 -- the root stays where it is
 root_stays : (t : Tree) (path : List Step) (old new : Leaf) → node_at t path ≡ Some (leaf old) → fits old new ≡ true → before_root (change t path new) ≡ before_root t
@@ -22,39 +25,51 @@ root_stays (list ts) (key k ∷ path) old new e f = refl
 root_stays (list ts) (inside ∷ path) old new e f = refl
 root_stays (list ts) (place i ∷ path) old new e f = ap (λ n. 24 * n) (count-change_in ts i path new)
 
--- and so do the elements
-first_stays :
-    (bytes others : List ℕ) (pos : ℕ) (t : Tree) (path : List Step) (old new : Leaf)
+-- the bytes become those of the other document
+image_edited :
+    (bytes others : List ℕ) (t : Tree) (path : List Step) (old new : Leaf)
     → IsDocument t
+    → IsDocument (leaf new)
+    → before_root t + 4 ≤ 2 ^ 31
     → node_at t path ≡ Some (leaf old)
     → fits old new ≡ true
-    → Edited bytes others (node_position bytes pos path) old new
-    → IsNodeAt bytes pos t
-    → BeginsFirst bytes pos t
-    → BeginsFirst others pos (change t path new)
-first_stays bytes others pos (leaf m) [] old new d e f edit h b = subst (BeginsFirst others pos) (sym (changed_leaf m old new e f)) tt
-first_stays bytes others pos (leaf m) (step ∷ path) old new d e f edit h b = tt
-first_stays bytes others pos (list ts) [] old new d e f edit h b = absurd (cc)
-first_stays bytes others pos (list ts) (key k ∷ path) old new d e f edit h b = absurd (cc)
-first_stays bytes others pos (list ts) (inside ∷ path) old new d e f edit h b = absurd (cc)
-first_stays bytes others pos (list ts) (place i ∷ (step ∷ path)) old new d e f edit h b = let r = in_list ts i (step ∷ path) old d.0 e in let ends = r.ends in absurd (cc)
-first_stays bytes others pos (list ts) (place i ∷ []) old new d e f edit h b =
+    → Edited bytes others (node_position bytes (before_root t) path) old new
+    → HasBytes bytes 0 (image_bytes t)
+    → HasBytes others 0 (image_bytes (change t path new))
+image_edited bytes others (leaf m) [] old new d is limit e f edit s =
+    let same : m ≡ old = cc in
+    subst (λ x. HasBytes others 0 (image_bytes x)) (sym (changed_leaf m old new e f)) (edit.stands (subst (λ x. HasBytes bytes 0 (leaf_bytes x)) same s))
+image_edited bytes others (leaf m) (step ∷ path) old new d is limit e f edit s = absurd (cc)
+image_edited bytes others (list ts) [] old new d is limit e f edit s = absurd (cc)
+image_edited bytes others (list ts) (key k ∷ path) old new d is limit e f edit s = absurd (cc)
+image_edited bytes others (list ts) (inside ∷ path) old new d is limit e f edit s = absurd (cc)
+image_edited bytes others (list ts) (place i ∷ (step ∷ path)) old new d is limit e f edit s = let r = in_list ts i (step ∷ path) old d.0 e in let ends = r.ends in absurd (cc)
+image_edited bytes others (list ts) (place i ∷ []) old new d is limit e f edit s =
+    let pos : ℕ = 24 * count ts in
     let r = in_list ts i [] old d.0 e in
-    sym (frame_elements bytes others pos (list_stays bytes others pos (count ts) i old new h.0 r.below edit)) ∙ b
+    let below = r.below in
+    let p = two_pieces ts bytes pos d.0 refl limit s in
+    let node = list_bytes (count ts) in
+    let edited_at_start = subst (λ x. Edited bytes others (x + 24 * i) old new) p.says.first edit in
+    let elements = bytes_edited bytes others (0 + 24 * i) old new f edited_at_start 0 ts i is d.0 e refl p.elements in
+    let node_stays : HasBytes others pos node = sym (edited_at_start.outside pos 24 (inr (omega arith))) ∙ p.node in
+    let n = length-elements_bytes ts d.0 in
+    let m = length-elements_bytes (change_in ts i [] new) (document_changed (list ts) (place i ∷ []) old new d e is.0 f).0 in
+    let c = count-change_in ts i [] new in
+    subst (λ c. HasBytes others 0 (elements_bytes (change_in ts i [] new) ++ list_bytes c)) (sym (count-change_in ts i [] new))
+    (stands_append others 0 (elements_bytes (change_in ts i [] new)) node pos (omega (arith, m, c)) elements node_stays)
 
 pub edit_keeps_image : EditKeepsImage
 edit_keeps_image bytes t path new i l e =
-    let s = image_says t bytes i in
-    let k = edit_keeps bytes t path new (accepted_says bytes t i.accepted).root_node l e in
+    let d = i.document in
+    let limit = limit_of t d i.within_limits in
+    let same = one_image t bytes (image_bytes t) i (image_written t d i.within_limits) in
+    let size = ap length same ∙ length-image_bytes t d in
+    let k = edit_keeps bytes t path new (accepted_says bytes t (accepted_of t bytes i)).root_node l e in
     let others = written_at bytes path new in
-    let pos = before_root t in
-    let edit = subst (λ x. Edited bytes others (node_position bytes x path) k.old new) (root_is t bytes s.size) k.edit in
-    let same = root_stays t path k.old new k.there k.fit in
-    image_of (change t path new) others (record {
-      document = k.root.document;
-      size = k.edit.size ∙ s.size ∙ ap (λ n. n + 24) (sym same);
-      node = subst (λ x. IsNodeAt others x (change t path new)) (sym same) (tree_edited bytes others pos t path k.old new s.document k.there k.fit edit s.node);
-      first = subst (λ x. BeginsFirst others x (change t path new)) (sym same) (first_stays bytes others pos t path k.old new s.document k.there k.fit edit s.node s.first);
-      clean = subst (λ x. IsClean others x (change t path new)) (sym same) (tree_clean bytes others pos t path k.old new s.document k.there k.fit edit s.node s.clean);
-      limit = subst (λ n. n + 4 ≤ 2 ^ 31) (sym same) s.limit;
-    })
+    let edit = subst (λ x. Edited bytes others (node_position bytes x path) k.old new) (root_is t bytes size) k.edit in
+    let stays = root_stays t path k.old new k.there k.fit in
+    let s : HasBytes others 0 (image_bytes (change t path new)) = image_edited bytes others t path k.old new d k.document limit k.there k.fit edit (subst (λ x. HasBytes bytes 0 x) same (stands_itself bytes)) in
+    let sizes = k.edit.size ∙ size ∙ ap (λ n. n + 24) (sym stays) ∙ sym (length-image_bytes (change t path new) k.root.document) in
+    subst (Image (change t path new)) (sym (stands_whole others (image_bytes (change t path new)) sizes s))
+    (image_written (change t path new) k.root.document (within_limits (change t path new) k.root.document (subst (λ n. n + 4 ≤ 2 ^ 31) (sym stays) limit)))

@@ -7,6 +7,8 @@ pub mod Pieces
 pub mod Frames
 pub mod Paths
 pub mod Leaves
+pub mod Cleanness
+pub mod Small
 pub mod Images
 pub mod Faults
 pub mod Edits

@@ -1,26 +1,31 @@
 -- What passes the limits, of documents of leaves and of lists of leaves: the number of elements alone.
 use Rattle.std.proofs.Common.{◌≡◌, ℕ, zero, suc, ◌+◌, ◌*◌, ◌^◌, ◌≤◌, ◌<◌, w64, true, List, [], ◌∷◌, ◌++◌, length, Some, refl, ap, ap₂, sym, subst, ◌∙◌, arith, inl, inr, ⊎_elim, append-nil}
+use Rattle.std.proofs.lemmas.Bool.{cases_lt}
 use Rattle.archive_shape_writing.specs.declared.error.Error.{Error}
 use Rattle.archive_shape_writing.specs.declared.error.Error.TheVariants.{IsizeOverflow}
 use Rattle.archive_shape_layout.specs.Bytes.{align_up}
-use Rattle.archive_shape_layout.specs.Shape.{Shape, size_of, align_of}
+use Rattle.archive_shape_layout.specs.Shape.{Shape, align_of}
 use Rattle.archive_shape_layout.specs.Shape.Shape.{choice, vector, number as number_shape, truth as truth_shape, text as text_shape}
-use Rattle.archive_shape_layout.specs.Shape.Pointee.{slice}
 use Rattle.archive_shape_layout.specs.Value.{Value, Values, count_values}
 use Rattle.archive_shape_layout.specs.Value.Value.{integer, boolean, string, group}
 use Rattle.archive_shape_layout.specs.Value.Values.{no_values, more_values}
 use Rattle.archive_shape_layout.specs.Content.{shape_tagged, elements}
 use Rattle.archive_shape_layout.specs.Content.Part.{at}
 use Rattle.archive_shape_canonical.specs.FirstFit.{first_fit}
-use Rattle.archive_shape_canonical.specs.Plan.{Target, Plan, flat, parts, leads, Plans, no_plans, more_plans, whole_target, IsFlat, HasPlan, plan_flat, plan_inline, plan_text, plan_choice, plan_vector, plan_named, PointeePlan, plan_slice, HavePlans, plans_none, plans_at, truth_is_flat, number_is_flat, nonzero_is_flat, character_is_flat}
-use Rattle.archive_shape_canonical.specs.Limits.{Field, offset, position, count as count_field, IsFieldPast, IsSomePast, State, moved, Lies, lies_flat, lies_parts, lies_leads, LieAll, lie_none, lie_more, Stores, PastLimits}
+use Rattle.archive_shape_canonical.specs.Plan.{Target, Plan, flat, parts, leads, Plans, no_plans, more_plans, whole_target, HasPlan, plan_flat, plan_inline, plan_text, plan_choice, plan_vector, plan_named, plan_slice, HavePlans, plans_none, plans_at, truth_is_flat, number_is_flat}
+use Rattle.archive_shape_canonical.specs.Limits.{Field, offset, position, count as count_field, IsSomePast, State, moved, Lies, lies_flat, lies_parts, lies_leads, LieAll, lie_none, lie_more}
 use Rattle.cabinet_text.specs.Tree as tree
 use Rattle.cabinet_text.specs.Tree.{Leaf, Tree, list, Trees, no_trees, more_trees, count, AreLeaves, IsDocument}
 use Rattle.cabinet_layout.specs.Hash.{text_hash}
 use Rattle.cabinet_layout.specs.Node.{node_shape, node_names, payloads}
 use Rattle.cabinet_layout.specs.Denotes.{Denotes, denotes_truth, denotes_number, denotes_text, denotes_list, DenoteAll, denote_none, denote_more, tagged_value}
 use Rattle.cabinet_layout.specs.Limits.{IsPast}
-use Rattle.cabinet_layout.proofs.Making.{leaf_value, leaf_denotes, values_of, elements_denote}
+use Rattle.cabinet_layout.proofs.Making.{leaf_value, values_of, elements_denote}
+
+-- how many bytes lie before the root
+abbrev pub before_root : Tree → ℕ
+before_root (tree.leaf l) = 0
+before_root (list ts) = 24 * count ts
 
 abbrev Planned : Shape → Value → Plan → Type 0
 Planned = HasPlan (first_fit text_hash) node_names
@@ -292,7 +297,12 @@ list_past ts k far =
       };
     }
 
--- a document is past the limits where it is a list of too many elements
-pub within_limits : (t : Tree) → IsDocument t → ((ts : Trees) → t ≡ list ts → 24 * count ts + 4 ≤ 2 ^ 31) → (e : Error) → IsPast t e → ⊥
+-- ---- by the bytes before the root
+
+pub within_limits : (t : Tree) → IsDocument t → before_root t + 4 ≤ 2 ^ 31 → (e : Error) → IsPast t e → ⊥
 within_limits (tree.leaf l) k near = leaf_within l k
-within_limits (list ts) k near = list_within ts k (near ts refl)
+within_limits (list ts) k near = list_within ts k near
+
+pub limit_of : (t : Tree) → IsDocument t → ((e : Error) → IsPast t e → ⊥) → before_root t + 4 ≤ 2 ^ 31
+limit_of (tree.leaf l) k h = omega arith
+limit_of (list ts) k h = ⊎_elim (λ far. absurd (h IsizeOverflow (list_past ts k far))) (λ near. near) (cases_lt (2 ^ 31) (24 * count ts + 4))

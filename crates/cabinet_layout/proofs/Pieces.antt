@@ -1,21 +1,21 @@
 -- Pieces of bytes, and writes over them.
-use Rattle.std.proofs.Common.{◌≡◌, ℕ, ◌+◌, ◌≤◌, ◌<◌, List, [], ◌∷◌, ◌++◌, refl, length, take, drop, slice_index, sym, ap, ◌∙◌, arith, length-append, get_or-take, get_or-drop, add-zero, drop-cons}
+use Rattle.std.proofs.Common.{◌≡◌, ℕ, ◌+◌, ◌-◌, ◌≤◌, ◌<◌, List, [], ◌∷◌, ◌++◌, refl, length, take, drop, slice_index, sym, ap, subst, ◌∙◌, arith, length-append, get_or-take, get_or-drop, add-zero}
 use Rattle.std.proofs.Math.Seq.{take-add, take-append_seam}
 use Rattle.std.specs.Int.{w32, from_le_bytes}
-use Rattle.std.proofs.lemmas.List.{length-take, length-drop, drop-drop, drop-take, drop_at, take-take, take_all}
+use Rattle.std.proofs.lemmas.List.{length-take, length-drop, drop-drop, drop-take, drop_at, take-take, take_all, length-replicate, get_or-replicate}
 use Rattle.archive_shape_layout.specs.Bytes.{window, word_at}
 use Rattle.archive_shape_references.specs.Bytes.{overwrite}
-use Rattle.archive_shape_references.proofs.Written.{window_before, window_behind}
-use Rattle.cabinet_layout.specs.Bytes.{HasBytes}
+use Rattle.archive_shape_references.proofs.Written.{window_before, window_behind, window_there}
+use Rattle.cabinet_layout.specs.Bytes.{HasBytes, zeros}
 
 pub length-window : (bytes : List ℕ) (pos size : ℕ) → pos + size ≤ length bytes → length (window bytes pos size) ≡ size
 length-window bytes pos size h = omega (arith, length-take size (drop pos bytes), length-drop pos bytes)
 
 module _ (bytes : List ℕ) (at : ℕ) (piece : List ℕ) (fits : at + length piece ≤ length bytes) where
-  pub stands_before : (pos : ℕ) (other : List ℕ) → pos + length other ≤ at → HasBytes bytes pos other → HasBytes (overwrite bytes at piece) pos other
+  stands_before : (pos : ℕ) (other : List ℕ) → pos + length other ≤ at → HasBytes bytes pos other → HasBytes (overwrite bytes at piece) pos other
   stands_before pos other h s = window_before bytes at piece fits pos (length other) h ∙ s
 
-  pub stands_behind : (pos : ℕ) (other : List ℕ) → at + length piece ≤ pos → HasBytes bytes pos other → HasBytes (overwrite bytes at piece) pos other
+  stands_behind : (pos : ℕ) (other : List ℕ) → at + length piece ≤ pos → HasBytes bytes pos other → HasBytes (overwrite bytes at piece) pos other
   stands_behind pos other h s = window_behind bytes at piece fits pos (length other) h ∙ s
 
 -- a byte of a window
@@ -62,9 +62,32 @@ pub stands_whole : (bytes piece : List ℕ) → length bytes ≡ length piece �
 stands_whole bytes piece e s = sym (take_all (length piece) bytes (omega arith)) ∙ s
 
 -- a byte as a piece
-pub byte_stands : (bytes : List ℕ) (pos b : ℕ) → pos < length bytes → slice_index bytes pos ≡ b → HasBytes bytes pos (b ∷ [])
-byte_stands bytes pos b h e = ap (take 1) (drop-cons bytes pos 0 h) ∙ ap (λ x. x ∷ []) e
-
 pub stands_byte : (bytes : List ℕ) (pos b : ℕ) → HasBytes bytes pos (b ∷ []) → slice_index bytes pos ≡ b
 stands_byte bytes pos b s =
     ap (slice_index bytes) (sym (add-zero pos)) ∙ sym (get_or-drop pos bytes 0 0) ∙ sym (get_or-take 1 (drop pos bytes) 0 0 (omega arith)) ∙ ap (λ x. slice_index x 0) s
+
+-- the bytes of zeros that stand
+pub zero_stands : (bytes : List ℕ) (pos n i : ℕ) → HasBytes bytes pos (zeros n) → pos ≤ i → i < pos + n → slice_index bytes i ≡ 0
+zero_stands bytes pos n i s low high =
+    let len : length (zeros n) ≡ n = length-replicate {A = ℕ} n 0 in
+    let there : pos + (i - pos) ≡ i = omega arith in
+    subst (λ m. slice_index bytes m ≡ 0) there
+    (sym (window_byte bytes pos (length (zeros n)) (i - pos) (omega arith)) ∙ ap (λ w. slice_index w (i - pos)) s ∙ get_or-replicate n (i - pos) 0 0 (omega arith))
+
+-- one piece among others, written over
+pub stands_replaced :
+    (bytes : List ℕ) (pos : ℕ) (xs old new ys : List ℕ) (at : ℕ)
+    → pos + length xs ≡ at
+    → length new ≡ length old
+    → at + length new ≤ length bytes
+    → HasBytes bytes pos (xs ++ (old ++ ys))
+    → HasBytes (overwrite bytes at new) pos (xs ++ (new ++ ys))
+stands_replaced bytes pos xs old new ys at e same room s =
+    let first = stands_left bytes pos xs (old ++ ys) s in
+    let rest = stands_right bytes pos xs (old ++ ys) at e s in
+    let last = stands_right bytes at old ys (at + length new) (omega arith) rest in
+    stands_append (overwrite bytes at new) pos xs (new ++ ys) at e
+    (stands_before bytes at new room pos xs (omega arith) first)
+    (stands_append (overwrite bytes at new) at new ys (at + length new) refl
+    (window_there bytes at new room)
+    (stands_behind bytes at new room (at + length new) ys (omega arith) last))

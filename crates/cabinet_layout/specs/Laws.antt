@@ -9,7 +9,8 @@ use Rattle.archive_shape_layout.specs.Edit.{Apart}
 use Rattle.archive_shape_layout.specs.Holds as layout
 use Rattle.cabinet_layout.specs.Node.{node_shape, root_position, node_position}
 use Rattle.cabinet_layout.specs.Denotes.{Accepted}
-use Rattle.cabinet_layout.specs.Image.{Image, IsPast, own_offset, own_bytes}
+use Rattle.cabinet_layout.specs.Limits.{IsPast}
+use Rattle.cabinet_layout.specs.Image.{Image, own_offset, own_bytes}
 use Rattle.cabinet_layout.specs.Written.{image_bytes}
 use Rattle.cabinet_layout.specs.ArchiveFault.{ArchiveFault}
 

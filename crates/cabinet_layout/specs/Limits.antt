@@ -1,5 +1,4 @@
 -- What of a document passes the limits of archives.
-use Rattle.std.specs.Prelude.{◌≡◌, ℕ}
 use Rattle.archive_shape_layout.specs.Value.{Value}
 use Rattle.archive_shape_canonical.specs.FirstFit.{first_fit}
 use Rattle.archive_shape_canonical.specs.Limits.{PastLimits}

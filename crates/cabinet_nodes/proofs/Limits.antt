@@ -7,8 +7,8 @@ use Rattle.archive_shape_writing.specs.declared.error.Error.TheVariants.{IsizeOv
 use Rattle.cabinet_text.specs.declared.node.Node.{Node}
 use Rattle.cabinet_text.specs.Tree.{Tree, list, count, IsDocument}
 use Rattle.cabinet_text.specs.View.{node_trees}
-use Rattle.cabinet_layout.specs.Image.{IsPast}
-use Rattle.cabinet_layout.proofs.Images.{within_limits}
+use Rattle.cabinet_layout.specs.Limits.{IsPast}
+use Rattle.cabinet_layout.proofs.Limits.{list_past, within_limits}
 use Rattle.cabinet_nodes.proofs.ElementBytes.{count_is}
 
 -- what follows from comparing a count with the most that an offset reaches back over
@@ -25,15 +25,15 @@ past_by_count t ns n is counted d =
     let ts = node_trees ns in
     let same : count ts ≡ length ns = count_is ns in
     by_count 89478485 n
-    (λ far. subst (λ u. IsPast u IsizeOverflow) (sym is) (inl (omega arith, refl)))
+    (λ far. subst (λ u. IsPast u IsizeOverflow) (sym is) (list_past ts (subst IsDocument is d) (omega arith)))
     (λ near. subst (λ u. (e : Error) → IsPast u e → ⊥) (sym is) (within_limits (list ts) (subst IsDocument is d) (omega arith)))
 
 -- so a list within the limits has no more
-pub count_within : (t : Tree) (ns : List Node) → t ≡ list (node_trees ns) → ((e : Error) → IsPast t e → ⊥) → length ns ≤ 89478485
-count_within t ns is within =
+pub count_within : (t : Tree) (ns : List Node) → t ≡ list (node_trees ns) → IsDocument t → ((e : Error) → IsPast t e → ⊥) → length ns ≤ 89478485
+count_within t ns is d within =
     let ts = node_trees ns in
     let same : count ts ≡ length ns = count_is ns in
     elim (leb_tells (length ns) 89478485) [
       | inl near ↦ near.1
-      | inr far ↦ absurd (within IsizeOverflow (subst (λ u. IsPast u IsizeOverflow) (sym is) (inl (omega (arith, far.1), refl))))
+      | inr far ↦ absurd (within IsizeOverflow (subst (λ u. IsPast u IsizeOverflow) (sym is) (list_past ts (subst IsDocument is d) (omega (arith, far.1)))))
     ]

@@ -6,7 +6,7 @@ ghost use Rattle.archive_shape_writing.specs.declared.error.Error.TheVariants.{I
 ghost use Rattle.cabinet_text.specs.Tree as tree;
 ghost use Rattle.cabinet_text.specs.Tree.{Leaf, AreLeaves, IsDocument};
 ghost use Rattle.cabinet_text.specs.View.{lent_leaf, node_tree, node_trees};
-ghost use Rattle.cabinet_layout.specs.Image.{IsPast};
+ghost use Rattle.cabinet_layout.specs.Limits.{IsPast};
 ghost use Rattle.cabinet_layout.specs.Written.{list_bytes, image_bytes, elements_bytes};
 ghost use Rattle.cabinet_nodes.specs.Writing.{blank};
 

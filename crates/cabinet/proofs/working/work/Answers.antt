@@ -1,5 +1,6 @@
 use Rattle.std.proofs.Common.{◌≡◌, ◌≤◌, ◌++◌, length, subst, sym, ap, ◌∙◌, refl, arith, rules}
 use Rattle.cabinet_layout.specs.Image.{Image}
+use Rattle.cabinet_layout.proofs.Images.{accepted_of}
 use Rattle.cabinet.proofs.WorkedAnswers.{works, whole_back, accepted_is_ok}
 use Rattle.cabinet.proofs.working.work.Goals as goal
 
@@ -9,7 +10,7 @@ unwrap-requires g c =
     let s = c.in-Ok.ensures.saved refl in
     let items : c.save.new.writer.items ≡ s.image = s.written ∙ ap (λ x. x ++ s.image) c.new-bytes.ensures.items in
     let i : Image c.args.document.now c.as_slice.result.now = subst (Image c.args.document.now) (sym (c.as_slice.ensures.value ∙ items)) s.is_image in
-    accepted_is_ok c.as_slice.result.now c.args.document.now c.check.result i.accepted c.check.ensures.refused
+    accepted_is_ok c.as_slice.result.now c.args.document.now c.check.result (accepted_of c.args.document.now c.as_slice.result.now i) c.check.ensures.refused
 
 pub returns-clause-works : goal.returns-clause-works
 returns-clause-works g c = λ r w.

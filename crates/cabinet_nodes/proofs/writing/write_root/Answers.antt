@@ -12,7 +12,7 @@ write_list-requires-clause-leaves g c =
 pub write_list-requires-clause-near : goal.write_list-requires-clause-near
 write_list-requires-clause-near g c =
     let ns = c.as_slice.result.now in
-    count_within (node_tree c.args.root.now) ns (is_list c.args.root.now c.in-List.nodes ns c.in-List.is c.as_slice.ensures.value) c.requires.within
+    count_within (node_tree c.args.root.now) ns (is_list c.args.root.now c.in-List.nodes ns c.in-List.is c.as_slice.ensures.value) c.requires.document c.requires.within
 
 pub returns-in-List : goal.returns-in-List
 returns-in-List g c =
