@@ -1,36 +1,35 @@
 -- The images are what is said: the law gives each document's, and computation its bytes.
-use Rattle.std.proofs.Common.{◌≡◌, ℕ, ◌^◌, ◌<◌, pos, refl, subst, arith, lit<, lit≤, FitsSigned, w64, ⊎_elim, List, codes}
+use Rattle.std.proofs.Common.{◌≡◌, ℕ, ◌+◌, ◌^◌, ◌<◌, ◌≤◌, pos, refl, subst, arith, lit<, lit≤, FitsSigned, w64, List, codes}
 use Rattle.cabinet_text.proofs.Utf8.{IsUtf8-word}
-use Rattle.archive_shape_writing.specs.declared.error.Error.{Error}
 use Rattle.cabinet_text.specs.Tree.{Tree, IsDocument}
 use Rattle.cabinet_layout.specs.Image.{Image}
-use Rattle.cabinet_layout.specs.Limits.{IsPast}
 use Rattle.cabinet_layout.specs.Written.{image_bytes}
+use Rattle.cabinet_layout.proofs.Limits.{before_root, within_limits}
 use Rattle.cabinet_layout.proofs.Images.{image_written}
 use Rattle.cabinet_examples.specs.Images.{FiveImage, TrueImage, WorldImage, SevenAndNineteenImage, EmptyListImage, seven_and_nineteen, seven_and_nineteen_bytes}
 
 -- the image of a document within the limits, where it has these bytes
-spelled : (t : Tree) (bytes : List ℕ) → IsDocument t → ((e : Error) → IsPast t e → ⊥) → image_bytes t ≡ bytes → Image t bytes
-spelled t bytes document within same = subst (Image t) same (image_written t document within)
+spelled : (t : Tree) (bytes : List ℕ) → IsDocument t → before_root t + 4 ≤ 2 ^ 31 → image_bytes t ≡ bytes → Image t bytes
+spelled t bytes document within same = subst (Image t) same (image_written t document (within_limits t document within))
 
 small : (n : ℕ) → n < 2 ^ 63 → FitsSigned w64 (pos n)
 small n h = record { sfits = h }
 
 pub five_image : FiveImage
-five_image = spelled _ _ (small 5 (lit< tt), tt) (λ e p. p) refl
+five_image = spelled _ _ (small 5 (lit< tt), tt) (lit≤ tt) refl
 
 pub true_image : TrueImage
-true_image = spelled _ _ (tt, tt) (λ e p. p) refl
+true_image = spelled _ _ (tt, tt) (lit≤ tt) refl
 
 pub world_image : WorldImage
-world_image = spelled _ _ (IsUtf8-word (codes "world") refl, lit≤ tt) (λ e p. omega (arith, p.0)) refl
+world_image = spelled _ _ (IsUtf8-word (codes "world") refl, lit≤ tt) (lit≤ tt) refl
 
 pub seven_and_nineteen_image : SevenAndNineteenImage
 seven_and_nineteen_image =
     spelled seven_and_nineteen seven_and_nineteen_bytes
     (((small 7 (lit< tt), tt), ((small 19 (lit< tt), tt), tt)), lit< tt)
-    (λ e p. ⊎_elim (λ q. omega (arith, q.0)) (⊎_elim (λ q. q) (⊎_elim (λ q. q) (λ q. q))) p)
+    (lit≤ tt)
     refl
 
 pub empty_list_image : EmptyListImage
-empty_list_image = spelled _ _ (tt, lit< tt) (λ e p. ⊎_elim (λ q. omega (arith, q.0)) (λ q. q) p) refl
+empty_list_image = spelled _ _ (tt, lit< tt) (lit≤ tt) refl

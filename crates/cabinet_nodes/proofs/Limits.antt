@@ -1,12 +1,12 @@
 -- Documents within the limits of archives: their texts are short, so only the number of elements may be past them.
-use Rattle.std.proofs.Common.{◌≡◌, ℕ, suc, ◌<◌, ◌≤◌, nat_lt, List, length, inl, inr, arith, refl, sym, subst}
+use Rattle.std.proofs.Common.{◌≡◌, ℕ, suc, ◌<◌, ◌≤◌, nat_lt, List, length, inl, inr, arith, ap, sym, subst, ◌⊎◌}
 use Rattle.std.specs.Bool.{MatchBool}
 use Rattle.std.proofs.lemmas.Bool.Decides.{leb_tells}
 use Rattle.archive_shape_writing.specs.declared.error.Error.{Error}
 use Rattle.archive_shape_writing.specs.declared.error.Error.TheVariants.{IsizeOverflow}
-use Rattle.cabinet_text.specs.declared.node.Node.{Node}
-use Rattle.cabinet_text.specs.Tree.{Tree, list, count, IsDocument}
-use Rattle.cabinet_text.specs.View.{node_trees}
+use Rattle.cabinet_text.specs.declared.node.Node.{Node, Bool, Int, Text}
+use Rattle.cabinet_text.specs.Tree.{Leaf, Tree, leaf, list, count, IsDocument}
+use Rattle.cabinet_text.specs.View.{node_tree, node_trees}
 use Rattle.cabinet_layout.specs.Limits.{IsPast}
 use Rattle.cabinet_layout.proofs.Limits.{list_past, within_limits}
 use Rattle.cabinet_nodes.proofs.ElementBytes.{count_is}
@@ -37,3 +37,14 @@ count_within t ns is d within =
       | inl near ↦ near.1
       | inr far ↦ absurd (within IsizeOverflow (subst (λ u. IsPast u IsizeOverflow) (sym is) (list_past ts (subst IsDocument is d) (omega (arith, far.1)))))
     ]
+
+-- a leaf is within them
+pub leaf_within : (n : Node) → IsDocument (node_tree n) → ((b : _) × n ≡ Bool b) ⊎ (((i : _) × n ≡ Int i) ⊎ ((t : _) × n ≡ Text t)) → (e : Error) → IsPast (node_tree n) e → ⊥
+leaf_within n d k =
+    let l = one_leaf k in
+    subst (λ t. (e : Error) → IsPast t e → ⊥) (sym l.1) (within_limits (leaf l.0) (subst IsDocument l.1 d) (omega arith))
+  where
+    one_leaf : ((b : _) × n ≡ Bool b) ⊎ (((i : _) × n ≡ Int i) ⊎ ((t : _) × n ≡ Text t)) → (l : Leaf) × (node_tree n ≡ leaf l)
+    one_leaf (inl b) = (_, ap node_tree b.1)
+    one_leaf (inr (inl i)) = (_, ap node_tree i.1)
+    one_leaf (inr (inr t)) = (_, ap node_tree t.1)

@@ -141,7 +141,7 @@ pub fn is_past_limits(root: &Node) -> bool
 {
     match root {
         Node::List(nodes) => nodes.len() > MOST_ELEMENTS,
-        _ => false,
+        Node::Bool(_) | Node::Int(_) | Node::Text(_) => false,
     }
 }
 
