@@ -11,3 +11,7 @@ pub mod Framing
 pub mod Editing
 pub mod Joining
 pub mod Orders
+pub mod SameValue
+pub mod CleanTests
+pub mod ChoiceTests
+pub mod Evaluate
