@@ -1,5 +1,5 @@
 -- Whether two values are the same, as a test.
-use Rattle.std.proofs.Common.{◌≡◌, ℕ, Bool, true, false, ◌==◌, ◌&&◌, List, [], ◌∷◌, ℤ, pos, negsuc, refl, ap, ap₂, sym, eqb-true}
+use Rattle.std.proofs.Common.{◌≡◌, ℕ, Bool, true, false, ◌==◌, ◌&&◌, List, [], ◌∷◌, ℤ, pos, negsuc, refl, ap, ap₂, sym, subst, eqb-true}
 use Rattle.archive_shape_layout.specs.Value.{Value, Values}
 use Rattle.archive_shape_layout.specs.Value.Value.{natural, integer, boolean, string, group, chosen, counted, back}
 use Rattle.archive_shape_layout.specs.Value.Values.{no_values, more_values}
@@ -76,6 +76,9 @@ mutual
 numbers_themselves : (ns : List ℕ) → same_numbers ns ns ≡ true
 numbers_themselves [] = refl
 numbers_themselves (n ∷ ns) = both _ _ (equal n) (numbers_themselves ns)
+
+pub numbers_differ : (ms ns : List ℕ) → same_numbers ms ns ≡ false → ms ≡ ns → ⊥
+numbers_differ ms ns e f = let same = subst (λ xs. same_numbers ms xs ≡ true) f (numbers_themselves ms) in cc
 
 truth_itself : (b : Bool) → same_truth b b ≡ true
 truth_itself true = refl
