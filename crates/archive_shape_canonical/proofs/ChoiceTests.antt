@@ -1,11 +1,10 @@
 -- Whether what the layout leaves open is settled, whether regions ascend and whether shared values differ, as tests that
 -- give evidence.
 use Rattle.std.proofs.Common.{◌≡◌, ℕ, zero, suc, ◌+◌, ◌-◌, ◌%◌, ◌≤◌, ◌<◌, Bool, true, false, ◌==◌, ◌&&◌, nat_lt, List, [], ◌∷◌, drop, get_or, slice_index, Option, Some, None, refl, ap, sym, subst, ◌∙◌, arith, ◌⊎◌, inl, inr, ⊎_elim, eqb-true, ltb-true, get_or-drop}
-use Rattle.std.specs.Prelude.{⊤}
 use Rattle.std.proofs.lemmas.Str.{IsUtf8-from_is_utf8}
 use Rattle.archive_shape_layout.specs.Shape.{Pointee}
 use Rattle.archive_shape_layout.specs.Value.{Value, Values, count_values}
-use Rattle.archive_shape_layout.specs.Value.Value.{natural, integer, boolean, string, group, chosen, counted, back}
+use Rattle.archive_shape_layout.specs.Value.Value.{group}
 use Rattle.archive_shape_layout.specs.Value.Values.{no_values, more_values}
 use Rattle.archive_shape_layout.specs.Content.{Part, Label, IsLegal, members, weave, first_values, other_values}
 use Rattle.archive_shape_layout.specs.Content.Part.{at, behind, node, child, entry, buckets, place_at}
@@ -17,7 +16,6 @@ use Rattle.archive_shape_canonical.specs.Packed.{child_items, ArePacked, IsPacke
 use Rattle.archive_shape_canonical.specs.Seen.{seen_bytes, seen_values}
 use Rattle.archive_shape_canonical.specs.Sharing.{erased, all_erased, Differ, AllDiffer, AreDistinct}
 use Rattle.archive_shape_canonical.specs.Settled.{Fit, naturals, IsFitted, HasItems, LeadsSettled, SeenSettled, IsSettled}
-use Rattle.archive_shape_canonical.specs.Clean.{IsIn}
 use Rattle.archive_shape_canonical.specs.Canonical.{InRegions}
 use Rattle.archive_shape_canonical.proofs.SameValue.{same_numbers, numbers_are, same_value, value_is, value_itself, same_values, values_are}
 use Rattle.archive_shape_canonical.proofs.CleanTests.{tested, turned, carried, joint, number_test, most_test, less_test, Run, run_of, InRuns, zero_outside, outside_zero}
@@ -159,7 +157,7 @@ unfolding Ascends
 ascends_test low high [] = Some tt
 ascends_test low high (r ∷ rs) =
     carried (most_test low r.start) (λ a. carried (number_test (r.start % r.align) 0) (λ b. carried (most_test (r.start + r.size) high) (λ c.
-        turned (λ d. (follows_by low high r a b c, d)) (ascends_test (r.start + r.size) high rs))))
+    turned (λ d. (follows_by low high r a b c, d)) (ascends_test (r.start + r.size) high rs))))
 
 abbrev region_runs : List Region → List Run
 region_runs [] = []

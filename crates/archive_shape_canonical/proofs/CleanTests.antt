@@ -1,28 +1,16 @@
 -- Whether a part is clean, as a test that gives evidence.
-use Rattle.std.proofs.Common.{◌≡◌, ℕ, zero, suc, ◌+◌, ◌-◌, ◌%◌, ◌≤◌, ◌<◌, Bool, true, false, ◌==◌, ◌&&◌, ◌||◌, nat_le, nat_lt, List, [], ◌∷◌, ◌++◌, length, take, drop, get_or, slice_index, Option, Some, None, refl, ap, sym, subst, ◌∙◌, arith, ◌⊎◌, inl, inr, ⊎_elim, eqb-true, leb-true, ltb-true, get_or-drop, get_or-take}
-use Rattle.std.specs.Prelude.{⊤}
+use Rattle.std.proofs.Common.{◌≡◌, ℕ, zero, suc, ◌+◌, ◌-◌, ◌≤◌, ◌<◌, Bool, true, false, ◌==◌, ◌&&◌, ◌||◌, nat_le, nat_lt, List, [], ◌∷◌, ◌++◌, length, drop, get_or, slice_index, Option, Some, None, refl, ap, sym, subst, ◌∙◌, arith, ◌⊎◌, inl, inr, ⊎_elim, eqb-true, leb-true, ltb-true, get_or-drop, get_or-take}
 use Rattle.std.proofs.lemmas.Bool.{cases_lt, leb-false}
-use Rattle.std.proofs.lemmas.Str.{IsUtf8-from_is_utf8}
 use Rattle.archive_shape_layout.specs.Bytes.{window, word_at}
-use Rattle.archive_shape_layout.specs.Shape.{Shape, Pointee, size_of}
-use Rattle.archive_shape_layout.specs.Shape.Shape.{number, nonzero, truth, character, text, tuple, array, option, result, choice, box, vector, shared, weak, tree, table, index_map, named}
+use Rattle.archive_shape_layout.specs.Shape.{Shape, size_of}
+use Rattle.archive_shape_layout.specs.Shape.Shape.{text, tree, table, index_map}
 use Rattle.archive_shape_layout.specs.Shape.Pointee.{sized, slice, str}
-use Rattle.archive_shape_layout.specs.Value.{Value, Values, count_values}
-use Rattle.archive_shape_layout.specs.Value.Value.{natural, integer, boolean, string, group, chosen, counted, back}
-use Rattle.archive_shape_layout.specs.Value.Values.{no_values, more_values}
-use Rattle.archive_shape_layout.specs.Content.{Names, Part, Label, Content, content_of, IsLegal, members, links_offset, control_count, weave, first_values, other_values}
+use Rattle.archive_shape_layout.specs.Content.{Names, Part, Content, content_of, links_offset, control_count}
 use Rattle.archive_shape_layout.specs.Content.Part.{at, behind, node, child, entry, buckets, place_at}
-use Rattle.archive_shape_layout.specs.Content.Label.{leaf, written, same, second, whole, tagged, woven, total}
+use Rattle.archive_shape_layout.specs.Content.Label.{written}
 use Rattle.archive_shape_layout.specs.Content.Content.{illegal, plain, claimed, counting}
-use Rattle.archive_shape_layout.specs.Holds.{Region, Visit, Follows, Ascends}
-use Rattle.archive_shape_layout.proofs.SameShape.{same_pointee, pointee_itself, both_left, both_right}
-use Rattle.archive_shape_layout.proofs.Evaluate.{legal, same_visit}
+use Rattle.archive_shape_layout.proofs.SameShape.{both_left, both_right}
 use Rattle.archive_shape_canonical.specs.Clean.{IsIn, Owns, InParts, field_size, InFieldOfNode, InField, FieldPartOrZero, PaddingIsZero, IsTextFilled, IsShapeFilled, AreControlsFilled, IsFilled, IsClean}
-use Rattle.archive_shape_canonical.specs.Packed.{child_items, ArePacked, IsPacked}
-use Rattle.archive_shape_canonical.specs.Seen.{seen_bytes, seen_values}
-use Rattle.archive_shape_canonical.specs.Sharing.{erased, all_erased, Differ, AllDiffer, AreDistinct}
-use Rattle.archive_shape_canonical.specs.Settled.{Fit, naturals, IsFitted, HasItems, LeadsSettled, SeenSettled, IsSettled}
-use Rattle.archive_shape_canonical.proofs.SameValue.{same_numbers, numbers_are, same_value, value_is, value_itself, same_values, values_are}
 
 -- ---- evidence from tests
 

@@ -1,7 +1,7 @@
 -- Canonical archives found by running: a function that reads bytes and gives what they hold with the evidence that it
 -- is canonical, by recursion on a number of steps. A proof by computation writes `archive_found .. refl` under the line
 -- `unfolding run_canonical`.
-use Rattle.std.proofs.Common.{◌≡◌, ℕ, zero, suc, ◌+◌, ◌==◌, Bool, List, [], ◌∷◌, ◌++◌, length, slice_index, ◌≤◌, ◌<◌, ◌⊎◌, Option, Some, None, refl, ap, sym, subst, ◌∙◌}
+use Rattle.std.proofs.Common.{◌≡◌, ℕ, zero, suc, ◌+◌, Bool, List, [], ◌∷◌, ◌++◌, length, slice_index, ◌≤◌, ◌<◌, ◌⊎◌, Option, Some, None, refl, ap, sym, subst, ◌∙◌}
 use Rattle.archive_shape_layout.specs.Bytes.{align_up}
 use Rattle.archive_shape_layout.specs.Shape.{Shape, Pointee}
 use Rattle.archive_shape_layout.specs.Shape.Pointee.{sized}
@@ -11,7 +11,7 @@ use Rattle.archive_shape_layout.specs.Value.Values.{no_values, more_values}
 use Rattle.archive_shape_layout.specs.Content.{Names, Part, Span, Label, Content, content_of, made, IsLegal}
 use Rattle.archive_shape_layout.specs.Content.Part.{behind}
 use Rattle.archive_shape_layout.specs.Content.Content.{illegal, plain, claimed, counting}
-use Rattle.archive_shape_layout.specs.Holds.{Region, region_of, Visit, OpenShared, visited, open_at, Ascends, Holds, HoldAll, HasRoot}
+use Rattle.archive_shape_layout.specs.Holds.{Region, region_of, Visit, OpenShared, visited, open_at, Ascends, HoldAll}
 use Rattle.archive_shape_layout.specs.Holds.Holds.{holds_plain, holds_claimed, holds_first, holds_later}
 use Rattle.archive_shape_layout.specs.Holds.HoldAll.{holds_none, holds_more}
 use Rattle.archive_shape_layout.proofs.Evaluate.{Reading, run}
@@ -20,7 +20,7 @@ use Rattle.archive_shape_canonical.specs.Settled.{Fit, IsSettled}
 use Rattle.archive_shape_canonical.specs.Sharing.{end_of_shared, AreDistinct}
 use Rattle.archive_shape_canonical.specs.Strides.{least_power, stop, strides_from, strides, places_for}
 use Rattle.archive_shape_canonical.specs.FirstFit.{hash_tag, written_controls}
-use Rattle.archive_shape_canonical.specs.Canonical.{end_of, end_of_all, IsCanonical, AreCanonical, InRegions, CanonicalArchive}
+use Rattle.archive_shape_canonical.specs.Canonical.{end_of_all, AreCanonical, InRegions, CanonicalArchive}
 use Rattle.archive_shape_canonical.specs.Laws.{CanonicalIn}
 use Rattle.archive_shape_canonical.proofs.CleanTests.{turned, carried, number_test, Known, known, clean_test}
 use Rattle.archive_shape_canonical.proofs.ChoiceTests.{visit_at, visit_test, settled_test, legal_test, distinct_test, ascends_test, gaps_test, bytes_test}
@@ -130,10 +130,10 @@ module _ (fit : Fit) (names : Names) (bytes : List ℕ) where
   find_content one all level inside low p before illegal e clean = None
   find_content one all level inside low p before (plain l ps) e clean =
       carried (legal_test l) (λ legal. carried (all level inside low ps before) (λ f. carried (known (made l f.values)) (λ m.
-          turned (found_plain level inside low p before l ps e clean legal f m) (settled_test fit bytes p ps f.values))))
+      turned (found_plain level inside low p before l ps e clean legal f m) (settled_test fit bytes p ps f.values))))
   find_content one all level inside low p before (claimed s l ps) e clean =
       carried (legal_test l) (λ legal. carried (all (suc level) inside low ps before) (λ f. carried (known (made l f.values)) (λ m. carried (settled_test fit bytes p ps f.values) (λ settled.
-          turned (found_claimed level inside low p before s l ps e clean legal f m settled) (number_test s.start (align_up f.end s.align))))))
+      turned (found_claimed level inside low p before s l ps e clean legal f m settled) (number_test s.start (align_up f.end s.align))))))
   find_content one all level inside low p before (counting cyclic t q len) e clean =
       find_counted one level inside low p before cyclic t q len e clean (open_at inside t) refl (visited before t) refl
 
@@ -182,9 +182,9 @@ module _ (fit : Fit) (names : Names) (bytes : List ℕ) where
   unfoldable pub find_archive : ℕ → (start pos : ℕ) (s : Shape) → Option (FoundArchive start pos s)
   find_archive fuel start pos s =
       carried (find_part fuel 0 [] start (behind pos (sized s) 1) []) (λ f.
-          carried (ascends_test 0 (length bytes) f.regions) (λ ascends. carried (number_test f.end (length bytes)) (λ ends.
-              carried (gaps_test f.regions bytes start) (λ gaps. carried (distinct_test f.after) (λ once.
-                  turned (found_archive start pos s f ascends ends gaps once) (bytes_test bytes))))))
+      carried (ascends_test 0 (length bytes) f.regions) (λ ascends. carried (number_test f.end (length bytes)) (λ ends.
+      carried (gaps_test f.regions bytes start) (λ gaps. carried (distinct_test f.after) (λ once.
+      turned (found_archive start pos s f ascends ends gaps once) (bytes_test bytes))))))
 
   -- without the evidence
   unfoldable pub archive_read : (start pos : ℕ) (s : Shape) → Option (FoundArchive start pos s) → Option Reading

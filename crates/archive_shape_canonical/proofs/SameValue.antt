@@ -1,5 +1,5 @@
 -- Whether two values are the same, as a test.
-use Rattle.std.proofs.Common.{◌≡◌, ℕ, Bool, true, false, ◌==◌, ◌&&◌, List, [], ◌∷◌, ℤ, pos, negsuc, refl, ap, ap₂, sym, subst, eqb-true}
+use Rattle.std.proofs.Common.{◌≡◌, ℕ, Bool, true, false, ◌==◌, ◌&&◌, List, [], ◌∷◌, ℤ, pos, negsuc, refl, ap, ap₂, subst, eqb-true}
 use Rattle.archive_shape_layout.specs.Value.{Value, Values}
 use Rattle.archive_shape_layout.specs.Value.Value.{natural, integer, boolean, string, group, chosen, counted, back}
 use Rattle.archive_shape_layout.specs.Value.Values.{no_values, more_values}

@@ -6,7 +6,7 @@ use Rattle.cabinet_layout.specs.Hash.{hash_word, words_from, words_of, text_hash
 use Rattle.cabinet_layout.specs.Node.{node_shape, node_names}
 use Rattle.cabinet_examples.specs.Pieces.{item_of, region}
 use Rattle.cabinet_examples.specs.Documents.{number_value, truth_value, text_value, shared_value, no_value, some_value, list_value, ordered_value, hashed_value, kept_value, number_bytes, truth_bytes, nothing_bytes, some_number_bytes, empty_list_bytes, long_text_bytes, shared_text_bytes, empty_shared_text_bytes, two_ordered_bytes, six_ordered_bytes, one_hashed_bytes, nested_bytes, two_kept_bytes, empty_kept_bytes}
-use Rattle.cabinet_examples.specs.Canonical.{text_visit, short_text_bytes, five_ordered_bytes, five_ordered_value, six_ordered_value, empty_ordered_bytes, HashOfA, HashOfNothing, CanonicalNumber, CanonicalTruth, CanonicalNothing, CanonicalSomeNumber, CanonicalEmptyList, CanonicalLongText, CanonicalShortText, CanonicalSharedText, CanonicalEmptySharedText, CanonicalOrderedMap, CanonicalLeafOfFive, CanonicalTreeOfSix, CanonicalEmptyOrderedMap, CanonicalHashedMap, CanonicalNestedMaps, CanonicalKeptMap, CanonicalEmptyKeptMap}
+use Rattle.cabinet_examples.specs.Canonical.{text_visit, short_text_bytes, five_ordered_bytes, five_ordered_value, six_ordered_value, empty_ordered_bytes, two_hashed_bytes, HashOfA, HashOfNothing, CanonicalNumber, CanonicalTruth, CanonicalNothing, CanonicalSomeNumber, CanonicalEmptyList, CanonicalLongText, CanonicalShortText, CanonicalSharedText, CanonicalEmptySharedText, CanonicalOrderedMap, CanonicalLeafOfFive, CanonicalTreeOfSix, CanonicalEmptyOrderedMap, CanonicalHashedMap, CanonicalTakenPlace, CanonicalNestedMaps, CanonicalKeptMap, CanonicalEmptyKeptMap}
 
 pub hash_of_a : HashOfA
 unfolding hash_word words_from words_of text_hash
@@ -112,6 +112,13 @@ unfolding run_canonical hash_word words_from words_of text_hash
 canonical_hashed_map =
     archive_found (first_fit text_hash) node_names one_hashed_bytes 90 0 96 node_shape
     (hashed_value (item_of "a" (text_value "world") ∷ [])) (region 0 95 8 1 ∷ region 96 24 8 0 ∷ []) []
+    refl
+
+pub canonical_taken_place : CanonicalTakenPlace
+unfolding run_canonical hash_word words_from words_of text_hash
+canonical_taken_place =
+    archive_found (first_fit text_hash) node_names two_hashed_bytes 90 0 128 node_shape
+    (hashed_value (item_of "d" (number_value 2) ∷ item_of "a" (number_value 1) ∷ [])) (region 0 127 8 1 ∷ region 128 24 8 0 ∷ []) []
     refl
 
 pub canonical_nested_maps : CanonicalNestedMaps

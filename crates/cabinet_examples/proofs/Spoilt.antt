@@ -15,8 +15,8 @@ use Rattle.cabinet_layout.specs.Node.{node_shape, node_names}
 use Rattle.cabinet_examples.specs.Pieces.{item_of, region}
 use Rattle.cabinet_examples.specs.Documents.{HoldsDocument, number_value, text_value, shared_value, some_value, list_value, ordered_value, hashed_value, kept_value, empty_leaf_bytes}
 use Rattle.cabinet_examples.specs.Canonical.{IsArchive, text_visit, five_ordered_value, six_ordered_value}
-use Rattle.cabinet_examples.specs.Spoilt.{IsSpoilt, byte_behind_root_bytes, gap_before_box_bytes, gap_before_root_bytes, leaf_on_the_right_bytes, marked_bucket_bytes, marked_padding_bytes, marked_slot_bytes, offset_to_nothing_bytes, other_control_bytes, other_filler_bytes, other_place_bytes, room_for_nothing_bytes, text_standing_twice_bytes, MarkedPadding, MarkedSlot, MarkedBucket, OtherFiller, OtherControl, RoomForNothing, OffsetToNothing, GapBeforeRoot, GapBeforeBox, ByteBehindRoot, TextStandingTwice, LeafOnTheRight, LeafOfNone, OtherPlace}
-use Rattle.cabinet_examples.proofs.Canonical.{canonical_empty_kept_map, canonical_empty_ordered_map, canonical_hashed_map, canonical_leaf_of_five, canonical_number, canonical_ordered_map, canonical_shared_text, canonical_short_text, canonical_some_number, canonical_tree_of_six}
+use Rattle.cabinet_examples.specs.Spoilt.{IsSpoilt, byte_behind_root_bytes, gap_before_box_bytes, gap_before_root_bytes, leaf_on_the_right_bytes, marked_bucket_bytes, marked_padding_bytes, marked_slot_bytes, offset_to_nothing_bytes, other_control_bytes, other_filler_bytes, other_kept_place_bytes, other_place_bytes, room_for_nothing_bytes, room_to_spare_bytes, text_standing_twice_bytes, wrong_tag_bytes, MarkedPadding, MarkedSlot, MarkedBucket, OtherFiller, OtherControl, RoomForNothing, OffsetToNothing, GapBeforeRoot, GapBeforeBox, ByteBehindRoot, TextStandingTwice, LeafOnTheRight, LeafOfNone, OtherPlace, OtherKeptPlace, WrongTag, RoomToSpare}
+use Rattle.cabinet_examples.proofs.Canonical.{canonical_empty_kept_map, canonical_empty_ordered_map, canonical_hashed_map, canonical_kept_map, canonical_leaf_of_five, canonical_number, canonical_ordered_map, canonical_shared_text, canonical_short_text, canonical_some_number, canonical_tree_of_six}
 
 -- other bytes are the one archive of the value that bytes have
 spoilt : {bytes others : List ℕ} {size pos from : ℕ} {v w : Value} {rs qs : List Region} {visits : List Visit}
@@ -127,3 +127,24 @@ other_place_accepted = record { has_size = refl; has_position = refl; visits = [
 
 pub other_place : OtherPlace
 other_place = spoilt other_place_accepted canonical_hashed_map refl refl
+
+other_kept_place_accepted : HoldsDocument other_kept_place_bytes 136 112 (kept_value (item_of "z" (number_value 1) ∷ item_of "a" (number_value 2) ∷ [])) (region 0 43 4 1 ∷ region 48 64 8 1 ∷ region 112 24 8 0 ∷ [])
+unfolding run
+other_kept_place_accepted = record { has_size = refl; has_position = refl; visits = []; has_root = root_found _ _ 90 _ _ _ _ _ refl }
+
+pub other_kept_place : OtherKeptPlace
+other_kept_place = spoilt other_kept_place_accepted canonical_kept_map refl refl
+
+wrong_tag_accepted : HoldsDocument wrong_tag_bytes 120 96 (hashed_value (item_of "a" (text_value "world") ∷ [])) (region 0 95 8 1 ∷ region 96 24 8 0 ∷ [])
+unfolding run
+wrong_tag_accepted = record { has_size = refl; has_position = refl; visits = []; has_root = root_found _ _ 90 _ _ _ _ _ refl }
+
+pub wrong_tag : WrongTag
+wrong_tag = spoilt wrong_tag_accepted canonical_hashed_map refl refl
+
+room_to_spare_accepted : HoldsDocument room_to_spare_bytes 152 128 (hashed_value (item_of "a" (text_value "world") ∷ [])) (region 0 127 8 1 ∷ region 128 24 8 0 ∷ [])
+unfolding run
+room_to_spare_accepted = record { has_size = refl; has_position = refl; visits = []; has_root = root_found _ _ 90 _ _ _ _ _ refl }
+
+pub room_to_spare : RoomToSpare
+room_to_spare = spoilt room_to_spare_accepted canonical_hashed_map refl refl

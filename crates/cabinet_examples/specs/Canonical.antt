@@ -9,7 +9,7 @@ use Rattle.archive_shape_canonical.specs.FirstFit.{first_fit}
 use Rattle.archive_shape_canonical.specs.Canonical.{CanonicalArchive}
 use Rattle.cabinet_layout.specs.Hash.{text_hash}
 use Rattle.cabinet_layout.specs.Node.{node_shape, node_names}
-use Rattle.cabinet_examples.specs.Pieces.{zeros, inline, number_node, item_of, region}
+use Rattle.cabinet_examples.specs.Pieces.{zeros, filler, inline, number_node, item_of, region}
 use Rattle.cabinet_examples.specs.Documents.{number_value, truth_value, text_value, shared_value, no_value, some_value, list_value, ordered_value, hashed_value, kept_value, number_bytes, truth_bytes, nothing_bytes, some_number_bytes, empty_list_bytes, long_text_bytes, shared_text_bytes, empty_shared_text_bytes, two_ordered_bytes, six_ordered_bytes, one_hashed_bytes, nested_bytes, two_kept_bytes, empty_kept_bytes}
 
 -- bytes are the one archive of the document node that they have at a position, with the regions that it claims and the
@@ -120,6 +120,22 @@ CanonicalEmptyOrderedMap = IsArchive empty_ordered_bytes 0 (ordered_value []) (r
 
 abbrev pub CanonicalHashedMap : Type 0
 CanonicalHashedMap = IsArchive one_hashed_bytes 96 (hashed_value (item_of "a" (text_value "world") ∷ [])) (region 0 95 8 1 ∷ region 96 24 8 0 ∷ []) []
+
+-- the keys a and d both look at place 2 first; d finds it taken, and goes on to place 0
+
+abbrev pub two_hashed_bytes : List ℕ
+two_hashed_bytes =
+    inline "a" ++ number_node 1
+    ++ zeros 32
+    ++ inline "d" ++ number_node 2
+    ++ 0x23 ∷ 0xff ∷ 0x55 ∷ 0x23 ∷ 0xff ∷ 0x55 ∷ filler 25 ++ zeros 1
+    ++ 0x07 ∷ zeros 3 ++ 0xdc ∷ 0xff ∷ 0xff ∷ 0xff ∷ 0x02 ∷ zeros 3 ++ 0x03 ∷ zeros 3 ++ zeros 8
+
+abbrev pub CanonicalTakenPlace : Type 0
+CanonicalTakenPlace =
+    IsArchive two_hashed_bytes 128
+    (hashed_value (item_of "d" (number_value 2) ∷ item_of "a" (number_value 1) ∷ []))
+    (region 0 127 8 1 ∷ region 128 24 8 0 ∷ []) []
 
 abbrev pub CanonicalNestedMaps : Type 0
 CanonicalNestedMaps =

@@ -159,3 +159,43 @@ other_place_bytes =
 
 abbrev pub OtherPlace : Type 0
 OtherPlace = IsSpoilt other_place_bytes 120 96 (hashed_value (item_of "a" (text_value "world") ∷ [])) (region 0 95 8 1 ∷ region 96 24 8 0 ∷ [])
+
+-- likewise of a map of two that keeps its order, where the first entry's number is in the first place
+
+abbrev pub other_kept_place_bytes : List ℕ
+other_kept_place_bytes =
+    0x01 ∷ zeros 3 ++ zeros 4 ++ 0x00 ∷ zeros 3
+    ++ 0x11 ∷ 0xff ∷ 0x55 ∷ 0x11 ∷ 0xff ∷ 0x55 ∷ filler 25 ++ zeros 5
+    ++ inline "z" ++ number_node 1
+    ++ inline "a" ++ number_node 2
+    ++ 0x08 ∷ zeros 3 ++ 0x98 ∷ 0xff ∷ 0xff ∷ 0xff ∷ 0x02 ∷ zeros 3 ++ 0x03 ∷ zeros 3 ++ 0xb0 ∷ 0xff ∷ 0xff ∷ 0xff ∷ zeros 4
+
+abbrev pub OtherKeptPlace : Type 0
+OtherKeptPlace =
+    IsSpoilt other_kept_place_bytes 136 112
+    (kept_value (item_of "z" (number_value 1) ∷ item_of "a" (number_value 2) ∷ []))
+    (region 0 43 4 1 ∷ region 48 64 8 1 ∷ region 112 24 8 0 ∷ [])
+
+-- the tag of a hashed map of one is that of another hash
+
+abbrev pub wrong_tag_bytes : List ℕ
+wrong_tag_bytes =
+    inline "a" ++ 0x02 ∷ zeros 3 ++ inline "world" ++ zeros 12
+    ++ zeros 32
+    ++ 0xff ∷ 0x54 ∷ 0xff ∷ 0x54 ∷ filler 27 ++ zeros 1
+    ++ 0x07 ∷ zeros 3 ++ 0xdc ∷ 0xff ∷ 0xff ∷ 0xff ∷ 0x01 ∷ zeros 3 ++ 0x02 ∷ zeros 3 ++ zeros 8
+
+abbrev pub WrongTag : Type 0
+WrongTag = IsSpoilt wrong_tag_bytes 120 96 (hashed_value (item_of "a" (text_value "world") ∷ [])) (region 0 95 8 1 ∷ region 96 24 8 0 ∷ [])
+
+-- a hashed map of one has three places, of which its key has the one of its hash
+
+abbrev pub room_to_spare_bytes : List ℕ
+room_to_spare_bytes =
+    inline "a" ++ 0x02 ∷ zeros 3 ++ inline "world" ++ zeros 12
+    ++ zeros 64
+    ++ 0xff ∷ 0xff ∷ 0x55 ∷ 0xff ∷ 0xff ∷ 0x55 ∷ filler 25 ++ zeros 1
+    ++ 0x07 ∷ zeros 3 ++ 0xdc ∷ 0xff ∷ 0xff ∷ 0xff ∷ 0x01 ∷ zeros 3 ++ 0x03 ∷ zeros 3 ++ zeros 8
+
+abbrev pub RoomToSpare : Type 0
+RoomToSpare = IsSpoilt room_to_spare_bytes 152 128 (hashed_value (item_of "a" (text_value "world") ∷ [])) (region 0 127 8 1 ∷ region 128 24 8 0 ∷ [])

@@ -1,5 +1,5 @@
 //! Worked archives that are the one archive of what they hold, by first fit.
-ghost use Rattle.cabinet_examples.specs.Canonical.{HashOfA, HashOfNothing, CanonicalNumber, CanonicalTruth, CanonicalNothing, CanonicalSomeNumber, CanonicalEmptyList, CanonicalLongText, CanonicalShortText, CanonicalSharedText, CanonicalEmptySharedText, CanonicalOrderedMap, CanonicalLeafOfFive, CanonicalTreeOfSix, CanonicalEmptyOrderedMap, CanonicalHashedMap, CanonicalNestedMaps, CanonicalKeptMap, CanonicalEmptyKeptMap};
+ghost use Rattle.cabinet_examples.specs.Canonical.{HashOfA, HashOfNothing, CanonicalNumber, CanonicalTruth, CanonicalNothing, CanonicalSomeNumber, CanonicalEmptyList, CanonicalLongText, CanonicalShortText, CanonicalSharedText, CanonicalEmptySharedText, CanonicalOrderedMap, CanonicalLeafOfFive, CanonicalTreeOfSix, CanonicalEmptyOrderedMap, CanonicalHashedMap, CanonicalTakenPlace, CanonicalNestedMaps, CanonicalKeptMap, CanonicalEmptyKeptMap};
 
 /// The hash of the text `a`.
 pub fn hash_of_a()
@@ -79,6 +79,11 @@ pub fn empty_ordered_map_is_canonical()
 /// A hashed map of one, whose key goes to the second place.
 pub fn hashed_map_of_one_is_canonical()
     ensures { CanonicalHashedMap }
+{}
+
+/// A hashed map of two, whose second key finds its first place taken.
+pub fn hashed_map_of_two_is_canonical()
+    ensures { CanonicalTakenPlace }
 {}
 
 /// A list in a hashed map in an ordered map.

@@ -1,6 +1,6 @@
 //! Worked archives that the layout accepts, and that are the one archive of no value: each differs from one that is
 //! by what it is named for.
-ghost use Rattle.cabinet_examples.specs.Spoilt.{MarkedPadding, MarkedSlot, MarkedBucket, OtherFiller, OtherControl, RoomForNothing, OffsetToNothing, GapBeforeRoot, GapBeforeBox, ByteBehindRoot, TextStandingTwice, LeafOnTheRight, LeafOfNone, OtherPlace};
+ghost use Rattle.cabinet_examples.specs.Spoilt.{MarkedPadding, MarkedSlot, MarkedBucket, OtherFiller, OtherControl, RoomForNothing, OffsetToNothing, GapBeforeRoot, GapBeforeBox, ByteBehindRoot, TextStandingTwice, LeafOnTheRight, LeafOfNone, OtherPlace, OtherKeptPlace, WrongTag, RoomToSpare};
 
 /// A byte of padding is not zero.
 pub fn padding_that_is_not_zero()
@@ -70,4 +70,19 @@ pub fn tree_higher_than_its_entries_need()
 /// The item of a table stands in another place than first fit gives its key.
 pub fn table_that_is_not_by_first_fit()
     ensures { OtherPlace }
+{}
+
+/// A map keeps the number of an entry in another place than first fit gives the key.
+pub fn kept_map_that_is_not_by_first_fit()
+    ensures { OtherKeptPlace }
+{}
+
+/// The tag of an item is not that of its key.
+pub fn tag_of_another_key()
+    ensures { WrongTag }
+{}
+
+/// A table has one place more than so many items need.
+pub fn capacity_greater_than_needed()
+    ensures { RoomToSpare }
 {}
