@@ -90,7 +90,7 @@ seen_test fit seen (entry k key_pos v value_pos) ps vs = Some tt
 seen_test fit seen (buckets target len cap it) ps vs = Some tt
 seen_test fit seen (place_at pos limit) ps vs = Some tt
 
--- of a part with these parts in it, which have these values
+-- whether what is open at a part is settled, where the parts in it have these values
 unfoldable pub settled_test : (fit : Fit) (bytes : List ℕ) (p : Part) (ps : List Part) (vs : Values) → Option (IsSettled fit bytes p ps vs)
 settled_test fit bytes p ps vs = seen_test fit (seen_bytes bytes p ps) p ps (seen_values p ps vs)
 

@@ -18,14 +18,17 @@ abbrev pub tested : (b : Bool) → Option (b ≡ true)
 tested true = Some refl
 tested false = None
 
+-- what follows from evidence, where there is some
 abbrev pub turned : {A B : Type 0} → (A → B) → Option A → Option B
 turned f None = None
 turned f (Some a) = Some (f a)
 
+-- a further test, by the evidence of the first
 abbrev pub carried : {A B : Type 0} → Option A → (A → Option B) → Option B
 carried None f = None
 carried (Some a) f = f a
 
+-- of both tests
 abbrev pub joint : {A B : Type 0} → Option A → Option B → Option (A × B)
 joint a b = carried a (λ x. turned (λ y. (x, y)) b)
 
@@ -55,6 +58,7 @@ from_test a b q false e = Some (λ h. let less = leb-false a b e in absurd (omeg
 abbrev pub from_on : {Q : Type 0} → (a b : ℕ) → Option Q → Option (a ≤ b → Q)
 from_on a b q = from_test a b q (nat_le a b) refl
 
+-- where a is zero
 abbrev pub zero_test : {Q : Type 0} → (a : ℕ) → Option Q → Option (a ≡ 0 → Q)
 zero_test zero q = turned (λ x h. x) q
 zero_test (suc a) q = Some (λ h. absurd (omega arith))
@@ -62,6 +66,7 @@ zero_test (suc a) q = Some (λ h. absurd (omega arith))
 pub one_more : (P : ℕ → Type 0) (n : ℕ) → ((i : ℕ) → i < n → P i) → P n → (i : ℕ) → i < suc n → P i
 one_more P n h l i less = ⊎_elim (h i) (λ g. subst P (let e : n ≡ i = omega arith in e) l) (cases_lt i n)
 
+-- of each number below n
 abbrev pub every : (P : ℕ → Type 0) → ((i : ℕ) → Option (P i)) → (n : ℕ) → Option ((i : ℕ) → i < n → P i)
 every P test zero = Some (λ i l. absurd (omega arith))
 every P test (suc n) = carried (every P test n) (λ h. turned (one_more P n h) (test n))
@@ -257,6 +262,6 @@ filled_test bytes (place_at pos limit) c = Some tt
 pub clean_by : (names : Names) (bytes : List ℕ) (p : Part) (c : Content) → content_of names bytes p ≡ c → PaddingIsZero bytes p c → IsFilled bytes p c → IsClean names bytes p
 clean_by names bytes p c e h f = record { padding = subst (PaddingIsZero bytes p) (sym e) h; filled = subst (IsFilled bytes p) (sym e) f }
 
--- of a part with a content
+-- whether a part with a content is clean
 unfoldable pub clean_test : (names : Names) (bytes : List ℕ) (p : Part) (c : Content) → content_of names bytes p ≡ c → Option (IsClean names bytes p)
 clean_test names bytes p c e = carried (padding_test bytes p c) (λ h. turned (clean_by names bytes p c e h) (filled_test bytes p c))
