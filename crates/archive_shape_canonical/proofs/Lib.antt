@@ -12,3 +12,7 @@ pub mod Editing
 pub mod Joining
 pub mod Everywhere
 pub mod Orders
+pub mod SameValue
+pub mod CleanTests
+pub mod ChoiceTests
+pub mod Evaluate

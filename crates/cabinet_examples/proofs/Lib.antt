@@ -3,3 +3,5 @@ pub mod Doubtful
 pub mod Boxes
 pub mod Refused
 pub mod Images
+pub mod Canonical
+pub mod Spoilt
