@@ -5,6 +5,8 @@ pub mod Steps
 pub mod Nodes
 pub mod Once
 pub mod Choosing
+pub mod Windows
+pub mod Cases
 pub mod One
 pub mod Kept
 pub mod Framing
