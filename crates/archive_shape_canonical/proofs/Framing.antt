@@ -6,12 +6,12 @@ use Rattle.archive_shape_layout.specs.Shape.{Shape, Pointee}
 use Rattle.archive_shape_layout.specs.Shape.Pointee.{sized, slice, str}
 use Rattle.archive_shape_layout.specs.Content.{choose, Names, Part, Item, Span, Label, content_of, shape_content, pointee_content, node_content, child_content, buckets_content, place_content}
 use Rattle.archive_shape_layout.specs.Content.Part.{at, behind, node, child, entry, buckets, place_at}
-use Rattle.archive_shape_layout.specs.Content.Content.{illegal, plain, claimed, counting}
-use Rattle.archive_shape_layout.specs.Laws.{AgreesOn, OwnAgrees, RegionsAgree}
+use Rattle.archive_shape_layout.specs.Content.Content.{illegal, claimed, counting}
+use Rattle.archive_shape_layout.specs.Laws.{OwnAgrees, RegionsAgree}
 use Rattle.archive_shape_layout.specs.Holds.{Region, region_of, Visit, OpenShared, Holds, HoldAll}
 use Rattle.archive_shape_layout.specs.Holds.Holds.{holds_plain, holds_claimed, holds_first, holds_later, holds_back}
 use Rattle.archive_shape_layout.specs.Holds.HoldAll.{holds_none, holds_more}
-use Rattle.archive_shape_layout.proofs.Framed.{AllOwn, own_more, Settled, is_plain, is_claimed, settled, stable_plain, stable_claimed, RegionsAgree-append}
+use Rattle.archive_shape_layout.proofs.Framed.{AllOwn, own_more, Settled, plain_own, claimed_own, settled, one_region, stable_plain, stable_claimed, RegionsAgree-append}
 use Rattle.archive_shape_canonical.specs.Seen.{seen_bytes_of, seen_bytes, first_seen_bytes, seen_values}
 use Rattle.archive_shape_canonical.specs.Sharing.{end_of_shared}
 use Rattle.archive_shape_canonical.specs.Settled.{Fit, SeenSettled, IsSettled}
@@ -53,16 +53,6 @@ module _ (bytes others : List ℕ) (names : Names) (fit : Fit) where
     pub ends : end_of_all all low ≡ end
     pub seen_bytes : first_seen_bytes bytes ps ≡ first_seen_bytes others ps
 
-  plain_own : {l : Label} {ps : List Part} → Settled bytes others (plain l ps) → AllOwn bytes others ps
-  plain_own (is_plain h) = h
-
-  claimed_own : {s : Span} {l : Label} {ps : List Part} → Settled bytes others (claimed s l ps) → AgreesOn bytes others s.start s.size → AllOwn bytes others ps
-  claimed_own (is_claimed h) = h
-
-  one_region : (s : Span) (level : ℕ) → RegionsAgree bytes others (region_of s level ∷ []) → AgreesOn bytes others s.start s.size
-  unfolding RegionsAgree
-  one_region s level h = h.0
-
   pub settled_still : (p : Part) (ps : List Part) (vs us : Values) → seen_bytes_of bytes p ≡ seen_bytes_of others p → first_seen_bytes bytes ps ≡ first_seen_bytes others ps → seen_values p ps us ≡ seen_values p ps vs
       → IsSettled fit bytes p ps vs → IsSettled fit others p ps us
   settled_still p ps vs us a b same h =
@@ -84,15 +74,15 @@ module _ (bytes others : List ℕ) (names : Names) (fit : Fit) where
         → (h : Holds names bytes level inside p v rs before after) → IsCanonical fit h low → low' ≡ low
         → SeenCanonicalIn level inside p v rs before after low' (end_of h low)
     framed low low' own regions (holds_plain {p = p} {l = l} {ps = ps} {vs = vs} e legal all m) n eq =
-        let parts = plain_own (subst (Settled bytes others) e (settled bytes others names p own)) in
+        let parts = plain_own bytes others (subst (Settled bytes others) e (settled bytes others names p own)) in
         let alike = stable_plain bytes others names p own e in
         let seen = plain_seen bytes others names p e in
         let d = framed_all low low' parts regions all n.2 eq in
         record { seen_bytes = seen; holds = holds_plain alike legal d.all m; canonical = (plain_stays bytes others names p e alike own n.0, settled_still p ps vs vs seen d.seen_bytes refl n.1, d.canonical); ends = d.ends }
     framed low low' own regions (holds_claimed {level = level} {p = p} {within = within} {s = s} {l = l} {ps = ps} {vs = vs} e legal all m r) n eq =
         let split = RegionsAgree-append bytes others within (region_of s level ∷ []) (subst (RegionsAgree bytes others) r regions) in
-        let here = one_region s level split.1 in
-        let parts = claimed_own (subst (Settled bytes others) e (settled bytes others names p own)) here in
+        let here = one_region bytes others s level split.1 in
+        let parts = claimed_own bytes others (subst (Settled bytes others) e (settled bytes others names p own)) here in
         let alike = stable_claimed bytes others names p own here e in
         let seen = span_seen bytes others names p e alike here in
         let d = framed_all low low' parts split.0 all n.2 eq in

@@ -78,10 +78,10 @@ module _ (bytes others : List ℕ) where
     is_claimed : {s : Span} {l : Label} {ps : List Part} → (AgreesOn bytes others s.start s.size → AllOwn ps) → Settled (claimed s l ps)
     is_counting : {cyclic : Bool} {t : ℕ} {p : Pointee} {len : ℕ} → Settled (counting cyclic t p len)
 
-  plain_own : {l : Label} {ps : List Part} → Settled (plain l ps) → AllOwn ps
+  pub plain_own : {l : Label} {ps : List Part} → Settled (plain l ps) → AllOwn ps
   plain_own (is_plain h) = h
 
-  claimed_own : {s : Span} {l : Label} {ps : List Part} → Settled (claimed s l ps) → AgreesOn bytes others s.start s.size → AllOwn ps
+  pub claimed_own : {s : Span} {l : Label} {ps : List Part} → Settled (claimed s l ps) → AgreesOn bytes others s.start s.size → AllOwn ps
   claimed_own (is_claimed h) = h
 
   -- the commonest contents
@@ -366,7 +366,7 @@ module _ (bytes others : List ℕ) where
       let rest = RegionsAgree-append rs qs h.1 in
       ((h.0, rest.0), rest.1)
 
-  one_region : (s : Span) (level : ℕ) → RegionsAgree bytes others (region_of s level ∷ []) → AgreesOn bytes others s.start s.size
+  pub one_region : (s : Span) (level : ℕ) → RegionsAgree bytes others (region_of s level ∷ []) → AgreesOn bytes others s.start s.size
   unfolding RegionsAgree
   one_region s level h = h.0
 

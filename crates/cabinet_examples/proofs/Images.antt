@@ -1,5 +1,5 @@
 -- The images are what is said: the law gives each document's, and computation its bytes.
-use Rattle.std.proofs.Common.{◌≡◌, ℕ, ◌+◌, ◌^◌, ◌<◌, ◌≤◌, pos, refl, subst, arith, lit<, lit≤, FitsSigned, w64, List, codes}
+use Rattle.std.proofs.Common.{◌≡◌, ℕ, ◌+◌, ◌^◌, ◌<◌, ◌≤◌, pos, refl, subst, lit<, lit≤, FitsSigned, w64, List, codes}
 use Rattle.cabinet_text.proofs.Utf8.{IsUtf8-word}
 use Rattle.cabinet_text.specs.Tree.{Tree, IsDocument}
 use Rattle.cabinet_layout.specs.Image.{Image}

@@ -3,5 +3,3 @@ pub mod Doubtful
 pub mod Boxes
 pub mod Refused
 pub mod Images
-pub mod Canonical
-pub mod Spoilt

@@ -1,12 +1,8 @@
 //! Worked archives: the definitions of the layout, run on bytes that are written out.
 //!
 //! Each function below has no body: it carries what one buffer holds at its root, with the regions that are claimed on
-//! the way, or that it holds nothing there. Those of `canonical_archives` say of which bytes these are the one archive,
-//! and those of `spoilt_archives` of which they are not.
+//! the way, or that it holds nothing there.
 #![tactic(auto)]
-
-pub mod canonical_archives;
-pub mod spoilt_archives;
 
 ghost use Rattle.cabinet_examples.specs.Sizes.{NodeSizes};
 ghost use Rattle.cabinet_examples.specs.Documents.{NumberAtTheRoot, TruthAtTheRoot, LongTextAtTheRoot, NothingAtTheRoot, SomeNumber, SixtyFourOptions, EmptyList, SharedTextTwice, EmptySharedTextTwice, OrderedMapOfTwo, OrderedMapOfSix, OrderedMapWithAnEmptyLeaf, HashedMapOfOne, ListInAMapInAMap, KeptMapOfTwo, EmptyKeptMap};

@@ -1,5 +1,0 @@
-use Rattle.cabinet_examples.proofs.Canonical.{canonical_truth}
-use Rattle.cabinet_examples.proofs.canonical_archives.truth_is_canonical.Goals as goal
-
-pub returns : goal.returns
-returns c = canonical_truth
