@@ -1,5 +1,6 @@
 -- First fit: where the items of tables and index maps go whose keys are texts, by the hashes of their keys.
-use Rattle.std.specs.Prelude.{ℕ, ◌+◌, ◌*◌, ◌/◌, ◌%◌, ◌^◌, Bool, true, false, ◌==◌, ◌&&◌, ◌||◌, not, cond, max, nat_lt, List, [], ◌∷◌, ◌++◌, map, Option, Some, None}
+use Rattle.std.specs.Prelude.{ℕ, ◌+◌, ◌*◌, ◌/◌, ◌%◌, ◌^◌, Bool, true, false, ◌==◌, ◌&&◌, ◌||◌, not, cond, max, nat_lt, List, [], ◌∷◌, ◌++◌, map}
+use Rattle.std.specs.Option.{unwrap_or}
 use Rattle.std.specs.List.{find, flat_map, list_any, range_with_len}
 use Rattle.archive_shape_layout.specs.Value.{Value, Values, count_values}
 use Rattle.archive_shape_layout.specs.Value.Value.{string, group}
@@ -53,15 +54,11 @@ map_capacity len = capacity_for len 7 8
 abbrev pub is_free : List ℕ → ℕ → Bool
 is_free taken p = not (list_any (λ q. q == p) taken)
 
-abbrev pub or_zero : Option ℕ → ℕ
-or_zero None = 0
-or_zero (Some n) = n
-
 -- each hash at the first place that its strides show and that none before it took
 abbrev pub fitted_from : ℕ → List ℕ → List ℕ → List ℕ
 fitted_from cap taken [] = []
 fitted_from cap taken (hash ∷ hashes) =
-    let place = or_zero (find (is_free taken) (places_for hash cap)) in place ∷ fitted_from cap (taken ++ place ∷ []) hashes
+    let place = unwrap_or (find (is_free taken) (places_for hash cap)) 0 in place ∷ fitted_from cap (taken ++ place ∷ []) hashes
 
 -- the top seven bits of a hash
 unfoldable pub hash_tag : ℕ → ℕ
