@@ -1,10 +1,12 @@
-//! Worked archives: which bytes are the one archive of what they hold, and which are not.
+//! Worked archives: which bytes are the one archive of what they hold, and which are not;
+//! and what some of them store in fields of a limited width.
 //!
 //! Each function has no body: it carries what is said of one buffer, whose bytes are written out.
 #![tactic(auto)]
 
 mod canonical_archives;
 mod spoilt_archives;
+mod stored_fields;
 
 pub use canonical_archives::{
     empty_kept_map_is_canonical, empty_list_is_canonical, empty_ordered_map_is_canonical,
@@ -23,3 +25,4 @@ pub use spoilt_archives::{
     table_that_is_not_by_first_fit, tag_of_another_key, tree_higher_than_its_entries_need,
     tree_that_is_not_filled_from_the_left, unused_slot_that_is_not_zero,
 };
+pub use stored_fields::{fields_of_a_shared_text, fields_of_a_text, fields_of_nested_maps};
