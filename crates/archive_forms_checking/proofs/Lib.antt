@@ -1,0 +1,6 @@
+mod Below
+mod Claimed
+mod Contents
+mod Ordered
+mod Tagged
+mod Targets
