@@ -92,11 +92,7 @@ impl<T: Portable, E: Portable> Portable for ArchivedResult<T, E> {
 
     const SIZE: usize = result_size(T::SIZE, T::ALIGN, E::SIZE, E::ALIGN);
 
-    const ALIGN: usize = if T::ALIGN < E::ALIGN {
-        E::ALIGN
-    } else {
-        T::ALIGN
-    };
+    const ALIGN: usize = greater(T::ALIGN, E::ALIGN);
 
     fn shape(alloc: Global) -> Result<Shape, AllocError> {
         let value = Box::new(alloc, T::shape(alloc)?)?;
