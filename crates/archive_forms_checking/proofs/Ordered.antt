@@ -4,7 +4,7 @@ use Rattle.archive_shape_layout.specs.Shape.{Shape, size_of}
 use Rattle.archive_shape_layout.specs.Value.Values.{no_values, more_values}
 use Rattle.archive_shape_layout.specs.Content.{Names, Part, elements}
 use Rattle.archive_shape_layout.specs.Content.Part.{at}
-use Rattle.archive_shape_layout.specs.Holds.{Region, Visit, OpenShared, Ascends, end_after}
+use Rattle.archive_shape_layout.specs.Holds.{Visit, OpenShared, Ascends, end_after}
 use Rattle.archive_shape_layout.specs.Holds.HoldAll.{holds_none, holds_more}
 use Rattle.archive_shape_layout.proofs.Ascent.{Ascends-append, end_after-append}
 use Rattle.archive_shape_checking.specs.Accepts.{NestsBelow}

@@ -1,4 +1,4 @@
-use Rattle.std.proofs.Common.{rules, arith, refl, ◌∙◌}
+use Rattle.std.proofs.Common.{rules, arith, Ok, Err, refl, ◌∙◌}
 use Rattle.archive_shape_layout.specs.Shape.Pointee.{sized}
 use Rattle.archive_shape_layout.specs.Content.Part.{at}
 use Rattle.archive_shape_checking.specs.Questions.{pointee_span}
@@ -35,7 +35,7 @@ returns-in_err-step-clause-exact g c names known =
     let push : Pushes _ (pointee_span c.args.target (sized g.T.Portable.shape) 1) c.in_ok-range.range _ = pushes _ _ (pointee_span c.args.target (sized g.T.Portable.shape) 1) c.in_ok-range.range c.SIZE-size.result c.ALIGN-align.result
     (c.SIZE-size.ensures ∙ g.met.T.Portable.sized) (c.ALIGN-align.ensures ∙ g.met.T.Portable.aligned) (omega arith)
     (c.in_ok-check_subtree_ptr.ensures.claimable refl) narrowed.0 narrowed.1 narrowed.2 in
-    let checks = c.requires.checks _ _ _ _ (pushed_within push _ c.requires.range) (pushed_fits push _ c.requires.range) c.in_err-step.ensures in
+    let checks = c.requires.checks _ _ _ (Err c.in_err-step.field-0.0) (pushed_within push _ c.requires.range) (pushed_fits push _ c.requires.range) c.in_err-step.ensures in
     fault_in_claim names c.args.bytes.now c.args.target (sized g.T.Portable.shape) 1 _ _ (sized_is names c.args.bytes.now c.args.target g.T.Portable.shape 1) push _ _ c.in_err-step.field-0.0 (search rules)
     (λ inside before records other. fault_here (checks.1 names known inside before records other))
 
@@ -46,7 +46,7 @@ returns-clause-exact g c names known =
     let push : Pushes _ (pointee_span c.args.target (sized g.T.Portable.shape) 1) c.in_ok-range.range _ = pushes _ _ (pointee_span c.args.target (sized g.T.Portable.shape) 1) c.in_ok-range.range c.SIZE-size.result c.ALIGN-align.result
     (c.SIZE-size.ensures ∙ g.met.T.Portable.sized) (c.ALIGN-align.ensures ∙ g.met.T.Portable.aligned) (omega arith)
     (c.in_ok-check_subtree_ptr.ensures.claimable refl) narrowed.0 narrowed.1 narrowed.2 in
-    let checks = c.requires.checks _ _ _ _ (pushed_within push _ c.requires.range) (pushed_fits push _ c.requires.range) c.in_ok-step.ensures in
+    let checks = c.requires.checks _ _ _ (Ok tt) (pushed_within push _ c.requires.range) (pushed_fits push _ c.requires.range) c.in_ok-step.ensures in
     let again = c.pop_subtree_range.ensures.last _ (last_push push _ checks.0) in
     claim_checked names c.args.bytes.now c.args.target (sized g.T.Portable.shape) 1 _ _ (sized_is names c.args.bytes.now c.args.target g.T.Portable.shape 1) push _ _ _ tt (makes_same names c.args.bytes.now (at c.args.target g.T.Portable.shape))
     (λ inside before records. one_checked names c.args.bytes.now inside before (checks.1 names known inside before records)) checks.0 again.0 again.1

@@ -1,4 +1,4 @@
-use Rattle.std.proofs.Common.{rules, arith, ◌≡◌, suc, ◌+◌, ◌-◌, ◌*◌, ◌<◌, ◌≤◌, length, refl, ◌∙◌, sym, ap, subst, ◌∷◌}
+use Rattle.std.proofs.Common.{rules, arith, ◌≡◌, suc, ◌+◌, ◌-◌, ◌*◌, ◌<◌, ◌≤◌, length, Ok, Err, refl, ◌∙◌, sym, ap, subst, ◌∷◌}
 use Rattle.archive_shape_layout.specs.Shape.{size_of}
 use Rattle.archive_shape_layout.specs.Content.{elements}
 use Rattle.archive_shape_layout.specs.Content.Part.{at}
@@ -27,7 +27,7 @@ returns-in_err-step-clause-exact g c names known =
     let held = c.loop-i.invariant in
     let next : c.args.len - c.loop-i.i ≡ suc (c.args.len - (c.loop-i.i + 1)) = omega (arith, c.loop-i-test.true) in
     let fits = element_fits _ _ _ _ _ next held.fits in
-    let checks = c.requires.checks _ _ _ _ (advances_within _ c.requires.range held.advances) fits.0 c.in_err-step.ensures in
+    let checks = c.requires.checks _ _ _ (Err c.in_err-step.field-0.0) (advances_within _ c.requires.range held.advances) fits.0 c.in_err-step.ensures in
     all_refused names c.args.bytes.now (elements c.args.pos c.args.len g.T.Portable.shape) _ _ _ c.in_err-step.field-0.0 (search rules)
     (λ inside before records other.
     let mid = held.left names known inside before records in
@@ -39,7 +39,7 @@ loop-i-preserved g c =
     let next : c.args.len - c.loop-i.i ≡ suc (c.args.len - (c.loop-i.i + 1)) = omega (arith, c.loop-i-test.true) in
     let fits = element_fits _ _ _ _ _ next held.fits in
     let size : c.SIZE-size.result ≡ size_of g.T.Portable.shape = omega (arith, c.SIZE-size.ensures, g.met.T.Portable.sized, fits.0) in
-    let checks = c.requires.checks _ _ _ _ (advances_within _ c.requires.range held.advances) fits.0 c.in_ok-step.ensures in
+    let checks = c.requires.checks _ _ _ (Ok tt) (advances_within _ c.requires.range held.advances) fits.0 c.in_ok-step.ensures in
     record {
       advances = advances_then held.advances checks.0;
       fits = subst (λ n. c.loop-i.at + n + (c.args.len - (c.loop-i.i + 1)) * size_of g.T.Portable.shape ≤ length c.args.bytes.now) (sym size) fits.1;

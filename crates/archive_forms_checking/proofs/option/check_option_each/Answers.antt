@@ -25,7 +25,7 @@ returns-in-1 g c =
     let align : c.ALIGN-offset.result ≡ align_of g.T.Portable.shape = c.ALIGN-offset.ensures ∙ g.met.T.Portable.aligned in
     let positive : 0 < c.ALIGN-offset.result = let some = g.met.T.Portable.aligns.0 in omega arith in
     let fits = option_fits g.T.Portable.shape c.ALIGN-offset.result align positive in
-    let checks = c.requires.checks _ _ _ _ c.requires.range (omega arith) c.step.ensures in
+    let checks = c.requires.checks _ _ _ c.step.result c.requires.range (omega arith) c.step.ensures in
     record {
       moves = checks.0;
       exact = λ names known. some_checked names c.args.bytes.now c.args.pos g.T.Portable.shape c.ALIGN-offset.result align positive _ _ _ c.in-1.is (checks.1 names known);

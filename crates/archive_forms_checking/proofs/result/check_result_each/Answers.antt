@@ -25,7 +25,7 @@ pub returns-in-0 : goal.returns-in-0
 returns-in-0 g c =
     let behind = payloads g.T.Portable.shape g.E.Portable.shape c.max-offset.result c.ALIGN-value_align.result c.ALIGN-error_align.result c.max-offset.ensures
     (c.ALIGN-value_align.ensures ∙ g.met.T.Portable.aligned) (c.ALIGN-error_align.ensures ∙ g.met.E.Portable.aligned) (omega (arith, c.ALIGN-value_align.ensures, g.met.T.Portable.aligns.0)) in
-    let checks = c.requires.checks_value _ _ _ _ c.requires.range (omega (arith, behind.value_fits)) c.value_step.ensures in
+    let checks = c.requires.checks_value _ _ _ c.value_step.result c.requires.range (omega (arith, behind.value_fits)) c.value_step.ensures in
     record {
       moves = checks.0;
       exact = λ names known_value known_error. ok_checked names c.args.bytes.now c.args.pos g.T.Portable.shape g.E.Portable.shape c.max-offset.result behind _ _ _ c.in-0.is (checks.1 names known_value);
@@ -35,7 +35,7 @@ pub returns-in-1 : goal.returns-in-1
 returns-in-1 g c =
     let behind = payloads g.T.Portable.shape g.E.Portable.shape c.max-offset.result c.ALIGN-value_align.result c.ALIGN-error_align.result c.max-offset.ensures
     (c.ALIGN-value_align.ensures ∙ g.met.T.Portable.aligned) (c.ALIGN-error_align.ensures ∙ g.met.E.Portable.aligned) (omega (arith, c.ALIGN-value_align.ensures, g.met.T.Portable.aligns.0)) in
-    let checks = c.requires.checks_error _ _ _ _ c.requires.range (omega (arith, behind.error_fits)) c.error_step.ensures in
+    let checks = c.requires.checks_error _ _ _ c.error_step.result c.requires.range (omega (arith, behind.error_fits)) c.error_step.ensures in
     record {
       moves = checks.0;
       exact = λ names known_value known_error. err_checked names c.args.bytes.now c.args.pos g.T.Portable.shape g.E.Portable.shape c.max-offset.result behind _ _ _ c.in-1.is (checks.1 names known_error);
