@@ -97,7 +97,7 @@ pub record Pushes (k : Kept) (s : Span) (r : PushedRange) (l : Kept) : Type 0 wh
   pub range : r ≡ record { pos = s.start; end = s.start + s.size; outer = k.end }
   pub narrowed : l ≡ pushed k (record { pos = s.start; end = s.start + s.size; outer = k.end })
 
--- as the context answers, where the size is that of the code
+-- by the answers of a context that was asked with a size that stops at `usize::MAX`
 pub pushes :
     (k l : Kept) (s : Span) (r : PushedRange) (size align : ℕ)
     → size ≡ min s.size (2 ^ 64 - 1)

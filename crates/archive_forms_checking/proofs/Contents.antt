@@ -1,30 +1,25 @@
 -- Pointers, by what their own bytes say.
-use Rattle.std.proofs.Common.{◌≡◌, ℕ, ◌-◌, ◌^◌, min, List, [], ◌∷◌, true, false, Option, Some, None, Err, Result, refl, sym, ap, subst, ◌∙◌}
+use Rattle.std.proofs.Common.{◌≡◌, ℕ, ◌-◌, ◌^◌, min, List, [], ◌∷◌, Option, Some, None, Err, Result, refl, sym, ap, subst, ◌∙◌}
 use Rattle.archive_shape_layout.specs.Bytes.{window, word_at, target_from}
 use Rattle.archive_shape_layout.specs.Shape.{Shape}
 use Rattle.archive_shape_layout.specs.Shape.Shape.{box, vector}
 use Rattle.archive_shape_layout.specs.Shape.Pointee.{sized, slice}
 use Rattle.archive_shape_layout.specs.Value.{Value}
 use Rattle.archive_shape_layout.specs.Value.Values.{no_values, more_values}
-use Rattle.archive_shape_layout.specs.Content.{Names, Content, content_of, made, following, elements, shape_content, pointee_content}
+use Rattle.archive_shape_layout.specs.Content.{Names, content_of, made, elements, shape_content, pointee_content}
 use Rattle.archive_shape_layout.specs.Content.Part.{at, behind}
 use Rattle.archive_shape_layout.specs.Content.Label.{same, whole}
 use Rattle.archive_shape_layout.specs.Content.Content.{plain, claimed}
-use Rattle.archive_shape_checking.specs.Questions.{FirstUnanswered, questions_of, pointee_span, leads, is_some}
+use Rattle.archive_shape_checking.specs.Questions.{FirstUnanswered, questions_of, pointee_span, leads}
 use Rattle.archive_shape_checking.specs.Questions.FirstUnanswered.{unanswered_here}
 use Rattle.archive_shape_checking.specs.PartFault.PartFault.{fault_unanswered}
 use Rattle.archive_shape_checking.specs.Kept.{Kept, range_of}
 use Rattle.archive_shape_checking.specs.Checks.{Checks}
 use Rattle.archive_shape_writing.specs.declared.error.Error.{Error}
 use Rattle.archive_shape_writing.specs.declared.error.Error.TheVariants.{InvalidSubtreePointer}
-use Rattle.archive_forms_checking.proofs.Below.{below_checked}
-
-followed : (o : Option ℕ) (t : ℕ) (f : ℕ → Content) → o ≡ Some t → following o f ≡ f t
-unfolding following
-followed o t f e = rw e refl
-
-leads_nowhere : (o : Option ℕ) → o ≡ None → is_some o ≡ true → ⊥
-leads_nowhere o e h = let none : is_some o ≡ false = rw e refl in cc
+use Rattle.archive_shape_checking.proofs.Below.{below_checked}
+use Rattle.archive_shape_checking.proofs.Questions.{leads_nowhere}
+use Rattle.archive_forms_layout.proofs.TextContent.{followed}
 
 made_same : (v : Value) → (w : Value) × (made same (more_values v no_values) ≡ Some w)
 unfolding made

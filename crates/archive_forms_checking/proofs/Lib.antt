@@ -1,4 +1,3 @@
-mod Below
 mod Claimed
 mod Contents
 mod Ordered

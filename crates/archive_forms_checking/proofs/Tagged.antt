@@ -22,7 +22,7 @@ use Rattle.archive_shape_writing.specs.declared.error.Error.{Error}
 use Rattle.archive_shape_writing.specs.declared.error.Error.TheVariants.{InvalidTag}
 use Rattle.archive_shape_checking.proofs.Leaves.{alone_checked}
 use Rattle.archive_forms_layout.proofs.Sizes.{behind_tag}
-use Rattle.archive_forms_checking.proofs.Below.{below_checked}
+use Rattle.archive_shape_checking.proofs.Below.{below_checked}
 
 own_tag : (bytes : List ℕ) (pos size : ℕ) → 0 < size → slice_index (window bytes pos size) 0 ≡ slice_index bytes pos
 own_tag bytes pos size some = get_or-take size (drop pos bytes) 0 0 some ∙ get_or-drop pos bytes 0 0 ∙ ap (slice_index bytes) (add-zero pos)

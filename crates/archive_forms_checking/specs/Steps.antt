@@ -9,7 +9,7 @@ use Rattle.archive_shape_checking.specs.Kept.{Kept, IsWithin}
 use Rattle.archive_shape_checking.specs.Checks.{Checks, Moves}
 use Rattle.archive_shape_writing.specs.declared.error.Error.{Error}
 
--- a range that an element is checked in, where the form claims at least so many bytes
+-- a range that an element is checked in, where the form claims at least `claimed` bytes
 pub record Narrower (outer inner : Kept) (claimed : ℕ) : Type 0 where
   pub begins : outer.start ≤ inner.start
   pub ends : inner.end + claimed ≤ outer.end

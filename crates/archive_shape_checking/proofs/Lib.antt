@@ -1,3 +1,4 @@
+pub mod Below
 pub mod ByContent
 pub mod Claims
 pub mod Inverted

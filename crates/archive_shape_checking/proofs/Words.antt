@@ -1,5 +1,5 @@
 -- Words of four bytes, and where they lead as offsets.
-use Rattle.std.proofs.Common.{◌≡◌, ℕ, suc, ℤ, pos, negsuc, ◌+ℤ◌, ◌+◌, ◌-◌, ◌≤◌, ◌<◌, ◌^◌, List, [], ◌∷◌, slice_index, Option, Some, None, MatchOption, refl, sym, ap, ◌∙◌, arith, add-zero, get_or-drop, Fits, w8, unsigned_abs}
+use Rattle.std.proofs.Common.{◌≡◌, ℕ, suc, ℤ, pos, negsuc, ◌+ℤ◌, ◌+◌, ◌-◌, ◌≤◌, ◌<◌, ◌^◌, List, [], ◌∷◌, slice_index, Option, Some, None, sym, ap, ◌∙◌, arith, add-zero, get_or-drop, Fits, w8, unsigned_abs}
 use Rattle.std.proofs.lemmas.Bool.Decides.{nat_tests}
 use Rattle.std.proofs.lemmas.Int.{ints}
 use Rattle.std.proofs.Math.Facts.{to_z-neg}
