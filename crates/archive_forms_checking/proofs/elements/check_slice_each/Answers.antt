@@ -31,7 +31,7 @@ returns-in_err-step-clause-exact g c names known =
     all_refused names c.args.bytes.now (elements c.args.pos c.args.len g.T.Portable.shape) _ _ _ c.in_err-step.field-0.0 (search rules)
     (λ inside before records other.
     let mid = held.left names known inside before records in
-    first_fault names c.args.bytes.now inside before _ _ mid.2 (elements_next _ _ _ _ next) (checks.1 names known inside mid.0 mid.1 other))
+    first_fault names c.args.bytes.now inside before (elements c.args.pos c.args.len g.T.Portable.shape) (g.C.ArchiveContext.kept c.args.context.now) mid.2 (elements_next _ _ _ _ next) (checks.1 names known inside mid.0 mid.1 other))
 
 pub loop-i-preserved : goal.loop-i-preserved
 loop-i-preserved g c =
@@ -48,7 +48,7 @@ loop-i-preserved g c =
           let here = checks.1 names known inside mid.0 mid.1 in (
             here.passes.after,
             checked_records names c.args.bytes.now inside mid.0 here,
-            one_less names c.args.bytes.now inside before _ _ mid.2 (elements_next _ _ _ _ next ∙ ap (λ n. at c.loop-i.at g.T.Portable.shape ∷ elements (c.loop-i.at + n) (c.args.len - (c.loop-i.i + 1)) g.T.Portable.shape) (sym size)) here,
+            one_less names c.args.bytes.now inside before (elements c.args.pos c.args.len g.T.Portable.shape) (g.C.ArchiveContext.kept c.args.context.now) mid.2 (elements_next _ _ _ _ next ∙ ap (λ n. at c.loop-i.at g.T.Portable.shape ∷ elements (c.loop-i.at + n) (c.args.len - (c.loop-i.i + 1)) g.T.Portable.shape) (sym size)) here,
           );
     }
 
@@ -56,4 +56,4 @@ pub returns-clause-exact : goal.returns-clause-exact
 returns-clause-exact g c names known inside before records =
     let none : c.args.len - c.loop-i.i ≡ 0 = omega (arith, c.loop-i.auto.i-end, c.loop-i-test.false) in
     let mid = c.loop-i.invariant.left names known inside before records in
-    none_left names c.args.bytes.now inside before _ _ mid.2 (elements_none _ _ _ none) mid.1
+    none_left names c.args.bytes.now inside before (elements c.args.pos c.args.len g.T.Portable.shape) (g.C.ArchiveContext.kept c.args.context.now) mid.2 (elements_none _ _ _ none) mid.1
