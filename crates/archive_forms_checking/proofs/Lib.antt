@@ -1,5 +1,5 @@
-mod Claimed
-mod Contents
-mod Ordered
-mod Tagged
-mod Targets
+pub mod Claimed
+pub mod Contents
+pub mod Ordered
+pub mod Tagged
+pub mod Targets
