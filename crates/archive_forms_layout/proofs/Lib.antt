@@ -1,3 +1,4 @@
 pub mod Held
 pub mod Once
+pub mod Sizes
 pub mod TextContent

@@ -31,7 +31,7 @@ unfolding choose
 chosen_no true x y n = absurd (n refl)
 chosen_no false x y n = refl
 
-followed : (o : Option ℕ) (t : ℕ) (f : ℕ → Content) → o ≡ Some t → following o f ≡ f t
+pub followed : (o : Option ℕ) (t : ℕ) (f : ℕ → Content) → o ≡ Some t → following o f ≡ f t
 unfolding following
 followed o t f e = rw e refl
 

@@ -2,5 +2,4 @@
 mod checked;
 mod checks;
 mod keys;
-mod narrow_context;
 mod reading;

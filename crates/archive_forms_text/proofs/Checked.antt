@@ -1,5 +1,5 @@
 -- The check of a text, by its own bytes.
-use Rattle.std.proofs.Common.{◌≡◌, ℕ, ◌<◌, ◌≤◌, ◌^◌, Bool, true, false, cond, List, [], ◌∷◌, slice_index, Option, Some, None, Result, Ok, Err, IsUtf8, refl, sym, ap, arith, append-nil}
+use Rattle.std.proofs.Common.{◌≡◌, ℕ, ◌<◌, ◌≤◌, ◌^◌, Bool, true, false, cond, List, [], ◌∷◌, slice_index, Some, None, Result, Ok, Err, IsUtf8, refl, ap, arith}
 use Rattle.std.proofs.lemmas.Bool.{ltb-true}
 use Rattle.archive_shape_layout.specs.Bytes.{word_at, target_from}
 use Rattle.archive_shape_layout.specs.Shape.Shape.{text}
@@ -9,19 +9,18 @@ use Rattle.archive_shape_layout.specs.Content.{Names, content_of, made, IsInline
 use Rattle.archive_shape_layout.specs.Content.Part.{at, behind}
 use Rattle.archive_shape_layout.specs.Content.Label.{written, same}
 use Rattle.archive_shape_layout.specs.Content.Content.{plain}
-use Rattle.archive_shape_layout.specs.Holds.Holds.{holds_plain}
-use Rattle.archive_shape_layout.specs.Holds.HoldAll.{holds_none, holds_more}
 use Rattle.archive_shape_checking.specs.Range.{Range}
-use Rattle.archive_shape_checking.specs.Questions.{Question, AreAnswered, FirstUnanswered, questions_of, is_some, out_of_range}
+use Rattle.archive_shape_checking.specs.Questions.{Question, AreAnswered, FirstUnanswered, out_of_range}
 use Rattle.archive_shape_checking.specs.Questions.FirstUnanswered.{unanswered_here, unanswered_later}
-use Rattle.archive_shape_checking.specs.PartFault.PartFault.{fault_unanswered, fault_plain, fault_text}
-use Rattle.archive_shape_checking.specs.PartFault.PartsFault.{fault_here}
+use Rattle.archive_shape_checking.specs.PartFault.PartFault.{fault_unanswered, fault_text}
 use Rattle.archive_shape_checking.specs.Kept.{Kept}
 use Rattle.archive_shape_checking.specs.Checks.{Checks}
 use Rattle.archive_shape_writing.specs.declared.error.Error.{Error}
 use Rattle.archive_shape_writing.specs.declared.error.Error.TheVariants.{CheckStringRepr, InvalidSubtreePointer, InvalidUtf8}
 use Rattle.archive_shape_checking.proofs.Leaves.{alone_checked}
 use Rattle.archive_forms_layout.proofs.TextContent.{first_is, first_is_not, len_is, target_is, is_long, inline_is, far_is}
+use Rattle.archive_shape_checking.proofs.Below.{below_checked}
+use Rattle.archive_shape_checking.proofs.Questions.{leads_nowhere}
 use Rattle.archive_forms_layout.specs.Text.{own_bytes}
 
 -- ---- by a test
@@ -29,19 +28,9 @@ use Rattle.archive_forms_layout.specs.Text.{own_bytes}
 answered_yes : (k : Range) (b : Bool) (qs : List Question) → b ≡ true → AreAnswered k (cond b [] qs)
 answered_yes k b qs e = rw e tt
 
-answered_no : (k : Range) (b : Bool) (qs : List Question) → (b ≡ true → ⊥) → AreAnswered k qs → AreAnswered k (cond b [] qs)
-answered_no k true qs n h = absurd (n refl)
-answered_no k false qs n h = h
-
 unanswered_no : (k : Range) (e : Error) (b : Bool) (qs : List Question) → (b ≡ true → ⊥) → FirstUnanswered k e qs → FirstUnanswered k e (cond b [] qs)
 unanswered_no k e true qs n h = absurd (n refl)
 unanswered_no k e false qs n h = h
-
-leads_nowhere : (o : Option ℕ) → o ≡ None → is_some o ≡ true → ⊥
-leads_nowhere o e h = let none : is_some o ≡ false = rw e refl in cc
-
-leads_there : (o : Option ℕ) (t : ℕ) → o ≡ Some t → is_some o ≡ true
-leads_there o t e = rw e refl
 
 -- ---- texts
 
@@ -82,29 +71,6 @@ module _ (names : Names) (bytes : List ℕ) (pos : ℕ) (own : List ℕ) (is : o
       far_content : content_of names bytes (at pos text) ≡ plain same (behind start str len ∷ [])
       far_content = far_is names bytes pos own is begins len says long start leads
 
-      far_answered : (k : Range) → AreAnswered k (questions_of names bytes (at pos text))
-      far_answered k =
-          answered_no k _ _ elsewhere
-          (is_long names bytes pos own is len says long, (leads_there _ start (target_is names bytes pos own is (Some start) leads), tt))
-
       pub far_checked : (kept after : Kept) (r : Result (Unit {0}) Error) → Checks names bytes (behind start str len) kept r after → Checks names bytes (at pos text) kept r after
       unfolding made
-      far_checked kept after (Ok x) h inside before records =
-          let own_check = h inside before records in
-          let held = own_check.passes.accepts in
-          record {
-            passes = record {
-              value = own_check.passes.value;
-              regions = own_check.passes.regions;
-              after = own_check.passes.after;
-              accepts = record {
-                holds = holds_plain far_content tt (holds_more held.holds (holds_none refl refl refl) refl (sym (append-nil own_check.passes.regions))) refl;
-                ascends = held.ascends;
-                nests = held.nests;
-              };
-            };
-            seen = own_check.seen;
-            moves = own_check.moves;
-            records = own_check.records;
-          }
-      far_checked kept after (Err e) h inside before records = λ other. fault_plain (far_answered _) far_content (fault_here (h inside before records other))
+      far_checked kept after r h = below_checked names bytes pos text same (behind start str len) kept after r far_content tt (λ v. (v, refl)) h

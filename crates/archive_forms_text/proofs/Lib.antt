@@ -1,4 +1,4 @@
 pub mod Checked
 pub mod Claims
+pub mod Lengths
 pub mod Placed
-pub mod Words

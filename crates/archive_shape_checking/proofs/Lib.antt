@@ -1,4 +1,6 @@
+pub mod Below
 pub mod ByContent
+pub mod Claims
 pub mod Inverted
 pub mod Leaves
 pub mod Levels
@@ -9,3 +11,4 @@ pub mod Ranges
 pub mod Refused
 pub mod Shared
 pub mod Texts
+pub mod Words

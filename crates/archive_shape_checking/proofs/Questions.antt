@@ -27,6 +27,10 @@ unfolding following
 followed_known None f h = absurd h
 followed_known (Some t) f h = (t, refl, h)
 
+-- an offset that leads before position 0
+pub leads_nowhere : (o : Option ℕ) → o ≡ None → is_some o ≡ true → ⊥
+leads_nowhere o e h = let none : is_some o ≡ false = rw e refl in cc
+
 leads_to : (o : Option ℕ) (f : ℕ → Content) → IsKnown (following o f) → is_some o ≡ true
 unfolding following
 leads_to None f h = absurd h

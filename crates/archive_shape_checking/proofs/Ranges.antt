@@ -4,6 +4,12 @@ use Rattle.archive_shape_layout.specs.Holds.{Region, Ascends, Follows, end_after
 use Rattle.archive_shape_layout.proofs.Ascent.{Ascends-append, end_after-grows}
 use Rattle.archive_shape_checking.specs.Accepts.{NestsBelow}
 
+-- two lists one after the other
+pub NestsBelow-append : (most : ℕ) (xs ys : List Region) → NestsBelow most xs → NestsBelow most ys → NestsBelow most (xs ++ ys)
+unfolding NestsBelow
+NestsBelow-append most [] ys h i = i
+NestsBelow-append most (r ∷ xs) ys h i = (h.0, NestsBelow-append most xs ys h.1 i)
+
 -- the parts of two lists one after the other
 pub NestsBelow-split : (most : ℕ) (xs ys : List Region) → NestsBelow most (xs ++ ys) → NestsBelow most xs × NestsBelow most ys
 unfolding NestsBelow

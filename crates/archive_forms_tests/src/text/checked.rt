@@ -2,7 +2,7 @@
 ghost use Rattle.std.specs.Prelude.{◌+◌, ◌≤◌, length, IfOk};
 ghost use Rattle.archive_forms_layout.specs.Text.{HasText};
 
-use super::narrow_context::NarrowContext;
+use crate::narrow_context::NarrowContext;
 use archive_forms_text::ArchivedString;
 use archive_shape::{CheckBytes, Error, Ref};
 use std::alloc::Global;

@@ -1,7 +1,7 @@
 //! Tests of the check of texts.
 ghost use Rattle.std.specs.Prelude.{◌+◌, ◌≤◌, length};
 
-use super::narrow_context::NarrowContext;
+use crate::narrow_context::NarrowContext;
 use archive_forms_text::ArchivedString;
 use archive_shape::{ArchiveContext, CheckBytes, Error};
 use std::alloc::Global;

@@ -2,7 +2,8 @@ use Rattle.std.proofs.Common.{rules, arith, ◌≡◌, ◌+◌, ◌-◌, take, d
 use Rattle.archive_shape_layout.specs.Shape.Pointee.{str}
 use Rattle.archive_shape_checking.specs.Questions.{pointee_span}
 use Rattle.archive_shape_checking.specs.Kept.{Kept}
-use Rattle.archive_forms_text.proofs.Claims.{place_unanswered, depth_unanswered, pushed_popped, behind_unclaimed, behind_illegal, behind_passes}
+use Rattle.archive_shape_checking.proofs.Claims.{place_unanswered, depth_unanswered, pushed_popped}
+use Rattle.archive_forms_text.proofs.Claims.{behind_unclaimed, behind_illegal, behind_passes}
 use Rattle.archive_forms_text.proofs.check.check_behind.Goals as goal
 
 pub returns-in_err-check_subtree_ptr-clause-exact : goal.returns-in_err-check_subtree_ptr-clause-exact

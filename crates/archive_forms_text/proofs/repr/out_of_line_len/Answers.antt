@@ -1,7 +1,7 @@
 use Rattle.std.proofs.Common.{◌≡◌, ap, ◌∙◌, sym}
 use Rattle.archive_shape_layout.specs.Bytes.{word_at}
 use Rattle.archive_shape_layout.specs.Content.{text_length}
-use Rattle.archive_forms_text.proofs.Words.{word_of_bytes}
+use Rattle.archive_shape_checking.proofs.Words.{word_of_bytes}
 use Rattle.archive_forms_text.proofs.repr.out_of_line_len.Goals as goal
 
 pub returns-clause-length : goal.returns-clause-length

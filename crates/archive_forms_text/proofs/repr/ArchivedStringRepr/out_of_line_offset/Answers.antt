@@ -1,7 +1,7 @@
 use Rattle.std.proofs.Common.{rules, arith, ◌≡◌, SFits, to_z, of_z, ap, ◌∙◌, sym}
 use Rattle.std.proofs.lemmas.Int.{ints}
 use Rattle.std.specs.Int.{w32, w64, cast_signed}
-use Rattle.archive_forms_text.proofs.Words.{word_of_bytes}
+use Rattle.archive_shape_checking.proofs.Words.{word_of_bytes}
 use Rattle.archive_forms_text.proofs.repr.ArchivedStringRepr.out_of_line_offset.Goals as goal
 
 pub returns : goal.returns

@@ -1,0 +1,5 @@
+pub mod Claimed
+pub mod Contents
+pub mod Ordered
+pub mod Tagged
+pub mod Targets

@@ -1,0 +1,113 @@
+//! Boxes.
+ghost use Rattle.std.specs.Prelude.{ℕ, ◌+◌, ◌≤◌, length};
+ghost use Rattle.std.proofs.Common.{refl, lit<, lit≤};
+ghost use Rattle.archive_shape_layout.specs.Shape.Shape.{box};
+ghost use Rattle.archive_shape_layout.specs.Shape.Pointee.{sized};
+ghost use Rattle.archive_shape_layout.specs.Content.{Names};
+ghost use Rattle.archive_shape_layout.specs.Content.Part.{at, behind};
+ghost use Rattle.archive_shape_checking.specs.Kept.{IsWithin};
+ghost use Rattle.archive_shape_checking.specs.Checks.{Checks, Moves};
+ghost use Rattle.archive_forms_checking.specs.Steps.{StepTakes, StepChecks};
+
+use archive_shape_checking::{ArchiveContext, CheckBytes, Error};
+use archive_shape_pointers::RawRelPtrI32;
+use archive_shape_portable::{Pointee, Portable, Shape};
+use archive_shape_references::Ref;
+use std::alloc::{AllocError, Global};
+use std::marker::PhantomData;
+
+/// Claims the bytes of the value at `target`, and checks it by a step.
+fn check_behind_each<T: Portable, C: ArchiveContext, F: Fn(&mut C, usize) -> Result<(), Error>>(
+    bytes: &[u8],
+    target: usize,
+    context: &mut C,
+    step: F,
+) -> Result<(), Error>
+    requires range { IsWithin (C.kept context.old) (length bytes.now) }
+    requires takes { StepTakes F.Fn C.kept bytes.now T.shape step (C.kept context.old) T.SIZE }
+    requires checks { StepChecks F.Fn C.kept bytes.now T.shape step T.knows }
+    ensures moves { Moves (C.kept context.old) result (C.kept context.new) }
+    ensures exact { (names : Names) → T.knows names
+        → Checks names bytes.now (behind target (sized T.shape) 1) (C.kept context.old) result (C.kept context.new) }
+{
+    let _len = bytes.len();
+    let size = T::SIZE;
+    let align = T::ALIGN;
+    context.check_subtree_ptr(target, size, align)?;
+    let range = context.push_subtree_range(target, target + size)?;
+    step(context, target)?;
+    context.pop_subtree_range(range)
+}
+
+/// Checks the box of four bytes at `pos`: an offset to the value, counted from `pos` in bytes. The value's bytes are claimed,
+/// and what the step's check claims lies before them.
+///
+/// Refuses a value outside the range with `InvalidSubtreePointer` and its size, also where the offset leads before the first
+/// byte; then `Unaligned`, `ExceededMaximumSubtreeDepth`, and what the step refuses. `OutOfMemory` is the context's or the
+/// step's.
+pub fn check_box_each<T: Portable, C: ArchiveContext, F: Fn(&mut C, usize) -> Result<(), Error>>(
+    bytes: &[u8],
+    pos: usize,
+    context: &mut C,
+    step: F,
+) -> Result<(), Error>
+    requires fits { pos + 4 ≤ length bytes.now }
+    requires range { IsWithin (C.kept context.old) (length bytes.now) }
+    requires takes { StepTakes F.Fn C.kept bytes.now T.shape step (C.kept context.old) T.SIZE }
+    requires checks { StepChecks F.Fn C.kept bytes.now T.shape step T.knows }
+    ensures moves { Moves (C.kept context.old) result (C.kept context.new) }
+    ensures exact { (names : Names) → T.knows names
+        → Checks names bytes.now (at pos (box (sized T.shape))) (C.kept context.old) result (C.kept context.new) }
+{
+    let _len = bytes.len();
+    let size = T::SIZE;
+    let Some(target) = RawRelPtrI32::target(Ref::new(bytes, pos)) else {
+        return Err(Error::InvalidSubtreePointer { size });
+    };
+    check_behind_each::<T, C, F>(bytes, target, context, step)
+}
+
+/// An archived box: an offset of four bytes that leads to the value.
+#[derive_where(Clone, Copy)]
+pub struct ArchivedBox<T> {
+    pub of: PhantomData<T>,
+}
+
+impl<T: Portable> Portable for ArchivedBox<T> {
+    ghost SIZE = { 4 };
+
+    ghost ALIGN = { 4 };
+
+    ghost shape = { box (sized T.shape) };
+
+    ghost knows = { T.knows };
+
+    ghost named = { T.named };
+
+    const SIZE: usize = 4;
+
+    const ALIGN: usize = 4;
+
+    fn shape(alloc: Global) -> Result<Shape, AllocError> {
+        Ok(Shape::Boxed(Pointee::Sized(Box::new(alloc, T::shape(alloc)?)?)))
+    }
+
+    ghost sized = { refl };
+
+    ghost aligned = { refl };
+
+    ghost aligns = { (lit< tt, lit≤ tt) };
+
+    ghost known = { T.known };
+}
+
+impl<C: ArchiveContext, T: CheckBytes<C>> CheckBytes<C> for ArchivedBox<T> {
+    fn check(alloc: Global, bytes: &[u8], pos: usize, context: &mut C) -> Result<(), Error> {
+        check_box_each::<T, C, _>(
+            bytes,
+            pos,
+            context,
+            |c: &mut C, p: usize| T::check(alloc, bytes, p, c),
+        )
+    }
+}

@@ -1,0 +1,16 @@
+//! Checks of archived forms that have elements, each by a step for its elements.
+//!
+//! A step is a closure that checks one element at a position. What it has to promise is in specs/Steps.
+#![tactic(auto)]
+
+mod boxed;
+mod elements;
+mod option;
+mod result;
+mod vector;
+
+pub use boxed::{ArchivedBox, check_box_each};
+pub use elements::check_slice_each;
+pub use option::{ArchivedOption, check_option_each};
+pub use result::{ArchivedResult, check_result_each};
+pub use vector::{ArchivedVec, check_vec_each};

@@ -1,0 +1,120 @@
+//! Vectors.
+ghost use Rattle.std.specs.Prelude.{◌≡◌, ℕ, ◌+◌, ◌-◌, ◌*◌, ◌^◌, ◌≤◌, min, length};
+ghost use Rattle.std.proofs.Common.{refl, lit<, lit≤};
+ghost use Rattle.archive_shape_layout.specs.Shape.{size_of};
+ghost use Rattle.archive_shape_layout.specs.Shape.Shape.{vector};
+ghost use Rattle.archive_shape_layout.specs.Shape.Pointee.{slice};
+ghost use Rattle.archive_shape_layout.specs.Content.{Names};
+ghost use Rattle.archive_shape_layout.specs.Content.Part.{at, behind};
+ghost use Rattle.archive_shape_checking.specs.Kept.{IsWithin};
+ghost use Rattle.archive_shape_checking.specs.Checks.{Checks, Moves};
+ghost use Rattle.archive_forms_checking.specs.Steps.{StepTakes, StepChecks};
+
+use crate::elements::check_slice_each;
+use archive_shape_checking::{ArchiveContext, CheckBytes, Error};
+use archive_shape_pointers::RelPtr;
+use archive_shape_portable::{ArchivedIsize, Portable, Shape};
+use archive_shape_references::{Ref, Slice};
+use std::alloc::{AllocError, Global};
+use std::marker::PhantomData;
+
+/// Claims `len` elements at `target`, which have `size` bytes together, and checks them by a step for each.
+fn check_elements_behind<T: Portable, C: ArchiveContext, F: Fn(&mut C, usize) -> Result<(), Error>>(
+    bytes: &[u8],
+    target: usize,
+    len: usize,
+    size: usize,
+    context: &mut C,
+    step: F,
+) -> Result<(), Error>
+    requires bytes_of_all { size ≡ min (len * size_of T.shape) (2 ^ 64 - 1) }
+    requires range { IsWithin (C.kept context.old) (length bytes.now) }
+    requires takes { StepTakes F.Fn C.kept bytes.now T.shape step (C.kept context.old) T.SIZE }
+    requires checks { StepChecks F.Fn C.kept bytes.now T.shape step T.knows }
+    ensures moves { Moves (C.kept context.old) result (C.kept context.new) }
+    ensures exact { (names : Names) → T.knows names
+        → Checks names bytes.now (behind target (slice T.shape) len) (C.kept context.old) result (C.kept context.new) }
+{
+    let _len = bytes.len();
+    let align = T::ALIGN;
+    context.check_subtree_ptr(target, size, align)?;
+    let range = context.push_subtree_range(target, target + size)?;
+    check_slice_each::<T, C, F>(bytes, target, len, context, step)?;
+    context.pop_subtree_range(range)
+}
+
+/// Checks the vector of eight bytes at `pos`: an offset to the elements, counted from `pos` in bytes, and how many elements
+/// there are. Their bytes are claimed together, and what the step's checks claim lies before them.
+///
+/// Refuses elements outside the range with `InvalidSubtreePointer` and their size in bytes, which stops at `usize::MAX`, also
+/// where the offset leads before the first byte; then `Unaligned`, `ExceededMaximumSubtreeDepth`, and what the step first
+/// refuses. `OutOfMemory` is the context's or the step's.
+pub fn check_vec_each<T: Portable, C: ArchiveContext, F: Fn(&mut C, usize) -> Result<(), Error>>(
+    bytes: &[u8],
+    pos: usize,
+    context: &mut C,
+    step: F,
+) -> Result<(), Error>
+    requires fits { pos + 8 ≤ length bytes.now }
+    requires range { IsWithin (C.kept context.old) (length bytes.now) }
+    requires takes { StepTakes F.Fn C.kept bytes.now T.shape step (C.kept context.old) T.SIZE }
+    requires checks { StepChecks F.Fn C.kept bytes.now T.shape step T.knows }
+    ensures moves { Moves (C.kept context.old) result (C.kept context.new) }
+    ensures exact { (names : Names) → T.knows names
+        → Checks names bytes.now (at pos (vector T.shape)) (C.kept context.old) result (C.kept context.new) }
+{
+    let _len = bytes.len();
+    let pointer = Ref::<RelPtr<Slice<T>, ArchivedIsize>>::new(bytes, pos);
+    let len = RelPtr::metadata(pointer);
+    let element = T::SIZE;
+    let size = len.saturating_mul(element);
+    let Some(target) = RelPtr::target(pointer) else {
+        return Err(Error::InvalidSubtreePointer { size });
+    };
+    check_elements_behind::<T, C, F>(bytes, target, len, size, context, step)
+}
+
+/// An archived vector: an offset of four bytes that leads to the elements, and four bytes with their number.
+#[derive_where(Clone, Copy)]
+pub struct ArchivedVec<T> {
+    pub of: PhantomData<T>,
+}
+
+impl<T: Portable> Portable for ArchivedVec<T> {
+    ghost SIZE = { 8 };
+
+    ghost ALIGN = { 4 };
+
+    ghost shape = { vector T.shape };
+
+    ghost knows = { T.knows };
+
+    ghost named = { T.named };
+
+    const SIZE: usize = 8;
+
+    const ALIGN: usize = 4;
+
+    fn shape(alloc: Global) -> Result<Shape, AllocError> {
+        Ok(Shape::Vector(Box::new(alloc, T::shape(alloc)?)?))
+    }
+
+    ghost sized = { refl };
+
+    ghost aligned = { refl };
+
+    ghost aligns = { (lit< tt, lit≤ tt) };
+
+    ghost known = { T.known };
+}
+
+impl<C: ArchiveContext, T: CheckBytes<C>> CheckBytes<C> for ArchivedVec<T> {
+    fn check(alloc: Global, bytes: &[u8], pos: usize, context: &mut C) -> Result<(), Error> {
+        check_vec_each::<T, C, _>(
+            bytes,
+            pos,
+            context,
+            |c: &mut C, p: usize| T::check(alloc, bytes, p, c),
+        )
+    }
+}

@@ -1,0 +1,97 @@
+//! Tests of the check of boxes.
+use super::check_alone;
+use crate::narrow_context::NarrowContext;
+use archive_forms_checking::{ArchivedBox, ArchivedOption};
+use archive_shape::{ArchiveContext, ArchivedI32, CheckBytes, Error};
+
+#[test]
+fn boxes_of_a_number(rt: HostRuntime) {
+    let rows = [
+        (*b"\x07\0\0\0\xfc\xff\xff\xff", 4, 1, Ok(())),
+        (*b"\x04\0\0\0\x07\0\0\0", 0, 1, Ok(())),
+        (
+            *b"\x07\0\0\0\xfc\xff\xff\xff",
+            4,
+            0,
+            Err(Error::ExceededMaximumSubtreeDepth),
+        ),
+        (
+            *b"\x07\0\0\0\xfd\xff\xff\xff",
+            4,
+            1,
+            Err(Error::Unaligned { align: 4 }),
+        ),
+        (
+            *b"\x07\0\0\0\xfb\xff\xff\xff",
+            4,
+            1,
+            Err(Error::InvalidSubtreePointer { size: 4 }),
+        ),
+        (
+            *b"\x05\0\0\0\x07\0\0\0",
+            0,
+            1,
+            Err(Error::InvalidSubtreePointer { size: 4 }),
+        ),
+        (
+            *b"\0\0\0\0\0\0\0\x80",
+            4,
+            1,
+            Err(Error::InvalidSubtreePointer { size: 4 }),
+        ),
+    ];
+    for (bytes, pos, most, result) in rows {
+        assert_eq!(rt;
+            check_alone::<ArchivedBox<ArchivedI32>>(rt.alloc(), &bytes, pos, most),
+            result,
+            "{bytes:?}"
+        );
+    }
+}
+
+#[test]
+fn boxes_in_boxes(rt: HostRuntime) {
+    let nested = *b"\x07\0\0\0\xfc\xff\xff\xff\xfc\xff\xff\xff";
+    let rows = [
+        (nested, 8, 2, Ok(())),
+        (nested, 8, 1, Err(Error::ExceededMaximumSubtreeDepth)),
+        (
+            *b"\x04\0\0\0\x04\0\0\0\x07\0\0\0",
+            0,
+            2,
+            Err(Error::InvalidSubtreePointer { size: 4 }),
+        ),
+    ];
+    for (bytes, pos, most, result) in rows {
+        assert_eq!(rt;
+            check_alone::<ArchivedBox<ArchivedBox<ArchivedI32>>>(rt.alloc(), &bytes, pos, most),
+            result,
+            "{bytes:?}"
+        );
+    }
+}
+
+#[test]
+fn fault_of_a_boxed_value(rt: HostRuntime) {
+    let bytes = b"\x02\x09\0\0\xfc\xff\xff\xff";
+    assert_eq!(rt;
+        check_alone::<ArchivedBox<ArchivedOption<u8>>>(rt.alloc(), bytes, 4, 1),
+        Err(Error::InvalidTag)
+    );
+}
+
+#[test]
+fn checked_value_is_not_claimed_again(rt: HostRuntime) {
+    let alloc = rt.alloc();
+    let bytes = b"\x07\0\0\0\xfc\xff\xff\xff";
+    let mut context = NarrowContext::new(alloc, bytes.len(), 1);
+    assert_eq!(rt;
+        ArchivedBox::<ArchivedI32>::check(alloc, bytes, 4, &mut context),
+        Ok(())
+    );
+    assert_eq!(rt; context.check_subtree_ptr(4, 4, 4), Ok(()));
+    assert_eq!(rt;
+        context.check_subtree_ptr(3, 1, 1),
+        Err(Error::InvalidSubtreePointer { size: 1 })
+    );
+}
