@@ -1,7 +1,7 @@
 -- Each byte of an image is below 256.
 use Rattle.std.proofs.Common.{ℕ, ◌-◌, ◌+◌, ◌*◌, ◌^◌, ◌<◌, Bool, true, false, List, length, arith, ⊎_elim}
 use Rattle.std.specs.Prelude.{IsUtf8}
-use Rattle.std.specs.Int.{w32, w64, cast_unsigned, to_le_bytes}
+use Rattle.std.specs.Int.{w32, w64, cast_unsigned}
 use Rattle.std.proofs.lemmas.Bool.{cases_lt}
 use Rattle.archive_shape_layout.proofs.Utf8.{utf8_byte}
 use Rattle.archive_shape_canonical.proofs.Small.{AreSmall, behind_all, small_none, small_more, small_append, small_same, small_word}
