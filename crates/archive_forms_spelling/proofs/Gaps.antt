@@ -6,7 +6,7 @@ use Rattle.archive_shape_layout.specs.Holds.{Region, Ascends, end_after}
 use Rattle.archive_shape_layout.proofs.Ascent.{Ascends-append}
 use Rattle.archive_shape_layout.proofs.Evaluated.{ascends_raised, end_below}
 use Rattle.archive_shape_canonical.proofs.Editing.{InRegions-left, InRegions-right}
-use Rattle.archive_shape_canonical.proofs.Small.{small_none, small_append, small_same, small_word}
+use Rattle.archive_shape_canonical.proofs.Small.{small_none, small_more, small_append, small_same, small_word}
 use Rattle.archive_shape_references.specs.Bytes.{zeros}
 use Rattle.archive_forms_spelling.specs.Spells.{AreGapsZero, AreBytes}
 
@@ -33,6 +33,9 @@ ascends_join low mid high xs ys a b h g =
 
 pub bytes_none : AreBytes []
 bytes_none = small_none.each
+
+pub bytes_more : (b : ℕ) (bs : List ℕ) → b < 256 → AreBytes bs → AreBytes (b ∷ bs)
+bytes_more b bs h k = (small_more h (record { each = k })).each
 
 pub bytes_append : (xs ys : List ℕ) → AreBytes xs → AreBytes ys → AreBytes (xs ++ ys)
 bytes_append xs ys h k = (small_append (record { each = h }) (record { each = k })).each

@@ -5,3 +5,5 @@ pub mod Leaves
 pub mod Regions
 pub mod Views
 pub mod Pointers
+pub mod Options
+pub mod Shared
