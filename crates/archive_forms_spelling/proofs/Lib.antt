@@ -7,3 +7,6 @@ pub mod Views
 pub mod Pointers
 pub mod Options
 pub mod Shared
+pub mod Written
+pub mod Progress
+pub mod Samples

@@ -17,6 +17,7 @@ use Rattle.archive_shape_layout.proofs.Evaluated.{ascends_raised}
 use Rattle.archive_shape_canonical.specs.Settled.{Fit}
 use Rattle.archive_shape_canonical.specs.Sharing.{end_of_shared, erased}
 use Rattle.archive_shape_canonical.specs.Clean.{IsClean}
+use Rattle.archive_shape_canonical.specs.Canonical.{end_of}
 use Rattle.archive_shape_canonical.proofs.Cleanness.{clean_by}
 use Rattle.archive_shape_references.specs.Bytes.{HasBytes, zeros}
 use Rattle.archive_shape_references.proofs.Pieces.{stands_left, stands_right, zero_stands}
@@ -154,7 +155,7 @@ module _ {A R : Type 0} (fit : Fit) (cyclic : Bool) (s : Shape) (knows : Names �
           reads = record {
             holds = holds_first e (none_open inside t (end_of_shared t end) after over_high) (none_visited st.met t st.pos (omega arith) state.before) h.reads.holds refl refl;
             canonical = (shared_clean names bytes pos t e, h.reads.canonical);
-            ends = ap (end_of_shared t) (h.reads.ends ∙ ends_at) ∙ sym total;
+            ends = ap (end_of_shared t) {x = end_of h.reads.holds st.pos} (h.reads.ends ∙ ends_at) ∙ sym total;
           };
           ascends = ascends_raised st.pos (st.pos + length piece) (st.pos + length (piece ++ pad)) h.regions (omega arith) h.ascends;
           gaps = λ i a b. ⊎_elim (λ l. h.gaps i a l) (λ g. inr (zero_stands bytes (st.pos + length piece) (shared_padding t end) i pad_stands g (let z = length-append piece pad in omega arith))) (cases_lt i (st.pos + length piece));
