@@ -1,5 +1,5 @@
--- Regions one after the other leave no byte between them but zeros, and pieces of bytes make bytes.
-use Rattle.std.proofs.Common.{◌≡◌, ℕ, ◌+◌, ◌≤◌, ◌<◌, List, [], ◌∷◌, ◌++◌, arith, inl, inr, ⊎_elim}
+-- Regions one after the other, with zeros between them; and which bytes are below 256.
+use Rattle.std.proofs.Common.{ℕ, ◌+◌, ◌≤◌, ◌<◌, List, [], ◌∷◌, ◌++◌, arith, inl, inr, ⊎_elim}
 use Rattle.std.proofs.lemmas.Bool.{cases_lt}
 use Rattle.std.specs.Int.{w32, to_le_bytes}
 use Rattle.archive_shape_layout.specs.Holds.{Region, Ascends, end_after}

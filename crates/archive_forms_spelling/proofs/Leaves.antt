@@ -81,6 +81,7 @@ leaf_canonical fit s v names bytes level pos low inside visits l e = record {
   gaps = no_gap bytes [] low;
 }
 
+-- the law of leaves
 pub leaf_spells : {A : Type 0} (fit : Fit) (s : Shape) (knows : Names → Type 0) (bytes_of : A → List ℕ) (value_of : A → Value)
     → IsLeafShape s → Spells fit s knows (leaf_spelling s bytes_of value_of)
 leaf_spells fit s knows bytes_of value_of l x = record {

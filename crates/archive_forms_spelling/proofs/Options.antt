@@ -70,7 +70,7 @@ module _ {A R : Type 0} (fit : Fit) (s : Shape) (knows : Names → Type 0) (w : 
   unfolding shape_content choose
   some_content names pos own e = rw e refl
 
-  -- the bytes round the payload are zero
+  -- the bytes before and behind the payload are zero
   option_padding : (bytes : List ℕ) (pos : ℕ) (payload : List ℕ) → length payload ≡ size_of s
       → HasBytes bytes pos (tagged_bytes 1 (payload_at s) (size_of (option s)) payload)
       → (i : ℕ) → IsIn pos (size_of (option s)) i → FieldPartOrZero bytes (at pos (option s)) (at (pos + payload_at s) s ∷ []) i
@@ -154,7 +154,7 @@ module _ {A R : Type 0} (fit : Fit) (s : Shape) (knows : Names → Type 0) (w : 
   option_piece_bytes (Some x) st f = (spells x).piece_bytes st f
 
   tagged_are_bytes : (offset size : ℕ) (payload : List ℕ) → AreBytes payload → AreBytes (tagged_bytes 1 offset size payload)
-  tagged_are_bytes offset size payload h = 
+  tagged_are_bytes offset size payload h =
       bytes_more 1 (zeros (offset - 1) ++ (payload ++ zeros (size - (offset + length payload)))) (omega arith)
       (bytes_append (zeros (offset - 1)) _ (bytes_zeros _) (bytes_append payload (zeros (size - (offset + length payload))) h (bytes_zeros _)))
 

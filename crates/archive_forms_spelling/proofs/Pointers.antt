@@ -28,7 +28,7 @@ use Rattle.archive_shape_pointers.specs.Offsets.{difference}
 use Rattle.archive_forms_spelling.specs.State.{State, IsConsistent, advanced}
 use Rattle.archive_forms_spelling.specs.Spelling.{Spelling, state_after}
 use Rattle.archive_forms_spelling.specs.Spells.{CanonicalPart, SpellsAt, EachSpells, Spells}
-use Rattle.archive_forms_spelling.specs.Regions.{state_after_all, values, region_piece, region_fits}
+use Rattle.archive_forms_spelling.specs.Regions.{state_after_all, region_piece, region_fits}
 use Rattle.archive_forms_spelling.specs.Pointers.{FitsOffset, offset_bytes, slice_spelling, box_spelling}
 use Rattle.archive_forms_spelling.proofs.States.{from_earlier, consistent_further}
 use Rattle.archive_forms_spelling.proofs.Gaps.{bytes_append, bytes_word}
@@ -53,7 +53,7 @@ leads from to (negsuc n) e f =
     let to_is : from - (2 ^ 32 - word) ≡ to = omega arith in
     rw (high, near, to_is) refl
 
--- an offset leads to the position from which it was made
+-- the offset between two positions leads from the one to the other
 pub offset_leads : (from to : ℕ) → FitsOffset from to → target_from from (cast_unsigned w32 (difference from to)) ≡ Some to
 offset_leads from to f = leads from to (difference from to) refl f
 
@@ -61,7 +61,7 @@ word_small : (z : ℤ) → FitsSigned w32 z → cast_unsigned w32 z < 2 ^ 32
 word_small (pos n) f = let h = f.sfits in omega arith
 word_small (negsuc n) f = omega arith
 
--- an offset that stands at the start of a value leads to its target
+-- so does one that stands at the start of own bytes
 pub offset_stands : (bytes : List ℕ) (from to size : ℕ) → 4 ≤ size → FitsOffset from to → HasBytes bytes from (offset_bytes from to)
     → target_from from (word_at (window bytes from size) 0) ≡ Some to
 offset_stands bytes from to size room f s =
@@ -69,7 +69,7 @@ offset_stands bytes from to size room f s =
     ∙ offset_leads from to f
 
 module _ {fit : Fit} {names : Names} {bytes : List ℕ} {level : ℕ} {inside : List OpenShared} {before after : List Visit} where
-  -- a value with one part
+  -- a part that has one part in it
   pub one_part : (p q : Part) (l : Label) (v u : Value) (low high : ℕ)
       → content_of names bytes p ≡ plain l (q ∷ [])
       → IsLegal l
@@ -120,6 +120,7 @@ module _ {A R : Type 0} (fit : Fit) (s : Shape) (knows : Names → Type 0) (w : 
       let end = region_end fit s knows w xs each st f in
       consistent_further (state_after_all w xs st) (st.pos + length (region_piece w s xs st)) st.begun (omega arith) (state_after_all_begun fit s knows w xs st) (state_after_all_consistent fit s knows w xs each st h f.0)
 
+  -- the law of a list is that of each of its elements
   pub slice_spells_at : (xs : List A) → EachSpells fit s knows w xs → SpellsAt fit (vector s) knows (slice_spelling s w) xs
   unfolding made
   slice_spells_at xs each = record {
@@ -141,6 +142,7 @@ module _ {A R : Type 0} (fit : Fit) (s : Shape) (knows : Names → Type 0) (w : 
     own_exact = λ to from e f r. slice_own_exact (length xs) from to e f.1 f.0 r;
   }
 
+  -- the law of a box is that of its value
   pub box_spells_at : (x : A) → SpellsAt fit s knows w x → SpellsAt fit (box (sized s)) knows (box_spelling s w) x
   unfolding made
   box_spells_at x one = record {
@@ -162,6 +164,7 @@ module _ {A R : Type 0} (fit : Fit) (s : Shape) (knows : Names → Type 0) (w : 
     own_exact = λ to from e f r. r.0 f;
   }
 
+  -- so of all lists and boxes
   pub slice_spells : Spells fit s knows w → Spells fit (vector s) knows (slice_spelling s w)
   slice_spells h xs = slice_spells_at xs (each_spells fit s knows w h xs)
 

@@ -58,8 +58,10 @@ begins_in_state old new st key h s k = tested (key == k) refl
   where
     is_new : progress st key ≡ unmet
     is_new = sym (h key) ∙ s.is_found
+
     none : visit_of_key st.met key ≡ None
     none = (unmet_key st key is_new).0
+
     tested : (b : Bool) → (key == k) ≡ b → new k ≡ progress_by (visit_of_key st.met k) (cond b true (is_begun st.begun k))
     tested true t =
         let same : key ≡ k = eqb-true key k t in

@@ -69,7 +69,7 @@ module _ {fit : Fit} {names : Names} {bytes : List ℕ} {level : ℕ} {inside : 
       }
 
 module _ {A R : Type 0} (fit : Fit) (s : Shape) (knows : Names → Type 0) (w : Spelling A R) where
-  -- so many bytes
+  -- each takes its size
   pub length-owns : (xs : List A) (each : EachSpells fit s knows w xs) (st : State) (pos : ℕ) → owns_fit w s xs st pos → length (owns w xs st pos) ≡ length xs * size_of s
   length-owns [] each st pos h = omega arith
   length-owns (x ∷ xs) each st pos h =
@@ -176,13 +176,13 @@ module _ {A R : Type 0} (fit : Fit) (s : Shape) (knows : Names → Type 0) (w : 
       let filled : length gap ≡ t - (state_after_all w xs st).pos = length-replicate _ _ in
       omega (arith, length-append front (gap ++ owns w xs st t), length-append gap (owns w xs st t))
 
-  -- the gap before a region
+  -- the zeros before a region and the own bytes in it
   pub gap_stands : (xs : List A) (st : State) (bytes : List ℕ) → HasBytes bytes st.pos (region_piece w s xs st)
       → HasBytes bytes (state_after_all w xs st).pos (zeros (region_at w s xs st - (state_after_all w xs st).pos) ++ owns w xs st (region_at w s xs st))
   gap_stands xs st bytes p =
       stands_right bytes st.pos (pieces w xs st) (zeros (region_at w s xs st - (state_after_all w xs st).pos) ++ owns w xs st (region_at w s xs st)) (state_after_all w xs st).pos (sym (state_after_all_pos xs st)) p
 
-  -- the elements of a region
+  -- the elements of a region are read as they are written
   pub region_canonical :
       (xs : List A) (each : EachSpells fit s knows w xs) (st : State) (names : Names) (keys : Keys) (bytes : List ℕ) (level : ℕ) (inside : List OpenShared)
       → knows names
@@ -203,7 +203,7 @@ module _ {A R : Type 0} (fit : Fit) (s : Shape) (knows : Names → Type 0) (w : 
       (stands_left bytes st.pos front (gap ++ owns w xs st t) p)
       (stands_right bytes (state_after_all w xs st).pos gap (owns w xs st t) t (omega arith) (gap_stands xs st bytes p))
 
-  -- so the region is claimed at the state_after aligned position
+  -- the region itself leaves no gap but zeros, and ascends behind those of the data
   region_gaps : (xs : List A) (st : State) (bytes : List ℕ) (level high : ℕ) (rs : List Region) (region : Region)
       → region.start ≡ region_at w s xs st → region.start + region.size ≡ high
       → HasBytes bytes st.pos (region_piece w s xs st)
@@ -261,7 +261,7 @@ module _ {A R : Type 0} (fit : Fit) (s : Shape) (knows : Names → Type 0) (w : 
         gaps = region_gaps xs st bytes level _ h.regions region refl high p h.gaps;
       }
 
-  -- a box claims one value
+  -- a pointer to one value claims it
   pub boxed_canonical :
       (x : A) (one : SpellsAt fit s knows w x) (st : State) (names : Names) (keys : Keys) (bytes : List ℕ) (level : ℕ) (inside : List OpenShared)
       → knows names

@@ -1,12 +1,12 @@
--- The samples are written as their one archives.
+-- Each sample is written as its one archive.
 use Rattle.std.proofs.Common.{◌≡◌, ℕ, ◌==◌, ◌<◌, ◌^◌, cond, Bool, true, false, List, [], ◌∷◌, Option, Some, None, refl, sym, ◌∙◌, arith, eqb-true}
 use Rattle.std.specs.Int.{w32, to_le_bytes}
 use Rattle.std.proofs.lemmas.Int.{ints}
 use Rattle.archive_shape_layout.specs.Bytes.{align_up}
-use Rattle.archive_shape_layout.specs.Shape.Shape.{shared, vector, box, option}
+use Rattle.archive_shape_layout.specs.Shape.Shape.{shared, box, option}
 use Rattle.archive_shape_layout.specs.Shape.Pointee.{sized}
 use Rattle.archive_shape_layout.specs.Value.Value.{natural}
-use Rattle.archive_shape_layout.specs.Content.{Names, shape_content, number_value}
+use Rattle.archive_shape_layout.specs.Content.{shape_content, number_value}
 use Rattle.archive_shape_canonical.specs.Settled.{Fit}
 use Rattle.archive_forms_spelling.specs.State.{Keys, SharedValue, AreOneToOne, initial}
 use Rattle.archive_forms_spelling.specs.Spells.{Spells}
@@ -54,7 +54,7 @@ no_keys k = None
 none_to_none : AreOneToOne no_keys
 none_to_none k l a b e f same_type same = absurd (cc)
 
--- no key is asked for
+-- no shared value is in them
 all_absent : (xs : List (Option ℕ)) → all_keyed_by (option_spelling (box (sized number_shape)) (box_spelling number_shape number_spelling)) no_keys xs
 all_absent [] = tt
 all_absent (None ∷ xs) = (tt, all_absent xs)
@@ -86,8 +86,7 @@ two_fit =
     let little : (n : ℕ) → n < 40 → n < 2 ^ 64 = λ n h. omega arith in
     let from_first : FitsOffset 4 0 = record { sfits = omega (arith, ints) } in
     let from_second : FitsOffset 8 0 = record { sfits = omega (arith, ints) } in
-    let from_root : FitsOffset 12 4 = record { sfits = omega (arith, ints) } in
-    (
+    let from_root : FitsOffset 12 4 = record { sfits = omega (arith, ints) } in (
       (
         (
           ((tt, ((tt, tt), small 0 (omega arith), (((λ names pos. refl, refl, bytes_word 5), little 4 (omega arith)), tt))), (tt, tt)),

@@ -1,5 +1,5 @@
 -- Shared values are read as they are written: the first time and each later time.
-use Rattle.std.proofs.Common.{◌≡◌, ℕ, ◌+◌, ◌≤◌, ◌<◌, ◌==◌, cond, Bool, true, false, List, [], ◌∷◌, ◌++◌, length, refl, sym, ap, ap₂, subst, ◌∙◌, arith, Option, Some, None, inl, inr, ⊎_elim, length-append, add-zero, eq-eqb}
+use Rattle.std.proofs.Common.{◌≡◌, ℕ, ◌+◌, ◌≤◌, ◌<◌, ◌==◌, cond, Bool, true, false, List, [], ◌∷◌, ◌++◌, length, refl, sym, ap, ap₂, subst, ◌∙◌, arith, Option, Some, None, inl, inr, ⊎_elim, length-append, add-zero, eq-eqb, slice_index}
 use Rattle.std.proofs.lemmas.Bool.{cases_lt}
 use Rattle.std.proofs.lemmas.List.{length-replicate}
 use Rattle.std.specs.Int.{w32, cast_unsigned}
@@ -8,16 +8,15 @@ use Rattle.archive_shape_layout.specs.Shape.Shape.{shared}
 use Rattle.archive_shape_layout.specs.Shape.Pointee.{sized}
 use Rattle.archive_shape_layout.specs.Value.{Value}
 use Rattle.archive_shape_layout.specs.Value.Value.{counted}
-use Rattle.archive_shape_layout.specs.Content.{Names, content_of, shape_content, shared_content, following}
-use Rattle.archive_shape_layout.specs.Content.Part.{at}
+use Rattle.archive_shape_layout.specs.Content.{Names, Part, content_of, shape_content, shared_content, following}
+use Rattle.archive_shape_layout.specs.Content.Part.{at, behind}
 use Rattle.archive_shape_layout.specs.Content.Content.{counting}
-use Rattle.archive_shape_layout.specs.Holds.{Visit, OpenShared, Ascends}
+use Rattle.archive_shape_layout.specs.Holds.{Visit, OpenShared, Ascends, visited, open_at}
 use Rattle.archive_shape_layout.specs.Holds.Holds.{holds_first, holds_later}
 use Rattle.archive_shape_layout.proofs.Evaluated.{ascends_raised}
 use Rattle.archive_shape_canonical.specs.Settled.{Fit}
 use Rattle.archive_shape_canonical.specs.Sharing.{end_of_shared, erased}
 use Rattle.archive_shape_canonical.specs.Clean.{IsClean}
-use Rattle.archive_shape_canonical.specs.Canonical.{end_of}
 use Rattle.archive_shape_canonical.proofs.Cleanness.{clean_by}
 use Rattle.archive_shape_references.specs.Bytes.{HasBytes, zeros}
 use Rattle.archive_shape_references.proofs.Pieces.{stands_left, stands_right, zero_stands}
@@ -46,6 +45,7 @@ start_before_end t end h = tested (end == t) refl
   where
     differ : (end == t) ≡ false → end ≡ t → ⊥
     differ e k = let u : (end == t) ≡ true = eq-eqb end t k in absurd (cc)
+
     tested : (b : Bool) → (end == t) ≡ b → t < cond b (end + 1) end
     tested true e = omega arith
     tested false e = let differs = differ e in omega (arith, differs)
@@ -60,6 +60,29 @@ end_grows t end = tested (end == t)
 -- a shared position that is known to be of a type and a length
 known_visit : (v : Visit) (q : Pointee) (len : ℕ) → v.pointee ≡ q → v.len ≡ len → v ≡ record { pos = v.pos; pointee = q; len = len; value = v.value }
 known_visit v q len e f = ap₂ (λ (p : Pointee) (n : ℕ). let z : Visit = record { pos = v.pos; pointee = p; len = n; value = v.value } in z) e f
+
+module _ {fit : Fit} {names : Names} {bytes : List ℕ} {level : ℕ} {inside : List OpenShared} where
+  -- the first pointer to a shared value, behind which zeros may follow
+  pub first_part : (before between : List Visit) (p : Part) (cyclic : Bool) (start : ℕ) (q : Pointee) (len : ℕ) (v : Value) (low last high : ℕ)
+      → content_of names bytes p ≡ counting cyclic start q len
+      → IsClean names bytes p
+      → open_at inside start ≡ None
+      → visited before start ≡ None
+      → CanonicalPart fit names bytes level (record { pos = start; pointee = q; len = len } ∷ inside) before between (behind start q len) v low last
+      → high ≡ end_of_shared start last
+      → last ≤ high
+      → ((i : ℕ) → last ≤ i → i < high → slice_index bytes i ≡ 0)
+      → CanonicalPart fit names bytes level inside before (record { pos = start; pointee = q; len = len; value = v } ∷ between) p (counted start v) low high
+  first_part before between p cyclic start q len v low last high e clean closed new h end up zero = record {
+    regions = h.regions;
+    reads = record {
+      holds = holds_first e closed new h.reads.holds refl refl;
+      canonical = (clean, h.reads.canonical);
+      ends = ap (end_of_shared start) h.reads.ends ∙ sym end;
+    };
+    ascends = ascends_raised low last high h.regions up h.ascends;
+    gaps = λ i a b. ⊎_elim (λ l. h.gaps i a l) (λ g. inr (zero i g b)) (cases_lt i last);
+  }
 
 module _ {A R : Type 0} (fit : Fit) (cyclic : Bool) (s : Shape) (knows : Names → Type 0) (key : A → ℕ) (w : Spelling A R) where
   shared_is : (names : Names) (bytes : List ℕ) (from to : ℕ) → FitsOffset from to → HasBytes bytes from (offset_bytes from to)
@@ -149,17 +172,10 @@ module _ {A R : Type 0} (fit : Fit) (cyclic : Bool) (s : Shape) (knows : Names �
         let h = boxed_canonical fit s knows w x one then names keys bytes level (visiting ∷ inside) k within known (begun_consistent x one st state new)
         (up, from_earlier inside (state_after w x then).pos (end_of_shared t end) (omega arith) over_high) f.1 (stands_left bytes st.pos piece pad p) in
         let pad_stands = stands_right bytes st.pos piece pad (st.pos + length piece) refl p in
-        let pad_long : length pad ≡ shared_padding t end = length-replicate _ _ in
-        record {
-          regions = h.regions;
-          reads = record {
-            holds = holds_first e (none_open inside t (end_of_shared t end) after over_high) (none_visited st.met t st.pos (omega arith) state.before) h.reads.holds refl refl;
-            canonical = (shared_clean names bytes pos t e, h.reads.canonical);
-            ends = ap (end_of_shared t) {x = end_of h.reads.holds st.pos} (h.reads.ends ∙ ends_at) ∙ sym total;
-          };
-          ascends = ascends_raised st.pos (st.pos + length piece) (st.pos + length (piece ++ pad)) h.regions (omega arith) h.ascends;
-          gaps = λ i a b. ⊎_elim (λ l. h.gaps i a l) (λ g. inr (zero_stands bytes (st.pos + length piece) (shared_padding t end) i pad_stands g (let z = length-append piece pad in omega arith))) (cases_lt i (st.pos + length piece));
-        }
+        first_part (visits_of st.met) (visits_of (w.met x then)) (at pos (shared cyclic (sized s))) cyclic t (sized s) 1 (w.value x then) st.pos (st.pos + length piece) (st.pos + length (piece ++ pad))
+        e (shared_clean names bytes pos t e) (none_open inside t (end_of_shared t end) after over_high) (none_visited st.met t st.pos (omega arith) state.before) h
+        (total ∙ ap (end_of_shared t) (sym ends_at)) (omega arith) (λ i a b. zero_stands bytes (st.pos + length piece) (shared_padding t end) i pad_stands a
+        (let z = length-append piece pad in let pad_long : length pad ≡ shared_padding t end = length-replicate _ _ in omega arith))
 
     shared_keyed : (o : Option Visit) → visit_of_key st.met (key x) ≡ o → shared_fits s key w x st o
         → (erased (shared_value s key w x st o) ≡ counted 0 (w.plain x)) × AreKeyedBy keys (shared_met s key w x st o)
@@ -177,6 +193,7 @@ module _ {A R : Type 0} (fit : Fit) (cyclic : Bool) (s : Shape) (knows : Names �
   shared_exact x one st None e f (inl r) = none_or_one (key x) st.begun f.0 r.0
   shared_exact x one st None e f (inr r) = region_exact fit s knows w (x ∷ []) (one, tt) (with_begun (key x) st) e f.1 r.1
 
+  -- the law of a pointer to a shared value is that of the value
   pub shared_spells_at : (x : A) → SpellsAt fit s knows w x → SpellsAt fit (shared cyclic (sized s)) knows (shared_spelling s key w) x
   shared_spells_at x one = record {
     sized = λ to pos f. refl;

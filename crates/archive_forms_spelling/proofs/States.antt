@@ -28,6 +28,7 @@ is_new_key (m ∷ ms) key e = (λ k. tested_first (m.key == key) (eq-eqb m.key k
     tested_first : (b : Bool) → b ≡ true → cond b (Some m.visit) (visit_of_key ms key) ≡ None → ⊥
     tested_first true h f = absurd (cc)
     tested_first false h f = absurd (cc)
+
     tested : (b : Bool) → cond b (Some m.visit) (visit_of_key ms key) ≡ None → (visit_of_key ms key ≡ None → IsNewKey key ms) → IsNewKey key ms
     tested true f later = absurd (cc)
     tested false f later = later f
@@ -66,9 +67,11 @@ met_is_visited (m ∷ ms) key v e d = tested (m.key == key) e (λ f. met_is_visi
     here : (b : Bool) → b ≡ true → m.visit ≡ v → cond b (Some m.visit) (visited (visits_of ms) v.pos) ≡ Some v
     here true f g = ap Some g
     here false f g = absurd (cc)
+
     there : (b : Bool) → (m.visit.pos == v.pos) ≡ b → v.pos < m.visit.pos → visited (visits_of ms) v.pos ≡ Some v → cond b (Some m.visit) (visited (visits_of ms) v.pos) ≡ Some v
     there true f low later = let same = eqb-true m.visit.pos v.pos f in absurd (omega (arith, same, low))
     there false f low later = later
+
     tested : (c : Bool) → cond c (Some m.visit) (visit_of_key ms key) ≡ Some v → (visit_of_key ms key ≡ Some v → visited (visits_of ms) v.pos ≡ Some v) → (visit_of_key ms key ≡ Some v → v.pos < m.visit.pos)
         → cond (m.visit.pos == v.pos) (Some m.visit) (visited (visits_of ms) v.pos) ≡ Some v
     tested true f later low = let one : m.visit ≡ v = cc in here (m.visit.pos == v.pos) (eq-eqb m.visit.pos v.pos (ap (λ (z : Visit). z.pos) one)) one

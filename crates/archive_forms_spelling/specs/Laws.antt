@@ -13,7 +13,7 @@ use Rattle.archive_forms_spelling.specs.Regions.{region_piece, region_fits, all_
 use Rattle.archive_forms_spelling.specs.Written.{IsArchive, IsWritten}
 use Rattle.archive_forms_spelling.specs.Sample.{keyed_spelling, keyed_list_shape, keyed_list, two, two_bytes, optional_list_shape, optional_list}
 
--- of a type that knows every name
+-- whatever the names of types stand for
 abbrev pub KnowsAll : Names → Type 0
 KnowsAll names = ⊤
 

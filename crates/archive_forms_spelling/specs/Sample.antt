@@ -1,5 +1,5 @@
 -- Samples: lists of shared numbers, and lists of boxes that may be absent.
-use Rattle.std.specs.Prelude.{ℕ, false, List, [], ◌∷◌, Option, ⊤}
+use Rattle.std.specs.Prelude.{ℕ, false, List, [], ◌∷◌, Option}
 use Rattle.std.specs.Int.{w32, to_le_bytes}
 use Rattle.archive_shape_layout.specs.Shape.{Shape}
 use Rattle.archive_shape_layout.specs.Shape.Shape.{number, shared, vector, box, option}

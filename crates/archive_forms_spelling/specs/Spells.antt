@@ -46,8 +46,8 @@ pub record SpellsAt {A R : Type 0} (fit : Fit) (s : Shape) (knows : Names → Ty
       → HasBytes bytes pos (w.own x (w.resolver x st) pos)
       → CanonicalPart fit names bytes level inside (visits_of st.met) (visits_of (w.met x st)) (at pos s) (w.value x st) st.pos (state_after w x st).pos
   pub consistent : (st : State) → IsConsistent st → w.piece_fits x st → IsConsistent (state_after w x st)
-  -- where its keys, and those of the values met before, stand for their values, so do those of what it meets, and its value
-  -- is the one that keys speak of
+  -- where its keys and those of the values met before stand for them, so do the keys of all values met behind it, and its
+  -- value is `plain` but for where shared ones stand
   pub keyed :
       (keys : Keys) (st : State) → w.keyed_by keys x → AreKeyedBy keys st.met → w.piece_fits x st
       → (erased (w.value x st) ≡ w.plain x) × AreKeyedBy keys (w.met x st)

@@ -1,5 +1,10 @@
 //! Laws. Each function below has no body: it carries a law.
-ghost use Rattle.archive_forms_spelling.specs.Laws.{KeyedListsAreWritten, OptionalListsAreWritten, TwoSharedIsWritten, WrittenOnce};
+ghost use Rattle.archive_forms_spelling.specs.Laws.{KeyedListsAreWritten, LeafSpells, OptionalListsAreWritten, TwoSharedIsWritten, WrittenOnce};
+
+/// The own bytes of a number, a truth value or a char, of whatever type it is, are read as its value, and are canonical.
+pub fn leaf_spells<T>()
+    ensures { LeafSpells T }
+{}
 
 /// A value, but for where shared ones stand, has one archive whose root ends it.
 pub fn written_once()

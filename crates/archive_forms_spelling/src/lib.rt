@@ -9,5 +9,6 @@
 mod laws;
 
 pub use laws::{
-    keyed_lists_are_written, optional_lists_are_written, two_shared_is_written, written_once,
+    keyed_lists_are_written, leaf_spells, optional_lists_are_written, two_shared_is_written,
+    written_once,
 };
