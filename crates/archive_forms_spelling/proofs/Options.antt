@@ -16,7 +16,6 @@ use Rattle.archive_shape_layout.specs.Holds.Holds.{holds_plain}
 use Rattle.archive_shape_layout.specs.Holds.HoldAll.{holds_none}
 use Rattle.archive_shape_layout.proofs.Framed.{le_align_up}
 use Rattle.archive_shape_canonical.specs.Settled.{Fit}
-use Rattle.archive_shape_canonical.specs.Sharing.{erased}
 use Rattle.archive_shape_canonical.specs.Clean.{IsIn, FieldPartOrZero}
 use Rattle.archive_shape_canonical.proofs.Cleanness.{clean_by}
 use Rattle.archive_shape_references.specs.Bytes.{HasBytes, zeros}
@@ -24,8 +23,8 @@ use Rattle.archive_shape_references.proofs.Pieces.{stands_left, stands_right, ze
 use Rattle.archive_shape_writing.specs.declared.error.Error.{Error}
 use Rattle.archive_forms_spelling.specs.State.{State, Keys, IsConsistent, AllFrom, AreKeyedBy, visits_of}
 use Rattle.archive_forms_spelling.specs.Spelling.{Spelling, state_after}
-use Rattle.archive_forms_spelling.specs.Spells.{CanonicalPart, Spells, AreBytes}
-use Rattle.archive_forms_spelling.specs.Options.{tagged_bytes, payload_at, option_value, option_plain, option_met, option_keyed_by, option_piece, option_resolver, option_own, option_piece_fits, option_own_fits, option_piece_refused, option_own_refused, option_spelling}
+use Rattle.archive_forms_spelling.specs.Spells.{CanonicalPart, SpellsAt, Spells, AreBytes}
+use Rattle.archive_forms_spelling.specs.Options.{tagged_bytes, payload_at, option_own, option_own_fits, option_own_refused, option_spelling}
 use Rattle.archive_forms_spelling.proofs.States.{consistent_advanced}
 use Rattle.archive_forms_spelling.proofs.Gaps.{no_gap, bytes_none, bytes_more, bytes_append, bytes_zeros}
 use Rattle.archive_forms_spelling.proofs.Pointers.{one_part}
@@ -52,15 +51,9 @@ first_zero (suc n) = refl
 pub option_room : (s : Shape) (n : ℕ) → n ≡ size_of s → payload_at s + n ≤ size_of (option s)
 option_room s n e = let h = le_align_up (payload_at s + size_of s) (align_of s) in omega arith
 
-module _ {A R : Type 0} (fit : Fit) (s : Shape) (knows : Names → Type 0) (w : Spelling A R) (spells : Spells fit s knows w) where
+module _ {A R : Type 0} (fit : Fit) (s : Shape) (knows : Names → Type 0) (w : Spelling A R) where
   tag_first : 1 ≤ payload_at s
   tag_first = le_align_up 1 (align_of s)
-
-  option_sized : (x : Option A) (r : Option R) (pos : ℕ) → option_own_fits s w x r pos → length (option_own s w x r pos) ≡ size_of (option s)
-  option_sized (Some x) (Some r) pos f = length-tagged 1 (payload_at s) (size_of (option s)) (w.own x r (pos + payload_at s)) tag_first (option_room s _ ((spells x).sized r (pos + payload_at s) f))
-  option_sized None None pos f = length-replicate _ _
-  option_sized None (Some r) pos f = length-replicate _ _
-  option_sized (Some x) None pos f = length-replicate _ _
 
   none_content : (names : Names) (pos : ℕ) (own : List ℕ) → slice_index own 0 ≡ 0 → shape_content names pos own (option s) ≡ plain (tagged 0) []
   unfolding shape_content choose
@@ -98,20 +91,22 @@ module _ {A R : Type 0} (fit : Fit) (s : Shape) (knows : Names → Type 0) (w : 
       (cases_lt i (pos + off)))
       (cases_lt i (pos + 1))
 
-  option_canonical :
-      (x : Option A) (st : State) (pos : ℕ) (names : Names) (keys : Keys) (bytes : List ℕ) (level : ℕ) (inside : List OpenShared)
-      → knows names
-      → option_keyed_by s w keys x
-      → AreKeyedBy keys st.met
-      → IsConsistent st
-      → AllFrom (state_after (option_spelling s w) x st).pos inside
-      → option_piece_fits s w x st
-      → option_own_fits s w x (option_resolver s w x st) pos
-      → HasBytes bytes st.pos (option_piece s w x st)
-      → HasBytes bytes pos (option_own s w x (option_resolver s w x st) pos)
-      → CanonicalPart fit names bytes level inside (visits_of st.met) (visits_of (option_met s w x st)) (at pos (option s)) (option_value s w x st) st.pos (st.pos + length (option_piece s w x st))
+  tagged_are_bytes : (offset size : ℕ) (payload : List ℕ) → AreBytes payload → AreBytes (tagged_bytes 1 offset size payload)
+  tagged_are_bytes offset size payload h =
+      bytes_more 1 (zeros (offset - 1) ++ (payload ++ zeros (size - (offset + length payload)))) (omega arith)
+      (bytes_append (zeros (offset - 1)) _ (bytes_zeros _) (bytes_append payload (zeros (size - (offset + length payload))) h (bytes_zeros _)))
+
+  -- ---- without a value
+
+  none_sized : (r : Option R) (pos : ℕ) → option_own_fits s w None r pos → length (option_own s w None r pos) ≡ size_of (option s)
+  none_sized None pos f = length-replicate _ _
+  none_sized (Some r) pos f = length-replicate _ _
+
+  none_canonical : (st : State) (pos : ℕ) (names : Names) (bytes : List ℕ) (level : ℕ) (inside : List OpenShared)
+      → HasBytes bytes pos (zeros (size_of (option s)))
+      → CanonicalPart fit names bytes level inside (visits_of st.met) (visits_of st.met) (at pos (option s)) (chosen 0 no_values) st.pos (st.pos + 0)
   unfolding made Ascends
-  option_canonical None st pos names keys bytes level inside k n known state over f o p q =
+  none_canonical st pos names bytes level inside q =
       let own : window bytes pos (size_of (option s)) ≡ zeros (size_of (option s)) = ap (window bytes pos) (sym (length-replicate (size_of (option s)) 0)) ∙ q in
       let tag : slice_index (window bytes pos (size_of (option s))) 0 ≡ 0 = ap (λ l. slice_index l 0) own ∙ first_zero (size_of (option s)) in
       let e = none_content names pos _ tag in
@@ -129,59 +124,79 @@ module _ {A R : Type 0} (fit : Fit) (s : Shape) (knows : Names → Type 0) (w : 
         ascends = tt;
         gaps = no_gap bytes [] st.pos;
       }
-  option_canonical (Some x) st pos names keys bytes level inside k n known state over f o p q =
-      let payload = w.own x (w.resolver x st) (pos + payload_at s) in
-      let size = option_sized (Some x) (Some (w.resolver x st)) pos o in
-      let own : window bytes pos (size_of (option s)) ≡ tagged_bytes 1 (payload_at s) (size_of (option s)) payload = ap (window bytes pos) (sym size) ∙ q in
-      let tag : slice_index (window bytes pos (size_of (option s))) 0 ≡ 1 = ap (λ l. slice_index l 0) own in
-      let e = some_content names pos _ tag in
-      one_part (at pos (option s)) (at (pos + payload_at s) s) (tagged 1) _ _ st.pos _ e tt refl
-      (clean_by names bytes (at pos (option s)) (plain (tagged 1) (at (pos + payload_at s) s ∷ [])) e (option_padding bytes pos payload ((spells x).sized (w.resolver x st) (pos + payload_at s) o) q) tt)
-      tt
-      ((spells x).canonical st (pos + payload_at s) names keys bytes level inside k n known state over f o p (payload_stands bytes pos 1 (payload_at s) (size_of (option s)) payload tag_first q))
 
-  option_consistent : (x : Option A) (st : State) → IsConsistent st → option_piece_fits s w x st → IsConsistent (state_after (option_spelling s w) x st)
-  option_consistent None st h f = consistent_advanced st 0 h
-  option_consistent (Some x) st h f = (spells x).consistent st h f
+  none_bytes : (r : Option R) (pos : ℕ) → option_own_fits s w None r pos → AreBytes (option_own s w None r pos)
+  none_bytes None pos f = bytes_zeros _
+  none_bytes (Some r) pos f = bytes_zeros _
 
-  option_keyed : (x : Option A) (keys : Keys) (st : State) → option_keyed_by s w keys x → AreKeyedBy keys st.met → option_piece_fits s w x st
-      → (erased (option_value s w x st) ≡ option_plain s w x) × AreKeyedBy keys (option_met s w x st)
-  option_keyed None keys st n k f = (refl, k)
-  option_keyed (Some x) keys st n k f = let one = (spells x).keyed keys st n k f in (ap (λ v. chosen 1 (more_values v no_values)) one.0, one.1)
+  none_exact : (r : Option R) (pos : ℕ) (e : Error) → option_own_fits s w None r pos → option_own_refused s w None r pos e → ⊥
+  none_exact None pos e f k = k
+  none_exact (Some r) pos e f k = k
 
-  option_piece_bytes : (x : Option A) (st : State) → option_piece_fits s w x st → AreBytes (option_piece s w x st)
-  option_piece_bytes None st f = bytes_none
-  option_piece_bytes (Some x) st f = (spells x).piece_bytes st f
-
-  tagged_are_bytes : (offset size : ℕ) (payload : List ℕ) → AreBytes payload → AreBytes (tagged_bytes 1 offset size payload)
-  tagged_are_bytes offset size payload h =
-      bytes_more 1 (zeros (offset - 1) ++ (payload ++ zeros (size - (offset + length payload)))) (omega arith)
-      (bytes_append (zeros (offset - 1)) _ (bytes_zeros _) (bytes_append payload (zeros (size - (offset + length payload))) h (bytes_zeros _)))
-
-  option_own_bytes : (x : Option A) (r : Option R) (pos : ℕ) → option_own_fits s w x r pos → AreBytes (option_own s w x r pos)
-  option_own_bytes (Some x) (Some r) pos f = tagged_are_bytes (payload_at s) (size_of (option s)) (w.own x r (pos + payload_at s)) ((spells x).own_bytes r (pos + payload_at s) f)
-  option_own_bytes None None pos f = bytes_zeros _
-  option_own_bytes None (Some r) pos f = bytes_zeros _
-  option_own_bytes (Some x) None pos f = bytes_zeros _
-
-  option_piece_exact : (x : Option A) (st : State) (e : Error) → option_piece_fits s w x st → option_piece_refused s w x st e → ⊥
-  option_piece_exact None st e f r = r
-  option_piece_exact (Some x) st e f r = (spells x).piece_exact st e f r
-
-  option_own_exact : (x : Option A) (r : Option R) (pos : ℕ) (e : Error) → option_own_fits s w x r pos → option_own_refused s w x r pos e → ⊥
-  option_own_exact (Some x) (Some r) pos e f k = (spells x).own_exact r (pos + payload_at s) e f k
-  option_own_exact None None pos e f k = k
-  option_own_exact None (Some r) pos e f k = k
-  option_own_exact (Some x) None pos e f k = k
-
-  pub option_spells : Spells fit (option s) knows (option_spelling s w)
-  option_spells x = record {
-    sized = option_sized x;
-    canonical = option_canonical x;
-    consistent = option_consistent x;
-    keyed = option_keyed x;
-    piece_bytes = option_piece_bytes x;
-    own_bytes = option_own_bytes x;
-    piece_exact = option_piece_exact x;
-    own_exact = option_own_exact x;
+  pub none_spells : SpellsAt fit (option s) knows (option_spelling s w) None
+  none_spells = record {
+    sized = none_sized;
+    canonical = λ st pos names keys bytes level inside k n known state over f o p q. none_canonical st pos names bytes level inside q;
+    consistent = λ st h f. consistent_advanced st 0 h;
+    keyed = λ keys st n known f. (refl, known);
+    piece_bytes = λ st f. bytes_none;
+    own_bytes = none_bytes;
+    piece_exact = λ st e f r. r;
+    own_exact = none_exact;
   }
+
+  -- ---- with a value
+
+  module _ (x : A) (one : SpellsAt fit s knows w x) where
+    some_sized : (r : Option R) (pos : ℕ) → option_own_fits s w (Some x) r pos → length (option_own s w (Some x) r pos) ≡ size_of (option s)
+    some_sized (Some r) pos f = length-tagged 1 (payload_at s) (size_of (option s)) (w.own x r (pos + payload_at s)) tag_first (option_room s _ (one.sized r (pos + payload_at s) f))
+    some_sized None pos f = length-replicate _ _
+
+    some_canonical :
+        (st : State) (pos : ℕ) (names : Names) (keys : Keys) (bytes : List ℕ) (level : ℕ) (inside : List OpenShared)
+        → knows names
+        → w.keyed_by keys x
+        → AreKeyedBy keys st.met
+        → IsConsistent st
+        → AllFrom (state_after w x st).pos inside
+        → w.piece_fits x st
+        → w.own_fits x (w.resolver x st) (pos + payload_at s)
+        → HasBytes bytes st.pos (w.piece x st)
+        → HasBytes bytes pos (option_own s w (Some x) (Some (w.resolver x st)) pos)
+        → CanonicalPart fit names bytes level inside (visits_of st.met) (visits_of (w.met x st)) (at pos (option s)) (chosen 1 (more_values (w.value x st) no_values)) st.pos (state_after w x st).pos
+    unfolding made
+    some_canonical st pos names keys bytes level inside k n known state over f o p q =
+        let payload = w.own x (w.resolver x st) (pos + payload_at s) in
+        let size = some_sized (Some (w.resolver x st)) pos o in
+        let own : window bytes pos (size_of (option s)) ≡ tagged_bytes 1 (payload_at s) (size_of (option s)) payload = ap (window bytes pos) (sym size) ∙ q in
+        let tag : slice_index (window bytes pos (size_of (option s))) 0 ≡ 1 = ap (λ l. slice_index l 0) own in
+        let e = some_content names pos _ tag in
+        one_part (at pos (option s)) (at (pos + payload_at s) s) (tagged 1) _ _ st.pos _ e tt refl
+        (clean_by names bytes (at pos (option s)) (plain (tagged 1) (at (pos + payload_at s) s ∷ [])) e (option_padding bytes pos payload (one.sized (w.resolver x st) (pos + payload_at s) o) q) tt)
+        tt
+        (one.canonical st (pos + payload_at s) names keys bytes level inside k n known state over f o p (payload_stands bytes pos 1 (payload_at s) (size_of (option s)) payload tag_first q))
+
+    some_bytes : (r : Option R) (pos : ℕ) → option_own_fits s w (Some x) r pos → AreBytes (option_own s w (Some x) r pos)
+    some_bytes (Some r) pos f = tagged_are_bytes (payload_at s) (size_of (option s)) (w.own x r (pos + payload_at s)) (one.own_bytes r (pos + payload_at s) f)
+    some_bytes None pos f = bytes_zeros _
+
+    some_exact : (r : Option R) (pos : ℕ) (e : Error) → option_own_fits s w (Some x) r pos → option_own_refused s w (Some x) r pos e → ⊥
+    some_exact (Some r) pos e f k = one.own_exact r (pos + payload_at s) e f k
+    some_exact None pos e f k = k
+
+    -- the law of a value is that of the option with it
+    pub some_spells : SpellsAt fit (option s) knows (option_spelling s w) (Some x)
+    some_spells = record {
+      sized = some_sized;
+      canonical = some_canonical;
+      consistent = one.consistent;
+      keyed = λ keys st n known f. let both = one.keyed keys st n known f in (ap (λ v. chosen 1 (more_values v no_values)) both.0, both.1);
+      piece_bytes = one.piece_bytes;
+      own_bytes = some_bytes;
+      piece_exact = one.piece_exact;
+      own_exact = some_exact;
+    }
+
+  pub option_spells : Spells fit s knows w → Spells fit (option s) knows (option_spelling s w)
+  option_spells spells None = none_spells
+  option_spells spells (Some x) = some_spells x (spells x)
