@@ -14,8 +14,8 @@ use Rattle.archive_forms_spelling.specs.Forms.{seen_as}
 use Rattle.archive_forms_spelling.specs.Regions.{region_fits, all_keyed_by}
 use Rattle.archive_forms_spelling.specs.Pointers.{FitsOffset, box_spelling}
 use Rattle.archive_forms_spelling.specs.Options.{option_spelling}
-use Rattle.archive_forms_spelling.specs.Sample.{number_shape, number_spelling, keyed_spelling, keyed_list_shape, keyed_list, two, two_bytes, optional_list_shape, optional_list}
-use Rattle.archive_forms_spelling.specs.Laws.{KnowsAll, KeyedListsAreWritten, OptionalListsAreWritten, TwoSharedIsWritten}
+use Rattle.archive_forms_spelling.specs.Sample.{number_shape, number_spelling, keyed_spelling, keyed_list_shape, keyed_list, two, two_bytes, optional_list_shape, optional_list, one_present, one_present_bytes}
+use Rattle.archive_forms_spelling.specs.Laws.{KnowsAll, KeyedListsAreWritten, OnePresentIsWritten, OptionalListsAreWritten, TwoSharedIsWritten}
 use Rattle.archive_forms_spelling.proofs.Gaps.{bytes_word}
 use Rattle.archive_forms_spelling.proofs.Leaves.{leaf_spells}
 use Rattle.archive_forms_spelling.proofs.Views.{seen_spells}
@@ -102,3 +102,28 @@ two_fit =
 pub two_shared_is_written_law : TwoSharedIsWritten
 unfolding align_up
 two_shared_is_written_law fit names = keyed_lists_are_written_law fit names keys_of_two two two_bytes ((refl, tt), ((refl, tt), tt)) one_to_one two_fit refl
+
+-- ---- a number in a box, and an absent one
+
+one_fits : region_fits optional_list optional_list_shape (one_present ∷ []) initial
+unfolding align_up shape_content number_value
+one_fits =
+    let small : (n : ℕ) → n < 40 → n < 2 ^ 32 = λ n h. omega arith in
+    let little : (n : ℕ) → n < 40 → n < 2 ^ 64 = λ n h. omega arith in
+    let from_box : FitsOffset 8 0 = record { sfits = omega (arith, ints) } in
+    let from_root : FitsOffset 20 4 = record { sfits = omega (arith, ints) } in (
+      (
+        (
+          (((tt, tt), small 0 (omega arith), (((λ names pos. refl, refl, bytes_word 5), little 4 (omega arith)), tt)), (tt, tt)),
+          small 4 (omega arith),
+          ((from_box, little 12 (omega arith)), ((tt, little 20 (omega arith)), tt)),
+        ),
+        tt,
+      ),
+      small 20 (omega arith),
+      (((from_root, small 2 (omega arith)), little 28 (omega arith)), tt),
+    )
+
+pub one_present_is_written_law : OnePresentIsWritten
+unfolding align_up
+one_present_is_written_law fit names = optional_lists_are_written_law fit names one_present one_present_bytes one_fits refl

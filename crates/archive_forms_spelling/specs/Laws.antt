@@ -11,7 +11,7 @@ use Rattle.archive_forms_spelling.specs.Spells.{Spells}
 use Rattle.archive_forms_spelling.specs.Forms.{leaf_spelling}
 use Rattle.archive_forms_spelling.specs.Regions.{region_piece, region_fits, all_keyed_by}
 use Rattle.archive_forms_spelling.specs.Written.{IsArchive, IsWritten}
-use Rattle.archive_forms_spelling.specs.Sample.{keyed_spelling, keyed_list_shape, keyed_list, two, two_bytes, optional_list_shape, optional_list}
+use Rattle.archive_forms_spelling.specs.Sample.{keyed_spelling, keyed_list_shape, keyed_list, two, two_bytes, optional_list_shape, optional_list, one_present, one_present_bytes}
 
 -- whatever the names of types stand for
 abbrev pub KnowsAll : Names → Type 0
@@ -51,3 +51,7 @@ OptionalListsAreWritten =
 -- two numbers that are one shared value are written as these bytes
 abbrev pub TwoSharedIsWritten : Type 0
 TwoSharedIsWritten = (fit : Fit) (names : Names) → IsWritten keyed_list_shape keyed_list two fit names two_bytes
+
+-- a box and an absent one are written as these bytes
+abbrev pub OnePresentIsWritten : Type 0
+OnePresentIsWritten = (fit : Fit) (names : Names) → IsWritten optional_list_shape optional_list one_present fit names one_present_bytes

@@ -1,5 +1,5 @@
 -- Samples: lists of shared numbers, and lists of boxes that may be absent.
-use Rattle.std.specs.Prelude.{ℕ, false, List, [], ◌∷◌, Option}
+use Rattle.std.specs.Prelude.{ℕ, false, List, [], ◌∷◌, Option, Some, None}
 use Rattle.std.specs.Int.{w32, to_le_bytes}
 use Rattle.archive_shape_layout.specs.Shape.{Shape}
 use Rattle.archive_shape_layout.specs.Shape.Shape.{number, shared, vector, box, option}
@@ -41,3 +41,10 @@ optional_list_shape = vector (option (box (sized number_shape)))
 
 abbrev pub optional_list : Spelling (List (Option ℕ)) ℕ
 optional_list = slice_spelling (option (box (sized number_shape))) (option_spelling (box (sized number_shape)) (box_spelling number_shape number_spelling))
+
+abbrev pub one_present : List (Option ℕ)
+one_present = Some 5 ∷ None ∷ []
+
+abbrev pub one_present_bytes : List ℕ
+one_present_bytes =
+    5 ∷ 0 ∷ 0 ∷ 0 ∷ 1 ∷ 0 ∷ 0 ∷ 0 ∷ 248 ∷ 255 ∷ 255 ∷ 255 ∷ 0 ∷ 0 ∷ 0 ∷ 0 ∷ 0 ∷ 0 ∷ 0 ∷ 0 ∷ 240 ∷ 255 ∷ 255 ∷ 255 ∷ 2 ∷ 0 ∷ 0 ∷ 0 ∷ []
