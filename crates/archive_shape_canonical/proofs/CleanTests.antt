@@ -11,6 +11,7 @@ use Rattle.archive_shape_layout.specs.Content.Label.{written}
 use Rattle.archive_shape_layout.specs.Content.Content.{illegal, plain, claimed, counting}
 use Rattle.archive_shape_layout.proofs.SameShape.{both_left, both_right}
 use Rattle.archive_shape_canonical.specs.Clean.{IsIn, Owns, InParts, field_size, InFieldOfNode, InField, FieldPartOrZero, PaddingIsZero, IsTextFilled, IsShapeFilled, AreControlsFilled, IsFilled, IsClean}
+use Rattle.archive_shape_canonical.proofs.Cleanness.{clean_by}
 
 -- ---- evidence from tests
 
@@ -258,9 +259,6 @@ filled_test bytes (node level most k v pos) c = Some tt
 filled_test bytes (child level most k v pos) c = Some tt
 filled_test bytes (entry k key_pos v value_pos) c = Some tt
 filled_test bytes (place_at pos limit) c = Some tt
-
-pub clean_by : (names : Names) (bytes : List ℕ) (p : Part) (c : Content) → content_of names bytes p ≡ c → PaddingIsZero bytes p c → IsFilled bytes p c → IsClean names bytes p
-clean_by names bytes p c e h f = record { padding = subst (PaddingIsZero bytes p) (sym e) h; filled = subst (IsFilled bytes p) (sym e) f }
 
 -- whether a part with a content is clean
 unfoldable pub clean_test : (names : Names) (bytes : List ℕ) (p : Part) (c : Content) → content_of names bytes p ≡ c → Option (IsClean names bytes p)

@@ -98,11 +98,11 @@ module _ (fit : Fit) (names : Names) (bytes : List ℕ) where
   canonical_claimed low e (holds_later f a b d g h) n = absurd (cc)
   canonical_claimed low e (holds_back f a b c d) n = absurd (cc)
 
-InRegions-left : (rs qs : List Region) (i : ℕ) → InRegions rs i → InRegions (rs ++ qs) i
+pub InRegions-left : (rs qs : List Region) (i : ℕ) → InRegions rs i → InRegions (rs ++ qs) i
 InRegions-left [] qs i h = absurd h
 InRegions-left (r ∷ rs) qs i h = ⊎_elim (λ a. inl a) (λ b. inr (InRegions-left rs qs i b)) h
 
-InRegions-right : (rs qs : List Region) (i : ℕ) → InRegions qs i → InRegions (rs ++ qs) i
+pub InRegions-right : (rs qs : List Region) (i : ℕ) → InRegions qs i → InRegions (rs ++ qs) i
 InRegions-right [] qs i h = h
 InRegions-right (r ∷ rs) qs i h = inr (InRegions-right rs qs i h)
 

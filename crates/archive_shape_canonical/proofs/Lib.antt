@@ -15,6 +15,8 @@ pub mod Joining
 pub mod Everywhere
 pub mod Orders
 pub mod SameValue
+pub mod Cleanness
+pub mod Small
 pub mod CleanTests
 pub mod ChoiceTests
 pub mod Evaluate

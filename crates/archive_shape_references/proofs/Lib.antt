@@ -3,3 +3,4 @@ pub mod Pointees
 pub mod PointerSizes
 pub mod Written
 pub mod Sealed
+pub mod Pieces

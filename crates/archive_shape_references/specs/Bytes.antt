@@ -1,7 +1,14 @@
 -- Bytes at a position.
-use Rattle.std.specs.Prelude.{◌≡◌, ℕ, ◌+◌, ◌≤◌, List, ◌++◌, length, take, drop}
+use Rattle.std.specs.Prelude.{◌≡◌, ℕ, ◌+◌, ◌≤◌, List, ◌++◌, length, take, drop, replicate}
 use Rattle.archive_shape_layout.specs.Bytes.{window}
 use Rattle.archive_shape_layout.specs.Edit.{Spares}
+
+-- a piece stands at a position
+abbrev pub HasBytes : List ℕ → ℕ → List ℕ → Type 0
+HasBytes bytes pos piece = window bytes pos (length piece) ≡ piece
+
+abbrev pub zeros : ℕ → List ℕ
+zeros n = replicate n 0
 
 -- the bytes with a piece at a position in place of what stood there
 abbrev pub overwrite : List ℕ → ℕ → List ℕ → List ℕ

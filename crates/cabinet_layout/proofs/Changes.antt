@@ -5,7 +5,7 @@ use Rattle.archive_shape_layout.specs.Edit.{Apart}
 use Rattle.archive_shape_references.specs.Bytes.{overwrite}
 use Rattle.cabinet_text.specs.Tree.{Leaf, IsLeaf, IsDocument, Tree, leaf, list, Trees, no_trees, more_trees, count, AreLeaves, Step, key, place, inside, node_at, node_in}
 use Rattle.cabinet_text.specs.Answering.{fits, change, change_in}
-use Rattle.cabinet_layout.specs.Bytes.{HasBytes}
+use Rattle.archive_shape_references.specs.Bytes.{HasBytes}
 use Rattle.cabinet_layout.specs.Node.{elements_at, node_position}
 use Rattle.cabinet_layout.specs.Fields.{IsLeafAt, IsListAt, IsNodeAt, AreNodesAt}
 use Rattle.cabinet_layout.specs.Image.{own_offset, own_bytes}
@@ -15,7 +15,7 @@ use Rattle.cabinet_layout.proofs.Frames.{own_bytes_short, frame_leaf, frame_elem
 use Rattle.cabinet_layout.proofs.Paths.{in_list}
 use Rattle.cabinet_layout.proofs.Edits.{fits_document, leaf_edit, bytes_edit}
 use Rattle.cabinet_layout.proofs.Leaves.{length-leaf_bytes, length-elements_bytes, first_element, other_elements}
-use Rattle.cabinet_layout.proofs.Pieces.{stands_append}
+use Rattle.archive_shape_references.proofs.Pieces.{stands_append}
 
 -- the node at a position was one leaf and is another, and what lies before or after it stays
 pub record Edited (bytes others : List ℕ) (pos : ℕ) (old new : Leaf) : Type 0 where

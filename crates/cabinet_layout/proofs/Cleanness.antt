@@ -1,20 +1,20 @@
 -- What is canonical of the parts of an image: each is clean, and the elements of a list are the first bytes.
-use Rattle.std.proofs.Common.{◌≡◌, ℕ, suc, ◌+◌, ◌*◌, ◌≤◌, ◌<◌, List, [], ◌∷◌, length, slice_index, refl, sym, subst, ap, ◌∙◌, arith, lt-ltb, inl, inr, ⊎_elim, zero}
-use Rattle.std.proofs.lemmas.Bool.{cases_lt}
+use Rattle.std.proofs.Common.{◌≡◌, ℕ, suc, ◌+◌, ◌*◌, ◌≤◌, ◌<◌, List, [], ◌∷◌, length, slice_index, refl, sym, subst, ap, ◌∙◌, lt-ltb, inl, inr, ⊎_elim}
 use Rattle.archive_shape_layout.specs.Bytes.{window, align_up}
 use Rattle.archive_shape_layout.specs.Shape.{Shape, size_of}
 use Rattle.archive_shape_layout.specs.Shape.Shape.{choice, vector, truth as truth_shape, text as text_shape}
 use Rattle.archive_shape_layout.specs.Shape.Pointee.{sized, slice}
-use Rattle.archive_shape_layout.specs.Content.{Part, Label, Content, Span, content_of, elements, made, before_ff}
+use Rattle.archive_shape_layout.specs.Content.{content_of, elements, made, before_ff}
 use Rattle.archive_shape_layout.specs.Content.Part.{at, behind}
 use Rattle.archive_shape_layout.specs.Content.Label.{same, whole, tagged, written}
 use Rattle.archive_shape_layout.specs.Content.Content.{plain, claimed}
-use Rattle.archive_shape_canonical.specs.Clean.{IsIn, Owns, InParts, FieldPartOrZero, PaddingIsZero, IsFilled, IsClean}
+use Rattle.archive_shape_canonical.specs.Clean.{IsClean}
 use Rattle.archive_shape_canonical.specs.Settled.{Fit}
 use Rattle.archive_shape_canonical.specs.Canonical.{IsCanonical, AreCanonical, end_of, end_of_all}
+use Rattle.archive_shape_canonical.proofs.Cleanness.{clean_by, elements_own}
 use Rattle.cabinet_text.specs.Tree as tree
 use Rattle.cabinet_text.specs.Tree.{list, Trees, no_trees, more_trees, count, Leaf, AreLeaves, IsDocument}
-use Rattle.cabinet_layout.specs.Bytes.{HasBytes}
+use Rattle.archive_shape_references.specs.Bytes.{HasBytes}
 use Rattle.cabinet_layout.specs.Node.{node_shape, node_names, payloads, elements_at}
 use Rattle.cabinet_layout.specs.Fields.{IsLeafAt, IsListAt, AreNodesAt}
 use Rattle.cabinet_layout.specs.Written.{leaf_bytes, list_bytes, elements_bytes}
@@ -25,23 +25,9 @@ use Rattle.cabinet_layout.proofs.Making.{lone_made, node_made, leaf_holds, eleme
 
 -- ---- parts are clean
 
-clean_plain : (bytes : List ℕ) (p : Part) (l : Label) (ps : List Part) → content_of node_names bytes p ≡ plain l ps
-    → ((i : ℕ) → Owns p i → FieldPartOrZero bytes p ps i) → IsFilled bytes p (plain l ps) → IsClean node_names bytes p
-clean_plain bytes p l ps e h f =
-    let P : Content → Type 0 = λ c. PaddingIsZero bytes p c in
-    let Q : Content → Type 0 = λ c. IsFilled bytes p c in
-    record { padding = subst P (sym e) h; filled = subst Q (sym e) f }
-
-clean_claimed : (bytes : List ℕ) (p : Part) (s : Span) (l : Label) (ps : List Part) → content_of node_names bytes p ≡ claimed s l ps
-    → ((i : ℕ) → IsIn s.start s.size i → FieldPartOrZero bytes p ps i) → IsFilled bytes p (claimed s l ps) → IsClean node_names bytes p
-clean_claimed bytes p s l ps e h f =
-    let P : Content → Type 0 = λ c. PaddingIsZero bytes p c in
-    let Q : Content → Type 0 = λ c. IsFilled bytes p c in
-    record { padding = subst P (sym e) h; filled = subst Q (sym e) f }
-
 clean_node : (bytes : List ℕ) (pos : ℕ) → IsClean node_names bytes (at pos node_shape)
 unfolding align_up
-clean_node bytes pos = clean_plain bytes (at pos node_shape) same (at pos (choice payloads) ∷ []) (node_content bytes pos) (λ i o. inr (inl (inl o))) tt
+clean_node bytes pos = clean_by node_names bytes (at pos node_shape) (plain same (at pos (choice payloads) ∷ [])) (node_content bytes pos) (λ i o. inr (inl (inl o))) tt
 
 -- of a node its tag, its payload and zeros
 clean_choice :
@@ -52,27 +38,18 @@ clean_choice :
     → IsClean node_names bytes (at pos (choice payloads))
 unfolding align_up
 clean_choice bytes pos tag from s payload e size n =
-    clean_plain bytes (at pos (choice payloads)) (tagged tag) (at from s ∷ []) e
+    clean_by node_names bytes (at pos (choice payloads)) (plain (tagged tag) (at from s ∷ [])) e
     (λ i o. ⊎_elim (λ t. inl t) (λ r. ⊎_elim (λ p. inr (inl (inl (p.0, subst (λ m. i < from + m) size p.1)))) (λ z. inr (inr z)) r) (n.each i o))
     tt
 
--- a byte of elements is one of theirs
-elements_own : (n pos : ℕ) (s : Shape) (i : ℕ) → IsIn pos (n * size_of s) i → InParts (elements pos n s) i
-unfolding elements
-elements_own zero pos s i o = let a = o.0 in let b = o.1 in absurd (omega arith)
-elements_own (suc n) pos s i o =
-    let a = o.0 in
-    let b = o.1 in
-    ⊎_elim (λ l. inl (a, l)) (λ g. inr (elements_own n (pos + size_of s) s i (g, omega arith))) (cases_lt i (pos + size_of s))
-
 clean_elements : (bytes : List ℕ) (pos len : ℕ) → IsClean node_names bytes (behind pos (slice node_shape) len)
 clean_elements bytes pos len =
-    clean_claimed bytes (behind pos (slice node_shape) len) (elements_span pos len) whole (elements pos len node_shape) (elements_content bytes pos len)
+    clean_by node_names bytes (behind pos (slice node_shape) len) (claimed (elements_span pos len) whole (elements pos len node_shape)) (elements_content bytes pos len)
     (λ i o. inr (inl (elements_own len pos node_shape i o))) tt
 
 pub clean_root : (bytes : List ℕ) (pos : ℕ) → IsClean node_names bytes (behind pos (sized node_shape) 1)
 clean_root bytes pos =
-    clean_claimed bytes (behind pos (sized node_shape) 1) (record { start = pos; size = 24; align = 8 }) same (at pos node_shape ∷ []) (root_content bytes pos)
+    clean_by node_names bytes (behind pos (sized node_shape) 1) (claimed (record { start = pos; size = 24; align = 8 }) same (at pos node_shape ∷ [])) (root_content bytes pos)
     (λ i o. inr (inl (inl o))) tt
 
 -- ---- leaves
@@ -85,19 +62,19 @@ module _ (fit : Fit) where
   leaf_canonical bytes pos level (tree.truth b) d h low s =
       let n = leaf_stands bytes pos (tree.truth b) d s in
       let choice_clean = clean_choice bytes pos 0 (pos + 1) truth_shape _ (choice_content bytes pos 0 h.0) refl n in
-      let clean = clean_plain bytes (at (pos + 1) truth_shape) _ [] (truth_content node_names bytes (pos + 1) ∙ choose_true _ _ (lt-ltb _ _ h.1)) (λ i o. inl o) tt in
+      let clean = clean_by node_names bytes (at (pos + 1) truth_shape) (plain _ []) (truth_content node_names bytes (pos + 1) ∙ choose_true _ _ (lt-ltb _ _ h.1)) (λ i o. inl o) tt in
       (clean_node bytes pos, tt, ((choice_clean, tt, ((clean, tt, tt), tt)), tt))
   leaf_canonical bytes pos level (tree.number m) d h low s =
       let n = leaf_stands bytes pos (tree.number m) d s in
       let choice_clean = clean_choice bytes pos 1 (pos + 8) _ _ (choice_content bytes pos 1 h.0) refl n in
-      let clean = clean_plain bytes (at (pos + 8) _) _ [] (number_content node_names bytes (pos + 8)) (λ i o. inl o) tt in
+      let clean = clean_by node_names bytes (at (pos + 8) _) (plain _ []) (number_content node_names bytes (pos + 8)) (λ i o. inl o) tt in
       (clean_node bytes pos, tt, ((choice_clean, tt, ((clean, tt, tt), tt)), tt))
   leaf_canonical bytes pos level (tree.text t) d h low s =
       let n = leaf_stands bytes pos (tree.text t) d s in
       let size = length-filled t d.1 in
       let eight = text_stands bytes (pos + 4) t d.1 n.stands in
       let choice_clean = clean_choice bytes pos 2 (pos + 4) text_shape _ (choice_content bytes pos 2 h.0) size n in
-      let clean = clean_plain bytes (at (pos + 4) text_shape) (written (before_ff (window bytes (pos + 4) 8))) [] (text_content_is node_names bytes (pos + 4) ∙ choose_true _ _ h.1) (λ i o. inl o)
+      let clean = clean_by node_names bytes (at (pos + 4) text_shape) (plain (written (before_ff (window bytes (pos + 4) 8))) []) (text_content_is node_names bytes (pos + 4) ∙ choose_true _ _ h.1) (λ i o. inl o)
       (λ i a b. ap (λ w. slice_index w i) eight ∙ filled_behind t i (subst (λ x. length x ≤ i) h.2 a) b) in
       (clean_node bytes pos, tt, ((choice_clean, tt, ((clean, tt, tt), tt)), tt))
 
@@ -139,7 +116,7 @@ module _ (fit : Fit) where
       let start = elements_at bytes pos in
       let n = list_stands bytes pos (count ts) s in
       let choice_clean = clean_choice bytes pos 5 (pos + 4) (vector node_shape) _ (choice_content bytes pos 5 h.tag) refl n in
-      let vector_clean = clean_plain bytes (at (pos + 4) (vector node_shape)) same _ (vector_leads bytes pos (count ts) h) (λ i o. inl o) tt in
+      let vector_clean = clean_by node_names bytes (at (pos + 4) (vector node_shape)) (plain same _) (vector_leads bytes pos (count ts) h) (λ i o. inl o) tt in
       let begins : start ≡ align_up (end_of_all (elements_hold bytes start (suc level) ts d nodes) 0) 8 = first ∙ sym (ap (λ x. align_up x 8) (elements_end bytes start (suc level) ts d nodes 0)) in
       let all = elements_canonical bytes start (suc level) ts d nodes 0 elements_stand in
       (clean_node bytes pos, tt, ((choice_clean, tt, ((vector_clean, tt, ((clean_elements bytes start (count ts), tt, all, begins), tt)), tt)), tt))

@@ -10,12 +10,13 @@ use Rattle.archive_shape_layout.specs.Content.{IsInline, before_ff}
 use Rattle.archive_shape_references.specs.Bytes.{overwrite}
 use Rattle.cabinet_text.specs.Tree.{Leaf, leaf, truth, number, text, IsLeaf, IsDocument}
 use Rattle.cabinet_text.specs.Answering.{fits}
-use Rattle.cabinet_layout.specs.Bytes.{HasBytes, zeros, filler, truth_byte, number_bytes}
+use Rattle.archive_shape_references.specs.Bytes.{HasBytes, zeros}
+use Rattle.cabinet_layout.specs.Bytes.{filler, truth_byte, number_bytes}
 use Rattle.cabinet_layout.specs.Fields.{IsLeafAt}
 use Rattle.cabinet_layout.specs.Image.{own_offset, own_bytes}
 use Rattle.cabinet_layout.specs.Written.{leaf_bytes}
 use Rattle.archive_shape_references.proofs.Written.{window_there, byte_before, window_from}
-use Rattle.cabinet_layout.proofs.Pieces.{stands_replaced, stands_byte}
+use Rattle.archive_shape_references.proofs.Pieces.{stands_replaced, stands_byte}
 use Rattle.archive_shape_layout.proofs.Texts.{text_before, split_at_filler}
 use Rattle.archive_shape_references.proofs.Sealed.{inline_after}
 

@@ -9,7 +9,7 @@ use Rattle.cabinet_text.specs.Tree.{Leaf, truth, number, text, leaf, list, Trees
 use Rattle.cabinet_layout.specs.Node.{elements_at, or_zero}
 use Rattle.cabinet_layout.specs.Fields.{IsLeafAt, IsListAt, AreNodesAt}
 use Rattle.cabinet_layout.specs.Image.{own_offset, own_bytes}
-use Rattle.cabinet_layout.proofs.Pieces.{window_byte, word_of_window}
+use Rattle.archive_shape_references.proofs.Pieces.{window_byte, word_of_window}
 
 -- the own bytes of a leaf lie in its node
 pub own_bytes_short : (l : Leaf) → IsDocument (leaf l) → own_offset l + length (own_bytes l) ≤ 24

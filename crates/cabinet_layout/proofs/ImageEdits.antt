@@ -2,13 +2,13 @@
 use Rattle.std.proofs.Common.{◌≡◌, ℕ, ◌+◌, ◌*◌, ◌^◌, ◌≤◌, true, List, [], ◌∷◌, ◌++◌, length, Some, refl, sym, ap, subst, ◌∙◌, arith, inr}
 use Rattle.cabinet_text.specs.Tree.{Leaf, Tree, leaf, list, count, IsDocument, Step, key, place, inside, node_at}
 use Rattle.cabinet_text.specs.Answering.{fits, change, change_in}
-use Rattle.cabinet_layout.specs.Bytes.{HasBytes}
+use Rattle.archive_shape_references.specs.Bytes.{HasBytes}
 use Rattle.cabinet_layout.specs.Node.{node_position}
 use Rattle.cabinet_layout.specs.Image.{Image}
 use Rattle.cabinet_layout.specs.Written.{leaf_bytes, list_bytes, elements_bytes, image_bytes}
 use Rattle.cabinet_layout.specs.Laws.{written_at, EditKeepsImage}
 use Rattle.cabinet_layout.proofs.Roots.{accepted_says}
-use Rattle.cabinet_layout.proofs.Pieces.{stands_append, stands_whole}
+use Rattle.archive_shape_references.proofs.Pieces.{stands_append, stands_whole}
 use Rattle.cabinet_layout.proofs.Leaves.{length-elements_bytes}
 use Rattle.cabinet_layout.proofs.Paths.{in_list}
 use Rattle.cabinet_layout.proofs.Changes.{Edited, changed_leaf, count-change_in, document_changed, bytes_edited}

@@ -1,11 +1,10 @@
 -- What the image of a document is: its elements, side by side from the first byte on, and after them its root.
 use Rattle.std.proofs.Common.{◌≡◌, ℕ, ◌+◌, ◌-◌, ◌*◌, ◌%◌, ◌^◌, ◌≤◌, ◌<◌, true, false, nat_lt, nat_le, w32, List, [], length, slice_index, Some, refl, sym, ap, subst, ◌∙◌, arith, length-append, ◌⊎◌, ⊎_elim, inl, inr}
-use Rattle.std.specs.Int.{from_le_bytes, to_le_bytes}
+use Rattle.std.specs.Int.{to_le_bytes}
 use Rattle.std.proofs.Math.ListN.{get_or-eq_default}
 use Rattle.std.proofs.lemmas.Bool.{cases_lt}
 use Rattle.std.proofs.lemmas.Bool.Decides.{nat_tests}
 use Rattle.std.proofs.lemmas.List.{take_all}
-use Rattle.std.proofs.lemmas.Nat.{from_le_bytes-to_le_bytes_4}
 use Rattle.archive_shape_layout.specs.Bytes.{align_up, word_at, target_from}
 use Rattle.archive_shape_layout.specs.Value.{Value, Values}
 use Rattle.archive_shape_layout.specs.Content.{made}
@@ -15,7 +14,7 @@ use Rattle.archive_shape_canonical.specs.FirstFit.{first_fit}
 use Rattle.archive_shape_canonical.specs.Canonical.{IsCanonical, end_of, InRegions}
 use Rattle.archive_shape_canonical.proofs.One.{one_archive_law}
 use Rattle.cabinet_text.specs.Tree.{Tree, leaf, list, Trees, count, AreLeaves, IsDocument}
-use Rattle.cabinet_layout.specs.Bytes.{HasBytes}
+use Rattle.archive_shape_references.specs.Bytes.{HasBytes}
 use Rattle.cabinet_layout.specs.Hash.{text_hash}
 use Rattle.cabinet_layout.specs.Node.{root_position, node_names, node_shape, elements_at, or_zero}
 use Rattle.cabinet_layout.specs.Denotes.{Denotes, denotes_truth, denotes_number, denotes_text, denotes_list, DenoteAll, denote_none, denote_more, Accepted}
@@ -26,7 +25,7 @@ use Rattle.cabinet_layout.specs.Laws.{OneImage, ImageWritten}
 use Rattle.cabinet_layout.proofs.Roots.{regions_of}
 use Rattle.cabinet_layout.proofs.Limits.{before_root, limit_of}
 use Rattle.cabinet_layout.proofs.Making.{value_of, tree_denotes, root_holds, regions_ascend}
-use Rattle.cabinet_layout.proofs.Pieces.{word_of_window, stands_left, stands_right}
+use Rattle.archive_shape_references.proofs.Pieces.{stands_word, stands_left, stands_right}
 use Rattle.cabinet_layout.proofs.Leaves.{length-leaf_bytes, length-elements_bytes, leaf_says, elements_say, list_stands}
 use Rattle.cabinet_layout.proofs.Cleanness.{clean_root, leaf_canonical, leaf_end, list_canonical, list_end}
 use Rattle.cabinet_layout.proofs.Small.{small_image}
@@ -40,10 +39,6 @@ first_led from some h =
     let near : nat_le (2 ^ 32 - (2 ^ 32 - from)) from ≡ true = grind (arith, nat_tests) in
     let target : from - (2 ^ 32 - (2 ^ 32 - from)) ≡ 0 = omega arith in
     rw (high, near, target) refl
-
--- the word of a piece
-stands_word : (bytes : List ℕ) (at word : ℕ) → word < 2 ^ 32 → HasBytes bytes at (to_le_bytes w32 word) → word_at bytes at ≡ word
-stands_word bytes at word h s = word_of_window bytes at ∙ ap (from_le_bytes w32) s ∙ from_le_bytes-to_le_bytes_4 word h
 
 -- the node of a list right behind its elements, which are the first bytes
 pub record ListSays (bytes : List ℕ) (pos len : ℕ) : Type 0 where

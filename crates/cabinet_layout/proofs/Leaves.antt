@@ -7,12 +7,13 @@ use Rattle.std.specs.Int.{from_le_bytes, to_le_bytes, cast_signed}
 use Rattle.archive_shape_layout.specs.Bytes.{window}
 use Rattle.archive_shape_layout.specs.Content.{IsInline, before_ff}
 use Rattle.cabinet_text.specs.Tree.{Leaf, truth, number, text, leaf, list, Trees, no_trees, more_trees, count, AreLeaves, IsDocument}
-use Rattle.cabinet_layout.specs.Bytes.{HasBytes, zeros, filler, truth_byte, number_bytes}
+use Rattle.archive_shape_references.specs.Bytes.{HasBytes, zeros}
+use Rattle.cabinet_layout.specs.Bytes.{filler, truth_byte, number_bytes}
 use Rattle.cabinet_layout.specs.Fields.{IsLeafAt, AreNodesAt}
 use Rattle.cabinet_layout.specs.Image.{own_offset}
 use Rattle.archive_shape_canonical.specs.Clean.{IsIn}
 use Rattle.cabinet_layout.specs.Written.{leaf_bytes, list_bytes, elements_bytes}
-use Rattle.cabinet_layout.proofs.Pieces.{stands_left, stands_right, stands_byte, zero_stands}
+use Rattle.archive_shape_references.proofs.Pieces.{stands_left, stands_right, stands_byte, zero_stands}
 use Rattle.archive_shape_layout.proofs.Texts.{text_before, StartsFilled}
 use Rattle.archive_shape_references.proofs.Sealed.{inline_after}
 use Rattle.cabinet_layout.proofs.Edits.{truth_reads, number_reads}

@@ -3,7 +3,6 @@ pub mod Lists
 pub mod Limits
 pub mod Roots
 pub mod Making
-pub mod Pieces
 pub mod Frames
 pub mod Paths
 pub mod Leaves

@@ -1,5 +1,5 @@
 -- The layout relation at the vector of a list: where it leads, and what holds there.
-use Rattle.std.proofs.Common.{◌≡◌, ℕ, suc, ◌+◌, ◌*◌, ◌≤◌, ◌<◌, List, [], ◌∷◌, ◌++◌, drop, slice_index, Option, Some, None, refl, sym, subst, ap, ap₂, ◌∙◌, arith, add_assoc, add-zero, get_or-take, get_or-drop}
+use Rattle.std.proofs.Common.{◌≡◌, ℕ, suc, ◌+◌, ◌*◌, List, [], ◌∷◌, ◌++◌, Option, Some, None, refl, sym, subst, ap, ap₂, ◌∙◌, arith, add-zero}
 use Rattle.archive_shape_layout.specs.Bytes.{window, word_at, target_from}
 use Rattle.archive_shape_layout.specs.Shape.Shape.{vector}
 use Rattle.archive_shape_layout.specs.Shape.Pointee.{slice}
@@ -11,26 +11,9 @@ use Rattle.archive_shape_layout.specs.Content.Label.{same, whole}
 use Rattle.archive_shape_layout.specs.Content.Content.{plain, claimed}
 use Rattle.archive_shape_layout.specs.Holds.{Region, region_of, Visit, OpenShared, Holds, HoldAll}
 use Rattle.archive_shape_layout.proofs.Unique.{by_claimed}
+use Rattle.archive_shape_references.proofs.Pieces.{word_within}
 use Rattle.cabinet_layout.specs.Node.{node_shape, node_names, target_of_list, len_of_list, or_zero, elements_at}
 use Rattle.cabinet_layout.proofs.Inversions.{none_illegal, passed_on}
-
-byte_within : (bytes : List ℕ) (pos size off i : ℕ) → off + 4 ≤ size → i < 4 → slice_index (drop off (window bytes pos size)) i ≡ slice_index (drop (pos + off) bytes) i
-byte_within bytes pos size off i h k =
-    get_or-drop off (window bytes pos size) i 0
-    ∙ get_or-take size (drop pos bytes) (off + i) 0 (omega arith)
-    ∙ get_or-drop pos bytes (off + i) 0
-    ∙ ap (slice_index bytes) (sym (add_assoc pos off i))
-    ∙ sym (get_or-drop (pos + off) bytes i 0)
-
--- a word in a window
-pub word_within : (bytes : List ℕ) (pos size off : ℕ) → off + 4 ≤ size → word_at (window bytes pos size) off ≡ word_at bytes (pos + off)
-unfolding word_at
-word_within bytes pos size off h =
-    let b0 = byte_within bytes pos size off 0 h (omega arith) in
-    let b1 = byte_within bytes pos size off 1 h (omega arith) in
-    let b2 = byte_within bytes pos size off 2 h (omega arith) in
-    let b3 = byte_within bytes pos size off 3 h (omega arith) in
-    rw (b0, b1, b2, b3)
 
 abbrev pub elements_span : ℕ → ℕ → Span
 elements_span start len = record { start = start; size = len * 24; align = 8 }

@@ -1,14 +1,6 @@
--- Pieces of bytes.
-use Rattle.std.specs.Prelude.{◌≡◌, ℕ, ℤ, Bool, true, false, List, length, replicate}
+-- The bytes of leaves.
+use Rattle.std.specs.Prelude.{ℕ, ℤ, Bool, true, false, List, replicate}
 use Rattle.std.specs.Int.{w64, to_le_bytes, cast_unsigned}
-use Rattle.archive_shape_layout.specs.Bytes.{window}
-
--- a piece stands at a position
-abbrev pub HasBytes : List ℕ → ℕ → List ℕ → Type 0
-HasBytes bytes pos piece = window bytes pos (length piece) ≡ piece
-
-abbrev pub zeros : ℕ → List ℕ
-zeros n = replicate n 0
 
 -- what an inline text is filled up with
 abbrev pub filler : ℕ → List ℕ

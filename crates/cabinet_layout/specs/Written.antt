@@ -2,7 +2,8 @@
 use Rattle.std.specs.Prelude.{ℕ, ◌+◌, ◌-◌, ◌*◌, ◌^◌, List, [], ◌∷◌, ◌++◌, length}
 use Rattle.std.specs.Int.{w32, to_le_bytes}
 use Rattle.cabinet_text.specs.Tree.{Leaf, truth, number, text, Tree, leaf, list, Trees, no_trees, more_trees, count}
-use Rattle.cabinet_layout.specs.Bytes.{zeros, filler, truth_byte, number_bytes}
+use Rattle.archive_shape_references.specs.Bytes.{zeros}
+use Rattle.cabinet_layout.specs.Bytes.{filler, truth_byte, number_bytes}
 
 abbrev pub leaf_bytes : Leaf → List ℕ
 leaf_bytes (truth b) = 0 ∷ (truth_byte b ∷ zeros 22)

@@ -3,7 +3,8 @@ use Rattle.std.proofs.Common.{◌≡◌, ℕ, ◌+◌, ◌-◌, ◌≤◌, List,
 use Rattle.std.proofs.lemmas.List.{drop-drop, drop-append-le, drop-replicate}
 use Rattle.archive_shape_references.specs.Bytes.{overwrite}
 use Rattle.cabinet_text.specs.Tree.{Leaf, leaf, truth, number, text, IsDocument}
-use Rattle.cabinet_layout.specs.Bytes.{zeros, filler}
+use Rattle.archive_shape_references.specs.Bytes.{zeros}
+use Rattle.cabinet_layout.specs.Bytes.{filler}
 use Rattle.cabinet_layout.specs.Image.{own_offset, own_bytes}
 use Rattle.cabinet_layout.specs.Written.{leaf_bytes}
 use Rattle.cabinet_nodes.specs.Writing.{blank}

@@ -16,7 +16,7 @@ use Rattle.cabinet_layout.specs.Node.{len_of_list}
 use Rattle.cabinet_layout.specs.ArchiveFault.{text_elsewhere, no_text, ElementFault, in_the_leaf}
 use Rattle.cabinet_layout.specs.Fields.{IsLeafAt, IsListAt, IsNodeAt}
 use Rattle.cabinet_layout.proofs.Faults.{leaf_tag}
-use Rattle.cabinet_layout.proofs.Pieces.{length-window}
+use Rattle.archive_shape_references.proofs.Pieces.{length-window}
 use Rattle.cabinet_nodes.specs.Reading.{HasInlineText, IsNoInlineText, is_elsewhere, is_no_text, IsDocumentLeafAt, HasLeafAt, HasNodeAt}
 use Rattle.cabinet_nodes.proofs.Short.{before_ff-short}
 

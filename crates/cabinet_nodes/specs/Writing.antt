@@ -1,7 +1,7 @@
 -- What the nodes of leaves are made of.
 use Rattle.std.specs.Prelude.{ℕ, List, ◌∷◌}
 use Rattle.cabinet_text.specs.Tree.{Leaf, truth, number, text}
-use Rattle.cabinet_layout.specs.Bytes.{zeros}
+use Rattle.archive_shape_references.specs.Bytes.{zeros}
 
 -- the bytes of `bool false`, `int 0` and the empty text
 abbrev pub blank : Leaf → List ℕ

@@ -1,12 +1,12 @@
 -- Pieces of bytes, and writes over them.
-use Rattle.std.proofs.Common.{◌≡◌, ℕ, ◌+◌, ◌-◌, ◌≤◌, ◌<◌, List, [], ◌∷◌, ◌++◌, refl, length, take, drop, slice_index, sym, ap, subst, ◌∙◌, arith, length-append, get_or-take, get_or-drop, add-zero}
+use Rattle.std.proofs.Common.{◌≡◌, ℕ, ◌+◌, ◌-◌, ◌≤◌, ◌<◌, List, [], ◌∷◌, ◌++◌, refl, length, take, drop, slice_index, sym, ap, subst, ◌∙◌, arith, length-append, add_assoc, ◌^◌, get_or-take, get_or-drop, add-zero}
 use Rattle.std.proofs.Math.Seq.{take-add, take-append_seam}
-use Rattle.std.specs.Int.{w32, from_le_bytes}
+use Rattle.std.specs.Int.{w32, from_le_bytes, to_le_bytes}
 use Rattle.std.proofs.lemmas.List.{length-take, length-drop, drop-drop, drop-take, drop_at, take-take, take_all, length-replicate, get_or-replicate}
+use Rattle.std.proofs.lemmas.Nat.{from_le_bytes-to_le_bytes_4}
 use Rattle.archive_shape_layout.specs.Bytes.{window, word_at}
-use Rattle.archive_shape_references.specs.Bytes.{overwrite}
+use Rattle.archive_shape_references.specs.Bytes.{HasBytes, zeros, overwrite}
 use Rattle.archive_shape_references.proofs.Written.{window_before, window_behind, window_there}
-use Rattle.cabinet_layout.specs.Bytes.{HasBytes, zeros}
 
 pub length-window : (bytes : List ℕ) (pos size : ℕ) → pos + size ≤ length bytes → length (window bytes pos size) ≡ size
 length-window bytes pos size h = omega (arith, length-take size (drop pos bytes), length-drop pos bytes)
@@ -31,6 +31,28 @@ word_of_window bytes pos =
     let b2 = get_or-take 4 (drop pos bytes) 2 0 (omega arith) in
     let b3 = get_or-take 4 (drop pos bytes) 3 0 (omega arith) in
     rw (b0, b1, b2, b3)
+
+byte_within : (bytes : List ℕ) (pos size off i : ℕ) → off + 4 ≤ size → i < 4 → slice_index (drop off (window bytes pos size)) i ≡ slice_index (drop (pos + off) bytes) i
+byte_within bytes pos size off i h k =
+    get_or-drop off (window bytes pos size) i 0
+    ∙ get_or-take size (drop pos bytes) (off + i) 0 (omega arith)
+    ∙ get_or-drop pos bytes (off + i) 0
+    ∙ ap (slice_index bytes) (sym (add_assoc pos off i))
+    ∙ sym (get_or-drop (pos + off) bytes i 0)
+
+-- a word in a window
+pub word_within : (bytes : List ℕ) (pos size off : ℕ) → off + 4 ≤ size → word_at (window bytes pos size) off ≡ word_at bytes (pos + off)
+unfolding word_at
+word_within bytes pos size off h =
+    let b0 = byte_within bytes pos size off 0 h (omega arith) in
+    let b1 = byte_within bytes pos size off 1 h (omega arith) in
+    let b2 = byte_within bytes pos size off 2 h (omega arith) in
+    let b3 = byte_within bytes pos size off 3 h (omega arith) in
+    rw (b0, b1, b2, b3)
+
+-- the word of a piece
+pub stands_word : (bytes : List ℕ) (at word : ℕ) → word < 2 ^ 32 → HasBytes bytes at (to_le_bytes w32 word) → word_at bytes at ≡ word
+stands_word bytes at word h s = word_of_window bytes at ∙ ap (from_le_bytes w32) s ∙ from_le_bytes-to_le_bytes_4 word h
 
 -- one piece after another
 pub stands_append : (bytes : List ℕ) (pos : ℕ) (xs ys : List ℕ) (next : ℕ) → pos + length xs ≡ next → HasBytes bytes pos xs → HasBytes bytes next ys → HasBytes bytes pos (xs ++ ys)

@@ -1,0 +1,12 @@
+pub mod States
+pub mod Aligning
+pub mod Gaps
+pub mod Leaves
+pub mod Regions
+pub mod Views
+pub mod Pointers
+pub mod Options
+pub mod Shared
+pub mod Written
+pub mod Progress
+pub mod Samples

@@ -1,0 +1,172 @@
+-- Pointers lead to where their data was written.
+use Rattle.std.proofs.Common.{◌≡◌, ℕ, suc, ℤ, pos, negsuc, ◌+◌, ◌-◌, ◌≤◌, ◌<◌, ◌^◌, nat_le, nat_lt, List, [], ◌∷◌, ◌++◌, length, refl, sym, ap, ap₂, ◌∙◌, arith, Some, ◌⊎◌, inl, inr, add-zero, append-nil, true, false}
+use Rattle.std.proofs.lemmas.Bool.Decides.{nat_tests}
+use Rattle.std.proofs.lemmas.Int.{ints}
+use Rattle.std.specs.Prelude.{FitsSigned}
+use Rattle.std.specs.Int.{w32, to_le_bytes, cast_unsigned}
+use Rattle.archive_shape_layout.specs.Bytes.{window, word_at, target_from}
+use Rattle.archive_shape_layout.specs.Shape.{Shape}
+use Rattle.archive_shape_layout.specs.Shape.Shape.{vector, box}
+use Rattle.archive_shape_layout.specs.Shape.Pointee.{sized, slice}
+use Rattle.archive_shape_layout.specs.Value.{Value}
+use Rattle.archive_shape_layout.specs.Value.Value.{group}
+use Rattle.archive_shape_layout.specs.Value.Values.{no_values, more_values}
+use Rattle.archive_shape_layout.specs.Content.{Names, Part, Label, made, IsLegal, content_of, shape_content, following}
+use Rattle.archive_shape_layout.specs.Content.Part.{at, behind}
+use Rattle.archive_shape_layout.specs.Content.Label.{same}
+use Rattle.archive_shape_layout.specs.Content.Content.{plain}
+use Rattle.archive_shape_layout.specs.Holds.{Visit, OpenShared}
+use Rattle.archive_shape_layout.specs.Holds.Holds.{holds_plain}
+use Rattle.archive_shape_layout.specs.Holds.HoldAll.{holds_none, holds_more}
+use Rattle.archive_shape_canonical.specs.Settled.{Fit, IsSettled}
+use Rattle.archive_shape_canonical.specs.Clean.{IsClean}
+use Rattle.archive_shape_canonical.proofs.Cleanness.{clean_by}
+use Rattle.archive_shape_references.specs.Bytes.{HasBytes}
+use Rattle.archive_shape_references.proofs.Pieces.{stands_left, stands_right, stands_word, word_within}
+use Rattle.archive_shape_writing.specs.declared.error.Error.{Error}
+use Rattle.archive_shape_pointers.specs.Offsets.{difference}
+use Rattle.archive_forms_spelling.specs.State.{State, IsConsistent, advanced}
+use Rattle.archive_forms_spelling.specs.Spelling.{Spelling, state_after}
+use Rattle.archive_forms_spelling.specs.Spells.{CanonicalPart, SpellsAt, EachSpells, Spells}
+use Rattle.archive_forms_spelling.specs.Regions.{state_after_all, region_piece, region_fits}
+use Rattle.archive_forms_spelling.specs.Pointers.{FitsOffset, offset_bytes, slice_spelling, box_spelling}
+use Rattle.archive_forms_spelling.proofs.States.{from_earlier, consistent_further}
+use Rattle.archive_forms_spelling.proofs.Gaps.{bytes_append, bytes_word}
+use Rattle.archive_forms_spelling.proofs.Regions.{slice_canonical, boxed_canonical, region_exact, region_bytes, region_end, region_up, state_after_all_consistent, state_after_all_keyed, state_after_all_begun}
+use Rattle.archive_forms_spelling.proofs.Views.{each_spells}
+
+leads : (from to : ℕ) (z : ℤ) → z ≡ difference from to → FitsSigned w32 z → target_from from (cast_unsigned w32 z) ≡ Some to
+unfolding target_from
+leads from to (pos n) e f =
+    let h = f.sfits in
+    let to_is : from + n ≡ to = omega (arith, ints) in
+    let small : n < 2 ^ 31 = omega arith in
+    let read : target_from from n ≡ Some (from + n) = grind (arith, nat_tests) in
+    read ∙ ap Some to_is
+leads from to (negsuc n) e f =
+    let h = f.sfits in
+    let from_is : suc n + to ≡ from = omega (arith, ints) in
+    let word = 2 ^ 32 - suc n in
+    let small : suc n ≤ 2 ^ 31 = omega arith in
+    let high : nat_lt word (2 ^ 31) ≡ false = grind (arith, nat_tests) in
+    let near : nat_le (2 ^ 32 - word) from ≡ true = grind (arith, nat_tests) in
+    let to_is : from - (2 ^ 32 - word) ≡ to = omega arith in
+    rw (high, near, to_is) refl
+
+-- the offset between two positions leads from the one to the other
+pub offset_leads : (from to : ℕ) → FitsOffset from to → target_from from (cast_unsigned w32 (difference from to)) ≡ Some to
+offset_leads from to f = leads from to (difference from to) refl f
+
+word_small : (z : ℤ) → FitsSigned w32 z → cast_unsigned w32 z < 2 ^ 32
+word_small (pos n) f = let h = f.sfits in omega arith
+word_small (negsuc n) f = omega arith
+
+-- so does one that stands at the start of own bytes
+pub offset_stands : (bytes : List ℕ) (from to size : ℕ) → 4 ≤ size → FitsOffset from to → HasBytes bytes from (offset_bytes from to)
+    → target_from from (word_at (window bytes from size) 0) ≡ Some to
+offset_stands bytes from to size room f s =
+    ap (target_from from) (word_within bytes from size 0 room ∙ ap (word_at bytes) (add-zero from) ∙ stands_word bytes from (cast_unsigned w32 (difference from to)) (word_small (difference from to) f) s)
+    ∙ offset_leads from to f
+
+module _ {fit : Fit} {names : Names} {bytes : List ℕ} {level : ℕ} {inside : List OpenShared} {before after : List Visit} where
+  -- a part that has one part in it
+  pub one_part : (p q : Part) (l : Label) (v u : Value) (low high : ℕ)
+      → content_of names bytes p ≡ plain l (q ∷ [])
+      → IsLegal l
+      → made l (more_values v no_values) ≡ Some u
+      → IsClean names bytes p
+      → IsSettled fit bytes p (q ∷ []) (more_values v no_values)
+      → CanonicalPart fit names bytes level inside before after q v low high
+      → CanonicalPart fit names bytes level inside before after p u low high
+  one_part p q l v u low high e legal m clean r h = record {
+    regions = h.regions;
+    reads = record {
+      holds = holds_plain e legal (holds_more h.reads.holds (holds_none refl refl refl) refl (sym (append-nil h.regions))) m;
+      canonical = (clean, r, (h.reads.canonical, tt));
+      ends = h.reads.ends;
+    };
+    ascends = h.ascends;
+    gaps = h.gaps;
+  }
+
+-- ---- vectors and boxes
+
+module _ {A R : Type 0} (fit : Fit) (s : Shape) (knows : Names → Type 0) (w : Spelling A R) where
+  vector_content : (names : Names) (bytes : List ℕ) (from to n : ℕ) → FitsOffset from to → n < 2 ^ 32
+      → HasBytes bytes from (offset_bytes from to ++ to_le_bytes w32 n)
+      → content_of names bytes (at from (vector s)) ≡ plain same (behind to (slice s) n ∷ [])
+  unfolding shape_content following
+  vector_content names bytes from to n near small stands =
+      let offset = offset_stands bytes from to 8 (omega arith) near (stands_left bytes from (offset_bytes from to) (to_le_bytes w32 n) stands) in
+      let len : word_at (window bytes from 8) 4 ≡ n =
+      word_within bytes from 8 4 (omega arith) ∙ stands_word bytes (from + 4) n small (stands_right bytes from (offset_bytes from to) (to_le_bytes w32 n) (from + 4) refl stands) in
+      ap₂ (λ o m. following o (λ t. plain same (behind t (slice s) m ∷ []))) offset len
+
+  box_content : (names : Names) (bytes : List ℕ) (from to : ℕ) → FitsOffset from to
+      → HasBytes bytes from (offset_bytes from to)
+      → content_of names bytes (at from (box (sized s))) ≡ plain same (behind to (sized s) 1 ∷ [])
+  unfolding shape_content following
+  box_content names bytes from to near stands =
+      ap (λ o. following o (λ t. plain same (behind t (sized s) 1 ∷ []))) (offset_stands bytes from to 4 (omega arith) near stands)
+
+  slice_own_exact : (n from to : ℕ) (e : Error) (small : n < 2 ^ 32) (f : FitsOffset from to) {P Q : Type 0} → ((FitsOffset from to → ⊥) × P) ⊎ ((2 ^ 32 ≤ n) × Q) → ⊥
+  slice_own_exact n from to e small f (inl r) = r.0 f
+  slice_own_exact n from to e small f (inr r) = let h = r.0 in omega arith
+
+  region_consistent : (xs : List A) (each : EachSpells fit s knows w xs) (st : State) → IsConsistent st → region_fits w s xs st
+      → IsConsistent (advanced (length (region_piece w s xs st)) (state_after_all w xs st).met st)
+  region_consistent xs each st h f =
+      let up = region_up fit s knows w xs st in
+      let end = region_end fit s knows w xs each st f in
+      consistent_further (state_after_all w xs st) (st.pos + length (region_piece w s xs st)) st.begun (omega arith) (state_after_all_begun fit s knows w xs st) (state_after_all_consistent fit s knows w xs each st h f.0)
+
+  -- the law of a list is that of each of its elements
+  pub slice_spells_at : (xs : List A) → EachSpells fit s knows w xs → SpellsAt fit (vector s) knows (slice_spelling s w) xs
+  unfolding made
+  slice_spells_at xs each = record {
+    sized = λ to from f. refl;
+    canonical = λ st from names keys bytes level inside k n known state over f o p q.
+        let t = (slice_spelling s w).resolver xs st in
+        let up = region_up fit s knows w xs st in
+        let end = region_end fit s knows w xs each st f in
+        let e = vector_content names bytes from t (length xs) o.0 o.1 q in
+        one_part (at from (vector s)) (behind t (slice s) (length xs)) same _ _ st.pos _ e tt refl
+        (clean_by names bytes (at from (vector s)) (plain same _) e (λ i o. inl o) tt)
+        tt
+        (slice_canonical fit s knows w xs each st names keys bytes level inside k n known state (from_earlier inside (state_after_all w xs st).pos (st.pos + length (region_piece w s xs st)) (omega arith) over) f p);
+    consistent = λ st h f. region_consistent xs each st h f;
+    keyed = λ keys st n known f. let both = state_after_all_keyed fit s knows w xs each keys st n known f.0 in (ap group both.0, both.1);
+    piece_bytes = λ st f. region_bytes fit s knows w xs each st f;
+    own_bytes = λ to pos f. bytes_append (offset_bytes pos to) (to_le_bytes w32 (length xs)) (bytes_word (cast_unsigned w32 (difference pos to))) (bytes_word (length xs));
+    piece_exact = λ st e f r. region_exact fit s knows w xs each st e f r;
+    own_exact = λ to from e f r. slice_own_exact (length xs) from to e f.1 f.0 r;
+  }
+
+  -- the law of a box is that of its value
+  pub box_spells_at : (x : A) → SpellsAt fit s knows w x → SpellsAt fit (box (sized s)) knows (box_spelling s w) x
+  unfolding made
+  box_spells_at x one = record {
+    sized = λ to from f. refl;
+    canonical = λ st from names keys bytes level inside k n known state over f o p q.
+        let t = (box_spelling s w).resolver x st in
+        let up = region_up fit s knows w (x ∷ []) st in
+        let end = region_end fit s knows w (x ∷ []) (one, tt) st f in
+        let e = box_content names bytes from t o q in
+        one_part (at from (box (sized s))) (behind t (sized s) 1) same _ _ st.pos _ e tt refl
+        (clean_by names bytes (at from (box (sized s))) (plain same _) e (λ i o. inl o) tt)
+        tt
+        (boxed_canonical fit s knows w x one st names keys bytes level inside k n known state (from_earlier inside (state_after w x st).pos (st.pos + length (region_piece w s (x ∷ []) st)) (omega arith) over) f p);
+    consistent = λ st h f. region_consistent (x ∷ []) (one, tt) st h f;
+    keyed = λ keys st n known f. one.keyed keys st n known f.0.0;
+    piece_bytes = λ st f. region_bytes fit s knows w (x ∷ []) (one, tt) st f;
+    own_bytes = λ to pos f. bytes_word (cast_unsigned w32 (difference pos to));
+    piece_exact = λ st e f r. region_exact fit s knows w (x ∷ []) (one, tt) st e f r;
+    own_exact = λ to from e f r. r.0 f;
+  }
+
+  -- so of all lists and boxes
+  pub slice_spells : Spells fit s knows w → Spells fit (vector s) knows (slice_spelling s w)
+  slice_spells h xs = slice_spells_at xs (each_spells fit s knows w h xs)
+
+  pub box_spells : Spells fit s knows w → Spells fit (box (sized s)) knows (box_spelling s w)
+  box_spells h x = box_spells_at x (h x)

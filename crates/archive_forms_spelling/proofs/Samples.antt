@@ -1,0 +1,129 @@
+-- Each sample is written as its one archive.
+use Rattle.std.proofs.Common.{◌≡◌, ℕ, ◌==◌, ◌<◌, ◌^◌, cond, Bool, true, false, List, [], ◌∷◌, Option, Some, None, refl, sym, ◌∙◌, arith, eqb-true}
+use Rattle.std.specs.Int.{w32, to_le_bytes}
+use Rattle.std.proofs.lemmas.Int.{ints}
+use Rattle.archive_shape_layout.specs.Bytes.{align_up}
+use Rattle.archive_shape_layout.specs.Shape.Shape.{shared, box, option}
+use Rattle.archive_shape_layout.specs.Shape.Pointee.{sized}
+use Rattle.archive_shape_layout.specs.Value.Value.{natural}
+use Rattle.archive_shape_layout.specs.Content.{shape_content, number_value}
+use Rattle.archive_shape_canonical.specs.Settled.{Fit}
+use Rattle.archive_forms_spelling.specs.State.{Keys, SharedValue, AreOneToOne, initial}
+use Rattle.archive_forms_spelling.specs.Spells.{Spells}
+use Rattle.archive_forms_spelling.specs.Forms.{seen_as}
+use Rattle.archive_forms_spelling.specs.Regions.{region_fits, all_keyed_by}
+use Rattle.archive_forms_spelling.specs.Pointers.{FitsOffset, box_spelling}
+use Rattle.archive_forms_spelling.specs.Options.{option_spelling}
+use Rattle.archive_forms_spelling.specs.Sample.{number_shape, number_spelling, keyed_spelling, keyed_list_shape, keyed_list, two, two_bytes, optional_list_shape, optional_list, one_present, one_present_bytes}
+use Rattle.archive_forms_spelling.specs.Laws.{KnowsAll, KeyedListsAreWritten, OnePresentIsWritten, OptionalListsAreWritten, TwoSharedIsWritten}
+use Rattle.archive_forms_spelling.proofs.Gaps.{bytes_word}
+use Rattle.archive_forms_spelling.proofs.Leaves.{leaf_spells}
+use Rattle.archive_forms_spelling.proofs.Views.{seen_spells}
+use Rattle.archive_forms_spelling.proofs.Pointers.{slice_spells, box_spells}
+use Rattle.archive_forms_spelling.proofs.Options.{option_spells}
+use Rattle.archive_forms_spelling.proofs.Shared.{shared_spells}
+use Rattle.archive_forms_spelling.proofs.Written.{is_written}
+
+pub number_spells : (fit : Fit) → Spells fit number_shape KnowsAll number_spelling
+number_spells fit = leaf_spells fit number_shape KnowsAll (to_le_bytes w32) natural tt
+
+-- ---- lists of shared numbers
+
+pub keyed_spells : (fit : Fit) → Spells fit (shared false (sized number_shape)) KnowsAll keyed_spelling
+keyed_spells fit =
+    shared_spells fit false number_shape KnowsAll (λ x. x.0) (seen_as (λ x. x.1) number_spelling)
+    (seen_spells fit number_shape KnowsAll (λ x. x.1) number_spelling (number_spells fit))
+
+pub keyed_list_spells : (fit : Fit) → Spells fit keyed_list_shape KnowsAll keyed_list
+keyed_list_spells fit = slice_spells fit (shared false (sized number_shape)) KnowsAll keyed_spelling (keyed_spells fit)
+
+pub keyed_lists_are_written_law : KeyedListsAreWritten
+keyed_lists_are_written_law fit names keys xs bytes keyed one f e =
+    is_written fit keyed_list_shape KnowsAll keyed_list xs names keys bytes (keyed_list_spells fit) tt keyed one f e
+
+-- ---- lists of boxes that may be absent
+
+pub optional_list_spells : (fit : Fit) → Spells fit optional_list_shape KnowsAll optional_list
+optional_list_spells fit =
+    slice_spells fit (option (box (sized number_shape))) KnowsAll (option_spelling (box (sized number_shape)) (box_spelling number_shape number_spelling))
+    (option_spells fit (box (sized number_shape)) KnowsAll (box_spelling number_shape number_spelling) (box_spells fit number_shape KnowsAll number_spelling (number_spells fit)))
+
+abbrev no_keys : Keys
+no_keys k = None
+
+none_to_none : AreOneToOne no_keys
+none_to_none k l a b e f same_type same = absurd (cc)
+
+-- no shared value is in them
+all_absent : (xs : List (Option ℕ)) → all_keyed_by (option_spelling (box (sized number_shape)) (box_spelling number_shape number_spelling)) no_keys xs
+all_absent [] = tt
+all_absent (None ∷ xs) = (tt, all_absent xs)
+all_absent (Some n ∷ xs) = (tt, all_absent xs)
+
+pub optional_lists_are_written_law : OptionalListsAreWritten
+optional_lists_are_written_law fit names xs bytes f e =
+    is_written fit optional_list_shape KnowsAll optional_list xs names no_keys bytes (optional_list_spells fit) tt (all_absent xs) none_to_none f e
+
+-- ---- two numbers that are one shared value
+
+abbrev keys_of_two : Keys
+keys_of_two k = cond (k == 7) (Some (record { pointee = sized number_shape; len = 1; value = natural 5 })) None
+
+is_seven : (k : ℕ) (a : SharedValue) → keys_of_two k ≡ Some a → k ≡ 7
+is_seven k a e = tested (k == 7) refl e
+  where
+    tested : (b : Bool) → (k == 7) ≡ b → cond b (Some (record { pointee = sized number_shape; len = 1; value = natural 5 })) None ≡ Some a → k ≡ 7
+    tested true t f = eqb-true k 7 t
+    tested false t f = absurd (cc)
+
+one_to_one : AreOneToOne keys_of_two
+one_to_one k l a b e f same_type same = is_seven k a e ∙ sym (is_seven l b f)
+
+two_fit : region_fits keyed_list keyed_list_shape (two ∷ []) initial
+unfolding align_up shape_content number_value
+two_fit =
+    let small : (n : ℕ) → n < 20 → n < 2 ^ 32 = λ n h. omega arith in
+    let little : (n : ℕ) → n < 40 → n < 2 ^ 64 = λ n h. omega arith in
+    let from_first : FitsOffset 4 0 = record { sfits = omega (arith, ints) } in
+    let from_second : FitsOffset 8 0 = record { sfits = omega (arith, ints) } in
+    let from_root : FitsOffset 12 4 = record { sfits = omega (arith, ints) } in (
+      (
+        (
+          ((tt, ((tt, tt), small 0 (omega arith), (((λ names pos. refl, refl, bytes_word 5), little 4 (omega arith)), tt))), (tt, tt)),
+          small 4 (omega arith),
+          ((from_first, little 8 (omega arith)), ((from_second, little 12 (omega arith)), tt)),
+        ),
+        tt,
+      ),
+      small 12 (omega arith),
+      (((from_root, small 2 (omega arith)), little 20 (omega arith)), tt),
+    )
+
+pub two_shared_is_written_law : TwoSharedIsWritten
+unfolding align_up
+two_shared_is_written_law fit names = keyed_lists_are_written_law fit names keys_of_two two two_bytes ((refl, tt), ((refl, tt), tt)) one_to_one two_fit refl
+
+-- ---- a number in a box, and an absent one
+
+one_fits : region_fits optional_list optional_list_shape (one_present ∷ []) initial
+unfolding align_up shape_content number_value
+one_fits =
+    let small : (n : ℕ) → n < 40 → n < 2 ^ 32 = λ n h. omega arith in
+    let little : (n : ℕ) → n < 40 → n < 2 ^ 64 = λ n h. omega arith in
+    let from_box : FitsOffset 8 0 = record { sfits = omega (arith, ints) } in
+    let from_root : FitsOffset 20 4 = record { sfits = omega (arith, ints) } in (
+      (
+        (
+          (((tt, tt), small 0 (omega arith), (((λ names pos. refl, refl, bytes_word 5), little 4 (omega arith)), tt)), (tt, tt)),
+          small 4 (omega arith),
+          ((from_box, little 12 (omega arith)), ((tt, little 20 (omega arith)), tt)),
+        ),
+        tt,
+      ),
+      small 20 (omega arith),
+      (((from_root, small 2 (omega arith)), little 28 (omega arith)), tt),
+    )
+
+pub one_present_is_written_law : OnePresentIsWritten
+unfolding align_up
+one_present_is_written_law fit names = optional_lists_are_written_law fit names one_present one_present_bytes one_fits refl

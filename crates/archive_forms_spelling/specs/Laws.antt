@@ -1,0 +1,57 @@
+-- The laws of what is written, as statements.
+use Rattle.std.specs.Prelude.{◌≡◌, ℕ, List, [], ◌∷◌, Option, ⊤}
+use Rattle.archive_shape_layout.specs.Shape.{Shape}
+use Rattle.archive_shape_layout.specs.Value.{Value}
+use Rattle.archive_shape_layout.specs.Content.{Names}
+use Rattle.archive_shape_native.specs.Numbers.{IsLeafShape}
+use Rattle.archive_shape_canonical.specs.Settled.{Fit}
+use Rattle.archive_shape_canonical.specs.Sharing.{erased}
+use Rattle.archive_forms_spelling.specs.State.{Keys, AreOneToOne, initial}
+use Rattle.archive_forms_spelling.specs.Spells.{Spells}
+use Rattle.archive_forms_spelling.specs.Forms.{leaf_spelling}
+use Rattle.archive_forms_spelling.specs.Regions.{region_piece, region_fits, all_keyed_by}
+use Rattle.archive_forms_spelling.specs.Written.{IsArchive, IsWritten}
+use Rattle.archive_forms_spelling.specs.Sample.{keyed_spelling, keyed_list_shape, keyed_list, two, two_bytes, optional_list_shape, optional_list, one_present, one_present_bytes}
+
+-- whatever the names of types stand for
+abbrev pub KnowsAll : Names → Type 0
+KnowsAll names = ⊤
+
+-- the own bytes of a number, a truth value or a char are read as its value
+abbrev pub LeafSpells : Type 0 → Type 0
+LeafSpells A = (fit : Fit) (s : Shape) (bytes_of : A → List ℕ) (value_of : A → Value) → IsLeafShape s → Spells fit s KnowsAll (leaf_spelling s bytes_of value_of)
+
+-- a value, but for where shared ones stand, has one archive whose root ends it
+abbrev pub WrittenOnce : Type 0
+WrittenOnce =
+    (fit : Fit) (names : Names) (bytes others : List ℕ) (s : Shape) (v u : Value)
+    → IsArchive fit names bytes s v
+    → IsArchive fit names others s u
+    → erased v ≡ erased u
+    → bytes ≡ others
+
+-- lists of shared numbers are written as their one archive, each number once, where no two keys stand for one number
+abbrev pub KeyedListsAreWritten : Type 0
+KeyedListsAreWritten =
+    (fit : Fit) (names : Names) (keys : Keys) (xs : List (ℕ × ℕ)) (bytes : List ℕ)
+    → all_keyed_by keyed_spelling keys xs
+    → AreOneToOne keys
+    → region_fits keyed_list keyed_list_shape (xs ∷ []) initial
+    → bytes ≡ region_piece keyed_list keyed_list_shape (xs ∷ []) initial
+    → IsWritten keyed_list_shape keyed_list xs fit names bytes
+
+-- lists of numbers in boxes, some of them absent, are written as their one archive
+abbrev pub OptionalListsAreWritten : Type 0
+OptionalListsAreWritten =
+    (fit : Fit) (names : Names) (xs : List (Option ℕ)) (bytes : List ℕ)
+    → region_fits optional_list optional_list_shape (xs ∷ []) initial
+    → bytes ≡ region_piece optional_list optional_list_shape (xs ∷ []) initial
+    → IsWritten optional_list_shape optional_list xs fit names bytes
+
+-- two numbers that are one shared value are written as these bytes
+abbrev pub TwoSharedIsWritten : Type 0
+TwoSharedIsWritten = (fit : Fit) (names : Names) → IsWritten keyed_list_shape keyed_list two fit names two_bytes
+
+-- a box and an absent one are written as these bytes
+abbrev pub OnePresentIsWritten : Type 0
+OnePresentIsWritten = (fit : Fit) (names : Names) → IsWritten optional_list_shape optional_list one_present fit names one_present_bytes

@@ -1,0 +1,12 @@
+pub mod State
+pub mod Spelling
+pub mod Spells
+pub mod Forms
+pub mod Regions
+pub mod Pointers
+pub mod Shared
+pub mod Options
+pub mod Serializing
+pub mod Written
+pub mod Sample
+pub mod Laws

@@ -1,0 +1,50 @@
+-- Samples: lists of shared numbers, and lists of boxes that may be absent.
+use Rattle.std.specs.Prelude.{ℕ, false, List, [], ◌∷◌, Option, Some, None}
+use Rattle.std.specs.Int.{w32, to_le_bytes}
+use Rattle.archive_shape_layout.specs.Shape.{Shape}
+use Rattle.archive_shape_layout.specs.Shape.Shape.{number, shared, vector, box, option}
+use Rattle.archive_shape_layout.specs.Shape.Pointee.{sized}
+use Rattle.archive_shape_layout.specs.Value.Value.{natural}
+use Rattle.archive_forms_spelling.specs.Spelling.{Spelling}
+use Rattle.archive_forms_spelling.specs.Forms.{leaf_spelling, seen_as}
+use Rattle.archive_forms_spelling.specs.Pointers.{slice_spelling, box_spelling}
+use Rattle.archive_forms_spelling.specs.Shared.{shared_spelling}
+use Rattle.archive_forms_spelling.specs.Options.{option_spelling}
+
+abbrev pub number_shape : Shape
+number_shape = number w32 false
+
+abbrev pub number_spelling : Spelling ℕ (Unit {0})
+number_spelling = leaf_spelling number_shape (to_le_bytes w32) natural
+
+-- ---- lists of keys, each with the number that is shared under it
+
+abbrev pub keyed_list_shape : Shape
+keyed_list_shape = vector (shared false (sized number_shape))
+
+abbrev pub keyed_spelling : Spelling (ℕ × ℕ) ℕ
+keyed_spelling = shared_spelling number_shape (λ x. x.0) (seen_as (λ x. x.1) number_spelling)
+
+abbrev pub keyed_list : Spelling (List (ℕ × ℕ)) ℕ
+keyed_list = slice_spelling (shared false (sized number_shape)) keyed_spelling
+
+abbrev pub two : List (ℕ × ℕ)
+two = (7, 5) ∷ (7, 5) ∷ []
+
+abbrev pub two_bytes : List ℕ
+two_bytes = 5 ∷ 0 ∷ 0 ∷ 0 ∷ 252 ∷ 255 ∷ 255 ∷ 255 ∷ 248 ∷ 255 ∷ 255 ∷ 255 ∷ 248 ∷ 255 ∷ 255 ∷ 255 ∷ 2 ∷ 0 ∷ 0 ∷ 0 ∷ []
+
+-- ---- lists of numbers in boxes, some of them absent
+
+abbrev pub optional_list_shape : Shape
+optional_list_shape = vector (option (box (sized number_shape)))
+
+abbrev pub optional_list : Spelling (List (Option ℕ)) ℕ
+optional_list = slice_spelling (option (box (sized number_shape))) (option_spelling (box (sized number_shape)) (box_spelling number_shape number_spelling))
+
+abbrev pub one_present : List (Option ℕ)
+one_present = Some 5 ∷ None ∷ []
+
+abbrev pub one_present_bytes : List ℕ
+one_present_bytes =
+    5 ∷ 0 ∷ 0 ∷ 0 ∷ 1 ∷ 0 ∷ 0 ∷ 0 ∷ 248 ∷ 255 ∷ 255 ∷ 255 ∷ 0 ∷ 0 ∷ 0 ∷ 0 ∷ 0 ∷ 0 ∷ 0 ∷ 0 ∷ 240 ∷ 255 ∷ 255 ∷ 255 ∷ 2 ∷ 0 ∷ 0 ∷ 0 ∷ []

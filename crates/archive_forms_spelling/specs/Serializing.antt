@@ -1,0 +1,65 @@
+-- What calls that write a value promise, of a serializer that keeps what is shared.
+use Rattle.std.specs.Prelude.{◌≡◌, ℕ, ◌⊎◌, ◌==◌, cond, List, [], ◌∷◌, IsTrue, Bool, true, false, Option, Some, None, Result, MatchResult}
+use Rattle.archive_shape_layout.specs.Holds.{Visit}
+use Rattle.archive_shape_references.specs.Bytes.{overwrite}
+use Rattle.archive_shape_writing.specs.Writing.{Cut, Written, Failed}
+use Rattle.archive_shape_writing.specs.declared.error.Error.{Error}
+use Rattle.archive_shape_writing.specs.declared.error.Error.TheVariants.{OutOfMemory}
+use Rattle.archive_shape.specs.Progress.{Progress}
+use Rattle.archive_shape.specs.Progress.Progress.{unmet, begun, ended}
+use Rattle.archive_forms_spelling.specs.State.{State, visit_of_key}
+use Rattle.archive_forms_spelling.specs.Spelling.{Spelling, state_after}
+
+-- ---- the progress of keys
+
+abbrev pub is_begun : List ℕ → ℕ → Bool
+is_begun [] key = false
+is_begun (k ∷ ks) key = cond (k == key) true (is_begun ks key)
+
+abbrev pub progress_by : Option Visit → Bool → Progress ℕ
+progress_by (Some v) b = ended v.pos
+progress_by None true = begun
+progress_by None false = unmet
+
+-- of a key in a state
+abbrev pub progress : State → ℕ → Progress ℕ
+progress st key = progress_by (visit_of_key st.met key) (is_begun st.begun key)
+
+-- the progress of all keys is that in a state
+abbrev pub Knows : (ℕ → Progress ℕ) → State → Type 0
+Knows known st = (key : ℕ) → known key ≡ progress st key
+
+-- a serializer is in a state
+pub record IsAt {W : Type 0} (pos : W → ℕ) (known : W → ℕ → Progress ℕ) (serializer : W) (st : State) : Type 0 where
+  pub stands : pos serializer ≡ st.pos
+  pub knows : Knows (known serializer) st
+
+-- ---- promises
+
+-- a call ended before its piece was written, where no write failed: memory was refused, or a limit is passed
+pub record Stopped {W : Type 0} (observable : Bool) (contents : W → List ℕ) (failures : W → ℕ) (old new : W) (piece : List ℕ) (refused : Error → Type 0) (e : Error) : Type 0 where
+  pub is_cut : IsTrue observable → Cut (contents old) (contents new) piece
+  pub is_quiet : failures new ≡ failures old
+  pub reason : (e ≡ OutOfMemory) ⊎ refused e
+
+-- what a call that writes a piece promises, of a writer whose members are given as one record
+abbrev pub Lays : {W B : Type 0} → record { pos : W → ℕ; OBSERVABLE : Bool; COUNTS : Bool; contents : W → List ℕ; failures : W → ℕ; last_error : W → Error }
+    → W → W → List ℕ → (B → Type 0) → (Error → Type 0) → Result B Error → Type 0
+Lays s old new piece ok refused result =
+    MatchResult result
+    (λ r. Written s.OBSERVABLE s.COUNTS s.contents s.pos s.failures s.last_error old new piece × ok r)
+    (λ e. Failed s.OBSERVABLE s.COUNTS s.contents s.pos s.failures s.last_error old new piece e ⊎ Stopped s.OBSERVABLE s.contents s.failures old new piece refused e)
+
+-- what a call that writes the data of a value promises, of each state that the serializer may be in
+abbrev pub Serializes : {A R W : Type 0} → Spelling A R → record { pos : W → ℕ; OBSERVABLE : Bool; COUNTS : Bool; contents : W → List ℕ; failures : W → ℕ; last_error : W → Error }
+    → (W → ℕ → Progress ℕ) → A → W → W → Result R Error → Type 0
+Serializes w s known x old new result =
+    (st : State) → IsAt s.pos known old st
+    → Lays s old new (w.piece x st) (λ r. (r ≡ w.resolver x st) × w.piece_fits x st × IsAt s.pos known new (state_after w x st)) (w.piece_refused x st) result
+
+module _ {A R : Type 0} (w : Spelling A R) where
+  -- what a call that writes the own bytes of a value promises: those at `start` become the value's, as at `pos` of the
+  -- archive
+  abbrev pub Resolves : A → R → ℕ → ℕ → List ℕ → List ℕ → Result (Unit {0}) Error → Type 0
+  Resolves x r pos start old new result =
+      MatchResult result (λ _. w.own_fits x r pos × (new ≡ overwrite old start (w.own x r pos))) (w.own_refused x r pos)

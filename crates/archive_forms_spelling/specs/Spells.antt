@@ -1,0 +1,67 @@
+-- That what is written is what the layout reads, and is canonical.
+use Rattle.std.specs.Prelude.{◌≡◌, ℕ, ◌≤◌, ◌<◌, List, [], ◌∷◌, length, slice_index, ◌⊎◌, ⊤}
+use Rattle.archive_shape_layout.specs.Shape.{Shape, size_of}
+use Rattle.archive_shape_layout.specs.Value.{Value}
+use Rattle.archive_shape_layout.specs.Content.{Names, Part}
+use Rattle.archive_shape_layout.specs.Content.Part.{at}
+use Rattle.archive_shape_layout.specs.Holds.{Region, Visit, OpenShared, Ascends}
+use Rattle.archive_shape_canonical.specs.Settled.{Fit}
+use Rattle.archive_shape_canonical.specs.Sharing.{erased}
+use Rattle.archive_shape_canonical.specs.Canonical.{InRegions}
+use Rattle.archive_shape_canonical.specs.Laws.{CanonicalIn}
+use Rattle.archive_shape_references.specs.Bytes.{HasBytes}
+use Rattle.archive_shape_writing.specs.declared.error.Error.{Error}
+use Rattle.archive_forms_spelling.specs.State.{State, Keys, visits_of, IsConsistent, AllFrom, AreKeyedBy}
+use Rattle.archive_forms_spelling.specs.Spelling.{Spelling, state_after}
+
+-- each is below 256
+abbrev pub AreBytes : List ℕ → Type 0
+AreBytes bs = (i : ℕ) → slice_index bs i < 256
+
+-- each byte from a position to another lies in one of the regions, or is zero
+abbrev pub AreGapsZero : List ℕ → List Region → ℕ → ℕ → Type 0
+AreGapsZero bytes regions low high = (i : ℕ) → low ≤ i → i < high → InRegions regions i ⊎ (slice_index bytes i ≡ 0)
+
+-- a part has a value as writing makes it, with regions from one position to another
+pub record CanonicalPart (fit : Fit) (names : Names) (bytes : List ℕ) (level : ℕ) (inside : List OpenShared) (before after : List Visit) (p : Part) (v : Value) (low high : ℕ) : Type 0 where
+  pub regions : List Region
+  pub reads : CanonicalIn fit names bytes level inside p v regions before after low high
+  pub ascends : Ascends low high regions
+  pub gaps : AreGapsZero bytes regions low high
+
+-- Of one value: wherever the data that was written from a state on and the own bytes stand, the layout has the value, as
+-- writing makes it. Tables are filled as a fit says.
+pub record SpellsAt {A R : Type 0} (fit : Fit) (s : Shape) (knows : Names → Type 0) (w : Spelling A R) (x : A) : Type 0 where
+  pub sized : (r : R) (pos : ℕ) → w.own_fits x r pos → length (w.own x r pos) ≡ size_of s
+  pub canonical :
+      (st : State) (pos : ℕ) (names : Names) (keys : Keys) (bytes : List ℕ) (level : ℕ) (inside : List OpenShared)
+      → knows names
+      → w.keyed_by keys x
+      → AreKeyedBy keys st.met
+      → IsConsistent st
+      → AllFrom (state_after w x st).pos inside
+      → w.piece_fits x st
+      → w.own_fits x (w.resolver x st) pos
+      → HasBytes bytes st.pos (w.piece x st)
+      → HasBytes bytes pos (w.own x (w.resolver x st) pos)
+      → CanonicalPart fit names bytes level inside (visits_of st.met) (visits_of (w.met x st)) (at pos s) (w.value x st) st.pos (state_after w x st).pos
+  pub consistent : (st : State) → IsConsistent st → w.piece_fits x st → IsConsistent (state_after w x st)
+  -- where its keys and those of the values met before stand for them, so do the keys of all values met behind it, and its
+  -- value is `plain` but for where shared ones stand
+  pub keyed :
+      (keys : Keys) (st : State) → w.keyed_by keys x → AreKeyedBy keys st.met → w.piece_fits x st
+      → (erased (w.value x st) ≡ w.plain x) × AreKeyedBy keys (w.met x st)
+  pub piece_bytes : (st : State) → w.piece_fits x st → AreBytes (w.piece x st)
+  pub own_bytes : (r : R) (pos : ℕ) → w.own_fits x r pos → AreBytes (w.own x r pos)
+  -- what passes no limit is not refused
+  pub piece_exact : (st : State) (e : Error) → w.piece_fits x st → w.piece_refused x st e → ⊥
+  pub own_exact : (r : R) (pos : ℕ) (e : Error) → w.own_fits x r pos → w.own_refused x r pos e → ⊥
+
+-- of each value of a list
+abbrev pub EachSpells : {A R : Type 0} → Fit → Shape → (Names → Type 0) → Spelling A R → List A → Type 0
+EachSpells fit s knows w [] = ⊤
+EachSpells fit s knows w (x ∷ xs) = SpellsAt fit s knows w x × EachSpells fit s knows w xs
+
+-- of every value
+abbrev pub Spells : {A R : Type 0} → Fit → Shape → (Names → Type 0) → Spelling A R → Type 0
+Spells {A = A} fit s knows w = (x : A) → SpellsAt fit s knows w x
