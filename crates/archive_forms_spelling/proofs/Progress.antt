@@ -3,8 +3,8 @@ use Rattle.std.proofs.Common.{◌≡◌, ℕ, ◌==◌, cond, Bool, true, false,
 use Rattle.std.proofs.lemmas.Bool.{eqb-false}
 use Rattle.std.specs.Prelude.{Result}
 use Rattle.archive_shape_layout.specs.Holds.{Visit}
-use Rattle.archive_shape.specs.Progress.{Progress, IsSet, Starts, Finishes}
-use Rattle.archive_shape.specs.Progress.Progress.{unmet, begun, ended}
+use Rattle.archive_shape_writing.specs.Progress.{Progress, IsSet, Starts, Finishes}
+use Rattle.archive_shape_writing.specs.Progress.Progress.{unmet, begun, ended}
 use Rattle.archive_shape_writing.specs.declared.error.Error.{Error}
 use Rattle.archive_forms_spelling.specs.State.{State, Met, visit_of_key, with_begun, IsNoneOf, IsOneOf}
 use Rattle.archive_forms_spelling.specs.Serializing.{progress, progress_by, is_begun, Knows}

@@ -2,11 +2,11 @@
 use Rattle.std.specs.Prelude.{◌≡◌, ℕ, ◌⊎◌, ◌==◌, cond, List, [], ◌∷◌, IsTrue, Bool, true, false, Option, Some, None, Result, MatchResult}
 use Rattle.archive_shape_layout.specs.Holds.{Visit}
 use Rattle.archive_shape_references.specs.Bytes.{overwrite}
-use Rattle.archive_shape_writing.specs.Writing.{Cut, Written, Failed}
+use Rattle.archive_shape_writing.specs.Writing.{WriterMembers, Cut, Written, Failed}
 use Rattle.archive_shape_writing.specs.declared.error.Error.{Error}
 use Rattle.archive_shape_writing.specs.declared.error.Error.TheVariants.{OutOfMemory}
-use Rattle.archive_shape.specs.Progress.{Progress}
-use Rattle.archive_shape.specs.Progress.Progress.{unmet, begun, ended}
+use Rattle.archive_shape_writing.specs.Progress.{Progress}
+use Rattle.archive_shape_writing.specs.Progress.Progress.{unmet, begun, ended}
 use Rattle.archive_forms_spelling.specs.State.{State, visit_of_key}
 use Rattle.archive_forms_spelling.specs.Spelling.{Spelling, state_after}
 
@@ -43,19 +43,19 @@ pub record Stopped {W : Type 0} (observable : Bool) (contents : W → List ℕ) 
   pub reason : (e ≡ OutOfMemory) ⊎ refused e
 
 -- what a call that writes a piece promises, of a writer whose members are given as one record
-abbrev pub Lays : {W B : Type 0} → record { pos : W → ℕ; OBSERVABLE : Bool; COUNTS : Bool; contents : W → List ℕ; failures : W → ℕ; last_error : W → Error }
+abbrev pub Lays : {W B : Type 0} → WriterMembers W
     → W → W → List ℕ → (B → Type 0) → (Error → Type 0) → Result B Error → Type 0
 Lays s old new piece ok refused result =
     MatchResult result
-    (λ r. Written s.OBSERVABLE s.COUNTS s.contents s.pos s.failures s.last_error old new piece × ok r)
-    (λ e. Failed s.OBSERVABLE s.COUNTS s.contents s.pos s.failures s.last_error old new piece e ⊎ Stopped s.OBSERVABLE s.contents s.failures old new piece refused e)
+    (λ r. Written s.OBSERVABLE s.COUNTS s.contents s.pos s.failures s.last_error s.known old new piece × ok r)
+    (λ e. Failed s.OBSERVABLE s.COUNTS s.contents s.pos s.failures s.last_error s.known old new piece e ⊎ Stopped s.OBSERVABLE s.contents s.failures old new piece refused e)
 
 -- what a call that writes the data of a value promises, of each state that the serializer may be in
-abbrev pub Serializes : {A R W : Type 0} → Spelling A R → record { pos : W → ℕ; OBSERVABLE : Bool; COUNTS : Bool; contents : W → List ℕ; failures : W → ℕ; last_error : W → Error }
-    → (W → ℕ → Progress ℕ) → A → W → W → Result R Error → Type 0
-Serializes w s known x old new result =
-    (st : State) → IsAt s.pos known old st
-    → Lays s old new (w.piece x st) (λ r. (r ≡ w.resolver x st) × w.piece_fits x st × IsAt s.pos known new (state_after w x st)) (w.piece_refused x st) result
+abbrev pub Serializes : {A R W : Type 0} → Spelling A R → WriterMembers W
+    → A → W → W → Result R Error → Type 0
+Serializes w s x old new result =
+    (st : State) → IsAt s.pos s.known old st
+    → Lays s old new (w.piece x st) (λ r. (r ≡ w.resolver x st) × w.piece_fits x st × IsAt s.pos s.known new (state_after w x st)) (w.piece_refused x st) result
 
 module _ {A R : Type 0} (w : Spelling A R) where
   -- what a call that writes the own bytes of a value promises: those at `start` become the value's, as at `pos` of the

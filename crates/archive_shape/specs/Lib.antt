@@ -1,4 +1,3 @@
 pub mod Key
 pub mod Pooling
-pub mod Progress
 pub mod Sharing

@@ -1,6 +1,6 @@
 -- What the state of a shared position tells of its progress.
-use Rattle.archive_shape.specs.Progress.{Progress}
-use Rattle.archive_shape.specs.Progress.Progress.{unmet, begun, ended}
+use Rattle.archive_shape_writing.specs.Progress.{Progress}
+use Rattle.archive_shape_writing.specs.Progress.Progress.{unmet, begun, ended}
 use Rattle.archive_shape.specs.declared.pooling.PoolingState.{PoolingState}
 use Rattle.archive_shape.specs.declared.pooling.PoolingState.TheVariants.{Started, Pending, Finished}
 

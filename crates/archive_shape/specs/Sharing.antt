@@ -1,7 +1,7 @@
 -- What the state of a shared value tells of its progress.
 use Rattle.std.specs.Prelude.{ℕ}
-use Rattle.archive_shape.specs.Progress.{Progress}
-use Rattle.archive_shape.specs.Progress.Progress.{unmet, begun, ended}
+use Rattle.archive_shape_writing.specs.Progress.{Progress}
+use Rattle.archive_shape_writing.specs.Progress.Progress.{unmet, begun, ended}
 use Rattle.archive_shape.specs.declared.sharing.SharingState.{SharingState}
 use Rattle.archive_shape.specs.declared.sharing.SharingState.TheVariants.{Started, Pending, Finished}
 

@@ -28,7 +28,7 @@ pub use archive_shape_references::{
     ArchivePointee, LayoutRaw, Metadata, OwnSeal, Place, Ref, Seal, Slice, Str,
 };
 pub use archive_shape_writing::{
-    Error, Positional, Writer, write_all_pieces, write_three_pieces, write_two_pieces,
+    Error, Positional, Registry, Writer, write_all_pieces, write_three_pieces, write_two_pieces,
 };
 pub use copy::CopyOptimization;
 pub use key::ArchivedKey;

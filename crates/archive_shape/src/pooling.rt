@@ -1,7 +1,7 @@
 //! What keeps the values that are shared, while an archive is read.
 ghost use Rattle.std.specs.Prelude.{◌≡◌, ℕ, MatchResult};
 ghost use Rattle.archive_shape.specs.Pooling.{progress_of};
-ghost use Rattle.archive_shape.specs.Progress.{Progress, Starts, Finishes};
+ghost use Rattle.archive_shape_writing.specs.Progress.{Progress, Starts, Finishes};
 ghost use Rattle.archive_shape_writing.specs.declared.error.Error.TheVariants.{OutOfMemory};
 
 use crate::Error;

@@ -1,10 +1,10 @@
 //! What keeps the values that are shared, while an archive is written.
-ghost use Rattle.std.specs.Prelude.{◌≡◌, ℕ, MatchResult};
-ghost use Rattle.archive_shape.specs.Progress.{Progress, Starts, Finishes};
+ghost use Rattle.std.specs.Prelude.{◌≡◌, MatchResult};
+ghost use Rattle.archive_shape_writing.specs.Progress.{Starts, Finishes};
 ghost use Rattle.archive_shape.specs.Sharing.{progress_of};
 ghost use Rattle.archive_shape_writing.specs.declared.error.Error.TheVariants.{OutOfMemory};
 
-use crate::Error;
+use crate::{Error, Registry};
 
 /// What is known of a shared value.
 #[derive(Clone, Copy, Debug, PartialEq, Eq)]
@@ -19,22 +19,17 @@ pub enum SharingState {
 
 /// What has each shared value written once. Keys are of the user's choosing, one for each shared value. After a refusal
 /// it is not used again.
-pub trait Sharing {
-    /// What is known of each key.
-    ghost known: { Self → ℕ → Progress ℕ };
-
+pub trait Sharing: Registry {
     /// Tells what is known of the value, and begins one that was not met.
     fn start_sharing(&mut self, key: usize) -> Result<SharingState, Error>
-        ensures { MatchResult result (λ state. Starts (known self.old) (known self.new) key (progress_of state)) (λ e. e ≡ OutOfMemory) };
+        ensures { MatchResult result (λ state. Starts (Self.known self.old) (Self.known self.new) key (progress_of state)) (λ e. e ≡ OutOfMemory) };
 
     /// Finishes a value that has begun, at this position. It takes no memory: the entry was made at its start.
     fn finish_sharing(&mut self, key: usize, pos: usize) -> Result<(), Error>
-        ensures { Finishes (known self.old) (known self.new) key pos result (known self.old key) };
+        ensures { Finishes (Self.known self.old) (Self.known self.new) key pos result (Self.known self.old key) };
 }
 
 impl<S: Sharing> Sharing for &mut S {
-    ghost known = { λ r. S.known r.now };
-
     fn start_sharing(&mut self, key: usize) -> Result<SharingState, Error> {
         (**self).start_sharing(key)
     }

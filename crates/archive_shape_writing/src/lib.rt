@@ -7,4 +7,4 @@ mod writer;
 
 pub use error::Error;
 pub use pieces::{write_all_pieces, write_three_pieces, write_two_pieces};
-pub use writer::{Positional, Writer};
+pub use writer::{Positional, Registry, Writer};

@@ -1,5 +1,7 @@
 //! What bytes are written to.
 ghost use Rattle.std.specs.Prelude.{◌≡◌, ℕ, ◌-◌, ◌^◌, ◌<◌, List, Bool, true, false, vec_len};
+ghost use Rattle.archive_shape_writing.specs.Progress.{Progress};
+ghost use Rattle.archive_shape_writing.specs.Progress.Progress.{unmet};
 ghost use Rattle.archive_shape_writing.specs.Writing.{Appends};
 ghost use Rattle.archive_shape_writing.specs.declared.error.Error.{Error};
 ghost use Rattle.archive_shape_writing.specs.declared.error.Error.TheVariants.{OutOfMemory};
@@ -15,8 +17,14 @@ pub trait Positional {
         ensures { result ≡ pos self.now };
 }
 
+/// What keeps which shared values were written. What keeps none knows of no key.
+pub trait Registry {
+    /// What is known of each key.
+    ghost known: { Self → ℕ → Progress ℕ };
+}
+
 /// What bytes are appended to.
-pub trait Writer: Positional {
+pub trait Writer: Positional + Registry {
     /// Whether contracts can name what the writer holds. Where they cannot, as of a file, `contents` says nothing.
     ghost OBSERVABLE: { Bool };
 
@@ -39,7 +47,7 @@ pub trait Writer: Positional {
     /// Appends the bytes.
     fn write(&mut self, bytes: &[u8]) -> Result<(), Error>
         requires { failures self.old < 2 ^ 64 - 1 }
-        ensures { Appends OBSERVABLE COUNTS contents Self.pos failures last_error self.old self.new bytes.now result };
+        ensures { Appends OBSERVABLE COUNTS contents Self.pos failures last_error Self.known self.old self.new bytes.now result };
 }
 
 impl Positional for Vec<u8> {
@@ -48,6 +56,10 @@ impl Positional for Vec<u8> {
     fn pos(&self) -> usize {
         self.len()
     }
+}
+
+impl Registry for Vec<u8> {
+    ghost known = { λ _ _. unmet };
 }
 
 impl Writer for Vec<u8> {
@@ -85,6 +97,10 @@ impl<T: Positional> Positional for &mut T {
     fn pos(&self) -> usize {
         (**self).pos()
     }
+}
+
+impl<T: Registry> Registry for &mut T {
+    ghost known = { λ r. T.known r.now };
 }
 
 impl<T: Writer> Writer for &mut T {

@@ -1,8 +1,9 @@
 //! The standard output and error, as what lines are written to. Of their bytes nothing is known, so contracts can't name
 //! what they hold.
 ghost use Rattle.std.specs.Prelude.{◌≡◌, ◌+◌, ◌-◌, ◌^◌, ◌<◌, false, true, []};
+ghost use Rattle.archive_shape_writing.specs.Progress.Progress.{unmet};
 
-use archive_shape_writing::{Error, Positional, Writer};
+use archive_shape_writing::{Error, Positional, Registry, Writer};
 use std::io;
 use std::io::Write;
 
@@ -64,6 +65,10 @@ impl<W: Write + Drop> Positional for OutputStream<W> {
     fn pos(&self) -> usize {
         self.position
     }
+}
+
+impl<W: Write + Drop> Registry for OutputStream<W> {
+    ghost known = { λ _ _. unmet };
 }
 
 impl<W: Write + Drop> Writer for OutputStream<W> {

@@ -1,7 +1,7 @@
 -- What opening and asking answer.
 use Rattle.std.specs.Prelude.{◌≡◌, ℕ, Bool, List, Result, MatchResult}
 use Rattle.archive_shape_writing.specs.declared.error.Error.{Error}
-use Rattle.archive_shape_writing.specs.Writing.{IsCounted}
+use Rattle.archive_shape_writing.specs.Writing.{WriterMembers, IsCounted}
 use Rattle.cabinet_text.specs.Tree.{Tree}
 use Rattle.cabinet_text.specs.Line.{Line, get, set}
 use Rattle.cabinet_text.specs.Answering.{asked_of}
@@ -22,7 +22,7 @@ asked_by t (get path) = asked_of t path
 asked_by t (set path l) = Answered
 
 -- a call fails exactly where its writer does, by the writer's error
-abbrev pub FailsByWriter : {W A : Type 0} → record { pos : W → ℕ; OBSERVABLE : Bool; COUNTS : Bool; contents : W → List ℕ; failures : W → ℕ; last_error : W → Error }
+abbrev pub FailsByWriter : {W A : Type 0} → WriterMembers W
     → W → W → Result A Error → Type 0
 FailsByWriter w old new result =
     MatchResult result (λ _. w.failures new ≡ w.failures old)

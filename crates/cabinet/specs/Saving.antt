@@ -15,7 +15,7 @@ pub record Saved (t : Tree) (old new : List ℕ) : Type 0 where
 
 -- why it was not: something of it is past what archives hold, and the writer is as it was; a write failed, by the error
 -- that is the writer's last one, and its count rose; memory was refused to a writer that counts no failures
-abbrev pub IsUnsavedFor : {W : Type 0} → record { pos : W → ℕ; OBSERVABLE : Bool; COUNTS : Bool; contents : W → List ℕ; failures : W → ℕ; last_error : W → Error }
+abbrev pub IsUnsavedFor : {W : Type 0} → WriterMembers W
     → Tree → (old new : W) → SaveRefusal → Type 0
 IsUnsavedFor w t old new (Limit e) = IsPast t e × (new ≡ old)
 IsUnsavedFor w t old new (Writer e) = (w.COUNTS ≡ true) × (w.failures new ≡ w.failures old + 1) × (w.last_error new ≡ e)

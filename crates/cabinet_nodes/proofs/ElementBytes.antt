@@ -1,5 +1,6 @@
 -- The elements of a list: as rows of its node, and their bytes side by side.
 use Rattle.std.proofs.Common.{◌≡◌, ℕ, zero, suc, ◌<◌, List, [], ◌∷◌, ◌++◌, length, get_or, flat_map, refl, sym, ap, subst, ◌∙◌, arith, Bool, Vec, Global, append_assoc, append-nil, rules}
+use Rattle.archive_shape_writing.specs.Progress.{Progress}
 use Rattle.archive_shape_writing.specs.declared.error.Error.{Error}
 use Rattle.archive_shape_writing.specs.Writing.{Written, Failed}
 use Rattle.archive_shape_writing.proofs.Joined.{written_none, written_both, failed_first, failed_after}
@@ -60,20 +61,20 @@ leaves_split : (ms ns : List Node) → AreLeaves (node_trees (ms ++ ns)) → Are
 leaves_split [] ns h = (tt, h)
 leaves_split (m ∷ ms) ns h = one_leaf_more (node_tree m) (node_trees (ms ++ ns)) (node_trees ms) h (leaves_split ms ns)
 
-module _ {W : Type 0} (observable counts : Bool) (contents : W → List ℕ) (pos failures : W → ℕ) (last_error : W → Error) where
+module _ {W : Type 0} (observable counts : Bool) (contents : W → List ℕ) (pos failures : W → ℕ) (last_error : W → Error) (known : W → ℕ → Progress ℕ) where
   -- the elements before the rest were written
   pub record AreWrittenBefore (old new : W) (all rest : List Node) : Type 0 where
     pub piece : List ℕ
-    pub written : Written observable counts contents pos failures last_error old new piece
+    pub written : Written observable counts contents pos failures last_error known old new piece
     pub all_is : elements_bytes (node_trees all) ≡ piece ++ elements_bytes (node_trees rest)
     pub leaves : AreLeaves (node_trees rest)
 
-module _ {W : Type 0} {observable counts : Bool} {contents : W → List ℕ} {pos failures : W → ℕ} {last_error : W → Error} where
-  pub none_before : (w : W) (all : List Node) → AreLeaves (node_trees all) → AreWrittenBefore observable counts contents pos failures last_error w w all all
+module _ {W : Type 0} {observable counts : Bool} {contents : W → List ℕ} {pos failures : W → ℕ} {last_error : W → Error} {known : W → ℕ → Progress ℕ} where
+  pub none_before : (w : W) (all : List Node) → AreLeaves (node_trees all) → AreWrittenBefore observable counts contents pos failures last_error known w w all all
   none_before w all leaves = record { piece = []; written = written_none w; all_is = refl; leaves = leaves }
 
   module _ {old mid : W} (all rest run later : List Node) (split : rest ≡ run ++ later)
-      (before : AreWrittenBefore observable counts contents pos failures last_error old mid all rest) where
+      (before : AreWrittenBefore observable counts contents pos failures last_error known old mid all rest) where
     both_leaves : AreLeaves (node_trees run) × AreLeaves (node_trees later)
     both_leaves = leaves_split run later (subst (λ ns. AreLeaves (node_trees ns)) split before.leaves)
 
@@ -83,8 +84,8 @@ module _ {W : Type 0} {observable counts : Bool} {contents : W → List ℕ} {po
     all_is : elements_bytes (node_trees all) ≡ before.piece ++ (elements_bytes (node_trees run) ++ elements_bytes (node_trees later))
     all_is = before.all_is ∙ ap (λ ns. before.piece ++ elements_bytes (node_trees ns)) split ∙ ap (λ x. before.piece ++ x) (elements_bytes-append run later)
 
-    pub run_more : {new : W} → Written observable counts contents pos failures last_error mid new (elements_bytes (node_trees run))
-        → AreWrittenBefore observable counts contents pos failures last_error old new all later
+    pub run_more : {new : W} → Written observable counts contents pos failures last_error known mid new (elements_bytes (node_trees run))
+        → AreWrittenBefore observable counts contents pos failures last_error known old new all later
     run_more written = record {
       piece = before.piece ++ elements_bytes (node_trees run);
       written = written_both before.written written;
@@ -92,15 +93,15 @@ module _ {W : Type 0} {observable counts : Bool} {contents : W → List ℕ} {po
       leaves = both_leaves.1;
     }
 
-    pub run_failed : {new : W} {e : Error} → Failed observable counts contents pos failures last_error mid new (elements_bytes (node_trees run)) e
-        → Failed observable counts contents pos failures last_error old new (elements_bytes (node_trees all)) e
+    pub run_failed : {new : W} {e : Error} → Failed observable counts contents pos failures last_error known mid new (elements_bytes (node_trees run)) e
+        → Failed observable counts contents pos failures last_error known old new (elements_bytes (node_trees all)) e
     run_failed {new = new} {e = e} failed =
-        let P : List ℕ → Type 0 = λ piece. Failed observable counts contents pos failures last_error old new piece e in
+        let P : List ℕ → Type 0 = λ piece. Failed observable counts contents pos failures last_error known old new piece e in
         subst P (sym all_is) (failed_after before.written (failed_first (elements_bytes (node_trees later)) failed))
 
-  pub all_written : {old new : W} (all rest : List Node) → rest ≡ [] → AreWrittenBefore observable counts contents pos failures last_error old new all rest
-      → Written observable counts contents pos failures last_error old new (elements_bytes (node_trees all))
+  pub all_written : {old new : W} (all rest : List Node) → rest ≡ [] → AreWrittenBefore observable counts contents pos failures last_error known old new all rest
+      → Written observable counts contents pos failures last_error known old new (elements_bytes (node_trees all))
   all_written {old = old} {new = new} all rest none before =
-      let P : List ℕ → Type 0 = λ piece. Written observable counts contents pos failures last_error old new piece in
+      let P : List ℕ → Type 0 = λ piece. Written observable counts contents pos failures last_error known old new piece in
       let whole : before.piece ≡ elements_bytes (node_trees all) = sym (before.all_is ∙ ap (λ ns. before.piece ++ elements_bytes (node_trees ns)) none ∙ append-nil before.piece) in
       subst P whole before.written

@@ -1,6 +1,7 @@
 -- Texts that are written in runs between their escapes.
 use Rattle.std.proofs.Common.{◌≡◌, ℕ, ◌+◌, ◌-◌, ◌<◌, ◌≤◌, Bool, List, [], ◌∷◌, ◌++◌, length, get_or, take, drop, sym, ap, ◌∙◌, subst, arith, append_assoc, append-nil, length-drop, Result}
 use Rattle.std.proofs.lemmas.List.{take_more, take-append-drop, take_all, get_or-drop}
+use Rattle.archive_shape_writing.specs.Progress.{Progress}
 use Rattle.archive_shape_writing.specs.declared.error.Error.{Error}
 use Rattle.archive_shape_writing.specs.Writing.{Written, Failed, Appends}
 use Rattle.archive_shape_writing.proofs.Joined.{written_both, failed_first, failed_after, appends_after}
@@ -66,30 +67,30 @@ text_after text escape start end within is_escape is_run =
     ∙ ap (λ w. w ++ after) (run_and_escape text escape start end within is_escape is_run)
     ∙ append_assoc (escaped (take start text)) (run text start end ++ escape) after
 
-module _ {W : Type 0} {observable counts : Bool} {contents : W → List ℕ} {pos failures : W → ℕ} {last_error : W → Error} where
+module _ {W : Type 0} {observable counts : Bool} {contents : W → List ℕ} {pos failures : W → ℕ} {last_error : W → Error} {known : W → ℕ → Progress ℕ} where
   -- a run and the escape after it were written
   pub written_more : {old mid new : W} (text escape : List ℕ) (start end : ℕ) → end < length text → escaped_byte (get_or text end 0) ≡ escape → IsRun text start end
-      → Written observable counts contents pos failures last_error old mid (escaped (take start text))
-      → Written observable counts contents pos failures last_error mid new (run text start end ++ escape)
-      → Written observable counts contents pos failures last_error old new (escaped (take (end + 1) text))
+      → Written observable counts contents pos failures last_error known old mid (escaped (take start text))
+      → Written observable counts contents pos failures last_error known mid new (run text start end ++ escape)
+      → Written observable counts contents pos failures last_error known old new (escaped (take (end + 1) text))
   written_more {old = old} {new = new} text escape start end within is_escape is_run before now =
-      let P : List ℕ → Type 0 = λ piece. Written observable counts contents pos failures last_error old new piece in
+      let P : List ℕ → Type 0 = λ piece. Written observable counts contents pos failures last_error known old new piece in
       subst P (sym (run_and_escape text escape start end within is_escape is_run)) (written_both before now)
 
   -- the writer failed in a run or in the escape after it
   pub failed_among_runs : {old mid new : W} {e : Error} (text escape : List ℕ) (start end : ℕ) → end < length text → escaped_byte (get_or text end 0) ≡ escape → IsRun text start end
-      → Written observable counts contents pos failures last_error old mid (escaped (take start text))
-      → Failed observable counts contents pos failures last_error mid new (run text start end ++ escape) e
-      → Failed observable counts contents pos failures last_error old new (escaped text) e
+      → Written observable counts contents pos failures last_error known old mid (escaped (take start text))
+      → Failed observable counts contents pos failures last_error known mid new (run text start end ++ escape) e
+      → Failed observable counts contents pos failures last_error known old new (escaped text) e
   failed_among_runs {old = old} {new = new} {e = e} text escape start end within is_escape is_run before failed =
-      let P : List ℕ → Type 0 = λ piece. Failed observable counts contents pos failures last_error old new piece e in
+      let P : List ℕ → Type 0 = λ piece. Failed observable counts contents pos failures last_error known old new piece e in
       subst P (sym (text_after text escape start end within is_escape is_run)) (failed_after before (failed_first (escaped (drop (end + 1) text)) failed))
 
   -- the last run is written
   pub appends_last : {A : Type 0} {old mid : W} (new : W) (text : List ℕ) (start end : ℕ) (result : Result A Error) → end ≡ length text → IsRun text start end
-      → Written observable counts contents pos failures last_error old mid (escaped (take start text))
-      → Appends observable counts contents pos failures last_error mid new (run text start (length text)) result
-      → Appends observable counts contents pos failures last_error old new (escaped text) result
+      → Written observable counts contents pos failures last_error known old mid (escaped (take start text))
+      → Appends observable counts contents pos failures last_error known mid new (run text start (length text)) result
+      → Appends observable counts contents pos failures last_error known old new (escaped text) result
   appends_last {old = old} new text start end result whole is_run before now =
-      let P : List ℕ → Type 0 = λ piece. Appends observable counts contents pos failures last_error old new piece result in
+      let P : List ℕ → Type 0 = λ piece. Appends observable counts contents pos failures last_error known old new piece result in
       subst P (sym (last_run text start end whole is_run)) (appends_after new (run text start (length text)) result before now)

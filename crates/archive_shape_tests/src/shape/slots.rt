@@ -3,7 +3,7 @@ ghost use Rattle.std.specs.Prelude.{slice_index_or};
 ghost use Rattle.archive_shape.specs.Pooling.{progress_of};
 ghost use Rattle.archive_shape.specs.declared.pooling.PoolingState.TheVariants.{Started};
 
-use archive_shape::{Error, Pooling, PoolingState, Sharing, SharingState};
+use archive_shape::{Error, Pooling, PoolingState, Registry, Sharing, SharingState};
 
 /// What the next start of each number below 4 tells. No other number is started.
 #[derive(Drop)]
@@ -48,9 +48,11 @@ impl<T: Copy> Pooling<T> for Slots<T> {
     }
 }
 
-impl Sharing for Slots<usize> {
+impl Registry for Slots<usize> {
     ghost known = { λ s key. progress_of (slice_index_or s.states key Started) };
+}
 
+impl Sharing for Slots<usize> {
     fn start_sharing(&mut self, key: usize) -> Result<SharingState, Error> {
         match self.start_pooling(key)? {
             PoolingState::Started => Ok(SharingState::Started),

@@ -1,7 +1,8 @@
 //! A writer that fails.
 ghost use Rattle.std.specs.Prelude.{◌≡◌, true, vec_len};
+ghost use Rattle.archive_shape_writing.specs.Progress.Progress.{unmet};
 
-use archive_shape_writing::{Error, Positional, Writer};
+use archive_shape_writing::{Error, Positional, Registry, Writer};
 use std::alloc::Global;
 
 /// A writer that fails after n writes, and keeps half of the piece that failed.
@@ -40,6 +41,10 @@ impl Positional for FailingWriter {
     fn pos(&self) -> usize {
         self.bytes.len()
     }
+}
+
+impl Registry for FailingWriter {
+    ghost known = { λ _ _. unmet };
 }
 
 #[tactic(auto, using(archive_shape_writing::proofs::Joined::cut_none, archive_shape_writing::proofs::Joined::cut_take))]

@@ -1,7 +1,8 @@
 //! A source and a writer that fail after a number of calls.
 ghost use Rattle.std.specs.Prelude.{◌≡◌, ◌<◌, true, vec_len};
+ghost use Rattle.archive_shape_writing.specs.Progress.Progress.{unmet};
 
-use archive_shape_writing::{Error, Positional, Writer};
+use archive_shape_writing::{Error, Positional, Registry, Writer};
 use cabinet::{Source, SourceFailed};
 use std::alloc::Global;
 
@@ -80,6 +81,10 @@ impl Positional for FailingWriter {
     fn pos(&self) -> usize {
         self.bytes.len()
     }
+}
+
+impl Registry for FailingWriter {
+    ghost known = { λ _ _. unmet };
 }
 
 impl Writer for FailingWriter {

@@ -10,6 +10,6 @@ invariant-loop-end g l =
     let w = g.W.Writer in
     record {
       below : l.start ≤ l.end;
-      written : Written w.OBSERVABLE w.COUNTS w.contents g.W.Positional.pos w.failures w.last_error l.fn.writer l.writer (escaped (take l.start l.text));
+      written : Written w.OBSERVABLE w.COUNTS w.contents g.W.Positional.pos w.failures w.last_error g.W.Registry.known l.fn.writer l.writer (escaped (take l.start l.text));
       is_run : IsRun l.text l.start l.end;
     }
