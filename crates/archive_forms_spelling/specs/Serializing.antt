@@ -34,6 +34,11 @@ pub record IsAt {W : Type 0} (pos : W → ℕ) (known : W → ℕ → Progress �
   pub stands : pos serializer ≡ st.pos
   pub knows : Knows (known serializer) st
 
+-- and there is such a state
+pub record HasState {W : Type 0} (pos : W → ℕ) (known : W → ℕ → Progress ℕ) (serializer : W) : Type 0 where
+  pub state : State
+  pub is_at : IsAt pos known serializer state
+
 -- ---- promises
 
 -- a call ended before its piece was written, where no write failed: memory was refused, or a limit is passed
@@ -50,12 +55,18 @@ Lays s old new piece ok refused result =
     (λ r. Written s.OBSERVABLE s.COUNTS s.contents s.pos s.failures s.last_error s.known old new piece × ok r)
     (λ e. Failed s.OBSERVABLE s.COUNTS s.contents s.pos s.failures s.last_error s.known old new piece e ⊎ Stopped s.OBSERVABLE s.contents s.failures old new piece refused e)
 
--- what a call that writes the data of a value promises, of each state that the serializer may be in
+-- what a call that writes the data of a value promises, whose answer keeps the resolver, of each state that the serializer
+-- may be in
+abbrev pub SerializesBy : {A R Q W : Type 0} → (Q → R) → Spelling A R → WriterMembers W
+    → A → W → W → Result Q Error → Type 0
+SerializesBy kept w s x old new result =
+    (st : State) → IsAt s.pos s.known old st
+    → Lays s old new (w.piece x st) (λ q. (kept q ≡ w.resolver x st) × w.piece_fits x st × IsAt s.pos s.known new (state_after w x st)) (w.piece_refused x st) result
+
+-- the same of a call whose answer is the resolver
 abbrev pub Serializes : {A R W : Type 0} → Spelling A R → WriterMembers W
     → A → W → W → Result R Error → Type 0
-Serializes w s x old new result =
-    (st : State) → IsAt s.pos s.known old st
-    → Lays s old new (w.piece x st) (λ r. (r ≡ w.resolver x st) × w.piece_fits x st × IsAt s.pos s.known new (state_after w x st)) (w.piece_refused x st) result
+Serializes {R = R} w s x old new result = SerializesBy (λ (r : R). r) w s x old new result
 
 module _ {A R : Type 0} (w : Spelling A R) where
   -- what a call that writes the own bytes of a value promises: those at `start` become the value's, as at `pos` of the

@@ -1,0 +1,126 @@
+-- Bytes that are written over others, one behind the other.
+use Rattle.std.proofs.Common.{◌≡◌, ℕ, zero, suc, ◌+◌, ◌-◌, ◌≤◌, ◌<◌, set, List, [], ◌∷◌, ◌++◌, length, take, drop, arith, length-append, append_assoc, append-nil, ap, sym, refl, subst, ◌∙◌}
+use Rattle.std.proofs.Math.Seq.{take-append_seam}
+use Rattle.std.proofs.Math.ListN.{drop_of_length-le}
+use Rattle.std.proofs.lemmas.List.{length-take, drop-drop, drop_at, take-append-drop, length-replicate}
+use Rattle.archive_shape_references.specs.Bytes.{HasBytes, zeros, overwrite}
+use Rattle.archive_shape_references.proofs.Written.{length-overwrite, window_there, window_behind}
+use Rattle.archive_shape_references.proofs.Pieces.{stands_left, stands_right}
+use Rattle.archive_forms_spelling.specs.Options.{tagged_bytes}
+
+-- a piece that is written behind another is written with it
+pub overwrites_joined : (bytes : List ℕ) (at n : ℕ) (a m : List ℕ) → n ≡ length a → at + (length a + length m) ≤ length bytes
+    → overwrite (overwrite bytes at a) (at + n) m ≡ overwrite bytes at (a ++ m)
+overwrites_joined bytes at n a m e h =
+    let front = take at bytes ++ a in
+    let rest = drop (at + length a) bytes in
+    let split : overwrite bytes at a ≡ front ++ rest = sym (append_assoc (take at bytes) a rest) in
+    let size : length front ≡ at + n = omega (arith, length-append (take at bytes) a, length-take at bytes) in
+    let first : take (at + n) (overwrite bytes at a) ≡ front = ap (take (at + n)) split ∙ ap (λ k. take k (front ++ rest)) (sym size) ∙ take-append_seam front rest in
+    let last : drop (at + n + length m) (overwrite bytes at a) ≡ drop (at + length (a ++ m)) bytes =
+    sym (drop-drop (length m) (at + n) (overwrite bytes at a))
+    ∙ ap (drop (length m)) (ap (drop (at + n)) split ∙ drop_at front rest (at + n) size)
+    ∙ drop-drop (length m) (at + length a) bytes
+    ∙ ap (λ k. drop k bytes) (omega (arith, length-append a m)) in
+    ap (λ l. l ++ (m ++ drop (at + n + length m) (overwrite bytes at a))) first
+    ∙ ap (λ l. front ++ (m ++ l)) last
+    ∙ append_assoc (take at bytes) a (m ++ drop (at + length (a ++ m)) bytes)
+    ∙ ap (λ l. take at bytes ++ l) (sym (append_assoc a m (drop (at + length (a ++ m)) bytes)))
+
+-- ---- bytes that are written over zeros
+
+-- bytes are what stands before a piece, the piece, and what stands behind it
+split_window : (bytes : List ℕ) (at n : ℕ) (p : List ℕ) → HasBytes bytes at p → n ≡ length p → bytes ≡ take at bytes ++ (p ++ drop (at + n) bytes)
+split_window bytes at n p s e =
+    sym (take-append-drop at bytes)
+    ∙ ap (λ l. take at bytes ++ l) (sym (take-append-drop (length p) (drop at bytes)) ∙ ap (λ l. l ++ drop (length p) (drop at bytes)) s ∙ ap (λ l. p ++ l) (drop-drop (length p) at bytes ∙ ap (λ k. drop (at + k) bytes) (sym e)))
+
+-- a piece over part of the zeros is the zeros with that piece in them
+pub fills : (bytes : List ℕ) (at k j : ℕ) (p : List ℕ) → HasBytes bytes at (zeros k ++ (zeros (length p) ++ zeros j)) → at + (k + (length p + j)) ≤ length bytes
+    → overwrite bytes (at + k) p ≡ overwrite bytes at (zeros k ++ (p ++ zeros j))
+fills bytes at k j p s room =
+    let pre = take at bytes in
+    let zk = zeros k in
+    let zp = zeros (length p) in
+    let zj = zeros j in
+    let rest = drop (at + (k + (length p + j))) bytes in
+    let nk : length zk ≡ k = length-replicate _ _ in
+    let np : length zp ≡ length p = length-replicate _ _ in
+    let nj : length zj ≡ j = length-replicate _ _ in
+    let npre : length pre ≡ at = omega (arith, length-take at bytes) in
+    let whole : bytes ≡ pre ++ ((zk ++ (zp ++ zj)) ++ rest) = split_window bytes at (k + (length p + j)) (zk ++ (zp ++ zj)) s (omega (arith, length-append zk (zp ++ zj), length-append zp zj)) in
+    let front : bytes ≡ (pre ++ zk) ++ ((zp ++ zj) ++ rest) = whole ∙ ap (λ l. pre ++ l) (append_assoc zk (zp ++ zj) rest) ∙ sym (append_assoc pre zk ((zp ++ zj) ++ rest)) in
+    let nfront : length (pre ++ zk) ≡ at + k = omega (arith, length-append pre zk) in
+    let first : take (at + k) bytes ≡ pre ++ zk = ap (take (at + k)) front ∙ ap (λ m. take m ((pre ++ zk) ++ ((zp ++ zj) ++ rest))) (sym nfront) ∙ take-append_seam (pre ++ zk) ((zp ++ zj) ++ rest) in
+    let back : bytes ≡ ((pre ++ zk) ++ zp) ++ (zj ++ rest) = front ∙ ap (λ l. (pre ++ zk) ++ l) (append_assoc zp zj rest) ∙ sym (append_assoc (pre ++ zk) zp (zj ++ rest)) in
+    let nback : length ((pre ++ zk) ++ zp) ≡ at + k + length p = omega (arith, length-append (pre ++ zk) zp) in
+    let last : drop (at + k + length p) bytes ≡ zj ++ rest = ap (drop (at + k + length p)) back ∙ drop_at ((pre ++ zk) ++ zp) (zj ++ rest) (at + k + length p) nback in
+    let end : drop (at + length (zk ++ (p ++ zj))) bytes ≡ rest = ap (λ m. drop m bytes) (omega (arith, length-append zk (p ++ zj), length-append p zj)) in
+    ap (λ l. l ++ (p ++ drop (at + k + length p) bytes)) first
+    ∙ ap (λ l. (pre ++ zk) ++ (p ++ l)) last
+    ∙ append_assoc pre zk (p ++ (zj ++ rest))
+    ∙ ap (λ l. pre ++ (zk ++ l)) (sym (append_assoc p zj rest))
+    ∙ ap (λ l. pre ++ l) (sym (append_assoc zk (p ++ zj) rest))
+    ∙ ap (λ l. pre ++ ((zk ++ (p ++ zj)) ++ l)) (sym end)
+
+-- zeros behind zeros
+zeros-append : (m n : ℕ) → zeros m ++ zeros n ≡ zeros (m + n)
+zeros-append zero n = let e : n ≡ 0 + n = omega arith in ap zeros e
+zeros-append (suc m) n = let e : suc (m + n) ≡ suc m + n = omega arith in ap (λ l. 0 ∷ l) (zeros-append m n) ∙ ap zeros e
+
+-- zeros over zeros change nothing
+pub unfilled : (bytes : List ℕ) (at n : ℕ) → HasBytes bytes at (zeros n) → overwrite bytes at (zeros n) ≡ bytes
+unfilled bytes at n s = sym (split_window bytes at (length (zeros n)) (zeros n) s refl)
+
+-- a tag at the start of zeros, and a payload behind it
+pub tagged_over : (bytes : List ℕ) (at offset size tag : ℕ) (payload : List ℕ) → 1 ≤ offset → offset + length payload ≤ size → at + size ≤ length bytes → HasBytes bytes at (zeros size)
+    → overwrite (overwrite bytes at (tag ∷ [])) (at + offset) payload ≡ overwrite bytes at (tagged_bytes tag offset size payload)
+tagged_over bytes at offset size tag payload first fits room s =
+    let k = offset - 1 in
+    let j = size - (offset + length payload) in
+    let m = size - 1 in
+    let P : List ℕ → Type 0 = λ l. HasBytes bytes at l in
+    let z1 : zeros size ≡ zeros 0 ++ (zeros 1 ++ zeros m) = (let e : size ≡ 1 + m = omega arith in ap zeros e) ∙ sym (zeros-append 1 m) in
+    let one : overwrite bytes (at + 0) (tag ∷ []) ≡ overwrite bytes at (zeros 0 ++ ((tag ∷ []) ++ zeros m)) = fills bytes at 0 m (tag ∷ []) (subst P z1 s) (omega arith) in
+    let here : overwrite bytes at (tag ∷ []) ≡ overwrite bytes at ((tag ∷ []) ++ zeros m) = (let e : at ≡ at + 0 = omega arith in ap (λ a. overwrite bytes a (tag ∷ [])) e) ∙ one in
+    let new = overwrite bytes at (tag ∷ []) in
+    let nm : length (zeros m) ≡ m = length-replicate _ _ in
+    let fits_new : at + length ((tag ∷ []) ++ zeros m) ≤ length bytes = omega arith in
+    let there : HasBytes (overwrite bytes at ((tag ∷ []) ++ zeros m)) at ((tag ∷ []) ++ zeros m) = window_there bytes at ((tag ∷ []) ++ zeros m) fits_new in
+    let Q : List ℕ → Type 0 = λ l. HasBytes l (at + 1) (zeros m) in
+    let behind_tag : HasBytes new (at + 1) (zeros m) = subst Q (sym here) (stands_right (overwrite bytes at ((tag ∷ []) ++ zeros m)) at (tag ∷ []) (zeros m) (at + 1) refl there) in
+    let R : List ℕ → Type 0 = λ l. HasBytes new (at + 1) l in
+    let z2 : zeros m ≡ zeros k ++ (zeros (length payload) ++ zeros j) = (let e : m ≡ k + (length payload + j) = omega arith in ap zeros e) ∙ sym (zeros-append k (length payload + j)) ∙ ap (λ l. zeros k ++ l) (sym (zeros-append (length payload) j)) in
+    let long : length new ≡ length bytes = length-overwrite bytes at (tag ∷ []) (omega arith) in
+    let two : overwrite new (at + 1 + k) payload ≡ overwrite new (at + 1) (zeros k ++ (payload ++ zeros j)) = fills new (at + 1) k j payload (subst R z2 behind_tag) (omega arith) in
+    let nk : length (zeros k) ≡ k = length-replicate _ _ in
+    let nj : length (zeros j) ≡ j = length-replicate _ _ in
+    (let e : at + offset ≡ at + 1 + k = omega arith in ap (λ a. overwrite new a payload) e)
+    ∙ two
+    ∙ overwrites_joined bytes at 1 (tag ∷ []) (zeros k ++ (payload ++ zeros j)) refl (omega (arith, length-append (zeros k) (payload ++ zeros j), length-append payload (zeros j)))
+
+-- the place of the payload is still zero
+pub payload_blank : (bytes : List ℕ) (at offset size tag n : ℕ) → 1 ≤ offset → offset + n ≤ size → at + size ≤ length bytes → HasBytes bytes at (zeros size) → HasBytes (overwrite bytes at (tag ∷ [])) (at + offset) (zeros n)
+payload_blank bytes at offset size tag n first fits room s =
+    let j = size - (offset + n) in
+    let z : zeros size ≡ zeros offset ++ (zeros n ++ zeros j) = (let e : size ≡ offset + (n + j) = omega arith in ap zeros e) ∙ sym (zeros-append offset (n + j)) ∙ ap (λ l. zeros offset ++ l) (sym (zeros-append n j)) in
+    let P : List ℕ → Type 0 = λ l. HasBytes bytes at l in
+    let no : length (zeros offset) ≡ offset = length-replicate _ _ in
+    let behind = stands_right bytes at (zeros offset) (zeros n ++ zeros j) (at + offset) (omega arith) (subst P z s) in
+    let here : HasBytes bytes (at + offset) (zeros n) = stands_left bytes (at + offset) (zeros n) (zeros j) behind in
+    window_behind bytes at (tag ∷ []) (omega arith) (at + offset) (length (zeros n)) (omega arith) ∙ here
+
+-- a byte that is set is written
+pub set_over : (bytes : List ℕ) (at b : ℕ) → at < length bytes → set bytes at b ≡ overwrite bytes at (b ∷ [])
+set_over [] at b h = absurd (omega (arith, h))
+set_over (x ∷ xs) zero b h = refl
+set_over (x ∷ xs) (suc at) b h =
+    let e : suc (at + 1) ≡ suc at + 1 = omega arith in
+    ap (λ l. x ∷ l) (set_over xs at b (omega (arith, h))) ∙ ap (λ k. x ∷ (take at xs ++ (b ∷ drop k (x ∷ xs)))) e
+
+-- what is written over all bytes is all
+pub whole_over : (bytes : List ℕ) (from : ℕ) (piece : List ℕ) → from ≡ 0 → length piece ≡ length bytes → overwrite bytes from piece ≡ piece
+whole_over bytes from piece z e =
+    let P : ℕ → Type 0 = λ n. overwrite bytes n piece ≡ piece in
+    let none : drop (0 + length piece) bytes ≡ [] = drop_of_length-le bytes (omega (arith, e)) in
+    subst P (sym z) (ap (λ l. piece ++ l) none ∙ append-nil piece)

@@ -1,0 +1,5 @@
+pub mod Joining
+pub mod Laying
+pub mod Loops
+pub mod Regions
+pub mod Whole

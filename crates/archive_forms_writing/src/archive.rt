@@ -1,0 +1,44 @@
+//! What can be archived.
+ghost use Rattle.std.specs.Prelude.{◌≡◌, ℕ, ◌+◌, ◌-◌, ◌^◌, ◌<◌, ◌≤◌, length};
+ghost use Rattle.archive_shape_layout.specs.Shape.{size_of};
+ghost use Rattle.archive_shape_canonical.specs.Settled.{Fit};
+ghost use Rattle.archive_shape_references.specs.Bytes.{HasBytes, zeros};
+ghost use Rattle.archive_forms_spelling.specs.State.{State};
+ghost use Rattle.archive_forms_spelling.specs.Spelling.{Spelling};
+ghost use Rattle.archive_forms_spelling.specs.Spells.{Spells};
+ghost use Rattle.archive_forms_spelling.specs.Serializing.{HasState, Resolves, Serializes};
+
+use archive_shape::{Allocator, Error, Place, Portable, Writer};
+
+/// What can be archived.
+pub trait Archive {
+    /// The archived form.
+    type Archived: Portable;
+
+    /// What is kept of where the data stands.
+    type Resolver: Copy;
+
+    /// How a value is archived.
+    ghost spelling: { Spelling Self Self.Resolver };
+
+    /// Writes the own bytes of the value, whose data was written, in a place that is zero.
+    fn resolve(&self, resolver: Self::Resolver, out: &mut Place<'_, Self::Archived>) -> Result<(), Error>
+        requires room { out.old.start + size_of Self.Archived.shape ≤ length out.old.out.now }
+        requires stands { out.old.pos + size_of Self.Archived.shape < 2 ^ 64 }
+        requires blank { HasBytes out.old.out.now out.old.start (zeros (size_of Self.Archived.shape)) }
+        requires made { (st : State) × (resolver ≡ spelling.resolver self.now st) }
+        ensures same_reference { out.new.out.ghost_name ≡ out.old.out.ghost_name }
+        ensures resolves { Resolves spelling self.now resolver out.old.pos out.old.start out.old.out.now out.new.out.now result };
+
+    /// What is written is what the layout reads, and is the one archive of the value.
+    ghost spells: { (fit : Fit) → Spells fit Self.Archived.shape Self.Archived.knows spelling };
+}
+
+/// What can be archived by a serializer.
+pub trait Serialize<S: Writer + Allocator>: Archive {
+    /// Writes the data of the value.
+    fn serialize(&self, serializer: &mut S) -> Result<Self::Resolver, Error>
+        requires room { S.failures serializer.old < 2 ^ 64 - 1 }
+        requires state { HasState S.pos S.known serializer.old }
+        ensures { Serializes Self.spelling S.Writer self.now serializer.old serializer.new result };
+}

@@ -1,0 +1,120 @@
+//! Elements that are written behind their data.
+ghost use Rattle.std.specs.Prelude.{◌≡◌, ◌+◌, ◌-◌, ◌^◌, ◌<◌, ◌≤◌, length, [], ◌∷◌};
+ghost use Rattle.archive_forms_spelling.specs.State.{State};
+ghost use Rattle.archive_forms_spelling.specs.Serializing.{IsAt, HasState, Lays, Serializes};
+ghost use Rattle.archive_forms_spelling.specs.Regions.{state_after_all, pieces, resolvers, owns, pieces_fit, pieces_refused, owns_fit, owns_refused};
+ghost use Rattle.archive_forms_spelling.specs.Pointers.{slice_spelling, box_spelling};
+ghost use Rattle.archive_forms_writing.specs.Steps.{StepTakes, StepWrites};
+
+use crate::{Archive, align, resolve_aligned};
+use archive_shape::{Allocator, Error, Portable, Writer};
+use std::marker::PhantomData;
+
+/// Writes the data of each item by a step, and answers their resolvers.
+fn serialize_data_each<
+    T: Archive,
+    S: Writer + Allocator,
+    F: Fn(&T, &mut S) -> Result<(T::Resolver, PhantomData<T::Archived>), Error>,
+>(items: &[T], serializer: &mut S, step: F) -> Result<Vec<T::Resolver>, Error>
+    requires room { S.failures serializer.old < 2 ^ 64 - 1 }
+    requires state { HasState S.pos S.known serializer.old }
+    requires takes { StepTakes F.Fn S.Writer step items.now }
+    requires writes { StepWrites F.Fn (λ q. q.0) T.spelling S.Writer step }
+    ensures { (st : State) → IsAt S.pos S.known serializer.old st
+        → Lays S.Writer serializer.old serializer.new (pieces T.spelling items.now st)
+        (λ all. (all.items ≡ resolvers T.spelling items.now st) × pieces_fit T.spelling items.now st × IsAt S.pos S.known serializer.new (state_after_all T.spelling items.now st))
+        (pieces_refused T.spelling items.now st) result }
+{
+    let mut all = Vec::new(serializer.memory());
+    for item in items {
+        let resolver = match step(item, serializer) {
+            Ok(done) => done.0,
+            Err(e) => return Err(e),
+        };
+        if all.push(resolver).is_err() {
+            return Err(Error::OutOfMemory);
+        }
+    }
+    Ok(all)
+}
+
+/// Writes the own bytes of items side by side. Their data was written.
+fn resolve_items<T: Archive, S: Writer + Allocator>(
+    items: &[T],
+    kept: &[T::Resolver],
+    serializer: &mut S,
+) -> Result<(), Error>
+    requires room { S.failures serializer.old < 2 ^ 64 - 1 }
+    requires made { (st : State) × (kept.now ≡ resolvers T.spelling items.now st) }
+    ensures { (st : State) → kept.now ≡ resolvers T.spelling items.now st
+        → Lays S.Writer serializer.old serializer.new (owns T.spelling items.now st (S.pos serializer.old))
+        (λ _. owns_fit T.spelling T.Archived.shape items.now st (S.pos serializer.old))
+        (owns_refused T.spelling T.Archived.shape items.now st (S.pos serializer.old)) result }
+{
+    let alloc = serializer.memory();
+    for (i, item) in items.iter().enumerate() {
+        if let Err(e) = resolve_aligned(alloc, item, kept[i], serializer) {
+            return Err(e);
+        }
+    }
+    Ok(())
+}
+
+/// Writes items behind their data, which a step writes. The answer is the position of the first.
+pub fn serialize_slice_each<
+    T: Archive,
+    S: Writer + Allocator,
+    F: Fn(&T, &mut S) -> Result<(T::Resolver, PhantomData<T::Archived>), Error>,
+>(items: &[T], serializer: &mut S, step: F) -> Result<usize, Error>
+    requires room { S.failures serializer.old < 2 ^ 64 - 1 }
+    requires state { HasState S.pos S.known serializer.old }
+    requires takes { StepTakes F.Fn S.Writer step items.now }
+    requires writes { StepWrites F.Fn (λ q. q.0) T.spelling S.Writer step }
+    ensures { Serializes (slice_spelling T.Archived.shape T.spelling) S.Writer items.now serializer.old serializer.new result }
+{
+    let kept = match serialize_data_each(items, serializer, step) {
+        Ok(kept) => kept,
+        Err(e) => return Err(e),
+    };
+    let to = match align(serializer, T::Archived::ALIGN) {
+        Ok(to) => to,
+        Err(e) => return Err(e),
+    };
+    if to > u32::MAX as usize {
+        return Err(Error::PositionTooLarge);
+    }
+    match resolve_items(items, kept.as_slice(), serializer) {
+        Ok(()) => Ok(to),
+        Err(e) => Err(e),
+    }
+}
+
+/// Writes a value behind its data, which a step writes. The answer is its position.
+pub fn serialize_one_each<
+    T: Archive,
+    S: Writer + Allocator,
+    F: Fn(&T, &mut S) -> Result<(T::Resolver, PhantomData<T::Archived>), Error>,
+>(value: &T, serializer: &mut S, step: F) -> Result<usize, Error>
+    requires room { S.failures serializer.old < 2 ^ 64 - 1 }
+    requires state { HasState S.pos S.known serializer.old }
+    requires takes { StepTakes F.Fn S.Writer step (value.now ∷ []) }
+    requires writes { StepWrites F.Fn (λ q. q.0) T.spelling S.Writer step }
+    ensures { Serializes (box_spelling T.Archived.shape T.spelling) S.Writer value.now serializer.old serializer.new result }
+{
+    let alloc = serializer.memory();
+    let resolver = match step(value, serializer) {
+        Ok(done) => done.0,
+        Err(e) => return Err(e),
+    };
+    let to = match align(serializer, T::Archived::ALIGN) {
+        Ok(to) => to,
+        Err(e) => return Err(e),
+    };
+    if to > u32::MAX as usize {
+        return Err(Error::PositionTooLarge);
+    }
+    match resolve_aligned(alloc, value, resolver, serializer) {
+        Ok(()) => Ok(to),
+        Err(e) => Err(e),
+    }
+}

@@ -1,0 +1,90 @@
+//! Bytes that are placed behind what was written.
+ghost use Rattle.std.specs.Prelude.{◌≡◌, ℕ, ◌+◌, ◌-◌, ◌^◌, ◌<◌, ◌≤◌, length, IfOk, MatchResult};
+ghost use Rattle.archive_shape_layout.specs.Bytes.{align_up};
+ghost use Rattle.archive_shape_layout.specs.Shape.{size_of};
+ghost use Rattle.archive_shape_writing.specs.Writing.{Writes};
+ghost use Rattle.archive_shape_references.specs.Bytes.{zeros};
+ghost use Rattle.archive_forms_spelling.specs.State.{State};
+ghost use Rattle.archive_forms_spelling.specs.Spells.{AreBytes};
+ghost use Rattle.archive_forms_spelling.specs.Serializing.{Lays};
+ghost use Rattle.archive_forms_spelling.specs.Regions.{placed_fits, placed_refused};
+
+use crate::Archive;
+use archive_shape::{Error, Place, Portable, Writer};
+use std::alloc::Global;
+
+const ZEROS: [u8; 32] = [0; 32];
+
+/// Writes `padding` zeros.
+pub fn pad<W: Writer>(writer: &mut W, padding: usize) -> Result<(), Error>
+    requires room { W.failures writer.old < 2 ^ 64 - 1 }
+    requires short { padding < 32 }
+    ensures { Writes W.Writer writer.old writer.new (zeros padding) result }
+{
+    writer.write(&ZEROS[..padding])
+}
+
+/// How far the next position of an alignment is.
+fn padding(pos: usize, align: usize) -> usize
+    requires { 0 < align }
+    ensures gap { result ≡ align_up pos align - pos }
+    ensures short { result < align }
+{
+    (align - pos % align) % align
+}
+
+/// Writes zeros up to the next position of an alignment, and answers it.
+pub fn align<W: Writer>(writer: &mut W, align: usize) -> Result<usize, Error>
+    requires room { W.failures writer.old < 2 ^ 64 - 1 }
+    requires positive { 0 < align }
+    requires small { align ≤ 32 }
+    ensures writes { Writes W.Writer writer.old writer.new (zeros (align_up (W.pos writer.old) align - W.pos writer.old)) result }
+    ensures aligned { IfOk result (λ pos. pos ≡ align_up (W.pos writer.old) align) }
+{
+    let pos = writer.pos();
+    match pad(writer, padding(pos, align)) {
+        Ok(()) => Ok(writer.pos()),
+        Err(e) => Err(e),
+    }
+}
+
+/// Makes zeros the own bytes of a value, whose data was written.
+fn resolve_into<T: Archive>(
+    value: &T,
+    resolver: T::Resolver,
+    pos: usize,
+    out: &mut [u8],
+) -> Result<(), Error>
+    requires blank { out.old ≡ zeros (size_of T.Archived.shape) }
+    requires stands { pos + size_of T.Archived.shape < 2 ^ 64 }
+    requires made { (st : State) × (resolver ≡ T.spelling.resolver value.now st) }
+    ensures { MatchResult result
+        (λ _. T.spelling.own_fits value.now resolver pos × (out.new ≡ T.spelling.own value.now resolver pos))
+        (T.spelling.own_refused value.now resolver pos) }
+{
+    let mut place = Place::new(out, pos);
+    value.resolve(resolver, &mut place)
+}
+
+/// Writes the own bytes of a value, whose data was written.
+pub fn resolve_aligned<T: Archive, W: Writer>(
+    alloc: Global,
+    value: &T,
+    resolver: T::Resolver,
+    writer: &mut W,
+) -> Result<(), Error>
+    requires room { W.failures writer.old < 2 ^ 64 - 1 }
+    requires made { (st : State) × (resolver ≡ T.spelling.resolver value.now st) }
+    ensures { Lays W.Writer writer.old writer.new (T.spelling.own value.now resolver (W.pos writer.old))
+        (λ _. placed_fits T.spelling T.Archived.shape value.now resolver (W.pos writer.old))
+        (placed_refused T.spelling T.Archived.shape value.now resolver (W.pos writer.old)) result }
+{
+    let pos = writer.pos();
+    let size = T::Archived::SIZE;
+    if pos.checked_add(size).is_none() {
+        return Err(Error::PositionTooLarge);
+    }
+    let mut own = vec![in alloc; 0u8; size]?;
+    resolve_into(value, resolver, pos, own.as_mut_slice())?;
+    writer.write(own.as_slice())
+}
