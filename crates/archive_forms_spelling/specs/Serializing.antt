@@ -1,7 +1,8 @@
 -- What calls that write a value promise, of a serializer that keeps what is shared.
-use Rattle.std.specs.Prelude.{◌≡◌, ℕ, ◌⊎◌, ◌==◌, cond, List, [], ◌∷◌, IsTrue, Bool, true, false, Option, Some, None, Result, MatchResult}
+use Rattle.std.specs.Prelude.{◌≡◌, ℕ, ◌+◌, ◌^◌, ◌≤◌, ◌<◌, ◌⊎◌, ◌==◌, cond, List, [], ◌∷◌, length, IsTrue, Bool, true, false, Option, Some, None, Result, MatchResult}
+use Rattle.archive_shape_layout.specs.Shape.{Shape, size_of}
 use Rattle.archive_shape_layout.specs.Holds.{Visit}
-use Rattle.archive_shape_references.specs.Bytes.{overwrite}
+use Rattle.archive_shape_references.specs.Bytes.{HasBytes, zeros, overwrite}
 use Rattle.archive_shape_writing.specs.Writing.{WriterMembers, Cut, Written, Failed}
 use Rattle.archive_shape_writing.specs.declared.error.Error.{Error}
 use Rattle.archive_shape_writing.specs.declared.error.Error.TheVariants.{OutOfMemory}
@@ -74,3 +75,11 @@ module _ {A R : Type 0} (w : Spelling A R) where
   abbrev pub Resolves : A → R → ℕ → ℕ → List ℕ → List ℕ → Result (Unit {0}) Error → Type 0
   Resolves x r pos start old new result =
       MatchResult result (λ _. w.own_fits x r pos × (new ≡ overwrite old start (w.own x r pos))) (w.own_refused x r pos)
+
+  -- what such a call asks for: `bytes` have room for them at `start`, which is zero, they end before position 2^64 of the
+  -- archive, and the resolver was made of the value
+  pub record CanResolve (s : Shape) (x : A) (r : R) (bytes : List ℕ) (start pos : ℕ) : Type 0 where
+    pub room : start + size_of s ≤ length bytes
+    pub stands : pos + size_of s < 2 ^ 64
+    pub blank : HasBytes bytes start (zeros (size_of s))
+    pub made : (st : State) × (r ≡ w.resolver x st)

@@ -124,3 +124,18 @@ whole_over bytes from piece z e =
     let P : ℕ → Type 0 = λ n. overwrite bytes n piece ≡ piece in
     let none : drop (0 + length piece) bytes ≡ [] = drop_of_length-le bytes (omega (arith, e)) in
     subst P (sym z) (ap (λ l. piece ++ l) none ∙ append-nil piece)
+
+-- ---- a payload behind a tag
+
+module _ (offset size payload : ℕ) (first : 1 ≤ offset) (fits : offset + payload ≤ size) (bytes : List ℕ) (start tag : ℕ) (room : start + size ≤ length bytes) (blank : HasBytes bytes start (zeros size)) where
+  -- its place is still zero when the tag is set
+  pub payload_place : HasBytes (set bytes start tag) (start + offset) (zeros payload)
+  payload_place =
+      let P : List ℕ → Type 0 = λ l. HasBytes l (start + offset) (zeros payload) in
+      subst P (sym (set_over bytes start tag (omega arith))) (payload_blank bytes start offset size tag payload first fits room blank)
+
+  -- what is written there is written with the tag
+  pub payload_over : (own : List ℕ) → length own ≡ payload → overwrite (set bytes start tag) (start + offset) own ≡ overwrite bytes start (tagged_bytes tag offset size own)
+  payload_over own is =
+      ap (λ l. overwrite l (start + offset) own) (set_over bytes start tag (omega arith))
+      ∙ tagged_over bytes start offset size tag own first (omega arith) room blank

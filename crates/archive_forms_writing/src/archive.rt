@@ -1,12 +1,9 @@
 //! What can be archived.
-ghost use Rattle.std.specs.Prelude.{◌≡◌, ℕ, ◌+◌, ◌-◌, ◌^◌, ◌<◌, ◌≤◌, length};
-ghost use Rattle.archive_shape_layout.specs.Shape.{size_of};
+ghost use Rattle.std.specs.Prelude.{◌-◌, ◌^◌, ◌<◌};
 ghost use Rattle.archive_shape_canonical.specs.Settled.{Fit};
-ghost use Rattle.archive_shape_references.specs.Bytes.{HasBytes, zeros};
-ghost use Rattle.archive_forms_spelling.specs.State.{State};
 ghost use Rattle.archive_forms_spelling.specs.Spelling.{Spelling};
 ghost use Rattle.archive_forms_spelling.specs.Spells.{Spells};
-ghost use Rattle.archive_forms_spelling.specs.Serializing.{HasState, Resolves, Serializes};
+ghost use Rattle.archive_forms_spelling.specs.Serializing.{CanResolve, HasState, Resolves, Serializes};
 
 use archive_shape::{Allocator, Error, Place, Portable, Writer};
 
@@ -22,13 +19,9 @@ pub trait Archive {
     ghost spelling: { Spelling Self Self.Resolver };
 
     /// Writes the own bytes of the value, whose data was written, in a place that is zero.
-    fn resolve(&self, resolver: Self::Resolver, out: &mut Place<'_, Self::Archived>) -> Result<(), Error>
-        requires room { out.old.start + size_of Self.Archived.shape ≤ length out.old.out.now }
-        requires stands { out.old.pos + size_of Self.Archived.shape < 2 ^ 64 }
-        requires blank { HasBytes out.old.out.now out.old.start (zeros (size_of Self.Archived.shape)) }
-        requires made { (st : State) × (resolver ≡ spelling.resolver self.now st) }
-        ensures same_reference { out.new.out.ghost_name ≡ out.old.out.ghost_name }
-        ensures resolves { Resolves spelling self.now resolver out.old.pos out.old.start out.old.out.now out.new.out.now result };
+    fn resolve(&self, resolver: Self::Resolver, out: Place<'_, Self::Archived>) -> Result<(), Error>
+        requires { CanResolve spelling Self.Archived.shape self.now resolver out.out.now out.start out.pos }
+        ensures { Resolves spelling self.now resolver out.entry.pos out.entry.start out.entry.out.now out.exit.0.now result };
 
     /// What is written is what the layout reads, and is the one archive of the value.
     ghost spells: { (fit : Fit) → Spells fit Self.Archived.shape Self.Archived.knows spelling };

@@ -1,14 +1,30 @@
 //! Elements that are written behind their data.
 ghost use Rattle.std.specs.Prelude.{◌≡◌, ◌+◌, ◌-◌, ◌^◌, ◌<◌, ◌≤◌, length, [], ◌∷◌};
 ghost use Rattle.archive_forms_spelling.specs.State.{State};
-ghost use Rattle.archive_forms_spelling.specs.Serializing.{IsAt, HasState, Lays, Serializes};
+ghost use Rattle.archive_forms_spelling.specs.Serializing.{IsAt, HasState, Lays, Serializes, SerializesBy};
 ghost use Rattle.archive_forms_spelling.specs.Regions.{state_after_all, pieces, resolvers, owns, pieces_fit, pieces_refused, owns_fit, owns_refused};
 ghost use Rattle.archive_forms_spelling.specs.Pointers.{slice_spelling, box_spelling};
 ghost use Rattle.archive_forms_writing.specs.Steps.{StepTakes, StepWrites};
 
-use crate::{Archive, align, resolve_aligned};
+use crate::{Archive, Serialize, align, resolve_aligned};
 use archive_shape::{Allocator, Error, Portable, Writer};
 use std::marker::PhantomData;
+
+/// The step of elements that can be archived by the serializer. A step's answer names the archived form, since a closure over
+/// `T` can be passed on only where its type does.
+pub(crate) fn serialize_element<T: Serialize<S>, S: Writer + Allocator>(
+    item: &T,
+    serializer: &mut S,
+) -> Result<(T::Resolver, PhantomData<T::Archived>), Error>
+    requires room { S.failures serializer.old < 2 ^ 64 - 1 }
+    requires state { HasState S.pos S.known serializer.old }
+    ensures { SerializesBy (λ q. q.0) T.spelling S.Writer item.now serializer.old serializer.new result }
+{
+    match item.serialize(serializer) {
+        Ok(resolver) => Ok((resolver, PhantomData)),
+        Err(e) => Err(e),
+    }
+}
 
 /// Writes the data of each item by a step, and answers their resolvers.
 fn serialize_data_each<

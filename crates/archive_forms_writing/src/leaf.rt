@@ -2,6 +2,7 @@
 ghost use Rattle.std.specs.Prelude.{◌≡◌, ℕ, ◌+◌, ◌≤◌, length};
 ghost use Rattle.archive_shape_native.specs.Numbers.{Reads};
 ghost use Rattle.archive_forms_spelling.specs.Forms.{leaf_spelling};
+ghost use Rattle.archive_forms_spelling.specs.Serializing.{CanResolve, Resolves};
 ghost use Rattle.archive_forms_spelling.specs.Spells.{AreBytes};
 ghost use Rattle.archive_forms_spelling.proofs.Leaves.{leaf_spells};
 
@@ -32,10 +33,13 @@ impl<N: Leaf> Archive for N {
 
     ghost spelling = { leaf_spelling N.Archived.shape N.Archived.bytes_of N.Archived.value_of };
 
-    fn resolve(&self, _resolver: (), out: &mut Place<'_, N::Archived>) -> Result<(), Error> {
-        let start = out.start;
+    fn resolve(&self, _resolver: (), out: Place<'_, N::Archived>) -> Result<(), Error>
+        requires { CanResolve (leaf_spelling N.Archived.shape N.Archived.bytes_of N.Archived.value_of) N.Archived.shape self.now tt out.out.now out.start out.pos }
+        ensures { Resolves (leaf_spelling N.Archived.shape N.Archived.bytes_of N.Archived.value_of) self.now tt out.entry.pos out.entry.start out.entry.out.now out.exit.0.now result }
+    {
+        let Place { out, start, .. } = out;
         let end = start + N::Archived::SIZE;
-        store_own::<N::Archived>(*self, &mut out.out[start..end]);
+        store_own::<N::Archived>(*self, &mut out[start..end]);
         Ok(())
     }
 

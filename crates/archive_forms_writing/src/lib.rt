@@ -4,9 +4,11 @@
 mod archive;
 mod elements;
 mod leaf;
+mod option;
 mod placing;
 
 pub use archive::{Archive, Serialize};
 pub use elements::{serialize_one_each, serialize_slice_each};
 pub use leaf::Leaf;
+pub use option::serialize_option_each;
 pub use placing::{align, pad, resolve_aligned};

@@ -62,8 +62,7 @@ fn resolve_into<T: Archive>(
         (λ _. T.spelling.own_fits value.now resolver pos × (out.new ≡ T.spelling.own value.now resolver pos))
         (T.spelling.own_refused value.now resolver pos) }
 {
-    let mut place = Place::new(out, pos);
-    value.resolve(resolver, &mut place)
+    value.resolve(resolver, Place::new(out, pos))
 }
 
 /// Writes the own bytes of a value, whose data was written.

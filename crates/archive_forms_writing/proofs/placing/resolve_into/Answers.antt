@@ -7,6 +7,6 @@ use Rattle.archive_forms_writing.proofs.placing.resolve_into.Goals as goal
 
 pub returns : goal.returns
 returns g c =
-    let whole : length c.new-place.result.out.now ≡ size_of g.T.Archived.Portable.shape = ap length (c.new-place.ensures.bytes ∙ c.requires.blank) ∙ length-replicate _ _ in
+    let whole : length c.new.result.out.now ≡ size_of g.T.Archived.Portable.shape = ap length (c.new.ensures.bytes ∙ c.requires.blank) ∙ length-replicate _ _ in
     whole_resolved g.T.Archived.Portable.shape g.T.Archive.spelling c.args.value.now c.args.resolver (λ pos. (g.met.T.Archive.spells (first_fit (λ _. 0)) c.args.value.now).sized c.args.resolver pos)
-    c.args.pos _ _ c.new-place.result.out.now c.resolve.new.out.out.now _ c.resolve.result c.new-place.ensures.pos c.new-place.ensures.start whole (search rules) c.resolve.ensures.resolves
+    c.args.pos _ _ c.new.result.out.now c.resolve.new.out.0 _ c.resolve.result c.new.ensures.pos c.new.ensures.start whole (search rules) c.resolve.ensures
