@@ -6,6 +6,7 @@ pub mod Regions
 pub mod Views
 pub mod Pointers
 pub mod Options
+pub mod Fields
 pub mod Shared
 pub mod Written
 pub mod Progress

@@ -6,6 +6,7 @@ pub mod Regions
 pub mod Pointers
 pub mod Shared
 pub mod Options
+pub mod Fields
 pub mod Serializing
 pub mod Written
 pub mod Sample
