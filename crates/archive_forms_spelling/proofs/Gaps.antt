@@ -1,5 +1,5 @@
 -- Regions one after the other, with zeros between them; and which bytes are below 256.
-use Rattle.std.proofs.Common.{ℕ, ◌+◌, ◌≤◌, ◌<◌, List, [], ◌∷◌, ◌++◌, arith, inl, inr, ⊎_elim}
+use Rattle.std.proofs.Common.{ℕ, ◌+◌, ◌≤◌, ◌<◌, List, [], ◌∷◌, ◌++◌, replicate, arith, inl, inr, ⊎_elim}
 use Rattle.std.proofs.lemmas.Bool.{cases_lt}
 use Rattle.std.specs.Int.{w32, to_le_bytes}
 use Rattle.archive_shape_layout.specs.Holds.{Region, Ascends, end_after}
@@ -39,6 +39,10 @@ bytes_more b bs h k = (small_more h (record { each = k })).each
 
 pub bytes_append : (xs ys : List ℕ) → AreBytes xs → AreBytes ys → AreBytes (xs ++ ys)
 bytes_append xs ys h k = (small_append (record { each = h }) (record { each = k })).each
+
+-- so many of one byte
+pub bytes_same : (n b : ℕ) → b < 256 → AreBytes (replicate n b)
+bytes_same n b h = (small_same n b h).each
 
 pub bytes_zeros : (n : ℕ) → AreBytes (zeros n)
 bytes_zeros n = (small_same n 0 (omega arith)).each

@@ -100,9 +100,15 @@ module _ {fit : Fit} {names : Names} {bytes : List ℕ} {level : ℕ} {inside : 
     gaps = h.gaps;
   }
 
+-- an offset and a length that fit are not refused
+pub slice_own_exact : (n from to : ℕ) (e : Error) (small : n < 2 ^ 32) (f : FitsOffset from to) {P Q : Type 0} → ((FitsOffset from to → ⊥) × P) ⊎ ((2 ^ 32 ≤ n) × Q) → ⊥
+slice_own_exact n from to e small f (inl r) = r.0 f
+slice_own_exact n from to e small f (inr r) = let h = r.0 in omega arith
+
 -- ---- vectors and boxes
 
 module _ {A R : Type 0} (fit : Fit) (s : Shape) (knows : Names → Type 0) (w : Spelling A R) where
+  -- the own bytes of a vector, and of a box of elements, lead to the elements
   vector_content : (names : Names) (bytes : List ℕ) (from to n : ℕ) → FitsOffset from to → n < 2 ^ 32
       → HasBytes bytes from (offset_bytes from to ++ to_le_bytes w32 n)
       → content_of names bytes (at from (vector s)) ≡ plain same (behind to (slice s) n ∷ [])
@@ -122,10 +128,6 @@ module _ {A R : Type 0} (fit : Fit) (s : Shape) (knows : Names → Type 0) (w : 
   box_content names bytes from to near stands =
       ap (λ o. following o (λ t. plain same (behind t (sized s) 1 ∷ []))) (offset_stands bytes from to 4 (omega arith) near stands)
 
-  slice_own_exact : (n from to : ℕ) (e : Error) (small : n < 2 ^ 32) (f : FitsOffset from to) {P Q : Type 0} → ((FitsOffset from to → ⊥) × P) ⊎ ((2 ^ 32 ≤ n) × Q) → ⊥
-  slice_own_exact n from to e small f (inl r) = r.0 f
-  slice_own_exact n from to e small f (inr r) = let h = r.0 in omega arith
-
   region_consistent : (xs : List A) (each : EachSpells fit s knows w xs) (st : State) → IsConsistent st → region_fits w s xs st
       → IsConsistent (advanced (length (region_piece w s xs st)) (state_after_all w xs st).met st)
   region_consistent xs each st h f =
@@ -133,12 +135,13 @@ module _ {A R : Type 0} (fit : Fit) (s : Shape) (knows : Names → Type 0) (w : 
       let end = region_end fit s knows w xs each st f in
       consistent_further (state_after_all w xs st) (st.pos + length (region_piece w s xs st)) st.begun (omega arith) (state_after_all_begun fit s knows w xs st) (state_after_all_consistent fit s knows w xs each st h f.0)
 
-  -- the law of a list is that of each of its elements, in every form whose own bytes are an offset and a length
+  -- the law of a list is that of each of its elements, in every form whose own bytes are read as an offset and a length
   module _ (form : Shape) (eight : size_of form ≡ 8) (own_fields : field_size form ≡ 8)
       (content : (names : Names) (bytes : List ℕ) (from to n : ℕ) → FitsOffset from to → n < 2 ^ 32 → HasBytes bytes from (offset_bytes from to ++ to_le_bytes w32 n)
       → content_of names bytes (at from form) ≡ plain same (behind to (slice s) n ∷ []))
       (filled : (bytes : List ℕ) (from to n : ℕ) → IsFilled bytes (at from form) (plain same (behind to (slice s) n ∷ [])))
       (xs : List A) (each : EachSpells fit s knows w xs) where
+    -- it is read as it is written
     listed_canonical :
         (st : State) (from : ℕ) (names : Names) (keys : Keys) (bytes : List ℕ) (level : ℕ) (inside : List OpenShared)
         → knows names
