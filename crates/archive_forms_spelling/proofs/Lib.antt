@@ -9,6 +9,7 @@ pub mod Payloads
 pub mod Options
 pub mod Results
 pub mod Fields
+pub mod Arrays
 pub mod Texts
 pub mod Shared
 pub mod Written

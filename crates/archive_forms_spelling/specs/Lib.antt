@@ -9,6 +9,7 @@ pub mod Options
 pub mod Payloads
 pub mod Results
 pub mod Fields
+pub mod Arrays
 pub mod Texts
 pub mod Serializing
 pub mod Written
