@@ -62,6 +62,11 @@ pub record FieldsSpellAt {A R : Type 0} (fit : Fit) (knows : Names → Type 0) (
   pub piece_exact : (st : State) (e : Error) → fs.piece_fits x st → fs.piece_refused x st e → ⊥
   pub own_exact : (r : R) (pos offset : ℕ) (e : Error) → fs.own_fits x r pos offset → fs.own_refused x r pos offset e → ⊥
 
+-- a value of a type that has no other has no byte of its own
+pub unit_has_no_bytes : {A : Type 0} (x : A) (pos : ℕ) → unit_spelling.own x tt pos ≡ []
+unfolding align_up
+unit_has_no_bytes x pos = refl
+
 module _ (fit : Fit) (knows : Names → Type 0) where
   -- no fields are read from no bytes
   pub no_fields_spell : {A : Type 0} (x : A) → FieldsSpellAt fit knows no_fields x
@@ -281,11 +286,11 @@ module _ (fit : Fit) (knows : Names → Type 0) where
       own_exact = λ r pos e f k. all.own_exact r pos 0 e f k;
     }
 
-  -- the law of types of one value; they have no byte of their own
-  pub unit_has_no_bytes : {A : Type 0} (x : A) (pos : ℕ) → unit_spelling.own x tt pos ≡ []
-  unfolding align_up
-  unit_has_no_bytes x pos = refl
+  -- so of every struct
+  pub struct_spells : {A R : Type 0} (fs : FieldsSpelling A R) → ((x : A) → FieldsSpellAt fit knows fs x) → Spells fit (tuple fs.shapes) knows (struct_spelling fs)
+  struct_spells fs all x = struct_spells_at fs x (all x)
 
+  -- the law of types of one value
   pub unit_spells : {A : Type 0} → Spells fit (tuple no_shapes) knows (unit_spelling {A = A})
   unit_spells x = struct_spells_at no_fields x (no_fields_spell x)
 

@@ -1,4 +1,4 @@
--- Values that are seen as others, resolvers that are kept as others, and lists of values.
+-- Values that are seen as others, resolvers that are kept as others, names of types that are known, and lists of values.
 use Rattle.std.proofs.Common.{◌≡◌, List, [], ◌∷◌, subst}
 use Rattle.archive_shape_layout.specs.Shape.{Shape}
 use Rattle.archive_shape_layout.specs.Content.{Names}
@@ -49,3 +49,21 @@ kept_spells_at {R = R} fit s knows make get back w x one = record {
 pub kept_spells : {A R Q : Type 0} (fit : Fit) (s : Shape) (knows : Names → Type 0) (make : R → Q) (get : Q → R) (back : (r : R) → get (make r) ≡ r) (w : Spelling A R)
     → Spells fit s knows w → Spells fit s knows (kept_as make get w)
 kept_spells fit s knows make get back w h x = kept_spells_at fit s knows make get back w x (h x)
+
+-- the law of a value under some names of types is that under fewer of them, as where a form has the names of all its parts
+pub known_spells_at : {A R : Type 0} (fit : Fit) (s : Shape) (knows fewer : Names → Type 0) (among : (names : Names) → fewer names → knows names) (w : Spelling A R) (x : A)
+    → SpellsAt fit s knows w x → SpellsAt fit s fewer w x
+known_spells_at fit s knows fewer among w x one = record {
+  sized = one.sized;
+  canonical = λ st pos names keys bytes level inside k n known state over f o p q. one.canonical st pos names keys bytes level inside (among names k) n known state over f o p q;
+  consistent = one.consistent;
+  keyed = one.keyed;
+  piece_bytes = one.piece_bytes;
+  own_bytes = one.own_bytes;
+  piece_exact = one.piece_exact;
+  own_exact = one.own_exact;
+}
+
+pub known_spells : {A R : Type 0} (fit : Fit) (s : Shape) (knows fewer : Names → Type 0) (among : (names : Names) → fewer names → knows names) (w : Spelling A R)
+    → Spells fit s knows w → Spells fit s fewer w
+known_spells fit s knows fewer among w h x = known_spells_at fit s knows fewer among w x (h x)

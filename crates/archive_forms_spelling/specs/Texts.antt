@@ -26,22 +26,22 @@ text_piece true t = []
 text_piece false t = t
 
 -- the position of the bytes; there is none of a short text
-abbrev pub text_resolver : Bool → ℕ → ℕ
-text_resolver true at = 0
-text_resolver false at = at
+abbrev pub text_resolver : Bool → (from : ℕ) → ℕ
+text_resolver true from = 0
+text_resolver false from = from
 
 abbrev pub text_own : Bool → List ℕ → (to pos : ℕ) → List ℕ
 text_own true t to pos = inline_bytes t
 text_own false t to pos = to_le_bytes w32 (length_word (length t)) ++ offset_bytes pos to
 
 -- a text out of line has at most 2^30 - 1 bytes
-abbrev pub text_piece_fits : Bool → List ℕ → ℕ → Type 0
-text_piece_fits true t at = ⊤
-text_piece_fits false t at = (length t < 2 ^ 30) × (at < 2 ^ 32)
+abbrev pub text_piece_fits : Bool → List ℕ → (from : ℕ) → Type 0
+text_piece_fits true t from = ⊤
+text_piece_fits false t from = (length t < 2 ^ 30) × (from < 2 ^ 32)
 
-abbrev pub text_piece_refused : Bool → List ℕ → ℕ → Error → Type 0
-text_piece_refused true t at e = ⊥
-text_piece_refused false t at e = ((2 ^ 30 ≤ length t) × (e ≡ StringTooLong)) ⊎ ((2 ^ 32 ≤ at) × (e ≡ PositionTooLarge))
+abbrev pub text_piece_refused : Bool → List ℕ → (from : ℕ) → Error → Type 0
+text_piece_refused true t from e = ⊥
+text_piece_refused false t from e = ((2 ^ 30 ≤ length t) × (e ≡ StringTooLong)) ⊎ ((2 ^ 32 ≤ from) × (e ≡ PositionTooLarge))
 
 abbrev pub text_own_fits : Bool → (to pos : ℕ) → Type 0
 text_own_fits true to pos = ⊤
