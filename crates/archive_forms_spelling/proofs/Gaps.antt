@@ -1,7 +1,7 @@
 -- Regions one after the other, with zeros between them; and which bytes are below 256.
-use Rattle.std.proofs.Common.{ℕ, ◌+◌, ◌≤◌, ◌<◌, List, [], ◌∷◌, ◌++◌, arith, inl, inr, ⊎_elim}
+use Rattle.std.proofs.Common.{ℕ, ◌+◌, ◌≤◌, ◌<◌, List, [], ◌∷◌, ◌++◌, replicate, arith, inl, inr, ⊎_elim}
 use Rattle.std.proofs.lemmas.Bool.{cases_lt}
-use Rattle.std.specs.Int.{w32, to_le_bytes}
+use Rattle.std.specs.Int.{Width, w32, to_le_bytes}
 use Rattle.archive_shape_layout.specs.Holds.{Region, Ascends, end_after}
 use Rattle.archive_shape_layout.proofs.Ascent.{Ascends-append}
 use Rattle.archive_shape_layout.proofs.Evaluated.{ascends_raised, end_below}
@@ -40,8 +40,16 @@ bytes_more b bs h k = (small_more h (record { each = k })).each
 pub bytes_append : (xs ys : List ℕ) → AreBytes xs → AreBytes ys → AreBytes (xs ++ ys)
 bytes_append xs ys h k = (small_append (record { each = h }) (record { each = k })).each
 
+-- so many of one byte
+pub bytes_same : (n b : ℕ) → b < 256 → AreBytes (replicate n b)
+bytes_same n b h = (small_same n b h).each
+
 pub bytes_zeros : (n : ℕ) → AreBytes (zeros n)
 bytes_zeros n = (small_same n 0 (omega arith)).each
 
+-- a number of any width
+pub bytes_number : (w : Width) (n : ℕ) → AreBytes (to_le_bytes w n)
+bytes_number w n = (small_word w n).each
+
 pub bytes_word : (n : ℕ) → AreBytes (to_le_bytes w32 n)
-bytes_word n = (small_word w32 n).each
+bytes_word n = bytes_number w32 n

@@ -5,7 +5,12 @@ pub mod Leaves
 pub mod Regions
 pub mod Views
 pub mod Pointers
+pub mod Payloads
 pub mod Options
+pub mod Results
+pub mod Fields
+pub mod Arrays
+pub mod Texts
 pub mod Shared
 pub mod Written
 pub mod Progress

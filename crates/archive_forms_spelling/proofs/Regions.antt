@@ -1,5 +1,6 @@
 -- Values that are written side by side are read so, and the region of their own bytes is claimed.
 use Rattle.std.proofs.Common.{◌≡◌, ℕ, suc, ◌+◌, ◌-◌, ◌*◌, ◌%◌, ◌≤◌, List, [], ◌∷◌, ◌++◌, refl, length, sym, ap, ap₂, subst, ◌∙◌, arith, inl, inr, ⊎_elim, length-append, add-zero}
+use Rattle.std.specs.Prelude.{⊤}
 use Rattle.std.proofs.lemmas.Bool.{cases_lt}
 use Rattle.std.proofs.lemmas.List.{length-replicate}
 use Rattle.archive_shape_layout.specs.Bytes.{align_up}
@@ -69,12 +70,22 @@ module _ {fit : Fit} {names : Names} {bytes : List ℕ} {level : ℕ} {inside : 
       }
 
 module _ {A R : Type 0} (fit : Fit) (s : Shape) (knows : Names → Type 0) (w : Spelling A R) where
+  -- the own bytes of each pass no limit, wherever they end
+  abbrev pub OwnsPass : List A → State → ℕ → Type 0
+  OwnsPass [] st pos = ⊤
+  OwnsPass (x ∷ xs) st pos = w.own_fits x (w.resolver x st) pos × OwnsPass xs (state_after w x st) (pos + length (w.own x (w.resolver x st) pos))
+
+  -- so they do where they end before position 2^64
+  pub owns_pass : (xs : List A) (st : State) (pos : ℕ) → owns_fit w s xs st pos → OwnsPass xs st pos
+  owns_pass [] st pos f = tt
+  owns_pass (x ∷ xs) st pos f = (f.0.0, owns_pass xs (state_after w x st) (pos + length (w.own x (w.resolver x st) pos)) f.1)
+
   -- each takes its size
-  pub length-owns : (xs : List A) (each : EachSpells fit s knows w xs) (st : State) (pos : ℕ) → owns_fit w s xs st pos → length (owns w xs st pos) ≡ length xs * size_of s
+  pub length-owns : (xs : List A) (each : EachSpells fit s knows w xs) (st : State) (pos : ℕ) → OwnsPass xs st pos → length (owns w xs st pos) ≡ length xs * size_of s
   length-owns [] each st pos h = omega arith
   length-owns (x ∷ xs) each st pos h =
       let own = w.own x (w.resolver x st) pos in
-      let first = each.0.sized (w.resolver x st) pos h.0.0 in
+      let first = each.0.sized (w.resolver x st) pos h.0 in
       let rest = length-owns xs each.1 (state_after w x st) (pos + length own) h.1 in
       length-append own (owns w xs (state_after w x st) (pos + length own)) ∙ omega (arith, first, rest)
 
@@ -102,16 +113,16 @@ module _ {A R : Type 0} (fit : Fit) (s : Shape) (knows : Names → Type 0) (w : 
   pieces_bytes [] each st f = bytes_none
   pieces_bytes (x ∷ xs) each st f = bytes_append (w.piece x st) _ (each.0.piece_bytes st f.0) (pieces_bytes xs each.1 (state_after w x st) f.1)
 
-  pub owns_bytes : (xs : List A) (each : EachSpells fit s knows w xs) (st : State) (pos : ℕ) → owns_fit w s xs st pos → AreBytes (owns w xs st pos)
+  pub owns_bytes : (xs : List A) (each : EachSpells fit s knows w xs) (st : State) (pos : ℕ) → OwnsPass xs st pos → AreBytes (owns w xs st pos)
   owns_bytes [] each st pos f = bytes_none
   owns_bytes (x ∷ xs) each st pos f =
       let own = w.own x (w.resolver x st) pos in
-      bytes_append own _ (each.0.own_bytes (w.resolver x st) pos f.0.0) (owns_bytes xs each.1 (state_after w x st) (pos + length own) f.1)
+      bytes_append own _ (each.0.own_bytes (w.resolver x st) pos f.0) (owns_bytes xs each.1 (state_after w x st) (pos + length own) f.1)
 
   pub region_bytes : (xs : List A) (each : EachSpells fit s knows w xs) (st : State) → region_fits w s xs st → AreBytes (region_piece w s xs st)
   region_bytes xs each st f =
       let t = region_at w s xs st in
-      bytes_append (pieces w xs st) _ (pieces_bytes xs each st f.0) (bytes_append (zeros (t - (state_after_all w xs st).pos)) _ (bytes_zeros _) (owns_bytes xs each st t f.2))
+      bytes_append (pieces w xs st) _ (pieces_bytes xs each st f.0) (bytes_append (zeros (t - (state_after_all w xs st).pos)) _ (bytes_zeros _) (owns_bytes xs each st t (owns_pass xs st t f.2)))
 
   pub elements_canonical :
       (xs : List A) (each : EachSpells fit s knows w xs) (st : State) (pos : ℕ) (names : Names) (keys : Keys) (bytes : List ℕ) (level : ℕ) (inside : List OpenShared)
@@ -121,7 +132,7 @@ module _ {A R : Type 0} (fit : Fit) (s : Shape) (knows : Names → Type 0) (w : 
       → IsConsistent st
       → AllFrom (state_after_all w xs st).pos inside
       → pieces_fit w xs st
-      → owns_fit w s xs st pos
+      → OwnsPass xs st pos
       → HasBytes bytes st.pos (pieces w xs st)
       → HasBytes bytes pos (owns w xs st pos)
       → CanonicalParts fit names bytes level inside (visits_of st.met) (visits_of (state_after_all w xs st).met) (elements pos (length xs) s) (values w xs st) st.pos (state_after_all w xs st).pos
@@ -134,8 +145,8 @@ module _ {A R : Type 0} (fit : Fit) (s : Shape) (knows : Names → Type 0) (w : 
       let end = (state_after_all w xs then).pos in
       let more : then.pos ≤ end = let e = state_after_all_pos xs then in omega arith in
       let up : st.pos ≤ then.pos = omega arith in
-      let size : length own ≡ size_of s = each.0.sized (w.resolver x st) pos o.0.0 in
-      let first = each.0.canonical st pos names keys bytes level inside k n.0 known state (from_earlier inside then.pos end more over) f.0 o.0.0
+      let size : length own ≡ size_of s = each.0.sized (w.resolver x st) pos o.0 in
+      let first = each.0.canonical st pos names keys bytes level inside k n.0 known state (from_earlier inside then.pos end more over) f.0 o.0
       (stands_left bytes st.pos piece (pieces w xs then) p) (stands_left bytes pos own (owns w xs then (pos + length own)) q) in
       let rest = elements_canonical xs each.1 then (pos + length own) names keys bytes level inside k n.1 (each.0.keyed keys st n.0 known f.0).1 (each.0.consistent st state f.0) over f.1 o.1
       (stands_right bytes st.pos piece (pieces w xs then) then.pos refl p) (stands_right bytes pos own (owns w xs then (pos + length own)) (pos + length own) refl q) in
@@ -172,7 +183,7 @@ module _ {A R : Type 0} (fit : Fit) (s : Shape) (knows : Names → Type 0) (w : 
       let gap = zeros (t - (state_after_all w xs st).pos) in
       let at_end = state_after_all_pos xs st in
       let up = region_up xs st in
-      let n = length-owns xs each st t f.2 in
+      let n = length-owns xs each st t (owns_pass xs st t f.2) in
       let filled : length gap ≡ t - (state_after_all w xs st).pos = length-replicate _ _ in
       omega (arith, length-append front (gap ++ owns w xs st t), length-append gap (owns w xs st t))
 
@@ -199,7 +210,7 @@ module _ {A R : Type 0} (fit : Fit) (s : Shape) (knows : Names → Type 0) (w : 
       let gap = zeros (t - (state_after_all w xs st).pos) in
       let up = region_up xs st in
       let filled : length gap ≡ t - (state_after_all w xs st).pos = length-replicate _ _ in
-      elements_canonical xs each st t names keys bytes level inside k n known state over f.0 f.2
+      elements_canonical xs each st t names keys bytes level inside k n known state over f.0 (owns_pass xs st t f.2)
       (stands_left bytes st.pos front (gap ++ owns w xs st t) p)
       (stands_right bytes (state_after_all w xs st).pos gap (owns w xs st t) t (omega arith) (gap_stands xs st bytes p))
 

@@ -1,26 +1,32 @@
 -- Each sample is written as its one archive.
-use Rattle.std.proofs.Common.{◌≡◌, ℕ, ◌==◌, ◌<◌, ◌^◌, cond, Bool, true, false, List, [], ◌∷◌, Option, Some, None, refl, sym, ◌∙◌, arith, eqb-true}
-use Rattle.std.specs.Int.{w32, to_le_bytes}
+use Rattle.std.proofs.Common.{◌≡◌, ℕ, ◌==◌, ◌<◌, ◌^◌, cond, Bool, true, false, codes, List, [], ◌∷◌, Option, Some, None, refl, sym, ◌∙◌, arith, eqb-true, IsUtf8}
+use Rattle.std.specs.Int.{w8, w32, w64, to_le_bytes}
 use Rattle.std.proofs.lemmas.Int.{ints}
+use lib.Utf8.{encode}
 use Rattle.archive_shape_layout.specs.Bytes.{align_up}
-use Rattle.archive_shape_layout.specs.Shape.Shape.{shared, box, option}
+use Rattle.archive_shape_layout.specs.Shape.Shape.{shared, box, option, number, text}
 use Rattle.archive_shape_layout.specs.Shape.Pointee.{sized}
 use Rattle.archive_shape_layout.specs.Value.Value.{natural}
-use Rattle.archive_shape_layout.specs.Content.{shape_content, number_value}
+use Rattle.archive_shape_layout.specs.Content.{Names, shape_content, number_value}
+use Rattle.archive_shape_native.specs.Numbers.{Reads}
 use Rattle.archive_shape_canonical.specs.Settled.{Fit}
 use Rattle.archive_forms_spelling.specs.State.{Keys, SharedValue, AreOneToOne, initial}
 use Rattle.archive_forms_spelling.specs.Spells.{Spells}
 use Rattle.archive_forms_spelling.specs.Forms.{seen_as}
-use Rattle.archive_forms_spelling.specs.Regions.{region_fits, all_keyed_by}
+use Rattle.archive_forms_spelling.specs.Regions.{region_fits, region_piece, all_keyed_by}
 use Rattle.archive_forms_spelling.specs.Pointers.{FitsOffset, box_spelling}
 use Rattle.archive_forms_spelling.specs.Options.{option_spelling}
-use Rattle.archive_forms_spelling.specs.Sample.{number_shape, number_spelling, keyed_spelling, keyed_list_shape, keyed_list, two, two_bytes, optional_list_shape, optional_list, one_present, one_present_bytes}
-use Rattle.archive_forms_spelling.specs.Laws.{KnowsAll, KeyedListsAreWritten, OnePresentIsWritten, OptionalListsAreWritten, TwoSharedIsWritten}
-use Rattle.archive_forms_spelling.proofs.Gaps.{bytes_word}
+use Rattle.archive_forms_spelling.specs.Texts.{text_spelling}
+use Rattle.archive_forms_spelling.specs.Written.{IsWritten}
+use Rattle.archive_forms_spelling.specs.Sample.{number_shape, number_spelling, keyed_spelling, keyed_list_shape, keyed_list, two, two_bytes, optional_list_shape, optional_list, one_present, one_present_bytes, unsigned_spelling, pair_shape, pair_spelling, zero_pair_bytes, other_pair_bytes, filled_text_bytes, eight_text_bytes, nine_text_bytes}
+use Rattle.archive_forms_spelling.specs.Laws.{KnowsAll, KeyedListsAreWritten, OnePresentIsWritten, OptionalListsAreWritten, PairsAreWritten, TextsAreWritten, TwoSharedIsWritten}
+use Rattle.archive_forms_spelling.proofs.Gaps.{bytes_number, bytes_word}
 use Rattle.archive_forms_spelling.proofs.Leaves.{leaf_spells}
 use Rattle.archive_forms_spelling.proofs.Views.{seen_spells}
 use Rattle.archive_forms_spelling.proofs.Pointers.{slice_spells, box_spells}
 use Rattle.archive_forms_spelling.proofs.Options.{option_spells}
+use Rattle.archive_forms_spelling.proofs.Fields.{tuple2_spells}
+use Rattle.archive_forms_spelling.proofs.Texts.{text_spells}
 use Rattle.archive_forms_spelling.proofs.Shared.{shared_spells}
 use Rattle.archive_forms_spelling.proofs.Written.{is_written}
 
@@ -127,3 +133,50 @@ one_fits =
 pub one_present_is_written_law : OnePresentIsWritten
 unfolding align_up
 one_present_is_written_law fit names = optional_lists_are_written_law fit names one_present one_present_bytes one_fits refl
+
+-- ---- pairs
+
+pub pair_spells : (fit : Fit) → Spells fit pair_shape KnowsAll pair_spelling
+pair_spells fit =
+    tuple2_spells fit KnowsAll (number w8 false) (unsigned_spelling w8) (number w64 false) (unsigned_spelling w64)
+    (leaf_spells fit (number w8 false) KnowsAll (to_le_bytes w8) natural tt) (leaf_spells fit (number w64 false) KnowsAll (to_le_bytes w64) natural tt)
+
+pair_fits : (a b : ℕ) → Reads (number w8 false) (to_le_bytes w8 a) (natural a) → Reads (number w64 false) (to_le_bytes w64 b) (natural b)
+    → region_fits pair_spelling pair_shape ((a, b) ∷ []) initial
+unfolding align_up
+pair_fits a b h k =
+    let small : 0 < 2 ^ 32 = omega arith in
+    let little : 16 < 2 ^ 64 = omega arith in
+    (((tt, (tt, tt)), tt), small, ((((h, refl, bytes_number w8 a), ((k, refl, bytes_number w64 b), tt)), little), tt))
+
+pair_is_written : (fit : Fit) (names : Names) (a b : ℕ) (bytes : List ℕ) → Reads (number w8 false) (to_le_bytes w8 a) (natural a) → Reads (number w64 false) (to_le_bytes w64 b) (natural b)
+    → bytes ≡ region_piece pair_spelling pair_shape ((a, b) ∷ []) initial → IsWritten pair_shape pair_spelling (a, b) fit names bytes
+pair_is_written fit names a b bytes h k e = is_written fit pair_shape KnowsAll pair_spelling (a, b) names no_keys bytes (pair_spells fit) tt (tt, (tt, tt)) none_to_none (pair_fits a b h k) e
+
+pub pairs_are_written_law : PairsAreWritten
+unfolding align_up shape_content number_value
+pairs_are_written_law fit names = (
+  pair_is_written fit names 0 0 zero_pair_bytes (λ n pos. refl) (λ n pos. refl) refl,
+  pair_is_written fit names 7 5 other_pair_bytes (λ n pos. refl) (λ n pos. refl) refl,
+)
+
+-- ---- texts
+
+text_is_written : (fit : Fit) (names : Names) (t bytes : List ℕ) → IsUtf8 t → region_fits text_spelling text (t ∷ []) initial
+    → bytes ≡ region_piece text_spelling text (t ∷ []) initial → IsWritten text text_spelling t fit names bytes
+text_is_written fit names t bytes u f e = is_written fit text KnowsAll text_spelling t names no_keys bytes (text_spells fit KnowsAll) tt tt none_to_none f e
+
+pub texts_are_written_law : TextsAreWritten
+unfolding align_up encode
+texts_are_written_law fit names =
+    let small : (n : ℕ) → n < 20 → n < 2 ^ 32 = λ n h. omega arith in
+    let little : (n : ℕ) → n < 40 → n < 2 ^ 64 = λ n h. omega arith in
+    let most : 9 < 2 ^ 30 = omega arith in
+    let near : FitsOffset 12 0 = record { sfits = omega (arith, ints) } in
+    let three : IsUtf8 (codes "abc") = (codes "abc", (refl, refl)) in
+    let eight : IsUtf8 (codes "abcdefgh") = (codes "abcdefgh", (refl, refl)) in
+    let nine : IsUtf8 (codes "abcdefghi") = (codes "abcdefghi", (refl, refl)) in (
+      text_is_written fit names _ filled_text_bytes three (((three, tt), tt), small 0 (omega arith), (((three, tt), little 8 (omega arith)), tt)) refl,
+      text_is_written fit names _ eight_text_bytes eight (((eight, tt), tt), small 0 (omega arith), (((eight, tt), little 8 (omega arith)), tt)) refl,
+      text_is_written fit names _ nine_text_bytes nine (((nine, (most, small 0 (omega arith))), tt), small 12 (omega arith), (((nine, near), little 20 (omega arith)), tt)) refl,
+    )

@@ -1,6 +1,7 @@
 -- The laws of what is written, as statements.
-use Rattle.std.specs.Prelude.{◌≡◌, ℕ, List, [], ◌∷◌, Option, ⊤}
+use Rattle.std.specs.Prelude.{◌≡◌, ℕ, List, [], ◌∷◌, Option, codes, ⊤}
 use Rattle.archive_shape_layout.specs.Shape.{Shape}
+use Rattle.archive_shape_layout.specs.Shape.Shape.{text}
 use Rattle.archive_shape_layout.specs.Value.{Value}
 use Rattle.archive_shape_layout.specs.Content.{Names}
 use Rattle.archive_shape_native.specs.Numbers.{IsLeafShape}
@@ -10,8 +11,9 @@ use Rattle.archive_forms_spelling.specs.State.{Keys, AreOneToOne, initial}
 use Rattle.archive_forms_spelling.specs.Spells.{Spells}
 use Rattle.archive_forms_spelling.specs.Forms.{leaf_spelling}
 use Rattle.archive_forms_spelling.specs.Regions.{region_piece, region_fits, all_keyed_by}
+use Rattle.archive_forms_spelling.specs.Texts.{text_spelling}
 use Rattle.archive_forms_spelling.specs.Written.{IsArchive, IsWritten}
-use Rattle.archive_forms_spelling.specs.Sample.{keyed_spelling, keyed_list_shape, keyed_list, two, two_bytes, optional_list_shape, optional_list, one_present, one_present_bytes}
+use Rattle.archive_forms_spelling.specs.Sample.{keyed_spelling, keyed_list_shape, keyed_list, two, two_bytes, optional_list_shape, optional_list, one_present, one_present_bytes, pair_shape, pair_spelling, zero_pair_bytes, other_pair_bytes, filled_text_bytes, eight_text_bytes, nine_text_bytes}
 
 -- whatever the names of types stand for
 abbrev pub KnowsAll : Names → Type 0
@@ -55,3 +57,17 @@ TwoSharedIsWritten = (fit : Fit) (names : Names) → IsWritten keyed_list_shape 
 -- a box and an absent one are written as these bytes
 abbrev pub OnePresentIsWritten : Type 0
 OnePresentIsWritten = (fit : Fit) (names : Names) → IsWritten optional_list_shape optional_list one_present fit names one_present_bytes
+
+-- a pair of a number of one byte and one of eight is written as sixteen bytes, with zeros between its numbers
+abbrev pub PairsAreWritten : Type 0
+PairsAreWritten =
+    (fit : Fit) (names : Names)
+    → IsWritten pair_shape pair_spelling (0, 0) fit names zero_pair_bytes × IsWritten pair_shape pair_spelling (7, 5) fit names other_pair_bytes
+
+-- texts of at most eight bytes are written inline, filled up with ff, and one of nine bytes before its length and offset
+abbrev pub TextsAreWritten : Type 0
+TextsAreWritten =
+    (fit : Fit) (names : Names)
+    → IsWritten text text_spelling (codes "abc") fit names filled_text_bytes
+    × IsWritten text text_spelling (codes "abcdefgh") fit names eight_text_bytes
+    × IsWritten text text_spelling (codes "abcdefghi") fit names nine_text_bytes

@@ -6,6 +6,11 @@ pub mod Regions
 pub mod Pointers
 pub mod Shared
 pub mod Options
+pub mod Payloads
+pub mod Results
+pub mod Fields
+pub mod Arrays
+pub mod Texts
 pub mod Serializing
 pub mod Written
 pub mod Sample

@@ -1,8 +1,9 @@
--- Samples: lists of shared numbers, and lists of boxes that may be absent.
+-- Samples: lists of shared numbers, lists of boxes that may be absent, pairs, and texts.
 use Rattle.std.specs.Prelude.{ℕ, false, List, [], ◌∷◌, Option, Some, None}
-use Rattle.std.specs.Int.{w32, to_le_bytes}
+use Rattle.std.specs.Int.{Width, w8, w32, w64, to_le_bytes}
 use Rattle.archive_shape_layout.specs.Shape.{Shape}
-use Rattle.archive_shape_layout.specs.Shape.Shape.{number, shared, vector, box, option}
+use Rattle.archive_shape_layout.specs.Shape.Shape.{number, shared, vector, box, option, tuple}
+use Rattle.archive_shape_layout.specs.Shape.Shapes.{no_shapes, more_shapes}
 use Rattle.archive_shape_layout.specs.Shape.Pointee.{sized}
 use Rattle.archive_shape_layout.specs.Value.Value.{natural}
 use Rattle.archive_forms_spelling.specs.Spelling.{Spelling}
@@ -10,6 +11,7 @@ use Rattle.archive_forms_spelling.specs.Forms.{leaf_spelling, seen_as}
 use Rattle.archive_forms_spelling.specs.Pointers.{slice_spelling, box_spelling}
 use Rattle.archive_forms_spelling.specs.Shared.{shared_spelling}
 use Rattle.archive_forms_spelling.specs.Options.{option_spelling}
+use Rattle.archive_forms_spelling.specs.Fields.{tuple2_spelling}
 
 abbrev pub number_shape : Shape
 number_shape = number w32 false
@@ -48,3 +50,32 @@ one_present = Some 5 ∷ None ∷ []
 abbrev pub one_present_bytes : List ℕ
 one_present_bytes =
     5 ∷ 0 ∷ 0 ∷ 0 ∷ 1 ∷ 0 ∷ 0 ∷ 0 ∷ 248 ∷ 255 ∷ 255 ∷ 255 ∷ 0 ∷ 0 ∷ 0 ∷ 0 ∷ 0 ∷ 0 ∷ 0 ∷ 0 ∷ 240 ∷ 255 ∷ 255 ∷ 255 ∷ 2 ∷ 0 ∷ 0 ∷ 0 ∷ []
+
+-- ---- pairs of a number of one byte and one of eight
+
+abbrev pub unsigned_spelling : Width → Spelling ℕ (Unit {0})
+unsigned_spelling w = leaf_spelling (number w false) (to_le_bytes w) natural
+
+abbrev pub pair_shape : Shape
+pair_shape = tuple (more_shapes (number w8 false) (more_shapes (number w64 false) no_shapes))
+
+abbrev pub pair_spelling : Spelling (ℕ × ℕ) (Unit {0} × Unit {0})
+pair_spelling = tuple2_spelling (number w8 false) (unsigned_spelling w8) (number w64 false) (unsigned_spelling w64)
+
+abbrev pub zero_pair_bytes : List ℕ
+zero_pair_bytes = 0 ∷ 0 ∷ 0 ∷ 0 ∷ 0 ∷ 0 ∷ 0 ∷ 0 ∷ 0 ∷ 0 ∷ 0 ∷ 0 ∷ 0 ∷ 0 ∷ 0 ∷ 0 ∷ []
+
+-- of 7 and 5
+abbrev pub other_pair_bytes : List ℕ
+other_pair_bytes = 7 ∷ 0 ∷ 0 ∷ 0 ∷ 0 ∷ 0 ∷ 0 ∷ 0 ∷ 5 ∷ 0 ∷ 0 ∷ 0 ∷ 0 ∷ 0 ∷ 0 ∷ 0 ∷ []
+
+-- ---- texts of three, eight and nine bytes
+
+abbrev pub filled_text_bytes : List ℕ
+filled_text_bytes = 97 ∷ 98 ∷ 99 ∷ 255 ∷ 255 ∷ 255 ∷ 255 ∷ 255 ∷ []
+
+abbrev pub eight_text_bytes : List ℕ
+eight_text_bytes = 97 ∷ 98 ∷ 99 ∷ 100 ∷ 101 ∷ 102 ∷ 103 ∷ 104 ∷ []
+
+abbrev pub nine_text_bytes : List ℕ
+nine_text_bytes = 97 ∷ 98 ∷ 99 ∷ 100 ∷ 101 ∷ 102 ∷ 103 ∷ 104 ∷ 105 ∷ 0 ∷ 0 ∷ 0 ∷ 137 ∷ 0 ∷ 0 ∷ 0 ∷ 244 ∷ 255 ∷ 255 ∷ 255 ∷ []
