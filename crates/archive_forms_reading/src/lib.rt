@@ -1,0 +1,12 @@
+//! Archived options, results, boxes and vectors.
+#![tactic(auto)]
+
+mod boxed;
+mod option;
+mod result;
+mod vector;
+
+pub use boxed::ArchivedBox;
+pub use option::ArchivedOption;
+pub use result::ArchivedResult;
+pub use vector::ArchivedVec;
