@@ -1,0 +1,65 @@
+-- What archived forms have in the layout: where their parts stand, and which values those have.
+use Rattle.std.specs.Prelude.{◌≡◌, ℕ, ◌+◌, max, List}
+use Rattle.archive_shape_layout.specs.Bytes.{align_up}
+use Rattle.archive_shape_layout.specs.Shape.{Shape, align_of}
+use Rattle.archive_shape_layout.specs.Shape.Shape.{option, result}
+use Rattle.archive_shape_layout.specs.Value.{Value}
+use Rattle.archive_shape_layout.specs.Value.Value.{chosen}
+use Rattle.archive_shape_layout.specs.Value.Values.{no_values, more_values}
+use Rattle.archive_shape_layout.specs.Content.{Names}
+use Rattle.archive_shape.specs.Key.{HeldAt}
+
+-- bytes have some value of a shape at a position
+pub record HasValue (shape : Shape) (knows : Names → Type 0) (bytes : List ℕ) (pos : ℕ) : Type 0 where
+  pub value : Value
+  pub held : HeldAt shape knows bytes pos value
+
+-- a value is a tag and a payload, and this payload stands at a position
+pub record HasPayload (tag : ℕ) (shape : Shape) (knows : Names → Type 0) (bytes : List ℕ) (at : ℕ) (value : Value) : Type 0 where
+  pub payload : Value
+  pub is : value ≡ chosen tag (more_values payload no_values)
+  pub held : HeldAt shape knows bytes at payload
+
+-- ---- options
+
+-- where the value of an option at a position stands
+abbrev pub some_position : Shape → ℕ → ℕ
+some_position s pos = pos + align_up 1 (align_of s)
+
+module _ (s : Shape) (knows : Names → Type 0) (bytes : List ℕ) (pos : ℕ) where
+  -- the option at a position is none
+  abbrev pub IsNoneAt : Type 0
+  IsNoneAt = (v : Value) → HeldAt (option s) knows bytes pos v → v ≡ chosen 0 no_values
+
+  -- it is some value
+  abbrev pub IsSomeAt : Type 0
+  IsSomeAt = (v : Value) → HeldAt (option s) knows bytes pos v → HasPayload 1 s knows bytes (some_position s pos) v
+
+  -- the layout has some value there
+  pub record HasSome : Type 0 where
+    pub payload : Value
+    pub held : HeldAt (option s) knows bytes pos (chosen 1 (more_values payload no_values))
+
+-- ---- results
+
+-- where the value or the error of a result at a position stands
+abbrev pub outcome_position : Shape → Shape → ℕ → ℕ
+outcome_position s t pos = pos + align_up 1 (max (align_of s) (align_of t))
+
+-- what knows the names of both
+abbrev pub both : (Names → Type 0) → (Names → Type 0) → Names → Type 0
+both knows others names = knows names × others names
+
+module _ (s t : Shape) (knows others : Names → Type 0) (bytes : List ℕ) (pos : ℕ) where
+  -- the result at a position is a value
+  abbrev pub IsOkAt : Type 0
+  IsOkAt = (v : Value) → HeldAt (result s t) (both knows others) bytes pos v → HasPayload 0 s knows bytes (outcome_position s t pos) v
+
+  -- it is an error
+  abbrev pub IsErrAt : Type 0
+  IsErrAt = (v : Value) → HeldAt (result s t) (both knows others) bytes pos v → HasPayload 1 t others bytes (outcome_position s t pos) v
+
+  -- the layout has a value there
+  pub record HasOk : Type 0 where
+    pub payload : Value
+    pub held : HeldAt (result s t) (both knows others) bytes pos (chosen 0 (more_values payload no_values))
