@@ -60,3 +60,8 @@ plain_part {v = v} tag h content known fits =
 pub some_unless : {A : Type 0} {P : Type 0} (Q : A → Type 0) (o : Option A) → MatchOption o P Q → (P → ⊥) → IsSome o
 some_unless Q None h never = absurd (never h)
 some_unless Q (Some x) h never = refl
+
+-- what a call gives is said of the value that is unwrapped
+pub some_says : {A : Type 0} (P : Type 0) (Q : A → Type 0) (o : Option A) (x : A) → MatchOption o P Q → o ≡ Some x → Q x
+some_says P Q None x h e = absurd (cc)
+some_says P Q (Some y) x h e = let is : y ≡ x = cc in subst Q is h

@@ -1,12 +1,14 @@
 -- What archived forms have in the layout: where their parts stand, and which values those have.
-use Rattle.std.specs.Prelude.{◌≡◌, ℕ, ◌+◌, max, List}
-use Rattle.archive_shape_layout.specs.Bytes.{align_up}
-use Rattle.archive_shape_layout.specs.Shape.{Shape, align_of}
-use Rattle.archive_shape_layout.specs.Shape.Shape.{option, result}
-use Rattle.archive_shape_layout.specs.Value.{Value}
-use Rattle.archive_shape_layout.specs.Value.Value.{chosen}
+use Rattle.std.specs.Prelude.{◌≡◌, ℕ, ◌+◌, ◌*◌, ◌<◌, ◌≤◌, max, List, length, Some}
+use Rattle.archive_shape_layout.specs.Bytes.{align_up, word_at, target_from}
+use Rattle.archive_shape_layout.specs.Shape.{Shape, align_of, size_of}
+use Rattle.archive_shape_layout.specs.Shape.Shape.{option, result, box, vector}
+use Rattle.archive_shape_layout.specs.Shape.Pointee.{sized}
+use Rattle.archive_shape_layout.specs.Value.{Value, Values, count_values}
+use Rattle.archive_shape_layout.specs.Value.Value.{chosen, group}
 use Rattle.archive_shape_layout.specs.Value.Values.{no_values, more_values}
 use Rattle.archive_shape_layout.specs.Content.{Names}
+use Rattle.archive_shape_layout.specs.Path.{value_in}
 use Rattle.archive_shape.specs.Key.{HeldAt}
 
 -- bytes have some value of a shape at a position
@@ -63,3 +65,33 @@ module _ (s t : Shape) (knows others : Names → Type 0) (bytes : List ℕ) (pos
   pub record HasOk : Type 0 where
     pub payload : Value
     pub held : HeldAt (result s t) (both knows others) bytes pos (chosen 0 (more_values payload no_values))
+
+-- ---- boxes and vectors
+
+-- the pointer at a position leads to another, by its offset
+abbrev pub PointsTo : List ℕ → ℕ → ℕ → Type 0
+PointsTo bytes pos to = target_from pos (word_at bytes pos) ≡ Some to
+
+-- the elements of a value are n, which stand side by side from a position on
+pub record AreElements (s : Shape) (knows : Names → Type 0) (bytes : List ℕ) (start len : ℕ) (value : Value) : Type 0 where
+  pub elements : Values
+  pub is : value ≡ group elements
+  pub count : count_values elements ≡ len
+  pub within : start + len * size_of s ≤ length bytes
+  pub each : (i : ℕ) → i < len → (x : Value) × (value_in i elements ≡ Some x) × HeldAt s knows bytes (start + i * size_of s) x
+
+-- n elements of some value stand side by side from a position on
+pub record HasElements (s : Shape) (knows : Names → Type 0) (bytes : List ℕ) (start len : ℕ) : Type 0 where
+  pub value : Value
+  pub stand : AreElements s knows bytes start len value
+
+module _ (s : Shape) (knows : Names → Type 0) (bytes : List ℕ) (pos : ℕ) where
+  -- the box at a position leads to another, where its value stands
+  pub record IsBoxAt (to : ℕ) : Type 0 where
+    pub points : PointsTo bytes pos to
+    pub value : (v : Value) → HeldAt (box (sized s)) knows bytes pos v → HeldAt s knows bytes to v
+
+  -- the vector at a position leads to another, from which on its n elements stand
+  pub record IsVecAt (to len : ℕ) : Type 0 where
+    pub points : PointsTo bytes pos to
+    pub value : (v : Value) → HeldAt (vector s) knows bytes pos v → AreElements s knows bytes to len v

@@ -5,10 +5,13 @@ mod boxed;
 mod iter;
 mod option;
 mod result;
+mod slice;
+mod target;
 mod vector;
 
 pub use boxed::ArchivedBox;
 pub use iter::Iter;
 pub use option::ArchivedOption;
 pub use result::ArchivedResult;
+pub use slice::{SliceRef, SliceSeal};
 pub use vector::ArchivedVec;
