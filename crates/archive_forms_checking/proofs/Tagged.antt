@@ -24,7 +24,7 @@ use Rattle.archive_shape_checking.proofs.Leaves.{alone_checked}
 use Rattle.archive_forms_layout.proofs.Sizes.{behind_tag}
 use Rattle.archive_shape_checking.proofs.Below.{below_checked}
 
-own_tag : (bytes : List ℕ) (pos size : ℕ) → 0 < size → slice_index (window bytes pos size) 0 ≡ slice_index bytes pos
+pub own_tag : (bytes : List ℕ) (pos size : ℕ) → 0 < size → slice_index (window bytes pos size) 0 ≡ slice_index bytes pos
 own_tag bytes pos size some = get_or-take size (drop pos bytes) 0 0 some ∙ get_or-drop pos bytes 0 0 ∙ ap (slice_index bytes) (add-zero pos)
 
 made_tagged : (t : ℕ) (v : Value) → (w : Value) × (made (tagged t) (more_values v no_values) ≡ Some w)
@@ -58,11 +58,11 @@ module _ (names : Names) (bytes : List ℕ) (pos : ℕ) (s : Shape) (align : ℕ
   option_tag : slice_index (window bytes pos (size_of (option s))) 0 ≡ slice_index bytes pos
   option_tag = own_tag bytes pos (size_of (option s)) (let fits = option_fits s align is positive in omega arith)
 
-  none_is : slice_index bytes pos ≡ 0 → content_of names bytes (at pos (option s)) ≡ plain (tagged 0) []
+  pub none_is : slice_index bytes pos ≡ 0 → content_of names bytes (at pos (option s)) ≡ plain (tagged 0) []
   unfolding shape_content choose
   none_is tag = rw (option_tag, tag) refl
 
-  some_is : slice_index bytes pos ≡ 1 → content_of names bytes (at pos (option s)) ≡ plain (tagged 1) (at (pos + align) s ∷ [])
+  pub some_is : slice_index bytes pos ≡ 1 → content_of names bytes (at pos (option s)) ≡ plain (tagged 1) (at (pos + align) s ∷ [])
   unfolding shape_content choose
   some_is tag =
       let from : align_up 1 (align_of s) ≡ align = ap (align_up 1) (sym is) ∙ behind_tag align positive in
@@ -98,11 +98,11 @@ module _ (names : Names) (bytes : List ℕ) (pos : ℕ) (s t : Shape) (align : �
   payload_from : align_up 1 (max (align_of s) (align_of t)) ≡ align
   payload_from = ap (align_up 1) (sym h.is) ∙ behind_tag align h.positive
 
-  ok_is : slice_index bytes pos ≡ 0 → content_of names bytes (at pos (result s t)) ≡ plain (tagged 0) (at (pos + align) s ∷ [])
+  pub ok_is : slice_index bytes pos ≡ 0 → content_of names bytes (at pos (result s t)) ≡ plain (tagged 0) (at (pos + align) s ∷ [])
   unfolding shape_content choose
   ok_is tag = rw (result_tag, tag) (ap (λ n. plain (tagged 0) (at (pos + n) s ∷ [])) payload_from)
 
-  err_is : slice_index bytes pos ≡ 1 → content_of names bytes (at pos (result s t)) ≡ plain (tagged 1) (at (pos + align) t ∷ [])
+  pub err_is : slice_index bytes pos ≡ 1 → content_of names bytes (at pos (result s t)) ≡ plain (tagged 1) (at (pos + align) t ∷ [])
   unfolding shape_content choose
   err_is tag = rw (result_tag, tag) (ap (λ n. plain (tagged 1) (at (pos + n) t ∷ [])) payload_from)
 

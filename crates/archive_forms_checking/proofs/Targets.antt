@@ -6,7 +6,7 @@ use Rattle.archive_shape_checking.proofs.Words.{word_bound, leads_to, leads_befo
 use Rattle.archive_shape_pointers.specs.Offsets.{signed_number}
 
 -- the word that a pointer begins with
-first_word : (bytes : List ℕ) (from size : ℕ) → 4 ≤ size → word_at (window bytes from size) 0 ≡ word_at bytes from
+pub first_word : (bytes : List ℕ) (from size : ℕ) → 4 ≤ size → word_at (window bytes from size) 0 ≡ word_at bytes from
 unfolding word_at
 first_word bytes from size long =
     let first = get_or-take size (drop from bytes) 0 0 (omega arith) in

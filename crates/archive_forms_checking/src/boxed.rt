@@ -1,6 +1,5 @@
-//! Boxes.
+//! The check of boxes.
 ghost use Rattle.std.specs.Prelude.{ℕ, ◌+◌, ◌≤◌, length};
-ghost use Rattle.std.proofs.Common.{refl, lit<, lit≤};
 ghost use Rattle.archive_shape_layout.specs.Shape.Shape.{box};
 ghost use Rattle.archive_shape_layout.specs.Shape.Pointee.{sized};
 ghost use Rattle.archive_shape_layout.specs.Content.{Names};
@@ -9,12 +8,10 @@ ghost use Rattle.archive_shape_checking.specs.Kept.{IsWithin};
 ghost use Rattle.archive_shape_checking.specs.Checks.{Checks, Moves};
 ghost use Rattle.archive_forms_checking.specs.Steps.{StepTakes, StepChecks};
 
-use archive_shape_checking::{ArchiveContext, CheckBytes, Error};
+use archive_shape_checking::{ArchiveContext, Error};
 use archive_shape_pointers::RawRelPtrI32;
-use archive_shape_portable::{Pointee, Portable, Shape};
+use archive_shape_portable::Portable;
 use archive_shape_references::Ref;
-use std::alloc::{AllocError, Global};
-use std::marker::PhantomData;
 
 /// Claims the bytes of the value at `target`, and checks it by a step.
 fn check_behind_each<T: Portable, C: ArchiveContext, F: Fn(&mut C, usize) -> Result<(), Error>>(
@@ -65,49 +62,4 @@ pub fn check_box_each<T: Portable, C: ArchiveContext, F: Fn(&mut C, usize) -> Re
         return Err(Error::InvalidSubtreePointer { size });
     };
     check_behind_each::<T, C, F>(bytes, target, context, step)
-}
-
-/// An archived box: an offset of four bytes that leads to the value.
-#[derive_where(Clone, Copy)]
-pub struct ArchivedBox<T> {
-    pub of: PhantomData<T>,
-}
-
-impl<T: Portable> Portable for ArchivedBox<T> {
-    ghost SIZE = { 4 };
-
-    ghost ALIGN = { 4 };
-
-    ghost shape = { box (sized T.shape) };
-
-    ghost knows = { T.knows };
-
-    ghost named = { T.named };
-
-    const SIZE: usize = 4;
-
-    const ALIGN: usize = 4;
-
-    fn shape(alloc: Global) -> Result<Shape, AllocError> {
-        Ok(Shape::Boxed(Pointee::Sized(Box::new(alloc, T::shape(alloc)?)?)))
-    }
-
-    ghost sized = { refl };
-
-    ghost aligned = { refl };
-
-    ghost aligns = { (lit< tt, lit≤ tt) };
-
-    ghost known = { T.known };
-}
-
-impl<C: ArchiveContext, T: CheckBytes<C>> CheckBytes<C> for ArchivedBox<T> {
-    fn check(alloc: Global, bytes: &[u8], pos: usize, context: &mut C) -> Result<(), Error> {
-        check_box_each::<T, C, _>(
-            bytes,
-            pos,
-            context,
-            |c: &mut C, p: usize| T::check(alloc, bytes, p, c),
-        )
-    }
 }

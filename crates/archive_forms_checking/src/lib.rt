@@ -9,8 +9,8 @@ mod option;
 mod result;
 mod vector;
 
-pub use boxed::{ArchivedBox, check_box_each};
+pub use boxed::check_box_each;
 pub use elements::check_slice_each;
-pub use option::{ArchivedOption, check_option_each};
-pub use result::{ArchivedResult, check_result_each};
-pub use vector::{ArchivedVec, check_vec_each};
+pub use option::check_option_each;
+pub use result::check_result_each;
+pub use vector::check_vec_each;

@@ -1,4 +1,4 @@
-//! Options.
+//! The check of options.
 ghost use Rattle.std.specs.Prelude.{◌≡◌, ℕ, ◌+◌, ◌-◌, ◌^◌, ◌<◌, ◌≤◌, min, length};
 ghost use Rattle.archive_shape_layout.specs.Bytes.{align_up};
 ghost use Rattle.archive_shape_layout.specs.Shape.{size_of};
@@ -8,12 +8,9 @@ ghost use Rattle.archive_shape_layout.specs.Content.Part.{at};
 ghost use Rattle.archive_shape_checking.specs.Kept.{IsWithin};
 ghost use Rattle.archive_shape_checking.specs.Checks.{Checks, Moves};
 ghost use Rattle.archive_forms_checking.specs.Steps.{StepTakes, StepChecks};
-ghost use Rattle.archive_forms_layout.proofs.Sizes.{option_sized};
 
-use archive_shape_checking::{ArchiveContext, CheckBytes, Error};
-use archive_shape_portable::{Portable, Shape};
-use std::alloc::{AllocError, Global};
-use std::marker::PhantomData;
+use archive_shape_checking::{ArchiveContext, Error};
+use archive_shape_portable::Portable;
 
 /// Checks the option at `pos`: a tag of one byte, which is 0, or 1 where a value stands at the first multiple of its
 /// alignment behind the tag. Refuses any other tag with `InvalidTag`, and a value with what the step refuses.
@@ -37,60 +34,5 @@ pub fn check_option_each<T: Portable, C: ArchiveContext, F: Fn(&mut C, usize) ->
         0 => Ok(()),
         1 => step(context, pos + offset),
         _ => Err(Error::InvalidTag),
-    }
-}
-
-/// The size in bytes of an option whose value has this size and alignment.
-pub(crate) const fn option_size(size: usize, align: usize) -> usize
-    requires { 0 < align }
-    ensures { result ≡ min (align_up (align + size) align) (2 ^ 64 - 1) }
-{
-    let end = align.saturating_add(size);
-    end.saturating_add((align - end % align) % align)
-}
-
-/// An archived option: a tag of one byte, which is 0 or 1, and with 1 the value at the first multiple of its alignment behind
-/// the tag. With 0 the bytes of the value are not read.
-#[derive_where(Clone, Copy)]
-pub struct ArchivedOption<T> {
-    pub of: PhantomData<T>,
-}
-
-impl<T: Portable> Portable for ArchivedOption<T> {
-    ghost SIZE = { min (align_up (T.ALIGN + T.SIZE) T.ALIGN) (2 ^ 64 - 1) };
-
-    ghost ALIGN = { T.ALIGN };
-
-    ghost shape = { option T.shape };
-
-    ghost knows = { T.knows };
-
-    ghost named = { T.named };
-
-    const SIZE: usize = option_size(T::SIZE, T::ALIGN);
-
-    const ALIGN: usize = T::ALIGN;
-
-    fn shape(alloc: Global) -> Result<Shape, AllocError> {
-        Ok(Shape::Option(Box::new(alloc, T::shape(alloc)?)?))
-    }
-
-    ghost sized = { option_sized T.shape T.SIZE T.ALIGN T.sized T.aligned T.aligns.0 };
-
-    ghost aligned = { T.aligned };
-
-    ghost aligns = { T.aligns };
-
-    ghost known = { T.known };
-}
-
-impl<C: ArchiveContext, T: CheckBytes<C>> CheckBytes<C> for ArchivedOption<T> {
-    fn check(alloc: Global, bytes: &[u8], pos: usize, context: &mut C) -> Result<(), Error> {
-        check_option_each::<T, C, _>(
-            bytes,
-            pos,
-            context,
-            |c: &mut C, p: usize| T::check(alloc, bytes, p, c),
-        )
     }
 }

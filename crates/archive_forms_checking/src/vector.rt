@@ -1,6 +1,5 @@
-//! Vectors.
+//! The check of vectors.
 ghost use Rattle.std.specs.Prelude.{◌≡◌, ℕ, ◌+◌, ◌-◌, ◌*◌, ◌^◌, ◌≤◌, min, length};
-ghost use Rattle.std.proofs.Common.{refl, lit<, lit≤};
 ghost use Rattle.archive_shape_layout.specs.Shape.{size_of};
 ghost use Rattle.archive_shape_layout.specs.Shape.Shape.{vector};
 ghost use Rattle.archive_shape_layout.specs.Shape.Pointee.{slice};
@@ -11,12 +10,10 @@ ghost use Rattle.archive_shape_checking.specs.Checks.{Checks, Moves};
 ghost use Rattle.archive_forms_checking.specs.Steps.{StepTakes, StepChecks};
 
 use crate::elements::check_slice_each;
-use archive_shape_checking::{ArchiveContext, CheckBytes, Error};
+use archive_shape_checking::{ArchiveContext, Error};
 use archive_shape_pointers::RelPtr;
-use archive_shape_portable::{ArchivedIsize, Portable, Shape};
+use archive_shape_portable::{ArchivedIsize, Portable};
 use archive_shape_references::{Ref, Slice};
-use std::alloc::{AllocError, Global};
-use std::marker::PhantomData;
 
 /// Claims `len` elements at `target`, which have `size` bytes together, and checks them by a step for each.
 fn check_elements_behind<T: Portable, C: ArchiveContext, F: Fn(&mut C, usize) -> Result<(), Error>>(
@@ -72,49 +69,4 @@ pub fn check_vec_each<T: Portable, C: ArchiveContext, F: Fn(&mut C, usize) -> Re
         return Err(Error::InvalidSubtreePointer { size });
     };
     check_elements_behind::<T, C, F>(bytes, target, len, size, context, step)
-}
-
-/// An archived vector: an offset of four bytes that leads to the elements, and four bytes with their number.
-#[derive_where(Clone, Copy)]
-pub struct ArchivedVec<T> {
-    pub of: PhantomData<T>,
-}
-
-impl<T: Portable> Portable for ArchivedVec<T> {
-    ghost SIZE = { 8 };
-
-    ghost ALIGN = { 4 };
-
-    ghost shape = { vector T.shape };
-
-    ghost knows = { T.knows };
-
-    ghost named = { T.named };
-
-    const SIZE: usize = 8;
-
-    const ALIGN: usize = 4;
-
-    fn shape(alloc: Global) -> Result<Shape, AllocError> {
-        Ok(Shape::Vector(Box::new(alloc, T::shape(alloc)?)?))
-    }
-
-    ghost sized = { refl };
-
-    ghost aligned = { refl };
-
-    ghost aligns = { (lit< tt, lit≤ tt) };
-
-    ghost known = { T.known };
-}
-
-impl<C: ArchiveContext, T: CheckBytes<C>> CheckBytes<C> for ArchivedVec<T> {
-    fn check(alloc: Global, bytes: &[u8], pos: usize, context: &mut C) -> Result<(), Error> {
-        check_vec_each::<T, C, _>(
-            bytes,
-            pos,
-            context,
-            |c: &mut C, p: usize| T::check(alloc, bytes, p, c),
-        )
-    }
 }

@@ -8,7 +8,7 @@ ghost use Rattle.archive_forms_writing.specs.Steps.{StepTakes, StepWrites, eleme
 
 use crate::elements::serialize_element;
 use crate::{Archive, Serialize};
-use archive_forms_checking::ArchivedOption;
+use archive_forms_reading::ArchivedOption;
 use archive_shape::{Allocator, Error, Place, Portable, Writer};
 use std::marker::PhantomData;
 

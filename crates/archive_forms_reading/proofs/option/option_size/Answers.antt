@@ -1,7 +1,7 @@
 use Rattle.std.proofs.Common.{◌+◌, ◌∙◌}
 use Rattle.archive_shape_layout.specs.Bytes.{align_up}
 use Rattle.archive_forms_layout.proofs.Sizes.{filled_cut}
-use Rattle.archive_forms_checking.proofs.option.option_size.Goals as goal
+use Rattle.archive_forms_reading.proofs.option.option_size.Goals as goal
 
 pub returns : goal.returns
 unfolding align_up

@@ -1,0 +1,4 @@
+pub mod Inside
+pub mod Joined
+pub mod Payloads
+pub mod Pointed

@@ -1,0 +1,198 @@
+-- Boxes and vectors: where their pointers lead, and what the layout has there.
+use Rattle.std.proofs.Common.{◌≡◌, ℕ, zero, suc, ◌+◌, ◌*◌, ◌≤◌, ◌<◌, List, [], ◌∷◌, ◌++◌, take, drop, length, All, Some, sym, ap, subst, ◌∙◌, arith, mul-le-mul_right}
+use Rattle.std.proofs.lemmas.List.Elements.{All-same, All-take, All-drop, All-head}
+use Rattle.std.proofs.Math.Seq.{take-append_seam, drop-append_seam}
+use Rattle.archive_shape_layout.specs.Bytes.{window, word_at, target_from}
+use Rattle.archive_shape_layout.specs.Shape.{Shape, Pointee, size_of}
+use Rattle.archive_shape_layout.specs.Shape.Shape.{box, vector}
+use Rattle.archive_shape_layout.specs.Shape.Pointee.{sized, slice}
+use Rattle.archive_shape_layout.specs.Value.{Value, Values, count_values}
+use Rattle.archive_shape_layout.specs.Value.Value.{group}
+use Rattle.archive_shape_layout.specs.Value.Values.{no_values, more_values}
+use Rattle.archive_shape_layout.specs.Content.{Names, content_of, made, elements, shape_content}
+use Rattle.archive_shape_layout.specs.Content.Part.{at, behind}
+use Rattle.archive_shape_layout.specs.Content.Label.{same, whole}
+use Rattle.archive_shape_layout.specs.Content.Content.{plain}
+use Rattle.archive_shape_layout.specs.Holds.{Region, region_of, Visit, OpenShared, Holds, HoldAll}
+use Rattle.archive_shape_layout.specs.Holds.HoldAll.{holds_none, holds_more}
+use Rattle.archive_shape_layout.specs.Path.{value_in}
+use Rattle.archive_shape_layout.proofs.Unique.{by_plain, by_claimed}
+use Rattle.archive_shape_checking.specs.Questions.{pointee_span}
+use Rattle.archive_shape_checking.proofs.Inverted.{held_is_known}
+use Rattle.archive_shape_checking.proofs.Questions.{followed_known}
+use Rattle.archive_shape.specs.Key.{HeldAt}
+use Rattle.archive_forms_layout.proofs.TextContent.{followed}
+use Rattle.archive_forms_checking.proofs.Contents.{sized_is, slice_is}
+use Rattle.archive_forms_checking.proofs.Targets.{first_word}
+use Rattle.archive_forms_reading.specs.Parts.{HasValue, PointsTo, IsBoxAt, IsVecAt}
+use Rattle.archive_forms_reading.proofs.Inside.{one_held}
+
+-- a region ends in the bytes
+abbrev EndsIn : List ℕ → Region → Type 0
+EndsIn bytes r = r.start + r.size ≤ length bytes
+
+first_regions : (bytes : List ℕ) (xs ys : List Region) → All (EndsIn bytes) (xs ++ ys) → All (EndsIn bytes) xs
+first_regions bytes xs ys h = All-same (EndsIn bytes) xs (take (length xs) (xs ++ ys)) (sym (take-append_seam xs ys)) (All-take (EndsIn bytes) (length xs) (xs ++ ys) h)
+
+other_regions : (bytes : List ℕ) (xs ys : List Region) → All (EndsIn bytes) (xs ++ ys) → All (EndsIn bytes) ys
+other_regions bytes xs ys h = All-same (EndsIn bytes) ys (drop (length xs) (xs ++ ys)) (sym (drop-append_seam xs ys)) (All-drop (EndsIn bytes) (length xs) (xs ++ ys) h)
+
+made_same : (w v : Value) → made same (more_values w no_values) ≡ Some v → w ≡ v
+unfolding made
+made_same w v e = cc
+
+made_whole : (vs : Values) (v : Value) → made whole vs ≡ Some v → v ≡ group vs
+unfolding made
+made_whole vs v e = cc
+
+-- an element lies where all do
+pub element_ends : (start i n size most : ℕ) → i < n → start + n * size ≤ most → start + i * size + size ≤ most
+element_ends start i n size most less fits =
+    let up : suc i * size ≤ n * size = mul-le-mul_right size less in
+    let next : suc i * size ≡ i * size + size = omega arith in
+    omega (arith, up, next, fits)
+
+-- ---- elements
+
+module _ (names : Names) (bytes : List ℕ) (s : Shape) where
+  -- an element of a list of values stands at a position
+  record ElementHolds (level : ℕ) (inside : List OpenShared) (vs : Values) (i at_pos : ℕ) : Type 0 where
+    element : Value
+    there : value_in i vs ≡ Some element
+    regions : List Region
+    before : List Visit
+    after : List Visit
+    within : All (EndsIn bytes) regions
+    holds : Holds names bytes level inside (at at_pos s) element regions before after
+
+  element_holds :
+      (n start : ℕ) {level : ℕ} {inside : List OpenShared} {vs : Values} {regions : List Region} {before after : List Visit}
+      → HoldAll names bytes level inside (elements start n s) vs regions before after
+      → All (EndsIn bytes) regions
+      → (i : ℕ)
+      → i < n
+      → ElementHolds level inside vs i (start + i * size_of s)
+  unfolding elements
+  element_holds zero start h within i less = absurd (omega (arith, less))
+  element_holds (suc n) start {level} {inside} {vs} (holds_more {v = v} {vs = us} {here = here} {later = later} {before = before} {between = between} x rest is joined) within zero less =
+      let first : start ≡ start + 0 * size_of s = omega arith in
+      record {
+        element = v;
+        there = ap (value_in 0) is;
+        regions = here;
+        before = before;
+        after = between;
+        within = first_regions bytes here later (subst (All (EndsIn bytes)) joined within);
+        holds = subst (λ p. Holds names bytes level inside (at p s) v here before between) first x;
+      }
+  element_holds (suc n) start {level} {inside} {vs} (holds_more {v = v} {vs = us} {here = here} {later = later} x rest is joined) within (suc i) less =
+      let next = element_holds n (start + size_of s) rest (other_regions bytes here later (subst (All (EndsIn bytes)) joined within)) i (omega (arith, less)) in
+      let later_at : start + size_of s + i * size_of s ≡ start + suc i * size_of s = omega arith in
+      record {
+        element = next.element;
+        there = ap (value_in (suc i)) is ∙ next.there;
+        regions = next.regions;
+        before = next.before;
+        after = next.after;
+        within = next.within;
+        holds = subst (λ p. Holds names bytes level inside (at p s) next.element next.regions next.before next.after) later_at next.holds;
+      }
+
+  count_held :
+      (n start : ℕ) {level : ℕ} {inside : List OpenShared} {vs : Values} {regions : List Region} {before after : List Visit}
+      → HoldAll names bytes level inside (elements start n s) vs regions before after
+      → count_values vs ≡ n
+  unfolding elements
+  count_held zero start (holds_none e f g) = ap count_values e
+  count_held (suc n) start (holds_more x rest is joined) = ap count_values is ∙ (let c = count_held n (start + size_of s) rest in omega arith)
+
+-- ---- pointers
+
+-- a value that is what its pointer leads to
+target_holds :
+    {s : Shape} {knows : Names → Type 0} {bytes : List ℕ} {pos : ℕ} {v : Value} (h : HeldAt s knows bytes pos v) (t : ℕ) (p : Pointee) (n : ℕ)
+    → content_of h.names bytes (at pos s) ≡ plain same (behind t p n ∷ [])
+    → Holds h.names bytes h.level h.inside (behind t p n) v h.regions h.before h.after
+target_holds {bytes = bytes} {v = v} h t p n content =
+    let says = by_plain h.names bytes content h.holds in
+    let one = one_held h.names bytes says.all in
+    let value : one.value ≡ v = made_same one.value v (subst (λ x. made same x ≡ Some v) one.is says.is_made) in
+    subst (λ x. Holds h.names bytes h.level h.inside (behind t p n) x h.regions h.before h.after) value one.holds
+
+module _ (s : Shape) (knows : Names → Type 0) (bytes : List ℕ) (pos : ℕ) where
+  -- ---- boxes
+
+  pub box_points : HasValue (box (sized s)) knows bytes pos → (to : ℕ) × PointsTo bytes pos to
+  unfolding shape_content
+  box_points h =
+      let known = followed_known (target_from pos (word_at (window bytes pos 4) 0)) _ (held_is_known h.held.names bytes h.held.holds) in
+      (known.0, subst (λ word. target_from pos word ≡ Some known.0) (first_word bytes pos 4 (omega arith)) known.1)
+
+  pub box_there : (to : ℕ) → PointsTo bytes pos to → IsBoxAt s knows bytes pos to
+  unfolding shape_content
+  box_there to points = record {
+    points = points;
+    value = λ v h.
+        let leads : target_from pos (word_at (window bytes pos 4) 0) ≡ Some to = subst (λ word. target_from pos word ≡ Some to) (sym (first_word bytes pos 4 (omega arith))) points in
+        let whole_target = target_holds h to (sized s) 1 (followed _ to _ leads) in
+        let says = by_claimed h.names bytes (sized_is h.names bytes to s 1) whole_target in
+        let one = one_held h.names bytes says.all in
+        let value : one.value ≡ v = made_same one.value v (subst (λ x. made same x ≡ Some v) one.is says.is_made) in
+        let ends = subst (All (EndsIn bytes)) says.regions_are h.within in
+        let own = All-head (EndsIn bytes) (region_of (pointee_span to (sized s) 1) h.level) [] (other_regions bytes says.within _ ends) in
+        record {
+          names = h.names;
+          known = h.known;
+          level = suc h.level;
+          inside = h.inside;
+          regions = says.within;
+          before = h.before;
+          after = h.after;
+          own_within = omega (arith, own);
+          within = first_regions bytes says.within _ ends;
+          holds = subst (λ x. Holds h.names bytes (suc h.level) h.inside (at to s) x says.within h.before h.after) value one.holds;
+        };
+  }
+
+  -- ---- vectors
+
+  pub vec_points : HasValue (vector s) knows bytes pos → (to : ℕ) × PointsTo bytes pos to
+  unfolding shape_content
+  vec_points h =
+      let known = followed_known (target_from pos (word_at (window bytes pos 8) 0)) _ (held_is_known h.held.names bytes h.held.holds) in
+      (known.0, subst (λ word. target_from pos word ≡ Some known.0) (first_word bytes pos 8 (omega arith)) known.1)
+
+  pub vec_there : (to len : ℕ) → PointsTo bytes pos to → word_at (window bytes pos 8) 4 ≡ len → IsVecAt s knows bytes pos to len
+  unfolding shape_content
+  vec_there to len points says_len = record {
+    points = points;
+    value = λ v h.
+        let leads : target_from pos (word_at (window bytes pos 8) 0) ≡ Some to = subst (λ word. target_from pos word ≡ Some to) (sym (first_word bytes pos 8 (omega arith))) points in
+        let whole_target = target_holds h to (slice s) len (followed _ to _ leads ∙ ap (λ m. plain same (behind to (slice s) m ∷ [])) says_len) in
+        let says = by_claimed h.names bytes (slice_is h.names bytes to s len) whole_target in
+        let ends = subst (All (EndsIn bytes)) says.regions_are h.within in
+        let own = All-head (EndsIn bytes) (region_of (pointee_span to (slice s) len) h.level) [] (other_regions bytes says.within _ ends) in
+        record {
+          elements = says.vs;
+          is = made_whole says.vs v says.is_made;
+          count = count_held h.names bytes s len to says.all;
+          within = omega (arith, own);
+          each = λ i less.
+              let one = element_holds h.names bytes s len to says.all (first_regions bytes says.within _ ends) i less in (
+                one.element,
+                one.there,
+                record {
+                  names = h.names;
+                  known = h.known;
+                  level = suc h.level;
+                  inside = h.inside;
+                  regions = one.regions;
+                  before = one.before;
+                  after = one.after;
+                  own_within = element_ends to i len (size_of s) (length bytes) less (omega (arith, own));
+                  within = one.within;
+                  holds = one.holds;
+                },
+              );
+        };
+  }

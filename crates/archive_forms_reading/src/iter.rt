@@ -1,0 +1,65 @@
+//! Iterators over at most one item.
+ghost use Rattle.std.specs.Prelude.{◌≡◌, Option, length};
+ghost use Rattle.std.specs.Option.{option_to_list};
+ghost use Rattle.std.specs.Iterator.{YieldsFirst, YieldsLast, item_count};
+
+use std::iter::FusedIterator;
+use std::marker::Model;
+
+/// At most one item, seen as the item that is left.
+#[derive(Drop)]
+pub struct Iter<P> {
+    item: Option<P>,
+}
+
+impl<P> Model for Iter<P> {
+    ghost use Rattle.std.specs.Prelude.{Option};
+
+    ghost Value = { Option P };
+
+    ghost view = { λ it. it.item };
+}
+
+impl<P> Iter<P> {
+    /// The item, if there is one.
+    pub const fn new(item: Option<P>) -> Self
+        ensures { result ≡ item }
+    {
+        Iter { item }
+    }
+}
+
+impl<P: Drop> Iterator for Iter<P> {
+    type Item = P;
+
+    ghost next_gives = { YieldsFirst option_to_list };
+
+    ghost remaining = { item_count option_to_list };
+
+    fn next(&mut self) -> Option<P> {
+        self.item.take()
+    }
+
+    fn size_hint(&self) -> (usize, Option<usize>) {
+        let len = self.len();
+        (len, Some(len))
+    }
+}
+
+impl<P: Drop> DoubleEndedIterator for Iter<P> {
+    ghost next_back_gives = { YieldsLast option_to_list };
+
+    fn next_back(&mut self) -> Option<P> {
+        self.item.take()
+    }
+}
+
+impl<P: Drop> ExactSizeIterator for Iter<P> {
+    fn len(&self) -> usize
+        ensures { result ≡ length (option_to_list self.now) }
+    {
+        if self.item.is_some() { 1 } else { 0 }
+    }
+}
+
+impl<P: Drop> FusedIterator for Iter<P> {}
