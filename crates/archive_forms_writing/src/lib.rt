@@ -2,13 +2,17 @@
 #![tactic(auto)]
 
 mod archive;
+mod boxed;
 mod elements;
 mod leaf;
 mod option;
 mod placing;
+mod vector;
 
 pub use archive::{Archive, Serialize};
+pub use boxed::serialize_box_each;
 pub use elements::{serialize_one_each, serialize_slice_each};
 pub use leaf::Leaf;
 pub use option::serialize_option_each;
 pub use placing::{align, pad, resolve_aligned};
+pub use vector::serialize_vec_each;

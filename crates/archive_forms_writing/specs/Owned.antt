@@ -1,0 +1,17 @@
+-- How vectors and boxes are archived, which own their elements.
+use Rattle.std.specs.Prelude.{Vec}
+use Rattle.std.specs.Global.{Box, Global}
+use Rattle.archive_shape_layout.specs.Shape.{Shape}
+use Rattle.archive_forms_spelling.specs.Spelling.{Spelling}
+use Rattle.archive_forms_spelling.specs.Forms.{seen_as, kept_as}
+use Rattle.archive_forms_spelling.specs.Pointers.{slice_spelling, box_spelling}
+use Rattle.archive_forms_reading.specs.declared.resolving.BoxResolver.{BoxResolver}
+use Rattle.archive_forms_reading.specs.declared.resolving.VecResolver.{VecResolver}
+
+-- a vector is archived as the list of its elements
+abbrev pub vec_spelling : {A R : Type 0} → Shape → Spelling A R → Spelling (Vec A Global) VecResolver
+vec_spelling s w = kept_as (λ n. record { pos = n }) (λ r. r.pos) (seen_as (λ v. v.items) (slice_spelling s w))
+
+-- a box is archived as a pointer to its value
+abbrev pub boxed_spelling : {A R : Type 0} → Shape → Spelling A R → Spelling (Box A Global) BoxResolver
+boxed_spelling s w = kept_as (λ n. record { pos = n }) (λ r. r.pos) (seen_as (λ b. b.value) (box_spelling s w))

@@ -1,0 +1,82 @@
+//! Boxes.
+ghost use Rattle.std.specs.Prelude.{◌≡◌, ℕ, ◌-◌, ◌^◌, ◌<◌, [], ◌∷◌, refl};
+ghost use Rattle.archive_shape_layout.specs.Shape.Shape.{box};
+ghost use Rattle.archive_shape_layout.specs.Shape.Pointee.{sized};
+ghost use Rattle.archive_forms_spelling.specs.Pointers.{box_spelling};
+ghost use Rattle.archive_forms_spelling.specs.Serializing.{CanResolve, HasState, Resolves, Serializes, SerializesBy};
+ghost use Rattle.archive_forms_spelling.proofs.Pointers.{box_spells};
+ghost use Rattle.archive_forms_spelling.proofs.Views.{kept_spells, seen_spells};
+ghost use Rattle.archive_forms_writing.specs.Owned.{boxed_spelling};
+ghost use Rattle.archive_forms_writing.specs.Steps.{StepTakes, StepWrites};
+
+use crate::elements::serialize_element;
+use crate::{Archive, Serialize, serialize_one_each};
+use archive_forms_reading::{ArchivedBox, BoxResolver};
+use archive_shape::{Allocator, Error, Place, Writer};
+use std::marker::PhantomData;
+
+impl<T: Archive> Archive for Box<T> {
+    type Archived = ArchivedBox<T::Archived>;
+
+    type Resolver = BoxResolver;
+
+    ghost spelling = { boxed_spelling T.Archived.shape T.spelling };
+
+    fn resolve(
+        &self,
+        resolver: BoxResolver,
+        out: Place<'_, ArchivedBox<T::Archived>>,
+    ) -> Result<(), Error>
+        requires { CanResolve (boxed_spelling T.Archived.shape T.spelling) (box (sized T.Archived.shape)) self.now resolver out.out.now out.start out.pos }
+        ensures { Resolves (boxed_spelling T.Archived.shape T.spelling) self.now resolver out.entry.pos out.entry.start out.entry.out.now out.exit.0.now result }
+    {
+        let Place {
+            out,
+            start,
+            pos,
+            ..
+        } = out;
+        ArchivedBox::<T::Archived>::resolve_from_raw_parts(
+            resolver,
+            Place::within(out, start, pos),
+        )
+    }
+
+    ghost spells = { λ fit. kept_spells fit (box (sized T.Archived.shape)) T.Archived.knows _ _ (λ r. refl) _
+        (seen_spells fit (box (sized T.Archived.shape)) T.Archived.knows (λ b. b.value) (box_spelling T.Archived.shape T.spelling)
+        (box_spells fit T.Archived.shape T.Archived.knows T.spelling (T.spells fit))) };
+}
+
+/// Writes the value of a box behind its data, which a step writes.
+pub fn serialize_box_each<
+    T: Archive,
+    S: Writer + Allocator,
+    F: Fn(&T, &mut S) -> Result<(T::Resolver, PhantomData<T::Archived>), Error>,
+>(value: &Box<T>, serializer: &mut S, step: F) -> Result<BoxResolver, Error>
+    requires room { S.failures serializer.old < 2 ^ 64 - 1 }
+    requires state { HasState S.pos S.known serializer.old }
+    requires takes { StepTakes F.Fn S.Writer step (value.now.value ∷ []) }
+    requires writes { StepWrites F.Fn (λ q. q.0) T.spelling S.Writer step }
+    ensures { Serializes (boxed_spelling T.Archived.shape T.spelling) S.Writer value.now serializer.old serializer.new result }
+{
+    match serialize_one_each(&**value, serializer, step) {
+        Ok(pos) => Ok(BoxResolver { pos }),
+        Err(e) => Err(e),
+    }
+}
+
+impl<S: Writer + Allocator, T: Serialize<S>> Serialize<S> for Box<T> {
+    fn serialize(&self, serializer: &mut S) -> Result<BoxResolver, Error> {
+        serialize_box_each::<T, S, _>(
+            self,
+            serializer,
+            |item: &T, s: &mut S| -> Result<(T::Resolver, PhantomData<T::Archived>), Error>
+                requires room { S.failures s.old < 2 ^ 64 - 1 }
+                requires state { HasState S.pos S.known s.old }
+                ensures { SerializesBy (λ q. q.0) T.spelling S.Writer item.now s.old s.new result }
+            {
+                serialize_element(item, s)
+            },
+        )
+    }
+}

@@ -1,0 +1,82 @@
+//! Vectors.
+ghost use Rattle.std.specs.Prelude.{◌≡◌, ℕ, ◌-◌, ◌^◌, ◌<◌, refl};
+ghost use Rattle.archive_shape_layout.specs.Shape.Shape.{vector};
+ghost use Rattle.archive_forms_spelling.specs.Pointers.{slice_spelling};
+ghost use Rattle.archive_forms_spelling.specs.Serializing.{CanResolve, HasState, Resolves, Serializes, SerializesBy};
+ghost use Rattle.archive_forms_spelling.proofs.Pointers.{slice_spells};
+ghost use Rattle.archive_forms_spelling.proofs.Views.{kept_spells, seen_spells};
+ghost use Rattle.archive_forms_writing.specs.Owned.{vec_spelling};
+ghost use Rattle.archive_forms_writing.specs.Steps.{StepTakes, StepWrites};
+
+use crate::elements::serialize_element;
+use crate::{Archive, Serialize, serialize_slice_each};
+use archive_forms_reading::{ArchivedVec, VecResolver};
+use archive_shape::{Allocator, Error, Place, Writer};
+use std::marker::PhantomData;
+
+impl<T: Archive> Archive for Vec<T> {
+    type Archived = ArchivedVec<T::Archived>;
+
+    type Resolver = VecResolver;
+
+    ghost spelling = { vec_spelling T.Archived.shape T.spelling };
+
+    fn resolve(
+        &self,
+        resolver: VecResolver,
+        out: Place<'_, ArchivedVec<T::Archived>>,
+    ) -> Result<(), Error>
+        requires { CanResolve (vec_spelling T.Archived.shape T.spelling) (vector T.Archived.shape) self.now resolver out.out.now out.start out.pos }
+        ensures { Resolves (vec_spelling T.Archived.shape T.spelling) self.now resolver out.entry.pos out.entry.start out.entry.out.now out.exit.0.now result }
+    {
+        let Place {
+            out,
+            start,
+            pos,
+            ..
+        } = out;
+        ArchivedVec::<T::Archived>::resolve_from_len(
+            self.len(),
+            resolver,
+            Place::within(out, start, pos),
+        )
+    }
+
+    ghost spells = { λ fit. kept_spells fit (vector T.Archived.shape) T.Archived.knows _ _ (λ r. refl) _
+        (seen_spells fit (vector T.Archived.shape) T.Archived.knows (λ v. v.items) (slice_spelling T.Archived.shape T.spelling)
+        (slice_spells fit T.Archived.shape T.Archived.knows T.spelling (T.spells fit))) };
+}
+
+/// Writes the elements of a vector behind their data, which a step writes.
+pub fn serialize_vec_each<
+    T: Archive,
+    S: Writer + Allocator,
+    F: Fn(&T, &mut S) -> Result<(T::Resolver, PhantomData<T::Archived>), Error>,
+>(items: &Vec<T>, serializer: &mut S, step: F) -> Result<VecResolver, Error>
+    requires room { S.failures serializer.old < 2 ^ 64 - 1 }
+    requires state { HasState S.pos S.known serializer.old }
+    requires takes { StepTakes F.Fn S.Writer step items.now.items }
+    requires writes { StepWrites F.Fn (λ q. q.0) T.spelling S.Writer step }
+    ensures { Serializes (vec_spelling T.Archived.shape T.spelling) S.Writer items.now serializer.old serializer.new result }
+{
+    match serialize_slice_each(items.as_slice(), serializer, step) {
+        Ok(pos) => Ok(VecResolver { pos }),
+        Err(e) => Err(e),
+    }
+}
+
+impl<S: Writer + Allocator, T: Serialize<S>> Serialize<S> for Vec<T> {
+    fn serialize(&self, serializer: &mut S) -> Result<VecResolver, Error> {
+        serialize_vec_each::<T, S, _>(
+            self,
+            serializer,
+            |item: &T, s: &mut S| -> Result<(T::Resolver, PhantomData<T::Archived>), Error>
+                requires room { S.failures s.old < 2 ^ 64 - 1 }
+                requires state { HasState S.pos S.known s.old }
+                ensures { SerializesBy (λ q. q.0) T.spelling S.Writer item.now s.old s.new result }
+            {
+                serialize_element(item, s)
+            },
+        )
+    }
+}
