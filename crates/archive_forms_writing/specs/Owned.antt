@@ -1,6 +1,6 @@
 -- How vectors and boxes are archived, which own their elements.
-use Rattle.std.specs.Prelude.{Vec}
-use Rattle.std.specs.Global.{Box, Global}
+use Rattle.std.specs.Prelude.{Box, Vec}
+use Rattle.std.specs.Global.{Global}
 use Rattle.archive_shape_layout.specs.Shape.{Shape}
 use Rattle.archive_forms_spelling.specs.Spelling.{Spelling}
 use Rattle.archive_forms_spelling.specs.Forms.{seen_as, kept_as}
