@@ -62,6 +62,10 @@ pub record FieldsSpellAt {A R : Type 0} (fit : Fit) (knows : Names → Type 0) (
   pub piece_exact : (st : State) (e : Error) → fs.piece_fits x st → fs.piece_refused x st e → ⊥
   pub own_exact : (r : R) (pos offset : ℕ) (e : Error) → fs.own_fits x r pos offset → fs.own_refused x r pos offset e → ⊥
 
+-- fields end within the struct
+pub struct_room : (ss : Shapes) → fields_end ss 0 ≤ size_of (tuple ss)
+struct_room ss = le_align_up (fields_end ss 0) (align_of (tuple ss))
+
 -- a value of a type that has no other has no byte of its own
 pub unit_has_no_bytes : {A : Type 0} (x : A) (pos : ℕ) → unit_spelling.own x tt pos ≡ []
 unfolding align_up
@@ -205,17 +209,13 @@ module _ (fit : Fit) (knows : Names → Type 0) where
   fields_settled seen (more_shapes s ss) pos offset vs = tt
 
   module _ {A R : Type 0} (fs : FieldsSpelling A R) (x : A) (all : FieldsSpellAt fit knows fs x) where
-    -- the fields end within the struct
-    struct_room : fields_end fs.shapes 0 ≤ size_of (tuple fs.shapes)
-    struct_room = le_align_up (fields_end fs.shapes 0) (align_of (tuple fs.shapes))
-
     -- a struct takes its size
     struct_sized : (r : R) (pos : ℕ) → fs.own_fits x r pos 0 → length ((struct_spelling fs).own x r pos) ≡ size_of (tuple fs.shapes)
     struct_sized r pos f =
         let own = fs.own x r pos 0 in
         let pad = zeros (size_of (tuple fs.shapes) - fields_end fs.shapes 0) in
         let end = all.sized r pos 0 f in
-        let room = struct_room in
+        let room = struct_room fs.shapes in
         let filled : length pad ≡ size_of (tuple fs.shapes) - fields_end fs.shapes 0 = length-replicate _ _ in
         omega (arith, length-append own pad)
 
@@ -229,7 +229,7 @@ module _ (fit : Fit) (knows : Names → Type 0) where
         let size = size_of (tuple fs.shapes) in
         let end = fields_end fs.shapes 0 in
         let pad = zeros (size - end) in
-        let room = struct_room in
+        let room = struct_room fs.shapes in
         let own_end = all.sized r pos 0 f in
         let front : HasBytes bytes (pos + 0) own = subst (λ z. HasBytes bytes z own) (sym (add-zero pos)) (stands_left bytes pos own pad q) in
         let back = stands_right bytes pos own pad (pos + end) (omega arith) q in

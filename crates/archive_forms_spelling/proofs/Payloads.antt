@@ -1,16 +1,19 @@
 -- Values behind a tag are read as they are written.
-use Rattle.std.proofs.Common.{◌≡◌, ℕ, ◌+◌, ◌-◌, ◌≤◌, ◌<◌, List, [], ◌∷◌, ◌++◌, length, length-append, slice_index, refl, sym, ap, subst, ◌∙◌, arith, ◌⊎◌, inl, inr, ⊎_elim}
+use Rattle.std.proofs.Common.{◌≡◌, ℕ, zero, suc, Some, ◌+◌, ◌-◌, ◌≤◌, ◌<◌, List, [], ◌∷◌, ◌++◌, length, length-append, slice_index, refl, sym, ap, subst, ◌∙◌, arith, ◌⊎◌, inl, inr, ⊎_elim}
 use Rattle.std.proofs.lemmas.Bool.{cases_lt}
 use Rattle.std.proofs.lemmas.List.{length-replicate}
-use Rattle.archive_shape_layout.specs.Bytes.{window}
-use Rattle.archive_shape_layout.specs.Shape.{Shape, size_of}
+use Rattle.archive_shape_layout.specs.Bytes.{window, align_up}
+use Rattle.archive_shape_layout.specs.Shape.{Shape, Shapes, size_of, align_of, aligns_of, payloads_end}
+use Rattle.archive_shape_layout.specs.Shape.Shape.{choice}
+use Rattle.archive_shape_layout.specs.Shape.Shapes.{no_shapes, more_shapes}
 use Rattle.archive_shape_layout.specs.Value.Value.{chosen}
 use Rattle.archive_shape_layout.specs.Value.Values.{no_values, more_values}
-use Rattle.archive_shape_layout.specs.Content.{Names, made, shape_content}
+use Rattle.archive_shape_layout.specs.Content.{Names, made, shape_content, shape_tagged, option_content}
 use Rattle.archive_shape_layout.specs.Content.Part.{at}
 use Rattle.archive_shape_layout.specs.Content.Label.{tagged}
 use Rattle.archive_shape_layout.specs.Content.Content.{plain}
 use Rattle.archive_shape_layout.specs.Holds.{OpenShared}
+use Rattle.archive_shape_layout.proofs.Framed.{le_align_up}
 use Rattle.archive_shape_canonical.specs.Settled.{Fit}
 use Rattle.archive_shape_canonical.specs.Clean.{IsIn, InParts, IsFilled, field_size}
 use Rattle.archive_shape_canonical.proofs.Cleanness.{clean_by}
@@ -121,3 +124,25 @@ module _ {A R : Type 0} (fit : Fit) (s whole : Shape) (knows : Names → Type 0)
     piece_exact = one.piece_exact;
     own_exact = λ r pos e f k. one.own_exact r (pos + offset) e f k;
   }
+
+-- ---- variants of an enum
+
+-- there is room for the payload of each tag
+variant_room : (ss : Shapes) (tag : ℕ) (s : Shape) → shape_tagged tag ss ≡ Some s → align_up 1 (align_of s) + size_of s ≤ payloads_end ss
+variant_room no_shapes tag s e = absurd (cc)
+variant_room (more_shapes t ss) zero s e = let same : t ≡ s = cc in subst (λ z. align_up 1 (align_of z) + size_of z ≤ payloads_end (more_shapes t ss)) same (omega arith)
+variant_room (more_shapes t ss) (suc tag) s e = let rest = variant_room ss tag s e in omega arith
+
+-- the layout has the payload of the tag
+variant_content : (ss : Shapes) (tag : ℕ) (s : Shape) → shape_tagged tag ss ≡ Some s
+    → (names : Names) (pos : ℕ) (own : List ℕ) → slice_index own 0 ≡ tag → shape_content names pos own (choice ss) ≡ plain (tagged tag) (at (pos + align_up 1 (align_of s)) s ∷ [])
+unfolding shape_content
+variant_content ss tag s is names pos own e = rw e (ap (λ o. option_content o (λ q. plain (tagged tag) (at (pos + align_up 1 (align_of q)) q ∷ []))) is)
+
+-- the law of the payload of a tag is that of the variant with it
+pub variant_spells_at : {A R : Type 0} (fit : Fit) (ss : Shapes) (tag : ℕ) (s : Shape) (knows : Names → Type 0) (w : Spelling A R) → tag < 256 → shape_tagged tag ss ≡ Some s
+    → (x : A) → SpellsAt fit s knows w x → SpellsAt fit (choice ss) knows (payload_spelling tag (align_up 1 (align_of s)) (size_of (choice ss)) w) x
+variant_spells_at fit ss tag s knows w small is =
+    let up = le_align_up (payloads_end ss) (aligns_of ss) in
+    let room = variant_room ss tag s is in
+    payload_spells_at fit s (choice ss) knows w tag (align_up 1 (align_of s)) small (le_align_up 1 (align_of s)) (omega arith) refl (variant_content ss tag s is) (λ bytes pos. tt)

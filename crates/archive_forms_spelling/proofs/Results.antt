@@ -17,6 +17,13 @@ use Rattle.archive_forms_spelling.specs.Results.{result_payload_at, ok_spelling,
 use Rattle.archive_forms_spelling.proofs.Gaps.{bytes_zeros}
 use Rattle.archive_forms_spelling.proofs.Payloads.{payload_spells_at}
 
+-- a payload begins behind the tag, and there is room for the longer of both
+pub result_payload_first : (s t : Shape) → 1 ≤ result_payload_at s t
+result_payload_first s t = le_align_up 1 (max (align_of s) (align_of t))
+
+pub result_room : (s t : Shape) → result_payload_at s t + max (size_of s) (size_of t) ≤ size_of (result s t)
+result_room s t = le_align_up (result_payload_at s t + max (size_of s) (size_of t)) (max (align_of s) (align_of t))
+
 module _ {A B R Q : Type 0} (fit : Fit) (s t : Shape) (knows : Names → Type 0) (w : Spelling A R) (u : Spelling B Q) where
   -- what the layout has by the tag
   ok_content : (names : Names) (pos : ℕ) (own : List ℕ) → slice_index own 0 ≡ 0 → shape_content names pos own (result s t) ≡ plain (tagged 0) (at (pos + result_payload_at s t) s ∷ [])
@@ -27,17 +34,10 @@ module _ {A B R Q : Type 0} (fit : Fit) (s t : Shape) (knows : Names → Type 0)
   unfolding shape_content choose
   err_content names pos own e = rw e refl
 
-  -- the longer of both has room
-  result_room : result_payload_at s t + max (size_of s) (size_of t) ≤ size_of (result s t)
-  result_room = le_align_up (result_payload_at s t + max (size_of s) (size_of t)) (max (align_of s) (align_of t))
-
-  payload_first : 1 ≤ result_payload_at s t
-  payload_first = le_align_up 1 (max (align_of s) (align_of t))
-
   -- what follows speaks of resolvers of both kinds: beside one of the other kind there are zeros
   module _ (x : A) (one : SpellsAt fit s knows w x) where
     ok_payload : SpellsAt fit (result s t) knows (ok_spelling s t w u) x
-    ok_payload = let room = result_room in payload_spells_at fit s (result s t) knows w 0 (result_payload_at s t) (omega arith) payload_first (omega arith) refl ok_content (λ bytes pos. tt) x one
+    ok_payload = let room = result_room s t in payload_spells_at fit s (result s t) knows w 0 (result_payload_at s t) (omega arith) (result_payload_first s t) (omega arith) refl ok_content (λ bytes pos. tt) x one
 
     ok_sized : (r : Result R Q) (pos : ℕ) → result_own_fits s t w u (Ok x) r pos → length (result_own s t w u (Ok x) r pos) ≡ size_of (result s t)
     ok_sized (Ok r) pos f = ok_payload.sized r pos f
@@ -66,7 +66,7 @@ module _ {A B R Q : Type 0} (fit : Fit) (s t : Shape) (knows : Names → Type 0)
 
   module _ (y : B) (one : SpellsAt fit t knows u y) where
     err_payload : SpellsAt fit (result s t) knows (err_spelling s t w u) y
-    err_payload = let room = result_room in payload_spells_at fit t (result s t) knows u 1 (result_payload_at s t) (omega arith) payload_first (omega arith) refl err_content (λ bytes pos. tt) y one
+    err_payload = let room = result_room s t in payload_spells_at fit t (result s t) knows u 1 (result_payload_at s t) (omega arith) (result_payload_first s t) (omega arith) refl err_content (λ bytes pos. tt) y one
 
     err_sized : (r : Result R Q) (pos : ℕ) → result_own_fits s t w u (Err y) r pos → length (result_own s t w u (Err y) r pos) ≡ size_of (result s t)
     err_sized (Ok r) pos f = length-replicate _ _

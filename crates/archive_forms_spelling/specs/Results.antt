@@ -15,6 +15,7 @@ abbrev pub result_payload_at : Shape → Shape → ℕ
 result_payload_at s t = align_up 1 (max (align_of s) (align_of t))
 
 module _ {A B R Q : Type 0} (s t : Shape) (w : Spelling A R) (u : Spelling B Q) where
+  -- the value behind the tag 0, and the error behind the tag 1
   abbrev pub ok_spelling : Spelling A R
   ok_spelling = payload_spelling 0 (result_payload_at s t) (size_of (result s t)) w
 
@@ -41,6 +42,7 @@ module _ {A B R Q : Type 0} (s t : Shape) (w : Spelling A R) (u : Spelling B Q) 
   result_met (Ok x) st = w.met x st
   result_met (Err y) st = u.met y st
 
+  -- beside a resolver of the other kind there are zeros
   abbrev pub result_own : Result A B → Result R Q → ℕ → List ℕ
   result_own (Ok x) (Ok r) pos = ok_spelling.own x r pos
   result_own (Err y) (Err r) pos = err_spelling.own y r pos

@@ -19,7 +19,7 @@ length_word n = n % 64 + 128 + n / 64 * 256
 abbrev pub inline_bytes : List ℕ → List ℕ
 inline_bytes t = t ++ replicate (8 - length t) 255
 
--- ---- by whether the text is short
+-- ---- by whether the text is short: inline there are own bytes alone, and out of line the text is written first
 
 abbrev pub text_piece : Bool → List ℕ → List ℕ
 text_piece true t = []
