@@ -4,7 +4,7 @@ use Rattle.std.specs.declared.alloc.Global.{Global}
 use Rattle.cabinet_text.specs.Tree.{Tree}
 use Rattle.cabinet_text.specs.Spelling.{text_of}
 use Rattle.cabinet_text.specs.FirstFault.{FirstFault}
-use Rattle.cabinet_layout.specs.Image.{Image}
+use Rattle.cabinet_images.specs.Image.{Image}
 use Rattle.cabinet.specs.Saving.{HasNoImageFor}
 use Rattle.cabinet.specs.declared.fault.Fault.{Fault}
 use Rattle.cabinet.specs.declared.fault.Fault.TheVariants.{Usage, CannotRead, CannotWrite, Text, Save, Open, Run}

@@ -3,10 +3,10 @@ use Rattle.std.proofs.Common.{◌≡◌, ℕ, List, ◌++◌, sym, subst}
 use Rattle.archive_shape_writing.specs.declared.error.Error.{Error}
 use Rattle.archive_shape_writing.specs.Writing.{Cut}
 use Rattle.cabinet_text.specs.Tree.{Tree, IsDocument}
-use Rattle.cabinet_layout.specs.Image.{Image}
-use Rattle.cabinet_layout.specs.Limits.{IsPast}
-use Rattle.cabinet_layout.specs.Written.{image_bytes}
-use Rattle.cabinet_layout.proofs.Images.{image_written, one_image}
+use Rattle.cabinet_images.specs.Image.{Image}
+use Rattle.cabinet_images.specs.Limits.{IsPast}
+use Rattle.cabinet_images.specs.Written.{image_bytes}
+use Rattle.cabinet_images.proofs.Images.{image_written, one_image}
 use Rattle.cabinet.specs.Saving.{Saved}
 
 written_image : (s t : Tree) → s ≡ t → IsDocument t → ((e : Error) → IsPast s e → ⊥) → Image t (image_bytes s)

@@ -7,7 +7,7 @@ use Rattle.cabinet_text.specs.declared.answer.SetAnswer.TheVariants.{Done, Missi
 use Rattle.cabinet_text.specs.Line.{Line, get, set, Says}
 use Rattle.cabinet_text.specs.Session.{next, edits, edits_by, one_if_done}
 use Rattle.cabinet_layout.specs.Denotes.{Accepted}
-use Rattle.cabinet_layout.specs.Image.{Image}
+use Rattle.cabinet_images.specs.Image.{Image}
 use Rattle.cabinet_layout.specs.Laws.{written_at}
 use Rattle.cabinet_nodes.specs.Setting.{put_if_done}
 use Rattle.cabinet.specs.Editing.{bytes_next, bytes_after}

@@ -8,7 +8,7 @@ use Rattle.cabinet_text.specs.declared.answer.SetAnswer.{SetAnswer}
 use Rattle.cabinet_text.specs.Line.{Line, set, Says}
 use Rattle.cabinet_text.specs.Session.{lines_of, AllSay, reply, next, answers, after, edits, edits_by}
 use Rattle.cabinet_layout.specs.Denotes.{Accepted}
-use Rattle.cabinet_layout.specs.Image.{Image}
+use Rattle.cabinet_images.specs.Image.{Image}
 use Rattle.cabinet_layout.specs.Laws.{written_at}
 use Rattle.cabinet_nodes.specs.Setting.{put_if_done}
 use Rattle.cabinet.specs.Editing.{Edited, EditedByLines, bytes_next, bytes_after}

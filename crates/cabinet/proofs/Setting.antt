@@ -6,11 +6,11 @@ use Rattle.cabinet_text.specs.declared.answer.SetAnswer.{SetAnswer}
 use Rattle.cabinet_text.specs.declared.answer.SetAnswer.TheVariants.{Done, Missing, Refused}
 use Rattle.cabinet_text.proofs.Changes.{only_done_changes}
 use Rattle.cabinet_layout.specs.Denotes.{Accepted}
-use Rattle.cabinet_layout.specs.Image.{Image}
+use Rattle.cabinet_images.specs.Image.{Image}
 use Rattle.cabinet_layout.specs.Laws.{written_at}
 use Rattle.cabinet_layout.proofs.Kept.{edit_keeps_accepted}
-use Rattle.cabinet_layout.proofs.Images.{accepted_of}
-use Rattle.cabinet_layout.proofs.ImageEdits.{edit_keeps_image}
+use Rattle.cabinet_images.proofs.Images.{accepted_of}
+use Rattle.cabinet_images.proofs.ImageEdits.{edit_keeps_image}
 use Rattle.cabinet_nodes.specs.Setting.{put_if_done}
 
 -- what a call says that answers for every tree that the bytes denote

@@ -4,9 +4,9 @@ use Rattle.std.specs.Prelude.{Bool, Result, IfOk, IfErr, IsOk}
 use Rattle.std.proofs.lemmas.List.{take_all, drop_all}
 use Rattle.cabinet_text.specs.Tree.{Tree}
 use Rattle.cabinet_layout.specs.Denotes.{Accepted}
-use Rattle.cabinet_layout.specs.Image.{Image}
+use Rattle.cabinet_images.specs.Image.{Image}
 use Rattle.cabinet_layout.proofs.Faults.{fault_refuses}
-use Rattle.cabinet_layout.proofs.Images.{accepted_of}
+use Rattle.cabinet_images.proofs.Images.{accepted_of}
 use Rattle.cabinet.specs.Opening.{IsRefusedFor}
 use Rattle.cabinet.specs.declared.opened.OpenRefusal.{OpenRefusal}
 use Rattle.cabinet.specs.declared.opened.OpenRefusal.TheVariants.{Access, OutOfMemory}

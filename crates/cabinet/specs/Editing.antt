@@ -5,7 +5,7 @@ use Rattle.cabinet_text.specs.Line.{Line, get, set}
 use Rattle.cabinet_text.specs.Answering.{outcome}
 use Rattle.cabinet_text.specs.Session.{AllSay, next, after, edits}
 use Rattle.cabinet_layout.specs.Denotes.{Accepted}
-use Rattle.cabinet_layout.specs.Image.{Image}
+use Rattle.cabinet_images.specs.Image.{Image}
 use Rattle.cabinet_layout.specs.Laws.{written_at}
 use Rattle.cabinet_nodes.specs.Setting.{put_if_done}
 

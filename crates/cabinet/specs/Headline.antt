@@ -4,7 +4,7 @@ use Rattle.archive_shape_writing.specs.Writing.{Cut}
 use Rattle.cabinet_text.specs.Tree.{Tree}
 use Rattle.cabinet_text.specs.Line.{Line}
 use Rattle.cabinet_text.specs.Session.{lines_of, AllSay, reply, answers, after, edits}
-use Rattle.cabinet_layout.specs.Image.{Image}
+use Rattle.cabinet_images.specs.Image.{Image}
 use Rattle.cabinet.specs.Steps.{IsMemoryRefused, IsReadFault, IsLineTooLong, IsInputTooLong}
 use Rattle.cabinet.specs.declared.session.Count.{Count}
 use Rattle.cabinet.specs.declared.session.RunFault.{RunFault}

@@ -4,7 +4,7 @@ use Rattle.cabinet_text.specs.Tree.{Tree}
 use Rattle.cabinet_text.specs.Line.{Line}
 use Rattle.cabinet_text.specs.Session.{AllSay, after}
 use Rattle.cabinet_layout.specs.Denotes.{Accepted}
-use Rattle.cabinet_layout.specs.Image.{Image}
+use Rattle.cabinet_images.specs.Image.{Image}
 use Rattle.cabinet.specs.Editing.{bytes_after, EditedByLines}
 
 -- after each line the bytes are the archive of the document after it

@@ -1,5 +1,5 @@
 -- What opening and asking answer.
-use Rattle.std.specs.Prelude.{◌≡◌, ℕ, Bool, List, Result, MatchResult}
+use Rattle.std.specs.Prelude.{◌≡◌, ℕ, List, Result, MatchResult}
 use Rattle.archive_shape_writing.specs.declared.error.Error.{Error}
 use Rattle.archive_shape_writing.specs.Writing.{WriterMembers, IsCounted}
 use Rattle.cabinet_text.specs.Tree.{Tree}

@@ -1,9 +1,9 @@
 -- What saving answers.
-use Rattle.std.specs.Prelude.{◌≡◌, ℕ, ◌+◌, Bool, true, false, List, ◌++◌}
-use Rattle.archive_shape_writing.specs.declared.error.Error.{Error}
+use Rattle.std.specs.Prelude.{◌≡◌, ℕ, ◌+◌, true, false, List, ◌++◌}
+use Rattle.archive_shape_writing.specs.Writing.{WriterMembers}
 use Rattle.cabinet_text.specs.Tree.{Tree}
-use Rattle.cabinet_layout.specs.Image.{Image}
-use Rattle.cabinet_layout.specs.Limits.{IsPast}
+use Rattle.cabinet_images.specs.Image.{Image}
+use Rattle.cabinet_images.specs.Limits.{IsPast}
 use Rattle.cabinet.specs.declared.saving.SaveRefusal.{SaveRefusal}
 use Rattle.cabinet.specs.declared.saving.SaveRefusal.TheVariants.{Limit, Writer, OutOfMemory}
 

@@ -4,7 +4,7 @@ ghost use Rattle.cabinet_text.specs.Tree.{Tree};
 ghost use Rattle.cabinet_text.specs.Answering.{outcome, change};
 ghost use Rattle.cabinet_text.specs.View.{leaf_of, path_of};
 ghost use Rattle.cabinet_layout.specs.Denotes.{Accepted};
-ghost use Rattle.cabinet_layout.specs.Image.{Image};
+ghost use Rattle.cabinet_images.specs.Image.{Image};
 ghost use Rattle.cabinet_layout.specs.Laws.{written_at};
 ghost use Rattle.cabinet_nodes.specs.Reading.{LeadsNowhere, LeadsTo};
 ghost use Rattle.cabinet_nodes.specs.Setting.{put_if_done};

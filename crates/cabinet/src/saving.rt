@@ -1,12 +1,12 @@
 //! Documents are saved as archives.
 ghost use Rattle.std.specs.Prelude.{◌≡◌, ◌-◌, ◌^◌, ◌<◌, ℕ, List, IsTrue, OnOk, OnErr, IfErr};
 ghost use Rattle.archive_shape_writing.specs.Writing.{Cut};
-ghost use Rattle.cabinet_layout.specs.Image.{Image};
+ghost use Rattle.cabinet_images.specs.Image.{Image};
 ghost use Rattle.cabinet.specs.Saving.{Saved, IsUnsavedFor};
 
 use archive_shape_writing::{Error, Writer};
-use cabinet_nodes::{is_past_limits, write_root};
 use cabinet_text::Document;
+use cabinet_writing::{is_past_limits, write_root};
 use std::alloc::Global;
 use thiserror::Error as Described;
 

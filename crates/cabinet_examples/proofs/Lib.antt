@@ -2,4 +2,3 @@ pub mod Documents
 pub mod Doubtful
 pub mod Boxes
 pub mod Refused
-pub mod Images

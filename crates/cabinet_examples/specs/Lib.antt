@@ -5,4 +5,3 @@ pub mod Documents
 pub mod Doubtful
 pub mod Boxes
 pub mod Refused
-pub mod Images

@@ -6,7 +6,6 @@
 
 ghost use Rattle.cabinet_examples.specs.Sizes.{NodeSizes};
 ghost use Rattle.cabinet_examples.specs.Documents.{NumberAtTheRoot, TruthAtTheRoot, LongTextAtTheRoot, NothingAtTheRoot, SomeNumber, SixtyFourOptions, EmptyList, SharedTextTwice, EmptySharedTextTwice, OrderedMapOfTwo, OrderedMapOfSix, OrderedMapWithAnEmptyLeaf, HashedMapOfOne, ListInAMapInAMap, KeptMapOfTwo, EmptyKeptMap};
-ghost use Rattle.cabinet_examples.specs.Images.{FiveImage, TrueImage, WorldImage, SevenAndNineteenImage, EmptyListImage};
 ghost use Rattle.cabinet_examples.specs.Doubtful.{OrderedMapWithARepeatedKey, HashedMapWithARepeatedKey, HashedMapWithAnotherTag, OrderedMapWithPadding, EmptyBuffer};
 ghost use Rattle.cabinet_examples.specs.Boxes.{BoxedBytesInAnOption, BoxesThatLeadBeforeTheBuffer, BoxesThatOverlap, BoxesInACircle, OnePositionWithTwoLengths, MapOfANonzeroNumber, LeafShorterThanItsMap, MapWithAKeyOfZero};
 ghost use Rattle.cabinet_examples.specs.Refused.{BoxThatIsNotAligned, UnknownTag, UnknownTagOfAnOption, TruthValueOfTwo, SurrogateChar, BrokenInlineText, BrokenLongText, LongTextOfEight, TableWithoutRoom, ControlThatDoesNotRepeat, EmptyControlThatDoesNotRepeat, TagBeyondTwiceTheCapacity, MoreTagsThanItems, PlaceOutsideTheMap, LeafOfSix, UnknownKindOfNode, ThirtyTwoLevels, ThirtyThreeLevels, OnePositionWithTwoShapes, LoopOfAFlavorWithCycles, LoopOfAFlavorWithoutCycles};
@@ -264,29 +263,4 @@ pub fn loop_of_a_flavor_with_cycles()
 /// Elsewhere it holds nothing.
 pub fn loop_of_a_flavor_without_cycles()
     ensures { LoopOfAFlavorWithoutCycles }
-{}
-
-/// The number 5 is saved as these bytes.
-pub fn five_image()
-    ensures { FiveImage }
-{}
-
-/// The truth value true is.
-pub fn true_image()
-    ensures { TrueImage }
-{}
-
-/// The text `world` is, inline and filled with `ff`.
-pub fn world_image()
-    ensures { WorldImage }
-{}
-
-/// A list of the numbers 7 and 19 is, its elements before its node.
-pub fn seven_and_nineteen_image()
-    ensures { SevenAndNineteenImage }
-{}
-
-/// A list without elements is: its pointer leads to its own node's position.
-pub fn empty_list_image()
-    ensures { EmptyListImage }
 {}

@@ -1,5 +1,5 @@
 -- What worked documents store, from their plans.
-use Rattle.std.proofs.Common.{◌≡◌, ℕ, w64, true, List, [], ◌∷◌, ◌++◌, Some, refl, inl, lit≤, lit<}
+use Rattle.std.proofs.Common.{◌≡◌, ℕ, [], Some, refl, inl, lit≤, lit<}
 use Rattle.archive_shape_layout.specs.Bytes.{align_up}
 use Rattle.archive_shape_layout.specs.Shape.{Shape, align_of}
 use Rattle.archive_shape_layout.specs.Value.{Value}
@@ -8,9 +8,9 @@ use Rattle.archive_shape_layout.specs.Value.Values.{no_values, more_values}
 use Rattle.archive_shape_layout.specs.Content.{shape_tagged}
 use Rattle.archive_shape_canonical.specs.FirstFit.{first_fit}
 use Rattle.archive_shape_canonical.specs.Plan.{Plan, parts, no_plans, more_plans, HasPlan, plan_flat, plan_inline, plan_text, plan_tuple, plan_choice, plan_vector, plan_shared, plan_tree, plan_table, plan_named, plan_slice, plan_str, plan_leaf_node, plans_none, plans_at, plans_entry, number_is_flat}
-use Rattle.archive_shape_canonical.specs.Limits.{Field, position, State, Lies, lies_flat, lies_parts, lies_leads, lies_text, lies_first, lies_later, lie_none, lie_more, Stores}
+use Rattle.archive_shape_canonical.specs.Limits.{State, lies_flat, lies_parts, lies_leads, lies_text, lies_first, lies_later, lie_none, lie_more}
 use Rattle.archive_shape_canonical.proofs.Evaluate.{run_canonical}
-use Rattle.cabinet_layout.specs.Hash.{hash_word, words_from, words_of, text_hash}
+use Rattle.cabinet_images.specs.Hash.{hash_word, words_from, words_of, text_hash}
 use Rattle.cabinet_layout.specs.Node.{node_shape, node_names, payloads}
 use Rattle.cabinet_examples_canonical.specs.Stored.{StoredText, StoredSharedText, StoredNestedMaps}
 

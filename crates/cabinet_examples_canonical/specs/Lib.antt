@@ -1,3 +1,4 @@
 pub mod Canonical
 pub mod Spoilt
 pub mod Stored
+pub mod Images

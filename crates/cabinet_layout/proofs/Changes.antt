@@ -1,27 +1,22 @@
 -- A leaf, changed at its path in a document.
-use Rattle.std.proofs.Common.{◌≡◌, ℕ, zero, suc, ◌^◌, ◌+◌, ◌*◌, ◌≤◌, ◌<◌, true, List, [], ◌∷◌, ◌++◌, length, Some, refl, sym, ap, subst, ◌∙◌, arith, ⊎_elim, inl, inr}
+use Rattle.std.proofs.Common.{◌≡◌, ℕ, zero, suc, ◌^◌, ◌+◌, ◌*◌, ◌≤◌, ◌<◌, true, List, [], ◌∷◌, length, Some, refl, sym, ap, subst, ◌∙◌, arith, ⊎_elim, inl, inr}
 use Rattle.archive_shape_layout.specs.Laws.{AgreesOn}
 use Rattle.archive_shape_layout.specs.Edit.{Apart}
 use Rattle.archive_shape_references.specs.Bytes.{overwrite}
 use Rattle.cabinet_text.specs.Tree.{Leaf, IsLeaf, IsDocument, Tree, leaf, list, Trees, no_trees, more_trees, count, AreLeaves, Step, key, place, inside, node_at, node_in}
 use Rattle.cabinet_text.specs.Answering.{fits, change, change_in}
-use Rattle.archive_shape_references.specs.Bytes.{HasBytes}
 use Rattle.cabinet_layout.specs.Node.{elements_at, node_position}
 use Rattle.cabinet_layout.specs.Fields.{IsLeafAt, IsListAt, IsNodeAt, AreNodesAt}
-use Rattle.cabinet_layout.specs.Image.{own_offset, own_bytes}
-use Rattle.cabinet_layout.specs.Written.{leaf_bytes, elements_bytes, image_bytes}
+use Rattle.cabinet_layout.specs.Bytes.{own_offset, own_bytes}
 use Rattle.archive_shape_references.proofs.Written.{length-overwrite, window_before, window_behind}
 use Rattle.cabinet_layout.proofs.Frames.{own_bytes_short, frame_leaf, frame_elements, frame_list, frame_leaves}
 use Rattle.cabinet_layout.proofs.Paths.{in_list}
-use Rattle.cabinet_layout.proofs.Edits.{fits_document, leaf_edit, bytes_edit}
-use Rattle.cabinet_layout.proofs.Leaves.{length-leaf_bytes, length-elements_bytes, first_element, other_elements}
-use Rattle.archive_shape_references.proofs.Pieces.{stands_append}
+use Rattle.cabinet_layout.proofs.Edits.{fits_document, leaf_edit}
 
 -- the node at a position was one leaf and is another, and what lies before or after it stays
 pub record Edited (bytes others : List ℕ) (pos : ℕ) (old new : Leaf) : Type 0 where
   pub size : length others ≡ length bytes
   pub says : IsLeafAt bytes pos old → IsLeafAt others pos new
-  pub stands : HasBytes bytes pos (leaf_bytes old) → HasBytes others pos (leaf_bytes new)
   pub outside : (start size : ℕ) → Apart start size pos 24 → AgreesOn bytes others start size
 
 pub edited :
@@ -38,7 +33,6 @@ edited bytes pos old new room d l f =
     record {
       size = length-overwrite bytes at (own_bytes new) inside;
       says = leaf_edit bytes pos room old new d l f;
-      stands = bytes_edit bytes pos room old new d f;
       outside = λ start size a. ⊎_elim
           (λ h. sym (window_before bytes at (own_bytes new) inside start size (omega arith)))
           (λ h. sym (window_behind bytes at (own_bytes new) inside start size (omega arith)))
@@ -71,9 +65,6 @@ leaves_changed (more_trees (leaf m) ts) zero old new d e l f =
 leaves_changed (more_trees (leaf m) ts) (suc i) old new d e l f = (d.0, leaves_changed ts i old new d.1 e l f)
 
 module _ (bytes others : List ℕ) (pos : ℕ) (old new : Leaf) (f : fits old new ≡ true) (edit : Edited bytes others pos old new) where
-  stays_standing : (start : ℕ) (piece : List ℕ) → AgreesOn bytes others start (length piece) → HasBytes bytes start piece → HasBytes others start piece
-  stays_standing start piece same s = sym same ∙ s
-
   -- leaves side by side, one of them edited
   leaves_edited :
       (from : ℕ) (ts : Trees) (i : ℕ)
@@ -93,31 +84,6 @@ module _ (bytes others : List ℕ) (pos : ℕ) (old new : Leaf) (f : fits old ne
       )
   leaves_edited from (more_trees (leaf m) ts) (suc i) d e p h =
       (frame_leaf bytes others from (edit.outside from 24 (inl (omega arith))) m h.0, leaves_edited (from + 24) ts i d.1 e (omega arith) h.1)
-
-  pub bytes_edited :
-      (from : ℕ) (ts : Trees) (i : ℕ)
-      → IsDocument (leaf new)
-      → AreLeaves ts
-      → node_in ts i [] ≡ Some (leaf old)
-      → pos ≡ from + 24 * i
-      → HasBytes bytes from (elements_bytes ts)
-      → HasBytes others from (elements_bytes (change_in ts i [] new))
-  bytes_edited from no_trees i is d e p s = refl
-  bytes_edited from (more_trees (list us) ts) i is d e p s = absurd d
-  bytes_edited from (more_trees (leaf m) ts) zero is d e p s =
-      let same : m ≡ old = cc in
-      let here : pos ≡ from = omega arith in
-      let was : HasBytes bytes pos (leaf_bytes old) = subst (λ x. HasBytes bytes x (leaf_bytes old)) (sym here) (subst (λ x. HasBytes bytes from (leaf_bytes x)) same (first_element bytes from m ts s)) in
-      let size = length-elements_bytes ts d.1 in
-      let rest = stays_standing (from + 24) (elements_bytes ts) (edit.outside (from + 24) (length (elements_bytes ts)) (inr (omega arith))) (other_elements bytes from m ts d.0 s) in
-      let n = length-leaf_bytes new is in
-      subst (λ t. HasBytes others from (image_bytes t ++ elements_bytes ts)) (sym (changed_leaf m old new e f))
-      (stands_append others from (leaf_bytes new) (elements_bytes ts) (from + 24) (omega arith) (subst (λ x. HasBytes others x (leaf_bytes new)) here (edit.stands was)) rest)
-  bytes_edited from (more_trees (leaf m) ts) (suc i) is d e p s =
-      let n = length-leaf_bytes m d.0 in
-      stands_append others from (leaf_bytes m) (elements_bytes (change_in ts i [] new)) (from + 24) (omega arith)
-      (stays_standing from (leaf_bytes m) (edit.outside from (length (leaf_bytes m)) (inl (omega arith))) (first_element bytes from m ts s))
-      (bytes_edited (from + 24) ts i is d.1 e (omega arith) (other_elements bytes from m ts d.0 s))
 
 -- ---- and at its path in a document
 

@@ -1,5 +1,5 @@
 -- A leaf that fits, written over the own bytes of another.
-use Rattle.std.proofs.Common.{◌≡◌, ℕ, ℤ, pos, negsuc, ◌^◌, ◌+◌, ◌-◌, ◌≤◌, ◌<◌, ◌==◌, Bool, true, false, w64, List, [], ◌∷◌, ◌++◌, length, drop, slice_index, refl, sym, ap, subst, ◌∙◌, arith, FitsSigned}
+use Rattle.std.proofs.Common.{◌≡◌, ℕ, ℤ, pos, negsuc, ◌^◌, ◌+◌, ◌≤◌, ◌<◌, ◌==◌, Bool, true, false, w64, List, [], ◌∷◌, ◌++◌, length, drop, slice_index, refl, sym, ap, subst, ◌∙◌, arith, FitsSigned}
 use Rattle.std.specs.Int.{from_le_bytes, cast_signed, cast_unsigned}
 use Rattle.std.proofs.lemmas.Int.{to_z-of_z}
 use Rattle.std.proofs.lemmas.Nat.{from_le_bytes-to_le_bytes_8}
@@ -10,13 +10,10 @@ use Rattle.archive_shape_layout.specs.Content.{IsInline, before_ff}
 use Rattle.archive_shape_references.specs.Bytes.{overwrite}
 use Rattle.cabinet_text.specs.Tree.{Leaf, leaf, truth, number, text, IsLeaf, IsDocument}
 use Rattle.cabinet_text.specs.Answering.{fits}
-use Rattle.archive_shape_references.specs.Bytes.{HasBytes, zeros}
-use Rattle.cabinet_layout.specs.Bytes.{filler, truth_byte, number_bytes}
+use Rattle.cabinet_layout.specs.Bytes.{truth_byte, number_bytes, own_offset, own_bytes}
 use Rattle.cabinet_layout.specs.Fields.{IsLeafAt}
-use Rattle.cabinet_layout.specs.Image.{own_offset, own_bytes}
-use Rattle.cabinet_layout.specs.Written.{leaf_bytes}
 use Rattle.archive_shape_references.proofs.Written.{window_there, byte_before, window_from}
-use Rattle.archive_shape_references.proofs.Pieces.{stands_replaced, stands_byte}
+use Rattle.archive_shape_references.proofs.Pieces.{stands_byte}
 use Rattle.archive_shape_layout.proofs.Texts.{text_before, split_at_filler}
 use Rattle.archive_shape_references.proofs.Sealed.{inline_after}
 
@@ -68,20 +65,3 @@ module _ (bytes : List ℕ) (pos : ℕ) (room : pos + 24 ≤ length bytes) where
   leaf_edit (number m) (text u) d l f i = absurd (cc)
   leaf_edit (text t) (truth c) d l f i = absurd (cc)
   leaf_edit (text t) (number n) d l f i = absurd (cc)
-
-  -- and its bytes become those of the other leaf
-  pub bytes_edit : (old new : Leaf) → IsDocument (leaf old) → fits old new ≡ true → HasBytes bytes pos (leaf_bytes old) → HasBytes (overwrite bytes (pos + own_offset new) (own_bytes new)) pos (leaf_bytes new)
-  bytes_edit (truth b) (truth c) d f s = stands_replaced bytes pos (0 ∷ []) (truth_byte b ∷ []) (truth_byte c ∷ []) (zeros 22) (pos + 1) refl refl (omega arith) s
-  bytes_edit (number m) (number n) d f s = stands_replaced bytes pos (1 ∷ zeros 7) (number_bytes m) (number_bytes n) (zeros 8) (pos + 8) refl refl (omega arith) s
-  bytes_edit (text t) (text u) d f s = text_edit (eqb-true _ _ f) s
-    where
-      text_edit : length t ≡ length u → HasBytes bytes pos (leaf_bytes (text t)) → HasBytes (overwrite bytes (pos + 4) u) pos (leaf_bytes (text u))
-      text_edit e s =
-          stands_replaced bytes pos (2 ∷ zeros 3) t u (filler (8 - length u) ++ zeros 12) (pos + 4) refl (sym e) (omega (arith, d.1))
-          (subst (λ n. HasBytes bytes pos (2 ∷ (zeros 3 ++ (t ++ (filler (8 - n) ++ zeros 12))))) e s)
-  bytes_edit (truth b) (number n) d f s = absurd (cc)
-  bytes_edit (truth b) (text u) d f s = absurd (cc)
-  bytes_edit (number m) (truth c) d f s = absurd (cc)
-  bytes_edit (number m) (text u) d f s = absurd (cc)
-  bytes_edit (text t) (truth c) d f s = absurd (cc)
-  bytes_edit (text t) (number n) d f s = absurd (cc)

@@ -1,14 +1,14 @@
 -- What a node says rests on its own bytes.
-use Rattle.std.proofs.Common.{◌≡◌, ℕ, suc, ◌+◌, ◌*◌, ◌%◌, ◌≤◌, ◌<◌, ◌==◌, List, length, slice_index, Some, sym, ap, subst, ◌∙◌, arith, w32, w64}
+use Rattle.std.proofs.Common.{◌≡◌, ℕ, suc, ◌+◌, ◌*◌, ◌%◌, ◌≤◌, ◌<◌, ◌==◌, List, length, slice_index, Some, sym, ap, subst, ◌∙◌, arith, w32, w64, unwrap_or}
 use Rattle.std.specs.Int.{from_le_bytes, cast_signed}
 use Rattle.archive_shape_layout.specs.Bytes.{window, word_at, target_from}
 use Rattle.archive_shape_layout.specs.Content.{IsInline, before_ff}
 use Rattle.archive_shape_layout.specs.Laws.{AgreesOn}
 use Rattle.archive_shape_layout.proofs.Framed.{agrees_within}
 use Rattle.cabinet_text.specs.Tree.{Leaf, truth, number, text, leaf, list, Trees, no_trees, more_trees, count, AreLeaves, IsDocument}
-use Rattle.cabinet_layout.specs.Node.{elements_at, or_zero}
+use Rattle.cabinet_layout.specs.Node.{elements_at}
 use Rattle.cabinet_layout.specs.Fields.{IsLeafAt, IsListAt, AreNodesAt}
-use Rattle.cabinet_layout.specs.Image.{own_offset, own_bytes}
+use Rattle.cabinet_layout.specs.Bytes.{own_offset, own_bytes}
 use Rattle.archive_shape_references.proofs.Pieces.{window_byte, word_of_window}
 
 -- the own bytes of a leaf lie in its node
@@ -47,7 +47,7 @@ module _ (bytes others : List ℕ) (pos : ℕ) (same : AgreesOn bytes others pos
       (sym first_in ∙ h.0, subst (λ x. IsInline (slice_index x 0)) e h.1, ap before_ff (sym e) ∙ h.2)
 
   pub frame_elements : elements_at bytes pos ≡ elements_at others pos
-  frame_elements = ap (λ w. or_zero (target_from (pos + 4) w)) (word_in 4 (omega arith))
+  frame_elements = ap (λ w. unwrap_or (target_from (pos + 4) w) 0) (word_in 4 (omega arith))
 
   pub frame_list : (len : ℕ) → IsListAt bytes pos len → IsListAt others pos len
   frame_list len h =

@@ -6,7 +6,7 @@ use Rattle.cabinet_text.specs.Answering.{fits, outcome_there, change}
 use Rattle.cabinet_text.specs.declared.answer.SetAnswer.TheVariants.{Done}
 use Rattle.cabinet_layout.specs.Node.{root_position, node_position}
 use Rattle.cabinet_layout.specs.Fields.{IsNodeAt, HasRootNode}
-use Rattle.cabinet_layout.specs.Image.{own_offset, own_bytes}
+use Rattle.cabinet_layout.specs.Bytes.{own_offset, own_bytes}
 use Rattle.cabinet_layout.specs.Laws.{own_place, written_at, OwnBytesWithin, OwnBytesApart, EditKeepsAccepted, EditsInEitherOrder}
 use Rattle.cabinet_layout.proofs.Roots.{accepted_says}
 use Rattle.cabinet_layout.proofs.Making.{tree_accepted}

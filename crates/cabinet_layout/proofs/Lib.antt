@@ -1,17 +1,11 @@
 pub mod Inversions
 pub mod Lists
-pub mod Limits
 pub mod Roots
 pub mod Making
 pub mod Frames
 pub mod Paths
-pub mod Leaves
-pub mod Cleanness
-pub mod Small
-pub mod Images
 pub mod Faults
 pub mod Edits
 pub mod Changes
 pub mod Orders
 pub mod Kept
-pub mod ImageEdits

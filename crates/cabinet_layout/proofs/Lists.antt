@@ -1,5 +1,5 @@
 -- The layout relation at the vector of a list: where it leads, and what holds there.
-use Rattle.std.proofs.Common.{◌≡◌, ℕ, suc, ◌+◌, ◌*◌, List, [], ◌∷◌, ◌++◌, Option, Some, None, refl, sym, subst, ap, ap₂, ◌∙◌, arith, add-zero}
+use Rattle.std.proofs.Common.{◌≡◌, ℕ, suc, ◌+◌, ◌*◌, List, [], ◌∷◌, ◌++◌, Option, Some, None, refl, sym, subst, ap, ap₂, ◌∙◌, arith, add-zero, unwrap_or}
 use Rattle.archive_shape_layout.specs.Bytes.{window, word_at, target_from}
 use Rattle.archive_shape_layout.specs.Shape.Shape.{vector}
 use Rattle.archive_shape_layout.specs.Shape.Pointee.{slice}
@@ -12,7 +12,7 @@ use Rattle.archive_shape_layout.specs.Content.Content.{plain, claimed}
 use Rattle.archive_shape_layout.specs.Holds.{Region, region_of, Visit, OpenShared, Holds, HoldAll}
 use Rattle.archive_shape_layout.proofs.Unique.{by_claimed}
 use Rattle.archive_shape_references.proofs.Pieces.{word_within}
-use Rattle.cabinet_layout.specs.Node.{node_shape, node_names, target_of_list, len_of_list, or_zero, elements_at}
+use Rattle.cabinet_layout.specs.Node.{node_shape, node_names, target_of_list, len_of_list, elements_at}
 use Rattle.cabinet_layout.proofs.Inversions.{none_illegal, passed_on}
 
 abbrev pub elements_span : ℕ → ℕ → Span
@@ -50,7 +50,7 @@ by_vector bytes pos {level = level} {inside = inside} {vs = vs} {regions = regio
     known : (o : Option ℕ) → target_of_list bytes pos ≡ o → VectorHolds bytes pos level inside vs regions before after
     known None e = absurd (none_illegal node_names bytes (vector_content bytes pos ∙ ap (λ o. following o (λ t. plain same (behind t (slice node_shape) len ∷ []))) e) h)
     known (Some t) e =
-        let there : elements_at bytes pos ≡ t = ap or_zero e in
+        let there : elements_at bytes pos ≡ t = ap (λ o. unwrap_or o 0) e in
         let b = passed_on node_names bytes (vector_content bytes pos ∙ ap (λ o. following o (λ t. plain same (behind t (slice node_shape) len ∷ []))) e) h in
         let c = by_claimed node_names bytes (elements_content bytes t len) b in
         let m : Some (group c.vs) ≡ Some (group vs) = c.is_made in

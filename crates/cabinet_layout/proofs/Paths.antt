@@ -5,7 +5,7 @@ use Rattle.archive_shape_layout.specs.Edit.{Apart}
 use Rattle.cabinet_text.specs.Tree.{Leaf, Tree, leaf, list, Trees, no_trees, more_trees, count, AreLeaves, IsDocument, Step, key, place, inside, node_at, node_in}
 use Rattle.cabinet_layout.specs.Node.{elements_at, node_position}
 use Rattle.cabinet_layout.specs.Fields.{IsNodeAt}
-use Rattle.cabinet_layout.specs.Image.{own_offset, own_bytes}
+use Rattle.cabinet_layout.specs.Bytes.{own_offset, own_bytes}
 use Rattle.cabinet_layout.proofs.Frames.{own_bytes_short}
 
 -- a leaf that a path leads to, from an element of a list: the path ends there

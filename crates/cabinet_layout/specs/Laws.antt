@@ -2,29 +2,19 @@
 use Rattle.std.specs.Prelude.{◌≡◌, ◌≢◌, ℕ, ◌+◌, ◌≤◌, List, length, Some}
 use Rattle.archive_shape_writing.specs.declared.error.Error.{Error}
 use Rattle.archive_shape_references.specs.Bytes.{overwrite}
-use Rattle.cabinet_text.specs.Tree.{Leaf, Tree, leaf, IsLeaf, IsDocument, Step, node_at}
+use Rattle.cabinet_text.specs.Tree.{Leaf, Tree, leaf, IsLeaf, Step, node_at}
 use Rattle.cabinet_text.specs.Answering.{outcome, change}
 use Rattle.cabinet_text.specs.declared.answer.SetAnswer.TheVariants.{Done}
 use Rattle.archive_shape_layout.specs.Edit.{Apart}
 use Rattle.archive_shape_layout.specs.Holds as layout
 use Rattle.cabinet_layout.specs.Node.{node_shape, root_position, node_position}
 use Rattle.cabinet_layout.specs.Denotes.{Accepted}
-use Rattle.cabinet_layout.specs.Limits.{IsPast}
-use Rattle.cabinet_layout.specs.Image.{Image, own_offset, own_bytes}
-use Rattle.cabinet_layout.specs.Written.{image_bytes}
+use Rattle.cabinet_layout.specs.Bytes.{own_offset, own_bytes}
 use Rattle.cabinet_layout.specs.ArchiveFault.{ArchiveFault}
 
 -- accepted bytes denote one document
 abbrev pub OneDocument : Type 0
 OneDocument = (bytes : List ℕ) (s t : Tree) → Accepted bytes s → Accepted bytes t → s ≡ t
-
--- a document has one image
-abbrev pub OneImage : Type 0
-OneImage = (t : Tree) (bytes others : List ℕ) → Image t bytes → Image t others → bytes ≡ others
-
--- a document within the limits has one, which is these bytes
-abbrev pub ImageWritten : Type 0
-ImageWritten = (t : Tree) → IsDocument t → ((e : Error) → IsPast t e → ⊥) → Image t (image_bytes t)
 
 -- bytes with a fault are the archive of no document
 abbrev pub FaultRefuses : Type 0
@@ -68,15 +58,6 @@ EditKeepsAccepted =
     → IsLeaf new
     → outcome t path new ≡ Done
     → Accepted (written_at bytes path new) (change t path new)
-
--- and where they were an image, they are one
-abbrev pub EditKeepsImage : Type 0
-EditKeepsImage =
-    (bytes : List ℕ) (t : Tree) (path : List Step) (new : Leaf)
-    → Image t bytes
-    → IsLeaf new
-    → outcome t path new ≡ Done
-    → Image (change t path new) (written_at bytes path new)
 
 -- two edits at different paths may be done in either order
 pub record EitherOrder (bytes : List ℕ) (t : Tree) (path other : List Step) (l m : Leaf) : Type 0 where

@@ -1,10 +1,6 @@
 pub mod Bytes
 pub mod Node
-pub mod Hash
 pub mod Denotes
-pub mod Limits
-pub mod Image
-pub mod Written
 pub mod ArchiveFault
 pub mod Laws
 pub mod Fields

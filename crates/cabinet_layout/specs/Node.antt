@@ -1,5 +1,5 @@
 -- The layout of a document's node: 24 bytes, aligned to 8; a tag byte, and by the tag a payload at its alignment.
-use Rattle.std.specs.Prelude.{ℕ, ◌+◌, ◌-◌, ◌*◌, ◌/◌, true, false, List, [], ◌∷◌, Option, Some, None}
+use Rattle.std.specs.Prelude.{ℕ, ◌+◌, ◌-◌, ◌*◌, ◌/◌, true, false, List, [], ◌∷◌, Option, unwrap_or}
 use Rattle.std.specs.Int.{w64}
 use Rattle.archive_shape_layout.specs.Bytes.{word_at, target_from}
 use Rattle.archive_shape_layout.specs.Shape.{Shape, Shapes}
@@ -48,13 +48,9 @@ target_of_list bytes pos = target_from (pos + 4) (word_at bytes (pos + 4))
 abbrev pub len_of_list : List ℕ → ℕ → ℕ
 len_of_list bytes pos = word_at bytes (pos + 8)
 
-abbrev pub or_zero : Option ℕ → ℕ
-or_zero None = 0
-or_zero (Some n) = n
-
 -- where the elements of the list at a position begin
 abbrev pub elements_at : List ℕ → ℕ → ℕ
-elements_at bytes pos = or_zero (target_of_list bytes pos)
+elements_at bytes pos = unwrap_or (target_of_list bytes pos) 0
 
 -- where the node lies that a path leads to, from the node at a position
 abbrev pub node_position : List ℕ → ℕ → List Step → ℕ

@@ -1,8 +1,8 @@
-//! The archives of documents: their definitions, and the laws that reading, saving and editing rest on.
+//! The archives of documents: their definitions, and the laws that reading and editing rest on.
 #![tactic(auto)]
 
 ghost use Rattle.cabinet_layout.specs.Fields.{AcceptedByFields};
-ghost use Rattle.cabinet_layout.specs.Laws.{OneDocument, OneImage, ImageWritten, FaultRefuses, OneFault, OwnBytesWithin, OwnBytesApart, EditKeepsAccepted, EditKeepsImage, EditsInEitherOrder, RootPositions};
+ghost use Rattle.cabinet_layout.specs.Laws.{OneDocument, FaultRefuses, OneFault, OwnBytesWithin, OwnBytesApart, EditKeepsAccepted, EditsInEitherOrder, RootPositions};
 
 /// What the fields of nodes say is what the layout accepts.
 pub fn accepted_by_fields()
@@ -12,16 +12,6 @@ pub fn accepted_by_fields()
 /// Bytes are the archive of one document at most.
 pub fn one_document()
     ensures { OneDocument }
-{}
-
-/// A document has one image.
-pub fn one_image()
-    ensures { OneImage }
-{}
-
-/// A document within the limits of archives has an image.
-pub fn image_written()
-    ensures { ImageWritten }
 {}
 
 /// Bytes with a fault are the archive of no document.
@@ -47,11 +37,6 @@ pub fn own_bytes_apart()
 /// An edit leaves an archive of the document with the new leaf.
 pub fn edit_keeps_accepted()
     ensures { EditKeepsAccepted }
-{}
-
-/// An edit of an image leaves the image of the document with the new leaf.
-pub fn edit_keeps_image()
-    ensures { EditKeepsImage }
 {}
 
 /// Two edits at different paths give the same bytes and the same document in either order.

@@ -4,6 +4,3 @@ pub mod NodesThere
 pub mod ListElements
 pub mod Paths
 pub mod SetOutcomes
-pub mod Fresh
-pub mod ElementBytes
-pub mod Limits

@@ -8,7 +8,7 @@ use Rattle.cabinet_text.specs.Answering.{outcome, outcome_there}
 use Rattle.cabinet_text.specs.View.{lent_leaf}
 use Rattle.cabinet_text.specs.declared.answer.SetAnswer.TheVariants.{Done, Missing, Refused}
 use Rattle.cabinet_layout.specs.Denotes.{Accepted}
-use Rattle.cabinet_layout.specs.Image.{own_offset, own_bytes}
+use Rattle.cabinet_layout.specs.Bytes.{own_offset, own_bytes}
 use Rattle.cabinet_layout.proofs.Roots.{accepted_says}
 use Rattle.cabinet_layout.proofs.Frames.{own_bytes_short}
 use Rattle.cabinet_layout.proofs.Edits.{fits_document}

@@ -2,14 +2,14 @@
 ghost use Rattle.std.specs.Prelude.{◌≡◌, ◌+◌, ◌≤◌, length};
 ghost use Rattle.archive_shape_references.specs.Bytes.{overwrite};
 ghost use Rattle.cabinet_text.specs.View.{lent_leaf};
-ghost use Rattle.cabinet_layout.specs.Image.{own_offset, own_bytes};
+ghost use Rattle.cabinet_layout.specs.Bytes.{own_offset, own_bytes};
 
 use archive_shape_portable::ArchivedI64;
 use archive_shape_references::{Seal, Str};
 use cabinet_text::LeafRef;
 
 /// Writes the own bytes of a leaf into the node at a position.
-pub(crate) fn write_own(bytes: &mut [u8], node: usize, leaf: LeafRef<'_>)
+pub fn write_own(bytes: &mut [u8], node: usize, leaf: LeafRef<'_>)
     requires { node + own_offset (lent_leaf leaf) + length (own_bytes (lent_leaf leaf)) ≤ length bytes.old }
     ensures { bytes.new ≡ overwrite bytes.old (node + own_offset (lent_leaf leaf.entry)) (own_bytes (lent_leaf leaf.entry)) }
 {

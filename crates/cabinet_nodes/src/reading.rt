@@ -6,5 +6,4 @@ mod node;
 
 pub use finding::{Found, find};
 pub use list::Elements;
-pub(crate) use node::NODE_SIZE;
-pub use node::{NodeRef, check_root};
+pub use node::{NODE_SIZE, NodeRef, check_root};

@@ -1,7 +1,8 @@
 //! Nodes of archives: written, checked, found and edited.
 use archive_shape_writing::Error;
-use cabinet_nodes::{NodeRef, check_root, find, is_past_limits, set_at, write_root};
+use cabinet_nodes::{NodeRef, check_root, find, set_at};
 use cabinet_text::{Leaf, LeafRef, SetAnswer, Step, read_text};
+use cabinet_writing::{is_past_limits, write_root};
 use std::alloc::Global;
 use std::test::Fail;
 

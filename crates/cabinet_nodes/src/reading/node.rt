@@ -12,7 +12,7 @@ use archive_shape_writing::Error;
 use cabinet_text::LeafRef;
 
 /// The size of a node in bytes.
-pub(crate) const NODE_SIZE: usize = 24;
+pub const NODE_SIZE: usize = 24;
 
 /// The tag of a list.
 const LIST: u8 = 5;

@@ -1,6 +1,6 @@
 use Rattle.std.proofs.Common.{◌≡◌, ◌≤◌, ◌++◌, length, subst, sym, ap, ◌∙◌, refl, arith, rules}
-use Rattle.cabinet_layout.specs.Image.{Image}
-use Rattle.cabinet_layout.proofs.Images.{accepted_of}
+use Rattle.cabinet_images.specs.Image.{Image}
+use Rattle.cabinet_images.proofs.Images.{accepted_of}
 use Rattle.cabinet.proofs.WorkedAnswers.{works, whole_back, accepted_is_ok}
 use Rattle.cabinet.proofs.working.work.Goals as goal
 

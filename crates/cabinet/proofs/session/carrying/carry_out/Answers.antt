@@ -10,3 +10,6 @@ returns-after-eq-clause-edited g c =
     let e = c.set-outcome.ensures in
     let s : option_map line_of c.args.said.now ≡ Some (set (path_of c.deref.result.now) (leaf_of c.in-Some-Set.leaf)) = search rules in
     edited_by_set _ _ (path_of c.deref.result.now) (leaf_of c.in-Some-Set.leaf) _ c.set-outcome.result s e.answer e.bytes e.document e.image
+
+pub returns-after-eq-clause-edits_counted : goal.returns-after-eq-clause-edits_counted
+returns-after-eq-clause-edits_counted g c = search rules

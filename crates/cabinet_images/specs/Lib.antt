@@ -1,0 +1,5 @@
+pub mod Hash
+pub mod Limits
+pub mod Image
+pub mod Written
+pub mod Laws
