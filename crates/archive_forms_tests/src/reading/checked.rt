@@ -24,3 +24,11 @@ pub fn checked<T: CheckBytes<NarrowContext>>(
     T::check(alloc, bytes, pos, &mut context)?;
     Ok(Ref::new(bytes, pos))
 }
+
+/// Where a value that was found stands.
+pub fn position<T>(found: Option<Ref<'_, T>>) -> Option<usize> {
+    match found {
+        Some(value) => Some(value.pos()),
+        None => None,
+    }
+}

@@ -1,56 +1,48 @@
 //! Tests of the reading of options.
-use super::checked::checked;
+use super::checked::{checked, position};
 use archive_forms_reading::ArchivedOption;
 use archive_shape::{ArchivedU16, Ref, Seal};
 use std::test::Fail;
 
 #[test]
-fn value_of_an_option_stands_behind_its_tag(rt: HostRuntime) -> Result<(), Fail> {
-    let rows = [
-        (*b"\0\0\x05\0", None),
-        (*b"\0\x01\x01\x01", None),
-        (*b"\x01\0\x05\0", Some(2)),
-    ];
-    for (bytes, value) in rows {
-        let option = checked::<ArchivedOption<ArchivedU16>>(rt.alloc(), &bytes, 0)?;
-        assert_eq!(rt; ArchivedOption::is_none(option), value.is_none(), "{bytes:?}");
-        assert_eq!(rt; ArchivedOption::is_some(option), value.is_some(), "{bytes:?}");
-        assert_eq!(rt; ArchivedOption::as_ref(option).map(|r| r.pos()), value, "{bytes:?}");
-        assert_eq!(rt;
-            ArchivedOption::ok_or(option, 7).map(|r| r.pos()),
-            value.ok_or(7),
-            "{bytes:?}"
-        );
-        let other = Ref::new(&bytes, 0);
-        assert_eq!(rt; ArchivedOption::unwrap_or(option, other).pos(), value.unwrap_or(0));
-        assert_eq!(rt;
-            ArchivedOption::unwrap_or_else(option, || other).pos(),
-            value.unwrap_or(0)
-        );
-    }
+fn value_of_an_option_stands_at_its_alignment(rt: HostRuntime) -> Result<(), Fail> {
+    let some = checked::<ArchivedOption<ArchivedU16>>(rt.alloc(), b"\x01\0\x05\0", 0)?;
+    assert!(rt; ArchivedOption::is_some(some));
+    assert_eq!(rt; position(ArchivedOption::as_ref(some)), Some(2));
+    let none = checked::<ArchivedOption<ArchivedU16>>(rt.alloc(), b"\0\x01\x05\x01", 0)?;
+    assert!(rt; ArchivedOption::is_none(none));
+    assert_eq!(rt; position(ArchivedOption::as_ref(none)), None);
+    Ok(())
+}
+
+#[test]
+fn another_value_stands_for_none(rt: HostRuntime) -> Result<(), Fail> {
+    let other = Ref::new(b"..", 0);
+    let none = checked::<ArchivedOption<u8>>(rt.alloc(), b"\0\x05", 0)?;
+    assert_eq!(rt; ArchivedOption::ok_or(none, 7).err(), Some(7));
+    assert_eq!(rt; ArchivedOption::unwrap_or(none, other).pos(), 0);
+    assert_eq!(rt; ArchivedOption::unwrap_or_else(none, || other).pos(), 0);
+    Ok(())
+}
+
+#[test]
+fn value_goes_before_another(rt: HostRuntime) -> Result<(), Fail> {
+    let other = Ref::new(b"..", 0);
+    let some = checked::<ArchivedOption<u8>>(rt.alloc(), b"\x01\x05", 0)?;
+    assert!(rt; ArchivedOption::ok_or(some, 7).is_ok());
+    assert_eq!(rt; ArchivedOption::unwrap_or(some, other).pos(), 1);
+    assert_eq!(rt; ArchivedOption::unwrap_or_else(some, || other).pos(), 1);
     Ok(())
 }
 
 #[test]
 fn item_of_an_option_comes_once(rt: HostRuntime) -> Result<(), Fail> {
-    let some = checked::<ArchivedOption<u8>>(rt.alloc(), b"..\x01\x05", 2)?;
+    let some = checked::<ArchivedOption<u8>>(rt.alloc(), b"\x01\x05", 0)?;
     let mut items = ArchivedOption::iter(some);
     assert_eq!(rt; items.len(), 1);
-    assert_eq!(rt; items.next().map(|r| r.pos()), Some(3));
+    assert_eq!(rt; position(items.next()), Some(1));
     assert_eq!(rt; items.len(), 0);
-    assert!(rt; items.next().is_none());
-    let mut back = ArchivedOption::iter(some);
-    assert_eq!(rt; back.next_back().map(|r| r.pos()), Some(3));
-    assert!(rt; back.next_back().is_none());
-    Ok(())
-}
-
-#[test]
-fn value_that_is_there_is_unwrapped(rt: HostRuntime) -> Result<(), Fail> {
-    let option = checked::<ArchivedOption<u8>>(rt.alloc(), b"\x01\x05", 0)?;
-    if ArchivedOption::is_some(option) {
-        assert_eq!(rt; ArchivedOption::unwrap(option).pos(), 1);
-    }
+    assert_eq!(rt; position(items.next_back()), None);
     Ok(())
 }
 
@@ -58,7 +50,9 @@ fn value_that_is_there_is_unwrapped(rt: HostRuntime) -> Result<(), Fail> {
 fn value_of_an_option_is_edited(rt: HostRuntime) -> Result<(), Fail> {
     let mut bytes = *b"\x01\x05";
     checked::<ArchivedOption<u8>>(rt.alloc(), &bytes, 0)?;
-    let value = ArchivedOption::<u8>::as_seal(Seal::new(&mut bytes, 0));
-    assert_eq!(rt; value.map(|seal| seal.pos()), Some(1));
+    match ArchivedOption::<u8>::as_seal(Seal::new(&mut bytes, 0)) {
+        Some(value) => assert_eq!(rt; value.pos(), 1),
+        None => assert!(rt; false),
+    }
     Ok(())
 }
