@@ -56,3 +56,13 @@ fn value_of_an_option_is_edited(rt: HostRuntime) -> Result<(), Fail> {
     }
     Ok(())
 }
+
+#[test]
+#[tactic(auto, using(archive_forms_reading::proofs::Payloads::has_some))]
+fn value_that_is_there_is_unwrapped(rt: HostRuntime) -> Result<(), Fail> {
+    let option = checked::<ArchivedOption<u8>>(rt.alloc(), b"\x01\x05", 0)?;
+    if ArchivedOption::is_some(option) {
+        assert_eq!(rt; ArchivedOption::unwrap(option).pos(), 1);
+    }
+    Ok(())
+}

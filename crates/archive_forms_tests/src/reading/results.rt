@@ -31,3 +31,13 @@ fn error_of_a_result_is_no_value(rt: HostRuntime) -> Result<(), Fail> {
     );
     Ok(())
 }
+
+#[test]
+#[tactic(auto, using(archive_forms_reading::proofs::Payloads::has_ok))]
+fn value_of_a_result_is_unwrapped(rt: HostRuntime) -> Result<(), Fail> {
+    let result = checked::<ArchivedResult<u8, u8>>(rt.alloc(), b"\0\x05", 0)?;
+    if ArchivedResult::is_ok(result) {
+        assert_eq!(rt; ArchivedResult::unwrap(result).pos(), 1);
+    }
+    Ok(())
+}
