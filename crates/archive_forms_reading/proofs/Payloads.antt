@@ -45,6 +45,12 @@ payload_of {tag} h = record { payload = h.part; is = made_tagged tag _ _ h.is_ma
 
 -- ---- options
 
+-- what is not none is some value
+pub has_some : {s : Shape} {knows : Names → Type 0} {bytes : List ℕ} {pos : ℕ} → HasValue (option s) knows bytes pos → IsSomeAt s knows bytes pos → HasSome s knows bytes pos
+has_some {s} {knows} {bytes} {pos} h there =
+    let one = there h.value h.held in
+    record { payload = one.payload; held = subst (HeldAt (option s) knows bytes pos) one.is h.held }
+
 module _ (s : Shape) (knows : Names → Type 0) (bytes : List ℕ) (pos : ℕ) (align : ℕ) (is : align ≡ align_of s) (positive : 0 < align) where
   -- where the value stands
   pub some_stands : some_position s pos ≡ pos + align
@@ -88,6 +94,12 @@ module _ (s : Shape) (knows : Names → Type 0) (bytes : List ℕ) (pos : ℕ) (
       cc
 
 -- ---- results
+
+-- what is no error is a value
+pub has_ok : {s t : Shape} {knows others : Names → Type 0} {bytes : List ℕ} {pos : ℕ} → HasValue (result s t) (both knows others) bytes pos → IsOkAt s t knows others bytes pos → HasOk s t knows others bytes pos
+has_ok {s} {t} {knows} {others} {bytes} {pos} h there =
+    let one = there h.value h.held in
+    record { payload = one.payload; held = subst (HeldAt (result s t) (both knows others) bytes pos) one.is h.held }
 
 module _ (s t : Shape) (knows others : Names → Type 0) (bytes : List ℕ) (pos : ℕ) (align : ℕ) (h : Payloads s t align) where
   -- where the value or the error stands

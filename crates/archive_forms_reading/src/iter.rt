@@ -50,7 +50,7 @@ impl<P: Drop> DoubleEndedIterator for Iter<P> {
     ghost next_back_gives = { YieldsLast option_to_list };
 
     fn next_back(&mut self) -> Option<P> {
-        self.item.take()
+        self.next()
     }
 }
 

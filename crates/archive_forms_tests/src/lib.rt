@@ -6,4 +6,6 @@ mod checking;
 #[cfg(test)]
 mod narrow_context;
 #[cfg(test)]
+mod reading;
+#[cfg(test)]
 mod text;

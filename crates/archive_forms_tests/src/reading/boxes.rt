@@ -1,0 +1,20 @@
+//! Tests of the reading of boxes.
+use super::checked::checked;
+use archive_forms_reading::ArchivedBox;
+use archive_shape::{ArchivedU16, Seal};
+use std::test::Fail;
+
+#[test]
+fn value_of_a_box_stands_at_its_offset(rt: HostRuntime) -> Result<(), Fail> {
+    let rows = [
+        (*b"\x05\0..\xfc\xff\xff\xff\x07\0..", 0),
+        (*b"\x05\0..\x04\0\0\0\x07\0..", 8),
+    ];
+    for (mut bytes, target) in rows {
+        let boxed = checked::<ArchivedBox<ArchivedU16>>(rt.alloc(), &bytes, 4)?;
+        assert_eq!(rt; ArchivedBox::get(boxed).pos(), target, "{bytes:?}");
+        let value = ArchivedBox::<ArchivedU16>::get_seal(Seal::new(&mut bytes, 4));
+        assert_eq!(rt; value.pos(), target);
+    }
+    Ok(())
+}
