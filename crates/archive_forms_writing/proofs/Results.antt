@@ -11,9 +11,9 @@ use Rattle.archive_shape_writing.specs.declared.error.Error.{Error}
 use Rattle.archive_forms_spelling.specs.State.{State}
 use Rattle.archive_forms_spelling.specs.Spelling.{Spelling, state_after}
 use Rattle.archive_forms_spelling.specs.Payloads.{payload_spelling}
-use Rattle.archive_forms_spelling.specs.Results.{result_spelling, result_payload_at, ok_spelling, err_spelling}
+use Rattle.archive_forms_spelling.specs.Results.{result_spelling, result_payload_at}
 use Rattle.archive_forms_spelling.specs.Serializing.{IsAt, CanResolve, Resolves}
-use Rattle.archive_forms_spelling.proofs.Results.{result_room, result_payload_first}
+use Rattle.archive_forms_spelling.proofs.Results.{result_room}
 use Rattle.archive_forms_writing.proofs.Joining.{payload_over, payload_place}
 use Rattle.archive_forms_writing.proofs.Laying.{Wrote, Stops}
 

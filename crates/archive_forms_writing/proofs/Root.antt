@@ -1,5 +1,5 @@
 -- What is written where nothing was written before is the one archive of a value.
-use Rattle.std.proofs.Common.{◌≡◌, ℕ, [], ◌∷◌, ◌++◌, ap, ◌∙◌, Ok, Err}
+use Rattle.std.proofs.Common.{ℕ, [], ◌∷◌, ◌++◌, ap, ◌∙◌, Ok, Err}
 use Rattle.std.specs.Prelude.{Result, OnOk}
 use Rattle.archive_shape_layout.specs.Shape.{Shape}
 use Rattle.archive_shape_layout.specs.Content.{Names}

@@ -1,4 +1,3 @@
-use Rattle.std.proofs.Common.{◌≡◌}
 use Rattle.archive_shape_writing.specs.Writing.{WriterMembers}
 use Rattle.archive_forms_writing.proofs.Results.{value_wrote, value_stopped, error_wrote, error_stopped}
 use Rattle.archive_forms_writing.proofs.result.serialize_result_each.Goals as goal
