@@ -1,7 +1,7 @@
 -- Pieces that calls write, one after the other.
-use Rattle.std.proofs.Common.{◌≡◌, ℕ, List, ◌++◌, sym, ap, subst, ◌∙◌, inl, inr, ◌⊎◌, Ok, Err, refl}
+use Rattle.std.proofs.Common.{◌≡◌, ℕ, List, ◌++◌, sym, subst, ◌∙◌, inl, inr, ◌⊎◌, Ok, Err, refl}
 use Rattle.std.specs.Prelude.{Result}
-use Rattle.archive_shape_writing.specs.Writing.{WriterMembers, Cut, Written, Failed, Writes}
+use Rattle.archive_shape_writing.specs.Writing.{WriterMembers, Written, Failed, Writes}
 use Rattle.archive_shape_writing.specs.declared.error.Error.{Error}
 use Rattle.archive_shape_writing.specs.declared.error.Error.TheVariants.{OutOfMemory}
 use Rattle.archive_shape_writing.proofs.Joined.{cut_none, cut_first, cut_after, written_both, failed_first, failed_after}

@@ -1,5 +1,5 @@
 -- A region of elements that is written behind their data.
-use Rattle.std.proofs.Common.{◌≡◌, ℕ, ◌+◌, ◌-◌, ◌^◌, ◌≤◌, ◌<◌, List, [], ◌∷◌, ◌++◌, refl, sym, ap, subst, ◌∙◌, arith, length, append-nil, append_assoc, length-append, inl, inr, ◌⊎◌}
+use Rattle.std.proofs.Common.{◌≡◌, ℕ, ◌+◌, ◌-◌, ◌^◌, ◌≤◌, ◌<◌, List, [], ◌∷◌, ◌++◌, refl, sym, ap, subst, ◌∙◌, arith, length, append-nil, append_assoc, inl, inr}
 use Rattle.std.specs.Prelude.{⊤}
 use Rattle.std.proofs.lemmas.List.{length-replicate}
 use Rattle.archive_shape_layout.specs.Bytes.{align_up}
@@ -8,10 +8,9 @@ use Rattle.archive_shape_layout.proofs.Framed.{le_align_up}
 use Rattle.archive_shape_canonical.specs.FirstFit.{first_fit}
 use Rattle.archive_shape_references.specs.Bytes.{zeros}
 use Rattle.archive_shape_writing.specs.Writing.{WriterMembers}
-use Rattle.archive_shape_writing.specs.Progress.{IsSame}
 use Rattle.archive_shape_writing.specs.declared.error.Error.{Error}
 use Rattle.archive_shape_writing.specs.declared.error.Error.TheVariants.{PositionTooLarge}
-use Rattle.archive_forms_spelling.specs.State.{State, Met, advanced}
+use Rattle.archive_forms_spelling.specs.State.{State, advanced}
 use Rattle.archive_forms_spelling.specs.Spelling.{Spelling, state_after}
 use Rattle.archive_forms_spelling.specs.Regions.{state_after_all, pieces, owns, pieces_fit, pieces_refused, placed_fits, placed_refused, owns_fit, owns_refused, region_at, region_piece, region_fits, region_refused}
 use Rattle.archive_forms_spelling.specs.Serializing.{IsAt, is_begun, progress_by}

@@ -1,5 +1,5 @@
 -- What a step that writes the data of an element has to promise, where a form calls it for its elements.
-use Rattle.std.specs.Prelude.{◌≡◌, ℕ, ◌-◌, ◌^◌, ◌<◌, List, Result, length, get_or, Option, Some, None, [], ◌∷◌}
+use Rattle.std.specs.Prelude.{◌≡◌, ℕ, ◌-◌, ◌^◌, ◌<◌, List, Result, length, get_or, Option, Some, None, Ok, Err, [], ◌∷◌}
 use denote.Ref.{MutBor}
 use denote.Bor.{Bor}
 use denote.Param.Members.{Shared}
@@ -16,6 +16,15 @@ IsElement items x = (i : ℕ) × (i < length items) × (x ≡ get_or items i x)
 abbrev pub elements_of : {A : Type 0} → Option A → List A
 elements_of None = []
 elements_of (Some x) = x ∷ []
+
+-- the value of a result, if it has one, and its error, if it has one
+abbrev pub values_of : {A B : Type 0} → Result A B → List A
+values_of (Ok x) = x ∷ []
+values_of (Err y) = []
+
+abbrev pub errors_of : {A B : Type 0} → Result A B → List B
+errors_of (Ok x) = []
+errors_of (Err y) = y ∷ []
 
 module _ {F A S Q : Type 0} (call : Shared F (Bor A × (MutBor S × Unit {0})) (Result Q Error × (MutBor S × Unit {0}))) where
   -- it may be called for each of the elements

@@ -1,4 +1,4 @@
-use Rattle.std.proofs.Common.{arith, ◌≡◌, ◌+◌, ◌<◌, ◌≤◌, ℕ, length, ap, ◌∙◌}
+use Rattle.std.proofs.Common.{arith, ◌≡◌, length, ap, ◌∙◌}
 use Rattle.archive_forms_writing.proofs.Loops.{next_of, none_left, length-resolvers, placed_none, placed_next, placed_stopped, placed_all, next_made}
 use Rattle.archive_forms_writing.proofs.elements.resolve_items.Goals as goal
 

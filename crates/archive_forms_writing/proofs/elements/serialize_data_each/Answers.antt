@@ -1,4 +1,4 @@
-use Rattle.std.proofs.Common.{arith, ◌≡◌, ◌+◌, ◌<◌, ◌-◌, ◌^◌, List, sym, ap, ◌∙◌, ◌∷◌, refl, subst, Bool, true, false, ◌++◌, [], if◌then◌else◌}
+use Rattle.std.proofs.Common.{arith, ◌≡◌, ◌+◌, List, sym, ap, ◌∙◌, ◌∷◌, refl, subst, Bool, true, false, ◌++◌, [], if◌then◌else◌}
 use Rattle.archive_forms_writing.proofs.Loops.{Reached, next_of, none_left, reached_none, reached_next, reached_stopped, reached_memory, reached_all}
 use Rattle.archive_forms_writing.proofs.elements.serialize_data_each.Goals as goal
 

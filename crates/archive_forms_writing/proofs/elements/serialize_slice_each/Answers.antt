@@ -1,4 +1,4 @@
-use Rattle.std.proofs.Common.{arith, ◌≡◌, ◌+◌, ◌<◌, ◌≤◌, ◌-◌, ◌^◌, ◌∙◌}
+use Rattle.std.proofs.Common.{arith, ◌∙◌}
 use Rattle.archive_shape_writing.specs.Writing.{WriterMembers}
 use Rattle.archive_forms_writing.proofs.Regions.{Filled, padded, region_starts, region_data_stopped, region_gap_stopped, region_far, region_owns_stopped, region_written}
 use Rattle.archive_forms_writing.proofs.elements.serialize_slice_each.Goals as goal

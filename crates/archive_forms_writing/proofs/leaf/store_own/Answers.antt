@@ -1,4 +1,4 @@
-use Rattle.std.proofs.Common.{rules, arith, ◌<◌, subst}
+use Rattle.std.proofs.Common.{arith, subst}
 use Rattle.archive_forms_spelling.specs.Spells.{AreBytes}
 use Rattle.archive_forms_writing.proofs.leaf.store_own.Goals as goal
 

@@ -1,4 +1,4 @@
-use Rattle.std.proofs.Common.{rules, arith, ◌≡◌, ℕ, ◌≤◌, ◌<◌, take, replicate, List, subst}
+use Rattle.std.proofs.Common.{arith, ◌≡◌, ℕ, take, List, subst}
 use Rattle.std.proofs.lemmas.List.{take-replicate}
 use Rattle.archive_shape_writing.specs.Writing.{Appends}
 use Rattle.archive_shape_references.specs.Bytes.{zeros}

@@ -1,0 +1,115 @@
+//! Results.
+ghost use Rattle.std.specs.Prelude.{◌≡◌, ℕ, ◌+◌, ◌-◌, ◌^◌, ◌<◌, ◌≤◌};
+ghost use Rattle.archive_shape_layout.specs.Shape.Shape.{result as result_shape};
+ghost use Rattle.archive_forms_spelling.specs.Results.{result_spelling};
+ghost use Rattle.archive_forms_spelling.specs.Serializing.{CanResolve, HasState, Resolves, Serializes, SerializesBy};
+ghost use Rattle.archive_forms_spelling.proofs.Results.{result_spells};
+ghost use Rattle.archive_forms_spelling.proofs.Views.{known_spells};
+ghost use Rattle.archive_forms_writing.specs.Steps.{StepTakes, StepWrites, values_of, errors_of};
+
+use crate::elements::serialize_element;
+use crate::{Archive, Serialize};
+use archive_forms_reading::ArchivedResult;
+use archive_shape::{Allocator, Error, Place, Portable, Writer};
+use std::marker::PhantomData;
+
+impl<T: Archive, E: Archive> Archive for Result<T, E> {
+    type Archived = ArchivedResult<T::Archived, E::Archived>;
+
+    type Resolver = Result<T::Resolver, E::Resolver>;
+
+    ghost spelling = { result_spelling T.Archived.shape E.Archived.shape T.spelling E.spelling };
+
+    fn resolve(
+        &self,
+        resolver: Result<T::Resolver, E::Resolver>,
+        out: Place<'_, ArchivedResult<T::Archived, E::Archived>>,
+    ) -> Result<(), Error>
+        requires { CanResolve (result_spelling T.Archived.shape E.Archived.shape T.spelling E.spelling) (result_shape T.Archived.shape E.Archived.shape) self.now resolver out.out.now out.start out.pos }
+        ensures { Resolves (result_spelling T.Archived.shape E.Archived.shape T.spelling E.spelling) self.now resolver out.entry.pos out.entry.start out.entry.out.now out.exit.0.now result }
+    {
+        let Place {
+            out,
+            start,
+            pos,
+            ..
+        } = out;
+        let offset = <ArchivedResult<T::Archived, E::Archived> as Portable>::ALIGN;
+        match self {
+            Ok(value) => {
+                let Ok(kept) = resolver else {
+                    return Ok(());
+                };
+                out[start] = 0;
+                return value.resolve(kept, Place::within(out, start + offset, pos + offset));
+            }
+            Err(error) => {
+                let Err(kept) = resolver else {
+                    return Ok(());
+                };
+                out[start] = 1;
+                return error.resolve(kept, Place::within(out, start + offset, pos + offset));
+            }
+        }
+    }
+
+    ghost spells = { λ fit. result_spells fit T.Archived.shape E.Archived.shape (λ names. T.Archived.knows names × E.Archived.knows names) T.spelling E.spelling
+        (known_spells fit T.Archived.shape T.Archived.knows (λ names. T.Archived.knows names × E.Archived.knows names) (λ _ k. k.0) T.spelling (T.spells fit))
+        (known_spells fit E.Archived.shape E.Archived.knows (λ names. T.Archived.knows names × E.Archived.knows names) (λ _ k. k.1) E.spelling (E.spells fit)) };
+}
+
+/// Writes the data of the value of a result by a step, and that of its error by another.
+pub fn serialize_result_each<
+    T: Archive,
+    E: Archive,
+    S: Writer + Allocator,
+    F: Fn(&T, &mut S) -> Result<(T::Resolver, PhantomData<T::Archived>), Error>,
+    G: Fn(&E, &mut S) -> Result<(E::Resolver, PhantomData<E::Archived>), Error>,
+>(
+    outcome: &Result<T, E>,
+    serializer: &mut S,
+    step: F,
+    step_of_error: G,
+) -> Result<Result<T::Resolver, E::Resolver>, Error>
+    requires room { S.failures serializer.old < 2 ^ 64 - 1 }
+    requires state { HasState S.pos S.known serializer.old }
+    requires takes { StepTakes F.Fn S.Writer step (values_of outcome.now) }
+    requires writes { StepWrites F.Fn (λ q. q.0) T.spelling S.Writer step }
+    requires takes_errors { StepTakes G.Fn S.Writer step_of_error (errors_of outcome.now) }
+    requires writes_errors { StepWrites G.Fn (λ q. q.0) E.spelling S.Writer step_of_error }
+    ensures { Serializes (result_spelling T.Archived.shape E.Archived.shape T.spelling E.spelling) S.Writer outcome.now serializer.old serializer.new result }
+{
+    match outcome {
+        Ok(value) => match step(value, serializer) {
+            Ok(done) => Ok(Ok(done.0)),
+            Err(e) => Err(e),
+        },
+        Err(error) => match step_of_error(error, serializer) {
+            Ok(done) => Ok(Err(done.0)),
+            Err(e) => Err(e),
+        },
+    }
+}
+
+impl<S: Writer + Allocator, T: Serialize<S>, E: Serialize<S>> Serialize<S> for Result<T, E> {
+    fn serialize(&self, serializer: &mut S) -> Result<Result<T::Resolver, E::Resolver>, Error> {
+        serialize_result_each::<T, E, S, _, _>(
+            self,
+            serializer,
+            |item: &T, s: &mut S| -> Result<(T::Resolver, PhantomData<T::Archived>), Error>
+                requires room { S.failures s.old < 2 ^ 64 - 1 }
+                requires state { HasState S.pos S.known s.old }
+                ensures { SerializesBy (λ q. q.0) T.spelling S.Writer item.now s.old s.new result }
+            {
+                serialize_element(item, s)
+            },
+            |item: &E, s: &mut S| -> Result<(E::Resolver, PhantomData<E::Archived>), Error>
+                requires room { S.failures s.old < 2 ^ 64 - 1 }
+                requires state { HasState S.pos S.known s.old }
+                ensures { SerializesBy (λ q. q.0) E.spelling S.Writer item.now s.old s.new result }
+            {
+                serialize_element(item, s)
+            },
+        )
+    }
+}
