@@ -1,7 +1,8 @@
 //! Iterators over at most one item.
-ghost use Rattle.std.specs.Prelude.{◌≡◌, Option, length};
+ghost use Rattle.std.specs.Prelude.{◌≡◌, IfSome, length};
 ghost use Rattle.std.specs.Option.{option_to_list};
-ghost use Rattle.std.specs.Iterator.{YieldsFirst, YieldsLast, item_count};
+ghost use Rattle.std.specs.Iterator.{YieldsFirst, YieldsLast, UpTo, item_count};
+ghost use Rattle.std.specs.Iterator.SizeHint.{IsExactHint, IsWithinCount};
 
 use std::iter::FusedIterator;
 use std::marker::Model;
@@ -40,7 +41,11 @@ impl<P: Drop> Iterator for Iter<P> {
         self.item.take()
     }
 
-    fn size_hint(&self) -> (usize, Option<usize>) {
+    fn size_hint(&self) -> (usize, Option<usize>)
+        ensures lower { IsWithinCount result.0 (item_count option_to_list self.now) }
+        ensures upper { IfSome result.1 (UpTo (item_count option_to_list self.now)) }
+        ensures exact { IsExactHint result (length (option_to_list self.now)) }
+    {
         let len = self.len();
         (len, Some(len))
     }
@@ -55,9 +60,7 @@ impl<P: Drop> DoubleEndedIterator for Iter<P> {
 }
 
 impl<P: Drop> ExactSizeIterator for Iter<P> {
-    fn len(&self) -> usize
-        ensures { result ≡ length (option_to_list self.now) }
-    {
+    fn len(&self) -> usize {
         if self.item.is_some() { 1 } else { 0 }
     }
 }

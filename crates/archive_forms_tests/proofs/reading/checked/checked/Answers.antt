@@ -1,4 +1,4 @@
-use Rattle.std.proofs.Common.{rules, ◌+◌, ◌≤◌, [], length, All, refl, arith, subst}
+use Rattle.std.proofs.Common.{rules, ◌+◌, ◌≤◌, [], length, All, refl, subst}
 use Rattle.archive_shape_layout.specs.Holds.{Region}
 use Rattle.archive_shape_layout.proofs.Rooted.{inside_high}
 use Rattle.archive_forms_tests.proofs.reading.checked.checked.Goals as goal
