@@ -8,6 +8,10 @@ ghost use Rattle.archive_forms_spelling.proofs.Leaves.{leaf_spells};
 
 use crate::{Archive, Serialize};
 use archive_shape::{Allocator, ArchivedLeaf, Error, LittleEndian, Native, Place, Portable, Writer};
+use std::num::{
+    NonZeroI8, NonZeroI16, NonZeroI32, NonZeroI64, NonZeroI128, NonZeroU8, NonZeroU16, NonZeroU32,
+    NonZeroU64, NonZeroU128,
+};
 
 /// A number, a truth value or a char.
 pub trait Leaf: Copy {
@@ -52,10 +56,90 @@ impl<S: Writer + Allocator, N: Leaf> Serialize<S> for N {
     }
 }
 
+impl Leaf for bool {
+    type Archived = bool;
+}
+
+impl Leaf for u8 {
+    type Archived = u8;
+}
+
+impl Leaf for i8 {
+    type Archived = i8;
+}
+
+impl Leaf for NonZeroU8 {
+    type Archived = NonZeroU8;
+}
+
+impl Leaf for NonZeroI8 {
+    type Archived = NonZeroI8;
+}
+
+impl Leaf for u16 {
+    type Archived = LittleEndian<u16>;
+}
+
 impl Leaf for u32 {
     type Archived = LittleEndian<u32>;
 }
 
-impl Leaf for bool {
-    type Archived = bool;
+impl Leaf for u64 {
+    type Archived = LittleEndian<u64>;
+}
+
+impl Leaf for u128 {
+    type Archived = LittleEndian<u128>;
+}
+
+impl Leaf for i16 {
+    type Archived = LittleEndian<i16>;
+}
+
+impl Leaf for i32 {
+    type Archived = LittleEndian<i32>;
+}
+
+impl Leaf for i64 {
+    type Archived = LittleEndian<i64>;
+}
+
+impl Leaf for i128 {
+    type Archived = LittleEndian<i128>;
+}
+
+impl Leaf for char {
+    type Archived = LittleEndian<char>;
+}
+
+impl Leaf for NonZeroU16 {
+    type Archived = LittleEndian<NonZeroU16>;
+}
+
+impl Leaf for NonZeroU32 {
+    type Archived = LittleEndian<NonZeroU32>;
+}
+
+impl Leaf for NonZeroU64 {
+    type Archived = LittleEndian<NonZeroU64>;
+}
+
+impl Leaf for NonZeroU128 {
+    type Archived = LittleEndian<NonZeroU128>;
+}
+
+impl Leaf for NonZeroI16 {
+    type Archived = LittleEndian<NonZeroI16>;
+}
+
+impl Leaf for NonZeroI32 {
+    type Archived = LittleEndian<NonZeroI32>;
+}
+
+impl Leaf for NonZeroI64 {
+    type Archived = LittleEndian<NonZeroI64>;
+}
+
+impl Leaf for NonZeroI128 {
+    type Archived = LittleEndian<NonZeroI128>;
 }
