@@ -10,6 +10,9 @@ use crate::{Archive, Serialize, align, resolve_aligned};
 use archive_shape::{Allocator, Error, Portable, Writer};
 use std::marker::PhantomData;
 
+/// The last position that an element may begin at.
+const LAST_POSITION: usize = u32::MAX as usize;
+
 /// The step of elements that can be archived by the serializer. A step's answer names the archived form, since a closure over
 /// `T` can be passed on only where its type does.
 pub(crate) fn serialize_element<T: Serialize<S>, S: Writer + Allocator>(
@@ -96,7 +99,7 @@ pub fn serialize_slice_each<
         Ok(to) => to,
         Err(e) => return Err(e),
     };
-    if to > u32::MAX as usize {
+    if to > LAST_POSITION {
         return Err(Error::PositionTooLarge);
     }
     match resolve_items(items, kept.as_slice(), serializer) {
@@ -126,7 +129,7 @@ pub fn serialize_one_each<
         Ok(to) => to,
         Err(e) => return Err(e),
     };
-    if to > u32::MAX as usize {
+    if to > LAST_POSITION {
         return Err(Error::PositionTooLarge);
     }
     match resolve_aligned(alloc, value, resolver, serializer) {

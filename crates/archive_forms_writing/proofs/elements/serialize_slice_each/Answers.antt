@@ -24,8 +24,8 @@ returns-in-Err-align g c = λ st at.
     let filled : Filled w sh s xs old st _ = record { wrote = all.0; is_at = all.1.2 } in
     region_gap_stopped w sh s xs old st _ _ _ _ aligned filled c.in-Err-align.ensures.writes
 
-pub returns-then-to : goal.returns-then-to
-returns-then-to g c = λ st at.
+pub returns-then-to-gt-LAST_POSITION : goal.returns-then-to-gt-LAST_POSITION
+returns-then-to-gt-LAST_POSITION g c = λ st at.
     let w = g.T.Archive.spelling in
     let sh = g.T.Archived.Portable.shape in
     let s : WriterMembers g.row.S.Denot = record { known = g.S.Registry.known; pos = g.S.Positional.pos; OBSERVABLE = g.S.Writer.OBSERVABLE; COUNTS = g.S.Writer.COUNTS; contents = g.S.Writer.contents; failures = g.S.Writer.failures; last_error = g.S.Writer.last_error } in
@@ -35,7 +35,7 @@ returns-then-to g c = λ st at.
     let all = c.in-Ok.ensures st at in
     let filled : Filled w sh s xs old st _ = record { wrote = all.0; is_at = all.1.2 } in
     let to = c.in-Ok-align.to in
-    region_far w sh s xs old st _ to (region_starts w sh s xs old st _ to _ aligned c.in-Ok-align.ensures.aligned filled) (omega (arith, c.if-to.true))
+    region_far w sh s xs old st _ to (region_starts w sh s xs old st _ to _ aligned c.in-Ok-align.ensures.aligned filled) (omega (arith, c.if-to-gt-LAST_POSITION.true))
     (padded w sh s xs old st _ _ _ aligned filled c.in-Ok-align.ensures.writes)
 
 pub resolve_items-requires-clause-made : goal.resolve_items-requires-clause-made
@@ -53,7 +53,7 @@ returns-in-Ok-resolve_items g c = λ st at.
     let filled : Filled w sh s xs old st _ = record { wrote = all.0; is_at = all.1.2 } in
     let to = c.in-Ok-align.to in
     let own = c.in-Ok-resolve_items.ensures st (c.as_slice.ensures.value ∙ all.1.0) in
-    let done = region_written w sh s xs old st _ _ to at.stands (region_starts w sh s xs old st _ to _ aligned c.in-Ok-align.ensures.aligned filled) (omega (arith, c.if-to.false))
+    let done = region_written w sh s xs old st _ _ to at.stands (region_starts w sh s xs old st _ to _ aligned c.in-Ok-align.ensures.aligned filled) (omega (arith, c.if-to-gt-LAST_POSITION.false))
     (padded w sh s xs old st _ _ _ aligned filled c.in-Ok-align.ensures.writes) all.1.1 own.0 own.1 in
     (done.wrote, (done.to_is, done.fits, done.is_at))
 
