@@ -54,6 +54,16 @@ module _ (bytes : List ℕ) (pos : ℕ) (there : HasText bytes pos) (own : List 
       let long : 8 < len = subst (λ n. 8 < n) (far.says ∙ sym length_says) far.long in
       text_from start len t (out_of_line first length_says long (ap (λ bs. target_from pos (word_at bs 4)) (sym is) ∙ leads)) e
 
+  -- where the bytes of a text inline stand, and where those of a text out of line
+  pub inline_start : IsInline (slice_index own 0) → (len : ℕ) × LiesAt bytes pos pos len
+  inline_start begins = (_, inline (subst (λ bs. IsInline (slice_index bs 0)) is begins) refl)
+
+  pub far_start : (start : ℕ) → (IsInline (slice_index own 0) → ⊥) → target_from pos (word_at own 4) ≡ Some start → (len : ℕ) × LiesAt bytes pos start len
+  far_start start begins leads =
+      let first : IsInline (slice_index (own_bytes bytes pos) 0) → ⊥ = subst (λ bs. IsInline (slice_index bs 0) → ⊥) is begins in
+      let far = stands_far bytes pos there.start there.len there.stands first in
+      (there.len, out_of_line first far.says far.long (ap (λ bs. target_from pos (word_at bs 4)) (sym is) ∙ leads))
+
   pub text_long : (n : ℕ) → n ≡ length_of own → (t : List ℕ) × IsText bytes pos t × (n ≡ length t)
   text_long n e =
       let within = there.within in

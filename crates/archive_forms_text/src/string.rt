@@ -2,11 +2,11 @@
 ghost use Rattle.std.specs.Prelude.{◌≡◌, ◌↔◌, List, ℕ, length, [], IsTrue, refl, ⊤};
 ghost use Rattle.std.proofs.Common.{lit<, lit≤};
 ghost use Rattle.archive_shape_layout.specs.Shape.Shape.{text};
-ghost use Rattle.archive_forms_layout.specs.Text.{HasText, IsText};
+ghost use Rattle.archive_forms_layout.specs.Text.{HasText, IsText, LiesAt};
 
 use crate::ArchivedStringRepr;
 use crate::repr::{before_filler, out_of_line_len, out_of_line_start, own_bytes};
-use archive_shape::{NoUndef, Portable, Ref, Shape};
+use archive_shape::{NoUndef, Portable, Ref, Seal, Shape, Str};
 use std::alloc::{AllocError, Global};
 
 /// An archived text.
@@ -43,6 +43,18 @@ impl Portable for ArchivedString {
     ghost known = { λ _ _. tt };
 }
 
+/// Where the text at `pos` has its bytes.
+fn start_of(bytes: &[u8], pos: usize) -> usize
+    requires { HasText bytes.now pos }
+    ensures { (len : ℕ) × LiesAt bytes.now pos result len }
+{
+    let own = own_bytes(bytes, pos);
+    if ArchivedStringRepr::is_inline(own) {
+        return pos;
+    }
+    out_of_line_start(own, pos).unwrap()
+}
+
 impl ArchivedString {
     /// The bytes of the text.
     pub fn as_bytes<'a>(this: Ref<'a, ArchivedString>) -> &'a [u8]
@@ -64,6 +76,18 @@ impl ArchivedString {
     {
         // What stands there is UTF-8.
         unsafe { std::str::from_utf8_unchecked(ArchivedString::as_bytes(this)) }
+    }
+
+    /// The text's bytes, as many as `len` tells. What the buffer is after the loan is not said.
+    pub fn as_str_seal<'a>(this: Seal<'a, ArchivedString>) -> Seal<'a, Str>
+        requires { HasText this.bytes.now this.pos }
+        ensures same_reference { result.bytes.ghost_name ≡ this.entry.bytes.ghost_name }
+        ensures bytes { result.bytes.now ≡ this.entry.bytes.now }
+        ensures text { (len : ℕ) × LiesAt this.entry.bytes.now this.entry.pos result.pos len }
+    {
+        let Seal { bytes, pos, .. } = this;
+        let start = start_of(bytes, pos);
+        Seal::new(bytes, start)
     }
 
     /// How many bytes the text has.

@@ -1,12 +1,15 @@
--- How vectors and boxes are archived, which own their elements.
-use Rattle.std.specs.Prelude.{Box, Vec}
+-- How vectors and boxes are archived, which own their elements, and texts, by their bytes.
+use Rattle.std.specs.Prelude.{ℕ, List, Box, String, Vec}
+use Rattle.std.specs.String.{string_bytes}
 use Rattle.std.specs.Global.{Global}
 use Rattle.archive_shape_layout.specs.Shape.{Shape}
 use Rattle.archive_forms_spelling.specs.Spelling.{Spelling}
 use Rattle.archive_forms_spelling.specs.Forms.{seen_as, kept_as}
 use Rattle.archive_forms_spelling.specs.Pointers.{slice_spelling, box_spelling}
+use Rattle.archive_forms_spelling.specs.Texts.{text_spelling}
 use Rattle.archive_forms_reading.specs.declared.resolving.BoxResolver.{BoxResolver}
 use Rattle.archive_forms_reading.specs.declared.resolving.VecResolver.{VecResolver}
+use Rattle.archive_forms_text.specs.declared.resolving.StringResolver.{StringResolver}
 
 -- a vector is archived as the list of its elements
 abbrev pub vec_spelling : {A R : Type 0} → Shape → Spelling A R → Spelling (Vec A Global) VecResolver
@@ -15,3 +18,11 @@ vec_spelling s w = kept_as (λ n. record { pos = n }) (λ r. r.pos) (seen_as (λ
 -- a box is archived as a pointer to its value
 abbrev pub boxed_spelling : {A R : Type 0} → Shape → Spelling A R → Spelling (Box A Global) BoxResolver
 boxed_spelling s w = kept_as (λ n. record { pos = n }) (λ r. r.pos) (seen_as (λ b. b.value) (box_spelling s w))
+
+-- a borrowed text is archived as its bytes
+abbrev pub str_spelling : Spelling (List ℕ) StringResolver
+str_spelling = kept_as (λ n. record { pos = n }) (λ r. r.pos) text_spelling
+
+-- and so is one that owns them
+abbrev pub string_spelling : Spelling (String Global) StringResolver
+string_spelling = seen_as string_bytes str_spelling

@@ -9,6 +9,7 @@ mod leaf;
 mod option;
 mod placing;
 mod result;
+mod string;
 mod unit;
 mod vector;
 
@@ -20,4 +21,5 @@ pub use leaf::Leaf;
 pub use option::serialize_option_each;
 pub use placing::{align, pad, resolve_aligned};
 pub use result::serialize_result_each;
+pub use string::serialize_from_str;
 pub use vector::serialize_vec_each;

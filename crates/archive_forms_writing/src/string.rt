@@ -1,0 +1,78 @@
+//! Texts.
+ghost use Rattle.std.specs.Prelude.{◌≡◌, ℕ, ◌+◌, ◌-◌, ◌^◌, ◌<◌, ⊤, refl};
+ghost use Rattle.std.specs.String.{string_bytes};
+ghost use Rattle.archive_shape_layout.specs.Shape.Shape.{text};
+ghost use Rattle.archive_forms_spelling.specs.Texts.{text_spelling};
+ghost use Rattle.archive_forms_spelling.specs.Serializing.{CanResolve, HasState, Resolves, Serializes};
+ghost use Rattle.archive_forms_spelling.proofs.Texts.{text_spells};
+ghost use Rattle.archive_forms_spelling.proofs.Views.{kept_spells, seen_spells};
+ghost use Rattle.archive_forms_writing.specs.Owned.{str_spelling, string_spelling};
+
+use crate::{Archive, Serialize};
+use archive_forms_text::{ArchivedString, ArchivedStringRepr, StringResolver};
+use archive_shape::{Allocator, Error, Place, Writer};
+
+impl Archive for String {
+    type Archived = ArchivedString;
+
+    type Resolver = StringResolver;
+
+    ghost spelling = { string_spelling };
+
+    fn resolve(
+        &self,
+        resolver: StringResolver,
+        out: Place<'_, ArchivedString>,
+    ) -> Result<(), Error>
+        requires { CanResolve string_spelling text self.now resolver out.out.now out.start out.pos }
+        ensures { Resolves string_spelling self.now resolver out.entry.pos out.entry.start out.entry.out.now out.exit.0.now result }
+    {
+        let Place {
+            out,
+            start,
+            pos,
+            ..
+        } = out;
+        ArchivedString::resolve_from_str(
+            self.as_str(),
+            resolver,
+            Place::within(out, start, pos),
+        )
+    }
+
+    ghost spells = { λ fit. seen_spells fit text (λ _. ⊤) string_bytes str_spelling
+        (kept_spells fit text (λ _. ⊤) _ _ (λ r. refl) text_spelling (text_spells fit (λ _. ⊤))) };
+}
+
+/// Writes the bytes of a text that does not stand inline. Refuses more than `ArchivedStringRepr::OUT_OF_LINE_CAPACITY` bytes
+/// with `StringTooLong`, and then a position past 2^32 - 1 with `PositionTooLarge`.
+pub fn serialize_from_str<S: Writer>(
+    value: &str,
+    serializer: &mut S,
+) -> Result<StringResolver, Error>
+    requires room { S.failures serializer.old < 2 ^ 64 - 1 }
+    requires state { HasState S.pos S.known serializer.old }
+    ensures { Serializes str_spelling S.Writer value.now serializer.old serializer.new result }
+{
+    let len = value.len();
+    if len <= ArchivedStringRepr::INLINE_CAPACITY {
+        return Ok(StringResolver { pos: 0 });
+    }
+    if len > ArchivedStringRepr::OUT_OF_LINE_CAPACITY {
+        return Err(Error::StringTooLong);
+    }
+    let pos = serializer.pos();
+    if pos > u32::MAX as usize {
+        return Err(Error::PositionTooLarge);
+    }
+    match serializer.write(value.as_bytes()) {
+        Ok(()) => Ok(StringResolver { pos }),
+        Err(e) => Err(e),
+    }
+}
+
+impl<S: Writer + Allocator> Serialize<S> for String {
+    fn serialize(&self, serializer: &mut S) -> Result<StringResolver, Error> {
+        serialize_from_str(self.as_str(), serializer)
+    }
+}
