@@ -1,0 +1,109 @@
+-- What is read back of leaves, options, boxes and vectors.
+use Rattle.std.proofs.Common.{◌≡◌, ℕ, Bool, true, false, if◌then◌else◌, suc, ◌+◌, ◌*◌, ◌<◌, List, [], ◌∷◌, ◌++◌, length, Some, None, refl, sym, ap, ap₂, subst, ◌∙◌, arith}
+use Rattle.std.specs.Prelude.{Box, Vec, ⊤}
+use Rattle.std.specs.Global.{Global}
+use Rattle.archive_shape_layout.specs.Shape.{Shape, size_of}
+use Rattle.archive_shape_layout.specs.Shape.Shape.{option, box, vector}
+use Rattle.archive_shape_layout.specs.Shape.Pointee.{sized}
+use Rattle.archive_shape_layout.specs.Value.{Value, Values, count_values}
+use Rattle.archive_shape_layout.specs.Value.Value.{chosen, group}
+use Rattle.archive_shape_layout.specs.Value.Values.{no_values, more_values}
+use Rattle.archive_shape_layout.specs.Content.{Names}
+use Rattle.archive_shape_layout.specs.Path.{value_in}
+use Rattle.archive_shape_canonical.specs.Sharing.{erased, all_erased}
+use Rattle.archive_shape.specs.Key.{HeldAt}
+use Rattle.archive_forms_spelling.specs.Spelling.{Spelling}
+use Rattle.archive_forms_spelling.specs.Options.{option_spelling}
+use Rattle.archive_forms_spelling.specs.Regions.{plain_values}
+use Rattle.archive_forms_reading.specs.Parts.{HasValue, IsNoneAt, IsSomeAt, some_position, IsBoxAt, IsVecAt, HasElements}
+use Rattle.archive_forms_writing.specs.Owned.{boxed_spelling, vec_spelling}
+use Rattle.archive_forms_deserializing.specs.Deserializing.{IsReadAt}
+
+-- ---- what the parts of a value are
+
+module _ (s : Shape) (knows : Names → Type 0) (bytes : List ℕ) (pos : ℕ) where
+  -- where an option is some value, there is one behind its tag
+  pub some_has : (at : ℕ) → at ≡ some_position s pos → IsSomeAt s knows bytes pos → HasValue (option s) knows bytes pos → HasValue s knows bytes at
+  some_has at e there h =
+      let p = there h.value h.held in record { value = p.payload; held = subst (λ n. HeldAt s knows bytes n p.payload) (sym e) p.held }
+
+  -- there is one where a box leads to
+  pub box_has : (to : ℕ) → IsBoxAt s knows bytes pos to → HasValue (box (sized s)) knows bytes pos → HasValue s knows bytes to
+  box_has to there h = record { value = h.value; held = there.value h.value h.held }
+
+  -- there are elements where a vector leads to
+  pub vec_has : (to len : ℕ) → IsVecAt s knows bytes pos to len → HasValue (vector s) knows bytes pos → HasElements s knows bytes to len
+  vec_has to len there h = record { value = h.value; stand = there.value h.value h.held }
+
+-- each of the elements has a value
+pub element_has : (s : Shape) (knows : Names → Type 0) (bytes : List ℕ) (to len i at : ℕ) → HasElements s knows bytes to len → i < len → at ≡ to + i * size_of s → HasValue s knows bytes at
+element_has s knows bytes to len i at h less e =
+    let x = h.stand.each i less in record { value = x.0; held = subst (λ n. HeldAt s knows bytes n x.0) (sym e) x.2 }
+
+-- ---- what is read of it
+
+module _ {A R : Type 0} (w : Spelling A R) (s : Shape) (knows : Names → Type 0) (bytes : List ℕ) where
+  pub none_read : (t : Shape) (pos : ℕ) → IsNoneAt s knows bytes pos → IsReadAt (option_spelling t w) (option s) knows bytes pos None
+  none_read t pos none v h = sym (ap erased (none v h))
+
+  pub some_read :
+      (t : Shape) (pos at : ℕ) (x : A) → at ≡ some_position s pos → IsSomeAt s knows bytes pos → IsReadAt w s knows bytes at x
+      → IsReadAt (option_spelling t w) (option s) knows bytes pos (Some x)
+  some_read t pos at x e there read v h =
+      let p = there v h in
+      let inner : w.plain x ≡ erased p.payload = read p.payload (subst (λ n. HeldAt s knows bytes n p.payload) (sym e) p.held) in
+      ap (λ u. chosen 1 (more_values u no_values)) inner ∙ sym (ap erased p.is)
+
+  pub box_read :
+      (t : Shape) (pos to : ℕ) (b : Box A Global) (x : A) → b.value ≡ x → IsBoxAt s knows bytes pos to → IsReadAt w s knows bytes to x
+      → IsReadAt (boxed_spelling t w) (box (sized s)) knows bytes pos b
+  box_read t pos to b x e there read v h = ap w.plain e ∙ read v (there.value v h)
+
+  -- values are those of elements side by side from a position on
+  abbrev pub AreReadFrom : ℕ → List A → Type 0
+  AreReadFrom at [] = ⊤
+  AreReadFrom at (x ∷ xs) = IsReadAt w s knows bytes at x × AreReadFrom (at + size_of s) xs
+
+  pub one_more :
+      (at : ℕ) (xs : List A) (x : A) → AreReadFrom at xs → IsReadAt w s knows bytes (at + length xs * size_of s) x
+      → AreReadFrom at (xs ++ (x ∷ []))
+  one_more at [] x h r =
+      let P : ℕ → Type 0 = λ n. IsReadAt w s knows bytes n x in
+      let e : at + 0 * size_of s ≡ at = omega arith in (subst P e r, tt)
+  one_more at (y ∷ ys) x h r =
+      let P : ℕ → Type 0 = λ n. IsReadAt w s knows bytes n x in
+      let e : at + suc (length ys) * size_of s ≡ at + size_of s + length ys * size_of s = omega arith in
+      (h.0, one_more (at + size_of s) ys x h.1 (subst P e r))
+
+  all_read :
+      (at : ℕ) (xs : List A) (vs : Values)
+      → count_values vs ≡ length xs
+      → AreReadFrom at xs
+      → ((i : ℕ) → i < length xs → (v : Value) × (value_in i vs ≡ Some v) × HeldAt s knows bytes (at + i * size_of s) v)
+      → plain_values w xs ≡ all_erased vs
+  all_read at [] no_values c h each = refl
+  all_read at [] (more_values v vs) c h each = absurd (omega (arith, c))
+  all_read at (x ∷ xs) no_values c h each = absurd (omega (arith, c))
+  all_read at (x ∷ xs) (more_values v vs) c h each =
+      let first = each 0 (omega arith) in
+      let is : first.0 ≡ v = let e = first.1 in cc in
+      let here : at + 0 * size_of s ≡ at = omega arith in
+      let held : HeldAt s knows bytes at v = subst (λ u. HeldAt s knows bytes at u) is (subst (λ n. HeldAt s knows bytes n first.0) here first.2) in
+      let rest = all_read (at + size_of s) xs vs (omega (arith, c)) h.1
+      (λ i less.
+      let next = each (suc i) (omega (arith, less)) in
+      let later : at + suc i * size_of s ≡ at + size_of s + i * size_of s = omega arith in
+      (next.0, next.1, subst (λ n. HeldAt s knows bytes n next.0) later next.2)) in
+      ap₂ more_values (h.0 v held) rest
+
+  pub vec_read :
+      (t : Shape) (pos to len : ℕ) (xs : Vec A Global) → IsVecAt s knows bytes pos to len → length xs.items ≡ len → AreReadFrom to xs.items
+      → IsReadAt (vec_spelling t w) (vector s) knows bytes pos xs
+  vec_read t pos to len xs there e read v h =
+      let es = there.value v h in
+      ap group (all_read to xs.items es.elements (es.count ∙ sym e) read (λ i less. es.each i (omega (arith, less, e)))) ∙ sym (ap erased es.is)
+
+-- a list that ends with another element where a test is true
+pub pushed : {A : Type 0} (b : Bool) (x y z : List A) → x ≡ (if b then y else z) → b ≡ true → x ≡ y
+pushed true x y z e t = e
+pushed false x y z e t = absurd (cc)

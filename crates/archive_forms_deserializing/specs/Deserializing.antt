@@ -1,0 +1,23 @@
+-- What calls that read a value back promise.
+use Rattle.std.specs.Prelude.{◌≡◌, ℕ, List, Result, MatchResult}
+use Rattle.archive_shape_layout.specs.Shape.{Shape}
+use Rattle.archive_shape_layout.specs.Value.{Value}
+use Rattle.archive_shape_layout.specs.Content.{Names}
+use Rattle.archive_shape_canonical.specs.Sharing.{erased}
+use Rattle.archive_shape_writing.specs.declared.error.Error.{Error}
+use Rattle.archive_shape_writing.specs.declared.error.Error.TheVariants.{OutOfMemory}
+use Rattle.archive_shape.specs.Key.{HeldAt}
+use Rattle.archive_forms_spelling.specs.Spelling.{Spelling}
+
+module _ {A R : Type 0} (w : Spelling A R) (s : Shape) (knows : Names → Type 0) (bytes : List ℕ) (pos : ℕ) where
+  -- this is the value that the layout has at the position, but for where shared values stand
+  abbrev pub IsReadAt : A → Type 0
+  IsReadAt x = (v : Value) → HeldAt s knows bytes pos v → w.plain x ≡ erased v
+
+  -- what a call that reads the value promises, whose answer keeps it: want of memory alone is refused
+  abbrev pub DeserializesBy : {Q : Type 0} → (Q → A) → Result Q Error → Type 0
+  DeserializesBy kept result = MatchResult result (λ q. IsReadAt (kept q)) (λ e. e ≡ OutOfMemory)
+
+  -- the same of a call whose answer is the value
+  abbrev pub Deserializes : Result A Error → Type 0
+  Deserializes result = DeserializesBy (λ (x : A). x) result

@@ -1,0 +1,2 @@
+pub mod Deserializing
+pub mod Steps

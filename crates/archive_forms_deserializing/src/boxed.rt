@@ -1,0 +1,61 @@
+//! Boxes are read back.
+ghost use Rattle.archive_shape_layout.specs.Shape.Shape.{box};
+ghost use Rattle.archive_shape_layout.specs.Shape.Pointee.{sized};
+ghost use Rattle.archive_forms_reading.specs.Parts.{HasValue};
+ghost use Rattle.archive_forms_writing.specs.Owned.{boxed_spelling};
+ghost use Rattle.archive_forms_deserializing.specs.Deserializing.{Deserializes, DeserializesBy};
+ghost use Rattle.archive_forms_deserializing.specs.Steps.{StepTakes, StepReads};
+
+use crate::Deserialize;
+use crate::deserialize::deserialize_element;
+use archive_forms_reading::ArchivedBox;
+use archive_forms_writing::Archive;
+use archive_shape::{Error, Portable, Ref};
+use std::alloc::Global;
+use std::marker::PhantomData;
+
+/// Reads a box back, whose value a step reads.
+pub fn deserialize_box_each<
+    T: Archive + Drop,
+    A: Portable,
+    D,
+    F: Fn(&mut D, usize) -> Result<(T, PhantomData<T::Archived>), Error>,
+>(
+    this: Ref<'_, ArchivedBox<A>>,
+    alloc: Global,
+    deserializer: &mut D,
+    step: F,
+) -> Result<Box<T>, Error>
+    requires there { HasValue (box (sized A.shape)) A.knows this.bytes.now this.pos }
+    requires takes { StepTakes F.Fn step A.shape A.knows this.bytes.now }
+    requires reads { StepReads F.Fn step A.shape A.knows this.bytes.now (λ q. q.0) T.spelling }
+    ensures { Deserializes (boxed_spelling T.Archived.shape T.spelling) (box (sized A.shape)) A.knows this.entry.bytes.now this.entry.pos result }
+{
+    let value = match step(deserializer, ArchivedBox::get(this).pos) {
+        Ok(done) => done.0,
+        Err(e) => return Err(e),
+    };
+    match Box::new(alloc, value) {
+        Ok(boxed) => Ok(boxed),
+        Err(_) => Err(Error::OutOfMemory),
+    }
+}
+
+impl<T: Archive + Drop, D, A: Deserialize<T, D>> Deserialize<Box<T>, D> for ArchivedBox<A> {
+    fn deserialize(
+        this: &Ref<'_, ArchivedBox<A>>,
+        alloc: Global,
+        deserializer: &mut D,
+    ) -> Result<Box<T>, Error> {
+        let bytes = this.bytes;
+        deserialize_box_each::<T, A, D, _>(
+            *this,
+            alloc,
+            deserializer,
+            |d: &mut D, pos: usize| -> Result<(T, PhantomData<T::Archived>), Error>
+                requires { HasValue A.shape A.knows bytes.now pos }
+                ensures { DeserializesBy T.spelling A.shape A.knows bytes.entry.now pos (λ q. q.0) result }
+            { deserialize_element::<T, A, D>(bytes, pos, alloc, d) },
+        )
+    }
+}

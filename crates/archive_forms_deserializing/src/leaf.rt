@@ -1,0 +1,71 @@
+//! Numbers, truth values and chars are read back.
+ghost use Rattle.std.specs.Prelude.{◌≡◌};
+ghost use Rattle.archive_shape_layout.specs.Value.{Value};
+ghost use Rattle.archive_shape.specs.Key.{HeldAt};
+ghost use Rattle.archive_forms_reading.specs.Parts.{HasValue};
+
+use crate::Deserialize;
+use archive_forms_writing::Leaf;
+use archive_shape::{ArchivedLeaf, Error, LittleEndian, Native, Ref};
+use std::alloc::Global;
+use std::num::{NonZeroI8, NonZeroU8};
+
+/// The native value of a leaf.
+fn native_of<L: ArchivedLeaf>(this: Ref<'_, L>) -> L::Native
+    requires { HasValue L.shape L.knows this.bytes.now this.pos }
+    ensures { (v : Value) → HeldAt L.shape L.knows this.entry.bytes.now this.entry.pos v → L.value_of result ≡ v }
+{
+    this.to_native()
+}
+
+impl<N: Native + Leaf<Archived = LittleEndian<N>>, D> Deserialize<N, D> for LittleEndian<N> {
+    fn deserialize(
+        this: &Ref<'_, LittleEndian<N>>,
+        _alloc: Global,
+        _deserializer: &mut D,
+    ) -> Result<N, Error> {
+        Ok(native_of(*this))
+    }
+}
+
+impl<D> Deserialize<bool, D> for bool {
+    fn deserialize(
+        this: &Ref<'_, bool>,
+        _alloc: Global,
+        _deserializer: &mut D,
+    ) -> Result<bool, Error> {
+        Ok(native_of(*this))
+    }
+}
+
+impl<D> Deserialize<u8, D> for u8 {
+    fn deserialize(this: &Ref<'_, u8>, _alloc: Global, _deserializer: &mut D) -> Result<u8, Error> {
+        Ok(native_of(*this))
+    }
+}
+
+impl<D> Deserialize<i8, D> for i8 {
+    fn deserialize(this: &Ref<'_, i8>, _alloc: Global, _deserializer: &mut D) -> Result<i8, Error> {
+        Ok(native_of(*this))
+    }
+}
+
+impl<D> Deserialize<NonZeroU8, D> for NonZeroU8 {
+    fn deserialize(
+        this: &Ref<'_, NonZeroU8>,
+        _alloc: Global,
+        _deserializer: &mut D,
+    ) -> Result<NonZeroU8, Error> {
+        Ok(native_of(*this))
+    }
+}
+
+impl<D> Deserialize<NonZeroI8, D> for NonZeroI8 {
+    fn deserialize(
+        this: &Ref<'_, NonZeroI8>,
+        _alloc: Global,
+        _deserializer: &mut D,
+    ) -> Result<NonZeroI8, Error> {
+        Ok(native_of(*this))
+    }
+}

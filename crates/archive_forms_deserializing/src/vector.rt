@@ -1,0 +1,65 @@
+//! Vectors are read back.
+ghost use Rattle.archive_shape_layout.specs.Shape.Shape.{vector};
+ghost use Rattle.archive_forms_reading.specs.Parts.{HasValue};
+ghost use Rattle.archive_forms_writing.specs.Owned.{vec_spelling};
+ghost use Rattle.archive_forms_deserializing.specs.Deserializing.{Deserializes, DeserializesBy};
+ghost use Rattle.archive_forms_deserializing.specs.Steps.{StepTakes, StepReads};
+
+use crate::Deserialize;
+use crate::deserialize::deserialize_element;
+use archive_forms_reading::ArchivedVec;
+use archive_forms_writing::Archive;
+use archive_shape::{Error, Portable, Ref};
+use std::alloc::Global;
+use std::marker::PhantomData;
+
+/// Reads a vector back, whose elements a step reads.
+pub fn deserialize_vec_each<
+    T: Archive + Drop,
+    A: Portable,
+    D,
+    F: Fn(&mut D, usize) -> Result<(T, PhantomData<T::Archived>), Error>,
+>(
+    this: Ref<'_, ArchivedVec<A>>,
+    alloc: Global,
+    deserializer: &mut D,
+    step: F,
+) -> Result<Vec<T>, Error>
+    requires there { HasValue (vector A.shape) A.knows this.bytes.now this.pos }
+    requires takes { StepTakes F.Fn step A.shape A.knows this.bytes.now }
+    requires reads { StepReads F.Fn step A.shape A.knows this.bytes.now (λ q. q.0) T.spelling }
+    ensures { Deserializes (vec_spelling T.Archived.shape T.spelling) (vector A.shape) A.knows this.entry.bytes.now this.entry.pos result }
+{
+    let items = ArchivedVec::as_slice(this);
+    let mut all = Vec::new(alloc);
+    for index in 0..items.len() {
+        let item = items.get(index).unwrap();
+        let value = match step(deserializer, item.pos) {
+            Ok(done) => done.0,
+            Err(e) => return Err(e),
+        };
+        if all.push(value).is_err() {
+            return Err(Error::OutOfMemory);
+        }
+    }
+    Ok(all)
+}
+
+impl<T: Archive + Drop, D, A: Deserialize<T, D>> Deserialize<Vec<T>, D> for ArchivedVec<A> {
+    fn deserialize(
+        this: &Ref<'_, ArchivedVec<A>>,
+        alloc: Global,
+        deserializer: &mut D,
+    ) -> Result<Vec<T>, Error> {
+        let bytes = this.bytes;
+        deserialize_vec_each::<T, A, D, _>(
+            *this,
+            alloc,
+            deserializer,
+            |d: &mut D, pos: usize| -> Result<(T, PhantomData<T::Archived>), Error>
+                requires { HasValue A.shape A.knows bytes.now pos }
+                ensures { DeserializesBy T.spelling A.shape A.knows bytes.entry.now pos (λ q. q.0) result }
+            { deserialize_element::<T, A, D>(bytes, pos, alloc, d) },
+        )
+    }
+}
