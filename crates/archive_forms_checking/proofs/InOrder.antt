@@ -22,7 +22,7 @@ use Rattle.archive_forms_checking.proofs.Ordered.{Left, all_left, one_less, firs
 -- ---- where fields stand
 
 -- a first field begins at 0
-first_multiple : (align : ℕ) → align_up 0 align ≡ 0
+pub first_multiple : (align : ℕ) → align_up 0 align ≡ 0
 unfolding align_up
 first_multiple align = let whole_align : align - 0 % align ≡ align = omega (arith, zero-mod align) in rw whole_align (omega (arith, mod_self align))
 
