@@ -28,20 +28,20 @@ use Rattle.archive_forms_reading.specs.Parts.{HasValue, PointsTo, IsBoxAt, IsVec
 use Rattle.archive_forms_reading.proofs.Inside.{one_held}
 
 -- a region ends in the bytes
-abbrev EndsIn : List ℕ → Region → Type 0
+abbrev pub EndsIn : List ℕ → Region → Type 0
 EndsIn bytes r = r.start + r.size ≤ length bytes
 
-first_regions : (bytes : List ℕ) (xs ys : List Region) → All (EndsIn bytes) (xs ++ ys) → All (EndsIn bytes) xs
+pub first_regions : (bytes : List ℕ) (xs ys : List Region) → All (EndsIn bytes) (xs ++ ys) → All (EndsIn bytes) xs
 first_regions bytes xs ys h = All-same (EndsIn bytes) xs (take (length xs) (xs ++ ys)) (sym (take-append_seam xs ys)) (All-take (EndsIn bytes) (length xs) (xs ++ ys) h)
 
-other_regions : (bytes : List ℕ) (xs ys : List Region) → All (EndsIn bytes) (xs ++ ys) → All (EndsIn bytes) ys
+pub other_regions : (bytes : List ℕ) (xs ys : List Region) → All (EndsIn bytes) (xs ++ ys) → All (EndsIn bytes) ys
 other_regions bytes xs ys h = All-same (EndsIn bytes) ys (drop (length xs) (xs ++ ys)) (sym (drop-append_seam xs ys)) (All-drop (EndsIn bytes) (length xs) (xs ++ ys) h)
 
 made_same : (w v : Value) → made same (more_values w no_values) ≡ Some v → w ≡ v
 unfolding made
 made_same w v e = cc
 
-made_whole : (vs : Values) (v : Value) → made whole vs ≡ Some v → v ≡ group vs
+pub made_whole : (vs : Values) (v : Value) → made whole vs ≡ Some v → v ≡ group vs
 unfolding made
 made_whole vs v e = cc
 

@@ -18,7 +18,7 @@ use std::alloc::{AllocError, Global};
 use std::marker::PhantomData;
 
 /// The greater of the two.
-const fn greater(first: usize, second: usize) -> usize
+pub(crate) const fn greater(first: usize, second: usize) -> usize
     ensures { result ≡ max first second }
 {
     if first < second { second } else { first }

@@ -1,0 +1,21 @@
+-- Sizes of structs, by sizes of fields that stop at `usize::MAX`.
+use Rattle.std.specs.Prelude.{◌≡◌, ℕ, ◌+◌, ◌-◌, ◌^◌, min}
+use Rattle.std.proofs.Common.{arith, ap, ◌∙◌}
+use Rattle.archive_shape_layout.specs.Bytes.{align_up}
+use Rattle.archive_shape_layout.specs.Shape.{Shape, Shapes, size_of, align_of, fields_end}
+use Rattle.archive_shape_layout.specs.Shape.Shape.{tuple}
+use Rattle.archive_forms_layout.proofs.Sizes.{filled_cut}
+
+-- where a field ends, behind an offset that is cut
+pub field_cut : (s : Shape) (offset cut size align : ℕ) → cut ≡ min offset (2 ^ 64 - 1) → size ≡ min (size_of s) (2 ^ 64 - 1) → align ≡ align_of s
+    → min (align_up cut align + size) (2 ^ 64 - 1) ≡ min (align_up offset (align_of s) + size_of s) (2 ^ 64 - 1)
+field_cut s offset cut size align is sized aligned =
+    let up = filled_cut offset cut align is in
+    let same : align_up offset align ≡ align_up offset (align_of s) = ap (align_up offset) aligned in
+    omega (arith, up, same, sized)
+
+-- the size of a struct whose last field ends there
+pub struct_cut : (ss : Shapes) (end align : ℕ) → end ≡ min (fields_end ss 0) (2 ^ 64 - 1) → align ≡ align_of (tuple ss)
+    → min (align_up end align) (2 ^ 64 - 1) ≡ min (size_of (tuple ss)) (2 ^ 64 - 1)
+struct_cut ss end align is aligned =
+    filled_cut (fields_end ss 0) end align is ∙ ap (λ a. min (align_up (fields_end ss 0) a) (2 ^ 64 - 1)) aligned
