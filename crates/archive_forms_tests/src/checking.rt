@@ -4,6 +4,7 @@ mod layouts;
 mod options;
 mod results;
 mod slices;
+mod tuples;
 mod vectors;
 
 use crate::narrow_context::NarrowContext;
