@@ -19,11 +19,7 @@ impl Archive for String {
 
     ghost spelling = { string_spelling };
 
-    fn resolve(
-        &self,
-        resolver: StringResolver,
-        out: Place<'_, ArchivedString>,
-    ) -> Result<(), Error>
+    fn resolve(&self, resolver: StringResolver, out: Place<'_, ArchivedString>) -> Result<(), Error>
         requires { CanResolve string_spelling text self.now resolver out.out.now out.start out.pos }
         ensures { Resolves string_spelling self.now resolver out.entry.pos out.entry.start out.entry.out.now out.exit.0.now result }
     {
@@ -33,11 +29,7 @@ impl Archive for String {
             pos,
             ..
         } = out;
-        ArchivedString::resolve_from_str(
-            self.as_str(),
-            resolver,
-            Place::within(out, start, pos),
-        )
+        ArchivedString::resolve_from_str(self.as_str(), resolver, Place::within(out, start, pos))
     }
 
     ghost spells = { λ fit. seen_spells fit text (λ _. ⊤) string_bytes str_spelling
