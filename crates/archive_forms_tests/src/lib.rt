@@ -7,3 +7,5 @@ mod checking;
 mod narrow_context;
 #[cfg(test)]
 mod text;
+#[cfg(test)]
+mod writing;

@@ -7,7 +7,9 @@ ghost use Rattle.archive_forms_spelling.specs.Spells.{AreBytes};
 ghost use Rattle.archive_forms_spelling.proofs.Leaves.{leaf_spells};
 
 use crate::{Archive, Serialize};
-use archive_shape::{Allocator, ArchivedLeaf, Error, LittleEndian, Native, Place, Portable, Writer};
+use archive_shape::{
+    Allocator, ArchivedLeaf, Error, LittleEndian, Native, Place, Portable, Writer,
+};
 use std::num::{
     NonZeroI8, NonZeroI16, NonZeroI32, NonZeroI64, NonZeroI128, NonZeroU8, NonZeroU16, NonZeroU32,
     NonZeroU64, NonZeroU128,
