@@ -9,3 +9,5 @@ mod narrow_context;
 mod reading;
 #[cfg(test)]
 mod text;
+#[cfg(test)]
+mod writing;

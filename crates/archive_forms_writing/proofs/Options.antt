@@ -23,7 +23,7 @@ module _ {A R W : Type 0} (sh : Shape) (w : Spelling A R) (s : WriterMembers W) 
       × ((Some r ≡ (option_spelling sh w).resolver o st) × (option_spelling sh w).piece_fits o st × IsAt s.pos s.known new (state_after (option_spelling sh w) o st))
   some_wrote r wrote made fits at =
       let P : Option A → Type 0 = λ y. Wrote s old new ((option_spelling sh w).piece y st)
-          × ((Some r ≡ (option_spelling sh w).resolver y st) × (option_spelling sh w).piece_fits y st × IsAt s.pos s.known new (state_after (option_spelling sh w) y st)) in
+      × ((Some r ≡ (option_spelling sh w).resolver y st) × (option_spelling sh w).piece_fits y st × IsAt s.pos s.known new (state_after (option_spelling sh w) y st)) in
       subst P (sym is) (wrote, (ap Some made, fits, at))
 
   -- a call stopped in it

@@ -27,14 +27,13 @@ pub payload_resolved : {A R : Type 0} (w : Spelling A R) (tag offset size payloa
     → Resolves (payload_spelling tag offset size w) x r pos start bytes final result
 payload_resolved w tag offset size payload first fits bytes set_bytes new final start pos from there x r (Ok u) sized room blank is_set is_from is_there ends h =
     let F : ℕ → Type 0 = λ n. w.own_fits x r n in
-    let fit = subst F is_there h.0 in
-    (
+    let fit = subst F is_there h.0 in (
       fit,
       sym ends ∙ h.1
-      ∙ ap (λ l. overwrite l from (w.own x r there)) is_set
-      ∙ ap (λ n. overwrite (set bytes start tag) n (w.own x r there)) is_from
-      ∙ ap (λ n. overwrite (set bytes start tag) (start + offset) (w.own x r n)) is_there
-      ∙ payload_over offset size payload first fits bytes start tag room blank (w.own x r (pos + offset)) (sized (pos + offset) fit)
+          ∙ ap (λ l. overwrite l from (w.own x r there)) is_set
+          ∙ ap (λ n. overwrite (set bytes start tag) n (w.own x r there)) is_from
+          ∙ ap (λ n. overwrite (set bytes start tag) (start + offset) (w.own x r n)) is_there
+          ∙ payload_over offset size payload first fits bytes start tag room blank (w.own x r (pos + offset)) (sized (pos + offset) fit),
     )
 payload_resolved w tag offset size payload first fits bytes set_bytes new final start pos from there x r (Err e) sized room blank is_set is_from is_there ends h =
     let F : ℕ → Type 0 = λ n. w.own_refused x r n e in subst F is_there h
@@ -121,7 +120,7 @@ module _ {A B R Q W : Type 0} (s t : Shape) (w : Spelling A R) (u : Spelling B Q
       × ((Ok r ≡ (result_spelling s t w u).resolver o st) × (result_spelling s t w u).piece_fits o st × IsAt m.pos m.known new (state_after (result_spelling s t w u) o st))
   value_wrote x r is wrote made fits at =
       let P : Result A B → Type 0 = λ y. Wrote m old new ((result_spelling s t w u).piece y st)
-          × ((Ok r ≡ (result_spelling s t w u).resolver y st) × (result_spelling s t w u).piece_fits y st × IsAt m.pos m.known new (state_after (result_spelling s t w u) y st)) in
+      × ((Ok r ≡ (result_spelling s t w u).resolver y st) × (result_spelling s t w u).piece_fits y st × IsAt m.pos m.known new (state_after (result_spelling s t w u) y st)) in
       subst P (sym is) (wrote, (ap Ok made, fits, at))
 
   pub value_stopped : (x : A) (e : Error) → o ≡ Ok x → Stops m old new (w.piece x st) (w.piece_refused x st) e
@@ -135,7 +134,7 @@ module _ {A B R Q W : Type 0} (s t : Shape) (w : Spelling A R) (u : Spelling B Q
       × ((Err r ≡ (result_spelling s t w u).resolver o st) × (result_spelling s t w u).piece_fits o st × IsAt m.pos m.known new (state_after (result_spelling s t w u) o st))
   error_wrote y r is wrote made fits at =
       let P : Result A B → Type 0 = λ z. Wrote m old new ((result_spelling s t w u).piece z st)
-          × ((Err r ≡ (result_spelling s t w u).resolver z st) × (result_spelling s t w u).piece_fits z st × IsAt m.pos m.known new (state_after (result_spelling s t w u) z st)) in
+      × ((Err r ≡ (result_spelling s t w u).resolver z st) × (result_spelling s t w u).piece_fits z st × IsAt m.pos m.known new (state_after (result_spelling s t w u) z st)) in
       subst P (sym is) (wrote, (ap Err made, fits, at))
 
   pub error_stopped : (y : B) (e : Error) → o ≡ Err y → Stops m old new (u.piece y st) (u.piece_refused y st) e

@@ -36,10 +36,7 @@ impl<T: Archive> Archive for Box<T> {
             pos,
             ..
         } = out;
-        ArchivedBox::<T::Archived>::resolve_from_raw_parts(
-            resolver,
-            Place::within(out, start, pos),
-        )
+        ArchivedBox::<T::Archived>::resolve_from_raw_parts(resolver, Place::within(out, start, pos))
     }
 
     ghost spells = { λ fit. kept_spells fit (box (sized T.Archived.shape)) T.Archived.knows _ _ (λ r. refl) _
@@ -74,9 +71,7 @@ impl<S: Writer + Allocator, T: Serialize<S>> Serialize<S> for Box<T> {
                 requires room { S.failures s.old < 2 ^ 64 - 1 }
                 requires state { HasState S.pos S.known s.old }
                 ensures { SerializesBy (λ q. q.0) T.spelling S.Writer item.now s.old s.new result }
-            {
-                serialize_element(item, s)
-            },
+            { serialize_element(item, s) },
         )
     }
 }

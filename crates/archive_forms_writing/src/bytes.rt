@@ -26,8 +26,6 @@ pub fn to_bytes_in<T: Serialize<S>, S: Writer + Allocator>(
             requires room { S.failures s.old < 2 ^ 64 - 1 }
             requires state { HasState S.pos S.known s.old }
             ensures { SerializesBy (λ q. q.0) T.spelling S.Writer item.now s.old s.new result }
-        {
-            serialize_element(item, s)
-        },
+        { serialize_element(item, s) },
     )
 }

@@ -100,16 +100,12 @@ impl<S: Writer + Allocator, T: Serialize<S>, E: Serialize<S>> Serialize<S> for R
                 requires room { S.failures s.old < 2 ^ 64 - 1 }
                 requires state { HasState S.pos S.known s.old }
                 ensures { SerializesBy (λ q. q.0) T.spelling S.Writer item.now s.old s.new result }
-            {
-                serialize_element(item, s)
-            },
+            { serialize_element(item, s) },
             |item: &E, s: &mut S| -> Result<(E::Resolver, PhantomData<E::Archived>), Error>
                 requires room { S.failures s.old < 2 ^ 64 - 1 }
                 requires state { HasState S.pos S.known s.old }
                 ensures { SerializesBy (λ q. q.0) E.spelling S.Writer item.now s.old s.new result }
-            {
-                serialize_element(item, s)
-            },
+            { serialize_element(item, s) },
         )
     }
 }

@@ -74,9 +74,7 @@ impl<S: Writer + Allocator, T: Serialize<S>> Serialize<S> for Vec<T> {
                 requires room { S.failures s.old < 2 ^ 64 - 1 }
                 requires state { HasState S.pos S.known s.old }
                 ensures { SerializesBy (λ q. q.0) T.spelling S.Writer item.now s.old s.new result }
-            {
-                serialize_element(item, s)
-            },
+            { serialize_element(item, s) },
         )
     }
 }
