@@ -2,6 +2,7 @@
 mod forms;
 mod leaves;
 mod serializer;
+mod texts;
 
 use archive_forms_writing::{Serialize, to_bytes_in};
 use serializer::MemorySerializer;
