@@ -19,7 +19,8 @@ use Rattle.archive_shape_canonical.proofs.Choosing.{choices, LeadsChosen, IsChos
 use Rattle.archive_shape_canonical.proofs.Kept.{node_kind, field_claimed}
 use Rattle.archive_shape_canonical.proofs.Nodes.{SameClaim, step_node, step_buckets, chosen_claim, length-entries}
 use Rattle.archive_shape_layout.proofs.Framed.{links_fit}
-use Rattle.archive_shape_canonical.proofs.Numbers.{SameFirst, AreBytes}
+use Rattle.archive_shape_canonical.proofs.Numbers.{SameFirst}
+use Rattle.archive_shape_canonical.specs.Canonical.{AreBytes}
 use Rattle.archive_shape_canonical.proofs.Akin.{Akin, AllAkin, akin_none, akin_more, akin_at, akin_behind, akin_node, akin_child, akin_entry, akin_buckets, akin_place, SameCount, Match, no_left, no_right, leaves, texts, wholes, ones, tags, short_long, long_short, totals, empty_total, total_empty, tables, empty_table, table_empty, maps, empty_map, map_empty, no_child, child_no, counts, shape_match, child_match, place_match}
 use Rattle.archive_shape_canonical.proofs.Fields.{IsContent, shape_field, child_field, place_field, word_field}
 use Rattle.archive_shape_canonical.proofs.Steps.{is_counted, step, step_behind}

@@ -18,7 +18,8 @@ use Rattle.archive_shape_layout.specs.Value.{Value}
 use Rattle.archive_shape_layout.specs.Value.Value.{natural, integer, boolean}
 use Rattle.archive_shape_layout.specs.Bytes.{align_up, word_at, target_from}
 use Rattle.archive_shape_canonical.specs.Clean.{field_size, IsTextFilled, IsShapeFilled}
-use Rattle.archive_shape_canonical.proofs.Numbers.{SameFirst, AreBytes, same_spelled, spelled_lt}
+use Rattle.archive_shape_canonical.proofs.Numbers.{SameFirst, same_spelled, spelled_lt}
+use Rattle.archive_shape_canonical.specs.Canonical.{AreBytes}
 
 abbrev pub IsContent : Content → Type 0
 IsContent illegal = ⊥

@@ -18,7 +18,7 @@ use Rattle.archive_shape_canonical.specs.Settled.{Fit}
 use Rattle.archive_shape_canonical.specs.Canonical.{end_of, end_of_all, IsCanonical, AreCanonical, InRegions}
 use Rattle.archive_shape_canonical.specs.Laws.{OneArchive}
 use Rattle.archive_shape_canonical.proofs.Choosing.{settled_chosen}
-use Rattle.archive_shape_canonical.proofs.Numbers.{AreBytes}
+use Rattle.archive_shape_canonical.specs.Canonical.{AreBytes}
 use Rattle.archive_shape_canonical.proofs.Akin.{Akin, AllAkin, akin_none, akin_more, akin_behind}
 use Rattle.archive_shape_canonical.proofs.Once.{shrink, shrink_all, found_before, one_visit}
 use Rattle.archive_shape_canonical.proofs.Windows.{InRegions-append}

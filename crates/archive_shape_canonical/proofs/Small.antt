@@ -5,7 +5,7 @@ use Rattle.std.proofs.lemmas.Bool.{cases_lt}
 use Rattle.std.proofs.lemmas.List.{length-replicate, get_or-replicate}
 use Rattle.std.proofs.Math.ListN.{get_or-append, get_or-eq_default}
 use Rattle.std.proofs.Math.Seq.{get_or-append_right}
-use Rattle.archive_shape_canonical.proofs.Numbers.{AreBytes}
+use Rattle.archive_shape_canonical.specs.Canonical.{AreBytes}
 
 pub behind_all : (xs : List ℕ) (i : ℕ) → length xs ≤ i → get_or xs i 0 < 256
 behind_all xs i h = subst (λ n. n < 256) (sym (get_or-eq_default xs 0 h)) (omega arith)

@@ -12,7 +12,7 @@ use Rattle.archive_shape_layout.specs.Value.{Value}
 use Rattle.archive_shape_layout.specs.Bytes.{window, word_at}
 use Rattle.archive_shape_layout.specs.Holds.{Region}
 use Rattle.archive_shape_canonical.specs.Canonical.{InRegions}
-use Rattle.archive_shape_canonical.proofs.Numbers.{AreBytes}
+use Rattle.archive_shape_canonical.specs.Canonical.{AreBytes}
 use Rattle.archive_shape_canonical.proofs.Akin.{Match, no_left, no_right, leaves, texts, wholes, ones, tags, short_long, long_short, totals, empty_total, total_empty, tables, empty_table, table_empty, maps, empty_map, map_empty, no_child, child_no, counts}
 use Rattle.archive_shape_canonical.proofs.Fields.{IsContent}
 

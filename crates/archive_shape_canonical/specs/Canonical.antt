@@ -54,6 +54,10 @@ abbrev pub InRegions : List Region → ℕ → Type 0
 InRegions [] i = ⊥
 InRegions (r ∷ rs) i = IsIn r.start r.size i ⊎ InRegions rs i
 
+-- each is below 256
+abbrev pub AreBytes : List ℕ → Type 0
+AreBytes bs = (i : ℕ) → slice_index bs i < 256
+
 -- Bytes that were written from a position on, and are the archive that writing the value makes.
 pub record CanonicalArchive (fit : Fit) (names : Names) (bytes : List ℕ) (start pos : ℕ) (s : Shape) (v : Value) (regions : List Region) (visits : List Visit) : Type 0 where
   pub root : HasRoot names bytes pos s v regions visits
@@ -64,4 +68,4 @@ pub record CanonicalArchive (fit : Fit) (names : Names) (bytes : List ℕ) (star
   pub gaps : (i : ℕ) → start ≤ i → InRegions regions i ⊎ (slice_index bytes i ≡ 0)
   -- each equal shared value stands once
   pub once : AreDistinct visits
-  pub bytes_are : (i : ℕ) → slice_index bytes i < 256
+  pub bytes_are : AreBytes bytes

@@ -1,5 +1,5 @@
 -- The laws of canonical archives, as statements.
-use Rattle.std.specs.Prelude.{◌≡◌, ℕ, zero, suc, ◌<◌, IsUtf8, List, [], ◌∷◌, ◌++◌, drop, slice_index, Some, ⊤}
+use Rattle.std.specs.Prelude.{◌≡◌, ℕ, zero, suc, ◌<◌, IsUtf8, List, [], ◌∷◌, ◌++◌, drop, Some, ⊤}
 use Rattle.archive_shape_layout.specs.Bytes.{window}
 use Rattle.archive_shape_layout.specs.Shape.{Shape, size_of}
 use Rattle.archive_shape_layout.specs.Shape.Pointee.{sized, str}
@@ -19,7 +19,7 @@ use Rattle.archive_shape_layout.specs.Laws.{OwnAgrees, RegionsAgree}
 use Rattle.archive_shape_canonical.specs.Settled.{Fit, IsSettled}
 use Rattle.archive_shape_canonical.specs.Sharing.{erased}
 use Rattle.archive_shape_canonical.specs.FirstFit.{first_fit, by_key}
-use Rattle.archive_shape_canonical.specs.Canonical.{CanonicalArchive, IsCanonical, end_of}
+use Rattle.archive_shape_canonical.specs.Canonical.{CanonicalArchive, IsCanonical, end_of, AreBytes}
 
 -- a value has one canonical archive from a position on
 abbrev pub OneArchive : Type 0
@@ -116,7 +116,7 @@ CanonicalEditOfLeaf =
     → IsLegal is
     → made is no_values ≡ Some new
     → IsClean names others (at leaf_pos leaf_shape)
-    → ((i : ℕ) → slice_index others i < 256)
+    → AreBytes others
     → CanonicalArchive fit names others start pos s (put_at path new v) regions visits
 
 -- likewise the bytes of a text out of line, where the other text is as long
@@ -129,7 +129,7 @@ CanonicalEditOfText =
     → AvoidsKeys stands
     → Spares bytes others text_pos len
     → IsUtf8 (window others text_pos len)
-    → ((i : ℕ) → slice_index others i < 256)
+    → AreBytes others
     → CanonicalArchive fit names others start pos s (put_at path (string (window others text_pos len)) v) regions visits
 
 -- ---- paths that spare keys, one behind another

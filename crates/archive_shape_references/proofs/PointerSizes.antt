@@ -8,9 +8,9 @@ use Rattle.archive_shape_layout.specs.Shape.Shape.{tuple}
 use Rattle.archive_shape_layout.specs.Shape.Shapes.{no_shapes, more_shapes}
 
 -- a first field begins at 0
-first_at : (align : ℕ) → align_up 0 align ≡ 0
+pub first_multiple : (align : ℕ) → align_up 0 align ≡ 0
 unfolding align_up
-first_at align = let whole : align - 0 % align ≡ align = omega (arith, zero-mod align) in rw whole (omega (arith, mod_self align))
+first_multiple align = let whole : align - 0 % align ≡ align = omega (arith, zero-mod align) in rw whole (omega (arith, mod_self align))
 
 -- what is filled up ends below the next multiple
 filled_up : (n align : ℕ) → 0 < align → align_up n align < n + align
@@ -32,7 +32,7 @@ pointer_is_small o m a b small_offset small first second =
 uncut : (o m a b : ℕ) → o ≤ 8 → m ≤ 8 → (0 < a) × (a ≤ 32) → (0 < b) × (b ≤ 32)
     → align_up (align_up o b + m) (max a b) ≡ min (align_up (align_up (align_up 0 a + o) b + m) (max a (max b 1))) (2 ^ 64 - 1)
 uncut o m a b offset_small metadata_small first second =
-    let from : align_up 0 a + o ≡ o = omega (arith, first_at a) in
+    let from : align_up 0 a + o ≡ o = omega (arith, first_multiple a) in
     let greatest : max a (max b 1) ≡ max a b = omega (arith, second) in
     let same : align_up (align_up (align_up 0 a + o) b + m) (max a (max b 1)) ≡ align_up (align_up o b + m) (max a b) =
     ap (λ (x : ℕ). align_up (align_up x b + m) (max a (max b 1))) from ∙ ap (λ (x : ℕ). align_up (align_up o b + m) x) greatest in
