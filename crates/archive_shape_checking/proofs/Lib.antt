@@ -5,10 +5,12 @@ pub mod Inverted
 pub mod Leaves
 pub mod Levels
 pub mod Once
+pub mod Ordered
 pub mod QuestionedRegions
 pub mod Questions
 pub mod Ranges
 pub mod Refused
 pub mod Shared
 pub mod Texts
+pub mod Wholes
 pub mod Words

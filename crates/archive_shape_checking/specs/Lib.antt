@@ -5,3 +5,4 @@ pub mod PartFault
 pub mod Kept
 pub mod Checks
 pub mod Laws
+pub mod Steps

@@ -1,6 +1,7 @@
 //! Numbers, chars and truth values as archives have them, and the layouts of archived types.
 #![tactic(auto)]
 
+mod array;
 mod byte;
 mod laws;
 mod leaf;
