@@ -46,12 +46,12 @@ module _ (names : Names) (bytes : List ℕ) where
   no_parts (holds_none e r a) = e
 
   -- the text that a pointer leads to
-  record TextBehind (start len : ℕ) (v : Value) (regions : List Region) : Type 0 where
-    is_text : IsUtf8 (window bytes start len)
-    value : v ≡ string (window bytes start len)
-    claims : All (λ r. r.start + r.size ≤ length bytes) regions → start + len ≤ length bytes
+  pub record TextBehind (start len : ℕ) (v : Value) (regions : List Region) : Type 0 where
+    pub is_text : IsUtf8 (window bytes start len)
+    pub value : v ≡ string (window bytes start len)
+    pub claims : All (λ r. r.start + r.size ≤ length bytes) regions → start + len ≤ length bytes
 
-  text_behind : {level : ℕ} {inside : List OpenShared} {v : Value} {regions : List Region} {before after : List Visit} (start len : ℕ) → Holds names bytes level inside (behind start str len) v regions before after → TextBehind start len v regions
+  pub text_behind : {level : ℕ} {inside : List OpenShared} {v : Value} {regions : List Region} {before after : List Visit} (start len : ℕ) → Holds names bytes level inside (behind start str len) v regions before after → TextBehind start len v regions
   unfolding pointee_content
   text_behind start len h =
       let own = by_claimed names bytes refl h in

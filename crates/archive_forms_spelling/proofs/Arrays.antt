@@ -16,7 +16,8 @@ use Rattle.archive_shape_references.specs.Bytes.{HasBytes}
 use Rattle.archive_shape_writing.specs.declared.error.Error.{Error}
 use Rattle.archive_forms_spelling.specs.State.{State, Keys, visits_of, IsConsistent, AllFrom, AreKeyedBy, advanced}
 use Rattle.archive_forms_spelling.specs.Spelling.{Spelling, state_after}
-use Rattle.archive_forms_spelling.specs.Spells.{CanonicalPart, SpellsAt, EachSpells, Spells, AreBytes}
+use Rattle.archive_forms_spelling.specs.Spells.{CanonicalPart, SpellsAt, EachSpells, Spells}
+use Rattle.archive_shape_canonical.specs.Canonical.{AreBytes}
 use Rattle.archive_forms_spelling.specs.Regions.{state_after_all, values, all_keyed_by, pieces, resolvers, owns, pieces_fit}
 use Rattle.archive_forms_spelling.specs.Arrays.{array_own, array_own_fits, array_own_refused, array_spelling}
 use Rattle.archive_forms_spelling.proofs.States.{consistent_further}

@@ -25,7 +25,8 @@ use Rattle.archive_shape_references.proofs.Pieces.{stands_left, stands_right, ze
 use Rattle.archive_shape_writing.specs.declared.error.Error.{Error}
 use Rattle.archive_forms_spelling.specs.State.{State, Keys, IsConsistent, AllFrom, AreKeyedBy, visits_of, advanced}
 use Rattle.archive_forms_spelling.specs.Spelling.{Spelling, state_after}
-use Rattle.archive_forms_spelling.specs.Spells.{CanonicalPart, SpellsAt, Spells, AreBytes}
+use Rattle.archive_forms_spelling.specs.Spells.{CanonicalPart, SpellsAt, Spells}
+use Rattle.archive_shape_canonical.specs.Canonical.{AreBytes}
 use Rattle.archive_forms_spelling.specs.Forms.{seen_as, kept_as}
 use Rattle.archive_forms_spelling.specs.Fields.{FieldsSpelling, no_fields, more_fields, struct_spelling, unit_spelling, tuple1_spelling, tuple2_spelling, tuple3_spelling, tuple4_spelling}
 use Rattle.archive_forms_spelling.proofs.States.{consistent_advanced, consistent_further, from_earlier}

@@ -8,7 +8,8 @@ use Rattle.archive_shape_layout.proofs.Evaluated.{ascends_raised, end_below}
 use Rattle.archive_shape_canonical.proofs.Editing.{InRegions-left, InRegions-right}
 use Rattle.archive_shape_canonical.proofs.Small.{small_none, small_more, small_append, small_same, small_word}
 use Rattle.archive_shape_references.specs.Bytes.{zeros}
-use Rattle.archive_forms_spelling.specs.Spells.{AreGapsZero, AreBytes}
+use Rattle.archive_forms_spelling.specs.Spells.{AreGapsZero}
+use Rattle.archive_shape_canonical.specs.Canonical.{AreBytes}
 
 pub no_gap : (bytes : List ℕ) (regions : List Region) (low : ℕ) → AreGapsZero bytes regions low (low + 0)
 no_gap bytes regions low i h g = absurd (omega (arith, h, g))

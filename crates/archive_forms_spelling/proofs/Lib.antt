@@ -8,9 +8,11 @@ pub mod Pointers
 pub mod Payloads
 pub mod Options
 pub mod Results
+pub mod Levels
 pub mod Fields
 pub mod Arrays
 pub mod Texts
+pub mod Limits
 pub mod Shared
 pub mod Written
 pub mod Progress

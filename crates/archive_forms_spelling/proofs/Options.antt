@@ -21,7 +21,8 @@ use Rattle.archive_shape_references.proofs.Pieces.{zero_stands}
 use Rattle.archive_shape_writing.specs.declared.error.Error.{Error}
 use Rattle.archive_forms_spelling.specs.State.{State, visits_of}
 use Rattle.archive_forms_spelling.specs.Spelling.{Spelling}
-use Rattle.archive_forms_spelling.specs.Spells.{CanonicalPart, SpellsAt, Spells, AreBytes}
+use Rattle.archive_forms_spelling.specs.Spells.{CanonicalPart, SpellsAt, Spells}
+use Rattle.archive_shape_canonical.specs.Canonical.{AreBytes}
 use Rattle.archive_forms_spelling.specs.Options.{payload_at, option_own, option_own_fits, option_own_refused, option_spelling}
 use Rattle.archive_forms_spelling.specs.Payloads.{payload_spelling}
 use Rattle.archive_forms_spelling.proofs.States.{consistent_advanced}

@@ -21,7 +21,8 @@ use Rattle.archive_shape_references.specs.Bytes.{HasBytes, zeros}
 use Rattle.archive_shape_references.proofs.Pieces.{stands_left, stands_right, zero_stands}
 use Rattle.archive_forms_spelling.specs.State.{State, Keys, IsConsistent, AllFrom, AreKeyedBy, visits_of}
 use Rattle.archive_forms_spelling.specs.Spelling.{Spelling, state_after}
-use Rattle.archive_forms_spelling.specs.Spells.{CanonicalPart, SpellsAt, AreBytes}
+use Rattle.archive_forms_spelling.specs.Spells.{CanonicalPart, SpellsAt}
+use Rattle.archive_shape_canonical.specs.Canonical.{AreBytes}
 use Rattle.archive_forms_spelling.specs.Options.{tagged_bytes}
 use Rattle.archive_forms_spelling.specs.Payloads.{payload_spelling}
 use Rattle.archive_forms_spelling.proofs.Gaps.{bytes_more, bytes_append, bytes_zeros}

@@ -26,7 +26,8 @@ use Rattle.archive_shape_references.proofs.Pieces.{stands_left, stands_right, ze
 use Rattle.archive_shape_writing.specs.declared.error.Error.{Error}
 use Rattle.archive_forms_spelling.specs.State.{State, Keys, visits_of, IsConsistent, AllFrom, AreKeyedBy}
 use Rattle.archive_forms_spelling.specs.Spelling.{Spelling, state_after}
-use Rattle.archive_forms_spelling.specs.Spells.{CanonicalPart, SpellsAt, EachSpells, AreGapsZero, AreBytes}
+use Rattle.archive_forms_spelling.specs.Spells.{CanonicalPart, SpellsAt, EachSpells, AreGapsZero}
+use Rattle.archive_shape_canonical.specs.Canonical.{AreBytes}
 use Rattle.archive_forms_spelling.specs.Regions.{state_after_all, values, plain_values, all_keyed_by, pieces, owns, pieces_fit, owns_fit, pieces_refused, owns_refused, region_at, region_piece, region_fits, region_refused}
 use Rattle.archive_forms_spelling.proofs.Aligning.{starts_aligned}
 use Rattle.archive_forms_spelling.proofs.States.{from_earlier}

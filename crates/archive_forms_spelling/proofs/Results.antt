@@ -12,7 +12,8 @@ use Rattle.archive_shape_layout.proofs.Framed.{le_align_up}
 use Rattle.archive_shape_canonical.specs.Settled.{Fit}
 use Rattle.archive_shape_writing.specs.declared.error.Error.{Error}
 use Rattle.archive_forms_spelling.specs.Spelling.{Spelling}
-use Rattle.archive_forms_spelling.specs.Spells.{SpellsAt, Spells, AreBytes}
+use Rattle.archive_forms_spelling.specs.Spells.{SpellsAt, Spells}
+use Rattle.archive_shape_canonical.specs.Canonical.{AreBytes}
 use Rattle.archive_forms_spelling.specs.Results.{result_payload_at, ok_spelling, err_spelling, result_own, result_own_fits, result_own_refused, result_spelling}
 use Rattle.archive_forms_spelling.proofs.Gaps.{bytes_zeros}
 use Rattle.archive_forms_spelling.proofs.Payloads.{payload_spells_at}

@@ -178,5 +178,5 @@ texts_are_written_law fit names =
     let nine : IsUtf8 (codes "abcdefghi") = (codes "abcdefghi", (refl, refl)) in (
       text_is_written fit names _ filled_text_bytes three (((three, tt), tt), small 0 (omega arith), (((three, tt), little 8 (omega arith)), tt)) refl,
       text_is_written fit names _ eight_text_bytes eight (((eight, tt), tt), small 0 (omega arith), (((eight, tt), little 8 (omega arith)), tt)) refl,
-      text_is_written fit names _ nine_text_bytes nine (((nine, (most, small 0 (omega arith))), tt), small 12 (omega arith), (((nine, near), little 20 (omega arith)), tt)) refl,
+      text_is_written fit names _ nine_text_bytes nine (((nine, (most, small 0 (omega arith))), tt), small 12 (omega arith), (((nine, (most, near)), little 20 (omega arith)), tt)) refl,
     )

@@ -24,7 +24,8 @@ use Rattle.archive_shape_writing.specs.declared.error.Error.{Error}
 use Rattle.archive_shape_pointers.specs.Offsets.{difference}
 use Rattle.archive_forms_spelling.specs.State.{State, Met, Keys, SharedValue, IsConsistent, AllFrom, AreKeyedBy, advanced, with_begun, visits_of, visit_of_key}
 use Rattle.archive_forms_spelling.specs.Spelling.{Spelling, state_after}
-use Rattle.archive_forms_spelling.specs.Spells.{CanonicalPart, Spells, SpellsAt, AreBytes}
+use Rattle.archive_forms_spelling.specs.Spells.{CanonicalPart, Spells, SpellsAt}
+use Rattle.archive_shape_canonical.specs.Canonical.{AreBytes}
 use Rattle.archive_forms_spelling.specs.Regions.{region_piece}
 use Rattle.archive_forms_spelling.specs.Pointers.{FitsOffset, offset_bytes}
 use Rattle.archive_forms_spelling.specs.Shared.{shared_padding, first_at, first_visit, shared_value, shared_piece, shared_resolver, shared_met, shared_fits, shared_refused, shared_spelling}

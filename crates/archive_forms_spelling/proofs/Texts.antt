@@ -27,7 +27,8 @@ use Rattle.archive_forms_layout.specs.Text.{own_bytes}
 use Rattle.archive_forms_layout.proofs.TextContent.{inline_is, far_is}
 use Rattle.archive_shape_writing.specs.declared.error.Error.{Error}
 use Rattle.archive_forms_spelling.specs.State.{State, visits_of}
-use Rattle.archive_forms_spelling.specs.Spells.{CanonicalPart, SpellsAt, Spells, AreBytes}
+use Rattle.archive_forms_spelling.specs.Spells.{CanonicalPart, SpellsAt, Spells}
+use Rattle.archive_shape_canonical.specs.Canonical.{AreBytes}
 use Rattle.archive_forms_spelling.specs.Pointers.{FitsOffset, offset_bytes}
 use Rattle.archive_forms_spelling.specs.Texts.{is_short, length_word, inline_bytes, text_piece, text_resolver, text_own, text_piece_fits, text_piece_refused, text_own_fits, text_own_refused, text_spelling, boxed_text_spelling}
 use Rattle.archive_forms_spelling.proofs.States.{consistent_advanced}
@@ -148,7 +149,7 @@ module _ (fit : Fit) (t : List ℕ) where
       → (st : State) (pos : ℕ) (names : Names) (bytes : List ℕ) (level : ℕ) (inside : List OpenShared)
       → IsUtf8 t
       → text_piece_fits b t st.pos
-      → text_own_fits b (text_resolver b st.pos) pos
+      → text_own_fits b t (text_resolver b st.pos) pos
       → HasBytes bytes st.pos (text_piece b t)
       → HasBytes bytes pos (text_own b t (text_resolver b st.pos) pos)
       → CanonicalPart fit names bytes level inside (visits_of st.met) (visits_of st.met) (at pos text) (string t) st.pos (st.pos + length (text_piece b t))
@@ -168,7 +169,7 @@ module _ (fit : Fit) (t : List ℕ) where
         gaps = no_gap bytes [] st.pos;
       }
   text_canonical false e st pos names bytes level inside u f o p q =
-      let c = far_content names bytes pos st.pos (length t) (is_past_eight t e) f.0 o q in
+      let c = far_content names bytes pos st.pos (length t) (is_past_eight t e) f.0 o.1 q in
       one_part (at pos text) (behind st.pos str (length t)) same _ _ st.pos _ c tt refl
       (clean_by names bytes (at pos text) (plain same _) c (λ i h. inl h) tt)
       tt
@@ -192,9 +193,10 @@ module _ (fit : Fit) (t : List ℕ) where
   text_piece_exact false from e f (inl r) = let h = r.0 in let g = f.0 in omega arith
   text_piece_exact false from e f (inr r) = let h = r.0 in let g = f.1 in omega arith
 
-  text_own_exact : (b : Bool) (to pos : ℕ) (e : Error) → text_own_fits b to pos → text_own_refused b to pos e → ⊥
+  text_own_exact : (b : Bool) (to pos : ℕ) (e : Error) → text_own_fits b t to pos → text_own_refused b t to pos e → ⊥
   text_own_exact true to pos e f r = r
-  text_own_exact false to pos e f r = r.0 f
+  text_own_exact false to pos e f (inl r) = let h = r.0 in let g = f.0 in omega arith
+  text_own_exact false to pos e f (inr r) = r.0 f.1
 
   -- the law of texts
   pub text_spells_at : (knows : Names → Type 0) → SpellsAt fit text knows text_spelling t

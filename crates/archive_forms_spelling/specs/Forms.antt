@@ -5,7 +5,7 @@ use Rattle.archive_shape_layout.specs.Value.{Value}
 use Rattle.archive_shape_native.specs.Numbers.{Reads}
 use Rattle.archive_shape_canonical.specs.Sharing.{erased}
 use Rattle.archive_forms_spelling.specs.Spelling.{Spelling}
-use Rattle.archive_forms_spelling.specs.Spells.{AreBytes}
+use Rattle.archive_shape_canonical.specs.Canonical.{AreBytes}
 
 -- a number, a truth value or a char: its own bytes are all that it has
 abbrev pub leaf_spelling : {A : Type 0} → Shape → (A → List ℕ) → (A → Value) → Spelling A (Unit {0})

@@ -8,9 +8,11 @@ pub mod Shared
 pub mod Options
 pub mod Payloads
 pub mod Results
+pub mod Levels
 pub mod Fields
 pub mod Arrays
 pub mod Texts
+pub mod Limits
 pub mod Serializing
 pub mod Written
 pub mod Sample

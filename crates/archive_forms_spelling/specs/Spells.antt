@@ -7,16 +7,12 @@ use Rattle.archive_shape_layout.specs.Content.Part.{at}
 use Rattle.archive_shape_layout.specs.Holds.{Region, Visit, OpenShared, Ascends}
 use Rattle.archive_shape_canonical.specs.Settled.{Fit}
 use Rattle.archive_shape_canonical.specs.Sharing.{erased}
-use Rattle.archive_shape_canonical.specs.Canonical.{InRegions}
+use Rattle.archive_shape_canonical.specs.Canonical.{InRegions, AreBytes}
 use Rattle.archive_shape_canonical.specs.Laws.{CanonicalIn}
 use Rattle.archive_shape_references.specs.Bytes.{HasBytes}
 use Rattle.archive_shape_writing.specs.declared.error.Error.{Error}
 use Rattle.archive_forms_spelling.specs.State.{State, Keys, visits_of, IsConsistent, AllFrom, AreKeyedBy}
 use Rattle.archive_forms_spelling.specs.Spelling.{Spelling, state_after}
-
--- each is below 256
-abbrev pub AreBytes : List ℕ → Type 0
-AreBytes bs = (i : ℕ) → slice_index bs i < 256
 
 -- each byte from a position to another lies in one of the regions, or is zero
 abbrev pub AreGapsZero : List ℕ → List Region → ℕ → ℕ → Type 0

@@ -43,13 +43,13 @@ abbrev pub text_piece_refused : Bool → List ℕ → (from : ℕ) → Error →
 text_piece_refused true t from e = ⊥
 text_piece_refused false t from e = ((2 ^ 30 ≤ length t) × (e ≡ StringTooLong)) ⊎ ((2 ^ 32 ≤ from) × (e ≡ PositionTooLarge))
 
-abbrev pub text_own_fits : Bool → (to pos : ℕ) → Type 0
-text_own_fits true to pos = ⊤
-text_own_fits false to pos = FitsOffset pos to
+abbrev pub text_own_fits : Bool → List ℕ → (to pos : ℕ) → Type 0
+text_own_fits true t to pos = ⊤
+text_own_fits false t to pos = (length t < 2 ^ 30) × FitsOffset pos to
 
-abbrev pub text_own_refused : Bool → (to pos : ℕ) → Error → Type 0
-text_own_refused true to pos e = ⊥
-text_own_refused false to pos e = (FitsOffset pos to → ⊥) × (e ≡ IsizeOverflow)
+abbrev pub text_own_refused : Bool → List ℕ → (to pos : ℕ) → Error → Type 0
+text_own_refused true t to pos e = ⊥
+text_own_refused false t to pos e = ((2 ^ 30 ≤ length t) × (e ≡ StringTooLong)) ⊎ ((FitsOffset pos to → ⊥) × (e ≡ IsizeOverflow))
 
 -- a text, as its bytes, which are UTF-8; the resolver is the position of those out of line
 abbrev pub text_spelling : Spelling (List ℕ) ℕ
@@ -62,8 +62,8 @@ text_spelling = record {
   own = λ t to pos. text_own (is_short t) t to pos;
   piece_fits = λ t st. IsUtf8 t × text_piece_fits (is_short t) t st.pos;
   piece_refused = λ t st e. text_piece_refused (is_short t) t st.pos e;
-  own_fits = λ t to pos. IsUtf8 t × text_own_fits (is_short t) to pos;
-  own_refused = λ t to pos e. text_own_refused (is_short t) to pos e;
+  own_fits = λ t to pos. IsUtf8 t × text_own_fits (is_short t) t to pos;
+  own_refused = λ t to pos e. text_own_refused (is_short t) t to pos e;
   keyed_by = λ keys t. ⊤;
 }
 

@@ -17,8 +17,11 @@ fn is_utf8(bytes: &[u8]) -> bool
     std::str::from_utf8(bytes).is_ok()
 }
 
-/// Checks the bytes of a text out of line.
-fn check_behind<C: ArchiveContext>(
+/// Claims the `len` bytes at `start`, and then tests whether they are UTF-8.
+///
+/// Refuses bytes outside the range with `InvalidSubtreePointer` and `len`, then `ExceededMaximumSubtreeDepth`, and then other
+/// bytes than those of a text with `InvalidUtf8`. `OutOfMemory` is the context's.
+pub fn check_behind<C: ArchiveContext>(
     bytes: &[u8],
     start: usize,
     len: usize,

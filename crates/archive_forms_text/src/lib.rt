@@ -11,6 +11,7 @@ mod resolving;
 mod string;
 
 pub use archive_forms_layout::{held_is_text, one_text};
+pub use check::check_behind;
 pub use laws::out_of_line_capacity;
 pub use repr::ArchivedStringRepr;
 pub use resolving::StringResolver;

@@ -3,7 +3,7 @@ ghost use Rattle.std.specs.Prelude.{◌≡◌, ◌+◌, ◌↔◌, ◌<◌, ◌�
 ghost use Rattle.std.specs.Int.{w32, cast_signed};
 ghost use Rattle.archive_shape_layout.specs.Bytes.{word_at, target_from};
 ghost use Rattle.archive_shape_layout.specs.Content.{IsInline, before_ff, text_length};
-ghost use Rattle.archive_forms_layout.specs.Text.{own_bytes};
+ghost use Rattle.archive_forms_layout.specs.Text.{own_bytes, HasText, IsText};
 ghost use Rattle.archive_forms_text.specs.Repr.{length_of};
 
 /// The eight bytes of the text at `pos`.
@@ -84,6 +84,20 @@ impl ArchivedStringRepr {
         ensures { IsTrue result ↔ (length_of own.now ≡ 0) }
     {
         ArchivedStringRepr::len(own) == 0
+    }
+
+    /// The bytes of the text at `pos`, inline or out of line.
+    pub fn as_bytes(bytes: &[u8], pos: usize) -> &[u8]
+        requires { HasText bytes.now pos }
+        ensures { IsText bytes.now pos result.now }
+    {
+        let own = own_bytes(bytes, pos);
+        if ArchivedStringRepr::is_inline(own) {
+            return before_filler(own);
+        }
+        let len = out_of_line_len(own);
+        let start = out_of_line_start(own, pos).unwrap();
+        &bytes[start..start + len]
     }
 
     /// How far a text out of line begins above the eight bytes.

@@ -1,5 +1,5 @@
 //! How archived texts are written, once it is known where their bytes stand.
-ghost use Rattle.std.specs.Prelude.{◌≡◌, ◌+◌, ◌≤◌, ◌++◌, ℤ, length, FitsSigned, MatchResult};
+ghost use Rattle.std.specs.Prelude.{◌≡◌, ◌+◌, ◌≤◌, ◌<◌, ◌^◌, ◌++◌, ℤ, length, FitsSigned, MatchResult};
 ghost use Rattle.std.specs.Int.{w32, to_le_bytes, cast_unsigned};
 ghost use Rattle.archive_shape_references.specs.Bytes.{overwrite};
 ghost use Rattle.archive_forms_spelling.specs.Texts.{is_short, inline_bytes, length_word, text_own, text_own_fits, text_own_refused};
@@ -33,9 +33,9 @@ fn inline_own(text: &[u8]) -> [u8; 8]
 
 /// The own bytes of a text out of line.
 fn out_of_line_own(len: usize, offset: i32) -> [u8; 8]
+    requires { len < 2 ^ 30 }
     ensures { result ≡ to_le_bytes w32 (length_word len) ++ to_le_bytes w32 (cast_unsigned w32 offset) }
 {
-    let len = len % (1 << 30);
     let word = (len % 64 + 128 + len / 64 * 256) as u32;
     let mut own = [0; 8];
     own[..4].copy_from_slice(&word.to_le_bytes());
@@ -46,11 +46,14 @@ fn out_of_line_own(len: usize, offset: i32) -> [u8; 8]
 /// The own bytes of a text at `pos`, whose bytes stand at `to` if it is out of line.
 fn own_of(text: &[u8], to: usize, pos: usize) -> Result<[u8; 8], Error>
     ensures { MatchResult result
-        (λ own. text_own_fits (is_short text.now) to pos × (own ≡ text_own (is_short text.now) text.now to pos))
-        (text_own_refused (is_short text.now) to pos) }
+        (λ own. text_own_fits (is_short text.now) text.now to pos × (own ≡ text_own (is_short text.now) text.now to pos))
+        (text_own_refused (is_short text.now) text.now to pos) }
 {
     if text.len() <= ArchivedStringRepr::INLINE_CAPACITY {
         return Ok(inline_own(text));
+    }
+    if text.len() > ArchivedStringRepr::OUT_OF_LINE_CAPACITY {
+        return Err(Error::StringTooLong);
     }
     let Ok(difference) = signed_offset(pos, to) else {
         return Err(Error::IsizeOverflow);
@@ -63,8 +66,8 @@ fn own_of(text: &[u8], to: usize, pos: usize) -> Result<[u8; 8], Error>
 
 impl ArchivedString {
     /// Writes the text: inline where it has at most eight bytes, and else as its length and the offset of its bytes, which
-    /// stand where the resolver tells. Refuses an offset that does not fit with `IsizeOverflow`. Of a length past
-    /// `ArchivedStringRepr::OUT_OF_LINE_CAPACITY`, which serializing refuses, the low bits are written.
+    /// stand where the resolver tells. Refuses more than `ArchivedStringRepr::OUT_OF_LINE_CAPACITY` bytes with
+    /// `StringTooLong`, and then an offset that does not fit with `IsizeOverflow`.
     pub fn resolve_from_str(
         value: &str,
         resolver: StringResolver,
@@ -72,9 +75,9 @@ impl ArchivedString {
     ) -> Result<(), Error>
         requires { out.start + 8 ≤ length out.out.now }
         ensures { MatchResult result
-            (λ _. text_own_fits (is_short value.now) resolver.pos out.entry.pos
+            (λ _. text_own_fits (is_short value.now) value.now resolver.pos out.entry.pos
             × (out.exit.0.now ≡ overwrite out.entry.out.now out.entry.start (text_own (is_short value.now) value.now resolver.pos out.entry.pos)))
-            (λ e. text_own_refused (is_short value.now) resolver.pos out.entry.pos e × (out.exit.0.now ≡ out.entry.out.now)) }
+            (λ e. text_own_refused (is_short value.now) value.now resolver.pos out.entry.pos e × (out.exit.0.now ≡ out.entry.out.now)) }
     {
         let Place {
             out,

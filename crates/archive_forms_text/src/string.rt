@@ -5,7 +5,7 @@ ghost use Rattle.archive_shape_layout.specs.Shape.Shape.{text};
 ghost use Rattle.archive_forms_layout.specs.Text.{HasText, IsText, LiesAt};
 
 use crate::ArchivedStringRepr;
-use crate::repr::{before_filler, out_of_line_len, out_of_line_start, own_bytes};
+use crate::repr::{out_of_line_start, own_bytes};
 use archive_shape::{NoUndef, Portable, Ref, Seal, Shape, Str};
 use std::alloc::{AllocError, Global};
 
@@ -61,13 +61,7 @@ impl ArchivedString {
         requires { HasText this.bytes.now this.pos }
         ensures { IsText this.entry.bytes.now this.entry.pos result.now }
     {
-        let own = own_bytes(this.bytes, this.pos);
-        if ArchivedStringRepr::is_inline(own) {
-            return before_filler(own);
-        }
-        let len = out_of_line_len(own);
-        let start = out_of_line_start(own, this.pos).unwrap();
-        &this.bytes[start..start + len]
+        ArchivedStringRepr::as_bytes(this.bytes, this.pos)
     }
 
     pub fn as_str<'a>(this: Ref<'a, ArchivedString>) -> &'a str
