@@ -27,7 +27,7 @@ use Rattle.archive_shape_writing.specs.declared.error.Error.{Error}
 use Rattle.archive_shape_writing.specs.declared.error.Error.TheVariants.{Unaligned, InvalidSubtreePointer, OutOfMemory}
 use Rattle.archive_shape_checking.proofs.Claims.{one_error, place_unanswered}
 use Rattle.archive_shape_checking.proofs.Ranges.{NestsBelow-append}
-use Rattle.archive_forms_checking.specs.Steps.{Narrower}
+use Rattle.archive_shape_checking.specs.Steps.{Narrower}
 
 -- ---- sizes, which stop at `usize::MAX`
 

@@ -1,9 +1,10 @@
 -- Sizes of structs, by sizes of fields that stop at `usize::MAX`.
-use Rattle.std.specs.Prelude.{◌≡◌, ℕ, ◌+◌, ◌-◌, ◌^◌, min}
+use Rattle.std.specs.Prelude.{◌≡◌, ℕ, ◌+◌, ◌-◌, ◌^◌, ◌<◌, min, max}
 use Rattle.std.proofs.Common.{arith, ap, ◌∙◌}
 use Rattle.archive_shape_layout.specs.Bytes.{align_up}
 use Rattle.archive_shape_layout.specs.Shape.{Shape, Shapes, size_of, align_of, fields_end}
 use Rattle.archive_shape_layout.specs.Shape.Shape.{tuple}
+use Rattle.archive_shape_layout.specs.Shape.Shapes.{no_shapes, more_shapes}
 use Rattle.archive_forms_layout.proofs.Sizes.{filled_cut}
 
 -- where a field ends, behind an offset that is cut
@@ -19,3 +20,13 @@ pub struct_cut : (ss : Shapes) (end align : ℕ) → end ≡ min (fields_end ss 
     → min (align_up end align) (2 ^ 64 - 1) ≡ min (size_of (tuple ss)) (2 ^ 64 - 1)
 struct_cut ss end align is aligned =
     filled_cut (fields_end ss 0) end align is ∙ ap (λ a. min (align_up (fields_end ss 0) a) (2 ^ 64 - 1)) aligned
+
+-- ---- alignments
+
+-- that of a struct of one field
+pub alone_aligned : (s : Shape) (align : ℕ) → align ≡ align_of s → 0 < align → align ≡ align_of (tuple (more_shapes s no_shapes))
+alone_aligned s align aligned positive = omega (arith, aligned, positive)
+
+-- that of a field before others
+pub before_aligned : (s : Shape) (ss : Shapes) (align others : ℕ) → align ≡ align_of s → others ≡ align_of (tuple ss) → max align others ≡ align_of (tuple (more_shapes s ss))
+before_aligned s ss align others aligned rest = omega (arith, aligned, rest)

@@ -5,26 +5,18 @@ use Rattle.archive_shape_layout.specs.Bytes.{align_up}
 use Rattle.archive_shape_layout.specs.Shape.{Shape, Shapes, align_of, size_of, fields_end}
 use Rattle.archive_shape_layout.specs.Shape.Shape.{tuple}
 use Rattle.archive_shape_layout.specs.Shape.Shapes.{no_shapes, more_shapes}
-use Rattle.archive_shape_layout.specs.Value.Value.{group}
-use Rattle.archive_shape_layout.specs.Content.{Names, fields, content_of, made, shape_content}
+use Rattle.archive_shape_layout.specs.Content.{Names, fields, shape_content}
 use Rattle.archive_shape_layout.specs.Content.Part.{at}
-use Rattle.archive_shape_layout.specs.Content.Label.{whole}
-use Rattle.archive_shape_layout.specs.Content.Content.{plain}
 use Rattle.archive_shape_layout.specs.Holds.{Visit, OpenShared}
-use Rattle.archive_shape_layout.specs.Holds.Holds.{holds_plain}
 use Rattle.archive_shape_layout.proofs.Framed.{le_align_up, le_fields_end}
-use Rattle.archive_shape_checking.specs.PartFault.PartFault.{fault_plain}
 use Rattle.archive_shape_checking.specs.Kept.{Kept, Records, Advances}
 use Rattle.archive_shape_checking.specs.Checks.{Checks, ChecksAll, Moves}
 use Rattle.archive_shape_writing.specs.declared.error.Error.{Error}
+use Rattle.archive_shape_checking.proofs.Wholes.{whole_checked}
 use Rattle.archive_forms_checking.proofs.Ordered.{Left, all_left, one_less, first_fault, none_left, checked_records, advances_then}
+use Rattle.archive_shape_references.proofs.PointerSizes.{first_multiple}
 
 -- ---- where fields stand
-
--- a first field begins at 0
-pub first_multiple : (align : ℕ) → align_up 0 align ≡ 0
-unfolding align_up
-first_multiple align = let whole_align : align - 0 % align ≡ align = omega (arith, zero-mod align) in rw whole_align (omega (arith, mod_self align))
 
 -- a field that stands behind an offset, with others behind it, in a struct of so many bytes
 pub record FieldAt (s : Shape) (rest : Shapes) (offset from room : ℕ) : Type 0 where
@@ -69,25 +61,8 @@ tuple_checked :
     (names : Names) (bytes : List ℕ) (pos : ℕ) (ss : Shapes) (k l : Kept) (r : Result (Unit {0}) Error)
     → ChecksAll names bytes (fields pos 0 ss) k r l
     → Checks names bytes (at pos (tuple ss)) k r l
-unfolding shape_content made
-tuple_checked names bytes pos ss k l (Ok x) h inside before records =
-    let below = h inside before records in
-    let held = below.passes.accepts in
-    let is : content_of names bytes (at pos (tuple ss)) ≡ plain whole (fields pos 0 ss) = refl in
-    record {
-      passes = record {
-        value = group below.passes.values;
-        regions = below.passes.regions;
-        after = below.passes.after;
-        accepts = record { holds = holds_plain is tt held.all refl; ascends = held.ascends; nests = held.nests };
-      };
-      seen = below.seen;
-      moves = below.moves;
-      records = below.records;
-    }
-tuple_checked names bytes pos ss k l (Err e) h inside before records =
-    let is : content_of names bytes (at pos (tuple ss)) ≡ plain whole (fields pos 0 ss) = refl in
-    λ other. fault_plain tt is (h inside before records other)
+unfolding shape_content
+tuple_checked names bytes pos ss k l r h = whole_checked names bytes pos (tuple ss) (fields pos 0 ss) k l r refl h
 
 module _ (knows : Names → Type 0) (bytes : List ℕ) (pos : ℕ) (ss : Shapes) (old : Kept) where
   -- before the first check all are left

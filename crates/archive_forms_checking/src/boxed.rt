@@ -6,7 +6,7 @@ ghost use Rattle.archive_shape_layout.specs.Content.{Names};
 ghost use Rattle.archive_shape_layout.specs.Content.Part.{at, behind};
 ghost use Rattle.archive_shape_checking.specs.Kept.{IsWithin};
 ghost use Rattle.archive_shape_checking.specs.Checks.{Checks, Moves};
-ghost use Rattle.archive_forms_checking.specs.Steps.{StepTakes, StepChecks};
+ghost use Rattle.archive_shape_checking.specs.Steps.{StepTakes, StepChecks};
 
 use archive_shape_checking::{ArchiveContext, Error};
 use archive_shape_pointers::RawRelPtrI32;

@@ -7,10 +7,9 @@ ghost use Rattle.archive_shape_layout.specs.Content.{Names};
 ghost use Rattle.archive_shape_layout.specs.Content.Part.{at, behind};
 ghost use Rattle.archive_shape_checking.specs.Kept.{IsWithin};
 ghost use Rattle.archive_shape_checking.specs.Checks.{Checks, Moves};
-ghost use Rattle.archive_forms_checking.specs.Steps.{StepTakes, StepChecks};
+ghost use Rattle.archive_shape_checking.specs.Steps.{StepTakes, StepChecks};
 
-use crate::elements::check_slice_each;
-use archive_shape_checking::{ArchiveContext, Error};
+use archive_shape_checking::{ArchiveContext, Error, check_slice_each};
 use archive_shape_pointers::RelPtr;
 use archive_shape_portable::{ArchivedIsize, Portable};
 use archive_shape_references::{Ref, Slice};
