@@ -1,5 +1,5 @@
+pub mod Arrays
 pub mod Inside
 pub mod Joined
-pub mod Pairs
 pub mod Payloads
 pub mod Pointed

@@ -24,7 +24,7 @@ use Rattle.archive_shape.specs.Key.{HeldAt}
 use Rattle.archive_forms_layout.proofs.TextContent.{followed}
 use Rattle.archive_forms_checking.proofs.Contents.{sized_is, slice_is}
 use Rattle.archive_forms_checking.proofs.Targets.{first_word}
-use Rattle.archive_forms_reading.specs.Parts.{HasValue, PointsTo, IsBoxAt, IsVecAt}
+use Rattle.archive_forms_reading.specs.Parts.{HasValue, PointsTo, AreElements, IsBoxAt, IsVecAt}
 use Rattle.archive_forms_reading.proofs.Inside.{one_held}
 
 -- a region ends in the bytes
@@ -106,10 +106,45 @@ module _ (names : Names) (bytes : List ℕ) (s : Shape) where
   count_held zero start (holds_none e f g) = ap count_values e
   count_held (suc n) start (holds_more x rest is joined) = ap count_values is ∙ (let c = count_held n (start + size_of s) rest in omega arith)
 
+-- elements that the layout has are those of a value
+pub elements_stand :
+    (names : Names) (bytes : List ℕ) (s : Shape) (knows : Names → Type 0) (n start level : ℕ) (inside : List OpenShared)
+    {vs : Values} {regions : List Region} {before after : List Visit} (v : Value)
+    → knows names
+    → HoldAll names bytes level inside (elements start n s) vs regions before after
+    → All (EndsIn bytes) regions
+    → start + n * size_of s ≤ length bytes
+    → made whole vs ≡ Some v
+    → AreElements s knows bytes start n v
+elements_stand names bytes s knows n start level inside {vs} v known all within fits is =
+    record {
+      elements = vs;
+      is = made_whole vs v is;
+      count = count_held names bytes s n start all;
+      within = fits;
+      each = λ i less.
+          let one = element_holds names bytes s n start all within i less in (
+            one.element,
+            one.there,
+            record {
+              names = names;
+              known = known;
+              level = level;
+              inside = inside;
+              regions = one.regions;
+              before = one.before;
+              after = one.after;
+              own_within = element_ends start i n (size_of s) (length bytes) less fits;
+              within = one.within;
+              holds = one.holds;
+            },
+          );
+    }
+
 -- ---- pointers
 
 -- a value that is what its pointer leads to
-target_holds :
+pub target_holds :
     {s : Shape} {knows : Names → Type 0} {bytes : List ℕ} {pos : ℕ} {v : Value} (h : HeldAt s knows bytes pos v) (t : ℕ) (p : Pointee) (n : ℕ)
     → content_of h.names bytes (at pos s) ≡ plain same (behind t p n ∷ [])
     → Holds h.names bytes h.level h.inside (behind t p n) v h.regions h.before h.after
@@ -172,27 +207,5 @@ module _ (s : Shape) (knows : Names → Type 0) (bytes : List ℕ) (pos : ℕ) w
         let says = by_claimed h.names bytes (slice_is h.names bytes to s len) whole_target in
         let ends = subst (All (EndsIn bytes)) says.regions_are h.within in
         let own = All-head (EndsIn bytes) (region_of (pointee_span to (slice s) len) h.level) [] (other_regions bytes says.within _ ends) in
-        record {
-          elements = says.vs;
-          is = made_whole says.vs v says.is_made;
-          count = count_held h.names bytes s len to says.all;
-          within = omega (arith, own);
-          each = λ i less.
-              let one = element_holds h.names bytes s len to says.all (first_regions bytes says.within _ ends) i less in (
-                one.element,
-                one.there,
-                record {
-                  names = h.names;
-                  known = h.known;
-                  level = suc h.level;
-                  inside = h.inside;
-                  regions = one.regions;
-                  before = one.before;
-                  after = one.after;
-                  own_within = element_ends to i len (size_of s) (length bytes) less (omega (arith, own));
-                  within = one.within;
-                  holds = one.holds;
-                },
-              );
-        };
+        elements_stand h.names bytes s knows len to (suc h.level) h.inside v h.known says.all (first_regions bytes says.within _ ends) (omega (arith, own)) says.is_made;
   }

@@ -10,7 +10,6 @@ use Rattle.archive_shape_layout.specs.Value.Values.{no_values, more_values}
 use Rattle.archive_shape_layout.specs.Content.{Names}
 use Rattle.archive_shape_layout.specs.Path.{value_in}
 use Rattle.archive_shape.specs.Key.{HeldAt}
-use Rattle.archive_forms_checking.specs.Tuples.{tuple2}
 
 -- bytes have some value of a shape at a position
 pub record HasValue (shape : Shape) (knows : Names → Type 0) (bytes : List ℕ) (pos : ℕ) : Type 0 where
@@ -66,24 +65,6 @@ module _ (s t : Shape) (knows others : Names → Type 0) (bytes : List ℕ) (pos
   pub record HasOk : Type 0 where
     pub payload : Value
     pub held : HeldAt (result s t) (both knows others) bytes pos (chosen 0 (more_values payload no_values))
-
--- ---- tuples
-
--- where the second field of a tuple at a position stands
-abbrev pub second_position : Shape → Shape → ℕ → ℕ
-second_position s t pos = pos + align_up (size_of s) (align_of t)
-
--- a value is the group of two, of which the first stands at a position and the second behind it
-pub record HasFields (s t : Shape) (knows others : Names → Type 0) (bytes : List ℕ) (pos : ℕ) (value : Value) : Type 0 where
-  pub first : Value
-  pub second : Value
-  pub is : value ≡ group (more_values first (more_values second no_values))
-  pub first_held : HeldAt s knows bytes pos first
-  pub second_held : HeldAt t others bytes (second_position s t pos) second
-
--- each value that the tuple at a position has is that of its two fields
-abbrev pub ArePairAt : Shape → Shape → (Names → Type 0) → (Names → Type 0) → List ℕ → ℕ → Type 0
-ArePairAt s t knows others bytes pos = (v : Value) → HeldAt (tuple2 s t) (both knows others) bytes pos v → HasFields s t knows others bytes pos v
 
 -- ---- boxes and vectors
 

@@ -1,23 +1,22 @@
-//! Archived options, results, tuples, entries, boxes and vectors.
+//! Archived options, results, boxes and vectors.
 #![tactic(auto)]
 
+mod array;
 mod boxed;
-mod entry;
 mod iter;
 mod option;
 mod resolving;
 mod result;
 mod slice;
 mod target;
-mod tuple;
 mod vector;
 
+pub use array::{array_element, array_element_seal, array_slice};
 pub use boxed::ArchivedBox;
-pub use entry::Entry;
 pub use iter::Iter;
 pub use option::ArchivedOption;
 pub use resolving::{BoxResolver, VecResolver};
 pub use result::ArchivedResult;
 pub use slice::{SliceRef, SliceSeal};
-pub use tuple::ArchivedTuple2;
+pub use target::target_of;
 pub use vector::ArchivedVec;

@@ -7,7 +7,7 @@ ghost use Rattle.archive_forms_layout.proofs.Sizes.{option_sized};
 ghost use Rattle.archive_forms_reading.specs.Parts.{HasValue, IsNoneAt, IsSomeAt, HasSome, some_position};
 
 use crate::Iter;
-use archive_forms_checking::check_option_each;
+use archive_forms_checking::{check_option_each, next_multiple};
 use archive_shape_checking::{ArchiveContext, CheckBytes, Error};
 use archive_shape_portable::{Portable, Shape};
 use archive_shape_references::{Ref, Seal};
@@ -19,8 +19,7 @@ pub(crate) const fn option_size(size: usize, align: usize) -> usize
     requires { 0 < align }
     ensures { result ≡ min (align_up (align + size) align) (2 ^ 64 - 1) }
 {
-    let end = align.saturating_add(size);
-    end.saturating_add((align - end % align) % align)
+    next_multiple(align.saturating_add(size), align)
 }
 
 /// An archived option: a tag of one byte, which is 0 or 1, and with 1 the value at the first multiple of its alignment behind

@@ -10,19 +10,12 @@ ghost use Rattle.archive_forms_reading.specs.Parts.{HasValue, both, IsOkAt, IsEr
 
 use crate::Iter;
 use crate::option::option_size;
-use archive_forms_checking::check_result_each;
+use archive_forms_checking::{check_result_each, greater};
 use archive_shape_checking::{ArchiveContext, CheckBytes, Error};
 use archive_shape_portable::{Portable, Shape};
 use archive_shape_references::Ref;
 use std::alloc::{AllocError, Global};
 use std::marker::PhantomData;
-
-/// The greater of the two.
-pub(crate) const fn greater(first: usize, second: usize) -> usize
-    ensures { result ≡ max first second }
-{
-    if first < second { second } else { first }
-}
 
 /// The size in bytes of a result whose value and error have these sizes and alignments.
 const fn result_size(

@@ -6,7 +6,7 @@ use archive_shape_pointers::RawRelPtrI32;
 use archive_shape_references::Ref;
 
 /// Where the pointer at `pos` leads.
-pub(crate) fn target_of(bytes: &[u8], pos: usize) -> usize
+pub fn target_of(bytes: &[u8], pos: usize) -> usize
     requires fits { pos + 4 ≤ length bytes.now }
     requires leads { (to : ℕ) × PointsTo bytes.now pos to }
     ensures { PointsTo bytes.now pos result }
