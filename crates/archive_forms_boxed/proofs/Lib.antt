@@ -1,0 +1,3 @@
+pub mod SameContent
+pub mod Slices
+pub mod Texts

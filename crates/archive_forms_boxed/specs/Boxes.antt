@@ -1,0 +1,23 @@
+-- Where the boxes of slices and of texts lead, and what stands there.
+use Rattle.std.specs.Prelude.{◌≡◌, ℕ, ◌+◌, ◌≤◌, List, length, IsUtf8, ⊤}
+use Rattle.archive_shape_layout.specs.Bytes.{window}
+use Rattle.archive_shape_layout.specs.Shape.{Shape}
+use Rattle.archive_shape_layout.specs.Shape.Shape.{box}
+use Rattle.archive_shape_layout.specs.Shape.Pointee.{slice, str}
+use Rattle.archive_shape_layout.specs.Value.{Value}
+use Rattle.archive_shape_layout.specs.Value.Value.{string}
+use Rattle.archive_shape_layout.specs.Content.{Names}
+use Rattle.archive_shape.specs.Key.{HeldAt}
+use Rattle.archive_forms_reading.specs.Parts.{PointsTo, AreElements}
+
+-- the box of a slice at a position leads to another, from which on its n elements stand
+pub record IsBoxedSliceAt (s : Shape) (knows : Names → Type 0) (bytes : List ℕ) (pos to len : ℕ) : Type 0 where
+  pub points : PointsTo bytes pos to
+  pub value : (v : Value) → HeldAt (box (slice s)) knows bytes pos v → AreElements s knows bytes to len v
+
+-- the box of a text at a position leads to another, from which on the n bytes of the text stand
+pub record IsBoxedStrAt (bytes : List ℕ) (pos to len : ℕ) : Type 0 where
+  pub points : PointsTo bytes pos to
+  pub within : to + len ≤ length bytes
+  pub is_text : IsUtf8 (window bytes to len)
+  pub value : (v : Value) → HeldAt (box str) (λ _. ⊤) bytes pos v → v ≡ string (window bytes to len)

@@ -1,0 +1,127 @@
+//! Archived boxes of slices.
+ghost use Rattle.std.specs.Prelude.{◌≡◌, ℕ, ◌+◌, ◌≤◌, ◌↔◌, IsTrue, length};
+ghost use Rattle.std.proofs.Common.{refl, lit<, lit≤};
+ghost use Rattle.archive_shape_layout.specs.Shape.Shape.{box};
+ghost use Rattle.archive_shape_layout.specs.Shape.Pointee.{slice};
+ghost use Rattle.archive_shape_layout.specs.Content.{Names};
+ghost use Rattle.archive_shape_layout.specs.Content.Part.{at};
+ghost use Rattle.archive_shape_checking.specs.Kept.{IsWithin};
+ghost use Rattle.archive_shape_checking.specs.Checks.{Checks, Moves};
+ghost use Rattle.archive_shape_checking.specs.Steps.{StepTakes, StepChecks};
+ghost use Rattle.archive_forms_reading.specs.Parts.{HasValue};
+ghost use Rattle.archive_forms_boxed.specs.Boxes.{IsBoxedSliceAt};
+
+use archive_forms_checking::check_vec_each;
+use archive_forms_reading::{ArchivedVec, SliceRef, SliceSeal};
+use archive_shape_checking::{ArchiveContext, CheckBytes, Error};
+use archive_shape_portable::{NoUndef, Pointee, Portable, Shape};
+use archive_shape_references::{Ref, Seal};
+use std::alloc::{AllocError, Global};
+use std::marker::PhantomData;
+
+/// An archived box of a slice, as rkyv's `ArchivedBox<[T]>`: an offset of four bytes that leads to the elements, and four
+/// bytes with their number. Its bytes are those of an `ArchivedVec`.
+#[derive_where(Clone, Copy)]
+pub struct ArchivedBoxedSlice<T> {
+    pub of: PhantomData<T>,
+}
+
+impl<T> NoUndef for ArchivedBoxedSlice<T> {}
+
+impl<T: Portable> Portable for ArchivedBoxedSlice<T> {
+    ghost SIZE = { 8 };
+
+    ghost ALIGN = { 4 };
+
+    ghost shape = { box (slice T.shape) };
+
+    ghost knows = { T.knows };
+
+    ghost named = { T.named };
+
+    const SIZE: usize = 8;
+
+    const ALIGN: usize = 4;
+
+    fn shape(alloc: Global) -> Result<Shape, AllocError> {
+        Ok(Shape::Boxed(Pointee::Slice(Box::new(alloc, T::shape(alloc)?)?)))
+    }
+
+    ghost sized = { refl };
+
+    ghost aligned = { refl };
+
+    ghost aligns = { (lit< tt, lit≤ tt) };
+
+    ghost known = { T.known };
+}
+
+/// Checks the box of a slice, eight bytes at `pos`: an offset to the elements, counted from `pos` in bytes, and how many
+/// elements there are. Their bytes are claimed together, and what the step's checks claim lies before them.
+///
+/// Refuses elements outside the range with `InvalidSubtreePointer` and their size in bytes, which stops at `usize::MAX`, also
+/// where the offset leads before the first byte; then `Unaligned`, `ExceededMaximumSubtreeDepth`, and what the step first
+/// refuses. `OutOfMemory` is the context's or the step's.
+pub fn check_boxed_slice_each<
+    T: Portable,
+    C: ArchiveContext,
+    F: Fn(&mut C, usize) -> Result<(), Error>,
+>(bytes: &[u8], pos: usize, context: &mut C, step: F) -> Result<(), Error>
+    requires fits { pos + 8 ≤ length bytes.now }
+    requires range { IsWithin (C.kept context.old) (length bytes.now) }
+    requires takes { StepTakes F.Fn C.kept bytes.now T.shape step (C.kept context.old) T.SIZE }
+    requires checks { StepChecks F.Fn C.kept bytes.now T.shape step T.knows }
+    ensures moves { Moves (C.kept context.old) result (C.kept context.new) }
+    ensures exact { (names : Names) → T.knows names
+        → Checks names bytes.now (at pos (box (slice T.shape))) (C.kept context.old) result (C.kept context.new) }
+{
+    check_vec_each::<T, C, F>(bytes, pos, context, step)
+}
+
+impl<C: ArchiveContext, T: CheckBytes<C>> CheckBytes<C> for ArchivedBoxedSlice<T> {
+    fn check(alloc: Global, bytes: &[u8], pos: usize, context: &mut C) -> Result<(), Error> {
+        check_boxed_slice_each::<T, C, _>(
+            bytes,
+            pos,
+            context,
+            |c: &mut C, p: usize| T::check(alloc, bytes, p, c),
+        )
+    }
+}
+
+impl<T: Portable> ArchivedBoxedSlice<T> {
+    /// The elements.
+    pub fn get<'a>(this: Ref<'a, ArchivedBoxedSlice<T>>) -> SliceRef<'a, T>
+        requires { HasValue (box (slice T.shape)) T.knows this.bytes.now this.pos }
+        ensures bytes { result.bytes ≡ this.entry.bytes }
+        ensures elements { IsBoxedSliceAt T.shape T.knows this.entry.bytes.now this.entry.pos result.pos result.len }
+    {
+        ArchivedVec::as_slice(Ref::<ArchivedVec<T>>::new(this.bytes, this.pos))
+    }
+
+    /// The elements. What the buffer is after the loan is not said.
+    pub fn get_seal<'a>(this: Seal<'a, ArchivedBoxedSlice<T>>) -> SliceSeal<'a, T>
+        requires { HasValue (box (slice T.shape)) T.knows this.bytes.now this.pos }
+        ensures same_reference { result.bytes.ghost_name ≡ this.entry.bytes.ghost_name }
+        ensures bytes { result.bytes.now ≡ this.entry.bytes.now }
+        ensures elements { IsBoxedSliceAt T.shape T.knows this.entry.bytes.now this.entry.pos result.pos result.len }
+    {
+        let Seal { bytes, pos, .. } = this;
+        ArchivedVec::as_slice_seal(Seal::<ArchivedVec<T>>::new(bytes, pos))
+    }
+
+    /// How many elements there are.
+    pub fn len(this: Ref<'_, ArchivedBoxedSlice<T>>) -> usize
+        requires { HasValue (box (slice T.shape)) T.knows this.bytes.now this.pos }
+        ensures { (to : ℕ) × IsBoxedSliceAt T.shape T.knows this.entry.bytes.now this.entry.pos to result }
+    {
+        ArchivedBoxedSlice::get(this).len()
+    }
+
+    pub fn is_empty(this: Ref<'_, ArchivedBoxedSlice<T>>) -> bool
+        requires { HasValue (box (slice T.shape)) T.knows this.bytes.now this.pos }
+        ensures { (to len : ℕ) × IsBoxedSliceAt T.shape T.knows this.entry.bytes.now this.entry.pos to len × (IsTrue result ↔ (len ≡ 0)) }
+    {
+        ArchivedBoxedSlice::len(this) == 0
+    }
+}
