@@ -99,16 +99,45 @@ tagged_over bytes at offset size tag payload first fits room s =
     ∙ two
     ∙ overwrites_joined bytes at 1 (tag ∷ []) (zeros k ++ (payload ++ zeros j)) refl (omega (arith, length-append (zeros k) (payload ++ zeros j), length-append payload (zeros j)))
 
--- the place of the payload is still zero
-pub payload_blank : (bytes : List ℕ) (at offset size tag n : ℕ) → 1 ≤ offset → offset + n ≤ size → at + size ≤ length bytes → HasBytes bytes at (zeros size) → HasBytes (overwrite bytes at (tag ∷ [])) (at + offset) (zeros n)
-payload_blank bytes at offset size tag n first fits room s =
-    let j = size - (offset + n) in
-    let z : zeros size ≡ zeros offset ++ (zeros n ++ zeros j) = (let e : size ≡ offset + (n + j) = omega arith in ap zeros e) ∙ sym (zeros-append offset (n + j)) ∙ ap (λ l. zeros offset ++ l) (sym (zeros-append n j)) in
+-- part of zeros is zero
+pub zeros_part : (bytes : List ℕ) (at size from n : ℕ) → from + n ≤ size → HasBytes bytes at (zeros size) → HasBytes bytes (at + from) (zeros n)
+zeros_part bytes at size from n fits s =
+    let j = size - (from + n) in
+    let z : zeros size ≡ zeros from ++ (zeros n ++ zeros j) = (let e : size ≡ from + (n + j) = omega arith in ap zeros e) ∙ sym (zeros-append from (n + j)) ∙ ap (λ l. zeros from ++ l) (sym (zeros-append n j)) in
     let P : List ℕ → Type 0 = λ l. HasBytes bytes at l in
-    let no : length (zeros offset) ≡ offset = length-replicate _ _ in
-    let behind = stands_right bytes at (zeros offset) (zeros n ++ zeros j) (at + offset) (omega arith) (subst P z s) in
-    let here : HasBytes bytes (at + offset) (zeros n) = stands_left bytes (at + offset) (zeros n) (zeros j) behind in
-    window_behind bytes at (tag ∷ []) (omega arith) (at + offset) (length (zeros n)) (omega arith) ∙ here
+    let long : length (zeros from) ≡ from = length-replicate _ _ in
+    stands_left bytes (at + from) (zeros n) (zeros j) (stands_right bytes at (zeros from) (zeros n ++ zeros j) (at + from) (omega arith) (subst P z s))
+
+-- ---- pieces of a place that is zero
+
+module _ (bytes : List ℕ) (at size : ℕ) (room : at + size ≤ length bytes) (blank : HasBytes bytes at (zeros size)) (done : List ℕ) where
+  -- what lies behind those that were written is still zero
+  pub still_zero : (from n : ℕ) → length done ≤ from → from + n ≤ size → HasBytes (overwrite bytes at done) (at + from) (zeros n)
+  still_zero from n h fits = window_behind bytes at done (omega arith) (at + from) (length (zeros n)) (omega arith) ∙ zeros_part bytes at size from n fits blank
+
+  -- another piece, with the zeros before it
+  pub piece_behind : (from : ℕ) (piece : List ℕ) → length done ≤ from → from + length piece ≤ size
+      → overwrite (overwrite bytes at done) (at + from) piece ≡ overwrite bytes at (done ++ (zeros (from - length done) ++ piece))
+  piece_behind from piece h fits =
+      let now = overwrite bytes at done in
+      let k = from - length done in
+      let P : List ℕ → Type 0 = λ l. HasBytes now (at + length done) l in
+      let long : length now ≡ length bytes = length-overwrite bytes at done (omega arith) in
+      let gap : length (zeros k) ≡ k = length-replicate _ _ in
+      let z : zeros (k + length piece) ≡ zeros k ++ (zeros (length piece) ++ zeros 0) = sym (zeros-append k (length piece)) ∙ ap (λ l. zeros k ++ l) (sym (append-nil (zeros (length piece)))) in
+      let here = subst P z (still_zero (length done) (k + length piece) (omega arith) (omega arith)) in
+      (let e : at + from ≡ at + length done + k = omega arith in ap (λ n. overwrite now n piece) e)
+      ∙ fills now (at + length done) k 0 piece here (omega arith)
+      ∙ ap (λ l. overwrite now (at + length done) (zeros k ++ l)) (append-nil piece)
+      ∙ overwrites_joined bytes at (length done) done (zeros k ++ piece) refl (omega (arith, length-append (zeros k) piece))
+
+  -- the zeros behind the last
+  pub zeros_behind : length done ≤ size → overwrite bytes at done ≡ overwrite bytes at (done ++ zeros (size - length done))
+  zeros_behind h =
+      let n = size - length done in
+      let long : length (zeros n) ≡ n = length-replicate _ _ in
+      sym (unfilled (overwrite bytes at done) (at + length done) n (still_zero (length done) n (omega arith) (omega arith)))
+      ∙ overwrites_joined bytes at (length done) done (zeros n) refl (omega arith)
 
 -- a byte that is set is written
 pub set_over : (bytes : List ℕ) (at b : ℕ) → at < length bytes → set bytes at b ≡ overwrite bytes at (b ∷ [])
@@ -132,7 +161,7 @@ module _ (offset size payload : ℕ) (first : 1 ≤ offset) (fits : offset + pay
   pub payload_place : HasBytes (set bytes start tag) (start + offset) (zeros payload)
   payload_place =
       let P : List ℕ → Type 0 = λ l. HasBytes l (start + offset) (zeros payload) in
-      subst P (sym (set_over bytes start tag (omega arith))) (payload_blank bytes start offset size tag payload first fits room blank)
+      subst P (sym (set_over bytes start tag (omega arith))) (still_zero bytes start size room blank (tag ∷ []) offset payload first fits)
 
   -- what is written there is written with the tag
   pub payload_over : (own : List ℕ) → length own ≡ payload → overwrite (set bytes start tag) (start + offset) own ≡ overwrite bytes start (tagged_bytes tag offset size own)

@@ -1,3 +1,5 @@
+pub mod Arrays
+pub mod Batches
 pub mod Joining
 pub mod Laying
 pub mod Loops
@@ -5,4 +7,5 @@ pub mod Options
 pub mod Regions
 pub mod Results
 pub mod Root
+pub mod Structs
 pub mod Whole

@@ -74,6 +74,19 @@ module _ {A R W : Type 0} (w : Spelling A R) (s : WriterMembers W) (xs : List A)
       (h.rest ∙ ap (λ l. h.done ++ pieces w l h.left) is)
       (λ r. h.refused e (subst Q (sym is) (inl r))) h.wrote whole
 
+  -- the data of the first one was written
+  pub reached_first : (next : W) (x : A) → drop 0 xs ≡ x ∷ drop (0 + 1) xs → IsAt s.pos s.known old st
+      → Wrote s old next (w.piece x st) → w.piece_fits x st → IsAt s.pos s.known next (state_after w x st) → Reached 1 next (w.resolver x st ∷ [])
+  unfolding reached_none
+  reached_first next x e is g f at = reached_next 0 old next [] x e (reached_none is) g f at
+
+  -- a call stopped in it
+  pub first_stopped : (new : W) (x : A) (e : Error) → drop 0 xs ≡ x ∷ drop (0 + 1) xs → IsAt s.pos s.known old st
+      → Stops s old new (w.piece x st) (w.piece_refused x st) e
+      → Stops s old new (pieces w xs st) (pieces_refused w xs st) e
+  unfolding reached_none
+  first_stopped new x e is at g = reached_stopped 0 old new [] x e is (reached_none at) g
+
   -- memory was refused
   pub reached_memory : (i : ℕ) (now : W) (kept : List R) → Reached i now kept → Stops s old now (pieces w xs st) (pieces_refused w xs st) OutOfMemory
   reached_memory i now kept h =

@@ -6,7 +6,7 @@ use Rattle.archive_shape_layout.specs.Shape.{Shape}
 use Rattle.archive_forms_spelling.specs.Spelling.{Spelling}
 use Rattle.archive_forms_spelling.specs.Forms.{seen_as, kept_as}
 use Rattle.archive_forms_spelling.specs.Pointers.{slice_spelling, box_spelling}
-use Rattle.archive_forms_spelling.specs.Texts.{text_spelling}
+use Rattle.archive_forms_spelling.specs.Texts.{text_spelling, boxed_text_spelling}
 use Rattle.archive_forms_reading.specs.declared.resolving.BoxResolver.{BoxResolver}
 use Rattle.archive_forms_reading.specs.declared.resolving.VecResolver.{VecResolver}
 use Rattle.archive_forms_text.specs.declared.resolving.StringResolver.{StringResolver}
@@ -19,6 +19,10 @@ vec_spelling s w = kept_as (λ n. record { pos = n }) (λ r. r.pos) (seen_as (λ
 abbrev pub boxed_spelling : {A R : Type 0} → Shape → Spelling A R → Spelling (Box A Global) BoxResolver
 boxed_spelling s w = kept_as (λ n. record { pos = n }) (λ r. r.pos) (seen_as (λ b. b.value) (box_spelling s w))
 
+-- a slice in a box is archived as a pointer to its elements
+abbrev pub boxed_slice_spelling : {A R : Type 0} → Shape → Spelling A R → Spelling (List A) BoxResolver
+boxed_slice_spelling s w = kept_as (λ n. record { pos = n }) (λ r. r.pos) (slice_spelling s w)
+
 -- a borrowed text is archived as its bytes
 abbrev pub str_spelling : Spelling (List ℕ) StringResolver
 str_spelling = kept_as (λ n. record { pos = n }) (λ r. r.pos) text_spelling
@@ -26,3 +30,7 @@ str_spelling = kept_as (λ n. record { pos = n }) (λ r. r.pos) text_spelling
 -- and so is one that owns them
 abbrev pub string_spelling : Spelling (String Global) StringResolver
 string_spelling = seen_as string_bytes str_spelling
+
+-- a text in a box is archived as a pointer to them
+abbrev pub boxed_str_spelling : Spelling (List ℕ) BoxResolver
+boxed_str_spelling = kept_as (λ n. record { pos = n }) (λ r. r.pos) boxed_text_spelling

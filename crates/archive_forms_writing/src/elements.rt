@@ -6,12 +6,16 @@ ghost use Rattle.archive_forms_spelling.specs.Regions.{state_after_all, pieces, 
 ghost use Rattle.archive_forms_spelling.specs.Pointers.{slice_spelling, box_spelling};
 ghost use Rattle.archive_forms_writing.specs.Steps.{StepTakes, StepWrites};
 
+use crate::buffered::{are_few, resolve_at_once, resolve_through};
 use crate::{Archive, Serialize, align, resolve_aligned};
 use archive_shape::{Allocator, Error, Portable, Writer};
 use std::marker::PhantomData;
 
 /// The last position that an element may begin at.
 const LAST_POSITION: usize = u32::MAX as usize;
+
+/// How many bytes of elements are written at once.
+const BUFFER: usize = 256;
 
 /// The step of elements that can be archived by the serializer. A step's answer names the archived form, since a closure over
 /// `T` can be passed on only where its type does.
@@ -44,7 +48,9 @@ fn serialize_data_each<
         (λ all. (all.items ≡ resolvers T.spelling items.now st) × pieces_fit T.spelling items.now st × IsAt S.pos S.known serializer.new (state_after_all T.spelling items.now st))
         (pieces_refused T.spelling items.now st) result }
 {
-    let mut all = Vec::new(serializer.memory());
+    let Ok(mut all) = Vec::with_capacity(serializer.memory(), items.len()) else {
+        return Err(Error::OutOfMemory);
+    };
     for item in items {
         let resolver = match step(item, serializer) {
             Ok(done) => done.0,
@@ -70,13 +76,18 @@ fn resolve_items<T: Archive, S: Writer + Allocator>(
         (λ _. owns_fit T.spelling T.Archived.shape items.now st (S.pos serializer.old))
         (owns_refused T.spelling T.Archived.shape items.now st (S.pos serializer.old)) result }
 {
-    let alloc = serializer.memory();
-    for (i, item) in items.iter().enumerate() {
-        if let Err(e) = resolve_aligned(alloc, item, kept[i], serializer) {
-            return Err(e);
-        }
+    let size = T::Archived::SIZE;
+    if are_few::<T::Archived>(items.len(), serializer.pos()) {
+        return resolve_at_once(items, kept, serializer);
     }
-    Ok(())
+    if size <= BUFFER {
+        let mut buffer = [0; BUFFER];
+        return resolve_through(items, kept, serializer, &mut buffer);
+    }
+    match vec![in serializer.memory(); 0u8; size] {
+        Ok(mut buffer) => resolve_through(items, kept, serializer, buffer.as_mut_slice()),
+        Err(_) => Err(Error::OutOfMemory),
+    }
 }
 
 /// Writes items behind their data, which a step writes. The answer is the position of the first.

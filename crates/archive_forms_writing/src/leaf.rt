@@ -3,7 +3,7 @@ ghost use Rattle.std.specs.Prelude.{◌≡◌, ℕ, ◌+◌, ◌≤◌, length};
 ghost use Rattle.archive_shape_native.specs.Numbers.{Reads};
 ghost use Rattle.archive_forms_spelling.specs.Forms.{leaf_spelling};
 ghost use Rattle.archive_forms_spelling.specs.Serializing.{CanResolve, Resolves};
-ghost use Rattle.archive_forms_spelling.specs.Spells.{AreBytes};
+ghost use Rattle.archive_shape_canonical.specs.Canonical.{AreBytes};
 ghost use Rattle.archive_forms_spelling.proofs.Leaves.{leaf_spells};
 
 use crate::{Archive, Serialize};

@@ -5,7 +5,7 @@ ghost use Rattle.archive_shape_layout.specs.Shape.{size_of};
 ghost use Rattle.archive_shape_writing.specs.Writing.{Writes};
 ghost use Rattle.archive_shape_references.specs.Bytes.{zeros};
 ghost use Rattle.archive_forms_spelling.specs.State.{State};
-ghost use Rattle.archive_forms_spelling.specs.Spells.{AreBytes};
+ghost use Rattle.archive_shape_canonical.specs.Canonical.{AreBytes};
 ghost use Rattle.archive_forms_spelling.specs.Serializing.{Lays};
 ghost use Rattle.archive_forms_spelling.specs.Regions.{placed_fits, placed_refused};
 

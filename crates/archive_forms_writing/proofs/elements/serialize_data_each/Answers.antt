@@ -11,7 +11,7 @@ loop-item-init g c = record {
   alike = refl;
   reached = λ st at.
       let P : List g.row.T-Resolver.Denot → Type 0 = λ l. Reached g.T.Archive.spelling (record { known = g.S.Registry.known; pos = g.S.Positional.pos; OBSERVABLE = g.S.Writer.OBSERVABLE; COUNTS = g.S.Writer.COUNTS; contents = g.S.Writer.contents; failures = g.S.Writer.failures; last_error = g.S.Writer.last_error }) c.args.items.now c.args.serializer.now st 0 c.args.serializer.now l in
-      subst P (sym c.new-all.ensures.items) (reached_none _ _ _ _ _ at);
+      subst P (sym c.in-Ok.ensures.items) (reached_none _ _ _ _ _ at);
 }
 
 pub step-requires : goal.step-requires
@@ -29,20 +29,20 @@ returns-in-Err g c = λ st at.
 pub returns-then-is_err : goal.returns-then-is_err
 returns-then-is_err g c = λ st at.
     let r = c.loop-item.invariant.reached st at in
-    let l = c.requires.writes _ _ _ _ (omega (arith, r.wrote.is_quiet, c.requires.room)) (record { state = r.left; is_at = r.is_at }) c.in-Ok.ensures r.left r.is_at in
+    let l = c.requires.writes _ _ _ _ (omega (arith, r.wrote.is_quiet, c.requires.room)) (record { state = r.left; is_at = r.is_at }) c.in-Ok-step.ensures r.left r.is_at in
     let e = next_of _ _ _ c.loop-item-test.true c.item-item.is in
     reached_memory _ _ _ _ _ (c.loop-item.item-index + 1) _ _ (reached_next _ _ _ _ _ c.loop-item.item-index _ _ _ _ e r l.0 l.1.1 l.1.2)
 
 pub loop-item-preserved : goal.loop-item-preserved
 loop-item-preserved g c =
     let e = next_of _ _ _ c.loop-item-test.true c.item-item.is in
-    let items : c.push.new.self.items ≡ c.loop-item.all.items ++ (c.in-Ok.done.0 ∷ []) = pushed _ _ _ _ c.push.ensures.items c.if-is_err.ensures.negation in
+    let items : c.push.new.self.items ≡ c.loop-item.all.items ++ (c.in-Ok-step.done.0 ∷ []) = pushed _ _ _ _ c.push.ensures.items c.if-is_err.ensures.negation in
     record {
       alike = refl;
       reached = λ st at.
           let P : List g.row.T-Resolver.Denot → Type 0 = λ l. Reached g.T.Archive.spelling (record { known = g.S.Registry.known; pos = g.S.Positional.pos; OBSERVABLE = g.S.Writer.OBSERVABLE; COUNTS = g.S.Writer.COUNTS; contents = g.S.Writer.contents; failures = g.S.Writer.failures; last_error = g.S.Writer.last_error }) c.args.items.now c.args.serializer.now st (c.loop-item.item-index + 1) c.step.new.arg3 l in
           let r = c.loop-item.invariant.reached st at in
-          let l = c.requires.writes _ _ _ _ (omega (arith, r.wrote.is_quiet, c.requires.room)) (record { state = r.left; is_at = r.is_at }) c.in-Ok.ensures r.left r.is_at in
+          let l = c.requires.writes _ _ _ _ (omega (arith, r.wrote.is_quiet, c.requires.room)) (record { state = r.left; is_at = r.is_at }) c.in-Ok-step.ensures r.left r.is_at in
           let z = reached_next _ _ _ _ _ c.loop-item.item-index _ _ _ _ e r l.0 l.1.1 l.1.2 in
           subst P (sym (items ∙ ap (λ q. c.loop-item.all.items ++ (q ∷ [])) l.1.0)) z;
     }

@@ -1,4 +1,4 @@
-use Rattle.std.proofs.Common.{◌≡◌, ℕ, List, subst}
+use Rattle.std.proofs.Common.{ℕ, List, subst}
 use Rattle.archive_shape_writing.specs.Writing.{WriterMembers}
 use Rattle.archive_forms_spelling.specs.Serializing.{Serializes}
 use Rattle.archive_forms_writing.specs.Owned.{str_spelling}

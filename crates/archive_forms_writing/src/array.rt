@@ -1,0 +1,139 @@
+//! Arrays.
+ghost use Rattle.std.specs.Prelude.{◌≡◌, ℕ, ◌+◌, ◌-◌, ◌*◌, ◌^◌, ◌<◌, ◌≤◌, [], length, MatchResult};
+ghost use Rattle.archive_shape_layout.specs.Shape.{size_of};
+ghost use Rattle.archive_shape_layout.specs.Shape.Shape.{array};
+ghost use Rattle.archive_shape_references.specs.Bytes.{HasBytes, zeros, overwrite};
+ghost use Rattle.archive_forms_spelling.specs.State.{State};
+ghost use Rattle.archive_forms_spelling.specs.Regions.{resolvers};
+ghost use Rattle.archive_forms_spelling.specs.Arrays.{array_own, array_own_fits, array_own_refused, array_spelling};
+ghost use Rattle.archive_forms_spelling.specs.Serializing.{CanResolve, HasState, Resolves, Serializes, SerializesBy};
+ghost use Rattle.archive_forms_spelling.proofs.Arrays.{array_spells};
+ghost use Rattle.archive_forms_writing.specs.Steps.{StepTakes, StepWrites};
+
+use crate::elements::serialize_element;
+use crate::{Archive, Serialize};
+use archive_shape::{Allocator, Error, Place, Portable, Writer};
+use std::marker::PhantomData;
+
+/// Writes the own bytes of a value, whose data was written, at `start` of `out`, which is zero there.
+fn resolve_within<T: Archive>(
+    value: &T,
+    resolver: T::Resolver,
+    start: usize,
+    pos: usize,
+    out: &mut [u8],
+) -> Result<(), Error>
+    requires { CanResolve T.spelling T.Archived.shape value.now resolver out.old start pos }
+    ensures { Resolves T.spelling value.now resolver pos start out.old out.new result }
+{
+    value.resolve(resolver, Place::within(out, start, pos))
+}
+
+/// Writes the own bytes of elements side by side, from `start` of `out` on, which is zero there. Their data was written.
+fn resolve_elements<T: Archive>(
+    items: &[T],
+    kept: &[T::Resolver],
+    start: usize,
+    pos: usize,
+    out: &mut [u8],
+) -> Result<(), Error>
+    requires room { start + length items.now * size_of T.Archived.shape ≤ length out.old }
+    requires stands { pos + length items.now * size_of T.Archived.shape < 2 ^ 64 }
+    requires blank { HasBytes out.old start (zeros (length items.now * size_of T.Archived.shape)) }
+    requires made { (st : State) × (kept.now ≡ resolvers T.spelling items.now st) }
+    ensures { MatchResult result
+        (λ _. array_own_fits T.Archived.shape T.spelling items.now kept.now pos
+        × (out.new ≡ overwrite out.old start (array_own T.Archived.shape T.spelling items.now kept.now pos)))
+        (array_own_refused T.Archived.shape T.spelling items.now kept.now pos) }
+{
+    let _len = out.len();
+    let size = T::Archived::SIZE;
+    let mut offset = 0;
+    for (i, item) in items.iter().enumerate() {
+        if let Err(e) = resolve_within(item, kept[i], start + offset, pos + offset, out) {
+            return Err(e);
+        }
+        offset += size;
+    }
+    Ok(())
+}
+
+impl<T: Archive, const N: usize> Archive for [T; N] {
+    type Archived = [T::Archived; N];
+
+    type Resolver = [T::Resolver; N];
+
+    ghost spelling = { array_spelling N T.Archived.shape T.spelling };
+
+    fn resolve(
+        &self,
+        resolver: [T::Resolver; N],
+        out: Place<'_, [T::Archived; N]>,
+    ) -> Result<(), Error>
+        requires { CanResolve (array_spelling N T.Archived.shape T.spelling) (array N T.Archived.shape) self.now resolver out.out.now out.start out.pos }
+        ensures { Resolves (array_spelling N T.Archived.shape T.spelling) self.now resolver out.entry.pos out.entry.start out.entry.out.now out.exit.0.now result }
+    {
+        let Place {
+            out,
+            start,
+            pos,
+            ..
+        } = out;
+        resolve_elements(self.as_slice(), resolver.as_slice(), start, pos, out)
+    }
+
+    ghost spells = { λ fit. array_spells fit N T.Archived.shape T.Archived.knows T.spelling (T.spells fit) };
+}
+
+/// The resolvers of no elements.
+fn no_resolvers<R: Copy, const N: usize>() -> [R; N]
+    requires { N ≡ 0 }
+    ensures { result ≡ [] }
+{
+    let none: &[R] = &[];
+    <[R; N]>::try_from(none).unwrap()
+}
+
+/// Writes the data of the elements of an array by a step.
+pub fn serialize_array_each<
+    T: Archive,
+    const N: usize,
+    S: Writer + Allocator,
+    F: Fn(&T, &mut S) -> Result<(T::Resolver, PhantomData<T::Archived>), Error>,
+>(items: &[T; N], serializer: &mut S, step: F) -> Result<[T::Resolver; N], Error>
+    requires room { S.failures serializer.old < 2 ^ 64 - 1 }
+    requires state { HasState S.pos S.known serializer.old }
+    requires takes { StepTakes F.Fn S.Writer step items.now }
+    requires writes { StepWrites F.Fn (λ q. q.0) T.spelling S.Writer step }
+    ensures { Serializes (array_spelling N T.Archived.shape T.spelling) S.Writer items.now serializer.old serializer.new result }
+{
+    if N == 0 {
+        return Ok(no_resolvers());
+    }
+    let first = match step(&items[0], serializer) {
+        Ok(done) => done.0,
+        Err(e) => return Err(e),
+    };
+    let mut kept = [first; N];
+    for i in 1..N {
+        match step(&items[i], serializer) {
+            Ok(done) => kept[i] = done.0,
+            Err(e) => return Err(e),
+        }
+    }
+    Ok(kept)
+}
+
+impl<S: Writer + Allocator, T: Serialize<S>, const N: usize> Serialize<S> for [T; N] {
+    fn serialize(&self, serializer: &mut S) -> Result<[T::Resolver; N], Error> {
+        serialize_array_each::<T, N, S, _>(
+            self,
+            serializer,
+            |item: &T, s: &mut S| -> Result<(T::Resolver, PhantomData<T::Archived>), Error>
+                requires room { S.failures s.old < 2 ^ 64 - 1 }
+                requires state { HasState S.pos S.known s.old }
+                ensures { SerializesBy (λ q. q.0) T.spelling S.Writer item.now s.old s.new result }
+            { serialize_element(item, s) },
+        )
+    }
+}

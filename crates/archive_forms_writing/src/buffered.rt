@@ -1,0 +1,178 @@
+//! Own bytes of items side by side, many of which are written at once.
+ghost use Rattle.std.specs.Prelude.{◌≡◌, ℕ, ◌+◌, ◌-◌, ◌*◌, ◌^◌, ◌<◌, ◌≤◌, length, take, IfOk, MatchResult, ⊤};
+ghost use Rattle.std.specs.Bool.{MatchBool};
+ghost use Rattle.archive_shape_layout.specs.Shape.{size_of};
+ghost use Rattle.archive_shape_writing.specs.Writing.{Writes};
+ghost use Rattle.archive_shape_references.specs.Bytes.{HasBytes, zeros, overwrite};
+ghost use Rattle.archive_forms_spelling.specs.State.{State};
+ghost use Rattle.archive_forms_spelling.specs.Serializing.{Lays};
+ghost use Rattle.archive_forms_spelling.specs.Regions.{placed_fits, placed_refused, resolvers, owns, owns_fit, owns_refused};
+
+use crate::Archive;
+use archive_shape::{Error, Place, Portable, Writer};
+
+/// Makes zeros at `start` of a buffer, which will stand at `pos`, the own bytes of a value, whose data was written.
+fn resolve_at<T: Archive>(
+    value: &T,
+    resolver: T::Resolver,
+    pos: usize,
+    buffer: &mut [u8],
+    start: usize,
+) -> Result<(), Error>
+    requires made { (st : State) × (resolver ≡ T.spelling.resolver value.now st) }
+    requires room { start + size_of T.Archived.shape ≤ length buffer.old }
+    requires stands { pos + start + size_of T.Archived.shape < 2 ^ 64 }
+    requires blank { HasBytes buffer.old start (zeros (size_of T.Archived.shape)) }
+    ensures { MatchResult result
+        (λ _. placed_fits T.spelling T.Archived.shape value.now resolver (pos + start)
+        × (buffer.new ≡ overwrite buffer.old start (T.spelling.own value.now resolver (pos + start))))
+        (placed_refused T.spelling T.Archived.shape value.now resolver (pos + start)) }
+{
+    value.resolve(resolver, Place::within(buffer, start, pos + start))
+}
+
+/// The same at a position that may be too large.
+fn resolve_within<T: Archive>(
+    value: &T,
+    resolver: T::Resolver,
+    pos: usize,
+    buffer: &mut [u8],
+    start: usize,
+) -> Result<(), Error>
+    requires made { (st : State) × (resolver ≡ T.spelling.resolver value.now st) }
+    requires room { start + size_of T.Archived.shape ≤ length buffer.old }
+    requires blank { HasBytes buffer.old start (zeros (size_of T.Archived.shape)) }
+    ensures { MatchResult result
+        (λ _. placed_fits T.spelling T.Archived.shape value.now resolver (pos + start)
+        × (buffer.new ≡ overwrite buffer.old start (T.spelling.own value.now resolver (pos + start))))
+        (placed_refused T.spelling T.Archived.shape value.now resolver (pos + start)) }
+{
+    let _len = buffer.len();
+    let end = start + T::Archived::SIZE;
+    if pos.checked_add(end).is_none() {
+        return Err(Error::PositionTooLarge);
+    }
+    resolve_at(value, resolver, pos, buffer, start)
+}
+
+/// Makes zeros, which will stand at `pos`, the own bytes of items side by side, whose data was written. Answers how many
+/// bytes they are.
+fn resolve_all<T: Archive>(
+    items: &[T],
+    kept: &[T::Resolver],
+    pos: usize,
+    buffer: &mut [u8],
+) -> Result<usize, Error>
+    requires made { (st : State) × (kept.now ≡ resolvers T.spelling items.now st) }
+    requires room { length items.now * size_of T.Archived.shape ≤ length buffer.old }
+    requires stands { pos + length items.now * size_of T.Archived.shape < 2 ^ 64 }
+    requires blank { buffer.old ≡ zeros (length buffer.old) }
+    ensures { (st : State) → kept.now ≡ resolvers T.spelling items.now st → MatchResult result
+        (λ filled. (filled ≤ length buffer.new) × (take filled buffer.new ≡ owns T.spelling items.now st pos)
+        × owns_fit T.spelling T.Archived.shape items.now st pos)
+        (owns_refused T.spelling T.Archived.shape items.now st pos) }
+{
+    let _len = buffer.len();
+    let size = T::Archived::SIZE;
+    let mut filled = 0;
+    for (i, item) in items.iter().enumerate() {
+        if let Err(e) = resolve_at(item, kept[i], pos, buffer, filled) {
+            return Err(e);
+        }
+        filled += size;
+    }
+    Ok(filled)
+}
+
+/// Writes the first bytes of a buffer, and makes it zeros.
+fn flush<W: Writer>(writer: &mut W, buffer: &mut [u8], filled: usize) -> Result<(), Error>
+    requires room { W.failures writer.old < 2 ^ 64 - 1 }
+    requires within { filled ≤ length buffer.old }
+    ensures writes { Writes W.Writer writer.old writer.new (take filled buffer.old) result }
+    ensures blank { IfOk result (λ _. buffer.new ≡ zeros (length buffer.old)) }
+{
+    match writer.write(&buffer[..filled]) {
+        Ok(()) => {
+            buffer.fill(0);
+            Ok(())
+        }
+        Err(e) => Err(e),
+    }
+}
+
+/// Writes the own bytes of items side by side, whose data was written, by way of a buffer of zeros.
+pub(crate) fn resolve_through<T: Archive, W: Writer>(
+    items: &[T],
+    kept: &[T::Resolver],
+    writer: &mut W,
+    buffer: &mut [u8],
+) -> Result<(), Error>
+    requires room { W.failures writer.old < 2 ^ 64 - 1 }
+    requires made { (st : State) × (kept.now ≡ resolvers T.spelling items.now st) }
+    requires blank { buffer.old ≡ zeros (length buffer.old) }
+    requires wide { size_of T.Archived.shape ≤ length buffer.old }
+    ensures { (st : State) → kept.now ≡ resolvers T.spelling items.now st
+        → Lays W.Writer writer.old writer.new (owns T.spelling items.now st (W.pos writer.old))
+        (λ _. owns_fit T.spelling T.Archived.shape items.now st (W.pos writer.old))
+        (owns_refused T.spelling T.Archived.shape items.now st (W.pos writer.old)) result }
+{
+    let len = buffer.len();
+    let size = T::Archived::SIZE;
+    let mut filled = 0;
+    for (i, item) in items.iter().enumerate() {
+        if len - filled < size {
+            if let Err(e) = flush(writer, buffer, filled) {
+                return Err(e);
+            }
+            filled = 0;
+        }
+        if let Err(e) = resolve_within(item, kept[i], writer.pos(), buffer, filled) {
+            return Err(e);
+        }
+        filled += size;
+    }
+    writer.write(&buffer[..filled])
+}
+
+/// How many bytes are few.
+const FEW: usize = 64;
+
+/// The last position that few bytes may stand at.
+const LAST_OF_FEW: usize = usize::MAX - FEW;
+
+/// Whether so many elements side by side are few bytes, and may stand at a position.
+pub(crate) fn are_few<T: Portable>(count: usize, pos: usize) -> bool
+    ensures { MatchBool result ((count * size_of T.shape ≤ FEW) × (pos + count * size_of T.shape < 2 ^ 64)) ⊤ }
+{
+    let size = T::SIZE;
+    let whole = count.saturating_mul(size);
+    if whole > FEW {
+        return false;
+    }
+    if pos > LAST_OF_FEW {
+        return false;
+    }
+    true
+}
+
+/// Writes the own bytes of items side by side, whose data was written, at once. They are few.
+pub(crate) fn resolve_at_once<T: Archive, W: Writer>(
+    items: &[T],
+    kept: &[T::Resolver],
+    writer: &mut W,
+) -> Result<(), Error>
+    requires room { W.failures writer.old < 2 ^ 64 - 1 }
+    requires made { (st : State) × (kept.now ≡ resolvers T.spelling items.now st) }
+    requires few { length items.now * size_of T.Archived.shape ≤ FEW }
+    requires stands { W.pos writer.old + length items.now * size_of T.Archived.shape < 2 ^ 64 }
+    ensures { (st : State) → kept.now ≡ resolvers T.spelling items.now st
+        → Lays W.Writer writer.old writer.new (owns T.spelling items.now st (W.pos writer.old))
+        (λ _. owns_fit T.spelling T.Archived.shape items.now st (W.pos writer.old))
+        (owns_refused T.spelling T.Archived.shape items.now st (W.pos writer.old)) result }
+{
+    let mut buffer = [0; FEW];
+    match resolve_all(items, kept, writer.pos(), &mut buffer) {
+        Ok(filled) => writer.write(&buffer[..filled]),
+        Err(e) => Err(e),
+    }
+}

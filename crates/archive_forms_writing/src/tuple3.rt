@@ -1,0 +1,125 @@
+//! Tuples of three.
+ghost use Rattle.std.specs.Prelude.{◌≡◌, ℕ, ◌+◌, ◌-◌, ◌^◌, ◌<◌, ◌≤◌, [], ◌∷◌};
+ghost use Rattle.archive_forms_checking.specs.Tuples.{tuple3};
+ghost use Rattle.archive_forms_spelling.specs.Fields.{tuple3_spelling};
+ghost use Rattle.archive_forms_spelling.specs.Serializing.{CanResolve, HasState, Resolves, Serializes, SerializesBy};
+ghost use Rattle.archive_forms_spelling.proofs.Fields.{tuple3_spells};
+ghost use Rattle.archive_forms_spelling.proofs.Views.{known_spells};
+ghost use Rattle.archive_forms_writing.specs.Steps.{StepTakes, StepWrites};
+
+use crate::elements::serialize_element;
+use crate::fields::resolve_field;
+use crate::{Archive, Serialize};
+use archive_forms_tuples::ArchivedTuple3;
+use archive_shape::{Allocator, Error, Place, Portable, Writer};
+use std::marker::PhantomData;
+
+impl<A: Archive, B: Archive, C: Archive> Archive for (A, B, C) {
+    type Archived = ArchivedTuple3<A::Archived, B::Archived, C::Archived>;
+
+    type Resolver = (A::Resolver, B::Resolver, C::Resolver);
+
+    ghost spelling = { tuple3_spelling A.Archived.shape A.spelling B.Archived.shape B.spelling C.Archived.shape C.spelling };
+
+    fn resolve(
+        &self,
+        resolver: (A::Resolver, B::Resolver, C::Resolver),
+        out: Place<'_, ArchivedTuple3<A::Archived, B::Archived, C::Archived>>,
+    ) -> Result<(), Error>
+        requires { CanResolve (tuple3_spelling A.Archived.shape A.spelling B.Archived.shape B.spelling C.Archived.shape C.spelling) (tuple3 A.Archived.shape B.Archived.shape C.Archived.shape) self.now resolver out.out.now out.start out.pos }
+        ensures { Resolves (tuple3_spelling A.Archived.shape A.spelling B.Archived.shape B.spelling C.Archived.shape C.spelling) self.now resolver out.entry.pos out.entry.start out.entry.out.now out.exit.0.now result }
+    {
+        let Place {
+            out,
+            start,
+            pos,
+            ..
+        } = out;
+        let end = match resolve_field(&self.0, resolver.0, out, start, pos, 0) {
+            Ok(end) => end,
+            Err(e) => return Err(e),
+        };
+        let end = match resolve_field(&self.1, resolver.1, out, start, pos, end) {
+            Ok(end) => end,
+            Err(e) => return Err(e),
+        };
+        if let Err(e) = resolve_field(&self.2, resolver.2, out, start, pos, end) {
+            return Err(e);
+        }
+        Ok(())
+    }
+
+    ghost spells = { λ fit. tuple3_spells fit (λ names. A.Archived.knows names × B.Archived.knows names × C.Archived.knows names) A.Archived.shape A.spelling B.Archived.shape B.spelling C.Archived.shape C.spelling
+        (known_spells fit A.Archived.shape A.Archived.knows (λ names. A.Archived.knows names × B.Archived.knows names × C.Archived.knows names) (λ _ k. k.0) A.spelling (A.spells fit))
+        (known_spells fit B.Archived.shape B.Archived.knows (λ names. A.Archived.knows names × B.Archived.knows names × C.Archived.knows names) (λ _ k. k.1) B.spelling (B.spells fit))
+        (known_spells fit C.Archived.shape C.Archived.knows (λ names. A.Archived.knows names × B.Archived.knows names × C.Archived.knows names) (λ _ k. k.2) C.spelling (C.spells fit)) };
+}
+
+/// Writes the data of each field of a tuple of three, in order, by a step for each.
+pub fn serialize_tuple3_each<
+    A: Archive,
+    B: Archive,
+    C: Archive,
+    S: Writer + Allocator,
+    F: Fn(&A, &mut S) -> Result<(A::Resolver, PhantomData<A::Archived>), Error>,
+    G: Fn(&B, &mut S) -> Result<(B::Resolver, PhantomData<B::Archived>), Error>,
+    H: Fn(&C, &mut S) -> Result<(C::Resolver, PhantomData<C::Archived>), Error>,
+>(
+    tuple: &(A, B, C),
+    serializer: &mut S,
+    first: F,
+    second: G,
+    third: H,
+) -> Result<(A::Resolver, B::Resolver, C::Resolver), Error>
+    requires room { S.failures serializer.old < 2 ^ 64 - 1 }
+    requires state { HasState S.pos S.known serializer.old }
+    requires takes_first { StepTakes F.Fn S.Writer first (tuple.now.0 ∷ []) }
+    requires writes_first { StepWrites F.Fn (λ q. q.0) A.spelling S.Writer first }
+    requires takes_second { StepTakes G.Fn S.Writer second (tuple.now.1 ∷ []) }
+    requires writes_second { StepWrites G.Fn (λ q. q.0) B.spelling S.Writer second }
+    requires takes_third { StepTakes H.Fn S.Writer third (tuple.now.2 ∷ []) }
+    requires writes_third { StepWrites H.Fn (λ q. q.0) C.spelling S.Writer third }
+    ensures { Serializes (tuple3_spelling A.Archived.shape A.spelling B.Archived.shape B.spelling C.Archived.shape C.spelling) S.Writer tuple.now serializer.old serializer.new result }
+{
+    let a = match first(&tuple.0, serializer) {
+        Ok(done) => done.0,
+        Err(e) => return Err(e),
+    };
+    let b = match second(&tuple.1, serializer) {
+        Ok(done) => done.0,
+        Err(e) => return Err(e),
+    };
+    let c = match third(&tuple.2, serializer) {
+        Ok(done) => done.0,
+        Err(e) => return Err(e),
+    };
+    Ok((a, b, c))
+}
+
+impl<S: Writer + Allocator, A: Serialize<S>, B: Serialize<S>, C: Serialize<S>> Serialize<S>
+    for (A, B, C) {
+    fn serialize(
+        &self,
+        serializer: &mut S,
+    ) -> Result<(A::Resolver, B::Resolver, C::Resolver), Error> {
+        serialize_tuple3_each::<A, B, C, S, _, _, _>(
+            self,
+            serializer,
+            |item: &A, s: &mut S| -> Result<(A::Resolver, PhantomData<A::Archived>), Error>
+                requires room { S.failures s.old < 2 ^ 64 - 1 }
+                requires state { HasState S.pos S.known s.old }
+                ensures { SerializesBy (λ q. q.0) A.spelling S.Writer item.now s.old s.new result }
+            { serialize_element(item, s) },
+            |item: &B, s: &mut S| -> Result<(B::Resolver, PhantomData<B::Archived>), Error>
+                requires room { S.failures s.old < 2 ^ 64 - 1 }
+                requires state { HasState S.pos S.known s.old }
+                ensures { SerializesBy (λ q. q.0) B.spelling S.Writer item.now s.old s.new result }
+            { serialize_element(item, s) },
+            |item: &C, s: &mut S| -> Result<(C::Resolver, PhantomData<C::Archived>), Error>
+                requires room { S.failures s.old < 2 ^ 64 - 1 }
+                requires state { HasState S.pos S.known s.old }
+                ensures { SerializesBy (λ q. q.0) C.spelling S.Writer item.now s.old s.new result }
+            { serialize_element(item, s) },
+        )
+    }
+}

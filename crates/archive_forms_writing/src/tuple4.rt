@@ -1,0 +1,149 @@
+//! Tuples of four.
+ghost use Rattle.std.specs.Prelude.{◌≡◌, ℕ, ◌+◌, ◌-◌, ◌^◌, ◌<◌, ◌≤◌, [], ◌∷◌};
+ghost use Rattle.archive_forms_checking.specs.Tuples.{tuple4};
+ghost use Rattle.archive_forms_spelling.specs.Fields.{tuple4_spelling};
+ghost use Rattle.archive_forms_spelling.specs.Serializing.{CanResolve, HasState, Resolves, Serializes, SerializesBy};
+ghost use Rattle.archive_forms_spelling.proofs.Fields.{tuple4_spells};
+ghost use Rattle.archive_forms_spelling.proofs.Views.{known_spells};
+ghost use Rattle.archive_forms_writing.specs.Steps.{StepTakes, StepWrites};
+
+use crate::elements::serialize_element;
+use crate::fields::resolve_field;
+use crate::{Archive, Serialize};
+use archive_forms_tuples::ArchivedTuple4;
+use archive_shape::{Allocator, Error, Place, Portable, Writer};
+use std::marker::PhantomData;
+
+impl<A: Archive, B: Archive, C: Archive, D: Archive> Archive for (A, B, C, D) {
+    type Archived = ArchivedTuple4<A::Archived, B::Archived, C::Archived, D::Archived>;
+
+    type Resolver = (A::Resolver, B::Resolver, C::Resolver, D::Resolver);
+
+    ghost spelling = { tuple4_spelling A.Archived.shape A.spelling B.Archived.shape B.spelling C.Archived.shape C.spelling D.Archived.shape D.spelling };
+
+    fn resolve(
+        &self,
+        resolver: (A::Resolver, B::Resolver, C::Resolver, D::Resolver),
+        out: Place<'_, ArchivedTuple4<A::Archived, B::Archived, C::Archived, D::Archived>>,
+    ) -> Result<(), Error>
+        requires { CanResolve (tuple4_spelling A.Archived.shape A.spelling B.Archived.shape B.spelling C.Archived.shape C.spelling D.Archived.shape D.spelling) (tuple4 A.Archived.shape B.Archived.shape C.Archived.shape D.Archived.shape) self.now resolver out.out.now out.start out.pos }
+        ensures { Resolves (tuple4_spelling A.Archived.shape A.spelling B.Archived.shape B.spelling C.Archived.shape C.spelling D.Archived.shape D.spelling) self.now resolver out.entry.pos out.entry.start out.entry.out.now out.exit.0.now result }
+    {
+        let Place {
+            out,
+            start,
+            pos,
+            ..
+        } = out;
+        let end = match resolve_field(&self.0, resolver.0, out, start, pos, 0) {
+            Ok(end) => end,
+            Err(e) => return Err(e),
+        };
+        let end = match resolve_field(&self.1, resolver.1, out, start, pos, end) {
+            Ok(end) => end,
+            Err(e) => return Err(e),
+        };
+        let end = match resolve_field(&self.2, resolver.2, out, start, pos, end) {
+            Ok(end) => end,
+            Err(e) => return Err(e),
+        };
+        if let Err(e) = resolve_field(&self.3, resolver.3, out, start, pos, end) {
+            return Err(e);
+        }
+        Ok(())
+    }
+
+    ghost spells = { λ fit. tuple4_spells fit (λ names. A.Archived.knows names × B.Archived.knows names × C.Archived.knows names × D.Archived.knows names) A.Archived.shape A.spelling B.Archived.shape B.spelling C.Archived.shape C.spelling D.Archived.shape D.spelling
+        (known_spells fit A.Archived.shape A.Archived.knows (λ names. A.Archived.knows names × B.Archived.knows names × C.Archived.knows names × D.Archived.knows names) (λ _ k. k.0) A.spelling (A.spells fit))
+        (known_spells fit B.Archived.shape B.Archived.knows (λ names. A.Archived.knows names × B.Archived.knows names × C.Archived.knows names × D.Archived.knows names) (λ _ k. k.1) B.spelling (B.spells fit))
+        (known_spells fit C.Archived.shape C.Archived.knows (λ names. A.Archived.knows names × B.Archived.knows names × C.Archived.knows names × D.Archived.knows names) (λ _ k. k.2) C.spelling (C.spells fit))
+        (known_spells fit D.Archived.shape D.Archived.knows (λ names. A.Archived.knows names × B.Archived.knows names × C.Archived.knows names × D.Archived.knows names) (λ _ k. k.3) D.spelling (D.spells fit)) };
+}
+
+/// Writes the data of each field of a tuple of four, in order, by a step for each.
+pub fn serialize_tuple4_each<
+    A: Archive,
+    B: Archive,
+    C: Archive,
+    D: Archive,
+    S: Writer + Allocator,
+    F: Fn(&A, &mut S) -> Result<(A::Resolver, PhantomData<A::Archived>), Error>,
+    G: Fn(&B, &mut S) -> Result<(B::Resolver, PhantomData<B::Archived>), Error>,
+    H: Fn(&C, &mut S) -> Result<(C::Resolver, PhantomData<C::Archived>), Error>,
+    I: Fn(&D, &mut S) -> Result<(D::Resolver, PhantomData<D::Archived>), Error>,
+>(
+    tuple: &(A, B, C, D),
+    serializer: &mut S,
+    first: F,
+    second: G,
+    third: H,
+    fourth: I,
+) -> Result<(A::Resolver, B::Resolver, C::Resolver, D::Resolver), Error>
+    requires room { S.failures serializer.old < 2 ^ 64 - 1 }
+    requires state { HasState S.pos S.known serializer.old }
+    requires takes_first { StepTakes F.Fn S.Writer first (tuple.now.0 ∷ []) }
+    requires writes_first { StepWrites F.Fn (λ q. q.0) A.spelling S.Writer first }
+    requires takes_second { StepTakes G.Fn S.Writer second (tuple.now.1 ∷ []) }
+    requires writes_second { StepWrites G.Fn (λ q. q.0) B.spelling S.Writer second }
+    requires takes_third { StepTakes H.Fn S.Writer third (tuple.now.2 ∷ []) }
+    requires writes_third { StepWrites H.Fn (λ q. q.0) C.spelling S.Writer third }
+    requires takes_fourth { StepTakes I.Fn S.Writer fourth (tuple.now.3 ∷ []) }
+    requires writes_fourth { StepWrites I.Fn (λ q. q.0) D.spelling S.Writer fourth }
+    ensures { Serializes (tuple4_spelling A.Archived.shape A.spelling B.Archived.shape B.spelling C.Archived.shape C.spelling D.Archived.shape D.spelling) S.Writer tuple.now serializer.old serializer.new result }
+{
+    let a = match first(&tuple.0, serializer) {
+        Ok(done) => done.0,
+        Err(e) => return Err(e),
+    };
+    let b = match second(&tuple.1, serializer) {
+        Ok(done) => done.0,
+        Err(e) => return Err(e),
+    };
+    let c = match third(&tuple.2, serializer) {
+        Ok(done) => done.0,
+        Err(e) => return Err(e),
+    };
+    let d = match fourth(&tuple.3, serializer) {
+        Ok(done) => done.0,
+        Err(e) => return Err(e),
+    };
+    Ok((a, b, c, d))
+}
+
+impl<
+    S: Writer + Allocator,
+    A: Serialize<S>,
+    B: Serialize<S>,
+    C: Serialize<S>,
+    D: Serialize<S>,
+> Serialize<S> for (A, B, C, D) {
+    fn serialize(
+        &self,
+        serializer: &mut S,
+    ) -> Result<(A::Resolver, B::Resolver, C::Resolver, D::Resolver), Error> {
+        serialize_tuple4_each::<A, B, C, D, S, _, _, _, _>(
+            self,
+            serializer,
+            |item: &A, s: &mut S| -> Result<(A::Resolver, PhantomData<A::Archived>), Error>
+                requires room { S.failures s.old < 2 ^ 64 - 1 }
+                requires state { HasState S.pos S.known s.old }
+                ensures { SerializesBy (λ q. q.0) A.spelling S.Writer item.now s.old s.new result }
+            { serialize_element(item, s) },
+            |item: &B, s: &mut S| -> Result<(B::Resolver, PhantomData<B::Archived>), Error>
+                requires room { S.failures s.old < 2 ^ 64 - 1 }
+                requires state { HasState S.pos S.known s.old }
+                ensures { SerializesBy (λ q. q.0) B.spelling S.Writer item.now s.old s.new result }
+            { serialize_element(item, s) },
+            |item: &C, s: &mut S| -> Result<(C::Resolver, PhantomData<C::Archived>), Error>
+                requires room { S.failures s.old < 2 ^ 64 - 1 }
+                requires state { HasState S.pos S.known s.old }
+                ensures { SerializesBy (λ q. q.0) C.spelling S.Writer item.now s.old s.new result }
+            { serialize_element(item, s) },
+            |item: &D, s: &mut S| -> Result<(D::Resolver, PhantomData<D::Archived>), Error>
+                requires room { S.failures s.old < 2 ^ 64 - 1 }
+                requires state { HasState S.pos S.known s.old }
+                ensures { SerializesBy (λ q. q.0) D.spelling S.Writer item.now s.old s.new result }
+            { serialize_element(item, s) },
+        )
+    }
+}
