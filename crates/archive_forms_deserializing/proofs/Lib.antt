@@ -1,1 +1,4 @@
+mod Outcomes
+mod Plain
+mod Fields
 mod Read

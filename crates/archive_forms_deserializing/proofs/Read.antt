@@ -1,9 +1,9 @@
--- What is read back of leaves, options, boxes and vectors.
-use Rattle.std.proofs.Common.{◌≡◌, ℕ, Bool, true, false, if◌then◌else◌, suc, ◌+◌, ◌*◌, ◌<◌, List, [], ◌∷◌, ◌++◌, length, Some, None, refl, sym, ap, ap₂, subst, ◌∙◌, arith}
-use Rattle.std.specs.Prelude.{Box, Vec, ⊤}
+-- What is read back of leaves, options, boxes, vectors and arrays.
+use Rattle.std.proofs.Common.{◌≡◌, ℕ, Bool, true, false, if◌then◌else◌, suc, ◌+◌, ◌*◌, ◌<◌, List, [], ◌∷◌, ◌++◌, length, Some, None, Ok, Err, Result, MatchResult, refl, sym, ap, ap₂, subst, ◌∙◌, arith}
+use Rattle.std.specs.Prelude.{Box, Vec}
 use Rattle.std.specs.Global.{Global}
 use Rattle.archive_shape_layout.specs.Shape.{Shape, size_of}
-use Rattle.archive_shape_layout.specs.Shape.Shape.{option, box, vector}
+use Rattle.archive_shape_layout.specs.Shape.Shape.{option, box, vector, array}
 use Rattle.archive_shape_layout.specs.Shape.Pointee.{sized}
 use Rattle.archive_shape_layout.specs.Value.{Value, Values, count_values}
 use Rattle.archive_shape_layout.specs.Value.Value.{chosen, group}
@@ -11,13 +11,16 @@ use Rattle.archive_shape_layout.specs.Value.Values.{no_values, more_values}
 use Rattle.archive_shape_layout.specs.Content.{Names}
 use Rattle.archive_shape_layout.specs.Path.{value_in}
 use Rattle.archive_shape_canonical.specs.Sharing.{erased, all_erased}
+use Rattle.archive_shape_writing.specs.declared.error.Error.{Error}
 use Rattle.archive_shape.specs.Key.{HeldAt}
 use Rattle.archive_forms_spelling.specs.Spelling.{Spelling}
+use Rattle.archive_forms_spelling.specs.Arrays.{array_spelling}
 use Rattle.archive_forms_spelling.specs.Options.{option_spelling}
 use Rattle.archive_forms_spelling.specs.Regions.{plain_values}
-use Rattle.archive_forms_reading.specs.Parts.{HasValue, IsNoneAt, IsSomeAt, some_position, IsBoxAt, IsVecAt, HasElements}
+use Rattle.archive_forms_reading.specs.Arrays.{IsArrayAt}
+use Rattle.archive_forms_reading.specs.Parts.{HasValue, IsNoneAt, IsSomeAt, some_position, IsBoxAt, IsVecAt, AreElements, HasElements}
 use Rattle.archive_forms_writing.specs.Owned.{boxed_spelling, vec_spelling}
-use Rattle.archive_forms_deserializing.specs.Deserializing.{IsReadAt}
+use Rattle.archive_forms_deserializing.specs.Deserializing.{IsReadAt, AreReadFrom, DeserializesBy, DeserializesAll}
 
 -- ---- what the parts of a value are
 
@@ -59,14 +62,9 @@ module _ {A R : Type 0} (w : Spelling A R) (s : Shape) (knows : Names → Type 0
       → IsReadAt (boxed_spelling t w) (box (sized s)) knows bytes pos b
   box_read t pos to b x e there read v h = ap w.plain e ∙ read v (there.value v h)
 
-  -- values are those of elements side by side from a position on
-  abbrev pub AreReadFrom : ℕ → List A → Type 0
-  AreReadFrom at [] = ⊤
-  AreReadFrom at (x ∷ xs) = IsReadAt w s knows bytes at x × AreReadFrom (at + size_of s) xs
-
   pub one_more :
-      (at : ℕ) (xs : List A) (x : A) → AreReadFrom at xs → IsReadAt w s knows bytes (at + length xs * size_of s) x
-      → AreReadFrom at (xs ++ (x ∷ []))
+      (at : ℕ) (xs : List A) (x : A) → AreReadFrom w s knows bytes at xs → IsReadAt w s knows bytes (at + length xs * size_of s) x
+      → AreReadFrom w s knows bytes at (xs ++ (x ∷ []))
   one_more at [] x h r =
       let P : ℕ → Type 0 = λ n. IsReadAt w s knows bytes n x in
       let e : at + 0 * size_of s ≡ at = omega arith in (subst P e r, tt)
@@ -78,7 +76,7 @@ module _ {A R : Type 0} (w : Spelling A R) (s : Shape) (knows : Names → Type 0
   all_read :
       (at : ℕ) (xs : List A) (vs : Values)
       → count_values vs ≡ length xs
-      → AreReadFrom at xs
+      → AreReadFrom w s knows bytes at xs
       → ((i : ℕ) → i < length xs → (v : Value) × (value_in i vs ≡ Some v) × HeldAt s knows bytes (at + i * size_of s) v)
       → plain_values w xs ≡ all_erased vs
   all_read at [] no_values c h each = refl
@@ -96,14 +94,31 @@ module _ {A R : Type 0} (w : Spelling A R) (s : Shape) (knows : Names → Type 0
       (next.0, next.1, subst (λ n. HeldAt s knows bytes n next.0) later next.2)) in
       ap₂ more_values (h.0 v held) rest
 
+  -- the value of elements is that of those that are read
+  all_values :
+      (to len : ℕ) (xs : List A) (v : Value) → AreElements s knows bytes to len v → length xs ≡ len → AreReadFrom w s knows bytes to xs
+      → group (plain_values w xs) ≡ erased v
+  all_values to len xs v es e read =
+      ap group (all_read to xs es.elements (es.count ∙ sym e) read (λ i less. es.each i (omega (arith, less, e)))) ∙ sym (ap erased es.is)
+
   pub vec_read :
-      (t : Shape) (pos to len : ℕ) (xs : Vec A Global) → IsVecAt s knows bytes pos to len → length xs.items ≡ len → AreReadFrom to xs.items
-      → IsReadAt (vec_spelling t w) (vector s) knows bytes pos xs
-  vec_read t pos to len xs there e read v h =
-      let es = there.value v h in
-      ap group (all_read to xs.items es.elements (es.count ∙ sym e) read (λ i less. es.each i (omega (arith, less, e)))) ∙ sym (ap erased es.is)
+      (t : Shape) (pos to len : ℕ) (r : Result (Vec A Global) Error) → IsVecAt s knows bytes pos to len
+      → DeserializesAll w s knows bytes to len (λ xs. xs.items) r
+      → DeserializesBy (vec_spelling t w) (vector s) knows bytes pos (λ xs. xs) r
+  vec_read t pos to len (Ok xs) there h = λ v held. all_values to len xs.items v (there.value v held) h.0 h.1
+  vec_read t pos to len (Err e) there h = h
+
+  pub array_read :
+      (n : ℕ) (t : Shape) (pos : ℕ) (xs : List A) → IsArrayAt n s knows bytes pos → length xs ≡ n → AreReadFrom w s knows bytes pos xs
+      → IsReadAt (array_spelling n t w) (array n s) knows bytes pos xs
+  array_read n t pos xs there e read = λ v held. all_values pos n xs v (there v held) e read
 
 -- a list that ends with another element where a test is true
 pub pushed : {A : Type 0} (b : Bool) (x y z : List A) → x ≡ (if b then y else z) → b ≡ true → x ≡ y
 pushed true x y z e t = e
 pushed false x y z e t = absurd (cc)
+
+-- what a call gives is said of the value that is unwrapped
+pub ok_says : {A B : Type 0} (P : A → Type 0) (Q : B → Type 0) (r : Result A B) (x : A) → MatchResult r P Q → r ≡ Ok x → P x
+ok_says P Q (Ok y) x h e = let is : y ≡ x = cc in subst P is h
+ok_says P Q (Err y) x h e = absurd (cc)

@@ -1,6 +1,6 @@
 -- What calls that read a value back promise.
-use Rattle.std.specs.Prelude.{◌≡◌, ℕ, List, Result, MatchResult}
-use Rattle.archive_shape_layout.specs.Shape.{Shape}
+use Rattle.std.specs.Prelude.{◌≡◌, ℕ, ◌+◌, List, [], ◌∷◌, length, ⊤, Result, MatchResult}
+use Rattle.archive_shape_layout.specs.Shape.{Shape, size_of}
 use Rattle.archive_shape_layout.specs.Value.{Value}
 use Rattle.archive_shape_layout.specs.Content.{Names}
 use Rattle.archive_shape_canonical.specs.Sharing.{erased}
@@ -21,3 +21,13 @@ module _ {A R : Type 0} (w : Spelling A R) (s : Shape) (knows : Names → Type 0
   -- the same of a call whose answer is the value
   abbrev pub Deserializes : Result A Error → Type 0
   Deserializes result = DeserializesBy (λ (x : A). x) result
+
+module _ {A R : Type 0} (w : Spelling A R) (s : Shape) (knows : Names → Type 0) (bytes : List ℕ) where
+  -- values are those of elements side by side from a position on
+  abbrev pub AreReadFrom : ℕ → List A → Type 0
+  AreReadFrom pos [] = ⊤
+  AreReadFrom pos (x ∷ xs) = IsReadAt w s knows bytes pos x × AreReadFrom (pos + size_of s) xs
+
+  -- what a call that reads n elements promises, whose answer keeps their values
+  abbrev pub DeserializesAll : {Q : Type 0} → ℕ → ℕ → (Q → List A) → Result Q Error → Type 0
+  DeserializesAll pos n kept result = MatchResult result (λ q. (length (kept q) ≡ n) × AreReadFrom pos (kept q)) (λ e. e ≡ OutOfMemory)

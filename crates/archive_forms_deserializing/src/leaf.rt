@@ -11,7 +11,7 @@ use std::alloc::Global;
 use std::num::{NonZeroI8, NonZeroU8};
 
 /// The native value of a leaf.
-fn native_of<L: ArchivedLeaf>(this: Ref<'_, L>) -> L::Native
+pub(crate) fn native_of<L: ArchivedLeaf>(this: Ref<'_, L>) -> L::Native
     requires { HasValue L.shape L.knows this.bytes.now this.pos }
     ensures { (v : Value) → HeldAt L.shape L.knows this.entry.bytes.now this.entry.pos v → L.value_of result ≡ v }
 {

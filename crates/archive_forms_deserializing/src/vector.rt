@@ -7,6 +7,7 @@ ghost use Rattle.archive_forms_deserializing.specs.Steps.{StepTakes, StepReads};
 
 use crate::Deserialize;
 use crate::deserialize::deserialize_element;
+use crate::elements::deserialize_elements_each;
 use archive_forms_reading::ArchivedVec;
 use archive_forms_writing::Archive;
 use archive_shape::{Error, Portable, Ref};
@@ -30,19 +31,7 @@ pub fn deserialize_vec_each<
     requires reads { StepReads F.Fn step A.shape A.knows this.bytes.now (λ q. q.0) T.spelling }
     ensures { Deserializes (vec_spelling T.Archived.shape T.spelling) (vector A.shape) A.knows this.entry.bytes.now this.entry.pos result }
 {
-    let items = ArchivedVec::as_slice(this);
-    let mut all = Vec::new(alloc);
-    for index in 0..items.len() {
-        let item = items.get(index).unwrap();
-        let value = match step(deserializer, item.pos) {
-            Ok(done) => done.0,
-            Err(e) => return Err(e),
-        };
-        if all.push(value).is_err() {
-            return Err(Error::OutOfMemory);
-        }
-    }
-    Ok(all)
+    deserialize_elements_each(ArchivedVec::as_slice(this), alloc, deserializer, step)
 }
 
 impl<T: Archive + Drop, D, A: Deserialize<T, D>> Deserialize<Vec<T>, D> for ArchivedVec<A> {

@@ -1,0 +1,40 @@
+-- What is read back of results.
+use Rattle.std.proofs.Common.{◌≡◌, ℕ, List, Ok, Err, sym, ap, subst, ◌∙◌}
+use Rattle.archive_shape_layout.specs.Shape.{Shape}
+use Rattle.archive_shape_layout.specs.Shape.Shape.{result}
+use Rattle.archive_shape_layout.specs.Value.Value.{chosen}
+use Rattle.archive_shape_layout.specs.Value.Values.{no_values, more_values}
+use Rattle.archive_shape_layout.specs.Content.{Names}
+use Rattle.archive_shape_canonical.specs.Sharing.{erased}
+use Rattle.archive_shape.specs.Key.{HeldAt}
+use Rattle.archive_forms_spelling.specs.Spelling.{Spelling}
+use Rattle.archive_forms_spelling.specs.Results.{result_spelling}
+use Rattle.archive_forms_reading.specs.Parts.{HasValue, HasPayload, both, IsOkAt, IsErrAt, outcome_position}
+use Rattle.archive_forms_deserializing.specs.Deserializing.{IsReadAt}
+
+-- behind the tag of each value of a shape stands one of another
+pub payload_has :
+    (whole s : Shape) (all knows : Names → Type 0) (bytes : List ℕ) (pos tag place at : ℕ)
+    → at ≡ place
+    → ((v : _) → HeldAt whole all bytes pos v → HasPayload tag s knows bytes place v)
+    → HasValue whole all bytes pos
+    → HasValue s knows bytes at
+payload_has whole s all knows bytes pos tag place at e there h =
+    let p = there h.value h.held in record { value = p.payload; held = subst (λ n. HeldAt s knows bytes n p.payload) (sym e) p.held }
+
+module _ {A B R Q : Type 0} (w : Spelling A R) (u : Spelling B Q) (x y : Shape) (s t : Shape) (knows others : Names → Type 0) (bytes : List ℕ) (pos at : ℕ) where
+  pub ok_read :
+      (a : A) → at ≡ outcome_position s t pos → IsOkAt s t knows others bytes pos → IsReadAt w s knows bytes at a
+      → IsReadAt (result_spelling x y w u) (result s t) (both knows others) bytes pos (Ok a)
+  ok_read a e there read v h =
+      let p = there v h in
+      let inner : w.plain a ≡ erased p.payload = read p.payload (subst (λ n. HeldAt s knows bytes n p.payload) (sym e) p.held) in
+      ap (λ z. chosen 0 (more_values z no_values)) inner ∙ sym (ap erased p.is)
+
+  pub err_read :
+      (b : B) → at ≡ outcome_position s t pos → IsErrAt s t knows others bytes pos → IsReadAt u t others bytes at b
+      → IsReadAt (result_spelling x y w u) (result s t) (both knows others) bytes pos (Err b)
+  err_read b e there read v h =
+      let p = there v h in
+      let inner : u.plain b ≡ erased p.payload = read p.payload (subst (λ n. HeldAt t others bytes n p.payload) (sym e) p.held) in
+      ap (λ z. chosen 1 (more_values z no_values)) inner ∙ sym (ap erased p.is)

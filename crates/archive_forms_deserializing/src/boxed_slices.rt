@@ -1,0 +1,80 @@
+//! Boxes of slices and of texts are read back.
+ghost use Rattle.std.specs.Box.{boxed_slice_items, boxed_str_bytes};
+ghost use Rattle.archive_shape_layout.specs.Shape.Shape.{box};
+ghost use Rattle.archive_shape_layout.specs.Shape.Pointee.{slice};
+ghost use Rattle.archive_forms_spelling.specs.Forms.{seen_as};
+ghost use Rattle.archive_forms_reading.specs.Parts.{HasValue};
+ghost use Rattle.archive_forms_writing.specs.Owned.{boxed_slice_spelling};
+ghost use Rattle.archive_forms_deserializing.specs.Deserializing.{Deserializes, DeserializesBy};
+ghost use Rattle.archive_forms_deserializing.specs.Steps.{StepTakes, StepReads};
+
+use crate::deserialize::deserialize_element;
+use crate::{Deserialize, deserialize_vec_each};
+use archive_forms_boxed::{ArchivedBoxedSlice, ArchivedBoxedStr};
+use archive_forms_reading::ArchivedVec;
+use archive_forms_writing::Archive;
+use archive_shape::{Error, Portable, Ref};
+use std::alloc::Global;
+use std::boxed::{BoxedSlice, BoxedStr};
+use std::marker::PhantomData;
+
+/// Reads the box of a slice back, whose elements a step reads.
+pub fn deserialize_boxed_slice_each<
+    T: Archive + Drop,
+    A: Portable,
+    D,
+    F: Fn(&mut D, usize) -> Result<(T, PhantomData<T::Archived>), Error>,
+>(
+    this: Ref<'_, ArchivedBoxedSlice<A>>,
+    alloc: Global,
+    deserializer: &mut D,
+    step: F,
+) -> Result<BoxedSlice<T>, Error>
+    requires there { HasValue (box (slice A.shape)) A.knows this.bytes.now this.pos }
+    requires takes { StepTakes F.Fn step A.shape A.knows this.bytes.now }
+    requires reads { StepReads F.Fn step A.shape A.knows this.bytes.now (λ q. q.0) T.spelling }
+    ensures { Deserializes (seen_as boxed_slice_items (boxed_slice_spelling T.Archived.shape T.spelling)) (box (slice A.shape)) A.knows this.entry.bytes.now this.entry.pos result }
+{
+    let vector = Ref::<ArchivedVec<A>> {
+        bytes: this.bytes,
+        pos: this.pos,
+        of: PhantomData,
+    };
+    match deserialize_vec_each::<T, A, D, F>(vector, alloc, deserializer, step) {
+        Ok(all) => Ok(all.into_boxed_slice()),
+        Err(e) => Err(e),
+    }
+}
+
+impl<T: Archive + Drop, D, A: Deserialize<T, D>> Deserialize<BoxedSlice<T>, D>
+    for ArchivedBoxedSlice<A> {
+    fn deserialize(
+        this: &Ref<'_, ArchivedBoxedSlice<A>>,
+        alloc: Global,
+        deserializer: &mut D,
+    ) -> Result<BoxedSlice<T>, Error> {
+        let bytes = this.bytes;
+        deserialize_boxed_slice_each::<T, A, D, _>(
+            *this,
+            alloc,
+            deserializer,
+            |d: &mut D, pos: usize| -> Result<(T, PhantomData<T::Archived>), Error>
+                requires { HasValue A.shape A.knows bytes.now pos }
+                ensures { DeserializesBy T.spelling A.shape A.knows bytes.entry.now pos (λ q. q.0) result }
+            { deserialize_element::<T, A, D>(bytes, pos, alloc, d) },
+        )
+    }
+}
+
+impl<D> Deserialize<BoxedStr, D> for ArchivedBoxedStr {
+    fn deserialize(
+        this: &Ref<'_, ArchivedBoxedStr>,
+        alloc: Global,
+        _deserializer: &mut D,
+    ) -> Result<BoxedStr, Error> {
+        match BoxedStr::from_str(alloc, ArchivedBoxedStr::get(*this)) {
+            Ok(text) => Ok(text),
+            Err(_) => Err(Error::OutOfMemory),
+        }
+    }
+}

@@ -1,0 +1,75 @@
+//! Tuples of two are read back.
+ghost use Rattle.archive_forms_checking.specs.Tuples.{tuple2};
+ghost use Rattle.archive_forms_spelling.specs.Fields.{tuple2_spelling};
+ghost use Rattle.archive_forms_reading.specs.Parts.{HasValue, both};
+ghost use Rattle.archive_forms_deserializing.specs.Deserializing.{Deserializes, DeserializesBy};
+ghost use Rattle.archive_forms_deserializing.specs.Steps.{StepTakes, StepReads};
+
+use crate::Deserialize;
+use crate::deserialize::deserialize_element;
+use archive_forms_tuples::ArchivedTuple2;
+use archive_forms_writing::Archive;
+use archive_shape::{Error, Portable, Ref};
+use std::alloc::Global;
+use std::marker::PhantomData;
+
+/// Reads a tuple of two back, whose fields are read in order, by a step for each.
+pub fn deserialize_tuple2_each<
+    T: Archive + Drop,
+    U: Archive,
+    A: Portable,
+    B: Portable,
+    Deserializer,
+    F: Fn(&mut Deserializer, usize) -> Result<(T, PhantomData<T::Archived>), Error>,
+    G: Fn(&mut Deserializer, usize) -> Result<(U, PhantomData<U::Archived>), Error>,
+>(
+    this: Ref<'_, ArchivedTuple2<A, B>>,
+    deserializer: &mut Deserializer,
+    read_first: F,
+    read_second: G,
+) -> Result<(T, U), Error>
+    requires there { HasValue (tuple2 A.shape B.shape) (both A.knows B.knows) this.bytes.now this.pos }
+    requires takes_first { StepTakes F.Fn read_first A.shape A.knows this.bytes.now }
+    requires reads_first { StepReads F.Fn read_first A.shape A.knows this.bytes.now (λ q. q.0) T.spelling }
+    requires takes_second { StepTakes G.Fn read_second B.shape B.knows this.bytes.now }
+    requires reads_second { StepReads G.Fn read_second B.shape B.knows this.bytes.now (λ q. q.0) U.spelling }
+    ensures { Deserializes (tuple2_spelling T.Archived.shape T.spelling U.Archived.shape U.spelling) (tuple2 A.shape B.shape) (both A.knows B.knows) this.entry.bytes.now this.entry.pos result }
+{
+    let t = match read_first(deserializer, ArchivedTuple2::first(this).pos) {
+        Ok(done) => done.0,
+        Err(e) => return Err(e),
+    };
+    let u = match read_second(deserializer, ArchivedTuple2::second(this).pos) {
+        Ok(done) => done.0,
+        Err(e) => return Err(e),
+    };
+    Ok((t, u))
+}
+
+impl<
+    T: Archive + Drop,
+    U: Archive,
+    Deserializer,
+    A: Deserialize<T, Deserializer>,
+    B: Deserialize<U, Deserializer>,
+> Deserialize<(T, U), Deserializer> for ArchivedTuple2<A, B> {
+    fn deserialize(
+        this: &Ref<'_, ArchivedTuple2<A, B>>,
+        alloc: Global,
+        deserializer: &mut Deserializer,
+    ) -> Result<(T, U), Error> {
+        let bytes = this.bytes;
+        deserialize_tuple2_each::<T, U, A, B, Deserializer, _, _>(
+            *this,
+            deserializer,
+            |d: &mut Deserializer, pos: usize| -> Result<(T, PhantomData<T::Archived>), Error>
+                requires { HasValue A.shape A.knows bytes.now pos }
+                ensures { DeserializesBy T.spelling A.shape A.knows bytes.entry.now pos (λ q. q.0) result }
+            { deserialize_element::<T, A, Deserializer>(bytes, pos, alloc, d) },
+            |d: &mut Deserializer, pos: usize| -> Result<(U, PhantomData<U::Archived>), Error>
+                requires { HasValue B.shape B.knows bytes.now pos }
+                ensures { DeserializesBy U.spelling B.shape B.knows bytes.entry.now pos (λ q. q.0) result }
+            { deserialize_element::<U, B, Deserializer>(bytes, pos, alloc, d) },
+        )
+    }
+}

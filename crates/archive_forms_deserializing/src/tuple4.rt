@@ -1,0 +1,108 @@
+//! Tuples of four are read back.
+ghost use Rattle.archive_forms_checking.specs.Tuples.{tuple4};
+ghost use Rattle.archive_forms_spelling.specs.Fields.{tuple4_spelling};
+ghost use Rattle.archive_forms_reading.specs.Parts.{HasValue};
+ghost use Rattle.archive_forms_tuples.specs.Fields.{all_four};
+ghost use Rattle.archive_forms_deserializing.specs.Deserializing.{Deserializes, DeserializesBy};
+ghost use Rattle.archive_forms_deserializing.specs.Steps.{StepTakes, StepReads};
+
+use crate::Deserialize;
+use crate::deserialize::deserialize_element;
+use archive_forms_tuples::ArchivedTuple4;
+use archive_forms_writing::Archive;
+use archive_shape::{Error, Portable, Ref};
+use std::alloc::Global;
+use std::marker::PhantomData;
+
+/// Reads a tuple of four back, whose fields are read in order, by a step for each.
+pub fn deserialize_tuple4_each<
+    T: Archive + Drop,
+    U: Archive + Drop,
+    V: Archive + Drop,
+    W: Archive,
+    A: Portable,
+    B: Portable,
+    C: Portable,
+    D: Portable,
+    Deserializer,
+    F: Fn(&mut Deserializer, usize) -> Result<(T, PhantomData<T::Archived>), Error>,
+    G: Fn(&mut Deserializer, usize) -> Result<(U, PhantomData<U::Archived>), Error>,
+    H: Fn(&mut Deserializer, usize) -> Result<(V, PhantomData<V::Archived>), Error>,
+    I: Fn(&mut Deserializer, usize) -> Result<(W, PhantomData<W::Archived>), Error>,
+>(
+    this: Ref<'_, ArchivedTuple4<A, B, C, D>>,
+    deserializer: &mut Deserializer,
+    read_first: F,
+    read_second: G,
+    read_third: H,
+    read_fourth: I,
+) -> Result<(T, U, V, W), Error>
+    requires there { HasValue (tuple4 A.shape B.shape C.shape D.shape) (all_four A.knows B.knows C.knows D.knows) this.bytes.now this.pos }
+    requires takes_first { StepTakes F.Fn read_first A.shape A.knows this.bytes.now }
+    requires reads_first { StepReads F.Fn read_first A.shape A.knows this.bytes.now (λ q. q.0) T.spelling }
+    requires takes_second { StepTakes G.Fn read_second B.shape B.knows this.bytes.now }
+    requires reads_second { StepReads G.Fn read_second B.shape B.knows this.bytes.now (λ q. q.0) U.spelling }
+    requires takes_third { StepTakes H.Fn read_third C.shape C.knows this.bytes.now }
+    requires reads_third { StepReads H.Fn read_third C.shape C.knows this.bytes.now (λ q. q.0) V.spelling }
+    requires takes_fourth { StepTakes I.Fn read_fourth D.shape D.knows this.bytes.now }
+    requires reads_fourth { StepReads I.Fn read_fourth D.shape D.knows this.bytes.now (λ q. q.0) W.spelling }
+    ensures { Deserializes (tuple4_spelling T.Archived.shape T.spelling U.Archived.shape U.spelling V.Archived.shape V.spelling W.Archived.shape W.spelling) (tuple4 A.shape B.shape C.shape D.shape) (all_four A.knows B.knows C.knows D.knows) this.entry.bytes.now this.entry.pos result }
+{
+    let t = match read_first(deserializer, ArchivedTuple4::first(this).pos) {
+        Ok(done) => done.0,
+        Err(e) => return Err(e),
+    };
+    let u = match read_second(deserializer, ArchivedTuple4::second(this).pos) {
+        Ok(done) => done.0,
+        Err(e) => return Err(e),
+    };
+    let v = match read_third(deserializer, ArchivedTuple4::third(this).pos) {
+        Ok(done) => done.0,
+        Err(e) => return Err(e),
+    };
+    let w = match read_fourth(deserializer, ArchivedTuple4::fourth(this).pos) {
+        Ok(done) => done.0,
+        Err(e) => return Err(e),
+    };
+    Ok((t, u, v, w))
+}
+
+impl<
+    T: Archive + Drop,
+    U: Archive + Drop,
+    V: Archive + Drop,
+    W: Archive,
+    Deserializer,
+    A: Deserialize<T, Deserializer>,
+    B: Deserialize<U, Deserializer>,
+    C: Deserialize<V, Deserializer>,
+    D: Deserialize<W, Deserializer>,
+> Deserialize<(T, U, V, W), Deserializer> for ArchivedTuple4<A, B, C, D> {
+    fn deserialize(
+        this: &Ref<'_, ArchivedTuple4<A, B, C, D>>,
+        alloc: Global,
+        deserializer: &mut Deserializer,
+    ) -> Result<(T, U, V, W), Error> {
+        let bytes = this.bytes;
+        deserialize_tuple4_each::<T, U, V, W, A, B, C, D, Deserializer, _, _, _, _>(
+            *this,
+            deserializer,
+            |d: &mut Deserializer, pos: usize| -> Result<(T, PhantomData<T::Archived>), Error>
+                requires { HasValue A.shape A.knows bytes.now pos }
+                ensures { DeserializesBy T.spelling A.shape A.knows bytes.entry.now pos (λ q. q.0) result }
+            { deserialize_element::<T, A, Deserializer>(bytes, pos, alloc, d) },
+            |d: &mut Deserializer, pos: usize| -> Result<(U, PhantomData<U::Archived>), Error>
+                requires { HasValue B.shape B.knows bytes.now pos }
+                ensures { DeserializesBy U.spelling B.shape B.knows bytes.entry.now pos (λ q. q.0) result }
+            { deserialize_element::<U, B, Deserializer>(bytes, pos, alloc, d) },
+            |d: &mut Deserializer, pos: usize| -> Result<(V, PhantomData<V::Archived>), Error>
+                requires { HasValue C.shape C.knows bytes.now pos }
+                ensures { DeserializesBy V.spelling C.shape C.knows bytes.entry.now pos (λ q. q.0) result }
+            { deserialize_element::<V, C, Deserializer>(bytes, pos, alloc, d) },
+            |d: &mut Deserializer, pos: usize| -> Result<(W, PhantomData<W::Archived>), Error>
+                requires { HasValue D.shape D.knows bytes.now pos }
+                ensures { DeserializesBy W.spelling D.shape D.knows bytes.entry.now pos (λ q. q.0) result }
+            { deserialize_element::<W, D, Deserializer>(bytes, pos, alloc, d) },
+        )
+    }
+}
