@@ -1,0 +1,76 @@
+-- The laws of how each form is compared.
+use Rattle.std.proofs.Common.{◌≡◌, Bool, true, false, refl}
+use Rattle.std.specs.Cmp.{on_equiv, on_total, and_equiv, then_total, both_tied, nat_eq_equiv, nat_cmp_total, unsigned_Decides, int_eq_equiv, signed_Decides, booleans_Decides, int_cmp_total, bool_eq_equiv, bool_cmp_total, unsigned_ties}
+use Rattle.std.specs.Cmp.Lexicographic.{lists_equiv, lists_total, lists_ties, options_equiv, options_total, nat_list_eq_equiv, nat_list_cmp_total, texts_ties, bytes_decides}
+use Rattle.std.specs.Hash.{on_Alike, same_Alike, items_Alike, and-Alike, none_alike}
+use Rattle.std.specs.Hash as fed
+use Rattle.std.specs.Ordering.{bool_cmp, is_eq}
+use Rattle.std.specs.Bool.{beq}
+use Rattle.archive_forms_ordering.specs.Views.{natural_of, integer_of, truth_of, text_of, option_of, result_of, elements_of, first_of, second_of}
+use Rattle.archive_forms_ordering.specs.Orders.{by_natural, by_integer, unit_equality}
+use Rattle.archive_forms_ordering.specs.Laws.{AreEquivalences, AreTotal, AllAgree, AreHashedAlike, IsLawful}
+use Rattle.archive_forms_ordering.proofs.Results.{options_tied, results_tied, options_alike, results_alike, results_equiv, results_total}
+
+pub equivalences : AreEquivalences
+equivalences = record {
+  naturals = on_equiv natural_of nat_eq_equiv;
+  integers = on_equiv integer_of int_eq_equiv;
+  truths = on_equiv truth_of bool_eq_equiv;
+  texts = on_equiv text_of nat_list_eq_equiv;
+  options = λ E e. on_equiv option_of (options_equiv e);
+  results = λ E F e f. on_equiv result_of (results_equiv e f);
+  vectors = λ E e. on_equiv elements_of (lists_equiv e);
+  tuples = λ E F e f. and_equiv (on_equiv first_of e) (on_equiv second_of f);
+  units = record { refl = λ v. refl; symm = λ v w. refl; congr = λ v w u e. refl };
+}
+
+pub total : AreTotal
+total = record {
+  naturals = on_total natural_of nat_cmp_total;
+  integers = on_total integer_of int_cmp_total;
+  truths = on_total truth_of bool_cmp_total;
+  texts = on_total text_of nat_list_cmp_total;
+  options = λ R o. on_total option_of (options_total o);
+  results = λ R S o u. on_total result_of (results_total o u);
+  vectors = λ R o. on_total elements_of (lists_total o);
+  tuples = λ R S o u. then_total (on_total first_of o) (on_total second_of u);
+  units = record { antisymm = λ v w. refl; trans = λ v w u e f. e; congr = λ v w u e. refl };
+}
+
+truths_tied : (a b : Bool) → beq a b ≡ is_eq (bool_cmp a b)
+truths_tied false false = refl
+truths_tied false true = refl
+truths_tied true false = refl
+truths_tied true true = refl
+
+pub agree : AllAgree
+agree = record {
+  naturals = λ v w. unsigned_ties (natural_of v) (natural_of w);
+  integers = λ v w. refl;
+  truths = λ v w. truths_tied (truth_of v) (truth_of w);
+  texts = λ v w. texts_ties (text_of v) (text_of w);
+  options = λ E R t v w. options_tied R t (option_of v) (option_of w);
+  results = λ E F R S t u v w. results_tied R S t u (result_of v) (result_of w);
+  vectors = λ E R t v w. lists_ties R t (elements_of v) (elements_of w);
+  tuples = λ E F R S t u v w. both_tied _ _ (R (first_of v) (first_of w)) (S (second_of v) (second_of w)) (t (first_of v) (first_of w)) (u (second_of v) (second_of w));
+  units = λ v w. refl;
+}
+
+pub alike : AreHashedAlike
+alike = record {
+  naturals = λ F. on_Alike natural_of (same_Alike F unsigned_Decides);
+  integers = λ F. on_Alike integer_of (same_Alike F signed_Decides);
+  truths = λ F. on_Alike truth_of (same_Alike F booleans_Decides);
+  texts = on_Alike text_of (same_Alike fed.str bytes_decides);
+  options = λ E F a. on_Alike option_of (options_alike a);
+  results = λ E F G H a b. on_Alike result_of (results_alike a b);
+  vectors = λ E F a. on_Alike elements_of (items_Alike a);
+  tuples = λ E F G H a b. and-Alike (on_Alike first_of a) (on_Alike second_of b);
+  units = none_alike unit_equality;
+}
+
+pub naturals_lawful : IsLawful by_natural
+naturals_lawful = record { is_equivalence = equivalences.naturals; is_total = total.naturals; agrees = agree.naturals }
+
+pub integers_lawful : IsLawful by_integer
+integers_lawful = record { is_equivalence = equivalences.integers; is_total = total.integers; agrees = agree.integers }
