@@ -1,0 +1,6 @@
+use Rattle.std.proofs.Common.{◌∙◌}
+use Rattle.archive_forms_ordering.specs.Orders.{truth_order}
+use Rattle.archive_forms_comparing.proofs.leaf.BoolArchivedOrd.cmp.Goals as goal
+
+pub returns : goal.returns
+returns c = λ v w h k. c.cmp.ensures ∙ (λ i. truth_order (c.native_of.ensures v h i) (c.native_of-2.ensures w k i))

@@ -1,0 +1,5 @@
+use Rattle.archive_forms_ordering.specs.Orders.{natural_equality}
+use Rattle.archive_forms_comparing.proofs.leaf.U8ArchivedEq.eq.Goals as goal
+
+pub returns : goal.returns
+returns c = λ v w h k i. natural_equality (c.native_of.ensures v h i) (c.native_of-2.ensures w k i)

@@ -1,0 +1,16 @@
+use Rattle.std.proofs.Common.{◌≡◌, drop}
+use Rattle.std.specs.Cmp.Lexicographic.{pointwise}
+use Rattle.archive_shape_layout.specs.Value.{Value}
+use Rattle.archive_forms_ordering.specs.Views.{elements_of}
+use Rattle.archive_forms_reading.specs.Parts.{AreElements}
+use Rattle.archive_forms_comparing.proofs.vector.equal_elements.Given as goal
+
+abbrev pub invariant-loop-index : goal.invariant-loop-index
+invariant-loop-index g l = record {
+  -- the elements from the index on decide
+  rest :
+      (v w : Value)
+      → AreElements g.T.Portable.shape g.T.Portable.knows l.fn.these.bytes.now l.fn.these.pos l.fn.these.len v
+      → AreElements g.T.Portable.shape g.T.Portable.knows l.fn.others.bytes.now l.fn.others.pos l.fn.others.len w
+      → pointwise g.T.ArchivedEq.equal (elements_of v) (elements_of w) ≡ pointwise g.T.ArchivedEq.equal (drop l.index (elements_of v)) (drop l.index (elements_of w));
+}

@@ -1,0 +1,128 @@
+//! How archived values are printed.
+ghost use Rattle.archive_forms_reading.specs.Parts.{HasValue};
+
+use crate::leaf::native_of;
+use crate::parts::{box_value, option_value, result_outcome, tuple_first, tuple_second};
+use crate::text::text_at;
+use crate::vector::{element, elements};
+use archive_forms_reading::{ArchivedBox, ArchivedOption, ArchivedResult, ArchivedVec};
+use archive_forms_text::ArchivedString;
+use archive_forms_tuples::ArchivedTuple2;
+use archive_shape::{LittleEndian, Native, Portable, Ref};
+use std::fmt;
+use std::fmt::{Debug, Formatter, Write};
+use std::num::{NonZeroI8, NonZeroU8};
+
+/// A type of archived values that are printed for programmers, as `{:?}` prints their native values. All stands on one line.
+pub trait ArchivedDebug: Portable {
+    /// Writes the value.
+    fn fmt<W: Write>(this: &Ref<'_, Self>, f: &mut Formatter<W>) -> fmt::Result
+        requires { HasValue Self.shape Self.knows this.now.bytes.now this.now.pos };
+}
+
+impl<N: Native + Debug> ArchivedDebug for LittleEndian<N> {
+    fn fmt<W: Write>(this: &Ref<'_, LittleEndian<N>>, f: &mut Formatter<W>) -> fmt::Result {
+        Debug::fmt(&native_of(*this), f)
+    }
+}
+
+impl ArchivedDebug for bool {
+    fn fmt<W: Write>(this: &Ref<'_, bool>, f: &mut Formatter<W>) -> fmt::Result {
+        Debug::fmt(&native_of(*this), f)
+    }
+}
+
+impl ArchivedDebug for u8 {
+    fn fmt<W: Write>(this: &Ref<'_, u8>, f: &mut Formatter<W>) -> fmt::Result {
+        Debug::fmt(&native_of(*this), f)
+    }
+}
+
+impl ArchivedDebug for NonZeroU8 {
+    fn fmt<W: Write>(this: &Ref<'_, NonZeroU8>, f: &mut Formatter<W>) -> fmt::Result {
+        Debug::fmt(&native_of(*this), f)
+    }
+}
+
+impl ArchivedDebug for i8 {
+    fn fmt<W: Write>(this: &Ref<'_, i8>, f: &mut Formatter<W>) -> fmt::Result {
+        Debug::fmt(&native_of(*this), f)
+    }
+}
+
+impl ArchivedDebug for NonZeroI8 {
+    fn fmt<W: Write>(this: &Ref<'_, NonZeroI8>, f: &mut Formatter<W>) -> fmt::Result {
+        Debug::fmt(&native_of(*this), f)
+    }
+}
+
+impl ArchivedDebug for ArchivedString {
+    fn fmt<W: Write>(this: &Ref<'_, ArchivedString>, f: &mut Formatter<W>) -> fmt::Result {
+        Debug::fmt(&text_at(this), f)
+    }
+}
+
+impl<T: ArchivedDebug> ArchivedDebug for ArchivedOption<T> {
+    fn fmt<W: Write>(this: &Ref<'_, ArchivedOption<T>>, f: &mut Formatter<W>) -> fmt::Result {
+        match option_value(this) {
+            None => f.write_str("None"),
+            Some(value) => {
+                f.write_str("Some(")?;
+                T::fmt(&value, f)?;
+                f.write_str(")")
+            }
+        }
+    }
+}
+
+impl<T: ArchivedDebug, E: ArchivedDebug> ArchivedDebug for ArchivedResult<T, E> {
+    fn fmt<W: Write>(this: &Ref<'_, ArchivedResult<T, E>>, f: &mut Formatter<W>) -> fmt::Result {
+        match result_outcome(this) {
+            Ok(value) => {
+                f.write_str("Ok(")?;
+                T::fmt(&value, f)?;
+            }
+            Err(error) => {
+                f.write_str("Err(")?;
+                E::fmt(&error, f)?;
+            }
+        }
+        f.write_str(")")
+    }
+}
+
+impl<T: ArchivedDebug> ArchivedDebug for ArchivedBox<T> {
+    fn fmt<W: Write>(this: &Ref<'_, ArchivedBox<T>>, f: &mut Formatter<W>) -> fmt::Result {
+        T::fmt(&box_value(this), f)
+    }
+}
+
+impl<T: ArchivedDebug> ArchivedDebug for ArchivedVec<T> {
+    fn fmt<W: Write>(this: &Ref<'_, ArchivedVec<T>>, f: &mut Formatter<W>) -> fmt::Result {
+        let elements = elements(this);
+        f.write_str("[")?;
+        for index in 0..elements.len() {
+            if index > 0 {
+                f.write_str(", ")?;
+            }
+            T::fmt(&element(&elements, index), f)?;
+        }
+        f.write_str("]")
+    }
+}
+
+impl<A: ArchivedDebug, B: ArchivedDebug> ArchivedDebug for ArchivedTuple2<A, B> {
+    fn fmt<W: Write>(this: &Ref<'_, ArchivedTuple2<A, B>>, f: &mut Formatter<W>) -> fmt::Result {
+        f.write_str("(")?;
+        A::fmt(&tuple_first(this), f)?;
+        f.write_str(", ")?;
+        B::fmt(&tuple_second(this), f)?;
+        f.write_str(")")
+    }
+}
+
+impl ArchivedDebug for () {
+    fn fmt<W: Write>(_this: &Ref<'_, ()>, f: &mut Formatter<W>) -> fmt::Result {
+        f.write_str("()")
+    }
+}

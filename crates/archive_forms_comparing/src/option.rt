@@ -1,0 +1,57 @@
+//! Options are compared: none before some.
+ghost use Rattle.archive_forms_ordering.specs.Orders.{option_equality, option_order, option_hashed};
+ghost use Rattle.archive_forms_ordering.proofs.Forms.{equivalences, total, agree, alike};
+
+use crate::parts::option_value;
+use crate::{ArchivedEq, ArchivedHash, ArchivedOrd};
+use archive_forms_reading::ArchivedOption;
+use archive_shape::Ref;
+use std::cmp::Ordering;
+use std::hash::Hasher;
+
+impl<T: ArchivedEq> ArchivedEq for ArchivedOption<T> {
+    ghost equal = { option_equality T.equal };
+
+    ghost is_equivalence = { equivalences.options T.equal T.is_equivalence };
+
+    fn eq(this: &Ref<'_, ArchivedOption<T>>, other: &Ref<'_, ArchivedOption<T>>) -> bool {
+        match (option_value(this), option_value(other)) {
+            (None, None) => true,
+            (Some(value), Some(other)) => T::eq(&value, &other),
+            _ => false,
+        }
+    }
+}
+
+impl<T: ArchivedOrd> ArchivedOrd for ArchivedOption<T> {
+    ghost order = { option_order T.order };
+
+    ghost is_total = { total.options T.order T.is_total };
+
+    ghost agrees = { agree.options T.equal T.order T.agrees };
+
+    fn cmp(this: &Ref<'_, ArchivedOption<T>>, other: &Ref<'_, ArchivedOption<T>>) -> Ordering {
+        match (option_value(this), option_value(other)) {
+            (None, None) => Ordering::Equal,
+            (None, Some(_)) => Ordering::Less,
+            (Some(_), None) => Ordering::Greater,
+            (Some(value), Some(other)) => T::cmp(&value, &other),
+        }
+    }
+}
+
+impl<T: ArchivedHash> ArchivedHash for ArchivedOption<T> {
+    ghost hashed = { option_hashed T.hashed };
+
+    ghost alike = { alike.options T.equal T.hashed T.alike };
+
+    fn hash<H: Hasher>(this: &Ref<'_, ArchivedOption<T>>, state: &mut H) {
+        match option_value(this) {
+            None => state.write_isize(0),
+            Some(value) => {
+                state.write_isize(1);
+                T::hash(&value, state);
+            }
+        }
+    }
+}

@@ -1,0 +1,64 @@
+//! The parts of values that have parts, as the values are seen where they are compared.
+ghost use Rattle.std.specs.Prelude.{◌≡◌, None, Some, Ok, Err, MatchOption, MatchResult};
+ghost use Rattle.archive_shape_layout.specs.Shape.Shape.{option, result as result_shape, box};
+ghost use Rattle.archive_shape_layout.specs.Shape.Pointee.{sized};
+ghost use Rattle.archive_shape_layout.specs.Value.{Value};
+ghost use Rattle.archive_shape.specs.Key.{HeldAt};
+ghost use Rattle.archive_forms_checking.specs.Tuples.{tuple2};
+ghost use Rattle.archive_forms_ordering.specs.Views.{option_of, result_of, first_of, second_of};
+ghost use Rattle.archive_forms_reading.specs.Parts.{HasValue, both};
+ghost use Rattle.archive_forms_comparing.specs.Compared.{HasPart};
+
+use archive_forms_reading::{ArchivedBox, ArchivedOption, ArchivedResult};
+use archive_forms_tuples::ArchivedTuple2;
+use archive_shape::{Portable, Ref};
+
+/// The value of an option, if there is one.
+pub(crate) fn option_value<'a, T: Portable>(this: &Ref<'a, ArchivedOption<T>>) -> Option<Ref<'a, T>>
+    requires { HasValue (option T.shape) T.knows this.now.bytes.now this.now.pos }
+    ensures { MatchOption result
+        ((v : Value) → HeldAt (option T.shape) T.knows this.now.bytes.now this.now.pos v → option_of v ≡ None)
+        (λ r. HasPart (λ v x. option_of v ≡ Some x) (option T.shape) T.knows this.now.bytes.now this.now.pos T.shape T.knows r.bytes.now r.pos) }
+{
+    ArchivedOption::as_ref(*this)
+}
+
+/// The value or the error of a result.
+pub(crate) fn result_outcome<'a, T: Portable, E: Portable>(
+    this: &Ref<'a, ArchivedResult<T, E>>,
+) -> Result<Ref<'a, T>, Ref<'a, E>>
+    requires { HasValue (result_shape T.shape E.shape) (both T.knows E.knows) this.now.bytes.now this.now.pos }
+    ensures { MatchResult result
+        (λ r. HasPart (λ v x. result_of v ≡ Ok x) (result_shape T.shape E.shape) (both T.knows E.knows) this.now.bytes.now this.now.pos T.shape T.knows r.bytes.now r.pos)
+        (λ r. HasPart (λ v x. result_of v ≡ Err x) (result_shape T.shape E.shape) (both T.knows E.knows) this.now.bytes.now this.now.pos E.shape E.knows r.bytes.now r.pos) }
+{
+    ArchivedResult::as_ref(*this)
+}
+
+/// The value of a box.
+pub(crate) fn box_value<'a, T: Portable>(this: &Ref<'a, ArchivedBox<T>>) -> Ref<'a, T>
+    requires { HasValue (box (sized T.shape)) T.knows this.now.bytes.now this.now.pos }
+    ensures { HasPart (λ v x. v ≡ x) (box (sized T.shape)) T.knows this.now.bytes.now this.now.pos T.shape T.knows result.bytes.now result.pos }
+{
+    ArchivedBox::get(*this)
+}
+
+/// The first field of a tuple.
+pub(crate) fn tuple_first<'a, A: Portable, B: Portable>(
+    this: &Ref<'a, ArchivedTuple2<A, B>>,
+) -> Ref<'a, A>
+    requires { HasValue (tuple2 A.shape B.shape) (both A.knows B.knows) this.now.bytes.now this.now.pos }
+    ensures { HasPart (λ v x. first_of v ≡ x) (tuple2 A.shape B.shape) (both A.knows B.knows) this.now.bytes.now this.now.pos A.shape A.knows result.bytes.now result.pos }
+{
+    ArchivedTuple2::first(*this)
+}
+
+/// The second field of a tuple.
+pub(crate) fn tuple_second<'a, A: Portable, B: Portable>(
+    this: &Ref<'a, ArchivedTuple2<A, B>>,
+) -> Ref<'a, B>
+    requires { HasValue (tuple2 A.shape B.shape) (both A.knows B.knows) this.now.bytes.now this.now.pos }
+    ensures { HasPart (λ v x. second_of v ≡ x) (tuple2 A.shape B.shape) (both A.knows B.knows) this.now.bytes.now this.now.pos B.shape B.knows result.bytes.now result.pos }
+{
+    ArchivedTuple2::second(*this)
+}

@@ -1,0 +1,64 @@
+//! Results are compared: a value before an error.
+ghost use Rattle.archive_forms_ordering.specs.Orders.{result_equality, result_order, result_hashed};
+ghost use Rattle.archive_forms_ordering.proofs.Forms.{equivalences, total, agree, alike};
+
+use crate::parts::result_outcome;
+use crate::{ArchivedEq, ArchivedHash, ArchivedOrd};
+use archive_forms_reading::ArchivedResult;
+use archive_shape::Ref;
+use std::cmp::Ordering;
+use std::hash::Hasher;
+
+impl<T: ArchivedEq, E: ArchivedEq> ArchivedEq for ArchivedResult<T, E> {
+    ghost equal = { result_equality T.equal E.equal };
+
+    ghost is_equivalence = { equivalences.results T.equal E.equal T.is_equivalence E.is_equivalence };
+
+    fn eq(this: &Ref<'_, ArchivedResult<T, E>>, other: &Ref<'_, ArchivedResult<T, E>>) -> bool {
+        match (result_outcome(this), result_outcome(other)) {
+            (Ok(value), Ok(other)) => T::eq(&value, &other),
+            (Err(error), Err(other)) => E::eq(&error, &other),
+            (Ok(_), Err(_)) => false,
+            (Err(_), Ok(_)) => false,
+        }
+    }
+}
+
+impl<T: ArchivedOrd, E: ArchivedOrd> ArchivedOrd for ArchivedResult<T, E> {
+    ghost order = { result_order T.order E.order };
+
+    ghost is_total = { total.results T.order E.order T.is_total E.is_total };
+
+    ghost agrees = { agree.results T.equal E.equal T.order E.order T.agrees E.agrees };
+
+    fn cmp(
+        this: &Ref<'_, ArchivedResult<T, E>>,
+        other: &Ref<'_, ArchivedResult<T, E>>,
+    ) -> Ordering {
+        match (result_outcome(this), result_outcome(other)) {
+            (Ok(value), Ok(other)) => T::cmp(&value, &other),
+            (Ok(_), Err(_)) => Ordering::Less,
+            (Err(_), Ok(_)) => Ordering::Greater,
+            (Err(error), Err(other)) => E::cmp(&error, &other),
+        }
+    }
+}
+
+impl<T: ArchivedHash, E: ArchivedHash> ArchivedHash for ArchivedResult<T, E> {
+    ghost hashed = { result_hashed T.hashed E.hashed };
+
+    ghost alike = { alike.results T.equal E.equal T.hashed E.hashed T.alike E.alike };
+
+    fn hash<H: Hasher>(this: &Ref<'_, ArchivedResult<T, E>>, state: &mut H) {
+        match result_outcome(this) {
+            Ok(value) => {
+                state.write_isize(0);
+                T::hash(&value, state);
+            }
+            Err(error) => {
+                state.write_isize(1);
+                E::hash(&error, state);
+            }
+        }
+    }
+}

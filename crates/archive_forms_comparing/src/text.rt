@@ -1,0 +1,54 @@
+//! Texts are compared by their bytes.
+ghost use Rattle.std.specs.Prelude.{⊤};
+ghost use Rattle.archive_shape_layout.specs.Shape.Shape.{text};
+ghost use Rattle.archive_forms_ordering.specs.Views.{text_of};
+ghost use Rattle.archive_forms_ordering.specs.Orders.{text_equality, text_order, text_hashed};
+ghost use Rattle.archive_forms_ordering.proofs.Forms.{equivalences, total, agree, alike};
+ghost use Rattle.archive_forms_reading.specs.Parts.{HasValue};
+ghost use Rattle.archive_forms_comparing.specs.Compared.{OfValue};
+
+use crate::{ArchivedEq, ArchivedHash, ArchivedOrd};
+use archive_forms_text::ArchivedString;
+use archive_shape::{Portable, Ref};
+use std::cmp::Ordering;
+use std::hash::{Hash, Hasher};
+
+/// The text that stands there.
+pub(crate) fn text_at<'a>(this: &Ref<'a, ArchivedString>) -> &'a str
+    requires { HasValue text (λ _. ⊤) this.now.bytes.now this.now.pos }
+    ensures { OfValue text (λ _. ⊤) this.now.bytes.now this.now.pos text_of result.now }
+{
+    ArchivedString::as_str(*this)
+}
+
+impl ArchivedEq for ArchivedString {
+    ghost equal = { text_equality };
+
+    ghost is_equivalence = { equivalences.texts };
+
+    fn eq(this: &Ref<'_, ArchivedString>, other: &Ref<'_, ArchivedString>) -> bool {
+        text_at(this) == text_at(other)
+    }
+}
+
+impl ArchivedOrd for ArchivedString {
+    ghost order = { text_order };
+
+    ghost is_total = { total.texts };
+
+    ghost agrees = { agree.texts };
+
+    fn cmp(this: &Ref<'_, ArchivedString>, other: &Ref<'_, ArchivedString>) -> Ordering {
+        text_at(this).cmp(text_at(other))
+    }
+}
+
+impl ArchivedHash for ArchivedString {
+    ghost hashed = { text_hashed };
+
+    ghost alike = { alike.texts };
+
+    fn hash<H: Hasher>(this: &Ref<'_, ArchivedString>, state: &mut H) {
+        Hash::hash(&text_at(this), state);
+    }
+}

@@ -1,0 +1,69 @@
+//! Values without bytes are all equal.
+ghost use Rattle.archive_forms_ordering.specs.Orders.{unit_equality, unit_order, unit_hashed};
+ghost use Rattle.archive_forms_ordering.proofs.Forms.{equivalences, total, agree, alike};
+
+use crate::{ArchivedEq, ArchivedHash, ArchivedOrd};
+use archive_shape::Ref;
+use std::cmp::Ordering;
+use std::hash::Hasher;
+use std::marker::PhantomData;
+
+impl ArchivedEq for () {
+    ghost equal = { unit_equality };
+
+    ghost is_equivalence = { equivalences.units };
+
+    fn eq(_this: &Ref<'_, ()>, _other: &Ref<'_, ()>) -> bool {
+        true
+    }
+}
+
+impl ArchivedOrd for () {
+    ghost order = { unit_order };
+
+    ghost is_total = { total.units };
+
+    ghost agrees = { agree.units };
+
+    fn cmp(_this: &Ref<'_, ()>, _other: &Ref<'_, ()>) -> Ordering {
+        Ordering::Equal
+    }
+}
+
+impl<T> ArchivedEq for PhantomData<T> {
+    ghost equal = { unit_equality };
+
+    ghost is_equivalence = { equivalences.units };
+
+    fn eq(_this: &Ref<'_, PhantomData<T>>, _other: &Ref<'_, PhantomData<T>>) -> bool {
+        true
+    }
+}
+
+impl<T> ArchivedOrd for PhantomData<T> {
+    ghost order = { unit_order };
+
+    ghost is_total = { total.units };
+
+    ghost agrees = { agree.units };
+
+    fn cmp(_this: &Ref<'_, PhantomData<T>>, _other: &Ref<'_, PhantomData<T>>) -> Ordering {
+        Ordering::Equal
+    }
+}
+
+impl ArchivedHash for () {
+    ghost hashed = { unit_hashed };
+
+    ghost alike = { alike.units };
+
+    fn hash<H: Hasher>(_this: &Ref<'_, ()>, _state: &mut H) {}
+}
+
+impl<T> ArchivedHash for PhantomData<T> {
+    ghost hashed = { unit_hashed };
+
+    ghost alike = { alike.units };
+
+    fn hash<H: Hasher>(_this: &Ref<'_, PhantomData<T>>, _state: &mut H) {}
+}
