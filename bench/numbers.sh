@@ -1,18 +1,3 @@
 #!/usr/bin/env bash
-# Proves and builds crates/archive_bench, compiles numbers.rs for the same processor, and runs it.
-set -eu
-root=$(cd "$(dirname "$0")/.." && pwd)
-crate=$root/crates/archive_bench
-work=$(mktemp -d)
-trap 'rm -rf "$work"' EXIT
-
-if ! (cd "$crate" && rt lib) < /dev/null > "$work/log" 2>&1; then
-    cat "$work/log"
-    exit 1
-fi
-processor=$(sed -n 's/^logic=proved.* cpu=\([^ ]*\).*/\1/p' "$work/log" | tail -n 1)
-
-rustc --edition 2024 -C opt-level=3 -C codegen-units=1 ${processor:+-C target-cpu="$processor"} \
-    -L "native=$crate/out" -o "$work/numbers" "$root/bench/numbers.rs"
-echo "both for the processor ${processor:-that rustc assumes}"
-"$work/numbers"
+# Times bench/numbers.rs: the loops of crates/archive_bench beside the same loops in plain Rust.
+exec "$(dirname "$0")/loops.sh" archive_bench numbers

@@ -1,0 +1,8 @@
+//! Archived forms that are checked, written and read, for the benchmark to time.
+#![tactic(auto)]
+
+mod checks;
+mod context;
+mod reads;
+mod serializer;
+mod writes;

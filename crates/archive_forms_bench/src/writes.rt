@@ -1,0 +1,110 @@
+//! Values that are archived again and again, called from outside.
+use crate::serializer::MemorySerializer;
+use archive_forms_writing::{Serialize, to_bytes_in};
+use archive_shape::Error;
+use std::alloc::Global;
+
+/// Archives a value, and answers how many bytes were written.
+fn serialized<T: Serialize<MemorySerializer>>(alloc: Global, value: &T) -> Result<usize, Error> {
+    let mut serializer = MemorySerializer::new(alloc);
+    match to_bytes_in(value, &mut serializer) {
+        Ok(_) => Ok(serializer.bytes().len()),
+        Err(e) => Err(e),
+    }
+}
+
+/// Archives a value so many times, and answers how many bytes were written together.
+fn serialized_again<T: Serialize<MemorySerializer>>(
+    alloc: Global,
+    value: &T,
+    rounds: usize,
+) -> Result<usize, Error> {
+    let mut total = 0usize;
+    for _ in 0..rounds {
+        total = total.wrapping_add(serialized(alloc, value)?);
+    }
+    Ok(total)
+}
+
+/// The odd numbers, and none in the place of each even one.
+fn options(alloc: Global, numbers: &[u32]) -> Result<Vec<Option<u32>>, Error> {
+    let mut options = Vec::new(alloc);
+    for number in numbers {
+        let odd = if *number % 2 == 0 {
+            None
+        } else {
+            Some(*number)
+        };
+        options.push(odd)?;
+    }
+    Ok(options)
+}
+
+/// A text of as many letters.
+fn letters(alloc: Global, count: u32) -> Result<String, Error> {
+    let mut text = String::new(alloc);
+    for i in 0..count {
+        text.push(if i % 2 == 0 { 'a' } else { 'b' })?;
+    }
+    Ok(text)
+}
+
+/// Texts of as many letters each.
+fn texts(alloc: Global, lengths: &[u32]) -> Result<Vec<String>, Error> {
+    let mut texts = Vec::new(alloc);
+    for length in lengths {
+        let text = letters(alloc, *length)?;
+        texts.push(text)?;
+    }
+    Ok(texts)
+}
+
+/// The numbers in lists of ten.
+fn lists(alloc: Global, numbers: &[u32]) -> Result<Vec<Vec<u32>>, Error> {
+    let mut lists = Vec::new(alloc);
+    for ten in numbers.chunks(10) {
+        let list = Vec::from_slice(alloc, ten)?;
+        lists.push(list)?;
+    }
+    Ok(lists)
+}
+
+/// Archives a vector of options so many times: the odd numbers, and none in the place of each even one. Answers how many
+/// bytes were written, or 0 where memory was refused.
+#[unsafe(no_mangle)]
+pub extern "C" fn archive_forms_bench_serialize_options(
+    alloc: Global,
+    numbers: &[u32],
+    rounds: usize,
+) -> usize {
+    match options(alloc, numbers) {
+        Ok(options) => serialized_again(alloc, &options, rounds).unwrap_or(0),
+        Err(_) => 0,
+    }
+}
+
+/// Archives a vector of texts so many times, each of as many letters as a number tells.
+#[unsafe(no_mangle)]
+pub extern "C" fn archive_forms_bench_serialize_texts(
+    alloc: Global,
+    lengths: &[u32],
+    rounds: usize,
+) -> usize {
+    match texts(alloc, lengths) {
+        Ok(texts) => serialized_again(alloc, &texts, rounds).unwrap_or(0),
+        Err(_) => 0,
+    }
+}
+
+/// Archives a vector of lists of ten so many times.
+#[unsafe(no_mangle)]
+pub extern "C" fn archive_forms_bench_serialize_lists(
+    alloc: Global,
+    numbers: &[u32],
+    rounds: usize,
+) -> usize {
+    match lists(alloc, numbers) {
+        Ok(lists) => serialized_again(alloc, &lists, rounds).unwrap_or(0),
+        Err(_) => 0,
+    }
+}
