@@ -1,4 +1,6 @@
 //! Tests of the checks of forms that have elements.
+mod arrays;
+mod boxed_slices;
 mod boxes;
 mod layouts;
 mod options;
@@ -12,7 +14,7 @@ use archive_shape::{CheckBytes, Error};
 use std::alloc::Global;
 
 /// Checks the value at a position in a context of its own.
-fn check_alone<T: CheckBytes<NarrowContext>>(
+pub(crate) fn check_alone<T: CheckBytes<NarrowContext>>(
     alloc: Global,
     bytes: &[u8],
     pos: usize,

@@ -4,9 +4,14 @@
 #[cfg(test)]
 mod checking;
 #[cfg(test)]
+mod comparing;
+#[cfg(test)]
 mod narrow_context;
 #[cfg(test)]
 mod reading;
+#[cfg(test)]
+mod reading_back;
+pub mod recursive;
 #[cfg(test)]
 mod text;
 #[cfg(test)]

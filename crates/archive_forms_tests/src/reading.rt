@@ -1,7 +1,10 @@
 //! Tests of the reading of forms that have parts.
+mod arrays;
+mod boxed_slices;
 mod boxes;
-mod checked;
+pub(crate) mod checked;
 mod options;
 mod resolving;
 mod results;
+mod tuples;
 mod vectors;

@@ -1,15 +1,24 @@
 //! Tests of values that are archived.
+mod arrays;
+mod boxed_slices;
+mod collections;
 mod forms;
 mod leaves;
 mod serializer;
 mod texts;
+mod tuples;
+mod unsized_values;
 
 use archive_forms_writing::{Serialize, to_bytes_in};
 use serializer::MemorySerializer;
 use std::alloc::Global;
 
 /// Whether these bytes are what is written of a value.
-fn is_archived_as<T: Serialize<MemorySerializer>>(alloc: Global, value: &T, bytes: &[u8]) -> bool {
+pub(crate) fn is_archived_as<T: Serialize<MemorySerializer>>(
+    alloc: Global,
+    value: &T,
+    bytes: &[u8],
+) -> bool {
     let mut serializer = MemorySerializer::new(alloc);
     match to_bytes_in(value, &mut serializer) {
         Ok(_) => serializer.bytes() == bytes,

@@ -36,3 +36,12 @@ fn chars_truth_values_and_units(rt: HostRuntime) {
     let mark: PhantomData<u32> = PhantomData;
     assert!(rt; is_archived_as(alloc, &mark, b""));
 }
+
+#[test]
+fn sizes_of_at_most_four_bytes(rt: HostRuntime) {
+    let alloc = rt.alloc();
+    assert!(rt; is_archived_as(alloc, &258usize, b"\x02\x01\0\0"));
+    assert!(rt; is_archived_as(alloc, &-2isize, b"\xfe\xff\xff\xff"));
+    assert!(rt; !is_archived_as(alloc, &(1usize << 32), b"\0\0\0\0"));
+    assert!(rt; !is_archived_as(alloc, &(1isize << 31), b"\0\0\0\x80"));
+}

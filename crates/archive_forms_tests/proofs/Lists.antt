@@ -1,0 +1,66 @@
+-- What is written of a list.
+use denote.Hole.Carrier.{out}
+use Rattle.std.proofs.Common.{◌≡◌, ℕ, List as Listed, Option, Some, None, Ok, Err, Result, refl, ap, subst, ◌∙◌}
+use Rattle.std.specs.Prelude.{Box, MatchResult}
+use Rattle.std.specs.Global.{Global}
+use Rattle.archive_shape_references.specs.Bytes.{overwrite}
+use Rattle.archive_shape_writing.specs.Writing.{WriterMembers}
+use Rattle.archive_shape_writing.specs.declared.error.Error.{Error}
+use Rattle.archive_shape_writing.specs.declared.error.Error.TheVariants.{IsizeOverflow}
+use Rattle.archive_forms_spelling.specs.Spelling.{Spelling}
+use Rattle.archive_forms_spelling.specs.Pointers.{FitsOffset, offset_bytes}
+use Rattle.archive_forms_spelling.specs.Serializing.{Resolves, Serializes}
+use Rattle.archive_forms_writing.specs.Owned.{boxed_spelling}
+use Rattle.archive_forms_reading.specs.declared.resolving.BoxResolver.{BoxResolver}
+use Rattle.archive_forms_tests.specs.declared.recursive.list.List.{List, List', None', Some', out-List}
+use Rattle.archive_forms_tests.specs.Recursive.{list_shape}
+use Rattle.archive_forms_tests.specs.Lists.{list_next, linked_spelling, list_spelling}
+
+value_of : Option (Box List Global) → Option List
+value_of None = None
+value_of (Some b) = Some b.value
+
+next_as : (x : List) → list_next x ≡ value_of (out-List x).next
+unfolding out-List value_of out
+next_as (List' None') = refl
+next_as (List' (Some' p y)) = refl
+
+pub none_is : (x : List) → (out-List x).next ≡ None → list_next x ≡ None
+unfolding value_of
+none_is x e = next_as x ∙ ap value_of e
+
+pub next_is : (x : List) (b : Box List Global) → (out-List x).next ≡ Some b → list_next x ≡ Some b.value
+unfolding value_of
+next_is x b e = next_as x ∙ ap value_of e
+
+-- a box is resolved where its offset is written
+pub box_resolved :
+    (w : Spelling List (Option BoxResolver)) (x : List) (r : BoxResolver) (pos start : ℕ) (old new : Listed ℕ) (result : Result (Unit {0}) Error)
+    → MatchResult result (λ _. FitsOffset pos r.pos × (new ≡ overwrite old start (offset_bytes pos r.pos))) (λ e. (e ≡ IsizeOverflow) × ((FitsOffset pos r.pos → ⊥) × (new ≡ old)))
+    → Resolves (linked_spelling w) x r pos start old new result
+box_resolved w x r pos start old new (Ok u) h = h
+box_resolved w x r pos start old new (Err e) h = (h.1.0, h.0)
+
+-- a list is written where its box is
+pub next_written :
+    {W : Type 0} (m : WriterMembers W) (x : List) (b : Box List Global) (old new : W) (r : BoxResolver)
+    → list_next x ≡ Some b.value
+    → Serializes (boxed_spelling list_shape list_spelling) m b old new (Ok r)
+    → Serializes list_spelling m x old new (Ok (Some r))
+next_written m (List' None') b old new r e h = absurd (cc)
+next_written m (List' (Some' p y)) b old new r e h =
+    let same : b.value ≡ y = cc in
+    let P : List → Type 0 = λ z. Serializes (linked_spelling list_spelling) m z old new (Ok r) in
+    let below : P y = subst P same h in
+    λ st at. let o = below st at in (o.0, (ap (λ (q : BoxResolver). Some q) o.1.0, o.1.1, o.1.2))
+
+pub next_refused :
+    {W : Type 0} (m : WriterMembers W) (x : List) (b : Box List Global) (old new : W) (error : Error)
+    → list_next x ≡ Some b.value
+    → Serializes (boxed_spelling list_shape list_spelling) m b old new (Err error)
+    → Serializes list_spelling m x old new (Err error)
+next_refused m (List' None') b old new error e h = absurd (cc)
+next_refused m (List' (Some' p y)) b old new error e h =
+    let same : b.value ≡ y = cc in
+    let P : List → Type 0 = λ z. Serializes (linked_spelling list_spelling) m z old new (Err error) in
+    subst P same h

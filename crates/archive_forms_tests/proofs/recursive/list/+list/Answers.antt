@@ -1,0 +1,13 @@
+use Rattle.std.proofs.Common.{arith}
+use Rattle.archive_forms_spelling.proofs.Levels.{option_box_sized}
+use Rattle.archive_forms_tests.specs.Recursive.{list_shape}
+use Rattle.archive_forms_tests.proofs.Named.{list_checked}
+use Rattle.archive_forms_tests.proofs.recursive.list.+list.Goals as goal
+
+pub check_list-check_option_each-requires-clause-fits :
+    goal.check_list-check_option_each-requires-clause-fits
+check_list-check_option_each-requires-clause-fits g t c = omega (arith, option_box_sized list_shape, c.requires.fits)
+
+pub check_list-returns-clause-exact : goal.check_list-returns-clause-exact
+check_list-returns-clause-exact g t c = λ names known.
+    list_checked names c.args.bytes.now c.args.pos _ _ _ known (c.check_option_each.ensures.exact names known)

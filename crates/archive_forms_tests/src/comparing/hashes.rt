@@ -1,0 +1,37 @@
+//! Tests of what is hashed.
+use super::answers::hash_of;
+use crate::reading::checked::checked;
+use archive_forms_reading::{ArchivedOption, ArchivedVec};
+use std::hash::{DefaultHasher, Hash, Hasher};
+use std::test::Fail;
+
+#[test]
+fn equal_vectors_at_other_positions_alike(rt: HostRuntime) -> Result<(), Fail> {
+    let bytes = b"\x01\x02..\xfc\xff\xff\xff\x02\0\0\0";
+    let low = checked::<ArchivedVec<u8>>(rt.alloc(), bytes, 4)?;
+    let bytes = b"....\x01\x02..\xfc\xff\xff\xff\x02\0\0\0";
+    let high = checked::<ArchivedVec<u8>>(rt.alloc(), bytes, 8)?;
+    assert_eq!(rt; hash_of(&low), hash_of(&high));
+    Ok(())
+}
+
+#[test]
+fn vector_as_a_native_slice(rt: HostRuntime) -> Result<(), Fail> {
+    let bytes = b"\x01\x02..\xfc\xff\xff\xff\x02\0\0\0";
+    let vector = checked::<ArchivedVec<u8>>(rt.alloc(), bytes, 4)?;
+    let mut state = DefaultHasher::new();
+    let native: &[u8] = &[1, 2];
+    Hash::hash(&native, &mut state);
+    assert_eq!(rt; hash_of(&vector), state.finish());
+    Ok(())
+}
+
+#[test]
+fn none_as_a_native_one(rt: HostRuntime) -> Result<(), Fail> {
+    let none = checked::<ArchivedOption<u8>>(rt.alloc(), b"\0\x09", 0)?;
+    let mut state = DefaultHasher::new();
+    let native: Option<u8> = None;
+    Hash::hash(&native, &mut state);
+    assert_eq!(rt; hash_of(&none), state.finish());
+    Ok(())
+}

@@ -1,0 +1,86 @@
+//! Tests of how forms with parts are compared.
+use super::answers::compared;
+use crate::reading::checked::checked;
+use archive_forms_reading::{ArchivedBox, ArchivedOption, ArchivedResult, ArchivedVec};
+use archive_forms_tuples::ArchivedTuple2;
+use std::cmp::Ordering;
+use std::test::Fail;
+
+#[test]
+fn shorter_vector_first(rt: HostRuntime) -> Result<(), Fail> {
+    let bytes = b"\x01\x02..\xfc\xff\xff\xff\x02\0\0\0";
+    let short = checked::<ArchivedVec<u8>>(rt.alloc(), bytes, 4)?;
+    let bytes = b"\x01\x02\x00.\xfc\xff\xff\xff\x03\0\0\0";
+    let long = checked::<ArchivedVec<u8>>(rt.alloc(), bytes, 4)?;
+    assert_eq!(rt; compared(&short, &long), (false, Ordering::Less));
+    assert_eq!(rt; compared(&long, &short), (false, Ordering::Greater));
+    Ok(())
+}
+
+#[test]
+fn vector_by_its_first_other_element(rt: HostRuntime) -> Result<(), Fail> {
+    let bytes = b"\x02...\xfc\xff\xff\xff\x01\0\0\0";
+    let great = checked::<ArchivedVec<u8>>(rt.alloc(), bytes, 4)?;
+    let bytes = b"\x01\x03..\xfc\xff\xff\xff\x02\0\0\0";
+    let long = checked::<ArchivedVec<u8>>(rt.alloc(), bytes, 4)?;
+    assert_eq!(rt; compared(&great, &long), (false, Ordering::Greater));
+    Ok(())
+}
+
+#[test]
+fn equal_vectors_at_other_positions(rt: HostRuntime) -> Result<(), Fail> {
+    let bytes = b"\x01\x02..\xfc\xff\xff\xff\x02\0\0\0";
+    let low = checked::<ArchivedVec<u8>>(rt.alloc(), bytes, 4)?;
+    let bytes = b"....\x01\x02..\xfc\xff\xff\xff\x02\0\0\0";
+    let high = checked::<ArchivedVec<u8>>(rt.alloc(), bytes, 8)?;
+    assert_eq!(rt; compared(&low, &high), (true, Ordering::Equal));
+    Ok(())
+}
+
+#[test]
+fn none_before_some(rt: HostRuntime) -> Result<(), Fail> {
+    let none = checked::<ArchivedOption<u8>>(rt.alloc(), b"\0\x09", 0)?;
+    let some = checked::<ArchivedOption<u8>>(rt.alloc(), b"\x01\0", 0)?;
+    assert_eq!(rt; compared(&none, &some), (false, Ordering::Less));
+    assert_eq!(rt; compared(&some, &none), (false, Ordering::Greater));
+    assert_eq!(rt; compared(&some, &some), (true, Ordering::Equal));
+    Ok(())
+}
+
+#[test]
+fn bytes_behind_none_are_not_compared(rt: HostRuntime) -> Result<(), Fail> {
+    let none = checked::<ArchivedOption<u8>>(rt.alloc(), b"\0\x09", 0)?;
+    let other = checked::<ArchivedOption<u8>>(rt.alloc(), b"\0\x08", 0)?;
+    assert_eq!(rt; compared(&none, &other), (true, Ordering::Equal));
+    Ok(())
+}
+
+#[test]
+fn value_before_error(rt: HostRuntime) -> Result<(), Fail> {
+    let ok = checked::<ArchivedResult<u8, u8>>(rt.alloc(), b"\0\x09", 0)?;
+    let err = checked::<ArchivedResult<u8, u8>>(rt.alloc(), b"\x01\x04", 0)?;
+    let other = checked::<ArchivedResult<u8, u8>>(rt.alloc(), b"\x01\x05", 0)?;
+    assert_eq!(rt; compared(&ok, &err), (false, Ordering::Less));
+    assert_eq!(rt; compared(&err, &other), (false, Ordering::Less));
+    Ok(())
+}
+
+#[test]
+fn tuple_by_its_first_field_and_then_by_its_second(rt: HostRuntime) -> Result<(), Fail> {
+    let low = checked::<ArchivedTuple2<u8, u8>>(rt.alloc(), b"\x01\x02", 0)?;
+    let middle = checked::<ArchivedTuple2<u8, u8>>(rt.alloc(), b"\x01\x03", 0)?;
+    let high = checked::<ArchivedTuple2<u8, u8>>(rt.alloc(), b"\x02\x00", 0)?;
+    assert_eq!(rt; compared(&low, &middle), (false, Ordering::Less));
+    assert_eq!(rt; compared(&middle, &high), (false, Ordering::Less));
+    Ok(())
+}
+
+#[test]
+fn box_as_its_value(rt: HostRuntime) -> Result<(), Fail> {
+    let bytes = b"\x05...\xfc\xff\xff\xff";
+    let near = checked::<ArchivedBox<u8>>(rt.alloc(), bytes, 4)?;
+    let bytes = b"\x05.......\xf8\xff\xff\xff";
+    let far = checked::<ArchivedBox<u8>>(rt.alloc(), bytes, 8)?;
+    assert_eq!(rt; compared(&near, &far), (true, Ordering::Equal));
+    Ok(())
+}

@@ -1,0 +1,34 @@
+//! Worked bytes of texts that are read back.
+use super::read_back;
+use archive_forms_reading::ArchivedOption;
+use archive_forms_text::ArchivedString;
+use std::test::Fail;
+
+#[test]
+fn text_inline_is_read_back(rt: HostRuntime) -> Result<(), Fail> {
+    let bytes = b"\0\0\0\0world\xff\xff\xff";
+    let text = read_back::<String, ArchivedString>(rt.alloc(), bytes, 4, 0)?;
+    assert_eq!(rt; text.as_str(), "world");
+    Ok(())
+}
+
+#[test]
+fn text_out_of_line_is_read_back(rt: HostRuntime) -> Result<(), Fail> {
+    let bytes = b"123456789\0\0\0\x89\0\0\0\xf4\xff\xff\xff";
+    let text = read_back::<String, ArchivedString>(rt.alloc(), bytes, 12, 1)?;
+    assert_eq!(rt; text.as_str(), "123456789");
+    Ok(())
+}
+
+#[test]
+fn text_of_an_option_is_read_back(rt: HostRuntime) -> Result<(), Fail> {
+    let bytes = b"\x01\0\0\0hello\xff\xff\xff";
+    let text = read_back::<Option<String>, ArchivedOption<ArchivedString>>(
+        rt.alloc(),
+        bytes,
+        0,
+        0,
+    )?;
+    assert_eq!(rt; text.as_ref().map(|text| text.as_str()), Some("hello"));
+    Ok(())
+}

@@ -1,0 +1,9 @@
+//! Types that hold themselves, and tests of them.
+#[cfg(test)]
+mod checking;
+pub mod list;
+pub mod tree;
+#[cfg(test)]
+mod trees;
+#[cfg(test)]
+mod writing;

@@ -1,0 +1,101 @@
+//! Tests of the elements of slices and of iterators, which are written as vectors, and of entries.
+ghost use Rattle.std.specs.Prelude.{◌<◌, ◌^◌};
+
+use super::is_archived_as;
+use super::serializer::MemorySerializer;
+use archive_forms_collections::{
+    EntryAdapter, resolve_from_slice, serialize_from_iter, serialize_from_slice,
+};
+use archive_forms_reading::VecResolver;
+use archive_shape::{Error, Place};
+use std::alloc::Global;
+use std::test::Fail;
+
+/// What is answered for numbers whose claimed number is `len`, and what is written.
+fn written_with_claim(
+    alloc: Global,
+    numbers: Vec<u16>,
+    len: usize,
+) -> (Result<VecResolver, Error>, MemorySerializer) {
+    let mut serializer = MemorySerializer::new(alloc);
+    let answer = serialize_from_iter(numbers, len, &mut serializer);
+    (answer, serializer)
+}
+
+/// The own bytes of a vector of one number, which stands before them.
+fn vector_of_one(alloc: Global, number: u32) -> Result<[u8; 8], Error> {
+    let items = [number];
+    let mut serializer = MemorySerializer::new(alloc);
+    let resolver = match serialize_from_slice(&items[..], &mut serializer) {
+        Ok(resolver) => resolver,
+        Err(e) => return Err(e),
+    };
+    let mut own = [0u8; 8];
+    match resolve_from_slice(&items[..], resolver, Place::new(&mut own[..], 4)) {
+        Ok(()) => Ok(own),
+        Err(e) => Err(e),
+    }
+}
+
+#[test]
+fn two_items_with_a_claim_of_two_are_written_as_those_of_a_vector(
+    rt: HostRuntime,
+) -> Result<(), Fail> {
+    let alloc = rt.alloc();
+    let numbers = vec![in alloc; 7u16, 258]?;
+    let (answer, serializer) = written_with_claim(alloc, numbers, 2);
+    assert!(rt; answer == Ok(VecResolver { pos: 0 }));
+    assert!(rt; serializer.bytes() == b"\x07\0\x02\x01".as_slice());
+    Ok(())
+}
+
+#[test]
+fn a_claim_of_another_number_is_refused_and_nothing_is_written(
+    rt: HostRuntime,
+) -> Result<(), Fail> {
+    let alloc = rt.alloc();
+    for expected in [0, 1, 3] {
+        let numbers = vec![in alloc; 7u16, 258]?;
+        let (answer, serializer) = written_with_claim(alloc, numbers, expected);
+        assert!(rt;
+            answer
+                == Err(Error::IteratorLengthMismatch {
+                    expected,
+                    actual: 2
+                })
+        );
+        assert!(rt; serializer.bytes().is_empty());
+    }
+    Ok(())
+}
+
+#[test]
+fn a_slice_is_resolved_as_a_vector(rt: HostRuntime) {
+    let own = vector_of_one(rt.alloc(), 5);
+    assert!(rt; own == Ok(*b"\xfc\xff\xff\xff\x01\0\0\0"));
+}
+
+#[test]
+fn entries_with_padding(rt: HostRuntime) -> Result<(), Fail> {
+    let alloc = rt.alloc();
+    let entry = EntryAdapter::new(&7u8, &258u32);
+    assert!(rt; is_archived_as(alloc, &entry, b"\x07\0\0\0\x02\x01\0\0"));
+    let entry = EntryAdapter::new(&258u32, &7u8);
+    assert!(rt; is_archived_as(alloc, &entry, b"\x02\x01\0\0\x07\0\0\0"));
+    Ok(())
+}
+
+#[test]
+fn entry_of_a_text_out_of_line_and_a_number(rt: HostRuntime) -> Result<(), Fail> {
+    let alloc = rt.alloc();
+    let key = String::from_str(alloc, "123456789")?;
+    let entry = EntryAdapter::new(&key, &5u16);
+    assert!(rt;
+        is_archived_as(
+            alloc,
+            &entry,
+            b"123456789\0\0\0\x89\0\0\0\xf4\xff\xff\xff\x05\0\0\0"
+        )
+    );
+    Ok(())
+}

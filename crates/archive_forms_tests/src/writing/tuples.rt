@@ -1,0 +1,35 @@
+//! Tests of tuples that are archived.
+use super::is_archived_as;
+use std::test::Fail;
+
+#[test]
+fn a_tuple_of_four_with_padding_between_and_behind(rt: HostRuntime) {
+    let four = (1u8, 0x0504_0302u32, 0x0706u16, 8u8);
+    assert!(rt;
+        is_archived_as(
+            rt.alloc(),
+            &four,
+            b"\x01\0\0\0\x02\x03\x04\x05\x06\x07\x08\0"
+        )
+    );
+}
+
+#[test]
+fn a_tuple_of_three_and_one_of_one(rt: HostRuntime) {
+    let three = (1u8, true, 0x0302i16);
+    assert!(rt; is_archived_as(rt.alloc(), &three, b"\x01\x01\x02\x03"));
+    let one = (5u16,);
+    assert!(rt; is_archived_as(rt.alloc(), &one, b"\x05\0"));
+}
+
+#[test]
+fn a_tuple_of_a_text_and_a_vector_is_written_behind_their_data(
+    rt: HostRuntime,
+) -> Result<(), Fail> {
+    let alloc = rt.alloc();
+    let text = String::from_str(alloc, "hello world!")?;
+    let numbers = vec![in alloc; 1u16, 2]?;
+    let bytes = *b"hello world!\x01\0\x02\0\x8c\0\0\0\xf0\xff\xff\xff\xf4\xff\xff\xff\x02\0\0\0";
+    assert!(rt; is_archived_as(alloc, &(text, numbers), &bytes));
+    Ok(())
+}

@@ -1,0 +1,57 @@
+//! Tests of boxes of borrowed values, slices and texts.
+ghost use Rattle.std.specs.Prelude.{◌≡◌, ◌≤◌};
+ghost use Rattle.archive_shape_layout.specs.Shape.{size_of};
+ghost use Rattle.archive_shape_layout.specs.Shape.Shape.{box};
+ghost use Rattle.archive_shape_references.specs.Bytes.{zeros};
+
+use super::serializer::MemorySerializer;
+use archive_forms_unsized::{SerializeUnsized, resolve_from_ref, serialize_from_ref};
+use archive_shape::Place;
+use std::alloc::Global;
+
+/// Whether these bytes are what is written before a box at position 8, whose own bytes are resolved in `own`.
+fn is_boxed_behind<U: SerializeUnsized<MemorySerializer>>(
+    alloc: Global,
+    value: &U,
+    data: &[u8],
+    own: &mut [u8],
+) -> bool
+    requires blank { own.old ≡ zeros (size_of (box U.Archived.pointee)) }
+    requires small { size_of (box U.Archived.pointee) ≤ 8 }
+{
+    let mut serializer = MemorySerializer::new(alloc);
+    let resolver = match serialize_from_ref(value, &mut serializer) {
+        Ok(resolver) => resolver,
+        Err(_) => return false,
+    };
+    serializer.bytes() == data && resolve_from_ref(value, resolver, Place::new(own, 8)).is_ok()
+}
+
+#[test]
+fn a_box_of_a_borrowed_number(rt: HostRuntime) {
+    let mut own = [0u8; 4];
+    assert!(rt; is_boxed_behind(rt.alloc(), &&258u32, b"\x02\x01\0\0", &mut own[..]));
+    assert!(rt; own == *b"\xf8\xff\xff\xff");
+}
+
+#[test]
+fn a_box_of_a_slice(rt: HostRuntime) {
+    let numbers = [7u16, 258, 9];
+    let mut own = [0u8; 8];
+    assert!(rt;
+        is_boxed_behind(
+            rt.alloc(),
+            &&numbers[..],
+            b"\x07\0\x02\x01\x09\0",
+            &mut own[..]
+        )
+    );
+    assert!(rt; own == *b"\xf8\xff\xff\xff\x03\0\0\0");
+}
+
+#[test]
+fn a_box_of_a_text(rt: HostRuntime) {
+    let mut own = [0u8; 8];
+    assert!(rt; is_boxed_behind(rt.alloc(), &"hello", b"hello", &mut own[..]));
+    assert!(rt; own == *b"\xf8\xff\xff\xff\x05\0\0\0");
+}
