@@ -1,20 +1,12 @@
 -- Values that are seen as their parts, and compared by them.
-use Rattle.std.proofs.Common.{◌≡◌, ℕ, Bool, true, false, ◌&&◌, List, [], ◌∷◌, Option, Some, None, Result, Ok, Err, MatchOption, MatchResult, refl, sym, ap, subst, ◌∙◌}
-use Rattle.std.specs.declared.cmp.Ordering.{Ordering}
-use Rattle.std.specs.declared.cmp.Ordering.TheVariants.{Less, Equal, Greater}
-use Rattle.std.specs.Ordering.{ordering_then}
+use Rattle.std.proofs.Common.{◌≡◌, ℕ, List, Option, Some, None, Result, Ok, Err, MatchOption, MatchResult, refl, sym, ap, subst, ◌∙◌}
 use Rattle.archive_shape_layout.specs.Shape.{Shape}
 use Rattle.archive_shape_layout.specs.Shape.Shape.{option, result, box}
 use Rattle.archive_shape_layout.specs.Shape.Pointee.{sized}
-use Rattle.archive_shape_layout.specs.Shape.Shapes.{no_shapes}
 use Rattle.archive_shape_layout.specs.Value.{Value}
-use Rattle.archive_shape_layout.specs.Value.Value.{group}
-use Rattle.archive_shape_layout.specs.Value.Values.{more_values}
 use Rattle.archive_shape_layout.specs.Content.{Names}
-use Rattle.archive_forms_checking.specs.Tuples.{tuple2}
-use Rattle.archive_forms_ordering.specs.Views.{option_of, result_of, first_of, second_of}
+use Rattle.archive_forms_ordering.specs.Views.{option_of, result_of}
 use Rattle.archive_forms_reading.specs.Parts.{HasValue, IsSomeAt, some_position, IsOkAt, IsErrAt, outcome_position, both, IsBoxAt}
-use Rattle.archive_forms_tuples.specs.Fields.{field, field_position, AreFieldsAt}
 use Rattle.archive_forms_comparing.specs.Compared.{HasPart, OfBoth}
 
 -- ---- what a call answers, said in other words
@@ -30,7 +22,7 @@ result_matched P P' Q Q' (Err y) f g h = g y h
 -- ---- parts
 
 -- a part that stands in bytes stands in the same bytes
-moved : {is_part : Value → Value → Type 0} {s t : Shape} {knows others : Names → Type 0} {bytes part_bytes : List ℕ} {pos at from : ℕ}
+pub moved : {is_part : Value → Value → Type 0} {s t : Shape} {knows others : Names → Type 0} {bytes part_bytes : List ℕ} {pos at from : ℕ}
     → part_bytes ≡ bytes → from ≡ at → HasPart is_part s knows bytes pos t others bytes at → HasPart is_part s knows bytes pos t others part_bytes from
 moved {is_part} {s} {t} {knows} {others} {bytes} {pos = pos} {from = from} b p h =
     subst (λ bs. HasPart is_part s knows bytes pos t others bs from) (sym b) (subst (λ n. HasPart is_part s knows bytes pos t others bytes n) (sym p) h)
@@ -68,24 +60,6 @@ module _ (s t : Shape) (knows others : Names → Type 0) (bytes : List ℕ) (pos
         each = λ v h. let x = is v h in (x.payload, ap result_of x.is, x.held);
       })
 
-  pub first_part : {part_bytes : List ℕ} {at : ℕ} → part_bytes ≡ bytes → at ≡ pos → HasValue (tuple2 s t) (both knows others) bytes pos → AreFieldsAt (field s knows ∷ field t others ∷ []) (both knows others) bytes pos → HasPart (λ v x. first_of v ≡ x) (tuple2 s t) (both knows others) bytes pos s knows part_bytes at
-  first_part b p there is =
-      let one = is there.value there.held in
-      moved b p (record {
-        there = record { value = one.each.first; held = one.each.held };
-        each = λ v h. let x = is v h in (x.each.first, ap first_of (x.is ∙ ap group x.each.is), x.each.held);
-      })
-
-  pub second_part : {part_bytes : List ℕ} {at : ℕ} → part_bytes ≡ bytes → at ≡ field_position s no_shapes t pos → HasValue (tuple2 s t) (both knows others) bytes pos → AreFieldsAt (field s knows ∷ field t others ∷ []) (both knows others) bytes pos → HasPart (λ v x. second_of v ≡ x) (tuple2 s t) (both knows others) bytes pos t others part_bytes at
-  second_part b p there is =
-      let one = is there.value there.held in
-      moved b p (record {
-        there = record { value = one.each.rest.first; held = one.each.rest.held };
-        each = λ v h.
-            let x = is v h in
-            (x.each.rest.first, ap second_of (x.is ∙ ap group (x.each.is ∙ ap (more_values x.each.first) x.each.rest.is)), x.each.rest.held);
-      })
-
 -- values that are seen as their parts are compared by these
 pub by_parts : {X : Type 0} {is_part : Value → Value → Type 0} {s t : Shape} {knows others : Names → Type 0} {bytes part_bytes other_bytes other_part_bytes : List ℕ} {pos at other_pos other_at : ℕ} {result : X}
     (f g : Value → Value → X)
@@ -110,22 +84,3 @@ by_kinds g same here there v w h k =
     let x = here.each v h in
     let y = there.each w k in
     same v w x.0 y.0 x.1 y.1
-
--- ---- fields: the first, and then the second
-
-pub fields_equal : (a b found next : Bool) → found ≡ true → found ≡ a → next ≡ b → next ≡ (a && b)
-fields_equal a b found next t p q = let e : true ≡ a = sym t ∙ p in q ∙ (λ i. e i && b)
-
-pub first_differs : (a b found : Bool) → found ≡ false → found ≡ a → found ≡ (a && b)
-first_differs a b found t p = let e : false ≡ a = sym t ∙ p in t ∙ (λ i. e i && b)
-
-pub fields_level : (a b found next : Ordering) → found ≡ Equal → found ≡ a → next ≡ b → next ≡ ordering_then a b
-fields_level a b found next t p q = let e : Equal ≡ a = sym t ∙ p in q ∙ (λ i. ordering_then (e i) b)
-
-first_unlike : (a b : Ordering) → (a ≡ Equal → ⊥) → a ≡ ordering_then a b
-first_unlike Less b other = refl
-first_unlike Equal b other = absurd (other refl)
-first_unlike Greater b other = refl
-
-pub first_orders : (a b found : Ordering) → (found ≡ Equal → ⊥) → found ≡ a → found ≡ ordering_then a b
-first_orders a b found other p = first_unlike found b other ∙ (λ i. ordering_then (p i) b)

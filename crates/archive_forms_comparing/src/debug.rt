@@ -2,15 +2,15 @@
 ghost use Rattle.archive_forms_reading.specs.Parts.{HasValue};
 
 use crate::leaf::native_of;
-use crate::parts::{box_value, option_value, result_outcome, tuple_first, tuple_second};
+use crate::parts::{box_value, option_value, result_outcome};
 use crate::text::text_at;
 use crate::vector::{element, elements};
 use archive_forms_reading::{ArchivedBox, ArchivedOption, ArchivedResult, ArchivedVec};
 use archive_forms_text::ArchivedString;
-use archive_forms_tuples::ArchivedTuple2;
 use archive_shape::{LittleEndian, Native, Portable, Ref};
 use std::fmt;
 use std::fmt::{Debug, Formatter, Write};
+use std::marker::PhantomData;
 use std::num::{NonZeroI8, NonZeroU8};
 
 /// A type of archived values that are printed for programmers, as `{:?}` prints their native values. All stands on one line.
@@ -111,18 +111,14 @@ impl<T: ArchivedDebug> ArchivedDebug for ArchivedVec<T> {
     }
 }
 
-impl<A: ArchivedDebug, B: ArchivedDebug> ArchivedDebug for ArchivedTuple2<A, B> {
-    fn fmt<W: Write>(this: &Ref<'_, ArchivedTuple2<A, B>>, f: &mut Formatter<W>) -> fmt::Result {
-        f.write_str("(")?;
-        A::fmt(&tuple_first(this), f)?;
-        f.write_str(", ")?;
-        B::fmt(&tuple_second(this), f)?;
-        f.write_str(")")
-    }
-}
-
 impl ArchivedDebug for () {
     fn fmt<W: Write>(_this: &Ref<'_, ()>, f: &mut Formatter<W>) -> fmt::Result {
         f.write_str("()")
+    }
+}
+
+impl<T> ArchivedDebug for PhantomData<T> {
+    fn fmt<W: Write>(_this: &Ref<'_, PhantomData<T>>, f: &mut Formatter<W>) -> fmt::Result {
+        f.write_str("PhantomData")
     }
 }

@@ -4,13 +4,11 @@ ghost use Rattle.archive_shape_layout.specs.Shape.Shape.{option, result as resul
 ghost use Rattle.archive_shape_layout.specs.Shape.Pointee.{sized};
 ghost use Rattle.archive_shape_layout.specs.Value.{Value};
 ghost use Rattle.archive_shape.specs.Key.{HeldAt};
-ghost use Rattle.archive_forms_checking.specs.Tuples.{tuple2};
-ghost use Rattle.archive_forms_ordering.specs.Views.{option_of, result_of, first_of, second_of};
+ghost use Rattle.archive_forms_ordering.specs.Views.{option_of, result_of};
 ghost use Rattle.archive_forms_reading.specs.Parts.{HasValue, both};
 ghost use Rattle.archive_forms_comparing.specs.Compared.{HasPart};
 
 use archive_forms_reading::{ArchivedBox, ArchivedOption, ArchivedResult};
-use archive_forms_tuples::ArchivedTuple2;
 use archive_shape::{Portable, Ref};
 
 /// The value of an option, if there is one.
@@ -41,24 +39,4 @@ pub(crate) fn box_value<'a, T: Portable>(this: &Ref<'a, ArchivedBox<T>>) -> Ref<
     ensures { HasPart (λ v x. v ≡ x) (box (sized T.shape)) T.knows this.now.bytes.now this.now.pos T.shape T.knows result.bytes.now result.pos }
 {
     ArchivedBox::get(*this)
-}
-
-/// The first field of a tuple.
-pub(crate) fn tuple_first<'a, A: Portable, B: Portable>(
-    this: &Ref<'a, ArchivedTuple2<A, B>>,
-) -> Ref<'a, A>
-    requires { HasValue (tuple2 A.shape B.shape) (both A.knows B.knows) this.now.bytes.now this.now.pos }
-    ensures { HasPart (λ v x. first_of v ≡ x) (tuple2 A.shape B.shape) (both A.knows B.knows) this.now.bytes.now this.now.pos A.shape A.knows result.bytes.now result.pos }
-{
-    ArchivedTuple2::first(*this)
-}
-
-/// The second field of a tuple.
-pub(crate) fn tuple_second<'a, A: Portable, B: Portable>(
-    this: &Ref<'a, ArchivedTuple2<A, B>>,
-) -> Ref<'a, B>
-    requires { HasValue (tuple2 A.shape B.shape) (both A.knows B.knows) this.now.bytes.now this.now.pos }
-    ensures { HasPart (λ v x. second_of v ≡ x) (tuple2 A.shape B.shape) (both A.knows B.knows) this.now.bytes.now this.now.pos B.shape B.knows result.bytes.now result.pos }
-{
-    ArchivedTuple2::second(*this)
 }

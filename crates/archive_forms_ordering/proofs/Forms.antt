@@ -6,8 +6,8 @@ use Rattle.std.specs.Hash.{on_Alike, same_Alike, items_Alike, and-Alike, none_al
 use Rattle.std.specs.Hash as fed
 use Rattle.std.specs.Ordering.{bool_cmp, is_eq}
 use Rattle.std.specs.Bool.{beq}
-use Rattle.archive_forms_ordering.specs.Views.{natural_of, integer_of, truth_of, text_of, option_of, result_of, elements_of, first_of, second_of}
-use Rattle.archive_forms_ordering.specs.Orders.{by_natural, by_integer, unit_equality}
+use Rattle.archive_forms_ordering.specs.Views.{natural_of, integer_of, truth_of, text_of, option_of, result_of, elements_of, head_of, rest_of}
+use Rattle.archive_forms_ordering.specs.Orders.{by_natural, by_integer, unit_equality, no_fields_equality}
 use Rattle.archive_forms_ordering.specs.Laws.{AreEquivalences, AreTotal, AllAgree, AreHashedAlike, IsLawful}
 use Rattle.archive_forms_ordering.proofs.Results.{options_tied, results_tied, options_alike, results_alike, results_equiv, results_total}
 
@@ -20,7 +20,9 @@ equivalences = record {
   options = λ E e. on_equiv option_of (options_equiv e);
   results = λ E F e f. on_equiv result_of (results_equiv e f);
   vectors = λ E e. on_equiv elements_of (lists_equiv e);
-  tuples = λ E F e f. and_equiv (on_equiv first_of e) (on_equiv second_of f);
+  no_fields = record { refl = λ v. refl; symm = λ v w. refl; congr = λ v w u e. refl };
+  more_fields = λ E F e f. and_equiv (on_equiv head_of e) (on_equiv rest_of f);
+  tuples = λ F f. on_equiv elements_of f;
   units = record { refl = λ v. refl; symm = λ v w. refl; congr = λ v w u e. refl };
 }
 
@@ -33,7 +35,9 @@ total = record {
   options = λ R o. on_total option_of (options_total o);
   results = λ R S o u. on_total result_of (results_total o u);
   vectors = λ R o. on_total elements_of (lists_total o);
-  tuples = λ R S o u. then_total (on_total first_of o) (on_total second_of u);
+  no_fields = record { antisymm = λ v w. refl; trans = λ v w u e f. e; congr = λ v w u e. refl };
+  more_fields = λ R S o u. then_total (on_total head_of o) (on_total rest_of u);
+  tuples = λ R o. on_total elements_of o;
   units = record { antisymm = λ v w. refl; trans = λ v w u e f. e; congr = λ v w u e. refl };
 }
 
@@ -52,7 +56,9 @@ agree = record {
   options = λ E R t v w. options_tied R t (option_of v) (option_of w);
   results = λ E F R S t u v w. results_tied R S t u (result_of v) (result_of w);
   vectors = λ E R t v w. lists_ties R t (elements_of v) (elements_of w);
-  tuples = λ E F R S t u v w. both_tied _ _ (R (first_of v) (first_of w)) (S (second_of v) (second_of w)) (t (first_of v) (first_of w)) (u (second_of v) (second_of w));
+  no_fields = λ vs ws. refl;
+  more_fields = λ E F R S t u vs ws. both_tied _ _ (R (head_of vs) (head_of ws)) (S (rest_of vs) (rest_of ws)) (t (head_of vs) (head_of ws)) (u (rest_of vs) (rest_of ws));
+  tuples = λ F S t v w. t (elements_of v) (elements_of w);
   units = λ v w. refl;
 }
 
@@ -65,7 +71,9 @@ alike = record {
   options = λ E F a. on_Alike option_of (options_alike a);
   results = λ E F G H a b. on_Alike result_of (results_alike a b);
   vectors = λ E F a. on_Alike elements_of (items_Alike a);
-  tuples = λ E F G H a b. and-Alike (on_Alike first_of a) (on_Alike second_of b);
+  no_fields = none_alike no_fields_equality;
+  more_fields = λ E F G H a b. and-Alike (on_Alike head_of a) (on_Alike rest_of b);
+  tuples = λ F H a. on_Alike elements_of a;
   units = none_alike unit_equality;
 }
 

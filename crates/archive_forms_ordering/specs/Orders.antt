@@ -9,7 +9,7 @@ use Rattle.std.specs.Option.{option_eq, option_cmp}
 use Rattle.std.specs.Result.{result_eq, result_cmp}
 use Rattle.std.specs.Hash as fed
 use Rattle.archive_shape_layout.specs.Value.{Value}
-use Rattle.archive_forms_ordering.specs.Views.{natural_of, integer_of, truth_of, text_of, option_of, result_of, elements_of, first_of, second_of}
+use Rattle.archive_forms_ordering.specs.Views.{natural_of, integer_of, truth_of, text_of, option_of, result_of, elements_of, head_of, rest_of}
 
 -- whether two values are equal, how they stand to each other, and what is written to a hasher
 abbrev pub Equality : Type 0
@@ -99,16 +99,36 @@ vector_order R = on elements_of (slice_cmp R)
 abbrev pub vector_hashed : Hashed → Hashed
 vector_hashed F v = fed.slice F (elements_of v)
 
--- ---- tuples: by the first fields, and then by the second
+-- ---- fields in order: the first that are not equal decide
 
-abbrev pub tuple_equality : Equality → Equality → Equality
-tuple_equality E F = eq_of_both (on first_of E) (on second_of F)
+abbrev pub no_fields_equality : List Value → List Value → Bool
+no_fields_equality vs ws = true
 
-abbrev pub tuple_order : Order → Order → Order
-tuple_order R S = then_cmp (on first_of R) (on second_of S)
+abbrev pub no_fields_order : List Value → List Value → Ordering
+no_fields_order vs ws = Equal
 
-abbrev pub tuple_hashed : Hashed → Hashed → Hashed
-tuple_hashed F G v = F (first_of v) ++ G (second_of v)
+abbrev pub no_fields_hashed : List Value → List (List ℕ)
+no_fields_hashed vs = []
+
+-- a field before others
+abbrev pub more_fields_equality : Equality → (List Value → List Value → Bool) → List Value → List Value → Bool
+more_fields_equality E F = eq_of_both (on head_of E) (on rest_of F)
+
+abbrev pub more_fields_order : Order → (List Value → List Value → Ordering) → List Value → List Value → Ordering
+more_fields_order R S = then_cmp (on head_of R) (on rest_of S)
+
+abbrev pub more_fields_hashed : Hashed → (List Value → List (List ℕ)) → List Value → List (List ℕ)
+more_fields_hashed F G vs = F (head_of vs) ++ G (rest_of vs)
+
+-- a tuple, by how its fields are
+abbrev pub tuple_equality : (List Value → List Value → Bool) → Equality
+tuple_equality F = on elements_of F
+
+abbrev pub tuple_order : (List Value → List Value → Ordering) → Order
+tuple_order R = on elements_of R
+
+abbrev pub tuple_hashed : (List Value → List (List ℕ)) → Hashed
+tuple_hashed F v = F (elements_of v)
 
 -- ---- units, which are all equal
 

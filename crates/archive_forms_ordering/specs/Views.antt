@@ -38,16 +38,16 @@ abbrev pub listed : Values → List Value
 listed no_values = []
 listed (more_values v vs) = v ∷ listed vs
 
--- the elements of a vector, in order
+-- the elements of a vector or an array, and the fields of a tuple, in order
 abbrev pub elements_of : Value → List Value
 elements_of (group vs) = listed vs
 elements_of _ = []
 
--- the fields of a tuple
-abbrev pub first_of : Value → Value
-first_of (group (more_values v vs)) = v
-first_of v = v
+-- the first of some values, and the others
+abbrev pub head_of : List Value → Value
+head_of [] = group no_values
+head_of (v ∷ vs) = v
 
-abbrev pub second_of : Value → Value
-second_of (group (more_values v (more_values w vs))) = w
-second_of v = v
+abbrev pub rest_of : List Value → List Value
+rest_of [] = []
+rest_of (v ∷ vs) = vs

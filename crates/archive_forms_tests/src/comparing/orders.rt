@@ -2,7 +2,7 @@
 use super::answers::compared;
 use crate::reading::checked::checked;
 use archive_forms_reading::{ArchivedBox, ArchivedOption, ArchivedResult, ArchivedVec};
-use archive_forms_tuples::ArchivedTuple2;
+use archive_forms_tuples::{ArchivedTuple2, ArchivedTuple3};
 use std::cmp::Ordering;
 use std::test::Fail;
 
@@ -72,6 +72,15 @@ fn tuple_by_its_first_field_and_then_by_its_second(rt: HostRuntime) -> Result<()
     let high = checked::<ArchivedTuple2<u8, u8>>(rt.alloc(), b"\x02\x00", 0)?;
     assert_eq!(rt; compared(&low, &middle), (false, Ordering::Less));
     assert_eq!(rt; compared(&middle, &high), (false, Ordering::Less));
+    Ok(())
+}
+
+#[test]
+fn tuple_of_three_by_its_last_field(rt: HostRuntime) -> Result<(), Fail> {
+    let low = checked::<ArchivedTuple3<u8, bool, u8>>(rt.alloc(), b"\x09\x01\x02", 0)?;
+    let high = checked::<ArchivedTuple3<u8, bool, u8>>(rt.alloc(), b"\x09\x01\x03", 0)?;
+    assert_eq!(rt; compared(&low, &high), (false, Ordering::Less));
+    assert_eq!(rt; compared(&high, &high), (true, Ordering::Equal));
     Ok(())
 }
 

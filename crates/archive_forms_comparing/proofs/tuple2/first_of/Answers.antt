@@ -1,0 +1,10 @@
+use Rattle.std.proofs.Common.{ap, [], ◌∷◌}
+use Rattle.archive_forms_reading.specs.Parts.{both}
+use Rattle.archive_forms_tuples.specs.Fields.{field}
+use Rattle.archive_forms_comparing.proofs.Ordered.{first_part}
+use Rattle.archive_forms_comparing.proofs.tuple2.first_of.Goals as goal
+
+pub returns : goal.returns
+returns g c =
+    first_part (field g.A.Portable.shape g.A.Portable.knows) (field g.B.Portable.shape g.B.Portable.knows ∷ []) (both g.A.Portable.knows g.B.Portable.knows) c.args.this.now.bytes.now c.args.this.now.pos
+    (ap (λ b. b.now) c.first.ensures.bytes) c.first.ensures.pos c.requires c.first.ensures.value

@@ -1,0 +1,9 @@
+use Rattle.std.proofs.Common.{ap, [], ◌∷◌}
+use Rattle.archive_forms_tuples.specs.Fields.{field, all_four}
+use Rattle.archive_forms_comparing.proofs.Ordered.{third_part}
+use Rattle.archive_forms_comparing.proofs.tuple4.third_of.Goals as goal
+
+pub returns : goal.returns
+returns g c =
+    third_part (field g.A.Portable.shape g.A.Portable.knows) (field g.B.Portable.shape g.B.Portable.knows) (field g.C.Portable.shape g.C.Portable.knows) (field g.D.Portable.shape g.D.Portable.knows ∷ []) (all_four g.A.Portable.knows g.B.Portable.knows g.C.Portable.knows g.D.Portable.knows) c.args.this.now.bytes.now c.args.this.now.pos
+    (ap (λ b. b.now) c.third.ensures.bytes) c.third.ensures.pos c.requires c.third.ensures.value

@@ -1,0 +1,105 @@
+//! Tuples of three are compared, hashed and printed, field by field.
+ghost use Rattle.std.specs.Prelude.{◌≡◌};
+ghost use Rattle.archive_forms_checking.specs.Tuples.{tuple3};
+ghost use Rattle.archive_forms_ordering.specs.Views.{elements_of, head_of, rest_of};
+ghost use Rattle.archive_forms_ordering.specs.Orders.{no_fields_equality, no_fields_order, no_fields_hashed, more_fields_equality, more_fields_order, more_fields_hashed, tuple_equality, tuple_order, tuple_hashed};
+ghost use Rattle.archive_forms_ordering.proofs.Forms.{equivalences, total, agree, alike};
+ghost use Rattle.archive_forms_reading.specs.Parts.{HasValue};
+ghost use Rattle.archive_forms_tuples.specs.Fields.{all_three};
+ghost use Rattle.archive_forms_comparing.specs.Compared.{HasPart};
+
+use crate::fields::{compare_then, equal_then};
+use crate::{ArchivedDebug, ArchivedEq, ArchivedHash, ArchivedOrd};
+use archive_forms_tuples::ArchivedTuple3;
+use archive_shape::{Portable, Ref};
+use std::cmp::Ordering;
+use std::fmt;
+use std::fmt::{Formatter, Write};
+use std::hash::Hasher;
+
+/// The first field.
+fn first_of<'a, A: Portable, B: Portable, C: Portable>(
+    this: &Ref<'a, ArchivedTuple3<A, B, C>>,
+) -> Ref<'a, A>
+    requires { HasValue (tuple3 A.shape B.shape C.shape) (all_three A.knows B.knows C.knows) this.now.bytes.now this.now.pos }
+    ensures { HasPart (λ v x. head_of (elements_of v) ≡ x) (tuple3 A.shape B.shape C.shape) (all_three A.knows B.knows C.knows) this.now.bytes.now this.now.pos A.shape A.knows result.bytes.now result.pos }
+{
+    ArchivedTuple3::first(*this)
+}
+
+/// The second field.
+fn second_of<'a, A: Portable, B: Portable, C: Portable>(
+    this: &Ref<'a, ArchivedTuple3<A, B, C>>,
+) -> Ref<'a, B>
+    requires { HasValue (tuple3 A.shape B.shape C.shape) (all_three A.knows B.knows C.knows) this.now.bytes.now this.now.pos }
+    ensures { HasPart (λ v x. head_of (rest_of (elements_of v)) ≡ x) (tuple3 A.shape B.shape C.shape) (all_three A.knows B.knows C.knows) this.now.bytes.now this.now.pos B.shape B.knows result.bytes.now result.pos }
+{
+    ArchivedTuple3::second(*this)
+}
+
+/// The third field.
+fn third_of<'a, A: Portable, B: Portable, C: Portable>(
+    this: &Ref<'a, ArchivedTuple3<A, B, C>>,
+) -> Ref<'a, C>
+    requires { HasValue (tuple3 A.shape B.shape C.shape) (all_three A.knows B.knows C.knows) this.now.bytes.now this.now.pos }
+    ensures { HasPart (λ v x. head_of (rest_of (rest_of (elements_of v))) ≡ x) (tuple3 A.shape B.shape C.shape) (all_three A.knows B.knows C.knows) this.now.bytes.now this.now.pos C.shape C.knows result.bytes.now result.pos }
+{
+    ArchivedTuple3::third(*this)
+}
+
+impl<A: ArchivedEq, B: ArchivedEq, C: ArchivedEq> ArchivedEq for ArchivedTuple3<A, B, C> {
+    ghost equal = { tuple_equality (more_fields_equality A.equal (more_fields_equality B.equal (more_fields_equality C.equal no_fields_equality))) };
+
+    ghost is_equivalence = { equivalences.tuples _ (equivalences.more_fields A.equal _ A.is_equivalence (equivalences.more_fields B.equal _ B.is_equivalence (equivalences.more_fields C.equal _ C.is_equivalence equivalences.no_fields))) };
+
+    fn eq(
+        this: &Ref<'_, ArchivedTuple3<A, B, C>>,
+        other: &Ref<'_, ArchivedTuple3<A, B, C>>,
+    ) -> bool {
+        let found = equal_then(true, &first_of(this), &first_of(other));
+        let found = equal_then(found, &second_of(this), &second_of(other));
+        equal_then(found, &third_of(this), &third_of(other))
+    }
+}
+
+impl<A: ArchivedOrd, B: ArchivedOrd, C: ArchivedOrd> ArchivedOrd for ArchivedTuple3<A, B, C> {
+    ghost order = { tuple_order (more_fields_order A.order (more_fields_order B.order (more_fields_order C.order no_fields_order))) };
+
+    ghost is_total = { total.tuples _ (total.more_fields A.order _ A.is_total (total.more_fields B.order _ B.is_total (total.more_fields C.order _ C.is_total total.no_fields))) };
+
+    ghost agrees = { agree.tuples (more_fields_equality A.equal (more_fields_equality B.equal (more_fields_equality C.equal no_fields_equality))) (more_fields_order A.order (more_fields_order B.order (more_fields_order C.order no_fields_order))) (agree.more_fields A.equal (more_fields_equality B.equal (more_fields_equality C.equal no_fields_equality)) A.order (more_fields_order B.order (more_fields_order C.order no_fields_order)) A.agrees (agree.more_fields B.equal (more_fields_equality C.equal no_fields_equality) B.order (more_fields_order C.order no_fields_order) B.agrees (agree.more_fields C.equal no_fields_equality C.order no_fields_order C.agrees agree.no_fields))) };
+
+    fn cmp(
+        this: &Ref<'_, ArchivedTuple3<A, B, C>>,
+        other: &Ref<'_, ArchivedTuple3<A, B, C>>,
+    ) -> Ordering {
+        let found = compare_then(Ordering::Equal, &first_of(this), &first_of(other));
+        let found = compare_then(found, &second_of(this), &second_of(other));
+        compare_then(found, &third_of(this), &third_of(other))
+    }
+}
+
+impl<A: ArchivedHash, B: ArchivedHash, C: ArchivedHash> ArchivedHash for ArchivedTuple3<A, B, C> {
+    ghost hashed = { tuple_hashed (more_fields_hashed A.hashed (more_fields_hashed B.hashed (more_fields_hashed C.hashed no_fields_hashed))) };
+
+    ghost alike = { alike.tuples _ _ (alike.more_fields A.equal _ A.hashed _ A.alike (alike.more_fields B.equal _ B.hashed _ B.alike (alike.more_fields C.equal _ C.hashed _ C.alike alike.no_fields))) };
+
+    fn hash<H: Hasher>(this: &Ref<'_, ArchivedTuple3<A, B, C>>, state: &mut H) {
+        A::hash(&first_of(this), state);
+        B::hash(&second_of(this), state);
+        C::hash(&third_of(this), state);
+    }
+}
+
+impl<A: ArchivedDebug, B: ArchivedDebug, C: ArchivedDebug> ArchivedDebug
+    for ArchivedTuple3<A, B, C> {
+    fn fmt<W: Write>(this: &Ref<'_, ArchivedTuple3<A, B, C>>, f: &mut Formatter<W>) -> fmt::Result {
+        f.write_str("(")?;
+        A::fmt(&first_of(this), f)?;
+        f.write_str(", ")?;
+        B::fmt(&second_of(this), f)?;
+        f.write_str(", ")?;
+        C::fmt(&third_of(this), f)?;
+        f.write_str(")")
+    }
+}
