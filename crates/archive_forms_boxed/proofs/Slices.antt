@@ -35,7 +35,7 @@ module _ (s : Shape) (bytes : List ℕ) (pos : ℕ) where
       before = h.before;
       after = h.after;
       own_within = h.own_within;
-      within = h.within;
+      ascends = h.ascends;
       holds = same_holds h.names bytes (at pos (box (slice s))) (at pos (vector s)) (sym (one_content h.names)) h.holds;
     }
 
@@ -47,4 +47,4 @@ module _ (s : Shape) (bytes : List ℕ) (pos : ℕ) where
         → IsVecAt s knows there from to len → IsBoxedSliceAt s knows bytes pos to len
     boxed_slice_there there from to len same own i =
         let here : IsVecAt s knows bytes pos to len = subst (λ n. IsVecAt s knows bytes n to len) own (subst (λ bs. IsVecAt s knows bs from to len) same i) in
-        record { points = here.points; value = λ v held. here.value v (as_vector v held) }
+        record { points = here.points; before = λ has. here.before (has_vector has); value = λ v held. here.value v (as_vector v held) }

@@ -16,6 +16,7 @@ use Rattle.archive_shape_checking.proofs.Below.{below_checked}
 use Rattle.archive_shape_checking.proofs.Inverted.{held_is_known}
 use Rattle.archive_shape_checking.proofs.Questions.{followed_known}
 use Rattle.archive_shape.specs.Key.{HeldAt}
+use Rattle.archive_shape.proofs.Held.{claims_within}
 use Rattle.archive_forms_layout.proofs.Held.{TextBehind, text_behind}
 use Rattle.archive_forms_layout.proofs.TextContent.{followed}
 use Rattle.archive_forms_checking.proofs.Targets.{first_word}
@@ -53,7 +54,7 @@ module _ (bytes : List ℕ) (pos : ℕ) where
         let there = text_there h.value h.held in
         record {
           points = points;
-          within = there.claims h.held.within;
+          within = there.claims (claims_within h.held);
           is_text = there.is_text;
           value = λ v held. (text_there v held).value;
         }

@@ -1,18 +1,19 @@
 -- Where the boxes of slices and of texts lead, and what stands there.
-use Rattle.std.specs.Prelude.{◌≡◌, ℕ, ◌+◌, ◌≤◌, List, length, IsUtf8, ⊤}
+use Rattle.std.specs.Prelude.{◌≡◌, ℕ, ◌+◌, ◌*◌, ◌≤◌, List, length, IsUtf8, ⊤}
 use Rattle.archive_shape_layout.specs.Bytes.{window}
-use Rattle.archive_shape_layout.specs.Shape.{Shape}
+use Rattle.archive_shape_layout.specs.Shape.{Shape, size_of}
 use Rattle.archive_shape_layout.specs.Shape.Shape.{box}
 use Rattle.archive_shape_layout.specs.Shape.Pointee.{slice, str}
 use Rattle.archive_shape_layout.specs.Value.{Value}
 use Rattle.archive_shape_layout.specs.Value.Value.{string}
 use Rattle.archive_shape_layout.specs.Content.{Names}
 use Rattle.archive_shape.specs.Key.{HeldAt}
-use Rattle.archive_forms_reading.specs.Parts.{PointsTo, AreElements}
+use Rattle.archive_forms_reading.specs.Parts.{HasValue, PointsTo, AreElements}
 
--- the box of a slice at a position leads to another, from which on its n elements stand
+-- the box of a slice at a position leads to another, from which on its n elements stand, before the box
 pub record IsBoxedSliceAt (s : Shape) (knows : Names → Type 0) (bytes : List ℕ) (pos to len : ℕ) : Type 0 where
   pub points : PointsTo bytes pos to
+  pub before : HasValue (box (slice s)) knows bytes pos → to + len * size_of s ≤ pos
   pub value : (v : Value) → HeldAt (box (slice s)) knows bytes pos v → AreElements s knows bytes to len v
 
 -- the box of a text at a position leads to another, from which on the n bytes of the text stand

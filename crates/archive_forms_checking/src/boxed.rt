@@ -13,8 +13,12 @@ use archive_shape_pointers::RawRelPtrI32;
 use archive_shape_portable::Portable;
 use archive_shape_references::Ref;
 
-/// Claims the bytes of the value at `target`, and checks it by a step.
-fn check_behind_each<T: Portable, C: ArchiveContext, F: Fn(&mut C, usize) -> Result<(), Error>>(
+/// Checks the value at `target`, behind a pointer or at the root: its bytes are claimed, and what the step's check claims lies
+/// before them.
+///
+/// Refuses a value outside the range with `InvalidSubtreePointer` and its size; then `Unaligned`,
+/// `ExceededMaximumSubtreeDepth`, and what the step refuses. `OutOfMemory` is the context's or the step's.
+pub fn check_behind_each<T: Portable, C: ArchiveContext, F: Fn(&mut C, usize) -> Result<(), Error>>(
     bytes: &[u8],
     target: usize,
     context: &mut C,

@@ -13,7 +13,7 @@ mod tuple4;
 mod vector;
 
 pub use archive_shape_checking::{check_array_each, check_slice_each};
-pub use boxed::check_box_each;
+pub use boxed::{check_behind_each, check_box_each};
 pub use offsets::{field_end, greater, next_multiple};
 pub use option::check_option_each;
 pub use result::check_result_each;

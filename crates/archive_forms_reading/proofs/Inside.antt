@@ -11,6 +11,7 @@ use Rattle.archive_shape_layout.specs.Holds.{Region, Visit, OpenShared, Holds, H
 use Rattle.archive_shape_layout.specs.Holds.HoldAll.{holds_none, holds_more}
 use Rattle.archive_shape_layout.proofs.Unique.{by_plain}
 use Rattle.archive_shape.specs.Key.{HeldAt}
+use Rattle.archive_shape.proofs.Held.{ascends_before}
 
 module _ (names : Names) (bytes : List ℕ) where
   -- one part, with its value
@@ -45,15 +46,16 @@ pub plain_part :
     (tag : ℕ) (h : HeldAt s knows bytes pos v)
     → content_of h.names bytes (at pos s) ≡ plain (tagged tag) (at to t ∷ [])
     → others h.names
+    → pos ≤ to
     → to + size_of t ≤ length bytes
     → PartHeld (tagged tag) t others bytes to v
-plain_part {v = v} tag h content known fits =
+plain_part {pos = pos} {to = to} {v = v} tag h content known later fits =
     let says = by_plain h.names _ content h.holds in
     let one = one_held h.names _ says.all in
     record {
       part = one.value;
       is_made = subst (λ x. made (tagged tag) x ≡ Some v) one.is says.is_made;
-      held = record { names = h.names; known = known; level = h.level; inside = h.inside; regions = h.regions; before = h.before; after = h.after; own_within = fits; within = h.within; holds = one.holds };
+      held = record { names = h.names; known = known; level = h.level; inside = h.inside; regions = h.regions; before = h.before; after = h.after; own_within = fits; ascends = ascends_before pos to h.regions later h.ascends; holds = one.holds };
     }
 
 -- what a call gives is some, where it can't be none

@@ -1,3 +1,4 @@
+pub mod Accepted
 pub mod Arrays
 pub mod Inside
 pub mod Joined

@@ -75,7 +75,7 @@ module _ (s : Shape) (knows : Names → Type 0) (bytes : List ℕ) (pos : ℕ) (
   some_at : (slice_index bytes pos ≡ 0 → ⊥) → IsSomeAt s knows bytes pos
   some_at other v h =
       subst (λ at. HasPayload 1 s knows bytes at v) (sym some_stands)
-      (payload_of (plain_part 1 h (some_is h.names bytes pos s align is positive (tag_is_one v h other)) h.known (option_within (record { value = v; held = h }))))
+      (payload_of (plain_part 1 h (some_is h.names bytes pos s align is positive (tag_is_one v h other)) h.known (omega arith) (option_within (record { value = v; held = h }))))
 
   -- the tag tells whether there is one
   pub option_by_tag : MatchBool (slice_index bytes pos == 0) (IsNoneAt s knows bytes pos) (IsSomeAt s knows bytes pos)
@@ -116,7 +116,7 @@ module _ (s t : Shape) (knows others : Names → Type 0) (bytes : List ℕ) (pos
   ok_at : slice_index bytes pos ≡ 0 → IsOkAt s t knows others bytes pos
   ok_at tag v i =
       subst (λ at. HasPayload 0 s knows bytes at v) (sym outcome_stands)
-      (payload_of (plain_part 0 i (ok_is i.names bytes pos s t align h tag) i.known.0 (result_within (record { value = v; held = i })).0))
+      (payload_of (plain_part 0 i (ok_is i.names bytes pos s t align h tag) i.known.0 (omega arith) (result_within (record { value = v; held = i })).0))
 
   error_tag : (v : Value) (i : HeldAt (result s t) (both knows others) bytes pos v) → (slice_index bytes pos ≡ 0 → ⊥) → slice_index bytes pos ≡ 1
   unfolding shape_content
@@ -125,7 +125,7 @@ module _ (s t : Shape) (knows others : Names → Type 0) (bytes : List ℕ) (pos
   err_at : (slice_index bytes pos ≡ 0 → ⊥) → IsErrAt s t knows others bytes pos
   err_at other v i =
       subst (λ at. HasPayload 1 t others bytes at v) (sym outcome_stands)
-      (payload_of (plain_part 1 i (err_is i.names bytes pos s t align h (error_tag v i other)) i.known.1 (result_within (record { value = v; held = i })).1))
+      (payload_of (plain_part 1 i (err_is i.names bytes pos s t align h (error_tag v i other)) i.known.1 (omega arith) (result_within (record { value = v; held = i })).1))
 
   -- the tag tells which
   pub result_by_tag : MatchBool (slice_index bytes pos == 0) (IsOkAt s t knows others bytes pos) (IsErrAt s t knows others bytes pos)

@@ -1,7 +1,5 @@
 -- Boxes and vectors: where their pointers lead, and what the layout has there.
-use Rattle.std.proofs.Common.{◌≡◌, ℕ, zero, suc, ◌+◌, ◌*◌, ◌≤◌, ◌<◌, List, [], ◌∷◌, ◌++◌, take, drop, length, All, Some, sym, ap, subst, ◌∙◌, arith, mul-le-mul_right}
-use Rattle.std.proofs.lemmas.List.Elements.{All-same, All-take, All-drop, All-head}
-use Rattle.std.proofs.Math.Seq.{take-append_seam, drop-append_seam}
+use Rattle.std.proofs.Common.{◌≡◌, ℕ, zero, suc, ◌+◌, ◌*◌, ◌≤◌, ◌<◌, List, [], ◌∷◌, ◌++◌, length, Some, sym, ap, subst, ◌∙◌, arith, mul-le-mul_right}
 use Rattle.archive_shape_layout.specs.Bytes.{window, word_at, target_from}
 use Rattle.archive_shape_layout.specs.Shape.{Shape, Pointee, size_of}
 use Rattle.archive_shape_layout.specs.Shape.Shape.{box, vector}
@@ -13,29 +11,19 @@ use Rattle.archive_shape_layout.specs.Content.{Names, content_of, made, elements
 use Rattle.archive_shape_layout.specs.Content.Part.{at, behind}
 use Rattle.archive_shape_layout.specs.Content.Label.{same, whole}
 use Rattle.archive_shape_layout.specs.Content.Content.{plain}
-use Rattle.archive_shape_layout.specs.Holds.{Region, region_of, Visit, OpenShared, Holds, HoldAll}
+use Rattle.archive_shape_layout.specs.Holds.{Region, Visit, OpenShared, Holds, HoldAll, Ascends}
 use Rattle.archive_shape_layout.specs.Holds.HoldAll.{holds_none, holds_more}
 use Rattle.archive_shape_layout.specs.Path.{value_in}
 use Rattle.archive_shape_layout.proofs.Unique.{by_plain, by_claimed}
-use Rattle.archive_shape_checking.specs.Questions.{pointee_span}
 use Rattle.archive_shape_checking.proofs.Inverted.{held_is_known}
 use Rattle.archive_shape_checking.proofs.Questions.{followed_known}
 use Rattle.archive_shape.specs.Key.{HeldAt}
+use Rattle.archive_shape.proofs.Held.{ascends_before, first_ascend, others_ascend, inside_region}
 use Rattle.archive_forms_layout.proofs.TextContent.{followed}
 use Rattle.archive_forms_checking.proofs.Contents.{sized_is, slice_is}
 use Rattle.archive_forms_checking.proofs.Targets.{first_word}
 use Rattle.archive_forms_reading.specs.Parts.{HasValue, PointsTo, AreElements, IsBoxAt, IsVecAt}
 use Rattle.archive_forms_reading.proofs.Inside.{one_held}
-
--- a region ends in the bytes
-abbrev pub EndsIn : List ℕ → Region → Type 0
-EndsIn bytes r = r.start + r.size ≤ length bytes
-
-pub first_regions : (bytes : List ℕ) (xs ys : List Region) → All (EndsIn bytes) (xs ++ ys) → All (EndsIn bytes) xs
-first_regions bytes xs ys h = All-same (EndsIn bytes) xs (take (length xs) (xs ++ ys)) (sym (take-append_seam xs ys)) (All-take (EndsIn bytes) (length xs) (xs ++ ys) h)
-
-pub other_regions : (bytes : List ℕ) (xs ys : List Region) → All (EndsIn bytes) (xs ++ ys) → All (EndsIn bytes) ys
-other_regions bytes xs ys h = All-same (EndsIn bytes) ys (drop (length xs) (xs ++ ys)) (sym (drop-append_seam xs ys)) (All-drop (EndsIn bytes) (length xs) (xs ++ ys) h)
 
 made_same : (w v : Value) → made same (more_values w no_values) ≡ Some v → w ≡ v
 unfolding made
@@ -55,26 +43,26 @@ element_ends start i n size most less fits =
 -- ---- elements
 
 module _ (names : Names) (bytes : List ℕ) (s : Shape) where
-  -- an element of a list of values stands at a position
-  record ElementHolds (level : ℕ) (inside : List OpenShared) (vs : Values) (i at_pos : ℕ) : Type 0 where
+  -- an element of a list of values stands at a position, and what it claims ascends before another
+  record ElementHolds (low level : ℕ) (inside : List OpenShared) (vs : Values) (i at_pos : ℕ) : Type 0 where
     element : Value
     there : value_in i vs ≡ Some element
     regions : List Region
     before : List Visit
     after : List Visit
-    within : All (EndsIn bytes) regions
+    ascends : Ascends 0 low regions
     holds : Holds names bytes level inside (at at_pos s) element regions before after
 
   element_holds :
-      (n start : ℕ) {level : ℕ} {inside : List OpenShared} {vs : Values} {regions : List Region} {before after : List Visit}
+      (low n start : ℕ) {level : ℕ} {inside : List OpenShared} {vs : Values} {regions : List Region} {before after : List Visit}
       → HoldAll names bytes level inside (elements start n s) vs regions before after
-      → All (EndsIn bytes) regions
+      → Ascends 0 low regions
       → (i : ℕ)
       → i < n
-      → ElementHolds level inside vs i (start + i * size_of s)
+      → ElementHolds low level inside vs i (start + i * size_of s)
   unfolding elements
-  element_holds zero start h within i less = absurd (omega (arith, less))
-  element_holds (suc n) start {level} {inside} {vs} (holds_more {v = v} {vs = us} {here = here} {later = later} {before = before} {between = between} x rest is joined) within zero less =
+  element_holds low zero start h ascends i less = absurd (omega (arith, less))
+  element_holds low (suc n) start {level} {inside} {vs} (holds_more {v = v} {vs = us} {here = here} {later = later} {before = before} {between = between} x rest is joined) ascends zero less =
       let first : start ≡ start + 0 * size_of s = omega arith in
       record {
         element = v;
@@ -82,11 +70,11 @@ module _ (names : Names) (bytes : List ℕ) (s : Shape) where
         regions = here;
         before = before;
         after = between;
-        within = first_regions bytes here later (subst (All (EndsIn bytes)) joined within);
+        ascends = first_ascend low here later (subst (Ascends 0 low) joined ascends);
         holds = subst (λ p. Holds names bytes level inside (at p s) v here before between) first x;
       }
-  element_holds (suc n) start {level} {inside} {vs} (holds_more {v = v} {vs = us} {here = here} {later = later} x rest is joined) within (suc i) less =
-      let next = element_holds n (start + size_of s) rest (other_regions bytes here later (subst (All (EndsIn bytes)) joined within)) i (omega (arith, less)) in
+  element_holds low (suc n) start {level} {inside} {vs} (holds_more {v = v} {vs = us} {here = here} {later = later} x rest is joined) ascends (suc i) less =
+      let next = element_holds low n (start + size_of s) rest (others_ascend low here later (subst (Ascends 0 low) joined ascends)) i (omega (arith, less)) in
       let later_at : start + size_of s + i * size_of s ≡ start + suc i * size_of s = omega arith in
       record {
         element = next.element;
@@ -94,7 +82,7 @@ module _ (names : Names) (bytes : List ℕ) (s : Shape) where
         regions = next.regions;
         before = next.before;
         after = next.after;
-        within = next.within;
+        ascends = next.ascends;
         holds = subst (λ p. Holds names bytes level inside (at p s) next.element next.regions next.before next.after) later_at next.holds;
       }
 
@@ -112,18 +100,18 @@ pub elements_stand :
     {vs : Values} {regions : List Region} {before after : List Visit} (v : Value)
     → knows names
     → HoldAll names bytes level inside (elements start n s) vs regions before after
-    → All (EndsIn bytes) regions
+    → Ascends 0 start regions
     → start + n * size_of s ≤ length bytes
     → made whole vs ≡ Some v
     → AreElements s knows bytes start n v
-elements_stand names bytes s knows n start level inside {vs} v known all within fits is =
+elements_stand names bytes s knows n start level inside {vs} v known all ascends fits is =
     record {
       elements = vs;
       is = made_whole vs v is;
       count = count_held names bytes s n start all;
       within = fits;
       each = λ i less.
-          let one = element_holds names bytes s n start all within i less in (
+          let one = element_holds names bytes s start n start all ascends i less in (
             one.element,
             one.there,
             record {
@@ -135,7 +123,7 @@ elements_stand names bytes s knows n start level inside {vs} v known all within 
               before = one.before;
               after = one.after;
               own_within = element_ends start i n (size_of s) (length bytes) less fits;
-              within = one.within;
+              ascends = ascends_before start (start + i * size_of s) one.regions (omega arith) one.ascends;
               holds = one.holds;
             },
           );
@@ -163,19 +151,25 @@ module _ (s : Shape) (knows : Names → Type 0) (bytes : List ℕ) (pos : ℕ) w
       let known = followed_known (target_from pos (word_at (window bytes pos 4) 0)) _ (held_is_known h.held.names bytes h.held.holds) in
       (known.0, subst (λ word. target_from pos word ≡ Some known.0) (first_word bytes pos 4 (omega arith)) known.1)
 
-  pub box_there : (to : ℕ) → PointsTo bytes pos to → IsBoxAt s knows bytes pos to
+  -- the value that it leads to, inside the region that it claims
+  record BoxTarget (to : ℕ) (v : Value) : Type 0 where
+    before : to + size_of s ≤ pos
+    held : HeldAt s knows bytes to v
+
+  box_target : (to : ℕ) → PointsTo bytes pos to → (v : Value) → HeldAt (box (sized s)) knows bytes pos v → BoxTarget to v
   unfolding shape_content
-  box_there to points = record {
-    points = points;
-    value = λ v h.
-        let leads : target_from pos (word_at (window bytes pos 4) 0) ≡ Some to = subst (λ word. target_from pos word ≡ Some to) (sym (first_word bytes pos 4 (omega arith))) points in
-        let whole_target = target_holds h to (sized s) 1 (followed _ to _ leads) in
-        let says = by_claimed h.names bytes (sized_is h.names bytes to s 1) whole_target in
-        let one = one_held h.names bytes says.all in
-        let value : one.value ≡ v = made_same one.value v (subst (λ x. made same x ≡ Some v) one.is says.is_made) in
-        let ends = subst (All (EndsIn bytes)) says.regions_are h.within in
-        let own = All-head (EndsIn bytes) (region_of (pointee_span to (sized s) 1) h.level) [] (other_regions bytes says.within _ ends) in
-        record {
+  box_target to points v h =
+      let leads : target_from pos (word_at (window bytes pos 4) 0) ≡ Some to = subst (λ word. target_from pos word ≡ Some to) (sym (first_word bytes pos 4 (omega arith))) points in
+      let whole_target = target_holds h to (sized s) 1 (followed _ to _ leads) in
+      let says = by_claimed h.names bytes (sized_is h.names bytes to s 1) whole_target in
+      let one = one_held h.names bytes says.all in
+      let value : one.value ≡ v = made_same one.value v (subst (λ x. made same x ≡ Some v) one.is says.is_made) in
+      let inner = inside_region pos says.within _ (subst (Ascends 0 pos) says.regions_are h.ascends) in
+      let ends = inner.ends in
+      let own = h.own_within in
+      record {
+        before = omega (arith, ends);
+        held = record {
           names = h.names;
           known = h.known;
           level = suc h.level;
@@ -183,10 +177,17 @@ module _ (s : Shape) (knows : Names → Type 0) (bytes : List ℕ) (pos : ℕ) w
           regions = says.within;
           before = h.before;
           after = h.after;
-          own_within = omega (arith, own);
-          within = first_regions bytes says.within _ ends;
+          own_within = omega (arith, ends, own);
+          ascends = inner.ascends;
           holds = subst (λ x. Holds h.names bytes (suc h.level) h.inside (at to s) x says.within h.before h.after) value one.holds;
         };
+      }
+
+  pub box_there : (to : ℕ) → PointsTo bytes pos to → IsBoxAt s knows bytes pos to
+  box_there to points = record {
+    points = points;
+    before = λ has. (box_target to points has.value has.held).before;
+    value = λ v h. (box_target to points v h).held;
   }
 
   -- ---- vectors
@@ -197,15 +198,28 @@ module _ (s : Shape) (knows : Names → Type 0) (bytes : List ℕ) (pos : ℕ) w
       let known = followed_known (target_from pos (word_at (window bytes pos 8) 0)) _ (held_is_known h.held.names bytes h.held.holds) in
       (known.0, subst (λ word. target_from pos word ≡ Some known.0) (first_word bytes pos 8 (omega arith)) known.1)
 
-  pub vec_there : (to len : ℕ) → PointsTo bytes pos to → word_at (window bytes pos 8) 4 ≡ len → IsVecAt s knows bytes pos to len
+  -- the elements that it leads to, inside the region that it claims
+  record VecTarget (to len : ℕ) (v : Value) : Type 0 where
+    before : to + len * size_of s ≤ pos
+    stand : AreElements s knows bytes to len v
+
+  vec_target : (to len : ℕ) → PointsTo bytes pos to → word_at (window bytes pos 8) 4 ≡ len → (v : Value) → HeldAt (vector s) knows bytes pos v → VecTarget to len v
   unfolding shape_content
+  vec_target to len points says_len v h =
+      let leads : target_from pos (word_at (window bytes pos 8) 0) ≡ Some to = subst (λ word. target_from pos word ≡ Some to) (sym (first_word bytes pos 8 (omega arith))) points in
+      let whole_target = target_holds h to (slice s) len (followed _ to _ leads ∙ ap (λ m. plain same (behind to (slice s) m ∷ [])) says_len) in
+      let says = by_claimed h.names bytes (slice_is h.names bytes to s len) whole_target in
+      let inner = inside_region pos says.within _ (subst (Ascends 0 pos) says.regions_are h.ascends) in
+      let ends = inner.ends in
+      let own = h.own_within in
+      record {
+        before = omega (arith, ends);
+        stand = elements_stand h.names bytes s knows len to (suc h.level) h.inside v h.known says.all inner.ascends (omega (arith, ends, own)) says.is_made;
+      }
+
+  pub vec_there : (to len : ℕ) → PointsTo bytes pos to → word_at (window bytes pos 8) 4 ≡ len → IsVecAt s knows bytes pos to len
   vec_there to len points says_len = record {
     points = points;
-    value = λ v h.
-        let leads : target_from pos (word_at (window bytes pos 8) 0) ≡ Some to = subst (λ word. target_from pos word ≡ Some to) (sym (first_word bytes pos 8 (omega arith))) points in
-        let whole_target = target_holds h to (slice s) len (followed _ to _ leads ∙ ap (λ m. plain same (behind to (slice s) m ∷ [])) says_len) in
-        let says = by_claimed h.names bytes (slice_is h.names bytes to s len) whole_target in
-        let ends = subst (All (EndsIn bytes)) says.regions_are h.within in
-        let own = All-head (EndsIn bytes) (region_of (pointee_span to (slice s) len) h.level) [] (other_regions bytes says.within _ ends) in
-        elements_stand h.names bytes s knows len to (suc h.level) h.inside v h.known says.all (first_regions bytes says.within _ ends) (omega (arith, own)) says.is_made;
+    before = λ has. (vec_target to len points says_len has.value has.held).before;
+    value = λ v h. (vec_target to len points says_len v h).stand;
   }

@@ -86,12 +86,14 @@ pub record HasElements (s : Shape) (knows : Names → Type 0) (bytes : List ℕ)
   pub stand : AreElements s knows bytes start len value
 
 module _ (s : Shape) (knows : Names → Type 0) (bytes : List ℕ) (pos : ℕ) where
-  -- the box at a position leads to another, where its value stands
+  -- the box at a position leads to another, where its value stands, before the box
   pub record IsBoxAt (to : ℕ) : Type 0 where
     pub points : PointsTo bytes pos to
+    pub before : HasValue (box (sized s)) knows bytes pos → to + size_of s ≤ pos
     pub value : (v : Value) → HeldAt (box (sized s)) knows bytes pos v → HeldAt s knows bytes to v
 
-  -- the vector at a position leads to another, from which on its n elements stand
+  -- the vector at a position leads to another, from which on its n elements stand, before the vector
   pub record IsVecAt (to len : ℕ) : Type 0 where
     pub points : PointsTo bytes pos to
+    pub before : HasValue (vector s) knows bytes pos → to + len * size_of s ≤ pos
     pub value : (v : Value) → HeldAt (vector s) knows bytes pos v → AreElements s knows bytes to len v

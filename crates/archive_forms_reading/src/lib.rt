@@ -1,9 +1,10 @@
-//! Archived options, results, boxes and vectors.
+//! Archived options, results, boxes, vectors and arrays, and the native values of leaves.
 #![tactic(auto)]
 
 mod array;
 mod boxed;
 mod iter;
+mod leaf;
 mod option;
 mod resolving;
 mod result;
@@ -14,6 +15,7 @@ mod vector;
 pub use array::{array_element, array_element_seal, array_slice};
 pub use boxed::ArchivedBox;
 pub use iter::Iter;
+pub use leaf::native_of;
 pub use option::ArchivedOption;
 pub use resolving::{BoxResolver, VecResolver};
 pub use result::ArchivedResult;

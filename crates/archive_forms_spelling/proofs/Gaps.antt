@@ -8,6 +8,7 @@ use Rattle.archive_shape_layout.proofs.Evaluated.{ascends_raised, end_below}
 use Rattle.archive_shape_canonical.proofs.Editing.{InRegions-left, InRegions-right}
 use Rattle.archive_shape_canonical.proofs.Small.{small_none, small_more, small_append, small_same, small_word}
 use Rattle.archive_shape_references.specs.Bytes.{zeros}
+use Rattle.archive_shape.proofs.Held.{ascends_lowered}
 use Rattle.archive_forms_spelling.specs.Spells.{AreGapsZero}
 use Rattle.archive_shape_canonical.specs.Canonical.{AreBytes}
 
@@ -20,11 +21,6 @@ gaps_join bytes xs ys low mid high f g i a b =
     (λ l. ⊎_elim (λ o. inl (InRegions-left xs ys i o)) (λ z. inr z) (f i a l))
     (λ r. ⊎_elim (λ o. inl (InRegions-right xs ys i o)) (λ z. inr z) (g i r b))
     (cases_lt i mid)
-
-ascends_lowered : (low mid high : ℕ) (rs : List Region) → low ≤ mid → Ascends mid high rs → Ascends low high rs
-unfolding Ascends
-ascends_lowered low mid high [] h a = tt
-ascends_lowered low mid high (r ∷ rs) h a = let after = a.0.after in (record { after = omega arith; aligned = a.0.aligned; inside = a.0.inside }, a.1)
 
 pub ascends_join : (low mid high : ℕ) (xs ys : List Region) → Ascends low mid xs → Ascends mid high ys → low ≤ mid → mid ≤ high → Ascends low high (xs ++ ys)
 ascends_join low mid high xs ys a b h g =

@@ -6,6 +6,7 @@ ghost use Rattle.std.specs.Prelude.{◌≡◌};
 ghost use Rattle.std.proofs.Common.{ap, sym, ◌∙◌};
 ghost use Rattle.std.proofs.lemmas.Cmp.{nat_list_cmp_total};
 ghost use Rattle.archive_shape_layout.specs.Value.Value.{string};
+ghost use Rattle.archive_shape.proofs.Held.{claims_within};
 ghost use Rattle.archive_forms_layout.proofs.Once.{one_text_law};
 ghost use Rattle.archive_forms_layout.proofs.Held.{held_is_text_law, text_value, one_string};
 ghost use Rattle.archive_forms_layout.specs.Text.{HasText, IsText};
@@ -31,9 +32,9 @@ impl<'q> ArchivedKey<&'q str> for ArchivedString {
         ArchivedString::as_str(*this).cmp(*query)
     }
 
-    ghost held_is_key = { λ bytes pos value h. (held_is_text_law h.names bytes h.level h.inside pos value h.regions h.before h.after h.own_within h.within h.holds).stands.there };
+    ghost held_is_key = { λ bytes pos value h. (held_is_text_law h.names bytes h.level h.inside pos value h.regions h.before h.after h.own_within (claims_within h) h.holds).stands.there };
 
-    ghost held_stands_for = { λ bytes pos value h key is. text_value bytes pos key.now value (held_is_text_law h.names bytes h.level h.inside pos value h.regions h.before h.after h.own_within h.within h.holds) is };
+    ghost held_stands_for = { λ bytes pos value h key is. text_value bytes pos key.now value (held_is_text_law h.names bytes h.level h.inside pos value h.regions h.before h.after h.own_within (claims_within h) h.holds) is };
 
     ghost one_value = { λ value a b x y query. ap (λ key. slice_cmp nat_cmp key query.now) (one_string (sym x ∙ y)) };
 

@@ -1,6 +1,6 @@
 -- What the layout has at the fields of tuples.
 use Rattle.std.specs.Bool.{⊤}
-use Rattle.std.proofs.Common.{◌≡◌, ℕ, ◌+◌, ◌≤◌, All, List, [], ◌∷◌, length, refl, ap, subst, ◌∙◌, arith, add-zero, zero-add}
+use Rattle.std.proofs.Common.{◌≡◌, ℕ, ◌+◌, ◌≤◌, List, [], ◌∷◌, length, refl, ap, subst, ◌∙◌, arith, add-zero, zero-add}
 use Rattle.archive_shape_layout.specs.Bytes.{align_up}
 use Rattle.archive_shape_layout.specs.Shape.{size_of, align_of, fields_end}
 use Rattle.archive_shape_layout.specs.Shape.Shape.{tuple}
@@ -9,12 +9,13 @@ use Rattle.archive_shape_layout.specs.Content.{Names, fields, content_of, shape_
 use Rattle.archive_shape_layout.specs.Content.Part.{at}
 use Rattle.archive_shape_layout.specs.Content.Label.{whole}
 use Rattle.archive_shape_layout.specs.Content.Content.{plain}
-use Rattle.archive_shape_layout.specs.Holds.{Region, Visit, OpenShared, HoldAll}
+use Rattle.archive_shape_layout.specs.Holds.{Region, Visit, OpenShared, HoldAll, Ascends}
 use Rattle.archive_shape_layout.specs.Holds.HoldAll.{holds_none, holds_more}
 use Rattle.archive_shape_layout.proofs.Framed.{le_align_up, le_fields_end}
 use Rattle.archive_shape_layout.proofs.Unique.{by_plain}
 use Rattle.archive_shape_references.proofs.PointerSizes.{first_multiple}
-use Rattle.archive_forms_reading.proofs.Pointed.{EndsIn, first_regions, other_regions, made_whole}
+use Rattle.archive_shape.proofs.Held.{ascends_before, first_ascend, others_ascend}
+use Rattle.archive_forms_reading.proofs.Pointed.{made_whole}
 use Rattle.archive_forms_tuples.specs.Fields.{Field, shapes_of, BeginsWith, AreBehind, AreFields, AreFieldsAt}
 
 -- each of the types of fields is read under a list
@@ -28,14 +29,14 @@ module _ (names : Names) (bytes : List ℕ) (pos : ℕ) where
       (fs : List Field) (offset : ℕ) {level : ℕ} {inside : List OpenShared} {vs : Values} {regions : List Region} {before after : List Visit}
       → AllKnow fs names
       → HoldAll names bytes level inside (fields pos offset (shapes_of fs)) vs regions before after
-      → All (EndsIn bytes) regions
+      → Ascends 0 pos regions
       → pos + fields_end (shapes_of fs) offset ≤ length bytes
       → AreBehind fs bytes pos offset vs
   unfolding fields
-  fields_behind [] offset known (holds_none none empty stays) within fits = none
-  fields_behind (f ∷ fs) offset {level} {inside} known (holds_more {v = v} {vs = vs} {here = here} {later = later} {before = before} {between = between} x rest is joined) within fits =
+  fields_behind [] offset known (holds_none none empty stays) ascends fits = none
+  fields_behind (f ∷ fs) offset {level} {inside} known (holds_more {v = v} {vs = vs} {here = here} {later = later} {before = before} {between = between} x rest is joined) ascends fits =
       let from = align_up offset (align_of f.shape) in
-      let ends = subst (λ rs. All (EndsIn bytes) rs) joined within in
+      let both = subst (Ascends 0 pos) joined ascends in
       let behind = le_fields_end (shapes_of fs) (from + size_of f.shape) in
       record {
         first = v;
@@ -50,10 +51,10 @@ module _ (names : Names) (bytes : List ℕ) (pos : ℕ) where
           before = before;
           after = between;
           own_within = omega (arith, behind, fits);
-          within = first_regions bytes here later ends;
+          ascends = ascends_before pos (pos + from) here (omega arith) (first_ascend pos here later both);
           holds = x;
         };
-        rest = fields_behind fs (from + size_of f.shape) known.1 rest (other_regions bytes here later ends) fits;
+        rest = fields_behind fs (from + size_of f.shape) known.1 rest (others_ascend pos here later both) fits;
       }
 
   -- all fields: the first stands at the position
@@ -79,5 +80,5 @@ fields_at fs knows known bytes pos v h =
     record {
       values = says.vs;
       is = made_whole says.vs v says.is_made;
-      each = all_fields h.names bytes pos fs says.vs (fields_behind h.names bytes pos fs 0 (known h.names h.known) says.all h.within (omega (arith, padded, h.own_within)));
+      each = all_fields h.names bytes pos fs says.vs (fields_behind h.names bytes pos fs 0 (known h.names h.known) says.all h.ascends (omega (arith, padded, h.own_within)));
     }

@@ -62,6 +62,10 @@ impl Registry for Vec<u8> {
     ghost known = { λ _ _. unmet };
 }
 
+impl Registry for () {
+    ghost known = { λ _ _. unmet };
+}
+
 impl Writer for Vec<u8> {
     ghost OBSERVABLE = { true };
 
