@@ -1,10 +1,9 @@
 //! Boxes are compared as their values.
 use crate::parts::box_value;
-use crate::{ArchivedEq, ArchivedHash, ArchivedOrd};
+use crate::{ArchivedEq, ArchivedOrd};
 use archive_forms_reading::ArchivedBox;
 use archive_shape::Ref;
 use std::cmp::Ordering;
-use std::hash::Hasher;
 
 impl<T: ArchivedEq> ArchivedEq for ArchivedBox<T> {
     ghost equal = { T.equal };
@@ -25,15 +24,5 @@ impl<T: ArchivedOrd> ArchivedOrd for ArchivedBox<T> {
 
     fn cmp(this: &Ref<'_, ArchivedBox<T>>, other: &Ref<'_, ArchivedBox<T>>) -> Ordering {
         T::cmp(&box_value(this), &box_value(other))
-    }
-}
-
-impl<T: ArchivedHash> ArchivedHash for ArchivedBox<T> {
-    ghost hashed = { T.hashed };
-
-    ghost alike = { T.alike };
-
-    fn hash<H: Hasher>(this: &Ref<'_, ArchivedBox<T>>, state: &mut H) {
-        T::hash(&box_value(this), state);
     }
 }

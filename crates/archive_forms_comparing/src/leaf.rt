@@ -1,26 +1,13 @@
 //! Numbers, truth values and chars are compared.
-ghost use Rattle.std.specs.Hash as fed;
 ghost use Rattle.archive_forms_ordering.specs.Views.{natural_of, integer_of, truth_of};
 ghost use Rattle.archive_forms_ordering.specs.Orders.{natural_equality, natural_order, integer_equality, integer_order, truth_equality, truth_order};
-ghost use Rattle.archive_forms_ordering.proofs.Forms.{equivalences, total, agree, alike};
-ghost use Rattle.archive_forms_reading.specs.Parts.{HasValue};
-ghost use Rattle.std.specs.Prelude.{◌≡◌};
-ghost use Rattle.archive_shape_layout.specs.Value.{Value};
-ghost use Rattle.archive_shape.specs.Key.{HeldAt};
+ghost use Rattle.archive_forms_ordering.proofs.Forms.{equivalences, total, agree};
 
-use crate::{ArchivedEq, ArchivedHash, ArchivedOrd, ComparedNative};
-use archive_shape::{ArchivedLeaf, LittleEndian, Ref};
+use crate::{ArchivedEq, ArchivedOrd, ComparedNative};
+use archive_forms_reading::native_of;
+use archive_shape::{LittleEndian, Ref};
 use std::cmp::Ordering;
-use std::hash::{Hash, Hasher};
 use std::num::{NonZeroI8, NonZeroU8};
-
-/// The native value that stands there.
-pub(crate) fn native_of<L: ArchivedLeaf>(this: Ref<'_, L>) -> L::Native
-    requires { HasValue L.shape L.knows this.bytes.now this.pos }
-    ensures { (v : Value) → HeldAt L.shape L.knows this.entry.bytes.now this.entry.pos v → L.value_of result ≡ v }
-{
-    this.to_native()
-}
 
 impl<N: ComparedNative> ArchivedEq for LittleEndian<N> {
     ghost equal = { N.comparison.equal };
@@ -151,65 +138,5 @@ impl ArchivedOrd for NonZeroI8 {
 
     fn cmp(this: &Ref<'_, NonZeroI8>, other: &Ref<'_, NonZeroI8>) -> Ordering {
         native_of(*this).cmp(&native_of(*other))
-    }
-}
-
-impl<N: ComparedNative> ArchivedHash for LittleEndian<N> {
-    ghost hashed = { N.hashed };
-
-    ghost alike = { N.alike };
-
-    fn hash<H: Hasher>(this: &Ref<'_, LittleEndian<N>>, state: &mut H) {
-        native_of(*this).hash(state);
-    }
-}
-
-impl ArchivedHash for bool {
-    ghost hashed = { λ v. fed.bool (truth_of v) };
-
-    ghost alike = { alike.truths fed.bool };
-
-    fn hash<H: Hasher>(this: &Ref<'_, bool>, state: &mut H) {
-        native_of(*this).hash(state);
-    }
-}
-
-impl ArchivedHash for u8 {
-    ghost hashed = { λ v. fed.u8 (natural_of v) };
-
-    ghost alike = { alike.naturals fed.u8 };
-
-    fn hash<H: Hasher>(this: &Ref<'_, u8>, state: &mut H) {
-        native_of(*this).hash(state);
-    }
-}
-
-impl ArchivedHash for NonZeroU8 {
-    ghost hashed = { λ v. fed.u8 (natural_of v) };
-
-    ghost alike = { alike.naturals fed.u8 };
-
-    fn hash<H: Hasher>(this: &Ref<'_, NonZeroU8>, state: &mut H) {
-        native_of(*this).hash(state);
-    }
-}
-
-impl ArchivedHash for i8 {
-    ghost hashed = { λ v. fed.i8 (integer_of v) };
-
-    ghost alike = { alike.integers fed.i8 };
-
-    fn hash<H: Hasher>(this: &Ref<'_, i8>, state: &mut H) {
-        native_of(*this).hash(state);
-    }
-}
-
-impl ArchivedHash for NonZeroI8 {
-    ghost hashed = { λ v. fed.i8 (integer_of v) };
-
-    ghost alike = { alike.integers fed.i8 };
-
-    fn hash<H: Hasher>(this: &Ref<'_, NonZeroI8>, state: &mut H) {
-        native_of(*this).hash(state);
     }
 }

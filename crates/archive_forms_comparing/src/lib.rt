@@ -1,14 +1,17 @@
 //! Archived values are compared where they lie, as their native values are.
 //!
 //! A value of an archived type is known by where it lies, so the calls take two `Ref`s. The orders and their laws are those
-//! of archive_forms_ordering.
+//! of archive_forms_ordering. What is hashed of archived values, and how they are printed, is in archive_forms_hashing, which
+//! goes by the same parts.
 #![tactic(auto)]
 
+mod array;
 mod boxed;
-mod debug;
+mod boxed_slice;
+mod boxed_str;
+pub mod entry;
 mod eq;
 mod fields;
-mod hash;
 mod leaf;
 mod native;
 mod option;
@@ -17,16 +20,20 @@ mod parts;
 mod result;
 mod signed;
 mod text;
-mod tuple1;
-mod tuple2;
-mod tuple3;
-mod tuple4;
+pub mod tuple1;
+pub mod tuple2;
+pub mod tuple3;
+pub mod tuple4;
 mod unit;
 mod unsigned;
 mod vector;
 
-pub use debug::ArchivedDebug;
+pub use array::array_elements;
+pub use boxed_slice::boxed_elements;
+pub use boxed_str::boxed_text;
 pub use eq::ArchivedEq;
-pub use hash::ArchivedHash;
 pub use native::ComparedNative;
 pub use ord::ArchivedOrd;
+pub use parts::{box_value, option_value, result_outcome};
+pub use text::text_at;
+pub use vector::{element, vector_elements};

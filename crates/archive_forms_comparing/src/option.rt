@@ -1,13 +1,12 @@
 //! Options are compared: none before some.
-ghost use Rattle.archive_forms_ordering.specs.Orders.{option_equality, option_order, option_hashed};
-ghost use Rattle.archive_forms_ordering.proofs.Forms.{equivalences, total, agree, alike};
+ghost use Rattle.archive_forms_ordering.specs.Orders.{option_equality, option_order};
+ghost use Rattle.archive_forms_ordering.proofs.Forms.{equivalences, total, agree};
 
 use crate::parts::option_value;
-use crate::{ArchivedEq, ArchivedHash, ArchivedOrd};
+use crate::{ArchivedEq, ArchivedOrd};
 use archive_forms_reading::ArchivedOption;
 use archive_shape::Ref;
 use std::cmp::Ordering;
-use std::hash::Hasher;
 
 impl<T: ArchivedEq> ArchivedEq for ArchivedOption<T> {
     ghost equal = { option_equality T.equal };
@@ -36,22 +35,6 @@ impl<T: ArchivedOrd> ArchivedOrd for ArchivedOption<T> {
             (None, Some(_)) => Ordering::Less,
             (Some(_), None) => Ordering::Greater,
             (Some(value), Some(other)) => T::cmp(&value, &other),
-        }
-    }
-}
-
-impl<T: ArchivedHash> ArchivedHash for ArchivedOption<T> {
-    ghost hashed = { option_hashed T.hashed };
-
-    ghost alike = { alike.options T.equal T.hashed T.alike };
-
-    fn hash<H: Hasher>(this: &Ref<'_, ArchivedOption<T>>, state: &mut H) {
-        match option_value(this) {
-            None => state.write_isize(0),
-            Some(value) => {
-                state.write_isize(1);
-                T::hash(&value, state);
-            }
         }
     }
 }

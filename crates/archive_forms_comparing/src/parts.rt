@@ -12,7 +12,7 @@ use archive_forms_reading::{ArchivedBox, ArchivedOption, ArchivedResult};
 use archive_shape::{Portable, Ref};
 
 /// The value of an option, if there is one.
-pub(crate) fn option_value<'a, T: Portable>(this: &Ref<'a, ArchivedOption<T>>) -> Option<Ref<'a, T>>
+pub fn option_value<'a, T: Portable>(this: &Ref<'a, ArchivedOption<T>>) -> Option<Ref<'a, T>>
     requires { HasValue (option T.shape) T.knows this.now.bytes.now this.now.pos }
     ensures { MatchOption result
         ((v : Value) → HeldAt (option T.shape) T.knows this.now.bytes.now this.now.pos v → option_of v ≡ None)
@@ -22,7 +22,7 @@ pub(crate) fn option_value<'a, T: Portable>(this: &Ref<'a, ArchivedOption<T>>) -
 }
 
 /// The value or the error of a result.
-pub(crate) fn result_outcome<'a, T: Portable, E: Portable>(
+pub fn result_outcome<'a, T: Portable, E: Portable>(
     this: &Ref<'a, ArchivedResult<T, E>>,
 ) -> Result<Ref<'a, T>, Ref<'a, E>>
     requires { HasValue (result_shape T.shape E.shape) (both T.knows E.knows) this.now.bytes.now this.now.pos }
@@ -34,7 +34,7 @@ pub(crate) fn result_outcome<'a, T: Portable, E: Portable>(
 }
 
 /// The value of a box.
-pub(crate) fn box_value<'a, T: Portable>(this: &Ref<'a, ArchivedBox<T>>) -> Ref<'a, T>
+pub fn box_value<'a, T: Portable>(this: &Ref<'a, ArchivedBox<T>>) -> Ref<'a, T>
     requires { HasValue (box (sized T.shape)) T.knows this.now.bytes.now this.now.pos }
     ensures { HasPart (λ v x. v ≡ x) (box (sized T.shape)) T.knows this.now.bytes.now this.now.pos T.shape T.knows result.bytes.now result.pos }
 {

@@ -1,13 +1,12 @@
 //! Results are compared: a value before an error.
-ghost use Rattle.archive_forms_ordering.specs.Orders.{result_equality, result_order, result_hashed};
-ghost use Rattle.archive_forms_ordering.proofs.Forms.{equivalences, total, agree, alike};
+ghost use Rattle.archive_forms_ordering.specs.Orders.{result_equality, result_order};
+ghost use Rattle.archive_forms_ordering.proofs.Forms.{equivalences, total, agree};
 
 use crate::parts::result_outcome;
-use crate::{ArchivedEq, ArchivedHash, ArchivedOrd};
+use crate::{ArchivedEq, ArchivedOrd};
 use archive_forms_reading::ArchivedResult;
 use archive_shape::Ref;
 use std::cmp::Ordering;
-use std::hash::Hasher;
 
 impl<T: ArchivedEq, E: ArchivedEq> ArchivedEq for ArchivedResult<T, E> {
     ghost equal = { result_equality T.equal E.equal };
@@ -40,25 +39,6 @@ impl<T: ArchivedOrd, E: ArchivedOrd> ArchivedOrd for ArchivedResult<T, E> {
             (Ok(_), Err(_)) => Ordering::Less,
             (Err(_), Ok(_)) => Ordering::Greater,
             (Err(error), Err(other)) => E::cmp(&error, &other),
-        }
-    }
-}
-
-impl<T: ArchivedHash, E: ArchivedHash> ArchivedHash for ArchivedResult<T, E> {
-    ghost hashed = { result_hashed T.hashed E.hashed };
-
-    ghost alike = { alike.results T.equal E.equal T.hashed E.hashed T.alike E.alike };
-
-    fn hash<H: Hasher>(this: &Ref<'_, ArchivedResult<T, E>>, state: &mut H) {
-        match result_outcome(this) {
-            Ok(value) => {
-                state.write_isize(0);
-                T::hash(&value, state);
-            }
-            Err(error) => {
-                state.write_isize(1);
-                E::hash(&error, state);
-            }
         }
     }
 }

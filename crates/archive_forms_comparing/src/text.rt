@@ -2,19 +2,18 @@
 ghost use Rattle.std.specs.Prelude.{⊤};
 ghost use Rattle.archive_shape_layout.specs.Shape.Shape.{text};
 ghost use Rattle.archive_forms_ordering.specs.Views.{text_of};
-ghost use Rattle.archive_forms_ordering.specs.Orders.{text_equality, text_order, text_hashed};
-ghost use Rattle.archive_forms_ordering.proofs.Forms.{equivalences, total, agree, alike};
+ghost use Rattle.archive_forms_ordering.specs.Orders.{text_equality, text_order};
+ghost use Rattle.archive_forms_ordering.proofs.Forms.{equivalences, total, agree};
 ghost use Rattle.archive_forms_reading.specs.Parts.{HasValue};
 ghost use Rattle.archive_forms_comparing.specs.Compared.{OfValue};
 
-use crate::{ArchivedEq, ArchivedHash, ArchivedOrd};
+use crate::{ArchivedEq, ArchivedOrd};
 use archive_forms_text::ArchivedString;
 use archive_shape::{Portable, Ref};
 use std::cmp::Ordering;
-use std::hash::{Hash, Hasher};
 
 /// The text that stands there.
-pub(crate) fn text_at<'a>(this: &Ref<'a, ArchivedString>) -> &'a str
+pub fn text_at<'a>(this: &Ref<'a, ArchivedString>) -> &'a str
     requires { HasValue text (λ _. ⊤) this.now.bytes.now this.now.pos }
     ensures { OfValue text (λ _. ⊤) this.now.bytes.now this.now.pos text_of result.now }
 {
@@ -40,15 +39,5 @@ impl ArchivedOrd for ArchivedString {
 
     fn cmp(this: &Ref<'_, ArchivedString>, other: &Ref<'_, ArchivedString>) -> Ordering {
         text_at(this).cmp(text_at(other))
-    }
-}
-
-impl ArchivedHash for ArchivedString {
-    ghost hashed = { text_hashed };
-
-    ghost alike = { alike.texts };
-
-    fn hash<H: Hasher>(this: &Ref<'_, ArchivedString>, state: &mut H) {
-        Hash::hash(&text_at(this), state);
     }
 }

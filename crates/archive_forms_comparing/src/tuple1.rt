@@ -1,23 +1,20 @@
-//! Tuples of one are compared, hashed and printed, field by field.
+//! Tuples of one are compared, field by field.
 ghost use Rattle.std.specs.Prelude.{◌≡◌};
 ghost use Rattle.archive_forms_checking.specs.Tuples.{tuple1};
 ghost use Rattle.archive_forms_ordering.specs.Views.{elements_of, head_of};
-ghost use Rattle.archive_forms_ordering.specs.Orders.{no_fields_equality, no_fields_order, no_fields_hashed, more_fields_equality, more_fields_order, more_fields_hashed, tuple_equality, tuple_order, tuple_hashed};
-ghost use Rattle.archive_forms_ordering.proofs.Forms.{equivalences, total, agree, alike};
+ghost use Rattle.archive_forms_ordering.specs.Orders.{no_fields_equality, no_fields_order, more_fields_equality, more_fields_order, tuple_equality, tuple_order};
+ghost use Rattle.archive_forms_ordering.proofs.Forms.{equivalences, total, agree};
 ghost use Rattle.archive_forms_reading.specs.Parts.{HasValue};
 ghost use Rattle.archive_forms_comparing.specs.Compared.{HasPart};
 
 use crate::fields::{compare_then, equal_then};
-use crate::{ArchivedDebug, ArchivedEq, ArchivedHash, ArchivedOrd};
+use crate::{ArchivedEq, ArchivedOrd};
 use archive_forms_tuples::ArchivedTuple1;
 use archive_shape::{Portable, Ref};
 use std::cmp::Ordering;
-use std::fmt;
-use std::fmt::{Formatter, Write};
-use std::hash::Hasher;
 
 /// The first field.
-fn first_of<'a, A: Portable>(this: &Ref<'a, ArchivedTuple1<A>>) -> Ref<'a, A>
+pub fn first_of<'a, A: Portable>(this: &Ref<'a, ArchivedTuple1<A>>) -> Ref<'a, A>
     requires { HasValue (tuple1 A.shape) A.knows this.now.bytes.now this.now.pos }
     ensures { HasPart (λ v x. head_of (elements_of v) ≡ x) (tuple1 A.shape) A.knows this.now.bytes.now this.now.pos A.shape A.knows result.bytes.now result.pos }
 {
@@ -43,23 +40,5 @@ impl<A: ArchivedOrd> ArchivedOrd for ArchivedTuple1<A> {
 
     fn cmp(this: &Ref<'_, ArchivedTuple1<A>>, other: &Ref<'_, ArchivedTuple1<A>>) -> Ordering {
         compare_then(Ordering::Equal, &first_of(this), &first_of(other))
-    }
-}
-
-impl<A: ArchivedHash> ArchivedHash for ArchivedTuple1<A> {
-    ghost hashed = { tuple_hashed (more_fields_hashed A.hashed no_fields_hashed) };
-
-    ghost alike = { alike.tuples _ _ (alike.more_fields A.equal _ A.hashed _ A.alike alike.no_fields) };
-
-    fn hash<H: Hasher>(this: &Ref<'_, ArchivedTuple1<A>>, state: &mut H) {
-        A::hash(&first_of(this), state);
-    }
-}
-
-impl<A: ArchivedDebug> ArchivedDebug for ArchivedTuple1<A> {
-    fn fmt<W: Write>(this: &Ref<'_, ArchivedTuple1<A>>, f: &mut Formatter<W>) -> fmt::Result {
-        f.write_str("(")?;
-        A::fmt(&first_of(this), f)?;
-        f.write_str(",)")
     }
 }

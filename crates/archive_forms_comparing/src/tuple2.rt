@@ -1,23 +1,20 @@
-//! Tuples of two are compared, hashed and printed, field by field.
+//! Tuples of two are compared, field by field.
 ghost use Rattle.std.specs.Prelude.{◌≡◌};
 ghost use Rattle.archive_forms_checking.specs.Tuples.{tuple2};
 ghost use Rattle.archive_forms_ordering.specs.Views.{elements_of, head_of, rest_of};
-ghost use Rattle.archive_forms_ordering.specs.Orders.{no_fields_equality, no_fields_order, no_fields_hashed, more_fields_equality, more_fields_order, more_fields_hashed, tuple_equality, tuple_order, tuple_hashed};
-ghost use Rattle.archive_forms_ordering.proofs.Forms.{equivalences, total, agree, alike};
+ghost use Rattle.archive_forms_ordering.specs.Orders.{no_fields_equality, no_fields_order, more_fields_equality, more_fields_order, tuple_equality, tuple_order};
+ghost use Rattle.archive_forms_ordering.proofs.Forms.{equivalences, total, agree};
 ghost use Rattle.archive_forms_reading.specs.Parts.{HasValue, both};
 ghost use Rattle.archive_forms_comparing.specs.Compared.{HasPart};
 
 use crate::fields::{compare_then, equal_then};
-use crate::{ArchivedDebug, ArchivedEq, ArchivedHash, ArchivedOrd};
+use crate::{ArchivedEq, ArchivedOrd};
 use archive_forms_tuples::ArchivedTuple2;
 use archive_shape::{Portable, Ref};
 use std::cmp::Ordering;
-use std::fmt;
-use std::fmt::{Formatter, Write};
-use std::hash::Hasher;
 
 /// The first field.
-fn first_of<'a, A: Portable, B: Portable>(this: &Ref<'a, ArchivedTuple2<A, B>>) -> Ref<'a, A>
+pub fn first_of<'a, A: Portable, B: Portable>(this: &Ref<'a, ArchivedTuple2<A, B>>) -> Ref<'a, A>
     requires { HasValue (tuple2 A.shape B.shape) (both A.knows B.knows) this.now.bytes.now this.now.pos }
     ensures { HasPart (λ v x. head_of (elements_of v) ≡ x) (tuple2 A.shape B.shape) (both A.knows B.knows) this.now.bytes.now this.now.pos A.shape A.knows result.bytes.now result.pos }
 {
@@ -25,7 +22,7 @@ fn first_of<'a, A: Portable, B: Portable>(this: &Ref<'a, ArchivedTuple2<A, B>>) 
 }
 
 /// The second field.
-fn second_of<'a, A: Portable, B: Portable>(this: &Ref<'a, ArchivedTuple2<A, B>>) -> Ref<'a, B>
+pub fn second_of<'a, A: Portable, B: Portable>(this: &Ref<'a, ArchivedTuple2<A, B>>) -> Ref<'a, B>
     requires { HasValue (tuple2 A.shape B.shape) (both A.knows B.knows) this.now.bytes.now this.now.pos }
     ensures { HasPart (λ v x. head_of (rest_of (elements_of v)) ≡ x) (tuple2 A.shape B.shape) (both A.knows B.knows) this.now.bytes.now this.now.pos B.shape B.knows result.bytes.now result.pos }
 {
@@ -56,26 +53,5 @@ impl<A: ArchivedOrd, B: ArchivedOrd> ArchivedOrd for ArchivedTuple2<A, B> {
     ) -> Ordering {
         let found = compare_then(Ordering::Equal, &first_of(this), &first_of(other));
         compare_then(found, &second_of(this), &second_of(other))
-    }
-}
-
-impl<A: ArchivedHash, B: ArchivedHash> ArchivedHash for ArchivedTuple2<A, B> {
-    ghost hashed = { tuple_hashed (more_fields_hashed A.hashed (more_fields_hashed B.hashed no_fields_hashed)) };
-
-    ghost alike = { alike.tuples _ _ (alike.more_fields A.equal _ A.hashed _ A.alike (alike.more_fields B.equal _ B.hashed _ B.alike alike.no_fields)) };
-
-    fn hash<H: Hasher>(this: &Ref<'_, ArchivedTuple2<A, B>>, state: &mut H) {
-        A::hash(&first_of(this), state);
-        B::hash(&second_of(this), state);
-    }
-}
-
-impl<A: ArchivedDebug, B: ArchivedDebug> ArchivedDebug for ArchivedTuple2<A, B> {
-    fn fmt<W: Write>(this: &Ref<'_, ArchivedTuple2<A, B>>, f: &mut Formatter<W>) -> fmt::Result {
-        f.write_str("(")?;
-        A::fmt(&first_of(this), f)?;
-        f.write_str(", ")?;
-        B::fmt(&second_of(this), f)?;
-        f.write_str(")")
     }
 }

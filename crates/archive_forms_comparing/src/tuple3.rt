@@ -1,24 +1,21 @@
-//! Tuples of three are compared, hashed and printed, field by field.
+//! Tuples of three are compared, field by field.
 ghost use Rattle.std.specs.Prelude.{◌≡◌};
 ghost use Rattle.archive_forms_checking.specs.Tuples.{tuple3};
 ghost use Rattle.archive_forms_ordering.specs.Views.{elements_of, head_of, rest_of};
-ghost use Rattle.archive_forms_ordering.specs.Orders.{no_fields_equality, no_fields_order, no_fields_hashed, more_fields_equality, more_fields_order, more_fields_hashed, tuple_equality, tuple_order, tuple_hashed};
-ghost use Rattle.archive_forms_ordering.proofs.Forms.{equivalences, total, agree, alike};
+ghost use Rattle.archive_forms_ordering.specs.Orders.{no_fields_equality, no_fields_order, more_fields_equality, more_fields_order, tuple_equality, tuple_order};
+ghost use Rattle.archive_forms_ordering.proofs.Forms.{equivalences, total, agree};
 ghost use Rattle.archive_forms_reading.specs.Parts.{HasValue};
 ghost use Rattle.archive_forms_tuples.specs.Fields.{all_three};
 ghost use Rattle.archive_forms_comparing.specs.Compared.{HasPart};
 
 use crate::fields::{compare_then, equal_then};
-use crate::{ArchivedDebug, ArchivedEq, ArchivedHash, ArchivedOrd};
+use crate::{ArchivedEq, ArchivedOrd};
 use archive_forms_tuples::ArchivedTuple3;
 use archive_shape::{Portable, Ref};
 use std::cmp::Ordering;
-use std::fmt;
-use std::fmt::{Formatter, Write};
-use std::hash::Hasher;
 
 /// The first field.
-fn first_of<'a, A: Portable, B: Portable, C: Portable>(
+pub fn first_of<'a, A: Portable, B: Portable, C: Portable>(
     this: &Ref<'a, ArchivedTuple3<A, B, C>>,
 ) -> Ref<'a, A>
     requires { HasValue (tuple3 A.shape B.shape C.shape) (all_three A.knows B.knows C.knows) this.now.bytes.now this.now.pos }
@@ -28,7 +25,7 @@ fn first_of<'a, A: Portable, B: Portable, C: Portable>(
 }
 
 /// The second field.
-fn second_of<'a, A: Portable, B: Portable, C: Portable>(
+pub fn second_of<'a, A: Portable, B: Portable, C: Portable>(
     this: &Ref<'a, ArchivedTuple3<A, B, C>>,
 ) -> Ref<'a, B>
     requires { HasValue (tuple3 A.shape B.shape C.shape) (all_three A.knows B.knows C.knows) this.now.bytes.now this.now.pos }
@@ -38,7 +35,7 @@ fn second_of<'a, A: Portable, B: Portable, C: Portable>(
 }
 
 /// The third field.
-fn third_of<'a, A: Portable, B: Portable, C: Portable>(
+pub fn third_of<'a, A: Portable, B: Portable, C: Portable>(
     this: &Ref<'a, ArchivedTuple3<A, B, C>>,
 ) -> Ref<'a, C>
     requires { HasValue (tuple3 A.shape B.shape C.shape) (all_three A.knows B.knows C.knows) this.now.bytes.now this.now.pos }
@@ -76,30 +73,5 @@ impl<A: ArchivedOrd, B: ArchivedOrd, C: ArchivedOrd> ArchivedOrd for ArchivedTup
         let found = compare_then(Ordering::Equal, &first_of(this), &first_of(other));
         let found = compare_then(found, &second_of(this), &second_of(other));
         compare_then(found, &third_of(this), &third_of(other))
-    }
-}
-
-impl<A: ArchivedHash, B: ArchivedHash, C: ArchivedHash> ArchivedHash for ArchivedTuple3<A, B, C> {
-    ghost hashed = { tuple_hashed (more_fields_hashed A.hashed (more_fields_hashed B.hashed (more_fields_hashed C.hashed no_fields_hashed))) };
-
-    ghost alike = { alike.tuples _ _ (alike.more_fields A.equal _ A.hashed _ A.alike (alike.more_fields B.equal _ B.hashed _ B.alike (alike.more_fields C.equal _ C.hashed _ C.alike alike.no_fields))) };
-
-    fn hash<H: Hasher>(this: &Ref<'_, ArchivedTuple3<A, B, C>>, state: &mut H) {
-        A::hash(&first_of(this), state);
-        B::hash(&second_of(this), state);
-        C::hash(&third_of(this), state);
-    }
-}
-
-impl<A: ArchivedDebug, B: ArchivedDebug, C: ArchivedDebug> ArchivedDebug
-    for ArchivedTuple3<A, B, C> {
-    fn fmt<W: Write>(this: &Ref<'_, ArchivedTuple3<A, B, C>>, f: &mut Formatter<W>) -> fmt::Result {
-        f.write_str("(")?;
-        A::fmt(&first_of(this), f)?;
-        f.write_str(", ")?;
-        B::fmt(&second_of(this), f)?;
-        f.write_str(", ")?;
-        C::fmt(&third_of(this), f)?;
-        f.write_str(")")
     }
 }

@@ -1,24 +1,21 @@
-//! Tuples of four are compared, hashed and printed, field by field.
+//! Tuples of four are compared, field by field.
 ghost use Rattle.std.specs.Prelude.{◌≡◌};
 ghost use Rattle.archive_forms_checking.specs.Tuples.{tuple4};
 ghost use Rattle.archive_forms_ordering.specs.Views.{elements_of, head_of, rest_of};
-ghost use Rattle.archive_forms_ordering.specs.Orders.{no_fields_equality, no_fields_order, no_fields_hashed, more_fields_equality, more_fields_order, more_fields_hashed, tuple_equality, tuple_order, tuple_hashed};
-ghost use Rattle.archive_forms_ordering.proofs.Forms.{equivalences, total, agree, alike};
+ghost use Rattle.archive_forms_ordering.specs.Orders.{no_fields_equality, no_fields_order, more_fields_equality, more_fields_order, tuple_equality, tuple_order};
+ghost use Rattle.archive_forms_ordering.proofs.Forms.{equivalences, total, agree};
 ghost use Rattle.archive_forms_reading.specs.Parts.{HasValue};
 ghost use Rattle.archive_forms_tuples.specs.Fields.{all_four};
 ghost use Rattle.archive_forms_comparing.specs.Compared.{HasPart};
 
 use crate::fields::{compare_then, equal_then};
-use crate::{ArchivedDebug, ArchivedEq, ArchivedHash, ArchivedOrd};
+use crate::{ArchivedEq, ArchivedOrd};
 use archive_forms_tuples::ArchivedTuple4;
 use archive_shape::{Portable, Ref};
 use std::cmp::Ordering;
-use std::fmt;
-use std::fmt::{Formatter, Write};
-use std::hash::Hasher;
 
 /// The first field.
-fn first_of<'a, A: Portable, B: Portable, C: Portable, D: Portable>(
+pub fn first_of<'a, A: Portable, B: Portable, C: Portable, D: Portable>(
     this: &Ref<'a, ArchivedTuple4<A, B, C, D>>,
 ) -> Ref<'a, A>
     requires { HasValue (tuple4 A.shape B.shape C.shape D.shape) (all_four A.knows B.knows C.knows D.knows) this.now.bytes.now this.now.pos }
@@ -28,7 +25,7 @@ fn first_of<'a, A: Portable, B: Portable, C: Portable, D: Portable>(
 }
 
 /// The second field.
-fn second_of<'a, A: Portable, B: Portable, C: Portable, D: Portable>(
+pub fn second_of<'a, A: Portable, B: Portable, C: Portable, D: Portable>(
     this: &Ref<'a, ArchivedTuple4<A, B, C, D>>,
 ) -> Ref<'a, B>
     requires { HasValue (tuple4 A.shape B.shape C.shape D.shape) (all_four A.knows B.knows C.knows D.knows) this.now.bytes.now this.now.pos }
@@ -38,7 +35,7 @@ fn second_of<'a, A: Portable, B: Portable, C: Portable, D: Portable>(
 }
 
 /// The third field.
-fn third_of<'a, A: Portable, B: Portable, C: Portable, D: Portable>(
+pub fn third_of<'a, A: Portable, B: Portable, C: Portable, D: Portable>(
     this: &Ref<'a, ArchivedTuple4<A, B, C, D>>,
 ) -> Ref<'a, C>
     requires { HasValue (tuple4 A.shape B.shape C.shape D.shape) (all_four A.knows B.knows C.knows D.knows) this.now.bytes.now this.now.pos }
@@ -48,7 +45,7 @@ fn third_of<'a, A: Portable, B: Portable, C: Portable, D: Portable>(
 }
 
 /// The fourth field.
-fn fourth_of<'a, A: Portable, B: Portable, C: Portable, D: Portable>(
+pub fn fourth_of<'a, A: Portable, B: Portable, C: Portable, D: Portable>(
     this: &Ref<'a, ArchivedTuple4<A, B, C, D>>,
 ) -> Ref<'a, D>
     requires { HasValue (tuple4 A.shape B.shape C.shape D.shape) (all_four A.knows B.knows C.knows D.knows) this.now.bytes.now this.now.pos }
@@ -90,37 +87,5 @@ impl<A: ArchivedOrd, B: ArchivedOrd, C: ArchivedOrd, D: ArchivedOrd> ArchivedOrd
         let found = compare_then(found, &second_of(this), &second_of(other));
         let found = compare_then(found, &third_of(this), &third_of(other));
         compare_then(found, &fourth_of(this), &fourth_of(other))
-    }
-}
-
-impl<A: ArchivedHash, B: ArchivedHash, C: ArchivedHash, D: ArchivedHash> ArchivedHash
-    for ArchivedTuple4<A, B, C, D> {
-    ghost hashed = { tuple_hashed (more_fields_hashed A.hashed (more_fields_hashed B.hashed (more_fields_hashed C.hashed (more_fields_hashed D.hashed no_fields_hashed)))) };
-
-    ghost alike = { alike.tuples _ _ (alike.more_fields A.equal _ A.hashed _ A.alike (alike.more_fields B.equal _ B.hashed _ B.alike (alike.more_fields C.equal _ C.hashed _ C.alike (alike.more_fields D.equal _ D.hashed _ D.alike alike.no_fields)))) };
-
-    fn hash<H: Hasher>(this: &Ref<'_, ArchivedTuple4<A, B, C, D>>, state: &mut H) {
-        A::hash(&first_of(this), state);
-        B::hash(&second_of(this), state);
-        C::hash(&third_of(this), state);
-        D::hash(&fourth_of(this), state);
-    }
-}
-
-impl<A: ArchivedDebug, B: ArchivedDebug, C: ArchivedDebug, D: ArchivedDebug> ArchivedDebug
-    for ArchivedTuple4<A, B, C, D> {
-    fn fmt<W: Write>(
-        this: &Ref<'_, ArchivedTuple4<A, B, C, D>>,
-        f: &mut Formatter<W>,
-    ) -> fmt::Result {
-        f.write_str("(")?;
-        A::fmt(&first_of(this), f)?;
-        f.write_str(", ")?;
-        B::fmt(&second_of(this), f)?;
-        f.write_str(", ")?;
-        C::fmt(&third_of(this), f)?;
-        f.write_str(", ")?;
-        D::fmt(&fourth_of(this), f)?;
-        f.write_str(")")
     }
 }

@@ -1,11 +1,10 @@
 //! Values without bytes are all equal.
-ghost use Rattle.archive_forms_ordering.specs.Orders.{unit_equality, unit_order, unit_hashed};
-ghost use Rattle.archive_forms_ordering.proofs.Forms.{equivalences, total, agree, alike};
+ghost use Rattle.archive_forms_ordering.specs.Orders.{unit_equality, unit_order};
+ghost use Rattle.archive_forms_ordering.proofs.Forms.{equivalences, total, agree};
 
-use crate::{ArchivedEq, ArchivedHash, ArchivedOrd};
+use crate::{ArchivedEq, ArchivedOrd};
 use archive_shape::Ref;
 use std::cmp::Ordering;
-use std::hash::Hasher;
 use std::marker::PhantomData;
 
 impl ArchivedEq for () {
@@ -50,20 +49,4 @@ impl<T> ArchivedOrd for PhantomData<T> {
     fn cmp(_this: &Ref<'_, PhantomData<T>>, _other: &Ref<'_, PhantomData<T>>) -> Ordering {
         Ordering::Equal
     }
-}
-
-impl ArchivedHash for () {
-    ghost hashed = { unit_hashed };
-
-    ghost alike = { alike.units };
-
-    fn hash<H: Hasher>(_this: &Ref<'_, ()>, _state: &mut H) {}
-}
-
-impl<T> ArchivedHash for PhantomData<T> {
-    ghost hashed = { unit_hashed };
-
-    ghost alike = { alike.units };
-
-    fn hash<H: Hasher>(_this: &Ref<'_, PhantomData<T>>, _state: &mut H) {}
 }

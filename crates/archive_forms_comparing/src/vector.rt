@@ -1,22 +1,20 @@
 //! Vectors are compared: the first elements that are not equal decide, and else the lengths do.
 ghost use Rattle.std.specs.Prelude.{◌≡◌, ◌<◌};
-ghost use Rattle.std.specs.List.{fold};
 ghost use Rattle.archive_shape_layout.specs.Shape.Shape.{vector};
 ghost use Rattle.archive_shape_layout.specs.Value.{Value};
 ghost use Rattle.archive_shape.specs.Key.{HeldAt};
-ghost use Rattle.archive_forms_ordering.specs.Orders.{vector_equality, vector_order, vector_hashed};
-ghost use Rattle.archive_forms_ordering.proofs.Forms.{equivalences, total, agree, alike};
+ghost use Rattle.archive_forms_ordering.specs.Orders.{vector_equality, vector_order};
+ghost use Rattle.archive_forms_ordering.proofs.Forms.{equivalences, total, agree};
 ghost use Rattle.archive_forms_reading.specs.Parts.{HasValue, HasElements, AreElements};
 ghost use Rattle.archive_forms_comparing.specs.Compared.{OfElements, IsElement};
 
-use crate::{ArchivedEq, ArchivedHash, ArchivedOrd};
+use crate::{ArchivedEq, ArchivedOrd};
 use archive_forms_reading::{ArchivedVec, SliceRef};
 use archive_shape::{Portable, Ref};
 use std::cmp::Ordering;
-use std::hash::Hasher;
 
 /// The elements of a vector.
-pub(crate) fn elements<'a, T: Portable>(this: &Ref<'a, ArchivedVec<T>>) -> SliceRef<'a, T>
+pub fn vector_elements<'a, T: Portable>(this: &Ref<'a, ArchivedVec<T>>) -> SliceRef<'a, T>
     requires { HasValue (vector T.shape) T.knows this.now.bytes.now this.now.pos }
     ensures there { HasElements T.shape T.knows result.bytes.now result.pos result.len }
     ensures elements { (v : Value) → HeldAt (vector T.shape) T.knows this.now.bytes.now this.now.pos v → AreElements T.shape T.knows result.bytes.now result.pos result.len v }
@@ -25,7 +23,7 @@ pub(crate) fn elements<'a, T: Portable>(this: &Ref<'a, ArchivedVec<T>>) -> Slice
 }
 
 /// The element at an index.
-pub(crate) fn element<'a, T: Portable>(elements: &SliceRef<'a, T>, index: usize) -> Ref<'a, T>
+pub fn element<'a, T: Portable>(elements: &SliceRef<'a, T>, index: usize) -> Ref<'a, T>
     requires there { HasElements T.shape T.knows elements.now.bytes.now elements.now.pos elements.now.len }
     requires within { index < elements.now.len }
     ensures { IsElement T.shape T.knows elements.now.bytes.now elements.now.pos elements.now.len index result.bytes.now result.pos }
@@ -34,7 +32,10 @@ pub(crate) fn element<'a, T: Portable>(elements: &SliceRef<'a, T>, index: usize)
 }
 
 /// Whether the elements are equal one by one, and as many.
-fn equal_elements<T: ArchivedEq>(these: &SliceRef<'_, T>, others: &SliceRef<'_, T>) -> bool
+pub(crate) fn equal_elements<T: ArchivedEq>(
+    these: &SliceRef<'_, T>,
+    others: &SliceRef<'_, T>,
+) -> bool
     requires these { HasElements T.shape T.knows these.now.bytes.now these.now.pos these.now.len }
     requires others { HasElements T.shape T.knows others.now.bytes.now others.now.pos others.now.len }
     ensures { OfElements T.shape T.knows these.now.bytes.now these.now.pos these.now.len
@@ -52,7 +53,10 @@ fn equal_elements<T: ArchivedEq>(these: &SliceRef<'_, T>, others: &SliceRef<'_, 
 }
 
 /// How the elements stand to the others.
-fn compare_elements<T: ArchivedOrd>(these: &SliceRef<'_, T>, others: &SliceRef<'_, T>) -> Ordering
+pub(crate) fn compare_elements<T: ArchivedOrd>(
+    these: &SliceRef<'_, T>,
+    others: &SliceRef<'_, T>,
+) -> Ordering
     requires these { HasElements T.shape T.knows these.now.bytes.now these.now.pos these.now.len }
     requires others { HasElements T.shape T.knows others.now.bytes.now others.now.pos others.now.len }
     ensures { OfElements T.shape T.knows these.now.bytes.now these.now.pos these.now.len
@@ -67,24 +71,13 @@ fn compare_elements<T: ArchivedOrd>(these: &SliceRef<'_, T>, others: &SliceRef<'
     these.len().cmp(&others.len())
 }
 
-/// Writes the number of the elements, and then each.
-fn hash_elements<T: ArchivedHash, H: Hasher>(elements: &SliceRef<'_, T>, state: &mut H)
-    requires { HasElements T.shape T.knows elements.now.bytes.now elements.now.pos elements.now.len }
-    ensures { (v : Value) → AreElements T.shape T.knows elements.now.bytes.now elements.now.pos elements.now.len v → state.new ≡ fold H.write state.old (vector_hashed T.hashed v) }
-{
-    state.write_usize(elements.len());
-    for index in 0..elements.len() {
-        T::hash(&element(elements, index), state);
-    }
-}
-
 impl<T: ArchivedEq> ArchivedEq for ArchivedVec<T> {
     ghost equal = { vector_equality T.equal };
 
     ghost is_equivalence = { equivalences.vectors T.equal T.is_equivalence };
 
     fn eq(this: &Ref<'_, ArchivedVec<T>>, other: &Ref<'_, ArchivedVec<T>>) -> bool {
-        equal_elements(&elements(this), &elements(other))
+        equal_elements(&vector_elements(this), &vector_elements(other))
     }
 }
 
@@ -96,16 +89,6 @@ impl<T: ArchivedOrd> ArchivedOrd for ArchivedVec<T> {
     ghost agrees = { agree.vectors T.equal T.order T.agrees };
 
     fn cmp(this: &Ref<'_, ArchivedVec<T>>, other: &Ref<'_, ArchivedVec<T>>) -> Ordering {
-        compare_elements(&elements(this), &elements(other))
-    }
-}
-
-impl<T: ArchivedHash> ArchivedHash for ArchivedVec<T> {
-    ghost hashed = { vector_hashed T.hashed };
-
-    ghost alike = { alike.vectors T.equal T.hashed T.alike };
-
-    fn hash<H: Hasher>(this: &Ref<'_, ArchivedVec<T>>, state: &mut H) {
-        hash_elements(&elements(this), state);
+        compare_elements(&vector_elements(this), &vector_elements(other))
     }
 }

@@ -1,0 +1,49 @@
+//! Boxes of slices are compared as vectors of their elements are.
+ghost use Rattle.archive_shape_layout.specs.Shape.Shape.{box};
+ghost use Rattle.archive_shape_layout.specs.Shape.Pointee.{slice};
+ghost use Rattle.archive_shape_layout.specs.Value.{Value};
+ghost use Rattle.archive_shape.specs.Key.{HeldAt};
+ghost use Rattle.archive_forms_ordering.specs.Orders.{vector_equality, vector_order};
+ghost use Rattle.archive_forms_ordering.proofs.Forms.{equivalences, total, agree};
+ghost use Rattle.archive_forms_reading.specs.Parts.{HasValue, HasElements, AreElements};
+
+use crate::vector::{compare_elements, equal_elements};
+use crate::{ArchivedEq, ArchivedOrd};
+use archive_forms_boxed::ArchivedBoxedSlice;
+use archive_forms_reading::SliceRef;
+use archive_shape::{Portable, Ref};
+use std::cmp::Ordering;
+
+/// The elements of the box of a slice.
+pub fn boxed_elements<'a, T: Portable>(this: &Ref<'a, ArchivedBoxedSlice<T>>) -> SliceRef<'a, T>
+    requires { HasValue (box (slice T.shape)) T.knows this.now.bytes.now this.now.pos }
+    ensures there { HasElements T.shape T.knows result.bytes.now result.pos result.len }
+    ensures elements { (v : Value) → HeldAt (box (slice T.shape)) T.knows this.now.bytes.now this.now.pos v → AreElements T.shape T.knows result.bytes.now result.pos result.len v }
+{
+    ArchivedBoxedSlice::get(*this)
+}
+
+impl<T: ArchivedEq> ArchivedEq for ArchivedBoxedSlice<T> {
+    ghost equal = { vector_equality T.equal };
+
+    ghost is_equivalence = { equivalences.vectors T.equal T.is_equivalence };
+
+    fn eq(this: &Ref<'_, ArchivedBoxedSlice<T>>, other: &Ref<'_, ArchivedBoxedSlice<T>>) -> bool {
+        equal_elements(&boxed_elements(this), &boxed_elements(other))
+    }
+}
+
+impl<T: ArchivedOrd> ArchivedOrd for ArchivedBoxedSlice<T> {
+    ghost order = { vector_order T.order };
+
+    ghost is_total = { total.vectors T.order T.is_total };
+
+    ghost agrees = { agree.vectors T.equal T.order T.agrees };
+
+    fn cmp(
+        this: &Ref<'_, ArchivedBoxedSlice<T>>,
+        other: &Ref<'_, ArchivedBoxedSlice<T>>,
+    ) -> Ordering {
+        compare_elements(&boxed_elements(this), &boxed_elements(other))
+    }
+}

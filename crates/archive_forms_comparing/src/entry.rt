@@ -1,0 +1,44 @@
+//! Entries are compared as the tuples of their key and their value.
+ghost use Rattle.std.specs.Prelude.{◌≡◌};
+ghost use Rattle.archive_forms_checking.specs.Tuples.{tuple2};
+ghost use Rattle.archive_forms_ordering.specs.Orders.{no_fields_equality, no_fields_order, more_fields_equality, more_fields_order, tuple_equality, tuple_order};
+ghost use Rattle.archive_forms_ordering.proofs.Forms.{equivalences, total, agree};
+ghost use Rattle.archive_forms_reading.specs.Parts.{HasValue, both};
+ghost use Rattle.archive_forms_comparing.specs.Compared.{HasPart};
+
+use crate::{ArchivedEq, ArchivedOrd};
+use archive_forms_tuples::{ArchivedTuple2, Entry};
+use archive_shape::{Portable, Ref};
+use std::cmp::Ordering;
+
+/// The entry as a tuple, which stands at the same place.
+pub fn tuple_of<'a, K: Portable, V: Portable>(
+    this: &Ref<'a, Entry<K, V>>,
+) -> Ref<'a, ArchivedTuple2<K, V>>
+    requires { HasValue (tuple2 K.shape V.shape) (both K.knows V.knows) this.now.bytes.now this.now.pos }
+    ensures { HasPart (λ v x. v ≡ x) (tuple2 K.shape V.shape) (both K.knows V.knows) this.now.bytes.now this.now.pos (tuple2 K.shape V.shape) (both K.knows V.knows) result.bytes.now result.pos }
+{
+    Ref::new(this.bytes, this.pos)
+}
+
+impl<K: ArchivedEq, V: ArchivedEq> ArchivedEq for Entry<K, V> {
+    ghost equal = { tuple_equality (more_fields_equality K.equal (more_fields_equality V.equal no_fields_equality)) };
+
+    ghost is_equivalence = { equivalences.tuples _ (equivalences.more_fields K.equal _ K.is_equivalence (equivalences.more_fields V.equal _ V.is_equivalence equivalences.no_fields)) };
+
+    fn eq(this: &Ref<'_, Entry<K, V>>, other: &Ref<'_, Entry<K, V>>) -> bool {
+        ArchivedEq::eq(&tuple_of(this), &tuple_of(other))
+    }
+}
+
+impl<K: ArchivedOrd, V: ArchivedOrd> ArchivedOrd for Entry<K, V> {
+    ghost order = { tuple_order (more_fields_order K.order (more_fields_order V.order no_fields_order)) };
+
+    ghost is_total = { total.tuples _ (total.more_fields K.order _ K.is_total (total.more_fields V.order _ V.is_total total.no_fields)) };
+
+    ghost agrees = { agree.tuples (more_fields_equality K.equal (more_fields_equality V.equal no_fields_equality)) (more_fields_order K.order (more_fields_order V.order no_fields_order)) (agree.more_fields K.equal (more_fields_equality V.equal no_fields_equality) K.order (more_fields_order V.order no_fields_order) K.agrees (agree.more_fields V.equal no_fields_equality V.order no_fields_order V.agrees agree.no_fields)) };
+
+    fn cmp(this: &Ref<'_, Entry<K, V>>, other: &Ref<'_, Entry<K, V>>) -> Ordering {
+        ArchivedOrd::cmp(&tuple_of(this), &tuple_of(other))
+    }
+}
