@@ -9,7 +9,7 @@ ghost use Rattle.archive_forms_writing.specs.Steps.{StepTakes, StepWrites};
 ghost use Rattle.archive_forms_collections.specs.Entries.{entry_spelling};
 
 use archive_forms_tuples::Entry;
-use archive_forms_writing::{Archive, Serialize, resolve_field};
+use archive_forms_writing::{Archive, Serialize, resolve_field, serialize_element};
 use archive_shape::{Allocator, Error, Place, Portable, Writer};
 use std::marker::PhantomData;
 
@@ -121,22 +121,12 @@ impl<'a, S: Writer + Allocator, K: Serialize<S>, V: Serialize<S>> Serialize<S>
                 requires room { S.failures s.old < 2 ^ 64 - 1 }
                 requires state { HasState S.pos S.known s.old }
                 ensures { SerializesBy (λ q. q.0) K.spelling S.Writer key.now s.old s.new result }
-            {
-                match key.serialize(s) {
-                    Ok(resolver) => Ok((resolver, PhantomData)),
-                    Err(e) => Err(e),
-                }
-            },
+            { serialize_element(key, s) },
             |value: &V, s: &mut S| -> Result<(V::Resolver, PhantomData<V::Archived>), Error>
                 requires room { S.failures s.old < 2 ^ 64 - 1 }
                 requires state { HasState S.pos S.known s.old }
                 ensures { SerializesBy (λ q. q.0) V.spelling S.Writer value.now s.old s.new result }
-            {
-                match value.serialize(s) {
-                    Ok(resolver) => Ok((resolver, PhantomData)),
-                    Err(e) => Err(e),
-                }
-            },
+            { serialize_element(value, s) },
         )
     }
 }

@@ -5,7 +5,7 @@ ghost use Rattle.archive_forms_spelling.specs.Serializing.{CanResolve, HasState,
 ghost use Rattle.archive_forms_collections.specs.Elements.{elements_spelling};
 
 use archive_forms_reading::{ArchivedVec, VecResolver};
-use archive_forms_writing::{Archive, Serialize, serialize_slice_each};
+use archive_forms_writing::{Archive, Serialize, serialize_element, serialize_slice_each};
 use archive_shape::{Allocator, Error, Place, Writer};
 use std::marker::PhantomData;
 
@@ -25,12 +25,7 @@ pub fn serialize_from_slice<S: Writer + Allocator, T: Serialize<S>>(
             requires room { S.failures s.old < 2 ^ 64 - 1 }
             requires state { HasState S.pos S.known s.old }
             ensures { SerializesBy (λ q. q.0) T.spelling S.Writer item.now s.old s.new result }
-        {
-            match item.serialize(s) {
-                Ok(resolver) => Ok((resolver, PhantomData)),
-                Err(e) => Err(e),
-            }
-        },
+        { serialize_element(item, s) },
     );
     match written {
         Ok(pos) => Ok(VecResolver { pos }),

@@ -15,7 +15,7 @@ use crate::{ArchiveUnsized, SerializeUnsized};
 use archive_forms_boxed::{ArchivedBoxedSlice, ArchivedBoxedStr};
 use archive_forms_reading::{ArchivedBox, BoxResolver};
 use archive_forms_writing::{
-    Archive, Serialize, serialize_one_each, serialize_slice_each, serialize_str,
+    Archive, Serialize, serialize_element, serialize_one_each, serialize_slice_each, serialize_str,
 };
 use archive_shape::{Allocator, Error, Place, Slice, Str, Writer};
 use std::marker::PhantomData;
@@ -59,12 +59,7 @@ impl<'a, S: Writer + Allocator, T: Serialize<S>> SerializeUnsized<S> for &'a T {
                 requires room { S.failures s.old < 2 ^ 64 - 1 }
                 requires state { HasState S.pos S.known s.old }
                 ensures { SerializesBy (λ q. q.0) T.spelling S.Writer item.now s.old s.new result }
-            {
-                match item.serialize(s) {
-                    Ok(resolver) => Ok((resolver, PhantomData)),
-                    Err(e) => Err(e),
-                }
-            },
+            { serialize_element(item, s) },
         )
     }
 }
@@ -112,12 +107,7 @@ impl<'a, S: Writer + Allocator, T: Serialize<S>> SerializeUnsized<S> for &'a [T]
                 requires room { S.failures s.old < 2 ^ 64 - 1 }
                 requires state { HasState S.pos S.known s.old }
                 ensures { SerializesBy (λ q. q.0) T.spelling S.Writer item.now s.old s.new result }
-            {
-                match item.serialize(s) {
-                    Ok(resolver) => Ok((resolver, PhantomData)),
-                    Err(e) => Err(e),
-                }
-            },
+            { serialize_element(item, s) },
         )
     }
 }

@@ -13,7 +13,8 @@ use Rattle.archive_forms_spelling.specs.Regions.{resolvers, pieces, state_after_
 use Rattle.archive_forms_spelling.specs.Arrays.{array_own, array_own_fits, array_own_refused}
 use Rattle.archive_forms_spelling.specs.Serializing.{CanResolve, IsAt, progress_by, is_begun}
 use Rattle.archive_forms_spelling.proofs.Regions.{state_after_all_pos, state_after_all_begun}
-use Rattle.archive_forms_writing.proofs.Joining.{overwrites_joined, still_zero, unfilled}
+use Rattle.archive_forms_reading.proofs.Joined.{overwrites_joined}
+use Rattle.archive_forms_writing.proofs.Joining.{still_zero, unfilled}
 
 -- ---- a list that is filled from the front
 

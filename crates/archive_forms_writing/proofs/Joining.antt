@@ -7,25 +7,7 @@ use Rattle.archive_shape_references.specs.Bytes.{HasBytes, zeros, overwrite}
 use Rattle.archive_shape_references.proofs.Written.{length-overwrite, window_there, window_behind}
 use Rattle.archive_shape_references.proofs.Pieces.{stands_left, stands_right}
 use Rattle.archive_forms_spelling.specs.Options.{tagged_bytes}
-
--- a piece that is written behind another is written with it
-pub overwrites_joined : (bytes : List ℕ) (at n : ℕ) (a m : List ℕ) → n ≡ length a → at + (length a + length m) ≤ length bytes
-    → overwrite (overwrite bytes at a) (at + n) m ≡ overwrite bytes at (a ++ m)
-overwrites_joined bytes at n a m e h =
-    let front = take at bytes ++ a in
-    let rest = drop (at + length a) bytes in
-    let split : overwrite bytes at a ≡ front ++ rest = sym (append_assoc (take at bytes) a rest) in
-    let size : length front ≡ at + n = omega (arith, length-append (take at bytes) a, length-take at bytes) in
-    let first : take (at + n) (overwrite bytes at a) ≡ front = ap (take (at + n)) split ∙ ap (λ k. take k (front ++ rest)) (sym size) ∙ take-append_seam front rest in
-    let last : drop (at + n + length m) (overwrite bytes at a) ≡ drop (at + length (a ++ m)) bytes =
-    sym (drop-drop (length m) (at + n) (overwrite bytes at a))
-    ∙ ap (drop (length m)) (ap (drop (at + n)) split ∙ drop_at front rest (at + n) size)
-    ∙ drop-drop (length m) (at + length a) bytes
-    ∙ ap (λ k. drop k bytes) (omega (arith, length-append a m)) in
-    ap (λ l. l ++ (m ++ drop (at + n + length m) (overwrite bytes at a))) first
-    ∙ ap (λ l. front ++ (m ++ l)) last
-    ∙ append_assoc (take at bytes) a (m ++ drop (at + length (a ++ m)) bytes)
-    ∙ ap (λ l. take at bytes ++ l) (sym (append_assoc a m (drop (at + length (a ++ m)) bytes)))
+use Rattle.archive_forms_reading.proofs.Joined.{overwrites_joined}
 
 -- ---- bytes that are written over zeros
 

@@ -1,5 +1,6 @@
 pub mod Arrays
 pub mod Batches
+pub mod Behind
 pub mod Joining
 pub mod Laying
 pub mod Loops

@@ -1,6 +1,6 @@
 -- A region of elements that is written behind their data.
-use Rattle.std.proofs.Common.{◌≡◌, ℕ, ◌+◌, ◌-◌, ◌^◌, ◌≤◌, ◌<◌, List, [], ◌∷◌, ◌++◌, refl, sym, ap, subst, ◌∙◌, arith, length, append-nil, append_assoc, inl, inr}
-use Rattle.std.specs.Prelude.{⊤}
+use Rattle.std.proofs.Common.{◌≡◌, ℕ, ◌+◌, ◌-◌, ◌^◌, ◌≤◌, ◌<◌, List, [], ◌∷◌, ◌++◌, refl, sym, ap, subst, ◌∙◌, arith, length, append-nil, append_assoc, inl, inr, Ok, Err, ◌⊎◌}
+use Rattle.std.specs.Prelude.{⊤, Result}
 use Rattle.std.proofs.lemmas.List.{length-replicate}
 use Rattle.archive_shape_layout.specs.Bytes.{align_up}
 use Rattle.archive_shape_layout.specs.Shape.{Shape, align_of}
@@ -13,9 +13,10 @@ use Rattle.archive_shape_writing.specs.declared.error.Error.TheVariants.{Positio
 use Rattle.archive_forms_spelling.specs.State.{State, advanced}
 use Rattle.archive_forms_spelling.specs.Spelling.{Spelling, state_after}
 use Rattle.archive_forms_spelling.specs.Regions.{state_after_all, pieces, owns, pieces_fit, pieces_refused, placed_fits, placed_refused, owns_fit, owns_refused, region_at, region_piece, region_fits, region_refused}
-use Rattle.archive_forms_spelling.specs.Serializing.{IsAt, is_begun, progress_by}
+use Rattle.archive_forms_spelling.specs.Serializing.{IsAt, Lays, is_begun, progress_by}
 use Rattle.archive_forms_spelling.specs.State.{visit_of_key}
 use Rattle.archive_forms_spelling.proofs.Regions.{state_after_all_begun}
+use Rattle.archive_forms_writing.specs.Behind.{LaysBehind}
 use Rattle.archive_forms_writing.proofs.Laying.{Wrote, Fails, Stops, wrote_both, stopped_after, stopped_first, stopped_before}
 
 module _ {A R W : Type 0} (w : Spelling A R) (sh : Shape) (s : WriterMembers W) (xs : List A) (old : W) (st : State) where
@@ -113,6 +114,34 @@ module _ {A R W : Type 0} (w : Spelling A R) (sh : Shape) (s : WriterMembers W) 
         fits = (f, small, subst O at o);
         is_at = record { stands = wrote.moves ∙ ap (λ p. p + length (region_piece w sh xs st)) from; knows = λ key. g.keeps key ∙ h.known key };
       }
+
+-- ---- own bytes that were written behind all data
+
+module _ {A R W : Type 0} (w : Spelling A R) (sh : Shape) (s : WriterMembers W) (xs : List A) (old : W) (st : State) where
+  pub region_behind : (mid new : W) (result : Result ℕ Error) → s.pos old ≡ st.pos → Filled w sh s xs old st mid → pieces_fit w xs st
+      → LaysBehind sh w s xs st mid new (s.pos mid) result
+      → Lays s old new (region_piece w sh xs st) (λ to. (to ≡ region_at w sh xs st) × region_fits w sh xs st × IsAt s.pos s.known new (advanced (length (region_piece w sh xs st)) (state_after_all w xs st).met st))
+      (region_refused w sh xs st) result
+  region_behind mid new (Ok to) from h f g =
+      let P : ℕ → Type 0 = λ n. LaysBehind sh w s xs st mid new n (Ok to) in
+      let done = subst P h.is_at.stands g in
+      let wrote : Wrote s old new (region_piece w sh xs st) = wrote_both s (region_piece w sh xs st) refl h.wrote done.0 in
+      let begun = state_after_all_begun (first_fit (λ _. 0)) sh (λ _. ⊤) w xs st in (
+        wrote,
+        (
+          done.1.0,
+          (f, done.1.1, done.1.2),
+          record {
+            stands = wrote.moves ∙ ap (λ p. p + length (region_piece w sh xs st)) from;
+            knows = λ key. done.0.keeps key ∙ h.is_at.knows key ∙ ap (λ b. progress_by (visit_of_key (state_after_all w xs st).met key) (is_begun b key)) begun;
+          },
+        ),
+      )
+  region_behind mid new (Err e) from h f g =
+      let t = region_at w sh xs st in
+      let P : ℕ → Type 0 = λ n. LaysBehind sh w s xs st mid new n (Err e) in
+      let refused : Error → Type 0 = λ d. ((2 ^ 32 ≤ t) × (d ≡ PositionTooLarge)) ⊎ owns_refused w sh xs st t d in
+      stopped_after s (region_piece w sh xs st) refused (region_refused w sh xs st) refl (λ r. inr r) h.wrote (subst P h.is_at.stands g)
 
 -- ---- one element
 

@@ -10,13 +10,12 @@ ghost use Rattle.archive_forms_spelling.specs.Serializing.{CanResolve, HasState,
 ghost use Rattle.archive_forms_spelling.proofs.Arrays.{array_spells};
 ghost use Rattle.archive_forms_writing.specs.Steps.{StepTakes, StepWrites};
 
-use crate::elements::serialize_element;
-use crate::{Archive, Serialize};
+use crate::{Archive, Serialize, serialize_element};
 use archive_shape::{Allocator, Error, Place, Portable, Writer};
 use std::marker::PhantomData;
 
 /// Writes the own bytes of a value, whose data was written, at `start` of `out`, which is zero there.
-fn resolve_within<T: Archive>(
+fn resolve_element<T: Archive>(
     value: &T,
     resolver: T::Resolver,
     start: usize,
@@ -50,7 +49,7 @@ fn resolve_elements<T: Archive>(
     let size = T::Archived::SIZE;
     let mut offset = 0;
     for (i, item) in items.iter().enumerate() {
-        if let Err(e) = resolve_within(item, kept[i], start + offset, pos + offset, out) {
+        if let Err(e) = resolve_element(item, kept[i], start + offset, pos + offset, out) {
             return Err(e);
         }
         offset += size;

@@ -9,8 +9,7 @@ ghost use Rattle.archive_forms_spelling.proofs.Views.{kept_spells, seen_spells};
 ghost use Rattle.archive_forms_writing.specs.Owned.{boxed_spelling};
 ghost use Rattle.archive_forms_writing.specs.Steps.{StepTakes, StepWrites};
 
-use crate::elements::serialize_element;
-use crate::{Archive, Serialize, serialize_one_each};
+use crate::{Archive, Serialize, serialize_element, serialize_one_each};
 use archive_forms_reading::{ArchivedBox, BoxResolver};
 use archive_shape::{Allocator, Error, Place, Writer};
 use std::marker::PhantomData;

@@ -13,8 +13,7 @@ ghost use Rattle.archive_forms_spelling.proofs.Views.{kept_spells, seen_spells};
 ghost use Rattle.archive_forms_writing.specs.Owned.{boxed_slice_spelling, boxed_str_spelling};
 ghost use Rattle.archive_forms_writing.specs.Steps.{StepTakes, StepWrites};
 
-use crate::elements::serialize_element;
-use crate::{Archive, Serialize, serialize_slice_each};
+use crate::{Archive, Serialize, serialize_element, serialize_slice_each};
 use archive_forms_boxed::{ArchivedBoxedSlice, ArchivedBoxedStr};
 use archive_forms_reading::BoxResolver;
 use archive_shape::{Allocator, Error, Place, Writer};

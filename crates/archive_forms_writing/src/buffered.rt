@@ -32,7 +32,7 @@ fn resolve_at<T: Archive>(
 }
 
 /// The same at a position that may be too large.
-fn resolve_within<T: Archive>(
+fn checked_resolve_at<T: Archive>(
     value: &T,
     resolver: T::Resolver,
     pos: usize,
@@ -126,7 +126,7 @@ pub(crate) fn resolve_through<T: Archive, W: Writer>(
             }
             filled = 0;
         }
-        if let Err(e) = resolve_within(item, kept[i], writer.pos(), buffer, filled) {
+        if let Err(e) = checked_resolve_at(item, kept[i], writer.pos(), buffer, filled) {
             return Err(e);
         }
         filled += size;

@@ -4,13 +4,12 @@ ghost use Rattle.archive_forms_spelling.specs.Pointers.{box_spelling};
 ghost use Rattle.archive_forms_spelling.specs.Serializing.{HasState, Serializes, SerializesBy};
 ghost use Rattle.archive_forms_writing.specs.Root.{MakesArchive};
 
-use crate::elements::serialize_element;
-use crate::{Serialize, serialize_one_each};
+use crate::{Serialize, serialize_element, serialize_one_each};
 use archive_shape::{Allocator, Error, Writer};
 use std::marker::PhantomData;
 
 /// Writes a value behind its data, as the root that ends an archive. The answer is its position.
-pub fn to_bytes_in<T: Serialize<S>, S: Writer + Allocator>(
+pub fn serialize_using<T: Serialize<S>, S: Writer + Allocator>(
     value: &T,
     serializer: &mut S,
 ) -> Result<usize, Error>

@@ -1,9 +1,10 @@
 //! Elements that are written behind their data.
-ghost use Rattle.std.specs.Prelude.{◌≡◌, ◌+◌, ◌-◌, ◌^◌, ◌<◌, ◌≤◌, length, [], ◌∷◌};
+ghost use Rattle.std.specs.Prelude.{◌≡◌, ◌+◌, ◌-◌, ◌^◌, ◌<◌, ◌≤◌, length, take, [], ◌∷◌};
 ghost use Rattle.archive_forms_spelling.specs.State.{State};
 ghost use Rattle.archive_forms_spelling.specs.Serializing.{IsAt, HasState, Lays, Serializes, SerializesBy};
 ghost use Rattle.archive_forms_spelling.specs.Regions.{state_after_all, pieces, resolvers, owns, pieces_fit, pieces_refused, owns_fit, owns_refused};
 ghost use Rattle.archive_forms_spelling.specs.Pointers.{slice_spelling, box_spelling};
+ghost use Rattle.archive_forms_writing.specs.Behind.{LaysBehind};
 ghost use Rattle.archive_forms_writing.specs.Steps.{StepTakes, StepWrites};
 
 use crate::buffered::{are_few, resolve_at_once, resolve_through};
@@ -17,9 +18,15 @@ const LAST_POSITION: usize = u32::MAX as usize;
 /// How many bytes of elements are written at once.
 const BUFFER: usize = 256;
 
+/// How many resolvers are kept in an array, for which no memory is taken.
+const FEW: usize = 16;
+
+/// How many bytes an option of a resolver has at most that is kept in an array.
+const SMALL: usize = 32;
+
 /// The step of elements that can be archived by the serializer. A step's answer names the archived form, since a closure over
 /// `T` can be passed on only where its type does.
-pub(crate) fn serialize_element<T: Serialize<S>, S: Writer + Allocator>(
+pub fn serialize_element<T: Serialize<S>, S: Writer + Allocator>(
     item: &T,
     serializer: &mut S,
 ) -> Result<(T::Resolver, PhantomData<T::Archived>), Error>
@@ -63,6 +70,37 @@ fn serialize_data_each<
     Ok(all)
 }
 
+/// Writes the data of each of few items by a step. Their resolvers are the first ones of the answer.
+fn serialize_few_each<
+    T: Archive,
+    S: Writer + Allocator,
+    F: Fn(&T, &mut S) -> Result<(T::Resolver, PhantomData<T::Archived>), Error>,
+>(items: &[T], serializer: &mut S, step: F) -> Result<[T::Resolver; FEW], Error>
+    requires some { 0 < length items.now }
+    requires few { length items.now ≤ FEW }
+    requires room { S.failures serializer.old < 2 ^ 64 - 1 }
+    requires state { HasState S.pos S.known serializer.old }
+    requires takes { StepTakes F.Fn S.Writer step items.now }
+    requires writes { StepWrites F.Fn (λ q. q.0) T.spelling S.Writer step }
+    ensures { (st : State) → IsAt S.pos S.known serializer.old st
+        → Lays S.Writer serializer.old serializer.new (pieces T.spelling items.now st)
+        (λ all. (take (length items.now) all ≡ resolvers T.spelling items.now st) × pieces_fit T.spelling items.now st × IsAt S.pos S.known serializer.new (state_after_all T.spelling items.now st))
+        (pieces_refused T.spelling items.now st) result }
+{
+    let first = match step(&items[0], serializer) {
+        Ok(done) => done.0,
+        Err(e) => return Err(e),
+    };
+    let mut kept = [first; FEW];
+    for i in 1..items.len() {
+        match step(&items[i], serializer) {
+            Ok(done) => kept[i] = done.0,
+            Err(e) => return Err(e),
+        }
+    }
+    Ok(kept)
+}
+
 /// Writes the own bytes of items side by side. Their data was written.
 fn resolve_items<T: Archive, S: Writer + Allocator>(
     items: &[T],
@@ -90,6 +128,31 @@ fn resolve_items<T: Archive, S: Writer + Allocator>(
     }
 }
 
+/// Writes the own bytes of items side by side, from the next position of their alignment on. Their data was written. The
+/// answer is the position of the first.
+fn resolve_behind<T: Archive, S: Writer + Allocator>(
+    items: &[T],
+    kept: &[T::Resolver],
+    serializer: &mut S,
+) -> Result<usize, Error>
+    requires room { S.failures serializer.old < 2 ^ 64 - 1 }
+    requires made { (st : State) × (kept.now ≡ resolvers T.spelling items.now st) }
+    ensures { (st : State) → kept.now ≡ resolvers T.spelling items.now st
+        → LaysBehind T.Archived.shape T.spelling S.Writer items.now st serializer.old serializer.new (S.pos serializer.old) result }
+{
+    let to = match align(serializer, T::Archived::ALIGN) {
+        Ok(to) => to,
+        Err(e) => return Err(e),
+    };
+    if to > LAST_POSITION {
+        return Err(Error::PositionTooLarge);
+    }
+    match resolve_items(items, kept, serializer) {
+        Ok(()) => Ok(to),
+        Err(e) => Err(e),
+    }
+}
+
 /// Writes items behind their data, which a step writes. The answer is the position of the first.
 pub fn serialize_slice_each<
     T: Archive,
@@ -102,21 +165,19 @@ pub fn serialize_slice_each<
     requires writes { StepWrites F.Fn (λ q. q.0) T.spelling S.Writer step }
     ensures { Serializes (slice_spelling T.Archived.shape T.spelling) S.Writer items.now serializer.old serializer.new result }
 {
+    let none: Option<T::Resolver> = None;
+    if size_of_val(&none) <= SMALL && !items.is_empty() && items.len() <= FEW {
+        let few = match serialize_few_each(items, serializer, step) {
+            Ok(few) => few,
+            Err(e) => return Err(e),
+        };
+        return resolve_behind(items, &few[..items.len()], serializer);
+    }
     let kept = match serialize_data_each(items, serializer, step) {
         Ok(kept) => kept,
         Err(e) => return Err(e),
     };
-    let to = match align(serializer, T::Archived::ALIGN) {
-        Ok(to) => to,
-        Err(e) => return Err(e),
-    };
-    if to > LAST_POSITION {
-        return Err(Error::PositionTooLarge);
-    }
-    match resolve_items(items, kept.as_slice(), serializer) {
-        Ok(()) => Ok(to),
-        Err(e) => Err(e),
-    }
+    resolve_behind(items, kept.as_slice(), serializer)
 }
 
 /// Writes a value behind its data, which a step writes. The answer is its position.

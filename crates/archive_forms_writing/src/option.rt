@@ -6,8 +6,7 @@ ghost use Rattle.archive_forms_spelling.specs.Options.{option_spelling};
 ghost use Rattle.archive_forms_spelling.proofs.Options.{option_spells};
 ghost use Rattle.archive_forms_writing.specs.Steps.{StepTakes, StepWrites, elements_of};
 
-use crate::elements::serialize_element;
-use crate::{Archive, Serialize};
+use crate::{Archive, Serialize, serialize_element};
 use archive_forms_reading::ArchivedOption;
 use archive_shape::{Allocator, Error, Place, Portable, Writer};
 use std::marker::PhantomData;

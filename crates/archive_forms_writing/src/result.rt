@@ -7,8 +7,7 @@ ghost use Rattle.archive_forms_spelling.proofs.Results.{result_spells};
 ghost use Rattle.archive_forms_spelling.proofs.Views.{known_spells};
 ghost use Rattle.archive_forms_writing.specs.Steps.{StepTakes, StepWrites, values_of, errors_of};
 
-use crate::elements::serialize_element;
-use crate::{Archive, Serialize};
+use crate::{Archive, Serialize, serialize_element};
 use archive_forms_reading::ArchivedResult;
 use archive_shape::{Allocator, Error, Place, Portable, Writer};
 use std::marker::PhantomData;

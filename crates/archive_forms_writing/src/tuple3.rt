@@ -7,9 +7,7 @@ ghost use Rattle.archive_forms_spelling.proofs.Fields.{tuple3_spells};
 ghost use Rattle.archive_forms_spelling.proofs.Views.{known_spells};
 ghost use Rattle.archive_forms_writing.specs.Steps.{StepTakes, StepWrites};
 
-use crate::elements::serialize_element;
-use crate::fields::resolve_field;
-use crate::{Archive, Serialize};
+use crate::{Archive, Serialize, resolve_field, serialize_element};
 use archive_forms_tuples::ArchivedTuple3;
 use archive_shape::{Allocator, Error, Place, Portable, Writer};
 use std::marker::PhantomData;

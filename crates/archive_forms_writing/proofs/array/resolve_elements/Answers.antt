@@ -7,8 +7,8 @@ use Rattle.archive_forms_writing.proofs.array.resolve_elements.Goals as goal
 pub loop-i-init : goal.loop-i-init
 loop-i-init g c = laid_none g.T.Archived.Portable.shape g.T.Archive.spelling _ _ _ _ _ c.requires.made.0 c.requires.made.1
 
-pub resolve_within-requires : goal.resolve_within-requires
-resolve_within-requires g c =
+pub resolve_element-requires : goal.resolve_element-requires
+resolve_element-requires g c =
     let n : length c.args.kept.now ≡ length c.args.items.now = ap length c.requires.made.1 ∙ length-resolvers g.T.Archive.spelling c.args.items.now c.requires.made.0 in
     let less : c.loop-i.i < length c.args.kept.now = omega (arith, n, c.loop-i-test.true) in
     let e = next_of _ _ _ c.loop-i-test.true c.index-items-i.is in

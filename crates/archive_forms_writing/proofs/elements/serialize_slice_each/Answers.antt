@@ -1,6 +1,6 @@
 use Rattle.std.proofs.Common.{arith, ◌∙◌}
 use Rattle.archive_shape_writing.specs.Writing.{WriterMembers}
-use Rattle.archive_forms_writing.proofs.Regions.{Filled, padded, region_starts, region_data_stopped, region_gap_stopped, region_far, region_owns_stopped, region_written}
+use Rattle.archive_forms_writing.proofs.Regions.{Filled, region_data_stopped, region_behind}
 use Rattle.archive_forms_writing.proofs.elements.serialize_slice_each.Goals as goal
 
 pub returns-in-Err : goal.returns-in-Err
@@ -12,50 +12,37 @@ returns-in-Err g c = λ st at.
     let old = c.args.serializer.now in
     region_data_stopped w sh s xs old st _ _ (c.in-Err.ensures st at)
 
-pub returns-in-Err-align : goal.returns-in-Err-align
-returns-in-Err-align g c = λ st at.
+pub resolve_behind-requires-clause-room : goal.resolve_behind-requires-clause-room
+resolve_behind-requires-clause-room g c = let all = c.in-Ok.ensures c.requires.state.state c.requires.state.is_at in omega (arith, all.0.is_quiet, c.requires.room)
+
+pub resolve_behind-requires-clause-made : goal.resolve_behind-requires-clause-made
+resolve_behind-requires-clause-made g c = let all = c.in-Ok.ensures c.requires.state.state c.requires.state.is_at in (c.requires.state.state, all.1.0)
+
+pub returns-then-items-le-FEW : goal.returns-then-items-le-FEW
+returns-then-items-le-FEW g c = λ st at.
     let w = g.T.Archive.spelling in
     let sh = g.T.Archived.Portable.shape in
     let s : WriterMembers g.row.S.Denot = record { known = g.S.Registry.known; pos = g.S.Positional.pos; OBSERVABLE = g.S.Writer.OBSERVABLE; COUNTS = g.S.Writer.COUNTS; contents = g.S.Writer.contents; failures = g.S.Writer.failures; last_error = g.S.Writer.last_error } in
     let xs = c.args.items.now in
     let old = c.args.serializer.now in
-    let aligned = c.ALIGN.ensures ∙ g.met.T.Archived.Portable.aligned in
     let all = c.in-Ok.ensures st at in
     let filled : Filled w sh s xs old st _ = record { wrote = all.0; is_at = all.1.2 } in
-    region_gap_stopped w sh s xs old st _ _ _ _ aligned filled c.in-Err-align.ensures.writes
+    region_behind w sh s xs old st _ _ _ at.stands filled all.1.1 (c.resolve_behind.ensures st all.1.0)
 
-pub returns-then-to-gt-LAST_POSITION : goal.returns-then-to-gt-LAST_POSITION
-returns-then-to-gt-LAST_POSITION g c = λ st at.
+pub returns-in-Err-serialize_data_each : goal.returns-in-Err-serialize_data_each
+returns-in-Err-serialize_data_each g c = λ st at.
     let w = g.T.Archive.spelling in
     let sh = g.T.Archived.Portable.shape in
     let s : WriterMembers g.row.S.Denot = record { known = g.S.Registry.known; pos = g.S.Positional.pos; OBSERVABLE = g.S.Writer.OBSERVABLE; COUNTS = g.S.Writer.COUNTS; contents = g.S.Writer.contents; failures = g.S.Writer.failures; last_error = g.S.Writer.last_error } in
     let xs = c.args.items.now in
     let old = c.args.serializer.now in
-    let aligned = c.ALIGN.ensures ∙ g.met.T.Archived.Portable.aligned in
-    let all = c.in-Ok.ensures st at in
-    let filled : Filled w sh s xs old st _ = record { wrote = all.0; is_at = all.1.2 } in
-    let to = c.in-Ok-align.to in
-    region_far w sh s xs old st _ to (region_starts w sh s xs old st _ to _ aligned c.in-Ok-align.ensures.aligned filled) (omega (arith, c.if-to-gt-LAST_POSITION.true))
-    (padded w sh s xs old st _ _ _ aligned filled c.in-Ok-align.ensures.writes)
+    region_data_stopped w sh s xs old st _ _ (c.in-Err-serialize_data_each.ensures st at)
 
-pub resolve_items-requires-clause-made : goal.resolve_items-requires-clause-made
-resolve_items-requires-clause-made g c = let all = c.in-Ok.ensures c.requires.state.state c.requires.state.is_at in (c.requires.state.state, c.as_slice.ensures.value ∙ all.1.0)
+pub resolve_behind-requires-2-clause-room : goal.resolve_behind-requires-2-clause-room
+resolve_behind-requires-2-clause-room g c = let all = c.in-Ok-serialize_data_each.ensures c.requires.state.state c.requires.state.is_at in omega (arith, all.0.is_quiet, c.requires.room)
 
-pub returns-in-Ok-resolve_items : goal.returns-in-Ok-resolve_items
-returns-in-Ok-resolve_items g c = λ st at.
-    let w = g.T.Archive.spelling in
-    let sh = g.T.Archived.Portable.shape in
-    let s : WriterMembers g.row.S.Denot = record { known = g.S.Registry.known; pos = g.S.Positional.pos; OBSERVABLE = g.S.Writer.OBSERVABLE; COUNTS = g.S.Writer.COUNTS; contents = g.S.Writer.contents; failures = g.S.Writer.failures; last_error = g.S.Writer.last_error } in
-    let xs = c.args.items.now in
-    let old = c.args.serializer.now in
-    let aligned = c.ALIGN.ensures ∙ g.met.T.Archived.Portable.aligned in
-    let all = c.in-Ok.ensures st at in
-    let filled : Filled w sh s xs old st _ = record { wrote = all.0; is_at = all.1.2 } in
-    let to = c.in-Ok-align.to in
-    let own = c.in-Ok-resolve_items.ensures st (c.as_slice.ensures.value ∙ all.1.0) in
-    let done = region_written w sh s xs old st _ _ to at.stands (region_starts w sh s xs old st _ to _ aligned c.in-Ok-align.ensures.aligned filled) (omega (arith, c.if-to-gt-LAST_POSITION.false))
-    (padded w sh s xs old st _ _ _ aligned filled c.in-Ok-align.ensures.writes) all.1.1 own.0 own.1 in
-    (done.wrote, (done.to_is, done.fits, done.is_at))
+pub resolve_behind-requires-2-clause-made : goal.resolve_behind-requires-2-clause-made
+resolve_behind-requires-2-clause-made g c = let all = c.in-Ok-serialize_data_each.ensures c.requires.state.state c.requires.state.is_at in (c.requires.state.state, c.as_slice.ensures.value ∙ all.1.0)
 
 pub returns : goal.returns
 returns g c = λ st at.
@@ -64,15 +51,6 @@ returns g c = λ st at.
     let s : WriterMembers g.row.S.Denot = record { known = g.S.Registry.known; pos = g.S.Positional.pos; OBSERVABLE = g.S.Writer.OBSERVABLE; COUNTS = g.S.Writer.COUNTS; contents = g.S.Writer.contents; failures = g.S.Writer.failures; last_error = g.S.Writer.last_error } in
     let xs = c.args.items.now in
     let old = c.args.serializer.now in
-    let aligned = c.ALIGN.ensures ∙ g.met.T.Archived.Portable.aligned in
-    let all = c.in-Ok.ensures st at in
+    let all = c.in-Ok-serialize_data_each.ensures st at in
     let filled : Filled w sh s xs old st _ = record { wrote = all.0; is_at = all.1.2 } in
-    let to = c.in-Ok-align.to in
-    region_owns_stopped w sh s xs old st _ _ _ (padded w sh s xs old st _ _ _ aligned filled c.in-Ok-align.ensures.writes) (c.in-Err-resolve_items.ensures st (c.as_slice.ensures.value ∙ all.1.0))
-
-pub align-requires-clause-room : goal.align-requires-clause-room
-align-requires-clause-room g c = let all = c.in-Ok.ensures c.requires.state.state c.requires.state.is_at in omega (arith, all.0.is_quiet, c.requires.room)
-
-pub resolve_items-requires-clause-room : goal.resolve_items-requires-clause-room
-resolve_items-requires-clause-room g c =
-    let all = c.in-Ok.ensures c.requires.state.state c.requires.state.is_at in omega (arith, all.0.is_quiet, c.in-Ok-align.ensures.writes.is_quiet, c.requires.room)
+    region_behind w sh s xs old st _ _ _ at.stands filled all.1.1 (c.resolve_behind-2.ensures st (c.as_slice.ensures.value ∙ all.1.0))

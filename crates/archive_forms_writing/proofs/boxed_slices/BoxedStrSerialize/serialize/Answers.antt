@@ -1,4 +1,4 @@
-use Rattle.std.proofs.Common.{◌≡◌, ℕ, List, Ok, Err, ap, subst}
+use Rattle.std.proofs.Common.{ℕ, List, Ok, Err, ap, subst}
 use Rattle.archive_shape_writing.specs.Writing.{WriterMembers}
 use Rattle.archive_forms_spelling.specs.Serializing.{Serializes}
 use Rattle.archive_forms_spelling.specs.Texts.{boxed_text_spelling}

@@ -1,6 +1,6 @@
 use Rattle.archive_shape_writing.specs.Writing.{WriterMembers}
 use Rattle.archive_forms_writing.proofs.Root.{makes_archive}
-use Rattle.archive_forms_writing.proofs.bytes.to_bytes_in.Goals as goal
+use Rattle.archive_forms_writing.proofs.bytes.serialize_using.Goals as goal
 
 pub returns-clause-archive : goal.returns-clause-archive
 returns-clause-archive g c =
