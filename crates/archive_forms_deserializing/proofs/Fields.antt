@@ -1,15 +1,20 @@
 -- What is read back of tuples, one field after the other.
-use Rattle.std.proofs.Common.{◌≡◌, ℕ, List, sym, ap, ap₂, subst, ◌∙◌}
+use Rattle.std.proofs.Common.{◌≡◌, ℕ, ◌+◌, ◌≤◌, arith, zero-add, List, sym, ap, ap₂, subst, ◌∙◌}
+use Rattle.archive_shape_layout.specs.Bytes.{align_up}
+use Rattle.archive_shape_layout.specs.Shape.{Shape, Shapes, size_of, align_of, fields_end}
 use Rattle.archive_shape_layout.specs.Shape.Shape.{tuple}
+use Rattle.archive_shape_layout.specs.Shape.Shapes.{no_shapes, more_shapes}
 use Rattle.archive_shape_layout.specs.Value.{Value, Values}
 use Rattle.archive_shape_layout.specs.Value.Value.{group}
 use Rattle.archive_shape_layout.specs.Value.Values.{no_values, more_values}
 use Rattle.archive_shape_layout.specs.Content.{Names}
+use Rattle.archive_shape_layout.proofs.Framed.{le_align_up, le_fields_end}
+use Rattle.archive_shape_references.proofs.PointerSizes.{first_multiple}
 use Rattle.archive_shape_canonical.specs.Sharing.{erased, all_erased}
 use Rattle.archive_shape.specs.Key.{HeldAt}
 use Rattle.archive_forms_spelling.specs.Spelling.{Spelling}
 use Rattle.archive_forms_reading.specs.Parts.{HasValue}
-use Rattle.archive_forms_tuples.specs.Fields.{Field, shapes_of, BeginsWith, AreFields, AreFieldsAt, IsGroupOf}
+use Rattle.archive_forms_tuples.specs.Fields.{Field, shapes_of, field_position, BeginsWith, AreFields, AreFieldsAt, IsGroupOf}
 use Rattle.archive_forms_deserializing.specs.Deserializing.{IsReadAt}
 
 -- ---- what fields have
@@ -21,6 +26,38 @@ field_has f bytes at pos Others vs e h = record { value = h.first; held = subst 
 -- a tuple that has a value has those of its fields
 pub tuple_has : (fs : List Field) (knows : Names → Type 0) (bytes : List ℕ) (pos : ℕ) → AreFieldsAt fs knows bytes pos → (h : HasValue (tuple (shapes_of fs)) knows bytes pos) → IsGroupOf fs bytes pos h.value
 tuple_has fs knows bytes pos there h = there h.value h.held
+
+-- ---- where fields end
+
+-- shapes, one, and others behind it
+abbrev pub around : Shapes → Shape → Shapes → Shapes
+around no_shapes s others = more_shapes s others
+around (more_shapes t between) s others = more_shapes t (around between s others)
+
+fields_end-around : (between : Shapes) (s : Shape) (others : Shapes) (offset : ℕ) → align_up (fields_end between offset) (align_of s) + size_of s ≤ fields_end (around between s others) offset
+fields_end-around no_shapes s others offset = le_fields_end others (align_up offset (align_of s) + size_of s)
+fields_end-around (more_shapes t between) s others offset = fields_end-around between s others (align_up offset (align_of t) + size_of t)
+
+module _ (first : Shape) (others : Shapes) where
+  begins : fields_end (more_shapes first others) 0 ≡ fields_end others (size_of first)
+  begins = ap (λ n. fields_end others (n + size_of first)) (first_multiple (align_of first)) ∙ ap (fields_end others) (zero-add (size_of first))
+
+  filled : fields_end others (size_of first) ≤ size_of (tuple (more_shapes first others))
+  filled = let up = le_align_up (fields_end (more_shapes first others) 0) (align_of (tuple (more_shapes first others))) in omega (arith, up, begins)
+
+  -- the first field ends where the tuple does, or before
+  pub first_ends : (pos at : ℕ) → at ≡ pos → at + size_of first ≤ pos + size_of (tuple (more_shapes first others))
+  first_ends pos at e = let grows = le_fields_end others (size_of first) in omega (arith, e, grows, filled)
+
+-- and so does each other
+pub field_ends :
+    (first : Shape) (between : Shapes) (s : Shape) (others : Shapes) (pos at : ℕ)
+    → at ≡ field_position first between s pos
+    → at + size_of s ≤ pos + size_of (tuple (more_shapes first (around between s others)))
+field_ends first between s others pos at e =
+    let own = fields_end-around between s others (size_of first) in
+    let up = filled first (around between s others) in
+    omega (arith, e, own, up)
 
 -- ---- what is read of them
 

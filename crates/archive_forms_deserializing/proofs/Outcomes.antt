@@ -1,10 +1,12 @@
 -- What is read back of results.
-use Rattle.std.proofs.Common.{◌≡◌, ℕ, List, Ok, Err, sym, ap, subst, ◌∙◌}
-use Rattle.archive_shape_layout.specs.Shape.{Shape}
+use Rattle.std.proofs.Common.{◌≡◌, ℕ, ◌+◌, ◌≤◌, max, arith, List, Ok, Err, sym, ap, subst, ◌∙◌}
+use Rattle.archive_shape_layout.specs.Bytes.{align_up}
+use Rattle.archive_shape_layout.specs.Shape.{Shape, size_of, align_of}
 use Rattle.archive_shape_layout.specs.Shape.Shape.{result}
 use Rattle.archive_shape_layout.specs.Value.Value.{chosen}
 use Rattle.archive_shape_layout.specs.Value.Values.{no_values, more_values}
 use Rattle.archive_shape_layout.specs.Content.{Names}
+use Rattle.archive_shape_layout.proofs.Framed.{le_align_up}
 use Rattle.archive_shape_canonical.specs.Sharing.{erased}
 use Rattle.archive_shape.specs.Key.{HeldAt}
 use Rattle.archive_forms_spelling.specs.Spelling.{Spelling}
@@ -21,6 +23,12 @@ pub payload_has :
     → HasValue s knows bytes at
 payload_has whole s all knows bytes pos tag place at e there h =
     let p = there h.value h.held in record { value = p.payload; held = subst (λ n. HeldAt s knows bytes n p.payload) (sym e) p.held }
+
+-- and it ends where a result of it does, or before
+pub outcome_ends : (s t : Shape) (pos at : ℕ) → at ≡ outcome_position s t pos → (at + size_of s ≤ pos + size_of (result s t)) × (at + size_of t ≤ pos + size_of (result s t))
+outcome_ends s t pos at e =
+    let filled = le_align_up (align_up 1 (max (align_of s) (align_of t)) + max (size_of s) (size_of t)) (max (align_of s) (align_of t)) in
+    (omega (arith, e, filled), omega (arith, e, filled))
 
 module _ {A B R Q : Type 0} (w : Spelling A R) (u : Spelling B Q) (x y : Shape) (s t : Shape) (knows others : Names → Type 0) (bytes : List ℕ) (pos at : ℕ) where
   pub ok_read :

@@ -12,6 +12,7 @@ use Rattle.archive_shape_layout.specs.Content.{Names, shape_content, fields}
 use Rattle.archive_shape_layout.proofs.Unique.{by_plain}
 use Rattle.archive_shape_canonical.specs.Sharing.{erased}
 use Rattle.archive_shape.specs.Key.{HeldAt}
+use Rattle.archive_shape.proofs.Held.{claims_within}
 use Rattle.archive_forms_layout.specs.Text.{HasText, IsText, IsTextThere}
 use Rattle.archive_forms_layout.proofs.Held.{held_is_text_law, text_value}
 use Rattle.archive_forms_writing.specs.Owned.{string_spelling}
@@ -29,7 +30,7 @@ module _ (knows : Names → Type 0) (bytes : List ℕ) (pos : ℕ) where
       sym (ap erased (made_whole says.vs v says.is_made ∙ ap group (none_held h.names bytes says.all)))
 
   text_there : (v : Value) → HeldAt text knows bytes pos v → IsTextThere bytes pos v
-  text_there v h = held_is_text_law h.names bytes h.level h.inside pos v h.regions h.before h.after h.own_within h.within h.holds
+  text_there v h = held_is_text_law h.names bytes h.level h.inside pos v h.regions h.before h.after h.own_within (claims_within h) h.holds
 
   -- a text stands where the layout has one
   pub text_has : HasValue text knows bytes pos → HasText bytes pos

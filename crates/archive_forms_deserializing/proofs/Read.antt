@@ -1,8 +1,9 @@
 -- What is read back of leaves, options, boxes, vectors and arrays.
-use Rattle.std.proofs.Common.{◌≡◌, ℕ, Bool, true, false, if◌then◌else◌, suc, ◌+◌, ◌*◌, ◌<◌, List, [], ◌∷◌, ◌++◌, length, Some, None, Ok, Err, Result, MatchResult, refl, sym, ap, ap₂, subst, ◌∙◌, arith}
+use Rattle.std.proofs.Common.{◌≡◌, ℕ, Bool, true, false, if◌then◌else◌, suc, ◌+◌, ◌*◌, ◌<◌, ◌≤◌, List, [], ◌∷◌, ◌++◌, length, Some, None, Ok, Err, Result, MatchResult, refl, sym, ap, ap₂, subst, ◌∙◌, arith}
 use Rattle.std.specs.Prelude.{Box, Vec}
 use Rattle.std.specs.Global.{Global}
-use Rattle.archive_shape_layout.specs.Shape.{Shape, size_of}
+use Rattle.archive_shape_layout.specs.Bytes.{align_up}
+use Rattle.archive_shape_layout.specs.Shape.{Shape, size_of, align_of}
 use Rattle.archive_shape_layout.specs.Shape.Shape.{option, box, vector, array}
 use Rattle.archive_shape_layout.specs.Shape.Pointee.{sized}
 use Rattle.archive_shape_layout.specs.Value.{Value, Values, count_values}
@@ -10,6 +11,7 @@ use Rattle.archive_shape_layout.specs.Value.Value.{chosen, group}
 use Rattle.archive_shape_layout.specs.Value.Values.{no_values, more_values}
 use Rattle.archive_shape_layout.specs.Content.{Names}
 use Rattle.archive_shape_layout.specs.Path.{value_in}
+use Rattle.archive_shape_layout.proofs.Framed.{le_align_up}
 use Rattle.archive_shape_canonical.specs.Sharing.{erased, all_erased}
 use Rattle.archive_shape_writing.specs.declared.error.Error.{Error}
 use Rattle.archive_shape.specs.Key.{HeldAt}
@@ -19,6 +21,7 @@ use Rattle.archive_forms_spelling.specs.Options.{option_spelling}
 use Rattle.archive_forms_spelling.specs.Regions.{plain_values}
 use Rattle.archive_forms_reading.specs.Arrays.{IsArrayAt}
 use Rattle.archive_forms_reading.specs.Parts.{HasValue, IsNoneAt, IsSomeAt, some_position, IsBoxAt, IsVecAt, AreElements, HasElements}
+use Rattle.archive_forms_reading.proofs.Pointed.{element_ends}
 use Rattle.archive_forms_writing.specs.Owned.{boxed_spelling, vec_spelling}
 use Rattle.archive_forms_deserializing.specs.Deserializing.{IsReadAt, AreReadFrom, DeserializesBy, DeserializesAll}
 
@@ -42,6 +45,14 @@ module _ (s : Shape) (knows : Names → Type 0) (bytes : List ℕ) (pos : ℕ) w
 pub element_has : (s : Shape) (knows : Names → Type 0) (bytes : List ℕ) (to len i at : ℕ) → HasElements s knows bytes to len → i < len → at ≡ to + i * size_of s → HasValue s knows bytes at
 element_has s knows bytes to len i at h less e =
     let x = h.stand.each i less in record { value = x.0; held = subst (λ n. HeldAt s knows bytes n x.0) (sym e) x.2 }
+
+-- and each ends where the last one does, or before
+pub element_ends_before : (s : Shape) (to len i at : ℕ) → i < len → at ≡ to + i * size_of s → at + size_of s ≤ to + len * size_of s
+element_ends_before s to len i at less e = let ends = element_ends to i len (size_of s) (to + len * size_of s) less (omega arith) in omega (arith, e, ends)
+
+-- the value of an option ends where it does, or before
+pub some_ends : (s : Shape) (pos at : ℕ) → at ≡ some_position s pos → at + size_of s ≤ pos + size_of (option s)
+some_ends s pos at e = let filled = le_align_up (align_up 1 (align_of s) + size_of s) (align_of s) in omega (arith, e, filled)
 
 -- ---- what is read of it
 

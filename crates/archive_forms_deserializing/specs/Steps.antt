@@ -1,8 +1,8 @@
 -- What a step that reads an element back has to promise, where a form calls it for its elements.
-use Rattle.std.specs.Prelude.{ℕ, List, Result}
+use Rattle.std.specs.Prelude.{ℕ, ◌+◌, ◌≤◌, List, Result}
 use denote.Ref.{MutBor}
 use denote.Param.Members.{Shared}
-use Rattle.archive_shape_layout.specs.Shape.{Shape}
+use Rattle.archive_shape_layout.specs.Shape.{Shape, size_of}
 use Rattle.archive_shape_layout.specs.Content.{Names}
 use Rattle.archive_shape_writing.specs.declared.error.Error.{Error}
 use Rattle.archive_forms_spelling.specs.Spelling.{Spelling}
@@ -11,9 +11,9 @@ use Rattle.archive_forms_deserializing.specs.Deserializing.{DeserializesBy}
 
 module _ {F D Q : Type 0} (call : Shared F (MutBor D × (ℕ × Unit {0})) (Result Q Error × (MutBor D × Unit {0})))
     (step : F) (s : Shape) (knows : Names → Type 0) (bytes : List ℕ) where
-  -- it may be called wherever the bytes have a value of the shape
-  abbrev pub StepTakes : Type 0
-  StepTakes = (deserializer : MutBor D) (pos : ℕ) → HasValue s knows bytes pos → call.pre step (deserializer, (pos, tt))
+  -- it may be called wherever the bytes have a value of the shape that ends at or before a limit
+  abbrev pub StepTakes : ℕ → Type 0
+  StepTakes limit = (deserializer : MutBor D) (pos : ℕ) → pos + size_of s ≤ limit → HasValue s knows bytes pos → call.pre step (deserializer, (pos, tt))
 
   -- each call reads that value, and its answer keeps it
   abbrev pub StepReads : {A R : Type 0} → (Q → A) → Spelling A R → Type 0

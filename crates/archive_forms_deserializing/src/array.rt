@@ -1,4 +1,6 @@
 //! Arrays are read back.
+ghost use Rattle.std.specs.Prelude.{◌+◌, ◌*◌};
+ghost use Rattle.archive_shape_layout.specs.Shape.{size_of};
 ghost use Rattle.archive_shape_layout.specs.Shape.Shape.{array};
 ghost use Rattle.archive_forms_spelling.specs.Arrays.{array_spelling};
 ghost use Rattle.archive_forms_reading.specs.Parts.{HasValue};
@@ -23,7 +25,7 @@ pub fn deserialize_array_each<
     F: Fn(&mut D, usize) -> Result<(T, PhantomData<T::Archived>), Error>,
 >(this: Ref<'_, [A; N]>, alloc: Global, deserializer: &mut D, step: F) -> Result<[T; N], Error>
     requires there { HasValue (array N A.shape) A.knows this.bytes.now this.pos }
-    requires takes { StepTakes F.Fn step A.shape A.knows this.bytes.now }
+    requires takes { StepTakes F.Fn step A.shape A.knows this.bytes.now (this.pos + N * size_of A.shape) }
     requires reads { StepReads F.Fn step A.shape A.knows this.bytes.now (λ q. q.0) T.spelling }
     ensures { Deserializes (array_spelling N T.Archived.shape T.spelling) (array N A.shape) A.knows this.entry.bytes.now this.entry.pos result }
 {

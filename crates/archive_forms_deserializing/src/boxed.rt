@@ -1,4 +1,5 @@
 //! Boxes are read back.
+ghost use Rattle.std.specs.Prelude.{refl};
 ghost use Rattle.archive_shape_layout.specs.Shape.Shape.{box};
 ghost use Rattle.archive_shape_layout.specs.Shape.Pointee.{sized};
 ghost use Rattle.archive_forms_reading.specs.Parts.{HasValue};
@@ -6,8 +7,8 @@ ghost use Rattle.archive_forms_writing.specs.Owned.{boxed_spelling};
 ghost use Rattle.archive_forms_deserializing.specs.Deserializing.{Deserializes, DeserializesBy};
 ghost use Rattle.archive_forms_deserializing.specs.Steps.{StepTakes, StepReads};
 
-use crate::Deserialize;
 use crate::deserialize::deserialize_element;
+use crate::{Deserialize, DeserializeUnsized};
 use archive_forms_reading::ArchivedBox;
 use archive_forms_writing::Archive;
 use archive_shape::{Error, Portable, Ref};
@@ -27,7 +28,7 @@ pub fn deserialize_box_each<
     step: F,
 ) -> Result<Box<T>, Error>
     requires there { HasValue (box (sized A.shape)) A.knows this.bytes.now this.pos }
-    requires takes { StepTakes F.Fn step A.shape A.knows this.bytes.now }
+    requires takes { StepTakes F.Fn step A.shape A.knows this.bytes.now this.pos }
     requires reads { StepReads F.Fn step A.shape A.knows this.bytes.now (λ q. q.0) T.spelling }
     ensures { Deserializes (boxed_spelling T.Archived.shape T.spelling) (box (sized A.shape)) A.knows this.entry.bytes.now this.entry.pos result }
 {
@@ -41,8 +42,10 @@ pub fn deserialize_box_each<
     }
 }
 
-impl<T: Archive + Drop, D, A: Deserialize<T, D>> Deserialize<Box<T>, D> for ArchivedBox<A> {
-    fn deserialize(
+impl<T: Archive + Drop, D, A: Deserialize<T, D>> DeserializeUnsized<Box<T>, D> for A {
+    type Boxed = ArchivedBox<A>;
+
+    fn deserialize_unsized(
         this: &Ref<'_, ArchivedBox<A>>,
         alloc: Global,
         deserializer: &mut D,
@@ -57,5 +60,17 @@ impl<T: Archive + Drop, D, A: Deserialize<T, D>> Deserialize<Box<T>, D> for Arch
                 ensures { DeserializesBy T.spelling A.shape A.knows bytes.entry.now pos (λ q. q.0) result }
             { deserialize_element::<T, A, D>(bytes, pos, alloc, d) },
         )
+    }
+
+    ghost boxed = { refl };
+}
+
+impl<T: Archive + Drop, D, A: Deserialize<T, D>> Deserialize<Box<T>, D> for ArchivedBox<A> {
+    fn deserialize(
+        this: &Ref<'_, ArchivedBox<A>>,
+        alloc: Global,
+        deserializer: &mut D,
+    ) -> Result<Box<T>, Error> {
+        <A as DeserializeUnsized<Box<T>, D>>::deserialize_unsized(this, alloc, deserializer)
     }
 }

@@ -1,4 +1,5 @@
 //! Boxes of slices and of texts are read back.
+ghost use Rattle.std.specs.Prelude.{refl};
 ghost use Rattle.std.specs.Box.{boxed_slice_items, boxed_str_bytes};
 ghost use Rattle.archive_shape_layout.specs.Shape.Shape.{box};
 ghost use Rattle.archive_shape_layout.specs.Shape.Pointee.{slice};
@@ -9,11 +10,11 @@ ghost use Rattle.archive_forms_deserializing.specs.Deserializing.{Deserializes, 
 ghost use Rattle.archive_forms_deserializing.specs.Steps.{StepTakes, StepReads};
 
 use crate::deserialize::deserialize_element;
-use crate::{Deserialize, deserialize_vec_each};
+use crate::{Deserialize, DeserializeUnsized, deserialize_vec_each};
 use archive_forms_boxed::{ArchivedBoxedSlice, ArchivedBoxedStr};
 use archive_forms_reading::ArchivedVec;
 use archive_forms_writing::Archive;
-use archive_shape::{Error, Portable, Ref};
+use archive_shape::{Error, Portable, Ref, Slice, Str};
 use std::alloc::Global;
 use std::boxed::{BoxedSlice, BoxedStr};
 use std::marker::PhantomData;
@@ -31,7 +32,7 @@ pub fn deserialize_boxed_slice_each<
     step: F,
 ) -> Result<BoxedSlice<T>, Error>
     requires there { HasValue (box (slice A.shape)) A.knows this.bytes.now this.pos }
-    requires takes { StepTakes F.Fn step A.shape A.knows this.bytes.now }
+    requires takes { StepTakes F.Fn step A.shape A.knows this.bytes.now this.pos }
     requires reads { StepReads F.Fn step A.shape A.knows this.bytes.now (λ q. q.0) T.spelling }
     ensures { Deserializes (seen_as boxed_slice_items (boxed_slice_spelling T.Archived.shape T.spelling)) (box (slice A.shape)) A.knows this.entry.bytes.now this.entry.pos result }
 {
@@ -46,9 +47,10 @@ pub fn deserialize_boxed_slice_each<
     }
 }
 
-impl<T: Archive + Drop, D, A: Deserialize<T, D>> Deserialize<BoxedSlice<T>, D>
-    for ArchivedBoxedSlice<A> {
-    fn deserialize(
+impl<T: Archive + Drop, D, A: Deserialize<T, D>> DeserializeUnsized<BoxedSlice<T>, D> for Slice<A> {
+    type Boxed = ArchivedBoxedSlice<A>;
+
+    fn deserialize_unsized(
         this: &Ref<'_, ArchivedBoxedSlice<A>>,
         alloc: Global,
         deserializer: &mut D,
@@ -64,10 +66,29 @@ impl<T: Archive + Drop, D, A: Deserialize<T, D>> Deserialize<BoxedSlice<T>, D>
             { deserialize_element::<T, A, D>(bytes, pos, alloc, d) },
         )
     }
+
+    ghost boxed = { refl };
 }
 
-impl<D> Deserialize<BoxedStr, D> for ArchivedBoxedStr {
+impl<T: Archive + Drop, D, A: Deserialize<T, D>> Deserialize<BoxedSlice<T>, D>
+    for ArchivedBoxedSlice<A> {
     fn deserialize(
+        this: &Ref<'_, ArchivedBoxedSlice<A>>,
+        alloc: Global,
+        deserializer: &mut D,
+    ) -> Result<BoxedSlice<T>, Error> {
+        <Slice<A> as DeserializeUnsized<BoxedSlice<T>, D>>::deserialize_unsized(
+            this,
+            alloc,
+            deserializer,
+        )
+    }
+}
+
+impl<D> DeserializeUnsized<BoxedStr, D> for Str {
+    type Boxed = ArchivedBoxedStr;
+
+    fn deserialize_unsized(
         this: &Ref<'_, ArchivedBoxedStr>,
         alloc: Global,
         _deserializer: &mut D,
@@ -76,5 +97,17 @@ impl<D> Deserialize<BoxedStr, D> for ArchivedBoxedStr {
             Ok(text) => Ok(text),
             Err(_) => Err(Error::OutOfMemory),
         }
+    }
+
+    ghost boxed = { refl };
+}
+
+impl<D> Deserialize<BoxedStr, D> for ArchivedBoxedStr {
+    fn deserialize(
+        this: &Ref<'_, ArchivedBoxedStr>,
+        alloc: Global,
+        deserializer: &mut D,
+    ) -> Result<BoxedStr, Error> {
+        <Str as DeserializeUnsized<BoxedStr, D>>::deserialize_unsized(this, alloc, deserializer)
     }
 }

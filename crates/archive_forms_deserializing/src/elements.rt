@@ -1,4 +1,6 @@
 //! Elements side by side are read back.
+ghost use Rattle.std.specs.Prelude.{◌+◌, ◌*◌};
+ghost use Rattle.archive_shape_layout.specs.Shape.{size_of};
 ghost use Rattle.archive_forms_reading.specs.Parts.{HasElements};
 ghost use Rattle.archive_forms_deserializing.specs.Deserializing.{DeserializesAll};
 ghost use Rattle.archive_forms_deserializing.specs.Steps.{StepTakes, StepReads};
@@ -17,7 +19,7 @@ pub(crate) fn deserialize_elements_each<
     F: Fn(&mut D, usize) -> Result<(T, PhantomData<T::Archived>), Error>,
 >(items: SliceRef<'_, A>, alloc: Global, deserializer: &mut D, step: F) -> Result<Vec<T>, Error>
     requires there { HasElements A.shape A.knows items.bytes.now items.pos items.len }
-    requires takes { StepTakes F.Fn step A.shape A.knows items.bytes.now }
+    requires takes { StepTakes F.Fn step A.shape A.knows items.bytes.now (items.pos + items.len * size_of A.shape) }
     requires reads { StepReads F.Fn step A.shape A.knows items.bytes.now (λ q. q.0) T.spelling }
     ensures { DeserializesAll T.spelling A.shape A.knows items.entry.bytes.now items.entry.pos items.entry.len (λ all. all.items) result }
 {

@@ -1,22 +1,10 @@
 //! Numbers, truth values and chars are read back.
-ghost use Rattle.std.specs.Prelude.{◌≡◌};
-ghost use Rattle.archive_shape_layout.specs.Value.{Value};
-ghost use Rattle.archive_shape.specs.Key.{HeldAt};
-ghost use Rattle.archive_forms_reading.specs.Parts.{HasValue};
-
 use crate::Deserialize;
+use archive_forms_reading::native_of;
 use archive_forms_writing::Leaf;
-use archive_shape::{ArchivedLeaf, Error, LittleEndian, Native, Ref};
+use archive_shape::{Error, LittleEndian, Native, Ref};
 use std::alloc::Global;
 use std::num::{NonZeroI8, NonZeroU8};
-
-/// The native value of a leaf.
-pub(crate) fn native_of<L: ArchivedLeaf>(this: Ref<'_, L>) -> L::Native
-    requires { HasValue L.shape L.knows this.bytes.now this.pos }
-    ensures { (v : Value) → HeldAt L.shape L.knows this.entry.bytes.now this.entry.pos v → L.value_of result ≡ v }
-{
-    this.to_native()
-}
 
 impl<N: Native + Leaf<Archived = LittleEndian<N>>, D> Deserialize<N, D> for LittleEndian<N> {
     fn deserialize(

@@ -16,6 +16,7 @@ mod tuple2;
 mod tuple3;
 mod tuple4;
 mod unit;
+mod unsized_values;
 mod vector;
 
 pub use array::deserialize_array_each;
@@ -28,4 +29,5 @@ pub use tuple1::deserialize_tuple1_each;
 pub use tuple2::deserialize_tuple2_each;
 pub use tuple3::deserialize_tuple3_each;
 pub use tuple4::deserialize_tuple4_each;
+pub use unsized_values::DeserializeUnsized;
 pub use vector::deserialize_vec_each;

@@ -1,4 +1,6 @@
 //! Options are read back.
+ghost use Rattle.std.specs.Prelude.{◌+◌};
+ghost use Rattle.archive_shape_layout.specs.Shape.{size_of};
 ghost use Rattle.archive_shape_layout.specs.Shape.Shape.{option};
 ghost use Rattle.archive_forms_spelling.specs.Options.{option_spelling};
 ghost use Rattle.archive_forms_reading.specs.Parts.{HasValue};
@@ -21,7 +23,7 @@ pub fn deserialize_option_each<
     F: Fn(&mut D, usize) -> Result<(T, PhantomData<T::Archived>), Error>,
 >(this: Ref<'_, ArchivedOption<A>>, deserializer: &mut D, step: F) -> Result<Option<T>, Error>
     requires there { HasValue (option A.shape) A.knows this.bytes.now this.pos }
-    requires takes { StepTakes F.Fn step A.shape A.knows this.bytes.now }
+    requires takes { StepTakes F.Fn step A.shape A.knows this.bytes.now (this.pos + size_of (option A.shape)) }
     requires reads { StepReads F.Fn step A.shape A.knows this.bytes.now (λ q. q.0) T.spelling }
     ensures { Deserializes (option_spelling T.Archived.shape T.spelling) (option A.shape) A.knows this.entry.bytes.now this.entry.pos result }
 {

@@ -1,6 +1,6 @@
 //! `usize` and `isize` are read back.
 use crate::Deserialize;
-use crate::leaf::native_of;
+use archive_forms_reading::native_of;
 use archive_shape::{ArchivedIsize, ArchivedUsize, Error, Ref};
 use std::alloc::Global;
 

@@ -1,4 +1,6 @@
 //! Results are read back.
+ghost use Rattle.std.specs.Prelude.{◌+◌};
+ghost use Rattle.archive_shape_layout.specs.Shape.{size_of};
 ghost use Rattle.archive_shape_layout.specs.Shape.Shape.{result as result_shape};
 ghost use Rattle.archive_forms_spelling.specs.Results.{result_spelling};
 ghost use Rattle.archive_forms_reading.specs.Parts.{HasValue, both};
@@ -29,9 +31,9 @@ pub fn deserialize_result_each<
     step_of_error: G,
 ) -> Result<Result<T, E>, Error>
     requires there { HasValue (result_shape A.shape B.shape) (both A.knows B.knows) this.bytes.now this.pos }
-    requires takes { StepTakes F.Fn step A.shape A.knows this.bytes.now }
+    requires takes { StepTakes F.Fn step A.shape A.knows this.bytes.now (this.pos + size_of (result_shape A.shape B.shape)) }
     requires reads { StepReads F.Fn step A.shape A.knows this.bytes.now (λ q. q.0) T.spelling }
-    requires takes_errors { StepTakes G.Fn step_of_error B.shape B.knows this.bytes.now }
+    requires takes_errors { StepTakes G.Fn step_of_error B.shape B.knows this.bytes.now (this.pos + size_of (result_shape A.shape B.shape)) }
     requires reads_errors { StepReads G.Fn step_of_error B.shape B.knows this.bytes.now (λ q. q.0) E.spelling }
     ensures { Deserializes (result_spelling T.Archived.shape E.Archived.shape T.spelling E.spelling)
         (result_shape A.shape B.shape) (both A.knows B.knows) this.entry.bytes.now this.entry.pos result }

@@ -1,4 +1,6 @@
 //! Tuples of one are read back.
+ghost use Rattle.std.specs.Prelude.{◌+◌};
+ghost use Rattle.archive_shape_layout.specs.Shape.{size_of};
 ghost use Rattle.archive_forms_checking.specs.Tuples.{tuple1};
 ghost use Rattle.archive_forms_spelling.specs.Fields.{tuple1_spelling};
 ghost use Rattle.archive_forms_reading.specs.Parts.{HasValue};
@@ -25,7 +27,7 @@ pub fn deserialize_tuple1_each<
     read_first: F,
 ) -> Result<(T,), Error>
     requires there { HasValue (tuple1 A.shape) A.knows this.bytes.now this.pos }
-    requires takes_first { StepTakes F.Fn read_first A.shape A.knows this.bytes.now }
+    requires takes_first { StepTakes F.Fn read_first A.shape A.knows this.bytes.now (this.pos + size_of (tuple1 A.shape)) }
     requires reads_first { StepReads F.Fn read_first A.shape A.knows this.bytes.now (λ q. q.0) T.spelling }
     ensures { Deserializes (tuple1_spelling T.Archived.shape T.spelling) (tuple1 A.shape) A.knows this.entry.bytes.now this.entry.pos result }
 {

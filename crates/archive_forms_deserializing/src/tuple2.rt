@@ -1,4 +1,6 @@
 //! Tuples of two are read back.
+ghost use Rattle.std.specs.Prelude.{◌+◌};
+ghost use Rattle.archive_shape_layout.specs.Shape.{size_of};
 ghost use Rattle.archive_forms_checking.specs.Tuples.{tuple2};
 ghost use Rattle.archive_forms_spelling.specs.Fields.{tuple2_spelling};
 ghost use Rattle.archive_forms_reading.specs.Parts.{HasValue, both};
@@ -29,9 +31,9 @@ pub fn deserialize_tuple2_each<
     read_second: G,
 ) -> Result<(T, U), Error>
     requires there { HasValue (tuple2 A.shape B.shape) (both A.knows B.knows) this.bytes.now this.pos }
-    requires takes_first { StepTakes F.Fn read_first A.shape A.knows this.bytes.now }
+    requires takes_first { StepTakes F.Fn read_first A.shape A.knows this.bytes.now (this.pos + size_of (tuple2 A.shape B.shape)) }
     requires reads_first { StepReads F.Fn read_first A.shape A.knows this.bytes.now (λ q. q.0) T.spelling }
-    requires takes_second { StepTakes G.Fn read_second B.shape B.knows this.bytes.now }
+    requires takes_second { StepTakes G.Fn read_second B.shape B.knows this.bytes.now (this.pos + size_of (tuple2 A.shape B.shape)) }
     requires reads_second { StepReads G.Fn read_second B.shape B.knows this.bytes.now (λ q. q.0) U.spelling }
     ensures { Deserializes (tuple2_spelling T.Archived.shape T.spelling U.Archived.shape U.spelling) (tuple2 A.shape B.shape) (both A.knows B.knows) this.entry.bytes.now this.entry.pos result }
 {

@@ -1,4 +1,6 @@
 //! Tuples of three are read back.
+ghost use Rattle.std.specs.Prelude.{◌+◌};
+ghost use Rattle.archive_shape_layout.specs.Shape.{size_of};
 ghost use Rattle.archive_forms_checking.specs.Tuples.{tuple3};
 ghost use Rattle.archive_forms_spelling.specs.Fields.{tuple3_spelling};
 ghost use Rattle.archive_forms_reading.specs.Parts.{HasValue};
@@ -34,11 +36,11 @@ pub fn deserialize_tuple3_each<
     read_third: H,
 ) -> Result<(T, U, V), Error>
     requires there { HasValue (tuple3 A.shape B.shape C.shape) (all_three A.knows B.knows C.knows) this.bytes.now this.pos }
-    requires takes_first { StepTakes F.Fn read_first A.shape A.knows this.bytes.now }
+    requires takes_first { StepTakes F.Fn read_first A.shape A.knows this.bytes.now (this.pos + size_of (tuple3 A.shape B.shape C.shape)) }
     requires reads_first { StepReads F.Fn read_first A.shape A.knows this.bytes.now (λ q. q.0) T.spelling }
-    requires takes_second { StepTakes G.Fn read_second B.shape B.knows this.bytes.now }
+    requires takes_second { StepTakes G.Fn read_second B.shape B.knows this.bytes.now (this.pos + size_of (tuple3 A.shape B.shape C.shape)) }
     requires reads_second { StepReads G.Fn read_second B.shape B.knows this.bytes.now (λ q. q.0) U.spelling }
-    requires takes_third { StepTakes H.Fn read_third C.shape C.knows this.bytes.now }
+    requires takes_third { StepTakes H.Fn read_third C.shape C.knows this.bytes.now (this.pos + size_of (tuple3 A.shape B.shape C.shape)) }
     requires reads_third { StepReads H.Fn read_third C.shape C.knows this.bytes.now (λ q. q.0) V.spelling }
     ensures { Deserializes (tuple3_spelling T.Archived.shape T.spelling U.Archived.shape U.spelling V.Archived.shape V.spelling) (tuple3 A.shape B.shape C.shape) (all_three A.knows B.knows C.knows) this.entry.bytes.now this.entry.pos result }
 {

@@ -1,4 +1,6 @@
 //! Tuples of four are read back.
+ghost use Rattle.std.specs.Prelude.{◌+◌};
+ghost use Rattle.archive_shape_layout.specs.Shape.{size_of};
 ghost use Rattle.archive_forms_checking.specs.Tuples.{tuple4};
 ghost use Rattle.archive_forms_spelling.specs.Fields.{tuple4_spelling};
 ghost use Rattle.archive_forms_reading.specs.Parts.{HasValue};
@@ -38,13 +40,13 @@ pub fn deserialize_tuple4_each<
     read_fourth: I,
 ) -> Result<(T, U, V, W), Error>
     requires there { HasValue (tuple4 A.shape B.shape C.shape D.shape) (all_four A.knows B.knows C.knows D.knows) this.bytes.now this.pos }
-    requires takes_first { StepTakes F.Fn read_first A.shape A.knows this.bytes.now }
+    requires takes_first { StepTakes F.Fn read_first A.shape A.knows this.bytes.now (this.pos + size_of (tuple4 A.shape B.shape C.shape D.shape)) }
     requires reads_first { StepReads F.Fn read_first A.shape A.knows this.bytes.now (λ q. q.0) T.spelling }
-    requires takes_second { StepTakes G.Fn read_second B.shape B.knows this.bytes.now }
+    requires takes_second { StepTakes G.Fn read_second B.shape B.knows this.bytes.now (this.pos + size_of (tuple4 A.shape B.shape C.shape D.shape)) }
     requires reads_second { StepReads G.Fn read_second B.shape B.knows this.bytes.now (λ q. q.0) U.spelling }
-    requires takes_third { StepTakes H.Fn read_third C.shape C.knows this.bytes.now }
+    requires takes_third { StepTakes H.Fn read_third C.shape C.knows this.bytes.now (this.pos + size_of (tuple4 A.shape B.shape C.shape D.shape)) }
     requires reads_third { StepReads H.Fn read_third C.shape C.knows this.bytes.now (λ q. q.0) V.spelling }
-    requires takes_fourth { StepTakes I.Fn read_fourth D.shape D.knows this.bytes.now }
+    requires takes_fourth { StepTakes I.Fn read_fourth D.shape D.knows this.bytes.now (this.pos + size_of (tuple4 A.shape B.shape C.shape D.shape)) }
     requires reads_fourth { StepReads I.Fn read_fourth D.shape D.knows this.bytes.now (λ q. q.0) W.spelling }
     ensures { Deserializes (tuple4_spelling T.Archived.shape T.spelling U.Archived.shape U.spelling V.Archived.shape V.spelling W.Archived.shape W.spelling) (tuple4 A.shape B.shape C.shape D.shape) (all_four A.knows B.knows C.knows D.knows) this.entry.bytes.now this.entry.pos result }
 {

@@ -27,7 +27,7 @@ pub fn deserialize_vec_each<
     step: F,
 ) -> Result<Vec<T>, Error>
     requires there { HasValue (vector A.shape) A.knows this.bytes.now this.pos }
-    requires takes { StepTakes F.Fn step A.shape A.knows this.bytes.now }
+    requires takes { StepTakes F.Fn step A.shape A.knows this.bytes.now this.pos }
     requires reads { StepReads F.Fn step A.shape A.knows this.bytes.now (λ q. q.0) T.spelling }
     ensures { Deserializes (vec_spelling T.Archived.shape T.spelling) (vector A.shape) A.knows this.entry.bytes.now this.entry.pos result }
 {

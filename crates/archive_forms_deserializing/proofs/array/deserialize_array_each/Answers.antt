@@ -1,5 +1,6 @@
-use Rattle.std.proofs.Common.{◌≡◌, List, ℕ, length, ap, sym, subst, ◌∙◌}
-use Rattle.archive_forms_reading.specs.Parts.{HasElements}
+use Rattle.std.proofs.Common.{arith, ◌≡◌, ◌*◌, List, ℕ, length, ap, sym, subst, ◌∙◌}
+use Rattle.archive_shape_layout.specs.Shape.{size_of}
+use Rattle.archive_forms_reading.specs.Parts.{HasValue, HasElements}
 use Rattle.archive_forms_reading.proofs.Arrays.{array_has}
 use Rattle.archive_forms_deserializing.specs.Deserializing.{AreReadFrom}
 use Rattle.archive_forms_deserializing.proofs.Read.{array_read, ok_says}
@@ -15,6 +16,14 @@ deserialize_elements_each-requires-clause-there g c =
     let Q : ℕ → Type 0 = λ pos. HasElements s knows c.args.this.bytes.now pos c.array_slice.result.len in
     let R : ℕ → Type 0 = λ n. HasElements s knows c.args.this.bytes.now c.args.this.pos n in
     subst P (sym same) (subst Q (sym at.0) (subst R (sym at.1) (array_has g.row.N s knows c.args.this.bytes.now c.args.this.pos c.requires.there)))
+
+pub deserialize_elements_each-requires-clause-takes : goal.deserialize_elements_each-requires-clause-takes
+deserialize_elements_each-requires-clause-takes g c = λ d pos ends there.
+    let at = c.array_slice.ensures.stands in
+    let same = ap (λ bytes. bytes.now) c.array_slice.ensures.bytes in
+    let P : List ℕ → Type 0 = λ bytes. HasValue g.A.Portable.shape g.A.Portable.knows bytes pos in
+    let limit = ap (λ n. n * size_of g.A.Portable.shape) at.1 in
+    c.requires.takes d pos (omega (arith, ends, at.0, limit)) (subst P same there)
 
 pub returns-in-Ok : goal.returns-in-Ok
 returns-in-Ok g c =

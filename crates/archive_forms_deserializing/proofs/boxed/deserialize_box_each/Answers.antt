@@ -3,7 +3,7 @@ use Rattle.archive_forms_deserializing.proofs.boxed.deserialize_box_each.Goals a
 
 pub step-requires : goal.step-requires
 step-requires g c =
-    c.requires.takes _ _ (box_has g.A.Portable.shape g.A.Portable.knows c.args.this.bytes.now c.args.this.pos _ c.get.ensures.value c.requires.there)
+    c.requires.takes _ _ (c.get.ensures.value.before c.requires.there) (box_has g.A.Portable.shape g.A.Portable.knows c.args.this.bytes.now c.args.this.pos _ c.get.ensures.value c.requires.there)
 
 pub returns-in-Err : goal.returns-in-Err
 returns-in-Err g c =

@@ -2,7 +2,7 @@ use Rattle.std.proofs.Common.{arith, ◌≡◌, ℕ, ◌+◌, ◌*◌, List, [],
 use Rattle.archive_shape_layout.specs.Shape.{size_of}
 use Rattle.archive_forms_reading.proofs.Inside.{some_says}
 use Rattle.archive_forms_deserializing.specs.Deserializing.{IsReadAt, AreReadFrom}
-use Rattle.archive_forms_deserializing.proofs.Read.{element_has, one_more, pushed}
+use Rattle.archive_forms_deserializing.proofs.Read.{element_has, element_ends_before, one_more, pushed}
 use Rattle.archive_forms_deserializing.proofs.elements.deserialize_elements_each.Goals as goal
 
 pub loop-index-init : goal.loop-index-init
@@ -13,7 +13,7 @@ loop-index-init g c =
 pub step-requires : goal.step-requires
 step-requires g c =
     let at = some_says _ _ c.get.result c.unwrap-item.result c.get.ensures c.unwrap-item.ensures in
-    c.requires.takes _ _ (element_has _ _ _ _ _ c.loop-index.index _ c.requires.there at.0 at.2)
+    c.requires.takes _ _ (element_ends_before g.A.Portable.shape c.args.items.pos _ c.loop-index.index _ at.0 at.2) (element_has _ _ _ _ _ c.loop-index.index _ c.requires.there at.0 at.2)
 
 pub returns-in-Err : goal.returns-in-Err
 returns-in-Err g c =

@@ -1,4 +1,4 @@
-use Rattle.archive_forms_deserializing.proofs.Read.{some_has, none_read, some_read}
+use Rattle.archive_forms_deserializing.proofs.Read.{some_has, some_ends, none_read, some_read}
 use Rattle.archive_forms_deserializing.proofs.option.deserialize_option_each.Goals as goal
 
 pub returns-in-None : goal.returns-in-None
@@ -7,7 +7,7 @@ returns-in-None g c =
 
 pub step-requires : goal.step-requires
 step-requires g c =
-    c.requires.takes _ _
+    c.requires.takes _ _ (some_ends g.A.Portable.shape c.args.this.pos _ c.in-Some.ensures.1)
     (some_has g.A.Portable.shape g.A.Portable.knows c.args.this.bytes.now c.args.this.pos _ c.in-Some.ensures.1 c.in-Some.ensures.2 c.requires.there)
 
 pub returns-in-Ok : goal.returns-in-Ok

@@ -1,9 +1,9 @@
-use Rattle.archive_forms_deserializing.proofs.Outcomes.{payload_has, ok_read, err_read}
+use Rattle.archive_forms_deserializing.proofs.Outcomes.{payload_has, outcome_ends, ok_read, err_read}
 use Rattle.archive_forms_deserializing.proofs.result.deserialize_result_each.Goals as goal
 
 pub step-requires : goal.step-requires
 step-requires g c =
-    c.requires.takes _ _ (payload_has _ g.A.Portable.shape _ g.A.Portable.knows c.args.this.bytes.now c.args.this.pos _ _ _ c.in-Ok.ensures.1 c.in-Ok.ensures.2 c.requires.there)
+    c.requires.takes _ _ (outcome_ends g.A.Portable.shape g.B.Portable.shape c.args.this.pos _ c.in-Ok.ensures.1).0 (payload_has _ g.A.Portable.shape _ g.A.Portable.knows c.args.this.bytes.now c.args.this.pos _ _ _ c.in-Ok.ensures.1 c.in-Ok.ensures.2 c.requires.there)
 
 pub returns-in-Ok-step : goal.returns-in-Ok-step
 returns-in-Ok-step g c =
@@ -18,7 +18,7 @@ returns-in-Ok g c =
 
 pub step_of_error-requires : goal.step_of_error-requires
 step_of_error-requires g c =
-    c.requires.takes_errors _ _ (payload_has _ g.B.Portable.shape _ g.B.Portable.knows c.args.this.bytes.now c.args.this.pos _ _ _ c.in-Err.ensures.1 c.in-Err.ensures.2 c.requires.there)
+    c.requires.takes_errors _ _ (outcome_ends g.A.Portable.shape g.B.Portable.shape c.args.this.pos _ c.in-Err.ensures.1).1 (payload_has _ g.B.Portable.shape _ g.B.Portable.knows c.args.this.bytes.now c.args.this.pos _ _ _ c.in-Err.ensures.1 c.in-Err.ensures.2 c.requires.there)
 
 pub returns-in-Ok-step_of_error : goal.returns-in-Ok-step_of_error
 returns-in-Ok-step_of_error g c =

@@ -1,13 +1,14 @@
 use Rattle.std.proofs.Common.{[], ◌∷◌}
+use Rattle.archive_shape_layout.specs.Shape.Shapes.{no_shapes, more_shapes}
 use Rattle.archive_forms_tuples.specs.Fields.{field}
-use Rattle.archive_forms_deserializing.proofs.Fields.{field_has, tuple_has, none_read, field_read, tuple_read}
+use Rattle.archive_forms_deserializing.proofs.Fields.{field_has, first_ends, field_ends, tuple_has, none_read, field_read, tuple_read}
 use Rattle.archive_forms_deserializing.proofs.tuple2.deserialize_tuple2_each.Goals as goal
 
 pub read_first-requires : goal.read_first-requires
 read_first-requires g c =
     let bytes = c.args.this.bytes.now in
     let all = tuple_has (field g.A.Portable.shape g.A.Portable.knows ∷ field g.B.Portable.shape g.B.Portable.knows ∷ []) _ bytes c.args.this.pos c.first.ensures.value c.requires.there in
-    c.requires.takes_first _ _ (field_has (field g.A.Portable.shape g.A.Portable.knows) bytes _ _ _ _ c.first.ensures.pos all.each)
+    c.requires.takes_first _ _ (first_ends g.A.Portable.shape (more_shapes g.B.Portable.shape no_shapes) c.args.this.pos _ c.first.ensures.pos) (field_has (field g.A.Portable.shape g.A.Portable.knows) bytes _ _ _ _ c.first.ensures.pos all.each)
 
 pub returns-in-Err : goal.returns-in-Err
 returns-in-Err g c =
@@ -19,7 +20,7 @@ pub read_second-requires : goal.read_second-requires
 read_second-requires g c =
     let bytes = c.args.this.bytes.now in
     let all = tuple_has (field g.A.Portable.shape g.A.Portable.knows ∷ field g.B.Portable.shape g.B.Portable.knows ∷ []) _ bytes c.args.this.pos c.first.ensures.value c.requires.there in
-    c.requires.takes_second _ _ (field_has (field g.B.Portable.shape g.B.Portable.knows) bytes _ _ _ _ c.second.ensures.pos all.each.rest)
+    c.requires.takes_second _ _ (field_ends g.A.Portable.shape no_shapes g.B.Portable.shape no_shapes c.args.this.pos _ c.second.ensures.pos) (field_has (field g.B.Portable.shape g.B.Portable.knows) bytes _ _ _ _ c.second.ensures.pos all.each.rest)
 
 pub returns-in-Err-read_second : goal.returns-in-Err-read_second
 returns-in-Err-read_second g c =

@@ -1,5 +1,5 @@
-use Rattle.std.proofs.Common.{List, ℕ, ap, sym, subst}
-use Rattle.archive_forms_reading.specs.Parts.{HasElements}
+use Rattle.std.proofs.Common.{arith, List, ℕ, ap, sym, subst}
+use Rattle.archive_forms_reading.specs.Parts.{HasValue, HasElements}
 use Rattle.archive_forms_deserializing.specs.Deserializing.{DeserializesAll}
 use Rattle.archive_forms_deserializing.proofs.Read.{vec_has, vec_read}
 use Rattle.archive_forms_deserializing.proofs.vector.deserialize_vec_each.Goals as goal
@@ -9,6 +9,13 @@ deserialize_elements_each-requires-clause-there g c =
     let same = ap (λ bytes. bytes.now) c.as_slice.ensures.bytes in
     let P : List ℕ → Type 0 = λ bytes. HasElements g.A.Portable.shape g.A.Portable.knows bytes c.as_slice.result.pos c.as_slice.result.len in
     subst P (sym same) (vec_has g.A.Portable.shape g.A.Portable.knows c.args.this.bytes.now c.args.this.pos _ _ c.as_slice.ensures.elements c.requires.there)
+
+pub deserialize_elements_each-requires-clause-takes : goal.deserialize_elements_each-requires-clause-takes
+deserialize_elements_each-requires-clause-takes g c = λ d pos ends there.
+    let before = c.as_slice.ensures.elements.before c.requires.there in
+    let same = ap (λ bytes. bytes.now) c.as_slice.ensures.bytes in
+    let P : List ℕ → Type 0 = λ bytes. HasValue g.A.Portable.shape g.A.Portable.knows bytes pos in
+    c.requires.takes d pos (omega (arith, ends, before)) (subst P same there)
 
 pub returns : goal.returns
 returns g c =

@@ -1,7 +1,7 @@
 use Rattle.std.proofs.Common.{sym, ap, ◌∙◌}
 use Rattle.archive_shape_layout.specs.Value.Value.{string}
 use Rattle.archive_shape_canonical.specs.Sharing.{erased}
-use Rattle.archive_forms_deserializing.proofs.boxed_slices.ArchivedBoxedStrDeserializeBoxedStr.deserialize.Goals as goal
+use Rattle.archive_forms_deserializing.proofs.boxed_slices.StrDeserializeUnsizedBoxedStr.deserialize_unsized.Goals as goal
 
 pub returns-in-Ok : goal.returns-in-Ok
 returns-in-Ok g c = λ v held.
