@@ -3,6 +3,9 @@
 //! counts. A call that writes makes the values first: the time of a call that writes none is taken off. Rust writes own bytes
 //! in place, in the vector that grows, and also in pieces, as the library does, which has only a call that appends bytes.
 
+mod measured;
+
+use measured::{greatest, least, mixed, report};
 use std::hint::black_box;
 
 const ROUNDS: usize = 41;
@@ -106,36 +109,15 @@ fn processor_time() -> f64 {
     time.seconds as f64 * 1e9 + time.nanoseconds as f64
 }
 
+/// The least processor times of two calls, in nanoseconds.
+fn least_times(mut ours: impl FnMut(), mut rust: impl FnMut()) -> (f64, f64) {
+    least(ROUNDS, || nanoseconds(&mut ours), || nanoseconds(&mut rust))
+}
+
 fn nanoseconds(call: &mut impl FnMut()) -> f64 {
     let began = processor_time();
     call();
     processor_time() - began
-}
-
-/// The least times of two calls, which are made in turns.
-fn least(mut ours: impl FnMut(), mut rust: impl FnMut()) -> (f64, f64) {
-    let (mut by_ours, mut by_rust) = (f64::MAX, f64::MAX);
-    for round in 0..ROUNDS {
-        if round % 2 == 0 {
-            by_ours = by_ours.min(nanoseconds(&mut ours));
-            by_rust = by_rust.min(nanoseconds(&mut rust));
-        } else {
-            by_rust = by_rust.min(nanoseconds(&mut rust));
-            by_ours = by_ours.min(nanoseconds(&mut ours));
-        }
-    }
-    (by_ours, by_rust)
-}
-
-fn report(name: &str, elements: usize, (ours, rust): (f64, f64)) -> f64 {
-    let ratio = ours / rust;
-    let each = elements as f64;
-    println!(
-        "{name}: ours {:.2} ns, Rust {:.2} ns an element, ratio {ratio:.2}",
-        ours / each,
-        rust / each
-    );
-    ratio
 }
 
 /// Compares two functions that read the archive, which must give the same.
@@ -152,7 +134,7 @@ fn compare_reads<N: PartialEq + std::fmt::Debug>(
     assert_eq!(ours(bytes, pos), rust(bytes, pos), "{name}");
     let ours = || _ = black_box(ours(black_box(bytes), pos));
     let rust = || _ = black_box(rust(black_box(bytes), pos));
-    report(name, elements, least(ours, rust))
+    report(name, elements, least_times(ours, rust))
 }
 
 /// Compares functions that write archives, which must be as long. Rust writes them in place and in pieces.
@@ -169,8 +151,8 @@ fn compare_writes(
     for (rust, how) in rust.into_iter().zip(["in place", "in pieces"]) {
         let rust = |rounds| rust(black_box(numbers), rounds);
         assert_eq!(ours(1), rust(1), "{name}");
-        let none = least(|| _ = black_box(ours(0)), || _ = black_box(rust(0)));
-        let all = least(
+        let none = least_times(|| _ = black_box(ours(0)), || _ = black_box(rust(0)));
+        let all = least_times(
             || _ = black_box(ours(WRITES)),
             || _ = black_box(rust(WRITES)),
         );
@@ -178,18 +160,6 @@ fn compare_writes(
         ratio = report(&format!("{name}, {how}"), elements * WRITES, times).max(ratio);
     }
     ratio
-}
-
-/// Numbers without order, the same in each run.
-fn mixed(count: usize) -> Vec<u32> {
-    let mut state = 88_172_645_463_325_252u64;
-    let mut next = || {
-        state ^= state << 13;
-        state ^= state >> 7;
-        state ^= state << 17;
-        (state >> 32) as u32
-    };
-    (0..count).map(|_| next()).collect()
 }
 
 /// Lengths of texts, half of them of eight bytes at most, and the others of up to 40.
@@ -201,11 +171,12 @@ fn lengths() -> Vec<u32> {
             9 + n / 2 % 32
         }
     };
-    mixed(TEXTS).into_iter().map(of).collect()
+    mixed(TEXTS).map(of).collect()
 }
 
 fn main() {
-    let (numbers, lengths) = (mixed(OPTIONS), lengths());
+    let numbers: Vec<u32> = mixed(OPTIONS).collect();
+    let lengths = lengths();
     let options = rust::archived_options(&numbers);
     let texts = rust::archived_texts(&lengths);
     let lists = rust::archived_lists(&numbers);
@@ -283,6 +254,5 @@ fn main() {
             rust::sum_lists,
         ),
     ];
-    let most = ratios.into_iter().fold(0.0, f64::max);
-    println!("greatest ratio {most:.2}");
+    println!("greatest ratio {:.2}", greatest(ratios));
 }

@@ -1,6 +1,9 @@
 //! Times the loops over archived numbers in crates/archive_bench beside the same loops in Rust. Each loop stands in a
 //! function that is not inlined. Both are called in turns, and the least time of all rounds counts.
 
+mod measured;
+
+use measured::{greatest, least, mixed, report};
 use std::hint::black_box;
 use std::time::Instant;
 
@@ -261,24 +264,9 @@ fn nanoseconds(calls: usize, mut call: impl FnMut()) -> f64 {
 /// Compares the time that a call takes for each of its numbers, prints it, and gives the ratio.
 fn compare(name: &str, numbers: usize, mut ours: impl FnMut(), mut rust: impl FnMut()) -> f64 {
     let calls = SCANNED / numbers;
-    let (mut by_ours, mut by_rust) = (f64::MAX, f64::MAX);
-    for round in 0..ROUNDS {
-        if round % 2 == 0 {
-            by_ours = by_ours.min(nanoseconds(calls, &mut ours));
-            by_rust = by_rust.min(nanoseconds(calls, &mut rust));
-        } else {
-            by_rust = by_rust.min(nanoseconds(calls, &mut rust));
-            by_ours = by_ours.min(nanoseconds(calls, &mut ours));
-        }
-    }
-    let each = (calls * numbers) as f64;
-    let ratio = by_ours / by_rust;
-    println!(
-        "{name}: ours {:.3} ns, Rust {:.3} ns, ratio {ratio:.2}",
-        by_ours / each,
-        by_rust / each
-    );
-    ratio
+    let ours = || nanoseconds(calls, &mut ours);
+    let rust = || nanoseconds(calls, &mut rust);
+    report(name, calls * numbers, least(ROUNDS, ours, rust))
 }
 
 /// Compares two functions that read a buffer, which must give the same.
@@ -332,20 +320,13 @@ fn compare_writes(
 }
 
 /// Bytes without order, the same in each run.
-fn mixed(length: usize) -> Vec<u8> {
-    let mut state = 88_172_645_463_325_252u64;
-    let mut next = || {
-        state ^= state << 13;
-        state ^= state >> 7;
-        state ^= state << 17;
-        (state >> 32) as u8
-    };
-    (0..length).map(|_| next()).collect()
+fn mixed_bytes(length: usize) -> Vec<u8> {
+    mixed(length).map(|number| number as u8).collect()
 }
 
 /// Positions without order of i64s side by side.
 fn mixed_positions(numbers: usize) -> Vec<u32> {
-    let chosen = mixed(READ * 4);
+    let chosen = mixed_bytes(READ * 4);
     chosen
         .chunks_exact(4)
         .map(|own| u32::from_le_bytes(own.try_into().unwrap()) % numbers as u32 * 8)
@@ -354,7 +335,7 @@ fn mixed_positions(numbers: usize) -> Vec<u32> {
 
 /// Relative pointers side by side, each of which leads to one of them.
 fn pointers(count: usize) -> Vec<u8> {
-    let places = mixed(count * 4);
+    let places = mixed_bytes(count * 4);
     let mut bytes = Vec::new();
     for (i, own) in places.chunks_exact(4).enumerate() {
         let to = u32::from_le_bytes(own.try_into().unwrap()) as usize % count * 4;
@@ -365,7 +346,7 @@ fn pointers(count: usize) -> Vec<u8> {
 
 /// Compares reads of single numbers and pointers, and gives the ratios.
 fn single_reads(at: &[u32]) -> Vec<f64> {
-    let (numbers, led) = (mixed(FEW * 8), pointers(FEW * 2));
+    let (numbers, led) = (mixed_bytes(FEW * 8), pointers(FEW * 2));
     vec![
         compare_reads(
             "to_native of i64",
@@ -393,7 +374,7 @@ fn single_reads(at: &[u32]) -> Vec<f64> {
 
 /// Compares writes of single numbers, and gives the ratios.
 fn single_writes(at: &[u32]) -> Vec<f64> {
-    let numbers = mixed(FEW * 8);
+    let numbers = mixed_bytes(FEW * 8);
     assert!(at.iter().all(|p| *p as usize + 8 <= numbers.len()));
     // SAFETY: each position leaves room for 8 bytes in a buffer as long as `numbers`.
     let placed = |bytes: &mut [u8]| unsafe { ours::write_i64(bytes, at, black_box(FIRST)) };
@@ -407,7 +388,11 @@ fn single_writes(at: &[u32]) -> Vec<f64> {
 
 /// Compares scans, and gives the ratios.
 fn scans() -> Vec<f64> {
-    let (wide, narrow, led) = (mixed(SCANNED * 8), mixed(SCANNED * 4), pointers(SCANNED));
+    let (wide, narrow, led) = (
+        mixed_bytes(SCANNED * 8),
+        mixed_bytes(SCANNED * 4),
+        pointers(SCANNED),
+    );
     let filled = |bytes: &mut [u8]| ours::fill_i64(bytes, black_box(FIRST));
     let by_rust = |bytes: &mut [u8]| rust::fill_i64(bytes, black_box(FIRST));
     let by_chunks = |bytes: &mut [u8]| rust::fill_i64_by_chunks(bytes, black_box(FIRST));
@@ -448,6 +433,8 @@ fn main() {
     ratios.extend(single_writes(black_box(&at)));
     println!("{SCANNED} side by side, in Rust by position or by `chunks_exact`:");
     ratios.extend(scans());
-    let greatest = ratios.into_iter().fold(0.0, f64::max);
-    println!("greatest ratio {greatest:.2}, which is to be at most 1.10");
+    println!(
+        "greatest ratio {:.2}, which is to be at most 1.10",
+        greatest(ratios)
+    );
 }

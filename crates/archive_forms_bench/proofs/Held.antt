@@ -1,16 +1,15 @@
 -- Values that are elements.
-use Rattle.std.proofs.Common.{◌≡◌, ℕ, ◌+◌, ◌*◌, ◌<◌, List, subst, sym}
-use Rattle.std.specs.Prelude.{Option, Some, None, IfSome, MatchOption}
+use Rattle.std.proofs.Common.{◌≡◌, ℕ, ◌+◌, ◌*◌, ◌<◌, List, ap, subst, sym}
 use Rattle.archive_shape_layout.specs.Shape.{Shape, size_of}
 use Rattle.archive_shape_layout.specs.Shape.Shape.{text, option}
 use Rattle.archive_shape_layout.specs.Content.{Names}
-use Rattle.archive_forms_layout.specs.Text.{HasText}
-use Rattle.archive_forms_layout.proofs.Held.{held_is_text_law}
+use Rattle.archive_forms_layout.specs.Text.{HasText, IsText}
+use Rattle.archive_shape.proofs.Held.{claims_within}
+use Rattle.archive_forms_layout.proofs.Held.{held_is_text_law, text_value}
+use Rattle.archive_shape_layout.specs.Value.{Value}
+use Rattle.archive_shape.specs.Key.{HeldAt}
+use Rattle.archive_forms_ordering.specs.Views.{text_of}
 use Rattle.archive_forms_reading.specs.Parts.{HasValue, HasElements, IsSomeAt, some_position}
-
-pub if_some : {A : Type 0} (none : Type 0) (P Q : A → Type 0) (o : Option A) → MatchOption o none P → ((x : A) → P x → Q x) → IfSome o Q
-if_some none P Q (Some x) m f = f x m
-if_some none P Q None m f = tt
 
 -- a value stands at each index
 pub element_held : (s : Shape) (knows : Names → Type 0) (bytes : List ℕ) (start len i at : ℕ) → HasElements s knows bytes start len → i < len → at ≡ start + i * size_of s → HasValue s knows bytes at
@@ -27,4 +26,10 @@ some_held s knows bytes pos at has some e =
 pub text_there : (knows : Names → Type 0) (bytes : List ℕ) (pos : ℕ) → HasValue text knows bytes pos → HasText bytes pos
 text_there knows bytes pos has =
     let held = has.held in
-    (held_is_text_law held.names bytes held.level held.inside pos _ held.regions held.before held.after held.own_within held.within held.holds).stands.there
+    (held_is_text_law held.names bytes held.level held.inside pos _ held.regions held.before held.after held.own_within (claims_within held) held.holds).stands.there
+
+-- a text that is read is that of each value there
+pub text_read : (knows : Names → Type 0) (bytes : List ℕ) (pos : ℕ) (t : List ℕ) (v : Value) → HeldAt text knows bytes pos v → IsText bytes pos t → t ≡ text_of v
+text_read knows bytes pos t v held is =
+    let there = held_is_text_law held.names bytes held.level held.inside pos v held.regions held.before held.after held.own_within (claims_within held) held.holds in
+    sym (ap text_of (text_value bytes pos t v there is))

@@ -22,7 +22,7 @@ fn is_accepted<T: CheckBytes<RangeContext>>(alloc: Global, bytes: &[u8], pos: us
     if len < size || len - size < pos {
         return false;
     }
-    let mut context = RangeContext::new(alloc, len, MOST);
+    let mut context = RangeContext::new(alloc, pos, MOST);
     match T::check(alloc, bytes, pos, &mut context) {
         Ok(()) => true,
         Err(_) => false,

@@ -1,5 +1,5 @@
 //! A serializer that keeps what is written in memory.
-ghost use Rattle.std.specs.Prelude.{◌≡◌, ℕ, true, false, vec_len};
+ghost use Rattle.std.specs.Prelude.{◌≡◌, ℕ, [], true, false, vec_len};
 ghost use Rattle.archive_shape_writing.specs.Progress.Progress.{unmet};
 ghost use Rattle.archive_shape_writing.specs.declared.error.Error.TheVariants.{OutOfMemory};
 
@@ -15,7 +15,8 @@ pub struct MemorySerializer {
 
 impl MemorySerializer {
     pub fn new(alloc: Global) -> Self
-        ensures { vec_len result.bytes ≡ 0 }
+        ensures pos { vec_len result.bytes ≡ 0 }
+        ensures bytes { result.bytes.items ≡ [] }
     {
         MemorySerializer {
             bytes: Vec::new(alloc),
@@ -23,7 +24,10 @@ impl MemorySerializer {
         }
     }
 
-    pub fn bytes(&self) -> &[u8] {
+    /// What was written.
+    pub fn bytes(&self) -> &[u8]
+        ensures { result.now ≡ self.now.bytes.items }
+    {
         self.bytes.as_slice()
     }
 }

@@ -1,13 +1,13 @@
 //! Values that are archived again and again, called from outside.
 use crate::serializer::MemorySerializer;
-use archive_forms_writing::{Serialize, to_bytes_in};
+use archive_forms_writing::{Serialize, serialize_using};
 use archive_shape::Error;
 use std::alloc::Global;
 
 /// Archives a value, and answers how many bytes were written.
 fn serialized<T: Serialize<MemorySerializer>>(alloc: Global, value: &T) -> Result<usize, Error> {
     let mut serializer = MemorySerializer::new(alloc);
-    match to_bytes_in(value, &mut serializer) {
+    match serialize_using(value, &mut serializer) {
         Ok(_) => Ok(serializer.bytes().len()),
         Err(e) => Err(e),
     }
