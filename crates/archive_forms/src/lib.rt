@@ -12,15 +12,14 @@ pub use archive_forms_checking::{
 pub use archive_forms_collections::{
     resolve_from_slice, serialize_from_iter, serialize_from_iter_each, serialize_from_slice,
 };
-pub use archive_forms_comparing::{
-    ArchivedDebug, ArchivedEq, ArchivedHash, ArchivedOrd, ComparedNative,
-};
+pub use archive_forms_comparing::{ArchivedEq, ArchivedOrd, ComparedNative};
 pub use archive_forms_deserializing::{
-    Deserialize, deserialize_array_each, deserialize_box_each, deserialize_boxed_slice_each,
-    deserialize_option_each, deserialize_result_each, deserialize_tuple1_each,
-    deserialize_tuple2_each, deserialize_tuple3_each, deserialize_tuple4_each,
-    deserialize_vec_each,
+    Deserialize, DeserializeUnsized, deserialize_array_each, deserialize_box_each,
+    deserialize_boxed_slice_each, deserialize_option_each, deserialize_result_each,
+    deserialize_tuple1_each, deserialize_tuple2_each, deserialize_tuple3_each,
+    deserialize_tuple4_each, deserialize_vec_each,
 };
+pub use archive_forms_hashing::{ArchivedDebug, ArchivedHash};
 pub use archive_forms_reading::{
     ArchivedBox, ArchivedOption, ArchivedResult, ArchivedVec, BoxResolver, Iter, SliceRef,
     SliceSeal, VecResolver, array_element, array_element_seal, array_slice,
@@ -35,5 +34,5 @@ pub use archive_forms_writing::{
     serialize_box_each, serialize_boxed_slice_each, serialize_from_str, serialize_one_each,
     serialize_option_each, serialize_result_each, serialize_slice_each, serialize_str,
     serialize_tuple1_each, serialize_tuple2_each, serialize_tuple3_each, serialize_tuple4_each,
-    serialize_vec_each, to_bytes_in,
+    serialize_using, serialize_vec_each,
 };

@@ -1,5 +1,5 @@
 -- What is written of a list.
-use denote.Hole.Carrier.{out}
+use denote.Hole.Carrier.{out, roll}
 use Rattle.std.proofs.Common.{◌≡◌, ℕ, List as Listed, Option, Some, None, Ok, Err, Result, refl, ap, subst, ◌∙◌}
 use Rattle.std.specs.Prelude.{Box, MatchResult}
 use Rattle.std.specs.Global.{Global}
@@ -7,14 +7,22 @@ use Rattle.archive_shape_references.specs.Bytes.{overwrite}
 use Rattle.archive_shape_writing.specs.Writing.{WriterMembers}
 use Rattle.archive_shape_writing.specs.declared.error.Error.{Error}
 use Rattle.archive_shape_writing.specs.declared.error.Error.TheVariants.{IsizeOverflow}
+use Rattle.archive_shape_layout.specs.Shape.Shape.{box}
+use Rattle.archive_shape_layout.specs.Shape.Pointee.{sized}
+use Rattle.archive_shape_layout.specs.Value.Value.{chosen}
+use Rattle.archive_shape_layout.specs.Value.Values.{no_values, more_values}
 use Rattle.archive_forms_spelling.specs.Spelling.{Spelling}
+use Rattle.archive_forms_spelling.specs.Options.{option_spelling}
 use Rattle.archive_forms_spelling.specs.Pointers.{FitsOffset, offset_bytes}
 use Rattle.archive_forms_spelling.specs.Serializing.{Resolves, Serializes}
 use Rattle.archive_forms_writing.specs.Owned.{boxed_spelling}
 use Rattle.archive_forms_reading.specs.declared.resolving.BoxResolver.{BoxResolver}
+use Rattle.archive_forms_deserializing.specs.Deserializing.{IsReadAt}
 use Rattle.archive_forms_tests.specs.declared.recursive.list.List.{List, List', None', Some', out-List}
-use Rattle.archive_forms_tests.specs.Recursive.{list_shape}
+use Rattle.archive_forms_tests.specs.declared.recursive.list.List.TheViews.{roll-List}
+use Rattle.archive_forms_tests.specs.Recursive.{list_shape, list_body, KnowsList}
 use Rattle.archive_forms_tests.specs.Lists.{list_next, linked_spelling, list_spelling}
+use Rattle.archive_forms_tests.proofs.Named.{list_held}
 
 value_of : Option (Box List Global) → Option List
 value_of None = None
@@ -64,3 +72,30 @@ next_refused m (List' (Some' p y)) b old new error e h =
     let same : b.value ≡ y = cc in
     let P : List → Type 0 = λ z. Serializes (linked_spelling list_spelling) m z old new (Err error) in
     subst P same h
+
+-- ---- lists that are read back
+
+-- the option of a box as which a list is read
+abbrev next_spelling : Spelling (Option (Box List Global)) (Option BoxResolver)
+next_spelling = option_spelling (box (sized list_shape)) (boxed_spelling list_shape list_spelling)
+
+made_next : (o : Option (Box List Global)) → list_next (roll-List record { next = o }) ≡ value_of o
+unfolding roll-List roll value_of
+made_next None = refl
+made_next (Some b) = refl
+
+-- a list has the value that the option has which it is made of
+next_plain : (x : List) (o : Option (Box List Global)) → list_next x ≡ value_of o → list_spelling.plain x ≡ next_spelling.plain o
+unfolding value_of
+next_plain (List' None') None e = refl
+next_plain (List' None') (Some b) e = absurd (cc)
+next_plain (List' (Some' p y)) None e = absurd (cc)
+next_plain (List' (Some' p y)) (Some b) e =
+    let value : y ≡ b.value = cc in
+    ap (λ z. chosen 1 (more_values (list_spelling.plain z) no_values)) value
+
+pub list_read :
+    (bytes : Listed ℕ) (pos : ℕ) (o : Option (Box List Global))
+    → IsReadAt next_spelling list_body KnowsList bytes pos o
+    → IsReadAt list_spelling list_shape KnowsList bytes pos (roll-List record { next = o })
+list_read bytes pos o read v h = next_plain (roll-List record { next = o }) o (made_next o) ∙ read v (list_held bytes pos v h)

@@ -1,7 +1,6 @@
 //! Tests of values that are read back.
-ghost use Rattle.std.specs.Prelude.{[]};
-
 mod texts;
+mod unsized_values;
 mod values;
 
 use crate::narrow_context::NarrowContext;
@@ -10,21 +9,21 @@ use archive_forms_writing::Archive;
 use archive_shape::{CheckBytes, Error, Ref};
 use std::alloc::Global;
 
-/// Checks the value at a position in a context of its own, and reads it back.
-fn read_back<T: Archive, A: CheckBytes<NarrowContext> + Deserialize<T, ()>>(
+/// Checks the value at a position in a context of its own, of the bytes before it, and reads it back.
+pub(crate) fn read_back<T: Archive, A: CheckBytes<NarrowContext> + Deserialize<T, ()>>(
     alloc: Global,
     bytes: &[u8],
     pos: usize,
     most: usize,
 ) -> Result<T, Error>
-    requires { A.knows [] }
+    requires { A.knows A.named }
 {
     let len = bytes.len();
     let size = A::SIZE;
     if len < size || len - size < pos {
         return Err(Error::BufferOverflow);
     }
-    let mut context = NarrowContext::new(alloc, len, most);
+    let mut context = NarrowContext::new(alloc, pos, most);
     A::check(alloc, bytes, pos, &mut context)?;
     A::deserialize(&Ref::new(bytes, pos), alloc, &mut ())
 }

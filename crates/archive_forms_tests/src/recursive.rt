@@ -2,6 +2,8 @@
 #[cfg(test)]
 mod checking;
 pub mod list;
+#[cfg(test)]
+mod reading_back;
 pub mod tree;
 #[cfg(test)]
 mod trees;

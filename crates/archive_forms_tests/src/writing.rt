@@ -9,7 +9,7 @@ mod texts;
 mod tuples;
 mod unsized_values;
 
-use archive_forms_writing::{Serialize, to_bytes_in};
+use archive_forms_writing::{Serialize, serialize_using};
 use serializer::MemorySerializer;
 use std::alloc::Global;
 
@@ -20,7 +20,7 @@ pub(crate) fn is_archived_as<T: Serialize<MemorySerializer>>(
     bytes: &[u8],
 ) -> bool {
     let mut serializer = MemorySerializer::new(alloc);
-    match to_bytes_in(value, &mut serializer) {
+    match serialize_using(value, &mut serializer) {
         Ok(_) => serializer.bytes() == bytes,
         Err(_) => false,
     }

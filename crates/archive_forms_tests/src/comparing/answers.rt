@@ -1,7 +1,8 @@
 //! What the calls answer for values that were checked.
 ghost use Rattle.archive_forms_reading.specs.Parts.{HasValue};
 
-use archive_forms_comparing::{ArchivedDebug, ArchivedHash, ArchivedOrd};
+use archive_forms_comparing::ArchivedOrd;
+use archive_forms_hashing::{ArchivedDebug, ArchivedHash};
 use archive_shape::Ref;
 use std::alloc::Global;
 use std::cmp::Ordering;

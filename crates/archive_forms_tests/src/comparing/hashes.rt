@@ -1,7 +1,9 @@
 //! Tests of what is hashed.
 use super::answers::hash_of;
 use crate::reading::checked::checked;
+use archive_forms_boxed::{ArchivedBoxedSlice, ArchivedBoxedStr};
 use archive_forms_reading::{ArchivedOption, ArchivedVec};
+use archive_forms_tuples::Entry;
 use std::hash::{DefaultHasher, Hash, Hasher};
 use std::test::Fail;
 
@@ -33,5 +35,39 @@ fn none_as_a_native_one(rt: HostRuntime) -> Result<(), Fail> {
     let native: Option<u8> = None;
     Hash::hash(&native, &mut state);
     assert_eq!(rt; hash_of(&none), state.finish());
+    Ok(())
+}
+
+#[test]
+fn array_and_boxed_slice_as_a_native_slice(rt: HostRuntime) -> Result<(), Fail> {
+    let array = checked::<[u8; 2]>(rt.alloc(), b"\x01\x02", 0)?;
+    let bytes = b"\x01\x02..\xfc\xff\xff\xff\x02\0\0\0";
+    let boxed = checked::<ArchivedBoxedSlice<u8>>(rt.alloc(), bytes, 4)?;
+    let mut state = DefaultHasher::new();
+    let native: &[u8] = &[1, 2];
+    Hash::hash(&native, &mut state);
+    let expected = state.finish();
+    assert_eq!(rt; hash_of(&array), expected);
+    assert_eq!(rt; hash_of(&boxed), expected);
+    Ok(())
+}
+
+#[test]
+fn boxed_text_as_a_native_one(rt: HostRuntime) -> Result<(), Fail> {
+    let bytes = b"...hello\xfb\xff\xff\xff\x05\0\0\0";
+    let boxed = checked::<ArchivedBoxedStr>(rt.alloc(), bytes, 8)?;
+    let mut state = DefaultHasher::new();
+    Hash::hash("hello", &mut state);
+    assert_eq!(rt; hash_of(&boxed), state.finish());
+    Ok(())
+}
+
+#[test]
+fn entry_as_a_native_tuple(rt: HostRuntime) -> Result<(), Fail> {
+    let entry = checked::<Entry<u8, bool>>(rt.alloc(), b"\x07\x01", 0)?;
+    let mut state = DefaultHasher::new();
+    let native: (u8, bool) = (7, true);
+    Hash::hash(&native, &mut state);
+    assert_eq!(rt; hash_of(&entry), state.finish());
     Ok(())
 }

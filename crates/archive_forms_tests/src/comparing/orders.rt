@@ -1,8 +1,9 @@
 //! Tests of how forms with parts are compared.
 use super::answers::compared;
 use crate::reading::checked::checked;
+use archive_forms_boxed::{ArchivedBoxedSlice, ArchivedBoxedStr};
 use archive_forms_reading::{ArchivedBox, ArchivedOption, ArchivedResult, ArchivedVec};
-use archive_forms_tuples::{ArchivedTuple2, ArchivedTuple3};
+use archive_forms_tuples::{ArchivedTuple2, ArchivedTuple3, Entry};
 use std::cmp::Ordering;
 use std::test::Fail;
 
@@ -91,5 +92,56 @@ fn box_as_its_value(rt: HostRuntime) -> Result<(), Fail> {
     let bytes = b"\x05.......\xf8\xff\xff\xff";
     let far = checked::<ArchivedBox<u8>>(rt.alloc(), bytes, 8)?;
     assert_eq!(rt; compared(&near, &far), (true, Ordering::Equal));
+    Ok(())
+}
+
+#[test]
+fn entry_by_its_key_and_then_by_its_value(rt: HostRuntime) -> Result<(), Fail> {
+    let low = checked::<Entry<u8, u8>>(rt.alloc(), b"\x01\x02", 0)?;
+    let middle = checked::<Entry<u8, u8>>(rt.alloc(), b"\x01\x03", 0)?;
+    let high = checked::<Entry<u8, u8>>(rt.alloc(), b"\x02\x00", 0)?;
+    assert_eq!(rt; compared(&low, &low), (true, Ordering::Equal));
+    assert_eq!(rt; compared(&low, &middle), (false, Ordering::Less));
+    assert_eq!(rt; compared(&high, &middle), (false, Ordering::Greater));
+    Ok(())
+}
+
+#[test]
+fn array_by_its_first_other_element(rt: HostRuntime) -> Result<(), Fail> {
+    let low = checked::<[u8; 3]>(rt.alloc(), b"\x01\x02\x09", 0)?;
+    let high = checked::<[u8; 3]>(rt.alloc(), b"..\x01\x03\0", 2)?;
+    assert_eq!(rt; compared(&low, &low), (true, Ordering::Equal));
+    assert_eq!(rt; compared(&low, &high), (false, Ordering::Less));
+    assert_eq!(rt; compared(&high, &low), (false, Ordering::Greater));
+    Ok(())
+}
+
+#[test]
+fn boxed_slice_by_its_first_other_element_and_then_by_its_length(
+    rt: HostRuntime,
+) -> Result<(), Fail> {
+    let bytes = b"\x01\x02..\xfc\xff\xff\xff\x02\0\0\0";
+    let short = checked::<ArchivedBoxedSlice<u8>>(rt.alloc(), bytes, 4)?;
+    let bytes = b"....\x01\x02\0.\xfc\xff\xff\xff\x03\0\0\0";
+    let long = checked::<ArchivedBoxedSlice<u8>>(rt.alloc(), bytes, 8)?;
+    let bytes = b"\x02...\xfc\xff\xff\xff\x01\0\0\0";
+    let high = checked::<ArchivedBoxedSlice<u8>>(rt.alloc(), bytes, 4)?;
+    assert_eq!(rt; compared(&short, &short), (true, Ordering::Equal));
+    assert_eq!(rt; compared(&short, &long), (false, Ordering::Less));
+    assert_eq!(rt; compared(&high, &long), (false, Ordering::Greater));
+    Ok(())
+}
+
+#[test]
+fn boxed_text_by_its_bytes(rt: HostRuntime) -> Result<(), Fail> {
+    let bytes = b".hello..\xf9\xff\xff\xff\x05\0\0\0";
+    let near = checked::<ArchivedBoxedStr>(rt.alloc(), bytes, 8)?;
+    let bytes = b"....hello...\xf8\xff\xff\xff\x05\0\0\0";
+    let far = checked::<ArchivedBoxedStr>(rt.alloc(), bytes, 12)?;
+    let bytes = b".help...\xf9\xff\xff\xff\x04\0\0\0";
+    let help = checked::<ArchivedBoxedStr>(rt.alloc(), bytes, 8)?;
+    assert_eq!(rt; compared(&near, &far), (true, Ordering::Equal));
+    assert_eq!(rt; compared(&near, &help), (false, Ordering::Less));
+    assert_eq!(rt; compared(&help, &far), (false, Ordering::Greater));
     Ok(())
 }

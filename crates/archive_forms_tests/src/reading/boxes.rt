@@ -7,13 +7,13 @@ use std::test::Fail;
 #[test]
 fn value_of_a_box_stands_at_its_offset(rt: HostRuntime) -> Result<(), Fail> {
     let rows = [
-        (*b"\x05\0..\xfc\xff\xff\xff\x07\0..", 0),
-        (*b"\x05\0..\x04\0\0\0\x07\0..", 8),
+        (*b"\x05\0..\x07\0..\xf8\xff\xff\xff", 0),
+        (*b"\x05\0..\x07\0..\xfc\xff\xff\xff", 4),
     ];
     for (mut bytes, target) in rows {
-        let boxed = checked::<ArchivedBox<ArchivedU16>>(rt.alloc(), &bytes, 4)?;
+        let boxed = checked::<ArchivedBox<ArchivedU16>>(rt.alloc(), &bytes, 8)?;
         assert_eq!(rt; ArchivedBox::get(boxed).pos(), target, "{bytes:?}");
-        let value = ArchivedBox::<ArchivedU16>::get_seal(Seal::new(&mut bytes, 4));
+        let value = ArchivedBox::<ArchivedU16>::get_seal(Seal::new(&mut bytes, 8));
         assert_eq!(rt; value.pos(), target);
     }
     Ok(())

@@ -6,7 +6,7 @@ use crate::narrow_context::NarrowContext;
 use archive_shape::{CheckBytes, Error, Ref};
 use std::alloc::Global;
 
-/// Checks the value at a position in a context of its own.
+/// Checks the value at a position in a context of its own, of the bytes before it.
 pub fn checked<T: CheckBytes<NarrowContext>>(
     alloc: Global,
     bytes: &[u8],
@@ -20,7 +20,7 @@ pub fn checked<T: CheckBytes<NarrowContext>>(
     if len < size || len - size < pos {
         return Err(Error::BufferOverflow);
     }
-    let mut context = NarrowContext::new(alloc, len, 1);
+    let mut context = NarrowContext::new(alloc, pos, 1);
     T::check(alloc, bytes, pos, &mut context)?;
     Ok(Ref::new(bytes, pos))
 }

@@ -16,15 +16,19 @@ ghost use Rattle.archive_forms_spelling.proofs.Options.{none_spells, some_spells
 ghost use Rattle.archive_forms_spelling.proofs.Pointers.{box_spells_at};
 ghost use Rattle.archive_forms_spelling.proofs.Views.{kept_spells_at, seen_spells_at};
 ghost use Rattle.archive_forms_spelling.specs.Spells.{SpellsAt};
+ghost use Rattle.archive_forms_reading.specs.Parts.{HasValue};
+ghost use Rattle.archive_forms_writing.specs.Owned.{boxed_spelling};
+ghost use Rattle.archive_forms_deserializing.specs.Deserializing.{Deserializes, DeserializesBy};
 ghost use Rattle.archive_forms_tests.specs.declared.recursive.list.List.{List as ListDenot, List', Held-List-next, None', Some'};
 ghost use Rattle.archive_forms_tests.specs.Recursive.{list_shape, list_body, KnowsList};
 ghost use Rattle.archive_forms_tests.specs.Lists.{list_next, links, linked_spelling, list_level, no_list, list_spelling};
 
 use archive_forms_checking::{check_box_each, check_option_each};
-use archive_forms_reading::{ArchivedBox, BoxResolver};
+use archive_forms_deserializing::{Deserialize, deserialize_box_each, deserialize_option_each};
+use archive_forms_reading::{ArchivedBox, ArchivedOption, BoxResolver};
 use archive_forms_writing::{Archive, Serialize, serialize_box_each};
 use archive_shape::{
-    Alignment, Allocator, ArchiveContext, CheckBytes, Error, Place, Portable, Shape, Writer,
+    Alignment, Allocator, ArchiveContext, CheckBytes, Error, Place, Portable, Ref, Shape, Writer,
 };
 use std::alloc::{AllocError, Global};
 use std::marker::PhantomData;
@@ -219,5 +223,87 @@ fn serialize_list<S: Writer + Allocator>(
 impl<S: Writer + Allocator> Serialize<S> for List {
     fn serialize(&self, serializer: &mut S) -> Result<Option<BoxResolver>, Error> {
         serialize_list(self, serializer)
+    }
+}
+
+/// Reads the list at `pos` back.
+#[cycle(read_list)]
+#[tactic(auto, unfolding(archive_shape_layout::specs::Bytes::align_up))]
+fn deserialize_list<D>(
+    bytes: &[u8],
+    pos: usize,
+    alloc: Global,
+    deserializer: &mut D,
+) -> Result<List, Error>
+    requires { HasValue list_shape KnowsList bytes.now pos }
+    ensures { Deserializes list_spelling list_shape KnowsList bytes.now pos result }
+{
+    let this = Ref::<ArchivedOption<ArchivedBox<ArchivedList>>> {
+        bytes,
+        pos,
+        of: PhantomData,
+    };
+    let next = deserialize_option_each::<Box<List>, ArchivedBox<ArchivedList>, D, _>(
+        this,
+        deserializer,
+        |d: &mut D, p: usize| -> Result<(Box<List>, PhantomData<ArchivedBox<ArchivedList>>), Error>
+            requires ends { p + 4 ≤ pos + 8 }
+            requires there { HasValue (box (sized list_shape)) KnowsList bytes.now p }
+            ensures { DeserializesBy (boxed_spelling list_shape list_spelling) (box (sized list_shape)) KnowsList bytes.entry.now p (λ q. q.0) result }
+        {
+            let _ = &pos;
+            match deserialize_boxed(bytes, p, alloc, d) {
+                Ok(boxed) => Ok((boxed, PhantomData)),
+                Err(e) => Err(e),
+            }
+        },
+    );
+    match next {
+        Ok(next) => Ok(List { next }),
+        Err(e) => Err(e),
+    }
+}
+
+/// Reads the box of a list at `pos` back.
+#[cycle(read_list)]
+fn deserialize_boxed<D>(
+    bytes: &[u8],
+    pos: usize,
+    alloc: Global,
+    deserializer: &mut D,
+) -> Result<Box<List>, Error>
+    requires { HasValue (box (sized list_shape)) KnowsList bytes.now pos }
+    ensures { Deserializes (boxed_spelling list_shape list_spelling) (box (sized list_shape)) KnowsList bytes.now pos result }
+{
+    let this = Ref::<ArchivedBox<ArchivedList>> {
+        bytes,
+        pos,
+        of: PhantomData,
+    };
+    deserialize_box_each::<List, ArchivedList, D, _>(
+        this,
+        alloc,
+        deserializer,
+        |d: &mut D, p: usize| -> Result<(List, PhantomData<ArchivedList>), Error>
+            requires ends { p + 8 ≤ pos }
+            requires there { HasValue list_shape KnowsList bytes.now p }
+            ensures { DeserializesBy list_spelling list_shape KnowsList bytes.entry.now p (λ q. q.0) result }
+        {
+            let _ = &pos;
+            match deserialize_list(bytes, p, alloc, d) {
+                Ok(list) => Ok((list, PhantomData)),
+                Err(e) => Err(e),
+            }
+        },
+    )
+}
+
+impl<D> Deserialize<List, D> for ArchivedList {
+    fn deserialize(
+        this: &Ref<'_, ArchivedList>,
+        alloc: Global,
+        deserializer: &mut D,
+    ) -> Result<List, Error> {
+        deserialize_list(this.bytes, this.pos, alloc, deserializer)
     }
 }

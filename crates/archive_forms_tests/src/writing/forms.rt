@@ -45,3 +45,15 @@ fn a_vector_of_vectors(rt: HostRuntime) -> Result<(), Fail> {
     assert!(rt; is_archived_as(alloc, &lists, &bytes));
     Ok(())
 }
+
+#[test]
+fn vectors_of_sixteen_and_of_seventeen_numbers(rt: HostRuntime) -> Result<(), Fail> {
+    let alloc = rt.alloc();
+    let sixteen = Vec::from_slice(alloc, b"abcdefghijklmnop")?;
+    let bytes = *b"abcdefghijklmnop\xf0\xff\xff\xff\x10\0\0\0";
+    assert!(rt; is_archived_as(alloc, &sixteen, &bytes));
+    let seventeen = Vec::from_slice(alloc, b"abcdefghijklmnopq")?;
+    let bytes = *b"abcdefghijklmnopq\0\0\0\xec\xff\xff\xff\x11\0\0\0";
+    assert!(rt; is_archived_as(alloc, &seventeen, &bytes));
+    Ok(())
+}

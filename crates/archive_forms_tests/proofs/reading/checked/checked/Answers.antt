@@ -1,29 +1,8 @@
-use Rattle.std.proofs.Common.{rules, ◌+◌, ◌≤◌, [], length, All, refl, subst}
-use Rattle.archive_shape_layout.specs.Holds.{Region}
-use Rattle.archive_shape_layout.proofs.Rooted.{inside_high}
+use Rattle.std.proofs.Common.{rules, arith, [], refl}
+use Rattle.archive_forms_reading.proofs.Accepted.{accepted_has_value}
 use Rattle.archive_forms_tests.proofs.reading.checked.checked.Goals as goal
 
 pub returns : goal.returns
 returns g c =
     let passes = (c.in_ok-check.ensures.exact [] c.requires [] [] (λ pos. refl)).passes in
-    let ascends = inside_high c.new-context.result.start c.new-context.result.end passes.regions passes.accepts.ascends in
-    let within : All (λ (r : Region). r.start + r.size ≤ length c.args.bytes.now) passes.regions =
-    subst (λ n. All (λ (r : Region). r.start + r.size ≤ n) passes.regions) c.new-context.ensures.end ascends in (
-      c.new.ensures.bytes,
-      c.new.ensures.pos,
-      record {
-        value = passes.value;
-        held = record {
-          names = [];
-          known = c.requires;
-          level = _;
-          inside = [];
-          regions = passes.regions;
-          before = [];
-          after = passes.after;
-          own_within = search rules;
-          within = within;
-          holds = passes.accepts.holds;
-        };
-      },
-    )
+    (c.new.ensures.bytes, c.new.ensures.pos, accepted_has_value _ _ [] c.args.bytes.now [] [] c.args.pos _ c.requires (omega (arith, c.new-context.ensures.end)) (search rules) passes)
