@@ -1,0 +1,63 @@
+-- What is written as a root, from any position on, is the one archive of its value there.
+use Rattle.std.proofs.Common.{◌≡◌, ℕ, ◌+◌, ◌-◌, ◌%◌, ◌*◌, ◌<◌, List, [], ◌∷◌, ◌++◌, take, length, length-append, sym, ap, subst, ◌∙◌, arith, slice_index, inr, ⊎_elim}
+use Rattle.std.proofs.lemmas.Bool.{cases_lt}
+use Rattle.std.proofs.lemmas.List.{take_all, get_or_past}
+use Rattle.std.proofs.Math.Seq.{drop-append_seam}
+use Rattle.archive_shape_layout.specs.Shape.{Shape, size_of, align_of}
+use Rattle.archive_shape_layout.specs.Content.{Names}
+use Rattle.archive_shape_layout.specs.Holds.{Ascends, root_position}
+use Rattle.archive_shape_canonical.specs.Settled.{Fit}
+use Rattle.archive_shape_canonical.specs.Canonical.{CanonicalArchive, AreBytes}
+use Rattle.archive_shape_references.specs.Bytes.{HasBytes}
+use Rattle.archive_shape.proofs.Held.{ascends_lowered}
+use Rattle.archive_forms_spelling.specs.State.{State, Keys, IsConsistent, AreOneToOne, visits_of}
+use Rattle.archive_forms_spelling.specs.Spelling.{Spelling}
+use Rattle.archive_forms_spelling.specs.Spells.{Spells}
+use Rattle.archive_forms_spelling.specs.Regions.{region_at}
+use Rattle.archive_forms_spelling.proofs.Aligning.{starts_aligned}
+use Rattle.archive_forms_spelling.proofs.Regions.{boxed_canonical, region_end, region_bytes}
+use Rattle.archive_forms_spelling.proofs.Gaps.{bytes_append}
+use Rattle.archive_forms_spelling.proofs.Written.{are_distinct}
+use Rattle.archive_core.specs.Written.{from_position, IsWrittenFrom, root_piece, root_fits}
+
+pub written_from : {A R : Type 0} (fit : Fit) (s : Shape) (knows : Names → Type 0) (w : Spelling A R) (x : A) (names : Names) (keys : Keys) (front bytes : List ℕ) (start : ℕ)
+    → Spells fit s knows w → knows names → w.keyed_by keys x → AreOneToOne keys
+    → root_fits s w x start → length front ≡ start → AreBytes front → bytes ≡ front ++ root_piece s w x start → IsWrittenFrom start s w x fit names bytes
+unfolding root_position
+written_from fit s knows w x names keys front bytes start spells k n one f long are_front e =
+    let st : State = from_position start in
+    let piece = root_piece s w x start in
+    let t = region_at w s (x ∷ []) st in
+    let state : IsConsistent st = record { before = tt; descending = tt; own_keys = tt; new_keys = tt } in
+    let same : length bytes ≡ start + length piece = ap length e ∙ length-append front piece ∙ ap (λ m. m + length piece) long in
+    let P : List ℕ → Type 0 = λ bs. HasBytes bs start piece in
+    let Q : ℕ → Type 0 = λ at. HasBytes (front ++ piece) at piece in
+    let stands : HasBytes bytes start piece = subst P (sym e) (subst Q long (take_all_behind front piece)) in
+    let h = boxed_canonical fit s knows w x (spells x) st names keys bytes 0 [] k n tt state tt f stands in
+    let last = (spells x).consistent st state f.0.0 in
+    let told = (spells x).keyed keys st n tt f.0.0 in
+    let end : start + length piece ≡ t + 1 * size_of s = region_end fit s knows w (x ∷ []) (spells x, tt) st f in
+    let len : length bytes ≡ t + size_of s = omega (arith, same, end) in
+    let aligned : t % align_of s ≡ 0 = starts_aligned s (start + length (w.piece x st)) in
+    let before : length bytes - size_of s ≡ t = omega (arith, len) in
+    let at : t ≡ (length bytes - size_of s) - (length bytes - size_of s) % align_of s = sym (ap (λ m. m - m % align_of s) before ∙ ap (λ r. t - r) aligned ∙ omega arith) in
+    let whole : start + length piece ≡ length bytes = sym same in
+    let are = region_bytes fit s knows w (x ∷ []) (spells x, tt) st f in
+    let R : ℕ → Type 0 = λ pos. CanonicalArchive fit names bytes start pos s (w.value x st) h.regions (visits_of (w.met x st)) in
+    let all : AreBytes (front ++ piece) = bytes_append front piece are_front are in
+    record {
+      regions = h.regions;
+      visits = visits_of (w.met x st);
+      canonical = subst R at (record {
+        root = record { holds = h.reads.holds; ascends = ascends_lowered 0 start (length bytes) h.regions (omega arith) (subst (λ high. Ascends start high h.regions) whole h.ascends) };
+        canonical = h.reads.canonical;
+        ends = h.reads.ends ∙ whole;
+        gaps = λ i low. ⊎_elim (λ l. h.gaps i low (omega (arith, l, whole))) (λ g. inr (get_or_past bytes i 0 g)) (cases_lt i (length bytes));
+        once = are_distinct keys one (w.met x st) last.own_keys told.1;
+        bytes_are = subst AreBytes (sym e) all;
+      });
+      plain = told.0;
+    }
+  where
+    take_all_behind : (xs ys : List ℕ) → HasBytes (xs ++ ys) (length xs) ys
+    take_all_behind xs ys = ap (λ bs. take (length ys) bs) (drop-append_seam xs ys) ∙ take_all (length ys) ys (omega arith)

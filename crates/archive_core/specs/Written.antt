@@ -1,0 +1,77 @@
+-- What is written as the root of an archive, from any position on.
+use Rattle.std.specs.Prelude.{◌≡◌, ℕ, ◌∷◌, [], List, length, IsTrue, Result, MatchResult, ◌⊎◌}
+use Rattle.archive_shape_layout.specs.Shape.{Shape}
+use Rattle.archive_shape_layout.specs.Content.{Names}
+use Rattle.archive_shape_layout.specs.Holds.{Region, Visit, root_position}
+use Rattle.archive_shape_canonical.specs.Settled.{Fit}
+use Rattle.archive_shape_canonical.specs.Sharing.{erased}
+use Rattle.archive_shape_canonical.specs.Canonical.{CanonicalArchive, AreBytes}
+use Rattle.archive_shape_writing.specs.Writing.{WriterMembers, Written, Failed}
+use Rattle.archive_shape_writing.specs.Progress.Progress.{unmet}
+use Rattle.archive_shape_writing.specs.declared.error.Error.{Error}
+use Rattle.archive_shape_writing.specs.declared.error.Error.TheVariants.{OutOfMemory}
+use Rattle.archive_forms_spelling.specs.State.{State, Keys, AreOneToOne}
+use Rattle.archive_forms_spelling.specs.Spelling.{Spelling}
+use Rattle.archive_forms_spelling.specs.Regions.{region_piece, region_fits, region_refused}
+use Rattle.archive_forms_spelling.specs.Serializing.{Stopped}
+
+-- the next byte has this position, and no shared value was written
+abbrev pub from_position : ℕ → State
+from_position n = record { pos = n; met = []; begun = [] }
+
+-- bytes are, from a position on, the archive that writing a value there makes, and its root ends them
+pub record IsWrittenFrom {A R : Type 0} (start : ℕ) (s : Shape) (w : Spelling A R) (x : A) (fit : Fit) (names : Names) (bytes : List ℕ) : Type 0 where
+  pub regions : List Region
+  pub visits : List Visit
+  pub canonical : CanonicalArchive fit names bytes start (root_position (length bytes) s) s (w.value x (from_position start)) regions visits
+  pub plain : erased (w.value x (from_position start)) ≡ w.plain x
+
+-- the data of a value and behind it its own bytes, where the next byte has a position
+abbrev pub root_piece : {A R : Type 0} → Shape → Spelling A R → A → ℕ → List ℕ
+root_piece s w x n = region_piece w s (x ∷ []) (from_position n)
+
+-- they pass no limit; they pass one, and are refused by this error
+abbrev pub root_fits : {A R : Type 0} → Shape → Spelling A R → A → ℕ → Type 0
+root_fits s w x n = region_fits w s (x ∷ []) (from_position n)
+
+abbrev pub root_refused : {A R : Type 0} → Shape → Spelling A R → A → ℕ → Error → Type 0
+root_refused s w x n e = region_refused w s (x ∷ []) (from_position n) e
+
+module _ {A R W : Type 0} (s : Shape) (w : Spelling A R) (m : WriterMembers W) (x : A) (old : W) where
+  -- what a call that archives a value in a writer promises; a refusal drops the writer, which then held a part of the piece
+  abbrev pub ArchivesIn : Result W Error → Type 0
+  ArchivesIn result =
+      let piece = root_piece s w x (m.pos old) in
+      MatchResult result
+      (λ new. Written m.OBSERVABLE m.COUNTS m.contents m.pos m.failures m.last_error (λ _ _. unmet) old new piece × root_fits s w x (m.pos old))
+      (λ e. (new : W)
+      × (Failed m.OBSERVABLE m.COUNTS m.contents m.pos m.failures m.last_error (λ _ _. unmet) old new piece e
+      ⊎ Stopped m.OBSERVABLE m.contents m.failures old new piece (root_refused s w x (m.pos old)) e))
+
+  -- what a writer then holds, where its position counts all the bytes that it holds
+  abbrev pub HoldsArchive : (Names → Type 0) → W → Type 0
+  HoldsArchive knows new =
+      IsTrue m.OBSERVABLE
+      → length (m.contents old) ≡ m.pos old
+      → AreBytes (m.contents old)
+      → (fit : Fit) (names : Names) (keys : Keys)
+      → knows names
+      → w.keyed_by keys x
+      → AreOneToOne keys
+      → IsWrittenFrom (m.pos old) s w x fit names (m.contents new)
+
+module _ {A R : Type 0} (s : Shape) where
+  -- what a call that archives a value in memory promises: the bytes are those of a root at the start of an archive; else
+  -- memory was refused, or a limit is passed
+  abbrev pub MakesBytes : {Q : Type 0} → Spelling A R → A → (Q → List ℕ) → Result Q Error → Type 0
+  MakesBytes w x bytes_of result =
+      MatchResult result (λ q. (bytes_of q ≡ root_piece s w x 0) × root_fits s w x 0) (λ e. (e ≡ OutOfMemory) ⊎ root_refused s w x 0 e)
+
+  -- bytes are the one archive of a value
+  abbrev pub MadeArchive : (Names → Type 0) → Spelling A R → A → List ℕ → Type 0
+  MadeArchive knows w x bytes =
+      (fit : Fit) (names : Names) (keys : Keys)
+      → knows names
+      → w.keyed_by keys x
+      → AreOneToOne keys
+      → IsWrittenFrom 0 s w x fit names bytes
