@@ -1,0 +1,257 @@
+//! Tests of access to buffers.
+ghost use Rattle.std.specs.Prelude.{◌≡◌, length};
+
+use archive_core_access::{
+    access, access_mut, access_pos, access_pos_mut, access_pos_with_context, access_with_context,
+    check_pos_with_context, root_position,
+};
+use archive_core_validation::{ArchiveValidator, HighValidator, Validator};
+use archive_forms_boxed::ArchivedBoxedSlice;
+use archive_forms_reading::{ArchivedBox, ArchivedOption};
+use archive_shape_checking::{CheckBytes, Error};
+use archive_shape_portable::ArchivedU32;
+use archive_shape_references::Ref;
+use std::alloc::Global;
+
+type MaybeBytes = ArchivedOption<ArchivedBoxedSlice<u8>>;
+
+type TwoSlices = [ArchivedBoxedSlice<u8>; 2];
+
+type Link<T> = ArchivedOption<ArchivedBox<T>>;
+
+fn validator(alloc: Global, bytes: &[u8], max_depth: usize) -> HighValidator
+    ensures start { result.archive.start ≡ 0 }
+    ensures end { result.archive.end ≡ length bytes.now }
+{
+    Validator::new(
+        ArchiveValidator::with_max_depth(alloc, bytes, max_depth),
+        (),
+    )
+}
+
+fn position_of<T>(root: Result<Ref<'_, T>, Error>) -> Result<usize, Error> {
+    match root {
+        Ok(root) => Ok(root.pos()),
+        Err(refusal) => Err(refusal),
+    }
+}
+
+fn root_of<T: CheckBytes<HighValidator>>(alloc: Global, bytes: &[u8]) -> Result<usize, Error> {
+    position_of(access::<T>(alloc, bytes))
+}
+
+#[test]
+fn root_lies_at_the_end_rounded_down(rt: HostRuntime) {
+    let rows = [
+        (0, 0, 0),
+        (3, 0, 0),
+        (7, 0, 0),
+        (8, 4, 0),
+        (11, 4, 0),
+        (24, 20, 12),
+        (27, 20, 12),
+        (28, 24, 16),
+    ];
+    for (len, number, option) in rows {
+        assert_eq!(rt; root_position::<ArchivedU32>(len), number, "{len}");
+        assert_eq!(rt; root_position::<MaybeBytes>(len), option, "{len}");
+    }
+}
+
+#[test]
+fn bytes_in_an_option_are_accepted(rt: HostRuntime) {
+    let bytes = *b"Hello world\0\x01\0\0\0\xf0\xff\xff\xff\x0b\0\0\0";
+    assert_eq!(rt;
+        position_of(access::<MaybeBytes>(rt.alloc(), &bytes)),
+        Ok(12)
+    );
+    assert_eq!(rt;
+        position_of(access_pos::<MaybeBytes>(rt.alloc(), &bytes, 12)),
+        Ok(12)
+    );
+}
+
+#[test]
+fn bytes_in_an_option_are_accepted_in_a_context(rt: HostRuntime) {
+    let bytes = *b"Hello world\0\x01\0\0\0\xf0\xff\xff\xff\x0b\0\0\0";
+    let mut one = validator(rt.alloc(), &bytes, usize::MAX);
+    let mut two = validator(rt.alloc(), &bytes, usize::MAX);
+    let mut three = validator(rt.alloc(), &bytes, usize::MAX);
+    assert_eq!(rt;
+        check_pos_with_context::<MaybeBytes, HighValidator>(rt.alloc(), &bytes, 12, &mut one),
+        Ok(())
+    );
+    assert_eq!(rt;
+        position_of(access_pos_with_context::<MaybeBytes, HighValidator>(
+            rt.alloc(),
+            &bytes,
+            12,
+            &mut two
+        )),
+        Ok(12)
+    );
+    assert_eq!(rt;
+        position_of(access_with_context::<MaybeBytes, HighValidator>(
+            rt.alloc(),
+            &bytes,
+            &mut three
+        )),
+        Ok(12)
+    );
+}
+
+#[test]
+fn bytes_in_an_option_are_accepted_to_be_edited(rt: HostRuntime) {
+    let bytes = *b"Hello world\0\x01\0\0\0\xf0\xff\xff\xff\x0b\0\0\0";
+    let mut lent = bytes;
+    match access_mut::<MaybeBytes>(rt.alloc(), &mut lent) {
+        Ok(root) => assert_eq!(rt; root.pos(), 12),
+        Err(_refusal) => assert!(rt; false),
+    }
+    assert_eq!(rt; lent, bytes);
+}
+
+#[test]
+fn bytes_in_an_option_at_a_position_are_accepted_to_be_edited(rt: HostRuntime) {
+    let bytes = *b"Hello world\0\x01\0\0\0\xf0\xff\xff\xff\x0b\0\0\0";
+    let mut lent = bytes;
+    match access_pos_mut::<MaybeBytes>(rt.alloc(), &mut lent, 12) {
+        Ok(root) => assert_eq!(rt; root.pos(), 12),
+        Err(_refusal) => assert!(rt; false),
+    }
+    assert_eq!(rt; lent, bytes);
+}
+
+#[test]
+fn refused_bytes_stay_as_they_were(rt: HostRuntime) {
+    let bytes = *b"Hello world\0\x02\0\0\0\xf0\xff\xff\xff\x0b\0\0\0";
+    let mut lent = bytes;
+    match access_mut::<MaybeBytes>(rt.alloc(), &mut lent) {
+        Ok(_root) => assert!(rt; false),
+        Err(refusal) => assert_eq!(rt; refusal, Error::InvalidTag),
+    }
+    assert_eq!(rt; lent, bytes);
+}
+
+#[test]
+fn refused_bytes_at_a_position_stay_as_they_were(rt: HostRuntime) {
+    let bytes = *b"Hello world\0\x02\0\0\0\xf0\xff\xff\xff\x0b\0\0\0";
+    let mut lent = bytes;
+    match access_pos_mut::<MaybeBytes>(rt.alloc(), &mut lent, 13) {
+        Ok(_root) => assert!(rt; false),
+        Err(refusal) => assert_eq!(rt; refusal, Error::InvalidSubtreePointer { size: 12 }),
+    }
+    assert_eq!(rt; lent, bytes);
+}
+
+#[test]
+fn position_is_checked_and_not_the_root(rt: HostRuntime) {
+    let bytes = *b"\x01\0\0\0\x02\0\0\0\x01\0\0\0";
+    let rows = [
+        (0, Ok(0)),
+        (4, Err(Error::InvalidTag)),
+        (2, Err(Error::Unaligned { align: 4 })),
+        (8, Err(Error::InvalidSubtreePointer { size: 8 })),
+    ];
+    for (pos, result) in rows {
+        assert_eq!(rt;
+            position_of(access_pos::<ArchivedOption<ArchivedU32>>(rt.alloc(), &bytes, pos)),
+            result,
+            "{pos}"
+        );
+    }
+}
+
+#[test]
+fn two_slices_are_refused(rt: HostRuntime) {
+    let rows = [
+        (
+            *b"Hello world\0\xf4\xff\xff\xff\x05\0\0\0\xf2\xff\xff\xff\x05\0\0\0",
+            Ok(12),
+        ),
+        (
+            *b"Hello world\0\xf0\xff\xff\xff\x0b\0\0\0\xe8\xff\xff\xff\x0b\0\0\0",
+            Err(Error::InvalidSubtreePointer { size: 11 }),
+        ),
+        (
+            *b"Hello world\0\xf4\xff\xff\xff\x0b\0\0\0\xec\xff\xff\xff\x0b\0\0\0",
+            Err(Error::InvalidSubtreePointer { size: 11 }),
+        ),
+    ];
+    for (bytes, result) in rows {
+        assert_eq!(rt;
+            root_of::<TwoSlices>(rt.alloc(), &bytes),
+            result,
+            "{bytes:?}"
+        );
+    }
+}
+
+#[test]
+fn boxes_that_lead_on_are_refused(rt: HostRuntime) {
+    let rows = [
+        (
+            *b"\x01\0\0\0\x04\0\0\0\x01\0\0\0\xf4\xff\xff\xff",
+            Err(Error::InvalidSubtreePointer { size: 8 }),
+        ),
+        (*b"\0\0\0\0\0\0\0\0\x01\0\0\0\xf4\xff\xff\xff", Ok(8)),
+        (*b"\x01\0\0\0\x04\0\0\0\0\0\0\0\xf4\xff\xff\xff", Ok(8)),
+    ];
+    for (bytes, result) in rows {
+        assert_eq!(rt;
+            root_of::<Link<Link<Link<u8>>>>(rt.alloc(), &bytes),
+            result,
+            "{bytes:?}"
+        );
+    }
+}
+
+#[test]
+fn empty_buffers_have_no_root(rt: HostRuntime) {
+    let rows = [
+        (
+            root_of::<u8>(rt.alloc(), &[]),
+            Err(Error::InvalidSubtreePointer { size: 1 }),
+        ),
+        (
+            root_of::<ArchivedU32>(rt.alloc(), &[]),
+            Err(Error::InvalidSubtreePointer { size: 4 }),
+        ),
+        (
+            root_of::<MaybeBytes>(rt.alloc(), &[]),
+            Err(Error::InvalidSubtreePointer { size: 12 }),
+        ),
+        (
+            root_of::<TwoSlices>(rt.alloc(), &[]),
+            Err(Error::InvalidSubtreePointer { size: 16 }),
+        ),
+        (root_of::<()>(rt.alloc(), &[]), Ok(0)),
+    ];
+    for (result, wanted) in rows {
+        assert_eq!(rt; result, wanted);
+    }
+}
+
+#[test]
+fn depth_is_limited_by_the_validator(rt: HostRuntime) {
+    let bytes = *b"Hello world\0\x01\0\0\0\xf0\xff\xff\xff\x0b\0\0\0";
+    let rows = [
+        (0, Err(Error::ExceededMaximumSubtreeDepth)),
+        (1, Err(Error::ExceededMaximumSubtreeDepth)),
+        (2, Err(Error::ExceededMaximumSubtreeDepth)),
+        (3, Ok(12)),
+        (usize::MAX, Ok(12)),
+    ];
+    for (max_depth, result) in rows {
+        let mut context = validator(rt.alloc(), &bytes, max_depth);
+        assert_eq!(rt;
+            position_of(access_with_context::<MaybeBytes, HighValidator>(
+                rt.alloc(),
+                &bytes,
+                &mut context
+            )),
+            result,
+            "{max_depth}"
+        );
+    }
+}

@@ -1,0 +1,34 @@
+//! Tests of archives that are read back.
+use super::HELLO;
+use archive_core::{deserialize, from_bytes};
+use archive_core_access::access;
+use archive_forms_boxed::ArchivedBoxedSlice;
+use archive_forms_reading::ArchivedOption;
+use archive_shape::Error;
+use std::boxed::BoxedSlice;
+use std::test::Fail;
+
+#[test]
+fn a_value_is_read_back(rt: HostRuntime) -> Result<(), Fail> {
+    let alloc = rt.alloc();
+    let value = from_bytes::<Option<BoxedSlice<u8>>>(alloc, &HELLO)?;
+    assert!(rt; value.is_some_and(|bytes| bytes.as_slice() == b"Hello world".as_slice()));
+    Ok(())
+}
+
+#[test]
+fn a_value_that_was_accessed_is_read_back(rt: HostRuntime) -> Result<(), Fail> {
+    let alloc = rt.alloc();
+    let root = access::<ArchivedOption<ArchivedBoxedSlice<u8>>>(alloc, &HELLO)?;
+    let value: Option<BoxedSlice<u8>> = deserialize(alloc, &root)?;
+    assert!(rt; value.is_some_and(|bytes| bytes.as_slice() == b"Hello world".as_slice()));
+    Ok(())
+}
+
+#[test]
+fn short_bytes_are_refused(rt: HostRuntime) {
+    let refused = from_bytes::<Option<BoxedSlice<u8>>>(rt.alloc(), &HELLO[..23]).err();
+    assert_eq!(rt; refused, Some(Error::InvalidTag));
+    let none = from_bytes::<Option<BoxedSlice<u8>>>(rt.alloc(), &[]).err();
+    assert_eq!(rt; none, Some(Error::InvalidSubtreePointer { size: 12 }));
+}

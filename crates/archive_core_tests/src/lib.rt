@@ -1,0 +1,12 @@
+//! Tests of what archives are written with, checked in, accessed by and read back from, with a module for each crate that is
+//! tested.
+#![tactic(auto)]
+
+#[cfg(test)]
+mod access;
+#[cfg(test)]
+mod archives;
+#[cfg(test)]
+mod serializing;
+#[cfg(test)]
+mod validation;

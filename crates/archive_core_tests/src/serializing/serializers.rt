@@ -1,0 +1,60 @@
+//! Tests of serializers.
+ghost use Rattle.std.specs.Prelude.{◌-◌, ◌^◌, ◌<◌};
+
+use archive_core_serializing::{HighSerializer, Serializer};
+use archive_forms_writing::{Serialize, serialize_using};
+use archive_shape::{Allocator, Error, Positional, Writer};
+use std::alloc::Global;
+use std::test::Fail;
+
+/// The archive of a value, in memory that grows.
+fn archive_of<T: Serialize<HighSerializer<Vec<u8>, Global>>>(
+    alloc: Global,
+    value: &T,
+) -> Result<Vec<u8>, Error> {
+    let mut serializer = Serializer::new(Vec::new(alloc), alloc, ());
+    serialize_using(value, &mut serializer)?;
+    Ok(serializer.into_writer())
+}
+
+#[test]
+fn text_out_of_line_stands_behind_its_bytes(rt: HostRuntime) -> Result<(), Fail> {
+    let alloc = rt.alloc();
+    let text = String::from_str(alloc, "hello world!")?;
+    let archive = archive_of(alloc, &text)?;
+    assert_eq!(rt;
+        archive.as_slice(),
+        b"hello world!\x8c\0\0\0\xf4\xff\xff\xff".as_slice()
+    );
+    Ok(())
+}
+
+#[test]
+fn parts_are_given_back(rt: HostRuntime) -> Result<(), Fail> {
+    let alloc = rt.alloc();
+    let mut serializer = Serializer::new(Vec::new(alloc), alloc, 5u8);
+    serializer.writer.write(b"ab")?;
+    let (writer, _, sharing) = serializer.into_raw_parts();
+    assert_eq!(rt; writer.as_slice(), b"ab".as_slice());
+    assert_eq!(rt; sharing, 5);
+    Ok(())
+}
+
+/// Appends bytes in memory that a serializer gives, and answers the position.
+fn write_copy<S: Writer + Allocator>(serializer: &mut S, bytes: &[u8]) -> Result<usize, Error>
+    requires { S.failures serializer.old < 2 ^ 64 - 1 }
+{
+    let copy = bytes.to_vec(serializer.memory())?;
+    serializer.write(copy.as_slice())?;
+    Ok(serializer.pos())
+}
+
+#[test]
+fn serializer_writes_as_its_writer(rt: HostRuntime) -> Result<(), Fail> {
+    let alloc = rt.alloc();
+    let mut serializer = Serializer::new(Vec::new(alloc), alloc, ());
+    assert_eq!(rt; write_copy(&mut serializer, b"ab"), Ok(2));
+    assert_eq!(rt; write_copy(&mut serializer, b"cde"), Ok(5));
+    assert_eq!(rt; serializer.writer.as_slice(), b"abcde".as_slice());
+    Ok(())
+}
