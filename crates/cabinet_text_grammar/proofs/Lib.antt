@@ -1,0 +1,15 @@
+pub mod Escapes
+pub mod Lacking
+pub mod Pieces
+pub mod Utf8
+pub mod Cuts
+pub mod ReadBack
+pub mod Machine
+pub mod Items
+pub mod Runs
+pub mod Legal
+pub mod Spelled
+pub mod Faults
+pub mod Changes
+pub mod Lines
+pub mod FirstCauses

@@ -1,0 +1,11 @@
+pub mod Keys
+pub mod Tree
+pub mod Item
+pub mod Spelling
+pub mod Frame
+pub mod Due
+pub mod Fault
+pub mod Path
+pub mod Line
+pub mod Answering
+pub mod Laws

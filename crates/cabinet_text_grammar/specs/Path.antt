@@ -1,0 +1,28 @@
+-- What a path leads to.
+use Rattle.std.specs.Prelude.{ℕ, zero, suc, if◌then◌else◌, List, [], ◌∷◌, Option, Some, None}
+use Rattle.std.specs.Str.{bytes_eq}
+use Rattle.cabinet_text_grammar.specs.Tree.{Tree, just, list, map, Trees, no_trees, more_trees, Pairs, no_pairs, more_pairs}
+
+-- a step down a tree: by the key of a map, by the place in a list, into an option
+pub data Step : Type 0 where
+  key : List ℕ → Step
+  place : ℕ → Step
+  inside : Step
+
+-- each node lies at its own step from the one around it, and at no other
+abbrev mutual
+  pub node_at : Tree → List Step → Option Tree
+  node_at t [] = Some t
+  node_at (just t) (inside ∷ path) = node_at t path
+  node_at (list ts) (place i ∷ path) = node_in ts i path
+  node_at (map kind ps) (key k ∷ path) = node_by ps k path
+  node_at _ (step ∷ path) = None
+
+  pub node_in : Trees → ℕ → List Step → Option Tree
+  node_in no_trees i path = None
+  node_in (more_trees t ts) zero path = node_at t path
+  node_in (more_trees t ts) (suc i) path = node_in ts i path
+
+  pub node_by : Pairs → List ℕ → List Step → Option Tree
+  node_by no_pairs k path = None
+  node_by (more_pairs l t ps) k path = if bytes_eq l k then node_at t path else node_by ps k path

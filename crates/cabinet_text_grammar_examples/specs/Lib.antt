@@ -1,0 +1,4 @@
+pub mod Documents
+pub mod Texts
+pub mod Answers
+pub mod Faulty
