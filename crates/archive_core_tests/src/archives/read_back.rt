@@ -1,9 +1,6 @@
 //! Tests of archives that are read back.
 use super::HELLO;
-use archive_core::{deserialize, from_bytes};
-use archive_core_access::access;
-use archive_forms_boxed::ArchivedBoxedSlice;
-use archive_forms_reading::ArchivedOption;
+use archive_core::from_bytes;
 use archive_shape::Error;
 use std::boxed::BoxedSlice;
 use std::test::Fail;
@@ -12,15 +9,6 @@ use std::test::Fail;
 fn a_value_is_read_back(rt: HostRuntime) -> Result<(), Fail> {
     let alloc = rt.alloc();
     let value = from_bytes::<Option<BoxedSlice<u8>>>(alloc, &HELLO)?;
-    assert!(rt; value.is_some_and(|bytes| bytes.as_slice() == b"Hello world".as_slice()));
-    Ok(())
-}
-
-#[test]
-fn a_value_that_was_accessed_is_read_back(rt: HostRuntime) -> Result<(), Fail> {
-    let alloc = rt.alloc();
-    let root = access::<ArchivedOption<ArchivedBoxedSlice<u8>>>(alloc, &HELLO)?;
-    let value: Option<BoxedSlice<u8>> = deserialize(alloc, &root)?;
     assert!(rt; value.is_some_and(|bytes| bytes.as_slice() == b"Hello world".as_slice()));
     Ok(())
 }
