@@ -123,3 +123,8 @@ pub record HasRead (whole rest : List ℕ) (len : ℕ) : Type 0 where
 pub all_read : (whole rest : List ℕ) (len : ℕ) → HasRead whole rest len → length rest ≡ 0 → (t : List ℕ) × (length t ≡ len) × (whole ≡ escaped t)
 all_read whole [] len read h = (read.text, read.counted, read.escapes ∙ append-nil (escaped read.text))
 all_read whole (b ∷ bs) len read h = absurd (omega (arith, h))
+
+-- where no byte is written any more, the text was read
+pub nothing_left : (whole t rest : List ℕ) → whole ≡ escaped t ++ rest → ((b : ℕ) (u : List ℕ) → rest ≢ escaped (b ∷ u)) → (u : List ℕ) → whole ≡ escaped u → whole ≡ escaped t
+nothing_left whole t [] h none u e = h ∙ append-nil (escaped t)
+nothing_left whole t (b ∷ rest) h none u e = absurd (none_more whole t (b ∷ rest) h none (omega arith) u e)

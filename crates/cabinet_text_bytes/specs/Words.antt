@@ -1,0 +1,15 @@
+-- Escaped texts, and words that a space ends.
+use Rattle.std.specs.Prelude.{◌≡◌, ◌≢◌, ℕ, List, [], ◌∷◌, All, IsUtf8}
+use Rattle.cabinet_text_grammar.specs.Spelling.{escaped}
+
+-- the escaped form of a text
+abbrev pub IsEscaped : List ℕ → Type 0
+IsEscaped bytes = (t : List ℕ) × IsUtf8 t × (bytes ≡ escaped t)
+
+abbrev pub HasNoSpace : List ℕ → Type 0
+HasNoSpace bytes = All (λ b. b ≢ 32) bytes
+
+-- nothing, or a space and what follows it
+abbrev pub IsAtSpace : List ℕ → Type 0
+IsAtSpace [] = Unit {0}
+IsAtSpace (b ∷ bytes) = b ≡ 32

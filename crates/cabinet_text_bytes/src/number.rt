@@ -1,0 +1,139 @@
+//! Numbers in decimal: the bytes of a number, and the number that bytes are the shortest form of.
+ghost use Rattle.std.specs.Prelude.{◌≡◌, ◌≢◌, ℕ, ℤ, ◌^◌, ◌<◌, ◌≤◌, ◌∷◌, drop, MatchOption, FitsSigned};
+ghost use Rattle.std.specs.Int.{w64};
+ghost use Rattle.std.specs.Fmt.{decimal, signed_decimal};
+ghost use Rattle.std.specs.Str.Parse.{AllDigits, digits_value};
+
+use crate::spelling::after_prefix;
+use std::marker::Model;
+
+/// Room for a sign and the twenty digits of the greatest number.
+const MOST: usize = 21;
+
+/// How far the least number lies below zero.
+const FARTHEST: u64 = 1 << 63;
+
+/// A number as it is written in decimal, without memory.
+#[derive(Debug, Drop)]
+pub struct Decimal {
+    bytes: [u8; MOST],
+    start: usize,
+}
+
+impl Model for Decimal {
+    ghost use Rattle.std.specs.Prelude.{ℕ, List, drop, ◌≤◌};
+
+    ghost Value = { List ℕ };
+
+    ghost view = { λ d. drop d.start d.bytes };
+
+    ghost invariant = { λ d. d.start ≤ 20 };
+}
+
+/// Writes a number's digits at the end of the bytes, and says where they begin.
+fn put_digits(bytes: &mut [u8; MOST], number: u64) -> usize
+    ensures digits { drop result bytes.new ≡ decimal number }
+    ensures before { 0 < result }
+    ensures within { result ≤ 20 }
+{
+    let mut start = MOST - 1;
+    let mut rest = number;
+    while rest >= 10 {
+        bytes[start] = b'0' + (rest % 10) as u8;
+        start -= 1;
+        rest /= 10;
+    }
+    bytes[start] = b'0' + rest as u8;
+    start
+}
+
+impl Decimal {
+    pub fn new(number: i64) -> Decimal
+        ensures { result ≡ signed_decimal number }
+    {
+        let mut bytes = [0; MOST];
+        let mut start = put_digits(&mut bytes, number.unsigned_abs());
+        if number < 0 {
+            start -= 1;
+            bytes[start] = b'-';
+        }
+        Decimal { bytes, start }
+    }
+
+    pub fn unsigned(number: u64) -> Decimal
+        ensures { result ≡ decimal number }
+    {
+        let mut bytes = [0; MOST];
+        let start = put_digits(&mut bytes, number);
+        Decimal { bytes, start }
+    }
+
+    pub fn as_bytes(&self) -> &[u8]
+        ensures { result.now ≡ self.now }
+    {
+        &self.bytes[self.start..]
+    }
+}
+
+/// The value of digits; nothing where a byte is no digit or the value has more than 64 bits.
+fn value_of(digits: &[u8]) -> Option<u64>
+    ensures { MatchOption result (AllDigits 10 digits.now → 2 ^ 64 ≤ digits_value 10 digits.now) (λ n. (n < 2 ^ 64) × AllDigits 10 digits.now × (digits_value 10 digits.now ≡ n)) }
+{
+    let mut value: u64 = 0;
+    for byte in digits {
+        if !byte.is_ascii_digit() {
+            return None;
+        }
+        let Some(tens) = value.checked_mul(10) else {
+            return None;
+        };
+        let Some(next) = tens.checked_add(u64::from(*byte - b'0')) else {
+            return None;
+        };
+        value = next;
+    }
+    Some(value)
+}
+
+/// The count that digits write in their shortest form.
+pub fn read_count(digits: &[u8]) -> Option<u64>
+    ensures { MatchOption result ((n : ℕ) → n < 2 ^ 64 → digits.now ≢ decimal n) (λ n. digits.now ≡ decimal n) }
+{
+    if digits.is_empty() {
+        return None;
+    }
+    if digits[0] == b'0' && digits.len() > 1 {
+        return None;
+    }
+    value_of(digits)
+}
+
+/// The number at a distance below zero, if it has 64 bits.
+fn below_zero(distance: u64) -> Option<i64>
+    ensures { MatchOption result ((n : ℤ) → FitsSigned w64 n → signed_decimal n ≢ 45 ∷ decimal distance) (λ n. FitsSigned w64 n × (signed_decimal n ≡ 45 ∷ decimal distance)) }
+{
+    if distance == 0 || distance > FARTHEST {
+        return None;
+    }
+    Some(-1 - (distance - 1) as i64)
+}
+
+/// The number of 64 bits that bytes write in its shortest form.
+pub fn read_number(bytes: &[u8]) -> Option<i64>
+    ensures { MatchOption result ((n : ℤ) → FitsSigned w64 n → bytes.now ≢ signed_decimal n) (λ n. FitsSigned w64 n × (bytes.now ≡ signed_decimal n)) }
+{
+    if let Some(digits) = after_prefix(bytes, b"-".as_slice()) {
+        let Some(distance) = read_count(digits) else {
+            return None;
+        };
+        return below_zero(distance);
+    }
+    let Some(count) = read_count(bytes) else {
+        return None;
+    };
+    if count < FARTHEST {
+        Some(count as i64)
+    } else {
+        None
+    }
+}

@@ -1,0 +1,46 @@
+//! What texts and lines have in common: prefixes, words and truth values.
+ghost use Rattle.std.specs.Prelude.{◌≡◌, ◌≢◌, ◌<◌, ◌≤◌, ◌++◌, List, ℕ, Bool, length, slice_index, MatchOption};
+ghost use Rattle.cabinet_text_grammar.specs.Tree.{truth};
+ghost use Rattle.cabinet_text_grammar.specs.Spelling.{spelled_leaf};
+ghost use Rattle.cabinet_text_bytes.specs.Words.{HasNoSpace, IsAtSpace};
+
+/// What follows a prefix.
+pub fn after_prefix<'a>(bytes: &'a [u8], prefix: &[u8]) -> Option<&'a [u8]>
+    ensures { MatchOption result ((rest : List ℕ) → bytes.now ≢ prefix.now ++ rest) (λ rest. bytes.now ≡ prefix.now ++ rest.now) }
+{
+    bytes.strip_prefix(prefix)
+}
+
+/// How many bytes stand before the first space.
+fn word_len(bytes: &[u8]) -> usize
+    ensures within { result ≤ length bytes.now }
+    ensures before { (k : ℕ) → k < result → slice_index bytes.now k ≢ 32 }
+    ensures space { result < length bytes.now → slice_index bytes.now result ≡ 32 }
+{
+    match bytes.iter().position(|byte| *byte == b' ') {
+        Some(len) => len,
+        None => bytes.len(),
+    }
+}
+
+/// The bytes before the first space, and the others.
+pub fn split_word(bytes: &[u8]) -> (&[u8], &[u8])
+    ensures whole { bytes.now ≡ result.0.now ++ result.1.now }
+    ensures word { HasNoSpace result.0.now }
+    ensures rest { IsAtSpace result.1.now }
+{
+    bytes.split_at(word_len(bytes))
+}
+
+/// The truth value whose line bytes are.
+pub fn read_truth(bytes: &[u8]) -> Option<bool>
+    ensures { MatchOption result ((b : Bool) → bytes.now ≢ spelled_leaf (truth b)) (λ b. bytes.now ≡ spelled_leaf (truth b)) }
+{
+    if bytes == b"bool true".as_slice() {
+        return Some(true);
+    }
+    if bytes == b"bool false".as_slice() {
+        return Some(false);
+    }
+    None
+}

@@ -1,0 +1,103 @@
+-- How a proof tells trees apart: by their items.
+use Rattle.std.specs.Prelude.{◌≡◌, refl, ℕ, zero, suc, ℤ, Bool, true, false, List, [], ◌⊎◌}
+use Rattle.std.proofs.Common.{inl, inr, ap, sym, ◌∙◌, append-nil}
+use Rattle.std.specs.Coded.{Coded, code_by, coded⊎, coded×, coded_bool, coded_ℕ, coded_ℤ, coded_list}
+use Rattle.cabinet_text_grammar.specs.Keys.{MapKind, ordered, hashed, kept}
+use Rattle.cabinet_text_grammar.specs.Tree.{Leaf, truth, number, text, Tree, leaf}
+use Rattle.cabinet_text_grammar.specs.Item.{Item, leaf_item, shared_item, none_item, some_item, list_item, map_item, key_item, items}
+use Rattle.cabinet_text_grammar.proofs.Machine.{State, going, complete, stuck, run}
+use Rattle.cabinet_text_grammar.proofs.Runs.{run-tree}
+
+-- a leaf's parts, beside which case it is
+abbrev pub LeafParts : Type 0
+LeafParts = Bool ⊎ (ℤ ⊎ List ℕ)
+
+abbrev pub leaf_parts : Leaf → LeafParts
+leaf_parts (truth b) = inl b
+leaf_parts (number n) = inr (inl n)
+leaf_parts (text t) = inr (inr t)
+
+abbrev pub leaf_from : LeafParts → Leaf
+leaf_from (inl b) = truth b
+leaf_from (inr (inl n)) = number n
+leaf_from (inr (inr t)) = text t
+
+pub leaf_back : (l : Leaf) → leaf_from (leaf_parts l) ≡ l
+leaf_back (truth b) = refl
+leaf_back (number n) = refl
+leaf_back (text t) = refl
+
+abbrev pub leaf_code : Coded Leaf
+leaf_code = code_by LeafParts (coded⊎ coded_bool (coded⊎ coded_ℤ (coded_list coded_ℕ))) leaf_parts leaf_from leaf_back
+
+abbrev pub kind_number : MapKind → ℕ
+kind_number ordered = 0
+kind_number hashed = 1
+kind_number kept = 2
+
+abbrev pub kind_from : ℕ → MapKind
+kind_from zero = ordered
+kind_from (suc zero) = hashed
+kind_from (suc (suc n)) = kept
+
+pub kind_back : (kind : MapKind) → kind_from (kind_number kind) ≡ kind
+kind_back ordered = refl
+kind_back hashed = refl
+kind_back kept = refl
+
+abbrev pub kind_code : Coded MapKind
+kind_code = code_by ℕ coded_ℕ kind_number kind_from kind_back
+
+-- a leaf; a shared text; whether an option has a node; the count of a list; a map's kind and count; a key
+abbrev pub ItemParts : Type 0
+ItemParts = Leaf ⊎ (List ℕ ⊎ (Bool ⊎ (ℕ ⊎ ((MapKind × ℕ) ⊎ List ℕ))))
+
+abbrev pub item_parts : Item → ItemParts
+item_parts (leaf_item l) = inl l
+item_parts (shared_item t) = inr (inl t)
+item_parts none_item = inr (inr (inl false))
+item_parts some_item = inr (inr (inl true))
+item_parts (list_item n) = inr (inr (inr (inl n)))
+item_parts (map_item kind n) = inr (inr (inr (inr (inl (kind, n)))))
+item_parts (key_item k) = inr (inr (inr (inr (inr k))))
+
+abbrev pub item_from : ItemParts → Item
+item_from (inl l) = leaf_item l
+item_from (inr (inl t)) = shared_item t
+item_from (inr (inr (inl false))) = none_item
+item_from (inr (inr (inl true))) = some_item
+item_from (inr (inr (inr (inl n)))) = list_item n
+item_from (inr (inr (inr (inr (inl m))))) = map_item m.0 m.1
+item_from (inr (inr (inr (inr (inr k))))) = key_item k
+
+pub item_back : (i : Item) → item_from (item_parts i) ≡ i
+item_back (leaf_item l) = refl
+item_back (shared_item t) = refl
+item_back none_item = refl
+item_back some_item = refl
+item_back (list_item n) = refl
+item_back (map_item kind n) = refl
+item_back (key_item k) = refl
+
+abbrev pub item_code : Coded Item
+item_code =
+    code_by
+    ItemParts
+    (coded⊎ leaf_code (coded⊎ (coded_list coded_ℕ) (coded⊎ coded_bool (coded⊎ coded_ℕ (coded⊎ (coded× kind_code coded_ℕ) (coded_list coded_ℕ))))))
+    item_parts
+    item_from
+    item_back
+
+abbrev pub tree_in : State → Tree
+tree_in (complete t) = t
+tree_in _ = leaf (truth false)
+
+-- the tree that has these items
+abbrev pub tree_from : List Item → Tree
+tree_from is = tree_in (run (going []) is)
+
+pub tree_back : (t : Tree) → tree_from (items t) ≡ t
+tree_back t = ap tree_from (sym (append-nil (items t))) ∙ ap tree_in (run-tree t [] [])
+
+abbrev pub tree_code : Coded Tree
+tree_code = code_by (List Item) (coded_list item_code) items tree_from tree_back

@@ -1,0 +1,4 @@
+pub mod Code
+pub mod View
+pub mod Kinds
+pub mod Lines

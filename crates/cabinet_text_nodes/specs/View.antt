@@ -1,0 +1,74 @@
+-- The code's types as trees, leaves, steps and lines.
+use Rattle.std.specs.Prelude.{List, [], ◌∷◌, map, Option, Some, None, String, string_bytes}
+use Rattle.std.specs.Rc.{rc_str_bytes}
+use Rattle.std.specs.declared.alloc.Global.{Global}
+use Rattle.cabinet_text_grammar.specs.Keys as keys
+use Rattle.cabinet_text_grammar.specs.Tree as tree
+use Rattle.cabinet_text_grammar.specs.Path as path
+use Rattle.cabinet_text_grammar.specs.Line as spec_line
+use Rattle.cabinet_text_nodes.specs.declared.node.Node.{Node, fold-Node}
+use Rattle.cabinet_text_nodes.specs.declared.node.Node.TheOpen.{Node-F}
+use Rattle.cabinet_text_nodes.specs.declared.leaf.Leaf.{Leaf}
+use Rattle.cabinet_text_nodes.specs.declared.leaf.Leaf.TheVariants as owned
+use Rattle.cabinet_text_nodes.specs.declared.leaf.LeafRef.{LeafRef}
+use Rattle.cabinet_text_nodes.specs.declared.leaf.LeafRef.TheVariants as lent
+use Rattle.cabinet_text_nodes.specs.declared.line.Step.{Step}
+use Rattle.cabinet_text_nodes.specs.declared.line.Step.TheVariants as step
+use Rattle.cabinet_text_nodes.specs.declared.line.Line.{Line}
+use Rattle.cabinet_text_nodes.specs.declared.line.Line.TheVariants as line
+
+abbrev pub trees_of : List tree.Tree → tree.Trees
+trees_of [] = tree.no_trees
+trees_of (t ∷ ts) = tree.more_trees t (trees_of ts)
+
+abbrev pub pairs_of : List (String Global × tree.Tree) → tree.Pairs
+pairs_of [] = tree.no_pairs
+pairs_of (p ∷ ps) = tree.more_pairs (string_bytes p.0) p.1 (pairs_of ps)
+
+-- one level of a node, with each node inside already seen as its tree
+abbrev pub view_step : Node-F tree.Tree → tree.Tree
+view_step (Node-F.Bool b) = tree.leaf (tree.truth b)
+view_step (Node-F.Int n) = tree.leaf (tree.number n)
+view_step (Node-F.Text t) = tree.leaf (tree.text (string_bytes t))
+view_step (Node-F.Shared t) = tree.shared (rc_str_bytes t)
+view_step (Node-F.Maybe None) = tree.nothing
+view_step (Node-F.Maybe (Some t)) = tree.just t.value
+view_step (Node-F.List v) = tree.list (trees_of v.items)
+view_step (Node-F.Ordered m) = tree.map keys.ordered (pairs_of m.entries)
+view_step (Node-F.Hashed m) = tree.map keys.hashed (pairs_of m.entries)
+view_step (Node-F.Kept v) = tree.map keys.kept (pairs_of v.items)
+
+abbrev pub node_tree : Node → tree.Tree
+node_tree = fold-Node tree.Tree view_step
+
+-- the elements of a list
+abbrev pub node_trees : List Node → tree.Trees
+node_trees ns = trees_of (map node_tree ns)
+
+-- the pairs of a map
+abbrev pub node_pairs : List (String Global × Node) → tree.Pairs
+node_pairs ps = pairs_of (map (λ p. (p.0, node_tree p.1)) ps)
+
+abbrev pub leaf_of : Leaf → tree.Leaf
+leaf_of (owned.Bool b) = tree.truth b
+leaf_of (owned.Int n) = tree.number n
+leaf_of (owned.Text t) = tree.text (string_bytes t)
+
+abbrev pub lent_leaf : LeafRef → tree.Leaf
+lent_leaf (lent.Bool b) = tree.truth b
+lent_leaf (lent.Int n) = tree.number n
+lent_leaf (lent.Text t) = tree.text t.now
+
+abbrev pub step_of : Step → path.Step
+step_of (step.Key k) = path.key (string_bytes k)
+step_of (step.Place n) = path.place n
+step_of step.Inside = path.inside
+
+abbrev pub path_of : List Step → List path.Step
+path_of steps = map step_of steps
+
+abbrev pub line_of : Line → spec_line.Line
+line_of (line.Get path) = spec_line.get (path_of path.items)
+line_of (line.Keys path) = spec_line.keys (path_of path.items)
+line_of (line.Range low high path) = spec_line.range (string_bytes low) (string_bytes high) (path_of path.items)
+line_of (line.Set path l) = spec_line.set (path_of path.items) (leaf_of l)

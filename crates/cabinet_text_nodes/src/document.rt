@@ -1,0 +1,45 @@
+//! A document, which begins at its root.
+ghost use Rattle.std.specs.Prelude.{◌≡◌};
+ghost use Rattle.cabinet_text_grammar.specs.Tree.{IsDocument};
+ghost use Rattle.cabinet_text_nodes.specs.View.{node_tree};
+
+use crate::node::Node;
+use std::marker::Model;
+
+/// A document.
+#[derive(Debug, Drop)]
+pub struct Document {
+    root: Node,
+}
+
+impl Model for Document {
+    ghost use Rattle.cabinet_text_grammar.specs.Tree.{Tree, IsDocument};
+    ghost use Rattle.cabinet_text_nodes.specs.Code.{tree_code};
+    ghost use Rattle.cabinet_text_nodes.specs.View.{node_tree};
+
+    ghost Value = { Tree };
+
+    ghost coded = { tree_code };
+
+    ghost view = { λ d. node_tree d.root };
+
+    ghost invariant = { λ d. IsDocument (node_tree d.root) };
+}
+
+impl Document {
+    /// The document of a node that is known to be one's root: at most 64 containers lie in one another, and the keys
+    /// of each kept map are distinct.
+    pub fn of_root(root: Node) -> Document
+        requires { IsDocument (node_tree root) }
+        ensures { result ≡ node_tree root }
+    {
+        Document { root }
+    }
+
+    pub fn root(&self) -> &Node
+        ensures tree { node_tree result.now ≡ self.now }
+        ensures document { IsDocument self.now }
+    {
+        &self.root
+    }
+}
