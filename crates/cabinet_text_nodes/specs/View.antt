@@ -4,6 +4,7 @@ use Rattle.std.specs.Rc.{rc_str_bytes}
 use Rattle.std.specs.declared.alloc.Global.{Global}
 use Rattle.cabinet_text_grammar.specs.Keys as keys
 use Rattle.cabinet_text_grammar.specs.Tree as tree
+use Rattle.cabinet_text_grammar.specs.Item as item
 use Rattle.cabinet_text_grammar.specs.Path as path
 use Rattle.cabinet_text_grammar.specs.Line as spec_line
 use Rattle.cabinet_text_nodes.specs.declared.node.Node.{Node, fold-Node}
@@ -12,6 +13,10 @@ use Rattle.cabinet_text_nodes.specs.declared.leaf.Leaf.{Leaf}
 use Rattle.cabinet_text_nodes.specs.declared.leaf.Leaf.TheVariants as owned
 use Rattle.cabinet_text_nodes.specs.declared.leaf.LeafRef.{LeafRef}
 use Rattle.cabinet_text_nodes.specs.declared.leaf.LeafRef.TheVariants as lent
+use Rattle.cabinet_text_nodes.specs.declared.head.Head.{Head}
+use Rattle.cabinet_text_nodes.specs.declared.head.Head.TheVariants as head
+use Rattle.cabinet_text_nodes.specs.declared.head.HeadRef.{HeadRef}
+use Rattle.cabinet_text_nodes.specs.declared.head.HeadRef.TheVariants as lent_head
 use Rattle.cabinet_text_nodes.specs.declared.line.Step.{Step}
 use Rattle.cabinet_text_nodes.specs.declared.line.Step.TheVariants as step
 use Rattle.cabinet_text_nodes.specs.declared.line.Line.{Line}
@@ -58,6 +63,26 @@ abbrev pub lent_leaf : LeafRef → tree.Leaf
 lent_leaf (lent.Bool b) = tree.truth b
 lent_leaf (lent.Int n) = tree.number n
 lent_leaf (lent.Text t) = tree.text t.now
+
+abbrev pub item_of : Head → item.Item
+item_of (head.Leaf l) = item.leaf_item (leaf_of l)
+item_of (head.Shared t) = item.shared_item (rc_str_bytes t)
+item_of head.None = item.none_item
+item_of head.Some = item.some_item
+item_of (head.List n) = item.list_item n
+item_of (head.Ordered n) = item.map_item keys.ordered n
+item_of (head.Hashed n) = item.map_item keys.hashed n
+item_of (head.Kept n) = item.map_item keys.kept n
+
+abbrev pub lent_item : HeadRef → item.Item
+lent_item (lent_head.Leaf l) = item.leaf_item (lent_leaf l)
+lent_item (lent_head.Shared t) = item.shared_item t.now
+lent_item lent_head.None = item.none_item
+lent_item lent_head.Some = item.some_item
+lent_item (lent_head.List n) = item.list_item n
+lent_item (lent_head.Ordered n) = item.map_item keys.ordered n
+lent_item (lent_head.Hashed n) = item.map_item keys.hashed n
+lent_item (lent_head.Kept n) = item.map_item keys.kept n
 
 abbrev pub step_of : Step → path.Step
 step_of (step.Key k) = path.key (string_bytes k)

@@ -3,12 +3,14 @@
 
 mod answer;
 mod document;
+mod head;
 mod leaf;
 mod line;
 mod node;
 
 pub use answer::{Asked, SetAnswer};
 pub use document::Document;
+pub use head::{Head, HeadRef};
 pub use leaf::{Leaf, LeafRef, fits};
 pub use line::{Line, LineRefusal, Step};
 pub use node::{Kind, Node};
