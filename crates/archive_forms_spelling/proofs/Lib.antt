@@ -9,6 +9,7 @@ pub mod Payloads
 pub mod Options
 pub mod Results
 pub mod Levels
+pub mod Agreeing
 pub mod Fields
 pub mod Arrays
 pub mod Texts
