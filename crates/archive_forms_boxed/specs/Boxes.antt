@@ -16,9 +16,10 @@ pub record IsBoxedSliceAt (s : Shape) (knows : Names → Type 0) (bytes : List �
   pub before : HasValue (box (slice s)) knows bytes pos → to + len * size_of s ≤ pos
   pub value : (v : Value) → HeldAt (box (slice s)) knows bytes pos v → AreElements s knows bytes to len v
 
--- the box of a text at a position leads to another, from which on the n bytes of the text stand
+-- the box of a text at a position leads to another, from which on the n bytes of the text stand, before the box
 pub record IsBoxedStrAt (bytes : List ℕ) (pos to len : ℕ) : Type 0 where
   pub points : PointsTo bytes pos to
+  pub before : to + len ≤ pos
   pub within : to + len ≤ length bytes
   pub is_text : IsUtf8 (window bytes to len)
   pub value : (v : Value) → HeldAt (box str) (λ _. ⊤) bytes pos v → v ≡ string (window bytes to len)
