@@ -3,12 +3,12 @@ use Rattle.std.proofs.Common.{◌≡◌, ℕ, zero, suc, min, zero-mul, one-mul,
 use Rattle.std.proofs.Math.Nat.{mul-le-mul_right}
 use Rattle.std.proofs.Math.Seq.{take-append_seam}
 use Rattle.std.proofs.lemmas.List.{length-take, length-replicate, take-replicate, drop-replicate, drop-drop, drop_at}
-use Rattle.archive_shape_layout.specs.Shape.{Shape}
+use Rattle.archive_shape_layout.specs.Shape.{Shape, size_of}
 use Rattle.archive_shape_references.specs.Bytes.{HasBytes, zeros, overwrite}
 use Rattle.archive_shape_references.proofs.Written.{length-overwrite}
 use Rattle.std.specs.Prelude.{Result, Ok, Err, false}
 use Rattle.archive_shape_writing.specs.Progress.Progress.{unmet}
-use Rattle.archive_shape_writing.specs.declared.error.Error.TheVariants.{OutOfMemory}
+use Rattle.archive_shape_writing.specs.declared.error.Error.TheVariants.{OutOfMemory, PositionTooLarge}
 use Rattle.archive_shape_writing.specs.Writing.{WriterMembers, Writes}
 use Rattle.archive_shape_writing.specs.declared.error.Error.{Error}
 use Rattle.archive_shape_writing.proofs.Joined.{written_none}
@@ -161,6 +161,16 @@ module _ {A R W : Type 0} (w : Spelling A R) (shape : Shape) (s : WriterMembers 
       let P : R → Type 0 = λ q. placed_refused w shape x q n d in
       let Q : List A → Type 0 = λ l. owns_refused w shape l h.from n d in
       h.refused d (subst Q (sym e) (inl (subst P m.0 r)))
+
+  -- the next one would end past the last position
+  pub buffered_past : (i : ℕ) (now : W) (at : ℕ) (buffer : List ℕ) (x : A) → drop i xs ≡ x ∷ drop (i + 1) xs → Buffered i now at buffer
+      → 2 ^ 64 ≤ s.pos now + at + size_of shape → Stops s old now (owns w xs st (s.pos old)) (owns_refused w shape xs st (s.pos old)) PositionTooLarge
+  buffered_past i now at buffer x e h r =
+      let n = s.pos now + at in
+      let Q : List A → Type 0 = λ l. owns_refused w shape l h.from n PositionTooLarge in
+      let refused : Error → Type 0 = owns_refused w shape (drop i xs) h.from n in
+      stopped_after s (owns w xs st (s.pos old)) refused (owns_refused w shape xs st (s.pos old)) h.rest (λ q. h.refused PositionTooLarge q) h.wrote
+      (stopped_before s now (take at buffer ++ owns w (drop i xs) h.from n) refused PositionTooLarge (inr (subst Q (sym e) (inl (inr (r, refl))))))
 
   -- the buffer could not be written
   pub buffered_stopped : (i : ℕ) (now new : W) (at : ℕ) (buffer : List ℕ) (d : Error) → Buffered i now at buffer

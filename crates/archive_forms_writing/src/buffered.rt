@@ -1,5 +1,5 @@
 //! Own bytes of items side by side, many of which are written at once.
-ghost use Rattle.std.specs.Prelude.{◌≡◌, ℕ, ◌+◌, ◌-◌, ◌*◌, ◌^◌, ◌<◌, ◌≤◌, length, take, IfOk, MatchResult, ⊤};
+ghost use Rattle.std.specs.Prelude.{◌≡◌, ℕ, ◌+◌, ◌-◌, ◌*◌, ◌^◌, ◌<◌, ◌≤◌, length, take, min, IfOk, MatchResult, ⊤};
 ghost use Rattle.std.specs.Bool.{MatchBool};
 ghost use Rattle.archive_shape_layout.specs.Shape.{size_of};
 ghost use Rattle.archive_shape_writing.specs.Writing.{Writes};
@@ -31,28 +31,12 @@ fn resolve_at<T: Archive>(
     value.resolve(resolver, Place::within(buffer, start, pos + start))
 }
 
-/// The same at a position that may be too large.
-fn checked_resolve_at<T: Archive>(
-    value: &T,
-    resolver: T::Resolver,
-    pos: usize,
-    buffer: &mut [u8],
-    start: usize,
-) -> Result<(), Error>
-    requires made { (st : State) × (resolver ≡ T.spelling.resolver value.now st) }
-    requires room { start + size_of T.Archived.shape ≤ length buffer.old }
-    requires blank { HasBytes buffer.old start (zeros (size_of T.Archived.shape)) }
-    ensures { MatchResult result
-        (λ _. placed_fits T.spelling T.Archived.shape value.now resolver (pos + start)
-        × (buffer.new ≡ overwrite buffer.old start (T.spelling.own value.now resolver (pos + start))))
-        (placed_refused T.spelling T.Archived.shape value.now resolver (pos + start)) }
+/// How many of the bytes of a buffer end before position 2^64, where the first will stand at `pos`.
+fn room_at(len: usize, pos: usize) -> usize
+    ensures { result ≡ min len (2 ^ 64 - 1 - pos) }
 {
-    let _len = buffer.len();
-    let end = start + T::Archived::SIZE;
-    if pos.checked_add(end).is_none() {
-        return Err(Error::PositionTooLarge);
-    }
-    resolve_at(value, resolver, pos, buffer, start)
+    let rest = usize::MAX - pos;
+    if rest < len { rest } else { len }
 }
 
 /// Makes zeros, which will stand at `pos`, the own bytes of items side by side, whose data was written. Answers how many
@@ -118,15 +102,22 @@ pub(crate) fn resolve_through<T: Archive, W: Writer>(
 {
     let len = buffer.len();
     let size = T::Archived::SIZE;
+    let mut base = writer.pos();
+    let mut room = room_at(len, base);
     let mut filled = 0;
     for (i, item) in items.iter().enumerate() {
-        if len - filled < size {
+        if room - filled < size {
             if let Err(e) = flush(writer, buffer, filled) {
                 return Err(e);
             }
             filled = 0;
+            base = writer.pos();
+            room = room_at(len, base);
+            if room < size {
+                return Err(Error::PositionTooLarge);
+            }
         }
-        if let Err(e) = checked_resolve_at(item, kept[i], writer.pos(), buffer, filled) {
+        if let Err(e) = resolve_at(item, kept[i], base, buffer, filled) {
             return Err(e);
         }
         filled += size;

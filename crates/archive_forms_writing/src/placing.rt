@@ -21,6 +21,9 @@ pub fn pad<W: Writer>(writer: &mut W, padding: usize) -> Result<(), Error>
     requires short { padding < 32 }
     ensures { Writes W.Writer writer.old writer.new (zeros padding) result }
 {
+    if padding == 0 {
+        return Ok(());
+    }
     writer.write(&ZEROS[..padding])
 }
 
