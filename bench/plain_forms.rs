@@ -15,14 +15,14 @@ pub enum Refused {
 }
 
 #[derive(Clone, Copy, PartialEq, Eq)]
-struct Pushed {
+pub struct Pushed {
     pos: usize,
     end: usize,
     outer: usize,
 }
 
 /// The range that may still be claimed.
-struct Context {
+pub struct Context {
     start: usize,
     end: usize,
     most: usize,
@@ -30,7 +30,17 @@ struct Context {
 }
 
 impl Context {
-    fn claim(&self, pos: usize, size: usize, align: usize) -> Result<(), Refused> {
+    /// Of all bytes, where so many pushes may nest.
+    pub fn new(end: usize, most: usize) -> Self {
+        Context {
+            start: 0,
+            end,
+            most,
+            pushes: Vec::new(),
+        }
+    }
+
+    pub fn claim(&self, pos: usize, size: usize, align: usize) -> Result<(), Refused> {
         if pos < self.start || self.end < pos || self.end - pos < size {
             return Err(Refused::OutOfRange);
         }
@@ -40,7 +50,7 @@ impl Context {
         Ok(())
     }
 
-    fn push(&mut self, pos: usize, end: usize) -> Result<Pushed, Refused> {
+    pub fn push(&mut self, pos: usize, end: usize) -> Result<Pushed, Refused> {
         if self.most <= self.pushes.len() {
             return Err(Refused::TooDeep);
         }
@@ -54,7 +64,7 @@ impl Context {
         Ok(pushed)
     }
 
-    fn pop(&mut self, pushed: Pushed) -> Result<(), Refused> {
+    pub fn pop(&mut self, pushed: Pushed) -> Result<(), Refused> {
         if self.pushes.pop() != Some(pushed) {
             return Err(Refused::PopsOutOfOrder);
         }
@@ -74,7 +84,7 @@ fn target(bytes: &[u8], pos: usize, at: usize) -> Option<usize> {
 }
 
 /// An archived type.
-trait Archived {
+pub trait Archived {
     const SIZE: usize;
     const ALIGN: usize;
 
@@ -164,12 +174,7 @@ fn is_accepted<T: Archived>(bytes: &[u8], pos: usize) -> bool {
     if bytes.len() < T::SIZE || bytes.len() - T::SIZE < pos {
         return false;
     }
-    let mut context = Context {
-        start: 0,
-        end: bytes.len(),
-        most: 64,
-        pushes: Vec::new(),
-    };
+    let mut context = Context::new(bytes.len(), 64);
     T::check(bytes, pos, &mut context).is_ok()
 }
 
@@ -245,7 +250,7 @@ pub fn sum_lists(bytes: &[u8], pos: usize) -> u64 {
 }
 
 /// A value that is archived.
-trait Archive: Sized {
+pub trait Archive: Sized {
     const SIZE: usize;
     const ALIGN: usize;
     type Resolver: Copy;
@@ -414,7 +419,7 @@ fn serialize_slice<T: Archive, const PIECES: bool>(
 
 /// Archives a value as the root.
 #[inline(never)]
-fn serialized<T: Archive, const PIECES: bool>(value: &T) -> Result<Vec<u8>, Refused> {
+pub fn serialized<T: Archive, const PIECES: bool>(value: &T) -> Result<Vec<u8>, Refused> {
     let mut out = Vec::new();
     let resolver = value.serialize::<PIECES>(&mut out)?;
     align(&mut out, T::ALIGN);
@@ -424,7 +429,7 @@ fn serialized<T: Archive, const PIECES: bool>(value: &T) -> Result<Vec<u8>, Refu
     Ok(out)
 }
 
-fn serialized_again<T: Archive, const PIECES: bool>(value: &T, rounds: usize) -> usize {
+pub fn serialized_again<T: Archive, const PIECES: bool>(value: &T, rounds: usize) -> usize {
     let mut total = 0;
     for _ in 0..rounds {
         total += serialized::<T, PIECES>(value).map_or(0, |out| out.len());
@@ -432,16 +437,20 @@ fn serialized_again<T: Archive, const PIECES: bool>(value: &T, rounds: usize) ->
     total
 }
 
-fn options(numbers: &[u32]) -> Vec<Option<u32>> {
+pub fn options(numbers: &[u32]) -> Vec<Option<u32>> {
     numbers.iter().map(|n| (n % 2 == 1).then_some(*n)).collect()
 }
 
-fn texts(lengths: &[u32]) -> Vec<String> {
-    let letters = |length: &u32| (0..*length).map(|i| if i % 2 == 0 { 'a' } else { 'b' });
-    lengths.iter().map(|n| letters(n).collect()).collect()
+pub fn letters(count: u32) -> String {
+    let letter = |i| if i % 2 == 0 { 'a' } else { 'b' };
+    (0..count).map(letter).collect()
 }
 
-fn lists(numbers: &[u32]) -> Vec<Vec<u32>> {
+pub fn texts(lengths: &[u32]) -> Vec<String> {
+    lengths.iter().map(|n| letters(*n)).collect()
+}
+
+pub fn lists(numbers: &[u32]) -> Vec<Vec<u32>> {
     numbers.chunks(10).map(|ten| ten.to_vec()).collect()
 }
 

@@ -1,5 +1,6 @@
 //! Values that are archived again and again, called from outside.
 use crate::serializer::MemorySerializer;
+use archive_bench_values::{lists, options, texts};
 use archive_forms_writing::{Serialize, serialize_using};
 use archive_shape::Error;
 use std::alloc::Global;
@@ -24,49 +25,6 @@ fn serialized_again<T: Serialize<MemorySerializer>>(
         total = total.wrapping_add(serialized(alloc, value)?);
     }
     Ok(total)
-}
-
-/// The odd numbers, and none in the place of each even one.
-fn options(alloc: Global, numbers: &[u32]) -> Result<Vec<Option<u32>>, Error> {
-    let mut options = Vec::new(alloc);
-    for number in numbers {
-        let odd = if *number % 2 == 0 {
-            None
-        } else {
-            Some(*number)
-        };
-        options.push(odd)?;
-    }
-    Ok(options)
-}
-
-/// A text of as many letters.
-fn letters(alloc: Global, count: u32) -> Result<String, Error> {
-    let mut text = String::new(alloc);
-    for i in 0..count {
-        text.push(if i % 2 == 0 { 'a' } else { 'b' })?;
-    }
-    Ok(text)
-}
-
-/// Texts of as many letters each.
-fn texts(alloc: Global, lengths: &[u32]) -> Result<Vec<String>, Error> {
-    let mut texts = Vec::new(alloc);
-    for length in lengths {
-        let text = letters(alloc, *length)?;
-        texts.push(text)?;
-    }
-    Ok(texts)
-}
-
-/// The numbers in lists of ten.
-fn lists(alloc: Global, numbers: &[u32]) -> Result<Vec<Vec<u32>>, Error> {
-    let mut lists = Vec::new(alloc);
-    for ten in numbers.chunks(10) {
-        let list = Vec::from_slice(alloc, ten)?;
-        lists.push(list)?;
-    }
-    Ok(lists)
 }
 
 /// Archives a vector of options so many times: the odd numbers, and none in the place of each even one. Answers how many
