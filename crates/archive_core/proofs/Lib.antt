@@ -1,2 +1,3 @@
 pub mod From
+pub mod Joined
 pub mod Laid

@@ -1,0 +1,34 @@
+-- Laws of whole archives, as statements.
+use Rattle.std.specs.Prelude.{◌≡◌, ℕ, ◌<◌, ◌^◌, List, length}
+use Rattle.archive_shape_layout.specs.Shape.{Shape}
+use Rattle.archive_shape_layout.specs.Content.{Names}
+use Rattle.archive_shape_layout.specs.Holds.{root_position}
+use Rattle.archive_forms_spelling.specs.State.{Keys, AreOneToOne}
+use Rattle.archive_forms_spelling.specs.Spelling.{Spelling}
+use Rattle.archive_forms_deserializing.specs.Deserializing.{IsReadAt}
+use Rattle.archive_core_validation.specs.Depth.{unlimited}
+use Rattle.archive_core_access.specs.Access.{IsAccepted}
+use Rattle.archive_core.specs.Written.{MadeArchive}
+
+module _ {A R : Type 0} (s : Shape) (knows : Names → Type 0) (w : Spelling A R) where
+  -- the archive of a value is accepted, without a limit of depth
+  abbrev pub WrittenIsAccepted : Type 0
+  WrittenIsAccepted =
+      (x : A) (bytes : List ℕ) (names : Names) (keys : Keys)
+      → knows names
+      → w.keyed_by keys x
+      → AreOneToOne keys
+      → length bytes < 2 ^ 64
+      → MadeArchive s knows w x bytes
+      → IsAccepted names bytes s (root_position (length bytes) s) unlimited
+
+  -- what is read back at its root is the value, but for where shared values stand
+  abbrev pub ReadBackIsWritten : Type 0
+  ReadBackIsWritten =
+      (x y : A) (bytes : List ℕ) (names : Names) (keys : Keys)
+      → knows names
+      → w.keyed_by keys x
+      → AreOneToOne keys
+      → MadeArchive s knows w x bytes
+      → IsReadAt w s knows bytes (root_position (length bytes) s) y
+      → w.plain y ≡ w.plain x

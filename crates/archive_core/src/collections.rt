@@ -1,0 +1,2 @@
+//! What maps and sets are archived by.
+pub mod util;

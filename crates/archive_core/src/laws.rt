@@ -1,0 +1,36 @@
+//! The laws of archives and of all that they are made of. Each is a function without a body, which carries the law as its
+//! contract.
+ghost use Rattle.archive_core.specs.Laws.{WrittenIsAccepted, ReadBackIsWritten};
+
+pub use archive_core_access::unlimited_is_no_limit;
+pub use archive_core_nesting::laws::nesting_is_bounded;
+use archive_forms::Archive;
+pub use archive_forms::laws::{
+    equal_values_are_hashed_alike, equalities_are_equivalences, held_is_text,
+    keyed_lists_are_written, leaf_spells, one_present_is_written, one_text,
+    optional_lists_are_written, orders_agree, orders_are_total, out_of_line_capacity,
+    pairs_are_written, texts_are_written, two_shared_is_written, written_once,
+};
+pub use archive_shape::laws::{
+    accepted_is_answered, alignments_are_small_powers, ascent_is_apart, ascent_splits,
+    deep_child_is_refused, edit_of_leaf, edit_of_text, extent_is_claimed, fault_refuses, frame,
+    held_leaf_is_read, illegal_is_refused, keys_of_one_value_are_alike, leaf_is_read,
+    legal_is_readable, named_is_known, one_fault, one_value, overwrite_spares, paths_join,
+    root_regions, sealed_leaf, sealed_text, value_at_path,
+};
+pub use archive_shape_canonical::{
+    avoiding_paths_join, canonical_edit_of_leaf, canonical_edit_of_text, canonical_frame,
+    one_archive, tables_of_one_map, written_everywhere,
+};
+pub use archive_shape_layout::{leaf_within, leaves_apart};
+
+/// What `to_bytes` writes of a value, `access` accepts, want of memory aside: the buffer has the value at its root, with
+/// regions that ascend and no limit of depth.
+pub fn written_is_accepted<T: Archive>()
+    ensures { WrittenIsAccepted T.Archived.shape T.Archived.knows T.spelling }
+{}
+
+/// What `from_bytes` reads back of what `to_bytes` wrote is the value that was written, but for where shared values stand.
+pub fn read_back_is_written<T: Archive>()
+    ensures { ReadBackIsWritten T.Archived.shape T.Archived.knows T.spelling }
+{}
