@@ -7,7 +7,7 @@ ghost use Rattle.cabinet_text_grammar.specs.Spelling.{escaped, escaped_byte};
 use std::alloc::{AllocError, Global};
 
 /// The byte that an escaped text begins with, and what follows it.
-fn first_byte(escaped_text: &[u8]) -> Option<(u8, &[u8])>
+pub fn first_byte(escaped_text: &[u8]) -> Option<(u8, &[u8])>
     ensures { MatchOption result ((b : ℕ) (t : List ℕ) → escaped_text.now ≢ escaped (b ∷ t)) (λ p. escaped_text.now ≡ escaped_byte p.0 ++ p.1.now) }
 {
     match escaped_text {

@@ -41,7 +41,7 @@ words-last (b ∷ bs) p =
       | inr differs ↦ rw differs.0 (ap (onto_first_word b) (words-last bs p.1))
     ]
 
-Lacks-step : (step : Step) → IsStep step → Lacks 32 (spelled_step step)
+pub Lacks-step : (step : Step) → IsStep step → Lacks 32 (spelled_step step)
 Lacks-step (key k) p = (λ e. omega (arith, e), Lacks-escaped 32 k (inr refl))
 Lacks-step (place n) p = (λ e. omega (arith, e), Lacks-decimal 32 n (omega arith) p)
 Lacks-step inside p = Lacks-tested 32 (codes "?") refl
@@ -53,14 +53,14 @@ words-path word (step ∷ path) p steps =
     ∙ ap (λ ws. word ∷ ws) (words-path (spelled_step step) path (Lacks-step step (All-head IsStep step path steps)) (All-tail IsStep step path steps))
 
 -- a leaf's spelling is two words and a space between them
-record TwoWords (bytes : List ℕ) : Type 0 where
+pub record TwoWords (bytes : List ℕ) : Type 0 where
   pub word : List ℕ
   pub argument : List ℕ
   pub spelled : bytes ≡ word ++ 32 ∷ argument
   pub first_word : Lacks 32 word
   pub second_word : Lacks 32 argument
 
-two_words : (l : Leaf) → IsLeaf l → TwoWords (spelled_leaf l)
+pub two_words : (l : Leaf) → IsLeaf l → TwoWords (spelled_leaf l)
 two_words (truth true) p = record {
   word = codes "bool";
   argument = codes "true";

@@ -2,3 +2,5 @@ pub mod Code
 pub mod View
 pub mod Kinds
 pub mod Lines
+pub mod Outcomes
+pub mod Answers

@@ -1,8 +1,15 @@
 //! A document, which begins at its root.
 ghost use Rattle.std.specs.Prelude.{◌≡◌};
 ghost use Rattle.cabinet_text_grammar.specs.Tree.{IsDocument};
-ghost use Rattle.cabinet_text_nodes.specs.View.{node_tree};
+ghost use Rattle.cabinet_text_grammar.specs.Answering.{answer, change};
+ghost use Rattle.cabinet_text_grammar.specs.Line.{set};
+ghost use Rattle.cabinet_text_nodes.specs.Outcomes.{outcome_of};
+ghost use Rattle.cabinet_text_nodes.specs.View.{node_tree, leaf_of, path_of};
 
+use crate::answer::SetAnswer;
+use crate::change::change_at;
+use crate::leaf::Leaf;
+use crate::line::Step;
 use crate::node::Node;
 use std::marker::Model;
 
@@ -41,5 +48,13 @@ impl Document {
         ensures document { IsDocument self.now }
     {
         &self.root
+    }
+
+    /// Puts a leaf where a path leads, in the place of one that it fits. It takes no memory.
+    pub fn change(&mut self, path: &[Step], leaf: &Leaf) -> SetAnswer
+        ensures answer { outcome_of result ≡ answer self.old (set (path_of path.now) (leaf_of leaf.now)) }
+        ensures document { self.new ≡ change self.old (path_of path.now) (leaf_of leaf.now) }
+    {
+        change_at(&mut self.root, path, leaf.as_ref())
     }
 }

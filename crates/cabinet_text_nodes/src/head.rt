@@ -1,5 +1,10 @@
 //! Heads of nodes: what the line that a node's text begins with says.
+ghost use Rattle.std.specs.Prelude.{◌≡◌};
+ghost use Rattle.cabinet_text_grammar.specs.Answering.{head_of};
+ghost use Rattle.cabinet_text_nodes.specs.View.{node_tree, lent_item};
+
 use crate::leaf::{Leaf, LeafRef};
+use crate::node::Node;
 use std::rc::RcStr;
 
 /// The head of a node. Lists and maps have as many elements or pairs as it says.
@@ -26,4 +31,24 @@ pub enum HeadRef<'a> {
     Ordered(u64),
     Hashed(u64),
     Kept(u64),
+}
+
+impl Node {
+    /// What the line that the node's text begins with says.
+    pub fn head(&self) -> HeadRef<'_>
+        ensures { lent_item result ≡ head_of (node_tree self.now) }
+    {
+        match self {
+            Node::Bool(value) => HeadRef::Leaf(LeafRef::Bool(*value)),
+            Node::Int(number) => HeadRef::Leaf(LeafRef::Int(*number)),
+            Node::Text(text) => HeadRef::Leaf(LeafRef::Text(text.as_str())),
+            Node::Shared(text) => HeadRef::Shared(text.as_str()),
+            Node::Maybe(None) => HeadRef::None,
+            Node::Maybe(Some(_)) => HeadRef::Some,
+            Node::List(nodes) => HeadRef::List(nodes.len() as u64),
+            Node::Ordered(pairs) => HeadRef::Ordered(pairs.len() as u64),
+            Node::Hashed(pairs) => HeadRef::Hashed(pairs.len() as u64),
+            Node::Kept(pairs) => HeadRef::Kept(pairs.len() as u64),
+        }
+    }
 }

@@ -2,6 +2,7 @@
 #![tactic(auto)]
 
 mod answer;
+mod change;
 mod document;
 mod head;
 mod leaf;

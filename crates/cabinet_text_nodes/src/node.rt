@@ -1,8 +1,10 @@
 //! The nodes of documents and their kinds.
-ghost use Rattle.std.specs.Prelude.{◌≡◌};
-ghost use Rattle.cabinet_text_nodes.specs.View.{node_tree};
+ghost use Rattle.std.specs.Prelude.{◌≡◌, ◌≢◌, MatchOption};
+ghost use Rattle.cabinet_text_grammar.specs.Tree.{Leaf, leaf};
+ghost use Rattle.cabinet_text_nodes.specs.View.{node_tree, lent_leaf};
 ghost use Rattle.cabinet_text_nodes.specs.Kinds.{kind_of};
 
+use crate::leaf::LeafRef;
 use std::collections::BTreeMap;
 use std::rc::RcStr;
 
@@ -50,6 +52,18 @@ impl Node {
             Node::Ordered(_) => Kind::Ordered,
             Node::Hashed(_) => Kind::Hashed,
             Node::Kept(_) => Kind::Kept,
+        }
+    }
+
+    /// The leaf that the node is, if it is one.
+    pub fn as_leaf(&self) -> Option<LeafRef<'_>>
+        ensures { MatchOption result ((l : Leaf) → node_tree self.now ≢ leaf l) (λ l. node_tree self.now ≡ leaf (lent_leaf l)) }
+    {
+        match self {
+            Node::Bool(value) => Some(LeafRef::Bool(*value)),
+            Node::Int(number) => Some(LeafRef::Int(*number)),
+            Node::Text(text) => Some(LeafRef::Text(text.as_str())),
+            _ => None,
         }
     }
 }

@@ -1,0 +1,9 @@
+-- What came of an edit, as an answer.
+use Rattle.cabinet_text_grammar.specs.Answering.{Answer, missing, done, refused}
+use Rattle.cabinet_text_nodes.specs.declared.answer.SetAnswer.{SetAnswer}
+use Rattle.cabinet_text_nodes.specs.declared.answer.SetAnswer.TheVariants.{Done, Missing, Refused}
+
+abbrev pub outcome_of : SetAnswer → Answer
+outcome_of Done = done
+outcome_of Missing = missing
+outcome_of Refused = refused

@@ -1,0 +1,150 @@
+//! A leaf put in the place of another.
+ghost use Rattle.std.specs.Prelude.{◌≡◌, ◌<◌, [], ◌∷◌, length, string_bytes, IfSome};
+ghost use Rattle.cabinet_text_grammar.specs.Keys.{MapKind, kept};
+ghost use Rattle.cabinet_text_grammar.specs.Tree as tree;
+ghost use Rattle.cabinet_text_nodes.specs.Answers.{Sets, place_by};
+ghost use Rattle.cabinet_text_nodes.specs.View.{node_tree, node_trees, node_pairs, lent_leaf, step_of, path_of};
+ghost use Rattle.cabinet_text_nodes.specs.declared.node.Node.TheVariants as node_of;
+
+use crate::answer::SetAnswer;
+use crate::leaf::LeafRef;
+use crate::line::Step;
+use crate::node::Node;
+use std::collections::BTreeMap;
+
+/// Writes a text over another of the same length. It takes no memory.
+fn write_over(text: &mut String, new: &str)
+    requires { length (string_bytes text.old) ≡ length new.now }
+    ensures { string_bytes text.new ≡ new.now }
+{
+    text.clear();
+    text.push_str(new).unwrap();
+}
+
+/// Puts a leaf in the place of a node.
+fn put_leaf(node: &mut Node, leaf: LeafRef<'_>) -> SetAnswer
+    ensures { Sets (node_tree node.old) [] (lent_leaf leaf.entry) result (node_tree node.new) }
+{
+    match (node, leaf) {
+        (Node::Bool(there), LeafRef::Bool(value)) => {
+            *there = value;
+            SetAnswer::Done
+        }
+        (Node::Int(there), LeafRef::Int(number)) => {
+            *there = number;
+            SetAnswer::Done
+        }
+        (Node::Text(there), LeafRef::Text(text)) if there.len() == text.len() => {
+            write_over(there, text);
+            SetAnswer::Done
+        }
+        _ => SetAnswer::Refused,
+    }
+}
+
+/// The place of a key. It compares the key with each.
+fn place_of(pairs: &[(String, Node)], key: &str) -> Option<usize>
+    ensures place { result ≡ place_by (node_pairs pairs.now) key.now }
+    ensures within { IfSome result (λ place. place < length pairs.now) }
+{
+    for (place, (other, _)) in pairs.iter().enumerate() {
+        if other.as_str() == key {
+            return Some(place);
+        }
+    }
+    None
+}
+
+/// Puts a leaf where a path leads through an option.
+#[cycle(change)]
+fn change_inside(
+    content: &mut Option<Box<Node>>,
+    step: &Step,
+    rest: &[Step],
+    leaf: LeafRef<'_>,
+) -> SetAnswer
+    ensures { Sets (node_tree (node_of.Maybe content.old)) (step_of step.now ∷ path_of rest.now) (lent_leaf leaf.entry) result (node_tree (node_of.Maybe content.new)) }
+{
+    let Step::Inside = step else {
+        return SetAnswer::Missing;
+    };
+    let Some(content) = content else {
+        return SetAnswer::Missing;
+    };
+    change_at(content, rest, leaf)
+}
+
+/// Puts a leaf where a path leads through a list.
+#[cycle(change)]
+fn change_element(
+    elements: &mut Vec<Node>,
+    step: &Step,
+    rest: &[Step],
+    leaf: LeafRef<'_>,
+) -> SetAnswer
+    ensures { Sets (tree.list (node_trees elements.old.items)) (step_of step.now ∷ path_of rest.now) (lent_leaf leaf.entry) result (tree.list (node_trees elements.new.items)) }
+{
+    let Step::Place(place) = step else {
+        return SetAnswer::Missing;
+    };
+    match elements.get_mut(*place as usize) {
+        Some(element) => change_at(element, rest, leaf),
+        None => SetAnswer::Missing,
+    }
+}
+
+/// Puts a leaf where a path leads through an ordered or a hashed map.
+#[cycle(change)]
+fn change_value(
+    map: &mut BTreeMap<String, Node>,
+    step: &Step,
+    rest: &[Step],
+    leaf: LeafRef<'_>,
+) -> SetAnswer
+    ensures { (kind : MapKind) → Sets (tree.map kind (node_pairs map.old.entries)) (step_of step.now ∷ path_of rest.now) (lent_leaf leaf.entry) result (tree.map kind (node_pairs map.new.entries)) }
+{
+    let Step::Key(key) = step else {
+        return SetAnswer::Missing;
+    };
+    match map.get_mut(key.as_str()) {
+        Some(value) => change_at(value, rest, leaf),
+        None => SetAnswer::Missing,
+    }
+}
+
+/// Puts a leaf where a path leads through a map with an order of its own.
+#[cycle(change)]
+fn change_kept_value(
+    pairs: &mut Vec<(String, Node)>,
+    step: &Step,
+    rest: &[Step],
+    leaf: LeafRef<'_>,
+) -> SetAnswer
+    ensures { Sets (tree.map kept (node_pairs pairs.old.items)) (step_of step.now ∷ path_of rest.now) (lent_leaf leaf.entry) result (tree.map kept (node_pairs pairs.new.items)) }
+{
+    let Step::Key(key) = step else {
+        return SetAnswer::Missing;
+    };
+    match place_of(pairs, key.as_str()) {
+        Some(place) => change_at(&mut pairs[place].1, rest, leaf),
+        None => SetAnswer::Missing,
+    }
+}
+
+/// Puts a leaf where a path leads. It calls itself at most as deep as nodes lie in one another.
+#[cycle(change)]
+pub(crate) fn change_at(node: &mut Node, path: &[Step], leaf: LeafRef<'_>) -> SetAnswer
+    ensures { Sets (node_tree node.old) (path_of path.now) (lent_leaf leaf.entry) result (node_tree node.new) }
+{
+    let Some((step, rest)) = path.split_first() else {
+        return put_leaf(node, leaf);
+    };
+    match node {
+        Node::Maybe(content) => change_inside(content, step, rest, leaf),
+        Node::List(elements) => change_element(elements, step, rest, leaf),
+        Node::Ordered(map) => change_value(map, step, rest, leaf),
+        Node::Hashed(map) => change_value(map, step, rest, leaf),
+        Node::Kept(pairs) => change_kept_value(pairs, step, rest, leaf),
+        _ => SetAnswer::Missing,
+    }
+}
