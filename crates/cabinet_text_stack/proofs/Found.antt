@@ -1,0 +1,84 @@
+-- A key among the pairs of a map, by its escaped form.
+use Rattle.std.proofs.Common.{◌≡◌, ◌≢◌, ℕ, Bool, true, false, ◌||◌, List, [], ◌∷◌, ◌++◌, sym, ap, ◌∙◌, refl, ◌⊎◌, inl, inr, Bor, Global, String}
+use Rattle.std.specs.Prelude.{string_bytes}
+use Rattle.std.specs.BTreeSet.{insert_key}
+use Rattle.std.specs.Cmp.Lexicographic.{slice_cmp}
+use Rattle.std.specs.declared.cmp.Ordering.{Ordering}
+use Rattle.std.specs.declared.cmp.Ordering.TheVariants.{Less, Equal, Greater}
+use Rattle.std.specs.List.{list_any}
+use Rattle.std.specs.Ordering.{nat_cmp, is_eq}
+use Rattle.std.specs.Str.{bytes_eq}
+use Rattle.std.proofs.lemmas.Bool.{true≢false}
+use Rattle.std.proofs.lemmas.List.Elements.{All-nil, All-cons, All-head, All-tail}
+use Rattle.std.proofs.lemmas.List.Folds.{list_any-append}
+use Rattle.std.proofs.lemmas.Map.Lookups.{exact_bytes}
+use Rattle.std.proofs.lemmas.Map.Text.{is_eq-slice_cmp}
+use Rattle.std.proofs.lemmas.Slice.Eq.{bytes_eq-Decides}
+use Rattle.cabinet_text_grammar.specs.Spelling.{escaped}
+use Rattle.cabinet_text_nodes.specs.declared.node.Node.{Node}
+use Rattle.cabinet_text_stack.specs.Kept.{has_escaped, LacksEscaped}
+
+-- the order of slices by their bytes
+abbrev pub slices_cmp : Bor (List ℕ) → Bor (List ℕ) → Ordering
+slices_cmp x y = slice_cmp nat_cmp x.now y.now
+
+once : (b c : Bool) → (b || c) ≡ (b || (b || c))
+once true c = refl
+once false c = refl
+
+swap : (b c d : Bool) → (b || (c || d)) ≡ (c || (b || d))
+swap true true d = refl
+swap true false d = refl
+swap false true d = refl
+swap false false d = refl
+
+-- what a test finds among slices after one is inserted
+pub found_after : (f : List ℕ → Bool) (ks : List (Bor (List ℕ))) (a : Bor (List ℕ)) → list_any (λ k. f k.now) (insert_key slices_cmp ks a) ≡ (f a.now || list_any (λ k. f k.now) ks)
+found_after f [] a = refl
+found_after f (k ∷ ks) a = by_order (slices_cmp a k) refl (found_after f ks a) where
+  by_order : (o : Ordering) → slices_cmp a k ≡ o → list_any (λ k. f k.now) (insert_key slices_cmp ks a) ≡ (f a.now || list_any (λ k. f k.now) ks)
+      → list_any (λ k. f k.now) (insert_key slices_cmp (k ∷ ks) a) ≡ (f a.now || list_any (λ k. f k.now) (k ∷ ks))
+  by_order Less is behind = rw is refl
+  by_order Equal is behind = rw (is, exact_bytes a.now k.now is) (once (f k.now) (list_any (λ k. f k.now) ks))
+  by_order Greater is behind = rw (is, behind) (swap (f k.now) (f a.now) (list_any (λ k. f k.now) ks))
+
+neither : (b c : Bool) → (b || c) ≡ false → (b ≡ false) × (c ≡ false)
+neither true c h = absurd (true≢false h)
+neither false c h = (refl, h)
+
+either : (b c : Bool) → (b || c) ≡ true → (b ≡ true) ⊎ (c ≡ true)
+either true c h = inl refl
+either false c h = inr h
+
+last : (b c : Bool) → (c || b) ≡ (b || (c || false))
+last true true = refl
+last true false = refl
+last false true = refl
+last false false = refl
+
+-- an escaped form that is inserted, and its pair behind the others
+pub kept_exact : (bytes : List ℕ) (ks : List (Bor (List ℕ))) (a : Bor (List ℕ)) (ps : List (String Global × Node)) (k : String Global) (n : Node)
+    → a.now ≡ escaped (string_bytes k)
+    → list_any (λ k. is_eq (slice_cmp nat_cmp bytes k.now)) ks ≡ has_escaped bytes ps
+    → list_any (λ k. is_eq (slice_cmp nat_cmp bytes k.now)) (insert_key slices_cmp ks a) ≡ has_escaped bytes (ps ++ (k, n) ∷ [])
+kept_exact bytes ks a ps k n is_escaped exact =
+    found_after (λ b. is_eq (slice_cmp nat_cmp bytes b)) ks a
+    ∙ ap (λ b. is_eq (slice_cmp nat_cmp bytes a.now) || b) exact
+    ∙ ap (λ b. b || has_escaped bytes ps) (is_eq-slice_cmp bytes a.now ∙ ap (bytes_eq bytes) is_escaped)
+    ∙ last (has_escaped bytes ps) (bytes_eq bytes (escaped (string_bytes k)))
+    ∙ sym (list_any-append (λ p. bytes_eq bytes (escaped (string_bytes p.0))) ps ((k, n) ∷ []))
+
+-- a form that is not found, and one that is
+pub lacks_unless_found : (bytes : List ℕ) (ps : List (String Global × Node)) → has_escaped bytes ps ≡ false → LacksEscaped bytes ps
+lacks_unless_found bytes [] h = All-nil (λ p. bytes ≢ escaped (string_bytes p.0))
+lacks_unless_found bytes (p ∷ ps) h =
+    let both = neither (bytes_eq bytes (escaped (string_bytes p.0))) (has_escaped bytes ps) h in
+    All-cons (λ p. bytes ≢ escaped (string_bytes p.0)) p ps (λ e. true≢false (sym ((bytes_eq-Decides bytes (escaped (string_bytes p.0))).1 e) ∙ both.0)) (lacks_unless_found bytes ps both.1)
+
+pub found_unless_lacks : (bytes : List ℕ) (ps : List (String Global × Node)) → has_escaped bytes ps ≡ true → LacksEscaped bytes ps → ⊥
+found_unless_lacks bytes [] h lacks = true≢false (sym h)
+found_unless_lacks bytes (p ∷ ps) h lacks =
+    elim (either (bytes_eq bytes (escaped (string_bytes p.0))) (has_escaped bytes ps) h) [
+      | inl here ↦ All-head (λ p. bytes ≢ escaped (string_bytes p.0)) p ps lacks ((bytes_eq-Decides bytes (escaped (string_bytes p.0))).0 here)
+      | inr behind ↦ found_unless_lacks bytes ps behind (All-tail (λ p. bytes ≢ escaped (string_bytes p.0)) p ps lacks)
+    ]

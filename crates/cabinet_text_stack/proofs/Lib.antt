@@ -1,0 +1,5 @@
+pub mod Compared
+pub mod Found
+pub mod Stacks
+pub mod Taken
+pub mod Wrong

@@ -1,0 +1,141 @@
+-- The stack of the code as open containers.
+use Rattle.std.proofs.Common.{◌≡◌, ◌≢◌, ℕ, ◌+◌, List, [], ◌∷◌, ◌++◌, length, sym, ap, ◌∙◌, refl, arith, inl, inr, Vec, Global, String, Box, Some}
+use Rattle.std.specs.Prelude.{string_bytes, string_cmp}
+use Rattle.std.specs.declared.cmp.Ordering.TheVariants.{Less, Greater}
+use Rattle.std.specs.Ordering.{nat_cmp, ordering_reverse}
+use Rattle.std.specs.Cmp.Lexicographic.{slice_cmp}
+use Rattle.std.specs.BTreeMap.{BTreeMap, insert_entry}
+use Rattle.std.proofs.lemmas.Cmp.{nat_list_cmp_total}
+use Rattle.std.proofs.lemmas.Bool.Decides.{eqb_tells}
+use Rattle.cabinet_text_grammar.specs.Due.{a_head, due_in}
+use Rattle.cabinet_text_grammar.specs.Frame as frame
+use Rattle.cabinet_text_grammar.specs.Frame.{keys_after, WantsNode}
+use Rattle.cabinet_text_grammar.specs.Keys.{MapKind, ordered, hashed, IsAboveLast}
+use Rattle.cabinet_text_grammar.specs.Tree as tree
+use Rattle.cabinet_text_grammar.specs.Tree.{Tree, Trees, Pairs, no_pairs, more_pairs, ArePairs}
+use Rattle.cabinet_text_grammar.proofs.Legal.{head_due}
+use Rattle.cabinet_text_grammar.proofs.Machine.{going, then_tree, then_pair, plug}
+use Rattle.cabinet_text_nodes.specs.View.{view_step, node_tree, node_trees, node_pairs}
+use Rattle.cabinet_text_nodes.specs.declared.node.Node.{Node, fold-roll-Node}
+use Rattle.cabinet_text_nodes.specs.declared.node.Node.TheVariants as Node'
+use Rattle.cabinet_text_nodes.specs.declared.node.Node.TheOpen.{Node-F}
+use Rattle.cabinet_text_stack.specs.View.{frame_of, stack_onto, stack_of}
+use Rattle.cabinet_text_stack.specs.declared.frame.Frame.{Frame}
+use Rattle.cabinet_text_stack.specs.declared.frame.Frame.TheVariants as code_frame
+use Rattle.cabinet_text_stack.specs.declared.pairs.Pairs as code
+
+stack_onto-push : (outer : List frame.Frame) (fs : List Frame) (f : Frame) → stack_onto outer (fs ++ f ∷ []) ≡ frame_of f ∷ stack_onto outer fs
+stack_onto-push outer [] f = refl
+stack_onto-push outer (g ∷ fs) f = stack_onto-push (frame_of g ∷ outer) fs f
+
+pub stack_of-push : (fs : List Frame) (f : Frame) → stack_of (fs ++ f ∷ []) ≡ frame_of f ∷ stack_of fs
+stack_of-push fs f = stack_onto-push [] fs f
+
+-- the stack before its last frame was taken
+pub opened : (all before : List Frame) (f g : Frame) → all ≡ before ++ f ∷ [] → f ≡ g → stack_of all ≡ frame_of g ∷ stack_of before
+opened all before f g h is = ap stack_of h ∙ stack_of-push before f ∙ ap (λ e. frame_of e ∷ stack_of before) is
+
+length-stack_onto : (outer : List frame.Frame) (fs : List Frame) → length (stack_onto outer fs) ≡ length outer + length fs
+length-stack_onto outer [] = omega arith
+length-stack_onto outer (f ∷ fs) = omega (arith, length-stack_onto (frame_of f ∷ outer) fs)
+
+head_due_inside : (all before : List Frame) (f : Frame) → all ≡ before ++ f ∷ [] → WantsNode (frame_of f ∷ stack_of before) → due_in (stack_of all) ≡ a_head (length all)
+head_due_inside all before f h wants =
+    let here = opened all before f f h refl in
+    let long : length (frame_of f ∷ stack_of before) ≡ length all = omega (arith, ap length here, length-stack_onto [] all) in
+    ap due_in here ∙ head_due (frame_of f ∷ stack_of before) wants ∙ ap a_head long
+
+-- where the last frame wants no key, a head is due
+pub head_told : (all before : List Frame) (f : Frame) → all ≡ before ++ f ∷ [] → ((n : ℕ) (ps : code.Pairs) → f ≢ code_frame.Key n ps) → due_in (stack_of all) ≡ a_head (length all)
+head_told all before code_frame.Maybe h none = head_due_inside all before code_frame.Maybe h tt
+head_told all before (code_frame.List n v) h none = head_due_inside all before (code_frame.List n v) h tt
+head_told all before (code_frame.Key n ps) h none = absurd (none n ps refl)
+head_told all before (code_frame.Value n ps k) h none = head_due_inside all before (code_frame.Value n ps k) h tt
+
+pub node_trees-push : (ns : List Node) (n : Node) → node_trees (ns ++ n ∷ []) ≡ then_tree (node_trees ns) (node_tree n)
+node_trees-push [] n = refl
+node_trees-push (m ∷ ns) n = ap (tree.more_trees (node_tree m)) (node_trees-push ns n)
+
+pub count-node_trees : (ns : List Node) → tree.count (node_trees ns) ≡ length ns
+count-node_trees [] = refl
+count-node_trees (n ∷ ns) = omega (arith, count-node_trees ns)
+
+pub node_tree-list : (v : Vec Node Global) → node_tree (Node'.List v) ≡ tree.list (node_trees v.items)
+node_tree-list v = ap node_tree (sym (Node'.rolls-List v)) ∙ fold-roll-Node Tree view_step (Node-F.List v)
+
+pub node_tree-some : (b : Box Node Global) → node_tree (Node'.Maybe (Some b)) ≡ tree.just (node_tree b.value)
+node_tree-some b = ap node_tree (sym (Node'.rolls-Maybe (Some b))) ∙ fold-roll-Node Tree view_step (Node-F.Maybe (Some b))
+
+pub node_tree-ordered : (m : BTreeMap (String Global) Node) → node_tree (Node'.Ordered m) ≡ tree.map ordered (node_pairs m.entries)
+node_tree-ordered m = ap node_tree (sym (Node'.rolls-Ordered m)) ∙ fold-roll-Node Tree view_step (Node-F.Ordered m)
+
+pub node_tree-hashed : (m : BTreeMap (String Global) Node) → node_tree (Node'.Hashed m) ≡ tree.map hashed (node_pairs m.entries)
+node_tree-hashed m = ap node_tree (sym (Node'.rolls-Hashed m)) ∙ fold-roll-Node Tree view_step (Node-F.Hashed m)
+
+pub counted_items : (v : Vec Node Global) → length v.items ≡ v.len
+counted_items v = omega (arith, v.ok)
+
+pub node_pairs-push : (ps : List (String Global × Node)) (k : String Global) (n : Node) → node_pairs (ps ++ (k, n) ∷ []) ≡ then_pair (node_pairs ps) (string_bytes k) (node_tree n)
+node_pairs-push [] k n = refl
+node_pairs-push (p ∷ ps) k n = ap (tree.more_pairs (string_bytes p.0) (node_tree p.1)) (node_pairs-push ps k n)
+
+pub count-node_pairs : (ps : List (String Global × Node)) → tree.pair_count (node_pairs ps) ≡ length ps
+count-node_pairs [] = refl
+count-node_pairs (p ∷ ps) = omega (arith, count-node_pairs ps)
+
+-- a container that is full by a node, and one that is not
+pub list_full : (ns all : List Node) (n : Node) (count : ℕ) (outer : List frame.Frame) → all ≡ ns ++ n ∷ [] → length all ≡ count → plug (tree.list (node_trees all)) outer ≡ plug (node_tree n) (frame.in_list count (node_trees ns) ∷ outer)
+list_full ns all n count outer h full =
+    let trees : node_trees all ≡ then_tree (node_trees ns) (node_tree n) = ap node_trees h ∙ node_trees-push ns n in
+    let counted : tree.count (then_tree (node_trees ns) (node_tree n)) ≡ count = ap tree.count (sym trees) ∙ count-node_trees all ∙ full in
+    elim (eqb_tells (tree.count (then_tree (node_trees ns) (node_tree n))) count) [
+      | inl is ↦ rw is.0 (ap (λ ts. plug (tree.list ts) outer) trees)
+      | inr differs ↦ absurd (differs.1 counted)
+    ]
+
+pub list_more : (ns all : List Node) (n : Node) (count : ℕ) (outer : List frame.Frame) → all ≡ ns ++ n ∷ [] → length all ≢ count → going (frame.in_list count (node_trees all) ∷ outer) ≡ plug (node_tree n) (frame.in_list count (node_trees ns) ∷ outer)
+list_more ns all n count outer h short =
+    let trees : node_trees all ≡ then_tree (node_trees ns) (node_tree n) = ap node_trees h ∙ node_trees-push ns n in
+    let counted : tree.count (then_tree (node_trees ns) (node_tree n)) ≡ length all = ap tree.count (sym trees) ∙ count-node_trees all in
+    elim (eqb_tells (tree.count (then_tree (node_trees ns) (node_tree n))) count) [
+      | inl is ↦ absurd (short (sym counted ∙ is.1))
+      | inr differs ↦ rw differs.0 (ap (λ ts. going (frame.in_list count ts ∷ outer)) trees)
+    ]
+
+pub pairs_full : (kind : MapKind) (ps all : List (String Global × Node)) (k : String Global) (n : Node) (count : ℕ) (outer : List frame.Frame) → all ≡ ps ++ (k, n) ∷ [] → length all ≡ count → plug (tree.map kind (node_pairs all)) outer ≡ plug (node_tree n) (frame.at_value kind count (node_pairs ps) (string_bytes k) ∷ outer)
+pairs_full kind ps all k n count outer h full =
+    let trees : node_pairs all ≡ then_pair (node_pairs ps) (string_bytes k) (node_tree n) = ap node_pairs h ∙ node_pairs-push ps k n in
+    let counted : tree.pair_count (then_pair (node_pairs ps) (string_bytes k) (node_tree n)) ≡ count = ap tree.pair_count (sym trees) ∙ count-node_pairs all ∙ full in
+    elim (eqb_tells (tree.pair_count (then_pair (node_pairs ps) (string_bytes k) (node_tree n))) count) [
+      | inl is ↦ rw is.0 (ap (λ ts. plug (tree.map kind ts) outer) trees)
+      | inr differs ↦ absurd (differs.1 counted)
+    ]
+
+pub pairs_more : (kind : MapKind) (ps all : List (String Global × Node)) (k : String Global) (n : Node) (count : ℕ) (outer : List frame.Frame) → all ≡ ps ++ (k, n) ∷ [] → length all ≢ count → going (frame.at_key kind count (node_pairs all) ∷ outer) ≡ plug (node_tree n) (frame.at_value kind count (node_pairs ps) (string_bytes k) ∷ outer)
+pairs_more kind ps all k n count outer h short =
+    let trees : node_pairs all ≡ then_pair (node_pairs ps) (string_bytes k) (node_tree n) = ap node_pairs h ∙ node_pairs-push ps k n in
+    let counted : tree.pair_count (then_pair (node_pairs ps) (string_bytes k) (node_tree n)) ≡ length all = ap tree.pair_count (sym trees) ∙ count-node_pairs all in
+    elim (eqb_tells (tree.pair_count (then_pair (node_pairs ps) (string_bytes k) (node_tree n))) count) [
+      | inl is ↦ absurd (short (sym counted ∙ is.1))
+      | inr differs ↦ rw differs.0 (ap (λ ts. going (frame.at_key kind count ts ∷ outer)) trees)
+    ]
+
+-- hashed pairs ascend as ordered ones do
+pub as_ordered : (keys : List (List ℕ)) (ps : Pairs) → ArePairs hashed keys ps → ArePairs ordered keys ps
+as_ordered keys no_pairs are = tt
+as_ordered keys (more_pairs k t ps) are = (are.0, (are.1.0, as_ordered (k ∷ keys) ps are.1.1))
+
+-- a key above the last of ascending keys is above each
+above_first : (keys : List (List ℕ)) (ps : Pairs) (k : List ℕ) → ArePairs ordered keys ps → IsAboveLast (keys_after keys ps) k → IsAboveLast keys k
+above_first keys no_pairs k are above = above
+above_first [] (more_pairs l t ps) k are above = tt
+above_first (last ∷ keys) (more_pairs l t ps) k are above =
+    nat_list_cmp_total.trans last l k are.0.1 (above_first (l ∷ last ∷ keys) ps k are.1.1 above)
+
+-- and goes to the end of the map
+pub insert_behind : (keys : List (List ℕ)) (es : List (String Global × Node)) (k : String Global) (n : Node) → ArePairs ordered keys (node_pairs es) → IsAboveLast (keys_after keys (node_pairs es)) (string_bytes k) → insert_entry string_cmp es k n ≡ es ++ (k, n) ∷ []
+insert_behind keys [] k n are above = refl
+insert_behind keys (e ∷ es) k n are above =
+    let below : slice_cmp nat_cmp (string_bytes e.0) (string_bytes k) ≡ Less = above_first (string_bytes e.0 ∷ keys) (node_pairs es) (string_bytes k) are.1.1 above in
+    let greater : string_cmp k e.0 ≡ Greater = nat_list_cmp_total.antisymm (string_bytes k) (string_bytes e.0) ∙ ap ordering_reverse below in
+    rw greater (ap (λ w. e ∷ w) (insert_behind (string_bytes e.0 ∷ keys) es k n are.1.1 above))
