@@ -1,0 +1,54 @@
+use Rattle.std.proofs.Common.{codes, refl, inl, inr, string_bytes}
+use Rattle.std.proofs.lemmas.Result.{err_from_is_err_and}
+use Rattle.std.proofs.lemmas.Str.{IsUtf8-string_bytes}
+use Rattle.cabinet_text_grammar.specs.Tree.{text}
+use Rattle.cabinet_text_grammar.specs.Item.{leaf_item, shared_item}
+use Rattle.cabinet_text_reading.proofs.Heads.{after_word, not_after_word, after_word_utf8, text_refused, number_unread, other_unknown}
+use Rattle.cabinet_text_reading.proofs.head.read_head.Goals as goal
+
+pub read_escaped-requires : goal.read_escaped-requires
+read_escaped-requires c =
+    after_word_utf8 (codes "text '") _ _ refl (after_word _ _ _ (codes "text '") _ c.as_bytes-bytes.ensures.value c.as_slice.ensures c.in-Some.ensures) c.utf8.line
+
+pub returns-in_err-text-clause-fault : goal.returns-in_err-text-clause-fault
+returns-in_err-text-clause-fault c =
+    let p = err_from_is_err_and c.from_residual.result c.from_residual.ensures.1 in
+    rw (p.1, p.2) (text_refused c.args.depth (codes "text '") _ _ (λ t. leaf_item (text t)) _ (λ t. refl) (λ t u. u) inl
+    (after_word _ _ _ (codes "text '") _ c.as_bytes-bytes.ensures.value c.as_slice.ensures c.in-Some.ensures) c.utf8.line c.in_err-text.ensures.fault)
+
+pub returns-in-Some-clause-head : goal.returns-in-Some-clause-head
+returns-in-Some-clause-head c = IsUtf8-string_bytes c.in_ok-text.text
+
+pub read_escaped-requires-in-Some-after_prefix : goal.read_escaped-requires-in-Some-after_prefix
+read_escaped-requires-in-Some-after_prefix c =
+    after_word_utf8 (codes "shared '") _ _ refl (after_word _ _ _ (codes "shared '") _ c.as_bytes-bytes.ensures.value c.as_slice-2.ensures c.in-Some-after_prefix.ensures) c.utf8.line
+
+pub returns-in_err-text-2-clause-fault : goal.returns-in_err-text-2-clause-fault
+returns-in_err-text-2-clause-fault c =
+    let p = err_from_is_err_and c.from_residual-in_err-text-2.result c.from_residual-in_err-text-2.ensures.1 in
+    rw (p.1, p.2) (text_refused c.args.depth (codes "shared '") _ _ shared_item _ (λ t. refl) (λ t u. u) inr
+    (after_word _ _ _ (codes "shared '") _ c.as_bytes-bytes.ensures.value c.as_slice-2.ensures c.in-Some-after_prefix.ensures) c.utf8.line c.in_err-text-2.ensures.fault)
+
+pub returns-in-Ok-clause-head : goal.returns-in-Ok-clause-head
+returns-in-Ok-clause-head c = rw c.in-Ok.ensures.ok (IsUtf8-string_bytes c.in_ok-text-2.text)
+
+pub returns-in-Err-clause-fault : goal.returns-in-Err-clause-fault
+returns-in-Err-clause-fault c =
+    text_refused c.args.depth (codes "shared '") _ _ shared_item _ (λ t. refl) (λ t u. u) inr
+    (after_word _ _ _ (codes "shared '") _ c.as_bytes-bytes.ensures.value c.as_slice-2.ensures c.in-Some-after_prefix.ensures) c.utf8.line
+    (string_bytes c.in_ok-text-2.text, IsUtf8-string_bytes c.in_ok-text-2.text, c.in_ok-text-2.ensures.text)
+
+pub returns-in-None-clause-fault : goal.returns-in-None-clause-fault
+returns-in-None-clause-fault c =
+    number_unread c.args.depth _ c.in-Some-after_prefix-2.digits.now (after_word _ _ _ (codes "int ") _ c.as_bytes-bytes.ensures.value c.as_slice-3.ensures c.in-Some-after_prefix-2.ensures) c.utf8.line c.in-None.ensures
+
+pub returns-in-None-read_option-clause-fault : goal.returns-in-None-read_option-clause-fault
+returns-in-None-read_option-clause-fault c =
+    let bytes = c.as_bytes-bytes.ensures.value in
+    other_unknown c.args.depth _ c.utf8.line
+    (not_after_word _ _ _ (codes "text '") bytes c.as_slice.ensures c.in_default.ensures)
+    (not_after_word _ _ _ (codes "shared '") bytes c.as_slice-2.ensures c.in_default-after_prefix.ensures)
+    (not_after_word _ _ _ (codes "int ") bytes c.as_slice-3.ensures c.in_default-after_prefix-2.ensures)
+    (rw (← bytes) c.in_default-count_argument.ensures)
+    (rw (← bytes) c.in_default-read_truth.ensures)
+    (rw (← bytes) c.in-None-read_option.ensures)

@@ -1,0 +1,150 @@
+//! Heads of nodes, read from their lines.
+ghost use Rattle.std.specs.Prelude.{◌≡◌, ◌≢◌, ℕ, ◌≤◌, ◌++◌, List, true, codes, IsUtf8, IfOk, IfErr, MatchOption, string_bytes};
+ghost use Rattle.std.specs.Fmt.{decimal};
+ghost use Rattle.cabinet_text_grammar.specs.Item.{none_item, some_item};
+ghost use Rattle.cabinet_text_grammar.specs.Due.{a_head, Admits};
+ghost use Rattle.cabinet_text_grammar.specs.Spelling.{escaped, spelled};
+ghost use Rattle.cabinet_text_grammar.specs.Fault.{HasCount, IsFirstCause};
+ghost use Rattle.cabinet_text_nodes.specs.View.{item_of};
+ghost use Rattle.cabinet_text_reading.specs.Heads.{IsContainer, count_word, RefusesText};
+
+use cabinet_text_bytes::{
+    after_prefix, read_count, read_number, read_truth, unescape_text, unescaped_len,
+};
+use cabinet_text_grammar::Cause;
+use cabinet_text_nodes::{Head, Leaf};
+use std::alloc::Global;
+use std::rc::RcStr;
+
+/// The most containers that lie in one another.
+const MOST: usize = 64;
+
+/// The containers whose heads have a count.
+#[derive(Clone, Copy)]
+enum Counted {
+    List,
+    Ordered,
+    Hashed,
+    Kept,
+}
+
+/// The text that an argument is the escaped form of.
+fn read_escaped(alloc: Global, argument: &[u8]) -> Result<String, Cause>
+    requires { IsUtf8 argument.now }
+    ensures text { IfOk result (λ text. argument.now ≡ escaped (string_bytes text)) }
+    ensures fault { IfErr result (RefusesText argument.now) }
+{
+    if unescaped_len(argument).is_none() {
+        return Err(Cause::BadEscape);
+    }
+    match unescape_text(alloc, argument) {
+        Ok(text) => Ok(text),
+        Err(_) => Err(Cause::OutOfMemory),
+    }
+}
+
+/// The container whose word a line begins with, and what follows the word.
+fn count_argument(line: &[u8]) -> Option<(Counted, &[u8])>
+    ensures { MatchOption result ((rest : List ℕ) → HasCount line.now rest → ⊥) (λ found. line.now ≡ count_word found.0 ++ found.1.now) }
+{
+    if let Some(digits) = after_prefix(line, b"list ".as_slice()) {
+        return Some((Counted::List, digits));
+    }
+    if let Some(digits) = after_prefix(line, b"ordered ".as_slice()) {
+        return Some((Counted::Ordered, digits));
+    }
+    if let Some(digits) = after_prefix(line, b"hashed ".as_slice()) {
+        return Some((Counted::Hashed, digits));
+    }
+    if let Some(digits) = after_prefix(line, b"kept ".as_slice()) {
+        return Some((Counted::Kept, digits));
+    }
+    None
+}
+
+/// The head of a container, where it may stand inside so many.
+fn within(head: Head, depth: usize) -> Result<Head, Cause>
+    requires { IsContainer (item_of head) }
+    ensures same { IfOk result (λ inner. item_of inner ≡ item_of head) }
+    ensures head { IfOk result (λ inner. Admits (a_head depth) (item_of inner)) }
+    ensures fault { IfErr result (IsFirstCause (a_head depth) (Some (record { bytes = spelled (item_of head); ended = true }))) }
+{
+    if depth >= MOST {
+        return Err(Cause::TooDeep);
+    }
+    Ok(head)
+}
+
+fn head_of(container: Counted, count: u64) -> Head
+    ensures container { IsContainer (item_of result) }
+    ensures line { spelled (item_of result) ≡ count_word container ++ decimal count }
+{
+    match container {
+        Counted::List => Head::List(count),
+        Counted::Ordered => Head::Ordered(count),
+        Counted::Hashed => Head::Hashed(count),
+        Counted::Kept => Head::Kept(count),
+    }
+}
+
+/// The head of a container, from what follows its word.
+fn read_counted(container: Counted, digits: &[u8], depth: usize) -> Result<Head, Cause>
+    requires { IsUtf8 (count_word container ++ digits.now) }
+    ensures head { IfOk result (λ head. Admits (a_head depth) (item_of head)) }
+    ensures line { IfOk result (λ head. count_word container ++ digits.now ≡ spelled (item_of head)) }
+    ensures fault { IfErr result (IsFirstCause (a_head depth) (Some (record { bytes = count_word container ++ digits.now; ended = true }))) }
+{
+    let Some(count) = read_count(digits) else {
+        return Err(Cause::BadNumber);
+    };
+    within(head_of(container, count), depth)
+}
+
+/// The head of an option that a line is.
+fn read_option(line: &[u8]) -> Option<Head>
+    ensures { MatchOption result ((line.now ≢ spelled none_item) × (line.now ≢ spelled some_item)) (λ head. IsContainer (item_of head) × (line.now ≡ spelled (item_of head))) }
+{
+    if line == b"none".as_slice() {
+        return Some(Head::None);
+    }
+    if line == b"some".as_slice() {
+        return Some(Head::Some);
+    }
+    None
+}
+
+/// The head that a line is, inside so many containers.
+pub(crate) fn read_head(alloc: Global, line: &str, depth: usize) -> Result<Head, Cause>
+    ensures head { IfOk result (λ head. Admits (a_head depth) (item_of head)) }
+    ensures line { IfOk result (λ head. line.now ≡ spelled (item_of head)) }
+    ensures fault { IfErr result (IsFirstCause (a_head depth) (Some (record { bytes = line.now; ended = true }))) }
+{
+    let bytes = line.as_bytes();
+    if let Some(argument) = after_prefix(bytes, b"text '".as_slice()) {
+        let text = read_escaped(alloc, argument)?;
+        return Ok(Head::Leaf(Leaf::Text(text)));
+    }
+    if let Some(argument) = after_prefix(bytes, b"shared '".as_slice()) {
+        let text = read_escaped(alloc, argument)?;
+        return match RcStr::from_string(text) {
+            Ok(text) => Ok(Head::Shared(text)),
+            Err(_) => Err(Cause::OutOfMemory),
+        };
+    }
+    if let Some(digits) = after_prefix(bytes, b"int ".as_slice()) {
+        return match read_number(digits) {
+            None => Err(Cause::BadNumber),
+            Some(number) => Ok(Head::Leaf(Leaf::Int(number))),
+        };
+    }
+    if let Some((container, digits)) = count_argument(bytes) {
+        return read_counted(container, digits, depth);
+    }
+    if let Some(value) = read_truth(bytes) {
+        return Ok(Head::Leaf(Leaf::Bool(value)));
+    }
+    match read_option(bytes) {
+        None => Err(Cause::UnknownHead),
+        Some(head) => within(head, depth),
+    }
+}
