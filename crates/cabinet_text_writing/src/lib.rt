@@ -1,0 +1,12 @@
+//! Texts of documents, and the lines of answers, are written.
+#![tactic(auto)]
+
+mod answer;
+mod head;
+mod text;
+
+pub use answer::{
+    write_bad, write_key, write_keys_head, write_missing, write_outcome, write_wrong,
+};
+pub use head::{write_head, write_key_line};
+pub use text::write_text;
