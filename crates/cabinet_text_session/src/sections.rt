@@ -1,0 +1,45 @@
+//! Where the sections of an input lie: a document's text, a line `lines`, lines about it, and a line `end`.
+ghost use Rattle.std.specs.Prelude.{◌<◌, length, IfSome};
+
+/// A document's text, and lines about the document.
+#[derive(Drop)]
+pub struct Section<'a> {
+    pub text: &'a [u8],
+    pub lines: &'a [u8],
+}
+
+/// The bytes before the first newline, and those after it.
+pub fn first_line(bytes: &[u8]) -> (&[u8], &[u8])
+    requires { 0 < length bytes.now }
+    ensures { length result.1.now < length bytes.now }
+{
+    match bytes.iter().position(|byte| *byte == b'\n') {
+        Some(end) => (&bytes[..end], &bytes[end + 1..]),
+        None => (bytes, &[]),
+    }
+}
+
+/// What stands before the first line that is the mark, and what follows it.
+fn split_at_mark<'a>(input: &'a [u8], mark: &[u8]) -> Option<(&'a [u8], &'a [u8])>
+    ensures { IfSome result (λ p. length p.1.now < length input.now) }
+{
+    let mut rest = input;
+    while !rest.is_empty() {
+        let start = input.len() - rest.len();
+        let (line, after) = first_line(rest);
+        if line == mark {
+            return Some((&input[..start], after));
+        }
+        rest = after;
+    }
+    None
+}
+
+/// The first section of an input, and what follows it.
+pub fn first_section(input: &[u8]) -> Option<(Section<'_>, &[u8])>
+    ensures { IfSome result (λ p. length p.1.now < length input.now) }
+{
+    let (text, after) = split_at_mark(input, b"lines")?;
+    let (lines, rest) = split_at_mark(after, b"end")?;
+    Some((Section { text, lines }, rest))
+}

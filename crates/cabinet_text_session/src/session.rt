@@ -1,0 +1,78 @@
+//! What a plain document answers to lines.
+use crate::sections::{Section, first_line};
+use archive_shape_writing::{Error, Writer, write_three_pieces};
+use cabinet_text_answering::answer;
+use cabinet_text_bytes::Decimal;
+use cabinet_text_grammar::Cause;
+use cabinet_text_lines::read_line;
+use cabinet_text_nodes::{Document, Line, LineRefusal};
+use cabinet_text_reading::{TextRefusal, read_text};
+use cabinet_text_writing::{write_bad, write_outcome};
+use std::alloc::Global;
+
+fn name_of(cause: Cause) -> &'static [u8] {
+    match cause {
+        Cause::NotUtf8 => b"NotUtf8",
+        Cause::NoNewline => b"NoNewline",
+        Cause::EndTooEarly => b"EndTooEarly",
+        Cause::KeyExpected => b"KeyExpected",
+        Cause::BadEscape => b"BadEscape",
+        Cause::KeyOrder => b"KeyOrder",
+        Cause::KeyRepeated => b"KeyRepeated",
+        Cause::UnknownHead => b"UnknownHead",
+        Cause::BadNumber => b"BadNumber",
+        Cause::TooDeep => b"TooDeep",
+        Cause::LineAfterEnd => b"LineAfterEnd",
+        Cause::OutOfMemory => b"OutOfMemory",
+    }
+}
+
+/// Tells why a text was refused.
+fn write_refusal(refusal: TextRefusal, answers: &mut Vec<u8>) -> Result<(), Error> {
+    let line = Decimal::unsigned(refusal.line);
+    write_three_pieces(answers, line.as_bytes(), b" ", name_of(refusal.cause))?;
+    answers.write(b"\n")
+}
+
+/// Answers a question, or does an edit and tells what came of it.
+fn carry_out(document: &mut Document, line: &Line, answers: &mut Vec<u8>) -> Result<(), Error> {
+    if line.is_question() {
+        answer(document, line, answers)?;
+    } else if let Line::Set { path, leaf } = line {
+        write_outcome(document.change(path.as_slice(), leaf), answers)?;
+    }
+    Ok(())
+}
+
+/// What is answered to bytes, as a line.
+fn answer_line(
+    alloc: Global,
+    document: &mut Document,
+    bytes: &[u8],
+    answers: &mut Vec<u8>,
+) -> Result<(), Error> {
+    match read_line(alloc, bytes) {
+        Ok(line) => carry_out(document, &line, answers),
+        Err(LineRefusal::Bad) => write_bad(answers),
+        Err(LineRefusal::OutOfMemory) => Err(Error::OutOfMemory),
+    }
+}
+
+/// What is answered to the lines of a section, or why its text was refused.
+pub fn answer_section(
+    alloc: Global,
+    section: &Section<'_>,
+    answers: &mut Vec<u8>,
+) -> Result<(), Error> {
+    let mut document = match read_text(alloc, section.text) {
+        Ok(document) => document,
+        Err(refusal) => return write_refusal(refusal, answers),
+    };
+    let mut rest = section.lines;
+    while !rest.is_empty() {
+        let (line, after) = first_line(rest);
+        answer_line(alloc, &mut document, line, answers)?;
+        rest = after;
+    }
+    Ok(())
+}
