@@ -1,0 +1,108 @@
+#!/usr/bin/env bash
+# Usage: bench/text.sh [LEAVES]. Copies the texts of four documents, of 1,000,000 leaves each unless told otherwise, with
+# cabinet_text_copy, with bench/plain_text.rs, the same program in plain Rust, for the same processor, and, where jq is
+# there, with jq -c . the same documents as JSON. Prints the least processor time of five runs, taken in turns, the ratios,
+# and, where valgrind is there, the instructions for a tenth of the leaves.
+set -eu
+leaves=${1:-1000000}
+root=$(cd "$(dirname "$0")/.." && pwd)
+work=$(mktemp -d)
+trap 'rm -rf "$work"' EXIT
+copy=$root/crates/cabinet_text_copy/out/cabinet_text_copy
+
+# Without its stamp the program is built again, and the log says for which processor.
+rm -f "${copy}.stamp"
+if ! (cd "$root/crates/cabinet_text_copy" && rt run) > "$work/log" 2>&1 < "$root/crates/cabinet_text_copy/stdin"; then
+    cat "$work/log"
+    exit 1
+fi
+processor=$(sed -n 's/^logic=proved.* cpu=\([^ ]*\).*/\1/p' "$work/log" | tail -n 1)
+cd "$work"
+rustc --edition 2024 -C opt-level=3 -C codegen-units=1 ${processor:+-C target-cpu="$processor"} \
+    -o plain "$root/bench/plain_text.rs"
+
+# the document $1 of $2 leaves, as a text
+text() {
+    awk -v kind="$1" -v leaves="$2" 'BEGIN {
+        fields = 5
+        if (kind != "records") {
+            print kind, leaves
+            for (i = 1; i <= leaves; i++)
+                printf "'\''key%07d\n%s\n", i, i % 2 ? "int " i : "text '\''value\\snumber\\s" i
+            exit
+        }
+        print "list", leaves / fields
+        for (i = fields; i <= leaves; i += fields)
+            printf "ordered 5\n'\''active\nbool true\n'\''id\nint %d\n'\''mail\ntext '\''user%d@example.org\n" \
+                "'\''name\ntext '\''user\\s%d\n'\''score\nint %d\n", i, i, i, i * 7919 % 1000
+    }'
+}
+
+# the same as JSON
+json() {
+    awk -v kind="$1" -v leaves="$2" 'BEGIN {
+        fields = 5
+        if (kind != "records") {
+            for (i = 1; i <= leaves; i++)
+                printf "%s\"key%07d\":%s", i == 1 ? "{" : ",", i, i % 2 ? i : "\"value number " i "\""
+            print "}"
+            exit
+        }
+        for (i = fields; i <= leaves; i += fields)
+            printf "%s{\"active\":true,\"id\":%d,\"mail\":\"user%d@example.org\",\"name\":\"user %d\",\"score\":%d}", \
+                i == fields ? "[" : ",", i, i, i, i * 7919 % 1000
+        print "]"
+    }'
+}
+
+# milliseconds of the processor that a command takes from the file $1 to the file copied
+spent() {
+    local from=$1 user system TIMEFORMAT='%U %S'
+    shift
+    read -r user system < <({ time "$@" < "$from" > copied; } 2>&1)
+    echo $((10#${user/./} + 10#${system/./}))
+}
+
+least() {
+    if [ "$1" -eq 0 ] || [ "$2" -lt "$1" ]; then echo "$2"; else echo "$1"; fi
+}
+
+ratio() {
+    if [ "$2" -eq 0 ]; then
+        echo -
+    else
+        awk -v a="$1" -v b="$2" 'BEGIN { printf "%.2f", a / b }'
+    fi
+}
+
+# thousands of instructions that a command takes from the file $1
+instructions() {
+    local from=$1
+    shift
+    valgrind --tool=callgrind --callgrind-out-file=/dev/null "$@" < "$from" 2>&1 > copied |
+        sed -n 's/.*Collected : \([0-9]*\)...$/\1/p'
+}
+
+echo "$leaves leaves, for the processor ${processor:-that rustc assumes}; times in milliseconds, instructions in thousands"
+printf '%-10s%8s%8s%8s%8s%8s%12s%12s%8s\n' document copy plain ratio jq ratio copy plain ratio
+for kind in ordered hashed kept records; do
+    text $kind "$leaves" > text
+    json $kind "$leaves" > json
+    by_copy=0 by_plain=0 by_jq=0 ours=0 theirs=0
+    for _ in 1 2 3 4 5; do
+        by_copy=$(least $by_copy "$(spent text "$copy")")
+        cmp text copied
+        by_plain=$(least $by_plain "$(spent text ./plain)")
+        cmp text copied
+        if command -v jq > /dev/null; then
+            by_jq=$(least $by_jq "$(spent json jq -c .)")
+        fi
+    done
+    if command -v valgrind > /dev/null; then
+        text $kind $((leaves / 10)) > text
+        ours=$(instructions text "$copy")
+        theirs=$(instructions text ./plain)
+    fi
+    printf '%-10s%8s%8s%8s%8s%8s%12s%12s%8s\n' $kind "$by_copy" "$by_plain" "$(ratio "$by_copy" "$by_plain")" \
+        "$by_jq" "$(ratio "$by_copy" "$by_jq")" "$ours" "$theirs" "$(ratio "$ours" "$theirs")"
+done

@@ -1,0 +1,11 @@
+-- Why a text is not copied.
+use Rattle.std.specs.Prelude.{ℕ, List, ⊤}
+use Rattle.cabinet_text_grammar.specs.Fault.{FirstFault}
+use Rattle.cabinet_text_copy.specs.declared.copying.Fault.{Fault}
+use Rattle.cabinet_text_copy.specs.declared.copying.Fault.TheVariants.{Text, Read, Write}
+
+-- the text's first fault; or the copy was not written for want of memory
+abbrev pub Refuses : List ℕ → Fault → Type 0
+Refuses text (Text refusal) = FirstFault text refusal.line refusal.cause
+Refuses text Write = ⊤
+Refuses text Read = ⊥
