@@ -1,0 +1,11 @@
+pub mod Node
+pub mod Order
+pub mod Done
+pub mod Denotes
+pub mod Walk
+pub mod Table
+pub mod Audit
+pub mod Accepted
+pub mod OwnBytes
+pub mod Image
+pub mod Laws
