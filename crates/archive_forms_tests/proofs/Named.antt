@@ -71,3 +71,10 @@ module _ (bytes : List ℕ) (pos : ℕ) where
 
   pub list_has : HasValue list_shape KnowsList bytes pos → HasValue list_body KnowsList bytes pos
   list_has = named_has list_body 1 8 four (option_box_sized list_shape) refl KnowsList (λ names known. known) bytes pos
+
+  -- and that of a tree that of its vector
+  pub tree_held : (v : Value) → HeldAt tree_shape KnowsTree bytes pos v → HeldAt tree_body KnowsTree bytes pos v
+  tree_held = named_held tree_body 2 8 four refl refl KnowsTree (λ names known. known) bytes pos
+
+  pub tree_has : HasValue tree_shape KnowsTree bytes pos → HasValue tree_body KnowsTree bytes pos
+  tree_has = named_has tree_body 2 8 four refl refl KnowsTree (λ names known. known) bytes pos

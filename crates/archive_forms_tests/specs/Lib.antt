@@ -1,2 +1,3 @@
-pub mod Recursive
 pub mod Lists
+pub mod Recursive
+pub mod Trees

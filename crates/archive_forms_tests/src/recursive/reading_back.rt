@@ -1,5 +1,6 @@
-//! Tests of lists that are read back.
+//! Tests of lists and trees that are read back.
 use super::list::{ArchivedList, List};
+use super::tree::{ArchivedTree, Tree};
 use crate::reading_back::read_back;
 use crate::writing::is_archived_as;
 use std::test::Fail;
@@ -17,5 +18,16 @@ fn list_of_lists_is_read_back(rt: HostRuntime) -> Result<(), Fail> {
 fn list_that_ends_is_read_back(rt: HostRuntime) -> Result<(), Fail> {
     let list = read_back::<List, ArchivedList>(rt.alloc(), &[0; 8], 0, 0)?;
     assert!(rt; list.next.is_none());
+    Ok(())
+}
+
+#[test]
+fn tree_of_three_levels_is_read_back(rt: HostRuntime) -> Result<(), Fail> {
+    let alloc = rt.alloc();
+    let bytes =
+        b"\0\0\0\0\0\0\0\0\xf8\xff\xff\xff\0\0\0\0\xf0\xff\xff\xff\x01\0\0\0\xf0\xff\xff\xff\x02\0\0\0";
+    let tree = read_back::<Tree, ArchivedTree>(alloc, bytes, 24, 3)?;
+    assert_eq!(rt; tree.branches.len(), 2);
+    assert!(rt; is_archived_as(alloc, &tree, bytes));
     Ok(())
 }
