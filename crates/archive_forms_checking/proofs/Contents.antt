@@ -1,12 +1,12 @@
 -- Pointers, by what their own bytes say.
 use Rattle.std.proofs.Common.{◌≡◌, ℕ, ◌-◌, ◌^◌, min, List, [], ◌∷◌, Option, Some, None, Err, Result, refl, sym, ap, subst, ◌∙◌}
 use Rattle.archive_shape_layout.specs.Bytes.{window, word_at, target_from}
-use Rattle.archive_shape_layout.specs.Shape.{Shape}
-use Rattle.archive_shape_layout.specs.Shape.Shape.{box, vector}
+use Rattle.archive_shape_layout.specs.Shape.{Shape, Alignment, alignment_bytes, size_of, align_of}
+use Rattle.archive_shape_layout.specs.Shape.Shape.{box, vector, named}
 use Rattle.archive_shape_layout.specs.Shape.Pointee.{sized, slice}
 use Rattle.archive_shape_layout.specs.Value.{Value}
 use Rattle.archive_shape_layout.specs.Value.Values.{no_values, more_values}
-use Rattle.archive_shape_layout.specs.Content.{Names, content_of, made, elements, shape_content, pointee_content}
+use Rattle.archive_shape_layout.specs.Content.{Names, content_of, made, elements, shape_content, pointee_content, shape_named}
 use Rattle.archive_shape_layout.specs.Content.Part.{at, behind}
 use Rattle.archive_shape_layout.specs.Content.Label.{same, whole}
 use Rattle.archive_shape_layout.specs.Content.Content.{plain, claimed}
@@ -19,6 +19,7 @@ use Rattle.archive_shape_writing.specs.declared.error.Error.{Error}
 use Rattle.archive_shape_writing.specs.declared.error.Error.TheVariants.{InvalidSubtreePointer}
 use Rattle.archive_shape_checking.proofs.Below.{below_checked}
 use Rattle.archive_shape_checking.proofs.Questions.{leads_nowhere}
+use Rattle.archive_forms_layout.proofs.Named.{named_is}
 use Rattle.archive_forms_layout.proofs.TextContent.{followed}
 
 made_same : (v : Value) → (w : Value) × (made same (more_values v no_values) ≡ Some w)
@@ -66,3 +67,15 @@ module _ (names : Names) (bytes : List ℕ) (pos : ℕ) where
     vector_checked n leads says h =
         below_checked names bytes pos (vector s) same _ k l r
         (followed _ t _ leads ∙ ap (λ m. plain same (behind t (slice s) m ∷ [])) says) tt made_same h
+
+-- ---- names
+
+-- where a name is, what the shape that it stands for is checked as is checked
+pub named_checked :
+    (s : Shape) (name size : ℕ) (align : Alignment) → size_of s ≡ size → align_of s ≡ alignment_bytes align
+    → (names : Names) (bytes : List ℕ) (pos : ℕ) (k l : Kept) (r : Result (Unit {0}) Error)
+    → shape_named names name ≡ Some s
+    → Checks names bytes (at pos s) k r l
+    → Checks names bytes (at pos (named name size align)) k r l
+named_checked s name size align size_is align_is names bytes pos k l r known h =
+    below_checked names bytes pos (named name size align) same _ k l r (named_is s name size align size_is align_is names bytes pos known) tt made_same h

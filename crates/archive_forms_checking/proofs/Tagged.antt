@@ -1,18 +1,19 @@
 -- Values with a tag: the payload stands at the first multiple of its alignment behind it.
-use Rattle.std.proofs.Common.{◌≡◌, ℕ, ◌+◌, ◌≤◌, ◌<◌, List, [], ◌∷◌, drop, slice_index, Some, Ok, Err, Result, refl, sym, ap, ◌∙◌, arith, add-zero, get_or-take, get_or-drop, max, subst, nat_lt}
+use Rattle.std.proofs.Common.{◌≡◌, ℕ, ◌+◌, ◌≤◌, ◌<◌, List, [], ◌∷◌, drop, slice_index, Some, None, true≢false, Ok, Err, Result, refl, sym, ap, ◌∙◌, arith, add-zero, get_or-take, get_or-drop, max, subst, nat_lt}
 use Rattle.std.proofs.lemmas.Bool.{ltb-true}
 use Rattle.archive_shape_layout.specs.Bytes.{window, align_up}
-use Rattle.archive_shape_layout.specs.Shape.{Shape, align_of, size_of}
-use Rattle.archive_shape_layout.specs.Shape.Shape.{option, result}
+use Rattle.archive_shape_layout.specs.Shape.{Shape, Shapes, align_of, aligns_of, size_of, payloads_end}
+use Rattle.archive_shape_layout.specs.Shape.Shape.{option, result, choice}
+use Rattle.archive_shape_layout.specs.Shape.Shapes.{no_shapes, more_shapes}
 use Rattle.archive_shape_layout.specs.Value.{Value}
 use Rattle.archive_shape_layout.specs.Value.Value.{chosen}
 use Rattle.archive_shape_layout.specs.Value.Values.{no_values, more_values}
-use Rattle.archive_shape_layout.specs.Content.{Names, content_of, made, choose, shape_content}
+use Rattle.archive_shape_layout.specs.Content.{Names, content_of, made, choose, shape_content, shape_tagged}
 use Rattle.archive_shape_layout.specs.Content.Part.{at}
 use Rattle.archive_shape_layout.specs.Content.Label.{tagged}
 use Rattle.archive_shape_layout.specs.Content.Content.{plain}
 use Rattle.archive_shape_layout.proofs.Framed.{le_align_up}
-use Rattle.archive_shape_checking.specs.Questions.{FirstUnanswered, questions_of}
+use Rattle.archive_shape_checking.specs.Questions.{FirstUnanswered, questions_of, has_payload}
 use Rattle.archive_shape_checking.specs.Questions.Question.{test}
 use Rattle.archive_shape_checking.specs.Questions.FirstUnanswered.{unanswered_here}
 use Rattle.archive_shape_checking.specs.PartFault.PartFault.{fault_unanswered}
@@ -111,3 +112,36 @@ module _ (names : Names) (bytes : List ℕ) (pos : ℕ) (s t : Shape) (align : �
 
   pub err_checked : (k l : Kept) (r : Result (Unit {0}) Error) → slice_index bytes pos ≡ 1 → Checks names bytes (at (pos + align) t) k r l → Checks names bytes (at pos (result s t)) k r l
   err_checked k l r tag payload = below_checked names bytes pos (result s t) (tagged 1) _ k l r (err_is tag) tt (made_tagged 1) payload
+
+-- ---- enums
+
+payloads_some : (ss : Shapes) → 0 < payloads_end ss
+payloads_some no_shapes = omega arith
+payloads_some (more_shapes s ss) = let some = payloads_some ss in omega arith
+
+-- an enum has a tag
+pub choice_some : (ss : Shapes) → 0 < size_of (choice ss)
+choice_some ss =
+    let some = payloads_some ss in
+    let below = le_align_up (payloads_end ss) (aligns_of ss) in
+    omega arith
+
+module _ (names : Names) (bytes : List ℕ) (pos : ℕ) (ss : Shapes) where
+  pub choice_tag : slice_index (window bytes pos (size_of (choice ss))) 0 ≡ slice_index bytes pos
+  choice_tag = own_tag bytes pos (size_of (choice ss)) (choice_some ss)
+
+  module _ (tag : ℕ) (s : Shape) (align : ℕ) (tag_is : slice_index bytes pos ≡ tag) (payload : shape_tagged tag ss ≡ Some s) (is : align_up 1 (align_of s) ≡ align) where
+    -- the payload of a tag stands behind it
+    pub choice_is : content_of names bytes (at pos (choice ss)) ≡ plain (tagged tag) (at (pos + align) s ∷ [])
+    unfolding shape_content
+    choice_is = rw (choice_tag, tag_is, payload) (ap (λ n. plain (tagged tag) (at (pos + n) s ∷ [])) is)
+
+    -- and is checked as it is
+    pub choice_checked : (k l : Kept) (r : Result (Unit {0}) Error) → Checks names bytes (at (pos + align) s) k r l → Checks names bytes (at pos (choice ss)) k r l
+    choice_checked k l r h = below_checked names bytes pos (choice ss) (tagged tag) _ k l r choice_is tt (made_tagged tag) h
+
+  -- a tag without a payload
+  pub untagged_refused : (k l : Kept) → shape_tagged (slice_index bytes pos) ss ≡ None → Checks names bytes (at pos (choice ss)) k (Err InvalidTag) l
+  untagged_refused k l missing inside before records other =
+      let tag : shape_tagged (slice_index (window bytes pos (size_of (choice ss))) 0) ss ≡ None = ap (λ n. shape_tagged n ss) choice_tag ∙ missing in
+      fault_unanswered (unanswered_here (λ some. true≢false (sym some ∙ ap has_payload tag)) refl)

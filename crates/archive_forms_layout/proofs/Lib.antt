@@ -1,4 +1,5 @@
 pub mod Held
+pub mod Named
 pub mod Once
 pub mod Sizes
 pub mod TextContent

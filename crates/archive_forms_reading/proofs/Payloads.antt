@@ -1,21 +1,22 @@
 -- Options and results by their tags: what the layout has there, and where the payload stands.
-use Rattle.std.proofs.Common.{◌≡◌, ◌≢◌, ℕ, ◌+◌, ◌≤◌, ◌<◌, ◌==◌, Bool, true, false, true≢false, List, length, slice_index, Some, ◌⊎◌, inl, inr, refl, sym, ap, subst, ◌∙◌, arith, eqb-true}
+use Rattle.std.proofs.Common.{◌≡◌, ◌≢◌, ℕ, ◌+◌, ◌≤◌, ◌<◌, ◌==◌, Bool, true, false, true≢false, List, length, slice_index, Some, None, ◌⊎◌, inl, inr, refl, sym, ap, subst, ◌∙◌, arith, eqb-true}
 use Rattle.std.specs.Bool.{MatchBool}
 use Rattle.std.proofs.lemmas.Bool.Decides.{eqb_tells}
 use Rattle.archive_shape_layout.specs.Bytes.{window, align_up}
-use Rattle.archive_shape_layout.specs.Shape.{Shape, align_of, size_of}
-use Rattle.archive_shape_layout.specs.Shape.Shape.{option, result}
+use Rattle.archive_shape_layout.specs.Shape.{Shape, Shapes, align_of, size_of}
+use Rattle.archive_shape_layout.specs.Shape.Shape.{option, result, choice}
 use Rattle.archive_shape_layout.specs.Value.{Value, Values}
 use Rattle.archive_shape_layout.specs.Value.Value.{chosen}
 use Rattle.archive_shape_layout.specs.Value.Values.{no_values, more_values}
-use Rattle.archive_shape_layout.specs.Content.{Names, Content, made, choose, shape_content}
+use Rattle.archive_shape_layout.specs.Content.{Names, Content, content_of, made, choose, shape_content, shape_tagged}
+use Rattle.archive_shape_layout.specs.Content.Part.{at}
 use Rattle.archive_shape_layout.specs.Content.Label.{tagged}
 use Rattle.archive_shape_layout.specs.Content.Content.{illegal}
 use Rattle.archive_shape_layout.proofs.Unique.{by_plain}
 use Rattle.archive_shape_checking.proofs.Inverted.{IsKnown, held_is_known}
 use Rattle.archive_shape.specs.Key.{HeldAt}
 use Rattle.archive_forms_layout.proofs.Sizes.{behind_tag}
-use Rattle.archive_forms_checking.proofs.Tagged.{own_tag, option_fits, none_is, some_is, Payloads, ok_is, err_is}
+use Rattle.archive_forms_checking.proofs.Tagged.{own_tag, option_fits, none_is, some_is, Payloads, ok_is, err_is, choice_tag, choice_is}
 use Rattle.archive_forms_reading.specs.Parts.{HasValue, HasPayload, some_position, IsNoneAt, IsSomeAt, HasSome, outcome_position, both, IsOkAt, IsErrAt, HasOk}
 use Rattle.archive_forms_reading.proofs.Inside.{none_held, plain_part, PartHeld}
 
@@ -143,3 +144,25 @@ module _ (s t : Shape) (knows others : Names → Type 0) (bytes : List ℕ) (pos
       let payload = error _ there.held in
       let both : chosen 0 (more_values there.payload no_values) ≡ chosen 1 (more_values payload.payload no_values) = payload.is in
       cc
+
+-- ---- enums
+
+module _ (ss : Shapes) (knows : Names → Type 0) (bytes : List ℕ) (pos : ℕ) (v : Value) (h : HeldAt (choice ss) knows bytes pos v) where
+  -- a tag that some value has names a payload
+  pub choice_has : shape_tagged (slice_index bytes pos) ss ≡ None → ⊥
+  unfolding shape_content
+  choice_has missing =
+      let none : content_of h.names bytes (at pos (choice ss)) ≡ illegal = rw (choice_tag h.names bytes pos ss, missing) refl in
+      subst IsKnown none (held_is_known h.names bytes h.holds)
+
+  -- which stands behind the tag
+  pub choice_at :
+      (tag : ℕ) (s : Shape) (align : ℕ) (others : Names → Type 0)
+      → slice_index bytes pos ≡ tag
+      → shape_tagged tag ss ≡ Some s
+      → align_up 1 (align_of s) ≡ align
+      → align + size_of s ≤ size_of (choice ss)
+      → ((names : Names) → knows names → others names)
+      → HasPayload tag s others bytes (pos + align) v
+  choice_at tag s align others tag_is payload is fits known =
+      payload_of (plain_part tag h (choice_is h.names bytes pos ss tag s align tag_is payload is) (known h.names h.known) (omega arith) (omega (arith, fits, h.own_within)))

@@ -25,7 +25,7 @@ use Rattle.archive_forms_checking.proofs.Targets.{first_word}
 use Rattle.archive_forms_reading.specs.Parts.{HasValue, PointsTo, AreElements, IsBoxAt, IsVecAt}
 use Rattle.archive_forms_reading.proofs.Inside.{one_held}
 
-made_same : (w v : Value) → made same (more_values w no_values) ≡ Some v → w ≡ v
+pub made_same : (w v : Value) → made same (more_values w no_values) ≡ Some v → w ≡ v
 unfolding made
 made_same w v e = cc
 

@@ -1,16 +1,16 @@
 -- Values of types that hold themselves are read as they are written.
-use Rattle.std.proofs.Common.{◌≡◌, ℕ, zero, suc, ◌+◌, ◌≤◌, ◌<◌, ◌==◌, true, List, [], ◌∷◌, Some, refl, sym, subst, ◌∙◌, arith, inl, inr}
-use Rattle.std.proofs.lemmas.Bool.{eq-eqb}
+use Rattle.std.proofs.Common.{◌≡◌, ℕ, zero, suc, ◌+◌, ◌≤◌, ◌<◌, List, [], ◌∷◌, Some, refl, sym, subst, ◌∙◌, arith, inl, inr}
 use Rattle.archive_shape_layout.specs.Bytes.{align_up}
 use Rattle.archive_shape_layout.specs.Shape.{Shape, Alignment, alignment_bytes, size_of, align_of}
 use Rattle.archive_shape_layout.specs.Shape.Shape.{named, option, box}
 use Rattle.archive_shape_layout.specs.Shape.Pointee.{sized}
-use Rattle.archive_shape_layout.specs.Content.{Names, content_of, made, choose, shape_content, shape_named}
+use Rattle.archive_shape_layout.specs.Content.{Names, made, shape_named}
 use Rattle.archive_shape_layout.specs.Content.Part.{at}
 use Rattle.archive_shape_layout.specs.Content.Label.{same}
 use Rattle.archive_shape_layout.specs.Content.Content.{plain}
 use Rattle.archive_shape_canonical.specs.Settled.{Fit}
 use Rattle.archive_shape_canonical.proofs.Cleanness.{clean_by}
+use Rattle.archive_forms_layout.proofs.Named.{named_is}
 use Rattle.archive_forms_spelling.specs.Spelling.{Spelling}
 use Rattle.archive_forms_spelling.specs.Spells.{Spells, SpellsAt}
 use Rattle.archive_forms_spelling.specs.Levels.{levels_spelling, self_spelling}
@@ -22,14 +22,6 @@ unfolding align_up
 option_box_sized s = refl
 
 module _ (s : Shape) (name size : ℕ) (align : Alignment) (size_is : size_of s ≡ size) (align_is : align_of s ≡ alignment_bytes align) where
-  -- where a name is, the shape is that it stands for
-  pub named_is : (names : Names) (bytes : List ℕ) (pos : ℕ) → shape_named names name ≡ Some s → content_of names bytes (at pos (named name size align)) ≡ plain same (at pos s ∷ [])
-  unfolding shape_content choose
-  named_is names bytes pos known =
-      let same_size : (size_of s == size) ≡ true = eq-eqb (size_of s) size size_is in
-      let same_align : (align_of s == alignment_bytes align) ≡ true = eq-eqb (align_of s) (alignment_bytes align) align_is in
-      rw (known, same_size, same_align) refl
-
   -- the law of a value under a name is that of the shape that the name stands for
   pub named_spells_at :
       {A R : Type 0} (fit : Fit) (knows : Names → Type 0) (known : (names : Names) → knows names → shape_named names name ≡ Some s) (w : Spelling A R) (x : A)
@@ -39,7 +31,7 @@ module _ (s : Shape) (name size : ℕ) (align : Alignment) (size_is : size_of s 
   named_spells_at fit knows known w x law = record {
     sized = λ r pos f. law.sized r pos f ∙ size_is;
     canonical = λ st pos names keys bytes level inside k n met state over f o p q.
-        let e = named_is names bytes pos (known names k) in
+        let e = named_is s name size align size_is align_is names bytes pos (known names k) in
         one_part (at pos (named name size align)) (at pos s) same _ _ st.pos _ e tt refl
         (clean_by names bytes (at pos (named name size align)) (plain same (at pos s ∷ [])) e
         (λ i h. inr (inl (inl (h.0, subst (λ m. i < pos + m) (sym size_is) h.1)))) tt)

@@ -85,6 +85,7 @@ fn flush<W: Writer>(writer: &mut W, buffer: &mut [u8], filled: usize) -> Result<
 }
 
 /// Writes the own bytes of items side by side, whose data was written, by way of a buffer of zeros.
+#[inline(always)]
 pub(crate) fn resolve_through<T: Archive, W: Writer>(
     items: &[T],
     kept: &[T::Resolver],

@@ -101,8 +101,10 @@ fn serialize_few_each<
     Ok(kept)
 }
 
-/// Writes the own bytes of items side by side. Their data was written.
-fn resolve_items<T: Archive, S: Writer + Allocator>(
+/// Writes the own bytes of items side by side, by way of a buffer that is written whenever it is full. Their data was
+/// written. It is one function, so that the code of few items stays short where it is inlined.
+#[inline(never)]
+fn resolve_buffered<T: Archive, S: Writer + Allocator>(
     items: &[T],
     kept: &[T::Resolver],
     serializer: &mut S,
@@ -115,9 +117,6 @@ fn resolve_items<T: Archive, S: Writer + Allocator>(
         (owns_refused T.spelling T.Archived.shape items.now st (S.pos serializer.old)) result }
 {
     let size = T::Archived::SIZE;
-    if are_few::<T::Archived>(items.len(), serializer.pos()) {
-        return resolve_at_once(items, kept, serializer);
-    }
     if size <= BUFFER {
         let mut buffer = [0; BUFFER];
         return resolve_through(items, kept, serializer, &mut buffer);
@@ -128,8 +127,29 @@ fn resolve_items<T: Archive, S: Writer + Allocator>(
     }
 }
 
+/// Writes the own bytes of items side by side. Their data was written.
+#[inline(always)]
+fn resolve_items<T: Archive, S: Writer + Allocator>(
+    items: &[T],
+    kept: &[T::Resolver],
+    serializer: &mut S,
+) -> Result<(), Error>
+    requires room { S.failures serializer.old < 2 ^ 64 - 1 }
+    requires made { (st : State) × (kept.now ≡ resolvers T.spelling items.now st) }
+    ensures { (st : State) → kept.now ≡ resolvers T.spelling items.now st
+        → Lays S.Writer serializer.old serializer.new (owns T.spelling items.now st (S.pos serializer.old))
+        (λ _. owns_fit T.spelling T.Archived.shape items.now st (S.pos serializer.old))
+        (owns_refused T.spelling T.Archived.shape items.now st (S.pos serializer.old)) result }
+{
+    if are_few::<T::Archived>(items.len(), serializer.pos()) {
+        return resolve_at_once(items, kept, serializer);
+    }
+    resolve_buffered(items, kept, serializer)
+}
+
 /// Writes the own bytes of items side by side, from the next position of their alignment on. Their data was written. The
 /// answer is the position of the first.
+#[inline(always)]
 fn resolve_behind<T: Archive, S: Writer + Allocator>(
     items: &[T],
     kept: &[T::Resolver],

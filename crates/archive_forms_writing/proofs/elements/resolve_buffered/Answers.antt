@@ -2,7 +2,7 @@ use Rattle.std.proofs.Common.{refl, inl}
 use Rattle.archive_shape_writing.specs.Writing.{WriterMembers}
 use Rattle.archive_forms_spelling.specs.Regions.{owns, owns_refused}
 use Rattle.archive_forms_writing.proofs.Laying.{stopped_before}
-use Rattle.archive_forms_writing.proofs.elements.resolve_items.Goals as goal
+use Rattle.archive_forms_writing.proofs.elements.resolve_buffered.Goals as goal
 
 pub returns-in-Err : goal.returns-in-Err
 returns-in-Err g c = λ st made.
