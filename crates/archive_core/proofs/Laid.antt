@@ -1,5 +1,5 @@
 -- What a serializer writes, its writer has.
-use Rattle.std.proofs.Common.{◌≡◌, ℕ, List, Ok, Err, inl, inr, ⊎_elim, refl, subst}
+use Rattle.std.proofs.Common.{◌≡◌, ℕ, Ok, Err, inl, inr, ⊎_elim, refl, subst}
 use Rattle.std.specs.Prelude.{Result, MatchResult, ◌⊎◌}
 use Rattle.archive_shape_layout.specs.Shape.{Shape}
 use Rattle.archive_shape_writing.specs.Progress.{Progress}
@@ -8,7 +8,7 @@ use Rattle.archive_shape_writing.specs.Writing.{WriterMembers, Written, Failed}
 use Rattle.archive_shape_writing.specs.declared.error.Error.{Error}
 use Rattle.archive_forms_spelling.specs.Spelling.{Spelling}
 use Rattle.archive_forms_spelling.specs.Pointers.{box_spelling}
-use Rattle.archive_forms_spelling.specs.Serializing.{Lays, Stopped, IsAt, Serializes}
+use Rattle.archive_forms_spelling.specs.Serializing.{Stopped, IsAt, Serializes}
 use Rattle.archive_core.specs.Written.{from_position, root_piece, root_fits, root_refused}
 
 module _ {S W : Type 0} (out : S → W) (m : WriterMembers W) (known : S → ℕ → Progress ℕ) where

@@ -1,11 +1,14 @@
--- Where a root lies, and what its check says.
-use Rattle.std.proofs.Common.{◌≡◌, ℕ, ◌-◌, ◌%◌, ◌^◌, ◌<◌, ◌≤◌, min, List, [], ◌∷◌, length, Result, Ok, Err, IfOk, refl, ap, subst, ◌∙◌, le_refl, arith}
+-- Where a root lies, what its check says, and where its value stands.
+use Rattle.std.proofs.Common.{◌≡◌, ℕ, ◌-◌, ◌%◌, ◌^◌, ◌<◌, ◌≤◌, min, List, [], ◌∷◌, length, Some, Result, Ok, Err, IfOk, refl, ap, subst, ◌∙◌, le_refl, arith}
 use Rattle.archive_shape_layout.specs.Shape.{Shape, align_of, size_of}
 use Rattle.archive_shape_layout.specs.Shape.Pointee.{sized}
-use Rattle.archive_shape_layout.specs.Content.{Names}
+use Rattle.archive_shape_layout.specs.Value.{Value}
+use Rattle.archive_shape_layout.specs.Value.Values.{no_values, more_values}
+use Rattle.archive_shape_layout.specs.Content.{Names, made}
 use Rattle.archive_shape_layout.specs.Content.Part.{at}
 use Rattle.archive_shape_layout.specs.Content.Label.{same}
-use Rattle.archive_shape_layout.specs.Holds.{Visit, OpenShared, root_position}
+use Rattle.archive_shape_layout.specs.Holds.{Region, Visit, OpenShared, Holds, Ascends, HasRoot, root_position}
+use Rattle.archive_shape_layout.proofs.Unique.{by_claimed}
 use Rattle.archive_shape_checking.specs.Range.{Range, narrowed_to}
 use Rattle.archive_shape_checking.specs.Accepts.{Passes}
 use Rattle.archive_shape_checking.specs.Questions.{pointee_span}
@@ -16,6 +19,9 @@ use Rattle.archive_shape_checking.proofs.Inverted.{claim_answered, claimed_parts
 use Rattle.archive_forms_checking.proofs.Contents.{sized_is}
 use Rattle.archive_forms_reading.specs.Parts.{HasValue}
 use Rattle.archive_forms_reading.proofs.Accepted.{accepted_has_value}
+use Rattle.archive_forms_reading.proofs.Inside.{one_held}
+use Rattle.archive_shape.specs.Key.{HeldAt}
+use Rattle.archive_shape.proofs.Held.{inside_region}
 use Rattle.archive_core_validation.specs.Depth.{whole}
 use Rattle.archive_core_access.specs.Access.{root_at, whole_range, Decides}
 
@@ -64,3 +70,29 @@ pub decided_has_value :
     → IfOk r (λ _. HasValue s knows bytes pos)
 decided_has_value s knows names bytes pos most (Ok x) known h = root_has_value s knows names bytes [] [] pos (whole_range (length bytes) most) known (le_refl (length bytes)) h
 decided_has_value s knows names bytes pos most (Err e) known h = tt
+
+made_same : (w v : Value) → made same (more_values w no_values) ≡ Some v → w ≡ v
+unfolding made
+made_same w v e = cc
+
+-- the value of a root is the one that stands at its position
+pub root_held : (s : Shape) (knows : Names → Type 0) (names : Names) (bytes : List ℕ) (pos : ℕ) (v : Value) (regions : List Region) (visits : List Visit)
+    → knows names → HasRoot names bytes pos s v regions visits → HeldAt s knows bytes pos v
+root_held s knows names bytes pos v regions visits known root =
+    let says = by_claimed names bytes (sized_is names bytes pos s 1) root.holds in
+    let one = one_held names bytes says.all in
+    let value : one.value ≡ v = made_same one.value v (subst (λ x. made same x ≡ Some v) one.is says.is_made) in
+    let inner = inside_region (length bytes) says.within _ (subst (Ascends 0 (length bytes)) says.regions_are root.ascends) in
+    let ends = inner.ends in
+    record {
+      names = names;
+      known = known;
+      level = 1;
+      inside = [];
+      regions = says.within;
+      before = [];
+      after = visits;
+      own_within = omega (arith, ends);
+      ascends = inner.ascends;
+      holds = subst (λ x. Holds names bytes 1 [] (at pos s) x says.within [] visits) value one.holds;
+    }

@@ -1,7 +1,7 @@
 -- Regions that ascend nest no deeper than they have bytes to lie in.
 use Rattle.std.proofs.Common.{◌≡◌, ℕ, zero, suc, ◌+◌, ◌-◌, ◌≤◌, List, [], ◌∷◌, ◌++◌, refl, sym, subst, arith}
 use Rattle.archive_shape_layout.specs.Value.{Value, Values}
-use Rattle.archive_shape_layout.specs.Content.{Names, Part, Label, Span, IsLegal, made, content_of}
+use Rattle.archive_shape_layout.specs.Content.{Names, Part, Span}
 use Rattle.archive_shape_layout.specs.Content.Content.{claimed}
 use Rattle.archive_shape_layout.specs.Holds.{Region, region_of, Visit, OpenShared, Holds, HoldAll, Ascends, Follows, end_after}
 use Rattle.archive_shape_layout.specs.Holds.Holds.{holds_plain, holds_claimed, holds_first, holds_later, holds_back}

@@ -1,13 +1,13 @@
 -- A part without own bytes claims nothing, and a claim of no bytes has no others inside.
-use Rattle.std.proofs.Common.{◌≡◌, ℕ, ◌+◌, ◌*◌, ◌≤◌, ◌<◌, max, zero, suc, Bool, true, false, cond, ◌==◌, ◌&&◌, nat_lt, List, [], ◌∷◌, ◌++◌, length, slice_index, Option, Some, None, refl, ap, ap₂, sym, subst, ◌∙◌, arith, suc-mul}
+use Rattle.std.proofs.Common.{◌≡◌, ℕ, ◌+◌, ◌*◌, ◌≤◌, ◌<◌, max, zero, suc, Bool, true, false, ◌==◌, ◌&&◌, List, [], ◌∷◌, ◌++◌, slice_index, Option, Some, None, refl, ap₂, subst, ◌∙◌, arith, suc-mul}
 use Rattle.std.specs.Prelude.{⊤}
-use Rattle.archive_shape_layout.specs.Bytes.{window, align_up, word_at}
+use Rattle.archive_shape_layout.specs.Bytes.{window, align_up}
 use Rattle.archive_shape_layout.specs.Shape.{Shape, Shapes, Pointee, Alignment, alignment_bytes, align_of, aligns_of, size_of, fields_end, payloads_end, pointer_size}
 use Rattle.archive_shape_layout.specs.Shape.Shape.{number, nonzero, truth, character, text, tuple, array, option, result, choice, box, vector, shared, weak, tree, table, index_map, named}
 use Rattle.archive_shape_layout.specs.Shape.Shapes.{no_shapes, more_shapes}
 use Rattle.archive_shape_layout.specs.Shape.Pointee.{sized, slice, str}
 use Rattle.archive_shape_layout.specs.Value.{Value, Values}
-use Rattle.archive_shape_layout.specs.Content.{Item, choose, Names, Part, Span, Label, Content, content_of, fields, elements, shape_tagged, item_size, following, option_content, text_content, shared_content, table_parts, shape_content, pointee_content, keys_offset, links_offset, values_offset, link_node_size, node_span, node_content, child_content, buckets_span, buckets_content, place_content, shape_named, control_count}
+use Rattle.archive_shape_layout.specs.Content.{Item, choose, Names, Part, Span, Label, Content, content_of, fields, elements, shape_tagged, following, option_content, text_content, shared_content, table_parts, shape_content, pointee_content, keys_offset, link_node_size, node_content, child_content, buckets_span, buckets_content, place_content, shape_named, control_count}
 use Rattle.archive_shape_layout.specs.Content.Item.{item}
 use Rattle.archive_shape_layout.specs.Content.Part.{at, behind, node, child, entry, buckets, place_at}
 use Rattle.archive_shape_layout.specs.Content.Content.{illegal, plain, claimed, counting}

@@ -1,6 +1,6 @@
-use Rattle.std.proofs.Common.{ℕ, Ok, Err, refl, sym, subst, ap, ◌≡◌, ◌∙◌}
+use Rattle.std.proofs.Common.{Ok, Err, refl, sym, subst, ap, ◌∙◌}
 use Rattle.archive_shape_writing.specs.Writing.{WriterMembers}
-use Rattle.archive_core.specs.Written.{root_piece, ArchivesIn, HoldsArchive}
+use Rattle.archive_core.specs.Written.{ArchivesIn}
 use Rattle.archive_core.proofs.From.{written_from}
 use Rattle.archive_core.proofs.Laid.{archived_in, stands_at}
 use Rattle.archive_core.proofs.bytes.to_bytes_in_with_alloc.Goals as goal
