@@ -1,0 +1,4 @@
+mod Fields
+mod Read
+mod Resolved
+mod Serialized
