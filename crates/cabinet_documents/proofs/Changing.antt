@@ -35,6 +35,41 @@ text_put (truth c) s h = absurd (cc)
 text_put (number n) s h = absurd (cc)
 text_put (text u) s h = fitting (text s) (text u) h (tagged_value 2 (string u)) (denotes_text {s = u} refl refl)
 
+-- what a some's and a list's value stands for
+pub record IsSome' (u : Value) (t : Tree) : Type 0 where
+  pub inner : Tree
+  pub is : t ≡ just inner
+  pub denotes : Denotes u inner
+
+pub of_some : {v u : Value} {t : Tree} → v ≡ tagged_value 4 (tagged_value 1 u) → Denotes v t → IsSome' u t
+of_some g (denotes_truth e f) = absurd (cc)
+of_some g (denotes_number e f) = absurd (cc)
+of_some g (denotes_text e f) = absurd (cc)
+of_some g (denotes_shared e f) = absurd (cc)
+of_some g (denotes_nothing e f) = absurd (cc)
+of_some {u = u} g (denotes_some {w = w} {u = x} e f k) = let same : w ≡ u = cc in record { inner = x; is = f; denotes = subst (λ y. Denotes y x) same k }
+of_some g (denotes_list e f k) = absurd (cc)
+of_some g (denotes_ordered e f k) = absurd (cc)
+of_some g (denotes_hashed e f k) = absurd (cc)
+of_some g (denotes_kept e f k) = absurd (cc)
+
+pub record IsList (vs : Values) (t : Tree) : Type 0 where
+  pub elements : Trees
+  pub is : t ≡ list elements
+  pub denotes : DenoteAll vs elements
+
+pub of_list : {v : Value} {vs : Values} {t : Tree} → v ≡ tagged_value 5 (group vs) → Denotes v t → IsList vs t
+of_list g (denotes_truth e f) = absurd (cc)
+of_list g (denotes_number e f) = absurd (cc)
+of_list g (denotes_text e f) = absurd (cc)
+of_list g (denotes_shared e f) = absurd (cc)
+of_list g (denotes_nothing e f) = absurd (cc)
+of_list g (denotes_some e f k) = absurd (cc)
+of_list {vs = vs} g (denotes_list {vs = ws} {ts = ts} e f k) = let same : ws ≡ vs = cc in record { elements = ts; is = f; denotes = subst (λ y. DenoteAll y ts) same k }
+of_list g (denotes_ordered e f k) = absurd (cc)
+of_list g (denotes_hashed e f k) = absurd (cc)
+of_list g (denotes_kept e f k) = absurd (cc)
+
 module _ (new : Leaf) where
   abbrev Put : Value → List Step → List ℕ → Tree → Type 0
   Put v path inner t = Denotes (put_at (inner ++ 0 ∷ []) (payload_of new) v) (change t path new)
@@ -56,41 +91,6 @@ module _ (new : Leaf) where
   put_here (denotes_ordered e f k) old g h = absurd (cc)
   put_here (denotes_hashed e f k) old g h = absurd (cc)
   put_here (denotes_kept e f k) old g h = absurd (cc)
-
-  -- what a some's and a list's value stands for
-  record IsSome' (u : Value) (t : Tree) : Type 0 where
-    inner : Tree
-    is : t ≡ just inner
-    denotes : Denotes u inner
-
-  of_some : {v u : Value} {t : Tree} → v ≡ tagged_value 4 (tagged_value 1 u) → Denotes v t → IsSome' u t
-  of_some g (denotes_truth e f) = absurd (cc)
-  of_some g (denotes_number e f) = absurd (cc)
-  of_some g (denotes_text e f) = absurd (cc)
-  of_some g (denotes_shared e f) = absurd (cc)
-  of_some g (denotes_nothing e f) = absurd (cc)
-  of_some {u = u} g (denotes_some {w = w} {u = x} e f k) = let same : w ≡ u = cc in record { inner = x; is = f; denotes = subst (λ y. Denotes y x) same k }
-  of_some g (denotes_list e f k) = absurd (cc)
-  of_some g (denotes_ordered e f k) = absurd (cc)
-  of_some g (denotes_hashed e f k) = absurd (cc)
-  of_some g (denotes_kept e f k) = absurd (cc)
-
-  record IsList (vs : Values) (t : Tree) : Type 0 where
-    elements : Trees
-    is : t ≡ list elements
-    denotes : DenoteAll vs elements
-
-  of_list : {v : Value} {vs : Values} {t : Tree} → v ≡ tagged_value 5 (group vs) → Denotes v t → IsList vs t
-  of_list g (denotes_truth e f) = absurd (cc)
-  of_list g (denotes_number e f) = absurd (cc)
-  of_list g (denotes_text e f) = absurd (cc)
-  of_list g (denotes_shared e f) = absurd (cc)
-  of_list g (denotes_nothing e f) = absurd (cc)
-  of_list g (denotes_some e f k) = absurd (cc)
-  of_list {vs = vs} g (denotes_list {vs = ws} {ts = ts} e f k) = let same : ws ≡ vs = cc in record { elements = ts; is = f; denotes = subst (λ y. DenoteAll y ts) same k }
-  of_list g (denotes_ordered e f k) = absurd (cc)
-  of_list g (denotes_hashed e f k) = absurd (cc)
-  of_list g (denotes_kept e f k) = absurd (cc)
 
   put_in :
       {vs : Values} {ts : Trees} (i : ℕ) (u : Value) (path : List Step) (inner : List ℕ) (old : Leaf)

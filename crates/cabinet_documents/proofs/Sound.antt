@@ -37,7 +37,7 @@ not_deep : (s : Stop) (b : Bool) → is_container s.part ≡ b → (is_container
 not_deep s false e h = refl
 not_deep s true e h = ap (λ b. unless b too_deep) (below s.depth (h e))
 
-no_map_faults : (bytes : List ℕ) (p : Part) (w : Value) → IsMapSound bytes p w → map_faults bytes p w ≡ []
+pub no_map_faults : (bytes : List ℕ) (p : Part) (w : Value) → IsMapSound bytes p w → map_faults bytes p w ≡ []
 no_map_faults bytes (behind pos p len) w h = refl
 no_map_faults bytes (node level most k v pos) w h = refl
 no_map_faults bytes (child level most k v pos) w h = refl

@@ -1,25 +1,26 @@
 -- Laws of the archives of documents, as statements.
-use Rattle.std.specs.Prelude.{◌≡◌, ◌≢◌, ℕ, pos, List, [], ◌∷◌, ◌++◌, length, Some, ⊤}
+use Rattle.std.specs.Prelude.{◌≡◌, ◌≢◌, ℕ, ◌<◌, ◌≤◌, pos, List, [], ◌∷◌, ◌++◌, length, Some, ⊤}
 use Rattle.archive_shape_layout.specs.Value.{Value}
 use Rattle.archive_shape_layout.specs.Content.{Names, Part}
 use Rattle.archive_shape_layout.specs.Shape.{Shape}
 use Rattle.archive_shape_layout.specs.Shape.Pointee.{sized}
 use Rattle.archive_shape_layout.specs.Value.{Values}
-use Rattle.archive_shape_layout.specs.Content.Part.{behind}
-use Rattle.archive_shape_layout.specs.Holds.{Region, Visit, OpenShared, Holds, HoldAll, HasRoot}
+use Rattle.archive_shape_layout.specs.Content.Part.{at, behind}
+use Rattle.archive_shape_layout.specs.Holds.{Region, Visit, OpenShared, Holds, HoldAll, HasRoot, root_position}
 use Rattle.archive_shape_layout.specs.Holds.Holds.{holds_plain, holds_claimed, holds_first, holds_later, holds_back}
 use Rattle.archive_shape_layout.specs.Holds.HoldAll.{holds_none, holds_more}
 use Rattle.archive_shape_layout.specs.Edit.{Apart}
+use Rattle.archive_shape_canonical.specs.Canonical.{AreBytes}
 use Rattle.archive_shape_references.specs.Bytes.{overwrite}
 use Rattle.cabinet_text_grammar.specs.Tree.{Leaf, truth, number, text, IsLeaf}
 use Rattle.cabinet_text_grammar.specs.Path.{Step, key, place, inside}
-use Rattle.cabinet_documents.specs.Node.{own_bytes}
-use Rattle.cabinet_text_grammar.specs.Tree.{Tree, leaf}
+use Rattle.cabinet_documents.specs.Node.{node_names, node_shape, absent, own_bytes}
+use Rattle.cabinet_text_grammar.specs.Tree.{Tree, leaf, depth}
 use Rattle.cabinet_text_grammar.specs.Path.{node_at}
 use Rattle.cabinet_text_grammar.specs.Answering.{change}
 use Rattle.cabinet_documents.specs.Done.{IsDone}
 use Rattle.cabinet_documents.specs.Walk.{Stop, Walks}
-use Rattle.cabinet_documents.specs.Audit.{Unsound, AuditFault}
+use Rattle.cabinet_documents.specs.Audit.{Unsound, too_deep, AuditFault, faults, root_part}
 use Rattle.cabinet_documents.specs.Accepted.{Accepted}
 use Rattle.cabinet_documents.specs.OwnBytes.{OwnBytes, LeadsTo}
 use Rattle.cabinet_documents.specs.Denotes.{Denotes}
@@ -68,6 +69,13 @@ WalkStands =
     → IsAcyclic h.holds
     → HasWalk names bytes depth (behind pos (sized s) 1) v
 
+-- where a payload has no layout, no value stands
+abbrev pub AbsentHasNoValue : Type 0
+AbsentHasNoValue =
+    (bytes : List ℕ) (level : ℕ) (inside : List OpenShared) (pos : ℕ) (v : Value) (regions : List Region) (before after : List Visit)
+    → Holds node_names bytes level inside (at pos absent) v regions before after
+    → ⊥
+
 -- accepted bytes denote one document
 abbrev pub OneDocument : Type 0
 OneDocument = (bytes : List ℕ) (s t : Tree) → Accepted bytes s → Accepted bytes t → s ≡ t
@@ -79,6 +87,35 @@ OneAuditFault = (bytes : List ℕ) (u w : Unsound) → AuditFault bytes u → Au
 -- what is refused, memory aside, is accepted as no document
 abbrev pub RefusedIsNotAccepted : Type 0
 RefusedIsNotAccepted = (bytes : List ℕ) (u : Unsound) (t : Tree) → AuditFault bytes u → Accepted bytes t → ⊥
+
+-- they are accepted as some document
+pub record IsAccepted (bytes : List ℕ) : Type 0 where
+  pub tree : Tree
+  pub accepted : Accepted bytes tree
+
+-- bytes at whose root a node holds, with a walk in which the audit finds no fault, are the archive of a document
+abbrev pub AcceptedStands : Type 0
+AcceptedStands =
+    (bytes : List ℕ) (v : Value) (regions : List Region) (visits : List Visit) (walk : List Stop)
+    → AreBytes bytes
+    → HasRoot node_names bytes (root_position (length bytes) node_shape) node_shape v regions visits
+    → Walks node_names bytes 0 (root_part bytes) v walk
+    → faults bytes walk ≡ []
+    → IsAccepted bytes
+
+-- what a root's value denotes, and whether the bytes are accepted as that, by how many containers lie in one another
+pub record DepthDecided (bytes : List ℕ) (v : Value) : Type 0 where
+  pub tree : Tree
+  pub denotes : Denotes v tree
+  pub accepted : depth tree ≤ 64 → Accepted bytes tree
+  pub refused : 64 < depth tree → AuditFault bytes too_deep
+
+abbrev pub DepthDecides : Type 0
+DepthDecides =
+    (bytes : List ℕ) (v : Value) (regions : List Region) (visits : List Visit)
+    → AreBytes bytes
+    → HasRoot node_names bytes (root_position (length bytes) node_shape) node_shape v regions visits
+    → DepthDecided bytes v
 
 -- ---- edits
 

@@ -1,38 +1,43 @@
 -- The layout of a document's node: 24 bytes, aligned to 8; a tag byte, and by the tag a payload at its alignment.
-use Rattle.std.specs.Prelude.{true, false, List, [], ◌∷◌, ℕ, ℤ, Bool}
-use Rattle.std.specs.Int.{w64, to_le_bytes, cast_unsigned}
+use Rattle.std.specs.Prelude.{◌≡◌, Some, true, false, List, [], ◌∷◌, ℕ, Bool}
+use Rattle.std.specs.Int.{w8, w64, to_le_bytes, cast_unsigned}
 use Rattle.archive_shape_layout.specs.Shape.{Shape, Shapes}
 use Rattle.archive_shape_layout.specs.Shape.Alignment.{eight}
-use Rattle.archive_shape_layout.specs.Shape.Shape.{number, truth, text, option, choice, box, vector, shared, tree, table, index_map, named, tuple}
+use Rattle.archive_shape_layout.specs.Shape.Shape.{number, truth, text, option, choice, box, vector, named, tuple, array}
 use Rattle.archive_shape_layout.specs.Shape.Shapes.{no_shapes, more_shapes}
-use Rattle.archive_shape_layout.specs.Shape.Pointee.{sized, str}
-use Rattle.archive_shape_layout.specs.Content.{Names}
+use Rattle.archive_shape_layout.specs.Shape.Pointee.{sized}
+use Rattle.archive_shape_layout.specs.Content.{Names, shape_named}
 use Rattle.cabinet_text_grammar.specs.Tree as document
 
 -- nodes lie in nodes, so the shape has a name, 0
 abbrev pub node_shape : Shape
 node_shape = named 0 24 eight
 
--- the item of a hashed map: a key and a node
-abbrev pub pair : Shape
-pair = tuple (more_shapes text (more_shapes node_shape no_shapes))
+-- the payload of a kind that has no layout yet: sixteen bytes in which no value stands, since no byte is the tag of an
+-- enum without cases
+abbrev pub absent : Shape
+absent = tuple (more_shapes (choice no_shapes) (more_shapes (array 15 (number w8 false)) no_shapes))
 
--- in the order of the tags, from 0: a truth value, a number, a text, a shared text, an option, a list, an ordered map
--- with five entries in each of its nodes, a hashed map, and a map that keeps its order
+-- in the order of the tags, from 0: a truth value, a number, a text, a shared text, an option, a list, an ordered map,
+-- a hashed map, and a map that keeps its order
 abbrev pub payloads : Shapes
 payloads =
     more_shapes truth
     (more_shapes (number w64 true)
     (more_shapes text
-    (more_shapes (shared false str)
+    (more_shapes absent
     (more_shapes (option (box (sized node_shape)))
     (more_shapes (vector node_shape)
-    (more_shapes (tree 5 text node_shape)
-    (more_shapes (table pair)
-    (more_shapes (index_map text node_shape) no_shapes))))))))
+    (more_shapes absent
+    (more_shapes absent
+    (more_shapes absent no_shapes))))))))
 
 abbrev pub node_names : Names
 node_names = (0, choice payloads) ∷ []
+
+-- the lists of named types in which the name 0 stands for a node
+abbrev pub KnowsNode : Names → Type 0
+KnowsNode names = shape_named names 0 ≡ Some (choice payloads)
 
 abbrev pub truth_byte : Bool → ℕ
 truth_byte true = 1

@@ -1,0 +1,190 @@
+-- The own bytes of each leaf stand.
+use Rattle.std.proofs.Common.{◌≡◌, ℕ, zero, suc, List, [], ◌∷◌, ◌++◌, length, Some, refl, sym, ap, subst, ◌∙◌}
+use Rattle.archive_shape_layout.specs.Bytes.{window}
+use Rattle.archive_shape_layout.specs.Shape.Pointee.{sized, str}
+use Rattle.archive_shape_layout.specs.Value.{Value}
+use Rattle.archive_shape_layout.specs.Value.Value.{group, string}
+use Rattle.archive_shape_layout.specs.Content.{Part}
+use Rattle.archive_shape_layout.specs.Content.Part.{behind}
+use Rattle.archive_shape_layout.specs.Holds.{Region, Visit, OpenShared, Holds, root_position}
+use Rattle.archive_shape_layout.specs.Edit.IsLeafIn.{out_of_line}
+use Rattle.archive_shape_layout.specs.Path.{Stands}
+use Rattle.archive_shape_layout.specs.Path.Stands.{stands_here}
+use Rattle.archive_shape_layout.proofs.Leaves.{leaf_within_law}
+use Rattle.archive_shape_references.proofs.Pieces.{length-window}
+use Rattle.cabinet_text_grammar.specs.Tree.{Leaf, truth, number, text, Tree, leaf}
+use Rattle.cabinet_text_grammar.specs.Path.{Step, key, place, inside, node_at}
+use Rattle.cabinet_documents.specs.Node.{node_names, node_shape, own_bytes}
+use Rattle.cabinet_documents.specs.Denotes.{Denotes, tagged_value}
+use Rattle.cabinet_documents.specs.OwnBytes.{LeadsTo, leads_here, leads_inside, leads_place, IsOwn, own_truth, own_number, own_inline, own_behind}
+use Rattle.cabinet_documents.specs.Laws.{payload_of, OwnBytesStand, LeavesStand}
+use Rattle.cabinet_documents.proofs.Places.{Place, node_here, truth_here, number_here, text_here, option_here, list_here, absent_here, text_behind, part_of, Pays, pays_truth, pays_number, pays_text, pays_option, pays_list, pays_absent}
+use Rattle.cabinet_documents.proofs.Nodes.{absent_law, held}
+use Rattle.cabinet_documents.proofs.Steps.{node_cases, behind_below, some_cases, element_cases, TextCase, text_inline, text_out, text_cases}
+use Rattle.cabinet_documents.proofs.Known.{leaf_tag, Known, known_leaf, known_none, known_some, known_list, known, known_element, by_key}
+
+-- where the payload of a tag stands
+abbrev pub place_of : ℕ → Place
+place_of zero = truth_here
+place_of (suc zero) = number_here
+place_of (suc (suc zero)) = text_here
+place_of (suc (suc (suc zero))) = absent_here
+place_of (suc (suc (suc (suc zero)))) = option_here
+place_of (suc (suc (suc (suc (suc zero))))) = list_here
+place_of (suc (suc (suc (suc (suc (suc n)))))) = absent_here
+
+module _ (bytes : List ℕ) where
+  -- the payload of a node whose tag is known
+  pub record PaidAt (level : ℕ) (around : List OpenShared) (pos : ℕ) (v w : Value) (k : Place) (before after : List Visit) : Type 0 where
+    pub payload_pos : ℕ
+    pub regions : List Region
+    pub holds : Holds node_names bytes level around (part_of k payload_pos) w regions before after
+    pub stands : (r : Part) (u : Value) (path : List ℕ) → Stands node_names bytes r u level around before (part_of k payload_pos) w path
+        → Stands node_names bytes r u level around before (part_of node_here pos) v (0 ∷ path)
+
+  place_is : (pos : ℕ) {tag level : ℕ} {j : Place} {around : List OpenShared} {v : Value} {regions : List Region} {before after : List Visit}
+      → Pays tag j → Holds node_names bytes level around (part_of j pos) v regions before after → j ≡ place_of tag
+  place_is pos pays_truth h = refl
+  place_is pos pays_number h = refl
+  place_is pos pays_text h = refl
+  place_is pos pays_option h = refl
+  place_is pos pays_list h = refl
+  place_is pos {level = level} {around = around} {v = v} {regions = regions} {before = before} {after = after} (pays_absent z) h =
+      absurd (absent_law bytes level around pos v regions before after h)
+
+  pub paid_at : (pos tag : ℕ) (w : Value) {level : ℕ} {around : List OpenShared} {v : Value} {regions : List Region} {before after : List Visit}
+      → v ≡ tagged_value tag w → Holds node_names bytes level around (part_of node_here pos) v regions before after → PaidAt level around pos v w (place_of tag) before after
+  paid_at pos tag w {level = level} {around = around} {v = v} {before = before} {after = after} e h =
+      let c = node_cases bytes pos h in
+      let is = c.value_is in
+      let tags : c.tag ≡ tag = cc in
+      let values : c.payload ≡ w = cc in
+      let placed : c.place ≡ place_of tag = place_is c.payload_pos c.pays c.holds ∙ ap place_of tags in
+      let whole : PaidAt level around pos v c.payload c.place before after = record { payload_pos = c.payload_pos; regions = c.regions; holds = c.holds; stands = c.stands } in
+      subst (λ k. PaidAt level around pos v w k before after) placed (subst (λ x. PaidAt level around pos v x c.place before after) values whole)
+
+  -- ---- a leaf
+
+  pub data LeafOwn (l : Leaf) (part : Part) : Type 0 where
+    own_here : {start size : ℕ} → IsOwn bytes start size part → size ≡ length (own_bytes l) → LeafOwn l part
+    own_long : {start len : ℕ} → part ≡ behind start str len → l ≡ text (window bytes start len) → LeafOwn l part
+
+  pub record PayloadStands (level : ℕ) (around : List OpenShared) (before : List Visit) (p : Part) (v : Value) (l : Leaf) : Type 0 where
+    pub part : Part
+    pub payload : Value
+    pub stands : Stands node_names bytes part payload level around before p v []
+    pub own : LeafOwn l part
+
+  payload_stands : (pos : ℕ) (l : Leaf) {level : ℕ} {around : List OpenShared} {regions : List Region} {before after : List Visit}
+      → Holds node_names bytes level around (part_of (place_of (leaf_tag l)) pos) (payload_of l) regions before after → PayloadStands level around before (part_of (place_of (leaf_tag l)) pos) (payload_of l) l
+  payload_stands pos (truth b) h = record { part = _; payload = _; stands = stands_here refl refl refl; own = own_here {start = pos} (own_truth refl refl) refl }
+  payload_stands pos (number n) h = record { part = _; payload = _; stands = stands_here refl refl refl; own = own_here {start = pos} (own_number refl refl) refl }
+  payload_stands pos (text s) {level = level} {around = around} {before = before} {after = after} h = by_case (text_cases bytes pos h)
+    where
+      by_case : TextCase bytes level around pos (string s) before after → PayloadStands level around before (part_of text_here pos) (string s) (text s)
+      by_case (text_inline {s = u} c is) =
+          let same : u ≡ s = cc in
+          record { part = _; payload = _; stands = stands_here refl refl refl; own = own_here {start = pos} (own_inline refl c refl) (ap length same) }
+      by_case (text_out {t = t} {len = len} is b) =
+          let same : s ≡ window bytes t len = cc in
+          record { part = part_of (text_behind len) t; payload = string s; stands = b.stands (part_of (text_behind len) t) (string s) [] (stands_here refl refl refl); own = own_long refl (ap text same) }
+
+  -- ---- a leaf at a path
+
+  pub record LeafStands (level : ℕ) (around : List OpenShared) (before : List Visit) (pos : ℕ) (v : Value) (path : List Step) (l : Leaf) : Type 0 where
+    pub node : Value
+    pub inner : List ℕ
+    pub leads : LeadsTo v path inner node
+    pub part : Part
+    pub payload : Value
+    pub stands : Stands node_names bytes part payload level around before (part_of node_here pos) v (inner ++ 0 ∷ [])
+    pub own : LeafOwn l part
+
+  -- so it is at the rest of the path, wherever a node holds
+  abbrev On : List Step → Leaf → Type 0
+  On rest l =
+      (pos level : ℕ) (around : List OpenShared) (v : Value) (regions : List Region) (before after : List Visit) (t : Tree)
+      → Denotes v t → Holds node_names bytes level around (part_of node_here pos) v regions before after → node_at t rest ≡ Some (leaf l) → LeafStands level around before pos v rest l
+
+  module _ (l : Leaf) {level pos : ℕ} {around : List OpenShared} {v : Value} {regions : List Region} {before after : List Visit} {t : Tree}
+      (h : Holds node_names bytes level around (part_of node_here pos) v regions before after)
+    where
+      ends_here : Known bytes v t → node_at t [] ≡ Some (leaf l) → LeafStands level around before pos v [] l
+      ends_here (known_leaf m e f) g =
+          let same : m ≡ l = cc in
+          let o = paid_at pos (leaf_tag m) (payload_of m) e h in
+          let p = payload_stands o.payload_pos m o.holds in
+          record {
+            node = v;
+            inner = [];
+            leads = leads_here refl refl refl;
+            part = p.part;
+            payload = p.payload;
+            stands = o.stands p.part p.payload [] p.stands;
+            own = subst (λ x. LeafOwn x p.part) same p.own;
+          }
+      ends_here (known_none e f) g = absurd (cc)
+      ends_here (known_some e f n d) g = absurd (cc)
+      ends_here (known_list e f ns ds) g = absurd (cc)
+
+      in_option : (rest : List Step) → On rest l → Known bytes v t → node_at t (inside ∷ rest) ≡ Some (leaf l) → LeafStands level around before pos v (inside ∷ rest) l
+      in_option rest on (known_leaf m e f) g = let k = subst (λ x. node_at x (inside ∷ rest) ≡ Some (leaf l)) f g in absurd (cc)
+      in_option rest on (known_none e f) g = let k = subst (λ x. node_at x (inside ∷ rest) ≡ Some (leaf l)) f g in absurd (cc)
+      in_option rest on (known_some {w = w} {u = u} e f n d) g =
+          let k : node_at u rest ≡ Some (leaf l) = subst (λ x. node_at x (inside ∷ rest) ≡ Some (leaf l)) f g in
+          let o = paid_at pos 4 (tagged_value 1 w) e h in
+          let s = some_cases bytes o.payload_pos {w = w} refl o.holds in
+          let r = on s.node_pos _ _ w s.regions _ _ u d s.holds k in
+          record {
+            node = r.node;
+            inner = 0 ∷ (0 ∷ r.inner);
+            leads = leads_inside e refl refl r.leads;
+            part = r.part;
+            payload = r.payload;
+            stands = o.stands r.part r.payload (0 ∷ (r.inner ++ 0 ∷ [])) (s.stands r.part r.payload (r.inner ++ 0 ∷ []) r.stands);
+            own = r.own;
+          }
+      in_option rest on (known_list e f ns ds) g = let k = subst (λ x. node_at x (inside ∷ rest) ≡ Some (leaf l)) f g in absurd (cc)
+
+      in_list : (i : ℕ) (rest : List Step) → On rest l → Known bytes v t → node_at t (place i ∷ rest) ≡ Some (leaf l) → LeafStands level around before pos v (place i ∷ rest) l
+      in_list i rest on (known_leaf m e f) g = let k = subst (λ x. node_at x (place i ∷ rest) ≡ Some (leaf l)) f g in absurd (cc)
+      in_list i rest on (known_none e f) g = let k = subst (λ x. node_at x (place i ∷ rest) ≡ Some (leaf l)) f g in absurd (cc)
+      in_list i rest on (known_some e f n d) g = let k = subst (λ x. node_at x (place i ∷ rest) ≡ Some (leaf l)) f g in absurd (cc)
+      in_list i rest on (known_list {vs = vs} {ts = ts} e f ns ds) g =
+          let k = known_element i rest (leaf l) ns ds (subst (λ x. node_at x (place i ∷ rest) ≡ Some (leaf l)) f g) in
+          let o = paid_at pos 5 (group vs) e h in
+          let s = element_cases bytes o.payload_pos i k.value refl k.there o.holds in
+          let r = on s.node_pos _ _ k.value s.regions s.since s.until k.tree k.denotes s.holds k.found in
+          record {
+            node = r.node;
+            inner = 0 ∷ (i ∷ r.inner);
+            leads = leads_place e k.there refl refl r.leads;
+            part = r.part;
+            payload = r.payload;
+            stands = o.stands r.part r.payload (i ∷ (r.inner ++ 0 ∷ [])) (s.stands r.part r.payload (r.inner ++ 0 ∷ []) r.stands);
+            own = r.own;
+          }
+
+  pub leaf_stands : (path : List Step) (l : Leaf) → On path l
+  leaf_stands [] l pos level around v regions before after t d h g = ends_here l h (known (held bytes h node_here pos refl).value d) g
+  leaf_stands (inside ∷ rest) l pos level around v regions before after t d h g = in_option l h rest (leaf_stands rest l) (known (held bytes h node_here pos refl).value d) g
+  leaf_stands (place i ∷ rest) l pos level around v regions before after t d h g = in_list l h i rest (leaf_stands rest l) (known (held bytes h node_here pos refl).value d) g
+  leaf_stands (key k ∷ rest) l pos level around v regions before after t d h g = absurd (by_key l k rest (known (held bytes h node_here pos refl).value d) g)
+
+pub leaves_stand_law : LeavesStand
+leaves_stand_law bytes t path l a g =
+    let pos = root_position (length bytes) node_shape in
+    let b = behind_below bytes pos a.root.holds in
+    let r = leaf_stands bytes path l pos 1 [] a.value b.regions [] a.visits t a.denotes b.holds g in
+    let stands = b.stands r.part r.payload (r.inner ++ 0 ∷ []) r.stands in
+    by_case r.node r.inner r.leads r.part r.payload stands r.own
+  where
+    by_case : (node : Value) (inner : List ℕ) → LeadsTo a.value path inner node → (part : Part) (payload : Value)
+        → Stands node_names bytes part payload 0 [] [] (behind (root_position (length bytes) node_shape) (sized node_shape) 1) a.value (inner ++ 0 ∷ [])
+        → LeafOwn bytes l part → OwnBytesStand bytes a.value path (length (own_bytes l))
+    by_case node inner leads part payload stands (own_here {start = start} own size) =
+        record { start = start; own = record { node = node; inner = inner; leads = leads; part = part; payload = payload; stands = stands; own = subst (λ n. IsOwn bytes start n part) size own } }
+    by_case node inner leads part payload stands (own_long {start = start} {len = len} is l_is) =
+        let room = leaf_within_law node_names bytes (root_position (length bytes) node_shape) node_shape a.value a.regions a.visits (inner ++ 0 ∷ []) part payload start len a.root stands (out_of_line is) in
+        let size : length (own_bytes l) ≡ len = ap (λ x. length (own_bytes x)) l_is ∙ length-window bytes start len room in
+        record { start = start; own = record { node = node; inner = inner; leads = leads; part = part; payload = payload; stands = stands; own = own_behind (is ∙ ap (behind start str) (sym size)) } }

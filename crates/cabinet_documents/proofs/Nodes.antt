@@ -1,0 +1,268 @@
+-- What the value of a node is, where one holds; and that no shared position lies in it.
+use Rattle.std.proofs.Common.{◌≡◌, ℕ, ℤ, zero, suc, ◌++◌, ◌+◌, ◌^◌, ◌<◌, Bool, w64, FitsSigned, IsUtf8, List, [], ◌∷◌, Some, refl, sym, ap, subst, ◌∙◌, arith}
+use Rattle.archive_shape_layout.specs.Shape.Shape.{choice}
+use Rattle.archive_shape_layout.specs.Shape.Shapes.{no_shapes}
+use Rattle.archive_shape_layout.specs.Value.{Value, Values, count_values}
+use Rattle.archive_shape_layout.specs.Value.Value.{integer, boolean, string, group, chosen}
+use Rattle.archive_shape_layout.specs.Value.Values.{no_values, more_values}
+use Rattle.archive_shape_layout.specs.Content.{Part, Label, Span, content_of, made, IsLegal, fields, shape_content}
+use Rattle.archive_shape_layout.specs.Content.Part.{at}
+use Rattle.archive_shape_layout.specs.Content.Label.{leaf, written, same, whole, tagged}
+use Rattle.archive_shape_layout.specs.Content.Content.{illegal, plain, claimed, counting}
+use Rattle.archive_shape_layout.specs.Shape.{Pointee}
+use Rattle.archive_shape_layout.specs.Holds.{Region, region_of, Visit, OpenShared, Holds, HoldAll}
+use Rattle.archive_shape_layout.specs.Holds.Holds.{holds_plain, holds_claimed, holds_first, holds_later, holds_back}
+use Rattle.archive_shape_layout.specs.Holds.HoldAll.{holds_none, holds_more}
+use Rattle.archive_shape_layout.proofs.Unique.{by_plain}
+use Rattle.archive_shape_canonical.specs.Canonical.{AreBytes}
+use Rattle.cabinet_documents.specs.Node.{node_names}
+use Rattle.cabinet_documents.specs.Denotes.{tagged_value}
+use Rattle.cabinet_documents.specs.Laws.{IsAcyclic, AreAcyclic, AbsentHasNoValue}
+use Rattle.cabinet_documents.proofs.Places.{Place, node_here, payload_here, truth_here, number_here, text_here, option_here, box_here, list_here, absent_here, node_behind, nodes_behind, text_behind, Spot, part_of, parts_at, nodes_from, Passes, node_passes, box_passes, behind_passes, list_passes, text_passes, Pays, pays_truth, pays_number, pays_text, pays_option, pays_list, pays_absent, Follows, passes, pays, truth_is, number_is, text_is, behind_is, none_is, some_is, nodes_follow, Leads, leads_nowhere, leads_absent, leads_plain, leads_claimed, led}
+
+-- ---- nothing stands where a payload has no layout
+
+module _ (bytes : List ℕ) where
+  pub none_illegal :
+      {level : ℕ} {inside : List OpenShared} {p : Part} {v : Value} {regions : List Region} {before after : List Visit}
+      → content_of node_names bytes p ≡ illegal → Holds node_names bytes level inside p v regions before after → ⊥
+  none_illegal e (holds_plain f legal all m) = cc
+  none_illegal e (holds_claimed f legal all m r) = cc
+  none_illegal e (holds_first f x y h d g) = cc
+  none_illegal e (holds_later f x y d g h) = cc
+  none_illegal e (holds_back f x d g h) = cc
+
+  pub no_choice : (pos : ℕ) → content_of node_names bytes (at pos (choice no_shapes)) ≡ illegal
+  unfolding shape_content
+  no_choice pos = refl
+
+  none_first :
+      (pos : ℕ) {level : ℕ} {inside : List OpenShared} {ps : List Part} {vs : Values} {regions : List Region} {before after : List Visit}
+      → HoldAll node_names bytes level inside (at pos (choice no_shapes) ∷ ps) vs regions before after → ⊥
+  none_first pos (holds_more h hs e r) = none_illegal (no_choice pos) h
+
+pub absent_law : AbsentHasNoValue
+unfolding shape_content fields
+absent_law bytes level inside pos v regions before after h = none_first bytes _ (by_plain node_names bytes {l = whole} refl h).all
+
+-- ---- nodes
+
+mutual
+  -- the value of a node whose kinds have a layout
+  pub data NodeValue (bytes : List ℕ) : Value → Type 0 where
+    truth_value : {v : Value} {b : Bool} → v ≡ tagged_value 0 (boolean b) → NodeValue bytes v
+    number_value : {v : Value} {n : ℤ} → v ≡ tagged_value 1 (integer n) → FitsSigned w64 n → NodeValue bytes v
+    text_value : {v : Value} {s : List ℕ} → v ≡ tagged_value 2 (string s) → IsUtf8 s → NodeValue bytes v
+    none_value : {v : Value} → v ≡ tagged_value 4 (chosen 0 no_values) → NodeValue bytes v
+    some_value : {v w : Value} → v ≡ tagged_value 4 (tagged_value 1 w) → NodeValue bytes w → NodeValue bytes v
+    list_value : {v : Value} {vs : Values} → v ≡ tagged_value 5 (group vs) → NodeValues bytes vs → (AreBytes bytes → count_values vs < 2 ^ 64) → NodeValue bytes v
+
+  pub data NodeValues (bytes : List ℕ) : Values → Type 0 where
+    no_nodes : {vs : Values} → vs ≡ no_values → NodeValues bytes vs
+    more_nodes : {vs ws : Values} {v : Value} → vs ≡ more_values v ws → NodeValue bytes v → NodeValues bytes ws → NodeValues bytes vs
+
+pub record TruthValue (v : Value) : Type 0 where
+  pub b : Bool
+  pub is : v ≡ boolean b
+
+pub record NumberValue (v : Value) : Type 0 where
+  pub n : ℤ
+  pub is : v ≡ integer n
+  pub fits : FitsSigned w64 n
+
+pub record TextValue (v : Value) : Type 0 where
+  pub s : List ℕ
+  pub is : v ≡ string s
+  pub utf8 : IsUtf8 s
+
+pub data OptionValue (bytes : List ℕ) (v : Value) : Type 0 where
+  option_none : v ≡ chosen 0 no_values → OptionValue bytes v
+  option_some : {w : Value} → v ≡ tagged_value 1 w → NodeValue bytes w → OptionValue bytes v
+
+pub record ListValue (bytes : List ℕ) (v : Value) : Type 0 where
+  pub vs : Values
+  pub is : v ≡ group vs
+  pub nodes : NodeValues bytes vs
+  pub small : AreBytes bytes → count_values vs < 2 ^ 64
+
+pub record NodesValue (bytes : List ℕ) (len : ℕ) (v : Value) : Type 0 where
+  pub vs : Values
+  pub is : v ≡ group vs
+  pub nodes : NodeValues bytes vs
+  pub counted : count_values vs ≡ len
+
+-- the value at each place
+abbrev pub ValueAt : List ℕ → Place → Value → Type 0
+ValueAt bytes node_here v = NodeValue bytes v
+ValueAt bytes payload_here v = NodeValue bytes v
+ValueAt bytes truth_here v = TruthValue v
+ValueAt bytes number_here v = NumberValue v
+ValueAt bytes text_here v = TextValue v
+ValueAt bytes option_here v = OptionValue bytes v
+ValueAt bytes box_here v = NodeValue bytes v
+ValueAt bytes list_here v = ListValue bytes v
+ValueAt bytes absent_here v = ⊥
+ValueAt bytes node_behind v = NodeValue bytes v
+ValueAt bytes (nodes_behind len) v = NodesValue bytes len v
+ValueAt bytes (text_behind len) v = TextValue v
+
+pub data ValuesAt (bytes : List ℕ) : List Spot → Values → Type 0 where
+  none_at : {vs : Values} → vs ≡ no_values → ValuesAt bytes [] vs
+  more_at : {q : Spot} {qs : List Spot} {vs ws : Values} {v : Value} → vs ≡ more_values v ws → ValueAt bytes q.place v → ValuesAt bytes qs ws → ValuesAt bytes (q ∷ qs) vs
+
+module _ (bytes : List ℕ) where
+  -- what follows makes the value
+  one_passed : (v : Value) {k j : Place} → Passes bytes k j → ValueAt bytes j v → ValueAt bytes k v
+  one_passed v node_passes h = h
+  one_passed v box_passes h = h
+  one_passed v behind_passes h = h
+  one_passed v (list_passes small) h = record { vs = h.vs; is = h.is; nodes = h.nodes; small = λ b. subst (λ n. n < 2 ^ 64) (sym h.counted) (small b) }
+  one_passed v text_passes h = h
+
+  one_paid : {tag : ℕ} {j : Place} {w v : Value} → Pays tag j → v ≡ tagged_value tag w → ValueAt bytes j w → NodeValue bytes v
+  one_paid pays_truth e h = truth_value (e ∙ ap (tagged_value 0) h.is)
+  one_paid pays_number e h = number_value (e ∙ ap (tagged_value 1) h.is) h.fits
+  one_paid pays_text e h = text_value (e ∙ ap (tagged_value 2) h.is) h.utf8
+  one_paid pays_option e (option_none f) = none_value (e ∙ ap (tagged_value 4) f)
+  one_paid pays_option e (option_some f n) = some_value (e ∙ ap (tagged_value 4) f) n
+  one_paid pays_list e h = list_value (e ∙ ap (tagged_value 5) h.is) h.nodes h.small
+  one_paid (pays_absent z) e h = absurd h
+
+  record Nodes (n : ℕ) (vs : Values) : Type 0 where
+    nodes : NodeValues bytes vs
+    counted : count_values vs ≡ n
+
+  nodes_made : (pos n : ℕ) (qs : List Spot) (vs : Values) → qs ≡ nodes_from pos n → ValuesAt bytes qs vs → Nodes n vs
+  nodes_made pos zero qs vs is (none_at e) = record { nodes = no_nodes e; counted = ap count_values e }
+  nodes_made pos zero qs vs is (more_at e h hs) = absurd (cc)
+  nodes_made pos (suc n) qs vs is (none_at e) = absurd (cc)
+  nodes_made pos (suc n) qs vs is (more_at {q = q} {qs = rest} {ws = ws} {v = v} e h hs) =
+      let first : q ≡ record { place = node_here; pos = pos } = cc in
+      let r = nodes_made (pos + 24) n rest ws (cc) hs in
+      let c = r.counted in
+      record { nodes = more_nodes e (subst (λ (x : Spot). ValueAt bytes x.place v) first h) r.nodes; counted = ap count_values e ∙ omega arith }
+
+  no_more : {vs : Values} {qs : List Spot} → qs ≡ [] → ValuesAt bytes qs vs → vs ≡ no_values
+  no_more e (none_at f) = f
+  no_more e (more_at f h hs) = absurd (cc)
+
+  record Alone (j : Place) (vs : Values) : Type 0 where
+    value : Value
+    is : vs ≡ more_values value no_values
+    there : ValueAt bytes j value
+
+  alone : {vs : Values} {qs : List Spot} {j : Place} {pos : ℕ} → qs ≡ record { place = j; pos = pos } ∷ [] → ValuesAt bytes qs vs → Alone j vs
+  alone e (none_at f) = absurd (cc)
+  alone {j = j} {pos = pos} e (more_at {q = q} {qs = qs} {v = v} f h hs) =
+      let same : q ≡ record { place = j; pos = pos } = cc in
+      let none : qs ≡ [] = cc in
+      let rest = no_more none hs in
+      record { value = v; is = f ∙ ap (more_values v) rest; there = subst (λ (x : Spot). ValueAt bytes x.place v) same h }
+
+  follow : {k : Place} {l : Label} {qs : List Spot} {vs : Values} {v : Value}
+      → Follows bytes k l qs → IsLegal l → ValuesAt bytes qs vs → made l vs ≡ Some v → ValueAt bytes k v
+  unfolding made
+  follow {k = k} {l = l} {vs = vs} {v = v} (passes p e f) legal hs m =
+      let a = alone f hs in
+      let n : made same (more_values a.value no_values) ≡ Some v = subst (λ x. made same x ≡ Some v) a.is (subst (λ x. made x vs ≡ Some v) e m) in
+      let is : a.value ≡ v = cc in
+      subst (ValueAt bytes k) is (one_passed a.value p a.there)
+  follow {l = l} {vs = vs} {v = v} (pays {tag = tag} p e f) legal hs m =
+      let a = alone f hs in
+      let n : made (tagged tag) (more_values a.value no_values) ≡ Some v = subst (λ x. made (tagged tag) x ≡ Some v) a.is (subst (λ x. made x vs ≡ Some v) e m) in
+      let is : v ≡ tagged_value tag a.value = cc in
+      one_paid p is a.there
+  follow {l = l} {vs = vs} {v = v} (truth_is {b = b} e f) legal hs m =
+      let n : made (leaf (boolean b)) no_values ≡ Some v = subst (λ x. made (leaf (boolean b)) x ≡ Some v) (no_more f hs) (subst (λ x. made x vs ≡ Some v) e m) in
+      record { b = b; is = cc }
+  follow {l = l} {vs = vs} {v = v} (number_is {n = i} e fits f) legal hs m =
+      let n : made (leaf (integer i)) no_values ≡ Some v = subst (λ x. made (leaf (integer i)) x ≡ Some v) (no_more f hs) (subst (λ x. made x vs ≡ Some v) e m) in
+      record { n = i; is = cc; fits = fits }
+  follow {l = l} {vs = vs} {v = v} (text_is {s = s} e f) legal hs m =
+      let n : made (written s) no_values ≡ Some v = subst (λ x. made (written s) x ≡ Some v) (no_more f hs) (subst (λ x. made x vs ≡ Some v) e m) in
+      record { s = s; is = cc; utf8 = subst IsLegal e legal }
+  follow {l = l} {vs = vs} {v = v} (behind_is {s = s} e f) legal hs m =
+      let n : made (written s) no_values ≡ Some v = subst (λ x. made (written s) x ≡ Some v) (no_more f hs) (subst (λ x. made x vs ≡ Some v) e m) in
+      record { s = s; is = cc; utf8 = subst IsLegal e legal }
+  follow {l = l} {vs = vs} {v = v} (none_is e f) legal hs m =
+      let n : made (tagged 0) no_values ≡ Some v = subst (λ x. made (tagged 0) x ≡ Some v) (no_more f hs) (subst (λ x. made x vs ≡ Some v) e m) in
+      option_none cc
+  follow {l = l} {vs = vs} {v = v} (some_is e f) legal hs m =
+      let a = alone f hs in
+      let n : made (tagged 1) (more_values a.value no_values) ≡ Some v = subst (λ x. made (tagged 1) x ≡ Some v) a.is (subst (λ x. made x vs ≡ Some v) e m) in
+      option_some {w = a.value} (cc) a.there
+  follow {l = l} {vs = vs} {v = v} (nodes_follow {len = len} pos e f) legal hs m =
+      let n : made whole vs ≡ Some v = subst (λ x. made x vs ≡ Some v) e m in
+      let r = nodes_made pos len _ vs f hs in
+      record { vs = vs; is = cc; nodes = r.nodes; counted = r.counted }
+
+  -- no place counts
+  absent_whole : (pos : ℕ) {cyclic : Bool} {t len : ℕ} {q : Pointee} → content_of node_names bytes (part_of absent_here pos) ≡ counting cyclic t q len → ⊥
+  unfolding shape_content
+  absent_whole pos g = cc
+
+  no_counting : (k : Place) (pos : ℕ) {cyclic : Bool} {t len : ℕ} {q : Pointee} → content_of node_names bytes (part_of k pos) ≡ counting cyclic t q len → ⊥
+  no_counting k pos {cyclic = cyclic} {t = t} {len = len} {q = q} e = by_case k (led bytes k pos) e
+    where
+      by_case : (k : Place) → Leads bytes k (content_of node_names bytes (part_of k pos)) → content_of node_names bytes (part_of k pos) ≡ counting cyclic t q len → ⊥
+      by_case k (leads_nowhere f) g = cc
+      by_case absent_here leads_absent g = absent_whole pos g
+      by_case k (leads_plain f fs) g = cc
+      by_case k (leads_claimed f fs b) g = cc
+
+  pub record Held {level : ℕ} {inside : List OpenShared} {p : Part} {v : Value} {regions : List Region} {before after : List Visit} (k : Place) (h : Holds node_names bytes level inside p v regions before after) : Type 0 where
+    pub value : ValueAt bytes k v
+    pub acyclic : IsAcyclic h
+
+  pub record AllHeld {level : ℕ} {inside : List OpenShared} {ps : List Part} {vs : Values} {regions : List Region} {before after : List Visit} (qs : List Spot) (hs : HoldAll node_names bytes level inside ps vs regions before after) : Type 0 where
+    pub values : ValuesAt bytes qs vs
+    pub acyclic : AreAcyclic hs
+
+  module _
+      {level : ℕ} {inside : List OpenShared} {p : Part} {v : Value} {regions : List Region} {before after : List Visit} {l : Label} {ps : List Part} {vs : Values}
+    where
+      plain_held : (e : content_of node_names bytes p ≡ plain l ps) (legal : IsLegal l) (all : HoldAll node_names bytes level inside ps vs regions before after) (m : made l vs ≡ Some v)
+          (on : (qs : List Spot) → ps ≡ parts_at qs → AllHeld qs all) (k : Place) (pos : ℕ)
+          → Leads bytes k (content_of node_names bytes (part_of k pos)) → content_of node_names bytes (part_of k pos) ≡ plain l ps → p ≡ part_of k pos → Held k (holds_plain e legal all m)
+      plain_held e legal all m on k pos (leads_nowhere f) g is = absurd (cc)
+      plain_held e legal all m on absent_here pos leads_absent g is = absurd (absent_law bytes level inside pos v regions before after (subst (λ x. Holds node_names bytes level inside x v regions before after) is (holds_plain e legal all m)))
+      plain_held e legal all m on k pos (leads_plain {l = l'} {qs = qs} f fs) g is =
+          let there : ps ≡ parts_at qs = cc in
+          let label : l' ≡ l = cc in
+          let r = on qs there in
+          record { value = follow fs (subst IsLegal (sym label) legal) r.values (subst (λ x. made x vs ≡ Some v) (sym label) m); acyclic = r.acyclic }
+      plain_held e legal all m on k pos (leads_claimed f fs b) g is = absurd (cc)
+
+      claimed_held : {s : Span} {within : List Region} (e : content_of node_names bytes p ≡ claimed s l ps) (legal : IsLegal l) (all : HoldAll node_names bytes (suc level) inside ps vs within before after) (m : made l vs ≡ Some v)
+          (x : regions ≡ within ++ region_of s level ∷ [])
+          (on : (qs : List Spot) → ps ≡ parts_at qs → AllHeld qs all) (k : Place) (pos : ℕ)
+          → Leads bytes k (content_of node_names bytes (part_of k pos)) → content_of node_names bytes (part_of k pos) ≡ claimed s l ps → p ≡ part_of k pos → Held k (holds_claimed e legal all m x)
+      claimed_held e legal all m x on k pos (leads_nowhere f) g is = absurd (cc)
+      claimed_held e legal all m x on absent_here pos leads_absent g is = absurd (absent_law bytes level inside pos v regions before after (subst (λ y. Holds node_names bytes level inside y v regions before after) is (holds_claimed e legal all m x)))
+      claimed_held e legal all m x on k pos (leads_plain f fs) g is = absurd (cc)
+      claimed_held e legal all m x on k pos (leads_claimed {l = l'} {qs = qs} f fs b) g is =
+          let there : ps ≡ parts_at qs = cc in
+          let label : l' ≡ l = cc in
+          let r = on qs there in
+          record { value = follow fs (subst IsLegal (sym label) legal) r.values (subst (λ y. made y vs ≡ Some v) (sym label) m); acyclic = r.acyclic }
+
+  mutual
+    pub held : {level : ℕ} {inside : List OpenShared} {p : Part} {v : Value} {regions : List Region} {before after : List Visit}
+        (h : Holds node_names bytes level inside p v regions before after) (k : Place) (pos : ℕ) → p ≡ part_of k pos → Held k h
+    held (holds_plain e legal all m) k pos is =
+        plain_held e legal all m (λ qs f. all_held all qs f) k pos (led bytes k pos) (ap (content_of node_names bytes) (sym is) ∙ e) is
+    held (holds_claimed e legal all m x) k pos is =
+        claimed_held e legal all m x (λ qs f. all_held all qs f) k pos (led bytes k pos) (ap (content_of node_names bytes) (sym is) ∙ e) is
+    held (holds_first e a b h d g) k pos is = absurd (no_counting k pos (ap (content_of node_names bytes) (sym is) ∙ e))
+    held (holds_later e a b d g h) k pos is = absurd (no_counting k pos (ap (content_of node_names bytes) (sym is) ∙ e))
+    held (holds_back e a d g h) k pos is = absurd (no_counting k pos (ap (content_of node_names bytes) (sym is) ∙ e))
+
+    all_held : {level : ℕ} {inside : List OpenShared} {ps : List Part} {vs : Values} {regions : List Region} {before after : List Visit}
+        (hs : HoldAll node_names bytes level inside ps vs regions before after) (qs : List Spot) → ps ≡ parts_at qs → AllHeld qs hs
+    all_held (holds_none e f g) [] is = record { values = none_at e; acyclic = tt }
+    all_held (holds_none e f g) (q ∷ qs) is = absurd (cc)
+    all_held (holds_more h hs e r) [] is = absurd (cc)
+    all_held (holds_more h hs e r) (q ∷ qs) is =
+        let first = held h q.place q.pos (cc) in
+        let others = all_held hs qs (cc) in
+        record { values = more_at e first.value others.values; acyclic = (first.acyclic, others.acyclic) }

@@ -1,0 +1,91 @@
+-- Bytes at whose root a node holds, with a walk without faults, are the archive of a document.
+use Rattle.std.proofs.Common.{◌≡◌, ℕ, ◌+◌, ◌<◌, ◌≤◌, ◌^◌, Bool, true, false, cond, nat_lt, List, [], ◌∷◌, ◌++◌, length, refl, sym, ap, subst, ◌∙◌, arith, ltb-true}
+use Rattle.archive_shape_layout.specs.Value.{Value, Values, count_values}
+use Rattle.archive_shape_layout.specs.Holds.{root_position}
+use Rattle.archive_shape_canonical.specs.Canonical.{AreBytes}
+use Rattle.cabinet_text_grammar.specs.Tree.{truth, number, text, Tree, leaf, nothing, just, list, Trees, no_trees, more_trees, count, IsLegal, AreLegal}
+use Rattle.cabinet_documents.specs.Node.{node_shape}
+use Rattle.cabinet_documents.specs.Denotes.{Denotes, DenoteAll}
+use Rattle.cabinet_documents.specs.Denotes.Denotes.{denotes_truth, denotes_number, denotes_text, denotes_nothing, denotes_some, denotes_list}
+use Rattle.cabinet_documents.specs.Denotes.DenoteAll.{denote_none, denote_more}
+use Rattle.cabinet_documents.specs.Walk.{Stop, is_container}
+use Rattle.cabinet_documents.specs.Audit.{Unsound, too_deep, unless, deep_faults, map_faults, faults}
+use Rattle.cabinet_documents.specs.Laws.{AcceptedStands}
+use Rattle.cabinet_documents.proofs.Places.{node_behind}
+use Rattle.cabinet_documents.proofs.Nodes.{NodeValue, truth_value, number_value, text_value, none_value, some_value, list_value, NodeValues, no_nodes, more_nodes, held}
+use Rattle.cabinet_documents.proofs.Peaks.{height_is, peak, peaked}
+use Rattle.cabinet_documents.proofs.Standing.{accepted_by}
+
+-- ---- the document of a node's value
+
+pub record OfTree (bytes : List ℕ) (v : Value) : Type 0 where
+  pub tree : Tree
+  pub denotes : Denotes v tree
+  pub legal : AreBytes bytes → IsLegal tree
+
+record OfTrees (bytes : List ℕ) (vs : Values) : Type 0 where
+  trees : Trees
+  denote : DenoteAll vs trees
+  legal : AreBytes bytes → AreLegal trees
+  counted : count trees ≡ count_values vs
+
+mutual
+  pub of_tree : {bytes : List ℕ} {v : Value} → NodeValue bytes v → OfTree bytes v
+  of_tree (truth_value {b = b} e) = record { tree = leaf (truth b); denotes = denotes_truth e refl; legal = λ small. tt }
+  of_tree (number_value {n = n} e fits) = record { tree = leaf (number n); denotes = denotes_number e refl; legal = λ small. fits }
+  of_tree (text_value {s = s} e utf8) = record { tree = leaf (text s); denotes = denotes_text e refl; legal = λ small. utf8 }
+  of_tree (none_value e) = record { tree = nothing; denotes = denotes_nothing e refl; legal = λ small. tt }
+  of_tree (some_value e n) = let r = of_tree n in record { tree = just r.tree; denotes = denotes_some e refl r.denotes; legal = r.legal }
+  of_tree (list_value e ns few) =
+      let r = of_trees ns in
+      record { tree = list r.trees; denotes = denotes_list e refl r.denote; legal = λ small. (r.legal small, subst (λ n. n < 2 ^ 64) (sym r.counted) (few small)) }
+
+  of_trees : {bytes : List ℕ} {vs : Values} → NodeValues bytes vs → OfTrees bytes vs
+  of_trees (no_nodes e) = record { trees = no_trees; denote = denote_none e refl; legal = λ small. tt; counted = sym (ap count_values e) }
+  of_trees (more_nodes e n ns) =
+      let r = of_tree n in
+      let rs = of_trees ns in
+      let c = rs.counted in
+      record {
+        trees = more_trees r.tree rs.trees;
+        denote = denote_more e refl r.denotes rs.denote;
+        legal = λ small. (r.legal small, rs.legal small);
+        counted = omega (arith, c) ∙ sym (ap count_values e);
+      }
+
+-- ---- a walk without faults
+
+left_nil : (xs ys : List Unsound) → xs ++ ys ≡ [] → xs ≡ []
+left_nil [] ys e = refl
+left_nil (x ∷ xs) ys e = absurd (cc)
+
+right_nil : (xs ys : List Unsound) → xs ++ ys ≡ [] → ys ≡ []
+right_nil [] ys e = e
+right_nil (x ∷ xs) ys e = absurd (cc)
+
+not_deep : (t : Bool) (m : ℕ) → nat_lt m 64 ≡ t → unless t too_deep ≡ [] → m < 64
+not_deep true m h e = ltb-true m 64 h
+not_deep false m h e = absurd (cc)
+
+one_shallow : (b : Bool) (m : ℕ) → cond b (unless (nat_lt m 64) too_deep) [] ≡ [] → cond b (m + 1) 0 ≤ 64
+one_shallow true m e = let h = not_deep (nat_lt m 64) m refl e in omega arith
+one_shallow false m e = omega arith
+
+shallow : (bytes : List ℕ) (walk : List Stop) → faults bytes walk ≡ [] → peak 0 walk ≤ 64
+shallow bytes [] e = omega arith
+shallow bytes (s ∷ rest) e =
+    let here = left_nil (deep_faults s ++ map_faults bytes s.part s.value) (faults bytes rest) e in
+    let deep = left_nil (deep_faults s) (map_faults bytes s.part s.value) here in
+    let one = one_shallow (is_container s.part) s.depth deep in
+    let others = shallow bytes rest (right_nil (deep_faults s ++ map_faults bytes s.part s.value) (faults bytes rest) e) in
+    omega arith
+
+pub accepted_stands_law : AcceptedStands
+accepted_stands_law bytes v regions visits walk small root walked none =
+    let pos = root_position (length bytes) node_shape in
+    let n = (held bytes root.holds node_behind pos refl).value in
+    let r = of_tree n in
+    let p = peaked bytes walked node_behind pos refl in
+    let high = height_is n r.denotes in
+    let low = shallow bytes walk none in
+    record { tree = r.tree; accepted = accepted_by bytes r.tree v regions visits root r.denotes (r.legal small, omega (arith, p.peak_is, high, low)) }

@@ -1,0 +1,181 @@
+-- The parts that a node leads to, and what each says.
+use Rattle.std.proofs.Common.{◌≡◌, ℕ, ℤ, zero, suc, ◌+◌, ◌*◌, ◌^◌, ◌<◌, Bool, true, false, nat_lt, ◌==◌, List, [], ◌∷◌, slice_index, Option, Some, None, refl, ap, arith, w64, FitsSigned, inl, inr}
+use Rattle.std.proofs.lemmas.Bool.{lt-ltb, le-ltb}
+use Rattle.std.proofs.lemmas.Bool.Decides.{leb_tells}
+use Rattle.std.specs.Int.{from_le_bytes, cast_signed}
+use Rattle.archive_shape_layout.specs.Bytes.{window, align_up, word_at, target_from}
+use Rattle.archive_shape_layout.specs.Shape.{align_of}
+use Rattle.archive_shape_layout.specs.Shape.Shape.{number, truth, text, option, choice, box, vector}
+use Rattle.archive_shape_layout.specs.Shape.Pointee.{sized, slice, str}
+use Rattle.archive_shape_layout.specs.Value.Value.{integer, boolean}
+use Rattle.archive_shape_layout.specs.Content.{Part, Label, Content, content_of, choose, option_content, shape_tagged, shape_content, pointee_content, text_content, text_length, following, begins_inline, before_ff, elements, number_value}
+use Rattle.archive_shape_layout.specs.Content.Part.{at, behind}
+use Rattle.archive_shape_layout.specs.Content.Label.{leaf, written, same, whole, tagged}
+use Rattle.archive_shape_layout.specs.Content.Content.{illegal, plain, claimed}
+use Rattle.archive_shape_canonical.specs.Canonical.{AreBytes}
+use Rattle.archive_shape_checking.proofs.Words.{word_bound}
+use Rattle.archive_shape_references.proofs.Pieces.{word_within}
+use Rattle.cabinet_documents.specs.Node.{node_shape, node_names, payloads, absent}
+
+-- ---- places
+
+pub data Place : Type 0 where
+  node_here payload_here truth_here number_here text_here option_here box_here list_here absent_here : Place
+  -- what pointers lead to: a node, so many nodes, a text of so many bytes
+  node_behind : Place
+  nodes_behind text_behind : ℕ → Place
+
+pub record Spot : Type 0 where
+  pub place : Place
+  pub pos : ℕ
+
+abbrev pub part_of : Place → ℕ → Part
+part_of node_here pos = at pos node_shape
+part_of payload_here pos = at pos (choice payloads)
+part_of truth_here pos = at pos truth
+part_of number_here pos = at pos (number w64 true)
+part_of text_here pos = at pos text
+part_of option_here pos = at pos (option (box (sized node_shape)))
+part_of box_here pos = at pos (box (sized node_shape))
+part_of list_here pos = at pos (vector node_shape)
+part_of absent_here pos = at pos absent
+part_of node_behind pos = behind pos (sized node_shape) 1
+part_of (nodes_behind len) pos = behind pos (slice node_shape) len
+part_of (text_behind len) pos = behind pos str len
+
+abbrev pub parts_at : List Spot → List Part
+parts_at [] = []
+parts_at (q ∷ qs) = part_of q.place q.pos ∷ parts_at qs
+
+abbrev pub nodes_from : ℕ → ℕ → List Spot
+nodes_from pos zero = []
+nodes_from pos (suc n) = record { place = node_here; pos = pos } ∷ nodes_from (pos + 24) n
+
+pub nodes_are : (pos n : ℕ) → elements pos n node_shape ≡ parts_at (nodes_from pos n)
+unfolding elements
+nodes_are pos zero = refl
+nodes_are pos (suc n) = ap (λ ps. at pos node_shape ∷ ps) (nodes_are (pos + 24) n)
+
+-- ---- how they follow one another
+
+-- a place has the value of what it leads to
+pub data Passes (bytes : List ℕ) : Place → Place → Type 0 where
+  node_passes : Passes bytes node_here payload_here
+  box_passes : Passes bytes box_here node_behind
+  behind_passes : Passes bytes node_behind node_here
+  list_passes : {len : ℕ} → (AreBytes bytes → len < 2 ^ 64) → Passes bytes list_here (nodes_behind len)
+  text_passes : {len : ℕ} → Passes bytes text_here (text_behind len)
+
+-- a tag's node is a container where its payload is an option or a list
+abbrev pub lifts : ℕ → ℕ
+lifts (suc (suc (suc (suc zero)))) = 1
+lifts (suc (suc (suc (suc (suc zero))))) = 1
+lifts n = 0
+
+-- a tag and its payload
+pub data Pays : ℕ → Place → Type 0 where
+  pays_truth : Pays 0 truth_here
+  pays_number : Pays 1 number_here
+  pays_text : Pays 2 text_here
+  pays_option : Pays 4 option_here
+  pays_list : Pays 5 list_here
+  pays_absent : {tag : ℕ} → lifts tag ≡ 0 → Pays tag absent_here
+
+-- how the value at a place is made, of the values at others
+pub data Follows (bytes : List ℕ) : Place → Label → List Spot → Type 0 where
+  passes : {k : Place} {l : Label} {qs : List Spot} {j : Place} {pos : ℕ} → Passes bytes k j → l ≡ same → qs ≡ record { place = j; pos = pos } ∷ [] → Follows bytes k l qs
+  pays : {l : Label} {qs : List Spot} {tag : ℕ} {j : Place} {pos : ℕ} → Pays tag j → l ≡ tagged tag → qs ≡ record { place = j; pos = pos } ∷ [] → Follows bytes payload_here l qs
+  truth_is : {l : Label} {qs : List Spot} {b : Bool} → l ≡ leaf (boolean b) → qs ≡ [] → Follows bytes truth_here l qs
+  number_is : {l : Label} {qs : List Spot} {n : ℤ} → l ≡ leaf (integer n) → FitsSigned w64 n → qs ≡ [] → Follows bytes number_here l qs
+  text_is : {l : Label} {qs : List Spot} {s : List ℕ} → l ≡ written s → qs ≡ [] → Follows bytes text_here l qs
+  behind_is : {l : Label} {qs : List Spot} {len : ℕ} {s : List ℕ} → l ≡ written s → qs ≡ [] → Follows bytes (text_behind len) l qs
+  none_is : {l : Label} {qs : List Spot} → l ≡ tagged 0 → qs ≡ [] → Follows bytes option_here l qs
+  some_is : {l : Label} {qs : List Spot} {pos : ℕ} → l ≡ tagged 1 → qs ≡ record { place = box_here; pos = pos } ∷ [] → Follows bytes option_here l qs
+  nodes_follow : {l : Label} {qs : List Spot} {len : ℕ} (pos : ℕ) → l ≡ whole → qs ≡ nodes_from pos len → Follows bytes (nodes_behind len) l qs
+
+abbrev pub is_behind : Place → Bool
+is_behind node_behind = true
+is_behind (nodes_behind len) = true
+is_behind (text_behind len) = true
+is_behind k = false
+
+pub data Leads (bytes : List ℕ) : Place → Content → Type 0 where
+  leads_nowhere : {k : Place} {c : Content} → c ≡ illegal → Leads bytes k c
+  leads_absent : {c : Content} → Leads bytes absent_here c
+  leads_plain : {k : Place} {c : Content} {l : Label} {qs : List Spot} → c ≡ plain l (parts_at qs) → Follows bytes k l qs → Leads bytes k c
+  leads_claimed : {k : Place} {c : Content} {l : Label} {qs : List Spot} {start size align : ℕ} → c ≡ claimed (record { start = start; size = size; align = align }) l (parts_at qs) → Follows bytes k l qs → is_behind k ≡ true → Leads bytes k c
+
+-- ---- what each says
+
+number_fits : (n : ℕ) → FitsSigned w64 (cast_signed w64 n)
+number_fits n =
+    elim (leb_tells (2 ^ 63) n) [
+      | inl high ↦ rw (le-ltb n (2 ^ 63) high.1) (record { sfits = omega (arith, high.1) })
+      | inr low ↦ rw (lt-ltb n (2 ^ 63) low.1) (record { sfits = omega (arith, low.1) })
+    ]
+
+module _ (bytes : List ℕ) where
+  payload_led : (pos tag : ℕ) → Leads bytes payload_here (option_content (shape_tagged tag payloads) (λ s. plain (tagged tag) (at (pos + align_up 1 (align_of s)) s ∷ [])))
+  payload_led pos zero = leads_plain refl (pays pays_truth refl refl)
+  payload_led pos (suc zero) = leads_plain refl (pays pays_number refl refl)
+  payload_led pos (suc (suc zero)) = leads_plain refl (pays pays_text refl refl)
+  payload_led pos (suc (suc (suc zero))) = leads_plain refl (pays (pays_absent {tag = 3} refl) refl refl)
+  payload_led pos (suc (suc (suc (suc zero)))) = leads_plain refl (pays pays_option refl refl)
+  payload_led pos (suc (suc (suc (suc (suc zero))))) = leads_plain refl (pays pays_list refl refl)
+  payload_led pos (suc (suc (suc (suc (suc (suc zero)))))) = leads_plain refl (pays (pays_absent {tag = 6} refl) refl refl)
+  payload_led pos (suc (suc (suc (suc (suc (suc (suc zero))))))) = leads_plain refl (pays (pays_absent {tag = 7} refl) refl refl)
+  payload_led pos (suc (suc (suc (suc (suc (suc (suc (suc zero)))))))) = leads_plain refl (pays (pays_absent {tag = 8} refl) refl refl)
+  payload_led pos (suc (suc (suc (suc (suc (suc (suc (suc (suc n))))))))) = leads_nowhere refl
+
+  truth_led : (n : ℕ) (b : Bool) → Leads bytes truth_here (choose b (plain (leaf (boolean (n == 1))) []) illegal)
+  unfolding choose
+  truth_led n true = leads_plain {qs = []} refl (truth_is refl refl)
+  truth_led n false = leads_nowhere refl
+
+  text_led : (o : Option ℕ) (s : List ℕ) (len : ℕ) (inline long : Bool)
+      → Leads bytes text_here (choose inline (plain (written s) []) (choose long (following o (λ t. plain same (behind t str len ∷ []))) illegal))
+  unfolding choose following
+  text_led o s len true long = leads_plain {qs = []} refl (text_is refl refl)
+  text_led None s len false true = leads_nowhere refl
+  text_led (Some t) s len false true = leads_plain {qs = record { place = text_behind len; pos = t } ∷ []} refl (passes text_passes refl refl)
+  text_led o s len false false = leads_nowhere refl
+
+  option_led : (p : ℕ) (none some : Bool)
+      → Leads bytes option_here (choose none (plain (tagged 0) []) (choose some (plain (tagged 1) (at p (box (sized node_shape)) ∷ [])) illegal))
+  unfolding choose
+  option_led p true some = leads_plain {qs = []} refl (none_is refl refl)
+  option_led p false true = leads_plain {qs = record { place = box_here; pos = p } ∷ []} refl (some_is refl refl)
+  option_led p false false = leads_nowhere refl
+
+  box_led : (o : Option ℕ) → Leads bytes box_here (following o (λ t. plain same (behind t (sized node_shape) 1 ∷ [])))
+  unfolding following
+  box_led None = leads_nowhere refl
+  box_led (Some t) = leads_plain {qs = record { place = node_behind; pos = t } ∷ []} refl (passes box_passes refl refl)
+
+  list_led : (o : Option ℕ) (len : ℕ) → (AreBytes bytes → len < 2 ^ 64) → Leads bytes list_here (following o (λ t. plain same (behind t (slice node_shape) len ∷ [])))
+  unfolding following
+  list_led None len small = leads_nowhere refl
+  list_led (Some t) len small = leads_plain {qs = record { place = nodes_behind len; pos = t } ∷ []} refl (passes (list_passes small) refl refl)
+
+  length_small : (pos : ℕ) → AreBytes bytes → word_at (window bytes pos 8) 4 < 2 ^ 64
+  length_small pos small =
+      let e = word_within bytes pos 8 4 (omega arith) in
+      let b = word_bound bytes (pos + 4) (λ i. omega (arith, small i)) in
+      omega (arith, e, b)
+
+  -- what a place says
+  pub led : (k : Place) (pos : ℕ) → Leads bytes k (content_of node_names bytes (part_of k pos))
+  unfolding shape_content pointee_content text_content number_value choose align_up
+  led node_here pos = leads_plain {qs = record { place = payload_here; pos = pos } ∷ []} refl (passes node_passes refl refl)
+  led payload_here pos = payload_led pos (slice_index (window bytes pos 24) 0)
+  led truth_here pos = truth_led (slice_index (window bytes pos 1) 0) (nat_lt (slice_index (window bytes pos 1) 0) 2)
+  led number_here pos = leads_plain {qs = []} refl (number_is refl (number_fits (from_le_bytes w64 (window bytes pos 8))) refl)
+  led text_here pos =
+      text_led (target_from pos (word_at (window bytes pos 8) 4)) (before_ff (window bytes pos 8)) (text_length (word_at (window bytes pos 8) 0)) (begins_inline (slice_index (window bytes pos 8) 0)) (nat_lt 8 (text_length (word_at (window bytes pos 8) 0)))
+  led option_here pos = option_led (pos + 4) (slice_index (window bytes pos 8) 0 == 0) (slice_index (window bytes pos 8) 0 == 1)
+  led box_here pos = box_led (target_from pos (word_at (window bytes pos 4) 0))
+  led list_here pos = list_led (target_from pos (word_at (window bytes pos 8) 0)) (word_at (window bytes pos 8) 4) (length_small pos)
+  led absent_here pos = leads_absent
+  led node_behind pos = leads_claimed {qs = record { place = node_here; pos = pos } ∷ []} refl (passes behind_passes refl refl) refl
+  led (nodes_behind len) pos = leads_claimed {qs = nodes_from pos len} (ap (claimed (record { start = pos; size = len * 24; align = 8 }) whole) (nodes_are pos len)) (nodes_follow pos refl refl) refl
+  led (text_behind len) pos = leads_claimed {qs = []} refl (behind_is refl refl) refl

@@ -1,0 +1,44 @@
+-- Bytes are accepted where a root holds and denotes a document.
+use Rattle.std.proofs.Common.{◌≡◌, ℕ, ◌<◌, true, List, length, refl, arith}
+use Rattle.std.specs.List.{Contains}
+use Rattle.archive_shape_layout.specs.Value.{Value}
+use Rattle.archive_shape_layout.specs.Holds.{Region, Visit, HasRoot, root_position}
+use Rattle.cabinet_text_grammar.specs.Tree.{Tree, IsDocument}
+use Rattle.cabinet_documents.specs.Node.{node_shape, node_names}
+use Rattle.cabinet_documents.specs.Denotes.{Denotes}
+use Rattle.cabinet_documents.specs.Walk.{Stop, Walks, is_container}
+use Rattle.cabinet_documents.specs.Audit.{root_part, IsSound}
+use Rattle.cabinet_documents.specs.Accepted.{Accepted}
+use Rattle.cabinet_documents.proofs.Walkable.{walk_stands_law}
+use Rattle.cabinet_documents.proofs.Places.{node_behind}
+use Rattle.cabinet_documents.proofs.Nodes.{held}
+use Rattle.cabinet_documents.proofs.Peaks.{NoMap, each_contains, height_is, peaked, all_below}
+
+-- a walk of the root, in which nothing is unsound
+pub record HasSoundWalk (bytes : List ℕ) (v : Value) : Type 0 where
+  pub walk : List Stop
+  pub walked : Walks node_names bytes 0 (root_part bytes) v walk
+  pub sound : (s : Stop) → Contains walk s → IsSound bytes s
+
+module _ (bytes : List ℕ) (t : Tree) (v : Value) (regions : List Region) (visits : List Visit)
+    (root : HasRoot node_names bytes (root_position (length bytes) node_shape) node_shape v regions visits)
+    (denotes : Denotes v t)
+    (document : IsDocument t) where
+  pub sound_walk : HasSoundWalk bytes v
+  sound_walk =
+      let pos = root_position (length bytes) node_shape in
+      let h = held bytes root.holds node_behind pos refl in
+      let w = walk_stands_law node_names bytes 0 pos node_shape v regions visits root h.acyclic in
+      let p = peaked bytes w.walked node_behind pos refl in
+      let high = height_is h.value denotes in
+      let below = all_below 0 w.walk (omega (arith, p.peak_is, high, document.1)) in
+      record {
+        walk = w.walk;
+        walked = w.walked;
+        sound = λ s c. (each_contains (λ (x : Stop). is_container x.part ≡ true → x.depth < 64) w.walk s below c, each_contains NoMap w.walk s p.stops c bytes);
+      }
+
+  pub accepted_by : Accepted bytes t
+  accepted_by =
+      let w = sound_walk in
+      record { value = v; regions = regions; visits = visits; root = root; denotes = denotes; document = document; walk = w.walk; walked = w.walked; sound = w.sound }
