@@ -1,0 +1,38 @@
+use Rattle.std.proofs.Common.{arith, refl}
+use Rattle.std.specs.Prelude.{true}
+use Rattle.std.specs.Int.{w64}
+use Rattle.archive_shape_layout.specs.Shape.Shape.{number, truth, text, option, box, vector}
+use Rattle.archive_shape_layout.specs.Shape.Pointee.{sized}
+use Rattle.archive_forms_spelling.proofs.Levels.{option_box_sized}
+use Rattle.cabinet_documents.specs.Node.{node_shape}
+use Rattle.cabinet_archived.proofs.Nodes.{payload_checked, other_refused}
+use Rattle.cabinet_archived.proofs.check.+node.Goals as goal
+
+pub check_maybe-check_option_each-requires-clause-fits :
+    goal.check_maybe-check_option_each-requires-clause-fits
+check_maybe-check_option_each-requires-clause-fits g t c = omega (arith, option_box_sized node_shape, c.requires.fits)
+
+pub check_node-returns-in-0-clause-exact : goal.check_node-returns-in-0-clause-exact
+check_node-returns-in-0-clause-exact g t c = λ names known.
+    payload_checked names c.args.bytes.now c.args.pos known _ _ 0 truth _ c.in-0.is refl (omega arith) (c.check.ensures.exact names tt)
+
+pub check_node-returns-in-1-clause-exact : goal.check_node-returns-in-1-clause-exact
+check_node-returns-in-1-clause-exact g t c = λ names known.
+    payload_checked names c.args.bytes.now c.args.pos known _ _ 1 (number w64 true) _ c.in-1.is refl (omega arith) (c.check-in-1.ensures.exact names tt)
+
+pub check_node-returns-in-2-clause-exact : goal.check_node-returns-in-2-clause-exact
+check_node-returns-in-2-clause-exact g t c = λ names known.
+    payload_checked names c.args.bytes.now c.args.pos known _ _ 2 text _ c.in-2.is refl (omega arith) (c.check-in-2.ensures.exact names tt)
+
+pub check_node-returns-in-4-clause-exact : goal.check_node-returns-in-4-clause-exact
+check_node-returns-in-4-clause-exact g t c = λ names known.
+    payload_checked names c.args.bytes.now c.args.pos known _ _ 4 (option (box (sized node_shape))) _ c.in-4.is refl (omega arith) (c.check_maybe.ensures.exact names known)
+
+pub check_node-returns-in-5-clause-exact : goal.check_node-returns-in-5-clause-exact
+check_node-returns-in-5-clause-exact g t c = λ names known.
+    payload_checked names c.args.bytes.now c.args.pos known _ _ 5 (vector node_shape) _ c.in-5.is refl (omega arith) (c.check_list.ensures.exact names known)
+
+pub check_node-returns-in_default-clause-exact : goal.check_node-returns-in_default-clause-exact
+check_node-returns-in_default-clause-exact g t c = λ names known.
+    let other = c.in_default in
+    other_refused names c.args.bytes.now c.args.pos known _ (g.C.ArchiveContext.kept c.args.context.now) (λ e. omega arith, λ e. omega arith, λ e. omega arith, λ e. omega arith) (λ e. omega arith)

@@ -1,0 +1,23 @@
+use Rattle.std.proofs.Common.{◌+◌, ◌*◌}
+use Rattle.cabinet_archived.proofs.check.+node.Given as goal
+
+abbrev pub decreases-check_node : goal.decreases-check_node
+decreases-check_node g l = 8 * l.room + 5
+
+abbrev pub decreases-check_maybe : goal.decreases-check_maybe
+decreases-check_maybe g l = 8 * l.room + 4
+
+abbrev pub decreases-check_maybe-check_option_each : goal.decreases-check_maybe-check_option_each
+decreases-check_maybe-check_option_each g l = 8 * l.room + 3
+
+abbrev pub decreases-check_boxed : goal.decreases-check_boxed
+decreases-check_boxed g l = 8 * l.room + 2
+
+abbrev pub decreases-check_boxed-check_box_each : goal.decreases-check_boxed-check_box_each
+decreases-check_boxed-check_box_each g l = 8 * l.room + 1
+
+abbrev pub decreases-check_list : goal.decreases-check_list
+decreases-check_list g l = 8 * l.room + 4
+
+abbrev pub decreases-check_list-check_vec_each : goal.decreases-check_list-check_vec_each
+decreases-check_list-check_vec_each g l = 8 * l.room + 3

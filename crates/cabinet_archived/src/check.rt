@@ -1,0 +1,138 @@
+//! The check of nodes, which may lead to others.
+ghost use Rattle.std.specs.Prelude.{◌≡◌, ℕ, ◌+◌, ◌-◌, ◌^◌, ◌<◌, ◌≤◌, length};
+ghost use Rattle.archive_shape_layout.specs.Content.{Names};
+ghost use Rattle.archive_shape_layout.specs.Content.Part.{at};
+ghost use Rattle.archive_shape_layout.specs.Shape.Shape.{option, box, vector};
+ghost use Rattle.archive_shape_layout.specs.Shape.Pointee.{sized};
+ghost use Rattle.archive_shape_checking.specs.Kept.{IsWithin};
+ghost use Rattle.archive_shape_checking.specs.Checks.{Checks, Moves};
+ghost use Rattle.cabinet_documents.specs.Node.{node_shape, KnowsNode};
+
+use crate::ArchivedNode;
+use archive_forms_checking::{check_box_each, check_option_each, check_vec_each};
+use archive_forms_reading::ArchivedBox;
+use archive_forms_text::ArchivedString;
+use archive_shape::{ArchiveContext, ArchivedI64, CheckBytes, Error};
+use std::alloc::Global;
+
+/// Checks the node at `pos`. What it claims ends at `room` or before.
+///
+/// Refuses the tag of a kind without a layout, and any above 8, with `InvalidTag`, and a payload with what its check refuses.
+#[cycle(node)]
+pub(crate) fn check_node<C: ArchiveContext>(
+    alloc: Global,
+    bytes: &[u8],
+    pos: usize,
+    context: &mut C,
+    room: usize,
+) -> Result<(), Error>
+    requires fits { pos + 24 ≤ length bytes.now }
+    requires range { IsWithin (C.kept context.old) (length bytes.now) }
+    requires within { (C.kept context.old).end ≤ room }
+    ensures moves { Moves (C.kept context.old) result (C.kept context.new) }
+    ensures exact { (names : Names) → KnowsNode names
+        → Checks names bytes.now (at pos node_shape) (C.kept context.old) result (C.kept context.new) }
+{
+    let _len = bytes.len();
+    match bytes[pos] {
+        0 => <bool as CheckBytes<C>>::check(alloc, bytes, pos + 1, context),
+        1 => <ArchivedI64 as CheckBytes<C>>::check(alloc, bytes, pos + 8, context),
+        2 => <ArchivedString as CheckBytes<C>>::check(alloc, bytes, pos + 4, context),
+        4 => check_maybe(alloc, bytes, pos + 4, context, room),
+        5 => check_list(alloc, bytes, pos + 4, context, room),
+        _ => Err(Error::InvalidTag),
+    }
+}
+
+/// Checks the option of a box of a node at `pos`. What it claims ends at `room` or before.
+#[cycle(node)]
+fn check_maybe<C: ArchiveContext>(
+    alloc: Global,
+    bytes: &[u8],
+    pos: usize,
+    context: &mut C,
+    room: usize,
+) -> Result<(), Error>
+    requires fits { pos + 8 ≤ length bytes.now }
+    requires range { IsWithin (C.kept context.old) (length bytes.now) }
+    requires within { (C.kept context.old).end ≤ room }
+    ensures moves { Moves (C.kept context.old) result (C.kept context.new) }
+    ensures exact { (names : Names) → KnowsNode names
+        → Checks names bytes.now (at pos (option (box (sized node_shape)))) (C.kept context.old) result (C.kept context.new) }
+{
+    check_option_each::<ArchivedBox<ArchivedNode>, C, _>(
+        bytes,
+        pos,
+        context,
+        |c: &mut C, p: usize| -> Result<(), Error>
+            requires fits { p + 4 ≤ length bytes.now }
+            requires range { IsWithin (C.kept c.old) (length bytes.now) }
+            requires within { (C.kept c.old).end ≤ room }
+            ensures moves { Moves (C.kept c.old) result (C.kept c.new) }
+            ensures exact { (names : Names) → KnowsNode names
+                → Checks names bytes.entry.now (at p (box (sized node_shape))) (C.kept c.old) result (C.kept c.new) }
+        { check_boxed(alloc, bytes, p, c, room) },
+    )
+}
+
+/// Checks the box of a node at `pos`. What it claims ends at `room` or before.
+#[cycle(node)]
+fn check_boxed<C: ArchiveContext>(
+    alloc: Global,
+    bytes: &[u8],
+    pos: usize,
+    context: &mut C,
+    room: usize,
+) -> Result<(), Error>
+    requires fits { pos + 4 ≤ length bytes.now }
+    requires range { IsWithin (C.kept context.old) (length bytes.now) }
+    requires within { (C.kept context.old).end ≤ room }
+    ensures moves { Moves (C.kept context.old) result (C.kept context.new) }
+    ensures exact { (names : Names) → KnowsNode names
+        → Checks names bytes.now (at pos (box (sized node_shape))) (C.kept context.old) result (C.kept context.new) }
+{
+    check_box_each::<ArchivedNode, C, _>(
+        bytes,
+        pos,
+        context,
+        |c: &mut C, p: usize| -> Result<(), Error>
+            requires fits { p + 24 ≤ length bytes.now }
+            requires range { IsWithin (C.kept c.old) (length bytes.now) }
+            requires within { (C.kept c.old).end + 24 ≤ room }
+            ensures moves { Moves (C.kept c.old) result (C.kept c.new) }
+            ensures exact { (names : Names) → KnowsNode names
+                → Checks names bytes.entry.now (at p node_shape) (C.kept c.old) result (C.kept c.new) }
+        { check_node(alloc, bytes, p, c, room - 24) },
+    )
+}
+
+/// Checks the vector of nodes at `pos`. What it claims ends at `room` or before.
+#[cycle(node)]
+fn check_list<C: ArchiveContext>(
+    alloc: Global,
+    bytes: &[u8],
+    pos: usize,
+    context: &mut C,
+    room: usize,
+) -> Result<(), Error>
+    requires fits { pos + 8 ≤ length bytes.now }
+    requires range { IsWithin (C.kept context.old) (length bytes.now) }
+    requires within { (C.kept context.old).end ≤ room }
+    ensures moves { Moves (C.kept context.old) result (C.kept context.new) }
+    ensures exact { (names : Names) → KnowsNode names
+        → Checks names bytes.now (at pos (vector node_shape)) (C.kept context.old) result (C.kept context.new) }
+{
+    check_vec_each::<ArchivedNode, C, _>(
+        bytes,
+        pos,
+        context,
+        |c: &mut C, p: usize| -> Result<(), Error>
+            requires fits { p + 24 ≤ length bytes.now }
+            requires range { IsWithin (C.kept c.old) (length bytes.now) }
+            requires within { (C.kept c.old).end + 24 ≤ room }
+            ensures moves { Moves (C.kept c.old) result (C.kept c.new) }
+            ensures exact { (names : Names) → KnowsNode names
+                → Checks names bytes.entry.now (at p node_shape) (C.kept c.old) result (C.kept c.new) }
+        { check_node(alloc, bytes, p, c, room - 24) },
+    )
+}

@@ -1,0 +1,16 @@
+-- What stands in a buffer that is told by another reference to it.
+use Rattle.std.proofs.Common.{◌≡◌, ℕ, List, sym, subst}
+use Rattle.std.specs.Borrow.{Bor}
+use Rattle.archive_shape_layout.specs.Shape.{Shape}
+use Rattle.archive_shape_layout.specs.Content.{Names}
+use Rattle.archive_forms_reading.specs.Parts.{HasValue}
+use Rattle.cabinet_documents.specs.Node.{node_shape}
+use Rattle.cabinet_archived.specs.Known.{KnowsNode}
+use Rattle.cabinet_archived.specs.Kind.{IsTagged}
+
+pub root_has : (a b : Bor (List ℕ)) (p q : ℕ) → b ≡ a → p ≡ q → HasValue node_shape KnowsNode a.now q → (b ≡ a) × HasValue node_shape KnowsNode b.now p
+root_has a b p q e f h =
+    (e, subst (λ (x : Bor (List ℕ)). HasValue node_shape KnowsNode x.now p) (sym e) (subst (λ n. HasValue node_shape KnowsNode a.now n) (sym f) h))
+
+pub part_has : (a b : Bor (List ℕ)) (pos tag : ℕ) (s : Shape) (knows : Names → Type 0) (to : ℕ) → b ≡ a → IsTagged a.now pos tag s knows to → HasValue s knows b.now to
+part_has a b pos tag s knows to e h = subst (λ (x : Bor (List ℕ)). HasValue s knows x.now to) (sym e) h.there

@@ -1,0 +1,42 @@
+//! Tests of nodes that are accepted and read.
+use crate::payloads::{count_in, is_nothing, kind_of, number_in, truth_in};
+use crate::root::root_of;
+use std::test::Fail;
+
+/// A node of its first bytes, with zeros after them.
+const FIVE: [u8; 24] = *b"\x01\0\0\0\0\0\0\0\x05\0\0\0\0\0\0\0\0\0\0\0\0\0\0\0";
+
+const SOME_FIVE: [u8; 48] =
+    *b"\x01\0\0\0\0\0\0\0\x05\0\0\0\0\0\0\0\0\0\0\0\0\0\0\0\x04\0\0\0\x01\0\0\0\xe0\xff\xff\xff\0\0\0\0\0\0\0\0\0\0\0\0";
+
+const SEVEN_AND_NINETEEN: [u8; 72] =
+    *b"\x01\0\0\0\0\0\0\0\x07\0\0\0\0\0\0\0\0\0\0\0\0\0\0\0\x01\0\0\0\0\0\0\0\x13\0\0\0\0\0\0\0\0\0\0\0\0\0\0\0\x05\0\0\0\xcc\xff\xff\xff\x02\0\0\0\0\0\0\0\0\0\0\0\0\0\0\0";
+
+#[test]
+fn payloads_stand_at_their_alignments(rt: HostRuntime) {
+    let alloc = rt.alloc();
+    let yes = *b"\0\x01\0\0\0\0\0\0\0\0\0\0\0\0\0\0\0\0\0\0\0\0\0\0";
+    let inline = *b"\x02\0\0\0coffee\xff\xff\0\0\0\0\0\0\0\0\0\0\0\0";
+    let behind = *b"nine bytes......\x02\0\0\0\x8a\0\0\0\xec\xff\xff\xff\0\0\0\0\0\0\0\0\0\0\0\0";
+    let nothing = *b"\x04\0\0\0\0\0\0\0\0\0\0\0\0\0\0\0\0\0\0\0\0\0\0\0";
+    assert_eq!(rt; kind_of(alloc, &yes), Ok(("bool", 1)));
+    assert_eq!(rt; kind_of(alloc, &FIVE), Ok(("int", 8)));
+    assert_eq!(rt; kind_of(alloc, &inline), Ok(("text", 4)));
+    assert_eq!(rt; kind_of(alloc, &behind), Ok(("text", 20)));
+    assert_eq!(rt; kind_of(alloc, &nothing), Ok(("option", 4)));
+    assert_eq!(rt; kind_of(alloc, &SOME_FIVE), Ok(("option", 28)));
+    assert_eq!(rt; kind_of(alloc, &SEVEN_AND_NINETEEN), Ok(("list", 52)));
+}
+
+#[test]
+fn payloads_are_read(rt: HostRuntime) -> Result<(), Fail> {
+    let alloc = rt.alloc();
+    let yes = *b"\0\x01\0\0\0\0\0\0\0\0\0\0\0\0\0\0\0\0\0\0\0\0\0\0";
+    assert_eq!(rt; truth_in(root_of(alloc, &yes)?), Some(true));
+    assert_eq!(rt; truth_in(root_of(alloc, &FIVE)?), None);
+    assert_eq!(rt; number_in(root_of(alloc, &FIVE)?), Some(5));
+    assert_eq!(rt; is_nothing(root_of(alloc, &SOME_FIVE)?), Some(false));
+    assert_eq!(rt; is_nothing(root_of(alloc, &FIVE)?), None);
+    assert_eq!(rt; count_in(root_of(alloc, &SEVEN_AND_NINETEEN)?), Some(2));
+    Ok(())
+}

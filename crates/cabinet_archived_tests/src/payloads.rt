@@ -1,0 +1,74 @@
+//! What the root holds.
+ghost use Rattle.std.specs.Prelude.{◌≡◌};
+ghost use Rattle.archive_forms_reading.specs.Parts.{HasValue};
+ghost use Rattle.cabinet_documents.specs.Node.{node_shape};
+ghost use Rattle.cabinet_archived.specs.Known.{KnowsNode};
+
+use crate::root::root_of;
+use archive_forms_reading::{ArchivedOption, ArchivedVec, native_of};
+use archive_shape::{Error, Ref};
+use cabinet_archived::{ArchivedKind, ArchivedNode};
+use std::alloc::Global;
+
+/// A kind's name, and where the payload stands.
+fn place_of(kind: ArchivedKind<'_>) -> (&'static str, usize) {
+    match kind {
+        ArchivedKind::Bool(payload) => ("bool", payload.pos()),
+        ArchivedKind::Int(payload) => ("int", payload.pos()),
+        ArchivedKind::Text(payload) => ("text", payload.pos()),
+        ArchivedKind::Maybe(payload) => ("option", payload.pos()),
+        ArchivedKind::List(payload) => ("list", payload.pos()),
+    }
+}
+
+/// The kind of the root, and where its payload stands.
+pub fn kind_of(alloc: Global, bytes: &[u8]) -> Result<(&'static str, usize), Error> {
+    match root_of(alloc, bytes) {
+        Ok(root) => Ok(place_of(ArchivedNode::kind(root))),
+        Err(refusal) => Err(refusal),
+    }
+}
+
+/// The number that a node holds, if it is one.
+pub fn number_in(this: Ref<'_, ArchivedNode>) -> Option<i64>
+    requires { HasValue node_shape KnowsNode this.bytes.now this.pos }
+{
+    let kind = ArchivedNode::kind(this);
+    match kind {
+        ArchivedKind::Int(payload) => Some(native_of(payload)),
+        _ => None,
+    }
+}
+
+/// The truth value that a node holds, if it is one.
+pub fn truth_in(this: Ref<'_, ArchivedNode>) -> Option<bool>
+    requires { HasValue node_shape KnowsNode this.bytes.now this.pos }
+{
+    let kind = ArchivedNode::kind(this);
+    match kind {
+        ArchivedKind::Bool(payload) => Some(native_of(payload)),
+        _ => None,
+    }
+}
+
+/// Whether a node is an option of no node.
+pub fn is_nothing(this: Ref<'_, ArchivedNode>) -> Option<bool>
+    requires { HasValue node_shape KnowsNode this.bytes.now this.pos }
+{
+    let kind = ArchivedNode::kind(this);
+    match kind {
+        ArchivedKind::Maybe(payload) => Some(ArchivedOption::is_none(payload)),
+        _ => None,
+    }
+}
+
+/// How many elements a node has, if it is a list.
+pub fn count_in(this: Ref<'_, ArchivedNode>) -> Option<usize>
+    requires { HasValue node_shape KnowsNode this.bytes.now this.pos }
+{
+    let kind = ArchivedNode::kind(this);
+    match kind {
+        ArchivedKind::List(payload) => Some(ArchivedVec::len(payload)),
+        _ => None,
+    }
+}
