@@ -1,0 +1,3 @@
+pub mod HasLayout
+pub mod Spelling
+pub mod Laws

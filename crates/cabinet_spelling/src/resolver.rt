@@ -1,0 +1,13 @@
+//! What is kept of where the data of a node stands.
+use archive_forms_reading::{BoxResolver, VecResolver};
+use archive_forms_text::StringResolver;
+
+/// Where what a node leads to stands.
+#[derive(Clone, Copy, Debug, PartialEq, Eq)]
+pub enum NodeResolver {
+    /// A truth value or a number, which leads to nothing.
+    Leaf,
+    Text(StringResolver),
+    Maybe(Option<BoxResolver>),
+    List(VecResolver),
+}
