@@ -7,9 +7,9 @@ use Rattle.std.specs.Map.{lookup, set_value}
 use Rattle.std.specs.Str.{bytes_eq}
 use Rattle.cabinet_text_grammar.specs.Keys.{MapKind, kept}
 use Rattle.cabinet_text_grammar.specs.Tree.{Leaf, Tree, just, list, map, more_trees, Pairs, no_pairs, more_pairs}
-use Rattle.cabinet_text_grammar.specs.Path.{Step, key, place, inside, node_at, node_in, node_by}
+use Rattle.cabinet_text_grammar.specs.Path.{Step, key, place, inside, node_at, node_by}
 use Rattle.cabinet_text_grammar.specs.Line as line
-use Rattle.cabinet_text_grammar.specs.Answering.{answer, missing, done, if_there, outcome_there, change, change_in, change_by}
+use Rattle.cabinet_text_grammar.specs.Answering.{answer, missing, if_there, outcome_there, change, change_in, change_by}
 use Rattle.cabinet_text_grammar.proofs.Changes.{only_done_changes}
 use Rattle.cabinet_text_nodes.specs.Answers.{Sets, place_by}
 use Rattle.cabinet_text_nodes.specs.View.{node_tree, node_trees, node_pairs}

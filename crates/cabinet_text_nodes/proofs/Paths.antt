@@ -1,5 +1,5 @@
 -- What a path leads to in a node, by its first step.
-use Rattle.std.proofs.Common.{◌≡◌, ℕ, zero, suc, ◌+◌, ◌<◌, length, get_or, drop, drop-cons, add-one, Bool, true, false, if◌then◌else◌, cond, List, [], ◌∷◌, sym, ap, ◌∙◌, refl, arith, Option, Some, None, Bor, Global, String, Box}
+use Rattle.std.proofs.Common.{◌≡◌, ℕ, zero, suc, ◌+◌, ◌<◌, length, get_or, drop, drop-cons, add-one, Bool, true, false, if◌then◌else◌, cond, List, [], ◌∷◌, sym, ap, ◌∙◌, refl, arith, Option, Some, None, Bor, Global, String}
 use Rattle.std.specs.Prelude.{string_bytes, slice_get}
 use Rattle.std.specs.Option.{option_map, option_copied, option_and_then}
 use Rattle.std.specs.Ordering.{nat_cmp, is_eq}

@@ -5,7 +5,7 @@ use Rattle.std.specs.Coded.{Coded, code_by, coded⊎, coded×, coded_bool, coded
 use Rattle.cabinet_text_grammar.specs.Keys.{MapKind, ordered, hashed, kept}
 use Rattle.cabinet_text_grammar.specs.Tree.{Leaf, truth, number, text, Tree, leaf}
 use Rattle.cabinet_text_grammar.specs.Item.{Item, leaf_item, shared_item, none_item, some_item, list_item, map_item, key_item, items}
-use Rattle.cabinet_text_grammar.proofs.Machine.{State, going, complete, stuck, run}
+use Rattle.cabinet_text_grammar.proofs.Machine.{State, going, complete, run}
 use Rattle.cabinet_text_grammar.proofs.Runs.{run-tree}
 
 -- a leaf's parts, beside which case it is

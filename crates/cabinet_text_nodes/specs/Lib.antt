@@ -4,3 +4,5 @@ pub mod Kinds
 pub mod Lines
 pub mod Outcomes
 pub mod Answers
+pub mod Faults
+pub mod Archived

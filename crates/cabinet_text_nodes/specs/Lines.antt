@@ -1,5 +1,5 @@
 -- Lines that change nothing.
-use Rattle.cabinet_text_grammar.specs.Line.{Line, get, keys, range, set}
+use Rattle.cabinet_text_grammar.specs.Line.{Line, set}
 
 abbrev pub IsQuestion : Line → Type 0
 IsQuestion (set path l) = ⊥

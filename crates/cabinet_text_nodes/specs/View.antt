@@ -1,5 +1,5 @@
 -- The code's types as trees, leaves, steps and lines.
-use Rattle.std.specs.Prelude.{List, [], ◌∷◌, map, Option, Some, None, String, string_bytes}
+use Rattle.std.specs.Prelude.{List, [], ◌∷◌, map, Some, None, String, string_bytes}
 use Rattle.std.specs.Rc.{rc_str_bytes}
 use Rattle.std.specs.declared.alloc.Global.{Global}
 use Rattle.cabinet_text_grammar.specs.Keys as keys

@@ -43,7 +43,7 @@ fn put_leaf(node: &mut Node, leaf: LeafRef<'_>) -> SetAnswer
 }
 
 /// The place of a key. It compares the key with each.
-fn place_of(pairs: &[(String, Node)], key: &str) -> Option<usize>
+pub(crate) fn place_of(pairs: &[(String, Node)], key: &str) -> Option<usize>
     ensures place { result ≡ place_by (node_pairs pairs.now) key.now }
     ensures within { IfSome result (λ place. place < length pairs.now) }
 {

@@ -1,16 +1,19 @@
 //! A document, which begins at its root.
-ghost use Rattle.std.specs.Prelude.{◌≡◌};
+ghost use Rattle.std.specs.Prelude.{◌≡◌, IfOk, IfErr};
 ghost use Rattle.cabinet_text_grammar.specs.Tree.{IsDocument};
 ghost use Rattle.cabinet_text_grammar.specs.Answering.{answer, change};
 ghost use Rattle.cabinet_text_grammar.specs.Line.{set};
+ghost use Rattle.cabinet_text_nodes.specs.Faults.{IsRefusedFor};
 ghost use Rattle.cabinet_text_nodes.specs.Outcomes.{outcome_of};
 ghost use Rattle.cabinet_text_nodes.specs.View.{node_tree, leaf_of, path_of};
 
 use crate::answer::SetAnswer;
 use crate::change::change_at;
+use crate::fault::fault_of;
 use crate::leaf::Leaf;
 use crate::line::Step;
 use crate::node::Node;
+use crate::refusal::DocumentRefusal;
 use std::marker::Model;
 
 /// A document.
@@ -33,7 +36,24 @@ impl Model for Document {
     ghost invariant = { λ d. IsDocument (node_tree d.root) };
 }
 
+/// The most containers that may lie in one another.
+const MOST: usize = 64;
+
 impl Document {
+    /// The document of a node. That a container lies too deep is told before a repeated key, wherever they stand.
+    /// Where there is memory for a set of the keys of a map, its keys are looked up there; else each two are
+    /// compared, so that it never fails for want of memory.
+    pub fn new(root: Node) -> Result<Document, DocumentRefusal>
+        ensures document { IfOk result (λ document. document ≡ node_tree root) }
+        ensures refusal { IfErr result (IsRefusedFor 64 (node_tree root)) }
+        ensures none { IfErr result (λ _. IsDocument (node_tree root) → ⊥) }
+    {
+        match fault_of(&root, MOST) {
+            Some(refusal) => Err(refusal),
+            None => Ok(Document::of_root(root)),
+        }
+    }
+
     /// The document of a node that is known to be one's root: at most 64 containers lie in one another, and the keys
     /// of each kept map are distinct.
     pub fn of_root(root: Node) -> Document

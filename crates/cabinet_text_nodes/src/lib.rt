@@ -2,12 +2,16 @@
 #![tactic(auto)]
 
 mod answer;
+mod archived;
 mod change;
 mod document;
+mod fault;
 mod head;
 mod leaf;
 mod line;
 mod node;
+mod refusal;
+mod repeated;
 
 pub use answer::{Asked, SetAnswer};
 pub use document::Document;
@@ -15,3 +19,4 @@ pub use head::{Head, HeadRef};
 pub use leaf::{Leaf, LeafRef, fits};
 pub use line::{Line, LineRefusal, Step};
 pub use node::{Kind, Node};
+pub use refusal::DocumentRefusal;

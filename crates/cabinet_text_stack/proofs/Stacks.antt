@@ -1,10 +1,10 @@
 -- The stack of the code as open containers.
-use Rattle.std.proofs.Common.{◌≡◌, ◌≢◌, ℕ, ◌+◌, List, [], ◌∷◌, ◌++◌, length, sym, ap, ◌∙◌, refl, arith, inl, inr, Vec, Global, String, Box, Some}
+use Rattle.std.proofs.Common.{◌≡◌, ◌≢◌, ℕ, ◌+◌, List, [], ◌∷◌, ◌++◌, length, sym, ap, ◌∙◌, refl, arith, inl, inr, Vec, Global, String}
 use Rattle.std.specs.Prelude.{string_bytes, string_cmp}
 use Rattle.std.specs.declared.cmp.Ordering.TheVariants.{Less, Greater}
 use Rattle.std.specs.Ordering.{nat_cmp, ordering_reverse}
 use Rattle.std.specs.Cmp.Lexicographic.{slice_cmp}
-use Rattle.std.specs.BTreeMap.{BTreeMap, insert_entry}
+use Rattle.std.specs.BTreeMap.{insert_entry}
 use Rattle.std.proofs.lemmas.Cmp.{nat_list_cmp_total}
 use Rattle.std.proofs.lemmas.Bool.Decides.{eqb_tells}
 use Rattle.cabinet_text_grammar.specs.Due.{a_head, due_in}
@@ -15,10 +15,9 @@ use Rattle.cabinet_text_grammar.specs.Tree as tree
 use Rattle.cabinet_text_grammar.specs.Tree.{Tree, Trees, Pairs, no_pairs, more_pairs, ArePairs}
 use Rattle.cabinet_text_grammar.proofs.Legal.{head_due}
 use Rattle.cabinet_text_grammar.proofs.Machine.{going, then_tree, then_pair, plug}
-use Rattle.cabinet_text_nodes.specs.View.{view_step, node_tree, node_trees, node_pairs}
-use Rattle.cabinet_text_nodes.specs.declared.node.Node.{Node, fold-roll-Node}
-use Rattle.cabinet_text_nodes.specs.declared.node.Node.TheVariants as Node'
-use Rattle.cabinet_text_nodes.specs.declared.node.Node.TheOpen.{Node-F}
+use Rattle.cabinet_text_nodes.specs.View.{node_tree, node_trees, node_pairs}
+use Rattle.cabinet_text_nodes.specs.declared.node.Node.{Node}
+use Rattle.cabinet_text_nodes.proofs.Views.{count-node_trees, pair_count-node_pairs}
 use Rattle.cabinet_text_stack.specs.View.{frame_of, stack_onto, stack_of}
 use Rattle.cabinet_text_stack.specs.declared.frame.Frame.{Frame}
 use Rattle.cabinet_text_stack.specs.declared.frame.Frame.TheVariants as code_frame
@@ -56,32 +55,12 @@ pub node_trees-push : (ns : List Node) (n : Node) → node_trees (ns ++ n ∷ []
 node_trees-push [] n = refl
 node_trees-push (m ∷ ns) n = ap (tree.more_trees (node_tree m)) (node_trees-push ns n)
 
-pub count-node_trees : (ns : List Node) → tree.count (node_trees ns) ≡ length ns
-count-node_trees [] = refl
-count-node_trees (n ∷ ns) = omega (arith, count-node_trees ns)
-
-pub node_tree-list : (v : Vec Node Global) → node_tree (Node'.List v) ≡ tree.list (node_trees v.items)
-node_tree-list v = ap node_tree (sym (Node'.rolls-List v)) ∙ fold-roll-Node Tree view_step (Node-F.List v)
-
-pub node_tree-some : (b : Box Node Global) → node_tree (Node'.Maybe (Some b)) ≡ tree.just (node_tree b.value)
-node_tree-some b = ap node_tree (sym (Node'.rolls-Maybe (Some b))) ∙ fold-roll-Node Tree view_step (Node-F.Maybe (Some b))
-
-pub node_tree-ordered : (m : BTreeMap (String Global) Node) → node_tree (Node'.Ordered m) ≡ tree.map ordered (node_pairs m.entries)
-node_tree-ordered m = ap node_tree (sym (Node'.rolls-Ordered m)) ∙ fold-roll-Node Tree view_step (Node-F.Ordered m)
-
-pub node_tree-hashed : (m : BTreeMap (String Global) Node) → node_tree (Node'.Hashed m) ≡ tree.map hashed (node_pairs m.entries)
-node_tree-hashed m = ap node_tree (sym (Node'.rolls-Hashed m)) ∙ fold-roll-Node Tree view_step (Node-F.Hashed m)
-
 pub counted_items : (v : Vec Node Global) → length v.items ≡ v.len
 counted_items v = omega (arith, v.ok)
 
 pub node_pairs-push : (ps : List (String Global × Node)) (k : String Global) (n : Node) → node_pairs (ps ++ (k, n) ∷ []) ≡ then_pair (node_pairs ps) (string_bytes k) (node_tree n)
 node_pairs-push [] k n = refl
 node_pairs-push (p ∷ ps) k n = ap (tree.more_pairs (string_bytes p.0) (node_tree p.1)) (node_pairs-push ps k n)
-
-pub count-node_pairs : (ps : List (String Global × Node)) → tree.pair_count (node_pairs ps) ≡ length ps
-count-node_pairs [] = refl
-count-node_pairs (p ∷ ps) = omega (arith, count-node_pairs ps)
 
 -- a container that is full by a node, and one that is not
 pub list_full : (ns all : List Node) (n : Node) (count : ℕ) (outer : List frame.Frame) → all ≡ ns ++ n ∷ [] → length all ≡ count → plug (tree.list (node_trees all)) outer ≡ plug (node_tree n) (frame.in_list count (node_trees ns) ∷ outer)
@@ -105,7 +84,7 @@ list_more ns all n count outer h short =
 pub pairs_full : (kind : MapKind) (ps all : List (String Global × Node)) (k : String Global) (n : Node) (count : ℕ) (outer : List frame.Frame) → all ≡ ps ++ (k, n) ∷ [] → length all ≡ count → plug (tree.map kind (node_pairs all)) outer ≡ plug (node_tree n) (frame.at_value kind count (node_pairs ps) (string_bytes k) ∷ outer)
 pairs_full kind ps all k n count outer h full =
     let trees : node_pairs all ≡ then_pair (node_pairs ps) (string_bytes k) (node_tree n) = ap node_pairs h ∙ node_pairs-push ps k n in
-    let counted : tree.pair_count (then_pair (node_pairs ps) (string_bytes k) (node_tree n)) ≡ count = ap tree.pair_count (sym trees) ∙ count-node_pairs all ∙ full in
+    let counted : tree.pair_count (then_pair (node_pairs ps) (string_bytes k) (node_tree n)) ≡ count = ap tree.pair_count (sym trees) ∙ pair_count-node_pairs all ∙ full in
     elim (eqb_tells (tree.pair_count (then_pair (node_pairs ps) (string_bytes k) (node_tree n))) count) [
       | inl is ↦ rw is.0 (ap (λ ts. plug (tree.map kind ts) outer) trees)
       | inr differs ↦ absurd (differs.1 counted)
@@ -114,7 +93,7 @@ pairs_full kind ps all k n count outer h full =
 pub pairs_more : (kind : MapKind) (ps all : List (String Global × Node)) (k : String Global) (n : Node) (count : ℕ) (outer : List frame.Frame) → all ≡ ps ++ (k, n) ∷ [] → length all ≢ count → going (frame.at_key kind count (node_pairs all) ∷ outer) ≡ plug (node_tree n) (frame.at_value kind count (node_pairs ps) (string_bytes k) ∷ outer)
 pairs_more kind ps all k n count outer h short =
     let trees : node_pairs all ≡ then_pair (node_pairs ps) (string_bytes k) (node_tree n) = ap node_pairs h ∙ node_pairs-push ps k n in
-    let counted : tree.pair_count (then_pair (node_pairs ps) (string_bytes k) (node_tree n)) ≡ length all = ap tree.pair_count (sym trees) ∙ count-node_pairs all in
+    let counted : tree.pair_count (then_pair (node_pairs ps) (string_bytes k) (node_tree n)) ≡ length all = ap tree.pair_count (sym trees) ∙ pair_count-node_pairs all in
     elim (eqb_tells (tree.pair_count (then_pair (node_pairs ps) (string_bytes k) (node_tree n))) count) [
       | inl is ↦ absurd (short (sym counted ∙ is.1))
       | inr differs ↦ rw differs.0 (ap (λ ts. going (frame.at_key kind count ts ∷ outer)) trees)

@@ -1,14 +1,13 @@
 use Rattle.std.proofs.Common.{◌∷◌, ap, sym, ◌∙◌, refl, subst, ◌<◌, length, Some, None, MutBor}
 use Rattle.cabinet_text_nodes.specs.declared.node.Node.{Node}
-use Rattle.std.specs.Prelude.{string_bytes}
 use Rattle.cabinet_text_grammar.specs.Keys.{ordered, hashed, kept}
-use Rattle.cabinet_text_grammar.specs.Tree.{just, list, map}
-use Rattle.cabinet_text_grammar.specs.Path.{key, place}
+use Rattle.cabinet_text_grammar.specs.Tree.{just, map}
+use Rattle.cabinet_text_grammar.specs.Path.{key}
 use Rattle.cabinet_text_nodes.specs.Answers.{place_by}
-use Rattle.cabinet_text_nodes.specs.View.{lent_leaf, node_tree, node_trees, node_pairs, step_of, path_of}
+use Rattle.cabinet_text_nodes.specs.View.{lent_leaf, node_tree, node_pairs, step_of, path_of}
 use Rattle.std.specs.Box.{with_value}
 use Rattle.cabinet_text_nodes.specs.declared.node.Node.TheVariants as node_of
-use Rattle.cabinet_text_nodes.proofs.Views.{node_tree-some, node_tree-none, node_tree-ordered, node_tree-hashed, node_tree-kept}
+use Rattle.cabinet_text_nodes.proofs.Views.{node_tree-some, node_tree-ordered, node_tree-hashed, node_tree-kept}
 use Rattle.cabinet_text_nodes.proofs.Paths.{item_found}
 use Rattle.cabinet_text_nodes.proofs.Changes.{sets-moved, sets_nothing, sets_inside, sets_element, sets_value, sets_no_element, sets_no_value, sets_kept_value, unplaced}
 use Rattle.cabinet_text_nodes.proofs.change.+change.Goals as goal

@@ -6,8 +6,9 @@ use Rattle.cabinet_text_grammar.proofs.Machine.{plug, going}
 use Rattle.cabinet_text_nodes.specs.View.{node_tree, node_pairs}
 use Rattle.cabinet_text_stack.specs.View.{kind_of, entries_of, stack_of}
 use Rattle.cabinet_text_stack.specs.declared.frame.Frame.TheVariants as frame
-use Rattle.cabinet_text_stack.proofs.Stacks.{opened, stack_of-push, list_full, list_more, pairs_full, pairs_more, node_tree-list, node_tree-some, counted_items}
+use Rattle.cabinet_text_stack.proofs.Stacks.{opened, stack_of-push, list_full, list_more, pairs_full, pairs_more, counted_items}
 use Rattle.cabinet_text_stack.proofs.taking.put_in.Goals as goal
+use Rattle.cabinet_text_nodes.proofs.Views.{node_tree-list, node_tree-some}
 
 pub loop-frame-preserved-in-Maybe : goal.loop-frame-preserved-in-Maybe
 loop-frame-preserved-in-Maybe c =

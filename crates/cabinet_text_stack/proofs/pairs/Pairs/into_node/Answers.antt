@@ -2,8 +2,8 @@ use Rattle.std.proofs.Common.{ap, sym, ◌∙◌}
 use Rattle.cabinet_text_grammar.specs.Tree.{map}
 use Rattle.cabinet_text_nodes.specs.View.{node_pairs}
 use Rattle.cabinet_text_stack.specs.View.{kind_of, entries_of}
-use Rattle.cabinet_text_stack.proofs.Stacks.{node_tree-ordered, node_tree-hashed}
 use Rattle.cabinet_text_stack.proofs.pairs.Pairs.into_node.Goals as goal
+use Rattle.cabinet_text_nodes.proofs.Views.{node_tree-ordered, node_tree-hashed}
 
 pub returns-in-Ordered : goal.returns-in-Ordered
 returns-in-Ordered c = node_tree-ordered c.in-Ordered.pairs ∙ ap (λ ps. map (kind_of ps) (node_pairs (entries_of ps))) (sym c.in-Ordered.is)

@@ -1,0 +1,231 @@
+-- What is resolved of a node, by its kind.
+use Rattle.std.proofs.Common.{◌≡◌, ℕ, ℤ, Bool, true, ◌+◌, ◌≤◌, ◌<◌, ◌^◌, set, List, [], ◌∷◌, ◌++◌, length, Option, Some, None, Ok, Err, refl, sym, ap, subst, ◌∙◌, arith, ⊎_elim, inl, inr, ◌⊎◌, Global, String, Box, Vec}
+use Rattle.std.specs.Prelude.{Result, MatchResult, string_bytes}
+use Rattle.std.specs.Int.{w32, w64, to_le_bytes}
+use Rattle.archive_shape_layout.specs.Bytes.{align_up}
+use Rattle.archive_shape_layout.specs.Shape.{Shape, size_of, align_of}
+use Rattle.archive_shape_layout.specs.Shape.Shape.{number, truth, text, option, choice, vector}
+use Rattle.archive_shape_canonical.specs.FirstFit.{first_fit}
+use Rattle.archive_shape_references.specs.Bytes.{HasBytes, zeros, overwrite}
+use Rattle.archive_shape_writing.specs.declared.error.Error.{Error}
+use Rattle.archive_shape_writing.specs.declared.error.Error.TheVariants.{IsizeOverflow, LengthTooLarge, InvalidTag}
+use Rattle.archive_forms_spelling.specs.State.{State}
+use Rattle.archive_forms_spelling.specs.Spelling.{Spelling}
+use Rattle.archive_forms_spelling.specs.Payloads.{payload_spelling}
+use Rattle.archive_forms_spelling.specs.Pointers.{FitsOffset, offset_bytes, box_spelling}
+use Rattle.archive_forms_spelling.specs.Levels.{levels_spelling}
+use Rattle.archive_forms_spelling.specs.Serializing.{Resolves}
+use Rattle.archive_forms_spelling.proofs.Levels.{option_box_sized}
+use Rattle.archive_forms_spelling.proofs.Options.{option_spells}
+use Rattle.archive_forms_spelling.proofs.Pointers.{box_spells, slice_spells}
+use Rattle.archive_forms_spelling.proofs.Texts.{text_spells}
+use Rattle.archive_forms_spelling.proofs.Views.{kept_spells}
+use Rattle.archive_forms_reading.specs.declared.resolving.BoxResolver.{BoxResolver}
+use Rattle.archive_forms_reading.specs.declared.resolving.VecResolver.{VecResolver}
+use Rattle.archive_forms_text.specs.declared.resolving.StringResolver.{StringResolver}
+use Rattle.archive_forms_writing.proofs.Joining.{unfilled}
+use Rattle.archive_forms_writing.proofs.Results.{payload_resolved}
+use Rattle.cabinet_text_grammar.specs.Tree as tree
+use Rattle.cabinet_text_grammar.specs.Tree.{Tree, depth}
+use Rattle.cabinet_documents.specs.Node.{node_shape, payloads, KnowsNode}
+use Rattle.cabinet_spelling.specs.declared.resolver.NodeResolver.{NodeResolver}
+use Rattle.cabinet_spelling.specs.declared.resolver.NodeResolver.TheVariants as resolver
+use Rattle.cabinet_spelling.specs.Spelling.{truth_spelling, number_spelling, string_spelling, boxed_shape, boxed_spelling, maybe_spelling, list_spelling, text_in, maybe_in, list_in, node_of, refused, node_level, node_spelling}
+use Rattle.cabinet_spelling.proofs.Levels.{node_spells_law}
+use Rattle.cabinet_text_nodes.specs.Archived.{archived_as, tree_within, trees_within}
+use Rattle.cabinet_text_nodes.specs.View.{node_tree, node_trees}
+use Rattle.cabinet_text_nodes.specs.declared.node.Node.{Node}
+use Rattle.cabinet_text_nodes.specs.declared.node.Node.TheVariants as node
+use Rattle.cabinet_text_nodes.proofs.Views.{node_tree-bool, node_tree-int, node_tree-text, node_tree-none, node_tree-some, node_tree-list}
+
+-- ---- payloads by themselves
+
+-- a box is resolved where its offset is written
+pub box_resolved :
+    (w : Spelling Tree NodeResolver) (x : Tree) (r : BoxResolver) (pos start : ℕ) (old new : List ℕ) (result : Result (Unit {0}) Error)
+    → MatchResult result (λ _. FitsOffset pos r.pos × (new ≡ overwrite old start (offset_bytes pos r.pos))) (λ e. (e ≡ IsizeOverflow) × ((FitsOffset pos r.pos → ⊥) × (new ≡ old)))
+    → Resolves (boxed_spelling w) x r pos start old new result
+box_resolved w x r pos start old new (Ok u) h = h
+box_resolved w x r pos start old new (Err e) h = (h.1.0, h.0)
+
+-- an option for which no box is kept is zero
+pub unkept_resolved :
+    (w : Spelling Tree NodeResolver) (o : Option Tree) (k : Option BoxResolver) (bytes : List ℕ) (start pos : ℕ) → k ≡ None → HasBytes bytes start (zeros 8)
+    → Resolves (maybe_spelling w) o k pos start bytes bytes (Ok tt)
+unkept_resolved w o k bytes start pos is blank =
+    let P : ℕ → Type 0 = λ n. HasBytes bytes start (zeros n) in
+    let zero_over = unfilled bytes start (size_of (option boxed_shape)) (subst P (sym (option_box_sized node_shape)) blank) in
+    subst (λ q. Resolves (maybe_spelling w) o q pos start bytes bytes (Ok tt)) (sym is) (by o (sym zero_over))
+  where
+    by : (o : Option Tree) → bytes ≡ overwrite bytes start (zeros (size_of (option boxed_shape))) → Resolves (maybe_spelling w) o None pos start bytes bytes (Ok tt)
+    by None same = (tt, same)
+    by (Some t) same = (tt, same)
+
+length-trees_in : (ns : List Node) → length (trees_within ns) ≡ length ns
+length-trees_in ns = by ns where
+  by : (ms : List Node) → length (trees_within ms) ≡ length ms
+  by [] = refl
+  by (m ∷ ms) = omega (arith, by ms)
+
+-- a vector is resolved where its offset and its length are written
+pub vec_resolved :
+    (w : Spelling Tree NodeResolver) (ns : List Node) (len : ℕ) (r : VecResolver) (pos start : ℕ) (old new : List ℕ) (result : Result (Unit {0}) Error)
+    → len ≡ length ns
+    → MatchResult result
+    (λ _. (FitsOffset pos r.pos × (len < 2 ^ 32)) × (new ≡ overwrite old start (offset_bytes pos r.pos ++ to_le_bytes w32 len)))
+    (λ e. (((e ≡ LengthTooLarge) × (2 ^ 32 ≤ len)) ⊎ ((e ≡ IsizeOverflow) × (len < 2 ^ 32) × (FitsOffset pos r.pos → ⊥))) × (new ≡ old))
+    → Resolves (list_spelling w) (trees_within ns) r pos start old new result
+vec_resolved w ns len r pos start old new result is h =
+    by result (subst (λ n. MatchResult result
+    (λ _. (FitsOffset pos r.pos × (n < 2 ^ 32)) × (new ≡ overwrite old start (offset_bytes pos r.pos ++ to_le_bytes w32 n)))
+    (λ e. (((e ≡ LengthTooLarge) × (2 ^ 32 ≤ n)) ⊎ ((e ≡ IsizeOverflow) × (n < 2 ^ 32) × (FitsOffset pos r.pos → ⊥))) × (new ≡ old))) (is ∙ sym (length-trees_in ns)) h)
+  where
+    by :
+        (result : Result (Unit {0}) Error)
+        → MatchResult result
+        (λ _. (FitsOffset pos r.pos × (length (trees_within ns) < 2 ^ 32)) × (new ≡ overwrite old start (offset_bytes pos r.pos ++ to_le_bytes w32 (length (trees_within ns)))))
+        (λ e. (((e ≡ LengthTooLarge) × (2 ^ 32 ≤ length (trees_within ns))) ⊎ ((e ≡ IsizeOverflow) × (length (trees_within ns) < 2 ^ 32) × (FitsOffset pos r.pos → ⊥))) × (new ≡ old))
+        → Resolves (list_spelling w) (trees_within ns) r pos start old new result
+    by (Ok u) h = h
+    by (Err e) h = ⊎_elim (λ k. inr (k.1, k.0)) (λ k. inl (k.2, k.0)) h.0
+
+-- ---- payloads in nodes
+
+-- where a payload lies in a node
+pub record KindPlace (s : Shape) (offset : ℕ) : Type 0 where
+  pub first : 1 ≤ offset
+  pub at : align_up 1 (align_of s) ≡ offset
+  pub fits : offset + size_of s ≤ 24
+
+pub truth_place : KindPlace truth 1
+unfolding align_up
+truth_place = record { first = omega arith; at = refl; fits = omega arith }
+
+pub number_place : KindPlace (number w64 true) 8
+unfolding align_up
+number_place = record { first = omega arith; at = refl; fits = omega arith }
+
+pub text_place : KindPlace text 4
+unfolding align_up
+text_place = record { first = omega arith; at = refl; fits = omega arith }
+
+pub maybe_place : KindPlace (option boxed_shape) 4
+unfolding align_up
+maybe_place = record { first = omega arith; at = refl; fits = omega arith }
+
+pub list_place : KindPlace (vector node_shape) 4
+unfolding align_up
+list_place = record { first = omega arith; at = refl; fits = omega arith }
+
+module _ (r : NodeResolver) (bytes set_bytes new final : List ℕ) (start pos from there : ℕ) (result : Result (Unit {0}) Error)
+    (room : start + 24 ≤ length bytes) (blank : HasBytes bytes start (zeros 24)) (ends : new ≡ final) where
+  -- a payload that is resolved behind its tag is the node's
+  kind_resolved :
+      {A R : Type 0} (tag offset : ℕ) (s : Shape) (w : Spelling A R) (make : R → NodeResolver) (get : NodeResolver → R) → KindPlace s offset
+      → (x : A) (t : Tree) → ((q : R) (p : ℕ) → w.own_fits x q p → length (w.own x q p) ≡ size_of s)
+      → set_bytes ≡ set bytes start tag → from ≡ start + offset → there ≡ pos + offset
+      → (k : R) → k ≡ get r
+      → Resolves w x k there from set_bytes new result
+      → Resolves (node_of tag s w make get x) t r pos start bytes final result
+  unfolding align_up
+  kind_resolved tag offset s w make get place x t sized is_set is_from is_there k is h =
+      let here = subst (λ q. Resolves w x q there from set_bytes new result) is h in
+      let behind = payload_resolved w tag offset 24 (size_of s) place.first place.fits bytes set_bytes new final start pos from there x (get r) result (sized (get r)) room blank is_set is_from is_there ends here in
+      subst (λ n. Resolves (payload_spelling tag n 24 w) x (get r) pos start bytes final result) (sym place.at) behind
+
+  -- of whatever node has the tree
+  as_tree : (n : Node) (t : Tree) → node_tree n ≡ t → Resolves node_spelling t r pos start bytes final result → Resolves archived_as n r pos start bytes final result
+  as_tree n t is h = subst (λ u. Resolves node_spelling u r pos start bytes final result) (sym is) h
+
+  pub truth_resolved :
+      (n : Node) (b : Bool) → n ≡ node.Bool b
+      → set_bytes ≡ set bytes start 0 → from ≡ start + 1 → there ≡ pos + 1
+      → Resolves truth_spelling b tt there from set_bytes new result
+      → Resolves archived_as n r pos start bytes final result
+  truth_resolved n b is is_set is_from is_there h =
+      let t = tree.leaf (tree.truth b) in
+      as_tree n t (ap node_tree is ∙ node_tree-bool b)
+      (kind_resolved 0 1 truth truth_spelling (λ _. resolver.Leaf) (λ _. tt) truth_place b t (λ q p f. f.1) is_set is_from is_there tt refl h)
+
+  pub number_resolved :
+      (n : Node) (z : ℤ) → n ≡ node.Int z
+      → set_bytes ≡ set bytes start 1 → from ≡ start + 8 → there ≡ pos + 8
+      → Resolves number_spelling z tt there from set_bytes new result
+      → Resolves archived_as n r pos start bytes final result
+  number_resolved n z is is_set is_from is_there h =
+      let t = tree.leaf (tree.number z) in
+      as_tree n t (ap node_tree is ∙ node_tree-int z)
+      (kind_resolved 1 8 (number w64 true) number_spelling (λ _. resolver.Leaf) (λ _. tt) number_place z t (λ q p f. f.1) is_set is_from is_there tt refl h)
+
+  pub text_resolved :
+      (n : Node) (s : String Global) → n ≡ node.Text s
+      → set_bytes ≡ set bytes start 2 → from ≡ start + 4 → there ≡ pos + 4
+      → (k : StringResolver) → k ≡ text_in r
+      → Resolves string_spelling (string_bytes s) k there from set_bytes new result
+      → Resolves archived_as n r pos start bytes final result
+  text_resolved n s is is_set is_from is_there k kept h =
+      let x = string_bytes s in
+      let t = tree.leaf (tree.text x) in
+      as_tree n t (ap node_tree is ∙ node_tree-text s)
+      (kind_resolved 2 4 text string_spelling resolver.Text text_in text_place x t (λ q p f. (text_spells (first_fit (λ _. 0)) KnowsNode x).sized q.pos p f) is_set is_from is_there k kept h)
+
+  -- the own bytes of an option are the same however the node in it is archived
+  maybe_alike :
+      (w u : Spelling Tree NodeResolver) (offset size : ℕ) (o : Option Tree) (q : Option BoxResolver)
+      → Resolves (payload_spelling 4 offset size (maybe_spelling w)) o q pos start bytes final result
+      → Resolves (payload_spelling 4 offset size (maybe_spelling u)) o q pos start bytes final result
+  maybe_alike w u offset size None None h = h
+  maybe_alike w u offset size None (Some q) h = h
+  maybe_alike w u offset size (Some t) None h = h
+  maybe_alike w u offset size (Some t) (Some q) h = h
+
+  pub maybe_resolved :
+      (n : Node) (o : Option (Box Node Global)) → n ≡ node.Maybe o
+      → set_bytes ≡ set bytes start 4 → from ≡ start + 4 → there ≡ pos + 4
+      → (k : Option BoxResolver) → k ≡ maybe_in r
+      → Resolves (maybe_spelling node_spelling) (tree_within o) k there from set_bytes new result
+      → Resolves archived_as n r pos start bytes final result
+  maybe_resolved n o is is_set is_from is_there k kept h = by o is h
+    where
+      size : ℕ
+      size = size_of (choice payloads)
+
+      offset : ℕ
+      offset = align_up 1 (align_of (option boxed_shape))
+
+      inside : (x : Option Tree) (t : Tree) → Resolves (maybe_spelling node_spelling) x k there from set_bytes new result
+          → Resolves (payload_spelling 4 offset size (maybe_spelling (levels_spelling node_level refused (depth t)))) x (maybe_in r) pos start bytes final result
+      inside x t h =
+          let fit = first_fit (λ _. 0) in
+          let boxes = kept_spells fit boxed_shape KnowsNode (λ n. record { pos = n }) (λ r. r.pos) (λ r. refl) (box_spelling node_shape node_spelling) (box_spells fit node_shape KnowsNode node_spelling (node_spells_law fit)) in
+          maybe_alike node_spelling (levels_spelling node_level refused (depth t)) offset size x (maybe_in r)
+          (kind_resolved 4 4 (option boxed_shape) (maybe_spelling node_spelling) resolver.Maybe maybe_in maybe_place x t
+          (λ q p f. (option_spells fit boxed_shape KnowsNode (boxed_spelling node_spelling) boxes x).sized q p f) is_set is_from is_there k kept h)
+
+      by : (o : Option (Box Node Global)) → n ≡ node.Maybe o → Resolves (maybe_spelling node_spelling) (tree_within o) k there from set_bytes new result → Resolves archived_as n r pos start bytes final result
+      by None is h = as_tree n tree.nothing (ap node_tree is ∙ node_tree-none) (inside None tree.nothing h)
+      by (Some b) is h = let t = tree.just (node_tree b.value) in as_tree n t (ap node_tree is ∙ node_tree-some b) (inside (Some (node_tree b.value)) t h)
+
+  pub list_resolved :
+      (n : Node) (v : Vec Node Global) → n ≡ node.List v
+      → set_bytes ≡ set bytes start 5 → from ≡ start + 4 → there ≡ pos + 4
+      → (k : VecResolver) → k ≡ list_in r
+      → Resolves (list_spelling node_spelling) (trees_within v.items) k there from set_bytes new result
+      → Resolves archived_as n r pos start bytes final result
+  list_resolved n v is is_set is_from is_there k kept h =
+      let fit = first_fit (λ _. 0) in
+      let t = tree.list (node_trees v.items) in
+      let x = trees_within v.items in
+      as_tree n t (ap node_tree is ∙ node_tree-list v)
+      (kind_resolved 5 4 (vector node_shape) (list_spelling node_spelling) resolver.List list_in list_place x t
+      (λ q p f. (slice_spells fit node_shape KnowsNode node_spelling (node_spells_law fit) x).sized q.pos p f) is_set is_from is_there k kept h)
+
+-- a node whose kind has no layout is refused
+pub own_refused_as : (n : Node) (t : Tree) (r : NodeResolver) (pos : ℕ) → node_tree n ≡ t → node_spelling.own_refused t r pos InvalidTag → archived_as.own_refused n r pos InvalidTag
+own_refused_as n t r pos is h = subst (λ u. node_spelling.own_refused u r pos InvalidTag) (sym is) h
+
+-- what is kept of a text was made of it
+pub text_made : (n : Node) (s : String Global) (r : NodeResolver) (k : StringResolver) → n ≡ node.Text s → k ≡ text_in r
+    → (st : State) × (r ≡ archived_as.resolver n st) → (st : State) × (k ≡ string_spelling.resolver (string_bytes s) st)
+text_made n s r k is kept made =
+    (made.0, kept ∙ ap text_in (made.1 ∙ ap (λ t. node_spelling.resolver t made.0) (ap node_tree is ∙ node_tree-text s)))

@@ -1,0 +1,215 @@
+-- What is written of a node, by its kind.
+use Rattle.std.proofs.Common.{◌≡◌, ℕ, zero, suc, ◌+◌, ◌-◌, ◌≤◌, ◌<◌, ◌^◌, ◌⊎◌, List, [], ◌∷◌, ◌++◌, length, map, get_or, append-nil, inr, Option, Some, None, Result, Ok, Err, refl, sym, ap, subst, ◌∙◌, arith, Global, String, Box, Vec}
+use Rattle.std.specs.Prelude.{string_bytes}
+use Rattle.std.specs.Int.{w32, to_le_bytes}
+use Rattle.std.proofs.Math.Nat.{le-max_left, le-max_right}
+use Rattle.archive_shape_layout.specs.Bytes.{align_up}
+use Rattle.archive_shape_layout.specs.Shape.{Shape, size_of, align_of}
+use Rattle.archive_shape_layout.specs.Value.Value.{group}
+use Rattle.archive_shape_layout.specs.Value.Values.{more_values}
+use Rattle.archive_shape_references.specs.Bytes.{zeros}
+use Rattle.archive_shape_writing.specs.Writing.{WriterMembers}
+use Rattle.archive_shape_writing.specs.declared.error.Error.{Error}
+use Rattle.archive_shape_writing.specs.declared.error.Error.TheVariants.{IsizeOverflow, LengthTooLarge, PositionTooLarge, InvalidTag}
+use Rattle.archive_forms_spelling.specs.State.{State, Keys}
+use Rattle.archive_forms_spelling.specs.Spelling.{Spelling, state_after}
+use Rattle.archive_forms_spelling.specs.Forms.{seen_as, kept_as}
+use Rattle.archive_forms_spelling.specs.Regions.{state_after_all, values, plain_values, all_keyed_by, pieces, owns, pieces_fit, pieces_refused, owns_fit, owns_refused, region_at}
+use Rattle.archive_forms_spelling.specs.Pointers.{offset_bytes, FitsOffset, slice_spelling}
+use Rattle.archive_forms_spelling.specs.Serializing.{Serializes}
+use Rattle.archive_forms_spelling.proofs.Agreeing.{said, serializes_alike}
+use Rattle.archive_forms_writing.specs.Owned.{vec_spelling}
+use Rattle.archive_forms_writing.specs.Steps.{IsElement}
+use Rattle.archive_forms_reading.specs.declared.resolving.BoxResolver.{BoxResolver}
+use Rattle.archive_forms_reading.specs.declared.resolving.VecResolver.{VecResolver}
+use Rattle.archive_forms_text.specs.declared.resolving.StringResolver.{StringResolver}
+use Rattle.cabinet_text_grammar.specs.Tree as tree
+use Rattle.cabinet_text_grammar.specs.Keys.{MapKind}
+use Rattle.cabinet_text_grammar.specs.Tree.{Tree, Pairs, depth}
+use Rattle.cabinet_documents.specs.Node.{node_shape}
+use Rattle.cabinet_spelling.specs.declared.resolver.NodeResolver.{NodeResolver}
+use Rattle.cabinet_spelling.specs.declared.resolver.NodeResolver.TheVariants as resolver
+use Rattle.cabinet_spelling.specs.Spelling.{string_spelling, maybe_spelling, list_spelling, trees_in, refused, node_level, node_spelling}
+use Rattle.cabinet_spelling.proofs.Agreeing.{one_level_is_written_law}
+use Rattle.cabinet_text_nodes.specs.Archived.{archived_as, tree_within, trees_within, most_within}
+use Rattle.cabinet_text_nodes.specs.View.{trees_of, node_tree, node_trees}
+use Rattle.cabinet_text_nodes.specs.declared.node.Node.{Node}
+use Rattle.cabinet_text_nodes.specs.declared.node.Node.TheVariants as node
+use Rattle.cabinet_text_nodes.proofs.Views.{node_tree-text, node_tree-none, node_tree-some, node_tree-list}
+
+-- ---- a list of values that are seen as others is archived as the list of those
+
+module _ {A B R : Type 0} (view : B → A) (w : Spelling A R) where
+  length-seen : (xs : List B) → length (map view xs) ≡ length xs
+  length-seen [] = refl
+  length-seen (x ∷ xs) = ap suc (length-seen xs)
+
+  states_seen : (xs : List B) (st : State) → state_after_all (seen_as view w) xs st ≡ state_after_all w (map view xs) st
+  states_seen [] st = refl
+  states_seen (x ∷ xs) st = states_seen xs (state_after w (view x) st)
+
+  values_seen : (xs : List B) (st : State) → values (seen_as view w) xs st ≡ values w (map view xs) st
+  values_seen [] st = refl
+  values_seen (x ∷ xs) st = ap (more_values (w.value (view x) st)) (values_seen xs (state_after w (view x) st))
+
+  plains_seen : (xs : List B) → plain_values (seen_as view w) xs ≡ plain_values w (map view xs)
+  plains_seen [] = refl
+  plains_seen (x ∷ xs) = ap (more_values (w.plain (view x))) (plains_seen xs)
+
+  keys_seen : (xs : List B) (keys : Keys) → all_keyed_by (seen_as view w) keys xs ≡ all_keyed_by w keys (map view xs)
+  keys_seen [] keys = refl
+  keys_seen (x ∷ xs) keys = λ i. w.keyed_by keys (view x) × keys_seen xs keys i
+
+  pieces_seen : (xs : List B) (st : State) → pieces (seen_as view w) xs st ≡ pieces w (map view xs) st
+  pieces_seen [] st = refl
+  pieces_seen (x ∷ xs) st = ap (λ l. w.piece (view x) st ++ l) (pieces_seen xs (state_after w (view x) st))
+
+  fits_seen : (xs : List B) (st : State) → pieces_fit (seen_as view w) xs st ≡ pieces_fit w (map view xs) st
+  fits_seen [] st = refl
+  fits_seen (x ∷ xs) st = λ i. w.piece_fits (view x) st × fits_seen xs (state_after w (view x) st) i
+
+  refusals_seen : (xs : List B) (st : State) (e : Error) → pieces_refused (seen_as view w) xs st e ≡ pieces_refused w (map view xs) st e
+  refusals_seen [] st e = refl
+  refusals_seen (x ∷ xs) st e = λ i. w.piece_refused (view x) st e ⊎ refusals_seen xs (state_after w (view x) st) e i
+
+  owns_seen : (xs : List B) (st : State) (pos : ℕ) → owns (seen_as view w) xs st pos ≡ owns w (map view xs) st pos
+  owns_seen [] st pos = refl
+  owns_seen (x ∷ xs) st pos =
+      let own = w.own (view x) (w.resolver (view x) st) pos in
+      ap (λ l. own ++ l) (owns_seen xs (state_after w (view x) st) (pos + length own))
+
+  owns_fit_seen : (s : Shape) (xs : List B) (st : State) (pos : ℕ) → owns_fit (seen_as view w) s xs st pos ≡ owns_fit w s (map view xs) st pos
+  owns_fit_seen s [] st pos = refl
+  owns_fit_seen s (x ∷ xs) st pos = λ i.
+      (w.own_fits (view x) (w.resolver (view x) st) pos × (pos + size_of s < 2 ^ 64))
+      × owns_fit_seen s xs (state_after w (view x) st) (pos + length (w.own (view x) (w.resolver (view x) st) pos)) i
+
+  owns_refusals_seen : (s : Shape) (xs : List B) (st : State) (pos : ℕ) (e : Error) → owns_refused (seen_as view w) s xs st pos e ≡ owns_refused w s (map view xs) st pos e
+  owns_refusals_seen s [] st pos e = refl
+  owns_refusals_seen s (x ∷ xs) st pos e = λ i.
+      (w.own_refused (view x) (w.resolver (view x) st) pos e ⊎ ((2 ^ 64 ≤ pos + size_of s) × (e ≡ PositionTooLarge)))
+      ⊎ owns_refusals_seen s xs (state_after w (view x) st) (pos + length (w.own (view x) (w.resolver (view x) st) pos)) e i
+
+  -- where their region lies
+  regions_seen : (s : Shape) (xs : List B) (st : State) → region_at (seen_as view w) s xs st ≡ region_at w s (map view xs) st
+  regions_seen s xs st = λ i. align_up (states_seen xs st i).pos (align_of s)
+
+-- ---- a vector of nodes is archived as the list of their trees
+
+abbrev nodes_spelling : Spelling (List Node) VecResolver
+nodes_spelling = kept_as (λ n. record { pos = n }) (λ r. r.pos) (slice_spelling node_shape archived_as)
+
+abbrev maps_spelling : Spelling (List Node) VecResolver
+maps_spelling = seen_as (map node_tree) (list_spelling node_spelling)
+
+nodes_said : (ns : List Node) → said nodes_spelling ns ≡ said maps_spelling ns
+nodes_said ns = λ i. record {
+  value = λ st. group (values_seen node_tree node_spelling ns st i);
+  plain = group (plains_seen node_tree node_spelling ns i);
+  piece = λ st.
+      let start = regions_seen node_tree node_spelling node_shape ns st i in
+      pieces_seen node_tree node_spelling ns st i ++ (zeros (start - (states_seen node_tree node_spelling ns st i).pos) ++ owns_seen node_tree node_spelling ns st start i);
+  resolver = λ st. record { pos = regions_seen node_tree node_spelling node_shape ns st i };
+  met = λ st. (states_seen node_tree node_spelling ns st i).met;
+  own = λ r pos. offset_bytes pos r.pos ++ to_le_bytes w32 (sym (length-seen node_tree node_spelling ns) i);
+  piece_fits = λ st.
+      let start = regions_seen node_tree node_spelling node_shape ns st i in
+      fits_seen node_tree node_spelling ns st i × (start < 2 ^ 32) × owns_fit_seen node_tree node_spelling node_shape ns st start i;
+  piece_refused = λ st e.
+      let start = regions_seen node_tree node_spelling node_shape ns st i in
+      refusals_seen node_tree node_spelling ns st e i
+      ⊎ (((2 ^ 32 ≤ start) × (e ≡ PositionTooLarge)) ⊎ owns_refusals_seen node_tree node_spelling node_shape ns st start e i);
+  own_fits = λ r pos. FitsOffset pos r.pos × (sym (length-seen node_tree node_spelling ns) i < 2 ^ 32);
+  own_refused = λ r pos e. ((FitsOffset pos r.pos → ⊥) × (e ≡ IsizeOverflow)) ⊎ ((2 ^ 32 ≤ sym (length-seen node_tree node_spelling ns) i) × (e ≡ LengthTooLarge));
+  keyed_by = λ keys. keys_seen node_tree node_spelling ns keys i;
+}
+
+-- the elements of a list of trees are these trees
+trees_in-trees_of : (ts : List Tree) → trees_in (trees_of ts) ≡ ts
+trees_in-trees_of [] = refl
+trees_in-trees_of (t ∷ ts) = ap (λ us. t ∷ us) (trees_in-trees_of ts)
+
+pub list_written :
+    {W : Type 0} (m : WriterMembers W) (v : Vec Node Global) (old new : W) (result : Result VecResolver Error)
+    → Serializes (vec_spelling node_shape archived_as) m v old new result
+    → Serializes (list_spelling node_spelling) m (trees_within v.items) old new result
+list_written m v old new result h =
+    subst (λ ts. Serializes (list_spelling node_spelling) m ts old new result) (sym (trees_in-trees_of (map node_tree v.items)))
+    (serializes_alike nodes_spelling maps_spelling v.items (nodes_said v.items) m old new result h)
+
+-- ---- each node in a list or an option lies in fewer containers
+
+-- in an option
+abbrev pub depth_within : Option (Box Node Global) → ℕ
+depth_within None = 0
+depth_within (Some b) = depth (node_tree b.value)
+
+pub element_below : (ns : List Node) (n : Node) → IsElement ns n → depth (node_tree n) ≤ most_within ns
+element_below ns n h = by ns h.0 h.1 h.2
+  where
+    by : (ms : List Node) (i : ℕ) → i < length ms → n ≡ get_or ms i n → depth (node_tree n) ≤ most_within ms
+    by [] i less e = absurd (omega (arith, less))
+    by (m ∷ ms) zero less e =
+        let same : depth (node_tree n) ≡ depth (node_tree m) = ap (λ x. depth (node_tree x)) e in
+        let a = le-max_left (depth (node_tree m)) (most_within ms) in omega (arith, same, a)
+    by (m ∷ ms) (suc i) less e =
+        let rest = by ms i (omega (arith, less)) e in
+        let b = le-max_right (depth (node_tree m)) (most_within ms) in omega (arith, rest, b)
+
+pub only_element : {A : Type 0} (x y : A) → IsElement (x ∷ []) y → y ≡ x
+only_element x y h = by h.0 h.1 h.2
+  where
+    by : (i : ℕ) → i < 1 → y ≡ get_or (x ∷ []) i y → y ≡ x
+    by zero less e = e
+    by (suc i) less e = absurd (omega (arith, less))
+
+-- ---- nodes
+
+module _ {W : Type 0} (m : WriterMembers W) (n : Node) (old new : W) where
+  -- what is written of one level of a node's tree is written of the node
+  as_level : (t : Tree) (result : Result NodeResolver Error) → node_tree n ≡ t → Serializes (node_level node_spelling) m t old new result → Serializes archived_as m n old new result
+  as_level t result is h =
+      subst (λ u. Serializes node_spelling m u old new result) (sym is) (one_level_is_written_law m t old new result h)
+
+  pub text_wrote : (s : String Global) (r : StringResolver) → n ≡ node.Text s → Serializes string_spelling m (string_bytes s) old new (Ok r) → Serializes archived_as m n old new (Ok (resolver.Text r))
+  text_wrote s r is h =
+      as_level (tree.leaf (tree.text (string_bytes s))) (Ok (resolver.Text r)) (ap node_tree is ∙ node_tree-text s)
+      (λ st at. let o = h st at in (o.0, (ap (λ q. resolver.Text q) o.1.0, o.1.1, o.1.2)))
+
+  pub text_refused : (s : String Global) (e : Error) → n ≡ node.Text s → Serializes string_spelling m (string_bytes s) old new (Err e) → Serializes archived_as m n old new (Err e)
+  text_refused s e is h = as_level (tree.leaf (tree.text (string_bytes s))) (Err e) (ap node_tree is ∙ node_tree-text s) h
+
+  pub maybe_wrote : (o : Option (Box Node Global)) (r : Option BoxResolver) → n ≡ node.Maybe o → Serializes (maybe_spelling node_spelling) m (tree_within o) old new (Ok r) → Serializes archived_as m n old new (Ok (resolver.Maybe r))
+  maybe_wrote None r is h =
+      as_level tree.nothing (Ok (resolver.Maybe r)) (ap node_tree is ∙ node_tree-none)
+      (λ st at. let o = h st at in (o.0, (ap (λ q. resolver.Maybe q) o.1.0, o.1.1, o.1.2)))
+  maybe_wrote (Some b) r is h =
+      as_level (tree.just (node_tree b.value)) (Ok (resolver.Maybe r)) (ap node_tree is ∙ node_tree-some b)
+      (λ st at. let o = h st at in (o.0, (ap (λ q. resolver.Maybe q) o.1.0, o.1.1, o.1.2)))
+
+  pub maybe_refused : (o : Option (Box Node Global)) (e : Error) → n ≡ node.Maybe o → Serializes (maybe_spelling node_spelling) m (tree_within o) old new (Err e) → Serializes archived_as m n old new (Err e)
+  maybe_refused None e is h = as_level tree.nothing (Err e) (ap node_tree is ∙ node_tree-none) h
+  maybe_refused (Some b) e is h = as_level (tree.just (node_tree b.value)) (Err e) (ap node_tree is ∙ node_tree-some b) h
+
+  pub list_wrote : (v : Vec Node Global) (r : VecResolver) → n ≡ node.List v → Serializes (list_spelling node_spelling) m (trees_within v.items) old new (Ok r) → Serializes archived_as m n old new (Ok (resolver.List r))
+  list_wrote v r is h =
+      as_level (tree.list (node_trees v.items)) (Ok (resolver.List r)) (ap node_tree is ∙ node_tree-list v)
+      (λ st at. let o = h st at in (o.0, (ap (λ q. resolver.List q) o.1.0, o.1.1, o.1.2)))
+
+  pub list_refused : (v : Vec Node Global) (e : Error) → n ≡ node.List v → Serializes (list_spelling node_spelling) m (trees_within v.items) old new (Err e) → Serializes archived_as m n old new (Err e)
+  list_refused v e is h = as_level (tree.list (node_trees v.items)) (Err e) (ap node_tree is ∙ node_tree-list v) h
+
+-- a node whose kind has no layout is refused, and nothing is written of it
+module _ {W : Type 0} (m : WriterMembers W) (n : Node) (old : W) where
+  refused_stops : (t : Tree) → Serializes refused m t old old (Err InvalidTag)
+  refused_stops t = λ st at. inr (record {
+    is_cut = λ tells. record { written = []; lost = []; new_is = sym (append-nil (m.contents old)); piece_is = refl };
+    is_quiet = refl;
+    reason = inr refl;
+  })
+
+  pub shared_refused : (s : List ℕ) → node_tree n ≡ tree.shared s → Serializes archived_as m n old old (Err InvalidTag)
+  shared_refused s is = as_level m n old old (tree.shared s) (Err InvalidTag) is (refused_stops (tree.shared s))
+
+  pub map_refused : (kind : MapKind) (ps : Pairs) → node_tree n ≡ tree.map kind ps → Serializes archived_as m n old old (Err InvalidTag)
+  map_refused kind ps is = as_level m n old old (tree.map kind ps) (Err InvalidTag) is (refused_stops (tree.map kind ps))

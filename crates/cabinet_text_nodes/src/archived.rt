@@ -1,0 +1,250 @@
+//! Nodes are archived, each by its kind.
+ghost use Rattle.std.specs.Prelude.{◌≡◌, ℕ, suc, ◌+◌, ◌-◌, ◌^◌, ◌<◌, ◌≤◌, length};
+ghost use Rattle.archive_shape_references.specs.Bytes.{HasBytes, zeros};
+ghost use Rattle.archive_forms_spelling.specs.Serializing.{CanResolve, HasState, Resolves, Serializes, SerializesBy};
+ghost use Rattle.archive_forms_spelling.proofs.Views.{seen_spells};
+ghost use Rattle.cabinet_text_grammar.specs.Tree.{depth};
+ghost use Rattle.cabinet_documents.specs.Node.{node_shape, KnowsNode};
+ghost use Rattle.cabinet_spelling.specs.Spelling.{node_spelling, maybe_spelling, list_spelling, text_in, maybe_in, list_in};
+ghost use Rattle.cabinet_spelling.proofs.Levels.{node_spells_law};
+ghost use Rattle.cabinet_text_nodes.specs.Archived.{archived_as, tree_within, trees_within, most_within};
+ghost use Rattle.cabinet_text_nodes.specs.View.{node_tree};
+
+use crate::node::Node;
+use archive_forms_reading::{ArchivedBox, ArchivedOption, ArchivedVec, BoxResolver, VecResolver};
+use archive_forms_text::StringResolver;
+use archive_forms_writing::{Archive, Serialize, serialize_box_each, serialize_vec_each};
+use archive_shape::{Allocator, Error, Place, Writer};
+use cabinet_archived::ArchivedNode;
+use cabinet_spelling::NodeResolver;
+use std::marker::PhantomData;
+
+/// Where the bytes of a text stand.
+fn text_kept(resolver: NodeResolver) -> StringResolver
+    ensures { result ≡ text_in resolver }
+{
+    match resolver {
+        NodeResolver::Text(kept) => kept,
+        _ => StringResolver { pos: 0 },
+    }
+}
+
+/// Where the node in an option stands, if there is one.
+fn maybe_kept(resolver: NodeResolver) -> Option<BoxResolver>
+    ensures { result ≡ maybe_in resolver }
+{
+    match resolver {
+        NodeResolver::Maybe(kept) => kept,
+        _ => None,
+    }
+}
+
+/// Where the elements of a list stand.
+fn list_kept(resolver: NodeResolver) -> VecResolver
+    ensures { result ≡ list_in resolver }
+{
+    match resolver {
+        NodeResolver::List(kept) => kept,
+        _ => VecResolver { pos: 0 },
+    }
+}
+
+/// Writes the own bytes of an option, in a place that is zero.
+fn resolve_maybe(
+    content: &Option<Box<Node>>,
+    resolver: Option<BoxResolver>,
+    out: Place<'_, ArchivedOption<ArchivedBox<ArchivedNode>>>,
+) -> Result<(), Error>
+    requires room { out.start + 8 ≤ length out.out.now }
+    requires stands { out.pos + 8 < 2 ^ 64 }
+    requires blank { HasBytes out.out.now out.start (zeros 8) }
+    ensures { Resolves (maybe_spelling node_spelling) (tree_within content.now) resolver out.entry.pos out.entry.start out.entry.out.now out.exit.0.now result }
+{
+    let Place {
+        out,
+        start,
+        pos,
+        ..
+    } = out;
+    let Some(_) = content else {
+        return Ok(());
+    };
+    let Some(kept) = resolver else {
+        return Ok(());
+    };
+    out[start] = 1;
+    let place = Place::within(out, start + 4, pos + 4);
+    ArchivedBox::<ArchivedNode>::resolve_from_raw_parts(kept, place)
+}
+
+/// Writes the own bytes of a list.
+fn resolve_list(
+    nodes: &Vec<Node>,
+    resolver: VecResolver,
+    out: Place<'_, ArchivedVec<ArchivedNode>>,
+) -> Result<(), Error>
+    requires { out.start + 8 ≤ length out.out.now }
+    ensures { Resolves (list_spelling node_spelling) (trees_within nodes.now.items) resolver out.entry.pos out.entry.start out.entry.out.now out.exit.0.now result }
+{
+    let Place {
+        out,
+        start,
+        pos,
+        ..
+    } = out;
+    let place = Place::within(out, start, pos);
+    ArchivedVec::<ArchivedNode>::resolve_from_len(nodes.len(), resolver, place)
+}
+
+impl Archive for Node {
+    type Archived = ArchivedNode;
+
+    type Resolver = NodeResolver;
+
+    ghost spelling = { archived_as };
+
+    /// Refuses a kind without a layout with `InvalidTag`.
+    fn resolve(&self, resolver: NodeResolver, out: Place<'_, ArchivedNode>) -> Result<(), Error>
+        requires { CanResolve archived_as node_shape self.now resolver out.out.now out.start out.pos }
+        ensures { Resolves archived_as self.now resolver out.entry.pos out.entry.start out.entry.out.now out.exit.0.now result }
+    {
+        let Place {
+            out,
+            start,
+            pos,
+            ..
+        } = out;
+        match self {
+            Node::Bool(value) => {
+                out[start] = 0;
+                return value.resolve((), Place::within(out, start + 1, pos + 1));
+            }
+            Node::Int(number) => {
+                out[start] = 1;
+                return number.resolve((), Place::within(out, start + 8, pos + 8));
+            }
+            Node::Text(text) => {
+                out[start] = 2;
+                let place = Place::within(out, start + 4, pos + 4);
+                return text.resolve(text_kept(resolver), place);
+            }
+            Node::Maybe(content) => {
+                out[start] = 4;
+                let place = Place::within(out, start + 4, pos + 4);
+                return resolve_maybe(content, maybe_kept(resolver), place);
+            }
+            Node::List(nodes) => {
+                out[start] = 5;
+                let place = Place::within(out, start + 4, pos + 4);
+                return resolve_list(nodes, list_kept(resolver), place);
+            }
+            Node::Shared(_) => return Err(Error::InvalidTag),
+            Node::Ordered(_) => return Err(Error::InvalidTag),
+            Node::Hashed(_) => return Err(Error::InvalidTag),
+            Node::Kept(_) => return Err(Error::InvalidTag),
+        }
+    }
+
+    ghost spells = { λ fit. seen_spells fit node_shape KnowsNode node_tree node_spelling (node_spells_law fit) };
+}
+
+/// Writes the data of the node in an option.
+#[cycle(serialize)]
+fn serialize_maybe<S: Writer + Allocator>(
+    content: &Option<Box<Node>>,
+    serializer: &mut S,
+) -> Result<Option<BoxResolver>, Error>
+    requires room { S.failures serializer.old < 2 ^ 64 - 1 }
+    requires state { HasState S.pos S.known serializer.old }
+    ensures { Serializes (maybe_spelling node_spelling) S.Writer (tree_within content.now) serializer.old serializer.new result }
+{
+    let Some(inner) = content else {
+        return Ok(None);
+    };
+    let written = serialize_box_each::<Node, S, _>(
+        inner,
+        serializer,
+        |item: &Node, s: &mut S| -> Result<(NodeResolver, PhantomData<ArchivedNode>), Error>
+            requires same { item.now ≡ inner.now.value }
+            requires room { S.failures s.old < 2 ^ 64 - 1 }
+            requires state { HasState S.pos S.known s.old }
+            ensures { SerializesBy (λ q. q.0) archived_as S.Writer item.now s.old s.new result }
+        {
+            match serialize_node(inner, s) {
+                Ok(resolver) => Ok((resolver, PhantomData)),
+                Err(e) => Err(e),
+            }
+        },
+    );
+    match written {
+        Ok(resolver) => Ok(Some(resolver)),
+        Err(e) => Err(e),
+    }
+}
+
+/// Writes the elements of a list behind their data.
+#[cycle(serialize)]
+fn serialize_list<S: Writer + Allocator>(
+    nodes: &Vec<Node>,
+    serializer: &mut S,
+) -> Result<VecResolver, Error>
+    requires room { S.failures serializer.old < 2 ^ 64 - 1 }
+    requires state { HasState S.pos S.known serializer.old }
+    ensures { Serializes (list_spelling node_spelling) S.Writer (trees_within nodes.now.items) serializer.old serializer.new result }
+{
+    serialize_vec_each::<Node, S, _>(
+        nodes,
+        serializer,
+        |item: &Node, s: &mut S| -> Result<(NodeResolver, PhantomData<ArchivedNode>), Error>
+            requires below { depth (node_tree item.now) ≤ most_within nodes.now.items }
+            requires room { S.failures s.old < 2 ^ 64 - 1 }
+            requires state { HasState S.pos S.known s.old }
+            ensures { SerializesBy (λ q. q.0) archived_as S.Writer item.now s.old s.new result }
+        {
+            let _ = &nodes;
+            match serialize_node(item, s) {
+                Ok(resolver) => Ok((resolver, PhantomData)),
+                Err(e) => Err(e),
+            }
+        },
+    )
+}
+
+/// Writes the data of a node. It calls itself at most as deep as nodes lie in one another.
+#[cycle(serialize)]
+fn serialize_node<S: Writer + Allocator>(
+    node: &Node,
+    serializer: &mut S,
+) -> Result<NodeResolver, Error>
+    requires room { S.failures serializer.old < 2 ^ 64 - 1 }
+    requires state { HasState S.pos S.known serializer.old }
+    ensures { Serializes archived_as S.Writer node.now serializer.old serializer.new result }
+{
+    match node {
+        Node::Bool(_) => Ok(NodeResolver::Leaf),
+        Node::Int(_) => Ok(NodeResolver::Leaf),
+        Node::Text(text) => match text.serialize(serializer) {
+            Ok(kept) => Ok(NodeResolver::Text(kept)),
+            Err(e) => Err(e),
+        },
+        Node::Maybe(content) => match serialize_maybe(content, serializer) {
+            Ok(kept) => Ok(NodeResolver::Maybe(kept)),
+            Err(e) => Err(e),
+        },
+        Node::List(nodes) => match serialize_list(nodes, serializer) {
+            Ok(kept) => Ok(NodeResolver::List(kept)),
+            Err(e) => Err(e),
+        },
+        Node::Shared(_) => Err(Error::InvalidTag),
+        Node::Ordered(_) => Err(Error::InvalidTag),
+        Node::Hashed(_) => Err(Error::InvalidTag),
+        Node::Kept(_) => Err(Error::InvalidTag),
+    }
+}
+
+impl<S: Writer + Allocator> Serialize<S> for Node {
+    /// Refuses a kind without a layout with `InvalidTag`.
+    fn serialize(&self, serializer: &mut S) -> Result<NodeResolver, Error> {
+        serialize_node(self, serializer)
+    }
+}
