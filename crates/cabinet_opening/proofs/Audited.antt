@@ -1,0 +1,58 @@
+-- What an accepted root holds is audited by how deep its containers lie in one another.
+use Rattle.std.proofs.Common.{◌≡◌, ℕ, ◌≤◌, ◌↔◌, Bool, true, false, IsTrue, List, length, Ok, Err, refl, sym, subst, ◌∙◌, arith, ap}
+use Rattle.archive_shape_layout.specs.Value.{Value}
+use Rattle.archive_shape_layout.specs.Holds.{HasRoot, root_position}
+use Rattle.archive_shape_canonical.specs.Canonical.{AreBytes}
+use Rattle.archive_shape_checking.specs.Kept.{Kept}
+use Rattle.archive_shape_checking.specs.Checks.{Checks}
+use Rattle.archive_shape_writing.specs.declared.error.Error.{Error}
+use Rattle.archive_shape.specs.Key.{HeldAt}
+use Rattle.archive_core_validation.specs.Depth.{whole, most_of}
+use Rattle.archive_core_access.specs.Access.{root_at}
+use Rattle.archive_core_access.proofs.Rooted.{root_held, decided}
+use Rattle.cabinet_text_grammar.specs.Tree.{Tree, depth}
+use Rattle.cabinet_documents.specs.Node.{node_shape, node_names, KnowsNode}
+use Rattle.cabinet_documents.specs.Denotes.{Denotes}
+use Rattle.cabinet_documents.specs.Accepted.{Accepted}
+use Rattle.cabinet_documents.specs.Audit.{AuditFault, too_deep, IsRefusedFor}
+use Rattle.cabinet_documents.proofs.Deciding.{depth_decides_law}
+use Rattle.cabinet_opening.specs.Refused.{refusal_of, IsRefusalFor, for_memory, for_access}
+use Rattle.cabinet_opening.specs.declared.opening.OpenRefusal.{OpenRefusal}
+
+most_is : most_of 2200 ≡ 2199
+unfolding most_of
+most_is = refl
+
+module _ (bytes : List ℕ) (k : Kept) (is : k ≡ whole (length bytes) (most_of 2200)) where
+  kept_is : k ≡ whole (length bytes) 2199
+  kept_is = is ∙ ap (whole (length bytes)) most_is
+
+  -- what the answer of the audit comes to
+  pub record Audited (b : Bool) : Type 0 where
+    pub tree : Tree
+    pub accepted : b ≡ true → Accepted bytes tree
+    pub refused : b ≡ false → AuditFault bytes too_deep
+
+  pub audited : (l : Kept) (b : Bool) → AreBytes bytes
+      → Checks node_names bytes (root_at (root_position (length bytes) node_shape) node_shape) k (Ok tt) l
+      → ((v : Value) (t : Tree) → HeldAt node_shape KnowsNode bytes (root_position (length bytes) node_shape) v → Denotes v t → IsTrue b ↔ (depth t ≤ 64))
+      → Audited b
+  audited l b small checked told =
+      let pos = root_position (length bytes) node_shape in
+      let p = decided node_shape node_names bytes pos 2199 k l (Ok tt) kept_is checked in
+      let root : HasRoot node_names bytes pos node_shape p.value p.regions p.after = record { holds = p.accepts.holds; ascends = p.accepts.ascends } in
+      let d = depth_decides_law bytes p.value p.regions p.after small root in
+      let says = told p.value d.tree (root_held node_shape KnowsNode node_names bytes pos p.value p.regions p.after refl root) d.denotes in
+      record {
+        tree = d.tree;
+        accepted = λ e. d.accepted (says.0 e);
+        refused = λ e. let deep : depth d.tree ≤ 64 → ⊥ = λ low. let yes : b ≡ true = says.1 low in cc in d.refused (omega (arith, deep));
+      }
+
+  pub refused_for : (e : Error) (r : OpenRefusal) → IsRefusalFor e r
+      → Checks node_names bytes (root_at (root_position (length bytes) node_shape) node_shape) k (Err e) k
+      → IsRefusedFor bytes (refusal_of r)
+  refused_for e r (for_memory f g) checked = subst (λ x. IsRefusedFor bytes (refusal_of x)) (sym g) tt
+  refused_for e r (for_access f g) checked =
+      subst (λ x. IsRefusedFor bytes (refusal_of x)) (sym g)
+      (decided node_shape node_names bytes (root_position (length bytes) node_shape) 2199 k k (Err e) kept_is checked f)

@@ -1,0 +1,56 @@
+//! Whether bytes are the archive of a document.
+ghost use Rattle.std.specs.Prelude.{OnOk, IfErr};
+ghost use Rattle.cabinet_text_grammar.specs.Tree.{Tree};
+ghost use Rattle.cabinet_documents.specs.Accepted.{Accepted};
+ghost use Rattle.cabinet_documents.specs.Audit.{IsRefusedFor};
+ghost use Rattle.cabinet_opening.specs.Refused.{refusal_of, IsRefusalFor};
+
+use crate::shallow::is_shallow;
+use archive_core_access::access_with_context;
+use archive_core_validation::ArchiveValidator;
+use archive_shape_writing::Error;
+use cabinet_archived::ArchivedNode;
+use std::alloc::Global;
+use thiserror::Error as Described;
+
+/// Why bytes are not opened.
+#[derive(Clone, Copy, Debug, PartialEq, Eq, Described)]
+pub enum OpenRefusal {
+    /// They hold no node at their root.
+    #[error("the bytes are not an archive: {0}")]
+    Access(Error),
+    /// A container stands inside 64 others.
+    #[error("more than 64 containers lie in one another")]
+    TooDeep,
+    #[error("out of memory")]
+    OutOfMemory,
+}
+
+/// What the error of an access comes to.
+fn refused(error: Error) -> OpenRefusal
+    ensures { IsRefusalFor error result }
+{
+    match error {
+        Error::OutOfMemory => OpenRefusal::OutOfMemory,
+        error => OpenRefusal::Access(error),
+    }
+}
+
+/// Whether bytes are the archive of a document. The memory that it takes grows with the depth that is met, and not with what
+/// the bytes say.
+pub fn check(alloc: Global, bytes: &[u8]) -> Result<(), OpenRefusal>
+    ensures accepted { OnOk result ((t : Tree) × Accepted bytes.now t) }
+    ensures refused { IfErr result (λ r. IsRefusedFor bytes.now (refusal_of r)) }
+{
+    let mut context = ArchiveValidator::with_max_depth(alloc, bytes, 2200);
+    match access_with_context::<ArchivedNode, ArchiveValidator>(alloc, bytes, &mut context) {
+        Ok(root) => {
+            if is_shallow(root, 64) {
+                Ok(())
+            } else {
+                Err(OpenRefusal::TooDeep)
+            }
+        }
+        Err(error) => Err(refused(error)),
+    }
+}

@@ -1,0 +1,65 @@
+//! Whether the containers of an archived node lie in one another within a limit.
+ghost use Rattle.std.specs.Prelude.{◌≤◌, ◌↔◌, IsTrue};
+ghost use Rattle.archive_shape.specs.Key.{HeldAt};
+ghost use Rattle.archive_shape_layout.specs.Shape.Shape.{option, box};
+ghost use Rattle.archive_shape_layout.specs.Shape.Pointee.{sized};
+ghost use Rattle.archive_shape_layout.specs.Value.{Value};
+ghost use Rattle.archive_forms_reading.specs.Parts.{HasValue, HasElements, AreElements};
+ghost use Rattle.cabinet_text_grammar.specs.Tree.{Tree, depth};
+ghost use Rattle.cabinet_documents.specs.Node.{node_shape, KnowsNode};
+ghost use Rattle.cabinet_documents.specs.Denotes.{Denotes, tagged_value};
+
+use archive_forms_reading::{ArchivedBox, ArchivedOption, ArchivedVec, SliceRef};
+use archive_shape::Ref;
+use cabinet_archived::{ArchivedKind, ArchivedNode};
+
+/// Whether at most `room` containers lie in one another in a list of these nodes, the list among them.
+#[cycle(shallow)]
+fn are_shallow(nodes: SliceRef<'_, ArchivedNode>, room: usize) -> bool
+    requires { HasElements node_shape KnowsNode nodes.bytes.now nodes.pos nodes.len }
+    ensures { (v : Value) (t : Tree) → AreElements node_shape KnowsNode nodes.entry.bytes.now nodes.entry.pos nodes.entry.len v
+        → Denotes (tagged_value 5 v) t → IsTrue result ↔ (depth t ≤ room) }
+{
+    let Some(left) = room.checked_sub(1) else {
+        return false;
+    };
+    for index in 0..nodes.len() {
+        if !is_shallow(nodes.get(index).unwrap(), left) {
+            return false;
+        }
+    }
+    true
+}
+
+/// Whether at most `room` containers lie in one another in this option, itself among them.
+#[cycle(shallow)]
+fn is_option_shallow(maybe: Ref<'_, ArchivedOption<ArchivedBox<ArchivedNode>>>, room: usize) -> bool
+    requires { HasValue (option (box (sized node_shape))) KnowsNode maybe.bytes.now maybe.pos }
+    ensures { (v : Value) (t : Tree) → HeldAt (option (box (sized node_shape))) KnowsNode maybe.entry.bytes.now maybe.entry.pos v
+        → Denotes (tagged_value 4 v) t → IsTrue result ↔ (depth t ≤ room) }
+{
+    let Some(left) = room.checked_sub(1) else {
+        return false;
+    };
+    match ArchivedOption::as_ref(maybe) {
+        Some(boxed) => is_shallow(ArchivedBox::get(boxed), left),
+        None => true,
+    }
+}
+
+/// Whether at most `room` containers lie in one another in the node. It takes no memory, and calls itself at most as deep as
+/// there is room.
+#[cycle(shallow)]
+pub(crate) fn is_shallow(node: Ref<'_, ArchivedNode>, room: usize) -> bool
+    requires { HasValue node_shape KnowsNode node.bytes.now node.pos }
+    ensures { (v : Value) (t : Tree) → HeldAt node_shape KnowsNode node.entry.bytes.now node.entry.pos v
+        → Denotes v t → IsTrue result ↔ (depth t ≤ room) }
+{
+    match ArchivedNode::kind(node) {
+        ArchivedKind::Bool(_) => true,
+        ArchivedKind::Int(_) => true,
+        ArchivedKind::Text(_) => true,
+        ArchivedKind::Maybe(maybe) => is_option_shallow(maybe, room),
+        ArchivedKind::List(list) => are_shallow(ArchivedVec::as_slice(list), room),
+    }
+}

@@ -1,0 +1,77 @@
+//! Tests of which bytes are opened. Nodes are laid by hand, each right behind the ones that it leads to.
+use archive_shape_writing::Error;
+use cabinet_opening::{OpenRefusal, check};
+use std::alloc::{AllocError, Global};
+
+const FIVE: [u8; 24] = *b"\x01\0\0\0\0\0\0\0\x05\0\0\0\0\0\0\0\0\0\0\0\0\0\0\0";
+
+const NOTHING: [u8; 24] = *b"\x04\0\0\0\0\0\0\0\0\0\0\0\0\0\0\0\0\0\0\0\0\0\0\0";
+
+/// An option of the node right before it.
+const SOME: [u8; 24] = *b"\x04\0\0\0\x01\0\0\0\xe0\xff\xff\xff\0\0\0\0\0\0\0\0\0\0\0\0";
+
+/// A list without elements, which ends where its node begins.
+const EMPTY: [u8; 24] = *b"\x05\0\0\0\xfc\xff\xff\xff\0\0\0\0\0\0\0\0\0\0\0\0\0\0\0\0";
+
+/// A list of the node right before it.
+const ONE: [u8; 24] = *b"\x05\0\0\0\xe4\xff\xff\xff\x01\0\0\0\0\0\0\0\0\0\0\0\0\0\0\0";
+
+/// An option of the node before the one right before it.
+const SOME_OVER_ANOTHER: [u8; 24] =
+    *b"\x04\0\0\0\x01\0\0\0\xc8\xff\xff\xff\0\0\0\0\0\0\0\0\0\0\0\0";
+
+/// A list of the two nodes right before it.
+const TWO: [u8; 24] = *b"\x05\0\0\0\xcc\xff\xff\xff\x02\0\0\0\0\0\0\0\0\0\0\0\0\0\0\0";
+
+/// A node, and so many others that each lead to the one before.
+fn tower(alloc: Global, first: &[u8], each: &[u8], count: usize) -> Result<Vec<u8>, AllocError> {
+    let mut bytes = Vec::new(alloc);
+    bytes.extend_from_slice(first)?;
+    for _ in 0..count {
+        bytes.extend_from_slice(each)?;
+    }
+    Ok(bytes)
+}
+
+#[test]
+fn sixty_four_containers_lie_in_one_another(rt: HostRuntime) -> Result<(), AllocError> {
+    let alloc = rt.alloc();
+    let rows = [
+        (FIVE, SOME, 64),
+        (NOTHING, SOME, 63),
+        (FIVE, ONE, 64),
+        (EMPTY, ONE, 63),
+    ];
+    for (first, each, count) in rows {
+        let most = tower(alloc, &first, &each, count)?;
+        assert_eq!(rt; check(alloc, &most), Ok(()));
+        let more = tower(alloc, &first, &each, count + 1)?;
+        assert_eq!(rt; check(alloc, &more), Err(OpenRefusal::TooDeep));
+    }
+    Ok(())
+}
+
+#[test]
+fn each_element_of_a_list_is_audited(rt: HostRuntime) -> Result<(), AllocError> {
+    let alloc = rt.alloc();
+    for (count, answer) in [(61, Ok(())), (62, Err(OpenRefusal::TooDeep))] {
+        let mut bytes = tower(alloc, &NOTHING, &SOME, count)?;
+        bytes.extend_from_slice(&FIVE)?;
+        bytes.extend_from_slice(&SOME_OVER_ANOTHER)?;
+        bytes.extend_from_slice(&TWO)?;
+        assert_eq!(rt; check(alloc, &bytes), answer);
+    }
+    Ok(())
+}
+
+#[test]
+fn bytes_without_a_node_are_refused_by_their_first_fault(rt: HostRuntime) {
+    let alloc = rt.alloc();
+    let no_kind = *b"\x09\0\0\0\0\0\0\0\0\0\0\0\0\0\0\0\0\0\0\0\0\0\0\0";
+    let short = Error::InvalidSubtreePointer { size: 24 };
+    assert_eq!(rt; check(alloc, b""), Err(OpenRefusal::Access(short)));
+    assert_eq!(rt;
+        check(alloc, &no_kind),
+        Err(OpenRefusal::Access(Error::InvalidTag))
+    );
+}

@@ -1,0 +1,80 @@
+//! Documents are saved as archives.
+ghost use Rattle.std.specs.Prelude.{◌≡◌, ◌-◌, ◌^◌, ◌<◌, ℕ, List, IsTrue, OnOk, OnErr, IfErr, MatchResult};
+ghost use Rattle.archive_shape_writing.specs.Writing.{Cut};
+ghost use Rattle.cabinet_documents.specs.Image.{Image};
+ghost use Rattle.cabinet_spelling.specs.HasLayout.{HasLayout};
+ghost use Rattle.cabinet_spelling.specs.Laws.{archive_of, ArchiveFits};
+ghost use Rattle.cabinet_text_nodes.specs.View.{node_tree};
+ghost use Rattle.cabinet_saving.specs.Saving.{HasNoImageFor, Saved, IsUnsavedFor};
+
+use crate::layout::has_layout;
+use archive_core_serializing::{HighSerializer, Serializer};
+use archive_forms_writing::serialize_using;
+use archive_shape_writing::{Error, Writer};
+use cabinet_text_nodes::{Document, Node};
+use std::alloc::Global;
+use thiserror::Error as Described;
+
+/// Why a document was not saved.
+#[derive(Clone, Copy, Debug, PartialEq, Eq, Described)]
+pub enum SaveRefusal {
+    /// A shared text or a map stands in the document.
+    #[error("a kind of node has no layout yet")]
+    Kind,
+    /// A text, a count or a position is past what archives hold.
+    #[error("the document is past the limits of archives: {0}")]
+    Limit(Error),
+    /// The writer failed.
+    #[error("the writer failed: {0}")]
+    Writer(Error),
+    /// Memory was refused, also to a writer that counts no failures.
+    #[error("out of memory")]
+    OutOfMemory,
+}
+
+/// The archive of which a node is the root, in memory.
+fn archive_in_memory(alloc: Global, root: &Node) -> Result<Vec<u8>, SaveRefusal>
+    ensures { MatchResult result
+        (λ bytes. ArchiveFits (node_tree root.now) × (bytes.items ≡ archive_of (node_tree root.now)))
+        (HasNoImageFor (node_tree root.now)) }
+{
+    let mut serializer = Serializer::new(Vec::new(alloc), alloc, ());
+    match serialize_using::<Node, HighSerializer<Vec<u8>, Global>>(root, &mut serializer) {
+        Ok(_) => Ok(serializer.into_writer()),
+        Err(e) => match e {
+            Error::OutOfMemory => Err(SaveRefusal::OutOfMemory),
+            _ => Err(SaveRefusal::Limit(e)),
+        },
+    }
+}
+
+/// Writes the image of a document, which is made in memory first. The writer's position is to be 0, so that positions are
+/// those in its bytes.
+pub fn save<W: Writer>(
+    alloc: Global,
+    document: &Document,
+    writer: &mut W,
+) -> Result<(), SaveRefusal>
+    requires start { W.pos writer.old ≡ 0 }
+    requires room { W.failures writer.old < 2 ^ 64 - 1 }
+    ensures saved { OnOk result (IsTrue W.OBSERVABLE → Saved document.now (W.contents writer.old) (W.contents writer.new)) }
+    ensures laid { OnOk result (HasLayout document.now) }
+    ensures quiet { OnOk result (W.failures writer.new ≡ W.failures writer.old) }
+    ensures refused { IfErr result (IsUnsavedFor W.Writer document.now writer.old writer.new) }
+    // What the writer took is a prefix of the image.
+    ensures cut { OnErr result ((image : List ℕ) → Image document.now image → IsTrue W.OBSERVABLE → Cut (W.contents writer.old) (W.contents writer.new) image) }
+{
+    let root = document.root();
+    if !has_layout(root) {
+        return Err(SaveRefusal::Kind);
+    }
+    let image = match archive_in_memory(alloc, root) {
+        Ok(image) => image,
+        Err(refusal) => return Err(refusal),
+    };
+    match writer.write(image.as_slice()) {
+        Ok(()) => Ok(()),
+        Err(e) if W::counts() => Err(SaveRefusal::Writer(e)),
+        Err(_) => Err(SaveRefusal::OutOfMemory),
+    }
+}

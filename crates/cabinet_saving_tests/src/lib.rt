@@ -1,0 +1,7 @@
+//! Tests of saving documents.
+#![tactic(auto)]
+
+#[cfg(test)]
+mod saved;
+#[cfg(test)]
+mod unsaved;

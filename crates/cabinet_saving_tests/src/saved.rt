@@ -1,0 +1,54 @@
+//! Documents of each kind with a layout are saved, byte by byte.
+
+use cabinet_saving::save;
+use cabinet_text_nodes::{Document, Node};
+use std::alloc::Global;
+use std::test::Fail;
+
+/// The bytes that a document is saved as.
+fn image(alloc: Global, root: Node) -> Result<Vec<u8>, Fail> {
+    let document = Document::new(root)?;
+    let mut bytes = Vec::new(alloc);
+    save(alloc, &document, &mut bytes)?;
+    Ok(bytes)
+}
+
+#[test]
+fn leaves(rt: HostRuntime) -> Result<(), Fail> {
+    let truth = image(rt.alloc(), Node::Bool(true))?;
+    assert_eq!(rt;
+        truth.as_slice(),
+        b"\x00\x01\0\0\0\0\0\0\0\0\0\0\0\0\0\0\0\0\0\0\0\0\0\0".as_slice()
+    );
+    let number = image(rt.alloc(), Node::Int(5))?;
+    assert_eq!(rt;
+        number.as_slice(),
+        b"\x01\0\0\0\0\0\0\0\x05\0\0\0\0\0\0\0\0\0\0\0\0\0\0\0".as_slice()
+    );
+    let none = image(rt.alloc(), Node::Maybe(None))?;
+    assert_eq!(rt;
+        none.as_slice(),
+        b"\x04\0\0\0\0\0\0\0\0\0\0\0\0\0\0\0\0\0\0\0\0\0\0\0".as_slice()
+    );
+    Ok(())
+}
+
+#[test]
+fn present_option(rt: HostRuntime) -> Result<(), Fail> {
+    let five = Box::new(rt.alloc(), Node::Int(5))?;
+    let bytes = image(rt.alloc(), Node::Maybe(Some(five)))?;
+    let expected =
+        b"\x01\0\0\0\0\0\0\0\x05\0\0\0\0\0\0\0\0\0\0\0\0\0\0\0\x04\0\0\0\x01\0\0\0\xe0\xff\xff\xff\0\0\0\0\0\0\0\0\0\0\0\0";
+    assert_eq!(rt; bytes.as_slice(), expected.as_slice());
+    Ok(())
+}
+
+#[test]
+fn list_of_two(rt: HostRuntime) -> Result<(), Fail> {
+    let nodes = vec![in rt.alloc(); Node::Int(7), Node::Int(19)]?;
+    let bytes = image(rt.alloc(), Node::List(nodes))?;
+    let expected =
+        b"\x01\0\0\0\0\0\0\0\x07\0\0\0\0\0\0\0\0\0\0\0\0\0\0\0\x01\0\0\0\0\0\0\0\x13\0\0\0\0\0\0\0\0\0\0\0\0\0\0\0\x05\0\0\0\xcc\xff\xff\xff\x02\0\0\0\0\0\0\0\0\0\0\0\0\0\0\0";
+    assert_eq!(rt; bytes.as_slice(), expected.as_slice());
+    Ok(())
+}
