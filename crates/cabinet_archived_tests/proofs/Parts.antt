@@ -5,7 +5,7 @@ use Rattle.archive_shape_layout.specs.Shape.{Shape}
 use Rattle.archive_shape_layout.specs.Content.{Names}
 use Rattle.archive_forms_reading.specs.Parts.{HasValue}
 use Rattle.cabinet_documents.specs.Node.{node_shape}
-use Rattle.cabinet_archived.specs.Known.{KnowsNode}
+use Rattle.cabinet_documents.specs.Node.{KnowsNode}
 use Rattle.cabinet_archived.specs.Kind.{IsTagged}
 
 pub root_has : (a b : Bor (List ℕ)) (p q : ℕ) → b ≡ a → p ≡ q → HasValue node_shape KnowsNode a.now q → (b ≡ a) × HasValue node_shape KnowsNode b.now p

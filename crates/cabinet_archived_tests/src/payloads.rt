@@ -2,7 +2,7 @@
 ghost use Rattle.std.specs.Prelude.{◌≡◌};
 ghost use Rattle.archive_forms_reading.specs.Parts.{HasValue};
 ghost use Rattle.cabinet_documents.specs.Node.{node_shape};
-ghost use Rattle.cabinet_archived.specs.Known.{KnowsNode};
+ghost use Rattle.cabinet_documents.specs.Node.{KnowsNode};
 
 use crate::root::root_of;
 use archive_forms_reading::{ArchivedOption, ArchivedVec, native_of};
