@@ -1,0 +1,6 @@
+mod Stepping
+mod Paths
+mod Ways
+mod NoSteps
+mod Payloads
+mod Asking

@@ -1,0 +1,33 @@
+//! Heads of archived nodes.
+ghost use Rattle.std.specs.Prelude.{◌≡◌};
+ghost use Rattle.archive_forms_reading.specs.Parts.{HasValue};
+ghost use Rattle.cabinet_text_grammar.specs.Answering.{head_of};
+ghost use Rattle.cabinet_documents.specs.Node.{node_shape, KnowsNode};
+ghost use Rattle.cabinet_text_nodes.specs.View.{lent_item};
+ghost use Rattle.cabinet_asking.specs.Found.{OfDocument};
+
+use archive_forms_reading::{ArchivedOption, ArchivedVec, native_of};
+use archive_forms_text::ArchivedString;
+use archive_shape::Ref;
+use cabinet_archived::{ArchivedKind, ArchivedNode};
+use cabinet_text_nodes::{HeadRef, LeafRef};
+
+/// What the line that the node's text begins with says.
+pub fn head<'a>(node: Ref<'a, ArchivedNode>) -> HeadRef<'a>
+    requires { HasValue node_shape KnowsNode node.bytes.now node.pos }
+    ensures { OfDocument node.entry.bytes.now node.entry.pos (λ t. lent_item result ≡ head_of t) }
+{
+    match ArchivedNode::kind(node) {
+        ArchivedKind::Bool(value) => HeadRef::Leaf(LeafRef::Bool(native_of(value))),
+        ArchivedKind::Int(number) => HeadRef::Leaf(LeafRef::Int(native_of(number))),
+        ArchivedKind::Text(text) => HeadRef::Leaf(LeafRef::Text(ArchivedString::as_str(text))),
+        ArchivedKind::Maybe(maybe) => {
+            if ArchivedOption::is_none(maybe) {
+                HeadRef::None
+            } else {
+                HeadRef::Some
+            }
+        }
+        ArchivedKind::List(list) => HeadRef::List(ArchivedVec::len(list) as u64),
+    }
+}
