@@ -1,5 +1,5 @@
 //! Escaped texts: which bytes are one, and the text that they stand for.
-ghost use Rattle.std.specs.Prelude.{◌≡◌, ◌≢◌, ℕ, List, ◌∷◌, ◌++◌, length, string_bytes, MatchOption, IfOk};
+ghost use Rattle.std.specs.Prelude.{◌≡◌, ◌≢◌, ℕ, ◌<◌, List, ◌∷◌, ◌++◌, length, slice_index, EachIndex, string_bytes, MatchOption, IfNone, IfSome, IfOk};
 ghost use Rattle.std.specs.Bool.{OnTrue, OnFalse};
 ghost use Rattle.cabinet_text_bytes.specs.Words.{IsEscaped};
 ghost use Rattle.cabinet_text_grammar.specs.Spelling.{escaped, escaped_byte};
@@ -46,17 +46,42 @@ pub fn is_escaped(argument: &[u8]) -> bool
     }
 }
 
+/// The index of the first backslash.
+fn backslash_at(bytes: &[u8]) -> Option<usize>
+    ensures none { IfNone result (EachIndex bytes.now (λ k. slice_index bytes.now k ≢ 92)) }
+    ensures found { IfSome result (λ start. (start < length bytes.now) × (slice_index bytes.now start ≡ 92)) }
+    ensures before { IfSome result (λ start. (k : ℕ) → k < start → slice_index bytes.now k ≢ 92) }
+{
+    bytes.iter().position(|byte| *byte == b'\\')
+}
+
+/// The bytes before the first backslash of an escaped text, the byte that is escaped there, and what follows it.
+fn split_escape(escaped_text: &[u8]) -> Option<(&[u8], u8, &[u8])>
+    requires { (t : List ℕ) × (escaped_text.now ≡ escaped t) }
+    ensures { MatchOption result (escaped_text.now ≡ escaped escaped_text.now) (λ p. escaped_text.now ≡ escaped p.0.now ++ (escaped_byte p.1 ++ p.2.now)) }
+{
+    let Some(start) = backslash_at(escaped_text) else {
+        return None;
+    };
+    let Some((byte, after)) = first_byte(&escaped_text[start..]) else {
+        return None;
+    };
+    Some((&escaped_text[..start], byte, after))
+}
+
 /// The bytes that escaped ones stand for.
 fn unescape(alloc: Global, argument: &[u8]) -> Result<Vec<u8>, AllocError>
     requires { (t : List ℕ) × (argument.now ≡ escaped t) }
     ensures { IfOk result (λ text. argument.now ≡ escaped text.items) }
 {
-    let mut text = Vec::new(alloc);
+    let mut text = Vec::with_capacity(alloc, argument.len())?;
     let mut rest = argument;
-    while let Some((byte, after)) = first_byte(rest) {
+    while let Some((run, byte, after)) = split_escape(rest) {
+        text.extend_from_slice(run)?;
         text.push(byte)?;
         rest = after;
     }
+    text.extend_from_slice(rest)?;
     Ok(text)
 }
 

@@ -17,6 +17,7 @@ use Rattle.cabinet_text_grammar.proofs.Pieces.{ended_piece}
 use Rattle.cabinet_text_grammar.proofs.ReadBack.{IsItem}
 use Rattle.cabinet_text_grammar.proofs.Faults.{admitted_item, blameless}
 use Rattle.cabinet_text_grammar.proofs.FirstCauses.{bad_escape, unknown_head, bad_number_first, too_deep}
+use Rattle.cabinet_text_laws.proofs.Verdicts.{no_words}
 use Rattle.cabinet_text_reading.specs.Heads.{IsContainer, count_word, RefusesText}
 use Rattle.cabinet_text_reading.specs.declared.head.Counted.{Counted}
 use Rattle.cabinet_text_reading.specs.declared.head.Counted.TheVariants.{List as List', Ordered, Hashed, Kept}
@@ -83,10 +84,6 @@ text_refused depth word line argument make UnknownHead spells admits bad h utf8 
 text_refused depth word line argument make BadNumber spells admits bad h utf8 r = absurd r
 text_refused depth word line argument make TooDeep spells admits bad h utf8 r = absurd r
 text_refused depth word line argument make LineAfterEnd spells admits bad h utf8 r = absurd r
-
-pub no_words : (line : List ℕ) → ((rest : List ℕ) → line ≢ codes "text '" ++ rest) → ((rest : List ℕ) → line ≢ codes "shared '" ++ rest) → HasBadEscape line → ⊥
-no_words line no_text no_shared (inl b) = no_text b.0 b.1
-no_words line no_text no_shared (inr b) = no_shared b.0 b.1
 
 -- after the word of a number stands none
 pub number_unread : (depth : ℕ) (line digits : List ℕ) → line ≡ codes "int " ++ digits → IsUtf8 line → ((n : ℤ) → FitsSigned w64 n → digits ≢ signed_decimal n) → IsFirstCause (a_head depth) (ended_piece line) BadNumber

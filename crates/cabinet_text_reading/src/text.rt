@@ -10,7 +10,7 @@ ghost use Rattle.cabinet_text_grammar.proofs.Machine.{going};
 ghost use Rattle.cabinet_text_nodes.specs.View.{node_tree};
 ghost use Rattle.cabinet_text_stack.specs.View.{stack_of, state_of};
 ghost use Rattle.cabinet_text_stack.specs.Told.{WantsKey};
-ghost use Rattle.cabinet_text_reading.specs.Steps.{TakesLine};
+ghost use Rattle.cabinet_text_laws.specs.Steps.{TakesLine};
 
 use crate::head::read_head;
 use crate::line::{fault_after, next_line, read_key_argument};

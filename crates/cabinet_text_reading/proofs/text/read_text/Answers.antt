@@ -3,7 +3,7 @@ use Rattle.cabinet_text_grammar.specs.Due.{due_in}
 use Rattle.cabinet_text_grammar.proofs.Machine.{complete, going}
 use Rattle.cabinet_text_nodes.specs.View.{node_tree}
 use Rattle.cabinet_text_stack.specs.View.{stack_of}
-use Rattle.cabinet_text_reading.proofs.Steps.{nothing_read, something_due, one_more, few, fault_inside}
+use Rattle.cabinet_text_laws.proofs.Steps.{nothing_read, something_due, one_more, few, fault_inside}
 use Rattle.cabinet_text_reading.proofs.text.read_text.Goals as goal
 
 pub loop-next-init : goal.loop-next-init

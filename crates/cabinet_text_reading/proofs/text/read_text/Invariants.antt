@@ -1,7 +1,7 @@
 use Rattle.std.proofs.Common.{length}
 use Rattle.cabinet_text_grammar.proofs.Machine.{going}
 use Rattle.cabinet_text_stack.specs.View.{stack_of}
-use Rattle.cabinet_text_reading.proofs.Steps.{HasRead}
+use Rattle.cabinet_text_laws.proofs.Steps.{HasRead}
 use Rattle.cabinet_text_reading.proofs.text.read_text.Given as goal
 
 -- the open containers are those that the lines so far lead to

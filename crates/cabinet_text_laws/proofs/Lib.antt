@@ -1,0 +1,4 @@
+pub mod Steps
+pub mod Decided
+pub mod Verdicts
+pub mod Whole
