@@ -6,3 +6,5 @@ pub mod Resolved
 pub mod Seen
 pub mod Views
 pub mod Written
+mod Denoting
+mod ReadBack

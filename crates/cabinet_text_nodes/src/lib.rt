@@ -10,6 +10,7 @@ mod head;
 mod leaf;
 mod line;
 mod node;
+mod reading_back;
 mod refusal;
 mod repeated;
 

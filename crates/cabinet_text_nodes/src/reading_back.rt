@@ -1,0 +1,155 @@
+//! Archived nodes are read back, each by its kind.
+ghost use Rattle.std.specs.Prelude.{◌+◌, ◌≤◌, IfOk};
+ghost use Rattle.archive_shape.specs.Key.{HeldAt};
+ghost use Rattle.archive_shape_layout.specs.Shape.Shape.{option, box, vector};
+ghost use Rattle.archive_shape_layout.specs.Shape.Pointee.{sized};
+ghost use Rattle.archive_shape_layout.specs.Value.{Value};
+ghost use Rattle.archive_forms_spelling.specs.Options.{option_spelling};
+ghost use Rattle.archive_forms_reading.specs.Parts.{HasValue};
+ghost use Rattle.archive_forms_writing.specs.Owned.{boxed_spelling, vec_spelling};
+ghost use Rattle.archive_forms_deserializing.specs.Deserializing.{Deserializes, DeserializesBy};
+ghost use Rattle.cabinet_documents.specs.Node.{node_shape, KnowsNode};
+ghost use Rattle.cabinet_documents.specs.Denotes.{Denotes};
+ghost use Rattle.cabinet_text_nodes.specs.Archived.{archived_as};
+ghost use Rattle.cabinet_text_nodes.specs.View.{node_tree};
+
+use crate::node::Node;
+use archive_forms_deserializing::{
+    Deserialize, deserialize_box_each, deserialize_option_each, deserialize_vec_each,
+};
+use archive_forms_reading::{ArchivedBox, ArchivedOption, ArchivedVec, native_of};
+use archive_forms_text::ArchivedString;
+use archive_shape::{Error, Ref};
+use cabinet_archived::{ArchivedKind, ArchivedNode};
+use std::alloc::Global;
+use std::marker::PhantomData;
+
+/// Reads the box of a node back.
+#[cycle(read)]
+fn deserialize_boxed<D>(
+    boxed: Ref<'_, ArchivedBox<ArchivedNode>>,
+    alloc: Global,
+    deserializer: &mut D,
+) -> Result<Box<Node>, Error>
+    requires { HasValue (box (sized node_shape)) KnowsNode boxed.bytes.now boxed.pos }
+    ensures { Deserializes (boxed_spelling node_shape archived_as) (box (sized node_shape)) KnowsNode boxed.entry.bytes.now boxed.entry.pos result }
+{
+    let Ref { bytes, pos, .. } = boxed;
+    deserialize_box_each::<Node, ArchivedNode, D, _>(
+        boxed,
+        alloc,
+        deserializer,
+        |d: &mut D, p: usize| -> Result<(Node, PhantomData<ArchivedNode>), Error>
+            requires ends { p + 24 ≤ pos }
+            requires there { HasValue node_shape KnowsNode bytes.now p }
+            ensures { DeserializesBy archived_as node_shape KnowsNode bytes.entry.now p (λ q. q.0) result }
+        {
+            let _ = &pos;
+            match deserialize_node(Ref::new(bytes, p), alloc, d) {
+                Ok(node) => Ok((node, PhantomData)),
+                Err(e) => Err(e),
+            }
+        },
+    )
+}
+
+/// Reads the option of a box of a node back.
+#[cycle(read)]
+#[tactic(auto, unfolding(archive_shape_layout::specs::Bytes::align_up))]
+fn deserialize_maybe<D>(
+    maybe: Ref<'_, ArchivedOption<ArchivedBox<ArchivedNode>>>,
+    alloc: Global,
+    deserializer: &mut D,
+) -> Result<Option<Box<Node>>, Error>
+    requires { HasValue (option (box (sized node_shape))) KnowsNode maybe.bytes.now maybe.pos }
+    ensures { Deserializes (option_spelling (box (sized node_shape)) (boxed_spelling node_shape archived_as)) (option (box (sized node_shape))) KnowsNode maybe.entry.bytes.now maybe.entry.pos result }
+{
+    let Ref { bytes, pos, .. } = maybe;
+    deserialize_option_each::<Box<Node>, ArchivedBox<ArchivedNode>, D, _>(
+        maybe,
+        deserializer,
+        |d: &mut D, p: usize| -> Result<(Box<Node>, PhantomData<ArchivedBox<ArchivedNode>>), Error>
+            requires ends { p + 4 ≤ pos + 8 }
+            requires there { HasValue (box (sized node_shape)) KnowsNode bytes.now p }
+            ensures { DeserializesBy (boxed_spelling node_shape archived_as) (box (sized node_shape)) KnowsNode bytes.entry.now p (λ q. q.0) result }
+        {
+            let _ = &pos;
+            match deserialize_boxed(Ref::new(bytes, p), alloc, d) {
+                Ok(boxed) => Ok((boxed, PhantomData)),
+                Err(e) => Err(e),
+            }
+        },
+    )
+}
+
+/// Reads the elements of a list back.
+#[cycle(read)]
+fn deserialize_list<D>(
+    list: Ref<'_, ArchivedVec<ArchivedNode>>,
+    alloc: Global,
+    deserializer: &mut D,
+) -> Result<Vec<Node>, Error>
+    requires { HasValue (vector node_shape) KnowsNode list.bytes.now list.pos }
+    ensures { Deserializes (vec_spelling node_shape archived_as) (vector node_shape) KnowsNode list.entry.bytes.now list.entry.pos result }
+{
+    let Ref { bytes, pos, .. } = list;
+    deserialize_vec_each::<Node, ArchivedNode, D, _>(
+        list,
+        alloc,
+        deserializer,
+        |d: &mut D, p: usize| -> Result<(Node, PhantomData<ArchivedNode>), Error>
+            requires ends { p + 24 ≤ pos }
+            requires there { HasValue node_shape KnowsNode bytes.now p }
+            ensures { DeserializesBy archived_as node_shape KnowsNode bytes.entry.now p (λ q. q.0) result }
+        {
+            let _ = &pos;
+            match deserialize_node(Ref::new(bytes, p), alloc, d) {
+                Ok(node) => Ok((node, PhantomData)),
+                Err(e) => Err(e),
+            }
+        },
+    )
+}
+
+/// Reads a node back. It calls itself at most as deep as nodes lie in one another.
+#[cycle(read)]
+fn deserialize_node<D>(
+    node: Ref<'_, ArchivedNode>,
+    alloc: Global,
+    deserializer: &mut D,
+) -> Result<Node, Error>
+    requires { HasValue node_shape KnowsNode node.bytes.now node.pos }
+    ensures { Deserializes archived_as node_shape KnowsNode node.entry.bytes.now node.entry.pos result }
+{
+    match ArchivedNode::kind(node) {
+        ArchivedKind::Bool(value) => Ok(Node::Bool(native_of(value))),
+        ArchivedKind::Int(number) => Ok(Node::Int(native_of(number))),
+        ArchivedKind::Text(text) => match ArchivedString::deserialize(&text, alloc, deserializer) {
+            Ok(text) => Ok(Node::Text(text)),
+            Err(e) => Err(e),
+        },
+        ArchivedKind::Maybe(maybe) => match deserialize_maybe(maybe, alloc, deserializer) {
+            Ok(content) => Ok(Node::Maybe(content)),
+            Err(e) => Err(e),
+        },
+        ArchivedKind::List(list) => match deserialize_list(list, alloc, deserializer) {
+            Ok(nodes) => Ok(Node::List(nodes)),
+            Err(e) => Err(e),
+        },
+    }
+}
+
+impl<D> Deserialize<Node, D> for ArchivedNode {
+    /// The node that stands there, whose tree is what the value denotes.
+    fn deserialize(
+        this: &Ref<'_, ArchivedNode>,
+        alloc: Global,
+        deserializer: &mut D,
+    ) -> Result<Node, Error>
+        requires { HasValue node_shape KnowsNode this.now.bytes.now this.now.pos }
+        ensures read { Deserializes archived_as node_shape KnowsNode this.now.bytes.now this.now.pos result }
+        ensures denotes { IfOk result (λ node. (v : Value) → HeldAt node_shape KnowsNode this.now.bytes.now this.now.pos v → Denotes v (node_tree node)) }
+    {
+        deserialize_node(*this, alloc, deserializer)
+    }
+}
