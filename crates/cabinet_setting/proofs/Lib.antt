@@ -1,0 +1,7 @@
+mod Standing
+mod LeafPlaces
+mod OwnPlaces
+mod Outcomes
+mod Put
+pub mod Kept
+mod Reached
