@@ -51,6 +51,6 @@ if ! (cd crates/cab && rt run -- build "$root/examples/first/text" "$folder/prov
 fi
 grep '^logic=proved' "$folder/log" | tail -n 1 | cut -d ' ' -f 1-2 || echo 'proved before, and nothing has changed since'
 
-for name in first list; do
+for name in first list catalogue; do
     show proved_cab "$name"
 done

@@ -25,6 +25,9 @@ seven=010000000000000007000000000000000000000000000000
 nineteen=010000000000000013000000000000000000000000000000
 twenty=010000000000000014000000000000000000000000000000
 two=05000000ccffffff02000000000000000000000000000000
+# an option of the node that ends where it begins
+some=0400000001000000e0ffffff000000000000000000000000
+none=040000000000000000000000000000000000000000000000
 passed=0
 failed=0
 
@@ -171,6 +174,14 @@ builds 'list 0' 05000000fcffffff00000000000000000000000000000000
 builds 'list 2\nint 7\nint 19' "$seven$nineteen$two"
 builds "list 2\ntext '\nbool true" 02000000ffffffffffffffff000000000000000000000000000100000000000000000000000000000000000000000000"$two"
 
+builds none "$none"
+builds 'some\nint 5' "$five$some"
+builds "text 'hello\\sworld!" 68656c6c6f20776f726c642100000000020000008c000000ecffffff000000000000000000000000
+builds 'list 2\nlist 2\nint 7\nint 19\nint 5' "$seven$nineteen$two${five}05000000ccffffff02000000000000000000000000000000"
+builds 'list 1\nlist 0' 05000000fcffffff0000000000000000000000000000000005000000e4ffffff01000000000000000000000000000000
+builds 'list 2\nsome\nint 5\nsome\nint 6' \
+    "$five${six}0400000001000000c8ffffff0000000000000000000000000400000001000000c8ffffff000000000000000000000000$two"
+
 refuses 'int 05' 'int 05\n' 1 BadNumber
 refuses 'int -0' 'int -0\n' 1 BadNumber
 refuses 'int 9223372036854775808' 'int 9223372036854775808\n' 1 BadNumber
@@ -187,8 +198,46 @@ refuses 'a key in a list' "list 1\n'a\n" 2 UnknownHead
 refuses 'a count with a leading zero' 'list 01\nint 7\n' 1 BadNumber
 refuses 'a count past 64 bits' 'list 18446744073709551616\n' 1 BadNumber
 refuses 'a head without a count' 'list\n' 1 UnknownHead
-refuses 'a list in a list' 'list 1\nlist 0\n' 2 TooDeep
 refuses 'a list in a list, with no count' 'list 1\nlist x\n' 2 BadNumber
+refuses 'keys of a hashed map that descend' "hashed 2\n'b\nint 1\n'a\nint 2\n" 4 KeyOrder
+refuses 'a key that a kept map has' "kept 2\n'b\nint 1\n'b\nint 2\n" 4 KeyRepeated
+refuses 'a map with no key' 'ordered 1\nint 1\n' 2 KeyExpected
+refuses 'an option with a count' 'some 1\n' 1 UnknownHead
+refuses 'an option of nothing' 'some\n' 2 EndTooEarly
+refuses 'a container in 64 others' "$(printf 'some\\n%.0s' {1..65})int 1\n" 65 TooDeep
+
+begin '64 options, one in the other'
+text "$(printf 'some\\n%.0s' {1..64})int 5\n"
+run build text a.cab
+prints 'built 1560\n'
+ends 0 ''
+holds a.cab "$five$(printf "$some%.0s" {1..64})"
+lines "get$(printf ' ?%.0s' {1..64})\nset int 6$(printf ' ?%.0s' {1..64})\nget$(printf ' ?%.0s' {1..63})\n"
+run run a.cab
+prints 'int 5\nok\nsome\n'
+ends 0 ''
+holds a.cab "$six$(printf "$some%.0s" {1..64})"
+finish
+
+for kind in "shared 'a" 'ordered 0' 'hashed 0' 'kept 0'; do
+    begin "a kind without a layout: $kind"
+    text "list 2\nint 5\n$kind\n"
+    run build text a.cab
+    prints ''
+    ends 1 'cab: save: Kind\n'
+    lacks a.cab
+    finish
+done
+
+begin 'a text that memory is refused for'
+yes none | head -n 4000000 | sed '1i list 4000000' > text
+(ulimit -v 150000 && "$cab" build text a.cab < input > output 2> errors)
+ended=$?
+prints ''
+grep -qx 'cab: text line [0-9]*: OutOfMemory' errors || differs "its faults were $(cat errors)"
+[ "$ended" = 1 ] || differs "it ended with status $ended"
+lacks a.cab
+finish
 
 begin 'no memory is taken for a count'
 text 'list 4000000000\n'
@@ -274,7 +323,8 @@ answers 'two spaces' "get  'a\n" 'bad\n' "$five"
 answers 'an empty line' '\n' 'bad\n' "$five"
 answers 'a line that is not UTF-8' 'get\xff\n' 'bad\n' "$five"
 answers 'a line for another kind' "set shared 'x\n" 'bad\n' "$five"
-answers 'a range' "range 'a 'b\n" 'bad\n' "$five"
+answers 'keys and a range where there are none' "keys\nrange 'a 'b\nkeys #0\nrange 'a 'b ?\n" 'wrong\nwrong\nmissing\nmissing\n' "$five"
+answers 'steps of other kinds' "get 'x\nget ?\nget #0\nset int 6 'x\n" 'missing\nmissing\nmissing\nmissing\n' "$five"
 answers 'a leaf of another kind' 'set bool true\nget\n' 'refused\nint 5\n' "$five"
 answers 'a line goes on after a refused one' 'get x\nset int 6\n' 'bad\nok\n' "$six"
 answers 'the last line without a newline' 'set int 6\nget' 'ok\nint 6\n' "$six"
@@ -293,6 +343,18 @@ answers_in 05000000fcffffff00000000000000000000000000000000 'an empty list' \
     'get\nget #0\nset int 5 #0\n' 'list 0\nmissing\nmissing\n' 05000000fcffffff00000000000000000000000000000000
 answers_in "$nineteen$seven${five}05000000b4ffffff02000000000000000000000000000000" 'elements with other bytes behind them' \
     'get #1\nset int 19 #1\nget #1\n' 'int 7\nok\nint 19\n' "$nineteen$nineteen${five}05000000b4ffffff02000000000000000000000000000000"
+
+answers_in "$five$some" 'a number in an option' \
+    "get\nget ?\nget 'x\nget #0\nset int 6 ?\nget ?\nset int 7\n" \
+    'some\nint 5\nmissing\nmissing\nok\nint 6\nrefused\n' "$six$some"
+answers_in "$none" 'an option of nothing' 'get\nget ?\nset int 6 ?\n' 'none\nmissing\nmissing\n' "$none"
+answers_in "$seven$nineteen$two${five}05000000ccffffff02000000000000000000000000000000" 'a list in a list' \
+    'get #0\nget #0 #1\nget #1\nset int 20 #0 #1\nget #0 #1\nget #1 #0\nget #0 #2\n' \
+    'list 2\nint 19\nint 5\nok\nint 20\nmissing\nmissing\n' "$seven$twenty$two${five}05000000ccffffff02000000000000000000000000000000"
+answers_in 68656c6c6f20776f726c642100000000020000008c000000ecffffff000000000000000000000000 'a text out of line' \
+    "get\nset text 'HELLO\\sWORLD!\nget\nset text 'hello\n" \
+    "text 'hello\\sworld!\nok\ntext 'HELLO\\sWORLD!\nrefused\n" \
+    48454c4c4f20574f524c442100000000020000008c000000ecffffff000000000000000000000000
 
 begin 'no input: the file is untouched'
 archive "$five"
@@ -369,12 +431,32 @@ ends 0 ''
 holds a.cab 01aaaaaaaaaaaaaa0600000000000000aaaaaaaaaaaaaaaa
 finish
 
+# nests CAUSE N: N options, one in the other, around a number
+nests() {
+    begin "$2 options are refused: $1"
+    archive "$five$(printf "$some%.0s" $(seq "$2"))"
+    cp a.cab before.cab
+    lines 'set int 6\n'
+    run run a.cab
+    prints ''
+    ends 1 "cab: open: $1\n"
+    cmp -s a.cab before.cab || differs 'a.cab was written'
+    finish
+}
+
+nests TooDeep 65
+nests TooDeep 2198
+nests Access 2199
+
+# of the last, both options lead to one node
 for bytes in '' 01 "${five:2}" ff0000000000000005000000000000000000000000000000 000200000000000000000000000000000000000000000000 02000000fe6f726c64ffffff000000000000000000000000 \
+    020000008100000064ffffff000000000000000000000000 03000000fcffffff00000000000000000000000000000000 \
     "$seven${nineteen}05000000d4ffffff02000000000000000000000000000000" \
     "$seven${nineteen}05000000ceffffff01000000000000000000000000000000" \
     "$seven${nineteen}05000000c8ffffff02000000000000000000000000000000" \
     "$seven${nineteen}05000000ccffffff03000000000000000000000000000000" \
-    "$seven${two}05000000ccffffff02000000000000000000000000000000"; do
+    "$seven${two}05000000ccffffff02000000000000000000000000000000" \
+    "$five${six}0400000001000000c8ffffff0000000000000000000000000400000001000000b0ffffff000000000000000000000000$two"; do
     begin "no archive: ${bytes:-no bytes}"
     archive "$bytes"
     lines 'get\nset int 6\n'

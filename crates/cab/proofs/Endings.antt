@@ -4,8 +4,8 @@ use Rattle.std.specs.Prelude.{String, Result, MatchResult}
 use Rattle.std.specs.declared.alloc.Global.{Global}
 use Rattle.std.specs.Coded.{Coded-set, coded_list, coded_ℕ}
 use Rattle.std.proofs.Math.Logic.{∥∥₁_elim}
-use Rattle.cabinet_text.specs.Tree.{Tree}
-use Rattle.cabinet_layout.specs.Denotes.{Accepted}
+use Rattle.cabinet_text_grammar.specs.Tree.{Tree}
+use Rattle.cabinet_documents.specs.Accepted.{Accepted}
 use Rattle.cabinet.specs.Editing.{EditedByLines}
 use Rattle.cabinet.proofs.SessionLaws.{unedited_bytes_stay}
 use Rattle.cabinet.specs.declared.fault.Fault.{Fault}

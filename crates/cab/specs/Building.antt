@@ -1,11 +1,11 @@
 -- What building an archive answers.
 use Rattle.std.specs.Prelude.{◌≡◌, ℕ, ◌<◌, ◌⊎◌, List, String, string_bytes, string_len, codes}
 use Rattle.std.specs.declared.alloc.Global.{Global}
-use Rattle.cabinet_text.specs.Tree.{Tree}
-use Rattle.cabinet_text.specs.Spelling.{text_of}
-use Rattle.cabinet_text.specs.FirstFault.{FirstFault}
-use Rattle.cabinet_images.specs.Image.{Image}
-use Rattle.cabinet.specs.Saving.{HasNoImageFor}
+use Rattle.cabinet_text_grammar.specs.Tree.{Tree}
+use Rattle.cabinet_text_grammar.specs.Spelling.{text_of}
+use Rattle.cabinet_text_grammar.specs.Fault.{FirstFault}
+use Rattle.cabinet_documents.specs.Image.{Image}
+use Rattle.cabinet_saving.specs.Saving.{HasNoImageFor}
 use Rattle.cabinet.specs.declared.fault.Fault.{Fault}
 use Rattle.cabinet.specs.declared.fault.Fault.TheVariants.{Usage, CannotRead, CannotWrite, Text, Save, Open, Run}
 
@@ -15,7 +15,7 @@ pub record Builds (text archive : List ℕ) : Type 0 where
   pub text_is : text ≡ text_of document
   pub is_image : Image document archive
 
--- why there is none: the text's first fault, a document past the limits, or want of memory
+-- why there is none: the text's first fault, a document with a kind that has no layout or past the limits, or want of memory
 abbrev pub RefusesText : List ℕ → Fault → Type 0
 RefusesText text (Text refusal) = FirstFault text refusal.line refusal.cause
 RefusesText text (Save refusal) = (t : Tree) × (text ≡ text_of t) × HasNoImageFor t refusal

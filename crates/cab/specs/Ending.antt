@@ -1,9 +1,10 @@
 -- What is told of a run in which more than one thing may fail.
 use Rattle.std.specs.Prelude.{◌≡◌, ℕ, ◌<◌, Bool, true, false, List, String, Result, Ok, Err, IsOk}
 use Rattle.std.specs.declared.alloc.Global.{Global}
-use Rattle.cabinet_text.specs.Tree.{Tree}
-use Rattle.cabinet_layout.specs.Denotes.{Accepted}
-use Rattle.cabinet.specs.Opening.{IsRefusedFor}
+use Rattle.cabinet_text_grammar.specs.Tree.{Tree}
+use Rattle.cabinet_documents.specs.Accepted.{Accepted}
+use Rattle.cabinet_documents.specs.Audit.{IsRefusedFor}
+use Rattle.cabinet_opening.specs.Refused.{refusal_of}
 use Rattle.cabinet.specs.Editing.{EditedByLines}
 use Rattle.cabinet.specs.declared.fault.Fault.{Fault}
 use Rattle.cabinet.specs.declared.fault.Fault.TheVariants.{Usage, CannotRead, CannotWrite, Text, Save, Open, Run}
@@ -39,7 +40,7 @@ abbrev pub EditsArchive : (old new : List ℕ) → String Global → Result (Uni
 EditsArchive old new path (Ok done) = IsArchive old × EditedTo old new
 EditsArchive old new path (Err (Run fault)) = IsArchive old × EditedByLines old new fault.lines fault.edits
 EditsArchive old new path (Err (CannotWrite other)) = (other ≡ path) × IsArchive old × ((e : EditedTo old new) × (0 < e.edits))
-EditsArchive old new path (Err (Open refusal)) = IsRefusedFor old refusal × (new ≡ old)
+EditsArchive old new path (Err (Open refusal)) = IsRefusedFor old (refusal_of refusal) × (new ≡ old)
 EditsArchive old new path (Err Usage) = ⊥
 EditsArchive old new path (Err (CannotRead other)) = ⊥
 EditsArchive old new path (Err (Text refusal)) = ⊥
@@ -48,7 +49,7 @@ EditsArchive old new path (Err (Save refusal)) = ⊥
 -- the faults that running an archive file ends by
 abbrev pub EndsRunBy : String Global → Fault → Type 0
 EndsRunBy path (CannotRead other) = other ≡ path
-EndsRunBy path (Open refusal) = (bytes : List ℕ) × IsRefusedFor bytes refusal
+EndsRunBy path (Open refusal) = (bytes : List ℕ) × IsRefusedFor bytes (refusal_of refusal)
 EndsRunBy path (Run fault) = (old : List ℕ) × (new : List ℕ) × IsArchive old × EditedByLines old new fault.lines fault.edits
 EndsRunBy path (CannotWrite other) = other ≡ path
 EndsRunBy path Usage = ⊥

@@ -2,7 +2,7 @@
 ghost use Rattle.std.specs.Prelude.{◌≡◌, ◌<◌, IfOk, IfErr, string_bytes, string_len, codes};
 ghost use Rattle.cab.specs.Building.{Builds, RefusesText, EndsBuildBy};
 
-use cabinet::{Fault, read_text, save};
+use cabinet::{Fault, read_text, to_bytes};
 use std::alloc::Global;
 use std::fs;
 use std::rt::Files;
@@ -16,9 +16,8 @@ pub fn archive_of(alloc: Global, text: &[u8]) -> Result<Vec<u8>, Fault>
         Ok(document) => document,
         Err(refusal) => return Err(Fault::Text(refusal)),
     };
-    let mut archive = Vec::new(alloc);
-    match save(alloc, &document, &mut archive) {
-        Ok(()) => Ok(archive),
+    match to_bytes(alloc, &document) {
+        Ok(archive) => Ok(archive),
         Err(refusal) => Err(Fault::Save(refusal)),
     }
 }

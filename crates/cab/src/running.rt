@@ -1,7 +1,7 @@
 //! `cab run`: the lines of the standard input, carried out in an archive file.
 ghost use Rattle.std.specs.Prelude.{◌≡◌, ◌-◌, ◌^◌, ◌<◌, true, IfErr, MatchResult};
-ghost use Rattle.cabinet_text.specs.Tree.{Tree};
-ghost use Rattle.cabinet_layout.specs.Denotes.{Accepted};
+ghost use Rattle.cabinet_text_grammar.specs.Tree.{Tree};
+ghost use Rattle.cabinet_documents.specs.Accepted.{Accepted};
 ghost use Rattle.cabinet.specs.Editing.{EditedByLines};
 ghost use Rattle.cab.specs.Ending.{IsFlushed, IsFirstFault, EditsArchive, EndsRunBy};
 

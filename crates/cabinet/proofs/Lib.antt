@@ -1,6 +1,5 @@
-pub mod Setting
-pub mod Saves
-pub mod Questions
+mod Roots
+mod Questions
 pub mod Sessions
 pub mod SessionsGiven
 pub mod SessionsProgress

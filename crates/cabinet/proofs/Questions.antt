@@ -1,27 +1,40 @@
--- What is answered to a question, by what its path leads to.
-use Rattle.std.proofs.Common.{◌≡◌, ◌++◌, ℕ, List, Some, sym, ap, ◌∙◌}
-use Rattle.std.specs.Prelude.{codes}
-use Rattle.cabinet_text.specs.Tree.{Tree, Step}
-use Rattle.cabinet_text.specs.Spelling.{head}
-use Rattle.cabinet_text.specs.Answering.{answer_about, asked_about}
-use Rattle.cabinet_text.specs.Line.{Line, get}
-use Rattle.cabinet_text.specs.Session.{reply}
-use Rattle.cabinet_text.specs.declared.answer.Asked.TheVariants.{Answered, Missing}
-use Rattle.cabinet_layout.specs.Denotes.{Accepted}
-use Rattle.cabinet_nodes.specs.Reading.{LeadsNowhere, LeadsTo}
-use Rattle.cabinet_nodes.specs.declared.reading.node.NodeRef.{NodeRef}
-use Rattle.cabinet.specs.Opening.{asked_by}
+-- A question does no edit.
+use Rattle.std.proofs.Common.{◌≡◌, ℕ, List, Option, Some, None, refl}
+use Rattle.std.specs.Prelude.{string_bytes}
+use Rattle.cabinet_text_grammar.specs.Keys.{ordered, hashed, kept}
+use Rattle.cabinet_text_grammar.specs.Tree.{Tree, leaf, shared, nothing, just, list, map}
+use Rattle.cabinet_text_grammar.specs.Path.{node_at}
+use Rattle.cabinet_text_grammar.specs.Line.{Line, get, keys, range, set}
+use Rattle.cabinet_text_grammar.specs.Answering.{Answer, answer, head, head_of, if_there, keys_of, keys_within}
+use Rattle.cabinet_text_nodes.specs.Lines.{IsQuestion}
+use Rattle.cabinet.specs.Session.{one_if_done}
 
-module _ (x : List ℕ) (path : List Step) (line : Line) (e : line ≡ get path) (t : Tree) (a : Accepted x t) where
-  pub reply_nowhere : LeadsNowhere x path → reply t (Some line) ≡ codes "missing\n"
-  reply_nowhere h = ap (λ q. reply t (Some q)) e ∙ ap answer_about (h t a)
+none_done : (found : Option Tree) (f : Tree → Answer) → ((t : Tree) → one_if_done (f t) ≡ 0) → one_if_done (if_there found f) ≡ 0
+none_done None f h = refl
+none_done (Some t) f h = h t
 
-  pub asked_nowhere : LeadsNowhere x path → Missing ≡ asked_by t line
-  asked_nowhere h = sym (ap (asked_by t) e ∙ ap asked_about (h t a))
+keys_done : (t : Tree) → one_if_done (keys_of t) ≡ 0
+keys_done (leaf l) = refl
+keys_done (shared s) = refl
+keys_done nothing = refl
+keys_done (just u) = refl
+keys_done (list ts) = refl
+keys_done (map ordered ps) = refl
+keys_done (map hashed ps) = refl
+keys_done (map kept ps) = refl
 
-  module _ (node : NodeRef) (h : LeadsTo x path node) where
-    pub reply_to_node : reply t (Some line) ≡ head (h t a).0 ++ codes "\n"
-    reply_to_node = ap (λ q. reply t (Some q)) e ∙ ap answer_about (h t a).1
+within_done : (low high : List ℕ) (t : Tree) → one_if_done (keys_within low high t) ≡ 0
+within_done low high (leaf l) = refl
+within_done low high (shared s) = refl
+within_done low high nothing = refl
+within_done low high (just u) = refl
+within_done low high (list ts) = refl
+within_done low high (map ordered ps) = refl
+within_done low high (map hashed ps) = refl
+within_done low high (map kept ps) = refl
 
-    pub asked_of_node : Answered ≡ asked_by t line
-    asked_of_node = sym (ap (asked_by t) e ∙ ap asked_about (h t a).1)
+pub question_done : (t : Tree) (line : Line) → IsQuestion line → one_if_done (answer t line) ≡ 0
+question_done t (get path) h = none_done (node_at t path) (λ u. head (head_of u)) (λ u. refl)
+question_done t (keys path) h = none_done (node_at t path) keys_of keys_done
+question_done t (range low high path) h = none_done (node_at t path) (keys_within low high) (within_done low high)
+question_done t (set path l) h = absurd h

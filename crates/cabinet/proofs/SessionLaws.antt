@@ -1,68 +1,87 @@
 -- The laws of sessions.
-use Rattle.std.proofs.Common.{◌≡◌, ℕ, suc, zero, List, [], ◌∷◌, refl, sym, ap, ◌∙◌, arith, Option, Some, None}
-use Rattle.cabinet_text.specs.Tree.{Tree}
-use Rattle.cabinet_text.specs.Answering.{outcome}
-use Rattle.cabinet_text.specs.declared.answer.SetAnswer.{SetAnswer}
-use Rattle.cabinet_text.specs.declared.answer.SetAnswer.TheVariants.{Done, Missing, Refused}
-use Rattle.cabinet_text.specs.Line.{Line, get, set, Says}
-use Rattle.cabinet_text.specs.Session.{next, edits, edits_by, one_if_done}
-use Rattle.cabinet_layout.specs.Denotes.{Accepted}
-use Rattle.cabinet_images.specs.Image.{Image}
-use Rattle.cabinet_layout.specs.Laws.{written_at}
-use Rattle.cabinet_nodes.specs.Setting.{put_if_done}
-use Rattle.cabinet.specs.Editing.{bytes_next, bytes_after}
-use Rattle.cabinet.specs.Laws.{AcceptedAfterEachLine, ImageAfterEachLine, UneditedBytesStay}
-use Rattle.cabinet.proofs.Setting.{document_of, image_of}
+use Rattle.std.proofs.Common.{◌≡◌, ℕ, ◌+◌, suc, zero, List, [], ◌∷◌, take, drop, refl, sym, ap, subst, ◌∙◌, arith, Option, Some, None}
+use Rattle.archive_shape_layout.specs.Value.{Value}
+use Rattle.cabinet_text_grammar.specs.Tree.{Tree, Leaf}
+use Rattle.cabinet_text_grammar.specs.Path.{Step}
+use Rattle.cabinet_text_grammar.specs.Line.{Line, get, keys, range, set, Says}
+use Rattle.cabinet_text_grammar.specs.Answering.{Answer, head, keys_are, wrong, missing, done, refused, bad, answer, reply}
+use Rattle.cabinet_documents.specs.Accepted.{Accepted}
+use Rattle.cabinet_documents.specs.Image.{Image}
+use Rattle.cabinet_setting.specs.Setting.{EditLeaves}
+use Rattle.cabinet_setting.proofs.Kept.{set_keeps_accepted, set_keeps_image}
+use Rattle.cabinet.specs.Session.{AllSay, next, after_all, edits, one_if_done}
+use Rattle.cabinet.specs.Editing.{LineLeaves, LinesLeave, no_line, more_lines}
+use Rattle.cabinet.specs.Laws.{IsAfter, AcceptedAfterEachLine, ImageAfterEachLine, UneditedBytesStay}
 
 -- ---- after one line
 
-next_accepted : (x : List ℕ) (t : Tree) (text : List ℕ) (line : Option Line) → Says text line → Accepted x t → Accepted (bytes_next x t line) (next t line)
-next_accepted x t text None h a = a
-next_accepted x t text (Some (get path)) h a = a
-next_accepted x t text (Some (set path l)) h a =
-    document_of x (put_if_done (outcome t path l) (written_at x path l) x) path l h.0.1 (outcome t path l) refl t refl a
+next_accepted : (x y : List ℕ) (t : Tree) (text : List ℕ) (line : Option Line) → Says text line → (a : Accepted x t) → LineLeaves x a.value t line y → Accepted y (next t line)
+next_accepted x y t text None h a l = subst (λ b. Accepted b t) (sym l) a
+next_accepted x y t text (Some (get path)) h a l = subst (λ b. Accepted b t) (sym l) a
+next_accepted x y t text (Some (keys path)) h a l = subst (λ b. Accepted b t) (sym l) a
+next_accepted x y t text (Some (range low high path)) h a l = subst (λ b. Accepted b t) (sym l) a
+next_accepted x y t text (Some (set path new)) h a l = set_keeps_accepted x y t path new h.0.1 a l
 
-next_image : (x : List ℕ) (t : Tree) (text : List ℕ) (line : Option Line) → Says text line → Image t x → Image (next t line) (bytes_next x t line)
-next_image x t text None h i = i
-next_image x t text (Some (get path)) h i = i
-next_image x t text (Some (set path l)) h i =
-    image_of x (put_if_done (outcome t path l) (written_at x path l) x) path l h.0.1 (outcome t path l) refl t refl i
+next_image : (x y : List ℕ) (t : Tree) (text : List ℕ) (line : Option Line) → Says text line → (i : Image t x) → (a : Accepted x t) → LineLeaves x a.value t line y → Image (next t line) y
+next_image x y t text None h i a l = subst (Image t) (sym l) i
+next_image x y t text (Some (get path)) h i a l = subst (Image t) (sym l) i
+next_image x y t text (Some (keys path)) h i a l = subst (Image t) (sym l) i
+next_image x y t text (Some (range low high path)) h i a l = subst (Image t) (sym l) i
+next_image x y t text (Some (set path new)) h i a l = set_keeps_image x y t path new h.0.1 i a l
 
 -- ---- after each line
 
+-- the bytes between, of which something is so that each line keeps
+module _ (Is : Tree → List ℕ → Type 0)
+    (keeps : (x y : List ℕ) (t : Tree) (text : List ℕ) (line : Option Line) → Says text line → Is t x → (a : Accepted x t) → LineLeaves x a.value t line y → Is (next t line) y)
+  where
+  after_each : (t : Tree) (x y : List ℕ) (texts : List (List ℕ)) (said : List (Option Line)) (lines : ℕ)
+      → Is t x → AllSay texts said → LinesLeave x t said y → (mid : List ℕ) × IsAfter x y t said lines mid × Is (after_all t (take lines said)) mid
+  after_each t x y texts said zero i h l = (x, record { before = no_line refl refl; later = l }, i)
+  after_each t x y texts [] (suc n) i h l = (x, record { before = no_line refl refl; later = l }, i)
+  after_each t x y [] (line ∷ said) (suc n) i h l = absurd h
+  after_each t x y (text ∷ texts) (line ∷ said) (suc n) i h (no_line e f) = absurd (cc)
+  after_each t x y (text ∷ texts) (line ∷ said) (suc n) i h (more_lines {mid = mid} {line = first} {rest = rest} e a left later) =
+      let same : first ≡ line = cc in
+      let others : rest ≡ said = cc in
+      let left_here : LineLeaves x a.value t line mid = subst (λ s. LineLeaves x a.value t s mid) same left in
+      let later_here : LinesLeave mid (next t line) said y =
+          subst (λ s. LinesLeave mid (next t s) said y) same (subst (λ ss. LinesLeave mid (next t first) ss y) others later)
+      in
+      let r = after_each (next t line) mid y texts said n (keeps x mid t text line h.0 i a left_here) h.1 later_here in
+      (r.0, record { before = more_lines refl a left_here r.1.before; later = r.1.later }, r.2)
+
 pub accepted_after_each_line : AcceptedAfterEachLine
-accepted_after_each_line t bytes texts said zero a h = a
-accepted_after_each_line t bytes [] [] (suc n) a h = a
-accepted_after_each_line t bytes (text ∷ texts) (line ∷ said) (suc n) a h =
-    accepted_after_each_line (next t line) (bytes_next bytes t line) texts said n (next_accepted bytes t text line h.0 a) h.1
-accepted_after_each_line t bytes [] (line ∷ said) (suc n) a h = absurd h
-accepted_after_each_line t bytes (text ∷ texts) [] (suc n) a h = absurd h
+accepted_after_each_line t x y texts said lines a h l =
+    after_each (λ u bytes. Accepted bytes u) (λ x y u text line says i b left. next_accepted x y u text line says b left) t x y texts said lines a h l
 
 pub image_after_each_line : ImageAfterEachLine
-image_after_each_line t bytes texts said zero i h = i
-image_after_each_line t bytes [] [] (suc n) i h = i
-image_after_each_line t bytes (text ∷ texts) (line ∷ said) (suc n) i h =
-    image_after_each_line (next t line) (bytes_next bytes t line) texts said n (next_image bytes t text line h.0 i) h.1
-image_after_each_line t bytes [] (line ∷ said) (suc n) i h = absurd h
-image_after_each_line t bytes (text ∷ texts) [] (suc n) i h = absurd h
+image_after_each_line t x y texts said lines i h l = after_each Image next_image t x y texts said lines i h l
 
 -- ---- no edit
 
-put_none : (r : SetAnswer) (edited bytes : List ℕ) → one_if_done r ≡ 0 → put_if_done r edited bytes ≡ bytes
-put_none Done edited bytes e = absurd (omega arith)
-put_none Missing edited bytes e = refl
-put_none Refused edited bytes e = refl
+put_none : (x y : List ℕ) (root : Value) (path : List Step) (new : Leaf) (r : Answer) → one_if_done r ≡ 0 → EditLeaves x root path new r y → y ≡ x
+put_none x y root path new (head i) e l = l
+put_none x y root path new (keys_are ks) e l = l
+put_none x y root path new wrong e l = l
+put_none x y root path new missing e l = l
+put_none x y root path new done e l = absurd (omega arith)
+put_none x y root path new refused e l = l
+put_none x y root path new bad e l = l
 
-next_unedited : (x : List ℕ) (t : Tree) (line : Option Line) → edits_by t line ≡ 0 → bytes_next x t line ≡ x
-next_unedited x t None e = refl
-next_unedited x t (Some (get path)) e = refl
-next_unedited x t (Some (set path l)) e = put_none (outcome t path l) (written_at x path l) x e
+line_unedited : (x y : List ℕ) (root : Value) (t : Tree) (line : Option Line) → one_if_done (reply t line) ≡ 0 → LineLeaves x root t line y → y ≡ x
+line_unedited x y root t None e l = l
+line_unedited x y root t (Some (get path)) e l = l
+line_unedited x y root t (Some (keys path)) e l = l
+line_unedited x y root t (Some (range low high path)) e l = l
+line_unedited x y root t (Some (set path new)) e l = put_none x y root path new (answer t (set path new)) e l
 
-after_unedited : (x : List ℕ) (t : Tree) (said : List (Option Line)) → edits t said ≡ 0 → bytes_after x t said ≡ x
-after_unedited x t [] e = refl
-after_unedited x t (line ∷ said) e =
-    let first : bytes_next x t line ≡ x = next_unedited x t line (omega arith) in
-    ap (λ b. bytes_after b (next t line) said) first ∙ after_unedited x (next t line) said (omega arith)
+lines_unedited : {x y : List ℕ} {t : Tree} {said : List (Option Line)} → LinesLeave x t said y → edits t said ≡ 0 → y ≡ x
+lines_unedited (no_line e f) h = f
+lines_unedited {x = x} {t = t} (more_lines {mid = mid} {line = line} {rest = rest} e a left later) h =
+    let sum : one_if_done (reply t line) + edits (next t line) rest ≡ 0 = sym (ap (edits t) e) ∙ h in
+    let first : mid ≡ x = line_unedited x mid a.value t line (omega (arith, sum)) left in
+    lines_unedited later (omega (arith, sum)) ∙ first
 
 pub unedited_bytes_stay : UneditedBytesStay
-unedited_bytes_stay x y t lines a e = e.edits_done.bytes t a ∙ after_unedited x t e.said (sym (e.edits_counted t a))
+unedited_bytes_stay x y t lines a e = lines_unedited (e.edits_done.bytes t a) (sym (e.edits_counted t a))

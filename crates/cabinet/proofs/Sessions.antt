@@ -1,17 +1,17 @@
 -- Lines carried out, one after another.
-use Rattle.std.proofs.Common.{◌≡◌, ℕ, ◌+◌, ◌<◌, ◌≤◌, Bool, false, suc, zero, List, [], ◌∷◌, ◌++◌, length, take, drop, refl, sym, ap, subst, ◌∙◌, append_assoc, append-nil, length-append, arith, Option, Some, add-one}
+use Rattle.std.proofs.Common.{◌≡◌, ℕ, ◌+◌, ◌<◌, ◌≤◌, Bool, false, suc, zero, List, [], ◌∷◌, ◌++◌, length, take, drop, refl, sym, ap, subst, ◌∙◌, append_assoc, append-nil, length-append, arith, Option, Some, None, add-one}
 use Rattle.std.proofs.lemmas.List.Elements.{All-push, All-same}
 use Rattle.archive_shape_writing.specs.Writing.{Cut}
-use Rattle.cabinet_text.specs.Tree.{Tree, Leaf, Step}
-use Rattle.cabinet_text.specs.Answering.{outcome, change}
-use Rattle.cabinet_text.specs.declared.answer.SetAnswer.{SetAnswer}
-use Rattle.cabinet_text.specs.Line.{Line, set, Says}
-use Rattle.cabinet_text.specs.Session.{lines_of, AllSay, reply, next, answers, after, edits, edits_by}
-use Rattle.cabinet_layout.specs.Denotes.{Accepted}
-use Rattle.cabinet_images.specs.Image.{Image}
-use Rattle.cabinet_layout.specs.Laws.{written_at}
-use Rattle.cabinet_nodes.specs.Setting.{put_if_done}
-use Rattle.cabinet.specs.Editing.{Edited, EditedByLines, bytes_next, bytes_after}
+use Rattle.cabinet_text_grammar.specs.Tree.{Tree, Leaf}
+use Rattle.cabinet_text_grammar.specs.Path.{Step}
+use Rattle.cabinet_text_grammar.specs.Line.{Line, get, keys, range, set, Says}
+use Rattle.cabinet_text_grammar.specs.Answering.{Answer, answer, reply, change, spelled_answer}
+use Rattle.cabinet_text_nodes.specs.Lines.{IsQuestion}
+use Rattle.cabinet_documents.specs.Accepted.{Accepted}
+use Rattle.cabinet_documents.specs.Image.{Image}
+use Rattle.cabinet_setting.specs.Setting.{EditLeaves}
+use Rattle.cabinet.specs.Session.{lines_of, AllSay, answer_to, next, answers, after_all, edits, one_if_done}
+use Rattle.cabinet.specs.Editing.{LineLeaves, LinesLeave, no_line, more_lines, Edited, EditedByLines}
 use Rattle.cabinet.specs.Steps.{longest_line, Carried, CarriedCut}
 
 -- ---- one more element
@@ -39,45 +39,70 @@ say_length (m ∷ ls) (n ∷ ss) h = ap suc (say_length ls ss h.1)
 say_length [] (n ∷ ss) h = absurd h
 say_length (m ∷ ls) [] h = absurd h
 
-after_push : (t : Tree) (ss : List (Option Line)) (s : Option Line) → after t (ss ++ s ∷ []) ≡ next (after t ss) s
+after_push : (t : Tree) (ss : List (Option Line)) (s : Option Line) → after_all t (ss ++ s ∷ []) ≡ next (after_all t ss) s
 after_push t [] s = refl
 after_push t (r ∷ ss) s = after_push (next t r) ss s
 
-answers_push : (t : Tree) (ss : List (Option Line)) (s : Option Line) → answers t (ss ++ s ∷ []) ≡ answers t ss ++ reply (after t ss) s
-answers_push t [] s = append-nil (reply t s)
-answers_push t (r ∷ ss) s = ap (λ x. reply t r ++ x) (answers_push (next t r) ss s) ∙ sym (append_assoc (reply t r) (answers (next t r) ss) (reply (after (next t r) ss) s))
+answers_push : (t : Tree) (ss : List (Option Line)) (s : Option Line) → answers t (ss ++ s ∷ []) ≡ answers t ss ++ answer_to (after_all t ss) s
+answers_push t [] s = append-nil (answer_to t s)
+answers_push t (r ∷ ss) s = ap (λ x. answer_to t r ++ x) (answers_push (next t r) ss s) ∙ sym (append_assoc (answer_to t r) (answers (next t r) ss) (answer_to (after_all (next t r) ss) s))
 
-edits_push : (t : Tree) (ss : List (Option Line)) (s : Option Line) → edits t (ss ++ s ∷ []) ≡ edits t ss + edits_by (after t ss) s
+edits_push : (t : Tree) (ss : List (Option Line)) (s : Option Line) → edits t (ss ++ s ∷ []) ≡ edits t ss + one_if_done (reply (after_all t ss) s)
 edits_push t [] s = omega arith
 edits_push t (r ∷ ss) s = omega (arith, edits_push (next t r) ss s)
 
-bytes_push : (x : List ℕ) (t : Tree) (ss : List (Option Line)) (s : Option Line) → bytes_after x t (ss ++ s ∷ []) ≡ bytes_next (bytes_after x t ss) (after t ss) s
-bytes_push x t [] s = refl
-bytes_push x t (r ∷ ss) s = bytes_push (bytes_next x t r) (next t r) ss s
+-- what lines leave, and then others
+pub lines_join : {x y z : List ℕ} {t : Tree} {ss rest : List (Option Line)} → LinesLeave x t ss y → LinesLeave y (after_all t ss) rest z → LinesLeave x t (ss ++ rest) z
+lines_join {x = x} {z = z} {t = t} {ss = ss} {rest = rest} (no_line e f) k =
+    let same : LinesLeave x (after_all t ss) rest z = subst (λ b. LinesLeave b (after_all t ss) rest z) f k in
+    let here : LinesLeave x t rest z = subst (λ q. LinesLeave x (after_all t q) rest z) e same in
+    subst (λ q. LinesLeave x t (q ++ rest) z) (sym e) here
+lines_join {y = y} {z = z} {t = t} {rest = rest} (more_lines {line = line} {rest = later} e a l h) k =
+    more_lines (ap (λ q. q ++ rest) e) a l (lines_join h (subst (λ q. LinesLeave y (after_all t q) rest z) e k))
 
 edited_none : (x : List ℕ) → Edited x x []
-edited_none x = record { bytes = λ t a. refl; document = λ t a. a; image = λ t i. i }
+edited_none x = record { bytes = λ t a. no_line refl refl; document = λ t a. a; image = λ t i. i }
 
 edited_push : (x y z : List ℕ) (ss : List (Option Line)) (s : Option Line) → Edited x y ss → Edited y z (s ∷ []) → Edited x z (ss ++ s ∷ [])
 edited_push x y z ss s h k = record {
-  bytes = λ t a. k.bytes (after t ss) (h.document t a) ∙ ap (λ b. bytes_next b (after t ss) s) (h.bytes t a) ∙ sym (bytes_push x t ss s);
-  document = λ t a. subst (Accepted z) (sym (after_push t ss s)) (k.document (after t ss) (h.document t a));
-  image = λ t i. subst (λ u. Image u z) (sym (after_push t ss s)) (k.image (after t ss) (h.image t i));
+  bytes = λ t a. lines_join (h.bytes t a) (k.bytes (after_all t ss) (h.document t a));
+  document = λ t a. subst (Accepted z) (sym (after_push t ss s)) (k.document (after_all t ss) (h.document t a));
+  image = λ t i. subst (λ u. Image u z) (sym (after_push t ss s)) (k.image (after_all t ss) (h.image t i));
 }
 
+-- ---- one line and its edit
+
 -- setting a leaf is an edit
-pub edited_by_set : (x y : List ℕ) (path : List Step) (l : Leaf) (s : Option Line) (r : SetAnswer) → s ≡ Some (set path l)
-    → ((t : Tree) → Accepted x t → r ≡ outcome t path l)
-    → y ≡ put_if_done r (written_at x path l) x
+pub edited_by_set : (x y : List ℕ) (path : List Step) (l : Leaf) (s : Option Line) (r : Answer) → s ≡ Some (set path l)
+    → ((t : Tree) → Accepted x t → r ≡ answer t (set path l))
+    → ((t : Tree) (a : Accepted x t) → EditLeaves x a.value path l r y)
     → ((t : Tree) → Accepted x t → Accepted y (change t path l))
     → ((t : Tree) → Image t x → Image (change t path l) y)
     → Edited x y (s ∷ [])
-edited_by_set x y path l s r e answer b d i =
+edited_by_set x y path l s r e answered b d i =
     subst (λ q. Edited x y (q ∷ [])) (sym e) (record {
-      bytes = λ t a. b ∙ ap (λ q. put_if_done q (written_at x path l) x) (answer t a);
+      bytes = λ t a. more_lines refl a (subst (λ q. EditLeaves x a.value path l q y) (answered t a) (b t a)) (no_line refl refl);
       document = d;
       image = i;
     })
+
+-- its answer
+pub answer_by_set : (t : Tree) (path : List Step) (l : Leaf) (s : Option Line) (r : Answer) → s ≡ Some (set path l) → r ≡ answer t (set path l) → answer_to t s ≡ spelled_answer r
+answer_by_set t path l s r e h = ap (answer_to t) e ∙ ap spelled_answer (sym h)
+
+pub counted_by_set : (t : Tree) (path : List Step) (l : Leaf) (s : Option Line) (r : Answer) → s ≡ Some (set path l) → r ≡ answer t (set path l) → one_if_done r ≡ one_if_done (reply t s)
+counted_by_set t path l s r e h = ap one_if_done h ∙ ap (λ q. one_if_done (reply t q)) (sym e)
+
+-- bytes that say nothing, and questions, leave everything
+pub edited_by_none : (x : List ℕ) → Edited x x (None ∷ [])
+edited_by_none x = record { bytes = λ t a. more_lines refl a refl (no_line refl refl); document = λ t a. a; image = λ t i. i }
+
+pub edited_by_question : (x : List ℕ) (line : Line) → IsQuestion line → Edited x x (Some line ∷ [])
+edited_by_question x (get path) h = record { bytes = λ t a. more_lines refl a refl (no_line refl refl); document = λ t a. a; image = λ t i. i }
+edited_by_question x (keys path) h = record { bytes = λ t a. more_lines refl a refl (no_line refl refl); document = λ t a. a; image = λ t i. i }
+edited_by_question x (range low high path) h =
+    record { bytes = λ t a. more_lines refl a refl (no_line refl refl); document = λ t a. a; image = λ t i. i }
+edited_by_question x (set path l) h = absurd h
 
 -- ---- lines and their edits
 
@@ -86,7 +111,7 @@ none_edited x = record { texts = []; said = []; say = tt; count = refl; edits_do
 
 -- a further line was carried out
 pub edited_by_one : (x y z : List ℕ) (lines edited now : ℕ) (text : List ℕ) (s : Option Line) → Says text s → Edited y z (s ∷ [])
-    → ((t : Tree) → Accepted y t → now ≡ edited + edits_by t s) → EditedByLines x y lines edited → EditedByLines x z (lines + 1) now
+    → ((t : Tree) → Accepted y t → now ≡ edited + one_if_done (reply t s)) → EditedByLines x y lines edited → EditedByLines x z (lines + 1) now
 edited_by_one x y z lines edited now text s says edit counted e = record {
   texts = e.texts ++ text ∷ [];
   said = e.said ++ s ∷ [];
@@ -94,7 +119,7 @@ edited_by_one x y z lines edited now text s says edit counted e = record {
   count = omega (arith, length-append e.said (s ∷ []), e.count);
   edits_done = edited_push x y z e.said s e.edits_done edit;
   edits_counted = λ t a.
-      counted (after t e.said) (e.edits_done.document t a) ∙ ap (λ n. n + edits_by (after t e.said) s) (e.edits_counted t a)
+      counted (after_all t e.said) (e.edits_done.document t a) ∙ ap (λ n. n + one_if_done (reply (after_all t e.said) s)) (e.edits_counted t a)
       ∙ sym (edits_push t e.said s);
 }
 
@@ -117,7 +142,7 @@ module _ (input x y z old mid new : List ℕ) (lines edited now : ℕ) (line : L
     (short : length line ≤ longest_line)
     (says : Says line s)
     (edit : Edited y z (s ∷ []))
-    (counted : (t : Tree) → Accepted y t → now ≡ edited + edits_by t s) where
+    (counted : (t : Tree) → Accepted y t → now ≡ edited + one_if_done (reply t s)) where
   lines_say : AllSay (take (lines + 1) (lines_of input)) (c.said ++ s ∷ [])
   lines_say = subst (λ ls. AllSay ls (c.said ++ s ∷ [])) (sym (take_one_more lines (lines_of input) line more next_is)) (say_push (take lines (lines_of input)) c.said line s c.say says)
 
@@ -126,12 +151,12 @@ module _ (input x y z old mid new : List ℕ) (lines edited now : ℕ) (line : L
 
   edits_more : (t : Tree) → Accepted x t → now ≡ edits t (c.said ++ s ∷ [])
   edits_more t a =
-      let e = counted (after t c.said) (c.edits_done.document t a) in
+      let e = counted (after_all t c.said) (c.edits_done.document t a) in
       let d = c.edits_counted t a in
-      e ∙ ap (λ n. n + edits_by (after t c.said) s) d ∙ sym (edits_push t c.said s)
+      e ∙ ap (λ n. n + one_if_done (reply (after_all t c.said) s)) d ∙ sym (edits_push t c.said s)
 
   -- the next line was carried out and answered
-  pub step : ((t : Tree) → Accepted y t → new ≡ mid ++ reply t s) → Carried input x z old new (lines + 1) now
+  pub step : ((t : Tree) → Accepted y t → new ≡ mid ++ answer_to t s) → Carried input x z old new (lines + 1) now
   step a = record {
     said = c.said ++ s ∷ [];
     say = lines_say;
@@ -141,14 +166,14 @@ module _ (input x y z old mid new : List ℕ) (lines edited now : ℕ) (line : L
         (All-push (λ (l : List ℕ). length l ≤ longest_line) (take lines (lines_of input)) line c.short short);
     edits_done = edited_push x y z c.said s c.edits_done edit;
     answered = λ t b.
-        a (after t c.said) (c.edits_done.document t b) ∙ ap (λ m. m ++ reply (after t c.said) s) (c.answered t b)
-        ∙ append_assoc old (answers t c.said) (reply (after t c.said) s) ∙ ap (λ m. old ++ m) (sym (answers_push t c.said s));
+        a (after_all t c.said) (c.edits_done.document t b) ∙ ap (λ m. m ++ answer_to (after_all t c.said) s) (c.answered t b)
+        ∙ append_assoc old (answers t c.said) (answer_to (after_all t c.said) s) ∙ ap (λ m. old ++ m) (sym (answers_push t c.said s));
     edits_counted = edits_more;
   }
 
   -- or carried out, and its answer cut
-  pub carried_cut : (counts : Bool) → ((t : Tree) → Accepted y t → Cut mid new (reply t s))
-      → (counts ≡ false → (t : Tree) → Accepted y t → length new < length mid + length (reply t s))
+  pub carried_cut : (counts : Bool) → ((t : Tree) → Accepted y t → Cut mid new (answer_to t s))
+      → (counts ≡ false → (t : Tree) → Accepted y t → length new < length mid + length (answer_to t s))
       → CarriedCut counts input x z old new (lines + 1) now
   carried_cut counts a short_of = record {
     before = c.said;
@@ -159,9 +184,9 @@ module _ (input x y z old mid new : List ℕ) (lines edited now : ℕ) (line : L
         All-same (λ (l : List ℕ). length l ≤ longest_line) _ _ (take_one_more lines (lines_of input) line more next_is)
         (All-push (λ (l : List ℕ). length l ≤ longest_line) (take lines (lines_of input)) line c.short short);
     edits_done = edited_push x y z c.said s c.edits_done edit;
-    answered = λ t b. subst (λ m. Cut m new (reply (after t c.said) s)) (c.answered t b) (a (after t c.said) (c.edits_done.document t b));
+    answered = λ t b. subst (λ m. Cut m new (answer_to (after_all t c.said) s)) (c.answered t b) (a (after_all t c.said) (c.edits_done.document t b));
     lost = λ u t b.
-        subst (λ m. length new < length m + length (reply (after t c.said) s)) (c.answered t b)
-        (short_of u (after t c.said) (c.edits_done.document t b));
+        subst (λ m. length new < length m + length (answer_to (after_all t c.said) s)) (c.answered t b)
+        (short_of u (after_all t c.said) (c.edits_done.document t b));
     edits_counted = edits_more;
   }

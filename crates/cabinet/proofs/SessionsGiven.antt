@@ -4,7 +4,7 @@ use Rattle.std.proofs.lemmas.List.{take-append-drop, take_all, drop_more}
 use Rattle.std.proofs.lemmas.List.Quantifiers.{position-Some}
 use Rattle.std.proofs.lemmas.List.Sums.{sum_by-cons, sum_by-append, sum_by_push, prefix_len-le-length}
 use Rattle.std.specs.List.{position, prefix_len}
-use Rattle.cabinet_text.specs.Session.{lines_of, onto_first}
+use Rattle.cabinet.specs.Session.{lines_of, onto_first}
 use Rattle.cabinet.specs.Steps.{newlines, line_begun, begun_in}
 
 -- 1 for a newline, and 0 for every other byte

@@ -2,7 +2,7 @@
 use Rattle.std.proofs.Common.{◌≡◌, ◌≢◌, ℕ, Bool, ◌+◌, ◌<◌, ◌≤◌, ◌==◌, ◌⊎◌, inl, inr, true, false, cond, List, [], ◌∷◌, ◌++◌, length, take, drop, refl, sym, ap, subst, ◌∙◌, append_assoc, append-nil, length-append, length-take, length-drop, get_or, arith}
 use Rattle.std.proofs.lemmas.Bool.{ne_eqb}
 use Rattle.std.proofs.lemmas.List.{take_all, take-append-le, take-append-drop, drop_more}
-use Rattle.cabinet_text.specs.Session.{lines_of}
+use Rattle.cabinet.specs.Session.{lines_of}
 use Rattle.cabinet.specs.Steps.{longest_line, longest_input, newlines, line_begun, begun_in, Carried, IsMemoryRefused, IsReadFault, IsLineTooLong, IsInputTooLong, Completed, Faulted}
 use Rattle.cabinet.specs.declared.session.RunCause.{RunCause}
 use Rattle.cabinet.specs.Editing.{EditedByLines}

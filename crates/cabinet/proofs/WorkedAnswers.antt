@@ -2,14 +2,9 @@
 use Rattle.std.proofs.Common.{◌≡◌, ◌≤◌, ◌++◌, ℕ, List, length, take, drop, Ok, Err, refl, subst, sym, ap, ◌∙◌, append-nil, arith}
 use Rattle.std.specs.Prelude.{Bool, Result, IfOk, IfErr, IsOk}
 use Rattle.std.proofs.lemmas.List.{take_all, drop_all}
-use Rattle.cabinet_text.specs.Tree.{Tree}
-use Rattle.cabinet_layout.specs.Denotes.{Accepted}
-use Rattle.cabinet_images.specs.Image.{Image}
-use Rattle.cabinet_layout.proofs.Faults.{fault_refuses}
-use Rattle.cabinet_images.proofs.Images.{accepted_of}
-use Rattle.cabinet.specs.Opening.{IsRefusedFor}
-use Rattle.cabinet.specs.declared.opened.OpenRefusal.{OpenRefusal}
-use Rattle.cabinet.specs.declared.opened.OpenRefusal.TheVariants.{Access, OutOfMemory}
+use Rattle.cabinet_text_grammar.specs.Tree.{Tree}
+use Rattle.cabinet_documents.specs.Accepted.{Accepted}
+use Rattle.cabinet_documents.specs.Image.{Image}
 use Rattle.cabinet.specs.Steps.{Carried, CarriedCut, Completed, Faulted, read_failed, write_failed, memory_refused, line_too_long, input_too_long}
 use Rattle.cabinet.specs.Headline.{AnswersAsDocument, AnswersCut, AnswersUpTo, IsMet, WorksInPlace}
 use Rattle.cabinet.specs.declared.session.Count.{Count}
@@ -18,7 +13,7 @@ use Rattle.cabinet.specs.declared.session.RunCause.{RunCause}
 
 module _ (counts : Bool) (t : Tree) (input left x y old new : List ℕ) (i : Image t x) where
   a : Accepted x t
-  a = accepted_of t x i
+  a = i.accepted
 
   carried_answers : (lines edited : ℕ) → Carried input x y old new lines edited → AnswersAsDocument t input old new y lines edited
   carried_answers lines edited c = record {
@@ -55,12 +50,6 @@ module _ (counts : Bool) (t : Tree) (input left x y old new : List ℕ) (i : Ima
       → WorksInPlace counts t input left old new y r
   works (Ok n) done fault = (carried_answers n.lines n.edits done.carried, done.all)
   works (Err f) done fault = faulted_answers f.lines f.edits f.cause fault
-
--- an archive is not refused
-pub accepted_is_ok : (bytes : List ℕ) (t : Tree) (r : Result (Unit {0}) OpenRefusal) → Accepted bytes t → IfErr r (IsRefusedFor bytes) → IsOk r
-accepted_is_ok bytes t (Ok x) a h = refl
-accepted_is_ok bytes t (Err (Access e)) a h = absurd (fault_refuses bytes e t h a)
-accepted_is_ok bytes t (Err OutOfMemory) a h = absurd h
 
 -- bytes that are those of an archive are an archive
 pub accepted-along : (x y : List ℕ) → x ≡ y → ∥ ((s : Tree) × Accepted y s) ∥₁ → ∥ ((s : Tree) × Accepted x s) ∥₁

@@ -1,29 +1,39 @@
 -- What edits do to bytes.
 use Rattle.std.specs.Prelude.{◌≡◌, ℕ, List, [], ◌∷◌, length, Option, Some, None}
-use Rattle.cabinet_text.specs.Tree.{Tree}
-use Rattle.cabinet_text.specs.Line.{Line, get, set}
-use Rattle.cabinet_text.specs.Answering.{outcome}
-use Rattle.cabinet_text.specs.Session.{AllSay, next, after, edits}
-use Rattle.cabinet_layout.specs.Denotes.{Accepted}
-use Rattle.cabinet_images.specs.Image.{Image}
-use Rattle.cabinet_layout.specs.Laws.{written_at}
-use Rattle.cabinet_nodes.specs.Setting.{put_if_done}
+use Rattle.archive_shape_layout.specs.Value.{Value}
+use Rattle.cabinet_text_grammar.specs.Tree.{Tree}
+use Rattle.cabinet_text_grammar.specs.Line.{Line, get, keys, range, set}
+use Rattle.cabinet_text_grammar.specs.Answering.{reply}
+use Rattle.cabinet_documents.specs.Accepted.{Accepted}
+use Rattle.cabinet_documents.specs.Image.{Image}
+use Rattle.cabinet_setting.specs.Setting.{EditLeaves}
+use Rattle.cabinet.specs.Session.{AllSay, next, after_all, edits}
 
--- what a line leaves of the bytes, and what lines leave
-abbrev pub bytes_next : List ℕ → Tree → Option Line → List ℕ
-bytes_next bytes t None = bytes
-bytes_next bytes t (Some (get path)) = bytes
-bytes_next bytes t (Some (set path l)) = put_if_done (outcome t path l) (written_at bytes path l) bytes
+-- what a line leaves of the bytes that the document is archived in, its root's value given: an edit writes the own bytes
+-- of its leaf where it is done, and no other line writes anything
+abbrev pub LineLeaves : List ℕ → Value → Tree → Option Line → List ℕ → Type 0
+LineLeaves bytes root t None left = left ≡ bytes
+LineLeaves bytes root t (Some (get path)) left = left ≡ bytes
+LineLeaves bytes root t (Some (keys path)) left = left ≡ bytes
+LineLeaves bytes root t (Some (range low high path)) left = left ≡ bytes
+LineLeaves bytes root t (Some (set path l)) left = EditLeaves bytes root path l (reply t (Some (set path l))) left
 
-abbrev pub bytes_after : List ℕ → Tree → List (Option Line) → List ℕ
-bytes_after bytes t [] = bytes
-bytes_after bytes t (line ∷ lines) = bytes_after (bytes_next bytes t line) (next t line) lines
+-- what lines leave, one after the other
+pub data LinesLeave : List ℕ → Tree → List (Option Line) → List ℕ → Type 0 where
+  no_line : {bytes left : List ℕ} {t : Tree} {said : List (Option Line)} → said ≡ [] → left ≡ bytes → LinesLeave bytes t said left
+  more_lines :
+      {bytes mid left : List ℕ} {t : Tree} {line : Option Line} {said rest : List (Option Line)}
+      → said ≡ line ∷ rest
+      → (a : Accepted bytes t)
+      → LineLeaves bytes a.value t line mid
+      → LinesLeave mid (next t line) rest left
+      → LinesLeave bytes t said left
 
 -- the bytes x become y by lines: those edits are written, an archive stays one, and an image stays one
 pub record Edited (x y : List ℕ) (said : List (Option Line)) : Type 0 where
-  pub bytes : (t : Tree) → Accepted x t → y ≡ bytes_after x t said
-  pub document : (t : Tree) → Accepted x t → Accepted y (after t said)
-  pub image : (t : Tree) → Image t x → Image (after t said) y
+  pub bytes : (t : Tree) → Accepted x t → LinesLeave x t said y
+  pub document : (t : Tree) → Accepted x t → Accepted y (after_all t said)
+  pub image : (t : Tree) → Image t x → Image (after_all t said) y
 
 -- Some lines were carried out: there were this many, the bytes x became y by them, and this many edits were done.
 pub record EditedByLines (x y : List ℕ) (lines edited : ℕ) : Type 0 where

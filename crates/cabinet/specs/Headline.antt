@@ -1,10 +1,10 @@
 -- Working in the bytes of a saved document, as against working on the document.
 use Rattle.std.specs.Prelude.{◌≡◌, ℕ, ◌+◌, ◌<◌, Bool, false, List, [], ◌∷◌, ◌++◌, length, take, Option, Result, Ok, Err, ⊤}
 use Rattle.archive_shape_writing.specs.Writing.{Cut}
-use Rattle.cabinet_text.specs.Tree.{Tree}
-use Rattle.cabinet_text.specs.Line.{Line}
-use Rattle.cabinet_text.specs.Session.{lines_of, AllSay, reply, answers, after, edits}
-use Rattle.cabinet_images.specs.Image.{Image}
+use Rattle.cabinet_text_grammar.specs.Tree.{Tree}
+use Rattle.cabinet_text_grammar.specs.Line.{Line}
+use Rattle.cabinet.specs.Session.{lines_of, AllSay, answer_to, answers, after_all, edits}
+use Rattle.cabinet_documents.specs.Image.{Image}
 use Rattle.cabinet.specs.Steps.{IsMemoryRefused, IsReadFault, IsLineTooLong, IsInputTooLong}
 use Rattle.cabinet.specs.declared.session.Count.{Count}
 use Rattle.cabinet.specs.declared.session.RunFault.{RunFault}
@@ -18,7 +18,7 @@ pub record AnswersAsDocument (t : Tree) (input old new bytes : List ℕ) (lines 
   pub say : AllSay (take lines (lines_of input)) said
   pub count : length said ≡ lines
   pub written : new ≡ old ++ answers t said
-  pub image : Image (after t said) bytes
+  pub image : Image (after_all t said) bytes
   pub edits_counted : edited ≡ edits t said
 
 -- They did, but of the last answer only a prefix was written, which is not all of it where the writer counts no failures.
@@ -27,9 +27,9 @@ pub record AnswersCut (counts : Bool) (t : Tree) (input old new bytes : List ℕ
   pub last : Option Line
   pub say : AllSay (take lines (lines_of input)) (before ++ last ∷ [])
   pub count : length (before ++ last ∷ []) ≡ lines
-  pub written : Cut (old ++ answers t before) new (reply (after t before) last)
-  pub lost : counts ≡ false → length new < length (old ++ answers t before) + length (reply (after t before) last)
-  pub image : Image (after t (before ++ last ∷ [])) bytes
+  pub written : Cut (old ++ answers t before) new (answer_to (after_all t before) last)
+  pub lost : counts ≡ false → length new < length (old ++ answers t before) + length (answer_to (after_all t before) last)
+  pub image : Image (after_all t (before ++ last ∷ [])) bytes
   pub edits_counted : edited ≡ edits t (before ++ last ∷ [])
 
 abbrev pub AnswersUpTo : Bool → RunCause → Tree → (input old new bytes : List ℕ) → (lines edited : ℕ) → Type 0

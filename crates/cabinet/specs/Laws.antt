@@ -1,27 +1,34 @@
 -- Laws of sessions, as statements.
-use Rattle.std.specs.Prelude.{◌≡◌, ℕ, List, take, Option}
-use Rattle.cabinet_text.specs.Tree.{Tree}
-use Rattle.cabinet_text.specs.Line.{Line}
-use Rattle.cabinet_text.specs.Session.{AllSay, after}
-use Rattle.cabinet_layout.specs.Denotes.{Accepted}
-use Rattle.cabinet_images.specs.Image.{Image}
-use Rattle.cabinet.specs.Editing.{bytes_after, EditedByLines}
+use Rattle.std.specs.Prelude.{◌≡◌, ℕ, List, take, drop, Option}
+use Rattle.cabinet_text_grammar.specs.Tree.{Tree}
+use Rattle.cabinet_text_grammar.specs.Line.{Line}
+use Rattle.cabinet_documents.specs.Accepted.{Accepted}
+use Rattle.cabinet_documents.specs.Image.{Image}
+use Rattle.cabinet.specs.Session.{AllSay, after_all}
+use Rattle.cabinet.specs.Editing.{LinesLeave, EditedByLines}
+
+-- the first lines leave these bytes, and the others go on from there
+pub record IsAfter (x y : List ℕ) (t : Tree) (said : List (Option Line)) (lines : ℕ) (mid : List ℕ) : Type 0 where
+  pub before : LinesLeave x t (take lines said) mid
+  pub later : LinesLeave mid (after_all t (take lines said)) (drop lines said) y
 
 -- after each line the bytes are the archive of the document after it
 abbrev pub AcceptedAfterEachLine : Type 0
 AcceptedAfterEachLine =
-    (t : Tree) (bytes : List ℕ) (texts : List (List ℕ)) (said : List (Option Line)) (lines : ℕ)
-    → Accepted bytes t
+    (t : Tree) (x y : List ℕ) (texts : List (List ℕ)) (said : List (Option Line)) (lines : ℕ)
+    → Accepted x t
     → AllSay texts said
-    → Accepted (bytes_after bytes t (take lines said)) (after t (take lines said))
+    → LinesLeave x t said y
+    → (mid : List ℕ) × IsAfter x y t said lines mid × Accepted mid (after_all t (take lines said))
 
 -- and where they were the image of the document, its image
 abbrev pub ImageAfterEachLine : Type 0
 ImageAfterEachLine =
-    (t : Tree) (bytes : List ℕ) (texts : List (List ℕ)) (said : List (Option Line)) (lines : ℕ)
-    → Image t bytes
+    (t : Tree) (x y : List ℕ) (texts : List (List ℕ)) (said : List (Option Line)) (lines : ℕ)
+    → Image t x
     → AllSay texts said
-    → Image (after t (take lines said)) (bytes_after bytes t (take lines said))
+    → LinesLeave x t said y
+    → (mid : List ℕ) × IsAfter x y t said lines mid × Image (after_all t (take lines said)) mid
 
 -- where no edit was done the bytes of an archive are as they were
 abbrev pub UneditedBytesStay : Type 0

@@ -1,7 +1,6 @@
-pub mod Opening
+pub mod Session
 pub mod Editing
 pub mod Steps
-pub mod Saving
 pub mod Reporting
 pub mod Failures
 pub mod Progress

@@ -1,12 +1,12 @@
 -- The lines that the program writes about its faults, and its exit statuses.
 use Rattle.std.specs.Prelude.{ℕ, List, ◌++◌, codes, string_bytes}
 use Rattle.std.specs.Fmt.{decimal}
-use Rattle.cabinet_text.specs.declared.text.Cause.{Cause}
-use Rattle.cabinet_text.specs.declared.text.Cause.TheVariants as cause
-use Rattle.cabinet.specs.declared.opened.OpenRefusal.{OpenRefusal}
-use Rattle.cabinet.specs.declared.opened.OpenRefusal.TheVariants as open_refusal
-use Rattle.cabinet.specs.declared.saving.SaveRefusal.{SaveRefusal}
-use Rattle.cabinet.specs.declared.saving.SaveRefusal.TheVariants as save_refusal
+use Rattle.cabinet_text_grammar.specs.declared.cause.Cause.{Cause}
+use Rattle.cabinet_text_grammar.specs.declared.cause.Cause.TheVariants as cause
+use Rattle.cabinet_opening.specs.declared.opening.OpenRefusal.{OpenRefusal}
+use Rattle.cabinet_opening.specs.declared.opening.OpenRefusal.TheVariants as open_refusal
+use Rattle.cabinet_saving.specs.declared.saving.SaveRefusal.{SaveRefusal}
+use Rattle.cabinet_saving.specs.declared.saving.SaveRefusal.TheVariants as save_refusal
 use Rattle.cabinet.specs.declared.session.RunCause.{RunCause}
 use Rattle.cabinet.specs.declared.session.RunCause.TheVariants as run_cause
 use Rattle.cabinet.specs.declared.fault.Fault.{Fault}
@@ -17,7 +17,10 @@ abbrev pub cause_name : Cause → List ℕ
 cause_name cause.NotUtf8 = codes "NotUtf8"
 cause_name cause.NoNewline = codes "NoNewline"
 cause_name cause.EndTooEarly = codes "EndTooEarly"
+cause_name cause.KeyExpected = codes "KeyExpected"
 cause_name cause.BadEscape = codes "BadEscape"
+cause_name cause.KeyOrder = codes "KeyOrder"
+cause_name cause.KeyRepeated = codes "KeyRepeated"
 cause_name cause.UnknownHead = codes "UnknownHead"
 cause_name cause.BadNumber = codes "BadNumber"
 cause_name cause.TooDeep = codes "TooDeep"
@@ -25,12 +28,14 @@ cause_name cause.LineAfterEnd = codes "LineAfterEnd"
 cause_name cause.OutOfMemory = codes "OutOfMemory"
 
 abbrev pub save_refusal_name : SaveRefusal → List ℕ
+save_refusal_name save_refusal.Kind = codes "Kind"
 save_refusal_name (save_refusal.Limit e) = codes "Limit"
 save_refusal_name (save_refusal.Writer e) = codes "Writer"
 save_refusal_name save_refusal.OutOfMemory = codes "OutOfMemory"
 
 abbrev pub open_refusal_name : OpenRefusal → List ℕ
 open_refusal_name (open_refusal.Access e) = codes "Access"
+open_refusal_name open_refusal.TooDeep = codes "TooDeep"
 open_refusal_name open_refusal.OutOfMemory = codes "OutOfMemory"
 
 abbrev pub run_cause_name : RunCause → List ℕ

@@ -1,10 +1,10 @@
 -- What the lines of a session do to the bytes that they work in, and to what is written.
 use Rattle.std.specs.Prelude.{◌≡◌, ℕ, ◌+◌, ◌<◌, ◌≤◌, ◌==◌, if◌then◌else◌, Bool, false, List, [], ◌∷◌, ◌++◌, length, take, count_by, Option, All}
 use Rattle.archive_shape_writing.specs.Writing.{Cut}
-use Rattle.cabinet_text.specs.Tree.{Tree}
-use Rattle.cabinet_text.specs.Line.{Line}
-use Rattle.cabinet_text.specs.Session.{lines_of, AllSay, reply, answers, after, edits}
-use Rattle.cabinet_layout.specs.Denotes.{Accepted}
+use Rattle.cabinet_text_grammar.specs.Tree.{Tree}
+use Rattle.cabinet_text_grammar.specs.Line.{Line}
+use Rattle.cabinet.specs.Session.{lines_of, AllSay, answer_to, answers, after_all, edits}
+use Rattle.cabinet_documents.specs.Accepted.{Accepted}
 use Rattle.cabinet.specs.Editing.{Edited}
 use Rattle.cabinet.specs.declared.session.RunCause.{RunCause}
 use Rattle.cabinet.specs.declared.session.RunCause.TheVariants.{Read, Write, OutOfMemory, LineTooLong, InputTooLong}
@@ -35,9 +35,9 @@ pub record CarriedCut (counts : Bool) (input x y old new : List ℕ) (lines edit
   pub count : length (before ++ last ∷ []) ≡ lines
   pub short : All (λ line. length line ≤ longest_line) (take lines (lines_of input))
   pub edits_done : Edited x y (before ++ last ∷ [])
-  pub answered : (t : Tree) → Accepted x t → Cut (old ++ answers t before) new (reply (after t before) last)
+  pub answered : (t : Tree) → Accepted x t → Cut (old ++ answers t before) new (answer_to (after_all t before) last)
   pub lost :
-      counts ≡ false → (t : Tree) → Accepted x t → length new < length (old ++ answers t before) + length (reply (after t before) last)
+      counts ≡ false → (t : Tree) → Accepted x t → length new < length (old ++ answers t before) + length (answer_to (after_all t before) last)
   pub edits_counted : (t : Tree) → Accepted x t → edited ≡ edits t (before ++ last ∷ [])
 
 -- ---- faults

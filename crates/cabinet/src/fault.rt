@@ -3,11 +3,13 @@ ghost use Rattle.std.specs.Prelude.{◌≡◌, ◌-◌, ◌^◌, ◌<◌};
 ghost use Rattle.archive_shape_writing.specs.Writing.{Writes};
 ghost use Rattle.cabinet.specs.Reporting.{cause_name, save_refusal_name, open_refusal_name, run_cause_name, spelled_fault, status_of};
 
-use crate::opened::OpenRefusal;
-use crate::saving::SaveRefusal;
 use crate::session::{RunCause, RunFault};
 use archive_shape_writing::{Error, Writer, write_all_pieces, write_three_pieces};
-use cabinet_text::{Cause, Decimal, TextRefusal};
+use cabinet_opening::OpenRefusal;
+use cabinet_saving::SaveRefusal;
+use cabinet_text_bytes::Decimal;
+use cabinet_text_grammar::Cause;
+use cabinet_text_reading::TextRefusal;
 
 /// A fault of the program.
 #[derive(Debug, Drop)]
@@ -43,7 +45,10 @@ fn name_of_cause(cause: Cause) -> &'static [u8]
         Cause::NotUtf8 => b"NotUtf8",
         Cause::NoNewline => b"NoNewline",
         Cause::EndTooEarly => b"EndTooEarly",
+        Cause::KeyExpected => b"KeyExpected",
         Cause::BadEscape => b"BadEscape",
+        Cause::KeyOrder => b"KeyOrder",
+        Cause::KeyRepeated => b"KeyRepeated",
         Cause::UnknownHead => b"UnknownHead",
         Cause::BadNumber => b"BadNumber",
         Cause::TooDeep => b"TooDeep",
@@ -56,6 +61,7 @@ fn name_of_save_refusal(refusal: &SaveRefusal) -> &'static [u8]
     ensures { result.now ≡ save_refusal_name refusal.now }
 {
     match refusal {
+        SaveRefusal::Kind => b"Kind",
         SaveRefusal::Limit(_) => b"Limit",
         SaveRefusal::Writer(_) => b"Writer",
         SaveRefusal::OutOfMemory => b"OutOfMemory",
@@ -67,6 +73,7 @@ fn name_of_open_refusal(refusal: &OpenRefusal) -> &'static [u8]
 {
     match refusal {
         OpenRefusal::Access(_) => b"Access",
+        OpenRefusal::TooDeep => b"TooDeep",
         OpenRefusal::OutOfMemory => b"OutOfMemory",
     }
 }

@@ -1,19 +1,19 @@
 //! Working in the bytes of a saved document.
 ghost use Rattle.std.specs.Prelude.{◌≡◌, ◌-◌, ◌^◌, ◌<◌, IsTrue, IfOk, IfErr, OnErr, MatchResult};
-ghost use Rattle.cabinet_text.specs.Tree.{Tree};
-ghost use Rattle.cabinet_layout.specs.Denotes.{Accepted};
-ghost use Rattle.cabinet.specs.Saving.{HasNoImageFor};
+ghost use Rattle.cabinet_text_grammar.specs.Tree.{Tree};
+ghost use Rattle.cabinet_documents.specs.Accepted.{Accepted};
+ghost use Rattle.cabinet_saving.specs.Saving.{HasNoImageFor};
 ghost use Rattle.cabinet.specs.Editing.{EditedByLines};
 ghost use Rattle.cabinet.specs.Steps.{Completed, Faulted};
 ghost use Rattle.cabinet.specs.Headline.{WorksInPlace};
 ghost use Rattle.cabinet.specs.Failures.{ReaderFails, WriterFails};
 
-use crate::opened::{Opened, check};
-use crate::saving::{SaveRefusal, save};
+use crate::opened::Opened;
 use crate::session::{Count, RunFault, run};
 use crate::source::Source;
 use archive_shape_writing::Writer;
-use cabinet_text::Document;
+use cabinet_saving::{SaveRefusal, to_bytes};
+use cabinet_text_nodes::Document;
 use std::alloc::Global;
 
 /// What working in a saved document left, and what came of it.
@@ -45,8 +45,8 @@ pub fn run_in<R: Source, W: Writer>(
     run(alloc, &mut opened, reader, writer)
 }
 
-/// Saves a document, opens what was saved, and carries out the lines of a source in it: line for line the answers are
-/// those of the document, and the bytes are those that saving it, as edited so far, writes.
+/// Saves a document, and carries out the lines of a source in what was saved, which is an archive: line for line the
+/// answers are those of the document, and the bytes are those that saving it, as edited so far, writes.
 pub fn work<R: Source, W: Writer>(
     alloc: Global,
     document: &Document,
@@ -62,13 +62,10 @@ pub fn work<R: Source, W: Writer>(
     ensures unread { OnErr result (reader.new ≡ reader.old) }
     ensures unwritten { OnErr result (writer.new ≡ writer.old) }
 {
-    let mut bytes = Vec::new(alloc);
-    match save(alloc, document, &mut bytes) {
-        Ok(()) => {}
+    let mut bytes = match to_bytes(alloc, document) {
+        Ok(bytes) => bytes,
         Err(refusal) => return Err(refusal),
-    }
-    // What was saved is an archive.
-    check(alloc, bytes.as_slice()).unwrap();
+    };
     let outcome = run_in(alloc, bytes.as_mut_slice(), reader, writer);
     Ok(Worked { bytes, outcome })
 }

@@ -1,6 +1,7 @@
 -- A document whose archive is made in memory, and written whole or in part.
 use Rattle.std.proofs.Common.{◌≡◌, ℕ, false, Ok, Err, List, [], ◌++◌, append-nil, ◌⊎◌, ⊎_elim, inl, refl, sym, ap, subst, ◌∙◌}
-use Rattle.std.specs.Prelude.{IsTrue}
+use Rattle.std.specs.Prelude.{IsTrue, Result, Vec, IfOk, IfErr, OnOk, MatchResult}
+use Rattle.std.specs.Global.{Global}
 use Rattle.archive_shape_writing.specs.declared.error.Error.{Error}
 use Rattle.archive_shape_writing.specs.declared.error.Error.TheVariants.{OutOfMemory}
 use Rattle.archive_shape_writing.specs.Writing.{WriterMembers, Cut, IsCounted}
@@ -18,7 +19,7 @@ use Rattle.cabinet_text_nodes.specs.View.{node_tree}
 use Rattle.cabinet_text_nodes.specs.declared.node.Node.{Node}
 use Rattle.cabinet_saving.specs.declared.saving.SaveRefusal.{SaveRefusal}
 use Rattle.cabinet_saving.specs.declared.saving.SaveRefusal.TheVariants as refusal
-use Rattle.cabinet_saving.specs.Saving.{IsPast, HasNoImageFor, Saved, IsUnsavedFor}
+use Rattle.cabinet_saving.specs.Saving.{IsPast, IsUnmadeFor, HasNoImageFor, IsUnsavedFor}
 
 module _ {S : Type 0} (m : WriterMembers S) (n : Node) (old new : S) (at : IsAt m.pos m.known old initial) where
   -- what was written where nothing was before is the archive
@@ -50,23 +51,31 @@ written_image : (s t : Tree) (bytes : List ℕ) → s ≡ t → IsDocument t →
 written_image s t bytes same document fits is =
     subst (λ u. Image u bytes) same (written_is_image_law s bytes (subst IsDocument (sym same) document) fits is)
 
--- an image of the document was written
-pub saved_as : (s t : Tree) (old new bytes : List ℕ) → s ≡ t → IsDocument t → ArchiveFits s → bytes ≡ archive_of s → new ≡ old ++ bytes → Saved t old new
-saved_as s t old new bytes same document fits is written =
-    record { image = bytes; is_image = written_image s t bytes same document fits is; written = written }
-
--- what was cut from its archive was cut from each of its images
-pub cut_of : (s t : Tree) (old new bytes image : List ℕ) → s ≡ t → IsDocument t → HasLayout s → ArchiveFits s → bytes ≡ archive_of s → Cut old new bytes → Image t image → Cut old new image
-cut_of s t old new bytes image same document layout fits is cut is_image =
-    subst (Cut old new) (one_image_law t bytes image (subst HasLayout same layout) (written_image s t bytes same document fits is) is_image) cut
+-- what was cut from an image was cut from each
+pub cut_of : (t : Tree) (old new bytes image : List ℕ) → HasLayout t → Image t bytes → Cut old new bytes → Image t image → Cut old new image
+cut_of t old new bytes image layout made cut is_image = subst (Cut old new) (one_image_law t bytes image layout made is_image) cut
 
 -- nothing was written
 pub nothing_cut : (old image : List ℕ) → Cut old old image
 nothing_cut old image = record { written = []; lost = image; new_is = sym (append-nil old); piece_is = refl }
 
 -- why there is no image in memory is why the document was not saved
-pub unsaved : {W : Type 0} (m : WriterMembers W) (s t : Tree) (old : W) (r : SaveRefusal) → s ≡ t → HasLayout s → HasNoImageFor s r → IsUnsavedFor m t old old r
-unsaved m s t old refusal.Kind same layout h = absurd h
-unsaved m s t old (refusal.Limit e) same layout h = (subst HasLayout same layout, subst (λ u. IsPast u e) same h, refl)
-unsaved m s t old (refusal.Writer e) same layout h = absurd h
-unsaved m s t old refusal.OutOfMemory same layout h = (subst HasLayout same layout, inl refl, refl)
+pub unsaved : {W : Type 0} (m : WriterMembers W) (t : Tree) (old : W) (r : SaveRefusal) → HasNoImageFor t r → IsUnsavedFor m t old old r
+unsaved m t old refusal.Kind h = (h, refl)
+unsaved m t old (refusal.Limit e) h = (h.0, h.1, refl)
+unsaved m t old (refusal.Writer e) h = absurd h
+unsaved m t old refusal.OutOfMemory h = (h, inl refl, refl)
+
+-- why nothing is made of a document is why it has no image
+unmade : (s t : Tree) (r : SaveRefusal) → s ≡ t → HasLayout s → IsUnmadeFor s r → HasNoImageFor t r
+unmade s t refusal.Kind same layout h = absurd h
+unmade s t (refusal.Limit e) same layout h = (subst HasLayout same layout, subst (λ u. IsPast u e) same h)
+unmade s t (refusal.Writer e) same layout h = absurd h
+unmade s t refusal.OutOfMemory same layout h = subst HasLayout same layout
+
+-- what was made of a document that has a layout is its image
+pub image_or_refusal : (s t : Tree) (r : Result (Vec ℕ Global) SaveRefusal) → s ≡ t → IsDocument t → HasLayout s
+    → MatchResult r (λ bytes. ArchiveFits s × (bytes.items ≡ archive_of s)) (IsUnmadeFor s)
+    → record { image : IfOk r (λ bytes. Image t bytes.items); laid : OnOk r (HasLayout t); refused : IfErr r (HasNoImageFor t) }
+image_or_refusal s t (Ok bytes) same document layout h = record { image = written_image s t bytes.items same document h.0 h.1; laid = subst HasLayout same layout; refused = tt }
+image_or_refusal s t (Err r) same document layout h = record { image = tt; laid = tt; refused = unmade s t r same layout h }

@@ -16,12 +16,20 @@ use Rattle.cabinet_saving.specs.declared.saving.SaveRefusal.TheVariants.{Kind, L
 abbrev pub IsPast : Tree → Error → Type 0
 IsPast t e = region_refused node_spelling node_shape (t ∷ []) initial e
 
--- why a document that has a layout has no image in memory
+-- why nothing is made of a document that has a layout
+abbrev pub IsUnmadeFor : Tree → SaveRefusal → Type 0
+IsUnmadeFor t Kind = ⊥
+IsUnmadeFor t (Limit e) = IsPast t e
+IsUnmadeFor t (Writer e) = ⊥
+IsUnmadeFor t OutOfMemory = Unit {0}
+
+-- why a document has no image in memory: it has a kind without a layout, or something of it is past what archives hold, or
+-- memory was refused
 abbrev pub HasNoImageFor : Tree → SaveRefusal → Type 0
-HasNoImageFor t Kind = ⊥
-HasNoImageFor t (Limit e) = IsPast t e
+HasNoImageFor t Kind = HasLayout t → ⊥
+HasNoImageFor t (Limit e) = HasLayout t × IsPast t e
 HasNoImageFor t (Writer e) = ⊥
-HasNoImageFor t OutOfMemory = Unit {0}
+HasNoImageFor t OutOfMemory = HasLayout t
 
 -- an image of the document was written
 pub record Saved (t : Tree) (old new : List ℕ) : Type 0 where

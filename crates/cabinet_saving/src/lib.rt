@@ -4,4 +4,4 @@
 mod layout;
 mod saving;
 
-pub use saving::{SaveRefusal, save};
+pub use saving::{SaveRefusal, save, to_bytes};

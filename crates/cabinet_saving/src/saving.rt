@@ -1,11 +1,11 @@
 //! Documents are saved as archives.
-ghost use Rattle.std.specs.Prelude.{◌≡◌, ◌-◌, ◌^◌, ◌<◌, ℕ, List, IsTrue, OnOk, OnErr, IfErr, MatchResult};
+ghost use Rattle.std.specs.Prelude.{◌≡◌, ◌-◌, ◌^◌, ◌<◌, ℕ, List, IsTrue, IfOk, IfErr, OnOk, OnErr, MatchResult};
 ghost use Rattle.archive_shape_writing.specs.Writing.{Cut};
 ghost use Rattle.cabinet_documents.specs.Image.{Image};
 ghost use Rattle.cabinet_spelling.specs.HasLayout.{HasLayout};
 ghost use Rattle.cabinet_spelling.specs.Laws.{archive_of, ArchiveFits};
 ghost use Rattle.cabinet_text_nodes.specs.View.{node_tree};
-ghost use Rattle.cabinet_saving.specs.Saving.{HasNoImageFor, Saved, IsUnsavedFor};
+ghost use Rattle.cabinet_saving.specs.Saving.{HasNoImageFor, IsUnmadeFor, Saved, IsUnsavedFor};
 
 use crate::layout::has_layout;
 use archive_core_serializing::{HighSerializer, Serializer};
@@ -36,7 +36,7 @@ pub enum SaveRefusal {
 fn archive_in_memory(alloc: Global, root: &Node) -> Result<Vec<u8>, SaveRefusal>
     ensures { MatchResult result
         (λ bytes. ArchiveFits (node_tree root.now) × (bytes.items ≡ archive_of (node_tree root.now)))
-        (HasNoImageFor (node_tree root.now)) }
+        (IsUnmadeFor (node_tree root.now)) }
 {
     let mut serializer = Serializer::new(Vec::new(alloc), alloc, ());
     match serialize_using::<Node, HighSerializer<Vec<u8>, Global>>(root, &mut serializer) {
@@ -46,6 +46,19 @@ fn archive_in_memory(alloc: Global, root: &Node) -> Result<Vec<u8>, SaveRefusal>
             _ => Err(SaveRefusal::Limit(e)),
         },
     }
+}
+
+/// The image of a document, in memory.
+pub fn to_bytes(alloc: Global, document: &Document) -> Result<Vec<u8>, SaveRefusal>
+    ensures image { IfOk result (λ image. Image document.now image.items) }
+    ensures laid { OnOk result (HasLayout document.now) }
+    ensures refused { IfErr result (HasNoImageFor document.now) }
+{
+    let root = document.root();
+    if !has_layout(root) {
+        return Err(SaveRefusal::Kind);
+    }
+    archive_in_memory(alloc, root)
 }
 
 /// Writes the image of a document, which is made in memory first. The writer's position is to be 0, so that positions are
@@ -64,11 +77,7 @@ pub fn save<W: Writer>(
     // What the writer took is a prefix of the image.
     ensures cut { OnErr result ((image : List ℕ) → Image document.now image → IsTrue W.OBSERVABLE → Cut (W.contents writer.old) (W.contents writer.new) image) }
 {
-    let root = document.root();
-    if !has_layout(root) {
-        return Err(SaveRefusal::Kind);
-    }
-    let image = match archive_in_memory(alloc, root) {
+    let image = match to_bytes(alloc, document) {
         Ok(image) => image,
         Err(refusal) => return Err(refusal),
     };

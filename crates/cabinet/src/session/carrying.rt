@@ -1,12 +1,15 @@
 //! The lines of an input are carried out and answered.
-ghost use Rattle.std.specs.Prelude.{◌≡◌, ◌≢◌, ℕ, ◌+◌, ◌-◌, ◌^◌, ◌<◌, ◌≤◌, ◌==◌, ◌++◌, List, [], ◌∷◌, length, drop, IfOk, IfErr, OnOk, MatchResult, option_map, position, IsTrue};
+ghost use Rattle.std.specs.Prelude.{◌≡◌, ◌≢◌, ℕ, ◌+◌, ◌-◌, ◌^◌, ◌<◌, ◌≤◌, ◌==◌, ◌++◌, List, [], ◌∷◌, length, drop, Some, IfOk, IfErr, OnOk, MatchResult, option_map, position, IsTrue};
 ghost use Rattle.archive_shape_writing.specs.Writing.{Writes};
-ghost use Rattle.cabinet_text.specs.Tree.{Tree};
-ghost use Rattle.cabinet_text.specs.Line.{Says};
-ghost use Rattle.cabinet_text.specs.Session.{lines_of, reply, edits_by};
-ghost use Rattle.cabinet_text.specs.View.{line_of};
-ghost use Rattle.cabinet_layout.specs.Denotes.{Accepted};
-ghost use Rattle.cabinet.specs.Opening.{FailsByWriter};
+ghost use Rattle.cabinet_text_grammar.specs.Tree.{Tree};
+ghost use Rattle.cabinet_text_grammar.specs.Line.{Says};
+ghost use Rattle.cabinet_text_grammar.specs.Answering.{reply};
+ghost use Rattle.cabinet.specs.Session.{lines_of, answer_to, one_if_done};
+ghost use Rattle.cabinet_text_nodes.specs.Lines.{IsQuestion};
+ghost use Rattle.cabinet_text_nodes.specs.Outcomes.{outcome_of};
+ghost use Rattle.cabinet_text_nodes.specs.View.{line_of};
+ghost use Rattle.cabinet_documents.specs.Accepted.{Accepted};
+ghost use Rattle.cabinet_asking.specs.Failing.{FailsByWriter};
 ghost use Rattle.cabinet.specs.Editing.{Edited};
 ghost use Rattle.cabinet.specs.Steps.{longest_line, newlines, Carried, Faulted, Completed};
 ghost use Rattle.cabinet.specs.Failures.{WriterFails};
@@ -16,7 +19,9 @@ use super::begun::{Begun, LONGEST_INPUT, LONGEST_LINE};
 use super::{Count, RunCause};
 use crate::opened::Opened;
 use archive_shape_writing::{Error, Writer};
-use cabinet_text::{Line, LineRefusal, SetAnswer, read_line, write_bad, write_outcome};
+use cabinet_text_lines::read_line;
+use cabinet_text_nodes::{Line, LineRefusal, SetAnswer};
+use cabinet_text_writing::{write_bad, write_outcome};
 use std::alloc::{AllocError, Global};
 
 /// What bytes say, if anything.
@@ -27,6 +32,36 @@ fn read_said(alloc: Global, bytes: &[u8]) -> Result<Option<Line>, AllocError>
         Ok(line) => Ok(Some(line)),
         Err(LineRefusal::Bad) => Ok(None),
         Err(LineRefusal::OutOfMemory) => Err(AllocError),
+    }
+}
+
+/// How many edits an outcome stands for.
+fn edits_in(outcome: SetAnswer) -> u64
+    ensures counted { result ≡ one_if_done (outcome_of outcome) }
+    ensures one { result ≤ 1 }
+{
+    match outcome {
+        SetAnswer::Done => 1,
+        SetAnswer::Missing | SetAnswer::Refused => 0,
+    }
+}
+
+/// Answers a question.
+fn answer_question<W: Writer>(
+    opened: &Opened<'_>,
+    question: &Line,
+    writer: &mut W,
+) -> Result<(), Error>
+    requires question { IsQuestion (line_of question.now) }
+    requires room { W.failures writer.old < 2 ^ 64 - 1 }
+    ensures unedited { Edited opened.now.bytes.now opened.now.bytes.now (Some (line_of question.now) ∷ []) }
+    ensures undone { (t : Tree) → one_if_done (reply t (Some (line_of question.now))) ≡ 0 }
+    ensures written { (t : Tree) → Accepted opened.now.bytes.now t → Writes W.Writer writer.old writer.new (answer_to t (Some (line_of question.now))) result }
+    ensures counted { FailsByWriter W.Writer writer.old writer.new result }
+{
+    match opened.ask(question, writer) {
+        Ok(_) => Ok(()),
+        Err(refusal) => Err(refusal),
     }
 }
 
@@ -41,24 +76,19 @@ fn carry_out<W: Writer>(
     requires edits_fit { edits.old < 2 ^ 64 - 1 }
     ensures same { opened.new.bytes.ghost_name ≡ opened.old.bytes.ghost_name }
     ensures edited { Edited opened.old.bytes.now opened.new.bytes.now (option_map line_of said.now ∷ []) }
-    ensures written { (t : Tree) → Accepted opened.old.bytes.now t → Writes W.Writer writer.old writer.new (reply t (option_map line_of said.now)) result }
+    ensures written { (t : Tree) → Accepted opened.old.bytes.now t → Writes W.Writer writer.old writer.new (answer_to t (option_map line_of said.now)) result }
     ensures counted { FailsByWriter W.Writer writer.old writer.new result }
-    ensures edits_counted { (t : Tree) → Accepted opened.old.bytes.now t → edits.new ≡ edits.old + edits_by t (option_map line_of said.now) }
+    ensures edits_counted { (t : Tree) → Accepted opened.old.bytes.now t → edits.new ≡ edits.old + one_if_done (reply t (option_map line_of said.now)) }
     ensures edits_grow { edits.new ≤ edits.old + 1 }
 {
     match said {
         None => write_bad(writer),
         Some(Line::Set { path, leaf }) => {
             let outcome = opened.set(path, leaf);
-            if outcome == SetAnswer::Done {
-                *edits += 1;
-            }
+            *edits += edits_in(outcome);
             write_outcome(outcome, writer)
         }
-        Some(question) => match opened.ask(question, writer) {
-            Ok(_) => Ok(()),
-            Err(refusal) => Err(refusal),
-        },
+        Some(question) => answer_question(opened, question, writer),
     }
 }
 

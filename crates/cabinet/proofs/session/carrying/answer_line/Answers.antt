@@ -1,6 +1,6 @@
 use Rattle.std.proofs.Common.{refl}
 use Rattle.std.specs.Prelude.{option_map}
-use Rattle.cabinet_text.specs.View.{line_of}
+use Rattle.cabinet_text_nodes.specs.View.{line_of}
 use Rattle.cabinet.specs.Steps.{memory_refused, write_failed}
 use Rattle.cabinet.proofs.Sessions.{step, carried_cut, edited_by_one}
 use Rattle.cabinet.proofs.SessionsProgress.{next_left}

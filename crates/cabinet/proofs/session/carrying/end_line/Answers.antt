@@ -1,7 +1,7 @@
 use Rattle.std.proofs.Common.{◌≡◌, [], ◌∷◌, ◌++◌, length, ap, sym, ◌∙◌, refl, arith, append_assoc, length-append}
 use Rattle.std.proofs.lemmas.Bool.Decides.{nat_tests}
 use Rattle.std.proofs.lemmas.List.{nil_from_length}
-use Rattle.cabinet_text.specs.Session.{lines_of}
+use Rattle.cabinet.specs.Session.{lines_of}
 use Rattle.cabinet.specs.Steps.{line_too_long, memory_refused}
 use Rattle.cabinet.proofs.SessionsProgress as progress
 use Rattle.cabinet.proofs.SessionsProgress.{same_left}
