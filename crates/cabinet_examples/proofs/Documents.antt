@@ -5,7 +5,7 @@ use Rattle.archive_shape_layout.specs.Value.Value.{string}
 use Rattle.archive_shape_layout.proofs.Evaluate.{run}
 use Rattle.archive_shape_layout.proofs.Evaluated.{root_found}
 use Rattle.cabinet_examples.specs.Sizes.{NodeSizes}
-use Rattle.cabinet_layout.specs.Node.{node_names, node_shape}
+use Rattle.cabinet_examples.specs.Node.{node_names, node_shape}
 use Rattle.cabinet_examples.specs.Documents.{NumberAtTheRoot, TruthAtTheRoot, LongTextAtTheRoot, NothingAtTheRoot, SomeNumber, SixtyFourOptions, EmptyList, SharedTextTwice, EmptySharedTextTwice, OrderedMapOfTwo, OrderedMapOfSix, OrderedMapWithAnEmptyLeaf, HashedMapOfOne, ListInAMapInAMap, KeptMapOfTwo, EmptyKeptMap, options, options_value, options_regions}
 
 pub node_sizes : NodeSizes

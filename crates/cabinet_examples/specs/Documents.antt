@@ -4,7 +4,7 @@ use Prim.Native.String.{String}
 use Rattle.archive_shape_layout.specs.Value.{Value}
 use Rattle.archive_shape_layout.specs.Value.Value.{integer, boolean, string, chosen, counted}
 use Rattle.archive_shape_layout.specs.Holds.{Region}
-use Rattle.cabinet_layout.specs.Node.{node_shape, node_names}
+use Rattle.cabinet_examples.specs.Node.{node_shape, node_names}
 use Rattle.cabinet_examples.specs.Pieces.{zeros, filler, inline, number_node, values, group_of, item_of, region}
 use Rattle.cabinet_examples.specs.Root.{HoldsAtRoot}
 

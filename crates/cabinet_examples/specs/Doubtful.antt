@@ -1,7 +1,7 @@
 -- Documents that no writer makes: the layout allows keys that repeat, tags of other keys and any padding. And the
 -- empty buffer.
 use Rattle.std.specs.Prelude.{ℕ, List, [], ◌∷◌, ◌++◌}
-use Rattle.cabinet_layout.specs.Node.{node_shape, node_names}
+use Rattle.cabinet_examples.specs.Node.{node_shape, node_names}
 use Rattle.cabinet_examples.specs.Pieces.{times, zeros, filler, inline, number_node, item_of, region}
 use Rattle.cabinet_examples.specs.Root.{HoldsNothing}
 use Rattle.cabinet_examples.specs.Documents.{HoldsDocument, number_value, ordered_value, hashed_value}

@@ -1,3 +1,4 @@
+pub mod Node
 pub mod Sizes
 pub mod Pieces
 pub mod Root

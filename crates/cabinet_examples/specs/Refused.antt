@@ -10,7 +10,7 @@ use Rattle.archive_shape_layout.specs.Value.{Value}
 use Rattle.archive_shape_layout.specs.Value.Value.{counted, back}
 use Rattle.archive_shape_layout.specs.Content.{Names}
 use Rattle.archive_shape_layout.specs.Holds.{Region}
-use Rattle.cabinet_layout.specs.Node.{node_shape, node_names}
+use Rattle.cabinet_examples.specs.Node.{node_shape, node_names}
 use Rattle.cabinet_examples.specs.Pieces.{zeros, filler, inline, number_node, group_of, region}
 use Rattle.cabinet_examples.specs.Root.{HoldsAtRoot, HoldsNothing}
 

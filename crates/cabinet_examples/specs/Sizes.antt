@@ -3,7 +3,7 @@ use Rattle.std.specs.Prelude.{◌≡◌}
 use Rattle.archive_shape_layout.specs.Shape.{align_of, size_of}
 use Rattle.archive_shape_layout.specs.Shape.Shape.{text, choice}
 use Rattle.archive_shape_layout.specs.Content.{link_node_size}
-use Rattle.cabinet_layout.specs.Node.{node_shape, pair, payloads}
+use Rattle.cabinet_examples.specs.Node.{node_shape, pair, payloads}
 
 -- of a node, of a hashed or kept map's item, and of an ordered map's leaf and inner node
 pub record NodeSizes : Type 0 where

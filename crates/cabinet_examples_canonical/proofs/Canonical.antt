@@ -2,8 +2,8 @@
 use Rattle.std.proofs.Common.{[], ◌∷◌, refl}
 use Rattle.archive_shape_canonical.specs.FirstFit.{first_fit}
 use Rattle.archive_shape_canonical.proofs.Evaluate.{run_canonical, archive_found}
-use Rattle.cabinet_images.specs.Hash.{hash_word, words_from, words_of, text_hash}
-use Rattle.cabinet_layout.specs.Node.{node_shape, node_names}
+use Rattle.archive_hash_layout.specs.Hash.{hash_word, words_from, words_of, text_hash}
+use Rattle.cabinet_examples.specs.Node.{node_shape, node_names}
 use Rattle.cabinet_examples.specs.Pieces.{item_of, region}
 use Rattle.cabinet_examples.specs.Documents.{number_value, truth_value, text_value, shared_value, no_value, some_value, list_value, ordered_value, hashed_value, kept_value, number_bytes, truth_bytes, nothing_bytes, some_number_bytes, empty_list_bytes, long_text_bytes, shared_text_bytes, empty_shared_text_bytes, two_ordered_bytes, six_ordered_bytes, one_hashed_bytes, nested_bytes, two_kept_bytes, empty_kept_bytes}
 use Rattle.cabinet_examples_canonical.specs.Canonical.{text_visit, short_text_bytes, five_ordered_bytes, five_ordered_value, six_ordered_value, empty_ordered_bytes, two_hashed_bytes, HashOfA, HashOfNothing, CanonicalNumber, CanonicalTruth, CanonicalNothing, CanonicalSomeNumber, CanonicalEmptyList, CanonicalLongText, CanonicalShortText, CanonicalSharedText, CanonicalEmptySharedText, CanonicalOrderedMap, CanonicalLeafOfFive, CanonicalTreeOfSix, CanonicalEmptyOrderedMap, CanonicalHashedMap, CanonicalTakenPlace, CanonicalNestedMaps, CanonicalKeptMap, CanonicalEmptyKeptMap}

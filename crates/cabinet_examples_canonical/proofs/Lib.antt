@@ -1,4 +1,3 @@
 pub mod Canonical
 pub mod Spoilt
 pub mod Stored
-pub mod Images

@@ -10,8 +10,8 @@ use Rattle.archive_shape_canonical.specs.Sharing.{erased}
 use Rattle.archive_shape_canonical.specs.FirstFit.{first_fit}
 use Rattle.archive_shape_canonical.proofs.SameValue.{same_numbers, numbers_differ}
 use Rattle.archive_shape_canonical.proofs.One.{one_archive_law}
-use Rattle.cabinet_images.specs.Hash.{text_hash}
-use Rattle.cabinet_layout.specs.Node.{node_shape, node_names}
+use Rattle.archive_hash_layout.specs.Hash.{text_hash}
+use Rattle.cabinet_examples.specs.Node.{node_shape, node_names}
 use Rattle.cabinet_examples.specs.Pieces.{item_of, region}
 use Rattle.cabinet_examples.specs.Documents.{HoldsDocument, number_value, text_value, shared_value, some_value, list_value, ordered_value, hashed_value, kept_value, empty_leaf_bytes}
 use Rattle.cabinet_examples_canonical.specs.Canonical.{IsArchive, text_visit, five_ordered_value, six_ordered_value}

@@ -10,8 +10,8 @@ use Rattle.archive_shape_canonical.specs.FirstFit.{first_fit}
 use Rattle.archive_shape_canonical.specs.Plan.{Plan, parts, no_plans, more_plans, HasPlan, plan_flat, plan_inline, plan_text, plan_tuple, plan_choice, plan_vector, plan_shared, plan_tree, plan_table, plan_named, plan_slice, plan_str, plan_leaf_node, plans_none, plans_at, plans_entry, number_is_flat}
 use Rattle.archive_shape_canonical.specs.Limits.{State, lies_flat, lies_parts, lies_leads, lies_text, lies_first, lies_later, lie_none, lie_more}
 use Rattle.archive_shape_canonical.proofs.Evaluate.{run_canonical}
-use Rattle.cabinet_images.specs.Hash.{hash_word, words_from, words_of, text_hash}
-use Rattle.cabinet_layout.specs.Node.{node_shape, node_names, payloads}
+use Rattle.archive_hash_layout.specs.Hash.{hash_word, words_from, words_of, text_hash}
+use Rattle.cabinet_examples.specs.Node.{node_shape, node_names, payloads}
 use Rattle.cabinet_examples_canonical.specs.Stored.{StoredText, StoredSharedText, StoredNestedMaps}
 
 abbrev Planned : Shape → Value → Plan → Type 0

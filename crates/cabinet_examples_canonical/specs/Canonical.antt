@@ -7,8 +7,8 @@ use Rattle.archive_shape_layout.specs.Value.Value.{string}
 use Rattle.archive_shape_layout.specs.Holds.{Region, Visit}
 use Rattle.archive_shape_canonical.specs.FirstFit.{first_fit}
 use Rattle.archive_shape_canonical.specs.Canonical.{CanonicalArchive}
-use Rattle.cabinet_images.specs.Hash.{text_hash}
-use Rattle.cabinet_layout.specs.Node.{node_shape, node_names}
+use Rattle.archive_hash_layout.specs.Hash.{text_hash}
+use Rattle.cabinet_examples.specs.Node.{node_shape, node_names}
 use Rattle.cabinet_examples.specs.Pieces.{zeros, filler, inline, number_node, item_of, region}
 use Rattle.cabinet_examples.specs.Documents.{number_value, truth_value, text_value, shared_value, no_value, some_value, list_value, ordered_value, hashed_value, kept_value, number_bytes, truth_bytes, nothing_bytes, some_number_bytes, empty_list_bytes, long_text_bytes, shared_text_bytes, empty_shared_text_bytes, two_ordered_bytes, six_ordered_bytes, one_hashed_bytes, nested_bytes, two_kept_bytes, empty_kept_bytes}
 

@@ -3,8 +3,8 @@ use Rattle.std.specs.Prelude.{List, [], ◌∷◌}
 use Rattle.archive_shape_canonical.specs.FirstFit.{first_fit}
 use Rattle.archive_shape_canonical.specs.Limits.{Field, offset, position, count, text_length, Stores}
 use Rattle.archive_shape_layout.specs.Value.{Value}
-use Rattle.cabinet_images.specs.Hash.{text_hash}
-use Rattle.cabinet_layout.specs.Node.{node_shape, node_names}
+use Rattle.archive_hash_layout.specs.Hash.{text_hash}
+use Rattle.cabinet_examples.specs.Node.{node_shape, node_names}
 use Rattle.cabinet_examples.specs.Pieces.{item_of}
 use Rattle.cabinet_examples.specs.Documents.{number_value, text_value, shared_value, list_value, ordered_value, hashed_value}
 

@@ -1,11 +1,10 @@
 //! Worked archives: which bytes are the one archive of what they hold, and which are not;
-//! what some of them store in fields of a limited width; and the images of worked documents.
+//! and what some of them store in fields of a limited width.
 //!
 //! Each function has no body: it carries what is said of one buffer, whose bytes are written out.
 #![tactic(auto)]
 
 mod canonical_archives;
-mod document_images;
 mod spoilt_archives;
 mod stored_fields;
 
@@ -17,9 +16,6 @@ pub use canonical_archives::{
     number_is_canonical, ordered_map_of_five_is_canonical, ordered_map_of_six_is_canonical,
     ordered_map_of_two_is_canonical, shared_text_twice_is_canonical, short_text_is_canonical,
     some_number_is_canonical, truth_is_canonical,
-};
-pub use document_images::{
-    empty_list_image, five_image, seven_and_nineteen_image, true_image, world_image,
 };
 pub use spoilt_archives::{
     byte_behind_the_root, capacity_greater_than_needed, capacity_without_entries,

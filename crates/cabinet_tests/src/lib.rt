@@ -1,7 +1,17 @@
-//! Tests of the cabinet, with a module for each crate that is tested.
+//! Tests of the cabinet: what the contracts of saving, opening, sessions and faults leave open, on examples.
 #![tactic(auto)]
 
 #[cfg(test)]
-mod archives;
+mod doubles;
 #[cfg(test)]
-mod nodes;
+mod edited;
+#[cfg(test)]
+mod faults;
+#[cfg(test)]
+mod limits;
+#[cfg(test)]
+mod refused;
+#[cfg(test)]
+mod saved;
+#[cfg(test)]
+mod sessions;

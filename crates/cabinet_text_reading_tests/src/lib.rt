@@ -6,4 +6,6 @@ mod accepted;
 #[cfg(test)]
 mod deep;
 #[cfg(test)]
+mod numbers;
+#[cfg(test)]
 mod refused;

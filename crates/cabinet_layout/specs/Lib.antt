@@ -1,6 +1,0 @@
-pub mod Bytes
-pub mod Node
-pub mod Denotes
-pub mod ArchiveFault
-pub mod Laws
-pub mod Fields

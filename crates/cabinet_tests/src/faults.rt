@@ -1,0 +1,155 @@
+//! The texts of faults and refusals.
+use archive_shape_writing::Error;
+use cabinet::{
+    Cause, Fault, OpenRefusal, RunCause, RunFault, SaveRefusal, SourceFailed, TextRefusal,
+    fault_line,
+};
+use std::fmt::Display;
+use std::process::Abort;
+use std::test::Fail;
+
+/// Whether a fault has this line and this exit status.
+fn has_line(rt: &(impl Abort + AllocGlobal), fault: &Fault, line: &[u8], status: u8) {
+    let mut written = Vec::new(rt.alloc());
+    assert!(rt; fault_line(fault, &mut written).is_ok());
+    assert!(rt; written.as_slice() == line);
+    assert_eq!(rt; fault.status(), status);
+}
+
+/// Whether a value is printed as this text.
+fn is_printed_as(rt: &(impl Abort + AllocGlobal), value: &impl Display, text: &str) {
+    let printed = value.to_string(rt.alloc()).expect(rt, "memory");
+    assert_eq!(rt; printed.as_str(), text);
+}
+
+#[test]
+fn faults_with_a_path_are_written_as_lines(rt: HostRuntime) -> Result<(), Fail> {
+    let path = String::from_str(rt.alloc(), "a b.txt")?;
+    has_line(
+        &rt,
+        &Fault::CannotRead(path),
+        b"cab: cannot read a b.txt\n",
+        1,
+    );
+    let path = String::from_str(rt.alloc(), "-")?;
+    has_line(&rt, &Fault::CannotWrite(path), b"cab: cannot write -\n", 1);
+    Ok(())
+}
+
+#[test]
+fn faults_are_written_as_lines(rt: HostRuntime) {
+    let text = TextRefusal {
+        line: 12,
+        cause: Cause::BadNumber,
+    };
+    let run = RunFault {
+        cause: RunCause::Write,
+        lines: 3,
+        edits: 1,
+    };
+    let faults = [
+        (
+            Fault::Usage,
+            b"cab: usage: cab build TEXT ARCHIVE | cab run ARCHIVE\n".as_slice(),
+            2,
+        ),
+        (
+            Fault::Text(text),
+            b"cab: text line 12: BadNumber\n".as_slice(),
+            1,
+        ),
+        (
+            Fault::Save(SaveRefusal::OutOfMemory),
+            b"cab: save: OutOfMemory\n".as_slice(),
+            1,
+        ),
+        (
+            Fault::Save(SaveRefusal::Kind),
+            b"cab: save: Kind\n".as_slice(),
+            1,
+        ),
+        (
+            Fault::Open(OpenRefusal::Access(Error::InvalidTag)),
+            b"cab: open: Access\n".as_slice(),
+            1,
+        ),
+        (
+            Fault::Open(OpenRefusal::TooDeep),
+            b"cab: open: TooDeep\n".as_slice(),
+            1,
+        ),
+        (
+            Fault::Run(run),
+            b"cab: run: Write after 3 lines\n".as_slice(),
+            1,
+        ),
+    ];
+    for (fault, line, status) in faults {
+        has_line(&rt, &fault, line, status);
+    }
+}
+
+#[test]
+fn refusals_to_open_and_save_are_printed(rt: HostRuntime) {
+    is_printed_as(
+        &rt,
+        &OpenRefusal::Access(Error::InvalidTag),
+        "the bytes are not an archive: a tag that is not legal",
+    );
+    is_printed_as(
+        &rt,
+        &OpenRefusal::TooDeep,
+        "more than 64 containers lie in one another",
+    );
+    is_printed_as(&rt, &OpenRefusal::OutOfMemory, "out of memory");
+    is_printed_as(&rt, &SaveRefusal::Kind, "a kind of node has no layout yet");
+    is_printed_as(
+        &rt,
+        &SaveRefusal::Limit(Error::IsizeOverflow),
+        "the document is past the limits of archives: the offset does not fit",
+    );
+    is_printed_as(
+        &rt,
+        &SaveRefusal::Writer(Error::WriterFailed),
+        "the writer failed: the writer failed",
+    );
+    is_printed_as(&rt, &SaveRefusal::OutOfMemory, "out of memory");
+}
+
+#[test]
+fn faults_of_a_run_are_printed(rt: HostRuntime) {
+    let causes = [
+        (
+            RunCause::Read,
+            "the source failed after 3 lines, 1 of them edits",
+        ),
+        (
+            RunCause::Write,
+            "the writer failed after 3 lines, 1 of them edits",
+        ),
+        (
+            RunCause::OutOfMemory,
+            "out of memory after 3 lines, 1 of them edits",
+        ),
+        (
+            RunCause::LineTooLong,
+            "a line is too long after 3 lines, 1 of them edits",
+        ),
+        (
+            RunCause::InputTooLong,
+            "the input is too long after 3 lines, 1 of them edits",
+        ),
+    ];
+    for (cause, text) in causes {
+        is_printed_as(
+            &rt,
+            &RunFault {
+                cause,
+                lines: 3,
+                edits: 1,
+            },
+            text,
+        );
+    }
+    is_printed_as(&rt, &SourceFailed, "the source failed");
+}

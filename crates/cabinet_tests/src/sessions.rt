@@ -1,0 +1,130 @@
+//! Sessions in the archive of one number: their answers, counts and faults.
+ghost use Rattle.std.specs.Prelude.{◌≡◌};
+
+use crate::doubles::{FailingWriter, SliceSource};
+use cabinet::{Count, RunCause, RunFault, open, run};
+use std::alloc::Global;
+
+/// The archive of `int 5`.
+pub fn five() -> [u8; 24] {
+    let mut bytes = [0u8; 24];
+    bytes[0] = 1;
+    bytes[8] = 5;
+    bytes
+}
+
+/// What a run in these bytes comes to, if they are an archive.
+pub fn run_in(
+    alloc: Global,
+    bytes: &mut [u8],
+    source: SliceSource<'_>,
+    writer: &mut FailingWriter,
+) -> Option<Result<Count, RunFault>>
+    requires reads { source.failures ≡ 0 }
+    requires writes { writer.old.failures ≡ 0 }
+{
+    let mut source = source;
+    let Ok(mut opened) = open(alloc, bytes) else {
+        return None;
+    };
+    Some(run(alloc, &mut opened, &mut source, writer))
+}
+
+pub fn counted(lines: u64, edits: u64) -> Option<Result<Count, RunFault>> {
+    Some(Ok(Count { lines, edits }))
+}
+
+pub fn faulted(cause: RunCause, lines: u64, edits: u64) -> Option<Result<Count, RunFault>> {
+    Some(Err(RunFault {
+        cause,
+        lines,
+        edits,
+    }))
+}
+
+#[test]
+fn lines_are_answered(rt: HostRuntime) {
+    let cases: [(&[u8], &[u8], u64, u64, u8); 10] = [
+        (b"get\nset int 6\nget\n", b"int 5\nok\nint 6\n", 3, 1, 6),
+        (b"get  'a\n", b"bad\n", 1, 0, 5),
+        (b"\n", b"bad\n", 1, 0, 5),
+        (b"set shared 'x\n", b"bad\n", 1, 0, 5),
+        (b"range 'a 'b\n", b"wrong\n", 1, 0, 5),
+        (b"range 'a\n", b"bad\n", 1, 0, 5),
+        (b"set bool true\n", b"refused\n", 1, 0, 5),
+        (b"set text 'abcdefghi\n", b"refused\n", 1, 0, 5),
+        (b"", b"", 0, 0, 5),
+        (b"set int 7\nget", b"ok\nint 7\n", 2, 1, 7),
+    ];
+    for (input, output, lines, edits, left) in cases {
+        for most in [1, 2, 3, 5, 16384] {
+            let mut bytes = five();
+            let mut writer = FailingWriter::new(rt.alloc(), usize::MAX);
+            let source = SliceSource::new(input, usize::MAX, most);
+            let came = run_in(rt.alloc(), &mut bytes, source, &mut writer);
+            assert_eq!(rt; came, counted(lines, edits));
+            assert!(rt; writer.bytes() == output);
+            assert_eq!(rt; bytes[8], left);
+        }
+    }
+}
+
+#[test]
+fn a_vector_takes_the_answers(rt: HostRuntime) {
+    let mut bytes = five();
+    let mut source = SliceSource::new(b"get\nset int 6\nget", usize::MAX, 3);
+    let mut answers = Vec::new(rt.alloc());
+    match open(rt.alloc(), &mut bytes) {
+        Ok(mut opened) => {
+            let came = run(rt.alloc(), &mut opened, &mut source, &mut answers);
+            assert_eq!(rt; came, Ok(Count { lines: 3, edits: 1 }));
+        }
+        Err(_) => panic!(rt; "the archive was refused"),
+    }
+    assert!(rt; answers.as_slice() == b"int 5\nok\nint 6\n".as_slice());
+    assert_eq!(rt; bytes[8], 6);
+}
+
+#[test]
+fn a_failed_write_ends_the_run(rt: HostRuntime) {
+    let mut bytes = five();
+    let mut writer = FailingWriter::new(rt.alloc(), 1);
+    let source = SliceSource::new(b"set int 6\nset int 7\nget\n", usize::MAX, 16384);
+    let came = run_in(rt.alloc(), &mut bytes, source, &mut writer);
+    assert_eq!(rt; came, faulted(RunCause::Write, 2, 2));
+    assert!(rt; writer.bytes() == b"ok\n".as_slice());
+    assert_eq!(rt; bytes[8], 7);
+}
+
+#[test]
+fn a_failed_read_ends_the_run(rt: HostRuntime) {
+    let mut bytes = five();
+    let mut writer = FailingWriter::new(rt.alloc(), usize::MAX);
+    let source = SliceSource::new(b"set int 6\nset i", 1, 16384);
+    let came = run_in(rt.alloc(), &mut bytes, source, &mut writer);
+    assert_eq!(rt; came, faulted(RunCause::Read, 1, 1));
+    assert!(rt; writer.bytes() == b"ok\n".as_slice());
+    assert_eq!(rt; bytes[8], 6);
+}
+
+// Memory is taken for the line begun, for a line's text and by the writer. It may be refused where a test runs with little.
+#[test]
+fn a_refusal_of_memory_is_told(rt: HostRuntime) {
+    let mut bytes = five();
+    let mut writer = FailingWriter::new(rt.alloc(), usize::MAX);
+    let source = SliceSource::new(b"set int 6\nset text 'ab\nget\n", usize::MAX, 3);
+    let output: &[u8] = b"ok\nrefused\nint 6\n";
+    match run_in(rt.alloc(), &mut bytes, source, &mut writer) {
+        Some(Ok(count)) => {
+            assert_eq!(rt; count, Count { lines: 3, edits: 1 });
+            assert!(rt; writer.bytes() == output);
+        }
+        Some(Err(fault)) => {
+            assert!(rt; fault.cause == RunCause::OutOfMemory || fault.cause == RunCause::Write);
+            assert!(rt; output.starts_with(writer.bytes()));
+            let done = bytes[8] == 6;
+            assert!(rt; done == (fault.edits == 1));
+        }
+        None => panic!(rt; "the archive was refused"),
+    }
+}

@@ -1,5 +1,0 @@
-use Rattle.std.proofs.Common.{rules}
-use Rattle.cabinet_text.proofs.leaf.fits.Goals as goal
-
-pub returns-in-Text-Text : goal.returns-in-Text-Text
-returns-in-Text-Text c = search rules
