@@ -23,7 +23,8 @@ fi
 say 'the merge gate passed'
 
 echo '== the program on files'
-if ! tests/program.sh; then
+# the merge gate has left the program that it proved and built
+if ! tests/program.sh "$PWD/crates/cab/out/cab"; then
     say 'the program failed'
     exit 1
 fi

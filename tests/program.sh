@@ -1,20 +1,23 @@
 #!/usr/bin/env bash
-# Runs cab on files in a temporary folder. Each case compares what cab prints, its faults, its status and what it leaves
-# in its files with what is written here.
+# Runs cab on files in a temporary folder: the program whose path is given, or else that of crates/cab. Each case compares
+# what cab prints, its faults, its status and what it leaves in its files with what is written here.
 set -u
 root=$(cd "$(dirname "$0")/.." && pwd)
 work=$(mktemp -d)
 trap 'rm -rf "$work"' EXIT
-cab=$root/crates/cab/out/cab
+cab=$work/cab
 
-# Proves and builds cab, if that was not done.
-echo 'proving and building cab'
-if ! (cd "$root/crates/cab" && rt run -- build "$root/examples/first/text" "$work/first.cab") < /dev/null > "$work/log" 2>&1; then
-    cat "$work/log"
-    echo 'cab was not built'
-    echo '0 passed, 1 failed'
-    exit 1
+# Without a program that is given, proves and builds cab, if that was not done.
+if [ $# -eq 0 ]; then
+    echo 'proving and building cab'
+    if ! (cd "$root/crates/cab" && rt run -- build "$root/examples/first/text" "$work/first.cab") < /dev/null > "$work/log" 2>&1; then
+        cat "$work/log"
+        echo 'cab was not built'
+        echo '0 passed, 1 failed'
+        exit 1
+    fi
 fi
+cp "${1:-$root/crates/cab/out/cab}" "$cab" && chmod +x "$cab" || exit 1
 mkdir "$work/files"
 cd "$work/files" || exit 1
 
