@@ -4,9 +4,9 @@ use Rattle.std.specs.Fmt.{decimal, signed_decimal}
 use Rattle.cabinet_text_grammar.specs.Keys.{ordered, hashed, kept}
 use Rattle.cabinet_text_grammar.specs.Tree.{truth, number, text}
 use Rattle.cabinet_text_grammar.specs.Item.{Item, leaf_item, shared_item, none_item, some_item, list_item, map_item, key_item}
-use Rattle.cabinet_text_grammar.specs.Due.{Due, a_head, a_key, nothing_more, Admits}
+use Rattle.cabinet_text_grammar.specs.Due.{a_head, Admits}
 use Rattle.cabinet_text_grammar.specs.Spelling.{escaped, spelled, spelled_leaf}
-use Rattle.cabinet_text_grammar.specs.Fault.{HasBadText, HasBadEscape, HasCount, bad_number, bad_count, rank, IsFirstCause}
+use Rattle.cabinet_text_grammar.specs.Fault.{HasBadText, HasBadEscape, HasCount, bad_number, bad_count, IsFirstCause}
 use Rattle.cabinet_text_grammar.specs.declared.cause.Cause.{Cause}
 use Rattle.cabinet_text_grammar.specs.declared.cause.Cause.TheVariants.{NotUtf8, NoNewline, EndTooEarly, KeyExpected, BadEscape, KeyOrder, KeyRepeated, UnknownHead, BadNumber, TooDeep, LineAfterEnd, OutOfMemory}
 use Rattle.std.proofs.lemmas.Bool.{false≢true}
@@ -14,10 +14,9 @@ use Rattle.cabinet_text_grammar.proofs.Escapes.{first_differs}
 use Rattle.cabinet_text_grammar.proofs.Utf8.{is_ascii_word, IsUtf8-unescaped, IsUtf8-past_word}
 use Rattle.cabinet_text_bytes.specs.Words.{IsEscaped}
 use Rattle.cabinet_text_grammar.proofs.Pieces.{ended_piece}
-use Rattle.cabinet_text_grammar.proofs.ReadBack.{IsItem}
-use Rattle.cabinet_text_grammar.proofs.Faults.{admitted_item, blameless}
+use Rattle.cabinet_text_grammar.proofs.Faults.{admitted_item}
 use Rattle.cabinet_text_grammar.proofs.FirstCauses.{bad_escape, unknown_head, bad_number_first, too_deep}
-use Rattle.cabinet_text_laws.proofs.Verdicts.{no_words}
+use Rattle.cabinet_text_laws.proofs.Verdicts.{no_words, memory_first}
 use Rattle.cabinet_text_reading.specs.Heads.{IsContainer, count_word, RefusesText}
 use Rattle.cabinet_text_reading.specs.declared.head.Counted.{Counted}
 use Rattle.cabinet_text_reading.specs.declared.head.Counted.TheVariants.{List as List', Ordered, Hashed, Kept}
@@ -49,18 +48,6 @@ pub not_escaped :
     → (t : List ℕ) → IsUtf8 t → argument ≢ escaped t
 not_escaped argument None b e f h = λ t u. h t
 not_escaped argument (Some n) b e f h = absurd (false≢true (sym (e ∙ ap not f)))
-
--- memory is refused where nothing else can be said
-pub memory_first : (due : Due) (i : Item) → IsItem i → Admits due i → IsFirstCause due (ended_piece (spelled i)) OutOfMemory
-memory_first (a_head depth) i is p = record {
-  has_cause = tt;
-  first = λ other below b. blameless (a_head depth) i is p other (λ same. omega (arith, below, ap rank same)) b;
-}
-memory_first (a_key kind keys) i is p = record {
-  has_cause = tt;
-  first = λ other below b. blameless (a_key kind keys) i is p other (λ same. omega (arith, below, ap rank same)) b;
-}
-memory_first nothing_more i is p = absurd p
 
 -- no text is read after a word that a text or a shared text begins with
 pub text_refused :

@@ -3,21 +3,19 @@ ghost use Rattle.std.specs.Prelude.{◌≡◌, ◌+◌, ◌++◌, Some, true, le
 ghost use Rattle.cabinet_text_grammar.specs.Tree.{IsDocument};
 ghost use Rattle.cabinet_text_grammar.specs.Item.{items};
 ghost use Rattle.cabinet_text_grammar.specs.Frame.{AreOpen};
-ghost use Rattle.cabinet_text_grammar.specs.Due.{a_head, due_in};
+ghost use Rattle.cabinet_text_grammar.specs.Due.{due_in};
 ghost use Rattle.cabinet_text_grammar.specs.Spelling.{text_of};
 ghost use Rattle.cabinet_text_grammar.specs.Fault.{IsFirstCause, FirstFault};
 ghost use Rattle.cabinet_text_grammar.proofs.Machine.{going};
 ghost use Rattle.cabinet_text_nodes.specs.View.{node_tree};
-ghost use Rattle.cabinet_text_stack.specs.View.{stack_of, state_of};
-ghost use Rattle.cabinet_text_stack.specs.Told.{WantsKey};
+ghost use Rattle.cabinet_text_stack.specs.View.{key_due, stack_of, inside_map, open_at, state_of};
 ghost use Rattle.cabinet_text_laws.specs.Steps.{TakesLine};
 
 use crate::head::read_head;
 use crate::line::{fault_after, next_line, read_key_argument};
-use cabinet_text_bytes::unescape_text;
 use cabinet_text_grammar::Cause;
 use cabinet_text_nodes::{Document, Node};
-use cabinet_text_stack::{Due, Frame, due_inside, key_fault, take_head, take_key};
+use cabinet_text_stack::{Due, Frame, Next, OpenMap, take_head, take_key};
 use std::alloc::Global;
 use thiserror::Error;
 
@@ -29,60 +27,53 @@ pub struct TextRefusal {
     pub cause: Cause,
 }
 
-/// Takes a node's head in. The document, if it is complete by it.
-fn take_head_line(
+/// Takes a node's head in.
+fn take_head_line<'a>(
     alloc: Global,
     line: &str,
-    depth: usize,
-    stack: &mut Vec<Frame<'_>>,
-) -> Result<Option<Node>, Cause>
-    requires opened { AreOpen (stack_of stack.old.items) }
-    requires due { due_in (stack_of stack.old.items) ≡ a_head depth }
-    ensures taken { IfOk result (λ document. TakesLine (stack_of stack.old.items) line.now (state_of document stack.new.items)) }
+    stack: &mut Vec<Frame<'a>>,
+) -> Result<Next<'a>, Cause>
+    requires { AreOpen (stack_of stack.old.items) }
+    ensures taken { IfOk result (λ next. TakesLine (stack_of stack.old.items) line.now (state_of next stack.new.items)) }
     ensures fault { IfErr result (IsFirstCause (due_in (stack_of stack.old.items)) (Some (record { bytes = line.now; ended = true }))) }
 {
-    let head = read_head(alloc, line, depth)?;
+    let head = read_head(alloc, line, stack.len())?;
     match take_head(alloc, head, stack) {
-        Ok(document) => Ok(document),
+        Ok(next) => Ok(next),
         Err(_) => Err(Cause::OutOfMemory),
     }
 }
 
-/// Takes a key in.
-fn take_key_line<'a>(alloc: Global, line: &'a str, stack: &mut Vec<Frame<'a>>) -> Result<(), Cause>
-    requires opened { AreOpen (stack_of stack.old.items) }
-    requires due { WantsKey (due_in (stack_of stack.old.items)) }
-    ensures taken { IfOk result (λ _. TakesLine (stack_of stack.old.items) line.now (going (stack_of stack.new.items))) }
-    ensures fault { IfErr result (IsFirstCause (due_in (stack_of stack.old.items)) (Some (record { bytes = line.now; ended = true }))) }
+/// Takes a key of a map in.
+fn take_key_line<'a>(
+    alloc: Global,
+    line: &'a str,
+    map: OpenMap<'a>,
+    stack: &mut Vec<Frame<'a>>,
+) -> Result<(), Cause>
+    ensures taken { IfOk result (λ _. TakesLine (inside_map map.entry stack.old.items) line.now (going (stack_of stack.new.items))) }
+    ensures fault { IfErr result (IsFirstCause (key_due map.entry.pairs) (Some (record { bytes = line.now; ended = true }))) }
 {
     let argument = read_key_argument(line)?;
-    if let Some(cause) = key_fault(stack.as_slice(), argument) {
-        return Err(cause);
-    }
-    let Ok(key) = unescape_text(alloc, argument) else {
-        return Err(Cause::OutOfMemory);
-    };
-    match take_key(key, argument, stack) {
-        Ok(()) => Ok(()),
-        Err(_) => Err(Cause::OutOfMemory),
-    }
+    take_key(alloc, argument, map, stack)
 }
 
-/// Takes a line in, whatever is due. The document, if it is complete by it.
+/// Takes a line in, whatever is due.
 fn take_line<'a>(
     alloc: Global,
     line: &'a str,
+    due: Due<'a>,
     stack: &mut Vec<Frame<'a>>,
-) -> Result<Option<Node>, Cause>
-    requires opened { AreOpen (stack_of stack.old.items) }
-    ensures taken { IfOk result (λ document. TakesLine (stack_of stack.old.items) line.now (state_of document stack.new.items)) }
-    ensures fault { IfErr result (IsFirstCause (due_in (stack_of stack.old.items)) (Some (record { bytes = line.now; ended = true }))) }
+) -> Result<Next<'a>, Cause>
+    requires { AreOpen (open_at due stack.old.items) }
+    ensures taken { IfOk result (λ next. TakesLine (open_at due.entry stack.old.items) line.now (state_of next stack.new.items)) }
+    ensures fault { IfErr result (IsFirstCause (due_in (open_at due.entry stack.old.items)) (Some (record { bytes = line.now; ended = true }))) }
 {
-    match due_inside(stack.as_slice()) {
-        Due::Head(depth) => take_head_line(alloc, line, depth, stack),
-        Due::Key => {
-            take_key_line(alloc, line, stack)?;
-            Ok(None)
+    match due {
+        Due::Head => take_head_line(alloc, line, stack),
+        Due::Key(map) => {
+            take_key_line(alloc, line, map, stack)?;
+            Ok(Next::Due(Due::Head))
         }
     }
 }
@@ -107,21 +98,23 @@ pub fn read_text(alloc: Global, text: &[u8]) -> Result<Document, TextRefusal>
     ensures fault { IfErr result (λ refusal. FirstFault text.now refusal.line refusal.cause) }
 {
     let mut stack = Vec::new(alloc);
+    let mut next = Next::Due(Due::Head);
     let mut rest = text;
     let mut line: u64 = 1;
     loop {
+        let due = match next {
+            Next::Due(due) => due,
+            Next::Done(root) => return end_document(root, rest, line),
+        };
         let (bytes, after) = match next_line(rest) {
-            Ok(next) => next,
+            Ok(parts) => parts,
             Err(cause) => return Err(TextRefusal { line, cause }),
         };
-        let document = match take_line(alloc, bytes, &mut stack) {
-            Ok(document) => document,
+        next = match take_line(alloc, bytes, due, &mut stack) {
+            Ok(next) => next,
             Err(cause) => return Err(TextRefusal { line, cause }),
         };
         rest = after;
         line += 1;
-        if let Some(root) = document {
-            return end_document(root, rest, line);
-        }
     }
 }

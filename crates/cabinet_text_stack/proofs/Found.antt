@@ -1,5 +1,5 @@
 -- A key among the pairs of a map, by its escaped form.
-use Rattle.std.proofs.Common.{◌≡◌, ◌≢◌, ℕ, Bool, true, false, ◌||◌, List, [], ◌∷◌, ◌++◌, sym, ap, ◌∙◌, refl, ◌⊎◌, inl, inr, Bor, Global, String}
+use Rattle.std.proofs.Common.{◌≡◌, ◌≢◌, ℕ, Bool, true, false, ◌||◌, List, [], ◌∷◌, sym, ap, ◌∙◌, refl, ◌⊎◌, inl, inr, Bor, Global, String, All}
 use Rattle.std.specs.Prelude.{string_bytes}
 use Rattle.std.specs.BTreeSet.{insert_key}
 use Rattle.std.specs.Cmp.Lexicographic.{slice_cmp}
@@ -8,13 +8,16 @@ use Rattle.std.specs.Ordering.{nat_cmp, is_eq}
 use Rattle.std.specs.Str.{bytes_eq}
 use Rattle.std.proofs.lemmas.Bool.{true≢false}
 use Rattle.std.proofs.lemmas.List.Elements.{All-nil, All-cons, All-head, All-tail}
-use Rattle.std.proofs.lemmas.List.Folds.{list_any-append}
 use Rattle.std.proofs.lemmas.Map.Text.{is_eq-slice_cmp}
 use Rattle.std.proofs.lemmas.Slice.Eq.{bytes_eq-Decides}
 use Rattle.cabinet_text_grammar.specs.Spelling.{escaped}
 use Rattle.cabinet_text_nodes.specs.declared.node.Node.{Node}
 use Rattle.cabinet_text_nodes.proofs.Seen.{slices_cmp, found_after}
-use Rattle.cabinet_text_stack.specs.Kept.{has_escaped, LacksEscaped}
+use Rattle.cabinet_text_stack.specs.Kept.{has_escaped}
+
+-- no pair's key has this escaped form
+abbrev pub LacksEscaped : List ℕ → List (String Global × Node) → Type 0
+LacksEscaped bytes ps = All (λ p. bytes ≢ escaped (string_bytes p.0)) ps
 
 neither : (b c : Bool) → (b || c) ≡ false → (b ≡ false) × (c ≡ false)
 neither true c h = absurd (true≢false h)
@@ -24,23 +27,15 @@ either : (b c : Bool) → (b || c) ≡ true → (b ≡ true) ⊎ (c ≡ true)
 either true c h = inl refl
 either false c h = inr h
 
-last : (b c : Bool) → (c || b) ≡ (b || (c || false))
-last true true = refl
-last true false = refl
-last false true = refl
-last false false = refl
-
--- an escaped form that is inserted, and its pair behind the others
-pub kept_exact : (bytes : List ℕ) (ks : List (Bor (List ℕ))) (a : Bor (List ℕ)) (ps : List (String Global × Node)) (k : String Global) (n : Node)
+-- the escaped form of a key is inserted
+pub kept_key : (bytes : List ℕ) (ks : List (Bor (List ℕ))) (a : Bor (List ℕ)) (ps : List (String Global × Node)) (k : String Global)
     → a.now ≡ escaped (string_bytes k)
     → list_any (λ k. is_eq (slice_cmp nat_cmp bytes k.now)) ks ≡ has_escaped bytes ps
-    → list_any (λ k. is_eq (slice_cmp nat_cmp bytes k.now)) (insert_key slices_cmp ks a) ≡ has_escaped bytes (ps ++ (k, n) ∷ [])
-kept_exact bytes ks a ps k n is_escaped exact =
+    → list_any (λ k. is_eq (slice_cmp nat_cmp bytes k.now)) (insert_key slices_cmp ks a) ≡ (bytes_eq bytes (escaped (string_bytes k)) || has_escaped bytes ps)
+kept_key bytes ks a ps k is_escaped exact =
     found_after (λ b. is_eq (slice_cmp nat_cmp bytes b)) ks a
     ∙ ap (λ b. is_eq (slice_cmp nat_cmp bytes a.now) || b) exact
     ∙ ap (λ b. b || has_escaped bytes ps) (is_eq-slice_cmp bytes a.now ∙ ap (bytes_eq bytes) is_escaped)
-    ∙ last (has_escaped bytes ps) (bytes_eq bytes (escaped (string_bytes k)))
-    ∙ sym (list_any-append (λ p. bytes_eq bytes (escaped (string_bytes p.0))) ps ((k, n) ∷ []))
 
 -- a form that is not found, and one that is
 pub lacks_unless_found : (bytes : List ℕ) (ps : List (String Global × Node)) → has_escaped bytes ps ≡ false → LacksEscaped bytes ps

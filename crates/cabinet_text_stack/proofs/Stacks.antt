@@ -21,7 +21,6 @@ use Rattle.cabinet_text_nodes.proofs.Views.{count-node_trees, pair_count-node_pa
 use Rattle.cabinet_text_stack.specs.View.{frame_of, stack_onto, stack_of}
 use Rattle.cabinet_text_stack.specs.declared.frame.Frame.{Frame}
 use Rattle.cabinet_text_stack.specs.declared.frame.Frame.TheVariants as code_frame
-use Rattle.cabinet_text_stack.specs.declared.pairs.Pairs as code
 
 stack_onto-push : (outer : List frame.Frame) (fs : List Frame) (f : Frame) → stack_onto outer (fs ++ f ∷ []) ≡ frame_of f ∷ stack_onto outer fs
 stack_onto-push outer [] f = refl
@@ -38,24 +37,21 @@ length-stack_onto : (outer : List frame.Frame) (fs : List Frame) → length (sta
 length-stack_onto outer [] = omega arith
 length-stack_onto outer (f ∷ fs) = omega (arith, length-stack_onto (frame_of f ∷ outer) fs)
 
-head_due_inside : (all before : List Frame) (f : Frame) → all ≡ before ++ f ∷ [] → WantsNode (frame_of f ∷ stack_of before) → due_in (stack_of all) ≡ a_head (length all)
-head_due_inside all before f h wants =
-    let here = opened all before f f h refl in
-    let long : length (frame_of f ∷ stack_of before) ≡ length all = omega (arith, ap length here, length-stack_onto [] all) in
-    ap due_in here ∙ head_due (frame_of f ∷ stack_of before) wants ∙ ap a_head long
+wants_onto : (outer : List frame.Frame) (fs : List Frame) → WantsNode outer → WantsNode (stack_onto outer fs)
+wants_onto outer [] wants = wants
+wants_onto outer (code_frame.Maybe ∷ fs) wants = wants_onto (frame_of code_frame.Maybe ∷ outer) fs tt
+wants_onto outer (code_frame.List n v ∷ fs) wants = wants_onto (frame_of (code_frame.List n v) ∷ outer) fs tt
+wants_onto outer (code_frame.Value n ps ∷ fs) wants = wants_onto (frame_of (code_frame.Value n ps) ∷ outer) fs tt
 
--- where the last frame wants no key, a head is due
-pub head_told : (all before : List Frame) (f : Frame) → all ≡ before ++ f ∷ [] → ((n : ℕ) (ps : code.Pairs) → f ≢ code_frame.Key n ps) → due_in (stack_of all) ≡ a_head (length all)
-head_told all before code_frame.Maybe h none = head_due_inside all before code_frame.Maybe h tt
-head_told all before (code_frame.List n v) h none = head_due_inside all before (code_frame.List n v) h tt
-head_told all before (code_frame.Key n ps) h none = absurd (none n ps refl)
-head_told all before (code_frame.Value n ps k) h none = head_due_inside all before (code_frame.Value n ps k) h tt
+-- inside the code's containers a head is due
+pub head_told : (fs : List Frame) → due_in (stack_of fs) ≡ a_head (length fs)
+head_told fs = head_due (stack_of fs) (wants_onto [] fs tt) ∙ ap a_head (omega (arith, length-stack_onto [] fs))
 
 pub node_trees-push : (ns : List Node) (n : Node) → node_trees (ns ++ n ∷ []) ≡ then_tree (node_trees ns) (node_tree n)
 node_trees-push [] n = refl
 node_trees-push (m ∷ ns) n = ap (tree.more_trees (node_tree m)) (node_trees-push ns n)
 
-pub counted_items : (v : Vec Node Global) → length v.items ≡ v.len
+pub counted_items : {A : Type 0} (v : Vec A Global) → length v.items ≡ v.len
 counted_items v = omega (arith, v.ok)
 
 pub node_pairs-push : (ps : List (String Global × Node)) (k : String Global) (n : Node) → node_pairs (ps ++ (k, n) ∷ []) ≡ then_pair (node_pairs ps) (string_bytes k) (node_tree n)

@@ -1,5 +1,5 @@
 -- Which keys may follow those of an open map.
-use Rattle.std.proofs.Common.{◌≡◌, ◌≢◌, ℕ, ◌-◌, true, false, List, [], ◌∷◌, ◌++◌, length, sym, ap, ◌∙◌, refl, arith, subst, Global, String, All, Option, Some, None, MatchOption}
+use Rattle.std.proofs.Common.{◌≡◌, ◌≢◌, ℕ, ◌-◌, true, false, List, [], ◌∷◌, length, sym, ap, ◌∙◌, refl, arith, subst, Global, String, All, Option, Some, None, inl, inr}
 use Rattle.std.specs.Prelude.{string_bytes, slice_get}
 use Rattle.std.specs.Cmp.Lexicographic.{slice_cmp}
 use Rattle.std.specs.declared.cmp.Ordering.{Ordering}
@@ -9,8 +9,8 @@ use Rattle.std.proofs.lemmas.Bool.{true≢false, false≢true}
 use Rattle.std.proofs.lemmas.Cmp.{nat_list_cmp_total}
 use Rattle.std.proofs.lemmas.List.Elements.{All-nil, All-cons, All-head, All-tail}
 use Rattle.cabinet_text_bytes.specs.Words.{IsEscaped}
-use Rattle.cabinet_text_grammar.specs.Due as spec
-use Rattle.cabinet_text_grammar.specs.Due.{a_key, due_in}
+use Rattle.cabinet_text_grammar.specs.Due.{a_key}
+use Rattle.cabinet_text_grammar.specs.Item.{key_item}
 use Rattle.cabinet_text_grammar.specs.Fault.{IsFirstCause}
 use Rattle.cabinet_text_grammar.specs.Frame.{keys_after}
 use Rattle.cabinet_text_grammar.specs.Keys.{MapKind, ordered, kept, IsAboveLast, MayFollow}
@@ -20,13 +20,9 @@ use Rattle.cabinet_text_grammar.proofs.Escapes.{escaped_injective}
 use Rattle.cabinet_text_grammar.proofs.FirstCauses.{wrong_key, wrong_key_cause}
 use Rattle.cabinet_text_nodes.specs.View.{node_pairs}
 use Rattle.cabinet_text_nodes.specs.declared.node.Node.{Node}
-use Rattle.cabinet_text_stack.specs.Kept.{LacksEscaped}
-use Rattle.cabinet_text_stack.specs.Told.{AdmitsKey, IsKeyAfter, key_line}
-use Rattle.cabinet_text_stack.specs.View.{kind_of, entries_of, stack_of}
-use Rattle.cabinet_text_stack.specs.declared.frame.Frame.{Frame}
-use Rattle.cabinet_text_stack.specs.declared.frame.Frame.TheVariants as frame
-use Rattle.cabinet_text_stack.specs.declared.pairs.Pairs.{Pairs}
-use Rattle.cabinet_text_stack.proofs.Stacks.{opened}
+use Rattle.cabinet_text_laws.proofs.Verdicts.{memory_first}
+use Rattle.cabinet_text_stack.specs.Told.{IsKeyAfter, RefusesKey, key_line}
+use Rattle.cabinet_text_stack.proofs.Found.{LacksEscaped}
 
 abbrev or_else : {X : Type 0} → X → Option X → X
 or_else x None = x
@@ -84,19 +80,13 @@ kept_before keys (p ∷ es) argument k e all =
 pub not_after_where_found : (es : List (String Global × Node)) (argument : List ℕ) → IsEscaped argument → (LacksEscaped argument es → ⊥) → IsKeyAfter kept es argument → ⊥
 not_after_where_found es argument is found after = found (kept_before [] es argument is.0 is.2 (after is.0 is.2)).1
 
-pub key_due : (all before : List Frame) (f : Frame) (n : ℕ) (ps : Pairs) → all ≡ before ++ f ∷ [] → f ≡ frame.Key n ps → due_in (stack_of all) ≡ a_key (kind_of ps) (keys_after [] (node_pairs (entries_of ps)))
-key_due all before f n ps h is = ap due_in (opened all before f (frame.Key n ps) h is)
-
--- what is wrong with a key where it is due
-abbrev pub IsKeyFault : List ℕ → Option Cause → spec.Due → Type 0
-IsKeyFault argument r due = MatchOption r (AdmitsKey due argument) (λ cause. (AdmitsKey due argument → ⊥) × IsFirstCause due (Some (key_line argument)) cause)
-
-pub fault_told : (kind : MapKind) (es : List (String Global × Node)) (argument : List ℕ) (r : Option Cause) → IsEscaped argument
-    → MatchOption r (IsKeyAfter kind es argument) (λ cause. (cause ≡ wrong_key_cause kind) × (IsKeyAfter kind es argument → ⊥))
-    → IsKeyFault argument r (a_key kind (keys_after [] (node_pairs es)))
-fault_told kind es argument None is h = λ k utf8 e. (utf8, h k e)
-fault_told kind es argument (Some cause) is h =
+-- the first cause why a key is not taken behind some pairs
+pub refused_first : (kind : MapKind) (es : List (String Global × Node)) (argument : List ℕ) (cause : Cause) → IsEscaped argument → RefusesKey kind (wrong_key_cause kind) es argument cause
+    → IsFirstCause (a_key kind (keys_after [] (node_pairs es))) (Some (key_line argument)) cause
+refused_first kind es argument cause is (inl h) =
     let keys = keys_after [] (node_pairs es) in
     let wrong : MayFollow kind keys is.0 → ⊥ = λ may. h.1 (λ k e. subst (MayFollow kind keys) (escaped_injective is.0 k (sym is.2 ∙ e)) may) in
-    let first = subst (λ a. IsFirstCause (a_key kind keys) (Some (key_line a)) (wrong_key_cause kind)) (sym is.2) (wrong_key kind keys is.0 is.1 wrong) in
-    ((λ admits. wrong (admits is.0 is.1 is.2).1), subst (IsFirstCause (a_key kind keys) (Some (key_line argument))) (sym h.0) first)
+    rw (h.0, is.2) (wrong_key kind keys is.0 is.1 wrong)
+refused_first kind es argument cause is (inr h) =
+    let keys = keys_after [] (node_pairs es) in
+    rw (h.0, is.2) (memory_first (a_key kind keys) (key_item is.0) is.1 (is.1, h.1 is.0 is.2))

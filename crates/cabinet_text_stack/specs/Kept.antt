@@ -1,5 +1,5 @@
 -- Whether the key of a pair has some escaped form.
-use Rattle.std.specs.Prelude.{◌≢◌, ℕ, Bool, List, All, String, string_bytes}
+use Rattle.std.specs.Prelude.{ℕ, Bool, List, String, string_bytes}
 use Rattle.std.specs.List.{list_any}
 use Rattle.std.specs.Str.{bytes_eq}
 use Rattle.std.specs.declared.alloc.Global.{Global}
@@ -8,6 +8,3 @@ use Rattle.cabinet_text_nodes.specs.declared.node.Node.{Node}
 
 abbrev pub has_escaped : List ℕ → List (String Global × Node) → Bool
 has_escaped bytes ps = list_any (λ p. bytes_eq bytes (escaped (string_bytes p.0))) ps
-
-abbrev pub LacksEscaped : List ℕ → List (String Global × Node) → Type 0
-LacksEscaped bytes ps = All (λ p. bytes ≢ escaped (string_bytes p.0)) ps

@@ -1,28 +1,20 @@
-//! What is due inside some containers.
-ghost use Rattle.cabinet_text_grammar.specs.Due.{due_in};
-ghost use Rattle.cabinet_text_stack.specs.View.{stack_of};
-ghost use Rattle.cabinet_text_stack.specs.Told.{TellsDue};
-
-use crate::frame::Frame;
+//! What is due where containers are open.
+use crate::frame::OpenMap;
+use cabinet_text_nodes::Node;
 
 /// What is due.
-#[derive(Clone, Copy, Debug, PartialEq, Eq)]
-pub enum Due {
-    /// A node's head, inside so many containers.
-    Head(usize),
-    /// A key of a map.
-    Key,
+#[derive(Drop)]
+pub enum Due<'a> {
+    /// A node's head, for the innermost container or as the root.
+    Head,
+    /// A key of this map, which lies in the innermost container.
+    Key(OpenMap<'a>),
 }
 
-pub fn due_inside(stack: &[Frame<'_>]) -> Due
-    ensures { TellsDue result (due_in (stack_of stack.now)) }
-{
-    let Some((frame, _)) = stack.split_last() else {
-        return Due::Head(0);
-    };
-    if let Frame::Key { .. } = frame {
-        Due::Key
-    } else {
-        Due::Head(stack.len())
-    }
+/// What a node's head leads to.
+#[derive(Drop)]
+pub enum Next<'a> {
+    Due(Due<'a>),
+    /// The document is complete, and this is its root.
+    Done(Node),
 }

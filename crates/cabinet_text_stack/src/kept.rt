@@ -1,16 +1,22 @@
 //! The pairs of a map in an order of its own, among which a key is found by its escaped form.
-ghost use Rattle.std.specs.Prelude.{◌≡◌, ℕ, List, [], ◌∷◌, ◌++◌, length, IfOk, String, string_bytes};
+ghost use Rattle.std.specs.Prelude.{◌≡◌, ℕ, ◌||◌, List, [], ◌∷◌, ◌++◌, length, IfOk, IfErr, String, string_bytes};
 ghost use Rattle.std.specs.declared.alloc.Global.{Global};
-ghost use Rattle.std.specs.Bool.{OnTrue, OnFalse};
 ghost use Rattle.std.specs.BTreeSet.{contains_by};
 ghost use Rattle.std.specs.Ordering.{nat_cmp};
+ghost use Rattle.std.specs.Str.{bytes_eq};
 ghost use Rattle.std.specs.Cmp.Lexicographic.{slice_cmp};
+ghost use Rattle.cabinet_text_bytes.specs.Words.{IsEscaped};
+ghost use Rattle.cabinet_text_grammar.specs.Keys.{kept};
+ghost use Rattle.cabinet_text_grammar.specs.Spelling.{escaped};
+ghost use Rattle.cabinet_text_grammar.specs.declared.cause.Cause.TheVariants.{KeyRepeated};
 ghost use Rattle.cabinet_text_nodes.specs.declared.node.Node.{Node};
 ghost use Rattle.cabinet_text_nodes.specs.contracts.node.Node as node;
 ghost use Rattle.std.specs.Coded.{codes};
-ghost use Rattle.cabinet_text_stack.specs.Kept.{has_escaped, LacksEscaped};
+ghost use Rattle.cabinet_text_stack.specs.Kept.{has_escaped};
+ghost use Rattle.cabinet_text_stack.specs.Told.{IsKeyAfter, RefusesKey};
 
-use crate::key::Key;
+use cabinet_text_bytes::unescape_text;
+use cabinet_text_grammar::Cause;
 use cabinet_text_nodes::Node;
 use std::alloc::{AllocError, Global};
 use std::collections::BTreeSet;
@@ -33,6 +39,24 @@ impl<'a> Model for KeptPairs<'a> {
     ghost invariant = { λ a. (bytes : List ℕ) → contains_by (λ k. slice_cmp nat_cmp bytes k.now) a.seen ≡ has_escaped bytes a.pairs.items };
 }
 
+/// Such pairs, and the key of the next.
+#[derive(Drop)]
+pub struct KeptKeyed<'a> {
+    pairs: Vec<(String, Node)>,
+    seen: BTreeSet<&'a [u8]>,
+    key: String,
+}
+
+impl<'a> Model for KeptKeyed<'a> {
+    ghost Value = { List (String Global × Node) × String Global };
+
+    ghost coded = { Prim.hlevel (codes, node.the_row.coded) };
+
+    ghost view = { λ a. (a.pairs.items, a.key) };
+
+    ghost invariant = { λ a. (bytes : List ℕ) → contains_by (λ k. slice_cmp nat_cmp bytes k.now) a.seen ≡ (bytes_eq bytes (escaped (string_bytes a.key)) || has_escaped bytes a.pairs.items) };
+}
+
 impl<'a> KeptPairs<'a> {
     pub fn new(alloc: Global) -> Self
         ensures { result ≡ [] }
@@ -49,26 +73,24 @@ impl<'a> KeptPairs<'a> {
         self.pairs.len()
     }
 
-    /// Whether a key has this escaped form.
-    pub fn has(&self, argument: &'a [u8]) -> bool
-        ensures yes { OnTrue result (LacksEscaped argument.now self.now → ⊥) }
-        ensures no { OnFalse result (LacksEscaped argument.now self.now) }
+    /// The pairs and the key of the next, which is given by its escaped form, if none of them has it.
+    pub fn with_key(self, alloc: Global, argument: &'a [u8]) -> Result<KeptKeyed<'a>, Cause>
+        requires { IsEscaped argument.now }
+        ensures pairs { IfOk result (λ keyed. keyed.0 ≡ self.entry) }
+        ensures key { IfOk result (λ keyed. argument.now ≡ escaped (string_bytes keyed.1)) }
+        ensures after { IfOk result (λ keyed. IsKeyAfter kept self.entry argument.now) }
+        ensures fault { IfErr result (RefusesKey kept KeyRepeated self.entry argument.now) }
     {
-        self.seen.contains(&argument)
-    }
-
-    /// The pairs and one more behind them.
-    pub fn with(self, key: Key<'a>, node: Node) -> Result<Self, AllocError>
-        ensures { IfOk result (λ pairs. pairs ≡ self.entry ++ (key.entry, node) ∷ []) }
-    {
-        let KeptPairs {
-            mut pairs,
-            mut seen,
-        } = self;
-        let Key { text, argument } = key;
-        seen.insert(argument)?;
-        pairs.push((text, node))?;
-        Ok(KeptPairs { pairs, seen })
+        let KeptPairs { pairs, mut seen } = self;
+        match seen.insert(argument) {
+            Ok(true) => {}
+            Ok(false) => return Err(Cause::KeyRepeated),
+            Err(_) => return Err(Cause::OutOfMemory),
+        }
+        match unescape_text(alloc, argument) {
+            Ok(key) => Ok(KeptKeyed { pairs, seen, key }),
+            Err(_) => Err(Cause::OutOfMemory),
+        }
     }
 
     pub fn into_pairs(self) -> Vec<(String, Node)>
@@ -76,5 +98,20 @@ impl<'a> KeptPairs<'a> {
     {
         let KeptPairs { pairs, seen: _ } = self;
         pairs
+    }
+}
+
+impl<'a> KeptKeyed<'a> {
+    /// The pairs, and behind them the key with its node.
+    pub fn with_node(self, node: Node) -> Result<KeptPairs<'a>, AllocError>
+        ensures { IfOk result (λ pairs. pairs ≡ self.entry.0 ++ (self.entry.1, node) ∷ []) }
+    {
+        let KeptKeyed {
+            mut pairs,
+            seen,
+            key,
+        } = self;
+        pairs.push((key, node))?;
+        Ok(KeptPairs { pairs, seen })
     }
 }

@@ -1,28 +1,11 @@
-//! Keys of maps: what is wrong with one, before memory is taken for it.
-ghost use Rattle.std.specs.Prelude.{◌≡◌, ℕ, List, String, string_bytes, MatchOption};
-ghost use Rattle.std.specs.declared.alloc.Global.{Global};
+//! Keys by their escaped forms.
+ghost use Rattle.std.specs.Prelude.{◌≡◌, ℕ, List};
 ghost use Rattle.std.specs.Ordering.{nat_cmp};
 ghost use Rattle.std.specs.Cmp.Lexicographic.{slice_cmp};
 ghost use Rattle.cabinet_text_grammar.specs.Spelling.{escaped};
 
 use cabinet_text_bytes::first_byte;
 use std::cmp::Ordering;
-use std::marker::Model;
-
-/// A key that wants its node, and its escaped form as it stands in the input.
-#[derive(Drop)]
-pub struct Key<'a> {
-    pub(crate) text: String,
-    pub(crate) argument: &'a [u8],
-}
-
-impl<'a> Model for Key<'a> {
-    ghost Value = { String Global };
-
-    ghost view = { λ k. k.text };
-
-    ghost invariant = { λ k. k.argument.now ≡ escaped (string_bytes k.text) };
-}
 
 /// Compares the text that escaped bytes stand for to a key.
 pub fn cmp_escaped(argument: &[u8], key: &[u8]) -> Ordering

@@ -1,18 +1,19 @@
 //! Open containers of a document that is being read.
 #![tactic(auto)]
 
+mod ascending;
 mod due;
-mod fault;
 mod frame;
 mod kept;
 mod key;
+mod keyed;
 mod pairs;
 mod taking;
 
-pub use due::{Due, due_inside};
-pub use fault::key_fault;
-pub use frame::Frame;
-pub use kept::KeptPairs;
-pub use key::{Key, cmp_escaped};
+pub use due::{Due, Next};
+pub use frame::{Frame, OpenMap};
+pub use kept::{KeptKeyed, KeptPairs};
+pub use key::cmp_escaped;
+pub use keyed::Keyed;
 pub use pairs::Pairs;
 pub use taking::{take_head, take_key};

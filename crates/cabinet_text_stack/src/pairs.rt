@@ -1,18 +1,24 @@
 //! The pairs that a map has so far.
-ghost use Rattle.std.specs.Prelude.{◌≡◌, ◌++◌, [], ◌∷◌, length, IfOk, string_bytes};
-ghost use Rattle.cabinet_text_grammar.specs.Frame.{keys_after};
-ghost use Rattle.cabinet_text_grammar.specs.Keys.{MayFollow};
-ghost use Rattle.cabinet_text_grammar.specs.Tree.{map, ArePairs};
+ghost use Rattle.std.specs.Prelude.{◌≡◌, Some, length, IfOk, IfErr, string_bytes};
+ghost use Rattle.cabinet_text_bytes.specs.Words.{IsEscaped};
+ghost use Rattle.cabinet_text_grammar.specs.Due.{Admits};
+ghost use Rattle.cabinet_text_grammar.specs.Fault.{IsFirstCause};
+ghost use Rattle.cabinet_text_grammar.specs.Item.{key_item};
+ghost use Rattle.cabinet_text_grammar.specs.Spelling.{escaped};
+ghost use Rattle.cabinet_text_grammar.specs.Tree.{map};
 ghost use Rattle.cabinet_text_nodes.specs.View.{node_tree, node_pairs};
-ghost use Rattle.cabinet_text_stack.specs.View.{kind_of, entries_of};
+ghost use Rattle.cabinet_text_stack.specs.Told.{key_line};
+ghost use Rattle.cabinet_text_stack.specs.View.{kind_of, entries_of, key_due, keyed_kind, keyed_entries, key_of};
 
+use crate::ascending::key_behind;
 use crate::kept::KeptPairs;
-use crate::key::Key;
+use crate::keyed::Keyed;
+use cabinet_text_grammar::Cause;
 use cabinet_text_nodes::Node;
-use std::alloc::AllocError;
+use std::alloc::Global;
 use std::collections::BTreeMap;
 
-/// The pairs of a map that wants more.
+/// The pairs of a map that wants a key.
 #[derive(Drop)]
 pub enum Pairs<'a> {
     Ordered(BTreeMap<String, Node>),
@@ -31,25 +37,25 @@ impl<'a> Pairs<'a> {
         }
     }
 
-    /// The pairs and one more behind them.
-    pub fn with(self, key: Key<'a>, node: Node) -> Result<Self, AllocError>
-        requires pairs { ArePairs (kind_of self) [] (node_pairs (entries_of self)) }
-        requires follows { MayFollow (kind_of self) (keys_after [] (node_pairs (entries_of self))) (string_bytes key) }
-        ensures kind { IfOk result (λ pairs. kind_of pairs ≡ kind_of self.entry) }
-        ensures pairs { IfOk result (λ pairs. entries_of pairs ≡ entries_of self.entry ++ (key.entry, node) ∷ []) }
+    /// The pairs and the key of the next, which is given by its escaped form, if it may stand there.
+    pub fn with_key(self, alloc: Global, argument: &'a [u8]) -> Result<Keyed<'a>, Cause>
+        requires { IsEscaped argument.now }
+        ensures kind { IfOk result (λ keyed. keyed_kind keyed ≡ kind_of self.entry) }
+        ensures pairs { IfOk result (λ keyed. keyed_entries keyed ≡ entries_of self.entry) }
+        ensures key { IfOk result (λ keyed. argument.now ≡ escaped (string_bytes (key_of keyed))) }
+        ensures admitted { IfOk result (λ keyed. Admits (key_due self.entry) (key_item (string_bytes (key_of keyed)))) }
+        ensures fault { IfErr result (IsFirstCause (key_due self.entry) (Some (key_line argument.now))) }
     {
         match self {
-            Pairs::Ordered(mut pairs) => {
-                let Key { text, argument: _ } = key;
-                pairs.insert(text, node)?;
-                Ok(Pairs::Ordered(pairs))
+            Pairs::Ordered(pairs) => {
+                let key = key_behind(alloc, &pairs, argument)?;
+                Ok(Keyed::Ordered(pairs, key))
             }
-            Pairs::Hashed(mut pairs) => {
-                let Key { text, argument: _ } = key;
-                pairs.insert(text, node)?;
-                Ok(Pairs::Hashed(pairs))
+            Pairs::Hashed(pairs) => {
+                let key = key_behind(alloc, &pairs, argument)?;
+                Ok(Keyed::Hashed(pairs, key))
             }
-            Pairs::Kept(pairs) => Ok(Pairs::Kept(pairs.with(key, node)?)),
+            Pairs::Kept(pairs) => Ok(Keyed::Kept(pairs.with_key(alloc, argument)?)),
         }
     }
 

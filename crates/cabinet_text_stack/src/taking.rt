@@ -1,31 +1,33 @@
 //! Heads and keys, taken into the innermost container.
-ghost use Rattle.std.specs.Prelude.{◌≡◌, [], IfOk, string_bytes};
-ghost use Rattle.cabinet_text_grammar.specs.Due.{Admits, due_in};
-ghost use Rattle.cabinet_text_grammar.specs.Frame.{AreOpen, WantsNode};
+ghost use Rattle.std.specs.Prelude.{◌≡◌, ℕ, List, [], Some, IfOk, IfErr, string_bytes};
+ghost use Rattle.cabinet_text_bytes.specs.Words.{IsEscaped};
+ghost use Rattle.cabinet_text_grammar.specs.Due.{Admits};
+ghost use Rattle.cabinet_text_grammar.specs.Fault.{IsFirstCause};
+ghost use Rattle.cabinet_text_grammar.specs.Frame.{AreOpen};
 ghost use Rattle.cabinet_text_grammar.specs.Item.{key_item, map_item};
 ghost use Rattle.cabinet_text_grammar.specs.Spelling.{escaped};
 ghost use Rattle.cabinet_text_grammar.proofs.Machine.{going, plug, step};
 ghost use Rattle.cabinet_text_nodes.specs.View.{node_tree, item_of};
-ghost use Rattle.cabinet_text_stack.specs.View.{kind_of, entries_of, stack_of, state_of};
+ghost use Rattle.cabinet_text_stack.specs.Told.{key_line};
+ghost use Rattle.cabinet_text_stack.specs.View.{kind_of, entries_of, key_due, stack_of, inside_map, state_of};
 
-use crate::frame::Frame;
+use crate::due::{Due, Next};
+use crate::frame::{Frame, OpenMap};
 use crate::kept::KeptPairs;
-use crate::key::Key;
 use crate::pairs::Pairs;
+use cabinet_text_grammar::Cause;
 use cabinet_text_nodes::{Head, Leaf, Node};
 use std::alloc::{AllocError, Global};
 use std::collections::BTreeMap;
 
-/// Puts a whole node into the innermost container; one that is full by it is a whole node itself. The document, if
-/// it is complete.
-fn put_in(
+/// Puts a whole node into the innermost container; one that is full by it is a whole node itself.
+fn put_in<'a>(
     alloc: Global,
     whole: Node,
-    stack: &mut Vec<Frame<'_>>,
-) -> Result<Option<Node>, AllocError>
-    requires opened { AreOpen (stack_of stack.old.items) }
-    requires wants { WantsNode (stack_of stack.old.items) }
-    ensures { IfOk result (λ document. state_of document stack.new.items ≡ plug (node_tree whole) (stack_of stack.old.items)) }
+    stack: &mut Vec<Frame<'a>>,
+) -> Result<Next<'a>, AllocError>
+    requires { AreOpen (stack_of stack.old.items) }
+    ensures { IfOk result (λ next. state_of next stack.new.items ≡ plug (node_tree whole) (stack_of stack.old.items)) }
 {
     let mut node = whole;
     while let Some(frame) = stack.pop() {
@@ -39,33 +41,30 @@ fn put_in(
                     node = Node::List(nodes);
                 } else {
                     stack.push(Frame::List { count, nodes })?;
-                    return Ok(None);
+                    return Ok(Next::Due(Due::Head));
                 }
             }
-            Frame::Key { .. } => unreachable!(),
-            Frame::Value { count, pairs, key } => {
-                let pairs = pairs.with(key, node)?;
+            Frame::Value { count, pairs } => {
+                let pairs = pairs.with_node(node)?;
                 if pairs.len() as u64 == count {
                     node = pairs.into_node();
                 } else {
-                    stack.push(Frame::Key { count, pairs })?;
-                    return Ok(None);
+                    return Ok(Next::Due(Due::Key(OpenMap { count, pairs })));
                 }
             }
         }
     }
-    Ok(Some(node))
+    Ok(Next::Done(node))
 }
 
-/// Takes a node's head in. The document, if it is complete by it.
-pub fn take_head(
+/// Takes a node's head in.
+pub fn take_head<'a>(
     alloc: Global,
     head: Head,
-    stack: &mut Vec<Frame<'_>>,
-) -> Result<Option<Node>, AllocError>
-    requires opened { AreOpen (stack_of stack.old.items) }
-    requires admitted { Admits (due_in (stack_of stack.old.items)) (item_of head) }
-    ensures { IfOk result (λ document. state_of document stack.new.items ≡ step (stack_of stack.old.items) (item_of head)) }
+    stack: &mut Vec<Frame<'a>>,
+) -> Result<Next<'a>, AllocError>
+    requires { AreOpen (stack_of stack.old.items) }
+    ensures { IfOk result (λ next. state_of next stack.new.items ≡ step (stack_of stack.old.items) (item_of head)) }
 {
     match head {
         Head::Leaf(Leaf::Bool(value)) => put_in(alloc, Node::Bool(value), stack),
@@ -75,7 +74,7 @@ pub fn take_head(
         Head::None => put_in(alloc, Node::Maybe(None), stack),
         Head::Some => {
             stack.push(Frame::Maybe)?;
-            Ok(None)
+            Ok(Next::Due(Due::Head))
         }
         Head::List(count) => {
             let nodes = Vec::new(alloc);
@@ -83,7 +82,7 @@ pub fn take_head(
                 return put_in(alloc, Node::List(nodes), stack);
             }
             stack.push(Frame::List { count, nodes })?;
-            Ok(None)
+            Ok(Next::Due(Due::Head))
         }
         Head::Ordered(count) => open_map(alloc, count, Pairs::Ordered(BTreeMap::new(alloc)), stack),
         Head::Hashed(count) => open_map(alloc, count, Pairs::Hashed(BTreeMap::new(alloc)), stack),
@@ -91,46 +90,39 @@ pub fn take_head(
     }
 }
 
-/// Opens a map of so many pairs. The document, if it is complete by it.
+/// Opens a map of so many pairs.
 fn open_map<'a>(
     alloc: Global,
     count: u64,
     pairs: Pairs<'a>,
     stack: &mut Vec<Frame<'a>>,
-) -> Result<Option<Node>, AllocError>
+) -> Result<Next<'a>, AllocError>
     requires opened { AreOpen (stack_of stack.old.items) }
-    requires wants { WantsNode (stack_of stack.old.items) }
     requires none { entries_of pairs ≡ [] }
-    ensures { IfOk result (λ document. state_of document stack.new.items ≡ step (stack_of stack.old.items) (map_item (kind_of pairs.entry) count)) }
+    ensures { IfOk result (λ next. state_of next stack.new.items ≡ step (stack_of stack.old.items) (map_item (kind_of pairs.entry) count)) }
 {
     if count == 0 {
-        return put_in(alloc, pairs.into_node(), stack);
+        put_in(alloc, pairs.into_node(), stack)
+    } else {
+        Ok(Next::Due(Due::Key(OpenMap { count, pairs })))
     }
-    stack.push(Frame::Key { count, pairs })?;
-    Ok(None)
 }
 
-/// Takes a key in, which is given with its escaped form.
+/// Takes a key of a map in, which is given by its escaped form. A node's head is due next.
 pub fn take_key<'a>(
-    key: String,
+    alloc: Global,
     argument: &'a [u8],
+    map: OpenMap<'a>,
     stack: &mut Vec<Frame<'a>>,
-) -> Result<(), AllocError>
-    requires opened { AreOpen (stack_of stack.old.items) }
-    requires argument { argument.now ≡ escaped (string_bytes key) }
-    requires admitted { Admits (due_in (stack_of stack.old.items)) (key_item (string_bytes key)) }
-    ensures { IfOk result (λ _. going (stack_of stack.new.items) ≡ step (stack_of stack.old.items) (key_item (string_bytes key))) }
+) -> Result<(), Cause>
+    requires { IsEscaped argument.now }
+    ensures taken { IfOk result (λ _. (k : List ℕ) × (argument.now ≡ escaped k) × Admits (key_due map.entry.pairs) (key_item k) × (going (stack_of stack.new.items) ≡ step (inside_map map.entry stack.old.items) (key_item k))) }
+    ensures fault { IfErr result (IsFirstCause (key_due map.entry.pairs) (Some (key_line argument.now))) }
 {
-    let Some(frame) = stack.pop() else {
-        unreachable!()
+    let OpenMap { count, pairs } = map;
+    let pairs = pairs.with_key(alloc, argument)?;
+    let Ok(()) = stack.push(Frame::Value { count, pairs }) else {
+        return Err(Cause::OutOfMemory);
     };
-    let Frame::Key { count, pairs } = frame else {
-        unreachable!()
-    };
-    let key = Key {
-        text: key,
-        argument,
-    };
-    stack.push(Frame::Value { count, pairs, key })?;
     Ok(())
 }

@@ -1,5 +1,5 @@
 use Rattle.std.proofs.Common.{◌≡◌, length}
-use Rattle.cabinet_text_grammar.specs.Frame.{AreOpen, WantsNode}
+use Rattle.cabinet_text_grammar.specs.Frame.{AreOpen}
 use Rattle.cabinet_text_grammar.proofs.Machine.{plug}
 use Rattle.cabinet_text_nodes.specs.View.{node_tree}
 use Rattle.cabinet_text_stack.specs.View.{stack_of}
@@ -10,7 +10,6 @@ abbrev pub invariant-loop-frame : goal.invariant-loop-frame
 invariant-loop-frame l = record {
   same : plug (node_tree l.node) (stack_of l.stack.items) ≡ plug (node_tree l.fn.whole) (stack_of l.initial.stack.items);
   are : AreOpen (stack_of l.stack.items);
-  wants : WantsNode (stack_of l.stack.items);
 }
 
 abbrev pub decreases-loop-frame : goal.decreases-loop-frame

@@ -2,7 +2,7 @@ use Rattle.std.proofs.Common.{refl, ap, ◌∙◌}
 use Rattle.std.specs.Cmp.Lexicographic.{slice_cmp}
 use Rattle.std.specs.Ordering.{nat_cmp}
 use Rattle.cabinet_text_stack.proofs.Wrong.{above_last, not_above_last}
-use Rattle.cabinet_text_stack.proofs.fault.order_fault.Goals as goal
+use Rattle.cabinet_text_stack.proofs.ascending.order_fault.Goals as goal
 
 pub returns-then-is_gt : goal.returns-then-is_gt
 returns-then-is_gt c =
