@@ -1,8 +1,9 @@
 #!/usr/bin/env bash
 # Times cab run over a million lines beside sed over the same lines, and tells the most memory that cab held; then times
 # questions and edits of one element in lists of several lengths, and building and opening them; then compares the
-# processor time and the memory of cab on a list of a million numbers with those of bench/plain.rs, the same two commands
-# in plain Rust, where rustc is there, and with the time of jq, where jq is there.
+# processor time and the memory of cab on two documents of a million leaves, a list of numbers and a list of records, with
+# those of bench/plain.rs, the same two commands in plain Rust, and, where jq is there, with the processor time of jq.
+# Where rustc is not there, cab is compared with sed alone.
 # Each time is the least of three, and each processor time the least of five, those of a comparison taken in turns.
 set -eu
 root=$(cd "$(dirname "$0")/.." && pwd)
@@ -17,6 +18,9 @@ if ! (cd "$root/crates/cab" && rt run -- build "$root/examples/first/text" "$wor
     exit 1
 fi
 cd "$work"
+mkfifo pipe
+
+# ---- what is measured
 
 # microseconds that a command takes from the file $1 to the file answers
 taken() {
@@ -27,6 +31,32 @@ taken() {
     echo $((${EPOCHREALTIME/./} - began))
 }
 
+# microseconds of the processor, in user and system mode
+spent() {
+    local lines=$1 user system TIMEFORMAT='%U %S'
+    shift
+    read -r user system < <({ time "$@" < "$lines" > answers; } 2>&1)
+    echo $(((10#${user/./} + 10#${system/./}) * 1000))
+}
+
+# the most kilobytes that a command held when it waits for more lines than those of the file $1, or for room in the pipe
+held() {
+    local lines=$1 id
+    shift
+    "$@" < pipe > answers &
+    id=$!
+    exec 3> pipe
+    cat "$lines" >&3
+    sleep 0.2
+    until grep -q '^State:[[:space:]]*[SZ]' "/proc/$id/status"; do
+        sleep 0.1
+    done
+    sed -n 's/^VmHWM:[[:space:]]*\([0-9]*\) kB/\1/p' "/proc/$id/status"
+    exec 3>&-
+    kill $id
+    wait $id 2> /dev/null || true
+}
+
 least() {
     if [ "$1" -eq 0 ] || [ "$2" -lt "$1" ]; then echo "$2"; else echo "$1"; fi
 }
@@ -35,44 +65,36 @@ seconds() {
     printf '%d.%03d s' $(($1 / 1000000)) $(($1 / 1000 % 1000))
 }
 
-compare() {
-    local what=$1 lines=$2 by_cab=0 by_sed=0 hundredths
+ratio() {
+    printf '%d.%02d' $(($1 / $2)) $(($1 * 100 / $2 % 100))
+}
+
+same() {
+    if ! cmp -s "$1" "$2"; then
+        echo "$1 and $2 differ"
+        exit 1
+    fi
+}
+
+# ---- lines
+
+beside_sed() {
+    local what=$1 lines=$2 by_cab=0 by_sed=0
     for _ in 1 2 3; do
         cp first.cab a.cab
         by_cab=$(least $by_cab "$(taken "$lines" "$cab" run a.cab)")
         by_sed=$(least $by_sed "$(taken "$lines" sed 's/.*/int 5/')")
     done
-    hundredths=$((by_cab * 100 / by_sed))
-    echo "$what: cab $(seconds $by_cab), sed $(seconds $by_sed), ratio $((hundredths / 100)).$(printf '%02d' $((hundredths % 100)))"
-}
-
-# the most kilobytes that cab held when it had read all lines but the end of its input
-peak() {
-    local lines=$1
-    cp first.cab a.cab
-    rm -f pipe
-    mkfifo pipe
-    "$cab" run a.cab < pipe > answers &
-    local cab_id=$!
-    exec 3> pipe
-    cat "$lines" >&3
-    sleep 0.3
-    sed -n 's/^VmHWM:[[:space:]]*//p' "/proc/$cab_id/status"
-    exec 3>&-
-    wait $cab_id
+    echo "$what: cab $(seconds "$by_cab"), sed $(seconds "$by_sed"), ratio $(ratio "$by_cab" "$by_sed")"
+    head -n 10000 "$lines" > few
+    echo "most memory of cab: $(held few "$cab" run first.cab) kB for 10,000 of them," \
+        "$(held "$lines" "$cab" run first.cab) kB for all"
 }
 
 yes get | head -n 1000000 > gets
 seq 1 1000000 | sed 's/^/set int /' > sets
-head -n 10000 gets > few-gets
-head -n 10000 sets > few-sets
-
-compare '1,000,000 lines get' gets
-compare '1,000,000 lines set int N' sets
-echo "most memory of cab, 10,000 lines get: $(peak few-gets)"
-echo "most memory of cab, 1,000,000 lines get: $(peak gets)"
-echo "most memory of cab, 10,000 lines set int N: $(peak few-sets)"
-echo "most memory of cab, 1,000,000 lines set int N: $(peak sets)"
+beside_sed '1,000,000 lines get' gets
+beside_sed '1,000,000 lines set int N' sets
 
 # ---- lists
 
@@ -106,7 +128,7 @@ for length in 10 1000 100000 1000000; do
         "set int 5 #N in $(seconds "$(lines_about_last 'set int 5' $length)")"
 done
 
-# ---- beside plain Rust
+# ---- beside plain Rust and jq
 
 if ! command -v rustc > /dev/null; then
     echo 'no rustc: cab was not compared with plain Rust'
@@ -116,94 +138,81 @@ fi
 processor=$(sed -n 's/^logic=proved.* cpu=\([^ ]*\).*/\1/p' log | tail -n 1)
 rustc --edition 2024 -C opt-level=3 -C codegen-units=1 ${processor:+-C target-cpu="$processor"} \
     -o plain "$root/bench/plain.rs"
+command -v jq > /dev/null || echo 'no jq: cab was not compared with it'
 echo "beside plain Rust, both for the processor ${processor:-that rustc assumes}, user and system time:"
 
-# microseconds of the processor that a command takes from the file $1 to the file answers
-spent() {
-    local lines=$1 user system TIMEFORMAT='%U %S'
-    shift
-    read -r user system < <({ time "$@" < "$lines" > answers; } 2>&1)
-    echo $(((10#${user/./} + 10#${system/./}) * 1000))
-}
+# the list of numbers, and as many leaves in records: each document as a text and as JSON
+mv list-1000000 numbers
+{ echo '['; seq -s , 1000000; echo ']'; } > numbers.json
+awk 'BEGIN {
+    print "list 200000" > "records"
+    for (i = 1; i <= 200000; i++) {
+        name = substr("record " i " of the catalogue", 1, 12 + i % 9)
+        number = i * 7919 % 1000003
+        is_even = i % 2 ? "false" : "true"
+        printf "%s[\"%s\",\"no%d\",%d,-%d,%s]\n", i == 1 ? "[" : ",", name, i % 10000, i, number, is_even > "records.json"
+        gsub(" ", "\\s", name)
+        printf "list 5\ntext '\''%s\ntext '\''no%d\nint %d\nint -%d\nbool %s\n", name, i % 10000, i, number, is_even > "records"
+    }
+    print "]" > "records.json"
+}'
+# questions, edits, and the paths of the questions: 100,000 places of each document, in no order
+awk 'BEGIN {
+    for (i = 1; i <= 100000; i++) {
+        place = i * 7919 % 1000000
+        record = place % 200000
+        field = int(place / 200000)
+        print "get #" place > "numbers.questions"
+        print "get #" record " #" field > "records.questions"
+        print "set int " i " #" place > "numbers.edits"
+        print "set int " i " #" record " #2" > "records.edits"
+        print "[" place "]" > "numbers.paths"
+        print "[" record "," field "]" > "records.paths"
+    }
+}'
 
-same() {
-    if ! cmp -s "$1" "$2"; then
-        echo "$1 and $2 differ"
-        exit 1
-    fi
-}
-
-# a number of hundredths
-hundredths() {
-    printf '%d.%02d' $(($1 / 100)) $(($1 % 100))
-}
-
-# one command of both programs on files of the same names, in a folder for each; what they leave and answer is the same
-against_plain() {
-    local what=$1 lines=$2 by_cab=0 by_plain=0
+# One command of both programs with the lines of the file $2, on files of the same names, in a folder for each; what they
+# leave and answer is the same. jq is timed in turn with the words asked_of_jq, where there are any.
+beside_plain() {
+    local what=$1 lines=$2 by_cab=0 by_plain=0 by_jq=0
     shift 2
     for _ in 1 2 3 4 5; do
-        cp million.cab cab-files/a.cab
-        cp million.cab plain-files/a.cab
+        cp "$document.cab" cab-files/a.cab
+        cp "$document.cab" plain-files/a.cab
         by_cab=$(cd cab-files && least $by_cab "$(spent "$lines" "$cab" "$@")")
         by_plain=$(cd plain-files && least $by_plain "$(spent "$lines" ../plain "$@")")
+        if [ ${#asked_of_jq[@]} != 0 ] && command -v jq > /dev/null; then
+            by_jq=$(least $by_jq "$(spent /dev/null jq "${asked_of_jq[@]}")")
+        fi
     done
     same cab-files/answers plain-files/answers
     same cab-files/a.cab plain-files/a.cab
-    echo "$what: cab $(seconds $by_cab), plain Rust $(seconds $by_plain)," \
-        "ratio $(hundredths $((by_cab * 100 / by_plain)))"
+    echo -n "$what: cab $(seconds "$by_cab"), plain Rust $(seconds "$by_plain"), ratio $(ratio "$by_cab" "$by_plain")"
+    if [ "$by_jq" = 0 ]; then echo; else echo ", jq $(seconds "$by_jq"), ratio $(ratio "$by_cab" "$by_jq")"; fi
 }
 
-# the most kilobytes that a program held when it opens the pipe to write what it built
-held() {
-    "$@" > /dev/null &
-    local id=$!
-    sleep 0.2
-    until grep -q '^State:[[:space:]]*S' "/proc/$id/status"; do
-        sleep 0.1
-    done
-    sed -n 's/^VmHWM:[[:space:]]*\([0-9]*\) kB/\1/p' "/proc/$id/status"
-    cat pipe > /dev/null
-    wait $id
-}
-
-most_memory() {
-    local by_cab by_plain
-    by_cab=$(held "$cab" build list-1000000 pipe)
-    by_plain=$(held ./plain build list-1000000 pipe)
-    echo "most memory of build: cab $by_cab kB, plain Rust $by_plain kB," \
-        "ratio $(hundredths $((by_cab * 100 / by_plain)))"
+memory_beside_plain() {
+    local what=$1 by_cab by_plain
+    shift
+    by_cab=$(held /dev/null "$cab" "$@")
+    by_plain=$(held /dev/null ./plain "$@")
+    echo "most memory of $what: cab $by_cab kB, plain Rust $by_plain kB, ratio $(ratio "$by_cab" "$by_plain")"
 }
 
 mkdir cab-files plain-files
-cp list-1000000.cab million.cab
-# places in no order
-seq 1 100000 | awk '{ print ($1 * 7919) % 1000003 }' > places
-sed 's/^/get #/' places > questions
-awk '{ print "set int " NR " #" $1 }' places > changes
-
-against_plain 'build of 1,000,000 numbers' /dev/null build ../list-1000000 a.cab
-against_plain 'open' /dev/null run a.cab
-against_plain 'open and 100,000 lines get #N' ../questions run a.cab
-against_plain 'open and 100,000 lines set int M #N' ../changes run a.cab
-rm -f pipe
-mkfifo pipe
-most_memory
-
-if ! command -v jq > /dev/null; then
-    echo 'no jq: cab was not compared with it'
-    exit 0
-fi
-{
-    echo '['
-    seq 1 999999 | sed 's/$/,/'
-    echo '1000000]'
-} > million.json
-by_cab=0
-by_jq=0
-for _ in 1 2 3 4 5; do
-    by_cab=$(least $by_cab "$(spent /dev/null "$cab" build list-1000000 a.cab)")
-    by_jq=$(least $by_jq "$(spent /dev/null jq -c . million.json)")
+for document in numbers records; do
+    ./plain build $document $document.cab > answers
+    asked_of_jq=(-c . $document.json)
+    beside_plain "$document: build" /dev/null build ../$document a.cab
+    asked_of_jq=()
+    beside_plain "$document: open" /dev/null run a.cab
+    beside_plain "$document: open, and 100,000 edits" ../$document.edits run a.cab
+    asked_of_jq=(-r --slurpfile paths $document.paths 'getpath($paths[])' $document.json)
+    beside_plain "$document: open, and 100,000 questions" ../$document.questions run a.cab
+    if command -v jq > /dev/null; then
+        sed "s/^[a-z]* '*//; s/\\\\s/ /g" cab-files/answers > told
+        same told answers
+    fi
+    memory_beside_plain "$document: build" build $document pipe
+    memory_beside_plain "$document: open" run $document.cab
 done
-echo "build of 1,000,000 numbers: cab $(seconds $by_cab), jq -c . of the same list $(seconds $by_jq)," \
-    "ratio $(hundredths $((by_cab * 100 / by_jq)))"

@@ -1,0 +1,265 @@
+//! Archives of documents in plain Rust: written, checked, asked and edited in place.
+
+use crate::{Leaf, MOST, Node, Refusal, Step};
+use std::ops::Range;
+use std::slice;
+
+const NODE: usize = 24;
+const ALIGN: usize = 8;
+const LONGEST_INLINE: usize = 8;
+const LONGEST_TEXT: usize = (1 << 30) - 1;
+
+// ---- archives that are written
+
+struct ArchiveWriter {
+    bytes: Vec<u8>,
+    /// For each node that is still to be written, where what it leads to begins.
+    targets: Vec<u32>,
+}
+
+impl ArchiveWriter {
+    fn position(&self) -> Result<u32, Refusal> {
+        Ok(u32::try_from(self.bytes.len())?)
+    }
+
+    /// Writes what a node leads to, and answers where that begins.
+    fn put_data(&mut self, node: &Node) -> Result<u32, Refusal> {
+        match node {
+            Node::Leaf(Leaf::Text(text)) if text.len() > LONGEST_TEXT => {
+                Err("a text is too long".into())
+            }
+            Node::Leaf(Leaf::Text(text)) if text.len() > LONGEST_INLINE => {
+                let start = self.position()?;
+                self.bytes.extend_from_slice(text.as_bytes());
+                Ok(start)
+            }
+            Node::Maybe(Some(inside)) => self.put_nodes(slice::from_ref(inside)),
+            Node::List(elements) => self.put_nodes(elements),
+            _ => Ok(0),
+        }
+    }
+
+    /// Writes nodes side by side, after what they lead to, and answers where they begin.
+    fn put_nodes(&mut self, nodes: &[Node]) -> Result<u32, Refusal> {
+        let first = self.targets.len();
+        for node in nodes {
+            let target = self.put_data(node)?;
+            self.targets.push(target);
+        }
+        self.bytes
+            .resize(self.bytes.len().next_multiple_of(ALIGN), 0);
+        let start = self.position()?;
+        for (node, at) in nodes.iter().zip(first..) {
+            let own = self.own_bytes(node, self.targets[at])?;
+            self.bytes.extend_from_slice(&own);
+        }
+        self.targets.truncate(first);
+        Ok(start)
+    }
+
+    /// The offset of a target from so many bytes into the next node.
+    fn offset(&self, target: u32, from: usize) -> Result<[u8; 4], Refusal> {
+        let offset = i64::from(target) - (self.bytes.len() + from) as i64;
+        Ok(i32::try_from(offset)?.to_le_bytes())
+    }
+
+    /// The own bytes of the next node.
+    fn own_bytes(&self, node: &Node, target: u32) -> Result<[u8; NODE], Refusal> {
+        let mut own = [0; NODE];
+        match node {
+            Node::Leaf(Leaf::Bool(value)) => own[1] = u8::from(*value),
+            Node::Leaf(Leaf::Int(number)) => {
+                own[0] = 1;
+                own[8..16].copy_from_slice(&number.to_le_bytes());
+            }
+            Node::Leaf(Leaf::Text(text)) if text.len() <= LONGEST_INLINE => {
+                own[0] = 2;
+                own[4..12].fill(0xff);
+                own[4..4 + text.len()].copy_from_slice(text.as_bytes());
+            }
+            Node::Leaf(Leaf::Text(text)) => {
+                let len = text.len() as u32;
+                let word = (len >> 6 << 8) | 0x80 | (len & 0x3f);
+                own[0] = 2;
+                own[4..8].copy_from_slice(&word.to_le_bytes());
+                own[8..12].copy_from_slice(&self.offset(target, 4)?);
+            }
+            Node::Maybe(None) => own[0] = 4,
+            Node::Maybe(Some(_)) => {
+                own[0] = 4;
+                own[4] = 1;
+                own[8..12].copy_from_slice(&self.offset(target, 8)?);
+            }
+            Node::List(elements) => {
+                own[0] = 5;
+                own[4..8].copy_from_slice(&self.offset(target, 4)?);
+                own[8..12].copy_from_slice(&u32::try_from(elements.len())?.to_le_bytes());
+            }
+        }
+        Ok(own)
+    }
+}
+
+/// The archive of a document.
+pub fn archive_of(document: &Node) -> Result<Vec<u8>, Refusal> {
+    let mut writer = ArchiveWriter {
+        bytes: Vec::new(),
+        targets: Vec::new(),
+    };
+    writer.put_nodes(slice::from_ref(document))?;
+    Ok(writer.bytes)
+}
+
+// ---- archives that are read
+
+/// What a node says, and where that is what it leads to.
+pub enum View {
+    Bool(bool),
+    Int(i64),
+    Text(Range<usize>),
+    Maybe(Option<usize>),
+    List { first: usize, count: usize },
+}
+
+fn word_in(own: &[u8; NODE], at: usize) -> [u8; 4] {
+    [own[at], own[at + 1], own[at + 2], own[at + 3]]
+}
+
+/// Where an offset leads from a position.
+fn target(from: usize, offset: [u8; 4]) -> Option<usize> {
+    from.checked_add_signed(i32::from_le_bytes(offset) as isize)
+}
+
+fn view_text(own: &[u8; NODE], pos: usize) -> Option<Range<usize>> {
+    if own[4] >> 6 != 0b10 {
+        let bytes = &own[4..12];
+        let len = bytes
+            .iter()
+            .position(|byte| *byte == 0xff)
+            .unwrap_or(bytes.len());
+        return Some(pos + 4..pos + 4 + len);
+    }
+    let word = u32::from_le_bytes(word_in(own, 4));
+    let len = ((word >> 8 << 6) | (word & 0x3f)) as usize;
+    let start = target(pos + 4, word_in(own, 8))?;
+    (len > LONGEST_INLINE).then_some(start..start + len)
+}
+
+/// What a node at a position says. What it leads to is not looked at.
+#[inline(always)]
+fn view(own: &[u8; NODE], pos: usize) -> Option<View> {
+    Some(match (own[0], own[4]) {
+        (0, _) if own[1] <= 1 => View::Bool(own[1] == 1),
+        (1, _) => View::Int(i64::from_le_bytes(own[8..16].try_into().ok()?)),
+        (2, _) => View::Text(view_text(own, pos)?),
+        (4, 0) => View::Maybe(None),
+        (4, 1) => View::Maybe(Some(target(pos + 8, word_in(own, 8))?)),
+        (5, _) => View::List {
+            first: target(pos + 4, word_in(own, 4))?,
+            count: u32::from_le_bytes(word_in(own, 8)) as usize,
+        },
+        _ => return None,
+    })
+}
+
+fn view_at(bytes: &[u8], pos: usize) -> Option<View> {
+    view(bytes.get(pos..)?.first_chunk()?, pos)
+}
+
+/// The check of an archive, and where the last region ends that was met.
+struct Check<'a> {
+    bytes: &'a [u8],
+    claimed: usize,
+}
+
+impl Check<'_> {
+    /// Checks nodes side by side, which end at `end` at most, inside so many containers.
+    fn nodes(&mut self, start: usize, count: usize, end: usize, depth: usize) -> Option<()> {
+        let after = start.checked_add(count.checked_mul(NODE)?)?;
+        if start < self.claimed || end < after || !start.is_multiple_of(ALIGN) {
+            return None;
+        }
+        let (nodes, _) = self.bytes[start..after].as_chunks::<NODE>();
+        for (i, own) in nodes.iter().enumerate() {
+            match view(own, start + i * NODE)? {
+                View::Bool(_) | View::Int(_) => {}
+                View::Text(text) => self.text(text, start)?,
+                _ if depth == MOST => return None,
+                View::Maybe(None) => {}
+                View::Maybe(Some(inside)) => self.nodes(inside, 1, start, depth + 1)?,
+                View::List { first, count } => self.nodes(first, count, start, depth + 1)?,
+            }
+        }
+        self.claimed = after;
+        Some(())
+    }
+
+    /// Checks a text that ends at `end` at most where it is out of line.
+    fn text(&mut self, text: Range<usize>, end: usize) -> Option<()> {
+        if text.len() > LONGEST_INLINE {
+            if text.start < self.claimed || end < text.end {
+                return None;
+            }
+            self.claimed = text.end;
+        }
+        str::from_utf8(&self.bytes[text]).ok()?;
+        Some(())
+    }
+}
+
+pub struct Archive {
+    pub bytes: Vec<u8>,
+    pub is_edited: bool,
+    root: usize,
+}
+
+impl Archive {
+    /// The archive that bytes are, if they are one.
+    pub fn open(bytes: Vec<u8>) -> Option<Archive> {
+        let start = bytes.len().checked_sub(NODE)?;
+        let root = start - start % ALIGN;
+        let mut check = Check {
+            bytes: &bytes,
+            claimed: 0,
+        };
+        check.nodes(root, 1, bytes.len(), 0)?;
+        Some(Archive {
+            bytes,
+            root,
+            is_edited: false,
+        })
+    }
+
+    /// The node that a path leads to, and its position.
+    pub fn find(&self, path: &[Step]) -> Option<(usize, View)> {
+        let mut pos = self.root;
+        for step in path {
+            pos = match (view_at(&self.bytes, pos)?, step) {
+                (View::List { first, count }, Step::Place(place)) if *place < count as u64 => {
+                    first + *place as usize * NODE
+                }
+                (View::Maybe(Some(inside)), Step::Inside) => inside,
+                _ => return None,
+            };
+        }
+        Some((pos, view_at(&self.bytes, pos)?))
+    }
+
+    /// Puts a leaf where a path leads, and tells whether one that it may take the place of stands there; nothing where the
+    /// path leads nowhere.
+    pub fn set(&mut self, path: &[Step], leaf: &Leaf) -> Option<bool> {
+        let (pos, there) = self.find(path)?;
+        match (there, leaf) {
+            (View::Bool(_), Leaf::Bool(value)) => self.bytes[pos + 1] = u8::from(*value),
+            (View::Int(_), Leaf::Int(number)) => {
+                self.bytes[pos + 8..pos + 16].copy_from_slice(&number.to_le_bytes());
+            }
+            (View::Text(old), Leaf::Text(new)) if old.len() == new.len() => {
+                self.bytes[old].copy_from_slice(new.as_bytes());
+            }
+            _ => return Some(false),
+        }
+        self.is_edited = true;
+        Some(true)
+    }
+}
