@@ -7,19 +7,19 @@ use archive_core_access::{
 };
 use archive_core_validation::{ArchiveValidator, HighValidator, Validator};
 use archive_forms_boxed::ArchivedBoxedSlice;
-use archive_forms_reading::{ArchivedBox, ArchivedOption};
+use archive_forms_reading::{ArchivedBox, ArchivedOption, ArchivedVec};
 use archive_shape_checking::{CheckBytes, Error};
 use archive_shape_portable::ArchivedU32;
 use archive_shape_references::Ref;
 use std::alloc::Global;
 
-type MaybeBytes = ArchivedOption<ArchivedBoxedSlice<u8>>;
+pub(crate) type MaybeBytes = ArchivedOption<ArchivedBoxedSlice<u8>>;
 
 type TwoSlices = [ArchivedBoxedSlice<u8>; 2];
 
 type Link<T> = ArchivedOption<ArchivedBox<T>>;
 
-fn validator(alloc: Global, bytes: &[u8], max_depth: usize) -> HighValidator
+pub(crate) fn validator(alloc: Global, bytes: &[u8], max_depth: usize) -> HighValidator
     ensures start { result.archive.start ≡ 0 }
     ensures end { result.archive.end ≡ length bytes.now }
 {
@@ -229,6 +229,38 @@ fn empty_buffers_have_no_root(rt: HostRuntime) {
     ];
     for (result, wanted) in rows {
         assert_eq!(rt; result, wanted);
+    }
+}
+
+/// Checks the value at `pos` of a buffer in a validator of a depth.
+fn check_in_depth<T: CheckBytes<HighValidator>>(
+    alloc: Global,
+    bytes: &[u8],
+    pos: usize,
+    max_depth: usize,
+) -> Result<(), Error> {
+    let mut context = validator(alloc, bytes, max_depth);
+    check_pos_with_context::<T, HighValidator>(alloc, bytes, pos, &mut context)
+}
+
+#[test]
+fn a_value_nests_as_its_pointers_do(rt: HostRuntime) {
+    let exceeded = Err(Error::ExceededMaximumSubtreeDepth);
+    let bytes = *b"\x07\0\0\0\xfc\xff\xff\xff\x01\0\0\0\xf8\xff\xff\xff";
+    let rows = [
+        (1, exceeded, exceeded, exceeded),
+        (2, Ok(()), exceeded, exceeded),
+        (3, Ok(()), Ok(()), exceeded),
+        (4, Ok(()), Ok(()), Ok(())),
+    ];
+    for (depth, number, vector, boxed) in rows {
+        let alloc = rt.alloc();
+        let found = check_in_depth::<ArchivedU32>(alloc, &bytes, 0, depth);
+        assert_eq!(rt; found, number, "{depth}");
+        let found = check_in_depth::<ArchivedVec<u8>>(alloc, &bytes, 4, depth);
+        assert_eq!(rt; found, vector, "{depth}");
+        let found = check_in_depth::<ArchivedBox<ArchivedVec<u8>>>(alloc, &bytes, 12, depth);
+        assert_eq!(rt; found, boxed, "{depth}");
     }
 }
 

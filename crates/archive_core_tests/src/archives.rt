@@ -1,7 +1,13 @@
 //! Tests of values as whole archives.
+ghost use Rattle.archive_shape_layout.specs.Content.{Names};
+
+mod own_struct;
 mod read_back;
 mod written;
 
+use archive_core::{
+    Archive, CheckBytes, Deserialize, Error, HighDeserializer, HighValidator, access, deserialize,
+};
 use std::alloc::{AllocError, Global};
 use std::boxed::BoxedSlice;
 
@@ -13,4 +19,14 @@ fn hello(alloc: Global) -> Result<Option<BoxedSlice<u8>>, AllocError> {
     let mut bytes = Vec::new(alloc);
     bytes.extend_from_slice(b"Hello world")?;
     Ok(Some(bytes.into_boxed_slice()))
+}
+
+/// The root of an archive, which is accessed and then read back.
+fn accessed_and_read<T: Archive>(alloc: Global, bytes: &[u8]) -> Result<T, Error>
+where
+    T::Archived: CheckBytes<HighValidator> + Deserialize<T, HighDeserializer>,
+    requires { (names : Names) × T.Archived.knows names }
+{
+    let root = access::<T::Archived>(alloc, bytes)?;
+    deserialize::<T, T::Archived>(alloc, &root)
 }

@@ -7,6 +7,8 @@ mod access;
 #[cfg(test)]
 mod archives;
 #[cfg(test)]
+mod regions;
+#[cfg(test)]
 mod serializing;
 #[cfg(test)]
 mod validation;

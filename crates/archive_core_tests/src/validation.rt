@@ -26,6 +26,8 @@ fn depths(rt: HostRuntime) {
         (2, 2, exceeded),
         (3, 2, Ok(())),
         (3, 3, exceeded),
+        (41, 40, Ok(())),
+        (41, 41, exceeded),
         (usize::MAX - 1, 40, Ok(())),
         (usize::MAX, 40, Ok(())),
     ];
@@ -96,6 +98,36 @@ fn pop_of_another_push(rt: HostRuntime) -> Result<(), Error> {
 }
 
 #[test]
+fn pop_of_a_push_that_was_popped(rt: HostRuntime) -> Result<(), Error> {
+    let mut validator = ArchiveValidator::new(rt.alloc(), b"\0\0\0\0\0\0\0\0");
+    let range = validator.push_subtree_range(4, 8)?;
+    assert_eq!(rt; validator.pop_subtree_range(range), Ok(()));
+    assert_eq!(rt;
+        validator.pop_subtree_range(range),
+        Err(Error::RangePoppedTooManyTimes)
+    );
+    Ok(())
+}
+
+#[test]
+fn pop_of_a_range_that_is_not_the_last_push(rt: HostRuntime) -> Result<(), Error> {
+    let out_of_order = Err(Error::RangePoppedOutOfOrder);
+    let rows = [
+        (4, 8, 12, Ok(())),
+        (5, 8, 12, out_of_order),
+        (4, 7, 12, out_of_order),
+        (4, 8, 8, out_of_order),
+    ];
+    for (pos, end, outer, result) in rows {
+        let mut validator = ArchiveValidator::new(rt.alloc(), b"\0\0\0\0\0\0\0\0\0\0\0\0");
+        validator.push_subtree_range(4, 8)?;
+        let range = PushedRange { pos, end, outer };
+        assert_eq!(rt; validator.pop_subtree_range(range), result, "{range:?}");
+    }
+    Ok(())
+}
+
+#[test]
 fn pop_of_the_last_push(rt: HostRuntime) -> Result<(), Error> {
     let mut validator = HighValidator::new(
         ArchiveValidator::new(rt.alloc(), b"\0\0\0\0\0\0\0\0\0\0\0\0"),
@@ -118,6 +150,26 @@ fn pop_of_the_last_push(rt: HostRuntime) -> Result<(), Error> {
         assert_eq!(rt; validator.check_subtree_ptr(pos, 4, 4), result, "{pos}");
     }
     Ok(())
+}
+
+#[test]
+fn regions_that_overlap_or_run_backward_are_refused(rt: HostRuntime) {
+    let refused = Err(Error::InvalidSubtreePointer { size: 4 });
+    let rows = [
+        (0, 4, Ok(())),
+        (0, 8, Ok(())),
+        (0, 3, refused),
+        (4, 4, refused),
+        (4, 0, refused),
+        (8, 4, refused),
+    ];
+    for (first, second, result) in rows {
+        let mut validator = ArchiveValidator::new(rt.alloc(), b"\0\0\0\0\0\0\0\0\0\0\0\0");
+        let before = validator.in_subtree_raw(first, 4, 1, |_: &mut ArchiveValidator| Ok(()));
+        assert_eq!(rt; before, Ok(()), "{first} {second}");
+        let after = validator.in_subtree_raw(second, 4, 1, |_: &mut ArchiveValidator| Ok(()));
+        assert_eq!(rt; after, result, "{first} {second}");
+    }
 }
 
 #[test]

@@ -1,7 +1,6 @@
 //! Tests of archives that are read back.
-use super::HELLO;
-use archive_core::from_bytes;
-use archive_shape::Error;
+use super::{HELLO, accessed_and_read};
+use archive_core::{Error, from_bytes};
 use std::boxed::BoxedSlice;
 use std::test::Fail;
 
@@ -9,6 +8,14 @@ use std::test::Fail;
 fn a_value_is_read_back(rt: HostRuntime) -> Result<(), Fail> {
     let alloc = rt.alloc();
     let value = from_bytes::<Option<BoxedSlice<u8>>>(alloc, &HELLO)?;
+    assert!(rt; value.is_some_and(|bytes| bytes.as_slice() == b"Hello world".as_slice()));
+    Ok(())
+}
+
+#[test]
+fn an_accessed_value_is_read_back(rt: HostRuntime) -> Result<(), Fail> {
+    let alloc = rt.alloc();
+    let value = accessed_and_read::<Option<BoxedSlice<u8>>>(alloc, &HELLO)?;
     assert!(rt; value.is_some_and(|bytes| bytes.as_slice() == b"Hello world".as_slice()));
     Ok(())
 }
