@@ -24,11 +24,11 @@ root_of bytes t a = root_held node_shape KnowsNode node_names bytes (place bytes
 pub root_there : (bytes other : List ℕ) (pos : ℕ) → other ≡ bytes → pos ≡ place bytes → ∥ ((t : Tree) × Accepted bytes t) ∥₁ → HasValue node_shape KnowsNode other pos
 root_there bytes other pos e at accepted =
     let root_of_accepted : ((t : Tree) × Accepted bytes t) → Root node_names bytes (place bytes) node_shape =
-        λ p. record { value = p.1.value; regions = p.1.regions; visits = p.1.visits; root = p.1.root }
+    λ p. record { value = p.1.value; regions = p.1.regions; visits = p.1.visits; root = p.1.root }
     in
     let r = root_is_found node_names bytes (place bytes) node_shape (∥∥₁_map accepted root_of_accepted) in
     let here : HasValue node_shape KnowsNode bytes (place bytes) =
-        record { value = r.value; held = root_held node_shape KnowsNode node_names bytes (place bytes) r.value r.regions r.visits refl r.root }
+    record { value = r.value; held = root_held node_shape KnowsNode node_names bytes (place bytes) r.value r.regions r.visits refl r.root }
     in
     subst (λ b. HasValue node_shape KnowsNode b pos) (sym e) (subst (HasValue node_shape KnowsNode bytes) (sym at) here)
 

@@ -35,21 +35,21 @@ next_image x y t text (Some (set path new)) h i a l = set_keeps_image x y t path
 module _ (Is : Tree → List ℕ → Type 0)
     (keeps : (x y : List ℕ) (t : Tree) (text : List ℕ) (line : Option Line) → Says text line → Is t x → (a : Accepted x t) → LineLeaves x a.value t line y → Is (next t line) y)
   where
-  after_each : (t : Tree) (x y : List ℕ) (texts : List (List ℕ)) (said : List (Option Line)) (lines : ℕ)
-      → Is t x → AllSay texts said → LinesLeave x t said y → (mid : List ℕ) × IsAfter x y t said lines mid × Is (after_all t (take lines said)) mid
-  after_each t x y texts said zero i h l = (x, record { before = no_line refl refl; later = l }, i)
-  after_each t x y texts [] (suc n) i h l = (x, record { before = no_line refl refl; later = l }, i)
-  after_each t x y [] (line ∷ said) (suc n) i h l = absurd h
-  after_each t x y (text ∷ texts) (line ∷ said) (suc n) i h (no_line e f) = absurd (cc)
-  after_each t x y (text ∷ texts) (line ∷ said) (suc n) i h (more_lines {mid = mid} {line = first} {rest = rest} e a left later) =
-      let same : first ≡ line = cc in
-      let others : rest ≡ said = cc in
-      let left_here : LineLeaves x a.value t line mid = subst (λ s. LineLeaves x a.value t s mid) same left in
-      let later_here : LinesLeave mid (next t line) said y =
-          subst (λ s. LinesLeave mid (next t s) said y) same (subst (λ ss. LinesLeave mid (next t first) ss y) others later)
-      in
-      let r = after_each (next t line) mid y texts said n (keeps x mid t text line h.0 i a left_here) h.1 later_here in
-      (r.0, record { before = more_lines refl a left_here r.1.before; later = r.1.later }, r.2)
+    after_each : (t : Tree) (x y : List ℕ) (texts : List (List ℕ)) (said : List (Option Line)) (lines : ℕ)
+        → Is t x → AllSay texts said → LinesLeave x t said y → (mid : List ℕ) × IsAfter x y t said lines mid × Is (after_all t (take lines said)) mid
+    after_each t x y texts said zero i h l = (x, record { before = no_line refl refl; later = l }, i)
+    after_each t x y texts [] (suc n) i h l = (x, record { before = no_line refl refl; later = l }, i)
+    after_each t x y [] (line ∷ said) (suc n) i h l = absurd h
+    after_each t x y (text ∷ texts) (line ∷ said) (suc n) i h (no_line e f) = absurd (cc)
+    after_each t x y (text ∷ texts) (line ∷ said) (suc n) i h (more_lines {mid = mid} {line = first} {rest = rest} e a left later) =
+        let same : first ≡ line = cc in
+        let others : rest ≡ said = cc in
+        let left_here : LineLeaves x a.value t line mid = subst (λ s. LineLeaves x a.value t s mid) same left in
+        let later_here : LinesLeave mid (next t line) said y =
+        subst (λ s. LinesLeave mid (next t s) said y) same (subst (λ ss. LinesLeave mid (next t first) ss y) others later)
+        in
+        let r = after_each (next t line) mid y texts said n (keeps x mid t text line h.0 i a left_here) h.1 later_here in
+        (r.0, record { before = more_lines refl a left_here r.1.before; later = r.1.later }, r.2)
 
 pub accepted_after_each_line : AcceptedAfterEachLine
 accepted_after_each_line t x y texts said lines a h l =
