@@ -11,7 +11,7 @@ use Rattle.archive_shape_layout.specs.Value.Value.{string, group}
 use Rattle.archive_shape_layout.specs.Value.Values.{no_values, more_values}
 use Rattle.archive_shape_layout.specs.Content.{Part, content_of, choose, made, elements, shape_content, text_content, shape_tagged, IsInline, text_length}
 use Rattle.archive_shape_layout.specs.Content.Part.{at, behind}
-use Rattle.archive_shape_layout.specs.Content.Label.{same, whole, tagged, written}
+use Rattle.archive_shape_layout.specs.Content.Label.{same, tagged, written}
 use Rattle.archive_shape_layout.specs.Content.Content.{illegal, plain}
 use Rattle.archive_shape_layout.specs.Holds.{Region, Visit, OpenShared, Holds, HoldAll}
 use Rattle.archive_shape_layout.specs.Holds.HoldAll.{holds_none, holds_more}
@@ -31,6 +31,7 @@ use Rattle.archive_forms_checking.proofs.Tagged.{own_tag, none_is, some_is, choi
 use Rattle.archive_forms_checking.proofs.Targets.{first_word}
 use Rattle.archive_forms_reading.specs.Parts.{PointsTo}
 use Rattle.archive_forms_reading.proofs.Inside.{none_held}
+use Rattle.archive_forms_reading.proofs.Pointed.{made_whole}
 use Rattle.cabinet_documents.specs.Node.{node_names, node_shape, payloads}
 use Rattle.cabinet_documents.specs.Denotes.{tagged_value}
 use Rattle.cabinet_documents.proofs.Nodes.{none_illegal}
@@ -196,10 +197,6 @@ module _ (bytes : List ℕ) where
     pub stands : (r : Part) (w : Value) (path : List ℕ) → Stands node_names bytes r w (suc level) around since (at (first + i * 24) node_shape) u path
         → Stands node_names bytes r w level around before (at pos (vector node_shape)) v (i ∷ path)
 
-  one_group : (us vs : Values) (v : Value) → made whole us ≡ Some v → v ≡ group vs → vs ≡ us
-  unfolding made
-  one_group us vs v e f = cc
-
   pub element_at : (pos i : ℕ) (u : Value) (vs : Values) {level : ℕ} {around : List OpenShared} {v : Value} {regions : List Region} {before after : List Visit}
       → v ≡ group vs → value_in i vs ≡ Some u → Holds node_names bytes level around (at pos (vector node_shape)) v regions before after → ElementAt level around pos i v u before
   unfolding shape_content
@@ -209,7 +206,9 @@ module _ (bytes : List ℕ) where
       let content : content_of node_names bytes (at pos (vector node_shape)) ≡ plain same (behind known.0 (slice node_shape) len ∷ []) = followed _ known.0 _ known.1 in
       let one = same_below bytes (plain_below bytes content h) in
       let d = by_claimed node_names bytes (slice_is node_names bytes known.0 node_shape len) one.holds in
-      let there : value_in i d.vs ≡ Some u = ap (value_in i) (sym (one_group d.vs vs v d.is_made is)) ∙ has in
+      let group_is = made_whole d.vs v d.is_made in
+      let values : vs ≡ d.vs = cc in
+      let there : value_in i d.vs ≡ Some u = ap (value_in i) (sym values) ∙ has in
       let k = nth i len known.0 (known.0 + i * 24) u d.all refl there refl in
       record {
         first = known.0;
