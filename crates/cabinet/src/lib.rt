@@ -9,6 +9,7 @@ mod source;
 mod working;
 
 pub use cabinet_opening::{OpenRefusal, check};
+pub use cabinet_refusals::accepted_is_not_refused;
 pub use cabinet_saving::{SaveRefusal, save, to_bytes};
 pub use cabinet_text_grammar::Cause;
 pub use cabinet_text_lines::read_line;
