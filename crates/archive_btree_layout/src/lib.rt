@@ -1,0 +1,9 @@
+//! Search trees as they stand in archives: their items, the search for an entry, and when they are packed.
+#![tactic(auto)]
+
+mod laws;
+
+pub use laws::{
+    descent_finds, descent_is_equal, descent_meets, one_packed, packed_height, packed_is_least,
+    tree_is_read,
+};
