@@ -13,6 +13,7 @@ use Rattle.cabinet_documents.specs.Node.{node_shape}
 use Rattle.cabinet_documents.specs.Image.{Image}
 use Rattle.cabinet_spelling.specs.HasLayout.{HasLayout}
 use Rattle.cabinet_spelling.specs.Laws.{archive_of, ArchiveFits}
+use Rattle.cabinet_spelling.proofs.Layouts.{fitting_has_layout_law}
 use Rattle.cabinet_spelling.proofs.Imaged.{written_is_image_law, one_image_law}
 use Rattle.cabinet_text_nodes.specs.Archived.{archived_as}
 use Rattle.cabinet_text_nodes.specs.View.{node_tree}
@@ -66,16 +67,13 @@ unsaved m t old (refusal.Limit e) h = (h.0, h.1, refl)
 unsaved m t old (refusal.Writer e) h = absurd h
 unsaved m t old refusal.OutOfMemory h = (h, inl refl, refl)
 
--- why nothing is made of a document is why it has no image
-unmade : (s t : Tree) (r : SaveRefusal) → s ≡ t → HasLayout s → IsUnmadeFor s r → HasNoImageFor t r
+-- why nothing is made of a document that has a layout is why it has no image
+pub unmade : (s t : Tree) (r : SaveRefusal) → s ≡ t → HasLayout s → IsUnmadeFor s r → HasNoImageFor t r
 unmade s t refusal.Kind same layout h = absurd h
 unmade s t (refusal.Limit e) same layout h = (subst HasLayout same layout, subst (λ u. IsPast u e) same h)
 unmade s t (refusal.Writer e) same layout h = absurd h
 unmade s t refusal.OutOfMemory same layout h = subst HasLayout same layout
 
--- what was made of a document that has a layout is its image
-pub image_or_refusal : (s t : Tree) (r : Result (Vec ℕ Global) SaveRefusal) → s ≡ t → IsDocument t → HasLayout s
-    → MatchResult r (λ bytes. ArchiveFits s × (bytes.items ≡ archive_of s)) (IsUnmadeFor s)
-    → record { image : IfOk r (λ bytes. Image t bytes.items); laid : OnOk r (HasLayout t); refused : IfErr r (HasNoImageFor t) }
-image_or_refusal s t (Ok bytes) same document layout h = record { image = written_image s t bytes.items same document h.0 h.1; laid = subst HasLayout same layout; refused = tt }
-image_or_refusal s t (Err r) same document layout h = record { image = tt; laid = tt; refused = unmade s t r same layout h }
+-- what was made of a document is its image, and it has a layout
+pub image_made : (s t : Tree) (bytes : List ℕ) → s ≡ t → IsDocument t → ArchiveFits s → bytes ≡ archive_of s → Image t bytes × HasLayout t
+image_made s t bytes same document fits is = (written_image s t bytes same document fits is, subst HasLayout same (fitting_has_layout_law s _ fits.0.0))

@@ -55,10 +55,11 @@ pub fn to_bytes(alloc: Global, document: &Document) -> Result<Vec<u8>, SaveRefus
     ensures refused { IfErr result (HasNoImageFor document.now) }
 {
     let root = document.root();
-    if !has_layout(root) {
-        return Err(SaveRefusal::Kind);
+    match archive_in_memory(alloc, root) {
+        Ok(bytes) => Ok(bytes),
+        Err(_) if !has_layout(root) => Err(SaveRefusal::Kind),
+        Err(refusal) => Err(refusal),
     }
-    archive_in_memory(alloc, root)
 }
 
 /// Writes the image of a document, which is made in memory first. The writer's position is to be 0, so that positions are
