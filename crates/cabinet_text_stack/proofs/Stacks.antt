@@ -1,10 +1,11 @@
 -- The stack of the code as open containers.
-use Rattle.std.proofs.Common.{◌≡◌, ◌≢◌, ℕ, ◌+◌, List, [], ◌∷◌, ◌++◌, length, sym, ap, ◌∙◌, refl, arith, inl, inr, Vec, Global, String}
+use Rattle.std.proofs.Common.{◌≡◌, ◌≢◌, ℕ, zero, suc, ◌+◌, get_or, slice_set, List, [], ◌∷◌, ◌++◌, length, length-append, ◌<◌, subst, sym, ap, ◌∙◌, refl, arith, inl, inr, Vec, Global, String}
 use Rattle.std.specs.Prelude.{string_bytes, string_cmp}
 use Rattle.std.specs.declared.cmp.Ordering.TheVariants.{Less, Greater}
 use Rattle.std.specs.Ordering.{nat_cmp, ordering_reverse}
 use Rattle.std.specs.Cmp.Lexicographic.{slice_cmp}
 use Rattle.std.specs.BTreeMap.{insert_entry}
+use Rattle.std.proofs.Math.Nat.{lt_irrefl}
 use Rattle.std.proofs.lemmas.Cmp.{nat_list_cmp_total}
 use Rattle.std.proofs.lemmas.Bool.Decides.{eqb_tells}
 use Rattle.cabinet_text_grammar.specs.Due.{a_head, due_in}
@@ -32,6 +33,19 @@ stack_of-push fs f = stack_onto-push [] fs f
 -- the stack before its last frame was taken
 pub opened : (all before : List Frame) (f g : Frame) → all ≡ before ++ f ∷ [] → f ≡ g → stack_of all ≡ frame_of g ∷ stack_of before
 opened all before f g h is = ap stack_of h ∙ stack_of-push before f ∙ ap (λ e. frame_of e ∷ stack_of before) is
+
+-- the innermost container, and that in its place, inside the same others
+changed_onto : (outer : List frame.Frame) (fs : List Frame) (n : ℕ) (f g : Frame) → length fs ≡ suc n → get_or fs n f ≡ f
+    → (others : List frame.Frame) × (stack_onto outer fs ≡ frame_of f ∷ others) × (stack_onto outer (slice_set fs n g) ≡ frame_of g ∷ others)
+changed_onto outer [] n f g long is = absurd cc
+changed_onto outer (h ∷ []) zero f g long is = (outer, ap (λ x. frame_of x ∷ outer) is, refl)
+changed_onto outer (h ∷ []) (suc n) f g long is = absurd cc
+changed_onto outer (h ∷ i ∷ fs) zero f g long is = absurd cc
+changed_onto outer (h ∷ i ∷ fs) (suc n) f g long is = changed_onto (frame_of h ∷ outer) (i ∷ fs) n f g (omega (arith, long)) is
+
+pub changed : (fs : List Frame) (n : ℕ) (f g : Frame) → length fs ≡ suc n → get_or fs n f ≡ f
+    → (others : List frame.Frame) × (stack_of fs ≡ frame_of f ∷ others) × (stack_of (slice_set fs n g) ≡ frame_of g ∷ others)
+changed fs n f g long is = changed_onto [] fs n f g long is
 
 length-stack_onto : (outer : List frame.Frame) (fs : List Frame) → length (stack_onto outer fs) ≡ length outer + length fs
 length-stack_onto outer [] = omega arith
@@ -94,6 +108,12 @@ pairs_more kind ps all k n count outer h short =
       | inl is ↦ absurd (short (sym counted ∙ is.1))
       | inr differs ↦ rw differs.0 (ap (λ ts. going (frame.at_key kind count ts ∷ outer)) trees)
     ]
+
+-- a list that wants more than one node wants more after one
+pub list_open : (ns all : List Node) (n : Node) (count : ℕ) (outer : List frame.Frame) → all ≡ ns ++ n ∷ [] → length ns + 1 < count → going (frame.in_list count (node_trees all) ∷ outer) ≡ plug (node_tree n) (frame.in_list count (node_trees ns) ∷ outer)
+list_open ns all n count outer h more =
+    let long = ap length h ∙ length-append ns (n ∷ []) in
+    list_more ns all n count outer h (λ e. lt_irrefl count (subst (λ i. i < count) (sym long ∙ e) more))
 
 -- hashed pairs ascend as ordered ones do
 pub as_ordered : (keys : List (List ℕ)) (ps : Pairs) → ArePairs hashed keys ps → ArePairs ordered keys ps

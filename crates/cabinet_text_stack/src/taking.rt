@@ -20,8 +20,9 @@ use cabinet_text_nodes::{Head, Leaf, Node};
 use std::alloc::{AllocError, Global};
 use std::collections::BTreeMap;
 
-/// Puts a whole node into the innermost container; one that is full by it is a whole node itself.
-fn put_in<'a>(
+/// Puts a whole node into the innermost container. `put_in` deals with a list that stays open by it in place; here each
+/// container is taken from the stack, and one that is full is a whole node itself.
+fn close_with<'a>(
     alloc: Global,
     whole: Node,
     stack: &mut Vec<Frame<'a>>,
@@ -55,6 +56,27 @@ fn put_in<'a>(
         }
     }
     Ok(Next::Done(node))
+}
+
+/// Puts a whole node into the innermost container; one that is full by it is a whole node itself.
+fn put_in<'a>(
+    alloc: Global,
+    whole: Node,
+    stack: &mut Vec<Frame<'a>>,
+) -> Result<Next<'a>, AllocError>
+    requires { AreOpen (stack_of stack.old.items) }
+    ensures { IfOk result (λ next. state_of next stack.new.items ≡ plug (node_tree whole) (stack_of stack.old.items)) }
+{
+    let Some(frame) = stack.last_mut() else {
+        return Ok(Next::Done(whole));
+    };
+    match frame {
+        Frame::List { count, nodes } if nodes.len() as u64 + 1 < *count => {
+            nodes.push(whole)?;
+            Ok(Next::Due(Due::Head))
+        }
+        _ => close_with(alloc, whole, stack),
+    }
 }
 
 /// Takes a node's head in.

@@ -3,7 +3,7 @@ use Rattle.cabinet_text_grammar.specs.Frame.{AreOpen}
 use Rattle.cabinet_text_grammar.proofs.Machine.{plug}
 use Rattle.cabinet_text_nodes.specs.View.{node_tree}
 use Rattle.cabinet_text_stack.specs.View.{stack_of}
-use Rattle.cabinet_text_stack.proofs.taking.put_in.Given as goal
+use Rattle.cabinet_text_stack.proofs.taking.close_with.Given as goal
 
 -- what putting the node in comes to stays the same
 abbrev pub invariant-loop-frame : goal.invariant-loop-frame
