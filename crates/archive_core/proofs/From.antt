@@ -9,7 +9,7 @@ use Rattle.archive_shape_layout.specs.Holds.{Ascends, root_position}
 use Rattle.archive_shape_canonical.specs.Settled.{Fit}
 use Rattle.archive_shape_canonical.specs.Canonical.{CanonicalArchive, AreBytes}
 use Rattle.archive_shape_references.specs.Bytes.{HasBytes}
-use Rattle.archive_shape.proofs.Held.{ascends_lowered}
+use Rattle.archive_shape_layout.proofs.Evaluated.{ascends_lowered}
 use Rattle.archive_forms_spelling.specs.State.{State, Keys, IsConsistent, AreOneToOne, visits_of}
 use Rattle.archive_forms_spelling.specs.Spelling.{Spelling}
 use Rattle.archive_forms_spelling.specs.Spells.{Spells}

@@ -3,7 +3,7 @@ ghost use Rattle.std.specs.Prelude.{◌≡◌, ◌+◌, ◌^◌, ◌<◌, ◌≤
 ghost use Rattle.std.specs.Int.{w32, to_le_bytes};
 ghost use Rattle.archive_shape_references.specs.Bytes.{overwrite};
 ghost use Rattle.archive_shape_writing.specs.declared.error.Error.TheVariants.{IsizeOverflow, LengthTooLarge};
-ghost use Rattle.archive_forms_spelling.specs.Pointers.{FitsOffset, offset_bytes};
+ghost use Rattle.archive_shape_pointers.specs.Offsets.{FitsOffset, offset_bytes};
 
 use crate::{ArchivedBoxedSlice, ArchivedBoxedStr};
 use archive_forms_reading::{ArchivedVec, BoxResolver, VecResolver};

@@ -7,7 +7,7 @@ use Rattle.archive_shape_layout.specs.Holds.{Visit, OpenShared, Ascends}
 use Rattle.archive_shape_layout.proofs.Evaluated.{ascends_raised}
 use Rattle.archive_shape_checking.specs.Range.{Range}
 use Rattle.archive_shape_checking.specs.Accepts.{Passes}
-use Rattle.archive_shape.proofs.Held.{ascends_lowered}
+use Rattle.archive_shape_layout.proofs.Evaluated.{ascends_lowered}
 use Rattle.archive_forms_reading.specs.Parts.{HasValue}
 
 -- where the range that it claims from lies before it

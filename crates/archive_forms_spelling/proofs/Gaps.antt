@@ -8,7 +8,7 @@ use Rattle.archive_shape_layout.proofs.Evaluated.{ascends_raised, end_below}
 use Rattle.archive_shape_canonical.proofs.Editing.{InRegions-left, InRegions-right}
 use Rattle.archive_shape_canonical.proofs.Small.{small_none, small_more, small_append, small_same, small_word}
 use Rattle.archive_shape_references.specs.Bytes.{zeros}
-use Rattle.archive_shape.proofs.Held.{ascends_lowered}
+use Rattle.archive_shape_layout.proofs.Evaluated.{ascends_lowered}
 use Rattle.archive_forms_spelling.specs.Spells.{AreGapsZero}
 use Rattle.archive_shape_canonical.specs.Canonical.{AreBytes}
 

@@ -24,12 +24,12 @@ use Rattle.archive_shape_canonical.proofs.Cleanness.{clean_by}
 use Rattle.archive_shape_references.specs.Bytes.{HasBytes}
 use Rattle.archive_shape_references.proofs.Pieces.{stands_left, stands_right, stands_word, word_within}
 use Rattle.archive_shape_writing.specs.declared.error.Error.{Error}
-use Rattle.archive_shape_pointers.specs.Offsets.{difference}
+use Rattle.archive_shape_pointers.specs.Offsets.{difference, FitsOffset, offset_bytes}
 use Rattle.archive_forms_spelling.specs.State.{State, Keys, IsConsistent, AllFrom, AreKeyedBy, advanced, visits_of}
 use Rattle.archive_forms_spelling.specs.Spelling.{Spelling, state_after}
 use Rattle.archive_forms_spelling.specs.Spells.{CanonicalPart, SpellsAt, EachSpells, Spells}
 use Rattle.archive_forms_spelling.specs.Regions.{state_after_all, values, all_keyed_by, region_at, region_piece, region_fits}
-use Rattle.archive_forms_spelling.specs.Pointers.{FitsOffset, offset_bytes, slice_spelling, box_spelling}
+use Rattle.archive_forms_spelling.specs.Pointers.{slice_spelling, box_spelling}
 use Rattle.archive_forms_spelling.proofs.States.{from_earlier, consistent_further}
 use Rattle.archive_forms_spelling.proofs.Gaps.{bytes_append, bytes_word}
 use Rattle.archive_forms_spelling.proofs.Regions.{slice_canonical, boxed_canonical, region_exact, region_bytes, region_end, region_up, state_after_all_consistent, state_after_all_keyed, state_after_all_begun}

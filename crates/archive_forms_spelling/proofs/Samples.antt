@@ -14,7 +14,8 @@ use Rattle.archive_forms_spelling.specs.State.{Keys, SharedValue, AreOneToOne, i
 use Rattle.archive_forms_spelling.specs.Spells.{Spells}
 use Rattle.archive_forms_spelling.specs.Forms.{seen_as}
 use Rattle.archive_forms_spelling.specs.Regions.{region_fits, region_piece, all_keyed_by}
-use Rattle.archive_forms_spelling.specs.Pointers.{FitsOffset, box_spelling}
+use Rattle.archive_forms_spelling.specs.Pointers.{box_spelling}
+use Rattle.archive_shape_pointers.specs.Offsets.{FitsOffset}
 use Rattle.archive_forms_spelling.specs.Options.{option_spelling}
 use Rattle.archive_forms_spelling.specs.Texts.{text_spelling}
 use Rattle.archive_forms_spelling.specs.Written.{IsWritten}

@@ -21,13 +21,12 @@ use Rattle.archive_shape_canonical.proofs.Cleanness.{clean_by}
 use Rattle.archive_shape_references.specs.Bytes.{HasBytes, zeros}
 use Rattle.archive_shape_references.proofs.Pieces.{stands_left, stands_right, zero_stands}
 use Rattle.archive_shape_writing.specs.declared.error.Error.{Error}
-use Rattle.archive_shape_pointers.specs.Offsets.{difference}
+use Rattle.archive_shape_pointers.specs.Offsets.{difference, FitsOffset, offset_bytes}
 use Rattle.archive_forms_spelling.specs.State.{State, Met, Keys, SharedValue, IsConsistent, AllFrom, AreKeyedBy, advanced, with_begun, visits_of, visit_of_key}
 use Rattle.archive_forms_spelling.specs.Spelling.{Spelling, state_after}
 use Rattle.archive_forms_spelling.specs.Spells.{CanonicalPart, Spells, SpellsAt}
 use Rattle.archive_shape_canonical.specs.Canonical.{AreBytes}
 use Rattle.archive_forms_spelling.specs.Regions.{region_piece}
-use Rattle.archive_forms_spelling.specs.Pointers.{FitsOffset, offset_bytes}
 use Rattle.archive_forms_spelling.specs.Shared.{shared_padding, first_at, first_visit, shared_value, shared_piece, shared_resolver, shared_met, shared_fits, shared_refused, shared_spelling}
 use Rattle.archive_forms_spelling.proofs.States.{before_further, from_earlier, consistent_advanced, is_new_key, none_open, none_visited, visit_before, met_is_visited, met_is_keyed, none_or_one, new_keys_more}
 use Rattle.archive_forms_spelling.proofs.Gaps.{no_gap, bytes_none, bytes_append, bytes_zeros, bytes_word}

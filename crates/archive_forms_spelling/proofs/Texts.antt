@@ -22,14 +22,13 @@ use Rattle.archive_shape_canonical.proofs.Cleanness.{clean_by}
 use Rattle.archive_shape_canonical.proofs.Small.{behind_all}
 use Rattle.archive_shape_references.specs.Bytes.{HasBytes}
 use Rattle.archive_shape_references.proofs.Pieces.{stands_left, stands_right, stands_word, word_within}
-use Rattle.archive_shape_pointers.specs.Offsets.{difference}
+use Rattle.archive_shape_pointers.specs.Offsets.{difference, FitsOffset, offset_bytes}
 use Rattle.archive_forms_layout.specs.Text.{own_bytes}
 use Rattle.archive_forms_layout.proofs.TextContent.{inline_is, far_is}
 use Rattle.archive_shape_writing.specs.declared.error.Error.{Error}
 use Rattle.archive_forms_spelling.specs.State.{State, visits_of}
 use Rattle.archive_forms_spelling.specs.Spells.{CanonicalPart, SpellsAt, Spells}
 use Rattle.archive_shape_canonical.specs.Canonical.{AreBytes}
-use Rattle.archive_forms_spelling.specs.Pointers.{FitsOffset, offset_bytes}
 use Rattle.archive_forms_spelling.specs.Texts.{is_short, length_word, inline_bytes, text_piece, text_resolver, text_own, text_piece_fits, text_piece_refused, text_own_fits, text_own_refused, text_spelling, boxed_text_spelling}
 use Rattle.archive_forms_spelling.proofs.States.{consistent_advanced}
 use Rattle.archive_forms_spelling.proofs.Gaps.{no_gap, bytes_none, bytes_append, bytes_same, bytes_word}

@@ -1,20 +1,12 @@
 -- How pointers are archived: to the elements of a list, and to one value.
-use Rattle.std.specs.Prelude.{◌≡◌, ℕ, ◌^◌, ◌<◌, ◌≤◌, List, [], ◌∷◌, ◌++◌, length, ◌⊎◌, FitsSigned}
-use Rattle.std.specs.Int.{w32, to_le_bytes, cast_unsigned}
+use Rattle.std.specs.Prelude.{◌≡◌, ℕ, ◌^◌, ◌<◌, ◌≤◌, List, [], ◌∷◌, ◌++◌, length, ◌⊎◌}
+use Rattle.std.specs.Int.{w32, to_le_bytes}
 use Rattle.archive_shape_layout.specs.Shape.{Shape}
 use Rattle.archive_shape_layout.specs.Value.Value.{group}
 use Rattle.archive_shape_writing.specs.declared.error.Error.TheVariants.{IsizeOverflow, LengthTooLarge}
-use Rattle.archive_shape_pointers.specs.Offsets.{difference}
+use Rattle.archive_shape_pointers.specs.Offsets.{FitsOffset, offset_bytes}
 use Rattle.archive_forms_spelling.specs.Spelling.{Spelling}
 use Rattle.archive_forms_spelling.specs.Regions.{state_after_all, values, plain_values, all_keyed_by, region_at, region_piece, region_fits, region_refused}
-
--- an offset of 32 bits leads from a position to another
-abbrev pub FitsOffset : ℕ → ℕ → Type 0
-FitsOffset pos to = FitsSigned w32 (difference pos to)
-
--- the bytes of that offset
-abbrev pub offset_bytes : ℕ → ℕ → List ℕ
-offset_bytes pos to = to_le_bytes w32 (cast_unsigned w32 (difference pos to))
 
 -- a pointer to the elements of a list; the resolver is the position of the first
 abbrev pub slice_spelling : {A R : Type 0} → Shape → Spelling A R → Spelling (List A) ℕ

@@ -12,7 +12,7 @@ use Rattle.archive_shape_writing.specs.declared.error.Error.TheVariants.{IsizeOv
 use Rattle.archive_forms_spelling.specs.State.{State, Met, visit_of_key, with_begun, IsNoneOf, IsOneOf}
 use Rattle.archive_forms_spelling.specs.Spelling.{Spelling}
 use Rattle.archive_forms_spelling.specs.Regions.{region_at, region_piece, region_fits, region_refused}
-use Rattle.archive_forms_spelling.specs.Pointers.{FitsOffset, offset_bytes}
+use Rattle.archive_shape_pointers.specs.Offsets.{FitsOffset, offset_bytes}
 
 -- how many zero bytes follow a shared value: one where it has no byte itself
 abbrev pub shared_padding : ℕ → ℕ → ℕ

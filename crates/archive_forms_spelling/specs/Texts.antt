@@ -5,7 +5,7 @@ use Rattle.archive_shape_layout.specs.Value.Value.{string}
 use Rattle.archive_shape_writing.specs.declared.error.Error.{Error}
 use Rattle.archive_shape_writing.specs.declared.error.Error.TheVariants.{IsizeOverflow, LengthTooLarge, PositionTooLarge, StringTooLong}
 use Rattle.archive_forms_spelling.specs.Spelling.{Spelling}
-use Rattle.archive_forms_spelling.specs.Pointers.{FitsOffset, offset_bytes}
+use Rattle.archive_shape_pointers.specs.Offsets.{FitsOffset, offset_bytes}
 
 -- a text of at most eight bytes stands inline
 abbrev pub is_short : List ℕ → Bool

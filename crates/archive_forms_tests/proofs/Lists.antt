@@ -13,7 +13,7 @@ use Rattle.archive_shape_layout.specs.Value.Value.{chosen}
 use Rattle.archive_shape_layout.specs.Value.Values.{no_values, more_values}
 use Rattle.archive_forms_spelling.specs.Spelling.{Spelling}
 use Rattle.archive_forms_spelling.specs.Options.{option_spelling}
-use Rattle.archive_forms_spelling.specs.Pointers.{FitsOffset, offset_bytes}
+use Rattle.archive_shape_pointers.specs.Offsets.{FitsOffset, offset_bytes}
 use Rattle.archive_forms_spelling.specs.Serializing.{Resolves, Serializes}
 use Rattle.archive_forms_writing.specs.Owned.{boxed_spelling}
 use Rattle.archive_forms_reading.specs.declared.resolving.BoxResolver.{BoxResolver}

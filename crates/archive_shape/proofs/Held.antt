@@ -5,14 +5,9 @@ use Rattle.archive_shape_layout.specs.Value.{Value}
 use Rattle.archive_shape_layout.specs.Content.{Names}
 use Rattle.archive_shape_layout.specs.Holds.{Region, Ascends, end_after, Follows}
 use Rattle.archive_shape_layout.proofs.Ascent.{Ascends-append, end_after-grows}
-use Rattle.archive_shape_layout.proofs.Evaluated.{ascends_below, ascends_raised}
+use Rattle.archive_shape_layout.proofs.Evaluated.{ascends_below, ascends_lowered, ascends_raised}
 use Rattle.archive_shape_layout.proofs.Rooted.{inside_high}
 use Rattle.archive_shape.specs.Key.{HeldAt}
-
-pub ascends_lowered : (low mid high : ℕ) (rs : List Region) → low ≤ mid → Ascends mid high rs → Ascends low high rs
-unfolding Ascends
-ascends_lowered low mid high [] h a = tt
-ascends_lowered low mid high (r ∷ rs) h a = let after = a.0.after in (record { after = omega arith; aligned = a.0.aligned; inside = a.0.inside }, a.1)
 
 -- regions that ascend before a position do so before a later one
 pub ascends_before : (pos later : ℕ) (rs : List Region) → pos ≤ later → Ascends 0 pos rs → Ascends 0 later rs

@@ -109,6 +109,11 @@ ascends_raised low top high (r ∷ rs) h a =
     let below = a.0.inside in
     (record { after = a.0.after; aligned = a.0.aligned; inside = omega arith }, ascends_raised (r.start + r.size) top high rs h a.1)
 
+pub ascends_lowered : (low mid high : ℕ) (rs : List Region) → low ≤ mid → Ascends mid high rs → Ascends low high rs
+unfolding Ascends
+ascends_lowered low mid high [] h a = tt
+ascends_lowered low mid high (r ∷ rs) h a = let after = a.0.after in (record { after = omega arith; aligned = a.0.aligned; inside = a.0.inside }, a.1)
+
 -- ---- what an answer says
 
 module _ (names : Names) (bytes : List ℕ) where

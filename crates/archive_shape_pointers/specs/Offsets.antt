@@ -1,10 +1,18 @@
 -- Offsets between positions, and what stored offsets are read as.
-use Rattle.std.specs.Prelude.{◌≡◌, ℕ, ℤ, pos, ◌+ℤ◌, ◌-ℤ◌, List}
-use Rattle.std.specs.Int.{Width, from_le_bytes, cast_signed}
+use Rattle.std.specs.Prelude.{◌≡◌, ℕ, ℤ, pos, ◌+ℤ◌, ◌-ℤ◌, List, FitsSigned}
+use Rattle.std.specs.Int.{Width, w32, from_le_bytes, to_le_bytes, cast_signed, cast_unsigned}
 
 -- how far `to` is above `from`
 abbrev pub difference : ℕ → ℕ → ℤ
 difference from to = pos to -ℤ pos from
+
+-- an offset of 32 bits leads from a position to another
+abbrev pub FitsOffset : ℕ → ℕ → Type 0
+FitsOffset pos to = FitsSigned w32 (difference pos to)
+
+-- the bytes of that offset
+abbrev pub offset_bytes : ℕ → ℕ → List ℕ
+offset_bytes pos to = to_le_bytes w32 (cast_unsigned w32 (difference pos to))
 
 -- the number that a signed field's bytes are read as
 abbrev pub signed_number : Width → List ℕ → ℤ

@@ -3,7 +3,7 @@ use Rattle.std.proofs.Common.{ℕ, [], ◌^◌, ◌<◌, pos, refl, lit<, lit≤
 use Rattle.std.proofs.lemmas.Int.{ints}
 use Rattle.archive_shape_layout.specs.Bytes.{align_up}
 use Rattle.archive_shape_layout.specs.Content.{shape_content, choose, number_value}
-use Rattle.archive_forms_spelling.specs.Pointers.{FitsOffset}
+use Rattle.archive_shape_pointers.specs.Offsets.{FitsOffset}
 use Rattle.archive_forms_spelling.proofs.Gaps.{bytes_none, bytes_more, bytes_number}
 use Rattle.cabinet_text_grammar.proofs.Utf8.{IsUtf8-word}
 use Rattle.cabinet_spelling.proofs.Imaged.{written_is_image_law}

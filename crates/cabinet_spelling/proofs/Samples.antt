@@ -4,7 +4,7 @@ use Rattle.std.specs.Int.{w64}
 use Rattle.std.proofs.lemmas.Int.{ints}
 use Rattle.archive_shape_layout.specs.Bytes.{align_up}
 use Rattle.archive_shape_layout.specs.Content.{shape_content, number_value}
-use Rattle.archive_forms_spelling.specs.Pointers.{FitsOffset}
+use Rattle.archive_shape_pointers.specs.Offsets.{FitsOffset}
 use Rattle.archive_forms_spelling.proofs.Gaps.{bytes_number}
 use Rattle.cabinet_text_grammar.specs.Tree.{Tree, IsDocument, list, no_trees, more_trees}
 use Rattle.cabinet_documents.specs.Laws.{bytes_five}

@@ -12,7 +12,8 @@ use Rattle.archive_shape_writing.specs.declared.error.Error.TheVariants.{IsizeOv
 use Rattle.archive_forms_spelling.specs.State.{State}
 use Rattle.archive_forms_spelling.specs.Spelling.{Spelling}
 use Rattle.archive_forms_spelling.specs.Payloads.{payload_spelling}
-use Rattle.archive_forms_spelling.specs.Pointers.{FitsOffset, offset_bytes, box_spelling}
+use Rattle.archive_forms_spelling.specs.Pointers.{box_spelling}
+use Rattle.archive_shape_pointers.specs.Offsets.{FitsOffset, offset_bytes}
 use Rattle.archive_forms_spelling.specs.Levels.{levels_spelling}
 use Rattle.archive_forms_spelling.specs.Serializing.{Resolves}
 use Rattle.archive_forms_spelling.proofs.Levels.{option_box_sized}

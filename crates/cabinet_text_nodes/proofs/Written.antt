@@ -15,7 +15,8 @@ use Rattle.archive_forms_spelling.specs.State.{State, Keys}
 use Rattle.archive_forms_spelling.specs.Spelling.{Spelling, state_after}
 use Rattle.archive_forms_spelling.specs.Forms.{seen_as, kept_as}
 use Rattle.archive_forms_spelling.specs.Regions.{state_after_all, values, plain_values, all_keyed_by, pieces, owns, pieces_fit, pieces_refused, owns_fit, owns_refused, region_at}
-use Rattle.archive_forms_spelling.specs.Pointers.{offset_bytes, FitsOffset, slice_spelling}
+use Rattle.archive_forms_spelling.specs.Pointers.{slice_spelling}
+use Rattle.archive_shape_pointers.specs.Offsets.{offset_bytes, FitsOffset}
 use Rattle.archive_forms_spelling.specs.Serializing.{Serializes}
 use Rattle.archive_forms_spelling.proofs.Agreeing.{said, serializes_alike}
 use Rattle.archive_forms_writing.specs.Owned.{vec_spelling}

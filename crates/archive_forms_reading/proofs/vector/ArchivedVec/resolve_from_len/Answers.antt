@@ -2,7 +2,7 @@ use Rattle.std.proofs.Common.{rules, arith, ◌≡◌, ◌+◌, ◌≤◌, ◌++
 use Rattle.std.specs.Int.{w32, to_le_bytes}
 use Rattle.archive_shape_layout.specs.Bytes.{align_up}
 use Rattle.archive_shape_references.specs.Bytes.{overwrite}
-use Rattle.archive_forms_spelling.specs.Pointers.{offset_bytes}
+use Rattle.archive_shape_pointers.specs.Offsets.{offset_bytes}
 use Rattle.archive_forms_reading.proofs.Joined.{overwrites_joined}
 use Rattle.archive_forms_reading.proofs.vector.ArchivedVec.resolve_from_len.Goals as goal
 
