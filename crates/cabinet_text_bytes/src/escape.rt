@@ -1,7 +1,8 @@
 //! Escaped texts: which bytes are one, and the text that they stand for.
-ghost use Rattle.std.specs.Prelude.{◌≡◌, ◌≢◌, ℕ, ◌<◌, List, ◌∷◌, ◌++◌, length, slice_index, EachIndex, string_bytes, MatchOption, IfNone, IfSome, IfOk};
+ghost use Rattle.std.specs.Prelude.{◌≡◌, ◌≢◌, ℕ, ◌<◌, List, ◌∷◌, ◌++◌, length, slice_index, EachIndex, string_bytes, IsUtf8, MatchOption, IfNone, IfSome, IfOk, IfErr};
 ghost use Rattle.std.specs.Bool.{OnTrue, OnFalse};
-ghost use Rattle.cabinet_text_bytes.specs.Words.{IsEscaped};
+ghost use Rattle.std.specs.List.{list_all};
+ghost use Rattle.cabinet_text_bytes.specs.Words.{IsEscaped, stands_for_itself};
 ghost use Rattle.cabinet_text_grammar.specs.Spelling.{escaped, escaped_byte};
 
 use std::alloc::{AllocError, Global};
@@ -19,8 +20,28 @@ pub fn first_byte(escaped_text: &[u8]) -> Option<(u8, &[u8])>
     }
 }
 
+/// Whether each byte stands for itself in an escaped text.
+fn is_plain(bytes: &[u8]) -> bool
+    ensures { result ≡ list_all stands_for_itself bytes.now }
+{
+    bytes
+        .iter()
+        .all(|byte| *byte != b'\\' && *byte != b'\n' && *byte != b' ')
+}
+
 /// The length of the text that bytes are the escaped form of, if there is one.
 pub fn unescaped_len(argument: &[u8]) -> Option<usize>
+    ensures { MatchOption result ((t : List ℕ) → argument.now ≢ escaped t) (λ n. (t : List ℕ) × (length t ≡ n) × (argument.now ≡ escaped t)) }
+{
+    if is_plain(argument) {
+        Some(argument.len())
+    } else {
+        count_bytes(argument)
+    }
+}
+
+/// The same, byte by byte.
+fn count_bytes(argument: &[u8]) -> Option<usize>
     ensures { MatchOption result ((t : List ℕ) → argument.now ≢ escaped t) (λ n. (t : List ℕ) × (length t ≡ n) × (argument.now ≡ escaped t)) }
 {
     let mut rest = argument;
@@ -91,5 +112,21 @@ pub fn unescape_text(alloc: Global, argument: &[u8]) -> Result<String, AllocErro
     ensures { IfOk result (λ text. argument.now ≡ escaped (string_bytes text)) }
 {
     let bytes = unescape(alloc, argument)?;
-    Ok(String::from_utf8(bytes).unwrap())
+    Ok(unsafe { String::from_utf8_unchecked(bytes) })
+}
+
+/// The text that bytes are the escaped form of, if there is one.
+pub fn try_unescape(alloc: Global, argument: &[u8]) -> Result<Option<String>, AllocError>
+    requires { IsUtf8 argument.now }
+    ensures text { IfOk result (λ text. MatchOption text (IsEscaped argument.now → ⊥) (λ text. argument.now ≡ escaped (string_bytes text))) }
+    ensures memory { IfErr result (λ _. IsEscaped argument.now) }
+{
+    if is_plain(argument) {
+        let bytes = Vec::from_slice(alloc, argument)?;
+        return Ok(Some(unsafe { String::from_utf8_unchecked(bytes) }));
+    }
+    match count_bytes(argument) {
+        None => Ok(None),
+        Some(_) => Ok(Some(unescape_text(alloc, argument)?)),
+    }
 }

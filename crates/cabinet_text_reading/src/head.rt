@@ -8,9 +8,7 @@ ghost use Rattle.cabinet_text_grammar.specs.Fault.{HasCount, IsFirstCause};
 ghost use Rattle.cabinet_text_nodes.specs.View.{item_of};
 ghost use Rattle.cabinet_text_reading.specs.Heads.{IsContainer, count_word, RefusesText};
 
-use cabinet_text_bytes::{
-    after_prefix, read_count, read_number, read_truth, unescape_text, unescaped_len,
-};
+use cabinet_text_bytes::{after_prefix, read_count, read_number, read_truth, try_unescape};
 use cabinet_text_grammar::Cause;
 use cabinet_text_nodes::{Head, Leaf};
 use std::alloc::Global;
@@ -34,11 +32,9 @@ fn read_escaped(alloc: Global, argument: &[u8]) -> Result<String, Cause>
     ensures text { IfOk result (λ text. argument.now ≡ escaped (string_bytes text)) }
     ensures fault { IfErr result (RefusesText argument.now) }
 {
-    if unescaped_len(argument).is_none() {
-        return Err(Cause::BadEscape);
-    }
-    match unescape_text(alloc, argument) {
-        Ok(text) => Ok(text),
+    match try_unescape(alloc, argument) {
+        Ok(Some(text)) => Ok(text),
+        Ok(None) => Err(Cause::BadEscape),
         Err(_) => Err(Cause::OutOfMemory),
     }
 }

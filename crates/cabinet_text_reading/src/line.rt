@@ -1,85 +1,86 @@
 //! Lines of a text: the first one, and what is wrong with it whatever is due.
-ghost use Rattle.std.specs.Prelude.{◌≡◌, ◌≢◌, ℕ, ◌<◌, ◌++◌, ◌∷◌, [], List, true, length, slice_get, slice_index, EachIndex, IfNone, IfSome, IfOk, IfErr, MatchOption, codes};
+ghost use Rattle.std.specs.Prelude.{◌≡◌, ◌≢◌, ℕ, ◌++◌, ◌∷◌, [], List, true, slice_get, IfOk, IfErr, IsUtf8, MatchOption, codes};
 ghost use Rattle.cabinet_text_grammar.specs.Keys.{MapKind};
 ghost use Rattle.cabinet_text_grammar.specs.Due.{Due, a_key, nothing_more};
 ghost use Rattle.cabinet_text_grammar.specs.Fault.{pieces_of, IsFirstCause};
 ghost use Rattle.cabinet_text_bytes.specs.Words.{IsEscaped};
+ghost use Rattle.cabinet_text_reading.specs.Lines.{IsLongest};
 
 use cabinet_text_bytes::{after_prefix, unescaped_len};
 use cabinet_text_grammar::Cause;
+use std::marker::Model;
 
-/// The first line of a text, whether a newline ends it, and what follows the newline.
+/// What is left of a text of which lines were taken: as far as it is UTF-8, and the bytes behind.
 #[derive(Drop)]
-struct FirstLine<'a> {
-    bytes: &'a [u8],
-    ended: bool,
-    rest: &'a [u8],
+pub(crate) struct Lines<'a> {
+    rest: &'a str,
+    more: &'a [u8],
 }
 
-/// The index of the first newline.
-fn newline_at(text: &[u8]) -> Option<usize>
-    ensures none { IfNone result (EachIndex text.now (λ k. slice_index text.now k ≢ 10)) }
-    ensures found { IfSome result (λ end. (end < length text.now) × (slice_index text.now end ≡ 10)) }
-    ensures before { IfSome result (λ end. (k : ℕ) → k < end → slice_index text.now k ≢ 10) }
-{
-    text.iter().position(|byte| *byte == b'\n')
+impl<'a> Model for Lines<'a> {
+    ghost Value = { List ℕ };
+
+    ghost view = { λ l. l.rest.now ++ l.more.now };
+
+    ghost invariant = { λ l. IsUtf8 l.rest.now × IsLongest l.rest.now l.more.now };
 }
 
-/// Cuts a text after its first newline.
-fn first_line(text: &[u8]) -> FirstLine<'_>
-    requires { 0 < length text.now }
-    ensures pieces { pieces_of text.now ≡ record { bytes = result.bytes.now; ended = result.ended } ∷ pieces_of result.rest.now }
-    ensures parts { result.ended ≡ true → text.now ≡ result.bytes.now ++ 10 ∷ result.rest.now }
-{
-    match newline_at(text) {
-        Some(end) => FirstLine {
-            bytes: &text[..end],
-            ended: true,
-            rest: &text[end + 1..],
-        },
-        None => FirstLine {
-            bytes: text,
-            ended: false,
-            rest: &[],
-        },
+impl<'a> Lines<'a> {
+    pub(crate) fn new(text: &'a [u8]) -> Self
+        ensures { result ≡ text.now }
+    {
+        match std::str::from_utf8(text) {
+            Ok(rest) => Lines { rest, more: &[] },
+            Err(error) => {
+                let (rest, more) = text.split_at(error.valid_up_to());
+                let rest = unsafe { std::str::from_utf8_unchecked(rest) };
+                Lines { rest, more }
+            }
+        }
     }
-}
 
-/// The first line of a text where something is due, and what follows it.
-pub(crate) fn next_line(text: &[u8]) -> Result<(&str, &[u8]), Cause>
-    ensures piece { IfOk result (λ next. slice_get (pieces_of text.now) 0 ≡ Some (record { bytes = next.0.now; ended = true })) }
-    ensures parts { IfOk result (λ next. text.now ≡ next.0.now ++ 10 ∷ next.1.now) }
-    ensures fault { IfErr result (λ cause. (due : Due) → due ≢ nothing_more → IsFirstCause due (slice_get (pieces_of text.now) 0) cause) }
-{
-    if text.is_empty() {
-        return Err(Cause::EndTooEarly);
+    /// The first line and what is left behind it; where no line ends, what is wrong with what stands there, if anything does.
+    fn cut_line(self) -> Result<(&'a str, Lines<'a>), Option<Cause>>
+        ensures piece { IfOk result (λ next. slice_get (pieces_of self.entry) 0 ≡ Some (record { bytes = next.0.now; ended = true })) }
+        ensures utf8 { IfOk result (λ next. IsUtf8 next.0.now) }
+        ensures parts { IfOk result (λ next. self.entry ≡ next.0.now ++ 10 ∷ next.1) }
+        ensures end { IfErr result (λ fault. MatchOption fault (self.entry ≡ []) (λ cause. (due : Due) → IsFirstCause due (slice_get (pieces_of self.entry) 0) cause)) }
+    {
+        let Lines { rest, more } = self;
+        if let Some((line, after)) = rest.split_once('\n') {
+            return Ok((line, Lines { rest: after, more }));
+        }
+        if !more.is_empty() {
+            return Err(Some(Cause::NotUtf8));
+        }
+        if !rest.is_empty() {
+            return Err(Some(Cause::NoNewline));
+        }
+        Err(None)
     }
-    let first = first_line(text);
-    let Ok(line) = std::str::from_utf8(first.bytes) else {
-        return Err(Cause::NotUtf8);
-    };
-    if !first.ended {
-        return Err(Cause::NoNewline);
-    }
-    Ok((line, first.rest))
-}
 
-/// What is wrong with what follows a document.
-pub(crate) fn fault_after(rest: &[u8]) -> Option<Cause>
-    ensures { MatchOption result (rest.now ≡ []) (IsFirstCause nothing_more (slice_get (pieces_of rest.now) 0)) }
-{
-    if rest.is_empty() {
-        return None;
+    /// The first line where something is due, and what is left behind it.
+    pub(crate) fn next_line(self) -> Result<(&'a str, Lines<'a>), Cause>
+        ensures piece { IfOk result (λ next. slice_get (pieces_of self.entry) 0 ≡ Some (record { bytes = next.0.now; ended = true })) }
+        ensures parts { IfOk result (λ next. self.entry ≡ next.0.now ++ 10 ∷ next.1) }
+        ensures fault { IfErr result (λ cause. (due : Due) → due ≢ nothing_more → IsFirstCause due (slice_get (pieces_of self.entry) 0) cause) }
+    {
+        match self.cut_line() {
+            Ok(next) => Ok(next),
+            Err(Some(cause)) => Err(cause),
+            Err(None) => Err(Cause::EndTooEarly),
+        }
     }
-    let line = first_line(rest);
-    if std::str::from_utf8(line.bytes).is_err() {
-        return Some(Cause::NotUtf8);
+
+    /// What is wrong with what is left behind a document.
+    pub(crate) fn fault_after(self) -> Option<Cause>
+        ensures { MatchOption result (self.entry ≡ []) (IsFirstCause nothing_more (slice_get (pieces_of self.entry) 0)) }
+    {
+        match self.cut_line() {
+            Ok(_) => Some(Cause::LineAfterEnd),
+            Err(fault) => fault,
+        }
     }
-    Some(if line.ended {
-        Cause::LineAfterEnd
-    } else {
-        Cause::NoNewline
-    })
 }
 
 /// The escaped form of the key that a line is.

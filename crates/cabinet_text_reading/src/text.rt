@@ -12,7 +12,7 @@ ghost use Rattle.cabinet_text_stack.specs.View.{key_due, stack_of, inside_map, o
 ghost use Rattle.cabinet_text_laws.specs.Steps.{TakesLine};
 
 use crate::head::read_head;
-use crate::line::{fault_after, next_line, read_key_argument};
+use crate::line::{Lines, read_key_argument};
 use cabinet_text_grammar::Cause;
 use cabinet_text_nodes::{Document, Node};
 use cabinet_text_stack::{Due, Frame, Next, OpenMap, take_head, take_key};
@@ -79,13 +79,13 @@ fn take_line<'a>(
 }
 
 /// The document with this root, if nothing follows its text. `line` is that of what would follow.
-fn end_document(root: Node, rest: &[u8], line: u64) -> Result<Document, TextRefusal>
+fn end_document(root: Node, rest: Lines<'_>, line: u64) -> Result<Document, TextRefusal>
     requires document { IsDocument (node_tree root) }
     requires line { line ≡ length (items (node_tree root)) + 1 }
-    ensures document { IfOk result (λ document. text_of (node_tree root) ++ rest.now ≡ text_of document) }
-    ensures fault { IfErr result (λ refusal. FirstFault (text_of (node_tree root) ++ rest.now) refusal.line refusal.cause) }
+    ensures document { IfOk result (λ document. text_of (node_tree root) ++ rest.entry ≡ text_of document) }
+    ensures fault { IfErr result (λ refusal. FirstFault (text_of (node_tree root) ++ rest.entry) refusal.line refusal.cause) }
 {
-    match fault_after(rest) {
+    match rest.fault_after() {
         None => Ok(Document::of_root(root)),
         Some(cause) => Err(TextRefusal { line, cause }),
     }
@@ -99,14 +99,14 @@ pub fn read_text(alloc: Global, text: &[u8]) -> Result<Document, TextRefusal>
 {
     let mut stack = Vec::new(alloc);
     let mut next = Next::Due(Due::Head);
-    let mut rest = text;
+    let mut rest = Lines::new(text);
     let mut line: u64 = 1;
     loop {
         let due = match next {
             Next::Due(due) => due,
             Next::Done(root) => return end_document(root, rest, line),
         };
-        let (bytes, after) = match next_line(rest) {
+        let (bytes, after) = match rest.next_line() {
             Ok(parts) => parts,
             Err(cause) => return Err(TextRefusal { line, cause }),
         };

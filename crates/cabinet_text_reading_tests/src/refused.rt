@@ -27,6 +27,9 @@ fn heads(rt: HostRuntime) -> Result<(), Fail> {
         (b"kept 01\n".as_slice(), 1, Cause::BadNumber),
         (b"\xff\n".as_slice(), 1, Cause::NotUtf8),
         (b"\xff".as_slice(), 1, Cause::NotUtf8),
+        (b"int 5\n\xe2\x82\n".as_slice(), 2, Cause::NotUtf8),
+        (b"list 2\nint x\n\xff\n".as_slice(), 2, Cause::BadNumber),
+        (b"list 2\nint 5\nint \xff".as_slice(), 3, Cause::NotUtf8),
     ];
     for (text, line, cause) in faults {
         let refusal = read_text(rt.alloc(), text).err();

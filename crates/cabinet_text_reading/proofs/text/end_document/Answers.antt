@@ -4,7 +4,7 @@ use Rattle.cabinet_text_laws.proofs.Steps.{fault_after}
 use Rattle.cabinet_text_reading.proofs.text.end_document.Goals as goal
 
 pub returns-in-Some-clause-fault : goal.returns-in-Some-clause-fault
-returns-in-Some-clause-fault c = fault_after (node_tree c.args.root) c.args.rest.now c.args.line _ c.requires.document c.requires.line c.in-Some.ensures
+returns-in-Some-clause-fault c = fault_after (node_tree c.args.root) c.args.rest c.args.line _ c.requires.document c.requires.line c.in-Some.ensures
 
 pub returns-in-Some-clause-document : goal.returns-in-Some-clause-document
 returns-in-Some-clause-document c = search rules
