@@ -8,11 +8,11 @@ difference from to = pos to -ℤ pos from
 
 -- an offset of 32 bits leads from a position to another
 abbrev pub FitsOffset : ℕ → ℕ → Type 0
-FitsOffset pos to = FitsSigned w32 (difference pos to)
+FitsOffset from to = FitsSigned w32 (difference from to)
 
 -- the bytes of that offset
 abbrev pub offset_bytes : ℕ → ℕ → List ℕ
-offset_bytes pos to = to_le_bytes w32 (cast_unsigned w32 (difference pos to))
+offset_bytes from to = to_le_bytes w32 (cast_unsigned w32 (difference from to))
 
 -- the number that a signed field's bytes are read as
 abbrev pub signed_number : Width → List ℕ → ℤ

@@ -1,12 +1,8 @@
 //! What a plain document answers to lines.
 use crate::sections::{Section, first_line};
 use archive_shape_writing::{Error, Writer, write_three_pieces};
-use cabinet_text_answering::answer;
+use cabinet_text::{Cause, Document, Line, LineRefusal, TextRefusal, answer, read_line, read_text};
 use cabinet_text_bytes::Decimal;
-use cabinet_text_grammar::Cause;
-use cabinet_text_lines::read_line;
-use cabinet_text_nodes::{Document, Line, LineRefusal};
-use cabinet_text_reading::{TextRefusal, read_text};
 use cabinet_text_writing::{write_bad, write_outcome};
 use std::alloc::Global;
 
