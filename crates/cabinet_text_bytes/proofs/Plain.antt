@@ -1,10 +1,10 @@
 -- Runs of bytes that stand for themselves, in escaped texts.
 use Rattle.std.proofs.Common.{◌≡◌, ◌≢◌, ℕ, ◌-◌, ◌<◌, List, [], ◌∷◌, ◌++◌, length, get_or, take, drop, sym, ap, ◌∙◌, refl, inl, inr, subst, arith, append_assoc, length-drop, true, not, ◌&&◌}
-use Rattle.std.specs.Prelude.{◌==◌}
+use Rattle.std.specs.Prelude.{◌==◌, nat_lt}
 use Rattle.std.specs.List.{list_all}
-use Rattle.std.proofs.lemmas.Bool.{false≢true, and_parts}
+use Rattle.std.proofs.lemmas.Bool.{false≢true, and_parts, ltb-true}
 use Rattle.std.proofs.lemmas.Bool.Decides.{eqb_tells}
-use Rattle.cabinet_text_bytes.specs.Words.{stands_for_itself}
+use Rattle.cabinet_text_bytes.specs.Words.{is_plain_byte}
 use Rattle.std.proofs.lemmas.List.{take-append-drop, take_all}
 use Rattle.cabinet_text_grammar.specs.Spelling.{escaped, escaped_byte}
 use Rattle.cabinet_text_grammar.proofs.Escapes.{Form, backslash, newline, space, plain, form_of, escaped-append, After, after_front}
@@ -32,14 +32,14 @@ differs b c h =
       | inr other ↦ other.1
     ]
 
--- bytes that each stand for themselves
-pub own_form : (bytes : List ℕ) → list_all stands_for_itself bytes ≡ true → bytes ≡ escaped bytes
+-- plain bytes stand for themselves
+pub own_form : (bytes : List ℕ) → list_all is_plain_byte bytes ≡ true → bytes ≡ escaped bytes
 own_form [] h = refl
 own_form (b ∷ bs) h =
-    let p = and_parts (stands_for_itself b) (list_all stands_for_itself bs) h in
-    let first = and_parts (not (b == 92)) (not (b == 10) && not (b == 32)) p.0 in
-    let others = and_parts (not (b == 10)) (not (b == 32)) first.1 in
-    let own = stands b (escaped_byte b) (differs b 92 first.0) (differs b 10 others.0) (differs b 32 others.1) (form_of b) in
+    let p = and_parts (is_plain_byte b) (list_all is_plain_byte bs) h in
+    let first = and_parts (nat_lt 32 b) (not (b == 92)) p.0 in
+    let above : 32 < b = ltb-true 32 b first.0 in
+    let own = stands b (escaped_byte b) (differs b 92 first.1) (λ e. omega (arith, above, e)) (λ e. omega (arith, above, e)) (form_of b) in
     ap (λ w. b ∷ w) (own_form bs p.1) ∙ ap (λ v. v ++ escaped bs) (sym own)
 
 Lacks-front : (c : ℕ) (xs ys : List ℕ) → Lacks c (xs ++ ys) → Lacks c xs

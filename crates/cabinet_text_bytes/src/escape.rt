@@ -2,7 +2,7 @@
 ghost use Rattle.std.specs.Prelude.{◌≡◌, ◌≢◌, ℕ, ◌<◌, List, ◌∷◌, ◌++◌, length, slice_index, EachIndex, string_bytes, IsUtf8, MatchOption, IfNone, IfSome, IfOk, IfErr};
 ghost use Rattle.std.specs.Bool.{OnTrue, OnFalse};
 ghost use Rattle.std.specs.List.{list_all};
-ghost use Rattle.cabinet_text_bytes.specs.Words.{IsEscaped, stands_for_itself};
+ghost use Rattle.cabinet_text_bytes.specs.Words.{IsEscaped, is_plain_byte};
 ghost use Rattle.cabinet_text_grammar.specs.Spelling.{escaped, escaped_byte};
 
 use std::alloc::{AllocError, Global};
@@ -20,13 +20,11 @@ pub fn first_byte(escaped_text: &[u8]) -> Option<(u8, &[u8])>
     }
 }
 
-/// Whether each byte stands for itself in an escaped text.
+/// Whether each byte stands above a space and is no backslash. Such a text is the escaped form of itself.
 fn is_plain(bytes: &[u8]) -> bool
-    ensures { result ≡ list_all stands_for_itself bytes.now }
+    ensures { result ≡ list_all is_plain_byte bytes.now }
 {
-    bytes
-        .iter()
-        .all(|byte| *byte != b'\\' && *byte != b'\n' && *byte != b' ')
+    bytes.iter().all(|byte| *byte > b' ' && *byte != b'\\')
 }
 
 /// The length of the text that bytes are the escaped form of, if there is one.

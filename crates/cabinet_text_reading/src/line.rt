@@ -40,6 +40,7 @@ impl<'a> Lines<'a> {
     }
 
     /// The first line and what is left behind it; where no line ends, what is wrong with what stands there, if anything does.
+    #[inline(always)]
     fn cut_line(self) -> Result<(&'a str, Lines<'a>), Option<Cause>>
         ensures piece { IfOk result (λ next. slice_get (pieces_of self.entry) 0 ≡ Some (record { bytes = next.0.now; ended = true })) }
         ensures utf8 { IfOk result (λ next. IsUtf8 next.0.now) }
