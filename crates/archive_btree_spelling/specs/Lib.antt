@@ -1,0 +1,5 @@
+pub mod Parted
+pub mod Written
+pub mod Maps
+pub mod Sample
+pub mod Laws
