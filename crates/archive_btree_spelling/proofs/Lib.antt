@@ -1,2 +1,4 @@
 pub mod Samples
 pub mod Slots
+pub mod Levels
+pub mod Shares
