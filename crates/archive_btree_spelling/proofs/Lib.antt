@@ -2,3 +2,4 @@ pub mod Samples
 pub mod Slots
 pub mod Levels
 pub mod Shares
+pub mod Trees
