@@ -5,14 +5,14 @@ use Rattle.std.proofs.lemmas.Bool.Decides.{nat_tests}
 use Rattle.std.specs.Int.{w32, to_le_bytes}
 use Rattle.archive_shape_layout.specs.Bytes.{window, word_at, target_from}
 use Rattle.archive_shape_layout.specs.Shape.{Shape}
-use Rattle.archive_shape_layout.specs.Value.{Value, Values, count_values}
+use Rattle.archive_shape_layout.specs.Value.{Value, Values, append_values, count_values}
 use Rattle.archive_shape_layout.specs.Value.Value.{group}
 use Rattle.archive_shape_layout.specs.Value.Values.{no_values, more_values}
 use Rattle.archive_shape_layout.specs.Content.{Names, Content, Part, children, made, members, content_of, child_content, choose, following}
 use Rattle.archive_shape_layout.specs.Content.Part.{node, child}
 use Rattle.archive_shape_layout.specs.Content.Label.{whole, same}
 use Rattle.archive_shape_layout.specs.Content.Content.{plain, illegal}
-use Rattle.archive_shape_layout.specs.Holds.{OpenShared, Ascends}
+use Rattle.archive_shape_layout.specs.Holds.{OpenShared, Visit, Ascends}
 use Rattle.archive_shape_layout.specs.Holds.Holds.{holds_plain}
 use Rattle.archive_shape_layout.specs.Holds.HoldAll.{holds_none}
 use Rattle.archive_shape_canonical.specs.Settled.{Fit, HasItems}
@@ -63,6 +63,12 @@ child_leads t most k v pos own root away room target =
     ∙ ap (λ z. choose z (following (target_from pos (word_at own 0)) (λ a. plain same (node t most k v a ∷ []))) illegal) room
     ∙ ap (λ z. following z (λ a. plain same (node t most k v a ∷ []))) target
 
+-- a value is a group of so many items
+pub record Counted (n : ℕ) (value : Value) : Type 0 where
+  pub items : Values
+  pub is : value ≡ group items
+  pub count : count_values items ≡ n
+
 module _ {A B R Q : Type 0} (fit : Fit) (most : ℕ) (k v : Shape) (knows : Names → Type 0) (keys : Spelling A R) (vals : Spelling B Q) where
   -- the node at the root of what is below a pointer, where there is one
   pub record Rooted (l : ℕ) (w : Spelling (List (A × B)) (Option ℕ)) (xs : List (A × B)) (st : State) (root : ℕ) : Type 0 where
@@ -72,6 +78,7 @@ module _ {A B R Q : Type 0} (fit : Fit) (most : ℕ) (k v : Shape) (knows : Name
     pub canonical :
         (names : Names) (given : Keys) (bytes : List ℕ) (level : ℕ) (inside : List OpenShared) (t : ℕ)
         → t + l ≤ 33
+        → length xs < 2 ^ 32
         → knows names
         → all_keyed_by (entry_spelling most k v keys vals) given xs
         → AreKeyedBy given st.met
@@ -87,11 +94,6 @@ module _ {A B R Q : Type 0} (fit : Fit) (most : ℕ) (k v : Shape) (knows : Name
     pub piece : w.piece xs st ≡ []
     pub value : w.value xs st ≡ group no_values
     pub met : w.met xs st ≡ st.met
-
-  pub record Counted (n : ℕ) (value : Value) : Type 0 where
-    pub items : Values
-    pub is : value ≡ group items
-    pub count : count_values items ≡ n
 
   -- what holds of items that are written below a pointer on at most so many levels
   pub record TreeSpells (l : ℕ) (w : Spelling (List (A × B)) (Option ℕ)) (xs : List (A × B)) : Type 0 where
@@ -113,6 +115,10 @@ module _ {A B R Q : Type 0} (fit : Fit) (most : ℕ) (k v : Shape) (knows : Name
     abbrev pub AllKeyed : Keys → List (List (A × B)) → Type 0
     AllKeyed given [] = ⊤
     AllKeyed given (xs ∷ xss) = all_keyed_by (entry_spelling most k v keys vals) given xs × AllKeyed given xss
+
+    abbrev pub AllSmall : List (List (A × B)) → Type 0
+    AllSmall [] = ⊤
+    AllSmall (xs ∷ xss) = (length xs < 2 ^ 32) × AllSmall xss
 
     abbrev pub LinksFit : List (List (A × B)) → State → ℕ → Type 0
     LinksFit xss st pos = AllSlots (state_after w) 4 (λ xs then here. LinkFits (w.resolver xs then) here) xss st pos
@@ -170,6 +176,7 @@ module _ {A B R Q : Type 0} (fit : Fit) (most : ℕ) (k v : Shape) (knows : Name
     pub child_canonical :
         (xs : List (A × B)) (one : TreeSpells l w xs) (st : State) (pos : ℕ) (names : Names) (given : Keys) (bytes : List ℕ) (level : ℕ) (inside : List OpenShared) (t : ℕ)
         → t + l ≤ 33
+        → length xs < 2 ^ 32
         → knows names
         → all_keyed_by (entry_spelling most k v keys vals) given xs
         → AreKeyedBy given st.met
@@ -182,7 +189,7 @@ module _ {A B R Q : Type 0} (fit : Fit) (most : ℕ) (k v : Shape) (knows : Name
         → HasBytes bytes pos (link_bytes (w.resolver xs st) pos)
         → CanonicalPart fit names bytes level inside (visits_of st.met) (visits_of (w.met xs st)) (child t most k v pos) (w.value xs st) st.pos (state_after w xs st).pos
     unfolding child_content choose made Ascends
-    child_canonical xs one st pos names given bytes level inside t low kn n known state over f o behind p q = by_root (w.resolver xs st) refl o q
+    child_canonical xs one st pos names given bytes level inside t low small kn n known state over f o behind p q = by_root (w.resolver xs st) refl o q
       where
         by_root : (root : Option ℕ) → w.resolver xs st ≡ root → LinkFits root pos → HasBytes bytes pos (link_bytes root pos)
             → CanonicalPart fit names bytes level inside (visits_of st.met) (visits_of (w.met xs st)) (child t most k v pos) (w.value xs st) st.pos (state_after w xs st).pos
@@ -220,12 +227,14 @@ module _ {A B R Q : Type 0} (fit : Fit) (most : ℕ) (k v : Shape) (knows : Name
             one_part (child t most k v pos) (node t most k v root) same (w.value xs st) (w.value xs st) st.pos (state_after w xs st).pos c tt refl
             (clean_by names bytes (child t most k v pos) (plain same (node t most k v root ∷ [])) c (λ i h. inl h) tt)
             has
-            (r.canonical names given bytes level inside t low kn n known state over f p)
+            (r.canonical names given bytes level inside t low small kn n known state over f p)
 
-    -- so are pointers side by side
+    -- so are pointers side by side, before other parts
     pub children_canonical :
         (xss : List (List (A × B))) (each : EachTreeSpells xss) (st : State) (pos : ℕ) (names : Names) (given : Keys) (bytes : List ℕ) (level : ℕ) (inside : List OpenShared) (t : ℕ)
+        (others : List Part) (vs : Values) (after : List Visit) (high : ℕ)
         → t + l ≤ 33
+        → AllSmall xss
         → knows names
         → AllKeyed given xss
         → AreKeyedBy given st.met
@@ -236,18 +245,20 @@ module _ {A B R Q : Type 0} (fit : Fit) (most : ℕ) (k v : Shape) (knows : Name
         → (state_after_all w xss st).pos ≤ pos
         → HasBytes bytes st.pos (pieces w xss st)
         → HasBytes bytes pos (link_slots xss st pos)
-        → CanonicalParts fit names bytes level inside (visits_of st.met) (visits_of (state_after_all w xss st).met) (children (length xss) t most k v pos) (values w xss st) st.pos (state_after_all w xss st).pos
+        → (state_after_all w xss st).pos ≤ high
+        → CanonicalParts fit names bytes level inside (visits_of (state_after_all w xss st).met) after others vs (state_after_all w xss st).pos high
+        → CanonicalParts fit names bytes level inside (visits_of st.met) after (children (length xss) t most k v pos ++ others) (append_values (values w xss st) vs) st.pos high
     unfolding children
-    children_canonical [] each st pos names given bytes level inside t low kn n known state over f o behind p q = no_parts (visits_of st.met) st.pos
-    children_canonical (xs ∷ xss) each st pos names given bytes level inside t low kn n known state over f o behind p q =
+    children_canonical [] each st pos names given bytes level inside t others vs after high low small kn n known state over f o behind p q up tail = tail
+    children_canonical (xs ∷ xss) each st pos names given bytes level inside t others vs after high low small kn n known state over f o behind p q up tail =
         let piece = w.piece xs st in
         let link = link_bytes (w.resolver xs st) pos in
         let then = state_after w xs st in
         let end = (state_after_all w xss then).pos in
         let more : then.pos ≤ end = let e = children_after_pos xss then in omega arith in
         let size : pos + length link ≡ pos + 4 = ap (λ z. pos + z) (length-link (w.resolver xs st) pos) in
-        let first = child_canonical xs each.0 st pos names given bytes level inside t low kn n.0 known state (from_earlier inside then.pos end more over) f.0 o.0 (omega (arith, more, behind))
+        let first = child_canonical xs each.0 st pos names given bytes level inside t low small.0 kn n.0 known state (from_earlier inside then.pos end more over) f.0 o.0 (omega (arith, more, behind))
         (stands_left bytes st.pos piece (pieces w xss then) p) (stands_left bytes pos link (link_slots xss then (pos + 4)) q) in
-        let rest = children_canonical xss each.1 then (pos + 4) names given bytes level inside t low kn n.1 (each.0.keyed given st n.0 known f.0).1 (each.0.consistent st state f.0) over f.1 o.1 (omega (arith, behind))
-        (stands_right bytes st.pos piece (pieces w xss then) then.pos refl p) (stands_right bytes pos link (link_slots xss then (pos + 4)) (pos + 4) size q) in
-        more_parts (visits_of st.met) (visits_of then.met) (visits_of (state_after_all w xss then).met) (child t most k v pos) (children (length xss) t most k v (pos + 4)) (w.value xs st) (values w xss then) st.pos then.pos end (omega arith) more first rest
+        let rest = children_canonical xss each.1 then (pos + 4) names given bytes level inside t others vs after high low small.1 kn n.1 (each.0.keyed given st n.0 known f.0).1 (each.0.consistent st state f.0) over f.1 o.1 (omega (arith, behind))
+        (stands_right bytes st.pos piece (pieces w xss then) then.pos refl p) (stands_right bytes pos link (link_slots xss then (pos + 4)) (pos + 4) size q) up tail in
+        more_parts (visits_of st.met) (visits_of then.met) after (child t most k v pos) (children (length xss) t most k v (pos + 4) ++ others) (w.value xs st) (append_values (values w xss then) vs) st.pos then.pos high (omega arith) (omega (arith, more, up)) first rest
