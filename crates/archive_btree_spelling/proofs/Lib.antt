@@ -6,3 +6,4 @@ pub mod Trees
 pub mod Weaving
 pub mod Standing
 pub mod Nodes
+pub mod Whole

@@ -19,10 +19,13 @@ use Rattle.archive_forms_spelling.specs.State.{State, Keys, visits_of, IsConsist
 use Rattle.archive_forms_spelling.specs.Spelling.{Spelling, state_after}
 use Rattle.archive_forms_spelling.specs.Spells.{CanonicalPart, SpellsAt, EachSpells}
 use Rattle.archive_forms_spelling.specs.Regions.{state_after_all, values, all_keyed_by, pieces, pieces_fit}
+use Rattle.archive_shape_canonical.specs.Canonical.{AreBytes}
+use Rattle.archive_shape_writing.specs.declared.error.Error.{Error}
 use Rattle.archive_forms_spelling.proofs.States.{from_earlier}
+use Rattle.archive_forms_spelling.proofs.Gaps.{bytes_none, bytes_append}
 use Rattle.archive_forms_spelling.proofs.Regions.{CanonicalParts, no_parts, more_parts, state_after_all_pos}
 use Rattle.archive_forms_spelling.proofs.Fields.{tuple2_spells_at}
-use Rattle.archive_btree_spelling.specs.Written.{slots, AllSlots, entry_spelling, key_own, value_own}
+use Rattle.archive_btree_spelling.specs.Written.{slots, AllSlots, AnySlot, entry_spelling, key_own, value_own}
 
 module _ {A B R Q : Type 0} (fit : Fit) (most : ℕ) (k v : Shape) (knows : Names → Type 0) (keys : Spelling A R) (vals : Spelling B Q) where
   -- the law of each key and of each value
@@ -66,6 +69,29 @@ module _ {A B R Q : Type 0} (fit : Fit) (most : ℕ) (k v : Shape) (knows : Name
       let first = each.0.1.sized (vals.resolver x.1 (state_after keys x.0 st)) pos f.0 in
       let rest = length-value-slots xs each.1 then (pos + size_of v) f.1 in
       length-append own (value_slots xs then (pos + size_of v)) ∙ omega (arith, first, rest)
+
+  pub key-slots-bytes : (es : List (A × B)) (each : EachEntrySpells es) (st : State) (pos : ℕ) → KeysFit es st pos → AreBytes (key_slots es st pos)
+  key-slots-bytes [] each st pos f = bytes_none
+  key-slots-bytes (x ∷ xs) each st pos f =
+      bytes_append (key_own most k v keys vals x st pos) _ (each.0.0.own_bytes (keys.resolver x.0 st) pos f.0) (key-slots-bytes xs each.1 (state_after (entry_spelling most k v keys vals) x st) (pos + size_of k) f.1)
+
+  pub value-slots-bytes : (es : List (A × B)) (each : EachEntrySpells es) (st : State) (pos : ℕ) → ValuesFit es st pos → AreBytes (value_slots es st pos)
+  value-slots-bytes [] each st pos f = bytes_none
+  value-slots-bytes (x ∷ xs) each st pos f =
+      bytes_append (value_own most k v keys vals x st pos) _ (each.0.1.own_bytes (vals.resolver x.1 (state_after keys x.0 st)) pos f.0) (value-slots-bytes xs each.1 (state_after (entry_spelling most k v keys vals) x st) (pos + size_of v) f.1)
+
+  -- what passes no limit is not refused
+  pub keys_exact : (es : List (A × B)) (each : EachEntrySpells es) (st : State) (pos : ℕ) (e : Error) → KeysFit es st pos
+      → AnySlot (state_after (entry_spelling most k v keys vals)) (size_of k) (λ x then here. keys.own_refused x.0 (keys.resolver x.0 then) here e) es st pos → ⊥
+  keys_exact [] each st pos e f r = r
+  keys_exact (x ∷ xs) each st pos e f (inl r) = each.0.0.own_exact (keys.resolver x.0 st) pos e f.0 r
+  keys_exact (x ∷ xs) each st pos e f (inr r) = keys_exact xs each.1 (state_after (entry_spelling most k v keys vals) x st) (pos + size_of k) e f.1 r
+
+  pub values_exact : (es : List (A × B)) (each : EachEntrySpells es) (st : State) (pos : ℕ) (e : Error) → ValuesFit es st pos
+      → AnySlot (state_after (entry_spelling most k v keys vals)) (size_of v) (λ x then here. vals.own_refused x.1 (vals.resolver x.1 (state_after keys x.0 then)) here e) es st pos → ⊥
+  values_exact [] each st pos e f r = r
+  values_exact (x ∷ xs) each st pos e f (inl r) = each.0.1.own_exact (vals.resolver x.1 (state_after keys x.0 st)) pos e f.0 r
+  values_exact (x ∷ xs) each st pos e f (inr r) = values_exact xs each.1 (state_after (entry_spelling most k v keys vals) x st) (pos + size_of v) e f.1 r
 
   -- one entry is read as it is written
   pub entry_canonical :

@@ -2,7 +2,7 @@
 use Rattle.std.proofs.Common.{◌≡◌, ℕ, zero, suc, ◌+◌, ◌*◌, ◌^◌, ◌≤◌, ◌<◌, nat_le, nat_lt, ◌==◌, Bool, true, false, List, [], ◌∷◌, ◌++◌, refl, length, sym, ap, ap₂, subst, ◌∙◌, arith, Option, Some, None, inl, inr, length-append, add-zero, eqb-true, eq-eqb}
 use Rattle.std.specs.Prelude.{⊤}
 use Rattle.std.proofs.lemmas.Bool.Decides.{nat_tests}
-use Rattle.std.specs.Int.{w32, to_le_bytes}
+use Rattle.std.specs.Int.{w32, to_le_bytes, cast_unsigned}
 use Rattle.archive_shape_layout.specs.Bytes.{window, word_at, target_from}
 use Rattle.archive_shape_layout.specs.Shape.{Shape}
 use Rattle.archive_shape_layout.specs.Value.{Value, Values, append_values, count_values}
@@ -29,10 +29,11 @@ use Rattle.archive_forms_spelling.specs.Spells.{CanonicalPart}
 use Rattle.archive_forms_spelling.specs.Regions.{state_after_all, values, plain_values, all_keyed_by, pieces, pieces_fit, pieces_refused}
 use Rattle.archive_forms_spelling.specs.Pointers.{FitsOffset, offset_bytes}
 use Rattle.archive_forms_spelling.proofs.States.{from_earlier}
-use Rattle.archive_forms_spelling.proofs.Gaps.{bytes_none, bytes_append}
+use Rattle.archive_forms_spelling.proofs.Gaps.{bytes_none, bytes_append, bytes_word}
+use Rattle.archive_shape_pointers.specs.Offsets.{difference}
 use Rattle.archive_forms_spelling.proofs.Regions.{CanonicalParts, no_parts, more_parts}
 use Rattle.archive_forms_spelling.proofs.Pointers.{offset_stands, one_part}
-use Rattle.archive_btree_spelling.specs.Written.{slots, AllSlots, AnySlot, entry_spelling, link_bytes, LinkFits}
+use Rattle.archive_btree_spelling.specs.Written.{slots, AllSlots, AnySlot, entry_spelling, link_bytes, LinkFits, LinkRefused}
 
 -- the offset 1 leads one further
 target_of_one : (pos : ℕ) → target_from pos 1 ≡ Some (pos + 1)
@@ -63,6 +64,14 @@ child_leads t most k v pos own root away room target =
     ∙ ap (λ z. choose z (following (target_from pos (word_at own 0)) (λ a. plain same (node t most k v a ∷ []))) illegal) room
     ∙ ap (λ z. following z (λ a. plain same (node t most k v a ∷ []))) target
 
+pub link_small : (o : Option ℕ) (pos : ℕ) → AreBytes (link_bytes o pos)
+link_small None pos = bytes_word 1
+link_small (Some to) pos = bytes_word (cast_unsigned w32 (difference pos to))
+
+pub link_exact : (o : Option ℕ) (pos : ℕ) (e : Error) → LinkFits o pos → LinkRefused o pos e → ⊥
+link_exact None pos e f r = r
+link_exact (Some to) pos e f r = r.0 f
+
 -- a value is a group of so many items
 pub record Counted (n : ℕ) (value : Value) : Type 0 where
   pub items : Values
@@ -74,7 +83,7 @@ module _ {A B R Q : Type 0} (fit : Fit) (most : ℕ) (k v : Shape) (knows : Name
   pub record Rooted (l : ℕ) (w : Spelling (List (A × B)) (Option ℕ)) (xs : List (A × B)) (st : State) (root : ℕ) : Type 0 where
     pub some : 0 < length xs
     pub levels : 0 < l
-    pub before : root < (state_after w xs st).pos
+    pub before : w.piece_fits xs st → root < (state_after w xs st).pos
     pub canonical :
         (names : Names) (given : Keys) (bytes : List ℕ) (level : ℕ) (inside : List OpenShared) (t : ℕ)
         → t + l ≤ 33
@@ -159,6 +168,16 @@ module _ {A B R Q : Type 0} (fit : Fit) (most : ℕ) (k v : Shape) (knows : Name
     children_exact (xs ∷ xss) each st e f (inl r) = each.0.piece_exact st e f.0 r
     children_exact (xs ∷ xss) each st e f (inr r) = children_exact xss each.1 (state_after w xs st) e f.1 r
 
+    pub links_bytes : (xss : List (List (A × B))) (st : State) (pos : ℕ) → AreBytes (link_slots xss st pos)
+    links_bytes [] st pos = bytes_none
+    links_bytes (xs ∷ xss) st pos = bytes_append (link_bytes (w.resolver xs st) pos) _ (link_small (w.resolver xs st) pos) (links_bytes xss (state_after w xs st) (pos + 4))
+
+    pub links_exact : (xss : List (List (A × B))) (st : State) (pos : ℕ) (e : Error) → LinksFit xss st pos
+        → AnySlot (state_after w) 4 (λ xs then here. LinkRefused (w.resolver xs then) here e) xss st pos → ⊥
+    links_exact [] st pos e f r = r
+    links_exact (xs ∷ xss) st pos e f (inl r) = link_exact (w.resolver xs st) pos e f.0 r
+    links_exact (xs ∷ xss) st pos e f (inr r) = links_exact xss (state_after w xs st) (pos + 4) e f.1 r
+
     -- what each pointer leads to, as a value without positions
     abbrev pub plain_children : List (List (A × B)) → Values
     plain_children [] = no_values
@@ -215,7 +234,7 @@ module _ {A B R Q : Type 0} (fit : Fit) (most : ℕ) (k v : Shape) (knows : Name
         by_root (Some root) e g b =
             let r = one.present st root e in
             let some_levels = r.levels in
-            let before = r.before in
+            let before = r.before f in
             let target = offset_stands bytes pos root 4 (omega arith) g b in
             let away : (word_at (window bytes pos 4) 0 == 1) ≡ false = leads_back pos (word_at (window bytes pos 4) 0) root target (omega (arith, before, behind)) in
             let room : nat_le t 32 ≡ true = let h : t ≤ 32 = omega (arith, low, some_levels) in grind (arith, nat_tests) in
