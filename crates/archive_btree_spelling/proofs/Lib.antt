@@ -7,3 +7,4 @@ pub mod Weaving
 pub mod Standing
 pub mod Nodes
 pub mod Whole
+pub mod Forest
