@@ -1,4 +1,3 @@
-pub mod Samples
 pub mod Slots
 pub mod Levels
 pub mod Shares
@@ -8,3 +7,5 @@ pub mod Standing
 pub mod Nodes
 pub mod Whole
 pub mod Forest
+pub mod Maps
+pub mod Samples

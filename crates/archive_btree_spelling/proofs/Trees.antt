@@ -40,7 +40,7 @@ target_of_one : (pos : ℕ) → target_from pos 1 ≡ Some (pos + 1)
 unfolding target_from
 target_of_one pos = refl
 
-count_keys_alone : (vs : Values) → count_values (keys_alone vs) ≡ count_values vs
+pub count_keys_alone : (vs : Values) → count_values (keys_alone vs) ≡ count_values vs
 count_keys_alone no_values = refl
 count_keys_alone (more_values v vs) = ap (λ z. 1 + z) (count_keys_alone vs)
 

@@ -1,7 +1,10 @@
 -- The laws of how maps are archived, as statements.
 use Rattle.std.specs.Prelude.{◌≡◌, ℕ, List, [], ◌∷◌}
+use Rattle.archive_shape_layout.specs.Content.{Names}
+use Rattle.archive_shape_canonical.specs.Settled.{Fit}
 use Rattle.archive_forms_spelling.specs.State.{initial}
-use Rattle.archive_forms_spelling.specs.Regions.{region_piece}
+use Rattle.archive_forms_spelling.specs.Regions.{region_piece, region_fits}
+use Rattle.archive_forms_spelling.specs.Written.{IsWritten}
 use Rattle.archive_btree_spelling.specs.Sample.{map_shape, map_spelling, empty_bytes, one_pair, one_pair_bytes, six_pairs, six_pairs_bytes}
 
 -- these maps are spelled as these bytes
@@ -10,3 +13,15 @@ IsSpelled xs bytes = region_piece map_spelling map_shape (xs ∷ []) initial ≡
 
 abbrev pub SamplesAreSpelled : Type 0
 SamplesAreSpelled = IsSpelled [] empty_bytes × IsSpelled one_pair one_pair_bytes × IsSpelled six_pairs six_pairs_bytes
+
+-- maps of numbers are written as their one archive
+abbrev pub MapsAreWritten : Type 0
+MapsAreWritten =
+    (fit : Fit) (names : Names) (xs : List (ℕ × ℕ)) (bytes : List ℕ)
+    → region_fits map_spelling map_shape (xs ∷ []) initial
+    → bytes ≡ region_piece map_spelling map_shape (xs ∷ []) initial
+    → IsWritten map_shape map_spelling xs fit names bytes
+
+-- a map of six pairs is written as these bytes
+abbrev pub SixPairsAreWritten : Type 0
+SixPairsAreWritten = (fit : Fit) (names : Names) → IsWritten map_shape map_spelling six_pairs fit names six_pairs_bytes
