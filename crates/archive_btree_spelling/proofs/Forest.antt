@@ -1,23 +1,20 @@
 -- The packed tree of items is read as it is written, level by level.
-use Rattle.std.proofs.Common.{◌≡◌, ◌∙◌, ℕ, zero, suc, ◌+◌, ◌-◌, ◌*◌, ◌^◌, ◌<◌, ◌≤◌, nat_le, cond, Bool, true, false, Option, Some, None, List, [], ◌∷◌, ◌++◌, length, refl, ap, ap₂, sym, subst, arith, inl, inr, length-append, leb-true}
-use Rattle.std.specs.Prelude.{⊤}
+use Rattle.std.proofs.Common.{◌≡◌, ◌∙◌, ℕ, zero, suc, ◌+◌, ◌*◌, ◌^◌, ◌<◌, ◌≤◌, nat_le, cond, Bool, true, false, Option, List, [], ◌∷◌, ◌++◌, length, refl, ap, ap₂, subst, arith, length-append, leb-true}
 use Rattle.std.proofs.lemmas.Bool.Decides.{nat_tests}
 use Rattle.std.proofs.Math.Nat.{pow-zero}
-use Rattle.archive_shape_layout.specs.Bytes.{align_up}
 use Rattle.archive_shape_layout.specs.Shape.{Shape}
-use Rattle.archive_shape_layout.specs.Value.{Values}
 use Rattle.archive_shape_layout.specs.Value.Value.{group}
 use Rattle.archive_shape_layout.specs.Value.Values.{no_values, more_values}
-use Rattle.archive_shape_layout.specs.Content.{Names, weave, keys_offset, values_offset, link_node_size, words_of}
+use Rattle.archive_shape_layout.specs.Content.{Names, weave, words_of}
 use Rattle.archive_shape_layout.specs.Content.Part.{node}
 use Rattle.archive_shape_layout.specs.Holds.{OpenShared}
 use Rattle.archive_shape_layout.proofs.Framed.{links_fit}
 use Rattle.archive_shape_canonical.specs.Settled.{Fit}
-use Rattle.archive_shape_canonical.specs.Sharing.{erased, all_erased}
+use Rattle.archive_shape_canonical.specs.Sharing.{erased}
 use Rattle.archive_shape_canonical.specs.Packed.{levels_for, full}
 use Rattle.archive_shape_references.specs.Bytes.{HasBytes}
 use Rattle.archive_forms_spelling.specs.State.{State, Keys, visits_of, IsConsistent, AllFrom, AreKeyedBy}
-use Rattle.archive_forms_spelling.specs.Spelling.{Spelling, state_after}
+use Rattle.archive_forms_spelling.specs.Spelling.{Spelling}
 use Rattle.archive_forms_spelling.specs.Spells.{CanonicalPart}
 use Rattle.archive_forms_spelling.specs.Regions.{state_after_all, values, plain_values, all_keyed_by}
 use Rattle.archive_forms_spelling.proofs.States.{consistent_advanced}
@@ -157,12 +154,11 @@ module _ {A B R Q : Type 0} (fit : Fit) (most : ℕ) (k v : Shape) (knows : Name
           };
           keyed = λ given st m known f.
               let named = keyed_woven l w given xs xss es parts.woven m in
-              let both = node_keyed fit most k v knows keys vals l w p (omega arith) laws.0 laws.1 given st named.0 named.1 known f in
-              (
+              let both = node_keyed fit most k v knows keys vals l w p (omega arith) laws.0 laws.1 given st named.0 named.1 known f in (
                 ap group
-                (erased_weave xss (values w xss st) (values (entry_spelling most k v keys vals) es (state_after_all w xss st)) (values_counted fit most k v knows keys vals w l xss laws.0 st)
-                ∙ ap₂ weave both.0 both.1
-                ∙ plain_lists l w xs xss es parts.woven),
+                    (erased_weave xss (values w xss st) (values (entry_spelling most k v keys vals) es (state_after_all w xss st)) (values_counted fit most k v knows keys vals w l xss laws.0 st)
+                    ∙ ap₂ weave both.0 both.1
+                    ∙ plain_lists l w xs xss es parts.woven),
                 both.2,
               );
           below = laws.0;

@@ -134,8 +134,8 @@ measured most n some more =
           last = n - (q - 1);
           child = λ i.
               let P : ℕ → ℕ → Type 0 = λ l u.
-                  full most l + min (full most u - full most l) ((n - full most u) - i * (full most u - full most l))
-                  ≡ (p - 1) + min ((q - 1) - (p - 1)) ((n - (q - 1)) - i * ((q - 1) - (p - 1))) in
+              full most l + min (full most u - full most l) ((n - full most u) - i * (full most u - full most l))
+              ≡ (p - 1) + min ((q - 1) - (p - 1)) ((n - (q - 1)) - i * ((q - 1) - (p - 1))) in
               let low_is : g ≡ levels_for most n - 1 - 1 = omega (arith, e) in
               let up_is : suc g ≡ levels_for most n - 1 = omega (arith, e) in
               subst (λ u. P (levels_for most n - 1 - 1) u) up_is (subst (λ l. P l (suc g)) low_is refl);

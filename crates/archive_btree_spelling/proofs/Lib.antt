@@ -1,6 +1,7 @@
 pub mod Slots
 pub mod Levels
 pub mod Shares
+pub mod Counts
 pub mod Trees
 pub mod Weaving
 pub mod Standing

@@ -1,13 +1,13 @@
 -- A map is read as it is written: the law of maps is that of each key and each value.
-use Rattle.std.proofs.Common.{◌≡◌, ◌∙◌, ℕ, zero, suc, ◌+◌, ◌^◌, ◌<◌, ◌≤◌, ◌==◌, cond, Bool, true, false, Option, Some, None, List, [], ◌∷◌, ◌++◌, length, refl, ap, ap₂, sym, subst, arith, inl, inr, length-append, add-zero, eq-eqb, eqb-true}
+use Rattle.std.proofs.Common.{◌≡◌, ◌∙◌, ℕ, ◌+◌, ◌<◌, ◌≤◌, ◌==◌, cond, Bool, true, false, Option, Some, None, List, [], ◌∷◌, ◌++◌, length, refl, ap, sym, subst, arith, inl, inr, add-zero, eq-eqb, eqb-true}
 use Rattle.std.specs.Int.{w32, to_le_bytes}
 use Rattle.archive_shape_layout.specs.Bytes.{window, word_at, target_from}
-use Rattle.archive_shape_layout.specs.Shape.{Shape, size_of}
+use Rattle.archive_shape_layout.specs.Shape.{Shape}
 use Rattle.archive_shape_layout.specs.Shape.Shape.{tree}
 use Rattle.archive_shape_layout.specs.Value.{Value, Values, count_values}
 use Rattle.archive_shape_layout.specs.Value.Value.{group}
 use Rattle.archive_shape_layout.specs.Value.Values.{no_values, more_values}
-use Rattle.archive_shape_layout.specs.Content.{Names, Content, made, members, choose, following, content_of, shape_content}
+use Rattle.archive_shape_layout.specs.Content.{Names, made, members, choose, following, content_of, shape_content}
 use Rattle.archive_shape_layout.specs.Content.Part.{at, node}
 use Rattle.archive_shape_layout.specs.Content.Label.{whole, total}
 use Rattle.archive_shape_layout.specs.Content.Content.{plain}
@@ -27,7 +27,7 @@ use Rattle.archive_forms_spelling.specs.Spells.{CanonicalPart, SpellsAt, Spells}
 use Rattle.archive_forms_spelling.specs.Regions.{all_keyed_by}
 use Rattle.archive_forms_spelling.proofs.Gaps.{bytes_append, bytes_word}
 use Rattle.archive_forms_spelling.proofs.Pointers.{offset_stands, one_part}
-use Rattle.archive_btree_spelling.specs.Written.{entry_spelling, link_bytes, LinkFits, LinkRefused}
+use Rattle.archive_btree_spelling.specs.Written.{entry_spelling, link_bytes, LinkFits}
 use Rattle.archive_btree_spelling.specs.Maps.{packed_spelling, btree_spelling}
 use Rattle.archive_btree_spelling.proofs.Levels.{levels_of_words}
 use Rattle.archive_btree_spelling.proofs.Slots.{EachEntrySpells}

@@ -1,15 +1,15 @@
 -- A node is read as it is written.
-use Rattle.std.proofs.Common.{◌≡◌, ℕ, zero, suc, ◌+◌, ◌-◌, ◌*◌, ◌^◌, ◌<◌, ◌≤◌, max, nat_le, ◌&&◌, Bool, true, false, Some, Option, List, [], ◌∷◌, ◌++◌, length, drop, refl, ap, ap₂, sym, subst, arith, ◌∙◌, ◌⊎◌, inl, inr, ⊎_elim, length-append, add-zero, get_or-drop}
+use Rattle.std.proofs.Common.{◌≡◌, ℕ, zero, suc, ◌+◌, ◌-◌, ◌*◌, ◌^◌, ◌<◌, ◌≤◌, nat_le, ◌&&◌, true, Some, Option, List, [], ◌∷◌, ◌++◌, length, drop, refl, ap, sym, subst, arith, ◌∙◌, inl, inr, ⊎_elim, length-append, add-zero, get_or-drop}
 use Rattle.std.proofs.lemmas.List.{length-replicate}
 use Rattle.std.specs.Prelude.{slice_index}
 use Rattle.std.specs.Int.{w32, to_le_bytes}
 use Rattle.std.proofs.lemmas.Bool.Decides.{nat_tests}
 use Rattle.std.proofs.Math.Nat.{mul-le-mul_right}
-use Rattle.archive_shape_layout.specs.Bytes.{window, word_at, align_up}
+use Rattle.archive_shape_layout.specs.Bytes.{window, word_at}
 use Rattle.archive_shape_layout.specs.Shape.{Shape, size_of, align_of}
-use Rattle.archive_shape_layout.specs.Value.{Value, Values, append_values}
+use Rattle.archive_shape_layout.specs.Value.{append_values}
 use Rattle.archive_shape_layout.specs.Value.Value.{group}
-use Rattle.archive_shape_layout.specs.Content.{Names, Part, made, weave, choose, content_of, node_content, node_span, words_of, entries, children, keys_offset, values_offset, links_offset, link_node_align, link_node_size}
+use Rattle.archive_shape_layout.specs.Content.{Names, made, weave, choose, content_of, node_content, node_span, words_of, entries, children, keys_offset, values_offset, links_offset, link_node_align, link_node_size}
 use Rattle.archive_shape_layout.specs.Content.Part.{node}
 use Rattle.archive_shape_layout.specs.Content.Label.{whole, woven}
 use Rattle.archive_shape_layout.specs.Content.Content.{claimed, illegal}
@@ -18,7 +18,7 @@ use Rattle.archive_shape_layout.proofs.Framed.{le_align_up, keys_fit, values_fit
 use Rattle.archive_shape_canonical.specs.Settled.{Fit, IsSettled}
 use Rattle.archive_shape_canonical.specs.Packed.{IsPacked}
 use Rattle.archive_shape_canonical.specs.Seen.{all_blank}
-use Rattle.archive_shape_canonical.specs.Clean.{IsClean, IsIn, InParts, InFieldOfNode, FieldPartOrZero}
+use Rattle.archive_shape_canonical.specs.Clean.{IsIn, InFieldOfNode}
 use Rattle.archive_shape_canonical.proofs.Cleanness.{clean_by}
 use Rattle.archive_shape_references.specs.Bytes.{HasBytes, zeros}
 use Rattle.archive_shape_references.proofs.Pieces.{stands_left, stands_right, stands_byte, stands_word, word_within}
@@ -27,14 +27,14 @@ use Rattle.archive_forms_spelling.specs.Spelling.{Spelling, state_after}
 use Rattle.archive_forms_spelling.specs.Spells.{CanonicalPart}
 use Rattle.archive_forms_spelling.specs.Regions.{state_after_all, values, all_keyed_by, pieces}
 use Rattle.archive_forms_spelling.proofs.States.{from_earlier}
-use Rattle.archive_forms_spelling.proofs.Regions.{CanonicalParts, state_after_all_pos, state_after_all_consistent, state_after_all_keyed}
+use Rattle.archive_forms_spelling.proofs.Regions.{CanonicalParts, state_after_all_pos}
 use Rattle.archive_btree_spelling.specs.Parted.{Parted}
 use Rattle.archive_btree_spelling.specs.Written.{entry_spelling, state_after_children, state_after_entries, node_at, size_of_node, words, node_bytes, node_piece, node_fits}
-use Rattle.archive_btree_spelling.proofs.Slots.{EachEntrySpells, KeysFit, ValuesFit, key_slots, value_slots, pair_shape, pairs_spell, length-key-slots, length-value-slots, entries_canonical}
+use Rattle.archive_btree_spelling.proofs.Slots.{EachEntrySpells, KeysFit, ValuesFit, key_slots, value_slots, pair_shape, length-key-slots, length-value-slots, entries_canonical}
 use Rattle.archive_btree_spelling.proofs.Shares.{IsWoven, AreShares}
-use Rattle.archive_btree_spelling.proofs.Trees.{TreeSpells, EachTreeSpells, AllKeyed, AllSmall, link_slots, length-links, children_after_pos, children_consistent, children_keyed, children_canonical}
+use Rattle.archive_btree_spelling.proofs.Trees.{EachTreeSpells, AllKeyed, AllSmall, length-links, children_after_pos, children_consistent, children_keyed, children_canonical}
 use Rattle.archive_btree_spelling.proofs.Weaving.{AreCounted, count_counted, woven_packed, woven_values, count_of_values}
-use Rattle.archive_btree_spelling.proofs.Standing.{Quarters, quarters_bytes, quarters, length-quarters, entries_own_keys, entries_own_values, children_own, in_parts_left, in_parts_right, claimed_part}
+use Rattle.archive_btree_spelling.proofs.Standing.{Quarters, quarters, length-quarters, entries_own_keys, entries_own_values, children_own, in_parts_left, in_parts_right, claimed_part}
 
 keys_behind_kind : (k : Shape) → 1 ≤ keys_offset k
 unfolding keys_offset

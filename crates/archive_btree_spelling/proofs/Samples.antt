@@ -1,9 +1,8 @@
 -- The samples are spelled as their bytes, and maps of numbers are written as their one archive.
-use Rattle.std.proofs.Common.{◌≡◌, ℕ, ◌<◌, ◌^◌, List, [], ◌∷◌, None, length, refl, arith}
+use Rattle.std.proofs.Common.{ℕ, ◌<◌, ◌^◌, List, [], ◌∷◌, None, refl, arith}
 use Rattle.std.specs.Int.{w32, to_le_bytes}
 use Rattle.std.proofs.lemmas.Int.{ints}
 use Rattle.archive_shape_layout.specs.Bytes.{align_up}
-use Rattle.archive_shape_layout.specs.Shape.{size_of}
 use Rattle.archive_shape_layout.specs.Value.Value.{natural}
 use Rattle.archive_shape_layout.specs.Content.{shape_content, number_value, keys_offset, values_offset, node_size, links_offset, link_node_align, link_node_size}
 use Rattle.archive_shape_canonical.specs.Settled.{Fit}

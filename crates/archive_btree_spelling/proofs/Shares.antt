@@ -1,9 +1,8 @@
 -- The items of an inner node are those below its pointers and its own in turn.
-use Rattle.std.proofs.Common.{◌≡◌, ◌∙◌, ℕ, zero, suc, ◌+◌, ◌-◌, ◌*◌, ◌<◌, ◌≤◌, min, List, [], ◌∷◌, ◌++◌, length, take, drop, refl, ap, ap₂, sym, subst, arith, ◌⊎◌, inl, inr}
+use Rattle.std.proofs.Common.{◌≡◌, ◌∙◌, ℕ, zero, suc, ◌+◌, ◌-◌, ◌*◌, ◌<◌, ◌≤◌, List, [], ◌∷◌, ◌++◌, length, take, drop, refl, ap, sym, subst, arith}
 use Rattle.std.specs.Prelude.{⊤}
-use Rattle.std.proofs.lemmas.Bool.{cases_lt}
 use Rattle.std.proofs.lemmas.List.{take-append-drop, length-take, length-drop}
-use Rattle.archive_shape_canonical.specs.Packed.{full, levels_for, child_items}
+use Rattle.archive_shape_canonical.specs.Packed.{levels_for, child_items}
 use Rattle.archive_btree_spelling.specs.Parted.{shares, between}
 use Rattle.archive_btree_spelling.proofs.Levels.{Measured, measured, levels_are_least}
 

@@ -1,5 +1,5 @@
 -- Where the parts of a node stand, and that what its other bytes are is zero.
-use Rattle.std.proofs.Common.{◌≡◌, ℕ, zero, suc, ◌+◌, ◌-◌, ◌*◌, ◌%◌, ◌<◌, ◌≤◌, Some, List, [], ◌∷◌, ◌++◌, length, refl, ap, sym, subst, arith, ◌∙◌, ◌⊎◌, inl, inr, ⊎_elim, length-append, add-zero}
+use Rattle.std.proofs.Common.{◌≡◌, ℕ, zero, suc, ◌+◌, ◌-◌, ◌*◌, ◌%◌, ◌<◌, ◌≤◌, Some, List, [], ◌∷◌, ◌++◌, length, refl, ap, sym, arith, ◌∙◌, ◌⊎◌, inl, inr, ⊎_elim, length-append}
 use Rattle.std.proofs.lemmas.Bool.{cases_lt}
 use Rattle.std.proofs.lemmas.List.{length-replicate}
 use Rattle.std.specs.Prelude.{slice_index}
@@ -164,5 +164,5 @@ claimed_part {bytes = bytes} {level = level} q c l ps vs v low mid e legal m cle
       };
       ascends = ascends_join low mid high h.regions (region ∷ []) h.ascends (record { after = behind; aligned = aligned; inside = omega arith }, tt) up (omega (arith, behind));
       gaps = gaps_join bytes h.regions (region ∷ []) low mid high h.gaps
-      (λ i a b. ⊎_elim (λ x. inr (zero_stands bytes mid (c.start - mid) i gap a (omega (arith, x, behind)))) (λ g. inl (inl (g, b))) (cases_lt i c.start));
+          (λ i a b. ⊎_elim (λ x. inr (zero_stands bytes mid (c.start - mid) i gap a (omega (arith, x, behind)))) (λ g. inl (inl (g, b))) (cases_lt i c.start));
     }

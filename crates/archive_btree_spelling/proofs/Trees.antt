@@ -1,14 +1,14 @@
 -- What holds of a list that is written below a pointer, and that the pointers of a node are read as they are written.
-use Rattle.std.proofs.Common.{◌≡◌, ℕ, zero, suc, ◌+◌, ◌*◌, ◌^◌, ◌≤◌, ◌<◌, nat_le, nat_lt, ◌==◌, Bool, true, false, List, [], ◌∷◌, ◌++◌, refl, length, sym, ap, ap₂, subst, ◌∙◌, arith, Option, Some, None, inl, inr, length-append, add-zero, eqb-true, eq-eqb}
+use Rattle.std.proofs.Common.{◌≡◌, ℕ, ◌+◌, ◌*◌, ◌^◌, ◌≤◌, ◌<◌, nat_le, ◌==◌, Bool, true, false, List, [], ◌∷◌, ◌++◌, refl, length, sym, ap, ap₂, subst, ◌∙◌, arith, Option, Some, None, inl, inr, length-append, add-zero, eqb-true, eq-eqb}
 use Rattle.std.specs.Prelude.{⊤}
 use Rattle.std.proofs.lemmas.Bool.Decides.{nat_tests}
-use Rattle.std.specs.Int.{w32, to_le_bytes, cast_unsigned}
+use Rattle.std.specs.Int.{w32, cast_unsigned}
 use Rattle.archive_shape_layout.specs.Bytes.{window, word_at, target_from}
 use Rattle.archive_shape_layout.specs.Shape.{Shape}
 use Rattle.archive_shape_layout.specs.Value.{Value, Values, append_values, count_values}
 use Rattle.archive_shape_layout.specs.Value.Value.{group}
 use Rattle.archive_shape_layout.specs.Value.Values.{no_values, more_values}
-use Rattle.archive_shape_layout.specs.Content.{Names, Content, Part, children, made, members, content_of, child_content, choose, following}
+use Rattle.archive_shape_layout.specs.Content.{Names, Part, children, made, members, content_of, child_content, choose, following}
 use Rattle.archive_shape_layout.specs.Content.Part.{node, child}
 use Rattle.archive_shape_layout.specs.Content.Label.{whole, same}
 use Rattle.archive_shape_layout.specs.Content.Content.{plain, illegal}
@@ -27,11 +27,10 @@ use Rattle.archive_forms_spelling.specs.State.{State, Keys, visits_of, IsConsist
 use Rattle.archive_forms_spelling.specs.Spelling.{Spelling, state_after}
 use Rattle.archive_forms_spelling.specs.Spells.{CanonicalPart}
 use Rattle.archive_forms_spelling.specs.Regions.{state_after_all, values, plain_values, all_keyed_by, pieces, pieces_fit, pieces_refused}
-use Rattle.archive_forms_spelling.specs.Pointers.{FitsOffset, offset_bytes}
 use Rattle.archive_forms_spelling.proofs.States.{from_earlier}
 use Rattle.archive_forms_spelling.proofs.Gaps.{bytes_none, bytes_append, bytes_word}
 use Rattle.archive_shape_pointers.specs.Offsets.{difference}
-use Rattle.archive_forms_spelling.proofs.Regions.{CanonicalParts, no_parts, more_parts}
+use Rattle.archive_forms_spelling.proofs.Regions.{CanonicalParts, more_parts}
 use Rattle.archive_forms_spelling.proofs.Pointers.{offset_stands, one_part}
 use Rattle.archive_btree_spelling.specs.Written.{slots, AllSlots, AnySlot, entry_spelling, link_bytes, LinkFits, LinkRefused}
 

@@ -1,12 +1,11 @@
 -- The values below the pointers of a node and those of its own entries in turn are those of all its items.
-use Rattle.std.proofs.Common.{◌≡◌, ◌∙◌, ℕ, zero, suc, ◌+◌, ◌<◌, ◌≤◌, List, [], ◌∷◌, ◌++◌, length, refl, ap, ap₂, sym, subst, arith, length-append}
+use Rattle.std.proofs.Common.{◌≡◌, ◌∙◌, ℕ, zero, suc, ◌+◌, ◌<◌, List, [], ◌∷◌, ◌++◌, length, refl, ap, ap₂, sym, subst, arith, length-append}
 use Rattle.std.specs.Prelude.{⊤}
-use Rattle.archive_shape_layout.specs.Shape.{Shape}
-use Rattle.archive_shape_layout.specs.Value.{Value, Values, append_values, count_values}
+use Rattle.archive_shape_layout.specs.Value.{Values, append_values, count_values}
 use Rattle.archive_shape_layout.specs.Value.Value.{group}
 use Rattle.archive_shape_layout.specs.Value.Values.{no_values, more_values}
 use Rattle.archive_shape_layout.specs.Content.{members, weave, first_values, other_values}
-use Rattle.archive_shape_canonical.specs.Packed.{child_items, ArePacked}
+use Rattle.archive_shape_canonical.specs.Packed.{ArePacked}
 use Rattle.archive_shape_canonical.specs.Seen.{blank, blanks, all_blank}
 use Rattle.archive_shape_canonical.specs.Sharing.{erased, all_erased}
 use Rattle.archive_forms_spelling.specs.State.{State, Keys}

@@ -1,8 +1,6 @@
 -- What holds of a node beside how it is read: the state behind it, its value without positions, its bytes and its limits.
-use Rattle.std.proofs.Common.{◌≡◌, ℕ, zero, suc, ◌+◌, ◌-◌, ◌*◌, ◌^◌, ◌<◌, ◌≤◌, Option, List, [], ◌∷◌, ◌++◌, length, refl, ap, ap₂, sym, subst, arith, ◌∙◌, inl, inr, length-append}
-use Rattle.std.specs.Prelude.{⊤}
-use Rattle.archive_shape_layout.specs.Shape.{Shape, size_of}
-use Rattle.archive_shape_layout.specs.Value.{Values}
+use Rattle.std.proofs.Common.{◌≡◌, ℕ, zero, suc, ◌+◌, ◌-◌, ◌<◌, Option, List, [], ◌∷◌, ◌++◌, length, arith, ◌∙◌, inl, inr, length-append}
+use Rattle.archive_shape_layout.specs.Shape.{Shape}
 use Rattle.archive_shape_layout.specs.Content.{Names, keys_offset, values_offset, links_offset}
 use Rattle.archive_shape_canonical.specs.Settled.{Fit}
 use Rattle.archive_shape_canonical.specs.Sharing.{all_erased}
@@ -10,8 +8,8 @@ use Rattle.archive_shape_canonical.specs.Canonical.{AreBytes}
 use Rattle.archive_shape_references.specs.Bytes.{zeros}
 use Rattle.archive_shape_writing.specs.declared.error.Error.{Error}
 use Rattle.archive_forms_spelling.specs.State.{State, Keys, IsConsistent, AreKeyedBy, advanced}
-use Rattle.archive_forms_spelling.specs.Spelling.{Spelling, state_after}
-use Rattle.archive_forms_spelling.specs.Regions.{state_after_all, values, plain_values, all_keyed_by, pieces}
+use Rattle.archive_forms_spelling.specs.Spelling.{Spelling}
+use Rattle.archive_forms_spelling.specs.Regions.{values, plain_values, all_keyed_by, pieces}
 use Rattle.archive_forms_spelling.proofs.States.{consistent_further}
 use Rattle.archive_forms_spelling.proofs.Gaps.{bytes_none, bytes_more, bytes_append, bytes_zeros, bytes_word}
 use Rattle.archive_forms_spelling.proofs.Regions.{pieces_bytes, pieces_exact, state_after_all_begun, state_after_all_consistent, state_after_all_keyed}

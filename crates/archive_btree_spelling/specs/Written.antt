@@ -1,5 +1,5 @@
 -- How a search tree is archived: below each pointer of a node first, then the data of its entries, then the node itself.
-use Rattle.std.specs.Prelude.{◌≡◌, ℕ, zero, suc, ◌+◌, ◌-◌, ◌^◌, ◌<◌, ◌≤◌, List, [], ◌∷◌, ◌++◌, length, Option, Some, None, ⊤, ◌⊎◌}
+use Rattle.std.specs.Prelude.{◌≡◌, ℕ, zero, suc, ◌+◌, ◌-◌, ◌^◌, ◌<◌, List, [], ◌∷◌, ◌++◌, length, Option, Some, None, ⊤, ◌⊎◌}
 use Rattle.std.specs.Int.{w32, to_le_bytes}
 use Rattle.archive_shape_layout.specs.Bytes.{align_up}
 use Rattle.archive_shape_layout.specs.Shape.{Shape, size_of}
