@@ -6,7 +6,7 @@ use Rattle.archive_shape_canonical.specs.Packed.{full, levels_for, child_items}
 use Rattle.archive_btree_spelling.proofs.Levels.{levels_hold, levels_are_least}
 
 -- a level more has room for most times as many items and as many more as nodes
-power_more : (most g : ℕ) → (most + 1) ^ suc g ≡ (most + 1) ^ g + most * (most + 1) ^ g
+pub power_more : (most g : ℕ) → (most + 1) ^ suc g ≡ (most + 1) ^ g + most * (most + 1) ^ g
 power_more most g = let e = pow-succ' (most + 1) g in omega (arith, e)
 
 -- the least number of levels, between two numbers of items
