@@ -1,6 +1,7 @@
 -- The search tree that is written is packed, and has the items that it is written for.
-use Rattle.std.proofs.Common.{◌≡◌, ◌∙◌, ℕ, zero, suc, ◌+◌, ◌-◌, ◌*◌, ◌^◌, ◌<◌, ◌≤◌, min, nat_le, cond, Bool, true, false, List, [], ◌∷◌, ◌++◌, length, map, take, drop, refl, ap, ap₂, sym, subst, arith, leb-true}
+use Rattle.std.proofs.Common.{◌≡◌, ◌∙◌, ℕ, zero, suc, ◌+◌, ◌-◌, ◌*◌, ◌^◌, ◌<◌, ◌≤◌, min, nat_le, cond, Bool, true, false, inl, inr, List, [], ◌∷◌, ◌++◌, length, map, take, drop, refl, ap, ap₂, sym, subst, arith, leb-true}
 use Rattle.std.proofs.lemmas.Bool.Decides.{nat_tests}
+use Rattle.std.proofs.lemmas.Bool.{cases_lt}
 use Rattle.std.proofs.Math.Nat.{pow-succ', pow-zero, one-le-pow, mul-le-mul_left}
 use Rattle.archive_shape_canonical.specs.Packed.{full, levels_for, child_items}
 use Rattle.archive_btree_layout.specs.Tree.{Tree, Branches, items, items_of}
@@ -12,8 +13,9 @@ use Rattle.archive_btree_layout.proofs.Filling.Fills.{fills_none, fills_last, fi
 use Rattle.archive_btree_layout.proofs.Filling.FillsAll.{fills_greater, fills_lesser}
 use Rattle.archive_btree_spelling.specs.Parted.{Parted, parted, shares, between}
 use Rattle.archive_btree_spelling.specs.Shown.{branches, node_of, tree_of}
-use Rattle.archive_btree_spelling.proofs.Levels.{Measured, measured, levels_hold}
+use Rattle.archive_btree_spelling.proofs.Levels.{levels_hold, levels_are_least}
 use Rattle.archive_btree_spelling.proofs.Shares.{IsWoven, AreShares, AreLow, Shared, shared}
+use Rattle.archive_btree_spelling.specs.Laws.{TreesArePacked}
 use Rattle.archive_btree_spelling.proofs.Counts.{child_by_counts, power_more}
 
 above : (n m : ℕ) → nat_le n m ≡ false → m < n
@@ -171,3 +173,28 @@ module _ {C : Type 0} (most : ℕ) where
           Fills most h last (node_of p.kind (map (λ c. tree_of most l c) p.below) p.own))
       tested true f each = of_leaf h e (leb-true (length (x ∷ xs)) most f)
       tested false f each = of_inner h e r (above (length (x ∷ xs)) most f) each
+
+-- the tree of items is packed
+pub packed_shown : {C : Type 0} (most : ℕ) (xs : List C) → 0 < most → 0 < length xs → IsPacked most (tree_of most (levels_for most (length xs)) xs)
+packed_shown most xs some items_some = by_levels (levels_for most (length xs)) refl
+  where
+    by_levels : (l : ℕ) → levels_for most (length xs) ≡ l → IsPacked most (tree_of most l xs)
+    by_levels zero e =
+        let k : length xs ≤ full most 0 = subst (λ z. length xs ≤ full most z) e (levels_hold most (length xs) some) in
+        absurd (omega (arith, k, items_some, pow-zero (most + 1)))
+    by_levels (suc h) e =
+        let n = length xs in
+        let p = (most + 1) ^ h in
+        let some_p : 1 ≤ p = one-le-pow h (most + 1) (omega arith) in
+        let grown = power_more most h in
+        let high : n ≤ full most (suc h) = subst (λ z. n ≤ full most z) e (levels_hold most n some) in
+        let low : full most h < n = elim (cases_lt (full most h) n) [ inl a ↦ a | inr b ↦ absurd (let f = levels_are_least most n h b in omega (arith, e, f)) ] in
+        let last = suc n - p in
+        let some_last : 0 < last = omega (arith, low, some_p) in
+        let few : last ≤ most * p = omega (arith, high, grown, some_p) in
+        let room_is : room most h ≡ most * p = ap (λ z. most * z) (width_is most h) in
+        packed most h last (tree_of most (suc h) xs) some some_last (omega (arith, few, room_is))
+        (fills_shown most (suc h) h last xs some (omega (arith, low, some_p)) few (omega (arith, e)))
+
+pub trees_are_packed_law : TreesArePacked
+trees_are_packed_law most xs some items_some = (packed_shown most xs some items_some, items_shown most (levels_for most (length xs)) xs some (omega arith))

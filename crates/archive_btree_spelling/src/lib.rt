@@ -7,4 +7,4 @@
 
 mod laws;
 
-pub use laws::{maps_are_written, samples_are_spelled, six_pairs_are_written};
+pub use laws::{maps_are_written, samples_are_spelled, six_pairs_are_written, trees_are_packed};
