@@ -1,5 +1,5 @@
 -- How many items stand below each pointer of a node, by the levels above its last one and by how many items that has.
-use Rattle.std.proofs.Common.{◌≡◌, ◌∙◌, ℕ, zero, suc, ◌+◌, ◌-◌, ◌*◌, ◌^◌, ◌<◌, ◌≤◌, min, refl, ap, sym, subst, arith, ◌⊎◌, inl, inr}
+use Rattle.std.proofs.Common.{◌≡◌, ◌∙◌, ℕ, zero, suc, ◌+◌, ◌-◌, ◌*◌, ◌^◌, ◌<◌, ◌≤◌, min, refl, ap, subst, arith, inl, inr}
 use Rattle.std.proofs.lemmas.Bool.{cases_lt}
 use Rattle.std.proofs.Math.Nat.{pow-succ', pow-zero, one-le-pow, pow-le-pow_right, mul-le-mul_right}
 use Rattle.archive_shape_canonical.specs.Packed.{full, levels_for, child_items}
@@ -26,8 +26,8 @@ child_at : (most n i u : ℕ) → levels_for most n ≡ suc (suc u)
     → child_items most n i ≡ full most u + min (full most (suc u) - full most u) ((n - full most (suc u)) - i * (full most (suc u) - full most u))
 child_at most n i u e =
     let P : ℕ → ℕ → Type 0 = λ x y.
-        full most x + min (full most y - full most x) ((n - full most y) - i * (full most y - full most x))
-        ≡ full most u + min (full most (suc u) - full most u) ((n - full most (suc u)) - i * (full most (suc u) - full most u)) in
+    full most x + min (full most y - full most x) ((n - full most y) - i * (full most y - full most x))
+    ≡ full most u + min (full most (suc u) - full most u) ((n - full most (suc u)) - i * (full most (suc u) - full most u)) in
     let low_is : u ≡ levels_for most n - 1 - 1 = omega (arith, e) in
     let up_is : suc u ≡ levels_for most n - 1 = omega (arith, e) in
     subst (λ y. P (levels_for most n - 1 - 1) y) up_is (subst (λ x. P x (suc u)) low_is refl)

@@ -1,17 +1,16 @@
 -- The search tree that is written is packed, and has the items that it is written for.
-use Rattle.std.proofs.Common.{◌≡◌, ◌∙◌, ℕ, zero, suc, ◌+◌, ◌-◌, ◌*◌, ◌^◌, ◌<◌, ◌≤◌, min, nat_le, cond, Bool, true, false, inl, inr, List, [], ◌∷◌, ◌++◌, length, map, take, drop, refl, ap, ap₂, sym, subst, arith, leb-true}
+use Rattle.std.proofs.Common.{◌≡◌, ◌∙◌, ℕ, zero, suc, ◌+◌, ◌-◌, ◌*◌, ◌^◌, ◌<◌, ◌≤◌, min, nat_le, cond, Bool, true, false, inl, inr, List, [], ◌∷◌, ◌++◌, length, map, refl, ap, ap₂, sym, subst, arith, leb-true}
 use Rattle.std.proofs.lemmas.Bool.Decides.{nat_tests}
 use Rattle.std.proofs.lemmas.Bool.{cases_lt}
 use Rattle.std.proofs.Math.Nat.{pow-succ', pow-zero, one-le-pow, mul-le-mul_left}
-use Rattle.archive_shape_canonical.specs.Packed.{full, levels_for, child_items}
-use Rattle.archive_btree_layout.specs.Tree.{Tree, Branches, items, items_of}
+use Rattle.archive_shape_canonical.specs.Packed.{full, levels_for}
+use Rattle.archive_btree_layout.specs.Tree.{items, items_of}
 use Rattle.archive_btree_layout.specs.Tree.Tree.{absent, leaf, inner}
-use Rattle.archive_btree_layout.specs.Tree.Branches.{greater, lesser}
 use Rattle.archive_btree_layout.specs.Packed.{IsPacked}
 use Rattle.archive_btree_layout.proofs.Filling.{Fills, FillsAll, width, room, packed}
 use Rattle.archive_btree_layout.proofs.Filling.Fills.{fills_none, fills_last, fills_leaf, fills_inner}
 use Rattle.archive_btree_layout.proofs.Filling.FillsAll.{fills_greater, fills_lesser}
-use Rattle.archive_btree_spelling.specs.Parted.{Parted, parted, shares, between}
+use Rattle.archive_btree_spelling.specs.Parted.{Parted, shares, between}
 use Rattle.archive_btree_spelling.specs.Shown.{branches, node_of, tree_of}
 use Rattle.archive_btree_spelling.proofs.Levels.{levels_hold, levels_are_least}
 use Rattle.archive_btree_spelling.proofs.Shares.{IsWoven, AreShares, AreLow, Shared, shared}
