@@ -1,0 +1,13 @@
+pub mod Slots
+pub mod Levels
+pub mod Shares
+pub mod Counts
+pub mod Shown
+pub mod Trees
+pub mod Weaving
+pub mod Standing
+pub mod Nodes
+pub mod Whole
+pub mod Forest
+pub mod Maps
+pub mod Samples
