@@ -1,0 +1,4 @@
+pub mod Offsets
+pub mod Led
+pub mod Entered
+pub mod Claiming

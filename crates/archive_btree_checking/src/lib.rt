@@ -1,0 +1,7 @@
+//! The check of search trees in archives.
+#![tactic(auto)]
+
+mod claim;
+mod entries;
+mod layout;
+mod words;
