@@ -39,8 +39,8 @@ module _ (k l : Kept) (s : Span) where
       → InRange (range_of k) s.start size × (s.start % s.align ≡ 0)
       → (result : Result PushedRange Error)
       → MatchResult result
-          (λ r. (r ≡ record { pos = s.start; end = s.start + size; outer = k.end }) × (length k.pushes < k.most) × (l ≡ pushed k r))
-          (λ e. e ≢ OutOfMemory → (k.most ≤ length k.pushes) × (e ≡ ExceededMaximumSubtreeDepth))
+      (λ r. (r ≡ record { pos = s.start; end = s.start + size; outer = k.end }) × (length k.pushes < k.most) × (l ≡ pushed k r))
+      (λ e. e ≢ OutOfMemory → (k.most ≤ length k.pushes) × (e ≡ ExceededMaximumSubtreeDepth))
       → ClaimOutcome result
   claim_pushed size cut small claimable (Ok r) h =
       let push = pushes k l s r size s.align cut refl small claimable h.0 h.1 h.2 in
@@ -76,26 +76,28 @@ module _ (names : Names) (bytes : List ℕ) (p : Part) (s : Span) (label : Label
       let within = h.answered.0 in
       let until = end_below k.start s.start i.passes.regions within.begins held.ascends in
       let level : length (k.pushes ++ record { pos = s.start; end = s.start + s.size; outer = k.end } ∷ []) ≡ suc (length k.pushes) =
-      length-append k.pushes (record { pos = s.start; end = s.start + s.size; outer = k.end } ∷ []) ∙ omega arith in
-      (record {
-        passes = record {
-          value = v;
-          regions = i.passes.regions ++ region ∷ [];
-          after = i.passes.after;
-          accepts = record {
-            holds = holds_claimed is legal (subst (λ x. HoldAll names bytes x inside ps i.passes.values i.passes.regions before i.passes.after) level held.all) makes refl;
-            ascends = (Ascends-append k.start k.end i.passes.regions (region ∷ [])).1 (
-              ascends_raised k.start s.start k.end i.passes.regions (omega (arith, within.ends)) held.ascends,
-              (record { after = until; aligned = h.answered.1.0; inside = within.ends }, tt),
-            );
-            nests = NestsBelow-append k.most i.passes.regions (region ∷ []) held.nests (h.answered.1.1.0, tt);
+      length-append k.pushes (record { pos = s.start; end = s.start + s.size; outer = k.end } ∷ []) ∙ omega arith in (
+        record {
+          passes = record {
+            value = v;
+            regions = i.passes.regions ++ region ∷ [];
+            after = i.passes.after;
+            accepts = record {
+              holds = holds_claimed is legal (subst (λ x. HoldAll names bytes x inside ps i.passes.values i.passes.regions before i.passes.after) level held.all) makes refl;
+              ascends = (Ascends-append k.start k.end i.passes.regions (region ∷ [])).1 (
+                ascends_raised k.start s.start k.end i.passes.regions (omega (arith, within.ends)) held.ascends,
+                (record { after = until; aligned = h.answered.1.0; inside = within.ends }, tt),
+              );
+              nests = NestsBelow-append k.most i.passes.regions (region ∷ []) held.nests (h.answered.1.1.0, tt);
+            };
           };
-        };
-        seen = i.seen;
-        moves = behind_is ∙ ap (started_again k (s.start + s.size)) (ap (λ (x : Kept). x.seen) i.moves)
-            ∙ ap (λ (x : ℕ). started_again k x i.seen) (sym (end_after-append k.start i.passes.regions (region ∷ [])));
-        records = i.records;
-      }, refl)
+          seen = i.seen;
+          moves = behind_is ∙ ap (started_again k (s.start + s.size)) (ap (λ (x : Kept). x.seen) i.moves)
+              ∙ ap (λ (x : ℕ). started_again k x i.seen) (sym (end_after-append k.start i.passes.regions (region ∷ [])));
+          records = i.records;
+        },
+        refl,
+      )
 
   pub accepted_inside :
       (m o : Kept) (i : CheckedAll names bytes inside before ps l m) (v : Value)

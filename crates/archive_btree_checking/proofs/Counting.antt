@@ -99,21 +99,24 @@ module _ (names : Names) (bytes : List ℕ) (inside : List OpenShared) where
       → (c : CheckedAll names bytes inside before (p ∷ ps) k m) × (c.passes.values ≡ more_values h.passes.value i.passes.values)
   more_counted before {p} {ps} {k} {l} {m} h i =
       subst (λ x. (j : CheckedAll names bytes inside h.passes.after ps x m) → j.passes.values ≡ i.passes.values → (c : CheckedAll names bytes inside before (p ∷ ps) k m) × (c.passes.values ≡ more_values h.passes.value i.passes.values)) (sym h.moves)
-      (λ j alike. (record {
-        passes = record {
-          values = more_values h.passes.value j.passes.values;
-          regions = h.passes.regions ++ j.passes.regions;
-          after = j.passes.after;
-          accepts = record {
-            all = holds_more h.passes.accepts.holds j.passes.accepts.all refl refl;
-            ascends = (Ascends-append k.start k.end h.passes.regions j.passes.regions).1 (h.passes.accepts.ascends, j.passes.accepts.ascends);
-            nests = NestsBelow-append k.most h.passes.regions j.passes.regions h.passes.accepts.nests j.passes.accepts.nests;
+      (λ j alike. (
+        record {
+          passes = record {
+            values = more_values h.passes.value j.passes.values;
+            regions = h.passes.regions ++ j.passes.regions;
+            after = j.passes.after;
+            accepts = record {
+              all = holds_more h.passes.accepts.holds j.passes.accepts.all refl refl;
+              ascends = (Ascends-append k.start k.end h.passes.regions j.passes.regions).1 (h.passes.accepts.ascends, j.passes.accepts.ascends);
+              nests = NestsBelow-append k.most h.passes.regions j.passes.regions h.passes.accepts.nests j.passes.accepts.nests;
+            };
           };
-        };
-        seen = j.seen;
-        moves = j.moves ∙ ap (λ n. started_again k n j.seen) (sym (end_after-append k.start h.passes.regions j.passes.regions));
-        records = j.records;
-      }, ap (more_values h.passes.value) alike))
+          seen = j.seen;
+          moves = j.moves ∙ ap (λ n. started_again k n j.seen) (sym (end_after-append k.start h.passes.regions j.passes.regions));
+          records = j.records;
+        },
+        ap (more_values h.passes.value) alike,
+      ))
       i refl
 
   module _ (before : List Visit) (all : List Part) (k : Kept) where

@@ -60,21 +60,24 @@ module _ (names : Names) (bytes : List ℕ) (inside : List OpenShared) (qs : Lis
     pub joined : (m : Kept) (j : CheckedAll names bytes inside i.passes.after qs l m) → (c : CheckedAll names bytes inside before (ps ++ qs) k m) × (c.passes.values ≡ append_values i.passes.values j.passes.values)
     joined m j =
         subst (λ x. (y : CheckedAll names bytes inside i.passes.after qs x m) → y.passes.values ≡ j.passes.values → (c : CheckedAll names bytes inside before (ps ++ qs) k m) × (c.passes.values ≡ append_values i.passes.values j.passes.values)) (sym i.moves)
-        (λ y same. (record {
-          passes = record {
-            values = append_values i.passes.values y.passes.values;
-            regions = i.passes.regions ++ y.passes.regions;
-            after = y.passes.after;
-            accepts = record {
-              all = hold_joined ps i.passes.accepts.all y.passes.accepts.all;
-              ascends = (Ascends-append k.start k.end i.passes.regions y.passes.regions).1 (i.passes.accepts.ascends, y.passes.accepts.ascends);
-              nests = NestsBelow-append k.most i.passes.regions y.passes.regions i.passes.accepts.nests y.passes.accepts.nests;
+        (λ y same. (
+          record {
+            passes = record {
+              values = append_values i.passes.values y.passes.values;
+              regions = i.passes.regions ++ y.passes.regions;
+              after = y.passes.after;
+              accepts = record {
+                all = hold_joined ps i.passes.accepts.all y.passes.accepts.all;
+                ascends = (Ascends-append k.start k.end i.passes.regions y.passes.regions).1 (i.passes.accepts.ascends, y.passes.accepts.ascends);
+                nests = NestsBelow-append k.most i.passes.regions y.passes.regions i.passes.accepts.nests y.passes.accepts.nests;
+              };
             };
-          };
-          seen = y.seen;
-          moves = y.moves ∙ ap (λ n. started_again k n y.seen) (sym (end_after-append k.start i.passes.regions y.passes.regions));
-          records = y.records;
-        }, ap (append_values i.passes.values) same))
+            seen = y.seen;
+            moves = y.moves ∙ ap (λ n. started_again k n y.seen) (sym (end_after-append k.start i.passes.regions y.passes.regions));
+            records = y.records;
+          },
+          ap (append_values i.passes.values) same,
+        ))
         j refl
 
     -- a fault of those behind is one of all

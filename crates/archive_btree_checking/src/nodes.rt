@@ -105,13 +105,7 @@ pub(crate) fn check_node<
     match bytes[pos] {
         0 => check_leaf::<K, V, C, F, G, E>(bytes, pos, layout, context, key_step, value_step),
         1 => check_inner::<K, V, C, F, G, E>(
-            bytes,
-            pos,
-            level,
-            layout,
-            context,
-            key_step,
-            value_step,
+            bytes, pos, level, layout, context, key_step, value_step,
         ),
         _ => Err(Error::InvalidTag),
     }
@@ -208,13 +202,7 @@ fn check_children<
     let mut at = pos;
     for i in 0..pointers {
         let items = check_child::<K, V, C, F, G, E>(
-            bytes,
-            at,
-            level,
-            layout,
-            context,
-            key_step,
-            value_step,
+            bytes, at, level, layout, context, key_step, value_step,
         )?;
         total = total.saturating_add(items);
         at += 4;

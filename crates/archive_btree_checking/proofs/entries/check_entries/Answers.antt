@@ -53,7 +53,7 @@ loop-i-preserved g c =
             here.passes.after,
             checked_records names c.args.bytes.now inside mid.0 here,
             one_less names c.args.bytes.now inside before (entries c.args.count k c.args.key_pos v c.args.value_pos) (g.C.ArchiveContext.kept c.args.context.now) mid.2
-            (entries_next _ _ k _ v _ next ∙ ap₂ (λ x y. entry k c.loop-i.key v c.loop-i.value ∷ entries rest k (c.loop-i.key + x) v (c.loop-i.value + y)) (sym key_size) (sym value_size)) here,
+                (entries_next _ _ k _ v _ next ∙ ap₂ (λ x y. entry k c.loop-i.key v c.loop-i.value ∷ entries rest k (c.loop-i.key + x) v (c.loop-i.value + y)) (sym key_size) (sym value_size)) here,
           );
     }
 
