@@ -1,5 +1,5 @@
 -- A region that is claimed, and the parts in it.
-use Rattle.std.proofs.Common.{◌≡◌, ◌≢◌, ℕ, suc, ◌+◌, ◌-◌, ◌%◌, ◌<◌, ◌≤◌, ◌^◌, min, List, [], ◌∷◌, ◌++◌, length, Some, Ok, Err, Result, refl, sym, ap, subst, ◌∙◌, arith, length-append}
+use Rattle.std.proofs.Common.{◌≡◌, ◌≢◌, ℕ, suc, ◌+◌, ◌%◌, ◌<◌, ◌≤◌, ◌^◌, List, [], ◌∷◌, ◌++◌, length, Some, Ok, Err, Result, refl, sym, ap, subst, ◌∙◌, arith, length-append}
 use Rattle.std.specs.Prelude.{MatchResult}
 use Rattle.archive_shape_layout.specs.Value.{Value}
 use Rattle.archive_shape_layout.specs.Content.{Names, Part, Span, Label, content_of, made, IsLegal}
@@ -13,7 +13,7 @@ use Rattle.archive_shape_checking.specs.Accepts.{NestsBelow}
 use Rattle.archive_shape_checking.specs.Questions.{AreAnswered, FirstUnanswered, claim, questions_of}
 use Rattle.archive_shape_checking.specs.PartFault.{PartFault, PartsFault}
 use Rattle.archive_shape_checking.specs.PartFault.PartFault.{fault_claimed}
-use Rattle.archive_shape_checking.specs.Kept.{Kept, Records, range_of, pushed, popped, started_again, Advances}
+use Rattle.archive_shape_checking.specs.Kept.{Kept, range_of, pushed, popped, started_again, Advances}
 use Rattle.archive_shape_checking.specs.Checks.{Checked, CheckedAll}
 use Rattle.archive_shape_checking.specs.declared.context.PushedRange.{PushedRange}
 use Rattle.archive_shape_writing.specs.declared.error.Error.{Error}

@@ -1,9 +1,9 @@
 -- Checks that count items, of the parts of a tree.
-use Rattle.std.proofs.Common.{◌≡◌, ◌≢◌, ℕ, suc, ◌+◌, ◌-◌, ◌<◌, ◌≤◌, ◌^◌, min, Bool, cond, ◌==◌, List, [], ◌∷◌, ◌++◌, Some, Ok, Err, Result, refl, sym, ap, ap₂, subst, ◌∙◌, arith, append-nil}
-use Rattle.archive_shape_layout.specs.Value.{Value, Values, count_values}
+use Rattle.std.proofs.Common.{◌≡◌, ◌≢◌, ℕ, suc, ◌+◌, ◌-◌, ◌^◌, min, List, [], ◌∷◌, ◌++◌, Ok, Err, Result, refl, sym, ap, subst, ◌∙◌, arith, append-nil}
+use Rattle.archive_shape_layout.specs.Value.{count_values}
 use Rattle.archive_shape_layout.specs.Value.Value.{group}
 use Rattle.archive_shape_layout.specs.Value.Values.{no_values, more_values}
-use Rattle.archive_shape_layout.specs.Content.{Names, Part, Label, content_of, made, members, children}
+use Rattle.archive_shape_layout.specs.Content.{Names, Part, content_of, made, members, children}
 use Rattle.archive_shape_layout.specs.Content.Part.{child}
 use Rattle.archive_shape_layout.specs.Shape.{Shape}
 use Rattle.archive_shape_layout.specs.Content.Label.{same, whole}
@@ -16,7 +16,7 @@ use Rattle.archive_shape_checking.specs.Accepts.{NestsBelow}
 use Rattle.archive_shape_checking.specs.Questions.{AreAnswered, FirstUnanswered, questions_of}
 use Rattle.archive_shape_checking.specs.PartFault.{PartFault, PartsFault}
 use Rattle.archive_shape_checking.specs.PartFault.PartFault.{fault_plain, fault_unanswered}
-use Rattle.archive_shape_checking.specs.PartFault.PartsFault.{fault_here, fault_later}
+use Rattle.archive_shape_checking.specs.PartFault.PartsFault.{fault_here}
 use Rattle.archive_shape_checking.specs.Kept.{Kept, Records, range_of, started_again}
 use Rattle.archive_shape_checking.specs.Checks.{Checked, CheckedAll}
 use Rattle.archive_shape_writing.specs.declared.error.Error.{Error}

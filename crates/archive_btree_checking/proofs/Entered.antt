@@ -1,14 +1,14 @@
 -- Entries: a key, then a value.
-use Rattle.std.proofs.Common.{◌≡◌, ◌≢◌, ℕ, suc, ◌+◌, List, [], ◌∷◌, Ok, Err, Result, refl, sym, ap, subst, ◌∙◌}
+use Rattle.std.proofs.Common.{◌≡◌, ℕ, suc, ◌+◌, List, [], ◌∷◌, Ok, Err, Result, refl}
 use Rattle.archive_shape_layout.specs.Shape.{Shape, size_of}
 use Rattle.archive_shape_layout.specs.Value.Value.{group}
-use Rattle.archive_shape_layout.specs.Content.{Names, Part, made, entries}
+use Rattle.archive_shape_layout.specs.Content.{Names, made, entries}
 use Rattle.archive_shape_layout.specs.Content.Part.{at, entry}
 use Rattle.archive_shape_layout.specs.Holds.{Visit, OpenShared}
 use Rattle.archive_shape_layout.specs.Holds.Holds.{holds_plain}
 use Rattle.archive_shape_checking.specs.PartFault.PartFault.{fault_plain}
 use Rattle.archive_shape_checking.specs.PartFault.PartsFault.{fault_here}
-use Rattle.archive_shape_checking.specs.Kept.{Kept, Records, Advances}
+use Rattle.archive_shape_checking.specs.Kept.{Kept, Advances}
 use Rattle.archive_shape_checking.specs.Checks.{Checks, Checked, CheckedAll, Moves}
 use Rattle.archive_shape_writing.specs.declared.error.Error.{Error}
 use Rattle.archive_shape_checking.proofs.Ordered.{advances_then, checked_records, more_checked, later_fault, one_checked}

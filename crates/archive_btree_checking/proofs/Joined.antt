@@ -1,8 +1,7 @@
 -- Two lists of parts, one checked after the other.
-use Rattle.std.proofs.Common.{◌≡◌, ◌≢◌, ℕ, ◌+◌, List, [], ◌∷◌, ◌++◌, refl, sym, ap, subst, ◌∙◌}
+use Rattle.std.proofs.Common.{◌≡◌, ℕ, List, [], ◌∷◌, ◌++◌, refl, sym, ap, subst, ◌∙◌}
 use Rattle.std.proofs.lemmas.List.{append_assoc}
 use Rattle.archive_shape_layout.specs.Value.{Values, append_values}
-use Rattle.archive_shape_layout.specs.Value.Values.{no_values, more_values}
 use Rattle.archive_shape_layout.specs.Content.{Names, Part}
 use Rattle.archive_shape_layout.specs.Holds.{Region, Visit, OpenShared, HoldAll, Ascends, end_after}
 use Rattle.archive_shape_layout.specs.Holds.HoldAll.{holds_none, holds_more}

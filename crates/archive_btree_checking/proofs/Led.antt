@@ -1,5 +1,5 @@
 -- Where the offset at a position leads.
-use Rattle.std.proofs.Common.{◌≡◌, ℕ, pos, ◌+ℤ◌, ◌+◌, ◌≤◌, ◌<◌, ◌^◌, List, slice_index, Option, Some, None, refl, sym, ap, ◌∙◌, arith, Fits, w8}
+use Rattle.std.proofs.Common.{◌≡◌, ℕ, pos, ◌+ℤ◌, ◌<◌, ◌^◌, List, slice_index, Option, Some, None, sym, ap, ◌∙◌, arith, Fits, w8}
 use Rattle.std.specs.Prelude.{MatchOption}
 use Rattle.std.specs.Int.{w32, w64, FitsUnsigned}
 use Rattle.archive_shape_layout.specs.Bytes.{window, word_at, target_from}

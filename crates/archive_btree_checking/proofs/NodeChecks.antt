@@ -1,28 +1,26 @@
 -- Checks of nodes, by those of their parts.
-use Rattle.std.proofs.Common.{◌≡◌, ◌≢◌, ℕ, suc, ◌+◌, ◌-◌, ◌*◌, ◌%◌, ◌<◌, ◌≤◌, ◌^◌, min, List, [], ◌∷◌, ◌++◌, length, Some, Ok, Err, Result, refl, sym, ap, ap₂, subst, ◌∙◌, arith}
-use Rattle.std.specs.Prelude.{slice_index}
+use Rattle.std.proofs.Common.{◌≡◌, ◌≢◌, ℕ, suc, ◌+◌, ◌-◌, ◌<◌, ◌≤◌, ◌^◌, min, List, ◌++◌, Some, Ok, Err, Result, refl, sym, ap, ap₂, subst, ◌∙◌, arith}
 use Rattle.archive_shape_layout.specs.Bytes.{word_at}
 use Rattle.archive_shape_layout.specs.Shape.{Shape}
-use Rattle.archive_shape_layout.specs.Value.{Value, Values, count_values, append_values}
+use Rattle.archive_shape_layout.specs.Value.{count_values, append_values}
 use Rattle.archive_shape_layout.specs.Value.Value.{group}
-use Rattle.archive_shape_layout.specs.Content.{Names, Part, Label, Span, content_of, made, members, weave, first_values, other_values, entries, children, keys_offset, values_offset, links_offset, link_node_size, link_node_align, node_span}
+use Rattle.archive_shape_layout.specs.Content.{Names, Span, content_of, made, members, weave, first_values, other_values, entries, children, keys_offset, values_offset, links_offset, link_node_size, link_node_align, node_span}
 use Rattle.archive_shape_layout.specs.Content.Part.{node}
 use Rattle.archive_shape_layout.specs.Content.Label.{whole, woven}
 use Rattle.archive_shape_layout.specs.Content.Content.{claimed}
 use Rattle.archive_shape_layout.specs.Holds.{Visit, OpenShared}
-use Rattle.archive_shape_checking.specs.Questions.{FirstUnanswered, AreAnswered, claim, questions_of}
+use Rattle.archive_shape_checking.specs.Questions.{FirstUnanswered, claim}
 use Rattle.archive_shape_checking.specs.PartFault.{PartFault, PartsFault}
 use Rattle.archive_shape_checking.specs.PartFault.PartFault.{fault_unanswered}
 use Rattle.archive_shape_checking.specs.Kept.{Kept, Records, range_of, popped, Advances}
-use Rattle.archive_shape_checking.specs.Checks.{CheckedAll, ChecksAll}
+use Rattle.archive_shape_checking.specs.Checks.{CheckedAll}
 use Rattle.archive_shape_checking.specs.Steps.{Narrower}
 use Rattle.archive_shape_checking.specs.declared.context.PushedRange.{PushedRange}
 use Rattle.archive_shape_writing.specs.declared.error.Error.{Error}
 use Rattle.archive_shape_writing.specs.declared.error.Error.TheVariants.{OutOfMemory, NodeLength}
-use Rattle.archive_forms_checking.proofs.Claimed.{Pushes, pushed_records}
-use Rattle.archive_btree_checking.specs.Layout.{as_usize}
+use Rattle.archive_forms_checking.proofs.Claimed.{pushed_records}
 use Rattle.archive_btree_checking.specs.Nodes.{BeginsNode, IsClaimed}
-use Rattle.archive_btree_checking.specs.Counts.{Counted, CountedAll, Counts, count_each}
+use Rattle.archive_btree_checking.specs.Counts.{CountedAll, Counts}
 use Rattle.archive_btree_checking.proofs.Claiming.{pushes_of, fault_inside, accepted_inside}
 use Rattle.archive_btree_checking.proofs.NodeContents.{leaf_is, inner_is, claim_unanswered, leaf_answered, length_unanswered, inner_answered}
 use Rattle.archive_btree_checking.proofs.Joined.{first_list, joined, second_list, joined_records}

@@ -1,10 +1,10 @@
 -- What nodes and pointers to children have, and what is asked of them, by their own bytes.
-use Rattle.std.proofs.Common.{◌≡◌, ◌≢◌, ℕ, zero, suc, ◌+◌, ◌*◌, ◌<◌, ◌≤◌, max, Bool, true, false, cond, ◌==◌, ◌&&◌, nat_le, nat_lt, List, [], ◌∷◌, ◌++◌, drop, Option, Some, None, Ok, Err, Result, min, ◌-◌, ◌%◌, ◌^◌, refl, sym, ap, subst, ◌∙◌, arith, get_or-drop}
+use Rattle.std.proofs.Common.{◌≡◌, ◌≢◌, ℕ, ◌+◌, ◌<◌, ◌≤◌, max, Bool, true, false, ◌==◌, ◌&&◌, nat_le, List, [], ◌∷◌, ◌++◌, drop, Some, None, Ok, Err, Result, min, ◌-◌, ◌%◌, ◌^◌, refl, sym, ap, subst, ◌∙◌, arith, get_or-drop}
 use Rattle.std.specs.Prelude.{slice_index}
 use Rattle.std.proofs.lemmas.Bool.{le-leb, lt-ltb, leb-true, ltb-true, ne_eqb, eq-eqb}
 use Rattle.archive_shape_layout.specs.Bytes.{window, word_at, target_from}
 use Rattle.archive_shape_layout.specs.Shape.{Shape, align_of}
-use Rattle.archive_shape_layout.specs.Content.{Names, Span, Content, choose, following, content_of, node_content, child_content, children, entries, keys_offset, values_offset, links_offset, node_size, link_node_size, node_span, words_of}
+use Rattle.archive_shape_layout.specs.Content.{Names, Span, Content, choose, content_of, node_content, child_content, children, entries, keys_offset, values_offset, links_offset, node_size, link_node_size, node_span, words_of}
 use Rattle.archive_shape_layout.specs.Content.Part.{node, child}
 use Rattle.archive_shape_layout.specs.Content.Label.{same, whole, woven}
 use Rattle.archive_shape_layout.specs.Content.Content.{plain, claimed}

@@ -1,5 +1,5 @@
 -- Offsets in a node, by sizes and offsets that stop at `usize::MAX`.
-use Rattle.std.proofs.Common.{◌≡◌, ℕ, ◌+◌, ◌-◌, ◌*◌, ◌^◌, min, max, refl, sym, ap, ◌∙◌, arith}
+use Rattle.std.proofs.Common.{◌≡◌, ℕ, ◌+◌, ◌-◌, ◌^◌, min, ap, ◌∙◌, arith}
 use Rattle.archive_shape_layout.specs.Bytes.{align_up}
 use Rattle.archive_forms_layout.proofs.Sizes.{filled_cut}
 

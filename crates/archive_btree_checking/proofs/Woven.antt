@@ -1,9 +1,9 @@
 -- How many items children and entries have, woven.
-use Rattle.std.proofs.Common.{◌≡◌, ℕ, zero, suc, ◌+◌, List, [], ◌∷◌, refl, sym, ap, ap₂, ◌∙◌, arith}
+use Rattle.std.proofs.Common.{◌≡◌, ℕ, zero, suc, ◌+◌, List, refl, ap, ap₂, ◌∙◌, arith}
 use Rattle.archive_shape_layout.specs.Shape.{Shape, size_of}
-use Rattle.archive_shape_layout.specs.Value.{Value, Values, append_values, count_values}
+use Rattle.archive_shape_layout.specs.Value.{Values, append_values, count_values}
 use Rattle.archive_shape_layout.specs.Value.Values.{no_values, more_values}
-use Rattle.archive_shape_layout.specs.Content.{Names, Part, members, weave, first_values, other_values, entries, children}
+use Rattle.archive_shape_layout.specs.Content.{Names, members, weave, first_values, other_values, entries, children}
 use Rattle.archive_shape_layout.specs.Holds.{Region, Visit, OpenShared, HoldAll}
 use Rattle.archive_shape_layout.specs.Holds.HoldAll.{holds_none, holds_more}
 use Rattle.archive_btree_checking.specs.Counts.{count_each}

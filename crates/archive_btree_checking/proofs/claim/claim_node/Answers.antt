@@ -1,4 +1,4 @@
-use Rattle.std.proofs.Common.{rules, arith, refl}
+use Rattle.std.proofs.Common.{rules, refl}
 use Rattle.archive_forms_checking.proofs.Claimed.{misplaced}
 use Rattle.archive_btree_checking.proofs.Claiming.{claim_refused, claim_pushed}
 use Rattle.archive_btree_checking.proofs.claim.claim_node.Goals as goal

@@ -1,8 +1,8 @@
-use Rattle.std.proofs.Common.{rules, arith, ◌≡◌, suc, ◌+◌, ◌-◌, ◌*◌, ◌<◌, ◌≤◌, length, refl, ◌∙◌, sym, ap, ap₂, subst, ◌∷◌}
+use Rattle.std.proofs.Common.{rules, arith, ◌≡◌, suc, ◌+◌, ◌-◌, ◌*◌, ◌≤◌, length, refl, ◌∙◌, sym, ap, ap₂, subst, ◌∷◌}
 use Rattle.archive_shape_layout.specs.Shape.{size_of}
 use Rattle.archive_shape_layout.specs.Content.{entries}
 use Rattle.archive_shape_layout.specs.Content.Part.{entry}
-use Rattle.archive_shape_checking.proofs.Ordered.{all_refused, advances_narrow, advances_then, advances_within, checked_records, all_left, one_less, first_fault, none_left, element_fits}
+use Rattle.archive_shape_checking.proofs.Ordered.{all_refused, advances_then, checked_records, all_left, one_less, first_fault, none_left, element_fits}
 use Rattle.archive_btree_checking.proofs.Entered.{entries_next, entries_none}
 use Rattle.archive_btree_checking.proofs.entries.check_entries.Goals as goal
 

@@ -1,8 +1,7 @@
-use Rattle.std.proofs.Common.{arith, ◌≡◌, ◌+◌, ◌-◌, ◌*◌, ◌^◌, min, max, refl, ◌∙◌}
+use Rattle.std.proofs.Common.{arith, ◌≡◌, ◌+◌, ◌*◌, max, refl, ◌∙◌}
 use Rattle.archive_shape_layout.specs.Shape.{size_of, align_of}
 use Rattle.archive_shape_layout.specs.Content.{keys_offset, values_offset, node_size, links_offset, link_node_size, link_node_align}
 use Rattle.archive_forms_checking.proofs.Claimed.{elements_cut}
-use Rattle.archive_btree_checking.specs.Layout.{as_usize}
 use Rattle.archive_btree_checking.proofs.Offsets.{field_behind, field_at}
 use Rattle.archive_btree_checking.proofs.layout.node_layout.Goals as goal
 

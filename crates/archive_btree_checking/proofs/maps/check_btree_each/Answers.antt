@@ -1,4 +1,4 @@
-use Rattle.std.proofs.Common.{rules, arith, refl, ap, sym, ◌∙◌, ◌^◌, ◌<◌, ◌≡◌, ◌≢◌}
+use Rattle.std.proofs.Common.{rules, arith, ap, sym, ◌≢◌}
 use Rattle.archive_shape_writing.specs.declared.error.Error.TheVariants.{InvalidSubtreePointer}
 use Rattle.archive_btree_checking.proofs.Trees.{tree_empty, tree_astray, tree_refused, tree_counted, tree_mismatched}
 use Rattle.archive_btree_checking.proofs.maps.check_btree_each.Goals as goal

@@ -1,4 +1,4 @@
-use Rattle.std.proofs.Common.{rules, arith, refl, ap, sym, subst, ◌≡◌, ◌≢◌, ◌∙◌, suc, ◌+◌, ◌-◌, ◌*◌, ◌<◌, ◌≤◌, length, max}
+use Rattle.std.proofs.Common.{rules, arith, refl, ap, sym, subst, ◌≡◌, ◌≢◌, suc, ◌+◌, ◌-◌, ◌*◌, ◌<◌, ◌≤◌, length, max}
 use Rattle.std.specs.Prelude.{slice_index}
 use Rattle.archive_shape_layout.specs.Bytes.{word_at}
 use Rattle.archive_shape_layout.specs.Shape.{size_of, align_of}

@@ -1,10 +1,10 @@
-use Rattle.std.proofs.Common.{rules, arith, refl, ap, sym, ◌∙◌, ◌+◌, ◌≤◌, length}
+use Rattle.std.proofs.Common.{rules, arith, ap, sym, ◌∙◌, ◌+◌, length}
 use Rattle.archive_shape_layout.specs.Bytes.{word_at}
 use Rattle.archive_shape_layout.specs.Shape.{size_of}
 use Rattle.archive_shape_layout.specs.Content.{link_node_size}
 use Rattle.archive_forms_checking.proofs.Claimed.{pushed_narrow, last_push}
 use Rattle.archive_btree_checking.proofs.Claiming.{pushes_of}
-use Rattle.archive_btree_checking.proofs.Rooms.{HasRoom, room_of, link_aligned, fewer_fit, one_fits}
+use Rattle.archive_btree_checking.proofs.Rooms.{room_of, link_aligned, fewer_fit, one_fits}
 use Rattle.archive_btree_checking.proofs.NodeChecks.{realigned, leaf_unclaimed, leaf_too_long, leaf_refused, leaf_counted}
 use Rattle.archive_btree_checking.proofs.nodes.check_leaf.Goals as goal
 
