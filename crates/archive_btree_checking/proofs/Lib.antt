@@ -1,0 +1,11 @@
+pub mod Offsets
+pub mod Led
+pub mod Entered
+pub mod Claiming
+pub mod Rooms
+pub mod NodeContents
+pub mod Joined
+pub mod Woven
+pub mod Counting
+pub mod NodeChecks
+pub mod Trees
