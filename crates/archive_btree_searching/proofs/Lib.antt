@@ -1,0 +1,5 @@
+pub mod Pointers
+pub mod Layouts
+pub mod Branching
+pub mod Descending
+pub mod Nodes

@@ -1,0 +1,10 @@
+//! Search trees in bytes: where a node has its parts, the search for a key, walks over the entries.
+#![tactic(auto)]
+
+mod layout;
+mod node;
+mod search;
+
+pub use layout::NodeLayout;
+pub use node::EntryAt;
+pub use search::{search_counted, search_tree};
