@@ -4,7 +4,11 @@
 mod layout;
 mod node;
 mod search;
+mod visit;
+mod walk;
 
 pub use layout::NodeLayout;
 pub use node::EntryAt;
 pub use search::{search_counted, search_tree};
+pub use visit::visit_tree;
+pub use walk::Walk;

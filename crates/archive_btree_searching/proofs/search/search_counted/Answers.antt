@@ -4,7 +4,8 @@ use Rattle.archive_btree_searching.specs.Layout.{IsTreeAt}
 use Rattle.archive_btree_searching.specs.Nodes.{entry_count}
 use Rattle.archive_btree_searching.specs.Searching.{Answers}
 use Rattle.archive_btree_searching.specs.declared.search.Outcome.TheVariants.{Equals, Before}
-use Rattle.archive_btree_searching.proofs.Nodes.{readable, level_within, own_holds, child_stands, found, missing, onward}
+use Rattle.archive_btree_searching.proofs.NodeTree.{tree_level, tree_readable}
+use Rattle.archive_btree_searching.proofs.Nodes.{own_holds, child_stands, found, missing, onward}
 use Rattle.archive_btree_searching.proofs.search.search_counted.Goals as goal
 
 pub loop-level-init : goal.loop-level-init
@@ -17,12 +18,12 @@ loop-level-init g c =
 pub entry_count-count-requires : goal.entry_count-count-requires
 entry_count-count-requires g c =
     let s = c.loop-level.invariant.stands in
-    readable c.args.bytes.now c.args.layout (c.loop-level._level + 1) c.loop-level.pos s.0 s.1 (omega arith)
+    tree_readable c.args.bytes.now c.args.layout (c.loop-level._level + 1) c.loop-level.pos s.0 s.1 (omega arith)
 
 pub overflow_add-pos : goal.overflow_add-pos
 overflow_add-pos g c =
     let s = c.loop-level.invariant.stands in
-    let r = readable c.args.bytes.now c.args.layout (c.loop-level._level + 1) c.loop-level.pos s.0 s.1 (omega arith) in
+    let r = tree_readable c.args.bytes.now c.args.layout (c.loop-level._level + 1) c.loop-level.pos s.0 s.1 (omega arith) in
     omega (arith, r.link, r.keys)
 
 pub search_keys-requires-clause-callable : goal.search_keys-requires-clause-callable
@@ -34,7 +35,7 @@ search_keys-requires-clause-callable g c i below =
 pub search_keys-requires-clause-room : goal.search_keys-requires-clause-room
 search_keys-requires-clause-room g c =
     let s = c.loop-level.invariant.stands in
-    let r = readable c.args.bytes.now c.args.layout (c.loop-level._level + 1) c.loop-level.pos s.0 s.1 (omega arith) in
+    let r = tree_readable c.args.bytes.now c.args.layout (c.loop-level._level + 1) c.loop-level.pos s.0 s.1 (omega arith) in
     let within : c.entry_count-count.result * c.args.layout.key_size ≤ c.args.layout.entries * c.args.layout.key_size =
     mul-le-mul_right c.args.layout.key_size (omega (arith, r.count, c.entry_count-count.ensures))
     in
@@ -43,12 +44,12 @@ search_keys-requires-clause-room g c =
 pub entry_of-entry-requires-clause-node : goal.entry_of-entry-requires-clause-node
 entry_of-entry-requires-clause-node g c =
     let s = c.loop-level.invariant.stands in
-    readable c.args.bytes.now c.args.layout (c.loop-level._level + 1) c.loop-level.pos s.0 s.1 (omega arith)
+    tree_readable c.args.bytes.now c.args.layout (c.loop-level._level + 1) c.loop-level.pos s.0 s.1 (omega arith)
 
 pub child_of-requires-clause-node : goal.child_of-requires-clause-node
 child_of-requires-clause-node g c =
     let s = c.loop-level.invariant.stands in
-    readable c.args.bytes.now c.args.layout (c.loop-level._level + 1) c.loop-level.pos s.0 s.1 (omega arith)
+    tree_readable c.args.bytes.now c.args.layout (c.loop-level._level + 1) c.loop-level.pos s.0 s.1 (omega arith)
 
 pub returns-in-Equals : goal.returns-in-Equals
 returns-in-Equals g c t order h orders =
@@ -103,5 +104,5 @@ loop-level-preserved g c =
 pub returns : goal.returns
 returns g c =
     let s = c.loop-level.invariant.stands in
-    let within = level_within c.args.bytes.now c.args.layout (c.loop-level._level + 1) c.loop-level.pos s.0 s.1 in
+    let within = tree_level c.args.bytes.now c.args.layout (c.loop-level._level + 1) c.loop-level.pos s.0 s.1 in
     absurd (omega arith)
