@@ -10,16 +10,15 @@ use Rattle.archive_btree_searching.specs.Nodes.{place_of}
 use Rattle.archive_btree_searching.specs.Visiting.{VisitsAll, BreaksWith, IsCallableAt}
 
 module _ {F B : Type 0} (step : F → EntryAt → ControlFlow B (Unit {0}) → F → Type 0) where
-  pub visits_none : (f : F) (ps : List Place) → ps ≡ [] → VisitsAll step f ps
-  visits_none f ps e = record { called = []; whole = e; after = f; goes = refl }
+  pub visits_none : (f : F) (ps : List Place) → ps ≡ [] → VisitsAll step f f ps
+  visits_none f ps e = record { called = []; whole = e; goes = refl }
 
-  pub visits_first : (f g : F) (e : EntryAt) (ps : List Place) → step f e (Continue tt) g → VisitsAll step g ps → VisitsAll step f (place_of e ∷ ps)
-  visits_first f g e ps first v =
-      record { called = e ∷ v.called; whole = ap (λ s. place_of e ∷ s) v.whole; after = v.after; goes = (g, first, v.goes) }
+  pub visits_first : (f g h : F) (e : EntryAt) (ps : List Place) → step f e (Continue tt) g → VisitsAll step g h ps → VisitsAll step f h (place_of e ∷ ps)
+  visits_first f g h e ps first v = record { called = e ∷ v.called; whole = ap (λ s. place_of e ∷ s) v.whole; goes = (g, first, v.goes) }
 
-  pub breaks_later : (f g : F) (e : EntryAt) (ps : List Place) (value : B) → step f e (Continue tt) g → BreaksWith step g ps value
-      → BreaksWith step f (place_of e ∷ ps) value
-  breaks_later f g e ps value first b =
+  pub breaks_later : (f g h : F) (e : EntryAt) (ps : List Place) (value : B) → step f e (Continue tt) g → BreaksWith step g h ps value
+      → BreaksWith step f h (place_of e ∷ ps) value
+  breaks_later f g h e ps value first b =
       record {
         called = e ∷ b.called;
         last = b.last;
@@ -27,13 +26,11 @@ module _ {F B : Type 0} (step : F → EntryAt → ControlFlow B (Unit {0}) → F
         begins = ap (λ s. place_of e ∷ s) b.begins;
         before = b.before;
         goes = (g, first, b.goes);
-        after = b.after;
         breaks = b.breaks;
       }
 
-  pub breaks_first : (f g : F) (e : EntryAt) (ps : List Place) (value : B) → step f e (Break value) g → BreaksWith step f (place_of e ∷ ps) value
-  breaks_first f g e ps value first =
-      record { called = []; last = e; rest = ps; begins = refl; before = f; goes = refl; after = g; breaks = first }
+  pub breaks_first : (f g : F) (e : EntryAt) (ps : List Place) (value : B) → step f e (Break value) g → BreaksWith step f g (place_of e ∷ ps) value
+  breaks_first f g e ps value first = record { called = []; last = e; rest = ps; begins = refl; before = f; goes = refl; breaks = first }
 
 module _ {F : Type 0} (pre : F → EntryAt → Type 0) (places rest : List Place) (e : EntryAt) (is : places ≡ place_of e ∷ rest) (all : IsCallableAt pre places) where
   pub callable_first : (f : F) → pre f e

@@ -12,23 +12,21 @@ module _ {F B : Type 0} (step : F → EntryAt → ControlFlow B (Unit {0}) → F
   abbrev pub GoesOn : F → List EntryAt → F → Type 0
   GoesOn = FoldsTo (λ f e g. step f e (Continue tt) g)
 
-  -- the places are those of all calls, and each says to go on
-  pub record VisitsAll (f : F) (places : List Place) : Type 0 where
+  -- the places are those of the calls that take the closure from one state to another, and each says to go on
+  pub record VisitsAll (f g : F) (places : List Place) : Type 0 where
     pub called : List EntryAt
     pub whole : places ≡ map place_of called
-    pub after : F
-    pub goes : GoesOn f called after
+    pub goes : GoesOn f called g
 
   -- the places begin with those of the calls: each says to go on, but the last breaks with a value
-  pub record BreaksWith (f : F) (places : List Place) (value : B) : Type 0 where
+  pub record BreaksWith (f g : F) (places : List Place) (value : B) : Type 0 where
     pub called : List EntryAt
     pub last : EntryAt
     pub rest : List Place
     pub begins : places ≡ map place_of called ++ place_of last ∷ rest
     pub before : F
     pub goes : GoesOn f called before
-    pub after : F
-    pub breaks : step before last (Break value) after
+    pub breaks : step before last (Break value) g
 
 -- whatever it has become, the closure may be called at each of the places
 abbrev pub IsCallableAt : {F : Type 0} → (F → EntryAt → Type 0) → List Place → Type 0

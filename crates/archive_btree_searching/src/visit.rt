@@ -11,15 +11,16 @@ use std::ops::ControlFlow;
 
 /// Calls `visit` with each entry of the tree at a root, in their order, up to the first that it breaks at, and answers
 /// the value that it breaks with.
+/// None is answered where it breaks at no entry.
 pub fn visit_tree<B, F: FnMut(EntryAt) -> ControlFlow<B>>(
     bytes: &[u8],
     root: usize,
     layout: NodeLayout,
-    mut visit: F,
+    visit: &mut F,
 ) -> Option<B>
     requires tree { (t : Tree Place) × IsTreeAt bytes.now layout 1 root t × IsCallableAt F.pre (items t) }
     ensures { (t : Tree Place) → IsTreeAt bytes.now layout 1 root t
-        → MatchOption result (VisitsAll F.step visit (items t)) (λ value. BreaksWith F.step visit (items t) value) }
+        → MatchOption result (VisitsAll F.step visit.old visit.new (items t)) (λ value. BreaksWith F.step visit.old visit.new (items t) value) }
 {
     let mut stack = Stack::at_root(bytes, root, layout);
     while let Some(entry) = pass_entry(&mut stack, bytes, layout) {

@@ -12,15 +12,19 @@ loop-entry-preserved g c =
     record {
       stands = c.in-Some.ensures.stands;
       callable = callable_rest (goal.F-pre g) _ _ c.in-Some.entry c.in-Some.ensures.items i.callable;
-      ends = λ v. i.ends (subst (VisitsAll (goal.F-step g) c.loop-entry.visit) (sym c.in-Some.ensures.items) (visits_first (goal.F-step g) _ _ c.in-Some.entry _ c.in-Continue.ensures v));
-      breaks = λ value b.
-          i.breaks value
-          (subst (λ s. BreaksWith (goal.F-step g) c.loop-entry.visit s value) (sym c.in-Some.ensures.items) (breaks_later (goal.F-step g) _ _ c.in-Some.entry _ value c.in-Continue.ensures b));
+      ends = λ after v.
+          i.ends after
+          (subst (VisitsAll (goal.F-step g) c.loop-entry.visit after) (sym c.in-Some.ensures.items)
+          (visits_first (goal.F-step g) _ _ after c.in-Some.entry _ c.in-Continue.ensures v));
+      breaks = λ after value b.
+          i.breaks after value
+          (subst (λ s. BreaksWith (goal.F-step g) c.loop-entry.visit after s value) (sym c.in-Some.ensures.items)
+          (breaks_later (goal.F-step g) _ _ after c.in-Some.entry _ value c.in-Continue.ensures b));
     }
 
 pub returns-in-Break : goal.returns-in-Break
 returns-in-Break g c t is =
-    subst (λ s. BreaksWith (goal.F-step g) c.args.visit s c.in-Break.value) (c.at_root-stack.ensures.items t is)
-    (c.loop-entry.invariant.breaks c.in-Break.value
-    (subst (λ s. BreaksWith (goal.F-step g) c.loop-entry.visit s c.in-Break.value) (sym c.in-Some.ensures.items)
+    subst (λ s. BreaksWith (goal.F-step g) c.args.visit.now c.visit.new.self s c.in-Break.value) (c.at_root-stack.ensures.items t is)
+    (c.loop-entry.invariant.breaks c.visit.new.self c.in-Break.value
+    (subst (λ s. BreaksWith (goal.F-step g) c.loop-entry.visit c.visit.new.self s c.in-Break.value) (sym c.in-Some.ensures.items)
     (breaks_first (goal.F-step g) _ _ c.in-Some.entry _ c.in-Break.value c.in-Break.ensures)))

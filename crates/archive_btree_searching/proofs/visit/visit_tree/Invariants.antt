@@ -9,11 +9,11 @@ invariant-loop-entry g l =
       stands : IsStack l.bytes l.layout l.stack.nodes l.stack.nexts l.stack.depth;
       callable : IsCallableAt (goal.F-pre g) (stack_items l.bytes l.layout l.stack.nodes l.stack.nexts l.stack.depth);
       ends :
-          VisitsAll (goal.F-step g) l.visit (stack_items l.bytes l.layout l.stack.nodes l.stack.nexts l.stack.depth)
-          → VisitsAll (goal.F-step g) l.fn.visit (stack_items l.bytes l.layout l.initial.stack.nodes l.initial.stack.nexts l.initial.stack.depth);
+          (after : _) → VisitsAll (goal.F-step g) l.visit after (stack_items l.bytes l.layout l.stack.nodes l.stack.nexts l.stack.depth)
+          → VisitsAll (goal.F-step g) l.fn.visit after (stack_items l.bytes l.layout l.initial.stack.nodes l.initial.stack.nexts l.initial.stack.depth);
       breaks :
-          (value : _) → BreaksWith (goal.F-step g) l.visit (stack_items l.bytes l.layout l.stack.nodes l.stack.nexts l.stack.depth) value
-          → BreaksWith (goal.F-step g) l.fn.visit (stack_items l.bytes l.layout l.initial.stack.nodes l.initial.stack.nexts l.initial.stack.depth) value;
+          (after : _) (value : _) → BreaksWith (goal.F-step g) l.visit after (stack_items l.bytes l.layout l.stack.nodes l.stack.nexts l.stack.depth) value
+          → BreaksWith (goal.F-step g) l.fn.visit after (stack_items l.bytes l.layout l.initial.stack.nodes l.initial.stack.nexts l.initial.stack.depth) value;
     }
 
 abbrev pub decreases-loop-entry : goal.decreases-loop-entry
