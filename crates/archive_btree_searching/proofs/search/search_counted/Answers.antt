@@ -1,0 +1,108 @@
+use Rattle.std.proofs.Common.{◌≡◌, ◌∙◌, ◌+◌, ◌*◌, ◌≤◌, suc, min, ap, sym, subst, refl, arith, mul-le-mul_right}
+use Rattle.std.specs.Prelude.{Some}
+use Rattle.archive_btree_searching.specs.Layout.{IsTreeAt}
+use Rattle.archive_btree_searching.specs.Nodes.{entry_count}
+use Rattle.archive_btree_searching.specs.Searching.{Answers}
+use Rattle.archive_btree_searching.specs.declared.search.Outcome.TheVariants.{Equals, Before}
+use Rattle.archive_btree_searching.proofs.NodeTree.{tree_level, tree_readable}
+use Rattle.archive_btree_searching.proofs.Nodes.{own_holds, child_stands, found, missing, onward}
+use Rattle.archive_btree_searching.proofs.search.search_counted.Goals as goal
+
+pub loop-level-init : goal.loop-level-init
+loop-level-init g c =
+    record {
+      stands = c.requires.tree;
+      leads = λ t order h orders. (t, 0, h, refl, omega arith, omega arith);
+    }
+
+pub entry_count-count-requires : goal.entry_count-count-requires
+entry_count-count-requires g c =
+    let s = c.loop-level.invariant.stands in
+    tree_readable c.args.bytes.now c.args.layout (c.loop-level._level + 1) c.loop-level.pos s.0 s.1 (omega arith)
+
+pub overflow_add-pos : goal.overflow_add-pos
+overflow_add-pos g c =
+    let s = c.loop-level.invariant.stands in
+    let r = tree_readable c.args.bytes.now c.args.layout (c.loop-level._level + 1) c.loop-level.pos s.0 s.1 (omega arith) in
+    omega (arith, r.link, r.keys)
+
+pub search_keys-requires-clause-callable : goal.search_keys-requires-clause-callable
+search_keys-requires-clause-callable g c i below =
+    let s = c.loop-level.invariant.stands in
+    own_holds c.args.bytes.now c.args.layout (c.loop-level._level + 1) c.loop-level.pos s.0 s.1 (λ e. goal.F-pre g c.args.compare.now e.key) s.2 i
+    (omega (arith, c.entry_count-count.ensures))
+
+pub search_keys-requires-clause-room : goal.search_keys-requires-clause-room
+search_keys-requires-clause-room g c =
+    let s = c.loop-level.invariant.stands in
+    let r = tree_readable c.args.bytes.now c.args.layout (c.loop-level._level + 1) c.loop-level.pos s.0 s.1 (omega arith) in
+    let within : c.entry_count-count.result * c.args.layout.key_size ≤ c.args.layout.entries * c.args.layout.key_size =
+    mul-le-mul_right c.args.layout.key_size (omega (arith, r.count, c.entry_count-count.ensures))
+    in
+    omega (arith, r.link, r.keys)
+
+pub entry_of-entry-requires-clause-node : goal.entry_of-entry-requires-clause-node
+entry_of-entry-requires-clause-node g c =
+    let s = c.loop-level.invariant.stands in
+    tree_readable c.args.bytes.now c.args.layout (c.loop-level._level + 1) c.loop-level.pos s.0 s.1 (omega arith)
+
+pub child_of-requires-clause-node : goal.child_of-requires-clause-node
+child_of-requires-clause-node g c =
+    let s = c.loop-level.invariant.stands in
+    tree_readable c.args.bytes.now c.args.layout (c.loop-level._level + 1) c.loop-level.pos s.0 s.1 (omega arith)
+
+pub returns-in-Equals : goal.returns-in-Equals
+returns-in-Equals g c t order h orders =
+    let l = c.args.layout in
+    let r = c.loop-level.invariant.leads t order h orders in
+    let a =
+    subst (λ n. Answers order (c.loop-level.pos + l.keys) l.key_size n (Equals c.in-Equals.i)) c.entry_count-count.ensures (c.in-Equals.ensures.answers order orders)
+    in
+    let f = found c.args.bytes.now l (c.loop-level._level + 1) c.loop-level.pos r.0 r.2 order c.in-Equals.i a in
+    (ap Some c.entry_of-entry.ensures ∙ sym f.found ∙ sym r.3, omega (arith, c.saturating_add.ensures, r.4, r.5, f.count))
+
+pub returns-in-None : goal.returns-in-None
+returns-in-None g c t order h orders =
+    let l = c.args.layout in
+    let r = c.loop-level.invariant.leads t order h orders in
+    let a =
+    subst (λ n. Answers order (c.loop-level.pos + l.keys) l.key_size n (Before c.in-Before.i)) c.entry_count-count.ensures (c.in-Before.ensures.answers order orders)
+    in
+    let f = missing c.args.bytes.now l (c.loop-level._level + 1) c.loop-level.pos r.0 r.2 order c.in-Before.i a (sym c.in-None.ensures) in (
+      sym f.none ∙ sym r.3,
+      omega (arith, c.saturating_add-compared.ensures, c.min.ensures, c.saturating_add-in-Before.ensures, c.entry_count-count.ensures, r.4, r.5, f.count),
+    )
+
+pub loop-level-preserved : goal.loop-level-preserved
+loop-level-preserved g c =
+    let l = c.args.layout in
+    let bytes = c.args.bytes.now in
+    let level = c.loop-level._level + 1 in
+    let pos = c.loop-level.pos in
+    let i = c.in-Before.i in
+    let step : suc level ≡ level + 1 = omega arith in
+    let s = c.loop-level.invariant.stands in
+    let next =
+    child_stands bytes l level pos s.0 s.1 (λ e. goal.F-pre g c.args.compare.now e.key) s.2 i c.in-Some.child
+    (omega (arith, c.in-Before.ensures.within, c.entry_count-count.ensures)) (sym c.in-Some.ensures)
+    in
+    record {
+      stands = (next.tree, subst (λ x. IsTreeAt bytes l x c.in-Some.child next.tree) step next.stands, next.holds);
+      leads = λ t order h orders.
+          let r = c.loop-level.invariant.leads t order h orders in
+          let a = subst (λ n. Answers order (pos + l.keys) l.key_size n (Before i)) c.entry_count-count.ensures (c.in-Before.ensures.answers order orders) in
+          let f = onward bytes l level pos r.0 r.2 order i a c.in-Some.child (sym c.in-Some.ensures) in (
+            f.tree,
+            r.1 + min (suc i) (entry_count bytes l pos),
+            subst (λ x. IsTreeAt bytes l x c.in-Some.child f.tree) step f.stands,
+            r.3 ∙ f.same,
+            omega (arith, r.4, f.count),
+            omega (arith, c.saturating_add-compared.ensures, c.min.ensures, c.saturating_add-in-Before.ensures, c.entry_count-count.ensures, r.5),
+          );
+    }
+
+pub returns : goal.returns
+returns g c =
+    let s = c.loop-level.invariant.stands in
+    let within = tree_level c.args.bytes.now c.args.layout (c.loop-level._level + 1) c.loop-level.pos s.0 s.1 in
+    absurd (omega arith)

@@ -1,0 +1,5 @@
+pub mod Layout
+pub mod Nodes
+pub mod Searching
+pub mod Walking
+pub mod Visiting

@@ -1,0 +1,79 @@
+//! What is read of a search tree's node.
+ghost use Rattle.std.specs.Prelude.{◌≡◌, ℕ, ◌+◌, ◌*◌, ◌^◌, ◌<◌, ◌≤◌, length, slice_index, Some};
+ghost use Rattle.archive_shape_layout.specs.Bytes as layout;
+ghost use Rattle.archive_btree_searching.specs.Nodes.{IsReadable, entry_count, entry_of, child_of, place_of, pointer_at};
+
+use crate::NodeLayout;
+
+/// Where an entry's key and value stand.
+#[derive(Clone, Copy, Debug, PartialEq, Eq)]
+pub struct EntryAt {
+    pub key: usize,
+    pub value: usize,
+}
+
+/// The u32 at a position.
+fn word_at(bytes: &[u8], pos: usize) -> u32
+    requires { pos + 4 ≤ length bytes.now }
+    ensures { result ≡ layout.word_at bytes.now pos }
+{
+    let own = &bytes[pos..pos + 4];
+    u32::from_le_bytes([own[0], own[1], own[2], own[3]])
+}
+
+/// Where the pointer at a position leads, if it is valid.
+fn follow(bytes: &[u8], link: usize) -> Option<usize>
+    requires room { link + 4 ≤ length bytes.now }
+    requires leads { (layout.word_at bytes.now link ≡ 1 → ⊥) → (child : ℕ) × (layout.target_from link (layout.word_at bytes.now link) ≡ Some child) × (child < 2 ^ 64) }
+    ensures { result ≡ pointer_at bytes.now link }
+{
+    let word = word_at(bytes, link);
+    if word == 1 {
+        return None;
+    }
+    if word < 1 << 31 {
+        Some(link + word as usize)
+    } else {
+        Some(link - ((1 << 32) - word as usize))
+    }
+}
+
+/// How many entries the node at a position has.
+pub(crate) fn entry_count(bytes: &[u8], layout: NodeLayout, pos: usize) -> usize
+    requires { IsReadable bytes.now layout pos }
+    ensures { result ≡ entry_count bytes.now layout pos }
+{
+    let _len = bytes.len();
+    if bytes[pos] == 0 {
+        word_at(bytes, pos + layout.links) as usize
+    } else {
+        layout.entries
+    }
+}
+
+/// Where entry `i` of the node at a position stands.
+pub(crate) fn entry_of(bytes: &[u8], layout: NodeLayout, pos: usize, i: usize) -> EntryAt
+    requires node { IsReadable bytes.now layout pos }
+    requires below { i < entry_count bytes.now layout pos }
+    ensures { place_of result ≡ entry_of layout pos i }
+{
+    let _len = bytes.len();
+    EntryAt {
+        key: pos + layout.keys + i * layout.key_size,
+        value: pos + layout.values + i * layout.value_size,
+    }
+}
+
+/// The position of child `i` of the node at a position, if there is one. A leaf has none.
+pub(crate) fn child_of(bytes: &[u8], layout: NodeLayout, pos: usize, i: usize) -> Option<usize>
+    requires node { IsReadable bytes.now layout pos }
+    requires within { i ≤ entry_count bytes.now layout pos }
+    ensures { result ≡ child_of bytes.now layout pos i }
+{
+    let _len = bytes.len();
+    if bytes[pos] == 0 {
+        None
+    } else {
+        follow(bytes, pos + layout.links + 4 * i)
+    }
+}

@@ -1,0 +1,93 @@
+//! The search for a key.
+ghost use Rattle.std.specs.Prelude.{◌≡◌, ℕ, ◌-◌, ◌+◌, ◌*◌, ◌^◌, ◌<◌, ◌≤◌, min, All};
+ghost use Rattle.std.specs.Option.{option_map};
+ghost use Rattle.std.specs.declared.cmp.Ordering.{Ordering};
+ghost use Rattle.archive_btree_layout.specs.Tree.{Tree, items};
+ghost use Rattle.archive_btree_layout.specs.Descent.{descend, met};
+ghost use Rattle.archive_btree_layout.specs.Reading.{Place};
+ghost use Rattle.archive_btree_searching.specs.Layout.{IsTreeAt};
+ghost use Rattle.archive_btree_searching.specs.Nodes.{place_of};
+ghost use Rattle.archive_btree_searching.specs.Searching.{Answers, IsWithin, Orders, by_key};
+
+use crate::node::{child_of, entry_count, entry_of};
+use crate::{EntryAt, NodeLayout};
+use std::cmp::Ordering;
+
+/// What a search among a node's keys answers, by the number of a key.
+#[derive(Clone, Copy)]
+enum Outcome {
+    /// This one is equal to the query.
+    Equals(usize),
+    /// The query is above all before this one, and below it, if it is there.
+    Before(usize),
+}
+
+/// Searches so many keys that stand side by side. `compare` says how the query compares with the key at a position.
+fn search_keys<F: Fn(usize) -> Ordering>(
+    first: usize,
+    size: usize,
+    count: usize,
+    compare: &F,
+) -> Outcome
+    requires callable { (i : ℕ) → i < count → F.pre compare.now (first + i * size) }
+    requires room { first + count * size < 2 ^ 64 }
+    ensures within { IsWithin count result }
+    ensures answers { (order : ℕ → Ordering) → Orders F.post compare.now order → Answers order first size count result }
+{
+    for i in 0..count {
+        match compare(first + i * size) {
+            Ordering::Less => return Outcome::Before(i),
+            Ordering::Equal => return Outcome::Equals(i),
+            Ordering::Greater => {}
+        }
+    }
+    Outcome::Before(count)
+}
+
+/// Searches a tree from its root down, and counts the keys that it compares. `compare` says how the query compares with
+/// the key at a position. The count stops at `usize::MAX`.
+pub fn search_counted<F: Fn(usize) -> Ordering>(
+    bytes: &[u8],
+    root: usize,
+    layout: NodeLayout,
+    compare: &F,
+) -> (Option<EntryAt>, usize)
+    requires tree { (t : Tree Place) × IsTreeAt bytes.now layout 1 root t × All (λ e. F.pre compare.now e.key) (items t) }
+    ensures { (t : Tree Place) (order : ℕ → Ordering) → IsTreeAt bytes.now layout 1 root t → Orders F.post compare.now order
+        → (option_map place_of result.0 ≡ descend (by_key order) t) × (result.1 ≡ min (met (by_key order) t) (2 ^ 64 - 1)) }
+{
+    let _len = bytes.len();
+    let mut pos = root;
+    let mut compared = 0usize;
+    for _level in 0..32u32 {
+        let count = entry_count(bytes, layout, pos);
+        match search_keys(pos + layout.keys, layout.key_size, count, compare) {
+            Outcome::Equals(i) => {
+                let entry = entry_of(bytes, layout, pos, i);
+                return (Some(entry), compared.saturating_add(i + 1));
+            }
+            Outcome::Before(i) => {
+                compared = compared.saturating_add(count.min(i.saturating_add(1)));
+                match child_of(bytes, layout, pos, i) {
+                    Some(child) => pos = child,
+                    None => return (None, compared),
+                }
+            }
+        }
+    }
+    (None, compared)
+}
+
+/// Searches a tree from its root down. `compare` says how the query compares with the key at a position.
+pub fn search_tree<F: Fn(usize) -> Ordering>(
+    bytes: &[u8],
+    root: usize,
+    layout: NodeLayout,
+    compare: &F,
+) -> Option<EntryAt>
+    requires tree { (t : Tree Place) × IsTreeAt bytes.now layout 1 root t × All (λ e. F.pre compare.now e.key) (items t) }
+    ensures { (t : Tree Place) (order : ℕ → Ordering) → IsTreeAt bytes.now layout 1 root t → Orders F.post compare.now order
+        → option_map place_of result ≡ descend (by_key order) t }
+{
+    search_counted(bytes, root, layout, compare).0
+}

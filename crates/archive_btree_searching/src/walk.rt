@@ -1,0 +1,170 @@
+//! Walks over a tree's entries in their order.
+ghost use Rattle.std.specs.Prelude.{◌≡◌, ℕ, ◌-◌, ◌+◌, ◌<◌, ◌≤◌, List, [], ◌∷◌, ◌++◌, length, IfSome, MatchOption};
+ghost use Rattle.std.specs.Iterator.{YieldsFirstBy, UpTo, item_count};
+ghost use Rattle.std.specs.Iterator.SizeHint.{IsExactHint, IsWithinCount};
+ghost use Rattle.archive_btree_layout.specs.Tree.{Tree, items};
+ghost use Rattle.archive_btree_layout.specs.Reading.{Place};
+ghost use Rattle.archive_btree_searching.specs.Layout.{IsTreeAt};
+ghost use Rattle.archive_btree_searching.specs.Nodes.{place_of};
+ghost use Rattle.archive_btree_searching.specs.Walking.{child_items, node_items, stack_items, IsStack};
+
+use crate::node::{child_of, entry_count, entry_of};
+use crate::{EntryAt, NodeLayout};
+use std::iter::FusedIterator;
+use std::marker::Model;
+
+/// The nodes from the root down to the one that a walk is in, and of each the number of the entry that comes next.
+#[derive(Clone, Copy)]
+pub(crate) struct Stack {
+    nodes: [usize; 32],
+    nexts: [usize; 32],
+    depth: usize,
+}
+
+impl Stack {
+    /// A stack without nodes.
+    const fn new() -> Self
+        ensures nodes { length result.nodes ≡ 32 }
+        ensures nexts { length result.nexts ≡ 32 }
+        ensures depth { result.depth ≡ 0 }
+    {
+        Stack {
+            nodes: [0; 32],
+            nexts: [0; 32],
+            depth: 0,
+        }
+    }
+
+    /// A stack of which nothing is passed of the tree at a root.
+    pub(crate) fn at_root(bytes: &[u8], root: usize, layout: NodeLayout) -> Self
+        requires { (t : Tree Place) × IsTreeAt bytes.now layout 1 root t }
+        ensures stands { IsStack bytes.now layout result.nodes result.nexts result.depth }
+        ensures items { (t : Tree Place) → IsTreeAt bytes.now layout 1 root t → stack_items bytes.now layout result.nodes result.nexts result.depth ≡ items t }
+    {
+        let mut stack = Stack::new();
+        push_first(&mut stack, bytes, layout, Some(root));
+        stack
+    }
+}
+
+/// Pushes a child, if there is one, and its first children, down to the node whose first entry comes next.
+fn push_first(stack: &mut Stack, bytes: &[u8], layout: NodeLayout, mut child: Option<usize>)
+    requires stands { IsStack bytes.now layout stack.old.nodes stack.old.nexts stack.old.depth }
+    requires leads { IfSome child (λ pos. (t : Tree Place) × IsTreeAt bytes.now layout (stack.old.depth + 1) pos t) }
+    ensures stands { IsStack bytes.now layout stack.new.nodes stack.new.nexts stack.new.depth }
+    ensures items { stack_items bytes.now layout stack.new.nodes stack.new.nexts stack.new.depth
+        ≡ child_items bytes.now layout (node_items bytes.now layout (32 - stack.old.depth)) child ++ stack_items bytes.now layout stack.old.nodes stack.old.nexts stack.old.depth }
+{
+    let _len = bytes.len();
+    while let Some(pos) = child {
+        stack.nodes[stack.depth] = pos;
+        stack.nexts[stack.depth] = 0;
+        stack.depth += 1;
+        child = child_of(bytes, layout, pos, 0);
+    }
+}
+
+/// The entry that comes next, which is passed.
+pub(crate) fn pass_entry(stack: &mut Stack, bytes: &[u8], layout: NodeLayout) -> Option<EntryAt>
+    requires { IsStack bytes.now layout stack.old.nodes stack.old.nexts stack.old.depth }
+    ensures stands { IsStack bytes.now layout stack.new.nodes stack.new.nexts stack.new.depth }
+    ensures items { MatchOption result
+        ((stack_items bytes.now layout stack.old.nodes stack.old.nexts stack.old.depth ≡ [])
+        × (stack_items bytes.now layout stack.new.nodes stack.new.nexts stack.new.depth ≡ []))
+        (λ e. stack_items bytes.now layout stack.old.nodes stack.old.nexts stack.old.depth
+        ≡ place_of e ∷ stack_items bytes.now layout stack.new.nodes stack.new.nexts stack.new.depth) }
+{
+    let _len = bytes.len();
+    while stack.depth > 0 {
+        let top = stack.depth - 1;
+        let pos = stack.nodes[top];
+        let next = stack.nexts[top];
+        if next < entry_count(bytes, layout, pos) {
+            stack.nexts[top] = next + 1;
+            push_first(stack, bytes, layout, child_of(bytes, layout, pos, next + 1));
+            return Some(entry_of(bytes, layout, pos, next));
+        }
+        stack.depth = top;
+    }
+    None
+}
+
+/// A walk over a tree's entries in their order. It is seen as the items that are left.
+#[derive(Clone, Drop)]
+pub struct Walk<'a> {
+    bytes: &'a [u8],
+    layout: NodeLayout,
+    stack: Stack,
+    left: usize,
+}
+
+impl<'a> Model for Walk<'a> {
+    ghost use Rattle.std.specs.Prelude.{◌≡◌, List, length};
+    ghost use Rattle.archive_btree_layout.specs.Reading.{Place};
+
+    ghost Value = { List Place };
+
+    ghost use Rattle.archive_btree_searching.specs.Walking.{stack_items, IsStack};
+
+    ghost view = { λ w. stack_items w.bytes.now w.layout w.stack.nodes w.stack.nexts w.stack.depth };
+
+    ghost invariant = { λ w. IsStack w.bytes.now w.layout w.stack.nodes w.stack.nexts w.stack.depth
+        × (w.left ≡ length (stack_items w.bytes.now w.layout w.stack.nodes w.stack.nexts w.stack.depth)) };
+}
+
+impl<'a> Walk<'a> {
+    /// A walk over the tree at a root, which has `len` items.
+    pub fn new(bytes: &'a [u8], root: usize, layout: NodeLayout, len: usize) -> Self
+        requires tree { (t : Tree Place) × IsTreeAt bytes.now layout 1 root t × (length (items t) ≡ len) }
+        ensures { (t : Tree Place) → IsTreeAt bytes.now layout 1 root t → result ≡ items t }
+    {
+        Walk {
+            bytes,
+            layout,
+            stack: Stack::at_root(bytes, root, layout),
+            left: len,
+        }
+    }
+
+    /// A walk over no entries.
+    pub fn empty(bytes: &'a [u8], layout: NodeLayout) -> Self
+        ensures { result ≡ [] }
+    {
+        Walk {
+            bytes,
+            layout,
+            stack: Stack::new(),
+            left: 0,
+        }
+    }
+}
+
+impl<'a> Iterator for Walk<'a> {
+    type Item = EntryAt;
+
+    ghost next_gives = { YieldsFirstBy place_of (λ xs. xs) };
+
+    ghost remaining = { item_count (λ xs. xs) };
+
+    fn next(&mut self) -> Option<EntryAt> {
+        let entry = pass_entry(&mut self.stack, self.bytes, self.layout)?;
+        self.left -= 1;
+        Some(entry)
+    }
+
+    fn size_hint(&self) -> (usize, Option<usize>)
+        ensures lower { IsWithinCount result.0 (item_count (λ xs. xs) self.now) }
+        ensures upper { IfSome result.1 (UpTo (item_count (λ xs. xs) self.now)) }
+        ensures exact { IsExactHint result (length self.now) }
+    {
+        (self.left, Some(self.left))
+    }
+}
+
+impl<'a> ExactSizeIterator for Walk<'a> {
+    fn len(&self) -> usize {
+        self.left
+    }
+}
+
+impl<'a> FusedIterator for Walk<'a> {}
