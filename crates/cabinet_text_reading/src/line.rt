@@ -1,5 +1,5 @@
 //! Lines of a text: the first one, and what is wrong with it whatever is due.
-ghost use Rattle.std.specs.Prelude.{◌≡◌, ◌≢◌, ℕ, ◌++◌, ◌∷◌, [], List, true, slice_get, IfOk, IfErr, IsUtf8, MatchOption, codes};
+ghost use Rattle.std.specs.Prelude.{◌≡◌, ◌≢◌, ℕ, ◌<◌, ◌++◌, ◌∷◌, [], List, true, length, slice_get, slice_index, EachIndex, IfNone, IfSome, IfOk, IfErr, IsUtf8, MatchOption, codes};
 ghost use Rattle.cabinet_text_grammar.specs.Keys.{MapKind};
 ghost use Rattle.cabinet_text_grammar.specs.Due.{Due, a_key, nothing_more};
 ghost use Rattle.cabinet_text_grammar.specs.Fault.{pieces_of, IsFirstCause};
@@ -9,6 +9,23 @@ ghost use Rattle.cabinet_text_reading.specs.Lines.{IsLongest};
 use cabinet_text_bytes::{after_prefix, unescaped_len};
 use cabinet_text_grammar::Cause;
 use std::marker::Model;
+
+/// The index of the first newline.
+fn newline_at(text: &[u8]) -> Option<usize>
+    ensures none { IfNone result (EachIndex text.now (λ k. slice_index text.now k ≢ 10)) }
+    ensures found { IfSome result (λ end. (end < length text.now) × (slice_index text.now end ≡ 10)) }
+    ensures before { IfSome result (λ end. (k : ℕ) → k < end → slice_index text.now k ≢ 10) }
+{
+    text.iter().position(|byte| *byte == b'\n')
+}
+
+/// What stands before the first newline of a text, and what stands behind it.
+fn split_line(text: &str) -> Option<(&str, &str)>
+    ensures { MatchOption result (EachIndex text.now (λ k. slice_index text.now k ≢ 10)) (λ parts. (text.now ≡ parts.0.now ++ 10 ∷ parts.1.now) × EachIndex parts.0.now (λ k. slice_index parts.0.now k ≢ 10)) }
+{
+    let end = newline_at(text.as_bytes())?;
+    Some((&text[..end], &text[end + 1..]))
+}
 
 /// What is left of a text of which lines were taken: as far as it is UTF-8, and the bytes behind.
 #[derive(Drop)]
@@ -48,7 +65,7 @@ impl<'a> Lines<'a> {
         ensures end { IfErr result (λ fault. MatchOption fault (self.entry ≡ []) (λ cause. (due : Due) → IsFirstCause due (slice_get (pieces_of self.entry) 0) cause)) }
     {
         let Lines { rest, more } = self;
-        if let Some((line, after)) = rest.split_once('\n') {
+        if let Some((line, after)) = split_line(rest) {
             return Ok((line, Lines { rest: after, more }));
         }
         if !more.is_empty() {
