@@ -25,7 +25,7 @@ use Rattle.archive_btree_spelling.specs.Maps.{packed_spelling}
 use Rattle.archive_btree_spelling.proofs.Levels.{levels_hold}
 use Rattle.archive_btree_spelling.proofs.Slots.{EachEntrySpells}
 use Rattle.archive_btree_spelling.proofs.Shares.{IsWoven, AreLow, Shared, shared}
-use Rattle.archive_btree_spelling.proofs.Trees.{Counted, Rooted, TreeSpells, EachTreeSpells, AllKeyed, AllSmall, plain_children, length-links}
+use Rattle.archive_btree_spelling.proofs.Trees.{Counted, Rooted, TreeSpells, EachTreeSpells, AllKeyed, AllSmall, plain_children, length-links-below}
 use Rattle.archive_btree_spelling.proofs.Weaving.{plain_groups, count_woven, count_of_values, plain_woven, erased_weave, keyed_append}
 use Rattle.archive_btree_spelling.proofs.Nodes.{Roomy, roomy, node_end, leaf_of, leaf_canonical, inner_of, inner_canonical, values_counted}
 use Rattle.archive_btree_spelling.proofs.Whole.{node_consistent, node_keyed, node_piece_bytes, node_exact}
@@ -116,7 +116,7 @@ module _ {A B R Q : Type 0} (fit : Fit) (most : ℕ) (k v : Shape) (knows : Name
 
     leaf_node : (xs : List (A × B)) → length xs ≤ most → EachEntrySpells fit most k v knows keys vals xs → NodeSpells xs (leaf_of fit most k v knows keys vals w xs)
     leaf_node xs few each = record {
-      before = λ st f. node_before (leaf_of fit most k v knows keys vals w xs) st (roomy fit most k v knows keys vals w (leaf_of fit most k v knows keys vals w xs) st _ each few f.3.0 f.3.1 refl) (omega arith);
+      before = λ st f. node_before (leaf_of fit most k v knows keys vals w xs) st (roomy fit most k v knows keys vals w (leaf_of fit most k v knows keys vals w xs) st _ each few f.1.2.0 f.1.2.1 refl) (omega arith);
       canonical = λ st names given bytes level inside t low small kn n known state over f s.
           leaf_canonical fit most k v knows keys vals w xs each st names given bytes level inside t (omega (arith, low)) few small kn n known state over f s;
       counted = λ st. record { items = _; is = refl; count = count_of_values (entry_spelling most k v keys vals) xs st };
@@ -141,7 +141,7 @@ module _ {A B R Q : Type 0} (fit : Fit) (most : ℕ) (k v : Shape) (knows : Name
         let few : length es ≤ most = let e = parts.own in omega (arith, e) in
         record {
           before = λ st f. node_before p st
-              (roomy fit most k v knows keys vals w p st _ laws.1 few f.3.0 f.3.1 (length-links fit most k v knows keys vals l w xss st _ ∙ ap (λ z. z * 4) (let e = parts.pointers in omega (arith, e))))
+              (roomy fit most k v knows keys vals w p st _ laws.1 few f.1.2.0 f.1.2.1 (length-links-below fit most k v knows keys vals l w xss st _ ∙ ap (λ z. z * 4) (let e = parts.pointers in omega (arith, e))))
               (omega arith);
           canonical = λ st names given bytes level inside t low small kn m known state over f s.
               let named = keyed_woven l w given xs xss es parts.woven m in

@@ -29,10 +29,10 @@ use Rattle.archive_forms_spelling.specs.Regions.{state_after_all, values, all_ke
 use Rattle.archive_forms_spelling.proofs.States.{from_earlier}
 use Rattle.archive_forms_spelling.proofs.Regions.{CanonicalParts, state_after_all_pos}
 use Rattle.archive_btree_spelling.specs.Parted.{Parted}
-use Rattle.archive_btree_spelling.specs.Written.{entry_spelling, state_after_children, state_after_entries, node_at, size_of_node, words, node_bytes, node_piece, node_fits}
+use Rattle.archive_btree_spelling.specs.Written.{entry_spelling, state_after_children, state_after_entries, linked, own_size, words, own_bytes, node_at, node_piece, node_fits}
 use Rattle.archive_btree_spelling.proofs.Slots.{EachEntrySpells, KeysFit, ValuesFit, key_slots, value_slots, pair_shape, length-key-slots, length-value-slots, entries_canonical}
 use Rattle.archive_btree_spelling.proofs.Shares.{IsWoven, AreShares}
-use Rattle.archive_btree_spelling.proofs.Trees.{EachTreeSpells, AllKeyed, AllSmall, length-links, children_after_pos, children_consistent, children_keyed, children_canonical}
+use Rattle.archive_btree_spelling.proofs.Trees.{EachTreeSpells, AllKeyed, AllSmall, length-links-below, children_after_pos, children_consistent, children_keyed, children_canonical}
 use Rattle.archive_btree_spelling.proofs.Weaving.{AreCounted, count_counted, woven_packed, woven_values, count_of_values}
 use Rattle.archive_btree_spelling.proofs.Standing.{Quarters, quarters, length-quarters, entries_own_keys, entries_own_values, children_own, in_parts_left, in_parts_right, claimed_part}
 
@@ -85,7 +85,7 @@ module _ {A B R Q : Type 0} (fit : Fit) (most : ℕ) (k v : Shape) (knows : Name
     pub children_stand : HasBytes bytes st.pos (pieces w p.below st)
     pub entries_stand : HasBytes bytes (state_after_children most k v keys vals w p st).pos (pieces (entry_spelling most k v keys vals) p.own (state_after_children most k v keys vals w p st))
     pub gap_stands : HasBytes bytes (state_after_entries most k v keys vals w p st).pos (zeros (node_at most k v keys vals w p st - (state_after_entries most k v keys vals w p st).pos))
-    pub own_stand : HasBytes bytes (node_at most k v keys vals w p st) (node_bytes most k v keys vals w p st (node_at most k v keys vals w p st))
+    pub own_stand : HasBytes bytes (node_at most k v keys vals w p st) (own_bytes most k v keys vals (linked most k v keys vals w p st) (state_after_children most k v keys vals w p st) (node_at most k v keys vals w p st))
 
   pub children_pos : (p : Parted (A × B)) (st : State) → (state_after_children most k v keys vals w p st).pos ≡ st.pos + length (pieces w p.below st)
   children_pos p st = children_after_pos fit most k v knows keys vals 0 w p.below st
@@ -102,7 +102,7 @@ module _ {A B R Q : Type 0} (fit : Fit) (most : ℕ) (k v : Shape) (knows : Name
       let first = pieces w p.below st in
       let second = pieces (entry_spelling most k v keys vals) p.own now in
       let gap = zeros (pos - mid.pos) in
-      let own = node_bytes most k v keys vals w p st pos in
+      let own = own_bytes most k v keys vals (linked most k v keys vals w p st) (state_after_children most k v keys vals w p st) pos in
       let r₁ = stands_right bytes st.pos first (second ++ (gap ++ own)) now.pos (sym (children_pos p st)) s in
       let r₂ = stands_right bytes now.pos second (gap ++ own) mid.pos (sym (entries_pos p st)) r₁ in
       let up = le_align_up mid.pos (link_node_align k v) in
@@ -118,12 +118,12 @@ module _ {A B R Q : Type 0} (fit : Fit) (most : ℕ) (k v : Shape) (knows : Name
   pub record Roomy (p : Parted (A × B)) (st : State) (pos : ℕ) : Type 0 where
     pub keys_room : keys_offset k + length (key_slots fit most k v knows keys vals p.own (state_after_children most k v keys vals w p st) (pos + keys_offset k)) ≤ values_offset most k v
     pub values_room : values_offset most k v + length (value_slots fit most k v knows keys vals p.own (state_after_children most k v keys vals w p st) (pos + values_offset most k v)) ≤ links_offset most k v
-    pub words_room : links_offset most k v + length (words most k v keys vals w p.kind p st pos) ≤ size_of_node most k v keys vals w p
+    pub words_room : links_offset most k v + length (words most k v keys vals p.kind (linked most k v keys vals w p st) (pos + links_offset most k v)) ≤ own_size most k v keys vals (linked most k v keys vals w p st)
 
   pub roomy : (p : Parted (A × B)) (st : State) (pos : ℕ) (each : EachEntrySpells fit most k v knows keys vals p.own) → length p.own ≤ most
       → KeysFit fit most k v knows keys vals p.own (state_after_children most k v keys vals w p st) (pos + keys_offset k)
       → ValuesFit fit most k v knows keys vals p.own (state_after_children most k v keys vals w p st) (pos + values_offset most k v)
-      → length (words most k v keys vals w p.kind p st pos) ≡ words_of p.kind most * 4
+      → length (words most k v keys vals p.kind (linked most k v keys vals w p st) (pos + links_offset most k v)) ≡ words_of p.kind most * 4
       → Roomy p st pos
   roomy p st pos each few f g e =
       let now = state_after_children most k v keys vals w p st in
@@ -139,7 +139,7 @@ module _ {A B R Q : Type 0} (fit : Fit) (most : ℕ) (k v : Shape) (knows : Name
 
   -- where a node ends
   pub node_end : (p : Parted (A × B)) (st : State) → Roomy p st (node_at most k v keys vals w p st)
-      → node_at most k v keys vals w p st + size_of_node most k v keys vals w p ≡ st.pos + length (node_piece most k v keys vals w p st)
+      → node_at most k v keys vals w p st + own_size most k v keys vals (linked most k v keys vals w p st) ≡ st.pos + length (node_piece most k v keys vals w p st)
   node_end p st r =
       let now = state_after_children most k v keys vals w p st in
       let mid = state_after_entries most k v keys vals w p st in
@@ -147,22 +147,22 @@ module _ {A B R Q : Type 0} (fit : Fit) (most : ℕ) (k v : Shape) (knows : Name
       let first = pieces w p.below st in
       let second = pieces (entry_spelling most k v keys vals) p.own now in
       let gap = zeros (pos - mid.pos) in
-      let own = node_bytes most k v keys vals w p st pos in
+      let own = own_bytes most k v keys vals (linked most k v keys vals w p st) (state_after_children most k v keys vals w p st) pos in
       let up = le_align_up mid.pos (link_node_align k v) in
       let size : length gap ≡ pos - mid.pos = length-replicate _ _ in
-      let whole_size : length own ≡ size_of_node most k v keys vals w p =
-      length-quarters (keys_offset k) (values_offset most k v) (links_offset most k v) (size_of_node most k v keys vals w p) p.kind
-      (key_slots fit most k v knows keys vals p.own now (pos + keys_offset k)) (value_slots fit most k v knows keys vals p.own now (pos + values_offset most k v)) (words most k v keys vals w p.kind p st pos)
+      let whole_size : length own ≡ own_size most k v keys vals (linked most k v keys vals w p st) =
+      length-quarters (keys_offset k) (values_offset most k v) (links_offset most k v) (own_size most k v keys vals (linked most k v keys vals w p st)) p.kind
+      (key_slots fit most k v knows keys vals p.own now (pos + keys_offset k)) (value_slots fit most k v knows keys vals p.own now (pos + values_offset most k v)) (words most k v keys vals p.kind (linked most k v keys vals w p st) (pos + links_offset most k v))
       (keys_behind_kind k) r.keys_room r.values_room r.words_room in
       omega (arith, children_pos p st, entries_pos p st, length-append first (second ++ (gap ++ own)), length-append second (gap ++ own), length-append gap own, size, whole_size, up)
 
-  pub node_quarters : (p : Parted (A × B)) (st : State) (bytes : List ℕ) (pos : ℕ) → Roomy p st pos → HasBytes bytes pos (node_bytes most k v keys vals w p st pos)
-      → Quarters bytes pos (keys_offset k) (values_offset most k v) (links_offset most k v) (size_of_node most k v keys vals w p) p.kind
+  pub node_quarters : (p : Parted (A × B)) (st : State) (bytes : List ℕ) (pos : ℕ) → Roomy p st pos → HasBytes bytes pos (own_bytes most k v keys vals (linked most k v keys vals w p st) (state_after_children most k v keys vals w p st) pos)
+      → Quarters bytes pos (keys_offset k) (values_offset most k v) (links_offset most k v) (own_size most k v keys vals (linked most k v keys vals w p st)) p.kind
       (key_slots fit most k v knows keys vals p.own (state_after_children most k v keys vals w p st) (pos + keys_offset k))
       (value_slots fit most k v knows keys vals p.own (state_after_children most k v keys vals w p st) (pos + values_offset most k v))
-      (words most k v keys vals w p.kind p st pos)
+      (words most k v keys vals p.kind (linked most k v keys vals w p st) (pos + links_offset most k v))
   node_quarters p st bytes pos r s =
-      quarters bytes pos (keys_offset k) (values_offset most k v) (links_offset most k v) (size_of_node most k v keys vals w p) p.kind _ _ _ (keys_behind_kind k) r.keys_room r.values_room r.words_room s
+      quarters bytes pos (keys_offset k) (values_offset most k v) (links_offset most k v) (own_size most k v keys vals (linked most k v keys vals w p st)) p.kind _ _ _ (keys_behind_kind k) r.keys_room r.values_room r.words_room s
 
   abbrev pub leaf_of : List (A × B) → Parted (A × B)
   leaf_of es = record { kind = 0; below = []; own = es }
@@ -186,7 +186,7 @@ module _ {A B R Q : Type 0} (fit : Fit) (most : ℕ) (k v : Shape) (knows : Name
       let p = leaf_of es in
       let mid = (state_after_all (entry_spelling most k v keys vals) es st).pos in
       let pos = node_at most k v keys vals w p st in
-      let room = roomy p st pos each few f.3.0 f.3.1 refl in
+      let room = roomy p st pos each few f.1.2.0 f.1.2.1 refl in
       let stands = node_stands p st bytes s in
       let q = node_quarters p st bytes pos room stands.own_stand in
       let end = node_end p st room in
@@ -194,11 +194,11 @@ module _ {A B R Q : Type 0} (fit : Fit) (most : ℕ) (k v : Shape) (knows : Name
       let forward = entries_pos p st in
       let c = leaf_content names bytes t most k v pos (length es) q.kind_stands q.words_stand small low few in
       let kind_is = first_byte bytes pos 0 q.kind_stands in
-      let ks = length-key-slots fit most k v knows keys vals es each st (pos + keys_offset k) f.3.0 in
-      let vs = length-value-slots fit most k v knows keys vals es each st (pos + values_offset most k v) f.3.1 in
+      let ks = length-key-slots fit most k v knows keys vals es each st (pos + keys_offset k) f.1.2.0 in
+      let vs = length-value-slots fit most k v knows keys vals es each st (pos + values_offset most k v) f.1.2.1 in
       let ps = entries (length es) k (pos + keys_offset k) v (pos + values_offset most k v) in
       let parts = entries_canonical fit most k v knows keys vals es each st (pos + keys_offset k) (pos + values_offset most k v) names given bytes (suc level) inside kn n known state
-      (from_earlier inside mid (st.pos + length (node_piece most k v keys vals w p st)) (omega (arith, end, up)) over) f.1 f.3.0 f.3.1 stands.entries_stand q.keys_stand q.values_stand in
+      (from_earlier inside mid (st.pos + length (node_piece most k v keys vals w p st)) (omega (arith, end, up)) over) f.1.0 f.1.2.0 f.1.2.1 stands.entries_stand q.keys_stand q.values_stand in
       let clean = clean_by names bytes (node t most k v pos) (claimed (node_span 1 most k v pos) whole ps) c
       (λ i o. ⊎_elim
       (λ here. inl (subst (λ z. InFieldOfNode z most k v pos i) (sym kind_is) (inl here)))
@@ -255,8 +255,8 @@ module _ {A B R Q : Type 0} (fit : Fit) (most : ℕ) (k v : Shape) (knows : Name
       let size = link_node_size (most + 1) most k v in
       let few : length es ≤ most = omega (arith, own_width) in
       let wide : length xss ≡ most + 1 = omega (arith, width) in
-      let links = length-links fit most k v knows keys vals l w xss st (pos + links_offset most k v) in
-      let room = roomy p st pos each few f.3.0 f.3.1 (links ∙ ap (λ z. z * 4) wide) in
+      let links = length-links-below fit most k v knows keys vals l w xss st (pos + links_offset most k v) in
+      let room = roomy p st pos each few f.1.2.0 f.1.2.1 (links ∙ ap (λ z. z * 4) wide) in
       let stands = node_stands p st bytes s in
       let q = node_quarters p st bytes pos room stands.own_stand in
       let end = node_end p st room in
@@ -265,8 +265,8 @@ module _ {A B R Q : Type 0} (fit : Fit) (most : ℕ) (k v : Shape) (knows : Name
       let further = entries_pos p st in
       let c = inner_content names bytes t most k v pos q.kind_stands (omega (arith, low)) in
       let kind_is = first_byte bytes pos 1 q.kind_stands in
-      let ks = length-key-slots fit most k v knows keys vals es each now (pos + keys_offset k) f.3.0 in
-      let vs = length-value-slots fit most k v knows keys vals es each now (pos + values_offset most k v) f.3.1 in
+      let ks = length-key-slots fit most k v knows keys vals es each now (pos + keys_offset k) f.1.2.0 in
+      let vs = length-value-slots fit most k v knows keys vals es each now (pos + values_offset most k v) f.1.2.1 in
       let cs = values w xss st in
       let os = values entry_w es now in
       let pointers = children (most + 1) (t + 1) most k v (pos + links_offset most k v) in
@@ -277,10 +277,10 @@ module _ {A B R Q : Type 0} (fit : Fit) (most : ℕ) (k v : Shape) (knows : Name
       let over_now : AllFrom now.pos inside = from_earlier inside now.pos mid (omega (arith, further)) over_mid in
       let later = children_keyed fit most k v knows keys vals l w xss below given st n known f.0 in
       let own_parts = entries_canonical fit most k v knows keys vals es each now (pos + keys_offset k) (pos + values_offset most k v) names given bytes (suc level) inside kn m later.1
-      (children_consistent fit most k v knows keys vals l w xss below st state f.0) over_mid f.1 f.3.0 f.3.1 stands.entries_stand q.keys_stand q.values_stand in
+      (children_consistent fit most k v knows keys vals l w xss below st state f.0) over_mid f.1.0 f.1.2.0 f.1.2.1 stands.entries_stand q.keys_stand q.values_stand in
       let all_parts = children_canonical fit most k v knows keys vals l w xss below st (pos + links_offset most k v) names given bytes (suc level) inside (t + 1)
       (entries (length es) k (pos + keys_offset k) v (pos + values_offset most k v)) os (visits_of (state_after_entries most k v keys vals w p st).met) mid
-      (omega (arith, low)) small kn n known state over_now f.0 f.3.2 (omega (arith, further, up)) stands.children_stand q.words_stand (omega (arith, further)) own_parts in
+      (omega (arith, low)) small kn n known state over_now f.0 f.1.2.2 (omega (arith, further, up)) stands.children_stand q.words_stand (omega (arith, further)) own_parts in
       let P : ℕ → ℕ → Type 0 = λ a b. CanonicalParts fit names bytes (suc level) inside (visits_of st.met) (visits_of (state_after_entries most k v keys vals w p st).met)
       (children a (t + 1) most k v (pos + links_offset most k v) ++ entries b k (pos + keys_offset k) v (pos + values_offset most k v)) (append_values cs os) st.pos mid in
       let parts = subst (P (most + 1)) own_width (subst (λ a. P a (length es)) wide all_parts) in

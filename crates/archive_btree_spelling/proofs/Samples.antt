@@ -55,18 +55,22 @@ six_fit =
           (
             (
               tt,
-              ((tt, (tt, tt)), tt),
-              (small 0 (omega arith), little 48 (omega arith)),
-              (((λ names pos. refl, refl, bytes_word 1), tt), ((λ names pos. refl, refl, bytes_word 11), tt), tt),
+              (
+                ((tt, (tt, tt)), tt),
+                (small 0 (omega arith), little 48 (omega arith)),
+                (((λ names pos. refl, refl, bytes_word 1), tt), ((λ names pos. refl, refl, bytes_word 11), tt), tt),
+              ),
             ),
             (tt, (tt, (tt, (tt, (tt, tt))))),
           ),
-          ((tt, (tt, tt)), ((tt, (tt, tt)), ((tt, (tt, tt)), ((tt, (tt, tt)), ((tt, (tt, tt)), tt))))),
-          (small 48 (omega arith), little 116 (omega arith)),
           (
-            ((λ names pos. refl, refl, bytes_word 2), ((λ names pos. refl, refl, bytes_word 3), ((λ names pos. refl, refl, bytes_word 4), ((λ names pos. refl, refl, bytes_word 5), ((λ names pos. refl, refl, bytes_word 6), tt))))),
-            ((λ names pos. refl, refl, bytes_word 12), ((λ names pos. refl, refl, bytes_word 13), ((λ names pos. refl, refl, bytes_word 14), ((λ names pos. refl, refl, bytes_word 15), ((λ names pos. refl, refl, bytes_word 16), tt))))),
-            (from_node, (tt, (tt, (tt, (tt, (tt, tt)))))),
+            ((tt, (tt, tt)), ((tt, (tt, tt)), ((tt, (tt, tt)), ((tt, (tt, tt)), ((tt, (tt, tt)), tt))))),
+            (small 48 (omega arith), little 116 (omega arith)),
+            (
+              ((λ names pos. refl, refl, bytes_word 2), ((λ names pos. refl, refl, bytes_word 3), ((λ names pos. refl, refl, bytes_word 4), ((λ names pos. refl, refl, bytes_word 5), ((λ names pos. refl, refl, bytes_word 6), tt))))),
+              ((λ names pos. refl, refl, bytes_word 12), ((λ names pos. refl, refl, bytes_word 13), ((λ names pos. refl, refl, bytes_word 14), ((λ names pos. refl, refl, bytes_word 15), ((λ names pos. refl, refl, bytes_word 16), tt))))),
+              (from_node, (tt, (tt, (tt, (tt, (tt, tt)))))),
+            ),
           ),
         ),
         tt,

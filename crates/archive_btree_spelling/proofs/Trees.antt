@@ -26,13 +26,13 @@ use Rattle.archive_shape_writing.specs.declared.error.Error.{Error}
 use Rattle.archive_forms_spelling.specs.State.{State, Keys, visits_of, IsConsistent, AllFrom, AreKeyedBy}
 use Rattle.archive_forms_spelling.specs.Spelling.{Spelling, state_after}
 use Rattle.archive_forms_spelling.specs.Spells.{CanonicalPart}
-use Rattle.archive_forms_spelling.specs.Regions.{state_after_all, values, plain_values, all_keyed_by, pieces, pieces_fit, pieces_refused}
+use Rattle.archive_forms_spelling.specs.Regions.{state_after_all, resolvers, values, plain_values, all_keyed_by, pieces, pieces_fit, pieces_refused}
 use Rattle.archive_forms_spelling.proofs.States.{from_earlier}
 use Rattle.archive_forms_spelling.proofs.Gaps.{bytes_none, bytes_append, bytes_word}
 use Rattle.archive_shape_pointers.specs.Offsets.{difference}
 use Rattle.archive_forms_spelling.proofs.Regions.{CanonicalParts, more_parts}
 use Rattle.archive_forms_spelling.proofs.Pointers.{offset_stands, one_part}
-use Rattle.archive_btree_spelling.specs.Written.{slots, AllSlots, AnySlot, entry_spelling, link_bytes, LinkFits, LinkRefused}
+use Rattle.archive_btree_spelling.specs.Written.{entry_spelling, link_bytes, LinkFits, LinkRefused, links, LinksFit, LinksRefused}
 
 -- the offset 1 leads one further
 target_of_one : (pos : ℕ) → target_from pos 1 ≡ Some (pos + 1)
@@ -70,6 +70,21 @@ link_small (Some to) pos = bytes_word (cast_unsigned w32 (difference pos to))
 pub link_exact : (o : Option ℕ) (pos : ℕ) (e : Error) → LinkFits o pos → LinkRefused o pos e → ⊥
 link_exact None pos e f r = r
 link_exact (Some to) pos e f r = r.0 f
+
+pub length-link : (o : Option ℕ) (pos : ℕ) → length (link_bytes o pos) ≡ 4
+length-link None pos = refl
+length-link (Some to) pos = refl
+
+-- ---- pointers side by side
+
+pub links_bytes : (roots : List (Option ℕ)) (pos : ℕ) → AreBytes (links roots pos)
+links_bytes [] pos = bytes_none
+links_bytes (to ∷ more) pos = bytes_append (link_bytes to pos) _ (link_small to pos) (links_bytes more (pos + 4))
+
+pub links_exact : (roots : List (Option ℕ)) (pos : ℕ) (e : Error) → LinksFit roots pos → LinksRefused roots pos e → ⊥
+links_exact [] pos e f r = r
+links_exact (to ∷ more) pos e f (inl r) = link_exact to pos e f.0 r
+links_exact (to ∷ more) pos e f (inr r) = links_exact more (pos + 4) e f.1 r
 
 -- a value is a group of so many items
 pub record Counted (n : ℕ) (value : Value) : Type 0 where
@@ -128,23 +143,13 @@ module _ {A B R Q : Type 0} (fit : Fit) (most : ℕ) (k v : Shape) (knows : Name
     AllSmall [] = ⊤
     AllSmall (xs ∷ xss) = (length xs < 2 ^ 32) × AllSmall xss
 
-    abbrev pub LinksFit : List (List (A × B)) → State → ℕ → Type 0
-    LinksFit xss st pos = AllSlots (state_after w) 4 (λ xs then here. LinkFits (w.resolver xs then) here) xss st pos
-
-    abbrev pub link_slots : List (List (A × B)) → State → ℕ → List ℕ
-    link_slots xss st pos = slots (state_after w) 4 (λ xs now here. link_bytes (w.resolver xs now) here) xss st pos
-
-    pub length-link : (o : Option ℕ) (pos : ℕ) → length (link_bytes o pos) ≡ 4
-    length-link None pos = refl
-    length-link (Some to) pos = refl
-
-    pub length-links : (xss : List (List (A × B))) (st : State) (pos : ℕ) → length (link_slots xss st pos) ≡ length xss * 4
-    length-links [] st pos = omega arith
-    length-links (xs ∷ xss) st pos =
+    pub length-links-below : (xss : List (List (A × B))) (st : State) (pos : ℕ) → length (links (resolvers w xss st) pos) ≡ length xss * 4
+    length-links-below [] st pos = omega arith
+    length-links-below (xs ∷ xss) st pos =
         let then = state_after w xs st in
-        let rest = length-links xss then (pos + 4) in
+        let rest = length-links-below xss then (pos + 4) in
         let first = length-link (w.resolver xs st) pos in
-        length-append (link_bytes (w.resolver xs st) pos) (link_slots xss then (pos + 4)) ∙ omega (arith, first, rest)
+        length-append (link_bytes (w.resolver xs st) pos) (links (resolvers w xss then) (pos + 4)) ∙ omega (arith, first, rest)
 
     pub children_after_pos : (xss : List (List (A × B))) (st : State) → (state_after_all w xss st).pos ≡ st.pos + length (pieces w xss st)
     children_after_pos [] st = sym (add-zero st.pos)
@@ -166,16 +171,6 @@ module _ {A B R Q : Type 0} (fit : Fit) (most : ℕ) (k v : Shape) (knows : Name
     children_exact [] each st e f r = r
     children_exact (xs ∷ xss) each st e f (inl r) = each.0.piece_exact st e f.0 r
     children_exact (xs ∷ xss) each st e f (inr r) = children_exact xss each.1 (state_after w xs st) e f.1 r
-
-    pub links_bytes : (xss : List (List (A × B))) (st : State) (pos : ℕ) → AreBytes (link_slots xss st pos)
-    links_bytes [] st pos = bytes_none
-    links_bytes (xs ∷ xss) st pos = bytes_append (link_bytes (w.resolver xs st) pos) _ (link_small (w.resolver xs st) pos) (links_bytes xss (state_after w xs st) (pos + 4))
-
-    pub links_exact : (xss : List (List (A × B))) (st : State) (pos : ℕ) (e : Error) → LinksFit xss st pos
-        → AnySlot (state_after w) 4 (λ xs then here. LinkRefused (w.resolver xs then) here e) xss st pos → ⊥
-    links_exact [] st pos e f r = r
-    links_exact (xs ∷ xss) st pos e f (inl r) = link_exact (w.resolver xs st) pos e f.0 r
-    links_exact (xs ∷ xss) st pos e f (inr r) = links_exact xss (state_after w xs st) (pos + 4) e f.1 r
 
     -- what each pointer leads to, as a value without positions
     abbrev pub plain_children : List (List (A × B)) → Values
@@ -259,10 +254,10 @@ module _ {A B R Q : Type 0} (fit : Fit) (most : ℕ) (k v : Shape) (knows : Name
         → IsConsistent st
         → AllFrom (state_after_all w xss st).pos inside
         → pieces_fit w xss st
-        → LinksFit xss st pos
+        → LinksFit (resolvers w xss st) pos
         → (state_after_all w xss st).pos ≤ pos
         → HasBytes bytes st.pos (pieces w xss st)
-        → HasBytes bytes pos (link_slots xss st pos)
+        → HasBytes bytes pos (links (resolvers w xss st) pos)
         → (state_after_all w xss st).pos ≤ high
         → CanonicalParts fit names bytes level inside (visits_of (state_after_all w xss st).met) after others vs (state_after_all w xss st).pos high
         → CanonicalParts fit names bytes level inside (visits_of st.met) after (children (length xss) t most k v pos ++ others) (append_values (values w xss st) vs) st.pos high
@@ -276,7 +271,7 @@ module _ {A B R Q : Type 0} (fit : Fit) (most : ℕ) (k v : Shape) (knows : Name
         let more : then.pos ≤ end = let e = children_after_pos xss then in omega arith in
         let size : pos + length link ≡ pos + 4 = ap (λ z. pos + z) (length-link (w.resolver xs st) pos) in
         let first = child_canonical xs each.0 st pos names given bytes level inside t low small.0 kn n.0 known state (from_earlier inside then.pos end more over) f.0 o.0 (omega (arith, more, behind))
-        (stands_left bytes st.pos piece (pieces w xss then) p) (stands_left bytes pos link (link_slots xss then (pos + 4)) q) in
+        (stands_left bytes st.pos piece (pieces w xss then) p) (stands_left bytes pos link (links (resolvers w xss then) (pos + 4)) q) in
         let rest = children_canonical xss each.1 then (pos + 4) names given bytes level inside t others vs after high low small.1 kn n.1 (each.0.keyed given st n.0 known f.0).1 (each.0.consistent st state f.0) over f.1 o.1 (omega (arith, behind))
-        (stands_right bytes st.pos piece (pieces w xss then) then.pos refl p) (stands_right bytes pos link (link_slots xss then (pos + 4)) (pos + 4) size q) up tail in
+        (stands_right bytes st.pos piece (pieces w xss then) then.pos refl p) (stands_right bytes pos link (links (resolvers w xss then) (pos + 4)) (pos + 4) size q) up tail in
         more_parts (visits_of st.met) (visits_of then.met) after (child t most k v pos) (children (length xss) t most k v (pos + 4) ++ others) (w.value xs st) (append_values (values w xss then) vs) st.pos then.pos high (omega arith) (omega (arith, more, up)) first rest

@@ -13,7 +13,7 @@ use Rattle.archive_shape_writing.specs.declared.error.Error.TheVariants.{IsizeOv
 use Rattle.archive_forms_spelling.specs.State.{State, Met}
 use Rattle.archive_forms_spelling.specs.Spelling.{Spelling, state_after}
 use Rattle.archive_forms_spelling.specs.Fields.{tuple2_spelling}
-use Rattle.archive_forms_spelling.specs.Regions.{state_after_all, values, plain_values, all_keyed_by, pieces, pieces_fit, pieces_refused}
+use Rattle.archive_forms_spelling.specs.Regions.{state_after_all, values, resolvers, plain_values, all_keyed_by, pieces, pieces_fit, pieces_refused}
 use Rattle.archive_shape_pointers.specs.Offsets.{FitsOffset, offset_bytes}
 use Rattle.archive_btree_spelling.specs.Parted.{Parted, parted}
 
@@ -31,6 +31,19 @@ LinkFits (Some to) pos = FitsOffset pos to
 abbrev pub LinkRefused : Option ℕ → ℕ → Error → Type 0
 LinkRefused None pos e = ⊥
 LinkRefused (Some to) pos e = (FitsOffset pos to → ⊥) × (e ≡ IsizeOverflow)
+
+-- pointers side by side, the first at a position
+abbrev pub links : List (Option ℕ) → ℕ → List ℕ
+links [] pos = []
+links (to ∷ more) pos = link_bytes to pos ++ links more (pos + 4)
+
+abbrev pub LinksFit : List (Option ℕ) → ℕ → Type 0
+LinksFit [] pos = ⊤
+LinksFit (to ∷ more) pos = LinkFits to pos × LinksFit more (pos + 4)
+
+abbrev pub LinksRefused : List (Option ℕ) → ℕ → Error → Type 0
+LinksRefused [] pos e = ⊥
+LinksRefused (to ∷ more) pos e = LinkRefused to pos e ⊎ LinksRefused more (pos + 4) e
 
 -- ---- slots
 
@@ -55,6 +68,13 @@ filled n bs = bs ++ zeros (n - length bs)
 
 -- ---- nodes
 
+-- a node: its kind, 0 for a leaf and 1 for an inner node, where each of its pointers leads, and its own items; a leaf has
+-- no pointers
+pub record Linked (C : Type 0) : Type 0 where
+  pub kind : ℕ
+  pub roots : List (Option ℕ)
+  pub own : List C
+
 -- the items of a node are those below its pointers and its own in turn; a leaf has only its own
 abbrev pub woven : ℕ → Values → Values → Values
 woven zero cs es = es
@@ -71,81 +91,91 @@ module _ {A B R Q : Type 0} (most : ℕ) (k v : Shape) (keys : Spelling A R) (va
   abbrev pub value_own : A × B → State → ℕ → List ℕ
   value_own x st pos = vals.own x.1 (vals.resolver x.1 (state_after keys x.0 st)) pos
 
-  -- with the spelling of what is below a pointer, whose resolver is the position of its root
+  -- ---- a node, behind the data of its entries, which is written from a state on
+
+  abbrev pub state_after_own : Linked (A × B) → State → State
+  state_after_own n st = state_after_all entry_spelling n.own st
+
+  -- it stands at the next position of its alignment
+  abbrev pub own_at : Linked (A × B) → State → ℕ
+  own_at n st = align_up (state_after_own n st).pos (link_node_align k v)
+
+  abbrev pub own_size : Linked (A × B) → ℕ
+  own_size n = link_node_size (words_of n.kind most) most k v
+
+  -- a leaf's length, or an inner node's pointers, from a position on
+  abbrev pub words : ℕ → Linked (A × B) → ℕ → List ℕ
+  words zero n pos = to_le_bytes w32 (length n.own)
+  words (suc kind) n pos = links n.roots pos
+
+  -- the bytes of a node at a position: its kind, the keys, the values, and its length or pointers, each from its offset on
+  abbrev pub own_bytes : Linked (A × B) → State → ℕ → List ℕ
+  own_bytes n st pos =
+      let of_keys = slots (state_after entry_spelling) (size_of k) key_own n.own st (pos + keys_offset k) in
+      let of_values = slots (state_after entry_spelling) (size_of v) value_own n.own st (pos + values_offset most k v) in
+      filled (keys_offset k) (n.kind ∷ [])
+      ++ (filled (values_offset most k v - keys_offset k) of_keys
+      ++ (filled (links_offset most k v - values_offset most k v) of_values
+      ++ filled (own_size n - links_offset most k v) (words n.kind n (pos + links_offset most k v))))
+
+  abbrev pub own_piece : Linked (A × B) → State → List ℕ
+  own_piece n st =
+      pieces entry_spelling n.own st ++ (zeros (own_at n st - (state_after_own n st).pos) ++ own_bytes n st (own_at n st))
+
+  -- ---- limits of a node
+
+  -- it begins before position 2^32 and ends before position 2^64
+  abbrev pub IsPlaced : Linked (A × B) → ℕ → Type 0
+  IsPlaced n pos = (pos < 2 ^ 32) × (pos + own_size n < 2 ^ 64)
+
+  -- the own bytes of its entries and its pointers, where it stands at a position
+  abbrev pub slots_fit : Linked (A × B) → State → ℕ → Type 0
+  slots_fit n st pos =
+      AllSlots (state_after entry_spelling) (size_of k) (λ x then at. keys.own_fits x.0 (keys.resolver x.0 then) at) n.own st (pos + keys_offset k)
+      × AllSlots (state_after entry_spelling) (size_of v) (λ x then at. vals.own_fits x.1 (vals.resolver x.1 (state_after keys x.0 then)) at) n.own st (pos + values_offset most k v)
+      × LinksFit n.roots (pos + links_offset most k v)
+
+  abbrev pub slots_refused : Linked (A × B) → State → ℕ → Error → Type 0
+  slots_refused n st pos e =
+      AnySlot (state_after entry_spelling) (size_of k) (λ x then at. keys.own_refused x.0 (keys.resolver x.0 then) at e) n.own st (pos + keys_offset k)
+      ⊎ (AnySlot (state_after entry_spelling) (size_of v) (λ x then at. vals.own_refused x.1 (vals.resolver x.1 (state_after keys x.0 then)) at e) n.own st (pos + values_offset most k v)
+      ⊎ LinksRefused n.roots (pos + links_offset most k v) e)
+
+  abbrev pub own_fits : Linked (A × B) → State → Type 0
+  own_fits n st = pieces_fit entry_spelling n.own st × IsPlaced n (own_at n st) × slots_fit n st (own_at n st)
+
+  abbrev pub own_refused : Linked (A × B) → State → Error → Type 0
+  own_refused n st e =
+      pieces_refused entry_spelling n.own st e
+      ⊎ (((IsPlaced n (own_at n st) → ⊥) × (e ≡ PositionTooLarge)) ⊎ slots_refused n st (own_at n st) e)
+
+  -- ---- with the spelling of what is below a pointer, whose resolver is the position of its root: first that, and then
+  -- the node
+
   module _ (child : Spelling (List (A × B)) (Option ℕ)) where
     abbrev pub state_after_children : Parted (A × B) → State → State
     state_after_children p st = state_after_all child p.below st
 
+    abbrev pub linked : Parted (A × B) → State → Linked (A × B)
+    linked p st = record { kind = p.kind; roots = resolvers child p.below st; own = p.own }
+
     abbrev pub state_after_entries : Parted (A × B) → State → State
-    state_after_entries p st = state_after_all entry_spelling p.own (state_after_children p st)
+    state_after_entries p st = state_after_own (linked p st) (state_after_children p st)
 
-    -- the node stands at the next position of its alignment
     abbrev pub node_at : Parted (A × B) → State → ℕ
-    node_at p st = align_up (state_after_entries p st).pos (link_node_align k v)
-
-    abbrev pub size_of_node : Parted (A × B) → ℕ
-    size_of_node p = link_node_size (words_of p.kind most) most k v
-
-    -- a leaf's length, or an inner node's pointers, of a node at a position
-    abbrev pub words : ℕ → Parted (A × B) → State → ℕ → List ℕ
-    words zero p st pos = to_le_bytes w32 (length p.own)
-    words (suc kind) p st pos =
-        slots (state_after child) 4 (λ xs now at. link_bytes (child.resolver xs now) at) p.below st (pos + links_offset most k v)
-
-    -- the bytes of a node at a position: its kind, the keys, the values, and its length or pointers, each from its offset on
-    abbrev pub node_bytes : Parted (A × B) → State → ℕ → List ℕ
-    node_bytes p st pos =
-        let now = state_after_children p st in
-        let of_keys = slots (state_after entry_spelling) (size_of k) key_own p.own now (pos + keys_offset k) in
-        let of_values = slots (state_after entry_spelling) (size_of v) value_own p.own now (pos + values_offset most k v) in
-        filled (keys_offset k) (p.kind ∷ [])
-        ++ (filled (values_offset most k v - keys_offset k) of_keys
-        ++ (filled (links_offset most k v - values_offset most k v) of_values
-        ++ filled (size_of_node p - links_offset most k v) (words p.kind p st pos)))
+    node_at p st = own_at (linked p st) (state_after_children p st)
 
     abbrev pub node_piece : Parted (A × B) → State → List ℕ
-    node_piece p st =
-        pieces child p.below st
-        ++ (pieces entry_spelling p.own (state_after_children p st)
-        ++ (zeros (node_at p st - (state_after_entries p st).pos) ++ node_bytes p st (node_at p st)))
+    node_piece p st = pieces child p.below st ++ own_piece (linked p st) (state_after_children p st)
 
     abbrev pub node_values : Parted (A × B) → State → Values
     node_values p st = woven p.kind (values child p.below st) (values entry_spelling p.own (state_after_children p st))
 
-    -- ---- limits of a node
-
-    -- the own bytes of its entries and its pointers, where it stands at a position
-    abbrev pub slots_fit : Parted (A × B) → State → ℕ → Type 0
-    slots_fit p st pos =
-        let now = state_after_children p st in
-        AllSlots (state_after entry_spelling) (size_of k) (λ x then at. keys.own_fits x.0 (keys.resolver x.0 then) at) p.own now (pos + keys_offset k)
-        × AllSlots (state_after entry_spelling) (size_of v) (λ x then at. vals.own_fits x.1 (vals.resolver x.1 (state_after keys x.0 then)) at) p.own now (pos + values_offset most k v)
-        × AllSlots (state_after child) 4 (λ xs then at. LinkFits (child.resolver xs then) at) p.below st (pos + links_offset most k v)
-
-    abbrev pub slots_refused : Parted (A × B) → State → ℕ → Error → Type 0
-    slots_refused p st pos e =
-        let now = state_after_children p st in
-        AnySlot (state_after entry_spelling) (size_of k) (λ x then at. keys.own_refused x.0 (keys.resolver x.0 then) at e) p.own now (pos + keys_offset k)
-        ⊎ (AnySlot (state_after entry_spelling) (size_of v) (λ x then at. vals.own_refused x.1 (vals.resolver x.1 (state_after keys x.0 then)) at e) p.own now (pos + values_offset most k v)
-        ⊎ AnySlot (state_after child) 4 (λ xs then at. LinkRefused (child.resolver xs then) at e) p.below st (pos + links_offset most k v))
-
-    -- it begins before position 2^32 and ends before position 2^64
-    abbrev pub IsPlaced : Parted (A × B) → ℕ → Type 0
-    IsPlaced p pos = (pos < 2 ^ 32) × (pos + size_of_node p < 2 ^ 64)
-
     abbrev pub node_fits : Parted (A × B) → State → Type 0
-    node_fits p st =
-        pieces_fit child p.below st
-        × pieces_fit entry_spelling p.own (state_after_children p st)
-        × IsPlaced p (node_at p st)
-        × slots_fit p st (node_at p st)
+    node_fits p st = pieces_fit child p.below st × own_fits (linked p st) (state_after_children p st)
 
     abbrev pub node_refused : Parted (A × B) → State → Error → Type 0
-    node_refused p st e =
-        pieces_refused child p.below st e
-        ⊎ (pieces_refused entry_spelling p.own (state_after_children p st) e
-        ⊎ (((IsPlaced p (node_at p st) → ⊥) × (e ≡ PositionTooLarge))
-        ⊎ slots_refused p st (node_at p st) e))
+    node_refused p st e = pieces_refused child p.below st e ⊎ own_refused (linked p st) (state_after_children p st) e
 
     -- ---- what stands below a pointer: nothing where there are no items, else the node of the items
 
