@@ -1,5 +1,6 @@
 -- A tree that the layout holds is read by levels, node by node.
 use Rattle.std.proofs.Common.{◌≡◌, ◌∙◌, ℕ, zero, suc, ◌+◌, ◌-◌, ◌*◌, ◌<◌, ◌≤◌, Bool, true, false, cond, ◌==◌, ◌&&◌, nat_le, List, [], ◌∷◌, ◌++◌, length, drop, take, Option, Some, None, refl, ap, sym, subst, arith, leb-true, eqb-true, eq-eqb, get_or-drop, get_or-take, add_assoc}
+use Rattle.std.proofs.Math.Nat.{mul-le-mul_right}
 use Rattle.std.specs.Prelude.{⊤, slice_index}
 use Rattle.archive_shape_layout.specs.Bytes.{window, word_at, target_from}
 use Rattle.archive_shape_layout.specs.Shape.{Shape, size_of}
@@ -14,7 +15,8 @@ use Rattle.archive_shape_layout.specs.Holds.{Region, region_of, Visit, OpenShare
 use Rattle.archive_shape_layout.specs.Holds.Holds.{holds_plain, holds_claimed, holds_first, holds_later, holds_back}
 use Rattle.archive_shape_layout.specs.Holds.HoldAll.{holds_none, holds_more}
 use Rattle.archive_shape_layout.proofs.Ascent.{Ascends-append}
-use Rattle.archive_shape_layout.proofs.Framed.{links_fit}
+use Rattle.archive_shape_layout.proofs.Evaluated.{ascends_below, ascends_lowered, ascends_raised}
+use Rattle.archive_shape_layout.proofs.Framed.{keys_fit, values_fit, links_fit}
 use Rattle.archive_btree_layout.specs.Tree.{Tree, Branches, items, items_of}
 use Rattle.archive_btree_layout.specs.Tree.Tree.{absent, leaf, inner}
 use Rattle.archive_btree_layout.specs.Tree.Branches.{greater, lesser}
@@ -107,13 +109,13 @@ kind_of bytes pos = let e = get_or-drop pos bytes 0 0 in let z : pos + 0 ≡ pos
 
 -- ---- a node, where the nodes below it are read
 
--- a claimed region lies in the buffer, and what it claims ascends
+-- a claimed region lies in the buffer, and what it claims ascends before it
 region_inside : (low high : ℕ) (rs within : List Region) (s : Span) (level : ℕ) → rs ≡ within ++ region_of s level ∷ [] → Ascends low high rs
-    → Ascends low high within × (s.start + s.size ≤ high)
+    → Ascends low s.start within × (s.start + s.size ≤ high)
 unfolding Ascends
 region_inside low high rs within s level e a =
     let b = (Ascends-append low high within (region_of s level ∷ [])).0 (subst (Ascends low high) e a) in
-    (b.0, b.1.0.inside)
+    (ascends_below low high s.start within b.0 b.1.0.after, b.1.0.inside)
 
 pub ascends_first : (low high : ℕ) (rs here later : List Region) → rs ≡ here ++ later → Ascends low high rs → Ascends low high here × Ascends (end_after low here) high later
 ascends_first low high rs here later e a = (Ascends-append low high here later).0 (subst (Ascends low high) e a)
@@ -128,17 +130,19 @@ pairs_append names bytes k v (p ∷ ps) qs no_values ws a b = absurd a
 pairs_append names bytes k v (p ∷ ps) qs (more_values u us) ws a b = (a.0, pairs_append names bytes k v ps qs us ws a.1 b)
 
 module _ (names : Names) (bytes : List ℕ) (k v : Shape) where
-  two_held : {depth : ℕ} {inside : List OpenShared} (key place : ℕ) {vs : Values} {rs : List Region} {before after : List Visit} (low : ℕ)
-      → HoldAll names bytes depth inside (at key k ∷ (at place v ∷ [])) vs rs before after → Ascends low (length bytes) rs
+  two_held : {depth : ℕ} {inside : List OpenShared} (key place : ℕ) {vs : Values} {rs : List Region} {before after : List Visit} (low high : ℕ)
+      → high ≤ key → high ≤ place → key + size_of k ≤ length bytes → place + size_of v ≤ length bytes
+      → HoldAll names bytes depth inside (at key k ∷ (at place v ∷ [])) vs rs before after → Ascends low high rs
       → IsPair names bytes k v (record { key = key; value = place }) (group vs)
-  two_held {depth} {inside} key place {rs = rs} {before = before} {after = after} low (holds_more {v = u} {here = here} {later = later} {between = between} h (holds_more {v = w} {vs = xs} {here = there} {later = rest} {between = middle} g (holds_none x y z) e f) c d) a =
-      let first = ascends_first low (length bytes) rs here later d a in
-      let second = ascends_first (end_after low here) (length bytes) later there rest f first.1 in
+  two_held {depth} {inside} key place {rs = rs} {before = before} {after = after} low high below_key below_place key_room place_room
+      (holds_more {v = u} {here = here} {later = later} {between = between} h (holds_more {v = w} {vs = xs} {here = there} {later = rest} {between = middle} g (holds_none x y z) e f) c d) a =
+      let first = ascends_first low high rs here later d a in
+      let second = ascends_first (end_after low here) high later there rest f first.1 in
       record {
         key = u;
         value = w;
-        key_held = record { depth = depth; inside = inside; regions = here; before = before; after = between; low = low; holds = h; ascends = first.0 };
-        value_held = record { depth = depth; inside = inside; regions = there; before = between; after = middle; low = end_after low here; holds = g; ascends = second.0 };
+        key_held = record { depth = depth; inside = inside; regions = here; before = before; after = between; own_within = key_room; ascends = ascends_lowered 0 low key here (omega arith) (ascends_raised low high key here below_key first.0); holds = h };
+        value_held = record { depth = depth; inside = inside; regions = there; before = between; after = middle; own_within = place_room; ascends = ascends_lowered 0 (end_after low here) place there (omega arith) (ascends_raised (end_after low here) high place there below_place second.0); holds = g };
         is = cc;
       }
 
@@ -146,28 +150,31 @@ module _ (names : Names) (bytes : List ℕ) (k v : Shape) where
   unfolding made
   whole_is l vs value e m = let n : made whole vs ≡ Some value = subst (λ x. made x vs ≡ Some value) e m in cc
 
-  entry_held : {depth : ℕ} {inside : List OpenShared} (key place : ℕ) {value : Value} {rs : List Region} {before after : List Visit} (low : ℕ)
-      → Holds names bytes depth inside (entry k key v place) value rs before after → Ascends low (length bytes) rs
+  entry_held : {depth : ℕ} {inside : List OpenShared} (key place : ℕ) {value : Value} {rs : List Region} {before after : List Visit} (low high : ℕ)
+      → high ≤ key → high ≤ place → key + size_of k ≤ length bytes → place + size_of v ≤ length bytes
+      → Holds names bytes depth inside (entry k key v place) value rs before after → Ascends low high rs
       → IsPair names bytes k v (record { key = key; value = place }) value
-  entry_held {depth} {inside} key place {value} {rs} {before} {after} low (holds_plain {l = l} {ps = ps} {vs = vs} e legal all m) a =
+  entry_held {depth} {inside} key place {value} {rs} {before} {after} low high below_key below_place key_room place_room (holds_plain {l = l} {ps = ps} {vs = vs} e legal all m) a =
       let parts : ps ≡ at key k ∷ (at place v ∷ []) = cc in
       let label : l ≡ whole = cc in
-      let p = two_held key place low (subst (λ qs. HoldAll names bytes depth inside qs vs rs before after) parts all) a in
+      let p = two_held key place low high below_key below_place key_room place_room (subst (λ qs. HoldAll names bytes depth inside qs vs rs before after) parts all) a in
       subst (IsPair names bytes k v (record { key = key; value = place })) (sym (whole_is l vs value label m)) p
-  entry_held key place low (holds_claimed e legal all m r) a = absurd cc
-  entry_held key place low (holds_first e b c d f g) a = absurd cc
-  entry_held key place low (holds_later e b c d f g) a = absurd cc
-  entry_held key place low (holds_back e b c d f) a = absurd cc
+  entry_held key place low high below_key below_place key_room place_room (holds_claimed e legal all m r) a = absurd cc
+  entry_held key place low high below_key below_place key_room place_room (holds_first e b c d f g) a = absurd cc
+  entry_held key place low high below_key below_place key_room place_room (holds_later e b c d f g) a = absurd cc
+  entry_held key place low high below_key below_place key_room place_room (holds_back e b c d f) a = absurd cc
 
-  entries_held : (n : ℕ) {depth : ℕ} {inside : List OpenShared} (key place : ℕ) {vs : Values} {rs : List Region} {before after : List Visit} (low : ℕ)
-      → HoldAll names bytes depth inside (entries n k key v place) vs rs before after → Ascends low (length bytes) rs
+  -- entries behind what they claim
+  entries_held : (n : ℕ) {depth : ℕ} {inside : List OpenShared} (key place : ℕ) {vs : Values} {rs : List Region} {before after : List Visit} (low high : ℕ)
+      → high ≤ key → high ≤ place → key + n * size_of k ≤ length bytes → place + n * size_of v ≤ length bytes
+      → HoldAll names bytes depth inside (entries n k key v place) vs rs before after → Ascends low high rs
       → ArePairs names bytes k v (places n k key v place) vs
   unfolding entries
-  entries_held zero key place low (holds_none e f g) a = subst (ArePairs names bytes k v []) (sym e) tt
-  entries_held (suc n) key place low (holds_more {v = u} {vs = us} {here = here} {later = later} {regions = rs} h all e f) a =
-      let both = ascends_first low (length bytes) rs here later f a in
-      let pair = entry_held key place low h both.0 in
-      let rest = entries_held n (key + size_of k) (place + size_of v) (end_after low here) all both.1 in
+  entries_held zero key place low high below_key below_place key_room place_room (holds_none e f g) a = subst (ArePairs names bytes k v []) (sym e) tt
+  entries_held (suc n) key place low high below_key below_place key_room place_room (holds_more {v = u} {vs = us} {here = here} {later = later} {regions = rs} h all e f) a =
+      let both = ascends_first low high rs here later f a in
+      let pair = entry_held key place low high below_key below_place (omega (arith, key_room)) (omega (arith, place_room)) h both.0 in
+      let rest = entries_held n (key + size_of k) (place + size_of v) (end_after low here) high (omega (arith, below_key)) (omega (arith, below_place)) (omega (arith, key_room)) (omega (arith, place_room)) all both.1 in
       subst (ArePairs names bytes k v (record { key = key; value = place } ∷ places n k (key + size_of k) v (place + size_of v))) (sym e) (pair, rest)
 
 module _ (names : Names) (bytes : List ℕ) (most : ℕ) (k v : Shape) where
@@ -257,7 +264,7 @@ module _ (names : Names) (bytes : List ℕ) (most : ℕ) (k v : Shape) where
   child_held {level = level} {link = link} low read (holds_back e b c d f) a = absurd (subst IsPlain e (child_is_plain level most k v link (window bytes link 4)))
 
   -- children from a pointer on: what is read of them, woven with the entries, and the parts behind them
-  pub record ReadBranches (depth : ℕ) (inside : List OpenShared) (n level link key place : ℕ) (es : List Part) (vs : Values) : Type 0 where
+  pub record ReadBranches (high : ℕ) (depth : ℕ) (inside : List OpenShared) (n level link key place : ℕ) (es : List Part) (vs : Values) : Type 0 where
     pub branches : Branches Place
     pub stand : HasBranches bytes most k v n level link key place branches
     pub woven_pairs : (ws : Values) → ArePairs names bytes k v (places n k key v place) ws → ArePairs names bytes k v (items_of branches) (weave (first_values (suc n) vs) ws)
@@ -266,7 +273,7 @@ module _ (names : Names) (bytes : List ℕ) (most : ℕ) (k v : Shape) where
     pub before : List Visit
     pub after : List Visit
     pub rest : HoldAll names bytes depth inside es (other_values (suc n) vs) regions before after
-    pub ascends : Ascends low (length bytes) regions
+    pub ascends : Ascends low high regions
 
   last_woven : (tree : Tree Place) (c : Value) (us : Values) → ArePairs names bytes k v (items tree) (members c) → (ws : Values) → ArePairs names bytes k v [] ws
       → ArePairs names bytes k v (items tree) (weave (first_values 1 (more_values c us)) ws)
@@ -281,15 +288,16 @@ module _ (names : Names) (bytes : List ℕ) (most : ℕ) (k v : Shape) where
   more_woven n tree c us p ps bs here there (more_values w ws) q =
       pairs_append names bytes k v (items tree) (p ∷ items_of bs) (members c) (more_values w (weave (first_values (suc n) us) ws)) here (q.0, there ws q.1)
 
-  branches_held : (n : ℕ) {depth : ℕ} {inside : List OpenShared} {level link : ℕ} (key place : ℕ) (es : List Part) {vs : Values} {rs : List Region} {before after : List Visit} (low : ℕ)
+  branches_held : (n : ℕ) {depth : ℕ} {inside : List OpenShared} {level link : ℕ} (key place : ℕ) (es : List Part) {vs : Values} {rs : List Region} {before after : List Visit} (low high : ℕ)
       → Reads level
-      → HoldAll names bytes depth inside (children (suc n) level most k v link ++ es) vs rs before after → Ascends low (length bytes) rs
-      → ReadBranches depth inside n level link key place es vs
+      → high ≤ length bytes
+      → HoldAll names bytes depth inside (children (suc n) level most k v link ++ es) vs rs before after → Ascends low high rs
+      → ReadBranches high depth inside n level link key place es vs
   unfolding children
-  branches_held zero {depth} {inside} {level} {link} key place es {after = after} low read (holds_more {v = u} {vs = us} {here = here} {later = later} {regions = rs} {between = between} h all e f) a =
-      let both = ascends_first low (length bytes) rs here later f a in
-      let c = child_held low read h both.0 in
-      subst (ReadBranches depth inside zero level link key place es) (sym e)
+  branches_held zero {depth} {inside} {level} {link} key place es {after = after} low high read top (holds_more {v = u} {vs = us} {here = here} {later = later} {regions = rs} {between = between} h all e f) a =
+      let both = ascends_first low high rs here later f a in
+      let c = child_held low read h (ascends_raised low high (length bytes) here top both.0) in
+      subst (ReadBranches high depth inside zero level link key place es) (sym e)
       (record {
         branches = greater c.tree;
         stand = has_greater refl c.child refl;
@@ -301,11 +309,11 @@ module _ (names : Names) (bytes : List ℕ) (most : ℕ) (k v : Shape) where
         rest = all;
         ascends = both.1;
       })
-  branches_held (suc n) {depth} {inside} {level} {link} key place es low read (holds_more {v = u} {vs = us} {here = here} {later = later} {regions = rs} h all e f) a =
-      let both = ascends_first low (length bytes) rs here later f a in
-      let c = child_held low read h both.0 in
-      let r = branches_held n (key + size_of k) (place + size_of v) es (end_after low here) read all both.1 in
-      subst (ReadBranches depth inside (suc n) level link key place es) (sym e)
+  branches_held (suc n) {depth} {inside} {level} {link} key place es low high read top (holds_more {v = u} {vs = us} {here = here} {later = later} {regions = rs} h all e f) a =
+      let both = ascends_first low high rs here later f a in
+      let c = child_held low read h (ascends_raised low high (length bytes) here top both.0) in
+      let r = branches_held n (key + size_of k) (place + size_of v) es (end_after low here) high read top all both.1 in
+      subst (ReadBranches high depth inside (suc n) level link key place es) (sym e)
       (record {
         branches = lesser c.tree (record { key = key; value = place }) r.branches;
         stand = has_lesser refl c.child r.stand refl;
@@ -337,7 +345,7 @@ module _ (names : Names) (bytes : List ℕ) (most : ℕ) (k v : Shape) where
   leaf_read : (level pos : ℕ) {depth : ℕ} {inside : List OpenShared} {vs : Values} {value : Value} {within : List Region} {before after : List Visit} (low : ℕ) (s : Span) (l : Label) (ps : List Part) → slice_index bytes pos ≡ 0
       → node_content level most k v pos zero (window bytes pos (link_node_size 1 most k v)) ≡ claimed s l ps
       → s.start + s.size ≤ length bytes → made l vs ≡ Some value
-      → HoldAll names bytes depth inside ps vs within before after → Ascends low (length bytes) within
+      → HoldAll names bytes depth inside ps vs within before after → Ascends low s.start within
       → ReadNode level pos value
   unfolding node_content
   leaf_read level pos {depth} {inside} {vs} {value} {within} {before} {after} low s l ps z e fits m all a =
@@ -351,16 +359,21 @@ module _ (names : Names) (bytes : List ℕ) (most : ℕ) (k v : Shape) where
       let le : word_at own (links_offset most k v) ≤ most = leb-true _ most b.1 in
       let label : l ≡ whole = cc in
       let parts : ps ≡ entries (word_at own (links_offset most k v)) k (pos + keys_offset k) v (pos + values_offset most k v) = cc in
+      let few : word_at bytes (pos + links_offset most k v) ≤ most = subst (λ w. w ≤ most) word le in
+      let keys = keys_fit 1 most k v in
+      let values = values_fit most k v in
+      let wide_keys = mul-le-mul_right (size_of k) few in
+      let wide_values = mul-le-mul_right (size_of v) few in
       let shaped : ps ≡ entries (word_at bytes (pos + links_offset most k v)) k (pos + keys_offset k) v (pos + values_offset most k v) =
       subst (λ n. ps ≡ entries n k (pos + keys_offset k) v (pos + values_offset most k v)) word parts
       in
       let held =
-      entries_held names bytes k v (word_at bytes (pos + links_offset most k v)) (pos + keys_offset k) (pos + values_offset most k v) low
-      (subst (λ qs. HoldAll names bytes depth inside qs vs within before after) shaped all) a
+      entries_held names bytes k v (word_at bytes (pos + links_offset most k v)) (pos + keys_offset k) (pos + values_offset most k v) low pos (omega arith) (omega arith) (omega (arith, room, link, keys, values, wide_keys)) (omega (arith, room, link, values, wide_values))
+      (subst (λ qs. HoldAll names bytes depth inside qs vs within before after) shaped all) (subst (λ q. Ascends low q.start within) span a)
       in
       record {
         tree = leaf (places (word_at bytes (pos + links_offset most k v)) k (pos + keys_offset k) v (pos + values_offset most k v));
-        node = has_leaf (leb-true level 32 b.0) room z refl (subst (λ w. w ≤ most) word le) refl;
+        node = has_leaf (leb-true level 32 b.0) room z refl few refl;
         pairs =
             subst (λ x. ArePairs names bytes k v (places (word_at bytes (pos + links_offset most k v)) k (pos + keys_offset k) v (pos + values_offset most k v)) (members x))
             (sym (whole_is names bytes k v l vs value label m)) held;
@@ -371,13 +384,16 @@ module _ (names : Names) (bytes : List ℕ) (most : ℕ) (k v : Shape) where
       → slice_index bytes pos ≡ 1
       → node_content level most k v pos (suc zero) (window bytes pos (link_node_size (most + 1) most k v)) ≡ claimed s l ps
       → s.start + s.size ≤ length bytes → made l vs ≡ Some value
-      → HoldAll names bytes depth inside ps vs within before after → Ascends low (length bytes) within
+      → HoldAll names bytes depth inside ps vs within before after → Ascends low s.start within
       → ReadNode level pos value
   unfolding node_content
   inner_read level pos {depth} {inside} {vs} {value} {within} {before} {after} low s l ps read z e fits m all a =
       let p = pick _ _ e in
       let span : s ≡ node_span (most + 1) most k v pos = cc in
       let room : pos + link_node_size (most + 1) most k v ≤ length bytes = subst (λ q. q.start + q.size ≤ length bytes) span fits in
+      let link = links_fit (most + 1) most k v in
+      let keys = keys_fit (most + 1) most k v in
+      let values = values_fit most k v in
       let es = entries most k (pos + keys_offset k) v (pos + values_offset most k v) in
       let parts : ps ≡ children (most + 1) (level + 1) most k v (pos + links_offset most k v) ++ es = cc in
       let more : most + 1 ≡ suc most = omega arith in
@@ -387,11 +403,11 @@ module _ (names : Names) (bytes : List ℕ) (most : ℕ) (k v : Shape) where
       (subst (λ i. ps ≡ children (most + 1) i most k v (pos + links_offset most k v) ++ es) next parts)
       in
       let r =
-      branches_held most (pos + keys_offset k) (pos + values_offset most k v) es low read
-      (subst (λ qs. HoldAll names bytes depth inside qs vs within before after) shaped all) a
+      branches_held most (pos + keys_offset k) (pos + values_offset most k v) es low pos read (omega (arith, room))
+      (subst (λ qs. HoldAll names bytes depth inside qs vs within before after) shaped all) (subst (λ q. Ascends low q.start within) span a)
       in
       let label : l ≡ woven (most + 1) = cc in
-      let held = entries_held names bytes k v most (pos + keys_offset k) (pos + values_offset most k v) r.low r.rest r.ascends in
+      let held = entries_held names bytes k v most (pos + keys_offset k) (pos + values_offset most k v) r.low pos (omega arith) (omega arith) (omega (arith, room, link, keys, values)) (omega (arith, room, link, values)) r.rest r.ascends in
       record {
         tree = inner r.branches;
         node = has_inner (leb-true level 32 p.0) room z r.stand refl;
@@ -403,7 +419,7 @@ module _ (names : Names) (bytes : List ℕ) (most : ℕ) (k v : Shape) where
       → slice_index bytes pos ≡ kind
       → node_content level most k v pos kind (window bytes pos (link_node_size (words_of kind most) most k v)) ≡ claimed s l ps
       → s.start + s.size ≤ length bytes → made l vs ≡ Some value
-      → HoldAll names bytes depth inside ps vs within before after → Ascends low (length bytes) within
+      → HoldAll names bytes depth inside ps vs within before after → Ascends low s.start within
       → ReadNode level pos value
   node_read level pos zero low s l ps read z e fits m all a = leaf_read level pos low s l ps z e fits m all a
   node_read level pos (suc zero) low s l ps read z e fits m all a = inner_read level pos low s l ps read z e fits m all a

@@ -1,7 +1,7 @@
 -- The keys and values that a tree's items lead to.
-use Rattle.std.specs.Prelude.{◌≡◌, ℕ, ◌+◌, List, [], ◌∷◌, length, Some, ⊤}
+use Rattle.std.specs.Prelude.{◌≡◌, ℕ, ◌+◌, ◌≤◌, List, [], ◌∷◌, length, Some, ⊤}
 use Rattle.archive_shape_layout.specs.Bytes.{word_at, target_from}
-use Rattle.archive_shape_layout.specs.Shape.{Shape}
+use Rattle.archive_shape_layout.specs.Shape.{Shape, size_of}
 use Rattle.archive_shape_layout.specs.Value.{Value, Values}
 use Rattle.archive_shape_layout.specs.Value.Value.{group}
 use Rattle.archive_shape_layout.specs.Value.Values.{no_values, more_values}
@@ -11,16 +11,17 @@ use Rattle.archive_shape_layout.specs.Holds.{Region, Visit, OpenShared, Holds, A
 use Rattle.archive_btree_layout.specs.Reading.{Place, HasNode}
 use Rattle.archive_btree_layout.specs.Tree.{Tree, items}
 
--- somewhere in a buffer's root the layout holds a value at a position
+-- in a buffer the layout holds a value at a position: its own bytes lie in the buffer, and the regions that it claims
+-- ascend before them
 pub record IsHeld (names : Names) (bytes : List ℕ) (s : Shape) (pos : ℕ) (value : Value) : Type 0 where
   pub depth : ℕ
   pub inside : List OpenShared
   pub regions : List Region
   pub before : List Visit
   pub after : List Visit
-  pub low : ℕ
+  pub own_within : pos + size_of s ≤ length bytes
+  pub ascends : Ascends 0 pos regions
   pub holds : Holds names bytes depth inside (at pos s) value regions before after
-  pub ascends : Ascends low (length bytes) regions
 
 -- a pair of a key and a value stands at a place
 pub record IsPair (names : Names) (bytes : List ℕ) (k v : Shape) (p : Place) (pair : Value) : Type 0 where
