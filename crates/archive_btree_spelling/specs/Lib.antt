@@ -4,3 +4,4 @@ pub mod Maps
 pub mod Shown
 pub mod Sample
 pub mod Laws
+pub mod Laying
