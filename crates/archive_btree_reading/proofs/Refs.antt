@@ -1,12 +1,16 @@
 -- Values in a buffer, and what a search finds.
 use denote.Ref.{Bor}
-use Rattle.std.proofs.Common.{◌≡◌, ◌∙◌, ℕ, List, Option, Some, None, IsSome, refl, ap, sym, subst}
+use Rattle.std.proofs.Common.{◌≡◌, ◌∙◌, ℕ, List, Option, Some, None, IsSome, IsTrue, IfSome, Contains, refl, ap, sym, subst}
 use Rattle.std.specs.Option.{option_map, is_some}
+use Rattle.std.specs.Ordering.{ordering_reverse}
+use Rattle.std.specs.declared.cmp.Ordering.{Ordering}
+use Rattle.std.specs.declared.cmp.Ordering.TheVariants.{Less, Equal, Greater}
 use Rattle.archive_shape_references.specs.declared.refs.Ref.{Ref}
 use Rattle.archive_btree_layout.specs.Reading.{Place}
 use Rattle.archive_btree_searching.specs.Nodes.{place_of}
 use Rattle.archive_btree_searching.specs.declared.node.EntryAt.{EntryAt}
 use Rattle.archive_btree_reading.specs.Refs.{ref_at}
+use Rattle.archive_btree_reading.specs.Lookups.{Finds}
 
 -- a value in a buffer is told by the buffer and its position
 pub ref_is : {T : Type 0} (bytes : Bor (List ℕ)) (p : ℕ) (r : Ref T) → r.bytes ≡ bytes → r.pos ≡ p → r ≡ ref_at bytes p
@@ -35,3 +39,25 @@ same_some (Some e) d h = ap is_some h
 
 pub some_mapped : {B : Type 0} (f : Place → B) (o : Option B) (d : Option Place) (e : Place) → o ≡ option_map f d → d ≡ Some e → IsSome o
 some_mapped f o d e h is = ap is_some (h ∙ ap (option_map f) is)
+
+-- ---- what is found of an entry
+
+pub finds_some :
+    {A : Type 0} (of : Place → A) (holds : Place → Type 0) (places : List Place) (o : Option EntryAt) (e : EntryAt) (a : A)
+    → Finds (λ e. e) holds places (option_map place_of o) → o ≡ Some e → a ≡ of (place_of e) → Finds of holds places (Some a)
+finds_some of holds places None e a h is same = absurd cc
+finds_some of holds places (Some d) e a h is same = let f : d ≡ e = cc in (h.0, h.1, h.2, same ∙ ap (λ x. of (place_of x)) (sym f) ∙ ap of h.3)
+
+-- what a search finds among places
+pub finds_called : (holds : Place → Type 0) (places : List Place) (o : Option EntryAt) → IfSome o (λ e. Contains places (place_of e) × holds (place_of e)) → Finds (λ e. e) holds places (option_map place_of o)
+finds_called holds places None h = tt
+finds_called holds places (Some e) h = (place_of e, h.0, h.1, refl)
+
+pub reversed_equal : (o : Ordering) → Equal ≡ ordering_reverse o → o ≡ Equal
+reversed_equal Less h = cc
+reversed_equal Equal h = refl
+reversed_equal Greater h = cc
+
+pub found_some : (o : Option EntryAt) (holds : Place → Type 0) (places : List Place) → IsTrue (is_some o) → Finds (λ e. e) holds places (option_map place_of o) → (e : Place) × Contains places e × holds e
+found_some None holds places y h = absurd cc
+found_some (Some e) holds places y h = (h.0, h.1, h.2)

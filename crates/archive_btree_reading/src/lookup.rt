@@ -1,5 +1,5 @@
 //! Look-ups of keys in archived B-tree maps.
-ghost use Rattle.std.specs.Prelude.{◌≡◌, ℕ, ◌-◌, ◌^◌, ◌<◌, ◌↔◌, IsTrue, Some, min, All};
+ghost use Rattle.std.specs.Prelude.{◌≡◌, ℕ, ◌-◌, ◌^◌, ◌<◌, ◌↔◌, IsTrue, Some, IfSome, min, All, Contains};
 ghost use Rattle.std.specs.Option.{option_map, is_some};
 ghost use Rattle.std.specs.Ordering.{ordering_reverse};
 ghost use Rattle.std.specs.declared.cmp.Ordering.{Ordering};
@@ -8,11 +8,11 @@ ghost use Rattle.archive_btree_layout.specs.Tree.{Tree, items};
 ghost use Rattle.archive_btree_layout.specs.Descent.{descend, met};
 ghost use Rattle.archive_btree_layout.specs.Reading.{Place};
 ghost use Rattle.archive_btree_searching.specs.Nodes.{place_of};
-ghost use Rattle.archive_btree_searching.specs.Searching.{Orders};
+ghost use Rattle.archive_btree_searching.specs.Searching.{IsAmong, Orders};
 ghost use Rattle.archive_forms_reading.specs.Parts.{HasValue, both};
 ghost use Rattle.archive_btree_reading.specs.Maps.{IsMapAt};
 ghost use Rattle.archive_btree_reading.specs.Refs.{key_at, value_at, entry_at};
-ghost use Rattle.archive_btree_reading.specs.Lookups.{QueryOrders, HasKey, CallsOrder};
+ghost use Rattle.archive_btree_reading.specs.Lookups.{QueryOrders, IsEqualKey, CallsEqual, Finds, HasKey, CallsOrder};
 
 use crate::ArchivedBTreeMap;
 use crate::root::root_at;
@@ -32,7 +32,8 @@ fn search_map<K: Portable, V: Portable, F: Fn(usize) -> Ordering, const E: usize
     requires some { 0 < E }
     requires has { HasValue (tree E K.shape V.shape) (both K.knows V.knows) bytes.now pos }
     requires callable { (t : Tree Place) → IsMapAt bytes.now E K.shape V.shape pos t → All (λ e. F.pre compare.now e.key) (items t) }
-    ensures { (t : Tree Place) (order : Place → Ordering) → IsMapAt bytes.now E K.shape V.shape pos t → Orders F.post compare.now order (items t)
+    ensures found { (t : Tree Place) → IsMapAt bytes.now E K.shape V.shape pos t → IsAmong F.post compare.now (items t) result.0 }
+    ensures answers { (t : Tree Place) (order : Place → Ordering) → IsMapAt bytes.now E K.shape V.shape pos t → Orders F.post compare.now order (items t)
         → (option_map place_of result.0 ≡ descend order t) × (result.1 ≡ min (met order t) (2 ^ 64 - 1)) }
 {
     match root_at::<K, V, E>(bytes, pos) {
@@ -49,7 +50,9 @@ fn search_key<Q, K: ArchivedKey<Q>, V: Portable, const E: usize>(
 ) -> (Option<EntryAt>, usize)
     requires some { 0 < E }
     requires has { HasValue (tree E K.shape V.shape) (both K.knows V.knows) bytes.now pos }
-    ensures { (t : Tree Place) (order : Place → Ordering) → IsMapAt bytes.now E K.shape V.shape pos t → QueryOrders K.key_of K.order bytes.now query.now order (items t)
+    ensures found { (t : Tree Place) → IsMapAt bytes.now E K.shape V.shape pos t
+        → Finds (λ e. e) (IsEqualKey K.key_of K.order bytes.now query.now) (items t) (option_map place_of result.0) }
+    ensures answers { (t : Tree Place) (order : Place → Ordering) → IsMapAt bytes.now E K.shape V.shape pos t → QueryOrders K.key_of K.order bytes.now query.now order (items t)
         → (option_map place_of result.0 ≡ descend order t) × (result.1 ≡ min (met order t) (2 ^ 64 - 1)) }
 {
     let compare = |at: usize| -> Ordering
@@ -69,7 +72,10 @@ impl<K, V: Portable, const E: usize> ArchivedBTreeMap<K, V, E> {
         K: ArchivedKey<Q>,
         requires some { 0 < E }
         requires has { HasValue (tree E K.shape V.shape) (both K.knows V.knows) this.bytes.now this.pos }
-        ensures { (t : Tree Place) (order : Place → Ordering) → IsMapAt this.entry.bytes.now E K.shape V.shape this.entry.pos t
+        ensures there { IfSome result.0 (λ r. HasValue V.shape V.knows r.bytes.now r.pos) }
+        ensures found { (t : Tree Place) → IsMapAt this.entry.bytes.now E K.shape V.shape this.entry.pos t
+            → Finds (value_at this.entry.bytes) (IsEqualKey K.key_of K.order this.entry.bytes.now query.now) (items t) result.0 }
+        ensures answers { (t : Tree Place) (order : Place → Ordering) → IsMapAt this.entry.bytes.now E K.shape V.shape this.entry.pos t
             → QueryOrders K.key_of K.order this.entry.bytes.now query.now order (items t)
             → (result.0 ≡ option_map (value_at this.entry.bytes) (descend order t)) × (result.1 ≡ min (met order t) (2 ^ 64 - 1)) }
     {
@@ -85,7 +91,10 @@ impl<K, V: Portable, const E: usize> ArchivedBTreeMap<K, V, E> {
         K: ArchivedKey<Q>,
         requires some { 0 < E }
         requires has { HasValue (tree E K.shape V.shape) (both K.knows V.knows) this.bytes.now this.pos }
-        ensures { (t : Tree Place) (order : Place → Ordering) → IsMapAt this.entry.bytes.now E K.shape V.shape this.entry.pos t
+        ensures there { IfSome result (λ r. HasValue V.shape V.knows r.bytes.now r.pos) }
+        ensures found { (t : Tree Place) → IsMapAt this.entry.bytes.now E K.shape V.shape this.entry.pos t
+            → Finds (value_at this.entry.bytes) (IsEqualKey K.key_of K.order this.entry.bytes.now query.now) (items t) result }
+        ensures answers { (t : Tree Place) (order : Place → Ordering) → IsMapAt this.entry.bytes.now E K.shape V.shape this.entry.pos t
             → QueryOrders K.key_of K.order this.entry.bytes.now query.now order (items t)
             → result ≡ option_map (value_at this.entry.bytes) (descend order t) }
     {
@@ -101,7 +110,10 @@ impl<K, V: Portable, const E: usize> ArchivedBTreeMap<K, V, E> {
         K: ArchivedKey<Q>,
         requires some { 0 < E }
         requires has { HasValue (tree E K.shape V.shape) (both K.knows V.knows) this.bytes.now this.pos }
-        ensures { (t : Tree Place) (order : Place → Ordering) → IsMapAt this.entry.bytes.now E K.shape V.shape this.entry.pos t
+        ensures there { IfSome result (λ r. HasValue K.shape K.knows r.0.bytes.now r.0.pos × HasValue V.shape V.knows r.1.bytes.now r.1.pos) }
+        ensures found { (t : Tree Place) → IsMapAt this.entry.bytes.now E K.shape V.shape this.entry.pos t
+            → Finds (entry_at this.entry.bytes) (IsEqualKey K.key_of K.order this.entry.bytes.now query.now) (items t) result }
+        ensures answers { (t : Tree Place) (order : Place → Ordering) → IsMapAt this.entry.bytes.now E K.shape V.shape this.entry.pos t
             → QueryOrders K.key_of K.order this.entry.bytes.now query.now order (items t)
             → result ≡ option_map (entry_at this.entry.bytes) (descend order t) }
     {
@@ -120,7 +132,9 @@ impl<K, V: Portable, const E: usize> ArchivedBTreeMap<K, V, E> {
         K: ArchivedKey<Q>,
         requires some { 0 < E }
         requires has { HasValue (tree E K.shape V.shape) (both K.knows V.knows) this.bytes.now this.pos }
-        ensures { (t : Tree Place) (order : Place → Ordering) → IsMapAt this.entry.bytes.now E K.shape V.shape this.entry.pos t
+        ensures found { (t : Tree Place) → IsMapAt this.entry.bytes.now E K.shape V.shape this.entry.pos t
+            → IsTrue result → (e : Place) × Contains (items t) e × IsEqualKey K.key_of K.order this.entry.bytes.now query.now e }
+        ensures answers { (t : Tree Place) (order : Place → Ordering) → IsMapAt this.entry.bytes.now E K.shape V.shape this.entry.pos t
             → QueryOrders K.key_of K.order this.entry.bytes.now query.now order (items t)
             → result ≡ is_some (descend order t) }
     {
@@ -136,7 +150,10 @@ impl<K, V: Portable, const E: usize> ArchivedBTreeMap<K, V, E> {
         requires some { 0 < E }
         requires has { HasValue (tree E K.shape V.shape) (both K.knows V.knows) this.bytes.now this.pos }
         requires present { HasKey K.key_of K.order this.bytes.now E K.shape V.shape this.pos query.now }
-        ensures { (t : Tree Place) (order : Place → Ordering) → IsMapAt this.entry.bytes.now E K.shape V.shape this.entry.pos t
+        ensures there { HasValue V.shape V.knows result.bytes.now result.pos }
+        ensures found { (t : Tree Place) → IsMapAt this.entry.bytes.now E K.shape V.shape this.entry.pos t
+            → Finds (value_at this.entry.bytes) (IsEqualKey K.key_of K.order this.entry.bytes.now query.now) (items t) (Some result) }
+        ensures answers { (t : Tree Place) (order : Place → Ordering) → IsMapAt this.entry.bytes.now E K.shape V.shape this.entry.pos t
             → QueryOrders K.key_of K.order this.entry.bytes.now query.now order (items t)
             → Some result ≡ option_map (value_at this.entry.bytes) (descend order t) }
     {
@@ -156,7 +173,10 @@ impl<K: Portable, V: Portable, const E: usize> ArchivedBTreeMap<K, V, E> {
         requires has { HasValue (tree E K.shape V.shape) (both K.knows V.knows) this.bytes.now this.pos }
         requires callable { (t : Tree Place) → IsMapAt this.bytes.now E K.shape V.shape this.pos t
             → All (λ e. F.pre compare.now query (key_at this.bytes e)) (items t) }
-        ensures { (t : Tree Place) (order : Place → Ordering) → IsMapAt this.entry.bytes.now E K.shape V.shape this.entry.pos t
+        ensures there { IfSome result (λ r. HasValue K.shape K.knows r.0.bytes.now r.0.pos × HasValue V.shape V.knows r.1.bytes.now r.1.pos) }
+        ensures found { (t : Tree Place) → IsMapAt this.entry.bytes.now E K.shape V.shape this.entry.pos t
+            → Finds (entry_at this.entry.bytes) (CallsEqual F.post compare.now query.entry this.entry.bytes) (items t) result }
+        ensures answers { (t : Tree Place) (order : Place → Ordering) → IsMapAt this.entry.bytes.now E K.shape V.shape this.entry.pos t
             → CallsOrder F.post compare.now query.entry this.entry.bytes order (items t)
             → result ≡ option_map (entry_at this.entry.bytes) (descend order t) }
     {
