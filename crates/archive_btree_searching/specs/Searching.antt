@@ -1,8 +1,10 @@
 -- What a search answers.
-use Rattle.std.specs.Prelude.{◌≡◌, ℕ, ◌+◌, ◌*◌, ◌<◌, ◌≤◌, List, All}
+use Rattle.std.specs.Prelude.{◌≡◌, ℕ, ◌+◌, ◌*◌, ◌<◌, ◌≤◌, List, Option, All, Contains, IfSome, ⊤}
 use Rattle.std.specs.declared.cmp.Ordering.{Ordering}
 use Rattle.std.specs.declared.cmp.Ordering.TheVariants.{Less, Equal, Greater}
 use Rattle.archive_btree_layout.specs.Reading.{Place}
+use Rattle.archive_btree_searching.specs.Nodes.{place_of}
+use Rattle.archive_btree_searching.specs.declared.node.EntryAt.{EntryAt}
 use Rattle.archive_btree_searching.specs.declared.search.Outcome.{Outcome}
 use Rattle.archive_btree_searching.specs.declared.search.Outcome.TheVariants.{Equals, Before}
 
@@ -13,6 +15,15 @@ Orders post f order places = All (λ e. (r : Ordering) → post f e.key r → r 
 -- the calls at so many keys side by side answer by this order of their numbers
 abbrev pub OrdersKeys : {F : Type 0} → (F → ℕ → Ordering → Type 0) → F → (ℕ → Ordering) → ℕ → ℕ → ℕ → Type 0
 OrdersKeys post f order key size count = (i : ℕ) → i < count → (r : Ordering) → post f (key + i * size) r → r ≡ order i
+
+-- what a search finds is one of these places, if it finds one, and a call says that its key is equal to the query
+abbrev pub IsAmong : {F : Type 0} → (F → ℕ → Ordering → Type 0) → F → List Place → Option EntryAt → Type 0
+IsAmong post f places result = IfSome result (λ e. Contains places (place_of e) × post f e.key Equal)
+
+-- where a search among keys side by side answers that one is equal, a call says so
+abbrev pub IsEqualTo : {F : Type 0} → (F → ℕ → Ordering → Type 0) → F → ℕ → ℕ → Outcome → Type 0
+IsEqualTo post f key size (Equals i) = post f (key + i * size) Equal
+IsEqualTo post f key size (Before i) = ⊤
 
 -- the query is above the first i keys
 abbrev pub IsAbove : (ℕ → Ordering) → ℕ → Type 0

@@ -1,6 +1,9 @@
 use Rattle.std.proofs.Common.{◌≡◌, ◌∙◌, ◌+◌, ◌*◌, ◌≤◌, suc, min, ap, sym, subst, refl, arith, mul-le-mul_right}
-use Rattle.std.specs.Prelude.{Some}
+use Rattle.std.specs.Prelude.{Some, Contains}
 use Rattle.std.specs.declared.cmp.Ordering.{Ordering}
+use Rattle.std.specs.declared.cmp.Ordering.TheVariants.{Equal}
+use Rattle.std.proofs.lemmas.List.Elements.{All-contains_itself}
+use Rattle.archive_btree_layout.specs.Tree.{items}
 use Rattle.archive_btree_searching.specs.Layout.{IsTreeAt}
 use Rattle.archive_btree_searching.specs.Nodes.{entry_count}
 use Rattle.archive_btree_searching.specs.declared.search.Outcome.TheVariants.{Equals, Before}
@@ -12,6 +15,7 @@ pub loop-level-init : goal.loop-level-init
 loop-level-init g c =
     record {
       stands = c.requires.tree;
+      among = λ t h. (t, h, All-contains_itself (items t));
       leads = λ t order h orders. (t, 0, h, orders, refl, omega arith, omega arith);
     }
 
@@ -51,15 +55,27 @@ child_of-requires-clause-node g c =
     let s = c.loop-level.invariant.stands in
     tree_readable c.args.bytes.now c.args.layout (c.loop-level._level + 1) c.loop-level.pos s.0 s.1 (omega arith)
 
-pub returns-in-Equals : goal.returns-in-Equals
-returns-in-Equals g c t order h orders =
+pub returns-in-Equals-clause-answers : goal.returns-in-Equals-clause-answers
+returns-in-Equals-clause-answers g c t order h orders =
     let r = c.loop-level.invariant.leads t order h orders in
     let a = node_answers c.args.bytes.now c.args.layout (c.loop-level._level + 1) c.loop-level.pos r.0 r.2 (goal.F-post g) c.args.compare.now order _ (Equals c.in-Equals.i) c.entry_count-count.ensures c.in-Equals.ensures.answers r.3 in
     let f = found c.args.bytes.now c.args.layout (c.loop-level._level + 1) c.loop-level.pos r.0 r.2 order c.in-Equals.i a in
     (ap Some c.entry_of-entry.ensures ∙ sym f.found ∙ sym r.4, omega (arith, c.saturating_add.ensures, r.5, r.6, f.count))
 
-pub returns-in-None : goal.returns-in-None
-returns-in-None g c t order h orders =
+pub returns-in-Equals-clause-found : goal.returns-in-Equals-clause-found
+returns-in-Equals-clause-found g c t h =
+    let bytes = c.args.bytes.now in
+    let l = c.args.layout in
+    let r = c.loop-level.invariant.among t h in
+    let own =
+    own_holds bytes l (c.loop-level._level + 1) c.loop-level.pos r.0 r.1 (Contains (items t)) r.2 c.in-Equals.i
+    (omega (arith, c.in-Equals.ensures.within, c.entry_count-count.ensures))
+    in
+    let here = c.entry_of-entry.ensures in
+    (subst (Contains (items t)) (sym here) own, subst (λ e. goal.F-post g c.args.compare.now e.key Equal) (sym here) c.in-Equals.ensures.equal)
+
+pub returns-in-None-clause-answers : goal.returns-in-None-clause-answers
+returns-in-None-clause-answers g c t order h orders =
     let r = c.loop-level.invariant.leads t order h orders in
     let a = node_answers c.args.bytes.now c.args.layout (c.loop-level._level + 1) c.loop-level.pos r.0 r.2 (goal.F-post g) c.args.compare.now order _ (Before c.in-Before.i) c.entry_count-count.ensures c.in-Before.ensures.answers r.3 in
     let f = missing c.args.bytes.now c.args.layout (c.loop-level._level + 1) c.loop-level.pos r.0 r.2 order c.in-Before.i a (sym c.in-None.ensures) in (
@@ -82,6 +98,13 @@ loop-level-preserved g c =
     in
     record {
       stands = (next.tree, subst (λ x. IsTreeAt bytes l x c.in-Some.child next.tree) step next.stands, next.holds);
+      among = λ t h.
+          let r = c.loop-level.invariant.among t h in
+          let child =
+          child_stands bytes l level pos r.0 r.1 (Contains (items t)) r.2 i c.in-Some.child
+          (omega (arith, c.in-Before.ensures.within, c.entry_count-count.ensures)) (sym c.in-Some.ensures)
+          in
+          (child.tree, subst (λ x. IsTreeAt bytes l x c.in-Some.child child.tree) step child.stands, child.holds);
       leads = λ t order h orders.
           let r = c.loop-level.invariant.leads t order h orders in
           let a = node_answers bytes l level pos r.0 r.2 (goal.F-post g) c.args.compare.now order _ (Before c.in-Before.i) c.entry_count-count.ensures c.in-Before.ensures.answers r.3 in
