@@ -1,0 +1,18 @@
+//! Laws. Each function below has no body: it carries a law.
+ghost use Rattle.archive_btree_packing.specs.Laws.{MapsArePacked, WrittenIsLeast, WrittenIsPacked};
+
+/// Where the root of a canonical archive reaches a map that is not empty, itself or through other parts, shared ones too,
+/// the search tree that the bytes have there is packed.
+pub fn written_is_packed()
+    ensures { WrittenIsPacked }
+{}
+
+/// No search tree of as many items, in whatever bytes, has fewer nodes or less height.
+pub fn written_is_least()
+    ensures { WrittenIsLeast }
+{}
+
+/// What is written for a map of numbers has a packed tree, and its items are the pairs of the map in order.
+pub fn maps_are_packed()
+    ensures { MapsArePacked }
+{}
