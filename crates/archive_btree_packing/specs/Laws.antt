@@ -2,11 +2,13 @@
 use Rattle.std.specs.Prelude.{◌≡◌, ℕ, ◌<◌, ◌≤◌, List, [], ◌∷◌, length}
 use Rattle.archive_shape_layout.specs.Shape.{Shape}
 use Rattle.archive_shape_layout.specs.Shape.Shape.{tree}
+use Rattle.archive_shape_layout.specs.Value.{Value}
 use Rattle.archive_shape_layout.specs.Content.{Names}
 use Rattle.archive_shape_canonical.specs.Settled.{Fit}
 use Rattle.archive_btree_layout.specs.Tree.{Tree, items, count_nodes, height}
 use Rattle.archive_btree_layout.specs.Packed.{IsPacked}
 use Rattle.archive_btree_layout.specs.Reading.{Place, HasNode}
+use Rattle.archive_btree_layout.specs.Items.{IsTreeRead}
 use Rattle.archive_forms_spelling.specs.State.{initial}
 use Rattle.archive_forms_spelling.specs.Spelling.{Spelling}
 use Rattle.archive_forms_spelling.specs.Regions.{region_piece, region_fits}
@@ -15,7 +17,14 @@ use Rattle.archive_btree_spelling.specs.Maps.{btree_spelling}
 use Rattle.archive_btree_spelling.specs.Sample.{number_shape, number_spelling, map_shape, map_spelling}
 use Rattle.archive_btree_packing.specs.Maps.{HasTree, HasWrittenMap, IsPackedMap}
 
--- the tree of a map in a canonical archive is packed
+-- the tree of a map in a canonical archive is read, whatever is shared on the way to the map
+abbrev pub WrittenIsRead : Type 0
+WrittenIsRead =
+    (fit : Fit) (names : Names) (bytes : List ℕ) (most : ℕ) (k v : Shape) (pos : ℕ)
+    → HasWrittenMap fit names bytes most k v pos
+    → (value : Value) × IsTreeRead names bytes most k v pos value
+
+-- it is packed
 abbrev pub WrittenIsPacked : Type 0
 WrittenIsPacked =
     (fit : Fit) (names : Names) (bytes : List ℕ) (most : ℕ) (k v : Shape) (pos : ℕ) (t : Tree Place) → 0 < most

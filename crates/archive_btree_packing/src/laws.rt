@@ -1,8 +1,13 @@
 //! Laws. Each function below has no body: it carries a law.
-ghost use Rattle.archive_btree_packing.specs.Laws.{MapsArePacked, WrittenIsLeast, WrittenIsPacked};
+ghost use Rattle.archive_btree_packing.specs.Laws.{MapsArePacked, WrittenIsLeast, WrittenIsPacked, WrittenIsRead};
 
-/// Where the root of a canonical archive reaches a map that is not empty, itself or through other parts, shared ones too,
-/// the search tree that the bytes have there is packed.
+/// Where the root of a canonical archive is a map, or reaches one through other parts, shared ones too, the bytes have its
+/// search tree there, unless it is empty.
+pub fn written_is_read()
+    ensures { WrittenIsRead }
+{}
+
+/// Each search tree that the bytes have there is packed.
 pub fn written_is_packed()
     ensures { WrittenIsPacked }
 {}
