@@ -104,7 +104,7 @@ word_within bytes pos size off h =
 pub word_of : (bytes : List ℕ) (link : ℕ) → word_at (window bytes link 4) 0 ≡ word_at bytes link
 word_of bytes link = let e = word_within bytes link 4 0 (omega arith) in let z : link + 0 ≡ link = omega arith in subst (λ p. word_at (window bytes link 4) 0 ≡ word_at bytes p) z e
 
-kind_of : (bytes : List ℕ) (pos : ℕ) → slice_index (drop pos bytes) 0 ≡ slice_index bytes pos
+pub kind_of : (bytes : List ℕ) (pos : ℕ) → slice_index (drop pos bytes) 0 ≡ slice_index bytes pos
 kind_of bytes pos = let e = get_or-drop pos bytes 0 0 in let z : pos + 0 ≡ pos = omega arith in subst (λ p. slice_index (drop pos bytes) 0 ≡ slice_index bytes p) z e
 
 -- ---- a node, where the nodes below it are read

@@ -1,14 +1,14 @@
 -- The values of a search tree's node are as many as the items of the tree that is read there.
-use Rattle.std.proofs.Common.{◌≡◌, ◌∙◌, ℕ, zero, suc, ◌+◌, List, [], ◌∷◌, ◌++◌, length, refl, ap, sym, subst, arith, length-append}
+use Rattle.std.proofs.Common.{◌≡◌, ◌∙◌, ℕ, suc, ◌+◌, List, [], ◌∷◌, ◌++◌, length, refl, ap, sym, subst, arith, length-append}
 use Rattle.archive_shape_layout.specs.Shape.{Shape, size_of}
-use Rattle.archive_shape_layout.specs.Value.{Value, Values, append_values, count_values}
+use Rattle.archive_shape_layout.specs.Value.{Value, Values, count_values}
 use Rattle.archive_shape_layout.specs.Value.Values.{no_values, more_values}
 use Rattle.archive_shape_layout.specs.Content.{Names, Part, members, weave, first_values, other_values, children, entries, keys_offset, values_offset, links_offset}
 use Rattle.archive_shape_layout.specs.Content.Part.{node, child}
 use Rattle.archive_shape_layout.specs.Content.Label.{same, woven}
 use Rattle.archive_shape_layout.specs.Holds.{Region, Visit, OpenShared, Holds, HoldAll}
 use Rattle.archive_shape_canonical.proofs.Steps.{made_whole, count_parts}
-use Rattle.archive_shape_canonical.proofs.Nodes.{length-entries}
+use Rattle.archive_shape_canonical.proofs.Nodes.{count_append, count_other, length-entries, length-children}
 use Rattle.archive_btree_layout.specs.Tree.{Tree, Branches, items, items_of}
 use Rattle.archive_btree_layout.specs.Reading.{Place, HasNode, HasBranches, HasChild}
 use Rattle.archive_btree_layout.specs.Reading.HasNode.{has_leaf, has_inner}
@@ -17,10 +17,6 @@ use Rattle.archive_btree_layout.specs.Reading.HasChild.{no_child, a_child}
 use Rattle.archive_btree_layout.proofs.Held.{same_is, woven_is, no_parts}
 use Rattle.archive_btree_layout.proofs.Descending.{length-places}
 use Rattle.archive_btree_packing.proofs.Made.{MadeOf, made_plain, made_claimed, FirstOf, first_of_all, leaf_content, inner_content, no_child_content, child_content_of}
-
-count_append : (xs ys : Values) → count_values (append_values xs ys) ≡ count_values xs + count_values ys
-count_append no_values ys = omega arith
-count_append (more_values x xs) ys = let e = count_append xs ys in omega (arith, e)
 
 -- the last child has no entry behind it, another has one
 last_counted : (u : Value) (us ws : Values) → count_values ws ≡ 0 → count_values (weave (first_values 1 (more_values u us)) ws) ≡ count_values (members u)
@@ -35,17 +31,6 @@ more_counted n size rest u us (more_values w ws) e here there =
     let later = there ws (omega (arith, e)) in
     let all = count_append (members u) (more_values w (weave (first_values (suc n) us) ws)) in
     omega (arith, here, later, all)
-
--- so many values, and so many others
-pub count_other : (n m : ℕ) (vs : Values) → count_values vs ≡ n + m → count_values (other_values n vs) ≡ m
-count_other zero m vs e = omega (arith, e)
-count_other (suc n) m no_values e = absurd (omega (arith, e))
-count_other (suc n) m (more_values v vs) e = count_other n m vs (omega (arith, e))
-
-length-children : (n level most : ℕ) (k v : Shape) (pos : ℕ) → length (children n level most k v pos) ≡ n
-unfolding children
-length-children zero level most k v pos = refl
-length-children (suc n) level most k v pos = ap suc (length-children n level most k v (pos + 4))
 
 module _ (names : Names) (bytes : List ℕ) (most : ℕ) (k v : Shape) where
   -- a value that is that of the one part

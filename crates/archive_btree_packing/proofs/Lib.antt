@@ -3,4 +3,4 @@ pub mod Counted
 pub mod Reached
 pub mod Packed
 pub mod Written
-pub mod Standing
+pub mod Held

@@ -1,5 +1,5 @@
 -- How a value is made of those of a part's parts, and what the parts of a search tree are by what is read of it.
-use Rattle.std.proofs.Common.{◌≡◌, ◌∙◌, ℕ, zero, suc, ◌+◌, ◌<◌, ◌≤◌, ◌==◌, nat_le, Bool, true, false, List, [], ◌∷◌, ◌++◌, drop, Some, refl, ap, sym, subst, arith, add-zero, eqb-true, eq-eqb, get_or-drop}
+use Rattle.std.proofs.Common.{◌≡◌, ◌∙◌, ℕ, zero, suc, ◌+◌, ◌<◌, ◌≤◌, ◌==◌, nat_le, Bool, true, false, List, [], ◌∷◌, ◌++◌, Some, refl, ap, sym, subst, arith, add-zero, eqb-true, eq-eqb}
 use Rattle.std.specs.Prelude.{slice_index}
 use Rattle.std.proofs.lemmas.Bool.Decides.{nat_tests}
 use Rattle.archive_shape_layout.specs.Bytes.{window, word_at, target_from}
@@ -18,7 +18,7 @@ use Rattle.archive_shape_layout.proofs.Framed.{links_fit}
 use Rattle.archive_btree_layout.specs.Tree.{Tree}
 use Rattle.archive_btree_layout.specs.Reading.{Place, HasNode}
 use Rattle.archive_btree_layout.specs.Reading.HasNode.{has_leaf, has_inner}
-use Rattle.archive_btree_layout.proofs.Held.{word_of, word_within}
+use Rattle.archive_btree_layout.proofs.Held.{kind_of, word_of, word_within}
 use Rattle.archive_btree_spelling.proofs.Trees.{child_leads}
 use Rattle.archive_btree_spelling.proofs.Nodes.{leaf_chosen, inner_chosen}
 use Rattle.archive_btree_spelling.proofs.Maps.{rooted_content}
@@ -85,13 +85,10 @@ module _ (names : Names) (bytes : List ℕ) where
   -- ---- contents
 
   module _ (most : ℕ) (k v : Shape) where
-    kind_of : (pos kind : ℕ) → slice_index bytes pos ≡ kind → slice_index (drop pos bytes) 0 ≡ kind
-    kind_of pos kind e = get_or-drop pos bytes 0 0 ∙ ap (slice_index bytes) (add-zero pos) ∙ e
-
     pub leaf_content : (level pos len : ℕ) → level ≤ 32 → slice_index bytes pos ≡ 0 → word_at bytes (pos + links_offset most k v) ≡ len → len ≤ most
         → content_of names bytes (node level most k v pos) ≡ claimed (node_span 1 most k v pos) whole (entries len k (pos + keys_offset k) v (pos + values_offset most k v))
     leaf_content level pos len low kind word few =
-        ap (λ z. node_content level most k v pos z (window bytes pos (link_node_size (words_of z most) most k v))) (kind_of pos 0 kind)
+        ap (λ z. node_content level most k v pos z (window bytes pos (link_node_size (words_of z most) most k v))) (kind_of bytes pos ∙ kind)
         ∙ leaf_chosen names bytes level most k v pos (window bytes pos (link_node_size 1 most k v)) len
         (word_within bytes pos (link_node_size 1 most k v) (links_offset most k v) (let h = links_fit 1 most k v in omega arith) ∙ word) low few
 
@@ -101,7 +98,7 @@ module _ (names : Names) (bytes : List ℕ) where
     inner_content level pos low kind =
         let more : most + 1 ≡ suc most = omega arith in
         let next : level + 1 ≡ suc level = omega arith in
-        ap (λ z. node_content level most k v pos z (window bytes pos (link_node_size (words_of z most) most k v))) (kind_of pos 1 kind)
+        ap (λ z. node_content level most k v pos z (window bytes pos (link_node_size (words_of z most) most k v))) (kind_of bytes pos ∙ kind)
         ∙ inner_chosen names bytes level most k v pos (window bytes pos (link_node_size (most + 1) most k v)) low
         ∙ ap (λ z. claimed (node_span (most + 1) most k v pos) (woven z) (children z (level + 1) most k v (pos + links_offset most k v) ++ entries most k (pos + keys_offset k) v (pos + values_offset most k v))) more
         ∙ ap (λ z. claimed (node_span (most + 1) most k v pos) (woven (suc most)) (children (suc most) z most k v (pos + links_offset most k v) ++ entries most k (pos + keys_offset k) v (pos + values_offset most k v))) next

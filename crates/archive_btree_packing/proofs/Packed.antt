@@ -7,6 +7,7 @@ use Rattle.archive_shape_layout.specs.Content.Part.{at, node}
 use Rattle.archive_shape_canonical.specs.Settled.{HasItems}
 use Rattle.archive_shape_canonical.specs.Everywhere.{Reaches, reaches_here, reaches_plain, reaches_first, IsAsWritten}
 use Rattle.archive_shape_canonical.proofs.Choosing.{settled_chosen}
+use Rattle.archive_shape_canonical.proofs.Reaching.{reaches_on}
 use Rattle.archive_shape_canonical.proofs.Everywhere.{written_everywhere_law}
 use Rattle.archive_btree_layout.specs.Tree.{Tree, Branches}
 use Rattle.archive_btree_layout.specs.Packed.{IsBounded, AreBounded}
@@ -19,7 +20,7 @@ use Rattle.archive_btree_layout.proofs.Least.{fewest_nodes, least_height}
 use Rattle.archive_btree_spelling.proofs.Divided.{packed_divided}
 use Rattle.archive_btree_packing.specs.Laws.{WrittenIsPacked, WrittenIsLeast}
 use Rattle.archive_btree_packing.proofs.Made.{map_content}
-use Rattle.archive_btree_packing.proofs.Reached.{reaches_on, entries_in, led_items, node_divided}
+use Rattle.archive_btree_packing.proofs.Reached.{entries_in, led_items, node_divided}
 
 pub written_is_packed_law : WrittenIsPacked
 written_is_packed_law fit names bytes most k v pos t some w h =

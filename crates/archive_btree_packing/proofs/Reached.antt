@@ -1,7 +1,6 @@
 -- A tree that is read where the root of a canonical archive reaches a node has as many items below each pointer as a packed
 -- tree.
-use Rattle.std.proofs.Common.{◌≡◌, ◌∙◌, ℕ, suc, ◌+◌, ◌<◌, ◌≤◌, List, [], ◌∷◌, ◌++◌, length, drop, refl, ap, sym, subst, arith, add-zero, get_or-drop}
-use Rattle.std.specs.Prelude.{slice_index}
+use Rattle.std.proofs.Common.{◌≡◌, ◌∙◌, ℕ, suc, ◌+◌, ◌<◌, ◌≤◌, List, [], ◌∷◌, ◌++◌, length, refl, ap, sym, subst, arith}
 use Rattle.archive_shape_layout.specs.Shape.{Shape, size_of}
 use Rattle.archive_shape_layout.specs.Value.{Value, Values, count_values}
 use Rattle.archive_shape_layout.specs.Value.Value.{natural, integer, boolean, string, group, chosen, counted, back}
@@ -11,31 +10,19 @@ use Rattle.archive_shape_layout.specs.Content.Part.{node, child}
 use Rattle.archive_shape_layout.specs.Holds.{Region, Visit, OpenShared, HoldAll}
 use Rattle.archive_shape_canonical.specs.Settled.{Fit, HasItems}
 use Rattle.archive_shape_canonical.specs.Packed.{IsPacked, ArePacked, child_items}
-use Rattle.archive_shape_canonical.specs.Everywhere.{Reaches, reaches_here, reaches_plain, reaches_claimed, reaches_counted, ReachesIn, reaches_first, reaches_later, IsAsWritten}
+use Rattle.archive_shape_canonical.specs.Everywhere.{reaches_here, reaches_plain, reaches_claimed, reaches_first, reaches_later, IsAsWritten}
 use Rattle.archive_shape_canonical.proofs.Choosing.{settled_chosen}
+use Rattle.archive_shape_canonical.proofs.Reaching.{All, AllIn}
 use Rattle.archive_btree_layout.specs.Tree.{Tree, Branches, items, items_of, entries_of}
 use Rattle.archive_btree_layout.specs.Reading.{Place, places, HasNode, HasBranches, HasChild}
 use Rattle.archive_btree_layout.specs.Reading.HasNode.{has_leaf, has_inner}
 use Rattle.archive_btree_layout.specs.Reading.HasBranches.{has_greater, has_lesser}
 use Rattle.archive_btree_layout.specs.Reading.HasChild.{no_child, a_child}
+use Rattle.archive_btree_layout.proofs.Held.{kind_of}
 use Rattle.archive_btree_layout.proofs.Descending.{length-places}
 use Rattle.archive_btree_spelling.proofs.Divided.{IsDivided, AreDivided}
 use Rattle.archive_btree_packing.proofs.Made.{first_of_all, inner_content, child_content_of}
 use Rattle.archive_btree_packing.proofs.Counted.{entries_counted, first_child, node_counted, branches_counted, child_counted}
-
--- ---- what is reached from what is reached
-
-module _ (names : Names) (bytes : List ℕ) where
-  mutual
-    pub reaches_on : {p q r : Part} → Reaches names bytes q p → Reaches names bytes r q → Reaches names bytes r p
-    reaches_on {r = r} (reaches_here e) f = subst (Reaches names bytes r) (sym e) f
-    reaches_on (reaches_plain e g) f = reaches_plain e (reaches_on_in g f)
-    reaches_on (reaches_claimed e g) f = reaches_claimed e (reaches_on_in g f)
-    reaches_on (reaches_counted e g) f = reaches_counted e (reaches_on g f)
-
-    reaches_on_in : {q r : Part} {ps : List Part} → ReachesIn names bytes q ps → Reaches names bytes r q → ReachesIn names bytes r ps
-    reaches_on_in (reaches_first g) f = reaches_first (reaches_on g f)
-    reaches_on_in (reaches_later g) f = reaches_later (reaches_on_in g f)
 
 -- ---- children that are packed
 
@@ -60,10 +47,10 @@ entries_in bytes most k v n level link key place bs (has_lesser {m = m} {cs = cs
 module _ (fit : Fit) (names : Names) (bytes : List ℕ) (most : ℕ) (k v : Shape) where
   -- each part that is reached is as written
   abbrev pub AllAsWritten : Part → Type 0
-  AllAsWritten p = (q : Part) → Reaches names bytes q p → IsAsWritten fit names bytes q
+  AllAsWritten p = All names bytes (λ q. IsAsWritten fit names bytes q) p
 
   abbrev AllAsWrittenIn : List Part → Type 0
-  AllAsWrittenIn ps = (q : Part) → ReachesIn names bytes q ps → IsAsWritten fit names bytes q
+  AllAsWrittenIn ps = AllIn names bytes (λ q. IsAsWritten fit names bytes q) ps
 
   -- what leads to a node leads to items
   pub led_items : (level pos : ℕ) (t : Tree Place) → HasNode bytes most k v level pos t
@@ -96,8 +83,7 @@ module _ (fit : Fit) (names : Names) (bytes : List ℕ) (most : ℕ) (k v : Shap
         let es = entries most k key v place in
         let c = inner_content names bytes most k v level pos low kind in
         let s = (all (node level most k v pos) (reaches_here refl)).claimed_settled _ _ _ c in
-        let first_byte : slice_index (drop pos bytes) 0 ≡ 1 = get_or-drop pos bytes 0 0 ∙ ap (slice_index bytes) (add-zero pos) ∙ kind in
-        let packed : IsPacked most 1 s.values = subst (λ z. IsPacked most z s.values) first_byte (settled_chosen fit bytes (node level most k v pos) (children (suc most) (suc level) most k v link ++ es) s.values s.settled) in
+        let packed : IsPacked most 1 s.values = subst (λ z. IsPacked most z s.values) (kind_of bytes pos ∙ kind) (settled_chosen fit bytes (node level most k v pos) (children (suc most) (suc level) most k v link ++ es) s.values s.settled) in
         let more : most + 1 ≡ suc most = omega arith in
         let inner_packed = subst (λ z. (most < count_values (weave (first_values z s.values) (other_values z s.values))) × ArePacked most (count_values (weave (first_values z s.values) (other_values z s.values))) 0 (first_values z s.values)) more packed in
         let count = branches_counted names bytes most k v most (suc level) link key place bs d es s.hold (other_values (suc most) s.values) (entries_counted names bytes most k v (suc level) link key place s.hold) in

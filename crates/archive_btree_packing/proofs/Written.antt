@@ -4,7 +4,6 @@ use Rattle.archive_shape_layout.specs.Shape.{Shape}
 use Rattle.archive_shape_layout.specs.Shape.Shape.{tree}
 use Rattle.archive_shape_layout.specs.Shape.Pointee.{sized}
 use Rattle.archive_shape_layout.specs.Value.{Value, Values, count_values}
-use Rattle.archive_shape_layout.specs.Value.Value.{natural, integer, boolean, string, group, chosen, counted, back}
 use Rattle.archive_shape_layout.specs.Value.Values.{no_values, more_values}
 use Rattle.archive_shape_layout.specs.Content.{Names, made, members, pointee_content}
 use Rattle.archive_shape_layout.specs.Content.Part.{at, behind}
@@ -14,9 +13,8 @@ use Rattle.archive_shape_layout.specs.Holds.Holds.{holds_plain, holds_claimed, h
 use Rattle.archive_shape_layout.specs.Holds.HoldAll.{holds_none, holds_more}
 use Rattle.archive_shape_layout.proofs.Evaluated.{ascends_raised}
 use Rattle.archive_shape_canonical.specs.Settled.{Fit}
-use Rattle.archive_shape_canonical.specs.Sharing.{erased, all_erased}
 use Rattle.archive_shape_canonical.specs.Everywhere.{reaches_here, reaches_claimed, reaches_first}
-use Rattle.archive_shape_canonical.proofs.Steps.{count_erased}
+use Rattle.archive_shape_canonical.proofs.Steps.{count_members}
 use Rattle.archive_btree_layout.specs.Tree.{items}
 use Rattle.archive_btree_layout.specs.Items.{IsTreeRead}
 use Rattle.archive_btree_layout.specs.Items.IsTreeRead.{reads_none, reads_tree}
@@ -62,16 +60,6 @@ module _ (names : Names) (bytes : List ℕ) (most : ℕ) (k v : Shape) (pos : �
 
 -- ---- what is written
 
-count_plain : (v : Value) (ws : Values) → erased v ≡ group ws → count_values (members v) ≡ count_values ws
-count_plain (group vs) ws e = let same_values : all_erased vs ≡ ws = cc in sym (count_erased vs) ∙ ap count_values same_values
-count_plain (natural m) ws e = absurd cc
-count_plain (integer m) ws e = absurd cc
-count_plain (boolean m) ws e = absurd cc
-count_plain (string m) ws e = absurd cc
-count_plain (chosen m vs) ws e = absurd cc
-count_plain (counted m u) ws e = absurd cc
-count_plain (back m) ws e = absurd cc
-
 count_plain_values : {C R : Type 0} (w : Spelling C R) (xs : List C) → count_values (plain_values w xs) ≡ length xs
 count_plain_values w [] = refl
 count_plain_values w (x ∷ xs) = let h = count_plain_values w xs in omega (arith, h)
@@ -84,7 +72,7 @@ map_is_packed {A} {B} {R} {Q} most k v keys vals fit names pairs bytes some item
     let value = (btree_spelling most k v keys vals).value pairs initial in
     let c = w.archive.canonical in
     let count : count_values (members value) ≡ length pairs =
-    count_plain value (plain_values (entry_spelling most k v keys vals) pairs) w.plain ∙ count_plain_values (entry_spelling most k v keys vals) pairs
+    sym (count_members value) ∙ ap (λ z. count_values (members z)) w.plain ∙ count_plain_values (entry_spelling most k v keys vals) pairs
     in
     elim (root_held names bytes most k v pos c.root.holds c.root.ascends) [
       | reads_none zero_len none ↦

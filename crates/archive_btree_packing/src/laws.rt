@@ -7,12 +7,13 @@ pub fn written_is_read()
     ensures { WrittenIsRead }
 {}
 
-/// Each search tree that the bytes have there is packed.
+/// The search tree of a map that the root of a canonical archive is, or reaches, is packed.
 pub fn written_is_packed()
     ensures { WrittenIsPacked }
 {}
 
-/// No search tree of as many items, in whatever bytes, has fewer nodes or less height.
+/// No search tree of as many items, in whatever bytes, has fewer nodes or less height than that of a map in a canonical
+/// archive.
 pub fn written_is_least()
     ensures { WrittenIsLeast }
 {}

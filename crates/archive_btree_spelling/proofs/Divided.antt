@@ -36,9 +36,6 @@ two_at_least : (a p q : ℕ) → 0 < a → 1 ≤ p → q ≡ p + a * p → 2 ≤
 two_at_least (suc a) p q k g f = omega (arith, g, f)
 two_at_least zero p q k g f = absurd (omega (arith, k))
 
-times : (a p q : ℕ) → p ≤ q → a * p ≤ a * q
-times a p q k = mul-le-mul_left a k
-
 first_power : (most : ℕ) → most * (most + 1) ^ 0 ≡ most
 first_power most = ap (λ z. most * z) (pow-zero (most + 1)) ∙ omega arith
 
@@ -75,7 +72,7 @@ module _ {A : Type 0} (most : ℕ) (some : 0 < most) where
       let more = power_more most (suc h) in
       let some_p : 1 ≤ p = one-le-pow h (most + 1) (omega arith) in
       let q_some : 2 ≤ q = two_at_least most p q some some_p next in
-      let much : most * 2 ≤ most * q = times most 2 q q_some in
+      let much : most * 2 ≤ most * q = mul-le-mul_left most q_some in
       absurd (omega (arith, e, few, more, much, q_some))
 
   mutual

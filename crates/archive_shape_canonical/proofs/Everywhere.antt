@@ -12,7 +12,7 @@ use Rattle.archive_shape_canonical.specs.Clean.{IsClean}
 use Rattle.archive_shape_canonical.specs.Settled.{Fit, IsSettled}
 use Rattle.archive_shape_canonical.specs.Canonical.{IsCanonical, AreCanonical, end_of}
 use Rattle.archive_shape_canonical.specs.Everywhere.{AreSettled, IsAsWritten, WrittenEverywhere}
-use Rattle.archive_shape_canonical.proofs.Reaching.{All, AllIn, Met, none_met, plain_all, claimed_all, counted_all, more_met, no_parts, more_parts}
+use Rattle.archive_shape_canonical.proofs.Reaching.{All, AllIn, Met, none_met, plain_all, claimed_all, counted_all, more_met, none_reached, more_reached}
 
 module _ (fit : Fit) (names : Names) (bytes : List ℕ) where
   plain_written : (p : Part) (l : Label) (ps : List Part) → content_of names bytes p ≡ plain l ps → IsClean names bytes p → AreSettled fit names bytes p ps → IsAsWritten fit names bytes p
@@ -75,11 +75,11 @@ module _ (fit : Fit) (names : Names) (bytes : List ℕ) where
 
     everywhere_in : {level : ℕ} {inside : List OpenShared} {ps : List Part} {vs : Values} {rs : List Region} {before after : List Visit} (low : ℕ)
         → (all : HoldAll names bytes level inside ps vs rs before after) → AreCanonical fit all low → Met names bytes Written before → AllIn names bytes Written ps × Met names bytes Written after
-    everywhere_in low (holds_none e f g) c met = (no_parts names bytes Written, subst (Met names bytes Written) (sym g) met)
+    everywhere_in low (holds_none e f g) c met = (none_reached names bytes Written, subst (Met names bytes Written) (sym g) met)
     everywhere_in low (holds_more {p = p} {ps = ps} h hs e r) c met =
         let one = everywhere low h c.0 met in
         let rest = everywhere_in (end_of h low) hs c.1 one.1 in
-        (more_parts names bytes Written one.0 rest.0, rest.1)
+        (more_reached names bytes Written one.0 rest.0, rest.1)
 
 pub written_everywhere_law : WrittenEverywhere
 written_everywhere_law fit names bytes start pos s v regions visits q x r =

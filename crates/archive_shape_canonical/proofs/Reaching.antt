@@ -1,4 +1,4 @@
--- What holds of every part that is reached, by steps from a part to its parts.
+-- Parts that are reached: what holds of all of them, by steps from a part to its parts.
 use Rattle.std.proofs.Common.{◌≡◌, ℕ, Bool, true, false, cond, ◌==◌, List, [], ◌∷◌, Some, sym, subst, ◌∙◌}
 use Rattle.archive_shape_layout.specs.Shape.{Pointee}
 use Rattle.archive_shape_layout.specs.Content.{Names, Part, Span, Label, content_of}
@@ -6,6 +6,19 @@ use Rattle.archive_shape_layout.specs.Content.Part.{behind}
 use Rattle.archive_shape_layout.specs.Content.Content.{plain, claimed, counting}
 use Rattle.archive_shape_layout.specs.Holds.{Visit, visited}
 use Rattle.archive_shape_canonical.specs.Everywhere.{Reaches, reaches_here, reaches_plain, reaches_claimed, reaches_counted, ReachesIn, reaches_first, reaches_later}
+
+module _ (names : Names) (bytes : List ℕ) where
+  -- what is reached from what is reached
+  mutual
+    pub reaches_on : {p q r : Part} → Reaches names bytes q p → Reaches names bytes r q → Reaches names bytes r p
+    reaches_on {r = r} (reaches_here e) f = subst (Reaches names bytes r) (sym e) f
+    reaches_on (reaches_plain e g) f = reaches_plain e (reaches_on_in g f)
+    reaches_on (reaches_claimed e g) f = reaches_claimed e (reaches_on_in g f)
+    reaches_on (reaches_counted e g) f = reaches_counted e (reaches_on g f)
+
+    reaches_on_in : {q r : Part} {ps : List Part} → ReachesIn names bytes q ps → Reaches names bytes r q → ReachesIn names bytes r ps
+    reaches_on_in (reaches_first g) f = reaches_first (reaches_on g f)
+    reaches_on_in (reaches_later g) f = reaches_later (reaches_on_in g f)
 
 module _ (names : Names) (bytes : List ℕ) (P : Part → Type 0) where
   -- of a part and every part in it
@@ -57,9 +70,9 @@ module _ (names : Names) (bytes : List ℕ) (P : Part → Type 0) where
       by_test true f = let same : x ≡ y = cc in subst (λ (z : Visit). All (behind z.pos z.pointee z.len)) same here
       by_test false f = met y f
 
-  pub no_parts : AllIn []
-  no_parts q r = elim r [ ]
+  pub none_reached : AllIn []
+  none_reached q r = elim r [ ]
 
-  pub more_parts : {p : Part} {ps : List Part} → All p → AllIn ps → AllIn (p ∷ ps)
-  more_parts one rest q (reaches_first r) = one q r
-  more_parts one rest q (reaches_later r) = rest q r
+  pub more_reached : {p : Part} {ps : List Part} → All p → AllIn ps → AllIn (p ∷ ps)
+  more_reached one rest q (reaches_first r) = one q r
+  more_reached one rest q (reaches_later r) = rest q r

@@ -1,4 +1,4 @@
-use Rattle.archive_btree_packing.proofs.Standing.{written_is_read_law}
+use Rattle.archive_btree_packing.proofs.Held.{written_is_read_law}
 use Rattle.archive_btree_packing.proofs.laws.written_is_read.Goals as goal
 
 pub returns : goal.returns
