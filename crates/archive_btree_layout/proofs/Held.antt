@@ -104,13 +104,13 @@ word_within bytes pos size off h =
 pub word_of : (bytes : List ℕ) (link : ℕ) → word_at (window bytes link 4) 0 ≡ word_at bytes link
 word_of bytes link = let e = word_within bytes link 4 0 (omega arith) in let z : link + 0 ≡ link = omega arith in subst (λ p. word_at (window bytes link 4) 0 ≡ word_at bytes p) z e
 
-kind_of : (bytes : List ℕ) (pos : ℕ) → slice_index (drop pos bytes) 0 ≡ slice_index bytes pos
+pub kind_of : (bytes : List ℕ) (pos : ℕ) → slice_index (drop pos bytes) 0 ≡ slice_index bytes pos
 kind_of bytes pos = let e = get_or-drop pos bytes 0 0 in let z : pos + 0 ≡ pos = omega arith in subst (λ p. slice_index (drop pos bytes) 0 ≡ slice_index bytes p) z e
 
 -- ---- a node, where the nodes below it are read
 
 -- a claimed region lies in the buffer, and what it claims ascends before it
-region_inside : (low high : ℕ) (rs within : List Region) (s : Span) (level : ℕ) → rs ≡ within ++ region_of s level ∷ [] → Ascends low high rs
+pub region_inside : (low high : ℕ) (rs within : List Region) (s : Span) (level : ℕ) → rs ≡ within ++ region_of s level ∷ [] → Ascends low high rs
     → Ascends low s.start within × (s.start + s.size ≤ high)
 unfolding Ascends
 region_inside low high rs within s level e a =
@@ -197,7 +197,7 @@ module _ (names : Names) (bytes : List ℕ) (most : ℕ) (k v : Shape) where
       → Ascends low (length bytes) rs
       → ReadNode level pos value
 
-  same_is : (l : Label) (u : Value) (vs : Values) (value : Value) → l ≡ same → vs ≡ more_values u no_values → made l vs ≡ Some value → value ≡ u
+  pub same_is : (l : Label) (u : Value) (vs : Values) (value : Value) → l ≡ same → vs ≡ more_values u no_values → made l vs ≡ Some value → value ≡ u
   unfolding made
   same_is l u vs value e f m =
       let n : made same (more_values u no_values) ≡ Some value = subst (λ x. made x (more_values u no_values) ≡ Some value) e (subst (λ x. made l x ≡ Some value) f m) in cc
@@ -334,7 +334,7 @@ module _ (names : Names) (bytes : List ℕ) (most : ℕ) (k v : Shape) where
   level_bound level pos (suc zero) own s l ps e = leb-true level 32 (pick (nat_le level 32) _ e).0
   level_bound level pos (suc (suc kind)) own s l ps e = absurd cc
 
-  woven_is : (l : Label) (vs : Values) (value : Value) (n : ℕ) → l ≡ woven n → made l vs ≡ Some value → value ≡ group (weave (first_values n vs) (other_values n vs))
+  pub woven_is : (l : Label) (vs : Values) (value : Value) (n : ℕ) → l ≡ woven n → made l vs ≡ Some value → value ≡ group (weave (first_values n vs) (other_values n vs))
   unfolding made
   woven_is l vs value n e m = let x : made (woven n) vs ≡ Some value = subst (λ y. made y vs ≡ Some value) e m in cc
 

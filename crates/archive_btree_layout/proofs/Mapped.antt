@@ -20,7 +20,7 @@ use Rattle.archive_btree_layout.specs.Items.IsTreeRead.{reads_none, reads_tree}
 use Rattle.archive_btree_layout.specs.Reading.{Place, HasNode}
 use Rattle.archive_btree_layout.proofs.Held.{IsPlain, chosen_plain, word_within, word_of, no_parts, whole_is, ascends_first, root_read, ReadNode}
 
-pairs_count : (names : Names) (bytes : List ℕ) (k v : Shape) (ps : List Place) (ws : Values) → ArePairs names bytes k v ps ws → length ps ≡ count_values ws
+pub pairs_count : (names : Names) (bytes : List ℕ) (k v : Shape) (ps : List Place) (ws : Values) → ArePairs names bytes k v ps ws → length ps ≡ count_values ws
 pairs_count names bytes k v [] no_values h = refl
 pairs_count names bytes k v [] (more_values w ws) h = absurd h
 pairs_count names bytes k v (p ∷ ps) no_values h = absurd h
