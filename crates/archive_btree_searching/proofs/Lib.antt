@@ -7,3 +7,4 @@ pub mod Nodes
 pub mod Walked
 pub mod Visited
 pub mod Passing
+pub mod Ranged

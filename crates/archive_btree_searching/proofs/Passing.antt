@@ -1,6 +1,6 @@
 -- The descent to the first item that does not pass a test.
 use Rattle.std.proofs.Common.{◌≡◌, ◌∙◌, ℕ, zero, suc, ◌+◌, ◌-◌, ◌<◌, ◌≤◌, List, [], ◌∷◌, ◌++◌, length, set, Bool, true, false, Option, Some, None, refl, ap, sym, subst, arith, append_assoc, add-one, append-nil}
-use Rattle.std.specs.Prelude.{All, filter, not, slice_index}
+use Rattle.std.specs.Prelude.{All, filter, not}
 use Rattle.std.proofs.lemmas.List.Elements.{filter-append}
 use Rattle.archive_btree_layout.specs.Tree.{Tree, items}
 use Rattle.archive_btree_layout.specs.Reading.{Place}

@@ -1,8 +1,8 @@
 -- What holds of all elements of a list, or of all pairs, holds in its parts; and what a test keeps of a list that it stays true in.
-use Rattle.std.proofs.Common.{◌≡◌, ◌∙◌, ℕ, zero, suc, ◌+◌, ◌<◌, List, [], ◌∷◌, ◌++◌, length, Bool, true, false, refl, ap, sym, subst, arith, length-append}
+use Rattle.std.proofs.Common.{◌≡◌, ◌∙◌, zero, suc, ◌+◌, List, [], ◌∷◌, ◌++◌, length, Bool, true, false, refl, ap, sym, subst, arith, length-append}
 use Rattle.std.specs.Prelude.{All, AllPairs, filter, cond, not, slice_index_or, ◌&&◌}
 use Rattle.std.proofs.lemmas.List.{get_or_append_left, get_or-append-add}
-use Rattle.std.proofs.lemmas.List.Elements.{All-head, All-tail, filter-append}
+use Rattle.std.proofs.lemmas.List.Elements.{All-head, All-tail}
 use Rattle.archive_btree_searching.specs.Ranges.{Stays}
 
 module _ {A : Type 0} (P : A → Type 0) (xs ys : List A) (all : All P (xs ++ ys)) where
@@ -34,6 +34,11 @@ pub not_true : (b : Bool) → (b ≡ true → ⊥) → b ≡ false
 not_true true h = absurd (h refl)
 not_true false h = refl
 
+-- the negation of one
+pub not_swap : (a b : Bool) → not a ≡ b → a ≡ not b
+not_swap true b h = ap not h
+not_swap false b h = ap not h
+
 pub not_not : (b : Bool) → not (not b) ≡ b
 not_not true = refl
 not_not false = refl
@@ -62,6 +67,9 @@ module _ {A : Type 0} (f : A → Bool) where
   pub stays_all : (x : A) (xs : List A) → Stays f (x ∷ xs) → f x ≡ true → All (λ y. f y ≡ true) (x ∷ xs)
   stays_all x xs h first zero d below = first
   stays_all x xs h first (suc k) d below = pairs_head Later x xs h k d (omega arith) first
+
+  pub stays_twice : (xs : List A) → Stays f xs → Stays (λ x. not (not (f x))) xs
+  stays_twice xs h i j d less below passes = not_not _ ∙ h i j d less below (sym (not_not _) ∙ passes)
 
   -- a later one does not pass it, and so does none before
   pub stays_none : (xs ys : List A) (e : A) → Stays f (xs ++ e ∷ ys) → f e ≡ false → All (λ y. f y ≡ false) xs

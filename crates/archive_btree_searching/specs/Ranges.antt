@@ -15,6 +15,11 @@ abbrev pub IfFirst : {A : Type 0} → (A → Type 0) → List A → Type 0
 IfFirst P [] = ⊤
 IfFirst P (x ∷ xs) = P x
 
+-- where the key of the first stands, if there is one
+abbrev pub next_key : List Place → Option ℕ
+next_key [] = None
+next_key (e ∷ es) = Some e.key
+
 -- these stand side by side in the whole
 pub record IsRun {A : Type 0} (es whole : List A) : Type 0 where
   pub before : List A

@@ -55,16 +55,17 @@ impl<'a> Range<'a> {
             → result ≡ filter (λ e. not (p e) && not (q e)) (items t) }
     {
         let stack = Stack::behind(bytes, root, layout, precedes);
-        let mut rest = stack;
-        match pass_entry(&mut rest, bytes, layout) {
-            Some(first) if !follows(first.key) => {
-                let mut rest = Stack::behind(bytes, root, layout, &|key| !follows(key));
-                let end = pass_entry(&mut rest, bytes, layout).map(|entry| entry.key);
+        match stack.next_key(bytes, layout) {
+            Some(first) if !follows(first) => {
+                let is_before_end = |key: usize| -> bool
+                    requires { G.pre follows.now key }
+                    ensures { G.post follows.entry.now key (not result) }
+                { !follows(key) };
                 Range {
                     bytes,
                     layout,
                     stack,
-                    end,
+                    end: Stack::behind(bytes, root, layout, &is_before_end).next_key(bytes, layout),
                 }
             }
             _ => Range::empty(bytes, layout),

@@ -7,7 +7,7 @@ ghost use Rattle.archive_btree_layout.specs.Reading.{Place};
 ghost use Rattle.archive_btree_searching.specs.Layout.{IsTreeAt};
 ghost use Rattle.archive_btree_searching.specs.Nodes.{place_of};
 ghost use Rattle.archive_btree_searching.specs.Walking.{child_items, node_items, stack_items, IsStack};
-ghost use Rattle.archive_btree_searching.specs.Ranges.{Decides, Stays, IfFirst};
+ghost use Rattle.archive_btree_searching.specs.Ranges.{Decides, Stays, IfFirst, next_key};
 
 use crate::node::{child_of, entry_count, entry_of};
 use crate::{EntryAt, NodeLayout};
@@ -76,6 +76,15 @@ impl Stack {
             child = child_of(bytes, layout, pos, next);
         }
         stack
+    }
+
+    /// Where the key of the entry that comes next stands, if there is one.
+    pub(crate) fn next_key(self, bytes: &[u8], layout: NodeLayout) -> Option<usize>
+        requires { IsStack bytes.now layout self.nodes self.nexts self.depth }
+        ensures { result ≡ next_key (stack_items bytes.now layout self.nodes self.nexts self.depth) }
+    {
+        let mut rest = self;
+        Some(pass_entry(&mut rest, bytes, layout)?.key)
     }
 }
 

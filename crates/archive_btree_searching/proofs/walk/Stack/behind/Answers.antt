@@ -1,4 +1,4 @@
-use Rattle.std.proofs.Common.{◌≡◌, ◌∙◌, ◌+◌, ◌-◌, ◌*◌, ◌^◌, ◌<◌, ◌≤◌, ◌++◌, [], List, length, refl, ap, sym, subst, arith, append-nil, mul-le-mul_right}
+use Rattle.std.proofs.Common.{◌+◌, ◌*◌, ◌≤◌, refl, arith, mul-le-mul_right}
 use Rattle.archive_btree_layout.specs.Tree.{items}
 use Rattle.archive_btree_searching.proofs.NodeTree.{tree_level, tree_readable}
 use Rattle.archive_btree_searching.proofs.Walked.{leads_some, node_same}
