@@ -55,20 +55,22 @@ impl<'a> Range<'a> {
             → result ≡ filter (λ e. not (p e) && not (q e)) (items t) }
     {
         let stack = Stack::behind(bytes, root, layout, precedes);
-        match stack.next_key(bytes, layout) {
-            Some(first) if !follows(first) => {
-                let is_before_end = |key: usize| -> bool
-                    requires { G.pre follows.now key }
-                    ensures { G.post follows.entry.now key (not result) }
-                { !follows(key) };
-                Range {
-                    bytes,
-                    layout,
-                    stack,
-                    end: Stack::behind(bytes, root, layout, &is_before_end).next_key(bytes, layout),
-                }
-            }
-            _ => Range::empty(bytes, layout),
+        let Some(first) = stack.next_key(bytes, layout) else {
+            return Range::empty(bytes, layout);
+        };
+        let is_behind = follows(first);
+        if is_behind {
+            return Range::empty(bytes, layout);
+        }
+        let is_before_end = |key: usize| -> bool
+            requires { G.pre follows.now key }
+            ensures { G.post follows.entry.now key (not result) }
+        { !follows(key) };
+        Range {
+            bytes,
+            layout,
+            stack,
+            end: Stack::behind(bytes, root, layout, &is_before_end).next_key(bytes, layout),
         }
     }
 
