@@ -9,7 +9,7 @@ use Rattle.archive_btree_layout.specs.Descent.{descend, descend_in, met, met_by}
 use Rattle.archive_btree_layout.specs.Reading.{Place}
 use Rattle.archive_btree_searching.specs.Nodes.{child_of, entry_of}
 use Rattle.archive_btree_searching.specs.Searching.{IsAbove}
-use Rattle.archive_btree_searching.specs.declared.layout.NodeLayout.{NodeLayout}
+use Rattle.archive_btree_nodes.specs.declared.layout.NodeLayout.{NodeLayout}
 use Rattle.archive_btree_searching.proofs.Sublists.{all_front, all_back}
 use Rattle.archive_btree_searching.proofs.NodeTree.{ChildIs, Branching}
 use Rattle.archive_btree_searching.proofs.NodeTree.Branching.{last, more}

@@ -1,6 +1,5 @@
 pub mod Pointers
 pub mod Sublists
-pub mod Layouts
 pub mod NodeTree
 pub mod Descending
 pub mod Nodes

@@ -8,7 +8,7 @@ use Rattle.archive_btree_searching.specs.Layout.{IsTreeAt}
 use Rattle.archive_btree_searching.specs.Nodes.{child_of, entry_of, entry_count}
 use Rattle.archive_btree_searching.specs.Walking.{child_items, items_from, node_items, frame_items, stack_items}
 use Rattle.archive_btree_searching.specs.Ranges.{Decides, Stays, IfFirst}
-use Rattle.archive_btree_searching.specs.declared.layout.NodeLayout.{NodeLayout}
+use Rattle.archive_btree_nodes.specs.declared.layout.NodeLayout.{NodeLayout}
 use Rattle.archive_btree_searching.proofs.Nodes.{own_holds}
 use Rattle.archive_btree_searching.proofs.Sublists.{all_front, all_back, pairs_front, pairs_back, filter_all, filter_none, stays_all, stays_none}
 use Rattle.archive_btree_searching.proofs.NodeTree.{tree_level}

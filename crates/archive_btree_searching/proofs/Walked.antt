@@ -9,7 +9,7 @@ use Rattle.archive_btree_layout.specs.Reading.{Place}
 use Rattle.archive_btree_searching.specs.Layout.{IsTreeAt}
 use Rattle.archive_btree_searching.specs.Nodes.{child_of, entry_of, entry_count}
 use Rattle.archive_btree_searching.specs.Walking.{child_items, items_from, node_items, frame_items, stack_items, IsFrame, IsStack}
-use Rattle.archive_btree_searching.specs.declared.layout.NodeLayout.{NodeLayout}
+use Rattle.archive_btree_nodes.specs.declared.layout.NodeLayout.{NodeLayout}
 use Rattle.archive_btree_searching.proofs.NodeTree.{ChildIs, Branching, tree_branching, tree_level}
 use Rattle.archive_btree_searching.proofs.NodeTree.Branching.{last, more}
 

@@ -7,8 +7,9 @@ ghost use Rattle.archive_btree_searching.specs.Layout.{IsTreeAt};
 ghost use Rattle.archive_btree_searching.specs.Nodes.{place_of};
 ghost use Rattle.archive_btree_searching.specs.Ranges.{Decides, Stays, IsRun};
 
+use crate::EntryAt;
 use crate::walk::{Stack, pass_entry};
-use crate::{EntryAt, NodeLayout};
+use archive_btree_nodes::NodeLayout;
 use std::iter::FusedIterator;
 use std::marker::Model;
 

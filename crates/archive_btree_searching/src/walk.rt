@@ -9,8 +9,9 @@ ghost use Rattle.archive_btree_searching.specs.Nodes.{place_of};
 ghost use Rattle.archive_btree_searching.specs.Walking.{child_items, node_items, stack_items, IsStack};
 ghost use Rattle.archive_btree_searching.specs.Ranges.{Decides, Stays, IfFirst, next_key};
 
+use crate::EntryAt;
 use crate::node::{child_of, entry_count, entry_of};
-use crate::{EntryAt, NodeLayout};
+use archive_btree_nodes::NodeLayout;
 use std::iter::FusedIterator;
 use std::marker::Model;
 
