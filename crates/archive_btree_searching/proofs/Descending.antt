@@ -1,25 +1,18 @@
 -- The descent through a node, by what a search among its keys answers, and what holds of its items.
-use Rattle.std.proofs.Common.{◌≡◌, ℕ, zero, suc, ◌+◌, ◌<◌, ◌≤◌, List, ◌∷◌, ◌++◌, length, min, Some, refl, sym, subst, arith, length-append}
+use Rattle.std.proofs.Common.{◌≡◌, ℕ, zero, suc, ◌+◌, ◌<◌, ◌≤◌, List, ◌∷◌, min, Some, refl, sym, subst, arith}
 use Rattle.std.specs.Prelude.{All}
 use Rattle.std.specs.declared.cmp.Ordering.{Ordering}
 use Rattle.std.specs.declared.cmp.Ordering.TheVariants.{Less, Equal}
-use Rattle.std.proofs.lemmas.List.{get_or_append_left, get_or-append-add}
 use Rattle.std.proofs.lemmas.List.Elements.{All-head, All-tail}
 use Rattle.archive_btree_layout.specs.Tree.{Tree, Branches, items, items_of}
 use Rattle.archive_btree_layout.specs.Descent.{descend, descend_in, met, met_by}
 use Rattle.archive_btree_layout.specs.Reading.{Place}
 use Rattle.archive_btree_searching.specs.Nodes.{child_of, entry_of}
 use Rattle.archive_btree_searching.specs.Searching.{IsAbove}
-use Rattle.archive_btree_searching.specs.declared.layout.NodeLayout.{NodeLayout}
+use Rattle.archive_btree_nodes.specs.declared.layout.NodeLayout.{NodeLayout}
+use Rattle.archive_btree_searching.proofs.Sublists.{all_front, all_back}
 use Rattle.archive_btree_searching.proofs.NodeTree.{ChildIs, Branching}
 use Rattle.archive_btree_searching.proofs.NodeTree.Branching.{last, more}
-
-module _ {A : Type 0} (P : A → Type 0) (xs ys : List A) (all : All P (xs ++ ys)) where
-  all_front : All P xs
-  all_front k d below = subst P (get_or_append_left xs ys d k below) (all k d (simp length-append (omega arith)))
-
-  all_back : All P ys
-  all_back k d below = subst P (get_or-append-add xs ys k d) (all (length xs + k) d (simp length-append (omega arith)))
 
 module _ (bytes : List ℕ) (l : NodeLayout) (level pos : ℕ) where
   module _ (P : Place → Type 0) where

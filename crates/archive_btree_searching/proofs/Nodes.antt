@@ -5,7 +5,7 @@ use Rattle.std.specs.declared.cmp.Ordering.{Ordering}
 use Rattle.archive_btree_layout.specs.Tree.{Tree, items}
 use Rattle.archive_btree_layout.specs.Descent.{descend, met}
 use Rattle.archive_btree_layout.specs.Reading.{Place}
-use Rattle.archive_btree_searching.specs.declared.layout.NodeLayout.{NodeLayout}
+use Rattle.archive_btree_nodes.specs.declared.layout.NodeLayout.{NodeLayout}
 use Rattle.archive_btree_searching.specs.declared.search.Outcome.{Outcome}
 use Rattle.archive_btree_searching.specs.declared.search.Outcome.TheVariants.{Equals, Before}
 use Rattle.archive_btree_searching.specs.Layout.{IsTreeAt}

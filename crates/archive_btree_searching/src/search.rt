@@ -9,8 +9,9 @@ ghost use Rattle.archive_btree_searching.specs.Layout.{IsTreeAt};
 ghost use Rattle.archive_btree_searching.specs.Nodes.{place_of};
 ghost use Rattle.archive_btree_searching.specs.Searching.{Answers, IsAmong, IsEqualTo, IsWithin, Orders, OrdersKeys};
 
+use crate::EntryAt;
 use crate::node::{child_of, entry_count, entry_of};
-use crate::{EntryAt, NodeLayout};
+use archive_btree_nodes::NodeLayout;
 use std::cmp::Ordering;
 
 /// What a search among a node's keys answers, by the number of a key.

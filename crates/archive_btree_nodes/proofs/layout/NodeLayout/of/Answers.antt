@@ -2,12 +2,13 @@ use Rattle.std.proofs.Common.{arith, ◌≡◌, ◌+◌, ◌*◌, max, refl, ◌
 use Rattle.archive_shape_layout.specs.Shape.{size_of, align_of}
 use Rattle.archive_shape_layout.specs.Content.{keys_offset, values_offset, node_size, links_offset, link_node_size, link_node_align}
 use Rattle.archive_forms_checking.proofs.Claimed.{elements_cut}
-use Rattle.archive_btree_checking.proofs.Offsets.{field_behind, field_at}
-use Rattle.archive_btree_checking.proofs.layout.node_layout.Goals as goal
+use Rattle.archive_btree_nodes.proofs.Offsets.{field_behind, field_at}
+use Rattle.archive_btree_nodes.proofs.Layouts.{layout_is, links_within}
+use Rattle.archive_btree_nodes.proofs.layout.NodeLayout.of.Goals as goal
 
-pub returns : goal.returns
+pub returns-clause-parts : goal.returns-clause-parts
 unfolding keys_offset values_offset node_size links_offset link_node_size link_node_align
-returns g c =
+returns-clause-parts g c =
     let k = g.K.Portable.shape in
     let v = g.V.Portable.shape in
     let key_aligned = c.ALIGN.ensures ∙ g.met.K.Portable.aligned in
@@ -26,4 +27,12 @@ returns g c =
     links (omega arith) c.saturating_add-leaf_end.ensures link_align c.next_multiple.ensures in
     let inner = field_behind (links_offset g.row.E k v) c.next_multiple-links.result ((g.row.E + 1) * 4) c.saturating_mul-3.result c.saturating_add-inner_end.result c.greater-link_align.result (link_node_align k v) c.next_multiple-2.result
     links (omega (arith, c.saturating_mul-3.ensures, c.saturating_add.ensures)) c.saturating_add-inner_end.ensures link_align c.next_multiple-2.ensures in
-    record { keys = keys; values = values; size = size; align = align; links = links; leaf = leaf; inner = inner; link_align = link_align }
+    record { entries = refl; keys = keys; key_size = c.SIZE-3.ensures ∙ g.met.K.Portable.sized; values = values; value_size = c.SIZE-4.ensures ∙ g.met.V.Portable.sized; size = size; align = align; links = links; leaf = leaf; inner = inner; link_align = link_align }
+
+pub returns-clause-exact : goal.returns-clause-exact
+returns-clause-exact g c some below = layout_is g.row.E g.K.Portable.shape g.V.Portable.shape _ some below (returns-clause-parts g c)
+
+pub returns-clause-buffer : goal.returns-clause-buffer
+returns-clause-buffer g c bytes level pos t some small n =
+    let within = links_within g.row.E g.K.Portable.shape g.V.Portable.shape bytes level pos t n in
+    returns-clause-exact g c some (omega arith)
