@@ -9,7 +9,8 @@ ghost use Rattle.archive_btree_searching.specs.Layout.{IsTreeAt};
 ghost use Rattle.archive_forms_reading.specs.Parts.{HasValue, both};
 ghost use Rattle.archive_btree_reading.specs.Maps.{IsMapAt};
 
-use archive_btree_searching::{NodeLayout, Walk};
+use archive_btree_nodes::NodeLayout;
+use archive_btree_searching::Walk;
 use archive_forms_reading::target_of;
 use archive_shape_portable::Portable;
 
