@@ -39,7 +39,8 @@ impl<'a> Model for Range<'a> {
 
 impl<'a> Range<'a> {
     /// A walk over the entries of the tree at a root that lie neither before nor behind a range. `precedes` says whether
-    /// the key at a position lies before the range, and `follows` whether it lies behind it.
+    /// the key at a position lies before the range, and `follows` whether it lies behind it. Where the first entry that
+    /// lies not before the range lies behind it, the walk has no entries. `next` calls neither of the two.
     pub fn new<F: Fn(usize) -> bool, G: Fn(usize) -> bool>(
         bytes: &'a [u8],
         root: usize,

@@ -49,7 +49,7 @@ impl Stack {
     }
 
     /// A stack of which the entries of the tree at a root are passed up to the first that does not pass a test of the
-    /// position of its key. Where one that passes follows one that does not, what is passed is not specified.
+    /// position of its key. Where one that passes follows one that does not, how many are passed is not specified.
     pub(crate) fn behind<F: Fn(usize) -> bool>(
         bytes: &[u8],
         root: usize,
