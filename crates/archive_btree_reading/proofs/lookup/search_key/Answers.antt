@@ -2,7 +2,7 @@ use Rattle.std.proofs.Common.{◌∙◌, sym}
 use Rattle.std.proofs.lemmas.Option.{IfSome_then}
 use Rattle.archive_btree_layout.specs.Tree.{items}
 use Rattle.archive_btree_reading.specs.Lookups.{IsEqualKey}
-use Rattle.archive_btree_reading.proofs.Keys.{entries_are}
+use Rattle.archive_btree_reading.proofs.Held.{entries_are}
 use Rattle.archive_btree_reading.proofs.Refs.{finds_called, reversed_equal}
 use Rattle.archive_btree_reading.proofs.lookup.search_key.Goals as goal
 

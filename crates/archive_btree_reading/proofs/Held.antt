@@ -1,5 +1,5 @@
 -- The keys and values of a map at their places.
-use Rattle.std.proofs.Common.{◌≡◌, ℕ, List, [], ◌∷◌, Option, Some, None, IfSome, All, get_or, sym, subst}
+use Rattle.std.proofs.Common.{◌≡◌, ℕ, List, [], ◌∷◌, Option, Some, None, IfSome, All, sym, subst}
 use Rattle.std.proofs.lemmas.List.Elements.{All-nil, All-cons, All-contains}
 use Rattle.archive_shape_layout.specs.Shape.{Shape}
 use Rattle.archive_shape_layout.specs.Shape.Shape.{tree}
@@ -44,7 +44,3 @@ found_there k v knows others bytes most pos h of holds P step (Some a) finds =
     let f = finds m.search_tree m.map in
     let all = entries_are k v knows others bytes (EntryIsThere k v knows others bytes) (λ e u w x y. (record { value = u; held = x }, record { value = w; held = y })) most pos h m.search_tree m.map in
     subst P (sym f.3) (step f.0 (All-contains (EntryIsThere k v knows others bytes) (items m.search_tree) f.0 all f.1))
-
--- what follows at each place follows at all
-pub all_map : {A : Type 0} (P Q : A → Type 0) (step : (x : A) → P x → Q x) (xs : List A) → All P xs → All Q xs
-all_map P Q step xs h = λ i d less. step (get_or xs i d) (h i d less)
