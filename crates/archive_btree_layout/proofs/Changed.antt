@@ -83,13 +83,13 @@ module _ (xs ys : List ℕ) where
         regions_same (r.start + r.size) high rs here there (λ i le lt. same i (omega arith) lt) a.1,
       )
 
-  -- a key whose own bytes and regions are the same is held
-  pub key_same : (names : Names) (k : Shape) {depth : ℕ} {inside : List OpenShared} {value : Value} {rs : List Region} {before after : List Visit} (low high key : ℕ)
-      → high ≤ key → key + size_of k ≤ length xs → key + size_of k ≤ length ys
-      → AreSame low high → AreSame key (key + size_of k)
-      → Ascends low high rs → Holds names xs depth inside (at key k) value rs before after
-      → IsHeld names ys k key value
-  key_same names k {depth} {inside} {value} {rs} {before} {after} low high key below here there same own a h =
+  -- what is held is held in bytes that agree on its own and on what is claimed
+  pub held_same : (names : Names) (s : Shape) {depth : ℕ} {inside : List OpenShared} {value : Value} {rs : List Region} {before after : List Visit} (low high start : ℕ)
+      → high ≤ start → start + size_of s ≤ length xs → start + size_of s ≤ length ys
+      → AreSame low high → AgreesOn xs ys start (size_of s)
+      → Ascends low high rs → Holds names xs depth inside (at start s) value rs before after
+      → IsHeld names ys s start value
+  held_same names s {depth} {inside} {value} {rs} {before} {after} low high start below here there same own a h =
       record {
         depth = depth;
         inside = inside;
@@ -97,8 +97,8 @@ module _ (xs ys : List ℕ) where
         before = before;
         after = after;
         own_within = there;
-        ascends = ascends_lowered 0 low key rs (omega arith) (ascends_raised low high key rs below a);
-        holds = frame xs ys names (window_same key (size_of k) here there own) (regions_same low high rs (omega arith) (omega arith) same a) h;
+        ascends = ascends_lowered 0 low start rs (omega arith) (ascends_raised low high start rs below a);
+        holds = frame xs ys names own (regions_same low high rs (omega arith) (omega arith) same a) h;
       }
 
 -- bytes from one index up to another are the same, but for the values of entries

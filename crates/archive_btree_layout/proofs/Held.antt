@@ -23,7 +23,7 @@ use Rattle.archive_btree_layout.specs.Tree.Tree.{absent, leaf, inner}
 use Rattle.archive_btree_layout.specs.Tree.Branches.{greater, lesser}
 use Rattle.archive_btree_layout.specs.Reading.{Place, places, HasNode, HasBranches, HasChild}
 use Rattle.archive_btree_layout.specs.Items.{AreAt, ArePairs}
-use Rattle.archive_btree_layout.specs.Changing.{IsOutside, IsInNoValue, IsKey}
+use Rattle.archive_btree_layout.specs.Changing.{IsOutside, IsInNoValue, IsKept}
 use Rattle.archive_btree_layout.specs.Reading.HasNode.{has_leaf, has_inner}
 use Rattle.archive_btree_layout.specs.Reading.HasBranches.{has_greater, has_lesser}
 use Rattle.archive_btree_layout.specs.Reading.HasChild.{no_child, a_child}
@@ -32,9 +32,9 @@ use Rattle.archive_btree_layout.proofs.Changed.{AreIn, Agrees, AreSame, none_in,
 use Rattle.archive_btree_layout.proofs.Paired.{region_inside, ascends_first, append_at, whole_is, EntriesHeld, entries_held}
 
 module _ (names : Names) (bytes : List ℕ) (most : ℕ) (k v : Shape) where
-  -- the keys of pairs in other bytes
-  abbrev AreKeys : List ℕ → List Place → Values → Type 0
-  AreKeys others ps ws = AreAt (IsKey names others k) ps ws
+  -- what other bytes have of pairs
+  abbrev AreKept : List ℕ → List Place → Values → Type 0
+  AreKept others ps ws = AreAt (IsKept names bytes others k v) ps ws
 
   -- between two positions a node is read, and its items are the pairs of its value; it is the same in bytes that agree
   -- there but for the items' values
@@ -43,7 +43,7 @@ module _ (names : Names) (bytes : List ℕ) (most : ℕ) (k v : Shape) where
     pub node : HasNode bytes most k v level pos tree
     pub pairs : ArePairs names bytes k v (items tree) (members value)
     pub within : AreIn v low high (items tree)
-    pub kept : (others : List ℕ) → Agrees v (items tree) bytes others low high → HasNode others most k v level pos tree × AreKeys others (items tree) (members value)
+    pub kept : (others : List ℕ) → Agrees v (items tree) bytes others low high → HasNode others most k v level pos tree × AreKept others (items tree) (members value)
 
   -- the same of a pointer to a child, which lies elsewhere
   pub record ReadChild (low high level link : ℕ) (value : Value) : Type 0 where
@@ -53,7 +53,7 @@ module _ (names : Names) (bytes : List ℕ) (most : ℕ) (k v : Shape) where
     pub within : AreIn v low high (items tree)
     pub kept :
         (others : List ℕ) → Agrees v (items tree) bytes others low high → word_at others link ≡ word_at bytes link
-        → HasChild others most k v level link tree × AreKeys others (items tree) (members value)
+        → HasChild others most k v level link tree × AreKept others (items tree) (members value)
 
   -- every node at the level that the layout holds is read
   abbrev Reads : ℕ → Type 0
@@ -127,7 +127,7 @@ module _ (names : Names) (bytes : List ℕ) (most : ℕ) (k v : Shape) where
         child = no_child invalid refl;
         pairs = subst (λ x. ArePairs names bytes k v [] (members x)) (sym empty) tt;
         within = none_in v low high;
-        kept = λ others g w. (no_child (w ∙ invalid) refl, subst (λ x. AreKeys others [] (members x)) (sym empty) tt);
+        kept = λ others g w. (no_child (w ∙ invalid) refl, subst (λ x. AreKept others [] (members x)) (sym empty) tt);
       }
   child_read {depth} {inside} {level} {link} low high false top read is e m all a =
       followed low high (target_from link (word_at (window bytes link 4) 0)) top read (ap (target_from link) (sym (word_of bytes link)))
@@ -165,7 +165,7 @@ module _ (names : Names) (bytes : List ℕ) (most : ℕ) (k v : Shape) where
     kept :
         (others : List ℕ) → Agrees v (items_of branches) bytes others bottom low → AreSame bytes others link (link + suc n * 4)
         → HasBranches others most k v n level link key place branches
-        × ((ws : Values) → AreKeys others (places n k key v place) ws → AreKeys others (items_of branches) (weave (first_values (suc n) vs) ws))
+        × ((ws : Values) → AreKept others (places n k key v place) ws → AreKept others (items_of branches) (weave (first_values (suc n) vs) ws))
 
   last_woven : (IsAt : Place → Value → Type 0) (tree : Tree Place) (c : Value) (us : Values) → AreAt IsAt (items tree) (members c) → (ws : Values) → AreAt IsAt [] ws
       → AreAt IsAt (items tree) (weave (first_values 1 (more_values c us)) ws)
@@ -284,7 +284,7 @@ module _ (names : Names) (bytes : List ℕ) (most : ℕ) (k v : Shape) where
       → low ≤ pos → pos + link_node_size 1 most k v ≤ high
       → EntriesHeld names bytes k v len low pos (pos + keys_offset k) (pos + values_offset most k v) ws
       → (others : List ℕ) → Agrees v (places len k (pos + keys_offset k) v (pos + values_offset most k v)) bytes others low high
-      → HasNode others most k v level pos (leaf (places len k (pos + keys_offset k) v (pos + values_offset most k v))) × AreKeys others (places len k (pos + keys_offset k) v (pos + values_offset most k v)) ws
+      → HasNode others most k v level pos (leaf (places len k (pos + keys_offset k) v (pos + values_offset most k v))) × AreKept others (places len k (pos + keys_offset k) v (pos + values_offset most k v)) ws
   leaf_kept level pos len low high deep room z word few from to held others g =
       let link = links_fit 1 most k v in
       let keys = keys_fit 1 most k v in
@@ -343,7 +343,7 @@ module _ (names : Names) (bytes : List ℕ) (most : ℕ) (k v : Shape) where
         within =
             widened v low (pos + values_offset most k v) (pos + values_offset most k v + word_at bytes (pos + links_offset most k v) * size_of v) high es (omega arith) (omega (arith, here, link, values, wide_values))
             (places_in (word_at bytes (pos + links_offset most k v)) k (pos + keys_offset k) v (pos + values_offset most k v));
-        kept = λ others g. let x = kept others g in (x.0, subst (λ y. AreKeys others es (members y)) (sym is) x.1);
+        kept = λ others g. let x = kept others g in (x.0, subst (λ y. AreKept others es (members y)) (sym is) x.1);
       }
 
   inner_kept : (level pos low high : ℕ) {depth : ℕ} {inside : List OpenShared} {es : List Part} {vs : Values} {ws : Values} → level ≤ 32 → pos + link_node_size (most + 1) most k v ≤ length bytes → slice_index bytes pos ≡ 1
@@ -351,7 +351,7 @@ module _ (names : Names) (bytes : List ℕ) (most : ℕ) (k v : Shape) where
       → (r : ReadBranches low pos depth inside most (suc level) (pos + links_offset most k v) (pos + keys_offset k) (pos + values_offset most k v) es vs)
       → EntriesHeld names bytes k v most r.low pos (pos + keys_offset k) (pos + values_offset most k v) ws
       → (others : List ℕ) → Agrees v (items_of r.branches) bytes others low high
-      → HasNode others most k v level pos (inner r.branches) × AreKeys others (items_of r.branches) (weave (first_values (suc most) vs) ws)
+      → HasNode others most k v level pos (inner r.branches) × AreKept others (items_of r.branches) (weave (first_values (suc most) vs) ws)
   inner_kept level pos low high {ws = ws} deep room z from to r held others g =
       let link = links_fit (most + 1) most k v in
       let keys = keys_fit (most + 1) most k v in
@@ -413,7 +413,7 @@ module _ (names : Names) (bytes : List ℕ) (most : ℕ) (k v : Shape) where
         node = has_inner deep (omega arith) z r.stand refl;
         pairs = subst (λ x. ArePairs names bytes k v (items_of r.branches) (members x)) (sym is) (r.woven_pairs (other_values (suc most) vs) held.pairs);
         within = λ i out. r.within i (λ past. let gone = out (omega arith) in omega arith) (λ past. let gone = out (omega arith) in omega arith);
-        kept = λ others g. let x = kept others g in (x.0, subst (λ y. AreKeys others (items_of r.branches) (members y)) (sym is) x.1);
+        kept = λ others g. let x = kept others g in (x.0, subst (λ y. AreKept others (items_of r.branches) (members y)) (sym is) x.1);
       }
 
   node_read : (level pos kind : ℕ) {depth : ℕ} {inside : List OpenShared} {vs : Values} {value : Value} {within : List Region} {before after : List Visit} (low high : ℕ) (s : Span) (l : Label) (ps : List Part)

@@ -16,8 +16,8 @@ use Rattle.archive_shape_layout.specs.Holds.Holds.{holds_plain, holds_claimed, h
 use Rattle.archive_shape_layout.specs.Holds.HoldAll.{holds_none, holds_more}
 use Rattle.archive_btree_layout.specs.Tree.{Tree, items}
 use Rattle.archive_btree_layout.specs.Items.{AreAt, ArePairs, IsTreeRead}
-use Rattle.archive_btree_layout.specs.Changing.{DiffersInValues, HasTree, IsInNoValue, IsKey}
-use Rattle.archive_btree_layout.specs.Laws.{TreeIsRead, TreeStays, KeysStay}
+use Rattle.archive_btree_layout.specs.Changing.{DiffersInValues, HasTree, IsInNoValue, IsKept}
+use Rattle.archive_btree_layout.specs.Laws.{TreeIsRead, TreeStays, PairsStay}
 use Rattle.archive_btree_layout.specs.Items.IsTreeRead.{reads_none, reads_tree}
 use Rattle.archive_btree_layout.specs.Reading.{Place, HasNode}
 use Rattle.archive_btree_layout.proofs.Contents.{IsPlain, chosen_plain, word_within}
@@ -148,7 +148,7 @@ root_kept :
     → pos + 8 ≤ length bytes
     → (word_at bytes (pos + 4) ≡ 0 → ⊥) → target_from pos (word_at bytes pos) ≡ Some root → HasNode bytes most k v 1 root t
     → DiffersInValues v (items t) bytes others
-    → HasTree bytes others most k v pos root t × AreAt (IsKey names others k) (items t) (members value)
+    → HasTree bytes others most k v pos root t × AreAt (IsKept names bytes others k v) (items t) (members value)
 root_kept names bytes others most k v pos value root t (map_none none is) room some leads stood differs = absurd (some none)
 root_kept names bytes others most k v pos value root t (map_some {root = p} _ leads_there r count) room some leads stood differs =
     let here : p ≡ root = cc in
@@ -166,7 +166,7 @@ root_kept names bytes others most k v pos value root t (map_some {root = p} _ le
         len = word_same bytes others (pos + 4) (λ i le lt. behind i (omega arith));
         node = subst (λ q. HasNode others most k v 1 q t) here (subst (HasNode others most k v 1 p) one x.0);
       },
-      subst (λ u. AreAt (IsKey names others k) (items u) (members value)) one x.1,
+      subst (λ u. AreAt (IsKept names bytes others k v) (items u) (members value)) one x.1,
     )
 
 pub tree_stays : TreeStays
@@ -174,7 +174,7 @@ tree_stays names bytes others most k v depth inside pos value rs before after ro
     (root_kept names bytes others most k v pos value root t
     (map_read names bytes most k v depth inside pos value rs before after 0 pos (omega arith) h a) room some leads stood differs).0
 
-pub keys_stay : KeysStay
-keys_stay names bytes others most k v depth inside pos value rs before after root t h a room some leads stood differs =
+pub pairs_stay : PairsStay
+pairs_stay names bytes others most k v depth inside pos value rs before after root t h a room some leads stood differs =
     (root_kept names bytes others most k v pos value root t
     (map_read names bytes most k v depth inside pos value rs before after 0 pos (omega arith) h a) room some leads stood differs).1

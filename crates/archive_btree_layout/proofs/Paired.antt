@@ -15,8 +15,8 @@ use Rattle.archive_shape_layout.proofs.Ascent.{Ascends-append, end_after-below, 
 use Rattle.archive_shape_layout.proofs.Evaluated.{ascends_below, ascends_lowered, ascends_raised}
 use Rattle.archive_btree_layout.specs.Reading.{Place, places}
 use Rattle.archive_btree_layout.specs.Items.{IsPair, AreAt, ArePairs}
-use Rattle.archive_btree_layout.specs.Changing.{IsKey}
-use Rattle.archive_btree_layout.proofs.Changed.{AreSame, key_same, take_same}
+use Rattle.archive_btree_layout.specs.Changing.{IsKept}
+use Rattle.archive_btree_layout.proofs.Changed.{AreSame, held_same, take_same, window_same}
 
 -- ---- regions
 
@@ -44,18 +44,18 @@ append_at IsAt (p ∷ ps) qs (more_values u us) ws a b = (a.0, append_at IsAt ps
 -- ---- pairs
 
 module _ (names : Names) (bytes : List ℕ) (k v : Shape) where
-  -- what is known of the key of a pair: it is the same in bytes that agree on what is claimed and on its own
+  -- what is known of a pair: it is kept in bytes that agree on what is claimed and on the key's own
   pub record EntryHeld (low high key place : ℕ) (value : Value) : Type 0 where
     pub pair : IsPair names bytes k v (record { key = key; value = place }) value
     pub kept :
         (others : List ℕ) → length others ≡ length bytes → AreSame bytes others low high → AreSame bytes others key (key + size_of k)
-        → IsKey names others k (record { key = key; value = place }) value
+        → IsKept names bytes others k v (record { key = key; value = place }) value
 
   pub record EntriesHeld (n low high key place : ℕ) (vs : Values) : Type 0 where
     pub pairs : ArePairs names bytes k v (places n k key v place) vs
     pub kept :
         (others : List ℕ) → length others ≡ length bytes → AreSame bytes others low high → AreSame bytes others key (key + n * size_of k)
-        → AreAt (IsKey names others k) (places n k key v place) vs
+        → AreAt (IsKept names bytes others k v) (places n k key v place) vs
 
   two_held : {depth : ℕ} {inside : List OpenShared} (key place : ℕ) {vs : Values} {rs : List Region} {before after : List Visit} (low high : ℕ)
       → high ≤ key → key + size_of k ≤ place → place + size_of v ≤ length bytes
@@ -76,14 +76,27 @@ module _ (names : Names) (bytes : List ℕ) (k v : Shape) where
             };
         kept = λ others same_length same own.
             let shorter = length-take-le place others (omega arith) in
+            let up = end_after-grows low high here first.0 in
+            let held = held_same bytes others names k low high key below (omega arith) (omega arith) same (window_same bytes others key (size_of k) (omega arith) (omega arith) own) first.0 h in
             record {
-              key = u;
-              value = w;
-              held = key_same bytes others names k low high key below (omega arith) (omega arith) same own first.0 h;
-              held_before =
-                  key_same bytes (take place others) names k low high key below (omega arith) (omega arith) (take_same place low high bytes others (omega arith) same)
-                  (take_same place key (key + size_of k) bytes others apart own) first.0 h;
-              is = cc;
+              key =
+                  record {
+                    key = u;
+                    value = w;
+                    held = held;
+                    held_before =
+                        held_same bytes (take place others) names k low high key below (omega arith) (omega arith) (take_same place low high bytes others (omega arith) same)
+                        (window_same bytes (take place others) key (size_of k) (omega arith) (omega arith) (take_same place key (key + size_of k) bytes others apart own)) first.0 h;
+                    is = cc;
+                  };
+              whole = λ window.
+                  record {
+                    key = u;
+                    value = w;
+                    key_held = held;
+                    value_held = held_same bytes others names v (end_after low here) high place (omega arith) room (omega arith) (λ i le lt. same i (omega arith) lt) window second.0 g;
+                    is = cc;
+                  };
             };
       }
 

@@ -8,7 +8,8 @@ use Rattle.archive_shape_layout.specs.Value.Values.{no_values, more_values}
 use Rattle.archive_shape_layout.specs.Content.{Names}
 use Rattle.archive_btree_layout.specs.Reading.{Place, HasNode}
 use Rattle.archive_btree_layout.specs.Tree.{Tree}
-use Rattle.archive_btree_layout.specs.Items.{IsHeld}
+use Rattle.archive_btree_layout.specs.Items.{IsHeld, IsPair}
+use Rattle.archive_shape_layout.specs.Laws.{AgreesOn}
 
 -- an index that is not before a range is behind it
 abbrev pub IsOutside : ℕ → ℕ → ℕ → Type 0
@@ -36,3 +37,8 @@ pub record IsKey (names : Names) (bytes : List ℕ) (k : Shape) (p : Place) (pai
   pub held : IsHeld names bytes k p.key key
   pub held_before : IsHeld names (take p.value bytes) k p.key key
   pub is : pair ≡ group (more_values key (more_values value no_values))
+
+-- in other bytes a pair has its key, and where its own value has the same bytes, it is the pair
+pub record IsKept (names : Names) (bytes others : List ℕ) (k v : Shape) (p : Place) (pair : Value) : Type 0 where
+  pub key : IsKey names others k p pair
+  pub whole : AgreesOn bytes others p.value (size_of v) → IsPair names others k v p pair

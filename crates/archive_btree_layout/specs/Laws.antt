@@ -8,7 +8,7 @@ use Rattle.archive_btree_layout.specs.Packed.{IsPacked, IsBounded}
 use Rattle.archive_btree_layout.specs.Descent.{descend, met}
 use Rattle.archive_btree_layout.specs.Descent as descent
 use Rattle.archive_btree_layout.specs.Items.{AreAt, IsTreeRead}
-use Rattle.archive_btree_layout.specs.Changing.{DiffersInValues, HasTree, IsKey}
+use Rattle.archive_btree_layout.specs.Changing.{DiffersInValues, HasTree, IsKept}
 use Rattle.archive_shape_layout.specs.Shape.Shape.{tree}
 use Rattle.archive_shape_layout.specs.Value.{Value}
 use Rattle.archive_shape_layout.specs.Bytes.{word_at, target_from}
@@ -86,9 +86,9 @@ TreeStays =
     → DiffersInValues v (items t) bytes others
     → HasTree bytes others most k v pos root t
 
--- and they have the keys of the map's pairs
-abbrev pub KeysStay : Type 0
-KeysStay =
+-- and of the map's pairs they have the keys, and each pair whose own value is not written over
+abbrev pub PairsStay : Type 0
+PairsStay =
     (names : Names) (bytes others : List ℕ) (most : ℕ) (k v : Shape) (depth : ℕ) (inside : List OpenShared) (pos : ℕ) (value : Value)
     (regions : List Region) (before after : List Visit) (root : ℕ) (t : Tree Place)
     → Holds names bytes depth inside (at pos (tree most k v)) value regions before after
@@ -98,4 +98,4 @@ KeysStay =
     → target_from pos (word_at bytes pos) ≡ Some root
     → HasNode bytes most k v 1 root t
     → DiffersInValues v (items t) bytes others
-    → AreAt (IsKey names others k) (items t) (members value)
+    → AreAt (IsKept names bytes others k v) (items t) (members value)
