@@ -29,12 +29,18 @@ use Rattle.archive_btree_layout.specs.Reading.HasBranches.{has_greater, has_less
 use Rattle.archive_btree_layout.specs.Reading.HasChild.{no_child, a_child}
 use Rattle.archive_btree_layout.proofs.Contents.{IsPlain, IsClaimed, node_is_claimed, child_is_plain, pick, allowed, both, word_within, word_of, kind_of}
 use Rattle.archive_btree_layout.proofs.Changed.{AreIn, Agrees, AreSame, none_in, places_in, widened, between_in, word_same}
+use Rattle.archive_btree_layout.proofs.Nodes.{Leads, SameNodes}
+use Rattle.archive_btree_layout.proofs.Nodes.SameNodes.{same_leaf, same_inner}
 use Rattle.archive_btree_layout.proofs.Paired.{region_inside, ascends_first, append_at, whole_is, EntriesHeld, entries_held}
 
 module _ (names : Names) (bytes : List ℕ) (most : ℕ) (k v : Shape) where
   -- what other bytes have of pairs
   abbrev AreKept : List ℕ → List Place → Values → Type 0
   AreKept others ps ws = AreAt (IsKept names bytes others k v) ps ws
+
+  -- where a pointer leads, both have the same nodes
+  abbrev AreLed : List ℕ → ℕ → ℕ → Type 0
+  AreLed others level link = (child : ℕ) → Leads bytes link child → SameNodes bytes others most k v level child
 
   -- between two positions a node is read, and its items are the pairs of its value; it is the same in bytes that agree
   -- there but for the items' values
@@ -43,7 +49,7 @@ module _ (names : Names) (bytes : List ℕ) (most : ℕ) (k v : Shape) where
     pub node : HasNode bytes most k v level pos tree
     pub pairs : ArePairs names bytes k v (items tree) (members value)
     pub within : AreIn v low high (items tree)
-    pub kept : (others : List ℕ) → Agrees v (items tree) bytes others low high → HasNode others most k v level pos tree × AreKept others (items tree) (members value)
+    pub kept : (others : List ℕ) → Agrees v (items tree) bytes others low high → HasNode others most k v level pos tree × AreKept others (items tree) (members value) × SameNodes bytes others most k v level pos
 
   -- the same of a pointer to a child, which lies elsewhere
   pub record ReadChild (low high level link : ℕ) (value : Value) : Type 0 where
@@ -53,7 +59,7 @@ module _ (names : Names) (bytes : List ℕ) (most : ℕ) (k v : Shape) where
     pub within : AreIn v low high (items tree)
     pub kept :
         (others : List ℕ) → Agrees v (items tree) bytes others low high → word_at others link ≡ word_at bytes link
-        → HasChild others most k v level link tree × AreKept others (items tree) (members value)
+        → HasChild others most k v level link tree × AreKept others (items tree) (members value) × AreLed others level link
 
   -- every node at the level that the layout holds is read
   abbrev Reads : ℕ → Type 0
@@ -104,7 +110,7 @@ module _ (names : Names) (bytes : List ℕ) (most : ℕ) (k v : Shape) where
         child = a_child not is n.node;
         pairs = n.pairs;
         within = n.within;
-        kept = λ others g w. let x = n.kept others g in (a_child (λ e. not (sym w ∙ e)) (ap (target_from link) w ∙ is) x.0, x.1);
+        kept = λ others g w. let x = n.kept others g in (a_child (λ e. not (sym w ∙ e)) (ap (target_from link) w ∙ is) x.0, x.1, λ child leads. let one : t ≡ child = cc in subst (SameNodes bytes others most k v level) one x.2);
       }
 
   child_read : {depth : ℕ} {inside : List OpenShared} {level link : ℕ} {l : Label} {ps : List Part} {vs : Values} {value : Value} {rs : List Region} {before after : List Visit} (low high : ℕ) (b : Bool)
@@ -127,7 +133,7 @@ module _ (names : Names) (bytes : List ℕ) (most : ℕ) (k v : Shape) where
         child = no_child invalid refl;
         pairs = subst (λ x. ArePairs names bytes k v [] (members x)) (sym empty) tt;
         within = none_in v low high;
-        kept = λ others g w. (no_child (w ∙ invalid) refl, subst (λ x. AreKept others [] (members x)) (sym empty) tt);
+        kept = λ others g w. (no_child (w ∙ invalid) refl, subst (λ x. AreKept others [] (members x)) (sym empty) tt, λ child leads. absurd (leads.0 invalid));
       }
   child_read {depth} {inside} {level} {link} low high false top read is e m all a =
       followed low high (target_from link (word_at (window bytes link 4) 0)) top read (ap (target_from link) (sym (word_of bytes link)))
@@ -166,6 +172,7 @@ module _ (names : Names) (bytes : List ℕ) (most : ℕ) (k v : Shape) where
         (others : List ℕ) → Agrees v (items_of branches) bytes others bottom low → AreSame bytes others link (link + suc n * 4)
         → HasBranches others most k v n level link key place branches
         × ((ws : Values) → AreKept others (places n k key v place) ws → AreKept others (items_of branches) (weave (first_values (suc n) vs) ws))
+        × ((i : ℕ) → i ≤ n → AreLed others level (link + i * 4))
 
   last_woven : (IsAt : Place → Value → Type 0) (tree : Tree Place) (c : Value) (us : Values) → AreAt IsAt (items tree) (members c) → (ws : Values) → AreAt IsAt [] ws
       → AreAt IsAt (items tree) (weave (first_values 1 (more_values c us)) ws)
@@ -179,6 +186,10 @@ module _ (names : Names) (bytes : List ℕ) (most : ℕ) (k v : Shape) where
   more_woven IsAt n tree c us p ps bs here there no_values q = absurd q
   more_woven IsAt n tree c us p ps bs here there (more_values w ws) q =
       append_at IsAt (items tree) (p ∷ items_of bs) (members c) (more_values w (weave (first_values (suc n) us) ws)) here (q.0, there ws q.1)
+
+  first_or_later : (others : List ℕ) (level link n i : ℕ) → i ≤ suc n → AreLed others level link → ((j : ℕ) → j ≤ n → AreLed others level (link + 4 + j * 4)) → AreLed others level (link + i * 4)
+  first_or_later others level link n zero le first later = let e : link ≡ link + 0 * 4 = omega arith in subst (AreLed others level) e first
+  first_or_later others level link n (suc j) le first later = let e : link + 4 + j * 4 ≡ link + suc j * 4 = omega arith in subst (AreLed others level) e (later j (omega arith))
 
   branches_held : (n : ℕ) {depth : ℕ} {inside : List OpenShared} {level link : ℕ} (key place : ℕ) (es : List Part) {vs : Values} {rs : List Region} {before after : List Visit} (bottom high : ℕ)
       → Reads level
@@ -208,7 +219,7 @@ module _ (names : Names) (bytes : List ℕ) (most : ℕ) (k v : Shape) where
         within = λ i out own. c.within i out;
         kept = λ others g links.
             let x = c.kept others g (word_same bytes others link (λ i le lt. links i le (omega arith))) in
-            (has_greater refl x.0 refl, last_woven _ c.tree u us x.1);
+            (has_greater refl x.0 refl, last_woven _ c.tree u us x.1, λ i le. let e : link ≡ link + i * 4 = omega arith in subst (AreLed others level) e x.2);
       })
   branches_held (suc n) {depth} {inside} {level} {link} key place es bottom high read top up down (holds_more {v = u} {vs = us} {here = here} {later = later} {regions = rs} h all e f) a =
       let both = ascends_first bottom high rs here later f a in
@@ -256,7 +267,7 @@ module _ (names : Names) (bytes : List ℕ) (most : ℕ) (k v : Shape) where
             })
             (λ i le lt. links i (omega arith) (omega arith))
             in
-            (has_lesser refl x.0 y.0 refl, more_woven _ n c.tree u us p (places n k (key + size_of k) v (place + size_of v)) r.branches x.1 y.1);
+            (has_lesser refl x.0 y.0 refl, more_woven _ n c.tree u us p (places n k (key + size_of k) v (place + size_of v)) r.branches x.1 y.1, λ i le. first_or_later others level link n i le x.2 y.2);
       })
 
   -- ---- a node
@@ -285,6 +296,7 @@ module _ (names : Names) (bytes : List ℕ) (most : ℕ) (k v : Shape) where
       → EntriesHeld names bytes k v len low pos (pos + keys_offset k) (pos + values_offset most k v) ws
       → (others : List ℕ) → Agrees v (places len k (pos + keys_offset k) v (pos + values_offset most k v)) bytes others low high
       → HasNode others most k v level pos (leaf (places len k (pos + keys_offset k) v (pos + values_offset most k v))) × AreKept others (places len k (pos + keys_offset k) v (pos + values_offset most k v)) ws
+      × SameNodes bytes others most k v level pos
   leaf_kept level pos len low high deep room z word few from to held others g =
       let link = links_fit 1 most k v in
       let keys = keys_fit 1 most k v in
@@ -295,11 +307,16 @@ module _ (names : Names) (bytes : List ℕ) (most : ℕ) (k v : Shape) where
       let same_length = g.same_length in
       let own : (i : ℕ) → low ≤ i → i < pos + link_node_size 1 most k v → IsOutside (pos + values_offset most k v) (pos + values_offset most k v + len * size_of v) i → slice_index others i ≡ slice_index bytes i =
       λ i le lt out. g.same i le (omega arith) (places_in len k (pos + keys_offset k) v (pos + values_offset most k v) i out)
+      in
+      let kind = own pos from (omega arith) (λ past. omega arith) ∙ z in
+      let there =
+      has_leaf deep (omega arith) kind
+      (word_same bytes others (pos + links_offset most k v) (λ i le lt. own i (omega arith) (omega arith) (λ past. omega (arith, wide_values, values))) ∙ word) few refl
       in (
-        has_leaf deep (omega arith) (own pos from (omega arith) (λ past. omega arith) ∙ z)
-            (word_same bytes others (pos + links_offset most k v) (λ i le lt. own i (omega arith) (omega arith) (λ past. omega (arith, wide_values, values))) ∙ word) few refl,
+        there,
         held.kept others same_length (λ i le lt. own i le (omega arith) (λ past. omega arith))
             (λ i le lt. own i (omega arith) (omega (arith, wide_keys, keys, lt, values)) (λ past. omega (arith, wide_keys, keys, lt, past))),
+        same_leaf (has_leaf deep room z word few refl) there z kind,
       )
 
   leaf_read : (level pos : ℕ) {depth : ℕ} {inside : List OpenShared} {vs : Values} {value : Value} {within : List Region} {before after : List Visit} (low high : ℕ) (s : Span) (l : Label) (ps : List Part) → slice_index bytes pos ≡ 0
@@ -343,7 +360,7 @@ module _ (names : Names) (bytes : List ℕ) (most : ℕ) (k v : Shape) where
         within =
             widened v low (pos + values_offset most k v) (pos + values_offset most k v + word_at bytes (pos + links_offset most k v) * size_of v) high es (omega arith) (omega (arith, here, link, values, wide_values))
             (places_in (word_at bytes (pos + links_offset most k v)) k (pos + keys_offset k) v (pos + values_offset most k v));
-        kept = λ others g. let x = kept others g in (x.0, subst (λ y. AreKept others es (members y)) (sym is) x.1);
+        kept = λ others g. let x = kept others g in (x.0, subst (λ y. AreKept others es (members y)) (sym is) x.1, x.2);
       }
 
   inner_kept : (level pos low high : ℕ) {depth : ℕ} {inside : List OpenShared} {es : List Part} {vs : Values} {ws : Values} → level ≤ 32 → pos + link_node_size (most + 1) most k v ≤ length bytes → slice_index bytes pos ≡ 1
@@ -352,6 +369,7 @@ module _ (names : Names) (bytes : List ℕ) (most : ℕ) (k v : Shape) where
       → EntriesHeld names bytes k v most r.low pos (pos + keys_offset k) (pos + values_offset most k v) ws
       → (others : List ℕ) → Agrees v (items_of r.branches) bytes others low high
       → HasNode others most k v level pos (inner r.branches) × AreKept others (items_of r.branches) (weave (first_values (suc most) vs) ws)
+      × SameNodes bytes others most k v level pos
   inner_kept level pos low high {ws = ws} deep room z from to r held others g =
       let link = links_fit (most + 1) most k v in
       let keys = keys_fit (most + 1) most k v in
@@ -366,11 +384,16 @@ module _ (names : Names) (bytes : List ℕ) (most : ℕ) (k v : Shape) where
       let x =
       r.kept others (record { same_length = same_length; same = λ i le lt out. g.same i le (omega arith) out })
       (λ i le lt. own i (omega arith) (omega arith) (λ past. omega arith))
-      in (
-        has_inner deep (omega arith) (own pos ends (omega arith) (λ past. omega arith) ∙ z) x.0 refl,
+      in
+      let kind = own pos ends (omega arith) (λ past. omega arith) ∙ z in
+      let there = has_inner deep (omega arith) kind x.0 refl in (
+        there,
         x.1 ws
             (held.kept others same_length (λ i le lt. own i le (omega arith) (λ past. omega arith))
             (λ i le lt. own i (omega arith) (omega arith) (λ past. omega arith))),
+        same_inner (has_inner deep room z r.stand refl) there z kind
+            (λ i below. word_same bytes others (pos + links_offset most k v + i * 4) (λ j le lt. own j (omega arith) (omega arith) (λ past. omega arith)))
+            (λ i child below leads. x.2 i below child leads),
       )
 
   inner_read : (level pos : ℕ) {depth : ℕ} {inside : List OpenShared} {vs : Values} {value : Value} {within : List Region} {before after : List Visit} (low high : ℕ) (s : Span) (l : Label) (ps : List Part)
@@ -413,7 +436,7 @@ module _ (names : Names) (bytes : List ℕ) (most : ℕ) (k v : Shape) where
         node = has_inner deep (omega arith) z r.stand refl;
         pairs = subst (λ x. ArePairs names bytes k v (items_of r.branches) (members x)) (sym is) (r.woven_pairs (other_values (suc most) vs) held.pairs);
         within = λ i out. r.within i (λ past. let gone = out (omega arith) in omega arith) (λ past. let gone = out (omega arith) in omega arith);
-        kept = λ others g. let x = kept others g in (x.0, subst (λ y. AreKept others (items_of r.branches) (members y)) (sym is) x.1);
+        kept = λ others g. let x = kept others g in (x.0, subst (λ y. AreKept others (items_of r.branches) (members y)) (sym is) x.1, x.2);
       }
 
   node_read : (level pos kind : ℕ) {depth : ℕ} {inside : List OpenShared} {vs : Values} {value : Value} {within : List Region} {before after : List Visit} (low high : ℕ) (s : Span) (l : Label) (ps : List Part)

@@ -17,11 +17,12 @@ use Rattle.archive_shape_layout.specs.Holds.HoldAll.{holds_none, holds_more}
 use Rattle.archive_btree_layout.specs.Tree.{Tree, items}
 use Rattle.archive_btree_layout.specs.Items.{AreAt, ArePairs, IsTreeRead}
 use Rattle.archive_btree_layout.specs.Changing.{DiffersInValues, HasTree, IsInNoValue, IsKept}
-use Rattle.archive_btree_layout.specs.Laws.{TreeIsRead, TreeStays, PairsStay}
+use Rattle.archive_btree_layout.specs.Laws.{TreeIsRead, TreeStays, NodesStay, PairsStay}
 use Rattle.archive_btree_layout.specs.Items.IsTreeRead.{reads_none, reads_tree}
 use Rattle.archive_btree_layout.specs.Reading.{Place, HasNode}
 use Rattle.archive_btree_layout.proofs.Contents.{IsPlain, chosen_plain, word_within}
 use Rattle.archive_btree_layout.proofs.Changed.{Agrees, word_same}
+use Rattle.archive_btree_layout.proofs.Nodes.{SameNodes, nodes_same}
 use Rattle.archive_btree_layout.proofs.Unique.{one_node}
 use Rattle.archive_btree_layout.proofs.Paired.{whole_is, ascends_first}
 use Rattle.archive_btree_layout.proofs.Held.{no_parts, root_read, ReadNode}
@@ -148,7 +149,7 @@ root_kept :
     → pos + 8 ≤ length bytes
     → (word_at bytes (pos + 4) ≡ 0 → ⊥) → target_from pos (word_at bytes pos) ≡ Some root → HasNode bytes most k v 1 root t
     → DiffersInValues v (items t) bytes others
-    → HasTree bytes others most k v pos root t × AreAt (IsKept names bytes others k v) (items t) (members value)
+    → HasTree bytes others most k v pos root t × AreAt (IsKept names bytes others k v) (items t) (members value) × SameNodes bytes others most k v 1 root
 root_kept names bytes others most k v pos value root t (map_none none is) room some leads stood differs = absurd (some none)
 root_kept names bytes others most k v pos value root t (map_some {root = p} _ leads_there r count) room some leads stood differs =
     let here : p ≡ root = cc in
@@ -167,6 +168,7 @@ root_kept names bytes others most k v pos value root t (map_some {root = p} _ le
         node = subst (λ q. HasNode others most k v 1 q t) here (subst (HasNode others most k v 1 p) one x.0);
       },
       subst (λ u. AreAt (IsKept names bytes others k v) (items u) (members value)) one x.1,
+      subst (SameNodes bytes others most k v 1) here x.2,
     )
 
 pub tree_stays : TreeStays
@@ -178,3 +180,9 @@ pub pairs_stay : PairsStay
 pairs_stay names bytes others most k v depth inside pos value rs before after root t h a room some leads stood differs =
     (root_kept names bytes others most k v pos value root t
     (map_read names bytes most k v depth inside pos value rs before after 0 pos (omega arith) h a) room some leads stood differs).1
+
+pub nodes_stay : NodesStay
+nodes_stay names bytes others most k v depth inside pos value rs before after root t h a room some leads stood differs =
+    nodes_same most k v bytes others 1 root
+    (root_kept names bytes others most k v pos value root t
+    (map_read names bytes most k v depth inside pos value rs before after 0 pos (omega arith) h a) room some leads stood differs).2

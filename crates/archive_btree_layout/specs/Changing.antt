@@ -1,11 +1,11 @@
 -- What stays of a search tree where its values are written over.
-use Rattle.std.specs.Prelude.{◌≡◌, ℕ, ◌+◌, ◌≤◌, List, length, take, slice_index, All}
-use Rattle.archive_shape_layout.specs.Bytes.{word_at}
+use Rattle.std.specs.Prelude.{◌≡◌, ℕ, suc, ◌+◌, ◌*◌, ◌≤◌, List, length, take, slice_index, Some, All}
+use Rattle.archive_shape_layout.specs.Bytes.{word_at, target_from}
 use Rattle.archive_shape_layout.specs.Shape.{Shape, size_of}
 use Rattle.archive_shape_layout.specs.Value.{Value}
 use Rattle.archive_shape_layout.specs.Value.Value.{group}
 use Rattle.archive_shape_layout.specs.Value.Values.{no_values, more_values}
-use Rattle.archive_shape_layout.specs.Content.{Names}
+use Rattle.archive_shape_layout.specs.Content.{Names, links_offset}
 use Rattle.archive_btree_layout.specs.Reading.{Place, HasNode}
 use Rattle.archive_btree_layout.specs.Tree.{Tree}
 use Rattle.archive_btree_layout.specs.Items.{IsHeld, IsPair}
@@ -29,6 +29,18 @@ pub record HasTree (bytes others : List ℕ) (most : ℕ) (k v : Shape) (pos roo
   pub pointer : word_at others pos ≡ word_at bytes pos
   pub len : word_at others (pos + 4) ≡ word_at bytes (pos + 4)
   pub node : HasNode others most k v 1 root t
+
+-- a node of the tree at a level and a position: the one that stands there, or one of those below a child
+pub data IsNodeOf (bytes : List ℕ) (most : ℕ) (k v : Shape) (node_level node_pos : ℕ) (t : Tree Place) : ℕ → ℕ → Type 0 where
+  is_top : {level pos : ℕ} → level ≡ node_level → pos ≡ node_pos → HasNode bytes most k v node_level node_pos t → IsNodeOf bytes most k v node_level node_pos t level pos
+  is_below :
+      {level pos i child : ℕ}
+      → slice_index bytes pos ≡ 1
+      → i ≤ most
+      → (word_at bytes (pos + links_offset most k v + i * 4) ≡ 1 → ⊥)
+      → target_from (pos + links_offset most k v + i * 4) (word_at bytes (pos + links_offset most k v + i * 4)) ≡ Some child
+      → IsNodeOf bytes most k v node_level node_pos t (suc level) child
+      → IsNodeOf bytes most k v node_level node_pos t level pos
 
 -- a pair's key stands at a place, and it is read from what lies before the pair's value
 pub record IsKey (names : Names) (bytes : List ℕ) (k : Shape) (p : Place) (pair : Value) : Type 0 where

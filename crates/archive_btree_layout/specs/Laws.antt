@@ -1,5 +1,5 @@
 -- The laws of search trees, as statements.
-use Rattle.std.specs.Prelude.{◌≡◌, ℕ, suc, ◌+◌, ◌*◌, ◌^◌, ◌<◌, ◌≤◌, List, length, Some, find, Contains}
+use Rattle.std.specs.Prelude.{◌≡◌, ℕ, suc, ◌+◌, ◌*◌, ◌^◌, ◌<◌, ◌≤◌, List, length, Some, find, Contains, ◌↔◌}
 use Rattle.std.specs.declared.cmp.Ordering.{Ordering}
 use Rattle.std.specs.declared.cmp.Ordering.TheVariants.{Equal}
 use Rattle.std.specs.Ordering.{is_eq}
@@ -8,7 +8,7 @@ use Rattle.archive_btree_layout.specs.Packed.{IsPacked, IsBounded}
 use Rattle.archive_btree_layout.specs.Descent.{descend, met}
 use Rattle.archive_btree_layout.specs.Descent as descent
 use Rattle.archive_btree_layout.specs.Items.{AreAt, IsTreeRead}
-use Rattle.archive_btree_layout.specs.Changing.{DiffersInValues, HasTree, IsKept}
+use Rattle.archive_btree_layout.specs.Changing.{DiffersInValues, HasTree, IsNodeOf, IsKept}
 use Rattle.archive_shape_layout.specs.Shape.Shape.{tree}
 use Rattle.archive_shape_layout.specs.Value.{Value}
 use Rattle.archive_shape_layout.specs.Bytes.{word_at, target_from}
@@ -85,6 +85,20 @@ TreeStays =
     → HasNode bytes most k v 1 root t
     → DiffersInValues v (items t) bytes others
     → HasTree bytes others most k v pos root t
+
+-- the tree has the same nodes in both
+abbrev pub NodesStay : Type 0
+NodesStay =
+    (names : Names) (bytes others : List ℕ) (most : ℕ) (k v : Shape) (depth : ℕ) (inside : List OpenShared) (pos : ℕ) (value : Value)
+    (regions : List Region) (before after : List Visit) (root : ℕ) (t : Tree Place)
+    → Holds names bytes depth inside (at pos (tree most k v)) value regions before after
+    → Ascends 0 pos regions
+    → pos + 8 ≤ length bytes
+    → (word_at bytes (pos + 4) ≡ 0 → ⊥)
+    → target_from pos (word_at bytes pos) ≡ Some root
+    → HasNode bytes most k v 1 root t
+    → DiffersInValues v (items t) bytes others
+    → (level node_pos : ℕ) (u : Tree Place) → IsNodeOf bytes most k v level node_pos u 1 root ↔ IsNodeOf others most k v level node_pos u 1 root
 
 -- and of the map's pairs they have the keys, and each pair whose own value is not written over
 abbrev pub PairsStay : Type 0
