@@ -1,0 +1,8 @@
+//! Archived B-tree maps and sets.
+#![tactic(auto)]
+
+mod laws;
+mod map;
+
+pub use laws::{map_is_read, one_map};
+pub use map::ArchivedBTreeMap;
