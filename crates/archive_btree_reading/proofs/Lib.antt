@@ -1,2 +1,5 @@
 pub mod One
 pub mod Read
+pub mod Refs
+pub mod Roots
+pub mod Keys

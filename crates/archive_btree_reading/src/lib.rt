@@ -2,7 +2,9 @@
 #![tactic(auto)]
 
 mod laws;
+mod lookup;
 mod map;
+mod root;
 
 pub use laws::{map_is_read, one_map};
 pub use map::ArchivedBTreeMap;

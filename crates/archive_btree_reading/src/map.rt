@@ -1,13 +1,18 @@
 //! Archived B-tree maps.
-ghost use Rattle.std.specs.Prelude.{◌++◌};
+ghost use Rattle.std.specs.Prelude.{◌≡◌, ◌++◌, ◌↔◌, [], length, IsTrue};
 ghost use Rattle.std.proofs.Common.{refl, lit<, lit≤};
 ghost use Rattle.archive_shape_layout.specs.Shape.Shape.{tree};
 ghost use Rattle.archive_shape_portable.proofs.Naming.{first_types, other_types};
-ghost use Rattle.archive_forms_reading.specs.Parts.{both};
+ghost use Rattle.archive_btree_layout.specs.Tree.{Tree, items};
+ghost use Rattle.archive_btree_layout.specs.Reading.{Place};
+ghost use Rattle.archive_forms_reading.specs.Parts.{HasValue, both};
+ghost use Rattle.archive_btree_reading.specs.Maps.{IsMapAt};
 
+use crate::root::count_at;
 use archive_btree_checking::check_btree_each;
 use archive_shape_checking::{ArchiveContext, CheckBytes, Error};
 use archive_shape_portable::{NoUndef, Portable, Shape};
+use archive_shape_references::Ref;
 use std::alloc::{AllocError, Global};
 use std::marker::PhantomData;
 
@@ -67,5 +72,22 @@ impl<C: ArchiveContext, K: CheckBytes<C>, V: CheckBytes<C>, const E: usize> Chec
             |c: &mut C, p: usize| K::check(alloc, bytes, p, c),
             |c: &mut C, p: usize| V::check(alloc, bytes, p, c),
         )
+    }
+}
+
+impl<K: Portable, V: Portable, const E: usize> ArchivedBTreeMap<K, V, E> {
+    /// How many entries there are.
+    pub fn len(this: Ref<'_, ArchivedBTreeMap<K, V, E>>) -> usize
+        requires { HasValue (tree E K.shape V.shape) (both K.knows V.knows) this.bytes.now this.pos }
+        ensures { (t : Tree Place) → IsMapAt this.entry.bytes.now E K.shape V.shape this.entry.pos t → result ≡ length (items t) }
+    {
+        count_at(this.bytes, this.pos)
+    }
+
+    pub fn is_empty(this: Ref<'_, ArchivedBTreeMap<K, V, E>>) -> bool
+        requires { HasValue (tree E K.shape V.shape) (both K.knows V.knows) this.bytes.now this.pos }
+        ensures { (t : Tree Place) → IsMapAt this.entry.bytes.now E K.shape V.shape this.entry.pos t → IsTrue result ↔ (items t ≡ []) }
+    {
+        ArchivedBTreeMap::len(this) == 0
     }
 }

@@ -1,0 +1,37 @@
+-- Values in a buffer, and what a search finds.
+use denote.Ref.{Bor}
+use Rattle.std.proofs.Common.{◌≡◌, ◌∙◌, ℕ, List, Option, Some, None, IsSome, refl, ap, sym, subst}
+use Rattle.std.specs.Option.{option_map, is_some}
+use Rattle.archive_shape_references.specs.declared.refs.Ref.{Ref}
+use Rattle.archive_btree_layout.specs.Reading.{Place}
+use Rattle.archive_btree_searching.specs.Nodes.{place_of}
+use Rattle.archive_btree_searching.specs.declared.node.EntryAt.{EntryAt}
+use Rattle.archive_btree_reading.specs.Refs.{ref_at}
+
+-- a value in a buffer is told by the buffer and its position
+pub ref_is : {T : Type 0} (bytes : Bor (List ℕ)) (p : ℕ) (r : Ref T) → r.bytes ≡ bytes → r.pos ≡ p → r ≡ ref_at bytes p
+ref_is {T} bytes p r e f =
+    let first : r ≡ ref_at bytes r.pos = ap (λ b. ref_at b {T = T} r.pos) e in
+    first ∙ ap (λ n. ref_at bytes {T = T} n) f
+
+pub pair_is :
+    {K V : Type 0} (bytes : Bor (List ℕ)) (p q : ℕ) (key : Ref K) (value : Ref V)
+    → key.bytes ≡ bytes → key.pos ≡ p → value.bytes ≡ bytes → value.pos ≡ q
+    → let made : Ref K × Ref V = (key, value) in
+    let there : Ref K × Ref V = (ref_at bytes p, ref_at bytes q) in
+    made ≡ there
+pair_is bytes p q key value a b c d = let e = ref_is bytes p key a b in let f = ref_is bytes q value c d in cc
+
+-- where a search finds an entry, what stands at the entry's place is found
+pub found_at : {B : Type 0} (f : Place → B) (o : Option EntryAt) (d : Option Place) (e : EntryAt) → option_map place_of o ≡ d → o ≡ Some e → Some (f (place_of e)) ≡ option_map f d
+found_at f o d e h is = ap (λ x. option_map f (option_map place_of x)) (sym is) ∙ ap (option_map f) h
+
+pub none_found : {B : Type 0} (f : Place → B) (o : Option EntryAt) (d : Option Place) → option_map place_of o ≡ d → o ≡ None → None ≡ option_map f d
+none_found f o d h is = ap (λ x. option_map f (option_map place_of x)) (sym is) ∙ ap (option_map f) h
+
+pub same_some : (o : Option EntryAt) (d : Option Place) → option_map place_of o ≡ d → is_some o ≡ is_some d
+same_some None d h = ap is_some h
+same_some (Some e) d h = ap is_some h
+
+pub some_mapped : {B : Type 0} (f : Place → B) (o : Option B) (d : Option Place) (e : Place) → o ≡ option_map f d → d ≡ Some e → IsSome o
+some_mapped f o d e h is = ap is_some (h ∙ ap (option_map f) is)
