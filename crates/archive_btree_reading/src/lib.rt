@@ -5,6 +5,7 @@ mod laws;
 mod lookup;
 mod map;
 mod root;
+mod seal;
 
 pub use laws::{map_is_read, one_map};
 pub use map::ArchivedBTreeMap;
