@@ -12,7 +12,7 @@ use Rattle.archive_shape_layout.proofs.Evaluated.{ascends_raised}
 use Rattle.archive_shape_canonical.specs.Settled.{Fit}
 use Rattle.archive_shape_canonical.specs.Canonical.{IsCanonical, AreCanonical, end_of}
 use Rattle.archive_shape_canonical.proofs.Reaching.{All, AllIn, Met, none_met, plain_all, claimed_all, counted_all, more_met, none_reached, more_reached}
-use Rattle.archive_btree_layout.proofs.Held.{region_inside, ascends_first}
+use Rattle.archive_btree_layout.proofs.Paired.{region_inside, ascends_first}
 use Rattle.archive_btree_layout.proofs.Mapped.{tree_is_read}
 use Rattle.archive_btree_packing.specs.Laws.{WrittenIsRead}
 

@@ -18,7 +18,7 @@ use Rattle.archive_shape_layout.proofs.Framed.{links_fit}
 use Rattle.archive_btree_layout.specs.Tree.{Tree}
 use Rattle.archive_btree_layout.specs.Reading.{Place, HasNode}
 use Rattle.archive_btree_layout.specs.Reading.HasNode.{has_leaf, has_inner}
-use Rattle.archive_btree_layout.proofs.Held.{kind_of, word_of, word_within}
+use Rattle.archive_btree_layout.proofs.Contents.{kind_of, word_of, word_within}
 use Rattle.archive_btree_spelling.proofs.Trees.{child_leads}
 use Rattle.archive_btree_spelling.proofs.Nodes.{leaf_chosen, inner_chosen}
 use Rattle.archive_btree_spelling.proofs.Maps.{rooted_content}

@@ -18,7 +18,7 @@ use Rattle.archive_btree_layout.specs.Reading.{Place, places, HasNode, HasBranch
 use Rattle.archive_btree_layout.specs.Reading.HasNode.{has_leaf, has_inner}
 use Rattle.archive_btree_layout.specs.Reading.HasBranches.{has_greater, has_lesser}
 use Rattle.archive_btree_layout.specs.Reading.HasChild.{no_child, a_child}
-use Rattle.archive_btree_layout.proofs.Held.{kind_of}
+use Rattle.archive_btree_layout.proofs.Contents.{kind_of}
 use Rattle.archive_btree_layout.proofs.Descending.{length-places}
 use Rattle.archive_btree_spelling.proofs.Divided.{IsDivided, AreDivided}
 use Rattle.archive_btree_packing.proofs.Made.{first_of_all, inner_content, child_content_of}

@@ -18,7 +18,8 @@ use Rattle.archive_shape_canonical.proofs.Steps.{count_members}
 use Rattle.archive_btree_layout.specs.Tree.{items}
 use Rattle.archive_btree_layout.specs.Items.{IsTreeRead}
 use Rattle.archive_btree_layout.specs.Items.IsTreeRead.{reads_none, reads_tree}
-use Rattle.archive_btree_layout.proofs.Held.{region_inside, ascends_first, same_is}
+use Rattle.archive_btree_layout.proofs.Paired.{region_inside, ascends_first}
+use Rattle.archive_btree_layout.proofs.Held.{same_is}
 use Rattle.archive_btree_layout.proofs.Mapped.{pairs_count, tree_is_read}
 use Rattle.archive_forms_spelling.specs.State.{initial}
 use Rattle.archive_forms_spelling.specs.Spelling.{Spelling}

@@ -7,6 +7,7 @@ mod lookup;
 mod map;
 mod resolving;
 mod root;
+mod seal;
 mod walking;
 
 pub use iter::{Iter, Keys, Values};

@@ -43,7 +43,7 @@ fn search_map<K: Portable, V: Portable, F: Fn(usize) -> Ordering, const E: usize
 }
 
 /// Searches the map at `pos` for a key, and counts the keys that it compares.
-fn search_key<Q, K: ArchivedKey<Q>, V: Portable, const E: usize>(
+pub(crate) fn search_key<Q, K: ArchivedKey<Q>, V: Portable, const E: usize>(
     bytes: &[u8],
     pos: usize,
     query: &Q,
