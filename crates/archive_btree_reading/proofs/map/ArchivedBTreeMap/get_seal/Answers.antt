@@ -5,7 +5,7 @@ use Rattle.archive_btree_reading.proofs.map.ArchivedBTreeMap.get_seal.Goals as g
 
 pub returns-in-Some : goal.returns-in-Some
 returns-in-Some g c t order h q =
-    let s = c.search_key.ensures t order h q in (
+    let s = c.search_key.ensures.answers t order h q in (
       place_of c.in-Some.entry,
       sym s.0 ∙ ap (option_map place_of) c.in-Some.is,
       c.new.ensures.same_reference,
@@ -14,4 +14,4 @@ returns-in-Some g c t order h q =
     )
 
 pub returns-in-None : goal.returns-in-None
-returns-in-None g c t order h q = let s = c.search_key.ensures t order h q in sym s.0 ∙ ap (option_map place_of) c.in-None.is
+returns-in-None g c t order h q = let s = c.search_key.ensures.answers t order h q in sym s.0 ∙ ap (option_map place_of) c.in-None.is
