@@ -29,7 +29,6 @@ fn search_map<K: Portable, V: Portable, F: Fn(usize) -> Ordering, const E: usize
     pos: usize,
     compare: &F,
 ) -> (Option<EntryAt>, usize)
-    requires some { 0 < E }
     requires has { HasValue (tree E K.shape V.shape) (both K.knows V.knows) bytes.now pos }
     requires callable { (t : Tree Place) → IsMapAt bytes.now E K.shape V.shape pos t → All (λ e. F.pre compare.now e.key) (items t) }
     ensures found { (t : Tree Place) → IsMapAt bytes.now E K.shape V.shape pos t → IsAmong F.post compare.now (items t) result.0 }
@@ -48,7 +47,6 @@ pub(crate) fn search_key<Q, K: ArchivedKey<Q>, V: Portable, const E: usize>(
     pos: usize,
     query: &Q,
 ) -> (Option<EntryAt>, usize)
-    requires some { 0 < E }
     requires has { HasValue (tree E K.shape V.shape) (both K.knows V.knows) bytes.now pos }
     ensures found { (t : Tree Place) → IsMapAt bytes.now E K.shape V.shape pos t
         → Finds (λ e. e) (IsEqualKey K.key_of K.order bytes.now query.now) (items t) (option_map place_of result.0) }
@@ -70,7 +68,6 @@ impl<K, V: Portable, const E: usize> ArchivedBTreeMap<K, V, E> {
     ) -> (Option<Ref<'a, V>>, usize)
     where
         K: ArchivedKey<Q>,
-        requires some { 0 < E }
         requires has { HasValue (tree E K.shape V.shape) (both K.knows V.knows) this.bytes.now this.pos }
         ensures there { IfSome result.0 (λ r. HasValue V.shape V.knows r.bytes.now r.pos) }
         ensures found { (t : Tree Place) → IsMapAt this.entry.bytes.now E K.shape V.shape this.entry.pos t
@@ -89,7 +86,6 @@ impl<K, V: Portable, const E: usize> ArchivedBTreeMap<K, V, E> {
     pub fn get<'a, Q>(this: Ref<'a, ArchivedBTreeMap<K, V, E>>, query: &Q) -> Option<Ref<'a, V>>
     where
         K: ArchivedKey<Q>,
-        requires some { 0 < E }
         requires has { HasValue (tree E K.shape V.shape) (both K.knows V.knows) this.bytes.now this.pos }
         ensures there { IfSome result (λ r. HasValue V.shape V.knows r.bytes.now r.pos) }
         ensures found { (t : Tree Place) → IsMapAt this.entry.bytes.now E K.shape V.shape this.entry.pos t
@@ -108,7 +104,6 @@ impl<K, V: Portable, const E: usize> ArchivedBTreeMap<K, V, E> {
     ) -> Option<(Ref<'a, K>, Ref<'a, V>)>
     where
         K: ArchivedKey<Q>,
-        requires some { 0 < E }
         requires has { HasValue (tree E K.shape V.shape) (both K.knows V.knows) this.bytes.now this.pos }
         ensures there { IfSome result (λ r. HasValue K.shape K.knows r.0.bytes.now r.0.pos × HasValue V.shape V.knows r.1.bytes.now r.1.pos) }
         ensures found { (t : Tree Place) → IsMapAt this.entry.bytes.now E K.shape V.shape this.entry.pos t
@@ -130,7 +125,6 @@ impl<K, V: Portable, const E: usize> ArchivedBTreeMap<K, V, E> {
     pub fn contains_key<Q>(this: Ref<'_, ArchivedBTreeMap<K, V, E>>, query: &Q) -> bool
     where
         K: ArchivedKey<Q>,
-        requires some { 0 < E }
         requires has { HasValue (tree E K.shape V.shape) (both K.knows V.knows) this.bytes.now this.pos }
         ensures found { (t : Tree Place) → IsMapAt this.entry.bytes.now E K.shape V.shape this.entry.pos t
             → IsTrue result → (e : Place) × Contains (items t) e × IsEqualKey K.key_of K.order this.entry.bytes.now query.now e }
@@ -147,7 +141,6 @@ impl<K, V: Portable, const E: usize> ArchivedBTreeMap<K, V, E> {
     pub fn index<'a, Q>(this: Ref<'a, ArchivedBTreeMap<K, V, E>>, query: &Q) -> Ref<'a, V>
     where
         K: ArchivedKey<Q>,
-        requires some { 0 < E }
         requires has { HasValue (tree E K.shape V.shape) (both K.knows V.knows) this.bytes.now this.pos }
         requires present { HasKey K.key_of K.order this.bytes.now E K.shape V.shape this.pos query.now }
         ensures there { HasValue V.shape V.knows result.bytes.now result.pos }
@@ -169,7 +162,6 @@ impl<K: Portable, V: Portable, const E: usize> ArchivedBTreeMap<K, V, E> {
         query: &Q,
         compare: &F,
     ) -> Option<(Ref<'a, K>, Ref<'a, V>)>
-        requires some { 0 < E }
         requires has { HasValue (tree E K.shape V.shape) (both K.knows V.knows) this.bytes.now this.pos }
         requires callable { (t : Tree Place) → IsMapAt this.bytes.now E K.shape V.shape this.pos t
             → All (λ e. F.pre compare.now query (key_at this.bytes e)) (items t) }

@@ -36,7 +36,6 @@ pub(crate) fn root_at<K: Portable, V: Portable, const E: usize>(
     bytes: &[u8],
     pos: usize,
 ) -> Option<Root>
-    requires some { 0 < E }
     requires has { HasValue (tree E K.shape V.shape) (both K.knows V.knows) bytes.now pos }
     ensures { (t : Tree Place) → IsMapAt bytes.now E K.shape V.shape pos t → MatchOption result
         (t ≡ absent)
@@ -57,7 +56,6 @@ pub(crate) fn walk_at<K: Portable, V: Portable, const E: usize>(
     bytes: &[u8],
     pos: usize,
 ) -> Walk<'_>
-    requires some { 0 < E }
     requires has { HasValue (tree E K.shape V.shape) (both K.knows V.knows) bytes.now pos }
     ensures { (t : Tree Place) → IsMapAt bytes.entry.now E K.shape V.shape pos t → result ≡ items t }
 {

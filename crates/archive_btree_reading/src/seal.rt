@@ -23,7 +23,6 @@ impl<K, V: Portable, const E: usize> ArchivedBTreeMap<K, V, E> {
     ) -> Option<Seal<'a, V>>
     where
         K: ArchivedKey<Q>,
-        requires some { 0 < E }
         requires has { HasValue (tree E K.shape V.shape) (both K.knows V.knows) this.bytes.now this.pos }
         ensures { (t : Tree Place) (order : Place → Ordering) → IsMapAt this.entry.bytes.now E K.shape V.shape this.entry.pos t
             → QueryOrders K.key_of K.order this.entry.bytes.now query.now order (items t)

@@ -18,7 +18,6 @@ use std::ops::ControlFlow;
 impl<K: Portable, V: Portable, const E: usize> ArchivedBTreeMap<K, V, E> {
     /// The entries in the order of their keys.
     pub fn iter<'a>(this: Ref<'a, ArchivedBTreeMap<K, V, E>>) -> Iter<'a, K, V>
-        requires some { 0 < E }
         requires has { HasValue (tree E K.shape V.shape) (both K.knows V.knows) this.bytes.now this.pos }
         ensures { (t : Tree Place) → IsMapAt this.entry.bytes.now E K.shape V.shape this.entry.pos t → result ≡ map (entry_at this.entry.bytes) (items t) }
     {
@@ -27,7 +26,6 @@ impl<K: Portable, V: Portable, const E: usize> ArchivedBTreeMap<K, V, E> {
 
     /// The keys in their order.
     pub fn keys<'a>(this: Ref<'a, ArchivedBTreeMap<K, V, E>>) -> Keys<'a, K, V>
-        requires some { 0 < E }
         requires has { HasValue (tree E K.shape V.shape) (both K.knows V.knows) this.bytes.now this.pos }
         ensures { (t : Tree Place) → IsMapAt this.entry.bytes.now E K.shape V.shape this.entry.pos t → result ≡ map (key_at this.entry.bytes) (items t) }
     {
@@ -36,7 +34,6 @@ impl<K: Portable, V: Portable, const E: usize> ArchivedBTreeMap<K, V, E> {
 
     /// The values in the order of their keys.
     pub fn values<'a>(this: Ref<'a, ArchivedBTreeMap<K, V, E>>) -> Values<'a, K, V>
-        requires some { 0 < E }
         requires has { HasValue (tree E K.shape V.shape) (both K.knows V.knows) this.bytes.now this.pos }
         ensures { (t : Tree Place) → IsMapAt this.entry.bytes.now E K.shape V.shape this.entry.pos t → result ≡ map (value_at this.entry.bytes) (items t) }
     {
@@ -49,7 +46,6 @@ impl<K: Portable, V: Portable, const E: usize> ArchivedBTreeMap<K, V, E> {
         this: Ref<'_, ArchivedBTreeMap<K, V, E>>,
         visit: &mut F,
     ) -> Option<B>
-        requires some { 0 < E }
         requires has { HasValue (tree E K.shape V.shape) (both K.knows V.knows) this.bytes.now this.pos }
         requires callable { (t : Tree Place) → IsMapAt this.bytes.now E K.shape V.shape this.pos t → IsCallableAt (MayCallAt F.pre this.bytes) (items t) }
         ensures { (t : Tree Place) → IsMapAt this.entry.bytes.now E K.shape V.shape this.entry.pos t → MatchOption result
