@@ -1,0 +1,8 @@
+//! Maps and sets of std are archived as search trees, and read back. What the other crates of archived B-trees have is
+//! here too.
+#![tactic(auto)]
+
+mod archive;
+mod map;
+
+pub use map::OwnedBTreeMap;
