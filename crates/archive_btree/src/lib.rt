@@ -3,6 +3,8 @@
 #![tactic(auto)]
 
 mod archive;
+mod deserialize;
 mod map;
 
+pub use deserialize::deserialize_map_each;
 pub use map::OwnedBTreeMap;
