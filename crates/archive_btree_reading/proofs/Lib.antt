@@ -2,4 +2,5 @@ pub mod One
 pub mod Read
 pub mod Refs
 pub mod Roots
-pub mod Keys
+pub mod Held
+pub mod Links

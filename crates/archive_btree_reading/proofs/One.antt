@@ -1,6 +1,5 @@
 -- Bytes have at most one search tree at a position.
-use Rattle.std.proofs.Common.{◌≡◌, ◌∙◌, ℕ, suc, ◌+◌, List, length, slice_index, Some, refl, ap, sym, subst}
-use Rattle.archive_shape_layout.specs.Bytes.{word_at}
+use Rattle.std.proofs.Common.{◌≡◌, ◌∙◌, ℕ, suc, ◌+◌, List, ap, sym, subst}
 use Rattle.archive_shape_layout.specs.Shape.{Shape, size_of}
 use Rattle.archive_shape_layout.specs.Content.{keys_offset, values_offset, links_offset}
 use Rattle.archive_btree_layout.specs.Reading.{Place, HasNode, HasBranches, HasChild, places}
@@ -9,7 +8,7 @@ use Rattle.archive_btree_layout.specs.Reading.HasBranches.{has_greater, has_less
 use Rattle.archive_btree_layout.specs.Reading.HasChild.{no_child, a_child}
 use Rattle.archive_btree_layout.specs.Tree.{Tree, Branches}
 use Rattle.archive_btree_layout.specs.Tree.Tree.{leaf, inner}
-use Rattle.archive_btree_layout.specs.Tree.Branches.{greater, lesser}
+use Rattle.archive_btree_layout.specs.Tree.Branches.{greater}
 use Rattle.archive_btree_reading.specs.Maps.{IsMapAt}
 use Rattle.archive_btree_reading.specs.Maps.IsMapAt.{has_none, has_root}
 

@@ -1,21 +1,20 @@
 -- The search tree that a map's bytes have where the layout has the map.
-use Rattle.std.proofs.Common.{◌≡◌, ℕ, ◌+◌, ◌≤◌, List, [], ◌∷◌, length, refl, ap, sym, subst, arith}
+use Rattle.std.proofs.Common.{ℕ, ◌≤◌, List, [], ◌∷◌, length, refl, sym, subst, arith}
 use Rattle.archive_shape_layout.specs.Shape.{Shape}
-use Rattle.archive_shape_layout.specs.Shape.Shape.{tree}
 use Rattle.archive_shape_layout.specs.Value.{Value, Values}
 use Rattle.archive_shape_layout.specs.Value.Values.{no_values, more_values}
 use Rattle.archive_shape_layout.specs.Content.{Names, members}
 use Rattle.archive_shape_layout.specs.Holds.{Ascends}
 use Rattle.archive_shape_layout.proofs.Evaluated.{ascends_raised}
 use Rattle.archive_shape.specs.Key.{HeldAt}
-use Rattle.archive_btree_layout.specs.Items.{IsHeld, IsPair, ArePairs, IsTreeRead}
+use Rattle.archive_btree_layout.specs.Items.{IsHeld, ArePairs, IsTreeRead}
 use Rattle.archive_btree_layout.specs.Items.IsTreeRead.{reads_none, reads_tree}
 use Rattle.archive_btree_layout.specs.Reading.{Place}
-use Rattle.archive_btree_layout.specs.Tree.{Tree, items}
+use Rattle.archive_btree_layout.specs.Tree.{items}
 use Rattle.archive_btree_layout.specs.Tree.Tree.{absent}
 use Rattle.archive_btree_layout.proofs.Mapped.{tree_is_read}
 use Rattle.archive_forms_reading.specs.Parts.{both}
-use Rattle.archive_btree_reading.specs.Maps.{IsMapAt, IsEntryAt, AreEntriesAt, IsMapOf, MapIsRead}
+use Rattle.archive_btree_reading.specs.Maps.{IsEntryAt, AreEntriesAt, IsMapOf, MapIsRead}
 use Rattle.archive_btree_reading.specs.Maps.IsMapAt.{has_none, has_root}
 
 -- what stands under names that a type knows

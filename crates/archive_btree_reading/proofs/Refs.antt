@@ -1,6 +1,6 @@
 -- Values in a buffer, and what a search finds.
 use denote.Ref.{Bor}
-use Rattle.std.proofs.Common.{◌≡◌, ◌∙◌, ℕ, List, Option, Some, None, IsSome, refl, ap, sym, subst}
+use Rattle.std.proofs.Common.{◌≡◌, ◌∙◌, ℕ, List, [], ◌∷◌, map, Option, Some, None, IsSome, refl, ap, sym, subst}
 use Rattle.std.specs.Option.{option_map, is_some}
 use Rattle.archive_shape_references.specs.declared.refs.Ref.{Ref}
 use Rattle.archive_btree_layout.specs.Reading.{Place}
@@ -35,3 +35,16 @@ same_some (Some e) d h = ap is_some h
 
 pub some_mapped : {B : Type 0} (f : Place → B) (o : Option B) (d : Option Place) (e : Place) → o ≡ option_map f d → d ≡ Some e → IsSome o
 some_mapped f o d e h is = ap is_some (h ∙ ap (option_map f) is)
+
+-- one map after another
+pub mapped : {A B C : Type 0} (f : A → B) (h : B → C) (xs : List A) → map h (map f xs) ≡ map (λ x. h (f x)) xs
+mapped f h [] = refl
+mapped f h (x ∷ xs) = ap (λ s. h (f x) ∷ s) (mapped f h xs)
+
+-- what is said of what stands at places is said of values that stand there, and the other way round
+module _ {K V : Type 0} (P : Ref K → Ref V → Type 0) (bytes : Bor (List ℕ)) (p q : ℕ) (key : Ref K) (value : Ref V) (a : key.bytes ≡ bytes) (b : key.pos ≡ p) (c : value.bytes ≡ bytes) (d : value.pos ≡ q) where
+  pub at_values : P (ref_at bytes p) (ref_at bytes q) → P key value
+  at_values h = subst (λ k. P k value) (sym (ref_is bytes p key a b)) (subst (λ v. P (ref_at bytes p) v) (sym (ref_is bytes q value c d)) h)
+
+  pub at_places : P key value → P (ref_at bytes p) (ref_at bytes q)
+  at_places h = subst (λ v. P (ref_at bytes p) v) (ref_is bytes q value c d) (subst (λ k. P k value) (ref_is bytes p key a b) h)

@@ -1,6 +1,6 @@
 -- What the own bytes of a map say of its search tree.
-use Rattle.std.proofs.Common.{◌≡◌, ◌∙◌, ℕ, ◌+◌, ◌==◌, Bool, true, false, IsTrue, ◌↔◌, List, [], ◌∷◌, length, Some, refl, ap, sym, subst, arith, eqb-true, eq-eqb}
-use Rattle.archive_shape_layout.specs.Bytes.{word_at, target_from}
+use Rattle.std.proofs.Common.{◌≡◌, ◌∙◌, ℕ, ◌+◌, ◌==◌, IsTrue, ◌↔◌, List, [], ◌∷◌, length, refl, ap, sym, subst, arith, eqb-true, eq-eqb}
+use Rattle.archive_shape_layout.specs.Bytes.{word_at}
 use Rattle.archive_shape_layout.specs.Shape.{Shape}
 use Rattle.archive_shape_layout.specs.Shape.Shape.{tree}
 use Rattle.archive_shape_layout.specs.Content.{Names}

@@ -1,5 +1,5 @@
 use Rattle.std.proofs.Common.{◌∙◌, sym}
-use Rattle.archive_btree_reading.proofs.Keys.{keys_are}
+use Rattle.archive_btree_reading.proofs.Held.{keys_are}
 use Rattle.archive_btree_reading.proofs.lookup.search_key.Goals as goal
 
 pub search_map-requires-clause-callable : goal.search_map-requires-clause-callable

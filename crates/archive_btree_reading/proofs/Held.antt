@@ -1,5 +1,5 @@
 -- The keys and values of a map at their places.
-use Rattle.std.proofs.Common.{◌≡◌, ℕ, List, [], ◌∷◌, All, get_or, sym, subst}
+use Rattle.std.proofs.Common.{◌≡◌, ℕ, List, [], ◌∷◌, All, subst}
 use Rattle.std.proofs.lemmas.List.Elements.{All-nil, All-cons}
 use Rattle.archive_shape_layout.specs.Shape.{Shape}
 use Rattle.archive_shape_layout.specs.Shape.Shape.{tree}
@@ -27,7 +27,3 @@ module _ (k v : Shape) (knows others : Names → Type 0) (bytes : List ℕ) (P :
       let m : IsMapOf k v knows others bytes most pos h.value = tree_of_value h in
       let same : m.search_tree ≡ t = one_map bytes most k v pos m.search_tree t m.map is in
       subst (λ x. All P (items x)) same (keys_among (items m.search_tree) (members h.value) m.entries)
-
--- what follows at each place follows at all
-pub all_map : {A : Type 0} (P Q : A → Type 0) (step : (x : A) → P x → Q x) (xs : List A) → All P xs → All Q xs
-all_map P Q step xs h = λ i d less. step (get_or xs i d) (h i d less)
