@@ -75,3 +75,36 @@ pub fn deserialize_map_each<
     }
     Ok(OwnedBTreeMap { map })
 }
+
+/// Reads a map back, as `deserialize_map_each` does.
+pub fn deserialize_map<
+    K: Archive + Ord + Drop,
+    V: Archive + Drop,
+    D,
+    A: Deserialize<K, D>,
+    B: Deserialize<V, D>,
+    const E: usize,
+>(
+    this: Ref<'_, ArchivedBTreeMap<A, B, E>>,
+    alloc: Global,
+    deserializer: &mut D,
+) -> Result<OwnedBTreeMap<K, V, E>, Error>
+    requires some { 0 < E }
+    requires there { HasValue (tree E A.shape B.shape) (both A.knows B.knows) this.bytes.now this.pos }
+    ensures { DeserializesMap K.cmp (λ m. m.map.entries) E K.Archived.shape V.Archived.shape K.spelling V.spelling A.shape B.shape A.knows B.knows this.entry.bytes.now this.entry.pos result }
+{
+    let bytes = this.bytes;
+    deserialize_map_each::<K, V, A, B, D, _, _, E>(
+        this,
+        alloc,
+        deserializer,
+        |d: &mut D, pos: usize| -> Result<(K, PhantomData<K::Archived>), Error>
+            requires { HasValue A.shape A.knows bytes.now pos }
+            ensures { DeserializesBy K.spelling A.shape A.knows bytes.entry.now pos (λ q. q.0) result }
+        { deserialize_part::<K, A, D>(bytes, pos, alloc, d) },
+        |d: &mut D, pos: usize| -> Result<(V, PhantomData<V::Archived>), Error>
+            requires { HasValue B.shape B.knows bytes.now pos }
+            ensures { DeserializesBy V.spelling B.shape B.knows bytes.entry.now pos (λ q. q.0) result }
+        { deserialize_part::<V, B, D>(bytes, pos, alloc, d) },
+    )
+}

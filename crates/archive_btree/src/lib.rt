@@ -6,5 +6,6 @@ mod archive;
 mod deserialize;
 mod map;
 
-pub use deserialize::deserialize_map_each;
+pub use archive_btree_reading::{ArchivedBTreeMap, BTreeMapResolver, Iter, Keys, Values};
+pub use deserialize::{deserialize_map, deserialize_map_each};
 pub use map::OwnedBTreeMap;
