@@ -1,0 +1,71 @@
+//! Tests of what is refused of search trees.
+
+use crate::archives::{EMPTY, EMPTY_LEAF, Numbers, ONE_PAIR, SIX_PAIRS, bytes_of};
+use archive_btree_reading::ArchivedBTreeMap;
+use archive_core_access::access;
+use archive_shape::{ArchivedNonZeroU32, ArchivedU32, Error};
+use std::alloc::Global;
+use std::test::Fail;
+
+/// Whether a map of numbers is accepted, or why not.
+fn accepts(alloc: Global, words: &[u32]) -> Result<(), Error> {
+    let bytes = bytes_of(alloc, words)?;
+    access::<Numbers>(alloc, bytes.as_slice())?;
+    Ok(())
+}
+
+#[test]
+fn search_trees_are_accepted(rt: HostRuntime) {
+    assert_eq!(rt; accepts(rt.alloc(), &EMPTY), Ok(()));
+    assert_eq!(rt; accepts(rt.alloc(), &ONE_PAIR), Ok(()));
+    assert_eq!(rt; accepts(rt.alloc(), &SIX_PAIRS), Ok(()));
+    assert_eq!(rt; accepts(rt.alloc(), &EMPTY_LEAF), Ok(()));
+}
+
+#[test]
+fn leaf_of_too_many_entries_is_refused(rt: HostRuntime) {
+    let mut words = ONE_PAIR;
+    words[11] = 6;
+    assert_eq!(rt;
+        accepts(rt.alloc(), &words),
+        Err(Error::NodeLength { len: 6, maximum: 5 })
+    );
+}
+
+#[test]
+fn node_of_another_kind_is_refused(rt: HostRuntime) {
+    let mut words = ONE_PAIR;
+    words[0] = 2;
+    assert_eq!(rt; accepts(rt.alloc(), &words), Err(Error::InvalidTag));
+}
+
+#[test]
+fn another_number_of_entries_is_refused(rt: HostRuntime) -> Result<(), Fail> {
+    let mut words = ONE_PAIR;
+    words[1] = 0;
+    words[11] = 0;
+    let bytes = bytes_of(rt.alloc(), &words)?;
+    let refusal = access::<ArchivedBTreeMap<ArchivedNonZeroU32, ArchivedU32, 5>>(
+        rt.alloc(),
+        bytes.as_slice(),
+    ).err();
+    assert_eq!(rt;
+        refusal,
+        Some(Error::EntriesLengthMismatch { entries: 0, len: 1 })
+    );
+    Ok(())
+}
+
+#[test]
+fn entries_are_checked(rt: HostRuntime) -> Result<(), Fail> {
+    let mut words = ONE_PAIR;
+    words[1] = 0;
+    let bytes = bytes_of(rt.alloc(), &words)?;
+    assert!(rt;
+        access::<ArchivedBTreeMap<ArchivedNonZeroU32, ArchivedU32, 5>>(
+            rt.alloc(),
+            bytes.as_slice()
+        ).is_err()
+    );
+    Ok(())
+}

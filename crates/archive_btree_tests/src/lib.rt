@@ -1,0 +1,9 @@
+//! Tests of archived search trees: what is refused, and what is read of those that are accepted.
+#![tactic(auto)]
+
+#[cfg(test)]
+mod archives;
+#[cfg(test)]
+mod checking;
+#[cfg(test)]
+mod reading;

@@ -1,0 +1,115 @@
+//! Tests of what is read of archived maps.
+
+use crate::archives::{EMPTY, EMPTY_LEAF, Numbers, ONE_PAIR, SIX_PAIRS, bytes_of, root_of};
+use archive_btree_reading::ArchivedBTreeMap;
+use archive_forms_reading::native_of;
+use archive_shape::{ArchivedU32, Error, Ref};
+use std::alloc::Global;
+use std::ops::ControlFlow;
+use std::test::Fail;
+
+/// The value of a key, and how many keys are compared.
+fn found(alloc: Global, words: &[u32], key: u32) -> Result<(Option<u32>, usize), Error> {
+    let bytes = bytes_of(alloc, words)?;
+    let root = root_of::<Numbers>(alloc, bytes.as_slice())?;
+    match ArchivedBTreeMap::get_counted(root, &key) {
+        (Some(value), count) => Ok((Some(native_of(value)), count)),
+        (None, count) => Ok((None, count)),
+    }
+}
+
+#[test]
+fn keys_lead_to_their_values(rt: HostRuntime) {
+    assert_eq!(rt; found(rt.alloc(), &EMPTY, 7), Ok((None, 0)));
+    assert_eq!(rt; found(rt.alloc(), &ONE_PAIR, 7), Ok((Some(11), 1)));
+    assert_eq!(rt; found(rt.alloc(), &ONE_PAIR, 8), Ok((None, 1)));
+    let rows = [
+        (0, None, 2),
+        (1, Some(11), 2),
+        (2, Some(12), 1),
+        (3, Some(13), 2),
+        (6, Some(16), 5),
+        (7, None, 5),
+    ];
+    for (key, value, count) in rows {
+        assert_eq!(rt;
+            found(rt.alloc(), &SIX_PAIRS, key),
+            Ok((value, count)),
+            "{key}"
+        );
+    }
+    assert_eq!(rt; found(rt.alloc(), &EMPTY_LEAF, 3), Ok((Some(13), 3)));
+    assert_eq!(rt; found(rt.alloc(), &EMPTY_LEAF, 9), Ok((None, 5)));
+}
+
+/// The positions of the keys and of the values, in order.
+fn walked(alloc: Global, words: &[u32]) -> Result<Vec<(usize, usize)>, Error> {
+    let bytes = bytes_of(alloc, words)?;
+    let root = root_of::<Numbers>(alloc, bytes.as_slice())?;
+    let mut places = Vec::new(alloc);
+    for (key, value) in ArchivedBTreeMap::iter(root) {
+        if places.push((key.pos(), value.pos())).is_err() {
+            return Err(Error::OutOfMemory);
+        }
+    }
+    Ok(places)
+}
+
+#[test]
+fn entries_are_walked_in_order(rt: HostRuntime) -> Result<(), Fail> {
+    assert!(rt; walked(rt.alloc(), &EMPTY)?.is_empty());
+    assert_eq!(rt;
+        walked(rt.alloc(), &ONE_PAIR)?.as_slice(),
+        [(4, 24)].as_slice()
+    );
+    assert_eq!(rt;
+        walked(rt.alloc(), &SIX_PAIRS)?.as_slice(),
+        [(4, 24), (52, 72), (56, 76), (60, 80), (64, 84), (68, 88)].as_slice()
+    );
+    assert_eq!(rt;
+        walked(rt.alloc(), &EMPTY_LEAF)?.as_slice(),
+        [(52, 72), (56, 76), (60, 80), (64, 84), (68, 88)].as_slice()
+    );
+    Ok(())
+}
+
+/// How many entries a visit meets that ends at a value's position.
+fn visited(alloc: Global, words: &[u32], last: usize) -> Result<(Option<usize>, usize), Error> {
+    let bytes = bytes_of(alloc, words)?;
+    let root = root_of::<Numbers>(alloc, bytes.as_slice())?;
+    let mut met = 0usize;
+    let mut visit = |_key: Ref<'_, ArchivedU32>, value: Ref<'_, ArchivedU32>| -> ControlFlow<
+        usize,
+    > {
+        met = met.saturating_add(1);
+        if value.pos() == last {
+            ControlFlow::Break(value.pos())
+        } else {
+            ControlFlow::Continue(())
+        }
+    };
+    let broken = ArchivedBTreeMap::visit(root, &mut visit);
+    Ok((broken, met))
+}
+
+#[test]
+fn visit_ends_at_the_first_break(rt: HostRuntime) {
+    assert_eq!(rt; visited(rt.alloc(), &SIX_PAIRS, 76), Ok((Some(76), 3)));
+    assert_eq!(rt; visited(rt.alloc(), &SIX_PAIRS, 0), Ok((None, 6)));
+    assert_eq!(rt; visited(rt.alloc(), &EMPTY_LEAF, 0), Ok((None, 5)));
+}
+
+#[test]
+fn len_is_the_number_of_entries(rt: HostRuntime) -> Result<(), Fail> {
+    for (words, len) in [(&SIX_PAIRS, 6), (&EMPTY_LEAF, 5)] {
+        let bytes = bytes_of(rt.alloc(), words)?;
+        match root_of::<Numbers>(rt.alloc(), bytes.as_slice()) {
+            Ok(root) => {
+                assert_eq!(rt; ArchivedBTreeMap::len(root), len);
+                assert_eq!(rt; ArchivedBTreeMap::iter(root).len(), len);
+            }
+            Err(_) => assert!(rt; false),
+        }
+    }
+    Ok(())
+}
