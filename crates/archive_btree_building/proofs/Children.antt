@@ -1,15 +1,16 @@
 -- Inner nodes on the levels of a packed tree.
-use Rattle.std.proofs.Common.{◌≡◌, ℕ, zero, suc, ◌+◌, ◌-◌, ◌<◌, ◌≤◌, List, [], ◌∷◌, ◌++◌, length, take, take_all, Option, Some, Ok, Err, sym, subst, arith}
+use Rattle.std.proofs.Common.{◌≡◌, ℕ, zero, suc, ◌+◌, ◌-◌, ◌<◌, ◌≤◌, List, [], ◌∷◌, ◌++◌, length, take, take_all, Option, Some, Ok, Err, sym, subst, ◌∙◌, arith}
 use Rattle.archive_shape_layout.specs.Shape.{Shape}
 use Rattle.archive_shape_writing.specs.Writing.{WriterMembers}
 use Rattle.archive_shape_writing.specs.declared.error.Error.{Error}
-use Rattle.archive_forms_spelling.specs.Spelling.{Spelling}
+use Rattle.archive_forms_spelling.specs.Spelling.{Spelling, state_after}
+use Rattle.archive_forms_spelling.specs.Serializing.{HasState}
 use Rattle.archive_shape_canonical.specs.Packed.{child_items}
 use Rattle.archive_btree_spelling.specs.Maps.{packed_spelling}
 use Rattle.archive_btree_spelling.specs.Laying.{LaysNode}
 use Rattle.archive_btree_building.specs.Built.{IsBuilt, IsCutShort}
-use Rattle.archive_btree_building.specs.Taking.{GivesAs}
-use Rattle.archive_btree_building.proofs.Opening.{Open, open_none, open_more}
+use Rattle.archive_btree_building.specs.Taking.{GivesAs, MayGiveAll}
+use Rattle.archive_btree_building.proofs.Opening.{Open, open_none, open_more, open_state}
 use Rattle.archive_btree_building.proofs.Closing.{child_cut, inner_built, inner_cut}
 use Rattle.std.specs.Prelude.{map}
 
@@ -70,6 +71,16 @@ module _ {A B R Q T W I : Type 0} (most : ℕ) (k v : Shape) (keys : Spelling A 
         let L : List (Option ℕ) → Type 0 = λ x. Opened most zero done to now x (take most own) in
         let O : List T → Type 0 = λ x. Opened most zero done to now lesser x in
         subst O (take_all most own (omega (arith, entries))) (subst L (take_all most lesser (omega (arith, pointers))) (subst P (omega arith) (subst F end o)))
+
+    -- what the step that writes the node is called with
+    pub may_come_end : MayGiveAll given from own
+    may_come_end = opened_end.may_come
+
+    pub state_end : HasState s.pos s.known old → HasState s.pos s.known then × (s.failures then ≡ s.failures old)
+    state_end h =
+        let open_now = open_state most n child_spelling s view given from old i (most - i) done to now (take i lesser) (take i own) o h in
+        let w = b.written open_now.0.state open_now.0.is_at in
+        (record { state = state_after child_spelling b.items open_now.0.state; is_at = w.1.2 }, w.0.is_quiet ∙ open_now.1)
 
     pub built_inner : (at : ℕ) → LaysNode most k v keys vals s (record { kind = 1; roots = lesser ++ greater ∷ []; own = map view own }) then new (Ok at)
         → IsBuilt (packed_spelling most k v keys vals (suc above)) s (GivesAs view given) n from mid old new (Some at)
