@@ -1,6 +1,6 @@
 //! Entries of which is claimed how many come.
-ghost use Rattle.std.specs.Prelude.{◌≡◌, ◌+◌, ◌<◌, Some, None, MatchResult};
-ghost use Rattle.std.specs.Iterator.{IsFinite};
+ghost use Rattle.std.specs.Prelude.{◌≡◌, ℕ, ◌+◌, ◌-◌, ◌^◌, ◌<◌, min, List, [], ◌∷◌, length, Option, Some, None, MatchResult};
+ghost use Rattle.std.specs.Iterator.{Drains, IsFinite};
 ghost use Rattle.archive_shape_writing.specs.declared.error.Error.TheVariants.{IteratorLengthMismatch};
 
 use archive_shape_writing::Error;
@@ -41,4 +41,30 @@ pub(crate) fn take_entry<T: Copy, I: Iterator<Item = T>>(
             actual: source.taken,
         }),
     }
+}
+
+/// Finds that no entry comes behind those that were claimed. Where one does, all are counted, up to `usize::MAX`.
+pub(crate) fn finish<T: Copy, I: Iterator<Item = T>>(source: Claimed<I>) -> Result<(), Error>
+    requires calls { I.can_next source.entries × IsFinite (I.remaining source.entries) }
+    requires taken { source.taken ≡ source.claimed }
+    ensures { (rest : List T) × Drains I.next_gives source.entries rest
+        × MatchResult result (λ _. rest ≡ [])
+        (λ e. (0 < length rest) × (e ≡ IteratorLengthMismatch source.claimed (min (source.claimed + length rest) (2 ^ 64 - 1)))) }
+{
+    let Claimed {
+        mut entries,
+        claimed,
+        ..
+    } = source;
+    let None = entries.next() else {
+        let mut actual = claimed.saturating_add(1);
+        for _ in entries {
+            actual = actual.saturating_add(1);
+        }
+        return Err(Error::IteratorLengthMismatch {
+            expected: claimed,
+            actual,
+        });
+    };
+    Ok(())
 }

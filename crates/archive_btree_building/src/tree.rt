@@ -218,3 +218,19 @@ fn build_lesser<
     let entry = take_entry(source)?;
     Ok((child, entry))
 }
+
+/// How many levels of a tree of so many entries stand above the last one, and how many nodes that has places for.
+fn levels_above<const E: usize>(count: usize) -> (usize, usize)
+    requires some { (0 < E) × (E < 2 ^ 32) }
+    ensures wide { result.1 ≡ (E + 1) ^ result.0 }
+    ensures least { result.1 ≤ count + (1 - count) }
+    ensures fits { count < (E + 1) * result.1 }
+{
+    let mut above = 0;
+    let mut wide = 1;
+    while wide <= count / (E + 1) {
+        wide *= E + 1;
+        above += 1;
+    }
+    (above, wide)
+}
