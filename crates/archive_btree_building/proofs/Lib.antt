@@ -8,3 +8,4 @@ pub mod Closing
 pub mod Widths
 pub mod Stepping
 pub mod Children
+pub mod Whole

@@ -10,3 +10,4 @@ mod entries;
 mod tree;
 
 pub use entries::EntrySpelling;
+pub use tree::build_tree_each;

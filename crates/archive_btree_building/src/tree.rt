@@ -4,10 +4,10 @@ ghost use Rattle.std.specs.Iterator.{IsFinite};
 ghost use Rattle.archive_forms_spelling.specs.Serializing.{HasState};
 ghost use Rattle.archive_btree_building.specs.Taking.{GivesAs};
 ghost use Rattle.archive_btree_building.specs.Steps.{TakesNodes, WritesNodes};
-ghost use Rattle.archive_btree_building.specs.Built.{Builds, BuildsLesser};
+ghost use Rattle.archive_btree_building.specs.Built.{Builds, BuildsLesser, BuildsClaimed};
 
 use crate::EntrySpelling;
-use crate::claimed::{Claimed, take_entry};
+use crate::claimed::{Claimed, finish, take_entry};
 use archive_shape_writing::{Error, Writer};
 use std::marker::PhantomData;
 
@@ -233,4 +233,56 @@ fn levels_above<const E: usize>(count: usize) -> (usize, usize)
         above += 1;
     }
     (above, wide)
+}
+
+/// Writes the packed search tree of entries that come in order, of which is claimed how many come. The answer is the
+/// position of its root. `leaf` writes a leaf of entries, and `inner` an inner node of entries, of what its lesser pointers
+/// lead to, and of what its greater one leads to; each answers the position of the node.
+///
+/// # Errors
+/// `IteratorLengthMismatch` where fewer entries came, or where more did, which are counted then; what is written for those
+/// that came stays written. Whatever a step is refused for.
+pub fn build_tree_each<
+    'a,
+    K: 'a,
+    V: 'a,
+    M: EntrySpelling<(&'a K, &'a V)>,
+    S: Writer,
+    I: Iterator<Item = (&'a K, &'a V)>,
+    L: Fn(&[(&'a K, &'a V)], &mut S) -> Result<usize, Error>,
+    N: Fn(&[(&'a K, &'a V)], &[Option<usize>], Option<usize>, &mut S) -> Result<usize, Error>,
+    const E: usize,
+>(
+    claimed: usize,
+    entries: I,
+    serializer: &mut S,
+    leaf: &L,
+    inner: &N,
+) -> Result<Option<usize>, Error>
+    requires calls { I.can_next entries × IsFinite (I.remaining entries) }
+    requires some { (0 < E) × (E < 2 ^ 32) }
+    requires room { S.failures serializer.old < 2 ^ 64 - 1 }
+    requires state { HasState S.pos S.known serializer.old }
+    requires takes { TakesNodes L.Fn N.Fn E I.next_gives S.Writer leaf.now inner.now entries }
+    requires writes { WritesNodes L.Fn N.Fn E M.parts M.key_shape M.value_shape M.keys M.values S.Writer leaf.now inner.now }
+    ensures { BuildsClaimed E M.key_shape M.value_shape M.keys M.values S.Writer (GivesAs M.parts I.next_gives) claimed entries serializer.old serializer.new result }
+{
+    let (above, wide) = levels_above::<E>(claimed);
+    let mut source = Claimed {
+        entries,
+        claimed,
+        taken: 0,
+    };
+    let root = build_tree::<(&'a K, &'a V), M, S, I, L, N, E>(
+        &mut source,
+        serializer,
+        leaf,
+        inner,
+        PhantomData,
+        above,
+        wide,
+        claimed - (wide - 1),
+    )?;
+    finish(source)?;
+    Ok(root)
 }
