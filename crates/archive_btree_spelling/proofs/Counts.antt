@@ -10,7 +10,7 @@ pub power_more : (most g : ℕ) → (most + 1) ^ suc g ≡ (most + 1) ^ g + most
 power_more most g = let e = pow-succ' (most + 1) g in omega (arith, e)
 
 -- the least number of levels, between two numbers of items
-levels_between : (most n l : ℕ) → 0 < most → full most l < n → n ≤ full most (suc l) → levels_for most n ≡ suc l
+pub levels_between : (most n l : ℕ) → 0 < most → full most l < n → n ≤ full most (suc l) → levels_for most n ≡ suc l
 levels_between most n l some low high =
     let up = levels_are_least most n (suc l) high in
     let hold = levels_hold most n some in

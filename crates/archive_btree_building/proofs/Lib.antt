@@ -1,0 +1,11 @@
+pub mod Taken
+pub mod Laying
+pub mod Appended
+pub mod Parting
+pub mod Rooted
+pub mod Opening
+pub mod Closing
+pub mod Widths
+pub mod Stepping
+pub mod Children
+pub mod Whole

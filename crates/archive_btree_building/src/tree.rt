@@ -1,0 +1,288 @@
+//! A packed search tree is written, each node behind what stands below its pointers.
+ghost use Rattle.std.specs.Prelude.{◌≡◌, ℕ, ◌+◌, ◌-◌, ◌*◌, ◌^◌, ◌<◌, ◌≤◌, length, suc, OnOk};
+ghost use Rattle.std.specs.Iterator.{IsFinite};
+ghost use Rattle.archive_forms_spelling.specs.Serializing.{HasState};
+ghost use Rattle.archive_btree_building.specs.Taking.{GivesAs};
+ghost use Rattle.archive_btree_building.specs.Steps.{TakesNodes, WritesNodes};
+ghost use Rattle.archive_btree_building.specs.Built.{Builds, BuildsLesser, BuildsClaimed};
+
+use crate::EntrySpelling;
+use crate::claimed::{Claimed, finish, take_entry};
+use archive_shape_writing::{Error, Writer};
+use std::marker::PhantomData;
+
+/// Writes a leaf of so many entries.
+fn build_leaf<
+    T: Copy,
+    M: EntrySpelling<T>,
+    S: Writer,
+    I: Iterator<Item = T>,
+    L: Fn(&[T], &mut S) -> Result<usize, Error>,
+    N: Fn(&[T], &[Option<usize>], Option<usize>, &mut S) -> Result<usize, Error>,
+    const E: usize,
+>(
+    source: &mut Claimed<I>,
+    serializer: &mut S,
+    leaf: &L,
+    inner: &N,
+    node: PhantomData<[T; E]>,
+    count: usize,
+) -> Result<Option<usize>, Error>
+    requires calls { I.can_next source.old.entries × IsFinite (I.remaining source.old.entries) }
+    requires some { 0 < count }
+    requires few { (count ≤ E) × (E < 2 ^ 32) }
+    requires wanted { source.old.taken + count ≤ source.old.claimed }
+    requires room { S.failures serializer.old < 2 ^ 64 - 1 }
+    requires state { HasState S.pos S.known serializer.old }
+    requires takes { TakesNodes L.Fn N.Fn E I.next_gives S.Writer leaf.now inner.now source.old.entries }
+    requires writes { WritesNodes L.Fn N.Fn E M.parts M.key_shape M.value_shape M.keys M.values S.Writer leaf.now inner.now }
+    ensures calls { OnOk result (I.can_next source.new.entries × IsFinite (I.remaining source.new.entries)) }
+    ensures counts { OnOk result ((source.new.claimed ≡ source.old.claimed) × (source.new.taken ≡ source.old.taken + count)) }
+    ensures built { (above : ℕ) → Builds E M.key_shape M.value_shape M.keys M.values S.Writer (GivesAs M.parts I.next_gives) (suc above) count
+        source.old.claimed source.old.taken source.old.entries source.new.entries serializer.old serializer.new result }
+{
+    let first = take_entry(source)?;
+    let mut own = [first; E];
+    for i in 1..count {
+        own[i] = take_entry(source)?;
+    }
+    match leaf(&own[..count], serializer) {
+        Ok(pos) => Ok(Some(pos)),
+        Err(e) => Err(e),
+    }
+}
+
+/// Writes what stands below a pointer: so many levels above the last one, which has so many places for nodes, and so many
+/// entries on it.
+#[cycle(tree)]
+fn build_tree<
+    T: Copy,
+    M: EntrySpelling<T>,
+    S: Writer,
+    I: Iterator<Item = T>,
+    L: Fn(&[T], &mut S) -> Result<usize, Error>,
+    N: Fn(&[T], &[Option<usize>], Option<usize>, &mut S) -> Result<usize, Error>,
+    const E: usize,
+>(
+    source: &mut Claimed<I>,
+    serializer: &mut S,
+    leaf: &L,
+    inner: &N,
+    node: PhantomData<[T; E]>,
+    above: usize,
+    wide: usize,
+    last: usize,
+) -> Result<Option<usize>, Error>
+    requires calls { I.can_next source.old.entries × IsFinite (I.remaining source.old.entries) }
+    requires some { (0 < E) × (E < 2 ^ 32) }
+    requires wide { wide ≡ (E + 1) ^ above }
+    requires fits { last ≤ E * wide }
+    requires wanted { source.old.taken + (wide - 1 + last) ≤ source.old.claimed }
+    requires room { S.failures serializer.old < 2 ^ 64 - 1 }
+    requires state { HasState S.pos S.known serializer.old }
+    requires takes { TakesNodes L.Fn N.Fn E I.next_gives S.Writer leaf.now inner.now source.old.entries }
+    requires writes { WritesNodes L.Fn N.Fn E M.parts M.key_shape M.value_shape M.keys M.values S.Writer leaf.now inner.now }
+    ensures calls { OnOk result (I.can_next source.new.entries × IsFinite (I.remaining source.new.entries)) }
+    ensures counts { OnOk result ((source.new.claimed ≡ source.old.claimed) × (source.new.taken ≡ source.old.taken + (wide - 1 + last))) }
+    ensures built { Builds E M.key_shape M.value_shape M.keys M.values S.Writer (GivesAs M.parts I.next_gives) (suc above) (wide - 1 + last)
+        source.old.claimed source.old.taken source.old.entries source.new.entries serializer.old serializer.new result }
+{
+    let count = wide - 1 + last;
+    if count == 0 {
+        return Ok(None);
+    }
+    if count <= E {
+        return build_leaf::<T, M, S, I, L, N, E>(source, serializer, leaf, inner, node, count);
+    }
+    build_inner::<T, M, S, I, L, N, E>(source, serializer, leaf, inner, node, above, wide, last)
+}
+
+/// Writes an inner node behind what stands below its pointers.
+#[cycle(tree)]
+fn build_inner<
+    T: Copy,
+    M: EntrySpelling<T>,
+    S: Writer,
+    I: Iterator<Item = T>,
+    L: Fn(&[T], &mut S) -> Result<usize, Error>,
+    N: Fn(&[T], &[Option<usize>], Option<usize>, &mut S) -> Result<usize, Error>,
+    const E: usize,
+>(
+    source: &mut Claimed<I>,
+    serializer: &mut S,
+    leaf: &L,
+    inner: &N,
+    node: PhantomData<[T; E]>,
+    above: usize,
+    wide: usize,
+    last: usize,
+) -> Result<Option<usize>, Error>
+    requires calls { I.can_next source.old.entries × IsFinite (I.remaining source.old.entries) }
+    requires some { (0 < E) × (E < 2 ^ 32) }
+    requires wide { wide ≡ (E + 1) ^ above }
+    requires fits { last ≤ E * wide }
+    requires many { E < wide - 1 + last }
+    requires wanted { source.old.taken + (wide - 1 + last) ≤ source.old.claimed }
+    requires room { S.failures serializer.old < 2 ^ 64 - 1 }
+    requires state { HasState S.pos S.known serializer.old }
+    requires takes { TakesNodes L.Fn N.Fn E I.next_gives S.Writer leaf.now inner.now source.old.entries }
+    requires writes { WritesNodes L.Fn N.Fn E M.parts M.key_shape M.value_shape M.keys M.values S.Writer leaf.now inner.now }
+    ensures calls { OnOk result (I.can_next source.new.entries × IsFinite (I.remaining source.new.entries)) }
+    ensures counts { OnOk result ((source.new.claimed ≡ source.old.claimed) × (source.new.taken ≡ source.old.taken + (wide - 1 + last))) }
+    ensures built { Builds E M.key_shape M.value_shape M.keys M.values S.Writer (GivesAs M.parts I.next_gives) (suc above) (wide - 1 + last)
+        source.old.claimed source.old.taken source.old.entries source.new.entries serializer.old serializer.new result }
+{
+    let below = wide / (E + 1);
+    let room = E * below;
+    let (child, entry) = build_lesser::<T, M, S, I, L, N, E>(
+        source,
+        serializer,
+        leaf,
+        inner,
+        node,
+        above - 1,
+        below,
+        last.min(room),
+    )?;
+    let mut lesser = [child; E];
+    let mut own = [entry; E];
+    let mut left = last.saturating_sub(room);
+    for i in 1..E {
+        let (child, entry) = build_lesser::<T, M, S, I, L, N, E>(
+            source,
+            serializer,
+            leaf,
+            inner,
+            node,
+            above - 1,
+            below,
+            left.min(room),
+        )?;
+        lesser[i] = child;
+        own[i] = entry;
+        left = left.saturating_sub(room);
+    }
+    let greater = build_tree::<T, M, S, I, L, N, E>(
+        source,
+        serializer,
+        leaf,
+        inner,
+        node,
+        above - 1,
+        below,
+        left,
+    )?;
+    match inner(&own, &lesser, greater, serializer) {
+        Ok(pos) => Ok(Some(pos)),
+        Err(e) => Err(e),
+    }
+}
+
+/// Writes what stands below a lesser pointer, and takes the entry behind it.
+#[cycle(tree)]
+fn build_lesser<
+    T: Copy,
+    M: EntrySpelling<T>,
+    S: Writer,
+    I: Iterator<Item = T>,
+    L: Fn(&[T], &mut S) -> Result<usize, Error>,
+    N: Fn(&[T], &[Option<usize>], Option<usize>, &mut S) -> Result<usize, Error>,
+    const E: usize,
+>(
+    source: &mut Claimed<I>,
+    serializer: &mut S,
+    leaf: &L,
+    inner: &N,
+    node: PhantomData<[T; E]>,
+    above: usize,
+    wide: usize,
+    last: usize,
+) -> Result<(Option<usize>, T), Error>
+    requires calls { I.can_next source.old.entries × IsFinite (I.remaining source.old.entries) }
+    requires some { (0 < E) × (E < 2 ^ 32) }
+    requires wide { wide ≡ (E + 1) ^ above }
+    requires fits { last ≤ E * wide }
+    requires wanted { source.old.taken + (wide - 1 + last) < source.old.claimed }
+    requires room { S.failures serializer.old < 2 ^ 64 - 1 }
+    requires state { HasState S.pos S.known serializer.old }
+    requires takes { TakesNodes L.Fn N.Fn E I.next_gives S.Writer leaf.now inner.now source.old.entries }
+    requires writes { WritesNodes L.Fn N.Fn E M.parts M.key_shape M.value_shape M.keys M.values S.Writer leaf.now inner.now }
+    ensures calls { OnOk result (I.can_next source.new.entries × IsFinite (I.remaining source.new.entries)) }
+    ensures counts { OnOk result ((source.new.claimed ≡ source.old.claimed) × (source.new.taken ≡ source.old.taken + (wide - 1 + last) + 1)) }
+    ensures built { BuildsLesser E M.key_shape M.value_shape M.keys M.values S.Writer M.parts I.next_gives (suc above) (wide - 1 + last)
+        source.old.claimed source.old.taken source.old.entries source.new.entries serializer.old serializer.new result }
+{
+    let child = build_tree::<T, M, S, I, L, N, E>(
+        source, serializer, leaf, inner, node, above, wide, last,
+    )?;
+    let entry = take_entry(source)?;
+    Ok((child, entry))
+}
+
+/// How many levels of a tree of so many entries stand above the last one, and how many nodes that has places for.
+fn levels_above<const E: usize>(count: usize) -> (usize, usize)
+    requires some { (0 < E) × (E < 2 ^ 32) }
+    ensures wide { result.1 ≡ (E + 1) ^ result.0 }
+    ensures least { result.1 ≤ count + (1 - count) }
+    ensures fits { count < (E + 1) * result.1 }
+{
+    let mut above = 0;
+    let mut wide = 1;
+    while wide <= count / (E + 1) {
+        wide *= E + 1;
+        above += 1;
+    }
+    (above, wide)
+}
+
+/// Writes the packed search tree of entries that come in order, of which is claimed how many come. The answer is the
+/// position of its root. `leaf` writes a leaf of entries, and `inner` an inner node of entries, of what its lesser pointers
+/// lead to, and of what its greater one leads to; each answers the position of the node.
+///
+/// # Errors
+/// `IteratorLengthMismatch` where fewer entries came, or where more did, which are counted then; what is written for those
+/// that came stays written. Whatever a step is refused for.
+pub fn build_tree_each<
+    'a,
+    K: 'a,
+    V: 'a,
+    M: EntrySpelling<(&'a K, &'a V)>,
+    S: Writer,
+    I: Iterator<Item = (&'a K, &'a V)>,
+    L: Fn(&[(&'a K, &'a V)], &mut S) -> Result<usize, Error>,
+    N: Fn(&[(&'a K, &'a V)], &[Option<usize>], Option<usize>, &mut S) -> Result<usize, Error>,
+    const E: usize,
+>(
+    claimed: usize,
+    entries: I,
+    serializer: &mut S,
+    leaf: &L,
+    inner: &N,
+) -> Result<Option<usize>, Error>
+    requires calls { I.can_next entries × IsFinite (I.remaining entries) }
+    requires some { (0 < E) × (E < 2 ^ 32) }
+    requires room { S.failures serializer.old < 2 ^ 64 - 1 }
+    requires state { HasState S.pos S.known serializer.old }
+    requires takes { TakesNodes L.Fn N.Fn E I.next_gives S.Writer leaf.now inner.now entries }
+    requires writes { WritesNodes L.Fn N.Fn E M.parts M.key_shape M.value_shape M.keys M.values S.Writer leaf.now inner.now }
+    ensures { BuildsClaimed E M.key_shape M.value_shape M.keys M.values S.Writer (GivesAs M.parts I.next_gives) claimed entries serializer.old serializer.new result }
+{
+    let (above, wide) = levels_above::<E>(claimed);
+    let mut source = Claimed {
+        entries,
+        claimed,
+        taken: 0,
+    };
+    let root = build_tree::<(&'a K, &'a V), M, S, I, L, N, E>(
+        &mut source,
+        serializer,
+        leaf,
+        inner,
+        PhantomData,
+        above,
+        wide,
+        claimed - (wide - 1),
+    )?;
+    finish(source)?;
+    Ok(root)
+}
