@@ -1,0 +1,32 @@
+-- The nodes that are written for entries which are borrowed.
+use Rattle.std.specs.Prelude.{◌≡◌, ℕ, zero, suc, ◌+◌, List, [], ◌∷◌, length, Option, Some, None, ⊤}
+use denote.Bor.{Bor}
+use Rattle.archive_shape_layout.specs.Shape.{Shape}
+use Rattle.archive_forms_spelling.specs.Spelling.{Spelling}
+use Rattle.archive_forms_spelling.specs.Forms.{seen_as}
+use Rattle.archive_btree_spelling.specs.Written.{Linked, entry_spelling}
+
+-- a borrowed value is archived as the value
+abbrev pub borrowed : {A R : Type 0} → Spelling A R → Spelling (Bor A) R
+borrowed w = seen_as (λ b. b.now) w
+
+-- and a pair of borrowed values as an entry
+abbrev pub borrowed_entry : {A B R Q : Type 0} → ℕ → Shape → Shape → Spelling A R → Spelling B Q → Spelling (Bor A × Bor B) (R × Q)
+borrowed_entry most k v keys vals = entry_spelling most k v (borrowed keys) (borrowed vals)
+
+-- a leaf, and an inner node whose pointers lead to these positions
+abbrev pub leaf_of : {C : Type 0} → List C → Linked C
+leaf_of es = record { kind = 0; roots = []; own = es }
+
+abbrev pub inner_of : {C : Type 0} → List (Option ℕ) → List C → Linked C
+inner_of roots es = record { kind = 1; roots = roots; own = es }
+
+-- the node with these children, if it has any
+abbrev pub node_of : {C : Type 0} → Option (Bor (List (Option ℕ))) → List C → Linked C
+node_of None es = leaf_of es
+node_of (Some children) es = inner_of children.now es
+
+-- an inner node has one child more than entries
+abbrev pub AreChildren : ℕ → Option (Bor (List (Option ℕ))) → Type 0
+AreChildren most None = ⊤
+AreChildren most (Some children) = length children.now ≡ most + 1

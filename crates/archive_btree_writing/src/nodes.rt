@@ -1,0 +1,235 @@
+//! Nodes that are written behind the data of their entries.
+ghost use Rattle.std.specs.Prelude.{◌≡◌, ℕ, ◌+◌, ◌-◌, ◌^◌, ◌<◌, ◌≤◌, length, map, MatchResult};
+ghost use Rattle.std.specs.Int.{w32, to_le_bytes};
+ghost use Rattle.archive_shape_references.specs.Bytes.{zeros, overwrite};
+ghost use Rattle.archive_forms_spelling.specs.State.{State};
+ghost use Rattle.archive_forms_spelling.specs.Serializing.{HasState, Lays};
+ghost use Rattle.archive_forms_spelling.specs.Regions.{resolvers};
+ghost use Rattle.archive_forms_writing.specs.Steps.{StepTakes, StepWrites};
+ghost use Rattle.archive_btree_spelling.specs.Laying.{LaysNode};
+ghost use Rattle.archive_btree_spelling.specs.Written.{own_size, own_bytes, slots_fit, slots_refused};
+ghost use Rattle.archive_btree_checking.specs.Layout.{as_usize, IsNodeLayout};
+ghost use Rattle.archive_btree_writing.specs.Nodes.{borrowed, borrowed_entry, leaf_of, inner_of, node_of, AreChildren};
+
+use crate::entries::{resolve_keys, resolve_values, serialize_entries};
+use crate::links::store_links;
+use archive_btree_checking::{NodeLayout, node_layout};
+use archive_forms_writing::{Archive, align};
+use archive_shape::{Allocator, Error, Writer};
+use std::marker::PhantomData;
+
+/// The last position that a node may begin at.
+const LAST_POSITION: usize = u32::MAX as usize;
+
+/// How many bytes a node has at most for which no memory is taken.
+const BUFFER: usize = 256;
+
+/// Writes the length of a leaf at `start` of a buffer.
+fn store_length(len: u32, start: usize, buffer: &mut [u8])
+    requires room { start + 4 ≤ length buffer.old }
+    ensures { buffer.new ≡ overwrite buffer.old start (to_le_bytes w32 len) }
+{
+    let end = start + 4;
+    buffer[start..end].copy_from_slice(&len.to_le_bytes());
+}
+
+/// Makes zeros, which will stand at `pos`, the node of entries, whose data was written.
+fn resolve_node<'a, K: Archive, V: Archive, const E: usize>(
+    entries: &[(&'a K, &'a V)],
+    kept: &[(K::Resolver, V::Resolver)],
+    children: Option<&[Option<usize>]>,
+    layout: NodeLayout,
+    pos: usize,
+    buffer: &mut [u8],
+) -> Result<(), Error>
+    requires few { length entries.now ≤ E }
+    requires small { E < 2 ^ 32 }
+    requires whole { AreChildren E children }
+    requires parts { IsNodeLayout E K.Archived.shape V.Archived.shape layout }
+    requires made { (st : State) × (kept.now ≡ resolvers (borrowed_entry E K.Archived.shape V.Archived.shape K.spelling V.spelling) entries.now st) }
+    requires blank { buffer.old ≡ zeros (own_size E K.Archived.shape V.Archived.shape (borrowed K.spelling) (borrowed V.spelling) (node_of children entries.now)) }
+    requires stands { pos + own_size E K.Archived.shape V.Archived.shape (borrowed K.spelling) (borrowed V.spelling) (node_of children entries.now) < 2 ^ 64 }
+    ensures { (st : State) → kept.now ≡ resolvers (borrowed_entry E K.Archived.shape V.Archived.shape K.spelling V.spelling) entries.now st
+        → let n = node_of children entries.now in
+        MatchResult result
+        (λ _. slots_fit E K.Archived.shape V.Archived.shape (borrowed K.spelling) (borrowed V.spelling) n st pos
+        × (buffer.new ≡ own_bytes E K.Archived.shape V.Archived.shape (borrowed K.spelling) (borrowed V.spelling) n st pos))
+        (slots_refused E K.Archived.shape V.Archived.shape (borrowed K.spelling) (borrowed V.spelling) n st pos) }
+{
+    let _len = buffer.len();
+    buffer[0] = if children.is_some() { 1 } else { 0 };
+    resolve_keys::<K, V, E>(entries, kept, layout.keys, pos + layout.keys, buffer)?;
+    resolve_values::<K, V, E>(entries, kept, layout.values, pos + layout.values, buffer)?;
+    match children {
+        None => {
+            store_length(entries.len() as u32, layout.links, buffer);
+            Ok(())
+        }
+        Some(children) => store_links(children, layout.links, pos + layout.links, buffer),
+    }
+}
+
+/// Writes the node of entries, whose data was written, by way of zeros of its size.
+fn write_through<'a, K: Archive, V: Archive, W: Writer, const E: usize>(
+    entries: &[(&'a K, &'a V)],
+    kept: &[(K::Resolver, V::Resolver)],
+    children: Option<&[Option<usize>]>,
+    layout: NodeLayout,
+    writer: &mut W,
+    buffer: &mut [u8],
+) -> Result<(), Error>
+    requires room { W.failures writer.old < 2 ^ 64 - 1 }
+    requires few { length entries.now ≤ E }
+    requires small { E < 2 ^ 32 }
+    requires whole { AreChildren E children }
+    requires parts { IsNodeLayout E K.Archived.shape V.Archived.shape layout }
+    requires made { (st : State) × (kept.now ≡ resolvers (borrowed_entry E K.Archived.shape V.Archived.shape K.spelling V.spelling) entries.now st) }
+    requires blank { buffer.old ≡ zeros (own_size E K.Archived.shape V.Archived.shape (borrowed K.spelling) (borrowed V.spelling) (node_of children entries.now)) }
+    requires stands { W.pos writer.old + own_size E K.Archived.shape V.Archived.shape (borrowed K.spelling) (borrowed V.spelling) (node_of children entries.now) < 2 ^ 64 }
+    ensures { (st : State) → kept.now ≡ resolvers (borrowed_entry E K.Archived.shape V.Archived.shape K.spelling V.spelling) entries.now st
+        → let n = node_of children entries.now in
+        Lays W.Writer writer.old writer.new (own_bytes E K.Archived.shape V.Archived.shape (borrowed K.spelling) (borrowed V.spelling) n st (W.pos writer.old))
+        (λ _. slots_fit E K.Archived.shape V.Archived.shape (borrowed K.spelling) (borrowed V.spelling) n st (W.pos writer.old))
+        (slots_refused E K.Archived.shape V.Archived.shape (borrowed K.spelling) (borrowed V.spelling) n st (W.pos writer.old)) result }
+{
+    let pos = writer.pos();
+    resolve_node::<K, V, E>(entries, kept, children, layout, pos, buffer)?;
+    writer.write(buffer)
+}
+
+/// Writes the node of entries, whose data was written.
+fn write_own<'a, K: Archive, V: Archive, S: Writer + Allocator, const E: usize>(
+    entries: &[(&'a K, &'a V)],
+    kept: &[(K::Resolver, V::Resolver)],
+    children: Option<&[Option<usize>]>,
+    layout: NodeLayout,
+    size: usize,
+    serializer: &mut S,
+) -> Result<(), Error>
+    requires room { S.failures serializer.old < 2 ^ 64 - 1 }
+    requires few { length entries.now ≤ E }
+    requires small { E < 2 ^ 32 }
+    requires whole { AreChildren E children }
+    requires parts { IsNodeLayout E K.Archived.shape V.Archived.shape layout }
+    requires sized { size ≡ as_usize (own_size E K.Archived.shape V.Archived.shape (borrowed K.spelling) (borrowed V.spelling) (node_of children entries.now)) }
+    requires made { (st : State) × (kept.now ≡ resolvers (borrowed_entry E K.Archived.shape V.Archived.shape K.spelling V.spelling) entries.now st) }
+    requires stands { S.pos serializer.old + size < 2 ^ 64 }
+    ensures { (st : State) → kept.now ≡ resolvers (borrowed_entry E K.Archived.shape V.Archived.shape K.spelling V.spelling) entries.now st
+        → let n = node_of children entries.now in
+        Lays S.Writer serializer.old serializer.new (own_bytes E K.Archived.shape V.Archived.shape (borrowed K.spelling) (borrowed V.spelling) n st (S.pos serializer.old))
+        (λ _. slots_fit E K.Archived.shape V.Archived.shape (borrowed K.spelling) (borrowed V.spelling) n st (S.pos serializer.old))
+        (slots_refused E K.Archived.shape V.Archived.shape (borrowed K.spelling) (borrowed V.spelling) n st (S.pos serializer.old)) result }
+{
+    if size <= BUFFER {
+        let mut buffer = [0; BUFFER];
+        return write_through::<K, V, S, E>(entries, kept, children, layout, serializer, &mut buffer[..size]);
+    }
+    match vec![in serializer.memory(); 0u8; size] {
+        Ok(mut buffer) => write_through::<K, V, S, E>(entries, kept, children, layout, serializer, buffer.as_mut_slice()),
+        Err(_) => Err(Error::OutOfMemory),
+    }
+}
+
+/// Writes a node behind the data of its entries. An inner node has children. The answer is its position.
+fn write_node_each<
+    'a,
+    K: Archive,
+    V: Archive,
+    S: Writer + Allocator,
+    F: Fn(&K, &mut S) -> Result<(K::Resolver, PhantomData<K::Archived>), Error>,
+    G: Fn(&V, &mut S) -> Result<(V::Resolver, PhantomData<V::Archived>), Error>,
+    const E: usize,
+>(
+    entries: &[(&'a K, &'a V)],
+    children: Option<&[Option<usize>]>,
+    serializer: &mut S,
+    key_step: &F,
+    value_step: &G,
+) -> Result<usize, Error>
+    requires some { 0 < length entries.now }
+    requires few { length entries.now ≤ E }
+    requires small { E < 2 ^ 32 }
+    requires whole { AreChildren E children }
+    requires room { S.failures serializer.old < 2 ^ 64 - 1 }
+    requires state { HasState S.pos S.known serializer.old }
+    requires takes_key { StepTakes F.Fn S.Writer key_step.now (map (λ e. e.0.now) entries.now) }
+    requires writes_key { StepWrites F.Fn (λ q. q.0) K.spelling S.Writer key_step.now }
+    requires takes_value { StepTakes G.Fn S.Writer value_step.now (map (λ e. e.1.now) entries.now) }
+    requires writes_value { StepWrites G.Fn (λ q. q.0) V.spelling S.Writer value_step.now }
+    ensures { LaysNode E K.Archived.shape V.Archived.shape (borrowed K.spelling) (borrowed V.spelling) S.Writer (node_of children entries.now) serializer.old serializer.new result }
+{
+    let kept = serialize_entries::<K, V, S, F, G, E>(entries, serializer, key_step, value_step)?;
+    let layout = node_layout::<K::Archived, V::Archived, E>();
+    let to = align(serializer, layout.link_align)?;
+    let size = match children {
+        None => layout.leaf,
+        Some(_) => layout.inner,
+    };
+    if to > LAST_POSITION || to.checked_add(size).is_none() {
+        return Err(Error::PositionTooLarge);
+    }
+    write_own::<K, V, S, E>(entries, &kept[..entries.len()], children, layout, size, serializer)?;
+    Ok(to)
+}
+
+/// Writes a leaf behind the data of its entries, of each the key's and then the value's, which the steps write. The answer
+/// is its position.
+pub fn write_leaf_each<
+    'a,
+    K: Archive,
+    V: Archive,
+    S: Writer + Allocator,
+    F: Fn(&K, &mut S) -> Result<(K::Resolver, PhantomData<K::Archived>), Error>,
+    G: Fn(&V, &mut S) -> Result<(V::Resolver, PhantomData<V::Archived>), Error>,
+    const E: usize,
+>(
+    entries: &[(&'a K, &'a V)],
+    serializer: &mut S,
+    key_step: &F,
+    value_step: &G,
+) -> Result<usize, Error>
+    requires some { 0 < length entries.now }
+    requires few { length entries.now ≤ E }
+    requires small { E < 2 ^ 32 }
+    requires room { S.failures serializer.old < 2 ^ 64 - 1 }
+    requires state { HasState S.pos S.known serializer.old }
+    requires takes_key { StepTakes F.Fn S.Writer key_step.now (map (λ e. e.0.now) entries.now) }
+    requires writes_key { StepWrites F.Fn (λ q. q.0) K.spelling S.Writer key_step.now }
+    requires takes_value { StepTakes G.Fn S.Writer value_step.now (map (λ e. e.1.now) entries.now) }
+    requires writes_value { StepWrites G.Fn (λ q. q.0) V.spelling S.Writer value_step.now }
+    ensures { LaysNode E K.Archived.shape V.Archived.shape (borrowed K.spelling) (borrowed V.spelling) S.Writer (leaf_of entries.now) serializer.old serializer.new result }
+{
+    write_node_each::<K, V, S, F, G, E>(entries, None, serializer, key_step, value_step)
+}
+
+/// Writes an inner node behind the data of its entries, as a leaf is written. `children` has the positions of the nodes
+/// below it: for each entry that of its lesser child, and then that of the greater child. The answer is its position.
+pub fn write_inner_each<
+    'a,
+    K: Archive,
+    V: Archive,
+    S: Writer + Allocator,
+    F: Fn(&K, &mut S) -> Result<(K::Resolver, PhantomData<K::Archived>), Error>,
+    G: Fn(&V, &mut S) -> Result<(V::Resolver, PhantomData<V::Archived>), Error>,
+    const E: usize,
+>(
+    entries: &[(&'a K, &'a V)],
+    children: &[Option<usize>],
+    serializer: &mut S,
+    key_step: &F,
+    value_step: &G,
+) -> Result<usize, Error>
+    requires some { 0 < length entries.now }
+    requires full { length entries.now ≡ E }
+    requires whole { length children.now ≡ E + 1 }
+    requires small { E < 2 ^ 32 }
+    requires room { S.failures serializer.old < 2 ^ 64 - 1 }
+    requires state { HasState S.pos S.known serializer.old }
+    requires takes_key { StepTakes F.Fn S.Writer key_step.now (map (λ e. e.0.now) entries.now) }
+    requires writes_key { StepWrites F.Fn (λ q. q.0) K.spelling S.Writer key_step.now }
+    requires takes_value { StepTakes G.Fn S.Writer value_step.now (map (λ e. e.1.now) entries.now) }
+    requires writes_value { StepWrites G.Fn (λ q. q.0) V.spelling S.Writer value_step.now }
+    ensures { LaysNode E K.Archived.shape V.Archived.shape (borrowed K.spelling) (borrowed V.spelling) S.Writer (inner_of children.now entries.now) serializer.old serializer.new result }
+{
+    write_node_each::<K, V, S, F, G, E>(entries, Some(children), serializer, key_step, value_step)
+}
