@@ -1,3 +1,4 @@
 pub mod Slots
+pub mod Parts
 pub mod Pointers
 pub mod Answered

@@ -2,14 +2,12 @@
 use Rattle.std.proofs.Common.{◌≡◌, ℕ, zero, suc, ◌+◌, ◌*◌, ◌≤◌, ◌<◌, ◌^◌, List, [], ◌∷◌, ◌++◌, length, take, drop, get_or, arith, length-append, append_assoc, append-nil, ap, sym, refl, subst, ◌∙◌, inl, inr, mul-le-mul_right}
 use Rattle.std.specs.Prelude.{⊤}
 use Rattle.std.proofs.lemmas.List.{length-take, take_all}
-use Rattle.archive_shape_layout.specs.Shape.{Shape, size_of}
 use Rattle.archive_shape_references.specs.Bytes.{HasBytes, zeros, overwrite}
 use Rattle.archive_shape_references.proofs.Written.{length-overwrite}
 use Rattle.archive_shape_writing.specs.declared.error.Error.{Error}
 use Rattle.archive_forms_spelling.specs.State.{State}
 use Rattle.archive_forms_spelling.specs.Spelling.{Spelling, state_after}
 use Rattle.archive_forms_spelling.specs.Regions.{resolvers}
-use Rattle.archive_forms_spelling.specs.Serializing.{CanResolve}
 use Rattle.archive_forms_reading.proofs.Joined.{overwrites_joined}
 use Rattle.archive_forms_writing.proofs.Joining.{still_zero, unfilled}
 use Rattle.archive_btree_spelling.specs.Written.{slots, AllSlots, AnySlot}
@@ -122,14 +120,9 @@ module _ {C : Type 0} (after : C → State → State) (size : ℕ) where
 
 -- ---- the resolver of a value
 
-pub kept_at : {C Q : Type 0} (w : Spelling C Q) (xs : List C) (kept : List Q) (i : ℕ) (x : C) (k : Q) (st : State) → kept ≡ resolvers w xs st → i < length xs → x ≡ get_or xs i x → k ≡ get_or kept i k
-    → k ≡ w.resolver x (state_before (state_after w) xs i st)
-kept_at w [] kept i x k st e h is f = absurd (omega (arith, h))
-kept_at w (y ∷ ys) kept zero x k st e h is f = f ∙ ap (λ l. get_or l 0 k) e ∙ ap (λ z. w.resolver z st) (sym is)
-kept_at w (y ∷ ys) kept (suc i) x k st e h is f =
-    kept_at w ys (resolvers w ys (state_after w y st)) i x k (state_after w y st) refl (omega (arith, h)) is (f ∙ ap (λ l. get_or l (suc i) k) e)
-
--- what is asked for a value that is the next one
-pub slot_can : {A R : Type 0} (w : Spelling A R) (s : Shape) (x : A) (r : R) (st : State) (bytes : List ℕ) (start pos : ℕ)
-    → start + size_of s ≤ length bytes → pos + size_of s < 2 ^ 64 → HasBytes bytes start (zeros (size_of s)) → r ≡ w.resolver x st → CanResolve w s x r bytes start pos
-slot_can w s x r st bytes start pos room stands blank made = record { room = room; stands = stands; blank = blank; made = (st, made) }
+pub kept_at : {C Q : Type 0} (w : Spelling C Q) (xs : List C) (kept : List Q) (i : ℕ) (x : C) (d : Q) (st : State) → kept ≡ resolvers w xs st → i < length xs → x ≡ get_or xs i x
+    → get_or kept i d ≡ w.resolver x (state_before (state_after w) xs i st)
+kept_at w [] kept i x d st e h is = absurd (omega (arith, h))
+kept_at w (y ∷ ys) kept zero x d st e h is = ap (λ l. get_or l 0 d) e ∙ ap (λ z. w.resolver z st) (sym is)
+kept_at w (y ∷ ys) kept (suc i) x d st e h is =
+    ap (λ l. get_or l (suc i) d) e ∙ kept_at w ys (resolvers w ys (state_after w y st)) i x d (state_after w y st) refl (omega (arith, h)) is
