@@ -24,18 +24,18 @@ fn serialize_entry<
     G: Fn(&V, &mut S) -> Result<(V::Resolver, PhantomData<V::Archived>), Error>,
     const E: usize,
 >(
-    entry: (&'a K, &'a V),
+    entry: &(&'a K, &'a V),
     serializer: &mut S,
     key_step: &F,
     value_step: &G,
 ) -> Result<(K::Resolver, V::Resolver), Error>
     requires room { S.failures serializer.old < 2 ^ 64 - 1 }
     requires state { HasState S.pos S.known serializer.old }
-    requires takes_key { StepTakes F.Fn S.Writer key_step.now (entry.0.now ∷ []) }
+    requires takes_key { StepTakes F.Fn S.Writer key_step.now (entry.now.0.now ∷ []) }
     requires writes_key { StepWrites F.Fn (λ q. q.0) K.spelling S.Writer key_step.now }
-    requires takes_value { StepTakes G.Fn S.Writer value_step.now (entry.1.now ∷ []) }
+    requires takes_value { StepTakes G.Fn S.Writer value_step.now (entry.now.1.now ∷ []) }
     requires writes_value { StepWrites G.Fn (λ q. q.0) V.spelling S.Writer value_step.now }
-    ensures { Serializes (borrowed_entry E K.Archived.shape V.Archived.shape K.spelling V.spelling) S.Writer entry serializer.old serializer.new result }
+    ensures { Serializes (borrowed_entry E K.Archived.shape V.Archived.shape K.spelling V.spelling) S.Writer entry.now serializer.old serializer.new result }
 {
     let key = match key_step(entry.0, serializer) {
         Ok(done) => done.0,
@@ -77,13 +77,13 @@ pub(crate) fn serialize_entries<
         (λ all. (take (length entries.now) all ≡ resolvers w entries.now st) × pieces_fit w entries.now st × IsAt S.pos S.known serializer.new (state_after_all w entries.now st))
         (pieces_refused w entries.now st) result }
 {
-    let first = match serialize_entry::<K, V, S, F, G, E>(entries[0], serializer, key_step, value_step) {
+    let first = match serialize_entry::<K, V, S, F, G, E>(&entries[0], serializer, key_step, value_step) {
         Ok(done) => done,
         Err(e) => return Err(e),
     };
     let mut kept = [first; E];
     for i in 1..entries.len() {
-        match serialize_entry::<K, V, S, F, G, E>(entries[i], serializer, key_step, value_step) {
+        match serialize_entry::<K, V, S, F, G, E>(&entries[i], serializer, key_step, value_step) {
             Ok(done) => kept[i] = done,
             Err(e) => return Err(e),
         }
