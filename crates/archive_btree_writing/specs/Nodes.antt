@@ -1,10 +1,11 @@
 -- The nodes that are written for entries which are borrowed.
-use Rattle.std.specs.Prelude.{◌≡◌, ℕ, zero, suc, ◌+◌, List, [], ◌∷◌, length, Option, Some, None, ⊤}
+use Rattle.std.specs.Prelude.{◌≡◌, ℕ, zero, suc, ◌+◌, ◌*◌, List, [], ◌∷◌, length, Option, Some, None, ⊤}
+use Rattle.std.specs.Int.{w32, to_le_bytes}
 use denote.Bor.{Bor}
 use Rattle.archive_shape_layout.specs.Shape.{Shape}
 use Rattle.archive_forms_spelling.specs.Spelling.{Spelling}
 use Rattle.archive_forms_spelling.specs.Forms.{seen_as}
-use Rattle.archive_btree_spelling.specs.Written.{Linked, entry_spelling}
+use Rattle.archive_btree_spelling.specs.Written.{Linked, entry_spelling, links}
 
 -- a borrowed value is archived as the value
 abbrev pub borrowed : {A R : Type 0} → Spelling A R → Spelling (Bor A) R
@@ -21,12 +22,29 @@ leaf_of es = record { kind = 0; roots = []; own = es }
 abbrev pub inner_of : {C : Type 0} → List (Option ℕ) → List C → Linked C
 inner_of roots es = record { kind = 1; roots = roots; own = es }
 
--- the node with these children, if it has any
+-- ---- the node with these children, if it has any
+
+abbrev pub kind_of : Option (Bor (List (Option ℕ))) → ℕ
+kind_of None = 0
+kind_of (Some children) = 1
+
+abbrev pub roots_of : Option (Bor (List (Option ℕ))) → List (Option ℕ)
+roots_of None = []
+roots_of (Some children) = children.now
+
 abbrev pub node_of : {C : Type 0} → Option (Bor (List (Option ℕ))) → List C → Linked C
-node_of None es = leaf_of es
-node_of (Some children) es = inner_of children.now es
+node_of children es = record { kind = kind_of children; roots = roots_of children; own = es }
 
 -- an inner node has one child more than entries
 abbrev pub AreChildren : ℕ → Option (Bor (List (Option ℕ))) → Type 0
 AreChildren most None = ⊤
 AreChildren most (Some children) = length children.now ≡ most + 1
+
+-- what stands behind the values, and how many bytes that is: the length of a leaf, or the pointers
+abbrev pub words_behind : Option (Bor (List (Option ℕ))) → ℕ → ℕ → List ℕ
+words_behind None len pos = to_le_bytes w32 len
+words_behind (Some children) len pos = links children.now pos
+
+abbrev pub words_size : Option (Bor (List (Option ℕ))) → ℕ
+words_size None = 4
+words_size (Some children) = length children.now * 4

@@ -2,7 +2,7 @@
 #![tactic(auto)]
 
 mod entries;
-mod links;
 mod nodes;
+mod words;
 
 pub use nodes::{write_inner_each, write_leaf_each};

@@ -1,7 +1,7 @@
 //! Nodes that are written behind the data of their entries.
 ghost use Rattle.std.specs.Prelude.{◌≡◌, ℕ, ◌+◌, ◌-◌, ◌^◌, ◌<◌, ◌≤◌, length, map, MatchResult};
-ghost use Rattle.std.specs.Int.{w32, to_le_bytes};
-ghost use Rattle.archive_shape_references.specs.Bytes.{zeros, overwrite};
+ghost use Rattle.archive_shape_layout.specs.Content.{words_of, link_node_size};
+ghost use Rattle.archive_shape_references.specs.Bytes.{zeros};
 ghost use Rattle.archive_forms_spelling.specs.State.{State};
 ghost use Rattle.archive_forms_spelling.specs.Serializing.{HasState, Lays};
 ghost use Rattle.archive_forms_spelling.specs.Regions.{resolvers};
@@ -9,13 +9,13 @@ ghost use Rattle.archive_forms_writing.specs.Steps.{StepTakes, StepWrites};
 ghost use Rattle.archive_btree_spelling.specs.Laying.{LaysNode};
 ghost use Rattle.archive_btree_spelling.specs.Written.{own_size, own_bytes, slots_fit, slots_refused};
 ghost use Rattle.archive_btree_checking.specs.Layout.{as_usize, IsNodeLayout};
-ghost use Rattle.archive_btree_writing.specs.Nodes.{borrowed, borrowed_entry, leaf_of, inner_of, node_of, AreChildren};
+ghost use Rattle.archive_btree_writing.specs.Nodes.{borrowed, borrowed_entry, leaf_of, inner_of, kind_of, node_of, AreChildren};
 
 use crate::entries::{resolve_keys, resolve_values, serialize_entries};
-use crate::links::store_links;
+use crate::words::store_words;
 use archive_btree_checking::{NodeLayout, node_layout};
 use archive_forms_writing::{Archive, align};
-use archive_shape::{Allocator, Error, Writer};
+use archive_shape::{Allocator, Error, Portable, Writer};
 use std::marker::PhantomData;
 
 /// The last position that a node may begin at.
@@ -24,13 +24,28 @@ const LAST_POSITION: usize = u32::MAX as usize;
 /// How many bytes a node has at most for which no memory is taken.
 const BUFFER: usize = 256;
 
-/// Writes the length of a leaf at `start` of a buffer.
-fn store_length(len: u32, start: usize, buffer: &mut [u8])
-    requires room { start + 4 ≤ length buffer.old }
-    ensures { buffer.new ≡ overwrite buffer.old start (to_le_bytes w32 len) }
+/// The first byte of a node: 0 of a leaf, and 1 of an inner node.
+fn kind(children: Option<&[Option<usize>]>) -> u8
+    ensures { result ≡ kind_of children.entry }
 {
-    let end = start + 4;
-    buffer[start..end].copy_from_slice(&len.to_le_bytes());
+    match children {
+        None => 0,
+        Some(_) => 1,
+    }
+}
+
+/// How many bytes a node has. The number stops at `usize::MAX`.
+fn node_size<K: Portable, V: Portable, const E: usize>(
+    layout: &NodeLayout,
+    children: Option<&[Option<usize>]>,
+) -> usize
+    requires { IsNodeLayout E K.shape V.shape layout.now }
+    ensures { result ≡ as_usize (link_node_size (words_of (kind_of children.entry) E) E K.shape V.shape) }
+{
+    match children {
+        None => layout.leaf,
+        Some(_) => layout.inner,
+    }
 }
 
 /// Makes zeros, which will stand at `pos`, the node of entries, whose data was written.
@@ -50,23 +65,17 @@ fn resolve_node<'a, K: Archive, V: Archive, const E: usize>(
     requires blank { buffer.old ≡ zeros (own_size E K.Archived.shape V.Archived.shape (borrowed K.spelling) (borrowed V.spelling) (node_of children entries.now)) }
     requires stands { pos + own_size E K.Archived.shape V.Archived.shape (borrowed K.spelling) (borrowed V.spelling) (node_of children entries.now) < 2 ^ 64 }
     ensures { (st : State) → kept.now ≡ resolvers (borrowed_entry E K.Archived.shape V.Archived.shape K.spelling V.spelling) entries.now st
-        → let n = node_of children entries.now in
+        → let n = node_of children.entry entries.now in
         MatchResult result
         (λ _. slots_fit E K.Archived.shape V.Archived.shape (borrowed K.spelling) (borrowed V.spelling) n st pos
         × (buffer.new ≡ own_bytes E K.Archived.shape V.Archived.shape (borrowed K.spelling) (borrowed V.spelling) n st pos))
         (slots_refused E K.Archived.shape V.Archived.shape (borrowed K.spelling) (borrowed V.spelling) n st pos) }
 {
     let _len = buffer.len();
-    buffer[0] = if children.is_some() { 1 } else { 0 };
+    buffer[0] = kind(children);
     resolve_keys::<K, V, E>(entries, kept, layout.keys, pos + layout.keys, buffer)?;
     resolve_values::<K, V, E>(entries, kept, layout.values, pos + layout.values, buffer)?;
-    match children {
-        None => {
-            store_length(entries.len() as u32, layout.links, buffer);
-            Ok(())
-        }
-        Some(children) => store_links(children, layout.links, pos + layout.links, buffer),
-    }
+    store_words(entries.len() as u32, children, layout.links, pos + layout.links, buffer)
 }
 
 /// Writes the node of entries, whose data was written, by way of zeros of its size.
@@ -87,7 +96,7 @@ fn write_through<'a, K: Archive, V: Archive, W: Writer, const E: usize>(
     requires blank { buffer.old ≡ zeros (own_size E K.Archived.shape V.Archived.shape (borrowed K.spelling) (borrowed V.spelling) (node_of children entries.now)) }
     requires stands { W.pos writer.old + own_size E K.Archived.shape V.Archived.shape (borrowed K.spelling) (borrowed V.spelling) (node_of children entries.now) < 2 ^ 64 }
     ensures { (st : State) → kept.now ≡ resolvers (borrowed_entry E K.Archived.shape V.Archived.shape K.spelling V.spelling) entries.now st
-        → let n = node_of children entries.now in
+        → let n = node_of children.entry entries.now in
         Lays W.Writer writer.old writer.new (own_bytes E K.Archived.shape V.Archived.shape (borrowed K.spelling) (borrowed V.spelling) n st (W.pos writer.old))
         (λ _. slots_fit E K.Archived.shape V.Archived.shape (borrowed K.spelling) (borrowed V.spelling) n st (W.pos writer.old))
         (slots_refused E K.Archived.shape V.Archived.shape (borrowed K.spelling) (borrowed V.spelling) n st (W.pos writer.old)) result }
@@ -115,7 +124,7 @@ fn write_own<'a, K: Archive, V: Archive, S: Writer + Allocator, const E: usize>(
     requires made { (st : State) × (kept.now ≡ resolvers (borrowed_entry E K.Archived.shape V.Archived.shape K.spelling V.spelling) entries.now st) }
     requires stands { S.pos serializer.old + size < 2 ^ 64 }
     ensures { (st : State) → kept.now ≡ resolvers (borrowed_entry E K.Archived.shape V.Archived.shape K.spelling V.spelling) entries.now st
-        → let n = node_of children entries.now in
+        → let n = node_of children.entry entries.now in
         Lays S.Writer serializer.old serializer.new (own_bytes E K.Archived.shape V.Archived.shape (borrowed K.spelling) (borrowed V.spelling) n st (S.pos serializer.old))
         (λ _. slots_fit E K.Archived.shape V.Archived.shape (borrowed K.spelling) (borrowed V.spelling) n st (S.pos serializer.old))
         (slots_refused E K.Archived.shape V.Archived.shape (borrowed K.spelling) (borrowed V.spelling) n st (S.pos serializer.old)) result }
@@ -156,15 +165,12 @@ fn write_node_each<
     requires writes_key { StepWrites F.Fn (λ q. q.0) K.spelling S.Writer key_step.now }
     requires takes_value { StepTakes G.Fn S.Writer value_step.now (map (λ e. e.1.now) entries.now) }
     requires writes_value { StepWrites G.Fn (λ q. q.0) V.spelling S.Writer value_step.now }
-    ensures { LaysNode E K.Archived.shape V.Archived.shape (borrowed K.spelling) (borrowed V.spelling) S.Writer (node_of children entries.now) serializer.old serializer.new result }
+    ensures { LaysNode E K.Archived.shape V.Archived.shape (borrowed K.spelling) (borrowed V.spelling) S.Writer (node_of children.entry entries.now) serializer.old serializer.new result }
 {
     let kept = serialize_entries::<K, V, S, F, G, E>(entries, serializer, key_step, value_step)?;
     let layout = node_layout::<K::Archived, V::Archived, E>();
     let to = align(serializer, layout.link_align)?;
-    let size = match children {
-        None => layout.leaf,
-        Some(_) => layout.inner,
-    };
+    let size = node_size::<K::Archived, V::Archived, E>(&layout, children);
     if to > LAST_POSITION || to.checked_add(size).is_none() {
         return Err(Error::PositionTooLarge);
     }

@@ -1,6 +1,8 @@
-//! The pointers of inner nodes.
+//! What stands behind the values of a node: the length of a leaf, or the pointers of an inner node.
 ghost use Rattle.std.specs.Prelude.{◌≡◌, ◌+◌, ◌*◌, ◌^◌, ◌<◌, ◌≤◌, length, MatchResult};
 ghost use Rattle.archive_shape_references.specs.Bytes.{HasBytes, zeros, overwrite};
+ghost use Rattle.std.specs.Int.{w32, to_le_bytes};
+ghost use Rattle.archive_btree_writing.specs.Nodes.{roots_of, words_behind, words_size};
 ghost use Rattle.archive_btree_spelling.specs.Written.{link_bytes, LinkFits, LinkRefused, links, LinksFit, LinksRefused};
 
 use archive_shape::{Error, Place, RawRelPtrI32};
@@ -28,7 +30,7 @@ fn store_link(
 }
 
 /// Writes pointers side by side from `start` of a buffer on, which will stand at `pos` and is zero there.
-pub(crate) fn store_links(
+fn store_links(
     children: &[Option<usize>],
     start: usize,
     pos: usize,
@@ -48,4 +50,38 @@ pub(crate) fn store_links(
         offset += LINK;
     }
     Ok(())
+}
+
+/// Writes the length of a leaf at `start` of a buffer.
+fn store_length(len: u32, start: usize, buffer: &mut [u8])
+    requires room { start + 4 ≤ length buffer.old }
+    ensures { buffer.new ≡ overwrite buffer.old start (to_le_bytes w32 len) }
+{
+    let end = start + 4;
+    buffer[start..end].copy_from_slice(&len.to_le_bytes());
+}
+
+/// Writes the length of a leaf, or the pointers of an inner node, at `start` of a buffer, which will stand at `pos` and is
+/// zero there.
+pub(crate) fn store_words(
+    len: u32,
+    children: Option<&[Option<usize>]>,
+    start: usize,
+    pos: usize,
+    buffer: &mut [u8],
+) -> Result<(), Error>
+    requires room { start + words_size children ≤ length buffer.old }
+    requires stands { pos + words_size children < 2 ^ 64 }
+    requires blank { HasBytes buffer.old start (zeros (words_size children)) }
+    ensures { MatchResult result
+        (λ _. LinksFit (roots_of children.entry) pos × (buffer.new ≡ overwrite buffer.old start (words_behind children.entry len pos)))
+        (LinksRefused (roots_of children.entry) pos) }
+{
+    match children {
+        None => {
+            store_length(len, start, buffer);
+            Ok(())
+        }
+        Some(children) => store_links(children, start, pos, buffer),
+    }
 }

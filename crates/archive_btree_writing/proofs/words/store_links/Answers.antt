@@ -6,7 +6,7 @@ use Rattle.archive_btree_spelling.specs.Written.{LinkRefused}
 use Rattle.archive_btree_writing.proofs.Slots.{laid_none, laid_length, laid_next, laid_refused, laid_all}
 use Rattle.archive_btree_writing.proofs.Pointers.{links_are, links_fit, links_refused}
 use Rattle.archive_btree_writing.proofs.Answered.{answers_error}
-use Rattle.archive_btree_writing.proofs.links.store_links.Goals as goal
+use Rattle.archive_btree_writing.proofs.words.store_links.Goals as goal
 
 pub loop-i-init : goal.loop-i-init
 loop-i-init c = record { counted = omega arith; within = omega arith; laid = laid_none _ _ _ _ _ _ _ _ _ _ }

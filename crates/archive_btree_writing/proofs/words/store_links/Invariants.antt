@@ -1,6 +1,6 @@
 use Rattle.std.proofs.Common.{◌≡◌, ◌*◌, ◌≤◌, length}
 use Rattle.archive_btree_writing.proofs.Pointers.{LinksLaid}
-use Rattle.archive_btree_writing.proofs.links.store_links.Given as goal
+use Rattle.archive_btree_writing.proofs.words.store_links.Given as goal
 
 abbrev pub invariant-loop-i : goal.invariant-loop-i
 invariant-loop-i l = record {
