@@ -1,4 +1,6 @@
 pub mod Slots
 pub mod Parts
 pub mod Pointers
+pub mod Filling
+pub mod Resolving
 pub mod Answered

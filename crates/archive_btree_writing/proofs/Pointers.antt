@@ -1,5 +1,5 @@
 -- Pointers side by side are slots.
-use Rattle.std.proofs.Common.{◌≡◌, ℕ, ◌+◌, List, [], ◌∷◌, ◌++◌, Option, refl, ap, inl, inr}
+use Rattle.std.proofs.Common.{◌≡◌, ℕ, ◌+◌, ◌*◌, ◌∙◌, arith, length, length-append, List, [], ◌∷◌, ◌++◌, Option, refl, ap, inl, inr}
 use Rattle.archive_shape_writing.specs.declared.error.Error.{Error}
 use Rattle.archive_forms_spelling.specs.State.{State, initial}
 use Rattle.archive_btree_spelling.specs.Written.{slots, AllSlots, AnySlot, link_bytes, LinkFits, LinkRefused, links, LinksFit, LinksRefused}
@@ -26,3 +26,7 @@ links_refused (to ∷ more) st pos e (inr r) = inr (links_refused more st (pos +
 -- the first pointers are written
 abbrev pub LinksLaid : List (Option ℕ) → List ℕ → (start pos i : ℕ) → List ℕ → Type 0
 LinksLaid roots bytes start pos i now = Laid no_data 4 (λ to st here. link_bytes to here) (λ to st here. LinkFits to here) (λ to st here f. length-link to here) roots bytes start pos initial i now
+
+pub length-links : (roots : List (Option ℕ)) (pos : ℕ) → length (links roots pos) ≡ length roots * 4
+length-links [] pos = refl
+length-links (to ∷ more) pos = length-append (link_bytes to pos) (links more (pos + 4)) ∙ omega (arith, length-link to pos, length-links more (pos + 4))

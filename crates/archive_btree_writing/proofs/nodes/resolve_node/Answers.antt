@@ -1,84 +1,339 @@
-use Rattle.std.proofs.Common.{rules, ◌≡◌, ℕ, ◌+◌, ◌-◌, ◌^◌, ◌<◌, ◌≤◌, length, map, MatchResult, ◌*◌, ◌/◌, ◌%◌, Bool, true, false, nat_eq, nat_lt, List, [], ◌∷◌, ◌++◌, slice_index_or, slice_set, bit_and, bit_or, Fits, w8, w64, Bor, MutBor}
-use Rattle.std.specs.Int.{w32, to_le_bytes}
-use Rattle.archive_shape_references.specs.Bytes.{zeros, overwrite}
-use Rattle.archive_forms_spelling.specs.State.{State}
-use Rattle.archive_forms_spelling.specs.Serializing.{HasState, Lays}
-use Rattle.archive_forms_spelling.specs.Regions.{resolvers}
-use Rattle.archive_forms_writing.specs.Steps.{StepTakes, StepWrites}
-use Rattle.archive_btree_spelling.specs.Laying.{LaysNode}
-use Rattle.archive_btree_spelling.specs.Written.{own_size, own_bytes, slots_fit, slots_refused}
-use Rattle.archive_btree_checking.specs.Layout.{as_usize, IsNodeLayout}
-use Rattle.archive_btree_writing.specs.Nodes.{borrowed, borrowed_entry, leaf_of, inner_of, node_of, AreChildren}
+use Rattle.std.proofs.Common.{rules, arith, ◌≡◌, ◌+◌, ◌*◌, ◌<◌, ◌≤◌, length, refl}
+use Rattle.archive_shape_layout.specs.Shape.{size_of}
+use Rattle.archive_shape_canonical.specs.FirstFit.{first_fit}
+use Rattle.archive_btree_writing.specs.Nodes.{borrowed, words_size}
+use Rattle.archive_btree_writing.proofs.Answered.{answers_error}
+use Rattle.archive_btree_writing.proofs.Filling.{filled_length, filled_zero}
+use Rattle.archive_btree_writing.proofs.Resolving.{Given, standing, words_end, some_bytes, begun, keyed, keyed_length, valued, valued_length, keys_refused, values_refused, last_ended}
 use Rattle.archive_btree_writing.proofs.nodes.resolve_node.Goals as goal
 
--- src/nodes.rt:60:5
 pub bounds-buffer-0 : goal.bounds-buffer-0
-bounds-buffer-0 g c = ?
+bounds-buffer-0 g c =
+    let k = g.K.Archived.Portable.shape in
+    let v = g.V.Archived.Portable.shape in
+    let keys = borrowed g.K.Archive.spelling in
+    let vals = borrowed g.V.Archive.spelling in
+    let given : Given g.row.E k v keys vals c.args.layout c.args.children c.args.entries.now c.args.pos c.args.buffer.now = record {
+      sized_key = λ x r at fit. (g.met.K.Archive.spells (first_fit (λ _. 0)) x.now).sized r at fit;
+      sized_value = λ x r at fit. (g.met.V.Archive.spells (first_fit (λ _. 0)) x.now).sized r at fit;
+      is = c.requires.parts;
+      whole = c.requires.whole;
+      few = c.requires.few;
+      blank = c.requires.blank;
+      stands = c.requires.stands;
+    } in
+    let p = standing g.row.E k v keys vals given in
+    let w = words_end g.row.E k v keys vals given in
+    let some = some_bytes g.row.E k v keys vals given in search rules
 
--- src/nodes.rt:61:57
 pub overflow_add-pos : goal.overflow_add-pos
-overflow_add-pos g c = ?
+overflow_add-pos g c =
+    let k = g.K.Archived.Portable.shape in
+    let v = g.V.Archived.Portable.shape in
+    let keys = borrowed g.K.Archive.spelling in
+    let vals = borrowed g.V.Archive.spelling in
+    let given : Given g.row.E k v keys vals c.args.layout c.args.children c.args.entries.now c.args.pos c.args.buffer.now = record {
+      sized_key = λ x r at fit. (g.met.K.Archive.spells (first_fit (λ _. 0)) x.now).sized r at fit;
+      sized_value = λ x r at fit. (g.met.V.Archive.spells (first_fit (λ _. 0)) x.now).sized r at fit;
+      is = c.requires.parts;
+      whole = c.requires.whole;
+      few = c.requires.few;
+      blank = c.requires.blank;
+      stands = c.requires.stands;
+    } in
+    let p = standing g.row.E k v keys vals given in
+    let w = words_end g.row.E k v keys vals given in
+    omega (arith, p.keys, p.keys_end, p.values_end, w, c.requires.stands)
 
--- src/nodes.rt:61:5
 pub resolve_keys-requires-clause-room : goal.resolve_keys-requires-clause-room
-resolve_keys-requires-clause-room g c = ?
+resolve_keys-requires-clause-room g c =
+    let k = g.K.Archived.Portable.shape in
+    let v = g.V.Archived.Portable.shape in
+    let keys = borrowed g.K.Archive.spelling in
+    let vals = borrowed g.V.Archive.spelling in
+    let given : Given g.row.E k v keys vals c.args.layout c.args.children c.args.entries.now c.args.pos c.args.buffer.now = record {
+      sized_key = λ x r at fit. (g.met.K.Archive.spells (first_fit (λ _. 0)) x.now).sized r at fit;
+      sized_value = λ x r at fit. (g.met.V.Archive.spells (first_fit (λ _. 0)) x.now).sized r at fit;
+      is = c.requires.parts;
+      whole = c.requires.whole;
+      few = c.requires.few;
+      blank = c.requires.blank;
+      stands = c.requires.stands;
+    } in
+    let p = standing g.row.E k v keys vals given in
+    let w = words_end g.row.E k v keys vals given in
+    let first = begun g.row.E k v keys vals given c.kind.result c.kind.ensures in
+    let n = filled_length _ _ c.requires.blank first in omega (arith, n, p.keys, p.keys_end, p.values_end, w)
 
--- src/nodes.rt:61:5
 pub resolve_keys-requires-clause-stands : goal.resolve_keys-requires-clause-stands
-resolve_keys-requires-clause-stands g c = ?
+resolve_keys-requires-clause-stands g c =
+    let k = g.K.Archived.Portable.shape in
+    let v = g.V.Archived.Portable.shape in
+    let keys = borrowed g.K.Archive.spelling in
+    let vals = borrowed g.V.Archive.spelling in
+    let given : Given g.row.E k v keys vals c.args.layout c.args.children c.args.entries.now c.args.pos c.args.buffer.now = record {
+      sized_key = λ x r at fit. (g.met.K.Archive.spells (first_fit (λ _. 0)) x.now).sized r at fit;
+      sized_value = λ x r at fit. (g.met.V.Archive.spells (first_fit (λ _. 0)) x.now).sized r at fit;
+      is = c.requires.parts;
+      whole = c.requires.whole;
+      few = c.requires.few;
+      blank = c.requires.blank;
+      stands = c.requires.stands;
+    } in
+    let p = standing g.row.E k v keys vals given in
+    let w = words_end g.row.E k v keys vals given in
+    omega (arith, p.keys, p.keys_end, p.values_end, w, c.requires.stands)
 
--- src/nodes.rt:61:5
 pub resolve_keys-requires-clause-blank : goal.resolve_keys-requires-clause-blank
-resolve_keys-requires-clause-blank g c = ?
+resolve_keys-requires-clause-blank g c =
+    let k = g.K.Archived.Portable.shape in
+    let v = g.V.Archived.Portable.shape in
+    let keys = borrowed g.K.Archive.spelling in
+    let vals = borrowed g.V.Archive.spelling in
+    let given : Given g.row.E k v keys vals c.args.layout c.args.children c.args.entries.now c.args.pos c.args.buffer.now = record {
+      sized_key = λ x r at fit. (g.met.K.Archive.spells (first_fit (λ _. 0)) x.now).sized r at fit;
+      sized_value = λ x r at fit. (g.met.V.Archive.spells (first_fit (λ _. 0)) x.now).sized r at fit;
+      is = c.requires.parts;
+      whole = c.requires.whole;
+      few = c.requires.few;
+      blank = c.requires.blank;
+      stands = c.requires.stands;
+    } in
+    let p = standing g.row.E k v keys vals given in
+    let w = words_end g.row.E k v keys vals given in
+    let first = begun g.row.E k v keys vals given c.kind.result c.kind.ensures in
+    filled_zero _ _ c.requires.blank first c.args.layout.keys (length c.args.entries.now * size_of k) (omega (arith, p.keys, p.begins)) (omega (arith, p.keys, p.keys_end, p.values_end, w))
 
--- src/nodes.rt:61:5
 pub returns-in_err-resolve_keys : goal.returns-in_err-resolve_keys
-returns-in_err-resolve_keys g c = ?
+returns-in_err-resolve_keys g c = λ st made.
+    let k = g.K.Archived.Portable.shape in
+    let v = g.V.Archived.Portable.shape in
+    let keys = borrowed g.K.Archive.spelling in
+    let vals = borrowed g.V.Archive.spelling in
+    let given : Given g.row.E k v keys vals c.args.layout c.args.children c.args.entries.now c.args.pos c.args.buffer.now = record {
+      sized_key = λ x r at fit. (g.met.K.Archive.spells (first_fit (λ _. 0)) x.now).sized r at fit;
+      sized_value = λ x r at fit. (g.met.V.Archive.spells (first_fit (λ _. 0)) x.now).sized r at fit;
+      is = c.requires.parts;
+      whole = c.requires.whole;
+      few = c.requires.few;
+      blank = c.requires.blank;
+      stands = c.requires.stands;
+    } in
+    let p = standing g.row.E k v keys vals given in
+    let w = words_end g.row.E k v keys vals given in
+    let e = c.in_err-resolve_keys.field-0.0 in
+    answers_error c.from_residual.result e _ _ (search rules) (keys_refused g.row.E k v keys vals given st e (c.in_err-resolve_keys.ensures st made))
 
--- src/nodes.rt:62:61
 pub overflow_add-pos-2 : goal.overflow_add-pos-2
-overflow_add-pos-2 g c = ?
+overflow_add-pos-2 g c =
+    let k = g.K.Archived.Portable.shape in
+    let v = g.V.Archived.Portable.shape in
+    let keys = borrowed g.K.Archive.spelling in
+    let vals = borrowed g.V.Archive.spelling in
+    let given : Given g.row.E k v keys vals c.args.layout c.args.children c.args.entries.now c.args.pos c.args.buffer.now = record {
+      sized_key = λ x r at fit. (g.met.K.Archive.spells (first_fit (λ _. 0)) x.now).sized r at fit;
+      sized_value = λ x r at fit. (g.met.V.Archive.spells (first_fit (λ _. 0)) x.now).sized r at fit;
+      is = c.requires.parts;
+      whole = c.requires.whole;
+      few = c.requires.few;
+      blank = c.requires.blank;
+      stands = c.requires.stands;
+    } in
+    let p = standing g.row.E k v keys vals given in
+    let w = words_end g.row.E k v keys vals given in
+    omega (arith, p.values, p.values_end, w, c.requires.stands)
 
--- src/nodes.rt:62:5
 pub resolve_values-requires-clause-room : goal.resolve_values-requires-clause-room
-resolve_values-requires-clause-room g c = ?
+resolve_values-requires-clause-room g c =
+    let k = g.K.Archived.Portable.shape in
+    let v = g.V.Archived.Portable.shape in
+    let keys = borrowed g.K.Archive.spelling in
+    let vals = borrowed g.V.Archive.spelling in
+    let given : Given g.row.E k v keys vals c.args.layout c.args.children c.args.entries.now c.args.pos c.args.buffer.now = record {
+      sized_key = λ x r at fit. (g.met.K.Archive.spells (first_fit (λ _. 0)) x.now).sized r at fit;
+      sized_value = λ x r at fit. (g.met.V.Archive.spells (first_fit (λ _. 0)) x.now).sized r at fit;
+      is = c.requires.parts;
+      whole = c.requires.whole;
+      few = c.requires.few;
+      blank = c.requires.blank;
+      stands = c.requires.stands;
+    } in
+    let p = standing g.row.E k v keys vals given in
+    let w = words_end g.row.E k v keys vals given in
+    let st = c.requires.made.0 in
+    let made = c.requires.made.1 in
+    let first = begun g.row.E k v keys vals given c.kind.result c.kind.ensures in
+    let with_keys = keyed g.row.E k v keys vals given _ c.resolve_keys.new.buffer st first (c.in_ok-resolve_keys.ensures st made) in
+    let n = filled_length _ _ c.requires.blank with_keys.holds in omega (arith, n, p.values, p.values_end, w)
 
--- src/nodes.rt:62:5
 pub resolve_values-requires-clause-stands : goal.resolve_values-requires-clause-stands
-resolve_values-requires-clause-stands g c = ?
+resolve_values-requires-clause-stands g c =
+    let k = g.K.Archived.Portable.shape in
+    let v = g.V.Archived.Portable.shape in
+    let keys = borrowed g.K.Archive.spelling in
+    let vals = borrowed g.V.Archive.spelling in
+    let given : Given g.row.E k v keys vals c.args.layout c.args.children c.args.entries.now c.args.pos c.args.buffer.now = record {
+      sized_key = λ x r at fit. (g.met.K.Archive.spells (first_fit (λ _. 0)) x.now).sized r at fit;
+      sized_value = λ x r at fit. (g.met.V.Archive.spells (first_fit (λ _. 0)) x.now).sized r at fit;
+      is = c.requires.parts;
+      whole = c.requires.whole;
+      few = c.requires.few;
+      blank = c.requires.blank;
+      stands = c.requires.stands;
+    } in
+    let p = standing g.row.E k v keys vals given in
+    let w = words_end g.row.E k v keys vals given in
+    omega (arith, p.values, p.values_end, w, c.requires.stands)
 
--- src/nodes.rt:62:5
 pub resolve_values-requires-clause-blank : goal.resolve_values-requires-clause-blank
-resolve_values-requires-clause-blank g c = ?
+resolve_values-requires-clause-blank g c =
+    let k = g.K.Archived.Portable.shape in
+    let v = g.V.Archived.Portable.shape in
+    let keys = borrowed g.K.Archive.spelling in
+    let vals = borrowed g.V.Archive.spelling in
+    let given : Given g.row.E k v keys vals c.args.layout c.args.children c.args.entries.now c.args.pos c.args.buffer.now = record {
+      sized_key = λ x r at fit. (g.met.K.Archive.spells (first_fit (λ _. 0)) x.now).sized r at fit;
+      sized_value = λ x r at fit. (g.met.V.Archive.spells (first_fit (λ _. 0)) x.now).sized r at fit;
+      is = c.requires.parts;
+      whole = c.requires.whole;
+      few = c.requires.few;
+      blank = c.requires.blank;
+      stands = c.requires.stands;
+    } in
+    let p = standing g.row.E k v keys vals given in
+    let w = words_end g.row.E k v keys vals given in
+    let st = c.requires.made.0 in
+    let made = c.requires.made.1 in
+    let first = begun g.row.E k v keys vals given c.kind.result c.kind.ensures in
+    let with_keys = keyed g.row.E k v keys vals given _ c.resolve_keys.new.buffer st first (c.in_ok-resolve_keys.ensures st made) in
+    let n = keyed_length g.row.E k v keys vals given with_keys in
+    filled_zero _ _ c.requires.blank with_keys.holds c.args.layout.values (length c.args.entries.now * size_of v) (omega (arith, n, p.values, p.keys_end)) (omega (arith, p.values, p.values_end, w))
 
--- src/nodes.rt:62:5
 pub returns-in_err-resolve_values : goal.returns-in_err-resolve_values
-returns-in_err-resolve_values g c = ?
+returns-in_err-resolve_values g c = λ st made.
+    let k = g.K.Archived.Portable.shape in
+    let v = g.V.Archived.Portable.shape in
+    let keys = borrowed g.K.Archive.spelling in
+    let vals = borrowed g.V.Archive.spelling in
+    let given : Given g.row.E k v keys vals c.args.layout c.args.children c.args.entries.now c.args.pos c.args.buffer.now = record {
+      sized_key = λ x r at fit. (g.met.K.Archive.spells (first_fit (λ _. 0)) x.now).sized r at fit;
+      sized_value = λ x r at fit. (g.met.V.Archive.spells (first_fit (λ _. 0)) x.now).sized r at fit;
+      is = c.requires.parts;
+      whole = c.requires.whole;
+      few = c.requires.few;
+      blank = c.requires.blank;
+      stands = c.requires.stands;
+    } in
+    let p = standing g.row.E k v keys vals given in
+    let w = words_end g.row.E k v keys vals given in
+    let e = c.in_err-resolve_values.field-0.0 in
+    answers_error c.from_residual-in_err-resolve_values.result e _ _ (search rules) (values_refused g.row.E k v keys vals given st e (c.in_err-resolve_values.ensures st made))
 
--- src/nodes.rt:65:13
-pub store_length-requires : goal.store_length-requires
-store_length-requires g c = ?
+pub overflow_add-pos-3 : goal.overflow_add-pos-3
+overflow_add-pos-3 g c =
+    let k = g.K.Archived.Portable.shape in
+    let v = g.V.Archived.Portable.shape in
+    let keys = borrowed g.K.Archive.spelling in
+    let vals = borrowed g.V.Archive.spelling in
+    let given : Given g.row.E k v keys vals c.args.layout c.args.children c.args.entries.now c.args.pos c.args.buffer.now = record {
+      sized_key = λ x r at fit. (g.met.K.Archive.spells (first_fit (λ _. 0)) x.now).sized r at fit;
+      sized_value = λ x r at fit. (g.met.V.Archive.spells (first_fit (λ _. 0)) x.now).sized r at fit;
+      is = c.requires.parts;
+      whole = c.requires.whole;
+      few = c.requires.few;
+      blank = c.requires.blank;
+      stands = c.requires.stands;
+    } in
+    let p = standing g.row.E k v keys vals given in
+    let w = words_end g.row.E k v keys vals given in
+    omega (arith, p.links, w, c.requires.stands)
 
--- src/nodes.rt:68:63
-pub overflow_add-pos-in-Some : goal.overflow_add-pos-in-Some
-overflow_add-pos-in-Some g c = ?
+pub store_words-requires-clause-room : goal.store_words-requires-clause-room
+store_words-requires-clause-room g c =
+    let k = g.K.Archived.Portable.shape in
+    let v = g.V.Archived.Portable.shape in
+    let keys = borrowed g.K.Archive.spelling in
+    let vals = borrowed g.V.Archive.spelling in
+    let given : Given g.row.E k v keys vals c.args.layout c.args.children c.args.entries.now c.args.pos c.args.buffer.now = record {
+      sized_key = λ x r at fit. (g.met.K.Archive.spells (first_fit (λ _. 0)) x.now).sized r at fit;
+      sized_value = λ x r at fit. (g.met.V.Archive.spells (first_fit (λ _. 0)) x.now).sized r at fit;
+      is = c.requires.parts;
+      whole = c.requires.whole;
+      few = c.requires.few;
+      blank = c.requires.blank;
+      stands = c.requires.stands;
+    } in
+    let p = standing g.row.E k v keys vals given in
+    let w = words_end g.row.E k v keys vals given in
+    let st = c.requires.made.0 in
+    let made = c.requires.made.1 in
+    let first = begun g.row.E k v keys vals given c.kind.result c.kind.ensures in
+    let with_keys = keyed g.row.E k v keys vals given _ c.resolve_keys.new.buffer st first (c.in_ok-resolve_keys.ensures st made) in
+    let with_values = valued g.row.E k v keys vals given _ c.resolve_values.new.buffer st with_keys (c.in_ok-resolve_values.ensures st made) in
+    let n = filled_length _ _ c.requires.blank with_values.holds in omega (arith, n, p.links, w)
 
--- src/nodes.rt:68:27
-pub store_links-requires-clause-room : goal.store_links-requires-clause-room
-store_links-requires-clause-room g c = ?
+pub store_words-requires-clause-stands : goal.store_words-requires-clause-stands
+store_words-requires-clause-stands g c =
+    let k = g.K.Archived.Portable.shape in
+    let v = g.V.Archived.Portable.shape in
+    let keys = borrowed g.K.Archive.spelling in
+    let vals = borrowed g.V.Archive.spelling in
+    let given : Given g.row.E k v keys vals c.args.layout c.args.children c.args.entries.now c.args.pos c.args.buffer.now = record {
+      sized_key = λ x r at fit. (g.met.K.Archive.spells (first_fit (λ _. 0)) x.now).sized r at fit;
+      sized_value = λ x r at fit. (g.met.V.Archive.spells (first_fit (λ _. 0)) x.now).sized r at fit;
+      is = c.requires.parts;
+      whole = c.requires.whole;
+      few = c.requires.few;
+      blank = c.requires.blank;
+      stands = c.requires.stands;
+    } in
+    let p = standing g.row.E k v keys vals given in
+    let w = words_end g.row.E k v keys vals given in
+    omega (arith, p.links, w, c.requires.stands)
 
--- src/nodes.rt:68:27
-pub store_links-requires-clause-stands : goal.store_links-requires-clause-stands
-store_links-requires-clause-stands g c = ?
+pub store_words-requires-clause-blank : goal.store_words-requires-clause-blank
+store_words-requires-clause-blank g c =
+    let k = g.K.Archived.Portable.shape in
+    let v = g.V.Archived.Portable.shape in
+    let keys = borrowed g.K.Archive.spelling in
+    let vals = borrowed g.V.Archive.spelling in
+    let given : Given g.row.E k v keys vals c.args.layout c.args.children c.args.entries.now c.args.pos c.args.buffer.now = record {
+      sized_key = λ x r at fit. (g.met.K.Archive.spells (first_fit (λ _. 0)) x.now).sized r at fit;
+      sized_value = λ x r at fit. (g.met.V.Archive.spells (first_fit (λ _. 0)) x.now).sized r at fit;
+      is = c.requires.parts;
+      whole = c.requires.whole;
+      few = c.requires.few;
+      blank = c.requires.blank;
+      stands = c.requires.stands;
+    } in
+    let p = standing g.row.E k v keys vals given in
+    let w = words_end g.row.E k v keys vals given in
+    let st = c.requires.made.0 in
+    let made = c.requires.made.1 in
+    let first = begun g.row.E k v keys vals given c.kind.result c.kind.ensures in
+    let with_keys = keyed g.row.E k v keys vals given _ c.resolve_keys.new.buffer st first (c.in_ok-resolve_keys.ensures st made) in
+    let with_values = valued g.row.E k v keys vals given _ c.resolve_values.new.buffer st with_keys (c.in_ok-resolve_values.ensures st made) in
+    let n = valued_length g.row.E k v keys vals given with_values in
+    filled_zero _ _ c.requires.blank with_values.holds c.args.layout.links (words_size c.args.children) (omega (arith, n, p.links, p.values_end)) (omega (arith, p.links, w))
 
--- src/nodes.rt:68:27
-pub store_links-requires-clause-blank : goal.store_links-requires-clause-blank
-store_links-requires-clause-blank g c = ?
-
--- src/nodes.rt:37:1
-pub returns-in-None : goal.returns-in-None
-returns-in-None g c = ?
-
--- src/nodes.rt:37:1
-pub returns-in-Some : goal.returns-in-Some
-returns-in-Some g c = ?
+pub returns : goal.returns
+returns g c = λ st made.
+    let k = g.K.Archived.Portable.shape in
+    let v = g.V.Archived.Portable.shape in
+    let keys = borrowed g.K.Archive.spelling in
+    let vals = borrowed g.V.Archive.spelling in
+    let given : Given g.row.E k v keys vals c.args.layout c.args.children c.args.entries.now c.args.pos c.args.buffer.now = record {
+      sized_key = λ x r at fit. (g.met.K.Archive.spells (first_fit (λ _. 0)) x.now).sized r at fit;
+      sized_value = λ x r at fit. (g.met.V.Archive.spells (first_fit (λ _. 0)) x.now).sized r at fit;
+      is = c.requires.parts;
+      whole = c.requires.whole;
+      few = c.requires.few;
+      blank = c.requires.blank;
+      stands = c.requires.stands;
+    } in
+    let p = standing g.row.E k v keys vals given in
+    let w = words_end g.row.E k v keys vals given in
+    let first = begun g.row.E k v keys vals given c.kind.result c.kind.ensures in
+    let with_keys = keyed g.row.E k v keys vals given _ c.resolve_keys.new.buffer st first (c.in_ok-resolve_keys.ensures st made) in
+    let with_values = valued g.row.E k v keys vals given _ c.resolve_values.new.buffer st with_keys (c.in_ok-resolve_values.ensures st made) in
+    last_ended g.row.E k v keys vals given with_values c.store_words.new.buffer _ refl c.store_words.result c.store_words.ensures
