@@ -3,4 +3,5 @@ pub mod Parts
 pub mod Pointers
 pub mod Filling
 pub mod Resolving
+pub mod Placing
 pub mod Answered

@@ -1,11 +1,19 @@
 -- The nodes that are written for entries which are borrowed.
-use Rattle.std.specs.Prelude.{◌≡◌, ℕ, zero, suc, ◌+◌, ◌*◌, List, [], ◌∷◌, length, Option, Some, None, ⊤}
+use Rattle.std.specs.Prelude.{◌≡◌, ℕ, ◌+◌, ◌-◌, ◌*◌, List, [], ◌++◌, length, Option, Some, None, Result, ⊤, ◌⊎◌}
 use Rattle.std.specs.Int.{w32, to_le_bytes}
 use denote.Bor.{Bor}
+use Rattle.archive_shape_layout.specs.Bytes.{align_up}
 use Rattle.archive_shape_layout.specs.Shape.{Shape}
+use Rattle.archive_shape_layout.specs.Content.{link_node_align}
+use Rattle.archive_shape_references.specs.Bytes.{zeros}
+use Rattle.archive_shape_writing.specs.Writing.{WriterMembers}
+use Rattle.archive_shape_writing.specs.declared.error.Error.{Error}
+use Rattle.archive_shape_writing.specs.declared.error.Error.TheVariants.{PositionTooLarge}
+use Rattle.archive_forms_spelling.specs.State.{State}
+use Rattle.archive_forms_spelling.specs.Serializing.{Lays}
 use Rattle.archive_forms_spelling.specs.Spelling.{Spelling}
 use Rattle.archive_forms_spelling.specs.Forms.{seen_as}
-use Rattle.archive_btree_spelling.specs.Written.{Linked, entry_spelling, links}
+use Rattle.archive_btree_spelling.specs.Written.{Linked, entry_spelling, links, IsPlaced, own_bytes, slots_fit, slots_refused}
 
 -- a borrowed value is archived as the value
 abbrev pub borrowed : {A R : Type 0} → Spelling A R → Spelling (Bor A) R
@@ -48,3 +56,11 @@ words_behind (Some children) len pos = links children.now pos
 abbrev pub words_size : Option (Bor (List (Option ℕ))) → ℕ
 words_size None = 4
 words_size (Some children) = length children.now * 4
+
+-- behind data that ends at a position, a node begins at the next position of its alignment, with zeros before it
+abbrev pub LaysBehind : {A B R Q W : Type 0} → ℕ → Shape → Shape → Spelling A R → Spelling B Q → WriterMembers W → Linked (A × B) → State → W → W → ℕ → Result ℕ Error → Type 0
+LaysBehind most k v keys vals members n st old new pos result =
+    let start = align_up pos (link_node_align k v) in
+    Lays members old new (zeros (start - pos) ++ own_bytes most k v keys vals n st start)
+    (λ to. (to ≡ start) × IsPlaced most k v keys vals n start × slots_fit most k v keys vals n st start)
+    (λ e. ((IsPlaced most k v keys vals n start → ⊥) × (e ≡ PositionTooLarge)) ⊎ slots_refused most k v keys vals n st start e) result

@@ -1,7 +1,8 @@
 //! Nodes that are written behind the data of their entries.
-ghost use Rattle.std.specs.Prelude.{◌≡◌, ℕ, ◌+◌, ◌-◌, ◌^◌, ◌<◌, ◌≤◌, length, map, MatchResult};
+ghost use Rattle.std.specs.Prelude.{◌≡◌, ℕ, ◌+◌, ◌-◌, ◌^◌, ◌<◌, ◌≤◌, length, map, IfOk, MatchResult};
 ghost use Rattle.archive_shape_layout.specs.Content.{words_of, link_node_size};
 ghost use Rattle.archive_shape_references.specs.Bytes.{zeros};
+ghost use Rattle.archive_shape_writing.specs.declared.error.Error.TheVariants.{PositionTooLarge};
 ghost use Rattle.archive_forms_spelling.specs.State.{State};
 ghost use Rattle.archive_forms_spelling.specs.Serializing.{HasState, Lays};
 ghost use Rattle.archive_forms_spelling.specs.Regions.{resolvers};
@@ -9,7 +10,7 @@ ghost use Rattle.archive_forms_writing.specs.Steps.{StepTakes, StepWrites};
 ghost use Rattle.archive_btree_spelling.specs.Laying.{LaysNode};
 ghost use Rattle.archive_btree_spelling.specs.Written.{own_size, own_bytes, slots_fit, slots_refused};
 ghost use Rattle.archive_btree_checking.specs.Layout.{as_usize, IsNodeLayout};
-ghost use Rattle.archive_btree_writing.specs.Nodes.{borrowed, borrowed_entry, leaf_of, inner_of, kind_of, node_of, AreChildren};
+ghost use Rattle.archive_btree_writing.specs.Nodes.{borrowed, borrowed_entry, leaf_of, inner_of, kind_of, node_of, AreChildren, LaysBehind};
 
 use crate::entries::{resolve_keys, resolve_values, serialize_entries};
 use crate::words::store_words;
@@ -45,6 +46,21 @@ fn node_size<K: Portable, V: Portable, const E: usize>(
     match children {
         None => layout.leaf,
         Some(_) => layout.inner,
+    }
+}
+
+/// Refuses a node of so many bytes at a position past the last one, or that ends past `usize::MAX`.
+fn check_place(pos: usize, size: usize) -> Result<(), Error>
+    ensures { MatchResult result
+        (λ _. (pos < 2 ^ 32) × (pos + size < 2 ^ 64))
+        (λ e. ((pos < 2 ^ 32) × (pos + size < 2 ^ 64) → ⊥) × (e ≡ PositionTooLarge)) }
+{
+    if pos > LAST_POSITION {
+        return Err(Error::PositionTooLarge);
+    }
+    match pos.checked_add(size) {
+        Some(_) => Ok(()),
+        None => Err(Error::PositionTooLarge),
     }
 }
 
@@ -123,7 +139,8 @@ fn write_own<'a, K: Archive, V: Archive, S: Writer + Allocator, const E: usize>(
     requires sized { size ≡ as_usize (own_size E K.Archived.shape V.Archived.shape (borrowed K.spelling) (borrowed V.spelling) (node_of children entries.now)) }
     requires made { (st : State) × (kept.now ≡ resolvers (borrowed_entry E K.Archived.shape V.Archived.shape K.spelling V.spelling) entries.now st) }
     requires stands { S.pos serializer.old + size < 2 ^ 64 }
-    ensures { (st : State) → kept.now ≡ resolvers (borrowed_entry E K.Archived.shape V.Archived.shape K.spelling V.spelling) entries.now st
+    ensures placed { IfOk result (λ _. S.pos serializer.old + link_node_size (words_of (kind_of children.entry) E) E K.Archived.shape V.Archived.shape < 2 ^ 64) }
+    ensures lays { (st : State) → kept.now ≡ resolvers (borrowed_entry E K.Archived.shape V.Archived.shape K.spelling V.spelling) entries.now st
         → let n = node_of children.entry entries.now in
         Lays S.Writer serializer.old serializer.new (own_bytes E K.Archived.shape V.Archived.shape (borrowed K.spelling) (borrowed V.spelling) n st (S.pos serializer.old))
         (λ _. slots_fit E K.Archived.shape V.Archived.shape (borrowed K.spelling) (borrowed V.spelling) n st (S.pos serializer.old))
@@ -137,6 +154,30 @@ fn write_own<'a, K: Archive, V: Archive, S: Writer + Allocator, const E: usize>(
         Ok(mut buffer) => write_through::<K, V, S, E>(entries, kept, children, layout, serializer, buffer.as_mut_slice()),
         Err(_) => Err(Error::OutOfMemory),
     }
+}
+
+/// Writes the node of entries, whose data was written, from the next position of its alignment on. The answer is its
+/// position.
+fn write_behind<'a, K: Archive, V: Archive, S: Writer + Allocator, const E: usize>(
+    entries: &[(&'a K, &'a V)],
+    kept: &[(K::Resolver, V::Resolver)],
+    children: Option<&[Option<usize>]>,
+    serializer: &mut S,
+) -> Result<usize, Error>
+    requires room { S.failures serializer.old < 2 ^ 64 - 1 }
+    requires few { length entries.now ≤ E }
+    requires small { E < 2 ^ 32 }
+    requires whole { AreChildren E children }
+    requires made { (st : State) × (kept.now ≡ resolvers (borrowed_entry E K.Archived.shape V.Archived.shape K.spelling V.spelling) entries.now st) }
+    ensures { (st : State) → kept.now ≡ resolvers (borrowed_entry E K.Archived.shape V.Archived.shape K.spelling V.spelling) entries.now st
+        → LaysBehind E K.Archived.shape V.Archived.shape (borrowed K.spelling) (borrowed V.spelling) S.Writer (node_of children.entry entries.now) st serializer.old serializer.new (S.pos serializer.old) result }
+{
+    let layout = node_layout::<K::Archived, V::Archived, E>();
+    let to = align(serializer, layout.link_align)?;
+    let size = node_size::<K::Archived, V::Archived, E>(&layout, children);
+    check_place(to, size)?;
+    write_own::<K, V, S, E>(entries, kept, children, layout, size, serializer)?;
+    Ok(to)
 }
 
 /// Writes a node behind the data of its entries. An inner node has children. The answer is its position.
@@ -168,14 +209,7 @@ fn write_node_each<
     ensures { LaysNode E K.Archived.shape V.Archived.shape (borrowed K.spelling) (borrowed V.spelling) S.Writer (node_of children.entry entries.now) serializer.old serializer.new result }
 {
     let kept = serialize_entries::<K, V, S, F, G, E>(entries, serializer, key_step, value_step)?;
-    let layout = node_layout::<K::Archived, V::Archived, E>();
-    let to = align(serializer, layout.link_align)?;
-    let size = node_size::<K::Archived, V::Archived, E>(&layout, children);
-    if to > LAST_POSITION || to.checked_add(size).is_none() {
-        return Err(Error::PositionTooLarge);
-    }
-    write_own::<K, V, S, E>(entries, &kept[..entries.len()], children, layout, size, serializer)?;
-    Ok(to)
+    write_behind::<K, V, S, E>(entries, &kept.as_slice()[..entries.len()], children, serializer)
 }
 
 /// Writes a leaf behind the data of its entries, of each the key's and then the value's, which the steps write. The answer
