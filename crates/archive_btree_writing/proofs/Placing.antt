@@ -142,8 +142,7 @@ module _ {A B R Q W : Type 0} (most : ℕ) (k v : Shape) (keys : Spelling A R) (
         let P : ℕ → Type 0 = λ p. LaysBehind most k v keys vals s n st mid new p (Ok to) in
         let done = subst P h.is_at.stands g in
         let wrote : Wrote s old new piece = wrote_both s piece refl h.wrote done.0 in
-        let begun = state_after_all_begun (first_fit (λ _. 0)) k (λ _. ⊤) (entry_spelling most k v keys vals) n.own st in
-        (
+        let begun = state_after_all_begun (first_fit (λ _. 0)) k (λ _. ⊤) (entry_spelling most k v keys vals) n.own st in (
           wrote,
           (
             done.1.0,

@@ -171,8 +171,7 @@ module _ {A B R Q : Type 0} (most : ℕ) (k v : Shape) (keys : Spelling A R) (va
           let nw = length-words children (length es) there in
           let m = valued_length in
           let last = filled_next size bytes given.blank h.holds (links_offset most k v) behind next (omega (arith, m, p.values_end)) (omega (arith, nw, w))
-          (f.1 ∙ ap₂ (λ a n. overwrite now a (words_behind children n (pos + a))) p.links counted) in
-          (
+          (f.1 ∙ ap₂ (λ a n. overwrite now a (words_behind children n (pos + a))) p.links counted) in (
             (h.keys_fits, h.fits, subst F p.links f.0),
             four_filled size bytes given.blank (keys_offset k) (values_offset most k v) (links_offset most k v) first ks vs behind next p.begins (omega (arith, nk, p.keys_end)) (omega (arith, nv, p.values_end)) (omega (arith, nw, w)) last
                 ∙ ap (λ l. filled (keys_offset k) first ++ (filled (values_offset most k v - keys_offset k) ks ++ (filled (links_offset most k v - values_offset most k v) vs ++ filled (size - links_offset most k v) l))) (sym (words_are children es there)),

@@ -49,7 +49,7 @@ fn serialize_entry<
 }
 
 /// Writes the data of the entries of a node. Their resolvers are the first ones of the answer.
-pub(crate) fn serialize_entries<
+pub fn serialize_entries<
     'a,
     K: Archive,
     V: Archive,
@@ -77,7 +77,12 @@ pub(crate) fn serialize_entries<
         (λ all. (take (length entries.now) all ≡ resolvers w entries.now st) × pieces_fit w entries.now st × IsAt S.pos S.known serializer.new (state_after_all w entries.now st))
         (pieces_refused w entries.now st) result }
 {
-    let first = match serialize_entry::<K, V, S, F, G, E>(&entries[0], serializer, key_step, value_step) {
+    let first = match serialize_entry::<K, V, S, F, G, E>(
+        &entries[0],
+        serializer,
+        key_step,
+        value_step,
+    ) {
         Ok(done) => done,
         Err(e) => return Err(e),
     };

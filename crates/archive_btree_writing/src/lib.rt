@@ -5,4 +5,5 @@ mod entries;
 mod nodes;
 mod words;
 
-pub use nodes::{write_inner_each, write_leaf_each};
+pub use entries::serialize_entries;
+pub use nodes::write_behind;

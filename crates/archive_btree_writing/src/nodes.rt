@@ -1,23 +1,20 @@
 //! Nodes that are written behind the data of their entries.
-ghost use Rattle.std.specs.Prelude.{◌≡◌, ℕ, ◌+◌, ◌-◌, ◌^◌, ◌<◌, ◌≤◌, length, map, IfOk, MatchResult};
+ghost use Rattle.std.specs.Prelude.{◌≡◌, ℕ, ◌+◌, ◌-◌, ◌^◌, ◌<◌, ◌≤◌, length, IfOk, MatchResult};
 ghost use Rattle.archive_shape_layout.specs.Content.{words_of, link_node_size};
 ghost use Rattle.archive_shape_references.specs.Bytes.{zeros};
 ghost use Rattle.archive_shape_writing.specs.declared.error.Error.TheVariants.{PositionTooLarge};
 ghost use Rattle.archive_forms_spelling.specs.State.{State};
-ghost use Rattle.archive_forms_spelling.specs.Serializing.{HasState, Lays};
+ghost use Rattle.archive_forms_spelling.specs.Serializing.{Lays};
 ghost use Rattle.archive_forms_spelling.specs.Regions.{resolvers};
-ghost use Rattle.archive_forms_writing.specs.Steps.{StepTakes, StepWrites};
-ghost use Rattle.archive_btree_spelling.specs.Laying.{LaysNode};
 ghost use Rattle.archive_btree_spelling.specs.Written.{own_size, own_bytes, slots_fit, slots_refused};
 ghost use Rattle.archive_btree_checking.specs.Layout.{as_usize, IsNodeLayout};
-ghost use Rattle.archive_btree_writing.specs.Nodes.{borrowed, borrowed_entry, leaf_of, inner_of, kind_of, node_of, AreChildren, LaysBehind};
+ghost use Rattle.archive_btree_writing.specs.Nodes.{borrowed, borrowed_entry, kind_of, node_of, AreChildren, LaysBehind};
 
-use crate::entries::{resolve_keys, resolve_values, serialize_entries};
+use crate::entries::{resolve_keys, resolve_values};
 use crate::words::store_words;
 use archive_btree_checking::{NodeLayout, node_layout};
 use archive_forms_writing::{Archive, align};
 use archive_shape::{Allocator, Error, Portable, Writer};
-use std::marker::PhantomData;
 
 /// The last position that a node may begin at.
 const LAST_POSITION: usize = u32::MAX as usize;
@@ -91,7 +88,13 @@ fn resolve_node<'a, K: Archive, V: Archive, const E: usize>(
     buffer[0] = kind(children);
     resolve_keys::<K, V, E>(entries, kept, layout.keys, pos + layout.keys, buffer)?;
     resolve_values::<K, V, E>(entries, kept, layout.values, pos + layout.values, buffer)?;
-    store_words(entries.len() as u32, children, layout.links, pos + layout.links, buffer)
+    store_words(
+        entries.len() as u32,
+        children,
+        layout.links,
+        pos + layout.links,
+        buffer,
+    )
 }
 
 /// Writes the node of entries, whose data was written, by way of zeros of its size.
@@ -148,17 +151,31 @@ fn write_own<'a, K: Archive, V: Archive, S: Writer + Allocator, const E: usize>(
 {
     if size <= BUFFER {
         let mut buffer = [0; BUFFER];
-        return write_through::<K, V, S, E>(entries, kept, children, layout, serializer, &mut buffer[..size]);
+        return write_through::<K, V, S, E>(
+            entries,
+            kept,
+            children,
+            layout,
+            serializer,
+            &mut buffer[..size],
+        );
     }
     match vec![in serializer.memory(); 0u8; size] {
-        Ok(mut buffer) => write_through::<K, V, S, E>(entries, kept, children, layout, serializer, buffer.as_mut_slice()),
+        Ok(mut buffer) => write_through::<K, V, S, E>(
+            entries,
+            kept,
+            children,
+            layout,
+            serializer,
+            buffer.as_mut_slice(),
+        ),
         Err(_) => Err(Error::OutOfMemory),
     }
 }
 
 /// Writes the node of entries, whose data was written, from the next position of its alignment on. The answer is its
 /// position.
-fn write_behind<'a, K: Archive, V: Archive, S: Writer + Allocator, const E: usize>(
+pub fn write_behind<'a, K: Archive, V: Archive, S: Writer + Allocator, const E: usize>(
     entries: &[(&'a K, &'a V)],
     kept: &[(K::Resolver, V::Resolver)],
     children: Option<&[Option<usize>]>,
@@ -178,98 +195,4 @@ fn write_behind<'a, K: Archive, V: Archive, S: Writer + Allocator, const E: usiz
     check_place(to, size)?;
     write_own::<K, V, S, E>(entries, kept, children, layout, size, serializer)?;
     Ok(to)
-}
-
-/// Writes a node behind the data of its entries. An inner node has children. The answer is its position.
-fn write_node_each<
-    'a,
-    K: Archive,
-    V: Archive,
-    S: Writer + Allocator,
-    F: Fn(&K, &mut S) -> Result<(K::Resolver, PhantomData<K::Archived>), Error>,
-    G: Fn(&V, &mut S) -> Result<(V::Resolver, PhantomData<V::Archived>), Error>,
-    const E: usize,
->(
-    entries: &[(&'a K, &'a V)],
-    children: Option<&[Option<usize>]>,
-    serializer: &mut S,
-    key_step: &F,
-    value_step: &G,
-) -> Result<usize, Error>
-    requires some { 0 < length entries.now }
-    requires few { length entries.now ≤ E }
-    requires small { E < 2 ^ 32 }
-    requires whole { AreChildren E children }
-    requires room { S.failures serializer.old < 2 ^ 64 - 1 }
-    requires state { HasState S.pos S.known serializer.old }
-    requires takes_key { StepTakes F.Fn S.Writer key_step.now (map (λ e. e.0.now) entries.now) }
-    requires writes_key { StepWrites F.Fn (λ q. q.0) K.spelling S.Writer key_step.now }
-    requires takes_value { StepTakes G.Fn S.Writer value_step.now (map (λ e. e.1.now) entries.now) }
-    requires writes_value { StepWrites G.Fn (λ q. q.0) V.spelling S.Writer value_step.now }
-    ensures { LaysNode E K.Archived.shape V.Archived.shape (borrowed K.spelling) (borrowed V.spelling) S.Writer (node_of children.entry entries.now) serializer.old serializer.new result }
-{
-    let kept = serialize_entries::<K, V, S, F, G, E>(entries, serializer, key_step, value_step)?;
-    write_behind::<K, V, S, E>(entries, &kept.as_slice()[..entries.len()], children, serializer)
-}
-
-/// Writes a leaf behind the data of its entries, of each the key's and then the value's, which the steps write. The answer
-/// is its position.
-pub fn write_leaf_each<
-    'a,
-    K: Archive,
-    V: Archive,
-    S: Writer + Allocator,
-    F: Fn(&K, &mut S) -> Result<(K::Resolver, PhantomData<K::Archived>), Error>,
-    G: Fn(&V, &mut S) -> Result<(V::Resolver, PhantomData<V::Archived>), Error>,
-    const E: usize,
->(
-    entries: &[(&'a K, &'a V)],
-    serializer: &mut S,
-    key_step: &F,
-    value_step: &G,
-) -> Result<usize, Error>
-    requires some { 0 < length entries.now }
-    requires few { length entries.now ≤ E }
-    requires small { E < 2 ^ 32 }
-    requires room { S.failures serializer.old < 2 ^ 64 - 1 }
-    requires state { HasState S.pos S.known serializer.old }
-    requires takes_key { StepTakes F.Fn S.Writer key_step.now (map (λ e. e.0.now) entries.now) }
-    requires writes_key { StepWrites F.Fn (λ q. q.0) K.spelling S.Writer key_step.now }
-    requires takes_value { StepTakes G.Fn S.Writer value_step.now (map (λ e. e.1.now) entries.now) }
-    requires writes_value { StepWrites G.Fn (λ q. q.0) V.spelling S.Writer value_step.now }
-    ensures { LaysNode E K.Archived.shape V.Archived.shape (borrowed K.spelling) (borrowed V.spelling) S.Writer (leaf_of entries.now) serializer.old serializer.new result }
-{
-    write_node_each::<K, V, S, F, G, E>(entries, None, serializer, key_step, value_step)
-}
-
-/// Writes an inner node behind the data of its entries, as a leaf is written. `children` has the positions of the nodes
-/// below it: for each entry that of its lesser child, and then that of the greater child. The answer is its position.
-pub fn write_inner_each<
-    'a,
-    K: Archive,
-    V: Archive,
-    S: Writer + Allocator,
-    F: Fn(&K, &mut S) -> Result<(K::Resolver, PhantomData<K::Archived>), Error>,
-    G: Fn(&V, &mut S) -> Result<(V::Resolver, PhantomData<V::Archived>), Error>,
-    const E: usize,
->(
-    entries: &[(&'a K, &'a V)],
-    children: &[Option<usize>],
-    serializer: &mut S,
-    key_step: &F,
-    value_step: &G,
-) -> Result<usize, Error>
-    requires some { 0 < length entries.now }
-    requires full { length entries.now ≡ E }
-    requires whole { length children.now ≡ E + 1 }
-    requires small { E < 2 ^ 32 }
-    requires room { S.failures serializer.old < 2 ^ 64 - 1 }
-    requires state { HasState S.pos S.known serializer.old }
-    requires takes_key { StepTakes F.Fn S.Writer key_step.now (map (λ e. e.0.now) entries.now) }
-    requires writes_key { StepWrites F.Fn (λ q. q.0) K.spelling S.Writer key_step.now }
-    requires takes_value { StepTakes G.Fn S.Writer value_step.now (map (λ e. e.1.now) entries.now) }
-    requires writes_value { StepWrites G.Fn (λ q. q.0) V.spelling S.Writer value_step.now }
-    ensures { LaysNode E K.Archived.shape V.Archived.shape (borrowed K.spelling) (borrowed V.spelling) S.Writer (inner_of children.now entries.now) serializer.old serializer.new result }
-{
-    write_node_each::<K, V, S, F, G, E>(entries, Some(children), serializer, key_step, value_step)
 }

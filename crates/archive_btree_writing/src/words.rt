@@ -11,12 +11,7 @@ use archive_shape::{Error, Place, RawRelPtrI32};
 const LINK: usize = 4;
 
 /// Writes a pointer at `start` of a buffer, which will stand at `pos`.
-fn store_link(
-    to: Option<usize>,
-    start: usize,
-    pos: usize,
-    buffer: &mut [u8],
-) -> Result<(), Error>
+fn store_link(to: Option<usize>, start: usize, pos: usize, buffer: &mut [u8]) -> Result<(), Error>
     requires room { start + 4 ≤ length buffer.old }
     ensures { MatchResult result
         (λ _. LinkFits to pos × (buffer.new ≡ overwrite buffer.old start (link_bytes to pos)))
