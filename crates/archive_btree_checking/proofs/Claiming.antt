@@ -21,7 +21,7 @@ use Rattle.archive_shape_writing.specs.declared.error.Error.TheVariants.{OutOfMe
 use Rattle.archive_shape_checking.proofs.Claims.{depth_unanswered}
 use Rattle.archive_shape_checking.proofs.Ranges.{NestsBelow-append}
 use Rattle.archive_forms_checking.proofs.Claimed.{Pushes, pushes, answered, popped_behind}
-use Rattle.archive_btree_checking.specs.Layout.{as_usize}
+use Rattle.archive_btree_nodes.specs.Layout.{as_usize}
 use Rattle.archive_btree_checking.specs.Nodes.{IsClaimed}
 
 -- ---- the claim

@@ -23,7 +23,7 @@ use Rattle.archive_shape_writing.specs.declared.error.Error.{Error}
 use Rattle.archive_shape_writing.specs.declared.error.Error.TheVariants.{OutOfMemory}
 use Rattle.archive_shape_checking.proofs.Ranges.{NestsBelow-append}
 use Rattle.archive_shape_checking.proofs.Ordered.{later_fault}
-use Rattle.archive_btree_checking.specs.Layout.{as_usize}
+use Rattle.archive_btree_nodes.specs.Layout.{as_usize}
 use Rattle.archive_btree_checking.specs.Counts.{Counted, CountedAll, Counts, CountsAll, count_each}
 
 -- ---- a part that is refused

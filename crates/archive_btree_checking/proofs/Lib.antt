@@ -1,4 +1,3 @@
-pub mod Offsets
 pub mod Led
 pub mod Entered
 pub mod Claiming

@@ -16,7 +16,7 @@ use Rattle.archive_shape_checking.specs.Questions.FirstUnanswered.{unanswered_he
 use Rattle.archive_shape_checking.proofs.Questions.{AreAnswered-append, leads_nowhere}
 use Rattle.archive_shape_writing.specs.declared.error.Error.{Error}
 use Rattle.archive_shape_writing.specs.declared.error.Error.TheVariants.{InvalidTag, Unaligned, NodeLength, TooManyLevels}
-use Rattle.archive_btree_layout.proofs.Held.{word_within, word_of}
+use Rattle.archive_btree_layout.proofs.Contents.{word_within, word_of}
 use Rattle.archive_forms_checking.proofs.Claimed.{misplaced}
 use Rattle.archive_forms_layout.proofs.TextContent.{followed}
 use Rattle.archive_btree_checking.specs.Nodes.{BeginsNode}

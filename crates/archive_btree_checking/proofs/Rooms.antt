@@ -4,8 +4,8 @@ use Rattle.std.proofs.Math.Nat.{mul-le-mul_right}
 use Rattle.archive_shape_layout.specs.Shape.{Shape, size_of, align_of}
 use Rattle.archive_shape_layout.specs.Content.{keys_offset, values_offset, links_offset, node_size, link_node_size, link_node_align}
 use Rattle.archive_shape_layout.proofs.Framed.{le_align_up, keys_fit, values_fit, links_fit}
-use Rattle.archive_btree_checking.specs.Layout.{IsNodeLayout}
-use Rattle.archive_btree_checking.specs.declared.layout.NodeLayout.{NodeLayout}
+use Rattle.archive_btree_nodes.specs.Layout.{IsNodeLayout}
+use Rattle.archive_btree_nodes.specs.declared.layout.NodeLayout.{NodeLayout}
 
 -- of a node with so many words after its keys and values
 pub record HasRoom (most : ℕ) (k v : Shape) (layout : NodeLayout) (words pos len : ℕ) : Type 0 where

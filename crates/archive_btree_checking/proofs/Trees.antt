@@ -25,7 +25,7 @@ use Rattle.archive_shape_checking.proofs.Questions.{shape_answered, leads_nowher
 use Rattle.archive_shape_checking.proofs.Inverted.{IsKnown}
 use Rattle.archive_forms_layout.proofs.TextContent.{followed}
 use Rattle.archive_forms_checking.proofs.Targets.{first_word}
-use Rattle.archive_btree_layout.proofs.Held.{word_within}
+use Rattle.archive_btree_layout.proofs.Contents.{word_within}
 use Rattle.archive_btree_checking.specs.Counts.{Counts}
 use Rattle.archive_btree_checking.proofs.NodeContents.{chosen, not_chosen}
 use Rattle.archive_btree_checking.proofs.Counting.{none_counted}

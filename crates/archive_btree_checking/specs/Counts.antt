@@ -9,7 +9,7 @@ use Rattle.archive_shape_checking.specs.Kept.{Kept, Records, range_of}
 use Rattle.archive_shape_checking.specs.Checks.{Checked, CheckedAll}
 use Rattle.archive_shape_writing.specs.declared.error.Error.{Error}
 use Rattle.archive_shape_writing.specs.declared.error.Error.TheVariants.{OutOfMemory}
-use Rattle.archive_btree_checking.specs.Layout.{as_usize}
+use Rattle.archive_btree_nodes.specs.Layout.{as_usize}
 
 -- how many items values have together, each of which is a group of items
 abbrev pub count_each : Values → ℕ

@@ -4,7 +4,7 @@ ghost use Rattle.archive_shape_layout.specs.Content.{Span};
 ghost use Rattle.archive_shape_checking.specs.Questions.{FirstUnanswered, claim};
 ghost use Rattle.archive_shape_checking.specs.Kept.{range_of};
 ghost use Rattle.archive_shape_writing.specs.declared.error.Error.TheVariants.{OutOfMemory};
-ghost use Rattle.archive_btree_checking.specs.Layout.{as_usize};
+ghost use Rattle.archive_btree_nodes.specs.Layout.{as_usize};
 ghost use Rattle.archive_btree_checking.specs.Nodes.{IsClaimed};
 
 use archive_shape_checking::{ArchiveContext, Error, PushedRange};

@@ -6,7 +6,6 @@
 
 mod claim;
 mod entries;
-mod layout;
 mod maps;
 mod nodes;
 mod words;

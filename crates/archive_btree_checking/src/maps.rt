@@ -7,9 +7,9 @@ ghost use Rattle.archive_shape_checking.specs.Kept.{IsWithin};
 ghost use Rattle.archive_shape_checking.specs.Checks.{Checks, Moves};
 ghost use Rattle.archive_shape_checking.specs.Steps.{StepTakes, StepChecks};
 
-use crate::layout::node_layout;
 use crate::nodes::check_node;
 use crate::words::{target, word};
+use archive_btree_nodes::NodeLayout;
 use archive_shape_checking::{ArchiveContext, Error};
 use archive_shape_portable::Portable;
 
@@ -44,7 +44,7 @@ pub fn check_btree_each<
     if len == 0 {
         return Ok(());
     }
-    let layout = node_layout::<K, V, E>();
+    let layout = NodeLayout::of::<K, V, E>();
     let Some(root) = target(bytes, pos) else {
         return Err(Error::InvalidSubtreePointer { size: layout.size });
     };

@@ -4,14 +4,14 @@ ghost use Rattle.archive_shape_layout.specs.Content.{Names, children};
 ghost use Rattle.archive_shape_layout.specs.Content.Part.{node, child};
 ghost use Rattle.archive_shape_checking.specs.Kept.{IsWithin, Advances, range_of};
 ghost use Rattle.archive_shape_checking.specs.Steps.{StepTakes, StepChecks};
-ghost use Rattle.archive_btree_checking.specs.Layout.{IsNodeLayout};
+ghost use Rattle.archive_btree_nodes.specs.Layout.{IsNodeLayout};
 ghost use Rattle.archive_btree_checking.specs.Counts.{Counts, CountsAll};
 ghost use Rattle.archive_btree_checking.specs.Nodes.{BeginsNode};
 
 use crate::claim::claim_node;
 use crate::entries::check_entries;
-use crate::layout::NodeLayout;
 use crate::words::{target, word};
+use archive_btree_nodes::NodeLayout;
 use archive_shape_checking::{ArchiveContext, Error};
 use archive_shape_portable::Portable;
 

@@ -165,7 +165,7 @@ met_in_bound order (e ∷ es) =
     let h = met_in_bound order es in
     elim (order e) as (λ o. 1 + by_order o 0 0 (met_in order es) ≤ suc (length es)) [ Less ↦ omega arith | Equal ↦ omega arith | Greater ↦ omega arith ]
 
-length-places : (n : ℕ) (k : Shape) (key : ℕ) (v : Shape) (value : ℕ) → length (places n k key v value) ≡ n
+pub length-places : (n : ℕ) (k : Shape) (key : ℕ) (v : Shape) (value : ℕ) → length (places n k key v value) ≡ n
 length-places zero k key v value = refl
 length-places (suc n) k key v value = ap suc (length-places n k (key + size_of k) v (value + size_of v))
 

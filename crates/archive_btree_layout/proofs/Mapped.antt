@@ -1,6 +1,6 @@
 -- A map that the layout holds.
-use Rattle.std.proofs.Common.{◌≡◌, ◌∙◌, ℕ, zero, suc, ◌+◌, ◌≤◌, Bool, true, false, cond, ◌==◌, List, [], ◌∷◌, length, Option, Some, None, refl, ap, sym, subst, arith, eqb-true, eq-eqb}
-use Rattle.std.specs.Prelude.{⊤}
+use Rattle.std.proofs.Common.{◌≡◌, ◌∙◌, ℕ, ◌+◌, ◌≤◌, Bool, true, false, cond, ◌==◌, List, [], ◌∷◌, length, Option, Some, None, refl, ap, sym, subst, arith, eqb-true, eq-eqb, le_refl}
+use Rattle.std.specs.Prelude.{slice_index}
 use Rattle.archive_shape_layout.specs.Bytes.{window, word_at, target_from}
 use Rattle.archive_shape_layout.specs.Shape.{Shape}
 use Rattle.archive_shape_layout.specs.Shape.Shape.{tree}
@@ -10,17 +10,24 @@ use Rattle.archive_shape_layout.specs.Value.Values.{no_values, more_values}
 use Rattle.archive_shape_layout.specs.Content.{Names, Part, Label, Content, choose, following, made, members, shape_content}
 use Rattle.archive_shape_layout.specs.Content.Part.{at, node}
 use Rattle.archive_shape_layout.specs.Content.Label.{whole, total}
-use Rattle.archive_shape_layout.specs.Content.Content.{illegal, plain, claimed, counting}
+use Rattle.archive_shape_layout.specs.Content.Content.{plain}
 use Rattle.archive_shape_layout.specs.Holds.{Region, Visit, OpenShared, Holds, HoldAll, Ascends}
 use Rattle.archive_shape_layout.specs.Holds.Holds.{holds_plain, holds_claimed, holds_first, holds_later, holds_back}
 use Rattle.archive_shape_layout.specs.Holds.HoldAll.{holds_none, holds_more}
 use Rattle.archive_btree_layout.specs.Tree.{Tree, items}
-use Rattle.archive_btree_layout.specs.Items.{ArePairs, IsTreeRead}
+use Rattle.archive_btree_layout.specs.Items.{AreAt, ArePairs, IsTreeRead}
+use Rattle.archive_btree_layout.specs.Changing.{DiffersInValues, HasTree, IsInNoValue, IsKept}
+use Rattle.archive_btree_layout.specs.Laws.{TreeIsRead, TreeStays, NodesStay, PairsStay}
 use Rattle.archive_btree_layout.specs.Items.IsTreeRead.{reads_none, reads_tree}
 use Rattle.archive_btree_layout.specs.Reading.{Place, HasNode}
-use Rattle.archive_btree_layout.proofs.Held.{IsPlain, chosen_plain, word_within, word_of, no_parts, whole_is, ascends_first, root_read, ReadNode}
+use Rattle.archive_btree_layout.proofs.Contents.{IsPlain, chosen_plain, word_within}
+use Rattle.archive_btree_layout.proofs.Changed.{Agrees, word_same}
+use Rattle.archive_btree_layout.proofs.Nodes.{SameNodes, nodes_same}
+use Rattle.archive_btree_layout.proofs.Unique.{one_node}
+use Rattle.archive_btree_layout.proofs.Paired.{whole_is, ascends_first}
+use Rattle.archive_btree_layout.proofs.Held.{no_parts, root_read, ReadNode}
 
-pairs_count : (names : Names) (bytes : List ℕ) (k v : Shape) (ps : List Place) (ws : Values) → ArePairs names bytes k v ps ws → length ps ≡ count_values ws
+pub pairs_count : (names : Names) (bytes : List ℕ) (k v : Shape) (ps : List Place) (ws : Values) → ArePairs names bytes k v ps ws → length ps ≡ count_values ws
 pairs_count names bytes k v [] no_values h = refl
 pairs_count names bytes k v [] (more_values w ws) h = absurd h
 pairs_count names bytes k v (p ∷ ps) no_values h = absurd h
@@ -53,58 +60,129 @@ module _ (names : Names) (bytes : List ℕ) (most : ℕ) (k v : Shape) (pos : �
   word_first : word_at (window bytes pos 8) 0 ≡ word_at bytes pos
   word_first = let z : pos + 0 ≡ pos = omega arith in subst (λ p. word_at (window bytes pos 8) 0 ≡ word_at bytes p) z (word_within bytes pos 8 0 (omega arith))
 
-  one_root : {depth : ℕ} {inside : List OpenShared} {root : ℕ} {l : Label} {vs : Values} {value : Value} {rs : List Region} {before after : List Visit} (low : ℕ)
+  -- what a map's own bytes lead to between two positions
+  pub data ReadMap (low high : ℕ) (value : Value) : Type 0 where
+    map_none : word_at bytes (pos + 4) ≡ 0 → value ≡ group no_values → ReadMap low high value
+    map_some :
+        {root : ℕ}
+        → (word_at bytes (pos + 4) ≡ 0 → ⊥)
+        → target_from pos (word_at bytes pos) ≡ Some root
+        → ReadNode names bytes most k v low high 1 root value
+        → count_values (members value) ≡ word_at bytes (pos + 4)
+        → ReadMap low high value
+
+  one_root : {depth : ℕ} {inside : List OpenShared} {root : ℕ} {l : Label} {vs : Values} {value : Value} {rs : List Region} {before after : List Visit} (low high : ℕ)
+      → high ≤ length bytes
       → (word_at bytes (pos + 4) ≡ 0 → ⊥) → target_from pos (word_at bytes pos) ≡ Some root
       → l ≡ total (word_at (window bytes pos 8) 4) → made l vs ≡ Some value
       → HoldAll names bytes depth inside (node 1 most k v root ∷ []) vs rs before after
-      → Ascends low (length bytes) rs
-      → IsTreeRead names bytes most k v pos value
-  one_root {root = root} {l = l} {vs = ws} {value = value} low some leads label m (holds_more {v = u} {vs = us} {here = here} {later = later} {regions = rs} h (holds_none x y z) e f) a =
-      let r = root_read names bytes most k v _ _ root u here _ _ low h (ascends_first low (length bytes) rs here later f a).0 in
+      → Ascends low high rs
+      → ReadMap low high value
+  one_root {root = root} {l = l} {vs = ws} {value = value} low high top some leads label m (holds_more {v = u} {vs = us} {here = here} {later = later} {regions = rs} h (holds_none x y z) e f) a =
+      let r = root_read names bytes most k v _ _ root u here _ _ low high top h (ascends_first low high rs here later f a).0 in
       let one : ws ≡ more_values u no_values = cc in
       let t = total_is l (word_at (window bytes pos 8) 4) u ws value label one m in
-      let count = pairs_count names bytes k v (items r.tree) (members u) r.pairs in
-      reads_tree some leads r.node (count ∙ (t.0 ∙ len_of)) (subst (λ x. ArePairs names bytes k v (items r.tree) (members x)) (sym t.1) r.pairs)
+      subst (ReadMap low high) (sym t.1) (map_some some leads r (t.0 ∙ len_of))
 
-  led : {depth : ℕ} {inside : List OpenShared} {l : Label} {ps : List Part} {vs : Values} {value : Value} {rs : List Region} {before after : List Visit} (low : ℕ) (o : Option ℕ)
+  led : {depth : ℕ} {inside : List OpenShared} {l : Label} {ps : List Part} {vs : Values} {value : Value} {rs : List Region} {before after : List Visit} (low high : ℕ) (o : Option ℕ)
+      → high ≤ length bytes
       → (word_at bytes (pos + 4) ≡ 0 → ⊥) → target_from pos (word_at bytes pos) ≡ o
       → following o (λ t. plain (total (word_at (window bytes pos 8) 4)) (node 1 most k v t ∷ [])) ≡ plain l ps → made l vs ≡ Some value
-      → HoldAll names bytes depth inside ps vs rs before after → Ascends low (length bytes) rs
-      → IsTreeRead names bytes most k v pos value
+      → HoldAll names bytes depth inside ps vs rs before after → Ascends low high rs
+      → ReadMap low high value
   unfolding following
-  led low None some is e m all a = absurd cc
-  led {depth} {inside} {l} {ps} {vs} {value} {rs} {before} {after} low (Some t) some is e m all a =
+  led low high None top some is e m all a = absurd cc
+  led {depth} {inside} {l} {ps} {vs} {value} {rs} {before} {after} low high (Some t) top some is e m all a =
       let parts : ps ≡ node 1 most k v t ∷ [] = cc in
       let label : l ≡ total (word_at (window bytes pos 8) 4) = cc in
-      one_root low some is label m (subst (λ qs. HoldAll names bytes depth inside qs vs rs before after) parts all) a
+      one_root low high top some is label m (subst (λ qs. HoldAll names bytes depth inside qs vs rs before after) parts all) a
 
-  by_length : {depth : ℕ} {inside : List OpenShared} {l : Label} {ps : List Part} {vs : Values} {value : Value} {rs : List Region} {before after : List Visit} (low : ℕ) (b : Bool)
+  by_length : {depth : ℕ} {inside : List OpenShared} {l : Label} {ps : List Part} {vs : Values} {value : Value} {rs : List Region} {before after : List Visit} (low high : ℕ) (b : Bool)
+      → high ≤ length bytes
       → (word_at (window bytes pos 8) 4 == 0) ≡ b
       → choose b (plain whole []) (following (target_from pos (word_at (window bytes pos 8) 0)) (λ t. plain (total (word_at (window bytes pos 8) 4)) (node 1 most k v t ∷ []))) ≡ plain l ps
       → made l vs ≡ Some value
-      → HoldAll names bytes depth inside ps vs rs before after → Ascends low (length bytes) rs
-      → IsTreeRead names bytes most k v pos value
+      → HoldAll names bytes depth inside ps vs rs before after → Ascends low high rs
+      → ReadMap low high value
   unfolding choose
-  by_length {depth} {inside} {l} {ps} {vs} {value} {rs} {before} {after} low true is e m all a =
+  by_length {depth} {inside} {l} {ps} {vs} {value} {rs} {before} {after} low high true top is e m all a =
       let parts : ps ≡ [] = cc in
       let label : l ≡ whole = cc in
       let none = no_parts names bytes most k v (subst (λ qs. HoldAll names bytes depth inside qs vs rs before after) parts all) in
-      reads_none (sym len_of ∙ eqb-true _ 0 is) (whole_is names bytes k v l vs value label m ∙ ap group none)
-  by_length low false is e m all a =
-      led low (target_from pos (word_at (window bytes pos 8) 0)) (λ w. let t = eq-eqb (word_at (window bytes pos 8) 4) 0 (len_of ∙ w) in absurd cc) (ap (target_from pos) (sym word_first)) e m all a
+      map_none (sym len_of ∙ eqb-true _ 0 is) (whole_is names bytes k v l vs value label m ∙ ap group none)
+  by_length low high false top is e m all a =
+      led low high (target_from pos (word_at (window bytes pos 8) 0)) top (λ w. let t = eq-eqb (word_at (window bytes pos 8) 4) 0 (len_of ∙ w) in absurd cc) (ap (target_from pos) (sym word_first)) e m all a
 
   tree_is_plain : IsPlain (shape_content names pos (window bytes pos 8) (tree most k v))
   unfolding shape_content
   tree_is_plain = chosen_plain _ _ _ _ (followed_total _ _ _)
 
-pub tree_is_read :
-    (names : Names) (bytes : List ℕ) (most : ℕ) (k v : Shape) (depth : ℕ) (inside : List OpenShared) (pos : ℕ) (value : Value) (rs : List Region) (before after : List Visit) (low : ℕ)
-    → Holds names bytes depth inside (at pos (tree most k v)) value rs before after → Ascends low (length bytes) rs
-    → IsTreeRead names bytes most k v pos value
+-- where the layout has a map, its tree is read
+map_read :
+    (names : Names) (bytes : List ℕ) (most : ℕ) (k v : Shape) (depth : ℕ) (inside : List OpenShared) (pos : ℕ) (value : Value) (rs : List Region) (before after : List Visit) (low high : ℕ)
+    → high ≤ length bytes
+    → Holds names bytes depth inside (at pos (tree most k v)) value rs before after → Ascends low high rs
+    → ReadMap names bytes most k v pos low high value
 unfolding shape_content
-tree_is_read names bytes most k v depth inside pos value rs before after low (holds_plain e legal all m) a =
-    by_length names bytes most k v pos low (word_at (window bytes pos 8) 4 == 0) refl e m all a
-tree_is_read names bytes most k v depth inside pos value rs before after low (holds_claimed e legal all m r) a = absurd (subst IsPlain e (tree_is_plain names bytes most k v pos))
-tree_is_read names bytes most k v depth inside pos value rs before after low (holds_first e b c d f g) a = absurd (subst IsPlain e (tree_is_plain names bytes most k v pos))
-tree_is_read names bytes most k v depth inside pos value rs before after low (holds_later e b c d f g) a = absurd (subst IsPlain e (tree_is_plain names bytes most k v pos))
-tree_is_read names bytes most k v depth inside pos value rs before after low (holds_back e b c d f) a = absurd (subst IsPlain e (tree_is_plain names bytes most k v pos))
+map_read names bytes most k v depth inside pos value rs before after low high top (holds_plain e legal all m) a =
+    by_length names bytes most k v pos low high (word_at (window bytes pos 8) 4 == 0) top refl e m all a
+map_read names bytes most k v depth inside pos value rs before after low high top (holds_claimed e legal all m r) a = absurd (subst IsPlain e (tree_is_plain names bytes most k v pos))
+map_read names bytes most k v depth inside pos value rs before after low high top (holds_first e b c d f g) a = absurd (subst IsPlain e (tree_is_plain names bytes most k v pos))
+map_read names bytes most k v depth inside pos value rs before after low high top (holds_later e b c d f g) a = absurd (subst IsPlain e (tree_is_plain names bytes most k v pos))
+map_read names bytes most k v depth inside pos value rs before after low high top (holds_back e b c d f) a = absurd (subst IsPlain e (tree_is_plain names bytes most k v pos))
+
+tree_of : (names : Names) (bytes : List ℕ) (most : ℕ) (k v : Shape) (pos : ℕ) (value : Value) (low high : ℕ) → ReadMap names bytes most k v pos low high value → IsTreeRead names bytes most k v pos value
+tree_of names bytes most k v pos value low high (map_none none is) = reads_none none is
+tree_of names bytes most k v pos value low high (map_some some leads r count) =
+    reads_tree some leads r.node (pairs_count names bytes k v (items r.tree) (members value) r.pairs ∙ count) r.pairs
+
+pub tree_is_read : TreeIsRead
+tree_is_read names bytes most k v depth inside pos value rs before after low h a =
+    tree_of names bytes most k v pos value low (length bytes) (map_read names bytes most k v depth inside pos value rs before after low (length bytes) (le_refl (length bytes)) h a)
+
+-- ---- where its values are written over
+
+-- the one tree of the root, in bytes that differ in its values
+root_kept :
+    (names : Names) (bytes others : List ℕ) (most : ℕ) (k v : Shape) (pos : ℕ) (value : Value) (root : ℕ) (t : Tree Place)
+    → ReadMap names bytes most k v pos 0 pos value
+    → pos + 8 ≤ length bytes
+    → (word_at bytes (pos + 4) ≡ 0 → ⊥) → target_from pos (word_at bytes pos) ≡ Some root → HasNode bytes most k v 1 root t
+    → DiffersInValues v (items t) bytes others
+    → HasTree bytes others most k v pos root t × AreAt (IsKept names bytes others k v) (items t) (members value) × SameNodes bytes others most k v 1 root
+root_kept names bytes others most k v pos value root t (map_none none is) room some leads stood differs = absurd (some none)
+root_kept names bytes others most k v pos value root t (map_some {root = p} _ leads_there r count) room some leads stood differs =
+    let here : p ≡ root = cc in
+    let stands = subst (λ q. HasNode bytes most k v 1 q r.tree) here r.node in
+    let one : r.tree ≡ t = one_node bytes most k v 1 root r.tree t stands stood in
+    let agrees : Agrees v (items r.tree) bytes others 0 pos =
+    record { same_length = differs.same_length; same = λ i le lt out. differs.elsewhere i (subst (λ u. IsInNoValue v (items u) i) one out) }
+    in
+    let x = r.kept others agrees in
+    let behind : (i : ℕ) → pos ≤ i → slice_index others i ≡ slice_index bytes i =
+    λ i le. differs.elsewhere i (subst (λ u. IsInNoValue v (items u) i) one (r.within i (λ zero. le)))
+    in (
+      record {
+        pointer = word_same bytes others pos (λ i le lt. behind i le);
+        len = word_same bytes others (pos + 4) (λ i le lt. behind i (omega arith));
+        node = subst (λ q. HasNode others most k v 1 q t) here (subst (HasNode others most k v 1 p) one x.0);
+      },
+      subst (λ u. AreAt (IsKept names bytes others k v) (items u) (members value)) one x.1,
+      subst (SameNodes bytes others most k v 1) here x.2,
+    )
+
+pub tree_stays : TreeStays
+tree_stays names bytes others most k v depth inside pos value rs before after root t h a room some leads stood differs =
+    (root_kept names bytes others most k v pos value root t
+    (map_read names bytes most k v depth inside pos value rs before after 0 pos (omega arith) h a) room some leads stood differs).0
+
+pub pairs_stay : PairsStay
+pairs_stay names bytes others most k v depth inside pos value rs before after root t h a room some leads stood differs =
+    (root_kept names bytes others most k v pos value root t
+    (map_read names bytes most k v depth inside pos value rs before after 0 pos (omega arith) h a) room some leads stood differs).1
+
+pub nodes_stay : NodesStay
+nodes_stay names bytes others most k v depth inside pos value rs before after root t h a room some leads stood differs =
+    nodes_same most k v bytes others 1 root
+    (root_kept names bytes others most k v pos value root t
+    (map_read names bytes most k v depth inside pos value rs before after 0 pos (omega arith) h a) room some leads stood differs).2

@@ -5,7 +5,7 @@ use Rattle.archive_shape_layout.specs.Shape.{Shape, size_of}
 use Rattle.archive_shape_layout.specs.Value.{Value, Values}
 use Rattle.archive_shape_layout.specs.Value.Value.{group}
 use Rattle.archive_shape_layout.specs.Value.Values.{no_values, more_values}
-use Rattle.archive_shape_layout.specs.Content.{Names, Part, members}
+use Rattle.archive_shape_layout.specs.Content.{Names, members}
 use Rattle.archive_shape_layout.specs.Content.Part.{at}
 use Rattle.archive_shape_layout.specs.Holds.{Region, Visit, OpenShared, Holds, Ascends}
 use Rattle.archive_btree_layout.specs.Reading.{Place, HasNode}
@@ -31,12 +31,16 @@ pub record IsPair (names : Names) (bytes : List ℕ) (k v : Shape) (p : Place) (
   pub value_held : IsHeld names bytes v p.value value
   pub is : pair ≡ group (more_values key (more_values value no_values))
 
+-- values stand at places, one at each
+abbrev pub AreAt : (Place → Value → Type 0) → List Place → Values → Type 0
+AreAt IsAt [] no_values = ⊤
+AreAt IsAt (p ∷ ps) (more_values w ws) = IsAt p w × AreAt IsAt ps ws
+AreAt IsAt [] (more_values w ws) = ⊥
+AreAt IsAt (p ∷ ps) no_values = ⊥
+
 -- pairs stand at places, one at each
 abbrev pub ArePairs : Names → List ℕ → Shape → Shape → List Place → Values → Type 0
-ArePairs names bytes k v [] no_values = ⊤
-ArePairs names bytes k v (p ∷ ps) (more_values w ws) = IsPair names bytes k v p w × ArePairs names bytes k v ps ws
-ArePairs names bytes k v [] (more_values w ws) = ⊥
-ArePairs names bytes k v (p ∷ ps) no_values = ⊥
+ArePairs names bytes k v ps ws = AreAt (IsPair names bytes k v) ps ws
 
 -- what a map's own bytes lead to: nothing where its length is 0, else a tree of so many items, which are the pairs of
 -- its value

@@ -1,5 +1,5 @@
 -- The laws of search trees, as statements.
-use Rattle.std.specs.Prelude.{◌≡◌, ℕ, suc, ◌*◌, ◌^◌, ◌<◌, ◌≤◌, List, length, Option, Some, find, Contains}
+use Rattle.std.specs.Prelude.{◌≡◌, ℕ, suc, ◌+◌, ◌*◌, ◌^◌, ◌<◌, ◌≤◌, List, length, Some, find, Contains, ◌↔◌}
 use Rattle.std.specs.declared.cmp.Ordering.{Ordering}
 use Rattle.std.specs.declared.cmp.Ordering.TheVariants.{Equal}
 use Rattle.std.specs.Ordering.{is_eq}
@@ -7,10 +7,12 @@ use Rattle.archive_btree_layout.specs.Tree.{Tree, items, count_nodes, height}
 use Rattle.archive_btree_layout.specs.Packed.{IsPacked, IsBounded}
 use Rattle.archive_btree_layout.specs.Descent.{descend, met}
 use Rattle.archive_btree_layout.specs.Descent as descent
-use Rattle.archive_btree_layout.specs.Items.{IsTreeRead}
+use Rattle.archive_btree_layout.specs.Items.{AreAt, IsTreeRead}
+use Rattle.archive_btree_layout.specs.Changing.{DiffersInValues, HasTree, IsNodeOf, IsKept}
 use Rattle.archive_shape_layout.specs.Shape.Shape.{tree}
 use Rattle.archive_shape_layout.specs.Value.{Value}
-use Rattle.archive_shape_layout.specs.Content.{Names}
+use Rattle.archive_shape_layout.specs.Bytes.{word_at, target_from}
+use Rattle.archive_shape_layout.specs.Content.{Names, members}
 use Rattle.archive_shape_layout.specs.Content.Part.{at}
 use Rattle.archive_shape_layout.specs.Holds.{Region, Visit, OpenShared, Holds, Ascends}
 use Rattle.archive_shape_layout.specs.Shape.{Shape}
@@ -67,3 +69,47 @@ TreeIsRead =
     → Holds names bytes depth inside (at pos (tree most k v)) value regions before after
     → Ascends low (length bytes) regions
     → IsTreeRead names bytes most k v pos value
+
+-- ---- where values are written over
+
+-- other bytes, which differ from those of a map at most in its items' values, have the same tree at its root
+abbrev pub TreeStays : Type 0
+TreeStays =
+    (names : Names) (bytes others : List ℕ) (most : ℕ) (k v : Shape) (depth : ℕ) (inside : List OpenShared) (pos : ℕ) (value : Value)
+    (regions : List Region) (before after : List Visit) (root : ℕ) (t : Tree Place)
+    → Holds names bytes depth inside (at pos (tree most k v)) value regions before after
+    → Ascends 0 pos regions
+    → pos + 8 ≤ length bytes
+    → (word_at bytes (pos + 4) ≡ 0 → ⊥)
+    → target_from pos (word_at bytes pos) ≡ Some root
+    → HasNode bytes most k v 1 root t
+    → DiffersInValues v (items t) bytes others
+    → HasTree bytes others most k v pos root t
+
+-- the tree has the same nodes in both
+abbrev pub NodesStay : Type 0
+NodesStay =
+    (names : Names) (bytes others : List ℕ) (most : ℕ) (k v : Shape) (depth : ℕ) (inside : List OpenShared) (pos : ℕ) (value : Value)
+    (regions : List Region) (before after : List Visit) (root : ℕ) (t : Tree Place)
+    → Holds names bytes depth inside (at pos (tree most k v)) value regions before after
+    → Ascends 0 pos regions
+    → pos + 8 ≤ length bytes
+    → (word_at bytes (pos + 4) ≡ 0 → ⊥)
+    → target_from pos (word_at bytes pos) ≡ Some root
+    → HasNode bytes most k v 1 root t
+    → DiffersInValues v (items t) bytes others
+    → (level node_pos : ℕ) (u : Tree Place) → IsNodeOf bytes most k v level node_pos u 1 root ↔ IsNodeOf others most k v level node_pos u 1 root
+
+-- and of the map's pairs they have the keys, and each pair whose own value is not written over
+abbrev pub PairsStay : Type 0
+PairsStay =
+    (names : Names) (bytes others : List ℕ) (most : ℕ) (k v : Shape) (depth : ℕ) (inside : List OpenShared) (pos : ℕ) (value : Value)
+    (regions : List Region) (before after : List Visit) (root : ℕ) (t : Tree Place)
+    → Holds names bytes depth inside (at pos (tree most k v)) value regions before after
+    → Ascends 0 pos regions
+    → pos + 8 ≤ length bytes
+    → (word_at bytes (pos + 4) ≡ 0 → ⊥)
+    → target_from pos (word_at bytes pos) ≡ Some root
+    → HasNode bytes most k v 1 root t
+    → DiffersInValues v (items t) bytes others
+    → AreAt (IsKept names bytes others k v) (items t) (members value)

@@ -4,6 +4,6 @@
 mod laws;
 
 pub use laws::{
-    descent_finds, descent_is_equal, descent_meets, one_packed, packed_height, packed_is_least,
-    tree_is_read,
+    descent_finds, descent_is_equal, descent_meets, nodes_stay, one_packed, packed_height,
+    packed_is_least, pairs_stay, tree_is_read, tree_stays,
 };

@@ -1,7 +1,9 @@
 pub mod Pointers
-pub mod Layouts
+pub mod Sublists
 pub mod NodeTree
 pub mod Descending
 pub mod Nodes
 pub mod Walked
 pub mod Visited
+pub mod Passing
+pub mod Ranged

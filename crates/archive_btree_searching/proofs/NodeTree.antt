@@ -14,9 +14,10 @@ use Rattle.archive_btree_layout.specs.Reading.{Place, places, HasNode, HasBranch
 use Rattle.archive_btree_layout.specs.Reading.HasNode.{has_leaf, has_inner}
 use Rattle.archive_btree_layout.specs.Reading.HasBranches.{has_greater, has_lesser}
 use Rattle.archive_btree_layout.specs.Reading.HasChild.{no_child, a_child}
-use Rattle.archive_btree_searching.specs.Layout.{IsLayout, IsTreeAt}
+use Rattle.archive_btree_nodes.specs.Layout.{IsLayout}
+use Rattle.archive_btree_searching.specs.Layout.{IsTreeAt}
 use Rattle.archive_btree_searching.specs.Nodes.{child_of, entry_of, entry_count, pointer_at, link_at, IsReadable}
-use Rattle.archive_btree_searching.specs.declared.layout.NodeLayout.{NodeLayout}
+use Rattle.archive_btree_nodes.specs.declared.layout.NodeLayout.{NodeLayout}
 use Rattle.archive_btree_searching.proofs.Pointers.{valid, invalid}
 
 module _ (bytes : List ℕ) (l : NodeLayout) where

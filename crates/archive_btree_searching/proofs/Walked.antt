@@ -9,7 +9,7 @@ use Rattle.archive_btree_layout.specs.Reading.{Place}
 use Rattle.archive_btree_searching.specs.Layout.{IsTreeAt}
 use Rattle.archive_btree_searching.specs.Nodes.{child_of, entry_of, entry_count}
 use Rattle.archive_btree_searching.specs.Walking.{child_items, items_from, node_items, frame_items, stack_items, IsFrame, IsStack}
-use Rattle.archive_btree_searching.specs.declared.layout.NodeLayout.{NodeLayout}
+use Rattle.archive_btree_nodes.specs.declared.layout.NodeLayout.{NodeLayout}
 use Rattle.archive_btree_searching.proofs.NodeTree.{ChildIs, Branching, tree_branching, tree_level}
 use Rattle.archive_btree_searching.proofs.NodeTree.Branching.{last, more}
 
@@ -76,15 +76,15 @@ module _ (bytes : List ℕ) (l : NodeLayout) where
 
   module _ (nodes nexts : List ℕ) where
     -- a node is pushed
-    pub pushed_items : (depth pos : ℕ) → depth < length nodes → depth < length nexts
-        → stack_items bytes l (set nodes depth pos) (set nexts depth 0) (suc depth) ≡ frame_items bytes l (31 - depth) pos 0 ++ stack_items bytes l nodes nexts depth
-    pushed_items depth pos room space =
+    pub pushed_items : (depth pos next : ℕ) → depth < length nodes → depth < length nexts
+        → stack_items bytes l (set nodes depth pos) (set nexts depth next) (suc depth) ≡ frame_items bytes l (31 - depth) pos next ++ stack_items bytes l nodes nexts depth
+    pushed_items depth pos next room space =
         let rest =
-        stack_same (set nodes depth pos) nodes (set nexts depth 0) nexts depth
+        stack_same (set nodes depth pos) nodes (set nexts depth next) nexts depth
         (λ d below. get_or-set_other nodes depth d pos 0 (λ e. absurd (omega arith)))
-        (λ d below. get_or-set_other nexts depth d 0 0 (λ e. absurd (omega arith)))
+        (λ d below. get_or-set_other nexts depth d next 0 (λ e. absurd (omega arith)))
         in
-        rw (get_or-set_same nodes depth pos 0 room, get_or-set_same nexts depth 0 0 space, rest) refl
+        rw (get_or-set_same nodes depth pos 0 room, get_or-set_same nexts depth next 0 space, rest) refl
 
     -- the next entry of the deepest node is passed
     pub passed_items : (depth next : ℕ) → depth < length nexts
@@ -98,30 +98,58 @@ module _ (bytes : List ℕ) (l : NodeLayout) where
   pub leads_some : (level : ℕ) (c : Option ℕ) (pos : ℕ) → LeadsTo level c → c ≡ Some pos → (t : Tree Place) × IsTreeAt bytes l level pos t
   leads_some level c pos h e = rw e at h
 
-  -- a stack on which a child is still to be pushed, and what is left in all
-  pub record Pushes (nodes nexts : List ℕ) (depth : ℕ) (child : Option ℕ) (whole : List Place) : Type 0 where
+  -- a stack on which a child is still to be pushed, and what is left behind the items before
+  pub record Pushes (nodes nexts : List ℕ) (depth : ℕ) (child : Option ℕ) (before whole : List Place) : Type 0 where
     pub stands : IsStack bytes l nodes nexts depth
     pub leads : LeadsTo (depth + 1) child
-    pub left : child_items bytes l (node_items bytes l (32 - depth)) child ++ stack_items bytes l nodes nexts depth ≡ whole
+    pub left : before ++ (child_items bytes l (node_items bytes l (32 - depth)) child ++ stack_items bytes l nodes nexts depth) ≡ whole
 
-  pushed_frames : (nodes nexts : List ℕ) (depth pos : ℕ) → depth < 32 → IsStack bytes l nodes nexts depth → IsFrame bytes l depth pos 0
-      → (d : ℕ) → d < depth + 1 → IsFrame bytes l d (slice_index (set nodes depth pos) d) (slice_index (set nexts depth 0) d)
-  pushed_frames nodes nexts depth pos below s f d up =
+  pushed_frames : (nodes nexts : List ℕ) (depth pos next : ℕ) → depth < 32 → IsStack bytes l nodes nexts depth → IsFrame bytes l depth pos next
+      → (d : ℕ) → d < depth + 1 → IsFrame bytes l d (slice_index (set nodes depth pos) d) (slice_index (set nexts depth next) d)
+  pushed_frames nodes nexts depth pos next below s f d up =
       elim (cases_lt d depth) [
         | inl lower ↦
-            rw (get_or-set_other nodes depth d pos 0 (λ e. absurd (omega arith)), get_or-set_other nexts depth d 0 0 (λ e. absurd (omega arith)))
+            rw (get_or-set_other nodes depth d pos 0 (λ e. absurd (omega arith)), get_or-set_other nexts depth d next 0 (λ e. absurd (omega arith)))
             (s.frames d lower)
         | inr upper ↦
             let here : d ≡ depth = omega arith in
             let room = s.room in
             let space = s.space in
-            rw (here, get_or-set_same nodes depth pos 0 (omega arith), get_or-set_same nexts depth 0 0 (omega arith)) f
+            rw (here, get_or-set_same nodes depth pos 0 (omega arith), get_or-set_same nexts depth next 0 (omega arith)) f
       ]
 
-  pub pushed : (nodes nexts : List ℕ) (depth pos : ℕ) (child next : Option ℕ) (whole : List Place)
-      → Pushes nodes nexts depth child whole → child ≡ Some pos → next ≡ child_of bytes l pos 0
-      → Pushes (set nodes depth pos) (set nexts depth 0) (depth + 1) next whole
-  pushed nodes nexts depth pos child next whole p e n =
+  -- the items of a node before its child n, from child i on
+  abbrev pub items_before : (ℕ → List Place) → ℕ → ℕ → ℕ → List Place
+  items_before below pos zero i = []
+  items_before below pos (suc n) i = child_items bytes l below (child_of bytes l pos i) ++ entry_of l pos i ∷ items_before below pos n (suc i)
+
+  parted : (below : ℕ → List Place) (pos n count i j : ℕ) → n ≤ count → j ≡ i + n
+      → child_items bytes l below (child_of bytes l pos i) ++ items_from bytes l below pos count i
+      ≡ items_before below pos n i ++ (child_items bytes l below (child_of bytes l pos j) ++ items_from bytes l below pos (count - n) j)
+  parted below pos zero count i j within at =
+      let here : j ≡ i = omega arith in
+      let whole : count - 0 ≡ count = omega arith in
+      rw (here, whole) refl
+  parted below pos (suc n) zero i j within at = absurd (omega arith)
+  parted below pos (suc n) (suc m) i j within at =
+      let first = child_items bytes l below (child_of bytes l pos i) in
+      let less : suc m - suc n ≡ m - n = omega arith in
+      let behind = child_items bytes l below (child_of bytes l pos j) ++ items_from bytes l below pos (m - n) j in
+      rw less
+      (ap (λ s. first ++ entry_of l pos i ∷ s) (parted below pos n m (suc i) j (omega arith) (omega arith))
+      ∙ sym (append_assoc first (entry_of l pos i ∷ items_before below pos n (suc i)) behind))
+
+  pub node_parted : (levels pos next : ℕ) → next ≤ entry_count bytes l pos
+      → node_items bytes l (suc levels) pos
+      ≡ items_before (node_items bytes l levels) pos next 0
+      ++ (child_items bytes l (node_items bytes l levels) (child_of bytes l pos next) ++ frame_items bytes l levels pos next)
+  node_parted levels pos next within = parted (node_items bytes l levels) pos next (entry_count bytes l pos) 0 next within (omega arith)
+
+  -- a node is pushed of which the entry `next` comes next
+  pub pushed : (nodes nexts : List ℕ) (depth pos next : ℕ) (child behind : Option ℕ) (before whole : List Place)
+      → Pushes nodes nexts depth child before whole → child ≡ Some pos → next ≤ entry_count bytes l pos → behind ≡ child_of bytes l pos next
+      → Pushes (set nodes depth pos) (set nexts depth next) (depth + 1) behind (before ++ items_before (node_items bytes l (31 - depth)) pos next 0) whole
+  pushed nodes nexts depth pos next child behind before whole p e within n =
       let s = p.stands in
       let room = s.room in
       let space = s.space in
@@ -129,7 +157,6 @@ module _ (bytes : List ℕ) (l : NodeLayout) where
       let level = tree_level bytes l (depth + 1) pos at.0 at.1 in
       let below : 32 - (depth + 1) ≡ 31 - depth = omega arith in
       let levels : 32 - depth ≡ suc (31 - depth) = omega arith in
-      let none : entry_count bytes l pos - 0 ≡ entry_count bytes l pos = omega arith in
       let up : suc (depth + 1) ≡ depth + 1 + 1 = omega arith in
       record {
         stands =
@@ -137,19 +164,25 @@ module _ (bytes : List ℕ) (l : NodeLayout) where
               room = simp length-set s.room;
               space = simp length-set s.space;
               within = omega arith;
-              frames = pushed_frames nodes nexts depth pos (omega arith) s (record { tree = at.0; stands = at.1; within = omega arith });
+              frames = pushed_frames nodes nexts depth pos next (omega arith) s (record { tree = at.0; stands = at.1; within = within });
             };
-        leads = rw n (subst (λ i. LeadsTo i (child_of bytes l pos 0)) up (child_leads (depth + 1) pos 0 at.0 at.1 (omega arith)));
+        leads = rw n (subst (λ i. LeadsTo i (child_of bytes l pos next)) up (child_leads (depth + 1) pos next at.0 at.1 within));
         left =
             let under = node_items bytes l (31 - depth) in
-            let first = child_items bytes l under (child_of bytes l pos 0) in
-            let own = items_from bytes l under pos (entry_count bytes l pos) 0 in
+            let passed = items_before under pos next 0 in
+            let inner = child_items bytes l under (child_of bytes l pos next) in
+            let own = frame_items bytes l (31 - depth) pos next in
             let others = stack_items bytes l nodes nexts depth in
-            let had : (first ++ own) ++ others ≡ whole = rw (e, levels) at p.left in
-            let after : stack_items bytes l (set nodes depth pos) (set nexts depth 0) (suc depth) ≡ own ++ others =
-            pushed_items nodes nexts depth pos (omega arith) (omega arith) ∙ ap (λ m. items_from bytes l under pos m 0 ++ others) none
+            let had : before ++ (node_items bytes l (suc (31 - depth)) pos ++ others) ≡ whole = rw (e, levels) at p.left in
+            let after : stack_items bytes l (set nodes depth pos) (set nexts depth next) (suc depth) ≡ own ++ others =
+            pushed_items nodes nexts depth pos next (omega arith) (omega arith)
             in
-            rw (n, below, add-one depth) (ap (λ s. first ++ s) after ∙ sym (append_assoc first own others) ∙ had);
+            rw (n, below, add-one depth)
+            (ap (λ s. (before ++ passed) ++ (inner ++ s)) after ∙ append_assoc before passed (inner ++ (own ++ others))
+            ∙ ap (λ s. before ++ s)
+            (ap (λ s. passed ++ s) (sym (append_assoc inner own others)) ∙ sym (append_assoc passed (inner ++ own) others)
+            ∙ ap (λ s. s ++ others) (sym (node_parted (31 - depth) pos next within)))
+            ∙ had);
       }
 
   -- ---- the next entry

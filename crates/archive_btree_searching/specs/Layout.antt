@@ -1,19 +1,10 @@
--- Where the parts of a search tree's node stand.
-use Rattle.std.specs.Prelude.{◌≡◌, ℕ, List}
-use Rattle.archive_shape_layout.specs.Shape.{Shape, size_of}
-use Rattle.archive_shape_layout.specs.Content.{keys_offset, values_offset, links_offset}
+-- Search trees in bytes whose nodes have a layout.
+use Rattle.std.specs.Prelude.{ℕ, List}
+use Rattle.archive_shape_layout.specs.Shape.{Shape}
 use Rattle.archive_btree_layout.specs.Tree.{Tree}
 use Rattle.archive_btree_layout.specs.Reading.{Place, HasNode}
-use Rattle.archive_btree_searching.specs.declared.layout.NodeLayout.{NodeLayout}
-
--- the offsets and sizes in a node with at most `most` entries of these shapes
-pub record IsLayout (most : ℕ) (k v : Shape) (l : NodeLayout) : Type 0 where
-  pub entries : l.entries ≡ most
-  pub keys : l.keys ≡ keys_offset k
-  pub key_size : l.key_size ≡ size_of k
-  pub values : l.values ≡ values_offset most k v
-  pub value_size : l.value_size ≡ size_of v
-  pub links : l.links ≡ links_offset most k v
+use Rattle.archive_btree_nodes.specs.Layout.{IsLayout}
+use Rattle.archive_btree_nodes.specs.declared.layout.NodeLayout.{NodeLayout}
 
 -- on a level and at a position the bytes have a tree, whose nodes have this layout
 pub record IsTreeAt (bytes : List ℕ) (l : NodeLayout) (level pos : ℕ) (t : Tree Place) : Type 0 where

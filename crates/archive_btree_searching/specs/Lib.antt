@@ -3,3 +3,4 @@ pub mod Nodes
 pub mod Searching
 pub mod Walking
 pub mod Visiting
+pub mod Ranges

@@ -2,7 +2,7 @@
 use Rattle.std.specs.Prelude.{◌≡◌, ℕ, zero, suc, ◌+◌, ◌-◌, ◌<◌, ◌≤◌, List, [], ◌∷◌, ◌++◌, length, slice_index, Option, Some, None}
 use Rattle.archive_btree_layout.specs.Tree.{Tree}
 use Rattle.archive_btree_layout.specs.Reading.{Place}
-use Rattle.archive_btree_searching.specs.declared.layout.NodeLayout.{NodeLayout}
+use Rattle.archive_btree_nodes.specs.declared.layout.NodeLayout.{NodeLayout}
 use Rattle.archive_btree_searching.specs.Layout.{IsTreeAt}
 use Rattle.archive_btree_searching.specs.Nodes.{entry_count, entry_of, child_of}
 

@@ -1,14 +1,14 @@
-//! Search trees in bytes: where a node has its parts, the search for a key, walks over the entries.
+//! Search trees in bytes: the search for a key, walks over the entries, all or those of a range.
 #![tactic(auto)]
 
-mod layout;
 mod node;
+mod range;
 mod search;
 mod visit;
 mod walk;
 
-pub use layout::NodeLayout;
 pub use node::EntryAt;
+pub use range::Range;
 pub use search::{search_counted, search_tree};
 pub use visit::visit_tree;
 pub use walk::Walk;

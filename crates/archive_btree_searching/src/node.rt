@@ -3,7 +3,7 @@ ghost use Rattle.std.specs.Prelude.{◌≡◌, ℕ, ◌+◌, ◌*◌, ◌^◌, �
 ghost use Rattle.archive_shape_layout.specs.Bytes as layout;
 ghost use Rattle.archive_btree_searching.specs.Nodes.{IsReadable, entry_count, entry_of, child_of, place_of, pointer_at};
 
-use crate::NodeLayout;
+use archive_btree_nodes::NodeLayout;
 
 /// Where an entry's key and value stand.
 #[derive(Clone, Copy, Debug, PartialEq, Eq)]

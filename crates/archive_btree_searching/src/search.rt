@@ -7,10 +7,11 @@ ghost use Rattle.archive_btree_layout.specs.Descent.{descend, met};
 ghost use Rattle.archive_btree_layout.specs.Reading.{Place};
 ghost use Rattle.archive_btree_searching.specs.Layout.{IsTreeAt};
 ghost use Rattle.archive_btree_searching.specs.Nodes.{place_of};
-ghost use Rattle.archive_btree_searching.specs.Searching.{Answers, IsWithin, Orders, by_key};
+ghost use Rattle.archive_btree_searching.specs.Searching.{Answers, IsAmong, IsEqualTo, IsWithin, Orders, OrdersKeys};
 
+use crate::EntryAt;
 use crate::node::{child_of, entry_count, entry_of};
-use crate::{EntryAt, NodeLayout};
+use archive_btree_nodes::NodeLayout;
 use std::cmp::Ordering;
 
 /// What a search among a node's keys answers, by the number of a key.
@@ -32,7 +33,8 @@ fn search_keys<F: Fn(usize) -> Ordering>(
     requires callable { (i : ℕ) → i < count → F.pre compare.now (first + i * size) }
     requires room { first + count * size < 2 ^ 64 }
     ensures within { IsWithin count result }
-    ensures answers { (order : ℕ → Ordering) → Orders F.post compare.now order → Answers order first size count result }
+    ensures equal { IsEqualTo F.post compare.now first size result }
+    ensures answers { (order : ℕ → Ordering) → OrdersKeys F.post compare.now order first size count → Answers order count result }
 {
     for i in 0..count {
         match compare(first + i * size) {
@@ -53,8 +55,9 @@ pub fn search_counted<F: Fn(usize) -> Ordering>(
     compare: &F,
 ) -> (Option<EntryAt>, usize)
     requires tree { (t : Tree Place) × IsTreeAt bytes.now layout 1 root t × All (λ e. F.pre compare.now e.key) (items t) }
-    ensures { (t : Tree Place) (order : ℕ → Ordering) → IsTreeAt bytes.now layout 1 root t → Orders F.post compare.now order
-        → (option_map place_of result.0 ≡ descend (by_key order) t) × (result.1 ≡ min (met (by_key order) t) (2 ^ 64 - 1)) }
+    ensures found { (t : Tree Place) → IsTreeAt bytes.now layout 1 root t → IsAmong F.post compare.now (items t) result.0 }
+    ensures answers { (t : Tree Place) (order : Place → Ordering) → IsTreeAt bytes.now layout 1 root t → Orders F.post compare.now order (items t)
+        → (option_map place_of result.0 ≡ descend order t) × (result.1 ≡ min (met order t) (2 ^ 64 - 1)) }
 {
     let _len = bytes.len();
     let mut pos = root;
@@ -86,8 +89,9 @@ pub fn search_tree<F: Fn(usize) -> Ordering>(
     compare: &F,
 ) -> Option<EntryAt>
     requires tree { (t : Tree Place) × IsTreeAt bytes.now layout 1 root t × All (λ e. F.pre compare.now e.key) (items t) }
-    ensures { (t : Tree Place) (order : ℕ → Ordering) → IsTreeAt bytes.now layout 1 root t → Orders F.post compare.now order
-        → option_map place_of result ≡ descend (by_key order) t }
+    ensures found { (t : Tree Place) → IsTreeAt bytes.now layout 1 root t → IsAmong F.post compare.now (items t) result }
+    ensures answers { (t : Tree Place) (order : Place → Ordering) → IsTreeAt bytes.now layout 1 root t → Orders F.post compare.now order (items t)
+        → option_map place_of result ≡ descend order t }
 {
     search_counted(bytes, root, layout, compare).0
 }

@@ -5,8 +5,9 @@ ghost use Rattle.archive_btree_layout.specs.Reading.{Place};
 ghost use Rattle.archive_btree_searching.specs.Layout.{IsTreeAt};
 ghost use Rattle.archive_btree_searching.specs.Visiting.{VisitsAll, BreaksWith, IsCallableAt};
 
+use crate::EntryAt;
 use crate::walk::{Stack, pass_entry};
-use crate::{EntryAt, NodeLayout};
+use archive_btree_nodes::NodeLayout;
 use std::ops::ControlFlow;
 
 /// Calls `visit` with each entry of the tree at a root, in their order, up to the first that it breaks at, and answers

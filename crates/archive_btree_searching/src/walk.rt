@@ -1,5 +1,5 @@
 //! Walks over a tree's entries in their order.
-ghost use Rattle.std.specs.Prelude.{◌≡◌, ℕ, ◌-◌, ◌+◌, ◌<◌, ◌≤◌, List, [], ◌∷◌, ◌++◌, length, IfSome, MatchOption};
+ghost use Rattle.std.specs.Prelude.{◌≡◌, ℕ, ◌-◌, ◌+◌, ◌*◌, ◌^◌, ◌<◌, ◌≤◌, Bool, true, false, not, List, [], ◌∷◌, ◌++◌, length, All, filter, IfSome, MatchOption};
 ghost use Rattle.std.specs.Iterator.{YieldsFirstBy, UpTo, item_count};
 ghost use Rattle.std.specs.Iterator.SizeHint.{IsExactHint, IsWithinCount};
 ghost use Rattle.archive_btree_layout.specs.Tree.{Tree, items};
@@ -7,9 +7,11 @@ ghost use Rattle.archive_btree_layout.specs.Reading.{Place};
 ghost use Rattle.archive_btree_searching.specs.Layout.{IsTreeAt};
 ghost use Rattle.archive_btree_searching.specs.Nodes.{place_of};
 ghost use Rattle.archive_btree_searching.specs.Walking.{child_items, node_items, stack_items, IsStack};
+ghost use Rattle.archive_btree_searching.specs.Ranges.{Decides, Stays, IfFirst, next_key};
 
+use crate::EntryAt;
 use crate::node::{child_of, entry_count, entry_of};
-use crate::{EntryAt, NodeLayout};
+use archive_btree_nodes::NodeLayout;
 use std::iter::FusedIterator;
 use std::marker::Model;
 
@@ -23,7 +25,7 @@ pub(crate) struct Stack {
 
 impl Stack {
     /// A stack without nodes.
-    const fn new() -> Self
+    pub(crate) const fn new() -> Self
         ensures nodes { length result.nodes ≡ 32 }
         ensures nexts { length result.nexts ≡ 32 }
         ensures depth { result.depth ≡ 0 }
@@ -45,6 +47,62 @@ impl Stack {
         push_first(&mut stack, bytes, layout, Some(root));
         stack
     }
+
+    /// A stack of which the entries of the tree at a root are passed up to the first that does not pass a test of the
+    /// position of its key. Where one that passes follows one that does not, how many are passed is not specified.
+    pub(crate) fn behind<F: Fn(usize) -> bool>(
+        bytes: &[u8],
+        root: usize,
+        layout: NodeLayout,
+        passes: &F,
+    ) -> Self
+        requires tree { (t : Tree Place) × IsTreeAt bytes.now layout 1 root t × All (λ e. F.pre passes.now e.key) (items t) }
+        ensures stands { IsStack bytes.now layout result.nodes result.nexts result.depth }
+        ensures left { (t : Tree Place) → IsTreeAt bytes.now layout 1 root t
+            → (before : List Place) × (items t ≡ before ++ stack_items bytes.now layout result.nodes result.nexts result.depth) }
+        ensures first { IfFirst (λ e. F.post passes.now e.key false) (stack_items bytes.now layout result.nodes result.nexts result.depth) }
+        ensures rest { (t : Tree Place) (test : Place → Bool) → IsTreeAt bytes.now layout 1 root t
+            → Decides F.post passes.now test (items t) → Stays (λ e. not (test e)) (items t)
+            → stack_items bytes.now layout result.nodes result.nexts result.depth ≡ filter (λ e. not (test e)) (items t) }
+    {
+        let _len = bytes.len();
+        let mut stack = Stack::new();
+        let mut child = Some(root);
+        while let Some(pos) = child {
+            let count = entry_count(bytes, layout, pos);
+            let next = count_passing(pos + layout.keys, layout.key_size, count, passes);
+            stack.nodes[stack.depth] = pos;
+            stack.nexts[stack.depth] = next;
+            stack.depth += 1;
+            child = child_of(bytes, layout, pos, next);
+        }
+        stack
+    }
+
+    /// Where the key of the entry that comes next stands, if there is one.
+    pub(crate) fn next_key(self, bytes: &[u8], layout: NodeLayout) -> Option<usize>
+        requires { IsStack bytes.now layout self.nodes self.nexts self.depth }
+        ensures { result ≡ next_key (stack_items bytes.now layout self.nodes self.nexts self.depth) }
+    {
+        let mut rest = self;
+        Some(pass_entry(&mut rest, bytes, layout)?.key)
+    }
+}
+
+/// How many of so many keys side by side pass a test of their position, before the first that does not.
+fn count_passing<F: Fn(usize) -> bool>(first: usize, size: usize, count: usize, passes: &F) -> usize
+    requires callable { (i : ℕ) → i < count → F.pre passes.now (first + i * size) }
+    requires room { first + count * size < 2 ^ 64 }
+    ensures within { result ≤ count }
+    ensures passed { (i : ℕ) → i < result → F.post passes.now (first + i * size) true }
+    ensures ends { result < count → F.post passes.now (first + result * size) false }
+{
+    for i in 0..count {
+        if !passes(first + i * size) {
+            return i;
+        }
+    }
+    count
 }
 
 /// Pushes a child, if there is one, and its first children, down to the node whose first entry comes next.

@@ -36,7 +36,7 @@ child_at most n i u e =
 full_share : (a w i most : ℕ) → i ≤ most → a + min w ((w + most * w) - i * w) ≡ a + w
 full_share a w i most h = let m = mul-le-mul_right w h in omega (arith, m)
 
-at_least_one : (a b : ℕ) → 0 < a → 1 ≤ b → 1 ≤ a * b
+pub at_least_one : (a b : ℕ) → 0 < a → 1 ≤ b → 1 ≤ a * b
 at_least_one (suc a) b h g = omega (arith, g)
 at_least_one zero b h g = absurd (omega (arith, h))
 

@@ -2,6 +2,7 @@ pub mod Slots
 pub mod Levels
 pub mod Shares
 pub mod Counts
+pub mod Divided
 pub mod Shown
 pub mod Trees
 pub mod Weaving

@@ -45,7 +45,7 @@ module _ (names : Names) (bytes : List ℕ) (most : ℕ) (k v : Shape) (pos : �
   empty_content e =
       ap (λ n. choose (n == 0) (plain whole []) (following (target_from pos (word_at (window bytes pos 8) 0)) (λ t. plain (total n) (node 1 most k v t ∷ [])))) e
 
-  rooted_content : (n root : ℕ) → word_at (window bytes pos 8) 4 ≡ n → 0 < n → target_from pos (word_at (window bytes pos 8) 0) ≡ Some root
+  pub rooted_content : (n root : ℕ) → word_at (window bytes pos 8) 4 ≡ n → 0 < n → target_from pos (word_at (window bytes pos 8) 0) ≡ Some root
       → content_of names bytes (at pos (tree most k v)) ≡ plain (total n) (node 1 most k v root ∷ [])
   unfolding shape_content choose following
   rooted_content n root e some target =

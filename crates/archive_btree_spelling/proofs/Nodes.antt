@@ -49,7 +49,7 @@ first_byte : (bytes : List ℕ) (pos b : ℕ) → HasBytes bytes pos (b ∷ []) 
 first_byte bytes pos b s = get_or-drop pos bytes 0 0 ∙ ap (slice_index bytes) (add-zero pos) ∙ stands_byte bytes pos b s
 
 module _ (names : Names) (bytes : List ℕ) (t most : ℕ) (k v : Shape) (pos : ℕ) where
-  leaf_chosen : (own : List ℕ) (n : ℕ) → word_at own (links_offset most k v) ≡ n → t ≤ 32 → n ≤ most
+  pub leaf_chosen : (own : List ℕ) (n : ℕ) → word_at own (links_offset most k v) ≡ n → t ≤ 32 → n ≤ most
       → node_content t most k v pos zero own ≡ claimed (node_span 1 most k v pos) whole (entries n k (pos + keys_offset k) v (pos + values_offset most k v))
   unfolding node_content choose
   leaf_chosen own n e low few =
@@ -57,7 +57,7 @@ module _ (names : Names) (bytes : List ℕ) (t most : ℕ) (k v : Shape) (pos : 
       ap (λ z. choose (nat_le t 32 && nat_le z most) (claimed (node_span 1 most k v pos) whole (entries z k (pos + keys_offset k) v (pos + values_offset most k v))) illegal) e
       ∙ ap (λ b. choose b (claimed (node_span 1 most k v pos) whole (entries n k (pos + keys_offset k) v (pos + values_offset most k v))) illegal) test
 
-  inner_chosen : (own : List ℕ) → t ≤ 32
+  pub inner_chosen : (own : List ℕ) → t ≤ 32
       → node_content t most k v pos (suc zero) own
       ≡ claimed (node_span (most + 1) most k v pos) (woven (most + 1)) (children (most + 1) (t + 1) most k v (pos + links_offset most k v) ++ entries most k (pos + keys_offset k) v (pos + values_offset most k v))
   unfolding node_content choose

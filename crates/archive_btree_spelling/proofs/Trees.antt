@@ -55,7 +55,7 @@ leads_back pos word root e before = tested (word == 1) refl
         absurd (omega (arith, same, before))
 
 -- a pointer back leads to a node on one of 32 levels
-child_leads : (t most : ℕ) (k v : Shape) (pos : ℕ) (own : List ℕ) (root : ℕ) → (word_at own 0 == 1) ≡ false → nat_le t 32 ≡ true → target_from pos (word_at own 0) ≡ Some root
+pub child_leads : (t most : ℕ) (k v : Shape) (pos : ℕ) (own : List ℕ) (root : ℕ) → (word_at own 0 == 1) ≡ false → nat_le t 32 ≡ true → target_from pos (word_at own 0) ≡ Some root
     → child_content t most k v pos own ≡ plain same (node t most k v root ∷ [])
 unfolding child_content choose following
 child_leads t most k v pos own root away room target =

@@ -12,6 +12,7 @@ pub mod Kept
 pub mod Framing
 pub mod Editing
 pub mod Joining
+pub mod Reaching
 pub mod Everywhere
 pub mod Orders
 pub mod SameValue

@@ -47,7 +47,7 @@ record Untwined (cs cs' es es' : Values) : Type 0 where
 erased_count : (vs : Values) (n : ℕ) → count_values vs ≡ n → count_values (all_erased vs) ≡ n
 erased_count vs n e = count_erased vs ∙ e
 
-count_append : (xs ys : Values) → count_values (append_values xs ys) ≡ count_values xs + count_values ys
+pub count_append : (xs ys : Values) → count_values (append_values xs ys) ≡ count_values xs + count_values ys
 count_append no_values ys = omega arith
 count_append (more_values x xs) ys = let h = count_append xs ys in omega (arith, h)
 
@@ -106,7 +106,7 @@ count_first zero m vs e = refl
 count_first (suc n) m no_values e = absurd (omega (arith, e))
 count_first (suc n) m (more_values v vs) e = let h = count_first n m vs (omega (arith, e)) in omega (arith, h)
 
-count_other : (n m : ℕ) (vs : Values) → count_values vs ≡ n + m → count_values (other_values n vs) ≡ m
+pub count_other : (n m : ℕ) (vs : Values) → count_values vs ≡ n + m → count_values (other_values n vs) ≡ m
 count_other zero m vs e = omega (arith, e)
 count_other (suc n) m no_values e = absurd (omega (arith, e))
 count_other (suc n) m (more_values v vs) e = count_other n m vs (omega (arith, e))
@@ -122,7 +122,7 @@ unfolding entries
 length-entries zero k a v b = refl
 length-entries (suc n) k a v b = let h = length-entries n k (a + size_of k) v (b + size_of v) in omega (arith, h)
 
-length-children : (n level most : ℕ) (k v : Shape) (pos : ℕ) → length (children n level most k v pos) ≡ n
+pub length-children : (n level most : ℕ) (k v : Shape) (pos : ℕ) → length (children n level most k v pos) ≡ n
 unfolding children
 length-children zero level most k v pos = refl
 length-children (suc n) level most k v pos = let h = length-children n level most k v (pos + 4) in omega (arith, h)

@@ -149,7 +149,7 @@ made_total n v (more_values x no_values) e = tested (count_values (members x) ==
     tested false f g = absurd (cc)
 made_total n v (more_values x (more_values y ys)) e = absurd (cc)
 
-count_members : (v : Value) → count_values (members (erased v)) ≡ count_values (members v)
+pub count_members : (v : Value) → count_values (members (erased v)) ≡ count_values (members v)
 count_members (natural n) = refl
 count_members (integer z) = refl
 count_members (boolean b) = refl

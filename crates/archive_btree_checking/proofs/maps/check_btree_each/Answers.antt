@@ -11,7 +11,7 @@ pub returns-in_default-clause-exact : goal.returns-in_default-clause-exact
 returns-in_default-clause-exact g c names known_key known_value =
     let some : c.word-len.result ≢ 0 = λ e. omega (arith, e, c.if-len-eq0.false) in
     tree_astray names c.args.bytes.now c.args.pos g.row.E g.K.Portable.shape g.V.Portable.shape c.word-len.result (sym c.word-len.ensures) some
-    (g.C.ArchiveContext.kept c.args.context.now) (g.C.ArchiveContext.kept c.args.context.now) _ (sym c.in_default.ensures) (ap InvalidSubtreePointer c.node_layout-layout.ensures.size)
+    (g.C.ArchiveContext.kept c.args.context.now) (g.C.ArchiveContext.kept c.args.context.now) _ (sym c.in_default.ensures) (ap InvalidSubtreePointer c.of-layout.ensures.parts.size)
 
 pub returns-in_err-entries-clause-exact : goal.returns-in_err-entries-clause-exact
 returns-in_err-entries-clause-exact g c names known_key known_value =

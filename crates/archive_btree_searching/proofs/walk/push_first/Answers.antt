@@ -1,4 +1,4 @@
-use Rattle.std.proofs.Common.{◌+◌, ◌<◌, ◌^◌, length, refl, arith}
+use Rattle.std.proofs.Common.{◌+◌, ◌<◌, ◌^◌, [], length, refl, arith}
 use Rattle.archive_btree_searching.proofs.NodeTree.{tree_level, tree_readable}
 use Rattle.archive_btree_searching.proofs.Walked.{leads_some, pushed}
 use Rattle.archive_btree_searching.proofs.walk.push_first.Goals as goal
@@ -38,8 +38,8 @@ loop-child-smaller c =
 
 pub loop-child-preserved : goal.loop-child-preserved
 loop-child-preserved c =
-    pushed c.args.bytes.now c.args.layout c.loop-child.stack.nodes c.loop-child.stack.nexts c.loop-child.stack.depth c.in-Some.pos c.loop-child.child c.child_of-child.result _
-    c.loop-child.invariant c.in-Some.is c.child_of-child.ensures
+    pushed c.args.bytes.now c.args.layout c.loop-child.stack.nodes c.loop-child.stack.nexts c.loop-child.stack.depth c.in-Some.pos 0 c.loop-child.child c.child_of-child.result [] _
+    c.loop-child.invariant c.in-Some.is (omega arith) c.child_of-child.ensures
 
 pub returns-clause-stands : goal.returns-clause-stands
 returns-clause-stands c = c.loop-child.invariant.stands

@@ -1,0 +1,52 @@
+//! How sets of std are archived.
+ghost use Rattle.std.specs.Prelude.{◌≡◌, refl};
+ghost use Rattle.archive_shape_layout.specs.Shape.Shape.{tree, tuple};
+ghost use Rattle.archive_shape_layout.specs.Shape.Shapes.{no_shapes};
+ghost use Rattle.archive_forms_spelling.specs.Fields.{unit_spelling};
+ghost use Rattle.archive_forms_spelling.specs.Forms.{seen_as};
+ghost use Rattle.archive_forms_spelling.specs.Serializing.{CanResolve, Resolves};
+ghost use Rattle.archive_forms_spelling.proofs.Fields.{unit_spells};
+ghost use Rattle.archive_forms_spelling.proofs.Views.{kept_spells, known_spells, seen_spells_at};
+ghost use Rattle.archive_forms_reading.specs.Parts.{both};
+ghost use Rattle.archive_btree_spelling.proofs.Maps.{btree_spells};
+ghost use Rattle.archive_btree.specs.Owned.{entries_spelling, key_entries};
+
+use crate::OwnedBTreeSet;
+use archive_btree_reading::{ArchivedBTreeMap, BTreeMapResolver};
+use archive_forms_writing::Archive;
+use archive_shape::{Error, Place, Portable};
+
+impl<K: Archive + Ord, const E: usize> Archive for OwnedBTreeSet<K, E> {
+    type Archived = ArchivedBTreeMap<K::Archived, (), E>;
+
+    type Resolver = BTreeMapResolver;
+
+    ghost spelling = { seen_as (λ s. key_entries s.set.keys) (entries_spelling E K.Archived.shape (tuple no_shapes) K.spelling unit_spelling) };
+
+    fn resolve(
+        &self,
+        resolver: BTreeMapResolver,
+        out: Place<'_, ArchivedBTreeMap<K::Archived, (), E>>,
+    ) -> Result<(), Error>
+        requires { CanResolve (seen_as (λ s. key_entries s.set.keys) (entries_spelling E K.Archived.shape (tuple no_shapes) K.spelling unit_spelling)) (tree E K.Archived.shape (tuple no_shapes)) self.now resolver out.out.now out.start out.pos }
+        ensures { Resolves (seen_as (λ s. key_entries s.set.keys) (entries_spelling E K.Archived.shape (tuple no_shapes) K.spelling unit_spelling)) self.now resolver out.entry.pos out.entry.start out.entry.out.now out.exit.0.now result }
+    {
+        let Place {
+            out,
+            start,
+            pos,
+            ..
+        } = out;
+        ArchivedBTreeMap::<K::Archived, (), E>::resolve_from_len(
+            self.set.len(),
+            resolver,
+            Place::within(out, start, pos),
+        )
+    }
+
+    ghost spells = { λ fit m. seen_spells_at fit (tree E K.Archived.shape (tuple no_shapes)) (both K.Archived.knows ⟦<() as Portable>⟧.knows) (λ n. key_entries n.set.keys) (entries_spelling E K.Archived.shape (tuple no_shapes) K.spelling unit_spelling) m
+        (kept_spells fit (tree E K.Archived.shape (tuple no_shapes)) (both K.Archived.knows ⟦<() as Portable>⟧.knows) _ _ (λ r. refl) _
+        (btree_spells fit E K.Archived.shape (tuple no_shapes) (both K.Archived.knows ⟦<() as Portable>⟧.knows) K.spelling unit_spelling m.some
+        (known_spells fit K.Archived.shape K.Archived.knows (both K.Archived.knows ⟦<() as Portable>⟧.knows) (λ _ k. k.0) K.spelling (K.spells fit))
+        (unit_spells fit (both K.Archived.knows ⟦<() as Portable>⟧.knows))) (key_entries m.set.keys)) };
+}

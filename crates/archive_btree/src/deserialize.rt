@@ -1,0 +1,110 @@
+//! Archived maps are read back as maps of std.
+ghost use Rattle.std.specs.Prelude.{◌<◌, length};
+ghost use Rattle.archive_shape_layout.specs.Shape.Shape.{tree};
+ghost use Rattle.archive_forms_reading.specs.Parts.{HasValue, both};
+ghost use Rattle.archive_forms_deserializing.specs.Deserializing.{DeserializesBy};
+ghost use Rattle.archive_forms_deserializing.specs.Steps.{StepTakes, StepReads};
+ghost use Rattle.archive_btree.specs.ReadBack.{DeserializesMap};
+
+use crate::OwnedBTreeMap;
+use archive_btree_reading::ArchivedBTreeMap;
+use archive_forms_deserializing::Deserialize;
+use archive_forms_writing::Archive;
+use archive_shape::{Error, Portable, Ref};
+use std::alloc::Global;
+use std::collections::BTreeMap;
+use std::marker::PhantomData;
+
+/// The step of keys and values that can be read back. A step's answer names the archived form, since a closure over `T` can be
+/// passed on only where its type does.
+fn deserialize_part<T: Archive, A: Deserialize<T, D>, D>(
+    bytes: &[u8],
+    pos: usize,
+    alloc: Global,
+    deserializer: &mut D,
+) -> Result<(T, PhantomData<T::Archived>), Error>
+    requires { HasValue A.shape A.knows bytes.now pos }
+    ensures { DeserializesBy T.spelling A.shape A.knows bytes.now pos (λ q. q.0) result }
+{
+    match A::deserialize(&Ref::new(bytes, pos), alloc, deserializer) {
+        Ok(value) => Ok((value, PhantomData)),
+        Err(e) => Err(e),
+    }
+}
+
+/// Reads a map back, whose keys and values steps read. Its entries are inserted in turn: the archive of a map that was
+/// checked may have keys that do not ascend, or equal ones, of which the first one stays, with the value of the last one.
+pub fn deserialize_map_each<
+    K: Archive + Ord + Drop,
+    V: Archive + Drop,
+    A: Portable,
+    B: Portable,
+    D,
+    F: Fn(&mut D, usize) -> Result<(K, PhantomData<K::Archived>), Error>,
+    G: Fn(&mut D, usize) -> Result<(V, PhantomData<V::Archived>), Error>,
+    const E: usize,
+>(
+    this: Ref<'_, ArchivedBTreeMap<A, B, E>>,
+    alloc: Global,
+    deserializer: &mut D,
+    read_key: F,
+    read_value: G,
+) -> Result<OwnedBTreeMap<K, V, E>, Error>
+    requires some { 0 < E }
+    requires there { HasValue (tree E A.shape B.shape) (both A.knows B.knows) this.bytes.now this.pos }
+    requires takes_key { StepTakes F.Fn read_key A.shape A.knows this.bytes.now (length this.bytes.now) }
+    requires reads_key { StepReads F.Fn read_key A.shape A.knows this.bytes.now (λ q. q.0) K.spelling }
+    requires takes_value { StepTakes G.Fn read_value B.shape B.knows this.bytes.now (length this.bytes.now) }
+    requires reads_value { StepReads G.Fn read_value B.shape B.knows this.bytes.now (λ q. q.0) V.spelling }
+    ensures { DeserializesMap K.cmp (λ m. m.map.entries) E K.Archived.shape V.Archived.shape K.spelling V.spelling A.shape B.shape A.knows B.knows this.entry.bytes.now this.entry.pos result }
+{
+    let mut map = BTreeMap::new(alloc);
+    let mut entries = ArchivedBTreeMap::iter(this);
+    while let Some((key, value)) = entries.next() {
+        let key = match read_key(deserializer, key.pos) {
+            Ok(done) => done.0,
+            Err(e) => return Err(e),
+        };
+        let value = match read_value(deserializer, value.pos) {
+            Ok(done) => done.0,
+            Err(e) => return Err(e),
+        };
+        if map.insert(key, value).is_err() {
+            return Err(Error::OutOfMemory);
+        }
+    }
+    Ok(OwnedBTreeMap { map })
+}
+
+/// Reads a map back, as `deserialize_map_each` does.
+pub fn deserialize_map<
+    K: Archive + Ord + Drop,
+    V: Archive + Drop,
+    D,
+    A: Deserialize<K, D>,
+    B: Deserialize<V, D>,
+    const E: usize,
+>(
+    this: Ref<'_, ArchivedBTreeMap<A, B, E>>,
+    alloc: Global,
+    deserializer: &mut D,
+) -> Result<OwnedBTreeMap<K, V, E>, Error>
+    requires some { 0 < E }
+    requires there { HasValue (tree E A.shape B.shape) (both A.knows B.knows) this.bytes.now this.pos }
+    ensures { DeserializesMap K.cmp (λ m. m.map.entries) E K.Archived.shape V.Archived.shape K.spelling V.spelling A.shape B.shape A.knows B.knows this.entry.bytes.now this.entry.pos result }
+{
+    let bytes = this.bytes;
+    deserialize_map_each::<K, V, A, B, D, _, _, E>(
+        this,
+        alloc,
+        deserializer,
+        |d: &mut D, pos: usize| -> Result<(K, PhantomData<K::Archived>), Error>
+            requires { HasValue A.shape A.knows bytes.now pos }
+            ensures { DeserializesBy K.spelling A.shape A.knows bytes.entry.now pos (λ q. q.0) result }
+        { deserialize_part::<K, A, D>(bytes, pos, alloc, d) },
+        |d: &mut D, pos: usize| -> Result<(V, PhantomData<V::Archived>), Error>
+            requires { HasValue B.shape B.knows bytes.now pos }
+            ensures { DeserializesBy V.spelling B.shape B.knows bytes.entry.now pos (λ q. q.0) result }
+        { deserialize_part::<V, B, D>(bytes, pos, alloc, d) },
+    )
+}

@@ -1,0 +1,111 @@
+-- Bytes that agree but for the values of entries.
+use Rattle.std.proofs.Common.{◌≡◌, ◌∙◌, ℕ, zero, suc, ◌+◌, ◌*◌, ◌<◌, ◌≤◌, List, [], ◌∷◌, ◌++◌, length, drop, take, sym, arith, get_or-drop, get_or-take}
+use Rattle.std.specs.Prelude.{slice_index}
+use Rattle.std.proofs.lemmas.List.{ext_get_or, length-drop, length-take-le}
+use Rattle.std.proofs.lemmas.List.Elements.{All-nil, All-cons, All-append}
+use Rattle.archive_shape_layout.specs.Bytes.{window, word_at}
+use Rattle.archive_shape_layout.specs.Shape.{Shape, size_of}
+use Rattle.archive_shape_layout.specs.Value.{Value}
+use Rattle.archive_shape_layout.specs.Content.{Names}
+use Rattle.archive_shape_layout.specs.Content.Part.{at}
+use Rattle.archive_shape_layout.specs.Holds.{Region, Visit, OpenShared, Holds, Ascends}
+use Rattle.archive_shape_layout.specs.Laws.{AgreesOn, RegionsAgree}
+use Rattle.archive_shape_layout.proofs.Framed.{frame}
+use Rattle.archive_shape_layout.proofs.Evaluated.{ascends_lowered, ascends_raised}
+use Rattle.archive_btree_layout.specs.Reading.{Place, places}
+use Rattle.archive_btree_layout.specs.Items.{IsHeld}
+use Rattle.archive_btree_layout.specs.Changing.{IsOutside, IsInNoValue}
+
+-- ---- indices
+
+-- what lies outside a range is in no value of the entries
+abbrev pub AreIn : Shape → ℕ → ℕ → List Place → Type 0
+AreIn v low high es = (i : ℕ) → IsOutside low high i → IsInNoValue v es i
+
+pub widened : (v : Shape) (low from to high : ℕ) (es : List Place) → low ≤ from → to ≤ high → AreIn v from to es → AreIn v low high es
+widened v low from to high es below above h i out = h i (λ le. let past = out (omega arith) in omega arith)
+
+pub none_in : (v : Shape) (low high : ℕ) → AreIn v low high []
+none_in v low high i out = All-nil _
+
+pub places_in : (n : ℕ) (k : Shape) (key : ℕ) (v : Shape) (value : ℕ) → AreIn v value (value + n * size_of v) (places n k key v value)
+places_in zero k key v value i out = All-nil _
+places_in (suc n) k key v value i out =
+    All-cons (λ e. IsOutside e.value (e.value + size_of v) i) (record { key = key; value = value }) (places n k (key + size_of k) v (value + size_of v))
+    (λ le. let past = out le in omega (arith, past))
+    (places_in n k (key + size_of k) v (value + size_of v) i (λ le. let past = out (omega arith) in omega (arith, past)))
+
+-- the items between two children's are a place and those behind it
+pub between_in : (v : Shape) (p : Place) (es fs : List Place) (i : ℕ) → IsInNoValue v es i → IsOutside p.value (p.value + size_of v) i → IsInNoValue v fs i → IsInNoValue v (es ++ p ∷ fs) i
+between_in v p es fs i a b c =
+    let P : Place → Type 0 = λ e. IsOutside e.value (e.value + size_of v) i in
+    All-append P es (p ∷ fs) a (All-cons P p fs b c)
+
+-- ---- bytes
+
+module _ (xs ys : List ℕ) where
+  -- two lists have the same bytes from one index up to another
+  abbrev pub AreSame : ℕ → ℕ → Type 0
+  AreSame low high = (i : ℕ) → low ≤ i → i < high → slice_index ys i ≡ slice_index xs i
+
+  byte_same : (pos : ℕ) → AreSame pos (pos + 4) → (i : ℕ) → i < 4 → slice_index (drop pos ys) i ≡ slice_index (drop pos xs) i
+  byte_same pos same i h = get_or-drop pos ys i 0 ∙ same (pos + i) (omega arith) (omega arith) ∙ sym (get_or-drop pos xs i 0)
+
+  pub word_same : (pos : ℕ) → AreSame pos (pos + 4) → word_at ys pos ≡ word_at xs pos
+  unfolding word_at
+  word_same pos same =
+      let b0 = byte_same pos same 0 (omega arith) in
+      let b1 = byte_same pos same 1 (omega arith) in
+      let b2 = byte_same pos same 2 (omega arith) in
+      let b3 = byte_same pos same 3 (omega arith) in
+      rw (b0, b1, b2, b3)
+
+  length_window : (zs : List ℕ) (start size : ℕ) → start + size ≤ length zs → length (window zs start size) ≡ size
+  length_window zs start size room = let d = length-drop start zs in length-take-le size (drop start zs) (omega arith)
+
+  byte_in : (zs : List ℕ) (start size i : ℕ) → i < size → slice_index (window zs start size) i ≡ slice_index zs (start + i)
+  byte_in zs start size i h = get_or-take size (drop start zs) i 0 h ∙ get_or-drop start zs i 0
+
+  pub window_same : (start size : ℕ) → start + size ≤ length xs → start + size ≤ length ys → AreSame start (start + size) → AgreesOn xs ys start size
+  window_same start size here there same =
+      let a = length_window xs start size here in
+      let b = length_window ys start size there in
+      ext_get_or 0 (window xs start size) (window ys start size) (a ∙ sym b)
+      (λ i h. let below : i < size = omega arith in byte_in xs start size i below ∙ sym (same (start + i) (omega arith) (omega arith)) ∙ sym (byte_in ys start size i below))
+
+  pub regions_same : (low high : ℕ) (rs : List Region) → high ≤ length xs → high ≤ length ys → AreSame low high → Ascends low high rs → RegionsAgree xs ys rs
+  unfolding Ascends RegionsAgree
+  regions_same low high [] here there same a = tt
+  regions_same low high (r ∷ rs) here there same a =
+      let from = a.0.after in
+      let to = a.0.inside in (
+        window_same r.start r.size (omega arith) (omega arith) (λ i le lt. same i (omega arith) (omega arith)),
+        regions_same (r.start + r.size) high rs here there (λ i le lt. same i (omega arith) lt) a.1,
+      )
+
+  -- what is held is held in bytes that agree on its own and on what is claimed
+  pub held_same : (names : Names) (s : Shape) {depth : ℕ} {inside : List OpenShared} {value : Value} {rs : List Region} {before after : List Visit} (low high start : ℕ)
+      → high ≤ start → start + size_of s ≤ length xs → start + size_of s ≤ length ys
+      → AreSame low high → AgreesOn xs ys start (size_of s)
+      → Ascends low high rs → Holds names xs depth inside (at start s) value rs before after
+      → IsHeld names ys s start value
+  held_same names s {depth} {inside} {value} {rs} {before} {after} low high start below here there same own a h =
+      record {
+        depth = depth;
+        inside = inside;
+        regions = rs;
+        before = before;
+        after = after;
+        own_within = there;
+        ascends = ascends_lowered 0 low start rs (omega arith) (ascends_raised low high start rs below a);
+        holds = frame xs ys names own (regions_same low high rs (omega arith) (omega arith) same a) h;
+      }
+
+-- bytes from one index up to another are the same, but for the values of entries
+pub record Agrees (v : Shape) (es : List Place) (xs ys : List ℕ) (low high : ℕ) : Type 0 where
+  pub same_length : length ys ≡ length xs
+  pub same : (i : ℕ) → low ≤ i → i < high → IsInNoValue v es i → slice_index ys i ≡ slice_index xs i
+
+-- what lies before a position is the same without the rest
+pub take_same : (n low high : ℕ) (xs ys : List ℕ) → high ≤ n → AreSame xs ys low high → AreSame xs (take n ys) low high
+take_same n low high xs ys le same i a b = get_or-take n ys i 0 (omega arith) ∙ same i a b

@@ -1,0 +1,6 @@
+pub mod One
+pub mod Read
+pub mod Refs
+pub mod Roots
+pub mod Held
+pub mod Links

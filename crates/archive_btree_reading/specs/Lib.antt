@@ -1,0 +1,4 @@
+pub mod Maps
+pub mod Refs
+pub mod Lookups
+pub mod Visits

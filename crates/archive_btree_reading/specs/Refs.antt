@@ -1,0 +1,22 @@
+-- The keys and values that stand at places of a buffer.
+use denote.Ref.{Bor}
+use Rattle.std.specs.Prelude.{ℕ, List}
+use Rattle.archive_shape_references.specs.declared.refs.Ref.{Ref}
+use Rattle.archive_btree_layout.specs.Reading.{Place}
+
+module _ (bytes : Bor (List ℕ)) where
+  -- the value at a position of a buffer
+  abbrev pub ref_at : {T : Type 0} → ℕ → Ref T
+  ref_at p = record { bytes = bytes; pos = p; of = record {} }
+
+  -- the key of an entry
+  abbrev pub key_at : {K : Type 0} → Place → Ref K
+  key_at e = ref_at e.key
+
+  -- its value
+  abbrev pub value_at : {V : Type 0} → Place → Ref V
+  value_at e = ref_at e.value
+
+  -- both
+  abbrev pub entry_at : {K V : Type 0} → Place → Ref K × Ref V
+  entry_at e = (key_at e, value_at e)

@@ -1,0 +1,16 @@
+//! Archived B-tree maps and sets.
+#![tactic(auto)]
+
+mod iter;
+mod laws;
+mod lookup;
+mod map;
+mod resolving;
+mod root;
+mod seal;
+mod walking;
+
+pub use iter::{Iter, Keys, Values};
+pub use laws::{map_is_read, one_map};
+pub use map::ArchivedBTreeMap;
+pub use resolving::BTreeMapResolver;

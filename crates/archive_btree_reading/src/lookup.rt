@@ -1,0 +1,185 @@
+//! Look-ups of keys in archived B-tree maps.
+ghost use Rattle.std.specs.Prelude.{◌≡◌, ℕ, ◌-◌, ◌^◌, ◌<◌, ◌↔◌, IsTrue, Some, IfSome, min, All, Contains};
+ghost use Rattle.std.specs.Option.{option_map, is_some};
+ghost use Rattle.std.specs.Ordering.{ordering_reverse};
+ghost use Rattle.std.specs.declared.cmp.Ordering.{Ordering};
+ghost use Rattle.archive_shape_layout.specs.Shape.Shape.{tree};
+ghost use Rattle.archive_btree_layout.specs.Tree.{Tree, items};
+ghost use Rattle.archive_btree_layout.specs.Descent.{descend, met};
+ghost use Rattle.archive_btree_layout.specs.Reading.{Place};
+ghost use Rattle.archive_btree_searching.specs.Nodes.{place_of};
+ghost use Rattle.archive_btree_searching.specs.Searching.{IsAmong, Orders};
+ghost use Rattle.archive_forms_reading.specs.Parts.{HasValue, both};
+ghost use Rattle.archive_btree_reading.specs.Maps.{IsMapAt};
+ghost use Rattle.archive_btree_reading.specs.Refs.{key_at, value_at, entry_at};
+ghost use Rattle.archive_btree_reading.specs.Lookups.{QueryOrders, IsEqualKey, CallsEqual, Finds, HasKey, CallsOrder};
+
+use crate::ArchivedBTreeMap;
+use crate::root::root_at;
+use archive_btree_searching::{EntryAt, search_counted};
+use archive_shape::ArchivedKey;
+use archive_shape_portable::Portable;
+use archive_shape_references::Ref;
+use std::cmp::Ordering;
+
+/// Searches the map at `pos`, and counts the keys that it compares. `compare` says how the query compares with the key at
+/// a position.
+fn search_map<K: Portable, V: Portable, F: Fn(usize) -> Ordering, const E: usize>(
+    bytes: &[u8],
+    pos: usize,
+    compare: &F,
+) -> (Option<EntryAt>, usize)
+    requires has { HasValue (tree E K.shape V.shape) (both K.knows V.knows) bytes.now pos }
+    requires callable { (t : Tree Place) → IsMapAt bytes.now E K.shape V.shape pos t → All (λ e. F.pre compare.now e.key) (items t) }
+    ensures found { (t : Tree Place) → IsMapAt bytes.now E K.shape V.shape pos t → IsAmong F.post compare.now (items t) result.0 }
+    ensures answers { (t : Tree Place) (order : Place → Ordering) → IsMapAt bytes.now E K.shape V.shape pos t → Orders F.post compare.now order (items t)
+        → (option_map place_of result.0 ≡ descend order t) × (result.1 ≡ min (met order t) (2 ^ 64 - 1)) }
+{
+    match root_at::<K, V, E>(bytes, pos) {
+        Some(root) => search_counted(bytes, root.pos, root.layout, compare),
+        None => (None, 0),
+    }
+}
+
+/// Searches the map at `pos` for a key, and counts the keys that it compares.
+pub(crate) fn search_key<Q, K: ArchivedKey<Q>, V: Portable, const E: usize>(
+    bytes: &[u8],
+    pos: usize,
+    query: &Q,
+) -> (Option<EntryAt>, usize)
+    requires has { HasValue (tree E K.shape V.shape) (both K.knows V.knows) bytes.now pos }
+    ensures found { (t : Tree Place) → IsMapAt bytes.now E K.shape V.shape pos t
+        → Finds (λ e. e) (IsEqualKey K.key_of K.order bytes.now query.now) (items t) (option_map place_of result.0) }
+    ensures answers { (t : Tree Place) (order : Place → Ordering) → IsMapAt bytes.now E K.shape V.shape pos t → QueryOrders K.key_of K.order bytes.now query.now order (items t)
+        → (option_map place_of result.0 ≡ descend order t) × (result.1 ≡ min (met order t) (2 ^ 64 - 1)) }
+{
+    let compare = |at: usize| -> Ordering
+        requires { K.is_key bytes.now at }
+        ensures { (key : Q) × K.key_of bytes.entry.now at key × (result ≡ ordering_reverse (K.order key query.entry.now)) }
+    { K::compare(&Ref::new(bytes, at), query).reverse() };
+    search_map::<K, V, _, E>(bytes, pos, &compare)
+}
+
+impl<K, V: Portable, const E: usize> ArchivedBTreeMap<K, V, E> {
+    /// The value of a key, if the map has the key, and how many keys the search compared. The count stops at `usize::MAX`.
+    pub fn get_counted<'a, Q>(
+        this: Ref<'a, ArchivedBTreeMap<K, V, E>>,
+        query: &Q,
+    ) -> (Option<Ref<'a, V>>, usize)
+    where
+        K: ArchivedKey<Q>,
+        requires has { HasValue (tree E K.shape V.shape) (both K.knows V.knows) this.bytes.now this.pos }
+        ensures there { IfSome result.0 (λ r. HasValue V.shape V.knows r.bytes.now r.pos) }
+        ensures found { (t : Tree Place) → IsMapAt this.entry.bytes.now E K.shape V.shape this.entry.pos t
+            → Finds (value_at this.entry.bytes) (IsEqualKey K.key_of K.order this.entry.bytes.now query.now) (items t) result.0 }
+        ensures answers { (t : Tree Place) (order : Place → Ordering) → IsMapAt this.entry.bytes.now E K.shape V.shape this.entry.pos t
+            → QueryOrders K.key_of K.order this.entry.bytes.now query.now order (items t)
+            → (result.0 ≡ option_map (value_at this.entry.bytes) (descend order t)) × (result.1 ≡ min (met order t) (2 ^ 64 - 1)) }
+    {
+        match search_key::<Q, K, V, E>(this.bytes, this.pos, query) {
+            (Some(entry), count) => (Some(Ref::new(this.bytes, entry.value)), count),
+            (None, count) => (None, count),
+        }
+    }
+
+    /// The value of a key, if the map has the key.
+    pub fn get<'a, Q>(this: Ref<'a, ArchivedBTreeMap<K, V, E>>, query: &Q) -> Option<Ref<'a, V>>
+    where
+        K: ArchivedKey<Q>,
+        requires has { HasValue (tree E K.shape V.shape) (both K.knows V.knows) this.bytes.now this.pos }
+        ensures there { IfSome result (λ r. HasValue V.shape V.knows r.bytes.now r.pos) }
+        ensures found { (t : Tree Place) → IsMapAt this.entry.bytes.now E K.shape V.shape this.entry.pos t
+            → Finds (value_at this.entry.bytes) (IsEqualKey K.key_of K.order this.entry.bytes.now query.now) (items t) result }
+        ensures answers { (t : Tree Place) (order : Place → Ordering) → IsMapAt this.entry.bytes.now E K.shape V.shape this.entry.pos t
+            → QueryOrders K.key_of K.order this.entry.bytes.now query.now order (items t)
+            → result ≡ option_map (value_at this.entry.bytes) (descend order t) }
+    {
+        ArchivedBTreeMap::get_counted(this, query).0
+    }
+
+    /// A key and its value, if the map has the key.
+    pub fn get_key_value<'a, Q>(
+        this: Ref<'a, ArchivedBTreeMap<K, V, E>>,
+        query: &Q,
+    ) -> Option<(Ref<'a, K>, Ref<'a, V>)>
+    where
+        K: ArchivedKey<Q>,
+        requires has { HasValue (tree E K.shape V.shape) (both K.knows V.knows) this.bytes.now this.pos }
+        ensures there { IfSome result (λ r. HasValue K.shape K.knows r.0.bytes.now r.0.pos × HasValue V.shape V.knows r.1.bytes.now r.1.pos) }
+        ensures found { (t : Tree Place) → IsMapAt this.entry.bytes.now E K.shape V.shape this.entry.pos t
+            → Finds (entry_at this.entry.bytes) (IsEqualKey K.key_of K.order this.entry.bytes.now query.now) (items t) result }
+        ensures answers { (t : Tree Place) (order : Place → Ordering) → IsMapAt this.entry.bytes.now E K.shape V.shape this.entry.pos t
+            → QueryOrders K.key_of K.order this.entry.bytes.now query.now order (items t)
+            → result ≡ option_map (entry_at this.entry.bytes) (descend order t) }
+    {
+        match search_key::<Q, K, V, E>(this.bytes, this.pos, query).0 {
+            Some(entry) => Some((
+                Ref::new(this.bytes, entry.key),
+                Ref::new(this.bytes, entry.value),
+            )),
+            None => None,
+        }
+    }
+
+    /// Whether the map has a key.
+    pub fn contains_key<Q>(this: Ref<'_, ArchivedBTreeMap<K, V, E>>, query: &Q) -> bool
+    where
+        K: ArchivedKey<Q>,
+        requires has { HasValue (tree E K.shape V.shape) (both K.knows V.knows) this.bytes.now this.pos }
+        ensures found { (t : Tree Place) → IsMapAt this.entry.bytes.now E K.shape V.shape this.entry.pos t
+            → IsTrue result → (e : Place) × Contains (items t) e × IsEqualKey K.key_of K.order this.entry.bytes.now query.now e }
+        ensures answers { (t : Tree Place) (order : Place → Ordering) → IsMapAt this.entry.bytes.now E K.shape V.shape this.entry.pos t
+            → QueryOrders K.key_of K.order this.entry.bytes.now query.now order (items t)
+            → result ≡ is_some (descend order t) }
+    {
+        search_key::<Q, K, V, E>(this.bytes, this.pos, query)
+            .0
+            .is_some()
+    }
+
+    /// The value of a key that the map has.
+    pub fn index<'a, Q>(this: Ref<'a, ArchivedBTreeMap<K, V, E>>, query: &Q) -> Ref<'a, V>
+    where
+        K: ArchivedKey<Q>,
+        requires has { HasValue (tree E K.shape V.shape) (both K.knows V.knows) this.bytes.now this.pos }
+        requires present { HasKey K.key_of K.order this.bytes.now E K.shape V.shape this.pos query.now }
+        ensures there { HasValue V.shape V.knows result.bytes.now result.pos }
+        ensures found { (t : Tree Place) → IsMapAt this.entry.bytes.now E K.shape V.shape this.entry.pos t
+            → Finds (value_at this.entry.bytes) (IsEqualKey K.key_of K.order this.entry.bytes.now query.now) (items t) (Some result) }
+        ensures answers { (t : Tree Place) (order : Place → Ordering) → IsMapAt this.entry.bytes.now E K.shape V.shape this.entry.pos t
+            → QueryOrders K.key_of K.order this.entry.bytes.now query.now order (items t)
+            → Some result ≡ option_map (value_at this.entry.bytes) (descend order t) }
+    {
+        ArchivedBTreeMap::get(this, query).unwrap()
+    }
+}
+
+impl<K: Portable, V: Portable, const E: usize> ArchivedBTreeMap<K, V, E> {
+    /// The entry that the caller's comparison finds. `compare` says how the query compares with a key: where it does not
+    /// agree with the order of the keys, an entry may not be found.
+    pub fn get_key_value_with<'a, Q, F: Fn(&Q, Ref<'a, K>) -> Ordering>(
+        this: Ref<'a, ArchivedBTreeMap<K, V, E>>,
+        query: &Q,
+        compare: &F,
+    ) -> Option<(Ref<'a, K>, Ref<'a, V>)>
+        requires has { HasValue (tree E K.shape V.shape) (both K.knows V.knows) this.bytes.now this.pos }
+        requires callable { (t : Tree Place) → IsMapAt this.bytes.now E K.shape V.shape this.pos t
+            → All (λ e. F.pre compare.now query (key_at this.bytes e)) (items t) }
+        ensures there { IfSome result (λ r. HasValue K.shape K.knows r.0.bytes.now r.0.pos × HasValue V.shape V.knows r.1.bytes.now r.1.pos) }
+        ensures found { (t : Tree Place) → IsMapAt this.entry.bytes.now E K.shape V.shape this.entry.pos t
+            → Finds (entry_at this.entry.bytes) (CallsEqual F.post compare.now query.entry this.entry.bytes) (items t) result }
+        ensures answers { (t : Tree Place) (order : Place → Ordering) → IsMapAt this.entry.bytes.now E K.shape V.shape this.entry.pos t
+            → CallsOrder F.post compare.now query.entry this.entry.bytes order (items t)
+            → result ≡ option_map (entry_at this.entry.bytes) (descend order t) }
+    {
+        let bytes = this.bytes;
+        let compare_at = |at: usize| -> Ordering
+            requires { F.pre compare.now query (key_at bytes (record { key = at; value = 0 })) }
+            ensures { F.post compare.entry.now query.entry (key_at bytes.entry (record { key = at; value = 0 })) result }
+        { compare(query, Ref::new(bytes, at)) };
+        match search_map::<K, V, _, E>(bytes, this.pos, &compare_at).0 {
+            Some(entry) => Some((Ref::new(bytes, entry.key), Ref::new(bytes, entry.value))),
+            None => None,
+        }
+    }
+}

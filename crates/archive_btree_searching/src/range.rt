@@ -1,0 +1,109 @@
+//! Walks over the entries between two bounds.
+ghost use Rattle.std.specs.Prelude.{◌≡◌, ◌&&◌, not, Bool, List, [], All, filter};
+ghost use Rattle.std.specs.Iterator.{YieldsFirstBy, item_count};
+ghost use Rattle.archive_btree_layout.specs.Tree.{Tree, items};
+ghost use Rattle.archive_btree_layout.specs.Reading.{Place};
+ghost use Rattle.archive_btree_searching.specs.Layout.{IsTreeAt};
+ghost use Rattle.archive_btree_searching.specs.Nodes.{place_of};
+ghost use Rattle.archive_btree_searching.specs.Ranges.{Decides, Stays, IsRun};
+
+use crate::EntryAt;
+use crate::walk::{Stack, pass_entry};
+use archive_btree_nodes::NodeLayout;
+use std::iter::FusedIterator;
+use std::marker::Model;
+
+/// A walk over the entries of a tree between two bounds, in their order. It is seen as the items that are left.
+#[derive(Clone, Drop)]
+pub struct Range<'a> {
+    bytes: &'a [u8],
+    layout: NodeLayout,
+    stack: Stack,
+    /// Where the key of the first entry behind the range stands, if there is one.
+    end: Option<usize>,
+}
+
+impl<'a> Model for Range<'a> {
+    ghost use Rattle.std.specs.Prelude.{List};
+    ghost use Rattle.archive_btree_layout.specs.Reading.{Place};
+
+    ghost Value = { List Place };
+
+    ghost use Rattle.archive_btree_searching.specs.Walking.{stack_items, IsStack};
+    ghost use Rattle.archive_btree_searching.specs.Ranges.{before_key};
+
+    ghost view = { λ w. before_key w.end (stack_items w.bytes.now w.layout w.stack.nodes w.stack.nexts w.stack.depth) };
+
+    ghost invariant = { λ w. IsStack w.bytes.now w.layout w.stack.nodes w.stack.nexts w.stack.depth };
+}
+
+impl<'a> Range<'a> {
+    /// A walk over the entries of the tree at a root that lie neither before nor behind a range. `precedes` says whether
+    /// the key at a position lies before the range, and `follows` whether it lies behind it. Where the first entry that
+    /// lies not before the range lies behind it, the walk has no entries. `next` calls neither of the two.
+    pub fn new<F: Fn(usize) -> bool, G: Fn(usize) -> bool>(
+        bytes: &'a [u8],
+        root: usize,
+        layout: NodeLayout,
+        precedes: &F,
+        follows: &G,
+    ) -> Self
+        requires tree { (t : Tree Place) × IsTreeAt bytes.now layout 1 root t
+            × All (λ e. F.pre precedes.now e.key) (items t) × All (λ e. G.pre follows.now e.key) (items t) }
+        ensures within { (t : Tree Place) → IsTreeAt bytes.now layout 1 root t → IsRun result (items t) }
+        ensures between { (t : Tree Place) (p q : Place → Bool) → IsTreeAt bytes.now layout 1 root t
+            → Decides F.post precedes.now p (items t) → Decides G.post follows.now q (items t)
+            → Stays (λ e. not (p e)) (items t) → Stays q (items t)
+            → result ≡ filter (λ e. not (p e) && not (q e)) (items t) }
+    {
+        let stack = Stack::behind(bytes, root, layout, precedes);
+        let Some(first) = stack.next_key(bytes, layout) else {
+            return Range::empty(bytes, layout);
+        };
+        let is_behind = follows(first);
+        if is_behind {
+            return Range::empty(bytes, layout);
+        }
+        let is_before_end = |key: usize| -> bool
+            requires { G.pre follows.now key }
+            ensures { G.post follows.entry.now key (not result) }
+        { !follows(key) };
+        Range {
+            bytes,
+            layout,
+            stack,
+            end: Stack::behind(bytes, root, layout, &is_before_end).next_key(bytes, layout),
+        }
+    }
+
+    /// A walk over no entries.
+    pub fn empty(bytes: &'a [u8], layout: NodeLayout) -> Self
+        ensures { result ≡ [] }
+    {
+        Range {
+            bytes,
+            layout,
+            stack: Stack::new(),
+            end: None,
+        }
+    }
+}
+
+impl<'a> Iterator for Range<'a> {
+    type Item = EntryAt;
+
+    ghost next_gives = { YieldsFirstBy place_of (λ xs. xs) };
+
+    ghost remaining = { item_count (λ xs. xs) };
+
+    fn next(&mut self) -> Option<EntryAt> {
+        let entry = pass_entry(&mut self.stack, self.bytes, self.layout)?;
+        if self.end == Some(entry.key) {
+            self.stack = Stack::new();
+            return None;
+        }
+        Some(entry)
+    }
+}
+
+impl<'a> FusedIterator for Range<'a> {}
