@@ -10,5 +10,4 @@ mod maps;
 mod nodes;
 mod words;
 
-pub use layout::{NodeLayout, node_layout};
 pub use maps::check_btree_each;

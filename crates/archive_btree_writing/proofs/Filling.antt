@@ -8,8 +8,8 @@ use Rattle.archive_shape_layout.proofs.Framed.{le_align_up, keys_fit, values_fit
 use Rattle.archive_shape_references.specs.Bytes.{HasBytes, zeros, overwrite}
 use Rattle.archive_shape_references.proofs.Written.{length-overwrite, window_there}
 use Rattle.archive_btree_spelling.specs.Written.{filled}
-use Rattle.archive_btree_checking.specs.declared.layout.NodeLayout.{NodeLayout}
-use Rattle.archive_btree_checking.specs.Layout.{IsNodeLayout}
+use Rattle.archive_btree_nodes.specs.declared.layout.NodeLayout.{NodeLayout}
+use Rattle.archive_btree_nodes.specs.Layout.{IsNodeLayout}
 use Rattle.archive_forms_writing.proofs.Joining.{still_zero, piece_behind, zeros_behind, whole_over, set_over}
 use Rattle.archive_btree_writing.specs.Nodes.{kind_of, AreChildren, words_size}
 

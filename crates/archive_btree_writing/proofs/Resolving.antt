@@ -9,8 +9,8 @@ use Rattle.archive_shape_writing.specs.declared.error.Error.{Error}
 use Rattle.archive_forms_spelling.specs.State.{State}
 use Rattle.archive_forms_spelling.specs.Spelling.{Spelling, state_after}
 use Rattle.archive_btree_spelling.specs.Written.{slots, AllSlots, AnySlot, filled, entry_spelling, key_own, value_own, own_bytes, own_size, words, slots_fit, slots_refused, LinksFit, LinksRefused}
-use Rattle.archive_btree_checking.specs.declared.layout.NodeLayout.{NodeLayout}
-use Rattle.archive_btree_checking.specs.Layout.{IsNodeLayout}
+use Rattle.archive_btree_nodes.specs.declared.layout.NodeLayout.{NodeLayout}
+use Rattle.archive_btree_nodes.specs.Layout.{IsNodeLayout}
 use Rattle.archive_btree_writing.specs.Nodes.{kind_of, roots_of, node_of, AreChildren, words_behind, words_size}
 use Rattle.archive_btree_writing.proofs.Slots.{length-slots}
 use Rattle.archive_btree_writing.proofs.Pointers.{length-links}

@@ -7,12 +7,12 @@ ghost use Rattle.archive_forms_spelling.specs.State.{State};
 ghost use Rattle.archive_forms_spelling.specs.Serializing.{Lays};
 ghost use Rattle.archive_forms_spelling.specs.Regions.{resolvers};
 ghost use Rattle.archive_btree_spelling.specs.Written.{own_size, own_bytes, slots_fit, slots_refused};
-ghost use Rattle.archive_btree_checking.specs.Layout.{as_usize, IsNodeLayout};
+ghost use Rattle.archive_btree_nodes.specs.Layout.{as_usize, IsNodeLayout};
 ghost use Rattle.archive_btree_writing.specs.Nodes.{borrowed, borrowed_entry, kind_of, node_of, AreChildren, LaysBehind};
 
 use crate::entries::{resolve_keys, resolve_values};
 use crate::words::store_words;
-use archive_btree_checking::{NodeLayout, node_layout};
+use archive_btree_nodes::NodeLayout;
 use archive_forms_writing::{Archive, align};
 use archive_shape::{Allocator, Error, Portable, Writer};
 
@@ -189,7 +189,7 @@ pub fn write_behind<'a, K: Archive, V: Archive, S: Writer + Allocator, const E: 
     ensures { (st : State) → kept.now ≡ resolvers (borrowed_entry E K.Archived.shape V.Archived.shape K.spelling V.spelling) entries.now st
         → LaysBehind E K.Archived.shape V.Archived.shape (borrowed K.spelling) (borrowed V.spelling) S.Writer (node_of children.entry entries.now) st serializer.old serializer.new (S.pos serializer.old) result }
 {
-    let layout = node_layout::<K::Archived, V::Archived, E>();
+    let layout = NodeLayout::of::<K::Archived, V::Archived, E>();
     let to = align(serializer, layout.link_align)?;
     let size = node_size::<K::Archived, V::Archived, E>(&layout, children);
     check_place(to, size)?;
