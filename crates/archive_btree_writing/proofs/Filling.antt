@@ -1,7 +1,6 @@
 -- A node's bytes, which are written part by part over zeros.
 use Rattle.std.proofs.Common.{◌≡◌, ℕ, ◌+◌, ◌-◌, ◌*◌, ◌^◌, ◌≤◌, ◌<◌, max, min, set, List, [], ◌∷◌, ◌++◌, length, refl, arith, length-append, append_assoc, ap, sym, subst, ◌∙◌, mul-le-mul_right, Some, None, Option}
 use Rattle.std.proofs.lemmas.List.{length-replicate}
-use denote.Bor.{Bor}
 use Rattle.archive_shape_layout.specs.Shape.{Shape, size_of, align_of}
 use Rattle.archive_shape_layout.specs.Content.{keys_offset, values_offset, links_offset, link_node_size, words_of}
 use Rattle.archive_shape_layout.proofs.Framed.{le_align_up, keys_fit, values_fit, links_fit}
@@ -10,6 +9,7 @@ use Rattle.archive_shape_references.proofs.Written.{length-overwrite, window_the
 use Rattle.archive_btree_spelling.specs.Written.{filled}
 use Rattle.archive_btree_nodes.specs.declared.layout.NodeLayout.{NodeLayout}
 use Rattle.archive_btree_nodes.specs.Layout.{IsNodeLayout}
+use Rattle.archive_btree_writing.specs.declared.children.Children.{Children}
 use Rattle.archive_forms_writing.proofs.Joining.{still_zero, piece_behind, zeros_behind, whole_over, set_over}
 use Rattle.archive_btree_writing.specs.Nodes.{kind_of, AreChildren, words_size}
 
@@ -47,9 +47,9 @@ parts most k v words count layout is few small some =
     }
 
 -- what stands behind the values is as many words
-pub words_counted : (most : ℕ) (children : Option (Bor (List (Option ℕ)))) → AreChildren most children → words_size children ≡ words_of (kind_of children) most * 4
+pub words_counted : (most : ℕ) (children : Option Children) → AreChildren most children → words_size children ≡ words_of (kind_of children) most * 4
 words_counted most None e = refl
-words_counted most (Some children) e = ap (λ n. n * 4) e
+words_counted most (Some children) e = omega (arith, e)
 
 -- ---- zeros that are filled from the front
 

@@ -1,7 +1,6 @@
 -- The parts of a node, which are written one after the other over zeros.
 use Rattle.std.proofs.Common.{◌≡◌, ℕ, ◌+◌, ◌-◌, ◌*◌, ◌^◌, ◌≤◌, ◌<◌, set, List, [], ◌∷◌, ◌++◌, length, refl, arith, length-append, ap, ap₂, sym, subst, ◌∙◌, inl, inr, Some, None, Option, Ok, Err}
 use Rattle.std.specs.Prelude.{Result, MatchResult}
-use denote.Bor.{Bor}
 use Rattle.archive_shape_layout.specs.Shape.{Shape, size_of}
 use Rattle.archive_shape_layout.specs.Content.{keys_offset, values_offset, links_offset, link_node_size, words_of}
 use Rattle.archive_shape_references.specs.Bytes.{HasBytes, zeros, overwrite}
@@ -11,26 +10,27 @@ use Rattle.archive_forms_spelling.specs.Spelling.{Spelling, state_after}
 use Rattle.archive_btree_spelling.specs.Written.{slots, AllSlots, AnySlot, filled, entry_spelling, key_own, value_own, own_bytes, own_size, words, slots_fit, slots_refused, LinksFit, LinksRefused}
 use Rattle.archive_btree_nodes.specs.declared.layout.NodeLayout.{NodeLayout}
 use Rattle.archive_btree_nodes.specs.Layout.{IsNodeLayout}
-use Rattle.archive_btree_writing.specs.Nodes.{kind_of, roots_of, node_of, AreChildren, words_behind, words_size}
+use Rattle.archive_btree_writing.specs.declared.children.Children.{Children}
+use Rattle.archive_btree_writing.specs.Nodes.{children_of, kind_of, roots_of, node_of, AreChildren, words_behind, words_size}
 use Rattle.archive_btree_writing.proofs.Slots.{length-slots}
 use Rattle.archive_btree_writing.proofs.Pointers.{length-links}
 use Rattle.archive_btree_writing.proofs.Filling.{Parts, parts, words_counted, length-filled, Filled, size_is, filled_first, filled_next, four_filled}
 
-some_words : (most : ℕ) (children : Option (Bor (List (Option ℕ)))) → 0 < words_of (kind_of children) most
+some_words : (most : ℕ) (children : Option Children) → 0 < words_of (kind_of children) most
 some_words most None = omega arith
 some_words most (Some children) = omega arith
 
-length-words : (children : Option (Bor (List (Option ℕ)))) (len pos : ℕ) → length (words_behind children len pos) ≡ words_size children
+length-words : (children : Option Children) (len pos : ℕ) → length (words_behind children len pos) ≡ words_size children
 length-words None len pos = refl
-length-words (Some children) len pos = length-links children.now pos
+length-words (Some children) len pos = length-links (children_of children) pos ∙ omega (arith, length-append children.lesser.now (children.greater ∷ []))
 
 module _ {A B R Q : Type 0} (most : ℕ) (k v : Shape) (keys : Spelling A R) (vals : Spelling B Q) where
-  words_are : (children : Option (Bor (List (Option ℕ)))) (es : List (A × B)) (pos : ℕ) → words most k v keys vals (kind_of children) (node_of children es) pos ≡ words_behind children (length es) pos
+  words_are : (children : Option Children) (es : List (A × B)) (pos : ℕ) → words most k v keys vals (kind_of children) (node_of children es) pos ≡ words_behind children (length es) pos
   words_are None es pos = refl
   words_are (Some children) es pos = refl
 
   -- a node is to be written over zeros, which will stand at a position
-  pub record Given (layout : NodeLayout) (children : Option (Bor (List (Option ℕ)))) (es : List (A × B)) (pos : ℕ) (bytes : List ℕ) : Type 0 where
+  pub record Given (layout : NodeLayout) (children : Option Children) (es : List (A × B)) (pos : ℕ) (bytes : List ℕ) : Type 0 where
     pub sized_key : (x : A) (r : R) (at : ℕ) → keys.own_fits x r at → length (keys.own x r at) ≡ size_of k
     pub sized_value : (x : B) (r : Q) (at : ℕ) → vals.own_fits x r at → length (vals.own x r at) ≡ size_of v
     pub is : IsNodeLayout most k v layout
@@ -39,7 +39,7 @@ module _ {A B R Q : Type 0} (most : ℕ) (k v : Shape) (keys : Spelling A R) (va
     pub blank : bytes ≡ zeros (link_node_size (words_of (kind_of children) most) most k v)
     pub stands : pos + link_node_size (words_of (kind_of children) most) most k v < 2 ^ 64
 
-  module _ {layout : NodeLayout} {children : Option (Bor (List (Option ℕ)))} {es : List (A × B)} {pos : ℕ} {bytes : List ℕ} (given : Given layout children es pos bytes) where
+  module _ {layout : NodeLayout} {children : Option Children} {es : List (A × B)} {pos : ℕ} {bytes : List ℕ} (given : Given layout children es pos bytes) where
     abbrev size : ℕ
     size = link_node_size (words_of (kind_of children) most) most k v
 

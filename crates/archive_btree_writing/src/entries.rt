@@ -1,5 +1,5 @@
 //! The entries of a node: their data, and their own bytes.
-ghost use Rattle.std.specs.Prelude.{◌≡◌, ℕ, ◌+◌, ◌-◌, ◌*◌, ◌^◌, ◌<◌, ◌≤◌, length, take, map, [], ◌∷◌, MatchResult};
+ghost use Rattle.std.specs.Prelude.{◌≡◌, ℕ, ◌+◌, ◌-◌, ◌*◌, ◌^◌, ◌<◌, ◌≤◌, length, take, [], ◌∷◌, MatchResult};
 ghost use Rattle.archive_shape_layout.specs.Shape.{size_of};
 ghost use Rattle.archive_shape_references.specs.Bytes.{HasBytes, zeros, overwrite};
 ghost use Rattle.archive_forms_spelling.specs.State.{State};
@@ -9,6 +9,7 @@ ghost use Rattle.archive_forms_spelling.specs.Regions.{state_after_all, pieces, 
 ghost use Rattle.archive_forms_writing.specs.Steps.{StepTakes, StepWrites};
 ghost use Rattle.archive_btree_spelling.specs.Written.{slots, AllSlots, AnySlot, key_own, value_own};
 ghost use Rattle.archive_btree_writing.specs.Nodes.{borrowed, borrowed_entry};
+ghost use Rattle.archive_btree_writing.specs.Steps.{EntrySteps};
 
 use archive_forms_writing::Archive;
 use archive_shape::{Allocator, Error, Place, Portable, Writer};
@@ -67,10 +68,7 @@ pub fn serialize_entries<
     requires few { length entries.now ≤ E }
     requires room { S.failures serializer.old < 2 ^ 64 - 1 }
     requires state { HasState S.pos S.known serializer.old }
-    requires takes_key { StepTakes F.Fn S.Writer key_step.now (map (λ e. e.0.now) entries.now) }
-    requires writes_key { StepWrites F.Fn (λ q. q.0) K.spelling S.Writer key_step.now }
-    requires takes_value { StepTakes G.Fn S.Writer value_step.now (map (λ e. e.1.now) entries.now) }
-    requires writes_value { StepWrites G.Fn (λ q. q.0) V.spelling S.Writer value_step.now }
+    requires steps { EntrySteps F.Fn G.Fn (λ q. q.0) (λ q. q.0) K.spelling V.spelling S.Writer key_step.now value_step.now entries.now }
     ensures { (st : State) → IsAt S.pos S.known serializer.old st
         → let w = borrowed_entry E K.Archived.shape V.Archived.shape K.spelling V.spelling in
         Lays S.Writer serializer.old serializer.new (pieces w entries.now st)

@@ -1,5 +1,5 @@
 //! Nodes that are written behind the data of their entries.
-ghost use Rattle.std.specs.Prelude.{◌≡◌, ℕ, ◌+◌, ◌-◌, ◌^◌, ◌<◌, ◌≤◌, length, IfOk, MatchResult};
+ghost use Rattle.std.specs.Prelude.{◌≡◌, ℕ, ◌+◌, ◌-◌, ◌^◌, ◌<◌, ◌≤◌, length, take, IfOk, MatchResult};
 ghost use Rattle.archive_shape_layout.specs.Content.{words_of, link_node_size};
 ghost use Rattle.archive_shape_references.specs.Bytes.{zeros};
 ghost use Rattle.archive_shape_writing.specs.declared.error.Error.TheVariants.{PositionTooLarge};
@@ -10,6 +10,7 @@ ghost use Rattle.archive_btree_spelling.specs.Written.{own_size, own_bytes, slot
 ghost use Rattle.archive_btree_nodes.specs.Layout.{as_usize, IsNodeLayout};
 ghost use Rattle.archive_btree_writing.specs.Nodes.{borrowed, borrowed_entry, kind_of, node_of, AreChildren, LaysBehind};
 
+use crate::children::Children;
 use crate::entries::{resolve_keys, resolve_values};
 use crate::words::store_words;
 use archive_btree_nodes::NodeLayout;
@@ -23,7 +24,7 @@ const LAST_POSITION: usize = u32::MAX as usize;
 const BUFFER: usize = 256;
 
 /// The first byte of a node: 0 of a leaf, and 1 of an inner node.
-fn kind(children: Option<&[Option<usize>]>) -> u8
+fn kind(children: Option<Children<'_>>) -> u8
     ensures { result ≡ kind_of children.entry }
 {
     match children {
@@ -35,7 +36,7 @@ fn kind(children: Option<&[Option<usize>]>) -> u8
 /// How many bytes a node has. The number stops at `usize::MAX`.
 fn node_size<K: Portable, V: Portable, const E: usize>(
     layout: &NodeLayout,
-    children: Option<&[Option<usize>]>,
+    children: Option<Children<'_>>,
 ) -> usize
     requires { IsNodeLayout E K.shape V.shape layout.now }
     ensures { result ≡ as_usize (link_node_size (words_of (kind_of children.entry) E) E K.shape V.shape) }
@@ -65,7 +66,7 @@ fn check_place(pos: usize, size: usize) -> Result<(), Error>
 fn resolve_node<'a, K: Archive, V: Archive, const E: usize>(
     entries: &[(&'a K, &'a V)],
     kept: &[(K::Resolver, V::Resolver)],
-    children: Option<&[Option<usize>]>,
+    children: Option<Children<'_>>,
     layout: NodeLayout,
     pos: usize,
     buffer: &mut [u8],
@@ -101,7 +102,7 @@ fn resolve_node<'a, K: Archive, V: Archive, const E: usize>(
 fn write_through<'a, K: Archive, V: Archive, W: Writer, const E: usize>(
     entries: &[(&'a K, &'a V)],
     kept: &[(K::Resolver, V::Resolver)],
-    children: Option<&[Option<usize>]>,
+    children: Option<Children<'_>>,
     layout: NodeLayout,
     writer: &mut W,
     buffer: &mut [u8],
@@ -129,7 +130,7 @@ fn write_through<'a, K: Archive, V: Archive, W: Writer, const E: usize>(
 fn write_own<'a, K: Archive, V: Archive, S: Writer + Allocator, const E: usize>(
     entries: &[(&'a K, &'a V)],
     kept: &[(K::Resolver, V::Resolver)],
-    children: Option<&[Option<usize>]>,
+    children: Option<Children<'_>>,
     layout: NodeLayout,
     size: usize,
     serializer: &mut S,
@@ -175,10 +176,10 @@ fn write_own<'a, K: Archive, V: Archive, S: Writer + Allocator, const E: usize>(
 
 /// Writes the node of entries, whose data was written, from the next position of its alignment on. The answer is its
 /// position.
-pub fn write_behind<'a, K: Archive, V: Archive, S: Writer + Allocator, const E: usize>(
+fn write_behind<'a, K: Archive, V: Archive, S: Writer + Allocator, const E: usize>(
     entries: &[(&'a K, &'a V)],
     kept: &[(K::Resolver, V::Resolver)],
-    children: Option<&[Option<usize>]>,
+    children: Option<Children<'_>>,
     serializer: &mut S,
 ) -> Result<usize, Error>
     requires room { S.failures serializer.old < 2 ^ 64 - 1 }
@@ -195,4 +196,23 @@ pub fn write_behind<'a, K: Archive, V: Archive, S: Writer + Allocator, const E: 
     check_place(to, size)?;
     write_own::<K, V, S, E>(entries, kept, children, layout, size, serializer)?;
     Ok(to)
+}
+
+/// The same of resolvers, the first of which are those of the entries.
+pub fn write_kept<'a, K: Archive, V: Archive, S: Writer + Allocator, const E: usize>(
+    entries: &[(&'a K, &'a V)],
+    kept: [(K::Resolver, V::Resolver); E],
+    children: Option<Children<'_>>,
+    serializer: &mut S,
+) -> Result<usize, Error>
+    requires room { S.failures serializer.old < 2 ^ 64 - 1 }
+    requires few { length entries.now ≤ E }
+    requires small { E < 2 ^ 32 }
+    requires whole { AreChildren E children }
+    requires made { (st : State) × (take (length entries.now) kept ≡ resolvers (borrowed_entry E K.Archived.shape V.Archived.shape K.spelling V.spelling) entries.now st) }
+    ensures { (st : State) → take (length entries.now) kept ≡ resolvers (borrowed_entry E K.Archived.shape V.Archived.shape K.spelling V.spelling) entries.now st
+        → LaysBehind E K.Archived.shape V.Archived.shape (borrowed K.spelling) (borrowed V.spelling) S.Writer (node_of children.entry entries.now) st serializer.old serializer.new (S.pos serializer.old) result }
+{
+    let kept = kept.as_slice();
+    write_behind::<K, V, S, E>(entries, &kept[..entries.len()], children, serializer)
 }

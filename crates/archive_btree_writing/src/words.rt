@@ -2,9 +2,10 @@
 ghost use Rattle.std.specs.Prelude.{◌≡◌, ◌+◌, ◌*◌, ◌^◌, ◌<◌, ◌≤◌, length, MatchResult};
 ghost use Rattle.archive_shape_references.specs.Bytes.{HasBytes, zeros, overwrite};
 ghost use Rattle.std.specs.Int.{w32, to_le_bytes};
-ghost use Rattle.archive_btree_writing.specs.Nodes.{roots_of, words_behind, words_size};
+ghost use Rattle.archive_btree_writing.specs.Nodes.{children_of, roots_of, words_behind, words_size};
 ghost use Rattle.archive_btree_spelling.specs.Written.{link_bytes, LinkFits, LinkRefused, links, LinksFit, LinksRefused};
 
+use crate::children::Children;
 use archive_shape::{Error, Place, RawRelPtrI32};
 
 /// How many bytes a pointer has.
@@ -47,6 +48,26 @@ fn store_links(
     Ok(())
 }
 
+/// Writes the pointers of an inner node, the greater one behind the lesser ones, as `store_links` does.
+fn store_children(
+    children: Children<'_>,
+    start: usize,
+    pos: usize,
+    buffer: &mut [u8],
+) -> Result<(), Error>
+    requires room { start + (length children.lesser.now * 4 + 4) ≤ length buffer.old }
+    requires stands { pos + (length children.lesser.now * 4 + 4) < 2 ^ 64 }
+    requires blank { HasBytes buffer.old start (zeros (length children.lesser.now * 4 + 4)) }
+    ensures { MatchResult result
+        (λ _. LinksFit (children_of children.entry) pos × (buffer.new ≡ overwrite buffer.old start (links (children_of children.entry) pos)))
+        (LinksRefused (children_of children.entry) pos) }
+{
+    let _len = buffer.len();
+    let lesser = children.lesser.len() * LINK;
+    store_links(children.lesser, start, pos, buffer)?;
+    store_link(children.greater, start + lesser, pos + lesser, buffer)
+}
+
 /// Writes the length of a leaf at `start` of a buffer.
 fn store_length(len: u32, start: usize, buffer: &mut [u8])
     requires room { start + 4 ≤ length buffer.old }
@@ -60,7 +81,7 @@ fn store_length(len: u32, start: usize, buffer: &mut [u8])
 /// zero there.
 pub(crate) fn store_words(
     len: u32,
-    children: Option<&[Option<usize>]>,
+    children: Option<Children<'_>>,
     start: usize,
     pos: usize,
     buffer: &mut [u8],
@@ -77,6 +98,6 @@ pub(crate) fn store_words(
             store_length(len, start, buffer);
             Ok(())
         }
-        Some(children) => store_links(children, start, pos, buffer),
+        Some(children) => store_children(children, start, pos, buffer),
     }
 }
