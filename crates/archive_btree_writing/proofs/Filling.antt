@@ -1,5 +1,5 @@
 -- A node's bytes, which are written part by part over zeros.
-use Rattle.std.proofs.Common.{◌≡◌, ℕ, ◌+◌, ◌-◌, ◌*◌, ◌^◌, ◌≤◌, ◌<◌, max, min, set, List, [], ◌∷◌, ◌++◌, length, refl, arith, length-append, append_assoc, ap, sym, subst, ◌∙◌, mul-le-mul_right, Some, None, Option}
+use Rattle.std.proofs.Common.{◌≡◌, ℕ, ◌+◌, ◌-◌, ◌*◌, ◌^◌, ◌≤◌, ◌<◌, set, List, [], ◌∷◌, ◌++◌, length, refl, arith, length-append, append_assoc, ap, sym, subst, ◌∙◌, mul-le-mul_right, Some, None, Option}
 use Rattle.std.proofs.lemmas.List.{length-replicate}
 use Rattle.archive_shape_layout.specs.Shape.{Shape, size_of, align_of}
 use Rattle.archive_shape_layout.specs.Content.{keys_offset, values_offset, links_offset, link_node_size, words_of}

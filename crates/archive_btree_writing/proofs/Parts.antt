@@ -1,5 +1,5 @@
 -- A part of each entry, the key or the value, whose own bytes are written side by side.
-use Rattle.std.proofs.Common.{◌≡◌, ℕ, suc, ◌+◌, ◌-◌, ◌*◌, ◌^◌, ◌≤◌, ◌<◌, min, List, length, get_or, arith, ap, ap₂, sym, subst, ◌∙◌, refl, mul-le-mul_right}
+use Rattle.std.proofs.Common.{◌≡◌, ℕ, suc, ◌+◌, ◌-◌, ◌*◌, ◌^◌, ◌≤◌, ◌<◌, min, List, length, get_or, arith, ap, sym, subst, ◌∙◌, mul-le-mul_right}
 use Rattle.archive_shape_layout.specs.Shape.{Shape, size_of}
 use Rattle.archive_shape_references.specs.Bytes.{HasBytes, zeros, overwrite}
 use Rattle.archive_shape_writing.specs.declared.error.Error.{Error}

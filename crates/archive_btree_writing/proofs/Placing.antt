@@ -1,5 +1,5 @@
 -- A node that is written behind the data of its entries, from the next position of its alignment on.
-use Rattle.std.proofs.Common.{◌≡◌, ℕ, ◌+◌, ◌-◌, ◌^◌, ◌≤◌, ◌<◌, max, min, List, ◌++◌, length, refl, sym, ap, subst, ◌∙◌, arith, inl, inr, Ok, Err, ◌⊎◌}
+use Rattle.std.proofs.Common.{◌≡◌, ℕ, ◌+◌, ◌-◌, ◌^◌, ◌≤◌, ◌<◌, min, List, ◌++◌, length, refl, sym, ap, subst, ◌∙◌, arith, inl, inr, Ok, Err, ◌⊎◌}
 use Rattle.std.specs.Prelude.{Result, ⊤}
 use Rattle.std.proofs.lemmas.List.{length-replicate}
 use Rattle.archive_shape_layout.specs.Bytes.{align_up}
@@ -11,7 +11,7 @@ use Rattle.archive_shape_references.specs.Bytes.{zeros}
 use Rattle.archive_shape_writing.specs.Writing.{WriterMembers, Writes}
 use Rattle.archive_shape_writing.specs.declared.error.Error.{Error}
 use Rattle.archive_shape_writing.specs.declared.error.Error.TheVariants.{PositionTooLarge}
-use Rattle.archive_forms_spelling.specs.State.{State, advanced, visit_of_key}
+use Rattle.archive_forms_spelling.specs.State.{State, visit_of_key}
 use Rattle.archive_forms_spelling.specs.Spelling.{Spelling}
 use Rattle.archive_forms_spelling.specs.Regions.{pieces, pieces_fit, pieces_refused}
 use Rattle.archive_forms_spelling.specs.Serializing.{IsAt, Lays, progress_by, is_begun}

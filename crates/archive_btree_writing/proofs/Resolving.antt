@@ -3,11 +3,11 @@ use Rattle.std.proofs.Common.{◌≡◌, ℕ, ◌+◌, ◌-◌, ◌*◌, ◌^◌
 use Rattle.std.specs.Prelude.{Result, MatchResult}
 use Rattle.archive_shape_layout.specs.Shape.{Shape, size_of}
 use Rattle.archive_shape_layout.specs.Content.{keys_offset, values_offset, links_offset, link_node_size, words_of}
-use Rattle.archive_shape_references.specs.Bytes.{HasBytes, zeros, overwrite}
+use Rattle.archive_shape_references.specs.Bytes.{zeros, overwrite}
 use Rattle.archive_shape_writing.specs.declared.error.Error.{Error}
 use Rattle.archive_forms_spelling.specs.State.{State}
 use Rattle.archive_forms_spelling.specs.Spelling.{Spelling, state_after}
-use Rattle.archive_btree_spelling.specs.Written.{slots, AllSlots, AnySlot, filled, entry_spelling, key_own, value_own, own_bytes, own_size, words, slots_fit, slots_refused, LinksFit, LinksRefused}
+use Rattle.archive_btree_spelling.specs.Written.{slots, AllSlots, AnySlot, filled, entry_spelling, key_own, value_own, own_bytes, words, slots_fit, slots_refused, LinksFit, LinksRefused}
 use Rattle.archive_btree_nodes.specs.declared.layout.NodeLayout.{NodeLayout}
 use Rattle.archive_btree_nodes.specs.Layout.{IsNodeLayout}
 use Rattle.archive_btree_writing.specs.declared.children.Children.{Children}

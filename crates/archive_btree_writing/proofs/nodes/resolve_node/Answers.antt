@@ -1,4 +1,4 @@
-use Rattle.std.proofs.Common.{rules, arith, ◌≡◌, ◌+◌, ◌*◌, ◌<◌, ◌≤◌, length, refl}
+use Rattle.std.proofs.Common.{rules, arith, ◌*◌, length, refl}
 use Rattle.archive_shape_layout.specs.Shape.{size_of}
 use Rattle.archive_shape_canonical.specs.FirstFit.{first_fit}
 use Rattle.archive_btree_writing.specs.Nodes.{borrowed, words_size}

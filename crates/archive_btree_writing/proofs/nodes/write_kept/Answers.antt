@@ -1,4 +1,4 @@
-use Rattle.std.proofs.Common.{rules, arith, take, length, ap, ◌∙◌}
+use Rattle.std.proofs.Common.{take, length, ap, ◌∙◌}
 use Rattle.archive_btree_writing.proofs.nodes.write_kept.Goals as goal
 
 pub write_behind-requires-clause-made : goal.write_behind-requires-clause-made

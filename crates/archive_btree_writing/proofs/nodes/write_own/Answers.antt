@@ -1,4 +1,4 @@
-use Rattle.std.proofs.Common.{rules, arith, ◌≡◌, refl, inl, ap, ◌∙◌}
+use Rattle.std.proofs.Common.{arith, ◌≡◌, refl, inl, ap, ◌∙◌}
 use Rattle.std.proofs.lemmas.List.{take-replicate}
 use Rattle.archive_shape_layout.specs.Content.{words_of, link_node_size}
 use Rattle.archive_shape_references.specs.Bytes.{zeros}

@@ -1,4 +1,4 @@
-use Rattle.std.proofs.Common.{rules, arith, ◌≡◌, ◌+◌, ◌*◌, ◌≤◌, ◌<◌, length, ap, ◌∙◌, get_or, None}
+use Rattle.std.proofs.Common.{rules, arith, ◌≡◌, ◌+◌, ◌*◌, ap, ◌∙◌, get_or, None}
 use Rattle.std.proofs.lemmas.List.{get_or_default}
 use Rattle.archive_shape_references.specs.Bytes.{overwrite}
 use Rattle.archive_forms_spelling.specs.State.{initial}
