@@ -1,0 +1,72 @@
+use Rattle.std.proofs.Common.{◌≡◌, arith, ◌<◌, ◌≤◌, ◌+◌, List, sym, ap, ◌∙◌, ◌∷◌, [], ◌++◌, subst, length, length-set, take}
+use Rattle.std.proofs.lemmas.List.{length-replicate}
+use Rattle.archive_shape_writing.specs.Writing.{WriterMembers}
+use Rattle.archive_forms_writing.proofs.Loops.{Reached, next_of, none_left, reached_first, first_stopped, reached_next, reached_stopped, reached_all}
+use Rattle.archive_forms_writing.proofs.Arrays.{take_set, take_one}
+use Rattle.archive_btree_writing.specs.Nodes.{borrowed_entry}
+use Rattle.archive_btree_writing.proofs.entries.serialize_entries.Goals as goal
+
+pub returns-in-Err : goal.returns-in-Err
+returns-in-Err g c = λ st at.
+    let some : 0 < length c.args.entries.now = c.requires.some in
+    let w = borrowed_entry g.row.E g.K.Archived.Portable.shape g.V.Archived.Portable.shape g.K.Archive.spelling g.V.Archive.spelling in
+    let e = next_of c.args.entries.now 0 _ some c.index-entries-0.is in
+    let s : WriterMembers g.row.S.Denot = record { known = g.S.Registry.known; pos = g.S.Positional.pos; OBSERVABLE = g.S.Writer.OBSERVABLE; COUNTS = g.S.Writer.COUNTS; contents = g.S.Writer.contents; failures = g.S.Writer.failures; last_error = g.S.Writer.last_error } in
+    first_stopped w s c.args.entries.now _ st _ _ _ e at (c.in-Err.ensures st at)
+
+pub loop-i-init : goal.loop-i-init
+loop-i-init g c =
+    let some : 0 < length c.args.entries.now = c.requires.some in
+    let more : 0 < g.row.E = omega (arith, some, c.requires.few) in
+    let w = borrowed_entry g.row.E g.K.Archived.Portable.shape g.V.Archived.Portable.shape g.K.Archive.spelling g.V.Archive.spelling in
+    let e = next_of c.args.entries.now 0 _ some c.index-entries-0.is in
+    let s : WriterMembers g.row.S.Denot = record { known = g.S.Registry.known; pos = g.S.Positional.pos; OBSERVABLE = g.S.Writer.OBSERVABLE; COUNTS = g.S.Writer.COUNTS; contents = g.S.Writer.contents; failures = g.S.Writer.failures; last_error = g.S.Writer.last_error } in
+    record {
+      whole = length-replicate g.row.E c.in-Ok.done;
+      within = some;
+      reached = λ st at.
+          let P : List (g.row.K-Resolver.Denot × g.row.V-Resolver.Denot) → Type 0 = λ l. Reached w s c.args.entries.now c.args.serializer.now st 1 c.serialize_entry.new.serializer l in
+          let l = c.in-Ok.ensures st at in
+          let z = reached_first w s c.args.entries.now _ st _ _ e at l.0 l.1.1 l.1.2 in
+          subst P (sym (take_one g.row.E c.in-Ok.done more ∙ ap (λ q. q ∷ []) l.1.0)) z;
+    }
+
+pub serialize_entry-requires-in-loop-i-clause-room : goal.serialize_entry-requires-in-loop-i-clause-room
+serialize_entry-requires-in-loop-i-clause-room g c =
+    let r = c.loop-i.invariant.reached c.requires.state.state c.requires.state.is_at in omega (arith, r.wrote.is_quiet, c.requires.room)
+
+pub serialize_entry-requires-in-loop-i-clause-state : goal.serialize_entry-requires-in-loop-i-clause-state
+serialize_entry-requires-in-loop-i-clause-state g c =
+    let r = c.loop-i.invariant.reached c.requires.state.state c.requires.state.is_at in record { state = r.left; is_at = r.is_at }
+
+pub returns-in-Err-serialize_entry : goal.returns-in-Err-serialize_entry
+returns-in-Err-serialize_entry g c = λ st at.
+    let r = c.loop-i.invariant.reached st at in
+    let less : c.loop-i.i < length c.args.entries.now = c.loop-i-test.true in
+    reached_stopped _ _ _ _ _ c.loop-i.i _ _ _ _ _ (next_of c.args.entries.now c.loop-i.i _ less c.index-entries-i.is) r (c.in-Err-serialize_entry.ensures r.left r.is_at)
+
+pub loop-i-preserved : goal.loop-i-preserved
+loop-i-preserved g c =
+    let less : c.loop-i.i < length c.args.entries.now = c.loop-i-test.true in
+    let inside : c.loop-i.i < length c.loop-i.kept = omega (arith, c.loop-i-test.true, c.loop-i.invariant.whole, c.requires.few) in
+    let w = borrowed_entry g.row.E g.K.Archived.Portable.shape g.V.Archived.Portable.shape g.K.Archive.spelling g.V.Archive.spelling in
+    let s : WriterMembers g.row.S.Denot = record { known = g.S.Registry.known; pos = g.S.Positional.pos; OBSERVABLE = g.S.Writer.OBSERVABLE; COUNTS = g.S.Writer.COUNTS; contents = g.S.Writer.contents; failures = g.S.Writer.failures; last_error = g.S.Writer.last_error } in
+    let e = next_of c.args.entries.now c.loop-i.i _ less c.index-entries-i.is in
+    let before = take c.loop-i.i c.loop-i.kept in
+    record {
+      whole = length-set _ _ _ ∙ c.loop-i.invariant.whole;
+      within = omega (arith, less);
+      reached = λ st at.
+          let P : List (g.row.K-Resolver.Denot × g.row.V-Resolver.Denot) → Type 0 = λ l. Reached w s c.args.entries.now c.args.serializer.now st (c.loop-i.i + 1) c.serialize_entry-in-loop-i.new.serializer l in
+          let r = c.loop-i.invariant.reached st at in
+          let l = c.in-Ok-serialize_entry.ensures r.left r.is_at in
+          let z = reached_next _ _ _ _ _ c.loop-i.i _ _ _ _ e r l.0 l.1.1 l.1.2 in
+          subst P (sym (take_set c.loop-i.kept c.loop-i.i c.in-Ok-serialize_entry.done inside ∙ ap (λ q. before ++ (q ∷ [])) l.1.0)) z;
+    }
+
+pub returns : goal.returns
+returns g c = λ st at.
+    let end : length c.args.entries.now ≤ c.loop-i.i = c.loop-i-test.false in
+    let all = reached_all _ _ _ _ _ c.loop-i.i _ _ (none_left _ _ end) (c.loop-i.invariant.reached st at) in
+    let counted : length c.args.entries.now ≡ c.loop-i.i = omega (arith, end, c.loop-i.invariant.within) in
+    (all.wrote, (ap (λ n. take n c.loop-i.kept) counted ∙ all.kept_is, all.fits, all.is_at))

@@ -1,0 +1,66 @@
+use Rattle.std.proofs.Common.{arith, refl, ap}
+use Rattle.archive_shape_writing.specs.Writing.{WriterMembers}
+use Rattle.archive_forms_spelling.specs.Fields.{no_fields, more_fields}
+use denote.Bor.{Bor}
+use Rattle.archive_btree_writing.specs.Nodes.{borrowed}
+use Rattle.archive_forms_writing.proofs.Structs.{reached_none, reached_next, reached_stopped, reached_all}
+use Rattle.archive_btree_writing.proofs.entries.serialize_entry.Goals as goal
+
+pub returns-in-Err : goal.returns-in-Err
+returns-in-Err g c = λ st at.
+    let m : WriterMembers g.row.S.Denot = record { known = g.S.Registry.known; pos = g.S.Positional.pos; OBSERVABLE = g.S.Writer.OBSERVABLE; COUNTS = g.S.Writer.COUNTS; contents = g.S.Writer.contents; failures = g.S.Writer.failures; last_error = g.S.Writer.last_error } in
+    let from_second = more_fields g.V.Archived.Portable.shape (borrowed g.V.Archive.spelling) no_fields in
+    let all = more_fields g.K.Archived.Portable.shape (borrowed g.K.Archive.spelling) from_second in
+    let x : Bor g.row.K.Denot × (Bor g.row.V.Denot × Unit {0}) = (c.args.entry.now.0, (c.args.entry.now.1, tt {0})) in
+    let old = c.args.serializer.now in
+    let room = c.requires.room in
+    let none = reached_none m all x old st at in
+    reached_stopped m all x old st g.K.Archived.Portable.shape (borrowed g.K.Archive.spelling) from_second x _ st old none _ _ (c.requires.writes_key _ _ _ _ room c.requires.state c.in-Err.ensures st at)
+
+pub value_step-requires : goal.value_step-requires
+value_step-requires g c =
+    let m : WriterMembers g.row.S.Denot = record { known = g.S.Registry.known; pos = g.S.Positional.pos; OBSERVABLE = g.S.Writer.OBSERVABLE; COUNTS = g.S.Writer.COUNTS; contents = g.S.Writer.contents; failures = g.S.Writer.failures; last_error = g.S.Writer.last_error } in
+    let from_second = more_fields g.V.Archived.Portable.shape (borrowed g.V.Archive.spelling) no_fields in
+    let all = more_fields g.K.Archived.Portable.shape (borrowed g.K.Archive.spelling) from_second in
+    let x : Bor g.row.K.Denot × (Bor g.row.V.Denot × Unit {0}) = (c.args.entry.now.0, (c.args.entry.now.1, tt {0})) in
+    let old = c.args.serializer.now in
+    let room = c.requires.room in
+    let st = c.requires.state.state in
+    let at = c.requires.state.is_at in
+    let none = reached_none m all x old st at in
+    let by_first = c.requires.writes_key _ _ _ _ room c.requires.state c.in-Ok.ensures st at in
+    let one = reached_next m all x old st g.K.Archived.Portable.shape (borrowed g.K.Archive.spelling) from_second x _ st old none _ _ by_first.0 by_first.1.0 by_first.1.1 by_first.1.2 in
+    let quiet_one = one.wrote.is_quiet in
+    c.requires.takes_value _ _ (0, omega arith, refl) (omega arith) (record { state = _; is_at = one.is_at })
+
+pub returns-in-Err-value_step : goal.returns-in-Err-value_step
+returns-in-Err-value_step g c = λ st at.
+    let m : WriterMembers g.row.S.Denot = record { known = g.S.Registry.known; pos = g.S.Positional.pos; OBSERVABLE = g.S.Writer.OBSERVABLE; COUNTS = g.S.Writer.COUNTS; contents = g.S.Writer.contents; failures = g.S.Writer.failures; last_error = g.S.Writer.last_error } in
+    let from_second = more_fields g.V.Archived.Portable.shape (borrowed g.V.Archive.spelling) no_fields in
+    let all = more_fields g.K.Archived.Portable.shape (borrowed g.K.Archive.spelling) from_second in
+    let x : Bor g.row.K.Denot × (Bor g.row.V.Denot × Unit {0}) = (c.args.entry.now.0, (c.args.entry.now.1, tt {0})) in
+    let old = c.args.serializer.now in
+    let room = c.requires.room in
+    let none = reached_none m all x old st at in
+    let by_first = c.requires.writes_key _ _ _ _ room c.requires.state c.in-Ok.ensures st at in
+    let one = reached_next m all x old st g.K.Archived.Portable.shape (borrowed g.K.Archive.spelling) from_second x _ st old none _ _ by_first.0 by_first.1.0 by_first.1.1 by_first.1.2 in
+    let quiet_one = one.wrote.is_quiet in
+    reached_stopped m all x old st g.V.Archived.Portable.shape (borrowed g.V.Archive.spelling) no_fields x.1 _ _ _ one _ _ (c.requires.writes_value _ _ _ _ (omega arith) (record { state = _; is_at = one.is_at }) c.in-Err-value_step.ensures _ one.is_at)
+
+pub returns : goal.returns
+returns g c = λ st at.
+    let m : WriterMembers g.row.S.Denot = record { known = g.S.Registry.known; pos = g.S.Positional.pos; OBSERVABLE = g.S.Writer.OBSERVABLE; COUNTS = g.S.Writer.COUNTS; contents = g.S.Writer.contents; failures = g.S.Writer.failures; last_error = g.S.Writer.last_error } in
+    let from_second = more_fields g.V.Archived.Portable.shape (borrowed g.V.Archive.spelling) no_fields in
+    let all = more_fields g.K.Archived.Portable.shape (borrowed g.K.Archive.spelling) from_second in
+    let x : Bor g.row.K.Denot × (Bor g.row.V.Denot × Unit {0}) = (c.args.entry.now.0, (c.args.entry.now.1, tt {0})) in
+    let old = c.args.serializer.now in
+    let room = c.requires.room in
+    let none = reached_none m all x old st at in
+    let by_first = c.requires.writes_key _ _ _ _ room c.requires.state c.in-Ok.ensures st at in
+    let one = reached_next m all x old st g.K.Archived.Portable.shape (borrowed g.K.Archive.spelling) from_second x _ st old none _ _ by_first.0 by_first.1.0 by_first.1.1 by_first.1.2 in
+    let quiet_one = one.wrote.is_quiet in
+    let by_second = c.requires.writes_value _ _ _ _ (omega arith) (record { state = _; is_at = one.is_at }) c.in-Ok-value_step.ensures _ one.is_at in
+    let two = reached_next m all x old st g.V.Archived.Portable.shape (borrowed g.V.Archive.spelling) no_fields x.1 _ _ _ one _ _ by_second.0 by_second.1.0 by_second.1.1 by_second.1.2 in
+    let quiet_two = two.wrote.is_quiet in
+    let done = reached_all m all x old st _ _ _ _ two in
+    (done.0, (ap (λ r. (r.0, r.1.0)) done.1.0, done.1.1, done.1.2))

@@ -1,0 +1,175 @@
+//! The entries of a node: their data, and their own bytes.
+ghost use Rattle.std.specs.Prelude.{◌≡◌, ℕ, ◌+◌, ◌-◌, ◌*◌, ◌^◌, ◌<◌, ◌≤◌, length, take, [], ◌∷◌, MatchResult};
+ghost use Rattle.archive_shape_layout.specs.Shape.{size_of};
+ghost use Rattle.archive_shape_references.specs.Bytes.{HasBytes, zeros, overwrite};
+ghost use Rattle.archive_forms_spelling.specs.State.{State};
+ghost use Rattle.archive_forms_spelling.specs.Spelling.{state_after};
+ghost use Rattle.archive_forms_spelling.specs.Serializing.{CanResolve, IsAt, HasState, Lays, Resolves, Serializes};
+ghost use Rattle.archive_forms_spelling.specs.Regions.{state_after_all, pieces, resolvers, pieces_fit, pieces_refused};
+ghost use Rattle.archive_forms_writing.specs.Steps.{StepTakes, StepWrites};
+ghost use Rattle.archive_btree_spelling.specs.Written.{slots, AllSlots, AnySlot, key_own, value_own};
+ghost use Rattle.archive_btree_writing.specs.Nodes.{borrowed, borrowed_entry};
+ghost use Rattle.archive_btree_writing.specs.Steps.{EntrySteps};
+
+use archive_forms_writing::Archive;
+use archive_shape::{Allocator, Error, Place, Portable, Writer};
+use std::marker::PhantomData;
+
+/// Writes the data of an entry: that of its key, and then that of its value.
+fn serialize_entry<
+    'a,
+    K: Archive,
+    V: Archive,
+    S: Writer + Allocator,
+    F: Fn(&K, &mut S) -> Result<(K::Resolver, PhantomData<K::Archived>), Error>,
+    G: Fn(&V, &mut S) -> Result<(V::Resolver, PhantomData<V::Archived>), Error>,
+    const E: usize,
+>(
+    entry: &(&'a K, &'a V),
+    serializer: &mut S,
+    key_step: &F,
+    value_step: &G,
+) -> Result<(K::Resolver, V::Resolver), Error>
+    requires room { S.failures serializer.old < 2 ^ 64 - 1 }
+    requires state { HasState S.pos S.known serializer.old }
+    requires takes_key { StepTakes F.Fn S.Writer key_step.now (entry.now.0.now ∷ []) }
+    requires writes_key { StepWrites F.Fn (λ q. q.0) K.spelling S.Writer key_step.now }
+    requires takes_value { StepTakes G.Fn S.Writer value_step.now (entry.now.1.now ∷ []) }
+    requires writes_value { StepWrites G.Fn (λ q. q.0) V.spelling S.Writer value_step.now }
+    ensures { Serializes (borrowed_entry E K.Archived.shape V.Archived.shape K.spelling V.spelling) S.Writer entry.now serializer.old serializer.new result }
+{
+    let key = match key_step(entry.0, serializer) {
+        Ok(done) => done.0,
+        Err(e) => return Err(e),
+    };
+    let value = match value_step(entry.1, serializer) {
+        Ok(done) => done.0,
+        Err(e) => return Err(e),
+    };
+    Ok((key, value))
+}
+
+/// Writes the data of the entries of a node. Their resolvers are the first ones of the answer.
+pub fn serialize_entries<
+    'a,
+    K: Archive,
+    V: Archive,
+    S: Writer + Allocator,
+    F: Fn(&K, &mut S) -> Result<(K::Resolver, PhantomData<K::Archived>), Error>,
+    G: Fn(&V, &mut S) -> Result<(V::Resolver, PhantomData<V::Archived>), Error>,
+    const E: usize,
+>(
+    entries: &[(&'a K, &'a V)],
+    serializer: &mut S,
+    key_step: &F,
+    value_step: &G,
+) -> Result<[(K::Resolver, V::Resolver); E], Error>
+    requires some { 0 < length entries.now }
+    requires few { length entries.now ≤ E }
+    requires room { S.failures serializer.old < 2 ^ 64 - 1 }
+    requires state { HasState S.pos S.known serializer.old }
+    requires steps { EntrySteps F.Fn G.Fn (λ q. q.0) (λ q. q.0) K.spelling V.spelling S.Writer key_step.now value_step.now entries.now }
+    ensures { (st : State) → IsAt S.pos S.known serializer.old st
+        → let w = borrowed_entry E K.Archived.shape V.Archived.shape K.spelling V.spelling in
+        Lays S.Writer serializer.old serializer.new (pieces w entries.now st)
+        (λ all. (take (length entries.now) all ≡ resolvers w entries.now st) × pieces_fit w entries.now st × IsAt S.pos S.known serializer.new (state_after_all w entries.now st))
+        (pieces_refused w entries.now st) result }
+{
+    let first = match serialize_entry::<K, V, S, F, G, E>(
+        &entries[0],
+        serializer,
+        key_step,
+        value_step,
+    ) {
+        Ok(done) => done,
+        Err(e) => return Err(e),
+    };
+    let mut kept = [first; E];
+    for i in 1..entries.len() {
+        match serialize_entry::<K, V, S, F, G, E>(&entries[i], serializer, key_step, value_step) {
+            Ok(done) => kept[i] = done,
+            Err(e) => return Err(e),
+        }
+    }
+    Ok(kept)
+}
+
+/// Writes the own bytes of a value, whose data was written, at `start` of a buffer, which is zero there and will stand at
+/// `pos`.
+fn resolve_slot<T: Archive>(
+    value: &T,
+    resolver: T::Resolver,
+    start: usize,
+    pos: usize,
+    buffer: &mut [u8],
+) -> Result<(), Error>
+    requires { CanResolve T.spelling T.Archived.shape value.now resolver buffer.old start pos }
+    ensures { Resolves T.spelling value.now resolver pos start buffer.old buffer.new result }
+{
+    value.resolve(resolver, Place::within(buffer, start, pos))
+}
+
+/// Writes the own bytes of the keys of entries, whose data was written, side by side from `start` of a buffer on, which is
+/// zero there and will stand at `pos`.
+pub(crate) fn resolve_keys<'a, K: Archive, V: Archive, const E: usize>(
+    entries: &[(&'a K, &'a V)],
+    kept: &[(K::Resolver, V::Resolver)],
+    start: usize,
+    pos: usize,
+    buffer: &mut [u8],
+) -> Result<(), Error>
+    requires made { (st : State) × (kept.now ≡ resolvers (borrowed_entry E K.Archived.shape V.Archived.shape K.spelling V.spelling) entries.now st) }
+    requires room { start + length entries.now * size_of K.Archived.shape ≤ length buffer.old }
+    requires stands { pos + length entries.now * size_of K.Archived.shape < 2 ^ 64 }
+    requires blank { HasBytes buffer.old start (zeros (length entries.now * size_of K.Archived.shape)) }
+    ensures { (st : State)
+        → let w = borrowed_entry E K.Archived.shape V.Archived.shape K.spelling V.spelling in
+        kept.now ≡ resolvers w entries.now st
+        → let keys = borrowed K.spelling in
+        let vals = borrowed V.spelling in
+        MatchResult result
+        (λ _. AllSlots (state_after w) (size_of K.Archived.shape) (λ x then here. keys.own_fits x.0 (keys.resolver x.0 then) here) entries.now st pos
+        × (buffer.new ≡ overwrite buffer.old start (slots (state_after w) (size_of K.Archived.shape) (key_own E K.Archived.shape V.Archived.shape keys vals) entries.now st pos)))
+        (λ e. AnySlot (state_after w) (size_of K.Archived.shape) (λ x then here. keys.own_refused x.0 (keys.resolver x.0 then) here e) entries.now st pos) }
+{
+    let _len = buffer.len();
+    let size = K::Archived::SIZE;
+    let mut offset = 0;
+    for (i, entry) in entries.iter().enumerate() {
+        resolve_slot(entry.0, kept[i].0, start + offset, pos + offset, buffer)?;
+        offset += size;
+    }
+    Ok(())
+}
+
+/// The same of the values of entries.
+pub(crate) fn resolve_values<'a, K: Archive, V: Archive, const E: usize>(
+    entries: &[(&'a K, &'a V)],
+    kept: &[(K::Resolver, V::Resolver)],
+    start: usize,
+    pos: usize,
+    buffer: &mut [u8],
+) -> Result<(), Error>
+    requires made { (st : State) × (kept.now ≡ resolvers (borrowed_entry E K.Archived.shape V.Archived.shape K.spelling V.spelling) entries.now st) }
+    requires room { start + length entries.now * size_of V.Archived.shape ≤ length buffer.old }
+    requires stands { pos + length entries.now * size_of V.Archived.shape < 2 ^ 64 }
+    requires blank { HasBytes buffer.old start (zeros (length entries.now * size_of V.Archived.shape)) }
+    ensures { (st : State)
+        → let w = borrowed_entry E K.Archived.shape V.Archived.shape K.spelling V.spelling in
+        kept.now ≡ resolvers w entries.now st
+        → let keys = borrowed K.spelling in
+        let vals = borrowed V.spelling in
+        MatchResult result
+        (λ _. AllSlots (state_after w) (size_of V.Archived.shape) (λ x then here. vals.own_fits x.1 (vals.resolver x.1 (state_after keys x.0 then)) here) entries.now st pos
+        × (buffer.new ≡ overwrite buffer.old start (slots (state_after w) (size_of V.Archived.shape) (value_own E K.Archived.shape V.Archived.shape keys vals) entries.now st pos)))
+        (λ e. AnySlot (state_after w) (size_of V.Archived.shape) (λ x then here. vals.own_refused x.1 (vals.resolver x.1 (state_after keys x.0 then)) here e) entries.now st pos) }
+{
+    let _len = buffer.len();
+    let size = V::Archived::SIZE;
+    let mut offset = 0;
+    for (i, entry) in entries.iter().enumerate() {
+        resolve_slot(entry.1, kept[i].1, start + offset, pos + offset, buffer)?;
+        offset += size;
+    }
+    Ok(())
+}
