@@ -4,3 +4,5 @@ pub mod Refs
 pub mod Roots
 pub mod Held
 pub mod Links
+pub mod Equality
+pub mod Compared

@@ -2,3 +2,4 @@ pub mod Maps
 pub mod Refs
 pub mod Lookups
 pub mod Visits
+pub mod Comparing

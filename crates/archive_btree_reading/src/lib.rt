@@ -1,6 +1,7 @@
 //! Archived B-tree maps and sets.
 #![tactic(auto)]
 
+mod comparing;
 mod iter;
 mod laws;
 mod lookup;
@@ -10,7 +11,8 @@ mod root;
 mod seal;
 mod walking;
 
+pub use comparing::eq_map;
 pub use iter::{Iter, Keys, Values};
-pub use laws::{map_is_read, one_map};
+pub use laws::{map_equalities_are_equivalences, map_is_read, one_map};
 pub use map::ArchivedBTreeMap;
 pub use resolving::BTreeMapResolver;
