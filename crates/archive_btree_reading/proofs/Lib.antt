@@ -6,3 +6,4 @@ pub mod Held
 pub mod Links
 pub mod Equality
 pub mod Compared
+pub mod Fed

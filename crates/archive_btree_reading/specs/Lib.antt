@@ -3,3 +3,4 @@ pub mod Refs
 pub mod Lookups
 pub mod Visits
 pub mod Comparing
+pub mod Hashing

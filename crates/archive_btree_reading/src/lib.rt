@@ -2,6 +2,7 @@
 #![tactic(auto)]
 
 mod comparing;
+mod hashing;
 mod iter;
 mod laws;
 mod lookup;
@@ -13,6 +14,8 @@ mod walking;
 
 pub use comparing::eq_map;
 pub use iter::{Iter, Keys, Values};
-pub use laws::{map_equalities_are_equivalences, map_is_read, one_map};
+pub use laws::{
+    equal_maps_are_hashed_alike, map_equalities_are_equivalences, map_is_read, one_map,
+};
 pub use map::ArchivedBTreeMap;
 pub use resolving::BTreeMapResolver;
