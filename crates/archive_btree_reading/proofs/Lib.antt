@@ -4,3 +4,6 @@ pub mod Refs
 pub mod Roots
 pub mod Held
 pub mod Links
+pub mod Equality
+pub mod Compared
+pub mod Fed

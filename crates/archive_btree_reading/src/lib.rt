@@ -1,6 +1,8 @@
 //! Archived B-tree maps and sets.
 #![tactic(auto)]
 
+mod comparing;
+mod hashing;
 mod iter;
 mod laws;
 mod lookup;
@@ -10,7 +12,10 @@ mod root;
 mod seal;
 mod walking;
 
+pub use comparing::eq_map;
 pub use iter::{Iter, Keys, Values};
-pub use laws::{map_is_read, one_map};
+pub use laws::{
+    equal_maps_are_hashed_alike, map_equalities_are_equivalences, map_is_read, one_map,
+};
 pub use map::ArchivedBTreeMap;
 pub use resolving::BTreeMapResolver;
