@@ -1,0 +1,5 @@
+pub mod Computed
+pub mod WordLemmas
+pub mod MarkLemmas
+pub mod StrideLemmas
+pub mod Lowest
