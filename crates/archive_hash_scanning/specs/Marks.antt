@@ -13,5 +13,5 @@ lanes_from zero i bits = []
 lanes_from (suc n) i bits = let rest = lanes_from n (i + 1) (bits / 2) in cond (bits % 2 == 1) (i ∷ rest) rest
 
 -- the lanes whose bits are set in a word, ascending
-abbrev pub lanes_marked : ℕ → List ℕ
+unfoldable pub lanes_marked : ℕ → List ℕ
 lanes_marked bits = lanes_from 64 0 bits

@@ -1,5 +1,5 @@
 //! Marks of lanes, as bits.
-ghost use Rattle.std.specs.Prelude.{◌≡◌, ◌↔◌, ◌<◌, ◌≤◌, Bool, List, length, position, IsTrue};
+ghost use Rattle.std.specs.Prelude.{◌≡◌, ◌↔◌, ◌^◌, ◌<◌, ◌≤◌, Bool, List, length, position, IsTrue};
 ghost use Rattle.std.specs.Iterator.{YieldsFirst, item_count};
 ghost use Rattle.std.specs.Simd.Lanes.{mask_l};
 ghost use Rattle.archive_hash_scanning.specs.Marks.{without_first, lanes_marked};
@@ -17,6 +17,7 @@ pub type NonZeroWord = NonZeroU64;
 #[derive(Clone, Copy, Debug, PartialEq, Eq)]
 pub struct Bitmask {
     pub bits: Word,
+    ghost fits: { bits < 2 ^ 64 },
 }
 
 impl Bitmask {
