@@ -1,12 +1,14 @@
 -- The marked lanes of a mask, by its marks.
-use Rattle.std.proofs.Common.{◌≡◌, ℕ, zero, suc, ◌+◌, ◌*◌, ◌/◌, ◌%◌, ◌^◌, ◌<◌, ◌≤◌, ◌==◌, Bool, true, false, cond, not, List, [], ◌∷◌, length, refl, sym, ap, ◌∙◌, arith, inl, inr, Option, position, Some, None, lt-ltb}
+use Rattle.std.proofs.Common.{◌≡◌, ℕ, zero, suc, ◌+◌, ◌*◌, ◌/◌, ◌%◌, ◌^◌, ◌<◌, ◌≤◌, ◌==◌, Bool, true, false, cond, not, List, [], ◌∷◌, length, refl, sym, ap, ◌∙◌, arith, inl, inr, Option, position, Some, None, lt-ltb, get_or}
 use Rattle.std.specs.Option.{unwrap_or}
 use Rattle.std.proofs.lemmas.Bool.{cases_lt}
+use Rattle.std.proofs.lemmas.List.{get_or_past}
 use Rattle.std.specs.List.{prefix_len}
 use lib.Lanes.{mask_l}
 use native.Mathlib.Nat.{pow-suc}
 use Rattle.archive_hash_scanning.specs.Marks.{without_first, lanes_from, lanes_marked}
 use Rattle.archive_hash_scanning.proofs.MarkLemmas.{short, none_is}
+use Rattle.archive_hash_scanning.proofs.Lowest.{below_unmarked}
 
 -- every word is a mask
 pub marks_of : (n bits : ℕ) → bits < 2 ^ n → (marks : List Bool) × (length marks ≤ n) × (bits ≡ mask_l marks)
@@ -55,13 +57,25 @@ first_lane (false ∷ marks) (suc n) i fits some =
 
 -- ---- by the lowest and the others
 
-lowest_at : (marks : List Bool) (lane : ℕ) → Some lane ≡ position (λ mark. mark) marks → (0 < mask_l marks) × (lane ≡ prefix_len not marks)
+pub lowest_at : (marks : List Bool) (lane : ℕ) → Some lane ≡ position (λ mark. mark) marks → (0 < mask_l marks) × (lane ≡ prefix_len not marks)
 lowest_at marks lane e = elim (cases_lt 0 (mask_l marks)) [
   | inl some ↦
       let at : position (λ mark. mark) marks ≡ Some (prefix_len not marks) =
       ap (λ b. cond b (Some (prefix_len not marks)) None) (lt-ltb (prefix_len not marks) (length marks) (short marks some)) in
       (some, ap (λ found. unwrap_or found 0) (e ∙ at))
   | inr none ↦ absurd (differ lane (e ∙ none_is marks (omega arith)))
+]
+  where
+    differ : (n : ℕ) → Some n ≡ None → ⊥
+    differ n s = cc
+
+pub none_at : (marks : List Bool) → position (λ mark. mark) marks ≡ None → (k : ℕ) → get_or marks k false ≡ false
+none_at marks e k = elim (cases_lt (prefix_len not marks) (length marks)) [
+  | inl some ↦ absurd (differ (prefix_len not marks) (sym (ap (λ b. cond b (Some (prefix_len not marks)) None) (lt-ltb (prefix_len not marks) (length marks) some)) ∙ e))
+  | inr past ↦ elim (cases_lt k (prefix_len not marks)) [
+    | inl below ↦ below_unmarked marks k below
+    | inr above ↦ get_or_past marks k false (omega arith)
+  ]
 ]
   where
     differ : (n : ℕ) → Some n ≡ None → ⊥

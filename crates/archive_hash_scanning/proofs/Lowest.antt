@@ -42,3 +42,8 @@ none_marked [] k z e = true≢false (sym e)
 none_marked (true ∷ ms) k z e = omega arith
 none_marked (false ∷ ms) zero z e = true≢false (sym e)
 none_marked (false ∷ ms) (suc k) z e = none_marked ms k (omega arith) e
+
+pub fewer_marked : (ms : List Bool) → 0 < mask_l ms → mask_l (without_first ms) < mask_l ms
+fewer_marked [] some = absurd (omega arith)
+fewer_marked (true ∷ ms) some = omega arith
+fewer_marked (false ∷ ms) some = omega (arith, fewer_marked ms (omega arith))
