@@ -1,0 +1,10 @@
+//! The places of a table: where a hash is looked for, which item is found, and where items are put.
+#![tactic(auto)]
+
+mod fitting;
+mod search;
+mod strides;
+
+pub use fitting::{capacity_for_len, first_empty, insert, write_controls};
+pub use search::{Found, find};
+pub use strides::Strides;
