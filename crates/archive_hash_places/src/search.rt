@@ -102,7 +102,10 @@ pub fn find<S: Scan, F: Fn(usize) -> bool>(
             };
         }
         if shows_empty::<S>(controls, position) {
-            break;
+            return Found {
+                place: None,
+                strides: searched,
+            };
         }
     }
     Found {
