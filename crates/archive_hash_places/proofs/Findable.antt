@@ -4,7 +4,8 @@ use Rattle.std.specs.List.{All, list_any, filter, flat_map, range_with_len}
 use Rattle.std.proofs.lemmas.Bool.{cases_Bool, cases_lt}
 use Rattle.std.proofs.lemmas.List.Elements.{All-nil, All-cons, All-head, All-tail, All-weaker, filter_passes}
 use Rattle.archive_hash_layout.specs.Reach.{is_empty, shown, searched, reach}
-use Rattle.archive_hash_places.specs.Search.{IsAnswer}
+use Rattle.archive_hash_places.specs.Search.{IsAnswer, IsFoundAmong}
+use Rattle.archive_hash_places.proofs.InStride.{full_below}
 use Rattle.archive_hash_places.proofs.Wrapping.{Wraps}
 use Rattle.archive_shape_canonical.specs.Strides.{sixteens, strides, strides_from, least_power, stop, places_shown}
 use Rattle.archive_hash_places.proofs.Coverage.{Among, few_strides}
@@ -94,17 +95,55 @@ same_control cs cap c place w l b e = elim (cases_lt c cap) [
   | inr h ↦ w.repeated c h b l ∙ ap (λ x. get_or cs x 0) (wrapped_high c cap h b ∙ e)
 ]
 
+-- ---- what is found
+
+All-middle : (P : ℕ → Type 0) (prior later : List ℕ) (p : ℕ) → All P (prior ++ p ∷ later) → P p
+All-middle P [] later p h = All-head P p later h
+All-middle P (q ∷ prior) later p h = All-middle P prior later p (All-tail P q (prior ++ p ∷ later) h)
+
+pub strides_within : (cs : List ℕ) (hash cap : ℕ) → length cs ≡ 16 * sixteens cap + 15 → All (λ p. p + 16 ≤ length cs) (strides hash cap)
+strides_within cs hash cap long = All-weaker (λ p. p < 16 * sixteens cap) (λ p. p + 16 ≤ length cs) (λ p l. omega (arith, long)) (strides hash cap) (strides_below hash cap)
+
+-- it is a full place of the table, and its control is that of the lane
+pub record IsFullPlace (cs : List ℕ) (cap c place : ℕ) : Type 0 where
+  pub inside : c < length cs
+  pub below : c < 2 * cap
+  pub low : place < cap
+  pub control : get_or cs c 0 ≡ get_or cs place 0
+  pub full : get_or cs place 0 < 128
+
+pub found_place : (A R : ℕ → Type 0) (cs : List ℕ) (hash cap tag place n : ℕ) → 0 < cap → Wraps cs cap → length cs ≡ 16 * sixteens cap + 15
+    → (a : IsFoundAmong A R cs cap tag (searched cs (strides hash cap)) place n) → IsFullPlace cs cap (a.stride + a.found.lane) place
+found_place A R cs hash cap tag place n some w long a =
+    let P : ℕ → Type 0 = λ p. p + 16 ≤ length cs in
+    let room : a.stride + 16 ≤ length cs =
+    All-middle P a.prior a.later a.stride (subst (λ (ps : List ℕ). All P ps) a.strides_are (All-searched P cs (strides hash cap) (strides_within cs hash cap long))) in
+    let inside : a.stride + a.found.lane < length cs = omega (arith, room, a.found.within) in
+    let below : a.stride + a.found.lane < 2 * cap = full_below cs cap (a.stride + a.found.lane) w inside a.found.full in
+    let control = same_control cs cap (a.stride + a.found.lane) place w inside below (sym a.found.place_is) in
+    record {
+      inside = inside;
+      below = below;
+      low = omega (arith, a.found.place_is, mod_low (a.stride + a.found.lane) cap some);
+      control = control;
+      full = omega (arith, control, a.found.full);
+    }
+  where
+    mod_low : (x y : ℕ) → 0 < y → x % y < y
+    mod_low x y h = omega (arith, h)
+
 -- ---- findability
 
 -- The only item that is accepted is found, where it stands under the tag and in the reach.
-pub only_is_found : (A R : ℕ → Type 0) (cs : List ℕ) (hash cap tag place : ℕ) (r : Option ℕ) (n : ℕ)
+pub only_is_found : (A R : ℕ → Type 0) (cs : List ℕ) (hash cap tag place : ℕ) (r : Option ℕ) (n : ℕ) → 0 < cap
     → IsAnswer A R cs cap tag (searched cs (strides hash cap)) r n → Wraps cs cap
     → length cs ≡ 16 * sixteens cap + 15
-    → Among place (reach cs hash cap) → get_or cs place 0 ≡ tag → (R place → ⊥) → ((q : ℕ) → A q → q ≡ place)
+    → Among place (reach cs hash cap) → get_or cs place 0 ≡ tag → (R place → ⊥) → ((q : ℕ) → q < cap → get_or cs q 0 < 128 → A q → q ≡ place)
     → r ≡ Some place
 unfolding reach
-only_is_found A R cs hash cap tag place (Some q) n a w long in' t took only = ap (λ x. Some x) (only q a.found.taken)
-only_is_found A R cs hash cap tag place None n a w long in' t took only =
+only_is_found A R cs hash cap tag place (Some q) n some a w long in' t took only =
+    let f = found_place A R cs hash cap tag q n some w long a in ap (λ x. Some x) (only q f.low f.full a.found.taken)
+only_is_found A R cs hash cap tag place None n some a w long in' t took only =
     let ps : List ℕ = searched cs (strides hash cap) in
     let s = shown_among cap place ps in' in
     let p : ℕ = get_or ps s.0 0 in

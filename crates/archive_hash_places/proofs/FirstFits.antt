@@ -11,9 +11,9 @@ use Rattle.archive_shape_canonical.specs.Strides.{places_for, sixteens, strides,
 use Rattle.archive_shape_canonical.specs.FirstFit.{is_free, control_at, written_controls, hash_tag}
 use Rattle.archive_hash_places.proofs.Fit.{IsFirstFit}
 use Rattle.archive_hash_places.proofs.FreePlaces.{search_free}
-use Rattle.archive_hash_places.specs.Controls.{with_control}
+use Rattle.archive_hash_places.specs.Controls.{AreControls, with_control}
 use Rattle.archive_hash_layout.specs.Reach.{is_empty}
-use Rattle.archive_hash_places.proofs.Wrapping.{Wraps}
+use Rattle.archive_hash_places.proofs.Wrapping.{Wraps, wraps_of, count_of, are_controls}
 use Rattle.archive_hash_places.proofs.FirstFree.{empty_at}
 use Rattle.archive_hash_places.proofs.Places.{wrapped_low, wrapped_high}
 
@@ -177,6 +177,35 @@ module _ (cs : List ℕ) (cap place tag : ℕ) (low : place < cap) (long : cap �
       either : (b : Bool) → length (cond b (set (set cs place tag) (place + cap) tag) (set cs place tag)) ≡ length cs
       either true = length-set (set cs place tag) (place + cap) tag ∙ length-set cs place tag
       either false = length-set cs place tag
+
+-- ---- a table with one item more has controls again
+
+kept_wraps : (cs : List ℕ) (cap place tag : ℕ) → place < cap → length cs ≡ 16 * sixteens cap + 15 → Wraps cs cap → Wraps (with_control cs cap place tag) cap
+kept_wraps cs cap place tag low many w =
+    let long : cap ≤ length cs = omega (arith, many) in
+    let same = length-with_control cs cap place tag low long in
+    record {
+      repeated = λ c high below l. elim (cases_eq c (place + cap)) [
+        | inl e ↦
+            let within : place + cap < length cs = omega (arith, same, e) in
+            let back : c - cap ≡ place = omega arith in
+            ap (λ x. get_or (with_control cs cap place tag) x 0) e ∙ after_repeat cs cap place tag low long within
+            ∙ sym (ap (λ x. get_or (with_control cs cap place tag) x 0) back ∙ after_place cs cap place tag low long)
+        | inr n ↦
+            after_other cs cap place tag low long c (λ e. omega arith) n ∙ w.repeated c high below (omega (arith, same))
+            ∙ sym (after_other cs cap place tag low long (c - cap) (λ e. n (omega arith)) (λ e. omega arith))
+      ];
+      behind = λ c high l. omega (arith, after_other cs cap place tag low long c (λ e. omega arith) (λ e. omega arith), w.behind c high (omega (arith, same)));
+    }
+
+pub kept_controls : (cs : List ℕ) (cap place tag : ℕ) → place < cap → AreControls cs cap → AreControls (with_control cs cap place tag) cap
+kept_controls cs cap place tag low h =
+    let many = count_of cs cap h in
+    are_controls (with_control cs cap place tag) cap (kept_wraps cs cap place tag low many (wraps_of cs cap h))
+    (length-with_control cs cap place tag low (omega (arith, many)) ∙ many)
+
+pub written_are : (cap : ℕ) (hashes places : List ℕ) → AreControls (written_controls cap hashes places) cap
+written_are cap hashes places = are_controls (written_controls cap hashes places) cap (written_wraps cap hashes places) (length-written cap hashes places)
 
 pub written_more : (cap : ℕ) (hashes places : List ℕ) (hash place : ℕ) → place < cap → length hashes ≡ length places → is_free places place ≡ true
     → with_control (written_controls cap hashes places) cap place (hash_tag hash) ≡ written_controls cap (hashes ++ hash ∷ []) (places ++ place ∷ [])

@@ -2,6 +2,7 @@
 use Rattle.std.proofs.Common.{◌≡◌, ℕ, zero, suc, ◌+◌, ◌*◌, ◌%◌, ◌<◌, ◌≤◌, Bool, true, false, cond, not, ◌||◌, List, [], ◌∷◌, ◌++◌, length, map, take, drop, get_or, ltb, eqb, refl, sym, ap, subst, ◌∙◌, arith, inl, inr, true≢false, lt-ltb, le-ltb, le-leb, eqb-true, Option, Some, None, position}
 use Rattle.std.specs.List.{range_with_len, filter, flat_map, find, list_any, prefix_len}
 use Rattle.std.proofs.lemmas.Bool.{cases_lt, cases_Bool}
+use Rattle.std.specs.Option.{is_some}
 use Rattle.std.proofs.lemmas.List.{length-map}
 use Rattle.std.proofs.lemmas.Simd.{get_or-chunk}
 use lib.Lanes.{mask_l}
@@ -90,11 +91,14 @@ module _ (cs : List ℕ) (cap p : ℕ) (w : Wraps cs cap) (room : p + 16 ≤ len
       ap (find (empty_at cs)) (sym (alone (places_shown cap p)))
       ∙ find_past (empty_at cs) cap p 16 [] (λ k l b. below_twice cs cap (p + k) w (omega arith) b ∙ sym (mark_at cs p k room l) ∙ none_at marks e k)
 
+  pub lane_low : (lane : ℕ) → Some lane ≡ position (λ mark. mark) marks → lane < 16
+  lane_low lane e = let m = lowest_at marks lane e in omega (arith, m.1, short marks m.0, length-map (shown cs p) is_empty, length-window cs p 16 room)
+
   -- the lowest marked lane
   pub find_lane : (lane : ℕ) → Some lane ≡ position (λ mark. mark) marks → p + lane < 2 * cap → find (empty_at cs) (places_shown cap p) ≡ Some ((p + lane) % cap)
   find_lane lane e below =
       let m = lowest_at marks lane e in
-      let in' : lane < 16 = omega (arith, m.1, short marks m.0, length-map (shown cs p) is_empty, length-window cs p 16 room) in
+      let in' : lane < 16 = lane_low lane e in
       ap (find (empty_at cs)) (sym (alone (places_shown cap p)))
       ∙ find_here (empty_at cs) cap p 16 lane [] in' below
       (below_twice cs cap (p + lane) w (omega arith) below ∙ sym (mark_at cs p lane room in') ∙ ap (λ k. get_or marks k false) m.1 ∙ lowest_marked marks m.0)
@@ -141,8 +145,17 @@ module _ (cs : List ℕ) (hash cap : ℕ) where
   pub sought_past : (p : ℕ) (left : List ℕ) → find (empty_at cs) (places_shown cap p) ≡ None → Sought cs hash cap (p ∷ left) → Sought cs hash cap left
   sought_past p left none s = sym (find_joined (empty_at cs) (places_shown cap p) (flat_map (places_shown cap) left) none) ∙ s
 
-  pub sought_here : (p place : ℕ) (left : List ℕ) → find (empty_at cs) (places_shown cap p) ≡ Some place → Sought cs hash cap (p ∷ left) → Some place ≡ find (empty_at cs) (places_for hash cap)
+  sought_here : (p place : ℕ) (left : List ℕ) → find (empty_at cs) (places_shown cap p) ≡ Some place → Sought cs hash cap (p ∷ left) → Some place ≡ find (empty_at cs) (places_for hash cap)
   sought_here p place left found s = sym (found_joined (empty_at cs) (places_shown cap p) (flat_map (places_shown cap) left) place found) ∙ s
+
+  -- by what was answered of the stride
+  pub sought_missed : (p : ℕ) (left : List ℕ) (r : Option ℕ) → r ≡ find (empty_at cs) (places_shown cap p) → false ≡ is_some r → Sought cs hash cap (p ∷ left) → Sought cs hash cap left
+  sought_missed p left None e n s = sought_past p left (sym e) s
+  sought_missed p left (Some place) e n s = absurd (true≢false (sym n))
+
+  pub sought_found : (p : ℕ) (left : List ℕ) (r : Option ℕ) → r ≡ find (empty_at cs) (places_shown cap p) → true ≡ is_some r → Sought cs hash cap (p ∷ left) → r ≡ find (empty_at cs) (places_for hash cap)
+  sought_found p left None e n s = absurd (true≢false n)
+  sought_found p left (Some place) e n s = sought_here p place left (sym e) s
 
 -- where a place is empty, the search does not end without one
 pub find_some : (e : ℕ → Bool) (q : ℕ) (xs : List ℕ) → Among q xs → e q ≡ true → find e xs ≡ None → ⊥

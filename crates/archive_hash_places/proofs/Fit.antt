@@ -1,5 +1,6 @@
 -- First fit as a relation: each hash has the first place that its strides show and that none before it took.
-use Rattle.std.proofs.Common.{◌≡◌, ℕ, suc, ◌+◌, ◌<◌, ◌≤◌, true, List, [], ◌∷◌, ◌++◌, length, refl, sym, ap, ◌∙◌, arith, inl, inr, Option, Some, None, length-append, ⊤}
+use Rattle.std.proofs.Common.{◌≡◌, ℕ, suc, ◌+◌, ◌<◌, ◌≤◌, true, List, [], ◌∷◌, ◌++◌, length, refl, sym, ap, ◌∙◌, arith, inl, inr, Option, Some, None, length-append}
+use Rattle.std.specs.Prelude.{⊤}
 use Rattle.std.specs.Option.{unwrap_or}
 use Rattle.std.specs.List.{find}
 use Rattle.std.proofs.lemmas.Map.Steps.{le-length_from_below}
@@ -26,7 +27,7 @@ fitted_is cap taken (hash ∷ hashes) (place ∷ places) fit =
     ap (λ ps. place ∷ ps) (fitted_is cap (taken ++ place ∷ []) hashes places fit.1) ∙ ap (λ p. p ∷ fitted_from cap (taken ++ p ∷ []) hashes) first
 
 -- a free place is shown where fewer are taken than there are
-some_free : (cap hash : ℕ) (taken : List ℕ) → length taken < cap → find (is_free taken) (places_for hash cap) ≡ Some (unwrap_or (find (is_free taken) (places_for hash cap)) 0)
+pub some_free : (cap hash : ℕ) (taken : List ℕ) → length taken < cap → find (is_free taken) (places_for hash cap) ≡ Some (unwrap_or (find (is_free taken) (places_for hash cap)) 0)
 some_free cap hash taken few = elim (search_free taken cap) [
   | inl q ↦ opened (find (is_free taken) (places_for hash cap)) (find_some (is_free taken) q.0 (places_for hash cap) (every_place hash cap q.0 q.1) q.2)
   | inr all ↦ let most = le-length_from_below taken cap all in absurd (omega arith)

@@ -1,8 +1,9 @@
 -- Every item of a written table is in the reach of its hash, under its own tag.
-use Rattle.std.proofs.Common.{◌≡◌, ℕ, zero, suc, ◌+◌, ◌-◌, ◌*◌, ◌%◌, ◌<◌, ◌≤◌, Bool, true, false, cond, not, ◌||◌, List, [], ◌∷◌, ◌++◌, length, take, drop, get_or, eqb, refl, sym, ap, subst, ◌∙◌, arith, inl, inr, true≢false, append_assoc, Option, Some, None, eq-eqb, lt-ltb, map, ltb}
+use Rattle.std.proofs.Common.{◌≡◌, ◌≢◌, ℕ, zero, suc, ◌+◌, ◌-◌, ◌*◌, ◌%◌, ◌<◌, ◌≤◌, Bool, true, false, cond, not, ◌||◌, List, [], ◌∷◌, ◌++◌, length, take, drop, get_or, eqb, refl, sym, ap, subst, ◌∙◌, arith, inl, inr, true≢false, append_assoc, Option, Some, None, eq-eqb, lt-ltb, map, ltb}
 use Rattle.std.specs.List.{All, list_any, flat_map, find, filter, range_with_len}
 use Rattle.std.proofs.lemmas.Bool.{cases_Bool, cases_lt}
 use Rattle.std.proofs.lemmas.List.{take-append-drop}
+use Rattle.std.proofs.Math.Seq.{length-take-le}
 use Rattle.std.proofs.lemmas.List.Elements.{All-head, All-tail, All-from_get_or}
 use Rattle.std.proofs.lemmas.List.Folds.{list_any-append, list_any_none}
 use Rattle.std.proofs.lemmas.Simd.{get_or-chunk}
@@ -205,3 +206,25 @@ places_low cap taken hashes places j some fit l = low_among cap some (get_or has
 
 pub written_tag : (cap : ℕ) (hashes places : List ℕ) (j : ℕ) → 0 < cap → IsFirstFit cap [] hashes places → j < length hashes → get_or (written_controls cap hashes places) (get_or places j 0) 0 ≡ hash_tag (get_or hashes j 0)
 written_tag cap hashes places j some fit l = written_low cap hashes places (get_or places j 0) (places_low cap [] hashes places j some fit l) ∙ control_own cap [] hashes places j fit l
+
+-- no two items have one place
+pub places_apart : (cap : ℕ) (hashes places : List ℕ) (i j : ℕ) → IsFirstFit cap [] hashes places → i < j → j < length hashes → get_or places i 0 ≢ get_or places j 0
+places_apart cap hashes places i j fit less l e =
+    let q : ℕ = get_or places j 0 in
+    let long : j ≤ length places = omega (arith, same_length cap [] hashes places fit) in
+    absurd (true≢false (sym (place_is_new cap [] hashes places j fit l) ∙ ap not (any_at (take j places) i q (omega (arith, length-take-le j places long)) (get_or_take j i places less ∙ e))))
+  where
+    any_at : (xs : List ℕ) (k r : ℕ) → k < length xs → get_or xs k 0 ≡ r → list_any (λ x. eqb x r) xs ≡ true
+    any_at [] k r l e = absurd (omega arith)
+    any_at (x ∷ xs) zero r l e = ap (λ b. b || list_any (λ y. eqb y r) xs) (eq-eqb x r e)
+    any_at (x ∷ xs) (suc k) r l e = later (eqb x r) (any_at xs k r (omega arith) e)
+      where
+        later : (b : Bool) → list_any (λ y. eqb y r) xs ≡ true → (b || list_any (λ y. eqb y r) xs) ≡ true
+        later true h = refl
+        later false h = h
+
+    get_or_take : (n k : ℕ) (xs : List ℕ) → k < n → get_or (take n xs) k 0 ≡ get_or xs k 0
+    get_or_take zero k xs l = absurd (omega arith)
+    get_or_take (suc n) k [] l = refl
+    get_or_take (suc n) zero (x ∷ xs) l = refl
+    get_or_take (suc n) (suc k) (x ∷ xs) l = get_or_take n k xs (omega arith)

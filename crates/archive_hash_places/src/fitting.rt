@@ -113,8 +113,7 @@ pub fn write_controls<S: Scan>(
 {
     clear(controls);
     for i in 0..hashes.len() {
-        if let Some(place) = insert::<S>(controls, capacity, hashes[i]) {
-            places[i] = place as u32;
-        }
+        let place = insert::<S>(controls, capacity, hashes[i]);
+        places[i] = place.unwrap_or(0) as u32;
     }
 }
