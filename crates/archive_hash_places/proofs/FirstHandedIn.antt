@@ -13,7 +13,7 @@ use Rattle.archive_hash_layout.specs.Reach.{is_empty, shown, searched, reach, Re
 use Rattle.archive_hash_places.specs.Search.{IsAnswer, IsFoundIn, IsRefused}
 use Rattle.archive_hash_places.proofs.Wrapping.{Wraps}
 use Rattle.archive_hash_places.proofs.Coverage.{Among}
-use Rattle.archive_hash_places.proofs.Findable.{among_append, shown_of, same_control, only_is_found, All-searched, strides_below}
+use Rattle.archive_hash_places.proofs.Findable.{among_append, shown_of, same_control, only_is_found, found_place, All-searched, strides_within}
 use Rattle.archive_hash_places.proofs.FirstFits.{Tags, free_is_empty, written_low, written_wraps, length-written}
 use Rattle.archive_hash_places.proofs.InStride.{full_below}
 use Rattle.archive_hash_places.proofs.Reached.{first_fit_at, same_length, place_is_new, written_reaches, written_tag}
@@ -134,7 +134,7 @@ option_then e (x ∷ xs) ys p h = elim (cases_Bool (e x)) [
 pub first_handed_in : (A R : ℕ → Type 0) (cs : List ℕ) (cap hash : ℕ) (hashes places : List ℕ) (r : Option ℕ) (n j : ℕ)
     → 0 < cap → Tags hashes → IsFirstFit cap [] hashes places → cs ≡ written_controls cap hashes places
     → IsAnswer A R cs cap (hash_tag hash) (searched cs (strides hash cap)) r n
-    → ((q : ℕ) → A q → R q → ⊥) → ((i : ℕ) → i < length hashes → A (get_or places i 0) → get_or hashes i 0 ≡ hash)
+    → ((i : ℕ) → i < length hashes → A (get_or places i 0) → R (get_or places i 0) → ⊥) → ((i : ℕ) → i < length hashes → A (get_or places i 0) → get_or hashes i 0 ≡ hash)
     → j < length hashes → A (get_or places j 0) → ((i : ℕ) → i < j → A (get_or places i 0) → ⊥)
     → r ≡ Some (get_or places j 0)
 unfolding places_for reach
@@ -144,28 +144,24 @@ first_handed_in A R cs cap hash hashes places None n j some tags fit is a never 
     let in' : Reaches cs hash cap (get_or places j 0) =
     subst (λ (h : ℕ). Reaches cs h cap (get_or places j 0)) own (subst (λ (xs : List ℕ). Reaches xs (get_or hashes j 0) cap (get_or places j 0)) (sym is) (written_reaches cap hashes places j some tags fit l)) in
     let tag : get_or cs (get_or places j 0) 0 ≡ hash_tag hash = ap (λ xs. get_or xs (get_or places j 0) 0) is ∙ written_tag cap hashes places j some fit l ∙ ap hash_tag own in
-    only_is_found (λ (q : ℕ). ⊥) R cs hash cap (hash_tag hash) (get_or places j 0) None n a w (ap length is ∙ length-written cap hashes places) in' tag (never (get_or places j 0) yes') (λ q x. absurd x)
+    only_is_found (λ (q : ℕ). ⊥) R cs hash cap (hash_tag hash) (get_or places j 0) None n some a w (ap length is ∙ length-written cap hashes places) in' tag (never j l yes') (λ q low full x. absurd x)
 first_handed_in A R cs cap hash hashes places (Some q) n j some tags fit is a never alike l yes' least =
     let own : get_or hashes j 0 ≡ hash = alike j l yes' in
     let w : Wraps cs cap = subst (λ (xs : List ℕ). Wraps xs cap) (sym is) (written_wraps cap hashes places) in
     let long : length cs ≡ 16 * sixteens cap + 15 = ap length is ∙ length-written cap hashes places in
     let even : length hashes ≡ length places = same_length cap [] hashes places fit in
     let tag : get_or cs (get_or places j 0) 0 ≡ hash_tag hash = ap (λ xs. get_or xs (get_or places j 0) 0) is ∙ written_tag cap hashes places j some fit l ∙ ap hash_tag own in
-    let bounds : All (λ p. p < 16 * sixteens cap) (a.prior ++ a.stride ∷ a.later) = subst (λ (ps : List ℕ). All (λ p. p < 16 * sixteens cap) ps) a.strides_are (All-searched (λ p. p < 16 * sixteens cap) cs (strides hash cap) (strides_below hash cap)) in
-    let room : All (λ p. p + 16 ≤ length cs) (a.prior ++ a.stride ∷ a.later) = All-weaker (λ p. p < 16 * sixteens cap) (λ p. p + 16 ≤ length cs) (λ p h. omega arith) (a.prior ++ a.stride ∷ a.later) bounds in
-    let here : a.stride + 16 ≤ length cs = stride_room cs a.stride a.later a.prior room in
-    let inside : a.stride + a.found.lane < length cs = omega (arith, here, a.found.within) in
-    let below : a.stride + a.found.lane < 2 * cap = full_below cs cap (a.stride + a.found.lane) w inside a.found.full in
-    let control = same_control cs cap (a.stride + a.found.lane) q w inside below (sym a.found.place_is) in
-    let low : q < cap = omega (arith, a.found.place_is, mod_low (a.stride + a.found.lane) cap some) in
+    let f = found_place A R cs hash cap (hash_tag hash) q n some w long a in
+    let room : All (λ p. p + 16 ≤ length cs) (a.prior ++ a.stride ∷ a.later) =
+    subst (λ (ps : List ℕ). All (λ p. p + 16 ≤ length cs) ps) a.strides_are (All-searched (λ p. p + 16 ≤ length cs) cs (strides hash cap) (strides_within cs hash cap long)) in
     let full : is_free places q ≡ false =
-    sym (ap is_empty (ap (λ xs. get_or xs q 0) is ∙ written_low cap hashes places q low) ∙ free_is_empty hashes places q even tags) ∙ lt-leb 128 (get_or cs q 0) (omega (arith, control, a.found.full)) in
+    sym (ap is_empty (ap (λ xs. get_or xs q 0) is ∙ written_low cap hashes places q f.low) ∙ free_is_empty hashes places q even tags) ∙ lt-leb 128 (get_or cs q 0) f.full in
     let item = item_of places q full in
     let i : ℕ = item.0 in
     let i_low : i < length hashes = omega (arith, item.1, even) in
     let at : get_or places i 0 ≡ q = item.2 in
     let same_hash : get_or hashes i 0 ≡ hash = alike i i_low (subst A (sym at) a.found.taken) in
-    let cut = cut_strides A R cs cap (hash_tag hash) q a.stride a.later a.prior w room a.refused_before a.found below in
+    let cut = cut_strides A R cs cap (hash_tag hash) q a.stride a.later a.prior w room a.refused_before a.found f.below in
     let front = searched_front cs cap (strides hash cap) in
     let all : places_for hash cap ≡ cut.front ++ (q ∷ cut.back ++ front.0) =
     front.1 ∙ ap (λ ps. flat_map (places_shown cap) ps ++ front.0) a.strides_are ∙ ap (λ xs. xs ++ front.0) cut.is ∙ append_assoc cut.front (q ∷ cut.back) front.0 in
@@ -175,7 +171,7 @@ first_handed_in A R cs cap hash hashes places (Some q) n j some tags fit is a ne
       | inr d ↦ elim (cases_lt i j) [
         | inl less ↦ absurd (least i less (subst A (sym at) a.found.taken))
         | inr more ↦ elim (option_then (is_free (take j places)) cut.front (q ∷ cut.back ++ front.0) (get_or places j 0) (ap (find (is_free (take j places))) (sym all) ∙ first)) [
-          | inl among ↦ absurd (never (get_or places j 0) yes' (cut.refused (get_or places j 0) among tag))
+          | inl among ↦ absurd (never j l yes' (cut.refused (get_or places j 0) among tag))
           | inr next ↦
               let new : is_free (take i places) q ≡ true = ap (is_free (take i places)) (sym at) ∙ place_is_new cap [] hashes places i fit i_low in
               let later : j < i = omega arith in
@@ -185,10 +181,3 @@ first_handed_in A R cs cap hash hashes places (Some q) n j some tags fit is a ne
         ]
       ]
     ]
-  where
-    mod_low : (x y : ℕ) → 0 < y → x % y < y
-    mod_low x y h = omega (arith, h)
-
-    stride_room : (xs : List ℕ) (s : ℕ) (ls ps : List ℕ) → All (λ p. p + 16 ≤ length xs) (ps ++ s ∷ ls) → s + 16 ≤ length xs
-    stride_room xs s ls [] h = All-head (λ p. p + 16 ≤ length xs) s ls h
-    stride_room xs s ls (p ∷ ps) h = stride_room xs s ls ps (All-tail (λ p. p + 16 ≤ length xs) p (ps ++ s ∷ ls) h)

@@ -1,8 +1,8 @@
 -- What a look-up along strides answers. `accepted p` and `refused p` say what the comparison said of the item at place p.
-use Rattle.std.specs.Prelude.{◌≡◌, ℕ, ◌+◌, ◌%◌, ◌<◌, Bool, true, false, List, ◌∷◌, ◌++◌, length, slice_index, Option, Some, None}
-use Rattle.std.specs.List.{All}
+use Rattle.std.specs.Prelude.{◌≡◌, ℕ, ◌+◌, ◌%◌, ◌<◌, ◌==◌, Bool, true, false, List, ◌∷◌, ◌++◌, length, slice_index, Option, Some, None}
+use Rattle.std.specs.List.{All, list_any}
 use Rattle.archive_shape_canonical.specs.FirstFit.{hash_tag}
-use Rattle.archive_shape_canonical.specs.Strides.{strides}
+use Rattle.archive_shape_canonical.specs.Strides.{strides, places_shown}
 use Rattle.archive_hash_layout.specs.Reach.{searched}
 
 module _ (accepted refused : ℕ → Type 0) (controls : List ℕ) (cap tag : ℕ) where
@@ -32,6 +32,10 @@ module _ (accepted refused : ℕ → Type 0) (controls : List ℕ) (cap tag : �
   abbrev pub IsAnswer : List ℕ → Option ℕ → ℕ → Type 0
   IsAnswer strides None n = (n ≡ length strides) × All IsRefused strides
   IsAnswer strides (Some place) n = IsFoundAmong strides place n
+
+-- a stride shows a place
+abbrev pub shows : ℕ → ℕ → ℕ → Bool
+shows cap place p = list_any (λ q. place == q) (places_shown cap p)
 
 -- what a look-up of a hash answers, where `says p b` holds if b is said of the item at place p
 abbrev pub IsLookup : (ℕ → Bool → Type 0) → List ℕ → ℕ → ℕ → Option ℕ → ℕ → Type 0

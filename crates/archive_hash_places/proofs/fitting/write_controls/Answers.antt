@@ -39,7 +39,34 @@ insert-place-requires-clause-controls g c =
     subst (λ (cs : List ℕ). AreControls cs c.args.capacity) (sym c.loop-i.invariant.1) (written_are c.args.capacity (take c.loop-i.i c.args.hashes.now) (take c.loop-i.i c.loop-i.places))
 
 pub loop-i-preserved : goal.loop-i-preserved
-loop-i-preserved g c = ?
+loop-i-preserved g c =
+    let i : ℕ = c.loop-i.i in
+    let cap : ℕ = c.args.capacity in
+    let hashes : List ℕ = c.args.hashes.now in
+    let places : List ℕ = c.loop-i.places in
+    let hs : List ℕ = take i hashes in
+    let ps : List ℕ = take i places in
+    let hash : ℕ = get_or hashes i 0 in
+    let place : ℕ = c.unwrap_or.result in
+    let is : place ≡ unwrap_or c.insert-place.result 0 = c.unwrap_or.ensures in
+    let room : i < length places = omega (arith, c.loop-i.auto.places, c.requires.places) in
+    let long : length hs ≡ i = length-take-le i hashes (omega arith) in
+    let wide : length ps ≡ i = length-take-le i places (omega arith) in
+    let even : length hs ≡ length ps = long ∙ sym wide in
+    let p = placed c.loop-i.controls cap hash hs ps c.insert-place.result even (taken_tags i hashes c.type_inv.hashes) (omega (arith, wide, c.requires.room)) c.loop-i.invariant.1 c.insert-place.ensures.first in
+    let first : find (is_free ps) (places_for hash cap) ≡ Some place = p.0 ∙ ap Some (sym is) in
+    let given : c.insert-place.result ≡ Some place = p.1 ∙ ap Some (sym is) in
+    let low : place < cap = subst (λ r. IfSome r (λ q. q < cap)) given c.insert-place.ensures.bound in
+    let written : c.insert-place.new.controls ≡ with_control c.loop-i.controls cap place (hash_tag hash) =
+    subst (λ r. IfSome r (λ q. c.insert-place.new.controls ≡ with_control c.loop-i.controls cap q (hash_tag hash))) given c.insert-place.ensures.written in
+    let more : take (i + 1) hashes ≡ hs ++ hash ∷ [] = take_more hashes i 0 c.loop-i-test.true in
+    let next : take (i + 1) (set places i place) ≡ ps ++ place ∷ [] = take_more_set places i place room in
+    let controls : c.insert-place.new.controls ≡ written_controls cap (hs ++ hash ∷ []) (ps ++ place ∷ []) =
+    written ∙ ap (λ cs. with_control cs cap place (hash_tag hash)) c.loop-i.invariant.1
+    ∙ written_more cap hs ps hash place low even (found_is_free (is_free ps) (places_for hash cap) place first) in (
+      subst (λ (xs : List ℕ). IsFirstFit cap [] xs (take (i + 1) (set places i place))) (sym more) (subst (λ (ys : List ℕ). IsFirstFit cap [] (hs ++ hash ∷ []) ys) (sym next) (fits_more cap hs ps hash place c.loop-i.invariant.0 first)),
+      controls ∙ (λ j. written_controls cap (sym more j) (sym next j)),
+    )
 
 pub returns-clause-fitted : goal.returns-clause-fitted
 returns-clause-fitted g c =
