@@ -97,7 +97,7 @@ same_control cs cap c place w l b e = elim (cases_lt c cap) [
 
 -- ---- what is found
 
-All-middle : (P : ℕ → Type 0) (prior later : List ℕ) (p : ℕ) → All P (prior ++ p ∷ later) → P p
+pub All-middle : (P : ℕ → Type 0) (prior later : List ℕ) (p : ℕ) → All P (prior ++ p ∷ later) → P p
 All-middle P [] later p h = All-head P p later h
 All-middle P (q ∷ prior) later p h = All-middle P prior later p (All-tail P q (prior ++ p ∷ later) h)
 
