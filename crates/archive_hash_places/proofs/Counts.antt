@@ -1,15 +1,15 @@
 -- What several look-ups of one hash in one table have in common, and that what is found in a written table is an item.
-use Rattle.std.proofs.Common.{◌≡◌, ℕ, ◌+◌, ◌*◌, ◌%◌, ◌<◌, ◌≤◌, Bool, true, false, cond, not, List, [], ◌∷◌, ◌++◌, length, get_or, eqb, refl, sym, ap, subst, ◌∙◌, arith, inl, inr, true≢false, Option, Some, None, length-append}
-use Rattle.std.specs.List.{All, prefix_len, list_any}
+use Rattle.std.proofs.Common.{◌≡◌, ℕ, ◌+◌, ◌*◌, ◌%◌, ◌<◌, ◌≤◌, true, false, cond, not, List, [], ◌∷◌, ◌++◌, length, get_or, refl, sym, ap, subst, ◌∙◌, arith, inl, inr, Option, Some, None, length-append}
+use Rattle.std.specs.List.{All, prefix_len}
 use Rattle.std.proofs.lemmas.Bool.{cases_Bool, cases_lt, lt-leb}
 use Rattle.std.proofs.lemmas.List.{get_or_append_left}
 use Rattle.std.proofs.lemmas.List.Elements.{All-head, All-tail, All-get_or, All-from_get_or}
 use Rattle.archive_shape_canonical.specs.FirstFit.{is_free, written_controls}
-use Rattle.archive_shape_canonical.specs.Strides.{sixteens, strides, places_shown}
+use Rattle.archive_shape_canonical.specs.Strides.{sixteens, strides}
 use Rattle.archive_hash_layout.specs.Reach.{is_empty, searched}
 use Rattle.archive_hash_places.specs.Search.{IsAnswer, IsFoundAmong, IsRefused, shows}
 use Rattle.archive_hash_places.proofs.Coverage.{shown_at}
-use Rattle.archive_hash_places.proofs.Findable.{IsFullPlace, found_place, same_control, shown_of, All-searched, All-middle, strides_within}
+use Rattle.archive_hash_places.proofs.Findable.{found_place, same_control, shown_of, All-searched, All-middle, strides_within}
 use Rattle.archive_hash_places.proofs.FirstFits.{Tags, free_is_empty, written_low, written_wraps, length-written}
 use Rattle.archive_hash_places.proofs.FirstHandedIn.{item_of}
 use Rattle.archive_hash_places.proofs.Fit.{IsFirstFit}

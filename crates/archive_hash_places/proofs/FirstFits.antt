@@ -1,5 +1,5 @@
 -- Items placed one after another: first fit, and the controls that they leave.
-use Rattle.std.proofs.Common.{◌≡◌, ◌≢◌, ℕ, zero, suc, ◌+◌, ◌-◌, ◌*◌, ◌%◌, ◌^◌, ◌<◌, ◌≤◌, Bool, true, false, cond, not, ◌||◌, List, [], ◌∷◌, ◌++◌, length, map, get_or, set, replicate, ◌⊎◌, leb-true, eqb, ltb, refl, sym, ap, ◌∙◌, arith, inl, inr, true≢false, append_assoc, Option, Some, None, eqb-true, eq-eqb, lt-ltb, le-ltb, length-set, get_or-set_other, get_or-set_same, Fits, w64, take}
+use Rattle.std.proofs.Common.{◌≡◌, ◌≢◌, ℕ, ◌+◌, ◌-◌, ◌*◌, ◌%◌, ◌^◌, ◌<◌, ◌≤◌, Bool, true, false, cond, not, ◌||◌, List, [], ◌∷◌, ◌++◌, length, map, get_or, set, replicate, leb-true, eqb, ltb, refl, sym, ap, ◌∙◌, arith, inl, inr, true≢false, append_assoc, Option, Some, None, eqb-true, eq-eqb, lt-ltb, le-ltb, length-set, get_or-set_other, get_or-set_same, Fits, w64, take}
 use Rattle.std.specs.List.{All, list_any, flat_map, find}
 use Rattle.std.proofs.lemmas.Bool.{cases_Bool, cases_eq, cases_lt, lt-leb}
 use Rattle.std.proofs.lemmas.Grind.{same_number_lists}

@@ -1,11 +1,10 @@
 -- The first empty place along strides.
-use Rattle.std.proofs.Common.{◌≡◌, ℕ, zero, suc, ◌+◌, ◌*◌, ◌%◌, ◌<◌, ◌≤◌, Bool, true, false, cond, not, ◌||◌, List, [], ◌∷◌, ◌++◌, length, map, take, drop, get_or, ltb, eqb, refl, sym, ap, subst, ◌∙◌, arith, inl, inr, true≢false, lt-ltb, le-ltb, le-leb, eqb-true, Option, Some, None, position}
-use Rattle.std.specs.List.{range_with_len, filter, flat_map, find, list_any, prefix_len}
+use Rattle.std.proofs.Common.{◌≡◌, ℕ, zero, suc, ◌+◌, ◌*◌, ◌%◌, ◌<◌, ◌≤◌, Bool, true, false, cond, ◌||◌, List, [], ◌∷◌, ◌++◌, length, map, take, drop, get_or, ltb, eqb, refl, sym, ap, ◌∙◌, arith, inl, inr, true≢false, lt-ltb, le-ltb, le-leb, eqb-true, Option, Some, None, position}
+use Rattle.std.specs.List.{range_with_len, filter, flat_map, find, list_any}
 use Rattle.std.proofs.lemmas.Bool.{cases_lt, cases_Bool}
 use Rattle.std.specs.Option.{is_some}
 use Rattle.std.proofs.lemmas.List.{length-map}
 use Rattle.std.proofs.lemmas.Simd.{get_or-chunk}
-use lib.Lanes.{mask_l}
 use Rattle.archive_shape_canonical.specs.Strides.{places_for, strides, places_shown}
 use Rattle.archive_hash_layout.specs.Reach.{is_empty, shown}
 use Rattle.archive_hash_places.proofs.Wrapping.{Wraps}

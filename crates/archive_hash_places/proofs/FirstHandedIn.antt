@@ -2,7 +2,7 @@
 use Rattle.std.proofs.Common.{◌≡◌, ℕ, zero, suc, ◌+◌, ◌*◌, ◌%◌, ◌<◌, ◌≤◌, Bool, true, false, cond, not, ◌||◌, ◌⊎◌, List, [], ◌∷◌, ◌++◌, length, map, take, drop, get_or, eqb, ltb, refl, sym, ap, subst, ◌∙◌, arith, inl, inr, true≢false, append_assoc, Option, Some, None, eqb-true, eq-eqb, lt-ltb}
 use Rattle.std.specs.List.{All, list_any, flat_map, find, filter, range_with_len}
 use Rattle.std.proofs.lemmas.Bool.{cases_Bool, cases_eq, cases_lt}
-use Rattle.std.proofs.lemmas.List.Elements.{All-head, All-tail, All-weaker}
+use Rattle.std.proofs.lemmas.List.Elements.{All-head, All-tail}
 use Rattle.std.proofs.lemmas.Bool.{lt-leb}
 use Rattle.std.proofs.lemmas.List.{take-append-drop, take-take}
 use Rattle.std.proofs.lemmas.List.Folds.{list_any-append}
@@ -15,7 +15,6 @@ use Rattle.archive_hash_places.proofs.Wrapping.{Wraps}
 use Rattle.archive_hash_places.proofs.Coverage.{Among}
 use Rattle.archive_hash_places.proofs.Findable.{among_append, shown_of, same_control, only_is_found, found_place, All-searched, strides_within}
 use Rattle.archive_hash_places.proofs.FirstFits.{Tags, free_is_empty, written_low, written_wraps, length-written}
-use Rattle.archive_hash_places.proofs.InStride.{full_below}
 use Rattle.archive_hash_places.proofs.Reached.{first_fit_at, same_length, place_is_new, written_reaches, written_tag}
 
 -- a list cut before a place, where what stands before it was refused as far as it has the tag

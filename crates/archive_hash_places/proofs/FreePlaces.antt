@@ -1,5 +1,5 @@
 -- A place below a number that is not among some places, if there is one.
-use Rattle.std.proofs.Common.{◌≡◌, ℕ, zero, suc, ◌<◌, true, false, not, ◌||◌, ◌⊎◌, List, [], ◌∷◌, eqb, refl, sym, ap, ◌∙◌, arith, inl, inr, true≢false, eqb-true, eq-eqb}
+use Rattle.std.proofs.Common.{◌≡◌, ℕ, zero, suc, ◌<◌, true, not, ◌||◌, ◌⊎◌, List, [], ◌∷◌, eqb, refl, sym, ap, ◌∙◌, arith, inl, inr, true≢false, eqb-true, eq-eqb}
 use Rattle.std.specs.List.{list_any}
 use Rattle.std.proofs.lemmas.Bool.{cases_Bool, cases_eq}
 use Rattle.archive_shape_canonical.specs.FirstFit.{is_free}

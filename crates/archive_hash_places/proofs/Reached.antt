@@ -116,7 +116,7 @@ first_stride hash cap some =
     let rest : List ℕ = filter (λ p. ltb p (16 * sixteens cap)) (map (stop hash cap) (range_with_len 1 (m - 1))) in (
       rest,
       ap (λ n. filter (λ p. ltb p (16 * sixteens cap)) (map (stop hash cap) (range_with_len 0 n))) pos
-      ∙ ap (λ b. cond b (stop hash cap 0 ∷ rest) rest) (lt-ltb _ _ low) ∙ ap (λ x. x ∷ rest) first,
+          ∙ ap (λ b. cond b (stop hash cap 0 ∷ rest) rest) (lt-ltb _ _ low) ∙ ap (λ x. x ∷ rest) first,
     )
 
 pub tidy_strides : (hash cap n : ℕ) → 0 < cap → n ≡ 16 * sixteens cap + 15 → Tidy n cap (strides hash cap)

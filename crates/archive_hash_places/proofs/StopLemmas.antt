@@ -1,5 +1,5 @@
 -- The stops of a hash, one after another.
-use Rattle.std.proofs.Common.{◌≡◌, ℕ, zero, suc, ◌+◌, ◌-◌, ◌*◌, ◌%◌, ◌<◌, ◌≤◌, true, false, cond, List, [], ◌∷◌, map, ltb, refl, sym, ap, ◌∙◌, arith, lt-ltb, le-ltb}
+use Rattle.std.proofs.Common.{◌≡◌, ℕ, zero, suc, ◌+◌, ◌-◌, ◌*◌, ◌%◌, ◌<◌, ◌≤◌, cond, List, [], ◌∷◌, map, ltb, refl, sym, ap, ◌∙◌, arith, lt-ltb, le-ltb}
 use Rattle.std.specs.List.{filter, range_with_len}
 use native.Mathlib.Nat.{mod-eq_of_lt, mod-add-mod}
 use Rattle.archive_shape_canonical.specs.Strides.{sixteens, least_power, stop, strides_from, strides}
@@ -19,7 +19,6 @@ stop_first hash cap some =
     let below : hash % cap < cap = omega arith in
     let within : hash % cap + 8 * (0 * (0 + 1)) < 16 * least_power (sixteens cap) = omega (arith, m.above, sixteens_le cap, below) in
     sym (mod-eq_of_lt within ∙ omega arith)
-
 
 stops_are : (hash cap n k : ℕ) → map (stop hash cap) (range_with_len k n) ≡ stops_from (16 * least_power (sixteens cap)) n k (stop hash cap k)
 stops_are hash cap zero k = refl

@@ -1,10 +1,9 @@
 -- A look-up from stride to stride.
-use Rattle.std.proofs.Common.{◌≡◌, ℕ, suc, ◌+◌, ◌-◌, ◌*◌, ◌<◌, ◌≤◌, true, false, cond, List, [], ◌∷◌, refl, sym, ap, subst, arith, Option, Some, None, lt-ltb, le-ltb}
+use Rattle.std.proofs.Common.{◌≡◌, ℕ, ◌+◌, true, false, cond, List, [], ◌∷◌, refl, sym, ap, subst, arith, Option, Some, None}
 use Rattle.std.specs.List.{list_any}
 use Rattle.std.proofs.lemmas.List.Elements.{All-nil, All-cons}
 use Rattle.archive_hash_layout.specs.Reach.{is_empty, shown, searched}
 use Rattle.archive_hash_places.specs.Search.{IsAnswer, IsFoundIn, IsRefused}
-use Rattle.archive_shape_canonical.specs.Strides.{sixteens, least_power, stop, strides_from, strides}
 
 module _ (accepted refused : ℕ → Type 0) (cs : List ℕ) (cap tag : ℕ) where
   abbrev Answers : List ℕ → Option ℕ → ℕ → Type 0

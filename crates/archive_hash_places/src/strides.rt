@@ -29,7 +29,11 @@ fn pass_stop(stop: Stop) -> Stop
     let passed = stop.passed + 1;
     let further = stop.position + 16 * passed;
     Stop {
-        position: if further < ring { further } else { further - ring },
+        position: if further < ring {
+            further
+        } else {
+            further - ring
+        },
         passed,
         count: stop.count,
     }

@@ -1,4 +1,4 @@
-use Rattle.std.proofs.Common.{◌≡◌, ◌∙◌, sym, ap, arith, map, Some}
+use Rattle.std.proofs.Common.{◌∙◌, sym, ap, arith, map, Some}
 use Rattle.archive_hash_layout.specs.Reach.{is_empty, shown}
 use Rattle.archive_hash_places.proofs.FirstFree.{long_marks, lane_low, find_none, find_lane, find_behind}
 use Rattle.archive_hash_places.proofs.Wrapping.{wraps_of, count_of}

@@ -1,4 +1,4 @@
-use Rattle.std.proofs.Common.{◌≡◌, ℕ, ◌+◌, ◌<◌, ◌≤◌, Bool, cond, ltb, List, length, set, subst, sym, ap, ◌∙◌, arith, lt-ltb, le-ltb, length-set}
+use Rattle.std.proofs.Common.{ℕ, ◌+◌, ◌<◌, ◌≤◌, Bool, cond, List, length, set, subst, arith, lt-ltb, le-ltb, length-set}
 use Rattle.archive_hash_places.specs.Controls.{AreControls}
 use Rattle.archive_hash_places.proofs.FirstFits.{kept_controls}
 use Rattle.archive_hash_places.proofs.Wrapping.{count_of}

@@ -1,4 +1,4 @@
-use Rattle.std.proofs.Common.{◌≡◌, ℕ, ◌+◌, ◌≤◌, ◌^◌, ◌<◌, true, false, List, [], length, get_or, sym, subst, arith, Fits, w64}
+use Rattle.std.proofs.Common.{◌≡◌, ℕ, ◌^◌, ◌<◌, true, false, List, [], length, get_or, sym, subst, arith, Fits, w64}
 use Rattle.std.proofs.lemmas.List.Elements.{All-from_get_or}
 use Rattle.archive_shape_canonical.specs.FirstFit.{hash_tag, fitted_from}
 use Rattle.archive_hash_places.proofs.Counts.{none_accepted}

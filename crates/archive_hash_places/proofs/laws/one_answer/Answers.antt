@@ -1,4 +1,4 @@
-use Rattle.std.proofs.Common.{◌≡◌, ℕ, true, false}
+use Rattle.std.proofs.Common.{ℕ, true, false}
 use Rattle.archive_shape_canonical.specs.FirstFit.{hash_tag}
 use Rattle.archive_hash_places.proofs.Counts.{one_answer}
 use Rattle.archive_hash_places.proofs.Wrapping.{wraps_of, count_of}

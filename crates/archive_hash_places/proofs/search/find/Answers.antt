@@ -1,6 +1,6 @@
-use Rattle.std.proofs.Common.{◌≡◌, ℕ, ◌+◌, ◌≤◌, true, false, List, [], length, sym, ap, subst, ◌∙◌, arith, Some, None}
+use Rattle.std.proofs.Common.{ℕ, ◌+◌, ◌≤◌, true, false, List, length, sym, ap, subst, arith, Some, None}
 use Rattle.std.specs.List.{All}
-use Rattle.std.proofs.lemmas.List.Elements.{All-head, All-tail}
+use Rattle.std.proofs.lemmas.List.Elements.{All-tail}
 use Rattle.archive_shape_canonical.specs.FirstFit.{hash_tag}
 use Rattle.archive_shape_canonical.specs.Strides.{sixteens, strides}
 use Rattle.archive_hash_layout.specs.Reach.{searched}

@@ -1,4 +1,4 @@
-use Rattle.std.proofs.Common.{◌≡◌, ℕ, ◌+◌, ◌<◌, ◌≤◌, false, length, get_or, subst, sym, arith, rules}
+use Rattle.std.proofs.Common.{◌≡◌, ℕ, ◌+◌, ◌<◌, false, length, get_or, subst, arith, rules}
 use Rattle.archive_hash_places.proofs.InStride.{pending_first, pending_next, pending_found, pending_none, few_marks, lane_within, lane_full, fewer_left, full_below, place_of}
 use Rattle.archive_hash_places.proofs.Wrapping.{wraps_of}
 use Rattle.archive_hash_places.proofs.search.find_in_stride.Goals as goal

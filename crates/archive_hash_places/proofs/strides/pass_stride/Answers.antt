@@ -1,4 +1,4 @@
-use Rattle.std.proofs.Common.{◌≡◌, ◌∙◌, ◌∷◌, ap, sym, arith}
+use Rattle.std.proofs.Common.{◌∙◌, ◌∷◌, sym}
 use Rattle.archive_hash_places.specs.Stops.{strides_left}
 use Rattle.archive_hash_places.proofs.StopLemmas.{stop_behind, left_taken, left_skipped, left_none}
 use Rattle.archive_hash_places.proofs.strides.pass_stride.Goals as goal
@@ -20,7 +20,7 @@ loop-stop-preserved c =
     let s = c.loop-stop.stop in (
       stop_behind _ _ _ _ _ _ c.loop-stop.invariant.0 c.loop-stop-test.true e.position e.passed e.count,
       (λ i. strides_left c.args.end (e.count i) (e.passed i) (e.position i))
-      ∙ sym (left_skipped c.args.end s.count s.passed s.position c.loop-stop-test.true c.if-position-end.false) ∙ c.loop-stop.invariant.1,
+          ∙ sym (left_skipped c.args.end s.count s.passed s.position c.loop-stop-test.true c.if-position-end.false) ∙ c.loop-stop.invariant.1,
     )
 
 pub returns-clause-gives : goal.returns-clause-gives

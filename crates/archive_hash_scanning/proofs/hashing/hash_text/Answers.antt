@@ -1,4 +1,4 @@
-use Rattle.std.proofs.Common.{◌≡◌, ℕ, List, [], ◌∷◌, ◌++◌, refl, sym, ap, ◌∙◌}
+use Rattle.std.proofs.Common.{◌≡◌, ℕ, List, [], ◌∷◌, ◌++◌, refl, sym, ◌∙◌}
 use Rattle.archive_hash_layout.specs.Hash.{hash_word, hash_words, text_hash, words_of, words_from}
 use Rattle.archive_hash_scanning.proofs.hashing.hash_text.Goals as goal
 

@@ -1,4 +1,4 @@
-use Rattle.std.proofs.Common.{◌≡◌, ◌<◌, ◌∙◌, sym, ap, arith, rules, Some}
+use Rattle.std.proofs.Common.{◌≡◌, ◌<◌, ◌∙◌, sym, ap, arith, Some}
 use Rattle.std.specs.Int.{w64, trailing_zeros}
 use Rattle.std.specs.NonZero.{non_zero_u64_get}
 use Rattle.archive_hash_scanning.proofs.MarkLemmas.{lowest_is, none_is}
