@@ -42,41 +42,42 @@ const HASHES: [u64; 15] = [
 
 const PLACES: [u32; 15] = [0, 12, 13, 11, 10, 9, 14, 4, 8, 1, 15, 2, 16, 3, 5];
 
-/// The table of these hashes, as a width writes it, and how many strides each of its items costs at that width. None
-/// where an item is not found.
-fn written_by<S: Scan>() -> ([u8; 47], Option<usize>) {
+/// What a width makes of these hashes.
+#[derive(Clone, Copy, Debug, PartialEq, Eq)]
+struct Written {
+    controls: [u8; 47],
+    /// How many strides the items cost together, if each is found at its place.
+    strides: Option<usize>,
+    /// Where one item more would go.
+    empty: Option<usize>,
+}
+
+#[tactic(auto, unfolding(archive_shape_layout::specs::Content::control_count, archive_shape_layout::specs::Bytes::align_up))]
+fn written_by<S: Scan>() -> Written {
     let mut controls = [0u8; 47];
     let mut places = [0u32; 15];
     write_controls::<S>(&mut controls, 17, &HASHES, &mut places);
     let mut strides = Some(0);
     for i in 0..15 {
-        let place = places[i] as usize;
+        let place = PLACES[i] as usize;
         let found = find::<S, _>(&controls, 17, HASHES[i], &|other| other == place);
         if found.place != Some(place) || places[i] != PLACES[i] {
             strides = None;
         }
         strides = strides.and_then(|sum: usize| sum.checked_add(found.strides));
     }
-    (controls, strides)
+    Written {
+        controls,
+        strides,
+        empty: first_empty::<S>(&controls, 17, 0),
+    }
 }
 
 #[test]
 fn every_width_writes_and_finds_alike(rt: HostRuntime) {
-    let (by_one, strides_by_one) = written_by::<Group1>();
-    let (by_eight, strides_by_eight) = written_by::<Group8>();
-    let (by_sixteen, strides_by_sixteen) = written_by::<Group16>();
-    assert!(rt; strides_by_one.is_some());
-    assert_eq!(rt; by_one, by_eight);
-    assert_eq!(rt; by_one, by_sixteen);
-    assert_eq!(rt; strides_by_one, strides_by_eight);
-    assert_eq!(rt; strides_by_one, strides_by_sixteen);
-}
-
-#[test]
-fn the_first_empty_place_is_the_same_at_every_width(rt: HostRuntime) {
-    let (controls, _strides) = written_by::<Group16>();
-    let by_one = first_empty::<Group1>(&controls, 17, 0);
-    assert!(rt; by_one.is_some());
-    assert_eq!(rt; first_empty::<Group8>(&controls, 17, 0), by_one);
-    assert_eq!(rt; first_empty::<Group16>(&controls, 17, 0), by_one);
+    let by_one = written_by::<Group1>();
+    assert!(rt; by_one.strides.is_some());
+    assert!(rt; by_one.empty.is_some());
+    assert_eq!(rt; written_by::<Group8>(), by_one);
+    assert_eq!(rt; written_by::<Group16>(), by_one);
 }
