@@ -1,4 +1,4 @@
-use Rattle.std.proofs.Common.{◌≡◌, ℕ, ◌+◌, ◌*◌, ◌/◌, ◌<◌, ◌≤◌, List, ◌++◌, length, take, drop, sym, ap, ◌∙◌, subst, arith, bit_or, ◌%◌, ◌^◌}
+use Rattle.std.proofs.Common.{◌≡◌, ℕ, ◌+◌, ◌*◌, ◌/◌, ◌<◌, ◌≤◌, List, ◌++◌, length, take, drop, sym, ap, ◌∙◌, subst, arith, bit_or, ◌%◌, ◌^◌, rules}
 use Rattle.archive_hash_scanning.specs.Scanning.{IsMatch}
 use Rattle.archive_hash_scanning.proofs.StrideLemmas.{joined_bits, next_read, fits_in, length-window, match-append}
 use Rattle.archive_hash_scanning.proofs.stride.stride_matches.Goals as goal
@@ -21,3 +21,6 @@ loop-i-preserved g c =
     let bits = ap (λ x. bit_or c.loop-i.bits (c.match_byte-marks.result.bits * 2 ^ (i * x) % 2 ^ 64)) is_w ∙ joined_bits old.0 new.0 c.loop-i.bits c.match_byte-marks.result.bits (i * w) long (omega arith) old.1 new.1 in
     let P : List ℕ → Type 0 = λ xs. IsMatch c.args.tag xs (old.0 ++ new.0) in
     (old.0 ++ new.0, bits, subst P (sym (next_read cs p i w)) (match-append c.args.tag _ _ old.0 new.0 old.2 here))
+
+pub returns : goal.returns
+returns g c = search rules
