@@ -1,0 +1,16 @@
+pub mod Places
+pub mod Powers
+pub mod StopLemmas
+pub mod Wrapping
+pub mod Triangles
+pub mod Coverage
+pub mod FirstFree
+pub mod FreePlaces
+pub mod Fit
+pub mod InStride
+pub mod Walks
+pub mod Findable
+pub mod FirstFits
+pub mod Reached
+pub mod FirstHandedIn
+pub mod Counts

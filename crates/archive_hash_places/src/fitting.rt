@@ -1,0 +1,119 @@
+//! First fit: where the items of a table are put.
+ghost use Rattle.std.specs.Prelude.{◌≡◌, ◌≢◌, ℕ, ◌+◌, ◌*◌, ◌^◌, ◌<◌, ◌≤◌, [], length, replicate, slice_index, IfSome, IfNone};
+ghost use Rattle.std.specs.List.{find};
+ghost use Rattle.archive_shape_canonical.specs.FirstFit.{capacity_for, fitted_from, hash_tag, written_controls};
+ghost use Rattle.archive_shape_canonical.specs.Strides.{places_for, places_shown};
+ghost use Rattle.archive_shape_layout.specs.Content.{control_count};
+ghost use Rattle.archive_hash_layout.specs.Reach.{is_empty, Reaches};
+ghost use Rattle.archive_hash_places.specs.Controls.{AreControls, with_control};
+
+use crate::search::place_of;
+use crate::strides::Strides;
+use archive_hash_scanning::{Scan, stride_empties, tag_of};
+
+/// How many places a table of so many items has, where at most `most` of `places` places may be full. It has always more
+/// places than items, and none where it has no items.
+pub fn capacity_for_len(len: usize, most: usize, places: usize) -> usize
+    requires some { 0 < most }
+    requires len { len < 2 ^ 32 }
+    requires places { places < 2 ^ 31 }
+    ensures { result ≡ capacity_for len most places }
+{
+    if len == 0 {
+        0
+    } else {
+        (len * places / most).max(len + 1)
+    }
+}
+
+/// The first empty place that a stride shows.
+fn empty_in_stride<S: Scan>(controls: &[u8], capacity: usize, position: usize) -> Option<usize>
+    requires small { capacity < 2 ^ 32 }
+    requires within { position + 16 ≤ length controls.now }
+    requires controls { AreControls controls.now capacity }
+    ensures { result ≡ find (λ p. is_empty (slice_index controls.now p)) (places_shown capacity position) }
+{
+    let lane = stride_empties::<S>(controls, position).lowest_set_bit()?;
+    let control = position + lane;
+    if control < 2 * capacity {
+        Some(place_of(control, capacity))
+    } else {
+        None
+    }
+}
+
+/// The first empty place that the strides of a hash show. There is one in every table that has an empty place.
+pub fn first_empty<S: Scan>(controls: &[u8], capacity: usize, hash: u64) -> Option<usize>
+    requires some { 0 < capacity }
+    requires small { capacity < 2 ^ 32 }
+    requires controls { AreControls controls.now capacity }
+    ensures first { result ≡ find (λ p. is_empty (slice_index controls.now p)) (places_for hash capacity) }
+    ensures bound { IfSome result (λ place. place < capacity) }
+    ensures full { IfNone result ((place : ℕ) → place < capacity → slice_index controls.now place < 128) }
+{
+    let mut strides = Strides::new(hash, capacity);
+    while let Some(position) = strides.next() {
+        let place = empty_in_stride::<S>(controls, capacity, position);
+        if place.is_some() {
+            return place;
+        }
+    }
+    None
+}
+
+/// Puts an item of a hash into a table: writes its tag where it goes, and again a capacity further on. Answers its place,
+/// or none where the table is full.
+pub fn insert<S: Scan>(controls: &mut [u8], capacity: usize, hash: u64) -> Option<usize>
+    requires some { 0 < capacity }
+    requires small { capacity < 2 ^ 32 }
+    requires controls { AreControls controls.old capacity }
+    ensures first { result ≡ find (λ p. is_empty (slice_index controls.old p)) (places_for hash capacity) }
+    ensures bound { IfSome result (λ place. place < capacity) }
+    ensures full { IfNone result ((place : ℕ) → place < capacity → slice_index controls.old place < 128) }
+    ensures written { IfSome result (λ place. controls.new ≡ with_control controls.old capacity place (hash_tag hash)) }
+    ensures kept { IfNone result (controls.new ≡ controls.old) }
+    ensures controls { AreControls controls.new capacity }
+{
+    let place = first_empty::<S>(controls, capacity, hash)?;
+    let tag = tag_of(hash);
+    controls[place] = tag;
+    if place + capacity < controls.len() {
+        controls[place + capacity] = tag;
+    }
+    Some(place)
+}
+
+/// Makes every control empty.
+fn clear(controls: &mut [u8])
+    ensures { controls.new ≡ replicate (length controls.old) 255 }
+{
+    for control in controls.iter_mut() {
+        *control = 255;
+    }
+}
+
+/// Writes the controls of a table whose items have these hashes, each put where it first fits, and their places.
+pub fn write_controls<S: Scan>(
+    controls: &mut [u8],
+    capacity: usize,
+    hashes: &[u64],
+    places: &mut [u32],
+)
+    requires small { capacity < 2 ^ 32 }
+    requires controls { length controls.old ≡ control_count capacity }
+    requires room { length hashes.now < capacity }
+    requires places { length places.old ≡ length hashes.now }
+    ensures fitted { places.new ≡ fitted_from capacity [] hashes.now }
+    ensures written { controls.new ≡ written_controls capacity hashes.now places.new }
+    ensures controls { AreControls controls.new capacity }
+    ensures bound { (j : ℕ) → j < length hashes.now → slice_index places.new j < capacity }
+    ensures distinct { (i j : ℕ) → i < j → j < length hashes.now → slice_index places.new i ≢ slice_index places.new j }
+    ensures reached { (j : ℕ) → j < length hashes.now → Reaches controls.new (slice_index hashes.now j) capacity (slice_index places.new j) }
+    ensures tags { (j : ℕ) → j < length hashes.now → slice_index controls.new (slice_index places.new j) ≡ hash_tag (slice_index hashes.now j) }
+{
+    clear(controls);
+    for i in 0..hashes.len() {
+        let place = insert::<S>(controls, capacity, hashes[i]);
+        places[i] = place.unwrap_or(0) as u32;
+    }
+}

@@ -1,0 +1,83 @@
+//! Strides, and the places that every width gives.
+use archive_hash_places::{Strides, capacity_for_len, find, first_empty, write_controls};
+use archive_hash_scanning::{Group1, Group8, Group16, Scan};
+
+#[test]
+fn strides_go_on_by_more_each_time(rt: HostRuntime) {
+    let mut strides = Strides::new(5, 65);
+    assert_eq!(rt; strides.next(), Some(5));
+    assert_eq!(rt; strides.next(), Some(21));
+    assert_eq!(rt; strides.next(), Some(53));
+    assert_eq!(rt; strides.next(), Some(37));
+    assert_eq!(rt; strides.next(), Some(69));
+    assert_eq!(rt; strides.next(), None);
+}
+
+#[test]
+fn a_table_has_more_places_than_items(rt: HostRuntime) {
+    assert_eq!(rt; capacity_for_len(0, 7, 8), 0);
+    assert_eq!(rt; capacity_for_len(1, 7, 8), 2);
+    assert_eq!(rt; capacity_for_len(15, 7, 8), 17);
+    assert_eq!(rt; capacity_for_len(215, 7, 8), 245);
+}
+
+/// The hashes of the texts `0` to `14`.
+const HASHES: [u64; 15] = [
+    0x5277_8cfa_d9b8_8bc3,
+    0xd48e_edf2_0134_343c,
+    0x1b5b_1d74_0bf1_b540,
+    0x98ff_ffa6_fd69_7e90,
+    0x3889_6cac_31c1_ffd5,
+    0xb62e_4edf_2339_c925,
+    0x043a_fa2d_3070_3fd5,
+    0xa1a6_7eee_93e7_114a,
+    0xa4d2_d881_c6c6_16f8,
+    0x71ea_697e_5978_f406,
+    0x3f01_fa7a_ec2b_d114,
+    0xf0b1_9256_f7e8_cc2d,
+    0xbdc9_2353_8a9b_a93b,
+    0x8ae0_b450_1d4e_8649,
+    0x8e0d_0de3_502d_8bf7,
+];
+
+const PLACES: [u32; 15] = [0, 12, 13, 11, 10, 9, 14, 4, 8, 1, 15, 2, 16, 3, 5];
+
+/// What a width makes of these hashes.
+#[derive(Clone, Copy, Debug, PartialEq, Eq)]
+struct Written {
+    controls: [u8; 47],
+    /// How many strides the items cost together, if each is found at its place.
+    strides: Option<usize>,
+    /// Where one item more would go.
+    empty: Option<usize>,
+}
+
+#[tactic(auto, unfolding(archive_shape_layout::specs::Content::control_count, archive_shape_layout::specs::Bytes::align_up))]
+fn written_by<S: Scan>() -> Written {
+    let mut controls = [0u8; 47];
+    let mut places = [0u32; 15];
+    write_controls::<S>(&mut controls, 17, &HASHES, &mut places);
+    let mut strides = Some(0);
+    for i in 0..15 {
+        let place = PLACES[i] as usize;
+        let found = find::<S, _>(&controls, 17, HASHES[i], &|other| other == place);
+        if found.place != Some(place) || places[i] != PLACES[i] {
+            strides = None;
+        }
+        strides = strides.and_then(|sum: usize| sum.checked_add(found.strides));
+    }
+    Written {
+        controls,
+        strides,
+        empty: first_empty::<S>(&controls, 17, 0),
+    }
+}
+
+#[test]
+fn every_width_writes_and_finds_alike(rt: HostRuntime) {
+    let by_one = written_by::<Group1>();
+    assert!(rt; by_one.strides.is_some());
+    assert!(rt; by_one.empty.is_some());
+    assert_eq!(rt; written_by::<Group8>(), by_one);
+    assert_eq!(rt; written_by::<Group16>(), by_one);
+}
