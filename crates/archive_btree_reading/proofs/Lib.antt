@@ -7,3 +7,6 @@ pub mod Links
 pub mod Equality
 pub mod Compared
 pub mod Fed
+pub mod Between
+pub mod Runs
+pub mod Same
