@@ -1,5 +1,5 @@
 -- Sets are compared and hashed as maps of their keys to `()` are.
-use Rattle.std.proofs.Common.{◌≡◌, ◌∙◌, Bool, ◌&&◌, List, [], ◌∷◌, ◌++◌, map, drop, refl, ap, sym, append-nil}
+use Rattle.std.proofs.Common.{◌≡◌, ◌&&◌, List, [], ◌∷◌, ◌++◌, map, drop, refl, ap, sym, append-nil}
 use Rattle.std.specs.List.{flat_map}
 use Rattle.std.specs.Cmp.{IsEquivalence, on_equiv}
 use Rattle.std.specs.Cmp.Lexicographic.{pointwise, lists_equiv}

@@ -1,6 +1,5 @@
-use Rattle.std.proofs.Common.{All, map, sym, subst}
+use Rattle.std.proofs.Common.{All, sym, subst}
 use Rattle.std.proofs.lemmas.List.Elements.{All-head, All-tail, All-map}
-use Rattle.std.specs.declared.ops.ControlFlow.TheVariants.{Continue, Break}
 use Rattle.archive_btree_layout.specs.Tree.{items}
 use Rattle.archive_btree_reading.specs.Refs.{key_at}
 use Rattle.archive_btree_sets.specs.Visits.{VisitsAll, BreaksWith}
