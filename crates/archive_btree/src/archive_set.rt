@@ -12,21 +12,21 @@ ghost use Rattle.archive_btree_spelling.proofs.Maps.{btree_spells};
 ghost use Rattle.archive_btree.specs.Owned.{entries_spelling, key_entries};
 
 use crate::OwnedBTreeSet;
-use archive_btree_reading::{ArchivedBTreeMap, BTreeMapResolver};
+use archive_btree_sets::{ArchivedBTreeSet, BTreeSetResolver};
 use archive_forms_writing::Archive;
 use archive_shape::{Error, Place, Portable};
 
 impl<K: Archive + Ord, const E: usize> Archive for OwnedBTreeSet<K, E> {
-    type Archived = ArchivedBTreeMap<K::Archived, (), E>;
+    type Archived = ArchivedBTreeSet<K::Archived, E>;
 
-    type Resolver = BTreeMapResolver;
+    type Resolver = BTreeSetResolver;
 
     ghost spelling = { seen_as (λ s. key_entries s.set.keys) (entries_spelling E K.Archived.shape (tuple no_shapes) K.spelling unit_spelling) };
 
     fn resolve(
         &self,
-        resolver: BTreeMapResolver,
-        out: Place<'_, ArchivedBTreeMap<K::Archived, (), E>>,
+        resolver: BTreeSetResolver,
+        out: Place<'_, ArchivedBTreeSet<K::Archived, E>>,
     ) -> Result<(), Error>
         requires { CanResolve (seen_as (λ s. key_entries s.set.keys) (entries_spelling E K.Archived.shape (tuple no_shapes) K.spelling unit_spelling)) (tree E K.Archived.shape (tuple no_shapes)) self.now resolver out.out.now out.start out.pos }
         ensures { Resolves (seen_as (λ s. key_entries s.set.keys) (entries_spelling E K.Archived.shape (tuple no_shapes) K.spelling unit_spelling)) self.now resolver out.entry.pos out.entry.start out.entry.out.now out.exit.0.now result }
@@ -37,7 +37,7 @@ impl<K: Archive + Ord, const E: usize> Archive for OwnedBTreeSet<K, E> {
             pos,
             ..
         } = out;
-        ArchivedBTreeMap::<K::Archived, (), E>::resolve_from_len(
+        ArchivedBTreeSet::<K::Archived, E>::resolve_from_len(
             self.set.len(),
             resolver,
             Place::within(out, start, pos),

@@ -7,3 +7,5 @@ mod archives;
 mod checking;
 #[cfg(test)]
 mod reading;
+#[cfg(test)]
+mod sets;

@@ -1,0 +1,6 @@
+pub mod Keyed
+pub mod Read
+pub mod Visited
+pub mod Matched
+pub mod Held
+pub mod Found

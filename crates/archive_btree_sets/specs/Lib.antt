@@ -1,0 +1,4 @@
+pub mod Sets
+pub mod Keys
+pub mod Visits
+pub mod Comparing

@@ -1,0 +1,258 @@
+//! Tests of archived sets.
+ghost use Rattle.std.specs.Prelude.{[]};
+
+use crate::archives::{bytes_of, root_of};
+use archive_btree_sets::{ArchivedBTreeSet, BTreeSetResolver, eq_btree_set};
+use archive_core_validation::HighValidator;
+use archive_forms_comparing::ArchivedEq;
+use archive_forms_hashing::{ArchivedDebug, ArchivedHash};
+use archive_forms_reading::native_of;
+use archive_forms_text::ArchivedString;
+use archive_shape::{ArchivedU32, CheckBytes, Error, Place, Ref};
+use std::alloc::Global;
+use std::collections::BTreeSet;
+use std::fmt::Formatter;
+use std::hash::{DefaultHasher, Hasher};
+use std::ops::ControlFlow;
+use std::test::Fail;
+
+/// A set of numbers with at most five keys in a node. A leaf has seven words: its kind, five keys and its length; an inner
+/// node has six pointers in place of the length.
+type Numbers = ArchivedBTreeSet<ArchivedU32, 5>;
+
+type Texts = ArchivedBTreeSet<ArchivedString, 5>;
+
+/// No keys.
+const NONE: [u32; 2] = [1, 0];
+
+/// 10, 20, 40 and 80: a leaf, and the set, whose root is 28 bytes before it.
+const FOUR: [u32; 9] = [0, 10, 20, 40, 80, 0, 4, 0xffff_ffe4, 4];
+
+/// 1 to 6: a leaf of the first, and an inner node of the others.
+const SIX: [u32; 21] = [
+    0,
+    1,
+    0,
+    0,
+    0,
+    0,
+    1,
+    1,
+    2,
+    3,
+    4,
+    5,
+    6,
+    0xffff_ffcc,
+    1,
+    1,
+    1,
+    1,
+    1,
+    0xffff_ffd0,
+    6,
+];
+
+/// The texts a and b: a leaf with room for five texts of two words, and the set.
+const TEXTS: [u32; 14] = [
+    0,
+    0xffff_ff61,
+    0xffff_ffff,
+    0xffff_ff62,
+    0xffff_ffff,
+    0,
+    0,
+    0,
+    0,
+    0,
+    0,
+    2,
+    0xffff_ffd0,
+    2,
+];
+
+/// The keys in order, each beside how many are left after it.
+fn walked(alloc: Global, words: &[u32]) -> Result<Vec<(Option<u32>, usize)>, Error> {
+    let bytes = bytes_of(alloc, words)?;
+    let root = root_of::<Numbers>(alloc, bytes.as_slice())?;
+    let mut keys = ArchivedBTreeSet::iter(root);
+    let mut met = Vec::new(alloc);
+    while let Some(key) = keys.next() {
+        let word = words.get(key.pos() / 4).copied();
+        if met.push((word, keys.len())).is_err() {
+            return Err(Error::OutOfMemory);
+        }
+    }
+    Ok(met)
+}
+
+#[test]
+fn keys_are_walked_in_order(rt: HostRuntime) -> Result<(), Fail> {
+    assert!(rt; walked(rt.alloc(), &NONE)?.is_empty());
+    assert_eq!(rt;
+        walked(rt.alloc(), &FOUR)?.as_slice(),
+        [(Some(10), 3), (Some(20), 2), (Some(40), 1), (Some(80), 0)].as_slice()
+    );
+    assert_eq!(rt; walked(rt.alloc(), &SIX)?.len(), 6);
+    Ok(())
+}
+
+/// How many keys there are, and whether there are none.
+fn counted(alloc: Global, words: &[u32]) -> Result<(usize, bool), Error> {
+    let bytes = bytes_of(alloc, words)?;
+    let root = root_of::<Numbers>(alloc, bytes.as_slice())?;
+    Ok((
+        ArchivedBTreeSet::len(root),
+        ArchivedBTreeSet::is_empty(root),
+    ))
+}
+
+#[test]
+fn len_is_the_number_of_keys(rt: HostRuntime) {
+    assert_eq!(rt; counted(rt.alloc(), &NONE), Ok((0, true)));
+    assert_eq!(rt; counted(rt.alloc(), &FOUR), Ok((4, false)));
+    assert_eq!(rt; counted(rt.alloc(), &SIX), Ok((6, false)));
+}
+
+/// The key that is equal to a number, and whether the set has it.
+fn found(alloc: Global, words: &[u32], key: u32) -> Result<(Option<u32>, bool), Error> {
+    let bytes = bytes_of(alloc, words)?;
+    let root = root_of::<Numbers>(alloc, bytes.as_slice())?;
+    let has = ArchivedBTreeSet::contains_key(root, &key);
+    match ArchivedBTreeSet::get(root, &key) {
+        Some(found) => Ok((Some(native_of(found)), has)),
+        None => Ok((None, has)),
+    }
+}
+
+#[test]
+fn keys_are_found(rt: HostRuntime) {
+    assert_eq!(rt; found(rt.alloc(), &NONE, 10), Ok((None, false)));
+    for key in [10, 20, 40, 80] {
+        assert_eq!(rt;
+            found(rt.alloc(), &FOUR, key),
+            Ok((Some(key), true)),
+            "{key}"
+        );
+    }
+    for key in [9, 30, 81] {
+        assert_eq!(rt; found(rt.alloc(), &FOUR, key), Ok((None, false)), "{key}");
+    }
+    for key in [1, 2, 6] {
+        assert_eq!(rt;
+            found(rt.alloc(), &SIX, key),
+            Ok((Some(key), true)),
+            "{key}"
+        );
+    }
+}
+
+/// Where a visit breaks that ends at a key's position, and how many keys it meets.
+fn visited(alloc: Global, words: &[u32], last: usize) -> Result<(Option<usize>, usize), Error> {
+    let bytes = bytes_of(alloc, words)?;
+    let root = root_of::<Numbers>(alloc, bytes.as_slice())?;
+    let mut met = 0usize;
+    let mut visit = |key: Ref<'_, ArchivedU32>| -> ControlFlow<usize> {
+        met = met.saturating_add(1);
+        if key.pos() == last {
+            ControlFlow::Break(key.pos())
+        } else {
+            ControlFlow::Continue(())
+        }
+    };
+    let broken = ArchivedBTreeSet::visit(root, &mut visit);
+    Ok((broken, met))
+}
+
+#[test]
+fn visit_of_keys_ends_at_the_first_break(rt: HostRuntime) {
+    assert_eq!(rt; visited(rt.alloc(), &FOUR, 8), Ok((Some(8), 2)));
+    assert_eq!(rt; visited(rt.alloc(), &FOUR, 0), Ok((None, 4)));
+    assert_eq!(rt; visited(rt.alloc(), &NONE, 0), Ok((None, 0)));
+}
+
+/// Whether a set has the same keys as one of std.
+fn equals(alloc: Global, words: &[u32], keys: &[u32]) -> Result<bool, Error> {
+    let bytes = bytes_of(alloc, words)?;
+    let root = root_of::<Numbers>(alloc, bytes.as_slice())?;
+    let mut other = BTreeSet::new(alloc);
+    for key in keys {
+        if other.insert(*key).is_err() {
+            return Err(Error::OutOfMemory);
+        }
+    }
+    Ok(eq_btree_set(&root, &other))
+}
+
+#[test]
+fn sets_of_the_same_keys_are_equal(rt: HostRuntime) {
+    assert_eq!(rt; equals(rt.alloc(), &NONE, &[]), Ok(true));
+    assert_eq!(rt; equals(rt.alloc(), &FOUR, &[80, 40, 20, 10]), Ok(true));
+    assert_eq!(rt; equals(rt.alloc(), &FOUR, &[10, 20, 40]), Ok(false));
+    assert_eq!(rt; equals(rt.alloc(), &FOUR, &[10, 20, 40, 81]), Ok(false));
+    assert_eq!(rt; equals(rt.alloc(), &FOUR, &[11, 20, 40, 80]), Ok(false));
+    assert_eq!(rt; equals(rt.alloc(), &FOUR, &[10, 20, 40, 80, 81]), Ok(false));
+}
+
+/// Whether two archived sets are equal, and whether they are hashed alike.
+fn compared(alloc: Global, words: &[u32], others: &[u32]) -> Result<(bool, bool), Error> {
+    let bytes = bytes_of(alloc, words)?;
+    let more = bytes_of(alloc, others)?;
+    let root = root_of::<Numbers>(alloc, bytes.as_slice())?;
+    let other = root_of::<Numbers>(alloc, more.as_slice())?;
+    let mut first = DefaultHasher::new();
+    let mut second = DefaultHasher::new();
+    ArchivedHash::hash(&root, &mut first);
+    ArchivedHash::hash(&other, &mut second);
+    Ok((
+        ArchivedEq::eq(&root, &other),
+        first.finish() == second.finish(),
+    ))
+}
+
+#[test]
+fn equal_sets_are_hashed_alike(rt: HostRuntime) {
+    let mut unused = FOUR;
+    unused[5] = 7;
+    assert_eq!(rt; compared(rt.alloc(), &FOUR, &unused), Ok((true, true)));
+    assert_eq!(rt; compared(rt.alloc(), &FOUR, &SIX), Ok((false, false)));
+}
+
+/// The text of a set.
+fn printed<T: ArchivedDebug + CheckBytes<HighValidator>>(
+    alloc: Global,
+    words: &[u32],
+) -> Result<String, Error>
+    requires { T.knows [] }
+{
+    let bytes = bytes_of(alloc, words)?;
+    let root = root_of::<T>(alloc, bytes.as_slice())?;
+    let mut f = Formatter::new(String::new(alloc));
+    match T::fmt(&root, &mut f) {
+        Ok(()) => Ok(f.into_inner()),
+        Err(_) => Err(Error::OutOfMemory),
+    }
+}
+
+#[test]
+fn sets_are_printed_as_those_of_std(rt: HostRuntime) -> Result<(), Fail> {
+    assert_eq!(rt; printed::<Numbers>(rt.alloc(), &NONE)?.as_str(), "{}");
+    assert_eq!(rt;
+        printed::<Numbers>(rt.alloc(), &FOUR)?.as_str(),
+        "{10, 20, 40, 80}"
+    );
+    assert_eq!(rt;
+        printed::<Texts>(rt.alloc(), &TEXTS)?.as_str(),
+        "{\"a\", \"b\"}"
+    );
+    Ok(())
+}
+
+#[test]
+fn set_is_resolved(rt: HostRuntime) {
+    let mut own = [0u8; 8];
+    let resolver = BTreeSetResolver::from_pos(Some(0));
+    let done = Numbers::resolve_from_len(4, resolver, Place::new(&mut own, 28));
+    assert_eq!(rt; done, Ok(()));
+    assert_eq!(rt; own, [0xe4, 0xff, 0xff, 0xff, 4, 0, 0, 0]);
+}
