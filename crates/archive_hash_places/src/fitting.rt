@@ -107,9 +107,12 @@ pub fn write_controls<S: Scan>(
     ensures written { controls.new ≡ written_controls capacity hashes.now places.new }
     ensures controls { AreControls controls.new capacity }
     ensures bound { (j : ℕ) → j < length hashes.now → slice_index places.new j < capacity }
-    ensures distinct { (i j : ℕ) → i < j → j < length hashes.now → slice_index places.new i ≢ slice_index places.new j }
-    ensures reached { (j : ℕ) → j < length hashes.now → Reaches controls.new (slice_index hashes.now j) capacity (slice_index places.new j) }
-    ensures tags { (j : ℕ) → j < length hashes.now → slice_index controls.new (slice_index places.new j) ≡ hash_tag (slice_index hashes.now j) }
+    ensures distinct { (i j : ℕ) → i < j → j < length hashes.now
+        → slice_index places.new i ≢ slice_index places.new j }
+    ensures reached { (j : ℕ) → j < length hashes.now
+        → Reaches controls.new (slice_index hashes.now j) capacity (slice_index places.new j) }
+    ensures tags { (j : ℕ) → j < length hashes.now
+        → slice_index controls.new (slice_index places.new j) ≡ hash_tag (slice_index hashes.now j) }
 {
     clear(controls);
     for i in 0..hashes.len() {

@@ -36,12 +36,15 @@ pub fn find_in_written<F: Fn(usize) -> bool>(
     requires fitted { places.now ≡ fitted_from capacity [] hashes.now }
     requires written { controls.now ≡ written_controls capacity hashes.now places.now }
     requires answer { IsLookup (F.post accepts.now) controls.now capacity hash found.place found.strides }
-    requires never { (i : ℕ) → i < length hashes.now → F.post accepts.now (slice_index places.now i) true → F.post accepts.now (slice_index places.now i) false → ⊥ }
-    requires alike { (i : ℕ) → i < length hashes.now → F.post accepts.now (slice_index places.now i) true → slice_index hashes.now i ≡ hash }
+    requires never { (i : ℕ) → i < length hashes.now → F.post accepts.now (slice_index places.now i) true
+        → F.post accepts.now (slice_index places.now i) false → ⊥ }
+    requires alike { (i : ℕ) → i < length hashes.now → F.post accepts.now (slice_index places.now i) true
+        → slice_index hashes.now i ≡ hash }
     ensures first { (j : ℕ) → j < length hashes.now → F.post accepts.now (slice_index places.now j) true
         → ((i : ℕ) → i < j → F.post accepts.now (slice_index places.now i) true → ⊥)
         → found.place ≡ Some (slice_index places.now j) }
-    ensures absent { ((i : ℕ) → i < length hashes.now → F.post accepts.now (slice_index places.now i) true → ⊥) → found.place ≡ None }
+    ensures absent { ((i : ℕ) → i < length hashes.now → F.post accepts.now (slice_index places.now i) true → ⊥)
+        → found.place ≡ None }
 {}
 
 /// Where only items under the hash's tag are accepted, there is one answer, with one count of strides: scans of every
@@ -56,8 +59,10 @@ pub fn one_answer<F: Fn(usize) -> bool>(
 )
     requires some { 0 < capacity }
     requires controls { AreControls controls.now capacity }
-    requires never { (place : ℕ) → place < capacity → slice_index controls.now place < 128 → F.post accepts.now place true → F.post accepts.now place false → ⊥ }
-    requires tagged { (place : ℕ) → place < capacity → slice_index controls.now place < 128 → F.post accepts.now place true → slice_index controls.now place ≡ hash_tag hash }
+    requires never { (place : ℕ) → place < capacity → slice_index controls.now place < 128
+        → F.post accepts.now place true → F.post accepts.now place false → ⊥ }
+    requires tagged { (place : ℕ) → place < capacity → slice_index controls.now place < 128
+        → F.post accepts.now place true → slice_index controls.now place ≡ hash_tag hash }
     requires one { IsLookup (F.post accepts.now) controls.now capacity hash one.place one.strides }
     requires other { IsLookup (F.post accepts.now) controls.now capacity hash other.place other.strides }
     ensures { one ≡ other }
@@ -77,5 +82,6 @@ pub fn counts_to_the_place<F: Fn(usize) -> bool>(
     requires found { IsLookup (F.post accepts.now) controls.now capacity hash (Some place) count }
     requires tag { slice_index controls.now place ≡ hash_tag hash }
     requires never { F.post accepts.now place true → F.post accepts.now place false → ⊥ }
-    ensures { count ≡ prefix_len (λ p. not (shows capacity place p)) (searched controls.now (strides hash capacity)) + 1 }
+    ensures { count ≡ prefix_len (λ p. not (shows capacity place p))
+        (searched controls.now (strides hash capacity)) + 1 }
 {}

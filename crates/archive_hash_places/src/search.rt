@@ -1,5 +1,5 @@
 //! A look-up along the strides of a hash.
-ghost use Rattle.std.specs.Prelude.{◌≡◌, ℕ, ◌+◌, ◌*◌, ◌%◌, ◌^◌, ◌<◌, ◌≤◌, true, false, length, slice_index, MatchOption, Some};
+ghost use Rattle.std.specs.Prelude.{◌≡◌, ℕ, ◌+◌, ◌*◌, ◌%◌, ◌^◌, ◌<◌, ◌≤◌, true, false, length, slice_index, IfSome, MatchOption, Some};
 ghost use Rattle.std.specs.List.{list_any};
 ghost use Rattle.archive_shape_canonical.specs.FirstFit.{hash_tag};
 ghost use Rattle.archive_shape_canonical.specs.Strides.{sixteens};
@@ -55,10 +55,13 @@ fn find_in_stride<S: Scan, F: Fn(usize) -> bool>(
     requires small { capacity < 2 ^ 32 }
     requires within { position + 16 ≤ length controls.now }
     requires controls { AreControls controls.now capacity }
-    requires callable { (place : ℕ) → place < capacity → slice_index controls.now place < 128 → F.pre accepts.now place }
+    requires callable { (place : ℕ) → place < capacity → slice_index controls.now place < 128
+        → F.pre accepts.now place }
     ensures { MatchOption result
-        (IsRefused (λ p. F.post accepts.now p true) (λ p. F.post accepts.now p false) controls.now capacity tag position)
-        (λ place. IsFoundIn (λ p. F.post accepts.now p true) (λ p. F.post accepts.now p false) controls.now capacity tag position place) }
+        (IsRefused (λ p. F.post accepts.now p true) (λ p. F.post accepts.now p false)
+        controls.now capacity tag position)
+        (λ place. IsFoundIn (λ p. F.post accepts.now p true) (λ p. F.post accepts.now p false)
+        controls.now capacity tag position place) }
 {
     let mut marks = stride_matches::<S>(controls, position, tag);
     while let Some(lane) = marks.lowest_set_bit() {
@@ -82,8 +85,10 @@ pub fn find<S: Scan, F: Fn(usize) -> bool>(
     requires some { 0 < capacity }
     requires small { capacity < 2 ^ 32 }
     requires controls { AreControls controls.now capacity }
-    requires callable { (place : ℕ) → place < capacity → slice_index controls.now place < 128 → F.pre accepts.now place }
+    requires callable { (place : ℕ) → place < capacity → slice_index controls.now place < 128
+        → F.pre accepts.now place }
     ensures answer { IsLookup (F.post accepts.now) controls.now capacity hash result.place result.strides }
+    ensures item { IfSome result.place (λ place. (place < capacity) × (slice_index controls.now place < 128) × F.post accepts.now place true) }
     ensures few { result.strides ≤ sixteens capacity }
     ensures findable { (place : ℕ) → Reaches controls.now hash capacity place → slice_index controls.now place ≡ hash_tag hash
         → (F.post accepts.now place false → ⊥)

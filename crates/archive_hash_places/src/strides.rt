@@ -44,8 +44,10 @@ fn pass_stride(stop: &mut Stop, end: usize) -> Option<usize>
     requires { IsStop stop.old.count stop.old.passed stop.old.position }
     ensures stop { IsStop stop.new.count stop.new.passed stop.new.position }
     ensures gives { MatchOption result
-        ((strides_left end stop.old.count stop.old.passed stop.old.position ≡ []) × (strides_left end stop.new.count stop.new.passed stop.new.position ≡ []))
-        (λ p. strides_left end stop.old.count stop.old.passed stop.old.position ≡ p ∷ strides_left end stop.new.count stop.new.passed stop.new.position) }
+        ((strides_left end stop.old.count stop.old.passed stop.old.position ≡ [])
+        × (strides_left end stop.new.count stop.new.passed stop.new.position ≡ []))
+        (λ p. strides_left end stop.old.count stop.old.passed stop.old.position
+        ≡ p ∷ strides_left end stop.new.count stop.new.passed stop.new.position) }
 {
     while stop.passed < stop.count {
         let position = stop.position;

@@ -9,4 +9,5 @@ pub record IsMatch (tag : ℕ) (controls : List ℕ) (marks : List Bool) : Type 
   pub count : length marks ≡ length controls
   pub all : (k : ℕ) → k < length controls → slice_index controls k ≡ tag → slice_index_or marks k false ≡ true
   pub full : (k : ℕ) → slice_index_or marks k false ≡ true → slice_index controls k < 128
-  pub lowest : (k : ℕ) → slice_index_or marks k false ≡ true → ((j : ℕ) → j < k → slice_index_or marks j false ≡ false) → slice_index controls k ≡ tag
+  pub lowest : (k : ℕ) → slice_index_or marks k false ≡ true → ((j : ℕ) → j < k → slice_index_or marks j false ≡ false)
+      → slice_index controls k ≡ tag

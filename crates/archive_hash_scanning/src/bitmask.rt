@@ -33,7 +33,8 @@ impl Bitmask {
 
     /// The lowest marked lane.
     pub fn lowest_set_bit(self) -> Option<usize>
-        ensures { (marks : List Bool) → length marks ≤ 64 → self.bits ≡ mask_l marks → result ≡ position (λ mark. mark) marks }
+        ensures { (marks : List Bool) → length marks ≤ 64 → self.bits ≡ mask_l marks
+            → result ≡ position (λ mark. mark) marks }
     {
         let bits = NonZeroWord::new(self.bits)?;
         Some(bits.trailing_zeros() as usize)

@@ -5,7 +5,7 @@ use Rattle.archive_shape_canonical.specs.FirstFit.{hash_tag}
 use Rattle.archive_shape_canonical.specs.Strides.{sixteens, strides}
 use Rattle.archive_hash_layout.specs.Reach.{searched}
 use Rattle.archive_hash_places.proofs.Coverage.{few_strides}
-use Rattle.archive_hash_places.proofs.Findable.{only_is_found, strides_within}
+use Rattle.archive_hash_places.proofs.Findable.{found_place, only_is_found, strides_within}
 use Rattle.archive_hash_places.proofs.Walks.{Goes, goes_first, goes_past, goes_found, goes_empty, goes_end, retagged}
 use Rattle.archive_hash_places.proofs.Wrapping.{wraps_of, count_of}
 use Rattle.archive_hash_places.proofs.search.find.Goals as goal
@@ -34,6 +34,21 @@ returns-in-Some-find_in_stride-clause-answer g c =
     let before : ℕ = c.loop-position.searched in
     let go = subst (λ (ps : List ℕ). Goes A R cs cap tag (strides hash cap) ps before) c.in-Some.ensures.steps c.loop-position.invariant.2 in
     retagged A R cs cap tag (hash_tag hash) (searched cs (strides hash cap)) (Some c.in-Some-find_in_stride.place) (before + 1) c.tag_of-tag.ensures.value (goes_found A R cs cap tag (strides hash cap) _ c.in-Some.position before go c.in-Some-find_in_stride.place c.in-Some-find_in_stride.ensures)
+
+pub returns-in-Some-find_in_stride-clause-item :
+    goal.returns-in-Some-find_in_stride-clause-item
+returns-in-Some-find_in_stride-clause-item g c =
+    let A = λ (p : ℕ). goal.F-post g c.args.accepts.now p true in
+    let R = λ (p : ℕ). goal.F-post g c.args.accepts.now p false in
+    let cs : List ℕ = c.args.controls.now in
+    let cap : ℕ = c.args.capacity in
+    let hash : ℕ = c.args.hash in
+    let tag : ℕ = c.tag_of-tag.result in
+    let before : ℕ = c.loop-position.searched in
+    let go = subst (λ (ps : List ℕ). Goes A R cs cap tag (strides hash cap) ps before) c.in-Some.ensures.steps c.loop-position.invariant.2 in
+    let a = retagged A R cs cap tag (hash_tag hash) (searched cs (strides hash cap)) (Some c.in-Some-find_in_stride.place) (before + 1) c.tag_of-tag.ensures.value (goes_found A R cs cap tag (strides hash cap) _ c.in-Some.position before go c.in-Some-find_in_stride.place c.in-Some-find_in_stride.ensures) in
+    let f = found_place A R cs hash cap (hash_tag hash) c.in-Some-find_in_stride.place (before + 1) c.requires.some (wraps_of cs cap c.requires.controls) (count_of cs cap c.requires.controls) a in
+    (f.low, f.full, a.found.taken)
 
 pub returns-in-Some-find_in_stride-clause-findable :
     goal.returns-in-Some-find_in_stride-clause-findable
