@@ -9,3 +9,4 @@ pub mod Visited
 pub mod Passing
 pub mod Ranged
 pub mod Stepped
+pub mod Stays
