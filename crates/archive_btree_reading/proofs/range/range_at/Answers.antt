@@ -13,7 +13,7 @@ returns-in_default-clause-within g c t h = no_run _ (items t) c.empty.ensures
 pub returns-in_default-clause-between : goal.returns-in_default-clause-between
 returns-in_default-clause-between g c t order h queries =
     c.empty.ensures
-    ∙ ap (λ x. items_between order (bound_map (λ q. q.now) c.args.start) (bound_map (λ q. q.now) c.args.end) (items x)) (sym (c.in_default.ensures t h))
+    ∙ ap (λ x. items_between order (bound_map (λ q. q.now) c.args.start) (bound_map (λ q. q.now) c.args.end) (items x)) (sym (c.in_default.ensures.tree t h))
 
 pub new-requires : goal.new-requires
 new-requires g c =
@@ -21,18 +21,18 @@ new-requires g c =
     record {
       tree = (
         m.search_tree,
-        c.in-Some.ensures m.search_tree m.map,
+        c.in-Some.ensures.tree m.search_tree m.map,
         λ k d below. (c.requires.callable m.search_tree m.map k d below).0,
         λ k d below. (c.requires.callable m.search_tree m.map k d below).1,
       );
     }
 
 pub returns-clause-within : goal.returns-clause-within
-returns-clause-within g c t h = c.new.ensures.within t (c.in-Some.ensures t h)
+returns-clause-within g c t h = c.new.ensures.within t (c.in-Some.ensures.tree t h)
 
 pub returns-clause-between : goal.returns-clause-between
 returns-clause-between g c t order h queries =
-    c.new.ensures.between t (is_before order (bound_map (λ q. q.now) c.args.start)) (is_behind order (bound_map (λ q. q.now) c.args.end)) (c.in-Some.ensures t h)
+    c.new.ensures.between t (is_before order (bound_map (λ q. q.now) c.args.start)) (is_behind order (bound_map (λ q. q.now) c.args.end)) (c.in-Some.ensures.tree t h)
     (tells_before (goal.C-post g) c.args.compare.now (λ q. q.now) order (items t) c.args.start queries.0)
     (tells_behind (goal.C-post g) c.args.compare.now (λ q. q.now) order (items t) c.args.end queries.1)
     (stays_from (goal.C-post g) c.args.compare.now (λ q. q.now) order (items t) c.args.start queries.0)
