@@ -11,3 +11,4 @@ pub mod Between
 pub mod Runs
 pub mod Same
 pub mod Sealed
+pub mod SealedCalls
