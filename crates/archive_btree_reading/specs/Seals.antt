@@ -1,8 +1,11 @@
 -- What is lent of an entry whose value may be written over.
+use denote.Ref.{Bor}
 use Rattle.std.specs.Prelude.{◌≡◌, ℕ, List, take, drop}
+use Rattle.std.specs.declared.cmp.Ordering.{Ordering}
 use Rattle.archive_shape_references.specs.declared.refs.Ref.{Ref}
 use Rattle.archive_shape_references.specs.declared.own_seal.OwnSeal.{OwnSeal}
 use Rattle.archive_btree_layout.specs.Reading.{Place}
+use Rattle.archive_btree_reading.specs.Lookups.{CallsEqual}
 
 module _ {V : Type 0} (size : ℕ) (bytes : List ℕ) (e : Place) where
   -- the seal has the own bytes of an entry's value, which are so many
@@ -15,3 +18,7 @@ module _ {V : Type 0} (size : ℕ) (bytes : List ℕ) (e : Place) where
     pub key_bytes : key.bytes.now ≡ take e.value bytes
     pub key_pos : key.pos ≡ e.key
     pub own_value : IsOwnValue value
+
+-- a call says that the query is equal to the key at a place of these bytes, wherever they are lent
+abbrev pub IsCalledEqual : {F Q K : Type 0} → (F → Q → Ref K → Ordering → Type 0) → F → Q → List ℕ → Place → Type 0
+IsCalledEqual post f query bytes e = (lent : Bor (List ℕ)) × (lent.now ≡ bytes) × CallsEqual post f query lent e
