@@ -23,7 +23,9 @@ use Rattle.archive_btree_layout.specs.Changing.{IsOutside, IsInNoValue, DiffersI
 use Rattle.archive_btree_layout.proofs.Mapped.{tree_stays, nodes_stay, pairs_stay}
 use Rattle.archive_btree_searching.specs.Nodes.{place_of}
 use Rattle.archive_btree_searching.specs.declared.node.EntryAt.{EntryAt}
-use Rattle.archive_btree_searching.specs.Ranges.{IsRun}
+use Rattle.archive_btree_nodes.specs.declared.layout.NodeLayout.{NodeLayout}
+use Rattle.archive_btree_searching.specs.Ranges.{IsRun, before_key}
+use Rattle.archive_btree_searching.specs.Walking.{stack_items}
 use Rattle.archive_btree_searching.specs.Stepping.{HasLeft}
 use Rattle.archive_btree_searching.specs.declared.stepping.EntryWalk.{EntryWalk}
 use Rattle.archive_btree_searching.proofs.Stays.{left_stays}
@@ -171,3 +173,24 @@ found_entry holds places o e h is =
 pub lent_there : {K V : Type 0} (k : Shape) (knows : Names → Type 0) (size : ℕ) (bytes : List ℕ) (e : Place) (key : Ref K) (value : OwnSeal V) → IsLent size bytes e key value
     → HasValue k knows (take e.value bytes) e.key → HasValue k knows key.bytes.now key.pos
 lent_there k knows size bytes e key value lent has = subst (λ b. HasValue k knows b key.pos) (sym lent.key_bytes) (subst (HasValue k knows (take e.value bytes)) (sym lent.key_pos) has)
+
+-- the bytes of a map are these
+pub map_at : {most : ℕ} {k v : Shape} {knows others : Names → Type 0} (m : BegunMap most k v knows others) (bytes : List ℕ) (pos : ℕ) → m.bytes ≡ bytes → m.pos ≡ pos
+    → IsMapAt bytes most k v pos m.search_tree
+map_at {most} {k} {v} m bytes pos e f = subst (λ b. IsMapAt b most k v pos m.search_tree) e (subst (λ p. IsMapAt m.bytes most k v p m.search_tree) f m.map)
+
+-- a walk that begins so over a map's bytes goes on so
+pub begun_goes_on : {most : ℕ} {k v : Shape} {knows others : Names → Type 0} (m : BegunMap most k v knows others) (bytes : List ℕ) (pos : ℕ) → m.bytes ≡ bytes → m.pos ≡ pos
+    → (w : EntryWalk) (es : List Place) → (IsMapAt bytes most k v pos m.search_tree → WalksIn bytes most k v pos w es × IsRun es (items m.search_tree))
+    → GoesOn m w es × IsWritten m bytes
+begun_goes_on {most} {k} {v} m bytes pos e f w es begins =
+    let t = m.search_tree in
+    let here = map_at m bytes pos e f in
+    let written = subst (λ b. DiffersInValues v (items t) m.bytes b) e (nothing_written v (items t) m.bytes) in
+    let walks = begins here in
+    (walk_goes_on m bytes written w es walks.1 (subst (λ p. WalksIn bytes most k v p w es) (sym f) walks.0), written)
+
+-- a walk has one list of entries left
+pub one_left : (bytes : List ℕ) (l n : NodeLayout) (root other : ℕ) (w : EntryWalk) (es fs : List Place) → HasLeft bytes l root w es → HasLeft bytes n other w fs → es ≡ fs
+one_left bytes l n root other w es fs h g =
+    sym h.left ∙ ap (λ x. before_key w.end (stack_items bytes x w.stack.nodes w.stack.nexts w.stack.depth)) (sym h.layout ∙ g.layout) ∙ g.left

@@ -14,13 +14,12 @@ use Rattle.archive_btree_layout.specs.Tree.{items}
 use Rattle.archive_btree_searching.specs.Ranges.{before_key, IsRun}
 use Rattle.archive_btree_searching.specs.Walking.{stack_items}
 use Rattle.archive_btree_searching.specs.declared.stepping.EntryWalk.{EntryWalk}
-use Rattle.archive_btree_reading.specs.Maps.{IsMapAt}
 use Rattle.archive_btree_reading.specs.Seals.{IsLent}
 use Rattle.archive_btree_reading.specs.SealedVisits.{CallsSealed, VisitsSealed}
 use Rattle.archive_btree_reading.specs.SealedVisits.VisitsSealed.{breaks_at, goes_on}
 use Rattle.archive_btree_reading.specs.Walks.{BegunMap, IsWritten, GoesOn}
 use Rattle.archive_btree_reading.proofs.One.{one_map}
-use Rattle.archive_btree_reading.proofs.Sealed.{first_among, value_written}
+use Rattle.archive_btree_reading.proofs.Sealed.{first_among, map_at, value_written}
 
 -- bytes that are split around the own bytes of a value, which are so many
 pub record IsSplit (bytes : List ℕ) (at size : ℕ) (before rest own after : List ℕ) : Type 0 where
@@ -71,9 +70,7 @@ module _ {most : ℕ} {k v : Shape} {knows others : Names → Type 0} (m : Begun
 pub same_map : {most : ℕ} {k v : Shape} {knows others : Names → Type 0} (m n : BegunMap most k v knows others) (bytes : List ℕ) (pos : ℕ)
     → m.bytes ≡ bytes → m.pos ≡ pos → n.bytes ≡ bytes → n.pos ≡ pos → items m.search_tree ≡ items n.search_tree
 same_map {most} {k} {v} m n bytes pos a b c d =
-    let first = subst (λ x. IsMapAt x most k v pos m.search_tree) a (subst (λ p. IsMapAt m.bytes most k v p m.search_tree) b m.map) in
-    let second = subst (λ x. IsMapAt x most k v pos n.search_tree) c (subst (λ p. IsMapAt n.bytes most k v p n.search_tree) d n.map) in
-    ap items (one_map bytes most k v pos m.search_tree n.search_tree first second)
+    ap items (one_map bytes most k v pos m.search_tree n.search_tree (map_at m bytes pos a b) (map_at n bytes pos c d))
 
 -- ---- calls
 
