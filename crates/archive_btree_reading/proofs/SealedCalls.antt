@@ -81,7 +81,7 @@ is_lent size split key value key_bytes key_pos value_bytes value_pos =
     record {
       key_bytes = key_bytes ∙ split.front;
       key_pos = key_pos;
-      own_value = record { own = value_bytes ∙ split.lent ∙ ap (take size) split.back; pos = value_pos };
+      own_value = record { own = value_bytes ∙ split.lent ∙ ap (take size) split.back; len = ap length value_bytes ∙ own_length split; pos = value_pos };
     }
 
 module _ {F B K V : Type 0} (step : F → Ref K → MutBor (OwnSeal V) → ControlFlow B (Unit {0}) → MutBor (OwnSeal V) → F → Type 0) (size : ℕ) where

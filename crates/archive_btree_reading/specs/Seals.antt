@@ -1,6 +1,6 @@
 -- What is lent of an entry whose value may be written over.
 use denote.Ref.{Bor}
-use Rattle.std.specs.Prelude.{◌≡◌, ℕ, List, take, drop}
+use Rattle.std.specs.Prelude.{◌≡◌, ℕ, List, length, take, drop}
 use Rattle.std.specs.declared.cmp.Ordering.{Ordering}
 use Rattle.archive_shape_references.specs.declared.refs.Ref.{Ref}
 use Rattle.archive_shape_references.specs.declared.own_seal.OwnSeal.{OwnSeal}
@@ -11,6 +11,7 @@ module _ {V : Type 0} (size : ℕ) (bytes : List ℕ) (e : Place) where
   -- the seal has the own bytes of an entry's value, which are so many
   pub record IsOwnValue (value : OwnSeal V) : Type 0 where
     pub own : value.own.now ≡ take size (drop e.value bytes)
+    pub len : length value.own.now ≡ size
     pub pos : value.pos ≡ e.value
 
   -- beside it the entry's key is seen, with the bytes before the value
