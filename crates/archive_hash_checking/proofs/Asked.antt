@@ -22,6 +22,10 @@ behind_answered range (q ∷ xs) ys h =
     let rest = behind_answered range xs ys h.1 in
     record { answered = λ i. (h.0, rest.answered i); refused = λ e f. unanswered_later h.0 (rest.refused e f) }
 
+pub both_answered : (range : Range) (xs ys : List Question) → AreAnswered range (xs ++ ys) → AreAnswered range xs × AreAnswered range ys
+both_answered range [] ys h = (tt, h)
+both_answered range (q ∷ xs) ys h = let rest = both_answered range xs ys h.1 in ((h.0, rest.0), rest.1)
+
 -- the first ones, where one of them is not
 pub refused_before : (range : Range) (e : Error) (xs ys : List Question) → FirstUnanswered range e xs → FirstUnanswered range e (xs ++ ys)
 refused_before range e [] ys f = elim f [ ]

@@ -4,9 +4,7 @@ use Rattle.std.specs.Prelude.{slice_index}
 use Rattle.std.proofs.lemmas.Bool.{lt-ltb, le-ltb}
 use Rattle.std.proofs.lemmas.List.{drop_more, drop_all}
 use Rattle.std.proofs.Math.Nat.{mul-le-mul_right}
-use Rattle.archive_shape_layout.specs.Shape.{Shape, size_of}
-use Rattle.archive_shape_layout.specs.Content.{Names, Part, item, tagged_items}
-use Rattle.archive_shape_layout.specs.Content.Part.{at}
+use Rattle.archive_shape_layout.specs.Content.{Names, Part, Item, item_size, item_part, tagged_items}
 use Rattle.archive_shape_layout.specs.Holds.{Visit, OpenShared}
 use Rattle.archive_shape_checking.specs.Kept.{Kept, Records}
 use Rattle.archive_shape_checking.specs.Checks.{Checks}
@@ -24,11 +22,11 @@ bucket_below i n size target bucket less fits is =
     let next : (i + 1) * size ≡ i * size + size = omega arith in
     record { room = omega arith; is_next = omega arith; within = omega arith }
 
-module _ (target : ℕ) (s : Shape) (controls : List ℕ) where
+module _ (target : ℕ) (it : Item) (controls : List ℕ) where
   abbrev pub items_from : ℕ → List Part
-  items_from i = tagged_items target (item s) i (drop i controls)
+  items_from i = tagged_items target it i (drop i controls)
 
-  pub item_next : (i bucket : ℕ) → i < length controls → slice_index controls i < 128 → bucket ≡ target - (i + 1) * size_of s → items_from i ≡ at bucket s ∷ items_from (i + 1)
+  pub item_next : (i bucket : ℕ) → i < length controls → slice_index controls i < 128 → bucket ≡ target - (i + 1) * item_size it → items_from i ≡ item_part it bucket ∷ items_from (i + 1)
   unfolding tagged_items
   item_next i bucket within tag is = rw (drop_more controls i 0 within, lt-ltb (slice_index controls i) 128 tag, is) refl
 
@@ -46,21 +44,21 @@ module _ (target : ℕ) (s : Shape) (controls : List ℕ) where
     pub record LeftFrom (i : ℕ) (now : Kept) : Type 0 where
       pub mid : List Visit
       pub records : Records now.seen inside mid
-      pub left : Left names bytes inside before (tagged_items target (item s) 0 controls) old mid (items_from i) now
+      pub left : Left names bytes inside before (tagged_items target it 0 controls) old mid (items_from i) now
 
     module _ (i : ℕ) (now : Kept) (h : LeftFrom i now) (within : i < length controls) where
-      pub place_checked : (bucket : ℕ) (next : Kept) → slice_index controls i < 128 → bucket ≡ target - (i + 1) * size_of s → Checks names bytes (at bucket s) now (Ok tt) next → LeftFrom (i + 1) next
+      pub place_checked : (bucket : ℕ) (next : Kept) → slice_index controls i < 128 → bucket ≡ target - (i + 1) * item_size it → Checks names bytes (item_part it bucket) now (Ok tt) next → LeftFrom (i + 1) next
       place_checked bucket next tag is checks =
           let here = checks inside h.mid h.records in
           record {
             mid = here.passes.after;
             records = checked_records names bytes inside h.mid here;
-            left = one_less names bytes inside before (tagged_items target (item s) 0 controls) old h.left (item_next i bucket within tag is) here;
+            left = one_less names bytes inside before (tagged_items target it 0 controls) old h.left (item_next i bucket within tag is) here;
           }
 
       pub place_passed : 128 ≤ slice_index controls i → LeftFrom (i + 1) now
       place_passed empty = record {
         mid = h.mid;
         records = h.records;
-        left = subst (λ ps. Left names bytes inside before (tagged_items target (item s) 0 controls) old h.mid ps now) (item_missing i within empty) h.left;
+        left = subst (λ ps. Left names bytes inside before (tagged_items target it 0 controls) old h.mid ps now) (item_missing i within empty) h.left;
       }

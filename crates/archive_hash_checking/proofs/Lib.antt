@@ -4,3 +4,4 @@ pub mod ItemChecks
 pub mod BucketChecks
 pub mod TableParts
 pub mod TableChecks
+pub mod NumberChecks

@@ -9,14 +9,14 @@ ghost use Rattle.archive_shape_checking.specs.Steps.{StepTakes, StepChecks};
 ghost use Rattle.archive_shape_writing.specs.declared.error.Error.TheVariants.{OutOfMemory};
 ghost use Rattle.archive_hash_checking.specs.Buckets.{AreClaimed, claim_of_buckets};
 
-use crate::controls::{check_controls, controls_at, count_tags};
+use crate::controls::{check_tags, controls_at};
 use crate::items::check_items;
 use crate::sizes::{buckets_size, table_size};
 use archive_shape_checking::{ArchiveContext, Error, PushedRange};
 use archive_shape_portable::Portable;
 
 /// Claims the buckets below `target` and the controls from there on, so that what is claimed next lies before them.
-fn claim_buckets<T: Portable, C: ArchiveContext>(
+pub(crate) fn claim_buckets<T: Portable, C: ArchiveContext>(
     target: usize,
     capacity: usize,
     context: &mut C,
@@ -68,15 +68,7 @@ pub(crate) fn check_buckets<
     let _len = bytes.len();
     let range = claim_buckets::<T, C>(target, capacity, context)?;
     let controls = controls_at(bytes, target, capacity);
-    check_controls(controls, capacity)?;
-    let places = &controls[..capacity];
-    let actual = count_tags(places);
-    if actual != len {
-        return Err(Error::WrongNumberOfElements {
-            expected: len,
-            actual,
-        });
-    }
-    check_items::<T, C, F>(bytes, target, places, context, step)?;
+    check_tags(controls, capacity, len)?;
+    check_items::<T, C, F>(bytes, target, &controls[..capacity], context, step)?;
     context.pop_subtree_range(range)
 }

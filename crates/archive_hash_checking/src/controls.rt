@@ -4,6 +4,7 @@ ghost use Rattle.archive_shape_layout.specs.Bytes.{window};
 ghost use Rattle.archive_shape_layout.specs.Content.{control_count};
 ghost use Rattle.archive_shape_checking.specs.Range.{Range};
 ghost use Rattle.archive_shape_checking.specs.Questions.{AreAnswered, FirstUnanswered, questions_of_controls};
+ghost use Rattle.archive_hash_checking.specs.Buckets.{questions_of_tags};
 
 use crate::sizes::control_count;
 use archive_shape_checking::Error;
@@ -35,7 +36,7 @@ fn is_wrapped(controls: &[u8], capacity: usize, index: usize) -> bool
 }
 
 /// Refuses the first control from the capacity on that is not as it has to be, as `UnwrappedControlByte`.
-pub(crate) fn check_controls(controls: &[u8], capacity: usize) -> Result<(), Error>
+fn check_controls(controls: &[u8], capacity: usize) -> Result<(), Error>
     requires { capacity ≤ length controls.now }
     ensures { (range : Range) → MatchResult result
         (λ _. AreAnswered range (questions_of_controls capacity controls.now 0 controls.now))
@@ -50,8 +51,27 @@ pub(crate) fn check_controls(controls: &[u8], capacity: usize) -> Result<(), Err
 }
 
 /// How many controls are tags.
-pub(crate) fn count_tags(controls: &[u8]) -> usize
+fn count_tags(controls: &[u8]) -> usize
     ensures { result ≡ count_by (λ c. nat_lt c 128) controls.now }
 {
     controls.iter().filter(|control| **control < 128).count()
+}
+
+/// Refuses the controls of a table of so many items, first as `check_controls` does, and then another number of tags below the
+/// capacity as `WrongNumberOfElements`.
+pub(crate) fn check_tags(controls: &[u8], capacity: usize, len: usize) -> Result<(), Error>
+    requires { capacity ≤ length controls.now }
+    ensures { (range : Range) → MatchResult result
+        (λ _. AreAnswered range (questions_of_tags len capacity controls.now))
+        (λ e. FirstUnanswered range e (questions_of_tags len capacity controls.now)) }
+{
+    check_controls(controls, capacity)?;
+    let actual = count_tags(&controls[..capacity]);
+    if actual != len {
+        return Err(Error::WrongNumberOfElements {
+            expected: len,
+            actual,
+        });
+    }
+    Ok(())
 }

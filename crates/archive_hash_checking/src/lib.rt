@@ -7,10 +7,12 @@
 mod buckets;
 mod controls;
 mod items;
+mod places;
 mod sizes;
 mod table;
 mod words;
 
 pub use controls::controls_at;
+pub use places::check_place_buckets;
 pub use sizes::control_count;
 pub use table::check_table_each;

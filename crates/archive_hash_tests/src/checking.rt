@@ -1,6 +1,6 @@
 //! Tests of what is accepted and refused of hash tables.
 use archive_core_validation::ArchiveValidator;
-use archive_hash_checking::{check_table_each, control_count, controls_at};
+use archive_hash_checking::{check_place_buckets, check_table_each, control_count, controls_at};
 use archive_shape_checking::{CheckBytes, Error};
 use archive_shape_portable::{ArchivedNonZeroU32, ArchivedU32};
 use std::alloc::Global;
@@ -94,6 +94,23 @@ fn another_number_of_items_is_refused(rt: HostRuntime) {
             actual: 2
         })
     );
+}
+
+/// Whether the buckets and controls of a table that leads to one entry are accepted, or why not.
+fn accepts_numbers(alloc: Global, bytes: &[u8; 52]) -> Result<(), Error> {
+    let mut context = ArchiveValidator::new(alloc, bytes);
+    check_place_buckets(bytes, 8, 1, 2, &mut context)
+}
+
+#[test]
+fn numbers_of_entries_are_checked(rt: HostRuntime) {
+    let mut bytes = ONE_OF_TWO;
+    assert_eq!(rt;
+        accepts_numbers(rt.alloc(), &bytes),
+        Err(Error::InvalidPlace)
+    );
+    bytes[0] = 0;
+    assert_eq!(rt; accepts_numbers(rt.alloc(), &bytes), Ok(()));
 }
 
 #[test]

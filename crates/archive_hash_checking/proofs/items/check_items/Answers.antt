@@ -28,7 +28,7 @@ returns-in_err-step-clause-exact g c names known =
     (λ inside before records other.
     let mid = held.left names known inside before records in
     first_fault names c.args.bytes.now inside before (tagged_items c.args.target (item s) 0 c.args.controls.now) (g.C.ArchiveContext.kept c.args.context.now) mid.left
-    (item_next c.args.target s c.args.controls.now c.loop-place.place _ c.loop-place-test.true c.if-controls-place-lt128.true here) (checks.1 names known inside mid.mid mid.records other))
+    (item_next c.args.target (item s) c.args.controls.now c.loop-place.place _ c.loop-place-test.true c.if-controls-place-lt128.true here) (checks.1 names known inside mid.mid mid.records other))
 
 pub loop-place-preserved : goal.loop-place-preserved
 loop-place-preserved g c =
@@ -47,16 +47,16 @@ loop-place-preserved g c =
             advances = subst (λ x. Advances old (kept x)) (sym w.context-is) (advances_then held.advances checks.0);
             bucket = here;
             left = λ names known inside before records.
-                subst (λ x. LeftFrom c.args.target s c.args.controls.now names c.args.bytes.now inside before old (c.loop-place.place + 1) (kept x)) (sym w.context-is)
-                (place_checked c.args.target s c.args.controls.now names c.args.bytes.now inside before old _ _ (held.left names known inside before records) c.loop-place-test.true _ _ w.if-controls-place-lt128.true here (checks.1 names known));
+                subst (λ x. LeftFrom c.args.target (item s) c.args.controls.now names c.args.bytes.now inside before old (c.loop-place.place + 1) (kept x)) (sym w.context-is)
+                (place_checked c.args.target (item s) c.args.controls.now names c.args.bytes.now inside before old _ _ (held.left names known inside before records) c.loop-place-test.true _ _ w.if-controls-place-lt128.true here (checks.1 names known));
           }
       | else-controls-place-lt128 w ↦
           record {
             advances = subst (λ x. Advances old (kept x)) (sym w.context-is) held.advances;
             bucket = here;
             left = λ names known inside before records.
-                subst (λ x. LeftFrom c.args.target s c.args.controls.now names c.args.bytes.now inside before old (c.loop-place.place + 1) (kept x)) (sym w.context-is)
-                (place_passed c.args.target s c.args.controls.now names c.args.bytes.now inside before old _ _ (held.left names known inside before records) c.loop-place-test.true w.if-controls-place-lt128.false);
+                subst (λ x. LeftFrom c.args.target (item s) c.args.controls.now names c.args.bytes.now inside before old (c.loop-place.place + 1) (kept x)) (sym w.context-is)
+                (place_passed c.args.target (item s) c.args.controls.now names c.args.bytes.now inside before old _ _ (held.left names known inside before records) c.loop-place-test.true w.if-controls-place-lt128.false);
           }
     ]
 
@@ -64,4 +64,4 @@ pub returns-clause-exact : goal.returns-clause-exact
 returns-clause-exact g c names known inside before records =
     let mid = c.loop-place.invariant.left names known inside before records in
     none_left names c.args.bytes.now inside before (tagged_items c.args.target (item g.T.Portable.shape) 0 c.args.controls.now) (g.C.ArchiveContext.kept c.args.context.now) mid.left
-    (items_none c.args.target g.T.Portable.shape c.args.controls.now c.loop-place.place c.loop-place-test.false) mid.records
+    (items_none c.args.target (item g.T.Portable.shape) c.args.controls.now c.loop-place.place c.loop-place-test.false) mid.records

@@ -1,6 +1,6 @@
 use Rattle.std.proofs.Common.{◌≡◌, ◌-◌, ◌*◌, List}
 use Rattle.archive_shape_layout.specs.Shape.{size_of}
-use Rattle.archive_shape_layout.specs.Content.{Names}
+use Rattle.archive_shape_layout.specs.Content.{Names, item}
 use Rattle.archive_shape_layout.specs.Holds.{Visit, OpenShared}
 use Rattle.archive_shape_checking.specs.Kept.{Records, Advances}
 use Rattle.archive_hash_checking.proofs.ItemChecks.{LeftFrom}
@@ -15,5 +15,5 @@ invariant-loop-place g l =
       advances : Advances old now;
       bucket : l.bucket ≡ l.target - l.place * size_of s;
       left : (names : Names) → g.T.Portable.knows names → (inside : List OpenShared) (before : List Visit) → Records old.seen inside before
-          → LeftFrom l.target s l.controls names l.bytes inside before old l.place now;
+          → LeftFrom l.target (item s) l.controls names l.bytes inside before old l.place now;
     }
