@@ -1,5 +1,5 @@
 //! The check of a table whose buckets have the numbers of entries.
-ghost use Rattle.std.specs.Prelude.{◌≡◌, ◌≢◌, ℕ, ◌+◌, ◌-◌, ◌*◌, ◌^◌, ◌<◌, ◌≤◌, Err, length};
+ghost use Rattle.std.specs.Prelude.{ℕ, ◌+◌, ◌-◌, ◌*◌, ◌^◌, ◌<◌, ◌≤◌, length};
 ghost use Rattle.archive_shape_layout.specs.Content.{Names, place, tagged_items};
 ghost use Rattle.archive_shape_layout.specs.Content.Part.{buckets, place_at};
 ghost use Rattle.archive_shape_checking.specs.Kept.{Kept, IsWithin};

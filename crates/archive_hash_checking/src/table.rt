@@ -8,8 +8,7 @@ ghost use Rattle.archive_shape_checking.specs.Checks.{Checks, Moves};
 ghost use Rattle.archive_shape_checking.specs.Steps.{StepTakes, StepChecks};
 
 use crate::buckets::check_buckets;
-use crate::sizes::table_size;
-use crate::words::{target, word};
+use crate::head::check_head;
 use archive_shape_checking::{ArchiveContext, Error};
 use archive_shape_portable::Portable;
 
@@ -37,19 +36,15 @@ pub fn check_table_each<T: Portable, C: ArchiveContext, F: Fn(&mut C, usize) -> 
     ensures exact { (names : Names) → T.knows names
         → Checks names bytes.now (at pos (table T.shape)) (C.kept context.old) result (C.kept context.new) }
 {
-    let _len = bytes.len();
-    let len = word(bytes, pos + 4) as usize;
-    if len == 0 {
+    let Some(head) = check_head::<T>(bytes, pos)? else {
         return Ok(());
-    }
-    let cap = word(bytes, pos + 8) as usize;
-    if len >= cap {
-        return Err(Error::TableLength { len, cap });
-    }
-    let Some(controls) = target(bytes, pos) else {
-        return Err(Error::InvalidSubtreePointer {
-            size: table_size::<T>(cap),
-        });
     };
-    check_buckets::<T, C, F>(bytes, controls, len, cap, context, &step)
+    check_buckets::<T, C, F>(
+        bytes,
+        head.controls,
+        head.len,
+        head.capacity,
+        context,
+        &step,
+    )
 }

@@ -1,6 +1,8 @@
 //! Tests of what is accepted and refused of hash tables.
 use archive_core_validation::ArchiveValidator;
-use archive_hash_checking::{check_place_buckets, check_table_each, control_count, controls_at};
+use archive_hash_checking::{
+    TableHead, check_head, check_place_buckets, check_table_each, control_count, controls_at,
+};
 use archive_shape_checking::{CheckBytes, Error};
 use archive_shape_portable::{ArchivedNonZeroU32, ArchivedU32};
 use std::alloc::Global;
@@ -30,6 +32,18 @@ fn tables_are_accepted(rt: HostRuntime) {
     let mut empty = [0; 52];
     empty[48] = 9;
     assert_eq!(rt; accepts::<ArchivedU32>(rt.alloc(), &empty), Ok(()));
+}
+
+#[test]
+fn own_bytes_are_read(rt: HostRuntime) {
+    assert_eq!(rt;
+        check_head::<ArchivedU32>(&ONE_OF_TWO, 40),
+        Ok(Some(TableHead {
+            len: 1,
+            capacity: 2,
+            controls: 8
+        }))
+    );
 }
 
 #[test]
