@@ -1,0 +1,28 @@
+use Rattle.std.proofs.Common.{rules, ◌≡◌, ◌∙◌, ℕ, ◌+◌, sym, ap, arith}
+use Rattle.archive_shape_layout.specs.Bytes.{word_at}
+use Rattle.archive_hash_reading.proofs.Roots.{IsReadAs, places_of_value, table_some, read_as, controls_read}
+use Rattle.archive_hash_reading.proofs.buckets.buckets_at.Goals as goal
+
+pub target_of-target-requires-clause-leads : goal.target_of-target-requires-clause-leads
+target_of-target-requires-clause-leads g c =
+    let b = places_of_value c.requires in
+    (b.buckets.target, (table_some (λ e. c.if-number_at-eq0.false (c.number_at.ensures.value ∙ e)) b.table).leads)
+
+pub overflow_add-end : goal.overflow_add-end
+overflow_add-end g c =
+    let b = places_of_value c.requires in
+    let p = table_some (λ e. c.if-number_at-eq0.false (c.number_at.ensures.value ∙ e)) b.table in
+    let r = read_as c.target_of-target.result c.number_at-capacity.result c.control_count.result p c.target_of-target.ensures c.number_at-capacity.ensures.value c.control_count.ensures in
+    search (rules, r.within)
+
+pub slice_bounds-result-end : goal.slice_bounds-result-end
+slice_bounds-result-end g c =
+    let b = places_of_value c.requires in
+    let p = table_some (λ e. c.if-number_at-eq0.false (c.number_at.ensures.value ∙ e)) b.table in
+    (read_as c.target_of-target.result c.number_at-capacity.result c.control_count.result p c.target_of-target.ensures c.number_at-capacity.ensures.value c.control_count.ensures).within
+
+pub returns : goal.returns
+returns g c b is =
+    let p = table_some (λ e. c.if-number_at-eq0.false (c.number_at.ensures.value ∙ e)) is in
+    let r = read_as c.target_of-target.result c.number_at-capacity.result c.control_count.result p c.target_of-target.ensures c.number_at-capacity.ensures.value c.control_count.ensures in
+    record { target = r.target; capacity = r.cap; controls = controls_read c.target_of-target.result c.number_at-capacity.result c.control_count.result p r }
