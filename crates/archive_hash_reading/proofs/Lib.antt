@@ -1,2 +1,3 @@
+pub mod Lookups
 pub mod Read
 pub mod Roots

@@ -212,7 +212,7 @@ table_is_read s knows bytes pos value h = by_length s knows bytes pos value h _ 
 
 -- ---- one list of places
 
-buckets_are : {t u n m : ℕ} {xs ys : List ℕ} → t ≡ u → n ≡ m → xs ≡ ys → (λ (b : Buckets). b) (record { target = t; cap = n; controls = xs }) ≡ record { target = u; cap = m; controls = ys }
+pub buckets_are : {t u n m : ℕ} {xs ys : List ℕ} → t ≡ u → n ≡ m → xs ≡ ys → (λ (b : Buckets). b) (record { target = t; cap = n; controls = xs }) ≡ record { target = u; cap = m; controls = ys }
 buckets_are x y z = rw (x, y, z) refl
 
 pub one_table : OneTable

@@ -1,16 +1,37 @@
 -- The places of a table as the code holds them, and what its look-ups answer.
-use denote.Ref.{Bor}
-use Rattle.std.specs.Prelude.{◌≡◌, ℕ, ◌+◌, ◌*◌, ◌^◌, ◌<◌, ◌≤◌, Bool, List, length, Option, Some, None}
+use Rattle.std.specs.Prelude.{◌≡◌, ℕ, ◌^◌, ◌<◌, Bool, true, false, slice_index, Option, Some, None, IfSome, Contains}
 use Rattle.std.specs.Option.{option_map}
-use Rattle.archive_shape_references.specs.declared.refs.Ref.{Ref}
-use Rattle.archive_shape_layout.specs.Shape.{Shape, size_of}
-use Rattle.archive_hash_places.specs.Controls.{AreControls}
+use Rattle.archive_shape_layout.specs.Shape.{Shape}
+use Rattle.archive_shape_canonical.specs.FirstFit.{hash_tag}
+use Rattle.archive_hash_layout.specs.Reach.{Reaches}
 use Rattle.archive_hash_places.specs.Search.{IsLookup}
-use Rattle.archive_hash_reading.specs.Tables.{Buckets, item_position}
+use Rattle.archive_hash_reading.specs.Tables.{Buckets, item_position, item_positions}
 use Rattle.archive_hash_reading.specs.declared.buckets.BucketsAt.{BucketsAt}
 
--- the code holds these places
-pub record AreBuckets (r : BucketsAt) (b : Buckets) : Type 0 where
-  pub target : r.target ≡ b.target
-  pub capacity : r.capacity ≡ b.cap
-  pub controls : r.controls.now ≡ b.controls
+-- the places that the code holds
+abbrev pub held : BucketsAt → Buckets
+held r = record { target = r.target; cap = r.capacity; controls = r.controls.now }
+
+-- what a look-up of a hash finds, where `says at x` holds if x is said of the item at a position: where the item stands, and
+-- how many strides were searched; a table without places is not searched
+pub data LooksUp (says : ℕ → Bool → Type 0) (s : Shape) (b : Buckets) (hash : ℕ) (found : Option ℕ) (strides : ℕ) : Type 0 where
+  has_no_places : b.cap ≡ 0 → found ≡ None → strides ≡ 0 → LooksUp says s b hash found strides
+  has_places :
+      (place : Option ℕ)
+      → found ≡ option_map (item_position s b.target) place
+      → IsLookup (λ p x. says (item_position s b.target p) x) b.controls b.cap hash place strides
+      → LooksUp says s b hash found strides
+
+-- it finds the item of a place that is the only one which can be accepted, stands under its tag and in its reach
+abbrev pub FindsTheOnly : (ℕ → Bool → Type 0) → Shape → Buckets → ℕ → Option ℕ → Type 0
+FindsTheOnly says s b hash found =
+    (place : ℕ)
+    → Reaches b.controls hash b.cap place
+    → slice_index b.controls place ≡ hash_tag hash
+    → (says (item_position s b.target place) false → ⊥)
+    → ((p : ℕ) → p < b.cap → slice_index b.controls p < 128 → says (item_position s b.target p) true → p ≡ place)
+    → found ≡ Some (item_position s b.target place)
+
+-- what is found is an item that was accepted
+abbrev pub FindsAccepted : (ℕ → Bool → Type 0) → Shape → Buckets → Option ℕ → Type 0
+FindsAccepted says s b found = IfSome found (λ at. Contains (item_positions s b) at × says at true)

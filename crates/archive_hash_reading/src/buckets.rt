@@ -5,7 +5,7 @@ ghost use Rattle.archive_shape_layout.specs.Content.{control_count};
 ghost use Rattle.archive_shape_layout.specs.Shape.Shape.{table};
 ghost use Rattle.archive_forms_reading.specs.Parts.{HasValue};
 ghost use Rattle.archive_hash_reading.specs.Tables.{Buckets, no_buckets, IsTableAt};
-ghost use Rattle.archive_hash_reading.specs.Places.{AreBuckets};
+ghost use Rattle.archive_hash_reading.specs.Places.{held};
 
 use archive_forms_checking::next_multiple;
 use archive_forms_reading::target_of;
@@ -42,7 +42,9 @@ pub(crate) fn number_at(bytes: &[u8], at: usize) -> usize
 /// The places of the table at `pos`, if it has items.
 pub(crate) fn buckets_at<T: Portable>(bytes: &[u8], pos: usize) -> Option<BucketsAt<'_>>
     requires { HasValue (table T.shape) T.knows bytes.now pos }
-    ensures { (b : Buckets) → IsTableAt bytes.entry.now T.shape pos b → MatchOption result (b ≡ no_buckets) (λ r. AreBuckets r b) }
+    ensures { (b : Buckets) → IsTableAt bytes.entry.now T.shape pos b → MatchOption result
+        (b ≡ no_buckets)
+        (λ r. (b ≡ held r) × (word_at bytes.entry.now (pos + 4) ≡ 0 → ⊥) × (r.capacity < 2 ^ 32)) }
 {
     let _len = bytes.len();
     if number_at(bytes, pos + 4) == 0 {

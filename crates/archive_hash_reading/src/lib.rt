@@ -3,6 +3,7 @@
 
 mod buckets;
 mod laws;
+mod lookup;
 mod table;
 
 pub use buckets::control_count;

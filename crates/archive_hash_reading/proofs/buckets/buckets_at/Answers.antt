@@ -1,5 +1,6 @@
 use Rattle.std.proofs.Common.{rules, ◌≡◌, ◌∙◌, ℕ, ◌+◌, sym, ap, arith}
 use Rattle.archive_shape_layout.specs.Bytes.{word_at}
+use Rattle.archive_hash_reading.proofs.Read.{buckets_are}
 use Rattle.archive_hash_reading.proofs.Roots.{IsReadAs, places_of_value, table_some, read_as, controls_read}
 use Rattle.archive_hash_reading.proofs.buckets.buckets_at.Goals as goal
 
@@ -24,5 +25,8 @@ slice_bounds-result-end g c =
 pub returns : goal.returns
 returns g c b is =
     let p = table_some (λ e. c.if-number_at-eq0.false (c.number_at.ensures.value ∙ e)) is in
-    let r = read_as c.target_of-target.result c.number_at-capacity.result c.control_count.result p c.target_of-target.ensures c.number_at-capacity.ensures.value c.control_count.ensures in
-    record { target = r.target; capacity = r.cap; controls = controls_read c.target_of-target.result c.number_at-capacity.result c.control_count.result p r }
+    let r = read_as c.target_of-target.result c.number_at-capacity.result c.control_count.result p c.target_of-target.ensures c.number_at-capacity.ensures.value c.control_count.ensures in (
+      buckets_are (sym r.target) (sym r.cap) (sym (controls_read c.target_of-target.result c.number_at-capacity.result c.control_count.result p r)),
+      λ e. c.if-number_at-eq0.false (c.number_at.ensures.value ∙ e),
+      c.number_at-capacity.ensures.bound,
+    )

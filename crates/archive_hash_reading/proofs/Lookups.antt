@@ -1,0 +1,69 @@
+-- The items of a table that a look-up may compare.
+use Rattle.std.proofs.Common.{◌≡◌, ℕ, zero, suc, ◌+◌, ◌*◌, ◌^◌, ◌<◌, ◌≤◌, ◌==◌, Bool, true, false, cond, nat_lt, List, [], ◌∷◌, length, map, filter, slice_index, Option, Some, None, Contains, IfSome, refl, ap, sym, subst, arith, eqb-true, eq-eqb, lt-ltb, ltb-true, mul-le-mul_right}
+use Rattle.std.specs.List.{range_with_len, list_any, flat_map}
+use Rattle.std.proofs.lemmas.List.Elements.{Contains-append_right}
+use Rattle.archive_shape_layout.specs.Shape.{Shape, size_of}
+use Rattle.archive_shape_canonical.specs.Strides.{strides, strides_from, stop, least_power, places_shown}
+use Rattle.archive_hash_layout.specs.Reach.{Reaches, reach, searched}
+use Rattle.archive_hash_reading.specs.Tables.{Buckets, no_buckets, item_position, item_positions}
+use Rattle.archive_hash_reading.proofs.Roots.{HasPlaces}
+
+later_among : (b : Bool) (f : ℕ → ℕ) (i p : ℕ) (ps : List ℕ) → Contains (map f ps) (f p) → Contains (map f (cond b (i ∷ ps) ps)) (f p)
+later_among true f i p ps h = Contains-append_right (f i ∷ []) (map f ps) (f p) h
+later_among false f i p ps h = h
+
+first_among : (b : Bool) (f : ℕ → ℕ) (i : ℕ) (ps : List ℕ) → b ≡ true → Contains (map f (cond b (i ∷ ps) ps)) (f i)
+first_among true f i ps e = (0, omega arith, refl)
+first_among false f i ps e = absurd cc
+
+item_among : (f : ℕ → ℕ) (g : ℕ → Bool) (n i p : ℕ) → i ≤ p → p < i + n → g p ≡ true → Contains (map f (filter g (range_with_len i n))) (f p)
+item_among f g zero i p from below passes = absurd (omega arith)
+item_among f g (suc n) i p from below passes = by_place (p == i) refl (λ next. item_among f g n (i + 1) p next (omega arith) passes)
+  where
+    by_place : (b : Bool) → (p == i) ≡ b → (i + 1 ≤ p → Contains (map f (filter g (range_with_len (i + 1) n))) (f p)) → Contains (map f (filter g (range_with_len i (suc n)))) (f p)
+    by_place true is later =
+        let same : p ≡ i = eqb-true p i is in
+        let here : g i ≡ true = subst (λ q. g q ≡ true) same passes in
+        subst (λ q. Contains (map f (filter g (range_with_len i (suc n)))) (f q)) (sym same) (first_among (g i) f i (filter g (range_with_len (i + 1) n)) here)
+    by_place false is later =
+        let other : p ≡ i → ⊥ = λ e. let t = eq-eqb p i e in absurd cc in
+        later_among (g i) f i p (filter g (range_with_len (i + 1) n)) (later (further other))
+      where
+        further : (p ≡ i → ⊥) → i + 1 ≤ p
+        further other = omega (arith, other)
+
+module _ (s : Shape) (b : Buckets) (p : ℕ) where
+  -- the item of a full place is one of the table's
+  pub full_among : p < b.cap → slice_index b.controls p < 128 → Contains (item_positions s b) (item_position s b.target p)
+  full_among below full = item_among (item_position s b.target) (λ q. nat_lt (slice_index b.controls q) 128) b.cap 0 p (omega arith) (omega (arith, below)) (lt-ltb _ _ full)
+
+  -- it stands below the controls
+  pub item_room : {bytes : List ℕ} {pos : ℕ} → HasPlaces bytes s pos b → p < b.cap → (p + 1) * size_of s ≤ b.target
+  item_room places below = let up : (p + 1) * size_of s ≤ b.cap * size_of s = mul-le-mul_right (size_of s) (omega (arith, below)) in let room = places.room in omega (arith, up, room)
+
+-- what is said of the place that is found
+pub some_item : (P : ℕ → Type 0) (o : Option ℕ) (p : ℕ) → IfSome o P → o ≡ Some p → P p
+some_item P None p h e = absurd cc
+some_item P (Some q) p h e = let same : q ≡ p = cc in subst P same h
+
+none_below : (xs : List ℕ) → filter (λ p. nat_lt p 0) xs ≡ []
+none_below [] = refl
+none_below (x ∷ xs) = by_test (nat_lt x 0) refl (none_below xs)
+  where
+    by_test : (b : Bool) → nat_lt x 0 ≡ b → filter (λ p. nat_lt p 0) xs ≡ [] → cond b (x ∷ filter (λ p. nat_lt p 0) xs) (filter (λ p. nat_lt p 0) xs) ≡ []
+    by_test true is e = absurd (let less = ltb-true x 0 is in omega (arith, less))
+    by_test false is e = e
+
+no_strides : (hash : ℕ) → strides hash 0 ≡ []
+unfolding strides strides_from
+no_strides hash = none_below (map (stop hash 0) (range_with_len 0 (least_power 0)))
+
+reaches_none : (controls : List ℕ) (hash place : ℕ) → Reaches controls hash 0 place → ⊥
+unfolding reach
+reaches_none controls hash place reached =
+    let none : list_any (λ p. place == p) (flat_map (places_shown 0) (searched controls [])) ≡ true = subst (λ ps. list_any (λ p. place == p) (flat_map (places_shown 0) (searched controls ps)) ≡ true) (no_strides hash) reached in
+    absurd cc
+
+-- of a table without places no place is reached
+pub none_reached : (b : Buckets) (hash place : ℕ) → b ≡ no_buckets → Reaches b.controls hash b.cap place → ⊥
+none_reached b hash place is reached = reaches_none [] hash place (subst (λ x. Reaches x.controls hash x.cap place) is reached)
