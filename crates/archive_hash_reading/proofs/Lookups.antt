@@ -1,12 +1,20 @@
 -- The items of a table that a look-up may compare.
-use Rattle.std.proofs.Common.{◌≡◌, ℕ, zero, suc, ◌+◌, ◌*◌, ◌^◌, ◌<◌, ◌≤◌, ◌==◌, Bool, true, false, cond, nat_lt, List, [], ◌∷◌, length, map, filter, slice_index, Option, Some, None, Contains, IfSome, refl, ap, sym, subst, arith, eqb-true, eq-eqb, lt-ltb, ltb-true, mul-le-mul_right}
+use denote.Ref.{Bor}
+use Rattle.std.proofs.Common.{◌≡◌, ℕ, zero, suc, ◌+◌, ◌*◌, ◌^◌, ◌<◌, ◌≤◌, ◌==◌, Bool, true, false, cond, nat_lt, List, [], ◌∷◌, length, map, filter, slice_index, Option, Some, None, Contains, IfSome, All, refl, ap, sym, ◌∙◌, subst, arith, eqb-true, eq-eqb, lt-ltb, ltb-true, mul-le-mul_right}
 use Rattle.std.specs.List.{range_with_len, list_any, flat_map}
-use Rattle.std.proofs.lemmas.List.Elements.{Contains-append_right}
+use Rattle.std.proofs.lemmas.List.Elements.{Contains-append_right, All-nil, All-cons, All-contains}
 use Rattle.archive_shape_layout.specs.Shape.{Shape, size_of}
+use Rattle.archive_shape_layout.specs.Shape.Shape.{table}
+use Rattle.archive_shape_layout.specs.Value.{Values}
+use Rattle.archive_shape_layout.specs.Value.Values.{no_values, more_values}
+use Rattle.archive_shape_layout.specs.Content.{Names, members}
+use Rattle.archive_shape_references.specs.declared.refs.Ref.{Ref}
+use Rattle.archive_forms_reading.specs.Parts.{HasValue}
 use Rattle.archive_shape_canonical.specs.Strides.{strides, strides_from, stop, least_power, places_shown}
 use Rattle.archive_hash_layout.specs.Reach.{Reaches, reach, searched}
-use Rattle.archive_hash_reading.specs.Tables.{Buckets, no_buckets, item_position, item_positions}
-use Rattle.archive_hash_reading.proofs.Roots.{HasPlaces}
+use Rattle.archive_hash_reading.specs.Tables.{Buckets, no_buckets, item_position, item_positions, IsTableAt, AreItemsAt}
+use Rattle.archive_hash_reading.specs.Places.{item_at, FindsAccepted}
+use Rattle.archive_hash_reading.proofs.Roots.{HasPlaces, places_of_value}
 
 later_among : (b : Bool) (f : ℕ → ℕ) (i p : ℕ) (ps : List ℕ) → Contains (map f ps) (f p) → Contains (map f (cond b (i ∷ ps) ps)) (f p)
 later_among true f i p ps h = Contains-append_right (f i ∷ []) (map f ps) (f p) h
@@ -67,3 +75,26 @@ reaches_none controls hash place reached =
 -- of a table without places no place is reached
 pub none_reached : (b : Buckets) (hash place : ℕ) → b ≡ no_buckets → Reaches b.controls hash b.cap place → ⊥
 none_reached b hash place is reached = reaches_none [] hash place (subst (λ x. Reaches x.controls hash x.cap place) is reached)
+
+-- ---- items by references
+
+pub item_is : {T : Type 0} (bytes : Bor (List ℕ)) (at : ℕ) (r : Ref T) → r.bytes ≡ bytes → r.pos ≡ at → r ≡ item_at bytes at
+item_is {T} bytes at r e f =
+    let first : r ≡ item_at bytes r.pos = ap (λ b. item_at {T = T} b r.pos) e in
+    first ∙ ap (λ n. item_at {T = T} bytes n) f
+
+items_hold : (s : Shape) (knows : Names → Type 0) (bytes : List ℕ) (ps : List ℕ) (ws : Values) → AreItemsAt s knows bytes ps ws → All (HasValue s knows bytes) ps
+items_hold s knows bytes [] no_values h = All-nil (HasValue s knows bytes)
+items_hold s knows bytes [] (more_values w ws) h = absurd h
+items_hold s knows bytes (p ∷ ps) no_values h = absurd h
+items_hold s knows bytes (p ∷ ps) (more_values w ws) h = All-cons (HasValue s knows bytes) p ps (record { value = w; held = h.0 }) (items_hold s knows bytes ps ws h.1)
+
+-- what is found is there
+pub item_there :
+    (s : Shape) (knows : Names → Type 0) (bytes : List ℕ) (pos at : ℕ) (P : ℕ → Bool → Type 0) → HasValue (table s) knows bytes pos
+    → ((b : Buckets) → IsTableAt bytes s pos b → FindsAccepted P s b (Some at))
+    → HasValue s knows bytes at
+item_there s knows bytes pos at P h found =
+    let b = places_of_value h in
+    let f = found b.buckets b.table in
+    All-contains (HasValue s knows bytes) (item_positions s b.buckets) at (items_hold s knows bytes (item_positions s b.buckets) (members h.value) b.items) f.0

@@ -1,7 +1,10 @@
 -- The places of a table as the code holds them, and what its look-ups answer.
-use Rattle.std.specs.Prelude.{◌≡◌, ℕ, ◌^◌, ◌<◌, Bool, true, false, slice_index, Option, Some, None, IfSome, Contains}
+use denote.Ref.{Bor}
+use Rattle.std.specs.Prelude.{◌≡◌, ℕ, ◌^◌, ◌<◌, ◌≤◌, List, Bool, true, false, slice_index, Option, Some, None, IfSome, Contains}
 use Rattle.std.specs.Option.{option_map}
 use Rattle.archive_shape_layout.specs.Shape.{Shape}
+use Rattle.archive_shape_references.specs.declared.refs.Ref.{Ref}
+use Rattle.archive_shape_canonical.specs.Strides.{sixteens}
 use Rattle.archive_shape_canonical.specs.FirstFit.{hash_tag}
 use Rattle.archive_hash_layout.specs.Reach.{Reaches}
 use Rattle.archive_hash_places.specs.Search.{IsLookup}
@@ -35,3 +38,16 @@ FindsTheOnly says s b hash found =
 -- what is found is an item that was accepted
 abbrev pub FindsAccepted : (ℕ → Bool → Type 0) → Shape → Buckets → Option ℕ → Type 0
 FindsAccepted says s b found = IfSome found (λ at. Contains (item_positions s b) at × says at true)
+
+-- the item at a position
+abbrev pub item_at : {T : Type 0} → Bor (List ℕ) → ℕ → Ref T
+item_at bytes at = record { bytes = bytes; pos = at; of = record {} }
+
+-- what a look-up answers, by what calls say of the items
+pub record Answers {T F : Type 0} (post : F → Ref T → Bool → Type 0) (accepts : F) (bytes : Bor (List ℕ)) (s : Shape) (b : Buckets) (hash : ℕ) (found : Option (Ref T)) (strides : ℕ) : Type 0 where
+  pub position : Option ℕ
+  pub is : found ≡ option_map (item_at bytes) position
+  pub looks_up : LooksUp (λ at x. post accepts (item_at bytes at) x) s b hash position strides
+  pub accepted : FindsAccepted (λ at x. post accepts (item_at bytes at) x) s b position
+  pub only : FindsTheOnly (λ at x. post accepts (item_at bytes at) x) s b hash position
+  pub few : strides ≤ sixteens b.cap

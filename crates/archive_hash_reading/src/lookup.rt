@@ -1,16 +1,19 @@
 //! Look-ups of items in archived hash tables.
-ghost use Rattle.std.specs.Prelude.{◌≡◌, ℕ, ◌+◌, ◌*◌, ◌^◌, ◌<◌, ◌≤◌, All};
+ghost use Rattle.std.specs.Prelude.{◌≡◌, ℕ, ◌+◌, ◌*◌, ◌^◌, ◌<◌, ◌≤◌, All, IfSome};
 ghost use Rattle.archive_shape_layout.specs.Shape.{size_of};
 ghost use Rattle.archive_shape_layout.specs.Shape.Shape.{table};
 ghost use Rattle.archive_shape_canonical.specs.Strides.{sixteens};
 ghost use Rattle.archive_forms_reading.specs.Parts.{HasValue};
 ghost use Rattle.archive_hash_reading.specs.Tables.{Buckets, IsTableAt, item_position, item_positions};
-ghost use Rattle.archive_hash_reading.specs.Places.{LooksUp, FindsAccepted, FindsTheOnly};
+ghost use Rattle.archive_hash_reading.specs.Places.{LooksUp, FindsAccepted, FindsTheOnly, Answers, item_at};
 
+use crate::ArchivedHashTable;
 use crate::buckets::buckets_at;
 use archive_hash_places::find;
-use archive_hash_scanning::Scan;
+use archive_hash_scanning::{Group, Scan};
+use archive_shape::Steps;
 use archive_shape_portable::Portable;
+use archive_shape_references::Ref;
 
 /// Where the item of a place stands.
 pub(crate) fn position_of<T: Portable>(target: usize, place: usize) -> usize
@@ -50,5 +53,68 @@ pub(crate) fn search_table<T: Portable, S: Scan, F: Fn(usize) -> bool>(
     match found.place {
         Some(place) => (Some(position_of::<T>(target, place)), found.strides),
         None => (None, found.strides),
+    }
+}
+
+impl<T: Portable> ArchivedHashTable<T> {
+    /// The item of a hash that is accepted, and how many strides of sixteen controls were searched for it. `accepts` is
+    /// asked of the items under the hash's tag, and of a few others, until it accepts one. No keys of search trees are
+    /// compared.
+    pub fn get_counted<'a, S: Scan, F: Fn(Ref<'a, T>) -> bool>(
+        this: Ref<'a, ArchivedHashTable<T>>,
+        hash: u64,
+        accepts: &F,
+    ) -> (Option<Ref<'a, T>>, Steps)
+        requires has { HasValue (table T.shape) T.knows this.bytes.now this.pos }
+        requires callable { (b : Buckets) → IsTableAt this.bytes.now T.shape this.pos b → All (λ at. F.pre accepts.now (item_at this.bytes at)) (item_positions T.shape b) }
+        ensures answers { (b : Buckets) → IsTableAt this.entry.bytes.now T.shape this.entry.pos b
+            → Answers F.post accepts.now this.entry.bytes T.shape b hash result.0 result.1.strides }
+        ensures there { IfSome result.0 (λ r. HasValue T.shape T.knows r.bytes.now r.pos) }
+        ensures compares { result.1.comparisons ≡ 0 }
+    {
+        let bytes = this.bytes;
+        let accepts_at = |at: usize| -> bool
+            requires { F.pre accepts.now (item_at bytes at) }
+            ensures { F.post accepts.entry.now (item_at bytes.entry at) result }
+        { accepts(Ref::new(bytes, at)) };
+        let (found, strides) = search_table::<T, S, _>(bytes, this.pos, hash, &accepts_at);
+        let steps = Steps {
+            comparisons: 0,
+            strides,
+        };
+        match found {
+            Some(at) => (Some(Ref::new(bytes, at)), steps),
+            None => (None, steps),
+        }
+    }
+
+    /// The same by a scan of the caller's, without the count.
+    pub fn get_with_scan<'a, S: Scan, F: Fn(Ref<'a, T>) -> bool>(
+        this: Ref<'a, ArchivedHashTable<T>>,
+        hash: u64,
+        accepts: &F,
+    ) -> Option<Ref<'a, T>>
+        requires has { HasValue (table T.shape) T.knows this.bytes.now this.pos }
+        requires callable { (b : Buckets) → IsTableAt this.bytes.now T.shape this.pos b → All (λ at. F.pre accepts.now (item_at this.bytes at)) (item_positions T.shape b) }
+        ensures answers { (b : Buckets) → IsTableAt this.entry.bytes.now T.shape this.entry.pos b
+            → (strides : ℕ) × Answers F.post accepts.now this.entry.bytes T.shape b hash result strides }
+        ensures there { IfSome result (λ r. HasValue T.shape T.knows r.bytes.now r.pos) }
+    {
+        ArchivedHashTable::get_counted::<S, F>(this, hash, accepts).0
+    }
+
+    /// The item of a hash that is accepted.
+    pub fn get_with<'a, F: Fn(Ref<'a, T>) -> bool>(
+        this: Ref<'a, ArchivedHashTable<T>>,
+        hash: u64,
+        accepts: &F,
+    ) -> Option<Ref<'a, T>>
+        requires has { HasValue (table T.shape) T.knows this.bytes.now this.pos }
+        requires callable { (b : Buckets) → IsTableAt this.bytes.now T.shape this.pos b → All (λ at. F.pre accepts.now (item_at this.bytes at)) (item_positions T.shape b) }
+        ensures answers { (b : Buckets) → IsTableAt this.entry.bytes.now T.shape this.entry.pos b
+            → (strides : ℕ) × Answers F.post accepts.now this.entry.bytes T.shape b hash result strides }
+        ensures there { IfSome result (λ r. HasValue T.shape T.knows r.bytes.now r.pos) }
+    {
+        ArchivedHashTable::get_with_scan::<Group, F>(this, hash, accepts)
     }
 }

@@ -39,8 +39,10 @@ find-found-requires-clause-callable g c place below full =
     let t : IsTableAt c.args.bytes.now g.T.Portable.shape c.args.pos (held c.in-Some.buckets) = subst (IsTableAt c.args.bytes.now g.T.Portable.shape c.args.pos) r.0 b.table in
     let at = item_position g.T.Portable.shape c.in-Some.buckets.target place in (
       omega (arith, below, r.2),
-      (item_room g.T.Portable.shape (held c.in-Some.buckets) place p below,
-      All-contains (goal.F-pre g c.args.accepts.now) (item_positions g.T.Portable.shape (held c.in-Some.buckets)) at (c.requires.callable (held c.in-Some.buckets) t) (full_among g.T.Portable.shape (held c.in-Some.buckets) place below full)),
+      (
+        item_room g.T.Portable.shape (held c.in-Some.buckets) place p below,
+        All-contains (goal.F-pre g c.args.accepts.now) (item_positions g.T.Portable.shape (held c.in-Some.buckets)) at (c.requires.callable (held c.in-Some.buckets) t) (full_among g.T.Portable.shape (held c.in-Some.buckets) place below full),
+      ),
     )
 
 pub position_of-requires : goal.position_of-requires
