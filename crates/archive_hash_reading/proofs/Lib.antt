@@ -1,3 +1,4 @@
 pub mod Lookups
 pub mod Read
 pub mod Roots
+pub mod Walked

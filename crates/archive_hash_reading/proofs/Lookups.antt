@@ -1,6 +1,6 @@
 -- The items of a table that a look-up may compare.
 use denote.Ref.{Bor}
-use Rattle.std.proofs.Common.{◌≡◌, ℕ, zero, suc, ◌+◌, ◌*◌, ◌^◌, ◌<◌, ◌≤◌, ◌==◌, Bool, true, false, cond, nat_lt, List, [], ◌∷◌, length, map, filter, slice_index, Option, Some, None, Contains, IfSome, All, refl, ap, sym, ◌∙◌, subst, arith, eqb-true, eq-eqb, lt-ltb, ltb-true, mul-le-mul_right}
+use Rattle.std.proofs.Common.{◌≡◌, ℕ, zero, suc, ◌+◌, ◌*◌, ◌^◌, ◌-◌, ◌<◌, ◌≤◌, ◌==◌, min, Bool, true, false, cond, nat_lt, List, [], ◌∷◌, length, map, filter, slice_index, Option, Some, None, Contains, IfSome, All, refl, ap, sym, ◌∙◌, subst, arith, eqb-true, eq-eqb, lt-ltb, ltb-true, mul-le-mul_right}
 use Rattle.std.specs.List.{range_with_len, list_any, flat_map}
 use Rattle.std.proofs.lemmas.List.Elements.{Contains-append_right, All-nil, All-cons, All-contains}
 use Rattle.archive_shape_layout.specs.Shape.{Shape, size_of}
@@ -98,3 +98,7 @@ item_there s knows bytes pos at P h found =
     let b = places_of_value h in
     let f = found b.buckets b.table in
     All-contains (HasValue s knows bytes) (item_positions s b.buckets) at (items_hold s knows bytes (item_positions s b.buckets) (members h.value) b.items) f.0
+
+-- items of a table with places have the size that their type says
+pub size_is : (size stopped cap target : ℕ) → stopped ≡ min size (2 ^ 64 - 1) → 0 < cap → cap * size ≤ target → target < 2 ^ 64 → stopped ≡ size
+size_is size stopped cap target is some room fits = let one : 1 * size ≤ cap * size = mul-le-mul_right size (omega (arith, some)) in omega (arith, is, one, room, fits)

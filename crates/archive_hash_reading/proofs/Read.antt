@@ -121,7 +121,7 @@ full_count : (controls : List ℕ) (n : ℕ) → n ≤ length controls
     → count_by (λ c. nat_lt c 128) (take n controls) ≡ length (filter (λ p. nat_lt (slice_index controls p) 128) (range_with_len 0 n))
 full_count controls n long = sym (length-filter (λ c. nat_lt c 128) (take n controls)) ∙ tags_of_full controls n 0 (omega arith)
 
-cap_fits : (cap : ℕ) → cap ≤ control_count cap
+pub cap_fits : (cap : ℕ) → cap ≤ control_count cap
 unfolding control_count
 cap_fits cap = let up = le_align_up cap 16 in omega arith
 

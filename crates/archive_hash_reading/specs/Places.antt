@@ -1,6 +1,7 @@
 -- The places of a table as the code holds them, and what its look-ups answer.
 use denote.Ref.{Bor}
-use Rattle.std.specs.Prelude.{◌≡◌, ℕ, ◌^◌, ◌<◌, ◌≤◌, List, Bool, true, false, slice_index, Option, Some, None, IfSome, Contains}
+use Rattle.std.specs.Prelude.{◌≡◌, ℕ, ◌^◌, ◌-◌, ◌<◌, ◌≤◌, nat_lt, List, filter, Bool, true, false, slice_index, Option, Some, None, IfSome, Contains}
+use Rattle.std.specs.List.{range_with_len}
 use Rattle.std.specs.Option.{option_map}
 use Rattle.archive_shape_layout.specs.Shape.{Shape}
 use Rattle.archive_shape_references.specs.declared.refs.Ref.{Ref}
@@ -14,6 +15,10 @@ use Rattle.archive_hash_reading.specs.declared.buckets.BucketsAt.{BucketsAt}
 -- the places that the code holds
 abbrev pub held : BucketsAt → Buckets
 held r = record { target = r.target; cap = r.capacity; controls = r.controls.now }
+
+-- the places from one on whose controls are tags, in ascending order
+abbrev pub places_from : List ℕ → ℕ → ℕ → List ℕ
+places_from controls cap next = filter (λ p. nat_lt (slice_index controls p) 128) (range_with_len next (cap - next))
 
 -- what a look-up of a hash finds, where `says at x` holds if x is said of the item at a position: where the item stands, and
 -- how many strides were searched; a table without places is not searched

@@ -44,7 +44,7 @@ pub(crate) fn buckets_at<T: Portable>(bytes: &[u8], pos: usize) -> Option<Bucket
     requires { HasValue (table T.shape) T.knows bytes.now pos }
     ensures { (b : Buckets) → IsTableAt bytes.entry.now T.shape pos b → MatchOption result
         (b ≡ no_buckets)
-        (λ r. (b ≡ held r) × (word_at bytes.entry.now (pos + 4) ≡ 0 → ⊥) × (r.capacity < 2 ^ 32)) }
+        (λ r. (b ≡ held r) × (word_at bytes.entry.now (pos + 4) ≡ 0 → ⊥) × (r.capacity < 2 ^ 32) × (r.target < 2 ^ 64)) }
 {
     let _len = bytes.len();
     if number_at(bytes, pos + 4) == 0 {

@@ -2,10 +2,13 @@
 #![tactic(auto)]
 
 mod buckets;
+mod iter;
 mod laws;
 mod lookup;
+mod places;
 mod table;
 
 pub use buckets::control_count;
+pub use iter::RawIter;
 pub use laws::{one_table, table_is_read};
 pub use table::ArchivedHashTable;
