@@ -1,9 +1,11 @@
 -- The full places that a walk has left.
-use Rattle.std.proofs.Common.{◌≡◌, ◌∙◌, ℕ, zero, suc, ◌+◌, ◌-◌, ◌<◌, ◌≤◌, Bool, true, false, cond, nat_lt, List, [], ◌∷◌, filter, slice_index, All, refl, ap, sym, subst, arith, lt-ltb, ltb-true}
+use denote.Ref.{Bor}
+use Rattle.std.proofs.Common.{◌≡◌, ◌∙◌, ℕ, zero, suc, ◌+◌, ◌-◌, ◌<◌, ◌≤◌, Bool, true, false, cond, nat_lt, List, [], ◌∷◌, map, filter, slice_index, All, refl, ap, sym, subst, arith, lt-ltb, ltb-true}
 use Rattle.std.specs.List.{range_with_len}
 use Rattle.std.proofs.lemmas.List.Elements.{All-nil, All-cons}
-use Rattle.archive_hash_reading.specs.Tables.{Buckets, full_places}
-use Rattle.archive_hash_reading.specs.Places.{places_from}
+use Rattle.archive_shape_layout.specs.Shape.{Shape, size_of}
+use Rattle.archive_hash_reading.specs.Tables.{Buckets, full_places, item_position}
+use Rattle.archive_hash_reading.specs.Places.{places_from, full_place}
 
 module _ (controls : List ℕ) (cap next : ℕ) where
   abbrev Listed : ℕ → List ℕ
@@ -47,3 +49,8 @@ places_are P b says k d less = says _ (listed_below (λ p. nat_lt (slice_index b
 -- what holds of all that is left holds of the first, and of what is left then
 pub first_of : (P : ℕ → Type 0) (p : ℕ) (ps qs : List ℕ) → qs ≡ p ∷ ps → All P qs → P p × All P ps
 first_of P p ps qs is all = let h : All P (p ∷ ps) = subst (All P) is all in (h 0 p (omega arith), λ k d less. h (suc k) d (omega (arith, less)))
+
+-- the positions of the items at full places
+pub positions_of : (T : Type 0) (bytes : Bor (List ℕ)) (controls : List ℕ) (s : Shape) (target : ℕ) (ps : List ℕ) → map (λ e. e.2.pos) (map (full_place {T = T} bytes controls target (size_of s)) ps) ≡ map (item_position s target) ps
+positions_of T bytes controls s target [] = refl
+positions_of T bytes controls s target (p ∷ ps) = ap (λ qs. item_position s target p ∷ qs) (positions_of T bytes controls s target ps)

@@ -1,6 +1,6 @@
 -- The places of a table as the code holds them, and what its look-ups answer.
 use denote.Ref.{Bor}
-use Rattle.std.specs.Prelude.{◌≡◌, ℕ, ◌^◌, ◌-◌, ◌<◌, ◌≤◌, nat_lt, List, filter, Bool, true, false, slice_index, Option, Some, None, IfSome, Contains}
+use Rattle.std.specs.Prelude.{◌≡◌, ℕ, ◌+◌, ◌*◌, ◌^◌, ◌-◌, ◌<◌, ◌≤◌, nat_lt, List, filter, Bool, true, false, slice_index, Option, Some, None, IfSome, Contains}
 use Rattle.std.specs.List.{range_with_len}
 use Rattle.std.specs.Option.{option_map}
 use Rattle.archive_shape_layout.specs.Shape.{Shape}
@@ -56,3 +56,7 @@ pub record Answers {T F : Type 0} (post : F → Ref T → Bool → Type 0) (acce
   pub accepted : FindsAccepted (λ at x. post accepts (item_at bytes at) x) s b position
   pub only : FindsTheOnly (λ at x. post accepts (item_at bytes at) x) s b hash position
   pub few : strides ≤ sixteens b.cap
+
+-- a full place, its control, and its item, of this size
+abbrev pub full_place : {T : Type 0} → Bor (List ℕ) → List ℕ → (target size : ℕ) → ℕ → ℕ × ℕ × Ref T
+full_place bytes controls target size p = (p, slice_index controls p, item_at bytes (target - (p + 1) * size))

@@ -9,6 +9,6 @@ mod places;
 mod table;
 
 pub use buckets::control_count;
-pub use iter::RawIter;
+pub use iter::{FullPlaces, RawIter};
 pub use laws::{one_table, table_is_read};
 pub use table::ArchivedHashTable;

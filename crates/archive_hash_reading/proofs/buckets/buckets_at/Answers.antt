@@ -29,5 +29,5 @@ returns g c b is =
       buckets_are (sym r.target) (sym r.cap) (sym (controls_read c.target_of-target.result c.number_at-capacity.result c.control_count.result p r)),
       λ e. c.if-number_at-eq0.false (c.number_at.ensures.value ∙ e),
       c.number_at-capacity.ensures.bound,
-        c.target_of-target.type_inv,
+      c.target_of-target.type_inv,
     )

@@ -1,43 +1,7 @@
-use Rattle.std.proofs.Common.{◌≡◌, ◌∙◌, ℕ, ◌+◌, ◌-◌, ◌*◌, ◌^◌, ◌<◌, ◌≤◌, length, map, All, sym, ap, subst, arith}
-use Rattle.archive_shape_layout.specs.Shape.{size_of}
-use Rattle.archive_hash_reading.specs.Tables.{IsTableAt, full_places, item_positions}
-use Rattle.archive_hash_reading.specs.Places.{held, places_from}
-use Rattle.archive_hash_reading.proofs.Read.{cap_fits}
-use Rattle.archive_hash_reading.proofs.Roots.{places_of_value, table_some, table_count, HasPlaces}
-use Rattle.archive_hash_reading.proofs.Lookups.{item_room, size_is}
-use Rattle.archive_hash_reading.proofs.Walked.{all_left, places_are}
+use Rattle.std.proofs.Common.{◌∙◌, map, ap}
+use Rattle.archive_hash_reading.specs.Tables.{full_places}
+use Rattle.archive_hash_reading.proofs.Walked.{positions_of}
 use Rattle.archive_hash_reading.proofs.table.ArchivedHashTable.raw_iter.Goals as goal
 
-pub new-requires-clause-within : goal.new-requires-clause-within
-new-requires-clause-within g c =
-    let b = places_of_value c.requires in
-    let r = c.in-Some.ensures b.buckets b.table in
-    let p : HasPlaces c.args.this.bytes.now g.T.Portable.shape c.args.this.pos (held c.in-Some.buckets) = subst (HasPlaces c.args.this.bytes.now g.T.Portable.shape c.args.this.pos) r.0 (table_some r.1 b.table) in
-    omega (arith, cap_fits c.in-Some.buckets.capacity, p.controls.count)
-
-pub new-requires-clause-len : goal.new-requires-clause-len
-new-requires-clause-len g c =
-    let b = places_of_value c.requires in
-    let r = c.in-Some.ensures b.buckets b.table in
-    let t : IsTableAt c.args.this.bytes.now g.T.Portable.shape c.args.this.pos (held c.in-Some.buckets) = subst (IsTableAt c.args.this.bytes.now g.T.Portable.shape c.args.this.pos) r.0 b.table in
-    c.number_at.ensures.value ∙ table_count t ∙ ap length (sym (all_left (held c.in-Some.buckets)))
-
-pub invariant_of-result : goal.invariant_of-result
-invariant_of-result g c =
-    let b = places_of_value c.requires in
-    let r = c.in-Some.ensures b.buckets b.table in
-    let p : HasPlaces c.args.this.bytes.now g.T.Portable.shape c.args.this.pos (held c.in-Some.buckets) = subst (HasPlaces c.args.this.bytes.now g.T.Portable.shape c.args.this.pos) r.0 (table_some r.1 b.table) in
-    let sized = size_is (size_of g.T.Portable.shape) c.SIZE.result c.in-Some.buckets.capacity c.in-Some.buckets.target (c.SIZE.ensures ∙ g.met.T.Portable.sized) (omega (arith, p.fewer)) p.room r.3 in
-    let all = places_are (λ q. (q < 2 ^ 32) × ((q + 1) * c.SIZE.result ≤ c.in-Some.buckets.target)) (held c.in-Some.buckets)
-    (λ q below. (omega (arith, below, r.2), subst (λ n. (q + 1) * n ≤ c.in-Some.buckets.target) (sym sized) (item_room g.T.Portable.shape (held c.in-Some.buckets) q p below))) in
-    subst (All (λ q. (q < 2 ^ 32) × ((q + 1) * c.SIZE.result ≤ c.in-Some.buckets.target))) (sym c.new.ensures) all
-
 pub returns : goal.returns
-returns g c b is =
-    let r = c.in-Some.ensures b is in
-    let p : HasPlaces c.args.this.bytes.now g.T.Portable.shape c.args.this.pos (held c.in-Some.buckets) = subst (HasPlaces c.args.this.bytes.now g.T.Portable.shape c.args.this.pos) r.0 (table_some r.1 is) in
-    let sized = size_is (size_of g.T.Portable.shape) c.SIZE.result c.in-Some.buckets.capacity c.in-Some.buckets.target (c.SIZE.ensures ∙ g.met.T.Portable.sized) (omega (arith, p.fewer)) p.room r.3 in
-    let places = c.new.ensures ∙ all_left (held c.in-Some.buckets) in
-    ap (map (λ q. c.in-Some.buckets.target - (q + 1) * c.SIZE.result)) places
-    ∙ ap (λ n. map (λ q. c.in-Some.buckets.target - (q + 1) * n) (full_places (held c.in-Some.buckets))) sized
-    ∙ ap (item_positions g.T.Portable.shape) (sym r.0)
+returns g c b is = ap (map (λ e. e.2.pos)) (c.full_places.ensures b is) ∙ positions_of g.row.T.Denot c.args.this.bytes b.controls g.T.Portable.shape b.target (full_places b)
