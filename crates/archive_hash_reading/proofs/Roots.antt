@@ -10,16 +10,6 @@ use Rattle.archive_hash_reading.specs.Tables.{Buckets, no_buckets, full_places, 
 use Rattle.archive_hash_reading.specs.Tables.IsTableAt.{has_none, has_buckets}
 use Rattle.archive_hash_reading.proofs.Read.{table_is_read}
 
--- ---- how many controls there are
-
-rounded : (cap : ℕ) → align_up cap 16 ≤ cap + 15
-unfolding align_up
-rounded cap = omega arith
-
-pub few_controls : (cap n : ℕ) → cap < 2 ^ 32 → n ≡ min (align_up cap 16) (2 ^ 64 - 1) → (n + 15 ≡ control_count cap) × (n < 2 ^ 32 + 16)
-unfolding control_count
-few_controls cap n small is = let r = rounded cap in let same : n ≡ align_up cap 16 = omega (arith, r, is, small) in (ap (λ x. x + 15) same, omega (arith, r, same, small))
-
 -- ---- the places
 
 -- the places of a table that has a value
@@ -57,24 +47,22 @@ no_places (x ∷ xs) e = absurd (omega arith)
 pub table_empty : (ps : List ℕ) (n : ℕ) → n ≡ length ps → IsTrue (n == 0) ↔ (ps ≡ [])
 table_empty ps n e = (λ y. no_places ps (sym e ∙ eqb-true n 0 y), λ y. eq-eqb n 0 (e ∙ ap length y))
 
--- the pointer, the number of places and that of controls that are read are those of the places
-pub record IsReadAs (b : Buckets) (to places n size : ℕ) : Type 0 where
+-- the pointer and the number of places that are read are those of the places
+pub record IsReadAs (b : Buckets) (to places size : ℕ) : Type 0 where
   pub target : to ≡ b.target
   pub cap : places ≡ b.cap
-  pub count : n ≡ control_count b.cap
-  pub within : to + n ≤ size
+  pub within : to + control_count places ≤ size
 
-pub read_as : {bytes : List ℕ} {s : Shape} {pos : ℕ} {b : Buckets} (to places n : ℕ) → HasPlaces bytes s pos b → PointsTo bytes pos to → places ≡ word_at bytes (pos + 8) → n ≡ control_count places → IsReadAs b to places n (length bytes)
-read_as {bytes} {s} {pos} {b} to places n p points cap_is count_is =
+pub read_as : {bytes : List ℕ} {s : Shape} {pos : ℕ} {b : Buckets} (to places : ℕ) → HasPlaces bytes s pos b → PointsTo bytes pos to → places ≡ word_at bytes (pos + 8) → IsReadAs b to places (length bytes)
+read_as {bytes} {s} {pos} {b} to places p points cap_is =
     let leads = p.leads in
     let target : to ≡ b.target = cc in
     let cap : places ≡ b.cap = cap_is ∙ p.cap in
-    let count : n ≡ control_count b.cap = count_is ∙ ap control_count cap in
+    let count : control_count places ≡ control_count b.cap = ap control_count cap in
     let within = p.within in
-    record { target = target; cap = cap; count = count; within = omega (arith, target, count, within) }
+    record { target = target; cap = cap; within = omega (arith, target, count, within) }
 
--- the bytes from the pointer on, as many, are the controls
-pub controls_read : {bytes : List ℕ} {s : Shape} {pos size : ℕ} {b : Buckets} (to places n : ℕ) → HasPlaces bytes s pos b → IsReadAs b to places n size → take (to + n - to) (drop to bytes) ≡ b.controls
-controls_read {bytes} {s} {pos} {size} {b} to places n p r =
-    let many : to + n - to ≡ control_count b.cap = omega (arith, r.count) in
-    ap (λ m. take m (drop to bytes)) many ∙ ap (λ at. take (control_count b.cap) (drop at bytes)) r.target ∙ sym p.window
+-- the controls there are theirs
+pub controls_read : {bytes : List ℕ} {s : Shape} {pos size : ℕ} {b : Buckets} (to places : ℕ) → HasPlaces bytes s pos b → IsReadAs b to places size → window bytes to (control_count places) ≡ b.controls
+controls_read {bytes} {b = b} to places p r =
+    ap (λ n. window bytes to (control_count n)) r.cap ∙ ap (λ at. window bytes at (control_count b.cap)) r.target ∙ sym p.window

@@ -1,14 +1,13 @@
 //! Where the places of a table are.
 ghost use Rattle.std.specs.Prelude.{◌≡◌, ℕ, ◌+◌, ◌^◌, ◌<◌, ◌≤◌, length, MatchOption};
 ghost use Rattle.archive_shape_layout.specs.Bytes.{word_at};
-ghost use Rattle.archive_shape_layout.specs.Content.{control_count};
 ghost use Rattle.archive_shape_layout.specs.Shape.Shape.{table};
 ghost use Rattle.archive_forms_reading.specs.Parts.{HasValue};
 ghost use Rattle.archive_hash_reading.specs.Tables.{Buckets, no_buckets, IsTableAt};
 ghost use Rattle.archive_hash_reading.specs.Places.{held};
 
-use archive_forms_checking::next_multiple;
 use archive_forms_reading::target_of;
+use archive_hash_checking::controls_at;
 use archive_shape_portable::Portable;
 
 /// The places of a table that is not empty.
@@ -19,14 +18,6 @@ pub(crate) struct BucketsAt<'a> {
     /// Where the controls begin. The items stand below.
     pub target: usize,
     pub capacity: usize,
-}
-
-/// How many controls a table of so many places has.
-pub fn control_count(capacity: usize) -> usize
-    requires { capacity < 2 ^ 32 }
-    ensures { result ≡ control_count capacity }
-{
-    next_multiple(capacity, 16) + 15
 }
 
 /// The number of four bytes at a position.
@@ -52,9 +43,8 @@ pub(crate) fn buckets_at<T: Portable>(bytes: &[u8], pos: usize) -> Option<Bucket
     }
     let capacity = number_at(bytes, pos + 8);
     let target = target_of(bytes, pos);
-    let end = target + control_count(capacity);
     Some(BucketsAt {
-        controls: &bytes[target..end],
+        controls: controls_at(bytes, target, capacity),
         target,
         capacity,
     })

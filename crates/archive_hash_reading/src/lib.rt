@@ -8,7 +8,6 @@ mod lookup;
 mod places;
 mod table;
 
-pub use buckets::control_count;
 pub use iter::{FullPlaces, RawIter};
 pub use laws::{one_table, table_is_read};
 pub use table::ArchivedHashTable;

@@ -6,6 +6,8 @@ ghost use Rattle.archive_forms_reading.specs.Parts.{HasValue};
 ghost use Rattle.archive_hash_reading.specs.Tables.{Buckets, IsTableAt, full_places};
 
 use crate::buckets::{buckets_at, number_at};
+use archive_hash_checking::check_table_each;
+use archive_shape_checking::{ArchiveContext, CheckBytes, Error};
 use archive_shape_portable::{NoUndef, Portable, Shape};
 use archive_shape_references::Ref;
 use std::alloc::{AllocError, Global};
@@ -46,6 +48,17 @@ impl<T: Portable> Portable for ArchivedHashTable<T> {
     ghost aligns = { (lit< tt, lit≤ tt) };
 
     ghost known = { λ names has. T.known names has };
+}
+
+impl<C: ArchiveContext, T: CheckBytes<C>> CheckBytes<C> for ArchivedHashTable<T> {
+    fn check(alloc: Global, bytes: &[u8], pos: usize, context: &mut C) -> Result<(), Error> {
+        check_table_each::<T, C, _>(
+            bytes,
+            pos,
+            context,
+            |c: &mut C, p: usize| T::check(alloc, bytes, p, c),
+        )
+    }
 }
 
 impl<T: Portable> ArchivedHashTable<T> {

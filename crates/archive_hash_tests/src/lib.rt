@@ -1,6 +1,9 @@
-//! Tests of archived hash tables: hashes and tags, what scans mark, strides, and the places that every width gives.
+//! Tests of archived hash tables: hashes and tags, what scans mark, strides, the places that every width gives, and what is
+//! refused.
 #![tactic(auto)]
 
+#[cfg(test)]
+mod checking;
 #[cfg(test)]
 mod placing;
 #[cfg(test)]

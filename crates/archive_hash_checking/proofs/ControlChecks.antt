@@ -1,0 +1,46 @@
+-- What is asked of the controls from the capacity on.
+use Rattle.std.proofs.Common.{◌≡◌, ℕ, zero, suc, ◌+◌, ◌-◌, ◌*◌, ◌<◌, ◌≤◌, nat_lt, nat_le, ◌==◌, ◌&&◌, ◌||◌, cond, Bool, true, false, List, [], ◌∷◌, drop, length, refl, sym, ap, ◌∙◌, arith}
+use Rattle.std.specs.Prelude.{slice_index}
+use Rattle.std.proofs.lemmas.Bool.{lt-ltb, le-ltb}
+use Rattle.std.proofs.lemmas.List.{drop_more, drop_all}
+use Rattle.archive_shape_layout.specs.Content.{wraps}
+use Rattle.archive_shape_checking.specs.Range.{Range}
+use Rattle.archive_shape_checking.specs.Questions.{Question, AreAnswered, questions_of_controls}
+use Rattle.archive_shape_checking.specs.Questions.Question.{test}
+use Rattle.archive_shape_writing.specs.declared.error.Error.{Error}
+use Rattle.archive_shape_writing.specs.declared.error.Error.TheVariants.{UnwrappedControlByte}
+
+module _ (cap : ℕ) (controls : List ℕ) where
+  -- whether a control is as it has to be
+  abbrev pub is_as_due : ℕ → Bool
+  is_as_due i = cond (nat_lt i (2 * cap)) (slice_index controls i == slice_index controls (i - cap)) (nat_le 128 (slice_index controls i))
+
+  -- nothing is asked of those below the capacity
+  pub low_skipped : (n i : ℕ) (cs : List ℕ) → i + n ≤ cap → n ≤ length cs → questions_of_controls cap controls i cs ≡ questions_of_controls cap controls (i + n) (drop n cs)
+  low_skipped zero i cs low fits = let same : i + 0 ≡ i = omega arith in ap (λ j. questions_of_controls cap controls j cs) (sym same)
+  low_skipped (suc n) i [] low fits = absurd (omega arith)
+  low_skipped (suc n) i (c ∷ cs) low fits =
+      let next : i + 1 + n ≡ i + suc n = omega arith in
+      rw (lt-ltb i cap (omega arith)) (low_skipped n (i + 1) cs (omega arith) (omega arith) ∙ ap (λ j. questions_of_controls cap controls j (drop n cs)) next)
+
+  pub first_asked : cap ≤ length controls → questions_of_controls cap controls 0 controls ≡ questions_of_controls cap controls cap (drop cap controls)
+  first_asked fits = let whole : 0 + cap ≡ cap = omega arith in low_skipped cap 0 controls (omega arith) fits ∙ ap (λ j. questions_of_controls cap controls j (drop cap controls)) whole
+
+  pub next_asked :
+      (i : ℕ) → cap ≤ i → i < length controls
+      → questions_of_controls cap controls i (drop i controls) ≡ test (is_as_due i) (UnwrappedControlByte i) ∷ questions_of_controls cap controls (i + 1) (drop (i + 1) controls)
+  next_asked i high within = rw (drop_more controls i 0 within, le-ltb i cap high) refl
+
+  pub none_asked : (i : ℕ) → length controls ≤ i → questions_of_controls cap controls i (drop i controls) ≡ []
+  none_asked i done = rw (drop_all i controls done) refl
+
+-- where all is answered, the controls are as the layout has them
+pub controls_wrap : (range : Range) (cap : ℕ) (controls : List ℕ) (i : ℕ) (cs : List ℕ) → AreAnswered range (questions_of_controls cap controls i cs) → wraps cap controls i cs ≡ true
+unfolding wraps
+controls_wrap range cap controls i [] h = refl
+controls_wrap range cap controls i (c ∷ cs) h =
+    one (nat_lt i cap) _ _ _ _ h (controls_wrap range cap controls (i + 1) cs)
+  where
+    one : (a b : Bool) (e : Error) (qs : List Question) (w : Bool) → AreAnswered range (cond a qs (test b e ∷ qs)) → (AreAnswered range qs → w ≡ true) → ((a || b) && w) ≡ true
+    one true b e qs w h rest = rest h
+    one false b e qs w h rest = rw (h.0) (rest h.1)

@@ -1,0 +1,6 @@
+pub mod Asked
+pub mod ControlChecks
+pub mod ItemChecks
+pub mod BucketChecks
+pub mod TableParts
+pub mod TableChecks
