@@ -48,14 +48,18 @@ FindsAccepted says s b found = IfSome found (λ at. Contains (item_positions s b
 abbrev pub item_at : {T : Type 0} → Bor (List ℕ) → ℕ → Ref T
 item_at bytes at = record { bytes = bytes; pos = at; of = record {} }
 
--- what a look-up answers, by what calls say of the items
-pub record Answers {T F : Type 0} (post : F → Ref T → Bool → Type 0) (accepts : F) (bytes : Bor (List ℕ)) (s : Shape) (b : Buckets) (hash : ℕ) (found : Option (Ref T)) (strides : ℕ) : Type 0 where
+-- what a look-up answers of the items, as it gives them: `item` is what it gives of the item at a position
+pub record Answers {A : Type 0} (says : ℕ → Bool → Type 0) (item : ℕ → A) (s : Shape) (b : Buckets) (hash : ℕ) (found : Option A) (strides : ℕ) : Type 0 where
   pub position : Option ℕ
-  pub is : found ≡ option_map (item_at bytes) position
-  pub looks_up : LooksUp (λ at x. post accepts (item_at bytes at) x) s b hash position strides
-  pub accepted : FindsAccepted (λ at x. post accepts (item_at bytes at) x) s b position
-  pub only : FindsTheOnly (λ at x. post accepts (item_at bytes at) x) s b hash position
+  pub is : found ≡ option_map item position
+  pub looks_up : LooksUp says s b hash position strides
+  pub accepted : FindsAccepted says s b position
+  pub only : FindsTheOnly says s b hash position
   pub few : strides ≤ sixteens b.cap
+
+-- what calls say of the items
+abbrev pub calls : {T F : Type 0} → (F → Ref T → Bool → Type 0) → F → Bor (List ℕ) → ℕ → Bool → Type 0
+calls post accepts bytes at x = post accepts (item_at bytes at) x
 
 -- a full place, its control, and its item, of this size
 abbrev pub full_place : {T : Type 0} → Bor (List ℕ) → List ℕ → (target size : ℕ) → ℕ → ℕ × ℕ × Ref T

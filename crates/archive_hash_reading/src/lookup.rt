@@ -5,7 +5,7 @@ ghost use Rattle.archive_shape_layout.specs.Shape.Shape.{table};
 ghost use Rattle.archive_shape_canonical.specs.Strides.{sixteens};
 ghost use Rattle.archive_forms_reading.specs.Parts.{HasValue};
 ghost use Rattle.archive_hash_reading.specs.Tables.{Buckets, IsTableAt, item_position, item_positions};
-ghost use Rattle.archive_hash_reading.specs.Places.{LooksUp, FindsAccepted, FindsTheOnly, Answers, item_at};
+ghost use Rattle.archive_hash_reading.specs.Places.{LooksUp, FindsAccepted, FindsTheOnly, Answers, calls, item_at};
 
 use crate::ArchivedHashTable;
 use crate::buckets::buckets_at;
@@ -68,7 +68,7 @@ impl<T: Portable> ArchivedHashTable<T> {
         requires has { HasValue (table T.shape) T.knows this.bytes.now this.pos }
         requires callable { (b : Buckets) → IsTableAt this.bytes.now T.shape this.pos b → All (λ at. F.pre accepts.now (item_at this.bytes at)) (item_positions T.shape b) }
         ensures answers { (b : Buckets) → IsTableAt this.entry.bytes.now T.shape this.entry.pos b
-            → Answers F.post accepts.now this.entry.bytes T.shape b hash result.0 result.1.strides }
+            → Answers (calls F.post accepts.now this.entry.bytes) (item_at this.entry.bytes) T.shape b hash result.0 result.1.strides }
         ensures there { IfSome result.0 (λ r. HasValue T.shape T.knows r.bytes.now r.pos) }
         ensures compares { result.1.comparisons ≡ 0 }
     {
@@ -97,7 +97,7 @@ impl<T: Portable> ArchivedHashTable<T> {
         requires has { HasValue (table T.shape) T.knows this.bytes.now this.pos }
         requires callable { (b : Buckets) → IsTableAt this.bytes.now T.shape this.pos b → All (λ at. F.pre accepts.now (item_at this.bytes at)) (item_positions T.shape b) }
         ensures answers { (b : Buckets) → IsTableAt this.entry.bytes.now T.shape this.entry.pos b
-            → (strides : ℕ) × Answers F.post accepts.now this.entry.bytes T.shape b hash result strides }
+            → (strides : ℕ) × Answers (calls F.post accepts.now this.entry.bytes) (item_at this.entry.bytes) T.shape b hash result strides }
         ensures there { IfSome result (λ r. HasValue T.shape T.knows r.bytes.now r.pos) }
     {
         ArchivedHashTable::get_counted::<S, F>(this, hash, accepts).0
@@ -112,7 +112,7 @@ impl<T: Portable> ArchivedHashTable<T> {
         requires has { HasValue (table T.shape) T.knows this.bytes.now this.pos }
         requires callable { (b : Buckets) → IsTableAt this.bytes.now T.shape this.pos b → All (λ at. F.pre accepts.now (item_at this.bytes at)) (item_positions T.shape b) }
         ensures answers { (b : Buckets) → IsTableAt this.entry.bytes.now T.shape this.entry.pos b
-            → (strides : ℕ) × Answers F.post accepts.now this.entry.bytes T.shape b hash result strides }
+            → (strides : ℕ) × Answers (calls F.post accepts.now this.entry.bytes) (item_at this.entry.bytes) T.shape b hash result strides }
         ensures there { IfSome result (λ r. HasValue T.shape T.knows r.bytes.now r.pos) }
     {
         ArchivedHashTable::get_with_scan::<Group, F>(this, hash, accepts)
