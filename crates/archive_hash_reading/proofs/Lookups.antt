@@ -14,6 +14,7 @@ use Rattle.archive_shape_canonical.specs.Strides.{strides, strides_from, stop, l
 use Rattle.archive_hash_layout.specs.Reach.{Reaches, reach, searched}
 use Rattle.archive_hash_reading.specs.Tables.{Buckets, no_buckets, item_position, item_positions, IsTableAt, AreItemsAt}
 use Rattle.archive_hash_reading.specs.Places.{item_at, FindsAccepted}
+use Rattle.archive_hash_reading.proofs.Read.{one_table}
 use Rattle.archive_hash_reading.proofs.Roots.{HasPlaces, places_of_value}
 
 later_among : (b : Bool) (f : ℕ → ℕ) (i p : ℕ) (ps : List ℕ) → Contains (map f ps) (f p) → Contains (map f (cond b (i ∷ ps) ps)) (f p)
@@ -89,6 +90,14 @@ items_hold s knows bytes [] (more_values w ws) h = absurd h
 items_hold s knows bytes (p ∷ ps) no_values h = absurd h
 items_hold s knows bytes (p ∷ ps) (more_values w ws) h = All-cons (HasValue s knows bytes) p ps (record { value = w; held = h.0 }) (items_hold s knows bytes ps ws h.1)
 
+-- the items of a table are there
+pub items_there :
+    (s : Shape) (knows : Names → Type 0) (bytes : List ℕ) (pos : ℕ) → HasValue (table s) knows bytes pos
+    → (b : Buckets) → IsTableAt bytes s pos b → All (HasValue s knows bytes) (item_positions s b)
+items_there s knows bytes pos h b is =
+    let p = places_of_value h in
+    subst (λ x. All (HasValue s knows bytes) (item_positions s x)) (one_table bytes s pos p.buckets b p.table is) (items_hold s knows bytes (item_positions s p.buckets) (members h.value) p.items)
+
 -- what is found is there
 pub item_there :
     (s : Shape) (knows : Names → Type 0) (bytes : List ℕ) (pos at : ℕ) (P : ℕ → Bool → Type 0) → HasValue (table s) knows bytes pos
@@ -97,7 +106,7 @@ pub item_there :
 item_there s knows bytes pos at P h found =
     let b = places_of_value h in
     let f = found b.buckets b.table in
-    All-contains (HasValue s knows bytes) (item_positions s b.buckets) at (items_hold s knows bytes (item_positions s b.buckets) (members h.value) b.items) f.0
+    All-contains (HasValue s knows bytes) (item_positions s b.buckets) at (items_there s knows bytes pos h b.buckets b.table) f.0
 
 -- items of a table with places have the size that their type says
 pub size_is : (size stopped cap target : ℕ) → stopped ≡ min size (2 ^ 64 - 1) → 0 < cap → cap * size ≤ target → target < 2 ^ 64 → stopped ≡ size

@@ -60,7 +60,7 @@ impl<T: Portable> ArchivedHashTable<T> {
     /// The item of a hash that is accepted, and how many strides of sixteen controls were searched for it. `accepts` is
     /// asked of the items under the hash's tag, and of a few others, until it accepts one. No keys of search trees are
     /// compared.
-    pub fn get_counted<'a, S: Scan, F: Fn(Ref<'a, T>) -> bool>(
+    pub fn get_counted<'a, S: Scan, F: Fn(Ref<'_, T>) -> bool>(
         this: Ref<'a, ArchivedHashTable<T>>,
         hash: u64,
         accepts: &F,
@@ -89,7 +89,7 @@ impl<T: Portable> ArchivedHashTable<T> {
     }
 
     /// The same by a scan of the caller's, without the count.
-    pub fn get_with_scan<'a, S: Scan, F: Fn(Ref<'a, T>) -> bool>(
+    pub fn get_with_scan<'a, S: Scan, F: Fn(Ref<'_, T>) -> bool>(
         this: Ref<'a, ArchivedHashTable<T>>,
         hash: u64,
         accepts: &F,
@@ -104,7 +104,7 @@ impl<T: Portable> ArchivedHashTable<T> {
     }
 
     /// The item of a hash that is accepted.
-    pub fn get_with<'a, F: Fn(Ref<'a, T>) -> bool>(
+    pub fn get_with<'a, F: Fn(Ref<'_, T>) -> bool>(
         this: Ref<'a, ArchivedHashTable<T>>,
         hash: u64,
         accepts: &F,
