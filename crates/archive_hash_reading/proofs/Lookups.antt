@@ -111,3 +111,11 @@ item_there s knows bytes pos at P h found =
 -- items of a table with places have the size that their type says
 pub size_is : (size stopped cap target : ℕ) → stopped ≡ min size (2 ^ 64 - 1) → 0 < cap → cap * size ≤ target → target < 2 ^ 64 → stopped ≡ size
 size_is size stopped cap target is some room fits = let one : 1 * size ≤ cap * size = mul-le-mul_right size (omega (arith, some)) in omega (arith, is, one, room, fits)
+
+-- so is what may be found
+pub found_there :
+    (s : Shape) (knows : Names → Type 0) (bytes : List ℕ) (pos : ℕ) (P : ℕ → Bool → Type 0) → HasValue (table s) knows bytes pos
+    → (o : Option ℕ) → ((b : Buckets) → IsTableAt bytes s pos b → FindsAccepted P s b o)
+    → IfSome o (HasValue s knows bytes)
+found_there s knows bytes pos P h None found = tt
+found_there s knows bytes pos P h (Some at) found = item_there s knows bytes pos at P h found

@@ -3,11 +3,14 @@
 
 mod buckets;
 mod iter;
+mod keys;
 mod laws;
 mod lookup;
+mod map;
 mod places;
 mod table;
 
 pub use iter::{FullPlaces, RawIter};
 pub use laws::{one_table, table_is_read};
+pub use map::ArchivedHashMap;
 pub use table::ArchivedHashTable;

@@ -66,7 +66,7 @@ impl<T: Portable> ArchivedHashTable<T> {
         accepts: &F,
     ) -> (Option<Ref<'a, T>>, Steps)
         requires has { HasValue (table T.shape) T.knows this.bytes.now this.pos }
-        requires callable { (b : Buckets) → IsTableAt this.bytes.now T.shape this.pos b → All (λ at. F.pre accepts.now (item_at this.bytes at)) (item_positions T.shape b) }
+        requires callable { (at : ℕ) → HasValue T.shape T.knows this.bytes.now at → F.pre accepts.now (item_at this.bytes at) }
         ensures answers { (b : Buckets) → IsTableAt this.entry.bytes.now T.shape this.entry.pos b
             → Answers (calls F.post accepts.now this.entry.bytes) (item_at this.entry.bytes) T.shape b hash result.0 result.1.strides }
         ensures there { IfSome result.0 (λ r. HasValue T.shape T.knows r.bytes.now r.pos) }
@@ -95,7 +95,7 @@ impl<T: Portable> ArchivedHashTable<T> {
         accepts: &F,
     ) -> Option<Ref<'a, T>>
         requires has { HasValue (table T.shape) T.knows this.bytes.now this.pos }
-        requires callable { (b : Buckets) → IsTableAt this.bytes.now T.shape this.pos b → All (λ at. F.pre accepts.now (item_at this.bytes at)) (item_positions T.shape b) }
+        requires callable { (at : ℕ) → HasValue T.shape T.knows this.bytes.now at → F.pre accepts.now (item_at this.bytes at) }
         ensures answers { (b : Buckets) → IsTableAt this.entry.bytes.now T.shape this.entry.pos b
             → (strides : ℕ) × Answers (calls F.post accepts.now this.entry.bytes) (item_at this.entry.bytes) T.shape b hash result strides }
         ensures there { IfSome result (λ r. HasValue T.shape T.knows r.bytes.now r.pos) }
@@ -110,7 +110,7 @@ impl<T: Portable> ArchivedHashTable<T> {
         accepts: &F,
     ) -> Option<Ref<'a, T>>
         requires has { HasValue (table T.shape) T.knows this.bytes.now this.pos }
-        requires callable { (b : Buckets) → IsTableAt this.bytes.now T.shape this.pos b → All (λ at. F.pre accepts.now (item_at this.bytes at)) (item_positions T.shape b) }
+        requires callable { (at : ℕ) → HasValue T.shape T.knows this.bytes.now at → F.pre accepts.now (item_at this.bytes at) }
         ensures answers { (b : Buckets) → IsTableAt this.entry.bytes.now T.shape this.entry.pos b
             → (strides : ℕ) × Answers (calls F.post accepts.now this.entry.bytes) (item_at this.entry.bytes) T.shape b hash result strides }
         ensures there { IfSome result (λ r. HasValue T.shape T.knows r.bytes.now r.pos) }

@@ -1,8 +1,13 @@
 use Rattle.std.proofs.Common.{◌≡◌, ◌∙◌, ℕ, Bool, Option, Some, None, refl, sym, ap, subst}
 use Rattle.archive_forms_reading.specs.Parts.{HasValue}
 use Rattle.archive_hash_reading.specs.Places.{LooksUp, FindsAccepted, FindsTheOnly, item_at}
-use Rattle.archive_hash_reading.proofs.Lookups.{item_is, item_there}
+use Rattle.archive_hash_reading.proofs.Lookups.{item_is, item_there, items_there}
 use Rattle.archive_hash_reading.proofs.table.ArchivedHashTable.get_counted.Goals as goal
+
+pub search_table-found-requires : goal.search_table-found-requires
+search_table-found-requires g c =
+    let there = items_there g.T.Portable.shape g.T.Portable.knows c.args.this.bytes.now c.args.this.pos c.requires.has in
+    record { has = c.requires.has; callable = λ b is i d less. c.requires.callable _ (there b is i d less) }
 
 pub returns-in-Some-clause-answers : goal.returns-in-Some-clause-answers
 returns-in-Some-clause-answers g c b is =

@@ -7,8 +7,8 @@ ghost use Rattle.archive_forms_checking.specs.Tuples.{tuple2};
 ghost use Rattle.archive_forms_reading.specs.Parts.{HasValue, both};
 ghost use Rattle.archive_hash_reading.specs.Tables.{Buckets, IsTableAt, full_places};
 
+use crate::ArchivedHashTable;
 use archive_forms_tuples::Entry;
-use archive_hash_reading::ArchivedHashTable;
 use archive_shape_checking::{ArchiveContext, CheckBytes, Error};
 use archive_shape_portable::{NoUndef, Portable, Shape};
 use archive_shape_references::Ref;

@@ -1,7 +1,0 @@
-//! Archived hash maps.
-#![tactic(auto)]
-
-mod lookup;
-mod map;
-
-pub use map::ArchivedHashMap;
