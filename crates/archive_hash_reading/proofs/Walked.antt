@@ -4,6 +4,8 @@ use Rattle.std.proofs.Common.{◌≡◌, ◌∙◌, ℕ, zero, suc, ◌+◌, ◌
 use Rattle.std.specs.List.{range_with_len}
 use Rattle.std.proofs.lemmas.List.Elements.{All-nil, All-cons}
 use Rattle.archive_shape_layout.specs.Shape.{Shape, size_of}
+use Rattle.archive_shape_layout.specs.Content.{Names}
+use Rattle.archive_forms_reading.specs.Parts.{HasValue}
 use Rattle.archive_hash_reading.specs.Tables.{Buckets, full_places, item_position}
 use Rattle.archive_hash_reading.specs.Places.{places_from, full_place}
 
@@ -54,3 +56,12 @@ first_of P p ps qs is all = let h : All P (p ∷ ps) = subst (All P) is all in (
 pub positions_of : (T : Type 0) (bytes : Bor (List ℕ)) (controls : List ℕ) (s : Shape) (target : ℕ) (ps : List ℕ) → map (λ e. e.2.pos) (map (full_place {T = T} bytes controls target (size_of s)) ps) ≡ map (item_position s target) ps
 positions_of T bytes controls s target [] = refl
 positions_of T bytes controls s target (p ∷ ps) = ap (λ qs. item_position s target p ∷ qs) (positions_of T bytes controls s target ps)
+
+-- they are there where the items of those positions are
+pub all_there : (T : Type 0) (s : Shape) (knows : Names → Type 0) (bytes : Bor (List ℕ)) (controls : List ℕ) (target : ℕ) (ps : List ℕ)
+    → All (HasValue s knows bytes.now) (map (item_position s target) ps) → All (λ e. HasValue s knows e.2.bytes.now e.2.pos) (map (full_place {T = T} bytes controls target (size_of s)) ps)
+all_there T s knows bytes controls target [] h = All-nil (λ e. HasValue s knows e.2.bytes.now e.2.pos)
+all_there T s knows bytes controls target (p ∷ ps) h =
+    let both = first_of (HasValue s knows bytes.now) (item_position s target p) (map (item_position s target) ps) (item_position s target p ∷ map (item_position s target) ps) refl h in
+    All-cons (λ e. HasValue s knows e.2.bytes.now e.2.pos) (full_place {T = T} bytes controls target (size_of s) p) (map (full_place {T = T} bytes controls target (size_of s)) ps) both.0
+    (all_there T s knows bytes controls target ps both.1)

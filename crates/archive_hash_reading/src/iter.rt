@@ -1,5 +1,5 @@
 //! Iterators over the items of an archived hash table by ascending place.
-ghost use Rattle.std.specs.Prelude.{◌≡◌, ℕ, ◌+◌, ◌*◌, ◌^◌, ◌<◌, ◌≤◌, [], IfSome, length, map};
+ghost use Rattle.std.specs.Prelude.{◌≡◌, ℕ, ◌+◌, ◌*◌, ◌^◌, ◌<◌, ◌≤◌, [], IfSome, All, length, map};
 ghost use Rattle.std.specs.Iterator.{YieldsFirst, UpTo, item_count};
 ghost use Rattle.std.specs.Iterator.SizeHint.{IsExactHint, IsWithinCount};
 ghost use Rattle.archive_shape_layout.specs.Shape.{size_of};
@@ -144,7 +144,8 @@ impl<T: Portable> ArchivedHashTable<T> {
     /// The full places in ascending order, each with its tag and its item.
     pub fn full_places<'a>(this: Ref<'a, ArchivedHashTable<T>>) -> FullPlaces<'a, T>
         requires { HasValue (table T.shape) T.knows this.bytes.now this.pos }
-        ensures { (b : Buckets) → IsTableAt this.entry.bytes.now T.shape this.entry.pos b
+        ensures there { All (λ e. HasValue T.shape T.knows e.2.bytes.now e.2.pos) result }
+        ensures places { (b : Buckets) → IsTableAt this.entry.bytes.now T.shape this.entry.pos b
             → result ≡ map (full_place this.entry.bytes b.controls b.target (size_of T.shape)) (full_places b) }
     {
         let bytes = this.bytes;

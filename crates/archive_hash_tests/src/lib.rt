@@ -7,4 +7,6 @@ mod checking;
 #[cfg(test)]
 mod placing;
 #[cfg(test)]
+mod reading;
+#[cfg(test)]
 mod scanning;
