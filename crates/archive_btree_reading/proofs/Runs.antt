@@ -18,7 +18,7 @@ use Rattle.archive_btree_reading.proofs.Held.{EntryIsThere, entries_are}
 use Rattle.archive_btree_reading.proofs.One.{one_map}
 use Rattle.archive_btree_reading.proofs.Roots.{tree_of_value}
 
-whole_run : {A : Type 0} (es : List A) → IsRun es es
+pub whole_run : {A : Type 0} (es : List A) → IsRun es es
 whole_run es = record { before = []; after = []; is = sym (append-nil es) }
 
 run_mapped : {A B : Type 0} (f : A → B) (es whole : List A) → IsRun es whole → IsRun (map f es) (map f whole)

@@ -24,7 +24,7 @@ use std::cmp::Ordering;
 
 /// Searches the map at `pos`, and counts the keys that it compares. `compare` says how the query compares with the key at
 /// a position.
-fn search_map<K: Portable, V: Portable, F: Fn(usize) -> Ordering, const E: usize>(
+pub(crate) fn search_map<K: Portable, V: Portable, F: Fn(usize) -> Ordering, const E: usize>(
     bytes: &[u8],
     pos: usize,
     compare: &F,

@@ -8,4 +8,6 @@ mod checking;
 #[cfg(test)]
 mod reading;
 #[cfg(test)]
+mod sealing;
+#[cfg(test)]
 mod sets;
