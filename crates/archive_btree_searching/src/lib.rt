@@ -4,11 +4,9 @@
 mod node;
 mod range;
 mod search;
-mod visit;
 mod walk;
 
 pub use node::EntryAt;
 pub use range::Range;
 pub use search::{search_counted, search_tree};
-pub use visit::visit_tree;
 pub use walk::Walk;
