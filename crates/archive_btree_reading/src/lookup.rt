@@ -157,7 +157,7 @@ impl<K, V: Portable, const E: usize> ArchivedBTreeMap<K, V, E> {
 impl<K: Portable, V: Portable, const E: usize> ArchivedBTreeMap<K, V, E> {
     /// The entry that the caller's comparison finds. `compare` says how the query compares with a key: where it does not
     /// agree with the order of the keys, an entry may not be found.
-    pub fn get_key_value_with<'a, Q, F: Fn(&Q, Ref<'a, K>) -> Ordering>(
+    pub fn get_key_value_with<'a, Q, F: Fn(&Q, Ref<'_, K>) -> Ordering>(
         this: Ref<'a, ArchivedBTreeMap<K, V, E>>,
         query: &Q,
         compare: &F,

@@ -10,7 +10,7 @@ use Rattle.archive_btree_reading.proofs.map.ArchivedBTreeMap.get_key_value_with.
 
 pub search_map-requires : goal.search_map-requires
 search_map-requires g c =
-    λ κs. record { has = c.requires.has; callable = λ t h i d less. ((refl, tt), c.requires.callable t h i d less) }
+    record { has = c.requires.has; callable = λ t h i d less. c.requires.callable t h i d less }
 
 pub returns-in-Some-clause-answers : goal.returns-in-Some-clause-answers
 returns-in-Some-clause-answers g c t order h q =
