@@ -1,4 +1,4 @@
-use Rattle.std.proofs.Common.{◌∙◌, Some, refl, ap}
+use Rattle.std.proofs.Common.{◌∙◌, Some, ap}
 use Rattle.archive_btree_layout.specs.Descent.{descend}
 use Rattle.archive_btree_reading.specs.Refs.{entry_at}
 use Rattle.archive_btree_reading.proofs.Refs.{pair_is, found_at, none_found, finds_some, finds_called}
