@@ -9,4 +9,6 @@ mod indexing;
 #[cfg(test)]
 mod placing;
 #[cfg(test)]
+mod reading;
+#[cfg(test)]
 mod scanning;

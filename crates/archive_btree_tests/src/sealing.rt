@@ -1,0 +1,97 @@
+//! Tests of what is written to archived maps through seals.
+ghost use Rattle.std.specs.Prelude.{◌≡◌, length};
+
+use crate::archives::{bytes_of, root_of};
+use archive_btree_reading::ArchivedBTreeMap;
+use archive_forms_reading::native_of;
+use archive_forms_text::ArchivedString;
+use archive_shape::{ArchivedU32, Error, OwnSeal, Ref, Seal};
+use std::alloc::Global;
+use std::ops::ControlFlow;
+use std::test::Fail;
+
+/// A map of texts to numbers with at most five entries in a node. A leaf has seventeen words: its kind, five keys of two words,
+/// five values and its length.
+type Texts = ArchivedBTreeMap<ArchivedString, ArchivedU32, 5>;
+
+/// bar leads to 20, bat to 80, baz to 40 and foo to 10: a leaf, and the map, whose root is 68 bytes before it.
+const FOUR: [u32; 19] = [
+    0,
+    0xff72_6162,
+    0xffff_ffff,
+    0xff74_6162,
+    0xffff_ffff,
+    0xff7a_6162,
+    0xffff_ffff,
+    0xff6f_6f66,
+    0xffff_ffff,
+    0,
+    0,
+    20,
+    80,
+    40,
+    10,
+    0,
+    4,
+    0xffff_ffbc,
+    4,
+];
+
+/// The value of a key.
+fn value_of(alloc: Global, bytes: &[u8], key: &str) -> Result<Option<u32>, Error> {
+    let root = root_of::<Texts>(alloc, bytes)?;
+    match ArchivedBTreeMap::get(root, &key) {
+        Some(value) => Ok(Some(native_of(value))),
+        None => Ok(None),
+    }
+}
+
+/// The values of bar, bat, baz and foo.
+fn values_of(alloc: Global, bytes: &[u8]) -> Result<[Option<u32>; 4], Error> {
+    Ok([
+        value_of(alloc, bytes, "bar")?,
+        value_of(alloc, bytes, "bat")?,
+        value_of(alloc, bytes, "baz")?,
+        value_of(alloc, bytes, "foo")?,
+    ])
+}
+
+/// What a visit leaves that adds 10 to each value up to the first that it breaks at, and what it answers.
+fn added(
+    alloc: Global,
+    words: &[u32],
+    last: u32,
+) -> Result<(Option<u32>, [Option<u32>; 4]), Error> {
+    let mut bytes = bytes_of(alloc, words)?;
+    let pos = root_of::<Texts>(alloc, bytes.as_slice())?.pos();
+    let mut visit = |_key: Ref<'_, ArchivedString>, value: &mut OwnSeal<'_, ArchivedU32>| -> ControlFlow<
+        u32,
+    >
+        requires { length value.now.own.now ≡ 4 }
+    {
+        let number = native_of(value.as_ref()).wrapping_add(10);
+        value.put(number);
+        if number == last {
+            ControlFlow::Break(number)
+        } else {
+            ControlFlow::Continue(())
+        }
+    };
+    let broken = ArchivedBTreeMap::visit_seal(
+        Seal::<Texts>::new(bytes.as_mut_slice(), pos),
+        &mut visit,
+    );
+    Ok((broken, values_of(alloc, bytes.as_slice())?))
+}
+
+#[test]
+fn visits_write_each_value_in_order_up_to_the_first_break(rt: HostRuntime) {
+    assert_eq!(rt;
+        added(rt.alloc(), &FOUR, 0),
+        Ok((None, [Some(30), Some(90), Some(50), Some(20)]))
+    );
+    assert_eq!(rt;
+        added(rt.alloc(), &FOUR, 90),
+        Ok((Some(90), [Some(30), Some(90), Some(40), Some(10)]))
+    );
+}
