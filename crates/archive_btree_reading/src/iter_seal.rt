@@ -54,7 +54,7 @@ impl<'a, K: Portable, V: Portable> IterSeal<'a, K, V> {
     /// after the loan is not said: a caller that is to know them calls `advance`, and makes the seal of those bytes.
     pub fn next(&mut self) -> Option<(Ref<'_, K>, OwnSeal<'_, V>)>
         requires { (most : ℕ) × (m : BegunMap most K.shape V.shape K.knows V.knows) × (es : List Place) × HasEntries m self.old es × IsWritten m self.old.bytes.now }
-        ensures there { IfSome result (λ r. HasValue K.shape K.knows r.0.bytes.now r.0.pos) }
+        ensures there { IfSome result (λ r. HasValue K.shape K.knows r.0.bytes.now r.0.pos × (length r.1.own.now ≡ V.SIZE)) }
         ensures lends { (most : ℕ) (m : BegunMap most K.shape V.shape K.knows V.knows) (es : List Place) → HasEntries m self.old es → IsWritten m self.old.bytes.now → MatchOption result
             (es ≡ [])
             (λ r. (e : Place) × (rest : List Place) × (es ≡ e ∷ rest) × IsLent V.SIZE self.old.bytes.now e r.0 r.1) }
@@ -100,7 +100,8 @@ impl<'a, K: Portable, V: Portable> ValuesSeal<'a, K, V> {
     /// caller that is to know them calls `advance`, and makes the seal of those bytes.
     pub fn next(&mut self) -> Option<OwnSeal<'_, V>>
         requires { (most : ℕ) × (m : BegunMap most K.shape V.shape K.knows V.knows) × (es : List Place) × HasValues m self.old es × IsWritten m self.old.entries.bytes.now }
-        ensures { (most : ℕ) (m : BegunMap most K.shape V.shape K.knows V.knows) (es : List Place) → HasValues m self.old es → IsWritten m self.old.entries.bytes.now → MatchOption result
+        ensures there { IfSome result (λ r. length r.own.now ≡ V.SIZE) }
+        ensures lends { (most : ℕ) (m : BegunMap most K.shape V.shape K.knows V.knows) (es : List Place) → HasValues m self.old es → IsWritten m self.old.entries.bytes.now → MatchOption result
             (es ≡ [])
             (λ r. (e : Place) × (rest : List Place) × (es ≡ e ∷ rest) × IsOwnValue V.SIZE self.old.entries.bytes.now e r) }
     {

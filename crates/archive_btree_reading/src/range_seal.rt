@@ -60,7 +60,7 @@ impl<'a, K: Portable, V: Portable> RangeSeal<'a, K, V> {
     /// after the loan is not said: a caller that is to know them calls `advance`, and makes the seal of those bytes.
     pub fn next(&mut self) -> Option<(Ref<'_, K>, OwnSeal<'_, V>)>
         requires { (most : ℕ) × (m : BegunMap most K.shape V.shape K.knows V.knows) × (es : List Place) × HasRange m self.old es × IsWritten m self.old.bytes.now }
-        ensures there { IfSome result (λ r. HasValue K.shape K.knows r.0.bytes.now r.0.pos) }
+        ensures there { IfSome result (λ r. HasValue K.shape K.knows r.0.bytes.now r.0.pos × (length r.1.own.now ≡ V.SIZE)) }
         ensures lends { (most : ℕ) (m : BegunMap most K.shape V.shape K.knows V.knows) (es : List Place) → HasRange m self.old es → IsWritten m self.old.bytes.now → MatchOption result
             (es ≡ [])
             (λ r. (e : Place) × (rest : List Place) × (es ≡ e ∷ rest) × IsLent V.SIZE self.old.bytes.now e r.0 r.1) }

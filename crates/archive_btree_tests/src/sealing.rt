@@ -1,5 +1,6 @@
 //! Tests of what is written to archived maps through seals.
-ghost use Rattle.std.specs.Prelude.{◌≡◌, length};
+ghost use Rattle.std.specs.Prelude.{◌≡◌, ℕ, ◌+◌, ◌≤◌, List, length};
+ghost use Rattle.archive_shape_references.specs.Bytes.{overwrite};
 
 use crate::archives::{bytes_of, root_of};
 use archive_btree_reading::ArchivedBTreeMap;
@@ -69,7 +70,7 @@ fn added(
     >
         requires { length value.now.own.now ≡ 4 }
     {
-        let number = native_of(value.as_ref()).wrapping_add(10);
+        let number = value.as_ref().to_native().wrapping_add(10);
         value.put(number);
         if number == last {
             ControlFlow::Break(number)
@@ -93,5 +94,67 @@ fn visits_write_each_value_in_order_up_to_the_first_break(rt: HostRuntime) {
     assert_eq!(rt;
         added(rt.alloc(), &FOUR, 90),
         Ok((Some(90), [Some(30), Some(90), Some(40), Some(10)]))
+    );
+}
+
+/// Writes a number at a position.
+fn put_at(bytes: &mut [u8], at: usize, number: u32)
+    requires { at + 4 ≤ length bytes.old }
+    ensures { (own : List ℕ) × (length own ≡ 4) × (bytes.new ≡ overwrite bytes.old at own) }
+{
+    OwnSeal::<ArchivedU32>::new(&mut bytes[at..at + 4], at).write(number);
+}
+
+/// Where the values stand that a cursor meets, each beside how many are left after it, and what they are once a number is
+/// written over each.
+fn written_over(
+    alloc: Global,
+    words: &[u32],
+    number: u32,
+) -> Result<(Vec<(usize, usize)>, [Option<u32>; 4]), Error> {
+    let mut bytes = bytes_of(alloc, words)?;
+    let pos = root_of::<Texts>(alloc, bytes.as_slice())?.pos();
+    let mut met = Vec::new(alloc);
+    let mut values = ArchivedBTreeMap::values_seal(Seal::<Texts>::new(bytes.as_mut_slice(), pos));
+    while let Some(at) = values.advance() {
+        put_at(values.entries.bytes, at, number);
+        if met.push((at, values.len())).is_err() {
+            return Err(Error::OutOfMemory);
+        }
+    }
+    Ok((met, values_of(alloc, bytes.as_slice())?))
+}
+
+#[test]
+fn cursors_pass_each_value_while_the_values_are_written(rt: HostRuntime) -> Result<(), Fail> {
+    let (met, values) = written_over(rt.alloc(), &FOUR, 123)?;
+    assert_eq!(rt;
+        met.as_slice(),
+        [(44, 3), (48, 2), (52, 1), (56, 0)].as_slice()
+    );
+    assert_eq!(rt; values, [Some(123); 4]);
+    Ok(())
+}
+
+/// The values of bar, bat, baz and foo once a number is written over that of a key.
+fn set(alloc: Global, words: &[u32], key: &str, number: u32) -> Result<[Option<u32>; 4], Error> {
+    let mut bytes = bytes_of(alloc, words)?;
+    let pos = root_of::<Texts>(alloc, bytes.as_slice())?.pos();
+    let map = Seal::<Texts>::new(bytes.as_mut_slice(), pos);
+    if let Some((_key, value)) = ArchivedBTreeMap::get_key_value_seal(map, &key) {
+        value.write(number);
+    }
+    values_of(alloc, bytes.as_slice())
+}
+
+#[test]
+fn keys_lead_to_seals_of_their_own_values(rt: HostRuntime) {
+    assert_eq!(rt;
+        set(rt.alloc(), &FOUR, "baz", 456),
+        Ok([Some(20), Some(80), Some(456), Some(10)])
+    );
+    assert_eq!(rt;
+        set(rt.alloc(), &FOUR, "qux", 456),
+        Ok([Some(20), Some(80), Some(40), Some(10)])
     );
 }

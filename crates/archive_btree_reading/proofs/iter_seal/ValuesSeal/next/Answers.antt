@@ -2,7 +2,7 @@ use Rattle.std.proofs.Common.{sym, subst}
 use Rattle.archive_btree_reading.specs.Seals.{IsOwnValue}
 use Rattle.archive_btree_reading.proofs.iter_seal.ValuesSeal.next.Goals as goal
 
-pub returns-in-Some : goal.returns-in-Some
-returns-in-Some g c most m es h written =
+pub returns-in-Some-clause-lends : goal.returns-in-Some-clause-lends
+returns-in-Some-clause-lends g c most m es h written =
     let s = c.in-Some.ensures.lends most m es h written in
     (s.0, s.1, s.2, s.3.own_value)

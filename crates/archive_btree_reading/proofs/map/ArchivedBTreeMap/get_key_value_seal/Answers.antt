@@ -36,7 +36,7 @@ returns-in-Some-clause-there g c =
     All-contains (λ e. HasValue k knows (take e.value bytes) e.key) (items m.search_tree) e
     (keys_before g.row.E k v knows g.V.Portable.knows bytes c.args.this.pos has m.search_tree m.map bytes (nothing_written v (items m.search_tree) bytes)) found.0
     in
-    lent_there k knows g.V.Portable.SIZE bytes e c.lend_entry.result.0 c.lend_entry.result.1 c.lend_entry.ensures key
+    (lent_there k knows g.V.Portable.SIZE bytes e c.lend_entry.result.0 c.lend_entry.result.1 c.lend_entry.ensures key, c.lend_entry.ensures.own_value.len)
 
 pub returns-in-Some-clause-found : goal.returns-in-Some-clause-found
 returns-in-Some-clause-found g c t h =
