@@ -39,7 +39,7 @@ pub trait NodeStep<T, S: Writer, const E: usize> {
     /// Writes a leaf of entries, and answers its position.
     fn write_leaf(&self, entries: &[T], serializer: &mut S) -> Result<usize, Error>
         requires some { 0 < length entries.now }
-        requires few { length entries.now ≤ E }
+        requires few { (length entries.now ≤ E) × (E < 2 ^ 32) }
         requires taken { All (takes self.now) entries.now }
         requires room { S.failures serializer.old < 2 ^ 64 - 1 }
         requires state { HasState S.pos S.known serializer.old }
@@ -55,6 +55,7 @@ pub trait NodeStep<T, S: Writer, const E: usize> {
         serializer: &mut S,
     ) -> Result<usize, Error>
         requires full { length entries.now ≡ E }
+        requires some { (0 < E) × (E < 2 ^ 32) }
         requires pointers { length lesser.now ≡ E }
         requires taken { All (takes self.now) entries.now }
         requires room { S.failures serializer.old < 2 ^ 64 - 1 }

@@ -218,6 +218,10 @@ build_inner-write_inner-requires-clause-full g t c =
     let inv = c.loop-i.invariant in
     inv.entries
 
+pub build_inner-write_inner-requires-clause-some : goal.build_inner-write_inner-requires-clause-some
+build_inner-write_inner-requires-clause-some g t c =
+    c.requires.some
+
 pub build_inner-write_inner-requires-clause-pointers : goal.build_inner-write_inner-requires-clause-pointers
 build_inner-write_inner-requires-clause-pointers g t c =
     let inv = c.loop-i.invariant in

@@ -64,7 +64,7 @@ write_leaf-requires g c =
     let came : Yields g.I.Iterator.next_gives c.args.source.now.entries items c.loop-i.source.entries = rw end at inv.came in
     record {
       some = omega (arith, size, c.requires.some);
-      few = omega (arith, size, c.requires.few);
+      few = (omega (arith, size, c.requires.few), c.requires.few.1);
       taken = takes_all g.I.Iterator.next_gives (g.N.NodeStep.takes c.args.nodes.now) c.args.source.now.entries c.requires.takes items (came_may_come g.I.Iterator.next_gives _ _ items came);
       room = c.requires.room;
       state = c.requires.state;
