@@ -7,3 +7,4 @@ pub mod Placing
 pub mod Answered
 pub mod Pairs
 pub mod Viewed
+pub mod Sizes
