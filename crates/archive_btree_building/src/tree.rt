@@ -190,20 +190,24 @@ fn levels_above<const E: usize>(count: usize) -> (usize, usize)
 }
 
 /// Writes the packed search tree of entries that come in order, of which is claimed how many come, each node by `nodes`. The
-/// answer is the position of its root.
+/// answer is the position of its root. `node` names the type of a node's entries, which has a size.
 ///
 /// # Errors
 /// `IteratorLengthMismatch` where fewer entries came, or where more did, which are counted then; what is written for those
 /// that came stays written. Whatever a step is refused for.
 pub fn build_tree_each<
-    'a,
-    K: 'a,
-    V: 'a,
+    T: Copy,
     S: Writer,
-    N: NodeStep<(&'a K, &'a V), S, E>,
-    I: Iterator<Item = (&'a K, &'a V)>,
+    N: NodeStep<T, S, E>,
+    I: Iterator<Item = T>,
     const E: usize,
->(claimed: usize, entries: I, serializer: &mut S, nodes: &N) -> Result<Option<usize>, Error>
+>(
+    claimed: usize,
+    entries: I,
+    serializer: &mut S,
+    nodes: &N,
+    node: PhantomData<[T; E]>,
+) -> Result<Option<usize>, Error>
     requires calls { I.can_next entries × IsFinite (I.remaining entries) }
     requires some { (0 < E) × (E < 2 ^ 32) }
     requires room { S.failures serializer.old < 2 ^ 64 - 1 }
@@ -217,11 +221,11 @@ pub fn build_tree_each<
         claimed,
         taken: 0,
     };
-    let root = build_tree::<(&'a K, &'a V), S, N, I, E>(
+    let root = build_tree::<T, S, N, I, E>(
         &mut source,
         serializer,
         nodes,
-        PhantomData,
+        node,
         above,
         wide,
         claimed - (wide - 1),
