@@ -1,14 +1,20 @@
-//! Maps and sets of std are archived as search trees, and maps are read back. The archived map and its iterators are here
-//! too.
+//! Maps and sets of std are archived as search trees, and so are entries that come in order; maps are read back. The archived
+//! map and its iterators are here too.
 #![tactic(auto)]
 
 mod archive;
 mod archive_set;
 mod deserialize;
 mod map;
+mod nodes;
+mod ordered;
+mod serialize;
 mod set;
 
 pub use archive_btree_reading::{ArchivedBTreeMap, BTreeMapResolver, Iter, Keys, Values};
+pub use archive_btree_sets::{ArchivedBTreeSet, BTreeSetResolver, eq_btree_set};
+pub use archive_btree_writing::{EntryParts, EntryStep, SerializeEntry};
 pub use deserialize::{deserialize_map, deserialize_map_each};
 pub use map::OwnedBTreeMap;
+pub use ordered::{serialize_from_ordered_iter, serialize_from_ordered_iter_each};
 pub use set::OwnedBTreeSet;
