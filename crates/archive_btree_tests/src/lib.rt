@@ -9,3 +9,5 @@ mod checking;
 mod reading;
 #[cfg(test)]
 mod sets;
+#[cfg(test)]
+mod writing;
