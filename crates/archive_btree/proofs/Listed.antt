@@ -3,7 +3,7 @@ use Rattle.std.proofs.Common.{◌≡◌, ℕ, ◌+◌, List, [], ◌∷◌, ◌+
 use Rattle.std.proofs.lemmas.List.Elements.{All-head, All-tail}
 use Rattle.std.specs.Prelude.{Result, Option}
 use Rattle.std.specs.Iterator.{Yields, Drains}
-use Rattle.std.specs.Map.Iter.{TakesFirst}
+use Rattle.std.specs.Map.Iter.{TakesFirst, deref_pair}
 use Rattle.archive_shape_layout.specs.Shape.{Shape}
 use Rattle.archive_shape_writing.specs.Writing.{WriterMembers}
 use Rattle.archive_shape_writing.specs.declared.error.Error.{Error}
@@ -16,7 +16,7 @@ use Rattle.archive_btree_spelling.specs.Maps.{btree_spelling}
 use Rattle.archive_btree_reading.specs.declared.resolving.BTreeMapResolver.{BTreeMapResolver}
 use Rattle.archive_btree_building.specs.Taking.{TakesEach, GivesAs}
 use Rattle.archive_btree_building.specs.Built.{IsShort, IsCutShort, BuildsClaimedBy}
-use Rattle.archive_btree.specs.Owned.{entries_spelling}
+use Rattle.archive_btree.specs.Owned.{TakesEntries, entries_spelling}
 
 module _ {T X : Type 0} (shows : T → X) where
   -- what came, and what is left
@@ -44,6 +44,10 @@ module _ {T X : Type 0} (shows : T → X) where
   -- all came
   drained_all : (from ys : List X) → Drains (GivesAs shows (TakesFirst shows)) from ys → from ≡ ys
   drained_all from ys d = came_seen from d.1.0 ys d.1.1 ∙ ap (λ l. ys ++ l) d.1.2.0 ∙ append-nil ys
+
+-- the same of borrowed entries
+pub takes_entries : {A B F : Type 0} (takes : F → A × B → Type 0) (step : F) (from : List (A × B)) → All (takes step) from → TakesEntries (TakesFirst deref_pair) takes step from
+takes_entries takes step from h = let t = takes_each deref_pair (takes step) from h in record { each = t.each }
 
 -- memory was refused before anything came
 pub none_begun : {C R W I : Type 0} (w : Spelling (List C) R) (s : WriterMembers W) (gives : I → Option C → I → Type 0) (claimed : ℕ) (from : I) (old : W)

@@ -9,6 +9,7 @@ mod map;
 mod nodes;
 mod ordered;
 mod serialize;
+mod serialize_set;
 mod set;
 
 pub use archive_btree_reading::{ArchivedBTreeMap, BTreeMapResolver, Iter, Keys, Values};
@@ -17,4 +18,6 @@ pub use archive_btree_writing::{EntryParts, EntryStep, SerializeEntry};
 pub use deserialize::{deserialize_map, deserialize_map_each};
 pub use map::OwnedBTreeMap;
 pub use ordered::{serialize_from_ordered_iter, serialize_from_ordered_iter_each};
+pub use serialize::serialize_map_each;
+pub use serialize_set::serialize_set_each;
 pub use set::OwnedBTreeSet;

@@ -3,8 +3,9 @@ ghost use Rattle.std.specs.Prelude.{◌≡◌, ℕ, ◌-◌, ◌^◌, ◌<◌, �
 ghost use Rattle.std.specs.Iterator.{IsFinite};
 ghost use Rattle.std.specs.Map.Iter.{deref_pair};
 ghost use Rattle.archive_forms_spelling.specs.Serializing.{HasState};
-ghost use Rattle.archive_btree_building.specs.Taking.{GivesAs, TakesEach};
+ghost use Rattle.archive_btree_building.specs.Taking.{GivesAs};
 ghost use Rattle.archive_btree_building.specs.Built.{BuildsClaimedBy};
+ghost use Rattle.archive_btree.specs.Owned.{TakesEntries};
 
 use crate::nodes::NodeWriter;
 use archive_btree_building::build_tree_each;
@@ -36,7 +37,7 @@ pub fn serialize_from_ordered_iter_each<
     requires some { 0 < E }
     requires room { S.failures serializer.old < 2 ^ 64 - 1 }
     requires state { HasState S.pos S.known serializer.old }
-    requires takes { TakesEach I.next_gives (λ e. C.takes step.now (deref_pair e)) entries }
+    requires takes { TakesEntries I.next_gives C.takes step.now entries }
     ensures { BuildsClaimedBy E K.Archived.shape V.Archived.shape K.spelling V.spelling S.Writer (GivesAs deref_pair I.next_gives) (λ r. r.pos) claimed entries serializer.old serializer.new result }
 {
     if E > MOST {

@@ -4,7 +4,7 @@ use Rattle.archive_shape_writing.specs.Writing.{WriterMembers}
 use Rattle.archive_btree_building.specs.Taking.{GivesAs}
 use Rattle.archive_btree_building.specs.Built.{BuildsClaimedBy}
 use Rattle.archive_btree.proofs.Listed.{map_written}
-use Rattle.archive_btree.proofs.serialize.serialize_rest.Goals as goal
+use Rattle.archive_btree.proofs.serialize.serialize_rest_each.Goals as goal
 
 pub returns : goal.returns
 returns g c =
@@ -13,8 +13,8 @@ returns g c =
     let v = g.V.Archived.Portable.shape in
     let es = c.args.entries in
     let old = c.args.serializer.now in
-    let new = c.serialize_from_ordered_iter.new.serializer in
-    let result = c.serialize_from_ordered_iter.result in
+    let new = c.serialize_from_ordered_iter_each.new.serializer in
+    let result = c.serialize_from_ordered_iter_each.result in
     let Counted : ℕ → Type 0 = λ n. BuildsClaimedBy g.row.E k v g.K.Archive.spelling g.V.Archive.spelling s (GivesAs deref_pair (TakesFirst deref_pair)) (λ r. r.pos) n es old new result in
     map_written g.row.E k v g.K.Archive.spelling g.V.Archive.spelling s deref_pair es old new result
-    (subst Counted c.requires.counted c.serialize_from_ordered_iter.ensures)
+    (subst Counted c.requires.counted c.serialize_from_ordered_iter_each.ensures)
