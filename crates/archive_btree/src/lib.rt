@@ -1,5 +1,5 @@
-//! Maps and sets of std are archived as search trees, and so are entries that come in order; maps are read back. The archived
-//! map and its iterators are here too.
+//! Maps and sets of std are archived as search trees and read back, and entries that come in order are archived so too. The
+//! archived map and set, and the map's iterators, are here too.
 #![tactic(auto)]
 
 mod archive;
@@ -8,6 +8,7 @@ mod deserialize;
 mod map;
 mod nodes;
 mod ordered;
+mod read_set;
 mod serialize;
 mod serialize_set;
 mod set;
@@ -18,6 +19,7 @@ pub use archive_btree_writing::{EntryParts, EntryStep, SerializeEntry};
 pub use deserialize::{deserialize_map, deserialize_map_each};
 pub use map::OwnedBTreeMap;
 pub use ordered::{serialize_from_ordered_iter, serialize_from_ordered_iter_each};
+pub use read_set::{deserialize_set, deserialize_set_each};
 pub use serialize::serialize_map_each;
 pub use serialize_set::serialize_set_each;
 pub use set::OwnedBTreeSet;

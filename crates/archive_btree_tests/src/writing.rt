@@ -1,7 +1,4 @@
 //! Tests of maps that are written, and of entries that come in order.
-ghost use Rattle.std.specs.Prelude.{◌-◌, ◌^◌, ◌<◌, []};
-ghost use Rattle.archive_forms_spelling.specs.Serializing.{HasState};
-
 use crate::archives::{EMPTY, ONE_PAIR, SIX_PAIRS, bytes_of, root_of};
 use archive_btree::{
     ArchivedBTreeMap, BTreeMapResolver, OwnedBTreeMap, deserialize_map, serialize_from_ordered_iter,
