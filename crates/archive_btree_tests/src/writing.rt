@@ -1,4 +1,7 @@
 //! Tests of maps that are written, and of entries that come in order.
+ghost use Rattle.std.specs.Prelude.{◌-◌, ◌^◌, ◌<◌};
+ghost use Rattle.archive_forms_spelling.specs.Serializing.{HasState};
+
 use crate::archives::{EMPTY, ONE_PAIR, SIX_PAIRS, bytes_of, root_of};
 use archive_btree::{
     ArchivedBTreeMap, BTreeMapResolver, OwnedBTreeMap, deserialize_map, serialize_from_ordered_iter,
@@ -6,7 +9,7 @@ use archive_btree::{
 use archive_core_serializing::{HighSerializer, Serializer};
 use archive_forms_text::ArchivedString;
 use archive_forms_writing::{Serialize, serialize_using};
-use archive_shape::{ArchivedU32, Error};
+use archive_shape::{Allocator, ArchivedU32, Error, Positional, Registry, Writer};
 use std::alloc::Global;
 use std::collections::BTreeMap;
 use std::test::Fail;
@@ -14,9 +17,17 @@ use std::test::Fail;
 /// A serializer into memory that grows.
 type Memory = HighSerializer<Vec<u8>, Global>;
 
+/// A serializer into memory that holds nothing.
+fn memory(alloc: Global) -> Memory
+    ensures room { ⟦<Memory as Writer>⟧.failures result < 2 ^ 64 - 1 }
+    ensures state { HasState ⟦<Memory as Positional>⟧.pos ⟦<Memory as Registry>⟧.known result }
+{
+    Serializer::new(Vec::new(alloc), alloc, ())
+}
+
 /// The archive of a value.
 fn archive_of<T: Serialize<Memory>>(alloc: Global, value: &T) -> Result<Vec<u8>, Error> {
-    let mut serializer = Serializer::new(Vec::new(alloc), alloc, ());
+    let mut serializer = memory(alloc);
     serialize_using(value, &mut serializer)?;
     Ok(serializer.into_writer())
 }
@@ -81,6 +92,18 @@ fn texts_are_read_back(rt: HostRuntime) -> Result<(), Fail> {
     Ok(())
 }
 
+/// Writes the entries of a map, of which is claimed how many come.
+fn write_claimed<S: Writer + Allocator>(
+    claimed: usize,
+    owned: &OwnedBTreeMap<u32, u32, 5>,
+    serializer: &mut S,
+) -> Result<BTreeMapResolver, Error>
+    requires room { S.failures serializer.old < 2 ^ 64 - 1 }
+    requires state { HasState S.pos S.known serializer.old }
+{
+    serialize_from_ordered_iter::<S, u32, u32, _, 5>(claimed, owned.map.iter(), serializer)
+}
+
 /// What becomes of so many pairs, of which is claimed how many come.
 fn claiming(
     alloc: Global,
@@ -88,12 +111,7 @@ fn claiming(
     pairs: &[(u32, u32)],
 ) -> Result<BTreeMapResolver, Error> {
     let owned = numbers(alloc, pairs)?;
-    let mut serializer: Memory = Serializer::new(Vec::new(alloc), alloc, ());
-    serialize_from_ordered_iter::<Memory, u32, u32, _, 5>(
-        claimed,
-        owned.map.iter(),
-        &mut serializer,
-    )
+    write_claimed(claimed, &owned, &mut memory(alloc))
 }
 
 #[test]
