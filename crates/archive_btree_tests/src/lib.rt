@@ -19,3 +19,5 @@ mod reading;
 mod sealing;
 #[cfg(test)]
 mod sets;
+#[cfg(test)]
+mod writing;
