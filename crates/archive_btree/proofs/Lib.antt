@@ -1,1 +1,3 @@
 mod ReadBack
+pub mod Listed
+pub mod Keyed

@@ -17,7 +17,7 @@ use std::marker::PhantomData;
 
 /// The step of keys and values that can be read back. A step's answer names the archived form, since a closure over `T` can be
 /// passed on only where its type does.
-fn deserialize_part<T: Archive, A: Deserialize<T, D>, D>(
+pub(crate) fn deserialize_part<T: Archive, A: Deserialize<T, D>, D>(
     bytes: &[u8],
     pos: usize,
     alloc: Global,

@@ -54,14 +54,18 @@ module _ {A B R Q W I : Type 0} (most : ℕ) (k v : Shape) (keys : Spelling A R)
     pub written : (root : Option ℕ) × Serializes (btree_spelling most k v keys vals) members (take claimed items) old new (Ok root)
     pub tells : e ≡ IteratorLengthMismatch claimed (min (length items) (2 ^ 64 - 1))
 
-  -- What a call promises that writes the packed tree of all items, of which is claimed how many come: that many came, and no
-  -- more; or fewer came or the writing stopped; or more came.
-  abbrev pub BuildsClaimed : ℕ → I → W → W → Result (Option ℕ) Error → Type 0
-  BuildsClaimed claimed from old new result =
+  -- What a call promises that writes the packed tree of all items, of which is claimed how many come, and whose answer keeps
+  -- where its root stands: that many came, and no more; or fewer came or the writing stopped; or more came.
+  abbrev pub BuildsClaimedBy : {Z : Type 0} → (Z → Option ℕ) → ℕ → I → W → W → Result Z Error → Type 0
+  BuildsClaimedBy root claimed from old new result =
       let w = btree_spelling most k v keys vals in
       MatchResult result
-      (λ root. (xs : List (A × B)) × Drains gives from xs × (length xs ≡ claimed) × Serializes w members xs old new (Ok root))
+      (λ z. (xs : List (A × B)) × Drains gives from xs × (length xs ≡ claimed) × Serializes w members xs old new (Ok (root z)))
       (λ e. IsCutShort w members gives claimed 0 claimed 0 from old new e ⊎ IsExceeded claimed from old new e)
+
+  -- the same of a call whose answer is where its root stands
+  abbrev pub BuildsClaimed : ℕ → I → W → W → Result (Option ℕ) Error → Type 0
+  BuildsClaimed claimed from old new result = BuildsClaimedBy (λ (r : Option ℕ). r) claimed from old new result
 
 -- the same of a call that takes the entry behind the tree as well, where entries are seen as their keys and values
 abbrev pub BuildsLesser : {A B R Q W I T : Type 0} (most : ℕ) (k v : Shape) (keys : Spelling A R) (vals : Spelling B Q) (members : WriterMembers W) (parts : T → A × B) (gives : I → Option T → I → Type 0)

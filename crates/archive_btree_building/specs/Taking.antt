@@ -11,6 +11,10 @@ module _ {I T : Type 0} (gives : I → Option T → I → Type 0) where
   MayGiveAll from [] = ⊤
   MayGiveAll from (x ∷ xs) = MayGive from x × MayGiveAll from xs
 
+  -- a step may be called for each item that may come
+  pub record TakesEach (takes : T → Type 0) (from : I) : Type 0 where
+    pub each : (x : T) → MayGive from x → takes x
+
 -- what an iterator gives, each item seen as another
 abbrev pub GivesAs : {I T C : Type 0} → (T → C) → (I → Option T → I → Type 0) → I → Option C → I → Type 0
 GivesAs view gives from None to = gives from None to

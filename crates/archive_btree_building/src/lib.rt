@@ -6,8 +6,8 @@
 #![tactic(auto)]
 
 mod claimed;
-mod entries;
+mod nodes;
 mod tree;
 
-pub use entries::EntrySpelling;
+pub use nodes::NodeStep;
 pub use tree::build_tree_each;

@@ -2,29 +2,19 @@
 ghost use Rattle.std.specs.Prelude.{◌≡◌, ℕ, ◌+◌, ◌-◌, ◌*◌, ◌^◌, ◌<◌, ◌≤◌, length, suc, OnOk};
 ghost use Rattle.std.specs.Iterator.{IsFinite};
 ghost use Rattle.archive_forms_spelling.specs.Serializing.{HasState};
-ghost use Rattle.archive_btree_building.specs.Taking.{GivesAs};
-ghost use Rattle.archive_btree_building.specs.Steps.{TakesNodes, WritesNodes};
+ghost use Rattle.archive_btree_building.specs.Taking.{GivesAs, TakesEach};
 ghost use Rattle.archive_btree_building.specs.Built.{Builds, BuildsLesser, BuildsClaimed};
 
-use crate::EntrySpelling;
+use crate::NodeStep;
 use crate::claimed::{Claimed, finish, take_entry};
 use archive_shape_writing::{Error, Writer};
 use std::marker::PhantomData;
 
 /// Writes a leaf of so many entries.
-fn build_leaf<
-    T: Copy,
-    M: EntrySpelling<T>,
-    S: Writer,
-    I: Iterator<Item = T>,
-    L: Fn(&[T], &mut S) -> Result<usize, Error>,
-    N: Fn(&[T], &[Option<usize>], Option<usize>, &mut S) -> Result<usize, Error>,
-    const E: usize,
->(
+fn build_leaf<T: Copy, S: Writer, N: NodeStep<T, S, E>, I: Iterator<Item = T>, const E: usize>(
     source: &mut Claimed<I>,
     serializer: &mut S,
-    leaf: &L,
-    inner: &N,
+    nodes: &N,
     node: PhantomData<[T; E]>,
     count: usize,
 ) -> Result<Option<usize>, Error>
@@ -34,11 +24,10 @@ fn build_leaf<
     requires wanted { source.old.taken + count ≤ source.old.claimed }
     requires room { S.failures serializer.old < 2 ^ 64 - 1 }
     requires state { HasState S.pos S.known serializer.old }
-    requires takes { TakesNodes L.Fn N.Fn E I.next_gives S.Writer leaf.now inner.now source.old.entries }
-    requires writes { WritesNodes L.Fn N.Fn E M.parts M.key_shape M.value_shape M.keys M.values S.Writer leaf.now inner.now }
+    requires takes { TakesEach I.next_gives (N.takes nodes.now) source.old.entries }
     ensures calls { OnOk result (I.can_next source.new.entries × IsFinite (I.remaining source.new.entries)) }
     ensures counts { OnOk result ((source.new.claimed ≡ source.old.claimed) × (source.new.taken ≡ source.old.taken + count)) }
-    ensures built { (above : ℕ) → Builds E M.key_shape M.value_shape M.keys M.values S.Writer (GivesAs M.parts I.next_gives) (suc above) count
+    ensures built { (above : ℕ) → Builds E N.key_shape N.value_shape N.keys N.values S.Writer (GivesAs N.parts I.next_gives) (suc above) count
         source.old.claimed source.old.taken source.old.entries source.new.entries serializer.old serializer.new result }
 {
     let first = take_entry(source)?;
@@ -46,7 +35,7 @@ fn build_leaf<
     for i in 1..count {
         own[i] = take_entry(source)?;
     }
-    match leaf(&own[..count], serializer) {
+    match nodes.write_leaf(&own[..count], serializer) {
         Ok(pos) => Ok(Some(pos)),
         Err(e) => Err(e),
     }
@@ -55,19 +44,10 @@ fn build_leaf<
 /// Writes what stands below a pointer: so many levels above the last one, which has so many places for nodes, and so many
 /// entries on it.
 #[cycle(tree)]
-fn build_tree<
-    T: Copy,
-    M: EntrySpelling<T>,
-    S: Writer,
-    I: Iterator<Item = T>,
-    L: Fn(&[T], &mut S) -> Result<usize, Error>,
-    N: Fn(&[T], &[Option<usize>], Option<usize>, &mut S) -> Result<usize, Error>,
-    const E: usize,
->(
+fn build_tree<T: Copy, S: Writer, N: NodeStep<T, S, E>, I: Iterator<Item = T>, const E: usize>(
     source: &mut Claimed<I>,
     serializer: &mut S,
-    leaf: &L,
-    inner: &N,
+    nodes: &N,
     node: PhantomData<[T; E]>,
     above: usize,
     wide: usize,
@@ -80,11 +60,10 @@ fn build_tree<
     requires wanted { source.old.taken + (wide - 1 + last) ≤ source.old.claimed }
     requires room { S.failures serializer.old < 2 ^ 64 - 1 }
     requires state { HasState S.pos S.known serializer.old }
-    requires takes { TakesNodes L.Fn N.Fn E I.next_gives S.Writer leaf.now inner.now source.old.entries }
-    requires writes { WritesNodes L.Fn N.Fn E M.parts M.key_shape M.value_shape M.keys M.values S.Writer leaf.now inner.now }
+    requires takes { TakesEach I.next_gives (N.takes nodes.now) source.old.entries }
     ensures calls { OnOk result (I.can_next source.new.entries × IsFinite (I.remaining source.new.entries)) }
     ensures counts { OnOk result ((source.new.claimed ≡ source.old.claimed) × (source.new.taken ≡ source.old.taken + (wide - 1 + last))) }
-    ensures built { Builds E M.key_shape M.value_shape M.keys M.values S.Writer (GivesAs M.parts I.next_gives) (suc above) (wide - 1 + last)
+    ensures built { Builds E N.key_shape N.value_shape N.keys N.values S.Writer (GivesAs N.parts I.next_gives) (suc above) (wide - 1 + last)
         source.old.claimed source.old.taken source.old.entries source.new.entries serializer.old serializer.new result }
 {
     let count = wide - 1 + last;
@@ -92,26 +71,17 @@ fn build_tree<
         return Ok(None);
     }
     if count <= E {
-        return build_leaf::<T, M, S, I, L, N, E>(source, serializer, leaf, inner, node, count);
+        return build_leaf::<T, S, N, I, E>(source, serializer, nodes, node, count);
     }
-    build_inner::<T, M, S, I, L, N, E>(source, serializer, leaf, inner, node, above, wide, last)
+    build_inner::<T, S, N, I, E>(source, serializer, nodes, node, above, wide, last)
 }
 
 /// Writes an inner node behind what stands below its pointers.
 #[cycle(tree)]
-fn build_inner<
-    T: Copy,
-    M: EntrySpelling<T>,
-    S: Writer,
-    I: Iterator<Item = T>,
-    L: Fn(&[T], &mut S) -> Result<usize, Error>,
-    N: Fn(&[T], &[Option<usize>], Option<usize>, &mut S) -> Result<usize, Error>,
-    const E: usize,
->(
+fn build_inner<T: Copy, S: Writer, N: NodeStep<T, S, E>, I: Iterator<Item = T>, const E: usize>(
     source: &mut Claimed<I>,
     serializer: &mut S,
-    leaf: &L,
-    inner: &N,
+    nodes: &N,
     node: PhantomData<[T; E]>,
     above: usize,
     wide: usize,
@@ -125,20 +95,18 @@ fn build_inner<
     requires wanted { source.old.taken + (wide - 1 + last) ≤ source.old.claimed }
     requires room { S.failures serializer.old < 2 ^ 64 - 1 }
     requires state { HasState S.pos S.known serializer.old }
-    requires takes { TakesNodes L.Fn N.Fn E I.next_gives S.Writer leaf.now inner.now source.old.entries }
-    requires writes { WritesNodes L.Fn N.Fn E M.parts M.key_shape M.value_shape M.keys M.values S.Writer leaf.now inner.now }
+    requires takes { TakesEach I.next_gives (N.takes nodes.now) source.old.entries }
     ensures calls { OnOk result (I.can_next source.new.entries × IsFinite (I.remaining source.new.entries)) }
     ensures counts { OnOk result ((source.new.claimed ≡ source.old.claimed) × (source.new.taken ≡ source.old.taken + (wide - 1 + last))) }
-    ensures built { Builds E M.key_shape M.value_shape M.keys M.values S.Writer (GivesAs M.parts I.next_gives) (suc above) (wide - 1 + last)
+    ensures built { Builds E N.key_shape N.value_shape N.keys N.values S.Writer (GivesAs N.parts I.next_gives) (suc above) (wide - 1 + last)
         source.old.claimed source.old.taken source.old.entries source.new.entries serializer.old serializer.new result }
 {
     let below = wide / (E + 1);
     let room = E * below;
-    let (child, entry) = build_lesser::<T, M, S, I, L, N, E>(
+    let (child, entry) = build_lesser::<T, S, N, I, E>(
         source,
         serializer,
-        leaf,
-        inner,
+        nodes,
         node,
         above - 1,
         below,
@@ -148,11 +116,10 @@ fn build_inner<
     let mut own = [entry; E];
     let mut left = last.saturating_sub(room);
     for i in 1..E {
-        let (child, entry) = build_lesser::<T, M, S, I, L, N, E>(
+        let (child, entry) = build_lesser::<T, S, N, I, E>(
             source,
             serializer,
-            leaf,
-            inner,
+            nodes,
             node,
             above - 1,
             below,
@@ -162,17 +129,16 @@ fn build_inner<
         own[i] = entry;
         left = left.saturating_sub(room);
     }
-    let greater = build_tree::<T, M, S, I, L, N, E>(
+    let greater = build_tree::<T, S, N, I, E>(
         source,
         serializer,
-        leaf,
-        inner,
+        nodes,
         node,
         above - 1,
         below,
         left,
     )?;
-    match inner(&own, &lesser, greater, serializer) {
+    match nodes.write_inner(&own, &lesser, greater, serializer) {
         Ok(pos) => Ok(Some(pos)),
         Err(e) => Err(e),
     }
@@ -180,19 +146,10 @@ fn build_inner<
 
 /// Writes what stands below a lesser pointer, and takes the entry behind it.
 #[cycle(tree)]
-fn build_lesser<
-    T: Copy,
-    M: EntrySpelling<T>,
-    S: Writer,
-    I: Iterator<Item = T>,
-    L: Fn(&[T], &mut S) -> Result<usize, Error>,
-    N: Fn(&[T], &[Option<usize>], Option<usize>, &mut S) -> Result<usize, Error>,
-    const E: usize,
->(
+fn build_lesser<T: Copy, S: Writer, N: NodeStep<T, S, E>, I: Iterator<Item = T>, const E: usize>(
     source: &mut Claimed<I>,
     serializer: &mut S,
-    leaf: &L,
-    inner: &N,
+    nodes: &N,
     node: PhantomData<[T; E]>,
     above: usize,
     wide: usize,
@@ -205,16 +162,13 @@ fn build_lesser<
     requires wanted { source.old.taken + (wide - 1 + last) < source.old.claimed }
     requires room { S.failures serializer.old < 2 ^ 64 - 1 }
     requires state { HasState S.pos S.known serializer.old }
-    requires takes { TakesNodes L.Fn N.Fn E I.next_gives S.Writer leaf.now inner.now source.old.entries }
-    requires writes { WritesNodes L.Fn N.Fn E M.parts M.key_shape M.value_shape M.keys M.values S.Writer leaf.now inner.now }
+    requires takes { TakesEach I.next_gives (N.takes nodes.now) source.old.entries }
     ensures calls { OnOk result (I.can_next source.new.entries × IsFinite (I.remaining source.new.entries)) }
     ensures counts { OnOk result ((source.new.claimed ≡ source.old.claimed) × (source.new.taken ≡ source.old.taken + (wide - 1 + last) + 1)) }
-    ensures built { BuildsLesser E M.key_shape M.value_shape M.keys M.values S.Writer M.parts I.next_gives (suc above) (wide - 1 + last)
+    ensures built { BuildsLesser E N.key_shape N.value_shape N.keys N.values S.Writer N.parts I.next_gives (suc above) (wide - 1 + last)
         source.old.claimed source.old.taken source.old.entries source.new.entries serializer.old serializer.new result }
 {
-    let child = build_tree::<T, M, S, I, L, N, E>(
-        source, serializer, leaf, inner, node, above, wide, last,
-    )?;
+    let child = build_tree::<T, S, N, I, E>(source, serializer, nodes, node, above, wide, last)?;
     let entry = take_entry(source)?;
     Ok((child, entry))
 }
@@ -235,37 +189,31 @@ fn levels_above<const E: usize>(count: usize) -> (usize, usize)
     (above, wide)
 }
 
-/// Writes the packed search tree of entries that come in order, of which is claimed how many come. The answer is the
-/// position of its root. `leaf` writes a leaf of entries, and `inner` an inner node of entries, of what its lesser pointers
-/// lead to, and of what its greater one leads to; each answers the position of the node.
+/// Writes the packed search tree of entries that come in order, of which is claimed how many come, each node by `nodes`. The
+/// answer is the position of its root. `node` names the type of a node's entries, which has a size.
 ///
 /// # Errors
 /// `IteratorLengthMismatch` where fewer entries came, or where more did, which are counted then; what is written for those
 /// that came stays written. Whatever a step is refused for.
 pub fn build_tree_each<
-    'a,
-    K: 'a,
-    V: 'a,
-    M: EntrySpelling<(&'a K, &'a V)>,
+    T: Copy,
     S: Writer,
-    I: Iterator<Item = (&'a K, &'a V)>,
-    L: Fn(&[(&'a K, &'a V)], &mut S) -> Result<usize, Error>,
-    N: Fn(&[(&'a K, &'a V)], &[Option<usize>], Option<usize>, &mut S) -> Result<usize, Error>,
+    N: NodeStep<T, S, E>,
+    I: Iterator<Item = T>,
     const E: usize,
 >(
     claimed: usize,
     entries: I,
     serializer: &mut S,
-    leaf: &L,
-    inner: &N,
+    nodes: &N,
+    node: PhantomData<[T; E]>,
 ) -> Result<Option<usize>, Error>
     requires calls { I.can_next entries × IsFinite (I.remaining entries) }
     requires some { (0 < E) × (E < 2 ^ 32) }
     requires room { S.failures serializer.old < 2 ^ 64 - 1 }
     requires state { HasState S.pos S.known serializer.old }
-    requires takes { TakesNodes L.Fn N.Fn E I.next_gives S.Writer leaf.now inner.now entries }
-    requires writes { WritesNodes L.Fn N.Fn E M.parts M.key_shape M.value_shape M.keys M.values S.Writer leaf.now inner.now }
-    ensures { BuildsClaimed E M.key_shape M.value_shape M.keys M.values S.Writer (GivesAs M.parts I.next_gives) claimed entries serializer.old serializer.new result }
+    requires takes { TakesEach I.next_gives (N.takes nodes.now) entries }
+    ensures { BuildsClaimed E N.key_shape N.value_shape N.keys N.values S.Writer (GivesAs N.parts I.next_gives) claimed entries serializer.old serializer.new result }
 {
     let (above, wide) = levels_above::<E>(claimed);
     let mut source = Claimed {
@@ -273,12 +221,11 @@ pub fn build_tree_each<
         claimed,
         taken: 0,
     };
-    let root = build_tree::<(&'a K, &'a V), M, S, I, L, N, E>(
+    let root = build_tree::<T, S, N, I, E>(
         &mut source,
         serializer,
-        leaf,
-        inner,
-        PhantomData,
+        nodes,
+        node,
         above,
         wide,
         claimed - (wide - 1),

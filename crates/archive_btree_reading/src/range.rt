@@ -216,7 +216,7 @@ impl<K, V: Portable, const E: usize> ArchivedBTreeMap<K, V, E> {
 impl<K: Portable, V: Portable, const E: usize> ArchivedBTreeMap<K, V, E> {
     /// The entries whose keys lie between two bounds by the caller's comparison. `compare` says how the query of a bound
     /// compares with a key: where it does not agree with the order of the keys, the entries are some that stand side by side.
-    pub fn range_with<'a, Q, R: RangeBounds<Q>, F: Fn(&Q, Ref<'a, K>) -> Ordering>(
+    pub fn range_with<'a, Q, R: RangeBounds<Q>, F: Fn(&Q, Ref<'_, K>) -> Ordering>(
         this: Ref<'a, ArchivedBTreeMap<K, V, E>>,
         bounds: R,
         compare: &F,

@@ -5,12 +5,10 @@ mod node;
 mod range;
 mod search;
 mod stepping;
-mod visit;
 mod walk;
 
 pub use node::EntryAt;
 pub use range::Range;
 pub use search::{search_counted, search_tree};
 pub use stepping::EntryWalk;
-pub use visit::visit_tree;
 pub use walk::Walk;

@@ -5,3 +5,6 @@ pub mod Filling
 pub mod Resolving
 pub mod Placing
 pub mod Answered
+pub mod Pairs
+pub mod Viewed
+pub mod Sizes

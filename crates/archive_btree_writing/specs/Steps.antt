@@ -1,5 +1,5 @@
--- What the steps that write the data of entries have to promise.
-use Rattle.std.specs.Prelude.{List, Result, map}
+-- What the steps of keys and of values have to promise.
+use Rattle.std.specs.Prelude.{[], ◌∷◌, Result}
 use denote.Ref.{MutBor}
 use denote.Bor.{Bor}
 use denote.Param.Members.{Shared}
@@ -8,13 +8,13 @@ use Rattle.archive_shape_writing.specs.declared.error.Error.{Error}
 use Rattle.archive_forms_spelling.specs.Spelling.{Spelling}
 use Rattle.archive_forms_writing.specs.Steps.{StepTakes, StepWrites}
 
--- They may be called for the keys and for the values of the entries, and each call writes the data of its key or value. A
--- resolver is seen in what a call answers.
-pub record EntrySteps {A B R Q F G S C D : Type 0}
+-- They may be called for the key and for the value of an entry, and each call writes the data of its key or value. A resolver
+-- is seen in what a call answers.
+pub record PartsWritten {A B R Q F G S C D : Type 0}
     (key : Shared F (Bor A × (MutBor S × Unit {0})) (Result C Error × (MutBor S × Unit {0})))
     (value : Shared G (Bor B × (MutBor S × Unit {0})) (Result D Error × (MutBor S × Unit {0})))
-    (key_resolver : C → R) (value_resolver : D → Q) (keys : Spelling A R) (vals : Spelling B Q) (members : WriterMembers S) (f : F) (g : G) (es : List (Bor A × Bor B)) : Type 0 where
-  pub takes_key : StepTakes key members f (map (λ e. e.0.now) es)
+    (key_resolver : C → R) (value_resolver : D → Q) (keys : Spelling A R) (vals : Spelling B Q) (members : WriterMembers S) (f : F) (g : G) (e : A × B) : Type 0 where
+  pub takes_key : StepTakes key members f (e.0 ∷ [])
   pub writes_key : StepWrites key key_resolver keys members f
-  pub takes_value : StepTakes value members g (map (λ e. e.1.now) es)
+  pub takes_value : StepTakes value members g (e.1 ∷ [])
   pub writes_value : StepWrites value value_resolver vals members g

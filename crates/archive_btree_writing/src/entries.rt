@@ -1,92 +1,52 @@
 //! The entries of a node: their data, and their own bytes.
-ghost use Rattle.std.specs.Prelude.{◌≡◌, ℕ, ◌+◌, ◌-◌, ◌*◌, ◌^◌, ◌<◌, ◌≤◌, length, take, [], ◌∷◌, MatchResult};
+ghost use Rattle.std.specs.Prelude.{◌≡◌, ℕ, ◌+◌, ◌-◌, ◌*◌, ◌^◌, ◌<◌, ◌≤◌, length, take, All, MatchResult};
+ghost use Rattle.std.specs.Map.Iter.{deref_pair};
 ghost use Rattle.archive_shape_layout.specs.Shape.{size_of};
 ghost use Rattle.archive_shape_references.specs.Bytes.{HasBytes, zeros, overwrite};
 ghost use Rattle.archive_forms_spelling.specs.State.{State};
 ghost use Rattle.archive_forms_spelling.specs.Spelling.{state_after};
-ghost use Rattle.archive_forms_spelling.specs.Serializing.{CanResolve, IsAt, HasState, Lays, Resolves, Serializes};
+ghost use Rattle.archive_forms_spelling.specs.Serializing.{CanResolve, IsAt, HasState, Lays, Resolves};
 ghost use Rattle.archive_forms_spelling.specs.Regions.{state_after_all, pieces, resolvers, pieces_fit, pieces_refused};
-ghost use Rattle.archive_forms_writing.specs.Steps.{StepTakes, StepWrites};
 ghost use Rattle.archive_btree_spelling.specs.Written.{slots, AllSlots, AnySlot, key_own, value_own};
 ghost use Rattle.archive_btree_writing.specs.Nodes.{borrowed, borrowed_entry};
-ghost use Rattle.archive_btree_writing.specs.Steps.{EntrySteps};
 
+use crate::EntryStep;
 use archive_forms_writing::Archive;
 use archive_shape::{Allocator, Error, Place, Portable, Writer};
-use std::marker::PhantomData;
 
-/// Writes the data of an entry: that of its key, and then that of its value.
-fn serialize_entry<
-    'a,
-    K: Archive,
-    V: Archive,
-    S: Writer + Allocator,
-    F: Fn(&K, &mut S) -> Result<(K::Resolver, PhantomData<K::Archived>), Error>,
-    G: Fn(&V, &mut S) -> Result<(V::Resolver, PhantomData<V::Archived>), Error>,
-    const E: usize,
->(
-    entry: &(&'a K, &'a V),
-    serializer: &mut S,
-    key_step: &F,
-    value_step: &G,
-) -> Result<(K::Resolver, V::Resolver), Error>
-    requires room { S.failures serializer.old < 2 ^ 64 - 1 }
-    requires state { HasState S.pos S.known serializer.old }
-    requires takes_key { StepTakes F.Fn S.Writer key_step.now (entry.now.0.now ∷ []) }
-    requires writes_key { StepWrites F.Fn (λ q. q.0) K.spelling S.Writer key_step.now }
-    requires takes_value { StepTakes G.Fn S.Writer value_step.now (entry.now.1.now ∷ []) }
-    requires writes_value { StepWrites G.Fn (λ q. q.0) V.spelling S.Writer value_step.now }
-    ensures { Serializes (borrowed_entry E K.Archived.shape V.Archived.shape K.spelling V.spelling) S.Writer entry.now serializer.old serializer.new result }
-{
-    let key = match key_step(entry.0, serializer) {
-        Ok(done) => done.0,
-        Err(e) => return Err(e),
-    };
-    let value = match value_step(entry.1, serializer) {
-        Ok(done) => done.0,
-        Err(e) => return Err(e),
-    };
-    Ok((key, value))
-}
-
-/// Writes the data of the entries of a node. Their resolvers are the first ones of the answer.
+/// Writes the data of the entries of a node, by a step. Their resolvers are the first ones of the answer.
 pub fn serialize_entries<
     'a,
     K: Archive,
     V: Archive,
     S: Writer + Allocator,
-    F: Fn(&K, &mut S) -> Result<(K::Resolver, PhantomData<K::Archived>), Error>,
-    G: Fn(&V, &mut S) -> Result<(V::Resolver, PhantomData<V::Archived>), Error>,
+    C: EntryStep<K, V, S>,
     const E: usize,
 >(
     entries: &[(&'a K, &'a V)],
     serializer: &mut S,
-    key_step: &F,
-    value_step: &G,
+    step: &C,
 ) -> Result<[(K::Resolver, V::Resolver); E], Error>
     requires some { 0 < length entries.now }
     requires few { length entries.now ≤ E }
+    requires taken { All (λ e. C.takes step.now (deref_pair e)) entries.now }
     requires room { S.failures serializer.old < 2 ^ 64 - 1 }
     requires state { HasState S.pos S.known serializer.old }
-    requires steps { EntrySteps F.Fn G.Fn (λ q. q.0) (λ q. q.0) K.spelling V.spelling S.Writer key_step.now value_step.now entries.now }
     ensures { (st : State) → IsAt S.pos S.known serializer.old st
         → let w = borrowed_entry E K.Archived.shape V.Archived.shape K.spelling V.spelling in
         Lays S.Writer serializer.old serializer.new (pieces w entries.now st)
         (λ all. (take (length entries.now) all ≡ resolvers w entries.now st) × pieces_fit w entries.now st × IsAt S.pos S.known serializer.new (state_after_all w entries.now st))
         (pieces_refused w entries.now st) result }
 {
-    let first = match serialize_entry::<K, V, S, F, G, E>(
-        &entries[0],
-        serializer,
-        key_step,
-        value_step,
-    ) {
+    let first = &entries[0];
+    let first = match step.serialize_entry(first.0, first.1, serializer) {
         Ok(done) => done,
         Err(e) => return Err(e),
     };
     let mut kept = [first; E];
     for i in 1..entries.len() {
-        match serialize_entry::<K, V, S, F, G, E>(&entries[i], serializer, key_step, value_step) {
+        let entry = &entries[i];
+        match step.serialize_entry(entry.0, entry.1, serializer) {
             Ok(done) => kept[i] = done,
             Err(e) => return Err(e),
         }

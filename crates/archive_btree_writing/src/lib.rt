@@ -3,9 +3,10 @@
 
 mod children;
 mod entries;
+mod laying;
 mod nodes;
+mod steps;
 mod words;
 
-pub use children::Children;
-pub use entries::serialize_entries;
-pub use nodes::write_kept;
+pub use laying::{write_inner_each, write_leaf_each};
+pub use steps::{EntryParts, EntryStep, SerializeEntry};

@@ -8,7 +8,7 @@ use Rattle.archive_btree_building.proofs.Taken.{take_one, take_set, on_err}
 use Rattle.archive_btree_building.proofs.Closing.{none_built, ended_behind, cut_wider}
 use Rattle.archive_btree_building.proofs.Widths.{ToGo, some_wide, inner_above, below_is, child_size, togo_none, togo_more, togo_room, togo_end}
 use Rattle.archive_btree_building.proofs.Opening.{open_state, open_came}
-use Rattle.archive_btree_building.proofs.Stepping.{takes_later}
+use Rattle.archive_btree_building.proofs.Stepping.{takes_later, takes_all}
 use Rattle.archive_btree_building.proofs.Children.{opened_none, opened_more, cut_below, may_come_end, state_end, built_inner, cut_inner}
 use Rattle.archive_btree_building.proofs.tree.+tree.Goals as goal
 
@@ -29,13 +29,12 @@ build_inner-build_lesser-requires g t c κs within =
     let room = c.requires.room in
     let state = c.requires.state in
     let takes = c.requires.takes in
-    let writes = c.requires.writes in
     search rules
 
 pub build_inner-returns-in_err-child-clause-built : goal.build_inner-returns-in_err-child-clause-built
 build_inner-returns-in_err-child-clause-built g t c =
     let E = g.row.E in
-    let m = g.M.EntrySpelling in
+    let m = g.N.NodeStep in
     let s : WriterMembers g.row.S.Denot = record { known = g.S.Registry.known; pos = g.S.Positional.pos; OBSERVABLE = g.S.Writer.OBSERVABLE; COUNTS = g.S.Writer.COUNTS; contents = g.S.Writer.contents; failures = g.S.Writer.failures; last_error = g.S.Writer.last_error } in
     let up = inner_above E c.args.above c.args.wide c.args.last c.requires.some.0 c.requires.wide c.requires.fits c.requires.many in
     let n = c.args.wide - 1 + c.args.last in
@@ -51,7 +50,7 @@ build_inner-returns-in_err-child-clause-built g t c =
 pub build_inner-loop-i-init : goal.build_inner-loop-i-init
 build_inner-loop-i-init g t c =
     let E = g.row.E in
-    let m = g.M.EntrySpelling in
+    let m = g.N.NodeStep in
     let s : WriterMembers g.row.S.Denot = record { known = g.S.Registry.known; pos = g.S.Positional.pos; OBSERVABLE = g.S.Writer.OBSERVABLE; COUNTS = g.S.Writer.COUNTS; contents = g.S.Writer.contents; failures = g.S.Writer.failures; last_error = g.S.Writer.last_error } in
     let up = inner_above E c.args.above c.args.wide c.args.last c.requires.some.0 c.requires.wide c.requires.fits c.requires.many in
     let n = c.args.wide - 1 + c.args.last in
@@ -89,7 +88,7 @@ build_inner-overflow_sub-above-in-loop-i g t c =
 pub build_inner-build_lesser-requires-in-loop-i : goal.build_inner-build_lesser-requires-in-loop-i
 build_inner-build_lesser-requires-in-loop-i g t c κs within =
     let E = g.row.E in
-    let m = g.M.EntrySpelling in
+    let m = g.N.NodeStep in
     let s : WriterMembers g.row.S.Denot = record { known = g.S.Registry.known; pos = g.S.Positional.pos; OBSERVABLE = g.S.Writer.OBSERVABLE; COUNTS = g.S.Writer.COUNTS; contents = g.S.Writer.contents; failures = g.S.Writer.failures; last_error = g.S.Writer.last_error } in
     let up = inner_above E c.args.above c.args.wide c.args.last c.requires.some.0 c.requires.wide c.requires.fits c.requires.many in
     let n = c.args.wide - 1 + c.args.last in
@@ -108,14 +107,13 @@ build_inner-build_lesser-requires-in-loop-i g t c κs within =
     let calls = inv.calls in
     let room : s.failures c.loop-i.serializer < 2 ^ 64 - 1 = omega (arith, now.1, c.requires.room) in
     let state = now.0 in
-    let takes = takes_later g.L.Fn g.N.Fn E g.I.Iterator.next_gives s c.args.leaf.now c.args.inner.now c.args.source.now.entries c.loop-i.source.entries came.0 came.1 c.requires.takes in
-    let writes = c.requires.writes in
+    let takes = takes_later g.I.Iterator.next_gives (g.N.NodeStep.takes c.args.nodes.now) c.args.source.now.entries c.requires.takes c.loop-i.source.entries came.0 came.1 in
     search rules
 
 pub build_inner-returns-in_err-child-2-clause-built : goal.build_inner-returns-in_err-child-2-clause-built
 build_inner-returns-in_err-child-2-clause-built g t c =
     let E = g.row.E in
-    let m = g.M.EntrySpelling in
+    let m = g.N.NodeStep in
     let s : WriterMembers g.row.S.Denot = record { known = g.S.Registry.known; pos = g.S.Positional.pos; OBSERVABLE = g.S.Writer.OBSERVABLE; COUNTS = g.S.Writer.COUNTS; contents = g.S.Writer.contents; failures = g.S.Writer.failures; last_error = g.S.Writer.last_error } in
     let up = inner_above E c.args.above c.args.wide c.args.last c.requires.some.0 c.requires.wide c.requires.fits c.requires.many in
     let n = c.args.wide - 1 + c.args.last in
@@ -133,7 +131,7 @@ build_inner-returns-in_err-child-2-clause-built g t c =
 pub build_inner-loop-i-preserved : goal.build_inner-loop-i-preserved
 build_inner-loop-i-preserved g t c =
     let E = g.row.E in
-    let m = g.M.EntrySpelling in
+    let m = g.N.NodeStep in
     let s : WriterMembers g.row.S.Denot = record { known = g.S.Registry.known; pos = g.S.Positional.pos; OBSERVABLE = g.S.Writer.OBSERVABLE; COUNTS = g.S.Writer.COUNTS; contents = g.S.Writer.contents; failures = g.S.Writer.failures; last_error = g.S.Writer.last_error } in
     let up = inner_above E c.args.above c.args.wide c.args.last c.requires.some.0 c.requires.wide c.requires.fits c.requires.many in
     let n = c.args.wide - 1 + c.args.last in
@@ -173,7 +171,7 @@ build_inner-overflow_sub-above-2 g t c =
 pub build_inner-build_tree-requires : goal.build_inner-build_tree-requires
 build_inner-build_tree-requires g t c κs within =
     let E = g.row.E in
-    let m = g.M.EntrySpelling in
+    let m = g.N.NodeStep in
     let s : WriterMembers g.row.S.Denot = record { known = g.S.Registry.known; pos = g.S.Positional.pos; OBSERVABLE = g.S.Writer.OBSERVABLE; COUNTS = g.S.Writer.COUNTS; contents = g.S.Writer.contents; failures = g.S.Writer.failures; last_error = g.S.Writer.last_error } in
     let up = inner_above E c.args.above c.args.wide c.args.last c.requires.some.0 c.requires.wide c.requires.fits c.requires.many in
     let n = c.args.wide - 1 + c.args.last in
@@ -193,14 +191,13 @@ build_inner-build_tree-requires g t c κs within =
     let calls = inv.calls in
     let room : s.failures c.loop-i.serializer < 2 ^ 64 - 1 = omega (arith, now.1, c.requires.room) in
     let state = now.0 in
-    let takes = takes_later g.L.Fn g.N.Fn E g.I.Iterator.next_gives s c.args.leaf.now c.args.inner.now c.args.source.now.entries c.loop-i.source.entries came.0 came.1 c.requires.takes in
-    let writes = c.requires.writes in
+    let takes = takes_later g.I.Iterator.next_gives (g.N.NodeStep.takes c.args.nodes.now) c.args.source.now.entries c.requires.takes c.loop-i.source.entries came.0 came.1 in
     search rules
 
 pub build_inner-returns-in_err-greater-clause-built : goal.build_inner-returns-in_err-greater-clause-built
 build_inner-returns-in_err-greater-clause-built g t c =
     let E = g.row.E in
-    let m = g.M.EntrySpelling in
+    let m = g.N.NodeStep in
     let s : WriterMembers g.row.S.Denot = record { known = g.S.Registry.known; pos = g.S.Positional.pos; OBSERVABLE = g.S.Writer.OBSERVABLE; COUNTS = g.S.Writer.COUNTS; contents = g.S.Writer.contents; failures = g.S.Writer.failures; last_error = g.S.Writer.last_error } in
     let up = inner_above E c.args.above c.args.wide c.args.last c.requires.some.0 c.requires.wide c.requires.fits c.requires.many in
     let n = c.args.wide - 1 + c.args.last in
@@ -216,10 +213,38 @@ build_inner-returns-in_err-greater-clause-built g t c =
     size (omega (arith, ends.1, end)) (λ z. ends.1) (omega (arith, ends.1)) inv.claims (omega (arith, inv.further))
     inv.opened c.in_err-greater.ensures.built)
 
-pub build_inner-inner-requires : goal.build_inner-inner-requires
-build_inner-inner-requires g t c =
+pub build_inner-write_inner-requires-clause-full : goal.build_inner-write_inner-requires-clause-full
+build_inner-write_inner-requires-clause-full g t c =
+    let inv = c.loop-i.invariant in
+    inv.entries
+
+pub build_inner-write_inner-requires-clause-some : goal.build_inner-write_inner-requires-clause-some
+build_inner-write_inner-requires-clause-some g t c =
+    c.requires.some
+
+pub build_inner-write_inner-requires-clause-pointers : goal.build_inner-write_inner-requires-clause-pointers
+build_inner-write_inner-requires-clause-pointers g t c =
+    let inv = c.loop-i.invariant in
+    inv.pointers
+
+pub build_inner-write_inner-requires-clause-taken : goal.build_inner-write_inner-requires-clause-taken
+build_inner-write_inner-requires-clause-taken g t c =
     let E = g.row.E in
-    let m = g.M.EntrySpelling in
+    let m = g.N.NodeStep in
+    let s : WriterMembers g.row.S.Denot = record { known = g.S.Registry.known; pos = g.S.Positional.pos; OBSERVABLE = g.S.Writer.OBSERVABLE; COUNTS = g.S.Writer.COUNTS; contents = g.S.Writer.contents; failures = g.S.Writer.failures; last_error = g.S.Writer.last_error } in
+    let up = inner_above E c.args.above c.args.wide c.args.last c.requires.some.0 c.requires.wide c.requires.fits c.requires.many in
+    let n = c.args.wide - 1 + c.args.last in
+    let b = c.args.wide / (E + 1) in
+    let inv = c.loop-i.invariant in
+    let done = c.loop-i.source.taken - c.args.source.now.taken in
+    let end : c.loop-i.i ≡ E = omega (arith, c.loop-i-test.false, inv.within) in
+    let ends = togo_end E c.args.above c.args.wide c.args.last c.requires.some.0 c.requires.wide c.requires.fits c.requires.many c.loop-i.i c.loop-i.left done end inv.left inv.togo in
+    takes_all g.I.Iterator.next_gives (g.N.NodeStep.takes c.args.nodes.now) c.args.source.now.entries c.requires.takes c.loop-i.own (may_come_end E m.key_shape m.value_shape m.keys m.values s m.parts g.I.Iterator.next_gives c.args.source.now.entries c.args.serializer.now c.args.above up n c.requires.many done (b - 1 + c.loop-i.left) c.loop-i.i c.loop-i.source.entries c.build_tree.new.source.entries c.loop-i.serializer c.build_tree.new.serializer c.build_tree.new.serializer c.loop-i.lesser c.loop-i.own c.in_ok-greater.greater end inv.pointers inv.entries ends.1 inv.opened c.in_ok-greater.ensures.built)
+
+pub build_inner-write_inner-requires-clause-room : goal.build_inner-write_inner-requires-clause-room
+build_inner-write_inner-requires-clause-room g t c =
+    let E = g.row.E in
+    let m = g.N.NodeStep in
     let s : WriterMembers g.row.S.Denot = record { known = g.S.Registry.known; pos = g.S.Positional.pos; OBSERVABLE = g.S.Writer.OBSERVABLE; COUNTS = g.S.Writer.COUNTS; contents = g.S.Writer.contents; failures = g.S.Writer.failures; last_error = g.S.Writer.last_error } in
     let up = inner_above E c.args.above c.args.wide c.args.last c.requires.some.0 c.requires.wide c.requires.fits c.requires.many in
     let n = c.args.wide - 1 + c.args.last in
@@ -230,12 +255,27 @@ build_inner-inner-requires g t c =
     let ends = togo_end E c.args.above c.args.wide c.args.last c.requires.some.0 c.requires.wide c.requires.fits c.requires.many c.loop-i.i c.loop-i.left done end inv.left inv.togo in
     let state = state_end E m.key_shape m.value_shape m.keys m.values s m.parts g.I.Iterator.next_gives c.args.source.now.entries c.args.serializer.now c.args.above up n c.requires.many done (b - 1 + c.loop-i.left) c.loop-i.i c.loop-i.source.entries c.build_tree.new.source.entries c.loop-i.serializer c.build_tree.new.serializer c.build_tree.new.serializer c.loop-i.lesser c.loop-i.own c.in_ok-greater.greater end inv.pointers inv.entries ends.1 inv.opened c.in_ok-greater.ensures.built c.requires.state in
     let room : s.failures c.build_tree.new.serializer < 2 ^ 64 - 1 = omega (arith, state.1, c.requires.room) in
-    c.requires.takes.inners _ _ _ _ inv.entries inv.pointers (may_come_end E m.key_shape m.value_shape m.keys m.values s m.parts g.I.Iterator.next_gives c.args.source.now.entries c.args.serializer.now c.args.above up n c.requires.many done (b - 1 + c.loop-i.left) c.loop-i.i c.loop-i.source.entries c.build_tree.new.source.entries c.loop-i.serializer c.build_tree.new.serializer c.build_tree.new.serializer c.loop-i.lesser c.loop-i.own c.in_ok-greater.greater end inv.pointers inv.entries ends.1 inv.opened c.in_ok-greater.ensures.built) room state.0
+    omega (arith, state.1, c.requires.room)
+
+pub build_inner-write_inner-requires-clause-state : goal.build_inner-write_inner-requires-clause-state
+build_inner-write_inner-requires-clause-state g t c =
+    let E = g.row.E in
+    let m = g.N.NodeStep in
+    let s : WriterMembers g.row.S.Denot = record { known = g.S.Registry.known; pos = g.S.Positional.pos; OBSERVABLE = g.S.Writer.OBSERVABLE; COUNTS = g.S.Writer.COUNTS; contents = g.S.Writer.contents; failures = g.S.Writer.failures; last_error = g.S.Writer.last_error } in
+    let up = inner_above E c.args.above c.args.wide c.args.last c.requires.some.0 c.requires.wide c.requires.fits c.requires.many in
+    let n = c.args.wide - 1 + c.args.last in
+    let b = c.args.wide / (E + 1) in
+    let inv = c.loop-i.invariant in
+    let done = c.loop-i.source.taken - c.args.source.now.taken in
+    let end : c.loop-i.i ≡ E = omega (arith, c.loop-i-test.false, inv.within) in
+    let ends = togo_end E c.args.above c.args.wide c.args.last c.requires.some.0 c.requires.wide c.requires.fits c.requires.many c.loop-i.i c.loop-i.left done end inv.left inv.togo in
+    let state = state_end E m.key_shape m.value_shape m.keys m.values s m.parts g.I.Iterator.next_gives c.args.source.now.entries c.args.serializer.now c.args.above up n c.requires.many done (b - 1 + c.loop-i.left) c.loop-i.i c.loop-i.source.entries c.build_tree.new.source.entries c.loop-i.serializer c.build_tree.new.serializer c.build_tree.new.serializer c.loop-i.lesser c.loop-i.own c.in_ok-greater.greater end inv.pointers inv.entries ends.1 inv.opened c.in_ok-greater.ensures.built c.requires.state in
+    state.0
 
 pub build_inner-returns-in-Ok-clause-built : goal.build_inner-returns-in-Ok-clause-built
 build_inner-returns-in-Ok-clause-built g t c =
     let E = g.row.E in
-    let m = g.M.EntrySpelling in
+    let m = g.N.NodeStep in
     let s : WriterMembers g.row.S.Denot = record { known = g.S.Registry.known; pos = g.S.Positional.pos; OBSERVABLE = g.S.Writer.OBSERVABLE; COUNTS = g.S.Writer.COUNTS; contents = g.S.Writer.contents; failures = g.S.Writer.failures; last_error = g.S.Writer.last_error } in
     let up = inner_above E c.args.above c.args.wide c.args.last c.requires.some.0 c.requires.wide c.requires.fits c.requires.many in
     let n = c.args.wide - 1 + c.args.last in
@@ -244,15 +284,12 @@ build_inner-returns-in-Ok-clause-built g t c =
     let done = c.loop-i.source.taken - c.args.source.now.taken in
     let end : c.loop-i.i ≡ E = omega (arith, c.loop-i-test.false, inv.within) in
     let ends = togo_end E c.args.above c.args.wide c.args.last c.requires.some.0 c.requires.wide c.requires.fits c.requires.many c.loop-i.i c.loop-i.left done end inv.left inv.togo in
-    let state = state_end E m.key_shape m.value_shape m.keys m.values s m.parts g.I.Iterator.next_gives c.args.source.now.entries c.args.serializer.now c.args.above up n c.requires.many done (b - 1 + c.loop-i.left) c.loop-i.i c.loop-i.source.entries c.build_tree.new.source.entries c.loop-i.serializer c.build_tree.new.serializer c.build_tree.new.serializer c.loop-i.lesser c.loop-i.own c.in_ok-greater.greater end inv.pointers inv.entries ends.1 inv.opened c.in_ok-greater.ensures.built c.requires.state in
-    let room : s.failures c.build_tree.new.serializer < 2 ^ 64 - 1 = omega (arith, state.1, c.requires.room) in
-    built_inner E m.key_shape m.value_shape m.keys m.values s m.parts g.I.Iterator.next_gives c.args.source.now.entries c.args.serializer.now c.args.above up n c.requires.many done (b - 1 + c.loop-i.left) c.loop-i.i c.loop-i.source.entries c.build_tree.new.source.entries c.loop-i.serializer c.build_tree.new.serializer c.inner.new.arg5 c.loop-i.lesser c.loop-i.own c.in_ok-greater.greater end inv.pointers inv.entries ends.1 inv.opened c.in_ok-greater.ensures.built c.in-Ok.pos
-    (c.requires.writes.inners _ _ _ _ _ _ inv.entries inv.pointers room state.0 c.in-Ok.ensures)
+    built_inner E m.key_shape m.value_shape m.keys m.values s m.parts g.I.Iterator.next_gives c.args.source.now.entries c.args.serializer.now c.args.above up n c.requires.many done (b - 1 + c.loop-i.left) c.loop-i.i c.loop-i.source.entries c.build_tree.new.source.entries c.loop-i.serializer c.build_tree.new.serializer c.write_inner.new.serializer c.loop-i.lesser c.loop-i.own c.in_ok-greater.greater end inv.pointers inv.entries ends.1 inv.opened c.in_ok-greater.ensures.built c.in-Ok.pos c.in-Ok.ensures
 
 pub build_inner-returns-in-Err-clause-built : goal.build_inner-returns-in-Err-clause-built
 build_inner-returns-in-Err-clause-built g t c =
     let E = g.row.E in
-    let m = g.M.EntrySpelling in
+    let m = g.N.NodeStep in
     let s : WriterMembers g.row.S.Denot = record { known = g.S.Registry.known; pos = g.S.Positional.pos; OBSERVABLE = g.S.Writer.OBSERVABLE; COUNTS = g.S.Writer.COUNTS; contents = g.S.Writer.contents; failures = g.S.Writer.failures; last_error = g.S.Writer.last_error } in
     let up = inner_above E c.args.above c.args.wide c.args.last c.requires.some.0 c.requires.wide c.requires.fits c.requires.many in
     let n = c.args.wide - 1 + c.args.last in
@@ -261,17 +298,14 @@ build_inner-returns-in-Err-clause-built g t c =
     let done = c.loop-i.source.taken - c.args.source.now.taken in
     let end : c.loop-i.i ≡ E = omega (arith, c.loop-i-test.false, inv.within) in
     let ends = togo_end E c.args.above c.args.wide c.args.last c.requires.some.0 c.requires.wide c.requires.fits c.requires.many c.loop-i.i c.loop-i.left done end inv.left inv.togo in
-    let state = state_end E m.key_shape m.value_shape m.keys m.values s m.parts g.I.Iterator.next_gives c.args.source.now.entries c.args.serializer.now c.args.above up n c.requires.many done (b - 1 + c.loop-i.left) c.loop-i.i c.loop-i.source.entries c.build_tree.new.source.entries c.loop-i.serializer c.build_tree.new.serializer c.build_tree.new.serializer c.loop-i.lesser c.loop-i.own c.in_ok-greater.greater end inv.pointers inv.entries ends.1 inv.opened c.in_ok-greater.ensures.built c.requires.state in
-    let room : s.failures c.build_tree.new.serializer < 2 ^ 64 - 1 = omega (arith, state.1, c.requires.room) in
-    cut_inner E m.key_shape m.value_shape m.keys m.values s m.parts g.I.Iterator.next_gives c.args.source.now.entries c.args.serializer.now c.args.above up n c.requires.many done (b - 1 + c.loop-i.left) c.loop-i.i c.loop-i.source.entries c.build_tree.new.source.entries c.loop-i.serializer c.build_tree.new.serializer c.inner.new.arg5 c.loop-i.lesser c.loop-i.own c.in_ok-greater.greater end inv.pointers inv.entries ends.1 inv.opened c.in_ok-greater.ensures.built c.args.source.now.claimed c.args.source.now.taken c.in-Err.e
-    (c.requires.writes.inners _ _ _ _ _ _ inv.entries inv.pointers room state.0 c.in-Err.ensures)
+    cut_inner E m.key_shape m.value_shape m.keys m.values s m.parts g.I.Iterator.next_gives c.args.source.now.entries c.args.serializer.now c.args.above up n c.requires.many done (b - 1 + c.loop-i.left) c.loop-i.i c.loop-i.source.entries c.build_tree.new.source.entries c.loop-i.serializer c.build_tree.new.serializer c.write_inner.new.serializer c.loop-i.lesser c.loop-i.own c.in_ok-greater.greater end inv.pointers inv.entries ends.1 inv.opened c.in_ok-greater.ensures.built c.args.source.now.claimed c.args.source.now.taken c.in-Err.e c.in-Err.ensures
 
 -- ---- what stands below a lesser pointer
 
 pub build_lesser-returns-in_err-child-clause-built : goal.build_lesser-returns-in_err-child-clause-built
 build_lesser-returns-in_err-child-clause-built g t c =
     let E = g.row.E in
-    let m = g.M.EntrySpelling in
+    let m = g.N.NodeStep in
     let s : WriterMembers g.row.S.Denot = record { known = g.S.Registry.known; pos = g.S.Positional.pos; OBSERVABLE = g.S.Writer.OBSERVABLE; COUNTS = g.S.Writer.COUNTS; contents = g.S.Writer.contents; failures = g.S.Writer.failures; last_error = g.S.Writer.last_error } in
     on_err _ _ c.from_residual.result c.in_err-child.field-0.0 (search rules)
     (cut_wider (packed_spelling E m.key_shape m.value_shape m.keys m.values (suc c.args.above)) s (GivesAs m.parts g.I.Iterator.next_gives) c.args.source.now.claimed c.args.source.now.taken (c.args.wide - 1 + c.args.last) c.args.source.now.entries c.args.serializer.now c.build_tree.new.serializer c.in_err-child.field-0.0 c.in_err-child.ensures.built)
@@ -279,7 +313,7 @@ build_lesser-returns-in_err-child-clause-built g t c =
 pub build_lesser-returns-in_err-entry-clause-built : goal.build_lesser-returns-in_err-entry-clause-built
 build_lesser-returns-in_err-entry-clause-built g t c =
     let E = g.row.E in
-    let m = g.M.EntrySpelling in
+    let m = g.N.NodeStep in
     let s : WriterMembers g.row.S.Denot = record { known = g.S.Registry.known; pos = g.S.Positional.pos; OBSERVABLE = g.S.Writer.OBSERVABLE; COUNTS = g.S.Writer.COUNTS; contents = g.S.Writer.contents; failures = g.S.Writer.failures; last_error = g.S.Writer.last_error } in
     let told = c.in_ok-child.ensures.counts in
     let ended = c.in_err-entry.ensures.taken in
@@ -296,7 +330,7 @@ build_tree-overflow_sub-count g t c =
 pub build_tree-returns-then-count-eq0-clause-built : goal.build_tree-returns-then-count-eq0-clause-built
 build_tree-returns-then-count-eq0-clause-built g t c =
     let E = g.row.E in
-    let m = g.M.EntrySpelling in
+    let m = g.N.NodeStep in
     let s : WriterMembers g.row.S.Denot = record { known = g.S.Registry.known; pos = g.S.Positional.pos; OBSERVABLE = g.S.Writer.OBSERVABLE; COUNTS = g.S.Writer.COUNTS; contents = g.S.Writer.contents; failures = g.S.Writer.failures; last_error = g.S.Writer.last_error } in
     none_built E m.key_shape m.value_shape m.keys m.values s m.parts g.I.Iterator.next_gives (packed_spelling E m.key_shape m.value_shape m.keys m.values c.args.above) c.args.source.now.entries c.args.serializer.now
     (c.args.wide - 1 + c.args.last) (omega (arith, c.if-count-eq0.true))

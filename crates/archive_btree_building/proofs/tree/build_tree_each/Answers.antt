@@ -12,7 +12,7 @@ use Rattle.archive_btree_building.proofs.tree.build_tree_each.Goals as goal
 pub returns-in_err-root : goal.returns-in_err-root
 returns-in_err-root g c =
     let E = g.row.E in
-    let m = g.M.EntrySpelling in
+    let m = g.N.NodeStep in
     let s : WriterMembers g.row.S.Denot = record { known = g.S.Registry.known; pos = g.S.Positional.pos; OBSERVABLE = g.S.Writer.OBSERVABLE; COUNTS = g.S.Writer.COUNTS; contents = g.S.Writer.contents; failures = g.S.Writer.failures; last_error = g.S.Writer.last_error } in
     let gives = GivesAs m.parts g.I.Iterator.next_gives in
     let levels = c.levels_above-above.ensures in
@@ -28,7 +28,7 @@ returns-in_err-root g c =
 pub returns-in_err-finish : goal.returns-in_err-finish
 returns-in_err-finish g c =
     let E = g.row.E in
-    let m = g.M.EntrySpelling in
+    let m = g.N.NodeStep in
     let s : WriterMembers g.row.S.Denot = record { known = g.S.Registry.known; pos = g.S.Positional.pos; OBSERVABLE = g.S.Writer.OBSERVABLE; COUNTS = g.S.Writer.COUNTS; contents = g.S.Writer.contents; failures = g.S.Writer.failures; last_error = g.S.Writer.last_error } in
     let gives = GivesAs m.parts g.I.Iterator.next_gives in
     let levels = c.levels_above-above.ensures in
@@ -47,7 +47,7 @@ returns-in_err-finish g c =
 pub returns : goal.returns
 returns g c =
     let E = g.row.E in
-    let m = g.M.EntrySpelling in
+    let m = g.N.NodeStep in
     let s : WriterMembers g.row.S.Denot = record { known = g.S.Registry.known; pos = g.S.Positional.pos; OBSERVABLE = g.S.Writer.OBSERVABLE; COUNTS = g.S.Writer.COUNTS; contents = g.S.Writer.contents; failures = g.S.Writer.failures; last_error = g.S.Writer.last_error } in
     let gives = GivesAs m.parts g.I.Iterator.next_gives in
     let levels = c.levels_above-above.ensures in

@@ -1,0 +1,80 @@
+//! Search trees of entries that come in order.
+ghost use Rattle.std.specs.Prelude.{◌≡◌, ℕ, ◌-◌, ◌^◌, ◌<◌, ⊤};
+ghost use Rattle.std.specs.Iterator.{IsFinite};
+ghost use Rattle.std.specs.Map.Iter.{deref_pair};
+ghost use Rattle.archive_forms_spelling.specs.Serializing.{HasState};
+ghost use Rattle.archive_btree_building.specs.Taking.{GivesAs};
+ghost use Rattle.archive_btree_building.specs.Built.{BuildsClaimedBy};
+ghost use Rattle.archive_btree.specs.Owned.{TakesEntries};
+
+use crate::nodes::NodeWriter;
+use archive_btree_building::build_tree_each;
+use archive_btree_reading::BTreeMapResolver;
+use archive_btree_writing::{EntryStep, SerializeEntry};
+use archive_forms_writing::{Archive, Serialize};
+use archive_shape::{Allocator, Error, Writer};
+use std::marker::PhantomData;
+
+/// How many entries a node has at most.
+const MOST: usize = u32::MAX as usize;
+
+/// Writes the search tree of the entries of a map, which come in order and whose data a step writes. `claimed` is how many
+/// come.
+///
+/// # Errors
+/// `IteratorLengthMismatch` where fewer entries came, or where more did, which are counted then; what is written for those
+/// that came stays written. Whatever the step is refused for. `OutOfMemory` where a node is to have 2^32 entries or more.
+pub fn serialize_from_ordered_iter_each<
+    'a,
+    K: Archive + 'a,
+    V: Archive + 'a,
+    S: Writer + Allocator,
+    C: EntryStep<K, V, S>,
+    I: Iterator<Item = (&'a K, &'a V)>,
+    const E: usize,
+>(claimed: usize, entries: I, serializer: &mut S, step: &C) -> Result<BTreeMapResolver, Error>
+    requires calls { I.can_next entries × IsFinite (I.remaining entries) }
+    requires some { 0 < E }
+    requires room { S.failures serializer.old < 2 ^ 64 - 1 }
+    requires state { HasState S.pos S.known serializer.old }
+    requires takes { TakesEntries I.next_gives C.takes step.now entries }
+    ensures { BuildsClaimedBy E K.Archived.shape V.Archived.shape K.spelling V.spelling S.Writer (GivesAs deref_pair I.next_gives) (λ r. r.pos) claimed entries serializer.old serializer.new result }
+{
+    if E > MOST {
+        return Err(Error::OutOfMemory);
+    }
+    let nodes = NodeWriter { step };
+    match build_tree_each::<(&'a K, &'a V), S, _, I, E>(
+        claimed,
+        entries,
+        serializer,
+        &nodes,
+        PhantomData,
+    ) {
+        Ok(pos) => Ok(BTreeMapResolver { pos }),
+        Err(e) => Err(e),
+    }
+}
+
+/// Writes the search tree of the entries of a map, which come in order, as `serialize_from_ordered_iter_each` does.
+pub fn serialize_from_ordered_iter<
+    'a,
+    S: Writer + Allocator,
+    K: Serialize<S> + 'a,
+    V: Serialize<S> + 'a,
+    I: Iterator<Item = (&'a K, &'a V)>,
+    const E: usize,
+>(claimed: usize, entries: I, serializer: &mut S) -> Result<BTreeMapResolver, Error>
+    requires calls { I.can_next entries × IsFinite (I.remaining entries) }
+    requires some { 0 < E }
+    requires room { S.failures serializer.old < 2 ^ 64 - 1 }
+    requires state { HasState S.pos S.known serializer.old }
+    ensures { BuildsClaimedBy E K.Archived.shape V.Archived.shape K.spelling V.spelling S.Writer (GivesAs deref_pair I.next_gives) (λ r. r.pos) claimed entries serializer.old serializer.new result }
+{
+    serialize_from_ordered_iter_each::<K, V, S, SerializeEntry, I, E>(
+        claimed,
+        entries,
+        serializer,
+        &SerializeEntry,
+    )
+}

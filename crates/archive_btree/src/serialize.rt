@@ -1,0 +1,60 @@
+//! Maps of std are written as search trees.
+ghost use Rattle.std.specs.Prelude.{◌≡◌, ◌-◌, ◌^◌, ◌<◌, All, length};
+ghost use Rattle.std.specs.Map.Iter.{TakesFirst, deref_pair};
+ghost use Rattle.archive_forms_spelling.specs.Forms.{seen_as};
+ghost use Rattle.archive_forms_spelling.specs.Serializing.{HasState, Serializes};
+ghost use Rattle.archive_btree.specs.Owned.{TakesEntries, entries_spelling};
+
+use crate::{OwnedBTreeMap, serialize_from_ordered_iter_each};
+use archive_btree_reading::BTreeMapResolver;
+use archive_btree_writing::{EntryStep, SerializeEntry};
+use archive_forms_writing::{Archive, Serialize};
+use archive_shape::{Allocator, Error, Writer};
+use std::collections::btree_map::Iter;
+
+/// Writes the search tree of the entries of a map that are left, the data of which a step writes.
+fn serialize_rest_each<
+    'a,
+    K: Archive + 'a,
+    V: Archive + 'a,
+    S: Writer + Allocator,
+    C: EntryStep<K, V, S>,
+    const E: usize,
+>(
+    len: usize,
+    entries: Iter<'a, K, V>,
+    serializer: &mut S,
+    step: &C,
+) -> Result<BTreeMapResolver, Error>
+    requires some { 0 < E }
+    requires counted { len ≡ length entries }
+    requires room { S.failures serializer.old < 2 ^ 64 - 1 }
+    requires state { HasState S.pos S.known serializer.old }
+    requires takes { TakesEntries (TakesFirst deref_pair) C.takes step.now entries }
+    ensures { Serializes (entries_spelling E K.Archived.shape V.Archived.shape K.spelling V.spelling) S.Writer entries.entry serializer.old serializer.new result }
+{
+    serialize_from_ordered_iter_each::<K, V, S, C, _, E>(len, entries, serializer, step)
+}
+
+/// Writes the search tree of a map, the data of whose entries a step writes.
+pub fn serialize_map_each<
+    K: Archive + Ord,
+    V: Archive,
+    S: Writer + Allocator,
+    C: EntryStep<K, V, S>,
+    const E: usize,
+>(map: &OwnedBTreeMap<K, V, E>, serializer: &mut S, step: &C) -> Result<BTreeMapResolver, Error>
+    requires room { S.failures serializer.old < 2 ^ 64 - 1 }
+    requires state { HasState S.pos S.known serializer.old }
+    requires takes { All (C.takes step.now) map.now.map.entries }
+    ensures { Serializes (seen_as (λ m. m.map.entries) (entries_spelling E K.Archived.shape V.Archived.shape K.spelling V.spelling)) S.Writer map.now serializer.old serializer.new result }
+{
+    serialize_rest_each::<K, V, S, C, E>(map.map.len(), map.map.iter(), serializer, step)
+}
+
+impl<S: Writer + Allocator, K: Serialize<S> + Ord, V: Serialize<S>, const E: usize> Serialize<S>
+    for OwnedBTreeMap<K, V, E> {
+    fn serialize(&self, serializer: &mut S) -> Result<BTreeMapResolver, Error> {
+        serialize_map_each::<K, V, S, SerializeEntry, E>(self, serializer, &SerializeEntry)
+    }
+}

@@ -1,0 +1,4 @@
+//! Archived search trees that are walked and searched, for the benchmark to time.
+#![tactic(auto)]
+
+mod reads;

@@ -1,0 +1,164 @@
+//! Tests of maps that are written, and of entries that come in order.
+ghost use Rattle.std.specs.Prelude.{◌-◌, ◌^◌, ◌<◌};
+ghost use Rattle.archive_forms_spelling.specs.Serializing.{HasState};
+
+use crate::archives::{EMPTY, ONE_PAIR, SIX_PAIRS, bytes_of, root_of};
+use archive_btree::{
+    ArchivedBTreeMap, BTreeMapResolver, OwnedBTreeMap, deserialize_map, serialize_from_ordered_iter,
+};
+use archive_core_serializing::{HighSerializer, Serializer};
+use archive_forms_text::ArchivedString;
+use archive_forms_writing::{Serialize, serialize_using};
+use archive_shape::{Allocator, ArchivedU32, Error, Positional, Registry, Writer};
+use std::alloc::Global;
+use std::collections::BTreeMap;
+use std::test::Fail;
+
+/// A serializer into memory that grows.
+type Memory = HighSerializer<Vec<u8>, Global>;
+
+/// A serializer into memory that holds nothing.
+fn memory(alloc: Global) -> Memory
+    ensures room { ⟦<Memory as Writer>⟧.failures result < 2 ^ 64 - 1 }
+    ensures state { HasState ⟦<Memory as Positional>⟧.pos ⟦<Memory as Registry>⟧.known result }
+{
+    Serializer::new(Vec::new(alloc), alloc, ())
+}
+
+/// The archive of a value.
+fn archive_of<T: Serialize<Memory>>(alloc: Global, value: &T) -> Result<Vec<u8>, Error> {
+    let mut serializer = memory(alloc);
+    serialize_using(value, &mut serializer)?;
+    Ok(serializer.into_writer())
+}
+
+/// A map of numbers.
+fn numbers(alloc: Global, pairs: &[(u32, u32)]) -> Result<OwnedBTreeMap<u32, u32, 5>, Error> {
+    let mut map = BTreeMap::new(alloc);
+    for pair in pairs {
+        if map.insert(pair.0, pair.1).is_err() {
+            return Err(Error::OutOfMemory);
+        }
+    }
+    Ok(OwnedBTreeMap { map })
+}
+
+#[test]
+fn maps_are_written_as_packed_trees(rt: HostRuntime) -> Result<(), Fail> {
+    let alloc = rt.alloc();
+    let none = archive_of(alloc, &numbers(alloc, &[])?)?;
+    assert_eq!(rt; none, bytes_of(alloc, &EMPTY)?);
+    let one = archive_of(alloc, &numbers(alloc, &[(7, 11)])?)?;
+    assert_eq!(rt; one, bytes_of(alloc, &ONE_PAIR)?);
+    Ok(())
+}
+
+#[test]
+fn six_entries_are_a_leaf_below_an_inner_node(rt: HostRuntime) -> Result<(), Fail> {
+    let alloc = rt.alloc();
+    let pairs = [(1, 11), (2, 12), (3, 13), (4, 14), (5, 15), (6, 16)];
+    let six = archive_of(alloc, &numbers(alloc, &pairs)?)?;
+    assert_eq!(rt; six, bytes_of(alloc, &SIX_PAIRS)?);
+    Ok(())
+}
+
+/// foo 10, bar 20, baz 40 and bat 80.
+fn four(alloc: Global) -> Result<OwnedBTreeMap<String, u32, 5>, Error> {
+    let mut map = BTreeMap::new(alloc);
+    for (key, value) in [("foo", 10), ("bar", 20), ("baz", 40), ("bat", 80)] {
+        let Ok(key) = String::from_str(alloc, key) else {
+            return Err(Error::OutOfMemory);
+        };
+        if map.insert(key, value).is_err() {
+            return Err(Error::OutOfMemory);
+        }
+    }
+    Ok(OwnedBTreeMap { map })
+}
+
+/// Whether a map of texts is read back from its archive as it was.
+fn is_read_back(alloc: Global, owned: &OwnedBTreeMap<String, u32, 5>) -> Result<bool, Error> {
+    let bytes = archive_of(alloc, owned)?;
+    let root = root_of::<ArchivedBTreeMap<ArchivedString, ArchivedU32, 5>>(alloc, bytes.as_slice())?;
+    let read: OwnedBTreeMap<String, u32, 5> = deserialize_map(root, alloc, &mut ())?;
+    Ok(read.map == owned.map)
+}
+
+#[test]
+fn texts_are_read_back(rt: HostRuntime) -> Result<(), Fail> {
+    let map = four(rt.alloc())?;
+    assert_eq!(rt; map.map.len(), 4);
+    assert_eq!(rt; is_read_back(rt.alloc(), &map), Ok(true));
+    Ok(())
+}
+
+/// Writes the entries of a map, of which is claimed how many come.
+fn write_claimed<S: Writer + Allocator>(
+    claimed: usize,
+    owned: &OwnedBTreeMap<u32, u32, 5>,
+    serializer: &mut S,
+) -> Result<BTreeMapResolver, Error>
+    requires room { S.failures serializer.old < 2 ^ 64 - 1 }
+    requires state { HasState S.pos S.known serializer.old }
+{
+    serialize_from_ordered_iter::<S, u32, u32, _, 5>(claimed, owned.map.iter(), serializer)
+}
+
+/// What becomes of so many pairs, of which is claimed how many come.
+fn claiming(
+    alloc: Global,
+    claimed: usize,
+    pairs: &[(u32, u32)],
+) -> Result<BTreeMapResolver, Error> {
+    let owned = numbers(alloc, pairs)?;
+    write_claimed(claimed, &owned, &mut memory(alloc))
+}
+
+#[test]
+fn wrong_claims_are_refused_with_both_numbers(rt: HostRuntime) {
+    let alloc = rt.alloc();
+    let pairs = [(1, 11), (2, 12), (3, 13)];
+    for (expected, actual) in [(3, 2), (0, 1), (1, 3)] {
+        assert_eq!(rt;
+            claiming(alloc, expected, &pairs[..actual]),
+            Err(Error::IteratorLengthMismatch { expected, actual }),
+            "{expected} for {actual}"
+        );
+    }
+    assert_eq!(rt;
+        claiming(alloc, 2, &pairs[..2]),
+        Ok(BTreeMapResolver::from_pos(Some(0)))
+    );
+}
+
+/// How many bytes the archive has of a map of so many numbers in decimal, each of which leads to three words of eight bytes.
+fn size_of_decimals(alloc: Global, count: u64) -> Result<usize, Error> {
+    let mut map = BTreeMap::new(alloc);
+    for i in 0..count {
+        let Ok(key) = format!(in alloc; "{i}") else {
+            return Err(Error::OutOfMemory);
+        };
+        if map.insert(key, [i, 0, 0]).is_err() {
+            return Err(Error::OutOfMemory);
+        }
+    }
+    let owned: OwnedBTreeMap<String, [u64; 3], 5> = OwnedBTreeMap { map };
+    Ok(archive_of(alloc, &owned)?.len())
+}
+
+#[test]
+fn leaves_and_inner_nodes_are_as_many_as_a_packed_tree_has(rt: HostRuntime) {
+    for (count, size) in [
+        (0, 8),
+        (1, 184),
+        (5, 184),
+        (6, 376),
+        (17, 728),
+        (35, 1256),
+        (36, 1448),
+        (112, 4120),
+        (215, 7688),
+    ] {
+        assert_eq!(rt; size_of_decimals(rt.alloc(), count), Ok(size), "{count}");
+    }
+}

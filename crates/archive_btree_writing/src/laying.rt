@@ -1,0 +1,98 @@
+//! Nodes that are written with the data of their entries.
+ghost use Rattle.std.specs.Prelude.{◌≡◌, ℕ, ◌-◌, ◌^◌, ◌<◌, ◌≤◌, [], ◌∷◌, ◌++◌, All, length, map};
+ghost use Rattle.std.specs.Map.Iter.{deref_pair};
+ghost use Rattle.archive_forms_spelling.specs.Serializing.{HasState};
+ghost use Rattle.archive_btree_spelling.specs.Laying.{LaysNode};
+ghost use Rattle.archive_btree_writing.specs.Nodes.{leaf_of, inner_of, node_of, AreChildren};
+
+use crate::EntryStep;
+use crate::children::Children;
+use crate::entries::serialize_entries;
+use crate::nodes::write_kept;
+use archive_forms_writing::Archive;
+use archive_shape::{Allocator, Error, Writer};
+
+/// How many bytes an option of the resolvers of an entry has at most, so that those of a node are fewer than 2^63.
+const LARGEST: usize = i32::MAX as usize;
+
+/// Writes a node behind the data of its entries. An inner node has children. The answer is its position.
+fn write_node_each<
+    'a,
+    K: Archive,
+    V: Archive,
+    S: Writer + Allocator,
+    C: EntryStep<K, V, S>,
+    const E: usize,
+>(
+    entries: &[(&'a K, &'a V)],
+    children: Option<Children<'_>>,
+    serializer: &mut S,
+    step: &C,
+) -> Result<usize, Error>
+    requires some { 0 < length entries.now }
+    requires few { length entries.now ≤ E }
+    requires small { E < 2 ^ 32 }
+    requires whole { AreChildren E children }
+    requires taken { All (λ e. C.takes step.now (deref_pair e)) entries.now }
+    requires room { S.failures serializer.old < 2 ^ 64 - 1 }
+    requires state { HasState S.pos S.known serializer.old }
+    ensures { LaysNode E K.Archived.shape V.Archived.shape K.spelling V.spelling S.Writer (node_of children.entry (map deref_pair entries.now)) serializer.old serializer.new result }
+{
+    let none: Option<(K::Resolver, V::Resolver)> = None;
+    if size_of_val(&none) > LARGEST {
+        return Err(Error::OutOfMemory);
+    }
+    match serialize_entries::<K, V, S, C, E>(entries, serializer, step) {
+        Ok(kept) => write_kept::<K, V, S, E>(entries, kept, children, serializer),
+        Err(e) => Err(e),
+    }
+}
+
+/// Writes a leaf behind the data of its entries, which a step writes. The answer is its position.
+pub fn write_leaf_each<
+    'a,
+    K: Archive,
+    V: Archive,
+    S: Writer + Allocator,
+    C: EntryStep<K, V, S>,
+    const E: usize,
+>(entries: &[(&'a K, &'a V)], serializer: &mut S, step: &C) -> Result<usize, Error>
+    requires some { 0 < length entries.now }
+    requires few { length entries.now ≤ E }
+    requires small { E < 2 ^ 32 }
+    requires taken { All (λ e. C.takes step.now (deref_pair e)) entries.now }
+    requires room { S.failures serializer.old < 2 ^ 64 - 1 }
+    requires state { HasState S.pos S.known serializer.old }
+    ensures { LaysNode E K.Archived.shape V.Archived.shape K.spelling V.spelling S.Writer (leaf_of (map deref_pair entries.now)) serializer.old serializer.new result }
+{
+    write_node_each::<K, V, S, C, E>(entries, None, serializer, step)
+}
+
+/// Writes an inner node behind the data of its entries, as a leaf is written. `lesser` has for each entry the position of
+/// the node before it, and `greater` is that of the node behind the last entry. The answer is its position.
+pub fn write_inner_each<
+    'a,
+    K: Archive,
+    V: Archive,
+    S: Writer + Allocator,
+    C: EntryStep<K, V, S>,
+    const E: usize,
+>(
+    entries: &[(&'a K, &'a V)],
+    lesser: &[Option<usize>],
+    greater: Option<usize>,
+    serializer: &mut S,
+    step: &C,
+) -> Result<usize, Error>
+    requires some { 0 < length entries.now }
+    requires full { length entries.now ≡ E }
+    requires pointers { length lesser.now ≡ E }
+    requires small { E < 2 ^ 32 }
+    requires taken { All (λ e. C.takes step.now (deref_pair e)) entries.now }
+    requires room { S.failures serializer.old < 2 ^ 64 - 1 }
+    requires state { HasState S.pos S.known serializer.old }
+    ensures { LaysNode E K.Archived.shape V.Archived.shape K.spelling V.spelling S.Writer (inner_of (lesser.now ++ greater ∷ []) (map deref_pair entries.now)) serializer.old serializer.new result }
+{
+    let children = Some(Children { lesser, greater });
+    write_node_each::<K, V, S, C, E>(entries, children, serializer, step)
+}
