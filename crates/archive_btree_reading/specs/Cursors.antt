@@ -4,9 +4,9 @@ use Rattle.archive_shape_layout.specs.Shape.{Shape}
 use Rattle.archive_shape_layout.specs.Content.{Names}
 use Rattle.archive_btree_layout.specs.Reading.{Place}
 use Rattle.archive_btree_reading.specs.Walks.{BegunMap, GoesOn}
-use Rattle.archive_btree_reading.specs.declared.iter_seal.IterSeal.{IterSeal}
-use Rattle.archive_btree_reading.specs.declared.iter_seal.ValuesSeal.{ValuesSeal}
-use Rattle.archive_btree_reading.specs.declared.range_seal.RangeSeal.{RangeSeal}
+use Rattle.archive_btree_reading.specs.declared.sealing.iter.IterSeal.{IterSeal}
+use Rattle.archive_btree_reading.specs.declared.sealing.iter.ValuesSeal.{ValuesSeal}
+use Rattle.archive_btree_reading.specs.declared.sealing.range.RangeSeal.{RangeSeal}
 
 module _ {most : ℕ} {k v : Shape} {knows others : Names → Type 0} (m : BegunMap most k v knows others) {K V : Type 0} where
   -- a cursor has these entries left, and knows how many

@@ -18,9 +18,9 @@ ghost use Rattle.archive_btree_reading.specs.Seals.{IsLent};
 ghost use Rattle.archive_btree_reading.specs.Cursors.{HasRange};
 
 use crate::ArchivedBTreeMap;
-use crate::passing::pass_entry;
 use crate::range::walk_between;
-use crate::seal::lend_entry;
+use crate::sealing::passing::pass_entry;
+use crate::sealing::single::lend_entry;
 use archive_btree_searching::{EntryAt, EntryWalk};
 use archive_shape::ArchivedKey;
 use archive_shape_portable::Portable;

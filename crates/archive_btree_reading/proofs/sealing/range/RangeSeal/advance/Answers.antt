@@ -1,6 +1,6 @@
 use Rattle.std.proofs.Common.{sym, subst}
 use Rattle.archive_btree_reading.specs.Walks.{IsWritten}
-use Rattle.archive_btree_reading.proofs.range_seal.RangeSeal.advance.Goals as goal
+use Rattle.archive_btree_reading.proofs.sealing.range.RangeSeal.advance.Goals as goal
 
 pub pass_entry-passed-requires : goal.pass_entry-passed-requires
 pass_entry-passed-requires g c =

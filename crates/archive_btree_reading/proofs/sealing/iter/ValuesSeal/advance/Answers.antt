@@ -1,6 +1,6 @@
 use Rattle.std.proofs.Common.{refl}
 use Rattle.archive_btree_searching.specs.Nodes.{place_of}
-use Rattle.archive_btree_reading.proofs.iter_seal.ValuesSeal.advance.Goals as goal
+use Rattle.archive_btree_reading.proofs.sealing.iter.ValuesSeal.advance.Goals as goal
 
 pub returns-in-Some-clause-steps : goal.returns-in-Some-clause-steps
 returns-in-Some-clause-steps g c most m es h written =

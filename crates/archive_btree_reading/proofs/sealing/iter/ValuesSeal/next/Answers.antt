@@ -1,4 +1,4 @@
-use Rattle.archive_btree_reading.proofs.iter_seal.ValuesSeal.next.Goals as goal
+use Rattle.archive_btree_reading.proofs.sealing.iter.ValuesSeal.next.Goals as goal
 
 pub returns-in-Some-clause-lends : goal.returns-in-Some-clause-lends
 returns-in-Some-clause-lends g c most m es h written =

@@ -6,7 +6,7 @@ use Rattle.archive_btree_searching.proofs.Ranged.{no_run}
 use Rattle.archive_forms_comparing.proofs.Seen.{option_matched}
 use Rattle.archive_forms_reading.specs.Parts.{HasValue}
 use Rattle.archive_btree_reading.proofs.Sealed.{walk_goes_on, rest_among, first_among, keys_before, values_within, matched_some}
-use Rattle.archive_btree_reading.proofs.passing.pass_entry.Goals as goal
+use Rattle.archive_btree_reading.proofs.sealing.passing.pass_entry.Goals as goal
 
 pub returns-clause-there : goal.returns-clause-there
 returns-clause-there g c =

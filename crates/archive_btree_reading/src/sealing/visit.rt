@@ -7,8 +7,8 @@ ghost use Rattle.archive_btree_reading.specs.Walks.{BegunMap, IsWritten};
 ghost use Rattle.archive_btree_reading.specs.SealedVisits.{MayCallSealed, VisitsSealed};
 
 use crate::ArchivedBTreeMap;
-use crate::passing::pass_entry;
 use crate::root::entry_walk_at;
+use crate::sealing::passing::pass_entry;
 use archive_shape_portable::Portable;
 use archive_shape_references::{OwnSeal, Ref, Seal};
 use std::ops::ControlFlow;

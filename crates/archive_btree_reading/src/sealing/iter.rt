@@ -10,9 +10,9 @@ ghost use Rattle.archive_btree_reading.specs.Seals.{IsOwnValue, IsLent};
 ghost use Rattle.archive_btree_reading.specs.Cursors.{HasEntries, HasValues};
 
 use crate::ArchivedBTreeMap;
-use crate::passing::pass_entry;
 use crate::root::{count_at, entry_walk_at};
-use crate::seal::lend_entry;
+use crate::sealing::passing::pass_entry;
+use crate::sealing::single::lend_entry;
 use archive_btree_searching::{EntryAt, EntryWalk};
 use archive_shape_portable::Portable;
 use archive_shape_references::{OwnSeal, Ref, Seal};

@@ -1,7 +1,7 @@
 use Rattle.std.proofs.Common.{subst}
 use Rattle.archive_btree_searching.specs.Nodes.{place_of}
 use Rattle.archive_btree_reading.specs.Seals.{IsLent}
-use Rattle.archive_btree_reading.proofs.range_seal.RangeSeal.next.Goals as goal
+use Rattle.archive_btree_reading.proofs.sealing.iter.IterSeal.next.Goals as goal
 
 pub returns-in_default-clause-lends : goal.returns-in_default-clause-lends
 returns-in_default-clause-lends g c most m es h written = (c.in_default.ensures.steps most m es h written).0

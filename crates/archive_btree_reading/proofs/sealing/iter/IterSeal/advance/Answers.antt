@@ -1,6 +1,6 @@
 use Rattle.std.proofs.Common.{◌∙◌, length, ap, arith, sym, subst}
 use Rattle.archive_btree_reading.specs.Walks.{IsWritten}
-use Rattle.archive_btree_reading.proofs.iter_seal.IterSeal.advance.Goals as goal
+use Rattle.archive_btree_reading.proofs.sealing.iter.IterSeal.advance.Goals as goal
 
 pub pass_entry-passed-requires : goal.pass_entry-passed-requires
 pass_entry-passed-requires g c =
