@@ -30,7 +30,8 @@ impl<K, V: Portable, const E: usize> ArchivedBTreeMap<K, V, E> {
     where
         K: ArchivedKey<Q>,
         requires has { HasValue (tree E K.shape V.shape) (both K.knows V.knows) this.bytes.now this.pos }
-        ensures { (t : Tree Place) (order : Place → Ordering) → IsMapAt this.entry.bytes.now E K.shape V.shape this.entry.pos t
+        ensures there { IfSome result (λ r. HasValue V.shape V.knows r.bytes.now r.pos) }
+        ensures answers { (t : Tree Place) (order : Place → Ordering) → IsMapAt this.entry.bytes.now E K.shape V.shape this.entry.pos t
             → QueryOrders K.key_of K.order this.entry.bytes.now query.now order (items t)
             → MatchOption result
             (descend order t ≡ None)
@@ -82,7 +83,7 @@ impl<K: Portable, V: Portable, const E: usize> ArchivedBTreeMap<K, V, E> {
     ) -> Option<(Ref<'a, K>, OwnSeal<'a, V>)>
         requires has { HasValue (tree E K.shape V.shape) (both K.knows V.knows) this.bytes.now this.pos }
         requires callable { (t : Tree Place) (lent : Bor (List ℕ)) → IsMapAt this.bytes.now E K.shape V.shape this.pos t → lent.now ≡ this.bytes.now
-            → All (λ e. F.pre compare.now query (key_at lent e)) (items t) }
+            → All (λ e. HasValue K.shape K.knows this.bytes.now e.key → F.pre compare.now query (key_at lent e)) (items t) }
         ensures there { IfSome result (λ r. HasValue K.shape K.knows r.0.bytes.now r.0.pos × (length r.1.own.now ≡ V.SIZE)) }
         ensures found { (t : Tree Place) → IsMapAt this.entry.bytes.now E K.shape V.shape this.entry.pos t
             → IfSome result (λ r. (e : Place) × Contains (items t) e × IsCalledEqual F.post compare.now query.entry this.entry.bytes.now e

@@ -1,14 +1,19 @@
 //! Tests of what is written to archived maps through seals.
 ghost use Rattle.std.specs.Prelude.{◌≡◌, ℕ, ◌+◌, ◌≤◌, List, length};
+ghost use Rattle.archive_shape_layout.specs.Shape.Shape.{tree};
+ghost use Rattle.archive_btree_layout.specs.Reading.{Place};
+ghost use Rattle.archive_forms_reading.specs.Parts.{HasValue, both};
+ghost use Rattle.archive_btree_reading.specs.Walks.{BegunMap, IsWritten};
+ghost use Rattle.archive_btree_reading.specs.Cursors.{HasRange};
 ghost use Rattle.archive_shape_references.specs.Bytes.{overwrite};
 
 use crate::archives::{bytes_of, root_of};
-use archive_btree_reading::ArchivedBTreeMap;
+use archive_btree_reading::{ArchivedBTreeMap, RangeSeal};
 use archive_forms_reading::native_of;
 use archive_forms_text::ArchivedString;
-use archive_shape::{ArchivedU32, Error, OwnSeal, Ref, Seal};
-use std::alloc::Global;
-use std::ops::ControlFlow;
+use archive_shape::{ArchivedKey, ArchivedU32, Error, OwnSeal, Portable, Ref, Seal};
+use std::alloc::{AllocError, Global};
+use std::ops::{Bound, ControlFlow, RangeBounds};
 use std::test::Fail;
 
 /// A map of texts to numbers with at most five entries in a node. A leaf has seventeen words: its kind, five keys of two words,
@@ -97,42 +102,120 @@ fn visits_write_each_value_in_order_up_to_the_first_break(rt: HostRuntime) {
     );
 }
 
-/// Writes a number at a position.
-fn put_at(bytes: &mut [u8], at: usize, number: u32)
-    requires { at + 4 ≤ length bytes.old }
-    ensures { (own : List ℕ) × (length own ≡ 4) × (bytes.new ≡ overwrite bytes.old at own) }
+/// Fills own bytes with a byte.
+fn fill_at(bytes: &mut [u8], at: usize, size: usize, byte: u8)
+    requires { at + size ≤ length bytes.old }
+    ensures { (own : List ℕ) × (length own ≡ size) × (bytes.new ≡ overwrite bytes.old at own) }
 {
-    OwnSeal::<ArchivedU32>::new(&mut bytes[at..at + 4], at).write(number);
+    bytes[at..at + size].fill(byte);
 }
 
-/// Where the values stand that a cursor meets, each beside how many are left after it, and what they are once a number is
-/// written over each.
-fn written_over(
+/// Fills the own bytes of each value with a byte, and notes where it stands and how many are left behind it.
+fn fill_values<K: Portable, V: Portable, const E: usize>(
+    map: Seal<'_, ArchivedBTreeMap<K, V, E>>,
+    byte: u8,
+    met: &mut Vec<(usize, usize)>,
+) -> Result<(), AllocError>
+    requires { HasValue (tree E K.shape V.shape) (both K.knows V.knows) map.bytes.now map.pos }
+{
+    let size = V::SIZE;
+    let mut values = ArchivedBTreeMap::values_seal(map);
+    while let Some(at) = values.advance() {
+        fill_at(values.entries.bytes, at, size, byte);
+        met.push((at, values.len()))?;
+    }
+    Ok(())
+}
+
+/// What a cursor over the values meets, and what they are once each is filled with a byte.
+fn filled(
     alloc: Global,
     words: &[u32],
-    number: u32,
+    byte: u8,
 ) -> Result<(Vec<(usize, usize)>, [Option<u32>; 4]), Error> {
     let mut bytes = bytes_of(alloc, words)?;
     let pos = root_of::<Texts>(alloc, bytes.as_slice())?.pos();
     let mut met = Vec::new(alloc);
-    let mut values = ArchivedBTreeMap::values_seal(Seal::<Texts>::new(bytes.as_mut_slice(), pos));
-    while let Some(at) = values.advance() {
-        put_at(values.entries.bytes, at, number);
-        if met.push((at, values.len())).is_err() {
-            return Err(Error::OutOfMemory);
-        }
-    }
+    fill_values(
+        Seal::<Texts>::new(bytes.as_mut_slice(), pos),
+        byte,
+        &mut met,
+    )?;
     Ok((met, values_of(alloc, bytes.as_slice())?))
 }
 
 #[test]
 fn cursors_pass_each_value_while_the_values_are_written(rt: HostRuntime) -> Result<(), Fail> {
-    let (met, values) = written_over(rt.alloc(), &FOUR, 123)?;
+    let (met, values) = filled(rt.alloc(), &FOUR, 7)?;
     assert_eq!(rt;
         met.as_slice(),
         [(44, 3), (48, 2), (52, 1), (56, 0)].as_slice()
     );
-    assert_eq!(rt; values, [Some(123); 4]);
+    assert_eq!(rt; values, [Some(0x0707_0707); 4]);
+    Ok(())
+}
+
+/// Notes where the values of the entries between two bounds stand.
+fn note_range<K: ArchivedKey<Q>, V: Portable, Q, R: RangeBounds<Q>, const E: usize>(
+    map: Seal<'_, ArchivedBTreeMap<K, V, E>>,
+    bounds: R,
+    met: &mut Vec<usize>,
+) -> Result<(), AllocError>
+    requires { HasValue (tree E K.shape V.shape) (both K.knows V.knows) map.bytes.now map.pos }
+{
+    note_values::<K, V, E>(ArchivedBTreeMap::range_seal(map, bounds), met)
+}
+
+/// Notes where the values stand that a cursor between two bounds meets, four at most.
+fn note_values<K: Portable, V: Portable, const E: usize>(
+    mut entries: RangeSeal<'_, K, V>,
+    met: &mut Vec<usize>,
+) -> Result<(), AllocError>
+    requires { (m : BegunMap E K.shape V.shape K.knows V.knows) × (es : List Place) × HasRange m entries es × IsWritten m entries.bytes.now }
+{
+    for _step in 0..4u32 {
+        match entries.advance() {
+            Some(entry) => met.push(entry.value)?,
+            None => return Ok(()),
+        }
+    }
+    Ok(())
+}
+
+/// Where the values of the keys between two bounds stand.
+fn between<'q, R: RangeBounds<&'q str>>(
+    alloc: Global,
+    words: &[u32],
+    bounds: R,
+) -> Result<Vec<usize>, Error> {
+    let mut bytes = bytes_of(alloc, words)?;
+    let pos = root_of::<Texts>(alloc, bytes.as_slice())?.pos();
+    let mut met = Vec::new(alloc);
+    let map = Seal::<Texts>::new(bytes.as_mut_slice(), pos);
+    note_range::<ArchivedString, ArchivedU32, _, _, 5>(map, bounds, &mut met)?;
+    Ok(met)
+}
+
+#[test]
+fn cursors_pass_the_values_of_a_range(rt: HostRuntime) -> Result<(), Fail> {
+    assert_eq!(rt;
+        between(rt.alloc(), &FOUR, "bat"..="baz")?.as_slice(),
+        [48, 52].as_slice()
+    );
+    assert_eq!(rt;
+        between(rt.alloc(), &FOUR, "bat".."baz")?.as_slice(),
+        [48].as_slice()
+    );
+    assert_eq!(rt;
+        between(rt.alloc(), &FOUR, (Bound::Excluded("baz"), Bound::Unbounded))?.as_slice(),
+        [56].as_slice()
+    );
+    Ok(())
+}
+
+#[test]
+fn cursor_has_nothing_left_where_the_bounds_are_reversed(rt: HostRuntime) -> Result<(), Fail> {
+    assert!(rt; between(rt.alloc(), &FOUR, "c".."b")?.is_empty());
     Ok(())
 }
 

@@ -8,12 +8,18 @@ use Rattle.archive_btree_searching.specs.Nodes.{place_of}
 use Rattle.archive_forms_reading.specs.Parts.{HasValue}
 use Rattle.archive_btree_reading.specs.Lookups.{CallsEqual}
 use Rattle.archive_btree_reading.proofs.Refs.{finds_called}
+use Rattle.archive_btree_reading.proofs.Held.{entries_are}
 use Rattle.archive_btree_reading.proofs.Roots.{tree_of_value}
 use Rattle.archive_btree_reading.proofs.Sealed.{nothing_written, values_within, keys_before, found_entry, lent_there}
 use Rattle.archive_btree_reading.proofs.map.ArchivedBTreeMap.get_key_value_seal_with.Goals as goal
 
 pub search_map-requires-clause-callable : goal.search_map-requires-clause-callable
-search_map-requires-clause-callable g c t h i d less = c.requires.callable t _ h refl i d less
+search_map-requires-clause-callable g c t h i d less =
+    let key =
+    entries_are g.K.Portable.shape g.V.Portable.shape g.K.Portable.knows g.V.Portable.knows c.args.this.bytes.now (λ e. HasValue g.K.Portable.shape g.K.Portable.knows c.args.this.bytes.now e.key)
+    (λ e u w held other. record { value = u; held = held }) g.row.E c.args.this.pos c.requires.has t h i d less
+    in
+    c.requires.callable t _ h refl i d less key
 
 pub lend_entry-requires : goal.lend_entry-requires
 lend_entry-requires g c =
