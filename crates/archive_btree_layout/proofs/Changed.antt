@@ -86,8 +86,8 @@ between_apart v bottom mid low p es fs below under within others a b =
     pairs_between (AreApart v) es p fs a
     (λ j d less i from to. let lower = before_end v bottom mid es within j d less i from to in λ over. absurd (omega arith))
     (λ j d less n e short i from to.
-        let lower = before_end v bottom mid es within j d less i from to in
-        others i (λ over. absurd (omega arith)) (λ past. omega arith) n e short)
+    let lower = before_end v bottom mid es within j d less i from to in
+    others i (λ over. absurd (omega arith)) (λ past. omega arith) n e short)
     (λ n e short i from to. others i (λ over. omega arith) (λ past. omega arith) n e short)
     b
 

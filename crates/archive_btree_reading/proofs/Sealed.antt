@@ -1,5 +1,5 @@
 -- What stays of a map whose values are written over.
-use Rattle.std.proofs.Common.{◌≡◌, ◌∙◌, ℕ, ◌+◌, ◌<◌, ◌≤◌, List, [], ◌∷◌, ◌++◌, length, take, Option, Some, None, IfSome, MatchOption, Contains, All, inl, inr, refl, ap, sym, subst, arith, append_assoc}
+use Rattle.std.proofs.Common.{◌≡◌, ◌∙◌, ℕ, ◌+◌, ◌≤◌, List, [], ◌∷◌, ◌++◌, length, take, Option, Some, None, IfSome, MatchOption, Contains, All, inl, inr, refl, ap, sym, subst, arith, append_assoc}
 use Rattle.std.specs.Prelude.{slice_index}
 use Rattle.std.specs.Option.{option_map}
 use Rattle.std.proofs.lemmas.Bool.{cases_lt}
@@ -11,7 +11,6 @@ use Rattle.archive_shape_layout.specs.Shape.Shape.{tree}
 use Rattle.archive_shape_layout.specs.Value.{Value, Values}
 use Rattle.archive_shape_layout.specs.Value.Values.{no_values, more_values}
 use Rattle.archive_shape_layout.specs.Content.{Names, members}
-use Rattle.archive_shape.specs.Key.{HeldAt}
 use Rattle.archive_shape_references.specs.declared.refs.Ref.{Ref}
 use Rattle.archive_shape_references.specs.declared.own_seal.OwnSeal.{OwnSeal}
 use Rattle.archive_shape_references.specs.Bytes.{overwrite}
@@ -19,7 +18,7 @@ use Rattle.archive_shape_references.proofs.Written.{length-overwrite, byte_befor
 use Rattle.archive_btree_layout.specs.Reading.{Place, HasNode}
 use Rattle.archive_btree_layout.specs.Tree.{Tree, items}
 use Rattle.archive_btree_layout.specs.Items.{AreAt}
-use Rattle.archive_btree_layout.specs.Changing.{IsOutside, IsInNoValue, DiffersInValues, HasTree, IsNodeOf, IsKept}
+use Rattle.archive_btree_layout.specs.Changing.{IsOutside, DiffersInValues, HasTree, IsNodeOf, IsKept}
 use Rattle.archive_btree_layout.proofs.Mapped.{tree_stays, nodes_stay, pairs_stay}
 use Rattle.archive_btree_searching.specs.Nodes.{place_of}
 use Rattle.archive_btree_searching.specs.declared.node.EntryAt.{EntryAt}
@@ -30,7 +29,7 @@ use Rattle.archive_btree_searching.specs.Stepping.{HasLeft}
 use Rattle.archive_btree_searching.specs.declared.stepping.EntryWalk.{EntryWalk}
 use Rattle.archive_btree_searching.proofs.Stays.{left_stays}
 use Rattle.archive_btree_searching.proofs.Sublists.{all_back}
-use Rattle.archive_forms_reading.specs.Parts.{HasValue, PointsTo, both}
+use Rattle.archive_forms_reading.specs.Parts.{HasValue, both}
 use Rattle.archive_btree_reading.specs.Maps.{IsMapAt}
 use Rattle.archive_btree_reading.specs.Maps.IsMapAt.{has_none, has_root}
 use Rattle.archive_btree_reading.specs.Lookups.{Finds}

@@ -120,13 +120,7 @@ pub(crate) fn walk_between<
     Q,
     C: Fn(&Q, usize) -> Ordering,
     const E: usize,
->(
-    bytes: &[u8],
-    pos: usize,
-    start: Bound<&Q>,
-    end: Bound<&Q>,
-    compare: &C,
-) -> EntryWalk
+>(bytes: &[u8], pos: usize, start: Bound<&Q>, end: Bound<&Q>, compare: &C) -> EntryWalk
     requires has { HasValue (tree E K.shape V.shape) (both K.knows V.knows) bytes.now pos }
     requires callable { (t : Tree Place) → IsMapAt bytes.now E K.shape V.shape pos t
         → All (λ e. OfQueries (λ query. C.pre compare.now query e.key) start end) (items t) }

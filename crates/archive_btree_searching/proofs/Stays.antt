@@ -1,12 +1,10 @@
 -- What a walk has left stays where the nodes of the tree do.
-use Rattle.std.proofs.Common.{◌≡◌, ◌∙◌, ℕ, zero, suc, ◌+◌, ◌-◌, ◌*◌, ◌<◌, ◌≤◌, List, [], ◌∷◌, ◌++◌, length, Some, None, refl, ap, sym, subst, arith}
+use Rattle.std.proofs.Common.{◌≡◌, ◌∙◌, ℕ, zero, suc, ◌+◌, ◌-◌, ◌*◌, ◌<◌, ◌≤◌, List, ◌∷◌, length, Some, None, refl, ap, sym, subst, arith}
 use Rattle.std.specs.Prelude.{slice_index}
 use Rattle.archive_shape_layout.specs.Bytes.{word_at, target_from}
 use Rattle.archive_shape_layout.specs.Shape.{Shape, size_of}
 use Rattle.archive_shape_layout.specs.Content.{keys_offset, values_offset, links_offset}
-use Rattle.archive_btree_layout.specs.Tree.{Tree, Branches, items, items_of}
-use Rattle.archive_btree_layout.specs.Tree.Tree.{leaf, inner}
-use Rattle.archive_btree_layout.specs.Tree.Branches.{lesser}
+use Rattle.archive_btree_layout.specs.Tree.{Tree, Branches, items}
 use Rattle.archive_btree_layout.specs.Changing.{IsNodeOf}
 use Rattle.archive_btree_layout.specs.Changing.IsNodeOf.{is_top, is_below}
 use Rattle.archive_btree_layout.specs.Reading.{Place, places, HasNode, HasBranches, HasChild}
@@ -19,7 +17,7 @@ use Rattle.archive_btree_nodes.specs.declared.layout.NodeLayout.{NodeLayout}
 use Rattle.archive_btree_searching.specs.Layout.{IsTreeAt}
 use Rattle.archive_btree_searching.specs.Nodes.{entry_count, entry_of, child_of, pointer_at, link_at}
 use Rattle.archive_btree_searching.specs.Ranges.{before_key}
-use Rattle.archive_btree_searching.specs.Walking.{items_from, node_items, frame_items, stack_items, IsFrame}
+use Rattle.archive_btree_searching.specs.Walking.{items_from, node_items, frame_items, stack_items}
 use Rattle.archive_btree_searching.specs.Stepping.{IsReached, HasLeft}
 use Rattle.archive_btree_searching.specs.Stepping.IsReached.{is_root, is_child}
 use Rattle.archive_btree_searching.specs.declared.stepping.EntryWalk.{EntryWalk}
@@ -242,9 +240,9 @@ module _ (most : ℕ) (k v : Shape) (l : NodeLayout) (lay : IsLayout most k v l)
         let s = h.stands in
         let both : (d : ℕ) → d < w.stack.depth → StandsInBoth bytes others d (slice_index nodes d) (slice_index nexts d) =
         λ d below.
-            let r = stays_reached d (slice_index nodes d) (h.reached d below) in
-            let f = s.frames d below in
-            record { tree = r.tree; here = r.here; there = r.there; within = f.within }
+        let r = stays_reached d (slice_index nodes d) (h.reached d below) in
+        let f = s.frames d below in
+        record { tree = r.tree; here = r.here; there = r.there; within = f.within }
         in
         record {
           layout = h.layout;

@@ -8,8 +8,8 @@ ghost use Rattle.archive_btree_searching.specs.Nodes.{place_of};
 ghost use Rattle.archive_btree_searching.specs.Ranges.{Decides, Stays, IsRun, before_key};
 ghost use Rattle.archive_btree_searching.specs.Walking.{stack_items, IsStack};
 
-use crate::{EntryAt, EntryWalk};
 use crate::walk::{Stack, pass_before};
+use crate::{EntryAt, EntryWalk};
 use archive_btree_nodes::NodeLayout;
 use std::iter::FusedIterator;
 use std::marker::Model;

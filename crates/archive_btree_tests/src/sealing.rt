@@ -62,13 +62,8 @@ fn values_of(alloc: Global, bytes: &[u8]) -> Result<[Option<u32>; 4], Error> {
     ])
 }
 
-/// What a visit leaves that adds 10 to each value up to the first that it breaks at, and what it answers.
-fn added(
-    alloc: Global,
-    words: &[u32],
-    last: u32,
-) -> Result<(Option<u32>, [Option<u32>; 4]), Error> {
-    let mut bytes = bytes_of(alloc, words)?;
+/// Adds 10 to each value in order, up to the first that becomes `last`, and answers that.
+fn add_to_each(alloc: Global, bytes: &mut Vec<u8>, last: u32) -> Result<Option<u32>, Error> {
     let pos = root_of::<Texts>(alloc, bytes.as_slice())?.pos();
     let mut visit = |_key: Ref<'_, ArchivedString>, value: &mut OwnSeal<'_, ArchivedU32>| -> ControlFlow<
         u32,
@@ -83,10 +78,18 @@ fn added(
             ControlFlow::Continue(())
         }
     };
-    let broken = ArchivedBTreeMap::visit_seal(
-        Seal::<Texts>::new(bytes.as_mut_slice(), pos),
-        &mut visit,
-    );
+    let map = Seal::<Texts>::new(bytes.as_mut_slice(), pos);
+    Ok(ArchivedBTreeMap::visit_seal(map, &mut visit))
+}
+
+/// What such a visit answers, and the values that it leaves.
+fn added(
+    alloc: Global,
+    words: &[u32],
+    last: u32,
+) -> Result<(Option<u32>, [Option<u32>; 4]), Error> {
+    let mut bytes = bytes_of(alloc, words)?;
+    let broken = add_to_each(alloc, &mut bytes, last)?;
     Ok((broken, values_of(alloc, bytes.as_slice())?))
 }
 
@@ -99,6 +102,33 @@ fn visits_write_each_value_in_order_up_to_the_first_break(rt: HostRuntime) {
     assert_eq!(rt;
         added(rt.alloc(), &FOUR, 90),
         Ok((Some(90), [Some(30), Some(90), Some(40), Some(10)]))
+    );
+}
+
+/// Writes a number over the value of a key, if the map has the key.
+fn set_value(alloc: Global, bytes: &mut Vec<u8>, key: &str, number: u32) -> Result<(), Error> {
+    let pos = root_of::<Texts>(alloc, bytes.as_slice())?.pos();
+    let map = Seal::<Texts>::new(bytes.as_mut_slice(), pos);
+    if let Some(value) = ArchivedBTreeMap::get_seal(map, &key) {
+        value.write(number);
+    }
+    Ok(())
+}
+
+/// The values once a visit added 10 to each, and then seals of foo and bat wrote theirs.
+fn set_after_visit(alloc: Global, words: &[u32]) -> Result<[Option<u32>; 4], Error> {
+    let mut bytes = bytes_of(alloc, words)?;
+    add_to_each(alloc, &mut bytes, 0)?;
+    set_value(alloc, &mut bytes, "foo", 123)?;
+    set_value(alloc, &mut bytes, "bat", 456)?;
+    values_of(alloc, bytes.as_slice())
+}
+
+#[test]
+fn seals_write_the_values_of_their_keys_after_a_visit(rt: HostRuntime) {
+    assert_eq!(rt;
+        set_after_visit(rt.alloc(), &FOUR),
+        Ok([Some(30), Some(456), Some(50), Some(123)])
     );
 }
 

@@ -17,12 +17,11 @@ returns-clause-there g c =
     let v = g.V.Portable.shape in
     let knows = g.K.Portable.knows in
     matched_some _ c.step.result (c.step.ensures w.layout w.root r.2 w.left) (λ e p.
-        let own = first_among m (place_of e) r.2 p.0 p.1 r.3.among (λ p. p.value + size_of v ≤ length m.bytes) (values_within r.0 k v knows g.V.Portable.knows m.bytes m.pos m.has m.search_tree m.map) in
-        (
-          first_among m (place_of e) r.2 p.0 p.1 r.3.among (λ p. HasValue k knows (take p.value c.args.bytes.now) p.key)
-              (keys_before r.0 k v knows g.V.Portable.knows m.bytes m.pos m.has m.search_tree m.map c.args.bytes.now r.4),
-          omega (arith, own, r.4.same_length, g.met.V.Portable.sized),
-        ))
+    let own = first_among m (place_of e) r.2 p.0 p.1 r.3.among (λ p. p.value + size_of v ≤ length m.bytes) (values_within r.0 k v knows g.V.Portable.knows m.bytes m.pos m.has m.search_tree m.map) in (
+      first_among m (place_of e) r.2 p.0 p.1 r.3.among (λ p. HasValue k knows (take p.value c.args.bytes.now) p.key)
+          (keys_before r.0 k v knows g.V.Portable.knows m.bytes m.pos m.has m.search_tree m.map c.args.bytes.now r.4),
+      omega (arith, own, r.4.same_length, g.met.V.Portable.sized),
+    ))
 
 pub returns-clause-steps : goal.returns-clause-steps
 returns-clause-steps g c most m es goes written =

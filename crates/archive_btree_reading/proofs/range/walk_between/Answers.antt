@@ -1,4 +1,4 @@
-use Rattle.std.proofs.Common.{◌≡◌, ◌∙◌, [], ap, refl, sym, subst}
+use Rattle.std.proofs.Common.{[], ap, refl, sym}
 use Rattle.std.specs.Range.Bound.{bound_map}
 use Rattle.archive_btree_layout.specs.Tree.{items}
 use Rattle.archive_btree_searching.proofs.Ranged.{no_run}

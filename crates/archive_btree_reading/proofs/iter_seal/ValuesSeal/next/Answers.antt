@@ -1,5 +1,3 @@
-use Rattle.std.proofs.Common.{sym, subst}
-use Rattle.archive_btree_reading.specs.Seals.{IsOwnValue}
 use Rattle.archive_btree_reading.proofs.iter_seal.ValuesSeal.next.Goals as goal
 
 pub returns-in-Some-clause-lends : goal.returns-in-Some-clause-lends

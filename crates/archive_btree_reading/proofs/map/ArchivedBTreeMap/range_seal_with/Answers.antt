@@ -1,5 +1,5 @@
 use denote.MutBor.{as_bor}
-use Rattle.std.proofs.Common.{◌∙◌, inl, inr, refl, subst}
+use Rattle.std.proofs.Common.{inl, inr, refl, subst}
 use Rattle.archive_btree_layout.specs.Tree.{items}
 use Rattle.archive_btree_searching.specs.Ranges.{IsRun}
 use Rattle.archive_forms_reading.specs.Parts.{HasValue}

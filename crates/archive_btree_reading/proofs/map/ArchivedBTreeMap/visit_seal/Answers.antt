@@ -1,4 +1,4 @@
-use Rattle.std.proofs.Common.{◌∙◌, ◌+◌, ◌≤◌, length, refl, sym, subst, arith, rules}
+use Rattle.std.proofs.Common.{◌≤◌, refl, arith, rules}
 use Rattle.archive_shape_layout.specs.Shape.{size_of}
 use Rattle.archive_btree_layout.specs.Tree.{items}
 use Rattle.archive_btree_searching.specs.Nodes.{place_of}
