@@ -1,6 +1,7 @@
-//! Times archived maps of texts to numbers that crates/archive_btree_bench walks, searches and walks in ranges of a hundred
-//! entries, beside the same work in Rust over the same layout, and look-ups in Rust's `BTreeMap`. Calls are made in turns, and
-//! the least processor time of all rounds counts.
+//! Times archived maps of texts to numbers that crates/archive_btree_bench writes, walks, searches and walks in ranges of a
+//! hundred entries, beside the same work in Rust over the same layout, and look-ups in Rust's `BTreeMap`. Calls are made in
+//! turns, and the least processor time of all rounds counts. A call that writes makes the map first: the time of a call that
+//! writes none is taken away.
 
 mod library;
 mod measured;
@@ -12,7 +13,7 @@ mod forms;
 #[path = "plain_btree.rs"]
 mod rust;
 
-use library::least_times;
+use library::{WRITES, least_times};
 use measured::{greatest, mixed, report};
 use std::collections::BTreeMap;
 use std::hint::black_box;
@@ -27,6 +28,7 @@ const MAP: usize = 8;
 // A slice crosses as a pointer and then a length. Nothing compares these declarations with the library's.
 #[link(name = "archive_btree_bench", kind = "static")]
 unsafe extern "C" {
+    fn archive_btree_bench_write(numbers: *const u32, count: usize, rounds: usize) -> usize;
     fn archive_btree_bench_sum_walked(bytes: *const u8, length: usize, pos: usize) -> u64;
     fn archive_btree_bench_sum_found(
         bytes: *const u8,
@@ -129,8 +131,33 @@ fn compare_ranges(bytes: &[u8], map: &BTreeMap<String, u64>) -> f64 {
     )
 }
 
-/// Compares a walk, look-ups and walks in ranges of a map of so many numbers.
-fn compare(count: usize) -> [f64; 3] {
+/// How many bytes so many archives of a map have, which Rust makes first.
+fn written_again(numbers: &[u32], rounds: usize) -> usize {
+    let map = map_of(numbers);
+    let written = |_| rust::write(black_box(&map)).unwrap().len();
+    (0..rounds).map(written).sum()
+}
+
+/// Compares writes of a map.
+fn compare_written(numbers: &[u32]) -> f64 {
+    // SAFETY: the numbers are there.
+    let ours = |rounds| unsafe {
+        archive_btree_bench_write(black_box(numbers).as_ptr(), numbers.len(), rounds)
+    };
+    let rust = |rounds| written_again(black_box(numbers), rounds);
+    assert_eq!(ours(1), rust(1));
+    let none = least_times(|| _ = black_box(ours(0)), || _ = black_box(rust(0)));
+    let all = least_times(
+        || _ = black_box(ours(WRITES)),
+        || _ = black_box(rust(WRITES)),
+    );
+    let times = (all.0 - none.0, all.1 - none.1);
+    let count = numbers.len();
+    report(&format!("{count} entries written"), count * WRITES, times)
+}
+
+/// Compares writes, a walk, look-ups and walks in ranges of a map of so many numbers.
+fn compare(count: usize) -> [f64; 4] {
     let numbers: Vec<u32> = mixed(count).collect();
     let map = map_of(&numbers);
     let bytes = rust::write(&map).unwrap();
@@ -169,7 +196,8 @@ fn compare(count: usize) -> [f64; 3] {
         QUERIES,
         times,
     );
-    [walks, looks, compare_ranges(&bytes, &map)]
+    let ranges = compare_ranges(&bytes, &map);
+    [compare_written(&numbers), walks, looks, ranges]
 }
 
 fn main() {

@@ -1,4 +1,5 @@
-//! Archived search trees that are walked and searched, for the benchmark to time.
+//! Archived search trees that are written, walked and searched, for the benchmark to time.
 #![tactic(auto)]
 
 mod reads;
+mod writes;

@@ -17,13 +17,13 @@ use std::test::Fail;
 type Numbers = ArchivedBTreeSet<ArchivedU32, 5>;
 
 /// No keys.
-const NONE: [u32; 2] = [1, 0];
+pub(crate) const NONE: [u32; 2] = [1, 0];
 
 /// 10, 20, 40 and 80: a leaf, and the set, whose root is 28 bytes before it.
-const FOUR: [u32; 9] = [0, 10, 20, 40, 80, 0, 4, 0xffff_ffe4, 4];
+pub(crate) const FOUR: [u32; 9] = [0, 10, 20, 40, 80, 0, 4, 0xffff_ffe4, 4];
 
 /// 1 to 6: a leaf of the first, and an inner node of the others.
-const SIX: [u32; 21] = [
+pub(crate) const SIX: [u32; 21] = [
     0,
     1,
     0,

@@ -3,15 +3,17 @@ ghost use Rattle.std.specs.Prelude.{◌-◌, ◌^◌, ◌<◌};
 ghost use Rattle.archive_forms_spelling.specs.Serializing.{HasState};
 
 use crate::archives::{EMPTY, ONE_PAIR, SIX_PAIRS, bytes_of, root_of};
+use crate::sets::{FOUR, NONE, SIX};
 use archive_btree::{
-    ArchivedBTreeMap, BTreeMapResolver, OwnedBTreeMap, deserialize_map, serialize_from_ordered_iter,
+    ArchivedBTreeMap, ArchivedBTreeSet, BTreeMapResolver, OwnedBTreeMap, OwnedBTreeSet,
+    deserialize_map, deserialize_set, serialize_from_ordered_iter,
 };
 use archive_core_serializing::{HighSerializer, Serializer};
 use archive_forms_text::ArchivedString;
 use archive_forms_writing::{Serialize, serialize_using};
 use archive_shape::{Allocator, ArchivedU32, Error, Positional, Registry, Writer};
 use std::alloc::Global;
-use std::collections::BTreeMap;
+use std::collections::{BTreeMap, BTreeSet};
 use std::test::Fail;
 
 /// A serializer into memory that grows.
@@ -43,23 +45,19 @@ fn numbers(alloc: Global, pairs: &[(u32, u32)]) -> Result<OwnedBTreeMap<u32, u32
     Ok(OwnedBTreeMap { map })
 }
 
-#[test]
-fn maps_are_written_as_packed_trees(rt: HostRuntime) -> Result<(), Fail> {
-    let alloc = rt.alloc();
-    let none = archive_of(alloc, &numbers(alloc, &[])?)?;
-    assert_eq!(rt; none, bytes_of(alloc, &EMPTY)?);
-    let one = archive_of(alloc, &numbers(alloc, &[(7, 11)])?)?;
-    assert_eq!(rt; one, bytes_of(alloc, &ONE_PAIR)?);
-    Ok(())
+/// Whether the archive of a map of numbers has these words.
+fn is_map_of(alloc: Global, pairs: &[(u32, u32)], words: &[u32]) -> Result<bool, Error> {
+    let bytes = archive_of(alloc, &numbers(alloc, pairs)?)?;
+    Ok(bytes == bytes_of(alloc, words)?)
 }
 
 #[test]
-fn six_entries_are_a_leaf_below_an_inner_node(rt: HostRuntime) -> Result<(), Fail> {
+fn maps_are_written_as_packed_trees(rt: HostRuntime) {
     let alloc = rt.alloc();
+    assert_eq!(rt; is_map_of(alloc, &[], &EMPTY), Ok(true));
+    assert_eq!(rt; is_map_of(alloc, &[(7, 11)], &ONE_PAIR), Ok(true));
     let pairs = [(1, 11), (2, 12), (3, 13), (4, 14), (5, 15), (6, 16)];
-    let six = archive_of(alloc, &numbers(alloc, &pairs)?)?;
-    assert_eq!(rt; six, bytes_of(alloc, &SIX_PAIRS)?);
-    Ok(())
+    assert_eq!(rt; is_map_of(alloc, &pairs, &SIX_PAIRS), Ok(true));
 }
 
 /// foo 10, bar 20, baz 40 and bat 80.
@@ -79,7 +77,10 @@ fn four(alloc: Global) -> Result<OwnedBTreeMap<String, u32, 5>, Error> {
 /// Whether a map of texts is read back from its archive as it was.
 fn is_read_back(alloc: Global, owned: &OwnedBTreeMap<String, u32, 5>) -> Result<bool, Error> {
     let bytes = archive_of(alloc, owned)?;
-    let root = root_of::<ArchivedBTreeMap<ArchivedString, ArchivedU32, 5>>(alloc, bytes.as_slice())?;
+    let root = root_of::<ArchivedBTreeMap<ArchivedString, ArchivedU32, 5>>(
+        alloc,
+        bytes.as_slice(),
+    )?;
     let read: OwnedBTreeMap<String, u32, 5> = deserialize_map(root, alloc, &mut ())?;
     Ok(read.map == owned.map)
 }
@@ -161,4 +162,45 @@ fn leaves_and_inner_nodes_are_as_many_as_a_packed_tree_has(rt: HostRuntime) {
     ] {
         assert_eq!(rt; size_of_decimals(rt.alloc(), count), Ok(size), "{count}");
     }
+}
+
+/// A set of numbers.
+fn set_of(alloc: Global, keys: &[u32]) -> Result<OwnedBTreeSet<u32, 5>, Error> {
+    let mut set = BTreeSet::new(alloc);
+    for key in keys {
+        if set.insert(*key).is_err() {
+            return Err(Error::OutOfMemory);
+        }
+    }
+    Ok(OwnedBTreeSet { set })
+}
+
+/// Whether the archive of a set of numbers has these words.
+fn is_set_of(alloc: Global, keys: &[u32], words: &[u32]) -> Result<bool, Error> {
+    let bytes = archive_of(alloc, &set_of(alloc, keys)?)?;
+    Ok(bytes == bytes_of(alloc, words)?)
+}
+
+#[test]
+fn sets_are_written_without_bytes_for_values(rt: HostRuntime) {
+    let alloc = rt.alloc();
+    assert_eq!(rt; is_set_of(alloc, &[], &NONE), Ok(true));
+    assert_eq!(rt; is_set_of(alloc, &[80, 10, 40, 20], &FOUR), Ok(true));
+    assert_eq!(rt; is_set_of(alloc, &[1, 2, 3, 4, 5, 6], &SIX), Ok(true));
+}
+
+/// The set that is read back of words.
+fn read_back(alloc: Global, words: &[u32]) -> Result<OwnedBTreeSet<u32, 5>, Error> {
+    let bytes = bytes_of(alloc, words)?;
+    let root = root_of::<ArchivedBTreeSet<ArchivedU32, 5>>(alloc, bytes.as_slice())?;
+    deserialize_set(root, alloc, &mut ())
+}
+
+#[test]
+fn sets_are_read_back(rt: HostRuntime) -> Result<(), Fail> {
+    let alloc = rt.alloc();
+    let six = set_of(alloc, &[1, 2, 3, 4, 5, 6])?;
+    assert!(rt; read_back(alloc, &SIX)?.set == six.set);
+    assert!(rt; read_back(alloc, &NONE)?.set.is_empty());
+    Ok(())
 }

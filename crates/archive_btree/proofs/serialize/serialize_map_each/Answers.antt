@@ -1,4 +1,4 @@
-use Rattle.std.proofs.Common.{List, All, sym, subst}
+use Rattle.std.proofs.Common.{arith, List, All, length, ap, sym, subst}
 use Rattle.archive_shape_writing.specs.Writing.{WriterMembers}
 use Rattle.archive_forms_spelling.specs.Serializing.{Serializes}
 use Rattle.archive_btree.specs.Owned.{entries_spelling}
@@ -8,6 +8,9 @@ use Rattle.archive_btree.proofs.serialize.serialize_map_each.Goals as goal
 pub serialize_rest_each-requires-clause-takes : goal.serialize_rest_each-requires-clause-takes
 serialize_rest_each-requires-clause-takes g c =
     takes_entries g.C.EntryStep.takes c.args.step.now c.iter.result (subst (All (g.C.EntryStep.takes c.args.step.now)) (sym c.iter.ensures.rest) c.requires.takes)
+
+pub serialize_rest_each-requires-clause-counted : goal.serialize_rest_each-requires-clause-counted
+serialize_rest_each-requires-clause-counted g c = let rest = ap length c.iter.ensures.rest in omega (arith, c.len.ensures.len, rest)
 
 pub returns : goal.returns
 returns g c =

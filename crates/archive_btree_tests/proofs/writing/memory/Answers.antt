@@ -4,6 +4,6 @@ use Rattle.archive_forms_spelling.specs.State.{initial}
 use Rattle.archive_btree_tests.proofs.writing.memory.Goals as goal
 
 pub returns-clause-state : goal.returns-clause-state
-returns-clause-state g c =
+returns-clause-state c =
     let len_of : Vec ℕ Global → ℕ = λ v. vec_len v in
     record { state = initial; is_at = record { stands = ap len_of c.new-2.ensures.writer ∙ c.new.ensures.len; knows = λ key. refl } }
