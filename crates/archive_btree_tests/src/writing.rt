@@ -1,19 +1,20 @@
 //! Tests of maps that are written, and of entries that come in order.
 ghost use Rattle.std.specs.Prelude.{◌-◌, ◌^◌, ◌<◌};
-ghost use Rattle.archive_forms_spelling.specs.Serializing.{HasState};
+ghost use Rattle.archive_forms_spelling.specs.Serializing.{HasState, SerializesBy};
 
 use crate::archives::{EMPTY, ONE_PAIR, SIX_PAIRS, bytes_of, root_of};
 use crate::sets::{FOUR, NONE, SIX};
 use archive_btree::{
-    ArchivedBTreeMap, ArchivedBTreeSet, BTreeMapResolver, OwnedBTreeMap, OwnedBTreeSet,
-    deserialize_map, deserialize_set, serialize_from_ordered_iter,
+    ArchivedBTreeMap, ArchivedBTreeSet, BTreeMapResolver, EntryParts, OwnedBTreeMap, OwnedBTreeSet,
+    deserialize_map, deserialize_set, serialize_from_ordered_iter, serialize_map_each,
 };
 use archive_core_serializing::{HighSerializer, Serializer};
 use archive_forms_text::ArchivedString;
-use archive_forms_writing::{Serialize, serialize_using};
+use archive_forms_writing::{Serialize, serialize_element, serialize_using};
 use archive_shape::{Allocator, ArchivedU32, Error, Positional, Registry, Writer};
 use std::alloc::Global;
 use std::collections::{BTreeMap, BTreeSet};
+use std::marker::PhantomData;
 use std::test::Fail;
 
 /// A serializer into memory that grows.
@@ -202,5 +203,39 @@ fn sets_are_read_back(rt: HostRuntime) -> Result<(), Fail> {
     let six = set_of(alloc, &[1, 2, 3, 4, 5, 6])?;
     assert!(rt; read_back(alloc, &SIX)?.set == six.set);
     assert!(rt; read_back(alloc, &NONE)?.set.is_empty());
+    Ok(())
+}
+
+/// Writes a map by a step for its keys and one for its values.
+fn write_by_parts<S: Writer + Allocator, K: Serialize<S> + Ord, V: Serialize<S>>(
+    map: &OwnedBTreeMap<K, V, 5>,
+    serializer: &mut S,
+) -> Result<BTreeMapResolver, Error>
+    requires room { S.failures serializer.old < 2 ^ 64 - 1 }
+    requires state { HasState S.pos S.known serializer.old }
+{
+    let step = EntryParts {
+        key: |item: &K, s: &mut S| -> Result<(K::Resolver, PhantomData<K::Archived>), Error>
+            requires room { S.failures s.old < 2 ^ 64 - 1 }
+            requires state { HasState S.pos S.known s.old }
+            ensures { SerializesBy (λ q. q.0) K.spelling S.Writer item.now s.old s.new result }
+        { serialize_element(item, s) },
+        value: |item: &V, s: &mut S| -> Result<(V::Resolver, PhantomData<V::Archived>), Error>
+            requires room { S.failures s.old < 2 ^ 64 - 1 }
+            requires state { HasState S.pos S.known s.old }
+            ensures { SerializesBy (λ q. q.0) V.spelling S.Writer item.now s.old s.new result }
+        { serialize_element(item, s) },
+    };
+    serialize_map_each::<K, V, S, _, 5>(map, serializer, &step)
+}
+
+#[test]
+fn steps_of_keys_and_of_values_write_the_same(rt: HostRuntime) -> Result<(), Fail> {
+    let alloc = rt.alloc();
+    let map = numbers(alloc, &[(7, 11)])?;
+    let mut serializer = memory(alloc);
+    let written = write_by_parts(&map, &mut serializer);
+    assert_eq!(rt; written, Ok(BTreeMapResolver::from_pos(Some(0))));
+    assert_eq!(rt; serializer.into_writer().len(), 48);
     Ok(())
 }

@@ -53,6 +53,7 @@ impl<S: Writer + Allocator, K: Serialize<S>, V: Serialize<S>> EntryStep<K, V, S>
 }
 
 /// The step of entries that is made of one of keys and one of values.
+#[derive(Drop)]
 pub struct EntryParts<F, G> {
     pub key: F,
     pub value: G,
