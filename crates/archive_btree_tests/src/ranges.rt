@@ -273,6 +273,11 @@ fn texts_are_walked_in_order(rt: HostRuntime) -> Result<(), Fail> {
         met.as_slice(),
         [(BAR, 20), (BAT, 80), (BAZ, 40), (FOO, 10)].as_slice()
     );
+    Ok(())
+}
+
+#[test]
+fn texts_in_two_levels_are_walked_in_order(rt: HostRuntime) -> Result<(), Fail> {
     let words = two_levels(rt.alloc(), TEXTS)?;
     let met = walked::<ArchivedString>(rt.alloc(), words.as_slice())?;
     let items = entries(rt.alloc(), TEXTS, 0..25)?;
