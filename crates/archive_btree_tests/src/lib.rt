@@ -20,4 +20,6 @@ mod sealing;
 #[cfg(test)]
 mod sets;
 #[cfg(test)]
+mod sizes;
+#[cfg(test)]
 mod writing;

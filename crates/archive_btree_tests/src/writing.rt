@@ -29,7 +29,7 @@ fn memory(alloc: Global) -> Memory
 }
 
 /// The archive of a value.
-fn archive_of<T: Serialize<Memory>>(alloc: Global, value: &T) -> Result<Vec<u8>, Error> {
+pub(crate) fn archive_of<T: Serialize<Memory>>(alloc: Global, value: &T) -> Result<Vec<u8>, Error> {
     let mut serializer = memory(alloc);
     serialize_using(value, &mut serializer)?;
     Ok(serializer.into_writer())

@@ -1,0 +1,90 @@
+//! Tests of maps of many sizes, and of keys and values without bytes: they are written, searched, walked and read back.
+
+use crate::archives::root_of;
+use crate::writing::archive_of;
+use archive_btree::{ArchivedBTreeMap, OwnedBTreeMap, deserialize_map};
+use archive_forms_reading::native_of;
+use archive_forms_text::ArchivedString;
+use archive_shape::{ArchivedI32, Error};
+use std::alloc::Global;
+use std::collections::BTreeMap;
+
+/// Texts that lead to numbers.
+type Numbers = OwnedBTreeMap<String, i32, 5>;
+
+type ArchivedNumbers = ArchivedBTreeMap<ArchivedString, ArchivedI32, 5>;
+
+/// The text of a number in decimal.
+fn decimal(alloc: Global, number: i32) -> Result<String, Error> {
+    match format!(in alloc; "{number}") {
+        Ok(text) => Ok(text),
+        Err(_) => Err(Error::OutOfMemory),
+    }
+}
+
+/// The map from the decimal texts of the numbers below one to those numbers.
+fn decimals(alloc: Global, count: i32) -> Result<Numbers, Error> {
+    let mut map = BTreeMap::new(alloc);
+    for number in 0..count {
+        if map.insert(decimal(alloc, number)?, number).is_err() {
+            return Err(Error::OutOfMemory);
+        }
+    }
+    Ok(OwnedBTreeMap { map })
+}
+
+/// Whether the decimal texts of the numbers below one lead to those numbers, in the archive of that map.
+fn leads_to_all(alloc: Global, count: i32) -> Result<bool, Error> {
+    let bytes = archive_of(alloc, &decimals(alloc, count)?)?;
+    let root = root_of::<ArchivedNumbers>(alloc, bytes.as_slice())?;
+    for number in 0..count {
+        let text = decimal(alloc, number)?;
+        match ArchivedBTreeMap::get(root, &text.as_str()) {
+            Some(value) if native_of(value) == number => {}
+            _ => return Ok(false),
+        }
+    }
+    Ok(true)
+}
+
+/// How many entries the archive of that map has, how many are walked, and whether the map is read back.
+fn archived(alloc: Global, count: i32) -> Result<(usize, usize, bool), Error> {
+    let owned = decimals(alloc, count)?;
+    let bytes = archive_of(alloc, &owned)?;
+    let root = root_of::<ArchivedNumbers>(alloc, bytes.as_slice())?;
+    let read: Numbers = deserialize_map(root, alloc, &mut ())?;
+    Ok((
+        ArchivedBTreeMap::len(root),
+        ArchivedBTreeMap::keys(root).count().min(ArchivedBTreeMap::values(root).count()),
+        read.map == owned.map,
+    ))
+}
+
+#[test]
+fn maps_of_many_sizes_are_read_back(rt: HostRuntime) {
+    for count in [0usize, 1, 2, 3, 4, 5, 6, 17, 35, 36, 112, 215, 100_000] {
+        assert_eq!(rt;
+            archived(rt.alloc(), count as i32),
+            Ok((count, count, true)),
+            "{count}"
+        );
+    }
+}
+
+#[test]
+fn maps_of_each_size_up_to_200_are_walked(rt: HostRuntime) {
+    for count in 0..=200usize {
+        assert_eq!(rt;
+            archived(rt.alloc(), count as i32),
+            Ok((count, count, true)),
+            "{count}"
+        );
+    }
+}
+
+#[test]
+fn every_key_leads_to_its_value(rt: HostRuntime) {
+    for count in [1, 5, 6, 17, 35, 36, 112, 215] {
+        assert_eq!(rt; leads_to_all(rt.alloc(), count), Ok(true), "{count}");
+    }
+}
