@@ -5,7 +5,7 @@ use crate::measured::{least, mixed, report};
 use std::hint::black_box;
 
 const ROUNDS: usize = 41;
-const WRITES: usize = 8;
+pub const WRITES: usize = 8;
 
 /// The heap that the library asks for, over the C library's.
 mod heap {

@@ -74,12 +74,12 @@ impl Context {
     }
 }
 
-fn word(bytes: &[u8], pos: usize) -> u32 {
+pub fn word(bytes: &[u8], pos: usize) -> u32 {
     u32::from_le_bytes(bytes[pos..pos + 4].try_into().unwrap())
 }
 
 /// Where the offset at `at` leads from `pos`.
-fn target(bytes: &[u8], pos: usize, at: usize) -> Option<usize> {
+pub fn target(bytes: &[u8], pos: usize, at: usize) -> Option<usize> {
     pos.checked_add_signed(word(bytes, at) as i32 as isize)
 }
 
@@ -216,7 +216,7 @@ pub fn sum_options(bytes: &[u8], pos: usize) -> u64 {
     total
 }
 
-fn text(bytes: &[u8], pos: usize) -> &[u8] {
+pub fn text(bytes: &[u8], pos: usize) -> &[u8] {
     let own = &bytes[pos..pos + 8];
     if is_inline(own) {
         return before_filler(own);
@@ -298,7 +298,7 @@ impl<T: Archive> Archive for Option<T> {
     }
 }
 
-fn offset(from: usize, to: usize) -> Result<i32, Refused> {
+pub fn offset(from: usize, to: usize) -> Result<i32, Refused> {
     i32::try_from(to as i64 - from as i64).map_err(|_| Refused::TooFar)
 }
 
@@ -352,7 +352,7 @@ impl Archive for String {
     }
 }
 
-fn align(out: &mut Vec<u8>, align: usize) {
+pub fn align(out: &mut Vec<u8>, align: usize) {
     let len = out.len().next_multiple_of(align);
     out.resize(len, 0);
 }

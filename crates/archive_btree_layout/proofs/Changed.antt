@@ -1,8 +1,9 @@
 -- Bytes that agree but for the values of entries.
-use Rattle.std.proofs.Common.{◌≡◌, ◌∙◌, ℕ, zero, suc, ◌+◌, ◌*◌, ◌<◌, ◌≤◌, List, [], ◌∷◌, ◌++◌, length, drop, take, sym, arith, get_or-drop, get_or-take}
-use Rattle.std.specs.Prelude.{slice_index}
+use Rattle.std.proofs.Common.{◌≡◌, ◌∙◌, ℕ, zero, suc, ◌+◌, ◌*◌, ◌<◌, ◌≤◌, List, [], ◌∷◌, ◌++◌, length, drop, take, inl, inr, sym, arith, get_or-drop, get_or-take}
+use Rattle.std.specs.Prelude.{slice_index, slice_index_or, All, AllPairs}
+use Rattle.std.proofs.lemmas.Bool.{cases_lt}
 use Rattle.std.proofs.lemmas.List.{ext_get_or, length-drop, length-take-le}
-use Rattle.std.proofs.lemmas.List.Elements.{All-nil, All-cons, All-append}
+use Rattle.std.proofs.lemmas.List.Elements.{All-nil, All-cons, All-append, All-head, All-tail}
 use Rattle.archive_shape_layout.specs.Bytes.{window, word_at}
 use Rattle.archive_shape_layout.specs.Shape.{Shape, size_of}
 use Rattle.archive_shape_layout.specs.Value.{Value}
@@ -14,7 +15,7 @@ use Rattle.archive_shape_layout.proofs.Framed.{frame}
 use Rattle.archive_shape_layout.proofs.Evaluated.{ascends_lowered, ascends_raised}
 use Rattle.archive_btree_layout.specs.Reading.{Place, places}
 use Rattle.archive_btree_layout.specs.Items.{IsHeld}
-use Rattle.archive_btree_layout.specs.Changing.{IsOutside, IsInNoValue}
+use Rattle.archive_btree_layout.specs.Changing.{IsOutside, IsInNoValue, AreApart}
 
 -- ---- indices
 
@@ -40,6 +41,55 @@ pub between_in : (v : Shape) (p : Place) (es fs : List Place) (i : ℕ) → IsIn
 between_in v p es fs i a b c =
     let P : Place → Type 0 = λ e. IsOutside e.value (e.value + size_of v) i in
     All-append P es (p ∷ fs) a (All-cons P p fs b c)
+
+-- ---- values that lie apart
+
+pairs_cons : {A : Type 0} (R : A → A → Type 0) (x : A) (xs : List A) → All (R x) xs → AllPairs R xs → AllPairs R (x ∷ xs)
+pairs_cons R x xs h g i zero d less below = absurd (omega arith)
+pairs_cons R x xs h g zero (suc j) d less below = h j d (omega arith)
+pairs_cons R x xs h g (suc i) (suc j) d less below = g i j d (omega arith) (omega arith)
+
+pairs_between : {A : Type 0} (R : A → A → Type 0) (xs : List A) (p : A) (ys : List A)
+    → AllPairs R xs → All (λ a. R a p) xs → All (λ a. All (R a) ys) xs → All (R p) ys → AllPairs R ys → AllPairs R (xs ++ p ∷ ys)
+pairs_between R [] p ys a b c d e = pairs_cons R p ys d e
+pairs_between R (x ∷ xs) p ys a b c d e =
+    pairs_cons R x (xs ++ p ∷ ys)
+    (All-append (R x) xs (p ∷ ys) (λ j f below. a 0 (suc j) f (omega arith) (omega arith)) (All-cons (R x) p ys (All-head (λ a. R a p) x xs b) (All-head (λ a. All (R a) ys) x xs c)))
+    (pairs_between R xs p ys (λ i j f less below. a (suc i) (suc j) f (omega arith) (omega arith)) (All-tail (λ a. R a p) x xs b) (All-tail (λ a. All (R a) ys) x xs c) d e)
+
+pub none_apart : (v : Shape) → AllPairs (AreApart v) []
+none_apart v i j d less below = absurd (omega arith)
+
+pub places_apart : (n : ℕ) (k : Shape) (key : ℕ) (v : Shape) (value : ℕ) → AllPairs (AreApart v) (places n k key v value)
+places_apart zero k key v value = none_apart v
+places_apart (suc n) k key v value =
+    pairs_cons (AreApart v) (record { key = key; value = value }) (places n k (key + size_of k) v (value + size_of v))
+    (λ j d below i low high. places_in n k (key + size_of k) v (value + size_of v) i (λ past. absurd (omega arith)) j d below)
+    (places_apart n k (key + size_of k) v (value + size_of v))
+
+-- what lies in a value that is in a range lies before the range's end
+before_end : (v : Shape) (low high : ℕ) (es : List Place) → AreIn v low high es → (j : ℕ) (d : Place) → j < length es → (i : ℕ)
+    → (slice_index_or es j d).value ≤ i → i < (slice_index_or es j d).value + size_of v → i < high
+before_end v low high es h j d below i from to =
+    elim (cases_lt i high) [
+      | inl lower ↦ lower
+      | inr upper ↦
+          let past = h i (λ over. upper) j d below from in
+          absurd (omega arith)
+    ]
+
+-- values before a place, the one that stands there, and others, which lie before the place or behind its value
+pub between_apart : (v : Shape) (bottom mid low : ℕ) (p : Place) (es fs : List Place) → mid ≤ p.value → low ≤ p.value
+    → AreIn v bottom mid es → ((i : ℕ) → IsOutside mid low i → (p.value + size_of v ≤ i → ⊥) → IsInNoValue v fs i)
+    → AllPairs (AreApart v) es → AllPairs (AreApart v) fs → AllPairs (AreApart v) (es ++ p ∷ fs)
+between_apart v bottom mid low p es fs below under within others a b =
+    pairs_between (AreApart v) es p fs a
+    (λ j d less i from to. let lower = before_end v bottom mid es within j d less i from to in λ over. absurd (omega arith))
+    (λ j d less n e short i from to.
+    let lower = before_end v bottom mid es within j d less i from to in
+    others i (λ over. absurd (omega arith)) (λ past. omega arith) n e short)
+    (λ n e short i from to. others i (λ over. omega arith) (λ past. omega arith) n e short)
+    b
 
 -- ---- bytes
 

@@ -1,14 +1,14 @@
 -- A tree whose last level is filled from the left by counts is packed.
-use Rattle.std.proofs.Common.{◌≡◌, ◌∙◌, ℕ, zero, suc, ◌+◌, ◌-◌, ◌*◌, ◌<◌, ◌≤◌, min, Bool, true, false, ◌||◌, List, [], ◌∷◌, ◌++◌, length, map, replicate, All, ◌⊎◌, inl, inr, refl, ap, sym, subst, arith, length-append}
+use Rattle.std.proofs.Common.{◌≡◌, ◌∙◌, ℕ, zero, suc, ◌+◌, ◌-◌, ◌*◌, ◌<◌, ◌≤◌, min, true, List, [], ◌∷◌, ◌++◌, length, replicate, All, ◌⊎◌, inl, inr, refl, ap, sym, subst, arith, length-append}
 use Rattle.std.specs.List.{flat_map}
 use Rattle.std.proofs.lemmas.Bool.{cases_lt}
 use Rattle.std.proofs.lemmas.List.{append-nil}
 use Rattle.std.proofs.Math.Nat.{le-mul_of_pos_right}
 use Rattle.std.proofs.lemmas.List.Elements.{All-cons, All-append, All-nil}
-use Rattle.archive_btree_layout.specs.Tree.{Tree, Branches, items, items_of, own_entries, entries_of, children_of, is_node, has_child}
+use Rattle.archive_btree_layout.specs.Tree.{Tree, Branches, items, items_of, entries_of, children_of, is_node, has_child}
 use Rattle.archive_btree_layout.specs.Tree.Tree.{absent, leaf, inner}
 use Rattle.archive_btree_layout.specs.Tree.Branches.{greater, lesser}
-use Rattle.archive_btree_layout.specs.Packed.{children, level, IsLinked, IsFull, IsLastLevel, IsPacked}
+use Rattle.archive_btree_layout.specs.Packed.{level, IsFull, IsLastLevel, IsPacked}
 
 -- how many places the last level has, below a node with g levels above it, and how many entries they have room for
 abbrev pub width : ℕ → ℕ → ℕ

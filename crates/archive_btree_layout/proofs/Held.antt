@@ -2,7 +2,7 @@
 -- but for its values.
 use Rattle.std.proofs.Common.{◌≡◌, ◌∙◌, ℕ, zero, suc, ◌+◌, ◌*◌, ◌<◌, ◌≤◌, Bool, true, false, ◌==◌, nat_le, List, [], ◌∷◌, ◌++◌, length, drop, Option, Some, None, refl, ap, sym, subst, arith, leb-true, eqb-true, eq-eqb, le_refl}
 use Rattle.std.proofs.Math.Nat.{mul-le-mul_right}
-use Rattle.std.specs.Prelude.{slice_index}
+use Rattle.std.specs.Prelude.{slice_index, AllPairs}
 use Rattle.archive_shape_layout.specs.Bytes.{window, word_at, target_from}
 use Rattle.archive_shape_layout.specs.Shape.{Shape, align_of, size_of}
 use Rattle.archive_shape_layout.specs.Value.{Value, Values}
@@ -23,12 +23,12 @@ use Rattle.archive_btree_layout.specs.Tree.Tree.{absent, leaf, inner}
 use Rattle.archive_btree_layout.specs.Tree.Branches.{greater, lesser}
 use Rattle.archive_btree_layout.specs.Reading.{Place, places, HasNode, HasBranches, HasChild}
 use Rattle.archive_btree_layout.specs.Items.{AreAt, ArePairs}
-use Rattle.archive_btree_layout.specs.Changing.{IsOutside, IsInNoValue, IsKept}
+use Rattle.archive_btree_layout.specs.Changing.{IsOutside, IsInNoValue, AreApart, IsKept}
 use Rattle.archive_btree_layout.specs.Reading.HasNode.{has_leaf, has_inner}
 use Rattle.archive_btree_layout.specs.Reading.HasBranches.{has_greater, has_lesser}
 use Rattle.archive_btree_layout.specs.Reading.HasChild.{no_child, a_child}
 use Rattle.archive_btree_layout.proofs.Contents.{IsPlain, IsClaimed, node_is_claimed, child_is_plain, pick, allowed, both, word_within, word_of, kind_of}
-use Rattle.archive_btree_layout.proofs.Changed.{AreIn, Agrees, AreSame, none_in, places_in, widened, between_in, word_same}
+use Rattle.archive_btree_layout.proofs.Changed.{AreIn, Agrees, AreSame, none_in, none_apart, places_in, places_apart, widened, between_in, between_apart, word_same}
 use Rattle.archive_btree_layout.proofs.Nodes.{Leads, SameNodes}
 use Rattle.archive_btree_layout.proofs.Nodes.SameNodes.{same_leaf, same_inner}
 use Rattle.archive_btree_layout.proofs.Paired.{region_inside, ascends_first, append_at, whole_is, EntriesHeld, entries_held}
@@ -49,6 +49,7 @@ module _ (names : Names) (bytes : List ℕ) (most : ℕ) (k v : Shape) where
     pub node : HasNode bytes most k v level pos tree
     pub pairs : ArePairs names bytes k v (items tree) (members value)
     pub within : AreIn v low high (items tree)
+    pub apart : AllPairs (AreApart v) (items tree)
     pub kept : (others : List ℕ) → Agrees v (items tree) bytes others low high → HasNode others most k v level pos tree × AreKept others (items tree) (members value) × SameNodes bytes others most k v level pos
 
   -- the same of a pointer to a child, which lies elsewhere
@@ -57,6 +58,7 @@ module _ (names : Names) (bytes : List ℕ) (most : ℕ) (k v : Shape) where
     pub child : HasChild bytes most k v level link tree
     pub pairs : ArePairs names bytes k v (items tree) (members value)
     pub within : AreIn v low high (items tree)
+    pub apart : AllPairs (AreApart v) (items tree)
     pub kept :
         (others : List ℕ) → Agrees v (items tree) bytes others low high → word_at others link ≡ word_at bytes link
         → HasChild others most k v level link tree × AreKept others (items tree) (members value) × AreLed others level link
@@ -110,6 +112,7 @@ module _ (names : Names) (bytes : List ℕ) (most : ℕ) (k v : Shape) where
         child = a_child not is n.node;
         pairs = n.pairs;
         within = n.within;
+        apart = n.apart;
         kept = λ others g w. let x = n.kept others g in (a_child (λ e. not (sym w ∙ e)) (ap (target_from link) w ∙ is) x.0, x.1, λ child leads. let one : t ≡ child = cc in subst (SameNodes bytes others most k v level) one x.2);
       }
 
@@ -133,6 +136,7 @@ module _ (names : Names) (bytes : List ℕ) (most : ℕ) (k v : Shape) where
         child = no_child invalid refl;
         pairs = subst (λ x. ArePairs names bytes k v [] (members x)) (sym empty) tt;
         within = none_in v low high;
+        apart = none_apart v;
         kept = λ others g w. (no_child (w ∙ invalid) refl, subst (λ x. AreKept others [] (members x)) (sym empty) tt, λ child leads. absurd (leads.0 invalid));
       }
   child_read {depth} {inside} {level} {link} low high false top read is e m all a =
@@ -168,6 +172,7 @@ module _ (names : Names) (bytes : List ℕ) (most : ℕ) (k v : Shape) where
     grows : bottom ≤ low
     below : low ≤ high
     within : (i : ℕ) → IsOutside bottom low i → IsOutside place (place + n * size_of v) i → IsInNoValue v (items_of branches) i
+    apart : AllPairs (AreApart v) (items_of branches)
     kept :
         (others : List ℕ) → Agrees v (items_of branches) bytes others bottom low → AreSame bytes others link (link + suc n * 4)
         → HasBranches others most k v n level link key place branches
@@ -217,6 +222,7 @@ module _ (names : Names) (bytes : List ℕ) (most : ℕ) (k v : Shape) where
         grows = grows;
         below = below;
         within = λ i out own. c.within i out;
+        apart = c.apart;
         kept = λ others g links.
             let x = c.kept others g (word_same bytes others link (λ i le lt. links i le (omega arith))) in
             (has_greater refl x.0 refl, last_woven _ c.tree u us x.1, λ i le. let e : link ≡ link + i * 4 = omega arith in subst (AreLed others level) e x.2);
@@ -250,6 +256,8 @@ module _ (names : Names) (bytes : List ℕ) (most : ℕ) (k v : Shape) where
         within = λ i out own.
             among i (c.within i (λ le. let past = out le in omega arith)) (λ le. let past = own le in omega (arith, past))
             (r.within i (λ le. out (omega arith)) (λ le. let past = own (omega arith) in omega (arith, past)));
+        apart =
+            between_apart v bottom mid r.low p (items c.tree) (items_of r.branches) (omega arith) (omega arith) c.within (λ i out not. r.within i out (λ le. absurd (not le))) c.apart r.apart;
         kept = λ others g links.
             let x =
             c.kept others
@@ -360,6 +368,7 @@ module _ (names : Names) (bytes : List ℕ) (most : ℕ) (k v : Shape) where
         within =
             widened v low (pos + values_offset most k v) (pos + values_offset most k v + word_at bytes (pos + links_offset most k v) * size_of v) high es (omega arith) (omega (arith, here, link, values, wide_values))
             (places_in (word_at bytes (pos + links_offset most k v)) k (pos + keys_offset k) v (pos + values_offset most k v));
+        apart = places_apart (word_at bytes (pos + links_offset most k v)) k (pos + keys_offset k) v (pos + values_offset most k v);
         kept = λ others g. let x = kept others g in (x.0, subst (λ y. AreKept others es (members y)) (sym is) x.1, x.2);
       }
 
@@ -436,6 +445,7 @@ module _ (names : Names) (bytes : List ℕ) (most : ℕ) (k v : Shape) where
         node = has_inner deep (omega arith) z r.stand refl;
         pairs = subst (λ x. ArePairs names bytes k v (items_of r.branches) (members x)) (sym is) (r.woven_pairs (other_values (suc most) vs) held.pairs);
         within = λ i out. r.within i (λ past. let gone = out (omega arith) in omega arith) (λ past. let gone = out (omega arith) in omega arith);
+        apart = r.apart;
         kept = λ others g. let x = kept others g in (x.0, subst (λ y. AreKept others (items_of r.branches) (members y)) (sym is) x.1, x.2);
       }
 

@@ -1,14 +1,14 @@
 -- Of packed trees: their items determine them, their height follows from the number of their items, and no tree of as
 -- many items has fewer nodes or less height.
-use Rattle.std.proofs.Common.{◌≡◌, ◌∙◌, ℕ, zero, suc, ◌+◌, ◌-◌, ◌*◌, ◌^◌, ◌<◌, ◌≤◌, min, max, Bool, true, false, List, [], ◌∷◌, ◌++◌, length, map, replicate, All, ◌⊎◌, inl, inr, refl, ap, sym, subst, arith, length-append}
+use Rattle.std.proofs.Common.{◌≡◌, ◌∙◌, ℕ, zero, suc, ◌+◌, ◌-◌, ◌*◌, ◌^◌, ◌<◌, ◌≤◌, min, max, List, [], ◌∷◌, ◌++◌, length, map, replicate, All, ◌⊎◌, inl, inr, refl, ap, sym, subst, arith, length-append}
 use Rattle.std.proofs.lemmas.Bool.{cases_lt}
 use Rattle.std.proofs.Math.Nat.{mul-le-mul_left, mul-le-mul_right, pow-succ', pow-zero}
 use Rattle.std.proofs.lemmas.List.Elements.{All-head, All-tail}
-use Rattle.archive_btree_layout.specs.Tree.{Tree, Branches, items, items_of, own_entries, entries_of, count_nodes, count_nodes_of, height, height_of}
+use Rattle.archive_btree_layout.specs.Tree.{Tree, Branches, items, items_of, entries_of, count_nodes, count_nodes_of, height, height_of}
 use Rattle.archive_btree_layout.specs.Tree.Tree.{absent, leaf, inner}
 use Rattle.archive_btree_layout.specs.Tree.Branches.{greater, lesser}
-use Rattle.archive_btree_layout.specs.Packed.{level, IsFull, IsLastLevel, IsPacked, IsBounded, AreBounded}
-use Rattle.archive_btree_layout.proofs.Filling.{width, room, Fills, FillsAll, Takes, Row, Row-at, width_pos, count_of, count_of_all, rows_of, left_after, share_cases}
+use Rattle.archive_btree_layout.specs.Packed.{level, IsPacked, IsBounded, AreBounded}
+use Rattle.archive_btree_layout.proofs.Filling.{width, room, Fills, FillsAll, Row, Row-at, width_pos, count_of, count_of_all, left_after}
 use Rattle.archive_btree_layout.proofs.Filling.Fills.{fills_none, fills_last, fills_leaf, fills_inner}
 use Rattle.archive_btree_layout.proofs.Filling.FillsAll.{fills_greater, fills_lesser}
 use Rattle.archive_btree_layout.proofs.Filling.Takes.{takes_none, takes}

@@ -1,6 +1,6 @@
 -- A map that the layout holds.
 use Rattle.std.proofs.Common.{◌≡◌, ◌∙◌, ℕ, ◌+◌, ◌≤◌, Bool, true, false, cond, ◌==◌, List, [], ◌∷◌, length, Option, Some, None, refl, ap, sym, subst, arith, eqb-true, eq-eqb, le_refl}
-use Rattle.std.specs.Prelude.{slice_index}
+use Rattle.std.specs.Prelude.{slice_index, AllPairs}
 use Rattle.archive_shape_layout.specs.Bytes.{window, word_at, target_from}
 use Rattle.archive_shape_layout.specs.Shape.{Shape}
 use Rattle.archive_shape_layout.specs.Shape.Shape.{tree}
@@ -16,8 +16,8 @@ use Rattle.archive_shape_layout.specs.Holds.Holds.{holds_plain, holds_claimed, h
 use Rattle.archive_shape_layout.specs.Holds.HoldAll.{holds_none, holds_more}
 use Rattle.archive_btree_layout.specs.Tree.{Tree, items}
 use Rattle.archive_btree_layout.specs.Items.{AreAt, ArePairs, IsTreeRead}
-use Rattle.archive_btree_layout.specs.Changing.{DiffersInValues, HasTree, IsInNoValue, IsKept}
-use Rattle.archive_btree_layout.specs.Laws.{TreeIsRead, TreeStays, NodesStay, PairsStay}
+use Rattle.archive_btree_layout.specs.Changing.{AreApart, DiffersInValues, HasTree, IsInNoValue, IsKept}
+use Rattle.archive_btree_layout.specs.Laws.{TreeIsRead, TreeStays, NodesStay, PairsStay, ValuesApart}
 use Rattle.archive_btree_layout.specs.Items.IsTreeRead.{reads_none, reads_tree}
 use Rattle.archive_btree_layout.specs.Reading.{Place, HasNode}
 use Rattle.archive_btree_layout.proofs.Contents.{IsPlain, chosen_plain, word_within}
@@ -186,3 +186,18 @@ nodes_stay names bytes others most k v depth inside pos value rs before after ro
     nodes_same most k v bytes others 1 root
     (root_kept names bytes others most k v pos value root t
     (map_read names bytes most k v depth inside pos value rs before after 0 pos (omega arith) h a) room some leads stood differs).2
+
+-- ---- its values
+
+values_of : (names : Names) (bytes : List ℕ) (most : ℕ) (k v : Shape) (pos : ℕ) (value : Value) (root : ℕ) (t : Tree Place) → ReadMap names bytes most k v pos 0 pos value
+    → (word_at bytes (pos + 4) ≡ 0 → ⊥) → target_from pos (word_at bytes pos) ≡ Some root → HasNode bytes most k v 1 root t
+    → AllPairs (AreApart v) (items t)
+values_of names bytes most k v pos value root t (map_none none is) some leads stood = absurd (some none)
+values_of names bytes most k v pos value root t (map_some {root = p} _ leads_there r count) some leads stood =
+    let here : p ≡ root = cc in
+    let stands = subst (λ q. HasNode bytes most k v 1 q r.tree) here r.node in
+    subst (λ u. AllPairs (AreApart v) (items u)) (one_node bytes most k v 1 root r.tree t stands stood) r.apart
+
+pub values_apart : ValuesApart
+values_apart names bytes most k v depth inside pos value rs before after root t h a room some leads stood =
+    values_of names bytes most k v pos value root t (map_read names bytes most k v depth inside pos value rs before after 0 pos (omega arith) h a) some leads stood

@@ -1,14 +1,14 @@
 -- What is packed is filled by counts. So its height follows from the number of its items, and the items determine it.
-use Rattle.std.proofs.Common.{◌≡◌, ◌∙◌, ℕ, zero, suc, ◌+◌, ◌-◌, ◌*◌, ◌<◌, ◌≤◌, min, Bool, true, false, ◌||◌, List, [], ◌∷◌, ◌++◌, length, map, replicate, All, ◌⊎◌, inl, inr, refl, ap, sym, subst, arith, length-append}
+use Rattle.std.proofs.Common.{◌≡◌, ◌∙◌, ℕ, zero, suc, ◌+◌, ◌-◌, ◌*◌, ◌<◌, min, true, false, List, [], ◌∷◌, ◌++◌, length, replicate, All, inl, inr, refl, subst, arith, length-append}
 use Rattle.std.specs.List.{flat_map}
 use Rattle.std.proofs.lemmas.Bool.{cases_lt}
 use Rattle.std.proofs.lemmas.List.{append-nil}
 use Rattle.std.proofs.lemmas.List.Elements.{All-head}
-use Rattle.archive_btree_layout.specs.Tree.{Tree, Branches, items, items_of, own_entries, entries_of, children_of, is_node, has_child}
+use Rattle.archive_btree_layout.specs.Tree.{Tree, Branches, entries_of, children_of, has_child}
 use Rattle.archive_btree_layout.specs.Tree.Tree.{absent, leaf, inner}
 use Rattle.archive_btree_layout.specs.Tree.Branches.{greater, lesser}
-use Rattle.archive_btree_layout.specs.Packed.{children, level, IsLinked, IsFull, IsLastLevel, IsPacked}
-use Rattle.archive_btree_layout.proofs.Filling.{width, room, Fills, FillsAll, Takes, Row, Row-at, width_pos, count_of, count_of_all}
+use Rattle.archive_btree_layout.specs.Packed.{level, IsFull}
+use Rattle.archive_btree_layout.proofs.Filling.{width, room, Fills, FillsAll, Takes, Row, Row-at}
 use Rattle.archive_btree_layout.proofs.Filling.Fills.{fills_none, fills_last, fills_leaf, fills_inner}
 use Rattle.archive_btree_layout.proofs.Filling.FillsAll.{fills_greater, fills_lesser}
 use Rattle.archive_btree_layout.proofs.Filling.Takes.{takes_none, takes}

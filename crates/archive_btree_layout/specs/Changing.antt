@@ -1,5 +1,5 @@
 -- What stays of a search tree where its values are written over.
-use Rattle.std.specs.Prelude.{◌≡◌, ℕ, suc, ◌+◌, ◌*◌, ◌≤◌, List, length, take, slice_index, Some, All}
+use Rattle.std.specs.Prelude.{◌≡◌, ℕ, suc, ◌+◌, ◌*◌, ◌<◌, ◌≤◌, List, length, take, slice_index, Some, All}
 use Rattle.archive_shape_layout.specs.Bytes.{word_at, target_from}
 use Rattle.archive_shape_layout.specs.Shape.{Shape, size_of}
 use Rattle.archive_shape_layout.specs.Value.{Value}
@@ -18,6 +18,10 @@ IsOutside from to i = from ≤ i → to ≤ i
 -- it lies in the value of no entry
 abbrev pub IsInNoValue : Shape → List Place → ℕ → Type 0
 IsInNoValue v es i = All (λ e. IsOutside e.value (e.value + size_of v) i) es
+
+-- the own bytes of two entries' values have no index in common
+abbrev pub AreApart : Shape → Place → Place → Type 0
+AreApart v a b = (i : ℕ) → a.value ≤ i → i < a.value + size_of v → IsOutside b.value (b.value + size_of v) i
 
 -- other bytes are as many, and differ from bytes at most in the entries' values
 pub record DiffersInValues (v : Shape) (es : List Place) (bytes others : List ℕ) : Type 0 where

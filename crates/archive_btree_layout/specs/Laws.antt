@@ -1,5 +1,5 @@
 -- The laws of search trees, as statements.
-use Rattle.std.specs.Prelude.{◌≡◌, ℕ, suc, ◌+◌, ◌*◌, ◌^◌, ◌<◌, ◌≤◌, List, length, Some, find, Contains, ◌↔◌}
+use Rattle.std.specs.Prelude.{◌≡◌, ℕ, suc, ◌+◌, ◌*◌, ◌^◌, ◌<◌, ◌≤◌, List, length, Some, find, AllPairs, Contains, ◌↔◌}
 use Rattle.std.specs.declared.cmp.Ordering.{Ordering}
 use Rattle.std.specs.declared.cmp.Ordering.TheVariants.{Equal}
 use Rattle.std.specs.Ordering.{is_eq}
@@ -8,7 +8,7 @@ use Rattle.archive_btree_layout.specs.Packed.{IsPacked, IsBounded}
 use Rattle.archive_btree_layout.specs.Descent.{descend, met}
 use Rattle.archive_btree_layout.specs.Descent as descent
 use Rattle.archive_btree_layout.specs.Items.{AreAt, IsTreeRead}
-use Rattle.archive_btree_layout.specs.Changing.{DiffersInValues, HasTree, IsNodeOf, IsKept}
+use Rattle.archive_btree_layout.specs.Changing.{AreApart, DiffersInValues, HasTree, IsNodeOf, IsKept}
 use Rattle.archive_shape_layout.specs.Shape.Shape.{tree}
 use Rattle.archive_shape_layout.specs.Value.{Value}
 use Rattle.archive_shape_layout.specs.Bytes.{word_at, target_from}
@@ -113,3 +113,16 @@ PairsStay =
     → HasNode bytes most k v 1 root t
     → DiffersInValues v (items t) bytes others
     → AreAt (IsKept names bytes others k v) (items t) (members value)
+
+-- the own bytes of its items' values lie apart from one another, so that what is written over one leaves the others
+abbrev pub ValuesApart : Type 0
+ValuesApart =
+    (names : Names) (bytes : List ℕ) (most : ℕ) (k v : Shape) (depth : ℕ) (inside : List OpenShared) (pos : ℕ) (value : Value)
+    (regions : List Region) (before after : List Visit) (root : ℕ) (t : Tree Place)
+    → Holds names bytes depth inside (at pos (tree most k v)) value regions before after
+    → Ascends 0 pos regions
+    → pos + 8 ≤ length bytes
+    → (word_at bytes (pos + 4) ≡ 0 → ⊥)
+    → target_from pos (word_at bytes pos) ≡ Some root
+    → HasNode bytes most k v 1 root t
+    → AllPairs (AreApart v) (items t)

@@ -1,17 +1,15 @@
 -- What the bounds of a range say of a map's items.
-use denote.Ref.{Bor}
-use Rattle.std.proofs.Common.{◌≡◌, ◌∙◌, ℕ, Bool, true, false, List, map, All, refl, ap, sym, subst}
+use Rattle.std.proofs.Common.{◌≡◌, ◌∙◌, ℕ, Bool, true, false, List, All, refl, ap, sym, subst}
 use Rattle.std.specs.Prelude.{not}
 use Rattle.std.specs.Ordering.{is_lt, is_le, is_gt, is_ge}
 use Rattle.std.specs.Range.Bound.{bound_map}
 use Rattle.std.specs.declared.cmp.Ordering.{Ordering}
-use Rattle.std.specs.declared.cmp.Ordering.TheVariants.{Less, Equal, Greater}
+use Rattle.std.specs.declared.cmp.Ordering.TheVariants.{Greater}
 use Rattle.std.specs.declared.ops.Bound.{Bound}
 use Rattle.std.specs.declared.ops.Bound.TheVariants.{Included, Excluded, Unbounded}
 use Rattle.archive_btree_layout.specs.Reading.{Place}
-use Rattle.archive_btree_layout.specs.Descent.{Ascends}
 use Rattle.archive_btree_searching.specs.Ranges.{Stays}
-use Rattle.archive_btree_reading.specs.Ranges.{is_before, is_behind, OfQuery, OfQueries, TellsBefore, TellsBehind, OrdersCalls, IsQueryOf}
+use Rattle.archive_btree_reading.specs.Ranges.{is_before, is_behind, OfQuery, TellsBefore, TellsBehind, OrdersCalls, IsQueryOf}
 
 not_above : (o : Ordering) → not (is_gt o) ≡ true → o ≡ Greater → ⊥
 not_above o passes e = let f : not (is_gt o) ≡ false = ap (λ x. not (is_gt x)) e in absurd cc

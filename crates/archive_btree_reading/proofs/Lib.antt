@@ -10,3 +10,5 @@ pub mod Fed
 pub mod Between
 pub mod Runs
 pub mod Same
+pub mod Sealed
+pub mod SealedCalls

@@ -18,7 +18,7 @@ use Rattle.archive_btree_reading.specs.Maps.{IsEntryAt, AreEntriesAt, IsMapOf, M
 use Rattle.archive_btree_reading.specs.Maps.IsMapAt.{has_none, has_root}
 
 -- what stands under names that a type knows
-held_under : {names : Names} {bytes : List ℕ} {s : Shape} {pos : ℕ} {value : Value} (knows : Names → Type 0) → knows names → IsHeld names bytes s pos value → HeldAt s knows bytes pos value
+pub held_under : {names : Names} {bytes : List ℕ} {s : Shape} {pos : ℕ} {value : Value} (knows : Names → Type 0) → knows names → IsHeld names bytes s pos value → HeldAt s knows bytes pos value
 held_under {names = names} knows known h =
     record {
       names = names;

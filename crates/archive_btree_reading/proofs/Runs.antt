@@ -1,6 +1,6 @@
 -- Entries of a map that stand side by side.
 use denote.Ref.{Bor}
-use Rattle.std.proofs.Common.{◌≡◌, ◌∙◌, ℕ, List, [], ◌++◌, map, All, refl, ap, sym, subst, append-nil}
+use Rattle.std.proofs.Common.{◌≡◌, ◌∙◌, ℕ, List, [], ◌++◌, map, All, ap, sym, subst, append-nil}
 use Rattle.std.proofs.lemmas.List.{map-append}
 use Rattle.std.proofs.lemmas.List.Elements.{All-map}
 use Rattle.archive_shape_layout.specs.Shape.{Shape}
@@ -18,7 +18,7 @@ use Rattle.archive_btree_reading.proofs.Held.{EntryIsThere, entries_are}
 use Rattle.archive_btree_reading.proofs.One.{one_map}
 use Rattle.archive_btree_reading.proofs.Roots.{tree_of_value}
 
-whole_run : {A : Type 0} (es : List A) → IsRun es es
+pub whole_run : {A : Type 0} (es : List A) → IsRun es es
 whole_run es = record { before = []; after = []; is = sym (append-nil es) }
 
 run_mapped : {A B : Type 0} (f : A → B) (es whole : List A) → IsRun es whole → IsRun (map f es) (map f whole)

@@ -6,3 +6,7 @@ pub mod Visits
 pub mod Comparing
 pub mod StdMaps
 pub mod Hashing
+pub mod Walks
+pub mod Seals
+pub mod Cursors
+pub mod SealedVisits

@@ -16,9 +16,13 @@ use Rattle.archive_btree_reading.specs.Refs.{key_at}
 abbrev pub QueryOrders : {Q : Type 0} → (List ℕ → ℕ → Q → Type 0) → (Q → Q → Ordering) → List ℕ → Q → (Place → Ordering) → List Place → Type 0
 QueryOrders key_of key_order bytes query order places = All (λ e. (key : _) → key_of bytes e.key key → order e ≡ ordering_reverse (key_order key query)) places
 
--- the key at a place compares as equal to the query
+-- what stands at a position compares as equal to a query
+abbrev pub IsSameAs : {Q : Type 0} → (List ℕ → ℕ → Q → Type 0) → (Q → Q → Ordering) → List ℕ → ℕ → Q → Type 0
+IsSameAs key_of key_order bytes pos query = (key : _) × key_of bytes pos key × (key_order key query ≡ Equal)
+
+-- so does the key at a place
 abbrev pub IsEqualKey : {Q : Type 0} → (List ℕ → ℕ → Q → Type 0) → (Q → Q → Ordering) → List ℕ → Q → Place → Type 0
-IsEqualKey key_of key_order bytes query e = (key : _) × key_of bytes e.key key × (key_order key query ≡ Equal)
+IsEqualKey key_of key_order bytes query e = IsSameAs key_of key_order bytes e.key query
 
 -- a call says that the query is equal to the key at a place
 abbrev pub CallsEqual : {F Q K : Type 0} → (F → Q → Ref K → Ordering → Type 0) → F → Q → Bor (List ℕ) → Place → Type 0

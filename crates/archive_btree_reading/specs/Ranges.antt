@@ -9,7 +9,7 @@ use Rattle.std.specs.declared.ops.Bound.TheVariants.{Included, Excluded, Unbound
 use Rattle.archive_shape_references.specs.declared.refs.Ref.{Ref}
 use Rattle.archive_btree_layout.specs.Reading.{Place}
 use Rattle.archive_btree_layout.specs.Descent.{Ascends}
-use Rattle.archive_btree_reading.specs.Lookups.{QueryOrders, CallsOrder}
+use Rattle.archive_btree_reading.specs.Lookups.{CallsOrder}
 use Rattle.archive_btree_reading.specs.Refs.{key_at}
 
 -- `order` says how the query of a bound compares with the key at a place

@@ -1,13 +1,9 @@
 -- When the pairs of a map are the same as those of a map of std.
-use Rattle.std.specs.Prelude.{◌≡◌, ℕ, List}
+use Rattle.std.specs.Prelude.{ℕ, List}
 use Rattle.std.specs.declared.cmp.Ordering.{Ordering}
-use Rattle.std.specs.declared.cmp.Ordering.TheVariants.{Equal}
 use Rattle.archive_shape_references.specs.declared.refs.Ref.{Ref}
 use Rattle.archive_btree_layout.specs.Reading.{Place}
-
--- what stands at a position compares as equal to a query
-abbrev pub IsSameAs : {Q : Type 0} → (List ℕ → ℕ → Q → Type 0) → (Q → Q → Ordering) → List ℕ → ℕ → Q → Type 0
-IsSameAs key_of order bytes pos query = (key : _) × key_of bytes pos key × (order key query ≡ Equal)
+use Rattle.archive_btree_reading.specs.Lookups.{IsSameAs}
 
 module _ {Q W : Type 0} (key_of : List ℕ → ℕ → Q → Type 0) (key_order : Q → Q → Ordering) (value_of : List ℕ → ℕ → W → Type 0) (value_order : W → W → Ordering) where
   -- the key at a place is the same as that of a pair, and the value as its value

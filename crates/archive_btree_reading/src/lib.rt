@@ -11,7 +11,7 @@ mod map;
 mod range;
 mod resolving;
 mod root;
-mod seal;
+mod sealing;
 mod std_map;
 mod walking;
 
@@ -23,4 +23,5 @@ pub use laws::{
 pub use map::ArchivedBTreeMap;
 pub use range::Range;
 pub use resolving::BTreeMapResolver;
+pub use sealing::{IterSeal, RangeSeal, ValuesSeal};
 pub use std_map::eq_btree_map;

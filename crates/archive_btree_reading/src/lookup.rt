@@ -24,7 +24,7 @@ use std::cmp::Ordering;
 
 /// Searches the map at `pos`, and counts the keys that it compares. `compare` says how the query compares with the key at
 /// a position.
-fn search_map<K: Portable, V: Portable, F: Fn(usize) -> Ordering, const E: usize>(
+pub(crate) fn search_map<K: Portable, V: Portable, F: Fn(usize) -> Ordering, const E: usize>(
     bytes: &[u8],
     pos: usize,
     compare: &F,
@@ -157,14 +157,14 @@ impl<K, V: Portable, const E: usize> ArchivedBTreeMap<K, V, E> {
 impl<K: Portable, V: Portable, const E: usize> ArchivedBTreeMap<K, V, E> {
     /// The entry that the caller's comparison finds. `compare` says how the query compares with a key: where it does not
     /// agree with the order of the keys, an entry may not be found.
-    pub fn get_key_value_with<'a, Q, F: Fn(&Q, Ref<'a, K>) -> Ordering>(
+    pub fn get_key_value_with<'a, Q, F: Fn(&Q, Ref<'_, K>) -> Ordering>(
         this: Ref<'a, ArchivedBTreeMap<K, V, E>>,
         query: &Q,
         compare: &F,
     ) -> Option<(Ref<'a, K>, Ref<'a, V>)>
         requires has { HasValue (tree E K.shape V.shape) (both K.knows V.knows) this.bytes.now this.pos }
         requires callable { (t : Tree Place) → IsMapAt this.bytes.now E K.shape V.shape this.pos t
-            → All (λ e. F.pre compare.now query (key_at this.bytes e)) (items t) }
+            → All (λ e. HasValue K.shape K.knows this.bytes.now e.key → F.pre compare.now query (key_at this.bytes e)) (items t) }
         ensures there { IfSome result (λ r. HasValue K.shape K.knows r.0.bytes.now r.0.pos × HasValue V.shape V.knows r.1.bytes.now r.1.pos) }
         ensures found { (t : Tree Place) → IsMapAt this.entry.bytes.now E K.shape V.shape this.entry.pos t
             → Finds (entry_at this.entry.bytes) (CallsEqual F.post compare.now query.entry this.entry.bytes) (items t) result }

@@ -1,5 +1,5 @@
 //! The entries of an archived B-tree map between two bounds.
-ghost use Rattle.std.specs.Prelude.{◌≡◌, None, IfSome, map, All};
+ghost use Rattle.std.specs.Prelude.{◌≡◌, List, None, IfSome, map, All};
 ghost use Rattle.std.specs.Iterator.{YieldsFirst, UpTo, item_count};
 ghost use Rattle.std.specs.Iterator.SizeHint.{IsWithinCount};
 ghost use Rattle.std.specs.Ordering.{ordering_reverse};
@@ -15,10 +15,12 @@ ghost use Rattle.archive_btree_reading.specs.Lookups.{QueryOrders};
 ghost use Rattle.archive_btree_reading.specs.Maps.{IsMapAt};
 ghost use Rattle.archive_btree_reading.specs.Ranges.{OfQuery, OfQueries, TellsBefore, TellsBehind, OrdersCalls, CallsOrderOf, MayCompare, items_between};
 ghost use Rattle.archive_btree_reading.specs.Refs.{key_at, entry_at, IsThere};
+ghost use Rattle.archive_btree_reading.specs.Walks.{WalksIn};
 
 use crate::ArchivedBTreeMap;
 use crate::root::root_at;
 use archive_btree_nodes::NodeLayout;
+use archive_btree_searching::EntryWalk;
 use archive_shape::ArchivedKey;
 use archive_shape_portable::Portable;
 use archive_shape_references::Ref;
@@ -110,6 +112,38 @@ fn is_behind<Q, C: Fn(&Q, usize) -> Ordering>(end: Bound<&Q>, at: usize, compare
     }
 }
 
+/// A walk over the entries between two bounds of the map at `pos` that holds no bytes. `compare` says how the query of a
+/// bound compares with the key at a position.
+pub(crate) fn walk_between<
+    K: Portable,
+    V: Portable,
+    Q,
+    C: Fn(&Q, usize) -> Ordering,
+    const E: usize,
+>(bytes: &[u8], pos: usize, start: Bound<&Q>, end: Bound<&Q>, compare: &C) -> EntryWalk
+    requires has { HasValue (tree E K.shape V.shape) (both K.knows V.knows) bytes.now pos }
+    requires callable { (t : Tree Place) → IsMapAt bytes.now E K.shape V.shape pos t
+        → All (λ e. OfQueries (λ query. C.pre compare.now query e.key) start end) (items t) }
+    ensures within { (t : Tree Place) → IsMapAt bytes.now E K.shape V.shape pos t
+        → (es : List Place) × WalksIn bytes.now E K.shape V.shape pos result es × IsRun es (items t) }
+    ensures between { (t : Tree Place) (order : Q → Place → Ordering) → IsMapAt bytes.now E K.shape V.shape pos t
+        → OfQueries (λ query. OrdersCalls C.post compare.now query (order query.now) (items t)) start.entry end.entry
+        → WalksIn bytes.now E K.shape V.shape pos result (items_between order (bound_map (λ q. q.now) start.entry) (bound_map (λ q. q.now) end.entry) (items t)) }
+{
+    let Some(root) = root_at::<K, V, E>(bytes, pos) else {
+        return EntryWalk::empty(NodeLayout::of::<K, V, E>());
+    };
+    let precedes = |at: usize| -> bool
+        requires { OfQuery (λ query. C.pre compare.now query at) start }
+        ensures { TellsBefore C.post compare.entry.now start.entry at result }
+    { is_before(start, at, compare) };
+    let follows = |at: usize| -> bool
+        requires { OfQuery (λ query. C.pre compare.now query at) end }
+        ensures { TellsBehind C.post compare.entry.now end.entry at result }
+    { is_behind(end, at, compare) };
+    EntryWalk::between(bytes, root.pos, root.layout, &precedes, &follows)
+}
+
 /// A walk over the entries between two bounds of the map at `pos`. `compare` says how the query of a bound compares with
 /// the key at a position.
 pub(crate) fn range_at<
@@ -134,18 +168,7 @@ pub(crate) fn range_at<
         → OfQueries (λ query. OrdersCalls C.post compare.now query (order query.now) (items t)) start.entry end.entry
         → result ≡ items_between order (bound_map (λ q. q.now) start.entry) (bound_map (λ q. q.now) end.entry) (items t) }
 {
-    let Some(root) = root_at::<K, V, E>(bytes, pos) else {
-        return archive_btree_searching::Range::empty(bytes, NodeLayout::of::<K, V, E>());
-    };
-    let precedes = |at: usize| -> bool
-        requires { OfQuery (λ query. C.pre compare.now query at) start }
-        ensures { TellsBefore C.post compare.entry.now start.entry at result }
-    { is_before(start, at, compare) };
-    let follows = |at: usize| -> bool
-        requires { OfQuery (λ query. C.pre compare.now query at) end }
-        ensures { TellsBehind C.post compare.entry.now end.entry at result }
-    { is_behind(end, at, compare) };
-    archive_btree_searching::Range::new(bytes, root.pos, root.layout, &precedes, &follows)
+    walk_between::<K, V, _, _, E>(bytes, pos, start, end, compare).over(bytes)
 }
 
 impl<K, V: Portable, const E: usize> ArchivedBTreeMap<K, V, E> {
@@ -187,7 +210,7 @@ impl<K, V: Portable, const E: usize> ArchivedBTreeMap<K, V, E> {
 impl<K: Portable, V: Portable, const E: usize> ArchivedBTreeMap<K, V, E> {
     /// The entries whose keys lie between two bounds by the caller's comparison. `compare` says how the query of a bound
     /// compares with a key: where it does not agree with the order of the keys, the entries are some that stand side by side.
-    pub fn range_with<'a, Q, R: RangeBounds<Q>, F: Fn(&Q, Ref<'a, K>) -> Ordering>(
+    pub fn range_with<'a, Q, R: RangeBounds<Q>, F: Fn(&Q, Ref<'_, K>) -> Ordering>(
         this: Ref<'a, ArchivedBTreeMap<K, V, E>>,
         bounds: R,
         compare: &F,

@@ -1,16 +1,18 @@
 //! Where the search tree of a map begins.
-ghost use Rattle.std.specs.Prelude.{◌≡◌, ℕ, ◌+◌, ◌<◌, ◌≤◌, length, MatchOption};
+ghost use Rattle.std.specs.Prelude.{◌≡◌, ℕ, ◌+◌, ◌<◌, ◌≤◌, length, IfSome, MatchOption};
 ghost use Rattle.archive_shape_layout.specs.Bytes.{word_at};
 ghost use Rattle.archive_shape_layout.specs.Shape.Shape.{tree};
 ghost use Rattle.archive_btree_layout.specs.Tree.{Tree, items};
 ghost use Rattle.archive_btree_layout.specs.Tree.Tree.{absent};
 ghost use Rattle.archive_btree_layout.specs.Reading.{Place};
+ghost use Rattle.archive_btree_nodes.specs.Layout.{IsLayout};
 ghost use Rattle.archive_btree_searching.specs.Layout.{IsTreeAt};
-ghost use Rattle.archive_forms_reading.specs.Parts.{HasValue, both};
+ghost use Rattle.archive_forms_reading.specs.Parts.{HasValue, PointsTo, both};
 ghost use Rattle.archive_btree_reading.specs.Maps.{IsMapAt};
+ghost use Rattle.archive_btree_reading.specs.Walks.{WalksIn};
 
 use archive_btree_nodes::NodeLayout;
-use archive_btree_searching::Walk;
+use archive_btree_searching::{EntryWalk, Walk};
 use archive_forms_reading::target_of;
 use archive_shape_portable::Portable;
 
@@ -37,9 +39,12 @@ pub(crate) fn root_at<K: Portable, V: Portable, const E: usize>(
     pos: usize,
 ) -> Option<Root>
     requires has { HasValue (tree E K.shape V.shape) (both K.knows V.knows) bytes.now pos }
-    ensures { (t : Tree Place) → IsMapAt bytes.now E K.shape V.shape pos t → MatchOption result
+    ensures tree { (t : Tree Place) → IsMapAt bytes.now E K.shape V.shape pos t → MatchOption result
         (t ≡ absent)
         (λ root. IsTreeAt bytes.now root.layout 1 root.pos t) }
+    ensures leads { MatchOption result
+        (word_at bytes.now (pos + 4) ≡ 0)
+        (λ root. PointsTo bytes.now pos root.pos × IsLayout E K.shape V.shape root.layout) }
 {
     let _len = bytes.len();
     if count_at(bytes, pos) == 0 {
@@ -62,5 +67,19 @@ pub(crate) fn walk_at<K: Portable, V: Portable, const E: usize>(
     match root_at::<K, V, E>(bytes, pos) {
         Some(root) => Walk::new(bytes, root.pos, root.layout, count_at(bytes, pos)),
         None => Walk::empty(bytes, NodeLayout::of::<K, V, E>()),
+    }
+}
+
+/// A walk over the entries of the map at `pos` that holds no bytes.
+pub(crate) fn entry_walk_at<K: Portable, V: Portable, const E: usize>(
+    bytes: &[u8],
+    pos: usize,
+) -> EntryWalk
+    requires has { HasValue (tree E K.shape V.shape) (both K.knows V.knows) bytes.now pos }
+    ensures { (t : Tree Place) → IsMapAt bytes.now E K.shape V.shape pos t → WalksIn bytes.now E K.shape V.shape pos result (items t) }
+{
+    match root_at::<K, V, E>(bytes, pos) {
+        Some(root) => EntryWalk::new(bytes, root.pos, root.layout),
+        None => EntryWalk::empty(NodeLayout::of::<K, V, E>()),
     }
 }

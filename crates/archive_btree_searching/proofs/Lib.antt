@@ -3,7 +3,10 @@ pub mod Sublists
 pub mod NodeTree
 pub mod Descending
 pub mod Nodes
+pub mod Reached
 pub mod Walked
 pub mod Visited
 pub mod Passing
 pub mod Ranged
+pub mod Stepped
+pub mod Stays

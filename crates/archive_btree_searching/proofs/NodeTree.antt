@@ -85,7 +85,7 @@ module _ (bytes : List ℕ) (most : ℕ) (k v : Shape) (l : NodeLayout) (lay : I
 
   -- ---- a leaf's entries have no children
 
-  leaf_branching : (level pos len i key value : ℕ) → slice_index bytes pos ≡ 0
+  pub leaf_branching : (level pos len i key value : ℕ) → slice_index bytes pos ≡ 0
       → key ≡ pos + l.keys + i * l.key_size → value ≡ pos + l.values + i * l.value_size
       → Branching bytes l level pos len i (bare (places len k key v value))
   leaf_branching level pos zero i key value kind a b = last {t = absent} refl (rw kind refl) refl
@@ -96,7 +96,7 @@ module _ (bytes : List ℕ) (most : ℕ) (k v : Shape) (l : NodeLayout) (lay : I
 
   -- ---- an inner node's children are those that its pointers lead to
 
-  inner_branching : (level pos n i link key value : ℕ) (bs : Branches Place) → slice_index bytes pos ≡ 1
+  pub inner_branching : (level pos n i link key value : ℕ) (bs : Branches Place) → slice_index bytes pos ≡ 1
       → link ≡ link_at bytes l pos i → key ≡ pos + l.keys + i * l.key_size → value ≡ pos + l.values + i * l.value_size
       → HasBranches bytes most k v n level link key value bs
       → Branching bytes l level pos n i bs
@@ -107,19 +107,19 @@ module _ (bytes : List ℕ) (most : ℕ) (k v : Shape) (l : NodeLayout) (lay : I
       (inner_branching level pos m (suc i) (link + 4) (key + size_of k) (value + size_of v) cs kind (omega arith) (next_key pos i key a) (next_value pos i value b) r)
       (e ∙ ap (λ p. lesser t p cs) (entry_is pos i key value a b))
 
-  start_key : (pos : ℕ) → pos + keys_offset k ≡ pos + l.keys + 0 * l.key_size
+  pub start_key : (pos : ℕ) → pos + keys_offset k ≡ pos + l.keys + 0 * l.key_size
   start_key pos = let s = lay.keys in omega arith
 
-  start_value : (pos : ℕ) → pos + values_offset most k v ≡ pos + l.values + 0 * l.value_size
+  pub start_value : (pos : ℕ) → pos + values_offset most k v ≡ pos + l.values + 0 * l.value_size
   start_value pos = let s = lay.values in omega arith
 
-  start_link : (pos : ℕ) → pos + links_offset most k v ≡ link_at bytes l pos 0
+  pub start_link : (pos : ℕ) → pos + links_offset most k v ≡ link_at bytes l pos 0
   start_link pos = let s = lay.links in omega arith
 
-  leaf_count : (pos : ℕ) → slice_index bytes pos ≡ 0 → entry_count bytes l pos ≡ word_at bytes (pos + links_offset most k v)
+  pub leaf_count : (pos : ℕ) → slice_index bytes pos ≡ 0 → entry_count bytes l pos ≡ word_at bytes (pos + links_offset most k v)
   leaf_count pos kind = rw (kind, lay.links) refl
 
-  inner_count : (pos : ℕ) → slice_index bytes pos ≡ 1 → entry_count bytes l pos ≡ most
+  pub inner_count : (pos : ℕ) → slice_index bytes pos ≡ 1 → entry_count bytes l pos ≡ most
   inner_count pos kind = rw kind lay.entries
 
   pub node_branching : (level pos : ℕ) (t : Tree Place) → HasNode bytes most k v level pos t → HasBranching bytes l level pos t

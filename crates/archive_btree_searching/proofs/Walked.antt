@@ -21,7 +21,7 @@ module _ (bytes : List ℕ) (l : NodeLayout) where
     child_same None t is = rw is refl
     child_same (Some pos) t is = same pos t is
 
-    branches_same : (pos n i : ℕ) (bs : Branches Place) → Branching bytes l level pos n i bs
+    pub branches_same : (pos n i : ℕ) (bs : Branches Place) → Branching bytes l level pos n i bs
         → child_items bytes l below (child_of bytes l pos i) ++ items_from bytes l below pos n i ≡ items_of bs
     branches_same pos n i bs (last {t = t} z c e) = rw (e, z, child_same (child_of bytes l pos i) t c) (append-nil (items t))
     branches_same pos n i bs (more {m = m} {t = t} {cs = cs} z c r e) =

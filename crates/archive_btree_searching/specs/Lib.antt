@@ -4,3 +4,4 @@ pub mod Searching
 pub mod Walking
 pub mod Visiting
 pub mod Ranges
+pub mod Stepping

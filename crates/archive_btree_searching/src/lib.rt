@@ -4,11 +4,11 @@
 mod node;
 mod range;
 mod search;
-mod visit;
+mod stepping;
 mod walk;
 
 pub use node::EntryAt;
 pub use range::Range;
 pub use search::{search_counted, search_tree};
-pub use visit::visit_tree;
+pub use stepping::EntryWalk;
 pub use walk::Walk;

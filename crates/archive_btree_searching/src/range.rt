@@ -5,10 +5,11 @@ ghost use Rattle.archive_btree_layout.specs.Tree.{Tree, items};
 ghost use Rattle.archive_btree_layout.specs.Reading.{Place};
 ghost use Rattle.archive_btree_searching.specs.Layout.{IsTreeAt};
 ghost use Rattle.archive_btree_searching.specs.Nodes.{place_of};
-ghost use Rattle.archive_btree_searching.specs.Ranges.{Decides, Stays, IsRun};
+ghost use Rattle.archive_btree_searching.specs.Ranges.{Decides, Stays, IsRun, before_key};
+ghost use Rattle.archive_btree_searching.specs.Walking.{stack_items, IsStack};
 
-use crate::EntryAt;
-use crate::walk::{Stack, pass_entry};
+use crate::walk::{Stack, pass_before};
+use crate::{EntryAt, EntryWalk};
 use archive_btree_nodes::NodeLayout;
 use std::iter::FusedIterator;
 use std::marker::Model;
@@ -56,35 +57,26 @@ impl<'a> Range<'a> {
             → Stays (λ e. not (p e)) (items t) → Stays q (items t)
             → result ≡ filter (λ e. not (p e) && not (q e)) (items t) }
     {
-        let stack = Stack::behind(bytes, root, layout, precedes);
-        let Some(first) = stack.next_key(bytes, layout) else {
-            return Range::empty(bytes, layout);
-        };
-        let is_behind = follows(first);
-        if is_behind {
-            return Range::empty(bytes, layout);
-        }
-        let is_before_end = |key: usize| -> bool
-            requires { G.pre follows.now key }
-            ensures { G.post follows.entry.now key (not result) }
-        { !follows(key) };
-        Range {
-            bytes,
-            layout,
-            stack,
-            end: Stack::behind(bytes, root, layout, &is_before_end).next_key(bytes, layout),
-        }
+        EntryWalk::between(bytes, root, layout, precedes, follows).over(bytes)
     }
 
     /// A walk over no entries.
     pub fn empty(bytes: &'a [u8], layout: NodeLayout) -> Self
         ensures { result ≡ [] }
     {
+        EntryWalk::empty(layout).over(bytes)
+    }
+
+    /// What a walk has left.
+    pub(crate) fn from_walk(bytes: &'a [u8], walk: EntryWalk) -> Self
+        requires { IsStack bytes.now walk.layout walk.stack.nodes walk.stack.nexts walk.stack.depth }
+        ensures { result ≡ before_key walk.end (stack_items bytes.entry.now walk.layout walk.stack.nodes walk.stack.nexts walk.stack.depth) }
+    {
         Range {
             bytes,
-            layout,
-            stack: Stack::new(),
-            end: None,
+            layout: walk.layout,
+            stack: walk.stack,
+            end: walk.end,
         }
     }
 }
@@ -97,12 +89,7 @@ impl<'a> Iterator for Range<'a> {
     ghost remaining = { item_count (λ xs. xs) };
 
     fn next(&mut self) -> Option<EntryAt> {
-        let entry = pass_entry(&mut self.stack, self.bytes, self.layout)?;
-        if self.end == Some(entry.key) {
-            self.stack = Stack::new();
-            return None;
-        }
-        Some(entry)
+        pass_before(&mut self.stack, self.end, self.bytes, self.layout)
     }
 }
 

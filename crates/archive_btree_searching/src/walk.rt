@@ -7,7 +7,8 @@ ghost use Rattle.archive_btree_layout.specs.Reading.{Place};
 ghost use Rattle.archive_btree_searching.specs.Layout.{IsTreeAt};
 ghost use Rattle.archive_btree_searching.specs.Nodes.{place_of};
 ghost use Rattle.archive_btree_searching.specs.Walking.{child_items, node_items, stack_items, IsStack};
-ghost use Rattle.archive_btree_searching.specs.Ranges.{Decides, Stays, IfFirst, next_key};
+ghost use Rattle.archive_btree_searching.specs.Ranges.{Decides, Stays, IfFirst, next_key, before_key};
+ghost use Rattle.archive_btree_searching.specs.Stepping.{IsReached, AreReached};
 
 use crate::EntryAt;
 use crate::node::{child_of, entry_count, entry_of};
@@ -41,6 +42,7 @@ impl Stack {
     pub(crate) fn at_root(bytes: &[u8], root: usize, layout: NodeLayout) -> Self
         requires { (t : Tree Place) × IsTreeAt bytes.now layout 1 root t }
         ensures stands { IsStack bytes.now layout result.nodes result.nexts result.depth }
+        ensures reached { AreReached bytes.now layout root result.nodes result.depth }
         ensures items { (t : Tree Place) → IsTreeAt bytes.now layout 1 root t → stack_items bytes.now layout result.nodes result.nexts result.depth ≡ items t }
     {
         let mut stack = Stack::new();
@@ -58,6 +60,7 @@ impl Stack {
     ) -> Self
         requires tree { (t : Tree Place) × IsTreeAt bytes.now layout 1 root t × All (λ e. F.pre passes.now e.key) (items t) }
         ensures stands { IsStack bytes.now layout result.nodes result.nexts result.depth }
+        ensures reached { AreReached bytes.now layout root result.nodes result.depth }
         ensures left { (t : Tree Place) → IsTreeAt bytes.now layout 1 root t
             → (before : List Place) × (items t ≡ before ++ stack_items bytes.now layout result.nodes result.nexts result.depth) }
         ensures first { IfFirst (λ e. F.post passes.now e.key false) (stack_items bytes.now layout result.nodes result.nexts result.depth) }
@@ -110,6 +113,8 @@ fn push_first(stack: &mut Stack, bytes: &[u8], layout: NodeLayout, mut child: Op
     requires stands { IsStack bytes.now layout stack.old.nodes stack.old.nexts stack.old.depth }
     requires leads { IfSome child (λ pos. (t : Tree Place) × IsTreeAt bytes.now layout (stack.old.depth + 1) pos t) }
     ensures stands { IsStack bytes.now layout stack.new.nodes stack.new.nexts stack.new.depth }
+    ensures reached { (root : ℕ) → AreReached bytes.now layout root stack.old.nodes stack.old.depth
+        → IfSome child (IsReached bytes.now layout root stack.old.depth) → AreReached bytes.now layout root stack.new.nodes stack.new.depth }
     ensures items { stack_items bytes.now layout stack.new.nodes stack.new.nexts stack.new.depth
         ≡ child_items bytes.now layout (node_items bytes.now layout (32 - stack.old.depth)) child ++ stack_items bytes.now layout stack.old.nodes stack.old.nexts stack.old.depth }
 {
@@ -126,6 +131,8 @@ fn push_first(stack: &mut Stack, bytes: &[u8], layout: NodeLayout, mut child: Op
 pub(crate) fn pass_entry(stack: &mut Stack, bytes: &[u8], layout: NodeLayout) -> Option<EntryAt>
     requires { IsStack bytes.now layout stack.old.nodes stack.old.nexts stack.old.depth }
     ensures stands { IsStack bytes.now layout stack.new.nodes stack.new.nexts stack.new.depth }
+    ensures reached { (root : ℕ) → AreReached bytes.now layout root stack.old.nodes stack.old.depth
+        → AreReached bytes.now layout root stack.new.nodes stack.new.depth }
     ensures items { MatchOption result
         ((stack_items bytes.now layout stack.old.nodes stack.old.nexts stack.old.depth ≡ [])
         × (stack_items bytes.now layout stack.new.nodes stack.new.nexts stack.new.depth ≡ []))
@@ -145,6 +152,31 @@ pub(crate) fn pass_entry(stack: &mut Stack, bytes: &[u8], layout: NodeLayout) ->
         stack.depth = top;
     }
     None
+}
+
+/// The entry that comes next, which is passed, up to the one whose key stands at `end`.
+pub(crate) fn pass_before(
+    stack: &mut Stack,
+    end: Option<usize>,
+    bytes: &[u8],
+    layout: NodeLayout,
+) -> Option<EntryAt>
+    requires { IsStack bytes.now layout stack.old.nodes stack.old.nexts stack.old.depth }
+    ensures stands { IsStack bytes.now layout stack.new.nodes stack.new.nexts stack.new.depth }
+    ensures reached { (root : ℕ) → AreReached bytes.now layout root stack.old.nodes stack.old.depth
+        → AreReached bytes.now layout root stack.new.nodes stack.new.depth }
+    ensures items { MatchOption result
+        ((before_key end (stack_items bytes.now layout stack.old.nodes stack.old.nexts stack.old.depth) ≡ [])
+        × (before_key end (stack_items bytes.now layout stack.new.nodes stack.new.nexts stack.new.depth) ≡ []))
+        (λ e. before_key end (stack_items bytes.now layout stack.old.nodes stack.old.nexts stack.old.depth)
+        ≡ place_of e ∷ before_key end (stack_items bytes.now layout stack.new.nodes stack.new.nexts stack.new.depth)) }
+{
+    let entry = pass_entry(stack, bytes, layout)?;
+    if end == Some(entry.key) {
+        *stack = Stack::new();
+        return None;
+    }
+    Some(entry)
 }
 
 /// A walk over a tree's entries in their order. It is seen as the items that are left.

@@ -5,6 +5,7 @@ ghost use Rattle.archive_forms_reading.specs.Parts.{HasValue};
 use archive_btree_reading::ArchivedBTreeMap;
 use archive_core_access::access;
 use archive_core_validation::HighValidator;
+use archive_forms_text::ArchivedString;
 use archive_shape::{ArchivedU32, CheckBytes, Error, Ref};
 use std::alloc::{AllocError, Global};
 
@@ -86,6 +87,42 @@ pub(crate) const EMPTY_LEAF: [u32; 31] = [
     0xffff_ff90,
     0xffff_ffbc,
     5,
+];
+
+/// A map from texts to numbers with at most five entries in a node. A leaf has 17 words: its kind, five keys of two words,
+/// five values and its length.
+pub(crate) type Texts = ArchivedBTreeMap<ArchivedString, ArchivedU32, 5>;
+
+/// The first word of the text bar: its bytes, and one of ones.
+pub(crate) const BAR: u32 = 0xff72_6162;
+
+pub(crate) const BAT: u32 = 0xff74_6162;
+
+pub(crate) const BAZ: u32 = 0xff7a_6162;
+
+pub(crate) const FOO: u32 = 0xff6f_6f66;
+
+/// bar, bat, baz and foo lead to 20, 80, 40 and 10: a leaf, and the map, whose root is 68 bytes before it.
+pub(crate) const FOUR_TEXTS: [u32; 19] = [
+    0,
+    BAR,
+    0xffff_ffff,
+    BAT,
+    0xffff_ffff,
+    BAZ,
+    0xffff_ffff,
+    FOO,
+    0xffff_ffff,
+    0,
+    0,
+    20,
+    80,
+    40,
+    10,
+    0,
+    4,
+    0xffff_ffbc,
+    4,
 ];
 
 /// The bytes of words.

@@ -6,7 +6,17 @@ mod archives;
 #[cfg(test)]
 mod checking;
 #[cfg(test)]
+mod comparing;
+#[cfg(test)]
+mod levels;
+#[cfg(test)]
+mod printing;
+#[cfg(test)]
+mod ranges;
+#[cfg(test)]
 mod reading;
+#[cfg(test)]
+mod sealing;
 #[cfg(test)]
 mod sets;
 #[cfg(test)]

@@ -1,10 +1,15 @@
 //! Tests of what is read of archived maps.
+ghost use Rattle.std.specs.Prelude.{false, ⊤};
+ghost use Rattle.std.specs.Int.{w32};
+ghost use Rattle.archive_shape_layout.specs.Shape.Shape.{number};
+ghost use Rattle.archive_forms_reading.specs.Parts.{HasValue};
 
 use crate::archives::{EMPTY, EMPTY_LEAF, Numbers, ONE_PAIR, SIX_PAIRS, bytes_of, root_of};
 use archive_btree_reading::ArchivedBTreeMap;
 use archive_forms_reading::native_of;
 use archive_shape::{ArchivedU32, Error, Ref};
 use std::alloc::Global;
+use std::cmp::Ordering;
 use std::ops::ControlFlow;
 use std::test::Fail;
 
@@ -40,6 +45,36 @@ fn keys_lead_to_their_values(rt: HostRuntime) {
     }
     assert_eq!(rt; found(rt.alloc(), &EMPTY_LEAF, 3), Ok((Some(13), 3)));
     assert_eq!(rt; found(rt.alloc(), &EMPTY_LEAF, 9), Ok((None, 5)));
+}
+
+/// The word of the value that a key leads to, by each call that looks a key up, and whether the map has the key.
+fn looked_up(alloc: Global, words: &[u32], key: u32) -> Result<([Option<usize>; 3], bool), Error> {
+    let bytes = bytes_of(alloc, words)?;
+    let root = root_of::<Numbers>(alloc, bytes.as_slice())?;
+    let compare = |query: &u32, key: Ref<'_, ArchivedU32>| -> Ordering
+        requires { HasValue (number w32 false) (λ _. ⊤) key.bytes.now key.pos }
+    { query.cmp(&native_of(key)) };
+    let found = [
+        ArchivedBTreeMap::get(root, &key).map(|value| value.pos()),
+        ArchivedBTreeMap::get_key_value(root, &key).map(|(_, value)| value.pos()),
+        ArchivedBTreeMap::get_key_value_with(root, &key, &compare).map(|(_, value)| value.pos()),
+    ];
+    Ok((found, ArchivedBTreeMap::contains_key(root, &key)))
+}
+
+#[test]
+fn look_ups_agree(rt: HostRuntime) {
+    for (key, at) in [(1, 24), (2, 72), (6, 88)] {
+        assert_eq!(rt;
+            looked_up(rt.alloc(), &SIX_PAIRS, key),
+            Ok(([Some(at), Some(at), Some(at)], true)),
+            "{key}"
+        );
+    }
+    assert_eq!(rt;
+        looked_up(rt.alloc(), &SIX_PAIRS, 7),
+        Ok(([None, None, None], false))
+    );
 }
 
 /// The positions of the keys and of the values, in order.

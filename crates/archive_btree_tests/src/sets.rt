@@ -1,17 +1,13 @@
 //! Tests of archived sets.
-ghost use Rattle.std.specs.Prelude.{[]};
 
 use crate::archives::{bytes_of, root_of};
 use archive_btree_sets::{ArchivedBTreeSet, BTreeSetResolver, eq_btree_set};
-use archive_core_validation::HighValidator;
 use archive_forms_comparing::ArchivedEq;
-use archive_forms_hashing::{ArchivedDebug, ArchivedHash};
+use archive_forms_hashing::ArchivedHash;
 use archive_forms_reading::native_of;
-use archive_forms_text::ArchivedString;
-use archive_shape::{ArchivedU32, CheckBytes, Error, Place, Ref};
+use archive_shape::{ArchivedU32, Error, Place, Ref};
 use std::alloc::Global;
 use std::collections::BTreeSet;
-use std::fmt::Formatter;
 use std::hash::{DefaultHasher, Hasher};
 use std::ops::ControlFlow;
 use std::test::Fail;
@@ -19,8 +15,6 @@ use std::test::Fail;
 /// A set of numbers with at most five keys in a node. A leaf has seven words: its kind, five keys and its length; an inner
 /// node has six pointers in place of the length.
 type Numbers = ArchivedBTreeSet<ArchivedU32, 5>;
-
-type Texts = ArchivedBTreeSet<ArchivedString, 5>;
 
 /// No keys.
 pub(crate) const NONE: [u32; 2] = [1, 0];
@@ -51,24 +45,6 @@ pub(crate) const SIX: [u32; 21] = [
     1,
     0xffff_ffd0,
     6,
-];
-
-/// The texts a and b: a leaf with room for five texts of two words, and the set.
-const TEXTS: [u32; 14] = [
-    0,
-    0xffff_ff61,
-    0xffff_ffff,
-    0xffff_ff62,
-    0xffff_ffff,
-    0,
-    0,
-    0,
-    0,
-    0,
-    0,
-    2,
-    0xffff_ffd0,
-    2,
 ];
 
 /// The keys in order, each beside how many are left after it.
@@ -216,36 +192,6 @@ fn equal_sets_are_hashed_alike(rt: HostRuntime) {
     unused[5] = 7;
     assert_eq!(rt; compared(rt.alloc(), &FOUR, &unused), Ok((true, true)));
     assert_eq!(rt; compared(rt.alloc(), &FOUR, &SIX), Ok((false, false)));
-}
-
-/// The text of a set.
-fn printed<T: ArchivedDebug + CheckBytes<HighValidator>>(
-    alloc: Global,
-    words: &[u32],
-) -> Result<String, Error>
-    requires { T.knows [] }
-{
-    let bytes = bytes_of(alloc, words)?;
-    let root = root_of::<T>(alloc, bytes.as_slice())?;
-    let mut f = Formatter::new(String::new(alloc));
-    match T::fmt(&root, &mut f) {
-        Ok(()) => Ok(f.into_inner()),
-        Err(_) => Err(Error::OutOfMemory),
-    }
-}
-
-#[test]
-fn sets_are_printed_as_those_of_std(rt: HostRuntime) -> Result<(), Fail> {
-    assert_eq!(rt; printed::<Numbers>(rt.alloc(), &NONE)?.as_str(), "{}");
-    assert_eq!(rt;
-        printed::<Numbers>(rt.alloc(), &FOUR)?.as_str(),
-        "{10, 20, 40, 80}"
-    );
-    assert_eq!(rt;
-        printed::<Texts>(rt.alloc(), &TEXTS)?.as_str(),
-        "{\"a\", \"b\"}"
-    );
-    Ok(())
 }
 
 #[test]

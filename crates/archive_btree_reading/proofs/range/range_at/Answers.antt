@@ -1,39 +1,21 @@
-use Rattle.std.proofs.Common.{◌≡◌, ◌∙◌, [], ap, sym, subst}
-use Rattle.std.specs.Range.Bound.{bound_map}
+use Rattle.std.proofs.Common.{sym, subst}
 use Rattle.archive_btree_layout.specs.Tree.{items}
-use Rattle.archive_btree_searching.proofs.Ranged.{no_run}
-use Rattle.archive_btree_reading.specs.Ranges.{is_before, is_behind, items_between}
-use Rattle.archive_btree_reading.proofs.Between.{tells_before, tells_behind, stays_from, stays_behind}
+use Rattle.archive_btree_searching.specs.Ranges.{IsRun}
 use Rattle.archive_btree_reading.proofs.Roots.{tree_of_value}
 use Rattle.archive_btree_reading.proofs.range.range_at.Goals as goal
 
-pub returns-in_default-clause-within : goal.returns-in_default-clause-within
-returns-in_default-clause-within g c t h = no_run _ (items t) c.empty.ensures
-
-pub returns-in_default-clause-between : goal.returns-in_default-clause-between
-returns-in_default-clause-between g c t order h queries =
-    c.empty.ensures
-    ∙ ap (λ x. items_between order (bound_map (λ q. q.now) c.args.start) (bound_map (λ q. q.now) c.args.end) (items x)) (sym (c.in_default.ensures t h))
-
-pub new-requires : goal.new-requires
-new-requires g c =
+pub over-requires : goal.over-requires
+over-requires g c =
     let m = tree_of_value c.requires.has in
-    record {
-      tree = (
-        m.search_tree,
-        c.in-Some.ensures m.search_tree m.map,
-        λ k d below. (c.requires.callable m.search_tree m.map k d below).0,
-        λ k d below. (c.requires.callable m.search_tree m.map k d below).1,
-      );
-    }
+    let w = c.walk_between.ensures.within m.search_tree m.map in
+    (w.1.layout, w.1.root, w.0, w.1.left)
 
 pub returns-clause-within : goal.returns-clause-within
-returns-clause-within g c t h = c.new.ensures.within t (c.in-Some.ensures t h)
+returns-clause-within g c t h =
+    let w = c.walk_between.ensures.within t h in
+    subst (λ es. IsRun es (items t)) (sym (c.over.ensures w.1.layout w.1.root w.0 w.1.left)) w.2
 
 pub returns-clause-between : goal.returns-clause-between
 returns-clause-between g c t order h queries =
-    c.new.ensures.between t (is_before order (bound_map (λ q. q.now) c.args.start)) (is_behind order (bound_map (λ q. q.now) c.args.end)) (c.in-Some.ensures t h)
-    (tells_before (goal.C-post g) c.args.compare.now (λ q. q.now) order (items t) c.args.start queries.0)
-    (tells_behind (goal.C-post g) c.args.compare.now (λ q. q.now) order (items t) c.args.end queries.1)
-    (stays_from (goal.C-post g) c.args.compare.now (λ q. q.now) order (items t) c.args.start queries.0)
-    (stays_behind (goal.C-post g) c.args.compare.now (λ q. q.now) order (items t) c.args.end queries.1)
+    let w = c.walk_between.ensures.between t order h queries in
+    c.over.ensures w.layout w.root _ w.left

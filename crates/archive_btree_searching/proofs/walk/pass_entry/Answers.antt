@@ -3,10 +3,11 @@ use Rattle.std.specs.Prelude.{slice_index}
 use Rattle.archive_btree_searching.specs.Nodes.{entry_of}
 use Rattle.archive_btree_searching.proofs.NodeTree.{tree_readable}
 use Rattle.archive_btree_searching.proofs.Walked.{top_frame, passed, dropped, dropped_stack}
+use Rattle.archive_btree_searching.proofs.Reached.{child_reached}
 use Rattle.archive_btree_searching.proofs.walk.pass_entry.Goals as goal
 
 pub loop-stack-init : goal.loop-stack-init
-loop-stack-init c = record { stands = c.requires; left = refl }
+loop-stack-init c = record { stands = c.requires; left = refl; reached = λ root nodes. nodes }
 
 pub entry_count-requires : goal.entry_count-requires
 entry_count-requires c =
@@ -49,7 +50,19 @@ loop-stack-preserved c =
     record {
       stands = dropped_stack c.args.bytes.now c.args.layout s.nodes s.nexts s.depth (s.depth - 1) (omega arith) c.loop-stack.invariant.stands;
       left = c.loop-stack.invariant.left ∙ dropped c.args.bytes.now c.args.layout s.nodes s.nexts s.depth (s.depth - 1) (omega arith) (omega arith);
+      reached = λ root nodes d below. c.loop-stack.invariant.reached root nodes d (omega arith);
     }
+
+pub returns-then-next-entry_count-clause-reached : goal.returns-then-next-entry_count-clause-reached
+returns-then-next-entry_count-clause-reached c root nodes =
+    let s = c.loop-stack.stack in
+    let own = c.loop-stack.invariant.reached root nodes in
+    c.push_first.ensures.reached root own
+    (rw c.child_of.ensures
+    (child_reached c.args.bytes.now c.args.layout root s.depth (s.depth - 1) (slice_index s.nodes (s.depth - 1)) (slice_index s.nexts (s.depth - 1) + 1) (omega arith) (own (s.depth - 1) (omega arith)) (omega arith)))
+
+pub returns-clause-reached : goal.returns-clause-reached
+returns-clause-reached c root nodes = c.loop-stack.invariant.reached root nodes
 
 pub returns-clause-items : goal.returns-clause-items
 returns-clause-items c =

@@ -1,16 +1,22 @@
-use Rattle.std.proofs.Common.{◌∙◌, Some, refl, ap}
+use Rattle.std.proofs.Common.{◌∙◌, Some, ap}
 use Rattle.archive_btree_layout.specs.Descent.{descend}
 use Rattle.archive_btree_reading.specs.Refs.{entry_at}
 use Rattle.archive_btree_reading.proofs.Refs.{pair_is, found_at, none_found, finds_some, finds_called}
 use Rattle.archive_btree_reading.specs.Lookups.{CallsEqual}
-use Rattle.archive_btree_reading.proofs.Held.{found_there}
+use Rattle.archive_btree_reading.proofs.Held.{entries_are, found_there}
 use Rattle.archive_btree_layout.specs.Tree.{items}
 use Rattle.archive_forms_reading.specs.Parts.{HasValue}
 use Rattle.archive_btree_reading.proofs.map.ArchivedBTreeMap.get_key_value_with.Goals as goal
 
 pub search_map-requires : goal.search_map-requires
 search_map-requires g c =
-    λ κs. record { has = c.requires.has; callable = λ t h i d less. ((refl, tt), c.requires.callable t h i d less) }
+    record {
+      has = c.requires.has;
+      callable = λ t h i d less.
+          c.requires.callable t h i d less
+          (entries_are g.K.Portable.shape g.V.Portable.shape g.K.Portable.knows g.V.Portable.knows c.args.this.bytes.now (λ e. HasValue g.K.Portable.shape g.K.Portable.knows c.args.this.bytes.now e.key)
+          (λ e u w held other. record { value = u; held = held }) g.row.E c.args.this.pos c.requires.has t h i d less);
+    }
 
 pub returns-in-Some-clause-answers : goal.returns-in-Some-clause-answers
 returns-in-Some-clause-answers g c t order h q =

@@ -10,7 +10,7 @@ use Rattle.archive_btree_reading.proofs.map.ArchivedBTreeMap.range_with.Goals as
 
 pub range_at-requires : goal.range_at-requires
 range_at-requires g c =
-    λ κs. record {
+    record {
       has = c.requires.has;
       callable = λ t h k d below.
           let held =
@@ -18,8 +18,8 @@ range_at-requires g c =
           (λ e u w held other. record { value = u; held = held }) g.row.E c.args.this.pos c.requires.has t h k d below
           in
           let may = c.requires.callable t h k d below held in (
-            of_known (λ q. q.now) _ _ c.start_bound.result _ c.start_bound.ensures (λ query is. ((refl, tt), may query (λ known. inl (is known)))),
-            of_known (λ q. q.now) _ _ c.end_bound.result _ c.end_bound.ensures (λ query is. ((refl, tt), may query (λ known. inr (is known)))),
+            of_known (λ q. q.now) _ _ c.start_bound.result _ c.start_bound.ensures (λ query is. may query (λ known. inl (is known))),
+            of_known (λ q. q.now) _ _ c.end_bound.result _ c.end_bound.ensures (λ query is. may query (λ known. inr (is known))),
           );
     }
 

@@ -1,50 +1,19 @@
-use Rattle.std.proofs.Common.{◌∙◌, ap, sym, subst}
-use Rattle.std.specs.Prelude.{not, slice_index_or}
+use Rattle.std.proofs.Common.{sym, subst}
 use Rattle.archive_btree_layout.specs.Tree.{items}
-use Rattle.archive_btree_searching.specs.Ranges.{before_key}
-use Rattle.archive_btree_searching.specs.Walking.{stack_items}
-use Rattle.archive_btree_searching.proofs.Ranged.{is_run, no_run, first_holds, empty_without, empty_reversed, range_is}
-use Rattle.archive_btree_searching.proofs.Sublists.{not_swap, stays_twice}
+use Rattle.archive_btree_searching.specs.Ranges.{IsRun}
 use Rattle.archive_btree_searching.proofs.range.Range.new.Goals as goal
 
-pub returns-in_default-clause-within : goal.returns-in_default-clause-within
-returns-in_default-clause-within g c t is = no_run _ _ c.empty.ensures
-
-pub returns-in_default-clause-between : goal.returns-in_default-clause-between
-returns-in_default-clause-between g c t p q is precedes follows starts stays =
-    let l = c.behind-stack.ensures.left t is in
-    let begins = c.behind-stack.ensures.rest t p is precedes starts in
-    c.empty.ensures ∙ empty_without (goal.G-post g) c.args.follows.now p q (items t) l.0 _ l.1 begins follows stays (sym c.next_key.ensures ∙ c.in_default.is)
-
-pub follows-is_behind-requires : goal.follows-is_behind-requires
-follows-is_behind-requires g c =
-    let r = c.requires.tree in
-    let l = c.behind-stack.ensures.left r.0 r.1 in
-    first_holds (λ k. goal.G-pre g c.args.follows.now k) (items r.0) l.0 _ c.in-Some.first l.1 r.3 (sym c.in-Some.ensures)
-
-pub returns-then-is_behind-clause-within : goal.returns-then-is_behind-clause-within
-returns-then-is_behind-clause-within g c t is = no_run _ _ c.empty-then-is_behind.ensures
-
-pub returns-then-is_behind-clause-between : goal.returns-then-is_behind-clause-between
-returns-then-is_behind-clause-between g c t p q is precedes follows starts stays =
-    let l = c.behind-stack.ensures.left t is in
-    let begins = c.behind-stack.ensures.rest t p is precedes starts in
-    let called = subst (λ b. goal.G-post g c.args.follows.now c.in-Some.first b) c.if-is_behind.true c.follows-is_behind.ensures in
-    c.empty-then-is_behind.ensures
-    ∙ empty_reversed (goal.G-post g) c.args.follows.now p q (items t) l.0 _ l.1 begins follows stays c.in-Some.first (sym c.in-Some.ensures) called
+pub over-requires : goal.over-requires
+over-requires g c =
+    let t = c.requires.tree in
+    let w = c.between.ensures.within t.0 t.1 in
+    (c.args.layout, c.args.root, w.0, w.1)
 
 pub returns-clause-within : goal.returns-clause-within
 returns-clause-within g c t is =
-    let l = c.behind-stack.ensures.left t is in
-    is_run _ _ (items t) l.0 l.1
+    let w = c.between.ensures.within t is in
+    subst (λ es. IsRun es (items t)) (sym (c.over.ensures c.args.layout c.args.root w.0 w.1)) w.2
 
 pub returns-clause-between : goal.returns-clause-between
 returns-clause-between g c t p q is precedes follows starts stays =
-    let l = c.behind-stack.ensures.left t is in
-    let begins = c.behind-stack.ensures.rest t p is precedes starts in
-    let ends =
-    c.behind.ensures.rest t (λ e. not (q e)) is (λ k d below r h. not_swap r (q (slice_index_or (items t) k d)) (follows k d below (not r) h)) (stays_twice q (items t) stays)
-    in
-    let called = subst (λ b. goal.G-post g c.args.follows.now c.in-Some.first b) c.if-is_behind.false c.follows-is_behind.ensures in
-    ap (λ end. before_key end (stack_items c.args.bytes.now c.args.layout c.behind-stack.result.nodes c.behind-stack.result.nexts c.behind-stack.result.depth)) c.next_key-2.ensures
-    ∙ range_is (goal.G-post g) c.args.follows.now p q (items t) l.0 _ l.1 begins follows stays c.in-Some.first (sym c.in-Some.ensures) called _ ends c.behind.ensures.first
+    c.over.ensures c.args.layout c.args.root _ (c.between.ensures.between t p q is precedes follows starts stays)

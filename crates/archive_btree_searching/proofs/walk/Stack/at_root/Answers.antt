@@ -1,5 +1,6 @@
-use Rattle.std.proofs.Common.{◌≡◌, ◌+◌, subst, arith}
+use Rattle.std.proofs.Common.{◌≡◌, ◌+◌, subst, arith, refl}
 use Rattle.archive_btree_searching.specs.Layout.{IsTreeAt}
+use Rattle.archive_btree_searching.specs.Stepping.IsReached.{is_root}
 use Rattle.archive_btree_searching.proofs.Walked.{root_items, empty_stack}
 use Rattle.archive_btree_searching.proofs.walk.Stack.at_root.Goals as goal
 
@@ -14,3 +15,9 @@ push_first-requires-clause-leads c =
 pub returns-clause-items : goal.returns-clause-items
 returns-clause-items c t is =
     root_items c.args.bytes.now c.args.layout c.new-stack.result.nodes c.new-stack.result.nexts c.new-stack.result.depth c.args.root t _ c.new-stack.ensures.depth is c.push_first.ensures.items
+
+pub returns-clause-reached : goal.returns-clause-reached
+returns-clause-reached c =
+    c.push_first.ensures.reached c.args.root
+    (λ d below. absurd (omega (arith, c.new-stack.ensures.depth)))
+    (is_root c.new-stack.ensures.depth refl)

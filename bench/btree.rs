@@ -1,0 +1,208 @@
+//! Times archived maps of texts to numbers that crates/archive_btree_bench writes, walks, searches and walks in ranges of a
+//! hundred entries, beside the same work in Rust over the same layout, and look-ups in Rust's `BTreeMap`. Calls are made in
+//! turns, and the least processor time of all rounds counts. A call that writes makes the map first: the time of a call that
+//! writes none is taken away.
+
+mod library;
+mod measured;
+
+/// Forms in Rust.
+#[allow(dead_code)]
+#[path = "plain_forms.rs"]
+mod forms;
+#[path = "plain_btree.rs"]
+mod rust;
+
+use library::{WRITES, least_times};
+use measured::{greatest, mixed, report};
+use std::collections::BTreeMap;
+use std::hint::black_box;
+
+const SIZES: [usize; 3] = [1_000, 100_000, 1_000_000];
+const QUERIES: usize = 100_000;
+const RANGES: usize = 1_000;
+const IN_RANGE: usize = 100;
+/// How many bytes an archived map has itself, which ends its archive.
+const MAP: usize = 8;
+
+// A slice crosses as a pointer and then a length. Nothing compares these declarations with the library's.
+#[link(name = "archive_btree_bench", kind = "static")]
+unsafe extern "C" {
+    fn archive_btree_bench_write(numbers: *const u32, count: usize, rounds: usize) -> usize;
+    fn archive_btree_bench_sum_walked(bytes: *const u8, length: usize, pos: usize) -> u64;
+    fn archive_btree_bench_sum_found(
+        bytes: *const u8,
+        length: usize,
+        pos: usize,
+        queries: *const u8,
+        queries_length: usize,
+        ends: *const usize,
+        count: usize,
+    ) -> u64;
+    fn archive_btree_bench_sum_ranges(
+        bytes: *const u8,
+        length: usize,
+        pos: usize,
+        bounds: *const u8,
+        bounds_length: usize,
+        ends: *const usize,
+        count: usize,
+    ) -> u64;
+}
+
+fn map_of(numbers: &[u32]) -> BTreeMap<String, u64> {
+    numbers
+        .iter()
+        .map(|&n| (n.to_string(), u64::from(n)))
+        .collect()
+}
+
+/// Texts one behind the other, and where each ends.
+struct Texts {
+    bytes: Vec<u8>,
+    ends: Vec<usize>,
+}
+
+impl<T: AsRef<str>> FromIterator<T> for Texts {
+    fn from_iter<I: IntoIterator<Item = T>>(texts: I) -> Self {
+        let mut bytes = Vec::new();
+        let end = |text: T| {
+            bytes.extend_from_slice(text.as_ref().as_bytes());
+            bytes.len()
+        };
+        let ends = texts.into_iter().map(end).collect();
+        Texts { bytes, ends }
+    }
+}
+
+/// Half of them are keys of the map of numbers.
+fn queries(numbers: &[u32]) -> Texts {
+    let of = |(i, n): (usize, u32)| match i % 2 {
+        0 => numbers[n as usize % numbers.len()].to_string(),
+        _ => n.to_string(),
+    };
+    mixed(QUERIES).enumerate().map(of).collect()
+}
+
+/// Of each range the key of its first entry, and the key behind its last one.
+fn ranges(map: &BTreeMap<String, u64>) -> Texts {
+    let keys: Vec<&String> = map.keys().collect();
+    let last = keys.len() - IN_RANGE;
+    let of = |n: u32| {
+        let first = n as usize % last;
+        [keys[first], keys[first + IN_RANGE]]
+    };
+    mixed(RANGES).flat_map(of).collect()
+}
+
+fn sum_of_std(map: &BTreeMap<String, u64>, queries: &Texts) -> u64 {
+    let mut start = 0;
+    let mut sum = 0u64;
+    for &end in &queries.ends {
+        let query = str::from_utf8(&queries.bytes[start..end]).unwrap();
+        sum = sum.wrapping_add(map.get(query).copied().unwrap_or(0));
+        start = end;
+    }
+    sum
+}
+
+/// Compares walks in ranges.
+fn compare_ranges(bytes: &[u8], map: &BTreeMap<String, u64>) -> f64 {
+    let bounds = ranges(map);
+    // SAFETY: the bytes are there, and end with a map.
+    let ours = || unsafe {
+        archive_btree_bench_sum_ranges(
+            black_box(bytes).as_ptr(),
+            bytes.len(),
+            bytes.len() - MAP,
+            bounds.bytes.as_ptr(),
+            bounds.bytes.len(),
+            bounds.ends.as_ptr(),
+            bounds.ends.len(),
+        )
+    };
+    let rust = || rust::sum_ranges(black_box(bytes), &bounds.bytes, &bounds.ends);
+    assert_eq!(ours(), rust());
+    let times = least_times(|| _ = black_box(ours()), || _ = black_box(rust()));
+    report(
+        &format!("ranges of {IN_RANGE} among {}", map.len()),
+        RANGES,
+        times,
+    )
+}
+
+/// How many bytes so many archives of a map have, which Rust makes first.
+fn written_again(numbers: &[u32], rounds: usize) -> usize {
+    let map = map_of(numbers);
+    let written = |_| rust::write(black_box(&map)).unwrap().len();
+    (0..rounds).map(written).sum()
+}
+
+/// Compares writes of a map.
+fn compare_written(numbers: &[u32]) -> f64 {
+    // SAFETY: the numbers are there.
+    let ours = |rounds| unsafe {
+        archive_btree_bench_write(black_box(numbers).as_ptr(), numbers.len(), rounds)
+    };
+    let rust = |rounds| written_again(black_box(numbers), rounds);
+    assert_eq!(ours(1), rust(1));
+    let none = least_times(|| _ = black_box(ours(0)), || _ = black_box(rust(0)));
+    let all = least_times(
+        || _ = black_box(ours(WRITES)),
+        || _ = black_box(rust(WRITES)),
+    );
+    let times = (all.0 - none.0, all.1 - none.1);
+    let count = numbers.len();
+    report(&format!("{count} entries written"), count * WRITES, times)
+}
+
+/// Compares writes, a walk, look-ups and walks in ranges of a map of so many numbers.
+fn compare(count: usize) -> [f64; 4] {
+    let numbers: Vec<u32> = mixed(count).collect();
+    let map = map_of(&numbers);
+    let bytes = rust::write(&map).unwrap();
+    let queries = queries(&numbers);
+
+    // SAFETY: the bytes are there, and end with a map.
+    let ours = || unsafe {
+        let bytes = black_box(&bytes);
+        archive_btree_bench_sum_walked(bytes.as_ptr(), bytes.len(), bytes.len() - MAP)
+    };
+    let rust = || rust::sum_walked(black_box(&bytes));
+    assert_eq!(ours(), rust());
+    let times = least_times(|| _ = black_box(ours()), || _ = black_box(rust()));
+    let walks = report(&format!("{count} entries walked"), count, times);
+
+    // SAFETY: the bytes are there, and end with a map.
+    let ours = || unsafe {
+        archive_btree_bench_sum_found(
+            black_box(&bytes).as_ptr(),
+            bytes.len(),
+            bytes.len() - MAP,
+            queries.bytes.as_ptr(),
+            queries.bytes.len(),
+            queries.ends.as_ptr(),
+            queries.ends.len(),
+        )
+    };
+    let rust = || rust::sum_found(black_box(&bytes), &queries.bytes, &queries.ends);
+    let std = || sum_of_std(black_box(&map), &queries);
+    assert_eq!((ours(), ours()), (rust(), std()));
+    let times = least_times(|| _ = black_box(ours()), || _ = black_box(rust()));
+    let looks = report(&format!("look-ups among {count}"), QUERIES, times);
+    let times = least_times(|| _ = black_box(ours()), || _ = black_box(std()));
+    report(
+        &format!("look-ups among {count}, Rust's BTreeMap"),
+        QUERIES,
+        times,
+    );
+    let ranges = compare_ranges(&bytes, &map);
+    [compare_written(&numbers), walks, looks, ranges]
+}
+
+fn main() {
+    println!(
+        "greatest ratio {:.2}",
+        greatest(SIZES.into_iter().flat_map(compare))
+    );
+}

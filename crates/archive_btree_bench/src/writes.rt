@@ -1,0 +1,43 @@
+//! Archives of maps that are written, called from outside.
+use archive_btree::OwnedBTreeMap;
+use archive_core::to_bytes;
+use archive_shape::Error;
+use std::alloc::Global;
+use std::collections::BTreeMap;
+
+/// The map from the decimal texts of numbers to the numbers.
+fn map_of(alloc: Global, numbers: &[u32]) -> Result<OwnedBTreeMap<String, u64, 5>, Error> {
+    let mut map = BTreeMap::new(alloc);
+    for number in numbers {
+        map.insert(format!(in alloc; "{number}")?, u64::from(*number))?;
+    }
+    Ok(OwnedBTreeMap { map })
+}
+
+/// How many bytes so many archives of a map have.
+fn archived_again(
+    alloc: Global,
+    map: &OwnedBTreeMap<String, u64, 5>,
+    rounds: usize,
+) -> Result<usize, Error> {
+    let mut total = 0usize;
+    for _ in 0..rounds {
+        let bytes = to_bytes(alloc, map)?;
+        total = total.wrapping_add(bytes.len());
+    }
+    Ok(total)
+}
+
+/// Makes so many archives of the map from the decimal texts of numbers to the numbers. Answers how many bytes they have, or
+/// 0 where memory was refused.
+#[unsafe(no_mangle)]
+pub extern "C" fn archive_btree_bench_write(
+    alloc: Global,
+    numbers: &[u32],
+    rounds: usize,
+) -> usize {
+    match map_of(alloc, numbers) {
+        Ok(map) => archived_again(alloc, &map, rounds).unwrap_or(0),
+        Err(_) => 0,
+    }
+}

@@ -1,0 +1,74 @@
+//! The check of a table's buckets and controls.
+ghost use Rattle.std.specs.Prelude.{◌≡◌, ◌≢◌, ℕ, ◌+◌, ◌-◌, ◌^◌, ◌<◌, ◌≤◌, length, MatchResult};
+ghost use Rattle.archive_shape_layout.specs.Content.{Names, item};
+ghost use Rattle.archive_shape_layout.specs.Content.Part.{buckets};
+ghost use Rattle.archive_shape_checking.specs.Questions.{FirstUnanswered};
+ghost use Rattle.archive_shape_checking.specs.Kept.{IsWithin, range_of};
+ghost use Rattle.archive_shape_checking.specs.Checks.{Checks, Moves};
+ghost use Rattle.archive_shape_checking.specs.Steps.{StepTakes, StepChecks};
+ghost use Rattle.archive_shape_writing.specs.declared.error.Error.TheVariants.{OutOfMemory};
+ghost use Rattle.archive_hash_checking.specs.Buckets.{AreClaimed, claim_of_buckets};
+
+use crate::controls::{check_tags, controls_at};
+use crate::items::check_items;
+use crate::sizes::{buckets_size, table_size};
+use archive_shape_checking::{ArchiveContext, Error, PushedRange};
+use archive_shape_portable::Portable;
+
+/// Claims the buckets below `target` and the controls from there on, so that what is claimed next lies before them.
+pub(crate) fn claim_buckets<T: Portable, C: ArchiveContext>(
+    target: usize,
+    capacity: usize,
+    context: &mut C,
+) -> Result<PushedRange, Error>
+    requires end { (C.kept context.old).end < 2 ^ 63 }
+    requires target { target < 2 ^ 64 - 1 }
+    requires capacity { capacity < 2 ^ 32 }
+    ensures { MatchResult result
+        (λ r. AreClaimed target capacity (item T.shape) (C.kept context.old) r (C.kept context.new))
+        (λ e. e ≢ OutOfMemory → FirstUnanswered (range_of (C.kept context.old)) e (claim_of_buckets target capacity (item T.shape))) }
+{
+    let below = buckets_size::<T>(capacity);
+    let size = table_size::<T>(capacity);
+    if target < below {
+        return Err(Error::InvalidSubtreePointer { size });
+    }
+    let start = target - below;
+    context.check_subtree_ptr(start, size, T::ALIGN)?;
+    context.push_subtree_range(start, start + size)
+}
+
+/// Checks the buckets below `target` and the controls from there on, which have `len` items in `capacity` places.
+///
+/// Refuses buckets that begin before the first byte as `InvalidSubtreePointer`, and what a claim refuses; then the first
+/// control from the capacity on that does not repeat, another number of items as `WrongNumberOfElements`, and what the
+/// items are refused for, by ascending places.
+pub(crate) fn check_buckets<
+    T: Portable,
+    C: ArchiveContext,
+    F: Fn(&mut C, usize) -> Result<(), Error>,
+>(
+    bytes: &[u8],
+    target: usize,
+    len: usize,
+    capacity: usize,
+    context: &mut C,
+    step: &F,
+) -> Result<(), Error>
+    requires some { 0 < capacity }
+    requires small { capacity < 2 ^ 32 }
+    requires target { target < 2 ^ 64 - 1 }
+    requires range { IsWithin (C.kept context.old) (length bytes.now) }
+    requires takes { StepTakes F.Fn C.kept bytes.now T.shape step.now (C.kept context.old) T.SIZE }
+    requires checks { StepChecks F.Fn C.kept bytes.now T.shape step.now T.knows }
+    ensures moves { Moves (C.kept context.old) result (C.kept context.new) }
+    ensures exact { (names : Names) → T.knows names
+        → Checks names bytes.now (buckets target len capacity (item T.shape)) (C.kept context.old) result (C.kept context.new) }
+{
+    let _len = bytes.len();
+    let range = claim_buckets::<T, C>(target, capacity, context)?;
+    let controls = controls_at(bytes, target, capacity);
+    check_tags(controls, capacity, len)?;
+    check_items::<T, C, F>(bytes, target, &controls[..capacity], context, step)?;
+    context.pop_subtree_range(range)
+}

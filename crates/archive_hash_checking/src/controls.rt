@@ -1,0 +1,77 @@
+//! The checks of a table's controls.
+ghost use Rattle.std.specs.Prelude.{◌≡◌, ◌+◌, ◌-◌, ◌*◌, ◌^◌, ◌<◌, ◌≤◌, ◌==◌, nat_lt, nat_le, cond, length, slice_index, count_by, MatchResult};
+ghost use Rattle.archive_shape_layout.specs.Bytes.{window};
+ghost use Rattle.archive_shape_layout.specs.Content.{control_count};
+ghost use Rattle.archive_shape_checking.specs.Range.{Range};
+ghost use Rattle.archive_shape_checking.specs.Questions.{AreAnswered, FirstUnanswered, questions_of_controls};
+ghost use Rattle.archive_hash_checking.specs.Buckets.{questions_of_tags};
+
+use crate::sizes::control_count;
+use archive_shape_checking::Error;
+
+/// The controls of a table of so many places, the first of which stands at `target`.
+pub fn controls_at(bytes: &[u8], target: usize, capacity: usize) -> &[u8]
+    requires small { capacity < 2 ^ 32 }
+    requires fits { target + control_count capacity ≤ length bytes.now }
+    ensures bytes { result.now ≡ window bytes.now target (control_count capacity) }
+    ensures count { length result.now ≡ control_count capacity }
+{
+    &bytes[target..target + control_count(capacity)]
+}
+
+/// Whether a control from the capacity on is as it has to be: it repeats the one a capacity before, and from twice the
+/// capacity on it is empty.
+fn is_wrapped(controls: &[u8], capacity: usize, index: usize) -> bool
+    requires beyond { capacity ≤ index }
+    requires within { index < length controls.now }
+    ensures { result ≡ cond (nat_lt index (2 * capacity))
+        (slice_index controls.now index == slice_index controls.now (index - capacity))
+        (nat_le 128 (slice_index controls.now index)) }
+{
+    if index < 2 * capacity {
+        controls[index] == controls[index - capacity]
+    } else {
+        controls[index] >= 128
+    }
+}
+
+/// Refuses the first control from the capacity on that is not as it has to be, as `UnwrappedControlByte`.
+fn check_controls(controls: &[u8], capacity: usize) -> Result<(), Error>
+    requires { capacity ≤ length controls.now }
+    ensures { (range : Range) → MatchResult result
+        (λ _. AreAnswered range (questions_of_controls capacity controls.now 0 controls.now))
+        (λ e. FirstUnanswered range e (questions_of_controls capacity controls.now 0 controls.now)) }
+{
+    for index in capacity..controls.len() {
+        if !is_wrapped(controls, capacity, index) {
+            return Err(Error::UnwrappedControlByte { index });
+        }
+    }
+    Ok(())
+}
+
+/// How many controls are tags.
+fn count_tags(controls: &[u8]) -> usize
+    ensures { result ≡ count_by (λ c. nat_lt c 128) controls.now }
+{
+    controls.iter().filter(|control| **control < 128).count()
+}
+
+/// Refuses the controls of a table of so many items, first as `check_controls` does, and then another number of tags below the
+/// capacity as `WrongNumberOfElements`.
+pub(crate) fn check_tags(controls: &[u8], capacity: usize, len: usize) -> Result<(), Error>
+    requires { capacity ≤ length controls.now }
+    ensures { (range : Range) → MatchResult result
+        (λ _. AreAnswered range (questions_of_tags len capacity controls.now))
+        (λ e. FirstUnanswered range e (questions_of_tags len capacity controls.now)) }
+{
+    check_controls(controls, capacity)?;
+    let actual = count_tags(&controls[..capacity]);
+    if actual != len {
+        return Err(Error::WrongNumberOfElements {
+            expected: len,
+            actual,
+        });
+    }
+    Ok(())
+}

@@ -1,0 +1,68 @@
+//! The check of a table whose buckets have the numbers of entries.
+ghost use Rattle.std.specs.Prelude.{ℕ, ◌+◌, ◌-◌, ◌*◌, ◌^◌, ◌<◌, ◌≤◌, length};
+ghost use Rattle.archive_shape_layout.specs.Content.{Names, place, tagged_items};
+ghost use Rattle.archive_shape_layout.specs.Content.Part.{buckets, place_at};
+ghost use Rattle.archive_shape_checking.specs.Kept.{Kept, IsWithin};
+ghost use Rattle.archive_shape_checking.specs.Checks.{Checks, ChecksAll, Moves};
+
+use crate::buckets::claim_buckets;
+use crate::controls::{check_tags, controls_at};
+use crate::words::word;
+use archive_shape_checking::{ArchiveContext, Error};
+use archive_shape_portable::ArchivedU32;
+
+/// Refuses the number of an entry at `pos` that is not below a limit as `InvalidPlace`.
+fn check_number(bytes: &[u8], pos: usize, limit: usize) -> Result<(), Error>
+    requires { pos + 4 ≤ length bytes.now }
+    ensures { (names : Names) (kept : Kept) → Checks names bytes.now (place_at pos limit) kept result kept }
+{
+    let number = word(bytes, pos) as usize;
+    if number >= limit {
+        return Err(Error::InvalidPlace);
+    }
+    Ok(())
+}
+
+/// Checks the numbers of entries whose controls are tags, by ascending places, the first of which is the bucket right below
+/// `target`.
+fn check_numbers(bytes: &[u8], target: usize, controls: &[u8], limit: usize) -> Result<(), Error>
+    requires below { length controls.now * 4 ≤ target }
+    requires fits { target ≤ length bytes.now }
+    ensures { (names : Names) (kept : Kept) → ChecksAll names bytes.now (tagged_items target (place limit) 0 controls.now) kept result kept }
+{
+    let mut bucket = target;
+    for place in 0..controls.len() {
+        bucket -= 4;
+        if controls[place] < 128 {
+            check_number(bytes, bucket, limit)?;
+        }
+    }
+    Ok(())
+}
+
+/// Checks the buckets below `target` and the controls from there on of a table that leads to `len` entries: it has as many
+/// items in `capacity` places, and each is the number of an entry, four bytes.
+///
+/// Refuses what `check_table_each` does of buckets and controls, and then, by ascending places, a number that is not below `len`
+/// as `InvalidPlace`. `OutOfMemory` is the context's.
+pub fn check_place_buckets<C: ArchiveContext>(
+    bytes: &[u8],
+    target: usize,
+    len: usize,
+    capacity: usize,
+    context: &mut C,
+) -> Result<(), Error>
+    requires small { capacity < 2 ^ 32 }
+    requires target { target < 2 ^ 64 - 1 }
+    requires range { IsWithin (C.kept context.old) (length bytes.now) }
+    ensures moves { Moves (C.kept context.old) result (C.kept context.new) }
+    ensures exact { (names : Names)
+        → Checks names bytes.now (buckets target len capacity (place len)) (C.kept context.old) result (C.kept context.new) }
+{
+    let _len = bytes.len();
+    let range = claim_buckets::<ArchivedU32, C>(target, capacity, context)?;
+    let controls = controls_at(bytes, target, capacity);
+    check_tags(controls, capacity, len)?;
+    check_numbers(bytes, target, &controls[..capacity], len)?;
+    context.pop_subtree_range(range)
+}

@@ -1,0 +1,66 @@
+-- The keys and values of the entries of hash maps.
+use denote.Ref.{Bor}
+use Rattle.std.proofs.Common.{◌≡◌, ◌∙◌, ℕ, Bool, List, [], ◌∷◌, Option, Some, None, All, refl, ap, sym, subst}
+use Rattle.std.specs.Option.{option_map}
+use Rattle.archive_shape_layout.specs.Shape.{Shape}
+use Rattle.archive_shape_layout.specs.Shape.Shape.{table}
+use Rattle.archive_shape_layout.specs.Shape.Shapes.{no_shapes}
+use Rattle.archive_shape_layout.specs.Content.{Names}
+use Rattle.archive_forms_checking.specs.Tuples.{tuple2}
+use Rattle.archive_forms_reading.specs.Parts.{HasValue, both}
+use Rattle.archive_forms_tuples.specs.Fields.{field, field_position}
+use Rattle.archive_forms_tuples.proofs.Held.{fields_at}
+use Rattle.archive_hash_reading.specs.Tables.{Buckets, IsTableAt, item_positions}
+use Rattle.archive_shape_references.specs.declared.refs.Ref.{Ref}
+use Rattle.archive_hash_reading.specs.Places.{item_at}
+use Rattle.archive_hash_reading.specs.Maps.{LooksUpKey}
+use Rattle.archive_hash_reading.proofs.Lookups.{items_there, item_is}
+
+-- where the layout has an entry it has its key and its value
+pub record HasParts (k v : Shape) (knows others : Names → Type 0) (bytes : List ℕ) (at : ℕ) : Type 0 where
+  pub key : HasValue k knows bytes at
+  pub value : HasValue v others bytes (field_position k no_shapes v at)
+
+module _ (k v : Shape) (knows others : Names → Type 0) (bytes : List ℕ) where
+  pub entry_parts : (at : ℕ) → HasValue (tuple2 k v) (both knows others) bytes at → HasParts k v knows others bytes at
+  entry_parts at h =
+      let f = fields_at (field k knows ∷ field v others ∷ []) (both knows others) (λ names known. (known.0, (known.1, tt))) bytes at h.value h.held in
+      let second = f.each.rest in
+      record { key = record { value = f.each.first; held = f.each.held }; value = record { value = second.first; held = second.held } }
+
+  -- so has each entry of a map
+  pub entries_there : (pos : ℕ) → HasValue (table (tuple2 k v)) (both knows others) bytes pos → (b : Buckets) → IsTableAt bytes (tuple2 k v) pos b → All (HasParts k v knows others bytes) (item_positions (tuple2 k v) b)
+  entries_there pos h b is i d less = entry_parts _ (items_there (tuple2 k v) (both knows others) bytes pos h b is i d less)
+
+pub same_position : (o : Option ℕ) → o ≡ option_map (λ at. at) o
+same_position None = refl
+same_position (Some at) = refl
+
+-- a look-up of a position is one of what stands there
+pub looks_up_of :
+    {A : Type 0} (hashes : ℕ → Type 0) (says : ℕ → Bool → Type 0) (item : ℕ → A) (k v : Shape) (b : Buckets) (o : Option ℕ) (found : Option A)
+    → found ≡ option_map item o → LooksUpKey hashes says (λ at. at) k v b o → LooksUpKey hashes says item k v b found
+looks_up_of hashes says item k v b o found is h =
+    let a = h.answers in
+    record {
+      hash = h.hash;
+      strides = h.strides;
+      is_hash = h.is_hash;
+      answers =
+          record {
+            position = a.position;
+            is = is ∙ ap (option_map item) (a.is ∙ sym (same_position a.position));
+            looks_up = a.looks_up;
+            accepted = a.accepted;
+            only = a.only;
+            few = a.few;
+          };
+    }
+
+pub pair_is :
+    {K V : Type 0} (bytes : Bor (List ℕ)) (p q : ℕ) (key : Ref K) (value : Ref V)
+    → key.bytes ≡ bytes → key.pos ≡ p → value.bytes ≡ bytes → value.pos ≡ q
+    → let made : Ref K × Ref V = (key, value) in
+    let there : Ref K × Ref V = (item_at bytes p, item_at bytes q) in
+    Some made ≡ Some there
+pair_is bytes p q key value a b c d = let e = item_is bytes p key a b in let f = item_is bytes q value c d in cc

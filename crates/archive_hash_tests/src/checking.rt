@@ -1,0 +1,150 @@
+//! Tests of what is accepted and refused of hash tables.
+use archive_core_validation::ArchiveValidator;
+use archive_hash_checking::{
+    TableHead, check_head, check_place_buckets, check_table_each, control_count, controls_at,
+};
+use archive_shape_checking::{CheckBytes, Error};
+use archive_shape_portable::{ArchivedNonZeroU32, ArchivedU32};
+use std::alloc::Global;
+
+/// A table of one number in the second of two places: the bucket of each place, the second place's first; sixteen controls for
+/// the places and fifteen more; a byte of padding; and the table, whose controls begin 32 bytes before it.
+const ONE_OF_TWO: [u8; 52] = [
+    7, 0, 0, 0, 0, 0, 0, 0, 0xff, 0x55, 0xff, 0x55, 0xff, 0xff, 0xff, 0xff, 0xff, 0xff, 0xff, 0xff,
+    0xff, 0xff, 0xff, 0xff, 0xff, 0xff, 0xff, 0xff, 0xff, 0xff, 0xff, 0xff, 0xff, 0xff, 0xff, 0xff,
+    0xff, 0xff, 0xff, 0, 0xe0, 0xff, 0xff, 0xff, 1, 0, 0, 0, 2, 0, 0, 0,
+];
+
+/// Whether a table of numbers at the end of bytes is accepted, or why not.
+fn accepts<T: CheckBytes<ArchiveValidator>>(alloc: Global, bytes: &[u8; 52]) -> Result<(), Error> {
+    let mut context = ArchiveValidator::new(alloc, bytes);
+    check_table_each::<T, ArchiveValidator, _>(
+        bytes,
+        40,
+        &mut context,
+        |c: &mut ArchiveValidator, p: usize| T::check(alloc, bytes, p, c),
+    )
+}
+
+#[test]
+fn tables_are_accepted(rt: HostRuntime) {
+    assert_eq!(rt; accepts::<ArchivedU32>(rt.alloc(), &ONE_OF_TWO), Ok(()));
+    let mut empty = [0; 52];
+    empty[48] = 9;
+    assert_eq!(rt; accepts::<ArchivedU32>(rt.alloc(), &empty), Ok(()));
+}
+
+#[test]
+fn own_bytes_are_read(rt: HostRuntime) {
+    assert_eq!(rt;
+        check_head::<ArchivedU32>(&ONE_OF_TWO, 40),
+        Ok(Some(TableHead {
+            len: 1,
+            capacity: 2,
+            controls: 8
+        }))
+    );
+}
+
+#[test]
+fn as_many_items_as_places_are_refused(rt: HostRuntime) {
+    let mut bytes = ONE_OF_TWO;
+    bytes[44] = 2;
+    assert_eq!(rt;
+        accepts::<ArchivedU32>(rt.alloc(), &bytes),
+        Err(Error::TableLength { len: 2, cap: 2 })
+    );
+}
+
+#[test]
+fn controls_before_the_bytes_are_refused(rt: HostRuntime) {
+    let mut bytes = ONE_OF_TWO;
+    bytes[40] = 0xd7;
+    assert_eq!(rt;
+        accepts::<ArchivedU32>(rt.alloc(), &bytes),
+        Err(Error::InvalidSubtreePointer { size: 39 })
+    );
+}
+
+#[test]
+fn buckets_before_the_bytes_are_refused(rt: HostRuntime) {
+    let mut bytes = ONE_OF_TWO;
+    bytes[40] = 0xdc;
+    assert_eq!(rt;
+        accepts::<ArchivedU32>(rt.alloc(), &bytes),
+        Err(Error::InvalidSubtreePointer { size: 39 })
+    );
+}
+
+#[test]
+fn control_that_does_not_repeat_is_refused(rt: HostRuntime) {
+    let mut bytes = ONE_OF_TWO;
+    bytes[11] = 0x54;
+    assert_eq!(rt;
+        accepts::<ArchivedU32>(rt.alloc(), &bytes),
+        Err(Error::UnwrappedControlByte { index: 3 })
+    );
+}
+
+#[test]
+fn tag_behind_the_repeated_controls_is_refused(rt: HostRuntime) {
+    let mut bytes = ONE_OF_TWO;
+    bytes[38] = 0x55;
+    assert_eq!(rt;
+        accepts::<ArchivedU32>(rt.alloc(), &bytes),
+        Err(Error::UnwrappedControlByte { index: 30 })
+    );
+}
+
+#[test]
+fn another_number_of_items_is_refused(rt: HostRuntime) {
+    let mut bytes = ONE_OF_TWO;
+    bytes[8] = 0;
+    bytes[10] = 0;
+    assert_eq!(rt;
+        accepts::<ArchivedU32>(rt.alloc(), &bytes),
+        Err(Error::WrongNumberOfElements {
+            expected: 1,
+            actual: 2
+        })
+    );
+}
+
+/// Whether the buckets and controls of a table that leads to one entry are accepted, or why not.
+fn accepts_numbers(alloc: Global, bytes: &[u8; 52]) -> Result<(), Error> {
+    let mut context = ArchiveValidator::new(alloc, bytes);
+    check_place_buckets(bytes, 8, 1, 2, &mut context)
+}
+
+#[test]
+fn numbers_of_entries_are_checked(rt: HostRuntime) {
+    let mut bytes = ONE_OF_TWO;
+    assert_eq!(rt;
+        accepts_numbers(rt.alloc(), &bytes),
+        Err(Error::InvalidPlace)
+    );
+    bytes[0] = 0;
+    assert_eq!(rt; accepts_numbers(rt.alloc(), &bytes), Ok(()));
+}
+
+#[test]
+fn items_are_checked(rt: HostRuntime) {
+    let mut bytes = ONE_OF_TWO;
+    assert_eq!(rt; accepts::<ArchivedNonZeroU32>(rt.alloc(), &bytes), Ok(()));
+    bytes[0] = 0;
+    assert_eq!(rt;
+        accepts::<ArchivedNonZeroU32>(rt.alloc(), &bytes),
+        Err(Error::InvalidTag)
+    );
+}
+
+#[test]
+#[tactic(auto, unfolding(archive_shape_layout::specs::Content::control_count, archive_shape_layout::specs::Bytes::align_up))]
+fn controls_are_as_many_as_sixteens_of_places_and_fifteen_more(rt: HostRuntime) {
+    assert_eq!(rt; control_count(2), 31);
+    assert_eq!(rt; control_count(16), 31);
+    assert_eq!(rt; control_count(17), 47);
+    let controls = controls_at(&ONE_OF_TWO, 8, 2);
+    assert_eq!(rt; controls[1], 0x55);
+    assert_eq!(rt; controls.len(), 31);
+}

@@ -1,0 +1,72 @@
+//! Tests of what is accepted and refused of index maps.
+use archive_core_validation::ArchiveValidator;
+use archive_forms_tuples::ArchivedTuple2;
+use archive_index_checking::check_index_map_each;
+use archive_shape_checking::{CheckBytes, Error};
+use archive_shape_portable::{ArchivedNonZeroU32, ArchivedU32};
+use std::alloc::Global;
+
+/// 7 leads to 9: a table of the number 0 in the first of two places; a byte of padding; the pair; and the map, whose controls
+/// begin 40 bytes before it, and whose entries begin 20 bytes before their offset.
+const ONE_PAIR: [u8; 64] = [
+    0, 0, 0, 0, 0, 0, 0, 0, 0x2a, 0xff, 0x2a, 0xff, 0xff, 0xff, 0xff, 0xff, 0xff, 0xff, 0xff, 0xff,
+    0xff, 0xff, 0xff, 0xff, 0xff, 0xff, 0xff, 0xff, 0xff, 0xff, 0xff, 0xff, 0xff, 0xff, 0xff, 0xff,
+    0xff, 0xff, 0xff, 0, 7, 0, 0, 0, 9, 0, 0, 0, 0xd8, 0xff, 0xff, 0xff, 1, 0, 0, 0, 2, 0, 0, 0,
+    0xec, 0xff, 0xff, 0xff,
+];
+
+type Pair = ArchivedTuple2<ArchivedU32, ArchivedNonZeroU32>;
+
+/// Whether the map at the end of bytes is accepted, or why not.
+fn accepts(alloc: Global, bytes: &[u8; 64]) -> Result<(), Error> {
+    let mut context = ArchiveValidator::new(alloc, bytes);
+    check_index_map_each::<Pair, ArchiveValidator, _>(
+        bytes,
+        48,
+        &mut context,
+        |c: &mut ArchiveValidator, p: usize| Pair::check(alloc, bytes, p, c),
+    )
+}
+
+#[test]
+fn index_maps_are_accepted(rt: HostRuntime) {
+    assert_eq!(rt; accepts(rt.alloc(), &ONE_PAIR), Ok(()));
+    let mut empty = [0; 64];
+    empty[56] = 9;
+    empty[60] = 9;
+    assert_eq!(rt; accepts(rt.alloc(), &empty), Ok(()));
+}
+
+#[test]
+fn number_of_no_entry_is_refused(rt: HostRuntime) {
+    let mut bytes = ONE_PAIR;
+    bytes[4] = 1;
+    assert_eq!(rt; accepts(rt.alloc(), &bytes), Err(Error::InvalidPlace));
+}
+
+#[test]
+fn entries_before_the_bytes_are_refused(rt: HostRuntime) {
+    let mut bytes = ONE_PAIR;
+    bytes[60] = 0xc3;
+    assert_eq!(rt;
+        accepts(rt.alloc(), &bytes),
+        Err(Error::InvalidSubtreePointer { size: 8 })
+    );
+}
+
+#[test]
+fn entries_in_the_table_are_refused(rt: HostRuntime) {
+    let mut bytes = ONE_PAIR;
+    bytes[60] = 0xe4;
+    assert_eq!(rt;
+        accepts(rt.alloc(), &bytes),
+        Err(Error::InvalidSubtreePointer { size: 8 })
+    );
+}
+
+#[test]
+fn entries_are_checked(rt: HostRuntime) {
+    let mut bytes = ONE_PAIR;
+    bytes[44] = 0;
+    assert_eq!(rt; accepts(rt.alloc(), &bytes), Err(Error::InvalidTag));
+}

@@ -1,0 +1,122 @@
+//! Tests of what is read of archived hash tables and maps.
+ghost use Rattle.std.specs.Prelude.{◌≡◌, [], IfOk};
+ghost use Rattle.archive_forms_reading.specs.Parts.{HasValue};
+
+use archive_core_access::access;
+use archive_core_validation::HighValidator;
+use archive_forms_reading::native_of;
+use archive_forms_text::ArchivedString;
+use archive_hash_reading::{ArchivedHashMap, ArchivedHashTable};
+use archive_hash_scanning::{FxHasher64, Group1, Group8, Group16, Scan};
+use archive_shape::{ArchivedU32, Error, Ref, Steps};
+use archive_shape_checking::CheckBytes;
+use std::alloc::Global;
+use std::test::Fail;
+
+/// A table of the number 7 in the second of two places: the bucket of each place, the second place's first; sixteen controls
+/// for the places and fifteen more; a byte of padding; and the table, whose controls begin 32 bytes before it.
+const ONE_OF_TWO: [u8; 52] = [
+    7, 0, 0, 0, 0, 0, 0, 0, 0xff, 0x55, 0xff, 0x55, 0xff, 0xff, 0xff, 0xff, 0xff, 0xff, 0xff, 0xff,
+    0xff, 0xff, 0xff, 0xff, 0xff, 0xff, 0xff, 0xff, 0xff, 0xff, 0xff, 0xff, 0xff, 0xff, 0xff, 0xff,
+    0xff, 0xff, 0xff, 0, 0xe0, 0xff, 0xff, 0xff, 1, 0, 0, 0, 2, 0, 0, 0,
+];
+
+/// A map from the text `a` to the number 1, whose table has two places: the hash of the text is odd, and its tag is 0x55.
+const A_TO_ONE: [u8; 68] = [
+    b'a', 0xff, 0xff, 0xff, 0xff, 0xff, 0xff, 0xff, 1, 0, 0, 0, 0, 0, 0, 0, 0, 0, 0, 0, 0, 0, 0, 0,
+    0xff, 0x55, 0xff, 0x55, 0xff, 0xff, 0xff, 0xff, 0xff, 0xff, 0xff, 0xff, 0xff, 0xff, 0xff, 0xff,
+    0xff, 0xff, 0xff, 0xff, 0xff, 0xff, 0xff, 0xff, 0xff, 0xff, 0xff, 0xff, 0xff, 0xff, 0xff, 0,
+    0xe0, 0xff, 0xff, 0xff, 1, 0, 0, 0, 2, 0, 0, 0,
+];
+
+/// The hash of the text `a`.
+const HASH_OF_A: u64 = 0xaa44_c3c5_b8e2_2aff;
+
+/// The root of bytes that are checked.
+fn root_of<T: CheckBytes<HighValidator>>(alloc: Global, bytes: &[u8]) -> Result<Ref<'_, T>, Error>
+    requires { T.knows [] }
+    ensures { IfOk result (λ r. (r.bytes ≡ bytes.entry) × HasValue T.shape T.knows bytes.now r.pos) }
+{
+    access::<T>(alloc, bytes)
+}
+
+/// The number that is found under a hash, and what the search costs.
+fn counted<S: Scan>(alloc: Global, hash: u64) -> Result<(Option<u32>, Steps), Error> {
+    let root = root_of::<ArchivedHashTable<ArchivedU32>>(alloc, &ONE_OF_TWO)?;
+    let is_first = |item: Ref<'_, ArchivedU32>| item.pos() == 0;
+    let (found, steps) = ArchivedHashTable::get_counted::<S, _>(root, hash, &is_first);
+    match found {
+        Some(item) => Ok((Some(native_of(item)), steps)),
+        None => Ok((None, steps)),
+    }
+}
+
+#[test]
+fn items_are_found_at_every_width(rt: HostRuntime) {
+    let steps = Steps {
+        comparisons: 0,
+        strides: 1,
+    };
+    let found = Ok((Some(7), steps));
+    assert_eq!(rt; counted::<Group1>(rt.alloc(), HASH_OF_A), found);
+    assert_eq!(rt; counted::<Group8>(rt.alloc(), HASH_OF_A), found);
+    assert_eq!(rt; counted::<Group16>(rt.alloc(), HASH_OF_A), found);
+    assert_eq!(rt; counted::<Group16>(rt.alloc(), 0), Ok((None, steps)));
+}
+
+/// The full places with their tags, and where their items stand, in both walks.
+fn walked(alloc: Global) -> Result<(Vec<(usize, u8, usize)>, Vec<usize>), Error> {
+    let root = root_of::<ArchivedHashTable<ArchivedU32>>(alloc, &ONE_OF_TWO)?;
+    let mut places = Vec::new(alloc);
+    for (place, tag, item) in ArchivedHashTable::full_places(root) {
+        places.push((place, tag, item.pos()))?;
+    }
+    let mut positions = Vec::new(alloc);
+    for position in ArchivedHashTable::raw_iter(root) {
+        positions.push(position)?;
+    }
+    Ok((places, positions))
+}
+
+#[test]
+fn full_places_are_walked(rt: HostRuntime) -> Result<(), Fail> {
+    let (places, positions) = walked(rt.alloc())?;
+    assert_eq!(rt; places.as_slice(), [(1, 0x55, 0)].as_slice());
+    assert_eq!(rt; positions.as_slice(), [0].as_slice());
+    Ok(())
+}
+
+/// What a map from texts to numbers has.
+type Texts = ArchivedHashMap<ArchivedString, ArchivedU32, FxHasher64>;
+
+/// The number that a text leads to, and whether the map has the text.
+fn found(alloc: Global, text: &str) -> Result<(Option<u32>, bool), Error> {
+    let root = root_of::<Texts>(alloc, &A_TO_ONE)?;
+    let is_there = ArchivedHashMap::contains_key(root, &text);
+    match ArchivedHashMap::get(root, &text) {
+        Some(number) => Ok((Some(native_of(number)), is_there)),
+        None => Ok((None, is_there)),
+    }
+}
+
+#[test]
+fn keys_of_maps_are_found(rt: HostRuntime) {
+    assert_eq!(rt; found(rt.alloc(), "a"), Ok((Some(1), true)));
+    assert_eq!(rt; found(rt.alloc(), "b"), Ok((None, false)));
+    assert_eq!(rt; found(rt.alloc(), ""), Ok((None, false)));
+}
+
+/// How many entries a map has, and how many places.
+fn sizes(alloc: Global) -> Result<(usize, bool, usize), Error> {
+    let root = root_of::<Texts>(alloc, &A_TO_ONE)?;
+    Ok((
+        ArchivedHashMap::len(root),
+        ArchivedHashMap::is_empty(root),
+        ArchivedHashMap::capacity(root),
+    ))
+}
+
+#[test]
+fn map_tells_its_sizes(rt: HostRuntime) {
+    assert_eq!(rt; sizes(rt.alloc()), Ok((1, false, 2)));
+}
