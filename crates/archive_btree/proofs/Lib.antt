@@ -1,3 +1,4 @@
 mod ReadBack
 pub mod Listed
 pub mod Keyed
+pub mod Seen

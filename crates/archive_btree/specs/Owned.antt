@@ -1,5 +1,5 @@
 -- How maps are archived, which own their entries.
-use Rattle.std.specs.Prelude.{ℕ, List, map, Option}
+use Rattle.std.specs.Prelude.{ℕ, List, map, Option, Some, None}
 use Rattle.std.specs.Map.Iter.{deref_pair}
 use denote.Bor.{Bor}
 use Rattle.archive_shape_layout.specs.Shape.{Shape}
@@ -20,3 +20,11 @@ pub record TakesEntries {A B I F : Type 0} (gives : I → Option (Bor A × Bor B
 -- the entries that a set has as a map of its keys to `()`
 abbrev pub key_entries : {A : Type 0} → List A → List (A × Unit {0})
 key_entries ks = map (λ k. (k, tt)) ks
+
+-- a borrowed key as such an entry, and the key of a borrowed entry that comes
+abbrev pub key_entry : {A : Type 0} → Bor A → A × Unit {0}
+key_entry k = (k.now, tt)
+
+abbrev pub key_of : {A B : Type 0} → Option (A × B) → Option A
+key_of None = None
+key_of (Some e) = Some e.0

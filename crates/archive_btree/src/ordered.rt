@@ -16,7 +16,7 @@ use archive_shape::{Allocator, Error, Writer};
 use std::marker::PhantomData;
 
 /// How many entries a node has at most.
-const MOST: usize = u32::MAX as usize;
+pub(crate) const MOST: usize = u32::MAX as usize;
 
 /// Writes the search tree of the entries of a map, which come in order and whose data a step writes. `claimed` is how many
 /// come.

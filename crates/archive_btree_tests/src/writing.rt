@@ -5,8 +5,9 @@ ghost use Rattle.archive_forms_spelling.specs.Serializing.{HasState, SerializesB
 use crate::archives::{EMPTY, ONE_PAIR, SIX_PAIRS, bytes_of, root_of};
 use crate::sets::{FOUR, NONE, SIX};
 use archive_btree::{
-    ArchivedBTreeMap, ArchivedBTreeSet, BTreeMapResolver, EntryParts, OwnedBTreeMap, OwnedBTreeSet,
-    deserialize_map, deserialize_set, serialize_from_ordered_iter, serialize_map_each,
+    ArchivedBTreeMap, ArchivedBTreeSet, BTreeMapResolver, BTreeSetResolver, EntryParts,
+    OwnedBTreeMap, OwnedBTreeSet, deserialize_map, deserialize_set, serialize_from_ordered_iter,
+    serialize_map_each, serialize_set_from_ordered_iter,
 };
 use archive_core_serializing::{HighSerializer, Serializer};
 use archive_forms_text::ArchivedString;
@@ -237,5 +238,34 @@ fn steps_of_keys_and_of_values_write_the_same(rt: HostRuntime) -> Result<(), Fai
     let written = write_by_parts(&map, &mut serializer);
     assert_eq!(rt; written, Ok(BTreeMapResolver::from_pos(Some(0))));
     assert_eq!(rt; serializer.into_writer().len(), 48);
+    Ok(())
+}
+
+/// Writes the keys of a set, of which is claimed how many come.
+fn write_claimed_keys<S: Writer + Allocator>(
+    claimed: usize,
+    owned: &OwnedBTreeSet<u32, 5>,
+    serializer: &mut S,
+) -> Result<BTreeSetResolver, Error>
+    requires room { S.failures serializer.old < 2 ^ 64 - 1 }
+    requires state { HasState S.pos S.known serializer.old }
+{
+    serialize_set_from_ordered_iter::<S, u32, _, 5>(claimed, owned.set.iter(), serializer)
+}
+
+#[test]
+fn keys_in_order_are_written_where_as_many_come_as_are_claimed(
+    rt: HostRuntime,
+) -> Result<(), Fail> {
+    let alloc = rt.alloc();
+    let six = set_of(alloc, &[1, 2, 3, 4, 5, 6])?;
+    let written = write_claimed_keys(6, &six, &mut memory(alloc));
+    assert_eq!(rt; written, Ok(BTreeSetResolver::from_pos(Some(28))));
+    let refused = write_claimed_keys(5, &six, &mut memory(alloc));
+    let (expected, actual) = (5, 6);
+    assert_eq!(rt;
+        refused,
+        Err(Error::IteratorLengthMismatch { expected, actual })
+    );
     Ok(())
 }

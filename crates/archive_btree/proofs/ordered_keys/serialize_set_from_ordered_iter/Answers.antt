@@ -1,0 +1,29 @@
+use Rattle.std.proofs.Common.{ℕ, Option, inl, Ok, Err}
+use Rattle.archive_shape_layout.specs.Shape.Shape.{tuple}
+use Rattle.archive_shape_layout.specs.Shape.Shapes.{no_shapes}
+use Rattle.archive_shape_writing.specs.Writing.{WriterMembers}
+use Rattle.archive_forms_spelling.specs.Fields.{unit_spelling}
+use Rattle.archive_btree_spelling.specs.Maps.{btree_spelling}
+use Rattle.archive_btree_building.specs.Taking.{GivesAs}
+use Rattle.archive_btree.specs.Owned.{key_entry}
+use Rattle.archive_btree.proofs.Listed.{none_begun}
+use Rattle.archive_btree.proofs.Seen.{claimed_seen, key_given}
+use Rattle.archive_btree.proofs.ordered_keys.serialize_set_from_ordered_iter.Goals as goal
+
+pub returns-then-this-gt-MOST : goal.returns-then-this-gt-MOST
+returns-then-this-gt-MOST g c =
+    let s : WriterMembers g.row.S.Denot = record { known = g.S.Registry.known; pos = g.S.Positional.pos; OBSERVABLE = g.S.Writer.OBSERVABLE; COUNTS = g.S.Writer.COUNTS; contents = g.S.Writer.contents; failures = g.S.Writer.failures; last_error = g.S.Writer.last_error } in
+    inl
+    (none_begun (btree_spelling g.row.E g.K.Archived.Portable.shape (tuple no_shapes) g.K.Archive.spelling unit_spelling) s (GivesAs key_entry g.I.Iterator.next_gives) c.args.claimed c.args.keys c.args.serializer.now)
+
+pub returns-in-Ok : goal.returns-in-Ok
+returns-in-Ok g c =
+    let s : WriterMembers g.row.S.Denot = record { known = g.S.Registry.known; pos = g.S.Positional.pos; OBSERVABLE = g.S.Writer.OBSERVABLE; COUNTS = g.S.Writer.COUNTS; contents = g.S.Writer.contents; failures = g.S.Writer.failures; last_error = g.S.Writer.last_error } in
+    claimed_seen g.row.E g.K.Archived.Portable.shape (tuple no_shapes) g.K.Archive.spelling unit_spelling s _ (GivesAs key_entry g.I.Iterator.next_gives) (λ it. it.keys) (key_given g.I.Iterator.next_gives (λ it. it.keys)) (λ (r : Option ℕ). r)
+    c.args.claimed _ c.args.serializer.now c.build_tree_each.new.serializer (Ok c.in-Ok.pos) c.in-Ok.ensures
+
+pub returns-in-Err : goal.returns-in-Err
+returns-in-Err g c =
+    let s : WriterMembers g.row.S.Denot = record { known = g.S.Registry.known; pos = g.S.Positional.pos; OBSERVABLE = g.S.Writer.OBSERVABLE; COUNTS = g.S.Writer.COUNTS; contents = g.S.Writer.contents; failures = g.S.Writer.failures; last_error = g.S.Writer.last_error } in
+    claimed_seen g.row.E g.K.Archived.Portable.shape (tuple no_shapes) g.K.Archive.spelling unit_spelling s _ (GivesAs key_entry g.I.Iterator.next_gives) (λ it. it.keys) (key_given g.I.Iterator.next_gives (λ it. it.keys)) (λ (r : Option ℕ). r)
+    c.args.claimed _ c.args.serializer.now c.build_tree_each.new.serializer (Err c.in-Err.e) c.in-Err.ensures
