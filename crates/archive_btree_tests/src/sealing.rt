@@ -65,9 +65,10 @@ fn values_of(alloc: Global, bytes: &[u8]) -> Result<[Option<u32>; 4], Error> {
 /// Adds 10 to each value in order, up to the first that becomes `last`, and answers that.
 fn add_to_each(alloc: Global, bytes: &mut Vec<u8>, last: u32) -> Result<Option<u32>, Error> {
     let pos = root_of::<Texts>(alloc, bytes.as_slice())?.pos();
-    let mut visit = |_key: Ref<'_, ArchivedString>, value: &mut OwnSeal<'_, ArchivedU32>| -> ControlFlow<
-        u32,
-    >
+    let mut visit = |_key: Ref<'_, ArchivedString>, value: &mut OwnSeal<
+        '_,
+        ArchivedU32,
+    >| -> ControlFlow<u32>
         requires { length value.now.own.now ≡ 4 }
     {
         let number = value.as_ref().to_native().wrapping_add(10);
@@ -237,7 +238,12 @@ fn cursors_pass_the_values_of_a_range(rt: HostRuntime) -> Result<(), Fail> {
         [48].as_slice()
     );
     assert_eq!(rt;
-        between(rt.alloc(), &FOUR, (Bound::Excluded("baz"), Bound::Unbounded))?.as_slice(),
+        between(
+            rt.alloc(),
+            &FOUR,
+            (Bound::Excluded("baz"), Bound::Unbounded)
+        )?
+        .as_slice(),
         [56].as_slice()
     );
     Ok(())
