@@ -14,7 +14,9 @@ mod serialize;
 mod serialize_set;
 mod set;
 
-pub use archive_btree_reading::{ArchivedBTreeMap, BTreeMapResolver, Iter, Keys, Values};
+pub use archive_btree_reading::{
+    ArchivedBTreeMap, BTreeMapResolver, Iter, IterSeal, Keys, Range, RangeSeal, Values, ValuesSeal,
+};
 pub use archive_btree_sets::{ArchivedBTreeSet, BTreeSetResolver, eq_btree_set};
 pub use archive_btree_writing::{EntryParts, EntryStep, SerializeEntry};
 pub use deserialize::{deserialize_map, deserialize_map_each};
