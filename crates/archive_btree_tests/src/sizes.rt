@@ -2,12 +2,15 @@
 
 use crate::archives::root_of;
 use crate::writing::archive_of;
-use archive_btree::{ArchivedBTreeMap, OwnedBTreeMap, deserialize_map};
+use archive_btree::{
+    ArchivedBTreeMap, ArchivedBTreeSet, OwnedBTreeMap, OwnedBTreeSet, deserialize_map,
+    deserialize_set,
+};
 use archive_forms_reading::native_of;
 use archive_forms_text::ArchivedString;
-use archive_shape::{ArchivedI32, Error};
+use archive_shape::{ArchivedI32, ArchivedU32, Error};
 use std::alloc::Global;
-use std::collections::BTreeMap;
+use std::collections::{BTreeMap, BTreeSet};
 
 /// Texts that lead to numbers.
 type Numbers = OwnedBTreeMap<String, i32, 5>;
@@ -55,7 +58,9 @@ fn archived(alloc: Global, count: i32) -> Result<(usize, usize, bool), Error> {
     let read: Numbers = deserialize_map(root, alloc, &mut ())?;
     Ok((
         ArchivedBTreeMap::len(root),
-        ArchivedBTreeMap::keys(root).count().min(ArchivedBTreeMap::values(root).count()),
+        ArchivedBTreeMap::keys(root)
+            .count()
+            .min(ArchivedBTreeMap::values(root).count()),
         read.map == owned.map,
     ))
 }
@@ -87,4 +92,50 @@ fn every_key_leads_to_its_value(rt: HostRuntime) {
     for count in [1, 5, 6, 17, 35, 36, 112, 215] {
         assert_eq!(rt; leads_to_all(rt.alloc(), count), Ok(true), "{count}");
     }
+}
+
+/// Whether the map from 0 and 1 to nothing is read back.
+fn numbers_without_values(alloc: Global) -> Result<bool, Error> {
+    let mut map = BTreeMap::new(alloc);
+    if map.insert(0, ()).is_err() || map.insert(1, ()).is_err() {
+        return Err(Error::OutOfMemory);
+    }
+    let owned: OwnedBTreeMap<u32, (), 5> = OwnedBTreeMap { map };
+    let bytes = archive_of(alloc, &owned)?;
+    let root = root_of::<ArchivedBTreeMap<ArchivedU32, (), 5>>(alloc, bytes.as_slice())?;
+    let read: OwnedBTreeMap<u32, (), 5> = deserialize_map(root, alloc, &mut ())?;
+    Ok(read.map == owned.map)
+}
+
+/// Whether the map from the only key without bytes to a number is read back.
+fn value_without_key(alloc: Global) -> Result<bool, Error> {
+    let mut map = BTreeMap::new(alloc);
+    if map.insert((), 10).is_err() {
+        return Err(Error::OutOfMemory);
+    }
+    let owned: OwnedBTreeMap<(), u32, 5> = OwnedBTreeMap { map };
+    let bytes = archive_of(alloc, &owned)?;
+    let root = root_of::<ArchivedBTreeMap<(), ArchivedU32, 5>>(alloc, bytes.as_slice())?;
+    let read: OwnedBTreeMap<(), u32, 5> = deserialize_map(root, alloc, &mut ())?;
+    Ok(read.map == owned.map)
+}
+
+/// Whether the set of the only key without bytes is read back.
+fn set_without_bytes(alloc: Global) -> Result<bool, Error> {
+    let mut set = BTreeSet::new(alloc);
+    if set.insert(()).is_err() {
+        return Err(Error::OutOfMemory);
+    }
+    let owned: OwnedBTreeSet<(), 5> = OwnedBTreeSet { set };
+    let bytes = archive_of(alloc, &owned)?;
+    let root = root_of::<ArchivedBTreeSet<(), 5>>(alloc, bytes.as_slice())?;
+    let read: OwnedBTreeSet<(), 5> = deserialize_set(root, alloc, &mut ())?;
+    Ok(read.set == owned.set)
+}
+
+#[test]
+fn keys_and_values_without_bytes_are_read_back(rt: HostRuntime) {
+    assert_eq!(rt; numbers_without_values(rt.alloc()), Ok(true));
+    assert_eq!(rt; value_without_key(rt.alloc()), Ok(true));
+    assert_eq!(rt; set_without_bytes(rt.alloc()), Ok(true));
 }
