@@ -1,5 +1,6 @@
 pub mod Entries
 pub mod Lookups
+pub mod Paired
 pub mod Read
 pub mod Refs
 pub mod Roots

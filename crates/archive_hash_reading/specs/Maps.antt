@@ -1,11 +1,10 @@
 -- Archived hash maps: tables of entries, and what their look-ups answer.
 use denote.Ref.{Bor}
-use Rattle.std.specs.Prelude.{◌≡◌, ℕ, Bool, List, Option}
+use Rattle.std.specs.Prelude.{◌≡◌, ℕ, ◌+◌, Bool, List, Option}
 use Rattle.std.specs.List.{fold}
 use Rattle.std.specs.Ordering.{is_eq}
 use Rattle.std.specs.declared.cmp.Ordering.{Ordering}
 use Rattle.archive_shape_layout.specs.Shape.{Shape}
-use Rattle.archive_shape_layout.specs.Shape.Shape.{table}
 use Rattle.archive_shape_layout.specs.Shape.Shapes.{no_shapes}
 use Rattle.archive_shape_references.specs.declared.refs.Ref.{Ref}
 use Rattle.archive_forms_checking.specs.Tuples.{tuple2}
@@ -30,6 +29,10 @@ value_at bytes k v at = item_at bytes (field_position k no_shapes v at)
 
 abbrev pub entry_at : {K V : Type 0} → Bor (List ℕ) → Shape → Shape → ℕ → Ref K × Ref V
 entry_at bytes k v at = (key_at bytes at, value_at bytes k v at)
+
+-- what stands at a position, and what stands so far behind it
+abbrev pub pair_at : {K V : Type 0} → Bor (List ℕ) → ℕ → ℕ → Ref K × Ref V
+pair_at bytes behind at = (item_at bytes at, item_at bytes (at + behind))
 
 -- what a look-up of a key answers, where it hashes to one of these
 pub record LooksUpKey {A : Type 0} (hashes : ℕ → Type 0) (says : ℕ → Bool → Type 0) (item : ℕ → A) (k v : Shape) (b : Buckets) (found : Option A) : Type 0 where
