@@ -1,6 +1,7 @@
 pub mod Entries
 pub mod Lookups
 pub mod Paired
+pub mod Present
 pub mod Read
 pub mod Refs
 pub mod Roots

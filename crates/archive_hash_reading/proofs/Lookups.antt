@@ -67,7 +67,7 @@ no_strides : (hash : ℕ) → strides hash 0 ≡ []
 unfolding strides strides_from
 no_strides hash = none_below (map (stop hash 0) (range_with_len 0 (least_power 0)))
 
-reaches_none : (controls : List ℕ) (hash place : ℕ) → Reaches controls hash 0 place → ⊥
+pub reaches_none : (controls : List ℕ) (hash place : ℕ) → Reaches controls hash 0 place → ⊥
 unfolding reach
 reaches_none controls hash place reached =
     let none : list_any (λ p. place == p) (flat_map (places_shown 0) (searched controls [])) ≡ true = subst (λ ps. list_any (λ p. place == p) (flat_map (places_shown 0) (searched controls ps)) ≡ true) (no_strides hash) reached in

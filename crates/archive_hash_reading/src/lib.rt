@@ -2,6 +2,7 @@
 #![tactic(auto)]
 
 mod buckets;
+mod calling;
 mod iter;
 mod keys;
 mod laws;
@@ -9,6 +10,7 @@ mod lookup;
 mod map;
 mod map_iter;
 mod places;
+mod seal;
 mod table;
 
 pub use iter::{FullPlaces, RawIter};

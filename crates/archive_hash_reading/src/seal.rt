@@ -1,0 +1,75 @@
+//! Items of archived hash tables, and values of archived hash maps, that may be edited.
+ghost use denote.Ref.{Bor};
+ghost use Rattle.std.specs.Prelude.{◌≡◌, ℕ, List, IfSome};
+ghost use Rattle.std.specs.Option.{option_map};
+ghost use Rattle.archive_shape_layout.specs.Shape.Shape.{table};
+ghost use Rattle.archive_shape_layout.specs.Shape.Shapes.{no_shapes};
+ghost use Rattle.archive_forms_checking.specs.Tuples.{tuple2};
+ghost use Rattle.archive_forms_reading.specs.Parts.{HasValue, both};
+ghost use Rattle.archive_forms_tuples.specs.Fields.{field_position};
+ghost use Rattle.archive_hash_reading.specs.Tables.{Buckets, IsTableAt};
+ghost use Rattle.archive_hash_reading.specs.Places.{Answers, calls, item_at};
+ghost use Rattle.archive_hash_reading.specs.Maps.{HashesTo, KeySays, LooksUpKey};
+
+use crate::keys::{search_key, value_position};
+use crate::lookup::search_table;
+use crate::{ArchivedHashMap, ArchivedHashTable};
+use archive_hash_scanning::Group;
+use archive_shape::ArchivedKey;
+use archive_shape_portable::Portable;
+use archive_shape_references::{Ref, Seal};
+use std::hash::{Hash, Hasher};
+
+impl<T: Portable> ArchivedHashTable<T> {
+    /// The item of a hash that is accepted. What the buffer is after the loan is not said.
+    pub fn get_seal_with<'a, F: Fn(Ref<'_, T>) -> bool>(
+        this: Seal<'a, ArchivedHashTable<T>>,
+        hash: u64,
+        accepts: &F,
+    ) -> Option<Seal<'a, T>>
+        requires has { HasValue (table T.shape) T.knows this.bytes.now this.pos }
+        requires callable { (lent : Bor (List ℕ)) (at : ℕ) → lent.now ≡ this.bytes.now → HasValue T.shape T.knows lent.now at → F.pre accepts.now (item_at lent at) }
+        ensures whole { IfSome result (λ r. (r.bytes.ghost_name ≡ this.entry.bytes.ghost_name) × (r.bytes.now ≡ this.entry.bytes.now)) }
+        ensures there { IfSome result (λ r. HasValue T.shape T.knows r.bytes.now r.pos) }
+        ensures answers { (b : Buckets) → IsTableAt this.entry.bytes.now T.shape this.entry.pos b
+            → (lent : Bor (List ℕ)) × (strides : ℕ) × (lent.now ≡ this.entry.bytes.now)
+            × Answers (calls F.post accepts.now lent) (λ at. at) T.shape b hash (option_map (λ r. r.pos) result) strides }
+    {
+        let Seal { bytes, pos, .. } = this;
+        let shared: &[u8] = bytes;
+        let accepts_at = |at: usize| -> bool
+            requires { F.pre accepts.now (item_at shared at) }
+            ensures { F.post accepts.entry.now (item_at shared.entry at) result }
+        { accepts(Ref::new(shared, at)) };
+        match search_table::<T, Group, _>(shared, pos, hash, &accepts_at).0 {
+            Some(at) => Some(Seal::new(bytes, at)),
+            None => None,
+        }
+    }
+}
+
+impl<K, V: Portable, H: Hasher + Default + Drop> ArchivedHashMap<K, V, H> {
+    /// The value of a key, if the map has the key. What the buffer is after the loan is not said.
+    pub fn get_seal<'a, Q: Hash>(
+        this: Seal<'a, ArchivedHashMap<K, V, H>>,
+        query: &Q,
+    ) -> Option<Seal<'a, V>>
+    where
+        K: ArchivedKey<Q>,
+        requires has { HasValue (table (tuple2 K.shape V.shape)) (both K.knows V.knows) this.bytes.now this.pos }
+        ensures whole { IfSome result (λ r. (r.bytes.ghost_name ≡ this.entry.bytes.ghost_name) × (r.bytes.now ≡ this.entry.bytes.now)) }
+        ensures there { IfSome result (λ r. HasValue V.shape V.knows r.bytes.now r.pos) }
+        ensures answers { (b : Buckets) → IsTableAt this.entry.bytes.now (tuple2 K.shape V.shape) this.entry.pos b
+            → LooksUpKey (HashesTo H.is_default H.write H.finish (Q.hash_input query.now)) (KeySays K.key_of K.order this.entry.bytes.now query.now)
+            (field_position K.shape no_shapes V.shape) K.shape V.shape b (option_map (λ r. r.pos) result) }
+    {
+        let Seal { bytes, pos, .. } = this;
+        match search_key::<Q, K, V, H>(bytes, pos, query) {
+            Some(at) => {
+                let value = value_position::<K, V>(bytes, at);
+                Some(Seal::new(bytes, value))
+            }
+            None => None,
+        }
+    }
+}
