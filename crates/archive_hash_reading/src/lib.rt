@@ -3,6 +3,7 @@
 
 mod buckets;
 mod calling;
+mod debug;
 mod iter;
 mod keys;
 mod laws;
