@@ -1,6 +1,6 @@
 //! Items of archived hash tables, and values of archived hash maps, that may be edited.
 ghost use denote.Ref.{Bor};
-ghost use Rattle.std.specs.Prelude.{◌≡◌, ℕ, List, IfSome};
+ghost use Rattle.std.specs.Prelude.{◌≡◌, ℕ, ◌+◌, ◌≤◌, List, length, Option, Some, None, IfSome, MatchOption};
 ghost use Rattle.std.specs.Option.{option_map};
 ghost use Rattle.archive_shape_layout.specs.Shape.Shape.{table};
 ghost use Rattle.archive_shape_layout.specs.Shape.Shapes.{no_shapes};
@@ -10,6 +10,7 @@ ghost use Rattle.archive_forms_tuples.specs.Fields.{field_position};
 ghost use Rattle.archive_hash_reading.specs.Tables.{Buckets, IsTableAt};
 ghost use Rattle.archive_hash_reading.specs.Places.{Answers, calls, item_at};
 ghost use Rattle.archive_hash_reading.specs.Maps.{HashesTo, KeySays, LooksUpKey};
+ghost use Rattle.archive_hash_reading.specs.Seals.{IsLent};
 
 use crate::keys::{search_key, value_position};
 use crate::lookup::search_table;
@@ -17,7 +18,7 @@ use crate::{ArchivedHashMap, ArchivedHashTable};
 use archive_hash_scanning::Group;
 use archive_shape::ArchivedKey;
 use archive_shape_portable::Portable;
-use archive_shape_references::{Ref, Seal};
+use archive_shape_references::{OwnSeal, Ref, Seal};
 use std::hash::{Hash, Hasher};
 
 impl<T: Portable> ArchivedHashTable<T> {
@@ -72,4 +73,46 @@ impl<K, V: Portable, H: Hasher + Default + Drop> ArchivedHashMap<K, V, H> {
             None => None,
         }
     }
+    /// A key, and its value with only the value's own bytes, if the map has the key. The key is read from the bytes before
+    /// the value's own, where all that it leads to lies. What the buffer is after the loan is not said.
+    pub fn get_key_value_seal<'a, Q: Hash>(
+        this: Seal<'a, ArchivedHashMap<K, V, H>>,
+        query: &Q,
+    ) -> Option<(Ref<'a, K>, OwnSeal<'a, V>)>
+    where
+        K: ArchivedKey<Q>,
+        requires has { HasValue (table (tuple2 K.shape V.shape)) (both K.knows V.knows) this.bytes.now this.pos }
+        ensures there { IfSome result (λ r. HasValue K.shape K.knows r.0.bytes.now r.0.pos) }
+        ensures answers { (b : Buckets) → IsTableAt this.entry.bytes.now (tuple2 K.shape V.shape) this.entry.pos b
+            → (found : Option ℕ)
+            × LooksUpKey (HashesTo H.is_default H.write H.finish (Q.hash_input query.now)) (KeySays K.key_of K.order this.entry.bytes.now query.now) (λ at. at) K.shape V.shape b found
+            × MatchOption result
+            (found ≡ None)
+            (λ r. (at : ℕ) × (found ≡ Some at) × IsLent V.SIZE this.entry.bytes.now at (field_position K.shape no_shapes V.shape at) r.0 r.1) }
+    {
+        let Seal { bytes, pos, .. } = this;
+        match search_key::<Q, K, V, H>(bytes, pos, query) {
+            Some(at) => {
+                let value = value_position::<K, V>(bytes, at);
+                Some(lend_entry::<K, V>(bytes, at, value))
+            }
+            None => None,
+        }
+    }
+}
+
+/// The key at a position, and the value at another with only the value's own bytes.
+fn lend_entry<K, V: Portable>(
+    bytes: &mut [u8],
+    key: usize,
+    value: usize,
+) -> (Ref<'_, K>, OwnSeal<'_, V>)
+    requires { value + V.SIZE ≤ length bytes.old }
+    ensures { IsLent V.SIZE bytes.old key value result.0 result.1 }
+{
+    let (before, rest) = bytes.split_at_mut(value);
+    (
+        Ref::new(before, key),
+        OwnSeal::new(&mut rest[..V::SIZE], value),
+    )
 }
