@@ -1,7 +1,6 @@
 -- What lies before a position is read without the bytes from there on.
 use Rattle.std.proofs.Common.{◌≡◌, ◌∙◌, ℕ, ◌+◌, ◌-◌, ◌≤◌, List, [], ◌∷◌, length, take, drop, ap, sym, subst, arith, take-take}
 use Rattle.std.proofs.lemmas.List.{drop-take, length-take-le}
-use Rattle.archive_shape_layout.specs.Bytes.{align_up}
 use Rattle.archive_shape_layout.specs.Shape.{Shape, size_of, align_of}
 use Rattle.archive_shape_layout.specs.Shape.Shapes.{no_shapes}
 use Rattle.archive_shape_layout.specs.Value.{Value}

@@ -15,7 +15,7 @@ use std::test::Fail;
 
 /// A table of the number 7 in the second of two places: the bucket of each place, the second place's first; sixteen controls
 /// for the places and fifteen more; a byte of padding; and the table, whose controls begin 32 bytes before it.
-const ONE_OF_TWO: [u8; 52] = [
+pub(crate) const ONE_OF_TWO: [u8; 52] = [
     7, 0, 0, 0, 0, 0, 0, 0, 0xff, 0x55, 0xff, 0x55, 0xff, 0xff, 0xff, 0xff, 0xff, 0xff, 0xff, 0xff,
     0xff, 0xff, 0xff, 0xff, 0xff, 0xff, 0xff, 0xff, 0xff, 0xff, 0xff, 0xff, 0xff, 0xff, 0xff, 0xff,
     0xff, 0xff, 0xff, 0, 0xe0, 0xff, 0xff, 0xff, 1, 0, 0, 0, 2, 0, 0, 0,
@@ -30,7 +30,7 @@ const A_TO_ONE: [u8; 68] = [
 ];
 
 /// The hash of the text `a`.
-const HASH_OF_A: u64 = 0xaa44_c3c5_b8e2_2aff;
+pub(crate) const HASH_OF_A: u64 = 0xaa44_c3c5_b8e2_2aff;
 
 /// The root of bytes that are checked.
 fn root_of<T: CheckBytes<HighValidator>>(alloc: Global, bytes: &[u8]) -> Result<Ref<'_, T>, Error>

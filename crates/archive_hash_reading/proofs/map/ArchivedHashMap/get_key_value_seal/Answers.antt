@@ -1,5 +1,4 @@
-use Rattle.std.proofs.Common.{◌≡◌, ◌+◌, ◌≤◌, length, Some, None, refl, sym, subst, arith}
-use Rattle.archive_shape_layout.specs.Shape.{size_of}
+use Rattle.std.proofs.Common.{Some, None, refl, subst, arith}
 use Rattle.archive_shape_layout.specs.Shape.Shapes.{no_shapes}
 use Rattle.archive_forms_tuples.specs.Fields.{field_position}
 use Rattle.archive_hash_reading.specs.Seals.{IsLent}

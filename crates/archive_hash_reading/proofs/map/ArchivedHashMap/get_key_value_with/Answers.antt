@@ -1,9 +1,9 @@
-use Rattle.std.proofs.Common.{◌≡◌, ◌∙◌, ℕ, Bool, Some, None, refl, subst}
+use Rattle.std.proofs.Common.{◌∙◌, ℕ, Bool, Some, None, refl, subst}
 use Rattle.archive_shape_layout.specs.Shape.Shapes.{no_shapes}
 use Rattle.archive_forms_checking.specs.Tuples.{tuple2}
 use Rattle.archive_forms_reading.specs.Parts.{HasValue, both}
 use Rattle.archive_forms_tuples.specs.Fields.{field_position}
-use Rattle.archive_hash_reading.specs.Places.{LooksUp, FindsAccepted, FindsTheOnly}
+use Rattle.archive_hash_reading.specs.Places.{FindsAccepted}
 use Rattle.archive_hash_reading.specs.Maps.{HashesTo, LooksUpKey, query_calls, entry_at}
 use Rattle.archive_hash_reading.proofs.Lookups.{item_there}
 use Rattle.archive_hash_reading.proofs.Entries.{entries_there, entry_parts, position_of, looks_up_of, pair_is}

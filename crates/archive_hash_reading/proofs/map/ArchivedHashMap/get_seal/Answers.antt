@@ -1,4 +1,4 @@
-use Rattle.std.proofs.Common.{◌≡◌, ◌∙◌, Some, None, refl, ap, sym, subst}
+use Rattle.std.proofs.Common.{◌∙◌, Some, None, refl, ap, sym, subst}
 use Rattle.archive_shape_layout.specs.Shape.Shapes.{no_shapes}
 use Rattle.archive_forms_reading.specs.Parts.{HasValue}
 use Rattle.archive_forms_tuples.specs.Fields.{field_position}

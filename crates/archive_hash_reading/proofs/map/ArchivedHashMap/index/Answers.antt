@@ -1,6 +1,4 @@
-use Rattle.std.proofs.Common.{IfSome, subst}
-use Rattle.archive_forms_reading.specs.Parts.{HasValue}
-use Rattle.archive_hash_reading.specs.Maps.{HashesTo, KeySays, LooksUpKey, value_at}
+use Rattle.archive_hash_reading.specs.Maps.{HashesTo, value_at}
 use Rattle.archive_hash_reading.proofs.Present.{key_is_found}
 use Rattle.archive_hash_reading.proofs.map.ArchivedHashMap.index.Goals as goal
 

@@ -1,5 +1,5 @@
 use denote.MutBor.{as_bor}
-use Rattle.std.proofs.Common.{◌≡◌, ◌∙◌, ℕ, Bool, Some, None, refl, ap, sym, subst}
+use Rattle.std.proofs.Common.{ℕ, Bool, Some, None, refl, ap, sym, subst}
 use Rattle.archive_forms_reading.specs.Parts.{HasValue}
 use Rattle.archive_hash_reading.specs.Places.{LooksUp, FindsAccepted, FindsTheOnly, calls}
 use Rattle.archive_hash_reading.proofs.Lookups.{item_there, items_there}
