@@ -40,10 +40,7 @@ pub fn eq_hash_map<
     H: Hasher + Default + Drop,
     S: BuildHasher,
     A: Allocator,
->(
-    this: &Ref<'_, ArchivedHashMap<K, V, H>>,
-    other: &HashMap<Q, W, S, A>,
-) -> bool
+>(this: &Ref<'_, ArchivedHashMap<K, V, H>>, other: &HashMap<Q, W, S, A>) -> bool
     requires { HasValue (table (tuple2 K.shape V.shape)) (both K.knows V.knows) this.now.bytes.now this.now.pos }
     ensures equal { (b : Buckets) → IsTableAt this.now.bytes.now (tuple2 K.shape V.shape) this.now.pos b → result ≡ true
         → (length (full_places b) ≡ length other.now.entries)

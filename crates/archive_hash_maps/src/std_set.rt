@@ -20,10 +20,7 @@ pub fn eq_hash_set<
     H: Hasher + Default + Drop,
     S: BuildHasher,
     A: Allocator,
->(
-    this: &Ref<'_, ArchivedHashSet<K, H>>,
-    other: &HashSet<Q, S, A>,
-) -> bool
+>(this: &Ref<'_, ArchivedHashSet<K, H>>, other: &HashSet<Q, S, A>) -> bool
     requires { HasSet K.shape K.knows this.now.bytes.now this.now.pos }
     ensures equal { (b : Buckets) → IsSetAt this.now.bytes.now K.shape this.now.pos b → result ≡ true
         → (length (full_places b) ≡ length other.now.keys)

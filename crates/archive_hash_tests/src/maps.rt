@@ -6,12 +6,13 @@ use archive_core_access::access;
 use archive_core_validation::HighValidator;
 use archive_forms_hashing::ArchivedDebug;
 use archive_forms_text::ArchivedString;
-use archive_hash_maps::ArchivedHashSet;
+use archive_hash_maps::{ArchivedHashSet, eq_hash_map, eq_hash_set};
 use archive_hash_reading::{ArchivedHashMap, ArchivedHashTable};
 use archive_hash_scanning::FxHasher64;
 use archive_shape::{ArchivedU32, Error, Ref, Seal};
 use archive_shape_checking::CheckBytes;
 use std::alloc::Global;
+use std::collections::{HashMap, HashSet};
 use std::fmt::Formatter;
 use std::test::Fail;
 
@@ -67,7 +68,10 @@ fn walked(alloc: Global) -> Result<Vec<(usize, usize, usize)>, Error> {
 #[test]
 fn entries_are_walked_by_ascending_place(rt: HostRuntime) -> Result<(), Fail> {
     let walked = walked(rt.alloc())?;
-    assert_eq!(rt; walked.as_slice(), [(48, 56, 2), (16, 24, 1), (0, 8, 0)].as_slice());
+    assert_eq!(rt;
+        walked.as_slice(),
+        [(48, 56, 2), (16, 24, 1), (0, 8, 0)].as_slice()
+    );
     Ok(())
 }
 
@@ -156,8 +160,90 @@ fn item_written(alloc: Global, hash: u64, number: u32) -> Result<[u8; 52], Error
 fn items_of_hashes_are_written_over(rt: HostRuntime) {
     let mut expected = crate::reading::ONE_OF_TWO;
     expected[0] = 9;
-    assert_eq!(rt; item_written(rt.alloc(), crate::reading::HASH_OF_A, 9), Ok(expected));
-    assert_eq!(rt; item_written(rt.alloc(), 0, 9), Ok(crate::reading::ONE_OF_TWO));
+    assert_eq!(rt;
+        item_written(rt.alloc(), crate::reading::HASH_OF_A, 9),
+        Ok(expected)
+    );
+    assert_eq!(rt;
+        item_written(rt.alloc(), 0, 9),
+        Ok(crate::reading::ONE_OF_TWO)
+    );
+}
+
+/// Where the key and the value stand that are lent of the map from `a` to 1, and the number that is in the bytes where
+/// another has been written over the value.
+fn lent(alloc: Global, key: &str, number: u32) -> Result<(Option<(usize, usize)>, u8), Error> {
+    let mut bytes = crate::reading::A_TO_ONE;
+    let pos = root_of::<crate::reading::Numbers>(alloc, &bytes)?.pos();
+    let seal = Seal::<crate::reading::Numbers>::new(&mut bytes, pos);
+    let lent = match ArchivedHashMap::get_key_value_seal(seal, &key) {
+        Some((key, value)) => {
+            let positions = (key.pos(), value.pos());
+            value.write(number);
+            Some(positions)
+        }
+        None => None,
+    };
+    Ok((lent, bytes[8]))
+}
+
+#[test]
+fn keys_are_lent_beside_their_values(rt: HostRuntime) {
+    assert_eq!(rt; lent(rt.alloc(), "a", 9), Ok((Some((0, 8)), 9)));
+    assert_eq!(rt; lent(rt.alloc(), "b", 9), Ok((None, 1)));
+}
+
+/// Whether the map is equal to one of std that has these pairs.
+fn equals(alloc: Global, pairs: &[(&'static str, &'static str)]) -> Result<bool, Error> {
+    let root = root_of::<Texts>(alloc, &THREE)?;
+    let mut other = HashMap::new(alloc);
+    for (key, value) in pairs {
+        if other.insert(*key, *value).is_err() {
+            return Err(Error::OutOfMemory);
+        }
+    }
+    Ok(eq_hash_map(&root, &other))
+}
+
+#[test]
+fn maps_of_the_same_pairs_are_equal(rt: HostRuntime) {
+    let foo = ("foo", "bar");
+    let baz = ("baz", "bat");
+    assert_eq!(rt;
+        equals(rt.alloc(), &[foo, baz, ("hello", "world")]),
+        Ok(true)
+    );
+    assert_eq!(rt;
+        equals(rt.alloc(), &[foo, baz, ("hello", "WORLD")]),
+        Ok(false)
+    );
+    assert_eq!(rt;
+        equals(rt.alloc(), &[foo, baz, ("world", "world")]),
+        Ok(false)
+    );
+    assert_eq!(rt; equals(rt.alloc(), &[foo, baz]), Ok(false));
+}
+
+/// Whether the set is equal to one of std that has these keys.
+fn equals_keys(alloc: Global, keys: &[&'static str]) -> Result<bool, Error> {
+    let root = root_of::<Keys>(alloc, &THREE_KEYS)?;
+    let mut other = HashSet::new(alloc);
+    for key in keys {
+        if other.insert(*key).is_err() {
+            return Err(Error::OutOfMemory);
+        }
+    }
+    Ok(eq_hash_set(&root, &other))
+}
+
+#[test]
+fn sets_of_the_same_keys_are_equal(rt: HostRuntime) {
+    assert_eq!(rt; equals_keys(rt.alloc(), &["hello", "foo", "baz"]), Ok(true));
+    assert_eq!(rt;
+        equals_keys(rt.alloc(), &["hello", "foo", "bar"]),
+        Ok(false)
+    );
+    assert_eq!(rt; equals_keys(rt.alloc(), &["hello", "foo"]), Ok(false));
 }
 
 /// Where a key of a set stands, and whether the set has it.
@@ -184,7 +270,11 @@ fn listed(alloc: Global, bytes: &[u8]) -> Result<(usize, bool, Vec<usize>), Erro
     for key in ArchivedHashSet::iter(root) {
         keys.push(key.pos())?;
     }
-    Ok((ArchivedHashSet::len(root), ArchivedHashSet::is_empty(root), keys))
+    Ok((
+        ArchivedHashSet::len(root),
+        ArchivedHashSet::is_empty(root),
+        keys,
+    ))
 }
 
 #[test]

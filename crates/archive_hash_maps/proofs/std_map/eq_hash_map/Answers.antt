@@ -1,4 +1,4 @@
-use Rattle.std.proofs.Common.{◌≡◌, ◌∙◌, true, [], ◌∷◌, All, Contains, inr, sym, subst}
+use Rattle.std.proofs.Common.{◌∙◌, true, [], ◌∷◌, All, Contains, inr, sym, subst}
 use Rattle.std.proofs.lemmas.List.Elements.{All-nil, All-cons, Contains-append_right}
 use Rattle.archive_hash_reading.specs.Maps.{HashesTo}
 use Rattle.archive_hash_maps.specs.StdMaps.{LeadsTo}

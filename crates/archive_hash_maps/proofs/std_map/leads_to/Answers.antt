@@ -1,4 +1,4 @@
-use Rattle.std.proofs.Common.{◌≡◌, Some, None, refl, sym, ap, subst}
+use Rattle.std.proofs.Common.{Some, None, refl, subst}
 use Rattle.archive_hash_reading.specs.Maps.{KeySays, value_at}
 use Rattle.archive_hash_reading.proofs.Entries.{looks_up_as}
 use Rattle.archive_hash_maps.proofs.Same.{found_in}

@@ -19,6 +19,9 @@ returns-in-Some-clause-there g c =
     lent_there k g.K.Portable.knows g.V.Portable.SIZE bytes c.in-Some.at (field_position k no_shapes v c.in-Some.at) c.lend_entry.result.0 c.lend_entry.result.1 lent
     (key_before k v g.K.Portable.knows g.V.Portable.knows bytes c.in-Some.at c.in-Some.ensures.there)
 
+pub returns-in-Some-clause-own : goal.returns-in-Some-clause-own
+returns-in-Some-clause-own g c = c.lend_entry.ensures.len
+
 pub returns-in-Some-clause-answers : goal.returns-in-Some-clause-answers
 returns-in-Some-clause-answers g c b is =
     let lent = subst (λ p. IsLent g.V.Portable.SIZE c.args.this.bytes.now c.in-Some.at p c.lend_entry.result.0 c.lend_entry.result.1) c.value_position-value.ensures c.lend_entry.ensures in
