@@ -15,6 +15,28 @@ use archive_shape_portable::Portable;
 use archive_shape_references::Ref;
 use std::hash::{Hash, Hasher};
 
+/// Where the entry stands whose key the caller's comparison accepts under the query's hash, in the map at `pos`.
+pub(crate) fn search_with<
+    Q: Hash,
+    K: Portable,
+    V: Portable,
+    H: Hasher + Default + Drop,
+    F: Fn(&Q, Ref<'_, K>) -> bool,
+>(bytes: &[u8], pos: usize, query: &Q, accepts: &F) -> Option<usize>
+    requires has { HasValue (table (tuple2 K.shape V.shape)) (both K.knows V.knows) bytes.now pos }
+    requires callable { (at : ℕ) → HasValue K.shape K.knows bytes.now at → F.pre accepts.now query (key_at bytes at) }
+    ensures there { IfSome result (HasValue (tuple2 K.shape V.shape) (both K.knows V.knows) bytes.entry.now) }
+    ensures answers { (b : Buckets) → IsTableAt bytes.entry.now (tuple2 K.shape V.shape) pos b
+        → LooksUpKey (HashesTo H.is_default H.write H.finish (Q.hash_input query.now)) (query_calls F.post accepts.now query.entry bytes.entry) (λ at. at) K.shape V.shape b result }
+{
+    let hash = hash_value::<Q, H>(query);
+    let accepts_at = |at: usize| -> bool
+        requires { F.pre accepts.now query (key_at bytes at) }
+        ensures { F.post accepts.entry.now query.entry (key_at bytes.entry at) result }
+    { accepts(query, Ref::new(bytes, at)) };
+    search_table::<Entry<K, V>, Group, _>(bytes, pos, hash, &accepts_at).0
+}
+
 impl<K: Portable, V: Portable, H: Hasher + Default + Drop> ArchivedHashMap<K, V, H> {
     /// The entry that the caller's comparison accepts among those under the query's hash. `accepts` says whether a key is
     /// the query.
@@ -30,16 +52,10 @@ impl<K: Portable, V: Portable, H: Hasher + Default + Drop> ArchivedHashMap<K, V,
             → LooksUpKey (HashesTo H.is_default H.write H.finish (Q.hash_input query.now)) (query_calls F.post accepts.now query.entry this.entry.bytes)
             (entry_at this.entry.bytes K.shape V.shape) K.shape V.shape b result }
     {
-        let bytes = this.bytes;
-        let hash = hash_value::<Q, H>(query);
-        let accepts_at = |at: usize| -> bool
-            requires { F.pre accepts.now query (key_at bytes at) }
-            ensures { F.post accepts.entry.now query.entry (key_at bytes.entry at) result }
-        { accepts(query, Ref::new(bytes, at)) };
-        match search_table::<Entry<K, V>, Group, _>(bytes, this.pos, hash, &accepts_at).0 {
+        match search_with::<Q, K, V, H, F>(this.bytes, this.pos, query, accepts) {
             Some(at) => Some((
-                Ref::new(bytes, at),
-                Ref::new(bytes, value_position::<K, V>(bytes, at)),
+                Ref::new(this.bytes, at),
+                Ref::new(this.bytes, value_position::<K, V>(this.bytes, at)),
             )),
             None => None,
         }

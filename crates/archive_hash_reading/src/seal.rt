@@ -9,9 +9,10 @@ ghost use Rattle.archive_forms_reading.specs.Parts.{HasValue, both};
 ghost use Rattle.archive_forms_tuples.specs.Fields.{field_position};
 ghost use Rattle.archive_hash_reading.specs.Tables.{Buckets, IsTableAt};
 ghost use Rattle.archive_hash_reading.specs.Places.{Answers, calls, item_at};
-ghost use Rattle.archive_hash_reading.specs.Maps.{HashesTo, KeySays, LooksUpKey};
+ghost use Rattle.archive_hash_reading.specs.Maps.{HashesTo, KeySays, LooksUpKey, query_calls, key_at};
 ghost use Rattle.archive_hash_reading.specs.Seals.{IsLent};
 
+use crate::calling::search_with;
 use crate::keys::{search_key, value_position};
 use crate::lookup::search_table;
 use crate::{ArchivedHashMap, ArchivedHashTable};
@@ -93,6 +94,62 @@ impl<K, V: Portable, H: Hasher + Default + Drop> ArchivedHashMap<K, V, H> {
     {
         let Seal { bytes, pos, .. } = this;
         match search_key::<Q, K, V, H>(bytes, pos, query) {
+            Some(at) => {
+                let value = value_position::<K, V>(bytes, at);
+                Some(lend_entry::<K, V>(bytes, at, value))
+            }
+            None => None,
+        }
+    }
+}
+
+impl<K: Portable, V: Portable, H: Hasher + Default + Drop> ArchivedHashMap<K, V, H> {
+    /// The value of the entry that the caller's comparison accepts among those under the query's hash. What the buffer is
+    /// after the loan is not said.
+    pub fn get_seal_with<'a, Q: Hash, F: Fn(&Q, Ref<'_, K>) -> bool>(
+        this: Seal<'a, ArchivedHashMap<K, V, H>>,
+        query: &Q,
+        accepts: &F,
+    ) -> Option<Seal<'a, V>>
+        requires has { HasValue (table (tuple2 K.shape V.shape)) (both K.knows V.knows) this.bytes.now this.pos }
+        requires callable { (lent : Bor (List ℕ)) (at : ℕ) → lent.now ≡ this.bytes.now → HasValue K.shape K.knows lent.now at → F.pre accepts.now query (key_at lent at) }
+        ensures whole { IfSome result (λ r. (r.bytes.ghost_name ≡ this.entry.bytes.ghost_name) × (r.bytes.now ≡ this.entry.bytes.now)) }
+        ensures there { IfSome result (λ r. HasValue V.shape V.knows r.bytes.now r.pos) }
+        ensures answers { (b : Buckets) → IsTableAt this.entry.bytes.now (tuple2 K.shape V.shape) this.entry.pos b
+            → (lent : Bor (List ℕ)) × (lent.now ≡ this.entry.bytes.now)
+            × LooksUpKey (HashesTo H.is_default H.write H.finish (Q.hash_input query.now)) (query_calls F.post accepts.now query.entry lent)
+            (field_position K.shape no_shapes V.shape) K.shape V.shape b (option_map (λ r. r.pos) result) }
+    {
+        let Seal { bytes, pos, .. } = this;
+        match search_with::<Q, K, V, H, F>(bytes, pos, query, accepts) {
+            Some(at) => {
+                let value = value_position::<K, V>(bytes, at);
+                Some(Seal::new(bytes, value))
+            }
+            None => None,
+        }
+    }
+
+    /// The key of that entry, and its value with only the value's own bytes. The key is read from the bytes before the
+    /// value's own, where all that it leads to lies. What the buffer is after the loan is not said.
+    pub fn get_key_value_seal_with<'a, Q: Hash, F: Fn(&Q, Ref<'_, K>) -> bool>(
+        this: Seal<'a, ArchivedHashMap<K, V, H>>,
+        query: &Q,
+        accepts: &F,
+    ) -> Option<(Ref<'a, K>, OwnSeal<'a, V>)>
+        requires has { HasValue (table (tuple2 K.shape V.shape)) (both K.knows V.knows) this.bytes.now this.pos }
+        requires callable { (lent : Bor (List ℕ)) (at : ℕ) → lent.now ≡ this.bytes.now → HasValue K.shape K.knows lent.now at → F.pre accepts.now query (key_at lent at) }
+        ensures there { IfSome result (λ r. HasValue K.shape K.knows r.0.bytes.now r.0.pos) }
+        ensures own { IfSome result (λ r. length r.1.own.now ≡ V.SIZE) }
+        ensures answers { (b : Buckets) → IsTableAt this.entry.bytes.now (tuple2 K.shape V.shape) this.entry.pos b
+            → (lent : Bor (List ℕ)) × (found : Option ℕ) × (lent.now ≡ this.entry.bytes.now)
+            × LooksUpKey (HashesTo H.is_default H.write H.finish (Q.hash_input query.now)) (query_calls F.post accepts.now query.entry lent) (λ at. at) K.shape V.shape b found
+            × MatchOption result
+            (found ≡ None)
+            (λ r. (at : ℕ) × (found ≡ Some at) × IsLent V.SIZE this.entry.bytes.now at (field_position K.shape no_shapes V.shape at) r.0 r.1) }
+    {
+        let Seal { bytes, pos, .. } = this;
+        match search_with::<Q, K, V, H, F>(bytes, pos, query, accepts) {
             Some(at) => {
                 let value = value_position::<K, V>(bytes, at);
                 Some(lend_entry::<K, V>(bytes, at, value))
