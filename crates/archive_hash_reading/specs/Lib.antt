@@ -1,3 +1,4 @@
+pub mod Equal
 pub mod Maps
 pub mod Places
 pub mod Seals

@@ -4,6 +4,7 @@
 mod buckets;
 mod calling;
 mod debug;
+mod equal;
 mod iter;
 mod keys;
 mod laws;

@@ -9,7 +9,7 @@ use archive_forms_text::ArchivedString;
 use archive_hash_maps::{ArchivedHashSet, eq_hash_map, eq_hash_set};
 use archive_hash_reading::{ArchivedHashMap, ArchivedHashTable};
 use archive_hash_scanning::FxHasher64;
-use archive_shape::{ArchivedU32, Error, Ref, Seal};
+use archive_shape::{ArchivedU32, Error, Ref, Seal, Str};
 use archive_shape_checking::CheckBytes;
 use std::alloc::Global;
 use std::collections::{HashMap, HashSet};
@@ -119,15 +119,15 @@ fn comparisons_of_the_caller_find_keys_under_the_hash(rt: HostRuntime) {
     assert_eq!(rt; compared(rt.alloc(), "world", 16), Ok((None, None)));
 }
 
-/// The bytes of the map, where a text has been written over the value of a key.
+/// The bytes of the map, where a text has been written over the value of a key, which is inline.
 fn written(alloc: Global, key: &str, text: &str) -> Result<[u8; 108], Error> {
     let mut bytes = THREE;
     let pos = root_of::<Texts>(alloc, &bytes)?.pos();
     match ArchivedHashMap::get_seal(Seal::<Texts>::new(&mut bytes, pos), &key) {
         Some(value) => {
-            let value = ArchivedString::as_str_seal(value);
-            if value.bytes.len() - value.pos() >= text.len() {
-                value.write_text(text);
+            let Seal { bytes, pos, .. } = value;
+            if pos <= bytes.len() && text.len() <= bytes.len() - pos {
+                Seal::<Str>::new(bytes, pos).write_text(text);
             }
         }
         None => {}
