@@ -224,6 +224,23 @@ fn maps_of_the_same_pairs_are_equal(rt: HostRuntime) {
     assert_eq!(rt; equals(rt.alloc(), &[foo, baz]), Ok(false));
 }
 
+/// Whether two archives of maps are equal.
+fn equal_to(alloc: Global, bytes: &[u8], others: &[u8]) -> Result<bool, Error> {
+    let this = root_of::<Texts>(alloc, bytes)?;
+    let other = root_of::<Texts>(alloc, others)?;
+    Ok(ArchivedHashMap::equals(this, other))
+}
+
+#[test]
+fn archived_maps_of_equal_entries_are_equal(rt: HostRuntime) {
+    let mut changed = THREE;
+    changed[24..29].copy_from_slice(b"WORLD");
+    assert_eq!(rt; equal_to(rt.alloc(), &THREE, &THREE), Ok(true));
+    assert_eq!(rt; equal_to(rt.alloc(), &THREE, &changed), Ok(false));
+    assert_eq!(rt; equal_to(rt.alloc(), &THREE, &NOTHING), Ok(false));
+    assert_eq!(rt; equal_to(rt.alloc(), &NOTHING, &NOTHING), Ok(true));
+}
+
 /// Whether the set is equal to one of std that has these keys.
 fn equals_keys(alloc: Global, keys: &[&'static str]) -> Result<bool, Error> {
     let root = root_of::<Keys>(alloc, &THREE_KEYS)?;

@@ -1,4 +1,4 @@
-use Rattle.std.proofs.Common.{◌≡◌, ◌∙◌, true, false, [], ◌∷◌, All, Contains, inr, refl, sym, subst, arith}
+use Rattle.std.proofs.Common.{◌∙◌, true, [], ◌∷◌, All, Contains, inr, refl, sym, subst, arith}
 use Rattle.std.proofs.lemmas.List.Elements.{All-nil, All-cons, All-head, All-tail, Contains-append_right}
 use Rattle.archive_forms_reading.specs.Parts.{HasValue}
 use Rattle.archive_shape_references.specs.declared.refs.Ref.{Ref}
