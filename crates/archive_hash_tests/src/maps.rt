@@ -193,6 +193,33 @@ fn keys_are_lent_beside_their_values(rt: HostRuntime) {
     assert_eq!(rt; lent(rt.alloc(), "b", 9), Ok((None, 1)));
 }
 
+/// The number that is in the bytes of the map from `a` to 1 where another has been written, through either seal, over the
+/// value of the key that a comparison of the caller's accepts under the hash of a text.
+fn accepted(alloc: Global, text: &str, at: usize, number: u32) -> Result<(u8, u8), Error> {
+    let mut bytes = crate::reading::A_TO_ONE;
+    let mut others = crate::reading::A_TO_ONE;
+    let pos = root_of::<crate::reading::Numbers>(alloc, &bytes)?.pos();
+    let is_there = |_text: &&str, key: Ref<'_, ArchivedString>| key.pos() == at;
+    let seal = Seal::<crate::reading::Numbers>::new(&mut bytes, pos);
+    match ArchivedHashMap::get_seal_with(seal, &text, &is_there) {
+        Some(value) => value.write(number),
+        None => {}
+    }
+    let seal = Seal::<crate::reading::Numbers>::new(&mut others, pos);
+    match ArchivedHashMap::get_key_value_seal_with(seal, &text, &is_there) {
+        Some((_, value)) => value.write(number),
+        None => {}
+    }
+    Ok((bytes[8], others[8]))
+}
+
+#[test]
+fn values_of_accepted_keys_are_written_over(rt: HostRuntime) {
+    assert_eq!(rt; accepted(rt.alloc(), "a", 0, 9), Ok((9, 9)));
+    assert_eq!(rt; accepted(rt.alloc(), "a", 1, 9), Ok((1, 1)));
+    assert_eq!(rt; accepted(rt.alloc(), "b", 0, 9), Ok((1, 1)));
+}
+
 /// Whether the map is equal to one of std that has these pairs.
 fn equals(alloc: Global, pairs: &[(&'static str, &'static str)]) -> Result<bool, Error> {
     let root = root_of::<Texts>(alloc, &THREE)?;
