@@ -1,6 +1,6 @@
 -- The keys and values of the entries of hash maps.
 use denote.Ref.{Bor}
-use Rattle.std.proofs.Common.{◌≡◌, ◌∙◌, ℕ, Bool, List, [], ◌∷◌, Option, Some, None, All, refl, ap, sym, subst}
+use Rattle.std.proofs.Common.{◌≡◌, ◌∙◌, ℕ, ◌≤◌, Bool, List, [], ◌∷◌, Option, Some, None, All, refl, ap, sym}
 use Rattle.std.specs.Option.{option_map}
 use Rattle.archive_shape_layout.specs.Shape.{Shape}
 use Rattle.archive_shape_layout.specs.Shape.Shape.{table}
@@ -12,7 +12,8 @@ use Rattle.archive_forms_tuples.specs.Fields.{field, field_position}
 use Rattle.archive_forms_tuples.proofs.Held.{fields_at}
 use Rattle.archive_hash_reading.specs.Tables.{Buckets, IsTableAt, item_positions}
 use Rattle.archive_shape_references.specs.declared.refs.Ref.{Ref}
-use Rattle.archive_hash_reading.specs.Places.{item_at}
+use Rattle.archive_shape_canonical.specs.Strides.{sixteens}
+use Rattle.archive_hash_reading.specs.Places.{item_at, LooksUp, FindsAccepted, FindsTheOnly}
 use Rattle.archive_hash_reading.specs.Maps.{LooksUpKey}
 use Rattle.archive_hash_reading.proofs.Lookups.{items_there, item_is}
 
@@ -64,3 +65,40 @@ pub pair_is :
     let there : Ref K × Ref V = (item_at bytes p, item_at bytes q) in
     Some made ≡ Some there
 pair_is bytes p q key value a b c d = let e = item_is bytes p key a b in let f = item_is bytes q value c d in cc
+
+-- what a search of a table answers is a look-up of a position
+pub position_of : (hashes : ℕ → Type 0) (says : ℕ → Bool → Type 0) (k v : Shape) (b : Buckets) (hash strides : ℕ) (o : Option ℕ) → hashes hash
+    → LooksUp says (tuple2 k v) b hash o strides → FindsAccepted says (tuple2 k v) b o → FindsTheOnly says (tuple2 k v) b hash o → strides ≤ sixteens b.cap
+    → LooksUpKey hashes says (λ at. at) k v b o
+position_of hashes says k v b hash strides o is looks_up accepted only few =
+    record {
+      hash = hash;
+      strides = strides;
+      is_hash = is;
+      answers = record { position = o; is = same_position o; looks_up = looks_up; accepted = accepted; only = only; few = few };
+    }
+
+mapped_twice : {A B : Type 0} (item : ℕ → A) (g : A → B) (o : Option ℕ) → option_map g (option_map item o) ≡ option_map (λ at. g (item at)) o
+mapped_twice item g None = refl
+mapped_twice item g (Some at) = refl
+
+-- what is read of what a look-up gives is a look-up of it
+pub looks_up_as :
+    {A B : Type 0} (hashes : ℕ → Type 0) (says : ℕ → Bool → Type 0) (item : ℕ → A) (g : A → B) (k v : Shape) (b : Buckets) (found : Option A) (other : Option B)
+    → other ≡ option_map g found → LooksUpKey hashes says item k v b found → LooksUpKey hashes says (λ at. g (item at)) k v b other
+looks_up_as hashes says item g k v b found other is h =
+    let a = h.answers in
+    record {
+      hash = h.hash;
+      strides = h.strides;
+      is_hash = h.is_hash;
+      answers =
+          record {
+            position = a.position;
+            is = is ∙ ap (option_map g) a.is ∙ mapped_twice item g a.position;
+            looks_up = a.looks_up;
+            accepted = a.accepted;
+            only = a.only;
+            few = a.few;
+          };
+    }

@@ -1,6 +1,6 @@
 -- The items of a table that a look-up may compare.
 use denote.Ref.{Bor}
-use Rattle.std.proofs.Common.{◌≡◌, ℕ, zero, suc, ◌+◌, ◌*◌, ◌^◌, ◌-◌, ◌<◌, ◌≤◌, ◌==◌, min, Bool, true, false, cond, nat_lt, List, [], ◌∷◌, length, map, filter, slice_index, Option, Some, None, Contains, IfSome, All, refl, ap, sym, ◌∙◌, subst, arith, eqb-true, eq-eqb, lt-ltb, ltb-true, mul-le-mul_right}
+use Rattle.std.proofs.Common.{◌≡◌, ℕ, zero, suc, ◌+◌, ◌*◌, ◌^◌, ◌-◌, ◌<◌, ◌≤◌, ◌==◌, min, Bool, true, false, cond, nat_lt, List, [], ◌∷◌, map, filter, slice_index, Option, Some, None, Contains, IfSome, All, refl, ap, sym, ◌∙◌, subst, arith, eqb-true, eq-eqb, lt-ltb, ltb-true, mul-le-mul_right}
 use Rattle.std.specs.List.{range_with_len, list_any, flat_map}
 use Rattle.std.proofs.lemmas.List.Elements.{Contains-append_right, All-nil, All-cons, All-contains}
 use Rattle.archive_shape_layout.specs.Shape.{Shape, size_of}
@@ -67,7 +67,7 @@ no_strides : (hash : ℕ) → strides hash 0 ≡ []
 unfolding strides strides_from
 no_strides hash = none_below (map (stop hash 0) (range_with_len 0 (least_power 0)))
 
-reaches_none : (controls : List ℕ) (hash place : ℕ) → Reaches controls hash 0 place → ⊥
+pub reaches_none : (controls : List ℕ) (hash place : ℕ) → Reaches controls hash 0 place → ⊥
 unfolding reach
 reaches_none controls hash place reached =
     let none : list_any (λ p. place == p) (flat_map (places_shown 0) (searched controls [])) ≡ true = subst (λ ps. list_any (λ p. place == p) (flat_map (places_shown 0) (searched controls ps)) ≡ true) (no_strides hash) reached in

@@ -1,5 +1,5 @@
 -- The places that a table's bytes have where the layout has the table.
-use Rattle.std.proofs.Common.{◌≡◌, ◌∙◌, ℕ, zero, suc, ◌+◌, ◌-◌, ◌*◌, ◌<◌, ◌≤◌, ◌==◌, ◌&&◌, Bool, true, false, cond, nat_lt, nat_le, List, [], ◌∷◌, ◌++◌, length, take, drop, map, filter, slice_index, Option, Some, refl, ap, sym, subst, arith, drop-cons, ltb-true, leb-true, eqb-true, eq-eqb, mul-le-mul_right}
+use Rattle.std.proofs.Common.{◌≡◌, ◌∙◌, ℕ, zero, suc, ◌+◌, ◌-◌, ◌*◌, ◌<◌, ◌≤◌, ◌==◌, ◌&&◌, Bool, true, false, cond, nat_lt, List, [], ◌∷◌, length, take, drop, map, filter, slice_index, Some, refl, ap, sym, subst, arith, drop-cons, ltb-true, leb-true, eqb-true, eq-eqb, mul-le-mul_right}
 use Rattle.std.proofs.lemmas.List.Sums.{length-filter}
 use Rattle.std.specs.Prelude.{count_by}
 use Rattle.std.specs.List.{range_with_len}
@@ -8,13 +8,13 @@ use Rattle.archive_shape_layout.specs.Shape.{Shape, size_of}
 use Rattle.archive_shape_layout.specs.Shape.Shape.{table}
 use Rattle.archive_shape_layout.specs.Value.{Value, Values}
 use Rattle.archive_shape_layout.specs.Value.Value.{group}
-use Rattle.archive_shape_layout.specs.Value.Values.{no_values, more_values}
-use Rattle.archive_shape_layout.specs.Content.{Names, Part, Label, Content, content_of, made, members, choose, shape_content, table_parts, buckets_content, buckets_span, control_count, wraps, tagged_items, item}
+use Rattle.archive_shape_layout.specs.Value.Values.{no_values}
+use Rattle.archive_shape_layout.specs.Content.{Names, Part, Content, content_of, made, members, choose, shape_content, table_parts, buckets_content, buckets_span, control_count, tagged_items, item}
 use Rattle.archive_shape_layout.specs.Content.Part.{at, buckets}
 use Rattle.archive_shape_layout.specs.Content.Label.{same, whole}
-use Rattle.archive_shape_layout.specs.Content.Content.{plain, claimed, illegal}
-use Rattle.archive_shape_layout.specs.Holds.{Region, Visit, OpenShared, Holds, HoldAll, Ascends, region_of}
-use Rattle.archive_shape_layout.specs.Holds.HoldAll.{holds_none, holds_more}
+use Rattle.archive_shape_layout.specs.Content.Content.{plain}
+use Rattle.archive_shape_layout.specs.Holds.{Region, Visit, OpenShared, Holds, HoldAll, Ascends}
+use Rattle.archive_shape_layout.specs.Holds.HoldAll.{holds_more}
 use Rattle.archive_shape_layout.proofs.Unique.{by_plain, by_claimed}
 use Rattle.archive_shape_layout.proofs.Framed.{le_align_up}
 use Rattle.archive_shape_references.proofs.Pieces.{word_within, length-window}
@@ -26,8 +26,7 @@ use Rattle.archive_forms_layout.proofs.TextContent.{followed, chosen_no}
 use Rattle.archive_forms_checking.proofs.Targets.{first_word}
 use Rattle.archive_forms_reading.proofs.Inside.{none_held, one_held}
 use Rattle.archive_forms_reading.proofs.Pointed.{made_same, made_whole}
-use Rattle.archive_hash_places.specs.Controls.{AreControls}
-use Rattle.archive_hash_reading.specs.Tables.{Buckets, no_buckets, full_places, item_position, item_positions, IsTableAt, AreItemsAt, IsTableOf, TableIsRead, OneTable}
+use Rattle.archive_hash_reading.specs.Tables.{Buckets, no_buckets, item_position, item_positions, AreItemsAt, IsTableOf, TableIsRead, OneTable}
 use Rattle.archive_hash_reading.specs.Tables.IsTableAt.{has_none, has_buckets}
 
 both_true : (a b : Bool) → (a && b) ≡ true → (a ≡ true) × (b ≡ true)

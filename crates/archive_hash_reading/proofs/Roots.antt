@@ -1,6 +1,6 @@
 -- What the own bytes of a table say of its places.
-use Rattle.std.proofs.Common.{◌≡◌, ◌∙◌, ℕ, ◌+◌, ◌-◌, ◌*◌, ◌^◌, ◌<◌, ◌≤◌, ◌==◌, IsTrue, ◌↔◌, min, List, [], ◌∷◌, length, take, drop, refl, ap, sym, arith, eqb-true, eq-eqb}
-use Rattle.archive_shape_layout.specs.Bytes.{window, word_at, align_up}
+use Rattle.std.proofs.Common.{◌≡◌, ◌∙◌, ℕ, ◌+◌, ◌*◌, ◌<◌, ◌≤◌, ◌==◌, IsTrue, ◌↔◌, List, [], ◌∷◌, length, refl, ap, sym, arith, eqb-true, eq-eqb}
+use Rattle.archive_shape_layout.specs.Bytes.{window, word_at}
 use Rattle.archive_shape_layout.specs.Shape.{Shape, size_of}
 use Rattle.archive_shape_layout.specs.Shape.Shape.{table}
 use Rattle.archive_shape_layout.specs.Content.{Names, control_count}

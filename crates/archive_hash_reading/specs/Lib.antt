@@ -1,3 +1,5 @@
+pub mod Equal
 pub mod Maps
 pub mod Places
+pub mod Seals
 pub mod Tables

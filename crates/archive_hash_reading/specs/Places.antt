@@ -1,6 +1,6 @@
 -- The places of a table as the code holds them, and what its look-ups answer.
 use denote.Ref.{Bor}
-use Rattle.std.specs.Prelude.{◌≡◌, ℕ, ◌+◌, ◌*◌, ◌^◌, ◌-◌, ◌<◌, ◌≤◌, nat_lt, List, filter, Bool, true, false, slice_index, Option, Some, None, IfSome, Contains}
+use Rattle.std.specs.Prelude.{◌≡◌, ℕ, ◌+◌, ◌*◌, ◌-◌, ◌<◌, ◌≤◌, nat_lt, List, filter, Bool, true, false, slice_index, Option, Some, None, IfSome, Contains}
 use Rattle.std.specs.List.{range_with_len}
 use Rattle.std.specs.Option.{option_map}
 use Rattle.archive_shape_layout.specs.Shape.{Shape}

@@ -1,12 +1,12 @@
 //! Look-ups of keys in archived hash maps.
-ghost use Rattle.std.specs.Prelude.{◌≡◌, ℕ, Bool, IfSome, Option};
+ghost use Rattle.std.specs.Prelude.{◌≡◌, ℕ, Bool, IfSome, Option, Some};
 ghost use Rattle.std.specs.Option.{is_some};
 ghost use Rattle.archive_shape_layout.specs.Shape.Shape.{table};
 ghost use Rattle.archive_shape_layout.specs.Shape.Shapes.{no_shapes};
 ghost use Rattle.archive_forms_checking.specs.Tuples.{tuple2};
 ghost use Rattle.archive_forms_reading.specs.Parts.{HasValue, both};
 ghost use Rattle.archive_hash_reading.specs.Tables.{Buckets, IsTableAt};
-ghost use Rattle.archive_hash_reading.specs.Maps.{HashesTo, KeySays, LooksUpKey, value_at, entry_at};
+ghost use Rattle.archive_hash_reading.specs.Maps.{HashesTo, KeySays, HasKey, LooksUpKey, value_at, entry_at};
 ghost use Rattle.archive_forms_tuples.specs.Fields.{field_position};
 
 use crate::ArchivedHashMap;
@@ -37,7 +37,7 @@ pub(crate) fn search_key<Q: Hash, K: ArchivedKey<Q>, V: Portable, H: Hasher + De
 }
 
 /// Where the value of the entry at a position stands.
-fn value_position<K: Portable, V: Portable>(bytes: &[u8], at: usize) -> usize
+pub(crate) fn value_position<K: Portable, V: Portable>(bytes: &[u8], at: usize) -> usize
     requires { HasValue (tuple2 K.shape V.shape) (both K.knows V.knows) bytes.now at }
     ensures { result ≡ field_position K.shape no_shapes V.shape at }
 {
@@ -96,5 +96,18 @@ impl<K, V: Portable, H: Hasher + Default + Drop> ArchivedHashMap<K, V, H> {
             × LooksUpKey (HashesTo H.is_default H.write H.finish (Q.hash_input query.now)) (KeySays K.key_of K.order this.entry.bytes.now query.now) (λ at. at) K.shape V.shape b found }
     {
         search_key::<Q, K, V, H>(this.bytes, this.pos, query).is_some()
+    }
+    /// The value of a key that the map has.
+    pub fn index<'a, Q: Hash>(this: Ref<'a, ArchivedHashMap<K, V, H>>, query: &Q) -> Ref<'a, V>
+    where
+        K: ArchivedKey<Q>,
+        requires has { HasValue (table (tuple2 K.shape V.shape)) (both K.knows V.knows) this.bytes.now this.pos }
+        requires present { HasKey (HashesTo H.is_default H.write H.finish (Q.hash_input query.now)) K.key_of K.order this.bytes.now K.shape V.shape this.pos query.now }
+        ensures there { HasValue V.shape V.knows result.bytes.now result.pos }
+        ensures answers { (b : Buckets) → IsTableAt this.entry.bytes.now (tuple2 K.shape V.shape) this.entry.pos b
+            → LooksUpKey (HashesTo H.is_default H.write H.finish (Q.hash_input query.now)) (KeySays K.key_of K.order this.entry.bytes.now query.now)
+            (value_at this.entry.bytes K.shape V.shape) K.shape V.shape b (Some result) }
+    {
+        ArchivedHashMap::get(this, query).unwrap()
     }
 }

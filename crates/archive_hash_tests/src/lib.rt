@@ -7,6 +7,8 @@ mod checking;
 #[cfg(test)]
 mod indexing;
 #[cfg(test)]
+mod maps;
+#[cfg(test)]
 mod placing;
 #[cfg(test)]
 mod reading;

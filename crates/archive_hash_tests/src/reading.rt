@@ -15,14 +15,14 @@ use std::test::Fail;
 
 /// A table of the number 7 in the second of two places: the bucket of each place, the second place's first; sixteen controls
 /// for the places and fifteen more; a byte of padding; and the table, whose controls begin 32 bytes before it.
-const ONE_OF_TWO: [u8; 52] = [
+pub(crate) const ONE_OF_TWO: [u8; 52] = [
     7, 0, 0, 0, 0, 0, 0, 0, 0xff, 0x55, 0xff, 0x55, 0xff, 0xff, 0xff, 0xff, 0xff, 0xff, 0xff, 0xff,
     0xff, 0xff, 0xff, 0xff, 0xff, 0xff, 0xff, 0xff, 0xff, 0xff, 0xff, 0xff, 0xff, 0xff, 0xff, 0xff,
     0xff, 0xff, 0xff, 0, 0xe0, 0xff, 0xff, 0xff, 1, 0, 0, 0, 2, 0, 0, 0,
 ];
 
 /// A map from the text `a` to the number 1, whose table has two places: the hash of the text is odd, and its tag is 0x55.
-const A_TO_ONE: [u8; 68] = [
+pub(crate) const A_TO_ONE: [u8; 68] = [
     b'a', 0xff, 0xff, 0xff, 0xff, 0xff, 0xff, 0xff, 1, 0, 0, 0, 0, 0, 0, 0, 0, 0, 0, 0, 0, 0, 0, 0,
     0xff, 0x55, 0xff, 0x55, 0xff, 0xff, 0xff, 0xff, 0xff, 0xff, 0xff, 0xff, 0xff, 0xff, 0xff, 0xff,
     0xff, 0xff, 0xff, 0xff, 0xff, 0xff, 0xff, 0xff, 0xff, 0xff, 0xff, 0xff, 0xff, 0xff, 0xff, 0,
@@ -30,7 +30,7 @@ const A_TO_ONE: [u8; 68] = [
 ];
 
 /// The hash of the text `a`.
-const HASH_OF_A: u64 = 0xaa44_c3c5_b8e2_2aff;
+pub(crate) const HASH_OF_A: u64 = 0xaa44_c3c5_b8e2_2aff;
 
 /// The root of bytes that are checked.
 fn root_of<T: CheckBytes<HighValidator>>(alloc: Global, bytes: &[u8]) -> Result<Ref<'_, T>, Error>
@@ -87,11 +87,11 @@ fn full_places_are_walked(rt: HostRuntime) -> Result<(), Fail> {
 }
 
 /// What a map from texts to numbers has.
-type Texts = ArchivedHashMap<ArchivedString, ArchivedU32, FxHasher64>;
+pub(crate) type Numbers = ArchivedHashMap<ArchivedString, ArchivedU32, FxHasher64>;
 
 /// The number that a text leads to, and whether the map has the text.
 fn found(alloc: Global, text: &str) -> Result<(Option<u32>, bool), Error> {
-    let root = root_of::<Texts>(alloc, &A_TO_ONE)?;
+    let root = root_of::<Numbers>(alloc, &A_TO_ONE)?;
     let is_there = ArchivedHashMap::contains_key(root, &text);
     match ArchivedHashMap::get(root, &text) {
         Some(number) => Ok((Some(native_of(number)), is_there)),
@@ -108,7 +108,7 @@ fn keys_of_maps_are_found(rt: HostRuntime) {
 
 /// How many entries a map has, and how many places.
 fn sizes(alloc: Global) -> Result<(usize, bool, usize), Error> {
-    let root = root_of::<Texts>(alloc, &A_TO_ONE)?;
+    let root = root_of::<Numbers>(alloc, &A_TO_ONE)?;
     Ok((
         ArchivedHashMap::len(root),
         ArchivedHashMap::is_empty(root),

@@ -1,5 +1,4 @@
-use Rattle.std.proofs.Common.{◌≡◌, ◌∙◌, ℕ, ◌+◌, sym}
-use Rattle.archive_shape_layout.specs.Bytes.{word_at}
+use Rattle.std.proofs.Common.{◌∙◌, sym}
 use Rattle.archive_hash_reading.proofs.Read.{buckets_are}
 use Rattle.archive_hash_reading.proofs.Roots.{places_of_value, table_some, read_as, controls_read}
 use Rattle.archive_hash_reading.proofs.buckets.buckets_at.Goals as goal

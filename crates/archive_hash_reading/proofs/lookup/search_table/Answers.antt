@@ -1,12 +1,10 @@
-use Rattle.std.proofs.Common.{rules, ◌≡◌, ◌∙◌, ℕ, ◌+◌, ◌*◌, ◌≤◌, ◌<◌, List, Option, Some, None, true, slice_index, refl, sym, ap, subst, arith}
-use Rattle.std.specs.Option.{option_map}
+use Rattle.std.proofs.Common.{◌≡◌, ◌∙◌, ◌≤◌, ◌<◌, Some, None, true, slice_index, refl, sym, ap, subst, arith}
 use Rattle.std.proofs.lemmas.List.Elements.{All-contains}
-use Rattle.archive_shape_layout.specs.Shape.{size_of}
 use Rattle.archive_shape_canonical.specs.Strides.{sixteens}
 use Rattle.archive_hash_places.specs.Search.{IsLookup}
-use Rattle.archive_hash_reading.specs.Tables.{Buckets, IsTableAt, item_position, item_positions}
+use Rattle.archive_hash_reading.specs.Tables.{IsTableAt, item_position, item_positions}
 use Rattle.archive_hash_reading.specs.Places.{held, LooksUp, FindsAccepted, FindsTheOnly}
-use Rattle.archive_hash_reading.specs.Places.LooksUp.{has_no_places, has_places}
+use Rattle.archive_hash_reading.specs.Places.LooksUp.{has_places}
 use Rattle.archive_hash_reading.proofs.Roots.{places_of_value, table_some, HasPlaces}
 use Rattle.archive_hash_reading.proofs.Lookups.{full_among, item_room, some_item, none_reached}
 use Rattle.archive_hash_reading.proofs.lookup.search_table.Goals as goal

@@ -1,4 +1,4 @@
-use Rattle.std.proofs.Common.{◌∙◌, ◌+◌, refl, sym, arith}
+use Rattle.std.proofs.Common.{◌∙◌, refl, sym, arith}
 use Rattle.archive_hash_reading.proofs.Walked.{place_taken, place_skipped, places_passed}
 use Rattle.archive_hash_reading.proofs.places.pass_place.Goals as goal
 

@@ -1,4 +1,4 @@
-use Rattle.std.proofs.Common.{ℕ, ◌+◌, ◌*◌, ◌^◌, ◌<◌, ◌≤◌, length, arith}
+use Rattle.std.proofs.Common.{◌+◌, ◌*◌, ◌^◌, ◌<◌, ◌≤◌, length, arith}
 use Rattle.archive_hash_reading.proofs.Walked.{first_of}
 use Rattle.archive_hash_reading.proofs.iter.FullPlacesIterator.next.Goals as goal
 

@@ -1,8 +1,8 @@
-use Rattle.std.proofs.Common.{◌≡◌, ◌∙◌, Some, None, refl, ap}
+use Rattle.std.proofs.Common.{◌∙◌, Some, None, refl, ap}
 use Rattle.archive_shape_layout.specs.Shape.Shapes.{no_shapes}
 use Rattle.archive_forms_reading.specs.Parts.{HasValue}
 use Rattle.archive_forms_tuples.specs.Fields.{field_position}
-use Rattle.archive_hash_reading.specs.Maps.{HashesTo, KeySays, value_at}
+use Rattle.archive_hash_reading.specs.Maps.{value_at}
 use Rattle.archive_hash_reading.proofs.Lookups.{item_is}
 use Rattle.archive_hash_reading.proofs.Entries.{entry_parts, looks_up_of}
 use Rattle.archive_hash_reading.proofs.Refs.{at_ref}

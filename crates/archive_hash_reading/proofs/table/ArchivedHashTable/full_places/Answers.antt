@@ -1,8 +1,8 @@
-use Rattle.std.proofs.Common.{◌≡◌, ◌∙◌, ℕ, ◌+◌, ◌-◌, ◌*◌, ◌^◌, ◌<◌, ◌≤◌, length, map, All, sym, ap, subst, arith}
+use Rattle.std.proofs.Common.{◌∙◌, ◌+◌, ◌*◌, ◌^◌, ◌<◌, ◌≤◌, length, map, All, sym, ap, subst, arith}
 use Rattle.archive_shape_layout.specs.Shape.{size_of}
 use Rattle.archive_forms_reading.specs.Parts.{HasValue}
 use Rattle.archive_hash_reading.specs.Tables.{IsTableAt, full_places}
-use Rattle.archive_hash_reading.specs.Places.{held, places_from, full_place}
+use Rattle.archive_hash_reading.specs.Places.{held, full_place}
 use Rattle.archive_hash_reading.proofs.Read.{cap_fits}
 use Rattle.archive_hash_reading.proofs.Roots.{places_of_value, table_some, table_count, HasPlaces}
 use Rattle.archive_hash_reading.proofs.Lookups.{item_room, size_is, items_there}

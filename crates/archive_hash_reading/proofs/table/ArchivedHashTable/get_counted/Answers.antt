@@ -1,5 +1,4 @@
-use Rattle.std.proofs.Common.{◌≡◌, ◌∙◌, ℕ, Bool, Option, Some, None, refl, sym, ap, subst}
-use Rattle.archive_forms_reading.specs.Parts.{HasValue}
+use Rattle.std.proofs.Common.{ℕ, Bool, Some, None, refl, ap, subst}
 use Rattle.archive_hash_reading.specs.Places.{LooksUp, FindsAccepted, FindsTheOnly, item_at}
 use Rattle.archive_hash_reading.proofs.Lookups.{item_is, item_there, items_there}
 use Rattle.archive_hash_reading.proofs.table.ArchivedHashTable.get_counted.Goals as goal

@@ -1,0 +1,14 @@
+//! Archived hash sets, and comparisons of archived hash maps and sets with those of std.
+#![tactic(auto)]
+
+mod debug;
+mod iter;
+mod lookup;
+mod set;
+mod std_map;
+mod std_set;
+
+pub use iter::Iter;
+pub use set::ArchivedHashSet;
+pub use std_map::eq_hash_map;
+pub use std_set::eq_hash_set;

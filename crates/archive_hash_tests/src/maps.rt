@@ -1,0 +1,361 @@
+//! Tests of walks over archived hash maps, of what is written to them through seals, and of archived hash sets.
+ghost use Rattle.std.specs.Prelude.{◌≡◌, [], IfOk};
+ghost use Rattle.archive_forms_reading.specs.Parts.{HasValue};
+
+use archive_core_access::access;
+use archive_core_validation::HighValidator;
+use archive_forms_hashing::ArchivedDebug;
+use archive_forms_text::ArchivedString;
+use archive_hash_maps::{ArchivedHashSet, eq_hash_map, eq_hash_set};
+use archive_hash_reading::{ArchivedHashMap, ArchivedHashTable};
+use archive_hash_scanning::FxHasher64;
+use archive_shape::{ArchivedU32, Error, Ref, Seal, Str};
+use archive_shape_checking::CheckBytes;
+use std::alloc::Global;
+use std::collections::{HashMap, HashSet};
+use std::fmt::Formatter;
+use std::test::Fail;
+
+/// A map from texts to texts.
+type Texts = ArchivedHashMap<ArchivedString, ArchivedString, FxHasher64>;
+
+/// The texts that are its keys.
+type Keys = ArchivedHashSet<ArchivedString, FxHasher64>;
+
+/// hello leads to world, foo to bar and baz to bat, in the places 2, 3 and 0 of four, of which the last stands first: a
+/// bucket of sixteen bytes for each place, sixteen controls and fifteen more, a byte of padding, and the map, whose controls
+/// begin 32 bytes before it.
+const THREE: [u8; 108] = [
+    b'f', b'o', b'o', 0xff, 0xff, 0xff, 0xff, 0xff, b'b', b'a', b'r', 0xff, 0xff, 0xff, 0xff, 0xff,
+    b'h', b'e', b'l', b'l', b'o', 0xff, 0xff, 0xff, b'w', b'o', b'r', b'l', b'd', 0xff, 0xff, 0xff,
+    0, 0, 0, 0, 0, 0, 0, 0, 0, 0, 0, 0, 0, 0, 0, 0, b'b', b'a', b'z', 0xff, 0xff, 0xff, 0xff, 0xff,
+    b'b', b'a', b't', 0xff, 0xff, 0xff, 0xff, 0xff, 0x40, 0xff, 0x4d, 0x25, 0x40, 0xff, 0x4d, 0x25,
+    0xff, 0xff, 0xff, 0xff, 0xff, 0xff, 0xff, 0xff, 0xff, 0xff, 0xff, 0xff, 0xff, 0xff, 0xff, 0xff,
+    0xff, 0xff, 0xff, 0xff, 0xff, 0xff, 0xff, 0, 0xe0, 0xff, 0xff, 0xff, 3, 0, 0, 0, 4, 0, 0, 0,
+];
+
+/// The set of the texts hello, foo and baz, in the same places, with buckets of eight bytes.
+const THREE_KEYS: [u8; 76] = [
+    b'f', b'o', b'o', 0xff, 0xff, 0xff, 0xff, 0xff, b'h', b'e', b'l', b'l', b'o', 0xff, 0xff, 0xff,
+    0, 0, 0, 0, 0, 0, 0, 0, b'b', b'a', b'z', 0xff, 0xff, 0xff, 0xff, 0xff, 0x40, 0xff, 0x4d, 0x25,
+    0x40, 0xff, 0x4d, 0x25, 0xff, 0xff, 0xff, 0xff, 0xff, 0xff, 0xff, 0xff, 0xff, 0xff, 0xff, 0xff,
+    0xff, 0xff, 0xff, 0xff, 0xff, 0xff, 0xff, 0xff, 0xff, 0xff, 0xff, 0, 0xe0, 0xff, 0xff, 0xff, 3,
+    0, 0, 0, 4, 0, 0, 0,
+];
+
+/// A map or a set of nothing.
+const NOTHING: [u8; 12] = [1, 0, 0, 0, 0, 0, 0, 0, 0, 0, 0, 0];
+
+/// The root of bytes that are checked.
+fn root_of<T: CheckBytes<HighValidator>>(alloc: Global, bytes: &[u8]) -> Result<Ref<'_, T>, Error>
+    requires { T.knows [] }
+    ensures { IfOk result (λ r. (r.bytes ≡ bytes.entry) × HasValue T.shape T.knows bytes.now r.pos) }
+{
+    access::<T>(alloc, bytes)
+}
+
+/// Where the keys and the values stand that a walk over a map comes to, and how many entries are left at each.
+fn walked(alloc: Global) -> Result<Vec<(usize, usize, usize)>, Error> {
+    let root = root_of::<Texts>(alloc, &THREE)?;
+    let mut entries = ArchivedHashMap::iter(root);
+    let mut walked = Vec::new(alloc);
+    while let Some((key, value)) = entries.next() {
+        walked.push((key.pos(), value.pos(), entries.len()))?;
+    }
+    Ok(walked)
+}
+
+#[test]
+fn entries_are_walked_by_ascending_place(rt: HostRuntime) -> Result<(), Fail> {
+    let walked = walked(rt.alloc())?;
+    assert_eq!(rt;
+        walked.as_slice(),
+        [(48, 56, 2), (16, 24, 1), (0, 8, 0)].as_slice()
+    );
+    Ok(())
+}
+
+/// Where the keys stand, and where the values stand, in walks over them alone.
+fn parted(alloc: Global) -> Result<(Vec<usize>, Vec<usize>), Error> {
+    let root = root_of::<Texts>(alloc, &THREE)?;
+    let mut keys = Vec::new(alloc);
+    for key in ArchivedHashMap::keys(root) {
+        keys.push(key.pos())?;
+    }
+    let mut values = Vec::new(alloc);
+    for value in ArchivedHashMap::values(root) {
+        values.push(value.pos())?;
+    }
+    Ok((keys, values))
+}
+
+#[test]
+fn keys_and_values_are_walked_alone(rt: HostRuntime) -> Result<(), Fail> {
+    let (keys, values) = parted(rt.alloc())?;
+    assert_eq!(rt; keys.as_slice(), [48, 16, 0].as_slice());
+    assert_eq!(rt; values.as_slice(), [56, 24, 8].as_slice());
+    Ok(())
+}
+
+/// Where the key stands that a comparison of the caller's accepts under the hash of a text, and where its value stands.
+fn compared(alloc: Global, text: &str, at: usize) -> Result<(Option<usize>, Option<usize>), Error> {
+    let root = root_of::<Texts>(alloc, &THREE)?;
+    let is_there = |_text: &&str, key: Ref<'_, ArchivedString>| key.pos() == at;
+    let key = match ArchivedHashMap::get_key_value_with(root, &text, &is_there) {
+        Some((key, _)) => Some(key.pos()),
+        None => None,
+    };
+    let value = match ArchivedHashMap::get_with(root, &text, &is_there) {
+        Some(value) => Some(value.pos()),
+        None => None,
+    };
+    Ok((key, value))
+}
+
+#[test]
+fn comparisons_of_the_caller_find_keys_under_the_hash(rt: HostRuntime) {
+    assert_eq!(rt; compared(rt.alloc(), "hello", 16), Ok((Some(16), Some(24))));
+    assert_eq!(rt; compared(rt.alloc(), "hello", 20), Ok((None, None)));
+    assert_eq!(rt; compared(rt.alloc(), "world", 16), Ok((None, None)));
+}
+
+/// The bytes of the map, where a text has been written over the value of a key, which is inline.
+fn written(alloc: Global, key: &str, text: &str) -> Result<[u8; 108], Error> {
+    let mut bytes = THREE;
+    let pos = root_of::<Texts>(alloc, &bytes)?.pos();
+    match ArchivedHashMap::get_seal(Seal::<Texts>::new(&mut bytes, pos), &key) {
+        Some(value) => {
+            let Seal { bytes, pos, .. } = value;
+            if pos <= bytes.len() && text.len() <= bytes.len() - pos {
+                Seal::<Str>::new(bytes, pos).write_text(text);
+            }
+        }
+        None => {}
+    }
+    Ok(bytes)
+}
+
+#[test]
+fn values_of_keys_are_written_over(rt: HostRuntime) {
+    let mut expected = THREE;
+    expected[24..29].copy_from_slice(b"WORLD");
+    assert_eq!(rt; written(rt.alloc(), "hello", "WORLD"), Ok(expected));
+    assert_eq!(rt; written(rt.alloc(), "world", "WORLD"), Ok(THREE));
+}
+
+/// The bytes of a table of one number, where another has been written over the item of a hash.
+fn item_written(alloc: Global, hash: u64, number: u32) -> Result<[u8; 52], Error> {
+    let mut bytes = crate::reading::ONE_OF_TWO;
+    let pos = root_of::<ArchivedHashTable<ArchivedU32>>(alloc, &bytes)?.pos();
+    let is_first = |item: Ref<'_, ArchivedU32>| item.pos() == 0;
+    let seal = Seal::<ArchivedHashTable<ArchivedU32>>::new(&mut bytes, pos);
+    match ArchivedHashTable::get_seal_with(seal, hash, &is_first) {
+        Some(item) => item.write(number),
+        None => {}
+    }
+    Ok(bytes)
+}
+
+#[test]
+fn items_of_hashes_are_written_over(rt: HostRuntime) {
+    let mut expected = crate::reading::ONE_OF_TWO;
+    expected[0] = 9;
+    assert_eq!(rt;
+        item_written(rt.alloc(), crate::reading::HASH_OF_A, 9),
+        Ok(expected)
+    );
+    assert_eq!(rt;
+        item_written(rt.alloc(), 0, 9),
+        Ok(crate::reading::ONE_OF_TWO)
+    );
+}
+
+/// Where the key and the value stand that are lent of the map from `a` to 1, and the number that is in the bytes where
+/// another has been written over the value.
+fn lent(alloc: Global, key: &str, number: u32) -> Result<(Option<(usize, usize)>, u8), Error> {
+    let mut bytes = crate::reading::A_TO_ONE;
+    let pos = root_of::<crate::reading::Numbers>(alloc, &bytes)?.pos();
+    let seal = Seal::<crate::reading::Numbers>::new(&mut bytes, pos);
+    let lent = match ArchivedHashMap::get_key_value_seal(seal, &key) {
+        Some((key, value)) => {
+            let positions = (key.pos(), value.pos());
+            value.write(number);
+            Some(positions)
+        }
+        None => None,
+    };
+    Ok((lent, bytes[8]))
+}
+
+#[test]
+fn keys_are_lent_beside_their_values(rt: HostRuntime) {
+    assert_eq!(rt; lent(rt.alloc(), "a", 9), Ok((Some((0, 8)), 9)));
+    assert_eq!(rt; lent(rt.alloc(), "b", 9), Ok((None, 1)));
+}
+
+/// The number that is in the bytes of the map from `a` to 1 where another has been written, through either seal, over the
+/// value of the key that a comparison of the caller's accepts under the hash of a text.
+fn accepted(alloc: Global, text: &str, at: usize, number: u32) -> Result<(u8, u8), Error> {
+    let mut bytes = crate::reading::A_TO_ONE;
+    let mut others = crate::reading::A_TO_ONE;
+    let pos = root_of::<crate::reading::Numbers>(alloc, &bytes)?.pos();
+    let is_there = |_text: &&str, key: Ref<'_, ArchivedString>| key.pos() == at;
+    let seal = Seal::<crate::reading::Numbers>::new(&mut bytes, pos);
+    match ArchivedHashMap::get_seal_with(seal, &text, &is_there) {
+        Some(value) => value.write(number),
+        None => {}
+    }
+    let seal = Seal::<crate::reading::Numbers>::new(&mut others, pos);
+    match ArchivedHashMap::get_key_value_seal_with(seal, &text, &is_there) {
+        Some((_, value)) => value.write(number),
+        None => {}
+    }
+    Ok((bytes[8], others[8]))
+}
+
+#[test]
+fn values_of_accepted_keys_are_written_over(rt: HostRuntime) {
+    assert_eq!(rt; accepted(rt.alloc(), "a", 0, 9), Ok((9, 9)));
+    assert_eq!(rt; accepted(rt.alloc(), "a", 1, 9), Ok((1, 1)));
+    assert_eq!(rt; accepted(rt.alloc(), "b", 0, 9), Ok((1, 1)));
+}
+
+/// Whether the map is equal to one of std that has these pairs.
+fn equals(alloc: Global, pairs: &[(&'static str, &'static str)]) -> Result<bool, Error> {
+    let root = root_of::<Texts>(alloc, &THREE)?;
+    let mut other = HashMap::new(alloc);
+    for (key, value) in pairs {
+        if other.insert(*key, *value).is_err() {
+            return Err(Error::OutOfMemory);
+        }
+    }
+    Ok(eq_hash_map(&root, &other))
+}
+
+#[test]
+fn maps_of_the_same_pairs_are_equal(rt: HostRuntime) {
+    let foo = ("foo", "bar");
+    let baz = ("baz", "bat");
+    assert_eq!(rt;
+        equals(rt.alloc(), &[foo, baz, ("hello", "world")]),
+        Ok(true)
+    );
+    assert_eq!(rt;
+        equals(rt.alloc(), &[foo, baz, ("hello", "WORLD")]),
+        Ok(false)
+    );
+    assert_eq!(rt;
+        equals(rt.alloc(), &[foo, baz, ("world", "world")]),
+        Ok(false)
+    );
+    assert_eq!(rt; equals(rt.alloc(), &[foo, baz]), Ok(false));
+}
+
+/// Whether two archives of maps are equal.
+fn equal_to(alloc: Global, bytes: &[u8], others: &[u8]) -> Result<bool, Error> {
+    let this = root_of::<Texts>(alloc, bytes)?;
+    let other = root_of::<Texts>(alloc, others)?;
+    Ok(ArchivedHashMap::equals(this, other))
+}
+
+#[test]
+fn archived_maps_of_equal_entries_are_equal(rt: HostRuntime) {
+    let mut changed = THREE;
+    changed[24..29].copy_from_slice(b"WORLD");
+    assert_eq!(rt; equal_to(rt.alloc(), &THREE, &THREE), Ok(true));
+    assert_eq!(rt; equal_to(rt.alloc(), &THREE, &changed), Ok(false));
+    assert_eq!(rt; equal_to(rt.alloc(), &THREE, &NOTHING), Ok(false));
+    assert_eq!(rt; equal_to(rt.alloc(), &NOTHING, &NOTHING), Ok(true));
+}
+
+/// Whether the set is equal to one of std that has these keys.
+fn equals_keys(alloc: Global, keys: &[&'static str]) -> Result<bool, Error> {
+    let root = root_of::<Keys>(alloc, &THREE_KEYS)?;
+    let mut other = HashSet::new(alloc);
+    for key in keys {
+        if other.insert(*key).is_err() {
+            return Err(Error::OutOfMemory);
+        }
+    }
+    Ok(eq_hash_set(&root, &other))
+}
+
+#[test]
+fn sets_of_the_same_keys_are_equal(rt: HostRuntime) {
+    assert_eq!(rt; equals_keys(rt.alloc(), &["hello", "foo", "baz"]), Ok(true));
+    assert_eq!(rt;
+        equals_keys(rt.alloc(), &["hello", "foo", "bar"]),
+        Ok(false)
+    );
+    assert_eq!(rt; equals_keys(rt.alloc(), &["hello", "foo"]), Ok(false));
+}
+
+/// Where a key of a set stands, and whether the set has it.
+fn key_of(alloc: Global, text: &str) -> Result<(Option<usize>, bool), Error> {
+    let root = root_of::<Keys>(alloc, &THREE_KEYS)?;
+    let is_there = ArchivedHashSet::contains(root, &text);
+    match ArchivedHashSet::get(root, &text) {
+        Some(key) => Ok((Some(key.pos()), is_there)),
+        None => Ok((None, is_there)),
+    }
+}
+
+#[test]
+fn keys_of_sets_are_found(rt: HostRuntime) {
+    assert_eq!(rt; key_of(rt.alloc(), "hello"), Ok((Some(8), true)));
+    assert_eq!(rt; key_of(rt.alloc(), "foo"), Ok((Some(0), true)));
+    assert_eq!(rt; key_of(rt.alloc(), "world"), Ok((None, false)));
+}
+
+/// How many keys a set has, whether it has none, and where they stand.
+fn listed(alloc: Global, bytes: &[u8]) -> Result<(usize, bool, Vec<usize>), Error> {
+    let root = root_of::<Keys>(alloc, bytes)?;
+    let mut keys = Vec::new(alloc);
+    for key in ArchivedHashSet::iter(root) {
+        keys.push(key.pos())?;
+    }
+    Ok((
+        ArchivedHashSet::len(root),
+        ArchivedHashSet::is_empty(root),
+        keys,
+    ))
+}
+
+#[test]
+fn keys_of_sets_are_walked_by_ascending_place(rt: HostRuntime) -> Result<(), Fail> {
+    let (len, is_empty, keys) = listed(rt.alloc(), &THREE_KEYS)?;
+    assert_eq!(rt; (len, is_empty), (3, false));
+    assert_eq!(rt; keys.as_slice(), [24, 8, 0].as_slice());
+    let (len, is_empty, keys) = listed(rt.alloc(), &NOTHING)?;
+    assert_eq!(rt; (len, is_empty, keys.len()), (0, true, 0));
+    Ok(())
+}
+
+/// The text of a map or a set.
+fn printed<T: ArchivedDebug + CheckBytes<HighValidator>>(
+    alloc: Global,
+    bytes: &[u8],
+) -> Result<String, Error>
+    requires { T.knows [] }
+{
+    let root = root_of::<T>(alloc, bytes)?;
+    let mut f = Formatter::new(String::new(alloc));
+    match T::fmt(&root, &mut f) {
+        Ok(()) => Ok(f.into_inner()),
+        Err(_) => Err(Error::OutOfMemory),
+    }
+}
+
+#[test]
+fn maps_and_sets_are_printed_as_those_of_std(rt: HostRuntime) -> Result<(), Fail> {
+    assert_eq!(rt;
+        printed::<Texts>(rt.alloc(), &THREE)?.as_str(),
+        "{\"baz\": \"bat\", \"hello\": \"world\", \"foo\": \"bar\"}"
+    );
+    assert_eq!(rt;
+        printed::<Keys>(rt.alloc(), &THREE_KEYS)?.as_str(),
+        "{\"baz\", \"hello\", \"foo\"}"
+    );
+    assert_eq!(rt; printed::<Texts>(rt.alloc(), &NOTHING)?.as_str(), "{}");
+    Ok(())
+}
