@@ -8,6 +8,8 @@ mod checking;
 #[cfg(test)]
 mod comparing;
 #[cfg(test)]
+mod composed;
+#[cfg(test)]
 mod levels;
 #[cfg(test)]
 mod printing;

@@ -1,0 +1,93 @@
+//! Tests of archived maps of lists beside other values, and of what is hashed of a map.
+
+ghost use Rattle.archive_forms_checking.specs.Tuples.{tuple2};
+ghost use Rattle.archive_forms_reading.specs.Parts.{HasValue, both};
+
+use crate::archives::root_of;
+use crate::writing::archive_of;
+use archive_btree::{ArchivedBTreeMap, OwnedBTreeMap, deserialize_map};
+use archive_forms_hashing::ArchivedHash;
+use archive_forms_reading::ArchivedVec;
+use archive_forms_text::ArchivedString;
+use archive_forms_tuples::ArchivedTuple2;
+use archive_shape::{ArchivedI32, ArchivedU32, Error, Portable, Ref};
+use std::alloc::Global;
+use std::collections::BTreeMap;
+use std::hash::{DefaultHasher, Hash, Hasher};
+
+/// A map from texts to lists of numbers.
+type Lists = OwnedBTreeMap<String, Vec<i32>, 5>;
+
+type ArchivedList = ArchivedVec<ArchivedI32>;
+
+type ArchivedLists = ArchivedBTreeMap<ArchivedString, ArchivedList, 5>;
+
+/// A text of its own.
+fn text(alloc: Global, from: &str) -> Result<String, Error> {
+    match String::from_str(alloc, from) {
+        Ok(text) => Ok(text),
+        Err(_) => Err(Error::OutOfMemory),
+    }
+}
+
+/// The map from `Asdf` to a list of the number 2.
+fn lists(alloc: Global) -> Result<Lists, Error> {
+    let mut list = Vec::new(alloc);
+    list.push(2)?;
+    let mut map = BTreeMap::new(alloc);
+    if map.insert(text(alloc, "Asdf")?, list).is_err() {
+        return Err(Error::OutOfMemory);
+    }
+    Ok(OwnedBTreeMap { map })
+}
+
+/// The first of a pair.
+fn first_of<'a, A: Portable, B: Portable>(pair: Ref<'a, ArchivedTuple2<A, B>>) -> Ref<'a, A>
+    requires { HasValue (tuple2 A.shape B.shape) (both A.knows B.knows) pair.bytes.now pair.pos }
+    ensures { HasValue A.shape A.knows result.bytes.now result.pos }
+{
+    ArchivedTuple2::first(pair)
+}
+
+/// Whether that map beside an empty list is read back.
+fn is_read_back_beside_a_list(alloc: Global) -> Result<bool, Error> {
+    let pair: (Lists, Vec<i32>) = (lists(alloc)?, Vec::new(alloc));
+    let bytes = archive_of(alloc, &pair)?;
+    let root = root_of::<ArchivedTuple2<ArchivedLists, ArchivedList>>(alloc, bytes.as_slice())?;
+    let read: Lists = deserialize_map(first_of(root), alloc, &mut ())?;
+    Ok(read.map == pair.0.map)
+}
+
+#[test]
+fn maps_of_lists_are_read_back(rt: HostRuntime) {
+    assert_eq!(rt; is_read_back_beside_a_list(rt.alloc()), Ok(true));
+}
+
+/// What an archived map from `a` to 1 and from `b` to 2 hashes to.
+fn hash_of_archived(alloc: Global) -> Result<u64, Error> {
+    let mut map = BTreeMap::new(alloc);
+    for (key, value) in [("a", 1), ("b", 2)] {
+        if map.insert(text(alloc, key)?, value).is_err() {
+            return Err(Error::OutOfMemory);
+        }
+    }
+    let owned: OwnedBTreeMap<String, u32, 5> = OwnedBTreeMap { map };
+    let bytes = archive_of(alloc, &owned)?;
+    let root = root_of::<ArchivedBTreeMap<ArchivedString, ArchivedU32, 5>>(
+        alloc,
+        bytes.as_slice(),
+    )?;
+    let mut hasher = DefaultHasher::new();
+    ArchivedHash::hash(&root, &mut hasher);
+    Ok(hasher.finish())
+}
+
+#[test]
+fn maps_are_hashed_pair_by_pair(rt: HostRuntime) {
+    let mut hasher = DefaultHasher::new();
+    for (key, value) in [("a", 1u32), ("b", 2)] {
+        key.hash(&mut hasher);
+        value.hash(&mut hasher);
+    }
+    assert_eq!(rt; hash_of_archived(rt.alloc()), Ok(hasher.finish()));
+}
