@@ -21,7 +21,7 @@ use Rattle.archive_forms_spelling.proofs.Written.{are_distinct}
 use Rattle.archive_core.specs.Written.{from_position, IsWrittenFrom, root_piece, root_fits}
 
 pub written_from : {A R : Type 0} (fit : Fit) (s : Shape) (knows : Names → Type 0) (w : Spelling A R) (x : A) (names : Names) (keys : Keys) (front bytes : List ℕ) (start : ℕ)
-    → Spells fit s knows w → knows names → w.keyed_by keys x → AreOneToOne keys
+    → Spells fit s knows w → knows names → w.suits fit keys x → AreOneToOne keys
     → root_fits s w x start → length front ≡ start → AreBytes front → bytes ≡ front ++ root_piece s w x start → IsWrittenFrom start s w x fit names bytes
 unfolding root_position
 written_from fit s knows w x names keys front bytes start spells k n one f long are_front e =

@@ -3,7 +3,6 @@ use Rattle.std.proofs.Common.{length, ◌∙◌}
 use Rattle.archive_shape_layout.specs.Shape.{Shape}
 use Rattle.archive_shape_layout.specs.Content.{Names}
 use Rattle.archive_shape_layout.specs.Holds.{root_position}
-use Rattle.archive_shape_canonical.specs.FirstFit.{first_fit}
 use Rattle.archive_forms_spelling.specs.Spelling.{Spelling}
 use Rattle.archive_core_access.proofs.Rooted.{root_held}
 use Rattle.archive_core_access.proofs.Unlimited.{unlimited_law}
@@ -11,11 +10,11 @@ use Rattle.archive_core.specs.Laws.{WrittenIsAccepted, ReadBackIsWritten}
 
 module _ {A R : Type 0} (s : Shape) (knows : Names → Type 0) (w : Spelling A R) where
   pub written_law : WrittenIsAccepted s knows w
-  written_law x bytes names keys known keyed one short written =
-      let made = written (first_fit (λ _. 0)) names keys known keyed one in
+  written_law x bytes fit names keys known suited one short written =
+      let made = written fit names keys known suited one in
       unlimited_law names bytes s (root_position (length bytes) s) _ made.regions made.visits short made.canonical.root
 
   pub read_back_law : ReadBackIsWritten s knows w
-  read_back_law x y bytes names keys known keyed one written read =
-      let made = written (first_fit (λ _. 0)) names keys known keyed one in
+  read_back_law x y bytes fit names keys known suited one written read =
+      let made = written fit names keys known suited one in
       read _ (root_held s knows names bytes (root_position (length bytes) s) _ made.regions made.visits known made.canonical.root) ∙ made.plain

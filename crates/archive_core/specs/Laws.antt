@@ -3,6 +3,7 @@ use Rattle.std.specs.Prelude.{◌≡◌, ℕ, ◌<◌, ◌^◌, List, length}
 use Rattle.archive_shape_layout.specs.Shape.{Shape}
 use Rattle.archive_shape_layout.specs.Content.{Names}
 use Rattle.archive_shape_layout.specs.Holds.{root_position}
+use Rattle.archive_shape_canonical.specs.Settled.{Fit}
 use Rattle.archive_forms_spelling.specs.State.{Keys, AreOneToOne}
 use Rattle.archive_forms_spelling.specs.Spelling.{Spelling}
 use Rattle.archive_forms_deserializing.specs.Deserializing.{IsReadAt}
@@ -14,9 +15,9 @@ module _ {A R : Type 0} (s : Shape) (knows : Names → Type 0) (w : Spelling A R
   -- the archive of a value is accepted, without a limit of depth
   abbrev pub WrittenIsAccepted : Type 0
   WrittenIsAccepted =
-      (x : A) (bytes : List ℕ) (names : Names) (keys : Keys)
+      (x : A) (bytes : List ℕ) (fit : Fit) (names : Names) (keys : Keys)
       → knows names
-      → w.keyed_by keys x
+      → w.suits fit keys x
       → AreOneToOne keys
       → length bytes < 2 ^ 64
       → MadeArchive s knows w x bytes
@@ -25,9 +26,9 @@ module _ {A R : Type 0} (s : Shape) (knows : Names → Type 0) (w : Spelling A R
   -- what is read back at its root is the value, but for where shared values stand
   abbrev pub ReadBackIsWritten : Type 0
   ReadBackIsWritten =
-      (x y : A) (bytes : List ℕ) (names : Names) (keys : Keys)
+      (x y : A) (bytes : List ℕ) (fit : Fit) (names : Names) (keys : Keys)
       → knows names
-      → w.keyed_by keys x
+      → w.suits fit keys x
       → AreOneToOne keys
       → MadeArchive s knows w x bytes
       → IsReadAt w s knows bytes (root_position (length bytes) s) y

@@ -56,7 +56,7 @@ module _ {A R W : Type 0} (s : Shape) (w : Spelling A R) (m : WriterMembers W) (
       → AreBytes (m.contents old)
       → (fit : Fit) (names : Names) (keys : Keys)
       → knows names
-      → w.keyed_by keys x
+      → w.suits fit keys x
       → AreOneToOne keys
       → IsWrittenFrom (m.pos old) s w x fit names (m.contents new)
 
@@ -72,6 +72,6 @@ module _ {A R : Type 0} (s : Shape) where
   MadeArchive knows w x bytes =
       (fit : Fit) (names : Names) (keys : Keys)
       → knows names
-      → w.keyed_by keys x
+      → w.suits fit keys x
       → AreOneToOne keys
       → IsWrittenFrom 0 s w x fit names bytes

@@ -13,8 +13,8 @@ use archive_shape::{Allocator, Error, Writer};
 use std::alloc::Global;
 use std::marker::PhantomData;
 
-/// The items that an iterator gives.
-fn collect_items<T: Drop, I: IntoIterator<Item = T>>(
+/// The items that an iterator gives. Memory is taken for those that come.
+pub fn collect_items<T: Drop, I: IntoIterator<Item = T>>(
     alloc: Global,
     iter: I,
 ) -> Result<Vec<T>, Error>

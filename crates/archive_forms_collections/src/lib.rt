@@ -5,6 +5,6 @@ mod elements;
 mod entry;
 mod slices;
 
-pub use elements::{serialize_from_iter, serialize_from_iter_each};
+pub use elements::{collect_items, serialize_from_iter, serialize_from_iter_each};
 pub use entry::{EntryAdapter, EntryResolver, serialize_entry_each};
 pub use slices::{resolve_from_slice, serialize_from_slice};

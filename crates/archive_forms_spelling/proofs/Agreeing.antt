@@ -5,13 +5,14 @@ use Rattle.archive_shape_layout.specs.Shape.{Shape, size_of, align_of}
 use Rattle.archive_shape_layout.specs.Value.{Value}
 use Rattle.archive_shape_layout.specs.Value.Value.{group}
 use Rattle.archive_shape_layout.specs.Value.Values.{more_values}
+use Rattle.archive_shape_canonical.specs.Settled.{Fit}
 use Rattle.archive_shape_references.specs.Bytes.{zeros}
 use Rattle.archive_shape_writing.specs.Writing.{WriterMembers}
 use Rattle.archive_shape_writing.specs.declared.error.Error.{Error}
 use Rattle.archive_shape_writing.specs.declared.error.Error.TheVariants.{PositionTooLarge}
 use Rattle.archive_forms_spelling.specs.State.{State, Met, Keys, advanced}
 use Rattle.archive_forms_spelling.specs.Spelling.{Spelling}
-use Rattle.archive_forms_spelling.specs.Regions.{state_after_all, values, plain_values, all_keyed_by, pieces, owns, pieces_fit, pieces_refused, owns_fit, owns_refused, region_at}
+use Rattle.archive_forms_spelling.specs.Regions.{state_after_all, values, plain_values, all_suit, pieces, owns, pieces_fit, pieces_refused, owns_fit, owns_refused, region_at}
 use Rattle.archive_forms_spelling.specs.Pointers.{slice_spelling}
 use Rattle.archive_forms_spelling.specs.Levels.{levels_spelling, self_spelling}
 use Rattle.archive_forms_spelling.specs.Serializing.{IsAt, Lays, Serializes}
@@ -28,7 +29,7 @@ pub record Said (R : Type 0) : Type 1 where
   pub piece_refused : State → Error → Type 0
   pub own_fits : R → ℕ → Type 0
   pub own_refused : R → ℕ → Error → Type 0
-  pub keyed_by : Keys → Type 0
+  pub suits : Fit → Keys → Type 0
 
 abbrev pub said : {A R : Type 0} → Spelling A R → A → Said R
 said w x = record {
@@ -42,7 +43,7 @@ said w x = record {
   piece_refused = w.piece_refused x;
   own_fits = w.own_fits x;
   own_refused = w.own_refused x;
-  keyed_by = λ keys. w.keyed_by keys x;
+  suits = λ fit keys. w.suits fit keys x;
 }
 
 -- the state when the data of that value is written
@@ -78,9 +79,9 @@ module _ {A R : Type 0} (w u : Spelling A R) where
   plains_agree [] h = refl
   plains_agree (x ∷ xs) h = λ i. more_values ((h.0 i).plain) (plains_agree xs h.1 i)
 
-  keys_agree : (xs : List A) → AgreeOn xs → (keys : Keys) → all_keyed_by w keys xs ≡ all_keyed_by u keys xs
-  keys_agree [] h keys = refl
-  keys_agree (x ∷ xs) h keys = λ i. (h.0 i).keyed_by keys × keys_agree xs h.1 keys i
+  suits_agree : (xs : List A) → AgreeOn xs → (fit : Fit) (keys : Keys) → all_suit w fit keys xs ≡ all_suit u fit keys xs
+  suits_agree [] h fit keys = refl
+  suits_agree (x ∷ xs) h fit keys = λ i. (h.0 i).suits fit keys × suits_agree xs h.1 fit keys i
 
   pieces_agree : (xs : List A) → AgreeOn xs → (st : State) → pieces w xs st ≡ pieces u xs st
   pieces_agree [] h st = refl
@@ -130,7 +131,7 @@ module _ {A R : Type 0} (w u : Spelling A R) where
         ⊎ (((2 ^ 32 ≤ regions_agree s xs h st i) × (e ≡ PositionTooLarge)) ⊎ owns_refusals_agree s xs h st (regions_agree s xs h st i) e i);
     own_fits = (slice_spelling s w).own_fits xs;
     own_refused = (slice_spelling s w).own_refused xs;
-    keyed_by = λ keys. keys_agree xs h keys i;
+    suits = λ fit keys. suits_agree xs h fit keys i;
   }
 
 -- ---- types that hold themselves

@@ -18,7 +18,7 @@ use Rattle.archive_forms_spelling.specs.State.{State, Keys, visits_of, IsConsist
 use Rattle.archive_forms_spelling.specs.Spelling.{Spelling, state_after}
 use Rattle.archive_forms_spelling.specs.Spells.{CanonicalPart, SpellsAt, EachSpells, Spells}
 use Rattle.archive_shape_canonical.specs.Canonical.{AreBytes}
-use Rattle.archive_forms_spelling.specs.Regions.{state_after_all, values, all_keyed_by, pieces, resolvers, owns, pieces_fit}
+use Rattle.archive_forms_spelling.specs.Regions.{state_after_all, values, all_suit, pieces, resolvers, owns, pieces_fit}
 use Rattle.archive_forms_spelling.specs.Arrays.{array_own, array_own_fits, array_own_refused, array_spelling}
 use Rattle.archive_forms_spelling.proofs.States.{consistent_further}
 use Rattle.archive_forms_spelling.proofs.Gaps.{bytes_none, bytes_append}
@@ -77,7 +77,7 @@ module _ {A R : Type 0} (fit : Fit) (n : ℕ) (s : Shape) (knows : Names → Typ
     array_canonical :
         (st : State) (pos : ℕ) (names : Names) (keys : Keys) (bytes : List ℕ) (level : ℕ) (inside : List OpenShared)
         → knows names
-        → all_keyed_by w keys xs
+        → all_suit w fit keys xs
         → AreKeyedBy keys st.met
         → IsConsistent st
         → AllFrom (st.pos + length (pieces w xs st)) inside

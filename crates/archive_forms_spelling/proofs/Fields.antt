@@ -40,7 +40,7 @@ pub record FieldsSpellAt {A R : Type 0} (fit : Fit) (knows : Names → Type 0) (
   pub canonical :
       (st : State) (pos offset : ℕ) (names : Names) (keys : Keys) (bytes : List ℕ) (level : ℕ) (inside : List OpenShared)
       → knows names
-      → fs.keyed_by keys x
+      → fs.suits fit keys x
       → AreKeyedBy keys st.met
       → IsConsistent st
       → AllFrom (st.pos + length (fs.piece x st)) inside
@@ -56,7 +56,7 @@ pub record FieldsSpellAt {A R : Type 0} (fit : Fit) (knows : Names → Type 0) (
       → (i : ℕ) → pos + offset ≤ i → i < pos + fields_end fs.shapes offset → InParts (fields pos offset fs.shapes) i ⊎ (slice_index bytes i ≡ 0)
   pub consistent : (st : State) → IsConsistent st → fs.piece_fits x st → IsConsistent (advanced (length (fs.piece x st)) (fs.met x st) st)
   pub keyed :
-      (keys : Keys) (st : State) → fs.keyed_by keys x → AreKeyedBy keys st.met → fs.piece_fits x st
+      (keys : Keys) (st : State) → fs.suits fit keys x → AreKeyedBy keys st.met → fs.piece_fits x st
       → (all_erased (fs.values x st) ≡ fs.plain x) × AreKeyedBy keys (fs.met x st)
   pub piece_bytes : (st : State) → fs.piece_fits x st → AreBytes (fs.piece x st)
   pub own_bytes : (r : R) (pos offset : ℕ) → fs.own_fits x r pos offset → AreBytes (fs.own x r pos offset)
@@ -146,7 +146,7 @@ module _ (fit : Fit) (knows : Names → Type 0) where
       field_canonical :
           (st : State) (pos offset : ℕ) (names : Names) (keys : Keys) (bytes : List ℕ) (level : ℕ) (inside : List OpenShared)
           → knows names
-          → (more_fields s w others).keyed_by keys (x, y)
+          → (more_fields s w others).suits fit keys (x, y)
           → AreKeyedBy keys st.met
           → IsConsistent st
           → AllFrom (st.pos + length ((more_fields s w others).piece (x, y) st)) inside
@@ -243,7 +243,7 @@ module _ (fit : Fit) (knows : Names → Type 0) where
     struct_canonical :
         (st : State) (pos : ℕ) (names : Names) (keys : Keys) (bytes : List ℕ) (level : ℕ) (inside : List OpenShared)
         → knows names
-        → fs.keyed_by keys x
+        → fs.suits fit keys x
         → AreKeyedBy keys st.met
         → IsConsistent st
         → AllFrom (st.pos + length (fs.piece x st)) inside

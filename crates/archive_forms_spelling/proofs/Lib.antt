@@ -4,6 +4,7 @@ pub mod Gaps
 pub mod Leaves
 pub mod Regions
 pub mod Views
+pub mod Links
 pub mod Pointers
 pub mod Payloads
 pub mod Options

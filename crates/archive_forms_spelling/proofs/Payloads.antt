@@ -90,7 +90,7 @@ module _ {A R : Type 0} (fit : Fit) (s whole : Shape) (knows : Names → Type 0)
   payload_canonical :
       (st : State) (pos : ℕ) (names : Names) (keys : Keys) (bytes : List ℕ) (level : ℕ) (inside : List OpenShared)
       → knows names
-      → w.keyed_by keys x
+      → w.suits fit keys x
       → AreKeyedBy keys st.met
       → IsConsistent st
       → AllFrom (state_after w x st).pos inside

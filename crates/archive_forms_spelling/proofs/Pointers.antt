@@ -28,7 +28,7 @@ use Rattle.archive_shape_pointers.specs.Offsets.{difference, FitsOffset, offset_
 use Rattle.archive_forms_spelling.specs.State.{State, Keys, IsConsistent, AllFrom, AreKeyedBy, advanced, visits_of}
 use Rattle.archive_forms_spelling.specs.Spelling.{Spelling, state_after}
 use Rattle.archive_forms_spelling.specs.Spells.{CanonicalPart, SpellsAt, EachSpells, Spells}
-use Rattle.archive_forms_spelling.specs.Regions.{state_after_all, values, all_keyed_by, region_at, region_piece, region_fits}
+use Rattle.archive_forms_spelling.specs.Regions.{state_after_all, values, all_suit, region_at, region_piece, region_fits}
 use Rattle.archive_forms_spelling.specs.Pointers.{slice_spelling, box_spelling}
 use Rattle.archive_forms_spelling.proofs.States.{from_earlier, consistent_further}
 use Rattle.archive_forms_spelling.proofs.Gaps.{bytes_append, bytes_word}
@@ -145,7 +145,7 @@ module _ {A R : Type 0} (fit : Fit) (s : Shape) (knows : Names → Type 0) (w : 
     listed_canonical :
         (st : State) (from : ℕ) (names : Names) (keys : Keys) (bytes : List ℕ) (level : ℕ) (inside : List OpenShared)
         → knows names
-        → all_keyed_by w keys xs
+        → all_suit w fit keys xs
         → AreKeyedBy keys st.met
         → IsConsistent st
         → AllFrom (st.pos + length (region_piece w s xs st)) inside

@@ -28,7 +28,7 @@ use Rattle.archive_forms_spelling.specs.State.{State, Keys, visits_of, IsConsist
 use Rattle.archive_forms_spelling.specs.Spelling.{Spelling, state_after}
 use Rattle.archive_forms_spelling.specs.Spells.{CanonicalPart, SpellsAt, EachSpells, AreGapsZero}
 use Rattle.archive_shape_canonical.specs.Canonical.{AreBytes}
-use Rattle.archive_forms_spelling.specs.Regions.{state_after_all, values, plain_values, all_keyed_by, pieces, owns, pieces_fit, owns_fit, pieces_refused, owns_refused, region_at, region_piece, region_fits, region_refused}
+use Rattle.archive_forms_spelling.specs.Regions.{state_after_all, values, plain_values, all_suit, pieces, owns, pieces_fit, owns_fit, pieces_refused, owns_refused, region_at, region_piece, region_fits, region_refused}
 use Rattle.archive_forms_spelling.proofs.Aligning.{starts_aligned}
 use Rattle.archive_forms_spelling.proofs.States.{from_earlier}
 use Rattle.archive_forms_spelling.proofs.Gaps.{gaps_join, ascends_join, bytes_none, bytes_append, bytes_zeros}
@@ -102,7 +102,7 @@ module _ {A R : Type 0} (fit : Fit) (s : Shape) (knows : Names → Type 0) (w : 
   state_after_all_consistent [] each st h f = h
   state_after_all_consistent (x ∷ xs) each st h f = state_after_all_consistent xs each.1 (state_after w x st) (each.0.consistent st h f.0) f.1
 
-  pub state_after_all_keyed : (xs : List A) (each : EachSpells fit s knows w xs) (keys : Keys) (st : State) → all_keyed_by w keys xs → AreKeyedBy keys st.met → pieces_fit w xs st
+  pub state_after_all_keyed : (xs : List A) (each : EachSpells fit s knows w xs) (keys : Keys) (st : State) → all_suit w fit keys xs → AreKeyedBy keys st.met → pieces_fit w xs st
       → (all_erased (values w xs st) ≡ plain_values w xs) × AreKeyedBy keys (state_after_all w xs st).met
   state_after_all_keyed [] each keys st n k f = (refl, k)
   state_after_all_keyed (x ∷ xs) each keys st n k f =
@@ -128,7 +128,7 @@ module _ {A R : Type 0} (fit : Fit) (s : Shape) (knows : Names → Type 0) (w : 
   pub elements_canonical :
       (xs : List A) (each : EachSpells fit s knows w xs) (st : State) (pos : ℕ) (names : Names) (keys : Keys) (bytes : List ℕ) (level : ℕ) (inside : List OpenShared)
       → knows names
-      → all_keyed_by w keys xs
+      → all_suit w fit keys xs
       → AreKeyedBy keys st.met
       → IsConsistent st
       → AllFrom (state_after_all w xs st).pos inside
@@ -198,7 +198,7 @@ module _ {A R : Type 0} (fit : Fit) (s : Shape) (knows : Names → Type 0) (w : 
   pub region_canonical :
       (xs : List A) (each : EachSpells fit s knows w xs) (st : State) (names : Names) (keys : Keys) (bytes : List ℕ) (level : ℕ) (inside : List OpenShared)
       → knows names
-      → all_keyed_by w keys xs
+      → all_suit w fit keys xs
       → AreKeyedBy keys st.met
       → IsConsistent st
       → AllFrom (state_after_all w xs st).pos inside
@@ -244,7 +244,7 @@ module _ {A R : Type 0} (fit : Fit) (s : Shape) (knows : Names → Type 0) (w : 
   pub slice_canonical :
       (xs : List A) (each : EachSpells fit s knows w xs) (st : State) (names : Names) (keys : Keys) (bytes : List ℕ) (level : ℕ) (inside : List OpenShared)
       → knows names
-      → all_keyed_by w keys xs
+      → all_suit w fit keys xs
       → AreKeyedBy keys st.met
       → IsConsistent st
       → AllFrom (state_after_all w xs st).pos inside
@@ -277,7 +277,7 @@ module _ {A R : Type 0} (fit : Fit) (s : Shape) (knows : Names → Type 0) (w : 
   pub boxed_canonical :
       (x : A) (one : SpellsAt fit s knows w x) (st : State) (names : Names) (keys : Keys) (bytes : List ℕ) (level : ℕ) (inside : List OpenShared)
       → knows names
-      → w.keyed_by keys x
+      → w.suits fit keys x
       → AreKeyedBy keys st.met
       → IsConsistent st
       → AllFrom (state_after w x st).pos inside

@@ -13,7 +13,7 @@ use Rattle.archive_shape_canonical.specs.Settled.{Fit}
 use Rattle.archive_forms_spelling.specs.State.{Keys, SharedValue, AreOneToOne, initial}
 use Rattle.archive_forms_spelling.specs.Spells.{Spells}
 use Rattle.archive_forms_spelling.specs.Forms.{seen_as}
-use Rattle.archive_forms_spelling.specs.Regions.{region_fits, region_piece, all_keyed_by}
+use Rattle.archive_forms_spelling.specs.Regions.{region_fits, region_piece, all_suit}
 use Rattle.archive_forms_spelling.specs.Pointers.{box_spelling}
 use Rattle.archive_shape_pointers.specs.Offsets.{FitsOffset}
 use Rattle.archive_forms_spelling.specs.Options.{option_spelling}
@@ -62,14 +62,14 @@ none_to_none : AreOneToOne no_keys
 none_to_none k l a b e f same_type same = absurd (cc)
 
 -- no shared value is in them
-all_absent : (xs : List (Option ℕ)) → all_keyed_by (option_spelling (box (sized number_shape)) (box_spelling number_shape number_spelling)) no_keys xs
-all_absent [] = tt
-all_absent (None ∷ xs) = (tt, all_absent xs)
-all_absent (Some n ∷ xs) = (tt, all_absent xs)
+all_absent : (fit : Fit) (xs : List (Option ℕ)) → all_suit (option_spelling (box (sized number_shape)) (box_spelling number_shape number_spelling)) fit no_keys xs
+all_absent fit [] = tt
+all_absent fit (None ∷ xs) = (tt, all_absent fit xs)
+all_absent fit (Some n ∷ xs) = (tt, all_absent fit xs)
 
 pub optional_lists_are_written_law : OptionalListsAreWritten
 optional_lists_are_written_law fit names xs bytes f e =
-    is_written fit optional_list_shape KnowsAll optional_list xs names no_keys bytes (optional_list_spells fit) tt (all_absent xs) none_to_none f e
+    is_written fit optional_list_shape KnowsAll optional_list xs names no_keys bytes (optional_list_spells fit) tt (all_absent fit xs) none_to_none f e
 
 -- ---- two numbers that are one shared value
 

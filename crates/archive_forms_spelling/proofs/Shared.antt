@@ -121,7 +121,7 @@ module _ {A R : Type 0} (fit : Fit) (cyclic : Bool) (s : Shape) (knows : Names �
           new_keys = new_keys_more st.begun m ms f.0 inner.new_keys.1;
         }
 
-  module _ (x : A) (one : SpellsAt fit s knows w x) (st : State) (keys : Keys) (named : keys (key x) ≡ Some (record { pointee = sized s; len = 1; value = w.plain x })) (within : w.keyed_by keys x) (known : AreKeyedBy keys st.met) where
+  module _ (x : A) (one : SpellsAt fit s knows w x) (st : State) (keys : Keys) (named : keys (key x) ≡ Some (record { pointee = sized s; len = 1; value = w.plain x })) (within : w.suits fit keys x) (known : AreKeyedBy keys st.met) where
     found_sized : (v : Visit) → visit_of_key st.met (key x) ≡ Some v → (v.pointee ≡ sized s) × (v.len ≡ 1) × (erased v.value ≡ w.plain x)
     found_sized v e =
         let there = met_is_keyed st.met (key x) v keys e known in

@@ -36,7 +36,7 @@ are_distinct keys one (m ∷ ms) k n = (all_differ keys one m ms k.0 n.0 n.1, ar
 
 -- what is written as a root, where nothing was written before, is the one archive of its value
 pub is_written : {A R : Type 0} (fit : Fit) (s : Shape) (knows : Names → Type 0) (w : Spelling A R) (x : A) (names : Names) (keys : Keys) (bytes : List ℕ)
-    → Spells fit s knows w → knows names → w.keyed_by keys x → AreOneToOne keys
+    → Spells fit s knows w → knows names → w.suits fit keys x → AreOneToOne keys
     → region_fits w s (x ∷ []) initial → bytes ≡ region_piece w s (x ∷ []) initial → IsWritten s w x fit names bytes
 unfolding root_position
 is_written fit s knows w x names keys bytes spells k n one f e =

@@ -4,7 +4,7 @@ use Rattle.archive_shape_layout.specs.Shape.{Shape, size_of}
 use Rattle.archive_shape_layout.specs.Value.Value.{group}
 use Rattle.archive_shape_writing.specs.declared.error.Error.{Error}
 use Rattle.archive_forms_spelling.specs.Spelling.{Spelling}
-use Rattle.archive_forms_spelling.specs.Regions.{state_after_all, values, plain_values, all_keyed_by, pieces, resolvers, pieces_fit, pieces_refused}
+use Rattle.archive_forms_spelling.specs.Regions.{state_after_all, values, plain_values, all_suit, pieces, resolvers, pieces_fit, pieces_refused}
 
 -- ---- own bytes by resolvers, one for each element
 
@@ -34,5 +34,5 @@ array_spelling n s w = record {
   piece_refused = λ xs st e. pieces_refused w xs st e;
   own_fits = λ xs rs pos. (length xs ≡ n) × (length rs ≡ n) × array_own_fits s w xs rs pos;
   own_refused = λ xs rs pos e. array_own_refused s w xs rs pos e;
-  keyed_by = λ keys xs. all_keyed_by w keys xs;
+  suits = λ fit keys xs. all_suit w fit keys xs;
 }

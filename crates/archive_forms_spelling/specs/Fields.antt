@@ -8,6 +8,7 @@ use Rattle.archive_shape_layout.specs.Shape.Shapes.{no_shapes, more_shapes}
 use Rattle.archive_shape_layout.specs.Value.{Values}
 use Rattle.archive_shape_layout.specs.Value.Value.{group}
 use Rattle.archive_shape_layout.specs.Value.Values.{no_values, more_values}
+use Rattle.archive_shape_canonical.specs.Settled.{Fit}
 use Rattle.archive_shape_references.specs.Bytes.{zeros}
 use Rattle.archive_shape_writing.specs.declared.error.Error.{Error}
 use Rattle.archive_forms_spelling.specs.State.{State, Met, Keys}
@@ -28,7 +29,7 @@ pub record FieldsSpelling (A R : Type 0) : Type 1 where
   pub piece_refused : A → State → Error → Type 0
   pub own_fits : A → R → (pos offset : ℕ) → Type 0
   pub own_refused : A → R → (pos offset : ℕ) → Error → Type 0
-  pub keyed_by : Keys → A → Type 0
+  pub suits : Fit → Keys → A → Type 0
 
 -- all values without fields are alike
 abbrev pub no_fields : {A : Type 0} → FieldsSpelling A (Unit {0})
@@ -44,7 +45,7 @@ no_fields = record {
   piece_refused = λ x st e. ⊥;
   own_fits = λ x r pos offset. ⊤;
   own_refused = λ x r pos offset e. ⊥;
-  keyed_by = λ keys x. ⊤;
+  suits = λ fit keys x. ⊤;
 }
 
 -- a field before others: it stands at the next offset of its alignment
@@ -67,7 +68,7 @@ more_fields s w others = record {
   own_refused = λ x r pos offset e.
       let from = align_up offset (align_of s) in
       w.own_refused x.0 r.0 (pos + from) e ⊎ others.own_refused x.1 r.1 pos (from + size_of s) e;
-  keyed_by = λ keys x. w.keyed_by keys x.0 × others.keyed_by keys x.1;
+  suits = λ fit keys x. w.suits fit keys x.0 × others.suits fit keys x.1;
 }
 
 -- a struct of fields
@@ -83,7 +84,7 @@ struct_spelling fs = record {
   piece_refused = fs.piece_refused;
   own_fits = λ x r pos. fs.own_fits x r pos 0;
   own_refused = λ x r pos e. fs.own_refused x r pos 0 e;
-  keyed_by = fs.keyed_by;
+  suits = fs.suits;
 }
 
 -- a type of one value, as the unit type and `PhantomData`

@@ -20,7 +20,7 @@ leaf_spelling s bytes_of value_of = record {
   piece_refused = λ _ _ _. ⊥;
   own_fits = λ x _ _. Reads s (bytes_of x) (value_of x) × (length (bytes_of x) ≡ size_of s) × AreBytes (bytes_of x);
   own_refused = λ _ _ _ _. ⊥;
-  keyed_by = λ _ _. ⊤;
+  suits = λ _ _ _. ⊤;
 }
 
 -- a value that is seen as another
@@ -36,7 +36,7 @@ seen_as view w = record {
   piece_refused = λ x st e. w.piece_refused (view x) st e;
   own_fits = λ x r pos. w.own_fits (view x) r pos;
   own_refused = λ x r pos e. w.own_refused (view x) r pos e;
-  keyed_by = λ keys x. w.keyed_by keys (view x);
+  suits = λ fit keys x. w.suits fit keys (view x);
 }
 
 -- a resolver that is kept as another
@@ -52,5 +52,5 @@ kept_as make get w = record {
   piece_refused = w.piece_refused;
   own_fits = λ x r pos. w.own_fits x (get r) pos;
   own_refused = λ x r pos e. w.own_refused x (get r) pos e;
-  keyed_by = w.keyed_by;
+  suits = w.suits;
 }

@@ -10,7 +10,7 @@ use Rattle.archive_shape_canonical.specs.Sharing.{erased}
 use Rattle.archive_forms_spelling.specs.State.{Keys, AreOneToOne, initial}
 use Rattle.archive_forms_spelling.specs.Spells.{Spells}
 use Rattle.archive_forms_spelling.specs.Forms.{leaf_spelling}
-use Rattle.archive_forms_spelling.specs.Regions.{region_piece, region_fits, all_keyed_by}
+use Rattle.archive_forms_spelling.specs.Regions.{region_piece, region_fits, all_suit}
 use Rattle.archive_forms_spelling.specs.Texts.{text_spelling}
 use Rattle.archive_forms_spelling.specs.Written.{IsArchive, IsWritten}
 use Rattle.archive_forms_spelling.specs.Sample.{keyed_spelling, keyed_list_shape, keyed_list, two, two_bytes, optional_list_shape, optional_list, one_present, one_present_bytes, pair_shape, pair_spelling, zero_pair_bytes, other_pair_bytes, filled_text_bytes, eight_text_bytes, nine_text_bytes}
@@ -36,7 +36,7 @@ WrittenOnce =
 abbrev pub KeyedListsAreWritten : Type 0
 KeyedListsAreWritten =
     (fit : Fit) (names : Names) (keys : Keys) (xs : List (ℕ × ℕ)) (bytes : List ℕ)
-    → all_keyed_by keyed_spelling keys xs
+    → all_suit keyed_spelling fit keys xs
     → AreOneToOne keys
     → region_fits keyed_list keyed_list_shape (xs ∷ []) initial
     → bytes ≡ region_piece keyed_list keyed_list_shape (xs ∷ []) initial

@@ -22,5 +22,5 @@ module _ {A R : Type 0} (one : Spelling A R → Spelling A R) (none : Spelling A
     piece_refused = λ x st e. (levels_spelling (suc (below x))).piece_refused x st e;
     own_fits = λ x r pos. (levels_spelling (suc (below x))).own_fits x r pos;
     own_refused = λ x r pos e. (levels_spelling (suc (below x))).own_refused x r pos e;
-    keyed_by = λ keys x. (levels_spelling (suc (below x))).keyed_by keys x;
+    suits = λ fit keys x. (levels_spelling (suc (below x))).suits fit keys x;
   }

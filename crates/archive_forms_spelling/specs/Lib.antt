@@ -4,6 +4,7 @@ pub mod Spells
 pub mod Forms
 pub mod Regions
 pub mod Pointers
+pub mod Links
 pub mod Shared
 pub mod Options
 pub mod Payloads
@@ -14,6 +15,7 @@ pub mod Arrays
 pub mod Texts
 pub mod Limits
 pub mod Serializing
+pub mod Taking
 pub mod Written
 pub mod Sample
 pub mod Laws

@@ -21,7 +21,7 @@ limited has_room refusal w = record {
   piece_refused = w.piece_refused;
   own_fits = λ x r pos. has_room x × w.own_fits x r pos;
   own_refused = λ x r pos e. ((has_room x → ⊥) × (e ≡ refusal)) ⊎ w.own_refused x r pos e;
-  keyed_by = w.keyed_by;
+  suits = w.suits;
 }
 
 -- a `usize` and an `isize` are archived as numbers of four bytes

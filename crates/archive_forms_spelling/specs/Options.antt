@@ -6,6 +6,7 @@ use Rattle.archive_shape_layout.specs.Shape.Shape.{option}
 use Rattle.archive_shape_layout.specs.Value.{Value}
 use Rattle.archive_shape_layout.specs.Value.Value.{chosen}
 use Rattle.archive_shape_layout.specs.Value.Values.{no_values, more_values}
+use Rattle.archive_shape_canonical.specs.Settled.{Fit}
 use Rattle.archive_shape_references.specs.Bytes.{zeros}
 use Rattle.archive_shape_writing.specs.declared.error.Error.{Error}
 use Rattle.archive_forms_spelling.specs.State.{State, Met, Keys}
@@ -60,9 +61,9 @@ module _ {A R : Type 0} (s : Shape) (w : Spelling A R) where
   option_own_refused (Some x) (Some r) pos e = w.own_refused x r (pos + payload_at s) e
   option_own_refused _ _ pos e = ⊥
 
-  abbrev pub option_keyed_by : Keys → Option A → Type 0
-  option_keyed_by keys None = ⊤
-  option_keyed_by keys (Some x) = w.keyed_by keys x
+  abbrev pub option_suits : Fit → Keys → Option A → Type 0
+  option_suits fit keys None = ⊤
+  option_suits fit keys (Some x) = w.suits fit keys x
 
   abbrev pub option_spelling : Spelling (Option A) (Option R)
   option_spelling = record {
@@ -76,5 +77,5 @@ module _ {A R : Type 0} (s : Shape) (w : Spelling A R) where
     piece_refused = option_piece_refused;
     own_fits = option_own_fits;
     own_refused = option_own_refused;
-    keyed_by = option_keyed_by;
+    suits = option_suits;
   }

@@ -18,5 +18,5 @@ payload_spelling tag offset size w = record {
   piece_refused = w.piece_refused;
   own_fits = λ x r pos. w.own_fits x r (pos + offset);
   own_refused = λ x r pos e. w.own_refused x r (pos + offset) e;
-  keyed_by = w.keyed_by;
+  suits = w.suits;
 }

@@ -6,7 +6,7 @@ use Rattle.archive_shape_layout.specs.Value.Value.{group}
 use Rattle.archive_shape_writing.specs.declared.error.Error.TheVariants.{IsizeOverflow, LengthTooLarge}
 use Rattle.archive_shape_pointers.specs.Offsets.{FitsOffset, offset_bytes}
 use Rattle.archive_forms_spelling.specs.Spelling.{Spelling}
-use Rattle.archive_forms_spelling.specs.Regions.{state_after_all, values, plain_values, all_keyed_by, region_at, region_piece, region_fits, region_refused}
+use Rattle.archive_forms_spelling.specs.Regions.{state_after_all, values, plain_values, all_suit, region_at, region_piece, region_fits, region_refused}
 
 -- a pointer to the elements of a list; the resolver is the position of the first
 abbrev pub slice_spelling : {A R : Type 0} → Shape → Spelling A R → Spelling (List A) ℕ
@@ -21,7 +21,7 @@ slice_spelling s w = record {
   piece_refused = λ xs st e. region_refused w s xs st e;
   own_fits = λ xs to pos. FitsOffset pos to × (length xs < 2 ^ 32);
   own_refused = λ xs to pos e. ((FitsOffset pos to → ⊥) × (e ≡ IsizeOverflow)) ⊎ ((2 ^ 32 ≤ length xs) × (e ≡ LengthTooLarge));
-  keyed_by = λ keys xs. all_keyed_by w keys xs;
+  suits = λ fit keys xs. all_suit w fit keys xs;
 }
 
 -- a pointer to one value
@@ -37,5 +37,5 @@ box_spelling s w = record {
   piece_refused = λ x st e. region_refused w s (x ∷ []) st e;
   own_fits = λ x to pos. FitsOffset pos to;
   own_refused = λ x to pos e. (FitsOffset pos to → ⊥) × (e ≡ IsizeOverflow);
-  keyed_by = w.keyed_by;
+  suits = w.suits;
 }

@@ -4,6 +4,7 @@ use Rattle.archive_shape_layout.specs.Bytes.{align_up}
 use Rattle.archive_shape_layout.specs.Shape.{Shape, size_of, align_of}
 use Rattle.archive_shape_layout.specs.Value.{Values}
 use Rattle.archive_shape_layout.specs.Value.Values.{no_values, more_values}
+use Rattle.archive_shape_canonical.specs.Settled.{Fit}
 use Rattle.archive_shape_references.specs.Bytes.{zeros}
 use Rattle.archive_shape_writing.specs.declared.error.Error.{Error}
 use Rattle.archive_shape_writing.specs.declared.error.Error.TheVariants.{PositionTooLarge}
@@ -24,9 +25,9 @@ module _ {A R : Type 0} (w : Spelling A R) where
   plain_values [] = no_values
   plain_values (x ∷ xs) = more_values (w.plain x) (plain_values xs)
 
-  abbrev pub all_keyed_by : Keys → List A → Type 0
-  all_keyed_by keys [] = ⊤
-  all_keyed_by keys (x ∷ xs) = w.keyed_by keys x × all_keyed_by keys xs
+  abbrev pub all_suit : Fit → Keys → List A → Type 0
+  all_suit fit keys [] = ⊤
+  all_suit fit keys (x ∷ xs) = w.suits fit keys x × all_suit fit keys xs
 
   -- their data, one after the other
   abbrev pub pieces : List A → State → List ℕ

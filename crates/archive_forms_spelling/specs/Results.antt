@@ -4,6 +4,7 @@ use Rattle.archive_shape_layout.specs.Bytes.{align_up}
 use Rattle.archive_shape_layout.specs.Shape.{Shape, size_of, align_of}
 use Rattle.archive_shape_layout.specs.Shape.Shape.{result}
 use Rattle.archive_shape_layout.specs.Value.{Value}
+use Rattle.archive_shape_canonical.specs.Settled.{Fit}
 use Rattle.archive_shape_references.specs.Bytes.{zeros}
 use Rattle.archive_shape_writing.specs.declared.error.Error.{Error}
 use Rattle.archive_forms_spelling.specs.State.{State, Met, Keys}
@@ -66,9 +67,9 @@ module _ {A B R Q : Type 0} (s t : Shape) (w : Spelling A R) (u : Spelling B Q) 
   result_own_refused (Err y) (Err r) pos e = err_spelling.own_refused y r pos e
   result_own_refused _ _ pos e = ⊥
 
-  abbrev pub result_keyed_by : Keys → Result A B → Type 0
-  result_keyed_by keys (Ok x) = w.keyed_by keys x
-  result_keyed_by keys (Err y) = u.keyed_by keys y
+  abbrev pub result_suits : Fit → Keys → Result A B → Type 0
+  result_suits fit keys (Ok x) = w.suits fit keys x
+  result_suits fit keys (Err y) = u.suits fit keys y
 
   abbrev pub result_spelling : Spelling (Result A B) (Result R Q)
   result_spelling = record {
@@ -82,5 +83,5 @@ module _ {A B R Q : Type 0} (s t : Shape) (w : Spelling A R) (u : Spelling B Q) 
     piece_refused = result_piece_refused;
     own_fits = result_own_fits;
     own_refused = result_own_refused;
-    keyed_by = result_keyed_by;
+    suits = result_suits;
   }

@@ -76,5 +76,5 @@ module _ {A R : Type 0} (s : Shape) (key : A → ℕ) (w : Spelling A R) where
     piece_refused = λ x st e. shared_refused x st (visit_of_key st.met (key x)) e;
     own_fits = λ x to pos. FitsOffset pos to;
     own_refused = λ x to pos e. (FitsOffset pos to → ⊥) × (e ≡ IsizeOverflow);
-    keyed_by = λ keys x. (keys (key x) ≡ Some (record { pointee = sized s; len = 1; value = w.plain x })) × w.keyed_by keys x;
+    suits = λ fit keys x. (keys (key x) ≡ Some (record { pointee = sized s; len = 1; value = w.plain x })) × w.suits fit keys x;
   }

@@ -1,6 +1,7 @@
 -- How a value is archived, as functions of the value, of where it stands and of the state in which it is written.
 use Rattle.std.specs.Prelude.{ℕ, List, length}
 use Rattle.archive_shape_layout.specs.Value.{Value}
+use Rattle.archive_shape_canonical.specs.Settled.{Fit}
 use Rattle.archive_shape_writing.specs.declared.error.Error.{Error}
 use Rattle.archive_forms_spelling.specs.State.{State, Met, Keys, advanced}
 
@@ -23,8 +24,8 @@ pub record Spelling (A R : Type 0) : Type 1 where
   -- likewise the own bytes at a position
   pub own_fits : A → R → ℕ → Type 0
   pub own_refused : A → R → ℕ → Error → Type 0
-  -- each shared value in it has a key that stands for it
-  pub keyed_by : Keys → A → Type 0
+  -- each table in it is filled as a fit says, and each shared value in it has a key that stands for it
+  pub suits : Fit → Keys → A → Type 0
 
 -- the state when the data of a value is written
 abbrev pub state_after : {A R : Type 0} → Spelling A R → A → State → State

@@ -32,7 +32,7 @@ pub record SpellsAt {A R : Type 0} (fit : Fit) (s : Shape) (knows : Names → Ty
   pub canonical :
       (st : State) (pos : ℕ) (names : Names) (keys : Keys) (bytes : List ℕ) (level : ℕ) (inside : List OpenShared)
       → knows names
-      → w.keyed_by keys x
+      → w.suits fit keys x
       → AreKeyedBy keys st.met
       → IsConsistent st
       → AllFrom (state_after w x st).pos inside
@@ -42,10 +42,10 @@ pub record SpellsAt {A R : Type 0} (fit : Fit) (s : Shape) (knows : Names → Ty
       → HasBytes bytes pos (w.own x (w.resolver x st) pos)
       → CanonicalPart fit names bytes level inside (visits_of st.met) (visits_of (w.met x st)) (at pos s) (w.value x st) st.pos (state_after w x st).pos
   pub consistent : (st : State) → IsConsistent st → w.piece_fits x st → IsConsistent (state_after w x st)
-  -- where its keys and those of the values met before stand for them, so do the keys of all values met behind it, and its
-  -- value is `plain` but for where shared ones stand
+  -- where it suits the fit and keys, and the keys of the values met before stand for them, so do those of all values met
+  -- behind it, and its value is `plain` but for where shared ones stand
   pub keyed :
-      (keys : Keys) (st : State) → w.keyed_by keys x → AreKeyedBy keys st.met → w.piece_fits x st
+      (keys : Keys) (st : State) → w.suits fit keys x → AreKeyedBy keys st.met → w.piece_fits x st
       → (erased (w.value x st) ≡ w.plain x) × AreKeyedBy keys (w.met x st)
   pub piece_bytes : (st : State) → w.piece_fits x st → AreBytes (w.piece x st)
   pub own_bytes : (r : R) (pos : ℕ) → w.own_fits x r pos → AreBytes (w.own x r pos)

@@ -64,7 +64,7 @@ text_spelling = record {
   piece_refused = λ t st e. text_piece_refused (is_short t) t st.pos e;
   own_fits = λ t to pos. IsUtf8 t × text_own_fits (is_short t) t to pos;
   own_refused = λ t to pos e. text_own_refused (is_short t) t to pos e;
-  keyed_by = λ keys t. ⊤;
+  suits = λ fit keys t. ⊤;
 }
 
 -- a pointer to a text, of whatever length; the resolver is the position of its first byte
@@ -80,5 +80,5 @@ boxed_text_spelling = record {
   piece_refused = λ t st e. (2 ^ 32 ≤ st.pos) × (e ≡ PositionTooLarge);
   own_fits = λ t to pos. FitsOffset pos to × (length t < 2 ^ 32);
   own_refused = λ t to pos e. ((FitsOffset pos to → ⊥) × (e ≡ IsizeOverflow)) ⊎ ((2 ^ 32 ≤ length t) × (e ≡ LengthTooLarge));
-  keyed_by = λ keys t. ⊤;
+  suits = λ fit keys t. ⊤;
 }

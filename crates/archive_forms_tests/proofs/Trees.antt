@@ -41,7 +41,7 @@ level_agrees w u (Tree' shape all) same =
       piece_refused = (p i).piece_refused;
       own_fits = λ r pos. (p i).own_fits r.pos pos;
       own_refused = λ r pos e. (p i).own_refused r.pos pos e;
-      keyed_by = (p i).keyed_by;
+      suits = (p i).suits;
     }
 
 tree_agrees : (x : Tree) → said (tree_level tree_spelling) x ≡ said tree_spelling x

@@ -17,6 +17,6 @@ MakesArchive s knows w members x old new =
     → IsAt members.pos members.known old initial
     → (fit : Fit) (names : Names) (keys : Keys)
     → knows names
-    → w.keyed_by keys x
+    → w.suits fit keys x
     → AreOneToOne keys
     → IsWritten s w x fit names (members.contents new)

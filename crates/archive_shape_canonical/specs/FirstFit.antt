@@ -1,7 +1,7 @@
 -- First fit: where the items of tables and index maps go whose keys are texts, by the hashes of their keys.
-use Rattle.std.specs.Prelude.{ℕ, ◌+◌, ◌*◌, ◌/◌, ◌%◌, ◌^◌, Bool, true, false, ◌==◌, ◌&&◌, ◌||◌, not, cond, max, nat_lt, List, [], ◌∷◌, ◌++◌, map}
+use Rattle.std.specs.Prelude.{ℕ, ◌+◌, ◌*◌, ◌/◌, ◌%◌, ◌^◌, Bool, true, false, ◌==◌, ◌&&◌, ◌||◌, not, cond, max, nat_lt, List, [], ◌∷◌, ◌++◌, map, Option, Some, None}
 use Rattle.std.specs.Option.{unwrap_or}
-use Rattle.std.specs.List.{find, flat_map, list_any, range_with_len}
+use Rattle.std.specs.List.{find, filter_map, flat_map, list_any, range_with_len}
 use Rattle.archive_shape_layout.specs.Value.{Value, Values, count_values}
 use Rattle.archive_shape_layout.specs.Value.Value.{string, group}
 use Rattle.archive_shape_layout.specs.Value.Values.{no_values, more_values}
@@ -80,10 +80,19 @@ abbrev pub numbers_at : ℕ → List ℕ → ℕ → List ℕ
 numbers_at i [] p = []
 numbers_at i (q ∷ qs) p = cond (q == p) (i ∷ []) (numbers_at (i + 1) qs p)
 
-abbrev pub keys_at : List (List ℕ) → List ℕ → ℕ → List (List ℕ)
-keys_at [] qs p = []
-keys_at (k ∷ ks) [] p = []
-keys_at (k ∷ ks) (q ∷ qs) p = cond (q == p) (k ∷ []) (keys_at ks qs p)
+-- the one of these that has a place, where each has the place beside it
+abbrev pub item_at : {C : Type 0} → List C → List ℕ → ℕ → Option C
+item_at [] qs p = None
+item_at (x ∷ xs) [] p = None
+item_at (x ∷ xs) (q ∷ qs) p = cond (q == p) (Some x) (item_at xs qs p)
+
+-- what stands at each of `cap` places
+abbrev pub placed : {C : Type 0} → ℕ → List ℕ → List C → List (Option C)
+placed cap qs xs = map (item_at xs qs) (range_with_len 0 cap)
+
+-- what stands there, by ascending place
+abbrev pub present : {C : Type 0} → List (Option C) → List C
+present os = filter_map (λ o. o) os
 
 module _ (hash : List ℕ → ℕ) where
   abbrev pub places_of : ℕ → List (List ℕ) → List ℕ
@@ -97,7 +106,7 @@ module _ (hash : List ℕ → ℕ) where
   numbers_of cap keys = let places = places_of cap keys in flat_map (numbers_at 0 places) (range_with_len 0 cap)
 
   abbrev pub placed_keys : ℕ → List (List ℕ) → List (List ℕ)
-  placed_keys cap keys = let places = places_of cap keys in flat_map (keys_at keys places) (range_with_len 0 cap)
+  placed_keys cap keys = present (placed cap (places_of cap keys) keys)
 
   -- a table takes its items by ascending keys, an index map in its own order
   abbrev pub first_fit : Fit
