@@ -14,7 +14,7 @@ use Rattle.archive_forms_spelling.specs.Serializing.{Serializes}
 use Rattle.archive_forms_writing.proofs.Laying.{Stops, stopped_before, stopped_first}
 use Rattle.archive_btree_spelling.specs.Maps.{btree_spelling}
 use Rattle.archive_btree_reading.specs.declared.resolving.BTreeMapResolver.{BTreeMapResolver}
-use Rattle.archive_btree_building.specs.Taking.{TakesEach, GivesAs}
+use Rattle.archive_forms_spelling.specs.Taking.{TakesEach, GivesAs}
 use Rattle.archive_btree_building.specs.Built.{IsShort, IsCutShort, BuildsClaimedBy}
 use Rattle.archive_btree.specs.Owned.{TakesEntries, entries_spelling}
 

@@ -25,10 +25,10 @@ use Rattle.archive_btree_layout.specs.Tree.{Tree, items}
 use Rattle.archive_btree_layout.proofs.Mapped.{tree_is_read}
 use Rattle.archive_btree_spelling.specs.Written.{entry_spelling}
 use Rattle.archive_btree_spelling.specs.Maps.{btree_spelling}
-use Rattle.archive_btree_reading.specs.Maps.{IsMapAt, IsMapOf, AreEntriesAt}
-use Rattle.archive_btree_reading.specs.Refs.{entry_at}
-use Rattle.archive_btree_reading.proofs.One.{one_map}
-use Rattle.archive_btree_reading.proofs.Read.{map_is_read}
+use Rattle.archive_btree_walking.specs.Maps.{IsMapAt, IsMapOf, AreEntriesAt}
+use Rattle.archive_btree_walking.specs.Refs.{entry_at}
+use Rattle.archive_btree_walking.proofs.One.{one_map}
+use Rattle.archive_btree_walking.proofs.Read.{map_is_read}
 use Rattle.archive_btree.specs.ReadBack.{inserted}
 
 -- a pair that is inserted behind others

@@ -11,7 +11,7 @@ use Rattle.archive_forms_spelling.specs.State.{State}
 use Rattle.archive_forms_spelling.specs.Spelling.{Spelling}
 use Rattle.archive_forms_writing.proofs.Laying.{Stops, stopped_first}
 use Rattle.archive_btree_spelling.specs.Maps.{btree_spelling}
-use Rattle.archive_btree_building.specs.Taking.{GivesAs}
+use Rattle.archive_forms_spelling.specs.Taking.{GivesAs}
 use Rattle.archive_btree_building.specs.Built.{IsShort, IsCutShort, BuildsClaimedBy}
 use Rattle.archive_btree.specs.Owned.{key_entry, key_of}
 

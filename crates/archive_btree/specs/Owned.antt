@@ -7,7 +7,7 @@ use Rattle.archive_forms_spelling.specs.Spelling.{Spelling}
 use Rattle.archive_forms_spelling.specs.Forms.{kept_as}
 use Rattle.archive_btree_reading.specs.declared.resolving.BTreeMapResolver.{BTreeMapResolver}
 use Rattle.archive_btree_spelling.specs.Maps.{btree_spelling}
-use Rattle.archive_btree_building.specs.Taking.{MayGive}
+use Rattle.archive_forms_spelling.specs.Taking.{MayGive}
 
 -- entries in order are archived as a search tree whose nodes have at most so many
 abbrev pub entries_spelling : {A B R Q : Type 0} → ℕ → Shape → Shape → Spelling A R → Spelling B Q → Spelling (List (A × B)) BTreeMapResolver

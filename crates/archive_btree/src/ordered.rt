@@ -3,7 +3,7 @@ ghost use Rattle.std.specs.Prelude.{◌≡◌, ℕ, ◌-◌, ◌^◌, ◌<◌, �
 ghost use Rattle.std.specs.Iterator.{IsFinite};
 ghost use Rattle.std.specs.Map.Iter.{deref_pair};
 ghost use Rattle.archive_forms_spelling.specs.Serializing.{HasState};
-ghost use Rattle.archive_btree_building.specs.Taking.{GivesAs};
+ghost use Rattle.archive_forms_spelling.specs.Taking.{GivesAs};
 ghost use Rattle.archive_btree_building.specs.Built.{BuildsClaimedBy};
 ghost use Rattle.archive_btree.specs.Owned.{TakesEntries};
 

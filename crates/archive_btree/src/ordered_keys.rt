@@ -5,7 +5,7 @@ ghost use Rattle.archive_shape_layout.specs.Shape.Shape.{tuple};
 ghost use Rattle.archive_shape_layout.specs.Shape.Shapes.{no_shapes};
 ghost use Rattle.archive_forms_spelling.specs.Fields.{unit_spelling};
 ghost use Rattle.archive_forms_spelling.specs.Serializing.{HasState};
-ghost use Rattle.archive_btree_building.specs.Taking.{GivesAs};
+ghost use Rattle.archive_forms_spelling.specs.Taking.{GivesAs};
 ghost use Rattle.archive_btree_building.specs.Built.{BuildsClaimedBy};
 ghost use Rattle.archive_btree.specs.Owned.{key_entry, key_of};
 

@@ -8,7 +8,7 @@ use Rattle.archive_forms_layout.specs.Text.{HasText}
 use Rattle.archive_forms_layout.proofs.Held.{held_is_text_law}
 use Rattle.archive_forms_reading.specs.Parts.{HasValue}
 use Rattle.archive_shape_references.specs.declared.refs.Ref.{Ref}
-use Rattle.archive_btree_reading.specs.Refs.{IsThere}
+use Rattle.archive_btree_walking.specs.Refs.{IsThere}
 use Rattle.archive_btree_bench.specs.Texts.{text_shape, number_shape, known}
 
 -- a text that the layout has

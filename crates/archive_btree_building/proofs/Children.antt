@@ -9,7 +9,7 @@ use Rattle.archive_shape_canonical.specs.Packed.{child_items}
 use Rattle.archive_btree_spelling.specs.Maps.{packed_spelling}
 use Rattle.archive_btree_spelling.specs.Laying.{LaysNode}
 use Rattle.archive_btree_building.specs.Built.{IsBuilt, IsCutShort}
-use Rattle.archive_btree_building.specs.Taking.{GivesAs, MayGiveAll}
+use Rattle.archive_forms_spelling.specs.Taking.{GivesAs, MayGiveAll}
 use Rattle.archive_btree_building.proofs.Opening.{Open, open_none, open_more, open_state}
 use Rattle.archive_btree_building.proofs.Closing.{child_cut, inner_built, inner_cut}
 use Rattle.std.specs.Prelude.{map}

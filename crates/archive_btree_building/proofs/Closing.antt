@@ -15,7 +15,7 @@ use Rattle.archive_btree_spelling.specs.Parted.{Parted, parted, shares, between}
 use Rattle.archive_btree_spelling.specs.Written.{tree_spelling}
 use Rattle.archive_btree_spelling.specs.Laying.{LaysNode}
 use Rattle.archive_btree_building.specs.Built.{IsBuilt, IsShort, IsCutShort}
-use Rattle.archive_btree_building.specs.Taking.{GivesAs}
+use Rattle.archive_forms_spelling.specs.Taking.{GivesAs}
 use Rattle.archive_btree_building.proofs.Taken.{Yields-append}
 use Rattle.archive_btree_building.proofs.Laying.{Stops, stops_before, stops_first, stops_behind}
 use Rattle.archive_btree_building.proofs.Parting.{leaf_parts, parted_leaf, parted_inner, next_share}

@@ -10,7 +10,7 @@ use Rattle.archive_forms_spelling.specs.Regions.{state_after_all}
 use Rattle.archive_shape_canonical.specs.Packed.{child_items}
 use Rattle.archive_btree_spelling.specs.Parted.{shares, between}
 use Rattle.archive_btree_building.specs.Built.{IsBuilt}
-use Rattle.archive_btree_building.specs.Taking.{MayGiveAll, GivesAs}
+use Rattle.archive_forms_spelling.specs.Taking.{MayGiveAll, GivesAs}
 use Rattle.archive_btree_building.proofs.Taken.{Yields-append, Yields-more, Yields-seen, may_give_more}
 use Rattle.archive_btree_building.proofs.Parting.{shares_more, between_more}
 use Rattle.archive_btree_building.proofs.Rooted.{Rooted, rooted_none, rooted_more}

@@ -14,7 +14,7 @@ use Rattle.archive_shape_canonical.specs.Packed.{levels_for}
 use Rattle.archive_btree_spelling.specs.Maps.{packed_spelling, btree_spelling}
 use Rattle.archive_btree_spelling.proofs.Counts.{levels_between}
 use Rattle.archive_btree_building.specs.Built.{IsBuilt, IsShort, IsCutShort, IsExceeded}
-use Rattle.archive_btree_building.specs.Taking.{GivesAs}
+use Rattle.archive_forms_spelling.specs.Taking.{GivesAs}
 use Rattle.archive_btree_building.proofs.Taken.{Yields-append, Yields-as}
 use Rattle.archive_btree_building.proofs.Laying.{Stops, stops_first}
 

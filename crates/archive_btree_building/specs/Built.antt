@@ -9,7 +9,7 @@ use Rattle.archive_forms_spelling.specs.State.{State}
 use Rattle.archive_forms_spelling.specs.Spelling.{Spelling}
 use Rattle.archive_forms_spelling.specs.Serializing.{IsAt, Lays, Serializes}
 use Rattle.archive_btree_spelling.specs.Maps.{packed_spelling, btree_spelling}
-use Rattle.archive_btree_building.specs.Taking.{GivesAs}
+use Rattle.archive_forms_spelling.specs.Taking.{GivesAs}
 
 module _ {C R W I : Type 0} (w : Spelling (List C) R) (members : WriterMembers W) (gives : I → Option C → I → Type 0) where
   -- so many items came, and were written

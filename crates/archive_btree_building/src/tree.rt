@@ -2,7 +2,7 @@
 ghost use Rattle.std.specs.Prelude.{◌≡◌, ℕ, ◌+◌, ◌-◌, ◌*◌, ◌^◌, ◌<◌, ◌≤◌, length, suc, OnOk};
 ghost use Rattle.std.specs.Iterator.{IsFinite};
 ghost use Rattle.archive_forms_spelling.specs.Serializing.{HasState};
-ghost use Rattle.archive_btree_building.specs.Taking.{GivesAs, TakesEach};
+ghost use Rattle.archive_forms_spelling.specs.Taking.{GivesAs, TakesEach};
 ghost use Rattle.archive_btree_building.specs.Built.{Builds, BuildsLesser, BuildsClaimed};
 
 use crate::NodeStep;

@@ -17,10 +17,10 @@ use Rattle.archive_forms_ordering.specs.Orders.{Equality}
 use Rattle.archive_forms_reading.specs.Parts.{both}
 use Rattle.archive_forms_comparing.proofs.Ordered.{equal_end}
 use Rattle.archive_forms_comparing.proofs.Elements.{equal_ends}
-use Rattle.archive_btree_reading.specs.Maps.{IsMapAt, AreEntriesAt}
-use Rattle.archive_btree_reading.specs.Refs.{entry_at}
+use Rattle.archive_btree_walking.specs.Maps.{IsMapAt, AreEntriesAt}
+use Rattle.archive_btree_walking.specs.Refs.{entry_at}
 use Rattle.archive_btree_reading.specs.Comparing.{pair_equality, IsPairAt, HasPairs, ArePairsAt}
-use Rattle.archive_btree_reading.proofs.Read.{map_is_read}
+use Rattle.archive_btree_walking.proofs.Read.{map_is_read}
 
 -- one of two lists that are as long has ended, and so the first has
 pub first_ended : (A B : Type 0) (xs : List A) (ys : List B) → ((u : List A) × ((xs ≡ []) × (u ≡ []))) ⊎ ((u : List B) × ((ys ≡ []) × (u ≡ []))) → length xs ≡ length ys → length xs ≡ 0

@@ -1,14 +1,5 @@
-pub mod One
-pub mod Read
-pub mod Refs
-pub mod Roots
-pub mod Held
-pub mod Links
 pub mod Equality
 pub mod Compared
 pub mod Fed
-pub mod Between
-pub mod Runs
 pub mod Same
-pub mod Sealed
 pub mod SealedCalls

@@ -14,12 +14,12 @@ use Rattle.archive_btree_layout.specs.Tree.{items}
 use Rattle.archive_btree_searching.specs.Ranges.{before_key, IsRun}
 use Rattle.archive_btree_searching.specs.Walking.{stack_items}
 use Rattle.archive_btree_searching.specs.declared.stepping.EntryWalk.{EntryWalk}
-use Rattle.archive_btree_reading.specs.Seals.{IsLent}
+use Rattle.archive_btree_walking.specs.Seals.{IsLent}
 use Rattle.archive_btree_reading.specs.SealedVisits.{CallsSealed, VisitsSealed}
 use Rattle.archive_btree_reading.specs.SealedVisits.VisitsSealed.{breaks_at, goes_on}
-use Rattle.archive_btree_reading.specs.Walks.{BegunMap, IsWritten, GoesOn}
-use Rattle.archive_btree_reading.proofs.One.{one_map}
-use Rattle.archive_btree_reading.proofs.Sealed.{first_among, map_at, value_written}
+use Rattle.archive_btree_walking.specs.Walks.{BegunMap, IsWritten, GoesOn}
+use Rattle.archive_btree_walking.proofs.One.{one_map}
+use Rattle.archive_btree_walking.proofs.Sealed.{first_among, map_at, value_written}
 
 -- bytes that are split around the own bytes of a value, which are so many
 pub record IsSplit (bytes : List ℕ) (at size : ℕ) (before rest own after : List ℕ) : Type 0 where

@@ -1,12 +1,5 @@
-pub mod Maps
-pub mod Refs
-pub mod Lookups
-pub mod Ranges
 pub mod Visits
 pub mod Comparing
 pub mod StdMaps
 pub mod Hashing
-pub mod Walks
-pub mod Seals
-pub mod Cursors
 pub mod SealedVisits

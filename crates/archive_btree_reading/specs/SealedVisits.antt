@@ -10,7 +10,7 @@ use Rattle.archive_shape_references.specs.declared.refs.Ref.{Ref}
 use Rattle.archive_shape_references.specs.declared.own_seal.OwnSeal.{OwnSeal}
 use Rattle.archive_btree_layout.specs.Reading.{Place}
 use Rattle.archive_forms_reading.specs.Parts.{HasValue}
-use Rattle.archive_btree_reading.specs.Seals.{IsLent}
+use Rattle.archive_btree_walking.specs.Seals.{IsLent}
 
 -- whatever it has become, the closure may be called with the key and the value of an entry
 abbrev pub MayCallSealed : {F K V : Type 0} → (F → Ref K → MutBor (OwnSeal V) → Type 0) → Shape → (Names → Type 0) → ℕ → List ℕ → Place → Type 0

@@ -3,7 +3,7 @@ use Rattle.std.specs.Prelude.{ℕ, List}
 use Rattle.std.specs.declared.cmp.Ordering.{Ordering}
 use Rattle.archive_shape_references.specs.declared.refs.Ref.{Ref}
 use Rattle.archive_btree_layout.specs.Reading.{Place}
-use Rattle.archive_btree_reading.specs.Lookups.{IsSameAs}
+use Rattle.archive_btree_walking.specs.Lookups.{IsSameAs}
 
 module _ {Q W : Type 0} (key_of : List ℕ → ℕ → Q → Type 0) (key_order : Q → Q → Ordering) (value_of : List ℕ → ℕ → W → Type 0) (value_order : W → W → Ordering) where
   -- the key at a place is the same as that of a pair, and the value as its value

@@ -3,7 +3,7 @@ use denote.Ref.{Bor}
 use Rattle.std.specs.Prelude.{ℕ, List}
 use Rattle.archive_shape_references.specs.declared.refs.Ref.{Ref}
 use Rattle.archive_btree_searching.specs.declared.node.EntryAt.{EntryAt}
-use Rattle.archive_btree_reading.specs.Refs.{ref_at}
+use Rattle.archive_btree_walking.specs.Refs.{ref_at}
 
 module _ {F K V : Type 0} where
   -- the closure may be called with the key and the value of an entry

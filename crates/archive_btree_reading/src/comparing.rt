@@ -8,7 +8,8 @@ ghost use Rattle.archive_forms_ordering.proofs.Forms.{equivalences};
 ghost use Rattle.archive_forms_reading.specs.Parts.{HasValue, both};
 ghost use Rattle.archive_btree_reading.specs.Comparing.{pair_equality, map_equality, IsPairAt, HasPairs, ArePairsAt};
 
-use crate::{ArchivedBTreeMap, Iter};
+use crate::ArchivedBTreeMap;
+use archive_btree_walking::Iter;
 use archive_forms_comparing::ArchivedEq;
 use archive_shape_references::Ref;
 

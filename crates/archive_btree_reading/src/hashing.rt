@@ -7,7 +7,8 @@ ghost use Rattle.archive_forms_ordering.proofs.Forms.{alike};
 ghost use Rattle.archive_btree_reading.specs.Comparing.{HasPairs, ArePairsAt};
 ghost use Rattle.archive_btree_reading.specs.Hashing.{pair_hashed, map_hashed};
 
-use crate::{ArchivedBTreeMap, Iter};
+use crate::ArchivedBTreeMap;
+use archive_btree_walking::Iter;
 use archive_forms_hashing::ArchivedHash;
 use archive_shape_references::Ref;
 use std::hash::Hasher;

@@ -6,10 +6,10 @@ ghost use Rattle.archive_shape_portable.proofs.Naming.{first_types, other_types}
 ghost use Rattle.archive_btree_layout.specs.Tree.{Tree, items};
 ghost use Rattle.archive_btree_layout.specs.Reading.{Place};
 ghost use Rattle.archive_forms_reading.specs.Parts.{HasValue, both};
-ghost use Rattle.archive_btree_reading.specs.Maps.{IsMapAt};
+ghost use Rattle.archive_btree_walking.specs.Maps.{IsMapAt};
 
-use crate::root::count_at;
 use archive_btree_checking::check_btree_each;
+use archive_btree_walking::count_at;
 use archive_shape_checking::{ArchiveContext, CheckBytes, Error};
 use archive_shape_portable::{NoUndef, Portable, Shape};
 use archive_shape_references::Ref;

@@ -3,10 +3,10 @@ ghost use Rattle.std.specs.Prelude.{◌≡◌, ◌+◌, ◌^◌, ◌<◌, ◌≤
 ghost use Rattle.std.specs.Int.{w32, to_le_bytes};
 ghost use Rattle.archive_shape_references.specs.Bytes.{overwrite};
 ghost use Rattle.archive_shape_writing.specs.declared.error.Error.TheVariants.{LengthTooLarge};
-ghost use Rattle.archive_btree_spelling.specs.Written.{link_bytes, LinkFits, LinkRefused};
+ghost use Rattle.archive_forms_spelling.specs.Links.{link_bytes, LinkFits, LinkRefused};
 
 use crate::ArchivedBTreeMap;
-use archive_shape_pointers::RawRelPtrI32;
+use archive_forms_links::emplace_link;
 use archive_shape_portable::{ArchivedU32, Portable};
 use archive_shape_references::Place;
 use archive_shape_writing::Error;
@@ -22,26 +22,6 @@ impl BTreeMapResolver {
         ensures { result.pos ≡ pos }
     {
         BTreeMapResolver { pos }
-    }
-}
-
-/// Writes the pointer to a root, or the one that leads to nothing. Refuses an offset that does not fit with
-/// `IsizeOverflow`.
-fn emplace_root(root: Option<usize>, out: Place<'_, RawRelPtrI32>) -> Result<(), Error>
-    requires { out.start + 4 ≤ length out.out.now }
-    ensures { MatchResult result
-        (λ _. LinkFits root out.entry.pos × (out.exit.0.now ≡ overwrite out.entry.out.now out.entry.start (link_bytes root out.entry.pos)))
-        (λ e. LinkRefused root out.entry.pos e × (out.exit.0.now ≡ out.entry.out.now)) }
-{
-    let Place {
-        out,
-        start,
-        pos,
-        ..
-    } = out;
-    match root {
-        Some(to) => RawRelPtrI32::try_emplace(to, Place::within(out, start, pos)),
-        None => RawRelPtrI32::try_emplace_invalid(Place::within(out, start, pos)),
     }
 }
 
@@ -69,7 +49,7 @@ impl<K: Portable, V: Portable, const E: usize> ArchivedBTreeMap<K, V, E> {
         let Ok(count) = u32::try_from(len) else {
             return Err(Error::LengthTooLarge);
         };
-        emplace_root(resolver.pos, Place::within(&mut *out, start, pos))?;
+        emplace_link(resolver.pos, Place::within(&mut *out, start, pos))?;
         Place::<ArchivedU32>::within(out, start + 4, pos.saturating_add(4)).write(count);
         Ok(())
     }

@@ -5,11 +5,12 @@ ghost use Rattle.archive_shape_layout.specs.Shape.Shape.{tree};
 ghost use Rattle.archive_btree_layout.specs.Tree.{Tree, items};
 ghost use Rattle.archive_btree_layout.specs.Reading.{Place};
 ghost use Rattle.archive_forms_reading.specs.Parts.{HasValue, both};
-ghost use Rattle.archive_btree_reading.specs.Maps.{IsMapAt};
-ghost use Rattle.archive_btree_reading.specs.Refs.{IsThere};
+ghost use Rattle.archive_btree_walking.specs.Maps.{IsMapAt};
+ghost use Rattle.archive_btree_walking.specs.Refs.{IsThere};
 ghost use Rattle.archive_btree_reading.specs.StdMaps.{IsSamePair, IsSameEntry};
 
-use crate::{ArchivedBTreeMap, Iter};
+use crate::ArchivedBTreeMap;
+use archive_btree_walking::Iter;
 use archive_shape::ArchivedKey;
 use archive_shape_references::Ref;
 use std::alloc::Allocator;

@@ -5,12 +5,12 @@ ghost use Rattle.archive_btree_layout.specs.Tree.{Tree, items};
 ghost use Rattle.archive_btree_layout.specs.Reading.{Place};
 ghost use Rattle.archive_btree_searching.specs.Visiting.{VisitsAll, BreaksWith, IsCallableAt};
 ghost use Rattle.archive_forms_reading.specs.Parts.{HasValue, both};
-ghost use Rattle.archive_btree_reading.specs.Maps.{IsMapAt};
-ghost use Rattle.archive_btree_reading.specs.Refs.{key_at, value_at, entry_at};
+ghost use Rattle.archive_btree_walking.specs.Maps.{IsMapAt};
+ghost use Rattle.archive_btree_walking.specs.Refs.{key_at, value_at, entry_at};
 ghost use Rattle.archive_btree_reading.specs.Visits.{MayCallAt, CallsAt};
 
-use crate::root::walk_at;
-use crate::{ArchivedBTreeMap, Iter, Keys, Values};
+use crate::ArchivedBTreeMap;
+use archive_btree_walking::{Iter, Keys, Values, walk_at};
 use archive_shape_portable::Portable;
 use archive_shape_references::Ref;
 use std::ops::ControlFlow;

@@ -11,10 +11,10 @@ use Rattle.archive_shape_references.specs.declared.refs.Ref.{Ref}
 use Rattle.archive_btree_layout.specs.Reading.{Place}
 use Rattle.archive_btree_layout.specs.Tree.{Tree, items}
 use Rattle.archive_forms_reading.specs.Parts.{HasValue}
-use Rattle.archive_btree_reading.specs.Maps.{IsMapOf}
-use Rattle.archive_btree_reading.specs.Refs.{key_at}
-use Rattle.archive_btree_reading.proofs.Held.{entries_are}
-use Rattle.archive_btree_reading.proofs.Roots.{tree_of_value}
+use Rattle.archive_btree_walking.specs.Maps.{IsMapOf}
+use Rattle.archive_btree_walking.specs.Refs.{key_at}
+use Rattle.archive_btree_walking.proofs.Held.{entries_are}
+use Rattle.archive_btree_walking.proofs.Roots.{tree_of_value}
 use Rattle.archive_btree_sets.specs.Sets.{HasSet, IsSetAt}
 
 module _ {k : Shape} {knows : Names → Type 0} {most pos : ℕ} where

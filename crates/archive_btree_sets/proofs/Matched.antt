@@ -7,8 +7,8 @@ use Rattle.std.specs.declared.cmp.Ordering.{Ordering}
 use Rattle.std.specs.declared.cmp.Ordering.TheVariants.{Less, Equal, Greater}
 use Rattle.archive_shape_references.specs.declared.refs.Ref.{Ref}
 use Rattle.archive_btree_layout.specs.Reading.{Place}
-use Rattle.archive_btree_reading.specs.Refs.{key_at}
-use Rattle.archive_btree_reading.specs.Lookups.{IsEqualKey}
+use Rattle.archive_btree_walking.specs.Refs.{key_at}
+use Rattle.archive_btree_walking.specs.Lookups.{IsEqualKey}
 
 tied : (o : Ordering) → true ≡ is_eq o → o ≡ Equal
 tied Less e = absurd cc

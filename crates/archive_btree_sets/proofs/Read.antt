@@ -21,8 +21,8 @@ use Rattle.archive_shape.specs.Key.{HeldAt}
 use Rattle.archive_forms_ordering.specs.Views.{listed, elements_of}
 use Rattle.archive_forms_reading.proofs.Inside.{none_held}
 use Rattle.archive_forms_reading.proofs.Pointed.{made_whole}
-use Rattle.archive_btree_reading.specs.Maps.{AreEntriesAt}
-use Rattle.archive_btree_reading.proofs.Read.{map_is_read}
+use Rattle.archive_btree_walking.specs.Maps.{AreEntriesAt}
+use Rattle.archive_btree_walking.proofs.Read.{map_is_read}
 use Rattle.archive_btree_sets.specs.Sets.{set_knows}
 use Rattle.archive_btree_sets.specs.Keys.{key_in, pairs_of, SetIsRead}
 

@@ -7,7 +7,7 @@ use Rattle.archive_shape_layout.specs.Content.{Names}
 use Rattle.archive_btree_layout.specs.Reading.{Place}
 use Rattle.archive_btree_layout.specs.Tree.{Tree}
 use Rattle.archive_forms_reading.specs.Parts.{HasValue, both}
-use Rattle.archive_btree_reading.specs.Maps.{IsMapAt}
+use Rattle.archive_btree_walking.specs.Maps.{IsMapAt}
 
 -- the layout of a set with at most so many keys in a node
 abbrev pub set_shape : ℕ → Shape → Shape

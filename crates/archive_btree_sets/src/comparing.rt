@@ -5,7 +5,7 @@ ghost use Rattle.std.specs.Cmp.{on_equiv};
 ghost use Rattle.std.specs.Cmp.Lexicographic.{lists_equiv};
 ghost use Rattle.archive_btree_layout.specs.Tree.{Tree, items};
 ghost use Rattle.archive_btree_layout.specs.Reading.{Place};
-ghost use Rattle.archive_btree_reading.specs.Lookups.{IsEqualKey};
+ghost use Rattle.archive_btree_walking.specs.Lookups.{IsEqualKey};
 ghost use Rattle.archive_btree_sets.specs.Sets.{HasSet, IsSetAt};
 ghost use Rattle.archive_btree_sets.specs.Keys.{keys_of};
 ghost use Rattle.archive_btree_sets.specs.Comparing.{set_equality};

@@ -6,8 +6,8 @@ ghost use Rattle.archive_btree_layout.specs.Tree.{Tree, items};
 ghost use Rattle.archive_btree_layout.specs.Descent.{descend};
 ghost use Rattle.archive_btree_layout.specs.Reading.{Place};
 ghost use Rattle.archive_forms_reading.specs.Parts.{HasValue};
-ghost use Rattle.archive_btree_reading.specs.Refs.{key_at};
-ghost use Rattle.archive_btree_reading.specs.Lookups.{QueryOrders, IsEqualKey, Finds};
+ghost use Rattle.archive_btree_walking.specs.Refs.{key_at};
+ghost use Rattle.archive_btree_walking.specs.Lookups.{QueryOrders, IsEqualKey, Finds};
 ghost use Rattle.archive_btree_sets.specs.Sets.{HasSet, IsSetAt};
 
 use crate::ArchivedBTreeSet;

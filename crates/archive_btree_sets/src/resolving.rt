@@ -3,7 +3,7 @@ ghost use Rattle.std.specs.Prelude.{◌≡◌, ◌+◌, ◌^◌, ◌<◌, ◌≤
 ghost use Rattle.std.specs.Int.{w32, to_le_bytes};
 ghost use Rattle.archive_shape_references.specs.Bytes.{overwrite};
 ghost use Rattle.archive_shape_writing.specs.declared.error.Error.TheVariants.{LengthTooLarge};
-ghost use Rattle.archive_btree_spelling.specs.Written.{link_bytes, LinkFits, LinkRefused};
+ghost use Rattle.archive_forms_spelling.specs.Links.{link_bytes, LinkFits, LinkRefused};
 
 use crate::ArchivedBTreeSet;
 use archive_btree_reading::ArchivedBTreeMap;

@@ -4,7 +4,7 @@ ghost use Rattle.std.proofs.Common.{refl, lit<, lit≤};
 ghost use Rattle.archive_shape_portable.proofs.Naming.{first_types};
 ghost use Rattle.archive_btree_layout.specs.Tree.{Tree, items};
 ghost use Rattle.archive_btree_layout.specs.Reading.{Place};
-ghost use Rattle.archive_btree_reading.specs.Refs.{ref_at};
+ghost use Rattle.archive_btree_walking.specs.Refs.{ref_at};
 ghost use Rattle.archive_btree_sets.specs.Sets.{set_shape, set_knows, HasSet, IsSetAt};
 
 use archive_btree_reading::ArchivedBTreeMap;

@@ -2,7 +2,7 @@
 ghost use Rattle.std.specs.Prelude.{◌≡◌, map, All, MatchOption};
 ghost use Rattle.archive_btree_layout.specs.Tree.{Tree, items};
 ghost use Rattle.archive_btree_layout.specs.Reading.{Place};
-ghost use Rattle.archive_btree_reading.specs.Refs.{key_at};
+ghost use Rattle.archive_btree_walking.specs.Refs.{key_at};
 ghost use Rattle.archive_btree_sets.specs.Sets.{HasSet, IsSetAt};
 ghost use Rattle.archive_btree_sets.specs.Visits.{VisitsAll, BreaksWith};
 

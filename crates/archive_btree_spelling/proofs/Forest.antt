@@ -16,7 +16,7 @@ use Rattle.archive_shape_references.specs.Bytes.{HasBytes}
 use Rattle.archive_forms_spelling.specs.State.{State, Keys, visits_of, IsConsistent, AllFrom, AreKeyedBy}
 use Rattle.archive_forms_spelling.specs.Spelling.{Spelling}
 use Rattle.archive_forms_spelling.specs.Spells.{CanonicalPart}
-use Rattle.archive_forms_spelling.specs.Regions.{state_after_all, values, plain_values, all_keyed_by}
+use Rattle.archive_forms_spelling.specs.Regions.{state_after_all, values, plain_values, all_suit}
 use Rattle.archive_forms_spelling.proofs.States.{consistent_advanced}
 use Rattle.archive_forms_spelling.proofs.Gaps.{bytes_none}
 use Rattle.archive_btree_spelling.specs.Parted.{Parted, parted, shares, between}
@@ -25,8 +25,8 @@ use Rattle.archive_btree_spelling.specs.Maps.{packed_spelling}
 use Rattle.archive_btree_spelling.proofs.Levels.{levels_hold}
 use Rattle.archive_btree_spelling.proofs.Slots.{EachEntrySpells}
 use Rattle.archive_btree_spelling.proofs.Shares.{IsWoven, AreLow, Shared, shared}
-use Rattle.archive_btree_spelling.proofs.Trees.{Counted, Rooted, TreeSpells, EachTreeSpells, AllKeyed, AllSmall, plain_children, length-links-below}
-use Rattle.archive_btree_spelling.proofs.Weaving.{plain_groups, count_woven, count_of_values, plain_woven, erased_weave, keyed_append}
+use Rattle.archive_btree_spelling.proofs.Trees.{Counted, Rooted, TreeSpells, EachTreeSpells, AllSuit, AllSmall, plain_children, length-links-below}
+use Rattle.archive_btree_spelling.proofs.Weaving.{plain_groups, count_woven, count_of_values, plain_woven, erased_weave, suits_append}
 use Rattle.archive_btree_spelling.proofs.Nodes.{Roomy, roomy, node_end, leaf_of, leaf_canonical, inner_of, inner_canonical, values_counted}
 use Rattle.archive_btree_spelling.proofs.Whole.{node_consistent, node_keyed, node_piece_bytes, node_exact}
 
@@ -62,15 +62,15 @@ module _ {A B R Q : Type 0} (fit : Fit) (most : ℕ) (k v : Shape) (knows : Name
       let rest = each_woven l w of_list n h.0 (d ∷ ds) es h.2 low.1 parts.1.1 in
       ((of_list c parts.0 low.0, rest.0), (parts.1.0, rest.1))
 
-  pub keyed_woven : (l : ℕ) (w : Spelling (List (A × B)) (Option ℕ)) (given : Keys) (xs : List (A × B)) (xss : List (List (A × B))) (es : List (A × B)) → IsWoven xs xss es → all_keyed_by (entry_spelling most k v keys vals) given xs
-      → AllKeyed fit most k v knows keys vals l w given xss × all_keyed_by (entry_spelling most k v keys vals) given es
-  keyed_woven l w given xs [] es h n = absurd h
-  keyed_woven l w given xs (c ∷ []) [] h n = ((subst (all_keyed_by (entry_spelling most k v keys vals) given) h n, tt), tt)
-  keyed_woven l w given xs (c ∷ []) (e ∷ es) h n = absurd h
-  keyed_woven l w given xs (c ∷ (d ∷ ds)) [] h n = absurd h
-  keyed_woven l w given xs (c ∷ (d ∷ ds)) (e ∷ es) h n =
-      let parts = keyed_append (entry_spelling most k v keys vals) given c (e ∷ h.0) (subst (all_keyed_by (entry_spelling most k v keys vals) given) h.1 n) in
-      let rest = keyed_woven l w given h.0 (d ∷ ds) es h.2 parts.1.1 in
+  pub suits_woven : (l : ℕ) (w : Spelling (List (A × B)) (Option ℕ)) (given : Keys) (xs : List (A × B)) (xss : List (List (A × B))) (es : List (A × B)) → IsWoven xs xss es → all_suit (entry_spelling most k v keys vals) fit given xs
+      → AllSuit fit most k v knows keys vals l w given xss × all_suit (entry_spelling most k v keys vals) fit given es
+  suits_woven l w given xs [] es h n = absurd h
+  suits_woven l w given xs (c ∷ []) [] h n = ((subst (all_suit (entry_spelling most k v keys vals) fit given) h n, tt), tt)
+  suits_woven l w given xs (c ∷ []) (e ∷ es) h n = absurd h
+  suits_woven l w given xs (c ∷ (d ∷ ds)) [] h n = absurd h
+  suits_woven l w given xs (c ∷ (d ∷ ds)) (e ∷ es) h n =
+      let parts = suits_append (entry_spelling most k v keys vals) fit given c (e ∷ h.0) (subst (all_suit (entry_spelling most k v keys vals) fit given) h.1 n) in
+      let rest = suits_woven l w given h.0 (d ∷ ds) es h.2 parts.1.1 in
       ((parts.0, rest.0), (parts.1.0, rest.1))
 
   plain_lists : (l : ℕ) (w : Spelling (List (A × B)) (Option ℕ)) (xs : List (A × B)) (xss : List (List (A × B))) (es : List (A × B)) → IsWoven xs xss es
@@ -90,7 +90,7 @@ module _ {A B R Q : Type 0} (fit : Fit) (most : ℕ) (k v : Shape) (knows : Name
           → t + suc l ≤ 33
           → length xs < 2 ^ 32
           → knows names
-          → all_keyed_by (entry_spelling most k v keys vals) given xs
+          → all_suit (entry_spelling most k v keys vals) fit given xs
           → AreKeyedBy given st.met
           → IsConsistent st
           → AllFrom (st.pos + length (node_piece most k v keys vals w p st)) inside
@@ -99,7 +99,7 @@ module _ {A B R Q : Type 0} (fit : Fit) (most : ℕ) (k v : Shape) (knows : Name
           → CanonicalPart fit names bytes level inside (visits_of st.met) (visits_of (state_after_entries most k v keys vals w p st).met) (node t most k v (node_at most k v keys vals w p st)) (group (node_values most k v keys vals w p st)) st.pos (st.pos + length (node_piece most k v keys vals w p st))
       pub counted : (st : State) → Counted (length xs) (group (node_values most k v keys vals w p st))
       pub keyed :
-          (given : Keys) (st : State) → all_keyed_by (entry_spelling most k v keys vals) given xs → AreKeyedBy given st.met → node_fits most k v keys vals w p st
+          (given : Keys) (st : State) → all_suit (entry_spelling most k v keys vals) fit given xs → AreKeyedBy given st.met → node_fits most k v keys vals w p st
           → (erased (group (node_values most k v keys vals w p st)) ≡ group (plain_values (entry_spelling most k v keys vals) xs)) × AreKeyedBy given (state_after_entries most k v keys vals w p st).met
       pub below : EachTreeSpells fit most k v knows keys vals l w p.below
       pub own : EachEntrySpells fit most k v knows keys vals p.own
@@ -144,7 +144,7 @@ module _ {A B R Q : Type 0} (fit : Fit) (most : ℕ) (k v : Shape) (knows : Name
               (roomy fit most k v knows keys vals w p st _ laws.1 few f.1.2.0 f.1.2.1 (length-links-below fit most k v knows keys vals l w xss st _ ∙ ap (λ z. z * 4) (let e = parts.pointers in omega (arith, e))))
               (omega arith);
           canonical = λ st names given bytes level inside t low small kn m known state over f s.
-              let named = keyed_woven l w given xs xss es parts.woven m in
+              let named = suits_woven l w given xs xss es parts.woven m in
               inner_canonical fit most k v knows keys vals w l xs xss es laws.0 laws.1 st names given bytes level inside t more parts.pointers parts.own parts.woven parts.are_shares low
               (small_woven fit most k v knows keys vals l w xs xss es parts.woven small) kn named.0 named.1 known state over f s;
           counted = λ st. record {
@@ -153,7 +153,7 @@ module _ {A B R Q : Type 0} (fit : Fit) (most : ℕ) (k v : Shape) (knows : Name
             count = count_woven xs xss es (values w xss st) (values (entry_spelling most k v keys vals) es (state_after_all w xss st)) parts.woven (values_counted fit most k v knows keys vals w l xss laws.0 st) (count_of_values (entry_spelling most k v keys vals) es (state_after_all w xss st));
           };
           keyed = λ given st m known f.
-              let named = keyed_woven l w given xs xss es parts.woven m in
+              let named = suits_woven l w given xs xss es parts.woven m in
               let both = node_keyed fit most k v knows keys vals l w p (omega arith) laws.0 laws.1 given st named.0 named.1 known f in (
                 ap group
                     (erased_weave xss (values w xss st) (values (entry_spelling most k v keys vals) es (state_after_all w xss st)) (values_counted fit most k v knows keys vals w l xss laws.0 st)

@@ -24,14 +24,16 @@ use Rattle.archive_shape_writing.specs.declared.error.Error.{Error}
 use Rattle.archive_forms_spelling.specs.State.{State, Keys, visits_of, IsConsistent, AllFrom, AreKeyedBy}
 use Rattle.archive_forms_spelling.specs.Spelling.{Spelling, state_after}
 use Rattle.archive_forms_spelling.specs.Spells.{CanonicalPart, SpellsAt, Spells}
-use Rattle.archive_forms_spelling.specs.Regions.{all_keyed_by}
+use Rattle.archive_forms_spelling.specs.Regions.{all_suit}
 use Rattle.archive_forms_spelling.proofs.Gaps.{bytes_append, bytes_word}
 use Rattle.archive_forms_spelling.proofs.Pointers.{offset_stands, one_part}
-use Rattle.archive_btree_spelling.specs.Written.{entry_spelling, link_bytes, LinkFits}
+use Rattle.archive_forms_spelling.proofs.Links.{link_small, link_exact}
+use Rattle.archive_forms_spelling.specs.Links.{link_bytes, LinkFits}
+use Rattle.archive_btree_spelling.specs.Written.{entry_spelling}
 use Rattle.archive_btree_spelling.specs.Maps.{packed_spelling, btree_spelling}
 use Rattle.archive_btree_spelling.proofs.Levels.{levels_of_words}
 use Rattle.archive_btree_spelling.proofs.Slots.{EachEntrySpells}
-use Rattle.archive_btree_spelling.proofs.Trees.{TreeSpells, count_keys_alone, link_small, link_exact}
+use Rattle.archive_btree_spelling.proofs.Trees.{TreeSpells, count_keys_alone}
 use Rattle.archive_btree_spelling.proofs.Forest.{packed_spells}
 
 length-map : (o : Option ℕ) (pos n : ℕ) → length (link_bytes o pos ++ to_le_bytes w32 n) ≡ 8
@@ -73,7 +75,7 @@ module _ {A B R Q : Type 0} (fit : Fit) (most : ℕ) (k v : Shape) (knows : Name
     map_canonical :
         (st : State) (pos : ℕ) (names : Names) (given : Keys) (bytes : List ℕ) (level : ℕ) (inside : List OpenShared)
         → knows names
-        → all_keyed_by (entry_spelling most k v keys vals) given xs
+        → all_suit (entry_spelling most k v keys vals) fit given xs
         → AreKeyedBy given st.met
         → IsConsistent st
         → AllFrom (state_after (btree_spelling most k v keys vals) xs st).pos inside

@@ -25,14 +25,14 @@ use Rattle.archive_shape_references.proofs.Pieces.{stands_left, stands_right, st
 use Rattle.archive_forms_spelling.specs.State.{State, Keys, visits_of, IsConsistent, AllFrom, AreKeyedBy}
 use Rattle.archive_forms_spelling.specs.Spelling.{Spelling, state_after}
 use Rattle.archive_forms_spelling.specs.Spells.{CanonicalPart}
-use Rattle.archive_forms_spelling.specs.Regions.{state_after_all, values, all_keyed_by, pieces}
+use Rattle.archive_forms_spelling.specs.Regions.{state_after_all, values, all_suit, pieces}
 use Rattle.archive_forms_spelling.proofs.States.{from_earlier}
 use Rattle.archive_forms_spelling.proofs.Regions.{CanonicalParts, state_after_all_pos}
 use Rattle.archive_btree_spelling.specs.Parted.{Parted}
 use Rattle.archive_btree_spelling.specs.Written.{entry_spelling, state_after_children, state_after_entries, linked, own_size, words, own_bytes, node_at, node_piece, node_fits}
 use Rattle.archive_btree_spelling.proofs.Slots.{EachEntrySpells, KeysFit, ValuesFit, key_slots, value_slots, pair_shape, length-key-slots, length-value-slots, entries_canonical}
 use Rattle.archive_btree_spelling.proofs.Shares.{IsWoven, AreShares}
-use Rattle.archive_btree_spelling.proofs.Trees.{EachTreeSpells, AllKeyed, AllSmall, length-links-below, children_after_pos, children_consistent, children_keyed, children_canonical}
+use Rattle.archive_btree_spelling.proofs.Trees.{EachTreeSpells, AllSuit, AllSmall, length-links-below, children_after_pos, children_consistent, children_keyed, children_canonical}
 use Rattle.archive_btree_spelling.proofs.Weaving.{AreCounted, count_counted, woven_packed, woven_values, count_of_values}
 use Rattle.archive_btree_spelling.proofs.Standing.{Quarters, quarters, length-quarters, entries_own_keys, entries_own_values, children_own, in_parts_left, in_parts_right, claimed_part}
 
@@ -174,7 +174,7 @@ module _ {A B R Q : Type 0} (fit : Fit) (most : ℕ) (k v : Shape) (knows : Name
       → length es ≤ most
       → length es < 2 ^ 32
       → knows names
-      → all_keyed_by (entry_spelling most k v keys vals) given es
+      → all_suit (entry_spelling most k v keys vals) fit given es
       → AreKeyedBy given st.met
       → IsConsistent st
       → AllFrom (st.pos + length (node_piece most k v keys vals w (leaf_of es) st)) inside
@@ -236,8 +236,8 @@ module _ {A B R Q : Type 0} (fit : Fit) (most : ℕ) (k v : Shape) (knows : Name
       → t + suc l ≤ 33
       → AllSmall fit most k v knows keys vals l w xss
       → knows names
-      → AllKeyed fit most k v knows keys vals l w given xss
-      → all_keyed_by (entry_spelling most k v keys vals) given es
+      → AllSuit fit most k v knows keys vals l w given xss
+      → all_suit (entry_spelling most k v keys vals) fit given es
       → AreKeyedBy given st.met
       → IsConsistent st
       → AllFrom (st.pos + length (node_piece most k v keys vals w (inner_of xss es) st)) inside

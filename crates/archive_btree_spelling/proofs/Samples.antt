@@ -8,7 +8,7 @@ use Rattle.archive_shape_layout.specs.Content.{shape_content, number_value, keys
 use Rattle.archive_shape_canonical.specs.Settled.{Fit}
 use Rattle.archive_forms_spelling.specs.State.{Keys, AreOneToOne, initial}
 use Rattle.archive_forms_spelling.specs.Spells.{Spells}
-use Rattle.archive_forms_spelling.specs.Regions.{region_fits, all_keyed_by}
+use Rattle.archive_forms_spelling.specs.Regions.{region_fits, all_suit}
 use Rattle.archive_shape_pointers.specs.Offsets.{FitsOffset}
 use Rattle.archive_forms_spelling.specs.Laws.{KnowsAll}
 use Rattle.archive_forms_spelling.proofs.Gaps.{bytes_word}
@@ -33,15 +33,15 @@ none_to_none : AreOneToOne no_keys
 none_to_none k l a b e f same_type same = absurd (cc)
 
 -- no shared value is in them
-none_shared : (xs : List (ℕ × ℕ)) → all_keyed_by (entry_spelling 5 number_shape number_shape number_spelling number_spelling) no_keys xs
-none_shared [] = tt
-none_shared (x ∷ xs) = ((tt, (tt, tt)), none_shared xs)
+none_shared : (fit : Fit) (xs : List (ℕ × ℕ)) → all_suit (entry_spelling 5 number_shape number_shape number_spelling number_spelling) fit no_keys xs
+none_shared fit [] = tt
+none_shared fit (x ∷ xs) = ((tt, (tt, tt)), none_shared fit xs)
 
 pub maps_are_written_law : MapsAreWritten
 maps_are_written_law fit names xs bytes f e =
     is_written fit map_shape KnowsAll map_spelling xs names no_keys bytes
     (btree_spells fit 5 number_shape number_shape KnowsAll number_spelling number_spelling (omega arith) (number_spells fit) (number_spells fit))
-    tt (none_shared xs) none_to_none f e
+    tt (none_shared fit xs) none_to_none f e
 
 six_fit : region_fits map_spelling map_shape (six_pairs ∷ []) initial
 unfolding align_up shape_content number_value keys_offset values_offset node_size links_offset link_node_align link_node_size

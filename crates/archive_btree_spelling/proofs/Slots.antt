@@ -18,7 +18,7 @@ use Rattle.archive_shape_references.proofs.Pieces.{stands_left, stands_right}
 use Rattle.archive_forms_spelling.specs.State.{State, Keys, visits_of, IsConsistent, AllFrom, AreKeyedBy}
 use Rattle.archive_forms_spelling.specs.Spelling.{Spelling, state_after}
 use Rattle.archive_forms_spelling.specs.Spells.{CanonicalPart, SpellsAt, EachSpells}
-use Rattle.archive_forms_spelling.specs.Regions.{state_after_all, values, all_keyed_by, pieces, pieces_fit}
+use Rattle.archive_forms_spelling.specs.Regions.{state_after_all, values, all_suit, pieces, pieces_fit}
 use Rattle.archive_shape_canonical.specs.Canonical.{AreBytes}
 use Rattle.archive_shape_writing.specs.declared.error.Error.{Error}
 use Rattle.archive_forms_spelling.proofs.States.{from_earlier}
@@ -97,7 +97,7 @@ module _ {A B R Q : Type 0} (fit : Fit) (most : ℕ) (k v : Shape) (knows : Name
   pub entry_canonical :
       (x : A × B) (one : SpellsAt fit k knows keys x.0) (two : SpellsAt fit v knows vals x.1) (st : State) (a b : ℕ) (names : Names) (given : Keys) (bytes : List ℕ) (level : ℕ) (inside : List OpenShared)
       → knows names
-      → (entry_spelling most k v keys vals).keyed_by given x
+      → (entry_spelling most k v keys vals).suits fit given x
       → AreKeyedBy given st.met
       → IsConsistent st
       → AllFrom (state_after (entry_spelling most k v keys vals) x st).pos inside
@@ -142,7 +142,7 @@ module _ {A B R Q : Type 0} (fit : Fit) (most : ℕ) (k v : Shape) (knows : Name
   pub entries_canonical :
       (es : List (A × B)) (each : EachEntrySpells es) (st : State) (a b : ℕ) (names : Names) (given : Keys) (bytes : List ℕ) (level : ℕ) (inside : List OpenShared)
       → knows names
-      → all_keyed_by (entry_spelling most k v keys vals) given es
+      → all_suit (entry_spelling most k v keys vals) fit given es
       → AreKeyedBy given st.met
       → IsConsistent st
       → AllFrom (state_after_all (entry_spelling most k v keys vals) es st).pos inside

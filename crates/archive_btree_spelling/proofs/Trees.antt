@@ -26,13 +26,15 @@ use Rattle.archive_shape_writing.specs.declared.error.Error.{Error}
 use Rattle.archive_forms_spelling.specs.State.{State, Keys, visits_of, IsConsistent, AllFrom, AreKeyedBy}
 use Rattle.archive_forms_spelling.specs.Spelling.{Spelling, state_after}
 use Rattle.archive_forms_spelling.specs.Spells.{CanonicalPart}
-use Rattle.archive_forms_spelling.specs.Regions.{state_after_all, resolvers, values, plain_values, all_keyed_by, pieces, pieces_fit, pieces_refused}
+use Rattle.archive_forms_spelling.specs.Regions.{state_after_all, resolvers, values, plain_values, all_suit, pieces, pieces_fit, pieces_refused}
 use Rattle.archive_forms_spelling.proofs.States.{from_earlier}
 use Rattle.archive_forms_spelling.proofs.Gaps.{bytes_none, bytes_append, bytes_word}
 use Rattle.archive_shape_pointers.specs.Offsets.{difference}
 use Rattle.archive_forms_spelling.proofs.Regions.{CanonicalParts, more_parts}
 use Rattle.archive_forms_spelling.proofs.Pointers.{offset_stands, one_part}
-use Rattle.archive_btree_spelling.specs.Written.{entry_spelling, link_bytes, LinkFits, LinkRefused, links, LinksFit, LinksRefused}
+use Rattle.archive_forms_spelling.specs.Links.{link_bytes, LinkFits}
+use Rattle.archive_forms_spelling.proofs.Links.{link_small, link_exact, length-link}
+use Rattle.archive_btree_spelling.specs.Written.{entry_spelling, links, LinksFit, LinksRefused}
 
 -- the offset 1 leads one further
 target_of_one : (pos : ℕ) → target_from pos 1 ≡ Some (pos + 1)
@@ -63,18 +65,6 @@ child_leads t most k v pos own root away room target =
     ∙ ap (λ z. choose z (following (target_from pos (word_at own 0)) (λ a. plain same (node t most k v a ∷ []))) illegal) room
     ∙ ap (λ z. following z (λ a. plain same (node t most k v a ∷ []))) target
 
-pub link_small : (o : Option ℕ) (pos : ℕ) → AreBytes (link_bytes o pos)
-link_small None pos = bytes_word 1
-link_small (Some to) pos = bytes_word (cast_unsigned w32 (difference pos to))
-
-pub link_exact : (o : Option ℕ) (pos : ℕ) (e : Error) → LinkFits o pos → LinkRefused o pos e → ⊥
-link_exact None pos e f r = r
-link_exact (Some to) pos e f r = r.0 f
-
-pub length-link : (o : Option ℕ) (pos : ℕ) → length (link_bytes o pos) ≡ 4
-length-link None pos = refl
-length-link (Some to) pos = refl
-
 -- ---- pointers side by side
 
 pub links_bytes : (roots : List (Option ℕ)) (pos : ℕ) → AreBytes (links roots pos)
@@ -103,7 +93,7 @@ module _ {A B R Q : Type 0} (fit : Fit) (most : ℕ) (k v : Shape) (knows : Name
         → t + l ≤ 33
         → length xs < 2 ^ 32
         → knows names
-        → all_keyed_by (entry_spelling most k v keys vals) given xs
+        → all_suit (entry_spelling most k v keys vals) fit given xs
         → AreKeyedBy given st.met
         → IsConsistent st
         → AllFrom (state_after w xs st).pos inside
@@ -125,7 +115,7 @@ module _ {A B R Q : Type 0} (fit : Fit) (most : ℕ) (k v : Shape) (knows : Name
     pub counted : (st : State) → Counted (length xs) (w.value xs st)
     pub consistent : (st : State) → IsConsistent st → w.piece_fits xs st → IsConsistent (state_after w xs st)
     pub keyed :
-        (given : Keys) (st : State) → all_keyed_by (entry_spelling most k v keys vals) given xs → AreKeyedBy given st.met → w.piece_fits xs st
+        (given : Keys) (st : State) → all_suit (entry_spelling most k v keys vals) fit given xs → AreKeyedBy given st.met → w.piece_fits xs st
         → (erased (w.value xs st) ≡ group (plain_values (entry_spelling most k v keys vals) xs)) × AreKeyedBy given (w.met xs st)
     pub piece_bytes : (st : State) → w.piece_fits xs st → AreBytes (w.piece xs st)
     pub piece_exact : (st : State) (e : Error) → w.piece_fits xs st → w.piece_refused xs st e → ⊥
@@ -135,9 +125,9 @@ module _ {A B R Q : Type 0} (fit : Fit) (most : ℕ) (k v : Shape) (knows : Name
     EachTreeSpells [] = ⊤
     EachTreeSpells (xs ∷ xss) = TreeSpells l w xs × EachTreeSpells xss
 
-    abbrev pub AllKeyed : Keys → List (List (A × B)) → Type 0
-    AllKeyed given [] = ⊤
-    AllKeyed given (xs ∷ xss) = all_keyed_by (entry_spelling most k v keys vals) given xs × AllKeyed given xss
+    abbrev pub AllSuit : Keys → List (List (A × B)) → Type 0
+    AllSuit given [] = ⊤
+    AllSuit given (xs ∷ xss) = all_suit (entry_spelling most k v keys vals) fit given xs × AllSuit given xss
 
     abbrev pub AllSmall : List (List (A × B)) → Type 0
     AllSmall [] = ⊤
@@ -177,7 +167,7 @@ module _ {A B R Q : Type 0} (fit : Fit) (most : ℕ) (k v : Shape) (knows : Name
     plain_children [] = no_values
     plain_children (xs ∷ xss) = more_values (group (plain_values (entry_spelling most k v keys vals) xs)) (plain_children xss)
 
-    pub children_keyed : (xss : List (List (A × B))) (each : EachTreeSpells xss) (given : Keys) (st : State) → AllKeyed given xss → AreKeyedBy given st.met → pieces_fit w xss st
+    pub children_keyed : (xss : List (List (A × B))) (each : EachTreeSpells xss) (given : Keys) (st : State) → AllSuit given xss → AreKeyedBy given st.met → pieces_fit w xss st
         → (all_erased (values w xss st) ≡ plain_children xss) × AreKeyedBy given (state_after_all w xss st).met
     children_keyed [] each given st n known f = (refl, known)
     children_keyed (xs ∷ xss) each given st n known f =
@@ -191,7 +181,7 @@ module _ {A B R Q : Type 0} (fit : Fit) (most : ℕ) (k v : Shape) (knows : Name
         → t + l ≤ 33
         → length xs < 2 ^ 32
         → knows names
-        → all_keyed_by (entry_spelling most k v keys vals) given xs
+        → all_suit (entry_spelling most k v keys vals) fit given xs
         → AreKeyedBy given st.met
         → IsConsistent st
         → AllFrom (state_after w xs st).pos inside
@@ -249,7 +239,7 @@ module _ {A B R Q : Type 0} (fit : Fit) (most : ℕ) (k v : Shape) (knows : Name
         → t + l ≤ 33
         → AllSmall xss
         → knows names
-        → AllKeyed given xss
+        → AllSuit given xss
         → AreKeyedBy given st.met
         → IsConsistent st
         → AllFrom (state_after_all w xss st).pos inside

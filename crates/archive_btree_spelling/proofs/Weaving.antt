@@ -8,9 +8,10 @@ use Rattle.archive_shape_layout.specs.Content.{members, weave, first_values, oth
 use Rattle.archive_shape_canonical.specs.Packed.{ArePacked}
 use Rattle.archive_shape_canonical.specs.Seen.{blank, blanks, all_blank}
 use Rattle.archive_shape_canonical.specs.Sharing.{erased, all_erased}
+use Rattle.archive_shape_canonical.specs.Settled.{Fit}
 use Rattle.archive_forms_spelling.specs.State.{State, Keys}
 use Rattle.archive_forms_spelling.specs.Spelling.{Spelling, state_after}
-use Rattle.archive_forms_spelling.specs.Regions.{values, plain_values, all_keyed_by}
+use Rattle.archive_forms_spelling.specs.Regions.{values, plain_values, all_suit}
 use Rattle.archive_btree_spelling.proofs.Shares.{IsWoven, AreShares}
 use Rattle.archive_btree_spelling.proofs.Trees.{Counted}
 
@@ -137,10 +138,10 @@ module _ {C Q : Type 0} (w : Spelling C Q) where
       ∙ sym (plain_append c (e ∷ h.0))
       ∙ ap (plain_values w) (sym h.1)
 
-  -- what stands for the keys of all items does so below each pointer and for the node's own
-  pub keyed_append : (given : Keys) (xs ys : List C) → all_keyed_by w given (xs ++ ys) → all_keyed_by w given xs × all_keyed_by w given ys
-  keyed_append given [] ys h = (tt, h)
-  keyed_append given (x ∷ xs) ys h = let rest = keyed_append given xs ys h.1 in ((h.0, rest.0), rest.1)
+  -- where all items suit a fit and keys, so do those below each pointer and the node's own
+  pub suits_append : (fit : Fit) (given : Keys) (xs ys : List C) → all_suit w fit given (xs ++ ys) → all_suit w fit given xs × all_suit w fit given ys
+  suits_append fit given [] ys h = (tt, h)
+  suits_append fit given (x ∷ xs) ys h = let rest = suits_append fit given xs ys h.1 in ((h.0, rest.0), rest.1)
 
   pub count_of_values : (xs : List C) (st : State) → count_values (values w xs st) ≡ length xs
   count_of_values [] st = refl

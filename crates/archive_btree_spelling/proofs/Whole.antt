@@ -9,14 +9,14 @@ use Rattle.archive_shape_references.specs.Bytes.{zeros}
 use Rattle.archive_shape_writing.specs.declared.error.Error.{Error}
 use Rattle.archive_forms_spelling.specs.State.{State, Keys, IsConsistent, AreKeyedBy, advanced}
 use Rattle.archive_forms_spelling.specs.Spelling.{Spelling}
-use Rattle.archive_forms_spelling.specs.Regions.{resolvers, values, plain_values, all_keyed_by, pieces}
+use Rattle.archive_forms_spelling.specs.Regions.{resolvers, values, plain_values, all_suit, pieces}
 use Rattle.archive_forms_spelling.proofs.States.{consistent_further}
 use Rattle.archive_forms_spelling.proofs.Gaps.{bytes_none, bytes_more, bytes_append, bytes_zeros, bytes_word}
 use Rattle.archive_forms_spelling.proofs.Regions.{pieces_bytes, pieces_exact, state_after_all_begun, state_after_all_consistent, state_after_all_keyed}
 use Rattle.archive_btree_spelling.specs.Parted.{Parted}
 use Rattle.archive_btree_spelling.specs.Written.{filled, entry_spelling, state_after_children, state_after_entries, linked, words, own_bytes, node_at, node_piece, node_fits, node_refused}
 use Rattle.archive_btree_spelling.proofs.Slots.{EachEntrySpells, pair_shape, pairs_spell, key-slots-bytes, value-slots-bytes, keys_exact, values_exact}
-use Rattle.archive_btree_spelling.proofs.Trees.{EachTreeSpells, AllKeyed, plain_children, children_begun, children_consistent, children_bytes, children_exact, children_keyed, links_bytes, links_exact}
+use Rattle.archive_btree_spelling.proofs.Trees.{EachTreeSpells, AllSuit, plain_children, children_begun, children_consistent, children_bytes, children_exact, children_keyed, links_bytes, links_exact}
 use Rattle.archive_btree_spelling.proofs.Nodes.{children_pos, entries_pos}
 
 filled_bytes : (n : ℕ) (bs : List ℕ) → AreBytes bs → AreBytes (filled n bs)
@@ -43,7 +43,7 @@ module _ {A B R Q : Type 0} (fit : Fit) (most : ℕ) (k v : Shape) (knows : Name
       (state_after_all_begun fit shape knows entry_w p.own now ∙ children_begun fit most k v knows keys vals l w p.below st)
       behind
 
-  pub node_keyed : (given : Keys) (st : State) → AllKeyed fit most k v knows keys vals l w given p.below → all_keyed_by (entry_spelling most k v keys vals) given p.own → AreKeyedBy given st.met → node_fits most k v keys vals w p st
+  pub node_keyed : (given : Keys) (st : State) → AllSuit fit most k v knows keys vals l w given p.below → all_suit (entry_spelling most k v keys vals) fit given p.own → AreKeyedBy given st.met → node_fits most k v keys vals w p st
       → (all_erased (values w p.below st) ≡ plain_children fit most k v knows keys vals l w p.below)
       × (all_erased (values (entry_spelling most k v keys vals) p.own (state_after_children most k v keys vals w p st)) ≡ plain_values (entry_spelling most k v keys vals) p.own)
       × AreKeyedBy given (state_after_entries most k v keys vals w p st).met

@@ -8,8 +8,9 @@ use Rattle.archive_shape_writing.specs.declared.error.Error.TheVariants.{LengthT
 use Rattle.archive_shape_canonical.specs.Packed.{levels_for}
 use Rattle.archive_forms_spelling.specs.Spelling.{Spelling}
 use Rattle.archive_forms_spelling.specs.Levels.{levels_spelling}
-use Rattle.archive_forms_spelling.specs.Regions.{plain_values, all_keyed_by}
-use Rattle.archive_btree_spelling.specs.Written.{entry_spelling, tree_spelling, link_bytes, LinkFits, LinkRefused}
+use Rattle.archive_forms_spelling.specs.Regions.{plain_values, all_suit}
+use Rattle.archive_forms_spelling.specs.Links.{link_bytes, LinkFits, LinkRefused}
+use Rattle.archive_btree_spelling.specs.Written.{entry_spelling, tree_spelling}
 
 -- no items, on no level
 abbrev pub no_tree : {C : Type 0} → Spelling (List C) (Option ℕ)
@@ -24,7 +25,7 @@ no_tree = record {
   piece_refused = λ xs st e. ⊥;
   own_fits = λ xs root pos. LinkFits root pos;
   own_refused = λ xs root pos e. LinkRefused root pos e;
-  keyed_by = λ given xs. ⊤;
+  suits = λ fit given xs. ⊤;
 }
 
 module _ {A B R Q : Type 0} (most : ℕ) (k v : Shape) (keys : Spelling A R) (vals : Spelling B Q) where
@@ -45,5 +46,5 @@ module _ {A B R Q : Type 0} (most : ℕ) (k v : Shape) (keys : Spelling A R) (va
     piece_refused = λ xs st e. (packed_spelling (levels_for most (length xs))).piece_refused xs st e;
     own_fits = λ xs root pos. LinkFits root pos × (length xs < 2 ^ 32);
     own_refused = λ xs root pos e. LinkRefused root pos e ⊎ ((2 ^ 32 ≤ length xs) × (e ≡ LengthTooLarge));
-    keyed_by = λ given xs. all_keyed_by (entry_spelling most k v keys vals) given xs;
+    suits = λ fit given xs. all_suit (entry_spelling most k v keys vals) fit given xs;
   }

@@ -9,28 +9,15 @@ use Rattle.archive_shape_layout.specs.Value.Values.{no_values}
 use Rattle.archive_shape_layout.specs.Content.{weave, words_of, keys_offset, values_offset, links_offset, link_node_align, link_node_size}
 use Rattle.archive_shape_references.specs.Bytes.{zeros}
 use Rattle.archive_shape_writing.specs.declared.error.Error.{Error}
-use Rattle.archive_shape_writing.specs.declared.error.Error.TheVariants.{IsizeOverflow, PositionTooLarge}
+use Rattle.archive_shape_writing.specs.declared.error.Error.TheVariants.{PositionTooLarge}
 use Rattle.archive_forms_spelling.specs.State.{State, Met}
 use Rattle.archive_forms_spelling.specs.Spelling.{Spelling, state_after}
 use Rattle.archive_forms_spelling.specs.Fields.{tuple2_spelling}
-use Rattle.archive_forms_spelling.specs.Regions.{state_after_all, values, resolvers, plain_values, all_keyed_by, pieces, pieces_fit, pieces_refused}
-use Rattle.archive_shape_pointers.specs.Offsets.{FitsOffset, offset_bytes}
+use Rattle.archive_forms_spelling.specs.Regions.{state_after_all, values, resolvers, plain_values, all_suit, pieces, pieces_fit, pieces_refused}
+use Rattle.archive_forms_spelling.specs.Links.{link_bytes, LinkFits, LinkRefused}
 use Rattle.archive_btree_spelling.specs.Parted.{Parted, parted}
 
 -- ---- pointers
-
--- a pointer to what stands at a position; the offset 1 leads to nothing
-abbrev pub link_bytes : Option ℕ → ℕ → List ℕ
-link_bytes None pos = to_le_bytes w32 1
-link_bytes (Some to) pos = offset_bytes pos to
-
-abbrev pub LinkFits : Option ℕ → ℕ → Type 0
-LinkFits None pos = ⊤
-LinkFits (Some to) pos = FitsOffset pos to
-
-abbrev pub LinkRefused : Option ℕ → ℕ → Error → Type 0
-LinkRefused None pos e = ⊥
-LinkRefused (Some to) pos e = (FitsOffset pos to → ⊥) × (e ≡ IsizeOverflow)
 
 -- pointers side by side, the first at a position
 abbrev pub links : List (Option ℕ) → ℕ → List ℕ
@@ -216,5 +203,5 @@ module _ {A B R Q : Type 0} (most : ℕ) (k v : Shape) (keys : Spelling A R) (va
       piece_refused = tree_refused;
       own_fits = λ xs root pos. LinkFits root pos;
       own_refused = λ xs root pos e. LinkRefused root pos e;
-      keyed_by = λ given xs. all_keyed_by entry_spelling given xs;
+      suits = λ fit given xs. all_suit entry_spelling fit given xs;
     }

@@ -3,8 +3,8 @@ ghost use Rattle.std.specs.Prelude.{◌≡◌, ℕ, ◌+◌, ◌≤◌, List, le
 ghost use Rattle.archive_shape_layout.specs.Shape.Shape.{tree};
 ghost use Rattle.archive_btree_layout.specs.Reading.{Place};
 ghost use Rattle.archive_forms_reading.specs.Parts.{HasValue, both};
-ghost use Rattle.archive_btree_reading.specs.Walks.{BegunMap, IsWritten};
-ghost use Rattle.archive_btree_reading.specs.Cursors.{HasRange};
+ghost use Rattle.archive_btree_walking.specs.Walks.{BegunMap, IsWritten};
+ghost use Rattle.archive_btree_walking.specs.Cursors.{HasRange};
 ghost use Rattle.archive_shape_references.specs.Bytes.{overwrite};
 
 use crate::archives::{bytes_of, root_of};

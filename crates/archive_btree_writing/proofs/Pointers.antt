@@ -4,8 +4,9 @@ use Rattle.std.specs.Prelude.{Result, MatchResult}
 use Rattle.archive_shape_references.specs.Bytes.{overwrite}
 use Rattle.archive_shape_writing.specs.declared.error.Error.{Error}
 use Rattle.archive_forms_spelling.specs.State.{State, initial}
-use Rattle.archive_btree_spelling.specs.Written.{slots, AllSlots, AnySlot, link_bytes, LinkFits, LinkRefused, links, LinksFit, LinksRefused}
-use Rattle.archive_btree_spelling.proofs.Trees.{length-link}
+use Rattle.archive_forms_spelling.specs.Links.{link_bytes, LinkFits, LinkRefused}
+use Rattle.archive_btree_spelling.specs.Written.{slots, AllSlots, AnySlot, links, LinksFit, LinksRefused}
+use Rattle.archive_forms_spelling.proofs.Links.{length-link}
 use Rattle.archive_forms_reading.proofs.Joined.{overwrites_joined}
 use Rattle.archive_btree_writing.proofs.Slots.{Laid}
 

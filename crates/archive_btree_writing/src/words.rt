@@ -3,10 +3,12 @@ ghost use Rattle.std.specs.Prelude.{◌≡◌, ◌+◌, ◌*◌, ◌^◌, ◌<�
 ghost use Rattle.archive_shape_references.specs.Bytes.{HasBytes, zeros, overwrite};
 ghost use Rattle.std.specs.Int.{w32, to_le_bytes};
 ghost use Rattle.archive_btree_writing.specs.Nodes.{children_of, roots_of, words_behind, words_size};
-ghost use Rattle.archive_btree_spelling.specs.Written.{link_bytes, LinkFits, LinkRefused, links, LinksFit, LinksRefused};
+ghost use Rattle.archive_forms_spelling.specs.Links.{link_bytes, LinkFits, LinkRefused};
+ghost use Rattle.archive_btree_spelling.specs.Written.{links, LinksFit, LinksRefused};
 
 use crate::children::Children;
-use archive_shape::{Error, Place, RawRelPtrI32};
+use archive_forms_links::emplace_link;
+use archive_shape::{Error, Place};
 
 /// How many bytes a pointer has.
 const LINK: usize = 4;
@@ -18,11 +20,7 @@ fn store_link(to: Option<usize>, start: usize, pos: usize, buffer: &mut [u8]) ->
         (λ _. LinkFits to pos × (buffer.new ≡ overwrite buffer.old start (link_bytes to pos)))
         (LinkRefused to pos) }
 {
-    let out = Place::within(buffer, start, pos);
-    match to {
-        Some(to) => RawRelPtrI32::try_emplace(to, out),
-        None => RawRelPtrI32::try_emplace_invalid(out),
-    }
+    emplace_link(to, Place::within(buffer, start, pos))
 }
 
 /// Writes pointers side by side from `start` of a buffer on, which will stand at `pos` and is zero there.

@@ -1,123 +1,15 @@
 //! Cursors over the entries of an archived B-tree map that lend one value at a time.
-ghost use Rattle.std.specs.Prelude.{◌≡◌, ℕ, ◌+◌, ◌≤◌, List, [], ◌∷◌, length, take, IfSome, MatchOption};
+ghost use Rattle.std.specs.Prelude.{◌≡◌};
 ghost use Rattle.archive_shape_layout.specs.Shape.Shape.{tree};
 ghost use Rattle.archive_btree_layout.specs.Tree.{items};
-ghost use Rattle.archive_btree_layout.specs.Reading.{Place};
-ghost use Rattle.archive_btree_searching.specs.Nodes.{place_of};
 ghost use Rattle.archive_forms_reading.specs.Parts.{HasValue, both};
-ghost use Rattle.archive_btree_reading.specs.Walks.{BegunMap, IsWritten};
-ghost use Rattle.archive_btree_reading.specs.Seals.{IsOwnValue, IsLent};
-ghost use Rattle.archive_btree_reading.specs.Cursors.{HasEntries, HasValues};
+ghost use Rattle.archive_btree_walking.specs.Walks.{BegunMap, IsWritten};
+ghost use Rattle.archive_btree_walking.specs.Cursors.{HasEntries, HasValues};
 
 use crate::ArchivedBTreeMap;
-use crate::root::{count_at, entry_walk_at};
-use crate::sealing::passing::pass_entry;
-use crate::sealing::single::lend_entry;
-use archive_btree_searching::{EntryAt, EntryWalk};
+use archive_btree_walking::{IterSeal, ValuesSeal, count_at, entry_walk_at};
 use archive_shape_portable::Portable;
-use archive_shape_references::{OwnSeal, Ref, Seal};
-use std::marker::PhantomData;
-
-/// A cursor over the entries in the order of their keys. Between its steps the archive's bytes may be written, as long as
-/// they differ from those that it began with at most in the values of the map.
-#[derive(Drop)]
-pub struct IterSeal<'a, K, V> {
-    /// The whole archive.
-    pub bytes: &'a mut [u8],
-    walk: EntryWalk,
-    left: usize,
-    of: PhantomData<(K, V)>,
-}
-
-impl<'a, K: Portable, V: Portable> IterSeal<'a, K, V> {
-    /// Where the next entry's key and value stand. The entry is passed.
-    pub fn advance(&mut self) -> Option<EntryAt>
-        requires { (most : ℕ) × (m : BegunMap most K.shape V.shape K.knows V.knows) × (es : List Place) × HasEntries m self.old es × IsWritten m self.old.bytes.now }
-        ensures same_reference { self.new.bytes.ghost_name ≡ self.old.bytes.ghost_name }
-        ensures bytes { self.new.bytes.now ≡ self.old.bytes.now }
-        ensures there { IfSome result (λ e. HasValue K.shape K.knows (take e.value self.old.bytes.now) e.key × (e.value + V.SIZE ≤ length self.old.bytes.now)) }
-        ensures steps { (most : ℕ) (m : BegunMap most K.shape V.shape K.knows V.knows) (es : List Place) → HasEntries m self.old es → IsWritten m self.old.bytes.now → MatchOption result
-            ((es ≡ []) × HasEntries m self.new [])
-            (λ e. (rest : List Place) × (es ≡ place_of e ∷ rest) × HasEntries m self.new rest) }
-    {
-        let bytes = std::mem::take(&mut self.bytes);
-        let passed = pass_entry::<K, V>(&mut self.walk, bytes);
-        self.bytes = bytes;
-        let Some(entry) = passed else {
-            return None;
-        };
-        self.left -= 1;
-        Some(entry)
-    }
-
-    /// The next entry's key, and its value with only the value's own bytes. The entry is passed. What the archive's bytes are
-    /// after the loan is not said: a caller that is to know them calls `advance`, and makes the seal of those bytes.
-    pub fn next(&mut self) -> Option<(Ref<'_, K>, OwnSeal<'_, V>)>
-        requires { (most : ℕ) × (m : BegunMap most K.shape V.shape K.knows V.knows) × (es : List Place) × HasEntries m self.old es × IsWritten m self.old.bytes.now }
-        ensures there { IfSome result (λ r. HasValue K.shape K.knows r.0.bytes.now r.0.pos × (length r.1.own.now ≡ V.SIZE)) }
-        ensures lends { (most : ℕ) (m : BegunMap most K.shape V.shape K.knows V.knows) (es : List Place) → HasEntries m self.old es → IsWritten m self.old.bytes.now → MatchOption result
-            (es ≡ [])
-            (λ r. (e : Place) × (rest : List Place) × (es ≡ e ∷ rest) × IsLent V.SIZE self.old.bytes.now e r.0 r.1) }
-    {
-        let Some(entry) = self.advance() else {
-            return None;
-        };
-        Some(lend_entry(self.bytes, entry))
-    }
-
-    /// How many entries are left.
-    pub fn len(&self) -> usize
-        ensures { (most : ℕ) (m : BegunMap most K.shape V.shape K.knows V.knows) (es : List Place) → HasEntries m self.now es → result ≡ length es }
-    {
-        self.left
-    }
-}
-
-/// A cursor over the values in the order of their keys, as `IterSeal` is one over the entries.
-#[derive(Drop)]
-pub struct ValuesSeal<'a, K, V> {
-    pub entries: IterSeal<'a, K, V>,
-}
-
-impl<'a, K: Portable, V: Portable> ValuesSeal<'a, K, V> {
-    /// Where the next value stands. The value is passed.
-    pub fn advance(&mut self) -> Option<usize>
-        requires { (most : ℕ) × (m : BegunMap most K.shape V.shape K.knows V.knows) × (es : List Place) × HasValues m self.old es × IsWritten m self.old.entries.bytes.now }
-        ensures same_reference { self.new.entries.bytes.ghost_name ≡ self.old.entries.bytes.ghost_name }
-        ensures bytes { self.new.entries.bytes.now ≡ self.old.entries.bytes.now }
-        ensures there { IfSome result (λ at. at + V.SIZE ≤ length self.old.entries.bytes.now) }
-        ensures steps { (most : ℕ) (m : BegunMap most K.shape V.shape K.knows V.knows) (es : List Place) → HasValues m self.old es → IsWritten m self.old.entries.bytes.now → MatchOption result
-            ((es ≡ []) × HasValues m self.new [])
-            (λ at. (e : Place) × (rest : List Place) × (es ≡ e ∷ rest) × (e.value ≡ at) × HasValues m self.new rest) }
-    {
-        match self.entries.advance() {
-            Some(entry) => Some(entry.value),
-            None => None,
-        }
-    }
-
-    /// The next value with only its own bytes. The value is passed. What the archive's bytes are after the loan is not said: a
-    /// caller that is to know them calls `advance`, and makes the seal of those bytes.
-    pub fn next(&mut self) -> Option<OwnSeal<'_, V>>
-        requires { (most : ℕ) × (m : BegunMap most K.shape V.shape K.knows V.knows) × (es : List Place) × HasValues m self.old es × IsWritten m self.old.entries.bytes.now }
-        ensures there { IfSome result (λ r. length r.own.now ≡ V.SIZE) }
-        ensures lends { (most : ℕ) (m : BegunMap most K.shape V.shape K.knows V.knows) (es : List Place) → HasValues m self.old es → IsWritten m self.old.entries.bytes.now → MatchOption result
-            (es ≡ [])
-            (λ r. (e : Place) × (rest : List Place) × (es ≡ e ∷ rest) × IsOwnValue V.SIZE self.old.entries.bytes.now e r) }
-    {
-        match self.entries.next() {
-            Some((_key, value)) => Some(value),
-            None => None,
-        }
-    }
-
-    /// How many values are left.
-    pub fn len(&self) -> usize
-        ensures { (most : ℕ) (m : BegunMap most K.shape V.shape K.knows V.knows) (es : List Place) → HasValues m self.now es → result ≡ length es }
-    {
-        self.entries.len()
-    }
-}
+use archive_shape_references::Seal;
 
 impl<K: Portable, V: Portable, const E: usize> ArchivedBTreeMap<K, V, E> {
     /// A cursor over the entries in the order of their keys.
@@ -131,12 +23,7 @@ impl<K: Portable, V: Portable, const E: usize> ArchivedBTreeMap<K, V, E> {
         let Seal { bytes, pos, .. } = this;
         let walk = entry_walk_at::<K, V, E>(bytes, pos);
         let left = count_at(bytes, pos);
-        IterSeal {
-            bytes,
-            walk,
-            left,
-            of: PhantomData,
-        }
+        IterSeal::new(bytes, walk, left)
     }
 
     /// A cursor over the values in the order of their keys.

@@ -1,21 +1,19 @@
 //! Values of archived B-tree maps that may be edited.
 ghost use denote.Ref.{Bor};
-ghost use Rattle.std.specs.Prelude.{◌≡◌, ℕ, ◌+◌, ◌≤◌, List, length, Some, None, IfSome, MatchOption, All, Contains};
+ghost use Rattle.std.specs.Prelude.{◌≡◌, ℕ, List, length, Some, None, IfSome, MatchOption, All, Contains};
 ghost use Rattle.std.specs.declared.cmp.Ordering.{Ordering};
 ghost use Rattle.archive_shape_layout.specs.Shape.Shape.{tree};
 ghost use Rattle.archive_btree_layout.specs.Tree.{Tree, items};
 ghost use Rattle.archive_btree_layout.specs.Descent.{descend};
 ghost use Rattle.archive_btree_layout.specs.Reading.{Place};
-ghost use Rattle.archive_btree_searching.specs.Nodes.{place_of};
 ghost use Rattle.archive_forms_reading.specs.Parts.{HasValue, both};
-ghost use Rattle.archive_btree_reading.specs.Maps.{IsMapAt};
-ghost use Rattle.archive_btree_reading.specs.Refs.{key_at};
-ghost use Rattle.archive_btree_reading.specs.Lookups.{QueryOrders, IsEqualKey, CallsOrder};
-ghost use Rattle.archive_btree_reading.specs.Seals.{IsLent, IsCalledEqual};
+ghost use Rattle.archive_btree_walking.specs.Maps.{IsMapAt};
+ghost use Rattle.archive_btree_walking.specs.Refs.{key_at};
+ghost use Rattle.archive_btree_walking.specs.Lookups.{QueryOrders, IsEqualKey, CallsOrder};
+ghost use Rattle.archive_btree_walking.specs.Seals.{IsLent, IsCalledEqual};
 
 use crate::ArchivedBTreeMap;
-use crate::lookup::{search_key, search_map};
-use archive_btree_searching::EntryAt;
+use archive_btree_walking::{lend_entry, search_key, search_map};
 use archive_shape::ArchivedKey;
 use archive_shape_portable::Portable;
 use archive_shape_references::{OwnSeal, Ref, Seal};
@@ -105,19 +103,4 @@ impl<K: Portable, V: Portable, const E: usize> ArchivedBTreeMap<K, V, E> {
             None => None,
         }
     }
-}
-
-/// The key of an entry, and its value with only the value's own bytes.
-pub(crate) fn lend_entry<K, V: Portable>(
-    bytes: &mut [u8],
-    entry: EntryAt,
-) -> (Ref<'_, K>, OwnSeal<'_, V>)
-    requires { entry.value + V.SIZE ≤ length bytes.old }
-    ensures { IsLent V.SIZE bytes.old (place_of entry) result.0 result.1 }
-{
-    let (before, rest) = bytes.split_at_mut(entry.value);
-    (
-        Ref::new(before, entry.key),
-        OwnSeal::new(&mut rest[..V::SIZE], entry.value),
-    )
 }

@@ -3,12 +3,11 @@ ghost use Rattle.std.specs.Prelude.{◌≡◌, ℕ, List, All};
 ghost use Rattle.archive_shape_layout.specs.Shape.Shape.{tree};
 ghost use Rattle.archive_btree_layout.specs.Tree.{items};
 ghost use Rattle.archive_forms_reading.specs.Parts.{HasValue, both};
-ghost use Rattle.archive_btree_reading.specs.Walks.{BegunMap, IsWritten};
+ghost use Rattle.archive_btree_walking.specs.Walks.{BegunMap, IsWritten};
 ghost use Rattle.archive_btree_reading.specs.SealedVisits.{MayCallSealed, VisitsSealed};
 
 use crate::ArchivedBTreeMap;
-use crate::root::entry_walk_at;
-use crate::sealing::passing::pass_entry;
+use archive_btree_walking::{entry_walk_at, pass_entry};
 use archive_shape_portable::Portable;
 use archive_shape_references::{OwnSeal, Ref, Seal};
 use std::ops::ControlFlow;

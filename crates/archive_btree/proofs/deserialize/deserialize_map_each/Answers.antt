@@ -1,6 +1,6 @@
 use Rattle.std.proofs.Common.{rules, ◌≡◌, ◌∙◌, [], map, sym, ap}
 use Rattle.std.specs.BTreeMap.{insert_entry}
-use Rattle.archive_btree_reading.specs.Refs.{entry_at}
+use Rattle.archive_btree_walking.specs.Refs.{entry_at}
 use Rattle.archive_btree.proofs.ReadBack.{next_place, none_left, next_has, reading_begun, entry_read, reading_ended}
 use Rattle.archive_btree.proofs.deserialize.deserialize_map_each.Goals as goal
 

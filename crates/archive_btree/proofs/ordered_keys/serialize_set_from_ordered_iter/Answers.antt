@@ -4,7 +4,7 @@ use Rattle.archive_shape_layout.specs.Shape.Shapes.{no_shapes}
 use Rattle.archive_shape_writing.specs.Writing.{WriterMembers}
 use Rattle.archive_forms_spelling.specs.Fields.{unit_spelling}
 use Rattle.archive_btree_spelling.specs.Maps.{btree_spelling}
-use Rattle.archive_btree_building.specs.Taking.{GivesAs}
+use Rattle.archive_forms_spelling.specs.Taking.{GivesAs}
 use Rattle.archive_btree.specs.Owned.{key_entry}
 use Rattle.archive_btree.proofs.Listed.{none_begun}
 use Rattle.archive_btree.proofs.Seen.{claimed_seen, key_given}

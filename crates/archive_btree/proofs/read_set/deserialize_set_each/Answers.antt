@@ -5,7 +5,7 @@ use Rattle.archive_shape_layout.specs.Shape.Shape.{tuple}
 use Rattle.archive_shape_layout.specs.Shape.Shapes.{no_shapes}
 use Rattle.archive_forms_spelling.specs.Fields.{unit_spelling}
 use Rattle.archive_btree.specs.Owned.{key_entries}
-use Rattle.archive_btree_reading.specs.Refs.{entry_at}
+use Rattle.archive_btree_walking.specs.Refs.{entry_at}
 use Rattle.archive_btree.proofs.ReadBack.{next_place, none_left, next_has, reading_begun, entry_read, reading_ended}
 use Rattle.archive_btree.proofs.Keyed.{inserted_key, unit_read}
 use Rattle.archive_btree.proofs.read_set.deserialize_set_each.Goals as goal

@@ -5,7 +5,7 @@ use Rattle.archive_shape_layout.specs.Shape.Shapes.{no_shapes}
 use Rattle.archive_forms_spelling.specs.Fields.{unit_spelling}
 use Rattle.archive_btree.specs.Owned.{key_entries}
 use Rattle.archive_btree_layout.specs.Reading.{Place}
-use Rattle.archive_btree_reading.specs.Refs.{entry_at}
+use Rattle.archive_btree_walking.specs.Refs.{entry_at}
 use Rattle.archive_btree.proofs.ReadBack.{IsReading}
 use Rattle.archive_btree.proofs.read_set.deserialize_set_each.Given as goal
 

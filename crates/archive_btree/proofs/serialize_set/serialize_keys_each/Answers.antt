@@ -4,7 +4,7 @@ use Rattle.archive_shape_layout.specs.Shape.Shape.{tuple}
 use Rattle.archive_shape_layout.specs.Shape.Shapes.{no_shapes}
 use Rattle.archive_shape_writing.specs.Writing.{WriterMembers}
 use Rattle.archive_forms_spelling.specs.Fields.{unit_spelling}
-use Rattle.archive_btree_building.specs.Taking.{GivesAs}
+use Rattle.archive_forms_spelling.specs.Taking.{GivesAs}
 use Rattle.archive_btree_building.specs.Built.{BuildsClaimedBy}
 use Rattle.archive_btree.proofs.Listed.{map_written}
 use Rattle.archive_btree.proofs.serialize_set.serialize_keys_each.Goals as goal

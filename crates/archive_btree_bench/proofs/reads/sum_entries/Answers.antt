@@ -1,6 +1,6 @@
 use Rattle.std.proofs.Common.{All, sym, subst}
-use Rattle.archive_btree_reading.specs.Refs.{IsThere}
-use Rattle.archive_btree_reading.proofs.Runs.{all_there}
+use Rattle.archive_btree_walking.specs.Refs.{IsThere}
+use Rattle.archive_btree_walking.proofs.Runs.{all_there}
 use Rattle.archive_btree_bench.specs.Texts.{text_shape, number_shape, known}
 use Rattle.archive_btree_bench.proofs.Read.{first_there, rest_there}
 use Rattle.archive_btree_bench.proofs.reads.sum_entries.Goals as goal

@@ -1,5 +1,5 @@
 use Rattle.std.proofs.Common.{All}
-use Rattle.archive_btree_reading.specs.Refs.{IsThere}
+use Rattle.archive_btree_walking.specs.Refs.{IsThere}
 use Rattle.archive_btree_bench.specs.Texts.{text_shape, number_shape, known}
 use Rattle.archive_btree_bench.proofs.reads.sum_entries.Given as goal
 

@@ -3,7 +3,7 @@ use Rattle.std.proofs.lemmas.List.{length-replicate}
 use Rattle.archive_shape_writing.specs.Writing.{WriterMembers}
 use Rattle.archive_shape_writing.specs.declared.error.Error.TheVariants.{IteratorLengthMismatch}
 use Rattle.archive_btree_spelling.specs.Maps.{packed_spelling}
-use Rattle.archive_btree_building.specs.Taking.{GivesAs}
+use Rattle.archive_forms_spelling.specs.Taking.{GivesAs}
 use Rattle.archive_btree_building.proofs.Taken.{take_one, take_set, on_err}
 use Rattle.archive_btree_building.proofs.Closing.{none_built, ended_behind, cut_wider}
 use Rattle.archive_btree_building.proofs.Widths.{ToGo, some_wide, inner_above, below_is, child_size, togo_none, togo_more, togo_room, togo_end}

@@ -2,7 +2,7 @@ use Rattle.std.proofs.Common.{rules, ◌≡◌, ℕ, suc, ◌+◌, ◌-◌, ◌^
 use Rattle.archive_shape_writing.specs.Writing.{WriterMembers}
 use Rattle.archive_shape_writing.specs.declared.error.Error.TheVariants.{IteratorLengthMismatch}
 use Rattle.archive_btree_spelling.specs.Maps.{packed_spelling}
-use Rattle.archive_btree_building.specs.Taking.{GivesAs}
+use Rattle.archive_forms_spelling.specs.Taking.{GivesAs}
 use Rattle.archive_btree_building.specs.Built.{IsBuilt, IsCutShort}
 use Rattle.archive_btree_building.proofs.Taken.{on_err}
 use Rattle.archive_btree_building.proofs.Widths.{some_wide}

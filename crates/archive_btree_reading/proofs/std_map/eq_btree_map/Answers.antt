@@ -1,9 +1,9 @@
 use Rattle.std.proofs.Common.{sym, subst}
 use Rattle.std.specs.List.{AllZip}
 use Rattle.archive_btree_layout.specs.Tree.{items}
-use Rattle.archive_btree_reading.specs.Refs.{entry_at}
+use Rattle.archive_btree_walking.specs.Refs.{entry_at}
 use Rattle.archive_btree_reading.specs.StdMaps.{IsSamePair}
-use Rattle.archive_btree_reading.proofs.Runs.{all_there}
+use Rattle.archive_btree_walking.proofs.Runs.{all_there}
 use Rattle.archive_btree_reading.proofs.Same.{of_made, made}
 use Rattle.archive_btree_reading.proofs.std_map.eq_btree_map.Goals as goal
 

@@ -1,7 +1,7 @@
 use Rattle.std.proofs.Common.{◌≡◌, ◌∙◌, All, length, sym, ap, subst, arith}
 use Rattle.std.proofs.lemmas.List.Elements.{All-head, All-tail}
 use Rattle.archive_shape_references.specs.declared.refs.Ref.{Ref}
-use Rattle.archive_btree_reading.specs.Refs.{IsThere}
+use Rattle.archive_btree_walking.specs.Refs.{IsThere}
 use Rattle.archive_btree_reading.specs.StdMaps.{IsSamePair}
 use Rattle.archive_btree_reading.proofs.Compared.{first_ended}
 use Rattle.archive_btree_reading.proofs.Same.{not_as_many, at_start, other_first, same_first, all_same}

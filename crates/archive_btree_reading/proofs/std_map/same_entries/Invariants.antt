@@ -1,6 +1,6 @@
 use Rattle.std.proofs.Common.{◌≡◌, ◌↔◌, All, length}
 use Rattle.std.specs.List.{AllZip}
-use Rattle.archive_btree_reading.specs.Refs.{IsThere}
+use Rattle.archive_btree_walking.specs.Refs.{IsThere}
 use Rattle.archive_btree_reading.specs.StdMaps.{IsSamePair}
 use Rattle.archive_btree_reading.proofs.std_map.same_entries.Given as goal
 

@@ -2,9 +2,9 @@ use Rattle.std.proofs.Common.{◌+◌, ◌≤◌, refl, ap, length, arith, sym, 
 use Rattle.archive_shape_layout.specs.Shape.{size_of}
 use Rattle.archive_shape_references.specs.Bytes.{overwrite}
 use Rattle.archive_btree_layout.specs.Tree.{items}
-use Rattle.archive_btree_reading.specs.Walks.{BegunMap, IsWritten}
-use Rattle.archive_btree_reading.proofs.Roots.{tree_of_value}
-use Rattle.archive_btree_reading.proofs.Sealed.{first_among, value_written}
+use Rattle.archive_btree_walking.specs.Walks.{BegunMap, IsWritten}
+use Rattle.archive_btree_walking.proofs.Roots.{tree_of_value}
+use Rattle.archive_btree_walking.proofs.Sealed.{first_among, value_written}
 use Rattle.archive_btree_tests.proofs.sealing.fill_values.Goals as goal
 
 pub loop-at-init : goal.loop-at-init

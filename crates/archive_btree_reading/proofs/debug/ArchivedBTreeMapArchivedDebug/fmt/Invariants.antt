@@ -1,5 +1,5 @@
 use Rattle.std.proofs.Common.{All}
-use Rattle.archive_btree_reading.specs.Refs.{IsThere}
+use Rattle.archive_btree_walking.specs.Refs.{IsThere}
 use Rattle.archive_btree_reading.proofs.debug.ArchivedBTreeMapArchivedDebug.fmt.Given as goal
 
 -- values stand at the entries that are left

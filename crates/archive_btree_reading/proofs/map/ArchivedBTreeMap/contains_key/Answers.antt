@@ -1,5 +1,5 @@
 use Rattle.std.proofs.Common.{◌∙◌, sym}
-use Rattle.archive_btree_reading.proofs.Refs.{same_some, found_some}
+use Rattle.archive_btree_walking.proofs.Refs.{same_some, found_some}
 use Rattle.archive_btree_reading.proofs.map.ArchivedBTreeMap.contains_key.Goals as goal
 
 pub returns-clause-answers : goal.returns-clause-answers

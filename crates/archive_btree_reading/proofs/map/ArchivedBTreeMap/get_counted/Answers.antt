@@ -1,8 +1,8 @@
 use Rattle.std.proofs.Common.{◌∙◌, Some, ap}
 use Rattle.archive_btree_layout.specs.Descent.{descend}
-use Rattle.archive_btree_reading.specs.Refs.{value_at}
-use Rattle.archive_btree_reading.proofs.Refs.{ref_is, found_at, none_found, finds_some}
-use Rattle.archive_btree_reading.proofs.Held.{found_there}
+use Rattle.archive_btree_walking.specs.Refs.{value_at}
+use Rattle.archive_btree_walking.proofs.Refs.{ref_is, found_at, none_found, finds_some}
+use Rattle.archive_btree_walking.proofs.Held.{found_there}
 use Rattle.archive_btree_layout.specs.Tree.{items}
 use Rattle.archive_forms_reading.specs.Parts.{HasValue}
 use Rattle.archive_btree_reading.proofs.map.ArchivedBTreeMap.get_counted.Goals as goal

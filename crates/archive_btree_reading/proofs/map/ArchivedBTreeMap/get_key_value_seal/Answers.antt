@@ -5,8 +5,8 @@ use Rattle.archive_shape_layout.specs.Shape.{size_of}
 use Rattle.archive_btree_layout.specs.Tree.{items}
 use Rattle.archive_btree_searching.specs.Nodes.{place_of}
 use Rattle.archive_forms_reading.specs.Parts.{HasValue}
-use Rattle.archive_btree_reading.proofs.Roots.{tree_of_value}
-use Rattle.archive_btree_reading.proofs.Sealed.{nothing_written, values_within, keys_before, found_entry, lent_there}
+use Rattle.archive_btree_walking.proofs.Roots.{tree_of_value}
+use Rattle.archive_btree_walking.proofs.Sealed.{nothing_written, values_within, keys_before, found_entry, lent_there}
 use Rattle.archive_btree_reading.proofs.map.ArchivedBTreeMap.get_key_value_seal.Goals as goal
 
 pub lend_entry-requires : goal.lend_entry-requires

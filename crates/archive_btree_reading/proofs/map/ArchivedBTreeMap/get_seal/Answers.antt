@@ -4,9 +4,9 @@ use Rattle.std.proofs.lemmas.List.Elements.{All-contains}
 use Rattle.archive_btree_layout.specs.Tree.{items}
 use Rattle.archive_btree_searching.specs.Nodes.{place_of}
 use Rattle.archive_forms_reading.specs.Parts.{HasValue}
-use Rattle.archive_btree_reading.proofs.Held.{entries_are}
-use Rattle.archive_btree_reading.proofs.Roots.{tree_of_value}
-use Rattle.archive_btree_reading.proofs.Sealed.{found_entry}
+use Rattle.archive_btree_walking.proofs.Held.{entries_are}
+use Rattle.archive_btree_walking.proofs.Roots.{tree_of_value}
+use Rattle.archive_btree_walking.proofs.Sealed.{found_entry}
 use Rattle.archive_btree_reading.proofs.map.ArchivedBTreeMap.get_seal.Goals as goal
 
 pub returns-in-Some-clause-answers : goal.returns-in-Some-clause-answers

@@ -1,9 +1,9 @@
 use Rattle.std.proofs.Common.{◌∙◌, IfSome, sym, subst}
 use Rattle.archive_btree_layout.specs.Tree.{items}
-use Rattle.archive_btree_reading.specs.Lookups.{Finds, IsEqualKey}
+use Rattle.archive_btree_walking.specs.Lookups.{Finds, IsEqualKey}
 use Rattle.archive_forms_reading.specs.Parts.{HasValue}
-use Rattle.archive_btree_reading.specs.Refs.{value_at}
-use Rattle.archive_btree_reading.proofs.Refs.{some_mapped}
+use Rattle.archive_btree_walking.specs.Refs.{value_at}
+use Rattle.archive_btree_walking.proofs.Refs.{some_mapped}
 use Rattle.archive_btree_reading.proofs.map.ArchivedBTreeMap.index.Goals as goal
 
 pub unwrap-requires : goal.unwrap-requires

@@ -1,4 +1,4 @@
-use Rattle.archive_btree_reading.proofs.Roots.{map_empty}
+use Rattle.archive_btree_walking.proofs.Roots.{map_empty}
 use Rattle.archive_btree_reading.proofs.map.ArchivedBTreeMap.is_empty.Goals as goal
 
 pub returns : goal.returns

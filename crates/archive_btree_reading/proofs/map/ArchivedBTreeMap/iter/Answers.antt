@@ -1,5 +1,5 @@
 use Rattle.std.proofs.Common.{◌∙◌, map, ap}
-use Rattle.archive_btree_reading.specs.Refs.{entry_at}
+use Rattle.archive_btree_walking.specs.Refs.{entry_at}
 use Rattle.archive_btree_reading.proofs.map.ArchivedBTreeMap.iter.Goals as goal
 
 pub returns : goal.returns

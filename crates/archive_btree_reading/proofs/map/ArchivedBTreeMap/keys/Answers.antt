@@ -1,7 +1,7 @@
 use Rattle.std.proofs.Common.{◌∙◌, map, ap}
 use Rattle.archive_btree_layout.specs.Tree.{items}
-use Rattle.archive_btree_reading.specs.Refs.{entry_at}
-use Rattle.archive_btree_reading.proofs.Refs.{mapped}
+use Rattle.archive_btree_walking.specs.Refs.{entry_at}
+use Rattle.archive_btree_walking.proofs.Refs.{mapped}
 use Rattle.archive_btree_reading.proofs.map.ArchivedBTreeMap.keys.Goals as goal
 
 pub returns : goal.returns

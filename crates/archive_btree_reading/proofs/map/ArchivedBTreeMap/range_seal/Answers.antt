@@ -1,11 +1,11 @@
 use Rattle.std.proofs.Common.{◌∙◌, sym, subst}
 use Rattle.archive_btree_layout.specs.Tree.{items}
 use Rattle.archive_btree_searching.specs.Ranges.{IsRun}
-use Rattle.archive_btree_reading.specs.Ranges.{items_between}
-use Rattle.archive_btree_reading.specs.Walks.{WalksIn}
-use Rattle.archive_btree_reading.proofs.Between.{of_each, of_lent}
-use Rattle.archive_btree_reading.proofs.Held.{entries_are}
-use Rattle.archive_btree_reading.proofs.Sealed.{begun_goes_on, one_left, map_at}
+use Rattle.archive_btree_walking.specs.Ranges.{items_between}
+use Rattle.archive_btree_walking.specs.Walks.{WalksIn, IsWritten}
+use Rattle.archive_btree_walking.proofs.Between.{of_each, of_lent}
+use Rattle.archive_btree_walking.proofs.Held.{entries_are}
+use Rattle.archive_btree_walking.proofs.Sealed.{begun_goes_on, one_left, map_at}
 use Rattle.archive_btree_reading.proofs.map.ArchivedBTreeMap.range_seal.Goals as goal
 
 pub walk_between-walk-requires-clause-callable : goal.walk_between-walk-requires-clause-callable
@@ -23,7 +23,7 @@ returns-clause-within g c m e f =
     let here = map_at m bytes c.args.this.pos e f in
     let w = c.walk_between-walk.ensures.within t here in
     let goes = begun_goes_on m bytes c.args.this.pos e f c.walk_between-walk.result w.0 (λ map. (w.1, w.2)) in
-    (w.0, goes.0, goes.1)
+    (w.0, c.new.ensures.entries g.row.E m w.0 goes.0, subst (IsWritten m) (sym c.new.ensures.bytes) goes.1)
 
 pub returns-clause-between : goal.returns-clause-between
 returns-clause-between g c m order e f told queries =
@@ -43,4 +43,4 @@ returns-clause-between g c m order e f told queries =
     subst (WalksIn bytes g.row.E g.K.Portable.shape g.V.Portable.shape c.args.this.pos c.walk_between-walk.result) (λ i. items_between order (start i) (end i) (items t)) between
     in
     let among = subst (λ es. IsRun es (items t)) (one_left bytes w.1.layout walks.layout w.1.root walks.root c.walk_between-walk.result w.0 _ w.1.left walks.left) w.2 in
-    (begun_goes_on m bytes c.args.this.pos e f c.walk_between-walk.result _ (λ map. (walks, among))).0
+    c.new.ensures.entries g.row.E m _ (begun_goes_on m bytes c.args.this.pos e f c.walk_between-walk.result _ (λ map. (walks, among))).0

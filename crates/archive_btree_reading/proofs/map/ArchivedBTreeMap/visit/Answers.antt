@@ -3,8 +3,8 @@ use Rattle.std.specs.declared.ops.ControlFlow.TheVariants.{Continue, Break}
 use Rattle.archive_btree_searching.specs.Visiting.{VisitsAll, BreaksWith, IsCallableAt}
 use Rattle.archive_btree_searching.proofs.Visited.{visits_none, visits_first, breaks_later, breaks_first, callable_first, callable_rest}
 use Rattle.archive_btree_reading.specs.Visits.{MayCallAt, CallsAt}
-use Rattle.archive_btree_reading.proofs.Roots.{tree_of_value}
-use Rattle.archive_btree_reading.proofs.Refs.{at_values, at_places}
+use Rattle.archive_btree_walking.proofs.Roots.{tree_of_value}
+use Rattle.archive_btree_walking.proofs.Refs.{at_values, at_places}
 use Rattle.archive_btree_reading.proofs.map.ArchivedBTreeMap.visit.Goals as goal
 
 pub loop-entry-init : goal.loop-entry-init

@@ -4,9 +4,9 @@ use Rattle.archive_btree_layout.specs.Tree.{items}
 use Rattle.archive_btree_searching.specs.Nodes.{place_of}
 use Rattle.archive_btree_reading.specs.SealedVisits.{MayCallSealed}
 use Rattle.archive_btree_reading.specs.SealedVisits.VisitsSealed.{none_left}
-use Rattle.archive_btree_reading.proofs.Roots.{tree_of_value}
-use Rattle.archive_btree_reading.proofs.Runs.{whole_run}
-use Rattle.archive_btree_reading.proofs.Sealed.{walk_goes_on, nothing_written, first_among, lent_there}
+use Rattle.archive_btree_walking.proofs.Roots.{tree_of_value}
+use Rattle.archive_btree_walking.proofs.Runs.{whole_run}
+use Rattle.archive_btree_walking.proofs.Sealed.{walk_goes_on, nothing_written, first_among, lent_there}
 use Rattle.archive_btree_reading.proofs.SealedCalls.{IsSplit, same_map, fewer_left, joined_written, is_lent, broke, went, visits_same}
 use Rattle.archive_btree_reading.proofs.map.ArchivedBTreeMap.visit_seal.Goals as goal
 

@@ -3,7 +3,7 @@ use Rattle.archive_btree_layout.specs.Tree.{items}
 use Rattle.archive_btree_layout.specs.Reading.{Place}
 use Rattle.archive_btree_searching.specs.Ranges.{before_key}
 use Rattle.archive_btree_searching.specs.Walking.{stack_items}
-use Rattle.archive_btree_reading.specs.Walks.{BegunMap, IsWritten, GoesOn}
+use Rattle.archive_btree_walking.specs.Walks.{BegunMap, IsWritten, GoesOn}
 use Rattle.archive_btree_reading.specs.SealedVisits.{VisitsSealed}
 use Rattle.archive_btree_reading.proofs.map.ArchivedBTreeMap.visit_seal.Given as goal
 

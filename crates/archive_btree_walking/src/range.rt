@@ -1,0 +1,160 @@
+//! The entries of an archived B-tree map between two bounds, by the position of the map.
+ghost use Rattle.std.specs.Prelude.{◌≡◌, List, None, IfSome, map, All};
+ghost use Rattle.std.specs.Iterator.{YieldsFirst, UpTo, item_count};
+ghost use Rattle.std.specs.Iterator.SizeHint.{IsWithinCount};
+ghost use Rattle.std.specs.Range.Bound.{bound_map};
+ghost use Rattle.std.specs.declared.cmp.Ordering.{Ordering};
+ghost use Rattle.archive_shape_layout.specs.Shape.Shape.{tree};
+ghost use Rattle.archive_btree_layout.specs.Tree.{Tree, items};
+ghost use Rattle.archive_btree_layout.specs.Reading.{Place};
+ghost use Rattle.archive_btree_searching.specs.Ranges.{IsRun};
+ghost use Rattle.archive_forms_reading.specs.Parts.{HasValue, both};
+ghost use Rattle.archive_btree_walking.specs.Maps.{IsMapAt};
+ghost use Rattle.archive_btree_walking.specs.Ranges.{OfQuery, OfQueries, TellsBefore, TellsBehind, OrdersCalls, items_between};
+ghost use Rattle.archive_btree_walking.specs.Refs.{entry_at};
+ghost use Rattle.archive_btree_walking.specs.Walks.{WalksIn};
+
+use crate::root::root_at;
+use archive_btree_nodes::NodeLayout;
+use archive_btree_searching::EntryWalk;
+use archive_shape_portable::Portable;
+use archive_shape_references::Ref;
+use std::cmp::Ordering;
+use std::iter::FusedIterator;
+use std::marker::{Model, PhantomData};
+use std::ops::Bound;
+
+/// The entries between two bounds in the order of their keys. It is seen as those that are left.
+#[derive(Drop)]
+pub struct Range<'a, K, V> {
+    bytes: &'a [u8],
+    walk: archive_btree_searching::Range<'a>,
+    of: PhantomData<(K, V)>,
+}
+
+impl<'a, K, V> Model for Range<'a, K, V> {
+    ghost use Rattle.std.specs.Prelude.{List, map};
+    ghost use Rattle.archive_shape_references.specs.declared.refs.Ref.{Ref};
+
+    ghost Value = { List (Ref K × Ref V) };
+
+    ghost use Rattle.archive_btree_walking.specs.Refs.{entry_at};
+
+    ghost view = { λ it. map (entry_at it.bytes) it.walk };
+}
+
+impl<'a, K, V> Range<'a, K, V> {
+    /// The entries that a walk over places of a buffer has left.
+    pub fn new(bytes: &'a [u8], walk: archive_btree_searching::Range<'a>) -> Self
+        ensures { result ≡ map (entry_at bytes.entry) walk.entry }
+    {
+        Range {
+            bytes,
+            walk,
+            of: PhantomData,
+        }
+    }
+}
+
+/// How many entries there are is not known before the end.
+impl<'a, K, V> Iterator for Range<'a, K, V> {
+    type Item = (Ref<'a, K>, Ref<'a, V>);
+
+    ghost next_gives = { YieldsFirst (λ xs. xs) };
+
+    ghost remaining = { item_count (λ xs. xs) };
+
+    fn next(&mut self) -> Option<(Ref<'a, K>, Ref<'a, V>)> {
+        let entry = self.walk.next()?;
+        Some((
+            Ref::new(self.bytes, entry.key),
+            Ref::new(self.bytes, entry.value),
+        ))
+    }
+
+    fn size_hint(&self) -> (usize, Option<usize>)
+        ensures lower { IsWithinCount result.0 (item_count (λ xs. xs) self.now) }
+        ensures upper { IfSome result.1 (UpTo (item_count (λ xs. xs) self.now)) }
+        ensures exact { result ≡ (0, None) }
+    {
+        (0, None)
+    }
+}
+
+impl<'a, K, V> FusedIterator for Range<'a, K, V> {}
+
+/// Whether a key lies before a range, by how the query of the lower bound compares with it.
+fn is_before<Q, C: Fn(&Q, usize) -> Ordering>(start: Bound<&Q>, at: usize, compare: &C) -> bool
+    requires { OfQuery (λ query. C.pre compare.now query at) start }
+    ensures { TellsBefore C.post compare.now start.entry at result }
+{
+    match start {
+        Bound::Included(query) => compare(query, at).is_gt(),
+        Bound::Excluded(query) => compare(query, at).is_ge(),
+        Bound::Unbounded => false,
+    }
+}
+
+/// Whether a key lies behind a range, by how the query of the upper bound compares with it.
+fn is_behind<Q, C: Fn(&Q, usize) -> Ordering>(end: Bound<&Q>, at: usize, compare: &C) -> bool
+    requires { OfQuery (λ query. C.pre compare.now query at) end }
+    ensures { TellsBehind C.post compare.now end.entry at result }
+{
+    match end {
+        Bound::Included(query) => compare(query, at).is_lt(),
+        Bound::Excluded(query) => compare(query, at).is_le(),
+        Bound::Unbounded => false,
+    }
+}
+
+/// A walk over the entries between two bounds of the map at `pos` that holds no bytes. `compare` says how the query of a
+/// bound compares with the key at a position.
+pub fn walk_between<K: Portable, V: Portable, Q, C: Fn(&Q, usize) -> Ordering, const E: usize>(
+    bytes: &[u8],
+    pos: usize,
+    start: Bound<&Q>,
+    end: Bound<&Q>,
+    compare: &C,
+) -> EntryWalk
+    requires has { HasValue (tree E K.shape V.shape) (both K.knows V.knows) bytes.now pos }
+    requires callable { (t : Tree Place) → IsMapAt bytes.now E K.shape V.shape pos t
+        → All (λ e. OfQueries (λ query. C.pre compare.now query e.key) start end) (items t) }
+    ensures within { (t : Tree Place) → IsMapAt bytes.now E K.shape V.shape pos t
+        → (es : List Place) × WalksIn bytes.now E K.shape V.shape pos result es × IsRun es (items t) }
+    ensures between { (t : Tree Place) (order : Q → Place → Ordering) → IsMapAt bytes.now E K.shape V.shape pos t
+        → OfQueries (λ query. OrdersCalls C.post compare.now query (order query.now) (items t)) start.entry end.entry
+        → WalksIn bytes.now E K.shape V.shape pos result (items_between order (bound_map (λ q. q.now) start.entry) (bound_map (λ q. q.now) end.entry) (items t)) }
+{
+    let Some(root) = root_at::<K, V, E>(bytes, pos) else {
+        return EntryWalk::empty(NodeLayout::of::<K, V, E>());
+    };
+    let precedes = |at: usize| -> bool
+        requires { OfQuery (λ query. C.pre compare.now query at) start }
+        ensures { TellsBefore C.post compare.entry.now start.entry at result }
+    { is_before(start, at, compare) };
+    let follows = |at: usize| -> bool
+        requires { OfQuery (λ query. C.pre compare.now query at) end }
+        ensures { TellsBehind C.post compare.entry.now end.entry at result }
+    { is_behind(end, at, compare) };
+    EntryWalk::between(bytes, root.pos, root.layout, &precedes, &follows)
+}
+
+/// A walk over the entries between two bounds of the map at `pos`. `compare` says how the query of a bound compares with
+/// the key at a position.
+pub fn range_at<'a, K: Portable, V: Portable, Q, C: Fn(&Q, usize) -> Ordering, const E: usize>(
+    bytes: &'a [u8],
+    pos: usize,
+    start: Bound<&Q>,
+    end: Bound<&Q>,
+    compare: &C,
+) -> archive_btree_searching::Range<'a>
+    requires has { HasValue (tree E K.shape V.shape) (both K.knows V.knows) bytes.now pos }
+    requires callable { (t : Tree Place) → IsMapAt bytes.now E K.shape V.shape pos t
+        → All (λ e. OfQueries (λ query. C.pre compare.now query e.key) start end) (items t) }
+    ensures within { (t : Tree Place) → IsMapAt bytes.entry.now E K.shape V.shape pos t → IsRun result (items t) }
+    ensures between { (t : Tree Place) (order : Q → Place → Ordering) → IsMapAt bytes.entry.now E K.shape V.shape pos t
+        → OfQueries (λ query. OrdersCalls C.post compare.now query (order query.now) (items t)) start.entry end.entry
+        → result ≡ items_between order (bound_map (λ q. q.now) start.entry) (bound_map (λ q. q.now) end.entry) (items t) }
+{
+    walk_between::<K, V, _, _, E>(bytes, pos, start, end, compare).over(bytes)
+}

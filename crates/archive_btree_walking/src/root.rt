@@ -1,0 +1,82 @@
+//! Where the search tree of a map begins.
+ghost use Rattle.std.specs.Prelude.{◌≡◌, ◌+◌, ◌<◌, ◌≤◌, length, MatchOption};
+ghost use Rattle.archive_shape_layout.specs.Bytes.{word_at};
+ghost use Rattle.archive_shape_layout.specs.Shape.Shape.{tree};
+ghost use Rattle.archive_btree_layout.specs.Tree.{Tree, items};
+ghost use Rattle.archive_btree_layout.specs.Tree.Tree.{absent};
+ghost use Rattle.archive_btree_layout.specs.Reading.{Place};
+ghost use Rattle.archive_btree_nodes.specs.Layout.{IsLayout};
+ghost use Rattle.archive_btree_searching.specs.Layout.{IsTreeAt};
+ghost use Rattle.archive_forms_reading.specs.Parts.{HasValue, PointsTo, both};
+ghost use Rattle.archive_btree_walking.specs.Maps.{IsMapAt};
+ghost use Rattle.archive_btree_walking.specs.Walks.{WalksIn};
+
+use archive_btree_nodes::NodeLayout;
+use archive_btree_searching::{EntryWalk, Walk};
+use archive_forms_reading::target_of;
+use archive_shape_portable::Portable;
+
+/// The root of a search tree, and where the parts of its nodes stand.
+#[derive(Clone, Copy)]
+pub(crate) struct Root {
+    pub pos: usize,
+    pub layout: NodeLayout,
+}
+
+/// How many entries the map at `pos` has, by its own bytes.
+pub fn count_at(bytes: &[u8], pos: usize) -> usize
+    requires { pos + 8 ≤ length bytes.now }
+    ensures { result ≡ word_at bytes.now (pos + 4) }
+{
+    let _len = bytes.len();
+    let at = pos + 4;
+    u32::from_le_bytes([bytes[at], bytes[at + 1], bytes[at + 2], bytes[at + 3]]) as usize
+}
+
+/// The root of the map at `pos`, if it has entries.
+pub(crate) fn root_at<K: Portable, V: Portable, const E: usize>(
+    bytes: &[u8],
+    pos: usize,
+) -> Option<Root>
+    requires has { HasValue (tree E K.shape V.shape) (both K.knows V.knows) bytes.now pos }
+    ensures tree { (t : Tree Place) → IsMapAt bytes.now E K.shape V.shape pos t → MatchOption result
+        (t ≡ absent)
+        (λ root. IsTreeAt bytes.now root.layout 1 root.pos t) }
+    ensures leads { MatchOption result
+        (word_at bytes.now (pos + 4) ≡ 0)
+        (λ root. PointsTo bytes.now pos root.pos × IsLayout E K.shape V.shape root.layout) }
+{
+    let _len = bytes.len();
+    if count_at(bytes, pos) == 0 {
+        return None;
+    }
+    Some(Root {
+        pos: target_of(bytes, pos),
+        layout: NodeLayout::of::<K, V, E>(),
+    })
+}
+
+/// A walk over the entries of the map at `pos`.
+pub fn walk_at<K: Portable, V: Portable, const E: usize>(bytes: &[u8], pos: usize) -> Walk<'_>
+    requires has { HasValue (tree E K.shape V.shape) (both K.knows V.knows) bytes.now pos }
+    ensures { (t : Tree Place) → IsMapAt bytes.entry.now E K.shape V.shape pos t → result ≡ items t }
+{
+    match root_at::<K, V, E>(bytes, pos) {
+        Some(root) => Walk::new(bytes, root.pos, root.layout, count_at(bytes, pos)),
+        None => Walk::empty(bytes, NodeLayout::of::<K, V, E>()),
+    }
+}
+
+/// A walk over the entries of the map at `pos` that holds no bytes.
+pub fn entry_walk_at<K: Portable, V: Portable, const E: usize>(
+    bytes: &[u8],
+    pos: usize,
+) -> EntryWalk
+    requires has { HasValue (tree E K.shape V.shape) (both K.knows V.knows) bytes.now pos }
+    ensures { (t : Tree Place) → IsMapAt bytes.now E K.shape V.shape pos t → WalksIn bytes.now E K.shape V.shape pos result (items t) }
+{
+    match root_at::<K, V, E>(bytes, pos) {
+        Some(root) => EntryWalk::new(bytes, root.pos, root.layout),
+        None => EntryWalk::empty(NodeLayout::of::<K, V, E>()),
+    }
+}

@@ -1,0 +1,71 @@
+//! Cursors over the entries of an archived B-tree map between two bounds that lend one value at a time.
+ghost use Rattle.std.specs.Prelude.{◌≡◌, ℕ, ◌+◌, ◌≤◌, List, [], ◌∷◌, length, take, IfSome, MatchOption};
+ghost use Rattle.archive_btree_layout.specs.Reading.{Place};
+ghost use Rattle.archive_btree_searching.specs.Nodes.{place_of};
+ghost use Rattle.archive_forms_reading.specs.Parts.{HasValue};
+ghost use Rattle.archive_btree_walking.specs.Walks.{BegunMap, IsWritten, GoesOn};
+ghost use Rattle.archive_btree_walking.specs.Seals.{IsLent};
+ghost use Rattle.archive_btree_walking.specs.Cursors.{HasRange};
+
+use crate::sealing::lending::lend_entry;
+use crate::sealing::passing::pass_entry;
+use archive_btree_searching::{EntryAt, EntryWalk};
+use archive_shape_portable::Portable;
+use archive_shape_references::{OwnSeal, Ref};
+use std::marker::PhantomData;
+
+/// A cursor over the entries between two bounds in the order of their keys. Between its steps the archive's bytes may be
+/// written, as long as they differ from those that it began with at most in the values of the map.
+#[derive(Drop)]
+pub struct RangeSeal<'a, K, V> {
+    /// The whole archive.
+    pub bytes: &'a mut [u8],
+    walk: EntryWalk,
+    of: PhantomData<(K, V)>,
+}
+
+impl<'a, K: Portable, V: Portable> RangeSeal<'a, K, V> {
+    /// A cursor over the entries that a walk over the bytes has left.
+    pub fn new(bytes: &'a mut [u8], walk: EntryWalk) -> Self
+        ensures same_reference { result.bytes.ghost_name ≡ bytes.entry.ghost_name }
+        ensures bytes { result.bytes.now ≡ bytes.old }
+        ensures entries { (most : ℕ) (m : BegunMap most K.shape V.shape K.knows V.knows) (es : List Place) → GoesOn m walk es → HasRange m result es }
+    {
+        RangeSeal {
+            bytes,
+            walk,
+            of: PhantomData,
+        }
+    }
+
+    /// Where the next entry's key and value stand. The entry is passed.
+    pub fn advance(&mut self) -> Option<EntryAt>
+        requires { (most : ℕ) × (m : BegunMap most K.shape V.shape K.knows V.knows) × (es : List Place) × HasRange m self.old es × IsWritten m self.old.bytes.now }
+        ensures same_reference { self.new.bytes.ghost_name ≡ self.old.bytes.ghost_name }
+        ensures bytes { self.new.bytes.now ≡ self.old.bytes.now }
+        ensures there { IfSome result (λ e. HasValue K.shape K.knows (take e.value self.old.bytes.now) e.key × (e.value + V.SIZE ≤ length self.old.bytes.now)) }
+        ensures steps { (most : ℕ) (m : BegunMap most K.shape V.shape K.knows V.knows) (es : List Place) → HasRange m self.old es → IsWritten m self.old.bytes.now → MatchOption result
+            ((es ≡ []) × HasRange m self.new [])
+            (λ e. (rest : List Place) × (es ≡ place_of e ∷ rest) × HasRange m self.new rest) }
+    {
+        let bytes = std::mem::take(&mut self.bytes);
+        let passed = pass_entry::<K, V>(&mut self.walk, bytes);
+        self.bytes = bytes;
+        passed
+    }
+
+    /// The next entry's key, and its value with only the value's own bytes. The entry is passed. What the archive's bytes are
+    /// after the loan is not said: a caller that is to know them calls `advance`, and makes the seal of those bytes.
+    pub fn next(&mut self) -> Option<(Ref<'_, K>, OwnSeal<'_, V>)>
+        requires { (most : ℕ) × (m : BegunMap most K.shape V.shape K.knows V.knows) × (es : List Place) × HasRange m self.old es × IsWritten m self.old.bytes.now }
+        ensures there { IfSome result (λ r. HasValue K.shape K.knows r.0.bytes.now r.0.pos × (length r.1.own.now ≡ V.SIZE)) }
+        ensures lends { (most : ℕ) (m : BegunMap most K.shape V.shape K.knows V.knows) (es : List Place) → HasRange m self.old es → IsWritten m self.old.bytes.now → MatchOption result
+            (es ≡ [])
+            (λ r. (e : Place) × (rest : List Place) × (es ≡ e ∷ rest) × IsLent V.SIZE self.old.bytes.now e r.0 r.1) }
+    {
+        let Some(entry) = self.advance() else {
+            return None;
+        };
+        Some(lend_entry(self.bytes, entry))
+    }
+}
