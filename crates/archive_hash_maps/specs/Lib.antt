@@ -1,2 +1,3 @@
+pub mod EqualKeys
 pub mod Sets
 pub mod StdMaps

@@ -6,7 +6,7 @@ use Rattle.archive_shape_layout.specs.Shape.Shapes.{no_shapes}
 use Rattle.archive_shape_layout.specs.Content.{Names}
 use Rattle.archive_forms_checking.specs.Tuples.{tuple2}
 use Rattle.archive_forms_reading.specs.Parts.{HasValue, both}
-use Rattle.archive_hash_reading.specs.Tables.{Buckets, IsTableAt, item_positions}
+use Rattle.archive_hash_walking.specs.Tables.{Buckets, IsTableAt, item_positions}
 
 -- the layout of a key beside a unit, which has the key's own bytes
 abbrev pub kept_key : Shape → Shape

@@ -6,8 +6,8 @@ use Rattle.archive_shape_layout.specs.Shape.{Shape}
 use Rattle.archive_shape_layout.specs.Shape.Shape.{tuple}
 use Rattle.archive_shape_layout.specs.Shape.Shapes.{no_shapes}
 use Rattle.archive_forms_tuples.specs.Fields.{field_position}
-use Rattle.archive_hash_reading.specs.Tables.{Buckets}
-use Rattle.archive_hash_reading.specs.Maps.{KeySays, LooksUpKey}
+use Rattle.archive_hash_walking.specs.Tables.{Buckets}
+use Rattle.archive_hash_walking.specs.Maps.{KeySays, LooksUpKey}
 
 -- whether a key leads to a value is said so: not where its look-up finds nothing, and else as the value that is found is the
 -- same or not

@@ -4,8 +4,8 @@ ghost use Rattle.std.specs.Option.{is_some};
 ghost use Rattle.archive_shape_layout.specs.Shape.Shape.{tuple};
 ghost use Rattle.archive_shape_layout.specs.Shape.Shapes.{no_shapes};
 ghost use Rattle.archive_forms_reading.specs.Parts.{HasValue};
-ghost use Rattle.archive_hash_reading.specs.Tables.{Buckets};
-ghost use Rattle.archive_hash_reading.specs.Maps.{HashesTo, KeySays, LooksUpKey, key_at};
+ghost use Rattle.archive_hash_walking.specs.Tables.{Buckets};
+ghost use Rattle.archive_hash_walking.specs.Maps.{HashesTo, KeySays, LooksUpKey, key_at};
 ghost use Rattle.archive_hash_maps.specs.Sets.{HasSet, IsSetAt};
 
 use crate::ArchivedHashSet;

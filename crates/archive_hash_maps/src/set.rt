@@ -3,9 +3,9 @@ ghost use Rattle.std.specs.Prelude.{◌≡◌, ◌++◌, ◌↔◌, [], length, 
 ghost use Rattle.std.proofs.Common.{refl, lit<, lit≤};
 ghost use Rattle.archive_shape_portable.proofs.Naming.{first_types};
 ghost use Rattle.archive_forms_reading.specs.Parts.{HasValue};
-ghost use Rattle.archive_hash_reading.specs.Tables.{Buckets, full_places};
-ghost use Rattle.archive_hash_reading.specs.Places.{item_at};
-ghost use Rattle.archive_hash_reading.specs.Maps.{key_at};
+ghost use Rattle.archive_hash_walking.specs.Tables.{Buckets, full_places};
+ghost use Rattle.archive_hash_walking.specs.Places.{item_at};
+ghost use Rattle.archive_hash_walking.specs.Maps.{key_at};
 ghost use Rattle.archive_hash_maps.specs.Sets.{set_shape, set_knows, HasSet, IsSetAt, key_positions};
 
 use crate::Iter;

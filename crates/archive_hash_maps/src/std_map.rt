@@ -3,8 +3,8 @@ ghost use Rattle.std.specs.Prelude.{◌≡◌, ◌⊎◌, true, false, length, A
 ghost use Rattle.archive_shape_layout.specs.Shape.Shape.{table};
 ghost use Rattle.archive_forms_checking.specs.Tuples.{tuple2};
 ghost use Rattle.archive_forms_reading.specs.Parts.{HasValue, both};
-ghost use Rattle.archive_hash_reading.specs.Tables.{Buckets, IsTableAt, full_places};
-ghost use Rattle.archive_hash_reading.specs.Maps.{HashesTo};
+ghost use Rattle.archive_hash_walking.specs.Tables.{Buckets, IsTableAt, full_places};
+ghost use Rattle.archive_hash_walking.specs.Maps.{HashesTo};
 ghost use Rattle.archive_hash_maps.specs.StdMaps.{LeadsTo};
 
 use archive_hash_reading::ArchivedHashMap;

@@ -1,7 +1,7 @@
 //! Whether a set is equal to a set of std.
 ghost use Rattle.std.specs.Prelude.{◌≡◌, ◌⊎◌, true, false, length, All, Contains};
-ghost use Rattle.archive_hash_reading.specs.Tables.{Buckets, full_places};
-ghost use Rattle.archive_hash_reading.specs.Maps.{HashesTo};
+ghost use Rattle.archive_hash_walking.specs.Tables.{Buckets, full_places};
+ghost use Rattle.archive_hash_walking.specs.Maps.{HashesTo};
 ghost use Rattle.archive_hash_maps.specs.Sets.{HasSet, IsSetAt};
 ghost use Rattle.archive_hash_maps.specs.StdMaps.{IsSaid};
 

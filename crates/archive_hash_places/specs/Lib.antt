@@ -1,3 +1,4 @@
 pub mod Controls
 pub mod Search
 pub mod Stops
+pub mod Loads

@@ -1,29 +1,44 @@
 //! First fit: where the items of a table are put.
-ghost use Rattle.std.specs.Prelude.{◌≡◌, ◌≢◌, ℕ, ◌+◌, ◌*◌, ◌^◌, ◌<◌, ◌≤◌, [], length, replicate, slice_index, IfSome, IfNone};
+ghost use Rattle.std.specs.Prelude.{◌≡◌, ◌≢◌, ℕ, ◌+◌, ◌*◌, ◌^◌, ◌<◌, ◌≤◌, ◌⊎◌, [], length, replicate, slice_index, IfSome, IfNone, MatchResult};
 ghost use Rattle.std.specs.List.{find};
 ghost use Rattle.archive_shape_canonical.specs.FirstFit.{capacity_for, fitted_from, hash_tag, written_controls};
 ghost use Rattle.archive_shape_canonical.specs.Strides.{places_for, places_shown};
 ghost use Rattle.archive_shape_layout.specs.Content.{control_count};
 ghost use Rattle.archive_hash_layout.specs.Reach.{is_empty, Reaches};
+ghost use Rattle.archive_shape_writing.specs.declared.error.Error.TheVariants.{InvalidLoadFactor, LengthTooLarge};
 ghost use Rattle.archive_hash_places.specs.Controls.{AreControls, with_control};
+ghost use Rattle.archive_hash_places.specs.Loads.{IsLoadFactor};
 
 use crate::search::place_of;
 use crate::strides::Strides;
 use archive_hash_scanning::{Scan, stride_empties, tag_of};
+use archive_shape_writing::Error;
 
-/// How many places a table of so many items has, where at most `most` of `places` places may be full. It has always more
-/// places than items, and none where it has no items.
-pub fn capacity_for_len(len: usize, most: usize, places: usize) -> usize
-    requires some { 0 < most }
-    requires len { len < 2 ^ 32 }
-    requires places { places < 2 ^ 31 }
-    ensures { result ≡ capacity_for len most places }
+/// How many places a table of so many items has, where at most `load_factor.0` of `load_factor.1` places may be full. It
+/// has always more places than items, and none where it has no items.
+///
+/// # Errors
+/// `InvalidLoadFactor` where no places or more than all may be full. `LengthTooLarge` where there would be 2^32 places or
+/// more.
+pub fn capacity_for_len(len: usize, load_factor: (usize, usize)) -> Result<usize, Error>
+    ensures { MatchResult result
+        (λ capacity. IsLoadFactor load_factor × (capacity ≡ capacity_for len load_factor.0 load_factor.1) × (capacity < 2 ^ 32))
+        (λ e. ((IsLoadFactor load_factor → ⊥) × (e ≡ InvalidLoadFactor))
+        ⊎ (IsLoadFactor load_factor × (2 ^ 32 ≤ capacity_for len load_factor.0 load_factor.1) × (e ≡ LengthTooLarge))) }
 {
-    if len == 0 {
-        0
-    } else {
-        (len * places / most).max(len + 1)
+    let (most, places) = load_factor;
+    if most == 0 || most > places {
+        return Err(Error::InvalidLoadFactor);
     }
+    if len == 0 {
+        return Ok(0);
+    }
+    let loaded = len as u128 * places as u128 / most as u128;
+    let capacity = loaded.max(len as u128 + 1);
+    if capacity > u32::MAX as u128 {
+        return Err(Error::LengthTooLarge);
+    }
+    Ok(capacity as usize)
 }
 
 /// The first empty place that a stride shows.

@@ -1,9 +1,3 @@
-pub mod Before
-pub mod Entries
-pub mod Lookups
 pub mod Paired
 pub mod Present
-pub mod Read
-pub mod Refs
-pub mod Roots
-pub mod Walked
+pub mod Resolved

@@ -12,12 +12,12 @@ use Rattle.archive_hash_places.specs.Controls.{AreControls}
 use Rattle.archive_hash_places.specs.Search.{IsLookup}
 use Rattle.archive_hash_places.proofs.Findable.{only_is_found}
 use Rattle.archive_hash_places.proofs.Wrapping.{wraps_of, count_of}
-use Rattle.archive_hash_reading.specs.Tables.{Buckets, IsTableAt, item_position}
-use Rattle.archive_hash_reading.specs.Tables.IsTableAt.{has_none, has_buckets}
-use Rattle.archive_hash_reading.specs.Places.{LooksUp}
-use Rattle.archive_hash_reading.specs.Places.LooksUp.{has_no_places, has_places}
-use Rattle.archive_hash_reading.specs.Maps.{HasKey, KeySays, LooksUpKey}
-use Rattle.archive_hash_reading.proofs.Lookups.{none_reached, reaches_none}
+use Rattle.archive_hash_walking.specs.Tables.{Buckets, IsTableAt, item_position}
+use Rattle.archive_hash_walking.specs.Tables.IsTableAt.{has_none, has_buckets}
+use Rattle.archive_hash_walking.specs.Places.{LooksUp}
+use Rattle.archive_hash_walking.specs.Places.LooksUp.{has_no_places, has_places}
+use Rattle.archive_hash_walking.specs.Maps.{HasKey, KeySays, LooksUpKey}
+use Rattle.archive_hash_walking.proofs.Lookups.{none_reached, reaches_none}
 
 -- a search does not miss an item that it comes to under its tag, and that is not refused
 search_finds : (says : ℕ → Bool → Type 0) (controls : List ℕ) (cap hash place strides : ℕ) → 0 < cap → AreControls controls cap

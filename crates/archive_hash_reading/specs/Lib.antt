@@ -1,5 +1,1 @@
-pub mod Equal
-pub mod Maps
-pub mod Places
-pub mod Seals
-pub mod Tables
+pub mod Resolving

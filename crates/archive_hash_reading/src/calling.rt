@@ -1,41 +1,16 @@
 //! Look-ups in archived hash maps by comparisons of the caller's.
-ghost use Rattle.std.specs.Prelude.{◌≡◌, ℕ, IfSome};
+ghost use Rattle.std.specs.Prelude.{ℕ, IfSome};
 ghost use Rattle.archive_shape_layout.specs.Shape.Shape.{table};
 ghost use Rattle.archive_forms_checking.specs.Tuples.{tuple2};
 ghost use Rattle.archive_forms_reading.specs.Parts.{HasValue, both};
-ghost use Rattle.archive_hash_reading.specs.Tables.{Buckets, IsTableAt};
-ghost use Rattle.archive_hash_reading.specs.Maps.{HashesTo, LooksUpKey, query_calls, key_at, value_at, entry_at};
+ghost use Rattle.archive_hash_walking.specs.Tables.{Buckets, IsTableAt};
+ghost use Rattle.archive_hash_walking.specs.Maps.{HashesTo, LooksUpKey, query_calls, key_at, value_at, entry_at};
 
 use crate::ArchivedHashMap;
-use crate::keys::value_position;
-use crate::lookup::search_table;
-use archive_forms_tuples::Entry;
-use archive_hash_scanning::{Group, hash_value};
+use archive_hash_walking::{search_with, value_position};
 use archive_shape_portable::Portable;
 use archive_shape_references::Ref;
 use std::hash::{Hash, Hasher};
-
-/// Where the entry stands whose key the caller's comparison accepts under the query's hash, in the map at `pos`.
-pub(crate) fn search_with<
-    Q: Hash,
-    K: Portable,
-    V: Portable,
-    H: Hasher + Default + Drop,
-    F: Fn(&Q, Ref<'_, K>) -> bool,
->(bytes: &[u8], pos: usize, query: &Q, accepts: &F) -> Option<usize>
-    requires has { HasValue (table (tuple2 K.shape V.shape)) (both K.knows V.knows) bytes.now pos }
-    requires callable { (at : ℕ) → HasValue K.shape K.knows bytes.now at → F.pre accepts.now query (key_at bytes at) }
-    ensures there { IfSome result (HasValue (tuple2 K.shape V.shape) (both K.knows V.knows) bytes.entry.now) }
-    ensures answers { (b : Buckets) → IsTableAt bytes.entry.now (tuple2 K.shape V.shape) pos b
-        → LooksUpKey (HashesTo H.is_default H.write H.finish (Q.hash_input query.now)) (query_calls F.post accepts.now query.entry bytes.entry) (λ at. at) K.shape V.shape b result }
-{
-    let hash = hash_value::<Q, H>(query);
-    let accepts_at = |at: usize| -> bool
-        requires { F.pre accepts.now query (key_at bytes at) }
-        ensures { F.post accepts.entry.now query.entry (key_at bytes.entry at) result }
-    { accepts(query, Ref::new(bytes, at)) };
-    search_table::<Entry<K, V>, Group, _>(bytes, pos, hash, &accepts_at).0
-}
 
 impl<K: Portable, V: Portable, H: Hasher + Default + Drop> ArchivedHashMap<K, V, H> {
     /// The entry that the caller's comparison accepts among those under the query's hash. `accepts` says whether a key is

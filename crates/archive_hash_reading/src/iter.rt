@@ -1,144 +1,15 @@
 //! Iterators over the items of an archived hash table by ascending place.
-ghost use Rattle.std.specs.Prelude.{◌≡◌, ℕ, ◌+◌, ◌*◌, ◌^◌, ◌<◌, ◌≤◌, [], IfSome, All, length, map};
-ghost use Rattle.std.specs.Iterator.{YieldsFirst, UpTo, item_count};
-ghost use Rattle.std.specs.Iterator.SizeHint.{IsExactHint, IsWithinCount};
+ghost use Rattle.std.specs.Prelude.{◌≡◌, All, map};
 ghost use Rattle.archive_shape_layout.specs.Shape.{size_of};
 ghost use Rattle.archive_shape_layout.specs.Shape.Shape.{table};
 ghost use Rattle.archive_forms_reading.specs.Parts.{HasValue};
-ghost use Rattle.archive_hash_reading.specs.Tables.{Buckets, IsTableAt, item_positions, full_places};
-ghost use Rattle.archive_hash_reading.specs.Places.{full_place};
+ghost use Rattle.archive_hash_walking.specs.Tables.{Buckets, IsTableAt, item_positions, full_places};
+ghost use Rattle.archive_hash_walking.specs.Places.{full_place};
 
 use crate::ArchivedHashTable;
-use crate::buckets::{buckets_at, number_at};
-use crate::places::PlaceWalk;
+use archive_hash_walking::{FullPlaces, RawIter, full_places_at, raw_iter_at};
 use archive_shape_portable::Portable;
 use archive_shape_references::Ref;
-use std::iter::FusedIterator;
-use std::marker::{Model, PhantomData};
-
-/// The full places of a table in ascending order: each with its control, which is a tag, and with its item. It is seen as
-/// those that are left.
-#[derive(Drop)]
-pub struct FullPlaces<'a, T> {
-    bytes: &'a [u8],
-    controls: &'a [u8],
-    walk: PlaceWalk<'a>,
-    target: usize,
-    size: usize,
-    of: PhantomData<T>,
-}
-
-impl<'a, T> Model for FullPlaces<'a, T> {
-    ghost use Rattle.std.specs.Prelude.{◌≡◌, ℕ, ◌+◌, ◌-◌, ◌*◌, ◌^◌, ◌<◌, ◌≤◌, List, map, All, length};
-    ghost use Rattle.archive_shape_references.specs.declared.refs.Ref.{Ref};
-    ghost use Rattle.archive_hash_reading.specs.Places.{full_place};
-
-    ghost Value = { List (ℕ × ℕ × Ref T) };
-
-    ghost view = { λ it. map (full_place it.bytes it.controls.now it.target it.size) it.walk };
-
-    ghost invariant = { λ it. All (λ p. (p < 2 ^ 32) × (p < length it.controls.now) × ((p + 1) * it.size ≤ it.target)) it.walk };
-}
-
-impl<'a, T> FullPlaces<'a, T> {
-    /// No places.
-    pub(crate) fn empty(bytes: &'a [u8]) -> Self
-        ensures { result ≡ [] }
-    {
-        FullPlaces {
-            bytes,
-            controls: &[],
-            walk: PlaceWalk::empty(),
-            target: 0,
-            size: 0,
-            of: PhantomData,
-        }
-    }
-}
-
-impl<'a, T> Iterator for FullPlaces<'a, T> {
-    type Item = (usize, u8, Ref<'a, T>);
-
-    ghost next_gives = { YieldsFirst (λ xs. xs) };
-
-    ghost remaining = { item_count (λ xs. xs) };
-
-    fn next(&mut self) -> Option<(usize, u8, Ref<'a, T>)> {
-        let place = self.walk.next()?;
-        let at = self.target - (place + 1) * self.size;
-        Some((place, self.controls[place], Ref::new(self.bytes, at)))
-    }
-
-    fn size_hint(&self) -> (usize, Option<usize>)
-        ensures lower { IsWithinCount result.0 (item_count (λ xs. xs) self.now) }
-        ensures upper { IfSome result.1 (UpTo (item_count (λ xs. xs) self.now)) }
-        ensures exact { IsExactHint result (length self.now) }
-    {
-        self.walk.size_hint()
-    }
-}
-
-impl<'a, T> ExactSizeIterator for FullPlaces<'a, T> {
-    fn len(&self) -> usize {
-        self.walk.len()
-    }
-}
-
-impl<'a, T> FusedIterator for FullPlaces<'a, T> {}
-
-/// Where the items of a table stand, by ascending place. It is seen as the positions that are left.
-#[derive(Drop)]
-pub struct RawIter<'a, T> {
-    places: FullPlaces<'a, T>,
-}
-
-impl<'a, T> Model for RawIter<'a, T> {
-    ghost use Rattle.std.specs.Prelude.{ℕ, List, map};
-
-    ghost Value = { List ℕ };
-
-    ghost view = { λ it. map (λ e. e.2.pos) it.places };
-}
-
-impl<'a, T> RawIter<'a, T> {
-    /// Positions of no items.
-    pub fn empty() -> Self
-        ensures { result ≡ [] }
-    {
-        RawIter {
-            places: FullPlaces::empty(&[]),
-        }
-    }
-}
-
-impl<'a, T> Iterator for RawIter<'a, T> {
-    type Item = usize;
-
-    ghost next_gives = { YieldsFirst (λ xs. xs) };
-
-    ghost remaining = { item_count (λ xs. xs) };
-
-    fn next(&mut self) -> Option<usize> {
-        let (_, _, item) = self.places.next()?;
-        Some(item.pos)
-    }
-
-    fn size_hint(&self) -> (usize, Option<usize>)
-        ensures lower { IsWithinCount result.0 (item_count (λ xs. xs) self.now) }
-        ensures upper { IfSome result.1 (UpTo (item_count (λ xs. xs) self.now)) }
-        ensures exact { IsExactHint result (length self.now) }
-    {
-        self.places.size_hint()
-    }
-}
-
-impl<'a, T> ExactSizeIterator for RawIter<'a, T> {
-    fn len(&self) -> usize {
-        self.places.len()
-    }
-}
-
-impl<'a, T> FusedIterator for RawIter<'a, T> {}
 
 impl<T: Portable> ArchivedHashTable<T> {
     /// The full places in ascending order, each with its tag and its item.
@@ -148,18 +19,7 @@ impl<T: Portable> ArchivedHashTable<T> {
         ensures places { (b : Buckets) → IsTableAt this.entry.bytes.now T.shape this.entry.pos b
             → result ≡ map (full_place this.entry.bytes b.controls b.target (size_of T.shape)) (full_places b) }
     {
-        let bytes = this.bytes;
-        let Some(buckets) = buckets_at::<T>(bytes, this.pos) else {
-            return FullPlaces::empty(bytes);
-        };
-        FullPlaces {
-            bytes,
-            controls: buckets.controls,
-            walk: PlaceWalk::new(buckets, number_at(bytes, this.pos + 4)),
-            target: buckets.target,
-            size: T::SIZE,
-            of: PhantomData,
-        }
+        full_places_at(this.bytes, this.pos)
     }
 
     /// Where the items stand, by ascending place.
@@ -167,8 +27,6 @@ impl<T: Portable> ArchivedHashTable<T> {
         requires { HasValue (table T.shape) T.knows this.bytes.now this.pos }
         ensures { (b : Buckets) → IsTableAt this.entry.bytes.now T.shape this.entry.pos b → result ≡ item_positions T.shape b }
     {
-        RawIter {
-            places: ArchivedHashTable::full_places(this),
-        }
+        raw_iter_at(this.bytes, this.pos)
     }
 }

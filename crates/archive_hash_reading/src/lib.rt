@@ -1,22 +1,24 @@
-//! Archived hash tables as they are read: their places and the items there.
+//! Archived hash tables and maps as they are read: their items, look-ups, and what is written over their values.
 #![tactic(auto)]
 
-mod buckets;
 mod calling;
+mod cursors;
 mod debug;
 mod equal;
 mod iter;
 mod keys;
-mod laws;
 mod lookup;
 mod map;
 mod map_iter;
-mod places;
+mod resolving;
 mod seal;
 mod table;
 
-pub use iter::{FullPlaces, RawIter};
-pub use laws::{one_table, table_is_read};
+pub use archive_hash_walking::{
+    EntryAt, FullPlaces, IterMut, RawIter, RawIterSeal, ValuesMut, items_descend, keys_stay,
+    one_table, table_is_read, table_stays,
+};
 pub use map::ArchivedHashMap;
 pub use map_iter::{Iter, Keys, Values};
+pub use resolving::{HashMapResolver, HashTableResolver};
 pub use table::ArchivedHashTable;

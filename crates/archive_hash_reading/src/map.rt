@@ -5,7 +5,7 @@ ghost use Rattle.archive_shape_layout.specs.Shape.Shape.{table};
 ghost use Rattle.archive_shape_portable.proofs.Naming.{first_types, other_types};
 ghost use Rattle.archive_forms_checking.specs.Tuples.{tuple2};
 ghost use Rattle.archive_forms_reading.specs.Parts.{HasValue, both};
-ghost use Rattle.archive_hash_reading.specs.Tables.{Buckets, IsTableAt, full_places};
+ghost use Rattle.archive_hash_walking.specs.Tables.{Buckets, IsTableAt, full_places};
 
 use crate::ArchivedHashTable;
 use archive_forms_tuples::Entry;

@@ -5,12 +5,13 @@ ghost use Rattle.std.specs.Iterator.SizeHint.{IsExactHint, IsWithinCount};
 ghost use Rattle.archive_shape_layout.specs.Shape.Shape.{table};
 ghost use Rattle.archive_forms_checking.specs.Tuples.{tuple2};
 ghost use Rattle.archive_forms_reading.specs.Parts.{HasValue, both};
-ghost use Rattle.archive_hash_reading.specs.Tables.{Buckets, IsTableAt, item_positions};
-ghost use Rattle.archive_hash_reading.specs.Maps.{key_at, value_at, entry_at, pair_at};
+ghost use Rattle.archive_hash_walking.specs.Tables.{Buckets, IsTableAt, item_positions};
+ghost use Rattle.archive_hash_walking.specs.Maps.{key_at, value_at, entry_at, pair_at};
 
-use crate::{ArchivedHashMap, ArchivedHashTable, RawIter};
+use crate::{ArchivedHashMap, ArchivedHashTable};
 use archive_forms_checking::next_multiple;
 use archive_forms_tuples::Entry;
+use archive_hash_walking::RawIter;
 use archive_shape_portable::Portable;
 use archive_shape_references::Ref;
 use std::iter::FusedIterator;
@@ -28,7 +29,7 @@ pub struct Iter<'a, K, V> {
 impl<'a, K, V> Model for Iter<'a, K, V> {
     ghost use Rattle.std.specs.Prelude.{ℕ, ◌+◌, ◌^◌, ◌<◌, List, map, All};
     ghost use Rattle.archive_shape_references.specs.declared.refs.Ref.{Ref};
-    ghost use Rattle.archive_hash_reading.specs.Maps.{pair_at};
+    ghost use Rattle.archive_hash_walking.specs.Maps.{pair_at};
 
     ghost Value = { List (Ref K × Ref V) };
 

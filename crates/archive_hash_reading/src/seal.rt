@@ -1,22 +1,20 @@
 //! Items of archived hash tables, and values of archived hash maps, that may be edited.
 ghost use denote.Ref.{Bor};
-ghost use Rattle.std.specs.Prelude.{◌≡◌, ℕ, ◌+◌, ◌≤◌, List, length, Option, Some, None, IfSome, MatchOption};
+ghost use Rattle.std.specs.Prelude.{◌≡◌, ℕ, ◌+◌, List, length, Option, Some, None, IfSome, MatchOption};
 ghost use Rattle.std.specs.Option.{option_map};
 ghost use Rattle.archive_shape_layout.specs.Shape.Shape.{table};
 ghost use Rattle.archive_shape_layout.specs.Shape.Shapes.{no_shapes};
 ghost use Rattle.archive_forms_checking.specs.Tuples.{tuple2};
 ghost use Rattle.archive_forms_reading.specs.Parts.{HasValue, both};
 ghost use Rattle.archive_forms_tuples.specs.Fields.{field_position};
-ghost use Rattle.archive_hash_reading.specs.Tables.{Buckets, IsTableAt};
-ghost use Rattle.archive_hash_reading.specs.Places.{Answers, calls, item_at};
-ghost use Rattle.archive_hash_reading.specs.Maps.{HashesTo, KeySays, LooksUpKey, query_calls, key_at};
-ghost use Rattle.archive_hash_reading.specs.Seals.{IsLent};
+ghost use Rattle.archive_hash_walking.specs.Tables.{Buckets, IsTableAt};
+ghost use Rattle.archive_hash_walking.specs.Places.{Answers, calls, item_at};
+ghost use Rattle.archive_hash_walking.specs.Maps.{HashesTo, KeySays, LooksUpKey, query_calls, key_at};
+ghost use Rattle.archive_hash_walking.specs.Seals.{IsLent};
 
-use crate::calling::search_with;
-use crate::keys::{search_key, value_position};
-use crate::lookup::search_table;
 use crate::{ArchivedHashMap, ArchivedHashTable};
 use archive_hash_scanning::Group;
+use archive_hash_walking::{lend_entry, search_key, search_table, search_with, value_position};
 use archive_shape::ArchivedKey;
 use archive_shape_portable::Portable;
 use archive_shape_references::{OwnSeal, Ref, Seal};
@@ -157,20 +155,4 @@ impl<K: Portable, V: Portable, H: Hasher + Default + Drop> ArchivedHashMap<K, V,
             None => None,
         }
     }
-}
-
-/// The key at a position, and the value at another with only the value's own bytes.
-fn lend_entry<K, V: Portable>(
-    bytes: &mut [u8],
-    key: usize,
-    value: usize,
-) -> (Ref<'_, K>, OwnSeal<'_, V>)
-    requires { value + V.SIZE ≤ length bytes.old }
-    ensures { IsLent V.SIZE bytes.old key value result.0 result.1 }
-{
-    let (before, rest) = bytes.split_at_mut(value);
-    (
-        Ref::new(before, key),
-        OwnSeal::new(&mut rest[..V::SIZE], value),
-    )
 }

@@ -3,10 +3,10 @@ ghost use Rattle.std.specs.Prelude.{◌≡◌, ◌↔◌, [], length, IsTrue};
 ghost use Rattle.std.proofs.Common.{refl, lit<, lit≤};
 ghost use Rattle.archive_shape_layout.specs.Shape.Shape.{table};
 ghost use Rattle.archive_forms_reading.specs.Parts.{HasValue};
-ghost use Rattle.archive_hash_reading.specs.Tables.{Buckets, IsTableAt, full_places};
+ghost use Rattle.archive_hash_walking.specs.Tables.{Buckets, IsTableAt, full_places};
 
-use crate::buckets::{buckets_at, number_at};
 use archive_hash_checking::check_table_each;
+use archive_hash_walking::{buckets_at, number_at};
 use archive_shape_checking::{ArchiveContext, CheckBytes, Error};
 use archive_shape_portable::{NoUndef, Portable, Shape};
 use archive_shape_references::Ref;

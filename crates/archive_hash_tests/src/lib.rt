@@ -1,5 +1,5 @@
-//! Tests of archived hash tables: hashes and tags, what scans mark, strides, the places that every width gives, and what is
-//! refused of tables and index maps.
+//! Tests of archived hash tables: hashes and tags, what scans mark, strides, the places that every width gives, what is
+//! refused of tables and index maps, and what is written.
 #![tactic(auto)]
 
 #[cfg(test)]
@@ -14,3 +14,7 @@ mod placing;
 mod reading;
 #[cfg(test)]
 mod scanning;
+#[cfg(test)]
+mod sealing;
+#[cfg(test)]
+mod writing;

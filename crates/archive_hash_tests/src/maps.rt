@@ -1,8 +1,7 @@
 //! Tests of walks over archived hash maps, of what is written to them through seals, and of archived hash sets.
-ghost use Rattle.std.specs.Prelude.{◌≡◌, [], IfOk};
-ghost use Rattle.archive_forms_reading.specs.Parts.{HasValue};
+ghost use Rattle.std.specs.Prelude.{[]};
 
-use archive_core_access::access;
+use crate::reading::root_of;
 use archive_core_validation::HighValidator;
 use archive_forms_hashing::ArchivedDebug;
 use archive_forms_text::ArchivedString;
@@ -17,15 +16,15 @@ use std::fmt::Formatter;
 use std::test::Fail;
 
 /// A map from texts to texts.
-type Texts = ArchivedHashMap<ArchivedString, ArchivedString, FxHasher64>;
+pub(crate) type Texts = ArchivedHashMap<ArchivedString, ArchivedString, FxHasher64>;
 
 /// The texts that are its keys.
-type Keys = ArchivedHashSet<ArchivedString, FxHasher64>;
+pub(crate) type Keys = ArchivedHashSet<ArchivedString, FxHasher64>;
 
 /// hello leads to world, foo to bar and baz to bat, in the places 2, 3 and 0 of four, of which the last stands first: a
 /// bucket of sixteen bytes for each place, sixteen controls and fifteen more, a byte of padding, and the map, whose controls
 /// begin 32 bytes before it.
-const THREE: [u8; 108] = [
+pub(crate) const THREE: [u8; 108] = [
     b'f', b'o', b'o', 0xff, 0xff, 0xff, 0xff, 0xff, b'b', b'a', b'r', 0xff, 0xff, 0xff, 0xff, 0xff,
     b'h', b'e', b'l', b'l', b'o', 0xff, 0xff, 0xff, b'w', b'o', b'r', b'l', b'd', 0xff, 0xff, 0xff,
     0, 0, 0, 0, 0, 0, 0, 0, 0, 0, 0, 0, 0, 0, 0, 0, b'b', b'a', b'z', 0xff, 0xff, 0xff, 0xff, 0xff,
@@ -44,15 +43,7 @@ const THREE_KEYS: [u8; 76] = [
 ];
 
 /// A map or a set of nothing.
-const NOTHING: [u8; 12] = [1, 0, 0, 0, 0, 0, 0, 0, 0, 0, 0, 0];
-
-/// The root of bytes that are checked.
-fn root_of<T: CheckBytes<HighValidator>>(alloc: Global, bytes: &[u8]) -> Result<Ref<'_, T>, Error>
-    requires { T.knows [] }
-    ensures { IfOk result (λ r. (r.bytes ≡ bytes.entry) × HasValue T.shape T.knows bytes.now r.pos) }
-{
-    access::<T>(alloc, bytes)
-}
+pub(crate) const NOTHING: [u8; 12] = [1, 0, 0, 0, 0, 0, 0, 0, 0, 0, 0, 0];
 
 /// Where the keys and the values stand that a walk over a map comes to, and how many entries are left at each.
 fn walked(alloc: Global) -> Result<Vec<(usize, usize, usize)>, Error> {
@@ -288,6 +279,22 @@ fn sets_of_the_same_keys_are_equal(rt: HostRuntime) {
         Ok(false)
     );
     assert_eq!(rt; equals_keys(rt.alloc(), &["hello", "foo"]), Ok(false));
+}
+
+/// Whether two archives of sets are equal.
+fn equal_sets(alloc: Global, bytes: &[u8], others: &[u8]) -> Result<bool, Error> {
+    let this = root_of::<Keys>(alloc, bytes)?;
+    let other = root_of::<Keys>(alloc, others)?;
+    Ok(ArchivedHashSet::equals(this, other))
+}
+
+#[test]
+fn archived_sets_of_equal_keys_are_equal(rt: HostRuntime) {
+    let mut changed = THREE_KEYS;
+    changed[8..13].copy_from_slice(b"HELLO");
+    assert_eq!(rt; equal_sets(rt.alloc(), &THREE_KEYS, &THREE_KEYS), Ok(true));
+    assert_eq!(rt; equal_sets(rt.alloc(), &THREE_KEYS, &changed), Ok(false));
+    assert_eq!(rt; equal_sets(rt.alloc(), &THREE_KEYS, &NOTHING), Ok(false));
 }
 
 /// Where a key of a set stands, and whether the set has it.

@@ -1,6 +1,7 @@
 //! Strides, and the places that every width gives.
 use archive_hash_places::{Strides, capacity_for_len, find, first_empty, write_controls};
 use archive_hash_scanning::{Group1, Group8, Group16, Scan};
+use archive_shape::Error;
 
 #[test]
 fn strides_go_on_by_more_each_time(rt: HostRuntime) {
@@ -15,10 +16,18 @@ fn strides_go_on_by_more_each_time(rt: HostRuntime) {
 
 #[test]
 fn a_table_has_more_places_than_items(rt: HostRuntime) {
-    assert_eq!(rt; capacity_for_len(0, 7, 8), 0);
-    assert_eq!(rt; capacity_for_len(1, 7, 8), 2);
-    assert_eq!(rt; capacity_for_len(15, 7, 8), 17);
-    assert_eq!(rt; capacity_for_len(215, 7, 8), 245);
+    assert!(rt; capacity_for_len(0, (7, 8)) == Ok(0));
+    assert!(rt; capacity_for_len(1, (7, 8)) == Ok(2));
+    assert!(rt; capacity_for_len(15, (7, 8)) == Ok(17));
+    assert!(rt; capacity_for_len(215, (7, 8)) == Ok(245));
+    assert!(rt; capacity_for_len(215, (8, 8)) == Ok(216));
+}
+
+#[test]
+fn load_factors_that_leave_no_places_are_refused(rt: HostRuntime) {
+    assert!(rt; capacity_for_len(1, (0, 8)) == Err(Error::InvalidLoadFactor));
+    assert!(rt; capacity_for_len(1, (9, 8)) == Err(Error::InvalidLoadFactor));
+    assert!(rt; capacity_for_len(3, (1, 4_294_967_296)) == Err(Error::LengthTooLarge));
 }
 
 /// The hashes of the texts `0` to `14`.

@@ -33,7 +33,10 @@ pub(crate) const A_TO_ONE: [u8; 68] = [
 pub(crate) const HASH_OF_A: u64 = 0xaa44_c3c5_b8e2_2aff;
 
 /// The root of bytes that are checked.
-fn root_of<T: CheckBytes<HighValidator>>(alloc: Global, bytes: &[u8]) -> Result<Ref<'_, T>, Error>
+pub(crate) fn root_of<T: CheckBytes<HighValidator>>(
+    alloc: Global,
+    bytes: &[u8],
+) -> Result<Ref<'_, T>, Error>
     requires { T.knows [] }
     ensures { IfOk result (λ r. (r.bytes ≡ bytes.entry) × HasValue T.shape T.knows bytes.now r.pos) }
 {

@@ -1,6 +1,6 @@
 use Rattle.std.proofs.Common.{Some, None, refl, subst}
-use Rattle.archive_hash_reading.specs.Maps.{KeySays, value_at}
-use Rattle.archive_hash_reading.proofs.Entries.{looks_up_as}
+use Rattle.archive_hash_walking.specs.Maps.{KeySays, value_at}
+use Rattle.archive_hash_walking.proofs.LookedUp.{looks_up_as}
 use Rattle.archive_hash_maps.proofs.Same.{found_in}
 use Rattle.archive_hash_maps.proofs.std_map.leads_to.Goals as goal
 

@@ -1,8 +1,8 @@
 use Rattle.std.proofs.Common.{Some, None, refl}
 use Rattle.archive_shape_layout.specs.Shape.Shape.{tuple}
 use Rattle.archive_shape_layout.specs.Shape.Shapes.{no_shapes}
-use Rattle.archive_hash_reading.specs.Maps.{entry_at}
-use Rattle.archive_hash_reading.proofs.Entries.{looks_up_as}
+use Rattle.archive_hash_walking.specs.Maps.{entry_at}
+use Rattle.archive_hash_walking.proofs.LookedUp.{looks_up_as}
 use Rattle.archive_hash_maps.proofs.set.ArchivedHashSet.get.Goals as goal
 
 pub returns-in-Some-clause-answers : goal.returns-in-Some-clause-answers

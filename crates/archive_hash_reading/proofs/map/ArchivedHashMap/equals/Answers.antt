@@ -2,7 +2,7 @@ use Rattle.std.proofs.Common.{◌∙◌, true, [], ◌∷◌, All, Contains, inr
 use Rattle.std.proofs.lemmas.List.Elements.{All-nil, All-cons, All-head, All-tail, Contains-append_right}
 use Rattle.archive_forms_reading.specs.Parts.{HasValue}
 use Rattle.archive_shape_references.specs.declared.refs.Ref.{Ref}
-use Rattle.archive_hash_reading.specs.Equal.{KeyHashesTo, HasEqual}
+use Rattle.archive_hash_walking.specs.Equal.{KeyHashesTo, HasEqual}
 use Rattle.archive_hash_reading.proofs.map.ArchivedHashMap.equals.Goals as goal
 
 pub loop-entry-init : goal.loop-entry-init

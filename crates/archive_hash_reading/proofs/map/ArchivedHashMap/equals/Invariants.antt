@@ -2,9 +2,9 @@ use Rattle.std.proofs.Common.{true, map, All, Contains}
 use Rattle.archive_forms_checking.specs.Tuples.{tuple2}
 use Rattle.archive_forms_reading.specs.Parts.{HasValue}
 use Rattle.archive_shape_references.specs.declared.refs.Ref.{Ref}
-use Rattle.archive_hash_reading.specs.Tables.{Buckets, IsTableAt, item_positions}
-use Rattle.archive_hash_reading.specs.Maps.{entry_at}
-use Rattle.archive_hash_reading.specs.Equal.{KeyHashesTo, HasEqual}
+use Rattle.archive_hash_walking.specs.Tables.{Buckets, IsTableAt, item_positions}
+use Rattle.archive_hash_walking.specs.Maps.{entry_at}
+use Rattle.archive_hash_walking.specs.Equal.{KeyHashesTo, HasEqual}
 use Rattle.archive_hash_reading.proofs.map.ArchivedHashMap.equals.Given as goal
 
 -- the entries that are left are there, decide, and are among the entries

@@ -2,10 +2,11 @@ use Rattle.std.proofs.Common.{◌∙◌, Some, None, refl, ap}
 use Rattle.archive_shape_layout.specs.Shape.Shapes.{no_shapes}
 use Rattle.archive_forms_reading.specs.Parts.{HasValue}
 use Rattle.archive_forms_tuples.specs.Fields.{field_position}
-use Rattle.archive_hash_reading.specs.Maps.{value_at}
-use Rattle.archive_hash_reading.proofs.Lookups.{item_is}
-use Rattle.archive_hash_reading.proofs.Entries.{entry_parts, looks_up_of}
-use Rattle.archive_hash_reading.proofs.Refs.{at_ref}
+use Rattle.archive_hash_walking.specs.Maps.{value_at}
+use Rattle.archive_hash_walking.proofs.Lookups.{item_is}
+use Rattle.archive_hash_walking.proofs.Entries.{entry_parts}
+use Rattle.archive_hash_walking.proofs.LookedUp.{looks_up_of}
+use Rattle.archive_hash_walking.proofs.Refs.{at_ref}
 use Rattle.archive_hash_reading.proofs.map.ArchivedHashMap.get.Goals as goal
 
 pub returns-in-Some-clause-there : goal.returns-in-Some-clause-there

@@ -2,8 +2,8 @@ use denote.MutBor.{as_bor}
 use Rattle.std.proofs.Common.{Some, None, refl, subst, arith}
 use Rattle.archive_shape_layout.specs.Shape.Shapes.{no_shapes}
 use Rattle.archive_forms_tuples.specs.Fields.{field_position}
-use Rattle.archive_hash_reading.specs.Seals.{IsLent}
-use Rattle.archive_hash_reading.proofs.Before.{value_within, key_before, lent_there}
+use Rattle.archive_hash_walking.specs.Seals.{IsLent}
+use Rattle.archive_hash_walking.proofs.Before.{value_within, key_before, lent_there}
 use Rattle.archive_hash_reading.proofs.map.ArchivedHashMap.get_key_value_seal_with.Goals as goal
 
 pub search_with-requires-clause-callable : goal.search_with-requires-clause-callable
@@ -24,7 +24,7 @@ returns-in-Some-clause-there g c =
     (key_before k v g.K.Portable.knows g.V.Portable.knows bytes c.in-Some.at c.in-Some.ensures.there)
 
 pub returns-in-Some-clause-own : goal.returns-in-Some-clause-own
-returns-in-Some-clause-own g c = c.lend_entry.ensures.len
+returns-in-Some-clause-own g c = c.lend_entry.ensures.own_value.len
 
 pub returns-in-Some-clause-answers : goal.returns-in-Some-clause-answers
 returns-in-Some-clause-answers g c b is =

@@ -2,9 +2,10 @@ use Rattle.std.proofs.Common.{◌∙◌, Some, None, refl}
 use Rattle.archive_shape_layout.specs.Shape.Shapes.{no_shapes}
 use Rattle.archive_forms_reading.specs.Parts.{HasValue}
 use Rattle.archive_forms_tuples.specs.Fields.{field_position}
-use Rattle.archive_hash_reading.specs.Maps.{entry_at}
-use Rattle.archive_hash_reading.proofs.Entries.{entry_parts, looks_up_of, pair_is}
-use Rattle.archive_hash_reading.proofs.Refs.{at_ref}
+use Rattle.archive_hash_walking.specs.Maps.{entry_at}
+use Rattle.archive_hash_walking.proofs.Entries.{entry_parts}
+use Rattle.archive_hash_walking.proofs.LookedUp.{looks_up_of, pair_is}
+use Rattle.archive_hash_walking.proofs.Refs.{at_ref}
 use Rattle.archive_hash_reading.proofs.map.ArchivedHashMap.get_key_value_with.Goals as goal
 
 pub returns-in-Some-clause-there : goal.returns-in-Some-clause-there

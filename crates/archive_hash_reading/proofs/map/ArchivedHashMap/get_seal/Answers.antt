@@ -2,7 +2,8 @@ use Rattle.std.proofs.Common.{◌∙◌, Some, None, refl, ap, sym, subst}
 use Rattle.archive_shape_layout.specs.Shape.Shapes.{no_shapes}
 use Rattle.archive_forms_reading.specs.Parts.{HasValue}
 use Rattle.archive_forms_tuples.specs.Fields.{field_position}
-use Rattle.archive_hash_reading.proofs.Entries.{entry_parts, looks_up_of}
+use Rattle.archive_hash_walking.proofs.Entries.{entry_parts}
+use Rattle.archive_hash_walking.proofs.LookedUp.{looks_up_of}
 use Rattle.archive_hash_reading.proofs.map.ArchivedHashMap.get_seal.Goals as goal
 
 pub returns-in-Some-clause-there : goal.returns-in-Some-clause-there

@@ -1,6 +1,6 @@
 use Rattle.std.proofs.Common.{Some, None, refl}
-use Rattle.archive_hash_reading.specs.Maps.{entry_at}
-use Rattle.archive_hash_reading.proofs.Entries.{looks_up_as}
+use Rattle.archive_hash_walking.specs.Maps.{entry_at}
+use Rattle.archive_hash_walking.proofs.LookedUp.{looks_up_as}
 use Rattle.archive_hash_reading.proofs.map.ArchivedHashMap.get_with.Goals as goal
 
 pub returns-in-Some-clause-answers : goal.returns-in-Some-clause-answers

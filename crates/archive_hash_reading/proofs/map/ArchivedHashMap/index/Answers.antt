@@ -1,4 +1,4 @@
-use Rattle.archive_hash_reading.specs.Maps.{HashesTo, value_at}
+use Rattle.archive_hash_walking.specs.Maps.{HashesTo, value_at}
 use Rattle.archive_hash_reading.proofs.Present.{key_is_found}
 use Rattle.archive_hash_reading.proofs.map.ArchivedHashMap.index.Goals as goal
 

@@ -1,12 +1,12 @@
 use Rattle.std.proofs.Common.{◌∙◌, ◌+◌, ◌^◌, ◌<◌, map, All, sym, ap, subst, arith}
 use Rattle.archive_forms_checking.specs.Tuples.{tuple2}
 use Rattle.archive_forms_reading.specs.Parts.{HasValue, both}
-use Rattle.archive_hash_reading.specs.Tables.{IsTableAt, item_positions}
-use Rattle.archive_hash_reading.specs.Maps.{pair_at}
-use Rattle.archive_hash_reading.proofs.Lookups.{items_there}
+use Rattle.archive_hash_walking.specs.Tables.{IsTableAt, item_positions}
+use Rattle.archive_hash_walking.specs.Maps.{pair_at}
+use Rattle.archive_hash_walking.proofs.Lookups.{items_there}
 use Rattle.archive_hash_reading.proofs.Paired.{entries_held, values_fit, pairs_are}
-use Rattle.archive_hash_reading.proofs.Refs.{at_ref}
-use Rattle.archive_hash_reading.proofs.Roots.{places_of_value}
+use Rattle.archive_hash_walking.proofs.Refs.{at_ref}
+use Rattle.archive_hash_walking.proofs.Roots.{places_of_value}
 use Rattle.archive_hash_reading.proofs.map.ArchivedHashMap.iter.Goals as goal
 
 pub invariant_of-result : goal.invariant_of-result

@@ -1,6 +1,6 @@
 use Rattle.std.proofs.Common.{ℕ, Bool, Some, None, refl, ap, subst}
-use Rattle.archive_hash_reading.specs.Places.{LooksUp, FindsAccepted, FindsTheOnly, item_at}
-use Rattle.archive_hash_reading.proofs.Lookups.{item_is, item_there, items_there}
+use Rattle.archive_hash_walking.specs.Places.{LooksUp, FindsAccepted, FindsTheOnly, item_at}
+use Rattle.archive_hash_walking.proofs.Lookups.{item_is, item_there, items_there}
 use Rattle.archive_hash_reading.proofs.table.ArchivedHashTable.get_counted.Goals as goal
 
 pub search_table-found-requires : goal.search_table-found-requires

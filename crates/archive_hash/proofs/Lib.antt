@@ -1,0 +1,8 @@
+mod Given
+mod Inserted
+mod Items
+mod Resolved
+pub mod Seen
+mod StdMaps
+mod Units
+mod Whole

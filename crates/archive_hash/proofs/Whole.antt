@@ -1,0 +1,68 @@
+-- The table of all entries of a map.
+use Rattle.std.proofs.Common.{◌≡◌, ◌∙◌, ℕ, List, [], ◌∷◌, ◌++◌, append-nil, length, map, All, refl, ap, ap₂, sym, subst, inl, inr, Result, Err, arith}
+use Rattle.std.specs.Iterator.{Yields, Drains}
+use Rattle.std.specs.Map.Iter.{TakesFirst, deref_pair}
+use Rattle.archive_shape_layout.specs.Shape.{Shape}
+use Rattle.archive_shape_writing.specs.Writing.{WriterMembers}
+use Rattle.archive_shape_writing.specs.declared.error.Error.{Error}
+use Rattle.archive_shape_writing.specs.declared.error.Error.TheVariants.{OutOfMemory}
+use Rattle.archive_forms_checking.specs.Tuples.{tuple2}
+use Rattle.archive_forms_spelling.specs.Spelling.{Spelling}
+use Rattle.archive_forms_spelling.specs.Fields.{tuple2_spelling}
+use Rattle.archive_forms_spelling.specs.Serializing.{Serializes}
+use Rattle.archive_forms_spelling.specs.Taking.{GivesAs}
+use Rattle.archive_forms_writing.proofs.Laying.{stopped_before}
+use Rattle.archive_hash_reading.specs.declared.resolving.HashTableResolver.{HashTableResolver}
+use Rattle.archive_hash_writing.specs.Claimed.{AreHashesOf, WritesClaimed, written_spelling}
+use Rattle.archive_hash.specs.Given.{TakesGiven, WritesEntries}
+use Rattle.archive_hash.specs.Owned.{entries_spelling}
+
+module _ {T X : Type 0} (shows : T → X) where
+  came_seen : (from upto ys : List X) → Yields (GivesAs shows (TakesFirst shows)) from ys upto → from ≡ ys ++ upto
+  came_seen from upto [] p = p
+  came_seen from upto (y ∷ ys) p = p.1.1 ∙ ap₂ (λ a l. a ∷ l) p.1.2 (came_seen p.0 upto ys p.2)
+
+  -- all of a list came
+  pub drained_all : (from ys : List X) → Drains (GivesAs shows (TakesFirst shows)) from ys → from ≡ ys
+  drained_all from ys d = came_seen from d.1.0 ys d.1.1 ∙ ap (λ l. ys ++ l) d.1.2.0 ∙ append-nil ys
+
+-- a step that may be called for each entry of a list may be called for those that come of it
+pub takes_given : {A B F : Type 0} (takes : F → A × B → Type 0) (step : F) (from : List (A × B)) → All (takes step) from → TakesGiven (TakesFirst deref_pair) takes step from
+takes_given takes step from all = record { each = λ es d. subst (All (takes step)) (drained_all deref_pair from es d) all }
+
+-- what may have come by one account came by another
+pub writes_more : {A B R Q W : Type 0} (came comes : List (A × B) → Type 0) (hash : A → ℕ) (load : ℕ × ℕ) (k v : Shape) (keys : Spelling A R) (vals : Spelling B Q) (s : WriterMembers W) (claimed : ℕ) (old new : W) (result : Result HashTableResolver Error)
+    → ((es : List (A × B)) → came es → comes es) → WritesEntries came hash load k v keys vals s claimed old new result → WritesEntries comes hash load k v keys vals s claimed old new result
+writes_more came comes hash load k v keys vals s claimed old new result more (inl r) = inl r
+writes_more came comes hash load k v keys vals s claimed old new result more (inr (is, inl r)) = inr (is, inl r)
+writes_more came comes hash load k v keys vals s claimed old new result more (inr (is, inr w)) = inr (is, inr (w.0, more w.0 w.1, w.2))
+
+hashes_are : {A : Type 0} (hash : A → ℕ) (xs : List A) (hs : List ℕ) → AreHashesOf (λ x h. h ≡ hash x) xs hs → hs ≡ map hash xs
+hashes_are hash [] [] all = refl
+hashes_are hash [] (h ∷ hs) all = absurd all
+hashes_are hash (x ∷ xs) [] all = absurd all
+hashes_are hash (x ∷ xs) (h ∷ hs) all = ap₂ (λ i l. i ∷ l) all.0 (hashes_are hash xs hs all.1)
+
+module _ {A B R Q W : Type 0} (hash : A → ℕ) (k v : Shape) (keys : Spelling A R) (vals : Spelling B Q) (s : WriterMembers W) (es : List (A × B)) (old new : W) (result : Result HashTableResolver Error) where
+  no_memory : result ≡ Err OutOfMemory → new ≡ old → Serializes (entries_spelling hash k v keys vals) s es old new result
+  no_memory is same =
+      let w = entries_spelling hash k v keys vals in
+      let Of : W → Result HashTableResolver Error → Type 0 = λ n r. Serializes w s es old n r in
+      subst (Of new) (sym is) (subst (λ n. Of n (Err OutOfMemory)) (sym same) (λ st at. stopped_before s old (w.piece es st) (w.piece_refused es st) OutOfMemory (inl refl)))
+
+  claimed_all : (xs : List (A × B)) → es ≡ xs → WritesClaimed (7, 8) (tuple2 k v) (tuple2_spelling k keys v vals) s (λ e h. h ≡ hash e.0) (length es) xs old new result → Serializes (entries_spelling hash k v keys vals) s es old new result
+  claimed_all xs all (inl w) =
+      let Of : List ℕ → Type 0 = λ hs. Serializes (written_spelling (7, 8) (tuple2 k v) (tuple2_spelling k keys v vals) hs) s xs old new result in
+      let written : Serializes (entries_spelling hash k v keys vals) s xs old new result = subst Of (hashes_are (λ e. hash e.0) xs w.1 w.2) w.3 in
+      subst (λ l. Serializes (entries_spelling hash k v keys vals) s l old new result) (sym all) written
+  claimed_all xs all (inr w) = absurd (w.0 (sym (ap length all)))
+
+  -- of the entries in a list, as many as it has are claimed: the table of them was written
+  pub whole_written : (from : List (A × B)) (claimed : ℕ) → from ≡ es → claimed ≡ length es
+      → WritesEntries (Drains (GivesAs deref_pair (TakesFirst deref_pair)) from) hash (7, 8) k v keys vals s claimed old new result
+      → Serializes (entries_spelling hash k v keys vals) s es old new result
+  whole_written from claimed is counted (inl r) = absurd (r.0 (omega arith, omega arith))
+  whole_written from claimed is counted (inr (load, inl r)) = no_memory r.0 r.1
+  whole_written from claimed is counted (inr (load, inr w)) =
+      let Of : ℕ → Type 0 = λ n. WritesClaimed (7, 8) (tuple2 k v) (tuple2_spelling k keys v vals) s (λ e h. h ≡ hash e.0) n w.0 old new result in
+      claimed_all w.0 (sym is ∙ drained_all deref_pair from w.0 w.1) (subst Of counted w.2)

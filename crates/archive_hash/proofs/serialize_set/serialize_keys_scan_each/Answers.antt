@@ -1,0 +1,14 @@
+use Rattle.std.proofs.Common.{refl}
+use Rattle.archive_shape_layout.specs.Shape.Shape.{tuple}
+use Rattle.archive_shape_layout.specs.Shape.Shapes.{no_shapes}
+use Rattle.archive_shape_writing.specs.Writing.{WriterMembers}
+use Rattle.archive_forms_spelling.specs.Fields.{unit_spelling}
+use Rattle.archive_hash_keys.specs.Inputs.{input_hash}
+use Rattle.archive_hash.proofs.Whole.{whole_written}
+use Rattle.archive_hash.proofs.serialize_set.serialize_keys_scan_each.Goals as goal
+
+pub returns : goal.returns
+returns g c =
+    let s : WriterMembers g.row.S.Denot = record { known = g.S.Registry.known; pos = g.S.Positional.pos; OBSERVABLE = g.S.Writer.OBSERVABLE; COUNTS = g.S.Writer.COUNTS; contents = g.S.Writer.contents; failures = g.S.Writer.failures; last_error = g.S.Writer.last_error } in
+    whole_written (λ k. input_hash (g.K.Hash.hash_input k)) g.K.Archived.Portable.shape (tuple no_shapes) g.K.Archive.spelling unit_spelling s c.args.entries c.args.serializer.now c.serialize_entries_scan_each.new.serializer c.serialize_entries_scan_each.result
+    c.args.entries c.args.len refl c.requires.counted c.serialize_entries_scan_each.ensures

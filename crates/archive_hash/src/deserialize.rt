@@ -1,0 +1,110 @@
+//! Archived maps are read back as maps of std.
+ghost use Rattle.std.specs.Prelude.{length};
+ghost use Rattle.archive_shape_layout.specs.Shape.Shape.{table};
+ghost use Rattle.archive_forms_checking.specs.Tuples.{tuple2};
+ghost use Rattle.archive_forms_reading.specs.Parts.{HasValue, both};
+ghost use Rattle.archive_forms_deserializing.specs.Deserializing.{DeserializesBy};
+ghost use Rattle.archive_forms_deserializing.specs.Steps.{StepTakes, StepReads};
+ghost use Rattle.archive_hash.specs.ReadBack.{DeserializesEntries};
+
+use crate::OwnedHashMap;
+use archive_forms_deserializing::Deserialize;
+use archive_forms_writing::Archive;
+use archive_hash_reading::ArchivedHashMap;
+use archive_shape::{Error, Portable, Ref};
+use std::alloc::Global;
+use std::collections::HashMap;
+use std::hash::Hash;
+use std::marker::PhantomData;
+
+/// The step of keys and values that can be read back. A step's answer names the archived form, since a closure over `T` can be
+/// passed on only where its type does.
+pub(crate) fn deserialize_part<T: Archive, A: Deserialize<T, D>, D>(
+    bytes: &[u8],
+    pos: usize,
+    alloc: Global,
+    deserializer: &mut D,
+) -> Result<(T, PhantomData<T::Archived>), Error>
+    requires { HasValue A.shape A.knows bytes.now pos }
+    ensures { DeserializesBy T.spelling A.shape A.knows bytes.now pos (λ q. q.0) result }
+{
+    match A::deserialize(&Ref::new(bytes, pos), alloc, deserializer) {
+        Ok(value) => Ok((value, PhantomData)),
+        Err(e) => Err(e),
+    }
+}
+
+/// Reads a map back, whose keys and values steps read. Its entries are inserted by ascending place. The archive of a map that
+/// was checked may have equal keys, of which the first one stays, with the value of the last one.
+pub fn deserialize_hash_map_each<
+    K: Archive + Eq + Hash + Drop,
+    V: Archive + Drop,
+    A: Portable,
+    B: Portable,
+    H,
+    D,
+    F: Fn(&mut D, usize) -> Result<(K, PhantomData<K::Archived>), Error>,
+    G: Fn(&mut D, usize) -> Result<(V, PhantomData<V::Archived>), Error>,
+>(
+    this: Ref<'_, ArchivedHashMap<A, B, H>>,
+    alloc: Global,
+    deserializer: &mut D,
+    read_key: F,
+    read_value: G,
+) -> Result<OwnedHashMap<K, V>, Error>
+    requires there { HasValue (table (tuple2 A.shape B.shape)) (both A.knows B.knows) this.bytes.now this.pos }
+    requires takes_key { StepTakes F.Fn read_key A.shape A.knows this.bytes.now (length this.bytes.now) }
+    requires reads_key { StepReads F.Fn read_key A.shape A.knows this.bytes.now (λ q. q.0) K.spelling }
+    requires takes_value { StepTakes G.Fn read_value B.shape B.knows this.bytes.now (length this.bytes.now) }
+    requires reads_value { StepReads G.Fn read_value B.shape B.knows this.bytes.now (λ q. q.0) V.spelling }
+    ensures { DeserializesEntries K.eq (λ m. m.map.entries) K.Archived.shape V.Archived.shape K.spelling V.spelling A.shape B.shape A.knows B.knows this.entry.bytes.now this.entry.pos result }
+{
+    let mut map = HashMap::new(alloc);
+    let mut entries = ArchivedHashMap::iter(this);
+    while let Some((key, value)) = entries.next() {
+        let key = match read_key(deserializer, key.pos) {
+            Ok(done) => done.0,
+            Err(e) => return Err(e),
+        };
+        let value = match read_value(deserializer, value.pos) {
+            Ok(done) => done.0,
+            Err(e) => return Err(e),
+        };
+        if map.insert(key, value).is_err() {
+            return Err(Error::OutOfMemory);
+        }
+    }
+    Ok(OwnedHashMap { map })
+}
+
+/// Reads a map back, as `deserialize_hash_map_each` does.
+pub fn deserialize_hash_map<
+    K: Archive + Eq + Hash + Drop,
+    V: Archive + Drop,
+    H,
+    D,
+    A: Deserialize<K, D>,
+    B: Deserialize<V, D>,
+>(
+    this: Ref<'_, ArchivedHashMap<A, B, H>>,
+    alloc: Global,
+    deserializer: &mut D,
+) -> Result<OwnedHashMap<K, V>, Error>
+    requires there { HasValue (table (tuple2 A.shape B.shape)) (both A.knows B.knows) this.bytes.now this.pos }
+    ensures { DeserializesEntries K.eq (λ m. m.map.entries) K.Archived.shape V.Archived.shape K.spelling V.spelling A.shape B.shape A.knows B.knows this.entry.bytes.now this.entry.pos result }
+{
+    let bytes = this.bytes;
+    deserialize_hash_map_each::<K, V, A, B, H, D, _, _>(
+        this,
+        alloc,
+        deserializer,
+        |d: &mut D, pos: usize| -> Result<(K, PhantomData<K::Archived>), Error>
+            requires { HasValue A.shape A.knows bytes.now pos }
+            ensures { DeserializesBy K.spelling A.shape A.knows bytes.entry.now pos (λ q. q.0) result }
+        { deserialize_part::<K, A, D>(bytes, pos, alloc, d) },
+        |d: &mut D, pos: usize| -> Result<(V, PhantomData<V::Archived>), Error>
+            requires { HasValue B.shape B.knows bytes.now pos }
+            ensures { DeserializesBy V.spelling B.shape B.knows bytes.entry.now pos (λ q. q.0) result }
+        { deserialize_part::<V, B, D>(bytes, pos, alloc, d) },
+    )
+}

@@ -1,0 +1,129 @@
+//! Tables of the entries that an iterator gives.
+ghost use Rattle.std.specs.Prelude.{◌≡◌, ◌-◌, ◌^◌, ◌<◌};
+ghost use Rattle.std.specs.Iterator.{Drains, IsFinite};
+ghost use Rattle.std.specs.Map.Iter.{deref_pair};
+ghost use Rattle.std.specs.Option.{option_map};
+ghost use Rattle.archive_forms_collections.specs.Entries.{entry_spelling};
+ghost use Rattle.archive_forms_spelling.specs.Serializing.{HasState, SerializesBy};
+ghost use Rattle.archive_forms_spelling.specs.Taking.{GivesAs};
+ghost use Rattle.archive_hash_keys.specs.Inputs.{input_hash};
+ghost use Rattle.archive_hash.specs.Given.{TakesGiven, WritesEntries, entry_of, pair_of};
+
+use archive_btree_writing::EntryStep;
+use archive_forms_collections::{EntryAdapter, EntryResolver};
+use archive_forms_tuples::Entry;
+use archive_forms_writing::Archive;
+use archive_hash_keys::hash_key;
+use archive_hash_reading::HashTableResolver;
+use archive_hash_scanning::Scan;
+use archive_hash_writing::serialize_from_iter_scan_each;
+use archive_shape::{Allocator, Error, Writer};
+use std::hash::Hash;
+use std::marker::PhantomData;
+
+/// Entries of the keys and values that an iterator gives.
+#[derive(Drop)]
+pub(crate) struct Entries<'a, K, V, I> {
+    pairs: I,
+    of: PhantomData<(&'a K, &'a V)>,
+}
+
+impl<'a, K: 'a, V: 'a, I: Iterator<Item = (&'a K, &'a V)>> Iterator for Entries<'a, K, V, I> {
+    type Item = EntryAdapter<'a, K, V>;
+
+    ghost can_next = { λ s. I.can_next s.pairs };
+
+    ghost next_gives = { λ s r t. I.next_gives s.pairs (option_map pair_of r) t.pairs };
+
+    ghost remaining = { λ s. I.remaining s.pairs };
+
+    fn next(&mut self) -> Option<EntryAdapter<'a, K, V>> {
+        match self.pairs.next() {
+            Some((key, value)) => Some(EntryAdapter::new(key, value)),
+            None => None,
+        }
+    }
+
+    fn size_hint(&self) -> (usize, Option<usize>) {
+        self.pairs.size_hint()
+    }
+}
+
+/// Writes the data of an entry by a step.
+fn serialize_by_step<K: Archive, V: Archive, S: Writer + Allocator, C: EntryStep<K, V, S>>(
+    entry: &EntryAdapter<'_, K, V>,
+    serializer: &mut S,
+    step: &C,
+) -> Result<
+    (
+        EntryResolver<K::Resolver, V::Resolver>,
+        PhantomData<Entry<K::Archived, V::Archived>>,
+    ),
+    Error,
+>
+    requires taken { C.takes step.now (entry_of entry.now) }
+    requires room { S.failures serializer.old < 2 ^ 64 - 1 }
+    requires state { HasState S.pos S.known serializer.old }
+    ensures { SerializesBy (λ q. q.0) (entry_spelling K.Archived.shape K.spelling V.Archived.shape V.spelling) S.Writer entry.now serializer.old serializer.new result }
+{
+    match step.serialize_entry(entry.key, entry.value, serializer) {
+        Ok(done) => Ok((
+            EntryResolver {
+                key: done.0,
+                value: done.1,
+            },
+            PhantomData,
+        )),
+        Err(e) => Err(e),
+    }
+}
+
+/// Writes the table of the entries of a map that an iterator gives, by the hashes of their keys. Their data is written by a
+/// step, by ascending place.
+pub(crate) fn serialize_entries_scan_each<
+    'a,
+    G: Scan,
+    K: Archive + Hash + 'a,
+    V: Archive + 'a,
+    S: Writer + Allocator,
+    I: Iterator<Item = (&'a K, &'a V)>,
+    C: EntryStep<K, V, S>,
+>(
+    len: usize,
+    pairs: I,
+    load_factor: (usize, usize),
+    serializer: &mut S,
+    step: &C,
+) -> Result<HashTableResolver, Error>
+    requires calls { I.can_next pairs × IsFinite (I.remaining pairs) }
+    requires room { S.failures serializer.old < 2 ^ 64 - 1 }
+    requires state { HasState S.pos S.known serializer.old }
+    requires takes { TakesGiven I.next_gives C.takes step.now pairs }
+    ensures { WritesEntries (Drains (GivesAs deref_pair I.next_gives) pairs) (λ k. input_hash (K.hash_input k)) load_factor K.Archived.shape V.Archived.shape K.spelling V.spelling S.Writer len serializer.old serializer.new result }
+{
+    let entries = Entries {
+        pairs,
+        of: PhantomData,
+    };
+    serialize_from_iter_scan_each::<G, EntryAdapter<'a, K, V>, S, Entries<'a, K, V, I>, _, _>(
+        entries,
+        len,
+        load_factor,
+        |entry: &EntryAdapter<K, V>| -> u64
+            ensures { result ≡ input_hash (K.hash_input entry.now.key.now) }
+        { hash_key(entry.key) },
+        serializer,
+        |entry: &EntryAdapter<K, V>, s: &mut S| -> Result<
+            (
+                EntryResolver<K::Resolver, V::Resolver>,
+                PhantomData<Entry<K::Archived, V::Archived>>,
+            ),
+            Error,
+        >
+            requires taken { C.takes step.now (entry_of entry.now) }
+            requires room { S.failures s.old < 2 ^ 64 - 1 }
+            requires state { HasState S.pos S.known s.old }
+            ensures { SerializesBy (λ q. q.0) (entry_spelling K.Archived.shape K.spelling V.Archived.shape V.spelling) S.Writer entry.now s.old s.new result }
+        { serialize_by_step(entry, s, step) },
+    )
+}

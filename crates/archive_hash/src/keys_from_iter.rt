@@ -1,0 +1,126 @@
+//! Tables of the keys of a set that an iterator gives.
+ghost use Rattle.std.specs.Prelude.{◌≡◌, ℕ, ◌-◌, ◌^◌, ◌<◌};
+ghost use Rattle.std.specs.Iterator.{Drains, IsFinite, IsFiniteIterable};
+ghost use Rattle.std.specs.Option.{option_map};
+ghost use Rattle.archive_shape_layout.specs.Shape.Shape.{tuple};
+ghost use Rattle.archive_shape_layout.specs.Shape.Shapes.{no_shapes};
+ghost use Rattle.archive_forms_collections.specs.Entries.{entry_spelling};
+ghost use Rattle.archive_forms_spelling.specs.Fields.{unit_spelling};
+ghost use Rattle.archive_forms_spelling.specs.Serializing.{HasState, SerializesBy};
+ghost use Rattle.archive_forms_spelling.specs.Taking.{GivesAs};
+ghost use Rattle.archive_hash_keys.specs.Inputs.{input_hash};
+ghost use Rattle.archive_hash.specs.Given.{WritesEntries, key_entry};
+
+use archive_forms_collections::{EntryAdapter, EntryResolver};
+use archive_forms_tuples::Entry;
+use archive_forms_writing::{Serialize, serialize_element};
+use archive_hash_keys::hash_key;
+use archive_hash_reading::HashTableResolver;
+use archive_hash_scanning::Group;
+use archive_hash_writing::serialize_from_iter_scan_each;
+use archive_shape::{Allocator, Error, Writer};
+use std::hash::Hash;
+use std::marker::PhantomData;
+
+/// Entries of the keys that an iterator gives, each beside `()`.
+#[derive(Drop)]
+struct KeysBesideUnits<'a, K, I> {
+    keys: I,
+    of: PhantomData<&'a K>,
+}
+
+impl<'a, K: 'a, I: Iterator<Item = &'a K>> Iterator for KeysBesideUnits<'a, K, I> {
+    type Item = EntryAdapter<'a, K, ()>;
+
+    ghost can_next = { λ s. I.can_next s.keys };
+
+    ghost next_gives = { λ s r t. I.next_gives s.keys (option_map (λ e. e.key) r) t.keys };
+
+    ghost remaining = { λ s. I.remaining s.keys };
+
+    fn next(&mut self) -> Option<EntryAdapter<'a, K, ()>> {
+        match self.keys.next() {
+            Some(key) => Some(EntryAdapter::new(key, &())),
+            None => None,
+        }
+    }
+
+    fn size_hint(&self) -> (usize, Option<usize>) {
+        self.keys.size_hint()
+    }
+}
+
+/// Writes the hash table of the keys that are left.
+fn serialize_given_keys<
+    'a,
+    S: Writer + Allocator,
+    K: Serialize<S> + Hash + 'a,
+    J: Iterator<Item = &'a K>,
+>(
+    len: usize,
+    keys: J,
+    load_factor: (usize, usize),
+    serializer: &mut S,
+) -> Result<HashTableResolver, Error>
+    requires calls { J.can_next keys × IsFinite (J.remaining keys) }
+    requires room { S.failures serializer.old < 2 ^ 64 - 1 }
+    requires state { HasState S.pos S.known serializer.old }
+    ensures { WritesEntries (Drains (GivesAs key_entry J.next_gives) keys) (λ k. input_hash (K.hash_input k)) load_factor K.Archived.shape (tuple no_shapes) K.spelling unit_spelling S.Writer len serializer.old serializer.new result }
+{
+    let entries = KeysBesideUnits {
+        keys,
+        of: PhantomData,
+    };
+    serialize_from_iter_scan_each::<
+        Group,
+        EntryAdapter<'a, K, ()>,
+        S,
+        KeysBesideUnits<'a, K, J>,
+        _,
+        _,
+    >(
+        entries,
+        len,
+        load_factor,
+        |entry: &EntryAdapter<K, ()>| -> u64
+            ensures { result ≡ input_hash (K.hash_input entry.now.key.now) }
+        { hash_key(entry.key) },
+        serializer,
+        |entry: &EntryAdapter<K, ()>, s: &mut S| -> Result<
+            (
+                EntryResolver<K::Resolver, ()>,
+                PhantomData<Entry<K::Archived, ()>>,
+            ),
+            Error,
+        >
+            requires room { S.failures s.old < 2 ^ 64 - 1 }
+            requires state { HasState S.pos S.known s.old }
+            ensures { SerializesBy (λ q. q.0) (entry_spelling K.Archived.shape K.spelling (tuple no_shapes) unit_spelling) S.Writer entry.now s.old s.new result }
+        { serialize_element(entry, s) },
+    )
+}
+
+/// Writes the hash table of the keys that an iterator gives, each beside `()`, as `serialize_map_from_iter` writes entries.
+///
+/// # Errors
+/// As of `serialize_map_from_iter`.
+pub fn serialize_set_from_iter<
+    'a,
+    S: Writer + Allocator,
+    K: Serialize<S> + Hash + 'a,
+    I: IntoIterator<Item = &'a K>,
+>(
+    len: usize,
+    keys: I,
+    load_factor: (usize, usize),
+    serializer: &mut S,
+) -> Result<HashTableResolver, Error>
+    requires room { S.failures serializer.old < 2 ^ 64 - 1 }
+    requires state { HasState S.pos S.known serializer.old }
+    requires ends { IsFiniteIterable I.into_iter_gives I.IntoIter.can_next I.IntoIter.remaining keys }
+    ensures { WritesEntries (λ es. (it : I.IntoIter) × I.into_iter_gives keys it × Drains (GivesAs key_entry I.IntoIter.next_gives) it es)
+        (λ k. input_hash (K.hash_input k)) load_factor K.Archived.shape (tuple no_shapes) K.spelling unit_spelling S.Writer len serializer.old serializer.new result }
+{
+    let keys = keys.into_iter();
+    serialize_given_keys::<S, K, I::IntoIter>(len, keys, load_factor, serializer)
+}

@@ -1,0 +1,80 @@
+//! Maps of std are written as hash tables.
+ghost use Rattle.std.specs.Prelude.{◌≡◌, ◌-◌, ◌^◌, ◌<◌, All, length};
+ghost use Rattle.std.specs.Map.Iter.{TakesFirst, deref_pair};
+ghost use Rattle.archive_forms_spelling.specs.Forms.{seen_as};
+ghost use Rattle.archive_forms_spelling.specs.Serializing.{HasState, Serializes};
+ghost use Rattle.archive_hash_keys.specs.Inputs.{input_hash};
+ghost use Rattle.archive_hash.specs.Given.{TakesGiven};
+ghost use Rattle.archive_hash.specs.Owned.{entries_spelling};
+
+use crate::entries::serialize_entries_scan_each;
+use crate::map::{LOAD_FACTOR, OwnedHashMap};
+use archive_btree_writing::{EntryStep, SerializeEntry};
+use archive_forms_writing::{Archive, Serialize};
+use archive_hash_reading::HashTableResolver;
+use archive_hash_scanning::{Group, Scan};
+use archive_shape::{Allocator, Error, Writer};
+use std::collections::hash_map::Iter;
+use std::hash::Hash;
+
+/// Writes the hash table of the entries of a map that are left, the data of which a step writes.
+fn serialize_rest_scan_each<
+    'a,
+    G: Scan,
+    K: Archive + Hash + 'a,
+    V: Archive + 'a,
+    S: Writer + Allocator,
+    C: EntryStep<K, V, S>,
+>(
+    len: usize,
+    pairs: Iter<'a, K, V>,
+    serializer: &mut S,
+    step: &C,
+) -> Result<HashTableResolver, Error>
+    requires counted { len ≡ length pairs }
+    requires room { S.failures serializer.old < 2 ^ 64 - 1 }
+    requires state { HasState S.pos S.known serializer.old }
+    requires takes { TakesGiven (TakesFirst deref_pair) C.takes step.now pairs }
+    ensures { Serializes (entries_spelling (λ k. input_hash (K.hash_input k)) K.Archived.shape V.Archived.shape K.spelling V.spelling) S.Writer pairs.entry serializer.old serializer.new result }
+{
+    serialize_entries_scan_each::<G, K, V, S, _, C>(len, pairs, LOAD_FACTOR, serializer, step)
+}
+
+/// Writes the hash table of a map, the data of whose entries a step writes, by ascending place. The scan decides how fast places
+/// are found, and not which.
+pub fn serialize_map_scan_each<
+    G: Scan,
+    K: Archive + Eq + Hash,
+    V: Archive,
+    S: Writer + Allocator,
+    C: EntryStep<K, V, S>,
+>(map: &OwnedHashMap<K, V>, serializer: &mut S, step: &C) -> Result<HashTableResolver, Error>
+    requires room { S.failures serializer.old < 2 ^ 64 - 1 }
+    requires state { HasState S.pos S.known serializer.old }
+    requires takes { All (C.takes step.now) map.now.map.entries }
+    ensures { Serializes (seen_as (λ m. m.map.entries) (entries_spelling (λ k. input_hash (K.hash_input k)) K.Archived.shape V.Archived.shape K.spelling V.spelling)) S.Writer map.now serializer.old serializer.new result }
+{
+    serialize_rest_scan_each::<G, K, V, S, C>(map.map.len(), map.map.iter(), serializer, step)
+}
+
+/// Writes the hash table of a map, as `serialize_map_scan_each` does, by the widest scan.
+pub fn serialize_map_each<
+    K: Archive + Eq + Hash,
+    V: Archive,
+    S: Writer + Allocator,
+    C: EntryStep<K, V, S>,
+>(map: &OwnedHashMap<K, V>, serializer: &mut S, step: &C) -> Result<HashTableResolver, Error>
+    requires room { S.failures serializer.old < 2 ^ 64 - 1 }
+    requires state { HasState S.pos S.known serializer.old }
+    requires takes { All (C.takes step.now) map.now.map.entries }
+    ensures { Serializes (seen_as (λ m. m.map.entries) (entries_spelling (λ k. input_hash (K.hash_input k)) K.Archived.shape V.Archived.shape K.spelling V.spelling)) S.Writer map.now serializer.old serializer.new result }
+{
+    serialize_map_scan_each::<Group, K, V, S, C>(map, serializer, step)
+}
+
+impl<S: Writer + Allocator, K: Serialize<S> + Eq + Hash, V: Serialize<S>> Serialize<S>
+    for OwnedHashMap<K, V> {
+    fn serialize(&self, serializer: &mut S) -> Result<HashTableResolver, Error> {
+        serialize_map_each::<K, V, S, SerializeEntry>(self, serializer, &SerializeEntry)
+    }
+}

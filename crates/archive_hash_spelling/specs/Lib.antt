@@ -1,0 +1,4 @@
+pub mod Fitted
+pub mod Tables
+pub mod Sample
+pub mod Laws

@@ -1,0 +1,194 @@
+//! Tests of cursors that write over the items of tables and the values of maps, and of the own bytes of tables.
+ghost use Rattle.std.specs.Prelude.{◌≡◌, ℕ, ◌+◌, ◌≤◌, List, length};
+ghost use Rattle.archive_shape_layout.specs.Shape.Shape.{table};
+ghost use Rattle.archive_shape_references.specs.Bytes.{overwrite};
+ghost use Rattle.archive_forms_checking.specs.Tuples.{tuple2};
+ghost use Rattle.archive_forms_reading.specs.Parts.{HasValue, both};
+
+use crate::maps::{Keys, NOTHING, THREE, Texts};
+use crate::reading::{A_TO_ONE, Numbers, ONE_OF_TWO, root_of};
+use archive_hash_maps::{ArchivedHashSet, HashSetResolver};
+use archive_hash_reading::{
+    ArchivedHashMap, ArchivedHashTable, HashMapResolver, HashTableResolver,
+};
+use archive_shape::{ArchivedU32, Error, Place, Portable, Ref, Seal};
+use std::alloc::{AllocError, Global};
+use std::test::Fail;
+
+/// A table of numbers.
+type Table = ArchivedHashTable<ArchivedU32>;
+
+/// Fills own bytes with a byte.
+fn fill_at(bytes: &mut [u8], at: usize, size: usize, byte: u8)
+    requires { at + size ≤ length bytes.old }
+    ensures { (own : List ℕ) × (length own ≡ size) × (bytes.new ≡ overwrite bytes.old at own) }
+{
+    bytes[at..at + size].fill(byte);
+}
+
+/// Fills the own bytes of each value with a byte, and notes where it stands and how many are left behind it.
+fn fill_values<K: Portable, V: Portable, H>(
+    map: Seal<'_, ArchivedHashMap<K, V, H>>,
+    byte: u8,
+    met: &mut Vec<(usize, usize)>,
+) -> Result<(), AllocError>
+    requires { HasValue (table (tuple2 K.shape V.shape)) (both K.knows V.knows) map.bytes.now map.pos }
+{
+    let size = V::SIZE;
+    let mut values = ArchivedHashMap::values_seal(map);
+    while let Some(at) = values.advance() {
+        fill_at(values.entries.bytes, at, size, byte);
+        met.push((at, values.len()))?;
+    }
+    Ok(())
+}
+
+/// Fills the own bytes of each item with a byte, and notes where it stands and how many are left behind it.
+fn fill_items<T: Portable>(
+    seal: Seal<'_, ArchivedHashTable<T>>,
+    byte: u8,
+    met: &mut Vec<(usize, usize)>,
+) -> Result<(), AllocError>
+    requires { HasValue (table T.shape) T.knows seal.bytes.now seal.pos }
+{
+    let size = T::SIZE;
+    let mut items = ArchivedHashTable::raw_iter_seal(seal);
+    while let Some(at) = items.advance() {
+        fill_at(items.bytes, at, size, byte);
+        met.push((at, items.len()))?;
+    }
+    Ok(())
+}
+
+/// Fills each value of the map in these bytes.
+fn filled_values(alloc: Global, bytes: &mut [u8], byte: u8) -> Result<Vec<(usize, usize)>, Error> {
+    let pos = root_of::<Texts>(alloc, bytes)?.pos();
+    let mut met = Vec::new(alloc);
+    fill_values(Seal::<Texts>::new(bytes, pos), byte, &mut met)?;
+    Ok(met)
+}
+
+/// Fills each item of the table in these bytes.
+fn filled_items(alloc: Global, bytes: &mut [u8], byte: u8) -> Result<Vec<(usize, usize)>, Error> {
+    let pos = root_of::<Table>(alloc, bytes)?.pos();
+    let mut met = Vec::new(alloc);
+    fill_items(Seal::<Table>::new(bytes, pos), byte, &mut met)?;
+    Ok(met)
+}
+
+#[test]
+fn cursors_pass_each_value_while_the_values_are_written(rt: HostRuntime) -> Result<(), Fail> {
+    let mut bytes = THREE;
+    let met = filled_values(rt.alloc(), &mut bytes, 7)?;
+    assert_eq!(rt; met.as_slice(), [(56, 2), (24, 1), (8, 0)].as_slice());
+    let mut expected = THREE;
+    expected[8..16].fill(7);
+    expected[24..32].fill(7);
+    expected[56..64].fill(7);
+    assert_eq!(rt; bytes, expected);
+    Ok(())
+}
+
+#[test]
+fn cursors_pass_each_item_while_the_items_are_written(rt: HostRuntime) -> Result<(), Fail> {
+    let mut bytes = ONE_OF_TWO;
+    let met = filled_items(rt.alloc(), &mut bytes, 9)?;
+    assert_eq!(rt; met.as_slice(), [(0, 0)].as_slice());
+    let mut expected = ONE_OF_TWO;
+    expected[..4].fill(9);
+    assert_eq!(rt; bytes, expected);
+    Ok(())
+}
+
+#[test]
+fn cursors_over_nothing_pass_nothing(rt: HostRuntime) -> Result<(), Fail> {
+    let mut bytes = NOTHING;
+    assert!(rt; filled_values(rt.alloc(), &mut bytes, 7)?.is_empty());
+    assert!(rt; filled_items(rt.alloc(), &mut bytes, 7)?.is_empty());
+    assert_eq!(rt; bytes, NOTHING);
+    Ok(())
+}
+
+/// Where the key and the value stand that a cursor lends first, once the value is filled with a byte.
+fn fill_first<K: Portable, V: Portable, H>(
+    map: Seal<'_, ArchivedHashMap<K, V, H>>,
+    byte: u8,
+) -> Option<(usize, usize)>
+    requires { HasValue (table (tuple2 K.shape V.shape)) (both K.knows V.knows) map.bytes.now map.pos }
+{
+    let mut entries = ArchivedHashMap::iter_seal(map);
+    match entries.next() {
+        Some((key, value)) => {
+            value.own.fill(byte);
+            Some((key.pos(), value.pos()))
+        }
+        None => None,
+    }
+}
+
+/// What it is of the map from `a` to 1, and the bytes then.
+fn filled_first(alloc: Global, byte: u8) -> Result<(Option<(usize, usize)>, [u8; 68]), Error> {
+    let mut bytes = A_TO_ONE;
+    let pos = root_of::<Numbers>(alloc, &bytes)?.pos();
+    let first = fill_first(Seal::<Numbers>::new(&mut bytes, pos), byte);
+    Ok((first, bytes))
+}
+
+#[test]
+fn cursors_lend_keys_beside_their_values(rt: HostRuntime) {
+    let mut expected = A_TO_ONE;
+    expected[8..12].fill(9);
+    assert_eq!(rt; filled_first(rt.alloc(), 9), Ok((Some((0, 8)), expected)));
+}
+
+/// The twelve bytes of a table of so many items at position 40.
+fn table_bytes(
+    len: usize,
+    load_factor: (usize, usize),
+    to: Option<usize>,
+) -> Result<[u8; 12], Error> {
+    let mut out = [0; 12];
+    let resolver = HashTableResolver::from_pos(to);
+    let place = Place::<Table>::new(&mut out, 40);
+    ArchivedHashTable::resolve_from_len(len, load_factor, resolver, place)?;
+    Ok(out)
+}
+
+/// A table of one item, as it stands in the archive of one.
+const ONE: [u8; 12] = [0xe0, 0xff, 0xff, 0xff, 1, 0, 0, 0, 2, 0, 0, 0];
+
+#[test]
+fn own_bytes_tell_the_controls_the_items_and_the_places(rt: HostRuntime) {
+    assert_eq!(rt; table_bytes(0, (7, 8), None), Ok(NOTHING));
+    assert_eq!(rt; table_bytes(1, (7, 8), Some(8)), Ok(ONE));
+    assert_eq!(rt;
+        table_bytes(1, (0, 8), Some(8)),
+        Err(Error::InvalidLoadFactor)
+    );
+    assert_eq!(rt;
+        table_bytes(0xffff_ffff, (7, 8), Some(8)),
+        Err(Error::LengthTooLarge)
+    );
+    assert_eq!(rt;
+        table_bytes(1, (7, 8), Some(0xffff_ffff)),
+        Err(Error::IsizeOverflow)
+    );
+}
+
+/// The twelve bytes of a map and of a set of so many entries at position 40.
+fn map_and_set_bytes(len: usize, to: Option<usize>) -> Result<([u8; 12], [u8; 12]), Error> {
+    let mut map = [0; 12];
+    let mut set = [0; 12];
+    let table = HashTableResolver::from_pos(to);
+    let of_map = Place::<Texts>::new(&mut map, 40);
+    ArchivedHashMap::resolve_from_len(len, (7, 8), HashMapResolver { table }, of_map)?;
+    let of_set = Place::<Keys>::new(&mut set, 40);
+    ArchivedHashSet::resolve_from_len(len, (7, 8), HashSetResolver { table }, of_set)?;
+    Ok((map, set))
+}
+
+#[test]
+fn maps_and_sets_have_the_own_bytes_of_tables(rt: HostRuntime) {
+    assert_eq!(rt; map_and_set_bytes(1, Some(8)), Ok((ONE, ONE)));
+    assert_eq!(rt; map_and_set_bytes(0, None), Ok((NOTHING, NOTHING)));
+}

@@ -1,0 +1,260 @@
+//! Tests of maps that are written as hash tables: how long they are, that their keys are found and read back, what is refused
+//! of load factors and claims, and that every scan writes the same bytes.
+ghost use Rattle.std.specs.Prelude.{◌-◌, ◌^◌, ◌<◌};
+ghost use Rattle.archive_forms_spelling.specs.Serializing.{HasState};
+
+use crate::reading::root_of;
+use archive_core::to_bytes;
+use archive_core_serializing::{HighSerializer, Serializer};
+use archive_forms_reading::native_of;
+use archive_forms_text::ArchivedString;
+use archive_hash::{OwnedHashMap, deserialize_hash_map, serialize_map_from_iter};
+use archive_hash_reading::{ArchivedHashMap, HashTableResolver};
+use archive_hash_scanning::{FxHasher64, Group1, Group8, Group16, Scan, hash_value};
+use archive_hash_writing::{serialize_from_iter, serialize_from_iter_scan};
+use archive_shape::{Allocator, ArchivedU32, Error, Positional, Registry, Writer};
+use std::alloc::Global;
+use std::collections::HashMap;
+
+/// A serializer into memory that grows.
+type Memory = HighSerializer<Vec<u8>, Global>;
+
+/// A serializer into memory that holds nothing.
+fn memory(alloc: Global) -> Memory
+    ensures room { ⟦<Memory as Writer>⟧.failures result < 2 ^ 64 - 1 }
+    ensures state { HasState ⟦<Memory as Positional>⟧.pos ⟦<Memory as Registry>⟧.known result }
+{
+    Serializer::new(Vec::new(alloc), alloc, ())
+}
+
+/// Texts that lead to numbers.
+type Numbers = OwnedHashMap<String, u32>;
+
+type ArchivedNumbers = ArchivedHashMap<ArchivedString, ArchivedU32, FxHasher64>;
+
+/// The text of a number in decimal.
+fn decimal(alloc: Global, number: u32) -> Result<String, Error> {
+    match format!(in alloc; "{number}") {
+        Ok(text) => Ok(text),
+        Err(_) => Err(Error::OutOfMemory),
+    }
+}
+
+/// How many bytes the archive has of a map of so many numbers in decimal, each of which leads to three words of eight bytes.
+fn size_of_decimals(alloc: Global, count: u32) -> Result<usize, Error> {
+    let mut map = HashMap::new(alloc);
+    for number in 0..count {
+        if map
+            .insert(decimal(alloc, number)?, [u64::from(number), 0, 0])
+            .is_err()
+        {
+            return Err(Error::OutOfMemory);
+        }
+    }
+    let owned: OwnedHashMap<String, [u64; 3]> = OwnedHashMap { map };
+    Ok(to_bytes(alloc, &owned)?.len())
+}
+
+#[test]
+fn tables_have_a_place_more_than_items_and_seven_of_eight_places_full(rt: HostRuntime) {
+    for (count, size) in [
+        (0, 12),
+        (1, 108),
+        (5, 236),
+        (6, 268),
+        (17, 668),
+        (35, 1356),
+        (36, 1388),
+        (112, 4252),
+        (215, 8124),
+    ] {
+        assert_eq!(rt; size_of_decimals(rt.alloc(), count), Ok(size), "{count}");
+    }
+}
+
+/// The map from the decimal texts of the numbers below one to those numbers.
+fn decimals(alloc: Global, count: u32) -> Result<Numbers, Error> {
+    let mut map = HashMap::new(alloc);
+    for number in 0..count {
+        if map.insert(decimal(alloc, number)?, number).is_err() {
+            return Err(Error::OutOfMemory);
+        }
+    }
+    Ok(OwnedHashMap { map })
+}
+
+/// Whether that map is read back from its archive.
+fn is_read_back(alloc: Global, count: u32) -> Result<bool, Error> {
+    let owned = decimals(alloc, count)?;
+    let bytes = to_bytes(alloc, &owned)?;
+    let root = root_of::<ArchivedNumbers>(alloc, bytes.as_slice())?;
+    let read: Numbers = deserialize_hash_map(root, alloc, &mut ())?;
+    Ok(read.map == owned.map)
+}
+
+/// Whether every key of the archive of that map leads to its number, and a text that is no key to none.
+fn leads_to_all(alloc: Global, count: u32) -> Result<bool, Error> {
+    let bytes = to_bytes(alloc, &decimals(alloc, count)?)?;
+    let root = root_of::<ArchivedNumbers>(alloc, bytes.as_slice())?;
+    for number in 0..count {
+        let text = decimal(alloc, number)?;
+        match ArchivedHashMap::get(root, &text.as_str()) {
+            Some(value) if native_of(value) == number => {}
+            _ => return Ok(false),
+        }
+    }
+    Ok(!ArchivedHashMap::contains_key(root, &"none"))
+}
+
+#[test]
+fn maps_of_many_sizes_are_read_back(rt: HostRuntime) {
+    for count in [0, 1, 5, 6, 17, 35, 36, 112, 215, 2_000] {
+        assert_eq!(rt; is_read_back(rt.alloc(), count), Ok(true), "{count}");
+    }
+}
+
+#[test]
+fn every_key_that_was_written_leads_to_its_value(rt: HostRuntime) {
+    for count in [0, 1, 5, 6, 17, 35, 36, 112, 215, 2_000] {
+        assert_eq!(rt; leads_to_all(rt.alloc(), count), Ok(true), "{count}");
+    }
+}
+
+/// Writes the table of so many entries of a map as is claimed, of which so many places may be full.
+fn write_claimed<S: Writer + Allocator>(
+    claimed: usize,
+    owned: &OwnedHashMap<u32, u32>,
+    load_factor: (usize, usize),
+    serializer: &mut S,
+) -> Result<HashTableResolver, Error>
+    requires room { S.failures serializer.old < 2 ^ 64 - 1 }
+    requires state { HasState S.pos S.known serializer.old }
+{
+    serialize_map_from_iter(claimed, owned.map.iter(), load_factor, serializer)
+}
+
+/// What becomes of a map of so many numbers, of which is claimed how many come.
+fn claiming(
+    alloc: Global,
+    claimed: usize,
+    count: u32,
+    load_factor: (usize, usize),
+) -> Result<HashTableResolver, Error> {
+    let mut map = HashMap::new(alloc);
+    for number in 0..count {
+        if map.insert(number, number).is_err() {
+            return Err(Error::OutOfMemory);
+        }
+    }
+    let mut serializer = memory(alloc);
+    write_claimed(claimed, &OwnedHashMap { map }, load_factor, &mut serializer)
+}
+
+#[test]
+fn load_factors_that_leave_no_places_are_refused_of_maps(rt: HostRuntime) {
+    let alloc = rt.alloc();
+    for load_factor in [(0, 8), (9, 8)] {
+        assert_eq!(rt;
+            claiming(alloc, 3, 3, load_factor),
+            Err(Error::InvalidLoadFactor)
+        );
+    }
+    assert_eq!(rt;
+        claiming(alloc, 3, 3, (8, 8)),
+        Ok(HashTableResolver::from_pos(Some(32)))
+    );
+}
+
+#[test]
+fn wrong_claims_are_refused_with_both_numbers(rt: HostRuntime) {
+    let alloc = rt.alloc();
+    for (expected, actual) in [(3, 2), (0, 1), (1, 3)] {
+        assert_eq!(rt;
+            claiming(alloc, expected, actual as u32, (7, 8)),
+            Err(Error::IteratorLengthMismatch { expected, actual }),
+            "{expected} for {actual}"
+        );
+    }
+}
+
+/// The numbers below one in their order, as a table that a scan writes.
+fn written_by<G: Scan>(alloc: Global, count: u32) -> Result<Vec<u8>, Error> {
+    let mut serializer = memory(alloc);
+    let hash = |number: &u32| -> u64 { hash_value::<u32, FxHasher64>(number) };
+    serialize_from_iter_scan::<G, _, u32, _, _>(
+        0..count,
+        count as usize,
+        (7, 8),
+        hash,
+        &mut serializer,
+    )?;
+    Ok(serializer.into_writer())
+}
+
+/// The same without naming a scan.
+fn written(alloc: Global, count: u32) -> Result<Vec<u8>, Error> {
+    let mut serializer = memory(alloc);
+    let hash = |number: &u32| -> u64 { hash_value::<u32, FxHasher64>(number) };
+    serialize_from_iter::<_, u32, _, _>(0..count, count as usize, (7, 8), hash, &mut serializer)?;
+    Ok(serializer.into_writer())
+}
+
+#[test]
+fn every_scan_writes_the_same_bytes(rt: HostRuntime) {
+    let alloc = rt.alloc();
+    for count in [0, 1, 3, 15, 16, 17, 40, 65, 215] {
+        let bytes = written(alloc, count);
+        assert!(rt; written_by::<Group1>(alloc, count) == bytes, "{count}");
+        assert!(rt; written_by::<Group8>(alloc, count) == bytes, "{count}");
+        assert!(rt; written_by::<Group16>(alloc, count) == bytes, "{count}");
+    }
+}
+
+/// Texts that lead to maps.
+type Maps = OwnedHashMap<String, Numbers>;
+
+type ArchivedMaps = ArchivedHashMap<ArchivedString, ArchivedNumbers, FxHasher64>;
+
+/// A text of its own.
+fn text(alloc: Global, from: &str) -> Result<String, Error> {
+    match String::from_str(alloc, from) {
+        Ok(text) => Ok(text),
+        Err(_) => Err(Error::OutOfMemory),
+    }
+}
+
+/// The map from `x` to the map of one number, and from `y` to the empty map.
+fn maps(alloc: Global) -> Result<Maps, Error> {
+    let mut map = HashMap::new(alloc);
+    for (key, count) in [("x", 1), ("y", 0)] {
+        if map
+            .insert(text(alloc, key)?, decimals(alloc, count)?)
+            .is_err()
+        {
+            return Err(Error::OutOfMemory);
+        }
+    }
+    Ok(OwnedHashMap { map })
+}
+
+/// How many entries an archive of maps has, and whether the map that is read back at a key is that of so many numbers.
+fn map_at(alloc: Global, key: &str, count: u32) -> Result<(usize, bool), Error> {
+    let bytes = to_bytes(alloc, &maps(alloc)?)?;
+    let root = root_of::<ArchivedMaps>(alloc, bytes.as_slice())?;
+    let Some(inner) = ArchivedHashMap::get(root, &key) else {
+        return Ok((usize::MAX, false));
+    };
+    let read: Numbers = deserialize_hash_map(inner, alloc, &mut ())?;
+    let same = match decimals(alloc, count) {
+        Ok(owned) => read.map == owned.map,
+        Err(_) => false,
+    };
+    Ok((ArchivedHashMap::len(root), same))
+}
+
+#[test]
+fn maps_of_maps_are_read_back(rt: HostRuntime) {
+    assert_eq!(rt; map_at(rt.alloc(), "x", 1), Ok((2, true)));
+    assert_eq!(rt; map_at(rt.alloc(), "y", 0), Ok((2, true)));
+    assert_eq!(rt; map_at(rt.alloc(), "z", 0), Ok((usize::MAX, false)));
+}

@@ -1,0 +1,67 @@
+-- What lies before a position is read without the bytes from there on.
+use Rattle.std.proofs.Common.{◌≡◌, ◌∙◌, ℕ, ◌+◌, ◌-◌, ◌≤◌, List, [], ◌∷◌, length, take, drop, ap, sym, subst, arith, take-take}
+use Rattle.std.proofs.lemmas.List.{drop-take, length-take-le}
+use Rattle.archive_shape_layout.specs.Shape.{Shape, size_of, align_of}
+use Rattle.archive_shape_layout.specs.Shape.Shapes.{no_shapes}
+use Rattle.archive_shape_layout.specs.Value.{Value}
+use Rattle.archive_shape_layout.specs.Content.{Names}
+use Rattle.archive_shape_layout.specs.Holds.{Region, Ascends}
+use Rattle.archive_shape_layout.specs.Laws.{AgreesOn, RegionsAgree}
+use Rattle.archive_shape_layout.proofs.Framed.{frame, le_align_up}
+use Rattle.archive_shape.specs.Key.{HeldAt}
+use Rattle.archive_shape_references.specs.declared.refs.Ref.{Ref}
+use Rattle.archive_shape_references.specs.declared.own_seal.OwnSeal.{OwnSeal}
+use Rattle.archive_forms_checking.specs.Tuples.{tuple2}
+use Rattle.archive_forms_reading.specs.Parts.{HasValue, both}
+use Rattle.archive_forms_tuples.specs.Fields.{field_position}
+use Rattle.archive_hash_walking.specs.Seals.{IsLent}
+use Rattle.archive_hash_walking.proofs.Entries.{entry_parts}
+
+windows : (bytes : List ℕ) (n start size : ℕ) → start + size ≤ n → AgreesOn bytes (take n bytes) start size
+windows bytes n start size fits =
+    let m : ℕ = n - start in
+    let is : n ≡ start + (n - start) = omega (arith, fits) in
+    let cut : drop start (take n bytes) ≡ take (n - start) (drop start bytes) = ap (λ j. drop start (take j bytes)) is ∙ drop-take start (n - start) bytes in
+    sym (ap (take size) cut ∙ take-take size (n - start) (drop start bytes) (omega (arith, fits)))
+
+regions_before : (bytes : List ℕ) (n low high : ℕ) (rs : List Region) → high ≤ n → Ascends low high rs → RegionsAgree bytes (take n bytes) rs
+unfolding Ascends RegionsAgree
+regions_before bytes n low high [] le a = tt
+regions_before bytes n low high (r ∷ rs) le a =
+    let to = a.0.inside in
+    (windows bytes n r.start r.size (omega (arith, to, le)), regions_before bytes n (r.start + r.size) high rs le a.1)
+
+pub held_before : (s : Shape) (knows : Names → Type 0) (bytes : List ℕ) (pos n : ℕ) (v : Value) → n ≤ length bytes → pos + size_of s ≤ n → HeldAt s knows bytes pos v → HeldAt s knows (take n bytes) pos v
+held_before s knows bytes pos n v within fits h =
+    let shorter = length-take-le n bytes within in
+    record {
+      names = h.names;
+      known = h.known;
+      level = h.level;
+      inside = h.inside;
+      regions = h.regions;
+      before = h.before;
+      after = h.after;
+      own_within = omega (arith, shorter, fits);
+      ascends = h.ascends;
+      holds = frame bytes (take n bytes) h.names (windows bytes n pos (size_of s) fits) (regions_before bytes n 0 pos h.regions (omega (arith, fits)) h.ascends) h.holds;
+    }
+
+module _ (k v : Shape) (knows others : Names → Type 0) (bytes : List ℕ) (at : ℕ) (h : HasValue (tuple2 k v) (both knows others) bytes at) where
+  -- the own bytes of an entry's value lie in the buffer
+  pub value_within : field_position k no_shapes v at + size_of v ≤ length bytes
+  value_within = let parts = entry_parts k v knows others bytes at h in parts.value.held.own_within
+
+  -- and its key is read from what lies before them
+  pub key_before : HasValue k knows (take (field_position k no_shapes v at) bytes) at
+  key_before =
+      let parts = entry_parts k v knows others bytes at h in
+      let within = value_within in
+      let behind = le_align_up (size_of k) (align_of v) in
+      record { value = parts.key.value; held = held_before k knows bytes at (field_position k no_shapes v at) parts.key.value (omega (arith, within)) (omega (arith, behind)) parts.key.held }
+
+-- the key that is lent stands there
+pub lent_there : {K V : Type 0} (k : Shape) (knows : Names → Type 0) (size : ℕ) (bytes : List ℕ) (at value_at : ℕ) (key : Ref K) (value : OwnSeal V) → IsLent size bytes at value_at key value
+    → HasValue k knows (take value_at bytes) at → HasValue k knows key.bytes.now key.pos
+lent_there k knows size bytes at value_at key value lent has =
+    subst (λ b. HasValue k knows b key.pos) (sym lent.key_bytes) (subst (HasValue k knows (take value_at bytes)) (sym lent.key_pos) has)

@@ -1,0 +1,11 @@
+pub mod Apart
+pub mod Before
+pub mod Entries
+pub mod LookedUp
+pub mod Lookups
+pub mod Passed
+pub mod Read
+pub mod Refs
+pub mod Roots
+pub mod Stays
+pub mod Walked

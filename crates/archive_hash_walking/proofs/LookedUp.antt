@@ -1,0 +1,82 @@
+-- What look-ups of entries of hash maps say.
+use denote.Ref.{Bor}
+use Rattle.std.proofs.Common.{◌≡◌, ◌∙◌, ℕ, ◌≤◌, Bool, List, Option, Some, None, refl, ap, sym}
+use Rattle.std.specs.Option.{option_map}
+use Rattle.archive_shape_layout.specs.Shape.{Shape}
+use Rattle.archive_forms_checking.specs.Tuples.{tuple2}
+use Rattle.archive_hash_walking.specs.Tables.{Buckets}
+use Rattle.archive_shape_references.specs.declared.refs.Ref.{Ref}
+use Rattle.archive_shape_canonical.specs.Strides.{sixteens}
+use Rattle.archive_hash_walking.specs.Places.{item_at, LooksUp, FindsAccepted, FindsTheOnly}
+use Rattle.archive_hash_walking.specs.Maps.{LooksUpKey}
+use Rattle.archive_hash_walking.proofs.Lookups.{item_is}
+
+pub same_position : (o : Option ℕ) → o ≡ option_map (λ at. at) o
+same_position None = refl
+same_position (Some at) = refl
+
+-- a look-up of a position is one of what stands there
+pub looks_up_of :
+    {A : Type 0} (hashes : ℕ → Type 0) (says : ℕ → Bool → Type 0) (item : ℕ → A) (k v : Shape) (b : Buckets) (o : Option ℕ) (found : Option A)
+    → found ≡ option_map item o → LooksUpKey hashes says (λ at. at) k v b o → LooksUpKey hashes says item k v b found
+looks_up_of hashes says item k v b o found is h =
+    let a = h.answers in
+    record {
+      hash = h.hash;
+      strides = h.strides;
+      is_hash = h.is_hash;
+      answers =
+          record {
+            position = a.position;
+            is = is ∙ ap (option_map item) (a.is ∙ sym (same_position a.position));
+            looks_up = a.looks_up;
+            accepted = a.accepted;
+            only = a.only;
+            few = a.few;
+          };
+    }
+
+pub pair_is :
+    {K V : Type 0} (bytes : Bor (List ℕ)) (p q : ℕ) (key : Ref K) (value : Ref V)
+    → key.bytes ≡ bytes → key.pos ≡ p → value.bytes ≡ bytes → value.pos ≡ q
+    → let made : Ref K × Ref V = (key, value) in
+    let there : Ref K × Ref V = (item_at bytes p, item_at bytes q) in
+    Some made ≡ Some there
+pair_is bytes p q key value a b c d = let e = item_is bytes p key a b in let f = item_is bytes q value c d in cc
+
+-- what a search of a table answers is a look-up of a position
+pub position_of : (hashes : ℕ → Type 0) (says : ℕ → Bool → Type 0) (k v : Shape) (b : Buckets) (hash strides : ℕ) (o : Option ℕ) → hashes hash
+    → LooksUp says (tuple2 k v) b hash o strides → FindsAccepted says (tuple2 k v) b o → FindsTheOnly says (tuple2 k v) b hash o → strides ≤ sixteens b.cap
+    → LooksUpKey hashes says (λ at. at) k v b o
+position_of hashes says k v b hash strides o is looks_up accepted only few =
+    record {
+      hash = hash;
+      strides = strides;
+      is_hash = is;
+      answers = record { position = o; is = same_position o; looks_up = looks_up; accepted = accepted; only = only; few = few };
+    }
+
+mapped_twice : {A B : Type 0} (item : ℕ → A) (g : A → B) (o : Option ℕ) → option_map g (option_map item o) ≡ option_map (λ at. g (item at)) o
+mapped_twice item g None = refl
+mapped_twice item g (Some at) = refl
+
+-- what is read of what a look-up gives is a look-up of it
+pub looks_up_as :
+    {A B : Type 0} (hashes : ℕ → Type 0) (says : ℕ → Bool → Type 0) (item : ℕ → A) (g : A → B) (k v : Shape) (b : Buckets) (found : Option A) (other : Option B)
+    → other ≡ option_map g found → LooksUpKey hashes says item k v b found → LooksUpKey hashes says (λ at. g (item at)) k v b other
+looks_up_as hashes says item g k v b found other is h =
+    let a = h.answers in
+    record {
+      hash = h.hash;
+      strides = h.strides;
+      is_hash = h.is_hash;
+      answers =
+          record {
+            position = a.position;
+            is = is ∙ ap (option_map g) a.is ∙ mapped_twice item g a.position;
+            looks_up = a.looks_up;
+            accepted = a.accepted;
+            only = a.only;
+            few = a.few;
+          };
+    }

@@ -1,0 +1,7 @@
+pub mod Cursors
+pub mod Equal
+pub mod Maps
+pub mod Places
+pub mod Seals
+pub mod Tables
+pub mod Walks

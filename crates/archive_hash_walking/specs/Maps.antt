@@ -1,0 +1,57 @@
+-- Archived hash maps: tables of entries, and what their look-ups answer.
+use denote.Ref.{Bor}
+use Rattle.std.specs.Prelude.{◌≡◌, ℕ, ◌+◌, Bool, true, List, slice_index, Option}
+use Rattle.std.specs.List.{fold}
+use Rattle.std.specs.Ordering.{is_eq}
+use Rattle.std.specs.declared.cmp.Ordering.{Ordering}
+use Rattle.archive_shape_canonical.specs.FirstFit.{hash_tag}
+use Rattle.archive_shape_layout.specs.Shape.{Shape}
+use Rattle.archive_shape_layout.specs.Shape.Shapes.{no_shapes}
+use Rattle.archive_shape_references.specs.declared.refs.Ref.{Ref}
+use Rattle.archive_forms_checking.specs.Tuples.{tuple2}
+use Rattle.archive_forms_tuples.specs.Fields.{field_position}
+use Rattle.archive_hash_layout.specs.Reach.{Reaches}
+use Rattle.archive_hash_walking.specs.Tables.{Buckets, IsTableAt, item_position}
+use Rattle.archive_hash_walking.specs.Places.{item_at, Answers}
+
+-- an input hashes to this, by a hasher that starts as its default
+abbrev pub HashesTo : {H : Type 0} → (H → Type 0) → (H → List ℕ → H) → (H → ℕ) → List (List ℕ) → ℕ → Type 0
+HashesTo {H} is_default write finish input hash = (first : H) × is_default first × (hash ≡ finish (fold write first input))
+
+-- whether the key at a position is the query is said so
+abbrev pub KeySays : {Q : Type 0} → (List ℕ → ℕ → Q → Type 0) → (Q → Q → Ordering) → List ℕ → Q → ℕ → Bool → Type 0
+KeySays {Q} key_of order bytes query at x = (key : Q) × key_of bytes at key × (x ≡ is_eq (order key query))
+
+-- the map at a position has the query: whichever hash it has, a search for it comes to a key that is the query and that
+-- stands under the hash's tag
+pub record HasKey {Q : Type 0} (hashes : ℕ → Type 0) (key_of : List ℕ → ℕ → Q → Type 0) (order : Q → Q → Ordering) (bytes : List ℕ) (k v : Shape) (pos : ℕ) (query : Q) : Type 0 where
+  pub buckets : Buckets
+  pub place : ℕ
+  pub map : IsTableAt bytes (tuple2 k v) pos buckets
+  pub reached : (hash : ℕ) → hashes hash → Reaches buckets.controls hash buckets.cap place × (slice_index buckets.controls place ≡ hash_tag hash)
+  pub equal : KeySays key_of order bytes query (item_position (tuple2 k v) buckets.target place) true
+
+-- what calls say of a query and the keys
+abbrev pub query_calls : {F Q K : Type 0} → (F → Q → Ref K → Bool → Type 0) → F → Q → Bor (List ℕ) → ℕ → Bool → Type 0
+query_calls post accepts query bytes at x = post accepts query (item_at bytes at) x
+
+-- the key and the value of the entry at a position
+abbrev pub key_at : {K : Type 0} → Bor (List ℕ) → ℕ → Ref K
+key_at bytes at = item_at bytes at
+
+abbrev pub value_at : {V : Type 0} → Bor (List ℕ) → Shape → Shape → ℕ → Ref V
+value_at bytes k v at = item_at bytes (field_position k no_shapes v at)
+
+abbrev pub entry_at : {K V : Type 0} → Bor (List ℕ) → Shape → Shape → ℕ → Ref K × Ref V
+entry_at bytes k v at = (key_at bytes at, value_at bytes k v at)
+
+-- what stands at a position, and what stands so far behind it
+abbrev pub pair_at : {K V : Type 0} → Bor (List ℕ) → ℕ → ℕ → Ref K × Ref V
+pair_at bytes behind at = (item_at bytes at, item_at bytes (at + behind))
+
+-- what a look-up of a key answers, where it hashes to one of these
+pub record LooksUpKey {A : Type 0} (hashes : ℕ → Type 0) (says : ℕ → Bool → Type 0) (item : ℕ → A) (k v : Shape) (b : Buckets) (found : Option A) : Type 0 where
+  pub hash : ℕ
+  pub strides : ℕ
+  pub is_hash : hashes hash
+  pub answers : Answers says item (tuple2 k v) b hash found strides

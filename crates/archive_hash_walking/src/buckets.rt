@@ -1,0 +1,51 @@
+//! Where the places of a table are.
+ghost use Rattle.std.specs.Prelude.{◌≡◌, ◌+◌, ◌^◌, ◌<◌, ◌≤◌, length, MatchOption};
+ghost use Rattle.archive_shape_layout.specs.Bytes.{word_at};
+ghost use Rattle.archive_shape_layout.specs.Shape.Shape.{table};
+ghost use Rattle.archive_forms_reading.specs.Parts.{HasValue};
+ghost use Rattle.archive_hash_walking.specs.Tables.{Buckets, no_buckets, IsTableAt};
+ghost use Rattle.archive_hash_walking.specs.Places.{held};
+
+use archive_forms_reading::target_of;
+use archive_hash_checking::controls_at;
+use archive_shape_portable::Portable;
+
+/// The places of a table that is not empty.
+#[derive(Clone, Copy)]
+pub struct BucketsAt<'a> {
+    /// The controls, which stand one behind the other.
+    pub controls: &'a [u8],
+    /// Where the controls begin. The items stand below.
+    pub target: usize,
+    pub capacity: usize,
+}
+
+/// The number of four bytes at a position.
+pub fn number_at(bytes: &[u8], at: usize) -> usize
+    requires { at + 4 ≤ length bytes.now }
+    ensures value { result ≡ word_at bytes.now at }
+    ensures bound { result < 2 ^ 32 }
+{
+    let _len = bytes.len();
+    u32::from_le_bytes([bytes[at], bytes[at + 1], bytes[at + 2], bytes[at + 3]]) as usize
+}
+
+/// The places of the table at `pos`, if it has items.
+pub fn buckets_at<T: Portable>(bytes: &[u8], pos: usize) -> Option<BucketsAt<'_>>
+    requires { HasValue (table T.shape) T.knows bytes.now pos }
+    ensures { (b : Buckets) → IsTableAt bytes.entry.now T.shape pos b → MatchOption result
+        (b ≡ no_buckets)
+        (λ r. (b ≡ held r) × (word_at bytes.entry.now (pos + 4) ≡ 0 → ⊥) × (r.capacity < 2 ^ 32) × (r.target < 2 ^ 64)) }
+{
+    let _len = bytes.len();
+    if number_at(bytes, pos + 4) == 0 {
+        return None;
+    }
+    let capacity = number_at(bytes, pos + 8);
+    let target = target_of(bytes, pos);
+    Some(BucketsAt {
+        controls: controls_at(bytes, target, capacity),
+        target,
+        capacity,
+    })
+}

@@ -1,0 +1,130 @@
+//! Cursors over the entries of a map that lend one value at a time.
+ghost use Rattle.std.specs.Prelude.{◌≡◌, ℕ, ◌+◌, ◌≤◌, List, [], ◌∷◌, length, take, IfSome, MatchOption};
+ghost use Rattle.archive_shape_layout.specs.Shape.Shape.{table};
+ghost use Rattle.archive_shape_layout.specs.Shape.Shapes.{no_shapes};
+ghost use Rattle.archive_forms_checking.specs.Tuples.{tuple2};
+ghost use Rattle.archive_forms_reading.specs.Parts.{HasValue, both};
+ghost use Rattle.archive_forms_tuples.specs.Fields.{field_position};
+ghost use Rattle.archive_hash_walking.specs.Walks.{BegunMap, HasValuesWritten, IsKept, items_of};
+ghost use Rattle.archive_hash_walking.specs.Seals.{IsOwn, IsLent};
+ghost use Rattle.archive_hash_walking.specs.Cursors.{HasEntries, HasValues};
+
+use crate::lending::lend_entry;
+use crate::passing::{EntryAt, PlacesLeft, pass_entry, places_left};
+use archive_forms_tuples::Entry;
+use archive_shape_portable::Portable;
+use archive_shape_references::{OwnSeal, Ref};
+use std::marker::PhantomData;
+
+/// A cursor over the entries by ascending place. Between its steps the archive's bytes may be written, as long as they differ
+/// from those that it began with at most in the own bytes of the values.
+#[derive(Drop)]
+pub struct IterMut<'a, K, V> {
+    /// The whole archive.
+    pub bytes: &'a mut [u8],
+    walk: PlacesLeft,
+    of: PhantomData<(K, V)>,
+}
+
+impl<'a, K: Portable, V: Portable> IterMut<'a, K, V> {
+    /// A cursor over the entries of the map at `pos`.
+    pub fn new(bytes: &'a mut [u8], pos: usize) -> Self
+        requires has { HasValue (table (tuple2 K.shape V.shape)) (both K.knows V.knows) bytes.old pos }
+        ensures same_reference { result.bytes.ghost_name ≡ bytes.entry.ghost_name }
+        ensures bytes { result.bytes.now ≡ bytes.old }
+        ensures entries { (m : BegunMap K.shape V.shape K.knows V.knows) → m.bytes ≡ bytes.old → m.pos ≡ pos
+            → HasEntries m result (items_of m) × HasValuesWritten m result.bytes.now }
+    {
+        let walk = places_left::<Entry<K, V>>(bytes, pos);
+        IterMut {
+            bytes,
+            walk,
+            of: PhantomData,
+        }
+    }
+
+    /// Where the next entry's key and value stand. The entry is passed.
+    pub fn advance(&mut self) -> Option<EntryAt>
+        requires { (m : BegunMap K.shape V.shape K.knows V.knows) × (ps : List ℕ) × HasEntries m self.old ps × HasValuesWritten m self.old.bytes.now }
+        ensures same_reference { self.new.bytes.ghost_name ≡ self.old.bytes.ghost_name }
+        ensures bytes { self.new.bytes.now ≡ self.old.bytes.now }
+        ensures there { IfSome result (λ e. HasValue K.shape K.knows (take e.value self.old.bytes.now) e.key × (e.value + V.SIZE ≤ length self.old.bytes.now)) }
+        ensures steps { (m : BegunMap K.shape V.shape K.knows V.knows) (ps : List ℕ) → HasEntries m self.old ps → HasValuesWritten m self.old.bytes.now → MatchOption result
+            ((ps ≡ []) × HasEntries m self.new [])
+            (λ e. (rest : List ℕ) × (ps ≡ e.key ∷ rest) × (e.value ≡ field_position K.shape no_shapes V.shape e.key)
+            × IsKept K.shape K.knows m.bytes (take e.value self.old.bytes.now) e.key × HasEntries m self.new rest) }
+    {
+        let bytes = std::mem::take(&mut self.bytes);
+        let passed = pass_entry::<K, V>(&mut self.walk, bytes);
+        self.bytes = bytes;
+        passed
+    }
+
+    /// The next entry's key, and its value with only the value's own bytes. The entry is passed. What the archive's bytes are
+    /// after the loan is not said: a caller that is to know them calls `advance`, and makes the seal of those bytes.
+    pub fn next(&mut self) -> Option<(Ref<'_, K>, OwnSeal<'_, V>)>
+        requires { (m : BegunMap K.shape V.shape K.knows V.knows) × (ps : List ℕ) × HasEntries m self.old ps × HasValuesWritten m self.old.bytes.now }
+        ensures there { IfSome result (λ r. HasValue K.shape K.knows r.0.bytes.now r.0.pos × (length r.1.own.now ≡ V.SIZE)) }
+        ensures lends { (m : BegunMap K.shape V.shape K.knows V.knows) (ps : List ℕ) → HasEntries m self.old ps → HasValuesWritten m self.old.bytes.now → MatchOption result
+            (ps ≡ [])
+            (λ r. (at : ℕ) × (rest : List ℕ) × (ps ≡ at ∷ rest) × IsLent V.SIZE self.old.bytes.now at (field_position K.shape no_shapes V.shape at) r.0 r.1) }
+    {
+        let Some(entry) = self.advance() else {
+            return None;
+        };
+        Some(lend_entry(self.bytes, entry.key, entry.value))
+    }
+
+    /// How many entries are left.
+    pub fn len(&self) -> usize
+        ensures { (m : BegunMap K.shape V.shape K.knows V.knows) (ps : List ℕ) → HasEntries m self.now ps → result ≡ length ps }
+    {
+        self.walk.left
+    }
+}
+
+/// A cursor over the values by ascending place, as `IterMut` is one over the entries.
+#[derive(Drop)]
+pub struct ValuesMut<'a, K, V> {
+    pub entries: IterMut<'a, K, V>,
+}
+
+impl<'a, K: Portable, V: Portable> ValuesMut<'a, K, V> {
+    /// Where the next value stands. The value is passed.
+    pub fn advance(&mut self) -> Option<usize>
+        requires { (m : BegunMap K.shape V.shape K.knows V.knows) × (ps : List ℕ) × HasValues m self.old ps × HasValuesWritten m self.old.entries.bytes.now }
+        ensures same_reference { self.new.entries.bytes.ghost_name ≡ self.old.entries.bytes.ghost_name }
+        ensures bytes { self.new.entries.bytes.now ≡ self.old.entries.bytes.now }
+        ensures there { IfSome result (λ at. at + V.SIZE ≤ length self.old.entries.bytes.now) }
+        ensures steps { (m : BegunMap K.shape V.shape K.knows V.knows) (ps : List ℕ) → HasValues m self.old ps → HasValuesWritten m self.old.entries.bytes.now → MatchOption result
+            ((ps ≡ []) × HasValues m self.new [])
+            (λ at. (entry : ℕ) × (rest : List ℕ) × (ps ≡ entry ∷ rest) × (at ≡ field_position K.shape no_shapes V.shape entry) × HasValues m self.new rest) }
+    {
+        match self.entries.advance() {
+            Some(entry) => Some(entry.value),
+            None => None,
+        }
+    }
+
+    /// The next value with only its own bytes. The value is passed. What the archive's bytes are after the loan is not said: a
+    /// caller that is to know them calls `advance`, and makes the seal of those bytes.
+    pub fn next(&mut self) -> Option<OwnSeal<'_, V>>
+        requires { (m : BegunMap K.shape V.shape K.knows V.knows) × (ps : List ℕ) × HasValues m self.old ps × HasValuesWritten m self.old.entries.bytes.now }
+        ensures there { IfSome result (λ r. length r.own.now ≡ V.SIZE) }
+        ensures lends { (m : BegunMap K.shape V.shape K.knows V.knows) (ps : List ℕ) → HasValues m self.old ps → HasValuesWritten m self.old.entries.bytes.now → MatchOption result
+            (ps ≡ [])
+            (λ r. (entry : ℕ) × (rest : List ℕ) × (ps ≡ entry ∷ rest) × IsOwn V.SIZE self.old.entries.bytes.now (field_position K.shape no_shapes V.shape entry) r) }
+    {
+        match self.entries.next() {
+            Some((_key, value)) => Some(value),
+            None => None,
+        }
+    }
+
+    /// How many values are left.
+    pub fn len(&self) -> usize
+        ensures { (m : BegunMap K.shape V.shape K.knows V.knows) (ps : List ℕ) → HasValues m self.now ps → result ≡ length ps }
+    {
+        self.entries.len()
+    }
+}

@@ -1,0 +1,65 @@
+//! Look-ups of the entries of maps by their keys.
+ghost use Rattle.std.specs.Prelude.{◌≡◌, ℕ, IfSome};
+ghost use Rattle.archive_shape_layout.specs.Shape.Shape.{table};
+ghost use Rattle.archive_shape_layout.specs.Shape.Shapes.{no_shapes};
+ghost use Rattle.archive_forms_checking.specs.Tuples.{tuple2};
+ghost use Rattle.archive_forms_reading.specs.Parts.{HasValue, both};
+ghost use Rattle.archive_forms_tuples.specs.Fields.{field_position};
+ghost use Rattle.archive_hash_walking.specs.Tables.{Buckets, IsTableAt};
+ghost use Rattle.archive_hash_walking.specs.Maps.{HashesTo, KeySays, LooksUpKey, query_calls, key_at};
+
+use crate::lookup::search_table;
+use archive_forms_tuples::Entry;
+use archive_hash_scanning::{Group, hash_value};
+use archive_shape::ArchivedKey;
+use archive_shape_portable::Portable;
+use archive_shape_references::Ref;
+use std::hash::{Hash, Hasher};
+
+/// Where the entry of a key stands in the map at `pos`, if the map has the key.
+pub fn search_key<Q: Hash, K: ArchivedKey<Q>, V: Portable, H: Hasher + Default + Drop>(
+    bytes: &[u8],
+    pos: usize,
+    query: &Q,
+) -> Option<usize>
+    requires has { HasValue (table (tuple2 K.shape V.shape)) (both K.knows V.knows) bytes.now pos }
+    ensures there { IfSome result (HasValue (tuple2 K.shape V.shape) (both K.knows V.knows) bytes.entry.now) }
+    ensures answers { (b : Buckets) → IsTableAt bytes.entry.now (tuple2 K.shape V.shape) pos b
+        → LooksUpKey (HashesTo H.is_default H.write H.finish (Q.hash_input query.now)) (KeySays K.key_of K.order bytes.entry.now query.now) (λ at. at) K.shape V.shape b result }
+{
+    let accepts = |at: usize| -> bool
+        requires { K.is_key bytes.now at }
+        ensures { KeySays K.key_of K.order bytes.entry.now query.entry.now at result }
+    { K::same(&Ref::new(bytes, at), query) };
+    search_table::<Entry<K, V>, Group, _>(bytes, pos, hash_value::<Q, H>(query), &accepts).0
+}
+
+/// Where the value of the entry at a position stands.
+pub fn value_position<K: Portable, V: Portable>(bytes: &[u8], at: usize) -> usize
+    requires { HasValue (tuple2 K.shape V.shape) (both K.knows V.knows) bytes.now at }
+    ensures { result ≡ field_position K.shape no_shapes V.shape at }
+{
+    Entry::value(Ref::<Entry<K, V>>::new(bytes, at)).pos
+}
+
+/// Where the entry stands whose key the caller's comparison accepts under the query's hash, in the map at `pos`.
+pub fn search_with<
+    Q: Hash,
+    K: Portable,
+    V: Portable,
+    H: Hasher + Default + Drop,
+    F: Fn(&Q, Ref<'_, K>) -> bool,
+>(bytes: &[u8], pos: usize, query: &Q, accepts: &F) -> Option<usize>
+    requires has { HasValue (table (tuple2 K.shape V.shape)) (both K.knows V.knows) bytes.now pos }
+    requires callable { (at : ℕ) → HasValue K.shape K.knows bytes.now at → F.pre accepts.now query (key_at bytes at) }
+    ensures there { IfSome result (HasValue (tuple2 K.shape V.shape) (both K.knows V.knows) bytes.entry.now) }
+    ensures answers { (b : Buckets) → IsTableAt bytes.entry.now (tuple2 K.shape V.shape) pos b
+        → LooksUpKey (HashesTo H.is_default H.write H.finish (Q.hash_input query.now)) (query_calls F.post accepts.now query.entry bytes.entry) (λ at. at) K.shape V.shape b result }
+{
+    let hash = hash_value::<Q, H>(query);
+    let accepts_at = |at: usize| -> bool
+        requires { F.pre accepts.now query (key_at bytes at) }
+        ensures { F.post accepts.entry.now query.entry (key_at bytes.entry at) result }
+    { accepts(query, Ref::new(bytes, at)) };
+    search_table::<Entry<K, V>, Group, _>(bytes, pos, hash, &accepts_at).0
+}

@@ -1,0 +1,26 @@
+//! Tables of hashes by where their places stand: walks over the places and the items, cursors that lend one item or value at a
+//! time, and look-ups of items.
+#![tactic(auto)]
+
+mod buckets;
+mod cursors;
+mod equal;
+mod iter;
+mod keyed;
+mod laws;
+mod lending;
+mod lookup;
+mod passing;
+mod places;
+mod raw_cursor;
+
+pub use buckets::{BucketsAt, buckets_at, number_at};
+pub use cursors::{IterMut, ValuesMut};
+pub use equal::{has_equal, search_equal};
+pub use iter::{FullPlaces, RawIter, full_places_at, raw_iter_at};
+pub use keyed::{search_key, search_with, value_position};
+pub use laws::{items_descend, keys_stay, one_table, table_is_read, table_stays};
+pub use lending::{lend_entry, lend_own};
+pub use lookup::{position_of, search_table};
+pub use passing::EntryAt;
+pub use raw_cursor::RawIterSeal;

@@ -1,0 +1,54 @@
+//! Look-ups of items by where they stand.
+ghost use Rattle.std.specs.Prelude.{◌≡◌, ◌+◌, ◌*◌, ◌^◌, ◌<◌, ◌≤◌, All};
+ghost use Rattle.archive_shape_layout.specs.Shape.{size_of};
+ghost use Rattle.archive_shape_layout.specs.Shape.Shape.{table};
+ghost use Rattle.archive_shape_canonical.specs.Strides.{sixteens};
+ghost use Rattle.archive_forms_reading.specs.Parts.{HasValue};
+ghost use Rattle.archive_hash_walking.specs.Tables.{Buckets, IsTableAt, item_position, item_positions};
+ghost use Rattle.archive_hash_walking.specs.Places.{LooksUp, FindsAccepted, FindsTheOnly};
+
+use crate::buckets::buckets_at;
+use archive_hash_places::find;
+use archive_hash_scanning::Scan;
+use archive_shape_portable::Portable;
+
+/// Where the item of a place stands.
+pub fn position_of<T: Portable>(target: usize, place: usize) -> usize
+    requires small { place < 2 ^ 32 }
+    requires room { (place + 1) * size_of T.shape ≤ target }
+    ensures { result ≡ item_position T.shape target place }
+{
+    target - (place + 1) * T::SIZE
+}
+
+/// Where an item of a hash stands in the table at `pos`, and how many strides are searched for it. `accepts` says whether
+/// the item at a position is the one that is looked for.
+pub fn search_table<T: Portable, S: Scan, F: Fn(usize) -> bool>(
+    bytes: &[u8],
+    pos: usize,
+    hash: u64,
+    accepts: &F,
+) -> (Option<usize>, usize)
+    requires has { HasValue (table T.shape) T.knows bytes.now pos }
+    requires callable { (b : Buckets) → IsTableAt bytes.now T.shape pos b → All (F.pre accepts.now) (item_positions T.shape b) }
+    ensures answers { (b : Buckets) → IsTableAt bytes.entry.now T.shape pos b → LooksUp (F.post accepts.now) T.shape b hash result.0 result.1 }
+    ensures accepted { (b : Buckets) → IsTableAt bytes.entry.now T.shape pos b → FindsAccepted (F.post accepts.now) T.shape b result.0 }
+    ensures findable { (b : Buckets) → IsTableAt bytes.entry.now T.shape pos b → FindsTheOnly (F.post accepts.now) T.shape b hash result.0 }
+    ensures few { (b : Buckets) → IsTableAt bytes.entry.now T.shape pos b → result.1 ≤ sixteens b.cap }
+{
+    let Some(buckets) = buckets_at::<T>(bytes, pos) else {
+        return (None, 0);
+    };
+    let target = buckets.target;
+    let accepts_place = |place: usize| -> bool
+        requires small { place < 2 ^ 32 }
+        requires room { (place + 1) * size_of T.shape ≤ target }
+        requires item { F.pre accepts.now (item_position T.shape target place) }
+        ensures { F.post accepts.entry.now (item_position T.shape target place) result }
+    { accepts(position_of::<T>(target, place)) };
+    let found = find::<S, _>(buckets.controls, buckets.capacity, hash, &accepts_place);
+    match found.place {
+        Some(place) => (Some(position_of::<T>(target, place)), found.strides),
+        None => (None, found.strides),
+    }
+}

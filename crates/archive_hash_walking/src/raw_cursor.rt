@@ -1,0 +1,79 @@
+//! Cursors over the items of a table that lend one at a time.
+ghost use Rattle.std.specs.Prelude.{◌≡◌, ℕ, ◌+◌, ◌≤◌, List, [], ◌∷◌, length, IfSome, MatchOption};
+ghost use Rattle.archive_shape_layout.specs.Shape.Shape.{table};
+ghost use Rattle.archive_forms_reading.specs.Parts.{HasValue};
+ghost use Rattle.archive_hash_walking.specs.Walks.{BegunTable, IsWritten, items_of};
+ghost use Rattle.archive_hash_walking.specs.Seals.{IsOwn};
+ghost use Rattle.archive_hash_walking.specs.Cursors.{HasItems};
+
+use crate::lending::lend_own;
+use crate::passing::{PlacesLeft, pass_item, places_left};
+use archive_shape_portable::Portable;
+use archive_shape_references::OwnSeal;
+use std::marker::PhantomData;
+
+/// A cursor over the items by ascending place. Between its steps the archive's bytes may be written, as long as they differ
+/// from those that it began with at most in the own bytes of the items.
+#[derive(Drop)]
+pub struct RawIterSeal<'a, T> {
+    /// The whole archive.
+    pub bytes: &'a mut [u8],
+    walk: PlacesLeft,
+    of: PhantomData<T>,
+}
+
+impl<'a, T: Portable> RawIterSeal<'a, T> {
+    /// A cursor over the items of the table at `pos`.
+    pub fn new(bytes: &'a mut [u8], pos: usize) -> Self
+        requires has { HasValue (table T.shape) T.knows bytes.old pos }
+        ensures same_reference { result.bytes.ghost_name ≡ bytes.entry.ghost_name }
+        ensures bytes { result.bytes.now ≡ bytes.old }
+        ensures items { (m : BegunTable T.shape T.knows) → m.bytes ≡ bytes.old → m.pos ≡ pos
+            → HasItems m result (items_of m) × IsWritten m result.bytes.now }
+    {
+        let walk = places_left::<T>(bytes, pos);
+        RawIterSeal {
+            bytes,
+            walk,
+            of: PhantomData,
+        }
+    }
+
+    /// Where the next item stands. The item is passed.
+    pub fn advance(&mut self) -> Option<usize>
+        requires { (m : BegunTable T.shape T.knows) × (ps : List ℕ) × HasItems m self.old ps × IsWritten m self.old.bytes.now }
+        ensures same_reference { self.new.bytes.ghost_name ≡ self.old.bytes.ghost_name }
+        ensures bytes { self.new.bytes.now ≡ self.old.bytes.now }
+        ensures there { IfSome result (λ at. at + T.SIZE ≤ length self.old.bytes.now) }
+        ensures steps { (m : BegunTable T.shape T.knows) (ps : List ℕ) → HasItems m self.old ps → IsWritten m self.old.bytes.now → MatchOption result
+            ((ps ≡ []) × HasItems m self.new [])
+            (λ at. (rest : List ℕ) × (ps ≡ at ∷ rest) × HasItems m self.new rest) }
+    {
+        let bytes = std::mem::take(&mut self.bytes);
+        let passed = pass_item::<T>(&mut self.walk, bytes);
+        self.bytes = bytes;
+        passed
+    }
+
+    /// The next item with only its own bytes. The item is passed. What the archive's bytes are after the loan is not said: a
+    /// caller that is to know them calls `advance`, and makes the seal of those bytes.
+    pub fn next(&mut self) -> Option<OwnSeal<'_, T>>
+        requires { (m : BegunTable T.shape T.knows) × (ps : List ℕ) × HasItems m self.old ps × IsWritten m self.old.bytes.now }
+        ensures there { IfSome result (λ r. length r.own.now ≡ T.SIZE) }
+        ensures lends { (m : BegunTable T.shape T.knows) (ps : List ℕ) → HasItems m self.old ps → IsWritten m self.old.bytes.now → MatchOption result
+            (ps ≡ [])
+            (λ r. (at : ℕ) × (rest : List ℕ) × (ps ≡ at ∷ rest) × IsOwn T.SIZE self.old.bytes.now at r) }
+    {
+        let Some(at) = self.advance() else {
+            return None;
+        };
+        Some(lend_own(self.bytes, at))
+    }
+
+    /// How many items are left.
+    pub fn len(&self) -> usize
+        ensures { (m : BegunTable T.shape T.knows) (ps : List ℕ) → HasItems m self.now ps → result ≡ length ps }
+    {
+        self.walk.left
+    }
+}

@@ -1,0 +1,11 @@
+pub mod Hashed
+pub mod Standing
+pub mod Present
+pub mod Presented
+pub mod EachBucket
+pub mod Filled
+pub mod Filling
+pub mod Ready
+pub mod WholeRegion
+pub mod Among
+pub mod WholeTable

@@ -1,0 +1,115 @@
+//! The buckets of a table: the own bytes of what stands at each place, from the last place down to the first.
+ghost use Rattle.std.specs.Prelude.{◌≡◌, ◌+◌, ◌-◌, ◌*◌, ◌^◌, ◌<◌, ◌≤◌, length, map};
+ghost use Rattle.archive_shape_layout.specs.Shape.{size_of};
+ghost use Rattle.archive_shape_references.specs.Bytes.{zeros};
+ghost use Rattle.archive_shape_canonical.specs.FirstFit.{present};
+ghost use Rattle.archive_forms_spelling.specs.State.{State};
+ghost use Rattle.archive_forms_spelling.specs.Serializing.{CanResolve, Resolves};
+ghost use Rattle.archive_forms_spelling.specs.Regions.{resolvers};
+ghost use Rattle.archive_hash_writing.specs.Standing.{standing};
+ghost use Rattle.archive_hash_writing.specs.Laying.{MakesRoom, LaysBuckets};
+
+use archive_forms_writing::Archive;
+use archive_shape::{Allocator, Error, Place, Portable, Writer};
+
+/// How many bytes of buckets are written at once.
+const BUFFER: usize = 256;
+
+/// Makes room for `size` bytes behind the first ones of a buffer, which are in use: where there is none, those are written, and
+/// the buffer is zero again. Answers how many are in use then.
+fn make_room<W: Writer>(
+    writer: &mut W,
+    buffer: &mut [u8],
+    filled: usize,
+    size: usize,
+) -> Result<usize, Error>
+    requires room { W.failures writer.old < 2 ^ 64 - 1 }
+    requires within { filled ≤ length buffer.old }
+    ensures { MakesRoom W.Writer size filled buffer.old buffer.new writer.old writer.new result }
+{
+    if buffer.len() - filled >= size {
+        return Ok(filled);
+    }
+    match writer.write(&buffer[..filled]) {
+        Ok(()) => {
+            buffer.fill(0);
+            Ok(0)
+        }
+        Err(e) => Err(e),
+    }
+}
+
+/// Writes the own bytes of an item, whose data was written, at `start` of a buffer, which is zero there and will stand at
+/// `pos`.
+fn resolve_bucket<T: Archive>(
+    item: &T,
+    resolver: T::Resolver,
+    start: usize,
+    pos: usize,
+    buffer: &mut [u8],
+) -> Result<(), Error>
+    requires { CanResolve T.spelling T.Archived.shape item.now resolver buffer.old start pos }
+    ensures { Resolves T.spelling item.now resolver pos start buffer.old buffer.new result }
+{
+    item.resolve(resolver, Place::within(buffer, start, pos))
+}
+
+/// Writes the buckets of a table, the data of whose items was written, by way of a buffer of zeros.
+fn write_through<'a, T: Archive, W: Writer>(
+    table: &[Option<&'a T>],
+    kept: &[T::Resolver],
+    writer: &mut W,
+    buffer: &mut [u8],
+) -> Result<(), Error>
+    requires room { W.failures writer.old < 2 ^ 64 - 1 }
+    requires made { (st : State) × (kept.now ≡ resolvers T.spelling (present (map standing table.now)) st) }
+    requires blank { buffer.old ≡ zeros (length buffer.old) }
+    requires wide { size_of T.Archived.shape ≤ length buffer.old }
+    requires stands { W.pos writer.old + length table.now * size_of T.Archived.shape < 2 ^ 64 }
+    ensures { (st : State) → kept.now ≡ resolvers T.spelling (present (map standing table.now)) st
+        → LaysBuckets T.Archived.shape T.spelling W.Writer (map standing table.now) st writer.old writer.new result }
+{
+    let _len = buffer.len();
+    let size = T::Archived::SIZE;
+    let mut left = kept.len();
+    let mut filled = 0;
+    for p in (0..table.len()).rev() {
+        filled = match make_room(writer, buffer, filled, size) {
+            Ok(filled) => filled,
+            Err(e) => return Err(e),
+        };
+        if let Some(item) = table[p] {
+            left -= 1;
+            let pos = writer.pos() + filled;
+            if let Err(e) = resolve_bucket(item, kept[left], filled, pos, buffer) {
+                return Err(e);
+            }
+        }
+        filled += size;
+    }
+    writer.write(&buffer[..filled])
+}
+
+/// Writes the buckets of a table, the data of whose items was written. They end before position 2^64.
+pub(crate) fn write_buckets<'a, T: Archive, S: Writer + Allocator>(
+    table: &[Option<&'a T>],
+    kept: &[T::Resolver],
+    serializer: &mut S,
+) -> Result<(), Error>
+    requires room { S.failures serializer.old < 2 ^ 64 - 1 }
+    requires made { (st : State) × (kept.now ≡ resolvers T.spelling (present (map standing table.now)) st) }
+    requires some { 0 < length table.now }
+    requires stands { S.pos serializer.old + length table.now * size_of T.Archived.shape < 2 ^ 64 }
+    ensures { (st : State) → kept.now ≡ resolvers T.spelling (present (map standing table.now)) st
+        → LaysBuckets T.Archived.shape T.spelling S.Writer (map standing table.now) st serializer.old serializer.new result }
+{
+    let size = T::Archived::SIZE;
+    if size <= BUFFER {
+        let mut buffer = [0; BUFFER];
+        return write_through(table, kept, serializer, &mut buffer);
+    }
+    match vec![in serializer.memory(); 0u8; size] {
+        Ok(mut buffer) => write_through(table, kept, serializer, buffer.as_mut_slice()),
+        Err(_) => Err(Error::OutOfMemory),
+    }
+}

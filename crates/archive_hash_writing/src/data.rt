@@ -1,0 +1,51 @@
+//! The data of the items of a table, by ascending place.
+ghost use Rattle.std.specs.Prelude.{◌≡◌, ◌-◌, ◌^◌, ◌<◌, map};
+ghost use Rattle.archive_shape_canonical.specs.FirstFit.{present};
+ghost use Rattle.archive_forms_spelling.specs.State.{State};
+ghost use Rattle.archive_forms_spelling.specs.Serializing.{IsAt, HasState, Lays};
+ghost use Rattle.archive_forms_spelling.specs.Regions.{state_after_all, pieces, resolvers, pieces_fit, pieces_refused};
+ghost use Rattle.archive_forms_writing.specs.Steps.{StepTakes, StepWrites};
+ghost use Rattle.archive_hash_writing.specs.Standing.{standing};
+
+use archive_forms_writing::Archive;
+use archive_shape::{Allocator, Error, Writer};
+use std::marker::PhantomData;
+
+/// Writes the data of what stands in a table by a step, and answers the resolvers. There are `count` items.
+pub(crate) fn serialize_present_each<
+    'a,
+    T: Archive,
+    S: Writer + Allocator,
+    F: Fn(&T, &mut S) -> Result<(T::Resolver, PhantomData<T::Archived>), Error>,
+>(
+    table: &[Option<&'a T>],
+    count: usize,
+    serializer: &mut S,
+    step: F,
+) -> Result<Vec<T::Resolver>, Error>
+    requires room { S.failures serializer.old < 2 ^ 64 - 1 }
+    requires state { HasState S.pos S.known serializer.old }
+    requires takes { StepTakes F.Fn S.Writer step (present (map standing table.now)) }
+    requires writes { StepWrites F.Fn (λ q. q.0) T.spelling S.Writer step }
+    ensures { (st : State) → IsAt S.pos S.known serializer.old st
+        → let xs = present (map standing table.now) in
+        Lays S.Writer serializer.old serializer.new (pieces T.spelling xs st)
+        (λ all. (all.items ≡ resolvers T.spelling xs st) × pieces_fit T.spelling xs st × IsAt S.pos S.known serializer.new (state_after_all T.spelling xs st))
+        (pieces_refused T.spelling xs st) result }
+{
+    let Ok(mut all) = Vec::with_capacity(serializer.memory(), count) else {
+        return Err(Error::OutOfMemory);
+    };
+    for place in table {
+        if let Some(item) = *place {
+            let resolver = match step(item, serializer) {
+                Ok(done) => done.0,
+                Err(e) => return Err(e),
+            };
+            if all.push(resolver).is_err() {
+                return Err(Error::OutOfMemory);
+            }
+        }
+    }
+    Ok(all)
+}

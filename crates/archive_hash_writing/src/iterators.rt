@@ -1,0 +1,132 @@
+//! Tables of the items that an iterator gives.
+ghost use Rattle.std.specs.Prelude.{◌≡◌, ◌-◌, ◌^◌, ◌<◌, List};
+ghost use Rattle.std.specs.Fn.{FnReturnsAt};
+ghost use Rattle.std.specs.Iterator.{Drains, IsFiniteIterable};
+ghost use Rattle.archive_forms_spelling.specs.Serializing.{HasState, SerializesBy};
+ghost use Rattle.archive_forms_writing.specs.Steps.{IsElement, StepTakes, StepWrites};
+ghost use Rattle.archive_hash_writing.specs.Claimed.{WritesTable};
+
+use crate::hashes::hash_items;
+use crate::tables::serialize_hashed;
+use archive_forms_collections::collect_items;
+use archive_forms_writing::{Archive, Serialize, serialize_element};
+use archive_hash_reading::HashTableResolver;
+use archive_hash_scanning::{Group, Scan};
+use archive_shape::{Allocator, Error, Writer};
+use std::marker::PhantomData;
+
+/// Writes the table of the items that an iterator gives, `len` of which are claimed to come: each, in this order, at its first
+/// fit. Their data is written by a step, by ascending place. At most `load_factor.0` of `load_factor.1` places are full. Memory
+/// is taken for the items that come, and none for those that are claimed.
+///
+/// # Errors
+/// `InvalidLoadFactor` where no places or more than all may be full. `IteratorLengthMismatch` where the iterator gives another
+/// number of items than `len`. Nothing is written in both cases. `LengthTooLarge` where the table would have 2^32 places or
+/// more. `PositionTooLarge` where its buckets would not begin before position 2^32, or its controls would not end before
+/// position 2^64. `OutOfMemory` where memory is refused. Besides, what the step or the serializer fails by, and what the own
+/// bytes of an item are refused for.
+pub fn serialize_from_iter_scan_each<
+    G: Scan,
+    T: Archive + Drop,
+    S: Writer + Allocator,
+    I: IntoIterator<Item = T> + Drop,
+    H: Fn(&T) -> u64,
+    F: Fn(&T, &mut S) -> Result<(T::Resolver, PhantomData<T::Archived>), Error>,
+>(
+    iter: I,
+    len: usize,
+    load_factor: (usize, usize),
+    hash: H,
+    serializer: &mut S,
+    step: F,
+) -> Result<HashTableResolver, Error>
+    requires room { S.failures serializer.old < 2 ^ 64 - 1 }
+    requires state { HasState S.pos S.known serializer.old }
+    requires ends { IsFiniteIterable I.into_iter_gives I.IntoIter.can_next I.IntoIter.remaining iter }
+    requires takes { (it : I.IntoIter) (xs : List T) → I.into_iter_gives iter it → Drains I.IntoIter.next_gives it xs → StepTakes F.Fn S.Writer step xs }
+    requires writes { StepWrites F.Fn (λ q. q.0) T.spelling S.Writer step }
+    requires hashes { (it : I.IntoIter) (xs : List T) → I.into_iter_gives iter it → Drains I.IntoIter.next_gives it xs → (x : _) → IsElement xs x.now → H.pre hash x }
+    ensures { WritesTable (λ xs. (it : I.IntoIter) × I.into_iter_gives iter it × Drains I.IntoIter.next_gives it xs) load_factor T.Archived.shape T.spelling S.Writer
+        (λ x h. FnReturnsAt H.Fn hash x h) len serializer.old serializer.new result }
+{
+    if load_factor.0 == 0 || load_factor.0 > load_factor.1 {
+        return Err(Error::InvalidLoadFactor);
+    }
+    let items = match collect_items(serializer.memory(), iter) {
+        Ok(items) => items,
+        Err(e) => return Err(e),
+    };
+    let actual = items.len();
+    if actual != len {
+        return Err(Error::IteratorLengthMismatch {
+            expected: len,
+            actual,
+        });
+    }
+    let items = items.as_slice();
+    let hashes = match hash_items(serializer.memory(), items, hash) {
+        Ok(hashes) => hashes,
+        Err(e) => return Err(e),
+    };
+    let hashes = hashes.as_slice();
+    serialize_hashed::<G, T, S, F>(items, hashes, load_factor, serializer, step)
+}
+
+/// Writes the table of the items that an iterator gives, as `serialize_from_iter_scan_each` does. The scan decides how fast
+/// places are found, and not which.
+pub fn serialize_from_iter_scan<
+    G: Scan,
+    S: Writer + Allocator,
+    T: Serialize<S> + Drop,
+    I: IntoIterator<Item = T> + Drop,
+    H: Fn(&T) -> u64,
+>(
+    iter: I,
+    len: usize,
+    load_factor: (usize, usize),
+    hash: H,
+    serializer: &mut S,
+) -> Result<HashTableResolver, Error>
+    requires room { S.failures serializer.old < 2 ^ 64 - 1 }
+    requires state { HasState S.pos S.known serializer.old }
+    requires ends { IsFiniteIterable I.into_iter_gives I.IntoIter.can_next I.IntoIter.remaining iter }
+    requires hashes { (it : I.IntoIter) (xs : List T) → I.into_iter_gives iter it → Drains I.IntoIter.next_gives it xs → (x : _) → IsElement xs x.now → H.pre hash x }
+    ensures { WritesTable (λ xs. (it : I.IntoIter) × I.into_iter_gives iter it × Drains I.IntoIter.next_gives it xs) load_factor T.Archived.shape T.spelling S.Writer
+        (λ x h. FnReturnsAt H.Fn hash x h) len serializer.old serializer.new result }
+{
+    serialize_from_iter_scan_each::<G, T, S, I, H, _>(
+        iter,
+        len,
+        load_factor,
+        hash,
+        serializer,
+        |item: &T, s: &mut S| -> Result<(T::Resolver, PhantomData<T::Archived>), Error>
+            requires room { S.failures s.old < 2 ^ 64 - 1 }
+            requires state { HasState S.pos S.known s.old }
+            ensures { SerializesBy (λ q. q.0) T.spelling S.Writer item.now s.old s.new result }
+        { serialize_element(item, s) },
+    )
+}
+
+/// Writes the table of the items that an iterator gives, as `serialize_from_iter_scan` does, by the widest scan.
+pub fn serialize_from_iter<
+    S: Writer + Allocator,
+    T: Serialize<S> + Drop,
+    I: IntoIterator<Item = T> + Drop,
+    H: Fn(&T) -> u64,
+>(
+    iter: I,
+    len: usize,
+    load_factor: (usize, usize),
+    hash: H,
+    serializer: &mut S,
+) -> Result<HashTableResolver, Error>
+    requires room { S.failures serializer.old < 2 ^ 64 - 1 }
+    requires state { HasState S.pos S.known serializer.old }
+    requires ends { IsFiniteIterable I.into_iter_gives I.IntoIter.can_next I.IntoIter.remaining iter }
+    requires hashes { (it : I.IntoIter) (xs : List T) → I.into_iter_gives iter it → Drains I.IntoIter.next_gives it xs → (x : _) → IsElement xs x.now → H.pre hash x }
+    ensures { WritesTable (λ xs. (it : I.IntoIter) × I.into_iter_gives iter it × Drains I.IntoIter.next_gives it xs) load_factor T.Archived.shape T.spelling S.Writer
+        (λ x h. FnReturnsAt H.Fn hash x h) len serializer.old serializer.new result }
+{
+    serialize_from_iter_scan::<Group, S, T, I, H>(iter, len, load_factor, hash, serializer)
+}

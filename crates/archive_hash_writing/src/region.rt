@@ -1,0 +1,65 @@
+//! The region of a table: its buckets and its controls.
+ghost use Rattle.std.specs.Prelude.{◌≡◌, ◌+◌, ◌-◌, ◌*◌, ◌^◌, ◌<◌, length, map, MatchOption};
+ghost use Rattle.archive_shape_layout.specs.Shape.{size_of};
+ghost use Rattle.archive_shape_canonical.specs.FirstFit.{present};
+ghost use Rattle.archive_forms_spelling.specs.State.{State};
+ghost use Rattle.archive_forms_spelling.specs.Regions.{resolvers};
+ghost use Rattle.archive_hash_spelling.specs.Tables.{state_after_items};
+ghost use Rattle.archive_hash_writing.specs.Standing.{standing};
+ghost use Rattle.archive_hash_writing.specs.Laying.{LaysRegion};
+
+use crate::buckets::write_buckets;
+use archive_forms_writing::{Archive, align};
+use archive_shape::{Allocator, Error, Portable, Writer};
+
+/// The last position that the region of a table may begin at.
+const LAST_POSITION: usize = u32::MAX as usize;
+
+/// Where the buckets of a table end that begin at `from`, and its controls begin. None where the region begins past the last
+/// position, or does not end before position 2^64.
+fn controls_position<T: Portable>(from: usize, places: usize, controls: usize) -> Option<usize>
+    requires places { 0 < places }
+    requires controls { 0 < controls }
+    ensures { MatchOption result
+        ((from < 2 ^ 32) × (from + places * size_of T.shape + controls < 2 ^ 64) → ⊥)
+        (λ to. (to ≡ from + places * size_of T.shape) × (from < 2 ^ 32) × (to + controls < 2 ^ 64)) }
+{
+    if from > LAST_POSITION {
+        return None;
+    }
+    let size = places.checked_mul(T::SIZE)?;
+    let to = from.checked_add(size)?;
+    to.checked_add(controls)?;
+    Some(to)
+}
+
+/// Writes the buckets and the controls of a table behind the data of its items. The answer is where the controls begin.
+pub(crate) fn write_region<'a, T: Archive, S: Writer + Allocator>(
+    table: &[Option<&'a T>],
+    kept: &[T::Resolver],
+    controls: &[u8],
+    serializer: &mut S,
+) -> Result<usize, Error>
+    requires room { S.failures serializer.old < 2 ^ 64 - 1 }
+    requires places { 0 < length table.now }
+    requires controls { 0 < length controls.now }
+    requires made { (st : State) × (kept.now ≡ resolvers T.spelling (present (map standing table.now)) st) }
+    ensures { (st : State) → kept.now ≡ resolvers T.spelling (present (map standing table.now)) st
+        → S.pos serializer.old ≡ (state_after_items T.Archived.shape T.spelling (map standing table.now) st).pos
+        → LaysRegion T.Archived.shape T.spelling S.Writer (map standing table.now) controls.now st serializer.old serializer.new result }
+{
+    let from = match align(serializer, T::Archived::ALIGN) {
+        Ok(from) => from,
+        Err(e) => return Err(e),
+    };
+    let Some(to) = controls_position::<T::Archived>(from, table.len(), controls.len()) else {
+        return Err(Error::PositionTooLarge);
+    };
+    if let Err(e) = write_buckets(table, kept, serializer) {
+        return Err(e);
+    }
+    match serializer.write(controls) {
+        Ok(()) => Ok(to),
+        Err(e) => Err(e),
+    }
+}

@@ -1,0 +1,66 @@
+//! Tables whose items have their hashes beside them.
+ghost use Rattle.std.specs.Prelude.{◌≡◌, ◌-◌, ◌^◌, ◌<◌, length};
+ghost use Rattle.archive_forms_spelling.specs.Serializing.{HasState, Serializes};
+ghost use Rattle.archive_forms_writing.specs.Steps.{StepTakes, StepWrites};
+ghost use Rattle.archive_hash_places.specs.Loads.{IsLoadFactor};
+ghost use Rattle.archive_hash_writing.specs.Claimed.{written_spelling};
+
+use crate::data::serialize_present_each;
+use crate::fitting::fit;
+use crate::places::place_items;
+use crate::region::write_region;
+use archive_forms_writing::Archive;
+use archive_hash_places::capacity_for_len;
+use archive_hash_reading::HashTableResolver;
+use archive_hash_scanning::Scan;
+use archive_shape::{Allocator, Error, Writer};
+use std::marker::PhantomData;
+
+/// Writes the table of items with a hash beside each: the data of the items, which a step writes, and then the table.
+pub(crate) fn serialize_hashed<
+    G: Scan,
+    T: Archive,
+    S: Writer + Allocator,
+    F: Fn(&T, &mut S) -> Result<(T::Resolver, PhantomData<T::Archived>), Error>,
+>(
+    items: &[T],
+    hashes: &[u64],
+    load_factor: (usize, usize),
+    serializer: &mut S,
+    step: F,
+) -> Result<HashTableResolver, Error>
+    requires load { IsLoadFactor load_factor }
+    requires even { length hashes.now ≡ length items.now }
+    requires room { S.failures serializer.old < 2 ^ 64 - 1 }
+    requires state { HasState S.pos S.known serializer.old }
+    requires takes { StepTakes F.Fn S.Writer step items.now }
+    requires writes { StepWrites F.Fn (λ q. q.0) T.spelling S.Writer step }
+    ensures { Serializes (written_spelling load_factor T.Archived.shape T.spelling hashes.now) S.Writer items.now serializer.old serializer.new result }
+{
+    let capacity = match capacity_for_len(items.len(), load_factor) {
+        Ok(capacity) => capacity,
+        Err(e) => return Err(e),
+    };
+    if capacity == 0 {
+        return Ok(HashTableResolver { pos: None });
+    }
+    let alloc = serializer.memory();
+    let fitted = match fit::<G>(alloc, capacity, hashes) {
+        Ok(fitted) => fitted,
+        Err(e) => return Err(e),
+    };
+    let table = match place_items(alloc, capacity, items, fitted.places.as_slice()) {
+        Ok(table) => table,
+        Err(e) => return Err(e),
+    };
+    let at_places = table.as_slice();
+    let kept = match serialize_present_each(at_places, items.len(), serializer, step) {
+        Ok(kept) => kept,
+        Err(e) => return Err(e),
+    };
+    let controls = fitted.controls.as_slice();
+    match write_region(at_places, kept.as_slice(), controls, serializer) {
+        Ok(to) => Ok(HashTableResolver { pos: Some(to) }),
+        Err(e) => Err(e),
+    }
+}
