@@ -3,7 +3,9 @@
 //! turns, and the least processor time of all rounds counts. A call that writes makes the map first: the time of a call that
 //! writes none is taken away.
 
+#[allow(dead_code)]
 mod library;
+mod maps;
 mod measured;
 
 /// Forms in Rust.
@@ -14,12 +16,11 @@ mod forms;
 mod rust;
 
 use library::{WRITES, least_times};
+use maps::{QUERIES, SIZES, Texts, entries, queries};
 use measured::{greatest, mixed, report};
 use std::collections::BTreeMap;
 use std::hint::black_box;
 
-const SIZES: [usize; 3] = [1_000, 100_000, 1_000_000];
-const QUERIES: usize = 100_000;
 const RANGES: usize = 1_000;
 const IN_RANGE: usize = 100;
 /// How many bytes an archived map has itself, which ends its archive.
@@ -51,37 +52,7 @@ unsafe extern "C" {
 }
 
 fn map_of(numbers: &[u32]) -> BTreeMap<String, u64> {
-    numbers
-        .iter()
-        .map(|&n| (n.to_string(), u64::from(n)))
-        .collect()
-}
-
-/// Texts one behind the other, and where each ends.
-struct Texts {
-    bytes: Vec<u8>,
-    ends: Vec<usize>,
-}
-
-impl<T: AsRef<str>> FromIterator<T> for Texts {
-    fn from_iter<I: IntoIterator<Item = T>>(texts: I) -> Self {
-        let mut bytes = Vec::new();
-        let end = |text: T| {
-            bytes.extend_from_slice(text.as_ref().as_bytes());
-            bytes.len()
-        };
-        let ends = texts.into_iter().map(end).collect();
-        Texts { bytes, ends }
-    }
-}
-
-/// Half of them are keys of the map of numbers.
-fn queries(numbers: &[u32]) -> Texts {
-    let of = |(i, n): (usize, u32)| match i % 2 {
-        0 => numbers[n as usize % numbers.len()].to_string(),
-        _ => n.to_string(),
-    };
-    mixed(QUERIES).enumerate().map(of).collect()
+    entries(numbers).collect()
 }
 
 /// Of each range the key of its first entry, and the key behind its last one.
@@ -95,17 +66,6 @@ fn ranges(map: &BTreeMap<String, u64>) -> Texts {
     mixed(RANGES).flat_map(of).collect()
 }
 
-fn sum_of_std(map: &BTreeMap<String, u64>, queries: &Texts) -> u64 {
-    let mut start = 0;
-    let mut sum = 0u64;
-    for &end in &queries.ends {
-        let query = str::from_utf8(&queries.bytes[start..end]).unwrap();
-        sum = sum.wrapping_add(map.get(query).copied().unwrap_or(0));
-        start = end;
-    }
-    sum
-}
-
 /// Compares walks in ranges.
 fn compare_ranges(bytes: &[u8], map: &BTreeMap<String, u64>) -> f64 {
     let bounds = ranges(map);
@@ -115,13 +75,13 @@ fn compare_ranges(bytes: &[u8], map: &BTreeMap<String, u64>) -> f64 {
             black_box(bytes).as_ptr(),
             bytes.len(),
             bytes.len() - MAP,
-            bounds.bytes.as_ptr(),
-            bounds.bytes.len(),
+            bounds.text.as_ptr(),
+            bounds.text.len(),
             bounds.ends.as_ptr(),
             bounds.ends.len(),
         )
     };
-    let rust = || rust::sum_ranges(black_box(bytes), &bounds.bytes, &bounds.ends);
+    let rust = || rust::sum_ranges(black_box(bytes), bounds.text.as_bytes(), &bounds.ends);
     assert_eq!(ours(), rust());
     let times = least_times(|| _ = black_box(ours()), || _ = black_box(rust()));
     report(
@@ -179,14 +139,14 @@ fn compare(count: usize) -> [f64; 4] {
             black_box(&bytes).as_ptr(),
             bytes.len(),
             bytes.len() - MAP,
-            queries.bytes.as_ptr(),
-            queries.bytes.len(),
+            queries.text.as_ptr(),
+            queries.text.len(),
             queries.ends.as_ptr(),
             queries.ends.len(),
         )
     };
-    let rust = || rust::sum_found(black_box(&bytes), &queries.bytes, &queries.ends);
-    let std = || sum_of_std(black_box(&map), &queries);
+    let rust = || rust::sum_found(black_box(&bytes), queries.text.as_bytes(), &queries.ends);
+    let std = || queries.sum(|query| black_box(&map).get(query).copied());
     assert_eq!((ours(), ours()), (rust(), std()));
     let times = least_times(|| _ = black_box(ours()), || _ = black_box(rust()));
     let looks = report(&format!("look-ups among {count}"), QUERIES, times);

@@ -1,5 +1,5 @@
-//! What forms.rs and core.rs share, each of which links a static library: the heap that it asks for, the processor times of
-//! two calls, a comparison of functions that write, and lengths of texts.
+//! What forms.rs, core.rs, btree.rs and hash.rs share, each of which links a static library: the heap that it asks for, the
+//! processor times of two calls, a comparison of functions that write, and lengths of texts.
 
 use crate::measured::{least, mixed, report};
 use std::hint::black_box;

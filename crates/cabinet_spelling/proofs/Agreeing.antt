@@ -35,7 +35,7 @@ module _ {A R : Type 0} (w u : Spelling A R) (x : A) (same : said w x ≡ said u
         piece_refused = (p i).piece_refused;
         own_fits = (box_spelling s w).own_fits x;
         own_refused = (box_spelling s w).own_refused x;
-        keyed_by = (same i).keyed_by;
+        suits = (same i).suits;
       }
 
   kept_agree : {Q : Type 0} (make : R → Q) (get : Q → R) → said (kept_as make get w) x ≡ said (kept_as make get u) x
@@ -50,7 +50,7 @@ module _ {A R : Type 0} (w u : Spelling A R) (x : A) (same : said w x ≡ said u
     piece_refused = (same i).piece_refused;
     own_fits = λ r pos. (same i).own_fits (get r) pos;
     own_refused = λ r pos e. (same i).own_refused (get r) pos e;
-    keyed_by = (same i).keyed_by;
+    suits = (same i).suits;
   }
 
   module _ (s : Shape) where
@@ -78,7 +78,7 @@ module _ {A R : Type 0} (w u : Spelling A R) (x : A) (same : said w x ≡ said u
       piece_refused = (same i).piece_refused;
       own_fits = λ r pos. some_fits r pos i;
       own_refused = λ r pos e. some_refused r pos e i;
-      keyed_by = (same i).keyed_by;
+      suits = (same i).suits;
     }
 
   node_of_agrees : (tag : ℕ) (s : Shape) (make : R → NodeResolver) (get : NodeResolver → R) (t : Tree)
@@ -96,7 +96,7 @@ module _ {A R : Type 0} (w u : Spelling A R) (x : A) (same : said w x ≡ said u
         piece_refused = (same i).piece_refused;
         own_fits = λ r pos. (same i).own_fits (get r) (pos + offset);
         own_refused = λ r pos e. (same i).own_refused (get r) (pos + offset) e;
-        keyed_by = (same i).keyed_by;
+        suits = (same i).suits;
       }
 
 module _ {A R : Type 0} (w u : Spelling A R) (s : Shape) where
@@ -126,7 +126,7 @@ module _ {A R : Type 0} (w u : Spelling A R) (s : Shape) where
         piece_refused = o.piece_refused None;
         own_fits = λ r pos. none_fits r pos i;
         own_refused = λ r pos e. none_refused r pos e i;
-        keyed_by = λ keys. o.keyed_by keys None;
+        suits = λ fit keys. o.suits fit keys None;
       }
 
 -- ---- nodes

@@ -4,9 +4,10 @@ use Rattle.std.proofs.Math.Nat.{le-max_left, le-max_right}
 use Rattle.archive_shape_layout.specs.Value.{Value, Values}
 use Rattle.archive_shape_layout.specs.Value.Value.{integer, boolean, string, group, chosen}
 use Rattle.archive_shape_layout.specs.Value.Values.{no_values, more_values}
+use Rattle.archive_shape_canonical.specs.Settled.{Fit}
 use Rattle.archive_forms_spelling.specs.State.{State, Keys}
 use Rattle.archive_forms_spelling.specs.Spelling.{Spelling, state_after}
-use Rattle.archive_forms_spelling.specs.Regions.{values, plain_values, all_keyed_by}
+use Rattle.archive_forms_spelling.specs.Regions.{values, plain_values, all_suit}
 use Rattle.archive_forms_spelling.specs.Levels.{levels_spelling}
 use Rattle.cabinet_text_grammar.specs.Tree as document
 use Rattle.cabinet_text_grammar.specs.Tree.{Tree, Trees, leaf, shared, nothing, just, list, map, no_trees, more_trees, depth, most_depth}
@@ -33,21 +34,21 @@ abbrev mutual
   values_of no_trees = no_values
   values_of (more_trees t ts) = more_values (value_of t) (values_of ts)
 
--- ---- a spelling gives a document this value, and it has no shared values
+-- ---- a spelling gives a document this value, and it has no tables and no shared values
 
 pub record Agrees (w : Spelling Tree NodeResolver) (t : Tree) : Type 0 where
   pub plain : w.plain t ≡ value_of t
   pub value : (st : State) → w.value t st ≡ value_of t
-  pub keyed : (keys : Keys) → w.keyed_by keys t
+  pub suits : (fit : Fit) (keys : Keys) → w.suits fit keys t
 
 record AllAgree (w : Spelling Tree NodeResolver) (ts : Trees) : Type 0 where
   plain : plain_values w (trees_in ts) ≡ values_of ts
   value : (st : State) → values w (trees_in ts) st ≡ values_of ts
-  keyed : (keys : Keys) → all_keyed_by w keys (trees_in ts)
+  suits : (fit : Fit) (keys : Keys) → all_suit w fit keys (trees_in ts)
 
 module _ (w : Spelling Tree NodeResolver) where
   all_agree : (n : ℕ) → ((y : Tree) → depth y ≤ n → Agrees w y) → (ts : Trees) → most_depth ts ≤ n → AllAgree w ts
-  all_agree n each no_trees less = record { plain = refl; value = λ st. refl; keyed = λ keys. tt }
+  all_agree n each no_trees less = record { plain = refl; value = λ st. refl; suits = λ fit keys. tt }
   all_agree n each (more_trees t ts) less =
       let a = le-max_left (depth t) (most_depth ts) in
       let b = le-max_right (depth t) (most_depth ts) in
@@ -56,21 +57,21 @@ module _ (w : Spelling Tree NodeResolver) where
       record {
         plain = ap₂ more_values first.plain rest.plain;
         value = λ st. ap₂ more_values (first.value st) (rest.value (state_after w t st));
-        keyed = λ keys. (first.keyed keys, rest.keyed keys);
+        suits = λ fit keys. (first.suits fit keys, rest.suits fit keys);
       }
 
   level_agrees : (n : ℕ) → ((y : Tree) → suc (depth y) ≤ n → Agrees w y) → (t : Tree) → depth t ≤ n → Agrees (node_level w) t
-  level_agrees n each (leaf (document.truth b)) less = record { plain = refl; value = λ st. refl; keyed = λ keys. tt }
-  level_agrees n each (leaf (document.number z)) less = record { plain = refl; value = λ st. refl; keyed = λ keys. tt }
-  level_agrees n each (leaf (document.text s)) less = record { plain = refl; value = λ st. refl; keyed = λ keys. tt }
-  level_agrees n each (shared s) less = record { plain = refl; value = λ st. refl; keyed = λ keys. tt }
-  level_agrees n each nothing less = record { plain = refl; value = λ st. refl; keyed = λ keys. tt }
+  level_agrees n each (leaf (document.truth b)) less = record { plain = refl; value = λ st. refl; suits = λ fit keys. tt }
+  level_agrees n each (leaf (document.number z)) less = record { plain = refl; value = λ st. refl; suits = λ fit keys. tt }
+  level_agrees n each (leaf (document.text s)) less = record { plain = refl; value = λ st. refl; suits = λ fit keys. tt }
+  level_agrees n each (shared s) less = record { plain = refl; value = λ st. refl; suits = λ fit keys. tt }
+  level_agrees n each nothing less = record { plain = refl; value = λ st. refl; suits = λ fit keys. tt }
   level_agrees n each (just t) less =
       let one = each t less in
       record {
         plain = ap (λ v. tagged_value 4 (tagged_value 1 v)) one.plain;
         value = λ st. ap (λ v. tagged_value 4 (tagged_value 1 v)) (one.value st);
-        keyed = one.keyed;
+        suits = one.suits;
       }
   level_agrees zero each (list ts) less = absurd (omega (arith, less))
   level_agrees (suc n) each (list ts) less =
@@ -78,16 +79,16 @@ module _ (w : Spelling Tree NodeResolver) where
       record {
         plain = ap (λ vs. tagged_value 5 (group vs)) all.plain;
         value = λ st. ap (λ vs. tagged_value 5 (group vs)) (all.value st);
-        keyed = all.keyed;
+        suits = all.suits;
       }
-  level_agrees n each (map kind ps) less = record { plain = refl; value = λ st. refl; keyed = λ keys. tt }
+  level_agrees n each (map kind ps) less = record { plain = refl; value = λ st. refl; suits = λ fit keys. tt }
 
 levels_agree : (n : ℕ) (t : Tree) → depth t ≤ n → Agrees (levels_spelling node_level refused (suc n)) t
 levels_agree zero t less = level_agrees refused zero (λ y h. absurd (omega (arith, h))) t less
 levels_agree (suc n) t less = level_agrees (levels_spelling node_level refused (suc n)) (suc n) (λ y h. levels_agree n y (omega (arith, h))) t less
 
 pub node_agrees : (t : Tree) → Agrees node_spelling t
-node_agrees t = let h = levels_agree (depth t) t (omega arith) in record { plain = h.plain; value = h.value; keyed = h.keyed }
+node_agrees t = let h = levels_agree (depth t) t (omega arith) in record { plain = h.plain; value = h.value; suits = h.suits }
 
 -- ---- what it denotes
 

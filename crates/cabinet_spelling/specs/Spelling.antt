@@ -88,7 +88,7 @@ refused = record {
   piece_refused = λ t st e. e ≡ InvalidTag;
   own_fits = λ t r pos. ⊥;
   own_refused = λ t r pos e. e ≡ InvalidTag;
-  keyed_by = λ keys t. ⊤;
+  suits = λ fit keys t. ⊤;
 }
 
 -- of one document, where those in it are archived in this way
@@ -115,7 +115,7 @@ node_level w = record {
   piece_refused = λ t st e. (spelling_of w t).piece_refused t st e;
   own_fits = λ t r pos. (spelling_of w t).own_fits t r pos;
   own_refused = λ t r pos e. (spelling_of w t).own_refused t r pos e;
-  keyed_by = λ keys t. (spelling_of w t).keyed_by keys t;
+  suits = λ fit keys t. (spelling_of w t).suits fit keys t;
 }
 
 -- containers lie in one another as deep as a document is

@@ -7,6 +7,7 @@ use Rattle.archive_shape_layout.specs.Bytes.{align_up}
 use Rattle.archive_shape_layout.specs.Shape.{Shape, size_of, align_of}
 use Rattle.archive_shape_layout.specs.Value.Value.{group}
 use Rattle.archive_shape_layout.specs.Value.Values.{more_values}
+use Rattle.archive_shape_canonical.specs.Settled.{Fit}
 use Rattle.archive_shape_references.specs.Bytes.{zeros}
 use Rattle.archive_shape_writing.specs.Writing.{WriterMembers}
 use Rattle.archive_shape_writing.specs.declared.error.Error.{Error}
@@ -14,7 +15,7 @@ use Rattle.archive_shape_writing.specs.declared.error.Error.TheVariants.{IsizeOv
 use Rattle.archive_forms_spelling.specs.State.{State, Keys}
 use Rattle.archive_forms_spelling.specs.Spelling.{Spelling, state_after}
 use Rattle.archive_forms_spelling.specs.Forms.{seen_as, kept_as}
-use Rattle.archive_forms_spelling.specs.Regions.{state_after_all, values, plain_values, all_keyed_by, pieces, owns, pieces_fit, pieces_refused, owns_fit, owns_refused, region_at}
+use Rattle.archive_forms_spelling.specs.Regions.{state_after_all, values, plain_values, all_suit, pieces, owns, pieces_fit, pieces_refused, owns_fit, owns_refused, region_at}
 use Rattle.archive_forms_spelling.specs.Pointers.{slice_spelling}
 use Rattle.archive_shape_pointers.specs.Offsets.{offset_bytes, FitsOffset}
 use Rattle.archive_forms_spelling.specs.Serializing.{Serializes}
@@ -57,9 +58,9 @@ module _ {A B R : Type 0} (view : B → A) (w : Spelling A R) where
   plains_seen [] = refl
   plains_seen (x ∷ xs) = ap (more_values (w.plain (view x))) (plains_seen xs)
 
-  keys_seen : (xs : List B) (keys : Keys) → all_keyed_by (seen_as view w) keys xs ≡ all_keyed_by w keys (map view xs)
-  keys_seen [] keys = refl
-  keys_seen (x ∷ xs) keys = λ i. w.keyed_by keys (view x) × keys_seen xs keys i
+  suits_seen : (xs : List B) (fit : Fit) (keys : Keys) → all_suit (seen_as view w) fit keys xs ≡ all_suit w fit keys (map view xs)
+  suits_seen [] fit keys = refl
+  suits_seen (x ∷ xs) fit keys = λ i. w.suits fit keys (view x) × suits_seen xs fit keys i
 
   pieces_seen : (xs : List B) (st : State) → pieces (seen_as view w) xs st ≡ pieces w (map view xs) st
   pieces_seen [] st = refl
@@ -122,7 +123,7 @@ nodes_said ns = λ i. record {
       ⊎ (((2 ^ 32 ≤ start) × (e ≡ PositionTooLarge)) ⊎ owns_refusals_seen node_tree node_spelling node_shape ns st start e i);
   own_fits = λ r pos. FitsOffset pos r.pos × (sym (length-seen node_tree node_spelling ns) i < 2 ^ 32);
   own_refused = λ r pos e. ((FitsOffset pos r.pos → ⊥) × (e ≡ IsizeOverflow)) ⊎ ((2 ^ 32 ≤ sym (length-seen node_tree node_spelling ns) i) × (e ≡ LengthTooLarge));
-  keyed_by = λ keys. keys_seen node_tree node_spelling ns keys i;
+  suits = λ fit keys. suits_seen node_tree node_spelling ns fit keys i;
 }
 
 -- the elements of a list of trees are these trees

@@ -1,0 +1,270 @@
+//! Archived hash maps of texts to numbers in plain Rust, over the same layout: first-fit tables that are written, walked and
+//! searched by sixteen controls at once.
+
+use crate::forms::{Archive, Refused, align, offset, target, text, word};
+use std::arch::x86_64::{
+    _mm_cmpeq_epi8, _mm_loadu_si128, _mm_movemask_epi8, _mm_set1_epi8,
+};
+use std::hash::{Hash, Hasher};
+
+/// The own bytes of an entry: the text, and behind it the number.
+const ITEM: usize = 16;
+const VALUE: usize = 8;
+const ALIGN: usize = 8;
+/// How many controls a stride has.
+const STRIDE: usize = 16;
+/// How many bytes a map has itself, which ends its archive.
+const MAP: usize = 12;
+/// The offset that leads to nothing.
+const NOTHING: i32 = 1;
+const EMPTY: u8 = 0xff;
+
+/// The hasher of archived tables.
+#[derive(Clone, Copy, Default)]
+pub struct FxHasher64 {
+    state: u64,
+}
+
+impl FxHasher64 {
+    fn add(&mut self, word: u64) {
+        self.state = (self.state.rotate_left(5) ^ word).wrapping_mul(0x517c_c1b7_2722_0a95);
+    }
+}
+
+impl Hasher for FxHasher64 {
+    fn write(&mut self, bytes: &[u8]) {
+        let words = bytes.chunks_exact(8);
+        let rest = words.remainder();
+        for word in words {
+            self.add(u64::from_le_bytes(word.try_into().unwrap()));
+        }
+        if !rest.is_empty() {
+            let mut last = [0; 8];
+            last[..rest.len()].copy_from_slice(rest);
+            self.add(u64::from_le_bytes(last));
+        }
+    }
+
+    fn finish(&self) -> u64 {
+        self.state
+    }
+}
+
+fn hash_of(key: &str) -> u64 {
+    let mut hasher = FxHasher64::default();
+    key.hash(&mut hasher);
+    hasher.finish()
+}
+
+fn tag_of(hash: u64) -> u8 {
+    (hash >> 57) as u8
+}
+
+// ---- strides
+
+/// The positions at which the strides of a hash begin.
+struct Strides {
+    position: usize,
+    step: usize,
+    mask: usize,
+    end: usize,
+    left: usize,
+}
+
+impl Strides {
+    fn new(hash: u64, capacity: usize) -> Self {
+        let end = capacity.next_multiple_of(STRIDE);
+        let ring = end.next_power_of_two();
+        Strides {
+            position: (hash % capacity as u64) as usize,
+            step: 0,
+            mask: ring - 1,
+            end,
+            left: ring / STRIDE,
+        }
+    }
+}
+
+impl Iterator for Strides {
+    type Item = usize;
+
+    fn next(&mut self) -> Option<usize> {
+        while self.left > 0 {
+            let position = self.position;
+            self.left -= 1;
+            self.step += STRIDE;
+            self.position = (position + self.step) & self.mask;
+            if position < self.end {
+                return Some(position);
+            }
+        }
+        None
+    }
+}
+
+/// A bit for each of the sixteen controls from a position on that is the tag, and for each that is empty.
+fn scan(controls: &[u8], position: usize, tag: u8) -> (u32, u32) {
+    let shown: &[u8; STRIDE] = controls[position..position + STRIDE].try_into().unwrap();
+    // SAFETY: sixteen bytes are there, and every x86-64 processor has these instructions.
+    unsafe {
+        let shown = _mm_loadu_si128(shown.as_ptr().cast());
+        let equal = _mm_cmpeq_epi8(shown, _mm_set1_epi8(tag as i8));
+        (
+            _mm_movemask_epi8(equal) as u32,
+            _mm_movemask_epi8(shown) as u32,
+        )
+    }
+}
+
+fn wrapped(control: usize, capacity: usize) -> usize {
+    match control < capacity {
+        true => control,
+        false => control - capacity,
+    }
+}
+
+// ---- writing
+
+fn control_count(capacity: usize) -> usize {
+    capacity.next_multiple_of(STRIDE) + STRIDE - 1
+}
+
+/// The place where an item of a hash first fits, which is taken.
+fn take_place(controls: &mut [u8], capacity: usize, hash: u64) -> Option<usize> {
+    for position in Strides::new(hash, capacity) {
+        let (_, empty) = scan(controls, position, 0);
+        let control = position + empty.trailing_zeros() as usize;
+        if empty == 0 || control >= 2 * capacity {
+            continue;
+        }
+        let place = wrapped(control, capacity);
+        controls[place] = tag_of(hash);
+        if place + capacity < controls.len() {
+            controls[place + capacity] = tag_of(hash);
+        }
+        return Some(place);
+    }
+    None
+}
+
+/// How many places a table has.
+fn capacity(len: usize) -> usize {
+    match len {
+        0 => 0,
+        _ => (len * 8 / 7).max(len + 1),
+    }
+}
+
+/// Writes the table of these entries behind their data, and tells where its controls begin, if it has places.
+pub fn write_table<'a>(
+    len: usize,
+    entries: impl Iterator<Item = (&'a String, &'a u64)>,
+) -> Result<(Vec<u8>, Option<usize>), Refused> {
+    let mut out = Vec::new();
+    let capacity = capacity(len);
+    if len == 0 {
+        return Ok((out, None));
+    }
+    let mut controls = vec![EMPTY; control_count(capacity)];
+    let mut places = vec![None; capacity];
+    for (key, value) in entries {
+        let place = take_place(&mut controls, capacity, hash_of(key));
+        places[place.ok_or(Refused::OutOfRange)?] = Some((key, value, 0));
+    }
+    for (key, _, start) in places.iter_mut().flatten() {
+        *start = key.serialize::<false>(&mut out)?;
+    }
+    align(&mut out, ALIGN);
+    let end = out.len() + capacity * ITEM;
+    out.resize(end, 0);
+    for (place, item) in places.iter().enumerate() {
+        if let Some((key, value, start)) = *item {
+            let pos = end - (place + 1) * ITEM;
+            key.resolve(start, pos, &mut out[pos..pos + VALUE])?;
+            out[pos + VALUE..pos + ITEM].copy_from_slice(&value.to_le_bytes());
+        }
+    }
+    out.extend_from_slice(&controls);
+    Ok((out, Some(end)))
+}
+
+/// Writes a map of these entries, which ends the bytes.
+pub fn write<'a>(
+    len: usize,
+    entries: impl Iterator<Item = (&'a String, &'a u64)>,
+) -> Result<Vec<u8>, Refused> {
+    let (mut out, controls) = write_table(len, entries)?;
+    align(&mut out, 4);
+    let pos = out.len();
+    let link = controls.map_or(Ok(NOTHING), |to| offset(pos, to))?;
+    out.extend_from_slice(&link.to_le_bytes());
+    out.extend_from_slice(&(len as u32).to_le_bytes());
+    out.extend_from_slice(&(capacity(len) as u32).to_le_bytes());
+    Ok(out)
+}
+
+// ---- reading
+
+/// Where the controls of the map that ends the bytes begin, and how many places it has.
+fn table(bytes: &[u8]) -> Option<(usize, usize)> {
+    let pos = bytes.len() - MAP;
+    match word(bytes, pos + 4) {
+        0 => None,
+        _ => Some((target(bytes, pos, pos)?, word(bytes, pos + 8) as usize)),
+    }
+}
+
+fn value(bytes: &[u8], item: usize) -> u64 {
+    u64::from_le_bytes(bytes[item + VALUE..item + ITEM].try_into().unwrap())
+}
+
+/// The value of a key.
+pub fn get(bytes: &[u8], query: &str) -> Option<u64> {
+    let (end, capacity) = table(bytes)?;
+    let hash = hash_of(query);
+    let controls = &bytes[end..end + control_count(capacity)];
+    for position in Strides::new(hash, capacity) {
+        let (mut equal, empty) = scan(controls, position, tag_of(hash));
+        while equal != 0 {
+            let place = wrapped(position + equal.trailing_zeros() as usize, capacity);
+            let item = end - (place + 1) * ITEM;
+            if text(bytes, item) == query.as_bytes() {
+                return Some(value(bytes, item));
+            }
+            equal &= equal - 1;
+        }
+        if empty != 0 {
+            return None;
+        }
+    }
+    None
+}
+
+/// The sum of what is found for queries one behind the other, which end at these positions.
+#[inline(never)]
+pub fn sum_found(bytes: &[u8], queries: &str, ends: &[usize]) -> u64 {
+    let mut start = 0;
+    let mut sum = 0u64;
+    for &end in ends {
+        sum = sum.wrapping_add(get(bytes, &queries[start..end]).unwrap_or(0));
+        start = end;
+    }
+    sum
+}
+
+/// The sum of all values and of the lengths of their keys, by ascending place.
+#[inline(never)]
+pub fn sum_walked(bytes: &[u8]) -> u64 {
+    let Some((end, capacity)) = table(bytes) else {
+        return 0;
+    };
+    let controls = &bytes[end..end + capacity];
+    let mut sum = 0u64;
+    for (place, &control) in controls.iter().enumerate() {
+        if control < 128 {
+            let item = end - (place + 1) * ITEM;
+            sum = sum.wrapping_add(value(bytes, item) + text(bytes, item).len() as u64);
+        }
+    }
+    sum
+}
