@@ -1,5 +1,5 @@
 -- What is read back of a map, one entry after the other.
-use Rattle.std.proofs.Common.{◌≡◌, ◌∙◌, ℕ, ◌≤◌, List, [], ◌∷◌, ◌++◌, length, map, refl, ap, ap₂, sym, subst, arith, append_assoc, append-nil}
+use Rattle.std.proofs.Common.{◌≡◌, ◌∙◌, ℕ, ◌<◌, ◌≤◌, List, [], ◌∷◌, ◌++◌, length, map, refl, ap, sym, subst, arith, append_assoc, append-nil}
 use Rattle.std.specs.declared.cmp.Ordering.{Ordering}
 use Rattle.std.specs.BTreeMap.{insert_entry}
 use Rattle.archive_shape_layout.specs.Shape.{Shape}
@@ -14,22 +14,20 @@ use Rattle.archive_shape_canonical.specs.Sharing.{erased, all_erased}
 use denote.Ref.{Bor}
 use Rattle.archive_shape_references.specs.declared.refs.Ref.{Ref}
 use Rattle.archive_shape.specs.Key.{HeldAt}
-use Rattle.archive_forms_spelling.specs.Spelling.{Spelling}
-use Rattle.archive_forms_spelling.specs.Regions.{plain_values}
 use Rattle.archive_forms_reading.specs.Parts.{HasValue, both}
 use Rattle.archive_forms_deserializing.specs.Deserializing.{IsReadAt}
+use Rattle.archive_forms_deserializing.specs.Reading.{reads_all, reads_each, reads_tuple2}
 use Rattle.archive_btree_layout.specs.Items.{ArePairs, IsTreeRead}
 use Rattle.archive_btree_layout.specs.Items.IsTreeRead.{reads_none, reads_tree}
 use Rattle.archive_btree_layout.specs.Reading.{Place}
 use Rattle.archive_btree_layout.specs.Tree.{Tree, items}
 use Rattle.archive_btree_layout.proofs.Mapped.{tree_is_read}
-use Rattle.archive_btree_spelling.specs.Written.{entry_spelling}
-use Rattle.archive_btree_spelling.specs.Maps.{btree_spelling}
 use Rattle.archive_btree_walking.specs.Maps.{IsMapAt, IsMapOf, AreEntriesAt}
 use Rattle.archive_btree_walking.specs.Refs.{entry_at}
 use Rattle.archive_btree_walking.proofs.One.{one_map}
 use Rattle.archive_btree_walking.proofs.Read.{map_is_read}
-use Rattle.archive_btree.specs.ReadBack.{inserted}
+use Rattle.archive_btree.specs.ReadBack.{inserted, reads_map}
+use Rattle.archive_btree.proofs.Widths.{has_width}
 
 -- a pair that is inserted behind others
 pub inserted_last : {A B : Type 0} (cmp : A → A → Ordering) (es xs : List (A × B)) (x : A × B) → inserted cmp es (xs ++ (x ∷ [])) ≡ insert_entry cmp (inserted cmp es xs) x.0 x.1
@@ -88,7 +86,7 @@ map_grouped most k v knows bytes pos value h =
 
 -- ---- what is read of entries
 
-module _ {A B R Q : Type 0} (most : ℕ) (k v : Shape) (keys : Spelling A R) (vals : Spelling B Q) (s t : Shape) (knows others : Names → Type 0) (bytes : List ℕ) where
+module _ {A B : Type 0} (most : ℕ) (keys : Value → A → Type 0) (vals : Value → B → Type 0) (s t : Shape) (knows others : Names → Type 0) (bytes : List ℕ) where
   -- pairs are those of keys and values at places, one by one
   abbrev pub AreReadAt : List Place → List (A × B) → Type 0
   AreReadAt [] [] = Unit {0}
@@ -113,25 +111,28 @@ module _ {A B R Q : Type 0} (most : ℕ) (k v : Shape) (keys : Spelling A R) (va
   all_have (p ∷ ps) no_values h = absurd h
   all_have (p ∷ ps) (more_values w ws) h = ((record { value = h.0.key; held = h.0.key_held }, record { value = h.0.value; held = h.0.value_held }), all_have ps ws h.1)
 
-  plain_read : (ps : List Place) (xs : List (A × B)) (ws : Values) → AreReadAt ps xs → AreEntriesAt s t knows others bytes ps ws → plain_values (entry_spelling most k v keys vals) xs ≡ all_erased ws
-  plain_read [] [] no_values f g = refl
-  plain_read [] [] (more_values w ws) f g = absurd g
-  plain_read [] (x ∷ xs) ws f g = absurd f
-  plain_read (p ∷ ps) [] ws f g = absurd f
-  plain_read (p ∷ ps) (x ∷ xs) no_values f g = absurd g
-  plain_read (p ∷ ps) (x ∷ xs) (more_values w ws) f g =
-      let pair : group (more_values (keys.plain x.0) (more_values (vals.plain x.1) no_values)) ≡ erased w =
-      ap₂ (λ a b. group (more_values a (more_values b no_values))) (f.0.0 g.0.key g.0.key_held) (f.0.1 g.0.value g.0.value_held) ∙ sym (ap erased g.0.is) in
-      ap₂ more_values pair (plain_read ps xs ws f.1 g.1)
+  each_read : (ps : List Place) (xs : List (A × B)) (ws : Values) → AreReadAt ps xs → AreEntriesAt s t knows others bytes ps ws → reads_each (reads_tuple2 keys vals) (all_erased ws) xs
+  each_read [] [] no_values f g = tt
+  each_read [] [] (more_values w ws) f g = absurd g
+  each_read [] (x ∷ xs) ws f g = absurd f
+  each_read (p ∷ ps) [] ws f g = absurd f
+  each_read (p ∷ ps) (x ∷ xs) no_values f g = absurd g
+  each_read (p ∷ ps) (x ∷ xs) (more_values w ws) f g =
+      let key = erased g.0.key in
+      let value = erased g.0.value in
+      let pair : reads_tuple2 keys vals (erased w) x =
+      (more_values key (more_values value no_values), sym (ap erased g.0.is),
+      (key, more_values value no_values, refl, f.0.0 g.0.key g.0.key_held, (value, no_values, refl, f.0.1 g.0.value g.0.value_held, refl))) in
+      (pair, each_read ps xs ws f.1 g.1)
 
   -- pairs that are those at the places of a map are its value
   pub map_read : (pos : ℕ) (u : Tree Place) (xs : List (A × B)) → IsMapAt bytes most s t pos u → AreReadAt (items u) xs
-      → IsReadAt (btree_spelling most k v keys vals) (tree most s t) (both knows others) bytes pos xs
+      → IsReadAt (reads_all (reads_tuple2 keys vals)) (tree most s t) (both knows others) bytes pos xs
   map_read pos u xs there read value h =
       let m : IsMapOf s t knows others bytes most pos value = map_is_read s t knows others bytes most pos value h in
       let same : m.search_tree ≡ u = one_map bytes most s t pos m.search_tree u m.map there in
       let entries : AreEntriesAt s t knows others bytes (items u) (members value) = subst (λ x. AreEntriesAt s t knows others bytes (items x) (members value)) same m.entries in
-      ap group (plain_read (items u) xs (members value) read entries) ∙ sym (ap erased (map_grouped most s t (both knows others) bytes pos value h))
+      (all_erased (members value), sym (ap erased (map_grouped most s t (both knows others) bytes pos value h)), each_read (items u) xs (members value) read entries)
 
   -- ---- the progress of a call that reads a map, with so many places left
 
@@ -194,7 +195,16 @@ module _ {A B R Q : Type 0} (most : ℕ) (k v : Shape) (keys : Spelling A R) (va
       reading_next cmp pos n.place n.more entries after x (subst (λ l. IsReading cmp pos l entries) n.is h) (subst P n.key_is f) (subst Q n.value_is g) e
 
   pub reading_ended : (cmp : A → A → Ordering) (pos : ℕ) (left : List Place) (entries : List (A × B)) → left ≡ [] → IsReading cmp pos left entries
-      → (xs : List (A × B)) × IsReadAt (btree_spelling most k v keys vals) (tree most s t) (both knows others) bytes pos xs × (entries ≡ inserted cmp [] xs)
-  reading_ended cmp pos left entries none h =
+      → IsReadAt (reads_map cmp (λ (es : List (A × B)). es) keys vals) (tree most s t) (both knows others) bytes pos entries
+  reading_ended cmp pos left entries none h value held =
       let all : items h.search_tree ≡ h.past = h.are_all ∙ ap (λ l. h.past ++ l) none ∙ append-nil h.past in
-      (h.pairs, map_read pos h.search_tree h.pairs h.map (subst (λ l. AreReadAt l h.pairs) (sym all) h.read), h.is)
+      (h.pairs, map_read pos h.search_tree h.pairs h.map (subst (λ l. AreReadAt l h.pairs) (sym all) h.read) value held, h.is)
+
+  -- where an entry was read, nodes have room for one
+  pub reading_some : (cmp : A → A → Ordering) (pos : ℕ) (left : List Place) (entries : List (A × B)) → IsReading cmp pos left entries → (entries ≡ [] → ⊥) → 0 < most
+  reading_some cmp pos left entries h some = has_width bytes most s t pos h.search_tree h.map (λ none. some (by_pairs h.pairs h.past h.read h.is (h.are_all) none))
+    where
+      by_pairs : (xs : List (A × B)) (past : List Place) → AreReadAt past xs → entries ≡ inserted cmp [] xs → items h.search_tree ≡ past ++ left → items h.search_tree ≡ [] → entries ≡ []
+      by_pairs [] past read is all none = is
+      by_pairs (x ∷ xs) [] read is all none = absurd read
+      by_pairs (x ∷ xs) (p ∷ ps) read is all none = absurd (let e : (p ∷ (ps ++ left)) ≡ [] = sym all ∙ none in cc)

@@ -3,9 +3,9 @@ ghost use Rattle.std.specs.Prelude.{◌≡◌, refl};
 ghost use Rattle.archive_shape_layout.specs.Shape.Shape.{tree};
 ghost use Rattle.archive_forms_spelling.specs.Forms.{seen_as};
 ghost use Rattle.archive_forms_spelling.specs.Serializing.{CanResolve, Resolves};
-ghost use Rattle.archive_forms_spelling.proofs.Views.{kept_spells, known_spells, seen_spells_at};
+ghost use Rattle.archive_forms_spelling.proofs.Views.{kept_spells_at, known_spells, seen_spells_at};
 ghost use Rattle.archive_forms_reading.specs.Parts.{both};
-ghost use Rattle.archive_btree_spelling.proofs.Maps.{btree_spells};
+ghost use Rattle.archive_btree_spelling.proofs.Maps.{map_spells};
 ghost use Rattle.archive_btree.specs.Owned.{entries_spelling};
 
 use crate::OwnedBTreeMap;
@@ -42,8 +42,9 @@ impl<K: Archive + Ord, V: Archive, const E: usize> Archive for OwnedBTreeMap<K, 
     }
 
     ghost spells = { λ fit m. seen_spells_at fit (tree E K.Archived.shape V.Archived.shape) (both K.Archived.knows V.Archived.knows) (λ n. n.map.entries) (entries_spelling E K.Archived.shape V.Archived.shape K.spelling V.spelling) m
-        (kept_spells fit (tree E K.Archived.shape V.Archived.shape) (both K.Archived.knows V.Archived.knows) _ _ (λ r. refl) _
-        (btree_spells fit E K.Archived.shape V.Archived.shape (both K.Archived.knows V.Archived.knows) K.spelling V.spelling m.some
+        (kept_spells_at fit (tree E K.Archived.shape V.Archived.shape) (both K.Archived.knows V.Archived.knows) _ _ (λ r. refl) _
+        m.map.entries
+        (map_spells fit E K.Archived.shape V.Archived.shape (both K.Archived.knows V.Archived.knows) K.spelling V.spelling
         (known_spells fit K.Archived.shape K.Archived.knows (both K.Archived.knows V.Archived.knows) (λ _ k. k.0) K.spelling (K.spells fit))
-        (known_spells fit V.Archived.shape V.Archived.knows (both K.Archived.knows V.Archived.knows) (λ _ k. k.1) V.spelling (V.spells fit))) m.map.entries) };
+        (known_spells fit V.Archived.shape V.Archived.knows (both K.Archived.knows V.Archived.knows) (λ _ k. k.1) V.spelling (V.spells fit)) m.map.entries m.some)) };
 }

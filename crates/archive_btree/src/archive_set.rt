@@ -1,14 +1,15 @@
 //! How sets of std are archived.
 ghost use Rattle.std.specs.Prelude.{◌≡◌, refl};
+ghost use Rattle.std.proofs.Common.{ap};
 ghost use Rattle.archive_shape_layout.specs.Shape.Shape.{tree, tuple};
 ghost use Rattle.archive_shape_layout.specs.Shape.Shapes.{no_shapes};
 ghost use Rattle.archive_forms_spelling.specs.Fields.{unit_spelling};
 ghost use Rattle.archive_forms_spelling.specs.Forms.{seen_as};
 ghost use Rattle.archive_forms_spelling.specs.Serializing.{CanResolve, Resolves};
 ghost use Rattle.archive_forms_spelling.proofs.Fields.{unit_spells};
-ghost use Rattle.archive_forms_spelling.proofs.Views.{kept_spells, known_spells, seen_spells_at};
+ghost use Rattle.archive_forms_spelling.proofs.Views.{kept_spells_at, known_spells, seen_spells_at};
 ghost use Rattle.archive_forms_reading.specs.Parts.{both};
-ghost use Rattle.archive_btree_spelling.proofs.Maps.{btree_spells};
+ghost use Rattle.archive_btree_spelling.proofs.Maps.{map_spells};
 ghost use Rattle.archive_btree.specs.Owned.{entries_spelling, key_entries};
 
 use crate::OwnedBTreeSet;
@@ -45,8 +46,9 @@ impl<K: Archive + Ord, const E: usize> Archive for OwnedBTreeSet<K, E> {
     }
 
     ghost spells = { λ fit m. seen_spells_at fit (tree E K.Archived.shape (tuple no_shapes)) (both K.Archived.knows ⟦<() as Portable>⟧.knows) (λ n. key_entries n.set.keys) (entries_spelling E K.Archived.shape (tuple no_shapes) K.spelling unit_spelling) m
-        (kept_spells fit (tree E K.Archived.shape (tuple no_shapes)) (both K.Archived.knows ⟦<() as Portable>⟧.knows) _ _ (λ r. refl) _
-        (btree_spells fit E K.Archived.shape (tuple no_shapes) (both K.Archived.knows ⟦<() as Portable>⟧.knows) K.spelling unit_spelling m.some
+        (kept_spells_at fit (tree E K.Archived.shape (tuple no_shapes)) (both K.Archived.knows ⟦<() as Portable>⟧.knows) _ _ (λ r. refl) _
+        (key_entries m.set.keys)
+        (map_spells fit E K.Archived.shape (tuple no_shapes) (both K.Archived.knows ⟦<() as Portable>⟧.knows) K.spelling unit_spelling
         (known_spells fit K.Archived.shape K.Archived.knows (both K.Archived.knows ⟦<() as Portable>⟧.knows) (λ _ k. k.0) K.spelling (K.spells fit))
-        (unit_spells fit (both K.Archived.knows ⟦<() as Portable>⟧.knows))) (key_entries m.set.keys)) };
+        (unit_spells fit (both K.Archived.knows ⟦<() as Portable>⟧.knows)) (key_entries m.set.keys) (λ some. m.some (λ none. some (ap key_entries none))))) };
 }

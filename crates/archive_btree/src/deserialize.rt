@@ -1,16 +1,16 @@
 //! Archived maps are read back as maps of std.
-ghost use Rattle.std.specs.Prelude.{◌<◌, length};
+ghost use Rattle.std.specs.Prelude.{length};
 ghost use Rattle.archive_shape_layout.specs.Shape.Shape.{tree};
 ghost use Rattle.archive_forms_reading.specs.Parts.{HasValue, both};
-ghost use Rattle.archive_forms_deserializing.specs.Deserializing.{DeserializesBy};
+ghost use Rattle.archive_forms_deserializing.specs.Deserializing.{Deserializes, DeserializesBy};
 ghost use Rattle.archive_forms_deserializing.specs.Steps.{StepTakes, StepReads};
-ghost use Rattle.archive_btree.specs.ReadBack.{DeserializesMap};
+ghost use Rattle.archive_btree.specs.ReadBack.{reads_map};
 
 use crate::OwnedBTreeMap;
 use archive_btree_reading::ArchivedBTreeMap;
-use archive_forms_deserializing::Deserialize;
+use archive_forms_deserializing::{Deserialize, ReadBack};
 use archive_forms_writing::Archive;
-use archive_shape::{Error, Portable, Ref};
+use archive_shape::{Error, Ref};
 use std::alloc::Global;
 use std::collections::BTreeMap;
 use std::marker::PhantomData;
@@ -24,7 +24,7 @@ pub(crate) fn deserialize_part<T: Archive, A: Deserialize<T, D>, D>(
     deserializer: &mut D,
 ) -> Result<(T, PhantomData<T::Archived>), Error>
     requires { HasValue A.shape A.knows bytes.now pos }
-    ensures { DeserializesBy T.spelling A.shape A.knows bytes.now pos (λ q. q.0) result }
+    ensures { DeserializesBy A.reads A.shape A.knows bytes.now pos (λ q. q.0) result }
 {
     match A::deserialize(&Ref::new(bytes, pos), alloc, deserializer) {
         Ok(value) => Ok((value, PhantomData)),
@@ -37,8 +37,8 @@ pub(crate) fn deserialize_part<T: Archive, A: Deserialize<T, D>, D>(
 pub fn deserialize_map_each<
     K: Archive + Ord + Drop,
     V: Archive + Drop,
-    A: Portable,
-    B: Portable,
+    A: ReadBack<K>,
+    B: ReadBack<V>,
     D,
     F: Fn(&mut D, usize) -> Result<(K, PhantomData<K::Archived>), Error>,
     G: Fn(&mut D, usize) -> Result<(V, PhantomData<V::Archived>), Error>,
@@ -50,13 +50,12 @@ pub fn deserialize_map_each<
     read_key: F,
     read_value: G,
 ) -> Result<OwnedBTreeMap<K, V, E>, Error>
-    requires some { 0 < E }
     requires there { HasValue (tree E A.shape B.shape) (both A.knows B.knows) this.bytes.now this.pos }
     requires takes_key { StepTakes F.Fn read_key A.shape A.knows this.bytes.now (length this.bytes.now) }
-    requires reads_key { StepReads F.Fn read_key A.shape A.knows this.bytes.now (λ q. q.0) K.spelling }
+    requires reads_key { StepReads F.Fn read_key A.shape A.knows this.bytes.now (λ q. q.0) A.reads }
     requires takes_value { StepTakes G.Fn read_value B.shape B.knows this.bytes.now (length this.bytes.now) }
-    requires reads_value { StepReads G.Fn read_value B.shape B.knows this.bytes.now (λ q. q.0) V.spelling }
-    ensures { DeserializesMap K.cmp (λ m. m.map.entries) E K.Archived.shape V.Archived.shape K.spelling V.spelling A.shape B.shape A.knows B.knows this.entry.bytes.now this.entry.pos result }
+    requires reads_value { StepReads G.Fn read_value B.shape B.knows this.bytes.now (λ q. q.0) B.reads }
+    ensures { Deserializes (reads_map K.cmp (λ m. m.map.entries) A.reads B.reads) (tree E A.shape B.shape) (both A.knows B.knows) this.entry.bytes.now this.entry.pos result }
 {
     let mut map = BTreeMap::new(alloc);
     let mut entries = ArchivedBTreeMap::iter(this);
@@ -76,35 +75,37 @@ pub fn deserialize_map_each<
     Ok(OwnedBTreeMap { map })
 }
 
-/// Reads a map back, as `deserialize_map_each` does.
-pub fn deserialize_map<
+impl<K: Ord, V, A: ReadBack<K>, B: ReadBack<V>, const E: usize> ReadBack<OwnedBTreeMap<K, V, E>>
+    for ArchivedBTreeMap<A, B, E> {
+    ghost reads = { reads_map K.cmp (λ m. m.map.entries) A.reads B.reads };
+}
+
+impl<
     K: Archive + Ord + Drop,
     V: Archive + Drop,
     D,
     A: Deserialize<K, D>,
     B: Deserialize<V, D>,
     const E: usize,
->(
-    this: Ref<'_, ArchivedBTreeMap<A, B, E>>,
-    alloc: Global,
-    deserializer: &mut D,
-) -> Result<OwnedBTreeMap<K, V, E>, Error>
-    requires some { 0 < E }
-    requires there { HasValue (tree E A.shape B.shape) (both A.knows B.knows) this.bytes.now this.pos }
-    ensures { DeserializesMap K.cmp (λ m. m.map.entries) E K.Archived.shape V.Archived.shape K.spelling V.spelling A.shape B.shape A.knows B.knows this.entry.bytes.now this.entry.pos result }
-{
-    let bytes = this.bytes;
-    deserialize_map_each::<K, V, A, B, D, _, _, E>(
-        this,
-        alloc,
-        deserializer,
-        |d: &mut D, pos: usize| -> Result<(K, PhantomData<K::Archived>), Error>
-            requires { HasValue A.shape A.knows bytes.now pos }
-            ensures { DeserializesBy K.spelling A.shape A.knows bytes.entry.now pos (λ q. q.0) result }
-        { deserialize_part::<K, A, D>(bytes, pos, alloc, d) },
-        |d: &mut D, pos: usize| -> Result<(V, PhantomData<V::Archived>), Error>
-            requires { HasValue B.shape B.knows bytes.now pos }
-            ensures { DeserializesBy V.spelling B.shape B.knows bytes.entry.now pos (λ q. q.0) result }
-        { deserialize_part::<V, B, D>(bytes, pos, alloc, d) },
-    )
+> Deserialize<OwnedBTreeMap<K, V, E>, D> for ArchivedBTreeMap<A, B, E> {
+    fn deserialize(
+        this: &Ref<'_, ArchivedBTreeMap<A, B, E>>,
+        alloc: Global,
+        deserializer: &mut D,
+    ) -> Result<OwnedBTreeMap<K, V, E>, Error> {
+        let bytes = this.bytes;
+        deserialize_map_each::<K, V, A, B, D, _, _, E>(
+            *this,
+            alloc,
+            deserializer,
+            |d: &mut D, pos: usize| -> Result<(K, PhantomData<K::Archived>), Error>
+                requires { HasValue A.shape A.knows bytes.now pos }
+                ensures { DeserializesBy A.reads A.shape A.knows bytes.entry.now pos (λ q. q.0) result }
+            { deserialize_part::<K, A, D>(bytes, pos, alloc, d) },
+            |d: &mut D, pos: usize| -> Result<(V, PhantomData<V::Archived>), Error>
+                requires { HasValue B.shape B.knows bytes.now pos }
+                ensures { DeserializesBy B.reads B.shape B.knows bytes.entry.now pos (λ q. q.0) result }
+            { deserialize_part::<V, B, D>(bytes, pos, alloc, d) },
+        )
+    }
 }

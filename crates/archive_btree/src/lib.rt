@@ -19,11 +19,11 @@ pub use archive_btree_reading::{
 };
 pub use archive_btree_sets::{ArchivedBTreeSet, BTreeSetResolver, eq_btree_set};
 pub use archive_btree_writing::{EntryParts, EntryStep, SerializeEntry};
-pub use deserialize::{deserialize_map, deserialize_map_each};
+pub use deserialize::deserialize_map_each;
 pub use map::OwnedBTreeMap;
 pub use ordered::{serialize_from_ordered_iter, serialize_from_ordered_iter_each};
 pub use ordered_keys::serialize_set_from_ordered_iter;
-pub use read_set::{deserialize_set, deserialize_set_each};
+pub use read_set::deserialize_set_each;
 pub use serialize::serialize_map_each;
 pub use serialize_set::serialize_set_each;
 pub use set::OwnedBTreeSet;

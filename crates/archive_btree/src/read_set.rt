@@ -1,22 +1,23 @@
 //! Archived sets are read back as sets of std.
-ghost use Rattle.std.specs.Prelude.{◌<◌, length, ⊤};
-ghost use Rattle.archive_shape_layout.specs.Shape.Shape.{tuple};
+ghost use Rattle.std.specs.Prelude.{length, ⊤};
+ghost use Rattle.archive_shape_layout.specs.Shape.Shape.{tree, tuple};
 ghost use Rattle.archive_shape_layout.specs.Shape.Shapes.{no_shapes};
 ghost use Rattle.archive_forms_spelling.specs.Fields.{unit_spelling};
-ghost use Rattle.archive_forms_reading.specs.Parts.{HasValue};
-ghost use Rattle.archive_forms_deserializing.specs.Deserializing.{DeserializesBy};
+ghost use Rattle.archive_forms_reading.specs.Parts.{HasValue, both};
+ghost use Rattle.archive_forms_deserializing.specs.Deserializing.{Deserializes, DeserializesBy};
+ghost use Rattle.archive_forms_deserializing.specs.Reading.{reads_as};
 ghost use Rattle.archive_forms_deserializing.specs.Steps.{StepTakes, StepReads};
 ghost use Rattle.archive_btree_sets.specs.Sets.{HasSet};
 ghost use Rattle.archive_btree.specs.Owned.{key_entries};
-ghost use Rattle.archive_btree.specs.ReadBack.{DeserializesMap};
+ghost use Rattle.archive_btree.specs.ReadBack.{reads_map};
 
 use crate::OwnedBTreeSet;
 use crate::deserialize::deserialize_part;
 use archive_btree_reading::ArchivedBTreeMap;
 use archive_btree_sets::ArchivedBTreeSet;
-use archive_forms_deserializing::Deserialize;
+use archive_forms_deserializing::{Deserialize, ReadBack};
 use archive_forms_writing::Archive;
-use archive_shape::{Error, Portable, Ref};
+use archive_shape::{Error, Ref};
 use std::alloc::Global;
 use std::collections::BTreeSet;
 use std::marker::PhantomData;
@@ -25,7 +26,7 @@ use std::marker::PhantomData;
 /// that do not ascend, or equal ones, of which the first one stays.
 pub fn deserialize_set_each<
     K: Archive + Ord + Drop,
-    A: Portable,
+    A: ReadBack<K>,
     D,
     F: Fn(&mut D, usize) -> Result<(K, PhantomData<K::Archived>), Error>,
     const E: usize,
@@ -35,11 +36,10 @@ pub fn deserialize_set_each<
     deserializer: &mut D,
     read_key: F,
 ) -> Result<OwnedBTreeSet<K, E>, Error>
-    requires some { 0 < E }
     requires there { HasSet E A.shape A.knows this.bytes.now this.pos }
     requires takes_key { StepTakes F.Fn read_key A.shape A.knows this.bytes.now (length this.bytes.now) }
-    requires reads_key { StepReads F.Fn read_key A.shape A.knows this.bytes.now (λ q. q.0) K.spelling }
-    ensures { DeserializesMap K.cmp (λ s. key_entries s.set.keys) E K.Archived.shape (tuple no_shapes) K.spelling unit_spelling A.shape (tuple no_shapes) A.knows (λ _. ⊤) this.entry.bytes.now this.entry.pos result }
+    requires reads_key { StepReads F.Fn read_key A.shape A.knows this.bytes.now (λ q. q.0) A.reads }
+    ensures { Deserializes (reads_map K.cmp (λ s. key_entries s.set.keys) A.reads (reads_as unit_spelling)) (tree E A.shape (tuple no_shapes)) (both A.knows (λ _. ⊤)) this.entry.bytes.now this.entry.pos result }
 {
     let mut set = BTreeSet::new(alloc);
     let map: Ref<'_, ArchivedBTreeMap<A, (), E>> = Ref {
@@ -60,24 +60,29 @@ pub fn deserialize_set_each<
     Ok(OwnedBTreeSet { set })
 }
 
-/// Reads a set back, as `deserialize_set_each` does.
-pub fn deserialize_set<K: Archive + Ord + Drop, D, A: Deserialize<K, D>, const E: usize>(
-    this: Ref<'_, ArchivedBTreeSet<A, E>>,
-    alloc: Global,
-    deserializer: &mut D,
-) -> Result<OwnedBTreeSet<K, E>, Error>
-    requires some { 0 < E }
-    requires there { HasSet E A.shape A.knows this.bytes.now this.pos }
-    ensures { DeserializesMap K.cmp (λ s. key_entries s.set.keys) E K.Archived.shape (tuple no_shapes) K.spelling unit_spelling A.shape (tuple no_shapes) A.knows (λ _. ⊤) this.entry.bytes.now this.entry.pos result }
-{
-    let bytes = this.bytes;
-    deserialize_set_each::<K, A, D, _, E>(
-        this,
-        alloc,
-        deserializer,
-        |d: &mut D, pos: usize| -> Result<(K, PhantomData<K::Archived>), Error>
-            requires { HasValue A.shape A.knows bytes.now pos }
-            ensures { DeserializesBy K.spelling A.shape A.knows bytes.entry.now pos (λ q. q.0) result }
-        { deserialize_part::<K, A, D>(bytes, pos, alloc, d) },
-    )
+impl<K: Ord, A: ReadBack<K>, const E: usize> ReadBack<OwnedBTreeSet<K, E>>
+    for ArchivedBTreeSet<A, E> {
+    ghost reads = { reads_map K.cmp (λ s. key_entries s.set.keys) A.reads (reads_as unit_spelling) };
+}
+
+impl<K: Archive + Ord + Drop, D, A: Deserialize<K, D>, const E: usize> Deserialize<
+    OwnedBTreeSet<K, E>,
+    D,
+> for ArchivedBTreeSet<A, E> {
+    fn deserialize(
+        this: &Ref<'_, ArchivedBTreeSet<A, E>>,
+        alloc: Global,
+        deserializer: &mut D,
+    ) -> Result<OwnedBTreeSet<K, E>, Error> {
+        let bytes = this.bytes;
+        deserialize_set_each::<K, A, D, _, E>(
+            *this,
+            alloc,
+            deserializer,
+            |d: &mut D, pos: usize| -> Result<(K, PhantomData<K::Archived>), Error>
+                requires { HasValue A.shape A.knows bytes.now pos }
+                ensures { DeserializesBy A.reads A.shape A.knows bytes.entry.now pos (λ q. q.0) result }
+            { deserialize_part::<K, A, D>(bytes, pos, alloc, d) },
+        )
+    }
 }

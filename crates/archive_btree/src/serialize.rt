@@ -49,6 +49,9 @@ pub fn serialize_map_each<
     requires takes { All (C.takes step.now) map.now.map.entries }
     ensures { Serializes (seen_as (λ m. m.map.entries) (entries_spelling E K.Archived.shape V.Archived.shape K.spelling V.spelling)) S.Writer map.now serializer.old serializer.new result }
 {
+    if map.map.is_empty() {
+        return Ok(BTreeMapResolver::from_pos(None));
+    }
     serialize_rest_each::<K, V, S, C, E>(map.map.len(), map.map.iter(), serializer, step)
 }
 

@@ -86,6 +86,9 @@ pub fn serialize_set_each<
     requires takes { All (C.takes step.now) (key_entries set.now.set.keys) }
     ensures { Serializes (seen_as (λ s. key_entries s.set.keys) (entries_spelling E K.Archived.shape (tuple no_shapes) K.spelling unit_spelling)) S.Writer set.now serializer.old serializer.new result }
 {
+    if set.set.is_empty() {
+        return Ok(BTreeSetResolver::from_pos(None));
+    }
     let entries = KeyEntries {
         keys: set.set.iter(),
     };

@@ -67,6 +67,33 @@ made_total : (n : ℕ) (v : Value) (items : Values) → v ≡ group items → co
 unfolding made
 made_total n v items is count = ap (λ b. cond b (Some v) None) (eq-eqb (count_values (members v)) n (ap (λ z. count_values (members z)) is ∙ count))
 
+-- a map without items is read as it is written, whatever its nodes may hold
+module _ (fit : Fit) (most : ℕ) (k v : Shape) (names : Names) (bytes : List ℕ) (level : ℕ) (inside : List OpenShared) (st : State) (pos : ℕ) where
+  nothing_read :
+      word_at (window bytes pos 8) 4 ≡ 0 → word_at (window bytes pos 8) 0 ≡ 1
+      → CanonicalPart fit names bytes level inside (visits_of st.met) (visits_of st.met) (at pos (tree most k v)) (group no_values) st.pos st.pos
+  unfolding made Ascends
+  nothing_read len one =
+      let c = empty_content names bytes most k v pos len in
+      record {
+        regions = [];
+        reads = record {
+          holds = holds_plain c tt (holds_none refl refl refl) refl;
+          canonical = (clean_by names bytes (at pos (tree most k v)) (plain whole []) c (λ i h. inl h) (λ z. one), tt, tt);
+          ends = refl;
+        };
+        ascends = tt;
+        gaps = λ i h z. absurd (omega (arith, h, z));
+      }
+
+  -- the length 0 behind the offset 1
+  nothing_there : (n : ℕ) → n ≡ 0 → HasBytes bytes pos (link_bytes None pos ++ to_le_bytes w32 n) → (word_at (window bytes pos 8) 4 ≡ 0) × (word_at (window bytes pos 8) 0 ≡ 1)
+  nothing_there n none b =
+      let low : HasBytes bytes pos (to_le_bytes w32 1) = stands_left bytes pos (to_le_bytes w32 1) (to_le_bytes w32 n) b in
+      let high : HasBytes bytes (pos + 4) (to_le_bytes w32 n) = stands_right bytes pos (to_le_bytes w32 1) (to_le_bytes w32 n) (pos + 4) refl b in
+      (word_within bytes pos 8 4 (omega arith) ∙ stands_word bytes (pos + 4) n (omega (arith, none)) high ∙ none,
+      word_within bytes pos 8 0 (omega arith) ∙ ap (word_at bytes) (add-zero pos) ∙ stands_word bytes pos 1 (omega arith) low)
+
 module _ {A B R Q : Type 0} (fit : Fit) (most : ℕ) (k v : Shape) (knows : Names → Type 0) (keys : Spelling A R) (vals : Spelling B Q) (some : 0 < most) where
   module _ (xs : List (A × B)) (each : EachEntrySpells fit most k v knows keys vals xs) where
     packed_one : TreeSpells fit most k v knows keys vals (levels_for most (length xs)) (packed_spelling most k v keys vals (levels_for most (length xs))) xs
@@ -92,22 +119,9 @@ module _ {A B R Q : Type 0} (fit : Fit) (most : ℕ) (k v : Shape) (knows : Name
         by_root None e g b =
             let w = packed_spelling most k v keys vals (levels_for most (length xs)) in
             let r = packed_one.absent st e in
-            let low : HasBytes bytes pos (to_le_bytes w32 1) = stands_left bytes pos (to_le_bytes w32 1) (to_le_bytes w32 (length xs)) b in
-            let high : HasBytes bytes (pos + 4) (to_le_bytes w32 (length xs)) = stands_right bytes pos (to_le_bytes w32 1) (to_le_bytes w32 (length xs)) (pos + 4) refl b in
-            let len : word_at (window bytes pos 8) 4 ≡ 0 = word_within bytes pos 8 4 (omega arith) ∙ stands_word bytes (pos + 4) (length xs) o.1 high ∙ ap length r.none in
-            let one : word_at (window bytes pos 8) 0 ≡ 1 = word_within bytes pos 8 0 (omega arith) ∙ ap (word_at bytes) (add-zero pos) ∙ stands_word bytes pos 1 (omega arith) low in
-            let c = empty_content names bytes most k v pos len in
+            let there = nothing_there fit most k v names bytes level inside st pos (length xs) (ap length r.none) b in
             let empty : st.pos ≡ st.pos + length (w.piece xs st) = sym (ap (λ z. st.pos + length z) r.piece ∙ add-zero st.pos) in
-            let nothing : CanonicalPart fit names bytes level inside (visits_of st.met) (visits_of st.met) (at pos (tree most k v)) (group no_values) st.pos st.pos = record {
-              regions = [];
-              reads = record {
-                holds = holds_plain c tt (holds_none refl refl refl) refl;
-                canonical = (clean_by names bytes (at pos (tree most k v)) (plain whole []) c (λ i h. inl h) (λ z. one), tt, tt);
-                ends = refl;
-              };
-              ascends = tt;
-              gaps = λ i h z. absurd (omega (arith, h, z));
-            } in
+            let nothing = nothing_read fit most k v names bytes level inside st pos there.0 there.1 in
             subst (λ z. CanonicalPart fit names bytes level inside (visits_of st.met) (visits_of (w.met xs st)) (at pos (tree most k v)) (w.value xs st) st.pos z) empty
             (subst (λ z. CanonicalPart fit names bytes level inside (visits_of st.met) (visits_of z) (at pos (tree most k v)) (w.value xs st) st.pos st.pos) (sym r.met)
             (subst (λ z. CanonicalPart fit names bytes level inside (visits_of st.met) (visits_of st.met) (at pos (tree most k v)) z st.pos st.pos) (sym r.value) nothing))
@@ -155,3 +169,32 @@ module _ {A B R Q : Type 0} (fit : Fit) (most : ℕ) (k v : Shape) (knows : Name
   -- so of all maps
   pub btree_spells : Spells fit k knows keys → Spells fit v knows vals → Spells fit (tree most k v) knows (btree_spelling most k v keys vals)
   btree_spells f g xs = btree_spells_at xs (each_entry f g xs)
+
+module _ {A B R Q : Type 0} (fit : Fit) (most : ℕ) (k v : Shape) (knows : Names → Type 0) (keys : Spelling A R) (vals : Spelling B Q) where
+  empty_spells : SpellsAt fit (tree most k v) knows (btree_spelling most k v keys vals) []
+  empty_spells = record {
+    sized = λ r pos f. length-map r pos 0;
+    canonical = λ st pos names given bytes level inside kn n known state over f o p q.
+        let there = nothing_there fit most k v names bytes level inside st pos 0 refl q in
+        subst (λ z. CanonicalPart fit names bytes level inside (visits_of st.met) (visits_of st.met) (at pos (tree most k v)) (group no_values) st.pos z) (sym (add-zero st.pos))
+        (nothing_read fit most k v names bytes level inside st pos there.0 there.1);
+    consistent = λ st c f. consistent_behind st c;
+    keyed = λ given st n known f. (refl, known);
+    piece_bytes = λ st f. tt;
+    own_bytes = λ r pos f. bytes_append (link_bytes r pos) (to_le_bytes w32 0) (link_small r pos) (bytes_word 0);
+    piece_exact = λ st e f g. absurd g;
+    own_exact = λ r pos e f g. refused r pos e f g;
+  }
+    where
+      -- where nothing is written the state stays
+      consistent_behind : (st : State) → IsConsistent st → IsConsistent (state_after (btree_spelling most k v keys vals) [] st)
+      consistent_behind st c = subst IsConsistent (ap (λ n. record { pos = n; met = st.met }) (sym (add-zero st.pos))) c
+
+      refused : (r : Option ℕ) (pos : ℕ) (e : Error) → (btree_spelling most k v keys vals).own_fits [] r pos → (btree_spelling most k v keys vals).own_refused [] r pos e → ⊥
+      refused r pos e f (inl g) = link_exact r pos e f.0 g
+      refused r pos e f (inr g) = let h = g.0 in absurd (omega (arith, h))
+
+  -- the law of maps whose nodes hold entries where there are any
+  pub map_spells : Spells fit k knows keys → Spells fit v knows vals → (xs : List (A × B)) → ((xs ≡ [] → ⊥) → 0 < most) → SpellsAt fit (tree most k v) knows (btree_spelling most k v keys vals) xs
+  map_spells f g [] some = empty_spells
+  map_spells f g (x ∷ xs) some = btree_spells fit most k v knows keys vals (some (λ e. absurd (cc))) f g (x ∷ xs)

@@ -1,16 +1,14 @@
 //! Tests of archived maps of lists beside other values, and of what is hashed of a map.
 
-ghost use Rattle.archive_forms_checking.specs.Tuples.{tuple2};
-ghost use Rattle.archive_forms_reading.specs.Parts.{HasValue, both};
-
 use crate::archives::root_of;
 use crate::writing::archive_of;
-use archive_btree::{ArchivedBTreeMap, OwnedBTreeMap, deserialize_map};
+use archive_btree::{ArchivedBTreeMap, OwnedBTreeMap};
+use archive_forms_deserializing::Deserialize;
 use archive_forms_hashing::ArchivedHash;
 use archive_forms_reading::ArchivedVec;
 use archive_forms_text::ArchivedString;
 use archive_forms_tuples::ArchivedTuple2;
-use archive_shape::{ArchivedI32, ArchivedU32, Error, Portable, Ref};
+use archive_shape::{ArchivedI32, ArchivedU32, Error};
 use std::alloc::Global;
 use std::collections::BTreeMap;
 use std::hash::{DefaultHasher, Hash, Hasher};
@@ -41,21 +39,16 @@ fn lists(alloc: Global) -> Result<Lists, Error> {
     Ok(OwnedBTreeMap { map })
 }
 
-/// The first of a pair.
-fn first_of<'a, A: Portable, B: Portable>(pair: Ref<'a, ArchivedTuple2<A, B>>) -> Ref<'a, A>
-    requires { HasValue (tuple2 A.shape B.shape) (both A.knows B.knows) pair.bytes.now pair.pos }
-    ensures { HasValue A.shape A.knows result.bytes.now result.pos }
-{
-    ArchivedTuple2::first(pair)
-}
+/// A map beside a list.
+type Pair = (Lists, Vec<i32>);
 
 /// Whether that map beside an empty list is read back.
 fn is_read_back_beside_a_list(alloc: Global) -> Result<bool, Error> {
-    let pair: (Lists, Vec<i32>) = (lists(alloc)?, Vec::new(alloc));
+    let pair: Pair = (lists(alloc)?, Vec::new(alloc));
     let bytes = archive_of(alloc, &pair)?;
     let root = root_of::<ArchivedTuple2<ArchivedLists, ArchivedList>>(alloc, bytes.as_slice())?;
-    let read: Lists = deserialize_map(first_of(root), alloc, &mut ())?;
-    Ok(read.map == pair.0.map)
+    let read: Pair = ArchivedTuple2::deserialize(&root, alloc, &mut ())?;
+    Ok(read.0.map == pair.0.map && read.1.is_empty())
 }
 
 #[test]

@@ -3,9 +3,9 @@
 use crate::archives::root_of;
 use crate::writing::archive_of;
 use archive_btree::{
-    ArchivedBTreeMap, ArchivedBTreeSet, OwnedBTreeMap, OwnedBTreeSet, deserialize_map,
-    deserialize_set,
+    ArchivedBTreeMap, ArchivedBTreeSet, OwnedBTreeMap, OwnedBTreeSet,
 };
+use archive_forms_deserializing::Deserialize;
 use archive_forms_reading::native_of;
 use archive_forms_text::ArchivedString;
 use archive_shape::{ArchivedI32, ArchivedU32, Error};
@@ -55,7 +55,7 @@ fn archived(alloc: Global, count: i32) -> Result<(usize, usize, bool), Error> {
     let owned = decimals(alloc, count)?;
     let bytes = archive_of(alloc, &owned)?;
     let root = root_of::<ArchivedNumbers>(alloc, bytes.as_slice())?;
-    let read: Numbers = deserialize_map(root, alloc, &mut ())?;
+    let read: Numbers = ArchivedBTreeMap::deserialize(&root, alloc, &mut ())?;
     Ok((
         ArchivedBTreeMap::len(root),
         ArchivedBTreeMap::keys(root)
@@ -103,7 +103,7 @@ fn numbers_without_values(alloc: Global) -> Result<bool, Error> {
     let owned: OwnedBTreeMap<u32, (), 5> = OwnedBTreeMap { map };
     let bytes = archive_of(alloc, &owned)?;
     let root = root_of::<ArchivedBTreeMap<ArchivedU32, (), 5>>(alloc, bytes.as_slice())?;
-    let read: OwnedBTreeMap<u32, (), 5> = deserialize_map(root, alloc, &mut ())?;
+    let read: OwnedBTreeMap<u32, (), 5> = ArchivedBTreeMap::deserialize(&root, alloc, &mut ())?;
     Ok(read.map == owned.map)
 }
 
@@ -116,7 +116,7 @@ fn value_without_key(alloc: Global) -> Result<bool, Error> {
     let owned: OwnedBTreeMap<(), u32, 5> = OwnedBTreeMap { map };
     let bytes = archive_of(alloc, &owned)?;
     let root = root_of::<ArchivedBTreeMap<(), ArchivedU32, 5>>(alloc, bytes.as_slice())?;
-    let read: OwnedBTreeMap<(), u32, 5> = deserialize_map(root, alloc, &mut ())?;
+    let read: OwnedBTreeMap<(), u32, 5> = ArchivedBTreeMap::deserialize(&root, alloc, &mut ())?;
     Ok(read.map == owned.map)
 }
 
@@ -129,7 +129,7 @@ fn set_without_bytes(alloc: Global) -> Result<bool, Error> {
     let owned: OwnedBTreeSet<(), 5> = OwnedBTreeSet { set };
     let bytes = archive_of(alloc, &owned)?;
     let root = root_of::<ArchivedBTreeSet<(), 5>>(alloc, bytes.as_slice())?;
-    let read: OwnedBTreeSet<(), 5> = deserialize_set(root, alloc, &mut ())?;
+    let read: OwnedBTreeSet<(), 5> = ArchivedBTreeSet::deserialize(&root, alloc, &mut ())?;
     Ok(read.set == owned.set)
 }
 

@@ -6,10 +6,11 @@ use crate::archives::{EMPTY, ONE_PAIR, SIX_PAIRS, bytes_of, root_of};
 use crate::sets::{FOUR, NONE, SIX};
 use archive_btree::{
     ArchivedBTreeMap, ArchivedBTreeSet, BTreeMapResolver, BTreeSetResolver, EntryParts,
-    OwnedBTreeMap, OwnedBTreeSet, deserialize_map, deserialize_set, serialize_from_ordered_iter,
+    OwnedBTreeMap, OwnedBTreeSet, serialize_from_ordered_iter,
     serialize_map_each, serialize_set_from_ordered_iter,
 };
 use archive_core_serializing::{HighSerializer, Serializer};
+use archive_forms_deserializing::Deserialize;
 use archive_forms_text::ArchivedString;
 use archive_forms_writing::{Serialize, serialize_element, serialize_using};
 use archive_shape::{Allocator, ArchivedU32, Error, Positional, Registry, Writer};
@@ -83,7 +84,7 @@ fn is_read_back(alloc: Global, owned: &OwnedBTreeMap<String, u32, 5>) -> Result<
         alloc,
         bytes.as_slice(),
     )?;
-    let read: OwnedBTreeMap<String, u32, 5> = deserialize_map(root, alloc, &mut ())?;
+    let read: OwnedBTreeMap<String, u32, 5> = ArchivedBTreeMap::deserialize(&root, alloc, &mut ())?;
     Ok(read.map == owned.map)
 }
 
@@ -195,7 +196,7 @@ fn sets_are_written_without_bytes_for_values(rt: HostRuntime) {
 fn read_back(alloc: Global, words: &[u32]) -> Result<OwnedBTreeSet<u32, 5>, Error> {
     let bytes = bytes_of(alloc, words)?;
     let root = root_of::<ArchivedBTreeSet<ArchivedU32, 5>>(alloc, bytes.as_slice())?;
-    deserialize_set(root, alloc, &mut ())
+    ArchivedBTreeSet::deserialize(&root, alloc, &mut ())
 }
 
 #[test]

@@ -1,6 +1,7 @@
 -- What is written at a root is accepted, and its value is the one that is read back.
-use Rattle.std.proofs.Common.{length, ◌∙◌}
+use Rattle.std.proofs.Common.{length, subst}
 use Rattle.archive_shape_layout.specs.Shape.{Shape}
+use Rattle.archive_shape_layout.specs.Value.{Value}
 use Rattle.archive_shape_layout.specs.Content.{Names}
 use Rattle.archive_shape_layout.specs.Holds.{root_position}
 use Rattle.archive_forms_spelling.specs.Spelling.{Spelling}
@@ -14,7 +15,7 @@ module _ {A R : Type 0} (s : Shape) (knows : Names → Type 0) (w : Spelling A R
       let made = written fit names keys known suited one in
       unlimited_law names bytes s (root_position (length bytes) s) _ made.regions made.visits short made.canonical.root
 
-  pub read_back_law : ReadBackIsWritten s knows w
-  read_back_law x y bytes fit names keys known suited one written read =
+  pub read_back_law : (reads : Value → A → Type 0) → ReadBackIsWritten s knows w reads
+  read_back_law reads x y bytes fit names keys known suited one written read =
       let made = written fit names keys known suited one in
-      read _ (root_held s knows names bytes (root_position (length bytes) s) _ made.regions made.visits known made.canonical.root) ∙ made.plain
+      subst (λ v. reads v y) made.plain (read _ (root_held s knows names bytes (root_position (length bytes) s) _ made.regions made.visits known made.canonical.root))

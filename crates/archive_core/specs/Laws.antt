@@ -1,6 +1,7 @@
 -- Laws of whole archives, as statements.
-use Rattle.std.specs.Prelude.{◌≡◌, ℕ, ◌<◌, ◌^◌, List, length}
+use Rattle.std.specs.Prelude.{ℕ, ◌<◌, ◌^◌, List, length}
 use Rattle.archive_shape_layout.specs.Shape.{Shape}
+use Rattle.archive_shape_layout.specs.Value.{Value}
 use Rattle.archive_shape_layout.specs.Content.{Names}
 use Rattle.archive_shape_layout.specs.Holds.{root_position}
 use Rattle.archive_shape_canonical.specs.Settled.{Fit}
@@ -23,13 +24,13 @@ module _ {A R : Type 0} (s : Shape) (knows : Names → Type 0) (w : Spelling A R
       → MadeArchive s knows w x bytes
       → IsAccepted names bytes s (root_position (length bytes) s) unlimited
 
-  -- what is read back at its root is the value, but for where shared values stand
-  abbrev pub ReadBackIsWritten : Type 0
-  ReadBackIsWritten =
+  -- what is read back at its root is what the value itself is read back as, wherever shared values stand in it
+  abbrev pub ReadBackIsWritten : (Value → A → Type 0) → Type 0
+  ReadBackIsWritten reads =
       (x y : A) (bytes : List ℕ) (fit : Fit) (names : Names) (keys : Keys)
       → knows names
       → w.suits fit keys x
       → AreOneToOne keys
       → MadeArchive s knows w x bytes
-      → IsReadAt w s knows bytes (root_position (length bytes) s) y
-      → w.plain y ≡ w.plain x
+      → IsReadAt reads s knows bytes (root_position (length bytes) s) y
+      → reads (w.plain x) y

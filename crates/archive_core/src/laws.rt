@@ -4,9 +4,9 @@ ghost use Rattle.archive_core.specs.Laws.{WrittenIsAccepted, ReadBackIsWritten};
 
 pub use archive_core_access::unlimited_is_no_limit;
 pub use archive_core_nesting::laws::nesting_is_bounded;
-use archive_forms::Archive;
+use archive_forms::{Archive, ReadBack};
 pub use archive_forms::laws::{
-    equal_values_are_hashed_alike, equalities_are_equivalences, held_is_text,
+    equal_values_are_hashed_alike, equalities_are_equivalences, forms_are_faithful, held_is_text,
     keyed_lists_are_written, leaf_spells, one_present_is_written, one_text,
     optional_lists_are_written, orders_agree, orders_are_total, out_of_line_capacity,
     pairs_are_written, texts_are_written, two_shared_is_written, written_once,
@@ -30,7 +30,10 @@ pub fn written_is_accepted<T: Archive>()
     ensures { WrittenIsAccepted T.Archived.shape T.Archived.knows T.spelling }
 {}
 
-/// What `from_bytes` reads back of what `to_bytes` wrote is the value that was written, but for where shared values stand.
+/// What `from_bytes` reads back of what `to_bytes` wrote is what the value that was written is read back as: where forms are
+/// faithful, a value that is archived as it, but for where shared values stand.
 pub fn read_back_is_written<T: Archive>()
-    ensures { ReadBackIsWritten T.Archived.shape T.Archived.knows T.spelling }
+where
+    T::Archived: ReadBack<T>,
+    ensures { ReadBackIsWritten T.Archived.shape T.Archived.knows T.spelling T.Archived.reads }
 {}

@@ -48,6 +48,7 @@ pub use archive_forms::Deserialize;
 pub use archive_forms::DeserializeUnsized;
 pub use archive_forms::Iter;
 pub use archive_forms::Leaf;
+pub use archive_forms::ReadBack;
 pub use archive_forms::Serialize;
 pub use archive_forms::SerializeUnsized;
 pub use archive_forms::SliceRef;

@@ -23,7 +23,7 @@ pub fn deserialize<T: Archive, A: Deserialize<T, HighDeserializer>>(
     value: &Ref<'_, A>,
 ) -> Result<T, Error>
     requires { HasValue A.shape A.knows value.now.bytes.now value.now.pos }
-    ensures { Deserializes T.spelling A.shape A.knows value.now.bytes.now value.now.pos result }
+    ensures { Deserializes A.reads A.shape A.knows value.now.bytes.now value.now.pos result }
 {
     A::deserialize(value, alloc, &mut ())
 }
@@ -35,7 +35,7 @@ where
     requires named { (names : Names) × T.Archived.knows names }
     ensures exact { (names : Names) → T.Archived.knows names
         → Decides names bytes.now T.Archived.shape (root_position (length bytes.now) T.Archived.shape) unlimited result }
-    ensures value { IfOk result (IsReadAt T.spelling T.Archived.shape T.Archived.knows bytes.now (root_position (length bytes.now) T.Archived.shape)) }
+    ensures value { IfOk result (IsReadAt T.Archived.reads T.Archived.shape T.Archived.knows bytes.now (root_position (length bytes.now) T.Archived.shape)) }
 {
     let root = access::<T::Archived>(alloc, bytes)?;
     deserialize::<T, T::Archived>(alloc, &root)

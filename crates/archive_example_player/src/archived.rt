@@ -5,12 +5,13 @@ ghost use Rattle.archive_shape_layout.specs.Shape.{size_of};
 ghost use Rattle.archive_forms_layout.specs.Text.{HasText};
 ghost use Rattle.archive_forms_reading.specs.Parts.{HasValue};
 ghost use Rattle.archive_forms_tuples.specs.Fields.{AreFieldsAt};
-ghost use Rattle.archive_example_player.specs.Player.{level_shape, scores_shape, player_shape, player_parts, KnowsPlayer};
+ghost use Rattle.archive_forms_deserializing.specs.Reading.{reads_in};
+ghost use Rattle.archive_example_player.specs.Player.{level_shape, scores_shape, player_shape, player_parts, KnowsPlayer, player_fields};
 
 use crate::Player;
 use archive_core::{
     ArchiveContext, ArchivedI32, ArchivedOption, ArchivedString, ArchivedTuple3, ArchivedVec,
-    CheckBytes, Deserialize, Error, Portable, Ref, Seal, Shape,
+    CheckBytes, Deserialize, Error, Portable, ReadBack, Ref, Seal, Shape,
 };
 use std::alloc::{AllocError, Global};
 
@@ -53,6 +54,10 @@ impl<C: ArchiveContext> CheckBytes<C> for ArchivedPlayer {
     fn check(alloc: Global, bytes: &[u8], pos: usize, context: &mut C) -> Result<(), Error> {
         Fields::check(alloc, bytes, pos, context)
     }
+}
+
+impl ReadBack<Player> for ArchivedPlayer {
+    ghost reads = { reads_in player_fields ⟦<Fields as ReadBack<(u8, String, Option<Vec<i32>>)>>⟧.reads };
 }
 
 impl<D> Deserialize<Player, D> for ArchivedPlayer {

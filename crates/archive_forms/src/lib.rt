@@ -14,7 +14,7 @@ pub use archive_forms_collections::{
 };
 pub use archive_forms_comparing::{ArchivedEq, ArchivedOrd, ComparedNative};
 pub use archive_forms_deserializing::{
-    Deserialize, DeserializeUnsized, deserialize_array_each, deserialize_box_each,
+    Deserialize, DeserializeUnsized, ReadBack, deserialize_array_each, deserialize_box_each,
     deserialize_boxed_slice_each, deserialize_option_each, deserialize_result_each,
     deserialize_tuple1_each, deserialize_tuple2_each, deserialize_tuple3_each,
     deserialize_tuple4_each, deserialize_vec_each,

@@ -5,17 +5,16 @@ use Rattle.archive_shape_layout.specs.Shape.{Shape, Shapes, size_of, align_of, f
 use Rattle.archive_shape_layout.specs.Shape.Shape.{tuple}
 use Rattle.archive_shape_layout.specs.Shape.Shapes.{no_shapes, more_shapes}
 use Rattle.archive_shape_layout.specs.Value.{Value, Values}
-use Rattle.archive_shape_layout.specs.Value.Value.{group}
 use Rattle.archive_shape_layout.specs.Value.Values.{no_values, more_values}
 use Rattle.archive_shape_layout.specs.Content.{Names}
 use Rattle.archive_shape_layout.proofs.Framed.{le_align_up, le_fields_end}
 use Rattle.archive_shape_references.proofs.PointerSizes.{first_multiple}
 use Rattle.archive_shape_canonical.specs.Sharing.{erased, all_erased}
 use Rattle.archive_shape.specs.Key.{HeldAt}
-use Rattle.archive_forms_spelling.specs.Spelling.{Spelling}
 use Rattle.archive_forms_reading.specs.Parts.{HasValue}
 use Rattle.archive_forms_tuples.specs.Fields.{Field, shapes_of, field_position, BeginsWith, AreFields, AreFieldsAt, IsGroupOf}
 use Rattle.archive_forms_deserializing.specs.Deserializing.{IsReadAt}
+use Rattle.archive_forms_deserializing.specs.Reading.{reads_end, reads_field, reads_group}
 
 -- ---- what fields have
 
@@ -61,24 +60,28 @@ field_ends first between s others pos at e =
 
 -- ---- what is read of them
 
--- values that meet what is said of them are these, but for where shared ones stand
-abbrev pub AreRead : (Values → Type 0) → Values → Type 0
-AreRead Said plain = (values : Values) → Said values → plain ≡ all_erased values
+-- values that meet what is said of them are read back as these fields
+abbrev pub AreRead : (Values → Type 0) → (Values → Type 0) → Type 0
+AreRead Said Fields = (values : Values) → Said values → Fields (all_erased values)
 
 -- there is no field
-pub none_read : AreRead (λ values. values ≡ no_values) no_values
+pub none_read : AreRead (λ values. values ≡ no_values) reads_end
 none_read vs e = sym (ap all_erased e)
 
 -- a field before others
-pub field_read : {A R : Type 0} (w : Spelling A R) (f : Field) (bytes : List ℕ) (at pos : ℕ) (x : A) (Others : Values → Type 0) (plain : Values)
-    → pos ≡ at → IsReadAt w f.shape f.knows bytes pos x → AreRead Others plain → AreRead (BeginsWith f bytes at Others) (more_values (w.plain x) plain)
-field_read w f bytes at pos x Others plain e one rest vs h =
-    let first : w.plain x ≡ erased h.first = one h.first (subst (λ n. HeldAt f.shape f.knows bytes n h.first) (sym e) h.held) in
-    ap₂ more_values first (rest h.others h.rest) ∙ sym (ap all_erased h.is)
+pub field_read : {A : Type 0} (reads : Value → A → Type 0) (f : Field) (bytes : List ℕ) (at pos : ℕ) (x : A) (Others Fields : Values → Type 0)
+    → pos ≡ at → IsReadAt reads f.shape f.knows bytes pos x → AreRead Others Fields → AreRead (BeginsWith f bytes at Others) (reads_field reads x Fields)
+field_read reads f bytes at pos x Others Fields e one rest vs h = (
+  erased h.first,
+  all_erased h.others,
+  sym (ap all_erased h.is),
+  one h.first (subst (λ n. HeldAt f.shape f.knows bytes n h.first) (sym e) h.held),
+  rest h.others h.rest,
+)
 
 -- a tuple is the group of its fields
-pub tuple_read : (fs : List Field) (knows : Names → Type 0) (bytes : List ℕ) (pos : ℕ) (plain : Values) → AreFieldsAt fs knows bytes pos → AreRead (AreFields fs bytes pos) plain
-    → (v : Value) → HeldAt (tuple (shapes_of fs)) knows bytes pos v → group plain ≡ erased v
-tuple_read fs knows bytes pos plain there read v h =
+pub tuple_read : (fs : List Field) (knows : Names → Type 0) (bytes : List ℕ) (pos : ℕ) (Fields : Values → Type 0) → AreFieldsAt fs knows bytes pos → AreRead (AreFields fs bytes pos) Fields
+    → (v : Value) → HeldAt (tuple (shapes_of fs)) knows bytes pos v → reads_group Fields (erased v)
+tuple_read fs knows bytes pos Fields there read v h =
     let g = there v h in
-    ap group (read g.values g.each) ∙ sym (ap erased g.is)
+    (all_erased g.values, sym (ap erased g.is), read g.values g.each)

@@ -1,4 +1,5 @@
 mod Outcomes
 mod Plain
+pub mod Faithful
 mod Fields
 mod Read

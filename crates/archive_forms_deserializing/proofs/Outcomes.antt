@@ -3,16 +3,14 @@ use Rattle.std.proofs.Common.{◌≡◌, ℕ, ◌+◌, ◌≤◌, max, arith, Li
 use Rattle.archive_shape_layout.specs.Bytes.{align_up}
 use Rattle.archive_shape_layout.specs.Shape.{Shape, size_of, align_of}
 use Rattle.archive_shape_layout.specs.Shape.Shape.{result}
-use Rattle.archive_shape_layout.specs.Value.Value.{chosen}
-use Rattle.archive_shape_layout.specs.Value.Values.{no_values, more_values}
+use Rattle.archive_shape_layout.specs.Value.{Value}
 use Rattle.archive_shape_layout.specs.Content.{Names}
 use Rattle.archive_shape_layout.proofs.Framed.{le_align_up}
 use Rattle.archive_shape_canonical.specs.Sharing.{erased}
 use Rattle.archive_shape.specs.Key.{HeldAt}
-use Rattle.archive_forms_spelling.specs.Spelling.{Spelling}
-use Rattle.archive_forms_spelling.specs.Results.{result_spelling}
 use Rattle.archive_forms_reading.specs.Parts.{HasValue, HasPayload, both, IsOkAt, IsErrAt, outcome_position}
 use Rattle.archive_forms_deserializing.specs.Deserializing.{IsReadAt}
+use Rattle.archive_forms_deserializing.specs.Reading.{reads_result}
 
 -- behind the tag of each value of a shape stands one of another
 pub payload_has :
@@ -30,19 +28,17 @@ outcome_ends s t pos at e =
     let filled = le_align_up (align_up 1 (max (align_of s) (align_of t)) + max (size_of s) (size_of t)) (max (align_of s) (align_of t)) in
     (omega (arith, e, filled), omega (arith, e, filled))
 
-module _ {A B R Q : Type 0} (w : Spelling A R) (u : Spelling B Q) (x y : Shape) (s t : Shape) (knows others : Names → Type 0) (bytes : List ℕ) (pos at : ℕ) where
+module _ {A B : Type 0} (reads : Value → A → Type 0) (errors : Value → B → Type 0) (s t : Shape) (knows others : Names → Type 0) (bytes : List ℕ) (pos at : ℕ) where
   pub ok_read :
-      (a : A) → at ≡ outcome_position s t pos → IsOkAt s t knows others bytes pos → IsReadAt w s knows bytes at a
-      → IsReadAt (result_spelling x y w u) (result s t) (both knows others) bytes pos (Ok a)
+      (a : A) → at ≡ outcome_position s t pos → IsOkAt s t knows others bytes pos → IsReadAt reads s knows bytes at a
+      → IsReadAt (reads_result reads errors) (result s t) (both knows others) bytes pos (Ok a)
   ok_read a e there read v h =
       let p = there v h in
-      let inner : w.plain a ≡ erased p.payload = read p.payload (subst (λ n. HeldAt s knows bytes n p.payload) (sym e) p.held) in
-      ap (λ z. chosen 0 (more_values z no_values)) inner ∙ sym (ap erased p.is)
+      (erased p.payload, sym (ap erased p.is), read p.payload (subst (λ n. HeldAt s knows bytes n p.payload) (sym e) p.held))
 
   pub err_read :
-      (b : B) → at ≡ outcome_position s t pos → IsErrAt s t knows others bytes pos → IsReadAt u t others bytes at b
-      → IsReadAt (result_spelling x y w u) (result s t) (both knows others) bytes pos (Err b)
+      (b : B) → at ≡ outcome_position s t pos → IsErrAt s t knows others bytes pos → IsReadAt errors t others bytes at b
+      → IsReadAt (reads_result reads errors) (result s t) (both knows others) bytes pos (Err b)
   err_read b e there read v h =
       let p = there v h in
-      let inner : u.plain b ≡ erased p.payload = read p.payload (subst (λ n. HeldAt t others bytes n p.payload) (sym e) p.held) in
-      ap (λ z. chosen 1 (more_values z no_values)) inner ∙ sym (ap erased p.is)
+      (erased p.payload, sym (ap erased p.is), read p.payload (subst (λ n. HeldAt t others bytes n p.payload) (sym e) p.held))

@@ -20,6 +20,7 @@ use Rattle.archive_forms_reading.specs.Parts.{HasValue}
 use Rattle.archive_forms_reading.proofs.Inside.{none_held}
 use Rattle.archive_forms_reading.proofs.Pointed.{made_whole}
 use Rattle.archive_forms_deserializing.specs.Deserializing.{IsReadAt}
+use Rattle.archive_forms_deserializing.specs.Reading.{reads_as}
 
 module _ (knows : Names → Type 0) (bytes : List ℕ) (pos : ℕ) where
   -- a value without fields is the empty group
@@ -36,5 +37,5 @@ module _ (knows : Names → Type 0) (bytes : List ℕ) (pos : ℕ) where
   pub text_has : HasValue text knows bytes pos → HasText bytes pos
   text_has h = (text_there h.value h.held).stands.there
 
-  pub text_read : (x : String Global) (t : List ℕ) → string_bytes x ≡ t → IsText bytes pos t → IsReadAt string_spelling text knows bytes pos x
+  pub text_read : (x : String Global) (t : List ℕ) → string_bytes x ≡ t → IsText bytes pos t → IsReadAt (reads_as string_spelling) text knows bytes pos x
   text_read x t e is v h = ap string e ∙ sym (ap erased (text_value bytes pos t v (text_there v h) is))

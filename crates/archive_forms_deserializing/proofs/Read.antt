@@ -7,7 +7,6 @@ use Rattle.archive_shape_layout.specs.Shape.{Shape, size_of, align_of}
 use Rattle.archive_shape_layout.specs.Shape.Shape.{option, box, vector, array}
 use Rattle.archive_shape_layout.specs.Shape.Pointee.{sized}
 use Rattle.archive_shape_layout.specs.Value.{Value, Values, count_values}
-use Rattle.archive_shape_layout.specs.Value.Value.{chosen, group}
 use Rattle.archive_shape_layout.specs.Value.Values.{no_values, more_values}
 use Rattle.archive_shape_layout.specs.Content.{Names}
 use Rattle.archive_shape_layout.specs.Path.{value_in}
@@ -15,15 +14,11 @@ use Rattle.archive_shape_layout.proofs.Framed.{le_align_up}
 use Rattle.archive_shape_canonical.specs.Sharing.{erased, all_erased}
 use Rattle.archive_shape_writing.specs.declared.error.Error.{Error}
 use Rattle.archive_shape.specs.Key.{HeldAt}
-use Rattle.archive_forms_spelling.specs.Spelling.{Spelling}
-use Rattle.archive_forms_spelling.specs.Arrays.{array_spelling}
-use Rattle.archive_forms_spelling.specs.Options.{option_spelling}
-use Rattle.archive_forms_spelling.specs.Regions.{plain_values}
 use Rattle.archive_forms_reading.specs.Arrays.{IsArrayAt}
 use Rattle.archive_forms_reading.specs.Parts.{HasValue, IsNoneAt, IsSomeAt, some_position, IsBoxAt, IsVecAt, AreElements, HasElements}
 use Rattle.archive_forms_reading.proofs.Pointed.{element_ends}
-use Rattle.archive_forms_writing.specs.Owned.{boxed_spelling, vec_spelling}
 use Rattle.archive_forms_deserializing.specs.Deserializing.{IsReadAt, AreReadFrom, DeserializesBy, DeserializesAll}
+use Rattle.archive_forms_deserializing.specs.Reading.{reads_in, reads_option, reads_each, reads_all}
 
 -- ---- what the parts of a value are
 
@@ -56,41 +51,40 @@ some_ends s pos at e = let filled = le_align_up (align_up 1 (align_of s) + size_
 
 -- ---- what is read of it
 
-module _ {A R : Type 0} (w : Spelling A R) (s : Shape) (knows : Names → Type 0) (bytes : List ℕ) where
-  pub none_read : (t : Shape) (pos : ℕ) → IsNoneAt s knows bytes pos → IsReadAt (option_spelling t w) (option s) knows bytes pos None
-  none_read t pos none v h = sym (ap erased (none v h))
+module _ {A : Type 0} (reads : Value → A → Type 0) (s : Shape) (knows : Names → Type 0) (bytes : List ℕ) where
+  pub none_read : (pos : ℕ) → IsNoneAt s knows bytes pos → IsReadAt (reads_option reads) (option s) knows bytes pos None
+  none_read pos none v h = sym (ap erased (none v h))
 
   pub some_read :
-      (t : Shape) (pos at : ℕ) (x : A) → at ≡ some_position s pos → IsSomeAt s knows bytes pos → IsReadAt w s knows bytes at x
-      → IsReadAt (option_spelling t w) (option s) knows bytes pos (Some x)
-  some_read t pos at x e there read v h =
+      (pos at : ℕ) (x : A) → at ≡ some_position s pos → IsSomeAt s knows bytes pos → IsReadAt reads s knows bytes at x
+      → IsReadAt (reads_option reads) (option s) knows bytes pos (Some x)
+  some_read pos at x e there read v h =
       let p = there v h in
-      let inner : w.plain x ≡ erased p.payload = read p.payload (subst (λ n. HeldAt s knows bytes n p.payload) (sym e) p.held) in
-      ap (λ u. chosen 1 (more_values u no_values)) inner ∙ sym (ap erased p.is)
+      (erased p.payload, sym (ap erased p.is), read p.payload (subst (λ n. HeldAt s knows bytes n p.payload) (sym e) p.held))
 
   pub box_read :
-      (t : Shape) (pos to : ℕ) (b : Box A Global) (x : A) → b.value ≡ x → IsBoxAt s knows bytes pos to → IsReadAt w s knows bytes to x
-      → IsReadAt (boxed_spelling t w) (box (sized s)) knows bytes pos b
-  box_read t pos to b x e there read v h = ap w.plain e ∙ read v (there.value v h)
+      (pos to : ℕ) (b : Box A Global) (x : A) → b.value ≡ x → IsBoxAt s knows bytes pos to → IsReadAt reads s knows bytes to x
+      → IsReadAt (reads_in (λ (z : Box A Global). z.value) reads) (box (sized s)) knows bytes pos b
+  box_read pos to b x e there read v h = subst (λ y. reads (erased v) y) (sym e) (read v (there.value v h))
 
   pub one_more :
-      (at : ℕ) (xs : List A) (x : A) → AreReadFrom w s knows bytes at xs → IsReadAt w s knows bytes (at + length xs * size_of s) x
-      → AreReadFrom w s knows bytes at (xs ++ (x ∷ []))
+      (at : ℕ) (xs : List A) (x : A) → AreReadFrom reads s knows bytes at xs → IsReadAt reads s knows bytes (at + length xs * size_of s) x
+      → AreReadFrom reads s knows bytes at (xs ++ (x ∷ []))
   one_more at [] x h r =
-      let P : ℕ → Type 0 = λ n. IsReadAt w s knows bytes n x in
+      let P : ℕ → Type 0 = λ n. IsReadAt reads s knows bytes n x in
       let e : at + 0 * size_of s ≡ at = omega arith in (subst P e r, tt)
   one_more at (y ∷ ys) x h r =
-      let P : ℕ → Type 0 = λ n. IsReadAt w s knows bytes n x in
+      let P : ℕ → Type 0 = λ n. IsReadAt reads s knows bytes n x in
       let e : at + suc (length ys) * size_of s ≡ at + size_of s + length ys * size_of s = omega arith in
       (h.0, one_more (at + size_of s) ys x h.1 (subst P e r))
 
   all_read :
       (at : ℕ) (xs : List A) (vs : Values)
       → count_values vs ≡ length xs
-      → AreReadFrom w s knows bytes at xs
+      → AreReadFrom reads s knows bytes at xs
       → ((i : ℕ) → i < length xs → (v : Value) × (value_in i vs ≡ Some v) × HeldAt s knows bytes (at + i * size_of s) v)
-      → plain_values w xs ≡ all_erased vs
-  all_read at [] no_values c h each = refl
+      → reads_each reads (all_erased vs) xs
+  all_read at [] no_values c h each = tt
   all_read at [] (more_values v vs) c h each = absurd (omega (arith, c))
   all_read at (x ∷ xs) no_values c h each = absurd (omega (arith, c))
   all_read at (x ∷ xs) (more_values v vs) c h each =
@@ -103,26 +97,26 @@ module _ {A R : Type 0} (w : Spelling A R) (s : Shape) (knows : Names → Type 0
       let next = each (suc i) (omega (arith, less)) in
       let later : at + suc i * size_of s ≡ at + size_of s + i * size_of s = omega arith in
       (next.0, next.1, subst (λ n. HeldAt s knows bytes n next.0) later next.2)) in
-      ap₂ more_values (h.0 v held) rest
+      (h.0 v held, rest)
 
   -- the value of elements is that of those that are read
   all_values :
-      (to len : ℕ) (xs : List A) (v : Value) → AreElements s knows bytes to len v → length xs ≡ len → AreReadFrom w s knows bytes to xs
-      → group (plain_values w xs) ≡ erased v
+      (to len : ℕ) (xs : List A) (v : Value) → AreElements s knows bytes to len v → length xs ≡ len → AreReadFrom reads s knows bytes to xs
+      → reads_all reads (erased v) xs
   all_values to len xs v es e read =
-      ap group (all_read to xs es.elements (es.count ∙ sym e) read (λ i less. es.each i (omega (arith, less, e)))) ∙ sym (ap erased es.is)
+      (all_erased es.elements, sym (ap erased es.is), all_read to xs es.elements (es.count ∙ sym e) read (λ i less. es.each i (omega (arith, less, e))))
 
   pub vec_read :
-      (t : Shape) (pos to len : ℕ) (r : Result (Vec A Global) Error) → IsVecAt s knows bytes pos to len
-      → DeserializesAll w s knows bytes to len (λ xs. xs.items) r
-      → DeserializesBy (vec_spelling t w) (vector s) knows bytes pos (λ xs. xs) r
-  vec_read t pos to len (Ok xs) there h = λ v held. all_values to len xs.items v (there.value v held) h.0 h.1
-  vec_read t pos to len (Err e) there h = h
+      (pos to len : ℕ) (r : Result (Vec A Global) Error) → IsVecAt s knows bytes pos to len
+      → DeserializesAll reads s knows bytes to len (λ xs. xs.items) r
+      → DeserializesBy (reads_in (λ (xs : Vec A Global). xs.items) (reads_all reads)) (vector s) knows bytes pos (λ xs. xs) r
+  vec_read pos to len (Ok xs) there h = λ v held. all_values to len xs.items v (there.value v held) h.0 h.1
+  vec_read pos to len (Err e) there h = h
 
   pub array_read :
-      (n : ℕ) (t : Shape) (pos : ℕ) (xs : List A) → IsArrayAt n s knows bytes pos → length xs ≡ n → AreReadFrom w s knows bytes pos xs
-      → IsReadAt (array_spelling n t w) (array n s) knows bytes pos xs
-  array_read n t pos xs there e read = λ v held. all_values pos n xs v (there v held) e read
+      (n : ℕ) (pos : ℕ) (xs : List A) → IsArrayAt n s knows bytes pos → length xs ≡ n → AreReadFrom reads s knows bytes pos xs
+      → IsReadAt (reads_all reads) (array n s) knows bytes pos xs
+  array_read n pos xs there e read = λ v held. all_values pos n xs v (there v held) e read
 
 -- a list that ends with another element where a test is true
 pub pushed : {A : Type 0} (b : Bool) (x y z : List A) → x ≡ (if b then y else z) → b ≡ true → x ≡ y

@@ -7,12 +7,11 @@ use Rattle.archive_shape_canonical.specs.Sharing.{erased}
 use Rattle.archive_shape_writing.specs.declared.error.Error.{Error}
 use Rattle.archive_shape_writing.specs.declared.error.Error.TheVariants.{OutOfMemory}
 use Rattle.archive_shape.specs.Key.{HeldAt}
-use Rattle.archive_forms_spelling.specs.Spelling.{Spelling}
 
-module _ {A R : Type 0} (w : Spelling A R) (s : Shape) (knows : Names → Type 0) (bytes : List ℕ) (pos : ℕ) where
-  -- this is the value that the layout has at the position, but for where shared values stand
+module _ {A : Type 0} (reads : Value → A → Type 0) (s : Shape) (knows : Names → Type 0) (bytes : List ℕ) (pos : ℕ) where
+  -- the value that the layout has at the position is read back as this one, wherever shared values stand in it
   abbrev pub IsReadAt : A → Type 0
-  IsReadAt x = (v : Value) → HeldAt s knows bytes pos v → w.plain x ≡ erased v
+  IsReadAt x = (v : Value) → HeldAt s knows bytes pos v → reads (erased v) x
 
   -- what a call that reads the value promises, whose answer keeps it: want of memory alone is refused
   abbrev pub DeserializesBy : {Q : Type 0} → (Q → A) → Result Q Error → Type 0
@@ -22,11 +21,11 @@ module _ {A R : Type 0} (w : Spelling A R) (s : Shape) (knows : Names → Type 0
   abbrev pub Deserializes : Result A Error → Type 0
   Deserializes result = DeserializesBy (λ (x : A). x) result
 
-module _ {A R : Type 0} (w : Spelling A R) (s : Shape) (knows : Names → Type 0) (bytes : List ℕ) where
+module _ {A : Type 0} (reads : Value → A → Type 0) (s : Shape) (knows : Names → Type 0) (bytes : List ℕ) where
   -- values are those of elements side by side from a position on
   abbrev pub AreReadFrom : ℕ → List A → Type 0
   AreReadFrom pos [] = ⊤
-  AreReadFrom pos (x ∷ xs) = IsReadAt w s knows bytes pos x × AreReadFrom (pos + size_of s) xs
+  AreReadFrom pos (x ∷ xs) = IsReadAt reads s knows bytes pos x × AreReadFrom (pos + size_of s) xs
 
   -- what a call that reads n elements promises, whose answer keeps their values
   abbrev pub DeserializesAll : {Q : Type 0} → ℕ → ℕ → (Q → List A) → Result Q Error → Type 0

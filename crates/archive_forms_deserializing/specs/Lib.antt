@@ -1,2 +1,4 @@
 pub mod Deserializing
+pub mod Faithful
+pub mod Reading
 pub mod Steps

@@ -3,9 +3,9 @@ use Rattle.std.specs.Prelude.{ℕ, ◌+◌, ◌≤◌, List, Result}
 use denote.Ref.{MutBor}
 use denote.Param.Members.{Shared}
 use Rattle.archive_shape_layout.specs.Shape.{Shape, size_of}
+use Rattle.archive_shape_layout.specs.Value.{Value}
 use Rattle.archive_shape_layout.specs.Content.{Names}
 use Rattle.archive_shape_writing.specs.declared.error.Error.{Error}
-use Rattle.archive_forms_spelling.specs.Spelling.{Spelling}
 use Rattle.archive_forms_reading.specs.Parts.{HasValue}
 use Rattle.archive_forms_deserializing.specs.Deserializing.{DeserializesBy}
 
@@ -16,9 +16,9 @@ module _ {F D Q : Type 0} (call : Shared F (MutBor D × (ℕ × Unit {0})) (Resu
   StepTakes limit = (deserializer : MutBor D) (pos : ℕ) → pos + size_of s ≤ limit → HasValue s knows bytes pos → call.pre step (deserializer, (pos, tt))
 
   -- each call reads that value, and its answer keeps it
-  abbrev pub StepReads : {A R : Type 0} → (Q → A) → Spelling A R → Type 0
-  StepReads kept w =
+  abbrev pub StepReads : {A : Type 0} → (Q → A) → (Value → A → Type 0) → Type 0
+  StepReads kept reads =
       (old new : MutBor D) (pos : ℕ) (result : Result Q Error)
       → HasValue s knows bytes pos
       → call.post step (old, (pos, tt)) (result, (new, tt))
-      → DeserializesBy w s knows bytes pos kept result
+      → DeserializesBy reads s knows bytes pos kept result

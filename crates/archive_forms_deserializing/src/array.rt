@@ -2,37 +2,41 @@
 ghost use Rattle.std.specs.Prelude.{◌+◌, ◌*◌};
 ghost use Rattle.archive_shape_layout.specs.Shape.{size_of};
 ghost use Rattle.archive_shape_layout.specs.Shape.Shape.{array};
-ghost use Rattle.archive_forms_spelling.specs.Arrays.{array_spelling};
 ghost use Rattle.archive_forms_reading.specs.Parts.{HasValue};
 ghost use Rattle.archive_forms_deserializing.specs.Deserializing.{Deserializes, DeserializesBy};
+ghost use Rattle.archive_forms_deserializing.specs.Reading.{reads_all};
 ghost use Rattle.archive_forms_deserializing.specs.Steps.{StepTakes, StepReads};
 
-use crate::Deserialize;
 use crate::deserialize::deserialize_element;
 use crate::elements::deserialize_elements_each;
+use crate::{Deserialize, ReadBack};
 use archive_forms_reading::array_slice;
 use archive_forms_writing::Archive;
-use archive_shape::{Error, Portable, Ref};
+use archive_shape::{Error, Ref};
 use std::alloc::Global;
 use std::marker::PhantomData;
 
 /// Reads an array back, whose elements a step reads. They are collected in memory of `alloc`.
 pub fn deserialize_array_each<
     T: Archive + Drop,
-    A: Portable,
+    A: ReadBack<T>,
     const N: usize,
     D,
     F: Fn(&mut D, usize) -> Result<(T, PhantomData<T::Archived>), Error>,
 >(this: Ref<'_, [A; N]>, alloc: Global, deserializer: &mut D, step: F) -> Result<[T; N], Error>
     requires there { HasValue (array N A.shape) A.knows this.bytes.now this.pos }
     requires takes { StepTakes F.Fn step A.shape A.knows this.bytes.now (this.pos + N * size_of A.shape) }
-    requires reads { StepReads F.Fn step A.shape A.knows this.bytes.now (λ q. q.0) T.spelling }
-    ensures { Deserializes (array_spelling N T.Archived.shape T.spelling) (array N A.shape) A.knows this.entry.bytes.now this.entry.pos result }
+    requires reads { StepReads F.Fn step A.shape A.knows this.bytes.now (λ q. q.0) A.reads }
+    ensures { Deserializes (reads_all A.reads) (array N A.shape) A.knows this.entry.bytes.now this.entry.pos result }
 {
     match deserialize_elements_each(array_slice(this), alloc, deserializer, step) {
         Ok(all) => Ok(<[T; N]>::try_from(all).unwrap()),
         Err(e) => Err(e),
     }
+}
+
+impl<T, A: ReadBack<T>, const N: usize> ReadBack<[T; N]> for [A; N] {
+    ghost reads = { reads_all A.reads };
 }
 
 impl<T: Archive + Drop, D, A: Deserialize<T, D>, const N: usize> Deserialize<[T; N], D> for [A; N] {
@@ -48,7 +52,7 @@ impl<T: Archive + Drop, D, A: Deserialize<T, D>, const N: usize> Deserialize<[T;
             deserializer,
             |d: &mut D, pos: usize| -> Result<(T, PhantomData<T::Archived>), Error>
                 requires { HasValue A.shape A.knows bytes.now pos }
-                ensures { DeserializesBy T.spelling A.shape A.knows bytes.entry.now pos (λ q. q.0) result }
+                ensures { DeserializesBy A.reads A.shape A.knows bytes.entry.now pos (λ q. q.0) result }
             { deserialize_element::<T, A, D>(bytes, pos, alloc, d) },
         )
     }

@@ -3,22 +3,22 @@ ghost use Rattle.std.specs.Prelude.{refl};
 ghost use Rattle.archive_shape_layout.specs.Shape.Shape.{box};
 ghost use Rattle.archive_shape_layout.specs.Shape.Pointee.{sized};
 ghost use Rattle.archive_forms_reading.specs.Parts.{HasValue};
-ghost use Rattle.archive_forms_writing.specs.Owned.{boxed_spelling};
 ghost use Rattle.archive_forms_deserializing.specs.Deserializing.{Deserializes, DeserializesBy};
+ghost use Rattle.archive_forms_deserializing.specs.Reading.{reads_in};
 ghost use Rattle.archive_forms_deserializing.specs.Steps.{StepTakes, StepReads};
 
 use crate::deserialize::deserialize_element;
-use crate::{Deserialize, DeserializeUnsized};
+use crate::{Deserialize, DeserializeUnsized, ReadBack};
 use archive_forms_reading::ArchivedBox;
 use archive_forms_writing::Archive;
-use archive_shape::{Error, Portable, Ref};
+use archive_shape::{Error, Ref};
 use std::alloc::Global;
 use std::marker::PhantomData;
 
 /// Reads a box back, whose value a step reads.
 pub fn deserialize_box_each<
     T: Archive + Drop,
-    A: Portable,
+    A: ReadBack<T>,
     D,
     F: Fn(&mut D, usize) -> Result<(T, PhantomData<T::Archived>), Error>,
 >(
@@ -29,8 +29,8 @@ pub fn deserialize_box_each<
 ) -> Result<Box<T>, Error>
     requires there { HasValue (box (sized A.shape)) A.knows this.bytes.now this.pos }
     requires takes { StepTakes F.Fn step A.shape A.knows this.bytes.now this.pos }
-    requires reads { StepReads F.Fn step A.shape A.knows this.bytes.now (λ q. q.0) T.spelling }
-    ensures { Deserializes (boxed_spelling T.Archived.shape T.spelling) (box (sized A.shape)) A.knows this.entry.bytes.now this.entry.pos result }
+    requires reads { StepReads F.Fn step A.shape A.knows this.bytes.now (λ q. q.0) A.reads }
+    ensures { Deserializes (reads_in (λ b. b.value) A.reads) (box (sized A.shape)) A.knows this.entry.bytes.now this.entry.pos result }
 {
     let value = match step(deserializer, ArchivedBox::get(this).pos) {
         Ok(done) => done.0,
@@ -40,6 +40,10 @@ pub fn deserialize_box_each<
         Ok(boxed) => Ok(boxed),
         Err(_) => Err(Error::OutOfMemory),
     }
+}
+
+impl<T, A: ReadBack<T>> ReadBack<Box<T>> for ArchivedBox<A> {
+    ghost reads = { reads_in (λ b. b.value) A.reads };
 }
 
 impl<T: Archive + Drop, D, A: Deserialize<T, D>> DeserializeUnsized<Box<T>, D> for A {
@@ -57,7 +61,7 @@ impl<T: Archive + Drop, D, A: Deserialize<T, D>> DeserializeUnsized<Box<T>, D> f
             deserializer,
             |d: &mut D, pos: usize| -> Result<(T, PhantomData<T::Archived>), Error>
                 requires { HasValue A.shape A.knows bytes.now pos }
-                ensures { DeserializesBy T.spelling A.shape A.knows bytes.entry.now pos (λ q. q.0) result }
+                ensures { DeserializesBy A.reads A.shape A.knows bytes.entry.now pos (λ q. q.0) result }
             { deserialize_element::<T, A, D>(bytes, pos, alloc, d) },
         )
     }

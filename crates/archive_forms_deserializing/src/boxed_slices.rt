@@ -5,16 +5,17 @@ ghost use Rattle.archive_shape_layout.specs.Shape.Shape.{box};
 ghost use Rattle.archive_shape_layout.specs.Shape.Pointee.{slice};
 ghost use Rattle.archive_forms_spelling.specs.Forms.{seen_as};
 ghost use Rattle.archive_forms_reading.specs.Parts.{HasValue};
-ghost use Rattle.archive_forms_writing.specs.Owned.{boxed_slice_spelling};
+ghost use Rattle.archive_forms_writing.specs.Owned.{boxed_str_spelling};
 ghost use Rattle.archive_forms_deserializing.specs.Deserializing.{Deserializes, DeserializesBy};
+ghost use Rattle.archive_forms_deserializing.specs.Reading.{reads_all, reads_as, reads_in};
 ghost use Rattle.archive_forms_deserializing.specs.Steps.{StepTakes, StepReads};
 
 use crate::deserialize::deserialize_element;
-use crate::{Deserialize, DeserializeUnsized, deserialize_vec_each};
+use crate::{Deserialize, DeserializeUnsized, ReadBack, deserialize_vec_each};
 use archive_forms_boxed::{ArchivedBoxedSlice, ArchivedBoxedStr};
 use archive_forms_reading::ArchivedVec;
 use archive_forms_writing::Archive;
-use archive_shape::{Error, Portable, Ref, Slice, Str};
+use archive_shape::{Error, Ref, Slice, Str};
 use std::alloc::Global;
 use std::boxed::{BoxedSlice, BoxedStr};
 use std::marker::PhantomData;
@@ -22,7 +23,7 @@ use std::marker::PhantomData;
 /// Reads the box of a slice back, whose elements a step reads.
 pub fn deserialize_boxed_slice_each<
     T: Archive + Drop,
-    A: Portable,
+    A: ReadBack<T>,
     D,
     F: Fn(&mut D, usize) -> Result<(T, PhantomData<T::Archived>), Error>,
 >(
@@ -33,8 +34,8 @@ pub fn deserialize_boxed_slice_each<
 ) -> Result<BoxedSlice<T>, Error>
     requires there { HasValue (box (slice A.shape)) A.knows this.bytes.now this.pos }
     requires takes { StepTakes F.Fn step A.shape A.knows this.bytes.now this.pos }
-    requires reads { StepReads F.Fn step A.shape A.knows this.bytes.now (λ q. q.0) T.spelling }
-    ensures { Deserializes (seen_as boxed_slice_items (boxed_slice_spelling T.Archived.shape T.spelling)) (box (slice A.shape)) A.knows this.entry.bytes.now this.entry.pos result }
+    requires reads { StepReads F.Fn step A.shape A.knows this.bytes.now (λ q. q.0) A.reads }
+    ensures { Deserializes (reads_in boxed_slice_items (reads_all A.reads)) (box (slice A.shape)) A.knows this.entry.bytes.now this.entry.pos result }
 {
     let vector = Ref::<ArchivedVec<A>> {
         bytes: this.bytes,
@@ -45,6 +46,10 @@ pub fn deserialize_boxed_slice_each<
         Ok(all) => Ok(all.into_boxed_slice()),
         Err(e) => Err(e),
     }
+}
+
+impl<T, A: ReadBack<T>> ReadBack<BoxedSlice<T>> for ArchivedBoxedSlice<A> {
+    ghost reads = { reads_in boxed_slice_items (reads_all A.reads) };
 }
 
 impl<T: Archive + Drop, D, A: Deserialize<T, D>> DeserializeUnsized<BoxedSlice<T>, D> for Slice<A> {
@@ -62,7 +67,7 @@ impl<T: Archive + Drop, D, A: Deserialize<T, D>> DeserializeUnsized<BoxedSlice<T
             deserializer,
             |d: &mut D, pos: usize| -> Result<(T, PhantomData<T::Archived>), Error>
                 requires { HasValue A.shape A.knows bytes.now pos }
-                ensures { DeserializesBy T.spelling A.shape A.knows bytes.entry.now pos (λ q. q.0) result }
+                ensures { DeserializesBy A.reads A.shape A.knows bytes.entry.now pos (λ q. q.0) result }
             { deserialize_element::<T, A, D>(bytes, pos, alloc, d) },
         )
     }
@@ -100,6 +105,10 @@ impl<D> DeserializeUnsized<BoxedStr, D> for Str {
     }
 
     ghost boxed = { refl };
+}
+
+impl ReadBack<BoxedStr> for ArchivedBoxedStr {
+    ghost reads = { reads_as (seen_as boxed_str_bytes boxed_str_spelling) };
 }
 
 impl<D> Deserialize<BoxedStr, D> for ArchivedBoxedStr {

@@ -5,23 +5,24 @@ ghost use Rattle.archive_forms_reading.specs.Parts.{HasElements};
 ghost use Rattle.archive_forms_deserializing.specs.Deserializing.{DeserializesAll};
 ghost use Rattle.archive_forms_deserializing.specs.Steps.{StepTakes, StepReads};
 
+use crate::ReadBack;
 use archive_forms_reading::SliceRef;
 use archive_forms_writing::Archive;
-use archive_shape::{Error, Portable};
+use archive_shape::Error;
 use std::alloc::Global;
 use std::marker::PhantomData;
 
 /// Reads elements back, each by the step.
 pub(crate) fn deserialize_elements_each<
     T: Archive + Drop,
-    A: Portable,
+    A: ReadBack<T>,
     D,
     F: Fn(&mut D, usize) -> Result<(T, PhantomData<T::Archived>), Error>,
 >(items: SliceRef<'_, A>, alloc: Global, deserializer: &mut D, step: F) -> Result<Vec<T>, Error>
     requires there { HasElements A.shape A.knows items.bytes.now items.pos items.len }
     requires takes { StepTakes F.Fn step A.shape A.knows items.bytes.now (items.pos + items.len * size_of A.shape) }
-    requires reads { StepReads F.Fn step A.shape A.knows items.bytes.now (λ q. q.0) T.spelling }
-    ensures { DeserializesAll T.spelling A.shape A.knows items.entry.bytes.now items.entry.pos items.entry.len (λ all. all.items) result }
+    requires reads { StepReads F.Fn step A.shape A.knows items.bytes.now (λ q. q.0) A.reads }
+    ensures { DeserializesAll A.reads A.shape A.knows items.entry.bytes.now items.entry.pos items.entry.len (λ all. all.items) result }
 {
     let mut all = Vec::new(alloc);
     for index in 0..items.len() {

@@ -2,30 +2,30 @@
 ghost use Rattle.std.specs.Prelude.{◌+◌};
 ghost use Rattle.archive_shape_layout.specs.Shape.{size_of};
 ghost use Rattle.archive_shape_layout.specs.Shape.Shape.{option};
-ghost use Rattle.archive_forms_spelling.specs.Options.{option_spelling};
 ghost use Rattle.archive_forms_reading.specs.Parts.{HasValue};
 ghost use Rattle.archive_forms_deserializing.specs.Deserializing.{Deserializes, DeserializesBy};
+ghost use Rattle.archive_forms_deserializing.specs.Reading.{reads_option};
 ghost use Rattle.archive_forms_deserializing.specs.Steps.{StepTakes, StepReads};
 
-use crate::Deserialize;
 use crate::deserialize::deserialize_element;
+use crate::{Deserialize, ReadBack};
 use archive_forms_reading::ArchivedOption;
 use archive_forms_writing::Archive;
-use archive_shape::{Error, Portable, Ref};
+use archive_shape::{Error, Ref};
 use std::alloc::Global;
 use std::marker::PhantomData;
 
 /// Reads an option back, whose value a step reads.
 pub fn deserialize_option_each<
     T: Archive,
-    A: Portable,
+    A: ReadBack<T>,
     D,
     F: Fn(&mut D, usize) -> Result<(T, PhantomData<T::Archived>), Error>,
 >(this: Ref<'_, ArchivedOption<A>>, deserializer: &mut D, step: F) -> Result<Option<T>, Error>
     requires there { HasValue (option A.shape) A.knows this.bytes.now this.pos }
     requires takes { StepTakes F.Fn step A.shape A.knows this.bytes.now (this.pos + size_of (option A.shape)) }
-    requires reads { StepReads F.Fn step A.shape A.knows this.bytes.now (λ q. q.0) T.spelling }
-    ensures { Deserializes (option_spelling T.Archived.shape T.spelling) (option A.shape) A.knows this.entry.bytes.now this.entry.pos result }
+    requires reads { StepReads F.Fn step A.shape A.knows this.bytes.now (λ q. q.0) A.reads }
+    ensures { Deserializes (reads_option A.reads) (option A.shape) A.knows this.entry.bytes.now this.entry.pos result }
 {
     match ArchivedOption::as_ref(this) {
         None => Ok(None),
@@ -34,6 +34,10 @@ pub fn deserialize_option_each<
             Err(e) => Err(e),
         },
     }
+}
+
+impl<T, A: ReadBack<T>> ReadBack<Option<T>> for ArchivedOption<A> {
+    ghost reads = { reads_option A.reads };
 }
 
 impl<T: Archive, D, A: Deserialize<T, D>> Deserialize<Option<T>, D> for ArchivedOption<A> {
@@ -48,7 +52,7 @@ impl<T: Archive, D, A: Deserialize<T, D>> Deserialize<Option<T>, D> for Archived
             deserializer,
             |d: &mut D, pos: usize| -> Result<(T, PhantomData<T::Archived>), Error>
                 requires { HasValue A.shape A.knows bytes.now pos }
-                ensures { DeserializesBy T.spelling A.shape A.knows bytes.entry.now pos (λ q. q.0) result }
+                ensures { DeserializesBy A.reads A.shape A.knows bytes.entry.now pos (λ q. q.0) result }
             { deserialize_element::<T, A, D>(bytes, pos, alloc, d) },
         )
     }

@@ -1,8 +1,15 @@
 //! `usize` and `isize` are read back.
-use crate::Deserialize;
+ghost use Rattle.archive_forms_spelling.specs.Limits.{usize_spelling, isize_spelling};
+ghost use Rattle.archive_forms_deserializing.specs.Reading.{reads_as};
+
+use crate::{Deserialize, ReadBack};
 use archive_forms_reading::native_of;
 use archive_shape::{ArchivedIsize, ArchivedUsize, Error, Ref};
 use std::alloc::Global;
+
+impl ReadBack<usize> for ArchivedUsize {
+    ghost reads = { reads_as usize_spelling };
+}
 
 impl<D> Deserialize<usize, D> for ArchivedUsize {
     fn deserialize(
@@ -12,6 +19,10 @@ impl<D> Deserialize<usize, D> for ArchivedUsize {
     ) -> Result<usize, Error> {
         Ok(native_of(*this) as usize)
     }
+}
+
+impl ReadBack<isize> for ArchivedIsize {
+    ghost reads = { reads_as isize_spelling };
 }
 
 impl<D> Deserialize<isize, D> for ArchivedIsize {

@@ -2,16 +2,16 @@
 ghost use Rattle.std.specs.Prelude.{◌+◌};
 ghost use Rattle.archive_shape_layout.specs.Shape.{size_of};
 ghost use Rattle.archive_shape_layout.specs.Shape.Shape.{result as result_shape};
-ghost use Rattle.archive_forms_spelling.specs.Results.{result_spelling};
 ghost use Rattle.archive_forms_reading.specs.Parts.{HasValue, both};
 ghost use Rattle.archive_forms_deserializing.specs.Deserializing.{Deserializes, DeserializesBy};
+ghost use Rattle.archive_forms_deserializing.specs.Reading.{reads_result};
 ghost use Rattle.archive_forms_deserializing.specs.Steps.{StepTakes, StepReads};
 
-use crate::Deserialize;
 use crate::deserialize::deserialize_element;
+use crate::{Deserialize, ReadBack};
 use archive_forms_reading::ArchivedResult;
 use archive_forms_writing::Archive;
-use archive_shape::{Error, Portable, Ref};
+use archive_shape::{Error, Ref};
 use std::alloc::Global;
 use std::marker::PhantomData;
 
@@ -19,8 +19,8 @@ use std::marker::PhantomData;
 pub fn deserialize_result_each<
     T: Archive,
     E: Archive,
-    A: Portable,
-    B: Portable,
+    A: ReadBack<T>,
+    B: ReadBack<E>,
     D,
     F: Fn(&mut D, usize) -> Result<(T, PhantomData<T::Archived>), Error>,
     G: Fn(&mut D, usize) -> Result<(E, PhantomData<E::Archived>), Error>,
@@ -32,11 +32,10 @@ pub fn deserialize_result_each<
 ) -> Result<Result<T, E>, Error>
     requires there { HasValue (result_shape A.shape B.shape) (both A.knows B.knows) this.bytes.now this.pos }
     requires takes { StepTakes F.Fn step A.shape A.knows this.bytes.now (this.pos + size_of (result_shape A.shape B.shape)) }
-    requires reads { StepReads F.Fn step A.shape A.knows this.bytes.now (λ q. q.0) T.spelling }
+    requires reads { StepReads F.Fn step A.shape A.knows this.bytes.now (λ q. q.0) A.reads }
     requires takes_errors { StepTakes G.Fn step_of_error B.shape B.knows this.bytes.now (this.pos + size_of (result_shape A.shape B.shape)) }
-    requires reads_errors { StepReads G.Fn step_of_error B.shape B.knows this.bytes.now (λ q. q.0) E.spelling }
-    ensures { Deserializes (result_spelling T.Archived.shape E.Archived.shape T.spelling E.spelling)
-        (result_shape A.shape B.shape) (both A.knows B.knows) this.entry.bytes.now this.entry.pos result }
+    requires reads_errors { StepReads G.Fn step_of_error B.shape B.knows this.bytes.now (λ q. q.0) B.reads }
+    ensures { Deserializes (reads_result A.reads B.reads) (result_shape A.shape B.shape) (both A.knows B.knows) this.entry.bytes.now this.entry.pos result }
 {
     match ArchivedResult::as_ref(this) {
         Ok(value) => match step(deserializer, value.pos) {
@@ -48,6 +47,10 @@ pub fn deserialize_result_each<
             Err(e) => Err(e),
         },
     }
+}
+
+impl<T, E, A: ReadBack<T>, B: ReadBack<E>> ReadBack<Result<T, E>> for ArchivedResult<A, B> {
+    ghost reads = { reads_result A.reads B.reads };
 }
 
 impl<T: Archive, E: Archive, D, A: Deserialize<T, D>, B: Deserialize<E, D>> Deserialize<
@@ -65,11 +68,11 @@ impl<T: Archive, E: Archive, D, A: Deserialize<T, D>, B: Deserialize<E, D>> Dese
             deserializer,
             |d: &mut D, pos: usize| -> Result<(T, PhantomData<T::Archived>), Error>
                 requires { HasValue A.shape A.knows bytes.now pos }
-                ensures { DeserializesBy T.spelling A.shape A.knows bytes.entry.now pos (λ q. q.0) result }
+                ensures { DeserializesBy A.reads A.shape A.knows bytes.entry.now pos (λ q. q.0) result }
             { deserialize_element::<T, A, D>(bytes, pos, alloc, d) },
             |d: &mut D, pos: usize| -> Result<(E, PhantomData<E::Archived>), Error>
                 requires { HasValue B.shape B.knows bytes.now pos }
-                ensures { DeserializesBy E.spelling B.shape B.knows bytes.entry.now pos (λ q. q.0) result }
+                ensures { DeserializesBy B.reads B.shape B.knows bytes.entry.now pos (λ q. q.0) result }
             { deserialize_element::<E, B, D>(bytes, pos, alloc, d) },
         )
     }

@@ -1,8 +1,15 @@
 //! Texts are read back.
-use crate::Deserialize;
+ghost use Rattle.archive_forms_writing.specs.Owned.{string_spelling};
+ghost use Rattle.archive_forms_deserializing.specs.Reading.{reads_as};
+
+use crate::{Deserialize, ReadBack};
 use archive_forms_text::ArchivedString;
 use archive_shape::{Error, Ref};
 use std::alloc::Global;
+
+impl ReadBack<String> for ArchivedString {
+    ghost reads = { reads_as string_spelling };
+}
 
 impl<D> Deserialize<String, D> for ArchivedString {
     fn deserialize(

@@ -2,23 +2,23 @@
 ghost use Rattle.std.specs.Prelude.{◌+◌};
 ghost use Rattle.archive_shape_layout.specs.Shape.{size_of};
 ghost use Rattle.archive_forms_checking.specs.Tuples.{tuple1};
-ghost use Rattle.archive_forms_spelling.specs.Fields.{tuple1_spelling};
 ghost use Rattle.archive_forms_reading.specs.Parts.{HasValue};
 ghost use Rattle.archive_forms_deserializing.specs.Deserializing.{Deserializes, DeserializesBy};
+ghost use Rattle.archive_forms_deserializing.specs.Reading.{reads_tuple1};
 ghost use Rattle.archive_forms_deserializing.specs.Steps.{StepTakes, StepReads};
 
-use crate::Deserialize;
 use crate::deserialize::deserialize_element;
+use crate::{Deserialize, ReadBack};
 use archive_forms_tuples::ArchivedTuple1;
 use archive_forms_writing::Archive;
-use archive_shape::{Error, Portable, Ref};
+use archive_shape::{Error, Ref};
 use std::alloc::Global;
 use std::marker::PhantomData;
 
 /// Reads a tuple of one back, whose field a step reads.
 pub fn deserialize_tuple1_each<
     T: Archive,
-    A: Portable,
+    A: ReadBack<T>,
     Deserializer,
     F: Fn(&mut Deserializer, usize) -> Result<(T, PhantomData<T::Archived>), Error>,
 >(
@@ -28,14 +28,18 @@ pub fn deserialize_tuple1_each<
 ) -> Result<(T,), Error>
     requires there { HasValue (tuple1 A.shape) A.knows this.bytes.now this.pos }
     requires takes_first { StepTakes F.Fn read_first A.shape A.knows this.bytes.now (this.pos + size_of (tuple1 A.shape)) }
-    requires reads_first { StepReads F.Fn read_first A.shape A.knows this.bytes.now (λ q. q.0) T.spelling }
-    ensures { Deserializes (tuple1_spelling T.Archived.shape T.spelling) (tuple1 A.shape) A.knows this.entry.bytes.now this.entry.pos result }
+    requires reads_first { StepReads F.Fn read_first A.shape A.knows this.bytes.now (λ q. q.0) A.reads }
+    ensures { Deserializes (reads_tuple1 A.reads) (tuple1 A.shape) A.knows this.entry.bytes.now this.entry.pos result }
 {
     let t = match read_first(deserializer, ArchivedTuple1::first(this).pos) {
         Ok(done) => done.0,
         Err(e) => return Err(e),
     };
     Ok((t,))
+}
+
+impl<T, A: ReadBack<T>> ReadBack<(T,)> for ArchivedTuple1<A> {
+    ghost reads = { reads_tuple1 A.reads };
 }
 
 impl<T: Archive, Deserializer, A: Deserialize<T, Deserializer>> Deserialize<(T,), Deserializer>
@@ -51,7 +55,7 @@ impl<T: Archive, Deserializer, A: Deserialize<T, Deserializer>> Deserialize<(T,)
             deserializer,
             |d: &mut Deserializer, pos: usize| -> Result<(T, PhantomData<T::Archived>), Error>
                 requires { HasValue A.shape A.knows bytes.now pos }
-                ensures { DeserializesBy T.spelling A.shape A.knows bytes.entry.now pos (λ q. q.0) result }
+                ensures { DeserializesBy A.reads A.shape A.knows bytes.entry.now pos (λ q. q.0) result }
             { deserialize_element::<T, A, Deserializer>(bytes, pos, alloc, d) },
         )
     }

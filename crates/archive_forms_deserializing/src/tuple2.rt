@@ -2,16 +2,16 @@
 ghost use Rattle.std.specs.Prelude.{◌+◌};
 ghost use Rattle.archive_shape_layout.specs.Shape.{size_of};
 ghost use Rattle.archive_forms_checking.specs.Tuples.{tuple2};
-ghost use Rattle.archive_forms_spelling.specs.Fields.{tuple2_spelling};
 ghost use Rattle.archive_forms_reading.specs.Parts.{HasValue, both};
 ghost use Rattle.archive_forms_deserializing.specs.Deserializing.{Deserializes, DeserializesBy};
+ghost use Rattle.archive_forms_deserializing.specs.Reading.{reads_tuple2};
 ghost use Rattle.archive_forms_deserializing.specs.Steps.{StepTakes, StepReads};
 
-use crate::Deserialize;
 use crate::deserialize::deserialize_element;
+use crate::{Deserialize, ReadBack};
 use archive_forms_tuples::ArchivedTuple2;
 use archive_forms_writing::Archive;
-use archive_shape::{Error, Portable, Ref};
+use archive_shape::{Error, Ref};
 use std::alloc::Global;
 use std::marker::PhantomData;
 
@@ -19,8 +19,8 @@ use std::marker::PhantomData;
 pub fn deserialize_tuple2_each<
     T: Archive + Drop,
     U: Archive,
-    A: Portable,
-    B: Portable,
+    A: ReadBack<T>,
+    B: ReadBack<U>,
     Deserializer,
     F: Fn(&mut Deserializer, usize) -> Result<(T, PhantomData<T::Archived>), Error>,
     G: Fn(&mut Deserializer, usize) -> Result<(U, PhantomData<U::Archived>), Error>,
@@ -32,10 +32,10 @@ pub fn deserialize_tuple2_each<
 ) -> Result<(T, U), Error>
     requires there { HasValue (tuple2 A.shape B.shape) (both A.knows B.knows) this.bytes.now this.pos }
     requires takes_first { StepTakes F.Fn read_first A.shape A.knows this.bytes.now (this.pos + size_of (tuple2 A.shape B.shape)) }
-    requires reads_first { StepReads F.Fn read_first A.shape A.knows this.bytes.now (λ q. q.0) T.spelling }
+    requires reads_first { StepReads F.Fn read_first A.shape A.knows this.bytes.now (λ q. q.0) A.reads }
     requires takes_second { StepTakes G.Fn read_second B.shape B.knows this.bytes.now (this.pos + size_of (tuple2 A.shape B.shape)) }
-    requires reads_second { StepReads G.Fn read_second B.shape B.knows this.bytes.now (λ q. q.0) U.spelling }
-    ensures { Deserializes (tuple2_spelling T.Archived.shape T.spelling U.Archived.shape U.spelling) (tuple2 A.shape B.shape) (both A.knows B.knows) this.entry.bytes.now this.entry.pos result }
+    requires reads_second { StepReads G.Fn read_second B.shape B.knows this.bytes.now (λ q. q.0) B.reads }
+    ensures { Deserializes (reads_tuple2 A.reads B.reads) (tuple2 A.shape B.shape) (both A.knows B.knows) this.entry.bytes.now this.entry.pos result }
 {
     let t = match read_first(deserializer, ArchivedTuple2::first(this).pos) {
         Ok(done) => done.0,
@@ -46,6 +46,10 @@ pub fn deserialize_tuple2_each<
         Err(e) => return Err(e),
     };
     Ok((t, u))
+}
+
+impl<T, U, A: ReadBack<T>, B: ReadBack<U>> ReadBack<(T, U)> for ArchivedTuple2<A, B> {
+    ghost reads = { reads_tuple2 A.reads B.reads };
 }
 
 impl<
@@ -66,11 +70,11 @@ impl<
             deserializer,
             |d: &mut Deserializer, pos: usize| -> Result<(T, PhantomData<T::Archived>), Error>
                 requires { HasValue A.shape A.knows bytes.now pos }
-                ensures { DeserializesBy T.spelling A.shape A.knows bytes.entry.now pos (λ q. q.0) result }
+                ensures { DeserializesBy A.reads A.shape A.knows bytes.entry.now pos (λ q. q.0) result }
             { deserialize_element::<T, A, Deserializer>(bytes, pos, alloc, d) },
             |d: &mut Deserializer, pos: usize| -> Result<(U, PhantomData<U::Archived>), Error>
                 requires { HasValue B.shape B.knows bytes.now pos }
-                ensures { DeserializesBy U.spelling B.shape B.knows bytes.entry.now pos (λ q. q.0) result }
+                ensures { DeserializesBy B.reads B.shape B.knows bytes.entry.now pos (λ q. q.0) result }
             { deserialize_element::<U, B, Deserializer>(bytes, pos, alloc, d) },
         )
     }

@@ -2,17 +2,17 @@
 ghost use Rattle.std.specs.Prelude.{◌+◌};
 ghost use Rattle.archive_shape_layout.specs.Shape.{size_of};
 ghost use Rattle.archive_forms_checking.specs.Tuples.{tuple3};
-ghost use Rattle.archive_forms_spelling.specs.Fields.{tuple3_spelling};
 ghost use Rattle.archive_forms_reading.specs.Parts.{HasValue};
 ghost use Rattle.archive_forms_tuples.specs.Fields.{all_three};
 ghost use Rattle.archive_forms_deserializing.specs.Deserializing.{Deserializes, DeserializesBy};
+ghost use Rattle.archive_forms_deserializing.specs.Reading.{reads_tuple3};
 ghost use Rattle.archive_forms_deserializing.specs.Steps.{StepTakes, StepReads};
 
-use crate::Deserialize;
 use crate::deserialize::deserialize_element;
+use crate::{Deserialize, ReadBack};
 use archive_forms_tuples::ArchivedTuple3;
 use archive_forms_writing::Archive;
-use archive_shape::{Error, Portable, Ref};
+use archive_shape::{Error, Ref};
 use std::alloc::Global;
 use std::marker::PhantomData;
 
@@ -21,9 +21,9 @@ pub fn deserialize_tuple3_each<
     T: Archive + Drop,
     U: Archive + Drop,
     V: Archive,
-    A: Portable,
-    B: Portable,
-    C: Portable,
+    A: ReadBack<T>,
+    B: ReadBack<U>,
+    C: ReadBack<V>,
     Deserializer,
     F: Fn(&mut Deserializer, usize) -> Result<(T, PhantomData<T::Archived>), Error>,
     G: Fn(&mut Deserializer, usize) -> Result<(U, PhantomData<U::Archived>), Error>,
@@ -37,12 +37,12 @@ pub fn deserialize_tuple3_each<
 ) -> Result<(T, U, V), Error>
     requires there { HasValue (tuple3 A.shape B.shape C.shape) (all_three A.knows B.knows C.knows) this.bytes.now this.pos }
     requires takes_first { StepTakes F.Fn read_first A.shape A.knows this.bytes.now (this.pos + size_of (tuple3 A.shape B.shape C.shape)) }
-    requires reads_first { StepReads F.Fn read_first A.shape A.knows this.bytes.now (λ q. q.0) T.spelling }
+    requires reads_first { StepReads F.Fn read_first A.shape A.knows this.bytes.now (λ q. q.0) A.reads }
     requires takes_second { StepTakes G.Fn read_second B.shape B.knows this.bytes.now (this.pos + size_of (tuple3 A.shape B.shape C.shape)) }
-    requires reads_second { StepReads G.Fn read_second B.shape B.knows this.bytes.now (λ q. q.0) U.spelling }
+    requires reads_second { StepReads G.Fn read_second B.shape B.knows this.bytes.now (λ q. q.0) B.reads }
     requires takes_third { StepTakes H.Fn read_third C.shape C.knows this.bytes.now (this.pos + size_of (tuple3 A.shape B.shape C.shape)) }
-    requires reads_third { StepReads H.Fn read_third C.shape C.knows this.bytes.now (λ q. q.0) V.spelling }
-    ensures { Deserializes (tuple3_spelling T.Archived.shape T.spelling U.Archived.shape U.spelling V.Archived.shape V.spelling) (tuple3 A.shape B.shape C.shape) (all_three A.knows B.knows C.knows) this.entry.bytes.now this.entry.pos result }
+    requires reads_third { StepReads H.Fn read_third C.shape C.knows this.bytes.now (λ q. q.0) C.reads }
+    ensures { Deserializes (reads_tuple3 A.reads B.reads C.reads) (tuple3 A.shape B.shape C.shape) (all_three A.knows B.knows C.knows) this.entry.bytes.now this.entry.pos result }
 {
     let t = match read_first(deserializer, ArchivedTuple3::first(this).pos) {
         Ok(done) => done.0,
@@ -57,6 +57,11 @@ pub fn deserialize_tuple3_each<
         Err(e) => return Err(e),
     };
     Ok((t, u, v))
+}
+
+impl<T, U, V, A: ReadBack<T>, B: ReadBack<U>, C: ReadBack<V>> ReadBack<(T, U, V)>
+    for ArchivedTuple3<A, B, C> {
+    ghost reads = { reads_tuple3 A.reads B.reads C.reads };
 }
 
 impl<
@@ -79,15 +84,15 @@ impl<
             deserializer,
             |d: &mut Deserializer, pos: usize| -> Result<(T, PhantomData<T::Archived>), Error>
                 requires { HasValue A.shape A.knows bytes.now pos }
-                ensures { DeserializesBy T.spelling A.shape A.knows bytes.entry.now pos (λ q. q.0) result }
+                ensures { DeserializesBy A.reads A.shape A.knows bytes.entry.now pos (λ q. q.0) result }
             { deserialize_element::<T, A, Deserializer>(bytes, pos, alloc, d) },
             |d: &mut Deserializer, pos: usize| -> Result<(U, PhantomData<U::Archived>), Error>
                 requires { HasValue B.shape B.knows bytes.now pos }
-                ensures { DeserializesBy U.spelling B.shape B.knows bytes.entry.now pos (λ q. q.0) result }
+                ensures { DeserializesBy B.reads B.shape B.knows bytes.entry.now pos (λ q. q.0) result }
             { deserialize_element::<U, B, Deserializer>(bytes, pos, alloc, d) },
             |d: &mut Deserializer, pos: usize| -> Result<(V, PhantomData<V::Archived>), Error>
                 requires { HasValue C.shape C.knows bytes.now pos }
-                ensures { DeserializesBy V.spelling C.shape C.knows bytes.entry.now pos (λ q. q.0) result }
+                ensures { DeserializesBy C.reads C.shape C.knows bytes.entry.now pos (λ q. q.0) result }
             { deserialize_element::<V, C, Deserializer>(bytes, pos, alloc, d) },
         )
     }

@@ -2,17 +2,17 @@
 ghost use Rattle.std.specs.Prelude.{◌+◌};
 ghost use Rattle.archive_shape_layout.specs.Shape.{size_of};
 ghost use Rattle.archive_forms_checking.specs.Tuples.{tuple4};
-ghost use Rattle.archive_forms_spelling.specs.Fields.{tuple4_spelling};
 ghost use Rattle.archive_forms_reading.specs.Parts.{HasValue};
 ghost use Rattle.archive_forms_tuples.specs.Fields.{all_four};
 ghost use Rattle.archive_forms_deserializing.specs.Deserializing.{Deserializes, DeserializesBy};
+ghost use Rattle.archive_forms_deserializing.specs.Reading.{reads_tuple4};
 ghost use Rattle.archive_forms_deserializing.specs.Steps.{StepTakes, StepReads};
 
-use crate::Deserialize;
 use crate::deserialize::deserialize_element;
+use crate::{Deserialize, ReadBack};
 use archive_forms_tuples::ArchivedTuple4;
 use archive_forms_writing::Archive;
-use archive_shape::{Error, Portable, Ref};
+use archive_shape::{Error, Ref};
 use std::alloc::Global;
 use std::marker::PhantomData;
 
@@ -22,10 +22,10 @@ pub fn deserialize_tuple4_each<
     U: Archive + Drop,
     V: Archive + Drop,
     W: Archive,
-    A: Portable,
-    B: Portable,
-    C: Portable,
-    D: Portable,
+    A: ReadBack<T>,
+    B: ReadBack<U>,
+    C: ReadBack<V>,
+    D: ReadBack<W>,
     Deserializer,
     F: Fn(&mut Deserializer, usize) -> Result<(T, PhantomData<T::Archived>), Error>,
     G: Fn(&mut Deserializer, usize) -> Result<(U, PhantomData<U::Archived>), Error>,
@@ -41,14 +41,14 @@ pub fn deserialize_tuple4_each<
 ) -> Result<(T, U, V, W), Error>
     requires there { HasValue (tuple4 A.shape B.shape C.shape D.shape) (all_four A.knows B.knows C.knows D.knows) this.bytes.now this.pos }
     requires takes_first { StepTakes F.Fn read_first A.shape A.knows this.bytes.now (this.pos + size_of (tuple4 A.shape B.shape C.shape D.shape)) }
-    requires reads_first { StepReads F.Fn read_first A.shape A.knows this.bytes.now (λ q. q.0) T.spelling }
+    requires reads_first { StepReads F.Fn read_first A.shape A.knows this.bytes.now (λ q. q.0) A.reads }
     requires takes_second { StepTakes G.Fn read_second B.shape B.knows this.bytes.now (this.pos + size_of (tuple4 A.shape B.shape C.shape D.shape)) }
-    requires reads_second { StepReads G.Fn read_second B.shape B.knows this.bytes.now (λ q. q.0) U.spelling }
+    requires reads_second { StepReads G.Fn read_second B.shape B.knows this.bytes.now (λ q. q.0) B.reads }
     requires takes_third { StepTakes H.Fn read_third C.shape C.knows this.bytes.now (this.pos + size_of (tuple4 A.shape B.shape C.shape D.shape)) }
-    requires reads_third { StepReads H.Fn read_third C.shape C.knows this.bytes.now (λ q. q.0) V.spelling }
+    requires reads_third { StepReads H.Fn read_third C.shape C.knows this.bytes.now (λ q. q.0) C.reads }
     requires takes_fourth { StepTakes I.Fn read_fourth D.shape D.knows this.bytes.now (this.pos + size_of (tuple4 A.shape B.shape C.shape D.shape)) }
-    requires reads_fourth { StepReads I.Fn read_fourth D.shape D.knows this.bytes.now (λ q. q.0) W.spelling }
-    ensures { Deserializes (tuple4_spelling T.Archived.shape T.spelling U.Archived.shape U.spelling V.Archived.shape V.spelling W.Archived.shape W.spelling) (tuple4 A.shape B.shape C.shape D.shape) (all_four A.knows B.knows C.knows D.knows) this.entry.bytes.now this.entry.pos result }
+    requires reads_fourth { StepReads I.Fn read_fourth D.shape D.knows this.bytes.now (λ q. q.0) D.reads }
+    ensures { Deserializes (reads_tuple4 A.reads B.reads C.reads D.reads) (tuple4 A.shape B.shape C.shape D.shape) (all_four A.knows B.knows C.knows D.knows) this.entry.bytes.now this.entry.pos result }
 {
     let t = match read_first(deserializer, ArchivedTuple4::first(this).pos) {
         Ok(done) => done.0,
@@ -67,6 +67,12 @@ pub fn deserialize_tuple4_each<
         Err(e) => return Err(e),
     };
     Ok((t, u, v, w))
+}
+
+impl<T, U, V, W, A: ReadBack<T>, B: ReadBack<U>, C: ReadBack<V>, D: ReadBack<W>> ReadBack<
+    (T, U, V, W),
+> for ArchivedTuple4<A, B, C, D> {
+    ghost reads = { reads_tuple4 A.reads B.reads C.reads D.reads };
 }
 
 impl<
@@ -91,19 +97,19 @@ impl<
             deserializer,
             |d: &mut Deserializer, pos: usize| -> Result<(T, PhantomData<T::Archived>), Error>
                 requires { HasValue A.shape A.knows bytes.now pos }
-                ensures { DeserializesBy T.spelling A.shape A.knows bytes.entry.now pos (λ q. q.0) result }
+                ensures { DeserializesBy A.reads A.shape A.knows bytes.entry.now pos (λ q. q.0) result }
             { deserialize_element::<T, A, Deserializer>(bytes, pos, alloc, d) },
             |d: &mut Deserializer, pos: usize| -> Result<(U, PhantomData<U::Archived>), Error>
                 requires { HasValue B.shape B.knows bytes.now pos }
-                ensures { DeserializesBy U.spelling B.shape B.knows bytes.entry.now pos (λ q. q.0) result }
+                ensures { DeserializesBy B.reads B.shape B.knows bytes.entry.now pos (λ q. q.0) result }
             { deserialize_element::<U, B, Deserializer>(bytes, pos, alloc, d) },
             |d: &mut Deserializer, pos: usize| -> Result<(V, PhantomData<V::Archived>), Error>
                 requires { HasValue C.shape C.knows bytes.now pos }
-                ensures { DeserializesBy V.spelling C.shape C.knows bytes.entry.now pos (λ q. q.0) result }
+                ensures { DeserializesBy C.reads C.shape C.knows bytes.entry.now pos (λ q. q.0) result }
             { deserialize_element::<V, C, Deserializer>(bytes, pos, alloc, d) },
             |d: &mut Deserializer, pos: usize| -> Result<(W, PhantomData<W::Archived>), Error>
                 requires { HasValue D.shape D.knows bytes.now pos }
-                ensures { DeserializesBy W.spelling D.shape D.knows bytes.entry.now pos (λ q. q.0) result }
+                ensures { DeserializesBy D.reads D.shape D.knows bytes.entry.now pos (λ q. q.0) result }
             { deserialize_element::<W, D, Deserializer>(bytes, pos, alloc, d) },
         )
     }

@@ -1,8 +1,15 @@
 //! Values that have no bytes are read back.
-use crate::Deserialize;
+ghost use Rattle.archive_forms_spelling.specs.Fields.{unit_spelling};
+ghost use Rattle.archive_forms_deserializing.specs.Reading.{reads_as};
+
+use crate::{Deserialize, ReadBack};
 use archive_shape::{Error, Ref};
 use std::alloc::Global;
 use std::marker::PhantomData;
+
+impl ReadBack<()> for () {
+    ghost reads = { reads_as unit_spelling };
+}
 
 impl<D> Deserialize<(), D> for () {
     fn deserialize(
@@ -12,6 +19,10 @@ impl<D> Deserialize<(), D> for () {
     ) -> Result<(), Error> {
         Ok(())
     }
+}
+
+impl<T> ReadBack<PhantomData<T>> for PhantomData<T> {
+    ghost reads = { reads_as unit_spelling };
 }
 
 impl<T, D> Deserialize<PhantomData<T>, D> for PhantomData<T> {

@@ -1,23 +1,23 @@
 //! Vectors are read back.
 ghost use Rattle.archive_shape_layout.specs.Shape.Shape.{vector};
 ghost use Rattle.archive_forms_reading.specs.Parts.{HasValue};
-ghost use Rattle.archive_forms_writing.specs.Owned.{vec_spelling};
 ghost use Rattle.archive_forms_deserializing.specs.Deserializing.{Deserializes, DeserializesBy};
+ghost use Rattle.archive_forms_deserializing.specs.Reading.{reads_all, reads_in};
 ghost use Rattle.archive_forms_deserializing.specs.Steps.{StepTakes, StepReads};
 
-use crate::Deserialize;
 use crate::deserialize::deserialize_element;
 use crate::elements::deserialize_elements_each;
+use crate::{Deserialize, ReadBack};
 use archive_forms_reading::ArchivedVec;
 use archive_forms_writing::Archive;
-use archive_shape::{Error, Portable, Ref};
+use archive_shape::{Error, Ref};
 use std::alloc::Global;
 use std::marker::PhantomData;
 
 /// Reads a vector back, whose elements a step reads.
 pub fn deserialize_vec_each<
     T: Archive + Drop,
-    A: Portable,
+    A: ReadBack<T>,
     D,
     F: Fn(&mut D, usize) -> Result<(T, PhantomData<T::Archived>), Error>,
 >(
@@ -28,10 +28,14 @@ pub fn deserialize_vec_each<
 ) -> Result<Vec<T>, Error>
     requires there { HasValue (vector A.shape) A.knows this.bytes.now this.pos }
     requires takes { StepTakes F.Fn step A.shape A.knows this.bytes.now this.pos }
-    requires reads { StepReads F.Fn step A.shape A.knows this.bytes.now (λ q. q.0) T.spelling }
-    ensures { Deserializes (vec_spelling T.Archived.shape T.spelling) (vector A.shape) A.knows this.entry.bytes.now this.entry.pos result }
+    requires reads { StepReads F.Fn step A.shape A.knows this.bytes.now (λ q. q.0) A.reads }
+    ensures { Deserializes (reads_in (λ xs. xs.items) (reads_all A.reads)) (vector A.shape) A.knows this.entry.bytes.now this.entry.pos result }
 {
     deserialize_elements_each(ArchivedVec::as_slice(this), alloc, deserializer, step)
+}
+
+impl<T, A: ReadBack<T>> ReadBack<Vec<T>> for ArchivedVec<A> {
+    ghost reads = { reads_in (λ xs. xs.items) (reads_all A.reads) };
 }
 
 impl<T: Archive + Drop, D, A: Deserialize<T, D>> Deserialize<Vec<T>, D> for ArchivedVec<A> {
@@ -47,7 +51,7 @@ impl<T: Archive + Drop, D, A: Deserialize<T, D>> Deserialize<Vec<T>, D> for Arch
             deserializer,
             |d: &mut D, pos: usize| -> Result<(T, PhantomData<T::Archived>), Error>
                 requires { HasValue A.shape A.knows bytes.now pos }
-                ensures { DeserializesBy T.spelling A.shape A.knows bytes.entry.now pos (λ q. q.0) result }
+                ensures { DeserializesBy A.reads A.shape A.knows bytes.entry.now pos (λ q. q.0) result }
             { deserialize_element::<T, A, D>(bytes, pos, alloc, d) },
         )
     }

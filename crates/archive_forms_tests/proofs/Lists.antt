@@ -4,6 +4,7 @@ use Rattle.std.proofs.Common.{◌≡◌, ℕ, List as Listed, Option, Some, None
 use Rattle.std.specs.Prelude.{Box, MatchResult}
 use Rattle.std.specs.Global.{Global}
 use Rattle.archive_shape_references.specs.Bytes.{overwrite}
+use Rattle.archive_shape_canonical.specs.Sharing.{erased}
 use Rattle.archive_shape_writing.specs.Writing.{WriterMembers}
 use Rattle.archive_shape_writing.specs.declared.error.Error.{Error}
 use Rattle.archive_shape_writing.specs.declared.error.Error.TheVariants.{IsizeOverflow}
@@ -18,6 +19,8 @@ use Rattle.archive_forms_spelling.specs.Serializing.{Resolves, Serializes}
 use Rattle.archive_forms_writing.specs.Owned.{boxed_spelling}
 use Rattle.archive_forms_reading.specs.declared.resolving.BoxResolver.{BoxResolver}
 use Rattle.archive_forms_deserializing.specs.Deserializing.{IsReadAt}
+use Rattle.archive_forms_deserializing.specs.Reading.{reads_as, reads_in, reads_option}
+use Rattle.archive_forms_deserializing.proofs.Faithful.{option_faithful}
 use Rattle.archive_forms_tests.specs.declared.recursive.list.List.{List, List', None', Some', out-List}
 use Rattle.archive_forms_tests.specs.declared.recursive.list.List.TheViews.{roll-List}
 use Rattle.archive_forms_tests.specs.Recursive.{list_shape, list_body, KnowsList}
@@ -96,6 +99,7 @@ next_plain (List' (Some' p y)) (Some b) e =
 
 pub list_read :
     (bytes : Listed ℕ) (pos : ℕ) (o : Option (Box List Global))
-    → IsReadAt next_spelling list_body KnowsList bytes pos o
-    → IsReadAt list_spelling list_shape KnowsList bytes pos (roll-List record { next = o })
-list_read bytes pos o read v h = next_plain (roll-List record { next = o }) o (made_next o) ∙ read v (list_held bytes pos v h)
+    → IsReadAt (reads_option (reads_in (λ (b : Box List Global). b.value) (reads_as list_spelling))) list_body KnowsList bytes pos o
+    → IsReadAt (reads_as list_spelling) list_shape KnowsList bytes pos (roll-List record { next = o })
+list_read bytes pos o read v h = next_plain (roll-List record { next = o }) o (made_next o)
+    ∙ option_faithful (boxed_spelling list_shape list_spelling) _ (λ u b e. e) (box (sized list_shape)) (erased v) o (read v (list_held bytes pos v h))

@@ -4,6 +4,7 @@ use mathlib.Core.Former.{Count}
 use Rattle.std.proofs.Common.{◌≡◌, ℕ, zero, suc, ◌<◌, ◌≤◌, List, [], ◌∷◌, length, get_or, Result, arith, refl, sym, ap, subst, ◌∙◌}
 use Rattle.std.specs.Prelude.{Vec}
 use Rattle.std.specs.Global.{Global}
+use Rattle.archive_shape_canonical.specs.Sharing.{erased}
 use Rattle.archive_shape_writing.specs.Writing.{WriterMembers}
 use Rattle.archive_shape_writing.specs.declared.error.Error.{Error}
 use Rattle.archive_forms_spelling.specs.Spelling.{Spelling}
@@ -15,6 +16,8 @@ use Rattle.archive_forms_writing.specs.Owned.{vec_spelling}
 use Rattle.archive_forms_writing.specs.Steps.{IsElement}
 use Rattle.archive_forms_reading.specs.declared.resolving.VecResolver.{VecResolver}
 use Rattle.archive_forms_deserializing.specs.Deserializing.{IsReadAt}
+use Rattle.archive_forms_deserializing.specs.Reading.{reads_as, reads_in, reads_all}
+use Rattle.archive_forms_deserializing.proofs.Faithful.{all_faithful}
 use Rattle.archive_forms_tests.specs.Recursive.{tree_shape, tree_body, KnowsTree}
 use Rattle.archive_forms_tests.specs.Trees.{trees_in, branches_of, levels_below, most_below, tree_level, no_tree, tree_spelling}
 use Rattle.archive_forms_tests.specs.declared.recursive.tree.Tree.{Tree, Tree', Row_of-Tree, end_of-Tree, more_of-Tree, items-the_row-Tree, items_hidden-the_row-Tree-0, out-Tree}
@@ -101,10 +104,10 @@ tree_written m x old new result h =
 
 pub tree_read :
     (bytes : List ℕ) (pos : ℕ) (v : Vec Tree Global)
-    → IsReadAt (vec_spelling tree_shape tree_spelling) tree_body KnowsTree bytes pos v
-    → IsReadAt tree_spelling tree_shape KnowsTree bytes pos (roll-Tree record { branches = v })
+    → IsReadAt (reads_in (λ (xs : Vec Tree Global). xs.items) (reads_all (reads_as tree_spelling))) tree_body KnowsTree bytes pos v
+    → IsReadAt (reads_as tree_spelling) tree_shape KnowsTree bytes pos (roll-Tree record { branches = v })
 tree_read bytes pos v read value h =
     let x = roll-Tree record { branches = v } in
     let plain : tree_spelling.plain x ≡ trees_spelling.plain (branches_of x) = ap (λ o. o.plain) (sym (tree_agrees x)) in
     let made : trees_spelling.plain (branches_of x) ≡ trees_spelling.plain v.items = ap (λ ts. trees_spelling.plain ts) (branches_made v) in
-    plain ∙ made ∙ read value (tree_held bytes pos value h)
+    plain ∙ made ∙ all_faithful tree_spelling (reads_as tree_spelling) (λ u y e. e) (erased value) v.items (read value (tree_held bytes pos value h))

@@ -1,6 +1,6 @@
 -- What is read of the items of a table of entries, one after the other.
 use denote.Ref.{Bor}
-use Rattle.std.proofs.Common.{◌≡◌, ◌∙◌, ℕ, ◌+◌, ◌==◌, true, cond, Some, List, [], ◌∷◌, ◌++◌, length, map, refl, ap, ap₂, sym, subst, arith, append_assoc, append-nil, eq-eqb}
+use Rattle.std.proofs.Common.{◌≡◌, ◌∙◌, ℕ, ◌+◌, ◌==◌, true, cond, Some, List, [], ◌∷◌, ◌++◌, length, map, refl, ap, sym, subst, arith, append_assoc, append-nil, eq-eqb}
 use Rattle.std.proofs.lemmas.List.{length-map}
 use Rattle.std.specs.Prelude.{Bool, Option}
 use Rattle.std.specs.Cmp.{IsEquivalence}
@@ -23,21 +23,19 @@ use Rattle.archive_shape_canonical.specs.Sharing.{erased, all_erased}
 use Rattle.archive_shape_references.specs.declared.refs.Ref.{Ref}
 use Rattle.archive_shape.specs.Key.{HeldAt}
 use Rattle.archive_forms_checking.specs.Tuples.{tuple2}
-use Rattle.archive_forms_spelling.specs.Spelling.{Spelling}
-use Rattle.archive_forms_spelling.specs.Fields.{tuple2_spelling}
-use Rattle.archive_forms_spelling.specs.Regions.{plain_values}
 use Rattle.archive_forms_reading.specs.Parts.{HasValue, both}
 use Rattle.archive_forms_reading.proofs.Inside.{none_held}
 use Rattle.archive_forms_reading.proofs.Pointed.{made_whole}
 use Rattle.archive_forms_tuples.specs.Fields.{field, field_position}
 use Rattle.archive_forms_tuples.proofs.Held.{fields_at}
 use Rattle.archive_forms_deserializing.specs.Deserializing.{IsReadAt}
+use Rattle.archive_forms_deserializing.specs.Reading.{reads_all, reads_each, reads_tuple2}
 use Rattle.archive_hash_walking.specs.Tables.{Buckets, IsTableAt, IsTableOf, AreItemsAt, item_position, item_positions, full_places}
 use Rattle.archive_hash_walking.specs.Maps.{entry_at}
 use Rattle.archive_hash_walking.proofs.Entries.{HasParts, entry_parts}
 use Rattle.archive_hash_walking.proofs.Read.{table_is_read, one_table}
 use Rattle.archive_hash_walking.proofs.Roots.{table_count}
-use Rattle.archive_hash.specs.ReadBack.{AreItems, AreInserted}
+use Rattle.archive_hash.specs.ReadBack.{AreInserted, reads_map}
 use Rattle.archive_hash.proofs.Inserted.{PutsKey, none_inserted, one_inserted}
 
 -- ---- the entries that an iterator has left
@@ -97,7 +95,7 @@ module _ (s : Shape) (knows : Names → Type 0) (bytes : List ℕ) (pos : ℕ) (
 
 -- ---- what is read of entries
 
-module _ {A B R Q : Type 0} (k v : Shape) (keys : Spelling A R) (vals : Spelling B Q) (s t : Shape) (knows others : Names → Type 0) (bytes : List ℕ) where
+module _ {A B : Type 0} (keys : Value → A → Type 0) (vals : Value → B → Type 0) (s t : Shape) (knows others : Names → Type 0) (bytes : List ℕ) where
   -- pairs are those of the entries at positions, one by one
   abbrev pub AreReadAt : List ℕ → List (A × B) → Type 0
   AreReadAt [] [] = Unit {0}
@@ -123,32 +121,33 @@ module _ {A B R Q : Type 0} (k v : Shape) (keys : Spelling A R) (vals : Spelling
   all_have (p ∷ ps) (more_values w ws) h = (entry_parts s t knows others bytes p (record { value = w; held = h.0 }), all_have ps ws h.1)
 
   entry_read : (p : ℕ) (x : A × B) (w : Value) → HeldAt (tuple2 s t) (both knows others) bytes p w → IsReadAt keys s knows bytes p x.0 → IsReadAt vals t others bytes (field_position s no_shapes t p) x.1
-      → group (more_values (keys.plain x.0) (more_values (vals.plain x.1) no_values)) ≡ erased w
+      → reads_tuple2 keys vals (erased w) x
   entry_read p x w h f g =
       let parts = fields_at (field s knows ∷ field t others ∷ []) (both knows others) (λ names known. (known.0, (known.1, tt))) bytes p w h in
       let key = parts.each in
       let value = parts.each.rest in
-      let values : parts.values ≡ more_values key.first (more_values value.first no_values) = key.is ∙ ap (more_values key.first) (value.is ∙ ap (more_values value.first) value.rest) in
-      ap₂ (λ a b. group (more_values a (more_values b no_values))) (f key.first key.held) (g value.first value.held) ∙ sym (ap erased (parts.is ∙ ap group values))
+      (all_erased parts.values, sym (ap erased parts.is),
+      (erased key.first, all_erased key.others, sym (ap all_erased key.is), f key.first key.held,
+      (erased value.first, all_erased value.others, sym (ap all_erased value.is), g value.first value.held, sym (ap all_erased value.rest))))
 
-  plain_read : (ps : List ℕ) (xs : List (A × B)) (ws : Values) → AreReadAt ps xs → AreItemsAt (tuple2 s t) (both knows others) bytes ps ws → plain_values (tuple2_spelling k keys v vals) xs ≡ all_erased ws
-  plain_read [] [] no_values f g = refl
-  plain_read [] [] (more_values w ws) f g = absurd g
-  plain_read [] (x ∷ xs) ws f g = absurd f
-  plain_read (p ∷ ps) [] ws f g = absurd f
-  plain_read (p ∷ ps) (x ∷ xs) no_values f g = absurd g
-  plain_read (p ∷ ps) (x ∷ xs) (more_values w ws) f g = ap₂ more_values (entry_read p x w g.0 f.0.0 f.0.1) (plain_read ps xs ws f.1 g.1)
+  each_read : (ps : List ℕ) (xs : List (A × B)) (ws : Values) → AreReadAt ps xs → AreItemsAt (tuple2 s t) (both knows others) bytes ps ws → reads_each (reads_tuple2 keys vals) (all_erased ws) xs
+  each_read [] [] no_values f g = tt
+  each_read [] [] (more_values w ws) f g = absurd g
+  each_read [] (x ∷ xs) ws f g = absurd f
+  each_read (p ∷ ps) [] ws f g = absurd f
+  each_read (p ∷ ps) (x ∷ xs) no_values f g = absurd g
+  each_read (p ∷ ps) (x ∷ xs) (more_values w ws) f g = (entry_read p x w g.0 f.0.0 f.0.1, each_read ps xs ws f.1 g.1)
 
   -- pairs that are those at the positions of a table are its items
   items_read : (pos : ℕ) (b : Buckets) (xs : List (A × B)) → IsTableAt bytes (tuple2 s t) pos b → AreReadAt (item_positions (tuple2 s t) b) xs
-      → AreItems (tuple2_spelling k keys v vals) (tuple2 s t) (both knows others) bytes pos xs
+      → IsReadAt (reads_all (reads_tuple2 keys vals)) (table (tuple2 s t)) (both knows others) bytes pos xs
   items_read pos b xs there read value h =
       let m : IsTableOf (tuple2 s t) (both knows others) bytes pos value = table_is_read (tuple2 s t) (both knows others) bytes pos value h in
       let same : m.buckets ≡ b = one_table bytes (tuple2 s t) pos m.buckets b m.table there in
       let items : AreItemsAt (tuple2 s t) (both knows others) bytes (item_positions (tuple2 s t) b) (members value) =
       subst (λ c. AreItemsAt (tuple2 s t) (both knows others) bytes (item_positions (tuple2 s t) c) (members value)) same m.items in
       let grouped = by_positions (tuple2 s t) (both knows others) bytes pos value h (item_positions (tuple2 s t) b) (full_places b) (members value) refl (sym (length-map (full_places b) (item_position (tuple2 s t) b.target))) (table_count there) items in
-      ap group (plain_read (item_positions (tuple2 s t) b) xs (members value) read items) ∙ sym (ap erased grouped)
+      (all_erased (members value), sym (ap erased grouped), each_read (item_positions (tuple2 s t) b) xs (members value) read items)
 
   -- ---- the progress of a call that reads a map, with so many positions left
 
@@ -215,7 +214,7 @@ module _ {A B R Q : Type 0} (k v : Shape) (keys : Spelling A R) (vals : Spelling
       (λ xs done. one_inserted laws xs entries after x done old is put leads once)
 
   pub reading_ended : (eq : A → A → Bool) (pos : ℕ) (left : List ℕ) (entries : List (A × B)) → left ≡ [] → IsReading eq pos left entries
-      → (xs : List (A × B)) × AreItems (tuple2_spelling k keys v vals) (tuple2 s t) (both knows others) bytes pos xs × AreInserted eq xs entries
-  reading_ended eq pos left entries none h =
+      → IsReadAt (reads_map eq (λ (es : List (A × B)). es) keys vals) (table (tuple2 s t)) (both knows others) bytes pos entries
+  reading_ended eq pos left entries none h value held =
       let all : item_positions (tuple2 s t) h.buckets ≡ h.past = h.are_all ∙ ap (λ l. h.past ++ l) none ∙ append-nil h.past in
-      (h.pairs, items_read pos h.buckets h.pairs h.table (subst (λ l. AreReadAt l h.pairs) (sym all) h.read), h.is)
+      (h.pairs, items_read pos h.buckets h.pairs h.table (subst (λ l. AreReadAt l h.pairs) (sym all) h.read) value held, h.is)

@@ -3,15 +3,15 @@ ghost use Rattle.std.specs.Prelude.{length};
 ghost use Rattle.archive_shape_layout.specs.Shape.Shape.{table};
 ghost use Rattle.archive_forms_checking.specs.Tuples.{tuple2};
 ghost use Rattle.archive_forms_reading.specs.Parts.{HasValue, both};
-ghost use Rattle.archive_forms_deserializing.specs.Deserializing.{DeserializesBy};
+ghost use Rattle.archive_forms_deserializing.specs.Deserializing.{Deserializes, DeserializesBy};
 ghost use Rattle.archive_forms_deserializing.specs.Steps.{StepTakes, StepReads};
-ghost use Rattle.archive_hash.specs.ReadBack.{DeserializesEntries};
+ghost use Rattle.archive_hash.specs.ReadBack.{reads_map};
 
 use crate::OwnedHashMap;
-use archive_forms_deserializing::Deserialize;
+use archive_forms_deserializing::{Deserialize, ReadBack};
 use archive_forms_writing::Archive;
 use archive_hash_reading::ArchivedHashMap;
-use archive_shape::{Error, Portable, Ref};
+use archive_shape::{Error, Ref};
 use std::alloc::Global;
 use std::collections::HashMap;
 use std::hash::Hash;
@@ -26,7 +26,7 @@ pub(crate) fn deserialize_part<T: Archive, A: Deserialize<T, D>, D>(
     deserializer: &mut D,
 ) -> Result<(T, PhantomData<T::Archived>), Error>
     requires { HasValue A.shape A.knows bytes.now pos }
-    ensures { DeserializesBy T.spelling A.shape A.knows bytes.now pos (λ q. q.0) result }
+    ensures { DeserializesBy A.reads A.shape A.knows bytes.now pos (λ q. q.0) result }
 {
     match A::deserialize(&Ref::new(bytes, pos), alloc, deserializer) {
         Ok(value) => Ok((value, PhantomData)),
@@ -39,8 +39,8 @@ pub(crate) fn deserialize_part<T: Archive, A: Deserialize<T, D>, D>(
 pub fn deserialize_hash_map_each<
     K: Archive + Eq + Hash + Drop,
     V: Archive + Drop,
-    A: Portable,
-    B: Portable,
+    A: ReadBack<K>,
+    B: ReadBack<V>,
     H,
     D,
     F: Fn(&mut D, usize) -> Result<(K, PhantomData<K::Archived>), Error>,
@@ -54,10 +54,10 @@ pub fn deserialize_hash_map_each<
 ) -> Result<OwnedHashMap<K, V>, Error>
     requires there { HasValue (table (tuple2 A.shape B.shape)) (both A.knows B.knows) this.bytes.now this.pos }
     requires takes_key { StepTakes F.Fn read_key A.shape A.knows this.bytes.now (length this.bytes.now) }
-    requires reads_key { StepReads F.Fn read_key A.shape A.knows this.bytes.now (λ q. q.0) K.spelling }
+    requires reads_key { StepReads F.Fn read_key A.shape A.knows this.bytes.now (λ q. q.0) A.reads }
     requires takes_value { StepTakes G.Fn read_value B.shape B.knows this.bytes.now (length this.bytes.now) }
-    requires reads_value { StepReads G.Fn read_value B.shape B.knows this.bytes.now (λ q. q.0) V.spelling }
-    ensures { DeserializesEntries K.eq (λ m. m.map.entries) K.Archived.shape V.Archived.shape K.spelling V.spelling A.shape B.shape A.knows B.knows this.entry.bytes.now this.entry.pos result }
+    requires reads_value { StepReads G.Fn read_value B.shape B.knows this.bytes.now (λ q. q.0) B.reads }
+    ensures { Deserializes (reads_map K.eq (λ m. m.map.entries) A.reads B.reads) (table (tuple2 A.shape B.shape)) (both A.knows B.knows) this.entry.bytes.now this.entry.pos result }
 {
     let mut map = HashMap::new(alloc);
     let mut entries = ArchivedHashMap::iter(this);
@@ -77,34 +77,38 @@ pub fn deserialize_hash_map_each<
     Ok(OwnedHashMap { map })
 }
 
-/// Reads a map back, as `deserialize_hash_map_each` does.
-pub fn deserialize_hash_map<
+impl<K: Eq + Hash, V, A: ReadBack<K>, B: ReadBack<V>, H> ReadBack<OwnedHashMap<K, V>>
+    for ArchivedHashMap<A, B, H> {
+    ghost reads = { reads_map K.eq (λ m. m.map.entries) A.reads B.reads };
+}
+
+impl<
     K: Archive + Eq + Hash + Drop,
     V: Archive + Drop,
     H,
     D,
     A: Deserialize<K, D>,
     B: Deserialize<V, D>,
->(
-    this: Ref<'_, ArchivedHashMap<A, B, H>>,
-    alloc: Global,
-    deserializer: &mut D,
-) -> Result<OwnedHashMap<K, V>, Error>
-    requires there { HasValue (table (tuple2 A.shape B.shape)) (both A.knows B.knows) this.bytes.now this.pos }
-    ensures { DeserializesEntries K.eq (λ m. m.map.entries) K.Archived.shape V.Archived.shape K.spelling V.spelling A.shape B.shape A.knows B.knows this.entry.bytes.now this.entry.pos result }
+> Deserialize<OwnedHashMap<K, V>, D> for ArchivedHashMap<A, B, H>
 {
-    let bytes = this.bytes;
-    deserialize_hash_map_each::<K, V, A, B, H, D, _, _>(
-        this,
-        alloc,
-        deserializer,
-        |d: &mut D, pos: usize| -> Result<(K, PhantomData<K::Archived>), Error>
-            requires { HasValue A.shape A.knows bytes.now pos }
-            ensures { DeserializesBy K.spelling A.shape A.knows bytes.entry.now pos (λ q. q.0) result }
-        { deserialize_part::<K, A, D>(bytes, pos, alloc, d) },
-        |d: &mut D, pos: usize| -> Result<(V, PhantomData<V::Archived>), Error>
-            requires { HasValue B.shape B.knows bytes.now pos }
-            ensures { DeserializesBy V.spelling B.shape B.knows bytes.entry.now pos (λ q. q.0) result }
-        { deserialize_part::<V, B, D>(bytes, pos, alloc, d) },
-    )
+    fn deserialize(
+        this: &Ref<'_, ArchivedHashMap<A, B, H>>,
+        alloc: Global,
+        deserializer: &mut D,
+    ) -> Result<OwnedHashMap<K, V>, Error> {
+        let bytes = this.bytes;
+        deserialize_hash_map_each::<K, V, A, B, H, D, _, _>(
+            *this,
+            alloc,
+            deserializer,
+            |d: &mut D, pos: usize| -> Result<(K, PhantomData<K::Archived>), Error>
+                requires { HasValue A.shape A.knows bytes.now pos }
+                ensures { DeserializesBy A.reads A.shape A.knows bytes.entry.now pos (λ q. q.0) result }
+            { deserialize_part::<K, A, D>(bytes, pos, alloc, d) },
+            |d: &mut D, pos: usize| -> Result<(V, PhantomData<V::Archived>), Error>
+                requires { HasValue B.shape B.knows bytes.now pos }
+                ensures { DeserializesBy B.reads B.shape B.knows bytes.entry.now pos (λ q. q.0) result }
+            { deserialize_part::<V, B, D>(bytes, pos, alloc, d) },
+        )
+    }
 }

@@ -20,11 +20,11 @@ pub use archive_hash_reading::{
     ArchivedHashMap, HashMapResolver, HashTableResolver, Iter, Keys, Values,
 };
 pub use archive_hash_scanning::FxHasher64;
-pub use deserialize::{deserialize_hash_map, deserialize_hash_map_each};
+pub use deserialize::deserialize_hash_map_each;
 pub use from_iter::serialize_map_from_iter;
 pub use keys_from_iter::serialize_set_from_iter;
 pub use map::OwnedHashMap;
-pub use read_set::{deserialize_hash_set, deserialize_hash_set_each};
+pub use read_set::deserialize_hash_set_each;
 pub use serialize::{serialize_map_each, serialize_map_scan_each};
 pub use serialize_set::{serialize_set_each, serialize_set_scan_each};
 pub use set::OwnedHashSet;

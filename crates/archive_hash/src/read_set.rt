@@ -1,22 +1,24 @@
 //! Archived sets are read back as sets of std.
 ghost use Rattle.std.specs.Prelude.{length, ⊤};
-ghost use Rattle.archive_shape_layout.specs.Shape.Shape.{tuple};
+ghost use Rattle.archive_shape_layout.specs.Shape.Shape.{table, tuple};
 ghost use Rattle.archive_shape_layout.specs.Shape.Shapes.{no_shapes};
+ghost use Rattle.archive_forms_checking.specs.Tuples.{tuple2};
 ghost use Rattle.archive_forms_spelling.specs.Fields.{unit_spelling};
-ghost use Rattle.archive_forms_reading.specs.Parts.{HasValue};
-ghost use Rattle.archive_forms_deserializing.specs.Deserializing.{DeserializesBy};
+ghost use Rattle.archive_forms_reading.specs.Parts.{HasValue, both};
+ghost use Rattle.archive_forms_deserializing.specs.Deserializing.{Deserializes, DeserializesBy};
+ghost use Rattle.archive_forms_deserializing.specs.Reading.{reads_as};
 ghost use Rattle.archive_forms_deserializing.specs.Steps.{StepTakes, StepReads};
 ghost use Rattle.archive_hash_maps.specs.Sets.{HasSet};
 ghost use Rattle.archive_hash.specs.Owned.{key_entries};
-ghost use Rattle.archive_hash.specs.ReadBack.{DeserializesEntries};
+ghost use Rattle.archive_hash.specs.ReadBack.{reads_map};
 
 use crate::OwnedHashSet;
 use crate::deserialize::deserialize_part;
-use archive_forms_deserializing::Deserialize;
+use archive_forms_deserializing::{Deserialize, ReadBack};
 use archive_forms_writing::Archive;
 use archive_hash_maps::ArchivedHashSet;
 use archive_hash_reading::ArchivedHashMap;
-use archive_shape::{Error, Portable, Ref};
+use archive_shape::{Error, Ref};
 use std::alloc::Global;
 use std::collections::HashSet;
 use std::hash::Hash;
@@ -26,7 +28,7 @@ use std::marker::PhantomData;
 /// have equal keys, of which the first one stays.
 pub fn deserialize_hash_set_each<
     K: Archive + Eq + Hash + Drop,
-    A: Portable,
+    A: ReadBack<K>,
     H,
     D,
     F: Fn(&mut D, usize) -> Result<(K, PhantomData<K::Archived>), Error>,
@@ -38,8 +40,8 @@ pub fn deserialize_hash_set_each<
 ) -> Result<OwnedHashSet<K>, Error>
     requires there { HasSet A.shape A.knows this.bytes.now this.pos }
     requires takes_key { StepTakes F.Fn read_key A.shape A.knows this.bytes.now (length this.bytes.now) }
-    requires reads_key { StepReads F.Fn read_key A.shape A.knows this.bytes.now (λ q. q.0) K.spelling }
-    ensures { DeserializesEntries K.eq (λ s. key_entries s.set.keys) K.Archived.shape (tuple no_shapes) K.spelling unit_spelling A.shape (tuple no_shapes) A.knows (λ _. ⊤) this.entry.bytes.now this.entry.pos result }
+    requires reads_key { StepReads F.Fn read_key A.shape A.knows this.bytes.now (λ q. q.0) A.reads }
+    ensures { Deserializes (reads_map K.eq (λ s. key_entries s.set.keys) A.reads (reads_as unit_spelling)) (table (tuple2 A.shape (tuple no_shapes))) (both A.knows (λ _. ⊤)) this.entry.bytes.now this.entry.pos result }
 {
     let mut set = HashSet::new(alloc);
     let map: Ref<'_, ArchivedHashMap<A, (), H>> = Ref {
@@ -60,23 +62,27 @@ pub fn deserialize_hash_set_each<
     Ok(OwnedHashSet { set })
 }
 
-/// Reads a set back, as `deserialize_hash_set_each` does.
-pub fn deserialize_hash_set<K: Archive + Eq + Hash + Drop, H, D, A: Deserialize<K, D>>(
-    this: Ref<'_, ArchivedHashSet<A, H>>,
-    alloc: Global,
-    deserializer: &mut D,
-) -> Result<OwnedHashSet<K>, Error>
-    requires there { HasSet A.shape A.knows this.bytes.now this.pos }
-    ensures { DeserializesEntries K.eq (λ s. key_entries s.set.keys) K.Archived.shape (tuple no_shapes) K.spelling unit_spelling A.shape (tuple no_shapes) A.knows (λ _. ⊤) this.entry.bytes.now this.entry.pos result }
+impl<K: Eq + Hash, A: ReadBack<K>, H> ReadBack<OwnedHashSet<K>> for ArchivedHashSet<A, H> {
+    ghost reads = { reads_map K.eq (λ s. key_entries s.set.keys) A.reads (reads_as unit_spelling) };
+}
+
+impl<K: Archive + Eq + Hash + Drop, H, D, A: Deserialize<K, D>> Deserialize<OwnedHashSet<K>, D>
+    for ArchivedHashSet<A, H>
 {
-    let bytes = this.bytes;
-    deserialize_hash_set_each::<K, A, H, D, _>(
-        this,
-        alloc,
-        deserializer,
-        |d: &mut D, pos: usize| -> Result<(K, PhantomData<K::Archived>), Error>
-            requires { HasValue A.shape A.knows bytes.now pos }
-            ensures { DeserializesBy K.spelling A.shape A.knows bytes.entry.now pos (λ q. q.0) result }
-        { deserialize_part::<K, A, D>(bytes, pos, alloc, d) },
-    )
+    fn deserialize(
+        this: &Ref<'_, ArchivedHashSet<A, H>>,
+        alloc: Global,
+        deserializer: &mut D,
+    ) -> Result<OwnedHashSet<K>, Error> {
+        let bytes = this.bytes;
+        deserialize_hash_set_each::<K, A, H, D, _>(
+            *this,
+            alloc,
+            deserializer,
+            |d: &mut D, pos: usize| -> Result<(K, PhantomData<K::Archived>), Error>
+                requires { HasValue A.shape A.knows bytes.now pos }
+                ensures { DeserializesBy A.reads A.shape A.knows bytes.entry.now pos (λ q. q.0) result }
+            { deserialize_part::<K, A, D>(bytes, pos, alloc, d) },
+        )
+    }
 }

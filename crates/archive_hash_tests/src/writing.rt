@@ -4,17 +4,17 @@ ghost use Rattle.std.specs.Prelude.{◌-◌, ◌^◌, ◌<◌};
 ghost use Rattle.archive_forms_spelling.specs.Serializing.{HasState};
 
 use crate::reading::root_of;
-use archive_core::to_bytes;
+use archive_core::{from_bytes, to_bytes};
 use archive_core_serializing::{HighSerializer, Serializer};
 use archive_forms_reading::native_of;
 use archive_forms_text::ArchivedString;
-use archive_hash::{OwnedHashMap, deserialize_hash_map, serialize_map_from_iter};
+use archive_hash::{OwnedHashMap, OwnedHashSet, serialize_map_from_iter, serialize_set_from_iter};
 use archive_hash_reading::{ArchivedHashMap, HashTableResolver};
 use archive_hash_scanning::{FxHasher64, Group1, Group8, Group16, Scan, hash_value};
 use archive_hash_writing::{serialize_from_iter, serialize_from_iter_scan};
 use archive_shape::{Allocator, ArchivedU32, Error, Positional, Registry, Writer};
 use std::alloc::Global;
-use std::collections::HashMap;
+use std::collections::{HashMap, HashSet};
 
 /// A serializer into memory that grows.
 type Memory = HighSerializer<Vec<u8>, Global>;
@@ -87,8 +87,7 @@ fn decimals(alloc: Global, count: u32) -> Result<Numbers, Error> {
 fn is_read_back(alloc: Global, count: u32) -> Result<bool, Error> {
     let owned = decimals(alloc, count)?;
     let bytes = to_bytes(alloc, &owned)?;
-    let root = root_of::<ArchivedNumbers>(alloc, bytes.as_slice())?;
-    let read: Numbers = deserialize_hash_map(root, alloc, &mut ())?;
+    let read = from_bytes::<Numbers>(alloc, &bytes)?;
     Ok(read.map == owned.map)
 }
 
@@ -213,8 +212,6 @@ fn every_scan_writes_the_same_bytes(rt: HostRuntime) {
 /// Texts that lead to maps.
 type Maps = OwnedHashMap<String, Numbers>;
 
-type ArchivedMaps = ArchivedHashMap<ArchivedString, ArchivedNumbers, FxHasher64>;
-
 /// A text of its own.
 fn text(alloc: Global, from: &str) -> Result<String, Error> {
     match String::from_str(alloc, from) {
@@ -237,24 +234,78 @@ fn maps(alloc: Global) -> Result<Maps, Error> {
     Ok(OwnedHashMap { map })
 }
 
-/// How many entries an archive of maps has, and whether the map that is read back at a key is that of so many numbers.
-fn map_at(alloc: Global, key: &str, count: u32) -> Result<(usize, bool), Error> {
+/// How many entries the map at a key of those maps has, when they are read back, and to what `0` leads in it.
+fn map_at(alloc: Global, key: &str) -> Result<Option<(usize, Option<u32>)>, Error> {
     let bytes = to_bytes(alloc, &maps(alloc)?)?;
-    let root = root_of::<ArchivedMaps>(alloc, bytes.as_slice())?;
-    let Some(inner) = ArchivedHashMap::get(root, &key) else {
-        return Ok((usize::MAX, false));
-    };
-    let read: Numbers = deserialize_hash_map(inner, alloc, &mut ())?;
-    let same = match decimals(alloc, count) {
-        Ok(owned) => read.map == owned.map,
-        Err(_) => false,
-    };
-    Ok((ArchivedHashMap::len(root), same))
+    let read = from_bytes::<Maps>(alloc, &bytes)?;
+    match read.map.get(key) {
+        Some(inner) => Ok(Some((inner.map.len(), inner.map.get("0").copied()))),
+        None => Ok(None),
+    }
 }
 
 #[test]
 fn maps_of_maps_are_read_back(rt: HostRuntime) {
-    assert_eq!(rt; map_at(rt.alloc(), "x", 1), Ok((2, true)));
-    assert_eq!(rt; map_at(rt.alloc(), "y", 0), Ok((2, true)));
-    assert_eq!(rt; map_at(rt.alloc(), "z", 0), Ok((usize::MAX, false)));
+    assert_eq!(rt; map_at(rt.alloc(), "x"), Ok(Some((1, Some(0)))));
+    assert_eq!(rt; map_at(rt.alloc(), "y"), Ok(Some((0, None))));
+    assert_eq!(rt; map_at(rt.alloc(), "z"), Ok(None));
+}
+
+/// The set of the numbers below one.
+fn numbers(alloc: Global, count: u32) -> Result<OwnedHashSet<u32>, Error> {
+    let mut set = HashSet::new(alloc);
+    for number in 0..count {
+        if set.insert(number).is_err() {
+            return Err(Error::OutOfMemory);
+        }
+    }
+    Ok(OwnedHashSet { set })
+}
+
+/// Whether that set is read back from its archive.
+fn is_set_read_back(alloc: Global, count: u32) -> Result<bool, Error> {
+    let owned = numbers(alloc, count)?;
+    let bytes = to_bytes(alloc, &owned)?;
+    let read = from_bytes::<OwnedHashSet<u32>>(alloc, &bytes)?;
+    Ok(read.set == owned.set)
+}
+
+#[test]
+fn sets_of_many_sizes_are_read_back(rt: HostRuntime) {
+    for count in [0, 1, 5, 6, 17, 36, 215] {
+        assert_eq!(rt; is_set_read_back(rt.alloc(), count), Ok(true), "{count}");
+    }
+}
+
+/// Writes the table of so many keys of a set as is claimed.
+fn write_keys<S: Writer + Allocator>(
+    claimed: usize,
+    owned: &OwnedHashSet<u32>,
+    serializer: &mut S,
+) -> Result<HashTableResolver, Error>
+    requires room { S.failures serializer.old < 2 ^ 64 - 1 }
+    requires state { HasState S.pos S.known serializer.old }
+{
+    serialize_set_from_iter(claimed, owned.set.iter(), (7, 8), serializer)
+}
+
+/// What becomes of a set of so many numbers, of which is claimed how many come.
+fn claiming_keys(alloc: Global, claimed: usize, count: u32) -> Result<HashTableResolver, Error> {
+    write_keys(claimed, &numbers(alloc, count)?, &mut memory(alloc))
+}
+
+#[test]
+fn keys_are_written_where_as_many_come_as_are_claimed(rt: HostRuntime) {
+    let alloc = rt.alloc();
+    assert_eq!(rt;
+        claiming_keys(alloc, 3, 3),
+        Ok(HashTableResolver::from_pos(Some(16)))
+    );
+    assert_eq!(rt;
+        claiming_keys(alloc, 2, 3),
+        Err(Error::IteratorLengthMismatch {
+            expected: 2,
+            actual: 3,
+        })
+    );
 }

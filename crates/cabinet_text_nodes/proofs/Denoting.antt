@@ -14,6 +14,7 @@ use Rattle.archive_forms_reading.specs.Parts.{HasValue, IsNoneAt, IsSomeAt}
 use Rattle.archive_forms_reading.proofs.Payloads.{option_by_tag}
 use Rattle.archive_forms_reading.proofs.Pointed.{box_points, box_there, vec_points, vec_there}
 use Rattle.archive_forms_deserializing.specs.Deserializing.{Deserializes}
+use Rattle.archive_forms_deserializing.specs.Reading.{reads_as}
 use Rattle.cabinet_text_grammar.specs.Tree as tree
 use Rattle.cabinet_text_grammar.specs.Tree.{Tree, Trees}
 use Rattle.cabinet_documents.specs.Node.{node_shape, KnowsNode}
@@ -182,7 +183,7 @@ mutual
 
 -- what a call that reads a node back gives is denoted by the value there
 pub read_denotes :
-    (bytes : List ℕ) (pos : ℕ) (r : Result Node Error) → Deserializes archived_as node_shape KnowsNode bytes pos r
+    (bytes : List ℕ) (pos : ℕ) (r : Result Node Error) → Deserializes (reads_as archived_as) node_shape KnowsNode bytes pos r
     → IfOk r (λ n. (v : Value) → HeldAt node_shape KnowsNode bytes pos v → Denotes v (node_tree n))
 read_denotes bytes pos (Ok n) read = λ v h.
     let t = node_tree n in

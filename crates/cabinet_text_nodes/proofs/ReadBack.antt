@@ -13,6 +13,8 @@ use Rattle.archive_forms_spelling.specs.Regions.{plain_values}
 use Rattle.archive_forms_reading.specs.declared.resolving.BoxResolver.{BoxResolver}
 use Rattle.archive_forms_writing.specs.Owned.{boxed_spelling, vec_spelling}
 use Rattle.archive_forms_deserializing.specs.Deserializing.{IsReadAt}
+use Rattle.archive_forms_deserializing.specs.Reading.{reads_as, reads_in, reads_option, reads_all}
+use Rattle.archive_forms_deserializing.proofs.Faithful.{option_faithful, all_faithful}
 use Rattle.cabinet_text_grammar.specs.Tree as tree
 use Rattle.cabinet_text_grammar.specs.Tree.{Tree}
 use Rattle.cabinet_documents.specs.Node.{node_shape, KnowsNode}
@@ -50,12 +52,19 @@ pub list_plain : (ns : Vec Node Global) → archived_as.plain (node.List ns) ≡
 list_plain ns =
     plain_as (node.List ns) (tree.list (node_trees ns.items)) (node_tree-list ns) ∙ ap (λ vs. tagged_value 5 (group vs)) (sym (all_plain ns.items))
 
+-- what is read back of the parts of a node is archived as they are
+pub maybe_as : (v : Value) (o : Option (Box Node Global)) → reads_option (reads_in (λ (b : Box Node Global). b.value) (reads_as archived_as)) v o → maybe_of.plain o ≡ v
+maybe_as v o h = option_faithful (boxed_spelling node_shape archived_as) _ (λ u b e. e) boxed_shape v o h
+
+pub list_as : (v : Value) (ns : Vec Node Global) → reads_in (λ (xs : Vec Node Global). xs.items) (reads_all (reads_as archived_as)) v ns → (vec_spelling node_shape archived_as).plain ns ≡ v
+list_as v ns h = all_faithful archived_as (reads_as archived_as) (λ u n e. e) v ns.items h
+
 -- ---- a payload that is read back behind its tag is the node's
 
 module _ (bytes other : Bor (List ℕ)) (pos tag : ℕ) (s : Shape) (knows : Names → Type 0) (to : ℕ) (same : other ≡ bytes) (tagged : IsTagged bytes.now pos tag s knows to) where
   pub payload_read :
       (n : Node) (u : Value) → archived_as.plain n ≡ tagged_value tag u → ((w : Value) → HeldAt s knows other.now to w → u ≡ erased w)
-      → IsReadAt archived_as node_shape KnowsNode bytes.now pos n
+      → IsReadAt (reads_as archived_as) node_shape KnowsNode bytes.now pos n
   payload_read n u is read v h =
       let p = tagged.payload v h in
       let inner = read p.payload (subst (λ (x : Bor (List ℕ)). HeldAt s knows x.now to p.payload) (sym same) p.held) in

@@ -4,10 +4,9 @@ ghost use Rattle.archive_shape.specs.Key.{HeldAt};
 ghost use Rattle.archive_shape_layout.specs.Shape.Shape.{option, box, vector};
 ghost use Rattle.archive_shape_layout.specs.Shape.Pointee.{sized};
 ghost use Rattle.archive_shape_layout.specs.Value.{Value};
-ghost use Rattle.archive_forms_spelling.specs.Options.{option_spelling};
 ghost use Rattle.archive_forms_reading.specs.Parts.{HasValue};
-ghost use Rattle.archive_forms_writing.specs.Owned.{boxed_spelling, vec_spelling};
 ghost use Rattle.archive_forms_deserializing.specs.Deserializing.{Deserializes, DeserializesBy};
+ghost use Rattle.archive_forms_deserializing.specs.Reading.{reads_all, reads_as, reads_in, reads_option};
 ghost use Rattle.cabinet_documents.specs.Node.{node_shape, KnowsNode};
 ghost use Rattle.cabinet_documents.specs.Denotes.{Denotes};
 ghost use Rattle.cabinet_text_nodes.specs.Archived.{archived_as};
@@ -15,7 +14,7 @@ ghost use Rattle.cabinet_text_nodes.specs.View.{node_tree};
 
 use crate::node::Node;
 use archive_forms_deserializing::{
-    Deserialize, deserialize_box_each, deserialize_option_each, deserialize_vec_each,
+    Deserialize, ReadBack, deserialize_box_each, deserialize_option_each, deserialize_vec_each,
 };
 use archive_forms_reading::{ArchivedBox, ArchivedOption, ArchivedVec, native_of};
 use archive_forms_text::ArchivedString;
@@ -32,7 +31,7 @@ fn deserialize_boxed<D>(
     deserializer: &mut D,
 ) -> Result<Box<Node>, Error>
     requires { HasValue (box (sized node_shape)) KnowsNode boxed.bytes.now boxed.pos }
-    ensures { Deserializes (boxed_spelling node_shape archived_as) (box (sized node_shape)) KnowsNode boxed.entry.bytes.now boxed.entry.pos result }
+    ensures { Deserializes (reads_in (λ b. b.value) (reads_as archived_as)) (box (sized node_shape)) KnowsNode boxed.entry.bytes.now boxed.entry.pos result }
 {
     let Ref { bytes, pos, .. } = boxed;
     deserialize_box_each::<Node, ArchivedNode, D, _>(
@@ -42,7 +41,7 @@ fn deserialize_boxed<D>(
         |d: &mut D, p: usize| -> Result<(Node, PhantomData<ArchivedNode>), Error>
             requires ends { p + 24 ≤ pos }
             requires there { HasValue node_shape KnowsNode bytes.now p }
-            ensures { DeserializesBy archived_as node_shape KnowsNode bytes.entry.now p (λ q. q.0) result }
+            ensures { DeserializesBy (reads_as archived_as) node_shape KnowsNode bytes.entry.now p (λ q. q.0) result }
         {
             let _ = &pos;
             match deserialize_node(Ref::new(bytes, p), alloc, d) {
@@ -62,7 +61,7 @@ fn deserialize_maybe<D>(
     deserializer: &mut D,
 ) -> Result<Option<Box<Node>>, Error>
     requires { HasValue (option (box (sized node_shape))) KnowsNode maybe.bytes.now maybe.pos }
-    ensures { Deserializes (option_spelling (box (sized node_shape)) (boxed_spelling node_shape archived_as)) (option (box (sized node_shape))) KnowsNode maybe.entry.bytes.now maybe.entry.pos result }
+    ensures { Deserializes (reads_option (reads_in (λ b. b.value) (reads_as archived_as))) (option (box (sized node_shape))) KnowsNode maybe.entry.bytes.now maybe.entry.pos result }
 {
     let Ref { bytes, pos, .. } = maybe;
     deserialize_option_each::<Box<Node>, ArchivedBox<ArchivedNode>, D, _>(
@@ -71,7 +70,7 @@ fn deserialize_maybe<D>(
         |d: &mut D, p: usize| -> Result<(Box<Node>, PhantomData<ArchivedBox<ArchivedNode>>), Error>
             requires ends { p + 4 ≤ pos + 8 }
             requires there { HasValue (box (sized node_shape)) KnowsNode bytes.now p }
-            ensures { DeserializesBy (boxed_spelling node_shape archived_as) (box (sized node_shape)) KnowsNode bytes.entry.now p (λ q. q.0) result }
+            ensures { DeserializesBy (reads_in (λ b. b.value) (reads_as archived_as)) (box (sized node_shape)) KnowsNode bytes.entry.now p (λ q. q.0) result }
         {
             let _ = &pos;
             match deserialize_boxed(Ref::new(bytes, p), alloc, d) {
@@ -90,7 +89,7 @@ fn deserialize_list<D>(
     deserializer: &mut D,
 ) -> Result<Vec<Node>, Error>
     requires { HasValue (vector node_shape) KnowsNode list.bytes.now list.pos }
-    ensures { Deserializes (vec_spelling node_shape archived_as) (vector node_shape) KnowsNode list.entry.bytes.now list.entry.pos result }
+    ensures { Deserializes (reads_in (λ xs. xs.items) (reads_all (reads_as archived_as))) (vector node_shape) KnowsNode list.entry.bytes.now list.entry.pos result }
 {
     let Ref { bytes, pos, .. } = list;
     deserialize_vec_each::<Node, ArchivedNode, D, _>(
@@ -100,7 +99,7 @@ fn deserialize_list<D>(
         |d: &mut D, p: usize| -> Result<(Node, PhantomData<ArchivedNode>), Error>
             requires ends { p + 24 ≤ pos }
             requires there { HasValue node_shape KnowsNode bytes.now p }
-            ensures { DeserializesBy archived_as node_shape KnowsNode bytes.entry.now p (λ q. q.0) result }
+            ensures { DeserializesBy (reads_as archived_as) node_shape KnowsNode bytes.entry.now p (λ q. q.0) result }
         {
             let _ = &pos;
             match deserialize_node(Ref::new(bytes, p), alloc, d) {
@@ -119,7 +118,7 @@ fn deserialize_node<D>(
     deserializer: &mut D,
 ) -> Result<Node, Error>
     requires { HasValue node_shape KnowsNode node.bytes.now node.pos }
-    ensures { Deserializes archived_as node_shape KnowsNode node.entry.bytes.now node.entry.pos result }
+    ensures { Deserializes (reads_as archived_as) node_shape KnowsNode node.entry.bytes.now node.entry.pos result }
 {
     match ArchivedNode::kind(node) {
         ArchivedKind::Bool(value) => Ok(Node::Bool(native_of(value))),
@@ -139,6 +138,10 @@ fn deserialize_node<D>(
     }
 }
 
+impl ReadBack<Node> for ArchivedNode {
+    ghost reads = { reads_as archived_as };
+}
+
 impl<D> Deserialize<Node, D> for ArchivedNode {
     /// The node that stands there, whose tree is what the value denotes.
     fn deserialize(
@@ -147,7 +150,7 @@ impl<D> Deserialize<Node, D> for ArchivedNode {
         deserializer: &mut D,
     ) -> Result<Node, Error>
         requires { HasValue node_shape KnowsNode this.now.bytes.now this.now.pos }
-        ensures read { Deserializes archived_as node_shape KnowsNode this.now.bytes.now this.now.pos result }
+        ensures read { Deserializes (reads_as archived_as) node_shape KnowsNode this.now.bytes.now this.now.pos result }
         ensures denotes { IfOk result (λ node. (v : Value) → HeldAt node_shape KnowsNode this.now.bytes.now this.now.pos v → Denotes v (node_tree node)) }
     {
         deserialize_node(*this, alloc, deserializer)

@@ -17,14 +17,16 @@ ghost use Rattle.archive_forms_spelling.proofs.Pointers.{box_spells_at};
 ghost use Rattle.archive_forms_spelling.proofs.Views.{kept_spells_at, seen_spells_at};
 ghost use Rattle.archive_forms_spelling.specs.Spells.{SpellsAt};
 ghost use Rattle.archive_forms_reading.specs.Parts.{HasValue};
-ghost use Rattle.archive_forms_writing.specs.Owned.{boxed_spelling};
 ghost use Rattle.archive_forms_deserializing.specs.Deserializing.{Deserializes, DeserializesBy};
+ghost use Rattle.archive_forms_deserializing.specs.Reading.{reads_as, reads_in};
 ghost use Rattle.archive_forms_tests.specs.declared.recursive.list.List.{List as ListDenot, List', Held-List-next, None', Some'};
 ghost use Rattle.archive_forms_tests.specs.Recursive.{list_shape, list_body, KnowsList};
 ghost use Rattle.archive_forms_tests.specs.Lists.{list_next, links, linked_spelling, list_level, no_list, list_spelling};
 
 use archive_forms_checking::{check_box_each, check_option_each};
-use archive_forms_deserializing::{Deserialize, deserialize_box_each, deserialize_option_each};
+use archive_forms_deserializing::{
+    Deserialize, ReadBack, deserialize_box_each, deserialize_option_each,
+};
 use archive_forms_reading::{ArchivedBox, ArchivedOption, BoxResolver};
 use archive_forms_writing::{Archive, Serialize, serialize_box_each};
 use archive_shape::{
@@ -236,7 +238,7 @@ fn deserialize_list<D>(
     deserializer: &mut D,
 ) -> Result<List, Error>
     requires { HasValue list_shape KnowsList bytes.now pos }
-    ensures { Deserializes list_spelling list_shape KnowsList bytes.now pos result }
+    ensures { Deserializes (reads_as list_spelling) list_shape KnowsList bytes.now pos result }
 {
     let this = Ref::<ArchivedOption<ArchivedBox<ArchivedList>>> {
         bytes,
@@ -249,7 +251,7 @@ fn deserialize_list<D>(
         |d: &mut D, p: usize| -> Result<(Box<List>, PhantomData<ArchivedBox<ArchivedList>>), Error>
             requires ends { p + 4 ≤ pos + 8 }
             requires there { HasValue (box (sized list_shape)) KnowsList bytes.now p }
-            ensures { DeserializesBy (boxed_spelling list_shape list_spelling) (box (sized list_shape)) KnowsList bytes.entry.now p (λ q. q.0) result }
+            ensures { DeserializesBy (reads_in (λ b. b.value) (reads_as list_spelling)) (box (sized list_shape)) KnowsList bytes.entry.now p (λ q. q.0) result }
         {
             let _ = &pos;
             match deserialize_boxed(bytes, p, alloc, d) {
@@ -273,7 +275,7 @@ fn deserialize_boxed<D>(
     deserializer: &mut D,
 ) -> Result<Box<List>, Error>
     requires { HasValue (box (sized list_shape)) KnowsList bytes.now pos }
-    ensures { Deserializes (boxed_spelling list_shape list_spelling) (box (sized list_shape)) KnowsList bytes.now pos result }
+    ensures { Deserializes (reads_in (λ b. b.value) (reads_as list_spelling)) (box (sized list_shape)) KnowsList bytes.now pos result }
 {
     let this = Ref::<ArchivedBox<ArchivedList>> {
         bytes,
@@ -287,7 +289,7 @@ fn deserialize_boxed<D>(
         |d: &mut D, p: usize| -> Result<(List, PhantomData<ArchivedList>), Error>
             requires ends { p + 8 ≤ pos }
             requires there { HasValue list_shape KnowsList bytes.now p }
-            ensures { DeserializesBy list_spelling list_shape KnowsList bytes.entry.now p (λ q. q.0) result }
+            ensures { DeserializesBy (reads_as list_spelling) list_shape KnowsList bytes.entry.now p (λ q. q.0) result }
         {
             let _ = &pos;
             match deserialize_list(bytes, p, alloc, d) {
@@ -296,6 +298,10 @@ fn deserialize_boxed<D>(
             }
         },
     )
+}
+
+impl ReadBack<List> for ArchivedList {
+    ghost reads = { reads_as list_spelling };
 }
 
 impl<D> Deserialize<List, D> for ArchivedList {

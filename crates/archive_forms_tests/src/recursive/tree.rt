@@ -16,12 +16,13 @@ ghost use Rattle.archive_forms_spelling.proofs.Pointers.{slice_spells_at};
 ghost use Rattle.archive_forms_spelling.proofs.Views.{kept_spells_at, seen_spells_at};
 ghost use Rattle.archive_forms_reading.specs.Parts.{HasValue};
 ghost use Rattle.archive_forms_deserializing.specs.Deserializing.{Deserializes, DeserializesBy};
+ghost use Rattle.archive_forms_deserializing.specs.Reading.{reads_as};
 ghost use Rattle.archive_forms_tests.specs.declared.recursive.tree.Tree.{Tree as TreeDenot, Tree', end_of-Tree, more_of-Tree};
 ghost use Rattle.archive_forms_tests.specs.Recursive.{tree_shape, tree_body, KnowsTree};
 ghost use Rattle.archive_forms_tests.specs.Trees.{trees_in, branches_of, levels_below, most_below, tree_level, no_tree, tree_spelling};
 
 use archive_forms_checking::check_vec_each;
-use archive_forms_deserializing::{Deserialize, deserialize_vec_each};
+use archive_forms_deserializing::{Deserialize, ReadBack, deserialize_vec_each};
 use archive_forms_reading::{ArchivedVec, VecResolver};
 use archive_forms_writing::{Archive, Serialize, serialize_vec_each};
 use archive_shape::{
@@ -188,7 +189,7 @@ fn deserialize_tree<D>(
     deserializer: &mut D,
 ) -> Result<Tree, Error>
     requires { HasValue tree_shape KnowsTree bytes.now pos }
-    ensures { Deserializes tree_spelling tree_shape KnowsTree bytes.now pos result }
+    ensures { Deserializes (reads_as tree_spelling) tree_shape KnowsTree bytes.now pos result }
 {
     let this = Ref::<ArchivedVec<ArchivedTree>> {
         bytes,
@@ -202,7 +203,7 @@ fn deserialize_tree<D>(
         |d: &mut D, p: usize| -> Result<(Tree, PhantomData<ArchivedTree>), Error>
             requires ends { p + 8 ≤ pos }
             requires there { HasValue tree_shape KnowsTree bytes.now p }
-            ensures { DeserializesBy tree_spelling tree_shape KnowsTree bytes.entry.now p (λ q. q.0) result }
+            ensures { DeserializesBy (reads_as tree_spelling) tree_shape KnowsTree bytes.entry.now p (λ q. q.0) result }
         {
             let _ = &pos;
             match deserialize_tree(bytes, p, alloc, d) {
@@ -215,6 +216,10 @@ fn deserialize_tree<D>(
         Ok(branches) => Ok(Tree { branches }),
         Err(e) => Err(e),
     }
+}
+
+impl ReadBack<Tree> for ArchivedTree {
+    ghost reads = { reads_as tree_spelling };
 }
 
 impl<D> Deserialize<Tree, D> for ArchivedTree {

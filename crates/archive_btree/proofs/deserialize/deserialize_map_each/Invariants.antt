@@ -7,7 +7,7 @@ use Rattle.archive_btree.proofs.deserialize.deserialize_map_each.Given as goal
 -- the entries that are left stand at places of the map
 abbrev pub invariant-loop-key : goal.invariant-loop-key
 invariant-loop-key g l = (left : List Place) × (l.entries ≡ map (entry_at l.fn.this.bytes) left)
-    × IsReading g.row.E g.K.Archived.Portable.shape g.V.Archived.Portable.shape g.K.Archive.spelling g.V.Archive.spelling g.A.Portable.shape g.B.Portable.shape g.A.Portable.knows g.B.Portable.knows l.fn.this.bytes.now g.K.Ord.cmp l.fn.this.pos left l.map.entries
+    × IsReading g.row.E g.A.ReadBack.reads g.B.ReadBack.reads g.A.Portable.shape g.B.Portable.shape g.A.Portable.knows g.B.Portable.knows l.fn.this.bytes.now g.K.Ord.cmp l.fn.this.pos left l.map.entries
 
 abbrev pub decreases-loop-key : goal.decreases-loop-key
 decreases-loop-key g l = length l.entries

@@ -27,7 +27,7 @@ deserialize_elements_each-requires-clause-takes g c = λ d pos ends there.
 
 pub returns-in-Ok : goal.returns-in-Ok
 returns-in-Ok g c =
-    let w = g.T.Archive.spelling in
+    let w = g.A.ReadBack.reads in
     let s = g.A.Portable.shape in
     let knows = g.A.Portable.knows in
     let same = ap (λ bytes. bytes.now) c.array_slice.ensures.bytes in
@@ -36,5 +36,5 @@ returns-in-Ok g c =
     let P : List ℕ → Type 0 = λ bytes. AreReadFrom w s knows bytes c.array_slice.result.pos c.in-Ok.all.items in
     let Q : ℕ → Type 0 = λ pos. AreReadFrom w s knows c.args.this.bytes.now pos c.in-Ok.all.items in
     let R : List g.row.T.Denot → Type 0 = λ xs. AreReadFrom w s knows c.args.this.bytes.now c.args.this.pos xs in
-    array_read w s knows c.args.this.bytes.now g.row.N g.T.Archived.Portable.shape c.args.this.pos c.unwrap.result c.array_slice.ensures.elements
+    array_read w s knows c.args.this.bytes.now g.row.N c.args.this.pos c.unwrap.result c.array_slice.ensures.elements
     (ap length items ∙ c.in-Ok.ensures.0 ∙ at.1) (subst R (sym items) (subst Q at.0 (subst P same c.in-Ok.ensures.1)))

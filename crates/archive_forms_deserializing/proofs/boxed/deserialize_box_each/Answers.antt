@@ -12,5 +12,5 @@ returns-in-Err g c =
 pub returns-in-Ok-new : goal.returns-in-Ok-new
 returns-in-Ok-new g c =
     let there = box_has g.A.Portable.shape g.A.Portable.knows c.args.this.bytes.now c.args.this.pos _ c.get.ensures.value c.requires.there in
-    box_read g.T.Archive.spelling g.A.Portable.shape g.A.Portable.knows c.args.this.bytes.now g.T.Archived.Portable.shape c.args.this.pos _ c.in-Ok-new.boxed _ c.in-Ok-new.ensures.ok
+    box_read g.A.ReadBack.reads g.A.Portable.shape g.A.Portable.knows c.args.this.bytes.now c.args.this.pos _ c.in-Ok-new.boxed _ c.in-Ok-new.ensures.ok
     c.get.ensures.value (c.requires.reads _ _ _ _ there c.in-Ok.ensures)

@@ -1,7 +1,7 @@
-use Rattle.std.proofs.Common.{ap, ◌∙◌}
-use Rattle.archive_shape_layout.specs.Value.Value.{group}
-use Rattle.archive_forms_spelling.specs.Regions.{plain_values}
+use Rattle.std.proofs.Common.{sym, subst}
+use Rattle.archive_shape_canonical.specs.Sharing.{erased}
 use Rattle.archive_forms_boxed.proofs.Slices.{as_vector, has_vector}
+use Rattle.archive_forms_deserializing.specs.Reading.{reads_all}
 use Rattle.archive_forms_deserializing.proofs.boxed_slices.deserialize_boxed_slice_each.Goals as goal
 
 pub deserialize_vec_each-requires-clause-there : goal.deserialize_vec_each-requires-clause-there
@@ -10,5 +10,5 @@ deserialize_vec_each-requires-clause-there g c =
 
 pub returns-in-Ok : goal.returns-in-Ok
 returns-in-Ok g c = λ v held.
-    ap (λ xs. group (plain_values g.T.Archive.spelling xs)) c.into_boxed_slice.ensures.items
-    ∙ c.in-Ok.ensures v (as_vector g.A.Portable.shape c.args.this.bytes.now c.args.this.pos g.A.Portable.knows v held)
+    subst (reads_all g.A.ReadBack.reads (erased v)) (sym c.into_boxed_slice.ensures.items)
+    (c.in-Ok.ensures v (as_vector g.A.Portable.shape c.args.this.bytes.now c.args.this.pos g.A.Portable.knows v held))

@@ -7,7 +7,7 @@ use Rattle.archive_forms_deserializing.proofs.elements.deserialize_elements_each
 
 pub loop-index-init : goal.loop-index-init
 loop-index-init g c =
-    let P : List g.row.T.Denot → Type 0 = λ l. AreReadFrom g.T.Archive.spelling g.A.Portable.shape g.A.Portable.knows c.args.items.bytes.now c.args.items.pos l in
+    let P : List g.row.T.Denot → Type 0 = λ l. AreReadFrom g.A.ReadBack.reads g.A.Portable.shape g.A.Portable.knows c.args.items.bytes.now c.args.items.pos l in
     record { count = ap length c.new-all.ensures.items; read = subst P (sym c.new-all.ensures.items) tt }
 
 pub step-requires : goal.step-requires
@@ -22,7 +22,7 @@ returns-in-Err g c =
 
 pub loop-index-preserved : goal.loop-index-preserved
 loop-index-preserved g c =
-    let w = g.T.Archive.spelling in
+    let w = g.A.ReadBack.reads in
     let s = g.A.Portable.shape in
     let knows = g.A.Portable.knows in
     let bytes = c.args.items.bytes.now in

@@ -6,5 +6,5 @@ abbrev pub invariant-loop-index : goal.invariant-loop-index
 invariant-loop-index g l = record {
   count : length l.all.items ≡ l.index;
   -- those that were read are the first elements
-  read : AreReadFrom g.T.Archive.spelling g.A.Portable.shape g.A.Portable.knows l.fn.items.bytes.now l.fn.items.pos l.all.items;
+  read : AreReadFrom g.A.ReadBack.reads g.A.Portable.shape g.A.Portable.knows l.fn.items.bytes.now l.fn.items.pos l.all.items;
 }

@@ -3,7 +3,7 @@ use Rattle.archive_forms_deserializing.proofs.option.deserialize_option_each.Goa
 
 pub returns-in-None : goal.returns-in-None
 returns-in-None g c =
-    none_read g.T.Archive.spelling g.A.Portable.shape g.A.Portable.knows c.args.this.bytes.now g.T.Archived.Portable.shape c.args.this.pos c.in-None.ensures
+    none_read g.A.ReadBack.reads g.A.Portable.shape g.A.Portable.knows c.args.this.bytes.now c.args.this.pos c.in-None.ensures
 
 pub step-requires : goal.step-requires
 step-requires g c =
@@ -13,7 +13,7 @@ step-requires g c =
 pub returns-in-Ok : goal.returns-in-Ok
 returns-in-Ok g c =
     let there = some_has g.A.Portable.shape g.A.Portable.knows c.args.this.bytes.now c.args.this.pos _ c.in-Some.ensures.1 c.in-Some.ensures.2 c.requires.there in
-    some_read g.T.Archive.spelling g.A.Portable.shape g.A.Portable.knows c.args.this.bytes.now g.T.Archived.Portable.shape c.args.this.pos _ _ c.in-Some.ensures.1 c.in-Some.ensures.2
+    some_read g.A.ReadBack.reads g.A.Portable.shape g.A.Portable.knows c.args.this.bytes.now c.args.this.pos _ _ c.in-Some.ensures.1 c.in-Some.ensures.2
     (c.requires.reads _ _ _ _ there c.in-Ok.ensures)
 
 pub returns : goal.returns

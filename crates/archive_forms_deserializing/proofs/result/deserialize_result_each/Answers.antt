@@ -8,7 +8,7 @@ step-requires g c =
 pub returns-in-Ok-step : goal.returns-in-Ok-step
 returns-in-Ok-step g c =
     let there = payload_has _ g.A.Portable.shape _ g.A.Portable.knows c.args.this.bytes.now c.args.this.pos _ _ _ c.in-Ok.ensures.1 c.in-Ok.ensures.2 c.requires.there in
-    ok_read g.T.Archive.spelling g.E.Archive.spelling g.T.Archived.Portable.shape g.E.Archived.Portable.shape g.A.Portable.shape g.B.Portable.shape g.A.Portable.knows g.B.Portable.knows c.args.this.bytes.now c.args.this.pos _ _ c.in-Ok.ensures.1 c.in-Ok.ensures.2
+    ok_read g.A.ReadBack.reads g.B.ReadBack.reads g.A.Portable.shape g.B.Portable.shape g.A.Portable.knows g.B.Portable.knows c.args.this.bytes.now c.args.this.pos _ _ c.in-Ok.ensures.1 c.in-Ok.ensures.2
     (c.requires.reads _ _ _ _ there c.in-Ok-step.ensures)
 
 pub returns-in-Ok : goal.returns-in-Ok
@@ -23,7 +23,7 @@ step_of_error-requires g c =
 pub returns-in-Ok-step_of_error : goal.returns-in-Ok-step_of_error
 returns-in-Ok-step_of_error g c =
     let there = payload_has _ g.B.Portable.shape _ g.B.Portable.knows c.args.this.bytes.now c.args.this.pos _ _ _ c.in-Err.ensures.1 c.in-Err.ensures.2 c.requires.there in
-    err_read g.T.Archive.spelling g.E.Archive.spelling g.T.Archived.Portable.shape g.E.Archived.Portable.shape g.A.Portable.shape g.B.Portable.shape g.A.Portable.knows g.B.Portable.knows c.args.this.bytes.now c.args.this.pos _ _ c.in-Err.ensures.1 c.in-Err.ensures.2
+    err_read g.A.ReadBack.reads g.B.ReadBack.reads g.A.Portable.shape g.B.Portable.shape g.A.Portable.knows g.B.Portable.knows c.args.this.bytes.now c.args.this.pos _ _ c.in-Err.ensures.1 c.in-Err.ensures.2
     (c.requires.reads_errors _ _ _ _ there c.in-Ok-step_of_error.ensures)
 
 pub returns : goal.returns

@@ -21,5 +21,5 @@ returns g c =
     let bytes = c.args.this.bytes.now in
     let all = tuple_has (field g.A.Portable.shape g.A.Portable.knows ∷ []) _ bytes c.args.this.pos c.first.ensures.value c.requires.there in
     tuple_read (field g.A.Portable.shape g.A.Portable.knows ∷ []) _ bytes c.args.this.pos _ c.first.ensures.value
-    (field_read g.T.Archive.spelling (field g.A.Portable.shape g.A.Portable.knows) bytes _ _ _ _ _ c.first.ensures.pos (c.requires.reads_first _ _ _ _ (field_has (field g.A.Portable.shape g.A.Portable.knows) bytes _ _ _ _ c.first.ensures.pos all.each) c.in-Ok.ensures)
+    (field_read g.A.ReadBack.reads (field g.A.Portable.shape g.A.Portable.knows) bytes _ _ _ _ _ c.first.ensures.pos (c.requires.reads_first _ _ _ _ (field_has (field g.A.Portable.shape g.A.Portable.knows) bytes _ _ _ _ c.first.ensures.pos all.each) c.in-Ok.ensures)
     none_read)

@@ -57,8 +57,8 @@ returns g c =
     let bytes = c.args.this.bytes.now in
     let all = tuple_has (field g.A.Portable.shape g.A.Portable.knows ∷ field g.B.Portable.shape g.B.Portable.knows ∷ field g.C.Portable.shape g.C.Portable.knows ∷ field g.D.Portable.shape g.D.Portable.knows ∷ []) _ bytes c.args.this.pos c.first.ensures.value c.requires.there in
     tuple_read (field g.A.Portable.shape g.A.Portable.knows ∷ field g.B.Portable.shape g.B.Portable.knows ∷ field g.C.Portable.shape g.C.Portable.knows ∷ field g.D.Portable.shape g.D.Portable.knows ∷ []) _ bytes c.args.this.pos _ c.first.ensures.value
-    (field_read g.T.Archive.spelling (field g.A.Portable.shape g.A.Portable.knows) bytes _ _ _ _ _ c.first.ensures.pos (c.requires.reads_first _ _ _ _ (field_has (field g.A.Portable.shape g.A.Portable.knows) bytes _ _ _ _ c.first.ensures.pos all.each) c.in-Ok.ensures)
-    (field_read g.U.Archive.spelling (field g.B.Portable.shape g.B.Portable.knows) bytes _ _ _ _ _ c.second.ensures.pos (c.requires.reads_second _ _ _ _ (field_has (field g.B.Portable.shape g.B.Portable.knows) bytes _ _ _ _ c.second.ensures.pos all.each.rest) c.in-Ok-read_second.ensures)
-    (field_read g.V.Archive.spelling (field g.C.Portable.shape g.C.Portable.knows) bytes _ _ _ _ _ c.third.ensures.pos (c.requires.reads_third _ _ _ _ (field_has (field g.C.Portable.shape g.C.Portable.knows) bytes _ _ _ _ c.third.ensures.pos all.each.rest.rest) c.in-Ok-read_third.ensures)
-    (field_read g.W.Archive.spelling (field g.D.Portable.shape g.D.Portable.knows) bytes _ _ _ _ _ c.fourth.ensures.pos (c.requires.reads_fourth _ _ _ _ (field_has (field g.D.Portable.shape g.D.Portable.knows) bytes _ _ _ _ c.fourth.ensures.pos all.each.rest.rest.rest) c.in-Ok-read_fourth.ensures)
+    (field_read g.A.ReadBack.reads (field g.A.Portable.shape g.A.Portable.knows) bytes _ _ _ _ _ c.first.ensures.pos (c.requires.reads_first _ _ _ _ (field_has (field g.A.Portable.shape g.A.Portable.knows) bytes _ _ _ _ c.first.ensures.pos all.each) c.in-Ok.ensures)
+    (field_read g.B.ReadBack.reads (field g.B.Portable.shape g.B.Portable.knows) bytes _ _ _ _ _ c.second.ensures.pos (c.requires.reads_second _ _ _ _ (field_has (field g.B.Portable.shape g.B.Portable.knows) bytes _ _ _ _ c.second.ensures.pos all.each.rest) c.in-Ok-read_second.ensures)
+    (field_read g.C.ReadBack.reads (field g.C.Portable.shape g.C.Portable.knows) bytes _ _ _ _ _ c.third.ensures.pos (c.requires.reads_third _ _ _ _ (field_has (field g.C.Portable.shape g.C.Portable.knows) bytes _ _ _ _ c.third.ensures.pos all.each.rest.rest) c.in-Ok-read_third.ensures)
+    (field_read g.D.ReadBack.reads (field g.D.Portable.shape g.D.Portable.knows) bytes _ _ _ _ _ c.fourth.ensures.pos (c.requires.reads_fourth _ _ _ _ (field_has (field g.D.Portable.shape g.D.Portable.knows) bytes _ _ _ _ c.fourth.ensures.pos all.each.rest.rest.rest) c.in-Ok-read_fourth.ensures)
     none_read))))

@@ -20,5 +20,5 @@ deserialize_elements_each-requires-clause-takes g c = λ d pos ends there.
 pub returns : goal.returns
 returns g c =
     let same = ap (λ bytes. bytes.now) c.as_slice.ensures.bytes in
-    let P : List ℕ → Type 0 = λ bytes. DeserializesAll g.T.Archive.spelling g.A.Portable.shape g.A.Portable.knows bytes c.as_slice.result.pos c.as_slice.result.len (λ all. all.items) c.deserialize_elements_each.result in
-    vec_read g.T.Archive.spelling g.A.Portable.shape g.A.Portable.knows c.args.this.bytes.now g.T.Archived.Portable.shape c.args.this.pos _ _ _ c.as_slice.ensures.elements (subst P same c.deserialize_elements_each.ensures)
+    let P : List ℕ → Type 0 = λ bytes. DeserializesAll g.A.ReadBack.reads g.A.Portable.shape g.A.Portable.knows bytes c.as_slice.result.pos c.as_slice.result.len (λ all. all.items) c.deserialize_elements_each.result in
+    vec_read g.A.ReadBack.reads g.A.Portable.shape g.A.Portable.knows c.args.this.bytes.now c.args.this.pos _ _ _ c.as_slice.ensures.elements (subst P same c.deserialize_elements_each.ensures)

@@ -10,7 +10,7 @@ use Rattle.cabinet_text_grammar.specs.Tree as tree
 use Rattle.cabinet_documents.specs.Node.{node_shape, KnowsNode}
 use Rattle.cabinet_text_nodes.specs.declared.node.Node.TheVariants as node
 use Rattle.cabinet_text_nodes.proofs.Views.{node_tree-bool, node_tree-int, node_tree-text}
-use Rattle.cabinet_text_nodes.proofs.ReadBack.{plain_as, maybe_plain, list_plain, payload_read}
+use Rattle.cabinet_text_nodes.proofs.ReadBack.{plain_as, maybe_as, maybe_plain, list_as, list_plain, payload_read}
 use Rattle.cabinet_text_nodes.proofs.reading_back.+read.Goals as goal
 
 pub deserialize_node-returns-in-Bool : goal.deserialize_node-returns-in-Bool
@@ -36,9 +36,11 @@ deserialize_node-returns-in-Ok g t c =
 pub deserialize_node-returns-in-Ok-deserialize_maybe : goal.deserialize_node-returns-in-Ok-deserialize_maybe
 deserialize_node-returns-in-Ok-deserialize_maybe g t c =
     payload_read c.args.node.bytes c.in-Maybe.maybe.bytes c.args.node.pos 4 (option (box (sized node_shape))) KnowsNode _ c.in-Maybe.ensures.0 c.in-Maybe.ensures.2
-    (node.Maybe c.in-Ok-deserialize_maybe.content) _ (maybe_plain c.in-Ok-deserialize_maybe.content) c.in-Ok-deserialize_maybe.ensures
+    (node.Maybe c.in-Ok-deserialize_maybe.content) _ (maybe_plain c.in-Ok-deserialize_maybe.content)
+    (λ w h. maybe_as (erased w) c.in-Ok-deserialize_maybe.content (c.in-Ok-deserialize_maybe.ensures w h))
 
 pub deserialize_node-returns-in-Ok-deserialize_list : goal.deserialize_node-returns-in-Ok-deserialize_list
 deserialize_node-returns-in-Ok-deserialize_list g t c =
     payload_read c.args.node.bytes c.in-List.list.bytes c.args.node.pos 5 (vector node_shape) KnowsNode _ c.in-List.ensures.0 c.in-List.ensures.2
-    (node.List c.in-Ok-deserialize_list.nodes) _ (list_plain c.in-Ok-deserialize_list.nodes) c.in-Ok-deserialize_list.ensures
+    (node.List c.in-Ok-deserialize_list.nodes) _ (list_plain c.in-Ok-deserialize_list.nodes)
+    (λ w h. list_as (erased w) c.in-Ok-deserialize_list.nodes (c.in-Ok-deserialize_list.ensures w h))
