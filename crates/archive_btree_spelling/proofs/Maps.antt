@@ -180,7 +180,7 @@ module _ {A B R Q : Type 0} (fit : Fit) (most : ℕ) (k v : Shape) (knows : Name
         (nothing_read fit most k v names bytes level inside st pos there.0 there.1);
     consistent = λ st c f. consistent_behind st c;
     keyed = λ given st n known f. (refl, known);
-    piece_bytes = λ st f. tt;
+    piece_bytes = λ st f i. omega arith;
     own_bytes = λ r pos f. bytes_append (link_bytes r pos) (to_le_bytes w32 0) (link_small r pos) (bytes_word 0);
     piece_exact = λ st e f g. absurd g;
     own_exact = λ r pos e f g. refused r pos e f g;
@@ -188,7 +188,7 @@ module _ {A B R Q : Type 0} (fit : Fit) (most : ℕ) (k v : Shape) (knows : Name
     where
       -- where nothing is written the state stays
       consistent_behind : (st : State) → IsConsistent st → IsConsistent (state_after (btree_spelling most k v keys vals) [] st)
-      consistent_behind st c = subst IsConsistent (ap (λ n. record { pos = n; met = st.met }) (sym (add-zero st.pos))) c
+      consistent_behind st c = subst IsConsistent (ap (λ n. record { pos = n; met = st.met; begun = st.begun }) (sym (add-zero st.pos))) c
 
       refused : (r : Option ℕ) (pos : ℕ) (e : Error) → (btree_spelling most k v keys vals).own_fits [] r pos → (btree_spelling most k v keys vals).own_refused [] r pos e → ⊥
       refused r pos e f (inl g) = link_exact r pos e f.0 g

@@ -1,6 +1,6 @@
 -- Which values archived ones are read back as, each a relation between a value of the layout, without its counts, and an owned
 -- value.
-use Rattle.std.specs.Prelude.{◌≡◌, List, [], ◌∷◌, Option, Some, None, Result, Ok, Err, ⊤, ⊥}
+use Rattle.std.specs.Prelude.{◌≡◌, List, [], ◌∷◌, Option, Some, None, Result, Ok, Err, ⊤}
 use Rattle.archive_shape_layout.specs.Value.{Value, Values}
 use Rattle.archive_shape_layout.specs.Value.Value.{chosen, group}
 use Rattle.archive_shape_layout.specs.Value.Values.{no_values, more_values}

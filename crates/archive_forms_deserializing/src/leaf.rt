@@ -9,7 +9,7 @@ use std::alloc::Global;
 use std::num::{NonZeroI8, NonZeroU8};
 
 impl<N: Native + Leaf<Archived = LittleEndian<N>>> ReadBack<N> for LittleEndian<N> {
-    ghost reads = { reads_as N.spelling };
+    ghost reads = { reads_as ⟦<N as Archive>⟧.spelling };
 }
 
 impl<N: Native + Leaf<Archived = LittleEndian<N>>, D> Deserialize<N, D> for LittleEndian<N> {
