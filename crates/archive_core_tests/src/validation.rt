@@ -1,4 +1,6 @@
 //! Tests of validators.
+mod shared;
+
 use archive_core_validation::{
     ArchiveContext, ArchiveContextExt, ArchiveValidator, HighValidator, PushedRange, Validator,
 };

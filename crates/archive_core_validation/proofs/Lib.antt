@@ -1,1 +1,2 @@
 mod Claiming
+mod Changed

@@ -1,10 +1,12 @@
 //! A validator of archives made of one of ranges and one of shared positions.
-ghost use Rattle.std.specs.Prelude.{◌≡◌};
-ghost use Rattle.archive_shape_checking.specs.Kept.{Seen};
+ghost use Rattle.std.specs.Prelude.{◌≡◌, ◌≢◌, MatchResult};
+ghost use Rattle.archive_shape_layout.specs.RuntimeShape.{pointee_of};
+ghost use Rattle.archive_shape_checking.specs.Kept.{Kept, Seen, StartsShared, RefusesShared, FinishesShared};
 ghost use Rattle.archive_core_validation.specs.Depth.{none_seen, with_seen};
 
 use crate::ArchiveValidator;
-use archive_shape_checking::{ArchiveContext, PushedRange};
+use archive_shape_checking::{ArchiveContext, PushedRange, SharedContext, ValidationState};
+use archive_shape_layout::Pointee;
 use archive_shape_writing::Error;
 
 /// What keeps the shared positions that were met.
@@ -14,6 +16,25 @@ pub trait Visited {
 
 impl Visited for () {
     ghost seen = { λ _. none_seen };
+}
+
+/// What also starts and ends the checks of shared positions, as a `SharedContext` does, whatever else that keeps. After a refusal
+/// it is not used again.
+pub trait Visits: Visited {
+    /// Returns what is known of a shared position with n elements, and starts its check at its first visit.
+    fn start_shared(
+        &mut self,
+        pos: usize,
+        len: usize,
+        pointee: Pointee,
+    ) -> Result<ValidationState, Error>
+        ensures { (k : Kept) → MatchResult result
+            (StartsShared (with_seen k (Self.seen self.old)) pos (pointee_of pointee) len (with_seen k (Self.seen self.new)))
+            (λ e. e ≢ Error.OutOfMemory → RefusesShared (with_seen k (Self.seen self.old)) pos (pointee_of pointee) len e) };
+
+    /// Ends the check of a shared position. It takes no memory.
+    fn finish_shared(&mut self, pos: usize) -> Result<(), Error>
+        ensures { (k : Kept) → FinishesShared (with_seen k (Self.seen self.old)) pos (with_seen k (Self.seen self.new)) result (Self.seen self.old pos) };
 }
 
 /// A context of checks: the range is that of `archive`, and the shared positions are those of `shared`.
@@ -48,5 +69,20 @@ impl<A: ArchiveContext, S: Visited> ArchiveContext for Validator<A, S> {
 
     fn pop_subtree_range(&mut self, range: PushedRange) -> Result<(), Error> {
         self.archive.pop_subtree_range(range)
+    }
+}
+
+impl<A: ArchiveContext, S: Visits> SharedContext for Validator<A, S> {
+    fn start_shared(
+        &mut self,
+        pos: usize,
+        len: usize,
+        pointee: Pointee,
+    ) -> Result<ValidationState, Error> {
+        self.shared.start_shared(pos, len, pointee)
+    }
+
+    fn finish_shared(&mut self, pos: usize) -> Result<(), Error> {
+        self.shared.finish_shared(pos)
     }
 }

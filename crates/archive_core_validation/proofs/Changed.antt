@@ -1,0 +1,56 @@
+-- What a table has met after a change at one position, and that this is what visits do there.
+use Rattle.std.proofs.Common.{◌≡◌, ◌≢◌, ℕ, Some, None, Result, Ok, Err, MatchResult, true, false, refl, sym, ap, subst, ⊎_elim, arith}
+use Rattle.std.proofs.Math.Path.{fun_ext}
+use Rattle.std.proofs.lemmas.Grind.{common_steps}
+use Rattle.std.proofs.lemmas.Bool.{cases_eq, eq-eqb, ne_eqb}
+use Rattle.std.specs.Option.{option_map}
+use Rattle.std.specs.Ordering.{nat_cmp}
+use Rattle.std.specs.BTreeMap.{BTreeMap, get, Updates, IsUnchanged}
+use Rattle.archive_shape_layout.specs.Shape.{Pointee}
+use Rattle.archive_shape_checking.specs.Kept.{Kept, seen_with, with_entry, StartsShared, RefusesShared, FinishesShared}
+use Rattle.archive_shape_checking.specs.declared.context.ValidationState.{ValidationState}
+use Rattle.archive_shape_writing.specs.declared.error.Error.{Error}
+use Rattle.archive_shape_writing.specs.declared.error.Error.TheVariants.{OutOfMemory}
+use Rattle.archive_core_validation.specs.declared.shared_validator.SharedEntry.{SharedEntry}
+use Rattle.archive_core_validation.specs.Depth.{with_seen}
+use Rattle.archive_core_validation.specs.Visits.{as_entry, seen_in}
+
+module _ (m n : BTreeMap ℕ SharedEntry) where
+  seen_unchanged : IsUnchanged m n → seen_in n ≡ seen_in m
+  unfolding seen_in
+  seen_unchanged e = fun_ext λ pos. rw e refl
+
+  module _ (pos : ℕ) (x : SharedEntry) (u : Updates nat_cmp m n pos (Some x)) where
+    updated_at : (other : ℕ) → seen_in n other ≡ seen_with (seen_in m) pos (as_entry x) other
+    unfolding seen_in seen_with
+    updated_at other =
+        ⊎_elim
+        (λ (e : other ≡ pos). rw (eq-eqb other pos e) (grind (arith, common_steps, u.0 other, u.1)))
+        (λ (apart : other ≡ pos → ⊥). rw (ne_eqb other pos apart) (grind (arith, common_steps, u.0 other)))
+        (cases_eq other pos)
+
+    seen_updated : (k : Kept) → with_seen k (seen_in n) ≡ with_entry (with_seen k (seen_in m)) pos (as_entry x)
+    seen_updated k = ap (with_seen k) (fun_ext λ other. updated_at other)
+
+  module _ (k : Kept) (pos : ℕ) (x : SharedEntry) where
+    -- a position is met that was not met before
+    pub starts : get nat_cmp m pos ≡ None → Updates nat_cmp m n pos (Some x) → (seen_in m pos ≡ None) × (with_seen k (seen_in n) ≡ with_entry (with_seen k (seen_in m)) pos (as_entry x))
+    unfolding seen_in
+    starts none u = (ap (option_map as_entry) none, seen_updated pos x u k)
+
+    -- a position is met again, and the table keeps what it had
+    pub starts_again :
+        (p : Pointee) (len : ℕ) (result : Result ValidationState Error)
+        → IsUnchanged m n
+        → get nat_cmp m pos ≡ Some x
+        → ((l : Kept) (at : ℕ) → l.seen at ≡ Some (as_entry x) → MatchResult result (StartsShared l at p len l) (RefusesShared l at p len))
+        → MatchResult result (StartsShared (with_seen k (seen_in m)) pos p len (with_seen k (seen_in n))) (λ e. e ≢ OutOfMemory → RefusesShared (with_seen k (seen_in m)) pos p len e)
+    unfolding seen_in
+    starts_again p len (Ok state) same met again =
+        subst (λ seen. StartsShared (with_seen k (seen_in m)) pos p len (with_seen k seen) state) (sym (seen_unchanged same)) (again (with_seen k (seen_in m)) pos (ap (option_map as_entry) met))
+    starts_again p len (Err e) same met again = λ other. again (with_seen k (seen_in m)) pos (ap (option_map as_entry) met)
+
+    -- its check ends
+    pub finishes : get nat_cmp m pos ≡ Some x → x.done ≡ false → Updates nat_cmp m n pos (Some (record { pointee = x.pointee; len = x.len; done = true })) → FinishesShared (with_seen k (seen_in m)) pos (with_seen k (seen_in n)) (Ok tt) (seen_in m pos)
+    unfolding seen_in
+    finishes met ongoing u = rw (met, ongoing) (refl, seen_updated pos (record { pointee = x.pointee; len = x.len; done = true }) u k)

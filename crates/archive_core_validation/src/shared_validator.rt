@@ -1,0 +1,117 @@
+//! What keeps the shared positions that were met.
+ghost use Rattle.std.specs.Prelude.{◌≡◌, ◌↔◌, ℕ, IsTrue, MatchResult, Some};
+ghost use Rattle.archive_shape_layout.specs.RuntimeShape.{pointee_of};
+ghost use Rattle.archive_shape_checking.specs.Kept.{Kept, StartsShared, RefusesShared};
+ghost use Rattle.archive_core_validation.specs.Depth.{none_seen};
+ghost use Rattle.archive_core_validation.specs.Visits.{as_entry, seen_in};
+
+use crate::{Visited, Visits};
+use archive_shape_checking::ValidationState;
+use archive_shape_layout::{Pointee, same_shape};
+use archive_shape_writing::Error;
+use std::alloc::Global;
+use std::collections::BTreeMap;
+use std::collections::btree_map::Entry;
+
+/// What a shared position was met as, and whether its check has ended.
+#[derive(Drop)]
+struct SharedEntry {
+    pointee: Pointee,
+    len: usize,
+    done: bool,
+}
+
+/// Keeps the shared positions that were met. Its memory grows with their number, and each is found in a time that grows with the
+/// logarithm of their number, whatever the positions are.
+#[derive(Drop)]
+pub struct SharedValidator {
+    met: BTreeMap<usize, SharedEntry>,
+}
+
+fn same_pointee(first: &Pointee, second: &Pointee) -> bool
+    ensures { IsTrue result ↔ (pointee_of first.now ≡ pointee_of second.now) }
+{
+    match (first, second) {
+        (Pointee::Sized(a), Pointee::Sized(b)) => same_shape(a, b),
+        (Pointee::Slice(a), Pointee::Slice(b)) => same_shape(a, b),
+        (Pointee::Text, Pointee::Text) => true,
+        _ => false,
+    }
+}
+
+impl SharedEntry {
+    /// What is known of the position where it is met again.
+    fn met_again(&self, len: usize, pointee: &Pointee) -> Result<ValidationState, Error>
+        ensures { (k : Kept) (pos : ℕ) → k.seen pos ≡ Some (as_entry self.now)
+            → MatchResult result (StartsShared k pos (pointee_of pointee.now) len k) (RefusesShared k pos (pointee_of pointee.now) len) }
+    {
+        if !same_pointee(&self.pointee, pointee) {
+            return Err(Error::TypeMismatch);
+        }
+        if self.len != len {
+            return Err(Error::MetadataMismatch);
+        }
+        if self.done {
+            Ok(ValidationState::Finished)
+        } else {
+            Ok(ValidationState::Pending)
+        }
+    }
+}
+
+impl SharedValidator {
+    /// One that has met no position. It takes no memory.
+    #[tactic(auto, unfolding(crate::specs::Visits::seen_in))]
+    pub fn new(alloc: Global) -> Self
+        ensures { (pos : ℕ) → ⟦<SharedValidator as Visited>⟧.seen result pos ≡ none_seen pos }
+    {
+        SharedValidator {
+            met: BTreeMap::new(alloc),
+        }
+    }
+
+    /// The same, for any capacity: nothing is reserved, since a search tree takes memory as it grows.
+    pub fn with_capacity(alloc: Global, _capacity: usize) -> Result<Self, Error>
+        ensures { MatchResult result
+            (λ v. (pos : ℕ) → ⟦<SharedValidator as Visited>⟧.seen v pos ≡ none_seen pos)
+            (λ e. e ≡ Error.OutOfMemory) }
+    {
+        Ok(SharedValidator::new(alloc))
+    }
+}
+
+impl Visited for SharedValidator {
+    ghost seen = { λ v. seen_in v.met };
+}
+
+impl Visits for SharedValidator {
+    fn start_shared(
+        &mut self,
+        pos: usize,
+        len: usize,
+        pointee: Pointee,
+    ) -> Result<ValidationState, Error> {
+        match self.met.entry(pos)? {
+            Entry::Vacant(entry) => {
+                entry.insert(SharedEntry {
+                    pointee,
+                    len,
+                    done: false,
+                });
+                Ok(ValidationState::Started)
+            }
+            Entry::Occupied(entry) => entry.get().met_again(len, &pointee),
+        }
+    }
+
+    fn finish_shared(&mut self, pos: usize) -> Result<(), Error> {
+        let Some(entry) = self.met.get_mut(&pos) else {
+            return Err(Error::NotStarted);
+        };
+        if entry.done {
+            return Err(Error::AlreadyFinished);
+        }
+        entry.done = true;
+        Ok(())
+    }
+}
