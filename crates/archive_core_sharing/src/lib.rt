@@ -1,0 +1,10 @@
+//! What keeps shared values: where each was written, and what was made of each that was read.
+#![tactic(auto)]
+
+mod exact;
+mod pool;
+mod share;
+
+pub use exact::{ExactClone, RcValue};
+pub use pool::Pool;
+pub use share::Share;
