@@ -35,3 +35,8 @@ by_order Greater less same more other e = e
 pub inserted_key : {A : Type 0} (cmp : A → A → Ordering) (ks : List A) (k : A) → key_entries (insert_key cmp ks k) ≡ insert_entry cmp (key_entries ks) k (tt {0})
 inserted_key cmp [] k = refl
 inserted_key cmp (x ∷ xs) k = by_order (cmp k x) (k ∷ x ∷ xs) (x ∷ xs) (x ∷ insert_key cmp xs k) _ (ap (λ es. (x, tt {0}) ∷ es) (inserted_key cmp xs k))
+
+-- keys that have no entries are none
+pub no_keys : {A : Type 0} (ks : List A) → key_entries ks ≡ [] → ks ≡ []
+no_keys [] e = refl
+no_keys (k ∷ ks) e = absurd (cc)

@@ -120,9 +120,11 @@ module _ {A B : Type 0} (most : ℕ) (keys : Value → A → Type 0) (vals : Val
   each_read (p ∷ ps) (x ∷ xs) (more_values w ws) f g =
       let key = erased g.0.key in
       let value = erased g.0.value in
-      let pair : reads_tuple2 keys vals (erased w) x =
-      (more_values key (more_values value no_values), sym (ap erased g.0.is),
-      (key, more_values value no_values, refl, f.0.0 g.0.key g.0.key_held, (value, no_values, refl, f.0.1 g.0.value g.0.value_held, refl))) in
+      let pair : reads_tuple2 keys vals (erased w) x = (
+        more_values key (more_values value no_values),
+        sym (ap erased g.0.is),
+        (key, more_values value no_values, refl, f.0.0 g.0.key g.0.key_held, (value, no_values, refl, f.0.1 g.0.value g.0.value_held, refl)),
+      ) in
       (pair, each_read ps xs ws f.1 g.1)
 
   -- pairs that are those at the places of a map are its value

@@ -9,14 +9,14 @@ use Rattle.archive_btree_layout.specs.Tree.{Tree, Branches, items, items_of}
 use Rattle.archive_btree_walking.specs.Maps.{IsMapAt}
 use Rattle.archive_btree_walking.specs.Maps.IsMapAt.{has_none, has_root}
 
-none_placed : (n key : ℕ) (k : Shape) (value : ℕ) (v : Shape) → n ≡ 0 → places n key k value v ≡ []
-none_placed zero key k value v e = refl
-none_placed (suc n) key k value v e = absurd (omega (arith, e))
+none_placed : (n : ℕ) (k : Shape) (key : ℕ) (v : Shape) (value : ℕ) → n ≡ 0 → places n k key v value ≡ []
+none_placed zero k key v value e = refl
+none_placed (suc n) k key v value e = absurd (omega (arith, e))
 
 module _ (bytes : List ℕ) (most : ℕ) (k v : Shape) (none : most ≡ 0) where
   mutual
     node_without : {level pos : ℕ} {t : Tree Place} → HasNode bytes most k v level pos t → items t ≡ []
-    node_without (has_leaf {len = len} a b c d e f) = ap items f ∙ none_placed len _ k _ v (omega (arith, e, none))
+    node_without (has_leaf {len = len} a b c d e f) = ap items f ∙ none_placed len k _ v _ (omega (arith, e, none))
     node_without (has_inner a b c d e) = ap items e ∙ branches_without d none
 
     branches_without : {n level link key value : ℕ} {bs : Branches Place} → HasBranches bytes most k v n level link key value bs → n ≡ 0 → items_of bs ≡ []

@@ -90,9 +90,10 @@ module _ (fit : Fit) (most : ℕ) (k v : Shape) (names : Names) (bytes : List �
   nothing_there : (n : ℕ) → n ≡ 0 → HasBytes bytes pos (link_bytes None pos ++ to_le_bytes w32 n) → (word_at (window bytes pos 8) 4 ≡ 0) × (word_at (window bytes pos 8) 0 ≡ 1)
   nothing_there n none b =
       let low : HasBytes bytes pos (to_le_bytes w32 1) = stands_left bytes pos (to_le_bytes w32 1) (to_le_bytes w32 n) b in
-      let high : HasBytes bytes (pos + 4) (to_le_bytes w32 n) = stands_right bytes pos (to_le_bytes w32 1) (to_le_bytes w32 n) (pos + 4) refl b in
-      (word_within bytes pos 8 4 (omega arith) ∙ stands_word bytes (pos + 4) n (omega (arith, none)) high ∙ none,
-      word_within bytes pos 8 0 (omega arith) ∙ ap (word_at bytes) (add-zero pos) ∙ stands_word bytes pos 1 (omega arith) low)
+      let high : HasBytes bytes (pos + 4) (to_le_bytes w32 n) = stands_right bytes pos (to_le_bytes w32 1) (to_le_bytes w32 n) (pos + 4) refl b in (
+        word_within bytes pos 8 4 (omega arith) ∙ stands_word bytes (pos + 4) n (omega (arith, none)) high ∙ none,
+        word_within bytes pos 8 0 (omega arith) ∙ ap (word_at bytes) (add-zero pos) ∙ stands_word bytes pos 1 (omega arith) low,
+      )
 
 module _ {A B R Q : Type 0} (fit : Fit) (most : ℕ) (k v : Shape) (knows : Names → Type 0) (keys : Spelling A R) (vals : Spelling B Q) (some : 0 < most) where
   module _ (xs : List (A × B)) (each : EachEntrySpells fit most k v knows keys vals xs) where

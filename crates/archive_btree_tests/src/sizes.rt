@@ -2,9 +2,7 @@
 
 use crate::archives::root_of;
 use crate::writing::archive_of;
-use archive_btree::{
-    ArchivedBTreeMap, ArchivedBTreeSet, OwnedBTreeMap, OwnedBTreeSet,
-};
+use archive_btree::{ArchivedBTreeMap, ArchivedBTreeSet, OwnedBTreeMap, OwnedBTreeSet};
 use archive_forms_deserializing::Deserialize;
 use archive_forms_reading::native_of;
 use archive_forms_text::ArchivedString;

@@ -6,8 +6,8 @@ use crate::archives::{EMPTY, ONE_PAIR, SIX_PAIRS, bytes_of, root_of};
 use crate::sets::{FOUR, NONE, SIX};
 use archive_btree::{
     ArchivedBTreeMap, ArchivedBTreeSet, BTreeMapResolver, BTreeSetResolver, EntryParts,
-    OwnedBTreeMap, OwnedBTreeSet, serialize_from_ordered_iter,
-    serialize_map_each, serialize_set_from_ordered_iter,
+    OwnedBTreeMap, OwnedBTreeSet, serialize_from_ordered_iter, serialize_map_each,
+    serialize_set_from_ordered_iter,
 };
 use archive_core_serializing::{HighSerializer, Serializer};
 use archive_forms_deserializing::Deserialize;

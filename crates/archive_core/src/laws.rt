@@ -4,13 +4,13 @@ ghost use Rattle.archive_core.specs.Laws.{WrittenIsAccepted, ReadBackIsWritten};
 
 pub use archive_core_access::unlimited_is_no_limit;
 pub use archive_core_nesting::laws::nesting_is_bounded;
-use archive_forms::{Archive, ReadBack};
 pub use archive_forms::laws::{
     equal_values_are_hashed_alike, equalities_are_equivalences, forms_are_faithful, held_is_text,
     keyed_lists_are_written, leaf_spells, one_present_is_written, one_text,
     optional_lists_are_written, orders_agree, orders_are_total, out_of_line_capacity,
     pairs_are_written, texts_are_written, two_shared_is_written, written_once,
 };
+use archive_forms::{Archive, ReadBack};
 pub use archive_shape::laws::{
     accepted_is_answered, alignments_are_small_powers, ascent_is_apart, ascent_splits,
     deep_child_is_refused, edit_of_leaf, edit_of_text, extent_is_claimed, fault_refuses, frame,

@@ -125,10 +125,17 @@ module _ {A B : Type 0} (keys : Value → A → Type 0) (vals : Value → B → 
   entry_read p x w h f g =
       let parts = fields_at (field s knows ∷ field t others ∷ []) (both knows others) (λ names known. (known.0, (known.1, tt))) bytes p w h in
       let key = parts.each in
-      let value = parts.each.rest in
-      (all_erased parts.values, sym (ap erased parts.is),
-      (erased key.first, all_erased key.others, sym (ap all_erased key.is), f key.first key.held,
-      (erased value.first, all_erased value.others, sym (ap all_erased value.is), g value.first value.held, sym (ap all_erased value.rest))))
+      let value = parts.each.rest in (
+        all_erased parts.values,
+        sym (ap erased parts.is),
+        (
+          erased key.first,
+          all_erased key.others,
+          sym (ap all_erased key.is),
+          f key.first key.held,
+          (erased value.first, all_erased value.others, sym (ap all_erased value.is), g value.first value.held, sym (ap all_erased value.rest)),
+        ),
+      )
 
   each_read : (ps : List ℕ) (xs : List (A × B)) (ws : Values) → AreReadAt ps xs → AreItemsAt (tuple2 s t) (both knows others) bytes ps ws → reads_each (reads_tuple2 keys vals) (all_erased ws) xs
   each_read [] [] no_values f g = tt

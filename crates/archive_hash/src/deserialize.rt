@@ -89,8 +89,7 @@ impl<
     D,
     A: Deserialize<K, D>,
     B: Deserialize<V, D>,
-> Deserialize<OwnedHashMap<K, V>, D> for ArchivedHashMap<A, B, H>
-{
+> Deserialize<OwnedHashMap<K, V>, D> for ArchivedHashMap<A, B, H> {
     fn deserialize(
         this: &Ref<'_, ArchivedHashMap<A, B, H>>,
         alloc: Global,

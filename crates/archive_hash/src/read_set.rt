@@ -67,8 +67,7 @@ impl<K: Eq + Hash, A: ReadBack<K>, H> ReadBack<OwnedHashSet<K>> for ArchivedHash
 }
 
 impl<K: Archive + Eq + Hash + Drop, H, D, A: Deserialize<K, D>> Deserialize<OwnedHashSet<K>, D>
-    for ArchivedHashSet<A, H>
-{
+    for ArchivedHashSet<A, H> {
     fn deserialize(
         this: &Ref<'_, ArchivedHashSet<A, H>>,
         alloc: Global,

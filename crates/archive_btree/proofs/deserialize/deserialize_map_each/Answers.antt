@@ -1,7 +1,7 @@
 use Rattle.std.proofs.Common.{rules, ◌≡◌, ◌∙◌, [], map, sym, ap}
 use Rattle.std.specs.BTreeMap.{insert_entry}
 use Rattle.archive_btree_walking.specs.Refs.{entry_at}
-use Rattle.archive_btree.proofs.ReadBack.{next_place, none_left, next_has, reading_begun, entry_read, reading_ended}
+use Rattle.archive_btree.proofs.ReadBack.{next_place, none_left, next_has, reading_begun, entry_read, reading_ended, reading_some}
 use Rattle.archive_btree.proofs.deserialize.deserialize_map_each.Goals as goal
 
 pub loop-key-init : goal.loop-key-init
@@ -52,3 +52,8 @@ returns g c =
     let i = c.loop-key.invariant in
     let none : c.loop-key.entries ≡ [] = search rules in
     reading_ended g.row.E g.A.ReadBack.reads g.B.ReadBack.reads g.A.Portable.shape g.B.Portable.shape g.A.Portable.knows g.B.Portable.knows c.args.this.bytes.now g.K.Ord.cmp c.args.this.pos i.0 c.loop-key.map.entries (none_left c.args.this.bytes i.0 c.loop-key.entries i.1 none) i.2
+
+pub invariant_of-result : goal.invariant_of-result
+invariant_of-result g c =
+    let i = c.loop-key.invariant in
+    record { some = reading_some g.row.E g.A.ReadBack.reads g.B.ReadBack.reads g.A.Portable.shape g.B.Portable.shape g.A.Portable.knows g.B.Portable.knows c.args.this.bytes.now g.K.Ord.cmp c.args.this.pos i.0 c.loop-key.map.entries i.2 }

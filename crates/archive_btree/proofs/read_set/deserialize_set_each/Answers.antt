@@ -7,8 +7,8 @@ use Rattle.archive_forms_spelling.specs.Fields.{unit_spelling}
 use Rattle.archive_forms_deserializing.specs.Reading.{reads_as}
 use Rattle.archive_btree.specs.Owned.{key_entries}
 use Rattle.archive_btree_walking.specs.Refs.{entry_at}
-use Rattle.archive_btree.proofs.ReadBack.{next_place, none_left, next_has, reading_begun, entry_read, reading_ended}
-use Rattle.archive_btree.proofs.Keyed.{inserted_key, unit_read}
+use Rattle.archive_btree.proofs.ReadBack.{next_place, none_left, next_has, reading_begun, entry_read, reading_ended, reading_some}
+use Rattle.archive_btree.proofs.Keyed.{inserted_key, no_keys, unit_read}
 use Rattle.archive_btree.proofs.read_set.deserialize_set_each.Goals as goal
 
 pub loop-key-init : goal.loop-key-init
@@ -46,3 +46,11 @@ returns g c =
     let i = c.loop-key.invariant in
     let none : c.loop-key.entries ≡ [] = search rules in
     reading_ended g.row.E g.A.ReadBack.reads (reads_as unit_spelling) g.A.Portable.shape (tuple no_shapes) g.A.Portable.knows (λ _. ⊤) c.args.this.bytes.now g.K.Ord.cmp c.args.this.pos i.0 (key_entries c.loop-key.set.keys) (none_left c.args.this.bytes i.0 c.loop-key.entries i.1 none) i.2
+
+pub invariant_of-result : goal.invariant_of-result
+invariant_of-result g c =
+    let i = c.loop-key.invariant in
+    record {
+      some = λ some. reading_some g.row.E g.A.ReadBack.reads (reads_as unit_spelling) g.A.Portable.shape (tuple no_shapes) g.A.Portable.knows (λ _. ⊤) c.args.this.bytes.now g.K.Ord.cmp c.args.this.pos i.0 (key_entries c.loop-key.set.keys) i.2
+          (λ none. some (no_keys c.loop-key.set.keys none));
+    }
