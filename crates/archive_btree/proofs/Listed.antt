@@ -10,7 +10,7 @@ use Rattle.archive_shape_writing.specs.declared.error.Error.{Error}
 use Rattle.archive_shape_writing.specs.declared.error.Error.TheVariants.{OutOfMemory}
 use Rattle.archive_forms_spelling.specs.State.{State}
 use Rattle.archive_forms_spelling.specs.Spelling.{Spelling}
-use Rattle.archive_forms_spelling.specs.Serializing.{Serializes}
+use Rattle.archive_forms_spelling.specs.Serializing.{of_data, Serializes}
 use Rattle.archive_forms_writing.proofs.Laying.{Stops, stopped_before, stopped_first}
 use Rattle.archive_btree_spelling.specs.Maps.{btree_spelling}
 use Rattle.archive_btree_reading.specs.declared.resolving.BTreeMapResolver.{BTreeMapResolver}
@@ -58,7 +58,7 @@ none_begun w s gives claimed from old = record {
   came = refl;
   counted = omega arith;
   stopped = λ others size st at.
-      stopped_before s old (w.piece ([] ++ others) st) (λ d. w.piece_refused ([] ++ others) st d ⊎ IsShort w s gives claimed 0 (claimed + 0) [] from d) OutOfMemory (inl refl);
+      stopped_before (of_data s) old (w.piece ([] ++ others) st) (λ d. w.piece_refused ([] ++ others) st d ⊎ IsShort w s gives claimed 0 (claimed + 0) [] from d) OutOfMemory (inl refl);
 }
 
 module _ {A B R Q W T : Type 0} (most : ℕ) (k v : Shape) (keys : Spelling A R) (vals : Spelling B Q) (s : WriterMembers W) (shows : T → A × B) (es : List (A × B)) (old new : W) where
@@ -83,10 +83,10 @@ module _ {A B R Q W T : Type 0} (most : ℕ) (k v : Shape) (keys : Spelling A R)
   map_written (Err e) (inl c) st at =
       let all : es ≡ c.items ++ c.upto = came_seen shows es c.upto c.items c.came in
       let piece = tree.piece es st in
-      let P : List ℕ → Type 0 = λ p. Stops s old new p (tree.piece_refused es st) e in
+      let P : List ℕ → Type 0 = λ p. Stops (of_data s) old new p (tree.piece_refused es st) e in
       let refused : Error → Type 0 = λ d. tree.piece_refused (c.items ++ c.upto) st d ⊎ IsShort tree s (GivesAs shows (TakesFirst shows)) (length es) 0 (length es + 0) c.items c.upto d in
       subst P (append-nil piece)
-      (stopped_first s [] (piece ++ []) refused (tree.piece_refused es st) (ap (λ l. tree.piece l st ++ []) all) (refuses c.items c.upto all st) (c.stopped c.upto (sym (ap length all)) st at))
+      (stopped_first (of_data s) [] (piece ++ []) refused (tree.piece_refused es st) (ap (λ l. tree.piece l st ++ []) all) (refuses c.items c.upto all st) (c.stopped c.upto (sym (ap length all)) st at))
     where
       refuses : (items upto : List (A × B)) → es ≡ items ++ upto → (st : State) → tree.piece_refused (items ++ upto) st e ⊎ IsShort tree s (GivesAs shows (TakesFirst shows)) (length es) 0 (length es + 0) items upto e → tree.piece_refused es st e
       refuses items upto all st (inl r) = let F : List (A × B) → Type 0 = λ l. tree.piece_refused l st e in subst F (sym all) r

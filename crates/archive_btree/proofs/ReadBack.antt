@@ -8,8 +8,7 @@ use Rattle.archive_shape_layout.specs.Value.{Value, Values}
 use Rattle.archive_shape_layout.specs.Value.Value.{natural, integer, boolean, string, group, chosen, counted, back}
 use Rattle.archive_shape_layout.specs.Value.Values.{no_values, more_values}
 use Rattle.archive_shape_layout.specs.Content.{Names, members}
-use Rattle.archive_shape_layout.specs.Holds.{Ascends}
-use Rattle.archive_shape_layout.proofs.Evaluated.{ascends_raised}
+use Rattle.archive_shape_layout.proofs.Visited.{claimed_raised}
 use Rattle.archive_shape_canonical.specs.Sharing.{erased, all_erased}
 use denote.Ref.{Bor}
 use Rattle.archive_shape_references.specs.declared.refs.Ref.{Ref}
@@ -81,8 +80,7 @@ tree_grouped names bytes most k v pos value (reads_tree {t = t} a b c d e) = pai
 map_grouped : (most : ℕ) (k v : Shape) (knows : Names → Type 0) (bytes : List ℕ) (pos : ℕ) (value : Value) → HeldAt (tree most k v) knows bytes pos value → value ≡ group (members value)
 map_grouped most k v knows bytes pos value h =
     let own : pos ≤ length bytes = omega (arith, h.own_within) in
-    let ascends : Ascends 0 (length bytes) h.regions = ascends_raised 0 pos (length bytes) h.regions own h.ascends in
-    tree_grouped h.names bytes most k v pos value (tree_is_read h.names bytes most k v h.level h.inside pos value h.regions h.before h.after 0 h.holds ascends)
+    tree_grouped h.names bytes most k v pos value (tree_is_read h.names bytes most k v h.level h.inside pos value h.regions h.before h.after h.low h.holds (claimed_raised own h.claimed))
 
 -- ---- what is read of entries
 

@@ -9,6 +9,7 @@ use Rattle.archive_shape_writing.specs.Writing.{WriterMembers}
 use Rattle.archive_shape_writing.specs.declared.error.Error.{Error}
 use Rattle.archive_forms_spelling.specs.State.{State}
 use Rattle.archive_forms_spelling.specs.Spelling.{Spelling}
+use Rattle.archive_forms_spelling.specs.Serializing.{of_data}
 use Rattle.archive_forms_writing.proofs.Laying.{Stops, stopped_first}
 use Rattle.archive_btree_spelling.specs.Maps.{btree_spelling}
 use Rattle.archive_forms_spelling.specs.Taking.{GivesAs}
@@ -37,8 +38,8 @@ module _ {X I J : Type 0} (gives : J → Option X → J → Type 0) (other : I �
           let piece = w.piece (c.items ++ others) st in
           let refused : Error → Type 0 = λ d. w.piece_refused (c.items ++ others) st d ⊎ IsShort w s gives claimed taken (n + behind) c.items c.upto d in
           let wider : Error → Type 0 = λ d. w.piece_refused (c.items ++ others) st d ⊎ IsShort w s other claimed taken (n + behind) c.items (see c.upto) d in
-          let P : List ℕ → Type 0 = λ p. Stops s old new p wider e in
-          subst P (append-nil piece) (stopped_first s [] (piece ++ []) refused wider refl (refuses others st) (c.stopped others size st at));
+          let P : List ℕ → Type 0 = λ p. Stops (of_data s) old new p wider e in
+          subst P (append-nil piece) (stopped_first (of_data s) [] (piece ++ []) refused wider refl (refuses others st) (c.stopped others size st at));
     }
       where
         refuses : (others : List X) (st : State) → w.piece_refused (c.items ++ others) st e ⊎ IsShort w s gives claimed taken (n + behind) c.items c.upto e

@@ -1,19 +1,19 @@
--- Pieces that calls write, one after the other.
+-- Pieces of data that calls write, one after the other.
 use Rattle.std.proofs.Common.{◌≡◌, ℕ, List, [], ◌++◌, append-nil, subst, ◌∙◌, inl, inr, ◌⊎◌, refl}
 use Rattle.archive_shape_writing.specs.Writing.{WriterMembers, Written, Failed}
 use Rattle.archive_shape_writing.specs.declared.error.Error.{Error}
 use Rattle.archive_shape_writing.specs.declared.error.Error.TheVariants.{OutOfMemory}
 use Rattle.archive_shape_writing.proofs.Joined.{cut_none, cut_first, cut_after, failed_first, failed_after}
-use Rattle.archive_forms_spelling.specs.Serializing.{Stopped}
+use Rattle.archive_forms_spelling.specs.Serializing.{Stopped, of_data}
 
 module _ {W : Type 0} (s : WriterMembers W) where
   abbrev pub Wrote : W → W → List ℕ → Type 0
-  Wrote old new piece = Written s.OBSERVABLE s.COUNTS s.contents s.pos s.failures s.last_error s.known old new piece
+  Wrote old new piece = Written s.OBSERVABLE s.COUNTS s.contents s.pos s.failures s.last_error (of_data s).known old new piece
 
   -- a call ended before its piece was written
   abbrev pub Stops : W → W → List ℕ → (Error → Type 0) → Error → Type 0
   Stops old new piece refused e =
-      Failed s.OBSERVABLE s.COUNTS s.contents s.pos s.failures s.last_error s.known old new piece e
+      Failed s.OBSERVABLE s.COUNTS s.contents s.pos s.failures s.last_error (of_data s).known old new piece e
       ⊎ Stopped s.OBSERVABLE s.contents s.failures old new piece refused e
 
   wider : (P Q : Error → Type 0) {e : Error} → (P e → Q e) → (e ≡ OutOfMemory) ⊎ P e → (e ≡ OutOfMemory) ⊎ Q e

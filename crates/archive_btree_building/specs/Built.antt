@@ -7,7 +7,7 @@ use Rattle.archive_shape_writing.specs.declared.error.Error.{Error}
 use Rattle.archive_shape_writing.specs.declared.error.Error.TheVariants.{IteratorLengthMismatch}
 use Rattle.archive_forms_spelling.specs.State.{State}
 use Rattle.archive_forms_spelling.specs.Spelling.{Spelling}
-use Rattle.archive_forms_spelling.specs.Serializing.{IsAt, Lays, Serializes}
+use Rattle.archive_forms_spelling.specs.Serializing.{IsAt, LaysData, Serializes}
 use Rattle.archive_btree_spelling.specs.Maps.{packed_spelling, btree_spelling}
 use Rattle.archive_forms_spelling.specs.Taking.{GivesAs}
 
@@ -36,7 +36,7 @@ module _ {C R W I : Type 0} (w : Spelling (List C) R) (members : WriterMembers W
     pub stopped :
         (others : List C) → length (items ++ others) ≡ n
         → (st : State) → IsAt members.pos members.known old st
-        → Lays {B = R} members old new (w.piece (items ++ others) st) (λ root. ⊥)
+        → LaysData {B = R} members old new (w.piece (items ++ others) st) (λ root. ⊥)
         (λ d. w.piece_refused (items ++ others) st d ⊎ IsShort claimed taken (n + behind) items upto d) (Err e)
 
 module _ {A B R Q W I : Type 0} (most : ℕ) (k v : Shape) (keys : Spelling A R) (vals : Spelling B Q) (members : WriterMembers W) (gives : I → Option (A × B) → I → Type 0) where

@@ -7,12 +7,13 @@ use Rattle.std.proofs.lemmas.List.Elements.{All-nil, All-cons, All-append, All-h
 use Rattle.archive_shape_layout.specs.Bytes.{window, word_at}
 use Rattle.archive_shape_layout.specs.Shape.{Shape, size_of}
 use Rattle.archive_shape_layout.specs.Value.{Value}
-use Rattle.archive_shape_layout.specs.Content.{Names}
+use Rattle.archive_shape_layout.specs.Content.{Names, Part}
 use Rattle.archive_shape_layout.specs.Content.Part.{at}
 use Rattle.archive_shape_layout.specs.Holds.{Region, Visit, OpenShared, Holds, Ascends}
 use Rattle.archive_shape_layout.specs.Laws.{AgreesOn, RegionsAgree}
+use Rattle.archive_shape_layout.specs.Visited.{AllStand, ClaimedAfter}
 use Rattle.archive_shape_layout.proofs.Framed.{frame}
-use Rattle.archive_shape_layout.proofs.Evaluated.{ascends_lowered, ascends_raised}
+use Rattle.archive_shape_layout.proofs.Visited.{claimed_raised, part_stands_in}
 use Rattle.archive_btree_layout.specs.Reading.{Place, places}
 use Rattle.archive_btree_layout.specs.Items.{IsHeld}
 use Rattle.archive_btree_layout.specs.Changing.{IsOutside, IsInNoValue, AreApart}
@@ -133,13 +134,21 @@ module _ (xs ys : List ℕ) where
         regions_same (r.start + r.size) high rs here there (λ i le lt. same i (omega arith) lt) a.1,
       )
 
+  -- where other bytes agree on what a part claims, and what was visited before it stands in them, what was visited after it does
+  pub visits_kept : {names : Names} {p : Part} {depth : ℕ} {inside : List OpenShared} {value : Value} {rs : List Region} {before after : List Visit} {low high : ℕ}
+      → high ≤ length xs → high ≤ length ys → AreSame low high
+      → ClaimedAfter names xs before low high rs → AllStand names ys low before → Holds names xs depth inside p value rs before after
+      → AllStand names ys high after
+  visits_kept {rs = rs} {low = low} {high} here there same claimed stand h =
+      part_stands_in h (regions_same low high rs here there same claimed.ascends) (record { stand = stand; below = claimed.below; ascends = claimed.ascends })
+
   -- what is held is held in bytes that agree on its own and on what is claimed
-  pub held_same : (names : Names) (s : Shape) {depth : ℕ} {inside : List OpenShared} {value : Value} {rs : List Region} {before after : List Visit} (low high start : ℕ)
+  pub held_same : {names : Names} (s : Shape) {depth : ℕ} {inside : List OpenShared} {value : Value} {rs : List Region} {before after : List Visit} {low high : ℕ} (start : ℕ)
       → high ≤ start → start + size_of s ≤ length xs → start + size_of s ≤ length ys
       → AreSame low high → AgreesOn xs ys start (size_of s)
-      → Ascends low high rs → Holds names xs depth inside (at start s) value rs before after
+      → ClaimedAfter names xs before low high rs → AllStand names ys low before → Holds names xs depth inside (at start s) value rs before after
       → IsHeld names ys s start value
-  held_same names s {depth} {inside} {value} {rs} {before} {after} low high start below here there same own a h =
+  held_same {names} s {depth} {inside} {value} {rs} {before} {after} {low} {high} start below here there same own claimed stand h =
       record {
         depth = depth;
         inside = inside;
@@ -147,8 +156,9 @@ module _ (xs ys : List ℕ) where
         before = before;
         after = after;
         own_within = there;
-        ascends = ascends_lowered 0 low start rs (omega arith) (ascends_raised low high start rs below a);
-        holds = frame xs ys names own (regions_same low high rs (omega arith) (omega arith) same a) h;
+        low = low;
+        claimed = claimed_raised below (record { stand = stand; below = claimed.below; ascends = claimed.ascends });
+        holds = frame xs ys names own (regions_same low high rs (omega arith) (omega arith) same claimed.ascends) h;
       }
 
 -- bytes from one index up to another are the same, but for the values of entries

@@ -7,12 +7,13 @@ use Rattle.archive_shape_layout.specs.Value.Value.{group}
 use Rattle.archive_shape_layout.specs.Value.Values.{no_values, more_values}
 use Rattle.archive_shape_layout.specs.Content.{Names, members}
 use Rattle.archive_shape_layout.specs.Content.Part.{at}
-use Rattle.archive_shape_layout.specs.Holds.{Region, Visit, OpenShared, Holds, Ascends}
+use Rattle.archive_shape_layout.specs.Holds.{Region, Visit, OpenShared, Holds}
+use Rattle.archive_shape_layout.specs.Visited.{ClaimedAfter}
 use Rattle.archive_btree_layout.specs.Reading.{Place, HasNode}
 use Rattle.archive_btree_layout.specs.Tree.{Tree, items}
 
 -- in a buffer the layout holds a value at a position: its own bytes lie in the buffer, and the regions that it claims
--- ascend before them
+-- ascend before them, after visits of what stands
 pub record IsHeld (names : Names) (bytes : List ℕ) (s : Shape) (pos : ℕ) (value : Value) : Type 0 where
   pub depth : ℕ
   pub inside : List OpenShared
@@ -20,7 +21,8 @@ pub record IsHeld (names : Names) (bytes : List ℕ) (s : Shape) (pos : ℕ) (va
   pub before : List Visit
   pub after : List Visit
   pub own_within : pos + size_of s ≤ length bytes
-  pub ascends : Ascends 0 pos regions
+  pub low : ℕ
+  pub claimed : ClaimedAfter names bytes before low pos regions
   pub holds : Holds names bytes depth inside (at pos s) value regions before after
 
 -- a pair of a key and a value stands at a place

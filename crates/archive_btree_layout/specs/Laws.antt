@@ -14,7 +14,8 @@ use Rattle.archive_shape_layout.specs.Value.{Value}
 use Rattle.archive_shape_layout.specs.Bytes.{word_at, target_from}
 use Rattle.archive_shape_layout.specs.Content.{Names, members}
 use Rattle.archive_shape_layout.specs.Content.Part.{at}
-use Rattle.archive_shape_layout.specs.Holds.{Region, Visit, OpenShared, Holds, Ascends}
+use Rattle.archive_shape_layout.specs.Holds.{Region, Visit, OpenShared, Holds}
+use Rattle.archive_shape_layout.specs.Visited.{ClaimedAfter}
 use Rattle.archive_shape_layout.specs.Shape.{Shape}
 use Rattle.archive_btree_layout.specs.Reading.{Place, HasNode}
 
@@ -67,7 +68,7 @@ TreeIsRead =
     (names : Names) (bytes : List ℕ) (most : ℕ) (k v : Shape) (depth : ℕ) (inside : List OpenShared) (pos : ℕ) (value : Value)
     (regions : List Region) (before after : List Visit) (low : ℕ)
     → Holds names bytes depth inside (at pos (tree most k v)) value regions before after
-    → Ascends low (length bytes) regions
+    → ClaimedAfter names bytes before low (length bytes) regions
     → IsTreeRead names bytes most k v pos value
 
 -- ---- where values are written over
@@ -76,9 +77,9 @@ TreeIsRead =
 abbrev pub TreeStays : Type 0
 TreeStays =
     (names : Names) (bytes others : List ℕ) (most : ℕ) (k v : Shape) (depth : ℕ) (inside : List OpenShared) (pos : ℕ) (value : Value)
-    (regions : List Region) (before after : List Visit) (root : ℕ) (t : Tree Place)
+    (regions : List Region) (before after : List Visit) (low root : ℕ) (t : Tree Place)
     → Holds names bytes depth inside (at pos (tree most k v)) value regions before after
-    → Ascends 0 pos regions
+    → ClaimedAfter names bytes before low pos regions
     → pos + 8 ≤ length bytes
     → (word_at bytes (pos + 4) ≡ 0 → ⊥)
     → target_from pos (word_at bytes pos) ≡ Some root
@@ -90,9 +91,9 @@ TreeStays =
 abbrev pub NodesStay : Type 0
 NodesStay =
     (names : Names) (bytes others : List ℕ) (most : ℕ) (k v : Shape) (depth : ℕ) (inside : List OpenShared) (pos : ℕ) (value : Value)
-    (regions : List Region) (before after : List Visit) (root : ℕ) (t : Tree Place)
+    (regions : List Region) (before after : List Visit) (low root : ℕ) (t : Tree Place)
     → Holds names bytes depth inside (at pos (tree most k v)) value regions before after
-    → Ascends 0 pos regions
+    → ClaimedAfter names bytes before low pos regions
     → pos + 8 ≤ length bytes
     → (word_at bytes (pos + 4) ≡ 0 → ⊥)
     → target_from pos (word_at bytes pos) ≡ Some root
@@ -104,9 +105,9 @@ NodesStay =
 abbrev pub PairsStay : Type 0
 PairsStay =
     (names : Names) (bytes others : List ℕ) (most : ℕ) (k v : Shape) (depth : ℕ) (inside : List OpenShared) (pos : ℕ) (value : Value)
-    (regions : List Region) (before after : List Visit) (root : ℕ) (t : Tree Place)
+    (regions : List Region) (before after : List Visit) (low root : ℕ) (t : Tree Place)
     → Holds names bytes depth inside (at pos (tree most k v)) value regions before after
-    → Ascends 0 pos regions
+    → ClaimedAfter names bytes before low pos regions
     → pos + 8 ≤ length bytes
     → (word_at bytes (pos + 4) ≡ 0 → ⊥)
     → target_from pos (word_at bytes pos) ≡ Some root
@@ -118,9 +119,9 @@ PairsStay =
 abbrev pub ValuesApart : Type 0
 ValuesApart =
     (names : Names) (bytes : List ℕ) (most : ℕ) (k v : Shape) (depth : ℕ) (inside : List OpenShared) (pos : ℕ) (value : Value)
-    (regions : List Region) (before after : List Visit) (root : ℕ) (t : Tree Place)
+    (regions : List Region) (before after : List Visit) (low root : ℕ) (t : Tree Place)
     → Holds names bytes depth inside (at pos (tree most k v)) value regions before after
-    → Ascends 0 pos regions
+    → ClaimedAfter names bytes before low pos regions
     → pos + 8 ≤ length bytes
     → (word_at bytes (pos + 4) ≡ 0 → ⊥)
     → target_from pos (word_at bytes pos) ≡ Some root

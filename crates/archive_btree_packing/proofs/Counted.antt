@@ -36,7 +36,7 @@ module _ (names : Names) (bytes : List ℕ) (most : ℕ) (k v : Shape) where
   -- a value that is that of the one part
   one_made : {p : Part} {value : Value} → (m : MadeOf names bytes same (p ∷ []) value) → (f : FirstOf names bytes p [] m.values) → value ≡ f.value
   one_made {value = value} m f =
-      let none : f.others ≡ no_values = no_parts names bytes most k v f.rest in
+      let none : f.others ≡ no_values = (no_parts names bytes most k v f.rest).0 in
       same_is names bytes most k v same f.value m.values value refl (f.is ∙ ap (more_values f.value) none) m.is
 
   -- the entries of an inner node
@@ -106,7 +106,7 @@ module _ (names : Names) (bytes : List ℕ) (most : ℕ) (k v : Shape) where
     child_counted level link t (no_child a b) {value = value} h =
         let m = made_plain names bytes (no_child_content names bytes most k v level link a) h in
         ap (λ z. count_values (members z)) (made_whole value m.values m.is)
-        ∙ ap count_values (no_parts names bytes most k v m.hold)
+        ∙ ap count_values (no_parts names bytes most k v m.hold).0
         ∙ sym (ap (λ u. length (items u)) b)
     child_counted level link t (a_child {pos = pos} a b c) h =
         let m = made_plain names bytes (child_content_of names bytes most k v level link pos t a b c) h in

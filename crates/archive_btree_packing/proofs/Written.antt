@@ -11,14 +11,14 @@ use Rattle.archive_shape_layout.specs.Content.Label.{same}
 use Rattle.archive_shape_layout.specs.Holds.{Region, Visit, OpenShared, Holds, HoldAll, Ascends, root_position}
 use Rattle.archive_shape_layout.specs.Holds.Holds.{holds_plain, holds_claimed, holds_first, holds_later, holds_back}
 use Rattle.archive_shape_layout.specs.Holds.HoldAll.{holds_none, holds_more}
-use Rattle.archive_shape_layout.proofs.Evaluated.{ascends_raised}
+use Rattle.archive_shape_layout.specs.Visited.{ClaimedAfter}
+use Rattle.archive_shape_layout.proofs.Visited.{claimed_raised, claimed_front, claimed_inside, claimed_first}
 use Rattle.archive_shape_canonical.specs.Settled.{Fit}
 use Rattle.archive_shape_canonical.specs.Everywhere.{reaches_here, reaches_claimed, reaches_first}
 use Rattle.archive_shape_canonical.proofs.Steps.{count_members}
 use Rattle.archive_btree_layout.specs.Tree.{items}
 use Rattle.archive_btree_layout.specs.Items.{IsTreeRead}
 use Rattle.archive_btree_layout.specs.Items.IsTreeRead.{reads_none, reads_tree}
-use Rattle.archive_btree_layout.proofs.Paired.{region_inside, ascends_first}
 use Rattle.archive_btree_layout.proofs.Held.{same_is}
 use Rattle.archive_btree_layout.proofs.Mapped.{pairs_count, tree_is_read}
 use Rattle.archive_forms_spelling.specs.State.{initial}
@@ -36,10 +36,10 @@ use Rattle.archive_btree_packing.proofs.Packed.{written_is_packed_law}
 
 module _ (names : Names) (bytes : List ℕ) (most : ℕ) (k v : Shape) (pos : ℕ) where
   only_held : {depth : ℕ} {inside : List OpenShared} {vs : Values} {value : Value} {rs : List Region} {before after : List Visit} (low : ℕ)
-      → HoldAll names bytes depth inside (at pos (tree most k v) ∷ []) vs rs before after → made same vs ≡ Some value → Ascends low (length bytes) rs
+      → HoldAll names bytes depth inside (at pos (tree most k v) ∷ []) vs rs before after → made same vs ≡ Some value → ClaimedAfter names bytes before low (length bytes) rs
       → IsTreeRead names bytes most k v pos value
   only_held {vs = vs} {value = value} low (holds_more {v = u} {here = here} {later = later} {regions = rs} h (holds_none x y z) e f) m a =
-      let read = tree_is_read names bytes most k v _ _ pos u here _ _ low h (ascends_first low (length bytes) rs here later f a).0 in
+      let read = tree_is_read names bytes most k v _ _ pos u here _ _ low h (claimed_front later f a) in
       let one : vs ≡ more_values u no_values = cc in
       subst (IsTreeRead names bytes most k v pos) (sym (same_is names bytes most k v same u vs value refl one m)) read
 
@@ -47,13 +47,13 @@ module _ (names : Names) (bytes : List ℕ) (most : ℕ) (k v : Shape) (pos : �
       → Holds names bytes 0 [] (behind pos (sized (tree most k v)) 1) value rs [] visits → Ascends 0 (length bytes) rs
       → IsTreeRead names bytes most k v pos value
   unfolding pointee_content
-  root_held {value = value} {rs = rs} {visits = visits} (holds_claimed {within = within} {s = s} {l = l} {ps = ps} {vs = vs} e legal all m r) a =
+  root_held {value = value} {visits = visits} (holds_claimed {within = within} {s = s} {l = l} {ps = ps} {vs = vs} e legal all m r) a =
       let parts : ps ≡ at pos (tree most k v) ∷ [] = cc in
       let label : l ≡ same = cc in
-      let range = region_inside 0 (length bytes) rs within s 0 r a in
-      let room = range.1 in
+      let i = claimed_inside r (claimed_first a) in
+      let ends = i.ends in
       only_held 0 (subst (λ qs. HoldAll names bytes 1 [] qs vs within [] visits) parts all) (subst (λ y. made y vs ≡ Some value) label m)
-      (ascends_raised 0 s.start (length bytes) within (omega (arith, room)) range.0)
+      (claimed_raised (omega (arith, ends)) i.claimed)
   root_held (holds_plain e legal all m) a = absurd cc
   root_held (holds_first e b c d f g) a = absurd cc
   root_held (holds_later e b c d f g) a = absurd cc

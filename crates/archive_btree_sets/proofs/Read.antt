@@ -9,8 +9,7 @@ use Rattle.archive_shape_layout.specs.Value.{Value, Values}
 use Rattle.archive_shape_layout.specs.Value.Value.{natural, integer, boolean, string, group, chosen, counted, back}
 use Rattle.archive_shape_layout.specs.Value.Values.{no_values, more_values}
 use Rattle.archive_shape_layout.specs.Content.{Names, members, shape_content, fields}
-use Rattle.archive_shape_layout.specs.Holds.{Ascends}
-use Rattle.archive_shape_layout.proofs.Evaluated.{ascends_raised}
+use Rattle.archive_shape_layout.proofs.Visited.{claimed_raised}
 use Rattle.archive_shape_layout.proofs.Unique.{by_plain}
 use Rattle.archive_btree_layout.specs.Items.{ArePairs, IsTreeRead}
 use Rattle.archive_btree_layout.specs.Items.IsTreeRead.{reads_none, reads_tree}
@@ -57,8 +56,7 @@ grouped {names} {bytes} {most} {k} {v} {pos} value (reads_tree {t = t} a b c d e
 set_grouped : (k : Shape) (knows : Names → Type 0) (bytes : List ℕ) (most pos : ℕ) (value : Value) → HeldAt (tree most k (tuple no_shapes)) knows bytes pos value → value ≡ group (members value)
 set_grouped k knows bytes most pos value h =
     let own : pos ≤ length bytes = omega (arith, h.own_within) in
-    let ascends : Ascends 0 (length bytes) h.regions = ascends_raised 0 pos (length bytes) h.regions own h.ascends in
-    grouped value (tree_is_read h.names bytes most k (tuple no_shapes) h.level h.inside pos value h.regions h.before h.after 0 h.holds ascends)
+    grouped value (tree_is_read h.names bytes most k (tuple no_shapes) h.level h.inside pos value h.regions h.before h.after h.low h.holds (claimed_raised own h.claimed))
 
 module _ (k : Shape) (knows : Names → Type 0) (bytes : List ℕ) where
   keys_stand : (ps : List Place) (ws : Values) → AreEntriesAt k (tuple no_shapes) knows (λ _. ⊤) bytes ps ws → AllZip (λ e key. HeldAt k knows bytes e.key key) ps (map key_in (listed ws))

@@ -5,7 +5,7 @@ use Rattle.archive_shape_writing.specs.Writing.{WriterMembers}
 use Rattle.archive_shape_writing.specs.declared.error.Error.{Error}
 use Rattle.archive_forms_spelling.specs.State.{State, advanced}
 use Rattle.archive_forms_spelling.specs.Spelling.{Spelling}
-use Rattle.archive_forms_spelling.specs.Serializing.{IsAt, Lays}
+use Rattle.archive_forms_spelling.specs.Serializing.{IsAt, LaysData}
 use Rattle.archive_btree_spelling.specs.Written.{Linked, state_after_own, own_at, own_piece, own_fits, own_refused}
 
 module _ {A B R Q W : Type 0} (most : ℕ) (k v : Shape) (keys : Spelling A R) (vals : Spelling B Q) (members : WriterMembers W) where
@@ -17,6 +17,6 @@ module _ {A B R Q W : Type 0} (most : ℕ) (k v : Shape) (keys : Spelling A R) (
   abbrev pub LaysNode : Linked (A × B) → W → W → Result ℕ Error → Type 0
   LaysNode n old new result =
       (st : State) → IsAt members.pos members.known old st
-      → Lays members old new (own_piece most k v keys vals n st)
+      → LaysData members old new (own_piece most k v keys vals n st)
       (λ at. (at ≡ own_at most k v keys vals n st) × own_fits most k v keys vals n st × IsAt members.pos members.known new (state_after_node n st))
       (own_refused most k v keys vals n st) result

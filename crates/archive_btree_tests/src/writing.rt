@@ -9,7 +9,7 @@ use archive_btree::{
     OwnedBTreeMap, OwnedBTreeSet, serialize_from_ordered_iter, serialize_map_each,
     serialize_set_from_ordered_iter,
 };
-use archive_core_serializing::{HighSerializer, Serializer};
+use archive_core_serializing::Serializer;
 use archive_forms_deserializing::Deserialize;
 use archive_forms_text::ArchivedString;
 use archive_forms_writing::{Serialize, serialize_element, serialize_using};
@@ -20,7 +20,7 @@ use std::marker::PhantomData;
 use std::test::Fail;
 
 /// A serializer into memory that grows.
-type Memory = HighSerializer<Vec<u8>, Global>;
+type Memory = Serializer<Vec<u8>, Global, ()>;
 
 /// A serializer into memory that holds nothing.
 fn memory(alloc: Global) -> Memory

@@ -4,8 +4,7 @@ use Rattle.archive_shape_layout.specs.Shape.{Shape}
 use Rattle.archive_shape_layout.specs.Value.{Value, Values}
 use Rattle.archive_shape_layout.specs.Value.Values.{no_values, more_values}
 use Rattle.archive_shape_layout.specs.Content.{Names, members}
-use Rattle.archive_shape_layout.specs.Holds.{Ascends}
-use Rattle.archive_shape_layout.proofs.Evaluated.{ascends_raised}
+use Rattle.archive_shape_layout.proofs.Visited.{claimed_raised}
 use Rattle.archive_shape.specs.Key.{HeldAt}
 use Rattle.archive_btree_layout.specs.Items.{IsHeld, ArePairs, IsTreeRead}
 use Rattle.archive_btree_layout.specs.Items.IsTreeRead.{reads_none, reads_tree}
@@ -29,7 +28,8 @@ held_under {names = names} knows known h =
       before = h.before;
       after = h.after;
       own_within = h.own_within;
-      ascends = h.ascends;
+      low = h.low;
+      claimed = h.claimed;
       holds = h.holds;
     }
 
@@ -67,6 +67,5 @@ module _ (k v : Shape) (knows others : Names → Type 0) (bytes : List ℕ) wher
   pub map_is_read : (most : ℕ) → MapIsRead k v knows others bytes most
   map_is_read most pos value h =
       let own : pos ≤ length bytes = omega (arith, h.own_within) in
-      let ascends : Ascends 0 (length bytes) h.regions = ascends_raised 0 pos (length bytes) h.regions own h.ascends in
       by_tree most pos value h.names h.known
-      (tree_is_read h.names bytes most k v h.level h.inside pos value h.regions h.before h.after 0 h.holds ascends)
+      (tree_is_read h.names bytes most k v h.level h.inside pos value h.regions h.before h.after h.low h.holds (claimed_raised own h.claimed))

@@ -86,7 +86,7 @@ module _ (most : ℕ) (k v : Shape) (knows others : Names → Type 0) (bytes : L
       among_kept (IsKept h.names bytes written k v) (λ e. HasValue k knows (take e.value written) e.key)
       (λ e w kept. record { value = kept.key.key; held = held_under knows h.known.0 kept.key.held_before })
       (items t) (members has.value)
-      (pairs_stay h.names bytes written most k v h.level h.inside pos has.value h.regions h.before h.after root t h.holds h.ascends room some leads node d)
+      (pairs_stay h.names bytes written most k v h.level h.inside pos has.value h.regions h.before h.after h.low root t h.holds h.claimed room some leads node d)
 
 -- ---- walks
 
@@ -106,9 +106,9 @@ module _ {most : ℕ} {k v : Shape} {knows others : Names → Type 0} (m : Begun
   same_tree root bytes some leads node d =
       let h = m.has.held in
       let room : m.pos + 8 ≤ length m.bytes = h.own_within in
-      let stay = nodes_stay h.names m.bytes bytes most k v h.level h.inside m.pos m.has.value h.regions h.before h.after root m.search_tree h.holds h.ascends room some leads node d in
+      let stay = nodes_stay h.names m.bytes bytes most k v h.level h.inside m.pos m.has.value h.regions h.before h.after h.low root m.search_tree h.holds h.claimed room some leads node d in
       record {
-        tree = tree_stays h.names m.bytes bytes most k v h.level h.inside m.pos m.has.value h.regions h.before h.after root m.search_tree h.holds h.ascends room some leads node d;
+        tree = tree_stays h.names m.bytes bytes most k v h.level h.inside m.pos m.has.value h.regions h.before h.after h.low root m.search_tree h.holds h.claimed room some leads node d;
         from = λ level pos u. (stay level pos u).0;
         back = λ level pos u. (stay level pos u).1;
       }

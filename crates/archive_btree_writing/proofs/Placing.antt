@@ -14,9 +14,9 @@ use Rattle.archive_shape_writing.specs.declared.error.Error.TheVariants.{Positio
 use Rattle.archive_forms_spelling.specs.State.{State, visit_of_key}
 use Rattle.archive_forms_spelling.specs.Spelling.{Spelling}
 use Rattle.archive_forms_spelling.specs.Regions.{pieces, pieces_fit, pieces_refused}
-use Rattle.archive_forms_spelling.specs.Serializing.{IsAt, Lays, progress_by, is_begun}
+use Rattle.archive_forms_spelling.specs.Serializing.{IsAt, Lays, LaysData, of_data, progress_by, is_begun}
 use Rattle.archive_forms_spelling.proofs.Regions.{state_after_all_begun}
-use Rattle.archive_forms_writing.proofs.Laying.{Wrote, Fails, Stops, wrote_both, writes_lays, stopped_after, stopped_first, stopped_before}
+use Rattle.archive_forms_writing.proofs.Laying.{Wrote, Fails, Stops, wrote_both, writes_lays, stopped_after, stopped_first, stopped_before, as_data, stops_as_data}
 use Rattle.archive_btree_writing.specs.Nodes.{LaysBehind}
 use Rattle.archive_btree_spelling.specs.Laying.{state_after_node}
 use Rattle.archive_btree_spelling.specs.Written.{Linked, entry_spelling, state_after_own, own_at, own_size, own_bytes, own_piece, IsPlaced, own_fits, own_refused, slots_fit, slots_refused}
@@ -129,19 +129,19 @@ module _ {A B R Q W : Type 0} (most : ℕ) (k v : Shape) (keys : Spelling A R) (
     -- ---- the data of its entries, and the node behind it
 
     pub record Behind (mid : W) : Type 0 where
-      pub wrote : Wrote s old mid before
+      pub wrote : Wrote (of_data s) old mid before
       pub fits : pieces_fit (entry_spelling most k v keys vals) n.own st
       pub is_at : IsAt s.pos s.known mid (state_after_own most k v keys vals n st)
 
-    pub data_stopped : (new : W) (e : Error) → Stops s old new before (pieces_refused (entry_spelling most k v keys vals) n.own st) e → Stops s old new piece refused e
-    data_stopped new e h = stopped_first s (zeros (at - ends) ++ bytes_at at) piece (pieces_refused (entry_spelling most k v keys vals) n.own st) refused refl (λ r. inl r) h
+    pub data_stopped : (new : W) (e : Error) → Stops (of_data s) old new before (pieces_refused (entry_spelling most k v keys vals) n.own st) e → Stops (of_data s) old new piece refused e
+    data_stopped new e h = stopped_first (of_data s) (zeros (at - ends) ++ bytes_at at) piece (pieces_refused (entry_spelling most k v keys vals) n.own st) refused refl (λ r. inl r) h
 
     pub node_laid : (mid new : W) (result : Result ℕ Error) → IsAt s.pos s.known old st → Behind mid → LaysBehind most k v keys vals s n st mid new (s.pos mid) result
-        → Lays s old new piece (λ to. (to ≡ at) × own_fits most k v keys vals n st × IsAt s.pos s.known new (state_after_node most k v keys vals s n st)) refused result
+        → LaysData s old new piece (λ to. (to ≡ at) × own_fits most k v keys vals n st × IsAt s.pos s.known new (state_after_node most k v keys vals s n st)) refused result
     node_laid mid new (Ok to) from h g =
         let P : ℕ → Type 0 = λ p. LaysBehind most k v keys vals s n st mid new p (Ok to) in
         let done = subst P h.is_at.stands g in
-        let wrote : Wrote s old new piece = wrote_both s piece refl h.wrote done.0 in
+        let wrote : Wrote (of_data s) old new piece = wrote_both (of_data s) piece refl h.wrote (as_data s done.0) in
         let begun = state_after_all_begun (first_fit (λ _. 0)) k (λ _. ⊤) (entry_spelling most k v keys vals) n.own st in (
           wrote,
           (
@@ -156,4 +156,4 @@ module _ {A B R Q W : Type 0} (most : ℕ) (k v : Shape) (keys : Spelling A R) (
     node_laid mid new (Err e) from h g =
         let P : ℕ → Type 0 = λ p. LaysBehind most k v keys vals s n st mid new p (Err e) in
         let behind : Error → Type 0 = λ d. ((IsPlaced most k v keys vals n at → ⊥) × (d ≡ PositionTooLarge)) ⊎ slots_refused most k v keys vals n st at d in
-        stopped_after s piece behind refused refl (λ r. inr r) h.wrote (subst P h.is_at.stands g)
+        stopped_after (of_data s) piece behind refused refl (λ r. inr r) h.wrote (stops_as_data s (subst P h.is_at.stands g))

@@ -13,7 +13,7 @@ use Rattle.archive_forms_spelling.specs.State.{State, advanced}
 use Rattle.archive_forms_spelling.specs.Spelling.{Spelling, state_after}
 use Rattle.archive_forms_spelling.specs.Forms.{seen_as}
 use Rattle.archive_forms_spelling.specs.Regions.{state_after_all, pieces, pieces_fit, pieces_refused}
-use Rattle.archive_forms_spelling.specs.Serializing.{IsAt}
+use Rattle.archive_forms_spelling.specs.Serializing.{of_data, IsAt}
 use Rattle.archive_forms_writing.proofs.Laying.{Wrote, Stops, stopped_first}
 use Rattle.archive_btree_spelling.specs.Laying.{LaysNode, state_after_node}
 use Rattle.archive_btree_spelling.specs.Written.{Linked, entry_spelling, slots, AllSlots, AnySlot, filled, key_own, value_own, words, state_after_own, own_at, own_size, own_bytes, own_piece, IsPlaced, slots_fit, slots_refused, own_fits, own_refused}
@@ -133,11 +133,11 @@ module _ {A B C D R Q : Type 0} (most : ℕ) (k v : Shape) (f : C → A) (g : D 
     pub lays_seen : (result : Result ℕ Error) → LaysNode most k v (seen_as f keys) (seen_as g vals) s n old new result → LaysNode most k v keys vals s (viewed n) old new result
     lays_seen (Ok to) h st at =
         let l = h st at in
-        let P : List ℕ → Type 0 = λ p. Wrote s old new p in
+        let P : List ℕ → Type 0 = λ p. Wrote (of_data s) old new p in
         let S : State → Type 0 = λ then. IsAt s.pos s.known new then in
         (subst P (piece_seen n st) l.0, (l.1.0 ∙ at_seen n st, fits_seen n st l.1.1, subst S (after_seen st) l.1.2))
     lays_seen (Err e) h st at =
         let piece = own_piece most k v keys vals (viewed n) st in
-        let P : List ℕ → Type 0 = λ p. Stops s old new p (own_refused most k v keys vals (viewed n) st) e in
+        let P : List ℕ → Type 0 = λ p. Stops (of_data s) old new p (own_refused most k v keys vals (viewed n) st) e in
         subst P (append-nil piece)
-        (stopped_first s [] (piece ++ []) (own_refused most k v (seen_as f keys) (seen_as g vals) n st) (own_refused most k v keys vals (viewed n) st) (ap (λ p. p ++ []) (sym (piece_seen n st))) (node_refused_seen n st e) (h st at))
+        (stopped_first (of_data s) [] (piece ++ []) (own_refused most k v (seen_as f keys) (seen_as g vals) n st) (own_refused most k v keys vals (viewed n) st) (ap (λ p. p ++ []) (sym (piece_seen n st))) (node_refused_seen n st e) (h st at))

@@ -5,7 +5,7 @@ ghost use Rattle.archive_shape_layout.specs.Shape.{size_of};
 ghost use Rattle.archive_shape_references.specs.Bytes.{HasBytes, zeros, overwrite};
 ghost use Rattle.archive_forms_spelling.specs.State.{State};
 ghost use Rattle.archive_forms_spelling.specs.Spelling.{state_after};
-ghost use Rattle.archive_forms_spelling.specs.Serializing.{CanResolve, IsAt, HasState, Lays, Resolves};
+ghost use Rattle.archive_forms_spelling.specs.Serializing.{CanResolve, IsAt, HasState, LaysData, Resolves};
 ghost use Rattle.archive_forms_spelling.specs.Regions.{state_after_all, pieces, resolvers, pieces_fit, pieces_refused};
 ghost use Rattle.archive_btree_spelling.specs.Written.{slots, AllSlots, AnySlot, key_own, value_own};
 ghost use Rattle.archive_btree_writing.specs.Nodes.{borrowed, borrowed_entry};
@@ -34,7 +34,7 @@ pub fn serialize_entries<
     requires state { HasState S.pos S.known serializer.old }
     ensures { (st : State) → IsAt S.pos S.known serializer.old st
         → let w = borrowed_entry E K.Archived.shape V.Archived.shape K.spelling V.spelling in
-        Lays S.Writer serializer.old serializer.new (pieces w entries.now st)
+        LaysData S.Writer serializer.old serializer.new (pieces w entries.now st)
         (λ all. (take (length entries.now) all ≡ resolvers w entries.now st) × pieces_fit w entries.now st × IsAt S.pos S.known serializer.new (state_after_all w entries.now st))
         (pieces_refused w entries.now st) result }
 {

@@ -3,6 +3,7 @@ ghost use Rattle.std.specs.Prelude.{◌≡◌, ℕ, ◌-◌, ◌^◌, ◌<◌, I
 ghost use Rattle.archive_core.specs.Written.{ArchivesIn, HoldsArchive, MakesBytes, MadeArchive};
 
 use archive_core_serializing::{HighSerializer, Serializer};
+use archive_core_sharing::Share;
 use archive_forms_writing::{Serialize, serialize_using};
 use archive_shape::{Allocator, Error, Writer};
 use std::alloc::Global;
@@ -18,7 +19,8 @@ pub fn to_bytes_in_with_alloc<
     ensures writes { ArchivesIn T.Archived.shape T.spelling W.Writer value.now writer result }
     ensures archive { IfOk result (HoldsArchive T.Archived.shape T.spelling W.Writer value.now writer T.Archived.knows) }
 {
-    let mut serializer = Serializer::new(writer, allocator, ());
+    let sharing = Share::new(allocator.memory());
+    let mut serializer = Serializer::new(writer, allocator, sharing);
     match serialize_using(value, &mut serializer) {
         Ok(_) => Ok(serializer.into_writer()),
         Err(e) => Err(e),

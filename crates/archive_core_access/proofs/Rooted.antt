@@ -7,12 +7,16 @@ use Rattle.archive_shape_layout.specs.Value.Values.{no_values, more_values}
 use Rattle.archive_shape_layout.specs.Content.{Names, made}
 use Rattle.archive_shape_layout.specs.Content.Part.{at}
 use Rattle.archive_shape_layout.specs.Content.Label.{same}
-use Rattle.archive_shape_layout.specs.Holds.{Region, Visit, OpenShared, Holds, Ascends, HasRoot, root_position}
+use Rattle.archive_shape_layout.specs.Holds.{Region, Visit, OpenShared, Holds, HasRoot, root_position}
+use Rattle.archive_shape_layout.specs.Visited.{AllStand}
+use Rattle.archive_shape_layout.specs.Visited.AllStand.{none_stand}
 use Rattle.archive_shape_layout.proofs.Unique.{by_claimed}
+use Rattle.archive_shape_layout.proofs.Visited.{claimed_first, claimed_inside}
 use Rattle.archive_shape_checking.specs.Range.{Range, narrowed_to}
 use Rattle.archive_shape_checking.specs.Accepts.{Passes}
 use Rattle.archive_shape_checking.specs.Questions.{pointee_span}
-use Rattle.archive_shape_checking.specs.Kept.{Kept}
+use Rattle.archive_shape_checking.specs.Kept.{Kept, Records, range_of}
+use Rattle.archive_shape_checking.specs.PartFault.{PartFault}
 use Rattle.archive_shape_checking.specs.Checks.{Checks}
 use Rattle.archive_shape_writing.specs.declared.error.Error.{Error}
 use Rattle.archive_shape_checking.proofs.Inverted.{claim_answered, claimed_parts, first_part}
@@ -21,8 +25,6 @@ use Rattle.archive_forms_reading.specs.Parts.{HasValue}
 use Rattle.archive_forms_reading.proofs.Accepted.{accepted_has_value}
 use Rattle.archive_forms_reading.proofs.Inside.{one_held}
 use Rattle.archive_shape.specs.Key.{HeldAt}
-use Rattle.archive_shape.proofs.Held.{inside_region}
-use Rattle.archive_core_validation.specs.Depth.{whole}
 use Rattle.archive_core_access.specs.Access.{root_at, whole_range, Decides}
 
 -- the size that a type says stops at `usize::MAX`, which is the length of no buffer
@@ -42,33 +44,35 @@ root_lies len size align start s fits is aligned from =
 pub root_has_value :
     (s : Shape) (knows : Names → Type 0) (names : Names) (bytes : List ℕ) (inside : List OpenShared) (before : List Visit) (pos : ℕ) (k : Range)
     → knows names
+    → AllStand names bytes k.start before
     → k.end ≤ length bytes
     → Passes names bytes inside before (root_at pos s) k
     → HasValue s knows bytes pos
-root_has_value s knows names bytes inside before pos k known covered passes =
+root_has_value s knows names bytes inside before pos k known stand covered passes =
     let is = sized_is names bytes pos s 1 in
     let span = pointee_span pos (sized s) 1 in
     let claimed = claim_answered names bytes inside before (root_at pos s) k span same (at pos s ∷ []) is passes in
     let ends = claimed.0.ends in
     let parts = claimed_parts names bytes inside before (root_at pos s) k span same (at pos s ∷ []) is passes in
-    accepted_has_value s knows names bytes inside before pos (narrowed_to k pos) known (le_refl pos) (omega (arith, ends, covered))
+    accepted_has_value s knows names bytes inside before pos (narrowed_to k pos) known stand claimed.0.begins (le_refl pos) (omega (arith, ends, covered))
     (first_part names bytes inside before (at pos s) [] (narrowed_to k pos) parts)
 
 -- the check of a root in a context that has seen nothing, over the whole buffer
 pub decided :
     (s : Shape) (names : Names) (bytes : List ℕ) (pos most : ℕ) (k l : Kept) (r : Result (Unit {0}) Error)
-    → k ≡ whole (length bytes) most
+    → range_of k ≡ whole_range (length bytes) most
+    → Records k.seen [] []
     → Checks names bytes (root_at pos s) k r l
     → Decides names bytes s pos most r
-decided s names bytes pos most k l (Ok x) is h = (subst (λ y. Checks names bytes (root_at pos s) y (Ok x) l) is h [] [] (λ other. refl)).passes
-decided s names bytes pos most k l (Err e) is h = subst (λ y. Checks names bytes (root_at pos s) y (Err e) l) is h [] [] (λ other. refl)
+decided s names bytes pos most k l (Ok x) range none h = subst (Passes names bytes [] [] (root_at pos s)) range (h [] [] none).passes
+decided s names bytes pos most k l (Err e) range none h = λ f. subst (λ y. PartFault names bytes [] [] (root_at pos s) y e) range (h [] [] none f)
 
 pub decided_has_value :
     (s : Shape) (knows : Names → Type 0) (names : Names) (bytes : List ℕ) (pos most : ℕ) {A : Type 0} (r : Result A Error)
     → knows names
     → Decides names bytes s pos most r
     → IfOk r (λ _. HasValue s knows bytes pos)
-decided_has_value s knows names bytes pos most (Ok x) known h = root_has_value s knows names bytes [] [] pos (whole_range (length bytes) most) known (le_refl (length bytes)) h
+decided_has_value s knows names bytes pos most (Ok x) known h = root_has_value s knows names bytes [] [] pos (whole_range (length bytes) most) known (none_stand refl) (le_refl (length bytes)) h
 decided_has_value s knows names bytes pos most (Err e) known h = tt
 
 made_same : (w v : Value) → made same (more_values w no_values) ≡ Some v → w ≡ v
@@ -82,7 +86,7 @@ root_held s knows names bytes pos v regions visits known root =
     let says = by_claimed names bytes (sized_is names bytes pos s 1) root.holds in
     let one = one_held names bytes says.all in
     let value : one.value ≡ v = made_same one.value v (subst (λ x. made same x ≡ Some v) one.is says.is_made) in
-    let inner = inside_region (length bytes) says.within _ (subst (Ascends 0 (length bytes)) says.regions_are root.ascends) in
+    let inner = claimed_inside says.regions_are (claimed_first root.ascends) in
     let ends = inner.ends in
     record {
       names = names;
@@ -93,6 +97,7 @@ root_held s knows names bytes pos v regions visits known root =
       before = [];
       after = visits;
       own_within = omega (arith, ends);
-      ascends = inner.ascends;
+      low = 0;
+      claimed = inner.claimed;
       holds = subst (λ x. Holds names bytes 1 [] (at pos s) x says.within [] visits) value one.holds;
     }

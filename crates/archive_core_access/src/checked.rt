@@ -2,6 +2,7 @@
 ghost use Rattle.std.specs.Prelude.{◌≡◌, ℕ, List, length, IfOk};
 ghost use Rattle.archive_shape_layout.specs.Content.{Names};
 ghost use Rattle.archive_shape_layout.specs.Holds.{Visit, OpenShared, root_position as position_of_root};
+ghost use Rattle.archive_shape_layout.specs.Visited.{AllStand};
 ghost use Rattle.archive_shape_checking.specs.Kept.{IsWithin, Records};
 ghost use Rattle.archive_shape_checking.specs.Checks.{Checks, Moves};
 ghost use Rattle.archive_forms_reading.specs.Parts.{HasValue};
@@ -50,6 +51,7 @@ pub fn access_pos_with_context<'a, T: CheckBytes<C>, C: ArchiveContext>(
     ensures bytes { IfOk result (λ root. root.bytes ≡ bytes.entry) }
     ensures position { IfOk result (λ root. root.pos ≡ pos) }
     ensures value { (names : Names) (inside : List OpenShared) (before : List Visit) → T.knows names → Records (C.kept context.old).seen inside before
+        → AllStand names bytes.now (C.kept context.old).start before
         → IfOk result (λ _. HasValue T.shape T.knows bytes.now pos) }
 {
     check_pos_with_context::<T, C>(alloc, bytes, pos, context)?;
@@ -69,6 +71,7 @@ pub fn access_with_context<'a, T: CheckBytes<C>, C: ArchiveContext>(
     ensures bytes { IfOk result (λ root. root.bytes ≡ bytes.entry) }
     ensures position { IfOk result (λ root. root.pos ≡ position_of_root (length bytes.now) T.shape) }
     ensures value { (names : Names) (inside : List OpenShared) (before : List Visit) → T.knows names → Records (C.kept context.old).seen inside before
+        → AllStand names bytes.now (C.kept context.old).start before
         → IfOk result (λ _. HasValue T.shape T.knows bytes.now (position_of_root (length bytes.now) T.shape)) }
 {
     let pos = root_position::<T>(bytes.len());

@@ -7,7 +7,7 @@ ghost use Rattle.archive_core_validation.specs.Depth.{unlimited};
 ghost use Rattle.archive_core_access.specs.Access.{Decides};
 
 use crate::{check_pos_with_context, root_position};
-use archive_core_validation::{ArchiveValidator, HighValidator, Validator};
+use archive_core_validation::{ArchiveValidator, HighValidator, SharedValidator, Validator};
 use archive_shape_checking::{CheckBytes, Error};
 use archive_shape_references::{Ref, Seal};
 use std::alloc::Global;
@@ -21,7 +21,10 @@ fn check_pos<T: CheckBytes<HighValidator>>(
     ensures exact { (names : Names) → T.knows names → Decides names bytes.now T.shape pos unlimited result }
     ensures value { (names : Names) → T.knows names → IfOk result (λ _. HasValue T.shape T.knows bytes.now pos) }
 {
-    let mut context = Validator::new(ArchiveValidator::new(alloc, bytes), ());
+    let mut context = Validator::new(
+        ArchiveValidator::new(alloc, bytes),
+        SharedValidator::new(alloc),
+    );
     check_pos_with_context::<T, HighValidator>(alloc, bytes, pos, &mut context)
 }
 

@@ -3,6 +3,7 @@
 
 mod buffer;
 mod serializer;
+mod sharing;
 mod writer_ext;
 
 pub use buffer::Buffer;

@@ -1,6 +1,7 @@
 //! A serializer: a writer, where memory is taken from, and what keeps the shared values that were written.
 ghost use Rattle.std.specs.Prelude.{◌≡◌};
 
+use archive_core_sharing::Share;
 use archive_shape::{Allocator, Error, Positional, Registry, Sharing, SharingState, Writer};
 use std::alloc::Global;
 
@@ -12,8 +13,8 @@ pub struct Serializer<W, A, S> {
     pub sharing: S,
 }
 
-/// A serializer that keeps no shared values.
-pub type HighSerializer<W, A> = Serializer<W, A, ()>;
+/// A serializer of any value.
+pub type HighSerializer<W, A> = Serializer<W, A, Share>;
 
 impl<W, A, S> Serializer<W, A, S> {
     /// The serializer of these parts.

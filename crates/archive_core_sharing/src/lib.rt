@@ -4,7 +4,9 @@
 mod exact;
 mod pool;
 mod share;
+mod unpool;
 
 pub use exact::{ExactClone, RcValue};
 pub use pool::Pool;
 pub use share::Share;
+pub use unpool::Unpool;

@@ -1,5 +1,5 @@
 //! What keeps what was made of each shared value.
-ghost use Rattle.std.specs.Prelude.{◌≡◌, IsOkAnd};
+ghost use Rattle.std.specs.Prelude.{◌≡◌, true, IsOkAnd};
 ghost use Rattle.std.specs.Ordering.{nat_cmp};
 ghost use Rattle.std.specs.BTreeMap.{get};
 ghost use Rattle.archive_core_sharing.specs.Kept.{progress_kept, IsNoneMet};
@@ -44,6 +44,8 @@ impl<T: ExactClone> Pool<T> {
 }
 
 impl<T: ExactClone> Pooling<T> for Pool<T> {
+    ghost KEEPS = { true };
+
     ghost known = { λ pool pos. progress_kept (get nat_cmp pool.values pos) };
 
     fn start_pooling(&mut self, pos: usize) -> Result<PoolingState<T>, Error> {

@@ -5,7 +5,7 @@ use archive_core_access::{
     access, access_mut, access_pos, access_pos_mut, access_pos_with_context, access_with_context,
     check_pos_with_context, root_position,
 };
-use archive_core_validation::{ArchiveValidator, HighValidator, Validator};
+use archive_core_validation::{ArchiveValidator, HighValidator, SharedValidator, Validator};
 use archive_forms_boxed::ArchivedBoxedSlice;
 use archive_forms_reading::{ArchivedBox, ArchivedOption, ArchivedVec};
 use archive_shape_checking::{CheckBytes, Error};
@@ -25,7 +25,7 @@ pub(crate) fn validator(alloc: Global, bytes: &[u8], max_depth: usize) -> HighVa
 {
     Validator::new(
         ArchiveValidator::with_max_depth(alloc, bytes, max_depth),
-        (),
+        SharedValidator::new(alloc),
     )
 }
 

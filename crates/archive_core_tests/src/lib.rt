@@ -11,4 +11,6 @@ mod regions;
 #[cfg(test)]
 mod serializing;
 #[cfg(test)]
+mod shared;
+#[cfg(test)]
 mod validation;

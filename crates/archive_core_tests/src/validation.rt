@@ -2,7 +2,8 @@
 mod shared;
 
 use archive_core_validation::{
-    ArchiveContext, ArchiveContextExt, ArchiveValidator, HighValidator, PushedRange, Validator,
+    ArchiveContext, ArchiveContextExt, ArchiveValidator, HighValidator, PushedRange,
+    SharedValidator, Validator,
 };
 use archive_shape::{ArchivedI32, Error};
 use std::alloc::Global;
@@ -133,7 +134,7 @@ fn pop_of_a_range_that_is_not_the_last_push(rt: HostRuntime) -> Result<(), Error
 fn pop_of_the_last_push(rt: HostRuntime) -> Result<(), Error> {
     let mut validator = HighValidator::new(
         ArchiveValidator::new(rt.alloc(), b"\0\0\0\0\0\0\0\0\0\0\0\0"),
-        (),
+        SharedValidator::new(rt.alloc()),
     );
     let range = validator.push_subtree_range(4, 8)?;
     let rows = [
@@ -206,7 +207,7 @@ fn regions_in_subtrees(rt: HostRuntime) {
 #[test]
 fn range_in_a_subtree(rt: HostRuntime) {
     let archive = ArchiveValidator::with_max_depth(rt.alloc(), b"\0\0\0\0\0\0\0\0\0\0\0\0", 2);
-    let mut validator = Validator::new(archive, ());
+    let mut validator = Validator::new(archive, SharedValidator::new(rt.alloc()));
     assert_eq!(rt;
         validator.in_subtree::<ArchivedI32, (), _>(
             4,

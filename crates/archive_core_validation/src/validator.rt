@@ -4,7 +4,7 @@ ghost use Rattle.archive_shape_layout.specs.RuntimeShape.{pointee_of};
 ghost use Rattle.archive_shape_checking.specs.Kept.{Kept, Seen, StartsShared, RefusesShared, FinishesShared};
 ghost use Rattle.archive_core_validation.specs.Depth.{none_seen, with_seen};
 
-use crate::ArchiveValidator;
+use crate::{ArchiveValidator, SharedValidator};
 use archive_shape_checking::{ArchiveContext, PushedRange, SharedContext, ValidationState};
 use archive_shape_layout::Pointee;
 use archive_shape_writing::Error;
@@ -44,8 +44,8 @@ pub struct Validator<A, S> {
     pub shared: S,
 }
 
-/// The validator of values without shared parts.
-pub type HighValidator = Validator<ArchiveValidator, ()>;
+/// The validator of any archive.
+pub type HighValidator = Validator<ArchiveValidator, SharedValidator>;
 
 impl<A, S> Validator<A, S> {
     pub fn new(archive: A, shared: S) -> Self

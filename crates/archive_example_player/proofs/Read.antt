@@ -6,13 +6,17 @@ use Rattle.archive_shape.proofs.Held.{claims_within}
 use Rattle.archive_forms_layout.specs.Text.{HasText}
 use Rattle.archive_forms_layout.proofs.Held.{held_is_text_law}
 use Rattle.archive_forms_reading.specs.Parts.{HasValue}
-use Rattle.archive_forms_tuples.specs.Fields.{IsGroupOf}
+use Rattle.archive_forms_tuples.specs.Fields.{IsGroupOf, AreFieldsAt}
 use Rattle.archive_forms_tuples.proofs.Held.{fields_at}
 use Rattle.archive_example_player.specs.Player.{level_shape, scores_shape, player_shape, player_parts, KnowsPlayer}
 
+-- each value that a player has is that of its fields
+pub fields_there : (bytes : List ℕ) (pos : ℕ) → AreFieldsAt player_parts KnowsPlayer bytes pos
+fields_there bytes pos = fields_at player_parts KnowsPlayer (λ _ known. (known.0, (known.1, (known.2, tt)))) bytes pos
+
 module _ (bytes : List ℕ) (pos : ℕ) (h : HasValue player_shape KnowsPlayer bytes pos) where
   fields : IsGroupOf player_parts bytes pos h.value
-  fields = fields_at player_parts KnowsPlayer (λ _ known. (known.0, (known.1, (known.2, tt)))) bytes pos h.value h.held
+  fields = fields_there bytes pos h.value h.held
 
   pub level_there : HasValue level_shape (λ _. ⊤) bytes pos
   level_there = record { value = fields.each.first; held = fields.each.held }

@@ -35,7 +35,8 @@ module _ (s : Shape) (bytes : List ℕ) (pos : ℕ) where
       before = h.before;
       after = h.after;
       own_within = h.own_within;
-      ascends = h.ascends;
+      low = h.low;
+      claimed = h.claimed;
       holds = same_holds h.names bytes (at pos (box (slice s))) (at pos (vector s)) (sym (one_content h.names)) h.holds;
     }
 

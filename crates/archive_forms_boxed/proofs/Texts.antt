@@ -9,7 +9,7 @@ use Rattle.archive_shape_layout.specs.Content.{Names, made, shape_content, point
 use Rattle.archive_shape_layout.specs.Content.Part.{at, behind}
 use Rattle.archive_shape_layout.specs.Content.Label.{same}
 use Rattle.archive_shape_layout.specs.Content.Content.{plain}
-use Rattle.archive_shape_layout.specs.Holds.{Holds, Ascends}
+use Rattle.archive_shape_layout.specs.Holds.{Holds}
 use Rattle.archive_shape_layout.proofs.Unique.{by_claimed}
 use Rattle.archive_shape_checking.specs.Kept.{Kept}
 use Rattle.archive_shape_checking.specs.Checks.{Checks}
@@ -18,7 +18,8 @@ use Rattle.archive_shape_checking.proofs.Below.{below_checked}
 use Rattle.archive_shape_checking.proofs.Inverted.{held_is_known}
 use Rattle.archive_shape_checking.proofs.Questions.{followed_known}
 use Rattle.archive_shape.specs.Key.{HeldAt}
-use Rattle.archive_shape.proofs.Held.{claims_within, inside_region}
+use Rattle.archive_shape_layout.proofs.Visited.{claimed_inside}
+use Rattle.archive_shape.proofs.Held.{claims_within}
 use Rattle.archive_forms_layout.proofs.Held.{TextBehind, text_behind}
 use Rattle.archive_forms_layout.proofs.TextContent.{followed}
 use Rattle.archive_forms_checking.proofs.Targets.{first_word}
@@ -59,7 +60,7 @@ module _ (bytes : List ℕ) (pos : ℕ) where
     unfolding pointee_content
     ends_before v h =
         let says = by_claimed h.names bytes refl (holds_behind v h) in
-        (inside_region pos says.within _ (subst (Ascends 0 pos) says.regions_are h.ascends)).ends
+        (claimed_inside says.regions_are h.claimed).ends
 
     pub boxed_str_there : HasValue (box str) (λ _. ⊤) bytes pos → IsBoxedStrAt bytes pos to len
     boxed_str_there h =

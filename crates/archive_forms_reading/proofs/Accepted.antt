@@ -1,25 +1,26 @@
 -- What a check accepts has a value.
-use Rattle.std.proofs.Common.{ℕ, ◌+◌, ◌≤◌, List, length, arith}
+use Rattle.std.proofs.Common.{ℕ, ◌+◌, ◌≤◌, List, length}
 use Rattle.archive_shape_layout.specs.Shape.{Shape, size_of}
 use Rattle.archive_shape_layout.specs.Content.{Names}
 use Rattle.archive_shape_layout.specs.Content.Part.{at}
-use Rattle.archive_shape_layout.specs.Holds.{Visit, OpenShared, Ascends}
-use Rattle.archive_shape_layout.proofs.Evaluated.{ascends_raised}
+use Rattle.archive_shape_layout.specs.Holds.{Visit, OpenShared}
+use Rattle.archive_shape_layout.specs.Visited.{AllStand}
+use Rattle.archive_shape_layout.proofs.Visited.{claimed_raised}
 use Rattle.archive_shape_checking.specs.Range.{Range}
 use Rattle.archive_shape_checking.specs.Accepts.{Passes}
-use Rattle.archive_shape_layout.proofs.Evaluated.{ascends_lowered}
 use Rattle.archive_forms_reading.specs.Parts.{HasValue}
 
--- where the range that it claims from lies before it
+-- where the range that it claims from lies before it, and what was visited stands below the range
 pub accepted_has_value :
     (s : Shape) (knows : Names → Type 0) (names : Names) (bytes : List ℕ) (inside : List OpenShared) (before : List Visit) (pos : ℕ) (k : Range)
     → knows names
+    → AllStand names bytes k.start before
+    → k.start ≤ k.end
     → k.end ≤ pos
     → pos + size_of s ≤ length bytes
     → Passes names bytes inside before (at pos s) k
     → HasValue s knows bytes pos
-accepted_has_value s knows names bytes inside before pos k known below fits passes =
-    let raised : Ascends k.start pos passes.regions = ascends_raised k.start k.end pos passes.regions below passes.accepts.ascends in
+accepted_has_value s knows names bytes inside before pos k known stand ordered below fits passes =
     record {
       value = passes.value;
       held = record {
@@ -31,7 +32,8 @@ accepted_has_value s knows names bytes inside before pos k known below fits pass
         before = before;
         after = passes.after;
         own_within = fits;
-        ascends = ascends_lowered 0 k.start pos passes.regions (omega arith) raised;
+        low = k.start;
+        claimed = claimed_raised below (record { stand = stand; below = ordered; ascends = passes.accepts.ascends });
         holds = passes.accepts.holds;
       };
     }

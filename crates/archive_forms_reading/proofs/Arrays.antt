@@ -16,7 +16,7 @@ unfolding shape_content
 array_at n s knows bytes pos v h =
     let is : content_of h.names bytes (at pos (array n s)) ≡ plain whole (elements pos n s) = refl in
     let says = by_plain h.names bytes is h.holds in
-    elements_stand h.names bytes s knows n pos h.level h.inside v h.known says.all h.ascends h.own_within says.is_made
+    elements_stand h.names bytes s knows n pos h.level h.low h.inside v h.known says.all h.claimed h.own_within says.is_made
 
 -- so there are elements where there is an array
 pub array_has : (n : ℕ) (s : Shape) (knows : Names → Type 0) (bytes : List ℕ) (pos : ℕ) → HasValue (array n s) knows bytes pos → HasElements s knows bytes pos n

@@ -10,8 +10,8 @@ use Rattle.archive_shape_layout.specs.Content.Content.{plain}
 use Rattle.archive_shape_layout.specs.Holds.{Region, Visit, OpenShared, Holds, HoldAll}
 use Rattle.archive_shape_layout.specs.Holds.HoldAll.{holds_none, holds_more}
 use Rattle.archive_shape_layout.proofs.Unique.{by_plain}
+use Rattle.archive_shape_layout.proofs.Visited.{claimed_raised}
 use Rattle.archive_shape.specs.Key.{HeldAt}
-use Rattle.archive_shape.proofs.Held.{ascends_before}
 
 module _ (names : Names) (bytes : List ℕ) where
   -- one part, with its value
@@ -55,7 +55,7 @@ plain_part {pos = pos} {to = to} {v = v} tag h content known later fits =
     record {
       part = one.value;
       is_made = subst (λ x. made (tagged tag) x ≡ Some v) one.is says.is_made;
-      held = record { names = h.names; known = known; level = h.level; inside = h.inside; regions = h.regions; before = h.before; after = h.after; own_within = fits; ascends = ascends_before pos to h.regions later h.ascends; holds = one.holds };
+      held = record { names = h.names; known = known; level = h.level; inside = h.inside; regions = h.regions; before = h.before; after = h.after; own_within = fits; low = h.low; claimed = claimed_raised later h.claimed; holds = one.holds };
     }
 
 -- what a call gives is some, where it can't be none

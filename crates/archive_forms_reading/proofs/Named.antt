@@ -31,7 +31,8 @@ module _ (s : Shape) (name size : ℕ) (align : Alignment) (size_is : size_of s 
         before = h.before;
         after = h.after;
         own_within = subst (λ n. pos + n ≤ length bytes) (sym size_is) h.own_within;
-        ascends = h.ascends;
+        low = h.low;
+        claimed = h.claimed;
         holds = subst (λ x. Holds h.names bytes h.level h.inside (at pos s) x h.regions h.before h.after) value one.holds;
       }
 

@@ -11,14 +11,15 @@ use Rattle.archive_shape_layout.specs.Content.{Names, content_of, made, elements
 use Rattle.archive_shape_layout.specs.Content.Part.{at, behind}
 use Rattle.archive_shape_layout.specs.Content.Label.{same, whole}
 use Rattle.archive_shape_layout.specs.Content.Content.{plain}
-use Rattle.archive_shape_layout.specs.Holds.{Region, Visit, OpenShared, Holds, HoldAll, Ascends}
+use Rattle.archive_shape_layout.specs.Holds.{Region, Visit, OpenShared, Holds, HoldAll, end_after}
 use Rattle.archive_shape_layout.specs.Holds.HoldAll.{holds_none, holds_more}
 use Rattle.archive_shape_layout.specs.Path.{value_in}
+use Rattle.archive_shape_layout.specs.Visited.{ClaimedAfter}
 use Rattle.archive_shape_layout.proofs.Unique.{by_plain, by_claimed}
+use Rattle.archive_shape_layout.proofs.Visited.{claimed_raised, claimed_front, claimed_later, claimed_inside}
 use Rattle.archive_shape_checking.proofs.Inverted.{held_is_known}
 use Rattle.archive_shape_checking.proofs.Questions.{followed_known}
 use Rattle.archive_shape.specs.Key.{HeldAt}
-use Rattle.archive_shape.proofs.Held.{ascends_before, first_ascend, others_ascend, inside_region}
 use Rattle.archive_forms_layout.proofs.TextContent.{followed}
 use Rattle.archive_forms_checking.proofs.Contents.{sized_is, slice_is}
 use Rattle.archive_forms_checking.proofs.Targets.{first_word}
@@ -44,25 +45,26 @@ element_ends start i n size most less fits =
 
 module _ (names : Names) (bytes : List ℕ) (s : Shape) where
   -- an element of a list of values stands at a position, and what it claims ascends before another
-  record ElementHolds (low level : ℕ) (inside : List OpenShared) (vs : Values) (i at_pos : ℕ) : Type 0 where
+  record ElementHolds (high level : ℕ) (inside : List OpenShared) (vs : Values) (i at_pos : ℕ) : Type 0 where
     element : Value
     there : value_in i vs ≡ Some element
     regions : List Region
     before : List Visit
     after : List Visit
-    ascends : Ascends 0 low regions
+    low : ℕ
+    claimed : ClaimedAfter names bytes before low high regions
     holds : Holds names bytes level inside (at at_pos s) element regions before after
 
   element_holds :
-      (low n start : ℕ) {level : ℕ} {inside : List OpenShared} {vs : Values} {regions : List Region} {before after : List Visit}
+      (low high n start : ℕ) {level : ℕ} {inside : List OpenShared} {vs : Values} {regions : List Region} {before after : List Visit}
       → HoldAll names bytes level inside (elements start n s) vs regions before after
-      → Ascends 0 low regions
+      → ClaimedAfter names bytes before low high regions
       → (i : ℕ)
       → i < n
-      → ElementHolds low level inside vs i (start + i * size_of s)
+      → ElementHolds high level inside vs i (start + i * size_of s)
   unfolding elements
-  element_holds low zero start h ascends i less = absurd (omega (arith, less))
-  element_holds low (suc n) start {level} {inside} {vs} (holds_more {v = v} {vs = us} {here = here} {later = later} {before = before} {between = between} x rest is joined) ascends zero less =
+  element_holds low high zero start h claimed i less = absurd (omega (arith, less))
+  element_holds low high (suc n) start {level} {inside} {vs} (holds_more {v = v} {vs = us} {here = here} {later = later} {before = before} {between = between} x rest is joined) claimed zero less =
       let first : start ≡ start + 0 * size_of s = omega arith in
       record {
         element = v;
@@ -70,11 +72,12 @@ module _ (names : Names) (bytes : List ℕ) (s : Shape) where
         regions = here;
         before = before;
         after = between;
-        ascends = first_ascend low here later (subst (Ascends 0 low) joined ascends);
+        low = low;
+        claimed = claimed_front later joined claimed;
         holds = subst (λ p. Holds names bytes level inside (at p s) v here before between) first x;
       }
-  element_holds low (suc n) start {level} {inside} {vs} (holds_more {v = v} {vs = us} {here = here} {later = later} x rest is joined) ascends (suc i) less =
-      let next = element_holds low n (start + size_of s) rest (others_ascend low here later (subst (Ascends 0 low) joined ascends)) i (omega (arith, less)) in
+  element_holds low high (suc n) start {level} {inside} {vs} (holds_more {v = v} {vs = us} {here = here} {later = later} x rest is joined) claimed (suc i) less =
+      let next = element_holds (end_after low here) high n (start + size_of s) rest (claimed_later x joined claimed) i (omega (arith, less)) in
       let later_at : start + size_of s + i * size_of s ≡ start + suc i * size_of s = omega arith in
       record {
         element = next.element;
@@ -82,7 +85,8 @@ module _ (names : Names) (bytes : List ℕ) (s : Shape) where
         regions = next.regions;
         before = next.before;
         after = next.after;
-        ascends = next.ascends;
+        low = next.low;
+        claimed = next.claimed;
         holds = subst (λ p. Holds names bytes level inside (at p s) next.element next.regions next.before next.after) later_at next.holds;
       }
 
@@ -96,22 +100,22 @@ module _ (names : Names) (bytes : List ℕ) (s : Shape) where
 
 -- elements that the layout has are those of a value
 pub elements_stand :
-    (names : Names) (bytes : List ℕ) (s : Shape) (knows : Names → Type 0) (n start level : ℕ) (inside : List OpenShared)
+    (names : Names) (bytes : List ℕ) (s : Shape) (knows : Names → Type 0) (n start level low : ℕ) (inside : List OpenShared)
     {vs : Values} {regions : List Region} {before after : List Visit} (v : Value)
     → knows names
     → HoldAll names bytes level inside (elements start n s) vs regions before after
-    → Ascends 0 start regions
+    → ClaimedAfter names bytes before low start regions
     → start + n * size_of s ≤ length bytes
     → made whole vs ≡ Some v
     → AreElements s knows bytes start n v
-elements_stand names bytes s knows n start level inside {vs} v known all ascends fits is =
+elements_stand names bytes s knows n start level low inside {vs} v known all claimed fits is =
     record {
       elements = vs;
       is = made_whole vs v is;
       count = count_held names bytes s n start all;
       within = fits;
       each = λ i less.
-          let one = element_holds names bytes s start n start all ascends i less in (
+          let one = element_holds names bytes s low start n start all claimed i less in (
             one.element,
             one.there,
             record {
@@ -123,7 +127,8 @@ elements_stand names bytes s knows n start level inside {vs} v known all ascends
               before = one.before;
               after = one.after;
               own_within = element_ends start i n (size_of s) (length bytes) less fits;
-              ascends = ascends_before start (start + i * size_of s) one.regions (omega arith) one.ascends;
+              low = one.low;
+              claimed = claimed_raised (omega arith) one.claimed;
               holds = one.holds;
             },
           );
@@ -164,7 +169,7 @@ module _ (s : Shape) (knows : Names → Type 0) (bytes : List ℕ) (pos : ℕ) w
       let says = by_claimed h.names bytes (sized_is h.names bytes to s 1) whole_target in
       let one = one_held h.names bytes says.all in
       let value : one.value ≡ v = made_same one.value v (subst (λ x. made same x ≡ Some v) one.is says.is_made) in
-      let inner = inside_region pos says.within _ (subst (Ascends 0 pos) says.regions_are h.ascends) in
+      let inner = claimed_inside says.regions_are h.claimed in
       let ends = inner.ends in
       let own = h.own_within in
       record {
@@ -178,7 +183,8 @@ module _ (s : Shape) (knows : Names → Type 0) (bytes : List ℕ) (pos : ℕ) w
           before = h.before;
           after = h.after;
           own_within = omega (arith, ends, own);
-          ascends = inner.ascends;
+          low = h.low;
+          claimed = inner.claimed;
           holds = subst (λ x. Holds h.names bytes (suc h.level) h.inside (at to s) x says.within h.before h.after) value one.holds;
         };
       }
@@ -209,12 +215,12 @@ module _ (s : Shape) (knows : Names → Type 0) (bytes : List ℕ) (pos : ℕ) w
       let leads : target_from pos (word_at (window bytes pos 8) 0) ≡ Some to = subst (λ word. target_from pos word ≡ Some to) (sym (first_word bytes pos 8 (omega arith))) points in
       let whole_target = target_holds h to (slice s) len (followed _ to _ leads ∙ ap (λ m. plain same (behind to (slice s) m ∷ [])) says_len) in
       let says = by_claimed h.names bytes (slice_is h.names bytes to s len) whole_target in
-      let inner = inside_region pos says.within _ (subst (Ascends 0 pos) says.regions_are h.ascends) in
+      let inner = claimed_inside says.regions_are h.claimed in
       let ends = inner.ends in
       let own = h.own_within in
       record {
         before = omega (arith, ends);
-        stand = elements_stand h.names bytes s knows len to (suc h.level) h.inside v h.known says.all inner.ascends (omega (arith, ends, own)) says.is_made;
+        stand = elements_stand h.names bytes s knows len to (suc h.level) h.low h.inside v h.known says.all inner.claimed (omega (arith, ends, own)) says.is_made;
       }
 
   pub vec_there : (to len : ℕ) → PointsTo bytes pos to → word_at (window bytes pos 8) 4 ≡ len → IsVecAt s knows bytes pos to len

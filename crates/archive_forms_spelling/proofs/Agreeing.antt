@@ -15,7 +15,7 @@ use Rattle.archive_forms_spelling.specs.Spelling.{Spelling}
 use Rattle.archive_forms_spelling.specs.Regions.{state_after_all, values, plain_values, all_suit, pieces, owns, pieces_fit, pieces_refused, owns_fit, owns_refused, region_at}
 use Rattle.archive_forms_spelling.specs.Pointers.{slice_spelling}
 use Rattle.archive_forms_spelling.specs.Levels.{levels_spelling, self_spelling}
-use Rattle.archive_forms_spelling.specs.Serializing.{IsAt, Lays, Serializes}
+use Rattle.archive_forms_spelling.specs.Serializing.{IsAt, LaysData, Serializes}
 
 -- what a spelling says of one value
 pub record Said (R : Type 0) : Type 1 where
@@ -58,7 +58,7 @@ pub serializes_alike :
 serializes_alike {R = R} w u x alike m old new result h =
     let Promised : Said R → Type 0 = λ o.
     (st : State) → IsAt m.pos m.known old st
-    → Lays m old new (o.piece st) (λ r. (r ≡ o.resolver st) × o.piece_fits st × IsAt m.pos m.known new (state_said o st)) (o.piece_refused st) result in
+    → LaysData m old new (o.piece st) (λ r. (r ≡ o.resolver st) × o.piece_fits st × IsAt m.pos m.known new (state_said o st)) (o.piece_refused st) result in
     subst Promised alike h
 
 module _ {A R : Type 0} (w u : Spelling A R) where

@@ -15,6 +15,7 @@ pub mod Fields
 pub mod Arrays
 pub mod Texts
 pub mod Limits
+pub mod Behind
 pub mod Shared
 pub mod Written
 pub mod Progress

@@ -28,7 +28,7 @@ use Rattle.archive_forms_spelling.proofs.Pointers.{slice_spells, box_spells}
 use Rattle.archive_forms_spelling.proofs.Options.{option_spells}
 use Rattle.archive_forms_spelling.proofs.Fields.{tuple2_spells}
 use Rattle.archive_forms_spelling.proofs.Texts.{text_spells}
-use Rattle.archive_forms_spelling.proofs.Shared.{shared_spells}
+use Rattle.archive_forms_spelling.proofs.Shared.{shared_value_spells}
 use Rattle.archive_forms_spelling.proofs.Written.{is_written}
 
 pub number_spells : (fit : Fit) → Spells fit number_shape KnowsAll number_spelling
@@ -38,7 +38,7 @@ number_spells fit = leaf_spells fit number_shape KnowsAll (to_le_bytes w32) natu
 
 pub keyed_spells : (fit : Fit) → Spells fit (shared false (sized number_shape)) KnowsAll keyed_spelling
 keyed_spells fit =
-    shared_spells fit false number_shape KnowsAll (λ x. x.0) (seen_as (λ x. x.1) number_spelling)
+    shared_value_spells fit false number_shape KnowsAll (seen_as (λ x. x.1) number_spelling) (λ x. x.0)
     (seen_spells fit number_shape KnowsAll (λ x. x.1) number_spelling (number_spells fit))
 
 pub keyed_list_spells : (fit : Fit) → Spells fit keyed_list_shape KnowsAll keyed_list
@@ -96,7 +96,7 @@ two_fit =
     let from_root : FitsOffset 12 4 = record { sfits = omega (arith, ints) } in (
       (
         (
-          ((tt, ((tt, tt), small 0 (omega arith), (((λ names pos. refl, refl, bytes_word 5), little 4 (omega arith)), tt))), (tt, tt)),
+          ((tt, ((tt, tt), small 0 (omega arith), (((λ names pos. refl, refl, bytes_word 5), little 4 (omega arith)), tt)), refl), (tt, tt)),
           small 4 (omega arith),
           ((from_first, little 8 (omega arith)), ((from_second, little 12 (omega arith)), tt)),
         ),

@@ -9,7 +9,7 @@ use Rattle.archive_shape_layout.specs.Value.Value.{natural}
 use Rattle.archive_forms_spelling.specs.Spelling.{Spelling}
 use Rattle.archive_forms_spelling.specs.Forms.{leaf_spelling, seen_as}
 use Rattle.archive_forms_spelling.specs.Pointers.{slice_spelling, box_spelling}
-use Rattle.archive_forms_spelling.specs.Shared.{shared_spelling}
+use Rattle.archive_forms_spelling.specs.Shared.{shared_value_spelling}
 use Rattle.archive_forms_spelling.specs.Options.{option_spelling}
 use Rattle.archive_forms_spelling.specs.Fields.{tuple2_spelling}
 
@@ -25,7 +25,7 @@ abbrev pub keyed_list_shape : Shape
 keyed_list_shape = vector (shared false (sized number_shape))
 
 abbrev pub keyed_spelling : Spelling (ℕ × ℕ) ℕ
-keyed_spelling = shared_spelling number_shape (λ x. x.0) (seen_as (λ x. x.1) number_spelling)
+keyed_spelling = shared_value_spelling number_shape (λ x. x.0) (seen_as (λ x. x.1) number_spelling)
 
 abbrev pub keyed_list : Spelling (List (ℕ × ℕ)) ℕ
 keyed_list = slice_spelling (shared false (sized number_shape)) keyed_spelling

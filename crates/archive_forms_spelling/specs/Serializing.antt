@@ -48,6 +48,18 @@ pub record Stopped {W : Type 0} (observable : Bool) (contents : W → List ℕ) 
   pub is_quiet : failures new ≡ failures old
   pub reason : (e ≡ OutOfMemory) ⊎ refused e
 
+-- The members of a writer while data is written: what becomes known of keys, which may be new in it, a state says.
+abbrev pub of_data : {W : Type 0} → WriterMembers W → WriterMembers W
+of_data s = record {
+  known = λ w key. unmet;
+  pos = s.pos;
+  OBSERVABLE = s.OBSERVABLE;
+  COUNTS = s.COUNTS;
+  contents = s.contents;
+  failures = s.failures;
+  last_error = s.last_error;
+}
+
 -- what a call that writes a piece promises, of a writer whose members are given as one record
 abbrev pub Lays : {W B : Type 0} → WriterMembers W
     → W → W → List ℕ → (B → Type 0) → (Error → Type 0) → Result B Error → Type 0
@@ -56,13 +68,18 @@ Lays s old new piece ok refused result =
     (λ r. Written s.OBSERVABLE s.COUNTS s.contents s.pos s.failures s.last_error s.known old new piece × ok r)
     (λ e. Failed s.OBSERVABLE s.COUNTS s.contents s.pos s.failures s.last_error s.known old new piece e ⊎ Stopped s.OBSERVABLE s.contents s.failures old new piece refused e)
 
+-- the same of a call that writes data
+abbrev pub LaysData : {W B : Type 0} → WriterMembers W
+    → W → W → List ℕ → (B → Type 0) → (Error → Type 0) → Result B Error → Type 0
+LaysData s old new piece ok refused result = Lays (of_data s) old new piece ok refused result
+
 -- what a call that writes the data of a value promises, whose answer keeps the resolver, of each state that the serializer
 -- may be in
 abbrev pub SerializesBy : {A R Q W : Type 0} → (Q → R) → Spelling A R → WriterMembers W
     → A → W → W → Result Q Error → Type 0
 SerializesBy kept w s x old new result =
     (st : State) → IsAt s.pos s.known old st
-    → Lays s old new (w.piece x st) (λ q. (kept q ≡ w.resolver x st) × w.piece_fits x st × IsAt s.pos s.known new (state_after w x st)) (w.piece_refused x st) result
+    → LaysData s old new (w.piece x st) (λ q. (kept q ≡ w.resolver x st) × w.piece_fits x st × IsAt s.pos s.known new (state_after w x st)) (w.piece_refused x st) result
 
 -- the same of a call whose answer is the resolver
 abbrev pub Serializes : {A R W : Type 0} → Spelling A R → WriterMembers W

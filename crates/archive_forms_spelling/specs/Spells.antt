@@ -1,9 +1,10 @@
 -- That what is written is what the layout reads, and is canonical.
-use Rattle.std.specs.Prelude.{◌≡◌, ℕ, ◌≤◌, ◌<◌, List, [], ◌∷◌, length, slice_index, ◌⊎◌, ⊤}
-use Rattle.archive_shape_layout.specs.Shape.{Shape, size_of}
+use Rattle.std.specs.Prelude.{◌≡◌, ℕ, ◌≤◌, ◌<◌, List, [], ◌∷◌, length, slice_index, Some, ◌⊎◌, ⊤}
+use Rattle.archive_shape_layout.specs.Bytes.{window, word_at, target_from}
+use Rattle.archive_shape_layout.specs.Shape.{Shape, Pointee, size_of, pointer_size}
 use Rattle.archive_shape_layout.specs.Value.{Value}
-use Rattle.archive_shape_layout.specs.Content.{Names, Part}
-use Rattle.archive_shape_layout.specs.Content.Part.{at}
+use Rattle.archive_shape_layout.specs.Content.{Names, Part, pointee_length}
+use Rattle.archive_shape_layout.specs.Content.Part.{at, behind}
 use Rattle.archive_shape_layout.specs.Holds.{Region, Visit, OpenShared, Ascends}
 use Rattle.archive_shape_canonical.specs.Settled.{Fit}
 use Rattle.archive_shape_canonical.specs.Sharing.{erased}
@@ -11,7 +12,7 @@ use Rattle.archive_shape_canonical.specs.Canonical.{InRegions, AreBytes}
 use Rattle.archive_shape_canonical.specs.Laws.{CanonicalIn}
 use Rattle.archive_shape_references.specs.Bytes.{HasBytes}
 use Rattle.archive_shape_writing.specs.declared.error.Error.{Error}
-use Rattle.archive_forms_spelling.specs.State.{State, Keys, visits_of, IsConsistent, AllFrom, AreKeyedBy}
+use Rattle.archive_forms_spelling.specs.State.{State, Keys, visits_of, IsConsistent, AllBefore, AllFrom, AreKeyedBy}
 use Rattle.archive_forms_spelling.specs.Spelling.{Spelling, state_after}
 
 -- each byte from a position to another lies in one of the regions, or is zero
@@ -52,6 +53,26 @@ pub record SpellsAt {A R : Type 0} (fit : Fit) (s : Shape) (knows : Names → Ty
   -- what passes no limit is not refused
   pub piece_exact : (st : State) (e : Error) → w.piece_fits x st → w.piece_refused x st e → ⊥
   pub own_exact : (r : R) (pos : ℕ) (e : Error) → w.own_fits x r pos → w.own_refused x r pos e → ⊥
+
+-- Of what a pointer leads to: its resolver is where the pointee stands, behind what its data met. Wherever the pointee was
+-- written, the layout has it as writing makes it, and own bytes lead to it and say how many elements it has.
+pub record SpellsBehind {A : Type 0} (fit : Fit) (q : Pointee) (knows : Names → Type 0) (len : A → ℕ) (w : Spelling A ℕ) (x : A) : Type 0 where
+  pub leads :
+      (bytes : List ℕ) (to pos : ℕ) → w.own_fits x to pos → HasBytes bytes pos (w.own x to pos)
+      → (target_from pos (word_at (window bytes pos (pointer_size q)) 0) ≡ Some to) × (pointee_length q (window bytes pos (pointer_size q)) ≡ len x)
+  pub begins : (st : State) → w.piece_fits x st → st.pos ≤ w.resolver x st
+  pub ends : (st : State) → w.piece_fits x st → w.resolver x st ≤ (state_after w x st).pos
+  pub behind_met : (st : State) → IsConsistent st → w.piece_fits x st → AllBefore (w.resolver x st) (w.met x st)
+  pub canonical :
+      (st : State) (names : Names) (keys : Keys) (bytes : List ℕ) (level : ℕ) (inside : List OpenShared)
+      → knows names
+      → w.suits fit keys x
+      → AreKeyedBy keys st.met
+      → IsConsistent st
+      → AllFrom (w.resolver x st) inside
+      → w.piece_fits x st
+      → HasBytes bytes st.pos (w.piece x st)
+      → CanonicalPart fit names bytes level inside (visits_of st.met) (visits_of (w.met x st)) (behind (w.resolver x st) q (len x)) (w.value x st) st.pos (state_after w x st).pos
 
 -- of each value of a list
 abbrev pub EachSpells : {A R : Type 0} → Fit → Shape → (Names → Type 0) → Spelling A R → List A → Type 0

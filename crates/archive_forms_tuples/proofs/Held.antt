@@ -9,12 +9,13 @@ use Rattle.archive_shape_layout.specs.Content.{Names, fields, content_of, shape_
 use Rattle.archive_shape_layout.specs.Content.Part.{at}
 use Rattle.archive_shape_layout.specs.Content.Label.{whole}
 use Rattle.archive_shape_layout.specs.Content.Content.{plain}
-use Rattle.archive_shape_layout.specs.Holds.{Region, Visit, OpenShared, HoldAll, Ascends}
+use Rattle.archive_shape_layout.specs.Holds.{Region, Visit, OpenShared, HoldAll, end_after}
 use Rattle.archive_shape_layout.specs.Holds.HoldAll.{holds_none, holds_more}
+use Rattle.archive_shape_layout.specs.Visited.{ClaimedAfter}
 use Rattle.archive_shape_layout.proofs.Framed.{le_align_up, le_fields_end}
 use Rattle.archive_shape_layout.proofs.Unique.{by_plain}
+use Rattle.archive_shape_layout.proofs.Visited.{claimed_raised, claimed_front, claimed_later}
 use Rattle.archive_shape_references.proofs.PointerSizes.{first_multiple}
-use Rattle.archive_shape.proofs.Held.{ascends_before, first_ascend, others_ascend}
 use Rattle.archive_forms_reading.proofs.Pointed.{made_whole}
 use Rattle.archive_forms_tuples.specs.Fields.{Field, shapes_of, BeginsWith, AreBehind, AreFields, AreFieldsAt}
 
@@ -26,17 +27,16 @@ AllKnow (f ∷ fs) names = f.knows names × AllKnow fs names
 module _ (names : Names) (bytes : List ℕ) (pos : ℕ) where
   -- fields from an offset on
   fields_behind :
-      (fs : List Field) (offset : ℕ) {level : ℕ} {inside : List OpenShared} {vs : Values} {regions : List Region} {before after : List Visit}
+      (fs : List Field) (offset low : ℕ) {level : ℕ} {inside : List OpenShared} {vs : Values} {regions : List Region} {before after : List Visit}
       → AllKnow fs names
       → HoldAll names bytes level inside (fields pos offset (shapes_of fs)) vs regions before after
-      → Ascends 0 pos regions
+      → ClaimedAfter names bytes before low pos regions
       → pos + fields_end (shapes_of fs) offset ≤ length bytes
       → AreBehind fs bytes pos offset vs
   unfolding fields
-  fields_behind [] offset known (holds_none none empty stays) ascends fits = none
-  fields_behind (f ∷ fs) offset {level} {inside} known (holds_more {v = v} {vs = vs} {here = here} {later = later} {before = before} {between = between} x rest is joined) ascends fits =
+  fields_behind [] offset low known (holds_none none empty stays) claimed fits = none
+  fields_behind (f ∷ fs) offset low {level} {inside} known (holds_more {v = v} {vs = vs} {here = here} {later = later} {before = before} {between = between} x rest is joined) claimed fits =
       let from = align_up offset (align_of f.shape) in
-      let both = subst (Ascends 0 pos) joined ascends in
       let behind = le_fields_end (shapes_of fs) (from + size_of f.shape) in
       record {
         first = v;
@@ -51,10 +51,11 @@ module _ (names : Names) (bytes : List ℕ) (pos : ℕ) where
           before = before;
           after = between;
           own_within = omega (arith, behind, fits);
-          ascends = ascends_before pos (pos + from) here (omega arith) (first_ascend pos here later both);
+          low = low;
+          claimed = claimed_raised (omega arith) (claimed_front later joined claimed);
           holds = x;
         };
-        rest = fields_behind fs (from + size_of f.shape) known.1 rest (others_ascend pos here later both) fits;
+        rest = fields_behind fs (from + size_of f.shape) (end_after low here) known.1 rest (claimed_later x joined claimed) fits;
       }
 
   -- all fields: the first stands at the position
@@ -80,5 +81,5 @@ fields_at fs knows known bytes pos v h =
     record {
       values = says.vs;
       is = made_whole says.vs v says.is_made;
-      each = all_fields h.names bytes pos fs says.vs (fields_behind h.names bytes pos fs 0 (known h.names h.known) says.all h.ascends (omega (arith, padded, h.own_within)));
+      each = all_fields h.names bytes pos fs says.vs (fields_behind h.names bytes pos fs 0 h.low (known h.names h.known) says.all h.claimed (omega (arith, padded, h.own_within)));
     }

@@ -1,5 +1,5 @@
 //! Borrowed values, slices and texts that pointers lead to.
-ghost use Rattle.std.specs.Prelude.{◌≡◌, ℕ, ◌-◌, ◌^◌, ◌<◌, ⊤, refl};
+ghost use Rattle.std.specs.Prelude.{◌≡◌, ℕ, ◌-◌, ◌^◌, ◌<◌, length, ⊤, refl};
 ghost use Rattle.archive_shape_layout.specs.Shape.Shape.{box};
 ghost use Rattle.archive_shape_layout.specs.Shape.Pointee.{sized, slice, str};
 ghost use Rattle.archive_forms_spelling.specs.Forms.{seen_as};
@@ -9,7 +9,8 @@ ghost use Rattle.archive_forms_spelling.specs.Serializing.{CanResolve, HasState,
 ghost use Rattle.archive_forms_unsized.specs.Pointed.{box_of};
 ghost use Rattle.archive_forms_spelling.proofs.Pointers.{box_spells, boxed_slice_spells};
 ghost use Rattle.archive_forms_spelling.proofs.Texts.{boxed_text_spells};
-ghost use Rattle.archive_forms_spelling.proofs.Views.{seen_spells};
+ghost use Rattle.archive_forms_spelling.proofs.Views.{each_spells, seen_spells};
+ghost use Rattle.archive_forms_spelling.proofs.Behind.{value_behind, elements_behind, text_behind, seen_behind};
 
 use crate::{ArchiveUnsized, SerializeUnsized};
 use archive_forms_boxed::{ArchivedBoxedSlice, ArchivedBoxedStr};
@@ -24,6 +25,8 @@ impl<'a, T: Archive> ArchiveUnsized for &'a T {
     type Archived = T::Archived;
 
     type Boxed = ArchivedBox<T::Archived>;
+
+    ghost count = { λ _. 1 };
 
     ghost pointed = { seen_as (λ r. r.now) (box_spelling T.Archived.shape T.spelling) };
 
@@ -48,6 +51,9 @@ impl<'a, T: Archive> ArchiveUnsized for &'a T {
 
     ghost spells = { λ fit. seen_spells fit (box (sized T.Archived.shape)) T.Archived.knows (λ r. r.now) (box_spelling T.Archived.shape T.spelling)
         (box_spells fit T.Archived.shape T.Archived.knows T.spelling (T.spells fit)) };
+
+    ghost behind = { λ fit x. seen_behind fit (sized T.Archived.shape) T.Archived.knows (λ r. r.now) (λ _. 1) (box_spelling T.Archived.shape T.spelling) x
+        (value_behind fit T.Archived.shape T.Archived.knows T.spelling x.now (T.spells fit x.now)) };
 }
 
 impl<'a, S: Writer + Allocator, T: Serialize<S>> SerializeUnsized<S> for &'a T {
@@ -68,6 +74,8 @@ impl<'a, T: Archive> ArchiveUnsized for &'a [T] {
     type Archived = Slice<T::Archived>;
 
     type Boxed = ArchivedBoxedSlice<T::Archived>;
+
+    ghost count = { λ r. length r.now };
 
     ghost pointed = { seen_as (λ r. r.now) (slice_spelling T.Archived.shape T.spelling) };
 
@@ -96,6 +104,9 @@ impl<'a, T: Archive> ArchiveUnsized for &'a [T] {
 
     ghost spells = { λ fit. seen_spells fit (box (slice T.Archived.shape)) T.Archived.knows (λ r. r.now) (slice_spelling T.Archived.shape T.spelling)
         (boxed_slice_spells fit T.Archived.shape T.Archived.knows T.spelling (T.spells fit)) };
+
+    ghost behind = { λ fit x. seen_behind fit (slice T.Archived.shape) T.Archived.knows (λ r. r.now) length (slice_spelling T.Archived.shape T.spelling) x
+        (elements_behind fit T.Archived.shape T.Archived.knows T.spelling x.now (each_spells fit T.Archived.shape T.Archived.knows T.spelling (T.spells fit) x.now)) };
 }
 
 impl<'a, S: Writer + Allocator, T: Serialize<S>> SerializeUnsized<S> for &'a [T] {
@@ -116,6 +127,8 @@ impl<'a> ArchiveUnsized for &'a str {
     type Archived = Str;
 
     type Boxed = ArchivedBoxedStr;
+
+    ghost count = { λ r. length r.now };
 
     ghost pointed = { seen_as (λ r. r.now) boxed_text_spelling };
 
@@ -143,6 +156,8 @@ impl<'a> ArchiveUnsized for &'a str {
     ghost boxed = { refl };
 
     ghost spells = { λ fit. seen_spells fit (box str) (λ _. ⊤) (λ r. r.now) boxed_text_spelling (boxed_text_spells fit (λ _. ⊤)) };
+
+    ghost behind = { λ fit x. seen_behind fit str (λ _. ⊤) (λ r. r.now) length boxed_text_spelling x (text_behind fit (λ _. ⊤) x.now) };
 }
 
 impl<'a, S: Writer + Allocator> SerializeUnsized<S> for &'a str {

@@ -3,7 +3,7 @@ ghost use Rattle.std.specs.Prelude.{◌≡◌, ℕ, ◌-◌, ◌^◌, ◌<◌};
 ghost use Rattle.archive_shape_layout.specs.Shape.Shape.{box};
 ghost use Rattle.archive_shape_canonical.specs.Settled.{Fit};
 ghost use Rattle.archive_forms_spelling.specs.Spelling.{Spelling};
-ghost use Rattle.archive_forms_spelling.specs.Spells.{Spells};
+ghost use Rattle.archive_forms_spelling.specs.Spells.{Spells, SpellsBehind};
 ghost use Rattle.archive_forms_spelling.specs.Serializing.{CanResolve, HasState, Resolves, Serializes};
 ghost use Rattle.archive_forms_unsized.specs.Pointed.{box_of};
 
@@ -18,6 +18,9 @@ pub trait ArchiveUnsized {
     /// The archived box of it.
     type Boxed: Portable;
 
+    /// How many elements it has, or bytes of a text. A value of a fixed size is one.
+    ghost count: { Self → ℕ };
+
     /// How a pointer to the value is archived. The resolver is the position that it leads to.
     ghost pointed: { Spelling Self ℕ };
 
@@ -31,6 +34,9 @@ pub trait ArchiveUnsized {
 
     /// What is written is what the layout reads, and is the one archive of the pointer.
     ghost spells: { (fit : Fit) → Spells fit Self.Boxed.shape Self.Boxed.knows pointed };
+
+    /// So is what it leads to, at that position.
+    ghost behind: { (fit : Fit) (x : Self) → SpellsBehind fit Self.Archived.pointee Self.Boxed.knows count pointed x };
 }
 
 /// What a pointer can lead to, and can be archived by a serializer.

@@ -5,7 +5,7 @@ use Rattle.archive_shape_writing.specs.Writing.{WriterMembers, Written, Failed, 
 use Rattle.archive_shape_writing.specs.declared.error.Error.{Error}
 use Rattle.archive_shape_writing.specs.declared.error.Error.TheVariants.{OutOfMemory}
 use Rattle.archive_shape_writing.proofs.Joined.{cut_none, cut_first, cut_after, written_both, failed_first, failed_after}
-use Rattle.archive_forms_spelling.specs.Serializing.{Stopped, Lays}
+use Rattle.archive_forms_spelling.specs.Serializing.{Stopped, Lays, of_data}
 
 module _ {W : Type 0} (s : WriterMembers W) where
   abbrev pub Wrote : W → W → List ℕ → Type 0
@@ -51,3 +51,16 @@ module _ {W : Type 0} (s : WriterMembers W) where
       → piece ≡ other → ((r : B) → ok r) → Writes s old new other result → Lays s old new piece ok refused result
   writes_lays old new piece other ok refused (Ok r) is f w = let P : List ℕ → Type 0 = λ l. Wrote old new l in (subst P (sym is) w, f r)
   writes_lays old new piece other ok refused (Err e) is f w = let P : List ℕ → Type 0 = λ l. Stops old new l refused e in subst P (sym is) (inl w)
+
+-- ---- own bytes as data
+
+module _ {W : Type 0} (s : WriterMembers W) where
+  pub as_data : {old new : W} {piece : List ℕ} → Wrote s old new piece → Wrote (of_data s) old new piece
+  as_data h = record { gains = h.gains; moves = h.moves; is_quiet = h.is_quiet; keeps = λ key. refl }
+
+  pub fails_as_data : {old new : W} {piece : List ℕ} {e : Error} → Fails s old new piece e → Fails (of_data s) old new piece e
+  fails_as_data h = record { is_cut = h.is_cut; is_short = h.is_short; is_counted = h.is_counted; is_last = h.is_last; keeps = λ key. refl }
+
+  pub stops_as_data : {old new : W} {piece : List ℕ} {refused : Error → Type 0} {e : Error} → Stops s old new piece refused e → Stops (of_data s) old new piece refused e
+  stops_as_data (inl h) = inl (fails_as_data h)
+  stops_as_data (inr h) = inr h

@@ -9,7 +9,7 @@ use Rattle.archive_shape_writing.proofs.Joined.{written_none}
 use Rattle.archive_forms_spelling.specs.State.{State}
 use Rattle.archive_forms_spelling.specs.Spelling.{Spelling, state_after}
 use Rattle.archive_forms_spelling.specs.Regions.{state_after_all, pieces, resolvers, owns, pieces_fit, pieces_refused, placed_fits, placed_refused, owns_fit, owns_refused}
-use Rattle.archive_forms_spelling.specs.Serializing.{IsAt}
+use Rattle.archive_forms_spelling.specs.Serializing.{IsAt, of_data}
 use Rattle.archive_forms_writing.proofs.Laying.{Wrote, Stops, wrote_both, stopped_after, stopped_first, stopped_before}
 
 -- the rest of a list begins with the element at its index
@@ -31,7 +31,7 @@ module _ {A R W : Type 0} (w : Spelling A R) (s : WriterMembers W) (xs : List A)
     pub left : State
     pub is_at : IsAt s.pos s.known now left
     pub done : List ℕ
-    pub wrote : Wrote s old now done
+    pub wrote : Wrote (of_data s) old now done
     pub rest : pieces w xs st ≡ done ++ pieces w (drop i xs) left
     pub kept_rest : resolvers w xs st ≡ kept ++ resolvers w (drop i xs) left
     pub ends : state_after_all w xs st ≡ state_after_all w (drop i xs) left
@@ -43,7 +43,7 @@ module _ {A R W : Type 0} (w : Spelling A R) (s : WriterMembers W) (xs : List A)
 
   -- the data of the next one was written
   pub reached_next : (i : ℕ) (now next : W) (kept : List R) (x : A) → drop i xs ≡ x ∷ drop (i + 1) xs → (h : Reached i now kept)
-      → Wrote s now next (w.piece x h.left) → w.piece_fits x h.left → IsAt s.pos s.known next (state_after w x h.left) → Reached (i + 1) next (kept ++ w.resolver x h.left ∷ [])
+      → Wrote (of_data s) now next (w.piece x h.left) → w.piece_fits x h.left → IsAt s.pos s.known next (state_after w x h.left) → Reached (i + 1) next (kept ++ w.resolver x h.left ∷ [])
   reached_next i now next kept x e h g f is =
       let piece = w.piece x h.left in
       let then = state_after w x h.left in
@@ -52,7 +52,7 @@ module _ {A R W : Type 0} (w : Spelling A R) (s : WriterMembers W) (xs : List A)
         left = then;
         is_at = is;
         done = h.done ++ piece;
-        wrote = wrote_both s (h.done ++ piece) refl h.wrote g;
+        wrote = wrote_both (of_data s) (h.done ++ piece) refl h.wrote g;
         rest = h.rest ∙ ap (λ l. h.done ++ pieces w l h.left) e ∙ sym (append_assoc h.done piece (pieces w later then));
         kept_rest = h.kept_rest ∙ ap (λ l. kept ++ resolvers w l h.left) e ∙ sym (append_assoc kept (w.resolver x h.left ∷ []) (resolvers w later then));
         ends = h.ends ∙ ap (λ l. state_after_all w l h.left) e;
@@ -62,47 +62,47 @@ module _ {A R W : Type 0} (w : Spelling A R) (s : WriterMembers W) (xs : List A)
 
   -- a call stopped in the data of the next one
   pub reached_stopped : (i : ℕ) (now new : W) (kept : List R) (x : A) (e : Error) → drop i xs ≡ x ∷ drop (i + 1) xs → (h : Reached i now kept)
-      → Stops s now new (w.piece x h.left) (w.piece_refused x h.left) e
-      → Stops s old new (pieces w xs st) (pieces_refused w xs st) e
+      → Stops (of_data s) now new (w.piece x h.left) (w.piece_refused x h.left) e
+      → Stops (of_data s) old new (pieces w xs st) (pieces_refused w xs st) e
   reached_stopped i now new kept x e is h g =
       let piece = w.piece x h.left in
       let rest = pieces w (drop (i + 1) xs) (state_after w x h.left) in
       let refused : Error → Type 0 = w.piece_refused x h.left in
       let Q : List A → Type 0 = λ l. pieces_refused w l h.left e in
-      let whole : Stops s now new (piece ++ rest) refused e = stopped_first s rest (piece ++ rest) refused refused refl (λ r. r) g in
-      stopped_after s (pieces w xs st) refused (pieces_refused w xs st)
+      let whole : Stops (of_data s) now new (piece ++ rest) refused e = stopped_first (of_data s) rest (piece ++ rest) refused refused refl (λ r. r) g in
+      stopped_after (of_data s) (pieces w xs st) refused (pieces_refused w xs st)
       (h.rest ∙ ap (λ l. h.done ++ pieces w l h.left) is)
       (λ r. h.refused e (subst Q (sym is) (inl r))) h.wrote whole
 
   -- the data of the first one was written
   pub reached_first : (next : W) (x : A) → drop 0 xs ≡ x ∷ drop (0 + 1) xs → IsAt s.pos s.known old st
-      → Wrote s old next (w.piece x st) → w.piece_fits x st → IsAt s.pos s.known next (state_after w x st) → Reached 1 next (w.resolver x st ∷ [])
+      → Wrote (of_data s) old next (w.piece x st) → w.piece_fits x st → IsAt s.pos s.known next (state_after w x st) → Reached 1 next (w.resolver x st ∷ [])
   unfolding reached_none
   reached_first next x e is g f at = reached_next 0 old next [] x e (reached_none is) g f at
 
   -- a call stopped in it
   pub first_stopped : (new : W) (x : A) (e : Error) → drop 0 xs ≡ x ∷ drop (0 + 1) xs → IsAt s.pos s.known old st
-      → Stops s old new (w.piece x st) (w.piece_refused x st) e
-      → Stops s old new (pieces w xs st) (pieces_refused w xs st) e
+      → Stops (of_data s) old new (w.piece x st) (w.piece_refused x st) e
+      → Stops (of_data s) old new (pieces w xs st) (pieces_refused w xs st) e
   unfolding reached_none
   first_stopped new x e is at g = reached_stopped 0 old new [] x e is (reached_none at) g
 
   -- memory was refused
-  pub reached_memory : (i : ℕ) (now : W) (kept : List R) → Reached i now kept → Stops s old now (pieces w xs st) (pieces_refused w xs st) OutOfMemory
+  pub reached_memory : (i : ℕ) (now : W) (kept : List R) → Reached i now kept → Stops (of_data s) old now (pieces w xs st) (pieces_refused w xs st) OutOfMemory
   reached_memory i now kept h =
       let none : Error → Type 0 = λ _. ⊥ in
-      stopped_after s (pieces w xs st) none (pieces_refused w xs st) h.rest (λ r. absurd r) h.wrote
-      (stopped_before s now (pieces w (drop i xs) h.left) none OutOfMemory (inl refl))
+      stopped_after (of_data s) (pieces w xs st) none (pieces_refused w xs st) h.rest (λ r. absurd r) h.wrote
+      (stopped_before (of_data s) now (pieces w (drop i xs) h.left) none OutOfMemory (inl refl))
 
   pub record ReachedAll (now : W) (kept : List R) : Type 0 where
-    pub wrote : Wrote s old now (pieces w xs st)
+    pub wrote : Wrote (of_data s) old now (pieces w xs st)
     pub kept_is : kept ≡ resolvers w xs st
     pub fits : pieces_fit w xs st
     pub is_at : IsAt s.pos s.known now (state_after_all w xs st)
 
   pub reached_all : (i : ℕ) (now : W) (kept : List R) → drop i xs ≡ [] → Reached i now kept → ReachedAll now kept
   reached_all i now kept e h =
-      let P : List ℕ → Type 0 = λ l. Wrote s old now l in
+      let P : List ℕ → Type 0 = λ l. Wrote (of_data s) old now l in
       let Q : List A → Type 0 = λ l. pieces_fit w l h.left in
       let A : State → Type 0 = λ t. IsAt s.pos s.known now t in
       record {

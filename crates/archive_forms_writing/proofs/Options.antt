@@ -11,24 +11,24 @@ use Rattle.archive_shape_writing.specs.declared.error.Error.{Error}
 use Rattle.archive_forms_spelling.specs.State.{State}
 use Rattle.archive_forms_spelling.specs.Spelling.{Spelling, state_after}
 use Rattle.archive_forms_spelling.specs.Options.{option_spelling, payload_at, tagged_bytes}
-use Rattle.archive_forms_spelling.specs.Serializing.{IsAt, Resolves}
+use Rattle.archive_forms_spelling.specs.Serializing.{of_data, IsAt, Resolves}
 use Rattle.archive_forms_spelling.proofs.Options.{option_room}
 use Rattle.archive_forms_writing.proofs.Joining.{payload_over, unfilled}
 use Rattle.archive_forms_writing.proofs.Laying.{Wrote, Stops}
 
 module _ {A R W : Type 0} (sh : Shape) (w : Spelling A R) (s : WriterMembers W) (old new : W) (st : State) (o : Option A) (x : A) (is : o ≡ Some x) where
   -- the data of its value was written
-  pub some_wrote : (r : R) → Wrote s old new (w.piece x st) → r ≡ w.resolver x st → w.piece_fits x st → IsAt s.pos s.known new (state_after w x st)
-      → Wrote s old new ((option_spelling sh w).piece o st)
+  pub some_wrote : (r : R) → Wrote (of_data s) old new (w.piece x st) → r ≡ w.resolver x st → w.piece_fits x st → IsAt s.pos s.known new (state_after w x st)
+      → Wrote (of_data s) old new ((option_spelling sh w).piece o st)
       × ((Some r ≡ (option_spelling sh w).resolver o st) × (option_spelling sh w).piece_fits o st × IsAt s.pos s.known new (state_after (option_spelling sh w) o st))
   some_wrote r wrote made fits at =
-      let P : Option A → Type 0 = λ y. Wrote s old new ((option_spelling sh w).piece y st)
+      let P : Option A → Type 0 = λ y. Wrote (of_data s) old new ((option_spelling sh w).piece y st)
       × ((Some r ≡ (option_spelling sh w).resolver y st) × (option_spelling sh w).piece_fits y st × IsAt s.pos s.known new (state_after (option_spelling sh w) y st)) in
       subst P (sym is) (wrote, (ap Some made, fits, at))
 
   -- a call stopped in it
-  pub some_stopped : (e : Error) → Stops s old new (w.piece x st) (w.piece_refused x st) e → Stops s old new ((option_spelling sh w).piece o st) ((option_spelling sh w).piece_refused o st) e
-  some_stopped e h = let P : Option A → Type 0 = λ y. Stops s old new ((option_spelling sh w).piece y st) ((option_spelling sh w).piece_refused y st) e in subst P (sym is) h
+  pub some_stopped : (e : Error) → Stops (of_data s) old new (w.piece x st) (w.piece_refused x st) e → Stops (of_data s) old new ((option_spelling sh w).piece o st) ((option_spelling sh w).piece_refused o st) e
+  some_stopped e h = let P : Option A → Type 0 = λ y. Stops (of_data s) old new ((option_spelling sh w).piece y st) ((option_spelling sh w).piece_refused y st) e in subst P (sym is) h
 
 -- where the value of an option lies in it
 pub record ValuePlace (s : Shape) (offset : ℕ) : Type 0 where

@@ -12,7 +12,7 @@ use Rattle.archive_forms_spelling.specs.State.{State}
 use Rattle.archive_forms_spelling.specs.Spelling.{Spelling, state_after}
 use Rattle.archive_forms_spelling.specs.Payloads.{payload_spelling}
 use Rattle.archive_forms_spelling.specs.Results.{result_spelling, result_payload_at}
-use Rattle.archive_forms_spelling.specs.Serializing.{IsAt, CanResolve, Resolves}
+use Rattle.archive_forms_spelling.specs.Serializing.{of_data, IsAt, CanResolve, Resolves}
 use Rattle.archive_forms_spelling.proofs.Results.{result_room}
 use Rattle.archive_forms_writing.proofs.Joining.{payload_over, payload_place}
 use Rattle.archive_forms_writing.proofs.Laying.{Wrote, Stops}
@@ -115,29 +115,29 @@ module _ {A B R Q : Type 0} (s t : Shape) (w : Spelling A R) (u : Spelling B Q) 
 
 module _ {A B R Q W : Type 0} (s t : Shape) (w : Spelling A R) (u : Spelling B Q) (m : WriterMembers W) (old new : W) (st : State) (o : Result A B) where
   -- the data of the value was written, or a call stopped in it
-  pub value_wrote : (x : A) (r : R) → o ≡ Ok x → Wrote m old new (w.piece x st) → r ≡ w.resolver x st → w.piece_fits x st → IsAt m.pos m.known new (state_after w x st)
-      → Wrote m old new ((result_spelling s t w u).piece o st)
+  pub value_wrote : (x : A) (r : R) → o ≡ Ok x → Wrote (of_data m) old new (w.piece x st) → r ≡ w.resolver x st → w.piece_fits x st → IsAt m.pos m.known new (state_after w x st)
+      → Wrote (of_data m) old new ((result_spelling s t w u).piece o st)
       × ((Ok r ≡ (result_spelling s t w u).resolver o st) × (result_spelling s t w u).piece_fits o st × IsAt m.pos m.known new (state_after (result_spelling s t w u) o st))
   value_wrote x r is wrote made fits at =
-      let P : Result A B → Type 0 = λ y. Wrote m old new ((result_spelling s t w u).piece y st)
+      let P : Result A B → Type 0 = λ y. Wrote (of_data m) old new ((result_spelling s t w u).piece y st)
       × ((Ok r ≡ (result_spelling s t w u).resolver y st) × (result_spelling s t w u).piece_fits y st × IsAt m.pos m.known new (state_after (result_spelling s t w u) y st)) in
       subst P (sym is) (wrote, (ap Ok made, fits, at))
 
-  pub value_stopped : (x : A) (e : Error) → o ≡ Ok x → Stops m old new (w.piece x st) (w.piece_refused x st) e
-      → Stops m old new ((result_spelling s t w u).piece o st) ((result_spelling s t w u).piece_refused o st) e
+  pub value_stopped : (x : A) (e : Error) → o ≡ Ok x → Stops (of_data m) old new (w.piece x st) (w.piece_refused x st) e
+      → Stops (of_data m) old new ((result_spelling s t w u).piece o st) ((result_spelling s t w u).piece_refused o st) e
   value_stopped x e is h =
-      let P : Result A B → Type 0 = λ y. Stops m old new ((result_spelling s t w u).piece y st) ((result_spelling s t w u).piece_refused y st) e in subst P (sym is) h
+      let P : Result A B → Type 0 = λ y. Stops (of_data m) old new ((result_spelling s t w u).piece y st) ((result_spelling s t w u).piece_refused y st) e in subst P (sym is) h
 
   -- the data of the error was written, or a call stopped in it
-  pub error_wrote : (y : B) (r : Q) → o ≡ Err y → Wrote m old new (u.piece y st) → r ≡ u.resolver y st → u.piece_fits y st → IsAt m.pos m.known new (state_after u y st)
-      → Wrote m old new ((result_spelling s t w u).piece o st)
+  pub error_wrote : (y : B) (r : Q) → o ≡ Err y → Wrote (of_data m) old new (u.piece y st) → r ≡ u.resolver y st → u.piece_fits y st → IsAt m.pos m.known new (state_after u y st)
+      → Wrote (of_data m) old new ((result_spelling s t w u).piece o st)
       × ((Err r ≡ (result_spelling s t w u).resolver o st) × (result_spelling s t w u).piece_fits o st × IsAt m.pos m.known new (state_after (result_spelling s t w u) o st))
   error_wrote y r is wrote made fits at =
-      let P : Result A B → Type 0 = λ z. Wrote m old new ((result_spelling s t w u).piece z st)
+      let P : Result A B → Type 0 = λ z. Wrote (of_data m) old new ((result_spelling s t w u).piece z st)
       × ((Err r ≡ (result_spelling s t w u).resolver z st) × (result_spelling s t w u).piece_fits z st × IsAt m.pos m.known new (state_after (result_spelling s t w u) z st)) in
       subst P (sym is) (wrote, (ap Err made, fits, at))
 
-  pub error_stopped : (y : B) (e : Error) → o ≡ Err y → Stops m old new (u.piece y st) (u.piece_refused y st) e
-      → Stops m old new ((result_spelling s t w u).piece o st) ((result_spelling s t w u).piece_refused o st) e
+  pub error_stopped : (y : B) (e : Error) → o ≡ Err y → Stops (of_data m) old new (u.piece y st) (u.piece_refused y st) e
+      → Stops (of_data m) old new ((result_spelling s t w u).piece o st) ((result_spelling s t w u).piece_refused o st) e
   error_stopped y e is h =
-      let P : Result A B → Type 0 = λ z. Stops m old new ((result_spelling s t w u).piece z st) ((result_spelling s t w u).piece_refused z st) e in subst P (sym is) h
+      let P : Result A B → Type 0 = λ z. Stops (of_data m) old new ((result_spelling s t w u).piece z st) ((result_spelling s t w u).piece_refused z st) e in subst P (sym is) h

@@ -13,7 +13,7 @@ use Rattle.archive_shape_writing.proofs.Joined.{written_none}
 use Rattle.archive_forms_spelling.specs.State.{State, visit_of_key}
 use Rattle.archive_forms_spelling.specs.Spelling.{Spelling, state_after}
 use Rattle.archive_forms_spelling.specs.Fields.{FieldsSpelling, no_fields, more_fields, struct_spelling}
-use Rattle.archive_forms_spelling.specs.Serializing.{IsAt, CanResolve, Resolves, progress_by, is_begun}
+use Rattle.archive_forms_spelling.specs.Serializing.{IsAt, of_data, CanResolve, Resolves, progress_by, is_begun}
 use Rattle.archive_forms_spelling.proofs.Fields.{struct_room}
 use Rattle.archive_forms_writing.specs.Fields.{field_at, ResolvesField}
 use Rattle.archive_forms_writing.proofs.Joining.{still_zero, piece_behind, zeros_behind, unfilled}
@@ -152,7 +152,7 @@ module _ {A R W : Type 0} (m : WriterMembers W) (all : FieldsSpelling A R) (x : 
   pub record Reached {B Q : Type 0} (others : FieldsSpelling B Q) (y : B) (with_rest : Q → R) (left : State) (now : W) : Type 0 where
     pub is_at : IsAt m.pos m.known now left
     pub done : List ℕ
-    pub wrote : Wrote m old now done
+    pub wrote : Wrote (of_data m) old now done
     pub whole : all.piece x st ≡ done ++ others.piece y left
     pub made : (k : Q) → k ≡ others.resolver y left → with_rest k ≡ all.resolver x st
     pub stands : left.pos ≡ st.pos + length done
@@ -167,7 +167,7 @@ module _ {A R W : Type 0} (m : WriterMembers W) (all : FieldsSpelling A R) (x : 
 
   module _ {B C Q P : Type 0} (s : Shape) (w : Spelling B Q) (others : FieldsSpelling C P) (y : B × C) (with_rest : Q × P → R) (left : State) (now : W) (h : Reached (more_fields s w others) y with_rest left now) where
     -- that of the next one was written
-    pub reached_next : (next : W) (q : Q) → Wrote m now next (w.piece y.0 left) → q ≡ w.resolver y.0 left → w.piece_fits y.0 left → IsAt m.pos m.known next (state_after w y.0 left)
+    pub reached_next : (next : W) (q : Q) → Wrote (of_data m) now next (w.piece y.0 left) → q ≡ w.resolver y.0 left → w.piece_fits y.0 left → IsAt m.pos m.known next (state_after w y.0 left)
         → Reached others y.1 (λ k. with_rest (q, k)) (state_after w y.0 left) next
     reached_next next q wrote is fit at =
         let piece = w.piece y.0 left in
@@ -176,7 +176,7 @@ module _ {A R W : Type 0} (m : WriterMembers W) (all : FieldsSpelling A R) (x : 
         record {
           is_at = at;
           done = h.done ++ piece;
-          wrote = wrote_both m (h.done ++ piece) refl h.wrote wrote;
+          wrote = wrote_both (of_data m) (h.done ++ piece) refl h.wrote wrote;
           whole = h.whole ∙ sym (append_assoc h.done piece rest);
           made = λ k e. h.made (q, k) (ap₂ (λ u v. (u, v)) is e);
           stands = omega (arith, length-append h.done piece);
@@ -187,20 +187,20 @@ module _ {A R W : Type 0} (m : WriterMembers W) (all : FieldsSpelling A R) (x : 
         }
 
     -- a call stopped in it
-    pub reached_stopped : (new : W) (e : Error) → Stops m now new (w.piece y.0 left) (w.piece_refused y.0 left) e → Stops m old new (all.piece x st) (all.piece_refused x st) e
+    pub reached_stopped : (new : W) (e : Error) → Stops (of_data m) now new (w.piece y.0 left) (w.piece_refused y.0 left) e → Stops (of_data m) old new (all.piece x st) (all.piece_refused x st) e
     reached_stopped new e g =
         let piece = w.piece y.0 left in
         let rest = others.piece y.1 (state_after w y.0 left) in
         let refused : Error → Type 0 = w.piece_refused y.0 left in
-        stopped_after m (all.piece x st) refused (all.piece_refused x st) h.whole (λ f. h.refused e (inl f)) h.wrote
-        (stopped_first m rest (piece ++ rest) refused refused refl (λ f. f) g)
+        stopped_after (of_data m) (all.piece x st) refused (all.piece_refused x st) h.whole (λ f. h.refused e (inl f)) h.wrote
+        (stopped_first (of_data m) rest (piece ++ rest) refused refused refl (λ f. f) g)
 
   -- that of all was written
   pub reached_all : {B : Type 0} (y : B) (with_rest : Unit {0} → R) (left : State) (now : W) → Reached (no_fields {A = B}) y with_rest left now
-      → Wrote m old now (all.piece x st) × ((with_rest tt ≡ all.resolver x st) × all.piece_fits x st × IsAt m.pos m.known now (state_after (struct_spelling all) x st))
+      → Wrote (of_data m) old now (all.piece x st) × ((with_rest tt ≡ all.resolver x st) × all.piece_fits x st × IsAt m.pos m.known now (state_after (struct_spelling all) x st))
   reached_all y with_rest left now h =
       let piece : all.piece x st ≡ h.done = h.whole ∙ append-nil h.done in
-      let P : List ℕ → Type 0 = λ l. Wrote m old now l in (
+      let P : List ℕ → Type 0 = λ l. Wrote (of_data m) old now l in (
         subst P (sym piece) h.wrote,
         (
           h.made tt refl,

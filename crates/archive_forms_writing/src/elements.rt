@@ -1,7 +1,7 @@
 //! Elements that are written behind their data.
 ghost use Rattle.std.specs.Prelude.{◌≡◌, ◌+◌, ◌-◌, ◌^◌, ◌<◌, ◌≤◌, length, take, [], ◌∷◌};
 ghost use Rattle.archive_forms_spelling.specs.State.{State};
-ghost use Rattle.archive_forms_spelling.specs.Serializing.{IsAt, HasState, Lays, Serializes, SerializesBy};
+ghost use Rattle.archive_forms_spelling.specs.Serializing.{IsAt, HasState, Lays, LaysData, Serializes, SerializesBy};
 ghost use Rattle.archive_forms_spelling.specs.Regions.{state_after_all, pieces, resolvers, owns, pieces_fit, pieces_refused, owns_fit, owns_refused};
 ghost use Rattle.archive_forms_spelling.specs.Pointers.{slice_spelling, box_spelling};
 ghost use Rattle.archive_forms_writing.specs.Behind.{LaysBehind};
@@ -51,7 +51,7 @@ fn serialize_data_each<
     requires takes { StepTakes F.Fn S.Writer step items.now }
     requires writes { StepWrites F.Fn (λ q. q.0) T.spelling S.Writer step }
     ensures { (st : State) → IsAt S.pos S.known serializer.old st
-        → Lays S.Writer serializer.old serializer.new (pieces T.spelling items.now st)
+        → LaysData S.Writer serializer.old serializer.new (pieces T.spelling items.now st)
         (λ all. (all.items ≡ resolvers T.spelling items.now st) × pieces_fit T.spelling items.now st × IsAt S.pos S.known serializer.new (state_after_all T.spelling items.now st))
         (pieces_refused T.spelling items.now st) result }
 {
@@ -83,7 +83,7 @@ fn serialize_few_each<
     requires takes { StepTakes F.Fn S.Writer step items.now }
     requires writes { StepWrites F.Fn (λ q. q.0) T.spelling S.Writer step }
     ensures { (st : State) → IsAt S.pos S.known serializer.old st
-        → Lays S.Writer serializer.old serializer.new (pieces T.spelling items.now st)
+        → LaysData S.Writer serializer.old serializer.new (pieces T.spelling items.now st)
         (λ all. (take (length items.now) all ≡ resolvers T.spelling items.now st) × pieces_fit T.spelling items.now st × IsAt S.pos S.known serializer.new (state_after_all T.spelling items.now st))
         (pieces_refused T.spelling items.now st) result }
 {

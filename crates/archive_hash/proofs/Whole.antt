@@ -9,7 +9,7 @@ use Rattle.archive_shape_writing.specs.declared.error.Error.TheVariants.{OutOfMe
 use Rattle.archive_forms_checking.specs.Tuples.{tuple2}
 use Rattle.archive_forms_spelling.specs.Spelling.{Spelling}
 use Rattle.archive_forms_spelling.specs.Fields.{tuple2_spelling}
-use Rattle.archive_forms_spelling.specs.Serializing.{Serializes}
+use Rattle.archive_forms_spelling.specs.Serializing.{of_data, Serializes}
 use Rattle.archive_forms_spelling.specs.Taking.{GivesAs}
 use Rattle.archive_forms_writing.proofs.Laying.{stopped_before}
 use Rattle.archive_hash_reading.specs.declared.resolving.HashTableResolver.{HashTableResolver}
@@ -48,7 +48,7 @@ module _ {A B R Q W : Type 0} (hash : A → ℕ) (k v : Shape) (keys : Spelling 
   no_memory is same =
       let w = entries_spelling hash k v keys vals in
       let Of : W → Result HashTableResolver Error → Type 0 = λ n r. Serializes w s es old n r in
-      subst (Of new) (sym is) (subst (λ n. Of n (Err OutOfMemory)) (sym same) (λ st at. stopped_before s old (w.piece es st) (w.piece_refused es st) OutOfMemory (inl refl)))
+      subst (Of new) (sym is) (subst (λ n. Of n (Err OutOfMemory)) (sym same) (λ st at. stopped_before (of_data s) old (w.piece es st) (w.piece_refused es st) OutOfMemory (inl refl)))
 
   claimed_all : (xs : List (A × B)) → es ≡ xs → WritesClaimed (7, 8) (tuple2 k v) (tuple2_spelling k keys v vals) s (λ e h. h ≡ hash e.0) (length es) xs old new result → Serializes (entries_spelling hash k v keys vals) s es old new result
   claimed_all xs all (inl w) =

@@ -3,7 +3,7 @@ ghost use Rattle.std.specs.Prelude.{◌-◌, ◌^◌, ◌<◌};
 ghost use Rattle.archive_forms_spelling.specs.Serializing.{HasState};
 
 use archive_btree_writing::SerializeEntry;
-use archive_core_serializing::{HighSerializer, Serializer};
+use archive_core_serializing::Serializer;
 use archive_hash::{OwnedHashMap, serialize_map_scan_each};
 use archive_hash_scanning::{Group1, Group8, Group16, Scan};
 use archive_shape::{Error, Positional, Registry, Writer};
@@ -11,7 +11,7 @@ use std::alloc::Global;
 use std::collections::HashMap;
 
 /// A serializer into memory that grows.
-type Memory = HighSerializer<Vec<u8>, Global>;
+type Memory = Serializer<Vec<u8>, Global, ()>;
 
 /// A serializer into memory that holds nothing.
 fn memory(alloc: Global) -> Memory

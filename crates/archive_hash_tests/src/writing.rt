@@ -5,7 +5,7 @@ ghost use Rattle.archive_forms_spelling.specs.Serializing.{HasState};
 
 use crate::reading::root_of;
 use archive_core::{from_bytes, to_bytes};
-use archive_core_serializing::{HighSerializer, Serializer};
+use archive_core_serializing::Serializer;
 use archive_forms_reading::native_of;
 use archive_forms_text::ArchivedString;
 use archive_hash::{OwnedHashMap, OwnedHashSet, serialize_map_from_iter, serialize_set_from_iter};
@@ -17,7 +17,7 @@ use std::alloc::Global;
 use std::collections::{HashMap, HashSet};
 
 /// A serializer into memory that grows.
-type Memory = HighSerializer<Vec<u8>, Global>;
+type Memory = Serializer<Vec<u8>, Global, ()>;
 
 /// A serializer into memory that holds nothing.
 fn memory(alloc: Global) -> Memory

@@ -5,10 +5,11 @@ use Rattle.archive_shape_layout.specs.Shape.{Shape, size_of, align_of}
 use Rattle.archive_shape_layout.specs.Shape.Shapes.{no_shapes}
 use Rattle.archive_shape_layout.specs.Value.{Value}
 use Rattle.archive_shape_layout.specs.Content.{Names}
-use Rattle.archive_shape_layout.specs.Holds.{Region, Ascends}
-use Rattle.archive_shape_layout.specs.Laws.{AgreesOn, RegionsAgree}
+use Rattle.archive_shape_layout.proofs.Evaluated.{ascends_raised}
 use Rattle.archive_shape_layout.proofs.Framed.{frame, le_align_up}
+use Rattle.archive_shape_layout.proofs.Visited.{take_agrees, regions_agree, claimed_same}
 use Rattle.archive_shape.specs.Key.{HeldAt}
+use Rattle.archive_shape.proofs.Held.{held_ascend}
 use Rattle.archive_shape_references.specs.declared.refs.Ref.{Ref}
 use Rattle.archive_shape_references.specs.declared.own_seal.OwnSeal.{OwnSeal}
 use Rattle.archive_forms_checking.specs.Tuples.{tuple2}
@@ -16,20 +17,6 @@ use Rattle.archive_forms_reading.specs.Parts.{HasValue, both}
 use Rattle.archive_forms_tuples.specs.Fields.{field_position}
 use Rattle.archive_hash_walking.specs.Seals.{IsLent}
 use Rattle.archive_hash_walking.proofs.Entries.{entry_parts}
-
-windows : (bytes : List ℕ) (n start size : ℕ) → start + size ≤ n → AgreesOn bytes (take n bytes) start size
-windows bytes n start size fits =
-    let m : ℕ = n - start in
-    let is : n ≡ start + (n - start) = omega (arith, fits) in
-    let cut : drop start (take n bytes) ≡ take (n - start) (drop start bytes) = ap (λ j. drop start (take j bytes)) is ∙ drop-take start (n - start) bytes in
-    sym (ap (take size) cut ∙ take-take size (n - start) (drop start bytes) (omega (arith, fits)))
-
-regions_before : (bytes : List ℕ) (n low high : ℕ) (rs : List Region) → high ≤ n → Ascends low high rs → RegionsAgree bytes (take n bytes) rs
-unfolding Ascends RegionsAgree
-regions_before bytes n low high [] le a = tt
-regions_before bytes n low high (r ∷ rs) le a =
-    let to = a.0.inside in
-    (windows bytes n r.start r.size (omega (arith, to, le)), regions_before bytes n (r.start + r.size) high rs le a.1)
 
 pub held_before : (s : Shape) (knows : Names → Type 0) (bytes : List ℕ) (pos n : ℕ) (v : Value) → n ≤ length bytes → pos + size_of s ≤ n → HeldAt s knows bytes pos v → HeldAt s knows (take n bytes) pos v
 held_before s knows bytes pos n v within fits h =
@@ -43,8 +30,9 @@ held_before s knows bytes pos n v within fits h =
       before = h.before;
       after = h.after;
       own_within = omega (arith, shorter, fits);
-      ascends = h.ascends;
-      holds = frame bytes (take n bytes) h.names (windows bytes n pos (size_of s) fits) (regions_before bytes n 0 pos h.regions (omega (arith, fits)) h.ascends) h.holds;
+      low = h.low;
+      claimed = claimed_same (λ start size within. take_agrees bytes n start size (let below = h.claimed.below in omega (arith, fits))) h.claimed;
+      holds = frame bytes (take n bytes) h.names (take_agrees bytes n pos (size_of s) fits) (regions_agree 0 n h.regions (take_agrees bytes n) (ascends_raised 0 pos n h.regions (omega (arith, fits)) (held_ascend h))) h.holds;
     }
 
 module _ (k v : Shape) (knows others : Names → Type 0) (bytes : List ℕ) (at : ℕ) (h : HasValue (tuple2 k v) (both knows others) bytes at) where

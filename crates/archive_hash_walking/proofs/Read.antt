@@ -14,15 +14,16 @@ use Rattle.archive_shape_layout.specs.Content.{Names, Part, Content, content_of,
 use Rattle.archive_shape_layout.specs.Content.Part.{at, buckets}
 use Rattle.archive_shape_layout.specs.Content.Label.{same, whole}
 use Rattle.archive_shape_layout.specs.Content.Content.{plain}
-use Rattle.archive_shape_layout.specs.Holds.{Region, Visit, OpenShared, Holds, HoldAll, Ascends}
+use Rattle.archive_shape_layout.specs.Holds.{Region, Visit, OpenShared, Holds, HoldAll, end_after}
 use Rattle.archive_shape_layout.specs.Holds.HoldAll.{holds_more}
+use Rattle.archive_shape_layout.specs.Visited.{ClaimedAfter}
 use Rattle.archive_shape_layout.proofs.Unique.{by_plain, by_claimed}
 use Rattle.archive_shape_layout.proofs.Framed.{le_align_up}
+use Rattle.archive_shape_layout.proofs.Visited.{claimed_raised, claimed_front, claimed_later, claimed_inside}
 use Rattle.archive_shape_references.proofs.Pieces.{word_within, length-window}
 use Rattle.archive_shape_checking.proofs.Inverted.{IsKnown, held_is_known}
 use Rattle.archive_shape_checking.proofs.Questions.{tested_known, followed_known}
 use Rattle.archive_shape.specs.Key.{HeldAt}
-use Rattle.archive_shape.proofs.Held.{ascends_before, first_ascend, others_ascend, inside_region}
 use Rattle.archive_forms_layout.proofs.TextContent.{followed, chosen_no}
 use Rattle.archive_forms_checking.proofs.Targets.{first_word}
 use Rattle.archive_forms_reading.proofs.Inside.{none_held, one_held}
@@ -54,7 +55,7 @@ map_chosen false f i ps = refl
 pub record HasBelow (s : Shape) (knows : Names → Type 0) (bytes : List ℕ) (low pos : ℕ) : Type 0 where
   pub value : Value
   pub held : HeldAt s knows bytes pos value
-  pub below : Ascends 0 low held.regions
+  pub below : ClaimedAfter held.names bytes held.before held.low low held.regions
 
 module _ (s : Shape) (knows : Names → Type 0) (bytes : List ℕ) (names : Names) (known : knows names) (target cap : ℕ) (room : cap * size_of s ≤ target) (within : target ≤ length bytes) where
   -- the places from one on whose controls are tags
@@ -68,18 +69,17 @@ module _ (s : Shape) (knows : Names → Type 0) (bytes : List ℕ) (names : Name
   -- items that the layout has in order stand at these positions
   abbrev Stand : List Part → List ℕ → Type 0
   Stand parts ps =
-      (level : ℕ) (inside : List OpenShared) (vs : Values) (regions : List Region) (before after : List Visit)
+      (level low : ℕ) (inside : List OpenShared) (vs : Values) (regions : List Region) (before after : List Visit)
       → HoldAll names bytes level inside parts vs regions before after
-      → Ascends 0 (target - cap * size_of s) regions
+      → ClaimedAfter names bytes before low (target - cap * size_of s) regions
       → Below ps vs
 
   -- an item before others
   item_before : (i : ℕ) (parts : List Part) (ps : List ℕ) → i < cap → Stand parts ps → Stand (at (item_position s target i) s ∷ parts) (item_position s target i ∷ ps)
-  item_before i parts ps less others level inside vs regions before after (holds_more {v = v} {vs = us} {here = rs} {later = later} {between = between} x rest made_of joined) ascends =
+  item_before i parts ps less others level low inside vs regions before after (holds_more {v = v} {vs = us} {here = rs} {later = later} {between = between} x rest made_of joined) claimed =
       let up : (i + 1) * size_of s ≤ cap * size_of s = mul-le-mul_right (size_of s) (omega (arith, less)) in
-      let split = subst (Ascends 0 (target - cap * size_of s)) joined ascends in
       let own : (i + 1) * size_of s ≡ i * size_of s + size_of s = omega arith in
-      let claims = first_ascend (target - cap * size_of s) rs later split in
+      let claims = claimed_front later joined claimed in
       let first : HeldAt s knows bytes (item_position s target i) v =
       record {
         names = names;
@@ -90,11 +90,12 @@ module _ (s : Shape) (knows : Names → Type 0) (bytes : List ℕ) (names : Name
         before = before;
         after = between;
         own_within = omega (arith, up, own, room, within);
-        ascends = ascends_before (target - cap * size_of s) (item_position s target i) rs (omega (arith, up)) claims;
+        low = low;
+        claimed = claimed_raised (omega (arith, up)) claims;
         holds = x;
       }
       in
-      let behind = others level inside us later between after rest (others_ascend (target - cap * size_of s) rs later split) in
+      let behind = others level (end_after low rs) inside us later between after rest (claimed_later x joined claimed) in
       subst (Below (item_position s target i ∷ ps)) (sym made_of)
       ((first, behind.0), All-cons (HasBelow s knows bytes (target - cap * size_of s)) (item_position s target i) ps (record { value = v; held = first; below = claims }) behind.1)
 
@@ -106,13 +107,13 @@ module _ (s : Shape) (knows : Names → Type 0) (bytes : List ℕ) (names : Name
   items_stand : (controls : List ℕ) (n i : ℕ) → i + n ≤ cap → i + n ≤ length controls
       → Stand (tagged_items target (item s) i (take n (drop i controls))) (map (item_position s target) (Full controls n i))
   unfolding tagged_items
-  items_stand controls zero i few long level inside vs regions before after all ascends = let none = none_held names bytes all in subst (Below []) (sym none) (tt, All-nil (HasBelow s knows bytes (target - cap * size_of s)))
-  items_stand controls (suc n) i few long level inside vs regions before after all ascends =
+  items_stand controls zero i few long level low inside vs regions before after all ascends = let none = none_held names bytes all in subst (Below []) (sym none) (tt, All-nil (HasBelow s knows bytes (target - cap * size_of s)))
+  items_stand controls (suc n) i few long level low inside vs regions before after all ascends =
       let listed = controls_from controls n i (omega (arith, long)) in
       let others = items_stand controls n (i + 1) (omega arith) (omega arith) in
       let b = nat_lt (slice_index controls i) 128 in
       let here =
-      by_control b i (tagged_items target (item s) (i + 1) (take n (drop (i + 1) controls))) (map (item_position s target) (Full controls n (i + 1))) (omega (arith, few)) others level inside vs regions before after
+      by_control b i (tagged_items target (item s) (i + 1) (take n (drop (i + 1) controls))) (map (item_position s target) (Full controls n (i + 1))) (omega (arith, few)) others level low inside vs regions before after
       (subst (λ cs. HoldAll names bytes level inside (tagged_items target (item s) i cs) vs regions before after) listed all) ascends
       in
       subst (λ ps. Below ps vs) (sym (map_chosen b (item_position s target) i (Full controls n (i + 1)))) here
@@ -202,7 +203,7 @@ module _ (s : Shape) (knows : Names → Type 0) (bytes : List ℕ) (pos : ℕ) (
       let wraps_and = both_true _ _ room_and.1 in
       let room : cap * size_of s ≤ target = leb-true _ _ room_and.0 in
       let claims = by_claimed h.names bytes (chosen _ _ _ tested.0) b.held in
-      let inner = inside_region pos claims.within _ (subst (Ascends 0 pos) claims.regions_are h.ascends) in
+      let inner = claimed_inside claims.regions_are h.claimed in
       let ends = inner.ends in
       let own_within = h.own_within in
       let within : target + control_count cap ≤ length bytes = omega (arith, ends, own_within, room) in
@@ -210,7 +211,7 @@ module _ (s : Shape) (knows : Names → Type 0) (bytes : List ℕ) (pos : ℕ) (
       let fits = cap_fits cap in
       let places : Buckets = record { target = target; cap = cap; controls = controls } in
       let value_is : value ≡ group claims.vs = made_whole claims.vs value claims.is_made in
-      let items = items_stand s knows bytes h.names h.known target cap room (omega (arith, within)) controls cap 0 (omega arith) (omega (arith, count, fits)) (suc h.level) h.inside claims.vs claims.within h.before h.after claims.all inner.ascends in
+      let items = items_stand s knows bytes h.names h.known target cap room (omega (arith, within)) controls cap 0 (omega arith) (omega (arith, count, fits)) (suc h.level) h.low h.inside claims.vs claims.within h.before h.after claims.all inner.claimed in
       record {
         of =
             record {

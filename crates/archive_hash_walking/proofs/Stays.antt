@@ -24,6 +24,7 @@ use Rattle.archive_btree_layout.proofs.Changed.{AreSame, word_same, window_same,
 use Rattle.archive_forms_checking.specs.Tuples.{tuple2}
 use Rattle.archive_forms_reading.specs.Parts.{HasValue, both}
 use Rattle.archive_forms_tuples.specs.Fields.{field, field_position}
+use Rattle.archive_shape_layout.proofs.Visited.{AgreeBelow, regions_agree, claimed_same}
 use Rattle.archive_forms_tuples.proofs.Held.{fields_at}
 use Rattle.archive_hash_walking.specs.Tables.{Buckets, IsTableAt, item_position, item_positions, full_places}
 use Rattle.archive_hash_walking.specs.Tables.IsTableAt.{has_none, has_buckets}
@@ -223,7 +224,11 @@ module _ (k v : Shape) where
             | inl lower ↦ before i lower ∙ same_key i from lower
             | inr upper ↦ behind i upper
           ]) in
-          let claimed = regions_same bytes restored 0 (b.target - b.cap * size) h.held.regions (omega (arith, low, inside)) (omega (arith, low, inside, long)) (λ i from to. before i (omega (arith, to, low)) ∙ same_before i from to) h.below in
+          let agree : AgreeBelow bytes restored (b.target - b.cap * size) = λ start n to.
+          window_same bytes restored start n (omega (arith, to, low, inside)) (omega (arith, to, low, inside, long)) (λ i from below. before i (omega (arith, to, below, low)) ∙ same_before i (omega arith) (omega (arith, to, below)))
+          in
+          let begins = h.below.below in
+          let claimed = regions_agree h.held.low (b.target - b.cap * size) h.held.regions agree h.below.ascends in
           let held : HeldAt (tuple2 k v) (both knows others) restored at h.value = record {
             names = h.held.names;
             known = h.held.known;
@@ -233,7 +238,8 @@ module _ (k v : Shape) where
             before = h.held.before;
             after = h.held.after;
             own_within = omega (arith, inside, long);
-            ascends = h.held.ascends;
+            low = h.held.low;
+            claimed = claimed_same (λ start n to. agree start n (omega (arith, to, begins))) h.held.claimed;
             holds = frame bytes restored h.held.names own claimed h.held.holds;
           } in
           let was = key_of knows others bytes at h.value h.held in

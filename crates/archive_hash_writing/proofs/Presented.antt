@@ -7,7 +7,7 @@ use Rattle.archive_shape_writing.specs.declared.error.Error.TheVariants.{OutOfMe
 use Rattle.archive_forms_spelling.specs.State.{State}
 use Rattle.archive_forms_spelling.specs.Spelling.{Spelling, state_after}
 use Rattle.archive_forms_spelling.specs.Regions.{pieces, pieces_refused}
-use Rattle.archive_forms_spelling.specs.Serializing.{IsAt}
+use Rattle.archive_forms_spelling.specs.Serializing.{of_data, IsAt}
 use Rattle.archive_forms_writing.proofs.Laying.{Wrote, Stops}
 use Rattle.archive_forms_writing.proofs.Loops.{Reached, ReachedAll, reached_none, reached_next, reached_stopped, reached_memory, reached_all}
 use Rattle.archive_hash_writing.proofs.Present.{items, items_from, passed_none, passed_item, passed_all, there, behind}
@@ -42,7 +42,7 @@ module _ {A R W : Type 0} (w : Spelling A R) (s : WriterMembers W) (table : List
 
     -- its data was written
     pub presented_next : (next : W) (k : R) (all : List R) → all ≡ kept ++ k ∷ []
-        → ((st : State) → IsAt s.pos s.known now st → Wrote s now next (w.piece r.now st) × ((k ≡ w.resolver r.now st) × w.piece_fits r.now st × IsAt s.pos s.known next (state_after w r.now st)))
+        → ((st : State) → IsAt s.pos s.known now st → Wrote (of_data s) now next (w.piece r.now st) × ((k ≡ w.resolver r.now st) × w.piece_fits r.now st × IsAt s.pos s.known next (state_after w r.now st)))
         → Presented (p + 1) next all
     presented_next next k all e by =
         let n : length all ≡ length kept + 1 = ap length e ∙ length-append kept (k ∷ []) in
@@ -58,12 +58,12 @@ module _ {A R W : Type 0} (w : Spelling A R) (s : WriterMembers W) (table : List
 
     -- a call stopped in its data
     pub presented_stopped : (new : W) (e : Error) (st : State) (at : IsAt s.pos s.known old st)
-        → ((from : State) → IsAt s.pos s.known now from → Stops s now new (w.piece r.now from) (w.piece_refused r.now from) e)
-        → Stops s old new (pieces w (items table) st) (pieces_refused w (items table) st) e
+        → ((from : State) → IsAt s.pos s.known now from → Stops (of_data s) now new (w.piece r.now from) (w.piece_refused r.now from) e)
+        → Stops (of_data s) old new (pieces w (items table) st) (pieces_refused w (items table) st) e
     presented_stopped new e st at by = let h0 = h.reached st at in reached_stopped w s (items table) old st (length kept) now new kept r.now e next_of h0 (by h0.left h0.is_at)
 
   -- memory was refused
-  pub presented_memory : (p : ℕ) (now : W) (kept : List R) → Presented p now kept → (st : State) → IsAt s.pos s.known old st → Stops s old now (pieces w (items table) st) (pieces_refused w (items table) st) OutOfMemory
+  pub presented_memory : (p : ℕ) (now : W) (kept : List R) → Presented p now kept → (st : State) → IsAt s.pos s.known old st → Stops (of_data s) old now (pieces w (items table) st) (pieces_refused w (items table) st) OutOfMemory
   presented_memory p now kept h st at = reached_memory w s (items table) old st (length kept) now kept (h.reached st at)
 
   pub presented_all : (p : ℕ) (now : W) (kept : List R) → length table ≤ p → Presented p now kept → (st : State) → IsAt s.pos s.known old st → ReachedAll w s (items table) old st now kept

@@ -13,9 +13,9 @@ use Rattle.archive_shape_writing.proofs.Joined.{written_none}
 use Rattle.archive_forms_spelling.specs.State.{State, visit_of_key}
 use Rattle.archive_forms_spelling.specs.Spelling.{Spelling, state_after}
 use Rattle.archive_forms_spelling.specs.Regions.{state_after_all, pieces, pieces_fit, pieces_refused}
-use Rattle.archive_forms_spelling.specs.Serializing.{IsAt, Serializes, is_begun, progress_by}
+use Rattle.archive_forms_spelling.specs.Serializing.{of_data, IsAt, Serializes, is_begun, progress_by}
 use Rattle.archive_forms_spelling.proofs.Regions.{state_after_all_begun}
-use Rattle.archive_forms_writing.proofs.Laying.{Wrote, Stops, wrote_both, stopped_after, stopped_first, stopped_before}
+use Rattle.archive_forms_writing.proofs.Laying.{Wrote, Stops, wrote_both, stopped_after, stopped_first, stopped_before, as_data, stops_as_data}
 use Rattle.archive_hash_places.specs.Loads.{IsLoadFactor}
 use Rattle.archive_hash_places.proofs.FirstFits.{written_are}
 use Rattle.archive_hash_places.proofs.Wrapping.{count_is}
@@ -64,12 +64,12 @@ module _ {A R W : Type 0} (load : ℕ × ℕ) (sh : Shape) (w : Spelling A R) (h
   -- a call stops before anything is written
   pub refused_first : (xs : List A) (old : W) (st : State) (e : Error) → IsLoadFactor load
       → ((IsLoadFactor load → ⊥) × (e ≡ InvalidLoadFactor)) ⊎ (IsLoadFactor load × (2 ^ 32 ≤ capacity_for (length xs) load.0 load.1) × (e ≡ LengthTooLarge))
-      → Stops s old old (spelled.piece xs st) (spelled.piece_refused xs st) e
+      → Stops (of_data s) old old (spelled.piece xs st) (spelled.piece_refused xs st) e
   refused_first xs old st e is (inl r) = absurd (r.0 is)
   refused_first [] old st e is (inr r) = absurd (let h = r.1 in omega arith)
   refused_first (x ∷ xs) old st e is (inr r) =
       let n : length (os (x ∷ xs)) ≡ capacity_for (length (x ∷ xs)) load.0 load.1 = length-placed _ _ (x ∷ xs) in
-      stopped_before s old (spelled.piece (x ∷ xs) st) (spelled.piece_refused (x ∷ xs) st) e (inr (inl (omega (arith, n, r.1), r.2)))
+      stopped_before (of_data s) old (spelled.piece (x ∷ xs) st) (spelled.piece_refused (x ∷ xs) st) e (inr (inl (omega (arith, n, r.1), r.2)))
 
   -- ---- a table of some items
 
@@ -94,23 +94,23 @@ module _ {A R W : Type 0} (load : ℕ × ℕ) (sh : Shape) (w : Spelling A R) (h
     made_so to e = ap (λ n. record { pos = Some n }) e ∙ elim xs as (λ ys. 0 < length ys → record { pos = Some (controls_at sh w (os ys) st) } ≡ spelled.resolver ys st) [ [] ↦ λ h. absurd (omega arith) | x ∷ xs ↦ λ h. refl ] some
 
     -- a call stopped in the data
-    data_stopped : (new : W) (e : Error) → Stops s old new own_data (pieces_refused w (present (os xs)) st) e → Stops s old new (spelled.piece xs st) (spelled.piece_refused xs st) e
-    data_stopped new e h = stopped_first s region (spelled.piece xs st) (pieces_refused w (present (os xs)) st) (spelled.piece_refused xs st) piece_is (λ r. refused_so e (inr (inl r))) h
+    data_stopped : (new : W) (e : Error) → Stops (of_data s) old new own_data (pieces_refused w (present (os xs)) st) e → Stops (of_data s) old new (spelled.piece xs st) (spelled.piece_refused xs st) e
+    data_stopped new e h = stopped_first (of_data s) region (spelled.piece xs st) (pieces_refused w (present (os xs)) st) (spelled.piece_refused xs st) piece_is (λ r. refused_so e (inr (inl r))) h
 
     -- a call stopped in the region
-    region_stopped : (mid new : W) (e : Error) → Wrote s old mid own_data → LaysRegion sh w s (os xs) (controls xs) st mid new (Err e) → Stops s old new (spelled.piece xs st) (spelled.piece_refused xs st) e
+    region_stopped : (mid new : W) (e : Error) → Wrote (of_data s) old mid own_data → LaysRegion sh w s (os xs) (controls xs) st mid new (Err e) → Stops (of_data s) old new (spelled.piece xs st) (spelled.piece_refused xs st) e
     region_stopped mid new e g h =
         let far : Error → Type 0 = λ d. ((IsPlaced sh w (os xs) (controls xs) st → ⊥) × (d ≡ PositionTooLarge)) ⊎ buckets_refused sh w (os xs) st (controls_at sh w (os xs) st) d in
-        stopped_after s (spelled.piece xs st) far (spelled.piece_refused xs st) piece_is (λ r. refused_so e (inr (inr r))) g h
+        stopped_after (of_data s) (spelled.piece xs st) far (spelled.piece_refused xs st) piece_is (λ r. refused_so e (inr (inr r))) g (stops_as_data s h)
 
     -- all of it was written
     table_written : (mid new : W) (to : ℕ) → IsAt s.pos s.known old st → capacity_for (length xs) load.0 load.1 < 2 ^ 32
-        → Wrote s old mid own_data → pieces_fit w (present (os xs)) st → IsAt s.pos s.known mid (state_after_all w (present (os xs)) st) → LaysRegion sh w s (os xs) (controls xs) st mid new (Ok to)
-        → Wrote s old new (spelled.piece xs st) × ((record { pos = Some to } ≡ spelled.resolver xs st) × spelled.piece_fits xs st × IsAt s.pos s.known new (state_after spelled xs st))
+        → Wrote (of_data s) old mid own_data → pieces_fit w (present (os xs)) st → IsAt s.pos s.known mid (state_after_all w (present (os xs)) st) → LaysRegion sh w s (os xs) (controls xs) st mid new (Ok to)
+        → Wrote (of_data s) old new (spelled.piece xs st) × ((record { pos = Some to } ≡ spelled.resolver xs st) × spelled.piece_fits xs st × IsAt s.pos s.known new (state_after spelled xs st))
     table_written mid new to at small g f is h =
         let many : length (os xs) ≡ capacity_for (length xs) load.0 load.1 = length-placed _ _ xs in
         let few : length (os xs) < 2 ^ 32 = omega arith in
-        let wrote : Wrote s old new (spelled.piece xs st) = wrote_both s (spelled.piece xs st) piece_is g h.0 in
+        let wrote : Wrote (of_data s) old new (spelled.piece xs st) = wrote_both (of_data s) (spelled.piece xs st) piece_is g (as_data s h.0) in
         let begun = state_after_all_begun (first_fit (λ _. 0)) sh (λ _. ⊤) w (present (os xs)) st in (
           wrote,
           (
@@ -131,18 +131,18 @@ module _ {A R W : Type 0} (load : ℕ × ℕ) (sh : Shape) (w : Spelling A R) (h
           let Q : List ℕ → Type 0 = λ l. LaysRegion sh w s (os xs) l st mid new result in
           subst Q ec (subst P eo h)
 
-      wrote_so : (mid : W) → Wrote s old mid (pieces w (present o) st) → Wrote s old mid own_data
-      wrote_so mid g = let P : List (Option A) → Type 0 = λ l. Wrote s old mid (pieces w (present l) st) in subst P eo g
+      wrote_so : (mid : W) → Wrote (of_data s) old mid (pieces w (present o) st) → Wrote (of_data s) old mid own_data
+      wrote_so mid g = let P : List (Option A) → Type 0 = λ l. Wrote (of_data s) old mid (pieces w (present l) st) in subst P eo g
 
-      pub stopped_in_data : (new : W) (e : Error) → Stops s old new (pieces w (present o) st) (pieces_refused w (present o) st) e → Stops s old new (spelled.piece xs st) (spelled.piece_refused xs st) e
-      stopped_in_data new e h = let P : List (Option A) → Type 0 = λ l. Stops s old new (pieces w (present l) st) (pieces_refused w (present l) st) e in data_stopped new e (subst P eo h)
+      pub stopped_in_data : (new : W) (e : Error) → Stops (of_data s) old new (pieces w (present o) st) (pieces_refused w (present o) st) e → Stops (of_data s) old new (spelled.piece xs st) (spelled.piece_refused xs st) e
+      stopped_in_data new e h = let P : List (Option A) → Type 0 = λ l. Stops (of_data s) old new (pieces w (present l) st) (pieces_refused w (present l) st) e in data_stopped new e (subst P eo h)
 
-      pub stopped_in_region : (mid new : W) (e : Error) → Wrote s old mid (pieces w (present o) st) → LaysRegion sh w s o cs st mid new (Err e) → Stops s old new (spelled.piece xs st) (spelled.piece_refused xs st) e
+      pub stopped_in_region : (mid new : W) (e : Error) → Wrote (of_data s) old mid (pieces w (present o) st) → LaysRegion sh w s o cs st mid new (Err e) → Stops (of_data s) old new (spelled.piece xs st) (spelled.piece_refused xs st) e
       stopped_in_region mid new e g h = region_stopped mid new e (wrote_so mid g) (laid_so mid new (Err e) h)
 
       pub written_all : (mid new : W) (to : ℕ) → IsAt s.pos s.known old st → capacity_for (length xs) load.0 load.1 < 2 ^ 32
-          → Wrote s old mid (pieces w (present o) st) → pieces_fit w (present o) st → IsAt s.pos s.known mid (state_after_all w (present o) st) → LaysRegion sh w s o cs st mid new (Ok to)
-          → Wrote s old new (spelled.piece xs st) × ((record { pos = Some to } ≡ spelled.resolver xs st) × spelled.piece_fits xs st × IsAt s.pos s.known new (state_after spelled xs st))
+          → Wrote (of_data s) old mid (pieces w (present o) st) → pieces_fit w (present o) st → IsAt s.pos s.known mid (state_after_all w (present o) st) → LaysRegion sh w s o cs st mid new (Ok to)
+          → Wrote (of_data s) old new (spelled.piece xs st) × ((record { pos = Some to } ≡ spelled.resolver xs st) × spelled.piece_fits xs st × IsAt s.pos s.known new (state_after spelled xs st))
       written_all mid new to at small g f is h =
           let F : List (Option A) → Type 0 = λ l. pieces_fit w (present l) st in
           let I : List (Option A) → Type 0 = λ l. IsAt s.pos s.known mid (state_after_all w (present l) st) in

@@ -2,7 +2,7 @@
 ghost use Rattle.std.specs.Prelude.{◌≡◌, ◌-◌, ◌^◌, ◌<◌, map};
 ghost use Rattle.archive_shape_canonical.specs.FirstFit.{present};
 ghost use Rattle.archive_forms_spelling.specs.State.{State};
-ghost use Rattle.archive_forms_spelling.specs.Serializing.{IsAt, HasState, Lays};
+ghost use Rattle.archive_forms_spelling.specs.Serializing.{IsAt, HasState, LaysData};
 ghost use Rattle.archive_forms_spelling.specs.Regions.{state_after_all, pieces, resolvers, pieces_fit, pieces_refused};
 ghost use Rattle.archive_forms_writing.specs.Steps.{StepTakes, StepWrites};
 ghost use Rattle.archive_hash_writing.specs.Standing.{standing};
@@ -29,7 +29,7 @@ pub(crate) fn serialize_present_each<
     requires writes { StepWrites F.Fn (λ q. q.0) T.spelling S.Writer step }
     ensures { (st : State) → IsAt S.pos S.known serializer.old st
         → let xs = present (map standing table.now) in
-        Lays S.Writer serializer.old serializer.new (pieces T.spelling xs st)
+        LaysData S.Writer serializer.old serializer.new (pieces T.spelling xs st)
         (λ all. (all.items ≡ resolvers T.spelling xs st) × pieces_fit T.spelling xs st × IsAt S.pos S.known serializer.new (state_after_all T.spelling xs st))
         (pieces_refused T.spelling xs st) result }
 {

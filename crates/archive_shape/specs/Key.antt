@@ -5,10 +5,11 @@ use Rattle.archive_shape_layout.specs.Shape.{Shape, size_of}
 use Rattle.archive_shape_layout.specs.Value.{Value}
 use Rattle.archive_shape_layout.specs.Content.{Names}
 use Rattle.archive_shape_layout.specs.Content.Part.{at}
-use Rattle.archive_shape_layout.specs.Holds.{Region, Visit, OpenShared, Holds, Ascends}
+use Rattle.archive_shape_layout.specs.Holds.{Region, Visit, OpenShared, Holds}
+use Rattle.archive_shape_layout.specs.Visited.{ClaimedAfter}
 
 -- under names that a type knows, the layout has this value at a position: its own bytes lie in the buffer, and the regions
--- that it claims ascend before them
+-- that it claims ascend before them, after visits of what stands
 pub record HeldAt (shape : Shape) (knows : Names → Type 0) (bytes : List ℕ) (pos : ℕ) (value : Value) : Type 0 where
   pub names : Names
   pub known : knows names
@@ -18,7 +19,8 @@ pub record HeldAt (shape : Shape) (knows : Names → Type 0) (bytes : List ℕ) 
   pub before : List Visit
   pub after : List Visit
   pub own_within : pos + size_of shape ≤ length bytes
-  pub ascends : Ascends 0 pos regions
+  pub low : ℕ
+  pub claimed : ClaimedAfter names bytes before low pos regions
   pub holds : Holds names bytes level inside (at pos shape) value regions before after
 
 -- two keys of one value, wherever each lies, compare alike with every query

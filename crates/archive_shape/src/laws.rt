@@ -7,7 +7,7 @@ pub use archive_shape_checking::{
 };
 pub use archive_shape_layout::{
     alignments_are_small_powers, ascent_is_apart, ascent_splits, edit_of_leaf, edit_of_text, frame,
-    one_value, paths_join, root_regions, value_at_path,
+    one_value, paths_join, root_regions, value_at_path, visits_stand,
 };
 pub use archive_shape_portable::{
     held_leaf_is_read, illegal_is_refused, leaf_is_read, legal_is_readable, named_is_known,

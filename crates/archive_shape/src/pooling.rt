@@ -1,7 +1,7 @@
 //! What keeps the values that are shared, while an archive is read.
-ghost use Rattle.std.specs.Prelude.{◌≡◌, ℕ, MatchResult};
-ghost use Rattle.archive_shape.specs.Pooling.{progress_of};
-ghost use Rattle.archive_shape_writing.specs.Progress.{Progress, Starts, Finishes};
+ghost use Rattle.std.specs.Prelude.{◌≡◌, ℕ, Bool, MatchResult};
+ghost use Rattle.archive_shape.specs.Pooling.{StartsPooling, FinishesPooling};
+ghost use Rattle.archive_shape_writing.specs.Progress.{Progress};
 ghost use Rattle.archive_shape_writing.specs.declared.error.Error.TheVariants.{OutOfMemory};
 
 use crate::Error;
@@ -17,21 +17,26 @@ pub enum PoolingState<T> {
     Finished(T),
 }
 
-/// What has each shared value read once. After a refusal it is not used again.
+/// What is told of each shared value that is read. Where it is kept, each is read once. After a refusal it is not used again.
 pub trait Pooling<T> {
+    /// Whether the progress of positions is kept.
+    ghost KEEPS: { Bool };
+
     /// What is known of each position.
     ghost known: { Self → ℕ → Progress T };
 
-    /// Tells what is known of the value at a position, and begins one that was not met.
+    /// Tells what is known of the value at a position, and begins one that was not met. Where nothing is kept, it is begun anew.
     fn start_pooling(&mut self, pos: usize) -> Result<PoolingState<T>, Error>
-        ensures { MatchResult result (λ state. Starts (known self.old) (known self.new) pos (progress_of state)) (λ e. e ≡ OutOfMemory) };
+        ensures { MatchResult result (StartsPooling (known self.old) (known self.new) pos KEEPS) (λ e. e ≡ OutOfMemory) };
 
     /// Finishes a value that has begun, of which this was made. It takes no memory: the entry was made at its start.
     fn finish_pooling(&mut self, pos: usize, value: T) -> Result<(), Error>
-        ensures { Finishes (known self.old) (known self.new) pos value result (known self.old pos) };
+        ensures { FinishesPooling (known self.old) (known self.new) pos KEEPS value result };
 }
 
 impl<T, P: Pooling<T>> Pooling<T> for &mut P {
+    ghost KEEPS = { P.KEEPS };
+
     ghost known = { λ r. P.known r.now };
 
     fn start_pooling(&mut self, pos: usize) -> Result<PoolingState<T>, Error> {

@@ -1,6 +1,7 @@
 pub mod Ascent
 pub mod Unique
 pub mod Framed
+pub mod Visited
 pub mod Aligned
 pub mod Rooted
 pub mod Places

@@ -3,6 +3,7 @@ pub mod Shape
 pub mod Value
 pub mod Content
 pub mod Holds
+pub mod Visited
 pub mod Laws
 pub mod Path
 pub mod Edit

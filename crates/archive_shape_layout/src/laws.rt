@@ -1,6 +1,7 @@
 //! Laws. Each function below has no body: it carries a law.
 ghost use Rattle.archive_shape_layout.specs.Laws.{OneValue, AscentSplits, AscentIsApart, AlignmentsAreSmallPowers, RootRegions, Frame};
 ghost use Rattle.archive_shape_layout.specs.Edit.{ValueAtPath, PathsJoin, EditOfLeaf, EditOfText, LeavesApart, LeafWithin};
+ghost use Rattle.archive_shape_layout.specs.Visited.{VisitsStand};
 
 /// Bytes have at most one value of a shape at a place, and with it one list of regions and one list of the shared
 /// positions that have been visited.
@@ -32,6 +33,12 @@ pub fn root_regions()
 /// the same bytes there holds the same.
 pub fn frame()
     ensures { Frame }
+{}
+
+/// All that was visited when a part was read has its value where it lies, below the end of what the part claims. So what
+/// the counted pointers in a root lead to stands.
+pub fn visits_stand()
+    ensures { VisitsStand }
 {}
 
 /// The value at a path is that of the part which stands there.

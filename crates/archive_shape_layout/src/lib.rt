@@ -10,6 +10,6 @@ mod shape;
 
 pub use laws::{
     alignments_are_small_powers, ascent_is_apart, ascent_splits, edit_of_leaf, edit_of_text, frame,
-    leaf_within, leaves_apart, one_value, paths_join, root_regions, value_at_path,
+    leaf_within, leaves_apart, one_value, paths_join, root_regions, value_at_path, visits_stand,
 };
 pub use shape::{Alignment, Pointee, Shape, Shapes, Width, same_shape};

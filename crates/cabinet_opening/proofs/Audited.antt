@@ -3,7 +3,7 @@ use Rattle.std.proofs.Common.{◌≡◌, ℕ, ◌≤◌, ◌↔◌, Bool, true, 
 use Rattle.archive_shape_layout.specs.Value.{Value}
 use Rattle.archive_shape_layout.specs.Holds.{HasRoot, root_position}
 use Rattle.archive_shape_canonical.specs.Canonical.{AreBytes}
-use Rattle.archive_shape_checking.specs.Kept.{Kept}
+use Rattle.archive_shape_checking.specs.Kept.{Kept, range_of}
 use Rattle.archive_shape_checking.specs.Checks.{Checks}
 use Rattle.archive_shape_writing.specs.declared.error.Error.{Error}
 use Rattle.archive_shape.specs.Key.{HeldAt}
@@ -39,7 +39,7 @@ module _ (bytes : List ℕ) (k : Kept) (is : k ≡ whole (length bytes) (most_of
       → Audited b
   audited l b small checked told =
       let pos = root_position (length bytes) node_shape in
-      let p = decided node_shape node_names bytes pos 2199 k l (Ok tt) kept_is checked in
+      let p = decided node_shape node_names bytes pos 2199 k l (Ok tt) (ap range_of kept_is) (λ other. ap (λ (x : Kept). x.seen other) kept_is) checked in
       let root : HasRoot node_names bytes pos node_shape p.value p.regions p.after = record { holds = p.accepts.holds; ascends = p.accepts.ascends } in
       let d = depth_decides_law bytes p.value p.regions p.after small root in
       let says = told p.value d.tree (root_held node_shape KnowsNode node_names bytes pos p.value p.regions p.after refl root) d.denotes in
@@ -55,4 +55,4 @@ module _ (bytes : List ℕ) (k : Kept) (is : k ≡ whole (length bytes) (most_of
   refused_for e r (for_memory f g) checked = subst (λ x. IsRefusedFor bytes (refusal_of x)) (sym g) tt
   refused_for e r (for_access f g) checked =
       subst (λ x. IsRefusedFor bytes (refusal_of x)) (sym g)
-      (decided node_shape node_names bytes (root_position (length bytes) node_shape) 2199 k k (Err e) kept_is checked f)
+      (decided node_shape node_names bytes (root_position (length bytes) node_shape) 2199 k k (Err e) (ap range_of kept_is) (λ other. ap (λ (x : Kept). x.seen other) kept_is) checked f)

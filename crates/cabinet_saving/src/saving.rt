@@ -8,7 +8,7 @@ ghost use Rattle.cabinet_text_nodes.specs.View.{node_tree};
 ghost use Rattle.cabinet_saving.specs.Saving.{HasNoImageFor, IsUnmadeFor, Saved, IsUnsavedFor};
 
 use crate::layout::has_layout;
-use archive_core_serializing::{HighSerializer, Serializer};
+use archive_core_serializing::Serializer;
 use archive_forms_writing::serialize_using;
 use archive_shape_writing::{Error, Writer};
 use cabinet_text_nodes::{Document, Node};
@@ -39,7 +39,7 @@ fn archive_in_memory(alloc: Global, root: &Node) -> Result<Vec<u8>, SaveRefusal>
         (IsUnmadeFor (node_tree root.now)) }
 {
     let mut serializer = Serializer::new(Vec::new(alloc), alloc, ());
-    match serialize_using::<Node, HighSerializer<Vec<u8>, Global>>(root, &mut serializer) {
+    match serialize_using::<Node, Serializer<Vec<u8>, Global, ()>>(root, &mut serializer) {
         Ok(_) => Ok(serializer.into_writer()),
         Err(e) => match e {
             Error::OutOfMemory => Err(SaveRefusal::OutOfMemory),

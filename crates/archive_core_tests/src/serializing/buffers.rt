@@ -1,12 +1,12 @@
 //! Tests of a writer over memory of a fixed length.
-use archive_core_serializing::{Buffer, HighSerializer, Serializer};
+use archive_core_serializing::{Buffer, Serializer};
 use archive_forms_writing::{Serialize, serialize_using};
 use archive_shape::{Error, Positional, Writer};
 use std::alloc::Global;
 use std::test::Fail;
 
 /// Writes a value into memory of a fixed length, as an archive. The answer is its position.
-fn write_into<'a, T: Serialize<HighSerializer<Buffer<'a>, Global>>>(
+fn write_into<'a, T: Serialize<Serializer<Buffer<'a>, Global, ()>>>(
     alloc: Global,
     value: &T,
     memory: &'a mut [u8],

@@ -1,14 +1,14 @@
 //! Tests of serializers.
 ghost use Rattle.std.specs.Prelude.{◌-◌, ◌^◌, ◌<◌};
 
-use archive_core_serializing::{HighSerializer, Serializer};
+use archive_core_serializing::Serializer;
 use archive_forms_writing::{Serialize, serialize_using};
 use archive_shape::{Allocator, Error, Positional, Writer};
 use std::alloc::Global;
 use std::test::Fail;
 
 /// The archive of a value, in memory that grows.
-fn archive_of<T: Serialize<HighSerializer<Vec<u8>, Global>>>(
+fn archive_of<T: Serialize<Serializer<Vec<u8>, Global, ()>>>(
     alloc: Global,
     value: &T,
 ) -> Result<Vec<u8>, Error> {

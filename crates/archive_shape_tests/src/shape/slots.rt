@@ -1,5 +1,5 @@
 //! A sharing and pooling of a few slots.
-ghost use Rattle.std.specs.Prelude.{slice_index_or};
+ghost use Rattle.std.specs.Prelude.{true, slice_index_or};
 ghost use Rattle.archive_shape.specs.Pooling.{progress_of};
 ghost use Rattle.archive_shape.specs.declared.pooling.PoolingState.TheVariants.{Started};
 
@@ -20,6 +20,8 @@ impl<T: Copy> Slots<T> {
 }
 
 impl<T: Copy> Pooling<T> for Slots<T> {
+    ghost KEEPS = { true };
+
     ghost known = { λ s pos. progress_of (slice_index_or s.states pos Started) };
 
     fn start_pooling(&mut self, pos: usize) -> Result<PoolingState<T>, Error> {

@@ -1,5 +1,6 @@
 use Rattle.std.proofs.Common.{arith, refl, inl, Err}
 use Rattle.archive_shape_writing.specs.Writing.{WriterMembers}
+use Rattle.archive_forms_spelling.specs.Serializing.{of_data}
 use Rattle.archive_forms_writing.proofs.Laying.{stopped_before}
 use Rattle.archive_btree_writing.specs.Nodes.{borrowed, node_of}
 use Rattle.archive_btree_writing.proofs.Placing.{Behind, data_stopped, node_laid}
@@ -52,4 +53,4 @@ returns-in-Ok g c =
 pub returns-then-size_of_val-gt-LARGEST : goal.returns-then-size_of_val-gt-LARGEST
 returns-then-size_of_val-gt-LARGEST g c = λ st at.
     let s : WriterMembers g.row.S.Denot = record { known = g.S.Registry.known; pos = g.S.Positional.pos; OBSERVABLE = g.S.Writer.OBSERVABLE; COUNTS = g.S.Writer.COUNTS; contents = g.S.Writer.contents; failures = g.S.Writer.failures; last_error = g.S.Writer.last_error } in
-    stopped_before s c.args.serializer.now _ _ _ (inl refl)
+    stopped_before (of_data s) c.args.serializer.now _ _ _ (inl refl)

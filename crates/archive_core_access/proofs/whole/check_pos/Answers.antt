@@ -1,15 +1,18 @@
 use Rattle.std.proofs.Common.{ap, ◌∙◌}
-use Rattle.archive_shape_checking.specs.Kept.{Kept}
+use Rattle.archive_shape_checking.specs.Kept.{Kept, range_of}
 use Rattle.archive_core_validation.specs.Depth.{unlimited, most_within, none_seen, with_seen}
+use Rattle.archive_core_validation.specs.Visits.{seen_in}
 use Rattle.archive_core_validation.specs.declared.archive_validator.ArchiveValidator.{ArchiveValidator}
+use Rattle.archive_core_validation.specs.declared.shared_validator.SharedValidator.{SharedValidator}
 use Rattle.archive_core_access.proofs.Rooted.{decided, decided_has_value}
 use Rattle.archive_core_access.proofs.whole.check_pos.Goals as goal
 
 pub returns-clause-exact : goal.returns-clause-exact
 returns-clause-exact g c names known =
     decided g.T.Portable.shape names c.args.bytes.now c.args.pos unlimited _ _ c.check_pos_with_context.result
-    (ap (λ (a : ArchiveValidator). record { start = a.start; end = a.end; most = most_within a.most; pushes = a.pushes.items; seen = none_seen }) c.new-context.ensures.archive
-    ∙ ap (λ (k : Kept). with_seen k none_seen) c.new.ensures)
+    (ap (λ (a : ArchiveValidator). range_of (record { start = a.start; end = a.end; most = most_within a.most; pushes = a.pushes.items; seen = none_seen })) c.new-context.ensures.archive
+    ∙ ap range_of c.new.ensures)
+    (λ pos. ap (λ (v : SharedValidator). seen_in v.met pos) c.new-context.ensures.shared ∙ c.new-2.ensures pos)
     (c.check_pos_with_context.ensures.exact names known)
 
 pub returns-clause-value : goal.returns-clause-value

@@ -2,6 +2,7 @@ use Rattle.std.proofs.Common.{◌∙◌, List, [], Option, arith, ap, refl, subs
 use Rattle.archive_shape_writing.specs.Writing.{WriterMembers}
 use Rattle.archive_shape_canonical.specs.FirstFit.{fitted_from, present}
 use Rattle.archive_forms_writing.specs.Steps.{IsElement}
+use Rattle.archive_forms_spelling.specs.Serializing.{of_data}
 use Rattle.archive_forms_writing.proofs.Laying.{stopped_before}
 use Rattle.archive_hash_writing.specs.Claimed.{written_spelling}
 use Rattle.archive_hash_writing.proofs.Among.{among_items}
@@ -46,7 +47,7 @@ returns-in-Err-place_items g c = λ st at.
     let xs = c.args.items.now in
     let old = c.args.serializer.now in
     let spelled = written_spelling load sh w hashes in
-    stopped_before s old (spelled.piece xs st) (spelled.piece_refused xs st) _ (inl c.in-Err-place_items.ensures)
+    stopped_before (of_data s) old (spelled.piece xs st) (spelled.piece_refused xs st) _ (inl c.in-Err-place_items.ensures)
 
 pub serialize_present_each-requires-clause-takes : goal.serialize_present_each-requires-clause-takes
 serialize_present_each-requires-clause-takes g c = λ x t el room state.

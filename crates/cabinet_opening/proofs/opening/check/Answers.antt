@@ -1,4 +1,5 @@
 use Rattle.std.proofs.Common.{arith, [], refl}
+use Rattle.archive_shape_layout.specs.Visited.AllStand.{none_stand}
 use Rattle.cabinet_documents.specs.Node.{node_shape, node_names}
 use Rattle.cabinet_opening.proofs.Depths.{moved, now}
 use Rattle.cabinet_opening.proofs.Audited.{audited, refused_for}
@@ -6,7 +7,7 @@ use Rattle.cabinet_opening.proofs.opening.check.Goals as goal
 
 pub is_shallow-requires : goal.is_shallow-requires
 is_shallow-requires c =
-    let has = c.in-Ok.ensures.value node_names [] [] refl (λ other. refl) in
+    let has = c.in-Ok.ensures.value node_names [] [] refl (λ other. refl) (none_stand refl) in
     record { value = has.value; held = moved node_shape _ _ _ _ (now c.in-Ok.ensures.bytes) c.in-Ok.ensures.position has.value has.held }
 
 pub returns-then-is_shallow-clause-accepted : goal.returns-then-is_shallow-clause-accepted

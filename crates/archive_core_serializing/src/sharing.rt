@@ -1,0 +1,49 @@
+//! Values that are shared are written once for each key.
+ghost use Rattle.std.specs.Prelude.{◌-◌, ◌^◌, ◌<◌};
+ghost use Rattle.archive_shape_references.specs.Bytes.{zeros};
+ghost use Rattle.archive_shape_writing.specs.Writing.{Writes};
+ghost use Rattle.archive_forms_spelling.specs.Shared.{shared_padding};
+
+use crate::Serializer;
+use archive_forms_sharing::SharingExt;
+use archive_forms_unsized::SerializeUnsized;
+use archive_shape::{Allocator, Error, Sharing, SharingState, Writer};
+
+/// Writes a zero byte behind a value that begins at `start` and has no bytes.
+fn pad_empty<W: Writer>(writer: &mut W, start: usize) -> Result<(), Error>
+    requires { W.failures writer.old < 2 ^ 64 - 1 }
+    ensures { Writes W.Writer writer.old writer.new (zeros (shared_padding start (W.pos writer.old))) result }
+{
+    if writer.pos() == start {
+        writer.write(&[0])
+    } else {
+        Ok(())
+    }
+}
+
+impl<W: Writer, A: Allocator, S: Sharing> SharingExt for Serializer<W, A, S> {
+    fn serialize_shared<U: SerializeUnsized<Serializer<W, A, S>>>(
+        &mut self,
+        key: usize,
+        value: &U,
+    ) -> Result<usize, Error> {
+        match self.sharing.start_sharing(key) {
+            Ok(SharingState::Started) => {}
+            Ok(SharingState::Pending) => return Err(Error::CyclicSharedPointer),
+            Ok(SharingState::Finished(pos)) => return Ok(pos),
+            Err(e) => return Err(e),
+        }
+        let pos = match value.serialize_unsized(self) {
+            Ok(pos) => pos,
+            Err(e) => return Err(e),
+        };
+        match pad_empty(&mut self.writer, pos) {
+            Ok(()) => {}
+            Err(e) => return Err(e),
+        }
+        match self.sharing.finish_sharing(key, pos) {
+            Ok(()) => Ok(pos),
+            Err(e) => Err(e),
+        }
+    }
+}

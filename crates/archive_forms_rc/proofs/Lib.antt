@@ -1,0 +1,6 @@
+pub mod Behind
+pub mod Counted
+pub mod Entries
+pub mod Led
+pub mod Tags
+pub mod Visited

@@ -1,0 +1,115 @@
+-- Weak pointers, by their tags.
+use Rattle.std.proofs.Common.{◌≡◌, ℕ, ◌+◌, ◌==◌, Bool, true, false, List, [], ◌∷◌, slice_index, Some, Ok, Result, ◌⊎◌, inl, inr, refl, sym, ap, ◌∙◌, arith, eqb-true}
+use Rattle.archive_shape_layout.specs.Bytes.{window}
+use Rattle.archive_shape_layout.specs.Shape.{Shape, Pointee, size_of}
+use Rattle.archive_shape_layout.specs.Shape.Shape.{shared, weak}
+use Rattle.archive_shape_layout.specs.Shape.Pointee.{sized}
+use Rattle.archive_shape_layout.specs.Value.{Value, Values}
+use Rattle.archive_shape_layout.specs.Value.Value.{chosen}
+use Rattle.archive_shape_layout.specs.Value.Values.{no_values, more_values}
+use Rattle.archive_shape_layout.specs.Content.{Names, Content, content_of, made, choose, shape_content}
+use Rattle.archive_shape_layout.specs.Content.Part.{at}
+use Rattle.archive_shape_layout.specs.Content.Label.{tagged}
+use Rattle.archive_shape_layout.specs.Content.Content.{plain, illegal}
+use Rattle.archive_shape_layout.proofs.Unique.{by_plain}
+use Rattle.archive_shape_checking.specs.Kept.{Kept}
+use Rattle.archive_shape_checking.specs.Checks.{Checks}
+use Rattle.archive_shape_writing.specs.declared.error.Error.{Error}
+use Rattle.archive_shape_checking.proofs.Below.{below_checked}
+use Rattle.archive_shape_checking.proofs.Inverted.{IsKnown, held_is_known}
+use Rattle.archive_shape_checking.proofs.Leaves.{alone_checked}
+use Rattle.archive_shape.specs.Key.{HeldAt}
+use Rattle.archive_shape_layout.proofs.Visited.{claimed_raised}
+use Rattle.archive_forms_checking.proofs.Tagged.{own_tag}
+use Rattle.archive_forms_reading.specs.Parts.{HasValue}
+use Rattle.archive_forms_reading.proofs.Inside.{none_held, one_held}
+use Rattle.archive_forms_rc.specs.Pointers.{IsRcAt}
+use Rattle.archive_forms_rc.specs.WeakPointers.{IsNothingAt, IsWeakAt}
+
+made_tagged : (t : ℕ) (v : Value) → (w : Value) × (made (tagged t) (more_values v no_values) ≡ Some w)
+unfolding made
+made_tagged t v = (chosen t (more_values v no_values), refl)
+
+module _ (names : Names) (bytes : List ℕ) (pos : ℕ) (cyclic : Bool) (p : Pointee) where
+  pub weak_tag : slice_index (window bytes pos (size_of (weak cyclic p))) 0 ≡ slice_index bytes pos
+  weak_tag = own_tag bytes pos (size_of (weak cyclic p)) (omega arith)
+
+  pub nothing_is : slice_index bytes pos ≡ 0 → content_of names bytes (at pos (weak cyclic p)) ≡ plain (tagged 0) []
+  unfolding shape_content choose
+  nothing_is tag = rw (weak_tag, tag) refl
+
+  pub pointer_is : slice_index bytes pos ≡ 1 → content_of names bytes (at pos (weak cyclic p)) ≡ plain (tagged 1) (at (pos + 4) (shared cyclic p) ∷ [])
+  unfolding shape_content choose
+  pointer_is tag = rw (weak_tag, tag) refl
+
+  pub nothing_checked : (k : Kept) → slice_index bytes pos ≡ 0 → Checks names bytes (at pos (weak cyclic p)) k (Ok tt) k
+  unfolding made
+  nothing_checked k tag = alone_checked names bytes (at pos (weak cyclic p)) k (tagged 0) (chosen 0 no_values) (nothing_is tag) tt refl
+
+  pub pointer_checked : (k l : Kept) (r : Result (Unit {0}) Error) → slice_index bytes pos ≡ 1 → Checks names bytes (at (pos + 4) (shared cyclic p)) k r l → Checks names bytes (at pos (weak cyclic p)) k r l
+  pointer_checked k l r tag h = below_checked names bytes pos (weak cyclic p) (tagged 1) _ k l r (pointer_is tag) tt (made_tagged 1) h
+
+-- ---- reading
+
+one_tag : (a b : Bool) (x y : Content) → IsKnown (choose a x (choose b y illegal)) → (a ≡ true) ⊎ (b ≡ true)
+unfolding choose
+one_tag true b x y h = inl refl
+one_tag false true x y h = inr refl
+one_tag false false x y h = absurd h
+
+made_chosen : (tag : ℕ) (vs : Values) (v : Value) → made (tagged tag) vs ≡ Some v → v ≡ chosen tag vs
+unfolding made
+made_chosen tag vs v e = cc
+
+module _ (cyclic : Bool) (s : Shape) (knows : Names → Type 0) (bytes : List ℕ) (pos : ℕ) where
+  pub is_nothing : slice_index bytes pos ≡ 0 → IsNothingAt cyclic s knows bytes pos
+  is_nothing tag v h =
+      let says = by_plain h.names bytes (nothing_is h.names bytes pos cyclic (sized s) tag) h.holds in
+      made_chosen 0 says.vs v says.is_made ∙ ap (chosen 0) (none_held h.names bytes says.all)
+
+  module _ (other : slice_index bytes pos ≡ 0 → ⊥) where
+    tag_is_one : (v : Value) (h : HeldAt (weak cyclic (sized s)) knows bytes pos v) → slice_index bytes pos ≡ 1
+    unfolding shape_content
+    tag_is_one v h = by (one_tag (slice_index (window bytes pos 8) 0 == 0) (slice_index (window bytes pos 8) 0 == 1) _ _ (held_is_known h.names bytes h.holds))
+      where
+        by : ((slice_index (window bytes pos 8) 0 == 0) ≡ true) ⊎ ((slice_index (window bytes pos 8) 0 == 1) ≡ true) → slice_index bytes pos ≡ 1
+        by (inl e) = absurd (other (sym (weak_tag h.names bytes pos cyclic (sized s)) ∙ eqb-true _ 0 e))
+        by (inr e) = sym (weak_tag h.names bytes pos cyclic (sized s)) ∙ eqb-true _ 1 e
+
+    -- a value is that of the pointer behind the tag, after the same visits
+    record Pointed (v : Value) (h : HeldAt (weak cyclic (sized s)) knows bytes pos v) : Type 0 where
+      pointer : Value
+      is : v ≡ chosen 1 (more_values pointer no_values)
+      held : HeldAt (shared cyclic (sized s)) knows bytes (pos + 4) pointer
+
+    pointed : (v : Value) (h : HeldAt (weak cyclic (sized s)) knows bytes pos v) → Pointed v h
+    pointed v h =
+        let says = by_plain h.names bytes (pointer_is h.names bytes pos cyclic (sized s) (tag_is_one v h)) h.holds in
+        let one = one_held h.names bytes says.all in
+        let own = h.own_within in
+        record {
+          pointer = one.value;
+          is = made_chosen 1 says.vs v says.is_made ∙ ap (chosen 1) one.is;
+          held = record {
+            names = h.names;
+            known = h.known;
+            level = h.level;
+            inside = h.inside;
+            regions = h.regions;
+            before = h.before;
+            after = h.after;
+            own_within = omega (arith, own);
+            low = h.low;
+            claimed = claimed_raised (omega arith) h.claimed;
+            holds = one.holds;
+          };
+        }
+
+    pub has_pointer : HasValue (weak cyclic (sized s)) knows bytes pos → HasValue (shared cyclic (sized s)) knows bytes (pos + 4)
+    has_pointer has = let one = pointed has.value has.held in record { value = one.pointer; held = one.held }
+
+    pub is_weak : (to : ℕ) → IsRcAt cyclic s knows bytes (pos + 4) to → IsWeakAt cyclic s knows bytes pos to
+    is_weak to i = record {
+      points = i.points;
+      value = λ v h. let one = pointed v h in record { pointer = one.pointer; is = one.is; counts = i.value one.pointer one.held };
+    }

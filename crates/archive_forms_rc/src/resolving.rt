@@ -1,0 +1,106 @@
+//! How counted pointers are written, once it is known where what they lead to stands.
+ghost use Rattle.std.specs.Prelude.{◌≡◌, ◌+◌, ◌^◌, ◌<◌, ◌≤◌, ◌++◌, ◌⊎◌, length, MatchResult};
+ghost use Rattle.std.specs.Int.{w32, to_le_bytes};
+ghost use Rattle.archive_shape_references.specs.Bytes.{overwrite};
+ghost use Rattle.archive_shape_writing.specs.declared.error.Error.TheVariants.{IsizeOverflow, LengthTooLarge};
+ghost use Rattle.archive_shape_pointers.specs.Offsets.{FitsOffset, offset_bytes};
+
+use crate::{ArchivedRc, ArchivedRcSlice, ArchivedRcStr};
+use archive_forms_boxed::{ArchivedBoxedSlice, ArchivedBoxedStr};
+use archive_forms_reading::{ArchivedBox, BoxResolver};
+use archive_shape_portable::Portable;
+use archive_shape_references::Place;
+use archive_shape_writing::Error;
+
+/// Where the value of a counted pointer stands.
+#[derive(Clone, Copy, Debug, PartialEq, Eq)]
+pub struct RcResolver {
+    pub pos: usize,
+}
+
+impl RcResolver {
+    pub const fn from_pos(pos: usize) -> Self
+        ensures { result.pos ≡ pos }
+    {
+        RcResolver { pos }
+    }
+}
+
+impl<T: Portable, L> ArchivedRc<T, L> {
+    /// Writes the pointer to the value that the resolver tells of. Refuses an offset that does not fit with `IsizeOverflow`.
+    pub fn resolve_from_raw_parts(
+        resolver: RcResolver,
+        out: Place<'_, ArchivedRc<T, L>>,
+    ) -> Result<(), Error>
+        requires { out.start + 4 ≤ length out.out.now }
+        ensures { MatchResult result
+            (λ _. FitsOffset out.entry.pos resolver.pos
+            × (out.exit.0.now ≡ overwrite out.entry.out.now out.entry.start (offset_bytes out.entry.pos resolver.pos)))
+            (λ e. (e ≡ IsizeOverflow) × ((FitsOffset out.entry.pos resolver.pos → ⊥) × (out.exit.0.now ≡ out.entry.out.now))) }
+    {
+        let Place {
+            out,
+            start,
+            pos,
+            ..
+        } = out;
+        let resolver = BoxResolver { pos: resolver.pos };
+        ArchivedBox::<T>::resolve_from_raw_parts(resolver, Place::within(out, start, pos))
+    }
+}
+
+impl<T: Portable, L> ArchivedRcSlice<T, L> {
+    /// Writes the pointer to `len` elements, which stand where the resolver tells. Refuses more than 2^32 - 1 elements with
+    /// `LengthTooLarge`, and then an offset that does not fit with `IsizeOverflow`.
+    pub fn resolve_from_raw_parts(
+        resolver: RcResolver,
+        len: usize,
+        out: Place<'_, ArchivedRcSlice<T, L>>,
+    ) -> Result<(), Error>
+        requires { out.start + 8 ≤ length out.out.now }
+        ensures { MatchResult result
+            (λ _. (FitsOffset out.entry.pos resolver.pos × (len < 2 ^ 32))
+            × (out.exit.0.now ≡ overwrite out.entry.out.now out.entry.start (offset_bytes out.entry.pos resolver.pos ++ to_le_bytes w32 len)))
+            (λ e. (((e ≡ LengthTooLarge) × (2 ^ 32 ≤ len)) ⊎ ((e ≡ IsizeOverflow) × (len < 2 ^ 32) × (FitsOffset out.entry.pos resolver.pos → ⊥)))
+            × (out.exit.0.now ≡ out.entry.out.now)) }
+    {
+        let Place {
+            out,
+            start,
+            pos,
+            ..
+        } = out;
+        let resolver = BoxResolver { pos: resolver.pos };
+        ArchivedBoxedSlice::<T>::resolve_from_raw_parts(
+            resolver,
+            len,
+            Place::within(out, start, pos),
+        )
+    }
+}
+
+impl<L> ArchivedRcStr<L> {
+    /// Writes the pointer to a text of `len` bytes, which stand where the resolver tells. Refuses more than 2^32 - 1 bytes with
+    /// `LengthTooLarge`, and then an offset that does not fit with `IsizeOverflow`.
+    pub fn resolve_from_raw_parts(
+        resolver: RcResolver,
+        len: usize,
+        out: Place<'_, ArchivedRcStr<L>>,
+    ) -> Result<(), Error>
+        requires { out.start + 8 ≤ length out.out.now }
+        ensures { MatchResult result
+            (λ _. (FitsOffset out.entry.pos resolver.pos × (len < 2 ^ 32))
+            × (out.exit.0.now ≡ overwrite out.entry.out.now out.entry.start (offset_bytes out.entry.pos resolver.pos ++ to_le_bytes w32 len)))
+            (λ e. (((e ≡ LengthTooLarge) × (2 ^ 32 ≤ len)) ⊎ ((e ≡ IsizeOverflow) × (len < 2 ^ 32) × (FitsOffset out.entry.pos resolver.pos → ⊥)))
+            × (out.exit.0.now ≡ out.entry.out.now)) }
+    {
+        let Place {
+            out,
+            start,
+            pos,
+            ..
+        } = out;
+        let resolver = BoxResolver { pos: resolver.pos };
+        ArchivedBoxedStr::resolve_from_raw_parts(resolver, len, Place::within(out, start, pos))
+    }
+}

@@ -1,0 +1,128 @@
+//! Counted pointers to values.
+ghost use Rattle.std.specs.Prelude.{◌≡◌, ℕ, ◌+◌, ◌≤◌, length};
+ghost use Rattle.std.proofs.Common.{refl, lit<, lit≤};
+ghost use Rattle.archive_shape_layout.specs.Shape.Shape.{shared};
+ghost use Rattle.archive_shape_layout.specs.Shape.Pointee.{sized};
+ghost use Rattle.archive_shape_layout.specs.Content.{Names};
+ghost use Rattle.archive_shape_layout.specs.Content.Part.{at};
+ghost use Rattle.archive_shape_checking.specs.Kept.{IsWithin};
+ghost use Rattle.archive_shape_checking.specs.Checks.{Checks, Moves};
+ghost use Rattle.archive_shape_checking.specs.Steps.{StepTakes, StepChecks};
+ghost use Rattle.archive_forms_reading.specs.Parts.{HasValue};
+ghost use Rattle.archive_forms_rc.specs.Pointers.{IsRcAt};
+
+use crate::Flavor;
+use crate::visit::visit;
+use archive_forms_checking::check_behind_each;
+use archive_forms_reading::target_of;
+use archive_shape_checking::{CheckBytes, Error, SharedContext};
+use archive_shape_pointers::RawRelPtrI32;
+use archive_shape_portable::{NoUndef, Portable, Shape};
+use archive_shape_references::{ArchivePointee, Ref};
+use std::alloc::{AllocError, Global};
+use std::marker::PhantomData;
+
+/// An archived counted pointer to a value, as rkyv's `ArchivedRc<T, L>`: an offset of four bytes that leads to the value, which
+/// others may share.
+#[derive_where(Clone, Copy)]
+pub struct ArchivedRc<T, L> {
+    pub of: PhantomData<(T, L)>,
+}
+
+impl<T, L> NoUndef for ArchivedRc<T, L> {}
+
+impl<T: Portable, L: Flavor> Portable for ArchivedRc<T, L> {
+    ghost SIZE = { 4 };
+
+    ghost ALIGN = { 4 };
+
+    ghost shape = { shared L.CYCLES (sized T.shape) };
+
+    ghost knows = { T.knows };
+
+    ghost named = { T.named };
+
+    const SIZE: usize = 4;
+
+    const ALIGN: usize = 4;
+
+    fn shape(alloc: Global) -> Result<Shape, AllocError> {
+        Ok(Shape::Shared {
+            cyclic: L::allow_cycles(),
+            pointee: T::pointee(alloc)?,
+        })
+    }
+
+    ghost sized = { refl };
+
+    ghost aligned = { refl };
+
+    ghost aligns = { (lit< tt, lit≤ tt) };
+
+    ghost known = { T.known };
+}
+
+/// Checks the counted pointer of four bytes at `pos`: an offset to the value, counted from `pos` in bytes. At the first visit of
+/// the value its bytes are claimed, and what the step's check claims lies before them. A later visit claims nothing.
+///
+/// Refuses an offset that leads before the first byte with `InvalidSubtreePointer` and the value's size. A value that was met
+/// as another shape is a `TypeMismatch`, with another number of elements a `MetadataMismatch`; one that the pointer lies
+/// inside is a `CyclicSharedPointer` where the flavor forbids that. At the first visit a value outside the range is an
+/// `InvalidSubtreePointer`; then `Unaligned`, `ExceededMaximumSubtreeDepth`, and what the step refuses. `OutOfMemory` is the
+/// shape's, the context's or the step's.
+pub fn check_rc_each<
+    T: Portable,
+    L: Flavor,
+    C: SharedContext,
+    F: Fn(&mut C, usize) -> Result<(), Error>,
+>(alloc: Global, bytes: &[u8], pos: usize, context: &mut C, step: F) -> Result<(), Error>
+    requires fits { pos + 4 ≤ length bytes.now }
+    requires range { IsWithin (C.kept context.old) (length bytes.now) }
+    requires takes { StepTakes F.Fn C.kept bytes.now T.shape step (C.kept context.old) T.SIZE }
+    requires checks { StepChecks F.Fn C.kept bytes.now T.shape step T.knows }
+    ensures moves { Moves (C.kept context.old) result (C.kept context.new) }
+    ensures exact { (names : Names) → T.knows names
+        → Checks names bytes.now (at pos (shared L.CYCLES (sized T.shape))) (C.kept context.old) result (C.kept context.new) }
+{
+    let _len = bytes.len();
+    let size = T::SIZE;
+    let Some(target) = RawRelPtrI32::target(Ref::new(bytes, pos)) else {
+        return Err(Error::InvalidSubtreePointer { size });
+    };
+    if !visit::<T, L, C>(alloc, context, target, 1)? {
+        return Ok(());
+    }
+    check_behind_each::<T, C, F>(bytes, target, context, step)?;
+    context.finish_shared(target)
+}
+
+impl<C: SharedContext, T: CheckBytes<C>, L: Flavor> CheckBytes<C> for ArchivedRc<T, L> {
+    fn check(alloc: Global, bytes: &[u8], pos: usize, context: &mut C) -> Result<(), Error> {
+        check_rc_each::<T, L, C, _>(
+            alloc,
+            bytes,
+            pos,
+            context,
+            |c: &mut C, p: usize| T::check(alloc, bytes, p, c),
+        )
+    }
+}
+
+/// Where the value of the pointer at `pos` stands.
+pub(crate) fn value_at<T: Portable, L: Flavor>(bytes: &[u8], pos: usize) -> usize
+    requires { HasValue (shared L.CYCLES (sized T.shape)) T.knows bytes.now pos }
+    ensures { IsRcAt L.CYCLES T.shape T.knows bytes.now pos result }
+{
+    target_of(bytes, pos)
+}
+
+impl<T: Portable, L: Flavor> ArchivedRc<T, L> {
+    /// The value. Where the pointer leads back to what it lies inside, that is what lies there.
+    pub fn get<'a>(this: Ref<'a, ArchivedRc<T, L>>) -> Ref<'a, T>
+        requires { HasValue (shared L.CYCLES (sized T.shape)) T.knows this.bytes.now this.pos }
+        ensures bytes { result.bytes ≡ this.entry.bytes }
+        ensures value { IsRcAt L.CYCLES T.shape T.knows this.entry.bytes.now this.entry.pos result.pos }
+    {
+        Ref::new(this.bytes, value_at::<T, L>(this.bytes, this.pos))
+    }
+}

@@ -1,0 +1,31 @@
+//! How the check of what a counted pointer leads to begins.
+ghost use Rattle.std.specs.Prelude.{◌≢◌, MatchResult};
+ghost use Rattle.archive_forms_rc.specs.Visits.{Visits, ClashesAt};
+
+use crate::Flavor;
+use archive_shape_checking::{Error, SharedContext, ValidationState};
+use archive_shape_references::ArchivePointee;
+use std::alloc::Global;
+
+/// Starts the check of `len` elements at `target`, and returns whether they are to be checked: at the first visit alone.
+///
+/// Refuses what the context does, and `CyclicSharedPointer` where the pointer lies inside what it leads to and the flavor
+/// forbids that. `OutOfMemory` is the shape's or the context's.
+pub(crate) fn visit<P: ArchivePointee, L: Flavor, C: SharedContext>(
+    alloc: Global,
+    context: &mut C,
+    target: usize,
+    len: usize,
+) -> Result<bool, Error>
+    ensures { MatchResult result
+        (Visits L.CYCLES (C.kept context.old) target P.pointee len (C.kept context.new))
+        (λ e. e ≢ Error.OutOfMemory → ClashesAt L.CYCLES (C.kept context.old) target P.pointee len e) }
+{
+    let pointee = P::pointee(alloc)?;
+    match context.start_shared(target, len, pointee)? {
+        ValidationState::Started => Ok(true),
+        ValidationState::Finished => Ok(false),
+        ValidationState::Pending if L::allow_cycles() => Ok(false),
+        ValidationState::Pending => Err(Error::CyclicSharedPointer),
+    }
+}

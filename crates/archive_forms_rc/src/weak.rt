@@ -1,0 +1,111 @@
+//! Weak pointers to values, which may lead to nothing.
+ghost use Rattle.std.specs.Prelude.{◌≡◌, ℕ, ◌+◌, ◌≤◌, length, MatchOption};
+ghost use Rattle.std.proofs.Common.{refl, lit<, lit≤};
+ghost use Rattle.archive_shape_layout.specs.Shape.Shape.{weak};
+ghost use Rattle.archive_shape_layout.specs.Shape.Pointee.{sized};
+ghost use Rattle.archive_shape_layout.specs.Content.{Names};
+ghost use Rattle.archive_shape_layout.specs.Content.Part.{at};
+ghost use Rattle.archive_shape_checking.specs.Kept.{IsWithin};
+ghost use Rattle.archive_shape_checking.specs.Checks.{Checks, Moves};
+ghost use Rattle.archive_shape_checking.specs.Steps.{StepTakes, StepChecks};
+ghost use Rattle.archive_forms_reading.specs.Parts.{HasValue};
+ghost use Rattle.archive_forms_rc.specs.WeakPointers.{IsNothingAt, IsWeakAt};
+
+use crate::shared::value_at;
+use crate::{Flavor, check_rc_each};
+use archive_shape_checking::{CheckBytes, Error, SharedContext};
+use archive_shape_portable::{Portable, Shape};
+use archive_shape_references::{ArchivePointee, Ref};
+use std::alloc::{AllocError, Global};
+use std::marker::PhantomData;
+
+/// An archived weak pointer to a value, as rkyv's `ArchivedRcWeak<T, L>`: a tag of one byte, which is 0 or 1, and with 1 a counted
+/// pointer four bytes behind. With 0 the bytes of the pointer are not read.
+#[derive_where(Clone, Copy)]
+pub struct ArchivedRcWeak<T, L> {
+    pub of: PhantomData<(T, L)>,
+}
+
+impl<T: Portable, L: Flavor> Portable for ArchivedRcWeak<T, L> {
+    ghost SIZE = { 8 };
+
+    ghost ALIGN = { 4 };
+
+    ghost shape = { weak L.CYCLES (sized T.shape) };
+
+    ghost knows = { T.knows };
+
+    ghost named = { T.named };
+
+    const SIZE: usize = 8;
+
+    const ALIGN: usize = 4;
+
+    fn shape(alloc: Global) -> Result<Shape, AllocError> {
+        Ok(Shape::Weak {
+            cyclic: L::allow_cycles(),
+            pointee: T::pointee(alloc)?,
+        })
+    }
+
+    ghost sized = { refl };
+
+    ghost aligned = { refl };
+
+    ghost aligns = { (lit< tt, lit≤ tt) };
+
+    ghost known = { T.known };
+}
+
+/// Checks the weak pointer of eight bytes at `pos`: a tag of one byte, which is 0, or 1 where a counted pointer stands at
+/// `pos + 4`. Refuses any other tag with `InvalidTag`, and a pointer as `check_rc_each` does.
+pub fn check_rc_weak_each<
+    T: Portable,
+    L: Flavor,
+    C: SharedContext,
+    F: Fn(&mut C, usize) -> Result<(), Error>,
+>(alloc: Global, bytes: &[u8], pos: usize, context: &mut C, step: F) -> Result<(), Error>
+    requires fits { pos + 8 ≤ length bytes.now }
+    requires range { IsWithin (C.kept context.old) (length bytes.now) }
+    requires takes { StepTakes F.Fn C.kept bytes.now T.shape step (C.kept context.old) T.SIZE }
+    requires checks { StepChecks F.Fn C.kept bytes.now T.shape step T.knows }
+    ensures moves { Moves (C.kept context.old) result (C.kept context.new) }
+    ensures exact { (names : Names) → T.knows names
+        → Checks names bytes.now (at pos (weak L.CYCLES (sized T.shape))) (C.kept context.old) result (C.kept context.new) }
+{
+    let _len = bytes.len();
+    match bytes[pos] {
+        0 => Ok(()),
+        1 => check_rc_each::<T, L, C, F>(alloc, bytes, pos + 4, context, step),
+        _ => Err(Error::InvalidTag),
+    }
+}
+
+impl<C: SharedContext, T: CheckBytes<C>, L: Flavor> CheckBytes<C> for ArchivedRcWeak<T, L> {
+    fn check(alloc: Global, bytes: &[u8], pos: usize, context: &mut C) -> Result<(), Error> {
+        check_rc_weak_each::<T, L, C, _>(
+            alloc,
+            bytes,
+            pos,
+            context,
+            |c: &mut C, p: usize| T::check(alloc, bytes, p, c),
+        )
+    }
+}
+
+impl<T: Portable, L: Flavor> ArchivedRcWeak<T, L> {
+    /// The value, if the pointer leads to one.
+    pub fn upgrade<'a>(this: Ref<'a, ArchivedRcWeak<T, L>>) -> Option<Ref<'a, T>>
+        requires { HasValue (weak L.CYCLES (sized T.shape)) T.knows this.bytes.now this.pos }
+        ensures { MatchOption result
+            (IsNothingAt L.CYCLES T.shape T.knows this.entry.bytes.now this.entry.pos)
+            (λ r. (r.bytes ≡ this.entry.bytes) × IsWeakAt L.CYCLES T.shape T.knows this.entry.bytes.now this.entry.pos r.pos) }
+    {
+        let Ref { bytes, pos, .. } = this;
+        if bytes[pos] == 0 {
+            None
+        } else {
+            Some(Ref::new(bytes, value_at::<T, L>(bytes, pos + 4)))
+        }
+    }
+}
