@@ -4,7 +4,7 @@ use Rattle.archive_core_validation.specs.declared.archive_validator.ArchiveValid
 use Rattle.archive_core_tests.proofs.access.validator.Goals as goal
 
 pub returns-clause-start : goal.returns-clause-start
-returns-clause-start c = ap (λ (a : ArchiveValidator). a.start) c.new.ensures.archive ∙ ap (λ (k : Kept). k.start) c.with_max_depth.ensures
+returns-clause-start c = ap (λ (a : ArchiveValidator). a.start) c.new-2.ensures.archive ∙ ap (λ (k : Kept). k.start) c.with_max_depth.ensures
 
 pub returns-clause-end : goal.returns-clause-end
-returns-clause-end c = ap (λ (a : ArchiveValidator). a.end) c.new.ensures.archive ∙ ap (λ (k : Kept). k.end) c.with_max_depth.ensures
+returns-clause-end c = ap (λ (a : ArchiveValidator). a.end) c.new-2.ensures.archive ∙ ap (λ (k : Kept). k.end) c.with_max_depth.ensures
