@@ -28,6 +28,7 @@ enum Leaf<'a> {
 
 enum Node<'a> {
     Leaf(Leaf<'a>),
+    Shared(Cow<'a, str>),
     Maybe(Option<Box<Node<'a>>>),
     List(Vec<Node<'a>>),
 }
@@ -114,6 +115,7 @@ impl<'a> Lines<'a> {
         }
         match split_once(line, b' ')? {
             ("list", count) if depth < MOST => self.next_elements(read_number(count)?, depth + 1),
+            ("shared", argument) => read_quoted(argument).map(Node::Shared),
             (kind, argument) => read_leaf(kind, argument).map(Node::Leaf),
         }
     }
@@ -191,15 +193,19 @@ fn write_head(bytes: &[u8], there: View, out: &mut impl Write) -> io::Result<()>
     match there {
         View::Bool(value) => writeln!(out, "bool {value}"),
         View::Int(number) => writeln!(out, "int {number}"),
-        View::Text(text) => {
-            out.write_all(b"text '")?;
-            write_escaped(&bytes[text], out)?;
-            out.write_all(b"\n")
-        }
+        View::Text(text) => write_quoted("text '", &bytes[text], out),
+        View::Shared(text) => write_quoted("shared '", &bytes[text], out),
         View::Maybe(None) => out.write_all(b"none\n"),
         View::Maybe(Some(_)) => out.write_all(b"some\n"),
         View::List { count, .. } => writeln!(out, "list {count}"),
     }
+}
+
+/// A head with the text that stands behind its apostrophe.
+fn write_quoted(head: &str, text: &[u8], out: &mut impl Write) -> io::Result<()> {
+    out.write_all(head.as_bytes())?;
+    write_escaped(text, out)?;
+    out.write_all(b"\n")
 }
 
 fn write_escaped(text: &[u8], out: &mut impl Write) -> io::Result<()> {

@@ -1,6 +1,8 @@
 //! Archives of documents in plain Rust: written, checked, asked and edited in place.
 
 use crate::{Leaf, MOST, Node, Refusal, Step};
+use std::collections::HashMap;
+use std::collections::hash_map::Entry;
 use std::ops::Range;
 use std::slice;
 
@@ -11,19 +13,21 @@ const LONGEST_TEXT: usize = (1 << 30) - 1;
 
 // ---- archives that are written
 
-struct ArchiveWriter {
+struct ArchiveWriter<'a> {
     bytes: Vec<u8>,
     /// For each node that is still to be written, where what it leads to begins.
     targets: Vec<u32>,
+    /// Where each shared text begins.
+    shared: HashMap<&'a str, u32>,
 }
 
-impl ArchiveWriter {
+impl<'a> ArchiveWriter<'a> {
     fn position(&self) -> Result<u32, Refusal> {
         Ok(u32::try_from(self.bytes.len())?)
     }
 
     /// Writes what a node leads to, and answers where that begins.
-    fn put_data(&mut self, node: &Node) -> Result<u32, Refusal> {
+    fn put_data(&mut self, node: &'a Node) -> Result<u32, Refusal> {
         match node {
             Node::Leaf(Leaf::Text(text)) if text.len() > LONGEST_TEXT => {
                 Err("a text is too long".into())
@@ -33,14 +37,30 @@ impl ArchiveWriter {
                 self.bytes.extend_from_slice(text.as_bytes());
                 Ok(start)
             }
+            Node::Shared(text) => self.put_shared(text),
             Node::Maybe(Some(inside)) => self.put_nodes(slice::from_ref(inside)),
             Node::List(elements) => self.put_nodes(elements),
             _ => Ok(0),
         }
     }
 
+    /// Writes a shared text at its first use, with a zero byte behind an empty one, and answers where it begins.
+    fn put_shared(&mut self, text: &'a str) -> Result<u32, Refusal> {
+        let start = self.position();
+        match self.shared.entry(text) {
+            Entry::Occupied(there) => Ok(*there.get()),
+            Entry::Vacant(place) => {
+                self.bytes.extend_from_slice(text.as_bytes());
+                if text.is_empty() {
+                    self.bytes.push(0);
+                }
+                Ok(*place.insert(start?))
+            }
+        }
+    }
+
     /// Writes nodes side by side, after what they lead to, and answers where they begin.
-    fn put_nodes(&mut self, nodes: &[Node]) -> Result<u32, Refusal> {
+    fn put_nodes(&mut self, nodes: &'a [Node]) -> Result<u32, Refusal> {
         let first = self.targets.len();
         for node in nodes {
             let target = self.put_data(node)?;
@@ -84,6 +104,11 @@ impl ArchiveWriter {
                 own[4..8].copy_from_slice(&word.to_le_bytes());
                 own[8..12].copy_from_slice(&self.offset(target, 4)?);
             }
+            Node::Shared(text) => {
+                own[0] = 3;
+                own[4..8].copy_from_slice(&self.offset(target, 4)?);
+                own[8..12].copy_from_slice(&u32::try_from(text.len())?.to_le_bytes());
+            }
             Node::Maybe(None) => own[0] = 4,
             Node::Maybe(Some(_)) => {
                 own[0] = 4;
@@ -105,6 +130,7 @@ pub fn archive_of(document: &Node) -> Result<Vec<u8>, Refusal> {
     let mut writer = ArchiveWriter {
         bytes: Vec::new(),
         targets: Vec::new(),
+        shared: HashMap::new(),
     };
     writer.put_nodes(slice::from_ref(document))?;
     Ok(writer.bytes)
@@ -117,6 +143,7 @@ pub enum View {
     Bool(bool),
     Int(i64),
     Text(Range<usize>),
+    Shared(Range<usize>),
     Maybe(Option<usize>),
     List { first: usize, count: usize },
 }
@@ -152,6 +179,10 @@ fn view(own: &[u8; NODE], pos: usize) -> Option<View> {
         (0, _) if own[1] <= 1 => View::Bool(own[1] == 1),
         (1, _) => View::Int(i64::from_le_bytes(own[8..16].try_into().ok()?)),
         (2, _) => View::Text(view_text(own, pos)?),
+        (3, _) => {
+            let start = target(pos + 4, word_in(own, 4))?;
+            View::Shared(start..start + u32::from_le_bytes(word_in(own, 8)) as usize)
+        }
         (4, 0) => View::Maybe(None),
         (4, 1) => View::Maybe(Some(target(pos + 8, word_in(own, 8))?)),
         (5, _) => View::List {
@@ -170,6 +201,8 @@ fn view_at(bytes: &[u8], pos: usize) -> Option<View> {
 struct Check<'a> {
     bytes: &'a [u8],
     claimed: usize,
+    /// Where the shared texts that were met begin and end.
+    shared: HashMap<usize, usize>,
 }
 
 impl Check<'_> {
@@ -184,6 +217,7 @@ impl Check<'_> {
             match view(own, start + i * NODE)? {
                 View::Bool(_) | View::Int(_) => {}
                 View::Text(text) => self.text(text, start)?,
+                View::Shared(text) => self.shared(text, start)?,
                 _ if depth == MOST => return None,
                 View::Maybe(None) => {}
                 View::Maybe(Some(inside)) => self.nodes(inside, 1, start, depth + 1)?,
@@ -205,6 +239,22 @@ impl Check<'_> {
         str::from_utf8(&self.bytes[text]).ok()?;
         Some(())
     }
+
+    /// Checks a shared text, at its first use as a text that is out of line.
+    fn shared(&mut self, text: Range<usize>, end: usize) -> Option<()> {
+        match self.shared.entry(text.start) {
+            Entry::Occupied(there) => (*there.get() == text.end).then_some(()),
+            Entry::Vacant(place) => {
+                if text.start < self.claimed || end < text.end {
+                    return None;
+                }
+                self.claimed = text.end;
+                place.insert(text.end);
+                str::from_utf8(&self.bytes[text]).ok()?;
+                Some(())
+            }
+        }
+    }
 }
 
 pub struct Archive {
@@ -221,6 +271,7 @@ impl Archive {
         let mut check = Check {
             bytes: &bytes,
             claimed: 0,
+            shared: HashMap::new(),
         };
         check.nodes(root, 1, bytes.len(), 0)?;
         Some(Archive {

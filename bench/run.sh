@@ -1,8 +1,9 @@
 #!/usr/bin/env bash
 # Times cab run over a million lines beside sed over the same lines, and tells the most memory that cab held; then times
 # questions and edits of one element in lists of several lengths, and building and opening them; then compares the
-# processor time and the memory of cab on two documents of a million leaves, a list of numbers and a list of records, with
-# those of bench/plain.rs, the same two commands in plain Rust, and, where jq is there, with the processor time of jq.
+# processor time and the memory of cab on three documents of a million leaves, a list of numbers, a list of records and a list
+# of uses of a thousand shared texts, with those of bench/plain.rs, the same two commands in plain Rust, and, where jq is
+# there, with the processor time of jq.
 # Where rustc is not there, cab is compared with sed alone.
 # Each time is the least of three, and each processor time the least of five, those of a comparison taken in turns.
 set -eu
@@ -156,6 +157,17 @@ awk 'BEGIN {
     }
     print "]" > "records.json"
 }'
+# a list of a million uses of a thousand shared texts
+awk 'BEGIN {
+    print "list 1000000" > "uses"
+    for (i = 1; i <= 1000000; i++) {
+        text = "publisher " i * 7919 % 1000 " of the catalogue"
+        printf "%s\"%s\"\n", i == 1 ? "[" : ",", text > "uses.json"
+        gsub(" ", "\\s", text)
+        print "shared '\''" text > "uses"
+    }
+    print "]" > "uses.json"
+}'
 # questions, edits, and the paths of the questions: 100,000 places of each document, in no order
 awk 'BEGIN {
     for (i = 1; i <= 100000; i++) {
@@ -166,7 +178,9 @@ awk 'BEGIN {
         print "get #" record " #" field > "records.questions"
         print "set int " i " #" place > "numbers.edits"
         print "set int " i " #" record " #2" > "records.edits"
+        print "get #" place > "uses.questions"
         print "[" place "]" > "numbers.paths"
+        print "[" place "]" > "uses.paths"
         print "[" record "," field "]" > "records.paths"
     }
 }'
@@ -200,13 +214,14 @@ memory_beside_plain() {
 }
 
 mkdir cab-files plain-files
-for document in numbers records; do
+for document in numbers records uses; do
     ./plain build $document $document.cab > answers
     asked_of_jq=(-c . $document.json)
     beside_plain "$document: build" /dev/null build ../$document a.cab
     asked_of_jq=()
     beside_plain "$document: open" /dev/null run a.cab
-    beside_plain "$document: open, and 100,000 edits" ../$document.edits run a.cab
+    # a shared text is not edited
+    [ ! -e $document.edits ] || beside_plain "$document: open, and 100,000 edits" ../$document.edits run a.cab
     asked_of_jq=(-r --slurpfile paths $document.paths 'getpath($paths[])' $document.json)
     beside_plain "$document: open, and 100,000 questions" ../$document.questions run a.cab
     if command -v jq > /dev/null; then

@@ -31,6 +31,10 @@ two=05000000ccffffff02000000000000000000000000000000
 # an option of the node that ends where it begins
 some=0400000001000000e0ffffff000000000000000000000000
 none=040000000000000000000000000000000000000000000000
+# a list of two shared texts, `hello world!` twice, and the empty text twice
+twice=68656c6c6f20776f726c64210000000003000000ecffffff0c000000000000000000000000000000
+twice=${twice}03000000d4ffffff0c00000000000000000000000000000005000000ccffffff02000000000000000000000000000000
+empties=000000000000000003000000f4ffffff0000000000000000000000000000000003000000dcffffff0000000000000000000000000000000005000000ccffffff02000000000000000000000000000000
 passed=0
 failed=0
 
@@ -185,6 +189,16 @@ builds 'list 1\nlist 0' 05000000fcffffff0000000000000000000000000000000005000000
 builds 'list 2\nsome\nint 5\nsome\nint 6' \
     "$five${six}0400000001000000c8ffffff0000000000000000000000000400000001000000c8ffffff000000000000000000000000$two"
 
+builds "shared 'a" 610000000000000003000000f4ffffff01000000000000000000000000000000
+builds "list 2\nshared 'hello\\sworld!\nshared 'hello\\sworld!" "$twice"
+builds "list 2\nshared '\nshared '" "$empties"
+# once in the whole archive, whatever its place
+builds "list 2\nlist 1\nshared 'hello\\sworld!\nshared 'hello\\sworld!" \
+    68656c6c6f20776f726c64210000000003000000ecffffff0c00000000000000000000000000000005000000e4ffffff0100000000000000000000000000000003000000bcffffff0c00000000000000000000000000000005000000ccffffff02000000000000000000000000000000
+# a text that is not shared stands by itself
+builds "list 2\nshared 'a\ntext 'a" \
+    610000000000000003000000f4ffffff010000000000000000000000000000000200000061ffffffffffffff00000000000000000000000005000000ccffffff02000000000000000000000000000000
+
 refuses 'int 05' 'int 05\n' 1 BadNumber
 refuses 'int -0' 'int -0\n' 1 BadNumber
 refuses 'int 9223372036854775808' 'int 9223372036854775808\n' 1 BadNumber
@@ -222,7 +236,7 @@ ends 0 ''
 holds a.cab "$six$(printf "$some%.0s" {1..64})"
 finish
 
-for kind in "shared 'a" 'ordered 0' 'hashed 0' 'kept 0'; do
+for kind in 'ordered 0' 'hashed 0' 'kept 0'; do
     begin "a kind without a layout: $kind"
     text "list 2\nint 5\n$kind\n"
     run build text a.cab
@@ -359,6 +373,13 @@ answers_in 68656c6c6f20776f726c642100000000020000008c000000ecffffff0000000000000
     "text 'hello\\sworld!\nok\ntext 'HELLO\\sWORLD!\nrefused\n" \
     48454c4c4f20574f524c442100000000020000008c000000ecffffff000000000000000000000000
 
+answers_in "$twice" 'shared texts' \
+    "get #0\nget #1\nset text 'HELLO\\sWORLD! #0\nget #0\nget #0 #0\nkeys #0\nset int 5 #1\n" \
+    "shared 'hello\\sworld!\nshared 'hello\\sworld!\nrefused\nshared 'hello\\sworld!\nmissing\nwrong\nrefused\n" "$twice"
+answers_in "$empties" 'empty shared texts' "get #0\nget #1\nset text ' #1\n" "shared '\nshared '\nrefused\n" "$empties"
+answers_in 03000000fcffffff00000000000000000000000000000000 'an empty shared text where the root begins' "get\n" "shared '\n" \
+    03000000fcffffff00000000000000000000000000000000
+
 begin 'no input: the file is untouched'
 archive "$five"
 touch -d '2001-02-03 04:05:06' a.cab
@@ -451,9 +472,11 @@ nests TooDeep 65
 nests TooDeep 2198
 nests Access 2199
 
-# of the last, both options lead to one node
+# of the first shared texts one reaches into the root, two lead to one position with other lengths, also where one is empty,
+# and one is not UTF-8; of the last, both options lead to one node
 for bytes in '' 01 "${five:2}" ff0000000000000005000000000000000000000000000000 000200000000000000000000000000000000000000000000 02000000fe6f726c64ffffff000000000000000000000000 \
-    020000008100000064ffffff000000000000000000000000 03000000fcffffff00000000000000000000000000000000 \
+    020000008100000064ffffff000000000000000000000000 06000000fcffffff00000000000000000000000000000000 \
+    03000000fcffffff01000000000000000000000000000000 "${twice:0:96}0b${twice:98}" "${empties:0:80}01${empties:82}" "ff${twice:2}" \
     "$seven${nineteen}05000000d4ffffff02000000000000000000000000000000" \
     "$seven${nineteen}05000000ceffffff01000000000000000000000000000000" \
     "$seven${nineteen}05000000c8ffffff02000000000000000000000000000000" \

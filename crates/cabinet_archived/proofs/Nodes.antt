@@ -38,15 +38,15 @@ absent_sized = refl
 
 -- none of the first tags with a layout
 abbrev pub IsOther : ℕ → Type 0
-IsOther n = (n ≡ 0 → ⊥) × (n ≡ 1 → ⊥) × (n ≡ 2 → ⊥) × (n ≡ 4 → ⊥)
+IsOther n = (n ≡ 0 → ⊥) × (n ≡ 1 → ⊥) × (n ≡ 2 → ⊥) × (n ≡ 3 → ⊥) × (n ≡ 4 → ⊥)
 
 -- such a tag is that of a list, or that of an absent payload, or it names none
 others : (n : ℕ) → IsOther n → (n ≡ 5) ⊎ ((shape_tagged n payloads ≡ Some absent) ⊎ (shape_tagged n payloads ≡ None))
 others zero h = absurd (h.0 refl)
 others (suc zero) h = absurd (h.1 refl)
 others (suc (suc zero)) h = absurd (h.2 refl)
-others (suc (suc (suc zero))) h = inr (inl refl)
-others (suc (suc (suc (suc zero)))) h = absurd (h.3 refl)
+others (suc (suc (suc zero))) h = absurd (h.3 refl)
+others (suc (suc (suc (suc zero)))) h = absurd (h.4 refl)
 others (suc (suc (suc (suc (suc zero))))) h = inl refl
 others (suc (suc (suc (suc (suc (suc zero)))))) h = inr (inl refl)
 others (suc (suc (suc (suc (suc (suc (suc zero))))))) h = inr (inl refl)

@@ -1,10 +1,10 @@
 -- Of which kind a node is, and where its payload stands.
-use Rattle.std.specs.Prelude.{◌≡◌, ℕ, ◌+◌, true, List, ⊤}
+use Rattle.std.specs.Prelude.{◌≡◌, ℕ, ◌+◌, true, false, List, ⊤}
 use Rattle.std.specs.Int.{w64}
 use Rattle.std.specs.Borrow.{Bor}
 use Rattle.archive_shape_layout.specs.Shape.{Shape}
-use Rattle.archive_shape_layout.specs.Shape.Shape.{number, truth, text, option, box, vector}
-use Rattle.archive_shape_layout.specs.Shape.Pointee.{sized}
+use Rattle.archive_shape_layout.specs.Shape.Shape.{number, truth, text, shared, option, box, vector}
+use Rattle.archive_shape_layout.specs.Shape.Pointee.{sized, str}
 use Rattle.archive_shape_layout.specs.Value.{Value}
 use Rattle.archive_shape_layout.specs.Content.{Names}
 use Rattle.archive_shape.specs.Key.{HeldAt}
@@ -23,5 +23,6 @@ abbrev pub IsKindAt : Bor (List ℕ) → ℕ → ArchivedKind → Type 0
 IsKindAt bytes pos (kind.Bool r) = (r.bytes ≡ bytes) × (r.pos ≡ pos + 1) × IsTagged bytes.now pos 0 truth (λ _. ⊤) r.pos
 IsKindAt bytes pos (kind.Int r) = (r.bytes ≡ bytes) × (r.pos ≡ pos + 8) × IsTagged bytes.now pos 1 (number w64 true) (λ _. ⊤) r.pos
 IsKindAt bytes pos (kind.Text r) = (r.bytes ≡ bytes) × (r.pos ≡ pos + 4) × IsTagged bytes.now pos 2 text (λ _. ⊤) r.pos
+IsKindAt bytes pos (kind.Shared r) = (r.bytes ≡ bytes) × (r.pos ≡ pos + 4) × IsTagged bytes.now pos 3 (shared false str) (λ _. ⊤) r.pos
 IsKindAt bytes pos (kind.Maybe r) = (r.bytes ≡ bytes) × (r.pos ≡ pos + 4) × IsTagged bytes.now pos 4 (option (box (sized node_shape))) KnowsNode r.pos
 IsKindAt bytes pos (kind.List r) = (r.bytes ≡ bytes) × (r.pos ≡ pos + 4) × IsTagged bytes.now pos 5 (vector node_shape) KnowsNode r.pos

@@ -10,16 +10,17 @@ ghost use Rattle.cabinet_documents.specs.Node.{node_shape, KnowsNode};
 
 use crate::ArchivedNode;
 use archive_forms_checking::{check_box_each, check_option_each, check_vec_each};
+use archive_forms_rc::{ArchivedRcStr, RcFlavor};
 use archive_forms_reading::ArchivedBox;
 use archive_forms_text::ArchivedString;
-use archive_shape::{ArchiveContext, ArchivedI64, CheckBytes, Error};
+use archive_shape::{ArchivedI64, CheckBytes, Error, SharedContext};
 use std::alloc::Global;
 
 /// Checks the node at `pos`. What it claims ends at `room` or before.
 ///
 /// Refuses the tag of a kind without a layout, and any above 8, with `InvalidTag`, and a payload with what its check refuses.
 #[cycle(node)]
-pub(crate) fn check_node<C: ArchiveContext>(
+pub(crate) fn check_node<C: SharedContext>(
     alloc: Global,
     bytes: &[u8],
     pos: usize,
@@ -38,6 +39,7 @@ pub(crate) fn check_node<C: ArchiveContext>(
         0 => <bool as CheckBytes<C>>::check(alloc, bytes, pos + 1, context),
         1 => <ArchivedI64 as CheckBytes<C>>::check(alloc, bytes, pos + 8, context),
         2 => <ArchivedString as CheckBytes<C>>::check(alloc, bytes, pos + 4, context),
+        3 => <ArchivedRcStr<RcFlavor> as CheckBytes<C>>::check(alloc, bytes, pos + 4, context),
         4 => check_maybe(alloc, bytes, pos + 4, context, room),
         5 => check_list(alloc, bytes, pos + 4, context, room),
         _ => Err(Error::InvalidTag),
@@ -46,7 +48,7 @@ pub(crate) fn check_node<C: ArchiveContext>(
 
 /// Checks the option of a box of a node at `pos`. What it claims ends at `room` or before.
 #[cycle(node)]
-fn check_maybe<C: ArchiveContext>(
+fn check_maybe<C: SharedContext>(
     alloc: Global,
     bytes: &[u8],
     pos: usize,
@@ -77,7 +79,7 @@ fn check_maybe<C: ArchiveContext>(
 
 /// Checks the box of a node at `pos`. What it claims ends at `room` or before.
 #[cycle(node)]
-fn check_boxed<C: ArchiveContext>(
+fn check_boxed<C: SharedContext>(
     alloc: Global,
     bytes: &[u8],
     pos: usize,
@@ -108,7 +110,7 @@ fn check_boxed<C: ArchiveContext>(
 
 /// Checks the vector of nodes at `pos`. What it claims ends at `room` or before.
 #[cycle(node)]
-fn check_list<C: ArchiveContext>(
+fn check_list<C: SharedContext>(
     alloc: Global,
     bytes: &[u8],
     pos: usize,

@@ -5,6 +5,7 @@ ghost use Rattle.cabinet_documents.specs.Node.{node_shape, KnowsNode};
 ghost use Rattle.cabinet_archived.specs.Kind.{IsKindAt};
 
 use crate::ArchivedNode;
+use archive_forms_rc::{ArchivedRcStr, RcFlavor};
 use archive_forms_reading::{ArchivedBox, ArchivedOption, ArchivedVec};
 use archive_forms_text::ArchivedString;
 use archive_shape::{ArchivedI64, Ref};
@@ -15,6 +16,7 @@ pub enum ArchivedKind<'a> {
     Bool(Ref<'a, bool>),
     Int(Ref<'a, ArchivedI64>),
     Text(Ref<'a, ArchivedString>),
+    Shared(Ref<'a, ArchivedRcStr<RcFlavor>>),
     Maybe(Ref<'a, ArchivedOption<ArchivedBox<ArchivedNode>>>),
     List(Ref<'a, ArchivedVec<ArchivedNode>>),
 }
@@ -31,6 +33,7 @@ impl ArchivedNode {
             0 => ArchivedKind::Bool(Ref::new(bytes, pos + 1)),
             1 => ArchivedKind::Int(Ref::new(bytes, pos + 8)),
             2 => ArchivedKind::Text(Ref::new(bytes, pos + 4)),
+            3 => ArchivedKind::Shared(Ref::new(bytes, pos + 4)),
             4 => ArchivedKind::Maybe(Ref::new(bytes, pos + 4)),
             _ => ArchivedKind::List(Ref::new(bytes, pos + 4)),
         }

@@ -5,11 +5,11 @@ ghost use Rattle.archive_shape_layout.specs.Shape.Shape.{choice};
 ghost use Rattle.cabinet_documents.specs.Node.{node_shape, payloads, KnowsNode};
 
 use crate::check::check_node;
-use archive_shape::{Alignment, ArchiveContext, CheckBytes, Error, Portable, Shape};
+use archive_shape::{Alignment, CheckBytes, Error, Portable, Shape, SharedContext};
 use std::alloc::{AllocError, Global};
 
 /// The archived form of a document's node: a tag of one byte, and by the tag a payload at the first multiple of its alignment
-/// behind it. Shared texts and maps have no layout yet: their tags are refused.
+/// behind it. Maps have no layout yet: their tags are refused.
 #[derive(Clone, Copy)]
 pub struct ArchivedNode {}
 
@@ -45,7 +45,7 @@ impl Portable for ArchivedNode {
     ghost known = { λ names has. has 0 (0, choice payloads) (lit< tt) };
 }
 
-impl<C: ArchiveContext> CheckBytes<C> for ArchivedNode {
+impl<C: SharedContext> CheckBytes<C> for ArchivedNode {
     fn check(alloc: Global, bytes: &[u8], pos: usize, context: &mut C) -> Result<(), Error> {
         check_node(alloc, bytes, pos, context, bytes.len())
     }

@@ -1,9 +1,10 @@
 -- What stands in a buffer that is told by another reference to it.
-use Rattle.std.proofs.Common.{◌≡◌, ℕ, List, sym, subst}
+use Rattle.std.proofs.Common.{◌≡◌, ℕ, ◌+◌, ◌*◌, ◌<◌, List, sym, subst}
 use Rattle.std.specs.Borrow.{Bor}
-use Rattle.archive_shape_layout.specs.Shape.{Shape}
+use Rattle.archive_shape_layout.specs.Shape.{Shape, size_of}
+use Rattle.archive_shape_layout.specs.Shape.Shape.{vector}
 use Rattle.archive_shape_layout.specs.Content.{Names}
-use Rattle.archive_forms_reading.specs.Parts.{HasValue}
+use Rattle.archive_forms_reading.specs.Parts.{HasValue, IsVecAt}
 use Rattle.cabinet_documents.specs.Node.{node_shape}
 use Rattle.cabinet_documents.specs.Node.{KnowsNode}
 use Rattle.cabinet_archived.specs.Kind.{IsTagged}
@@ -14,3 +15,10 @@ root_has a b p q e f h =
 
 pub part_has : (a b : Bor (List ℕ)) (pos tag : ℕ) (s : Shape) (knows : Names → Type 0) (to : ℕ) → b ≡ a → IsTagged a.now pos tag s knows to → HasValue s knows b.now to
 part_has a b pos tag s knows to e h = subst (λ (x : Bor (List ℕ)). HasValue s knows x.now to) (sym e) h.there
+
+pub element_has : (a b : Bor (List ℕ)) (pos first len i at : ℕ) → HasValue (vector node_shape) KnowsNode a.now pos → IsVecAt node_shape KnowsNode a.now pos first len
+    → i < len → b ≡ a → at ≡ first + i * size_of node_shape → HasValue node_shape KnowsNode b.now at
+element_has a b pos first len i at list elements less e place =
+    let one = (elements.value list.value list.held).each i less in
+    let there : HasValue node_shape KnowsNode a.now (first + i * size_of node_shape) = record { value = one.0; held = one.2 } in
+    subst (λ (x : Bor (List ℕ)). HasValue node_shape KnowsNode x.now at) (sym e) (subst (HasValue node_shape KnowsNode a.now) (sym place) there)

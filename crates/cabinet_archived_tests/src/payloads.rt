@@ -5,6 +5,7 @@ ghost use Rattle.cabinet_documents.specs.Node.{node_shape};
 ghost use Rattle.cabinet_documents.specs.Node.{KnowsNode};
 
 use crate::root::root_of;
+use archive_forms_rc::ArchivedRcStr;
 use archive_forms_reading::{ArchivedOption, ArchivedVec, native_of};
 use archive_shape::{Error, Ref};
 use cabinet_archived::{ArchivedKind, ArchivedNode};
@@ -16,6 +17,7 @@ fn place_of(kind: ArchivedKind<'_>) -> (&'static str, usize) {
         ArchivedKind::Bool(payload) => ("bool", payload.pos()),
         ArchivedKind::Int(payload) => ("int", payload.pos()),
         ArchivedKind::Text(payload) => ("text", payload.pos()),
+        ArchivedKind::Shared(payload) => ("shared", payload.pos()),
         ArchivedKind::Maybe(payload) => ("option", payload.pos()),
         ArchivedKind::List(payload) => ("list", payload.pos()),
     }
@@ -47,6 +49,31 @@ pub fn truth_in(this: Ref<'_, ArchivedNode>) -> Option<bool>
     let kind = ArchivedNode::kind(this);
     match kind {
         ArchivedKind::Bool(payload) => Some(native_of(payload)),
+        _ => None,
+    }
+}
+
+/// The text that a node shares with others, if it is one.
+pub fn shared_in(this: Ref<'_, ArchivedNode>) -> Option<&str>
+    requires { HasValue node_shape KnowsNode this.bytes.now this.pos }
+{
+    let kind = ArchivedNode::kind(this);
+    match kind {
+        ArchivedKind::Shared(payload) => Some(ArchivedRcStr::get(payload)),
+        _ => None,
+    }
+}
+
+/// The text that the element of a list shares with others, if it is one.
+pub fn shared_at(this: Ref<'_, ArchivedNode>, index: usize) -> Option<&str>
+    requires { HasValue node_shape KnowsNode this.bytes.now this.pos }
+{
+    let kind = ArchivedNode::kind(this);
+    match kind {
+        ArchivedKind::List(payload) => match ArchivedVec::get(payload, index) {
+            Some(element) => shared_in(element),
+            None => None,
+        },
         _ => None,
     }
 }

@@ -1,8 +1,9 @@
 -- Steps that a node has not, by its kind.
 use Rattle.std.proofs.Common.{◌≡◌, ℕ, List, [], ◌∷◌, Bor, refl, arith}
-use Rattle.std.specs.Prelude.{true, ⊤}
+use Rattle.std.specs.Prelude.{true, false, ⊤}
 use Rattle.std.specs.Int.{w64}
-use Rattle.archive_shape_layout.specs.Shape.Shape.{number, truth, text, option, vector}
+use Rattle.archive_shape_layout.specs.Shape.Shape.{number, truth, text, shared, option, vector}
+use Rattle.archive_shape_layout.specs.Shape.Pointee.{str}
 use Rattle.cabinet_text_grammar.specs.Path as grammar
 use Rattle.cabinet_documents.specs.Node.{node_shape, KnowsNode}
 use Rattle.cabinet_archived.specs.Kind.{IsKindAt}
@@ -33,5 +34,6 @@ pub no_step : (bytes : Bor (List ℕ)) (pos : ℕ) (k : ArchivedKind) (s : gramm
 no_step bytes pos (kind.Bool r) s is apart beside = other_none bytes.now pos s 0 truth (λ _. ⊤) r.pos (omega arith) (λ e. absurd (omega (arith, e))) (λ e. absurd (omega (arith, e))) is.2
 no_step bytes pos (kind.Int r) s is apart beside = other_none bytes.now pos s 1 (number w64 true) (λ _. ⊤) r.pos (omega arith) (λ e. absurd (omega (arith, e))) (λ e. absurd (omega (arith, e))) is.2
 no_step bytes pos (kind.Text r) s is apart beside = other_none bytes.now pos s 2 text (λ _. ⊤) r.pos (omega arith) (λ e. absurd (omega (arith, e))) (λ e. absurd (omega (arith, e))) is.2
+no_step bytes pos (kind.Shared r) s is apart beside = other_none bytes.now pos s 3 (shared false str) (λ _. ⊤) r.pos (omega arith) (λ e. absurd (omega (arith, e))) (λ e. absurd (omega (arith, e))) is.2
 no_step bytes pos (kind.Maybe r) s is apart beside = other_none bytes.now pos s 4 (option Boxed) KnowsNode r.pos (omega arith) (λ e. apart r refl) (λ e. absurd (omega (arith, e))) is.2
 no_step bytes pos (kind.List r) s is apart beside = other_none bytes.now pos s 5 (vector node_shape) KnowsNode r.pos (omega arith) (λ e. absurd (omega (arith, e))) (λ e. beside r refl) is.2

@@ -1,21 +1,25 @@
 -- The head of an archived node, by its kind, and that it is no map.
 use Rattle.std.proofs.Common.{◌≡◌, ℕ, zero, suc, ◌+◌, ◌<◌, List, slice_index, refl, sym, ap, ◌∙◌, arith}
-use Rattle.std.specs.Prelude.{true, ⊤}
+use Rattle.std.specs.Prelude.{true, false, ⊤}
 use Rattle.std.specs.Int.{w64}
+use Rattle.archive_shape_layout.specs.Bytes.{window}
 use Rattle.archive_shape_layout.specs.Shape.{Shape, align_of}
-use Rattle.archive_shape_layout.specs.Shape.Shape.{number, truth, text, option, vector}
+use Rattle.archive_shape_layout.specs.Shape.Shape.{number, truth, text, shared, option, vector}
+use Rattle.archive_shape_layout.specs.Shape.Pointee.{str}
 use Rattle.archive_shape_layout.specs.Value.{Value, Values, count_values}
-use Rattle.archive_shape_layout.specs.Value.Value.{string}
+use Rattle.archive_shape_layout.specs.Value.Value.{string, counted as counting}
 use Rattle.archive_shape_layout.specs.Content.{Names}
 use Rattle.archive_shape.specs.Key.{HeldAt}
 use Rattle.archive_shape.proofs.Held.{claims_within}
 use Rattle.archive_forms_layout.specs.Text.{HasText, IsText, IsTextThere}
 use Rattle.archive_forms_layout.proofs.Held.{held_is_text_law, text_value}
+use Rattle.archive_forms_rc.specs.Pointers.{Counts, IsRcStrAt}
+use Rattle.archive_forms_rc.specs.Pointers.Counts.{counts, leads_back}
 use Rattle.archive_forms_reading.specs.Parts.{HasValue, IsNoneAt, IsSomeAt, IsVecAt}
 use Rattle.archive_forms_spelling.proofs.Levels.{option_box_sized}
 use Rattle.cabinet_text_grammar.specs.Keys.{MapKind}
-use Rattle.cabinet_text_grammar.specs.Tree.{Leaf, leaf, shared, nothing, just, list, map, Tree, Trees, Pairs, count}
-use Rattle.cabinet_text_grammar.specs.Item.{leaf_item, none_item, some_item, list_item}
+use Rattle.cabinet_text_grammar.specs.Tree.{Leaf, leaf, shared as shared_text, nothing, just, list, map, Tree, Trees, Pairs, count}
+use Rattle.cabinet_text_grammar.specs.Item.{leaf_item, shared_item, none_item, some_item, list_item}
 use Rattle.cabinet_text_grammar.specs.Answering.{head_of, keys_of, keys_within, wrong}
 use Rattle.cabinet_documents.specs.Node.{node_shape, KnowsNode}
 use Rattle.cabinet_documents.specs.Denotes.{Denotes, DenoteAll, tagged_value}
@@ -26,7 +30,7 @@ use Rattle.cabinet_archived.specs.Kind.{IsTagged}
 use Rattle.cabinet_archived.proofs.Nodes.{IsOther, tagged_at, is_list}
 use Rattle.cabinet_asking.specs.Found.{OfDocument}
 use Rattle.cabinet_asking.proofs.Ways.{Boxed}
-use Rattle.cabinet_asking.proofs.Stepping.{nothing_is, leaf_is, keyless}
+use Rattle.cabinet_asking.proofs.Stepping.{nothing_is, shared_is, leaf_is, keyless}
 
 -- ---- texts
 
@@ -53,6 +57,16 @@ module _ (bytes : List ℕ) (pos : ℕ) where
   leaf_head l tag shape knows to less tagged is = λ v t h d.
       let p = tagged.payload v h in
       sym (ap head_of (leaf_is l p.is less (sym (is p.payload p.held)) d))
+
+  -- the value counts the text that stands where the pointer leads
+  counted_text : (at : ℕ) (s : List ℕ) (v w : Value) (t : Tree) → v ≡ tagged_value 3 w → Counts false at (λ u. u ≡ string s) w → Denotes v t → shared_item s ≡ head_of t
+  counted_text at s v w t e (counts f g) d = sym (ap head_of (shared_is at s (e ∙ ap (tagged_value 3) (f ∙ ap (counting at) g)) d))
+  counted_text at s v w t e (leads_back allowed is) d = absurd (cc)
+
+  pub shared_head : (to at len : ℕ) (s : List ℕ) → IsTagged bytes pos 3 (shared false str) (λ _. ⊤) to → IsRcStrAt false bytes to at len → s ≡ window bytes at len → OfDocument bytes pos (λ t. shared_item s ≡ head_of t)
+  shared_head to at len s tagged there is = λ v t h d.
+      let p = tagged.payload v h in
+      ap shared_item is ∙ counted_text at (window bytes at len) v p.payload t p.is (there.value p.payload p.held) d
 
   pub none_head : (to : ℕ) → IsTagged bytes pos 4 (option Boxed) KnowsNode to → IsNoneAt Boxed KnowsNode bytes to → OfDocument bytes pos (λ t. none_item ≡ head_of t)
   none_head to tagged none = λ v t h d.
@@ -93,9 +107,9 @@ module _ (bytes : List ℕ) (pos : ℕ) where
       by zero e = of_kind 0 truth (λ _. ⊤) (omega arith) (tagged_at bytes pos there 0 truth (λ _. ⊤) _ refl e refl (omega arith) (omega arith) (λ names known. tt))
       by (suc zero) e = of_kind 1 (number w64 true) (λ _. ⊤) (omega arith) (tagged_at bytes pos there 1 (number w64 true) (λ _. ⊤) _ refl e refl (omega arith) (omega arith) (λ names known. tt))
       by (suc (suc zero)) e = of_kind 2 text (λ _. ⊤) (omega arith) (tagged_at bytes pos there 2 text (λ _. ⊤) _ refl e refl (omega arith) (omega arith) (λ names known. tt))
-      by (suc (suc (suc zero))) e = a_list (λ f. omega arith, λ f. omega arith, λ f. omega arith, λ f. omega arith)
+      by (suc (suc (suc zero))) e = of_kind 3 (shared false str) (λ _. ⊤) (omega arith) (tagged_at bytes pos there 3 (shared false str) (λ _. ⊤) _ refl e refl (omega arith) (omega arith) (λ names known. tt))
       by (suc (suc (suc (suc zero)))) e = of_kind 4 (option Boxed) KnowsNode (omega arith) (tagged_at bytes pos there 4 (option Boxed) KnowsNode _ refl e refl (omega arith) (omega (arith, option_box_sized node_shape)) (λ names known. known))
-      by (suc (suc (suc (suc (suc n))))) e = a_list (λ f. omega arith, λ f. omega arith, λ f. omega arith, λ f. omega arith)
+      by (suc (suc (suc (suc (suc n))))) e = a_list (λ f. omega arith, λ f. omega arith, λ f. omega arith, λ f. omega arith, λ f. omega arith)
 
 pub no_map : (bytes : List ℕ) (pos : ℕ) (v : Value) (t : Tree) → HeldAt node_shape KnowsNode bytes pos v → Denotes v t → (kind : MapKind) (ps : Pairs) → t ≡ map kind ps → ⊥
 no_map bytes pos v t h d =
@@ -106,7 +120,7 @@ no_map bytes pos v t h d =
 -- what is no map has no keys
 pub no_keys : (t : Tree) → ((kind : MapKind) (ps : Pairs) → t ≡ map kind ps → ⊥) → keys_of t ≡ wrong
 no_keys (leaf l) h = refl
-no_keys (shared s) h = refl
+no_keys (shared_text s) h = refl
 no_keys nothing h = refl
 no_keys (just t) h = refl
 no_keys (list ts) h = refl
@@ -114,7 +128,7 @@ no_keys (map kind ps) h = absurd (h kind ps refl)
 
 pub no_keys_within : (low high : List ℕ) (t : Tree) → ((kind : MapKind) (ps : Pairs) → t ≡ map kind ps → ⊥) → keys_within low high t ≡ wrong
 no_keys_within low high (leaf l) h = refl
-no_keys_within low high (shared s) h = refl
+no_keys_within low high (shared_text s) h = refl
 no_keys_within low high nothing h = refl
 no_keys_within low high (just t) h = refl
 no_keys_within low high (list ts) h = refl

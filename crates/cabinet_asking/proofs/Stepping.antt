@@ -1,12 +1,12 @@
 -- What a node is, and what one step from it leads to, by its value.
 use Rattle.std.proofs.Common.{◌≡◌, ℕ, zero, suc, ◌<◌, ◌≤◌, List, [], ◌∷◌, ◌++◌, Option, Some, None, refl, sym, ap, subst, ◌∙◌, arith}
 use Rattle.archive_shape_layout.specs.Value.{Value, Values, count_values}
-use Rattle.archive_shape_layout.specs.Value.Value.{group, chosen}
+use Rattle.archive_shape_layout.specs.Value.Value.{string, group, chosen, counted}
 use Rattle.archive_shape_layout.specs.Value.Values.{no_values}
 use Rattle.archive_shape_layout.specs.Path.{value_in}
 use Rattle.cabinet_text_grammar.specs.Keys.{MapKind}
 use Rattle.cabinet_text_grammar.specs.Tree.{Leaf, truth, number, text}
-use Rattle.cabinet_text_grammar.specs.Tree.{Tree, leaf, nothing, just, list, map, Trees, Pairs}
+use Rattle.cabinet_text_grammar.specs.Tree.{Tree, leaf, shared, nothing, just, list, map, Trees, Pairs}
 use Rattle.cabinet_text_grammar.specs.Path.{Step, key, place, inside, node_at, node_in}
 use Rattle.cabinet_documents.specs.Denotes.{Denotes, DenoteAll, tagged_value}
 use Rattle.cabinet_documents.specs.Denotes.Denotes.{denotes_truth, denotes_number, denotes_text, denotes_shared, denotes_nothing, denotes_some, denotes_list, denotes_ordered, denotes_hashed, denotes_kept}
@@ -42,6 +42,19 @@ nothing_is e (denotes_list f g d) = absurd (cc)
 nothing_is e (denotes_ordered f g d) = absurd (cc)
 nothing_is e (denotes_hashed f g d) = absurd (cc)
 nothing_is e (denotes_kept f g d) = absurd (cc)
+
+-- where a shared text stands is left out
+pub shared_is : {v : Value} {t : Tree} (at : ℕ) (s : List ℕ) → v ≡ tagged_value 3 (counted at (string s)) → Denotes v t → t ≡ shared s
+shared_is at s e (denotes_truth f g) = absurd (cc)
+shared_is at s e (denotes_number f g) = absurd (cc)
+shared_is at s e (denotes_text f g) = absurd (cc)
+shared_is at s e (denotes_shared {at = other} {s = u} f g) = let same : u ≡ s = cc in g ∙ ap shared same
+shared_is at s e (denotes_nothing f g) = absurd (cc)
+shared_is at s e (denotes_some f g d) = absurd (cc)
+shared_is at s e (denotes_list f g d) = absurd (cc)
+shared_is at s e (denotes_ordered f g d) = absurd (cc)
+shared_is at s e (denotes_hashed f g d) = absurd (cc)
+shared_is at s e (denotes_kept f g d) = absurd (cc)
 
 same_leaf : (l m : Leaf) → payload_of l ≡ payload_of m → l ≡ m
 same_leaf (truth b) (truth c) e = let same : b ≡ c = cc in ap truth same

@@ -6,6 +6,7 @@ ghost use Rattle.cabinet_documents.specs.Node.{node_shape, KnowsNode};
 ghost use Rattle.cabinet_text_nodes.specs.View.{lent_item};
 ghost use Rattle.cabinet_asking.specs.Found.{OfDocument};
 
+use archive_forms_rc::ArchivedRcStr;
 use archive_forms_reading::{ArchivedOption, ArchivedVec, native_of};
 use archive_forms_text::ArchivedString;
 use archive_shape::Ref;
@@ -21,6 +22,7 @@ pub fn head<'a>(node: Ref<'a, ArchivedNode>) -> HeadRef<'a>
         ArchivedKind::Bool(value) => HeadRef::Leaf(LeafRef::Bool(native_of(value))),
         ArchivedKind::Int(number) => HeadRef::Leaf(LeafRef::Int(native_of(number))),
         ArchivedKind::Text(text) => HeadRef::Leaf(LeafRef::Text(ArchivedString::as_str(text))),
+        ArchivedKind::Shared(text) => HeadRef::Shared(ArchivedRcStr::get(text)),
         ArchivedKind::Maybe(maybe) => {
             if ArchivedOption::is_none(maybe) {
                 HeadRef::None

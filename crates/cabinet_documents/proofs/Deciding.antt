@@ -3,10 +3,10 @@ use Rattle.std.proofs.Common.{◌≡◌, ℕ, ◌+◌, ◌<◌, Bool, true, fals
 use Rattle.archive_shape_layout.specs.Holds.{root_position}
 use Rattle.cabinet_documents.specs.Node.{node_shape, node_names}
 use Rattle.cabinet_documents.specs.Walk.{Stop, is_container}
-use Rattle.cabinet_documents.specs.Audit.{Unsound, too_deep, unless, first_of, deep_faults, map_faults, faults}
+use Rattle.cabinet_documents.specs.Audit.{too_deep, unless, first_of, deep_faults, map_faults, faults}
 use Rattle.cabinet_documents.specs.Laws.{DepthDecides}
 use Rattle.cabinet_documents.proofs.Places.{node_behind}
-use Rattle.cabinet_documents.proofs.Nodes.{held}
+use Rattle.cabinet_documents.proofs.Nodes.{none_seen, held}
 use Rattle.cabinet_documents.proofs.Walkable.{walk_stands_law}
 use Rattle.cabinet_documents.proofs.Sound.{no_map_faults}
 use Rattle.cabinet_documents.proofs.Peaks.{Each, NoMap, height_is, peak, peaked}
@@ -42,7 +42,7 @@ first_deep bytes (s ∷ rest) h k = by_case (is_container s.part) (nat_lt s.dept
 pub depth_decides_law : DepthDecides
 depth_decides_law bytes v regions visits small root =
     let pos = root_position (length bytes) node_shape in
-    let h = held bytes root.holds node_behind pos refl in
+    let h = held bytes root.holds node_behind pos refl (none_seen bytes) in
     let r = of_tree h.value in
     let w = walk_stands_law node_names bytes 0 pos node_shape v regions visits root h.acyclic in
     let p = peaked bytes w.walked node_behind pos refl in

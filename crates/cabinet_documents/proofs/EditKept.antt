@@ -9,7 +9,7 @@ use Rattle.archive_shape_references.specs.Bytes.{overwrite}
 use Rattle.archive_shape_references.specs.Sealing.{StandsInRoot}
 use Rattle.archive_shape_references.proofs.Written.{length-overwrite}
 use Rattle.cabinet_text_grammar.specs.Tree.{Leaf, Tree, leaf}
-use Rattle.cabinet_text_grammar.specs.Path.{Step, key, place, inside, node_at}
+use Rattle.cabinet_text_grammar.specs.Path.{Step, place, inside, node_at}
 use Rattle.cabinet_text_grammar.specs.Answering.{change}
 use Rattle.cabinet_text_grammar.proofs.Changes.{change_keeps_document}
 use Rattle.cabinet_documents.specs.Node.{node_names, node_shape, own_bytes}
@@ -19,8 +19,8 @@ use Rattle.cabinet_documents.specs.OwnBytes.{OwnBytes, LeadsTo, leads_here, lead
 use Rattle.cabinet_documents.specs.Laws.{payload_of, EditKeepsAccepted}
 use Rattle.cabinet_documents.proofs.Changing.{leaf_put_law}
 use Rattle.cabinet_documents.proofs.Places.{node_behind}
-use Rattle.cabinet_documents.proofs.Nodes.{NodeValue, held}
-use Rattle.cabinet_documents.proofs.Known.{leaf_tag, Known, known_leaf, known_none, known_some, known_list, known, known_element, no_key, by_key}
+use Rattle.cabinet_documents.proofs.Nodes.{NodeValue, none_seen, held}
+use Rattle.cabinet_documents.proofs.Known.{leaf_tag, Known, known_leaf, known_shared, known_none, known_some, known_list, known, known_element, no_key, by_key}
 use Rattle.cabinet_documents.proofs.OwnWritten.{own_within, rewritten}
 use Rattle.cabinet_documents.proofs.Standing.{accepted_by}
 
@@ -41,6 +41,7 @@ LeafThere w l = w ≡ tagged_value (leaf_tag l) (payload_of l)
 
 here_is : {bytes : List ℕ} {v : Value} {t : Tree} (l : Leaf) → Known bytes v t → node_at t [] ≡ Some (leaf l) → LeafThere v l
 here_is {v = v} l (known_leaf m e f) g = let same : m ≡ l = cc in subst (LeafThere v) same e
+here_is l (known_shared e f) g = absurd (cc)
 here_is l (known_none e f) g = absurd (cc)
 here_is l (known_some e f n d) g = absurd (cc)
 here_is l (known_list e f ns ds) g = absurd (cc)
@@ -51,6 +52,7 @@ OnValue rest l u w = (bytes : List ℕ) (t : Tree) → NodeValue bytes u → Den
 
 in_option : {bytes : List ℕ} {v u w : Value} {t : Tree} (l : Leaf) (rest : List Step) → v ≡ tagged_value 4 (tagged_value 1 u) → OnValue rest l u w → Known bytes v t → node_at t (inside ∷ rest) ≡ Some (leaf l) → LeafThere w l
 in_option l rest e on (known_leaf m f g) h = let k = subst (λ x. node_at x (inside ∷ rest) ≡ Some (leaf l)) g h in absurd (cc)
+in_option l rest e on (known_shared f g) h = let k = subst (λ x. node_at x (inside ∷ rest) ≡ Some (leaf l)) g h in absurd (cc)
 in_option l rest e on (known_none f g) h = let k = subst (λ x. node_at x (inside ∷ rest) ≡ Some (leaf l)) g h in absurd (cc)
 in_option {bytes = bytes} {u = u} l rest e on (known_some {w = x} {u = s} f g n d) h =
     let same : x ≡ u = cc in
@@ -59,6 +61,7 @@ in_option l rest e on (known_list f g ns ds) h = let k = subst (λ x. node_at x 
 
 in_list : {bytes : List ℕ} {v u w : Value} {vs : Values} {t : Tree} (l : Leaf) (i : ℕ) (rest : List Step) → v ≡ tagged_value 5 (group vs) → value_in i vs ≡ Some u → OnValue rest l u w → Known bytes v t → node_at t (place i ∷ rest) ≡ Some (leaf l) → LeafThere w l
 in_list l i rest e there on (known_leaf m f g) h = let k = subst (λ x. node_at x (place i ∷ rest) ≡ Some (leaf l)) g h in absurd (cc)
+in_list l i rest e there on (known_shared f g) h = let k = subst (λ x. node_at x (place i ∷ rest) ≡ Some (leaf l)) g h in absurd (cc)
 in_list l i rest e there on (known_none f g) h = let k = subst (λ x. node_at x (place i ∷ rest) ≡ Some (leaf l)) g h in absurd (cc)
 in_list l i rest e there on (known_some f g n d) h = let k = subst (λ x. node_at x (place i ∷ rest) ≡ Some (leaf l)) g h in absurd (cc)
 in_list {bytes = bytes} {u = u} {vs = vs} l i rest e there on (known_list {vs = us} f g ns ds) h =
@@ -78,7 +81,7 @@ leaf_there l bytes {t = t} (leads_key {k = k} {rest = rest} e high there f g on)
 
 pub payload_is : (bytes : List ℕ) {t : Tree} {path : List Step} (old : Leaf) {start size : ℕ} (a : Accepted bytes t) (o : OwnBytes bytes a.value path start size) → node_at t path ≡ Some (leaf old) → o.payload ≡ payload_of old
 payload_is bytes {t = t} {path = path} old a o there =
-    let h = (held bytes a.root.holds node_behind (root_position (length bytes) node_shape) refl).value in
+    let h = (held bytes a.root.holds node_behind (root_position (length bytes) node_shape) refl (none_seen bytes)).value in
     let node = leaf_there old bytes o.leads h a.denotes there in
     let one = leads_value (leaf_tag old) (payload_of old) o.leads node in
     let two = stands_value node_names bytes o.part o.payload o.stands in
@@ -89,7 +92,7 @@ pub edit_keeps_accepted_law : EditKeepsAccepted
 edit_keeps_accepted_law bytes t path new start a legal done o =
     let pos = root_position (length bytes) node_shape in
     let is = payload_is bytes done.old a o done.there in
-    let h = (held bytes a.root.holds node_behind pos refl).value in
+    let h = (held bytes a.root.holds node_behind pos refl (none_seen bytes)).value in
     let inner = o.inner ++ 0 ∷ [] in
     let room = own_within bytes pos a.value a.regions a.visits inner a.root o.stands o.own in
     let others = overwrite bytes start (own_bytes new) in

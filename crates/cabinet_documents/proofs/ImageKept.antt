@@ -1,5 +1,5 @@
 -- A leaf written over own bytes keeps the one archive of a document.
-use Rattle.std.proofs.Common.{◌≡◌, ℕ, ◌+◌, ◌≤◌, ◌<◌, true, false, Bool, ◌⊎◌, inl, inr, ⊎_elim, List, [], ◌∷◌, ◌++◌, drop, length, slice_index, IsUtf8, refl, sym, ap, subst, ◌∙◌, arith, rules, length-append, w64, get_or-drop}
+use Rattle.std.proofs.Common.{◌≡◌, ℕ, ◌+◌, ◌≤◌, ◌<◌, true, false, Bool, ◌⊎◌, inl, inr, ⊎_elim, List, [], ◌∷◌, ◌++◌, drop, length, slice_index, IsUtf8, refl, sym, ap, subst, ◌∙◌, arith, length-append, w64, get_or-drop}
 use Rattle.std.specs.Int.{to_le_bytes, cast_unsigned}
 use Rattle.std.proofs.lemmas.Bool.{cases_lt}
 use Rattle.std.proofs.lemmas.List.{length-take, drop_at, places}
@@ -9,11 +9,11 @@ use Rattle.archive_shape_layout.specs.Shape.Shape.{text as text_shape, truth as 
 use Rattle.archive_shape_layout.specs.Shape.Pointee.{str}
 use Rattle.archive_shape_layout.specs.Value.{Value}
 use Rattle.archive_shape_layout.specs.Value.Value.{string, boolean, integer}
-use Rattle.archive_shape_layout.specs.Content.{Names, Part, Label, Content, content_of, choose, made, shape_content, text_content, before_ff, IsInline}
+use Rattle.archive_shape_layout.specs.Content.{Names, Part, Label, content_of, choose, made, shape_content, text_content, before_ff, IsInline}
 use Rattle.archive_shape_layout.specs.Content.Part.{at, behind}
 use Rattle.archive_shape_layout.specs.Content.Label.{written, leaf as leaf_label}
 use Rattle.archive_shape_layout.specs.Content.Content.{plain}
-use Rattle.archive_shape_layout.specs.Holds.{Region, Visit, HasRoot, root_position}
+use Rattle.archive_shape_layout.specs.Holds.{Region, Visit, root_position}
 use Rattle.archive_shape_layout.specs.Path.{put_at}
 use Rattle.archive_shape_layout.proofs.Texts.{text_before, split_at_filler}
 use Rattle.archive_shape_layout.proofs.Utf8.{utf8_byte}
@@ -38,8 +38,9 @@ use Rattle.cabinet_documents.specs.Node.{node_names, node_shape, own_bytes, trut
 use Rattle.cabinet_documents.specs.OwnBytes.{IsOwn, own_truth, own_number, own_inline, own_behind}
 use Rattle.cabinet_documents.specs.Laws.{payload_of, EditKeepsImage}
 use Rattle.cabinet_documents.proofs.Changing.{leaf_put_law}
-use Rattle.cabinet_documents.proofs.Places.{truth_here, number_here, text_here, text_behind, node_behind}
-use Rattle.cabinet_documents.proofs.Nodes.{held}
+use Rattle.cabinet_documents.proofs.Places.{node_behind}
+use Rattle.cabinet_documents.proofs.Nodes.{none_seen, held}
+use Rattle.cabinet_documents.proofs.Steps.{truth_there, number_there, text_there, text_behind_there}
 use Rattle.cabinet_documents.proofs.Known.{no_key}
 use Rattle.cabinet_documents.proofs.OwnWritten.{inline_says, truth_plain, number_plain, truth_kind, number_kind, text_kind, truth_reads, number_reads, own_within}
 use Rattle.cabinet_documents.proofs.EditKept.{payload_is}
@@ -167,7 +168,7 @@ module _ (fit : Fit) (bytes : List ℕ) (pos : ℕ) (v : Value) (regions : List 
   leaf_is_kept {start = start} old new stands (own_truth e f) size_is fit legal =
       let there = subst (λ x. StandsInRoot node_names bytes pos node_shape v path x (payload_of old)) e stands in
       let h = held_at node_names bytes (at start truth_shape) (payload_of old) canonical.root.holds there in
-      let t = (held bytes h.holds truth_here start refl).value in
+      let t = truth_there bytes start h.holds in
       let k = truth_kind old new t.b t.is fit in
       let room : start + 1 ≤ length bytes = own_within bytes pos v regions visits path canonical.root stands (own_truth e refl) in
       let c = truth_plain bytes start h.holds in
@@ -176,7 +177,7 @@ module _ (fit : Fit) (bytes : List ℕ) (pos : ℕ) (v : Value) (regions : List 
   leaf_is_kept {start = start} old new stands (own_number e f) size_is fit legal =
       let there = subst (λ x. StandsInRoot node_names bytes pos node_shape v path x (payload_of old)) e stands in
       let h = held_at node_names bytes (at start (number_shape w64 true)) (payload_of old) canonical.root.holds there in
-      let t = (held bytes h.holds number_here start refl).value in
+      let t = number_there bytes start h.holds in
       let k = number_kind old new t.n t.is fit in
       let room : start + 8 ≤ length bytes = own_within bytes pos v regions visits path canonical.root stands (own_number e refl) in
       let is_number : IsLeaf (number k.n) = subst IsLeaf k.is legal in
@@ -185,7 +186,7 @@ module _ (fit : Fit) (bytes : List ℕ) (pos : ℕ) (v : Value) (regions : List 
   leaf_is_kept {start = start} {size = size} old new stands (own_inline {s = s} e c f) size_is fit legal =
       let there = subst (λ x. StandsInRoot node_names bytes pos node_shape v path x (payload_of old)) e stands in
       let h = held_at node_names bytes (at start text_shape) (payload_of old) canonical.root.holds there in
-      let t = (held bytes h.holds text_here start refl).value in
+      let t = text_there bytes start h.holds in
       let k = text_kind old new t.s t.is fit in
       let room : start + size ≤ length bytes = own_within bytes pos v regions visits path canonical.root stands (own_inline {s = s} e c f) in
       let len : size ≡ length k.s = size_is ∙ ap (λ x. length (own_bytes x)) k.is in
@@ -194,7 +195,7 @@ module _ (fit : Fit) (bytes : List ℕ) (pos : ℕ) (v : Value) (regions : List 
   leaf_is_kept {start = start} {size = size} old new stands (own_behind e) size_is fit legal =
       let there = subst (λ x. StandsInRoot node_names bytes pos node_shape v path x (payload_of old)) e stands in
       let h = held_at node_names bytes (behind start str size) (payload_of old) canonical.root.holds there in
-      let t = (held bytes h.holds (text_behind size) start refl).value in
+      let t = text_behind_there bytes start size h.holds in
       let k = text_kind old new t.s t.is fit in
       let room : start + size ≤ length bytes = own_within bytes pos v regions visits path canonical.root stands (own_behind e) in
       let len : size ≡ length k.s = size_is ∙ ap (λ x. length (own_bytes x)) k.is in
@@ -206,7 +207,7 @@ edit_keeps_image_law bytes t path new start i legal done o =
     let a = i.accepted in
     let pos = root_position (length bytes) node_shape in
     let fit = first_fit text_hash in
-    let h = (held bytes a.root.holds node_behind pos refl).value in
+    let h = (held bytes a.root.holds node_behind pos refl (none_seen bytes)).value in
     let inner = o.inner ++ 0 ∷ [] in
     let room = own_within bytes pos a.value a.regions a.visits inner a.root o.stands o.own in
     let others = overwrite bytes start (own_bytes new) in

@@ -1,19 +1,19 @@
 -- What the value of a node that holds stands for.
 use Rattle.std.proofs.Common.{◌≡◌, ℕ, zero, suc, List, ◌∷◌, Some, refl, sym, ap, subst, ◌∙◌, arith, ◌<◌, ◌⊎◌, inl, inr}
 use Rattle.archive_shape_layout.specs.Value.{Value, Values}
-use Rattle.archive_shape_layout.specs.Value.Value.{group, chosen}
+use Rattle.archive_shape_layout.specs.Value.Value.{string, group, chosen, counted}
 use Rattle.archive_shape_layout.specs.Value.Values.{no_values, more_values}
 use Rattle.archive_shape_layout.specs.Path.{value_in}
-use Rattle.cabinet_text_grammar.specs.Tree.{Leaf, truth, number, text, Tree, Trees, leaf, nothing, just, list, no_trees}
+use Rattle.cabinet_text_grammar.specs.Tree.{Leaf, truth, number, text, Tree, Trees, leaf, shared, nothing, just, list, no_trees}
 use Rattle.cabinet_text_grammar.specs.Path.{Step, key, node_at, node_in}
 use Rattle.cabinet_documents.specs.Denotes.{Denotes, DenoteAll, tagged_value}
-use Rattle.cabinet_documents.specs.Denotes.Denotes.{denotes_truth, denotes_number, denotes_text, denotes_nothing}
+use Rattle.cabinet_documents.specs.Denotes.Denotes.{denotes_truth, denotes_number, denotes_text, denotes_shared, denotes_nothing}
 use Rattle.cabinet_documents.specs.Denotes.DenoteAll.{denote_none, denote_more}
 use Rattle.cabinet_documents.specs.OwnBytes.{LeadsTo, leads_here, leads_inside, leads_place, leads_key}
 use Rattle.cabinet_documents.specs.Laws.{payload_of, HasNoKey}
 use Rattle.cabinet_documents.proofs.Denoted.{one_tree}
 use Rattle.cabinet_documents.proofs.Changing.{of_some, of_list}
-use Rattle.cabinet_documents.proofs.Nodes.{NodeValue, truth_value, number_value, text_value, none_value, some_value, list_value, NodeValues, no_nodes, more_nodes}
+use Rattle.cabinet_documents.proofs.Nodes.{NodeValue, truth_value, number_value, text_value, shared_value, none_value, some_value, list_value, NodeValues, no_nodes, more_nodes}
 
 abbrev pub leaf_tag : Leaf → ℕ
 leaf_tag (truth b) = 0
@@ -22,6 +22,7 @@ leaf_tag (text s) = 2
 
 pub data Known (bytes : List ℕ) (v : Value) (t : Tree) : Type 0 where
   known_leaf : (l : Leaf) → v ≡ tagged_value (leaf_tag l) (payload_of l) → t ≡ leaf l → Known bytes v t
+  known_shared : {pos : ℕ} {s : List ℕ} → v ≡ tagged_value 3 (counted pos (string s)) → t ≡ shared s → Known bytes v t
   known_none : v ≡ tagged_value 4 (chosen 0 no_values) → t ≡ nothing → Known bytes v t
   known_some : {w : Value} {u : Tree} → v ≡ tagged_value 4 (tagged_value 1 w) → t ≡ just u → NodeValue bytes w → Denotes w u → Known bytes v t
   known_list : {vs : Values} {ts : Trees} → v ≡ tagged_value 5 (group vs) → t ≡ list ts → NodeValues bytes vs → DenoteAll vs ts → Known bytes v t
@@ -30,6 +31,7 @@ pub known : {bytes : List ℕ} {v : Value} {t : Tree} → NodeValue bytes v → 
 known (truth_value {b = b} e) d = known_leaf (truth b) e (one_tree d (denotes_truth e refl))
 known (number_value {n = n} e f) d = known_leaf (number n) e (one_tree d (denotes_number e refl))
 known (text_value {s = s} e f) d = known_leaf (text s) e (one_tree d (denotes_text e refl))
+known (shared_value {s = s} e f) d = known_shared e (one_tree d (denotes_shared e refl))
 known (none_value e) d = known_none e (one_tree d (denotes_nothing e refl))
 known (some_value e n) d = let s = of_some e d in known_some e s.is n s.denotes
 known (list_value e ns small) d = let s = of_list e d in known_list e s.is ns s.denotes
@@ -79,6 +81,7 @@ some_node : {bytes : List ℕ} {v u : Value} → v ≡ tagged_value 4 (tagged_va
 some_node e (truth_value f) = absurd (cc)
 some_node e (number_value f g) = absurd (cc)
 some_node e (text_value f g) = absurd (cc)
+some_node e (shared_value f g) = absurd (cc)
 some_node e (none_value f) = absurd (cc)
 some_node {bytes = bytes} {u = u} e (some_value {w = w} f n) = let same : w ≡ u = cc in record { node = subst (NodeValue bytes) same n }
 some_node e (list_value f ns small) = absurd (cc)
@@ -90,6 +93,7 @@ list_nodes : {bytes : List ℕ} {v : Value} {vs : Values} → v ≡ tagged_value
 list_nodes e (truth_value f) = absurd (cc)
 list_nodes e (number_value f g) = absurd (cc)
 list_nodes e (text_value f g) = absurd (cc)
+list_nodes e (shared_value f g) = absurd (cc)
 list_nodes e (none_value f) = absurd (cc)
 list_nodes e (some_value f n) = absurd (cc)
 list_nodes {bytes = bytes} {vs = vs} e (list_value {vs = ws} f ns small) = let same : ws ≡ vs = cc in record { nodes = subst (NodeValues bytes) same ns }
@@ -103,6 +107,7 @@ low_tag : {bytes : List ℕ} {v : Value} → NodeValue bytes v → tag_of v < 6
 low_tag (truth_value f) = omega (arith, ap tag_of f)
 low_tag (number_value f g) = omega (arith, ap tag_of f)
 low_tag (text_value f g) = omega (arith, ap tag_of f)
+low_tag (shared_value f g) = omega (arith, ap tag_of f)
 low_tag (none_value f) = omega (arith, ap tag_of f)
 low_tag (some_value f n) = omega (arith, ap tag_of f)
 low_tag (list_value f ns small) = omega (arith, ap tag_of f)
@@ -121,6 +126,7 @@ no_key {v = v} (leads_key {tag = tag} e high there f g l) n = absurd (high_tag (
 -- a path by a key leads to no leaf
 pub by_key : {bytes : List ℕ} {v : Value} {t : Tree} (l : Leaf) (k : List ℕ) (rest : List Step) → Known bytes v t → node_at t (key k ∷ rest) ≡ Some (leaf l) → ⊥
 by_key l k rest (known_leaf m e f) g = let n = subst (λ x. node_at x (key k ∷ rest) ≡ Some (leaf l)) f g in cc
+by_key l k rest (known_shared e f) g = let n = subst (λ x. node_at x (key k ∷ rest) ≡ Some (leaf l)) f g in cc
 by_key l k rest (known_none e f) g = let n = subst (λ x. node_at x (key k ∷ rest) ≡ Some (leaf l)) f g in cc
 by_key l k rest (known_some e f m d) g = let n = subst (λ x. node_at x (key k ∷ rest) ≡ Some (leaf l)) f g in cc
 by_key l k rest (known_list e f ns ds) g = let n = subst (λ x. node_at x (key k ∷ rest) ≡ Some (leaf l)) f g in cc

@@ -2,13 +2,13 @@
 use Rattle.std.proofs.Common.{◌≡◌, ℕ, zero, suc, List, [], ◌∷◌, ◌++◌, length, Some, refl, sym, ap, subst, ◌∙◌}
 use Rattle.archive_shape_layout.specs.Bytes.{window}
 use Rattle.archive_shape_layout.specs.Shape.Pointee.{sized, str}
-use Rattle.archive_shape_layout.specs.Value.{Value}
+use Rattle.archive_shape_layout.specs.Value.{Value, Values}
 use Rattle.archive_shape_layout.specs.Value.Value.{group, string}
 use Rattle.archive_shape_layout.specs.Content.{Part}
 use Rattle.archive_shape_layout.specs.Content.Part.{behind}
 use Rattle.archive_shape_layout.specs.Holds.{Region, Visit, OpenShared, Holds, root_position}
 use Rattle.archive_shape_layout.specs.Edit.IsLeafIn.{out_of_line}
-use Rattle.archive_shape_layout.specs.Path.{Stands}
+use Rattle.archive_shape_layout.specs.Path.{Stands, value_in}
 use Rattle.archive_shape_layout.specs.Path.Stands.{stands_here}
 use Rattle.archive_shape_layout.proofs.Leaves.{leaf_within_law}
 use Rattle.archive_shape_references.proofs.Pieces.{length-window}
@@ -18,17 +18,17 @@ use Rattle.cabinet_documents.specs.Node.{node_names, node_shape, own_bytes}
 use Rattle.cabinet_documents.specs.Denotes.{Denotes, tagged_value}
 use Rattle.cabinet_documents.specs.OwnBytes.{LeadsTo, leads_here, leads_inside, leads_place, IsOwn, own_truth, own_number, own_inline, own_behind}
 use Rattle.cabinet_documents.specs.Laws.{payload_of, OwnBytesStand, LeavesStand}
-use Rattle.cabinet_documents.proofs.Places.{Place, node_here, truth_here, number_here, text_here, option_here, list_here, absent_here, text_behind, part_of, Pays, pays_truth, pays_number, pays_text, pays_option, pays_list, pays_absent}
-use Rattle.cabinet_documents.proofs.Nodes.{absent_law, held}
-use Rattle.cabinet_documents.proofs.Steps.{node_cases, behind_below, some_cases, element_cases, TextCase, text_inline, text_out, text_cases}
-use Rattle.cabinet_documents.proofs.Known.{leaf_tag, Known, known_leaf, known_none, known_some, known_list, known, known_element, by_key}
+use Rattle.cabinet_documents.proofs.Places.{Place, node_here, truth_here, number_here, text_here, shared_here, option_here, list_here, absent_here, node_behind, text_behind, part_of, Pays, pays_truth, pays_number, pays_text, pays_shared, pays_option, pays_list, pays_absent}
+use Rattle.cabinet_documents.proofs.Nodes.{absent_law, NodeValue, none_seen, held}
+use Rattle.cabinet_documents.proofs.Steps.{node_cases, behind_below, some_cases, ElementCase, element_cases, TextCase, text_inline, text_out, text_cases}
+use Rattle.cabinet_documents.proofs.Known.{leaf_tag, Known, known_leaf, known_shared, known_none, known_some, known_list, known, known_element, by_key}
 
 -- where the payload of a tag stands
 abbrev pub place_of : ℕ → Place
 place_of zero = truth_here
 place_of (suc zero) = number_here
 place_of (suc (suc zero)) = text_here
-place_of (suc (suc (suc zero))) = absent_here
+place_of (suc (suc (suc zero))) = shared_here
 place_of (suc (suc (suc (suc zero)))) = option_here
 place_of (suc (suc (suc (suc (suc zero))))) = list_here
 place_of (suc (suc (suc (suc (suc (suc n)))))) = absent_here
@@ -47,6 +47,7 @@ module _ (bytes : List ℕ) where
   place_is pos pays_truth h = refl
   place_is pos pays_number h = refl
   place_is pos pays_text h = refl
+  place_is pos pays_shared h = refl
   place_is pos pays_option h = refl
   place_is pos pays_list h = refl
   place_is pos {level = level} {around = around} {v = v} {regions = regions} {before = before} {after = after} (pays_absent z) h =
@@ -100,11 +101,25 @@ module _ (bytes : List ℕ) where
     pub stands : Stands node_names bytes part payload level around before (part_of node_here pos) v (inner ++ 0 ∷ [])
     pub own : LeafOwn l part
 
-  -- so it is at the rest of the path, wherever a node holds
+  listed : (l : Leaf) {level pos : ℕ} {around : List OpenShared} {v : Value} {vs : Values} {before after : List Visit} (i : ℕ) (rest : List Step) (u : Value)
+      → v ≡ tagged_value 5 (group vs) → value_in i vs ≡ Some u
+      → (o : PaidAt level around pos v (group vs) list_here before after) (s : ElementCase bytes level around o.payload_pos (group vs) u i before)
+      → LeafStands (suc level) around s.since s.node_pos u rest l → LeafStands level around before pos v (place i ∷ rest) l
+  listed l i rest u e there o s r = record {
+    node = r.node;
+    inner = 0 ∷ (i ∷ r.inner);
+    leads = leads_place e there refl refl r.leads;
+    part = r.part;
+    payload = r.payload;
+    stands = o.stands r.part r.payload (i ∷ (r.inner ++ 0 ∷ [])) (s.stands r.part r.payload (r.inner ++ 0 ∷ []) r.stands);
+    own = r.own;
+  }
+
+  -- so it is at the rest of the path, wherever a node holds with its value
   abbrev On : List Step → Leaf → Type 0
   On rest l =
       (pos level : ℕ) (around : List OpenShared) (v : Value) (regions : List Region) (before after : List Visit) (t : Tree)
-      → Denotes v t → Holds node_names bytes level around (part_of node_here pos) v regions before after → node_at t rest ≡ Some (leaf l) → LeafStands level around before pos v rest l
+      → NodeValue bytes v → Denotes v t → Holds node_names bytes level around (part_of node_here pos) v regions before after → node_at t rest ≡ Some (leaf l) → LeafStands level around before pos v rest l
 
   module _ (l : Leaf) {level pos : ℕ} {around : List OpenShared} {v : Value} {regions : List Region} {before after : List Visit} {t : Tree}
       (h : Holds node_names bytes level around (part_of node_here pos) v regions before after)
@@ -123,18 +138,20 @@ module _ (bytes : List ℕ) where
             stands = o.stands p.part p.payload [] p.stands;
             own = subst (λ x. LeafOwn x p.part) same p.own;
           }
+      ends_here (known_shared e f) g = absurd (cc)
       ends_here (known_none e f) g = absurd (cc)
       ends_here (known_some e f n d) g = absurd (cc)
       ends_here (known_list e f ns ds) g = absurd (cc)
 
       in_option : (rest : List Step) → On rest l → Known bytes v t → node_at t (inside ∷ rest) ≡ Some (leaf l) → LeafStands level around before pos v (inside ∷ rest) l
       in_option rest on (known_leaf m e f) g = let k = subst (λ x. node_at x (inside ∷ rest) ≡ Some (leaf l)) f g in absurd (cc)
+      in_option rest on (known_shared e f) g = let k = subst (λ x. node_at x (inside ∷ rest) ≡ Some (leaf l)) f g in absurd (cc)
       in_option rest on (known_none e f) g = let k = subst (λ x. node_at x (inside ∷ rest) ≡ Some (leaf l)) f g in absurd (cc)
       in_option rest on (known_some {w = w} {u = u} e f n d) g =
           let k : node_at u rest ≡ Some (leaf l) = subst (λ x. node_at x (inside ∷ rest) ≡ Some (leaf l)) f g in
           let o = paid_at pos 4 (tagged_value 1 w) e h in
           let s = some_cases bytes o.payload_pos {w = w} refl o.holds in
-          let r = on s.node_pos _ _ w s.regions _ _ u d s.holds k in
+          let r = on s.node_pos _ _ w s.regions _ _ u n d s.holds k in
           record {
             node = r.node;
             inner = 0 ∷ (0 ∷ r.inner);
@@ -148,34 +165,26 @@ module _ (bytes : List ℕ) where
 
       in_list : (i : ℕ) (rest : List Step) → On rest l → Known bytes v t → node_at t (place i ∷ rest) ≡ Some (leaf l) → LeafStands level around before pos v (place i ∷ rest) l
       in_list i rest on (known_leaf m e f) g = let k = subst (λ x. node_at x (place i ∷ rest) ≡ Some (leaf l)) f g in absurd (cc)
+      in_list i rest on (known_shared e f) g = let k = subst (λ x. node_at x (place i ∷ rest) ≡ Some (leaf l)) f g in absurd (cc)
       in_list i rest on (known_none e f) g = let k = subst (λ x. node_at x (place i ∷ rest) ≡ Some (leaf l)) f g in absurd (cc)
       in_list i rest on (known_some e f n d) g = let k = subst (λ x. node_at x (place i ∷ rest) ≡ Some (leaf l)) f g in absurd (cc)
       in_list i rest on (known_list {vs = vs} {ts = ts} e f ns ds) g =
           let k = known_element i rest (leaf l) ns ds (subst (λ x. node_at x (place i ∷ rest) ≡ Some (leaf l)) f g) in
           let o = paid_at pos 5 (group vs) e h in
           let s = element_cases bytes o.payload_pos i k.value refl k.there o.holds in
-          let r = on s.node_pos _ _ k.value s.regions s.since s.until k.tree k.denotes s.holds k.found in
-          record {
-            node = r.node;
-            inner = 0 ∷ (i ∷ r.inner);
-            leads = leads_place e k.there refl refl r.leads;
-            part = r.part;
-            payload = r.payload;
-            stands = o.stands r.part r.payload (i ∷ (r.inner ++ 0 ∷ [])) (s.stands r.part r.payload (r.inner ++ 0 ∷ []) r.stands);
-            own = r.own;
-          }
+          listed l i rest k.value e k.there o s (on s.node_pos _ _ k.value s.regions s.since s.until k.tree k.node k.denotes s.holds k.found)
 
   pub leaf_stands : (path : List Step) (l : Leaf) → On path l
-  leaf_stands [] l pos level around v regions before after t d h g = ends_here l h (known (held bytes h node_here pos refl).value d) g
-  leaf_stands (inside ∷ rest) l pos level around v regions before after t d h g = in_option l h rest (leaf_stands rest l) (known (held bytes h node_here pos refl).value d) g
-  leaf_stands (place i ∷ rest) l pos level around v regions before after t d h g = in_list l h i rest (leaf_stands rest l) (known (held bytes h node_here pos refl).value d) g
-  leaf_stands (key k ∷ rest) l pos level around v regions before after t d h g = absurd (by_key l k rest (known (held bytes h node_here pos refl).value d) g)
+  leaf_stands [] l pos level around v regions before after t n d h g = ends_here l h (known n d) g
+  leaf_stands (inside ∷ rest) l pos level around v regions before after t n d h g = in_option l h rest (leaf_stands rest l) (known n d) g
+  leaf_stands (place i ∷ rest) l pos level around v regions before after t n d h g = in_list l h i rest (leaf_stands rest l) (known n d) g
+  leaf_stands (key k ∷ rest) l pos level around v regions before after t n d h g = absurd (by_key l k rest (known n d) g)
 
 pub leaves_stand_law : LeavesStand
 leaves_stand_law bytes t path l a g =
     let pos = root_position (length bytes) node_shape in
     let b = behind_below bytes pos a.root.holds in
-    let r = leaf_stands bytes path l pos 1 [] a.value b.regions [] a.visits t a.denotes b.holds g in
+    let r = leaf_stands bytes path l pos 1 [] a.value b.regions [] a.visits t (held bytes a.root.holds node_behind pos refl (none_seen bytes)).value a.denotes b.holds g in
     let stands = b.stands r.part r.payload (r.inner ++ 0 ∷ []) r.stands in
     by_case r.node r.inner r.leads r.part r.payload stands r.own
   where

@@ -1,16 +1,17 @@
--- What the value of a node is, where one holds; and that no shared position lies in it.
-use Rattle.std.proofs.Common.{◌≡◌, ℕ, ℤ, zero, suc, ◌++◌, ◌+◌, ◌^◌, ◌<◌, Bool, w64, FitsSigned, IsUtf8, List, [], ◌∷◌, Some, refl, sym, ap, subst, ◌∙◌, arith}
+-- What the value of a node is, where one holds; and that no shared position lies inside itself there.
+use Rattle.std.proofs.Common.{◌≡◌, ℕ, ℤ, zero, suc, ◌++◌, ◌+◌, ◌^◌, ◌<◌, ◌==◌, cond, Bool, true, false, w64, FitsSigned, IsUtf8, List, [], ◌∷◌, Some, refl, sym, ap, subst, ◌∙◌, arith}
 use Rattle.archive_shape_layout.specs.Shape.Shape.{choice}
 use Rattle.archive_shape_layout.specs.Shape.Shapes.{no_shapes}
 use Rattle.archive_shape_layout.specs.Value.{Value, Values, count_values}
-use Rattle.archive_shape_layout.specs.Value.Value.{integer, boolean, string, group, chosen}
+use Rattle.archive_shape_layout.specs.Value.Value.{integer, boolean, string, group, chosen, counted}
 use Rattle.archive_shape_layout.specs.Value.Values.{no_values, more_values}
 use Rattle.archive_shape_layout.specs.Content.{Part, Label, Span, content_of, made, IsLegal, fields, shape_content}
-use Rattle.archive_shape_layout.specs.Content.Part.{at}
+use Rattle.archive_shape_layout.specs.Content.Part.{at, behind}
 use Rattle.archive_shape_layout.specs.Content.Label.{leaf, written, same, whole, tagged}
 use Rattle.archive_shape_layout.specs.Content.Content.{illegal, plain, claimed, counting}
 use Rattle.archive_shape_layout.specs.Shape.{Pointee}
-use Rattle.archive_shape_layout.specs.Holds.{Region, region_of, Visit, OpenShared, Holds, HoldAll}
+use Rattle.archive_shape_layout.specs.Shape.Pointee.{str}
+use Rattle.archive_shape_layout.specs.Holds.{Region, region_of, Visit, OpenShared, visited, Holds, HoldAll}
 use Rattle.archive_shape_layout.specs.Holds.Holds.{holds_plain, holds_claimed, holds_first, holds_later, holds_back}
 use Rattle.archive_shape_layout.specs.Holds.HoldAll.{holds_none, holds_more}
 use Rattle.archive_shape_layout.proofs.Unique.{by_plain}
@@ -18,7 +19,7 @@ use Rattle.archive_shape_canonical.specs.Canonical.{AreBytes}
 use Rattle.cabinet_documents.specs.Node.{node_names}
 use Rattle.cabinet_documents.specs.Denotes.{tagged_value}
 use Rattle.cabinet_documents.specs.Laws.{IsAcyclic, AreAcyclic, AbsentHasNoValue}
-use Rattle.cabinet_documents.proofs.Places.{Place, node_here, payload_here, truth_here, number_here, text_here, option_here, box_here, list_here, absent_here, node_behind, nodes_behind, text_behind, Spot, part_of, parts_at, nodes_from, Passes, node_passes, box_passes, behind_passes, list_passes, text_passes, Pays, pays_truth, pays_number, pays_text, pays_option, pays_list, pays_absent, Follows, passes, pays, truth_is, number_is, text_is, behind_is, none_is, some_is, nodes_follow, Leads, leads_nowhere, leads_absent, leads_plain, leads_claimed, led}
+use Rattle.cabinet_documents.proofs.Places.{Place, node_here, payload_here, truth_here, number_here, text_here, shared_here, option_here, box_here, list_here, absent_here, node_behind, nodes_behind, text_behind, Spot, part_of, parts_at, nodes_from, Passes, node_passes, box_passes, behind_passes, list_passes, text_passes, Pays, pays_truth, pays_number, pays_text, pays_shared, pays_option, pays_list, pays_absent, Follows, passes, pays, truth_is, number_is, text_is, behind_is, none_is, some_is, nodes_follow, Leads, leads_nowhere, leads_absent, leads_plain, leads_claimed, leads_counted, led}
 
 -- ---- nothing stands where a payload has no layout
 
@@ -53,6 +54,7 @@ mutual
     truth_value : {v : Value} {b : Bool} → v ≡ tagged_value 0 (boolean b) → NodeValue bytes v
     number_value : {v : Value} {n : ℤ} → v ≡ tagged_value 1 (integer n) → FitsSigned w64 n → NodeValue bytes v
     text_value : {v : Value} {s : List ℕ} → v ≡ tagged_value 2 (string s) → IsUtf8 s → NodeValue bytes v
+    shared_value : {v : Value} {t : ℕ} {s : List ℕ} → v ≡ tagged_value 3 (counted t (string s)) → IsUtf8 s → NodeValue bytes v
     none_value : {v : Value} → v ≡ tagged_value 4 (chosen 0 no_values) → NodeValue bytes v
     some_value : {v w : Value} → v ≡ tagged_value 4 (tagged_value 1 w) → NodeValue bytes w → NodeValue bytes v
     list_value : {v : Value} {vs : Values} → v ≡ tagged_value 5 (group vs) → NodeValues bytes vs → (AreBytes bytes → count_values vs < 2 ^ 64) → NodeValue bytes v
@@ -73,6 +75,12 @@ pub record NumberValue (v : Value) : Type 0 where
 pub record TextValue (v : Value) : Type 0 where
   pub s : List ℕ
   pub is : v ≡ string s
+  pub utf8 : IsUtf8 s
+
+pub record SharedValue (v : Value) : Type 0 where
+  pub t : ℕ
+  pub s : List ℕ
+  pub is : v ≡ counted t (string s)
   pub utf8 : IsUtf8 s
 
 pub data OptionValue (bytes : List ℕ) (v : Value) : Type 0 where
@@ -98,6 +106,7 @@ ValueAt bytes payload_here v = NodeValue bytes v
 ValueAt bytes truth_here v = TruthValue v
 ValueAt bytes number_here v = NumberValue v
 ValueAt bytes text_here v = TextValue v
+ValueAt bytes shared_here v = SharedValue v
 ValueAt bytes option_here v = OptionValue bytes v
 ValueAt bytes box_here v = NodeValue bytes v
 ValueAt bytes list_here v = ListValue bytes v
@@ -123,6 +132,7 @@ module _ (bytes : List ℕ) where
   one_paid pays_truth e h = truth_value (e ∙ ap (tagged_value 0) h.is)
   one_paid pays_number e h = number_value (e ∙ ap (tagged_value 1) h.is) h.fits
   one_paid pays_text e h = text_value (e ∙ ap (tagged_value 2) h.is) h.utf8
+  one_paid pays_shared e h = shared_value (e ∙ ap (tagged_value 3) h.is) h.utf8
   one_paid pays_option e (option_none f) = none_value (e ∙ ap (tagged_value 4) f)
   one_paid pays_option e (option_some f n) = some_value (e ∙ ap (tagged_value 4) f) n
   one_paid pays_list e h = list_value (e ∙ ap (tagged_value 5) h.is) h.nodes h.small
@@ -159,7 +169,7 @@ module _ (bytes : List ℕ) where
       let rest = no_more none hs in
       record { value = v; is = f ∙ ap (more_values v) rest; there = subst (λ (x : Spot). ValueAt bytes x.place v) same h }
 
-  follow : {k : Place} {l : Label} {qs : List Spot} {vs : Values} {v : Value}
+  pub follow : {k : Place} {l : Label} {qs : List Spot} {vs : Values} {v : Value}
       → Follows bytes k l qs → IsLegal l → ValuesAt bytes qs vs → made l vs ≡ Some v → ValueAt bytes k v
   unfolding made
   follow {k = k} {l = l} {vs = vs} {v = v} (passes p e f) legal hs m =
@@ -196,27 +206,52 @@ module _ (bytes : List ℕ) where
       let r = nodes_made pos len _ vs f hs in
       record { vs = vs; is = cc; nodes = r.nodes; counted = r.counted }
 
-  -- no place counts
+  -- ---- a shared text alone counts
+
   absent_whole : (pos : ℕ) {cyclic : Bool} {t len : ℕ} {q : Pointee} → content_of node_names bytes (part_of absent_here pos) ≡ counting cyclic t q len → ⊥
   unfolding shape_content
   absent_whole pos g = cc
 
-  no_counting : (k : Place) (pos : ℕ) {cyclic : Bool} {t len : ℕ} {q : Pointee} → content_of node_names bytes (part_of k pos) ≡ counting cyclic t q len → ⊥
-  no_counting k pos {cyclic = cyclic} {t = t} {len = len} {q = q} e = by_case k (led bytes k pos) e
+  pub record Counts (k : Place) (cyclic : Bool) (q : Pointee) : Type 0 where
+    pub here : k ≡ shared_here
+    pub acyclic : cyclic ≡ false
+    pub to_text : q ≡ str
+
+  pub counts : (k : Place) (pos : ℕ) {cyclic : Bool} {t len : ℕ} {q : Pointee} → content_of node_names bytes (part_of k pos) ≡ counting cyclic t q len → Counts k cyclic q
+  counts k pos {cyclic = cyclic} {t = t} {len = len} {q = q} e = by_case k (led bytes k pos) e
     where
-      by_case : (k : Place) → Leads bytes k (content_of node_names bytes (part_of k pos)) → content_of node_names bytes (part_of k pos) ≡ counting cyclic t q len → ⊥
-      by_case k (leads_nowhere f) g = cc
-      by_case absent_here leads_absent g = absent_whole pos g
-      by_case k (leads_plain f fs) g = cc
-      by_case k (leads_claimed f fs b) g = cc
+      by_case : (k : Place) → Leads bytes k (content_of node_names bytes (part_of k pos)) → content_of node_names bytes (part_of k pos) ≡ counting cyclic t q len → Counts k cyclic q
+      by_case k (leads_nowhere f) g = absurd (cc)
+      by_case absent_here leads_absent g = absurd (absent_whole pos g)
+      by_case k (leads_plain f fs) g = absurd (cc)
+      by_case k (leads_claimed f fs b) g = absurd (cc)
+      by_case shared_here (leads_counted f) g = record { here = refl; acyclic = cc; to_text = cc }
+
+  -- each text that was visited has the value of one
+  abbrev pub TextsSeen : List Visit → Type 0
+  TextsSeen visits = (t len : ℕ) (w : Value) → visited visits t ≡ Some (record { pos = t; pointee = str; len = len; value = w }) → TextValue w
+
+  pub none_seen : TextsSeen []
+  none_seen t len w e = absurd (cc)
+
+  seen_more : (t len : ℕ) (w : Value) (visits : List Visit) → TextValue w → TextsSeen visits → TextsSeen (record { pos = t; pointee = str; len = len; value = w } ∷ visits)
+  seen_more t len w visits h seen u m x = by_case (t == u)
+    where
+      by_case : (b : Bool) → cond b (Some (record { pos = t; pointee = str; len = len; value = w })) (visited visits u) ≡ Some (record { pos = u; pointee = str; len = m; value = x }) → TextValue x
+      by_case true e =
+          let same : ◌≡◌ {A = Visit} (record { pos = t; pointee = str; len = len; value = w }) (record { pos = u; pointee = str; len = m; value = x }) = cc in
+          subst TextValue (ap (λ (y : Visit). y.value) same) h
+      by_case false e = seen u m x e
 
   pub record Held {level : ℕ} {inside : List OpenShared} {p : Part} {v : Value} {regions : List Region} {before after : List Visit} (k : Place) (h : Holds node_names bytes level inside p v regions before after) : Type 0 where
     pub value : ValueAt bytes k v
     pub acyclic : IsAcyclic h
+    pub seen : TextsSeen after
 
   pub record AllHeld {level : ℕ} {inside : List OpenShared} {ps : List Part} {vs : Values} {regions : List Region} {before after : List Visit} (qs : List Spot) (hs : HoldAll node_names bytes level inside ps vs regions before after) : Type 0 where
     pub values : ValuesAt bytes qs vs
     pub acyclic : AreAcyclic hs
+    pub seen : TextsSeen after
 
   module _
       {level : ℕ} {inside : List OpenShared} {p : Part} {v : Value} {regions : List Region} {before after : List Visit} {l : Label} {ps : List Part} {vs : Values}
@@ -230,8 +265,9 @@ module _ (bytes : List ℕ) where
           let there : ps ≡ parts_at qs = cc in
           let label : l' ≡ l = cc in
           let r = on qs there in
-          record { value = follow fs (subst IsLegal (sym label) legal) r.values (subst (λ x. made x vs ≡ Some v) (sym label) m); acyclic = r.acyclic }
+          record { value = follow fs (subst IsLegal (sym label) legal) r.values (subst (λ x. made x vs ≡ Some v) (sym label) m); acyclic = r.acyclic; seen = r.seen }
       plain_held e legal all m on k pos (leads_claimed f fs b) g is = absurd (cc)
+      plain_held e legal all m on k pos (leads_counted f) g is = absurd (cc)
 
       claimed_held : {s : Span} {within : List Region} (e : content_of node_names bytes p ≡ claimed s l ps) (legal : IsLegal l) (all : HoldAll node_names bytes (suc level) inside ps vs within before after) (m : made l vs ≡ Some v)
           (x : regions ≡ within ++ region_of s level ∷ [])
@@ -240,29 +276,44 @@ module _ (bytes : List ℕ) where
       claimed_held e legal all m x on k pos (leads_nowhere f) g is = absurd (cc)
       claimed_held e legal all m x on absent_here pos leads_absent g is = absurd (absent_law bytes level inside pos v regions before after (subst (λ y. Holds node_names bytes level inside y v regions before after) is (holds_claimed e legal all m x)))
       claimed_held e legal all m x on k pos (leads_plain f fs) g is = absurd (cc)
+      claimed_held e legal all m x on k pos (leads_counted f) g is = absurd (cc)
       claimed_held e legal all m x on k pos (leads_claimed {l = l'} {qs = qs} f fs b) g is =
           let there : ps ≡ parts_at qs = cc in
           let label : l' ≡ l = cc in
           let r = on qs there in
-          record { value = follow fs (subst IsLegal (sym label) legal) r.values (subst (λ y. made y vs ≡ Some v) (sym label) m); acyclic = r.acyclic }
+          record { value = follow fs (subst IsLegal (sym label) legal) r.values (subst (λ y. made y vs ≡ Some v) (sym label) m); acyclic = r.acyclic; seen = r.seen }
+
+  shared_is : {k : Place} {v w : Value} (t : ℕ) → k ≡ shared_here → v ≡ counted t w → TextValue w → ValueAt bytes k v
+  shared_is {v = v} t here is h = subst (λ x. ValueAt bytes x v) (sym here) (record { t = t; s = h.s; is = is ∙ ap (counted t) h.is; utf8 = h.utf8 })
 
   mutual
+    -- at a place, where each text visited before has a value
     pub held : {level : ℕ} {inside : List OpenShared} {p : Part} {v : Value} {regions : List Region} {before after : List Visit}
-        (h : Holds node_names bytes level inside p v regions before after) (k : Place) (pos : ℕ) → p ≡ part_of k pos → Held k h
-    held (holds_plain e legal all m) k pos is =
-        plain_held e legal all m (λ qs f. all_held all qs f) k pos (led bytes k pos) (ap (content_of node_names bytes) (sym is) ∙ e) is
-    held (holds_claimed e legal all m x) k pos is =
-        claimed_held e legal all m x (λ qs f. all_held all qs f) k pos (led bytes k pos) (ap (content_of node_names bytes) (sym is) ∙ e) is
-    held (holds_first e a b h d g) k pos is = absurd (no_counting k pos (ap (content_of node_names bytes) (sym is) ∙ e))
-    held (holds_later e a b d g h) k pos is = absurd (no_counting k pos (ap (content_of node_names bytes) (sym is) ∙ e))
-    held (holds_back e a d g h) k pos is = absurd (no_counting k pos (ap (content_of node_names bytes) (sym is) ∙ e))
+        (h : Holds node_names bytes level inside p v regions before after) (k : Place) (pos : ℕ) → p ≡ part_of k pos → TextsSeen before → Held k h
+    held (holds_plain e legal all m) k pos is seen =
+        plain_held e legal all m (λ qs f. all_held all qs f seen) k pos (led bytes k pos) (ap (content_of node_names bytes) (sym is) ∙ e) is
+    held (holds_claimed e legal all m x) k pos is seen =
+        claimed_held e legal all m x (λ qs f. all_held all qs f seen) k pos (led bytes k pos) (ap (content_of node_names bytes) (sym is) ∙ e) is
+    held (holds_first {w = w} {between = between} {t = t} {q = q} {len = len} e a b h d g) k pos is seen =
+        let c = counts k pos (ap (content_of node_names bytes) (sym is) ∙ e) in
+        let inner = held h (text_behind len) t (ap (λ x. behind t x len) c.to_text) seen in
+        record {
+          value = shared_is t c.here d inner.value;
+          acyclic = inner.acyclic;
+          seen = subst TextsSeen (sym (g ∙ ap (λ x. record { pos = t; pointee = x; len = len; value = w } ∷ between) c.to_text)) (seen_more t len w between inner.value inner.seen);
+        }
+    held (holds_later {w = w} {before = before} {t = t} {q = q} {len = len} e a b d g h) k pos is seen =
+        let c = counts k pos (ap (content_of node_names bytes) (sym is) ∙ e) in
+        let there = seen t len w (b ∙ ap (λ x. Some (record { pos = t; pointee = x; len = len; value = w })) c.to_text) in
+        record { value = shared_is t c.here d there; acyclic = tt; seen = subst TextsSeen (sym h) seen }
+    held (holds_back e a d g h) k pos is seen = absurd (let c = (counts k pos (ap (content_of node_names bytes) (sym is) ∙ e)).acyclic in cc)
 
     all_held : {level : ℕ} {inside : List OpenShared} {ps : List Part} {vs : Values} {regions : List Region} {before after : List Visit}
-        (hs : HoldAll node_names bytes level inside ps vs regions before after) (qs : List Spot) → ps ≡ parts_at qs → AllHeld qs hs
-    all_held (holds_none e f g) [] is = record { values = none_at e; acyclic = tt }
-    all_held (holds_none e f g) (q ∷ qs) is = absurd (cc)
-    all_held (holds_more h hs e r) [] is = absurd (cc)
-    all_held (holds_more h hs e r) (q ∷ qs) is =
-        let first = held h q.place q.pos (cc) in
-        let others = all_held hs qs (cc) in
-        record { values = more_at e first.value others.values; acyclic = (first.acyclic, others.acyclic) }
+        (hs : HoldAll node_names bytes level inside ps vs regions before after) (qs : List Spot) → ps ≡ parts_at qs → TextsSeen before → AllHeld qs hs
+    all_held (holds_none e f g) [] is seen = record { values = none_at e; acyclic = tt; seen = subst TextsSeen (sym g) seen }
+    all_held (holds_none e f g) (q ∷ qs) is seen = absurd (cc)
+    all_held (holds_more h hs e r) [] is seen = absurd (cc)
+    all_held (holds_more h hs e r) (q ∷ qs) is seen =
+        let first = held h q.place q.pos (cc) seen in
+        let others = all_held hs qs (cc) first.seen in
+        record { values = more_at e first.value others.values; acyclic = (first.acyclic, others.acyclic); seen = others.seen }

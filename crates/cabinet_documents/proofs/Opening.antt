@@ -3,16 +3,16 @@ use Rattle.std.proofs.Common.{◌≡◌, ℕ, ◌+◌, ◌<◌, ◌≤◌, ◌^�
 use Rattle.archive_shape_layout.specs.Value.{Value, Values, count_values}
 use Rattle.archive_shape_layout.specs.Holds.{root_position}
 use Rattle.archive_shape_canonical.specs.Canonical.{AreBytes}
-use Rattle.cabinet_text_grammar.specs.Tree.{truth, number, text, Tree, leaf, nothing, just, list, Trees, no_trees, more_trees, count, IsLegal, AreLegal}
+use Rattle.cabinet_text_grammar.specs.Tree.{truth, number, text, Tree, leaf, shared, nothing, just, list, Trees, no_trees, more_trees, count, IsLegal, AreLegal}
 use Rattle.cabinet_documents.specs.Node.{node_shape}
 use Rattle.cabinet_documents.specs.Denotes.{Denotes, DenoteAll}
-use Rattle.cabinet_documents.specs.Denotes.Denotes.{denotes_truth, denotes_number, denotes_text, denotes_nothing, denotes_some, denotes_list}
+use Rattle.cabinet_documents.specs.Denotes.Denotes.{denotes_truth, denotes_number, denotes_text, denotes_shared, denotes_nothing, denotes_some, denotes_list}
 use Rattle.cabinet_documents.specs.Denotes.DenoteAll.{denote_none, denote_more}
 use Rattle.cabinet_documents.specs.Walk.{Stop, is_container}
 use Rattle.cabinet_documents.specs.Audit.{Unsound, too_deep, unless, deep_faults, map_faults, faults}
 use Rattle.cabinet_documents.specs.Laws.{AcceptedStands}
 use Rattle.cabinet_documents.proofs.Places.{node_behind}
-use Rattle.cabinet_documents.proofs.Nodes.{NodeValue, truth_value, number_value, text_value, none_value, some_value, list_value, NodeValues, no_nodes, more_nodes, held}
+use Rattle.cabinet_documents.proofs.Nodes.{NodeValue, truth_value, number_value, text_value, shared_value, none_value, some_value, list_value, NodeValues, no_nodes, more_nodes, none_seen, held}
 use Rattle.cabinet_documents.proofs.Peaks.{height_is, peak, peaked}
 use Rattle.cabinet_documents.proofs.Standing.{accepted_by}
 
@@ -34,6 +34,7 @@ mutual
   of_tree (truth_value {b = b} e) = record { tree = leaf (truth b); denotes = denotes_truth e refl; legal = λ small. tt }
   of_tree (number_value {n = n} e fits) = record { tree = leaf (number n); denotes = denotes_number e refl; legal = λ small. fits }
   of_tree (text_value {s = s} e utf8) = record { tree = leaf (text s); denotes = denotes_text e refl; legal = λ small. utf8 }
+  of_tree (shared_value {s = s} e utf8) = record { tree = shared s; denotes = denotes_shared e refl; legal = λ small. utf8 }
   of_tree (none_value e) = record { tree = nothing; denotes = denotes_nothing e refl; legal = λ small. tt }
   of_tree (some_value e n) = let r = of_tree n in record { tree = just r.tree; denotes = denotes_some e refl r.denotes; legal = r.legal }
   of_tree (list_value e ns few) =
@@ -83,7 +84,7 @@ shallow bytes (s ∷ rest) e =
 pub accepted_stands_law : AcceptedStands
 accepted_stands_law bytes v regions visits walk small root walked none =
     let pos = root_position (length bytes) node_shape in
-    let n = (held bytes root.holds node_behind pos refl).value in
+    let n = (held bytes root.holds node_behind pos refl (none_seen bytes)).value in
     let r = of_tree n in
     let p = peaked bytes walked node_behind pos refl in
     let high = height_is n r.denotes in

@@ -28,9 +28,9 @@ use Rattle.cabinet_text_grammar.specs.Answering.{fits}
 use Rattle.cabinet_documents.specs.Node.{node_names, node_shape, own_bytes, truth_byte}
 use Rattle.cabinet_documents.specs.OwnBytes.{IsOwn, own_truth, own_number, own_inline, own_behind}
 use Rattle.cabinet_documents.specs.Laws.{payload_of}
-use Rattle.cabinet_documents.proofs.Places.{truth_here, number_here, text_here, text_behind, part_of, parts_at, passes, truth_is, Leads, leads_nowhere, leads_plain, leads_claimed, led}
-use Rattle.cabinet_documents.proofs.Nodes.{none_illegal, held}
-use Rattle.cabinet_documents.proofs.Steps.{passing}
+use Rattle.cabinet_documents.proofs.Places.{truth_here, part_of, parts_at, passes, truth_is, Leads, leads_nowhere, leads_plain, leads_claimed, led}
+use Rattle.cabinet_documents.proofs.Nodes.{none_illegal}
+use Rattle.cabinet_documents.proofs.Steps.{passing, truth_there, number_there, text_there, text_behind_there}
 
 module _ (bytes : List ℕ) where
   -- what an inline text says
@@ -161,7 +161,7 @@ module _ (bytes : List ℕ) (pos : ℕ) (v : Value) (regions : List Region) (vis
   rewritten {part = part} {start = start} old new stands (own_truth e f) size_is fit legal =
       let there = subst (λ x. StandsInRoot node_names bytes pos node_shape v path x (payload_of old)) e stands in
       let h = held_at node_names bytes (at start truth_shape) (payload_of old) root.holds there in
-      let t = (held bytes h.holds truth_here start refl).value in
+      let t = truth_there bytes start h.holds in
       let k = truth_kind old new t.b t.is fit in
       let room : start + 1 ≤ length bytes = own_within stands (own_truth e refl) in
       subst (Rewritten start) (sym k.is)
@@ -169,7 +169,7 @@ module _ (bytes : List ℕ) (pos : ℕ) (v : Value) (regions : List Region) (vis
   rewritten {part = part} {start = start} old new stands (own_number e f) size_is fit legal =
       let there = subst (λ x. StandsInRoot node_names bytes pos node_shape v path x (payload_of old)) e stands in
       let h = held_at node_names bytes (at start (number_shape w64 true)) (payload_of old) root.holds there in
-      let t = (held bytes h.holds number_here start refl).value in
+      let t = number_there bytes start h.holds in
       let k = number_kind old new t.n t.is fit in
       let room : start + 8 ≤ length bytes = own_within stands (own_number e refl) in
       let is_number : IsLeaf (number k.n) = subst IsLeaf k.is legal in
@@ -178,7 +178,7 @@ module _ (bytes : List ℕ) (pos : ℕ) (v : Value) (regions : List Region) (vis
   rewritten {part = part} {start = start} {size = size} old new stands (own_inline {s = s} e c f) size_is fit legal =
       let there = subst (λ x. StandsInRoot node_names bytes pos node_shape v path x (payload_of old)) e stands in
       let h = held_at node_names bytes (at start text_shape) (payload_of old) root.holds there in
-      let t = (held bytes h.holds text_here start refl).value in
+      let t = text_there bytes start h.holds in
       let k = text_kind old new t.s t.is fit in
       let room : start + size ≤ length bytes = own_within stands (own_inline {s = s} e c f) in
       let i = inline_says bytes start s (ap (content_of node_names bytes) (sym e) ∙ c) in
@@ -189,7 +189,7 @@ module _ (bytes : List ℕ) (pos : ℕ) (v : Value) (regions : List Region) (vis
   rewritten {part = part} {start = start} {size = size} old new stands (own_behind e) size_is fit legal =
       let there = subst (λ x. StandsInRoot node_names bytes pos node_shape v path x (payload_of old)) e stands in
       let h = held_at node_names bytes (behind start str size) (payload_of old) root.holds there in
-      let t = (held bytes h.holds (text_behind size) start refl).value in
+      let t = text_behind_there bytes start size h.holds in
       let k = text_kind old new t.s t.is fit in
       let room : start + size ≤ length bytes = own_within stands (own_behind e) in
       let len : size ≡ length k.s = size_is ∙ ap (λ x. length (own_bytes x)) k.is in

@@ -7,15 +7,16 @@ use Rattle.archive_shape_layout.specs.Value.Value.{natural, integer, boolean, st
 use Rattle.archive_shape_layout.specs.Value.Values.{no_values, more_values}
 use Rattle.archive_shape_layout.specs.Shape.Shape.{choice, array, number as number_shape}
 use Rattle.archive_shape_layout.specs.Shape.Shapes.{no_shapes}
+use Rattle.archive_shape_layout.specs.Shape.Pointee.{str}
 use Rattle.archive_shape_layout.specs.Content.{Part, Label, Content, content_of, made, shape_content, fields}
 use Rattle.archive_shape_layout.specs.Bytes.{align_up}
 use Rattle.archive_shape_layout.specs.Content.Part.{at}
 use Rattle.archive_shape_layout.specs.Content.Label.{leaf, written, same, whole, tagged}
-use Rattle.archive_shape_layout.specs.Content.Content.{illegal, claimed}
+use Rattle.archive_shape_layout.specs.Content.Content.{illegal, claimed, counting}
 use Rattle.cabinet_text_grammar.specs.Tree.{Tree, Trees, depth, most_depth}
 use Rattle.cabinet_documents.specs.Node.{node_names}
 use Rattle.cabinet_documents.specs.Denotes.{Denotes, DenoteAll, tagged_value}
-use Rattle.cabinet_documents.specs.Denotes.Denotes.{denotes_truth, denotes_number, denotes_text, denotes_nothing}
+use Rattle.cabinet_documents.specs.Denotes.Denotes.{denotes_truth, denotes_number, denotes_text, denotes_shared, denotes_nothing}
 use Rattle.cabinet_documents.specs.Denotes.DenoteAll.{denote_none, denote_more}
 use Rattle.cabinet_documents.specs.Walk.{Stop, Walks, WalkAll, is_container, depth_in, parts_of, value_of, joined}
 use Rattle.cabinet_documents.specs.Walk.Walks.{walks}
@@ -23,8 +24,8 @@ use Rattle.cabinet_documents.specs.Walk.WalkAll.{walk_none, walk_more}
 use Rattle.cabinet_documents.specs.Audit.{IsMapSound}
 use Rattle.cabinet_documents.proofs.Denoted.{one_tree}
 use Rattle.cabinet_documents.proofs.Changing.{of_some, of_list}
-use Rattle.cabinet_documents.proofs.Nodes.{no_choice, NodeValue, truth_value, number_value, text_value, none_value, some_value, list_value, NodeValues, no_nodes, more_nodes}
-use Rattle.cabinet_documents.proofs.Places.{Place, node_here, payload_here, truth_here, number_here, text_here, option_here, box_here, list_here, absent_here, node_behind, nodes_behind, text_behind, Spot, part_of, parts_at, nodes_from, lifts, Passes, node_passes, box_passes, behind_passes, list_passes, text_passes, Pays, pays_truth, pays_number, pays_text, pays_option, pays_list, pays_absent, Follows, passes, pays, truth_is, number_is, text_is, behind_is, none_is, some_is, nodes_follow, Leads, leads_nowhere, leads_absent, leads_plain, leads_claimed, led}
+use Rattle.cabinet_documents.proofs.Nodes.{no_choice, NodeValue, truth_value, number_value, text_value, shared_value, none_value, some_value, list_value, NodeValues, no_nodes, more_nodes}
+use Rattle.cabinet_documents.proofs.Places.{Place, node_here, payload_here, truth_here, number_here, text_here, shared_here, option_here, box_here, list_here, absent_here, node_behind, nodes_behind, text_behind, Spot, part_of, parts_at, nodes_from, lifts, Passes, node_passes, box_passes, behind_passes, list_passes, text_passes, Pays, pays_truth, pays_number, pays_text, pays_shared, pays_option, pays_list, pays_absent, Follows, passes, pays, truth_is, number_is, text_is, behind_is, none_is, some_is, nodes_follow, Leads, leads_nowhere, leads_absent, leads_plain, leads_claimed, leads_counted, led}
 
 -- ---- how many containers lie in one another in a node's value
 
@@ -36,7 +37,7 @@ abbrev mutual
   height (string s) = 0
   height (group vs) = heights vs
   height (chosen tag vs) = lifts tag + heights vs
-  height (counted pos v) = 0
+  height (counted pos v) = height v
   height (back pos) = 0
 
   pub heights : Values → ℕ
@@ -48,6 +49,7 @@ mutual
   height_of (truth_value e) d q = ap height e ∙ sym (ap depth (one_tree d (denotes_truth (sym q ∙ e) refl)))
   height_of (number_value e f) d q = ap height e ∙ sym (ap depth (one_tree d (denotes_number (sym q ∙ e) refl)))
   height_of (text_value e f) d q = ap height e ∙ sym (ap depth (one_tree d (denotes_text (sym q ∙ e) refl)))
+  height_of (shared_value e u) d q = ap height e ∙ sym (ap depth (one_tree d (denotes_shared (sym q ∙ e) refl)))
   height_of (none_value e) d q = ap height e ∙ sym (ap depth (one_tree d (denotes_nothing (sym q ∙ e) refl)))
   height_of (some_value e n) d q = let s = of_some (sym q ∙ e) d in let r = height_of n s.denotes refl in ap height e ∙ omega (arith, r) ∙ sym (ap depth s.is)
   height_of (list_value e ns small) d q = let s = of_list (sym q ∙ e) d in let r = heights_of ns s.denotes refl in ap height e ∙ omega (arith, r) ∙ sym (ap depth s.is)
@@ -123,6 +125,7 @@ container_is payload_here pos = refl
 container_is truth_here pos = refl
 container_is number_here pos = refl
 container_is text_here pos = refl
+container_is shared_here pos = refl
 container_is option_here pos = refl
 container_is box_here pos = refl
 container_is list_here pos = refl
@@ -141,6 +144,7 @@ lift_is payload_here = refl
 lift_is truth_here = refl
 lift_is number_here = refl
 lift_is text_here = refl
+lift_is shared_here = refl
 lift_is option_here = refl
 lift_is box_here = refl
 lift_is list_here = refl
@@ -163,6 +167,7 @@ no_map payload_here pos bytes w = tt
 no_map truth_here pos bytes w = tt
 no_map number_here pos bytes w = tt
 no_map text_here pos bytes w = tt
+no_map shared_here pos bytes w = tt
 no_map option_here pos bytes w = tt
 no_map box_here pos bytes w = tt
 no_map list_here pos bytes w = tt
@@ -227,6 +232,7 @@ pay_lift : {tag : ℕ} {j : Place} → Pays tag j → lifts tag ≡ lift j
 pay_lift pays_truth = refl
 pay_lift pays_number = refl
 pay_lift pays_text = refl
+pay_lift pays_shared = refl
 pay_lift pays_option = refl
 pay_lift pays_list = refl
 pay_lift (pays_absent z) = z
@@ -318,23 +324,31 @@ module _ (bytes : List ℕ) where
   unfolding shape_content fields align_up
   absent_parts pos = refl
 
-  peaked_by : (k : Place) (pos d : ℕ) {p : Part} {v : Value} {vs : Values} {walk : List Stop} {inner : List (List Stop)} {l : Label} {qs : List Spot}
+  peaked_by : (k : Place) (pos d : ℕ) {p : Part} {v : Value} {vs : Values} {walk : List Stop} {inner : List (List Stop)} {qs : List Spot}
       → p ≡ part_of k pos
       → walk ≡ record { depth = d; part = p; value = v } ∷ joined (content_of node_names bytes p) inner
       → joined (content_of node_names bytes p) inner ≡ flat inner
-      → Follows bytes k l qs
       → AllPeaked (depth_in d p) qs vs inner
-      → made l vs ≡ Some v
+      → (AllPeaked (d + lift k) qs vs inner → peak (d + lift k) (flat inner) ≡ d + (lift k + height v))
       → Peaked k d v walk
-  peaked_by k pos d {p = p} {v = v} {vs = vs} {inner = inner} {qs = qs} is e j fs ps m =
+  peaked_by k pos d {p = p} {v = v} {vs = vs} {inner = inner} {qs = qs} is e j ps on =
       let container : is_container p ≡ contains k = ap is_container is ∙ container_is k pos in
       let depth_is : depth_in d p ≡ d + lift k = ap (λ b. cond b (d + 1) d) container ∙ deeper (contains k) d (lift k) (lift_is k) in
       let below = subst (λ n. AllPeaked n qs vs inner) depth_is ps in
       record {
         peak_is = ap (peak d) e ∙ ap (λ x. max (cond (is_container p) (d + 1) d) (peak d x)) j ∙ ap (λ b. max (cond b (d + 1) d) (peak d (flat inner))) container
-            ∙ peak_stop (contains k) d (lift k) (flat inner) (lift_is k) ∙ follow k d fs below m;
+            ∙ peak_stop (contains k) d (lift k) (flat inner) (lift_is k) ∙ on below;
         stops = subst (Each NoMap) (sym e) (λ b. subst (λ x. IsMapSound b x v) (sym is) (no_map k pos b v), subst (Each NoMap) (sym j) (all_stops below));
       }
+
+  counted_peak : (t len d : ℕ) {vs : Values} {v : Value} {runs : List (List Stop)}
+      → AllPeaked (d + 0) (record { place = text_behind len; pos = t } ∷ []) vs runs → value_of (counting false t str len) vs ≡ Some v → peak (d + 0) (flat runs) ≡ d + (0 + height v)
+  counted_peak t len d {vs = vs} {v = v} ps m =
+      let o = one (text_behind len) t refl ps in
+      let n : value_of (counting false t str len) (more_values o.value no_values) ≡ Some v = subst (λ x. value_of (counting false t str len) x ≡ Some v) o.values_are m in
+      let is : v ≡ counted t o.value = cc in
+      let h : height v ≡ height o.value = ap height is in
+      o.peak_is ∙ omega (arith, h)
 
   peaked_case : (k : Place) (pos d : ℕ) {p : Part} {v : Value} {vs : Values} {walk : List Stop} {inner : List (List Stop)}
       → p ≡ part_of k pos
@@ -350,10 +364,13 @@ module _ (bytes : List ℕ) where
   peaked_case absent_here pos d is e m present on leads_absent = absurd (present refl)
   peaked_case k pos d {v = v} {vs = vs} {inner = inner} is e m present on (leads_plain f fs) =
       let c = ap (content_of node_names bytes) is ∙ f in
-      peaked_by k pos d is e (ap (λ x. joined x inner) c) fs (on _ (ap parts_of c)) (subst (λ x. value_of x vs ≡ Some v) c m)
+      peaked_by k pos d is e (ap (λ x. joined x inner) c) (on _ (ap parts_of c)) (λ below. follow k d fs below (subst (λ x. value_of x vs ≡ Some v) c m))
   peaked_case k pos d {p = p} {v = v} {vs = vs} {inner = inner} is e m present on (leads_claimed {start = start} {size = size} {align = align} f fs b) =
       let c = ap (content_of node_names bytes) is ∙ f in
-      peaked_by k pos d is e (joined_plain (content_of node_names bytes p) start size align inner fs c) fs (on _ (ap parts_of c)) (subst (λ x. value_of x vs ≡ Some v) c m)
+      peaked_by k pos d is e (joined_plain (content_of node_names bytes p) start size align inner fs c) (on _ (ap parts_of c)) (λ below. follow k d fs below (subst (λ x. value_of x vs ≡ Some v) c m))
+  peaked_case k pos d {v = v} {vs = vs} {inner = inner} is e m present on (leads_counted {t = t} {len = len} f) =
+      let c = ap (content_of node_names bytes) is ∙ f in
+      peaked_by k pos d is e (ap (λ x. joined x inner) c) (on (record { place = text_behind len; pos = t } ∷ []) (ap parts_of c)) (λ below. counted_peak t len d below (subst (λ x. value_of x vs ≡ Some v) c m))
 
   mutual
     -- the walk of a place goes as deep as its value is high, and comes to no map

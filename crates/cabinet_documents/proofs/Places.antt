@@ -5,13 +5,13 @@ use Rattle.std.proofs.lemmas.Bool.Decides.{leb_tells}
 use Rattle.std.specs.Int.{from_le_bytes, cast_signed}
 use Rattle.archive_shape_layout.specs.Bytes.{window, align_up, word_at, target_from}
 use Rattle.archive_shape_layout.specs.Shape.{align_of}
-use Rattle.archive_shape_layout.specs.Shape.Shape.{number, truth, text, option, choice, box, vector}
+use Rattle.archive_shape_layout.specs.Shape.Shape.{number, truth, text, option, choice, box, vector, shared}
 use Rattle.archive_shape_layout.specs.Shape.Pointee.{sized, slice, str}
 use Rattle.archive_shape_layout.specs.Value.Value.{integer, boolean}
-use Rattle.archive_shape_layout.specs.Content.{Part, Label, Content, content_of, choose, option_content, shape_tagged, shape_content, pointee_content, text_content, text_length, following, begins_inline, before_ff, elements, number_value}
+use Rattle.archive_shape_layout.specs.Content.{Part, Label, Content, content_of, choose, option_content, shape_tagged, shape_content, pointee_content, text_content, text_length, shared_content, following, begins_inline, before_ff, elements, number_value}
 use Rattle.archive_shape_layout.specs.Content.Part.{at, behind}
 use Rattle.archive_shape_layout.specs.Content.Label.{leaf, written, same, whole, tagged}
-use Rattle.archive_shape_layout.specs.Content.Content.{illegal, plain, claimed}
+use Rattle.archive_shape_layout.specs.Content.Content.{illegal, plain, claimed, counting}
 use Rattle.archive_shape_canonical.specs.Canonical.{AreBytes}
 use Rattle.archive_shape_checking.proofs.Words.{word_bound}
 use Rattle.archive_shape_references.proofs.Pieces.{word_within}
@@ -20,7 +20,7 @@ use Rattle.cabinet_documents.specs.Node.{node_shape, node_names, payloads, absen
 -- ---- places
 
 pub data Place : Type 0 where
-  node_here payload_here truth_here number_here text_here option_here box_here list_here absent_here : Place
+  node_here payload_here truth_here number_here text_here shared_here option_here box_here list_here absent_here : Place
   -- what pointers lead to: a node, so many nodes, a text of so many bytes
   node_behind : Place
   nodes_behind text_behind : ℕ → Place
@@ -35,6 +35,7 @@ part_of payload_here pos = at pos (choice payloads)
 part_of truth_here pos = at pos truth
 part_of number_here pos = at pos (number w64 true)
 part_of text_here pos = at pos text
+part_of shared_here pos = at pos (shared false str)
 part_of option_here pos = at pos (option (box (sized node_shape)))
 part_of box_here pos = at pos (box (sized node_shape))
 part_of list_here pos = at pos (vector node_shape)
@@ -77,6 +78,7 @@ pub data Pays : ℕ → Place → Type 0 where
   pays_truth : Pays 0 truth_here
   pays_number : Pays 1 number_here
   pays_text : Pays 2 text_here
+  pays_shared : Pays 3 shared_here
   pays_option : Pays 4 option_here
   pays_list : Pays 5 list_here
   pays_absent : {tag : ℕ} → lifts tag ≡ 0 → Pays tag absent_here
@@ -104,6 +106,8 @@ pub data Leads (bytes : List ℕ) : Place → Content → Type 0 where
   leads_absent : {c : Content} → Leads bytes absent_here c
   leads_plain : {k : Place} {c : Content} {l : Label} {qs : List Spot} → c ≡ plain l (parts_at qs) → Follows bytes k l qs → Leads bytes k c
   leads_claimed : {k : Place} {c : Content} {l : Label} {qs : List Spot} {start size align : ℕ} → c ≡ claimed (record { start = start; size = size; align = align }) l (parts_at qs) → Follows bytes k l qs → is_behind k ≡ true → Leads bytes k c
+  -- to a text that may have been visited before
+  leads_counted : {c : Content} {t len : ℕ} → c ≡ counting false t str len → Leads bytes shared_here c
 
 -- ---- what each says
 
@@ -119,7 +123,7 @@ module _ (bytes : List ℕ) where
   payload_led pos zero = leads_plain refl (pays pays_truth refl refl)
   payload_led pos (suc zero) = leads_plain refl (pays pays_number refl refl)
   payload_led pos (suc (suc zero)) = leads_plain refl (pays pays_text refl refl)
-  payload_led pos (suc (suc (suc zero))) = leads_plain refl (pays (pays_absent {tag = 3} refl) refl refl)
+  payload_led pos (suc (suc (suc zero))) = leads_plain refl (pays pays_shared refl refl)
   payload_led pos (suc (suc (suc (suc zero)))) = leads_plain refl (pays pays_option refl refl)
   payload_led pos (suc (suc (suc (suc (suc zero))))) = leads_plain refl (pays pays_list refl refl)
   payload_led pos (suc (suc (suc (suc (suc (suc zero)))))) = leads_plain refl (pays (pays_absent {tag = 6} refl) refl refl)
@@ -139,6 +143,11 @@ module _ (bytes : List ℕ) where
   text_led None s len false true = leads_nowhere refl
   text_led (Some t) s len false true = leads_plain {qs = record { place = text_behind len; pos = t } ∷ []} refl (passes text_passes refl refl)
   text_led o s len false false = leads_nowhere refl
+
+  shared_led : (o : Option ℕ) (len : ℕ) → Leads bytes shared_here (following o (λ t. counting false t str len))
+  unfolding following
+  shared_led None len = leads_nowhere refl
+  shared_led (Some t) len = leads_counted refl
 
   option_led : (p : ℕ) (none some : Bool)
       → Leads bytes option_here (choose none (plain (tagged 0) []) (choose some (plain (tagged 1) (at p (box (sized node_shape)) ∷ [])) illegal))
@@ -165,13 +174,14 @@ module _ (bytes : List ℕ) where
 
   -- what a place says
   pub led : (k : Place) (pos : ℕ) → Leads bytes k (content_of node_names bytes (part_of k pos))
-  unfolding shape_content pointee_content text_content number_value choose align_up
+  unfolding shape_content pointee_content text_content shared_content number_value choose align_up
   led node_here pos = leads_plain {qs = record { place = payload_here; pos = pos } ∷ []} refl (passes node_passes refl refl)
   led payload_here pos = payload_led pos (slice_index (window bytes pos 24) 0)
   led truth_here pos = truth_led (slice_index (window bytes pos 1) 0) (nat_lt (slice_index (window bytes pos 1) 0) 2)
   led number_here pos = leads_plain {qs = []} refl (number_is refl (number_fits (from_le_bytes w64 (window bytes pos 8))) refl)
   led text_here pos =
       text_led (target_from pos (word_at (window bytes pos 8) 4)) (before_ff (window bytes pos 8)) (text_length (word_at (window bytes pos 8) 0)) (begins_inline (slice_index (window bytes pos 8) 0)) (nat_lt 8 (text_length (word_at (window bytes pos 8) 0)))
+  led shared_here pos = shared_led (target_from pos (word_at (window bytes pos 8) 0)) (word_at (window bytes pos 8) 4)
   led option_here pos = option_led (pos + 4) (slice_index (window bytes pos 8) 0 == 0) (slice_index (window bytes pos 8) 0 == 1)
   led box_here pos = box_led (target_from pos (word_at (window bytes pos 4) 0))
   led list_here pos = list_led (target_from pos (word_at (window bytes pos 8) 0)) (word_at (window bytes pos 8) 4) (length_small pos)

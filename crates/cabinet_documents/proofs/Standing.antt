@@ -11,7 +11,7 @@ use Rattle.cabinet_documents.specs.Audit.{root_part, IsSound}
 use Rattle.cabinet_documents.specs.Accepted.{Accepted}
 use Rattle.cabinet_documents.proofs.Walkable.{walk_stands_law}
 use Rattle.cabinet_documents.proofs.Places.{node_behind}
-use Rattle.cabinet_documents.proofs.Nodes.{held}
+use Rattle.cabinet_documents.proofs.Nodes.{none_seen, held}
 use Rattle.cabinet_documents.proofs.Peaks.{NoMap, each_contains, height_is, peaked, all_below}
 
 -- a walk of the root, in which nothing is unsound
@@ -27,7 +27,7 @@ module _ (bytes : List ℕ) (t : Tree) (v : Value) (regions : List Region) (visi
   pub sound_walk : HasSoundWalk bytes v
   sound_walk =
       let pos = root_position (length bytes) node_shape in
-      let h = held bytes root.holds node_behind pos refl in
+      let h = held bytes root.holds node_behind pos refl (none_seen bytes) in
       let w = walk_stands_law node_names bytes 0 pos node_shape v regions visits root h.acyclic in
       let p = peaked bytes w.walked node_behind pos refl in
       let high = height_is h.value denotes in

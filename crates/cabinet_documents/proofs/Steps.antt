@@ -1,5 +1,5 @@
 -- From a node to its payload, and on to the nodes in it: what holds there, and that what stands there stands in the node.
-use Rattle.std.proofs.Common.{◌≡◌, ℕ, zero, suc, ◌+◌, ◌*◌, Bool, true, false, List, [], ◌∷◌, Some, refl, sym, ap, subst, ◌∙◌}
+use Rattle.std.proofs.Common.{◌≡◌, ℕ, zero, suc, ◌+◌, ◌*◌, Bool, true, false, List, [], ◌∷◌, Some, refl, sym, ap, subst, ◌∙◌, arith}
 use Rattle.archive_shape_layout.specs.Value.{Value, Values, count_values}
 use Rattle.archive_shape_layout.specs.Value.Value.{group, string}
 use Rattle.archive_shape_layout.specs.Value.Values.{no_values, more_values}
@@ -15,8 +15,8 @@ use Rattle.archive_shape_layout.specs.Path.StandsIn.{stands_first, stands_later}
 use Rattle.archive_shape_layout.proofs.Unique.{by_plain, by_claimed}
 use Rattle.cabinet_documents.specs.Node.{node_names, node_shape}
 use Rattle.cabinet_documents.specs.Denotes.{tagged_value}
-use Rattle.cabinet_documents.proofs.Places.{Place, node_here, payload_here, text_here, option_here, box_here, list_here, node_behind, nodes_behind, text_behind, part_of, parts_at, Passes, node_passes, box_passes, behind_passes, list_passes, text_passes, Pays, passes, pays, text_is, none_is, some_is, Leads, leads_nowhere, leads_plain, leads_claimed, led}
-use Rattle.cabinet_documents.proofs.Nodes.{none_illegal, held}
+use Rattle.cabinet_documents.proofs.Places.{Place, node_here, payload_here, truth_here, number_here, text_here, option_here, box_here, list_here, node_behind, nodes_behind, text_behind, Spot, part_of, parts_at, Passes, node_passes, box_passes, behind_passes, list_passes, text_passes, Pays, Follows, passes, pays, truth_is, number_is, text_is, none_is, some_is, Leads, leads_nowhere, leads_plain, leads_claimed, led}
+use Rattle.cabinet_documents.proofs.Nodes.{none_illegal, TruthValue, NumberValue, TextValue, ValueAt, ValuesAt, none_at, follow}
 
 -- some places pass on the value of what they lead to
 abbrev pub is_passing : Place → Bool
@@ -229,6 +229,14 @@ module _ (bytes : List ℕ) where
     pub stands : (r : Part) (u : Value) (i : ℕ) (path : List ℕ) → StandsIn node_names bytes r u (suc level) around before (elements target len node_shape) vs i path
         → Stands node_names bytes r u level around before (part_of list_here pos) v (i ∷ path)
 
+  nodes_counted : (n pos : ℕ) {level : ℕ} {around : List OpenShared} {ps : List Part} {vs : Values} {regions : List Region} {before after : List Visit}
+      → HoldAll node_names bytes level around ps vs regions before after → ps ≡ elements pos n node_shape → count_values vs ≡ n
+  unfolding elements
+  nodes_counted zero pos (holds_none e f g) is = ap count_values e
+  nodes_counted (suc n) pos (holds_none e f g) is = absurd (cc)
+  nodes_counted zero pos (holds_more h hs e r) is = absurd (cc)
+  nodes_counted (suc n) pos (holds_more h hs e r) is = let c = nodes_counted n (pos + 24) hs (cc) in ap count_values e ∙ omega (arith, c)
+
   nodes_content : (pos len : ℕ) → content_of node_names bytes (part_of (nodes_behind len) pos) ≡ claimed (record { start = pos; size = len * 24; align = 8 }) whole (elements pos len node_shape)
   unfolding pointee_content
   nodes_content pos len = refl
@@ -244,9 +252,6 @@ module _ (bytes : List ℕ) where
           let one = same_below (plain_below (e ∙ ap (λ x. plain x (parts_at qs)) el ∙ ap (λ x. plain same (parts_at x)) eq) h) in
           let d = by_claimed node_names bytes (nodes_content t len) one.holds in
           let m = d.is_made in
-          let n = (held bytes one.holds (nodes_behind len) t refl).value in
-          let group_is = n.is in
-          let values : n.vs ≡ d.vs = cc in
           record {
             len = len;
             target = t;
@@ -254,7 +259,7 @@ module _ (bytes : List ℕ) where
             value_is = cc;
             regions = d.within;
             all = d.all;
-            counted = ap count_values (sym values) ∙ n.counted;
+            counted = nodes_counted len t d.all refl;
             stands = λ r u i path s. one.stands r u (i ∷ path) (stands_claimed (nodes_content t len) s m refl);
           }
       by_case (leads_claimed e y b) = absurd (cc)
@@ -359,4 +364,51 @@ module _ (bytes : List ℕ) where
           let d = by_claimed node_names bytes (text_content t len) one.holds in
           let m : made (written (window bytes t len)) no_values ≡ Some v = subst (λ x. made (written (window bytes t len)) x ≡ Some v) (no_parts d.all) d.is_made in
           text_out {t = t} {len = len} (cc) one
+      by_case (leads_claimed e y b) = absurd (cc)
+
+  -- ---- a leaf has its value, whatever was visited before
+
+  lone_value : (k : Place) (pos : ℕ) {l : Label} {qs : List Spot} {level : ℕ} {around : List OpenShared} {v : Value} {regions : List Region} {before after : List Visit}
+      → content_of node_names bytes (part_of k pos) ≡ plain l (parts_at qs) → Follows bytes k l qs → qs ≡ [] → Holds node_names bytes level around (part_of k pos) v regions before after → ValueAt bytes k v
+  lone_value k pos {l = l} {qs = qs} e fs none h =
+      let d = by_plain node_names bytes (e ∙ ap (λ x. plain l (parts_at x)) none) h in
+      follow bytes fs d.legal (subst (λ x. ValuesAt bytes x d.vs) (sym none) (none_at (no_parts d.all))) d.is_made
+
+  pub truth_there : (pos : ℕ) {level : ℕ} {around : List OpenShared} {v : Value} {regions : List Region} {before after : List Visit}
+      → Holds node_names bytes level around (part_of truth_here pos) v regions before after → TruthValue v
+  truth_there pos {v = v} h = by_case (led bytes truth_here pos)
+    where
+      by_case : Leads bytes truth_here (content_of node_names bytes (part_of truth_here pos)) → TruthValue v
+      by_case (leads_nowhere e) = absurd (none_illegal bytes e h)
+      by_case (leads_plain e (passes y el eq)) = let n = passing y in absurd (cc)
+      by_case (leads_plain e (truth_is el eq)) = lone_value truth_here pos e (truth_is el eq) eq h
+      by_case (leads_claimed e y b) = absurd (cc)
+
+  pub number_there : (pos : ℕ) {level : ℕ} {around : List OpenShared} {v : Value} {regions : List Region} {before after : List Visit}
+      → Holds node_names bytes level around (part_of number_here pos) v regions before after → NumberValue v
+  number_there pos {v = v} h = by_case (led bytes number_here pos)
+    where
+      by_case : Leads bytes number_here (content_of node_names bytes (part_of number_here pos)) → NumberValue v
+      by_case (leads_nowhere e) = absurd (none_illegal bytes e h)
+      by_case (leads_plain e (passes y el eq)) = let n = passing y in absurd (cc)
+      by_case (leads_plain e (number_is el fits eq)) = lone_value number_here pos e (number_is el fits eq) eq h
+      by_case (leads_claimed e y b) = absurd (cc)
+
+  pub text_behind_there : (pos len : ℕ) {level : ℕ} {around : List OpenShared} {v : Value} {regions : List Region} {before after : List Visit}
+      → Holds node_names bytes level around (part_of (text_behind len) pos) v regions before after → TextValue v
+  unfolding made
+  text_behind_there pos len {v = v} h =
+      let d = by_claimed node_names bytes (text_content pos len) h in
+      let m : made (written (window bytes pos len)) no_values ≡ Some v = subst (λ x. made (written (window bytes pos len)) x ≡ Some v) (no_parts d.all) d.is_made in
+      record { s = window bytes pos len; is = cc; utf8 = d.legal }
+
+  pub text_there : (pos : ℕ) {level : ℕ} {around : List OpenShared} {v : Value} {regions : List Region} {before after : List Visit}
+      → Holds node_names bytes level around (part_of text_here pos) v regions before after → TextValue v
+  text_there pos {v = v} h = by_case (led bytes text_here pos)
+    where
+      by_case : Leads bytes text_here (content_of node_names bytes (part_of text_here pos)) → TextValue v
+      by_case (leads_nowhere e) = absurd (none_illegal bytes e h)
+      by_case (leads_plain e (text_is el eq)) = lone_value text_here pos e (text_is el eq) eq h
+      by_case (leads_plain {qs = qs} e (passes {pos = t} (text_passes {len = len}) el eq)) =
+          text_behind_there t len (same_below (plain_below (e ∙ ap (λ x. plain x (parts_at qs)) el ∙ ap (λ x. plain same (parts_at x)) eq) h)).holds
       by_case (leads_claimed e y b) = absurd (cc)

@@ -14,7 +14,7 @@ use Rattle.archive_shape_canonical.specs.Canonical.{IsCanonical, AreCanonical, e
 use Rattle.archive_shape_canonical.specs.Laws.{AvoidsItemKey, AvoidsKey, AvoidsKeys, AvoidKeys}
 use Rattle.cabinet_documents.specs.Node.{node_names}
 use Rattle.cabinet_documents.specs.Walk.{parts_of}
-use Rattle.cabinet_documents.proofs.Places.{Place, node_here, payload_here, truth_here, number_here, text_here, option_here, box_here, list_here, absent_here, node_behind, nodes_behind, text_behind, Spot, part_of, parts_at, Leads, leads_nowhere, leads_absent, leads_plain, leads_claimed, led}
+use Rattle.cabinet_documents.proofs.Places.{Place, node_here, payload_here, truth_here, number_here, text_here, shared_here, option_here, box_here, list_here, absent_here, node_behind, nodes_behind, text_behind, Spot, part_of, parts_at, Leads, leads_nowhere, leads_absent, leads_plain, leads_claimed, leads_counted, led}
 use Rattle.cabinet_documents.proofs.Nodes.{absent_law}
 
 -- ---- keys stand in trees and tables alone
@@ -25,6 +25,7 @@ avoids_item payload_here pos ps inner = tt
 avoids_item truth_here pos ps inner = tt
 avoids_item number_here pos ps inner = tt
 avoids_item text_here pos ps inner = tt
+avoids_item shared_here pos ps inner = tt
 avoids_item option_here pos ps inner = tt
 avoids_item box_here pos ps inner = tt
 avoids_item list_here pos ps inner = tt
@@ -43,6 +44,7 @@ avoids_part payload_here pos qs inner = avoids_items qs inner
 avoids_part truth_here pos qs inner = avoids_items qs inner
 avoids_part number_here pos qs inner = avoids_items qs inner
 avoids_part text_here pos qs inner = avoids_items qs inner
+avoids_part shared_here pos qs inner = avoids_items qs inner
 avoids_part option_here pos qs inner = avoids_items qs inner
 avoids_part box_here pos qs inner = avoids_items qs inner
 avoids_part list_here pos qs inner = avoids_items qs inner
@@ -62,6 +64,7 @@ module _ (bytes : List ℕ) where
   spots leads_absent never = absurd (never refl)
   spots (leads_plain {qs = qs} g fs) never = record { qs = qs; are = ap parts_of g }
   spots (leads_claimed {qs = qs} g fs b) never = record { qs = qs; are = ap parts_of g }
+  spots (leads_counted {t = t} {len = len} g) never = record { qs = record { place = text_behind len; pos = t } ∷ []; are = ap parts_of g }
 
   spots_of :
       {level : ℕ} {inside : List OpenShared} {p : Part} {v : Value} {regions : List Region} {before after : List Visit} {c : Content}

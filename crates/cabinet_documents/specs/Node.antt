@@ -3,9 +3,9 @@ use Rattle.std.specs.Prelude.{◌≡◌, Some, true, false, List, [], ◌∷◌,
 use Rattle.std.specs.Int.{w8, w64, to_le_bytes, cast_unsigned}
 use Rattle.archive_shape_layout.specs.Shape.{Shape, Shapes}
 use Rattle.archive_shape_layout.specs.Shape.Alignment.{eight}
-use Rattle.archive_shape_layout.specs.Shape.Shape.{number, truth, text, option, choice, box, vector, named, tuple, array}
+use Rattle.archive_shape_layout.specs.Shape.Shape.{number, truth, text, option, choice, box, vector, shared, named, tuple, array}
 use Rattle.archive_shape_layout.specs.Shape.Shapes.{no_shapes, more_shapes}
-use Rattle.archive_shape_layout.specs.Shape.Pointee.{sized}
+use Rattle.archive_shape_layout.specs.Shape.Pointee.{sized, str}
 use Rattle.archive_shape_layout.specs.Content.{Names, shape_named}
 use Rattle.cabinet_text_grammar.specs.Tree as document
 
@@ -19,13 +19,13 @@ abbrev pub absent : Shape
 absent = tuple (more_shapes (choice no_shapes) (more_shapes (array 15 (number w8 false)) no_shapes))
 
 -- in the order of the tags, from 0: a truth value, a number, a text, a shared text, an option, a list, an ordered map,
--- a hashed map, and a map that keeps its order
+-- a hashed map, and a map that keeps its order; several pointers may lead to one shared text, and none lies inside it
 abbrev pub payloads : Shapes
 payloads =
     more_shapes truth
     (more_shapes (number w64 true)
     (more_shapes text
-    (more_shapes absent
+    (more_shapes (shared false str)
     (more_shapes (option (box (sized node_shape)))
     (more_shapes (vector node_shape)
     (more_shapes absent

@@ -7,7 +7,7 @@ use Rattle.archive_shape_pointers.specs.Offsets.{FitsOffset}
 use Rattle.archive_forms_spelling.proofs.Gaps.{bytes_none, bytes_more, bytes_number}
 use Rattle.cabinet_text_grammar.proofs.Utf8.{IsUtf8-word}
 use Rattle.cabinet_spelling.proofs.Imaged.{written_is_image_law}
-use Rattle.cabinet_examples_images.specs.Images.{FiveImage, TrueImage, WorldImage, LongTextImage, NothingImage, SomeFiveImage, SevenAndNineteenImage, EmptyListImage, ListOfAnEmptyListImage, seven_and_nineteen, seven_and_nineteen_bytes}
+use Rattle.cabinet_examples_images.specs.Images.{FiveImage, TrueImage, WorldImage, LongTextImage, NothingImage, SomeFiveImage, SevenAndNineteenImage, EmptyListImage, ListOfAnEmptyListImage, SharedTextImage, EmptySharedTextImage, shared_twice, seven_and_nineteen, seven_and_nineteen_bytes}
 
 small : (n : ℕ) → n < 2 ^ 63 → FitsSigned w64 (pos n)
 small n h = record { sfits = h }
@@ -90,6 +90,50 @@ list_of_an_empty_list_image =
     let back : FitsOffset 28 0 = record { sfits = omega (arith, ints) } in
     written_is_image_law _ _ ((((tt, lit< tt), tt), lit< tt), lit≤ tt) (
       ((((tt, lit< tt, tt), tt), lit< tt, (((near, lit< tt), lit< tt), tt)), tt),
+      lit< tt,
+      (((back, lit< tt), lit< tt), tt),
+    )
+    refl
+
+pub shared_text_image : SharedTextImage
+unfolding align_up
+shared_text_image =
+    let utf8 = IsUtf8-word (codes "hello world!") refl in
+    let first : FitsOffset 20 0 = record { sfits = omega (arith, ints) } in
+    let second : FitsOffset 44 0 = record { sfits = omega (arith, ints) } in
+    let back : FitsOffset 68 16 = record { sfits = omega (arith, ints) } in
+    written_is_image_law (shared_twice (codes "hello world!")) _
+    (((utf8, (utf8, tt)), lit< tt), lit≤ tt) (
+      (
+        (
+          ((tt, (utf8, lit< tt), refl), (tt, tt)),
+          lit< tt,
+          (((first, lit< tt), lit< tt), (((second, lit< tt), lit< tt), tt)),
+        ),
+        tt,
+      ),
+      lit< tt,
+      (((back, lit< tt), lit< tt), tt),
+    )
+    refl
+
+pub empty_shared_text_image : EmptySharedTextImage
+unfolding align_up
+empty_shared_text_image =
+    let utf8 = IsUtf8-word [] refl in
+    let first : FitsOffset 12 0 = record { sfits = omega (arith, ints) } in
+    let second : FitsOffset 36 0 = record { sfits = omega (arith, ints) } in
+    let back : FitsOffset 60 8 = record { sfits = omega (arith, ints) } in
+    written_is_image_law (shared_twice []) _
+    (((utf8, (utf8, tt)), lit< tt), lit≤ tt) (
+      (
+        (
+          ((tt, (utf8, lit< tt), refl), (tt, tt)),
+          lit< tt,
+          (((first, lit< tt), lit< tt), (((second, lit< tt), lit< tt), tt)),
+        ),
+        tt,
+      ),
       lit< tt,
       (((back, lit< tt), lit< tt), tt),
     )

@@ -1,9 +1,9 @@
 -- Documents whose images are written out.
-use Rattle.std.specs.Prelude.{ℕ, List, ◌∷◌, ◌++◌, codes, pos, true}
-use Rattle.cabinet_text_grammar.specs.Tree.{Tree, leaf, nothing, just, list, no_trees, more_trees, truth, number, text}
+use Rattle.std.specs.Prelude.{ℕ, List, [], ◌∷◌, ◌++◌, codes, pos, true}
+use Rattle.cabinet_text_grammar.specs.Tree.{Tree, leaf, shared, nothing, just, list, no_trees, more_trees, truth, number, text}
 use Rattle.cabinet_documents.specs.Image.{Image}
 use Rattle.cabinet_examples.specs.Pieces.{zeros, filler, number_node}
-use Rattle.cabinet_examples.specs.Documents.{number_bytes, truth_bytes, long_text_bytes, nothing_bytes, some_number_bytes, empty_list_bytes}
+use Rattle.cabinet_examples.specs.Documents.{number_bytes, truth_bytes, long_text_bytes, nothing_bytes, some_number_bytes, empty_list_bytes, shared_text_bytes, empty_shared_text_bytes}
 
 -- ---- leaves
 
@@ -51,3 +51,15 @@ list_of_an_empty_list_bytes = empty_list_bytes ++ 0x05 ∷ zeros 3 ++ 0xe4 ∷ 0
 
 abbrev pub ListOfAnEmptyListImage : Type 0
 ListOfAnEmptyListImage = Image (list (more_trees (list no_trees) no_trees)) list_of_an_empty_list_bytes
+
+-- ---- a list of one shared text twice: the text is written once, before the elements, and both lead to it
+
+abbrev pub shared_twice : List ℕ → Tree
+shared_twice s = list (more_trees (shared s) (more_trees (shared s) no_trees))
+
+abbrev pub SharedTextImage : Type 0
+SharedTextImage = Image (shared_twice (codes "hello world!")) shared_text_bytes
+
+-- an empty one is followed by a zero byte
+abbrev pub EmptySharedTextImage : Type 0
+EmptySharedTextImage = Image (shared_twice []) empty_shared_text_bytes

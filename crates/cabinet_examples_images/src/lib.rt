@@ -1,7 +1,7 @@
 //! Worked documents, whose images are written out. Each function has no body: it carries the image of one document.
 #![tactic(auto)]
 
-ghost use Rattle.cabinet_examples_images.specs.Images.{FiveImage, TrueImage, WorldImage, LongTextImage, NothingImage, SomeFiveImage, SevenAndNineteenImage, EmptyListImage, ListOfAnEmptyListImage};
+ghost use Rattle.cabinet_examples_images.specs.Images.{FiveImage, TrueImage, WorldImage, LongTextImage, NothingImage, SomeFiveImage, SevenAndNineteenImage, EmptyListImage, ListOfAnEmptyListImage, SharedTextImage, EmptySharedTextImage};
 
 /// The number 5 is saved as these bytes.
 pub fn five_image()
@@ -46,4 +46,14 @@ pub fn empty_list_image()
 /// A list of a list without elements is.
 pub fn list_of_an_empty_list_image()
     ensures { ListOfAnEmptyListImage }
+{}
+
+/// A list of one shared text twice is: its bytes stand once, and both elements lead to them.
+pub fn shared_text_image()
+    ensures { SharedTextImage }
+{}
+
+/// A list of one empty shared text twice is, with a zero byte where the text stands.
+pub fn empty_shared_text_image()
+    ensures { EmptySharedTextImage }
 {}

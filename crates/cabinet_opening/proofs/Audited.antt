@@ -1,14 +1,17 @@
 -- What an accepted root holds is audited by how deep its containers lie in one another.
-use Rattle.std.proofs.Common.{◌≡◌, ℕ, ◌≤◌, ◌↔◌, Bool, true, false, IsTrue, List, length, Ok, Err, refl, sym, subst, ◌∙◌, arith, ap}
+use Rattle.std.proofs.Common.{◌≡◌, ℕ, ◌≤◌, ◌↔◌, Bool, true, false, IsTrue, List, [], length, Ok, Err, refl, sym, subst, ◌∙◌, arith, ap}
 use Rattle.archive_shape_layout.specs.Value.{Value}
 use Rattle.archive_shape_layout.specs.Holds.{HasRoot, root_position}
 use Rattle.archive_shape_canonical.specs.Canonical.{AreBytes}
-use Rattle.archive_shape_checking.specs.Kept.{Kept, range_of}
+use Rattle.archive_shape_checking.specs.Kept.{Kept, Records, range_of}
 use Rattle.archive_shape_checking.specs.Checks.{Checks}
 use Rattle.archive_shape_writing.specs.declared.error.Error.{Error}
 use Rattle.archive_shape.specs.Key.{HeldAt}
-use Rattle.archive_core_validation.specs.Depth.{whole, most_of}
-use Rattle.archive_core_access.specs.Access.{root_at}
+use Rattle.archive_core_validation.specs.Depth.{whole, most_of, most_within, none_seen, with_seen}
+use Rattle.archive_core_validation.specs.Visits.{seen_in}
+use Rattle.archive_core_validation.specs.declared.archive_validator.ArchiveValidator.{ArchiveValidator}
+use Rattle.archive_core_validation.specs.declared.shared_validator.SharedValidator.{SharedValidator}
+use Rattle.archive_core_access.specs.Access.{root_at, whole_range}
 use Rattle.archive_core_access.proofs.Rooted.{root_held, decided}
 use Rattle.cabinet_text_grammar.specs.Tree.{Tree, depth}
 use Rattle.cabinet_documents.specs.Node.{node_shape, node_names, KnowsNode}
@@ -23,9 +26,20 @@ most_is : most_of 2200 ≡ 2199
 unfolding most_of
 most_is = refl
 
-module _ (bytes : List ℕ) (k : Kept) (is : k ≡ whole (length bytes) (most_of 2200)) where
-  kept_is : k ≡ whole (length bytes) 2199
-  kept_is = is ∙ ap (whole (length bytes)) most_is
+abbrev kept_by : ArchiveValidator → Kept
+kept_by a = record { start = a.start; end = a.end; most = most_within a.most; pushes = a.pushes.items; seen = none_seen }
+
+-- in a validator of the whole bytes that has met no position
+module _ (bytes : List ℕ) (begun range : ArchiveValidator) (empty positions : SharedValidator)
+    (archive : range ≡ begun) (shared : positions ≡ empty) (begins : kept_by begun ≡ whole (length bytes) (most_of 2200)) (unmet : (pos : ℕ) → seen_in empty.met pos ≡ none_seen pos) where
+  abbrev k : Kept
+  k = with_seen (kept_by range) (seen_in positions.met)
+
+  range_is : range_of k ≡ whole_range (length bytes) 2199
+  range_is = ap (λ x. range_of (kept_by x)) archive ∙ ap range_of begins ∙ ap (whole_range (length bytes)) most_is
+
+  pub none : Records k.seen [] []
+  none pos = ap (λ (x : SharedValidator). seen_in x.met pos) shared ∙ unmet pos
 
   -- what the answer of the audit comes to
   pub record Audited (b : Bool) : Type 0 where
@@ -39,7 +53,7 @@ module _ (bytes : List ℕ) (k : Kept) (is : k ≡ whole (length bytes) (most_of
       → Audited b
   audited l b small checked told =
       let pos = root_position (length bytes) node_shape in
-      let p = decided node_shape node_names bytes pos 2199 k l (Ok tt) (ap range_of kept_is) (λ other. ap (λ (x : Kept). x.seen other) kept_is) checked in
+      let p = decided node_shape node_names bytes pos 2199 k l (Ok tt) range_is none checked in
       let root : HasRoot node_names bytes pos node_shape p.value p.regions p.after = record { holds = p.accepts.holds; ascends = p.accepts.ascends } in
       let d = depth_decides_law bytes p.value p.regions p.after small root in
       let says = told p.value d.tree (root_held node_shape KnowsNode node_names bytes pos p.value p.regions p.after refl root) d.denotes in
@@ -55,4 +69,4 @@ module _ (bytes : List ℕ) (k : Kept) (is : k ≡ whole (length bytes) (most_of
   refused_for e r (for_memory f g) checked = subst (λ x. IsRefusedFor bytes (refusal_of x)) (sym g) tt
   refused_for e r (for_access f g) checked =
       subst (λ x. IsRefusedFor bytes (refusal_of x)) (sym g)
-      (decided node_shape node_names bytes (root_position (length bytes) node_shape) 2199 k k (Err e) (ap range_of kept_is) (λ other. ap (λ (x : Kept). x.seen other) kept_is) checked f)
+      (decided node_shape node_names bytes (root_position (length bytes) node_shape) 2199 k k (Err e) range_is none checked f)

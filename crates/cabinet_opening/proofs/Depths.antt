@@ -24,8 +24,8 @@ Tells result t room = IsTrue result ↔ (depth t ≤ room)
 
 -- ---- by the tag
 
--- a tag below 3 is that of a leaf
-leaf_depth : {v w : Value} {t : Tree} {tag : ℕ} → v ≡ tagged_value tag w → tag < 3 → Denotes v t → depth t ≡ 0
+-- a tag below 4 is that of a leaf or a shared text
+leaf_depth : {v w : Value} {t : Tree} {tag : ℕ} → v ≡ tagged_value tag w → tag < 4 → Denotes v t → depth t ≡ 0
 leaf_depth e less (denotes_truth f g) = ap depth g
 leaf_depth e less (denotes_number f g) = ap depth g
 leaf_depth e less (denotes_text f g) = ap depth g
@@ -108,7 +108,7 @@ most_low room (denote_more {v = v} {vs = vs} {ws = ws} {t = t} {ts = ts} e f d d
 pub no_room : (tag room : ℕ) (w : Value) (t : Tree) → 3 < tag → room < 1 → Denotes (tagged_value tag w) t → Tells false t room
 no_room tag room w t more full d = let some = container_depth refl more d in (λ e. absurd (cc), λ low. absurd (omega (arith, low, some, full)))
 
-pub leaf_told : (bytes : List ℕ) (pos tag room : ℕ) (s : Shape) (knows : Names → Type 0) (to : ℕ) → tag < 3 → IsTagged bytes pos tag s knows to
+pub leaf_told : (bytes : List ℕ) (pos tag room : ℕ) (s : Shape) (knows : Names → Type 0) (to : ℕ) → tag < 4 → IsTagged bytes pos tag s knows to
     → (v : Value) (t : Tree) → HeldAt node_shape KnowsNode bytes pos v → Denotes v t → Tells true t room
 leaf_told bytes pos tag room s knows to less tagged v t h d =
     let p = tagged.payload v h in

@@ -7,7 +7,7 @@ ghost use Rattle.cabinet_opening.specs.Refused.{refusal_of, IsRefusalFor};
 
 use crate::shallow::is_shallow;
 use archive_core_access::access_with_context;
-use archive_core_validation::ArchiveValidator;
+use archive_core_validation::{ArchiveValidator, HighValidator, SharedValidator, Validator};
 use archive_shape_writing::Error;
 use cabinet_archived::ArchivedNode;
 use std::alloc::Global;
@@ -36,14 +36,17 @@ fn refused(error: Error) -> OpenRefusal
     }
 }
 
-/// Whether bytes are the archive of a document. The memory that it takes grows with the depth that is met, and not with what
-/// the bytes say.
+/// Whether bytes are the archive of a document. The memory that it takes grows with the depth that is met and with the number
+/// of shared texts, and not with what the bytes say.
 pub fn check(alloc: Global, bytes: &[u8]) -> Result<(), OpenRefusal>
     ensures accepted { OnOk result ((t : Tree) × Accepted bytes.now t) }
     ensures refused { IfErr result (λ r. IsRefusedFor bytes.now (refusal_of r)) }
 {
-    let mut context = ArchiveValidator::with_max_depth(alloc, bytes, 2200);
-    match access_with_context::<ArchivedNode, ArchiveValidator>(alloc, bytes, &mut context) {
+    let mut context = Validator::new(
+        ArchiveValidator::with_max_depth(alloc, bytes, 2200),
+        SharedValidator::new(alloc),
+    );
+    match access_with_context::<ArchivedNode, HighValidator>(alloc, bytes, &mut context) {
         Ok(root) => {
             if is_shallow(root, 64) {
                 Ok(())

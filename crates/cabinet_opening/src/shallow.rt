@@ -59,6 +59,7 @@ pub(crate) fn is_shallow(node: Ref<'_, ArchivedNode>, room: usize) -> bool
         ArchivedKind::Bool(_) => true,
         ArchivedKind::Int(_) => true,
         ArchivedKind::Text(_) => true,
+        ArchivedKind::Shared(_) => true,
         ArchivedKind::Maybe(maybe) => is_option_shallow(maybe, room),
         ArchivedKind::List(list) => are_shallow(ArchivedVec::as_slice(list), room),
     }

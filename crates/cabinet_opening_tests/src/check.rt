@@ -23,6 +23,14 @@ const SOME_OVER_ANOTHER: [u8; 24] =
 /// A list of the two nodes right before it.
 const TWO: [u8; 24] = *b"\x05\0\0\0\xcc\xff\xff\xff\x02\0\0\0\0\0\0\0\0\0\0\0\0\0\0\0";
 
+/// A shared text of twelve bytes, and its node.
+const SHARED: [u8; 40] =
+    *b"hello world!....\x03\0\0\0\xec\xff\xff\xff\x0c\0\0\0\0\0\0\0\0\0\0\0\0\0\0\0";
+
+/// A list of two nodes that share a text of twelve bytes.
+pub const TWO_SHARED: [u8; 88] =
+    *b"hello world!....\x03\0\0\0\xec\xff\xff\xff\x0c\0\0\0\0\0\0\0\0\0\0\0\0\0\0\0\x03\0\0\0\xd4\xff\xff\xff\x0c\0\0\0\0\0\0\0\0\0\0\0\0\0\0\0\x05\0\0\0\xcc\xff\xff\xff\x02\0\0\0\0\0\0\0\0\0\0\0\0\0\0\0";
+
 /// A node, and so many others that each lead to the one before.
 fn tower(alloc: Global, first: &[u8], each: &[u8], count: usize) -> Result<Vec<u8>, AllocError> {
     let mut bytes = Vec::new(alloc);
@@ -49,6 +57,38 @@ fn sixty_four_containers_lie_in_one_another(rt: HostRuntime) -> Result<(), Alloc
         assert_eq!(rt; check(alloc, &more), Err(OpenRefusal::TooDeep));
     }
     Ok(())
+}
+
+#[test]
+fn shared_text_is_no_container(rt: HostRuntime) -> Result<(), AllocError> {
+    let alloc = rt.alloc();
+    for each in [SOME, ONE] {
+        let most = tower(alloc, &SHARED, &each, 64)?;
+        assert_eq!(rt; check(alloc, &most), Ok(()));
+        let more = tower(alloc, &SHARED, &each, 65)?;
+        assert_eq!(rt; check(alloc, &more), Err(OpenRefusal::TooDeep));
+    }
+    Ok(())
+}
+
+#[test]
+fn nodes_that_share_a_text_agree(rt: HostRuntime) {
+    let alloc = rt.alloc();
+    let mut shorter = TWO_SHARED;
+    shorter[48] = 11;
+    let mut empty = TWO_SHARED;
+    empty[24] = 0;
+    let mut no_text = TWO_SHARED;
+    no_text[0] = 0xff;
+    let cases = [
+        (TWO_SHARED, Ok(())),
+        (shorter, Err(OpenRefusal::Access(Error::MetadataMismatch))),
+        (empty, Err(OpenRefusal::Access(Error::MetadataMismatch))),
+        (no_text, Err(OpenRefusal::Access(Error::InvalidUtf8))),
+    ];
+    for (bytes, answer) in cases {
+        assert_eq!(rt; check(alloc, &bytes), answer);
+    }
 }
 
 #[test]

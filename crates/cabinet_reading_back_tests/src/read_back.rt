@@ -42,6 +42,18 @@ fn text_out_of_line_is_read_back(rt: HostRuntime) -> Result<(), Fail> {
 }
 
 #[test]
+fn shared_text_is_read_back_at_each_pointer(rt: HostRuntime) -> Result<(), Fail> {
+    let archive =
+        b"a\0\0\0\0\0\0\0\x03\0\0\0\xf4\xff\xff\xff\x01\0\0\0\0\0\0\0\0\0\0\0\0\0\0\0\x03\0\0\0\xdc\xff\xff\xff\x01\0\0\0\0\0\0\0\0\0\0\0\0\0\0\0\x05\0\0\0\xcc\xff\xff\xff\x02\0\0\0\0\0\0\0\0\0\0\0\0\0\0\0";
+    let text = text_of(rt.alloc(), archive)?;
+    assert_eq!(rt;
+        text.as_slice(),
+        b"list 2\nshared 'a\nshared 'a\n".as_slice()
+    );
+    Ok(())
+}
+
+#[test]
 fn archive_of_no_node_is_refused(rt: HostRuntime) {
     assert!(rt; root_of(rt.alloc(), b"\x09").is_err());
 }

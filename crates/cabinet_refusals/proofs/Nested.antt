@@ -3,10 +3,10 @@ use Rattle.std.proofs.Common.{◌≡◌, ℕ, zero, suc, ◌+◌, ◌<◌, ◌�
 use Rattle.std.specs.Prelude.{⊤}
 use Rattle.std.specs.List.{Contains, flat_map}
 use Rattle.std.proofs.lemmas.List.Elements.{Contains-append_left, Contains-append_right}
-use Rattle.archive_shape_layout.specs.Shape.{Pointee}
 use Rattle.archive_shape_layout.specs.Value.{Value, Values}
 use Rattle.archive_shape_layout.specs.Content.{Part, Span, Label, content_of}
-use Rattle.archive_shape_layout.specs.Content.Content.{plain, claimed, counting}
+use Rattle.archive_shape_layout.specs.Content.Part.{behind}
+use Rattle.archive_shape_layout.specs.Content.Content.{plain, claimed}
 use Rattle.archive_shape_layout.specs.Holds.{Region, region_of, Visit, OpenShared, Holds, HoldAll}
 use Rattle.archive_shape_layout.specs.Holds.Holds.{holds_plain, holds_claimed, holds_first, holds_later, holds_back}
 use Rattle.archive_shape_layout.specs.Holds.HoldAll.{holds_none, holds_more}
@@ -16,8 +16,8 @@ use Rattle.cabinet_documents.specs.Node.{node_names}
 use Rattle.cabinet_documents.specs.Walk.{Stop, Walks, WalkAll, is_container, depth_in, parts_of, joined}
 use Rattle.cabinet_documents.specs.Walk.Walks.{walks}
 use Rattle.cabinet_documents.specs.Walk.WalkAll.{walk_more}
-use Rattle.cabinet_documents.proofs.Places.{Place, box_here, absent_here, node_behind, nodes_behind, Spot, part_of, parts_at, nodes_from, is_behind, Passes, node_passes, box_passes, behind_passes, list_passes, text_passes, Pays, pays_truth, pays_number, pays_text, pays_option, pays_list, pays_absent, Follows, passes, pays, truth_is, number_is, text_is, behind_is, none_is, some_is, nodes_follow, Leads, leads_nowhere, leads_absent, leads_plain, leads_claimed, led}
-use Rattle.cabinet_documents.proofs.Nodes.{absent_law}
+use Rattle.cabinet_documents.proofs.Places.{Place, shared_here, box_here, absent_here, node_behind, nodes_behind, text_behind, Spot, part_of, parts_at, nodes_from, is_behind, Passes, node_passes, box_passes, behind_passes, list_passes, text_passes, Pays, pays_truth, pays_number, pays_text, pays_shared, pays_option, pays_list, pays_absent, Follows, passes, pays, truth_is, number_is, text_is, behind_is, none_is, some_is, nodes_follow, Leads, leads_nowhere, leads_absent, leads_plain, leads_claimed, leads_counted, led}
+use Rattle.cabinet_documents.proofs.Nodes.{absent_law, counts}
 
 -- ---- how many regions may lie around a place inside so many containers
 
@@ -56,6 +56,7 @@ pays_fit : {tag : ℕ} {j : Place} → Pays tag j → spare j ≡ 1
 pays_fit pays_truth = refl
 pays_fit pays_number = refl
 pays_fit pays_text = refl
+pays_fit pays_shared = refl
 pays_fit pays_option = refl
 pays_fit pays_list = refl
 pays_fit (pays_absent z) = refl
@@ -147,6 +148,7 @@ module _ (bytes : List ℕ) where
       let g = ap (content_of node_names bytes) is in
       record { qs = qs; parts_are = cc; fit = subst (λ x. Fit level (depth_in depth x) qs) (sym is) (plain_fit level depth pos fs h) }
   plain_next level depth k pos (leads_claimed f fs b) present is e h = let g = ap (content_of node_names bytes) is in absurd (cc)
+  plain_next level depth k pos (leads_counted f) present is e h = let g = ap (content_of node_names bytes) is in absurd (cc)
 
   record NextBehind (level depth : ℕ) (p : Part) (s : Span) (l : Label) (ps : List Part) : Type 0 where
     next : Next (suc level) depth p l ps
@@ -157,6 +159,7 @@ module _ (bytes : List ℕ) where
   claimed_next level depth k pos (leads_nowhere f) present is e h = let g = ap (content_of node_names bytes) is in absurd (cc)
   claimed_next level depth absent_here pos leads_absent present is e h = absurd (present refl)
   claimed_next level depth k pos (leads_plain f fs) present is e h = let g = ap (content_of node_names bytes) is in absurd (cc)
+  claimed_next level depth k pos (leads_counted f) present is e h = let g = ap (content_of node_names bytes) is in absurd (cc)
   claimed_next level depth k pos {s = s} {l = l} {ps = ps} (leads_claimed {l = l'} {qs = qs} f fs b) present is e h =
       let g = ap (content_of node_names bytes) is in
       let label : l' ≡ l = cc in
@@ -164,13 +167,6 @@ module _ (bytes : List ℕ) where
         next = record { qs = qs; parts_are = cc; fit = subst (λ x. Fit (suc level) (depth_in depth x) qs) (sym is) (claimed_fit level depth pos fs b h) };
         flat_is = λ runs. subst (λ x. joined (claimed s x ps) runs ≡ flat runs) label (in_order s ps runs fs);
       }
-
-  uncounted : (k : Place) (pos : ℕ) {p : Part} {cyclic : Bool} {t len : ℕ} {q : Pointee} → Leads bytes k (content_of node_names bytes (part_of k pos)) → (k ≡ absent_here → ⊥)
-      → p ≡ part_of k pos → content_of node_names bytes p ≡ counting cyclic t q len → ⊥
-  uncounted k pos (leads_nowhere f) present is e = let g = ap (content_of node_names bytes) is in cc
-  uncounted absent_here pos leads_absent present is e = present refl
-  uncounted k pos (leads_plain f fs) present is e = let g = ap (content_of node_names bytes) is in cc
-  uncounted k pos (leads_claimed f fs b) present is e = let g = ap (content_of node_names bytes) is in cc
 
   present_there : (k : Place) (pos : ℕ) {level : ℕ} {inside : List OpenShared} {p : Part} {v : Value} {regions : List Region} {before after : List Visit}
       → Holds node_names bytes level inside p v regions before after → p ≡ part_of k pos → k ≡ absent_here → ⊥
@@ -180,6 +176,24 @@ module _ (bytes : List ℕ) where
   region_nests : (level depth : ℕ) (k : Place) (s : Span) → depth ≤ 64 → level ≤ depth + spare k → NestsBelow 66 (region_of s level ∷ [])
   unfolding NestsBelow
   region_nests level depth k s low h = let z = spare_low (is_between k) in (omega (arith, z, low, h), tt)
+
+  -- no more regions lie around a shared text than around the pointer to it
+  counted_fit : (level depth : ℕ) (k : Place) (pos : ℕ) {p : Part} → p ≡ part_of k pos → k ≡ shared_here → level ≤ depth + spare k → level ≤ depth_in depth p + 1
+  counted_fit level depth k pos is here h =
+      let there : level ≤ depth + spare shared_here = subst (λ j. level ≤ depth + spare j) here h in
+      subst (λ x. level ≤ depth_in depth x + 1) (sym (is ∙ ap (λ j. part_of j pos) here)) there
+
+  -- the walk of one part
+  record OneWalk (depth : ℕ) (p : Part) : Type 0 where
+    value : Value
+    walk : List Stop
+    walked : Walks node_names bytes depth p value walk
+    shallow : IsShallow walk
+
+  one_walk : {depth : ℕ} {p : Part} {ws : Values} {runs : List (List Stop)} → WalkAll node_names bytes depth (p ∷ []) ws runs → IsShallow (flat runs) → OneWalk depth p
+  one_walk (walk_more {v = v} {here = run} {later = others} w all f g) shallow =
+      let both : IsShallow (run ++ flat others) = subst (λ x. IsShallow (flat x)) g shallow in
+      record { value = v; walk = run; walked = w; shallow = λ s c. both s (Contains-append_left run (flat others) s c) }
 
   mutual
     unfolding NestsBelow
@@ -198,9 +212,13 @@ module _ (bytes : List ℕ) where
         let i = entered runs is_walk (ap (λ c. joined c runs) e ∙ b.flat_is runs) shallow low in
         let inner = all_nest all (subst (λ c. WalkAll node_names bytes (depth_in depth p) (parts_of c) ws runs) e wall) i.shallow i.low n.qs n.parts_are n.fit in
         subst (NestsBelow 66) (sym x) (NestsBelow-append 66 within (region_of s level ∷ []) inner (region_nests level depth k s low h))
-    nests (holds_first e a b h d g) walked shallow low k pos is fit = absurd (uncounted k pos (led bytes k pos) (present_there k pos (holds_first e a b h d g) is) is e)
-    nests {level = level} (holds_later e a b d g h) walked shallow low k pos is fit = absurd (uncounted k pos (led bytes k pos) (present_there k pos {level = level} (holds_later e a b d g h) is) is e)
-    nests {level = level} (holds_back e a d g h) walked shallow low k pos is fit = absurd (uncounted k pos (led bytes k pos) (present_there k pos {level = level} (holds_back e a d g h) is) is e)
+    nests {level = level} {depth = depth} {p = p} (holds_first {t = t} {q = q} {len = len} e a b h d g) (walks {vs = ws} {inner = runs} wall y is_walk) shallow low k pos is fit =
+        let c = counts bytes k pos (ap (content_of node_names bytes) (sym is) ∙ e) in
+        let i = entered runs is_walk (ap (λ x. joined x runs) e) shallow low in
+        let o = one_walk (subst (λ x. WalkAll node_names bytes (depth_in depth p) (parts_of x) ws runs) e wall) i.shallow in
+        nests h o.walked o.shallow i.low (text_behind len) t (ap (λ x. behind t x len) c.to_text) (counted_fit level depth k pos is c.here fit)
+    nests (holds_later e a b d g h) walked shallow low k pos is fit = subst (NestsBelow 66) (sym g) tt
+    nests (holds_back e a d g h) walked shallow low k pos is fit = subst (NestsBelow 66) (sym g) tt
 
     all_nest : {level depth : ℕ} {inside : List OpenShared} {ps : List Part} {vs ws : Values} {regions : List Region} {before after : List Visit} {runs : List (List Stop)}
         → HoldAll node_names bytes level inside ps vs regions before after → WalkAll node_names bytes depth ps ws runs → IsShallow (flat runs) → depth ≤ 64

@@ -1,7 +1,6 @@
 -- A document whose archive is made in memory, and written whole or in part.
 use Rattle.std.proofs.Common.{◌≡◌, ℕ, false, Ok, Err, List, [], ◌++◌, append-nil, ◌⊎◌, ⊎_elim, inl, refl, sym, ap, subst, ◌∙◌}
-use Rattle.std.specs.Prelude.{IsTrue, Result, Vec, IfOk, IfErr, OnOk, MatchResult}
-use Rattle.std.specs.Global.{Global}
+use Rattle.std.specs.Prelude.{IsTrue}
 use Rattle.archive_shape_writing.specs.declared.error.Error.{Error}
 use Rattle.archive_shape_writing.specs.declared.error.Error.TheVariants.{OutOfMemory}
 use Rattle.archive_shape_writing.specs.Writing.{WriterMembers, Cut, IsCounted}

@@ -27,7 +27,7 @@ pub(crate) fn has_layout(node: &Node) -> bool
         Node::Bool(_) => true,
         Node::Int(_) => true,
         Node::Text(_) => true,
-        Node::Shared(_) => false,
+        Node::Shared(_) => true,
         Node::Maybe(None) => true,
         Node::Maybe(Some(inner)) => has_layout(inner),
         Node::List(nodes) => have_layout(nodes.as_slice()),

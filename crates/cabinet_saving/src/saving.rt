@@ -11,6 +11,7 @@ use crate::layout::has_layout;
 use archive_core_serializing::Serializer;
 use archive_forms_writing::serialize_using;
 use archive_shape_writing::{Error, Writer};
+use cabinet_sharing::TextShare;
 use cabinet_text_nodes::{Document, Node};
 use std::alloc::Global;
 use thiserror::Error as Described;
@@ -18,7 +19,7 @@ use thiserror::Error as Described;
 /// Why a document was not saved.
 #[derive(Clone, Copy, Debug, PartialEq, Eq, Described)]
 pub enum SaveRefusal {
-    /// A shared text or a map stands in the document.
+    /// A map stands in the document.
     #[error("a kind of node has no layout yet")]
     Kind,
     /// A text, a count or a position is past what archives hold.
@@ -38,8 +39,8 @@ fn archive_in_memory(alloc: Global, root: &Node) -> Result<Vec<u8>, SaveRefusal>
         (λ bytes. ArchiveFits (node_tree root.now) × (bytes.items ≡ archive_of (node_tree root.now)))
         (IsUnmadeFor (node_tree root.now)) }
 {
-    let mut serializer = Serializer::new(Vec::new(alloc), alloc, ());
-    match serialize_using::<Node, Serializer<Vec<u8>, Global, ()>>(root, &mut serializer) {
+    let mut serializer = Serializer::new(Vec::new(alloc), alloc, TextShare::new(alloc));
+    match serialize_using::<Node, Serializer<Vec<u8>, Global, TextShare>>(root, &mut serializer) {
         Ok(_) => Ok(serializer.into_writer()),
         Err(e) => match e {
             Error::OutOfMemory => Err(SaveRefusal::OutOfMemory),

@@ -3,6 +3,7 @@
 use cabinet_saving::save;
 use cabinet_text_nodes::{Document, Node};
 use std::alloc::Global;
+use std::rc::RcStr;
 use std::test::Fail;
 
 /// The bytes that a document is saved as.
@@ -49,6 +50,35 @@ fn list_of_two(rt: HostRuntime) -> Result<(), Fail> {
     let bytes = image(rt.alloc(), Node::List(nodes))?;
     let expected =
         b"\x01\0\0\0\0\0\0\0\x07\0\0\0\0\0\0\0\0\0\0\0\0\0\0\0\x01\0\0\0\0\0\0\0\x13\0\0\0\0\0\0\0\0\0\0\0\0\0\0\0\x05\0\0\0\xcc\xff\xff\xff\x02\0\0\0\0\0\0\0\0\0\0\0\0\0\0\0";
+    assert_eq!(rt; bytes.as_slice(), expected.as_slice());
+    Ok(())
+}
+
+#[test]
+fn shared_text_stands_once(rt: HostRuntime) -> Result<(), Fail> {
+    let first = RcStr::from_str(rt.alloc(), "a")?;
+    let again = RcStr::from_str(rt.alloc(), "a")?;
+    let nodes = vec![in rt.alloc(); Node::Shared(first), Node::Shared(again)]?;
+    let bytes = image(rt.alloc(), Node::List(nodes))?;
+    let expected =
+        b"a\0\0\0\0\0\0\0\x03\0\0\0\xf4\xff\xff\xff\x01\0\0\0\0\0\0\0\0\0\0\0\0\0\0\0\x03\0\0\0\xdc\xff\xff\xff\x01\0\0\0\0\0\0\0\0\0\0\0\0\0\0\0\x05\0\0\0\xcc\xff\xff\xff\x02\0\0\0\0\0\0\0\0\0\0\0\0\0\0\0";
+    assert_eq!(rt; bytes.as_slice(), expected.as_slice());
+    Ok(())
+}
+
+#[test]
+fn empty_shared_text_stands_before_a_zero_byte(rt: HostRuntime) -> Result<(), Fail> {
+    let empty = RcStr::from_str(rt.alloc(), "")?;
+    let other = RcStr::from_str(rt.alloc(), "b")?;
+    let again = RcStr::from_str(rt.alloc(), "")?;
+    let nodes = vec![in rt.alloc();
+        Node::Shared(empty),
+        Node::Shared(other),
+        Node::Shared(again),
+    ]?;
+    let bytes = image(rt.alloc(), Node::List(nodes))?;
+    let expected =
+        b"\0b\0\0\0\0\0\0\x03\0\0\0\xf4\xff\xff\xff\0\0\0\0\0\0\0\0\0\0\0\0\0\0\0\0\x03\0\0\0\xdd\xff\xff\xff\x01\0\0\0\0\0\0\0\0\0\0\0\0\0\0\0\x03\0\0\0\xc4\xff\xff\xff\0\0\0\0\0\0\0\0\0\0\0\0\0\0\0\0\x05\0\0\0\xb4\xff\xff\xff\x03\0\0\0\0\0\0\0\0\0\0\0\0\0\0\0";
     assert_eq!(rt; bytes.as_slice(), expected.as_slice());
     Ok(())
 }

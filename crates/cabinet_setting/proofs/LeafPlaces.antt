@@ -21,9 +21,8 @@ use Rattle.cabinet_documents.specs.Node.{node_names, node_shape}
 use Rattle.cabinet_documents.specs.Denotes.{Denotes, tagged_value}
 use Rattle.cabinet_documents.specs.OwnBytes.{LeadsTo, leads_here, leads_inside, leads_place}
 use Rattle.cabinet_documents.specs.Laws.{payload_of}
-use Rattle.cabinet_documents.proofs.Places.{node_here}
-use Rattle.cabinet_documents.proofs.Nodes.{held}
-use Rattle.cabinet_documents.proofs.Known.{leaf_tag, Known, known_leaf, known_none, known_some, known_list, known, known_element, by_key}
+use Rattle.cabinet_documents.proofs.Nodes.{NodeValue}
+use Rattle.cabinet_documents.proofs.Known.{leaf_tag, Known, known_leaf, known_shared, known_none, known_some, known_list, known, known_element, by_key}
 use Rattle.cabinet_asking.specs.Way.{GoesTo, goes_nowhere, goes_on, steps_inside, steps_place}
 use Rattle.cabinet_setting.proofs.Standing.{PaidAt, paid_at, inside_at, element_at, TextAt, text_inline, text_out, text_at}
 
@@ -86,11 +85,11 @@ module _ (bytes : List ℕ) where
     pub stands : Stands node_names bytes part payload level around before (at pos node_shape) v (inner ++ 0 ∷ [])
     pub lies : LiesIn l to part
 
-  -- so it is at the rest of the path, wherever a node holds
+  -- so it is at the rest of the path, wherever a node holds with its value
   abbrev On : List Step → Leaf → Type 0
   On rest l =
       (pos level : ℕ) (around : List OpenShared) (v : Value) (regions : List Region) (before after : List Visit) (t : Tree)
-      → Denotes v t → Holds node_names bytes level around (at pos node_shape) v regions before after → node_at t rest ≡ Some (leaf l) → LeafFound level around before pos v rest l
+      → NodeValue bytes v → Denotes v t → Holds node_names bytes level around (at pos node_shape) v regions before after → node_at t rest ≡ Some (leaf l) → LeafFound level around before pos v rest l
 
   module _ (l : Leaf) {level pos : ℕ} {around : List OpenShared} {v : Value} {regions : List Region} {before after : List Visit} {t : Tree}
       (h : Holds node_names bytes level around (at pos node_shape) v regions before after)
@@ -110,6 +109,7 @@ module _ (bytes : List ℕ) where
             stands = p.stands;
             lies = subst (λ x. LiesIn x pos p.part) same p.lies;
           }
+      ends_here (known_shared e f) g = absurd (cc)
       ends_here (known_none e f) g = absurd (cc)
       ends_here (known_some e f n d) g = absurd (cc)
       ends_here (known_list e f ns ds) g = absurd (cc)
@@ -117,12 +117,13 @@ module _ (bytes : List ℕ) where
       in_option : (rest : List Step) → On rest l → Known bytes v t → node_at t (inside ∷ rest) ≡ Some (leaf l) → LeafFound level around before pos v (inside ∷ rest) l
       unfolding align_up
       in_option rest on (known_leaf m e f) g = let k = subst (λ x. node_at x (inside ∷ rest) ≡ Some (leaf l)) f g in absurd (cc)
+      in_option rest on (known_shared e f) g = let k = subst (λ x. node_at x (inside ∷ rest) ≡ Some (leaf l)) f g in absurd (cc)
       in_option rest on (known_none e f) g = let k = subst (λ x. node_at x (inside ∷ rest) ≡ Some (leaf l)) f g in absurd (cc)
       in_option rest on (known_some {w = w} {u = u} e f n d) g =
           let k : node_at u rest ≡ Some (leaf l) = subst (λ x. node_at x (inside ∷ rest) ≡ Some (leaf l)) f g in
           let p = paid_at bytes pos 4 (tagged_value 1 w) e h 4 (option (box (sized node_shape))) refl refl in
           let s = inside_at bytes (pos + 4) w refl p.holds in
-          let r = on s.to _ _ w s.regions _ _ u d s.holds k in
+          let r = on s.to _ _ w s.regions _ _ u n d s.holds k in
           let eight : pos + 4 + 4 ≡ pos + 8 = omega arith in
           record {
             to = r.to;
@@ -140,13 +141,14 @@ module _ (bytes : List ℕ) where
       in_list : (i : ℕ) (rest : List Step) → On rest l → Known bytes v t → node_at t (place i ∷ rest) ≡ Some (leaf l) → LeafFound level around before pos v (place i ∷ rest) l
       unfolding align_up
       in_list i rest on (known_leaf m e f) g = let k = subst (λ x. node_at x (place i ∷ rest) ≡ Some (leaf l)) f g in absurd (cc)
+      in_list i rest on (known_shared e f) g = let k = subst (λ x. node_at x (place i ∷ rest) ≡ Some (leaf l)) f g in absurd (cc)
       in_list i rest on (known_none e f) g = let k = subst (λ x. node_at x (place i ∷ rest) ≡ Some (leaf l)) f g in absurd (cc)
       in_list i rest on (known_some e f n d) g = let k = subst (λ x. node_at x (place i ∷ rest) ≡ Some (leaf l)) f g in absurd (cc)
       in_list i rest on (known_list {vs = vs} {ts = ts} e f ns ds) g =
           let k = known_element i rest (leaf l) ns ds (subst (λ x. node_at x (place i ∷ rest) ≡ Some (leaf l)) f g) in
           let p = paid_at bytes pos 5 (group vs) e h 4 (vector node_shape) refl refl in
           let s = element_at bytes (pos + 4) i k.value vs refl k.there p.holds in
-          let r = on _ _ _ k.value s.regions s.since s.until k.tree k.denotes s.holds k.found in
+          let r = on _ _ _ k.value s.regions s.since s.until k.tree k.node k.denotes s.holds k.found in
           record {
             to = r.to;
             way = goes_on {to = r.to} refl (steps_place refl s.points refl) r.way;
@@ -160,7 +162,7 @@ module _ (bytes : List ℕ) where
           }
 
   pub leaf_found : (path : List Step) (l : Leaf) → On path l
-  leaf_found [] l pos level around v regions before after t d h g = ends_here l h (known (held bytes h node_here pos refl).value d) g
-  leaf_found (inside ∷ rest) l pos level around v regions before after t d h g = in_option l h rest (leaf_found rest l) (known (held bytes h node_here pos refl).value d) g
-  leaf_found (place i ∷ rest) l pos level around v regions before after t d h g = in_list l h i rest (leaf_found rest l) (known (held bytes h node_here pos refl).value d) g
-  leaf_found (key k ∷ rest) l pos level around v regions before after t d h g = absurd (by_key l k rest (known (held bytes h node_here pos refl).value d) g)
+  leaf_found [] l pos level around v regions before after t n d h g = ends_here l h (known n d) g
+  leaf_found (inside ∷ rest) l pos level around v regions before after t n d h g = in_option l h rest (leaf_found rest l) (known n d) g
+  leaf_found (place i ∷ rest) l pos level around v regions before after t n d h g = in_list l h i rest (leaf_found rest l) (known n d) g
+  leaf_found (key k ∷ rest) l pos level around v regions before after t n d h g = absurd (by_key l k rest (known n d) g)

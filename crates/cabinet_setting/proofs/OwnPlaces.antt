@@ -14,6 +14,8 @@ use Rattle.cabinet_text_grammar.specs.Answering.{fits}
 use Rattle.cabinet_documents.specs.Node.{node_shape, own_bytes}
 use Rattle.cabinet_documents.specs.Accepted.{Accepted}
 use Rattle.cabinet_documents.specs.OwnBytes.{OwnBytes, IsOwn, own_truth, own_number, own_inline, own_behind}
+use Rattle.cabinet_documents.proofs.Places.{node_behind}
+use Rattle.cabinet_documents.proofs.Nodes.{none_seen, held}
 use Rattle.cabinet_documents.proofs.Steps.{behind_below}
 use Rattle.cabinet_asking.specs.Way.{StepsTo, steps_inside, steps_place, GoesTo, goes_nowhere, goes_on}
 use Rattle.cabinet_setting.specs.Putting.{BeginsAt}
@@ -70,7 +72,7 @@ module _ (bytes : List ℕ) where
   own_there t path old new start to a there f way begins =
       let pos = root_position (length bytes) node_shape in
       let b = behind_below bytes pos a.root.holds in
-      let r = leaf_found bytes path old pos 1 [] a.value b.regions [] a.visits t a.denotes b.holds there in
+      let r = leaf_found bytes path old pos 1 [] a.value b.regions [] a.visits t (held bytes a.root.holds node_behind pos refl (none_seen bytes)).value a.denotes b.holds there in
       let same_place : to ≡ r.to = one_way way r.way in
       record {
         node = r.node;

@@ -1,5 +1,5 @@
 -- What is written of a document is its image.
-use Rattle.std.proofs.Common.{◌≡◌, ℕ, ◌+◌, ◌<◌, ◌≤◌, ◌^◌, List, [], ◌∷◌, ◌++◌, length, None, refl, sym, ap, subst, ◌∙◌, arith}
+use Rattle.std.proofs.Common.{◌≡◌, ℕ, ◌+◌, ◌<◌, ◌≤◌, ◌^◌, List, [], ◌∷◌, ◌++◌, length, refl, sym, ap, subst, ◌∙◌, arith}
 use Rattle.std.specs.List.{All}
 use Rattle.std.proofs.lemmas.List.Elements.{All-nil, All-cons, All-contains}
 use Rattle.archive_shape_layout.specs.Shape.Pointee.{sized}
@@ -10,19 +10,19 @@ use Rattle.archive_shape_layout.specs.Holds.{Region, Visit, OpenShared, Holds, A
 use Rattle.archive_shape_layout.specs.Holds.Holds.{holds_plain, holds_claimed, holds_first, holds_later, holds_back}
 use Rattle.archive_shape_canonical.specs.FirstFit.{first_fit}
 use Rattle.archive_hash_layout.specs.Hash.{text_hash}
-use Rattle.archive_forms_spelling.specs.State.{Keys, AreOneToOne, initial}
+use Rattle.archive_forms_spelling.specs.State.{initial}
 use Rattle.archive_forms_spelling.specs.Regions.{region_fits, region_piece}
 use Rattle.archive_forms_spelling.proofs.Regions.{region_end}
 use Rattle.archive_shape_canonical.specs.Sharing.{erased}
 use Rattle.archive_forms_spelling.proofs.Written.{is_written, written_once_law}
 use Rattle.cabinet_text_grammar.specs.Tree.{Tree}
 use Rattle.cabinet_documents.specs.Node.{KnowsNode, node_shape, node_names}
-use Rattle.cabinet_documents.specs.Denotes.{Denotes}
 use Rattle.cabinet_documents.proofs.Standing.{sound_walk}
 use Rattle.cabinet_spelling.specs.Spelling.{node_spelling}
 use Rattle.cabinet_spelling.specs.Laws.{WrittenIsImage, OneImage}
 use Rattle.cabinet_spelling.proofs.Levels.{node_spells_law}
-use Rattle.cabinet_spelling.proofs.Values.{node_agrees, denoted, one_value_law}
+use Rattle.cabinet_spelling.proofs.Values.{text_keys, text_keys_differ, node_agrees, one_value_law}
+use Rattle.cabinet_spelling.proofs.Denoted.{denoted}
 use Rattle.cabinet_spelling.proofs.Layouts.{fitting_has_layout_law}
 
 -- ---- where regions begin
@@ -66,12 +66,6 @@ root_begins bytes pos high (holds_back e x f g h) is a = absurd (let f = ap (con
 
 -- ---- the whole
 
-abbrev no_keys : Keys
-no_keys k = None
-
-none_to_none : AreOneToOne no_keys
-none_to_none k l a b e f same_type same = absurd (cc)
-
 -- the root stands where it was written
 root_low : (t : Tree) (bytes : List ℕ) → region_fits node_spelling node_shape (t ∷ []) initial
     → bytes ≡ region_piece node_spelling node_shape (t ∷ []) initial → root_position (length bytes) node_shape < 2 ^ 32
@@ -88,12 +82,12 @@ written_is_image_law t bytes document f e =
     let layout = fitting_has_layout_law t initial f.0.0 in
     let fit = first_fit text_hash in
     let agrees = node_agrees t in
-    let written = is_written fit node_shape KnowsNode node_spelling t node_names no_keys bytes (node_spells_law fit) refl (agrees.suits fit no_keys) none_to_none f e in
+    let written = is_written fit node_shape KnowsNode node_spelling t node_names text_keys bytes (node_spells_law fit) refl (agrees.suits fit) text_keys_differ f e in
     let archive = written.archive in
     let v = node_spelling.value t initial in
     let root = archive.canonical.root in
     let pos = root_position (length bytes) node_shape in
-    let denotes : Denotes v t = subst (λ w. Denotes w t) (sym (agrees.value initial)) (denoted t layout) in
+    let denotes = denoted t v layout (written.plain ∙ agrees.plain) in
     let walk = sound_walk bytes t v archive.regions archive.visits root denotes document in
     let low = root_low t bytes f e in
     let begins = root_begins bytes pos (length bytes) root.holds refl root.ascends in
@@ -117,8 +111,8 @@ pub one_image_law : OneImage
 one_image_law t bytes others layout i k =
     let a = i.accepted in
     let b = k.accepted in
-    let same : a.value ≡ b.value = one_value_law a.value t layout a.denotes ∙ sym (one_value_law b.value t layout b.denotes) in
+    let same : erased a.value ≡ erased b.value = one_value_law a.value t layout a.denotes ∙ sym (one_value_law b.value t layout b.denotes) in
     written_once_law (first_fit text_hash) node_names bytes others node_shape a.value b.value
     (record { regions = a.regions; visits = a.visits; canonical = i.canonical })
     (record { regions = b.regions; visits = b.visits; canonical = k.canonical })
-    (ap erased same)
+    same

@@ -24,7 +24,7 @@ module _ (w : Spelling Tree NodeResolver) where
   level_laid : (n : ℕ) → ((y : Tree) → suc (depth y) ≤ n → (st : State) → w.piece_fits y st → HasLayout y)
       → (t : Tree) → depth t ≤ n → (st : State) → (node_level w).piece_fits t st → HasLayout t
   level_laid n each (leaf l) less st f = tt
-  level_laid n each (shared s) less st f = f
+  level_laid n each (shared s) less st f = tt
   level_laid n each nothing less st f = tt
   level_laid n each (just t) less st f = each t less st f.0.0
   level_laid zero each (list ts) less st f = absurd (omega (arith, less))
@@ -52,7 +52,7 @@ module _ (w : Spelling Tree NodeResolver) where
   level_decided : (n : ℕ) → ((y : Tree) → suc (depth y) ≤ n → (st : State) → HasLayout y ⊎ w.piece_refused y st InvalidTag)
       → (t : Tree) → depth t ≤ n → (st : State) → HasLayout t ⊎ (node_level w).piece_refused t st InvalidTag
   level_decided n each (leaf l) less st = inl tt
-  level_decided n each (shared s) less st = inr refl
+  level_decided n each (shared s) less st = inl tt
   level_decided n each nothing less st = inl tt
   level_decided n each (just t) less st = ⊎_elim (λ h. inl h) (λ h. inr (inl (inl h))) (each t less st)
   level_decided zero each (list ts) less st = absurd (omega (arith, less))

@@ -1,11 +1,12 @@
 -- What is written of a node is what the layout reads, and is canonical.
-use Rattle.std.proofs.Common.{◌≡◌, ℕ, suc, true, ◌≤◌, ◌<◌, Some, None, refl, arith}
+use Rattle.std.proofs.Common.{◌≡◌, ℕ, suc, true, false, ◌≤◌, ◌<◌, Some, None, refl, arith}
 use Rattle.std.proofs.Math.Nat.{le-max_left, le-max_right}
 use Rattle.std.specs.Int.{w64, to_le_bytes, cast_unsigned}
 use Rattle.archive_shape_layout.specs.Bytes.{align_up}
 use Rattle.archive_shape_layout.specs.Shape.{Shape, align_of, size_of}
 use Rattle.archive_shape_layout.specs.Shape.Alignment.{eight}
-use Rattle.archive_shape_layout.specs.Shape.Shape.{number, truth, text, option, choice, vector}
+use Rattle.archive_shape_layout.specs.Shape.Shape.{number, truth, text, option, choice, vector, shared as shared_shape}
+use Rattle.archive_shape_layout.specs.Shape.Pointee.{str}
 use Rattle.archive_shape_layout.specs.Value.Value.{integer, boolean}
 use Rattle.archive_shape_layout.specs.Content.{shape_tagged}
 use Rattle.archive_shape_native.specs.Numbers.{truth_bytes}
@@ -16,19 +17,22 @@ use Rattle.archive_forms_spelling.specs.Forms.{seen_as}
 use Rattle.archive_forms_spelling.specs.Pointers.{slice_spelling, box_spelling}
 use Rattle.archive_forms_spelling.specs.Payloads.{payload_spelling}
 use Rattle.archive_forms_spelling.specs.Texts.{text_spelling}
+use Rattle.archive_forms_spelling.specs.Shared.{shared_text_spelling}
 use Rattle.archive_forms_spelling.proofs.Leaves.{leaf_spells}
 use Rattle.archive_forms_spelling.proofs.Levels.{named_spells_at, self_spells}
 use Rattle.archive_forms_spelling.proofs.Options.{none_spells, some_spells}
 use Rattle.archive_forms_spelling.proofs.Payloads.{variant_spells_at}
 use Rattle.archive_forms_spelling.proofs.Pointers.{box_spells_at, slice_spells_at}
 use Rattle.archive_forms_spelling.proofs.Texts.{text_spells}
+use Rattle.archive_forms_spelling.proofs.Shared.{shared_text_spells}
 use Rattle.archive_forms_spelling.proofs.Views.{kept_spells_at, seen_spells_at}
+use Rattle.cabinet_text_keys.specs.TextKey.{text_key}
 use Rattle.cabinet_text_grammar.specs.Tree as document
 use Rattle.cabinet_text_grammar.specs.Tree.{Tree, Trees, leaf, shared, nothing, just, list, map, no_trees, more_trees, depth, most_depth}
 use Rattle.cabinet_documents.specs.Node.{KnowsNode, node_shape, payloads}
 use Rattle.cabinet_spelling.specs.declared.resolver.NodeResolver.{NodeResolver}
 use Rattle.cabinet_spelling.specs.declared.resolver.NodeResolver.TheVariants as resolver
-use Rattle.cabinet_spelling.specs.Spelling.{truth_spelling, number_spelling, string_spelling, boxed_shape, boxed_spelling, maybe_spelling, list_spelling, trees_in, text_in, maybe_in, list_in, node_of, refused, spelling_of, node_level}
+use Rattle.cabinet_spelling.specs.Spelling.{truth_spelling, number_spelling, string_spelling, shared_string_spelling, boxed_shape, boxed_spelling, maybe_spelling, list_spelling, trees_in, text_in, shared_in, maybe_in, list_in, node_of, refused, spelling_of, node_level}
 use Rattle.cabinet_spelling.specs.Laws.{NodeSpells}
 
 module _ (fit : Fit) where
@@ -74,7 +78,9 @@ module _ (fit : Fit) where
     case_spells n (leaf (document.text s)) less below =
         node_of_spells 2 text string_spelling resolver.Text text_in (λ r. refl) (omega arith) refl s (leaf (document.text s))
         (kept_spells_at fit text KnowsNode _ _ (λ r. refl) text_spelling s (text_spells fit KnowsNode s))
-    case_spells n (shared s) less below = refused_spells (shared s)
+    case_spells n (shared s) less below =
+        node_of_spells 3 (shared_shape false str) shared_string_spelling resolver.Shared shared_in (λ r. refl) (omega arith) refl s (shared s)
+        (kept_spells_at fit (shared_shape false str) KnowsNode _ _ (λ r. refl) (shared_text_spelling text_key) s (shared_text_spells fit false KnowsNode text_key s))
     case_spells n nothing less below =
         node_of_spells 4 (option boxed_shape) (maybe_spelling w) resolver.Maybe maybe_in (λ r. refl) (omega arith) refl None nothing
         (none_spells fit boxed_shape KnowsNode (boxed_spelling w))

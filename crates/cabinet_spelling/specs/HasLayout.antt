@@ -2,11 +2,11 @@
 use Rattle.std.specs.Prelude.{⊤}
 use Rattle.cabinet_text_grammar.specs.Tree.{Tree, leaf, shared, nothing, just, list, map, Trees, no_trees, more_trees}
 
--- those without shared texts and maps
+-- those without maps
 abbrev mutual
   pub HasLayout : Tree → Type 0
   HasLayout (leaf l) = ⊤
-  HasLayout (shared s) = ⊥
+  HasLayout (shared s) = ⊤
   HasLayout nothing = ⊤
   HasLayout (just t) = HasLayout t
   HasLayout (list ts) = HaveLayout ts

@@ -2,6 +2,7 @@
 use Rattle.std.specs.Prelude.{◌≡◌, pos, List, ℕ, [], ◌∷◌, Result}
 use Rattle.archive_shape_layout.specs.Value.{Value}
 use Rattle.archive_shape_canonical.specs.Settled.{Fit}
+use Rattle.archive_shape_canonical.specs.Sharing.{erased}
 use Rattle.archive_shape_writing.specs.Writing.{WriterMembers}
 use Rattle.archive_shape_writing.specs.declared.error.Error.{Error}
 use Rattle.archive_shape_writing.specs.declared.error.Error.TheVariants.{InvalidTag}
@@ -9,7 +10,7 @@ use Rattle.archive_forms_spelling.specs.State.{State, initial}
 use Rattle.archive_forms_spelling.specs.Spells.{Spells}
 use Rattle.archive_forms_spelling.specs.Serializing.{Serializes}
 use Rattle.archive_forms_spelling.specs.Regions.{region_fits, region_piece}
-use Rattle.cabinet_text_grammar.specs.Tree.{Tree, IsDocument, leaf, number, list, no_trees, more_trees}
+use Rattle.cabinet_text_grammar.specs.Tree.{Tree, IsDocument, leaf, number, shared, list, no_trees, more_trees}
 use Rattle.cabinet_documents.specs.Node.{node_shape, KnowsNode}
 use Rattle.cabinet_documents.specs.Denotes.{Denotes}
 use Rattle.cabinet_documents.specs.Image.{Image}
@@ -25,9 +26,9 @@ NodeSpells = (fit : Fit) → Spells fit node_shape KnowsNode node_spelling
 abbrev pub ValueDenotes : Type 0
 ValueDenotes = (t : Tree) → HasLayout t → Denotes (node_value t) t
 
--- and no other value does
+-- and no other value does, but for where shared texts stand
 abbrev pub OneValue : Type 0
-OneValue = (v : Value) (t : Tree) → HasLayout t → Denotes v t → v ≡ node_value t
+OneValue = (v : Value) (t : Tree) → HasLayout t → Denotes v t → erased v ≡ node_value t
 
 -- all that writing a document makes where nothing was written before
 abbrev pub archive_of : Tree → List ℕ
@@ -71,8 +72,21 @@ list_of_five_bytes =
     1 ∷ 0 ∷ 0 ∷ 0 ∷ 0 ∷ 0 ∷ 0 ∷ 0 ∷ 5 ∷ 0 ∷ 0 ∷ 0 ∷ 0 ∷ 0 ∷ 0 ∷ 0 ∷ 0 ∷ 0 ∷ 0 ∷ 0 ∷ 0 ∷ 0 ∷ 0 ∷ 0
     ∷ 5 ∷ 0 ∷ 0 ∷ 0 ∷ 228 ∷ 255 ∷ 255 ∷ 255 ∷ 1 ∷ 0 ∷ 0 ∷ 0 ∷ 0 ∷ 0 ∷ 0 ∷ 0 ∷ 0 ∷ 0 ∷ 0 ∷ 0 ∷ 0 ∷ 0 ∷ 0 ∷ 0 ∷ []
 
+-- the shared text "a", twice
+abbrev pub shared_twice : Tree
+shared_twice = list (more_trees (shared (97 ∷ [])) (more_trees (shared (97 ∷ [])) no_trees))
+
+-- its one byte at 0, the elements at 8 and 32 with the offsets of -12 at 12 and of -36 at 36, and the list at 56
+abbrev pub shared_twice_bytes : List ℕ
+shared_twice_bytes =
+    97 ∷ 0 ∷ 0 ∷ 0 ∷ 0 ∷ 0 ∷ 0 ∷ 0
+    ∷ 3 ∷ 0 ∷ 0 ∷ 0 ∷ 244 ∷ 255 ∷ 255 ∷ 255 ∷ 1 ∷ 0 ∷ 0 ∷ 0 ∷ 0 ∷ 0 ∷ 0 ∷ 0 ∷ 0 ∷ 0 ∷ 0 ∷ 0 ∷ 0 ∷ 0 ∷ 0 ∷ 0
+    ∷ 3 ∷ 0 ∷ 0 ∷ 0 ∷ 220 ∷ 255 ∷ 255 ∷ 255 ∷ 1 ∷ 0 ∷ 0 ∷ 0 ∷ 0 ∷ 0 ∷ 0 ∷ 0 ∷ 0 ∷ 0 ∷ 0 ∷ 0 ∷ 0 ∷ 0 ∷ 0 ∷ 0
+    ∷ 5 ∷ 0 ∷ 0 ∷ 0 ∷ 204 ∷ 255 ∷ 255 ∷ 255 ∷ 2 ∷ 0 ∷ 0 ∷ 0 ∷ 0 ∷ 0 ∷ 0 ∷ 0 ∷ 0 ∷ 0 ∷ 0 ∷ 0 ∷ 0 ∷ 0 ∷ 0 ∷ 0 ∷ []
+
 abbrev pub SamplesAreSpelled : Type 0
-SamplesAreSpelled = (archive_of five ≡ bytes_five) × (archive_of (list (more_trees five no_trees)) ≡ list_of_five_bytes)
+SamplesAreSpelled =
+    (archive_of five ≡ bytes_five) × (archive_of (list (more_trees five no_trees)) ≡ list_of_five_bytes) × (archive_of shared_twice ≡ shared_twice_bytes)
 
 abbrev pub SamplesAreImages : Type 0
-SamplesAreImages = Image five bytes_five × Image (list (more_trees five no_trees)) list_of_five_bytes
+SamplesAreImages = Image five bytes_five × Image (list (more_trees five no_trees)) list_of_five_bytes × Image shared_twice shared_twice_bytes

@@ -1,10 +1,10 @@
 -- How documents are archived, by their kinds.
-use Rattle.std.specs.Prelude.{◌≡◌, ℕ, ℤ, Bool, true, List, [], ◌∷◌, Option, Some, None, ⊤}
+use Rattle.std.specs.Prelude.{◌≡◌, ℕ, ℤ, Bool, true, false, List, [], ◌∷◌, Option, Some, None, ⊤}
 use Rattle.std.specs.Int.{w64, to_le_bytes, cast_unsigned}
 use Rattle.archive_shape_layout.specs.Bytes.{align_up}
 use Rattle.archive_shape_layout.specs.Shape.{Shape, size_of, align_of}
-use Rattle.archive_shape_layout.specs.Shape.Shape.{number, truth, text, option, choice, box, vector}
-use Rattle.archive_shape_layout.specs.Shape.Pointee.{sized}
+use Rattle.archive_shape_layout.specs.Shape.Shape.{number, truth, text, option, choice, box, vector, shared as shared_shape}
+use Rattle.archive_shape_layout.specs.Shape.Pointee.{sized, str}
 use Rattle.archive_shape_layout.specs.Value.{Value}
 use Rattle.archive_shape_layout.specs.Value.Value.{integer, boolean, group}
 use Rattle.archive_shape_layout.specs.Value.Values.{no_values}
@@ -16,10 +16,13 @@ use Rattle.archive_forms_spelling.specs.Pointers.{box_spelling, slice_spelling}
 use Rattle.archive_forms_spelling.specs.Options.{option_spelling}
 use Rattle.archive_forms_spelling.specs.Payloads.{payload_spelling}
 use Rattle.archive_forms_spelling.specs.Texts.{text_spelling}
+use Rattle.archive_forms_spelling.specs.Shared.{shared_text_spelling}
 use Rattle.archive_forms_spelling.specs.Levels.{self_spelling}
 use Rattle.archive_forms_reading.specs.declared.resolving.BoxResolver.{BoxResolver}
 use Rattle.archive_forms_reading.specs.declared.resolving.VecResolver.{VecResolver}
 use Rattle.archive_forms_text.specs.declared.resolving.StringResolver.{StringResolver}
+use Rattle.archive_forms_rc.specs.declared.resolving.RcResolver.{RcResolver}
+use Rattle.cabinet_text_keys.specs.TextKey.{text_key}
 use Rattle.cabinet_text_grammar.specs.Tree as document
 use Rattle.cabinet_text_grammar.specs.Tree.{Tree, Trees, leaf, shared, nothing, just, list, map, no_trees, more_trees, depth}
 use Rattle.cabinet_documents.specs.Node.{node_shape, payloads}
@@ -36,6 +39,10 @@ number_spelling = leaf_spelling (number w64 true) (λ n. to_le_bytes w64 (cast_u
 
 abbrev pub string_spelling : Spelling (List ℕ) StringResolver
 string_spelling = kept_as (λ n. record { pos = n }) (λ r. r.pos) text_spelling
+
+-- a counted pointer to a text, which stands once under the text's number
+abbrev pub shared_string_spelling : Spelling (List ℕ) RcResolver
+shared_string_spelling = kept_as (λ n. record { pos = n }) (λ r. r.pos) (shared_text_spelling text_key)
 
 abbrev pub boxed_shape : Shape
 boxed_shape = box (sized node_shape)
@@ -59,6 +66,10 @@ trees_in (more_trees t ts) = t ∷ trees_in ts
 abbrev pub text_in : NodeResolver → StringResolver
 text_in (resolver.Text r) = r
 text_in _ = record { pos = 0 }
+
+abbrev pub shared_in : NodeResolver → RcResolver
+shared_in (resolver.Shared r) = r
+shared_in _ = record { pos = 0 }
 
 abbrev pub maybe_in : NodeResolver → Option BoxResolver
 maybe_in (resolver.Maybe r) = r
@@ -96,7 +107,7 @@ abbrev pub spelling_of : Spelling Tree NodeResolver → Tree → Spelling Tree N
 spelling_of w (leaf (document.truth b)) = node_of 0 truth truth_spelling (λ _. resolver.Leaf) (λ _. tt) b
 spelling_of w (leaf (document.number n)) = node_of 1 (number w64 true) number_spelling (λ _. resolver.Leaf) (λ _. tt) n
 spelling_of w (leaf (document.text s)) = node_of 2 text string_spelling resolver.Text text_in s
-spelling_of w (shared s) = refused
+spelling_of w (shared s) = node_of 3 (shared_shape false str) shared_string_spelling resolver.Shared shared_in s
 spelling_of w nothing = node_of 4 (option boxed_shape) (maybe_spelling w) resolver.Maybe maybe_in None
 spelling_of w (just t) = node_of 4 (option boxed_shape) (maybe_spelling w) resolver.Maybe maybe_in (Some t)
 spelling_of w (list ts) = node_of 5 (vector node_shape) (list_spelling w) resolver.List list_in (trees_in ts)

@@ -41,7 +41,7 @@ pub fn one_image()
     ensures { OneImage }
 {}
 
-/// The number five, and a list of it, are written as these bytes.
+/// The number five, a list of it, and a list of one shared text twice, are written as these bytes.
 pub fn samples_are_spelled()
     ensures { SamplesAreSpelled }
 {}

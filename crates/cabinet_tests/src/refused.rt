@@ -15,6 +15,10 @@ const TWO: [u8; 72] =
 const TWO_OPTIONS: [u8; 120] =
     *b"\x01\0\0\0\0\0\0\0\x01\0\0\0\0\0\0\0\0\0\0\0\0\0\0\0\x01\0\0\0\0\0\0\0\x02\0\0\0\0\0\0\0\0\0\0\0\0\0\0\0\x04\0\0\0\x01\0\0\0\xc8\xff\xff\xff\0\0\0\0\0\0\0\0\0\0\0\0\x04\0\0\0\x01\0\0\0\xc8\xff\xff\xff\0\0\0\0\0\0\0\0\0\0\0\0\x05\0\0\0\xcc\xff\xff\xff\x02\0\0\0\0\0\0\0\0\0\0\0\0\0\0\0";
 
+/// The archive of a list of the shared text `hello world!` twice.
+const TWO_SHARED: [u8; 88] =
+    *b"hello world!\0\0\0\0\x03\0\0\0\xec\xff\xff\xff\x0c\0\0\0\0\0\0\0\0\0\0\0\0\0\0\0\x03\0\0\0\xd4\xff\xff\xff\x0c\0\0\0\0\0\0\0\0\0\0\0\0\0\0\0\x05\0\0\0\xcc\xff\xff\xff\x02\0\0\0\0\0\0\0\0\0\0\0\0\0\0\0";
+
 /// An option of the node right before it.
 const SOME: [u8; 24] = *b"\x04\0\0\0\x01\0\0\0\xe0\xff\xff\xff\0\0\0\0\0\0\0\0\0\0\0\0";
 
@@ -26,7 +30,7 @@ fn lists_that_are_no_archive_are_refused(rt: HostRuntime) {
     unaligned[52] = 0xce;
     unaligned[56] = 1;
     let mut without_a_layout = TWO;
-    without_a_layout[0] = 3;
+    without_a_layout[0] = 6;
     let cases: [([u8; 72], Error); 3] = [
         (ahead, Error::InvalidSubtreePointer { size: 48 }),
         (unaligned, Error::Unaligned { align: 8 }),
@@ -53,10 +57,35 @@ fn an_option_that_leads_to_the_node_of_another_is_refused(rt: HostRuntime) {
 }
 
 #[test]
+fn shared_texts_that_disagree_or_reach_into_nodes_are_refused(rt: HostRuntime) {
+    let mut shorter = TWO_SHARED;
+    shorter[48] = 11;
+    let mut empty = TWO_SHARED;
+    empty[24] = 0;
+    let mut no_text = TWO_SHARED;
+    no_text[3] = 0xff;
+    let mut into_nodes = TWO_SHARED;
+    into_nodes[24] = 17;
+    let cases: [([u8; 88], Error); 4] = [
+        (shorter, Error::MetadataMismatch),
+        (empty, Error::MetadataMismatch),
+        (no_text, Error::InvalidUtf8),
+        (into_nodes, Error::InvalidSubtreePointer { size: 17 }),
+    ];
+    assert_eq!(rt; check(rt.alloc(), &TWO_SHARED), Ok(()));
+    for (bytes, refusal) in cases {
+        assert_eq!(rt;
+            check(rt.alloc(), &bytes),
+            Err(OpenRefusal::Access(refusal))
+        );
+    }
+}
+
+#[test]
 fn leaves_that_are_no_archive_are_refused(rt: HostRuntime) {
     let five = *b"\x01\0\0\0\0\0\0\0\x05\0\0\0\0\0\0\0\0\0\0\0\0\0\0\0";
     let mut without_a_layout = five;
-    without_a_layout[0] = 3;
+    without_a_layout[0] = 6;
     let mut out_of_line = five;
     out_of_line[0] = 2;
     out_of_line[4] = 0x81;
@@ -77,11 +106,11 @@ fn leaves_that_are_no_archive_are_refused(rt: HostRuntime) {
 
 #[test]
 fn bytes_that_are_no_archive_stay(rt: HostRuntime) {
-    let mut bytes = [3; 24];
+    let mut bytes = [6; 24];
     let refusal = Err(OpenRefusal::Access(Error::InvalidTag));
     assert_eq!(rt; check(rt.alloc(), &bytes), refusal);
     assert!(rt; open(rt.alloc(), &mut bytes).is_err());
-    assert!(rt; bytes == [3; 24]);
+    assert!(rt; bytes == [6; 24]);
 }
 
 /// The text of the number 1 in so many options.

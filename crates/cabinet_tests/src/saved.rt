@@ -33,6 +33,10 @@ fn documents_are_written_as_their_images(rt: HostRuntime) -> Result<(), Fail> {
             b"\x05\0\0\0\xfc\xff\xff\xff\0\0\0\0\0\0\0\0\0\0\0\0\0\0\0\0",
         ),
         (
+            b"list 2\nshared '\nshared '\n",
+            b"\0\0\0\0\0\0\0\0\x03\0\0\0\xf4\xff\xff\xff\0\0\0\0\0\0\0\0\0\0\0\0\0\0\0\0\x03\0\0\0\xdc\xff\xff\xff\0\0\0\0\0\0\0\0\0\0\0\0\0\0\0\0\x05\0\0\0\xcc\xff\xff\xff\x02\0\0\0\0\0\0\0\0\0\0\0\0\0\0\0",
+        ),
+        (
             b"list 1\nlist 0\n",
             b"\x05\0\0\0\xfc\xff\xff\xff\0\0\0\0\0\0\0\0\0\0\0\0\0\0\0\0\x05\0\0\0\xe4\xff\xff\xff\x01\0\0\0\0\0\0\0\0\0\0\0\0\0\0\0",
         ),
@@ -105,8 +109,29 @@ fn nodes_in_options_and_lists_are_worked_in(rt: HostRuntime) -> Result<(), Fail>
 }
 
 #[test]
+fn shared_texts_are_read_and_not_edited(rt: HostRuntime) -> Result<(), Fail> {
+    let text = b"list 3\nshared 'hello\\sworld!\nsome\nshared 'hello\\sworld!\nint 5\n";
+    let document = read_text(rt.alloc(), text).map_err(|_| "no document")?;
+    let input: &[u8] =
+        b"get #0\nget #1 ?\nset text 'HELLO\\sWORLD! #0\nset int 6 #2\nget #0\nget #0 #0\nkeys #0\n";
+    let mut source = SliceSource::new(input, usize::MAX, 16384);
+    let mut writer = FailingWriter::new(rt.alloc(), usize::MAX);
+    let worked = work(rt.alloc(), &document, &mut source, &mut writer).map_err(|_| "not saved")?;
+    assert!(rt; worked.outcome.is_ok());
+    let output: &[u8] =
+        b"shared 'hello\\sworld!\nshared 'hello\\sworld!\nrefused\nok\nshared 'hello\\sworld!\nmissing\nwrong\n";
+    assert!(rt; writer.bytes() == output);
+    let edited = archive_of(
+        rt.alloc(),
+        b"list 3\nshared 'hello\\sworld!\nsome\nshared 'hello\\sworld!\nint 6\n",
+    )?;
+    assert!(rt; worked.bytes.as_slice() == edited.as_slice());
+    Ok(())
+}
+
+#[test]
 fn a_kind_without_a_layout_is_told_of(rt: HostRuntime) -> Result<(), Fail> {
-    let document = read_text(rt.alloc(), b"list 1\nshared 'a\n").map_err(|_| "no document")?;
+    let document = read_text(rt.alloc(), b"list 1\nhashed 0\n").map_err(|_| "no document")?;
     let mut source = SliceSource::new(b"get\n", usize::MAX, 16384);
     let mut writer = FailingWriter::new(rt.alloc(), usize::MAX);
     let worked = work(rt.alloc(), &document, &mut source, &mut writer);

@@ -1,12 +1,14 @@
 -- The document of a node that is read back is the one that the value there denotes.
-use Rattle.std.proofs.Common.{◌≡◌, ℕ, zero, suc, ◌+◌, ◌<◌, ◌==◌, Bool, true, false, List, slice_index, Some, Result, Ok, Err, IfOk, w64, refl, sym, ap, ap₂, subst, ◌∙◌, arith}
+use Rattle.std.proofs.Common.{◌≡◌, ℕ, zero, suc, ◌+◌, ◌<◌, ◌==◌, Bool, true, false, List, slice_index, Some, Result, Ok, Err, IfOk, w64, refl, sym, ap, subst, ◌∙◌, arith}
 use Rattle.std.specs.Bool.{MatchBool, ⊤}
-use Rattle.archive_shape_layout.specs.Shape.Shape.{number, truth, text, option, vector}
+use Rattle.archive_shape_layout.specs.Shape.Shape.{number, truth, text, shared, option, vector}
+use Rattle.archive_shape_layout.specs.Shape.Pointee.{str}
 use Rattle.archive_shape_layout.specs.Value.{Value, Values, count_values}
-use Rattle.archive_shape_layout.specs.Value.Value.{natural, integer, boolean, string, group, chosen, counted, back}
+use Rattle.archive_shape_layout.specs.Value.Value.{group}
 use Rattle.archive_shape_layout.specs.Value.Values.{no_values, more_values}
 use Rattle.archive_shape_layout.specs.Path.{value_in}
 use Rattle.archive_shape_canonical.specs.Sharing.{erased, all_erased}
+use Rattle.archive_shape_canonical.proofs.Steps.{count_erased}
 use Rattle.archive_shape_writing.specs.declared.error.Error.{Error}
 use Rattle.archive_shape.specs.Key.{HeldAt}
 use Rattle.archive_forms_spelling.proofs.Levels.{option_box_sized}
@@ -18,74 +20,20 @@ use Rattle.archive_forms_deserializing.specs.Reading.{reads_as}
 use Rattle.cabinet_text_grammar.specs.Tree as tree
 use Rattle.cabinet_text_grammar.specs.Tree.{Tree, Trees}
 use Rattle.cabinet_documents.specs.Node.{node_shape, KnowsNode}
-use Rattle.cabinet_documents.specs.Denotes.{Denotes, DenoteAll, tagged_value}
-use Rattle.cabinet_documents.specs.Denotes.Denotes.{denotes_truth, denotes_number, denotes_text, denotes_nothing, denotes_some, denotes_list}
-use Rattle.cabinet_documents.specs.Denotes.DenoteAll.{denote_none, denote_more}
+use Rattle.cabinet_documents.specs.Denotes.{Denotes, tagged_value}
 use Rattle.cabinet_archived.proofs.Nodes.{tagged_at, is_list}
 use Rattle.cabinet_spelling.specs.Spelling.{boxed_shape}
+use Rattle.cabinet_spelling.specs.HasLayout.{HasLayout, HaveLayout}
+use Rattle.cabinet_spelling.proofs.Denoted.{denoted}
 use Rattle.cabinet_spelling.proofs.Values.{value_of, values_of, node_agrees}
 use Rattle.cabinet_text_nodes.specs.Archived.{archived_as}
 use Rattle.cabinet_text_nodes.specs.View.{node_tree}
 use Rattle.cabinet_text_nodes.specs.declared.node.Node.{Node}
 
--- ---- the value of a document has no shared values, so it is one with where they stand
-
-abbrev mutual
-  IsUncounted : Value → Type 0
-  IsUncounted (natural n) = ⊤
-  IsUncounted (integer z) = ⊤
-  IsUncounted (boolean b) = ⊤
-  IsUncounted (string bs) = ⊤
-  IsUncounted (group vs) = AreUncounted vs
-  IsUncounted (chosen t vs) = AreUncounted vs
-  IsUncounted (counted t v) = ⊥
-  IsUncounted (back t) = ⊤
-
-  AreUncounted : Values → Type 0
-  AreUncounted no_values = ⊤
-  AreUncounted (more_values v vs) = IsUncounted v × AreUncounted vs
-
-mutual
-  erased_is : (v : Value) → IsUncounted (erased v) → erased v ≡ v
-  erased_is (natural n) h = refl
-  erased_is (integer z) h = refl
-  erased_is (boolean b) h = refl
-  erased_is (string bs) h = refl
-  erased_is (group vs) h = ap group (all_erased_are vs h)
-  erased_is (chosen t vs) h = ap (chosen t) (all_erased_are vs h)
-  erased_is (counted t v) h = absurd h
-  erased_is (back t) h = refl
-
-  all_erased_are : (vs : Values) → AreUncounted (all_erased vs) → all_erased vs ≡ vs
-  all_erased_are no_values h = refl
-  all_erased_are (more_values v vs) h = ap₂ more_values (erased_is v h.0) (all_erased_are vs h.1)
-
-mutual
-  uncounted : (t : Tree) → IsUncounted (value_of t)
-  uncounted (tree.leaf (tree.truth b)) = (tt, tt)
-  uncounted (tree.leaf (tree.number n)) = (tt, tt)
-  uncounted (tree.leaf (tree.text s)) = (tt, tt)
-  uncounted (tree.shared s) = tt
-  uncounted tree.nothing = (tt, tt)
-  uncounted (tree.just t) = ((uncounted t, tt), tt)
-  uncounted (tree.list ts) = (all_uncounted ts, tt)
-  uncounted (tree.map kind ps) = tt
-
-  all_uncounted : (ts : Trees) → AreUncounted (values_of ts)
-  all_uncounted tree.no_trees = tt
-  all_uncounted (tree.more_trees t ts) = (uncounted t, all_uncounted ts)
-
-whole_value : (t : Tree) (v : Value) → value_of t ≡ erased v → value_of t ≡ v
-whole_value t v e = e ∙ erased_is v (subst IsUncounted e (uncounted t))
-
 -- ---- where it stands, what it leads to stands too
 
--- bytes have this value of a node somewhere
-abbrev Stands : List ℕ → Value → Type 0
-Stands bytes v = (pos : ℕ) × HeldAt node_shape KnowsNode bytes pos v
-
 data Parted (bytes : List ℕ) (v : Value) : Type 0 where
-  parted_leaf : {tag : ℕ} {w : Value} → v ≡ tagged_value tag w → tag < 3 → Parted bytes v
+  parted_leaf : {tag : ℕ} {w : Value} → v ≡ tagged_value tag w → tag < 4 → Parted bytes v
   parted_maybe : {w : Value} {to : ℕ} → v ≡ tagged_value 4 w → HeldAt (option boxed_shape) KnowsNode bytes to w → Parted bytes v
   parted_list : {w : Value} {to : ℕ} → v ≡ tagged_value 5 w → HeldAt (vector node_shape) KnowsNode bytes to w → Parted bytes v
 
@@ -112,74 +60,82 @@ module _ (bytes : List ℕ) (pos : ℕ) (v : Value) (h : HeldAt node_shape Knows
           let p = (tagged_at bytes pos there 2 text (λ _. ⊤) (pos + 4) refl e refl (omega arith) (omega arith) (λ names known. tt)).payload v h in
           parted_leaf p.is (omega arith)
       by (suc (suc (suc zero))) e =
-          as_list (is_list bytes pos there (λ f. omega (arith, e, f), λ f. omega (arith, e, f), λ f. omega (arith, e, f), λ f. omega (arith, e, f)))
+          let p = (tagged_at bytes pos there 3 (shared false str) (λ _. ⊤) (pos + 4) refl e refl (omega arith) (omega arith) (λ names known. tt)).payload v h in
+          parted_leaf p.is (omega arith)
       by (suc (suc (suc (suc zero)))) e =
           let p = (tagged_at bytes pos there 4 (option boxed_shape) KnowsNode (pos + 4) refl e refl (omega arith) (omega (arith, option_box_sized node_shape)) (λ names known. known)).payload v h in
           parted_maybe p.is p.held
       by (suc (suc (suc (suc (suc n))))) e =
-          as_list (is_list bytes pos there (λ f. omega (arith, e, f), λ f. omega (arith, e, f), λ f. omega (arith, e, f), λ f. omega (arith, e, f)))
+          as_list (is_list bytes pos there (λ f. omega (arith, e, f), λ f. omega (arith, e, f), λ f. omega (arith, e, f), λ f. omega (arith, e, f), λ f. omega (arith, e, f)))
+
+-- an element has, but for where shared values stand, the value at its place among such values
+erased_at : (i : ℕ) (vs : Values) (x : Value) → value_in i vs ≡ Some x → value_in i (all_erased vs) ≡ Some (erased x)
+erased_at i no_values x e = absurd (cc)
+erased_at zero (more_values v vs) x e = let same : v ≡ x = cc in ap (λ y. Some (erased y)) same
+erased_at (suc i) (more_values v vs) x e = erased_at i vs x e
 
 module _ (bytes : List ℕ) where
-  -- what a kind without a layout is spelled as is the value of no node
-  no_group : {v : Value} → Parted bytes v → v ≡ group no_values → ⊥
-  no_group (parted_leaf e less) f = cc
-  no_group (parted_maybe e o) f = cc
-  no_group (parted_list e l) f = cc
+  -- a value that is this one, but for where shared values stand, is that of a node somewhere in the bytes
+  abbrev StandsAs : Value → Type 0
+  StandsAs u = (v : Value) × (erased v ≡ u) × (pos : ℕ) × HeldAt node_shape KnowsNode bytes pos v
 
-  some_inside : (to : ℕ) (w u : Value) → HeldAt (option boxed_shape) KnowsNode bytes to w → w ≡ tagged_value 1 u → Stands bytes u
+  -- what a kind without a layout is spelled as is the value of no node
+  no_group : {v : Value} → Parted bytes v → erased v ≡ group no_values → ⊥
+  no_group (parted_leaf e less) f = let g = ap erased e in cc
+  no_group (parted_maybe e o) f = let g = ap erased e in cc
+  no_group (parted_list e l) f = let g = ap erased e in cc
+
+  some_inside : (to : ℕ) (w u : Value) → HeldAt (option boxed_shape) KnowsNode bytes to w → erased w ≡ tagged_value 1 u → StandsAs u
   some_inside to w u o is = by (slice_index bytes to == 0) (option_by_tag boxed_shape KnowsNode bytes to 4 refl (omega arith))
     where
-      by : (b : Bool) → MatchBool b (IsNoneAt boxed_shape KnowsNode bytes to) (IsSomeAt boxed_shape KnowsNode bytes to) → Stands bytes u
-      by true none = let e = none w o in absurd (cc)
+      by : (b : Bool) → MatchBool b (IsNoneAt boxed_shape KnowsNode bytes to) (IsSomeAt boxed_shape KnowsNode bytes to) → StandsAs u
+      by true none = let e = ap erased (none w o) in absurd (cc)
       by false some =
           let p = some w o in
           let leads = box_points node_shape KnowsNode bytes _ (record { value = p.payload; held = p.held }) in
-          let pf = p.is in
-          let same : p.payload ≡ u = cc in
-          (leads.0, subst (HeldAt node_shape KnowsNode bytes leads.0) same ((box_there node_shape KnowsNode bytes _ leads.0 leads.1).value p.payload p.held))
+          let pf = ap erased p.is in
+          (p.payload, cc, leads.0, (box_there node_shape KnowsNode bytes _ leads.0 leads.1).value p.payload p.held)
 
-  inside_some : (u : Value) {v : Value} → Parted bytes v → v ≡ tagged_value 4 (tagged_value 1 u) → Stands bytes u
-  inside_some u (parted_leaf {tag = tag} e less) f = let is : tag ≡ 4 = cc in absurd (omega (arith, less, is))
-  inside_some u (parted_maybe {w = w} {to = to} e o) f = let is : w ≡ tagged_value 1 u = cc in some_inside to w u o is
-  inside_some u (parted_list e l) f = absurd (cc)
+  inside_some : (u : Value) {v : Value} → Parted bytes v → erased v ≡ tagged_value 4 (tagged_value 1 u) → StandsAs u
+  inside_some u (parted_leaf {tag = tag} e less) f = let g = ap erased e in let is : tag ≡ 4 = cc in absurd (omega (arith, less, is))
+  inside_some u (parted_maybe {w = w} {to = to} e o) f = let g = ap erased e in let is : erased w ≡ tagged_value 1 u = cc in some_inside to w u o is
+  inside_some u (parted_list e l) f = let g = ap erased e in absurd (cc)
 
   -- each of these values stands in the bytes
   abbrev AllStand : Values → Type 0
-  AllStand vs = (i : ℕ) → i < count_values vs → (x : Value) × (value_in i vs ≡ Some x) × Stands bytes x
+  AllStand us = (i : ℕ) → i < count_values us → (u : Value) × (value_in i us ≡ Some u) × StandsAs u
 
-  inside_list : (vs : Values) {v : Value} → Parted bytes v → v ≡ tagged_value 5 (group vs) → AllStand vs
-  inside_list vs (parted_leaf {tag = tag} e less) f = let is : tag ≡ 5 = cc in absurd (omega (arith, less, is))
-  inside_list vs (parted_maybe e o) f = absurd (cc)
-  inside_list vs (parted_list {w = w} {to = to} e l) f =
+  inside_list : (us : Values) {v : Value} → Parted bytes v → erased v ≡ tagged_value 5 (group us) → AllStand us
+  inside_list us (parted_leaf {tag = tag} e less) f = let g = ap erased e in let is : tag ≡ 5 = cc in absurd (omega (arith, less, is))
+  inside_list us (parted_maybe e o) f = let g = ap erased e in absurd (cc)
+  inside_list us (parted_list {w = w} {to = to} e l) f =
+      let g = ap erased e in
       let leads = vec_points node_shape KnowsNode bytes to (record { value = w; held = l }) in
       let all = (vec_there node_shape KnowsNode bytes to leads.0 _ leads.1 refl).value w l in
-      let g = all.is in
-      let same : all.elements ≡ vs = cc in
+      let h = ap erased all.is in
+      let same : all_erased all.elements ≡ us = cc in
       λ i less.
-      let counted = ap count_values same in
-      let x = all.each i (omega (arith, less, counted, all.count)) in
-      (x.0, subst (λ us. value_in i us ≡ Some x.0) same x.1, (_, x.2))
+      let counted = count_erased all.elements in
+      let as_many = ap count_values same in
+      let x = all.each i (omega (arith, less, counted, as_many, all.count)) in
+      (erased x.0, subst (λ vs. value_in i vs ≡ Some (erased x.0)) same (erased_at i all.elements x.0 x.1), (x.0, refl {a = erased x.0}, _, x.2))
 
+-- what stands in a node has a layout
 mutual
-  tree_denotes : (t : Tree) (bytes : List ℕ) (pos : ℕ) → HeldAt node_shape KnowsNode bytes pos (value_of t) → Denotes (value_of t) t
-  tree_denotes (tree.leaf (tree.truth b)) bytes pos h = denotes_truth refl refl
-  tree_denotes (tree.leaf (tree.number n)) bytes pos h = denotes_number refl refl
-  tree_denotes (tree.leaf (tree.text s)) bytes pos h = denotes_text refl refl
-  tree_denotes (tree.shared s) bytes pos h = absurd (no_group bytes (parted bytes pos _ h) refl)
-  tree_denotes tree.nothing bytes pos h = denotes_nothing refl refl
-  tree_denotes (tree.just t) bytes pos h =
-      let inner = inside_some bytes (value_of t) (parted bytes pos _ h) refl in
-      denotes_some refl refl (tree_denotes t bytes inner.0 inner.1)
-  tree_denotes (tree.list ts) bytes pos h = denotes_list refl refl (trees_denote ts bytes (inside_list bytes (values_of ts) (parted bytes pos _ h) refl))
-  tree_denotes (tree.map kind ps) bytes pos h = absurd (no_group bytes (parted bytes pos _ h) refl)
+  laid : (t : Tree) (bytes : List ℕ) → StandsAs bytes (value_of t) → HasLayout t
+  laid (tree.leaf l) bytes there = tt
+  laid (tree.shared s) bytes there = tt
+  laid tree.nothing bytes there = tt
+  laid (tree.just t) bytes there = laid t bytes (inside_some bytes (value_of t) (parted bytes there.2 there.0 there.3) there.1)
+  laid (tree.list ts) bytes there = all_laid ts bytes (inside_list bytes (values_of ts) (parted bytes there.2 there.0 there.3) there.1)
+  laid (tree.map kind ps) bytes there = no_group bytes (parted bytes there.2 there.0 there.3) there.1
 
-  trees_denote : (ts : Trees) (bytes : List ℕ) → AllStand bytes (values_of ts) → DenoteAll (values_of ts) ts
-  trees_denote tree.no_trees bytes stand = denote_none refl refl
-  trees_denote (tree.more_trees t ts) bytes stand =
+  all_laid : (ts : Trees) (bytes : List ℕ) → AllStand bytes (values_of ts) → HaveLayout ts
+  all_laid tree.no_trees bytes stand = tt
+  all_laid (tree.more_trees t ts) bytes stand =
       let x = stand 0 (omega arith) in
-      let same : value_of t ≡ x.0 = let e = x.1 in cc in
-      denote_more refl refl (tree_denotes t bytes x.2.0 (subst (HeldAt node_shape KnowsNode bytes x.2.0) (sym same) x.2.1))
-      (trees_denote ts bytes (λ i less. let y = stand (suc i) (omega (arith, less)) in (y.0, y.1, y.2)))
+      let same : x.0 ≡ value_of t = let is = x.1 in cc in
+      (laid t bytes (subst (StandsAs bytes) same x.2), all_laid ts bytes (λ i less. let y = stand (suc i) (omega (arith, less)) in (y.0, y.1, y.2)))
 
 -- what a call that reads a node back gives is denoted by the value there
 pub read_denotes :
@@ -187,6 +143,6 @@ pub read_denotes :
     → IfOk r (λ n. (v : Value) → HeldAt node_shape KnowsNode bytes pos v → Denotes v (node_tree n))
 read_denotes bytes pos (Ok n) read = λ v h.
     let t = node_tree n in
-    let same = whole_value t v (sym (node_agrees t).plain ∙ read v h) in
-    subst (λ x. Denotes x t) same (tree_denotes t bytes pos (subst (HeldAt node_shape KnowsNode bytes pos) (sym same) h))
+    let same : erased v ≡ value_of t = sym (read v h) ∙ (node_agrees t).plain in
+    denoted t v (laid t bytes (v, same, pos, h)) same
 read_denotes bytes pos (Err e) read = tt

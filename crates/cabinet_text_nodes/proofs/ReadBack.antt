@@ -1,8 +1,10 @@
 -- What is read back of a node, by its kind.
-use Rattle.std.proofs.Common.{◌≡◌, ℕ, List, [], ◌∷◌, Option, Some, None, refl, sym, ap, ap₂, subst, ◌∙◌, Global, Box, Vec, Bor}
+use Rattle.std.proofs.Common.{◌≡◌, ℕ, false, List, [], ◌∷◌, Option, Some, None, refl, sym, ap, ap₂, subst, ◌∙◌, Global, Box, Vec, Bor}
+use Rattle.std.specs.Rc.{rc_str_bytes}
+use Rattle.std.specs.declared.rc.RcStr.{RcStr}
 use Rattle.archive_shape_layout.specs.Shape.{Shape}
 use Rattle.archive_shape_layout.specs.Value.{Value}
-use Rattle.archive_shape_layout.specs.Value.Value.{group}
+use Rattle.archive_shape_layout.specs.Value.Value.{string, group, counted}
 use Rattle.archive_shape_layout.specs.Value.Values.{more_values}
 use Rattle.archive_shape_layout.specs.Content.{Names}
 use Rattle.archive_shape_canonical.specs.Sharing.{erased}
@@ -11,6 +13,8 @@ use Rattle.archive_forms_spelling.specs.Spelling.{Spelling}
 use Rattle.archive_forms_spelling.specs.Options.{option_spelling}
 use Rattle.archive_forms_spelling.specs.Regions.{plain_values}
 use Rattle.archive_forms_reading.specs.declared.resolving.BoxResolver.{BoxResolver}
+use Rattle.archive_forms_rc.specs.Pointers.{Counts}
+use Rattle.archive_forms_rc.specs.Pointers.Counts.{counts, leads_back}
 use Rattle.archive_forms_writing.specs.Owned.{boxed_spelling, vec_spelling}
 use Rattle.archive_forms_deserializing.specs.Deserializing.{IsReadAt}
 use Rattle.archive_forms_deserializing.specs.Reading.{reads_as, reads_in, reads_option, reads_all}
@@ -26,7 +30,7 @@ use Rattle.cabinet_text_nodes.specs.Archived.{archived_as}
 use Rattle.cabinet_text_nodes.specs.View.{node_tree, node_trees}
 use Rattle.cabinet_text_nodes.specs.declared.node.Node.{Node}
 use Rattle.cabinet_text_nodes.specs.declared.node.Node.TheVariants as node
-use Rattle.cabinet_text_nodes.proofs.Views.{node_tree-none, node_tree-some, node_tree-list}
+use Rattle.cabinet_text_nodes.proofs.Views.{node_tree-shared, node_tree-none, node_tree-some, node_tree-list}
 
 -- ---- the values of what is read
 
@@ -51,6 +55,14 @@ maybe_plain (Some b) =
 pub list_plain : (ns : Vec Node Global) → archived_as.plain (node.List ns) ≡ tagged_value 5 ((vec_spelling node_shape archived_as).plain ns)
 list_plain ns =
     plain_as (node.List ns) (tree.list (node_trees ns.items)) (node_tree-list ns) ∙ ap (λ vs. tagged_value 5 (group vs)) (sym (all_plain ns.items))
+
+pub shared_plain : (s : RcStr Global) → archived_as.plain (node.Shared s) ≡ tagged_value 3 (counted 0 (string (rc_str_bytes s)))
+shared_plain s = plain_as (node.Shared s) (tree.shared (rc_str_bytes s)) (node_tree-shared s)
+
+-- a text that a pointer counts is read back as it
+pub text_counted : (to : ℕ) (s : List ℕ) (v : Value) → Counts false to (λ w. w ≡ string s) v → counted 0 (string s) ≡ erased v
+text_counted to s v (counts is there) = sym (ap erased (is ∙ ap (counted to) there))
+text_counted to s v (leads_back allowed is) = absurd (cc)
 
 -- what is read back of the parts of a node is archived as they are
 pub maybe_as : (v : Value) (o : Option (Box Node Global)) → reads_option (reads_in (λ (b : Box Node Global). b.value) (reads_as archived_as)) v o → maybe_of.plain o ≡ v

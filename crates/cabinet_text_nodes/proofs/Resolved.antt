@@ -1,10 +1,13 @@
 -- What is resolved of a node, by its kind.
-use Rattle.std.proofs.Common.{◌≡◌, ℕ, ℤ, Bool, true, ◌+◌, ◌≤◌, ◌<◌, ◌^◌, set, List, [], ◌∷◌, ◌++◌, length, Option, Some, None, Ok, Err, refl, sym, ap, subst, ◌∙◌, arith, ⊎_elim, inl, inr, ◌⊎◌, Global, String, Box, Vec}
+use Rattle.std.proofs.Common.{◌≡◌, ℕ, ℤ, Bool, true, false, ◌+◌, ◌≤◌, ◌<◌, ◌^◌, set, List, [], ◌∷◌, ◌++◌, length, Option, Some, None, Ok, Err, refl, sym, ap, subst, ◌∙◌, arith, ⊎_elim, inl, inr, ◌⊎◌, Global, String, Box, Vec}
 use Rattle.std.specs.Prelude.{Result, MatchResult, string_bytes}
 use Rattle.std.specs.Int.{w32, w64, to_le_bytes}
+use Rattle.std.specs.Rc.{rc_str_bytes}
+use Rattle.std.specs.declared.rc.RcStr.{RcStr}
 use Rattle.archive_shape_layout.specs.Bytes.{align_up}
 use Rattle.archive_shape_layout.specs.Shape.{Shape, size_of, align_of}
-use Rattle.archive_shape_layout.specs.Shape.Shape.{number, truth, text, option, choice, vector}
+use Rattle.archive_shape_layout.specs.Shape.Shape.{number, truth, text, option, choice, vector, shared as shared_shape}
+use Rattle.archive_shape_layout.specs.Shape.Pointee.{str}
 use Rattle.archive_shape_canonical.specs.FirstFit.{first_fit}
 use Rattle.archive_shape_references.specs.Bytes.{HasBytes, zeros, overwrite}
 use Rattle.archive_shape_writing.specs.declared.error.Error.{Error}
@@ -20,24 +23,27 @@ use Rattle.archive_forms_spelling.proofs.Levels.{option_box_sized}
 use Rattle.archive_forms_spelling.proofs.Options.{option_spells}
 use Rattle.archive_forms_spelling.proofs.Pointers.{box_spells, slice_spells}
 use Rattle.archive_forms_spelling.proofs.Texts.{text_spells}
+use Rattle.archive_forms_spelling.proofs.Shared.{shared_text_spells}
 use Rattle.archive_forms_spelling.proofs.Views.{kept_spells}
 use Rattle.archive_forms_reading.specs.declared.resolving.BoxResolver.{BoxResolver}
 use Rattle.archive_forms_reading.specs.declared.resolving.VecResolver.{VecResolver}
 use Rattle.archive_forms_text.specs.declared.resolving.StringResolver.{StringResolver}
+use Rattle.archive_forms_rc.specs.declared.resolving.RcResolver.{RcResolver}
 use Rattle.archive_forms_writing.proofs.Joining.{unfilled}
 use Rattle.archive_forms_writing.proofs.Results.{payload_resolved}
+use Rattle.cabinet_text_keys.specs.TextKey.{text_key}
 use Rattle.cabinet_text_grammar.specs.Tree as tree
 use Rattle.cabinet_text_grammar.specs.Tree.{Tree, depth}
 use Rattle.cabinet_documents.specs.Node.{node_shape, payloads, KnowsNode}
 use Rattle.cabinet_spelling.specs.declared.resolver.NodeResolver.{NodeResolver}
 use Rattle.cabinet_spelling.specs.declared.resolver.NodeResolver.TheVariants as resolver
-use Rattle.cabinet_spelling.specs.Spelling.{truth_spelling, number_spelling, string_spelling, boxed_shape, boxed_spelling, maybe_spelling, list_spelling, text_in, maybe_in, list_in, node_of, refused, node_level, node_spelling}
+use Rattle.cabinet_spelling.specs.Spelling.{truth_spelling, number_spelling, string_spelling, shared_string_spelling, boxed_shape, boxed_spelling, maybe_spelling, list_spelling, text_in, shared_in, maybe_in, list_in, node_of, refused, node_level, node_spelling}
 use Rattle.cabinet_spelling.proofs.Levels.{node_spells_law}
 use Rattle.cabinet_text_nodes.specs.Archived.{archived_as, tree_within, trees_within}
 use Rattle.cabinet_text_nodes.specs.View.{node_tree, node_trees}
 use Rattle.cabinet_text_nodes.specs.declared.node.Node.{Node}
 use Rattle.cabinet_text_nodes.specs.declared.node.Node.TheVariants as node
-use Rattle.cabinet_text_nodes.proofs.Views.{node_tree-bool, node_tree-int, node_tree-text, node_tree-none, node_tree-some, node_tree-list}
+use Rattle.cabinet_text_nodes.proofs.Views.{node_tree-bool, node_tree-int, node_tree-text, node_tree-shared, node_tree-none, node_tree-some, node_tree-list}
 
 -- ---- payloads by themselves
 
@@ -110,6 +116,10 @@ pub text_place : KindPlace text 4
 unfolding align_up
 text_place = record { first = omega arith; at = refl; fits = omega arith }
 
+pub shared_place : KindPlace (shared_shape false str) 4
+unfolding align_up
+shared_place = record { first = omega arith; at = refl; fits = omega arith }
+
 pub maybe_place : KindPlace (option boxed_shape) 4
 unfolding align_up
 maybe_place = record { first = omega arith; at = refl; fits = omega arith }
@@ -169,6 +179,19 @@ module _ (r : NodeResolver) (bytes set_bytes new final : List ℕ) (start pos fr
       let t = tree.leaf (tree.text x) in
       as_tree n t (ap node_tree is ∙ node_tree-text s)
       (kind_resolved 2 4 text string_spelling resolver.Text text_in text_place x t (λ q p f. (text_spells (first_fit (λ _. 0)) KnowsNode x).sized q.pos p f) is_set is_from is_there k kept h)
+
+  pub shared_resolved :
+      (n : Node) (s : RcStr Global) → n ≡ node.Shared s
+      → set_bytes ≡ set bytes start 3 → from ≡ start + 4 → there ≡ pos + 4
+      → (k : RcResolver) → k ≡ shared_in r
+      → Resolves shared_string_spelling (rc_str_bytes s) k there from set_bytes new result
+      → Resolves archived_as n r pos start bytes final result
+  shared_resolved n s is is_set is_from is_there k kept h =
+      let x = rc_str_bytes s in
+      let t = tree.shared x in
+      as_tree n t (ap node_tree is ∙ node_tree-shared s)
+      (kind_resolved 3 4 (shared_shape false str) shared_string_spelling resolver.Shared shared_in shared_place x t
+      (λ q p f. (shared_text_spells (first_fit (λ _. 0)) false KnowsNode text_key x).sized q.pos p f) is_set is_from is_there k kept h)
 
   -- the own bytes of an option are the same however the node in it is archived
   maybe_alike :

@@ -2,6 +2,8 @@
 use Rattle.std.proofs.Common.{◌≡◌, ℕ, zero, suc, ◌+◌, ◌-◌, ◌≤◌, ◌<◌, ◌^◌, ◌⊎◌, List, [], ◌∷◌, ◌++◌, length, map, get_or, append-nil, inr, Option, Some, None, Result, Ok, Err, refl, sym, ap, subst, ◌∙◌, arith, Global, String, Box, Vec}
 use Rattle.std.specs.Prelude.{string_bytes}
 use Rattle.std.specs.Int.{w32, to_le_bytes}
+use Rattle.std.specs.Rc.{rc_str_bytes}
+use Rattle.std.specs.declared.rc.RcStr.{RcStr}
 use Rattle.std.proofs.Math.Nat.{le-max_left, le-max_right}
 use Rattle.archive_shape_layout.specs.Bytes.{align_up}
 use Rattle.archive_shape_layout.specs.Shape.{Shape, size_of, align_of}
@@ -17,6 +19,7 @@ use Rattle.archive_forms_spelling.specs.Spelling.{Spelling, state_after}
 use Rattle.archive_forms_spelling.specs.Forms.{seen_as, kept_as}
 use Rattle.archive_forms_spelling.specs.Regions.{state_after_all, values, plain_values, all_suit, pieces, owns, pieces_fit, pieces_refused, owns_fit, owns_refused, region_at}
 use Rattle.archive_forms_spelling.specs.Pointers.{slice_spelling}
+use Rattle.archive_forms_spelling.specs.Shared.{shared_text_spelling}
 use Rattle.archive_shape_pointers.specs.Offsets.{offset_bytes, FitsOffset}
 use Rattle.archive_forms_spelling.specs.Serializing.{Serializes}
 use Rattle.archive_forms_spelling.proofs.Agreeing.{said, serializes_alike}
@@ -25,6 +28,7 @@ use Rattle.archive_forms_writing.specs.Steps.{IsElement}
 use Rattle.archive_forms_reading.specs.declared.resolving.BoxResolver.{BoxResolver}
 use Rattle.archive_forms_reading.specs.declared.resolving.VecResolver.{VecResolver}
 use Rattle.archive_forms_text.specs.declared.resolving.StringResolver.{StringResolver}
+use Rattle.cabinet_text_keys.specs.TextKey.{text_key}
 use Rattle.cabinet_text_grammar.specs.Tree as tree
 use Rattle.cabinet_text_grammar.specs.Keys.{MapKind}
 use Rattle.cabinet_text_grammar.specs.Tree.{Tree, Pairs, depth}
@@ -37,7 +41,7 @@ use Rattle.cabinet_text_nodes.specs.Archived.{archived_as, tree_within, trees_wi
 use Rattle.cabinet_text_nodes.specs.View.{trees_of, node_tree, node_trees}
 use Rattle.cabinet_text_nodes.specs.declared.node.Node.{Node}
 use Rattle.cabinet_text_nodes.specs.declared.node.Node.TheVariants as node
-use Rattle.cabinet_text_nodes.proofs.Views.{node_tree-text, node_tree-none, node_tree-some, node_tree-list}
+use Rattle.cabinet_text_nodes.proofs.Views.{node_tree-text, node_tree-shared, node_tree-none, node_tree-some, node_tree-list}
 
 -- ---- a list of values that are seen as others is archived as the list of those
 
@@ -181,6 +185,16 @@ module _ {W : Type 0} (m : WriterMembers W) (n : Node) (old new : W) where
   pub text_refused : (s : String Global) (e : Error) → n ≡ node.Text s → Serializes string_spelling m (string_bytes s) old new (Err e) → Serializes archived_as m n old new (Err e)
   text_refused s e is h = as_level (tree.leaf (tree.text (string_bytes s))) (Err e) (ap node_tree is ∙ node_tree-text s) h
 
+  pub shared_wrote : (s : RcStr Global) (t : List ℕ) (pos : ℕ) → n ≡ node.Shared s → t ≡ rc_str_bytes s
+      → Serializes (shared_text_spelling text_key) m t old new (Ok pos) → Serializes archived_as m n old new (Ok (resolver.Shared (record { pos = pos })))
+  shared_wrote s t pos is same h =
+      as_level (tree.shared t) (Ok (resolver.Shared (record { pos = pos }))) (ap node_tree is ∙ node_tree-shared s ∙ ap tree.shared (sym same))
+      (λ st at. let o = h st at in (o.0, (ap (λ q. resolver.Shared (record { pos = q })) o.1.0, o.1.1, o.1.2)))
+
+  pub shared_refused : (s : RcStr Global) (t : List ℕ) (e : Error) → n ≡ node.Shared s → t ≡ rc_str_bytes s
+      → Serializes (shared_text_spelling text_key) m t old new (Err e) → Serializes archived_as m n old new (Err e)
+  shared_refused s t e is same h = as_level (tree.shared t) (Err e) (ap node_tree is ∙ node_tree-shared s ∙ ap tree.shared (sym same)) h
+
   pub maybe_wrote : (o : Option (Box Node Global)) (r : Option BoxResolver) → n ≡ node.Maybe o → Serializes (maybe_spelling node_spelling) m (tree_within o) old new (Ok r) → Serializes archived_as m n old new (Ok (resolver.Maybe r))
   maybe_wrote None r is h =
       as_level tree.nothing (Ok (resolver.Maybe r)) (ap node_tree is ∙ node_tree-none)
@@ -209,9 +223,6 @@ module _ {W : Type 0} (m : WriterMembers W) (n : Node) (old : W) where
     is_quiet = refl;
     reason = inr refl;
   })
-
-  pub shared_refused : (s : List ℕ) → node_tree n ≡ tree.shared s → Serializes archived_as m n old old (Err InvalidTag)
-  shared_refused s is = as_level m n old old (tree.shared s) (Err InvalidTag) is (refused_stops (tree.shared s))
 
   pub map_refused : (kind : MapKind) (ps : Pairs) → node_tree n ≡ tree.map kind ps → Serializes archived_as m n old old (Err InvalidTag)
   map_refused kind ps is = as_level m n old old (tree.map kind ps) (Err InvalidTag) is (refused_stops (tree.map kind ps))

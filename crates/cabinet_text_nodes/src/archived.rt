@@ -1,23 +1,27 @@
 //! Nodes are archived, each by its kind.
 ghost use Rattle.std.specs.Prelude.{◌≡◌, ℕ, suc, ◌+◌, ◌-◌, ◌^◌, ◌<◌, ◌≤◌, length};
+ghost use Rattle.std.specs.Rc.{rc_str_bytes};
 ghost use Rattle.archive_shape_references.specs.Bytes.{HasBytes, zeros};
 ghost use Rattle.archive_forms_spelling.specs.Serializing.{CanResolve, HasState, Resolves, Serializes, SerializesBy};
 ghost use Rattle.archive_forms_spelling.proofs.Views.{seen_spells};
 ghost use Rattle.cabinet_text_grammar.specs.Tree.{depth};
 ghost use Rattle.cabinet_documents.specs.Node.{node_shape, KnowsNode};
-ghost use Rattle.cabinet_spelling.specs.Spelling.{node_spelling, maybe_spelling, list_spelling, text_in, maybe_in, list_in};
+ghost use Rattle.cabinet_spelling.specs.Spelling.{node_spelling, shared_string_spelling, maybe_spelling, list_spelling, text_in, shared_in, maybe_in, list_in};
 ghost use Rattle.cabinet_spelling.proofs.Levels.{node_spells_law};
 ghost use Rattle.cabinet_text_nodes.specs.Archived.{archived_as, tree_within, trees_within, most_within};
 ghost use Rattle.cabinet_text_nodes.specs.View.{node_tree};
 
 use crate::node::Node;
+use archive_forms_rc::{ArchivedRcStr, RcFlavor, RcResolver};
 use archive_forms_reading::{ArchivedBox, ArchivedOption, ArchivedVec, BoxResolver, VecResolver};
 use archive_forms_text::StringResolver;
 use archive_forms_writing::{Archive, Serialize, serialize_box_each, serialize_vec_each};
-use archive_shape::{Allocator, Error, Place, Writer};
+use archive_shape::{Error, Place};
 use cabinet_archived::ArchivedNode;
+use cabinet_sharing::TextSharing;
 use cabinet_spelling::NodeResolver;
 use std::marker::PhantomData;
+use std::rc::RcStr;
 
 /// Where the bytes of a text stand.
 fn text_kept(resolver: NodeResolver) -> StringResolver
@@ -26,6 +30,16 @@ fn text_kept(resolver: NodeResolver) -> StringResolver
     match resolver {
         NodeResolver::Text(kept) => kept,
         _ => StringResolver { pos: 0 },
+    }
+}
+
+/// Where a shared text stands.
+fn shared_kept(resolver: NodeResolver) -> RcResolver
+    ensures { result ≡ shared_in resolver }
+{
+    match resolver {
+        NodeResolver::Shared(kept) => kept,
+        _ => RcResolver { pos: 0 },
     }
 }
 
@@ -47,6 +61,25 @@ fn list_kept(resolver: NodeResolver) -> VecResolver
         NodeResolver::List(kept) => kept,
         _ => VecResolver { pos: 0 },
     }
+}
+
+/// Writes the pointer to a shared text.
+fn resolve_shared(
+    text: &RcStr,
+    resolver: RcResolver,
+    out: Place<'_, ArchivedRcStr<RcFlavor>>,
+) -> Result<(), Error>
+    requires { out.start + 8 ≤ length out.out.now }
+    ensures { Resolves shared_string_spelling (rc_str_bytes text.now) resolver out.entry.pos out.entry.start out.entry.out.now out.exit.0.now result }
+{
+    let Place {
+        out,
+        start,
+        pos,
+        ..
+    } = out;
+    let place = Place::within(out, start, pos);
+    ArchivedRcStr::<RcFlavor>::resolve_from_raw_parts(resolver, text.len(), place)
 }
 
 /// Writes the own bytes of an option, in a place that is zero.
@@ -128,6 +161,11 @@ impl Archive for Node {
                 let place = Place::within(out, start + 4, pos + 4);
                 return text.resolve(text_kept(resolver), place);
             }
+            Node::Shared(text) => {
+                out[start] = 3;
+                let place = Place::within(out, start + 4, pos + 4);
+                return resolve_shared(text, shared_kept(resolver), place);
+            }
             Node::Maybe(content) => {
                 out[start] = 4;
                 let place = Place::within(out, start + 4, pos + 4);
@@ -138,7 +176,6 @@ impl Archive for Node {
                 let place = Place::within(out, start + 4, pos + 4);
                 return resolve_list(nodes, list_kept(resolver), place);
             }
-            Node::Shared(_) => return Err(Error::InvalidTag),
             Node::Ordered(_) => return Err(Error::InvalidTag),
             Node::Hashed(_) => return Err(Error::InvalidTag),
             Node::Kept(_) => return Err(Error::InvalidTag),
@@ -150,7 +187,7 @@ impl Archive for Node {
 
 /// Writes the data of the node in an option.
 #[cycle(serialize)]
-fn serialize_maybe<S: Writer + Allocator>(
+fn serialize_maybe<S: TextSharing>(
     content: &Option<Box<Node>>,
     serializer: &mut S,
 ) -> Result<Option<BoxResolver>, Error>
@@ -184,7 +221,7 @@ fn serialize_maybe<S: Writer + Allocator>(
 
 /// Writes the elements of a list behind their data.
 #[cycle(serialize)]
-fn serialize_list<S: Writer + Allocator>(
+fn serialize_list<S: TextSharing>(
     nodes: &Vec<Node>,
     serializer: &mut S,
 ) -> Result<VecResolver, Error>
@@ -212,10 +249,7 @@ fn serialize_list<S: Writer + Allocator>(
 
 /// Writes the data of a node. It calls itself at most as deep as nodes lie in one another.
 #[cycle(serialize)]
-fn serialize_node<S: Writer + Allocator>(
-    node: &Node,
-    serializer: &mut S,
-) -> Result<NodeResolver, Error>
+fn serialize_node<S: TextSharing>(node: &Node, serializer: &mut S) -> Result<NodeResolver, Error>
     requires room { S.failures serializer.old < 2 ^ 64 - 1 }
     requires state { HasState S.pos S.known serializer.old }
     ensures { Serializes archived_as S.Writer node.now serializer.old serializer.new result }
@@ -227,6 +261,10 @@ fn serialize_node<S: Writer + Allocator>(
             Ok(kept) => Ok(NodeResolver::Text(kept)),
             Err(e) => Err(e),
         },
+        Node::Shared(text) => match serializer.serialize_text(text.as_str()) {
+            Ok(pos) => Ok(NodeResolver::Shared(RcResolver { pos })),
+            Err(e) => Err(e),
+        },
         Node::Maybe(content) => match serialize_maybe(content, serializer) {
             Ok(kept) => Ok(NodeResolver::Maybe(kept)),
             Err(e) => Err(e),
@@ -235,14 +273,13 @@ fn serialize_node<S: Writer + Allocator>(
             Ok(kept) => Ok(NodeResolver::List(kept)),
             Err(e) => Err(e),
         },
-        Node::Shared(_) => Err(Error::InvalidTag),
         Node::Ordered(_) => Err(Error::InvalidTag),
         Node::Hashed(_) => Err(Error::InvalidTag),
         Node::Kept(_) => Err(Error::InvalidTag),
     }
 }
 
-impl<S: Writer + Allocator> Serialize<S> for Node {
+impl<S: TextSharing> Serialize<S> for Node {
     /// Refuses a kind without a layout with `InvalidTag`.
     fn serialize(&self, serializer: &mut S) -> Result<NodeResolver, Error> {
         serialize_node(self, serializer)

@@ -1,14 +1,16 @@
 //! Archived nodes are read back, each by its kind.
-ghost use Rattle.std.specs.Prelude.{◌+◌, ◌≤◌, IfOk};
+ghost use Rattle.std.specs.Prelude.{◌+◌, ◌≤◌, false, ⊤, IfOk};
+ghost use Rattle.std.specs.Rc.{rc_str_bytes};
 ghost use Rattle.archive_shape.specs.Key.{HeldAt};
-ghost use Rattle.archive_shape_layout.specs.Shape.Shape.{option, box, vector};
-ghost use Rattle.archive_shape_layout.specs.Shape.Pointee.{sized};
+ghost use Rattle.archive_shape_layout.specs.Shape.Shape.{shared, option, box, vector};
+ghost use Rattle.archive_shape_layout.specs.Shape.Pointee.{sized, str};
 ghost use Rattle.archive_shape_layout.specs.Value.{Value};
 ghost use Rattle.archive_forms_reading.specs.Parts.{HasValue};
 ghost use Rattle.archive_forms_deserializing.specs.Deserializing.{Deserializes, DeserializesBy};
 ghost use Rattle.archive_forms_deserializing.specs.Reading.{reads_all, reads_as, reads_in, reads_option};
 ghost use Rattle.cabinet_documents.specs.Node.{node_shape, KnowsNode};
 ghost use Rattle.cabinet_documents.specs.Denotes.{Denotes};
+ghost use Rattle.cabinet_spelling.specs.Spelling.{shared_string_spelling};
 ghost use Rattle.cabinet_text_nodes.specs.Archived.{archived_as};
 ghost use Rattle.cabinet_text_nodes.specs.View.{node_tree};
 
@@ -16,12 +18,25 @@ use crate::node::Node;
 use archive_forms_deserializing::{
     Deserialize, ReadBack, deserialize_box_each, deserialize_option_each, deserialize_vec_each,
 };
+use archive_forms_rc::{ArchivedRcStr, RcFlavor};
 use archive_forms_reading::{ArchivedBox, ArchivedOption, ArchivedVec, native_of};
 use archive_forms_text::ArchivedString;
 use archive_shape::{Error, Ref};
 use cabinet_archived::{ArchivedKind, ArchivedNode};
 use std::alloc::Global;
 use std::marker::PhantomData;
+use std::rc::RcStr;
+
+/// Reads a shared text back, as a text of its own.
+fn deserialize_shared(text: Ref<'_, ArchivedRcStr<RcFlavor>>, alloc: Global) -> Result<RcStr, Error>
+    requires { HasValue (shared false str) (λ _. ⊤) text.bytes.now text.pos }
+    ensures { Deserializes (reads_in (λ s. rc_str_bytes s) (reads_as shared_string_spelling)) (shared false str) (λ _. ⊤) text.entry.bytes.now text.entry.pos result }
+{
+    match RcStr::from_str(alloc, ArchivedRcStr::<RcFlavor>::get(text)) {
+        Ok(text) => Ok(text),
+        Err(e) => Err(e.into()),
+    }
+}
 
 /// Reads the box of a node back.
 #[cycle(read)]
@@ -125,6 +140,10 @@ fn deserialize_node<D>(
         ArchivedKind::Int(number) => Ok(Node::Int(native_of(number))),
         ArchivedKind::Text(text) => match ArchivedString::deserialize(&text, alloc, deserializer) {
             Ok(text) => Ok(Node::Text(text)),
+            Err(e) => Err(e),
+        },
+        ArchivedKind::Shared(text) => match deserialize_shared(text, alloc) {
+            Ok(text) => Ok(Node::Shared(text)),
             Err(e) => Err(e),
         },
         ArchivedKind::Maybe(maybe) => match deserialize_maybe(maybe, alloc, deserializer) {

@@ -1,8 +1,8 @@
 use Rattle.std.proofs.Common.{arith, refl}
-use Rattle.std.specs.Prelude.{true}
+use Rattle.std.specs.Prelude.{true, false}
 use Rattle.std.specs.Int.{w64}
-use Rattle.archive_shape_layout.specs.Shape.Shape.{number, truth, text, option, box, vector}
-use Rattle.archive_shape_layout.specs.Shape.Pointee.{sized}
+use Rattle.archive_shape_layout.specs.Shape.Shape.{number, truth, text, shared, option, box, vector}
+use Rattle.archive_shape_layout.specs.Shape.Pointee.{sized, str}
 use Rattle.archive_forms_spelling.proofs.Levels.{option_box_sized}
 use Rattle.cabinet_documents.specs.Node.{node_shape}
 use Rattle.cabinet_archived.proofs.Nodes.{payload_checked, other_refused}
@@ -24,6 +24,10 @@ pub check_node-returns-in-2-clause-exact : goal.check_node-returns-in-2-clause-e
 check_node-returns-in-2-clause-exact g t c = λ names known.
     payload_checked names c.args.bytes.now c.args.pos known _ _ 2 text _ c.in-2.is refl (omega arith) (c.check-in-2.ensures.exact names tt)
 
+pub check_node-returns-in-3-clause-exact : goal.check_node-returns-in-3-clause-exact
+check_node-returns-in-3-clause-exact g t c = λ names known.
+    payload_checked names c.args.bytes.now c.args.pos known _ _ 3 (shared false str) _ c.in-3.is refl (omega arith) (c.check-in-3.ensures.exact names tt)
+
 pub check_node-returns-in-4-clause-exact : goal.check_node-returns-in-4-clause-exact
 check_node-returns-in-4-clause-exact g t c = λ names known.
     payload_checked names c.args.bytes.now c.args.pos known _ _ 4 (option (box (sized node_shape))) _ c.in-4.is refl (omega arith) (c.check_maybe.ensures.exact names known)
@@ -35,4 +39,4 @@ check_node-returns-in-5-clause-exact g t c = λ names known.
 pub check_node-returns-in_default-clause-exact : goal.check_node-returns-in_default-clause-exact
 check_node-returns-in_default-clause-exact g t c = λ names known.
     let other = c.in_default in
-    other_refused names c.args.bytes.now c.args.pos known _ (g.C.ArchiveContext.kept c.args.context.now) (λ e. omega arith, λ e. omega arith, λ e. omega arith, λ e. omega arith) (λ e. omega arith)
+    other_refused names c.args.bytes.now c.args.pos known _ (g.C.ArchiveContext.kept c.args.context.now) (λ e. omega arith, λ e. omega arith, λ e. omega arith, λ e. omega arith, λ e. omega arith) (λ e. omega arith)

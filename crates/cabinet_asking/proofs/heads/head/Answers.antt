@@ -1,16 +1,20 @@
 use Rattle.std.proofs.Common.{sym, subst, ap, ◌∙◌, Bor, List, ℕ, to_z, of_z, arith}
 use Rattle.std.proofs.lemmas.Int.{to_z-of_z}
-use Rattle.std.specs.Prelude.{true, ⊤}
+use Rattle.std.specs.Prelude.{true, false, ⊤}
 use Rattle.std.specs.Int.{w64}
+use Rattle.archive_shape_layout.specs.Bytes.{window}
 use Rattle.archive_shape_layout.specs.Shape.Shape.{number, truth, text}
+use Rattle.archive_shape_layout.specs.Shape.Pointee.{str}
 use Rattle.archive_shape_layout.specs.Value.Value.{integer}
 use Rattle.archive_shape.specs.Key.{HeldAt}
 use Rattle.archive_forms_layout.specs.Text.{HasText, IsText}
+use Rattle.archive_forms_rc.specs.Pointers.{HasCounted, IsRcStrAt}
 use Rattle.archive_forms_reading.specs.Parts.{IsNoneAt, IsSomeAt, IsVecAt}
 use Rattle.cabinet_text_grammar.specs.Tree as tree
 use Rattle.cabinet_documents.specs.Node.{node_shape, KnowsNode}
+use Rattle.cabinet_archived.proofs.Shared.{counted_there}
 use Rattle.cabinet_asking.proofs.Ways.{Boxed}
-use Rattle.cabinet_asking.proofs.Payloads.{text_has, text_is, leaf_head, none_head, some_head, list_head}
+use Rattle.cabinet_asking.proofs.Payloads.{text_has, text_is, leaf_head, shared_head, none_head, some_head, list_head}
 use Rattle.cabinet_asking.proofs.heads.head.Goals as goal
 
 pub as_str-requires : goal.as_str-requires
@@ -38,6 +42,19 @@ returns-in-Text c =
     let there = subst (λ (b : Bor (List ℕ)). IsText b.now c.in-Text.text.pos c.as_str.result.now) is.0 c.as_str.ensures in
     leaf_head c.args.node.bytes.now c.args.node.pos (tree.text c.as_str.result.now) 2 text (λ _. ⊤) c.in-Text.text.pos (omega arith) is.2
     (text_is (λ _. ⊤) c.args.node.bytes.now c.in-Text.text.pos c.as_str.result.now there)
+
+pub get-requires : goal.get-requires
+get-requires c =
+    let is = c.in-Shared.ensures in
+    subst (λ (b : Bor (List ℕ)). HasCounted false str (λ _. ⊤) b.now c.in-Shared.text.pos) (sym is.0) (counted_there str (λ _. ⊤) c.args.node.bytes.now c.in-Shared.text.pos is.2.there)
+
+pub returns-in-Shared : goal.returns-in-Shared
+returns-in-Shared c =
+    let is = c.in-Shared.ensures in
+    let got = c.get.ensures in
+    shared_head c.args.node.bytes.now c.args.node.pos c.in-Shared.text.pos got.0 got.1 c.get.result.now is.2
+    (subst (λ (b : Bor (List ℕ)). IsRcStrAt false b.now c.in-Shared.text.pos got.0 got.1) is.0 got.2)
+    (got.3 ∙ ap (λ (b : Bor (List ℕ)). window b.now got.0 got.1) is.0)
 
 pub returns-then-is_none : goal.returns-then-is_none
 returns-then-is_none c =

@@ -2,28 +2,30 @@ use Rattle.std.proofs.Common.{arith, [], refl}
 use Rattle.archive_shape_layout.specs.Visited.AllStand.{none_stand}
 use Rattle.cabinet_documents.specs.Node.{node_shape, node_names}
 use Rattle.cabinet_opening.proofs.Depths.{moved, now}
-use Rattle.cabinet_opening.proofs.Audited.{audited, refused_for}
+use Rattle.cabinet_opening.proofs.Audited.{audited, refused_for, none}
 use Rattle.cabinet_opening.proofs.opening.check.Goals as goal
 
 pub is_shallow-requires : goal.is_shallow-requires
 is_shallow-requires c =
-    let has = c.in-Ok.ensures.value node_names [] [] refl (λ other. refl) (none_stand refl) in
+    let unmet = none c.args.bytes.now _ _ _ _ c.new-context.ensures.archive c.new-context.ensures.shared c.with_max_depth.ensures c.new.ensures in
+    let has = c.in-Ok.ensures.value node_names [] [] refl unmet (none_stand refl) in
     record { value = has.value; held = moved node_shape _ _ _ _ (now c.in-Ok.ensures.bytes) c.in-Ok.ensures.position has.value has.held }
 
 pub returns-then-is_shallow-clause-accepted : goal.returns-then-is_shallow-clause-accepted
 returns-then-is_shallow-clause-accepted c =
-    let a = audited c.args.bytes.now _ c.with_max_depth-context.ensures _ c.is_shallow.result (λ i. omega (arith, c.type_inv.bytes i)) (c.in-Ok.ensures.exact node_names refl)
+    let a = audited c.args.bytes.now _ _ _ _ c.new-context.ensures.archive c.new-context.ensures.shared c.with_max_depth.ensures c.new.ensures
+    _ c.is_shallow.result (λ i. omega (arith, c.type_inv.bytes i)) (c.in-Ok.ensures.exact node_names refl)
     (λ v t h d. c.is_shallow.ensures v t (moved node_shape _ _ _ _ (now c.in-Ok.ensures.bytes) c.in-Ok.ensures.position v h) d) in
     (a.tree, a.accepted c.if-is_shallow.true)
 
 pub returns-in-Ok-clause-refused : goal.returns-in-Ok-clause-refused
 returns-in-Ok-clause-refused c =
-    let a = audited c.args.bytes.now _ c.with_max_depth-context.ensures _ c.is_shallow.result (λ i. omega (arith, c.type_inv.bytes i)) (c.in-Ok.ensures.exact node_names refl)
+    let a = audited c.args.bytes.now _ _ _ _ c.new-context.ensures.archive c.new-context.ensures.shared c.with_max_depth.ensures c.new.ensures
+    _ c.is_shallow.result (λ i. omega (arith, c.type_inv.bytes i)) (c.in-Ok.ensures.exact node_names refl)
     (λ v t h d. c.is_shallow.ensures v t (moved node_shape _ _ _ _ (now c.in-Ok.ensures.bytes) c.in-Ok.ensures.position v h) d) in
     a.refused c.if-is_shallow.false
 
-pub returns : goal.returns
-returns c = record {
-  accepted = tt;
-  refused = refused_for c.args.bytes.now _ c.with_max_depth-context.ensures c.in-Err.error c.refused.result c.refused.ensures (c.in-Err.ensures.exact node_names refl);
-}
+pub returns-clause-refused : goal.returns-clause-refused
+returns-clause-refused c =
+    refused_for c.args.bytes.now _ _ _ _ c.new-context.ensures.archive c.new-context.ensures.shared c.with_max_depth.ensures c.new.ensures
+    c.in-Err.error c.refused.result c.refused.ensures (c.in-Err.ensures.exact node_names refl)

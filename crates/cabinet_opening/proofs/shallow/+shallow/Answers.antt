@@ -56,6 +56,9 @@ is_shallow-returns-in-Int t c = leaf_told c.args.node.bytes.now c.args.node.pos 
 pub is_shallow-returns-in-Text : goal.is_shallow-returns-in-Text
 is_shallow-returns-in-Text t c = leaf_told c.args.node.bytes.now c.args.node.pos 2 c.args.room _ _ _ (omega arith) c.in-Text.ensures.2
 
+pub is_shallow-returns-in-Shared : goal.is_shallow-returns-in-Shared
+is_shallow-returns-in-Shared t c = leaf_told c.args.node.bytes.now c.args.node.pos 3 c.args.room _ _ _ (omega arith) c.in-Shared.ensures.2
+
 pub is_shallow-returns-in-Maybe : goal.is_shallow-returns-in-Maybe
 is_shallow-returns-in-Maybe t c =
     payload_told c.args.node.bytes.now c.args.node.pos 4 c.args.room _ _ _ c.is_option_shallow.result (HeldAt (option (box (sized node_shape))) KnowsNode c.in-Maybe.maybe.bytes.now c.in-Maybe.maybe.pos) c.in-Maybe.ensures.2

@@ -1,4 +1,4 @@
-use Rattle.std.proofs.Common.{◌++◌, ap, refl, ◌∙◌, subst}
+use Rattle.std.proofs.Common.{◌++◌, ap, ◌∙◌, subst}
 use Rattle.archive_shape_writing.specs.Writing.{WriterMembers, Cut}
 use Rattle.cabinet_saving.proofs.Saves.{cut_of, nothing_cut, unsaved}
 use Rattle.cabinet_saving.proofs.saving.save.Goals as goal

@@ -1,10 +1,9 @@
 use Rattle.std.proofs.Common.{rules, ap, ◌∙◌}
-use Rattle.std.specs.Rc.{rc_str_bytes}
 use Rattle.archive_shape_writing.specs.Writing.{WriterMembers}
 use Rattle.cabinet_text_grammar.specs.Keys.{ordered, hashed, kept}
 use Rattle.cabinet_text_nodes.specs.View.{node_tree, node_pairs}
-use Rattle.cabinet_text_nodes.proofs.Views.{node_tree-shared, node_tree-ordered, node_tree-hashed, node_tree-kept}
-use Rattle.cabinet_text_nodes.proofs.Written.{list_written, element_below, only_element, text_wrote, maybe_wrote, maybe_refused, list_wrote, list_refused, shared_refused, map_refused}
+use Rattle.cabinet_text_nodes.proofs.Views.{node_tree-ordered, node_tree-hashed, node_tree-kept}
+use Rattle.cabinet_text_nodes.proofs.Written.{list_written, element_below, only_element, text_wrote, shared_wrote, shared_refused, maybe_wrote, maybe_refused, list_wrote, list_refused, map_refused}
 use Rattle.cabinet_text_nodes.proofs.archived.+serialize.Goals as goal
 
 pub serialize_list-serialize_vec_each-requires-clause-takes : goal.serialize_list-serialize_vec_each-requires-clause-takes
@@ -25,6 +24,16 @@ serialize_node-returns-in-Ok g t c =
     let m : WriterMembers g.row.S.Denot = record { known = g.S.Registry.known; pos = g.S.Positional.pos; OBSERVABLE = g.S.Writer.OBSERVABLE; COUNTS = g.S.Writer.COUNTS; contents = g.S.Writer.contents; failures = g.S.Writer.failures; last_error = g.S.Writer.last_error } in
     text_wrote m c.args.node.now c.args.serializer.now c.serialize.new.serializer c.in-Text.text c.in-Ok.kept c.in-Text.is c.in-Ok.ensures
 
+pub serialize_node-returns-in-Ok-serialize_text : goal.serialize_node-returns-in-Ok-serialize_text
+serialize_node-returns-in-Ok-serialize_text g t c =
+    let m : WriterMembers g.row.S.Denot = record { known = g.S.Registry.known; pos = g.S.Positional.pos; OBSERVABLE = g.S.Writer.OBSERVABLE; COUNTS = g.S.Writer.COUNTS; contents = g.S.Writer.contents; failures = g.S.Writer.failures; last_error = g.S.Writer.last_error } in
+    shared_wrote m c.args.node.now c.args.serializer.now c.serialize_text.new.self c.in-Shared.text c.as_str.result.now c.in-Ok-serialize_text.pos c.in-Shared.is c.as_str.ensures.value c.in-Ok-serialize_text.ensures
+
+pub serialize_node-returns-in-Err-serialize_text : goal.serialize_node-returns-in-Err-serialize_text
+serialize_node-returns-in-Err-serialize_text g t c =
+    let m : WriterMembers g.row.S.Denot = record { known = g.S.Registry.known; pos = g.S.Positional.pos; OBSERVABLE = g.S.Writer.OBSERVABLE; COUNTS = g.S.Writer.COUNTS; contents = g.S.Writer.contents; failures = g.S.Writer.failures; last_error = g.S.Writer.last_error } in
+    shared_refused m c.args.node.now c.args.serializer.now c.serialize_text.new.self c.in-Shared.text c.as_str.result.now c.in-Err-serialize_text.e c.in-Shared.is c.as_str.ensures.value c.in-Err-serialize_text.ensures
+
 pub serialize_node-returns-in-Ok-serialize_maybe : goal.serialize_node-returns-in-Ok-serialize_maybe
 serialize_node-returns-in-Ok-serialize_maybe g t c =
     let m : WriterMembers g.row.S.Denot = record { known = g.S.Registry.known; pos = g.S.Positional.pos; OBSERVABLE = g.S.Writer.OBSERVABLE; COUNTS = g.S.Writer.COUNTS; contents = g.S.Writer.contents; failures = g.S.Writer.failures; last_error = g.S.Writer.last_error } in
@@ -44,11 +53,6 @@ pub serialize_node-returns-in-Err-serialize_list : goal.serialize_node-returns-i
 serialize_node-returns-in-Err-serialize_list g t c =
     let m : WriterMembers g.row.S.Denot = record { known = g.S.Registry.known; pos = g.S.Positional.pos; OBSERVABLE = g.S.Writer.OBSERVABLE; COUNTS = g.S.Writer.COUNTS; contents = g.S.Writer.contents; failures = g.S.Writer.failures; last_error = g.S.Writer.last_error } in
     list_refused m c.args.node.now c.args.serializer.now c.serialize_list.new.serializer c.in-List.nodes c.in-Err-serialize_list.e c.in-List.is c.in-Err-serialize_list.ensures
-
-pub serialize_node-returns-in-Shared : goal.serialize_node-returns-in-Shared
-serialize_node-returns-in-Shared g t c =
-    let m : WriterMembers g.row.S.Denot = record { known = g.S.Registry.known; pos = g.S.Positional.pos; OBSERVABLE = g.S.Writer.OBSERVABLE; COUNTS = g.S.Writer.COUNTS; contents = g.S.Writer.contents; failures = g.S.Writer.failures; last_error = g.S.Writer.last_error } in
-    shared_refused m c.args.node.now c.args.serializer.now (rc_str_bytes c.in-Shared.field-0) (ap node_tree c.in-Shared.is ∙ node_tree-shared c.in-Shared.field-0)
 
 pub serialize_node-returns-in-Ordered : goal.serialize_node-returns-in-Ordered
 serialize_node-returns-in-Ordered g t c =

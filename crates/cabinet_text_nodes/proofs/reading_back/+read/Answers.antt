@@ -1,16 +1,16 @@
-use Rattle.std.proofs.Common.{rules, ap, true, w64}
+use Rattle.std.proofs.Common.{rules, ap, true, false, w64}
 use Rattle.std.specs.Prelude.{⊤}
 use Rattle.std.proofs.lemmas.Int.{to_z-of_z}
 use Rattle.std.specs.Prelude.{string_bytes}
-use Rattle.archive_shape_layout.specs.Shape.Shape.{number, truth, text, option, box, vector}
-use Rattle.archive_shape_layout.specs.Shape.Pointee.{sized}
+use Rattle.archive_shape_layout.specs.Shape.Shape.{number, truth, text, shared, option, box, vector}
+use Rattle.archive_shape_layout.specs.Shape.Pointee.{sized, str}
 use Rattle.archive_shape_layout.specs.Value.Value.{integer, boolean, string}
 use Rattle.archive_shape_canonical.specs.Sharing.{erased}
 use Rattle.cabinet_text_grammar.specs.Tree as tree
 use Rattle.cabinet_documents.specs.Node.{node_shape, KnowsNode}
 use Rattle.cabinet_text_nodes.specs.declared.node.Node.TheVariants as node
 use Rattle.cabinet_text_nodes.proofs.Views.{node_tree-bool, node_tree-int, node_tree-text}
-use Rattle.cabinet_text_nodes.proofs.ReadBack.{plain_as, maybe_as, maybe_plain, list_as, list_plain, payload_read}
+use Rattle.cabinet_text_nodes.proofs.ReadBack.{plain_as, shared_plain, maybe_as, maybe_plain, list_as, list_plain, payload_read}
 use Rattle.cabinet_text_nodes.proofs.reading_back.+read.Goals as goal
 
 pub deserialize_node-returns-in-Bool : goal.deserialize_node-returns-in-Bool
@@ -32,6 +32,11 @@ deserialize_node-returns-in-Ok g t c =
     let s = c.in-Ok.text in
     payload_read c.args.node.bytes c.in-Text.text.bytes c.args.node.pos 2 text (λ _. ⊤) _ c.in-Text.ensures.0 c.in-Text.ensures.2
     (node.Text s) (string (string_bytes s)) (plain_as (node.Text s) (tree.leaf (tree.text (string_bytes s))) (node_tree-text s)) c.in-Ok.ensures
+
+pub deserialize_node-returns-in-Ok-deserialize_shared : goal.deserialize_node-returns-in-Ok-deserialize_shared
+deserialize_node-returns-in-Ok-deserialize_shared g t c =
+    payload_read c.args.node.bytes c.in-Shared.text.bytes c.args.node.pos 3 (shared false str) (λ _. ⊤) _ c.in-Shared.ensures.0 c.in-Shared.ensures.2
+    (node.Shared c.in-Ok-deserialize_shared.text) _ (shared_plain c.in-Ok-deserialize_shared.text) c.in-Ok-deserialize_shared.ensures
 
 pub deserialize_node-returns-in-Ok-deserialize_maybe : goal.deserialize_node-returns-in-Ok-deserialize_maybe
 deserialize_node-returns-in-Ok-deserialize_maybe g t c =

@@ -1,8 +1,8 @@
 use Rattle.std.proofs.Common.{arith, refl}
-use Rattle.std.specs.Prelude.{true, ⊤}
+use Rattle.std.specs.Prelude.{true, false, ⊤}
 use Rattle.std.specs.Int.{w64}
-use Rattle.archive_shape_layout.specs.Shape.Shape.{number, truth, text, option, box, vector}
-use Rattle.archive_shape_layout.specs.Shape.Pointee.{sized}
+use Rattle.archive_shape_layout.specs.Shape.Shape.{number, truth, text, shared, option, box, vector}
+use Rattle.archive_shape_layout.specs.Shape.Pointee.{sized, str}
 use Rattle.archive_forms_spelling.proofs.Levels.{option_box_sized}
 use Rattle.cabinet_documents.specs.Node.{node_shape, KnowsNode}
 use Rattle.cabinet_archived.proofs.Nodes.{tagged_at, is_list}
@@ -29,6 +29,13 @@ returns-in-2 c = (
   tagged_at c.args.this.bytes.now c.args.this.pos c.requires 2 text (λ _. ⊤) _ c.new-in-2.ensures.pos c.in-2.is refl (omega arith) (omega arith) (λ names known. tt),
 )
 
+pub returns-in-3 : goal.returns-in-3
+returns-in-3 c = (
+  c.new-in-3.ensures.bytes,
+  c.new-in-3.ensures.pos,
+  tagged_at c.args.this.bytes.now c.args.this.pos c.requires 3 (shared false str) (λ _. ⊤) _ c.new-in-3.ensures.pos c.in-3.is refl (omega arith) (omega arith) (λ names known. tt),
+)
+
 pub returns-in-4 : goal.returns-in-4
 returns-in-4 c = (
   c.new-in-4.ensures.bytes,
@@ -39,7 +46,7 @@ returns-in-4 c = (
 pub returns-in_default : goal.returns-in_default
 returns-in_default c =
     let other = c.in_default in
-    let tag = is_list c.args.this.bytes.now c.args.this.pos c.requires (λ e. omega arith, λ e. omega arith, λ e. omega arith, λ e. omega arith) in (
+    let tag = is_list c.args.this.bytes.now c.args.this.pos c.requires (λ e. omega arith, λ e. omega arith, λ e. omega arith, λ e. omega arith, λ e. omega arith) in (
       c.new-in_default.ensures.bytes,
       c.new-in_default.ensures.pos,
       tagged_at c.args.this.bytes.now c.args.this.pos c.requires 5 (vector node_shape) KnowsNode _ c.new-in_default.ensures.pos tag refl (omega arith) (omega arith) (λ names known. known),

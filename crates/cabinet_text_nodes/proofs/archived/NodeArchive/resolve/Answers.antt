@@ -7,8 +7,8 @@ use Rattle.archive_forms_writing.proofs.Results.{payload_can}
 use Rattle.archive_forms_writing.specs.Owned.{string_spelling as archived_text}
 use Rattle.cabinet_spelling.specs.Spelling.{truth_spelling, number_spelling}
 use Rattle.cabinet_text_nodes.specs.View.{node_tree}
-use Rattle.cabinet_text_nodes.proofs.Views.{node_tree-shared, node_tree-ordered, node_tree-hashed, node_tree-kept}
-use Rattle.cabinet_text_nodes.proofs.Resolved.{truth_place, number_place, text_place, truth_resolved, number_resolved, text_resolved, maybe_resolved, list_resolved, text_made, own_refused_as}
+use Rattle.cabinet_text_nodes.proofs.Views.{node_tree-ordered, node_tree-hashed, node_tree-kept}
+use Rattle.cabinet_text_nodes.proofs.Resolved.{truth_place, number_place, text_place, truth_resolved, number_resolved, text_resolved, shared_resolved, maybe_resolved, list_resolved, text_made, own_refused_as}
 use Rattle.cabinet_text_nodes.proofs.archived.NodeArchive.resolve.Goals as goal
 
 pub resolve-requires : goal.resolve-requires
@@ -47,6 +47,11 @@ returns-in-Text c =
     text_resolved c.args.resolver c.args.out.out.now c.within-place.result.out.now c.resolve-in-Text.new.out.0 _ c.args.out.start c.args.out.pos c.within-place.result.start c.within-place.result.pos c.resolve-in-Text.result
     c.requires.room c.requires.blank (search rules) c.args.self.now c.in-Text.text c.in-Text.is c.within-place.ensures.bytes c.within-place.ensures.start c.within-place.ensures.pos c.text_kept.result c.text_kept.ensures c.resolve-in-Text.ensures
 
+pub returns-in-Shared : goal.returns-in-Shared
+returns-in-Shared c =
+    shared_resolved c.args.resolver c.args.out.out.now c.within-place-in-Shared.result.out.now c.resolve_shared.new.out.0 _ c.args.out.start c.args.out.pos c.within-place-in-Shared.result.start c.within-place-in-Shared.result.pos c.resolve_shared.result
+    c.requires.room c.requires.blank (search rules) c.args.self.now c.in-Shared.text c.in-Shared.is c.within-place-in-Shared.ensures.bytes c.within-place-in-Shared.ensures.start c.within-place-in-Shared.ensures.pos c.shared_kept.result c.shared_kept.ensures c.resolve_shared.ensures
+
 pub returns-in-Maybe : goal.returns-in-Maybe
 returns-in-Maybe c =
     maybe_resolved c.args.resolver c.args.out.out.now c.within-place-in-Maybe.result.out.now c.resolve_maybe.new.out.0 _ c.args.out.start c.args.out.pos c.within-place-in-Maybe.result.start c.within-place-in-Maybe.result.pos c.resolve_maybe.result
@@ -56,9 +61,6 @@ pub returns-in-List : goal.returns-in-List
 returns-in-List c =
     list_resolved c.args.resolver c.args.out.out.now c.within-place-in-List.result.out.now c.resolve_list.new.out.0 _ c.args.out.start c.args.out.pos c.within-place-in-List.result.start c.within-place-in-List.result.pos c.resolve_list.result
     c.requires.room c.requires.blank (search rules) c.args.self.now c.in-List.nodes c.in-List.is c.within-place-in-List.ensures.bytes c.within-place-in-List.ensures.start c.within-place-in-List.ensures.pos c.list_kept.result c.list_kept.ensures c.resolve_list.ensures
-
-pub returns-in-Shared : goal.returns-in-Shared
-returns-in-Shared c = own_refused_as c.args.self.now _ c.args.resolver c.args.out.pos (ap node_tree c.in-Shared.is ∙ node_tree-shared c.in-Shared.field-0) refl
 
 pub returns-in-Ordered : goal.returns-in-Ordered
 returns-in-Ordered c = own_refused_as c.args.self.now _ c.args.resolver c.args.out.pos (ap node_tree c.in-Ordered.is ∙ node_tree-ordered c.in-Ordered.field-0) refl
