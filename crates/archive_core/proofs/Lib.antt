@@ -1,3 +1,4 @@
+pub mod Apart
 pub mod From
 pub mod Joined
 pub mod Laid

@@ -1,11 +1,11 @@
 -- Laws of whole archives, as statements.
-use Rattle.std.specs.Prelude.{ℕ, ◌<◌, ◌^◌, List, length}
+use Rattle.std.specs.Prelude.{◌≡◌, ◌≢◌, ℕ, ◌<◌, ◌^◌, List, length, Some}
 use Rattle.archive_shape_layout.specs.Shape.{Shape}
 use Rattle.archive_shape_layout.specs.Value.{Value}
 use Rattle.archive_shape_layout.specs.Content.{Names}
-use Rattle.archive_shape_layout.specs.Holds.{root_position}
+use Rattle.archive_shape_layout.specs.Holds.{Visit, root_position}
 use Rattle.archive_shape_canonical.specs.Settled.{Fit}
-use Rattle.archive_forms_spelling.specs.State.{Keys, AreOneToOne}
+use Rattle.archive_forms_spelling.specs.State.{State, Keys, AreOneToOne, IsConsistent, visit_of_key}
 use Rattle.archive_forms_spelling.specs.Spelling.{Spelling}
 use Rattle.archive_forms_deserializing.specs.Deserializing.{IsReadAt}
 use Rattle.archive_core_validation.specs.Depth.{unlimited}
@@ -34,3 +34,14 @@ module _ {A R : Type 0} (s : Shape) (knows : Names → Type 0) (w : Spelling A R
       → MadeArchive s knows w x bytes
       → IsReadAt reads s knows bytes (root_position (length bytes) s) y
       → reads (w.plain x) y
+
+  -- two shared values that were written under different keys, when a value's data was or before, stand at different positions
+  abbrev pub KeysStandApart : Type 0
+  KeysStandApart =
+      (x : A) (st : State) (k l : ℕ) (a b : Visit)
+      → IsConsistent st
+      → w.piece_fits x st
+      → visit_of_key (w.met x st) k ≡ Some a
+      → visit_of_key (w.met x st) l ≡ Some b
+      → k ≢ l
+      → a.pos ≢ b.pos

@@ -1,6 +1,6 @@
 //! The laws of archives and of all that they are made of. Each is a function without a body, which carries the law as its
 //! contract.
-ghost use Rattle.archive_core.specs.Laws.{WrittenIsAccepted, ReadBackIsWritten};
+ghost use Rattle.archive_core.specs.Laws.{WrittenIsAccepted, ReadBackIsWritten, KeysStandApart};
 
 pub use archive_core_access::unlimited_is_no_limit;
 pub use archive_core_nesting::laws::nesting_is_bounded;
@@ -36,4 +36,10 @@ pub fn read_back_is_written<T: Archive>()
 where
     T::Archived: ReadBack<T>,
     ensures { ReadBackIsWritten T.Archived.shape T.Archived.knows T.spelling T.Archived.reads }
+{}
+
+/// Shared values with different keys get different positions: at every state that writing comes to from where nothing was
+/// written.
+pub fn keys_stand_apart<T: Archive>()
+    ensures { KeysStandApart T.Archived.shape T.Archived.knows T.spelling }
 {}

@@ -8,14 +8,15 @@ ghost use Rattle.archive_core_validation.specs.Depth.{unlimited};
 ghost use Rattle.archive_core_access.specs.Access.{Decides};
 
 use archive_core_access::access;
+use archive_core_sharing::Unpool;
 use archive_core_validation::HighValidator;
 use archive_forms_deserializing::Deserialize;
 use archive_forms_writing::Archive;
 use archive_shape::{CheckBytes, Error, Ref};
 use std::alloc::Global;
 
-/// The deserializer of values without shared parts.
-pub type HighDeserializer = ();
+/// The deserializer of `from_bytes`. It keeps nothing: a shared value is read anew at each pointer that leads to it.
+pub type HighDeserializer = Unpool;
 
 /// Reads a value back.
 pub fn deserialize<T: Archive, A: Deserialize<T, HighDeserializer>>(
@@ -25,7 +26,7 @@ pub fn deserialize<T: Archive, A: Deserialize<T, HighDeserializer>>(
     requires { HasValue A.shape A.knows value.now.bytes.now value.now.pos }
     ensures { Deserializes A.reads A.shape A.knows value.now.bytes.now value.now.pos result }
 {
-    A::deserialize(value, alloc, &mut ())
+    A::deserialize(value, alloc, &mut Unpool)
 }
 
 /// Checks an archive, and reads its root back. Refuses what `access` does.

@@ -3,10 +3,12 @@
 
 mod exact;
 mod pool;
+mod pooling_ext;
 mod share;
 mod unpool;
 
 pub use exact::{ExactClone, RcValue};
 pub use pool::Pool;
+pub use pooling_ext::PoolingExt;
 pub use share::Share;
 pub use unpool::Unpool;

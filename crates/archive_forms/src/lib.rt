@@ -15,20 +15,21 @@ pub use archive_forms_collections::{
 pub use archive_forms_comparing::{ArchivedEq, ArchivedOrd, ComparedNative};
 pub use archive_forms_deserializing::{
     Deserialize, DeserializeUnsized, ReadBack, deserialize_array_each, deserialize_box_each,
-    deserialize_boxed_slice_each, deserialize_option_each, deserialize_result_each,
+    deserialize_boxed_slice_each, deserialize_option_each, deserialize_rc_each,
+    deserialize_rc_slice_each, deserialize_rc_weak_each, deserialize_result_each,
     deserialize_tuple1_each, deserialize_tuple2_each, deserialize_tuple3_each,
     deserialize_tuple4_each, deserialize_vec_each,
 };
 pub use archive_forms_hashing::{ArchivedDebug, ArchivedHash};
 pub use archive_forms_rc::{
-    ArchivedRc, ArchivedRcSlice, ArchivedRcStr, ArchivedRcWeak, Flavor, RcFlavor, RcResolver,
-    check_rc_each, check_rc_slice_each, check_rc_str, check_rc_weak_each,
+    Acyclic, ArchivedRc, ArchivedRcSlice, ArchivedRcStr, ArchivedRcWeak, Flavor, RcFlavor,
+    RcResolver, check_rc_each, check_rc_slice_each, check_rc_str, check_rc_weak_each,
 };
 pub use archive_forms_reading::{
     ArchivedBox, ArchivedOption, ArchivedResult, ArchivedVec, BoxResolver, Iter, SliceRef,
     SliceSeal, VecResolver, array_element, array_element_seal, array_slice,
 };
-pub use archive_forms_sharing::{Shared, SharingExt, serialize_rc_from_ref};
+pub use archive_forms_sharing::{Shared, SharedWeak, SharingExt, serialize_rc_from_ref};
 pub use archive_forms_text::{ArchivedString, ArchivedStringRepr, StringResolver};
 pub use archive_forms_tuples::{ArchivedTuple1, ArchivedTuple2, ArchivedTuple3, ArchivedTuple4};
 pub use archive_forms_unsized::{

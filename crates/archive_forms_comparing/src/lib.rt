@@ -36,4 +36,4 @@ pub use native::ComparedNative;
 pub use ord::ArchivedOrd;
 pub use parts::{box_value, option_value, result_outcome};
 pub use text::text_at;
-pub use vector::{element, vector_elements};
+pub use vector::{compare_elements, element, equal_elements, vector_elements};

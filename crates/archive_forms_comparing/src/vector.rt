@@ -32,10 +32,7 @@ pub fn element<'a, T: Portable>(elements: &SliceRef<'a, T>, index: usize) -> Ref
 }
 
 /// Whether the elements are equal one by one, and as many.
-pub(crate) fn equal_elements<T: ArchivedEq>(
-    these: &SliceRef<'_, T>,
-    others: &SliceRef<'_, T>,
-) -> bool
+pub fn equal_elements<T: ArchivedEq>(these: &SliceRef<'_, T>, others: &SliceRef<'_, T>) -> bool
     requires these { HasElements T.shape T.knows these.now.bytes.now these.now.pos these.now.len }
     requires others { HasElements T.shape T.knows others.now.bytes.now others.now.pos others.now.len }
     ensures { OfElements T.shape T.knows these.now.bytes.now these.now.pos these.now.len
@@ -53,7 +50,7 @@ pub(crate) fn equal_elements<T: ArchivedEq>(
 }
 
 /// How the elements stand to the others.
-pub(crate) fn compare_elements<T: ArchivedOrd>(
+pub fn compare_elements<T: ArchivedOrd>(
     these: &SliceRef<'_, T>,
     others: &SliceRef<'_, T>,
 ) -> Ordering

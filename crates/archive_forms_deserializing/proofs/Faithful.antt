@@ -1,16 +1,18 @@
 -- Forms are read back as what was archived, where their parts are.
-use Rattle.std.proofs.Common.{◌≡◌, ℕ, List, [], ◌∷◌, Option, Some, None, Result, Ok, Err, refl, ap, ap₂, ◌∙◌}
-use Rattle.std.specs.Prelude.{Box, Vec}
-use Rattle.std.specs.Global.{Global}
+use Rattle.std.proofs.Common.{◌≡◌, false, List, [], ◌∷◌, Some, None, Ok, Err, refl, ap, ap₂, ◌∙◌}
+use Rattle.std.specs.Rc.{rc_slice_items}
 use Rattle.archive_shape_layout.specs.Shape.{Shape}
+use Rattle.archive_shape_layout.specs.Shape.Shape.{shared}
+use Rattle.archive_shape_layout.specs.Shape.Pointee.{sized}
 use Rattle.archive_shape_layout.specs.Value.{Value, Values}
-use Rattle.archive_shape_layout.specs.Value.Value.{chosen, group}
+use Rattle.archive_shape_layout.specs.Value.Value.{chosen, counted, group}
 use Rattle.archive_shape_layout.specs.Value.Values.{no_values, more_values}
 use Rattle.archive_forms_spelling.specs.Spelling.{Spelling}
 use Rattle.archive_forms_spelling.specs.Options.{option_spelling}
 use Rattle.archive_forms_spelling.specs.Results.{result_spelling}
 use Rattle.archive_forms_spelling.specs.Regions.{plain_values}
-use Rattle.archive_forms_deserializing.specs.Reading.{reads_option, reads_result, reads_each, reads_all, reads_field, reads_group}
+use Rattle.archive_forms_sharing.specs.Counted.{shared_rc_spelling}
+use Rattle.archive_forms_deserializing.specs.Reading.{reads_option, reads_result, reads_each, reads_all, reads_counted, reads_field, reads_group}
 use Rattle.archive_forms_deserializing.specs.Faithful.{IsFaithful, FormsAreFaithful}
 
 module _ {A R : Type 0} (w : Spelling A R) (reads : Value → A → Type 0) (same : IsFaithful w reads) where
@@ -26,6 +28,13 @@ module _ {A R : Type 0} (w : Spelling A R) (reads : Value → A → Type 0) (sam
 
   pub all_faithful : (v : Value) (xs : List A) → reads_all reads v xs → group (plain_values w xs) ≡ v
   all_faithful v xs h = ap group (each_faithful h.0 xs h.2) ∙ h.1
+
+  -- what is counted is archived as it, wherever it stands
+  pub counted_faithful : (v : Value) (x : A) → reads_counted reads v x → counted 0 (w.plain x) ≡ v
+  counted_faithful v x h = ap (counted 0) (same h.0 x h.2) ∙ h.1
+
+  pub counted_all_faithful : (v : Value) (xs : List A) → reads_counted (reads_all reads) v xs → counted 0 (group (plain_values w xs)) ≡ v
+  counted_all_faithful v xs h = ap (counted 0) (all_faithful h.0 xs h.2) ∙ h.1
 
   field_faithful : (x : A) (Others : Values → Type 0) (plain : Values) → ((us : Values) → Others us → plain ≡ us)
       → (vs : Values) → reads_field reads x Others vs → more_values (w.plain x) plain ≡ vs
@@ -53,6 +62,9 @@ module _ {A B C D R Q P O : Type 0} (s t u v : Shape) (a : Spelling A R) (b : Sp
     boxed = λ v x h. same_a v x.value h;
     vector = λ v xs h. all_faithful a read_a same_a v xs.items h;
     boxed_slice = λ v xs h. all_faithful a read_a same_a v xs h;
+    shared = λ v x h. counted_faithful a read_a same_a v x.value.value h;
+    shared_slice = λ v xs h. counted_all_faithful a read_a same_a v (rc_slice_items xs.value) h;
+    shared_weak = λ v x h. option_faithful (shared_rc_spelling s a) _ (λ u y k. counted_faithful a read_a same_a u y.value.value k) (shared false (sized s)) v x.shared h;
     array = λ n v xs h. all_faithful a read_a same_a v xs h;
     tuple1 = λ v x h. group_faithful _ _ (field_faithful a read_a same_a x.0 _ no_values no_field) v h;
     tuple2 = λ v x h. group_faithful _ _ (field_faithful a read_a same_a x.0 _ _ (field_faithful b read_b same_b x.1 _ no_values no_field)) v h;

@@ -1,11 +1,11 @@
 -- What is read back of tuples, one field after the other.
-use Rattle.std.proofs.Common.{◌≡◌, ℕ, ◌+◌, ◌≤◌, arith, zero-add, List, sym, ap, ap₂, subst, ◌∙◌}
+use Rattle.std.proofs.Common.{◌≡◌, ℕ, ◌+◌, ◌≤◌, arith, zero-add, List, sym, ap, subst, ◌∙◌}
 use Rattle.archive_shape_layout.specs.Bytes.{align_up}
 use Rattle.archive_shape_layout.specs.Shape.{Shape, Shapes, size_of, align_of, fields_end}
 use Rattle.archive_shape_layout.specs.Shape.Shape.{tuple}
 use Rattle.archive_shape_layout.specs.Shape.Shapes.{no_shapes, more_shapes}
 use Rattle.archive_shape_layout.specs.Value.{Value, Values}
-use Rattle.archive_shape_layout.specs.Value.Values.{no_values, more_values}
+use Rattle.archive_shape_layout.specs.Value.Values.{no_values}
 use Rattle.archive_shape_layout.specs.Content.{Names}
 use Rattle.archive_shape_layout.proofs.Framed.{le_align_up, le_fields_end}
 use Rattle.archive_shape_references.proofs.PointerSizes.{first_multiple}

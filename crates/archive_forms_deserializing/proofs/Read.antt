@@ -1,5 +1,5 @@
 -- What is read back of leaves, options, boxes, vectors and arrays.
-use Rattle.std.proofs.Common.{◌≡◌, ℕ, Bool, true, false, if◌then◌else◌, suc, ◌+◌, ◌*◌, ◌<◌, ◌≤◌, List, [], ◌∷◌, ◌++◌, length, Some, None, Ok, Err, Result, MatchResult, refl, sym, ap, ap₂, subst, ◌∙◌, arith}
+use Rattle.std.proofs.Common.{◌≡◌, ℕ, Bool, true, false, if◌then◌else◌, suc, ◌+◌, ◌*◌, ◌<◌, ◌≤◌, List, [], ◌∷◌, ◌++◌, length, Some, None, Ok, Err, Result, MatchResult, sym, ap, subst, ◌∙◌, arith}
 use Rattle.std.specs.Prelude.{Box, Vec}
 use Rattle.std.specs.Global.{Global}
 use Rattle.archive_shape_layout.specs.Bytes.{align_up}
@@ -100,7 +100,7 @@ module _ {A : Type 0} (reads : Value → A → Type 0) (s : Shape) (knows : Name
       (h.0 v held, rest)
 
   -- the value of elements is that of those that are read
-  all_values :
+  pub all_values :
       (to len : ℕ) (xs : List A) (v : Value) → AreElements s knows bytes to len v → length xs ≡ len → AreReadFrom reads s knows bytes to xs
       → reads_all reads (erased v) xs
   all_values to len xs v es e read =

@@ -2,3 +2,4 @@ pub mod Deserializing
 pub mod Faithful
 pub mod Reading
 pub mod Steps
+pub mod Weak

@@ -2,7 +2,7 @@
 -- value.
 use Rattle.std.specs.Prelude.{◌≡◌, List, [], ◌∷◌, Option, Some, None, Result, Ok, Err, ⊤}
 use Rattle.archive_shape_layout.specs.Value.{Value, Values}
-use Rattle.archive_shape_layout.specs.Value.Value.{chosen, group}
+use Rattle.archive_shape_layout.specs.Value.Value.{chosen, counted, group}
 use Rattle.archive_shape_layout.specs.Value.Values.{no_values, more_values}
 use Rattle.archive_forms_spelling.specs.Spelling.{Spelling}
 
@@ -30,6 +30,10 @@ module _ {A : Type 0} (reads : Value → A → Type 0) where
   -- the elements of a group
   abbrev pub reads_all : Value → List A → Type 0
   reads_all v xs = (elements : Values) × (group elements ≡ v) × reads_each elements xs
+
+  -- what a shared value is read back as, wherever that stands
+  abbrev pub reads_counted : Value → A → Type 0
+  reads_counted v x = (inner : Value) × (counted 0 inner ≡ v) × reads inner x
 
   -- a field that is read back of the first of some values, where the others are read back as the fields behind it
   abbrev pub reads_field : A → (Values → Type 0) → Values → Type 0

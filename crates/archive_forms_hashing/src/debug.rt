@@ -24,7 +24,7 @@ pub trait ArchivedDebug: Portable {
 }
 
 /// Writes elements between brackets.
-fn fmt_elements<T: ArchivedDebug, W: Write>(
+pub fn fmt_elements<T: ArchivedDebug, W: Write>(
     elements: &SliceRef<'_, T>,
     f: &mut Formatter<W>,
 ) -> fmt::Result

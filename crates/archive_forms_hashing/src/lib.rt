@@ -19,5 +19,6 @@ mod tuple4;
 mod unit;
 mod vector;
 
-pub use debug::ArchivedDebug;
+pub use debug::{ArchivedDebug, fmt_elements};
 pub use hash::ArchivedHash;
+pub use vector::hash_elements;

@@ -14,7 +14,7 @@ use archive_shape::Ref;
 use std::hash::Hasher;
 
 /// Writes the number of the elements, and then each.
-fn hash_elements<T: ArchivedHash, H: Hasher>(elements: &SliceRef<'_, T>, state: &mut H)
+pub fn hash_elements<T: ArchivedHash, H: Hasher>(elements: &SliceRef<'_, T>, state: &mut H)
     requires { HasElements T.shape T.knows elements.now.bytes.now elements.now.pos elements.now.len }
     ensures { (v : Value) → AreElements T.shape T.knows elements.now.bytes.now elements.now.pos elements.now.len v → state.new ≡ fold H.write state.old (vector_hashed T.hashed v) }
 {

@@ -11,7 +11,7 @@ use Rattle.archive_shape_layout.specs.Content.{Names, content_of, made, shape_co
 use Rattle.archive_shape_layout.specs.Content.Part.{at}
 use Rattle.archive_shape_layout.specs.Content.Label.{same}
 use Rattle.archive_shape_layout.specs.Content.Content.{counting}
-use Rattle.archive_shape_layout.specs.Holds.{Holds, Ascends}
+use Rattle.archive_shape_layout.specs.Holds.{Holds}
 use Rattle.archive_shape_layout.proofs.Evaluated.{ascends_lowered, ascends_raised}
 use Rattle.archive_shape_layout.proofs.Rooted.{inside_high}
 use Rattle.archive_shape_layout.proofs.Unique.{by_claimed, by_counting, CountedHolds}

@@ -2,5 +2,6 @@ pub mod Behind
 pub mod Counted
 pub mod Entries
 pub mod Led
+pub mod Reached
 pub mod Tags
 pub mod Visited

@@ -1,3 +1,4 @@
+pub mod Compared
 pub mod Pointers
 pub mod Visits
 pub mod WeakPointers

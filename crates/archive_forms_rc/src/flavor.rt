@@ -1,5 +1,5 @@
 //! The flavors of counted pointers.
-ghost use Rattle.std.specs.Prelude.{◌≡◌, Bool, false};
+ghost use Rattle.std.specs.Prelude.{◌≡◌, Bool, false, refl};
 
 /// Of which kind a counted pointer is.
 pub trait Flavor {
@@ -8,6 +8,12 @@ pub trait Flavor {
     /// Whether a pointer may lead to what it lies inside.
     fn allow_cycles() -> bool
         ensures { result ≡ CYCLES };
+}
+
+/// A flavor that forbids cycles. Its pointers are compared, hashed and printed as what they lead to; around a cycle that would
+/// not end.
+pub trait Acyclic: Flavor {
+    ghost acyclic: { Self.CYCLES ≡ false };
 }
 
 /// The flavor of `Rc` and `Arc`, which forbids cycles.
@@ -20,4 +26,8 @@ impl Flavor for RcFlavor {
     fn allow_cycles() -> bool {
         false
     }
+}
+
+impl Acyclic for RcFlavor {
+    ghost acyclic = { refl };
 }

@@ -5,7 +5,11 @@
 //! the positions that were met (archive_shape_checking specs/Kept).
 #![tactic(auto)]
 
+mod comparing;
+mod debug;
 mod flavor;
+mod hashing;
+mod parts;
 mod resolving;
 mod shared;
 mod shared_slice;
@@ -13,7 +17,7 @@ mod shared_str;
 mod visit;
 mod weak;
 
-pub use flavor::{Flavor, RcFlavor};
+pub use flavor::{Acyclic, Flavor, RcFlavor};
 pub use resolving::RcResolver;
 pub use shared::{ArchivedRc, check_rc_each};
 pub use shared_slice::{ArchivedRcSlice, check_rc_slice_each};

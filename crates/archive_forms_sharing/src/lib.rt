@@ -4,7 +4,9 @@
 
 mod keyed;
 mod sharing_ext;
+mod weak;
 
 pub use archive_forms_rc::RcResolver;
 pub use keyed::Shared;
 pub use sharing_ext::{SharingExt, serialize_rc_from_ref};
+pub use weak::SharedWeak;

@@ -1,5 +1,5 @@
 use Rattle.std.proofs.Common.{[], ◌∷◌}
-use Rattle.archive_shape_layout.specs.Shape.Shapes.{no_shapes, more_shapes}
+use Rattle.archive_shape_layout.specs.Shape.Shapes.{no_shapes}
 use Rattle.archive_forms_tuples.specs.Fields.{field}
 use Rattle.archive_forms_deserializing.proofs.Fields.{field_has, first_ends, tuple_has, none_read, field_read, tuple_read}
 use Rattle.archive_forms_deserializing.proofs.tuple1.deserialize_tuple1_each.Goals as goal

@@ -1,0 +1,34 @@
+//! Counted pointers of flavors that forbid cycles are printed as what they lead to is, and weak pointers of each flavor as
+//! `(Weak)`.
+
+use crate::parts::{rc_elements, rc_text, rc_value};
+use crate::{Acyclic, ArchivedRc, ArchivedRcSlice, ArchivedRcStr, ArchivedRcWeak, Flavor};
+use archive_forms_hashing::{ArchivedDebug, fmt_elements};
+use archive_shape_portable::Portable;
+use archive_shape_references::Ref;
+use std::fmt;
+use std::fmt::{Debug, Formatter, Write};
+
+impl<T: ArchivedDebug, L: Acyclic> ArchivedDebug for ArchivedRc<T, L> {
+    fn fmt<W: Write>(this: &Ref<'_, ArchivedRc<T, L>>, f: &mut Formatter<W>) -> fmt::Result {
+        T::fmt(&rc_value(this), f)
+    }
+}
+
+impl<T: ArchivedDebug, L: Acyclic> ArchivedDebug for ArchivedRcSlice<T, L> {
+    fn fmt<W: Write>(this: &Ref<'_, ArchivedRcSlice<T, L>>, f: &mut Formatter<W>) -> fmt::Result {
+        fmt_elements(&rc_elements(this), f)
+    }
+}
+
+impl<L: Acyclic> ArchivedDebug for ArchivedRcStr<L> {
+    fn fmt<W: Write>(this: &Ref<'_, ArchivedRcStr<L>>, f: &mut Formatter<W>) -> fmt::Result {
+        Debug::fmt(&rc_text(this), f)
+    }
+}
+
+impl<T: Portable, L: Flavor> ArchivedDebug for ArchivedRcWeak<T, L> {
+    fn fmt<W: Write>(_this: &Ref<'_, ArchivedRcWeak<T, L>>, f: &mut Formatter<W>) -> fmt::Result {
+        f.write_str("(Weak)")
+    }
+}

@@ -1,0 +1,43 @@
+//! What counted pointers lead to, as their values are seen where they are compared.
+ghost use Rattle.std.specs.Prelude.{◌≡◌, ⊤};
+ghost use Rattle.archive_shape_layout.specs.Shape.Shape.{shared};
+ghost use Rattle.archive_shape_layout.specs.Shape.Pointee.{sized, slice, str};
+ghost use Rattle.archive_shape_layout.specs.Value.{Value};
+ghost use Rattle.archive_shape.specs.Key.{HeldAt};
+ghost use Rattle.archive_forms_ordering.specs.Views.{text_of};
+ghost use Rattle.archive_forms_reading.specs.Parts.{HasValue, HasElements, AreElements};
+ghost use Rattle.archive_forms_comparing.specs.Compared.{HasPart, OfValue};
+ghost use Rattle.archive_forms_rc.specs.Compared.{counted_of};
+
+use crate::{Acyclic, ArchivedRc, ArchivedRcSlice, ArchivedRcStr};
+use archive_forms_reading::SliceRef;
+use archive_shape_portable::Portable;
+use archive_shape_references::Ref;
+
+/// The value that the pointer leads to.
+pub(crate) fn rc_value<'a, T: Portable, L: Acyclic>(this: &Ref<'a, ArchivedRc<T, L>>) -> Ref<'a, T>
+    requires { HasValue (shared L.CYCLES (sized T.shape)) T.knows this.now.bytes.now this.now.pos }
+    ensures { HasPart (λ v x. counted_of v ≡ x) (shared L.CYCLES (sized T.shape)) T.knows this.now.bytes.now this.now.pos T.shape T.knows result.bytes.now result.pos }
+{
+    ArchivedRc::get(*this)
+}
+
+/// The elements that the pointer leads to.
+pub(crate) fn rc_elements<'a, T: Portable, L: Acyclic>(
+    this: &Ref<'a, ArchivedRcSlice<T, L>>,
+) -> SliceRef<'a, T>
+    requires { HasValue (shared L.CYCLES (slice T.shape)) T.knows this.now.bytes.now this.now.pos }
+    ensures there { HasElements T.shape T.knows result.bytes.now result.pos result.len }
+    ensures elements { (v : Value) → HeldAt (shared L.CYCLES (slice T.shape)) T.knows this.now.bytes.now this.now.pos v
+        → AreElements T.shape T.knows result.bytes.now result.pos result.len (counted_of v) }
+{
+    ArchivedRcSlice::get(*this)
+}
+
+/// The text that the pointer leads to.
+pub(crate) fn rc_text<'a, L: Acyclic>(this: &Ref<'a, ArchivedRcStr<L>>) -> &'a str
+    requires { HasValue (shared L.CYCLES str) (λ _. ⊤) this.now.bytes.now this.now.pos }
+    ensures { OfValue (shared L.CYCLES str) (λ _. ⊤) this.now.bytes.now this.now.pos (λ v. text_of (counted_of v)) result.now }
+{
+    ArchivedRcStr::get(*this)
+}
