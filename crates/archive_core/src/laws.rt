@@ -38,8 +38,8 @@ where
     ensures { ReadBackIsWritten T.Archived.shape T.Archived.knows T.spelling T.Archived.reads }
 {}
 
-/// Shared values with different keys get different positions: at every state that writing comes to from where nothing was
-/// written.
+/// Shared values with different keys stand at different positions, once the data of a value is written from a state in which
+/// those written before it do.
 pub fn keys_stand_apart<T: Archive>()
     ensures { KeysStandApart T.Archived.shape T.Archived.knows T.spelling }
 {}

@@ -11,7 +11,7 @@ pub fn value_denotes()
     ensures { ValueDenotes }
 {}
 
-/// No other value denotes a document that has a layout.
+/// No other value denotes a document that has a layout, but for where shared texts stand.
 pub fn one_value()
     ensures { OneValue }
 {}
