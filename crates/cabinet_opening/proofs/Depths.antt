@@ -1,5 +1,6 @@
 -- How deep the containers of a node lie in one another, by its parts.
-use Rattle.std.proofs.Common.{◌≡◌, ℕ, zero, suc, ◌+◌, ◌*◌, ◌<◌, ◌≤◌, ◌↔◌, Bool, true, false, IsTrue, Bor, List, Option, Some, refl, sym, ap, subst, ◌∙◌, arith}
+use Rattle.std.proofs.Common.{◌≡◌, ℕ, zero, suc, ◌+◌, ◌*◌, ◌<◌, ◌≤◌, ◌↔◌, Bool, true, false, IsTrue, Bor, List, Option, Some, refl, sym, ap, subst, ◌∙◌, arith, ⊎_elim}
+use Rattle.std.proofs.lemmas.Bool.{cases_lt}
 use Rattle.archive_shape_layout.specs.Shape.{Shape, size_of}
 use Rattle.archive_shape_layout.specs.Shape.Shape.{option, box}
 use Rattle.archive_shape_layout.specs.Shape.Pointee.{sized}
@@ -16,7 +17,8 @@ use Rattle.cabinet_documents.specs.Denotes.{Denotes, DenoteAll, tagged_value}
 use Rattle.cabinet_documents.specs.Denotes.Denotes.{denotes_truth, denotes_number, denotes_text, denotes_shared, denotes_nothing, denotes_some, denotes_list, denotes_ordered, denotes_hashed, denotes_kept}
 use Rattle.cabinet_documents.specs.Denotes.DenoteAll.{denote_none, denote_more}
 use Rattle.cabinet_documents.proofs.Changing.{of_some, of_list}
-use Rattle.cabinet_archived.specs.Kind.{IsTagged}
+use Rattle.cabinet_archived.specs.Kind.{IsTagged, IsKindAt}
+use Rattle.cabinet_archived.specs.declared.kind.ArchivedKind.{ArchivedKind}
 
 -- a result tells whether the containers of a document lie in one another within a limit
 abbrev Tells : Bool → Tree → ℕ → Type 0
@@ -104,6 +106,10 @@ most_low room (denote_more {v = v} {vs = vs} {ws = ws} {t = t} {ts = ts} e f d d
 
 -- ---- what each function tells
 
+-- a payload stands where that of an equal kind does
+pub kind_is : {k l : ArchivedKind} (bytes : Bor (List ℕ)) (pos : ℕ) → k ≡ l → IsKindAt bytes pos k → IsKindAt bytes pos l
+kind_is bytes pos e is = subst (IsKindAt bytes pos) e is
+
 -- no container fits where there is no room
 pub no_room : (tag room : ℕ) (w : Value) (t : Tree) → 3 < tag → room < 1 → Denotes (tagged_value tag w) t → Tells false t room
 no_room tag room w t more full d = let some = container_depth refl more d in (λ e. absurd (cc), λ low. absurd (omega (arith, low, some, full)))
@@ -114,6 +120,13 @@ leaf_told bytes pos tag room s knows to less tagged v t h d =
     let p = tagged.payload v h in
     let none = leaf_depth p.is less d in
     (λ e. omega (arith, none), λ low. refl)
+
+pub container_told : (bytes : List ℕ) (pos tag : ℕ) (s : Shape) (knows : Names → Type 0) (to : ℕ) → 3 < tag → IsTagged bytes pos tag s knows to
+    → (v : Value) (t : Tree) → HeldAt node_shape KnowsNode bytes pos v → Denotes v t → Tells false t 0
+container_told bytes pos tag s knows to more tagged v t h d =
+    let p = tagged.payload v h in
+    let some = container_depth p.is more d in
+    (λ e. absurd (cc), λ low. absurd (omega (arith, low, some)))
 
 -- a node's depth is that of the node that its payload is
 pub payload_told : (bytes : List ℕ) (pos tag room : ℕ) (s : Shape) (knows : Names → Type 0) (to : ℕ) (b : Bool) (P : Value → Type 0)
@@ -172,6 +185,17 @@ module _ (bytes : List ℕ) (start : ℕ) where
   pub told_of : (other : List ℕ) (i at left : ℕ) (b : Bool) → other ≡ bytes → at ≡ start + i * size_of node_shape
       → ((v : Value) (u : Tree) → HeldAt node_shape KnowsNode other at v → Denotes v u → Tells b u left) → TellsOf i left b
   told_of other i at left b e f told v u h d = told v u (moved node_shape bytes other (start + i * size_of node_shape) at e f v h) d
+
+  -- what is told of one more node
+  pub one_more_low : (i least left : ℕ) (b : Bool) → least ≤ left → b ≡ true → TellsOf i least b → AreShallowBefore bytes start left i → AreShallowBefore bytes start left (i + 1)
+  one_more_low i least left b within is told before j less =
+      ⊎_elim
+      (before j)
+      (λ g v u h d.
+      let same : j ≡ i = omega (arith, less, g) in
+      let low = (told v u (subst (λ n. HeldAt node_shape KnowsNode bytes (start + n * size_of node_shape) v) same h) d).0 is in
+      omega (arith, low, within))
+      (cases_lt j i)
 
   pub one_deep : (i len left room : ℕ) (b : Bool) → room ≡ suc left → i < len → b ≡ false → TellsOf i left b
       → (v : Value) (t : Tree) → AreElements node_shape KnowsNode bytes start len v → Denotes (tagged_value 5 v) t → Tells false t room

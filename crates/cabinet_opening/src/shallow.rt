@@ -13,6 +13,21 @@ use archive_forms_reading::{ArchivedBox, ArchivedOption, ArchivedVec, SliceRef};
 use archive_shape::Ref;
 use cabinet_archived::{ArchivedKind, ArchivedNode};
 
+/// Whether the node is no container. A list asks this of its nodes first, since most are leaves.
+fn is_leaf(node: Ref<'_, ArchivedNode>) -> bool
+    requires { HasValue node_shape KnowsNode node.bytes.now node.pos }
+    ensures { (v : Value) (t : Tree) → HeldAt node_shape KnowsNode node.entry.bytes.now node.entry.pos v
+        → Denotes v t → IsTrue result ↔ (depth t ≤ 0) }
+{
+    match ArchivedNode::kind(node) {
+        ArchivedKind::Maybe(_) | ArchivedKind::List(_) => false,
+        ArchivedKind::Bool(_)
+        | ArchivedKind::Int(_)
+        | ArchivedKind::Text(_)
+        | ArchivedKind::Shared(_) => true,
+    }
+}
+
 /// Whether at most `room` containers lie in one another in a list of these nodes, the list among them.
 #[cycle(shallow)]
 fn are_shallow(nodes: SliceRef<'_, ArchivedNode>, room: usize) -> bool
@@ -24,7 +39,8 @@ fn are_shallow(nodes: SliceRef<'_, ArchivedNode>, room: usize) -> bool
         return false;
     };
     for index in 0..nodes.len() {
-        if !is_shallow(nodes.get(index).unwrap(), left) {
+        let node = nodes.get(index).unwrap();
+        if !is_leaf(node) && !is_shallow(node, left) {
             return false;
         }
     }

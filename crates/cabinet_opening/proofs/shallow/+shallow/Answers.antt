@@ -5,19 +5,39 @@ use Rattle.archive_shape.specs.Key.{HeldAt}
 use Rattle.archive_forms_reading.specs.Parts.{AreElements}
 use Rattle.archive_forms_reading.proofs.Inside.{some_says}
 use Rattle.cabinet_documents.specs.Node.{node_shape, KnowsNode}
-use Rattle.cabinet_opening.proofs.Depths.{now, no_room, leaf_told, payload_told, moved, boxed_there, none_told, some_told, element_there, told_of, one_deep, all_told}
+use Rattle.cabinet_opening.proofs.Depths.{now, no_room, leaf_told, payload_told, moved, boxed_there, none_told, some_told, element_there, told_of, one_more_low, one_deep, all_told}
 use Rattle.cabinet_opening.proofs.shallow.+shallow.Goals as goal
+use Rattle.cabinet_opening.proofs.shallow.+shallow.Goals.{are_shallow-else-not-is_leaf-via-then-not-is_leaf+else-not-is_shallow, are_shallow-else-not-is_leaf-via-else-not-is_leaf}
+
+pub are_shallow-is_leaf-requires : goal.are_shallow-is_leaf-requires
+are_shallow-is_leaf-requires t c =
+    let at = some_says _ _ c.get.result c.unwrap-node.result c.get.ensures c.unwrap-node.ensures in
+    element_there c.args.nodes.bytes.now c.args.nodes.pos _ c.args.nodes.len c.loop-index.index _ c.requires at.0 (now at.1) at.2
 
 pub are_shallow-is_shallow-requires : goal.are_shallow-is_shallow-requires
 are_shallow-is_shallow-requires t c =
-    let at = some_says _ _ c.get.result c.unwrap.result c.get.ensures c.unwrap.ensures in
+    let at = some_says _ _ c.get.result c.unwrap-node.result c.get.ensures c.unwrap-node.ensures in
     (omega (arith, c.in-Some.ensures), element_there c.args.nodes.bytes.now c.args.nodes.pos _ c.args.nodes.len c.loop-index.index _ c.requires at.0 (now at.1) at.2)
 
 pub are_shallow-returns-then-not-is_shallow : goal.are_shallow-returns-then-not-is_shallow
 are_shallow-returns-then-not-is_shallow t c =
-    let at = some_says _ _ c.get.result c.unwrap.result c.get.ensures c.unwrap.ensures in
+    let at = some_says _ _ c.get.result c.unwrap-node.result c.get.ensures c.unwrap-node.ensures in
     one_deep c.args.nodes.bytes.now c.args.nodes.pos c.loop-index.index c.args.nodes.len c.in-Some.left c.args.room c.is_shallow.result (omega (arith, c.in-Some.ensures)) at.0 c.if-not-is_shallow.true
     (told_of c.args.nodes.bytes.now c.args.nodes.pos _ c.loop-index.index _ c.in-Some.left c.is_shallow.result (now at.1) at.2 c.is_shallow.ensures)
+
+pub are_shallow-loop-index-preserved : goal.are_shallow-loop-index-preserved
+are_shallow-loop-index-preserved t c =
+    let at = some_says _ _ c.get.result c.unwrap-node.result c.get.ensures c.unwrap-node.ensures in
+    let nodes = c.args.nodes in
+    let left = c.in-Some.left in
+    elim c.else-not-is_leaf.branch [
+      | are_shallow-else-not-is_leaf-via-then-not-is_leaf+else-not-is_shallow w ↦
+          one_more_low nodes.bytes.now nodes.pos c.loop-index.index left left w.is_shallow.result (omega arith) w.if-not-is_shallow.false
+          (told_of nodes.bytes.now nodes.pos _ c.loop-index.index _ left w.is_shallow.result (now at.1) at.2 w.is_shallow.ensures) c.loop-index.invariant
+      | are_shallow-else-not-is_leaf-via-else-not-is_leaf w ↦
+          one_more_low nodes.bytes.now nodes.pos c.loop-index.index 0 left c.is_leaf.result (omega arith) w.if-not-is_leaf.false
+          (told_of nodes.bytes.now nodes.pos _ c.loop-index.index _ 0 c.is_leaf.result (now at.1) at.2 c.is_leaf.ensures) c.loop-index.invariant
+    ]
 
 pub are_shallow-returns : goal.are_shallow-returns
 are_shallow-returns t c =
