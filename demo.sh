@@ -1,5 +1,5 @@
 #!/usr/bin/env bash
-# Shows cab at work: first at once, not yet proved, and then proved and built, on each of examples/.
+# Demonstrates cab: first before any proof, and then proved and built, on each of examples/.
 set -euo pipefail
 cd "$(dirname "$0")"
 root=$PWD
@@ -16,7 +16,7 @@ proved_cab() {
     "$root/crates/cab/out/cab" "$@"
 }
 
-# show CAB NAME: makes an archive of an example's text and carries out its lines in it
+# show CAB NAME: builds an archive of an example's text, and carries out the example's lines in it
 show() {
     local cab=$1 example=$root/examples/$2 archive=$folder/$2.cab
     echo
@@ -43,7 +43,7 @@ echo 'cab as it runs before any proof (rt try):'
 show unproved_cab first
 
 echo
-echo 'Now cab is proved and built. The first time this takes some minutes.'
+echo 'Now cab is proved and built. The first time this may take an hour.'
 if ! (cd crates/cab && rt run -- build "$root/examples/first/text" "$folder/proved.cab") < /dev/null > "$folder/log" 2>&1; then
     cat "$folder/log"
     echo 'cab was not proved'

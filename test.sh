@@ -1,17 +1,23 @@
 #!/usr/bin/env bash
-# Proves every crate and runs every test: the toolchain's merge gate, and then the program on files. The last line says
-# how many processor minutes that took.
+# Proves every crate and runs every test: the count of crates and of paths through crates.txt, the toolchain's merge
+# gate, and the program on files. The last line reports how many processor minutes that took.
 set -u
 cd "$(dirname "$0")" || exit 1
 log=$(mktemp)
 trap 'rm -f "$log"' EXIT
 
-# Says a line, and the processor minutes that this script's commands have taken so far.
+# Prints a line, and the processor minutes that this script's commands have taken so far.
 say() {
-    # in this shell, since a pipe's shell would tell of itself
+    # in this shell, since a shell in a pipe would report its own times
     times > "$log"
     awk -v line="$1" -F '[ms ]+' 'NR == 2 { printf "%s; %.1f processor minutes\n", line, $1 + $3 + ($2 + $4) / 60 }' "$log"
 }
+
+echo '== the names in crates.txt'
+if ! tests/paths.sh; then
+    say 'crates.txt has too many crates or paths'
+    exit 1
+fi
 
 echo '== the merge gate'
 rt ci < /dev/null | tee "$log"

@@ -1,14 +1,15 @@
-//! Times archived maps of texts to numbers that crates/archive_btree_bench writes, walks, searches and walks in ranges of a
-//! hundred entries, beside the same work in Rust over the same layout, and look-ups in Rust's `BTreeMap`. Calls are made in
-//! turns, and the least processor time of all rounds counts. A call that writes makes the map first: the time of a call that
-//! writes none is taken away.
+//! Times archived maps of texts to numbers that crates/archive_bench writes, walks, searches and walks in ranges of a
+//! hundred entries, beside the same work in Rust over the same layout, and look-ups in Rust's `BTreeMap`. Calls are
+//! made in turns, and the least processor time of all rounds counts. A call that writes makes the map first: the time
+//! of a call that writes none is subtracted.
 
 #[allow(dead_code)]
+mod heap;
 mod library;
 mod maps;
 mod measured;
 
-/// Forms in Rust.
+/// The archived forms in plain Rust.
 #[allow(dead_code)]
 #[path = "plain_forms.rs"]
 mod forms;
@@ -23,11 +24,11 @@ use std::hint::black_box;
 
 const RANGES: usize = 1_000;
 const IN_RANGE: usize = 100;
-/// How many bytes an archived map has itself, which ends its archive.
+/// The number of a map's own bytes, which end its archive.
 const MAP: usize = 8;
 
-// A slice crosses as a pointer and then a length. Nothing compares these declarations with the library's.
-#[link(name = "archive_btree_bench", kind = "static")]
+// A slice is passed as a pointer and then a length. Nothing compares these declarations with the library's.
+#[link(name = "archive_bench", kind = "static")]
 unsafe extern "C" {
     fn archive_btree_bench_write(numbers: *const u32, count: usize, rounds: usize) -> usize;
     fn archive_btree_bench_sum_walked(bytes: *const u8, length: usize, pos: usize) -> u64;
@@ -55,7 +56,7 @@ fn map_of(numbers: &[u32]) -> BTreeMap<String, u64> {
     entries(numbers).collect()
 }
 
-/// Of each range the key of its first entry, and the key behind its last one.
+/// Returns for each range the key of its first entry, and the key after its last one.
 fn ranges(map: &BTreeMap<String, u64>) -> Texts {
     let keys: Vec<&String> = map.keys().collect();
     let last = keys.len() - IN_RANGE;
@@ -69,7 +70,7 @@ fn ranges(map: &BTreeMap<String, u64>) -> Texts {
 /// Compares walks in ranges.
 fn compare_ranges(bytes: &[u8], map: &BTreeMap<String, u64>) -> f64 {
     let bounds = ranges(map);
-    // SAFETY: the bytes are there, and end with a map.
+    // SAFETY: the pointers and lengths are those of slices, and the bytes end with a map.
     let ours = || unsafe {
         archive_btree_bench_sum_ranges(
             black_box(bytes).as_ptr(),
@@ -91,7 +92,7 @@ fn compare_ranges(bytes: &[u8], map: &BTreeMap<String, u64>) -> f64 {
     )
 }
 
-/// How many bytes so many archives of a map have, which Rust makes first.
+/// Returns the total number of bytes of `rounds` archives of a map, which Rust makes first.
 fn written_again(numbers: &[u32], rounds: usize) -> usize {
     let map = map_of(numbers);
     let written = |_| rust::write(black_box(&map)).unwrap().len();
@@ -100,7 +101,7 @@ fn written_again(numbers: &[u32], rounds: usize) -> usize {
 
 /// Compares writes of a map.
 fn compare_written(numbers: &[u32]) -> f64 {
-    // SAFETY: the numbers are there.
+    // SAFETY: the pointer and the length are those of a slice.
     let ours = |rounds| unsafe {
         archive_btree_bench_write(black_box(numbers).as_ptr(), numbers.len(), rounds)
     };
@@ -116,14 +117,14 @@ fn compare_written(numbers: &[u32]) -> f64 {
     report(&format!("{count} entries written"), count * WRITES, times)
 }
 
-/// Compares writes, a walk, look-ups and walks in ranges of a map of so many numbers.
+/// Compares writes, a walk, look-ups and walks in ranges of a map with a given number of entries.
 fn compare(count: usize) -> [f64; 4] {
     let numbers: Vec<u32> = mixed(count).collect();
     let map = map_of(&numbers);
     let bytes = rust::write(&map).unwrap();
     let queries = queries(&numbers);
 
-    // SAFETY: the bytes are there, and end with a map.
+    // SAFETY: the pointers and lengths are those of slices, and the bytes end with a map.
     let ours = || unsafe {
         let bytes = black_box(&bytes);
         archive_btree_bench_sum_walked(bytes.as_ptr(), bytes.len(), bytes.len() - MAP)
@@ -133,7 +134,7 @@ fn compare(count: usize) -> [f64; 4] {
     let times = least_times(|| _ = black_box(ours()), || _ = black_box(rust()));
     let walks = report(&format!("{count} entries walked"), count, times);
 
-    // SAFETY: the bytes are there, and end with a map.
+    // SAFETY: the pointers and lengths are those of slices, and the bytes end with a map.
     let ours = || unsafe {
         archive_btree_bench_sum_found(
             black_box(&bytes).as_ptr(),

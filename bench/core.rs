@@ -1,12 +1,14 @@
-//! Times whole archives that crates/archive_core_bench writes and accesses beside the same work in Rust: of a vector of
-//! options, one of texts, one of vectors and one of records, and of each record alone. Both are called in turns, and the
-//! least processor time of all rounds counts. A call that writes makes the values first: the time of a call that writes none
-//! is taken off. Rust writes own bytes in place, in the vector that grows, and also in pieces, as the library does.
+//! Times whole archives that crates/archive_bench writes and accesses beside the same work in Rust: of a vector of
+//! options, one of texts, one of vectors and one of records, and of each record alone. Both are called in turns, and
+//! the least processor time of all rounds counts. A call that writes makes the values first: the time of a call that
+//! writes none is subtracted. Rust writes own bytes in place, in the vector that grows, and also in pieces, as the
+//! library does.
 
+mod heap;
 mod library;
 mod measured;
 
-/// Forms and whole archives in Rust.
+/// The archived forms and whole archives in plain Rust.
 #[allow(dead_code)]
 #[path = "plain_forms.rs"]
 mod forms;
@@ -23,8 +25,8 @@ const TEXTS: usize = 100_000;
 const LISTS: usize = 100_000;
 const RECORDS: usize = 100_000;
 
-// A slice crosses as a pointer and then a length. Nothing compares these declarations with the library's.
-#[link(name = "archive_core_bench", kind = "static")]
+// A slice is passed as a pointer and then a length. Nothing compares these declarations with the library's.
+#[link(name = "archive_bench", kind = "static")]
 unsafe extern "C" {
     fn archive_core_bench_access_options(bytes: *const u8, length: usize) -> bool;
     fn archive_core_bench_access_texts(bytes: *const u8, length: usize) -> bool;
@@ -65,7 +67,7 @@ fn compare_access(
     ours: unsafe extern "C" fn(*const u8, usize) -> bool,
     rust: fn(&[u8]) -> bool,
 ) -> f64 {
-    // SAFETY: the bytes are there.
+    // SAFETY: the pointer and the length are those of a slice.
     let ours = || unsafe { ours(black_box(bytes).as_ptr(), bytes.len()) };
     let rust = || rust(black_box(bytes));
     assert!(ours() && rust(), "{name}");
@@ -76,7 +78,7 @@ fn compare_access(
 /// Compares accesses to archives of one record each.
 fn compare_access_each(numbers: &[u32]) -> f64 {
     let (bytes, ends) = rust::archived_each(numbers);
-    // SAFETY: the bytes and the positions are there.
+    // SAFETY: the pointers and lengths are those of slices.
     let ours = || unsafe {
         let bytes = black_box(&bytes);
         archive_core_bench_access_each_record(

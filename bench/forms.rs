@@ -1,8 +1,10 @@
-//! Times checks, writes and reads of archived forms in crates/archive_forms_bench beside the same work in Rust: over a
-//! vector of options, one of texts and one of vectors. Both are called in turns, and the least processor time of all rounds
-//! counts. A call that writes makes the values first: the time of a call that writes none is taken off. Rust writes own bytes
-//! in place, in the vector that grows, and also in pieces, as the library does, which has only a call that appends bytes.
+//! Times checks, writes and reads of archived forms in crates/archive_bench beside the same work in Rust: over a vector
+//! of options, one of texts and one of vectors. Both are called in turns, and the least processor time of all rounds
+//! counts. A call that writes makes the values first: the time of a call that writes none is subtracted. Rust writes
+//! own bytes in place, in the vector that grows, and also in pieces, as the library does, whose writers only append
+//! bytes.
 
+mod heap;
 mod library;
 mod measured;
 
@@ -14,8 +16,8 @@ const OPTIONS: usize = 1_000_000;
 const TEXTS: usize = 100_000;
 const LISTS: usize = 100_000;
 
-// A slice crosses as a pointer and then a length. Nothing compares these declarations with the library's.
-#[link(name = "archive_forms_bench", kind = "static")]
+// A slice is passed as a pointer and then a length. Nothing compares these declarations with the library's.
+#[link(name = "archive_bench", kind = "static")]
 unsafe extern "C" {
     fn archive_forms_bench_check_options(bytes: *const u8, length: usize, pos: usize) -> bool;
     fn archive_forms_bench_check_texts(bytes: *const u8, length: usize, pos: usize) -> bool;
@@ -40,11 +42,11 @@ unsafe extern "C" {
     ) -> usize;
 }
 
-/// The same in Rust.
+/// The archived forms in plain Rust.
 #[path = "plain_forms.rs"]
 mod rust;
 
-/// Compares two functions that read the archive, which must give the same.
+/// Compares two functions that read the archive, which must return the same value.
 fn compare_reads<N: PartialEq + std::fmt::Debug>(
     name: &str,
     elements: usize,

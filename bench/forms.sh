@@ -1,3 +1,3 @@
 #!/usr/bin/env bash
-# Times bench/forms.rs: the loops of crates/archive_forms_bench beside the same loops in plain Rust.
-exec "$(dirname "$0")/loops.sh" archive_forms_bench forms
+# Times bench/forms.rs: the loops of crates/archive_bench beside the same loops in plain Rust.
+exec "$(dirname "$0")/loops.sh" forms

@@ -1,14 +1,15 @@
-//! Times archived hash maps of texts to numbers that crates/archive_hash_bench writes, walks and searches by scans of one, of
-//! eight and of sixteen controls, beside the same work in Rust over the same layout by sixteen, and look-ups in Rust's
-//! `HashMap` with the same hasher. Calls are made in turns, and the least processor time of all rounds counts. A call that
-//! writes makes the map first: the time of a call that writes none is taken away.
+//! Times archived hash maps of texts to numbers that crates/archive_bench writes, walks and searches by scans of one,
+//! of eight and of sixteen controls, beside the same work in Rust over the same layout by sixteen, and look-ups in
+//! Rust's `HashMap` with the same hasher. Calls are made in turns, and the least processor time of all rounds counts. A
+//! call that writes makes the map first: the time of a call that writes none is subtracted.
 
 #[allow(dead_code)]
+mod heap;
 mod library;
 mod maps;
 mod measured;
 
-/// Forms in Rust.
+/// The archived forms in plain Rust.
 #[allow(dead_code)]
 #[path = "plain_forms.rs"]
 mod forms;
@@ -23,7 +24,7 @@ use std::collections::HashMap;
 use std::hash::BuildHasherDefault;
 use std::hint::black_box;
 
-/// How many bytes an archived map has itself, which ends its archive.
+/// The number of a map's own bytes, which end its archive.
 const MAP: usize = 12;
 
 type Map = HashMap<String, u64, BuildHasherDefault<FxHasher64>>;
@@ -32,8 +33,8 @@ type Writes = unsafe extern "C" fn(*const u32, usize, usize) -> usize;
 type Finds =
     unsafe extern "C" fn(*const u8, usize, usize, *const u8, usize, *const usize, usize) -> u64;
 
-// A slice crosses as a pointer and then a length. Nothing compares these declarations with the library's.
-#[link(name = "archive_hash_bench", kind = "static")]
+// A slice is passed as a pointer and then a length. Nothing compares these declarations with the library's.
+#[link(name = "archive_bench", kind = "static")]
 unsafe extern "C" {
     fn archive_hash_bench_write_1(numbers: *const u32, count: usize, rounds: usize) -> usize;
     fn archive_hash_bench_write_8(numbers: *const u32, count: usize, rounds: usize) -> usize;
@@ -68,7 +69,7 @@ unsafe extern "C" {
     ) -> u64;
 }
 
-/// How many bytes so many tables of a map have, which Rust makes first.
+/// Returns the total number of bytes of `rounds` tables of a map, which Rust makes first.
 fn written_again(numbers: &[u32], rounds: usize) -> usize {
     let map: Map = entries(numbers).collect();
     let written = |_| rust::write_table(map.len(), black_box(&map).iter()).unwrap().0.len();
@@ -77,7 +78,7 @@ fn written_again(numbers: &[u32], rounds: usize) -> usize {
 
 /// Compares writes of a map's table at a width, with the data of its entries.
 fn compare_written(numbers: &[u32], width: usize, writes: Writes) -> f64 {
-    // SAFETY: the numbers are there.
+    // SAFETY: the pointer and the length are those of a slice.
     let ours = |rounds| unsafe { writes(black_box(numbers).as_ptr(), numbers.len(), rounds) };
     let rust = |rounds| written_again(black_box(numbers), rounds);
     assert_eq!(ours(1), rust(1));
@@ -97,7 +98,7 @@ fn compare_written(numbers: &[u32], width: usize, writes: Writes) -> f64 {
 
 /// Compares look-ups at a width with those of Rust over the same layout and with those of its own map.
 fn compare_found(bytes: &[u8], map: &Map, queries: &Texts, width: usize, finds: Finds) -> f64 {
-    // SAFETY: the bytes are there, and end with a map.
+    // SAFETY: the pointers and lengths are those of slices, and the bytes end with a map.
     let ours = || unsafe {
         finds(
             black_box(bytes).as_ptr(),
@@ -119,14 +120,15 @@ fn compare_found(bytes: &[u8], map: &Map, queries: &Texts, width: usize, finds: 
     report(&name, QUERIES, times)
 }
 
-/// Compares writes, a walk and look-ups of a map of so many numbers. The ratios are those of sixteen controls at once.
+/// Compares writes, a walk and look-ups of a map with a given number of entries. The ratios are those of sixteen
+/// controls at once.
 fn compare(count: usize) -> [f64; 3] {
     let numbers: Vec<u32> = mixed(count).collect();
     let map: Map = entries(&numbers).collect();
     let bytes = rust::write(map.len(), map.iter()).unwrap();
     let queries = queries(&numbers);
 
-    // SAFETY: the bytes are there, and end with a map.
+    // SAFETY: the pointers and lengths are those of slices, and the bytes end with a map.
     let ours = || unsafe {
         let bytes = black_box(&bytes);
         archive_hash_bench_sum_walked(bytes.as_ptr(), bytes.len(), bytes.len() - MAP)

@@ -1,55 +1,11 @@
-//! What forms.rs, core.rs, btree.rs and hash.rs share, each of which links a static library: the heap that it asks for, the
-//! processor times of two calls, a comparison of functions that write, and lengths of texts.
+//! The functions that forms.rs, core.rs, btree.rs and hash.rs share: the processor times of two calls, a comparison of
+//! functions that write, and lengths of texts.
 
 use crate::measured::{least, mixed, report};
 use std::hint::black_box;
 
 const ROUNDS: usize = 41;
 pub const WRITES: usize = 8;
-
-/// The heap that the library asks for, over the C library's.
-mod heap {
-    use std::ffi::c_void;
-
-    unsafe extern "C" {
-        fn malloc(size: usize) -> *mut c_void;
-        fn realloc(block: *mut c_void, size: usize) -> *mut c_void;
-        fn free(block: *mut c_void);
-    }
-
-    #[repr(C)]
-    pub struct Tried {
-        ok: bool,
-        block: *mut u8,
-    }
-
-    fn tried(block: *mut c_void) -> Tried {
-        Tried {
-            ok: !block.is_null(),
-            block: block.cast(),
-        }
-    }
-
-    #[unsafe(no_mangle)]
-    pub unsafe extern "C" fn rattle_alloc(size: usize, _align: usize) -> Tried {
-        unsafe { tried(malloc(size.max(1))) }
-    }
-
-    #[unsafe(no_mangle)]
-    pub unsafe extern "C" fn rattle_realloc(
-        block: *mut u8,
-        _kept: usize,
-        size: usize,
-        _align: usize,
-    ) -> Tried {
-        unsafe { tried(realloc(block.cast(), size.max(1))) }
-    }
-
-    #[unsafe(no_mangle)]
-    pub unsafe extern "C" fn rattle_dealloc(block: *mut u8) {
-        unsafe { free(block.cast()) }
-    }
-}
 
 #[repr(C)]
 struct Time {
@@ -61,18 +17,18 @@ unsafe extern "C" {
     fn clock_gettime(clock: i32, time: *mut Time) -> i32;
 }
 
-/// The processor time of the process, in nanoseconds.
+/// Returns the processor time of the process, in nanoseconds.
 fn processor_time() -> f64 {
     let mut time = Time {
         seconds: 0,
         nanoseconds: 0,
     };
-    // SAFETY: the time is there. 2 is CLOCK_PROCESS_CPUTIME_ID of Linux.
+    // SAFETY: `time` is a valid place for the result. 2 is CLOCK_PROCESS_CPUTIME_ID of Linux.
     unsafe { clock_gettime(2, &mut time) };
     time.seconds as f64 * 1e9 + time.nanoseconds as f64
 }
 
-/// The least processor times of two calls, in nanoseconds.
+/// Returns the least processor times of two calls, in nanoseconds.
 pub fn least_times(mut ours: impl FnMut(), mut rust: impl FnMut()) -> (f64, f64) {
     least(ROUNDS, || nanoseconds(&mut ours), || nanoseconds(&mut rust))
 }
@@ -83,7 +39,7 @@ fn nanoseconds(call: &mut impl FnMut()) -> f64 {
     processor_time() - began
 }
 
-/// Compares functions that write archives, which must be as long. Rust writes them in place and in pieces.
+/// Compares functions that write archives, which must have the same length. Rust writes them in place and in pieces.
 pub fn compare_writes(
     name: &str,
     elements: usize,
@@ -91,7 +47,7 @@ pub fn compare_writes(
     ours: unsafe extern "C" fn(*const u32, usize, usize) -> usize,
     rust: [fn(&[u32], usize) -> usize; 2],
 ) -> f64 {
-    // SAFETY: the numbers are there.
+    // SAFETY: the pointer and the length are those of a slice.
     let ours = |rounds| unsafe { ours(black_box(numbers).as_ptr(), numbers.len(), rounds) };
     let mut ratio = 0.0;
     for (rust, how) in rust.into_iter().zip(["in place", "in pieces"]) {
@@ -108,7 +64,7 @@ pub fn compare_writes(
     ratio
 }
 
-/// Lengths of texts, half of them of eight bytes at most, and the others of up to 40.
+/// Returns lengths of texts, half of them of eight bytes at most, and the others of up to 40.
 pub fn lengths(count: usize) -> Vec<u32> {
     let of = |n: u32| {
         if n % 2 == 0 {

@@ -1,12 +1,12 @@
-//! What btree.rs and hash.rs share: texts that cross to a library, and queries of maps whose keys are the decimal texts of
-//! numbers.
+//! The parts that btree.rs and hash.rs share: texts that are passed to a library, and queries of maps whose keys are
+//! the decimal texts of numbers.
 
 use crate::measured::mixed;
 
 pub const SIZES: [usize; 3] = [1_000, 100_000, 1_000_000];
 pub const QUERIES: usize = 100_000;
 
-/// Texts one behind the other, and where each ends.
+/// Texts one after the other, and the position at which each ends.
 pub struct Texts {
     pub text: String,
     pub ends: Vec<usize>,
@@ -25,7 +25,7 @@ impl<T: AsRef<str>> FromIterator<T> for Texts {
 }
 
 impl Texts {
-    /// The sum of what is found for each.
+    /// Returns the sum of what is found for each.
     pub fn sum(&self, found: impl Fn(&str) -> Option<u64>) -> u64 {
         let mut start = 0;
         let mut sum = 0u64;
@@ -37,7 +37,7 @@ impl Texts {
     }
 }
 
-/// Half of them are keys of the map of numbers.
+/// Returns queries, half of which are keys of the map of numbers.
 pub fn queries(numbers: &[u32]) -> Texts {
     let of = |(i, n): (usize, u32)| match i % 2 {
         0 => numbers[n as usize % numbers.len()].to_string(),
@@ -46,7 +46,7 @@ pub fn queries(numbers: &[u32]) -> Texts {
     mixed(QUERIES).enumerate().map(of).collect()
 }
 
-/// The entries of the map of numbers.
+/// Returns the entries of the map of numbers.
 pub fn entries(numbers: &[u32]) -> impl Iterator<Item = (String, u64)> {
     numbers.iter().map(|&n| (n.to_string(), u64::from(n)))
 }

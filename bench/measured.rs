@@ -1,7 +1,8 @@
-//! What forms.rs and numbers.rs share: times of two calls that are made in turns, a line that compares them, and numbers
-//! without order.
+//! The functions that forms.rs and numbers.rs share: times of two calls that are made in turns, a line that compares
+//! them, and numbers without order.
 
-/// The least times of two calls, which are made in turns, so many times each. Each answers how long it took.
+/// Returns the least times of two calls, which are made in turns, `rounds` times each. Each call returns the time that
+/// it took.
 pub fn least(
     rounds: usize,
     mut ours: impl FnMut() -> f64,
@@ -20,7 +21,7 @@ pub fn least(
     (by_ours, by_rust)
 }
 
-/// Prints the times that two calls take for each of their elements, in nanoseconds, and gives their ratio.
+/// Prints the times that two calls take for each of their elements, in nanoseconds, and returns their ratio.
 pub fn report(name: &str, elements: usize, (ours, rust): (f64, f64)) -> f64 {
     let ratio = ours / rust;
     let each = elements as f64;
@@ -32,12 +33,12 @@ pub fn report(name: &str, elements: usize, (ours, rust): (f64, f64)) -> f64 {
     ratio
 }
 
-/// The greatest of the ratios.
+/// Returns the greatest of the ratios.
 pub fn greatest(ratios: impl IntoIterator<Item = f64>) -> f64 {
     ratios.into_iter().fold(0.0, f64::max)
 }
 
-/// Numbers without order, the same in each run.
+/// Returns numbers without order, the same in each run.
 pub fn mixed(count: usize) -> impl Iterator<Item = u32> {
     let mut state = 88_172_645_463_325_252u64;
     (0..count).map(move |_| {

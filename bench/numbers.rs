@@ -1,6 +1,7 @@
-//! Times the loops over archived numbers in crates/archive_bench beside the same loops in Rust. Each loop stands in a
+//! Times the loops over archived numbers in crates/archive_bench beside the same loops in Rust. Each loop is in a
 //! function that is not inlined. Both are called in turns, and the least time of all rounds counts.
 
+mod heap;
 mod measured;
 
 use measured::{greatest, least, mixed, report};
@@ -13,7 +14,7 @@ const READ: usize = 10_000;
 const FEW: usize = 2_000;
 const FIRST: i64 = -1_234_567_890_123;
 
-// A slice crosses as a pointer and then a length. Nothing compares these declarations with the library's.
+// A slice is passed as a pointer and then a length. Nothing compares these declarations with the library's.
 #[link(name = "archive_bench", kind = "static")]
 unsafe extern "C" {
     fn archive_bench_read_i64(
@@ -252,7 +253,7 @@ mod rust {
     }
 }
 
-/// The nanoseconds that so many calls take.
+/// Returns the nanoseconds that the given number of calls take.
 fn nanoseconds(calls: usize, mut call: impl FnMut()) -> f64 {
     let began = Instant::now();
     for _ in 0..calls {
@@ -261,7 +262,7 @@ fn nanoseconds(calls: usize, mut call: impl FnMut()) -> f64 {
     began.elapsed().as_secs_f64() * 1e9
 }
 
-/// Compares the time that a call takes for each of its numbers, prints it, and gives the ratio.
+/// Compares the time that a call takes for each of its numbers, prints it, and returns the ratio.
 fn compare(name: &str, numbers: usize, mut ours: impl FnMut(), mut rust: impl FnMut()) -> f64 {
     let calls = SCANNED / numbers;
     let ours = || nanoseconds(calls, &mut ours);
@@ -269,7 +270,7 @@ fn compare(name: &str, numbers: usize, mut ours: impl FnMut(), mut rust: impl Fn
     report(name, calls * numbers, least(ROUNDS, ours, rust))
 }
 
-/// Compares two functions that read a buffer, which must give the same.
+/// Compares two functions that read a buffer, which must return the same value.
 fn compare_scans<N: PartialEq + std::fmt::Debug>(
     name: &str,
     bytes: &[u8],
@@ -283,7 +284,7 @@ fn compare_scans<N: PartialEq + std::fmt::Debug>(
     compare(name, bytes.len() / size, ours, rust)
 }
 
-/// The same for functions that read at positions.
+/// Compares two functions that read at positions of a buffer, which must return the same value.
 fn compare_reads<N: PartialEq + std::fmt::Debug>(
     name: &str,
     bytes: &[u8],
@@ -319,12 +320,12 @@ fn compare_writes(
     compare(name, numbers, timed_ours, timed_rust)
 }
 
-/// Bytes without order, the same in each run.
+/// Returns bytes without order, the same in each run.
 fn mixed_bytes(length: usize) -> Vec<u8> {
     mixed(length).map(|number| number as u8).collect()
 }
 
-/// Positions without order of i64s side by side.
+/// Returns positions, without order, of `i64`s that lie side by side.
 fn mixed_positions(numbers: usize) -> Vec<u32> {
     let chosen = mixed_bytes(READ * 4);
     chosen
@@ -333,7 +334,7 @@ fn mixed_positions(numbers: usize) -> Vec<u32> {
         .collect()
 }
 
-/// Relative pointers side by side, each of which leads to one of them.
+/// Returns relative pointers side by side, each of which leads to one of them.
 fn pointers(count: usize) -> Vec<u8> {
     let places = mixed_bytes(count * 4);
     let mut bytes = Vec::new();
@@ -344,7 +345,7 @@ fn pointers(count: usize) -> Vec<u8> {
     bytes
 }
 
-/// Compares reads of single numbers and pointers, and gives the ratios.
+/// Compares reads of single numbers and pointers, and returns the ratios.
 fn single_reads(at: &[u32]) -> Vec<f64> {
     let (numbers, led) = (mixed_bytes(FEW * 8), pointers(FEW * 2));
     vec![
@@ -372,11 +373,11 @@ fn single_reads(at: &[u32]) -> Vec<f64> {
     ]
 }
 
-/// Compares writes of single numbers, and gives the ratios.
+/// Compares writes of single numbers, and returns the ratios.
 fn single_writes(at: &[u32]) -> Vec<f64> {
     let numbers = mixed_bytes(FEW * 8);
     assert!(at.iter().all(|p| *p as usize + 8 <= numbers.len()));
-    // SAFETY: each position leaves room for 8 bytes in a buffer as long as `numbers`.
+    // SAFETY: each position leaves room for 8 bytes in a buffer of the same length as `numbers`.
     let placed = |bytes: &mut [u8]| unsafe { ours::write_i64(bytes, at, black_box(FIRST)) };
     let sealed = |bytes: &mut [u8]| unsafe { ours::seal_i64(bytes, at, black_box(FIRST)) };
     let written = |bytes: &mut [u8]| rust::write_i64(bytes, at, black_box(FIRST));
@@ -386,7 +387,7 @@ fn single_writes(at: &[u32]) -> Vec<f64> {
     ]
 }
 
-/// Compares scans, and gives the ratios.
+/// Compares scans, and returns the ratios.
 fn scans() -> Vec<f64> {
     let (wide, narrow, led) = (
         mixed_bytes(SCANNED * 8),

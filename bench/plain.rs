@@ -1,6 +1,6 @@
-//! The two commands of cab in plain, safe Rust: what bench/run.sh measures cab against. Archives and answers are those of
-//! cab, and so is which texts, archives, lines and inputs are refused; the wording of a refusal is not. As in cab a text is
-//! read into a document, for which nothing is reserved by a count, and then the document is archived.
+//! The two commands of cab in plain, safe Rust, with which bench/run.sh compares cab. Archives and answers are those of
+//! cab, and the same texts, archives, lines and inputs are refused; the wording of a refusal differs. As in cab a text
+//! is read into a document, for which nothing is reserved by a count, and then the document is archived.
 
 mod plain_archive;
 
@@ -12,7 +12,7 @@ use std::fs::{self, OpenOptions};
 use std::io::{self, BufRead, BufReader, BufWriter, IsTerminal, Read, Write};
 use std::str::{FromStr, Split};
 
-/// The most containers that lie in one another.
+/// The greatest number of containers that lie in one another.
 const MOST: usize = 64;
 
 const LONGEST_LINE: usize = 1 << 20;
@@ -35,7 +35,7 @@ enum Node<'a> {
 
 // ---- texts
 
-/// A number in its shortest form.
+/// Reads a number in its shortest form.
 fn read_number<T: FromStr>(digits: &str) -> Option<T> {
     let unsigned = digits.strip_prefix('-').unwrap_or(digits);
     if digits == "0" || unsigned.starts_with(|c| matches!(c, '1'..='9')) {
@@ -66,7 +66,7 @@ fn unescape(escaped: &str) -> Option<Cow<'_, str>> {
     Some(Cow::Owned(text))
 }
 
-/// A text after the apostrophe that texts and keys begin with.
+/// Reads a text after the apostrophe that texts and keys begin with.
 fn read_quoted(argument: &str) -> Option<Cow<'_, str>> {
     argument.strip_prefix('\'').and_then(unescape)
 }
@@ -80,7 +80,7 @@ fn read_leaf<'a>(kind: &str, argument: &'a str) -> Option<Leaf<'a>> {
     }
 }
 
-/// What stands before and after the first byte of this kind, which is ASCII.
+/// Returns what is before and after the first byte `separator`, which is ASCII.
 fn split_once(text: &str, separator: u8) -> Option<(&str, &str)> {
     let at = text.bytes().position(|byte| byte == separator)?;
     Some((&text[..at], &text[at + 1..]))
@@ -100,7 +100,7 @@ impl<'a> Lines<'a> {
         Some(line)
     }
 
-    /// A node inside so many containers.
+    /// Reads a node inside `depth` containers.
     fn next_node(&mut self, depth: usize) -> Option<Node<'a>> {
         let line = self.next()?;
         if depth < MOST {
@@ -146,7 +146,7 @@ fn read_document(text: &str) -> Result<Node<'_>, Refusal> {
 enum Step {
     Place(u64),
     Inside,
-    /// By a key, which leads nowhere: there are no maps yet.
+    /// By a key, which leads to nothing: there are no maps yet.
     Key,
 }
 
@@ -201,7 +201,7 @@ fn write_head(bytes: &[u8], there: View, out: &mut impl Write) -> io::Result<()>
     }
 }
 
-/// A head with the text that stands behind its apostrophe.
+/// Writes a head with the text after its apostrophe.
 fn write_quoted(head: &str, text: &[u8], out: &mut impl Write) -> io::Result<()> {
     out.write_all(head.as_bytes())?;
     write_escaped(text, out)?;
@@ -223,7 +223,7 @@ fn write_escaped(text: &[u8], out: &mut impl Write) -> io::Result<()> {
     out.write_all(rest)
 }
 
-/// Carries out a line, and answers it.
+/// Executes a line, and writes its answer.
 fn carry_out(archive: &mut Archive, line: &Line, out: &mut impl Write) -> io::Result<()> {
     match line {
         Line::Get(path) => match archive.find(path) {
@@ -252,7 +252,7 @@ fn build(text: &str, archive: &str) -> Result<(), Refusal> {
     Ok(())
 }
 
-/// Carries out the lines of the standard input.
+/// Executes the lines of the standard input.
 fn carry_out_lines(archive: &mut Archive) -> Result<(), Refusal> {
     let is_prompt = io::stdin().is_terminal();
     let mut input = BufReader::with_capacity(65536, io::stdin().lock());

@@ -1,4 +1,4 @@
-//! Archives of documents in plain Rust: written, checked, asked and edited in place.
+//! Archives of documents in plain Rust: written, checked, read and edited in place.
 
 use crate::{Leaf, MOST, Node, Refusal, Step};
 use std::collections::HashMap;
@@ -15,9 +15,9 @@ const LONGEST_TEXT: usize = (1 << 30) - 1;
 
 struct ArchiveWriter<'a> {
     bytes: Vec<u8>,
-    /// For each node that is still to be written, where what it leads to begins.
+    /// For each node that is still to be written, the position of what it leads to.
     targets: Vec<u32>,
-    /// Where each shared text begins.
+    /// The position of each shared text.
     shared: HashMap<&'a str, u32>,
 }
 
@@ -26,7 +26,7 @@ impl<'a> ArchiveWriter<'a> {
         Ok(u32::try_from(self.bytes.len())?)
     }
 
-    /// Writes what a node leads to, and answers where that begins.
+    /// Writes what a node leads to, and returns its position.
     fn put_data(&mut self, node: &'a Node) -> Result<u32, Refusal> {
         match node {
             Node::Leaf(Leaf::Text(text)) if text.len() > LONGEST_TEXT => {
@@ -44,7 +44,7 @@ impl<'a> ArchiveWriter<'a> {
         }
     }
 
-    /// Writes a shared text at its first use, with a zero byte behind an empty one, and answers where it begins.
+    /// Writes a shared text at its first use, with a zero byte after an empty one, and returns its position.
     fn put_shared(&mut self, text: &'a str) -> Result<u32, Refusal> {
         let start = self.position();
         match self.shared.entry(text) {
@@ -59,7 +59,7 @@ impl<'a> ArchiveWriter<'a> {
         }
     }
 
-    /// Writes nodes side by side, after what they lead to, and answers where they begin.
+    /// Writes nodes side by side, after what they lead to, and returns their position.
     fn put_nodes(&mut self, nodes: &'a [Node]) -> Result<u32, Refusal> {
         let first = self.targets.len();
         for node in nodes {
@@ -77,13 +77,13 @@ impl<'a> ArchiveWriter<'a> {
         Ok(start)
     }
 
-    /// The offset of a target from so many bytes into the next node.
+    /// Returns the offset of a target from the given number of bytes into the next node.
     fn offset(&self, target: u32, from: usize) -> Result<[u8; 4], Refusal> {
         let offset = i64::from(target) - (self.bytes.len() + from) as i64;
         Ok(i32::try_from(offset)?.to_le_bytes())
     }
 
-    /// The own bytes of the next node.
+    /// Returns the own bytes of the next node.
     fn own_bytes(&self, node: &Node, target: u32) -> Result<[u8; NODE], Refusal> {
         let mut own = [0; NODE];
         match node {
@@ -125,7 +125,7 @@ impl<'a> ArchiveWriter<'a> {
     }
 }
 
-/// The archive of a document.
+/// Returns the archive of a document.
 pub fn archive_of(document: &Node) -> Result<Vec<u8>, Refusal> {
     let mut writer = ArchiveWriter {
         bytes: Vec::new(),
@@ -138,7 +138,7 @@ pub fn archive_of(document: &Node) -> Result<Vec<u8>, Refusal> {
 
 // ---- archives that are read
 
-/// What a node says, and where that is what it leads to.
+/// The content of a node, and where that is the position of what it leads to.
 pub enum View {
     Bool(bool),
     Int(i64),
@@ -152,7 +152,7 @@ fn word_in(own: &[u8; NODE], at: usize) -> [u8; 4] {
     [own[at], own[at + 1], own[at + 2], own[at + 3]]
 }
 
-/// Where an offset leads from a position.
+/// Returns the position that an offset leads to from a position.
 fn target(from: usize, offset: [u8; 4]) -> Option<usize> {
     from.checked_add_signed(i32::from_le_bytes(offset) as isize)
 }
@@ -172,7 +172,7 @@ fn view_text(own: &[u8; NODE], pos: usize) -> Option<Range<usize>> {
     (len > LONGEST_INLINE).then_some(start..start + len)
 }
 
-/// What a node at a position says. What it leads to is not looked at.
+/// Returns the content of a node at a position. What it leads to is not checked.
 #[inline(always)]
 fn view(own: &[u8; NODE], pos: usize) -> Option<View> {
     Some(match (own[0], own[4]) {
@@ -197,16 +197,16 @@ fn view_at(bytes: &[u8], pos: usize) -> Option<View> {
     view(bytes.get(pos..)?.first_chunk()?, pos)
 }
 
-/// The check of an archive, and where the last region ends that was met.
+/// The check of an archive, with the end of the last region that was claimed.
 struct Check<'a> {
     bytes: &'a [u8],
     claimed: usize,
-    /// Where the shared texts that were met begin and end.
+    /// The positions of the shared texts that were visited, and where each ends.
     shared: HashMap<usize, usize>,
 }
 
 impl Check<'_> {
-    /// Checks nodes side by side, which end at `end` at most, inside so many containers.
+    /// Checks nodes side by side, which end at `end` at most, inside `depth` containers.
     fn nodes(&mut self, start: usize, count: usize, end: usize, depth: usize) -> Option<()> {
         let after = start.checked_add(count.checked_mul(NODE)?)?;
         if start < self.claimed || end < after || !start.is_multiple_of(ALIGN) {
@@ -264,7 +264,7 @@ pub struct Archive {
 }
 
 impl Archive {
-    /// The archive that bytes are, if they are one.
+    /// Returns the archive that bytes are, if they are one.
     pub fn open(bytes: Vec<u8>) -> Option<Archive> {
         let start = bytes.len().checked_sub(NODE)?;
         let root = start - start % ALIGN;
@@ -281,7 +281,7 @@ impl Archive {
         })
     }
 
-    /// The node that a path leads to, and its position.
+    /// Returns the node that a path leads to, and its position.
     pub fn find(&self, path: &[Step]) -> Option<(usize, View)> {
         let mut pos = self.root;
         for step in path {
@@ -296,8 +296,8 @@ impl Archive {
         Some((pos, view_at(&self.bytes, pos)?))
     }
 
-    /// Puts a leaf where a path leads, and tells whether one that it may take the place of stands there; nothing where the
-    /// path leads nowhere.
+    /// Writes a leaf where a path leads. Returns whether it may replace what is there, or `None` if the path leads to
+    /// nothing.
     pub fn set(&mut self, path: &[Step], leaf: &Leaf) -> Option<bool> {
         let (pos, there) = self.find(path)?;
         match (there, leaf) {

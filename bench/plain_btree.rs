@@ -1,11 +1,11 @@
-//! Archived maps of texts to numbers in plain Rust, over the same layout: packed search trees that are written, walked and
-//! searched.
+//! Archived maps of texts to numbers in plain Rust, over the same layout: packed search trees that are written, walked
+//! and searched.
 
 use crate::forms::{Archive, Refused, align, offset, target, text, word};
 use std::cmp::Ordering;
 use std::collections::BTreeMap;
 
-/// How many entries a node has at most.
+/// The greatest number of entries of a node.
 const MOST: usize = 5;
 const KEYS: usize = 4;
 const KEY: usize = 8;
@@ -15,14 +15,14 @@ const LINKS: usize = VALUES + MOST * VALUE;
 const LEAF: usize = 96;
 const INNER: usize = LINKS + 4 * (MOST + 1);
 const ALIGN: usize = 8;
-/// The offset that leads to nothing.
+/// The offset that denotes no target.
 const NOTHING: i32 = 1;
 
 type Entry<'a> = (&'a String, &'a u64);
 
 // ---- writing
 
-/// Writes the data of a node's entries, and the node behind it. A leaf has no children.
+/// Writes the data of a node's entries, and the node after it. A leaf has no children.
 fn write_node(
     out: &mut Vec<u8>,
     own: &[Entry<'_>],
@@ -58,7 +58,8 @@ fn write_node(
     Ok(pos)
 }
 
-/// Writes the tree below a pointer: `above` levels above the last one, which has `last` entries and `wide` places for nodes.
+/// Writes the tree below a pointer: `above` levels above the last one, which has `last` entries and `wide` places for
+/// nodes.
 fn write_tree<'a>(
     out: &mut Vec<u8>,
     entries: &mut impl Iterator<Item = Entry<'a>>,
@@ -95,7 +96,7 @@ fn write_tree<'a>(
     write_node(out, &own, &children).map(Some)
 }
 
-/// Writes a map, which ends the bytes.
+/// Writes a map, whose own bytes end the archive.
 pub fn write(map: &BTreeMap<String, u64>) -> Result<Vec<u8>, Refused> {
     let mut out = Vec::new();
     let (mut above, mut wide) = (0, 1);
@@ -117,7 +118,7 @@ pub fn write(map: &BTreeMap<String, u64>) -> Result<Vec<u8>, Refused> {
 
 // ---- reading
 
-/// The root of the map that ends the bytes.
+/// Returns the position of the root of the map that ends the bytes.
 fn root(bytes: &[u8]) -> Option<usize> {
     let pos = bytes.len() - 8;
     match word(bytes, pos + 4) {
@@ -150,7 +151,7 @@ fn value(bytes: &[u8], node: usize, i: usize) -> u64 {
     u64::from_le_bytes(bytes[at..at + VALUE].try_into().unwrap())
 }
 
-/// The value of a key.
+/// Returns the value of a key.
 pub fn get(bytes: &[u8], query: &[u8]) -> Option<u64> {
     let mut at = root(bytes);
     'nodes: while let Some(node) = at {
@@ -170,7 +171,7 @@ pub fn get(bytes: &[u8], query: &[u8]) -> Option<u64> {
     None
 }
 
-/// The sum of what is found for queries one behind the other, which end at these positions.
+/// Returns the sum of what is found for queries that lie one after the other, and end at these positions.
 #[inline(never)]
 pub fn sum_found(bytes: &[u8], queries: &[u8], ends: &[usize]) -> u64 {
     let mut start = 0;
@@ -182,7 +183,7 @@ pub fn sum_found(bytes: &[u8], queries: &[u8], ends: &[usize]) -> u64 {
     sum
 }
 
-/// The nodes from the root down to one, and of each the number of the entry that comes next.
+/// The nodes from the root down to one, each with the index of its next entry.
 struct Walk<'a> {
     bytes: &'a [u8],
     stack: [(usize, usize); 32],
@@ -203,14 +204,14 @@ impl<'a> Walk<'a> {
         self.depth += 1;
     }
 
-    /// A walk over all entries.
+    /// Returns a walk over all entries.
     fn all(bytes: &'a [u8]) -> Self {
         let mut walk = Walk::new(bytes);
         walk.descend(root(bytes));
         walk
     }
 
-    /// A walk over the entries whose keys are not below a text.
+    /// Returns a walk over the entries whose keys are not below a text.
     fn from(bytes: &'a [u8], low: &[u8]) -> Self {
         let mut walk = Walk::new(bytes);
         let mut at = root(bytes);
@@ -224,7 +225,7 @@ impl<'a> Walk<'a> {
         walk
     }
 
-    /// Goes down to the first entry below a node.
+    /// Descends to the first entry below a node.
     fn descend(&mut self, mut at: Option<usize>) {
         while let Some(node) = at {
             self.push(node, 0);
@@ -234,7 +235,7 @@ impl<'a> Walk<'a> {
 }
 
 impl Iterator for Walk<'_> {
-    /// A node, and the number of an entry in it.
+    /// A node, and the index of an entry in it.
     type Item = (usize, usize);
 
     fn next(&mut self) -> Option<(usize, usize)> {
@@ -252,20 +253,20 @@ impl Iterator for Walk<'_> {
     }
 }
 
-/// The number of an entry, and how many bytes its key has.
+/// Returns the sum of the number of an entry and the number of bytes of its key.
 fn weight(bytes: &[u8], (node, i): (usize, usize)) -> u64 {
     value(bytes, node, i) + text(bytes, node + KEYS + i * KEY).len() as u64
 }
 
-/// The sum of all values, in order, with the lengths of their keys.
+/// Returns the sum of all values, in order, with the lengths of their keys.
 #[inline(never)]
 pub fn sum_walked(bytes: &[u8]) -> u64 {
     let add = |sum: u64, entry| sum.wrapping_add(weight(bytes, entry));
     Walk::all(bytes).fold(0, add)
 }
 
-/// The same of the entries of ranges: each from a text on, and below the one behind it. The texts stand one behind the other
-/// and end at these positions.
+/// Returns the same sum over the entries of ranges: each from a text on, and below the one after it. The texts lie one
+/// after the other and end at these positions.
 #[inline(never)]
 pub fn sum_ranges(bytes: &[u8], bounds: &[u8], ends: &[usize]) -> u64 {
     let mut start = 0;

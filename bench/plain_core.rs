@@ -1,4 +1,5 @@
-//! Archives that are written whole and accessed, in plain Rust, over the same layout: those of the forms, and of a record.
+//! Archives that are written whole and accessed, in plain Rust, over the same layout: those of the forms, and of a
+//! record.
 
 use crate::forms::{self, Archive, Archived, Context, Refused};
 
@@ -107,7 +108,7 @@ pub fn write_each<const PIECES: bool>(numbers: &[u32], rounds: usize) -> usize {
     (0..rounds).map(round).sum()
 }
 
-/// The archives of the records, one behind the other, and where they end.
+/// Returns the archives of the records, one after the other, and the position at which each ends.
 pub fn archived_each(numbers: &[u32]) -> (Vec<u8>, Vec<usize>) {
     let (mut bytes, mut ends) = (Vec::new(), Vec::new());
     for record in records(numbers) {

@@ -1,6 +1,6 @@
 //! Checks, writes and reads of archived forms in plain Rust, over the same layout.
 
-/// Why a value is refused.
+/// The reasons for which a value is refused.
 #[derive(Clone, Copy, Debug, PartialEq, Eq)]
 pub enum Refused {
     OutOfRange,
@@ -30,7 +30,7 @@ pub struct Context {
 }
 
 impl Context {
-    /// Of all bytes, where so many pushes may nest.
+    /// Returns a context of all bytes, in which at most `most` pushes may nest.
     pub fn new(end: usize, most: usize) -> Self {
         Context {
             start: 0,
@@ -78,7 +78,7 @@ pub fn word(bytes: &[u8], pos: usize) -> u32 {
     u32::from_le_bytes(bytes[pos..pos + 4].try_into().unwrap())
 }
 
-/// Where the offset at `at` leads from `pos`.
+/// Returns the position that the offset at `at` leads to from `pos`.
 pub fn target(bytes: &[u8], pos: usize, at: usize) -> Option<usize> {
     pos.checked_add_signed(word(bytes, at) as i32 as isize)
 }
@@ -193,7 +193,7 @@ pub fn check_lists(bytes: &[u8], pos: usize) -> bool {
     is_accepted::<Vec<Vec<u32>>>(bytes, pos)
 }
 
-/// The elements of the vector at `pos`, which was checked.
+/// Returns the elements of the vector at `pos`, which was checked.
 fn elements(bytes: &[u8], pos: usize, size: usize) -> std::slice::ChunksExact<'_, u8> {
     let len = word(bytes, pos + 4) as usize;
     let start = target(bytes, pos, pos).unwrap();
@@ -249,7 +249,7 @@ pub fn sum_lists(bytes: &[u8], pos: usize) -> u64 {
     total
 }
 
-/// A value that is archived.
+/// A value that can be archived.
 pub trait Archive: Sized {
     const SIZE: usize;
     const ALIGN: usize;
@@ -357,7 +357,7 @@ pub fn align(out: &mut Vec<u8>, align: usize) {
     out.resize(len, 0);
 }
 
-/// Writes own bytes where they stand.
+/// Writes own bytes at their positions in the vector.
 fn resolve_in_place<T: Archive>(
     items: &[T],
     kept: Vec<T::Resolver>,
@@ -374,7 +374,7 @@ fn resolve_in_place<T: Archive>(
     Ok(())
 }
 
-/// Writes own bytes as what has only a call that appends bytes can: they are made elsewhere.
+/// Writes own bytes as a writer does that only appends bytes: they are made elsewhere.
 fn resolve_in_pieces<T: Archive>(
     items: &[T],
     kept: Vec<T::Resolver>,

@@ -1,5 +1,5 @@
-//! Archived hash maps of texts to numbers in plain Rust, over the same layout: first-fit tables that are written, walked and
-//! searched by sixteen controls at once.
+//! Archived hash maps of texts to numbers in plain Rust, over the same layout: first-fit tables that are written,
+//! walked and searched by sixteen controls at once.
 
 use crate::forms::{Archive, Refused, align, offset, target, text, word};
 use std::arch::x86_64::{
@@ -7,15 +7,15 @@ use std::arch::x86_64::{
 };
 use std::hash::{Hash, Hasher};
 
-/// The own bytes of an entry: the text, and behind it the number.
+/// The own bytes of an entry: the text, and after it the number.
 const ITEM: usize = 16;
 const VALUE: usize = 8;
 const ALIGN: usize = 8;
-/// How many controls a stride has.
+/// The number of controls of a stride.
 const STRIDE: usize = 16;
-/// How many bytes a map has itself, which ends its archive.
+/// The number of a map's own bytes, which end its archive.
 const MAP: usize = 12;
-/// The offset that leads to nothing.
+/// The offset that denotes no target.
 const NOTHING: i32 = 1;
 const EMPTY: u8 = 0xff;
 
@@ -102,10 +102,10 @@ impl Iterator for Strides {
     }
 }
 
-/// A bit for each of the sixteen controls from a position on that is the tag, and for each that is empty.
+/// Returns a bit for each of the sixteen controls from a position on that is the tag, and for each that is empty.
 fn scan(controls: &[u8], position: usize, tag: u8) -> (u32, u32) {
     let shown: &[u8; STRIDE] = controls[position..position + STRIDE].try_into().unwrap();
-    // SAFETY: sixteen bytes are there, and every x86-64 processor has these instructions.
+    // SAFETY: sixteen bytes can be read, and every x86-64 processor has these instructions.
     unsafe {
         let shown = _mm_loadu_si128(shown.as_ptr().cast());
         let equal = _mm_cmpeq_epi8(shown, _mm_set1_epi8(tag as i8));
@@ -129,7 +129,7 @@ fn control_count(capacity: usize) -> usize {
     capacity.next_multiple_of(STRIDE) + STRIDE - 1
 }
 
-/// The place where an item of a hash first fits, which is taken.
+/// Takes the place where an item of a hash first fits, and returns it.
 fn take_place(controls: &mut [u8], capacity: usize, hash: u64) -> Option<usize> {
     for position in Strides::new(hash, capacity) {
         let (_, empty) = scan(controls, position, 0);
@@ -147,7 +147,7 @@ fn take_place(controls: &mut [u8], capacity: usize, hash: u64) -> Option<usize> 
     None
 }
 
-/// How many places a table has.
+/// Returns the number of places of a table.
 fn capacity(len: usize) -> usize {
     match len {
         0 => 0,
@@ -155,7 +155,7 @@ fn capacity(len: usize) -> usize {
     }
 }
 
-/// Writes the table of these entries behind their data, and tells where its controls begin, if it has places.
+/// Writes the table of these entries after their data, and returns the position of its controls, if it has places.
 pub fn write_table<'a>(
     len: usize,
     entries: impl Iterator<Item = (&'a String, &'a u64)>,
@@ -188,7 +188,7 @@ pub fn write_table<'a>(
     Ok((out, Some(end)))
 }
 
-/// Writes a map of these entries, which ends the bytes.
+/// Writes a map of these entries, whose own bytes end the archive.
 pub fn write<'a>(
     len: usize,
     entries: impl Iterator<Item = (&'a String, &'a u64)>,
@@ -205,7 +205,7 @@ pub fn write<'a>(
 
 // ---- reading
 
-/// Where the controls of the map that ends the bytes begin, and how many places it has.
+/// Returns the position of the controls of the map that ends the bytes, and the number of its places.
 fn table(bytes: &[u8]) -> Option<(usize, usize)> {
     let pos = bytes.len() - MAP;
     match word(bytes, pos + 4) {
@@ -218,7 +218,7 @@ fn value(bytes: &[u8], item: usize) -> u64 {
     u64::from_le_bytes(bytes[item + VALUE..item + ITEM].try_into().unwrap())
 }
 
-/// The value of a key.
+/// Returns the value of a key.
 pub fn get(bytes: &[u8], query: &str) -> Option<u64> {
     let (end, capacity) = table(bytes)?;
     let hash = hash_of(query);
@@ -240,7 +240,7 @@ pub fn get(bytes: &[u8], query: &str) -> Option<u64> {
     None
 }
 
-/// The sum of what is found for queries one behind the other, which end at these positions.
+/// Returns the sum of what is found for queries that lie one after the other, and end at these positions.
 #[inline(never)]
 pub fn sum_found(bytes: &[u8], queries: &str, ends: &[usize]) -> u64 {
     let mut start = 0;
@@ -252,7 +252,7 @@ pub fn sum_found(bytes: &[u8], queries: &str, ends: &[usize]) -> u64 {
     sum
 }
 
-/// The sum of all values and of the lengths of their keys, by ascending place.
+/// Returns the sum of all values and of the lengths of their keys, by ascending place.
 #[inline(never)]
 pub fn sum_walked(bytes: &[u8]) -> u64 {
     let Some((end, capacity)) = table(bytes) else {

@@ -1,5 +1,5 @@
-//! Texts of documents in plain Rust, read from the standard input and written back: what bench/text.sh measures
-//! cabinet_text_copy against. Which texts are refused, for which line and by which cause, is the same.
+//! Texts of documents in plain Rust, read from the standard input and written back, with which bench/text.sh compares
+//! cabinet_text_copy. The same texts are refused, for the same line and by the same cause.
 
 use std::collections::{BTreeMap, BTreeSet};
 use std::fmt;
@@ -8,7 +8,7 @@ use std::process::ExitCode;
 use std::rc::Rc;
 use std::str::FromStr;
 
-/// The most containers that lie in one another.
+/// The greatest number of containers that lie in one another.
 const MOST: usize = 64;
 
 enum Node {
@@ -51,7 +51,7 @@ impl fmt::Display for Refusal {
 
 // ---- reading
 
-/// A number in its shortest form.
+/// Reads a number in its shortest form.
 fn read_number<T: FromStr>(digits: &str) -> Result<T, Cause> {
     let unsigned = digits.strip_prefix('-').unwrap_or(digits);
     if digits == "0" || unsigned.starts_with(|c| matches!(c, '1'..='9')) {
@@ -78,14 +78,14 @@ fn unescape(escaped: &str) -> Result<String, Cause> {
     Ok(text)
 }
 
-/// What is left of a text, and the lines taken from it.
+/// The rest of a text, and the number of lines taken from it.
 struct Lines<'a> {
     rest: &'a [u8],
     taken: u64,
 }
 
 impl<'a> Lines<'a> {
-    /// The next line without its newline, if there is one.
+    /// Returns the next line without its newline, if there is one.
     fn next(&mut self) -> Result<Option<&'a str>, Cause> {
         self.taken += 1;
         if self.rest.is_empty() {
@@ -98,12 +98,12 @@ impl<'a> Lines<'a> {
         Ok(Some(line))
     }
 
-    /// A line that is due.
+    /// Returns the next line, which must exist.
     fn due(&mut self) -> Result<&'a str, Cause> {
         self.next()?.ok_or(Cause::EndTooEarly)
     }
 
-    /// A key, and its escaped form.
+    /// Reads a key, and returns it with its escaped form.
     fn key(&mut self) -> Result<(String, &'a str), Cause> {
         let line = self.due()?;
         let argument = line.strip_prefix('\'').ok_or(Cause::KeyExpected)?;

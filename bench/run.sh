@@ -1,10 +1,10 @@
 #!/usr/bin/env bash
-# Times cab run over a million lines beside sed over the same lines, and tells the most memory that cab held; then times
-# questions and edits of one element in lists of several lengths, and building and opening them; then compares the
-# processor time and the memory of cab on three documents of a million leaves, a list of numbers, a list of records and a list
-# of uses of a thousand shared texts, with those of bench/plain.rs, the same two commands in plain Rust, and, where jq is
-# there, with the processor time of jq.
-# Where rustc is not there, cab is compared with sed alone.
+# Times cab run over a million lines beside sed over the same lines, and prints the most memory that cab held; then
+# times questions and edits of one element in lists of several lengths, and building and opening them; then compares the
+# processor time and the memory of cab on three documents of a million leaves, a list of numbers, a list of records and
+# a list of uses of a thousand shared texts, with those of bench/plain.rs, the same two commands in plain Rust, and, if
+# jq is installed, with the processor time of jq.
+# Without rustc, cab is compared with sed alone.
 # Each time is the least of three, and each processor time the least of five, those of a comparison taken in turns.
 set -eu
 root=$(cd "$(dirname "$0")/.." && pwd)
@@ -12,7 +12,7 @@ work=$(mktemp -d)
 trap 'rm -rf "$work"' EXIT
 cab=$root/crates/cab/out/cab
 
-# Without its stamp cab is built again, and the log says for which processor.
+# Without its stamp cab is built again, and the log names the processor.
 rm -f "$root/crates/cab/out/cab.stamp"
 if ! (cd "$root/crates/cab" && rt run -- build "$root/examples/first/text" "$work/first.cab") < /dev/null > "$work/log" 2>&1; then
     cat "$work/log"
@@ -23,7 +23,7 @@ mkfifo pipe
 
 # ---- what is measured
 
-# microseconds that a command takes from the file $1 to the file answers
+# prints the microseconds that a command takes from the file $1 to the file answers
 taken() {
     local lines=$1 began
     shift
@@ -32,7 +32,7 @@ taken() {
     echo $((${EPOCHREALTIME/./} - began))
 }
 
-# microseconds of the processor, in user and system mode
+# prints the microseconds of the processor, in user and system mode
 spent() {
     local lines=$1 user system TIMEFORMAT='%U %S'
     shift
@@ -40,7 +40,8 @@ spent() {
     echo $(((10#${user/./} + 10#${system/./}) * 1000))
 }
 
-# the most kilobytes that a command held when it waits for more lines than those of the file $1, or for room in the pipe
+# prints the most kilobytes that a command held when it waits for more lines than those of the file $1, or for room in
+# the pipe
 held() {
     local lines=$1 id
     shift
@@ -99,7 +100,7 @@ beside_sed '1,000,000 lines set int N' sets
 
 # ---- lists
 
-# the least of three times that a command takes
+# prints the least of three times that a command takes
 timed() {
     local least_time=0
     for _ in 1 2 3; do
@@ -108,7 +109,7 @@ timed() {
     echo "$least_time"
 }
 
-# the time of so many lines about the last element, less that of opening the archive
+# prints the time of a million lines about the last element, less that of opening the archive
 lines_about_last() {
     local word=$1 length=$2 least_time=0 opening
     yes "$word #$((length - 1))" | head -n 1000000 > about-last
@@ -142,7 +143,7 @@ rustc --edition 2024 -C opt-level=3 -C codegen-units=1 ${processor:+-C target-cp
 command -v jq > /dev/null || echo 'no jq: cab was not compared with it'
 echo "beside plain Rust, both for the processor ${processor:-that rustc assumes}, user and system time:"
 
-# the list of numbers, and as many leaves in records: each document as a text and as JSON
+# the list of numbers, and the same number of leaves in records: each document as a text and as JSON
 mv list-1000000 numbers
 { echo '['; seq -s , 1000000; echo ']'; } > numbers.json
 awk 'BEGIN {
@@ -185,8 +186,9 @@ awk 'BEGIN {
     }
 }'
 
-# One command of both programs with the lines of the file $2, on files of the same names, in a folder for each; what they
-# leave and answer is the same. jq is timed in turn with the words asked_of_jq, where there are any.
+# One command of both programs with the lines of the file $2, on files of the same names, in a folder for each; the
+# files that they leave and their answers must be the same. jq is timed in turn with the words asked_of_jq, if there are
+# any.
 beside_plain() {
     local what=$1 lines=$2 by_cab=0 by_plain=0 by_jq=0
     shift 2
@@ -220,7 +222,7 @@ for document in numbers records uses; do
     beside_plain "$document: build" /dev/null build ../$document a.cab
     asked_of_jq=()
     beside_plain "$document: open" /dev/null run a.cab
-    # a shared text is not edited
+    # a shared text cannot be edited
     [ ! -e $document.edits ] || beside_plain "$document: open, and 100,000 edits" ../$document.edits run a.cab
     asked_of_jq=(-r --slurpfile paths $document.paths 'getpath($paths[])' $document.json)
     beside_plain "$document: open, and 100,000 questions" ../$document.questions run a.cab

@@ -1,8 +1,8 @@
 #!/usr/bin/env bash
-# Usage: bench/text.sh [LEAVES]. Copies the texts of four documents, of 1,000,000 leaves each unless told otherwise, with
-# cabinet_text_copy, with bench/plain_text.rs, the same program in plain Rust, for the same processor, and, where jq is
-# there, with jq -c . the same documents as JSON. Prints the least processor time of five runs, taken in turns, the ratios,
-# and, where valgrind is there, the instructions for a tenth of the leaves.
+# Usage: bench/text.sh [LEAVES]. Copies the texts of four documents, of 1,000,000 leaves each unless LEAVES is given,
+# with cabinet_text_copy, with bench/plain_text.rs, the same program in plain Rust, for the same processor, and, if jq
+# is installed, with jq -c . the same documents as JSON. Prints the least processor time of five runs, taken in turns,
+# the ratios, and, if valgrind is installed, the instructions for a tenth of the leaves.
 set -eu
 leaves=${1:-1000000}
 root=$(cd "$(dirname "$0")/.." && pwd)
@@ -10,7 +10,7 @@ work=$(mktemp -d)
 trap 'rm -rf "$work"' EXIT
 copy=$root/crates/cabinet_text_copy/out/cabinet_text_copy
 
-# Without its stamp the program is built again, and the log says for which processor.
+# Without its stamp the program is built again, and the log names the processor.
 rm -f "${copy}.stamp"
 if ! (cd "$root/crates/cabinet_text_copy" && rt run) > "$work/log" 2>&1 < "$root/crates/cabinet_text_copy/stdin"; then
     cat "$work/log"
@@ -21,7 +21,7 @@ cd "$work"
 rustc --edition 2024 -C opt-level=3 -C codegen-units=1 ${processor:+-C target-cpu="$processor"} \
     -o plain "$root/bench/plain_text.rs"
 
-# the document $1 of $2 leaves, as a text
+# prints the document $1 of $2 leaves, as a text
 text() {
     awk -v kind="$1" -v leaves="$2" 'BEGIN {
         fields = 5
@@ -38,7 +38,7 @@ text() {
     }'
 }
 
-# the same as JSON
+# prints the same document as JSON
 json() {
     awk -v kind="$1" -v leaves="$2" 'BEGIN {
         fields = 5
@@ -55,7 +55,7 @@ json() {
     }'
 }
 
-# milliseconds of the processor that a command takes from the file $1 to the file copied
+# prints the milliseconds of the processor that a command takes from the file $1 to the file copied
 spent() {
     local from=$1 user system TIMEFORMAT='%U %S'
     shift
@@ -75,7 +75,7 @@ ratio() {
     fi
 }
 
-# thousands of instructions that a command takes from the file $1
+# prints the thousands of instructions that a command takes from the file $1
 instructions() {
     local from=$1
     shift

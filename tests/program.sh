@@ -1,13 +1,13 @@
 #!/usr/bin/env bash
-# Runs cab on files in a temporary folder: the program whose path is given, or else that of crates/cab. Each case compares
-# what cab prints, its faults, its status and what it leaves in its files with what is written here.
+# Runs cab on files in a temporary folder: the program whose path is given, or else that of crates/cab. Each case
+# compares what cab prints, its faults, its status and the files that it leaves with what is written here.
 set -u
 root=$(cd "$(dirname "$0")/.." && pwd)
 work=$(mktemp -d)
 trap 'rm -rf "$work"' EXIT
 cab=$work/cab
 
-# Without a program that is given, proves and builds cab, if that was not done.
+# Without the path of a program, proves and builds cab, if that is not done yet.
 if [ $# -eq 0 ]; then
     echo 'proving and building cab'
     if ! (cd "$root/crates/cab" && rt run -- build "$root/examples/first/text" "$work/first.cab") < /dev/null > "$work/log" 2>&1; then
@@ -62,7 +62,7 @@ archive() {
     printf "$(sed 's/../\\x&/g' <<< "$1")" > a.cab
 }
 
-# cab runs on the words
+# runs cab with the given words
 run() {
     "$cab" "$@" < input > output 2> errors
     ended=$?
@@ -104,7 +104,7 @@ finish() {
 
 # ---- the cases that differ in their texts alone
 
-# builds TEXT HEX
+# builds TEXT HEX: the archive of a text
 builds() {
     begin "the archive of: $1"
     text "$1\n"
@@ -115,7 +115,7 @@ builds() {
     finish
 }
 
-# refuses NAME TEXT LINE CAUSE
+# refuses NAME TEXT LINE CAUSE: a text that cab build refuses
 refuses() {
     begin "a text refused: $1"
     text "$2"
@@ -130,7 +130,7 @@ refuses() {
     finish
 }
 
-# answers_in HEX NAME LINES ANSWERS HEX: in an archive, which then holds other bytes
+# answers_in HEX NAME LINES ANSWERS HEX: the answers in an archive, which then holds other bytes
 answers_in() {
     begin "$2"
     archive "$1"
@@ -142,12 +142,12 @@ answers_in() {
     finish
 }
 
-# answers NAME LINES ANSWERS HEX: in the archive of int 5
+# answers NAME LINES ANSWERS HEX: the answers in the archive of int 5
 answers() {
     answers_in "$five" "$@"
 }
 
-# misused WORD..
+# misused WORD..: words that are not a command of cab
 misused() {
     begin "other words: $*"
     run "$@"
@@ -159,7 +159,7 @@ misused() {
     finish
 }
 
-# a line of so many bytes
+# prints a line of $1 bytes
 long_line() {
     head -c "$1" /dev/zero | tr '\0' x
     echo
@@ -192,10 +192,10 @@ builds 'list 2\nsome\nint 5\nsome\nint 6' \
 builds "shared 'a" 610000000000000003000000f4ffffff01000000000000000000000000000000
 builds "list 2\nshared 'hello\\sworld!\nshared 'hello\\sworld!" "$twice"
 builds "list 2\nshared '\nshared '" "$empties"
-# once in the whole archive, whatever its place
+# once in the whole archive, regardless of its place
 builds "list 2\nlist 1\nshared 'hello\\sworld!\nshared 'hello\\sworld!" \
     68656c6c6f20776f726c64210000000003000000ecffffff0c00000000000000000000000000000005000000e4ffffff0100000000000000000000000000000003000000bcffffff0c00000000000000000000000000000005000000ccffffff02000000000000000000000000000000
-# a text that is not shared stands by itself
+# a text that is not shared is written separately
 builds "list 2\nshared 'a\ntext 'a" \
     610000000000000003000000f4ffffff010000000000000000000000000000000200000061ffffffffffffff00000000000000000000000005000000ccffffff02000000000000000000000000000000
 
@@ -472,8 +472,8 @@ nests TooDeep 65
 nests TooDeep 2198
 nests Access 2199
 
-# of the first shared texts one reaches into the root, two lead to one position with other lengths, also where one is empty,
-# and one is not UTF-8; of the last, both options lead to one node
+# of the first shared texts one reaches into the root, two lead to one position with other lengths, also where one is
+# empty, and one is not UTF-8; of the last, both options lead to one node
 for bytes in '' 01 "${five:2}" ff0000000000000005000000000000000000000000000000 000200000000000000000000000000000000000000000000 02000000fe6f726c64ffffff000000000000000000000000 \
     020000008100000064ffffff000000000000000000000000 06000000fcffffff00000000000000000000000000000000 \
     03000000fcffffff01000000000000000000000000000000 "${twice:0:96}0b${twice:98}" "${empties:0:80}01${empties:82}" "ff${twice:2}" \
@@ -562,7 +562,7 @@ grep -qx 'cab: run: Write after [0-9]* lines' errors || differs "its faults were
 holds a.cab "$six"
 finish
 
-# More than a pipe holds, so that cab has read its archive when the last of them are written.
+# More than a pipe holds, so that cab has read its archive when the last of the lines are written.
 many_gets() {
     yes get | head -n 100000
 }
@@ -644,7 +644,7 @@ cmp -s a.cab after.cab || differs 'the bytes are not those of the edited documen
 [ "$(cmp -l before.cab a.cab | wc -l)" = 2 ] || differs 'other bytes were written'
 finish
 
-# waits up to ten seconds until the answer to the first question is there, while the input has no end yet
+# waits up to ten seconds for the answer to the first question, while the input has not ended yet
 until_answered() {
     for _ in $(seq 100); do
         grep -q 'int 5' output && break

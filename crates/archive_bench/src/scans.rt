@@ -7,7 +7,7 @@ ghost use Rattle.archive_bench.specs.Writes.{with_i64, with_i64s};
 
 use crate::access::{read_i64, read_u32, seal_i64, target, write_i64};
 
-/// The sum of the i64s side by side.
+/// Returns the sum of the `i64`s side by side.
 #[unsafe(no_mangle)]
 pub extern "C" fn archive_bench_sum_i64(bytes: &[u8]) -> i64
     ensures { result ≡ int_wrap w64 (signed_sum_below (λ i. i64_at bytes.now (i * 8)) (length bytes.now / 8)) }
@@ -20,7 +20,7 @@ pub extern "C" fn archive_bench_sum_i64(bytes: &[u8]) -> i64
     total
 }
 
-/// The sum of the u32s side by side.
+/// Returns the sum of the `u32`s side by side.
 #[unsafe(no_mangle)]
 pub extern "C" fn archive_bench_sum_u32(bytes: &[u8]) -> u64
     ensures { result ≡ sum_below (λ i. u32_at bytes.now (i * 4)) (length bytes.now / 4) % 2 ^ 64 }
@@ -33,7 +33,7 @@ pub extern "C" fn archive_bench_sum_u32(bytes: &[u8]) -> u64
     total
 }
 
-/// The sum of the positions that relative pointers side by side lead to.
+/// Returns the sum of the positions that relative pointers side by side point to.
 #[unsafe(no_mangle)]
 pub extern "C" fn archive_bench_sum_targets(bytes: &[u8]) -> usize
     ensures { result ≡ sum_below (λ i. target_at bytes.now (i * 4)) (length bytes.now / 4) % 2 ^ 64 }
@@ -57,7 +57,7 @@ pub extern "C" fn archive_bench_fill_i64(bytes: &mut [u8], first: i64)
     }
 }
 
-/// The sum of the i64s at positions.
+/// Returns the sum of the `i64`s at positions.
 #[unsafe(no_mangle)]
 pub extern "C" fn archive_bench_read_i64(bytes: &[u8], positions: &[u32]) -> i64
     requires { All (λ p. p + 8 ≤ length bytes.now) positions.now }
@@ -70,7 +70,7 @@ pub extern "C" fn archive_bench_read_i64(bytes: &[u8], positions: &[u32]) -> i64
     total
 }
 
-/// The sum of the u32s at positions.
+/// Returns the sum of the `u32`s at positions.
 #[unsafe(no_mangle)]
 pub extern "C" fn archive_bench_read_u32(bytes: &[u8], positions: &[u32]) -> u64
     requires { All (λ p. p + 4 ≤ length bytes.now) positions.now }
@@ -83,7 +83,7 @@ pub extern "C" fn archive_bench_read_u32(bytes: &[u8], positions: &[u32]) -> u64
     total
 }
 
-/// The sum of the positions that the relative pointers at positions lead to.
+/// Returns the sum of the positions that the relative pointers at positions point to.
 #[unsafe(no_mangle)]
 pub extern "C" fn archive_bench_read_target(bytes: &[u8], positions: &[u32]) -> usize
     requires { All (λ p. p + 4 ≤ length bytes.now) positions.now }
@@ -96,7 +96,7 @@ pub extern "C" fn archive_bench_read_target(bytes: &[u8], positions: &[u32]) -> 
     total
 }
 
-/// Writes a number at each position, as one that is resolved.
+/// Writes a number at each position, as an archived value is resolved.
 #[unsafe(no_mangle)]
 pub extern "C" fn archive_bench_write_i64(bytes: &mut [u8], positions: &[u32], number: i64)
     requires { All (λ p. p + 8 ≤ length bytes.old) positions.now }
@@ -107,7 +107,7 @@ pub extern "C" fn archive_bench_write_i64(bytes: &mut [u8], positions: &[u32], n
     }
 }
 
-/// Writes a number at each position, over the one that stands there.
+/// Writes a number at each position, through a seal, over the one that lies there.
 #[unsafe(no_mangle)]
 pub extern "C" fn archive_bench_seal_i64(bytes: &mut [u8], positions: &[u32], number: i64)
     requires { All (λ p. p + 8 ≤ length bytes.old) positions.now }

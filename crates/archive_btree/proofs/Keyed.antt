@@ -5,17 +5,17 @@ use Rattle.std.specs.declared.cmp.Ordering.TheVariants.{Less, Equal, Greater}
 use Rattle.std.specs.Ordering.{match_ordering}
 use Rattle.std.specs.BTreeMap.{insert_entry}
 use Rattle.std.specs.BTreeSet.{insert_key}
-use Rattle.archive_shape_layout.specs.Shape.Shape.{tuple}
-use Rattle.archive_shape_layout.specs.Shape.Shapes.{no_shapes}
-use Rattle.archive_shape_layout.specs.Value.{Value}
-use Rattle.archive_shape_layout.specs.Value.Value.{group}
-use Rattle.archive_shape_layout.specs.Value.Values.{no_values}
-use Rattle.archive_shape_layout.specs.Content.{Names, shape_content, fields}
-use Rattle.archive_shape_layout.proofs.Unique.{by_plain}
-use Rattle.archive_shape_canonical.specs.Sharing.{erased}
+use Rattle.archive_shape.specs.ShapeLayout.Shape.Shape.{tuple}
+use Rattle.archive_shape.specs.ShapeLayout.Shape.Shapes.{no_shapes}
+use Rattle.archive_shape.specs.ShapeLayout.Value.{Value}
+use Rattle.archive_shape.specs.ShapeLayout.Value.Value.{group}
+use Rattle.archive_shape.specs.ShapeLayout.Value.Values.{no_values}
+use Rattle.archive_shape.specs.ShapeLayout.Content.{Names, shape_content, fields}
+use Rattle.archive_shape.proofs.ShapeLayout.Unique.{by_plain}
+use Rattle.archive_forms_laws.specs.ShapeCanonical.Sharing.{erased}
 use Rattle.archive_shape.specs.Key.{HeldAt}
-use Rattle.archive_forms_reading.proofs.Inside.{none_held}
-use Rattle.archive_forms_reading.proofs.Pointed.{made_whole}
+use Rattle.archive_forms_writing.proofs.FormsValues.Inside.{none_held}
+use Rattle.archive_forms_writing.proofs.FormsValues.Pointed.{made_whole}
 use Rattle.archive_btree.specs.Owned.{key_entries}
 
 -- a unit is the empty group

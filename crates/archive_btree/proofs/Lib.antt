@@ -1,5 +1,5 @@
-mod ReadBack
-pub mod Listed
 pub mod Keyed
+pub mod Listed
+mod ReadBack
 pub mod Seen
 mod Widths

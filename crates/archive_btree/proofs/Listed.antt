@@ -4,18 +4,18 @@ use Rattle.std.proofs.lemmas.List.Elements.{All-head, All-tail}
 use Rattle.std.specs.Prelude.{Result, Option}
 use Rattle.std.specs.Iterator.{Yields, Drains}
 use Rattle.std.specs.Map.Iter.{TakesFirst, deref_pair}
-use Rattle.archive_shape_layout.specs.Shape.{Shape}
+use Rattle.archive_shape.specs.ShapeLayout.Shape.{Shape}
 use Rattle.archive_shape_writing.specs.Writing.{WriterMembers}
 use Rattle.archive_shape_writing.specs.declared.error.Error.{Error}
 use Rattle.archive_shape_writing.specs.declared.error.Error.TheVariants.{OutOfMemory}
-use Rattle.archive_forms_spelling.specs.State.{State}
-use Rattle.archive_forms_spelling.specs.Spelling.{Spelling}
-use Rattle.archive_forms_spelling.specs.Serializing.{of_data, Serializes}
+use Rattle.archive_forms_laws.specs.State.{State}
+use Rattle.archive_forms_laws.specs.Spelling.{Spelling}
+use Rattle.archive_forms_laws.specs.Serializing.{of_data, Serializes}
 use Rattle.archive_forms_writing.proofs.Laying.{Stops, stopped_before, stopped_first}
 use Rattle.archive_btree_spelling.specs.Maps.{btree_spelling}
-use Rattle.archive_btree_reading.specs.declared.resolving.BTreeMapResolver.{BTreeMapResolver}
-use Rattle.archive_forms_spelling.specs.Taking.{TakesEach, GivesAs}
-use Rattle.archive_btree_building.specs.Built.{IsShort, IsCutShort, BuildsClaimedBy}
+use Rattle.archive_btree_maps.specs.declared.map.resolving.BTreeMapResolver.{BTreeMapResolver}
+use Rattle.archive_forms_laws.specs.Taking.{TakesEach, GivesAs}
+use Rattle.archive_btree_writing.specs.Built.{IsShort, IsCutShort, BuildsClaimedBy}
 use Rattle.archive_btree.specs.Owned.{TakesEntries, entries_spelling}
 
 module _ {T X : Type 0} (shows : T → X) where
@@ -49,7 +49,7 @@ module _ {T X : Type 0} (shows : T → X) where
 pub takes_entries : {A B F : Type 0} (takes : F → A × B → Type 0) (step : F) (from : List (A × B)) → All (takes step) from → TakesEntries (TakesFirst deref_pair) takes step from
 takes_entries takes step from h = let t = takes_each deref_pair (takes step) from h in record { each = t.each }
 
--- memory was refused before anything came
+-- an allocation failed before anything came
 pub none_begun : {C R W I : Type 0} (w : Spelling (List C) R) (s : WriterMembers W) (gives : I → Option C → I → Type 0) (claimed : ℕ) (from : I) (old : W)
     → IsCutShort w s gives claimed 0 claimed 0 from old old OutOfMemory
 none_begun w s gives claimed from old = record {
@@ -73,7 +73,7 @@ module _ {A B R Q W T : Type 0} (most : ℕ) (k v : Shape) (keys : Spelling A R)
       let none = ap length ended in
       omega (arith, h.fewer, counted, none)
 
-  -- of the entries in a list, as many as it has are claimed: the map of them was written
+  -- of the entries in a list, the number that it has is claimed: the map of them was written
   pub map_written : (result : Result BTreeMapResolver Error) → BuildsClaimedBy most k v keys vals s (GivesAs shows (TakesFirst shows)) (λ r. r.pos) (length es) es old new result
       → Serializes (entries_spelling most k v keys vals) s es old new result
   map_written (Ok r) h st at =

@@ -2,25 +2,25 @@
 use Rattle.std.proofs.Common.{◌≡◌, ◌∙◌, ℕ, ◌<◌, ◌≤◌, List, [], ◌∷◌, ◌++◌, length, map, refl, ap, sym, subst, arith, append_assoc, append-nil}
 use Rattle.std.specs.declared.cmp.Ordering.{Ordering}
 use Rattle.std.specs.BTreeMap.{insert_entry}
-use Rattle.archive_shape_layout.specs.Shape.{Shape}
-use Rattle.archive_shape_layout.specs.Shape.Shape.{tree}
-use Rattle.archive_shape_layout.specs.Value.{Value, Values}
-use Rattle.archive_shape_layout.specs.Value.Value.{natural, integer, boolean, string, group, chosen, counted, back}
-use Rattle.archive_shape_layout.specs.Value.Values.{no_values, more_values}
-use Rattle.archive_shape_layout.specs.Content.{Names, members}
-use Rattle.archive_shape_layout.proofs.Visited.{claimed_raised}
-use Rattle.archive_shape_canonical.specs.Sharing.{erased, all_erased}
+use Rattle.archive_shape.specs.ShapeLayout.Shape.{Shape}
+use Rattle.archive_shape.specs.ShapeLayout.Shape.Shape.{tree}
+use Rattle.archive_shape.specs.ShapeLayout.Value.{Value, Values}
+use Rattle.archive_shape.specs.ShapeLayout.Value.Value.{natural, integer, boolean, string, group, chosen, counted, back}
+use Rattle.archive_shape.specs.ShapeLayout.Value.Values.{no_values, more_values}
+use Rattle.archive_shape.specs.ShapeLayout.Content.{Names, members}
+use Rattle.archive_shape.proofs.ShapeLayout.Visited.{claimed_raised}
+use Rattle.archive_forms_laws.specs.ShapeCanonical.Sharing.{erased, all_erased}
 use denote.Ref.{Bor}
-use Rattle.archive_shape_references.specs.declared.refs.Ref.{Ref}
+use Rattle.archive_shape.specs.declared.references.refs.Ref.{Ref}
 use Rattle.archive_shape.specs.Key.{HeldAt}
-use Rattle.archive_forms_reading.specs.Parts.{HasValue, both}
-use Rattle.archive_forms_deserializing.specs.Deserializing.{IsReadAt}
-use Rattle.archive_forms_deserializing.specs.Reading.{reads_all, reads_each, reads_tuple2}
-use Rattle.archive_btree_layout.specs.Items.{ArePairs, IsTreeRead}
-use Rattle.archive_btree_layout.specs.Items.IsTreeRead.{reads_none, reads_tree}
-use Rattle.archive_btree_layout.specs.Reading.{Place}
-use Rattle.archive_btree_layout.specs.Tree.{Tree, items}
-use Rattle.archive_btree_layout.proofs.Mapped.{tree_is_read}
+use Rattle.archive_forms_writing.specs.FormsValues.Parts.{HasValue, both}
+use Rattle.archive_forms.specs.Deserializing.{IsReadAt}
+use Rattle.archive_forms.specs.Reading.{reads_all, reads_each, reads_tuple2}
+use Rattle.archive_btree_spelling.specs.BtreeLayout.Items.{ArePairs, IsTreeRead}
+use Rattle.archive_btree_spelling.specs.BtreeLayout.Items.IsTreeRead.{reads_none, reads_tree}
+use Rattle.archive_btree_spelling.specs.BtreeLayout.Reading.{Place}
+use Rattle.archive_btree_spelling.specs.BtreeLayout.Tree.{Tree, items}
+use Rattle.archive_btree_spelling.proofs.BtreeLayout.Mapped.{tree_is_read}
 use Rattle.archive_btree_walking.specs.Maps.{IsMapAt, IsMapOf, AreEntriesAt}
 use Rattle.archive_btree_walking.specs.Refs.{entry_at}
 use Rattle.archive_btree_walking.proofs.One.{one_map}
@@ -28,7 +28,7 @@ use Rattle.archive_btree_walking.proofs.Read.{map_is_read}
 use Rattle.archive_btree.specs.ReadBack.{inserted, reads_map}
 use Rattle.archive_btree.proofs.Widths.{has_width}
 
--- a pair that is inserted behind others
+-- a pair that is inserted after others
 pub inserted_last : {A B : Type 0} (cmp : A → A → Ordering) (es xs : List (A × B)) (x : A × B) → inserted cmp es (xs ++ (x ∷ [])) ≡ insert_entry cmp (inserted cmp es xs) x.0 x.1
 inserted_last cmp es [] x = refl
 inserted_last cmp es (y ∷ ys) x = inserted_last cmp (insert_entry cmp es y.0 y.1) ys x
@@ -134,7 +134,7 @@ module _ {A B : Type 0} (most : ℕ) (keys : Value → A → Type 0) (vals : Val
       let entries : AreEntriesAt s t knows others bytes (items u) (members value) = subst (λ x. AreEntriesAt s t knows others bytes (items x) (members value)) same m.entries in
       (all_erased (members value), sym (ap erased (map_grouped most s t (both knows others) bytes pos value h)), each_read (items u) xs (members value) read entries)
 
-  -- ---- the progress of a call that reads a map, with so many places left
+  -- ---- the progress of a call that reads a map, with n places left
 
   pub record IsReading (cmp : A → A → Ordering) (pos : ℕ) (left : List Place) (entries : List (A × B)) : Type 0 where
     pub search_tree : Tree Place

@@ -1,19 +1,19 @@
--- What an iterator gives, seen as what another one gives.
+-- What an iterator yields, seen as what another one yields.
 use Rattle.std.proofs.Common.{ℕ, ◌+◌, List, [], ◌∷◌, ◌++◌, append-nil, refl, ap, subst, inl, inr, ◌⊎◌, Option, Some, None, Ok, Err}
 use Rattle.std.specs.Prelude.{Result}
 use Rattle.std.specs.Iterator.{Yields, Drains}
 use Rattle.std.specs.Map.Iter.{deref_pair}
 use denote.Bor.{Bor}
-use Rattle.archive_shape_layout.specs.Shape.{Shape}
+use Rattle.archive_shape.specs.ShapeLayout.Shape.{Shape}
 use Rattle.archive_shape_writing.specs.Writing.{WriterMembers}
 use Rattle.archive_shape_writing.specs.declared.error.Error.{Error}
-use Rattle.archive_forms_spelling.specs.State.{State}
-use Rattle.archive_forms_spelling.specs.Spelling.{Spelling}
-use Rattle.archive_forms_spelling.specs.Serializing.{of_data}
+use Rattle.archive_forms_laws.specs.State.{State}
+use Rattle.archive_forms_laws.specs.Spelling.{Spelling}
+use Rattle.archive_forms_laws.specs.Serializing.{of_data}
 use Rattle.archive_forms_writing.proofs.Laying.{Stops, stopped_first}
 use Rattle.archive_btree_spelling.specs.Maps.{btree_spelling}
-use Rattle.archive_forms_spelling.specs.Taking.{GivesAs}
-use Rattle.archive_btree_building.specs.Built.{IsShort, IsCutShort, BuildsClaimedBy}
+use Rattle.archive_forms_laws.specs.Taking.{GivesAs}
+use Rattle.archive_btree_writing.specs.Built.{IsShort, IsCutShort, BuildsClaimedBy}
 use Rattle.archive_btree.specs.Owned.{key_entry, key_of}
 
 module _ {X I J : Type 0} (gives : J → Option X → J → Type 0) (other : I → Option X → I → Type 0) (see : J → I) (same : (from : J) (r : Option X) (to : J) → gives from r to → other (see from) r (see to)) where

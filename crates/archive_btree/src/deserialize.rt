@@ -1,39 +1,28 @@
-//! Archived maps are read back as maps of std.
+//! Reading archived maps back as maps of std.
 ghost use Rattle.std.specs.Prelude.{length};
-ghost use Rattle.archive_shape_layout.specs.Shape.Shape.{tree};
-ghost use Rattle.archive_forms_reading.specs.Parts.{HasValue, both};
-ghost use Rattle.archive_forms_deserializing.specs.Deserializing.{Deserializes, DeserializesBy};
-ghost use Rattle.archive_forms_deserializing.specs.Steps.{StepTakes, StepReads};
+ghost use Rattle.archive_shape.specs.ShapeLayout.Shape.Shape.{tree};
+ghost use Rattle.archive_forms_writing.specs.FormsValues.Parts.{HasValue, both};
+ghost use Rattle.archive_forms.specs.Deserializing.{Deserializes, DeserializesBy};
+ghost use Rattle.archive_forms.specs.Steps.{StepTakes, StepReads};
 ghost use Rattle.archive_btree.specs.ReadBack.{reads_map};
 
 use crate::OwnedBTreeMap;
-use archive_btree_reading::ArchivedBTreeMap;
-use archive_forms_deserializing::{Deserialize, ReadBack};
+use archive_btree_maps::ArchivedBTreeMap;
+use archive_forms::{Deserialize, ReadBack, deserialize_element};
 use archive_forms_writing::Archive;
 use archive_shape::{Error, Ref};
 use std::alloc::Global;
 use std::collections::BTreeMap;
 use std::marker::PhantomData;
 
-/// The step of keys and values that can be read back. A step's answer names the archived form, since a closure over `T` can be
-/// passed on only where its type does.
-pub(crate) fn deserialize_part<T: Archive, A: Deserialize<T, D>, D>(
-    bytes: &[u8],
-    pos: usize,
-    alloc: Global,
-    deserializer: &mut D,
-) -> Result<(T, PhantomData<T::Archived>), Error>
-    requires { HasValue A.shape A.knows bytes.now pos }
-    ensures { DeserializesBy A.reads A.shape A.knows bytes.now pos (λ q. q.0) result }
-{
-    match A::deserialize(&Ref::new(bytes, pos), alloc, deserializer) {
-        Ok(value) => Ok((value, PhantomData)),
-        Err(e) => Err(e),
-    }
-}
-
-/// Reads a map back, whose keys and values steps read. Its entries are inserted in turn: the archive of a map that was
-/// checked may have keys that do not ascend, or equal ones, of which the first one stays, with the value of the last one.
+/// Reads a map back, whose keys and values are read by steps. Its entries are inserted in turn: the archive of a map
+/// that was checked may have keys that do not ascend, or equal ones, of which the first one remains, with the value of
+/// the last one.
+///
+/// # Errors
+///
+/// - `OutOfMemory` if the allocation of an entry of the map fails.
+/// - Any error of a step.
 pub fn deserialize_map_each<
     K: Archive + Ord + Drop,
     V: Archive + Drop,
@@ -101,11 +90,11 @@ impl<
             |d: &mut D, pos: usize| -> Result<(K, PhantomData<K::Archived>), Error>
                 requires { HasValue A.shape A.knows bytes.now pos }
                 ensures { DeserializesBy A.reads A.shape A.knows bytes.entry.now pos (λ q. q.0) result }
-            { deserialize_part::<K, A, D>(bytes, pos, alloc, d) },
+            { deserialize_element::<K, A, D>(bytes, pos, alloc, d) },
             |d: &mut D, pos: usize| -> Result<(V, PhantomData<V::Archived>), Error>
                 requires { HasValue B.shape B.knows bytes.now pos }
                 ensures { DeserializesBy B.reads B.shape B.knows bytes.entry.now pos (λ q. q.0) result }
-            { deserialize_part::<V, B, D>(bytes, pos, alloc, d) },
+            { deserialize_element::<V, B, D>(bytes, pos, alloc, d) },
         )
     }
 }

@@ -1,12 +1,13 @@
-//! Maps and sets of std are archived as search trees and read back, and entries that come in order are archived so too. The
-//! archived map and set, and the map's iterators, are here too.
+//! Maps and sets of std, archived as search trees and read back; entries that come in order are archived in the same
+//! way. The archived map and set, and the map's iterators, are re-exported here.
 #![tactic(auto)]
 
 mod archive;
 mod archive_set;
 mod deserialize;
+pub mod laws;
 mod map;
-mod nodes;
+mod node_writer;
 mod ordered;
 mod ordered_keys;
 mod read_set;
@@ -14,11 +15,18 @@ mod serialize;
 mod serialize_set;
 mod set;
 
-pub use archive_btree_reading::{
-    ArchivedBTreeMap, BTreeMapResolver, Iter, IterSeal, Keys, Range, RangeSeal, Values, ValuesSeal,
+pub use archive_btree_layout as layout;
+pub use archive_btree_maps as maps;
+pub use archive_btree_maps::map::Iter;
+pub use archive_btree_maps::{
+    ArchivedBTreeMap, ArchivedBTreeSet, BTreeMapResolver, BTreeSetResolver, IterSeal, Keys, Range,
+    RangeSeal, Values, ValuesSeal, eq_btree_map, eq_btree_set, eq_map,
 };
-pub use archive_btree_sets::{ArchivedBTreeSet, BTreeSetResolver, eq_btree_set};
-pub use archive_btree_writing::{EntryParts, EntryStep, SerializeEntry};
+pub use archive_btree_nodes as nodes;
+pub use archive_btree_spelling as spelling;
+pub use archive_btree_walking as walking;
+pub use archive_btree_writing as writing;
+pub use archive_forms_borrowed::{EntryParts, EntryStep, SerializeEntry};
 pub use deserialize::deserialize_map_each;
 pub use map::OwnedBTreeMap;
 pub use ordered::{serialize_from_ordered_iter, serialize_from_ordered_iter_each};

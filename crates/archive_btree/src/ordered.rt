@@ -2,28 +2,31 @@
 ghost use Rattle.std.specs.Prelude.{◌≡◌, ℕ, ◌-◌, ◌^◌, ◌<◌, ⊤};
 ghost use Rattle.std.specs.Iterator.{IsFinite};
 ghost use Rattle.std.specs.Map.Iter.{deref_pair};
-ghost use Rattle.archive_forms_spelling.specs.Serializing.{HasState};
-ghost use Rattle.archive_forms_spelling.specs.Taking.{GivesAs};
-ghost use Rattle.archive_btree_building.specs.Built.{BuildsClaimedBy};
+ghost use Rattle.archive_forms_laws.specs.Serializing.{HasState};
+ghost use Rattle.archive_forms_laws.specs.Taking.{GivesAs};
+ghost use Rattle.archive_btree_writing.specs.Built.{BuildsClaimedBy};
 ghost use Rattle.archive_btree.specs.Owned.{TakesEntries};
 
-use crate::nodes::NodeWriter;
-use archive_btree_building::build_tree_each;
-use archive_btree_reading::BTreeMapResolver;
-use archive_btree_writing::{EntryStep, SerializeEntry};
+use crate::node_writer::NodeWriter;
+use archive_btree_maps::BTreeMapResolver;
+use archive_btree_writing::build_tree_each;
+use archive_forms_borrowed::{EntryStep, SerializeEntry};
 use archive_forms_writing::{Archive, Serialize};
 use archive_shape::{Allocator, Error, Writer};
 use std::marker::PhantomData;
 
-/// How many entries a node has at most.
+/// The greatest number of entries of a node.
 pub(crate) const MOST: usize = u32::MAX as usize;
 
-/// Writes the search tree of the entries of a map, which come in order and whose data a step writes. `claimed` is how many
-/// come.
+/// Writes the search tree of the entries of a map, which come in order and whose data is written by a step. `claimed`
+/// is the number of entries that come.
 ///
 /// # Errors
-/// `IteratorLengthMismatch` where fewer entries came, or where more did, which are counted then; what is written for those
-/// that came stays written. Whatever the step is refused for. `OutOfMemory` where a node is to have 2^32 entries or more.
+///
+/// - `IteratorLengthMismatch` if fewer entries came, or if more did, which are then counted. What is written for the
+///   entries that came remains written.
+/// - Any error of the step.
+/// - `OutOfMemory` if `E` is 2^32 or more.
 pub fn serialize_from_ordered_iter_each<
     'a,
     K: Archive + 'a,
@@ -56,7 +59,8 @@ pub fn serialize_from_ordered_iter_each<
     }
 }
 
-/// Writes the search tree of the entries of a map, which come in order, as `serialize_from_ordered_iter_each` does.
+/// Writes the search tree of the entries of a map, which come in order, as `serialize_from_ordered_iter_each` does. The
+/// data of the entries is written by `Serialize`.
 pub fn serialize_from_ordered_iter<
     'a,
     S: Writer + Allocator,

@@ -1,24 +1,24 @@
 //! Search trees of keys that come in order.
 ghost use Rattle.std.specs.Prelude.{◌≡◌, ℕ, ◌-◌, ◌^◌, ◌<◌};
 ghost use Rattle.std.specs.Iterator.{IsFinite};
-ghost use Rattle.archive_shape_layout.specs.Shape.Shape.{tuple};
-ghost use Rattle.archive_shape_layout.specs.Shape.Shapes.{no_shapes};
-ghost use Rattle.archive_forms_spelling.specs.Fields.{unit_spelling};
-ghost use Rattle.archive_forms_spelling.specs.Serializing.{HasState};
-ghost use Rattle.archive_forms_spelling.specs.Taking.{GivesAs};
-ghost use Rattle.archive_btree_building.specs.Built.{BuildsClaimedBy};
+ghost use Rattle.archive_shape.specs.ShapeLayout.Shape.Shape.{tuple};
+ghost use Rattle.archive_shape.specs.ShapeLayout.Shape.Shapes.{no_shapes};
+ghost use Rattle.archive_forms_laws.specs.Fields.{unit_spelling};
+ghost use Rattle.archive_forms_laws.specs.Serializing.{HasState};
+ghost use Rattle.archive_forms_laws.specs.Taking.{GivesAs};
+ghost use Rattle.archive_btree_writing.specs.Built.{BuildsClaimedBy};
 ghost use Rattle.archive_btree.specs.Owned.{key_entry, key_of};
 
-use crate::nodes::NodeWriter;
+use crate::node_writer::NodeWriter;
 use crate::ordered::MOST;
-use archive_btree_building::build_tree_each;
-use archive_btree_sets::BTreeSetResolver;
-use archive_btree_writing::SerializeEntry;
+use archive_btree_maps::BTreeSetResolver;
+use archive_btree_writing::build_tree_each;
+use archive_forms_borrowed::SerializeEntry;
 use archive_forms_writing::Serialize;
 use archive_shape::{Allocator, Error, Writer};
 use std::marker::PhantomData;
 
-/// Keys, each beside `()`.
+/// An iterator over keys, each beside `()`.
 #[derive(Drop)]
 struct KeyEntries<'a, K, I> {
     keys: I,
@@ -46,10 +46,11 @@ impl<'a, K: 'a, I: Iterator<Item = &'a K>> Iterator for KeyEntries<'a, K, I> {
     }
 }
 
-/// Writes the search tree of the keys of a set, which come in order. `claimed` is how many come.
+/// Writes the search tree of the keys of a set, which come in order. `claimed` is the number of keys that come.
 ///
 /// # Errors
-/// As of `serialize_from_ordered_iter`.
+///
+/// The errors of `serialize_from_ordered_iter`.
 pub fn serialize_set_from_ordered_iter<
     'a,
     S: Writer + Allocator,

@@ -1,29 +1,32 @@
-//! Archived sets are read back as sets of std.
+//! Reading archived sets back as sets of std.
 ghost use Rattle.std.specs.Prelude.{length, ⊤};
-ghost use Rattle.archive_shape_layout.specs.Shape.Shape.{tree, tuple};
-ghost use Rattle.archive_shape_layout.specs.Shape.Shapes.{no_shapes};
-ghost use Rattle.archive_forms_spelling.specs.Fields.{unit_spelling};
-ghost use Rattle.archive_forms_reading.specs.Parts.{HasValue, both};
-ghost use Rattle.archive_forms_deserializing.specs.Deserializing.{Deserializes, DeserializesBy};
-ghost use Rattle.archive_forms_deserializing.specs.Reading.{reads_as};
-ghost use Rattle.archive_forms_deserializing.specs.Steps.{StepTakes, StepReads};
-ghost use Rattle.archive_btree_sets.specs.Sets.{HasSet};
+ghost use Rattle.archive_shape.specs.ShapeLayout.Shape.Shape.{tree, tuple};
+ghost use Rattle.archive_shape.specs.ShapeLayout.Shape.Shapes.{no_shapes};
+ghost use Rattle.archive_forms_laws.specs.Fields.{unit_spelling};
+ghost use Rattle.archive_forms_writing.specs.FormsValues.Parts.{HasValue, both};
+ghost use Rattle.archive_forms.specs.Deserializing.{Deserializes, DeserializesBy};
+ghost use Rattle.archive_forms.specs.Reading.{reads_as};
+ghost use Rattle.archive_forms.specs.Steps.{StepTakes, StepReads};
+ghost use Rattle.archive_btree_maps.specs.Sets.{HasSet};
 ghost use Rattle.archive_btree.specs.Owned.{key_entries};
 ghost use Rattle.archive_btree.specs.ReadBack.{reads_map};
 
 use crate::OwnedBTreeSet;
-use crate::deserialize::deserialize_part;
-use archive_btree_reading::ArchivedBTreeMap;
-use archive_btree_sets::ArchivedBTreeSet;
-use archive_forms_deserializing::{Deserialize, ReadBack};
+use archive_btree_maps::{ArchivedBTreeMap, ArchivedBTreeSet};
+use archive_forms::{Deserialize, ReadBack, deserialize_element};
 use archive_forms_writing::Archive;
 use archive_shape::{Error, Ref};
 use std::alloc::Global;
 use std::collections::BTreeSet;
 use std::marker::PhantomData;
 
-/// Reads a set back, whose keys a step reads. They are inserted in turn: the archive of a set that was checked may have keys
-/// that do not ascend, or equal ones, of which the first one stays.
+/// Reads a set back, whose keys are read by a step. They are inserted in turn: the archive of a set that was checked
+/// may have keys that do not ascend, or equal ones, of which the first one remains.
+///
+/// # Errors
+///
+/// - `OutOfMemory` if the allocation of a key of the set fails.
+/// - Any error of the step.
 pub fn deserialize_set_each<
     K: Archive + Ord + Drop,
     A: ReadBack<K>,
@@ -82,7 +85,7 @@ impl<K: Archive + Ord + Drop, D, A: Deserialize<K, D>, const E: usize> Deseriali
             |d: &mut D, pos: usize| -> Result<(K, PhantomData<K::Archived>), Error>
                 requires { HasValue A.shape A.knows bytes.now pos }
                 ensures { DeserializesBy A.reads A.shape A.knows bytes.entry.now pos (λ q. q.0) result }
-            { deserialize_part::<K, A, D>(bytes, pos, alloc, d) },
+            { deserialize_element::<K, A, D>(bytes, pos, alloc, d) },
         )
     }
 }

@@ -1,18 +1,18 @@
-//! Maps of std are written as search trees.
+//! Writing maps of std as search trees.
 ghost use Rattle.std.specs.Prelude.{◌≡◌, ◌-◌, ◌^◌, ◌<◌, All, length};
 ghost use Rattle.std.specs.Map.Iter.{TakesFirst, deref_pair};
-ghost use Rattle.archive_forms_spelling.specs.Forms.{seen_as};
-ghost use Rattle.archive_forms_spelling.specs.Serializing.{HasState, Serializes};
+ghost use Rattle.archive_forms_laws.specs.Forms.{seen_as};
+ghost use Rattle.archive_forms_laws.specs.Serializing.{HasState, Serializes};
 ghost use Rattle.archive_btree.specs.Owned.{TakesEntries, entries_spelling};
 
 use crate::{OwnedBTreeMap, serialize_from_ordered_iter_each};
-use archive_btree_reading::BTreeMapResolver;
-use archive_btree_writing::{EntryStep, SerializeEntry};
+use archive_btree_maps::BTreeMapResolver;
+use archive_forms_borrowed::{EntryStep, SerializeEntry};
 use archive_forms_writing::{Archive, Serialize};
 use archive_shape::{Allocator, Error, Writer};
 use std::collections::btree_map::Iter;
 
-/// Writes the search tree of the entries of a map that are left, the data of which a step writes.
+/// Writes the search tree of the entries of a map that are left, whose data is written by a step.
 fn serialize_rest_each<
     'a,
     K: Archive + 'a,
@@ -36,7 +36,7 @@ fn serialize_rest_each<
     serialize_from_ordered_iter_each::<K, V, S, C, _, E>(len, entries, serializer, step)
 }
 
-/// Writes the search tree of a map, the data of whose entries a step writes.
+/// Writes the search tree of a map, the data of whose entries is written by a step. An empty map has no tree.
 pub fn serialize_map_each<
     K: Archive + Ord,
     V: Archive,

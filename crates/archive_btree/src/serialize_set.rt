@@ -1,23 +1,23 @@
-//! Sets of std are written as search trees.
+//! Writing sets of std as search trees.
 ghost use Rattle.std.specs.Prelude.{◌≡◌, ◌-◌, ◌^◌, ◌<◌, All, length};
 ghost use Rattle.std.specs.Iterator.{at_most};
 ghost use Rattle.std.specs.Map.Iter.{TakesFirst, deref_pair};
-ghost use Rattle.archive_shape_layout.specs.Shape.Shape.{tuple};
-ghost use Rattle.archive_shape_layout.specs.Shape.Shapes.{no_shapes};
-ghost use Rattle.archive_forms_spelling.specs.Fields.{unit_spelling};
-ghost use Rattle.archive_forms_spelling.specs.Forms.{seen_as};
-ghost use Rattle.archive_forms_spelling.specs.Serializing.{HasState, Serializes};
+ghost use Rattle.archive_shape.specs.ShapeLayout.Shape.Shape.{tuple};
+ghost use Rattle.archive_shape.specs.ShapeLayout.Shape.Shapes.{no_shapes};
+ghost use Rattle.archive_forms_laws.specs.Fields.{unit_spelling};
+ghost use Rattle.archive_forms_laws.specs.Forms.{seen_as};
+ghost use Rattle.archive_forms_laws.specs.Serializing.{HasState, Serializes};
 ghost use Rattle.archive_btree.specs.Owned.{TakesEntries, entries_spelling, key_entries};
 
 use crate::{OwnedBTreeSet, serialize_from_ordered_iter_each};
-use archive_btree_sets::BTreeSetResolver;
-use archive_btree_writing::{EntryStep, SerializeEntry};
+use archive_btree_maps::BTreeSetResolver;
+use archive_forms_borrowed::{EntryStep, SerializeEntry};
 use archive_forms_writing::{Archive, Serialize};
 use archive_shape::{Allocator, Error, Writer};
 use std::collections::btree_set::Iter;
 use std::marker::Model;
 
-/// The keys of a set that are left, each beside `()`. They are seen as entries.
+/// An iterator over the keys of a set that are left, each beside `()`. Its model is the list of these entries.
 #[derive(Drop)]
 struct KeyEntries<'a, K> {
     keys: Iter<'a, K>,
@@ -51,7 +51,7 @@ impl<'a, K> Iterator for KeyEntries<'a, K> {
     }
 }
 
-/// Writes the search tree of the keys of a set that are left, the data of which a step writes.
+/// Writes the search tree of the keys of a set that are left, whose data is written by a step.
 fn serialize_keys_each<
     'a,
     K: Archive + 'a,
@@ -74,7 +74,8 @@ fn serialize_keys_each<
     serialize_from_ordered_iter_each::<K, (), S, C, _, E>(len, entries, serializer, step)
 }
 
-/// Writes the search tree of a set, the data of whose keys a step writes, each beside `()`.
+/// Writes the search tree of a set, the data of whose keys, each beside `()`, is written by a step. An empty set has no
+/// tree.
 pub fn serialize_set_each<
     K: Archive + Ord,
     S: Writer + Allocator,

@@ -1,4 +1,4 @@
--- Bytes that agree but for the values of entries.
+-- Bytes that agree except for the values of entries.
 use Rattle.std.proofs.Common.{◌≡◌, ◌∙◌, ℕ, zero, suc, ◌+◌, ◌*◌, ◌<◌, ◌≤◌, List, [], ◌∷◌, ◌++◌, length, drop, take, inl, inr, sym, arith, get_or-drop, get_or-take}
 use Rattle.std.specs.Prelude.{slice_index, slice_index_or, All, AllPairs}
 use Rattle.std.proofs.lemmas.Bool.{cases_lt}
@@ -13,10 +13,12 @@ use Rattle.archive_shape_layout.specs.Holds.{Region, Visit, OpenShared, Holds, A
 use Rattle.archive_shape_layout.specs.Laws.{AgreesOn, RegionsAgree}
 use Rattle.archive_shape_layout.specs.Visited.{AllStand, ClaimedAfter}
 use Rattle.archive_shape_layout.proofs.Framed.{frame}
-use Rattle.archive_shape_layout.proofs.Visited.{claimed_raised, part_stands_in}
+use Rattle.archive_shape_layout.proofs.SameBytes.{AreSame, regions_same}
+use Rattle.archive_shape_layout.proofs.Visited.{claimed_raised}
 use Rattle.archive_btree_layout.specs.Reading.{Place, places}
 use Rattle.archive_btree_layout.specs.Items.{IsHeld}
-use Rattle.archive_btree_layout.specs.Changing.{IsOutside, IsInNoValue, AreApart}
+use Rattle.archive_shape_layout.specs.Bytes.{IsOutside}
+use Rattle.archive_btree_layout.specs.Changing.{IsInNoValue, AreApart}
 
 -- ---- indices
 
@@ -37,7 +39,7 @@ places_in (suc n) k key v value i out =
     (λ le. let past = out le in omega (arith, past))
     (places_in n k (key + size_of k) v (value + size_of v) i (λ le. let past = out (omega arith) in omega (arith, past)))
 
--- the items between two children's are a place and those behind it
+-- the items between two children's are a place and those after it
 pub between_in : (v : Shape) (p : Place) (es fs : List Place) (i : ℕ) → IsInNoValue v es i → IsOutside p.value (p.value + size_of v) i → IsInNoValue v fs i → IsInNoValue v (es ++ p ∷ fs) i
 between_in v p es fs i a b c =
     let P : Place → Type 0 = λ e. IsOutside e.value (e.value + size_of v) i in
@@ -79,7 +81,7 @@ before_end v low high es h j d below i from to =
           absurd (omega arith)
     ]
 
--- values before a place, the one that stands there, and others, which lie before the place or behind its value
+-- values before a place, the one that lies there, and others, which lie before the place or after its value
 pub between_apart : (v : Shape) (bottom mid low : ℕ) (p : Place) (es fs : List Place) → mid ≤ p.value → low ≤ p.value
     → AreIn v bottom mid es → ((i : ℕ) → IsOutside mid low i → (p.value + size_of v ≤ i → ⊥) → IsInNoValue v fs i)
     → AllPairs (AreApart v) es → AllPairs (AreApart v) fs → AllPairs (AreApart v) (es ++ p ∷ fs)
@@ -94,78 +96,26 @@ between_apart v bottom mid low p es fs below under within others a b =
 
 -- ---- bytes
 
-module _ (xs ys : List ℕ) where
-  -- two lists have the same bytes from one index up to another
-  abbrev pub AreSame : ℕ → ℕ → Type 0
-  AreSame low high = (i : ℕ) → low ≤ i → i < high → slice_index ys i ≡ slice_index xs i
+-- what is held is held in bytes that agree on its own and on what is claimed
+pub held_same : (xs ys : List ℕ) {names : Names} (s : Shape) {depth : ℕ} {inside : List OpenShared} {value : Value} {rs : List Region} {before after : List Visit} {low high : ℕ} (start : ℕ)
+    → high ≤ start → start + size_of s ≤ length xs → start + size_of s ≤ length ys
+    → AreSame xs ys low high → AgreesOn xs ys start (size_of s)
+    → ClaimedAfter names xs before low high rs → AllStand names ys low before → Holds names xs depth inside (at start s) value rs before after
+    → IsHeld names ys s start value
+held_same xs ys {names} s {depth} {inside} {value} {rs} {before} {after} {low} {high} start below here there same own claimed stand h =
+    record {
+      depth = depth;
+      inside = inside;
+      regions = rs;
+      before = before;
+      after = after;
+      own_within = there;
+      low = low;
+      claimed = claimed_raised below (record { stand = stand; below = claimed.below; ascends = claimed.ascends });
+      holds = frame xs ys names own (regions_same xs ys low high rs (omega arith) (omega arith) same claimed.ascends) h;
+    }
 
-  byte_same : (pos : ℕ) → AreSame pos (pos + 4) → (i : ℕ) → i < 4 → slice_index (drop pos ys) i ≡ slice_index (drop pos xs) i
-  byte_same pos same i h = get_or-drop pos ys i 0 ∙ same (pos + i) (omega arith) (omega arith) ∙ sym (get_or-drop pos xs i 0)
-
-  pub word_same : (pos : ℕ) → AreSame pos (pos + 4) → word_at ys pos ≡ word_at xs pos
-  unfolding word_at
-  word_same pos same =
-      let b0 = byte_same pos same 0 (omega arith) in
-      let b1 = byte_same pos same 1 (omega arith) in
-      let b2 = byte_same pos same 2 (omega arith) in
-      let b3 = byte_same pos same 3 (omega arith) in
-      rw (b0, b1, b2, b3)
-
-  length_window : (zs : List ℕ) (start size : ℕ) → start + size ≤ length zs → length (window zs start size) ≡ size
-  length_window zs start size room = let d = length-drop start zs in length-take-le size (drop start zs) (omega arith)
-
-  byte_in : (zs : List ℕ) (start size i : ℕ) → i < size → slice_index (window zs start size) i ≡ slice_index zs (start + i)
-  byte_in zs start size i h = get_or-take size (drop start zs) i 0 h ∙ get_or-drop start zs i 0
-
-  pub window_same : (start size : ℕ) → start + size ≤ length xs → start + size ≤ length ys → AreSame start (start + size) → AgreesOn xs ys start size
-  window_same start size here there same =
-      let a = length_window xs start size here in
-      let b = length_window ys start size there in
-      ext_get_or 0 (window xs start size) (window ys start size) (a ∙ sym b)
-      (λ i h. let below : i < size = omega arith in byte_in xs start size i below ∙ sym (same (start + i) (omega arith) (omega arith)) ∙ sym (byte_in ys start size i below))
-
-  pub regions_same : (low high : ℕ) (rs : List Region) → high ≤ length xs → high ≤ length ys → AreSame low high → Ascends low high rs → RegionsAgree xs ys rs
-  unfolding Ascends RegionsAgree
-  regions_same low high [] here there same a = tt
-  regions_same low high (r ∷ rs) here there same a =
-      let from = a.0.after in
-      let to = a.0.inside in (
-        window_same r.start r.size (omega arith) (omega arith) (λ i le lt. same i (omega arith) (omega arith)),
-        regions_same (r.start + r.size) high rs here there (λ i le lt. same i (omega arith) lt) a.1,
-      )
-
-  -- where other bytes agree on what a part claims, and what was visited before it stands in them, what was visited after it does
-  pub visits_kept : {names : Names} {p : Part} {depth : ℕ} {inside : List OpenShared} {value : Value} {rs : List Region} {before after : List Visit} {low high : ℕ}
-      → high ≤ length xs → high ≤ length ys → AreSame low high
-      → ClaimedAfter names xs before low high rs → AllStand names ys low before → Holds names xs depth inside p value rs before after
-      → AllStand names ys high after
-  visits_kept {rs = rs} {low = low} {high} here there same claimed stand h =
-      part_stands_in h (regions_same low high rs here there same claimed.ascends) (record { stand = stand; below = claimed.below; ascends = claimed.ascends })
-
-  -- what is held is held in bytes that agree on its own and on what is claimed
-  pub held_same : {names : Names} (s : Shape) {depth : ℕ} {inside : List OpenShared} {value : Value} {rs : List Region} {before after : List Visit} {low high : ℕ} (start : ℕ)
-      → high ≤ start → start + size_of s ≤ length xs → start + size_of s ≤ length ys
-      → AreSame low high → AgreesOn xs ys start (size_of s)
-      → ClaimedAfter names xs before low high rs → AllStand names ys low before → Holds names xs depth inside (at start s) value rs before after
-      → IsHeld names ys s start value
-  held_same {names} s {depth} {inside} {value} {rs} {before} {after} {low} {high} start below here there same own claimed stand h =
-      record {
-        depth = depth;
-        inside = inside;
-        regions = rs;
-        before = before;
-        after = after;
-        own_within = there;
-        low = low;
-        claimed = claimed_raised below (record { stand = stand; below = claimed.below; ascends = claimed.ascends });
-        holds = frame xs ys names own (regions_same low high rs (omega arith) (omega arith) same claimed.ascends) h;
-      }
-
--- bytes from one index up to another are the same, but for the values of entries
+-- bytes from one index up to another are the same, except for the values of entries
 pub record Agrees (v : Shape) (es : List Place) (xs ys : List ℕ) (low high : ℕ) : Type 0 where
   pub same_length : length ys ≡ length xs
   pub same : (i : ℕ) → low ≤ i → i < high → IsInNoValue v es i → slice_index ys i ≡ slice_index xs i
-
--- what lies before a position is the same without the rest
-pub take_same : (n low high : ℕ) (xs ys : List ℕ) → high ≤ n → AreSame xs ys low high → AreSame xs (take n ys) low high
-take_same n low high xs ys le same i a b = get_or-take n ys i 0 (omega arith) ∙ same i a b

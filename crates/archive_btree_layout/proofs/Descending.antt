@@ -75,7 +75,7 @@ module _ {A : Type 0} (order : A → Ordering) where
   none_of_lesses [] h = refl
   none_of_lesses (e ∷ es) h = rw h.0 (none_of_lesses es h.1)
 
-  -- before an entry that the query is not below are only such as it is above
+  -- before an entry that the query is not below, it is above every entry
   above_first : (x : A) (xs : List A) (e : A) (ys : List A) (o : Ordering) → order x ≡ o → ((order x ≡ Greater → ⊥) → Lesses order (xs ++ e ∷ ys)) → (order e ≡ Less → ⊥)
       → find (λ e. is_eq (order e)) xs ≡ None → find (λ e. is_eq (order e)) (x ∷ xs) ≡ None
   above_first x xs e ys Less is h not rest = absurd (not (lesses_right xs (e ∷ ys) (h (λ g. absurd cc))).0)
@@ -157,7 +157,7 @@ mutual
   descent_is_equal_in order (lesser t e bs) x f =
       equal_by order (items t) e (items_of bs) x (order e) (descend order t) (descend_in order bs) refl (descent_is_equal order t x) (descent_is_equal_in order bs x) f
 
--- ---- what it meets
+-- ---- the entries that it compares
 
 met_in_bound : {A : Type 0} (order : A → Ordering) (es : List A) → met_in order es ≤ length es
 met_in_bound order [] = omega arith

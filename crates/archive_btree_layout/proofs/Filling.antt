@@ -10,7 +10,8 @@ use Rattle.archive_btree_layout.specs.Tree.Tree.{absent, leaf, inner}
 use Rattle.archive_btree_layout.specs.Tree.Branches.{greater, lesser}
 use Rattle.archive_btree_layout.specs.Packed.{level, IsFull, IsLastLevel, IsPacked}
 
--- how many places the last level has, below a node with g levels above it, and how many entries they have room for
+-- the number of places in the last level, below a node with g levels above it, and the number of entries they have room
+-- for
 abbrev pub width : ℕ → ℕ → ℕ
 width most zero = 1
 width most (suc g) = suc most * width most g
@@ -26,7 +27,7 @@ mutual
     fills_leaf : {h last : ℕ} {t : Tree A} {es : List A} → h ≡ 1 → last ≡ 0 → t ≡ leaf es → length es ≡ most → Fills most h last t
     fills_inner : {h g last : ℕ} {t : Tree A} {bs : Branches A} → h ≡ suc g → 0 < last + g → t ≡ inner bs → FillsAll most g most last bs → Fills most h last t
 
-  -- so many entries are left of a node, and its children from here on have `last` entries in the last level
+  -- n entries are left of a node, and its children from here on have `last` entries in the last level
   pub data FillsAll {A : Type 0} (most : ℕ) : ℕ → ℕ → ℕ → Branches A → Type 0 where
     fills_greater : {g k last : ℕ} {bs : Branches A} {t : Tree A} → k ≡ 0 → bs ≡ greater t → Fills most g last t → FillsAll most g k last bs
     fills_lesser :
@@ -44,7 +45,7 @@ abbrev pub Row : {A : Type 0} → ℕ → ℕ → List (Tree A) → Type 0
 Row most n [] = n ≡ 0
 Row most n (t ∷ ts) = Takes most n t × Row most (n - most) ts
 
--- a place takes as much where more is left behind it and it is full
+-- a place takes the same number where more is left after it and it is full
 takes_more : {A : Type 0} (most n m : ℕ) (t : Tree A) → 0 < most → most ≤ n → Takes most n t → Takes most (n + m) t
 takes_more most n m t p h (takes_none a b) = absurd (omega arith)
 takes_more most n m t p h (takes a b c) = takes (omega arith) b (omega arith)
@@ -206,9 +207,9 @@ mutual
       (subst (λ u. RowsAll most g (suc j) last u) (sym b)
       (rows_of_lesser most g j last share t e cs pos fits is (λ h. is_node_of most g share t h c) r rs))
 
--- ---- how many items what is filled has
+-- ---- the number of items in what is filled
 
--- the count of a lesser child's items and of those behind them
+-- the count of a lesser child's items and of those after them
 count_of_lesser : (w j last share x y : ℕ) → share ≤ last → x + 1 ≡ w + share → y + 1 ≡ suc j * w + (last - share) → x + suc y + 1 ≡ suc (suc j) * w + last
 count_of_lesser w j last share x y le a b = omega arith
 

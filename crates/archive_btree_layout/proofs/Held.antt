@@ -1,5 +1,5 @@
 -- A tree that the layout holds is read by levels, node by node, and it is read alike in bytes that agree with these
--- but for its values.
+-- except for its values.
 use Rattle.std.proofs.Common.{◌≡◌, ◌∙◌, ℕ, zero, suc, ◌+◌, ◌*◌, ◌<◌, ◌≤◌, Bool, true, false, ◌==◌, nat_le, List, [], ◌∷◌, ◌++◌, length, drop, Option, Some, None, refl, ap, sym, subst, arith, leb-true, eqb-true, eq-eqb}
 use Rattle.std.proofs.Math.Nat.{mul-le-mul_right}
 use Rattle.std.specs.Prelude.{slice_index, AllPairs}
@@ -23,15 +23,18 @@ use Rattle.archive_btree_layout.specs.Tree.Tree.{absent, leaf, inner}
 use Rattle.archive_btree_layout.specs.Tree.Branches.{greater, lesser}
 use Rattle.archive_btree_layout.specs.Reading.{Place, places, HasNode, HasBranches, HasChild}
 use Rattle.archive_btree_layout.specs.Items.{AreAt, ArePairs}
-use Rattle.archive_btree_layout.specs.Changing.{IsOutside, IsInNoValue, AreApart, IsKept}
+use Rattle.archive_btree_layout.specs.Changing.{IsInNoValue, AreApart, IsKept}
 use Rattle.archive_btree_layout.specs.Reading.HasNode.{has_leaf, has_inner}
 use Rattle.archive_btree_layout.specs.Reading.HasBranches.{has_greater, has_lesser}
 use Rattle.archive_btree_layout.specs.Reading.HasChild.{no_child, a_child}
-use Rattle.archive_btree_layout.proofs.Contents.{IsPlain, IsClaimed, node_is_claimed, child_is_plain, pick, allowed, both, word_within, word_of, kind_of}
-use Rattle.archive_btree_layout.proofs.Changed.{AreIn, Agrees, AreSame, none_in, none_apart, places_in, places_apart, widened, between_in, between_apart, word_same}
+use Rattle.archive_btree_layout.proofs.Contents.{IsPlain, IsClaimed, node_is_claimed, child_is_plain, pick, allowed, both, kind_of}
+use Rattle.archive_btree_layout.proofs.Changed.{AreIn, Agrees, none_in, none_apart, places_in, places_apart, widened, between_in, between_apart}
 use Rattle.archive_btree_layout.proofs.Nodes.{Leads, SameNodes}
 use Rattle.archive_btree_layout.proofs.Nodes.SameNodes.{same_leaf, same_inner}
 use Rattle.archive_btree_layout.proofs.Paired.{append_at, whole_is, EntriesHeld, entries_held}
+use Rattle.archive_shape_layout.proofs.Windows.{word_within, word_of}
+use Rattle.archive_shape_layout.specs.Bytes.{IsOutside}
+use Rattle.archive_shape_layout.proofs.SameBytes.{AreSame, word_same}
 
 module _ (names : Names) (bytes : List ℕ) (most : ℕ) (k v : Shape) where
   -- what other bytes have of pairs
@@ -43,7 +46,7 @@ module _ (names : Names) (bytes : List ℕ) (most : ℕ) (k v : Shape) where
   AreLed others level link = (child : ℕ) → Leads bytes link child → SameNodes bytes others most k v level child
 
   -- Between two positions a node is read, and its items are the pairs of its value; it is the same in bytes that agree
-  -- there but for the items' values. Where what was visited before it stands in these, so does what was visited after it.
+  -- there except for the items' values. Where the values visited before it lie in these, so do those visited after it.
   pub record ReadNode (before after : List Visit) (low high level pos : ℕ) (value : Value) : Type 0 where
     pub tree : Tree Place
     pub node : HasNode bytes most k v level pos tree
@@ -165,7 +168,7 @@ module _ (names : Names) (bytes : List ℕ) (most : ℕ) (k v : Shape) where
   -- ---- the pointers of a node
 
   -- children from a pointer on, read between two positions: what is read of them, woven with the entries, and the parts
-  -- behind them
+  -- after them
   record ReadBranches (first last : List Visit) (bottom high : ℕ) (depth : ℕ) (inside : List OpenShared) (n level link key place : ℕ) (es : List Part) (vs : Values) : Type 0 where
     branches : Branches Place
     stand : HasBranches bytes most k v n level link key place branches
@@ -298,7 +301,7 @@ module _ (names : Names) (bytes : List ℕ) (most : ℕ) (k v : Shape) where
   unfolding node_content
   no_kind level pos kind own s l ps e = cc
 
-  -- a key begins past the kind byte
+  -- a key begins after the kind byte
   past_kind : 1 ≤ keys_offset k
   unfolding keys_offset
   past_kind = le_align_up 1 (align_of k)

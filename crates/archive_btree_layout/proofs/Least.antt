@@ -1,5 +1,5 @@
--- Of packed trees: their items determine them, their height follows from the number of their items, and no tree of as
--- many items has fewer nodes or less height.
+-- Of packed trees: their items determine them, their height follows from the number of their items, and no tree with
+-- the same number of items has fewer nodes or less height.
 use Rattle.std.proofs.Common.{◌≡◌, ◌∙◌, ℕ, zero, suc, ◌+◌, ◌-◌, ◌*◌, ◌^◌, ◌<◌, ◌≤◌, min, max, List, [], ◌∷◌, ◌++◌, length, map, replicate, All, ◌⊎◌, inl, inr, refl, ap, sym, subst, arith, length-append}
 use Rattle.std.proofs.lemmas.Bool.{cases_lt}
 use Rattle.std.proofs.Math.Nat.{mul-le-mul_left, mul-le-mul_right, pow-succ', pow-zero}
@@ -14,7 +14,7 @@ use Rattle.archive_btree_layout.proofs.Filling.FillsAll.{fills_greater, fills_le
 use Rattle.archive_btree_layout.proofs.Filling.Takes.{takes_none, takes}
 use Rattle.archive_btree_layout.proofs.Packing.{fills_of, size_of_level}
 
--- ---- how many entries the last level has
+-- ---- the number of entries in the last level
 
 no_row : (A : Type 0) (most n k : ℕ) → n ≡ 0 → Row {A = A} most n (replicate k absent)
 no_row A most n zero z = z
@@ -176,7 +176,7 @@ one_packed {A} most t u pos p q e =
     let lasts : h.last ≡ f.last = omega arith in
     one_filled {A = A} most p.above f.last t u f.fills (subst (λ i. Fills most p.above i u) lasts at) e
 
--- ---- no tree of as many items is less
+-- ---- no tree with the same number of items is less
 
 mutual
   pub items_bounded : {A : Type 0} (most : ℕ) (t : Tree A) → IsBounded most t → length (items t) ≤ most * count_nodes t

@@ -22,12 +22,14 @@ use Rattle.archive_btree_layout.specs.Changing.{AreApart, DiffersInValues, HasTr
 use Rattle.archive_btree_layout.specs.Laws.{TreeIsRead, TreeStays, NodesStay, PairsStay, ValuesApart}
 use Rattle.archive_btree_layout.specs.Items.IsTreeRead.{reads_none, reads_tree}
 use Rattle.archive_btree_layout.specs.Reading.{Place, HasNode}
-use Rattle.archive_btree_layout.proofs.Contents.{IsPlain, chosen_plain, word_within}
-use Rattle.archive_btree_layout.proofs.Changed.{Agrees, word_same, window_same}
+use Rattle.archive_btree_layout.proofs.Contents.{IsPlain, chosen_plain}
+use Rattle.archive_btree_layout.proofs.Changed.{Agrees}
 use Rattle.archive_btree_layout.proofs.Nodes.{SameNodes, nodes_same}
 use Rattle.archive_btree_layout.proofs.Unique.{one_node}
 use Rattle.archive_btree_layout.proofs.Paired.{whole_is}
 use Rattle.archive_btree_layout.proofs.Held.{no_parts, root_read, ReadNode}
+use Rattle.archive_shape_layout.proofs.Windows.{word_within}
+use Rattle.archive_shape_layout.proofs.SameBytes.{word_same, window_same}
 
 pub pairs_count : (names : Names) (bytes : List ℕ) (k v : Shape) (ps : List Place) (ws : Values) → ArePairs names bytes k v ps ws → length ps ≡ count_values ws
 pairs_count names bytes k v [] no_values h = refl

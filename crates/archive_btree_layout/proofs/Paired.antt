@@ -16,7 +16,8 @@ use Rattle.archive_shape_layout.proofs.Visited.{take_agrees, stand_raised, stand
 use Rattle.archive_btree_layout.specs.Reading.{Place, places}
 use Rattle.archive_btree_layout.specs.Items.{IsPair, AreAt, ArePairs}
 use Rattle.archive_btree_layout.specs.Changing.{IsKept}
-use Rattle.archive_btree_layout.proofs.Changed.{AreSame, held_same, visits_kept, take_same, window_same}
+use Rattle.archive_btree_layout.proofs.Changed.{held_same}
+use Rattle.archive_shape_layout.proofs.SameBytes.{AreSame, visits_kept, take_same, window_same}
 
 -- ---- values at places
 
@@ -29,8 +30,8 @@ append_at IsAt (p ∷ ps) qs (more_values u us) ws a b = (a.0, append_at IsAt ps
 -- ---- pairs
 
 module _ (names : Names) (bytes : List ℕ) (k v : Shape) where
-  -- What is known of a pair: it is kept in bytes that agree on what is claimed and on the key's own. Where what was visited
-  -- before it stands in these, so does what was visited after it.
+  -- What is known of a pair: it is kept in bytes that agree on what is claimed and on the key's own. Where the values
+  -- visited before it lie in these, so do those visited after it.
   pub record EntryHeld (before after : List Visit) (low high key place : ℕ) (value : Value) : Type 0 where
     pub pair : IsPair names bytes k v (record { key = key; value = place }) value
     pub kept :
@@ -113,7 +114,7 @@ module _ (names : Names) (bytes : List ℕ) (k v : Shape) where
   entry_held key place low high below apart room (holds_later e b c d f g) a = absurd cc
   entry_held key place low high below apart room (holds_back e b c d f) a = absurd cc
 
-  -- entries behind what they claim
+  -- entries after what they claim
   pub entries_held : (n : ℕ) {depth : ℕ} {inside : List OpenShared} (key place : ℕ) {vs : Values} {rs : List Region} {before after : List Visit} (low high : ℕ)
       → low ≤ high → high ≤ key → key + n * size_of k ≤ place → place + n * size_of v ≤ length bytes
       → HoldAll names bytes depth inside (entries n k key v place) vs rs before after → ClaimedAfter names bytes before low high rs

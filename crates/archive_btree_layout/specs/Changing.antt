@@ -1,6 +1,6 @@
--- What stays of a search tree where its values are written over.
+-- What remains of a search tree where its values are written over.
 use Rattle.std.specs.Prelude.{◌≡◌, ℕ, suc, ◌+◌, ◌*◌, ◌<◌, ◌≤◌, List, length, take, slice_index, Some, All}
-use Rattle.archive_shape_layout.specs.Bytes.{word_at, target_from}
+use Rattle.archive_shape_layout.specs.Bytes.{word_at, target_from, IsOutside}
 use Rattle.archive_shape_layout.specs.Shape.{Shape, size_of}
 use Rattle.archive_shape_layout.specs.Value.{Value}
 use Rattle.archive_shape_layout.specs.Value.Value.{group}
@@ -11,11 +11,7 @@ use Rattle.archive_btree_layout.specs.Tree.{Tree}
 use Rattle.archive_btree_layout.specs.Items.{IsHeld, IsPair}
 use Rattle.archive_shape_layout.specs.Laws.{AgreesOn}
 
--- an index that is not before a range is behind it
-abbrev pub IsOutside : ℕ → ℕ → ℕ → Type 0
-IsOutside from to i = from ≤ i → to ≤ i
-
--- it lies in the value of no entry
+-- the index lies in the value of no entry
 abbrev pub IsInNoValue : Shape → List Place → ℕ → Type 0
 IsInNoValue v es i = All (λ e. IsOutside e.value (e.value + size_of v) i) es
 
@@ -23,7 +19,7 @@ IsInNoValue v es i = All (λ e. IsOutside e.value (e.value + size_of v) i) es
 abbrev pub AreApart : Shape → Place → Place → Type 0
 AreApart v a b = (i : ℕ) → a.value ≤ i → i < a.value + size_of v → IsOutside b.value (b.value + size_of v) i
 
--- other bytes are as many, and differ from bytes at most in the entries' values
+-- other bytes have the same length, and differ from bytes at most in the entries' values
 pub record DiffersInValues (v : Shape) (es : List Place) (bytes others : List ℕ) : Type 0 where
   pub same_length : length others ≡ length bytes
   pub elsewhere : (i : ℕ) → IsInNoValue v es i → slice_index others i ≡ slice_index bytes i
@@ -34,7 +30,7 @@ pub record HasTree (bytes others : List ℕ) (most : ℕ) (k v : Shape) (pos roo
   pub len : word_at others (pos + 4) ≡ word_at bytes (pos + 4)
   pub node : HasNode others most k v 1 root t
 
--- a node of the tree at a level and a position: the one that stands there, or one of those below a child
+-- a node of the tree at a level and a position: the one that lies there, or one of those below a child
 pub data IsNodeOf (bytes : List ℕ) (most : ℕ) (k v : Shape) (node_level node_pos : ℕ) (t : Tree Place) : ℕ → ℕ → Type 0 where
   is_top : {level pos : ℕ} → level ≡ node_level → pos ≡ node_pos → HasNode bytes most k v node_level node_pos t → IsNodeOf bytes most k v node_level node_pos t level pos
   is_below :
@@ -46,7 +42,7 @@ pub data IsNodeOf (bytes : List ℕ) (most : ℕ) (k v : Shape) (node_level node
       → IsNodeOf bytes most k v node_level node_pos t (suc level) child
       → IsNodeOf bytes most k v node_level node_pos t level pos
 
--- a pair's key stands at a place, and it is read from what lies before the pair's value
+-- a pair's key lies at a place, and it is read from the bytes before the pair's value
 pub record IsKey (names : Names) (bytes : List ℕ) (k : Shape) (p : Place) (pair : Value) : Type 0 where
   pub key : Value
   pub value : Value

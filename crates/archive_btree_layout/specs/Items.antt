@@ -13,7 +13,7 @@ use Rattle.archive_btree_layout.specs.Reading.{Place, HasNode}
 use Rattle.archive_btree_layout.specs.Tree.{Tree, items}
 
 -- in a buffer the layout holds a value at a position: its own bytes lie in the buffer, and the regions that it claims
--- ascend before them, after visits of what stands
+-- ascend before them, after visits of values that lie where they were visited
 pub record IsHeld (names : Names) (bytes : List ℕ) (s : Shape) (pos : ℕ) (value : Value) : Type 0 where
   pub depth : ℕ
   pub inside : List OpenShared
@@ -25,7 +25,7 @@ pub record IsHeld (names : Names) (bytes : List ℕ) (s : Shape) (pos : ℕ) (va
   pub claimed : ClaimedAfter names bytes before low pos regions
   pub holds : Holds names bytes depth inside (at pos s) value regions before after
 
--- a pair of a key and a value stands at a place
+-- a pair of a key and a value lies at a place
 pub record IsPair (names : Names) (bytes : List ℕ) (k v : Shape) (p : Place) (pair : Value) : Type 0 where
   pub key : Value
   pub value : Value
@@ -33,19 +33,19 @@ pub record IsPair (names : Names) (bytes : List ℕ) (k v : Shape) (p : Place) (
   pub value_held : IsHeld names bytes v p.value value
   pub is : pair ≡ group (more_values key (more_values value no_values))
 
--- values stand at places, one at each
+-- values lie at places, one at each
 abbrev pub AreAt : (Place → Value → Type 0) → List Place → Values → Type 0
 AreAt IsAt [] no_values = ⊤
 AreAt IsAt (p ∷ ps) (more_values w ws) = IsAt p w × AreAt IsAt ps ws
 AreAt IsAt [] (more_values w ws) = ⊥
 AreAt IsAt (p ∷ ps) no_values = ⊥
 
--- pairs stand at places, one at each
+-- pairs lie at places, one at each
 abbrev pub ArePairs : Names → List ℕ → Shape → Shape → List Place → Values → Type 0
 ArePairs names bytes k v ps ws = AreAt (IsPair names bytes k v) ps ws
 
--- what a map's own bytes lead to: nothing where its length is 0, else a tree of so many items, which are the pairs of
--- its value
+-- what a map's own bytes lead to: nothing where its length is 0, else a tree with as many items as the length says,
+-- which are the pairs of its value
 pub data IsTreeRead (names : Names) (bytes : List ℕ) (most : ℕ) (k v : Shape) (pos : ℕ) (value : Value) : Type 0 where
   reads_none : word_at bytes (pos + 4) ≡ 0 → value ≡ group no_values → IsTreeRead names bytes most k v pos value
   reads_tree :

@@ -45,7 +45,7 @@ PackedHeight A =
     (most : ℕ) (t : Tree A) → 0 < most → (p : IsPacked most t)
     → (suc most ^ p.above ≤ length (items t)) × (length (items t) < suc most ^ suc p.above)
 
--- no tree of as many items has fewer nodes or less height
+-- no tree with the same number of items has fewer nodes or less height
 abbrev pub PackedIsLeast : Type 0 → Type 0
 PackedIsLeast A =
     (most : ℕ) (t u : Tree A) → 0 < most → IsPacked most t → IsBounded most u → length (items t) ≡ length (items u)
@@ -53,7 +53,7 @@ PackedIsLeast A =
 
 -- ---- what a search costs
 
--- from a root it meets at most 32 times as many entries as a node has
+-- from a root a search compares at most 32 times the number of entries that a node has
 abbrev pub DescentMeets : Type 0
 DescentMeets =
     (order : Place → Ordering) (bytes : List ℕ) (most : ℕ) (k v : Shape) (pos : ℕ) (t : Tree Place)
@@ -87,7 +87,7 @@ TreeStays =
     → DiffersInValues v (items t) bytes others
     → HasTree bytes others most k v pos root t
 
--- the tree has the same nodes in both
+-- the tree has the same nodes in both lists of bytes
 abbrev pub NodesStay : Type 0
 NodesStay =
     (names : Names) (bytes others : List ℕ) (most : ℕ) (k v : Shape) (depth : ℕ) (inside : List OpenShared) (pos : ℕ) (value : Value)
@@ -101,7 +101,7 @@ NodesStay =
     → DiffersInValues v (items t) bytes others
     → (level node_pos : ℕ) (u : Tree Place) → IsNodeOf bytes most k v level node_pos u 1 root ↔ IsNodeOf others most k v level node_pos u 1 root
 
--- and of the map's pairs they have the keys, and each pair whose own value is not written over
+-- other bytes have the keys of the map's pairs, and each pair whose own value is not written over
 abbrev pub PairsStay : Type 0
 PairsStay =
     (names : Names) (bytes others : List ℕ) (most : ℕ) (k v : Shape) (depth : ℕ) (inside : List OpenShared) (pos : ℕ) (value : Value)
@@ -115,7 +115,7 @@ PairsStay =
     → DiffersInValues v (items t) bytes others
     → AreAt (IsKept names bytes others k v) (items t) (members value)
 
--- the own bytes of its items' values lie apart from one another, so that what is written over one leaves the others
+-- the own bytes of its items' values lie apart from one another, so that a write over one leaves the others
 abbrev pub ValuesApart : Type 0
 ValuesApart =
     (names : Names) (bytes : List ℕ) (most : ℕ) (k v : Shape) (depth : ℕ) (inside : List OpenShared) (pos : ℕ) (value : Value)

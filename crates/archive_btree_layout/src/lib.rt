@@ -1,4 +1,4 @@
-//! Search trees as they stand in archives: their items, the search for an entry, and when they are packed.
+//! Search trees in archives: their items, the search for an entry, and when a tree is packed.
 #![tactic(auto)]
 
 mod laws;

@@ -1,8 +1,8 @@
 -- Offsets and sizes that stop at the greatest usize are exact where the last of them lies below it.
 use Rattle.std.proofs.Common.{ℕ, zero, suc, ◌+◌, ◌-◌, ◌*◌, ◌^◌, ◌<◌, ◌≤◌, List, length, arith}
-use Rattle.archive_shape_layout.specs.Shape.{Shape, size_of}
-use Rattle.archive_shape_layout.specs.Content.{links_offset}
-use Rattle.archive_shape_layout.proofs.Framed.{keys_fit, values_fit, links_fit}
+use Rattle.archive_btree_layout.specs.ShapeLayout.Shape.{Shape, size_of}
+use Rattle.archive_btree_layout.specs.ShapeLayout.Content.{links_offset}
+use Rattle.archive_btree_layout.proofs.ShapeLayout.Framed.{keys_fit, values_fit, links_fit}
 use Rattle.archive_btree_layout.specs.Tree.{Tree}
 use Rattle.archive_btree_layout.specs.Reading.{Place, HasNode}
 use Rattle.archive_btree_layout.specs.Reading.HasNode.{has_leaf, has_inner}

@@ -1,2 +1,23 @@
-pub mod Offsets
+pub mod Counting
+pub mod Descending
+pub mod Entered
+pub mod Joined
 pub mod Layouts
+pub mod NodeChecks
+pub mod NodeContents
+pub mod NodeTree
+pub mod Nodes
+pub mod Offsets
+pub mod Passing
+pub mod Pointers
+pub mod Ranged
+pub mod Reached
+pub mod Rooms
+pub mod Stays
+pub mod Stepped
+pub mod Sublists
+pub mod Trees
+pub mod Visited
+pub mod Walked
+pub mod Woven
+pub use Rattle.archive_btree_layout.proofs as BtreeLayout

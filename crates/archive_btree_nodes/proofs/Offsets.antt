@@ -1,9 +1,9 @@
 -- Offsets in a node, by sizes and offsets that stop at `usize::MAX`.
 use Rattle.std.proofs.Common.{◌≡◌, ℕ, ◌+◌, ◌-◌, ◌^◌, min, ap, ◌∙◌, arith}
-use Rattle.archive_shape_layout.specs.Bytes.{align_up}
-use Rattle.archive_forms_layout.proofs.Sizes.{filled_cut}
+use Rattle.archive_btree_layout.specs.ShapeLayout.Bytes.{align_up}
+use Rattle.archive_forms_values.proofs.FormsLaws.Sizes.{filled_cut}
 
--- a field behind an area behind an offset
+-- a field after an area after an offset
 pub field_behind :
     (start cut y area end align other r : ℕ)
     → cut ≡ min start (2 ^ 64 - 1)
@@ -17,7 +17,7 @@ field_behind start cut y area end align other r is covers ends aligned filled =
     ∙ filled_cut (start + y) end align (omega arith)
     ∙ ap (λ a. min (align_up (start + y) a) (2 ^ 64 - 1)) aligned
 
--- a field behind an offset
+-- a field after an offset
 pub field_at :
     (start cut align other r : ℕ)
     → cut ≡ min start (2 ^ 64 - 1)

@@ -1,12 +1,9 @@
--- Where the parts of a search tree's node stand.
-use Rattle.std.specs.Prelude.{◌≡◌, ℕ, ◌+◌, ◌-◌, ◌^◌, max, min}
-use Rattle.archive_shape_layout.specs.Shape.{Shape, size_of, align_of}
-use Rattle.archive_shape_layout.specs.Content.{keys_offset, values_offset, node_size, links_offset, link_node_size, link_node_align}
+-- Where the parts of a search tree's node lie.
+use Rattle.std.specs.Prelude.{◌≡◌, ℕ, ◌+◌, max}
+use Rattle.archive_btree_layout.specs.ShapeLayout.Shape.{Shape, size_of, align_of}
+use Rattle.archive_btree_layout.specs.ShapeLayout.Content.{keys_offset, values_offset, node_size, links_offset, link_node_size, link_node_align}
+use Rattle.archive_forms_values.specs.Claims.{as_usize}
 use Rattle.archive_btree_nodes.specs.declared.layout.NodeLayout.{NodeLayout}
-
--- a number as a usize, which stops at the greatest
-abbrev pub as_usize : ℕ → ℕ
-as_usize n = min n (2 ^ 64 - 1)
 
 -- the offsets and sizes of nodes with at most `most` entries of these shapes, as numbers that the program has
 pub record IsNodeLayout (most : ℕ) (k v : Shape) (layout : NodeLayout) : Type 0 where

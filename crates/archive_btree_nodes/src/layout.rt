@@ -1,41 +1,42 @@
-//! Where the parts of a search tree's node stand.
+//! Where the parts of a search tree's node lie.
 ghost use Rattle.std.specs.Prelude.{◌≡◌, ℕ, ◌-◌, ◌^◌, ◌<◌, List, length};
-ghost use Rattle.archive_shape_layout.specs.Content.{links_offset};
+ghost use Rattle.archive_btree_layout.specs.ShapeLayout.Content.{links_offset};
 ghost use Rattle.archive_btree_layout.specs.Tree.{Tree};
 ghost use Rattle.archive_btree_layout.specs.Reading.{Place, HasNode};
 ghost use Rattle.archive_btree_nodes.specs.Layout.{IsNodeLayout, IsLayout};
 
-use archive_forms_checking::{greater, next_multiple};
-use archive_shape_portable::Portable;
+use archive_forms_values::{greater, next_multiple};
+use archive_shape::Portable;
 
-/// Where the parts of a node stand, in bytes from its first, how many bytes they have, and what their positions are a
-/// multiple of. Offsets and sizes stop at `usize::MAX`, which no node in a buffer has.
+/// The layout of a node: the offsets of its parts, in bytes from its first byte, their sizes in bytes, and their
+/// alignments. Offsets and sizes stop at `usize::MAX`, which no node in a buffer has.
 #[derive(Clone, Copy, Debug, PartialEq, Eq)]
 pub struct NodeLayout {
-    /// How many entries a node has at most.
+    /// The greatest number of entries of a node.
     pub entries: usize,
-    /// The first key.
+    /// The offset of the first key.
     pub keys: usize,
     /// The size of a key.
     pub key_size: usize,
-    /// The first value.
+    /// The offset of the first value.
     pub values: usize,
     /// The size of a value.
     pub value_size: usize,
-    /// The size and the alignment of what leaves and inner nodes begin with.
+    /// The size and the alignment of the part that leaves and inner nodes begin with: the kind, the keys and the
+    /// values.
     pub size: usize,
     pub align: usize,
-    /// The length of a leaf, or the first pointer of an inner node.
+    /// The offset of the length of a leaf, or of the first pointer of an inner node.
     pub links: usize,
     /// The size of a leaf, and of an inner node.
     pub leaf: usize,
     pub inner: usize,
-    /// The alignment of both.
+    /// The alignment of leaves and inner nodes.
     pub link_align: usize,
 }
 
 impl NodeLayout {
-    /// The layout of nodes with at most `E` entries.
+    /// Returns the layout of nodes with at most `E` entries.
     pub const fn of<K: Portable, V: Portable, const E: usize>() -> Self
         ensures parts { IsNodeLayout E K.shape V.shape result }
         ensures exact { 0 < E → links_offset E K.shape V.shape < 2 ^ 64 - 1 → IsLayout E K.shape V.shape result }

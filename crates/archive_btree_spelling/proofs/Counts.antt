@@ -1,11 +1,11 @@
--- How many items stand below each pointer of a node, by the levels above its last one and by how many items that has.
+-- How many items lie below each pointer of a node, by the levels above its last one and by how many items that has.
 use Rattle.std.proofs.Common.{◌≡◌, ◌∙◌, ℕ, zero, suc, ◌+◌, ◌-◌, ◌*◌, ◌^◌, ◌<◌, ◌≤◌, min, refl, ap, subst, arith, inl, inr}
 use Rattle.std.proofs.lemmas.Bool.{cases_lt}
 use Rattle.std.proofs.Math.Nat.{pow-succ', pow-zero, one-le-pow, pow-le-pow_right, mul-le-mul_right}
-use Rattle.archive_shape_canonical.specs.Packed.{full, levels_for, child_items}
+use Rattle.archive_forms_laws.specs.ShapeCanonical.Packed.{full, levels_for, child_items}
 use Rattle.archive_btree_spelling.proofs.Levels.{levels_hold, levels_are_least}
 
--- a level more has room for most times as many items and as many more as nodes
+-- one level more multiplies a level's width by `most + 1`
 pub power_more : (most g : ℕ) → (most + 1) ^ suc g ≡ (most + 1) ^ g + most * (most + 1) ^ g
 power_more most g = let e = pow-succ' (most + 1) g in omega (arith, e)
 

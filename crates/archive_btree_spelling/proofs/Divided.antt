@@ -3,7 +3,7 @@ use Rattle.std.proofs.Common.{◌≡◌, ◌∙◌, ℕ, zero, suc, ◌+◌, ◌
 use Rattle.std.specs.Prelude.{⊤}
 use Rattle.std.proofs.lemmas.Bool.{cases_lt}
 use Rattle.std.proofs.Math.Nat.{pow-succ', pow-zero, one-le-pow, mul-le-mul_left}
-use Rattle.archive_shape_canonical.specs.Packed.{full, levels_for, child_items}
+use Rattle.archive_forms_laws.specs.ShapeCanonical.Packed.{full, levels_for, child_items}
 use Rattle.archive_btree_layout.specs.Tree.{Tree, Branches, items, items_of, entries_of}
 use Rattle.archive_btree_layout.specs.Tree.Tree.{absent, leaf, inner}
 use Rattle.archive_btree_layout.specs.Tree.Branches.{greater, lesser}
@@ -15,8 +15,8 @@ use Rattle.archive_btree_spelling.proofs.Levels.{levels_hold, levels_are_least}
 use Rattle.archive_btree_spelling.proofs.Counts.{child_by_counts, power_more, at_least_one}
 
 abbrev mutual
-  -- a leaf has an entry and at most `most`; an inner node has more items than that, `most` entries of its own, and below
-  -- each pointer as many items as there
+  -- a leaf has an entry and at most `most`; an inner node has more items than that, `most` own entries, and below each
+  -- pointer as many items as a packed node has there
   pub IsDivided : {A : Type 0} → ℕ → Tree A → Type 0
   IsDivided most absent = ⊤
   IsDivided most (leaf es) = (0 < length es) × (length es ≤ most)

@@ -2,23 +2,23 @@
 use Rattle.std.proofs.Common.{◌≡◌, ◌∙◌, ℕ, zero, suc, ◌+◌, ◌*◌, ◌^◌, ◌<◌, ◌≤◌, nat_le, cond, Bool, true, false, Option, List, [], ◌∷◌, ◌++◌, length, refl, ap, ap₂, subst, arith, length-append, leb-true}
 use Rattle.std.proofs.lemmas.Bool.Decides.{nat_tests}
 use Rattle.std.proofs.Math.Nat.{pow-zero}
-use Rattle.archive_shape_layout.specs.Shape.{Shape}
-use Rattle.archive_shape_layout.specs.Value.Value.{group}
-use Rattle.archive_shape_layout.specs.Value.Values.{no_values, more_values}
-use Rattle.archive_shape_layout.specs.Content.{Names, weave, words_of}
-use Rattle.archive_shape_layout.specs.Content.Part.{node}
-use Rattle.archive_shape_layout.specs.Holds.{OpenShared}
+use Rattle.archive_btree_layout.specs.ShapeLayout.Shape.{Shape}
+use Rattle.archive_btree_layout.specs.ShapeLayout.Value.Value.{group}
+use Rattle.archive_btree_layout.specs.ShapeLayout.Value.Values.{no_values, more_values}
+use Rattle.archive_btree_layout.specs.ShapeLayout.Content.{Names, weave, words_of}
+use Rattle.archive_btree_layout.specs.ShapeLayout.Content.Part.{node}
+use Rattle.archive_btree_layout.specs.ShapeLayout.Holds.{OpenShared}
 use Rattle.archive_shape_layout.proofs.Framed.{links_fit}
-use Rattle.archive_shape_canonical.specs.Settled.{Fit}
-use Rattle.archive_shape_canonical.specs.Sharing.{erased}
-use Rattle.archive_shape_canonical.specs.Packed.{levels_for, full}
-use Rattle.archive_shape_references.specs.Bytes.{HasBytes}
-use Rattle.archive_forms_spelling.specs.State.{State, Keys, visits_of, IsConsistent, AllFrom, AreKeyedBy}
-use Rattle.archive_forms_spelling.specs.Spelling.{Spelling}
-use Rattle.archive_forms_spelling.specs.Spells.{CanonicalPart}
-use Rattle.archive_forms_spelling.specs.Regions.{state_after_all, values, plain_values, all_suit}
-use Rattle.archive_forms_spelling.proofs.States.{consistent_advanced}
-use Rattle.archive_forms_spelling.proofs.Gaps.{bytes_none}
+use Rattle.archive_forms_laws.specs.ShapeCanonical.Settled.{Fit}
+use Rattle.archive_forms_laws.specs.ShapeCanonical.Sharing.{erased}
+use Rattle.archive_forms_laws.specs.ShapeCanonical.Packed.{levels_for, full}
+use Rattle.archive_forms_laws.specs.ArchiveShape.Bytes.{HasBytes}
+use Rattle.archive_forms_laws.specs.State.{State, Keys, visits_of, IsConsistent, AllFrom, AreKeyedBy}
+use Rattle.archive_forms_laws.specs.Spelling.{Spelling}
+use Rattle.archive_forms_laws.specs.Spells.{CanonicalPart}
+use Rattle.archive_forms_laws.specs.Regions.{state_after_all, values, plain_values, all_suit}
+use Rattle.archive_forms_laws.proofs.States.{consistent_advanced}
+use Rattle.archive_forms_laws.proofs.Gaps.{bytes_none}
 use Rattle.archive_btree_spelling.specs.Parted.{Parted, parted, shares, between}
 use Rattle.archive_btree_spelling.specs.Written.{entry_spelling, state_after_entries, node_at, node_values, node_piece, node_fits, tree_spelling}
 use Rattle.archive_btree_spelling.specs.Maps.{packed_spelling}
@@ -209,7 +209,7 @@ module _ {A B R Q : Type 0} (fit : Fit) (most : ℕ) (k v : Shape) (knows : Name
           canonical = h.canonical st;
         })
 
-  -- on as many levels as there may be
+  -- on any number of levels that is enough for the items
   pub packed_spells : (l : ℕ) (xs : List (A × B)) → 0 < most → EachEntrySpells fit most k v knows keys vals xs → levels_for most (length xs) ≤ l
       → TreeSpells fit most k v knows keys vals l (packed_spelling most k v keys vals l) xs
   packed_spells zero [] some each within = record {

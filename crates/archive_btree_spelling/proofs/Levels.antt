@@ -1,13 +1,13 @@
--- How many levels items need, and how many items stand below each pointer of their root.
+-- How many levels items need, and how many items lie below each pointer of their root.
 use Rattle.std.proofs.Common.{◌≡◌, ◌∙◌, ℕ, zero, suc, ◌+◌, ◌-◌, ◌*◌, ◌^◌, ◌<◌, ◌≤◌, min, Bool, true, false, cond, nat_le, refl, ap, sym, subst, arith, ◌⊎◌, inl, inr, leb-true}
 use Rattle.std.proofs.lemmas.Bool.Decides.{nat_tests}
 use Rattle.std.proofs.Math.Nat.{pow-succ', pow-zero, one-le-pow, pow-le-pow_left}
-use Rattle.archive_shape_canonical.specs.Packed.{full, levels_from, levels_for, child_items}
+use Rattle.archive_forms_laws.specs.ShapeCanonical.Packed.{full, levels_from, levels_for, child_items}
 
 above : (n m : ℕ) → nat_le n m ≡ false → m < n
 above n m e = grind (arith, nat_tests)
 
--- where so many levels have room, the least number of levels has
+-- where `levels + fuel` levels have room, the least number of levels has
 levels_room : (fuel most n levels : ℕ) → n ≤ full most (levels + fuel) → n ≤ full most (levels_from fuel most n levels)
 levels_room zero most n levels h = subst (λ z. n ≤ full most z) (omega arith) h
 levels_room (suc fuel) most n levels h =
@@ -73,7 +73,8 @@ pub record Measured (most n : ℕ) : Type 0 where
   -- of the levels below, those above the last
   pub upper : ℕ
   pub levels : levels_for most n ≡ suc (suc upper)
-  -- how many items a child has above the last level, for how many that level has room in it, and how many it has in all
+  -- the number of items that a child has above the last level, the number that it has room for in the last level, and
+  -- the number of items in the node's last level in all
   pub base : ℕ
   pub wide : ℕ
   pub last : ℕ

@@ -1,47 +1,48 @@
 -- A map is read as it is written: the law of maps is that of each key and each value.
 use Rattle.std.proofs.Common.{◌≡◌, ◌∙◌, ℕ, ◌+◌, ◌<◌, ◌≤◌, ◌==◌, cond, Bool, true, false, Option, Some, None, List, [], ◌∷◌, ◌++◌, length, refl, ap, sym, subst, arith, inl, inr, add-zero, eq-eqb, eqb-true}
 use Rattle.std.specs.Int.{w32, to_le_bytes}
-use Rattle.archive_shape_layout.specs.Bytes.{window, word_at, target_from}
-use Rattle.archive_shape_layout.specs.Shape.{Shape}
-use Rattle.archive_shape_layout.specs.Shape.Shape.{tree}
-use Rattle.archive_shape_layout.specs.Value.{Value, Values, count_values}
-use Rattle.archive_shape_layout.specs.Value.Value.{group}
-use Rattle.archive_shape_layout.specs.Value.Values.{no_values, more_values}
-use Rattle.archive_shape_layout.specs.Content.{Names, made, members, choose, following, content_of, shape_content}
-use Rattle.archive_shape_layout.specs.Content.Part.{at, node}
-use Rattle.archive_shape_layout.specs.Content.Label.{whole, total}
-use Rattle.archive_shape_layout.specs.Content.Content.{plain}
-use Rattle.archive_shape_layout.specs.Holds.{OpenShared, Ascends}
-use Rattle.archive_shape_layout.specs.Holds.Holds.{holds_plain}
-use Rattle.archive_shape_layout.specs.Holds.HoldAll.{holds_none}
-use Rattle.archive_shape_canonical.specs.Settled.{Fit, HasItems}
-use Rattle.archive_shape_canonical.specs.Seen.{by_keys}
-use Rattle.archive_shape_canonical.specs.Packed.{levels_for}
+use Rattle.archive_btree_layout.specs.ShapeLayout.Bytes.{window, word_at, target_from}
+use Rattle.archive_btree_layout.specs.ShapeLayout.Shape.{Shape}
+use Rattle.archive_btree_layout.specs.ShapeLayout.Shape.Shape.{tree}
+use Rattle.archive_btree_layout.specs.ShapeLayout.Value.{Value, Values, count_values}
+use Rattle.archive_btree_layout.specs.ShapeLayout.Value.Value.{group}
+use Rattle.archive_btree_layout.specs.ShapeLayout.Value.Values.{no_values, more_values}
+use Rattle.archive_btree_layout.specs.ShapeLayout.Content.{Names, made, members, choose, following, content_of, shape_content}
+use Rattle.archive_btree_layout.specs.ShapeLayout.Content.Part.{at, node}
+use Rattle.archive_btree_layout.specs.ShapeLayout.Content.Label.{whole, total}
+use Rattle.archive_btree_layout.specs.ShapeLayout.Content.Content.{plain}
+use Rattle.archive_btree_layout.specs.ShapeLayout.Holds.{OpenShared, Ascends}
+use Rattle.archive_btree_layout.specs.ShapeLayout.Holds.Holds.{holds_plain}
+use Rattle.archive_btree_layout.specs.ShapeLayout.Holds.HoldAll.{holds_none}
+use Rattle.archive_forms_laws.specs.ShapeCanonical.Settled.{Fit, HasItems}
+use Rattle.archive_forms_laws.specs.ShapeCanonical.Seen.{by_keys}
+use Rattle.archive_forms_laws.specs.ShapeCanonical.Packed.{levels_for}
 use Rattle.archive_shape_canonical.proofs.Cleanness.{clean_by}
-use Rattle.archive_shape_references.specs.Bytes.{HasBytes}
-use Rattle.archive_shape_references.proofs.Pieces.{stands_left, stands_right, stands_word, word_within}
-use Rattle.archive_shape_writing.specs.declared.error.Error.{Error}
-use Rattle.archive_forms_spelling.specs.State.{State, Keys, visits_of, IsConsistent, AllFrom, AreKeyedBy}
-use Rattle.archive_forms_spelling.specs.Spelling.{Spelling, state_after}
-use Rattle.archive_forms_spelling.specs.Spells.{CanonicalPart, SpellsAt, Spells}
-use Rattle.archive_forms_spelling.specs.Regions.{all_suit}
-use Rattle.archive_forms_spelling.proofs.Gaps.{bytes_append, bytes_word}
-use Rattle.archive_forms_spelling.proofs.Pointers.{offset_stands, one_part}
-use Rattle.archive_forms_spelling.proofs.Links.{link_small, link_exact}
-use Rattle.archive_forms_spelling.specs.Links.{link_bytes, LinkFits}
+use Rattle.archive_forms_laws.specs.ArchiveShape.Bytes.{HasBytes}
+use Rattle.archive_shape.proofs.Pieces.{stands_left, stands_right, stands_word}
+use Rattle.archive_forms_laws.specs.ShapeWriting.declared.error.Error.{Error}
+use Rattle.archive_forms_laws.specs.State.{State, Keys, visits_of, IsConsistent, AllFrom, AreKeyedBy}
+use Rattle.archive_forms_laws.specs.Spelling.{Spelling, state_after}
+use Rattle.archive_forms_laws.specs.Spells.{CanonicalPart, SpellsAt, Spells}
+use Rattle.archive_forms_laws.specs.Regions.{all_suit}
+use Rattle.archive_forms_laws.proofs.Gaps.{bytes_append, bytes_word}
+use Rattle.archive_forms_laws.proofs.Pointers.{offset_stands, one_part}
+use Rattle.archive_forms_laws.proofs.Links.{link_small, link_exact}
+use Rattle.archive_forms_laws.specs.Links.{link_bytes, LinkFits}
 use Rattle.archive_btree_spelling.specs.Written.{entry_spelling}
 use Rattle.archive_btree_spelling.specs.Maps.{packed_spelling, btree_spelling}
 use Rattle.archive_btree_spelling.proofs.Levels.{levels_of_words}
 use Rattle.archive_btree_spelling.proofs.Slots.{EachEntrySpells}
 use Rattle.archive_btree_spelling.proofs.Trees.{TreeSpells, count_keys_alone}
 use Rattle.archive_btree_spelling.proofs.Forest.{packed_spells}
+use Rattle.archive_shape_layout.proofs.Windows.{word_within}
 
 length-map : (o : Option ℕ) (pos n : ℕ) → length (link_bytes o pos ++ to_le_bytes w32 n) ≡ 8
 length-map None pos n = refl
 length-map (Some to) pos n = refl
 
 module _ (names : Names) (bytes : List ℕ) (most : ℕ) (k v : Shape) (pos : ℕ) where
-  -- a map's own bytes are read as its length and where its root stands
+  -- a map's own bytes are read as its length and the position of its root
   empty_content : word_at (window bytes pos 8) 4 ≡ 0 → content_of names bytes (at pos (tree most k v)) ≡ plain whole []
   unfolding shape_content choose
   empty_content e =
@@ -67,7 +68,7 @@ made_total : (n : ℕ) (v : Value) (items : Values) → v ≡ group items → co
 unfolding made
 made_total n v items is count = ap (λ b. cond b (Some v) None) (eq-eqb (count_values (members v)) n (ap (λ z. count_values (members z)) is ∙ count))
 
--- a map without items is read as it is written, whatever its nodes may hold
+-- a map without items is read as it is written, regardless of what its nodes may hold
 module _ (fit : Fit) (most : ℕ) (k v : Shape) (names : Names) (bytes : List ℕ) (level : ℕ) (inside : List OpenShared) (st : State) (pos : ℕ) where
   nothing_read :
       word_at (window bytes pos 8) 4 ≡ 0 → word_at (window bytes pos 8) 0 ≡ 1
@@ -86,7 +87,7 @@ module _ (fit : Fit) (most : ℕ) (k v : Shape) (names : Names) (bytes : List �
         gaps = λ i h z. absurd (omega (arith, h, z));
       }
 
-  -- the length 0 behind the offset 1
+  -- the length 0 after the offset 1
   nothing_there : (n : ℕ) → n ≡ 0 → HasBytes bytes pos (link_bytes None pos ++ to_le_bytes w32 n) → (word_at (window bytes pos 8) 4 ≡ 0) × (word_at (window bytes pos 8) 0 ≡ 1)
   nothing_there n none b =
       let low : HasBytes bytes pos (to_le_bytes w32 1) = stands_left bytes pos (to_le_bytes w32 1) (to_le_bytes w32 n) b in

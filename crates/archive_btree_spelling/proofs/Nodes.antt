@@ -5,29 +5,29 @@ use Rattle.std.specs.Prelude.{slice_index}
 use Rattle.std.specs.Int.{w32, to_le_bytes}
 use Rattle.std.proofs.lemmas.Bool.Decides.{nat_tests}
 use Rattle.std.proofs.Math.Nat.{mul-le-mul_right}
-use Rattle.archive_shape_layout.specs.Bytes.{window, word_at}
-use Rattle.archive_shape_layout.specs.Shape.{Shape, size_of, align_of}
-use Rattle.archive_shape_layout.specs.Value.{append_values}
-use Rattle.archive_shape_layout.specs.Value.Value.{group}
-use Rattle.archive_shape_layout.specs.Content.{Names, made, weave, choose, content_of, node_content, node_span, words_of, entries, children, keys_offset, values_offset, links_offset, link_node_align, link_node_size}
-use Rattle.archive_shape_layout.specs.Content.Part.{node}
-use Rattle.archive_shape_layout.specs.Content.Label.{whole, woven}
-use Rattle.archive_shape_layout.specs.Content.Content.{claimed, illegal}
-use Rattle.archive_shape_layout.specs.Holds.{OpenShared}
+use Rattle.archive_btree_layout.specs.ShapeLayout.Bytes.{window, word_at}
+use Rattle.archive_btree_layout.specs.ShapeLayout.Shape.{Shape, size_of, align_of}
+use Rattle.archive_btree_layout.specs.ShapeLayout.Value.{append_values}
+use Rattle.archive_btree_layout.specs.ShapeLayout.Value.Value.{group}
+use Rattle.archive_btree_layout.specs.ShapeLayout.Content.{Names, made, weave, choose, content_of, node_content, node_span, words_of, entries, children, keys_offset, values_offset, links_offset, link_node_align, link_node_size}
+use Rattle.archive_btree_layout.specs.ShapeLayout.Content.Part.{node}
+use Rattle.archive_btree_layout.specs.ShapeLayout.Content.Label.{whole, woven}
+use Rattle.archive_btree_layout.specs.ShapeLayout.Content.Content.{claimed, illegal}
+use Rattle.archive_btree_layout.specs.ShapeLayout.Holds.{OpenShared}
 use Rattle.archive_shape_layout.proofs.Framed.{le_align_up, keys_fit, values_fit, links_fit}
-use Rattle.archive_shape_canonical.specs.Settled.{Fit, IsSettled}
-use Rattle.archive_shape_canonical.specs.Packed.{IsPacked}
-use Rattle.archive_shape_canonical.specs.Seen.{all_blank}
-use Rattle.archive_shape_canonical.specs.Clean.{IsIn, InFieldOfNode}
+use Rattle.archive_forms_laws.specs.ShapeCanonical.Settled.{Fit, IsSettled}
+use Rattle.archive_forms_laws.specs.ShapeCanonical.Packed.{IsPacked}
+use Rattle.archive_forms_laws.specs.ShapeCanonical.Seen.{all_blank}
+use Rattle.archive_forms_laws.specs.ShapeCanonical.Clean.{IsIn, InFieldOfNode}
 use Rattle.archive_shape_canonical.proofs.Cleanness.{clean_by}
-use Rattle.archive_shape_references.specs.Bytes.{HasBytes, zeros}
-use Rattle.archive_shape_references.proofs.Pieces.{stands_left, stands_right, stands_byte, stands_word, word_within}
-use Rattle.archive_forms_spelling.specs.State.{State, Keys, visits_of, IsConsistent, AllFrom, AreKeyedBy}
-use Rattle.archive_forms_spelling.specs.Spelling.{Spelling, state_after}
-use Rattle.archive_forms_spelling.specs.Spells.{CanonicalPart}
-use Rattle.archive_forms_spelling.specs.Regions.{state_after_all, values, all_suit, pieces}
-use Rattle.archive_forms_spelling.proofs.States.{from_earlier}
-use Rattle.archive_forms_spelling.proofs.Regions.{CanonicalParts, state_after_all_pos}
+use Rattle.archive_forms_laws.specs.ArchiveShape.Bytes.{HasBytes, zeros}
+use Rattle.archive_shape.proofs.Pieces.{stands_left, stands_right, stands_byte, stands_word}
+use Rattle.archive_forms_laws.specs.State.{State, Keys, visits_of, IsConsistent, AllFrom, AreKeyedBy}
+use Rattle.archive_forms_laws.specs.Spelling.{Spelling, state_after}
+use Rattle.archive_forms_laws.specs.Spells.{CanonicalPart}
+use Rattle.archive_forms_laws.specs.Regions.{state_after_all, values, all_suit, pieces}
+use Rattle.archive_forms_laws.proofs.States.{from_earlier}
+use Rattle.archive_forms_laws.proofs.Regions.{CanonicalParts, state_after_all_pos}
 use Rattle.archive_btree_spelling.specs.Parted.{Parted}
 use Rattle.archive_btree_spelling.specs.Written.{entry_spelling, state_after_children, state_after_entries, linked, own_size, words, own_bytes, node_at, node_piece, node_fits}
 use Rattle.archive_btree_spelling.proofs.Slots.{EachEntrySpells, KeysFit, ValuesFit, key_slots, value_slots, pair_shape, length-key-slots, length-value-slots, entries_canonical}
@@ -35,6 +35,7 @@ use Rattle.archive_btree_spelling.proofs.Shares.{IsWoven, AreShares}
 use Rattle.archive_btree_spelling.proofs.Trees.{EachTreeSpells, AllSuit, AllSmall, length-links-below, children_after_pos, children_consistent, children_keyed, children_canonical}
 use Rattle.archive_btree_spelling.proofs.Weaving.{AreCounted, count_counted, woven_packed, woven_values, count_of_values}
 use Rattle.archive_btree_spelling.proofs.Standing.{Quarters, quarters, length-quarters, entries_own_keys, entries_own_values, children_own, in_parts_left, in_parts_right, claimed_part}
+use Rattle.archive_shape_layout.proofs.Windows.{word_within}
 
 keys_behind_kind : (k : Shape) → 1 ≤ keys_offset k
 unfolding keys_offset
@@ -44,7 +45,7 @@ some_align : (k v : Shape) → 0 < link_node_align k v
 unfolding link_node_align
 some_align k v = omega arith
 
--- the first byte of what stands at a position
+-- the first byte of what lies at a position
 first_byte : (bytes : List ℕ) (pos b : ℕ) → HasBytes bytes pos (b ∷ []) → slice_index (drop pos bytes) 0 ≡ b
 first_byte bytes pos b s = get_or-drop pos bytes 0 0 ∙ ap (slice_index bytes) (add-zero pos) ∙ stands_byte bytes pos b s
 
@@ -80,7 +81,7 @@ module _ (names : Names) (bytes : List ℕ) (t most : ℕ) (k v : Shape) (pos : 
       ∙ inner_chosen (window bytes pos (link_node_size (most + 1) most k v)) low
 
 module _ {A B R Q : Type 0} (fit : Fit) (most : ℕ) (k v : Shape) (knows : Names → Type 0) (keys : Spelling A R) (vals : Spelling B Q) (w : Spelling (List (A × B)) (Option ℕ)) where
-  -- where the pieces of a node stand
+  -- where the pieces of a node lie
   pub record NodeStands (p : Parted (A × B)) (st : State) (bytes : List ℕ) : Type 0 where
     pub children_stand : HasBytes bytes st.pos (pieces w p.below st)
     pub entries_stand : HasBytes bytes (state_after_children most k v keys vals w p st).pos (pieces (entry_spelling most k v keys vals) p.own (state_after_children most k v keys vals w p st))

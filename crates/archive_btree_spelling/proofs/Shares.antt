@@ -2,7 +2,7 @@
 use Rattle.std.proofs.Common.{◌≡◌, ◌∙◌, ℕ, zero, suc, ◌+◌, ◌-◌, ◌*◌, ◌<◌, ◌≤◌, List, [], ◌∷◌, ◌++◌, length, take, drop, refl, ap, sym, subst, arith}
 use Rattle.std.specs.Prelude.{⊤}
 use Rattle.std.proofs.lemmas.List.{take-append-drop, length-take, length-drop}
-use Rattle.archive_shape_canonical.specs.Packed.{levels_for, child_items}
+use Rattle.archive_forms_laws.specs.ShapeCanonical.Packed.{levels_for, child_items}
 use Rattle.archive_btree_spelling.specs.Parted.{shares, between}
 use Rattle.archive_btree_spelling.proofs.Levels.{Measured, measured, levels_are_least}
 
@@ -25,7 +25,7 @@ module _ {C : Type 0} where
   IsWoven xs (c ∷ (d ∷ ds)) [] = ⊥
   IsWoven xs (c ∷ (d ∷ ds)) (e ∷ es) = (rest : List C) × (xs ≡ c ++ e ∷ rest) × IsWoven rest (d ∷ ds) es
 
-  -- an element behind the first m
+  -- an element after the first m
   cut : (m : ℕ) (xs : List C) → m < length xs → (e : C) × (drop m xs ≡ e ∷ drop (suc m) xs)
   cut zero (x ∷ xs) h = (x, refl)
   cut (suc m) (x ∷ xs) h = cut m xs (omega arith)

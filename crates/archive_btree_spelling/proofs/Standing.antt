@@ -1,23 +1,23 @@
--- Where the parts of a node stand, and that what its other bytes are is zero.
+-- Where the parts of a node lie, and that its other bytes are zero.
 use Rattle.std.proofs.Common.{◌≡◌, ℕ, zero, suc, ◌+◌, ◌-◌, ◌*◌, ◌%◌, ◌<◌, ◌≤◌, Some, List, [], ◌∷◌, ◌++◌, length, refl, ap, sym, arith, ◌∙◌, ◌⊎◌, inl, inr, ⊎_elim, length-append}
 use Rattle.std.proofs.lemmas.Bool.{cases_lt}
 use Rattle.std.proofs.lemmas.List.{length-replicate}
 use Rattle.std.specs.Prelude.{slice_index}
-use Rattle.archive_shape_layout.specs.Shape.{Shape, size_of}
-use Rattle.archive_shape_layout.specs.Value.{Value, Values}
-use Rattle.archive_shape_layout.specs.Bytes.{align_up}
-use Rattle.archive_shape_layout.specs.Content.{Names, Part, Span, Label, made, IsLegal, content_of, entries, children}
-use Rattle.archive_shape_layout.specs.Content.Content.{claimed}
-use Rattle.archive_shape_layout.specs.Holds.{Region, region_of, Visit, OpenShared, Ascends}
-use Rattle.archive_shape_layout.specs.Holds.Holds.{holds_claimed}
-use Rattle.archive_shape_canonical.specs.Settled.{Fit, IsSettled}
-use Rattle.archive_shape_canonical.specs.Clean.{IsClean, IsIn, InParts}
-use Rattle.archive_shape_references.specs.Bytes.{HasBytes, zeros}
-use Rattle.archive_shape_references.proofs.Pieces.{stands_left, stands_right, zero_stands}
-use Rattle.archive_forms_spelling.specs.Spells.{CanonicalPart}
-use Rattle.archive_forms_spelling.proofs.Gaps.{gaps_join, ascends_join}
-use Rattle.archive_forms_spelling.proofs.Regions.{CanonicalParts}
-use Rattle.archive_forms_spelling.proofs.Aligning.{align_up_aligned}
+use Rattle.archive_btree_layout.specs.ShapeLayout.Shape.{Shape, size_of}
+use Rattle.archive_btree_layout.specs.ShapeLayout.Value.{Value, Values}
+use Rattle.archive_btree_layout.specs.ShapeLayout.Bytes.{align_up}
+use Rattle.archive_btree_layout.specs.ShapeLayout.Content.{Names, Part, Span, Label, made, IsLegal, content_of, entries, children}
+use Rattle.archive_btree_layout.specs.ShapeLayout.Content.Content.{claimed}
+use Rattle.archive_btree_layout.specs.ShapeLayout.Holds.{Region, region_of, Visit, OpenShared, Ascends}
+use Rattle.archive_btree_layout.specs.ShapeLayout.Holds.Holds.{holds_claimed}
+use Rattle.archive_forms_laws.specs.ShapeCanonical.Settled.{Fit, IsSettled}
+use Rattle.archive_forms_laws.specs.ShapeCanonical.Clean.{IsClean, IsIn, InParts}
+use Rattle.archive_forms_laws.specs.ArchiveShape.Bytes.{HasBytes, zeros}
+use Rattle.archive_shape.proofs.Pieces.{stands_left, stands_right, zero_stands}
+use Rattle.archive_forms_laws.specs.Spells.{CanonicalPart}
+use Rattle.archive_forms_laws.proofs.Gaps.{gaps_join, ascends_join}
+use Rattle.archive_forms_laws.proofs.Regions.{CanonicalParts}
+use Rattle.archive_forms_laws.proofs.Aligning.{align_up_aligned}
 use Rattle.archive_btree_spelling.specs.Written.{filled}
 
 -- ---- bytes that are filled up
@@ -133,7 +133,7 @@ pub in_parts_right : (ps qs : List Part) (i : ℕ) → InParts qs i → InParts 
 in_parts_right [] qs i h = h
 in_parts_right (p ∷ ps) qs i h = inr (in_parts_right ps qs i h)
 
--- ---- a region behind the parts in it
+-- ---- a region after the parts in it
 
 pub claimed_part :
     {fit : Fit} {names : Names} {bytes : List ℕ} {level : ℕ} {inside : List OpenShared} {before after : List Visit}

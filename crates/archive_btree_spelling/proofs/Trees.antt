@@ -3,38 +3,39 @@ use Rattle.std.proofs.Common.{◌≡◌, ℕ, ◌+◌, ◌*◌, ◌^◌, ◌≤�
 use Rattle.std.specs.Prelude.{⊤}
 use Rattle.std.proofs.lemmas.Bool.Decides.{nat_tests}
 use Rattle.std.specs.Int.{w32, cast_unsigned}
-use Rattle.archive_shape_layout.specs.Bytes.{window, word_at, target_from}
-use Rattle.archive_shape_layout.specs.Shape.{Shape}
-use Rattle.archive_shape_layout.specs.Value.{Value, Values, append_values, count_values}
-use Rattle.archive_shape_layout.specs.Value.Value.{group}
-use Rattle.archive_shape_layout.specs.Value.Values.{no_values, more_values}
-use Rattle.archive_shape_layout.specs.Content.{Names, Part, children, made, members, content_of, child_content, choose, following}
-use Rattle.archive_shape_layout.specs.Content.Part.{node, child}
-use Rattle.archive_shape_layout.specs.Content.Label.{whole, same}
-use Rattle.archive_shape_layout.specs.Content.Content.{plain, illegal}
-use Rattle.archive_shape_layout.specs.Holds.{OpenShared, Visit, Ascends}
-use Rattle.archive_shape_layout.specs.Holds.Holds.{holds_plain}
-use Rattle.archive_shape_layout.specs.Holds.HoldAll.{holds_none}
-use Rattle.archive_shape_canonical.specs.Settled.{Fit, HasItems}
-use Rattle.archive_shape_canonical.specs.Seen.{keys_alone, by_keys}
-use Rattle.archive_shape_canonical.specs.Sharing.{erased, all_erased}
-use Rattle.archive_shape_canonical.specs.Canonical.{AreBytes}
+use Rattle.archive_btree_layout.specs.ShapeLayout.Bytes.{window, word_at, target_from}
+use Rattle.archive_btree_layout.specs.ShapeLayout.Shape.{Shape}
+use Rattle.archive_btree_layout.specs.ShapeLayout.Value.{Value, Values, append_values, count_values}
+use Rattle.archive_btree_layout.specs.ShapeLayout.Value.Value.{group}
+use Rattle.archive_btree_layout.specs.ShapeLayout.Value.Values.{no_values, more_values}
+use Rattle.archive_btree_layout.specs.ShapeLayout.Content.{Names, Part, children, made, members, content_of, child_content, choose, following}
+use Rattle.archive_btree_layout.specs.ShapeLayout.Content.Part.{node, child}
+use Rattle.archive_btree_layout.specs.ShapeLayout.Content.Label.{whole, same}
+use Rattle.archive_btree_layout.specs.ShapeLayout.Content.Content.{plain, illegal}
+use Rattle.archive_btree_layout.specs.ShapeLayout.Holds.{OpenShared, Visit, Ascends}
+use Rattle.archive_btree_layout.specs.ShapeLayout.Holds.Holds.{holds_plain}
+use Rattle.archive_btree_layout.specs.ShapeLayout.Holds.HoldAll.{holds_none}
+use Rattle.archive_forms_laws.specs.ShapeCanonical.Settled.{Fit, HasItems}
+use Rattle.archive_forms_laws.specs.ShapeCanonical.Seen.{keys_alone, by_keys}
+use Rattle.archive_forms_laws.specs.ShapeCanonical.Sharing.{erased, all_erased}
+use Rattle.archive_forms_laws.specs.ShapeCanonical.Canonical.{AreBytes}
 use Rattle.archive_shape_canonical.proofs.Cleanness.{clean_by}
-use Rattle.archive_shape_references.specs.Bytes.{HasBytes}
-use Rattle.archive_shape_references.proofs.Pieces.{stands_left, stands_right, stands_word, word_within}
-use Rattle.archive_shape_writing.specs.declared.error.Error.{Error}
-use Rattle.archive_forms_spelling.specs.State.{State, Keys, visits_of, IsConsistent, AllFrom, AreKeyedBy}
-use Rattle.archive_forms_spelling.specs.Spelling.{Spelling, state_after}
-use Rattle.archive_forms_spelling.specs.Spells.{CanonicalPart}
-use Rattle.archive_forms_spelling.specs.Regions.{state_after_all, resolvers, values, plain_values, all_suit, pieces, pieces_fit, pieces_refused}
-use Rattle.archive_forms_spelling.proofs.States.{from_earlier}
-use Rattle.archive_forms_spelling.proofs.Gaps.{bytes_none, bytes_append, bytes_word}
-use Rattle.archive_shape_pointers.specs.Offsets.{difference}
-use Rattle.archive_forms_spelling.proofs.Regions.{CanonicalParts, more_parts}
-use Rattle.archive_forms_spelling.proofs.Pointers.{offset_stands, one_part}
-use Rattle.archive_forms_spelling.specs.Links.{link_bytes, LinkFits}
-use Rattle.archive_forms_spelling.proofs.Links.{link_small, link_exact, length-link}
+use Rattle.archive_forms_laws.specs.ArchiveShape.Bytes.{HasBytes}
+use Rattle.archive_shape.proofs.Pieces.{stands_left, stands_right, stands_word}
+use Rattle.archive_forms_laws.specs.ShapeWriting.declared.error.Error.{Error}
+use Rattle.archive_forms_laws.specs.State.{State, Keys, visits_of, IsConsistent, AllFrom, AreKeyedBy}
+use Rattle.archive_forms_laws.specs.Spelling.{Spelling, state_after}
+use Rattle.archive_forms_laws.specs.Spells.{CanonicalPart}
+use Rattle.archive_forms_laws.specs.Regions.{state_after_all, resolvers, values, plain_values, all_suit, pieces, pieces_fit, pieces_refused}
+use Rattle.archive_forms_laws.proofs.States.{from_earlier}
+use Rattle.archive_forms_laws.proofs.Gaps.{bytes_none, bytes_append, bytes_word}
+use Rattle.archive_forms_laws.specs.ArchiveShape.Offsets.{difference}
+use Rattle.archive_forms_laws.proofs.Regions.{CanonicalParts, more_parts}
+use Rattle.archive_forms_laws.proofs.Pointers.{offset_stands, one_part}
+use Rattle.archive_forms_laws.specs.Links.{link_bytes, LinkFits}
+use Rattle.archive_forms_laws.proofs.Links.{link_small, link_exact, length-link}
 use Rattle.archive_btree_spelling.specs.Written.{entry_spelling, links, LinksFit, LinksRefused}
+use Rattle.archive_shape_layout.proofs.Windows.{word_within}
 
 -- the offset 1 leads one further
 target_of_one : (pos : ℕ) → target_from pos 1 ≡ Some (pos + 1)
@@ -76,7 +77,7 @@ links_exact [] pos e f r = r
 links_exact (to ∷ more) pos e f (inl r) = link_exact to pos e f.0 r
 links_exact (to ∷ more) pos e f (inr r) = links_exact more (pos + 4) e f.1 r
 
--- a value is a group of so many items
+-- a value is a group of n items
 pub record Counted (n : ℕ) (value : Value) : Type 0 where
   pub items : Values
   pub is : value ≡ group items
@@ -108,7 +109,7 @@ module _ {A B R Q : Type 0} (fit : Fit) (most : ℕ) (k v : Shape) (knows : Name
     pub value : w.value xs st ≡ group no_values
     pub met : w.met xs st ≡ st.met
 
-  -- what holds of items that are written below a pointer on at most so many levels
+  -- what holds of items that are written below a pointer on at most l levels
   pub record TreeSpells (l : ℕ) (w : Spelling (List (A × B)) (Option ℕ)) (xs : List (A × B)) : Type 0 where
     pub absent : (st : State) → w.resolver xs st ≡ None → Rootless w xs st
     pub present : (st : State) (root : ℕ) → w.resolver xs st ≡ Some root → Rooted l w xs st root

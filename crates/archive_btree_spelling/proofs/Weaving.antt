@@ -1,17 +1,17 @@
 -- The values below the pointers of a node and those of its own entries in turn are those of all its items.
 use Rattle.std.proofs.Common.{◌≡◌, ◌∙◌, ℕ, zero, suc, ◌+◌, ◌<◌, List, [], ◌∷◌, ◌++◌, length, refl, ap, ap₂, sym, subst, arith, length-append}
 use Rattle.std.specs.Prelude.{⊤}
-use Rattle.archive_shape_layout.specs.Value.{Values, append_values, count_values}
-use Rattle.archive_shape_layout.specs.Value.Value.{group}
-use Rattle.archive_shape_layout.specs.Value.Values.{no_values, more_values}
-use Rattle.archive_shape_layout.specs.Content.{members, weave, first_values, other_values}
-use Rattle.archive_shape_canonical.specs.Packed.{ArePacked}
-use Rattle.archive_shape_canonical.specs.Seen.{blank, blanks, all_blank}
-use Rattle.archive_shape_canonical.specs.Sharing.{erased, all_erased}
-use Rattle.archive_shape_canonical.specs.Settled.{Fit}
-use Rattle.archive_forms_spelling.specs.State.{State, Keys}
-use Rattle.archive_forms_spelling.specs.Spelling.{Spelling, state_after}
-use Rattle.archive_forms_spelling.specs.Regions.{values, plain_values, all_suit}
+use Rattle.archive_btree_layout.specs.ShapeLayout.Value.{Values, append_values, count_values}
+use Rattle.archive_btree_layout.specs.ShapeLayout.Value.Value.{group}
+use Rattle.archive_btree_layout.specs.ShapeLayout.Value.Values.{no_values, more_values}
+use Rattle.archive_btree_layout.specs.ShapeLayout.Content.{members, weave, first_values, other_values}
+use Rattle.archive_forms_laws.specs.ShapeCanonical.Packed.{ArePacked}
+use Rattle.archive_forms_laws.specs.ShapeCanonical.Seen.{blank, blanks, all_blank}
+use Rattle.archive_forms_laws.specs.ShapeCanonical.Sharing.{erased, all_erased}
+use Rattle.archive_forms_laws.specs.ShapeCanonical.Settled.{Fit}
+use Rattle.archive_forms_laws.specs.State.{State, Keys}
+use Rattle.archive_forms_laws.specs.Spelling.{Spelling, state_after}
+use Rattle.archive_forms_laws.specs.Regions.{values, plain_values, all_suit}
 use Rattle.archive_btree_spelling.proofs.Shares.{IsWoven, AreShares}
 use Rattle.archive_btree_spelling.proofs.Trees.{Counted}
 
@@ -48,7 +48,7 @@ other_append zero (more_values x xs) ys e = absurd (omega (arith, e))
 other_append (suc n) no_values ys e = absurd (omega (arith, e))
 other_append (suc n) (more_values x xs) ys e = other_append n xs ys (omega (arith, e))
 
--- with lists below the pointers, of elements that have values of their own
+-- with lists below the pointers, of elements that have their own values
 module _ {C : Type 0} where
   -- each value has as many items as the list below its pointer
   abbrev pub AreCounted : List (List C) → Values → Type 0
@@ -70,7 +70,7 @@ module _ {C : Type 0} where
   counted_blank (xs ∷ xss) (more_values v vs) h =
       (record { items = blanks h.0.items; is = ap blank h.0.is; count = count_blanks h.0.items ∙ h.0.count }, counted_blank xss vs h.1)
 
-  -- all are as many as the items
+  -- the values of all have the same number of items
   pub count_woven : (xs : List C) (xss : List (List C)) (own : List C) (cs es : Values) → IsWoven xs xss own → AreCounted xss cs → count_values es ≡ length own
       → count_values (weave cs es) ≡ length xs
   count_woven xs [] own cs es w h e = absurd w

@@ -1,18 +1,19 @@
--- What holds of a node beside how it is read: the state behind it, its value without positions, its bytes and its limits.
+-- What holds of a node besides how it is read: the state after it, its value without positions, its bytes and its
+-- limits.
 use Rattle.std.proofs.Common.{◌≡◌, ℕ, zero, suc, ◌+◌, ◌-◌, ◌<◌, Option, List, [], ◌∷◌, ◌++◌, length, arith, ◌∙◌, inl, inr, length-append}
-use Rattle.archive_shape_layout.specs.Shape.{Shape}
-use Rattle.archive_shape_layout.specs.Content.{Names, keys_offset, values_offset, links_offset}
-use Rattle.archive_shape_canonical.specs.Settled.{Fit}
-use Rattle.archive_shape_canonical.specs.Sharing.{all_erased}
-use Rattle.archive_shape_canonical.specs.Canonical.{AreBytes}
-use Rattle.archive_shape_references.specs.Bytes.{zeros}
-use Rattle.archive_shape_writing.specs.declared.error.Error.{Error}
-use Rattle.archive_forms_spelling.specs.State.{State, Keys, IsConsistent, AreKeyedBy, advanced}
-use Rattle.archive_forms_spelling.specs.Spelling.{Spelling}
-use Rattle.archive_forms_spelling.specs.Regions.{resolvers, values, plain_values, all_suit, pieces}
-use Rattle.archive_forms_spelling.proofs.States.{consistent_further}
-use Rattle.archive_forms_spelling.proofs.Gaps.{bytes_none, bytes_more, bytes_append, bytes_zeros, bytes_word}
-use Rattle.archive_forms_spelling.proofs.Regions.{pieces_bytes, pieces_exact, state_after_all_begun, state_after_all_consistent, state_after_all_keyed}
+use Rattle.archive_btree_layout.specs.ShapeLayout.Shape.{Shape}
+use Rattle.archive_btree_layout.specs.ShapeLayout.Content.{Names, keys_offset, values_offset, links_offset}
+use Rattle.archive_forms_laws.specs.ShapeCanonical.Settled.{Fit}
+use Rattle.archive_forms_laws.specs.ShapeCanonical.Sharing.{all_erased}
+use Rattle.archive_forms_laws.specs.ShapeCanonical.Canonical.{AreBytes}
+use Rattle.archive_forms_laws.specs.ArchiveShape.Bytes.{zeros}
+use Rattle.archive_forms_laws.specs.ShapeWriting.declared.error.Error.{Error}
+use Rattle.archive_forms_laws.specs.State.{State, Keys, IsConsistent, AreKeyedBy, advanced}
+use Rattle.archive_forms_laws.specs.Spelling.{Spelling}
+use Rattle.archive_forms_laws.specs.Regions.{resolvers, values, plain_values, all_suit, pieces}
+use Rattle.archive_forms_laws.proofs.States.{consistent_further}
+use Rattle.archive_forms_laws.proofs.Gaps.{bytes_none, bytes_more, bytes_append, bytes_zeros, bytes_word}
+use Rattle.archive_forms_laws.proofs.Regions.{pieces_bytes, pieces_exact, state_after_all_begun, state_after_all_consistent, state_after_all_keyed}
 use Rattle.archive_btree_spelling.specs.Parted.{Parted}
 use Rattle.archive_btree_spelling.specs.Written.{filled, entry_spelling, state_after_children, state_after_entries, linked, words, own_bytes, node_at, node_piece, node_fits, node_refused}
 use Rattle.archive_btree_spelling.proofs.Slots.{EachEntrySpells, pair_shape, pairs_spell, key-slots-bytes, value-slots-bytes, keys_exact, values_exact}

@@ -1,13 +1,13 @@
 -- The laws of how maps are archived, as statements.
 use Rattle.std.specs.Prelude.{◌≡◌, ℕ, ◌<◌, List, [], ◌∷◌, length}
-use Rattle.archive_shape_layout.specs.Content.{Names}
-use Rattle.archive_shape_canonical.specs.Settled.{Fit}
-use Rattle.archive_shape_canonical.specs.Packed.{levels_for}
+use Rattle.archive_btree_layout.specs.ShapeLayout.Content.{Names}
+use Rattle.archive_forms_laws.specs.ShapeCanonical.Settled.{Fit}
+use Rattle.archive_forms_laws.specs.ShapeCanonical.Packed.{levels_for}
 use Rattle.archive_btree_layout.specs.Tree.{items}
 use Rattle.archive_btree_layout.specs.Packed.{IsPacked}
-use Rattle.archive_forms_spelling.specs.State.{initial}
-use Rattle.archive_forms_spelling.specs.Regions.{region_piece, region_fits}
-use Rattle.archive_forms_spelling.specs.Written.{IsWritten}
+use Rattle.archive_forms_laws.specs.State.{initial}
+use Rattle.archive_forms_laws.specs.Regions.{region_piece, region_fits}
+use Rattle.archive_forms_laws.specs.Written.{IsWritten}
 use Rattle.archive_btree_spelling.specs.Shown.{tree_of}
 use Rattle.archive_btree_spelling.specs.Sample.{map_shape, map_spelling, empty_bytes, one_pair, one_pair_bytes, six_pairs, six_pairs_bytes}
 

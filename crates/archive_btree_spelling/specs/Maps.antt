@@ -1,18 +1,18 @@
 -- How a map is archived: the packed search tree of its entries, and a pointer to its root with the number of entries.
 use Rattle.std.specs.Prelude.{◌≡◌, ℕ, ◌^◌, ◌<◌, ◌≤◌, List, [], ◌++◌, length, Option, None, ⊤, ◌⊎◌}
 use Rattle.std.specs.Int.{w32, to_le_bytes}
-use Rattle.archive_shape_layout.specs.Shape.{Shape}
-use Rattle.archive_shape_layout.specs.Value.Value.{group}
-use Rattle.archive_shape_layout.specs.Value.Values.{no_values}
-use Rattle.archive_shape_writing.specs.declared.error.Error.TheVariants.{LengthTooLarge}
-use Rattle.archive_shape_canonical.specs.Packed.{levels_for}
-use Rattle.archive_forms_spelling.specs.Spelling.{Spelling}
-use Rattle.archive_forms_spelling.specs.Levels.{levels_spelling}
-use Rattle.archive_forms_spelling.specs.Regions.{plain_values, all_suit}
-use Rattle.archive_forms_spelling.specs.Links.{link_bytes, LinkFits, LinkRefused}
+use Rattle.archive_btree_layout.specs.ShapeLayout.Shape.{Shape}
+use Rattle.archive_btree_layout.specs.ShapeLayout.Value.Value.{group}
+use Rattle.archive_btree_layout.specs.ShapeLayout.Value.Values.{no_values}
+use Rattle.archive_forms_laws.specs.ShapeWriting.declared.error.Error.TheVariants.{LengthTooLarge}
+use Rattle.archive_forms_laws.specs.ShapeCanonical.Packed.{levels_for}
+use Rattle.archive_forms_laws.specs.Spelling.{Spelling}
+use Rattle.archive_forms_laws.specs.Levels.{levels_spelling}
+use Rattle.archive_forms_laws.specs.Regions.{plain_values, all_suit}
+use Rattle.archive_forms_laws.specs.Links.{link_bytes, LinkFits, LinkRefused}
 use Rattle.archive_btree_spelling.specs.Written.{entry_spelling, tree_spelling}
 
--- no items, on no level
+-- the tree without items and without levels
 abbrev pub no_tree : {C : Type 0} → Spelling (List C) (Option ℕ)
 no_tree = record {
   value = λ xs st. group no_values;
@@ -29,11 +29,11 @@ no_tree = record {
 }
 
 module _ {A B R Q : Type 0} (most : ℕ) (k v : Shape) (keys : Spelling A R) (vals : Spelling B Q) where
-  -- the packed tree of items that need at most so many levels
+  -- the packed tree of items that need at most `levels` levels
   abbrev pub packed_spelling : ℕ → Spelling (List (A × B)) (Option ℕ)
   packed_spelling levels = levels_spelling (λ child. tree_spelling most k v keys vals child) no_tree levels
 
-  -- on as many levels as they need
+  -- the same with the number of levels that the items need
   abbrev pub btree_spelling : Spelling (List (A × B)) (Option ℕ)
   btree_spelling = record {
     value = λ xs st. (packed_spelling (levels_for most (length xs))).value xs st;

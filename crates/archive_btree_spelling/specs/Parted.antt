@@ -1,6 +1,6 @@
--- Which items stand in the root of a packed search tree, and which below each of its pointers.
+-- Which items are in the root of a packed search tree, and which below each of its pointers.
 use Rattle.std.specs.Prelude.{ℕ, zero, suc, cond, nat_le, List, [], ◌∷◌, ◌++◌, length, take, drop}
-use Rattle.archive_shape_canonical.specs.Packed.{child_items}
+use Rattle.archive_forms_laws.specs.ShapeCanonical.Packed.{child_items}
 
 -- A node: its kind, 0 for a leaf and 1 for an inner node, the items below each of its pointers from left to right, and
 -- its own items. A leaf has no pointers.
@@ -10,8 +10,8 @@ pub record Parted (C : Type 0) : Type 0 where
   pub own : List C
 
 module _ {C : Type 0} (most n : ℕ) where
-  -- of the items of an inner node, n in all: those below pointer i and below each behind it, where `more` items of the
-  -- node's own follow. Between two pointers stands one of these; what is left stands below the last pointer.
+  -- of the items of an inner node, n in all: those below pointer i and below each one after it, where `more` items of
+  -- the node's own follow. Between two pointers lies one of these; the rest lies below the last pointer.
   abbrev pub shares : (i more : ℕ) → List C → List (List C)
   shares i zero xs = xs ∷ []
   shares i (suc more) xs = let m = child_items most n i in take m xs ∷ shares (suc i) more (drop (suc m) xs)
@@ -20,7 +20,7 @@ module _ {C : Type 0} (most n : ℕ) where
   between i zero xs = []
   between i (suc more) xs = let m = child_items most n i in take 1 (drop m xs) ++ between (suc i) more (drop (suc m) xs)
 
--- the node of items: a leaf where they are at most `most`, and else an inner node with that many of its own
+-- the node of items: a leaf where their number is at most `most`, and else an inner node with `most` items of its own
 abbrev pub parted : {C : Type 0} → ℕ → List C → Parted C
 parted most xs =
     let n = length xs in

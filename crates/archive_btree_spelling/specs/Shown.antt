@@ -5,7 +5,7 @@ use Rattle.archive_btree_layout.specs.Tree.Tree.{absent, leaf, inner}
 use Rattle.archive_btree_layout.specs.Tree.Branches.{greater, lesser}
 use Rattle.archive_btree_spelling.specs.Parted.{parted}
 
--- what stands below the pointers of an inner node, and its own entries between
+-- the subtrees below the pointers of an inner node, with its own entries between them
 abbrev pub branches : {C : Type 0} → List (Tree C) → List C → Branches C
 branches [] es = greater absent
 branches (t ∷ ts) [] = greater t
@@ -15,7 +15,7 @@ abbrev pub node_of : {C : Type 0} → ℕ → List (Tree C) → List C → Tree 
 node_of zero ts es = leaf es
 node_of (suc kind) ts es = inner (branches ts es)
 
--- the tree of items that need at most so many levels
+-- the tree of items that need at most `levels` levels
 abbrev pub tree_of : {C : Type 0} → ℕ → ℕ → List C → Tree C
 tree_of most zero xs = absent
 tree_of most (suc levels) [] = absent

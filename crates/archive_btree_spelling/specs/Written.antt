@@ -1,20 +1,21 @@
--- How a search tree is archived: below each pointer of a node first, then the data of its entries, then the node itself.
+-- How a search tree is archived: first what is below each pointer of a node, then the data of its entries, then the
+-- node itself.
 use Rattle.std.specs.Prelude.{◌≡◌, ℕ, zero, suc, ◌+◌, ◌-◌, ◌^◌, ◌<◌, List, [], ◌∷◌, ◌++◌, length, Option, Some, None, ⊤, ◌⊎◌}
 use Rattle.std.specs.Int.{w32, to_le_bytes}
-use Rattle.archive_shape_layout.specs.Bytes.{align_up}
-use Rattle.archive_shape_layout.specs.Shape.{Shape, size_of}
-use Rattle.archive_shape_layout.specs.Value.{Values}
-use Rattle.archive_shape_layout.specs.Value.Value.{group}
-use Rattle.archive_shape_layout.specs.Value.Values.{no_values}
-use Rattle.archive_shape_layout.specs.Content.{weave, words_of, keys_offset, values_offset, links_offset, link_node_align, link_node_size}
-use Rattle.archive_shape_references.specs.Bytes.{zeros}
-use Rattle.archive_shape_writing.specs.declared.error.Error.{Error}
-use Rattle.archive_shape_writing.specs.declared.error.Error.TheVariants.{PositionTooLarge}
-use Rattle.archive_forms_spelling.specs.State.{State, Met}
-use Rattle.archive_forms_spelling.specs.Spelling.{Spelling, state_after}
-use Rattle.archive_forms_spelling.specs.Fields.{tuple2_spelling}
-use Rattle.archive_forms_spelling.specs.Regions.{state_after_all, values, resolvers, plain_values, all_suit, pieces, pieces_fit, pieces_refused}
-use Rattle.archive_forms_spelling.specs.Links.{link_bytes, LinkFits, LinkRefused}
+use Rattle.archive_btree_layout.specs.ShapeLayout.Bytes.{align_up}
+use Rattle.archive_btree_layout.specs.ShapeLayout.Shape.{Shape, size_of}
+use Rattle.archive_btree_layout.specs.ShapeLayout.Value.{Values}
+use Rattle.archive_btree_layout.specs.ShapeLayout.Value.Value.{group}
+use Rattle.archive_btree_layout.specs.ShapeLayout.Value.Values.{no_values}
+use Rattle.archive_btree_layout.specs.ShapeLayout.Content.{weave, words_of, keys_offset, values_offset, links_offset, link_node_align, link_node_size}
+use Rattle.archive_forms_laws.specs.ArchiveShape.Bytes.{zeros}
+use Rattle.archive_forms_laws.specs.ShapeWriting.declared.error.Error.{Error}
+use Rattle.archive_forms_laws.specs.ShapeWriting.declared.error.Error.TheVariants.{PositionTooLarge}
+use Rattle.archive_forms_laws.specs.State.{State, Met}
+use Rattle.archive_forms_laws.specs.Spelling.{Spelling, state_after}
+use Rattle.archive_forms_laws.specs.Fields.{tuple2_spelling}
+use Rattle.archive_forms_laws.specs.Regions.{state_after_all, values, resolvers, plain_values, all_suit, pieces, pieces_fit, pieces_refused}
+use Rattle.archive_forms_laws.specs.Links.{link_bytes, LinkFits, LinkRefused}
 use Rattle.archive_btree_spelling.specs.Parted.{Parted, parted}
 
 -- ---- pointers
@@ -34,7 +35,7 @@ LinksRefused (to ∷ more) pos e = LinkRefused to pos e ⊎ LinksRefused more (p
 
 -- ---- slots
 
--- Values in slots side by side, the first at a position, each of so many bytes; `after` is the state when the data of a
+-- Values in slots side by side, the first at a position, each of `size` bytes; `after` is the state when the data of a
 -- value is written.
 module _ {C : Type 0} (after : C → State → State) (size : ℕ) where
   abbrev pub slots : (C → State → ℕ → List ℕ) → List C → State → ℕ → List ℕ
@@ -49,14 +50,14 @@ module _ {C : Type 0} (after : C → State → State) (size : ℕ) where
   AnySlot P [] st pos = ⊥
   AnySlot P (x ∷ xs) st pos = P x st pos ⊎ AnySlot P xs (after x st) (pos + size)
 
--- bytes, and zeros up to so many
+-- bytes, followed by zeros up to n bytes in all
 abbrev pub filled : ℕ → List ℕ → List ℕ
 filled n bs = bs ++ zeros (n - length bs)
 
 -- ---- nodes
 
--- a node: its kind, 0 for a leaf and 1 for an inner node, where each of its pointers leads, and its own items; a leaf has
--- no pointers
+-- a node: its kind, 0 for a leaf and 1 for an inner node, the position that each of its pointers leads to, and its own
+-- items; a leaf has no pointers
 pub record Linked (C : Type 0) : Type 0 where
   pub kind : ℕ
   pub roots : List (Option ℕ)
@@ -78,12 +79,12 @@ module _ {A B R Q : Type 0} (most : ℕ) (k v : Shape) (keys : Spelling A R) (va
   abbrev pub value_own : A × B → State → ℕ → List ℕ
   value_own x st pos = vals.own x.1 (vals.resolver x.1 (state_after keys x.0 st)) pos
 
-  -- ---- a node, behind the data of its entries, which is written from a state on
+  -- ---- a node, after the data of its entries, which is written from a state on
 
   abbrev pub state_after_own : Linked (A × B) → State → State
   state_after_own n st = state_after_all entry_spelling n.own st
 
-  -- it stands at the next position of its alignment
+  -- the node lies at the next position of its alignment
   abbrev pub own_at : Linked (A × B) → State → ℕ
   own_at n st = align_up (state_after_own n st).pos (link_node_align k v)
 
@@ -95,7 +96,8 @@ module _ {A B R Q : Type 0} (most : ℕ) (k v : Shape) (keys : Spelling A R) (va
   words zero n pos = to_le_bytes w32 (length n.own)
   words (suc kind) n pos = links n.roots pos
 
-  -- the bytes of a node at a position: its kind, the keys, the values, and its length or pointers, each from its offset on
+  -- the bytes of a node at a position: its kind, the keys, the values, and its length or pointers, each from its offset
+  -- on
   abbrev pub own_bytes : Linked (A × B) → State → ℕ → List ℕ
   own_bytes n st pos =
       let of_keys = slots (state_after entry_spelling) (size_of k) key_own n.own st (pos + keys_offset k) in
@@ -115,7 +117,7 @@ module _ {A B R Q : Type 0} (most : ℕ) (k v : Shape) (keys : Spelling A R) (va
   abbrev pub IsPlaced : Linked (A × B) → ℕ → Type 0
   IsPlaced n pos = (pos < 2 ^ 32) × (pos + own_size n < 2 ^ 64)
 
-  -- the own bytes of its entries and its pointers, where it stands at a position
+  -- the own bytes of its entries and its pointers pass their limits, where the node lies at a position
   abbrev pub slots_fit : Linked (A × B) → State → ℕ → Type 0
   slots_fit n st pos =
       AllSlots (state_after entry_spelling) (size_of k) (λ x then at. keys.own_fits x.0 (keys.resolver x.0 then) at) n.own st (pos + keys_offset k)
@@ -164,7 +166,7 @@ module _ {A B R Q : Type 0} (most : ℕ) (k v : Shape) (keys : Spelling A R) (va
     abbrev pub node_refused : Parted (A × B) → State → Error → Type 0
     node_refused p st e = pieces_refused child p.below st e ⊎ own_refused (linked p st) (state_after_children p st) e
 
-    -- ---- what stands below a pointer: nothing where there are no items, else the node of the items
+    -- ---- what is below a pointer: nothing where there are no items, else the node of the items
 
     abbrev pub tree_values : List (A × B) → State → Values
     tree_values [] st = no_values
@@ -190,7 +192,7 @@ module _ {A B R Q : Type 0} (most : ℕ) (k v : Shape) (keys : Spelling A R) (va
     tree_refused [] st e = ⊥
     tree_refused (x ∷ xs) st e = node_refused (parted most (x ∷ xs)) st e
 
-    -- its own bytes are the pointer
+    -- a subtree's own bytes are the pointer to its root
     abbrev pub tree_spelling : Spelling (List (A × B)) (Option ℕ)
     tree_spelling = record {
       value = λ xs st. group (tree_values xs st);

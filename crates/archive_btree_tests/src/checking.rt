@@ -1,13 +1,13 @@
-//! Tests of what is refused of search trees.
+//! Tests of the search trees that are refused, and of the errors.
 
 use crate::archives::{EMPTY, EMPTY_LEAF, Numbers, ONE_PAIR, SIX_PAIRS, bytes_of};
-use archive_btree_reading::ArchivedBTreeMap;
-use archive_core_access::access;
+use archive_btree_maps::ArchivedBTreeMap;
+use archive_core_validation::access;
 use archive_shape::{ArchivedNonZeroU32, ArchivedU32, Error};
 use std::alloc::Global;
 use std::test::Fail;
 
-/// Whether a map of numbers is accepted, or why not.
+/// Checks a map of numbers.
 fn accepts(alloc: Global, words: &[u32]) -> Result<(), Error> {
     let bytes = bytes_of(alloc, words)?;
     access::<Numbers>(alloc, bytes.as_slice())?;

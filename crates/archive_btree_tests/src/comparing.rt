@@ -1,15 +1,14 @@
-//! Tests of archived maps against others, and against those of std.
+//! Tests of comparisons of archived maps with others, and with those of std.
 
 use crate::archives::{EMPTY, EMPTY_LEAF, Numbers, ONE_PAIR, SIX_PAIRS, bytes_of, root_of};
-use archive_btree_reading::{eq_btree_map, eq_map};
-use archive_forms_comparing::ArchivedEq;
-use archive_forms_hashing::ArchivedHash;
+use archive_btree_maps::{eq_btree_map, eq_map};
+use archive_forms_comparing::{ArchivedEq, ArchivedHash};
 use archive_shape::Error;
 use std::alloc::Global;
 use std::collections::BTreeMap;
 use std::hash::{DefaultHasher, Hasher};
 
-/// Whether an archived map has the same pairs as one of std.
+/// Checks whether an archived map has the same pairs as one of std.
 fn equals(alloc: Global, words: &[u32], pairs: &[(u32, u32)]) -> Result<bool, Error> {
     let bytes = bytes_of(alloc, words)?;
     let root = root_of::<Numbers>(alloc, bytes.as_slice())?;
@@ -45,7 +44,7 @@ fn maps_of_other_pairs_are_not_equal(rt: HostRuntime) {
     assert_eq!(rt; equals(rt.alloc(), &EMPTY, &[(7, 11)]), Ok(false));
 }
 
-/// Whether two archived maps are equal, by either call, and whether they are hashed alike.
+/// Returns whether two archived maps are equal, by either call, and whether they are hashed alike.
 fn compared(alloc: Global, words: &[u32], others: &[u32]) -> Result<(bool, bool, bool), Error> {
     let bytes = bytes_of(alloc, words)?;
     let more = bytes_of(alloc, others)?;

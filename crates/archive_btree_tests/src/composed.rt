@@ -1,13 +1,11 @@
-//! Tests of archived maps of lists beside other values, and of what is hashed of a map.
+//! Tests of archived maps of lists beside other values, and of the hash of a map.
 
 use crate::archives::root_of;
 use crate::writing::archive_of;
 use archive_btree::{ArchivedBTreeMap, OwnedBTreeMap};
-use archive_forms_deserializing::Deserialize;
-use archive_forms_hashing::ArchivedHash;
-use archive_forms_reading::ArchivedVec;
-use archive_forms_text::ArchivedString;
-use archive_forms_tuples::ArchivedTuple2;
+use archive_forms::Deserialize;
+use archive_forms_comparing::ArchivedHash;
+use archive_forms_values::{ArchivedString, ArchivedTuple2, ArchivedVec};
 use archive_shape::{ArchivedI32, ArchivedU32, Error};
 use std::alloc::Global;
 use std::collections::BTreeMap;
@@ -20,7 +18,7 @@ type ArchivedList = ArchivedVec<ArchivedI32>;
 
 type ArchivedLists = ArchivedBTreeMap<ArchivedString, ArchivedList, 5>;
 
-/// A text of its own.
+/// Returns an owned text.
 fn text(alloc: Global, from: &str) -> Result<String, Error> {
     match String::from_str(alloc, from) {
         Ok(text) => Ok(text),
@@ -28,7 +26,7 @@ fn text(alloc: Global, from: &str) -> Result<String, Error> {
     }
 }
 
-/// The map from `Asdf` to a list of the number 2.
+/// Returns the map from `Asdf` to a list of the number 2.
 fn lists(alloc: Global) -> Result<Lists, Error> {
     let mut list = Vec::new(alloc);
     list.push(2)?;
@@ -42,7 +40,7 @@ fn lists(alloc: Global) -> Result<Lists, Error> {
 /// A map beside a list.
 type Pair = (Lists, Vec<i32>);
 
-/// Whether that map beside an empty list is read back.
+/// Checks whether that map beside an empty list is read back.
 fn is_read_back_beside_a_list(alloc: Global) -> Result<bool, Error> {
     let pair: Pair = (lists(alloc)?, Vec::new(alloc));
     let bytes = archive_of(alloc, &pair)?;
@@ -56,7 +54,7 @@ fn maps_of_lists_are_read_back(rt: HostRuntime) {
     assert_eq!(rt; is_read_back_beside_a_list(rt.alloc()), Ok(true));
 }
 
-/// What an archived map from `a` to 1 and from `b` to 2 hashes to.
+/// Returns the hash of an archived map from `a` to 1 and from `b` to 2.
 fn hash_of_archived(alloc: Global) -> Result<u64, Error> {
     let mut map = BTreeMap::new(alloc);
     for (key, value) in [("a", 1), ("b", 2)] {

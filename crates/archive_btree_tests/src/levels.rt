@@ -3,30 +3,30 @@
 use std::alloc::{AllocError, Global};
 use std::ops::Range;
 
-/// What the keys of a map are. The first word of a key is one more than that of the key before, and so many words of ones
-/// are behind it.
+/// The words of the keys of a map. The first word of a key is one more than that of the key before, and is followed by
+/// `ones` words of ones.
 #[derive(Clone, Copy)]
 pub(crate) struct Keys {
     first: u32,
     ones: usize,
 }
 
-/// The numbers from 0 on.
+/// The keys that are the numbers from 0 on.
 pub(crate) const NUMBERS: Keys = Keys { first: 0, ones: 0 };
 
-/// The chars from a on.
+/// The keys that are the chars from a on.
 pub(crate) const CHARS: Keys = Keys {
     first: 0x61,
     ones: 0,
 };
 
-/// The texts of one char, from a on.
+/// The keys that are the texts of one char, from a on.
 pub(crate) const TEXTS: Keys = Keys {
     first: 0xffff_ff61,
     ones: 1,
 };
 
-/// The first word of each key of these numbers, and the number.
+/// Returns for each of these numbers the first word of its key, and the number.
 pub(crate) fn entries(
     alloc: Global,
     keys: Keys,
@@ -56,7 +56,7 @@ fn push_entries(
     words.extend_from_slice(&entries)
 }
 
-/// Writes a leaf of five entries from one on, and answers where it begins.
+/// Writes a leaf of five entries from `first` on, and returns its position.
 fn push_leaf(words: &mut Vec<u32>, keys: Keys, first: u32) -> Result<usize, AllocError> {
     let start = words.len();
     let mut entries = [0; 5];
@@ -70,14 +70,14 @@ fn push_leaf(words: &mut Vec<u32>, keys: Keys, first: u32) -> Result<usize, Allo
     Ok(start)
 }
 
-/// Writes a pointer to what begins before it.
+/// Writes a pointer to a position before it.
 fn push_pointer(words: &mut Vec<u32>, target: usize) -> Result<(), AllocError> {
     let distance = words.len().saturating_sub(target).saturating_mul(4);
     words.push(u32::try_from(distance).unwrap_or(0).wrapping_neg())?;
     Ok(())
 }
 
-/// Writes an inner node, and answers where it begins.
+/// Writes an inner node, and returns its position.
 fn push_inner(
     words: &mut Vec<u32>,
     keys: Keys,
@@ -95,7 +95,8 @@ fn push_inner(
     Ok(start)
 }
 
-/// Writes so many leaves and an inner node above them, with entries from one on, and answers where the inner node begins.
+/// Writes `leaves` leaves and an inner node above them, with entries from `first` on, and returns the position of the
+/// inner node.
 fn push_branch(
     words: &mut Vec<u32>,
     keys: Keys,
@@ -118,14 +119,14 @@ fn push_branch(
     push_inner(words, keys, entries, children)
 }
 
-/// Writes the map with this root and so many entries.
+/// Writes the map with this root and `len` entries.
 fn push_map(words: &mut Vec<u32>, root: usize, len: u32) -> Result<(), AllocError> {
     push_pointer(words, root)?;
     words.push(len)?;
     Ok(())
 }
 
-/// A map of 25 entries in two levels.
+/// Returns a map of 25 entries in two levels.
 pub(crate) fn two_levels(alloc: Global, keys: Keys) -> Result<Vec<u32>, AllocError> {
     let mut words = Vec::new(alloc);
     let root = push_branch(&mut words, keys, 0, 4)?;
@@ -133,7 +134,7 @@ pub(crate) fn two_levels(alloc: Global, keys: Keys) -> Result<Vec<u32>, AllocErr
     Ok(words)
 }
 
-/// A map of 200 entries in three levels.
+/// Returns a map of 200 entries in three levels.
 pub(crate) fn three_levels(alloc: Global, keys: Keys) -> Result<Vec<u32>, AllocError> {
     let mut words = Vec::new(alloc);
     let mut children = [None; 6];

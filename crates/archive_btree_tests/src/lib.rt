@@ -1,4 +1,4 @@
-//! Tests of archived search trees: what is refused, and what is read of those that are accepted.
+//! Tests of archived search trees: which ones are refused, and what is read of those that are accepted.
 #![tactic(auto)]
 
 #[cfg(test)]

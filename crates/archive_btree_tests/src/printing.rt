@@ -2,19 +2,19 @@
 ghost use Rattle.std.specs.Prelude.{[]};
 
 use crate::archives::{EMPTY, FOUR_TEXTS, Numbers, SIX_PAIRS, Texts, bytes_of, root_of};
-use archive_btree_sets::ArchivedBTreeSet;
+use archive_btree_maps::ArchivedBTreeSet;
 use archive_core_validation::HighValidator;
-use archive_forms_hashing::ArchivedDebug;
-use archive_forms_text::ArchivedString;
+use archive_forms_comparing::ArchivedDebug;
+use archive_forms_values::ArchivedString;
 use archive_shape::{ArchivedU32, CheckBytes, Error};
 use std::alloc::Global;
 use std::fmt::Formatter;
 use std::test::Fail;
 
-/// 10, 20, 40 and 80: a leaf of seven words, its kind, five keys and its length, and the set.
+/// The words of the set of 10, 20, 40 and 80: a leaf of seven words, its kind, five keys and its length, and the set.
 const FOUR_KEYS: [u32; 9] = [0, 10, 20, 40, 80, 0, 4, 0xffff_ffe4, 4];
 
-/// The texts a and b: a leaf with room for five texts of two words, and the set.
+/// The words of the set of the texts a and b: a leaf with room for five texts of two words, and the set.
 const TWO_TEXTS: [u32; 14] = [
     0,
     0xffff_ff61,
@@ -32,7 +32,7 @@ const TWO_TEXTS: [u32; 14] = [
     2,
 ];
 
-/// The text of a map or a set.
+/// Returns the printed text of a map or a set.
 fn printed<T: ArchivedDebug + CheckBytes<HighValidator>>(
     alloc: Global,
     words: &[u32],

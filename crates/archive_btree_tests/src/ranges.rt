@@ -1,33 +1,32 @@
 //! Tests of the entries of an archived map between two bounds.
 ghost use Rattle.std.specs.Prelude.{⊤, []};
 ghost use Rattle.std.specs.Iterator.{IsFinite};
-ghost use Rattle.archive_shape_layout.specs.Shape.Shape.{character, text};
-ghost use Rattle.archive_forms_reading.specs.Parts.{HasValue};
+ghost use Rattle.archive_shape.specs.ShapeLayout.Shape.Shape.{character, text};
+ghost use Rattle.archive_forms_values.specs.Parts.{HasValue};
 
 use crate::archives::{
     BAR, BAT, BAZ, EMPTY, EMPTY_LEAF, FOO, FOUR_TEXTS, Numbers, ONE_PAIR, SIX_PAIRS, Texts,
     bytes_of, root_of,
 };
 use crate::levels::{CHARS, NUMBERS, TEXTS, entries, three_levels, two_levels};
-use archive_btree_reading::ArchivedBTreeMap;
+use archive_btree_maps::ArchivedBTreeMap;
 use archive_core_validation::HighValidator;
-use archive_forms_reading::native_of;
-use archive_forms_text::ArchivedString;
+use archive_forms_values::{ArchivedString, native_of};
 use archive_shape::{ArchivedChar, ArchivedU32, CheckBytes, Error, Ref};
 use std::alloc::Global;
 use std::cmp::Ordering;
 use std::ops::{Bound, ControlFlow, RangeBounds};
 use std::test::Fail;
 
-/// A map from chars to numbers, in nodes as large as those of a map of numbers.
+/// A map from chars to numbers, with nodes of the same size as those of a map of numbers.
 type Chars = ArchivedBTreeMap<ArchivedChar, ArchivedU32, 5>;
 
-/// The word at a position.
+/// Returns the word at a position.
 fn word_at(words: &[u32], pos: usize) -> u32 {
     words.get(pos / 4).copied().unwrap_or(0)
 }
 
-/// The first word of each entry's key, and the word of its value.
+/// Returns the first word of each entry's key, and the word of its value.
 fn words_of<'a, K: 'a, V: 'a, I: Iterator<Item = (Ref<'a, K>, Ref<'a, V>)> + Drop>(
     alloc: Global,
     words: &[u32],
@@ -46,7 +45,7 @@ fn words_of<'a, K: 'a, V: 'a, I: Iterator<Item = (Ref<'a, K>, Ref<'a, V>)> + Dro
     Ok(met)
 }
 
-/// The entries of the map of four texts between two bounds.
+/// Returns the entries of the map of four texts between two bounds.
 fn texts_between<R: RangeBounds<&'static str>>(
     alloc: Global,
     bounds: R,
@@ -93,7 +92,7 @@ fn range_has_the_entries_between_its_bounds(rt: HostRuntime) -> Result<(), Fail>
     Ok(())
 }
 
-/// The entries of a map of numbers between two bounds.
+/// Returns the entries of a map of numbers between two bounds.
 fn numbers_between<R: RangeBounds<u32>>(
     alloc: Global,
     words: &[u32],
@@ -104,7 +103,7 @@ fn numbers_between<R: RangeBounds<u32>>(
     words_of(alloc, words, ArchivedBTreeMap::range(root, bounds))
 }
 
-/// Whether the entries of the map of six pairs between two bounds are those of these keys.
+/// Checks whether the entries of the map of six pairs between two bounds are those of these keys.
 fn six_between<R: RangeBounds<u32>>(alloc: Global, bounds: R, keys: &[u32]) -> Result<bool, Error> {
     let met = numbers_between(alloc, &SIX_PAIRS, bounds)?;
     if met.len() != keys.len() {
@@ -164,7 +163,7 @@ fn range_of_a_tree_of_three_levels(rt: HostRuntime) -> Result<(), Fail> {
     Ok(())
 }
 
-/// The entries of a map of chars between two bounds, by a comparison of the test's own.
+/// Returns the entries of a map of chars between two bounds, by the test's own comparison.
 fn chars_between<R: RangeBounds<char>>(
     alloc: Global,
     words: &[u32],
@@ -206,7 +205,7 @@ fn range_of_an_empty_map(rt: HostRuntime) -> Result<(), Fail> {
     Ok(())
 }
 
-/// The entries of a map of texts between two bounds that the first char of each text is compared with.
+/// Returns the entries of a map of texts between two bounds, which are compared with the first char of each text.
 fn texts_by_first_char<R: RangeBounds<char>>(
     alloc: Global,
     words: &[u32],
@@ -233,7 +232,7 @@ fn range_by_the_first_char_of_texts(rt: HostRuntime) -> Result<(), Fail> {
     Ok(())
 }
 
-/// What a range of one entry tells of its length, and whether it has ended, before its entry, behind it and once more.
+/// Returns the size hint of a range of one entry and whether it has ended, before its entry, after it and once more.
 fn ended(alloc: Global) -> Result<[(bool, (usize, Option<usize>)); 3], Error> {
     let bytes = bytes_of(alloc, &SIX_PAIRS)?;
     let root = root_of::<Numbers>(alloc, bytes.as_slice())?;
@@ -254,7 +253,7 @@ fn ended_range_stays_ended(rt: HostRuntime) {
     );
 }
 
-/// The entries of a map to numbers, by a walk.
+/// Returns the entries of a map to numbers, by a walk.
 fn walked<K: CheckBytes<HighValidator>>(
     alloc: Global,
     words: &[u32],
@@ -285,7 +284,7 @@ fn texts_in_two_levels_are_walked_in_order(rt: HostRuntime) -> Result<(), Fail> 
     Ok(())
 }
 
-/// The entries of a map of numbers, by a visit.
+/// Returns the entries of a map of numbers, by a visit.
 fn visited(alloc: Global, words: &[u32]) -> Result<Vec<(u32, u32)>, Error> {
     let bytes = bytes_of(alloc, words)?;
     let root = root_of::<Numbers>(alloc, bytes.as_slice())?;

@@ -1,19 +1,19 @@
-//! Tests of what is read of archived maps.
+//! Tests of reading archived maps.
 ghost use Rattle.std.specs.Prelude.{false, ⊤};
 ghost use Rattle.std.specs.Int.{w32};
-ghost use Rattle.archive_shape_layout.specs.Shape.Shape.{number};
-ghost use Rattle.archive_forms_reading.specs.Parts.{HasValue};
+ghost use Rattle.archive_shape.specs.ShapeLayout.Shape.Shape.{number};
+ghost use Rattle.archive_forms_values.specs.Parts.{HasValue};
 
 use crate::archives::{EMPTY, EMPTY_LEAF, Numbers, ONE_PAIR, SIX_PAIRS, bytes_of, root_of};
-use archive_btree_reading::ArchivedBTreeMap;
-use archive_forms_reading::native_of;
+use archive_btree_maps::ArchivedBTreeMap;
+use archive_forms_values::native_of;
 use archive_shape::{ArchivedU32, Error, Ref};
 use std::alloc::Global;
 use std::cmp::Ordering;
 use std::ops::ControlFlow;
 use std::test::Fail;
 
-/// The value of a key, and how many keys are compared.
+/// Returns the value of a key, and the number of keys that are compared.
 fn found(alloc: Global, words: &[u32], key: u32) -> Result<(Option<u32>, usize), Error> {
     let bytes = bytes_of(alloc, words)?;
     let root = root_of::<Numbers>(alloc, bytes.as_slice())?;
@@ -47,7 +47,8 @@ fn keys_lead_to_their_values(rt: HostRuntime) {
     assert_eq!(rt; found(rt.alloc(), &EMPTY_LEAF, 9), Ok((None, 5)));
 }
 
-/// The word of the value that a key leads to, by each call that looks a key up, and whether the map has the key.
+/// Returns the word of the value that a key leads to, by each call that looks a key up, and whether the map has the
+/// key.
 fn looked_up(alloc: Global, words: &[u32], key: u32) -> Result<([Option<usize>; 3], bool), Error> {
     let bytes = bytes_of(alloc, words)?;
     let root = root_of::<Numbers>(alloc, bytes.as_slice())?;
@@ -77,7 +78,7 @@ fn look_ups_agree(rt: HostRuntime) {
     );
 }
 
-/// The positions of the keys and of the values, in order.
+/// Returns the positions of the keys and of the values, in order.
 fn walked(alloc: Global, words: &[u32]) -> Result<Vec<(usize, usize)>, Error> {
     let bytes = bytes_of(alloc, words)?;
     let root = root_of::<Numbers>(alloc, bytes.as_slice())?;
@@ -113,7 +114,7 @@ fn entries_are_walked_in_order(rt: HostRuntime) -> Result<(), Fail> {
     Ok(())
 }
 
-/// How many entries a visit meets that ends at a value's position.
+/// Returns where a visit breaks that ends at a value's position, and the number of entries that it visits.
 fn visited(alloc: Global, words: &[u32], last: usize) -> Result<(Option<usize>, usize), Error> {
     let bytes = bytes_of(alloc, words)?;
     let root = root_of::<Numbers>(alloc, bytes.as_slice())?;

@@ -1,26 +1,26 @@
-//! Tests of what is written to archived maps through seals.
+//! Tests of writing to archived maps through seals.
 ghost use Rattle.std.specs.Prelude.{◌≡◌, ℕ, ◌+◌, ◌≤◌, List, length};
-ghost use Rattle.archive_shape_layout.specs.Shape.Shape.{tree};
-ghost use Rattle.archive_btree_layout.specs.Reading.{Place};
-ghost use Rattle.archive_forms_reading.specs.Parts.{HasValue, both};
+ghost use Rattle.archive_shape.specs.ShapeLayout.Shape.Shape.{tree};
+ghost use Rattle.archive_btree_walking.specs.BtreeLayout.Reading.{Place};
+ghost use Rattle.archive_forms_values.specs.Parts.{HasValue, both};
 ghost use Rattle.archive_btree_walking.specs.Walks.{BegunMap, IsWritten};
 ghost use Rattle.archive_btree_walking.specs.Cursors.{HasRange};
-ghost use Rattle.archive_shape_references.specs.Bytes.{overwrite};
+ghost use Rattle.archive_shape.specs.Bytes.{overwrite};
 
 use crate::archives::{bytes_of, root_of};
-use archive_btree_reading::{ArchivedBTreeMap, RangeSeal};
-use archive_forms_reading::native_of;
-use archive_forms_text::ArchivedString;
+use archive_btree_maps::{ArchivedBTreeMap, RangeSeal};
+use archive_forms_values::{ArchivedString, native_of};
 use archive_shape::{ArchivedKey, ArchivedU32, Error, OwnSeal, Portable, Ref, Seal};
 use std::alloc::{AllocError, Global};
 use std::ops::{Bound, ControlFlow, RangeBounds};
 use std::test::Fail;
 
-/// A map of texts to numbers with at most five entries in a node. A leaf has seventeen words: its kind, five keys of two words,
-/// five values and its length.
+/// A map of texts to numbers with at most five entries in a node. A leaf has 17 words: its kind, five keys of two
+/// words, five values and its length.
 type Texts = ArchivedBTreeMap<ArchivedString, ArchivedU32, 5>;
 
-/// bar leads to 20, bat to 80, baz to 40 and foo to 10: a leaf, and the map, whose root is 68 bytes before it.
+/// The words of the map from bar to 20, bat to 80, baz to 40 and foo to 10: a leaf, and the map, whose root is 68 bytes
+/// before it.
 const FOUR: [u32; 19] = [
     0,
     0xff72_6162,
@@ -43,7 +43,7 @@ const FOUR: [u32; 19] = [
     4,
 ];
 
-/// The value of a key.
+/// Returns the value of a key.
 fn value_of(alloc: Global, bytes: &[u8], key: &str) -> Result<Option<u32>, Error> {
     let root = root_of::<Texts>(alloc, bytes)?;
     match ArchivedBTreeMap::get(root, &key) {
@@ -52,7 +52,7 @@ fn value_of(alloc: Global, bytes: &[u8], key: &str) -> Result<Option<u32>, Error
     }
 }
 
-/// The values of bar, bat, baz and foo.
+/// Returns the values of bar, bat, baz and foo.
 fn values_of(alloc: Global, bytes: &[u8]) -> Result<[Option<u32>; 4], Error> {
     Ok([
         value_of(alloc, bytes, "bar")?,
@@ -62,7 +62,7 @@ fn values_of(alloc: Global, bytes: &[u8]) -> Result<[Option<u32>; 4], Error> {
     ])
 }
 
-/// Adds 10 to each value in order, up to the first that becomes `last`, and answers that.
+/// Adds 10 to each value in order, up to the first that becomes `last`, and returns that.
 fn add_to_each(alloc: Global, bytes: &mut Vec<u8>, last: u32) -> Result<Option<u32>, Error> {
     let pos = root_of::<Texts>(alloc, bytes.as_slice())?.pos();
     let mut visit = |_key: Ref<'_, ArchivedString>, value: &mut OwnSeal<
@@ -83,7 +83,7 @@ fn add_to_each(alloc: Global, bytes: &mut Vec<u8>, last: u32) -> Result<Option<u
     Ok(ArchivedBTreeMap::visit_seal(map, &mut visit))
 }
 
-/// What such a visit answers, and the values that it leaves.
+/// Returns the result of such a visit, and the values that it leaves.
 fn added(
     alloc: Global,
     words: &[u32],
@@ -116,7 +116,7 @@ fn set_value(alloc: Global, bytes: &mut Vec<u8>, key: &str, number: u32) -> Resu
     Ok(())
 }
 
-/// The values once a visit added 10 to each, and then seals of foo and bat wrote theirs.
+/// Returns the values after a visit that adds 10 to each, and then writes through the seals of foo and bat.
 fn set_after_visit(alloc: Global, words: &[u32]) -> Result<[Option<u32>; 4], Error> {
     let mut bytes = bytes_of(alloc, words)?;
     add_to_each(alloc, &mut bytes, 0)?;
@@ -141,7 +141,8 @@ fn fill_at(bytes: &mut [u8], at: usize, size: usize, byte: u8)
     bytes[at..at + size].fill(byte);
 }
 
-/// Fills the own bytes of each value with a byte, and notes where it stands and how many are left behind it.
+/// Fills the own bytes of each value with a byte, and appends its position and the number of values left after it to
+/// `met`.
 fn fill_values<K: Portable, V: Portable, const E: usize>(
     map: Seal<'_, ArchivedBTreeMap<K, V, E>>,
     byte: u8,
@@ -158,7 +159,7 @@ fn fill_values<K: Portable, V: Portable, const E: usize>(
     Ok(())
 }
 
-/// What a cursor over the values meets, and what they are once each is filled with a byte.
+/// Returns what `fill_values` appends for a map, and the values after each is filled with a byte.
 fn filled(
     alloc: Global,
     words: &[u32],
@@ -186,7 +187,7 @@ fn cursors_pass_each_value_while_the_values_are_written(rt: HostRuntime) -> Resu
     Ok(())
 }
 
-/// Notes where the values of the entries between two bounds stand.
+/// Appends the positions of the values of the entries between two bounds.
 fn note_range<K: ArchivedKey<Q>, V: Portable, Q, R: RangeBounds<Q>, const E: usize>(
     map: Seal<'_, ArchivedBTreeMap<K, V, E>>,
     bounds: R,
@@ -197,7 +198,7 @@ fn note_range<K: ArchivedKey<Q>, V: Portable, Q, R: RangeBounds<Q>, const E: usi
     note_values::<K, V, E>(ArchivedBTreeMap::range_seal(map, bounds), met)
 }
 
-/// Notes where the values stand that a cursor between two bounds meets, four at most.
+/// Appends the positions of the values that a cursor between two bounds visits, four at most.
 fn note_values<K: Portable, V: Portable, const E: usize>(
     mut entries: RangeSeal<'_, K, V>,
     met: &mut Vec<usize>,
@@ -213,7 +214,7 @@ fn note_values<K: Portable, V: Portable, const E: usize>(
     Ok(())
 }
 
-/// Where the values of the keys between two bounds stand.
+/// Returns the positions of the values of the keys between two bounds.
 fn between<'q, R: RangeBounds<&'q str>>(
     alloc: Global,
     words: &[u32],
@@ -255,7 +256,7 @@ fn cursor_has_nothing_left_where_the_bounds_are_reversed(rt: HostRuntime) -> Res
     Ok(())
 }
 
-/// The values of bar, bat, baz and foo once a number is written over that of a key.
+/// Returns the values of bar, bat, baz and foo after a number is written over that of a key.
 fn set(alloc: Global, words: &[u32], key: &str, number: u32) -> Result<[Option<u32>; 4], Error> {
     let mut bytes = bytes_of(alloc, words)?;
     let pos = root_of::<Texts>(alloc, bytes.as_slice())?.pos();

@@ -1,10 +1,9 @@
 //! Tests of archived sets.
 
 use crate::archives::{bytes_of, root_of};
-use archive_btree_sets::{ArchivedBTreeSet, BTreeSetResolver, eq_btree_set};
-use archive_forms_comparing::ArchivedEq;
-use archive_forms_hashing::ArchivedHash;
-use archive_forms_reading::native_of;
+use archive_btree_maps::{ArchivedBTreeSet, BTreeSetResolver, eq_btree_set};
+use archive_forms_comparing::{ArchivedEq, ArchivedHash};
+use archive_forms_values::native_of;
 use archive_shape::{ArchivedU32, Error, Place, Ref};
 use std::alloc::Global;
 use std::collections::BTreeSet;
@@ -12,17 +11,17 @@ use std::hash::{DefaultHasher, Hasher};
 use std::ops::ControlFlow;
 use std::test::Fail;
 
-/// A set of numbers with at most five keys in a node. A leaf has seven words: its kind, five keys and its length; an inner
-/// node has six pointers in place of the length.
+/// A set of numbers with at most five keys in a node. A leaf has seven words: its kind, five keys and its length; an
+/// inner node has six pointers in place of the length.
 type Numbers = ArchivedBTreeSet<ArchivedU32, 5>;
 
-/// No keys.
+/// The words of the set without keys.
 pub(crate) const NONE: [u32; 2] = [1, 0];
 
-/// 10, 20, 40 and 80: a leaf, and the set, whose root is 28 bytes before it.
+/// The words of the set of 10, 20, 40 and 80: a leaf, and the set, whose root is 28 bytes before it.
 pub(crate) const FOUR: [u32; 9] = [0, 10, 20, 40, 80, 0, 4, 0xffff_ffe4, 4];
 
-/// 1 to 6: a leaf of the first, and an inner node of the others.
+/// The words of the set of 1 to 6: a leaf of the first key, and an inner node of the others.
 pub(crate) const SIX: [u32; 21] = [
     0,
     1,
@@ -47,7 +46,7 @@ pub(crate) const SIX: [u32; 21] = [
     6,
 ];
 
-/// The keys in order, each beside how many are left after it.
+/// Returns the keys in order, each with the number of keys left after it.
 fn walked(alloc: Global, words: &[u32]) -> Result<Vec<(Option<u32>, usize)>, Error> {
     let bytes = bytes_of(alloc, words)?;
     let root = root_of::<Numbers>(alloc, bytes.as_slice())?;
@@ -73,7 +72,7 @@ fn keys_are_walked_in_order(rt: HostRuntime) -> Result<(), Fail> {
     Ok(())
 }
 
-/// How many keys there are, and whether there are none.
+/// Returns the number of keys, and whether there are none.
 fn counted(alloc: Global, words: &[u32]) -> Result<(usize, bool), Error> {
     let bytes = bytes_of(alloc, words)?;
     let root = root_of::<Numbers>(alloc, bytes.as_slice())?;
@@ -90,7 +89,7 @@ fn len_is_the_number_of_keys(rt: HostRuntime) {
     assert_eq!(rt; counted(rt.alloc(), &SIX), Ok((6, false)));
 }
 
-/// The key that is equal to a number, and whether the set has it.
+/// Returns the key that is equal to a number, and whether the set has it.
 fn found(alloc: Global, words: &[u32], key: u32) -> Result<(Option<u32>, bool), Error> {
     let bytes = bytes_of(alloc, words)?;
     let root = root_of::<Numbers>(alloc, bytes.as_slice())?;
@@ -123,7 +122,7 @@ fn keys_are_found(rt: HostRuntime) {
     }
 }
 
-/// Where a visit breaks that ends at a key's position, and how many keys it meets.
+/// Returns where a visit breaks that ends at a key's position, and the number of keys that it visits.
 fn visited(alloc: Global, words: &[u32], last: usize) -> Result<(Option<usize>, usize), Error> {
     let bytes = bytes_of(alloc, words)?;
     let root = root_of::<Numbers>(alloc, bytes.as_slice())?;
@@ -147,7 +146,7 @@ fn visit_of_keys_ends_at_the_first_break(rt: HostRuntime) {
     assert_eq!(rt; visited(rt.alloc(), &NONE, 0), Ok((None, 0)));
 }
 
-/// Whether a set has the same keys as one of std.
+/// Checks whether a set has the same keys as one of std.
 fn equals(alloc: Global, words: &[u32], keys: &[u32]) -> Result<bool, Error> {
     let bytes = bytes_of(alloc, words)?;
     let root = root_of::<Numbers>(alloc, bytes.as_slice())?;
@@ -170,7 +169,7 @@ fn sets_of_the_same_keys_are_equal(rt: HostRuntime) {
     assert_eq!(rt; equals(rt.alloc(), &FOUR, &[10, 20, 40, 80, 81]), Ok(false));
 }
 
-/// Whether two archived sets are equal, and whether they are hashed alike.
+/// Returns whether two archived sets are equal, and whether they are hashed alike.
 fn compared(alloc: Global, words: &[u32], others: &[u32]) -> Result<(bool, bool), Error> {
     let bytes = bytes_of(alloc, words)?;
     let more = bytes_of(alloc, others)?;

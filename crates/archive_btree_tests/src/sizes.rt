@@ -3,19 +3,18 @@
 use crate::archives::root_of;
 use crate::writing::archive_of;
 use archive_btree::{ArchivedBTreeMap, ArchivedBTreeSet, OwnedBTreeMap, OwnedBTreeSet};
-use archive_forms_deserializing::Deserialize;
-use archive_forms_reading::native_of;
-use archive_forms_text::ArchivedString;
+use archive_forms::Deserialize;
+use archive_forms_values::{ArchivedString, native_of};
 use archive_shape::{ArchivedI32, ArchivedU32, Error};
 use std::alloc::Global;
 use std::collections::{BTreeMap, BTreeSet};
 
-/// Texts that lead to numbers.
+/// A map from texts to numbers.
 type Numbers = OwnedBTreeMap<String, i32, 5>;
 
 type ArchivedNumbers = ArchivedBTreeMap<ArchivedString, ArchivedI32, 5>;
 
-/// The text of a number in decimal.
+/// Returns the text of a number in decimal.
 fn decimal(alloc: Global, number: i32) -> Result<String, Error> {
     match format!(in alloc; "{number}") {
         Ok(text) => Ok(text),
@@ -23,7 +22,7 @@ fn decimal(alloc: Global, number: i32) -> Result<String, Error> {
     }
 }
 
-/// The map from the decimal texts of the numbers below one to those numbers.
+/// Returns the map from the decimal texts of the numbers below `count` to those numbers.
 fn decimals(alloc: Global, count: i32) -> Result<Numbers, Error> {
     let mut map = BTreeMap::new(alloc);
     for number in 0..count {
@@ -34,7 +33,7 @@ fn decimals(alloc: Global, count: i32) -> Result<Numbers, Error> {
     Ok(OwnedBTreeMap { map })
 }
 
-/// Whether the decimal texts of the numbers below one lead to those numbers, in the archive of that map.
+/// Checks whether the decimal texts of the numbers below `count` lead to those numbers, in the archive of that map.
 fn leads_to_all(alloc: Global, count: i32) -> Result<bool, Error> {
     let bytes = archive_of(alloc, &decimals(alloc, count)?)?;
     let root = root_of::<ArchivedNumbers>(alloc, bytes.as_slice())?;
@@ -48,7 +47,8 @@ fn leads_to_all(alloc: Global, count: i32) -> Result<bool, Error> {
     Ok(true)
 }
 
-/// How many entries the archive of that map has, how many are walked, and whether the map is read back.
+/// Returns the number of entries that the archive of that map has, the number that is walked, and whether the map is
+/// read back.
 fn archived(alloc: Global, count: i32) -> Result<(usize, usize, bool), Error> {
     let owned = decimals(alloc, count)?;
     let bytes = archive_of(alloc, &owned)?;
@@ -92,7 +92,7 @@ fn every_key_leads_to_its_value(rt: HostRuntime) {
     }
 }
 
-/// Whether the map from 0 and 1 to nothing is read back.
+/// Checks whether the map from 0 and 1 to nothing is read back.
 fn numbers_without_values(alloc: Global) -> Result<bool, Error> {
     let mut map = BTreeMap::new(alloc);
     if map.insert(0, ()).is_err() || map.insert(1, ()).is_err() {
@@ -105,7 +105,7 @@ fn numbers_without_values(alloc: Global) -> Result<bool, Error> {
     Ok(read.map == owned.map)
 }
 
-/// Whether the map from the only key without bytes to a number is read back.
+/// Checks whether the map from the only key without bytes to a number is read back.
 fn value_without_key(alloc: Global) -> Result<bool, Error> {
     let mut map = BTreeMap::new(alloc);
     if map.insert((), 10).is_err() {
@@ -118,7 +118,7 @@ fn value_without_key(alloc: Global) -> Result<bool, Error> {
     Ok(read.map == owned.map)
 }
 
-/// Whether the set of the only key without bytes is read back.
+/// Checks whether the set of the only key without bytes is read back.
 fn set_without_bytes(alloc: Global) -> Result<bool, Error> {
     let mut set = BTreeSet::new(alloc);
     if set.insert(()).is_err() {

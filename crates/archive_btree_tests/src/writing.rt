@@ -1,6 +1,6 @@
-//! Tests of maps that are written, and of entries that come in order.
+//! Tests of writing maps, and entries that come in order.
 ghost use Rattle.std.specs.Prelude.{◌-◌, ◌^◌, ◌<◌};
-ghost use Rattle.archive_forms_spelling.specs.Serializing.{HasState, SerializesBy};
+ghost use Rattle.archive_forms_values.specs.FormsLaws.Serializing.{HasState, SerializesBy};
 
 use crate::archives::{EMPTY, ONE_PAIR, SIX_PAIRS, bytes_of, root_of};
 use crate::sets::{FOUR, NONE, SIX};
@@ -10,8 +10,8 @@ use archive_btree::{
     serialize_set_from_ordered_iter,
 };
 use archive_core_serializing::Serializer;
-use archive_forms_deserializing::Deserialize;
-use archive_forms_text::ArchivedString;
+use archive_forms::Deserialize;
+use archive_forms_values::ArchivedString;
 use archive_forms_writing::{Serialize, serialize_element, serialize_using};
 use archive_shape::{Allocator, ArchivedU32, Error, Positional, Registry, Writer};
 use std::alloc::Global;
@@ -22,7 +22,7 @@ use std::test::Fail;
 /// A serializer into memory that grows.
 type Memory = Serializer<Vec<u8>, Global, ()>;
 
-/// A serializer into memory that holds nothing.
+/// Returns a serializer into memory that is empty.
 fn memory(alloc: Global) -> Memory
     ensures room { ⟦<Memory as Writer>⟧.failures result < 2 ^ 64 - 1 }
     ensures state { HasState ⟦<Memory as Positional>⟧.pos ⟦<Memory as Registry>⟧.known result }
@@ -30,14 +30,14 @@ fn memory(alloc: Global) -> Memory
     Serializer::new(Vec::new(alloc), alloc, ())
 }
 
-/// The archive of a value.
+/// Returns the archive of a value.
 pub(crate) fn archive_of<T: Serialize<Memory>>(alloc: Global, value: &T) -> Result<Vec<u8>, Error> {
     let mut serializer = memory(alloc);
     serialize_using(value, &mut serializer)?;
     Ok(serializer.into_writer())
 }
 
-/// A map of numbers.
+/// Returns a map of numbers.
 fn numbers(alloc: Global, pairs: &[(u32, u32)]) -> Result<OwnedBTreeMap<u32, u32, 5>, Error> {
     let mut map = BTreeMap::new(alloc);
     for pair in pairs {
@@ -48,7 +48,7 @@ fn numbers(alloc: Global, pairs: &[(u32, u32)]) -> Result<OwnedBTreeMap<u32, u32
     Ok(OwnedBTreeMap { map })
 }
 
-/// Whether the archive of a map of numbers has these words.
+/// Checks whether the archive of a map of numbers has these words.
 fn is_map_of(alloc: Global, pairs: &[(u32, u32)], words: &[u32]) -> Result<bool, Error> {
     let bytes = archive_of(alloc, &numbers(alloc, pairs)?)?;
     Ok(bytes == bytes_of(alloc, words)?)
@@ -63,7 +63,7 @@ fn maps_are_written_as_packed_trees(rt: HostRuntime) {
     assert_eq!(rt; is_map_of(alloc, &pairs, &SIX_PAIRS), Ok(true));
 }
 
-/// foo 10, bar 20, baz 40 and bat 80.
+/// Returns the map from foo to 10, bar to 20, baz to 40 and bat to 80.
 fn four(alloc: Global) -> Result<OwnedBTreeMap<String, u32, 5>, Error> {
     let mut map = BTreeMap::new(alloc);
     for (key, value) in [("foo", 10), ("bar", 20), ("baz", 40), ("bat", 80)] {
@@ -77,7 +77,7 @@ fn four(alloc: Global) -> Result<OwnedBTreeMap<String, u32, 5>, Error> {
     Ok(OwnedBTreeMap { map })
 }
 
-/// Whether a map of texts is read back from its archive as it was.
+/// Checks whether a map of texts is read back from its archive as it was.
 fn is_read_back(alloc: Global, owned: &OwnedBTreeMap<String, u32, 5>) -> Result<bool, Error> {
     let bytes = archive_of(alloc, owned)?;
     let root = root_of::<ArchivedBTreeMap<ArchivedString, ArchivedU32, 5>>(
@@ -96,7 +96,7 @@ fn texts_are_read_back(rt: HostRuntime) -> Result<(), Fail> {
     Ok(())
 }
 
-/// Writes the entries of a map, of which is claimed how many come.
+/// Writes the entries of a map, of which `claimed` are claimed to come.
 fn write_claimed<S: Writer + Allocator>(
     claimed: usize,
     owned: &OwnedBTreeMap<u32, u32, 5>,
@@ -108,7 +108,7 @@ fn write_claimed<S: Writer + Allocator>(
     serialize_from_ordered_iter::<S, u32, u32, _, 5>(claimed, owned.map.iter(), serializer)
 }
 
-/// What becomes of so many pairs, of which is claimed how many come.
+/// Returns the result of writing pairs, of which `claimed` are claimed to come.
 fn claiming(
     alloc: Global,
     claimed: usize,
@@ -135,7 +135,8 @@ fn wrong_claims_are_refused_with_both_numbers(rt: HostRuntime) {
     );
 }
 
-/// How many bytes the archive has of a map of so many numbers in decimal, each of which leads to three words of eight bytes.
+/// Returns the number of bytes of the archive of a map of `count` numbers in decimal, each of which leads to three
+/// words of eight bytes.
 fn size_of_decimals(alloc: Global, count: u64) -> Result<usize, Error> {
     let mut map = BTreeMap::new(alloc);
     for i in 0..count {
@@ -167,7 +168,7 @@ fn leaves_and_inner_nodes_are_as_many_as_a_packed_tree_has(rt: HostRuntime) {
     }
 }
 
-/// A set of numbers.
+/// Returns a set of numbers.
 fn set_of(alloc: Global, keys: &[u32]) -> Result<OwnedBTreeSet<u32, 5>, Error> {
     let mut set = BTreeSet::new(alloc);
     for key in keys {
@@ -178,7 +179,7 @@ fn set_of(alloc: Global, keys: &[u32]) -> Result<OwnedBTreeSet<u32, 5>, Error> {
     Ok(OwnedBTreeSet { set })
 }
 
-/// Whether the archive of a set of numbers has these words.
+/// Checks whether the archive of a set of numbers has these words.
 fn is_set_of(alloc: Global, keys: &[u32], words: &[u32]) -> Result<bool, Error> {
     let bytes = archive_of(alloc, &set_of(alloc, keys)?)?;
     Ok(bytes == bytes_of(alloc, words)?)
@@ -192,7 +193,7 @@ fn sets_are_written_without_bytes_for_values(rt: HostRuntime) {
     assert_eq!(rt; is_set_of(alloc, &[1, 2, 3, 4, 5, 6], &SIX), Ok(true));
 }
 
-/// The set that is read back of words.
+/// Returns the set that is read back of words.
 fn read_back(alloc: Global, words: &[u32]) -> Result<OwnedBTreeSet<u32, 5>, Error> {
     let bytes = bytes_of(alloc, words)?;
     let root = root_of::<ArchivedBTreeSet<ArchivedU32, 5>>(alloc, bytes.as_slice())?;
@@ -242,7 +243,7 @@ fn steps_of_keys_and_of_values_write_the_same(rt: HostRuntime) -> Result<(), Fai
     Ok(())
 }
 
-/// Writes the keys of a set, of which is claimed how many come.
+/// Writes the keys of a set, of which `claimed` are claimed to come.
 fn write_claimed_keys<S: Writer + Allocator>(
     claimed: usize,
     owned: &OwnedBTreeSet<u32, 5>,

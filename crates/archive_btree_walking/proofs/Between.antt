@@ -7,8 +7,8 @@ use Rattle.std.specs.declared.cmp.Ordering.{Ordering}
 use Rattle.std.specs.declared.cmp.Ordering.TheVariants.{Greater}
 use Rattle.std.specs.declared.ops.Bound.{Bound}
 use Rattle.std.specs.declared.ops.Bound.TheVariants.{Included, Excluded, Unbounded}
-use Rattle.archive_btree_layout.specs.Reading.{Place}
-use Rattle.archive_btree_searching.specs.Ranges.{Stays}
+use Rattle.archive_btree_nodes.specs.BtreeLayout.Reading.{Place}
+use Rattle.archive_btree_nodes.specs.Ranges.{Stays}
 use Rattle.archive_btree_walking.specs.Ranges.{is_before, is_behind, OfQuery, TellsBefore, TellsBehind, OrdersCalls, IsQueryOf}
 
 not_above : (o : Ordering) → not (is_gt o) ≡ true → o ≡ Greater → ⊥
@@ -23,7 +23,7 @@ less o passes e = let f : is_lt o ≡ false = ap is_lt e in absurd cc
 at_most : (o : Ordering) → is_le o ≡ true → o ≡ Greater → ⊥
 at_most o passes e = let f : is_le o ≡ false = ap is_le e in absurd cc
 
--- what the calls tell is what the order says
+-- what the calls return is what the order says
 module _ {F A Q : Type 0} (post : F → A → ℕ → Ordering → Type 0) (f : F) (see : A → Q) (order : Q → Place → Ordering) (places : List Place) where
   pub tells_before : (start : Bound A) → OfQuery (λ query. OrdersCalls post f query (order (see query)) places) start
       → All (λ e. (answer : Bool) → TellsBefore post f start e.key answer → answer ≡ is_before order (bound_map see start) e) places
@@ -37,14 +37,14 @@ module _ {F A Q : Type 0} (post : F → A → ℕ → Ordering → Type 0) (f : 
   tells_behind (Excluded query) h k d within answer t = t.2 ∙ ap is_le (h.0 k d within t.0 t.1)
   tells_behind Unbounded h k d within answer t = t
 
-  -- where the keys ascend, those behind one that lies not before the range do not either
+  -- where the keys ascend, those after one that does not lie before the range do not either
   pub stays_from : (start : Bound A) → OfQuery (λ query. OrdersCalls post f query (order (see query)) places) start
       → Stays (λ e. not (is_before order (bound_map see start) e)) places
   stays_from (Included query) h i j d earlier within passes = ap (λ o. not (is_gt o)) (h.1 i j d earlier within (not_above _ passes))
   stays_from (Excluded query) h i j d earlier within passes = ap (λ o. not (is_ge o)) (h.1 i j d earlier within (below _ passes))
   stays_from Unbounded h i j d earlier within passes = refl
 
-  -- and those behind one that lies behind it lie there too
+  -- and those after one that lies after the range lie after it too
   pub stays_behind : (end : Bound A) → OfQuery (λ query. OrdersCalls post f query (order (see query)) places) end
       → Stays (is_behind order (bound_map see end)) places
   stays_behind (Included query) h i j d earlier within passes = ap is_lt (h.1 i j d earlier within (less _ passes))

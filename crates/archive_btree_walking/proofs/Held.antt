@@ -1,15 +1,15 @@
 -- The keys and values of a map at their places.
 use Rattle.std.proofs.Common.{◌≡◌, ℕ, List, [], ◌∷◌, Option, Some, None, IfSome, All, sym, subst}
 use Rattle.std.proofs.lemmas.List.Elements.{All-nil, All-cons, All-contains}
-use Rattle.archive_shape_layout.specs.Shape.{Shape}
-use Rattle.archive_shape_layout.specs.Shape.Shape.{tree}
-use Rattle.archive_shape_layout.specs.Value.{Value, Values}
-use Rattle.archive_shape_layout.specs.Value.Values.{no_values, more_values}
-use Rattle.archive_shape_layout.specs.Content.{Names, members}
-use Rattle.archive_btree_layout.specs.Reading.{Place}
-use Rattle.archive_btree_layout.specs.Tree.{Tree, items}
+use Rattle.archive_shape.specs.ShapeLayout.Shape.{Shape}
+use Rattle.archive_shape.specs.ShapeLayout.Shape.Shape.{tree}
+use Rattle.archive_shape.specs.ShapeLayout.Value.{Value, Values}
+use Rattle.archive_shape.specs.ShapeLayout.Value.Values.{no_values, more_values}
+use Rattle.archive_shape.specs.ShapeLayout.Content.{Names, members}
+use Rattle.archive_btree_nodes.specs.BtreeLayout.Reading.{Place}
+use Rattle.archive_btree_nodes.specs.BtreeLayout.Tree.{Tree, items}
 use Rattle.archive_shape.specs.Key.{HeldAt}
-use Rattle.archive_forms_reading.specs.Parts.{HasValue, both}
+use Rattle.archive_forms_values.specs.Parts.{HasValue, both}
 use Rattle.archive_btree_walking.specs.Maps.{IsMapAt, IsMapOf, AreEntriesAt}
 use Rattle.archive_btree_walking.specs.Lookups.{Finds}
 use Rattle.archive_btree_walking.proofs.One.{one_map}
@@ -22,7 +22,7 @@ module _ (k v : Shape) (knows others : Names → Type 0) (bytes : List ℕ) (P :
   entries_among (p ∷ ps) no_values h = absurd h
   entries_among (p ∷ ps) (more_values w ws) h = All-cons P p ps (says p h.0.key h.0.value h.0.key_held h.0.value_held) (entries_among ps ws h.1)
 
-  -- what holds wherever a key and a value are held holds at each item of the map
+  -- what holds regardless of where a key and a value are held holds at each item of the map
   pub entries_are : (most pos : ℕ) → HasValue (tree most k v) (both knows others) bytes pos → (t : Tree Place) → IsMapAt bytes most k v pos t → All P (items t)
   entries_are most pos h t is =
       let m : IsMapOf k v knows others bytes most pos h.value = tree_of_value h in

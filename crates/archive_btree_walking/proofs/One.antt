@@ -1,9 +1,9 @@
 -- Bytes have at most one search tree at a position.
 use Rattle.std.proofs.Common.{◌≡◌, ℕ, List, subst}
-use Rattle.archive_shape_layout.specs.Shape.{Shape}
-use Rattle.archive_btree_layout.specs.Reading.{Place, HasNode}
-use Rattle.archive_btree_layout.specs.Tree.{Tree}
-use Rattle.archive_btree_layout.proofs.Unique.{one_node}
+use Rattle.archive_shape.specs.ShapeLayout.Shape.{Shape}
+use Rattle.archive_btree_nodes.specs.BtreeLayout.Reading.{Place, HasNode}
+use Rattle.archive_btree_nodes.specs.BtreeLayout.Tree.{Tree}
+use Rattle.archive_btree_nodes.proofs.BtreeLayout.Unique.{one_node}
 use Rattle.archive_btree_walking.specs.Maps.{IsMapAt}
 use Rattle.archive_btree_walking.specs.Maps.IsMapAt.{has_none, has_root}
 

@@ -1,22 +1,22 @@
 -- The search tree that a map's bytes have where the layout has the map.
 use Rattle.std.proofs.Common.{ℕ, ◌≤◌, List, [], ◌∷◌, length, refl, sym, subst, arith}
-use Rattle.archive_shape_layout.specs.Shape.{Shape}
-use Rattle.archive_shape_layout.specs.Value.{Value, Values}
-use Rattle.archive_shape_layout.specs.Value.Values.{no_values, more_values}
-use Rattle.archive_shape_layout.specs.Content.{Names, members}
-use Rattle.archive_shape_layout.proofs.Visited.{claimed_raised}
+use Rattle.archive_shape.specs.ShapeLayout.Shape.{Shape}
+use Rattle.archive_shape.specs.ShapeLayout.Value.{Value, Values}
+use Rattle.archive_shape.specs.ShapeLayout.Value.Values.{no_values, more_values}
+use Rattle.archive_shape.specs.ShapeLayout.Content.{Names, members}
+use Rattle.archive_shape.proofs.ShapeLayout.Visited.{claimed_raised}
 use Rattle.archive_shape.specs.Key.{HeldAt}
-use Rattle.archive_btree_layout.specs.Items.{IsHeld, ArePairs, IsTreeRead}
-use Rattle.archive_btree_layout.specs.Items.IsTreeRead.{reads_none, reads_tree}
-use Rattle.archive_btree_layout.specs.Reading.{Place}
-use Rattle.archive_btree_layout.specs.Tree.{items}
-use Rattle.archive_btree_layout.specs.Tree.Tree.{absent}
-use Rattle.archive_btree_layout.proofs.Mapped.{tree_is_read}
-use Rattle.archive_forms_reading.specs.Parts.{both}
+use Rattle.archive_btree_nodes.specs.BtreeLayout.Items.{IsHeld, ArePairs, IsTreeRead}
+use Rattle.archive_btree_nodes.specs.BtreeLayout.Items.IsTreeRead.{reads_none, reads_tree}
+use Rattle.archive_btree_nodes.specs.BtreeLayout.Reading.{Place}
+use Rattle.archive_btree_nodes.specs.BtreeLayout.Tree.{items}
+use Rattle.archive_btree_nodes.specs.BtreeLayout.Tree.Tree.{absent}
+use Rattle.archive_btree_nodes.proofs.BtreeLayout.Mapped.{tree_is_read}
+use Rattle.archive_forms_values.specs.Parts.{both}
 use Rattle.archive_btree_walking.specs.Maps.{IsEntryAt, AreEntriesAt, IsMapOf, MapIsRead}
 use Rattle.archive_btree_walking.specs.Maps.IsMapAt.{has_none, has_root}
 
--- what stands under names that a type knows
+-- what holds under names that a type knows
 pub held_under : {names : Names} {bytes : List ℕ} {s : Shape} {pos : ℕ} {value : Value} (knows : Names → Type 0) → knows names → IsHeld names bytes s pos value → HeldAt s knows bytes pos value
 held_under {names = names} knows known h =
     record {

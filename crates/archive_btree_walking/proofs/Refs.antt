@@ -5,14 +5,14 @@ use Rattle.std.specs.Option.{option_map, is_some}
 use Rattle.std.specs.Ordering.{ordering_reverse}
 use Rattle.std.specs.declared.cmp.Ordering.{Ordering}
 use Rattle.std.specs.declared.cmp.Ordering.TheVariants.{Less, Equal, Greater}
-use Rattle.archive_shape_references.specs.declared.refs.Ref.{Ref}
-use Rattle.archive_btree_layout.specs.Reading.{Place}
-use Rattle.archive_btree_searching.specs.Nodes.{place_of}
-use Rattle.archive_btree_searching.specs.declared.node.EntryAt.{EntryAt}
+use Rattle.archive_shape.specs.declared.references.refs.Ref.{Ref}
+use Rattle.archive_btree_nodes.specs.BtreeLayout.Reading.{Place}
+use Rattle.archive_btree_nodes.specs.SearchingNodes.{place_of}
+use Rattle.archive_btree_nodes.specs.declared.searching.node.EntryAt.{EntryAt}
 use Rattle.archive_btree_walking.specs.Refs.{ref_at}
 use Rattle.archive_btree_walking.specs.Lookups.{Finds}
 
--- a value in a buffer is told by the buffer and its position
+-- a value in a buffer is determined by the buffer and its position
 pub ref_is : {T : Type 0} (bytes : Bor (List ℕ)) (p : ℕ) (r : Ref T) → r.bytes ≡ bytes → r.pos ≡ p → r ≡ ref_at bytes p
 ref_is {T} bytes p r e f =
     let first : r ≡ ref_at bytes r.pos = ap (λ b. ref_at b {T = T} r.pos) e in
@@ -26,7 +26,7 @@ pub pair_is :
     made ≡ there
 pair_is bytes p q key value a b c d = let e = ref_is bytes p key a b in let f = ref_is bytes q value c d in cc
 
--- where a search finds an entry, what stands at the entry's place is found
+-- where a search finds an entry, what lies at the entry's place is found
 pub found_at : {B : Type 0} (f : Place → B) (o : Option EntryAt) (d : Option Place) (e : EntryAt) → option_map place_of o ≡ d → o ≡ Some e → Some (f (place_of e)) ≡ option_map f d
 found_at f o d e h is = ap (λ x. option_map f (option_map place_of x)) (sym is) ∙ ap (option_map f) h
 
@@ -67,7 +67,7 @@ pub mapped : {A B C : Type 0} (f : A → B) (h : B → C) (xs : List A) → map 
 mapped f h [] = refl
 mapped f h (x ∷ xs) = ap (λ s. h (f x) ∷ s) (mapped f h xs)
 
--- what is said of what stands at places is said of values that stand there, and the other way round
+-- what holds of what lies at places holds of values that lie there, and the other way round
 module _ {K V : Type 0} (P : Ref K → Ref V → Type 0) (bytes : Bor (List ℕ)) (p q : ℕ) (key : Ref K) (value : Ref V) (a : key.bytes ≡ bytes) (b : key.pos ≡ p) (c : value.bytes ≡ bytes) (d : value.pos ≡ q) where
   pub at_values : P (ref_at bytes p) (ref_at bytes q) → P key value
   at_values h = subst (λ k. P k value) (sym (ref_is bytes p key a b)) (subst (λ v. P (ref_at bytes p) v) (sym (ref_is bytes q value c d)) h)

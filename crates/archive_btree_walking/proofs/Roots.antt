@@ -1,17 +1,17 @@
--- What the own bytes of a map say of its search tree.
+-- What the own bytes of a map determine of its search tree.
 use Rattle.std.proofs.Common.{◌≡◌, ◌∙◌, ℕ, zero, suc, ◌+◌, ◌<◌, ◌≤◌, ◌==◌, IsTrue, ◌↔◌, List, [], ◌∷◌, length, refl, ap, sym, subst, arith, eqb-true, eq-eqb}
-use Rattle.archive_shape_layout.specs.Bytes.{word_at}
-use Rattle.archive_shape_layout.specs.Shape.{Shape}
-use Rattle.archive_shape_layout.specs.Shape.Shape.{tree}
-use Rattle.archive_shape_layout.specs.Content.{Names}
-use Rattle.archive_btree_layout.specs.Reading.{Place, HasNode, HasBranches, HasChild, places}
-use Rattle.archive_btree_layout.specs.Reading.HasNode.{has_leaf, has_inner}
-use Rattle.archive_btree_layout.specs.Reading.HasBranches.{has_greater, has_lesser}
-use Rattle.archive_btree_layout.specs.Reading.HasChild.{no_child, a_child}
-use Rattle.archive_shape_layout.specs.Content.{keys_offset, values_offset}
-use Rattle.archive_btree_layout.specs.Tree.{Tree, Branches, items, items_of}
-use Rattle.archive_btree_layout.specs.Tree.Tree.{absent}
-use Rattle.archive_forms_reading.specs.Parts.{HasValue, PointsTo, both}
+use Rattle.archive_shape.specs.ShapeLayout.Bytes.{word_at}
+use Rattle.archive_shape.specs.ShapeLayout.Shape.{Shape}
+use Rattle.archive_shape.specs.ShapeLayout.Shape.Shape.{tree}
+use Rattle.archive_shape.specs.ShapeLayout.Content.{Names}
+use Rattle.archive_btree_nodes.specs.BtreeLayout.Reading.{Place, HasNode, HasBranches, HasChild, places}
+use Rattle.archive_btree_nodes.specs.BtreeLayout.Reading.HasNode.{has_leaf, has_inner}
+use Rattle.archive_btree_nodes.specs.BtreeLayout.Reading.HasBranches.{has_greater, has_lesser}
+use Rattle.archive_btree_nodes.specs.BtreeLayout.Reading.HasChild.{no_child, a_child}
+use Rattle.archive_shape.specs.ShapeLayout.Content.{keys_offset, values_offset}
+use Rattle.archive_btree_nodes.specs.BtreeLayout.Tree.{Tree, Branches, items, items_of}
+use Rattle.archive_btree_nodes.specs.BtreeLayout.Tree.Tree.{absent}
+use Rattle.archive_forms_values.specs.Parts.{HasValue, PointsTo, both}
 use Rattle.archive_btree_walking.specs.Maps.{IsMapAt, IsMapOf}
 use Rattle.archive_btree_walking.specs.Maps.IsMapAt.{has_none, has_root}
 use Rattle.archive_btree_walking.proofs.Read.{map_is_read}

@@ -1,17 +1,17 @@
--- Entries of a map that stand side by side.
+-- Entries of a map that lie side by side.
 use denote.Ref.{Bor}
 use Rattle.std.proofs.Common.{◌≡◌, ◌∙◌, ℕ, List, [], ◌++◌, map, All, ap, sym, subst, append-nil}
 use Rattle.std.proofs.lemmas.List.{map-append}
 use Rattle.std.proofs.lemmas.List.Elements.{All-map}
-use Rattle.archive_shape_layout.specs.Shape.{Shape}
-use Rattle.archive_shape_layout.specs.Shape.Shape.{tree}
-use Rattle.archive_shape_layout.specs.Content.{Names}
-use Rattle.archive_shape_references.specs.declared.refs.Ref.{Ref}
-use Rattle.archive_btree_layout.specs.Reading.{Place}
-use Rattle.archive_btree_layout.specs.Tree.{Tree, items}
-use Rattle.archive_btree_searching.specs.Ranges.{IsRun}
-use Rattle.archive_btree_searching.proofs.Sublists.{all_front, all_back}
-use Rattle.archive_forms_reading.specs.Parts.{HasValue, both}
+use Rattle.archive_shape.specs.ShapeLayout.Shape.{Shape}
+use Rattle.archive_shape.specs.ShapeLayout.Shape.Shape.{tree}
+use Rattle.archive_shape.specs.ShapeLayout.Content.{Names}
+use Rattle.archive_shape.specs.declared.references.refs.Ref.{Ref}
+use Rattle.archive_btree_nodes.specs.BtreeLayout.Reading.{Place}
+use Rattle.archive_btree_nodes.specs.BtreeLayout.Tree.{Tree, items}
+use Rattle.archive_btree_nodes.specs.Ranges.{IsRun}
+use Rattle.archive_btree_nodes.proofs.Sublists.{all_front, all_back}
+use Rattle.archive_forms_values.specs.Parts.{HasValue, both}
 use Rattle.archive_btree_walking.specs.Maps.{IsMapAt}
 use Rattle.archive_btree_walking.specs.Refs.{entry_at, IsThere}
 use Rattle.archive_btree_walking.proofs.Held.{EntryIsThere, entries_are}
@@ -29,16 +29,16 @@ run_mapped f es whole run =
       is = ap (map f) run.is ∙ map-append f run.before (es ++ run.after) ∙ ap (λ s. map f run.before ++ s) (map-append f es run.after);
     }
 
--- what is made of elements that stand side by side stands side by side
+-- what is made of elements that lie side by side lies side by side
 pub made_run : {A B : Type 0} (f : A → B) (made : List B) (es whole : List A) → made ≡ map f es → IsRun es whole → IsRun made (map f whole)
 made_run f made es whole is run = subst (λ ys. IsRun ys (map f whole)) (sym is) (run_mapped f es whole run)
 
--- what holds of all holds of those that stand side by side
+-- what holds of all holds of those that lie side by side
 run_all : {A : Type 0} (P : A → Type 0) (es whole : List A) → IsRun es whole → All P whole → All P es
 run_all P es whole run all = all_front P es run.after (all_back P run.before (es ++ run.after) (subst (All P) run.is all))
 
 module _ (K V : Type 0) (k v : Shape) (knows others : Names → Type 0) (bytes : Bor (List ℕ)) (most pos : ℕ) (has : HasValue (tree most k v) (both knows others) bytes.now pos) (entries : List (Ref K × Ref V)) where
-  -- values stand at entries of a map that stand side by side
+  -- values lie at entries of a map that lie side by side
   pub made_there : (es : List Place) → entries ≡ map (entry_at bytes) es → ((t : Tree Place) → IsMapAt bytes.now most k v pos t → IsRun es (items t))
       → All (IsThere k v knows others) entries
   made_there es is run =

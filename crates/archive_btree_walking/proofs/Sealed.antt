@@ -1,35 +1,35 @@
--- What stays of a map whose values are written over.
+-- What remains of a map whose values are written over.
 use Rattle.std.proofs.Common.{◌≡◌, ◌∙◌, ℕ, ◌+◌, ◌≤◌, List, [], ◌∷◌, ◌++◌, length, take, Option, Some, None, IfSome, MatchOption, Contains, All, inl, inr, refl, ap, sym, subst, arith, append_assoc}
 use Rattle.std.specs.Prelude.{slice_index}
 use Rattle.std.specs.Option.{option_map}
 use Rattle.std.proofs.lemmas.Bool.{cases_lt}
 use Rattle.std.proofs.lemmas.List.{ext_get_or, places}
 use Rattle.std.proofs.lemmas.List.Elements.{All-nil, All-cons, All-head}
-use Rattle.archive_shape_layout.specs.Bytes.{word_at, target_from}
-use Rattle.archive_shape_layout.specs.Shape.{Shape, size_of}
-use Rattle.archive_shape_layout.specs.Shape.Shape.{tree}
-use Rattle.archive_shape_layout.specs.Value.{Value, Values}
-use Rattle.archive_shape_layout.specs.Value.Values.{no_values, more_values}
-use Rattle.archive_shape_layout.specs.Content.{Names, members}
-use Rattle.archive_shape_references.specs.declared.refs.Ref.{Ref}
-use Rattle.archive_shape_references.specs.declared.own_seal.OwnSeal.{OwnSeal}
-use Rattle.archive_shape_references.specs.Bytes.{overwrite}
-use Rattle.archive_shape_references.proofs.Written.{length-overwrite, byte_before}
-use Rattle.archive_btree_layout.specs.Reading.{Place, HasNode}
-use Rattle.archive_btree_layout.specs.Tree.{Tree, items}
-use Rattle.archive_btree_layout.specs.Items.{AreAt}
-use Rattle.archive_btree_layout.specs.Changing.{IsOutside, DiffersInValues, HasTree, IsNodeOf, IsKept}
-use Rattle.archive_btree_layout.proofs.Mapped.{tree_stays, nodes_stay, pairs_stay}
-use Rattle.archive_btree_searching.specs.Nodes.{place_of}
-use Rattle.archive_btree_searching.specs.declared.node.EntryAt.{EntryAt}
+use Rattle.archive_shape.specs.ShapeLayout.Bytes.{word_at, target_from}
+use Rattle.archive_shape.specs.ShapeLayout.Shape.{Shape, size_of}
+use Rattle.archive_shape.specs.ShapeLayout.Shape.Shape.{tree}
+use Rattle.archive_shape.specs.ShapeLayout.Value.{Value, Values}
+use Rattle.archive_shape.specs.ShapeLayout.Value.Values.{no_values, more_values}
+use Rattle.archive_shape.specs.ShapeLayout.Content.{Names, members}
+use Rattle.archive_shape.specs.declared.references.refs.Ref.{Ref}
+use Rattle.archive_shape.specs.declared.references.own_seal.OwnSeal.{OwnSeal}
+use Rattle.archive_shape.specs.Bytes.{overwrite}
+use Rattle.archive_shape.proofs.Written.{length-overwrite, byte_before}
+use Rattle.archive_btree_nodes.specs.BtreeLayout.Reading.{Place, HasNode}
+use Rattle.archive_btree_nodes.specs.BtreeLayout.Tree.{Tree, items}
+use Rattle.archive_btree_nodes.specs.BtreeLayout.Items.{AreAt}
+use Rattle.archive_btree_nodes.specs.BtreeLayout.Changing.{DiffersInValues, HasTree, IsNodeOf, IsKept}
+use Rattle.archive_btree_nodes.proofs.BtreeLayout.Mapped.{tree_stays, nodes_stay, pairs_stay}
+use Rattle.archive_btree_nodes.specs.SearchingNodes.{place_of}
+use Rattle.archive_btree_nodes.specs.declared.searching.node.EntryAt.{EntryAt}
 use Rattle.archive_btree_nodes.specs.declared.layout.NodeLayout.{NodeLayout}
-use Rattle.archive_btree_searching.specs.Ranges.{IsRun, before_key}
-use Rattle.archive_btree_searching.specs.Walking.{stack_items}
-use Rattle.archive_btree_searching.specs.Stepping.{HasLeft}
-use Rattle.archive_btree_searching.specs.declared.stepping.EntryWalk.{EntryWalk}
-use Rattle.archive_btree_searching.proofs.Stays.{left_stays}
-use Rattle.archive_btree_searching.proofs.Sublists.{all_back}
-use Rattle.archive_forms_reading.specs.Parts.{HasValue, both}
+use Rattle.archive_btree_nodes.specs.Ranges.{IsRun, before_key}
+use Rattle.archive_btree_nodes.specs.Walking.{stack_items}
+use Rattle.archive_btree_nodes.specs.Stepping.{HasLeft}
+use Rattle.archive_btree_nodes.specs.declared.searching.stepping.EntryWalk.{EntryWalk}
+use Rattle.archive_btree_nodes.proofs.Stays.{left_stays}
+use Rattle.archive_btree_nodes.proofs.Sublists.{all_back}
+use Rattle.archive_forms_values.specs.Parts.{HasValue, both}
 use Rattle.archive_btree_walking.specs.Maps.{IsMapAt}
 use Rattle.archive_btree_walking.specs.Maps.IsMapAt.{has_none, has_root}
 use Rattle.archive_btree_walking.specs.Lookups.{Finds}
@@ -38,6 +38,7 @@ use Rattle.archive_btree_walking.specs.Walks.{WalksIn, BegunMap, IsWritten, Goes
 use Rattle.archive_btree_walking.proofs.Read.{held_under}
 use Rattle.archive_btree_walking.proofs.Refs.{finds_some}
 use Rattle.archive_btree_walking.proofs.Held.{entries_are}
+use Rattle.archive_shape.specs.ShapeLayout.Bytes.{IsOutside}
 
 -- ---- bytes that differ in values
 
@@ -134,7 +135,7 @@ module _ {most : ℕ} {k v : Shape} {knows others : Names → Type 0} (m : Begun
         left = left_stays most k v walks.layout own.1 bytes written root m.search_tree a.tree.node (λ level pos u in_bytes. b.from level pos u (a.back level pos u in_bytes)) w es left;
       }
 
-  -- a walk that has entries left in such bytes goes on so
+  -- a walk that has entries left in such bytes continues to have them
   pub walk_goes_on : (bytes : List ℕ) → IsWritten m bytes → (w : EntryWalk) (es : List Place) → IsRun es (items m.search_tree) → WalksIn bytes most k v m.pos w es → GoesOn m w es
   walk_goes_on bytes d w es among walks = record { among = among; left = λ written f. walks_in m.map bytes written d f w es walks }
 
@@ -155,7 +156,7 @@ module _ {most : ℕ} {k v : Shape} {knows others : Names → Type 0} (m : Begun
         All-head P e (rest ++ among.after)
         (subst (λ s. All P (s ++ among.after)) is (all_back P among.before (es ++ among.after) (subst (All P) among.is all)))
 
--- ---- what calls answer
+-- ---- what calls return
 
 pub matched_some : {A : Type 0} (P : Type 0) {Q R : A → Type 0} (o : Option A) → MatchOption o P Q → ((x : A) → Q x → R x) → IfSome o R
 matched_some P None h step = tt
@@ -168,7 +169,7 @@ found_entry holds places o e h is =
     let f = finds_some (λ e. e) holds places o e (place_of e) h is refl in
     (subst (Contains places) (sym f.3) f.1, subst holds (sym f.3) f.2)
 
--- the key that is lent stands in the bytes before the value
+-- the key that is lent lies in the bytes before the value
 pub lent_there : {K V : Type 0} (k : Shape) (knows : Names → Type 0) (size : ℕ) (bytes : List ℕ) (e : Place) (key : Ref K) (value : OwnSeal V) → IsLent size bytes e key value
     → HasValue k knows (take e.value bytes) e.key → HasValue k knows key.bytes.now key.pos
 lent_there k knows size bytes e key value lent has = subst (λ b. HasValue k knows b key.pos) (sym lent.key_bytes) (subst (HasValue k knows (take e.value bytes)) (sym lent.key_pos) has)
@@ -178,7 +179,7 @@ pub map_at : {most : ℕ} {k v : Shape} {knows others : Names → Type 0} (m : B
     → IsMapAt bytes most k v pos m.search_tree
 map_at {most} {k} {v} m bytes pos e f = subst (λ b. IsMapAt b most k v pos m.search_tree) e (subst (λ p. IsMapAt m.bytes most k v p m.search_tree) f m.map)
 
--- a walk that begins so over a map's bytes goes on so
+-- a walk that begins so over a map's bytes continues so
 pub begun_goes_on : {most : ℕ} {k v : Shape} {knows others : Names → Type 0} (m : BegunMap most k v knows others) (bytes : List ℕ) (pos : ℕ) → m.bytes ≡ bytes → m.pos ≡ pos
     → (w : EntryWalk) (es : List Place) → (IsMapAt bytes most k v pos m.search_tree → WalksIn bytes most k v pos w es × IsRun es (items m.search_tree))
     → GoesOn m w es × IsWritten m bytes

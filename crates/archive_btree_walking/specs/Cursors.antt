@@ -1,15 +1,15 @@
--- What cursors have left, whatever is written over the values of the map.
+-- The entries that cursors have left, regardless of what is written over the values of the map.
 use Rattle.std.specs.Prelude.{◌≡◌, ℕ, List, length}
-use Rattle.archive_shape_layout.specs.Shape.{Shape}
-use Rattle.archive_shape_layout.specs.Content.{Names}
-use Rattle.archive_btree_layout.specs.Reading.{Place}
+use Rattle.archive_shape.specs.ShapeLayout.Shape.{Shape}
+use Rattle.archive_shape.specs.ShapeLayout.Content.{Names}
+use Rattle.archive_btree_nodes.specs.BtreeLayout.Reading.{Place}
 use Rattle.archive_btree_walking.specs.Walks.{BegunMap, GoesOn}
 use Rattle.archive_btree_walking.specs.declared.sealing.iter.IterSeal.{IterSeal}
 use Rattle.archive_btree_walking.specs.declared.sealing.iter.ValuesSeal.{ValuesSeal}
 use Rattle.archive_btree_walking.specs.declared.sealing.range.RangeSeal.{RangeSeal}
 
 module _ {most : ℕ} {k v : Shape} {knows others : Names → Type 0} (m : BegunMap most k v knows others) {K V : Type 0} where
-  -- a cursor has these entries left, and knows how many
+  -- a cursor has these entries left, and their number
   pub record HasEntries (c : IterSeal K V) (es : List Place) : Type 0 where
     pub goes : GoesOn m c.walk es
     pub count : c.left ≡ length es

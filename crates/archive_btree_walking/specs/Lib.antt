@@ -1,7 +1,8 @@
-pub mod Maps
-pub mod Refs
-pub mod Lookups
-pub mod Ranges
-pub mod Walks
-pub mod Seals
 pub mod Cursors
+pub mod Lookups
+pub mod Maps
+pub mod Ranges
+pub mod Refs
+pub mod Seals
+pub mod Walks
+pub use Rattle.archive_btree_nodes.specs.BtreeLayout as BtreeLayout

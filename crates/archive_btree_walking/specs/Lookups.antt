@@ -4,31 +4,32 @@ use Rattle.std.specs.Prelude.{◌≡◌, ℕ, List, Option, Some, IfSome, All, C
 use Rattle.std.specs.Ordering.{ordering_reverse}
 use Rattle.std.specs.declared.cmp.Ordering.{Ordering}
 use Rattle.std.specs.declared.cmp.Ordering.TheVariants.{Equal}
-use Rattle.archive_shape_layout.specs.Shape.{Shape}
-use Rattle.archive_shape_references.specs.declared.refs.Ref.{Ref}
-use Rattle.archive_btree_layout.specs.Reading.{Place}
-use Rattle.archive_btree_layout.specs.Descent.{descend}
-use Rattle.archive_btree_layout.specs.Tree.{Tree, items}
+use Rattle.archive_shape.specs.ShapeLayout.Shape.{Shape}
+use Rattle.archive_shape.specs.declared.references.refs.Ref.{Ref}
+use Rattle.archive_btree_nodes.specs.BtreeLayout.Reading.{Place}
+use Rattle.archive_btree_nodes.specs.BtreeLayout.Descent.{descend}
+use Rattle.archive_btree_nodes.specs.BtreeLayout.Tree.{Tree, items}
 use Rattle.archive_btree_walking.specs.Maps.{IsMapAt}
 use Rattle.archive_btree_walking.specs.Refs.{key_at}
 
--- this order is how the query compares with the keys at these places: the reverse of how each stands to the query
+-- this order is how the query compares with the keys at these places: the reverse of how each key compares with the
+-- query
 abbrev pub QueryOrders : {Q : Type 0} → (List ℕ → ℕ → Q → Type 0) → (Q → Q → Ordering) → List ℕ → Q → (Place → Ordering) → List Place → Type 0
 QueryOrders key_of key_order bytes query order places = All (λ e. (key : _) → key_of bytes e.key key → order e ≡ ordering_reverse (key_order key query)) places
 
--- what stands at a position compares as equal to a query
+-- what lies at a position compares as equal to a query
 abbrev pub IsSameAs : {Q : Type 0} → (List ℕ → ℕ → Q → Type 0) → (Q → Q → Ordering) → List ℕ → ℕ → Q → Type 0
 IsSameAs key_of key_order bytes pos query = (key : _) × key_of bytes pos key × (key_order key query ≡ Equal)
 
--- so does the key at a place
+-- the key at a place compares as equal to a query
 abbrev pub IsEqualKey : {Q : Type 0} → (List ℕ → ℕ → Q → Type 0) → (Q → Q → Ordering) → List ℕ → Q → Place → Type 0
 IsEqualKey key_of key_order bytes query e = IsSameAs key_of key_order bytes e.key query
 
--- a call says that the query is equal to the key at a place
+-- a call returns that the query is equal to the key at a place
 abbrev pub CallsEqual : {F Q K : Type 0} → (F → Q → Ref K → Ordering → Type 0) → F → Q → Bor (List ℕ) → Place → Type 0
 CallsEqual post f query bytes e = post f query (key_at bytes e) Equal
 
--- what is found, if anything is, is what stands at one of these places, of which this holds
+-- what is found, if anything is, is what lies at one of these places, of which this holds
 abbrev pub Finds : {A : Type 0} → (Place → A) → (Place → Type 0) → List Place → Option A → Type 0
 Finds of holds places found = IfSome found (λ a. (e : Place) × Contains places e × holds e × (a ≡ of e))
 
@@ -41,6 +42,6 @@ pub record HasKey {Q : Type 0} (key_of : List ℕ → ℕ → Q → Type 0) (key
   pub orders : QueryOrders key_of key_order bytes query order (items search_tree)
   pub found : descend order search_tree ≡ Some entry
 
--- the calls at the keys of these places answer by this order
+-- the calls at the keys of these places return what this order does
 abbrev pub CallsOrder : {F Q K : Type 0} → (F → Q → Ref K → Ordering → Type 0) → F → Q → Bor (List ℕ) → (Place → Ordering) → List Place → Type 0
 CallsOrder post f query bytes order places = All (λ e. (r : Ordering) → post f query (key_at bytes e) r → r ≡ order e) places

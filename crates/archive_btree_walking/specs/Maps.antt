@@ -1,19 +1,20 @@
 -- What the bytes of a map lead to: the search tree of its entries.
 use Rattle.std.specs.Prelude.{◌≡◌, ℕ, ◌+◌, List, [], ◌∷◌, length, Some, ⊤}
-use Rattle.archive_shape_layout.specs.Bytes.{word_at, target_from}
-use Rattle.archive_shape_layout.specs.Shape.{Shape}
-use Rattle.archive_shape_layout.specs.Shape.Shape.{tree}
-use Rattle.archive_shape_layout.specs.Value.{Value, Values}
-use Rattle.archive_shape_layout.specs.Value.Value.{group}
-use Rattle.archive_shape_layout.specs.Value.Values.{no_values, more_values}
-use Rattle.archive_shape_layout.specs.Content.{Names, members}
-use Rattle.archive_btree_layout.specs.Reading.{Place, HasNode}
-use Rattle.archive_btree_layout.specs.Tree.{Tree, items}
-use Rattle.archive_btree_layout.specs.Tree.Tree.{absent}
+use Rattle.archive_shape.specs.ShapeLayout.Bytes.{word_at, target_from}
+use Rattle.archive_shape.specs.ShapeLayout.Shape.{Shape}
+use Rattle.archive_shape.specs.ShapeLayout.Shape.Shape.{tree}
+use Rattle.archive_shape.specs.ShapeLayout.Value.{Value, Values}
+use Rattle.archive_shape.specs.ShapeLayout.Value.Value.{group}
+use Rattle.archive_shape.specs.ShapeLayout.Value.Values.{no_values, more_values}
+use Rattle.archive_shape.specs.ShapeLayout.Content.{Names, members}
+use Rattle.archive_btree_nodes.specs.BtreeLayout.Reading.{Place, HasNode}
+use Rattle.archive_btree_nodes.specs.BtreeLayout.Tree.{Tree, items}
+use Rattle.archive_btree_nodes.specs.BtreeLayout.Tree.Tree.{absent}
 use Rattle.archive_shape.specs.Key.{HeldAt}
-use Rattle.archive_forms_reading.specs.Parts.{both}
+use Rattle.archive_forms_values.specs.Parts.{both}
 
--- the map at a position has this tree: none where its length is 0, else the one that its pointer leads to, of so many items
+-- the map at a position has this tree: none where its length is 0, else the one that its pointer leads to, with as many
+-- items as the length says
 pub data IsMapAt (bytes : List ℕ) (most : ℕ) (k v : Shape) (pos : ℕ) (t : Tree Place) : Type 0 where
   has_none : word_at bytes (pos + 4) ≡ 0 → t ≡ absent → IsMapAt bytes most k v pos t
   has_root :
@@ -25,7 +26,7 @@ pub data IsMapAt (bytes : List ℕ) (most : ℕ) (k v : Shape) (pos : ℕ) (t : 
       → IsMapAt bytes most k v pos t
 
 module _ (k v : Shape) (knows others : Names → Type 0) (bytes : List ℕ) where
-  -- a pair of a key and a value stands at a place
+  -- a pair of a key and a value lies at a place
   pub record IsEntryAt (p : Place) (pair : Value) : Type 0 where
     pub key : Value
     pub value : Value
@@ -33,7 +34,7 @@ module _ (k v : Shape) (knows others : Names → Type 0) (bytes : List ℕ) wher
     pub value_held : HeldAt v others bytes p.value value
     pub is : pair ≡ group (more_values key (more_values value no_values))
 
-  -- pairs stand at places, one at each
+  -- pairs lie at places, one at each
   abbrev pub AreEntriesAt : List Place → Values → Type 0
   AreEntriesAt [] no_values = ⊤
   AreEntriesAt (p ∷ ps) (more_values w ws) = IsEntryAt p w × AreEntriesAt ps ws

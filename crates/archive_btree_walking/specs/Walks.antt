@@ -1,18 +1,18 @@
--- What a walk over a map has left, whatever is written over the map's values.
+-- The entries that a walk over a map has left, regardless of what is written over the map's values.
 use Rattle.std.specs.Prelude.{◌≡◌, ℕ, ◌+◌, List}
-use Rattle.archive_shape_layout.specs.Bytes.{word_at}
-use Rattle.archive_shape_layout.specs.Shape.{Shape}
-use Rattle.archive_shape_layout.specs.Shape.Shape.{tree}
-use Rattle.archive_shape_layout.specs.Content.{Names}
-use Rattle.archive_btree_layout.specs.Reading.{Place}
-use Rattle.archive_btree_layout.specs.Tree.{Tree, items}
-use Rattle.archive_btree_layout.specs.Changing.{DiffersInValues}
+use Rattle.archive_shape.specs.ShapeLayout.Bytes.{word_at}
+use Rattle.archive_shape.specs.ShapeLayout.Shape.{Shape}
+use Rattle.archive_shape.specs.ShapeLayout.Shape.Shape.{tree}
+use Rattle.archive_shape.specs.ShapeLayout.Content.{Names}
+use Rattle.archive_btree_nodes.specs.BtreeLayout.Reading.{Place}
+use Rattle.archive_btree_nodes.specs.BtreeLayout.Tree.{Tree, items}
+use Rattle.archive_btree_nodes.specs.BtreeLayout.Changing.{DiffersInValues}
 use Rattle.archive_btree_nodes.specs.Layout.{IsLayout}
 use Rattle.archive_btree_nodes.specs.declared.layout.NodeLayout.{NodeLayout}
-use Rattle.archive_btree_searching.specs.Ranges.{IsRun}
-use Rattle.archive_btree_searching.specs.Stepping.{HasLeft}
-use Rattle.archive_btree_searching.specs.declared.stepping.EntryWalk.{EntryWalk}
-use Rattle.archive_forms_reading.specs.Parts.{HasValue, PointsTo, both}
+use Rattle.archive_btree_nodes.specs.Ranges.{IsRun}
+use Rattle.archive_btree_nodes.specs.Stepping.{HasLeft}
+use Rattle.archive_btree_nodes.specs.declared.searching.stepping.EntryWalk.{EntryWalk}
+use Rattle.archive_forms_values.specs.Parts.{HasValue, PointsTo, both}
 use Rattle.archive_btree_walking.specs.Maps.{IsMapAt}
 
 -- in bytes that have a map at a position, a walk over its tree has these entries left
@@ -35,7 +35,8 @@ module _ {most : ℕ} {k v : Shape} {knows others : Names → Type 0} (m : Begun
   abbrev pub IsWritten : List ℕ → Type 0
   IsWritten bytes = DiffersInValues v (items m.search_tree) m.bytes bytes
 
-  -- whatever is written over the values, a walk has these entries left, which stand side by side among the map's items
+  -- regardless of what is written over the values, a walk has these entries left, which lie side by side among the
+  -- map's items
   pub record GoesOn (w : EntryWalk) (es : List Place) : Type 0 where
     pub among : IsRun es (items m.search_tree)
     pub left : (bytes : List ℕ) → IsWritten bytes → WalksIn bytes most k v m.pos w es

@@ -4,12 +4,13 @@ ghost use Rattle.std.specs.Iterator.{YieldsFirst, UpTo, item_count};
 ghost use Rattle.std.specs.Iterator.SizeHint.{IsExactHint, IsWithinCount};
 ghost use Rattle.archive_btree_walking.specs.Refs.{entry_at};
 
-use archive_btree_searching::Walk;
-use archive_shape_references::Ref;
+use archive_btree_nodes::Walk;
+use archive_shape::Ref;
 use std::iter::FusedIterator;
 use std::marker::{Model, PhantomData};
 
-/// The entries in the order of their keys. It is seen as those that are left.
+/// An iterator over the entries of a map in the order of their keys. Its model is the list of the entries that are
+/// left.
 #[derive(Drop)]
 pub struct Iter<'a, K, V> {
     bytes: &'a [u8],
@@ -19,7 +20,7 @@ pub struct Iter<'a, K, V> {
 
 impl<'a, K, V> Model for Iter<'a, K, V> {
     ghost use Rattle.std.specs.Prelude.{List, map};
-    ghost use Rattle.archive_shape_references.specs.declared.refs.Ref.{Ref};
+    ghost use Rattle.archive_shape.specs.declared.references.refs.Ref.{Ref};
 
     ghost Value = { List (Ref K × Ref V) };
 
@@ -29,7 +30,7 @@ impl<'a, K, V> Model for Iter<'a, K, V> {
 }
 
 impl<'a, K, V> Iter<'a, K, V> {
-    /// The entries that a walk over places of a buffer has left.
+    /// Returns an iterator over the entries at the places that a walk has left in `bytes`.
     pub fn new(bytes: &'a [u8], walk: Walk<'a>) -> Self
         ensures { result ≡ map (entry_at bytes.entry) walk.entry }
     {
@@ -73,7 +74,7 @@ impl<'a, K, V> ExactSizeIterator for Iter<'a, K, V> {
 
 impl<'a, K, V> FusedIterator for Iter<'a, K, V> {}
 
-/// The keys in their order. They are seen as those that are left.
+/// An iterator over the keys of a map in their order. Its model is the list of the keys that are left.
 #[derive(Drop)]
 pub struct Keys<'a, K, V> {
     entries: Iter<'a, K, V>,
@@ -81,7 +82,7 @@ pub struct Keys<'a, K, V> {
 
 impl<'a, K, V> Model for Keys<'a, K, V> {
     ghost use Rattle.std.specs.Prelude.{List, map};
-    ghost use Rattle.archive_shape_references.specs.declared.refs.Ref.{Ref};
+    ghost use Rattle.archive_shape.specs.declared.references.refs.Ref.{Ref};
 
     ghost Value = { List (Ref K) };
 
@@ -89,7 +90,7 @@ impl<'a, K, V> Model for Keys<'a, K, V> {
 }
 
 impl<'a, K, V> Keys<'a, K, V> {
-    /// The keys of entries.
+    /// Returns an iterator over the keys of entries.
     pub fn new(entries: Iter<'a, K, V>) -> Self
         ensures { result ≡ map (λ e. e.0) entries.entry }
     {
@@ -126,7 +127,7 @@ impl<'a, K, V> ExactSizeIterator for Keys<'a, K, V> {
 
 impl<'a, K, V> FusedIterator for Keys<'a, K, V> {}
 
-/// The values in the order of their keys. They are seen as those that are left.
+/// An iterator over the values of a map in the order of their keys. Its model is the list of the values that are left.
 #[derive(Drop)]
 pub struct Values<'a, K, V> {
     entries: Iter<'a, K, V>,
@@ -134,7 +135,7 @@ pub struct Values<'a, K, V> {
 
 impl<'a, K, V> Model for Values<'a, K, V> {
     ghost use Rattle.std.specs.Prelude.{List, map};
-    ghost use Rattle.archive_shape_references.specs.declared.refs.Ref.{Ref};
+    ghost use Rattle.archive_shape.specs.declared.references.refs.Ref.{Ref};
 
     ghost Value = { List (Ref V) };
 
@@ -142,7 +143,7 @@ impl<'a, K, V> Model for Values<'a, K, V> {
 }
 
 impl<'a, K, V> Values<'a, K, V> {
-    /// The values of entries.
+    /// Returns an iterator over the values of entries.
     pub fn new(entries: Iter<'a, K, V>) -> Self
         ensures { result ≡ map (λ e. e.1) entries.entry }
     {

@@ -1,4 +1,5 @@
-//! The entries of archived B-tree maps by the positions of the maps: how they are found, walked over and lent.
+//! The entries of archived B-tree maps by the positions of the maps: the search for a key, walks, and cursors that lend
+//! values.
 #![tactic(auto)]
 
 mod iter;

@@ -3,25 +3,23 @@ ghost use Rattle.std.specs.Prelude.{◌≡◌, ◌-◌, ◌^◌, ◌<◌, Some, 
 ghost use Rattle.std.specs.Option.{option_map};
 ghost use Rattle.std.specs.Ordering.{ordering_reverse};
 ghost use Rattle.std.specs.declared.cmp.Ordering.{Ordering};
-ghost use Rattle.archive_shape_layout.specs.Shape.Shape.{tree};
-ghost use Rattle.archive_btree_layout.specs.Tree.{Tree, items};
-ghost use Rattle.archive_btree_layout.specs.Descent.{descend, met};
-ghost use Rattle.archive_btree_layout.specs.Reading.{Place};
-ghost use Rattle.archive_btree_searching.specs.Nodes.{place_of};
-ghost use Rattle.archive_btree_searching.specs.Searching.{IsAmong, Orders};
-ghost use Rattle.archive_forms_reading.specs.Parts.{HasValue, both};
+ghost use Rattle.archive_shape.specs.ShapeLayout.Shape.Shape.{tree};
+ghost use Rattle.archive_btree_nodes.specs.BtreeLayout.Tree.{Tree, items};
+ghost use Rattle.archive_btree_nodes.specs.BtreeLayout.Descent.{descend, met};
+ghost use Rattle.archive_btree_nodes.specs.BtreeLayout.Reading.{Place};
+ghost use Rattle.archive_btree_nodes.specs.SearchingNodes.{place_of};
+ghost use Rattle.archive_btree_nodes.specs.Searching.{IsAmong, Orders};
+ghost use Rattle.archive_forms_values.specs.Parts.{HasValue, both};
 ghost use Rattle.archive_btree_walking.specs.Maps.{IsMapAt};
 ghost use Rattle.archive_btree_walking.specs.Lookups.{QueryOrders, IsEqualKey, Finds};
 
 use crate::root::root_at;
-use archive_btree_searching::{EntryAt, search_counted};
-use archive_shape::ArchivedKey;
-use archive_shape_portable::Portable;
-use archive_shape_references::Ref;
+use archive_btree_nodes::{EntryAt, search_counted};
+use archive_shape::{ArchivedKey, Portable, Ref};
 use std::cmp::Ordering;
 
-/// Searches the map at `pos`, and counts the keys that it compares. `compare` says how the query compares with the key at
-/// a position.
+/// Searches the map at `pos`, and returns the entry with the number of keys that were compared, which stops at
+/// `usize::MAX`. `compare` returns how the query compares with the key at a position.
 pub fn search_map<K: Portable, V: Portable, F: Fn(usize) -> Ordering, const E: usize>(
     bytes: &[u8],
     pos: usize,
@@ -39,7 +37,8 @@ pub fn search_map<K: Portable, V: Portable, F: Fn(usize) -> Ordering, const E: u
     }
 }
 
-/// Searches the map at `pos` for a key, and counts the keys that it compares.
+/// Searches the map at `pos` for a key, and returns the entry with the number of keys that were compared, which stops
+/// at `usize::MAX`.
 pub fn search_key<Q, K: ArchivedKey<Q>, V: Portable, const E: usize>(
     bytes: &[u8],
     pos: usize,

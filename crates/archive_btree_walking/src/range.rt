@@ -4,37 +4,36 @@ ghost use Rattle.std.specs.Iterator.{YieldsFirst, UpTo, item_count};
 ghost use Rattle.std.specs.Iterator.SizeHint.{IsWithinCount};
 ghost use Rattle.std.specs.Range.Bound.{bound_map};
 ghost use Rattle.std.specs.declared.cmp.Ordering.{Ordering};
-ghost use Rattle.archive_shape_layout.specs.Shape.Shape.{tree};
-ghost use Rattle.archive_btree_layout.specs.Tree.{Tree, items};
-ghost use Rattle.archive_btree_layout.specs.Reading.{Place};
-ghost use Rattle.archive_btree_searching.specs.Ranges.{IsRun};
-ghost use Rattle.archive_forms_reading.specs.Parts.{HasValue, both};
+ghost use Rattle.archive_shape.specs.ShapeLayout.Shape.Shape.{tree};
+ghost use Rattle.archive_btree_nodes.specs.BtreeLayout.Tree.{Tree, items};
+ghost use Rattle.archive_btree_nodes.specs.BtreeLayout.Reading.{Place};
+ghost use Rattle.archive_btree_nodes.specs.Ranges.{IsRun};
+ghost use Rattle.archive_forms_values.specs.Parts.{HasValue, both};
 ghost use Rattle.archive_btree_walking.specs.Maps.{IsMapAt};
 ghost use Rattle.archive_btree_walking.specs.Ranges.{OfQuery, OfQueries, TellsBefore, TellsBehind, OrdersCalls, items_between};
 ghost use Rattle.archive_btree_walking.specs.Refs.{entry_at};
 ghost use Rattle.archive_btree_walking.specs.Walks.{WalksIn};
 
 use crate::root::root_at;
-use archive_btree_nodes::NodeLayout;
-use archive_btree_searching::EntryWalk;
-use archive_shape_portable::Portable;
-use archive_shape_references::Ref;
+use archive_btree_nodes::{EntryWalk, NodeLayout};
+use archive_shape::{Portable, Ref};
 use std::cmp::Ordering;
 use std::iter::FusedIterator;
 use std::marker::{Model, PhantomData};
 use std::ops::Bound;
 
-/// The entries between two bounds in the order of their keys. It is seen as those that are left.
+/// An iterator over the entries of a map between two bounds in the order of their keys. Its model is the list of the
+/// entries that are left.
 #[derive(Drop)]
 pub struct Range<'a, K, V> {
     bytes: &'a [u8],
-    walk: archive_btree_searching::Range<'a>,
+    walk: archive_btree_nodes::Range<'a>,
     of: PhantomData<(K, V)>,
 }
 
 impl<'a, K, V> Model for Range<'a, K, V> {
     ghost use Rattle.std.specs.Prelude.{List, map};
-    ghost use Rattle.archive_shape_references.specs.declared.refs.Ref.{Ref};
+    ghost use Rattle.archive_shape.specs.declared.references.refs.Ref.{Ref};
 
     ghost Value = { List (Ref K × Ref V) };
 
@@ -44,8 +43,8 @@ impl<'a, K, V> Model for Range<'a, K, V> {
 }
 
 impl<'a, K, V> Range<'a, K, V> {
-    /// The entries that a walk over places of a buffer has left.
-    pub fn new(bytes: &'a [u8], walk: archive_btree_searching::Range<'a>) -> Self
+    /// Returns an iterator over the entries at the places that a walk has left in `bytes`.
+    pub fn new(bytes: &'a [u8], walk: archive_btree_nodes::Range<'a>) -> Self
         ensures { result ≡ map (entry_at bytes.entry) walk.entry }
     {
         Range {
@@ -56,7 +55,7 @@ impl<'a, K, V> Range<'a, K, V> {
     }
 }
 
-/// How many entries there are is not known before the end.
+/// The number of entries is not known before the end, so that `size_hint` has no upper limit.
 impl<'a, K, V> Iterator for Range<'a, K, V> {
     type Item = (Ref<'a, K>, Ref<'a, V>);
 
@@ -83,7 +82,7 @@ impl<'a, K, V> Iterator for Range<'a, K, V> {
 
 impl<'a, K, V> FusedIterator for Range<'a, K, V> {}
 
-/// Whether a key lies before a range, by how the query of the lower bound compares with it.
+/// Checks whether a key lies before a range, by how the query of the lower bound compares with it.
 fn is_before<Q, C: Fn(&Q, usize) -> Ordering>(start: Bound<&Q>, at: usize, compare: &C) -> bool
     requires { OfQuery (λ query. C.pre compare.now query at) start }
     ensures { TellsBefore C.post compare.now start.entry at result }
@@ -95,7 +94,7 @@ fn is_before<Q, C: Fn(&Q, usize) -> Ordering>(start: Bound<&Q>, at: usize, compa
     }
 }
 
-/// Whether a key lies behind a range, by how the query of the upper bound compares with it.
+/// Checks whether a key lies after a range, by how the query of the upper bound compares with it.
 fn is_behind<Q, C: Fn(&Q, usize) -> Ordering>(end: Bound<&Q>, at: usize, compare: &C) -> bool
     requires { OfQuery (λ query. C.pre compare.now query at) end }
     ensures { TellsBehind C.post compare.now end.entry at result }
@@ -107,8 +106,8 @@ fn is_behind<Q, C: Fn(&Q, usize) -> Ordering>(end: Bound<&Q>, at: usize, compare
     }
 }
 
-/// A walk over the entries between two bounds of the map at `pos` that holds no bytes. `compare` says how the query of a
-/// bound compares with the key at a position.
+/// Returns a walk, which holds no bytes, over the entries between two bounds of the map at `pos`. `compare` returns how
+/// the query of a bound compares with the key at a position.
 pub fn walk_between<K: Portable, V: Portable, Q, C: Fn(&Q, usize) -> Ordering, const E: usize>(
     bytes: &[u8],
     pos: usize,
@@ -139,15 +138,15 @@ pub fn walk_between<K: Portable, V: Portable, Q, C: Fn(&Q, usize) -> Ordering, c
     EntryWalk::between(bytes, root.pos, root.layout, &precedes, &follows)
 }
 
-/// A walk over the entries between two bounds of the map at `pos`. `compare` says how the query of a bound compares with
-/// the key at a position.
+/// Returns a walk over the entries between two bounds of the map at `pos`. `compare` returns how the query of a bound
+/// compares with the key at a position.
 pub fn range_at<'a, K: Portable, V: Portable, Q, C: Fn(&Q, usize) -> Ordering, const E: usize>(
     bytes: &'a [u8],
     pos: usize,
     start: Bound<&Q>,
     end: Bound<&Q>,
     compare: &C,
-) -> archive_btree_searching::Range<'a>
+) -> archive_btree_nodes::Range<'a>
     requires has { HasValue (tree E K.shape V.shape) (both K.knows V.knows) bytes.now pos }
     requires callable { (t : Tree Place) → IsMapAt bytes.now E K.shape V.shape pos t
         → All (λ e. OfQueries (λ query. C.pre compare.now query e.key) start end) (items t) }

@@ -1,29 +1,28 @@
-//! Where the search tree of a map begins.
+//! The root of the search tree of a map.
 ghost use Rattle.std.specs.Prelude.{◌≡◌, ◌+◌, ◌<◌, ◌≤◌, length, MatchOption};
-ghost use Rattle.archive_shape_layout.specs.Bytes.{word_at};
-ghost use Rattle.archive_shape_layout.specs.Shape.Shape.{tree};
-ghost use Rattle.archive_btree_layout.specs.Tree.{Tree, items};
-ghost use Rattle.archive_btree_layout.specs.Tree.Tree.{absent};
-ghost use Rattle.archive_btree_layout.specs.Reading.{Place};
+ghost use Rattle.archive_shape.specs.ShapeLayout.Bytes.{word_at};
+ghost use Rattle.archive_shape.specs.ShapeLayout.Shape.Shape.{tree};
+ghost use Rattle.archive_btree_nodes.specs.BtreeLayout.Tree.{Tree, items};
+ghost use Rattle.archive_btree_nodes.specs.BtreeLayout.Tree.Tree.{absent};
+ghost use Rattle.archive_btree_nodes.specs.BtreeLayout.Reading.{Place};
 ghost use Rattle.archive_btree_nodes.specs.Layout.{IsLayout};
-ghost use Rattle.archive_btree_searching.specs.Layout.{IsTreeAt};
-ghost use Rattle.archive_forms_reading.specs.Parts.{HasValue, PointsTo, both};
+ghost use Rattle.archive_btree_nodes.specs.SearchingLayout.{IsTreeAt};
+ghost use Rattle.archive_forms_values.specs.Parts.{HasValue, PointsTo, both};
 ghost use Rattle.archive_btree_walking.specs.Maps.{IsMapAt};
 ghost use Rattle.archive_btree_walking.specs.Walks.{WalksIn};
 
-use archive_btree_nodes::NodeLayout;
-use archive_btree_searching::{EntryWalk, Walk};
-use archive_forms_reading::target_of;
-use archive_shape_portable::Portable;
+use archive_btree_nodes::{EntryWalk, NodeLayout, Walk};
+use archive_forms_values::target_of;
+use archive_shape::Portable;
 
-/// The root of a search tree, and where the parts of its nodes stand.
+/// The position of the root of a search tree, and the layout of its nodes.
 #[derive(Clone, Copy)]
 pub(crate) struct Root {
     pub pos: usize,
     pub layout: NodeLayout,
 }
 
-/// How many entries the map at `pos` has, by its own bytes.
+/// Reads the number of entries of the map at `pos` from the map's own bytes.
 pub fn count_at(bytes: &[u8], pos: usize) -> usize
     requires { pos + 8 ≤ length bytes.now }
     ensures { result ≡ word_at bytes.now (pos + 4) }
@@ -33,7 +32,7 @@ pub fn count_at(bytes: &[u8], pos: usize) -> usize
     u32::from_le_bytes([bytes[at], bytes[at + 1], bytes[at + 2], bytes[at + 3]]) as usize
 }
 
-/// The root of the map at `pos`, if it has entries.
+/// Returns the root of the map at `pos`, if the map has entries.
 pub(crate) fn root_at<K: Portable, V: Portable, const E: usize>(
     bytes: &[u8],
     pos: usize,
@@ -56,7 +55,7 @@ pub(crate) fn root_at<K: Portable, V: Portable, const E: usize>(
     })
 }
 
-/// A walk over the entries of the map at `pos`.
+/// Returns a walk over the entries of the map at `pos`.
 pub fn walk_at<K: Portable, V: Portable, const E: usize>(bytes: &[u8], pos: usize) -> Walk<'_>
     requires has { HasValue (tree E K.shape V.shape) (both K.knows V.knows) bytes.now pos }
     ensures { (t : Tree Place) → IsMapAt bytes.entry.now E K.shape V.shape pos t → result ≡ items t }
@@ -67,7 +66,7 @@ pub fn walk_at<K: Portable, V: Portable, const E: usize>(bytes: &[u8], pos: usiz
     }
 }
 
-/// A walk over the entries of the map at `pos` that holds no bytes.
+/// Returns a walk, which holds no bytes, over the entries of the map at `pos`.
 pub fn entry_walk_at<K: Portable, V: Portable, const E: usize>(
     bytes: &[u8],
     pos: usize,

@@ -1,11 +1,11 @@
 -- A node's bytes, which are written part by part over zeros.
 use Rattle.std.proofs.Common.{◌≡◌, ℕ, ◌+◌, ◌-◌, ◌*◌, ◌^◌, ◌≤◌, ◌<◌, set, List, [], ◌∷◌, ◌++◌, length, refl, arith, length-append, append_assoc, ap, sym, subst, ◌∙◌, mul-le-mul_right, Some, None, Option}
 use Rattle.std.proofs.lemmas.List.{length-replicate}
-use Rattle.archive_shape_layout.specs.Shape.{Shape, size_of, align_of}
-use Rattle.archive_shape_layout.specs.Content.{keys_offset, values_offset, links_offset, link_node_size, words_of}
-use Rattle.archive_shape_layout.proofs.Framed.{le_align_up, keys_fit, values_fit, links_fit}
-use Rattle.archive_shape_references.specs.Bytes.{HasBytes, zeros, overwrite}
-use Rattle.archive_shape_references.proofs.Written.{length-overwrite, window_there}
+use Rattle.archive_shape.specs.ShapeLayout.Shape.{Shape, size_of, align_of}
+use Rattle.archive_shape.specs.ShapeLayout.Content.{keys_offset, values_offset, links_offset, link_node_size, words_of}
+use Rattle.archive_shape.proofs.ShapeLayout.Framed.{le_align_up, keys_fit, values_fit, links_fit}
+use Rattle.archive_shape.specs.Bytes.{HasBytes, zeros, overwrite}
+use Rattle.archive_shape.proofs.Written.{length-overwrite, window_there}
 use Rattle.archive_btree_spelling.specs.Written.{filled}
 use Rattle.archive_btree_nodes.specs.declared.layout.NodeLayout.{NodeLayout}
 use Rattle.archive_btree_nodes.specs.Layout.{IsNodeLayout}
@@ -13,9 +13,9 @@ use Rattle.archive_btree_writing.specs.declared.children.Children.{Children}
 use Rattle.archive_forms_writing.proofs.Joining.{still_zero, piece_behind, zeros_behind, whole_over, set_over}
 use Rattle.archive_btree_writing.specs.Nodes.{kind_of, AreChildren, words_size}
 
--- ---- where the parts stand
+-- ---- where the parts lie
 
--- a number that stops at the greatest stands for one below it
+-- a number that stops at the greatest represents one below it
 pub record Parts (most : ℕ) (k v : Shape) (words count : ℕ) (layout : NodeLayout) : Type 0 where
   pub keys : layout.keys ≡ keys_offset k
   pub values : layout.values ≡ values_offset most k v
@@ -46,7 +46,7 @@ parts most k v words count layout is few small some =
       links_end = d;
     }
 
--- what stands behind the values is as many words
+-- what comes after the values has the same number of words
 pub words_counted : (most : ℕ) (children : Option Children) → AreChildren most children → words_size children ≡ words_of (kind_of children) most * 4
 words_counted most None e = refl
 words_counted most (Some children) e = omega (arith, e)
@@ -56,7 +56,7 @@ words_counted most (Some children) e = omega (arith, e)
 pub length-filled : (n : ℕ) (bs : List ℕ) → length bs ≤ n → length (filled n bs) ≡ n
 length-filled n bs h = let z : length (zeros (n - length bs)) ≡ n - length bs = length-replicate _ _ in length-append bs (zeros (n - length bs)) ∙ omega (arith, z, h)
 
--- what is filled behind as many bytes
+-- what is filled after n bytes
 filled_behind : (n m : ℕ) (front bs : List ℕ) → length front ≡ n → n ≤ m → filled m (front ++ bs) ≡ front ++ filled (m - n) bs
 filled_behind n m front bs e h =
     let same : m - length (front ++ bs) ≡ m - n - length bs = omega (arith, length-append front bs, e, h) in
@@ -87,7 +87,7 @@ module _ (size : ℕ) (bytes : List ℕ) (blank : bytes ≡ zeros size) where
     pub filled_length : length now ≡ size
     filled_length = let n = size_is in ap length h.is ∙ length-overwrite bytes 0 done (omega (arith, h.within, n)) ∙ n
 
-    -- zeros are behind them
+    -- zeros are after them
     pub filled_zero : (from n : ℕ) → length done ≤ from → from + n ≤ size → HasBytes now from (zeros n)
     filled_zero from n a b =
         let m = size_is in

@@ -1,17 +1,18 @@
 -- A part of each entry, the key or the value, whose own bytes are written side by side.
 use Rattle.std.proofs.Common.{◌≡◌, ℕ, suc, ◌+◌, ◌-◌, ◌*◌, ◌^◌, ◌≤◌, ◌<◌, min, List, length, get_or, arith, ap, sym, subst, ◌∙◌, mul-le-mul_right}
-use Rattle.archive_shape_layout.specs.Shape.{Shape, size_of}
-use Rattle.archive_shape_references.specs.Bytes.{HasBytes, zeros, overwrite}
+use Rattle.archive_shape.specs.ShapeLayout.Shape.{Shape, size_of}
+use Rattle.archive_shape.specs.Bytes.{HasBytes, zeros, overwrite}
 use Rattle.archive_shape_writing.specs.declared.error.Error.{Error}
-use Rattle.archive_forms_spelling.specs.State.{State}
-use Rattle.archive_forms_spelling.specs.Spelling.{Spelling, state_after}
-use Rattle.archive_forms_spelling.specs.Regions.{resolvers}
-use Rattle.archive_forms_spelling.specs.Serializing.{CanResolve}
+use Rattle.archive_forms_values.specs.FormsLaws.State.{State}
+use Rattle.archive_forms_values.specs.FormsLaws.Spelling.{Spelling, state_after}
+use Rattle.archive_forms_values.specs.FormsLaws.Regions.{resolvers}
+use Rattle.archive_forms_values.specs.FormsLaws.Serializing.{CanResolve}
 use Rattle.archive_forms_writing.proofs.Loops.{length-resolvers}
 use Rattle.archive_btree_spelling.specs.Written.{slots, AllSlots, AnySlot}
 use Rattle.archive_btree_writing.proofs.Slots.{state_before, Laid, laid_none, laid_length, laid_zero, laid_next, laid_refused, laid_all, kept_at}
 
--- the value that is seen in an entry is written from a state that is reached in it, and its resolver is picked from the entry's
+-- the value that is seen in an entry is written from a state that is reached in it, and its resolver is picked from the
+-- entry's
 module _ {C A R Q : Type 0} (entry : Spelling C Q) (w : Spelling A R) (s : Shape) (see : C → A) (reached : C → State → State) (pick : Q → R)
     (picks : (x : C) (st : State) → pick (entry.resolver x st) ≡ w.resolver (see x) (reached x st))
     (sized : (x : A) (r : R) (pos : ℕ) → w.own_fits x r pos → length (w.own x r pos) ≡ size_of s) where
@@ -25,7 +26,7 @@ module _ {C A R Q : Type 0} (entry : Spelling C Q) (w : Spelling A R) (s : Shape
   part_refused e x st pos = w.own_refused (see x) (w.resolver (see x) (reached x st)) pos e
 
   module _ (xs : List C) (kept : List Q) (bytes : List ℕ) (start pos : ℕ) where
-    -- the first parts are written, whichever state the data was written from
+    -- the first parts are written, regardless of the state that the data was written from
     pub record PartsLaid (i offset : ℕ) (now : List ℕ) : Type 0 where
       pub within : i ≤ length xs
       pub counted : offset ≡ i * size_of s

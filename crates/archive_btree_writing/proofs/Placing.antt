@@ -1,21 +1,21 @@
--- A node that is written behind the data of its entries, from the next position of its alignment on.
+-- A node that is written after the data of its entries, from the next position of its alignment on.
 use Rattle.std.proofs.Common.{◌≡◌, ℕ, ◌+◌, ◌-◌, ◌^◌, ◌≤◌, ◌<◌, min, List, ◌++◌, length, refl, sym, ap, subst, ◌∙◌, arith, inl, inr, Ok, Err, ◌⊎◌}
 use Rattle.std.specs.Prelude.{Result, ⊤}
 use Rattle.std.proofs.lemmas.List.{length-replicate}
-use Rattle.archive_shape_layout.specs.Bytes.{align_up}
-use Rattle.archive_shape_layout.specs.Shape.{Shape, align_of}
-use Rattle.archive_shape_layout.specs.Content.{link_node_align}
-use Rattle.archive_shape_layout.proofs.Framed.{le_align_up}
-use Rattle.archive_shape_canonical.specs.FirstFit.{first_fit}
-use Rattle.archive_shape_references.specs.Bytes.{zeros}
+use Rattle.archive_shape.specs.ShapeLayout.Bytes.{align_up}
+use Rattle.archive_shape.specs.ShapeLayout.Shape.{Shape, align_of}
+use Rattle.archive_shape.specs.ShapeLayout.Content.{link_node_align}
+use Rattle.archive_shape.proofs.ShapeLayout.Framed.{le_align_up}
+use Rattle.archive_forms_values.specs.ShapeCanonical.FirstFit.{first_fit}
+use Rattle.archive_shape.specs.Bytes.{zeros}
 use Rattle.archive_shape_writing.specs.Writing.{WriterMembers, Writes}
 use Rattle.archive_shape_writing.specs.declared.error.Error.{Error}
 use Rattle.archive_shape_writing.specs.declared.error.Error.TheVariants.{PositionTooLarge}
-use Rattle.archive_forms_spelling.specs.State.{State, visit_of_key}
-use Rattle.archive_forms_spelling.specs.Spelling.{Spelling}
-use Rattle.archive_forms_spelling.specs.Regions.{pieces, pieces_fit, pieces_refused}
-use Rattle.archive_forms_spelling.specs.Serializing.{IsAt, Lays, LaysData, of_data, progress_by, is_begun}
-use Rattle.archive_forms_spelling.proofs.Regions.{state_after_all_begun}
+use Rattle.archive_forms_values.specs.FormsLaws.State.{State, visit_of_key}
+use Rattle.archive_forms_values.specs.FormsLaws.Spelling.{Spelling}
+use Rattle.archive_forms_values.specs.FormsLaws.Regions.{pieces, pieces_fit, pieces_refused}
+use Rattle.archive_forms_values.specs.FormsLaws.Serializing.{IsAt, Lays, LaysData, of_data, progress_by, is_begun}
+use Rattle.archive_forms_values.proofs.FormsLaws.Regions.{state_after_all_begun}
 use Rattle.archive_forms_writing.proofs.Laying.{Wrote, Fails, Stops, wrote_both, writes_lays, stopped_after, stopped_first, stopped_before, as_data, stops_as_data}
 use Rattle.archive_btree_writing.specs.Nodes.{LaysBehind}
 use Rattle.archive_btree_spelling.specs.Laying.{state_after_node}
@@ -62,7 +62,7 @@ module _ {A B R Q W : Type 0} (most : ℕ) (k v : Shape) (keys : Spelling A R) (
       (sym (f.1 ∙ ap (λ p. own_bytes most k v keys vals n st p) is)) (λ _. subst F is f.0) w
 
   module _ (old : W) where
-    -- ---- behind data that ends where the writer stands
+    -- ---- after data that ends at the writer's position
 
     abbrev start : ℕ
     start = align_up (s.pos old) (link_node_align k v)
@@ -102,7 +102,7 @@ module _ {A B R Q W : Type 0} (most : ℕ) (k v : Shape) (keys : Spelling A R) (
           let b = begins_at in
           omega (arith, wrote.moves, up, long, b)
 
-      -- the node does not stand where one may
+      -- the node does not lie where one may
       pub node_far : (size : ℕ) (e : Error) → size ≡ min (own_size most k v keys vals n) (2 ^ 64 - 1) → ((to < 2 ^ 32) × (to + size < 2 ^ 64) → ⊥) × (e ≡ PositionTooLarge) → Stops s old mid (gap ++ bytes_at start) behind_refused e
       node_far size e cut r =
           let b = begins_at in
@@ -126,7 +126,7 @@ module _ {A B R Q W : Type 0} (most : ℕ) (k v : Shape) (keys : Spelling A R) (
           let here = stands_at in
           (wrote_both s (gap ++ bytes_at start) refl gap_wrote (subst P (here ∙ b) h), (b, (omega (arith, b, low), omega (arith, b, here, room)), subst F (here ∙ b) f))
 
-    -- ---- the data of its entries, and the node behind it
+    -- ---- the data of its entries, and the node after it
 
     pub record Behind (mid : W) : Type 0 where
       pub wrote : Wrote (of_data s) old mid before

@@ -1,13 +1,13 @@
 -- Pointers side by side are slots.
 use Rattle.std.proofs.Common.{◌≡◌, ℕ, ◌+◌, ◌*◌, ◌≤◌, ◌∙◌, arith, length, length-append, append_assoc, append-nil, List, [], ◌∷◌, ◌++◌, Option, Ok, Err, refl, sym, subst, ap, inl, inr}
 use Rattle.std.specs.Prelude.{Result, MatchResult}
-use Rattle.archive_shape_references.specs.Bytes.{overwrite}
+use Rattle.archive_shape.specs.Bytes.{overwrite}
 use Rattle.archive_shape_writing.specs.declared.error.Error.{Error}
-use Rattle.archive_forms_spelling.specs.State.{State, initial}
-use Rattle.archive_forms_spelling.specs.Links.{link_bytes, LinkFits, LinkRefused}
+use Rattle.archive_forms_values.specs.FormsLaws.State.{State, initial}
+use Rattle.archive_forms_values.specs.FormsLaws.Links.{link_bytes, LinkFits, LinkRefused}
 use Rattle.archive_btree_spelling.specs.Written.{slots, AllSlots, AnySlot, links, LinksFit, LinksRefused}
-use Rattle.archive_forms_spelling.proofs.Links.{length-link}
-use Rattle.archive_forms_reading.proofs.Joined.{overwrites_joined}
+use Rattle.archive_forms_values.proofs.FormsLaws.Links.{length-link}
+use Rattle.archive_forms_values.proofs.Joined.{overwrites_joined}
 use Rattle.archive_btree_writing.proofs.Slots.{Laid}
 
 -- a pointer has no data
@@ -35,7 +35,7 @@ pub length-links : (roots : List (Option ℕ)) (pos : ℕ) → length (links roo
 length-links [] pos = refl
 length-links (to ∷ more) pos = length-append (link_bytes to pos) (links more (pos + 4)) ∙ omega (arith, length-link to pos, length-links more (pos + 4))
 
--- ---- a pointer behind others
+-- ---- a pointer after others
 
 pub links_append : (roots more : List (Option ℕ)) (pos at : ℕ) → at ≡ pos + length roots * 4 → links (roots ++ more) pos ≡ links roots pos ++ links more at
 links_append [] more pos at e = ap (links more) (omega (arith, e))
@@ -55,7 +55,7 @@ pub links_refused_behind : (roots more : List (Option ℕ)) (pos at : ℕ) (e : 
 links_refused_behind [] more pos at e is r = let F : ℕ → Type 0 = λ n. LinksRefused more n e in let here : at ≡ pos = omega (arith, is) in subst F here r
 links_refused_behind (to ∷ roots) more pos at e is r = inr (links_refused_behind roots more (pos + 4) at e (omega (arith, is)) r)
 
--- the greater pointer is written behind the lesser ones
+-- the greater pointer is written after the lesser ones
 pub greater_stored :
     (roots : List (Option ℕ)) (greater : Option ℕ) (bytes mid next : List ℕ) (start pos at : ℕ) (result : Result (Unit {0}) Error)
     → start + (length roots * 4 + 4) ≤ length bytes → at ≡ length roots * 4

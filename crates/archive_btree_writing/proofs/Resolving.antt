@@ -1,12 +1,12 @@
 -- The parts of a node, which are written one after the other over zeros.
 use Rattle.std.proofs.Common.{◌≡◌, ℕ, ◌+◌, ◌-◌, ◌*◌, ◌^◌, ◌≤◌, ◌<◌, set, List, [], ◌∷◌, ◌++◌, length, refl, arith, length-append, ap, ap₂, sym, subst, ◌∙◌, inl, inr, Some, None, Option, Ok, Err}
 use Rattle.std.specs.Prelude.{Result, MatchResult}
-use Rattle.archive_shape_layout.specs.Shape.{Shape, size_of}
-use Rattle.archive_shape_layout.specs.Content.{keys_offset, values_offset, links_offset, link_node_size, words_of}
-use Rattle.archive_shape_references.specs.Bytes.{zeros, overwrite}
+use Rattle.archive_shape.specs.ShapeLayout.Shape.{Shape, size_of}
+use Rattle.archive_shape.specs.ShapeLayout.Content.{keys_offset, values_offset, links_offset, link_node_size, words_of}
+use Rattle.archive_shape.specs.Bytes.{zeros, overwrite}
 use Rattle.archive_shape_writing.specs.declared.error.Error.{Error}
-use Rattle.archive_forms_spelling.specs.State.{State}
-use Rattle.archive_forms_spelling.specs.Spelling.{Spelling, state_after}
+use Rattle.archive_forms_values.specs.FormsLaws.State.{State}
+use Rattle.archive_forms_values.specs.FormsLaws.Spelling.{Spelling, state_after}
 use Rattle.archive_btree_spelling.specs.Written.{slots, AllSlots, AnySlot, filled, entry_spelling, key_own, value_own, own_bytes, words, slots_fit, slots_refused, LinksFit, LinksRefused}
 use Rattle.archive_btree_nodes.specs.declared.layout.NodeLayout.{NodeLayout}
 use Rattle.archive_btree_nodes.specs.Layout.{IsNodeLayout}
@@ -29,7 +29,7 @@ module _ {A B R Q : Type 0} (most : ℕ) (k v : Shape) (keys : Spelling A R) (va
   words_are None es pos = refl
   words_are (Some children) es pos = refl
 
-  -- a node is to be written over zeros, which will stand at a position
+  -- a node is to be written over zeros, which will lie at a position
   pub record Given (layout : NodeLayout) (children : Option Children) (es : List (A × B)) (pos : ℕ) (bytes : List ℕ) : Type 0 where
     pub sized_key : (x : A) (r : R) (at : ℕ) → keys.own_fits x r at → length (keys.own x r at) ≡ size_of k
     pub sized_value : (x : B) (r : Q) (at : ℕ) → vals.own_fits x r at → length (vals.own x r at) ≡ size_of v
@@ -58,7 +58,7 @@ module _ {A B R Q : Type 0} (most : ℕ) (k v : Shape) (keys : Spelling A R) (va
     abbrev value_bytes : State → ℕ → List ℕ
     value_bytes st at = slots after (size_of v) (value_own most k v keys vals) es st at
 
-    -- where its parts stand
+    -- where its parts lie
     pub standing : Parts most k v (words_of (kind_of children) most) (length es) layout
     standing =
         let stands = given.stands in

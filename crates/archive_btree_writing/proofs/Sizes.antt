@@ -6,7 +6,7 @@ uncapped : (b : Bool) (n r : ℕ) → r ≡ cond b n (2 ^ 64 - 1) → r ≤ 2147
 uncapped true n r e h = e
 uncapped false n r e h = absurd (omega (arith, e, h))
 
--- an array of so few fits, where an option of one has few bytes
+-- an array of `most` elements fits, where an option of one has few bytes
 pub few_fit : (most size tag align r : ℕ) → r ≡ capped (up align (max 1 (max (tag + size) 1))) → r ≤ 2147483647 → most < 2 ^ 32 → most * size < 9223372036854775808
 few_fit most size tag align r e h few =
     let whole = up align (max 1 (max (tag + size) 1)) in

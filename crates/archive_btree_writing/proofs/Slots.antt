@@ -1,12 +1,12 @@
 -- Values in slots side by side, which are written one after the other over zeros.
 use Rattle.std.proofs.Common.{◌≡◌, ℕ, zero, suc, ◌+◌, ◌*◌, ◌≤◌, ◌<◌, List, [], ◌∷◌, ◌++◌, length, take, get_or, arith, length-append, append_assoc, append-nil, ap, sym, refl, subst, ◌∙◌, inl, inr, mul-le-mul_right}
 use Rattle.std.proofs.lemmas.List.{length-take, take_all}
-use Rattle.archive_shape_references.specs.Bytes.{HasBytes, zeros, overwrite}
-use Rattle.archive_shape_references.proofs.Written.{length-overwrite}
-use Rattle.archive_forms_spelling.specs.State.{State}
-use Rattle.archive_forms_spelling.specs.Spelling.{Spelling, state_after}
-use Rattle.archive_forms_spelling.specs.Regions.{resolvers}
-use Rattle.archive_forms_reading.proofs.Joined.{overwrites_joined}
+use Rattle.archive_shape.specs.Bytes.{HasBytes, zeros, overwrite}
+use Rattle.archive_shape.proofs.Written.{length-overwrite}
+use Rattle.archive_forms_values.specs.FormsLaws.State.{State}
+use Rattle.archive_forms_values.specs.FormsLaws.Spelling.{Spelling, state_after}
+use Rattle.archive_forms_values.specs.FormsLaws.Regions.{resolvers}
+use Rattle.archive_forms_values.proofs.Joined.{overwrites_joined}
 use Rattle.archive_forms_writing.proofs.Joining.{still_zero, unfilled}
 use Rattle.archive_btree_spelling.specs.Written.{slots, AllSlots, AnySlot}
 

@@ -2,17 +2,17 @@
 use Rattle.std.specs.Prelude.{◌≡◌, ℕ, ◌+◌, ◌-◌, ◌*◌, List, [], ◌∷◌, ◌++◌, length, Option, Some, None, Result, ⊤, ◌⊎◌}
 use Rattle.std.specs.Int.{w32, to_le_bytes}
 use denote.Bor.{Bor}
-use Rattle.archive_shape_layout.specs.Bytes.{align_up}
-use Rattle.archive_shape_layout.specs.Shape.{Shape}
-use Rattle.archive_shape_layout.specs.Content.{link_node_align}
-use Rattle.archive_shape_references.specs.Bytes.{zeros}
+use Rattle.archive_shape.specs.ShapeLayout.Bytes.{align_up}
+use Rattle.archive_shape.specs.ShapeLayout.Shape.{Shape}
+use Rattle.archive_shape.specs.ShapeLayout.Content.{link_node_align}
+use Rattle.archive_shape.specs.Bytes.{zeros}
 use Rattle.archive_shape_writing.specs.Writing.{WriterMembers}
 use Rattle.archive_shape_writing.specs.declared.error.Error.{Error}
 use Rattle.archive_shape_writing.specs.declared.error.Error.TheVariants.{PositionTooLarge}
-use Rattle.archive_forms_spelling.specs.State.{State}
-use Rattle.archive_forms_spelling.specs.Serializing.{Lays}
-use Rattle.archive_forms_spelling.specs.Spelling.{Spelling}
-use Rattle.archive_forms_spelling.specs.Forms.{seen_as}
+use Rattle.archive_forms_values.specs.FormsLaws.State.{State}
+use Rattle.archive_forms_values.specs.FormsLaws.Serializing.{Lays}
+use Rattle.archive_forms_values.specs.FormsLaws.Spelling.{Spelling}
+use Rattle.archive_forms_values.specs.FormsLaws.Forms.{seen_as}
 use Rattle.archive_btree_writing.specs.declared.children.Children.{Children}
 use Rattle.archive_btree_spelling.specs.Written.{Linked, entry_spelling, links, IsPlaced, own_bytes, slots_fit, slots_refused}
 
@@ -33,7 +33,7 @@ inner_of roots es = record { kind = 1; roots = roots; own = es }
 
 -- ---- the node with these children, if it has any
 
--- the greater child of the last entry stands behind the lesser ones
+-- the greater child comes after the lesser ones
 abbrev pub children_of : Children → List (Option ℕ)
 children_of children = children.lesser.now ++ children.greater ∷ []
 
@@ -53,7 +53,7 @@ abbrev pub AreChildren : ℕ → Option Children → Type 0
 AreChildren most None = ⊤
 AreChildren most (Some children) = length children.lesser.now ≡ most
 
--- what stands behind the values, and how many bytes that is: the length of a leaf, or the pointers
+-- what comes after the values, and its size in bytes: the length of a leaf, or the pointers
 abbrev pub words_behind : Option Children → ℕ → ℕ → List ℕ
 words_behind None len pos = to_le_bytes w32 len
 words_behind (Some children) len pos = links (children_of children) pos
@@ -62,7 +62,7 @@ abbrev pub words_size : Option Children → ℕ
 words_size None = 4
 words_size (Some children) = length children.lesser.now * 4 + 4
 
--- behind data that ends at a position, a node begins at the next position of its alignment, with zeros before it
+-- after data that ends at a position, a node begins at the next position of its alignment, with zeros before it
 abbrev pub LaysBehind : {A B R Q W : Type 0} → ℕ → Shape → Shape → Spelling A R → Spelling B Q → WriterMembers W → Linked (A × B) → State → W → W → ℕ → Result ℕ Error → Type 0
 LaysBehind most k v keys vals members n st old new pos result =
     let start = align_up pos (link_node_align k v) in

@@ -1,20 +1,20 @@
 //! The entries of a node: their data, and their own bytes.
 ghost use Rattle.std.specs.Prelude.{◌≡◌, ℕ, ◌+◌, ◌-◌, ◌*◌, ◌^◌, ◌<◌, ◌≤◌, length, take, All, MatchResult};
 ghost use Rattle.std.specs.Map.Iter.{deref_pair};
-ghost use Rattle.archive_shape_layout.specs.Shape.{size_of};
-ghost use Rattle.archive_shape_references.specs.Bytes.{HasBytes, zeros, overwrite};
-ghost use Rattle.archive_forms_spelling.specs.State.{State};
-ghost use Rattle.archive_forms_spelling.specs.Spelling.{state_after};
-ghost use Rattle.archive_forms_spelling.specs.Serializing.{CanResolve, IsAt, HasState, LaysData, Resolves};
-ghost use Rattle.archive_forms_spelling.specs.Regions.{state_after_all, pieces, resolvers, pieces_fit, pieces_refused};
+ghost use Rattle.archive_shape.specs.ShapeLayout.Shape.{size_of};
+ghost use Rattle.archive_shape.specs.Bytes.{HasBytes, zeros, overwrite};
+ghost use Rattle.archive_forms_values.specs.FormsLaws.State.{State};
+ghost use Rattle.archive_forms_values.specs.FormsLaws.Spelling.{state_after};
+ghost use Rattle.archive_forms_values.specs.FormsLaws.Serializing.{CanResolve, IsAt, HasState, LaysData, Resolves};
+ghost use Rattle.archive_forms_values.specs.FormsLaws.Regions.{state_after_all, pieces, resolvers, pieces_fit, pieces_refused};
 ghost use Rattle.archive_btree_spelling.specs.Written.{slots, AllSlots, AnySlot, key_own, value_own};
 ghost use Rattle.archive_btree_writing.specs.Nodes.{borrowed, borrowed_entry};
 
-use crate::EntryStep;
+use archive_forms_borrowed::EntryStep;
 use archive_forms_writing::Archive;
 use archive_shape::{Allocator, Error, Place, Portable, Writer};
 
-/// Writes the data of the entries of a node, by a step. Their resolvers are the first ones of the answer.
+/// Writes the data of the entries of a node, by a step. Returns their resolvers as the first elements of the array.
 pub fn serialize_entries<
     'a,
     K: Archive,
@@ -54,8 +54,8 @@ pub fn serialize_entries<
     Ok(kept)
 }
 
-/// Writes the own bytes of a value, whose data was written, at `start` of a buffer, which is zero there and will stand at
-/// `pos`.
+/// Writes the own bytes of a value, whose data is written, at `start` of a buffer, which is zero there and will lie at
+/// position `pos` of the archive.
 fn resolve_slot<T: Archive>(
     value: &T,
     resolver: T::Resolver,
@@ -69,8 +69,8 @@ fn resolve_slot<T: Archive>(
     value.resolve(resolver, Place::within(buffer, start, pos))
 }
 
-/// Writes the own bytes of the keys of entries, whose data was written, side by side from `start` of a buffer on, which is
-/// zero there and will stand at `pos`.
+/// Writes the own bytes of the keys of entries, whose data is written, side by side from `start` of a buffer on, which
+/// is zero there and will lie at position `pos` of the archive.
 pub(crate) fn resolve_keys<'a, K: Archive, V: Archive, const E: usize>(
     entries: &[(&'a K, &'a V)],
     kept: &[(K::Resolver, V::Resolver)],
@@ -102,7 +102,7 @@ pub(crate) fn resolve_keys<'a, K: Archive, V: Archive, const E: usize>(
     Ok(())
 }
 
-/// The same of the values of entries.
+/// Writes the own bytes of the values of entries, as `resolve_keys` does of the keys.
 pub(crate) fn resolve_values<'a, K: Archive, V: Archive, const E: usize>(
     entries: &[(&'a K, &'a V)],
     kept: &[(K::Resolver, V::Resolver)],

@@ -1,21 +1,22 @@
-//! Nodes that are written with the data of their entries.
+//! Writing nodes with the data of their entries.
 ghost use Rattle.std.specs.Prelude.{◌≡◌, ℕ, ◌-◌, ◌^◌, ◌<◌, ◌≤◌, [], ◌∷◌, ◌++◌, All, length, map};
 ghost use Rattle.std.specs.Map.Iter.{deref_pair};
-ghost use Rattle.archive_forms_spelling.specs.Serializing.{HasState};
+ghost use Rattle.archive_forms_values.specs.FormsLaws.Serializing.{HasState};
 ghost use Rattle.archive_btree_spelling.specs.Laying.{LaysNode};
 ghost use Rattle.archive_btree_writing.specs.Nodes.{leaf_of, inner_of, node_of, AreChildren};
 
-use crate::EntryStep;
 use crate::children::Children;
 use crate::entries::serialize_entries;
 use crate::nodes::write_kept;
+use archive_forms_borrowed::EntryStep;
 use archive_forms_writing::Archive;
 use archive_shape::{Allocator, Error, Writer};
 
-/// How many bytes an option of the resolvers of an entry has at most, so that those of a node are fewer than 2^63.
+/// The greatest size in bytes of an option of the resolvers of an entry, so that those of a node have fewer than 2^63
+/// bytes. A greater size is `OutOfMemory`.
 const LARGEST: usize = i32::MAX as usize;
 
-/// Writes a node behind the data of its entries. An inner node has children. The answer is its position.
+/// Writes a node after the data of its entries, and returns its position. An inner node has children.
 fn write_node_each<
     'a,
     K: Archive,
@@ -48,7 +49,7 @@ fn write_node_each<
     }
 }
 
-/// Writes a leaf behind the data of its entries, which a step writes. The answer is its position.
+/// Writes a leaf after the data of its entries, which a step writes, and returns its position.
 pub fn write_leaf_each<
     'a,
     K: Archive,
@@ -68,8 +69,8 @@ pub fn write_leaf_each<
     write_node_each::<K, V, S, C, E>(entries, None, serializer, step)
 }
 
-/// Writes an inner node behind the data of its entries, as a leaf is written. `lesser` has for each entry the position of
-/// the node before it, and `greater` is that of the node behind the last entry. The answer is its position.
+/// Writes an inner node after the data of its entries, which a step writes, and returns its position. `lesser` has for
+/// each entry the position of the node before it, and `greater` is that of the node after the last entry.
 pub fn write_inner_each<
     'a,
     K: Archive,

@@ -1,14 +1,15 @@
-//! Nodes that are written behind the data of their entries.
+//! Writing nodes after the data of their entries.
 ghost use Rattle.std.specs.Prelude.{◌≡◌, ℕ, ◌+◌, ◌-◌, ◌^◌, ◌<◌, ◌≤◌, length, take, IfOk, MatchResult};
-ghost use Rattle.archive_shape_layout.specs.Content.{words_of, link_node_size};
-ghost use Rattle.archive_shape_references.specs.Bytes.{zeros};
+ghost use Rattle.archive_shape.specs.ShapeLayout.Content.{words_of, link_node_size};
+ghost use Rattle.archive_shape.specs.Bytes.{zeros};
 ghost use Rattle.archive_shape_writing.specs.declared.error.Error.TheVariants.{PositionTooLarge};
-ghost use Rattle.archive_forms_spelling.specs.State.{State};
-ghost use Rattle.archive_forms_spelling.specs.Serializing.{Lays};
-ghost use Rattle.archive_forms_spelling.specs.Regions.{resolvers};
+ghost use Rattle.archive_forms_values.specs.FormsLaws.State.{State};
+ghost use Rattle.archive_forms_values.specs.FormsLaws.Serializing.{Lays};
+ghost use Rattle.archive_forms_values.specs.FormsLaws.Regions.{resolvers};
 ghost use Rattle.archive_btree_spelling.specs.Written.{own_size, own_bytes, slots_fit, slots_refused};
-ghost use Rattle.archive_btree_nodes.specs.Layout.{as_usize, IsNodeLayout};
+ghost use Rattle.archive_btree_nodes.specs.Layout.{IsNodeLayout};
 ghost use Rattle.archive_btree_writing.specs.Nodes.{borrowed, borrowed_entry, kind_of, node_of, AreChildren, LaysBehind};
+ghost use Rattle.archive_forms_values.specs.Claims.{as_usize};
 
 use crate::children::Children;
 use crate::entries::{resolve_keys, resolve_values};
@@ -17,13 +18,13 @@ use archive_btree_nodes::NodeLayout;
 use archive_forms_writing::{Archive, align};
 use archive_shape::{Allocator, Error, Portable, Writer};
 
-/// The last position that a node may begin at.
+/// The greatest position that a node may begin at.
 const LAST_POSITION: usize = u32::MAX as usize;
 
-/// How many bytes a node has at most for which no memory is taken.
+/// The greatest size in bytes of a node that is written without an allocation.
 const BUFFER: usize = 256;
 
-/// The first byte of a node: 0 of a leaf, and 1 of an inner node.
+/// Returns the first byte of a node: 0 for a leaf, and 1 for an inner node.
 fn kind(children: Option<Children<'_>>) -> u8
     ensures { result ≡ kind_of children.entry }
 {
@@ -33,7 +34,7 @@ fn kind(children: Option<Children<'_>>) -> u8
     }
 }
 
-/// How many bytes a node has. The number stops at `usize::MAX`.
+/// Returns the size of a node in bytes. The number stops at `usize::MAX`.
 fn node_size<K: Portable, V: Portable, const E: usize>(
     layout: &NodeLayout,
     children: Option<Children<'_>>,
@@ -47,7 +48,8 @@ fn node_size<K: Portable, V: Portable, const E: usize>(
     }
 }
 
-/// Refuses a node of so many bytes at a position past the last one, or that ends past `usize::MAX`.
+/// Returns `PositionTooLarge` for a node of `size` bytes at a position after the last one, or that ends after
+/// `usize::MAX`.
 fn check_place(pos: usize, size: usize) -> Result<(), Error>
     ensures { MatchResult result
         (λ _. (pos < 2 ^ 32) × (pos + size < 2 ^ 64))
@@ -62,7 +64,7 @@ fn check_place(pos: usize, size: usize) -> Result<(), Error>
     }
 }
 
-/// Makes zeros, which will stand at `pos`, the node of entries, whose data was written.
+/// Writes the node of entries, whose data is written, over zeros, which will lie at `pos`.
 fn resolve_node<'a, K: Archive, V: Archive, const E: usize>(
     entries: &[(&'a K, &'a V)],
     kept: &[(K::Resolver, V::Resolver)],
@@ -98,7 +100,7 @@ fn resolve_node<'a, K: Archive, V: Archive, const E: usize>(
     )
 }
 
-/// Writes the node of entries, whose data was written, by way of zeros of its size.
+/// Writes the node of entries, whose data is written, through a buffer of zeros of its size.
 fn write_through<'a, K: Archive, V: Archive, W: Writer, const E: usize>(
     entries: &[(&'a K, &'a V)],
     kept: &[(K::Resolver, V::Resolver)],
@@ -126,7 +128,7 @@ fn write_through<'a, K: Archive, V: Archive, W: Writer, const E: usize>(
     writer.write(buffer)
 }
 
-/// Writes the node of entries, whose data was written.
+/// Writes the node of entries, whose data is written. The buffer of a node of more than 256 bytes is allocated.
 fn write_own<'a, K: Archive, V: Archive, S: Writer + Allocator, const E: usize>(
     entries: &[(&'a K, &'a V)],
     kept: &[(K::Resolver, V::Resolver)],
@@ -174,7 +176,7 @@ fn write_own<'a, K: Archive, V: Archive, S: Writer + Allocator, const E: usize>(
     }
 }
 
-/// Writes the node of entries, whose data was written, from the next position of its alignment on. The answer is its
+/// Writes the node of entries, whose data is written, from the next position of its alignment on, and returns its
 /// position.
 fn write_behind<'a, K: Archive, V: Archive, S: Writer + Allocator, const E: usize>(
     entries: &[(&'a K, &'a V)],
@@ -198,7 +200,8 @@ fn write_behind<'a, K: Archive, V: Archive, S: Writer + Allocator, const E: usiz
     Ok(to)
 }
 
-/// The same of resolvers, the first of which are those of the entries.
+/// Writes a node as `write_behind` does, where `kept` is an array of resolvers, the first of which are those of the
+/// entries.
 pub fn write_kept<'a, K: Archive, V: Archive, S: Writer + Allocator, const E: usize>(
     entries: &[(&'a K, &'a V)],
     kept: [(K::Resolver, V::Resolver); E],

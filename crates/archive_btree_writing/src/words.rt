@@ -1,19 +1,19 @@
-//! What stands behind the values of a node: the length of a leaf, or the pointers of an inner node.
+//! The words after the values of a node: the length of a leaf, or the pointers of an inner node.
 ghost use Rattle.std.specs.Prelude.{◌≡◌, ◌+◌, ◌*◌, ◌^◌, ◌<◌, ◌≤◌, length, MatchResult};
-ghost use Rattle.archive_shape_references.specs.Bytes.{HasBytes, zeros, overwrite};
+ghost use Rattle.archive_shape.specs.Bytes.{HasBytes, zeros, overwrite};
 ghost use Rattle.std.specs.Int.{w32, to_le_bytes};
 ghost use Rattle.archive_btree_writing.specs.Nodes.{children_of, roots_of, words_behind, words_size};
-ghost use Rattle.archive_forms_spelling.specs.Links.{link_bytes, LinkFits, LinkRefused};
+ghost use Rattle.archive_forms_values.specs.FormsLaws.Links.{link_bytes, LinkFits, LinkRefused};
 ghost use Rattle.archive_btree_spelling.specs.Written.{links, LinksFit, LinksRefused};
 
 use crate::children::Children;
-use archive_forms_links::emplace_link;
+use archive_forms_values::emplace_link;
 use archive_shape::{Error, Place};
 
-/// How many bytes a pointer has.
+/// The size of a pointer in bytes.
 const LINK: usize = 4;
 
-/// Writes a pointer at `start` of a buffer, which will stand at `pos`.
+/// Writes a pointer at `start` of a buffer, which will lie at position `pos` of the archive.
 fn store_link(to: Option<usize>, start: usize, pos: usize, buffer: &mut [u8]) -> Result<(), Error>
     requires room { start + 4 ≤ length buffer.old }
     ensures { MatchResult result
@@ -23,7 +23,8 @@ fn store_link(to: Option<usize>, start: usize, pos: usize, buffer: &mut [u8]) ->
     emplace_link(to, Place::within(buffer, start, pos))
 }
 
-/// Writes pointers side by side from `start` of a buffer on, which will stand at `pos` and is zero there.
+/// Writes pointers side by side from `start` of a buffer on, which will lie at position `pos` of the archive and is
+/// zero there.
 fn store_links(
     children: &[Option<usize>],
     start: usize,
@@ -46,7 +47,7 @@ fn store_links(
     Ok(())
 }
 
-/// Writes the pointers of an inner node, the greater one behind the lesser ones, as `store_links` does.
+/// Writes the pointers of an inner node, the greater one after the lesser ones, as `store_links` does.
 fn store_children(
     children: Children<'_>,
     start: usize,
@@ -75,8 +76,8 @@ fn store_length(len: u32, start: usize, buffer: &mut [u8])
     buffer[start..end].copy_from_slice(&len.to_le_bytes());
 }
 
-/// Writes the length of a leaf, or the pointers of an inner node, at `start` of a buffer, which will stand at `pos` and is
-/// zero there.
+/// Writes the length of a leaf, or the pointers of an inner node, at `start` of a buffer, which will lie at position
+/// `pos` of the archive and is zero there.
 pub(crate) fn store_words(
     len: u32,
     children: Option<Children<'_>>,

@@ -1,4 +1,4 @@
--- Shared values that were written under different keys stand at different positions.
+-- Shared values that were written under different keys have different positions.
 use Rattle.std.proofs.Common.{◌≡◌, ◌≢◌, ℕ, ◌<◌, ◌==◌, Bool, true, false, cond, ◌⊎◌, inl, inr, List, [], ◌∷◌, Some, refl, sym, ap, subst, ◌∙◌, arith}
 use Rattle.std.proofs.lemmas.Bool.Decides.{eqb_tells}
 use Rattle.archive_shape_layout.specs.Shape.{Shape}
@@ -6,12 +6,12 @@ use Rattle.archive_shape_layout.specs.Content.{Names}
 use Rattle.archive_shape_layout.specs.Holds.{Visit}
 use Rattle.archive_shape_canonical.specs.Settled.{Fit}
 use Rattle.archive_shape_canonical.specs.FirstFit.{first_fit}
-use Rattle.archive_forms_spelling.specs.State.{Met, AllBefore, AreDescending, visit_of_key}
-use Rattle.archive_forms_spelling.specs.Spelling.{Spelling}
-use Rattle.archive_forms_spelling.specs.Spells.{Spells}
+use Rattle.archive_forms_values.specs.FormsLaws.State.{Met, AllBefore, AreDescending, visit_of_key}
+use Rattle.archive_forms_values.specs.FormsLaws.Spelling.{Spelling}
+use Rattle.archive_forms_values.specs.FormsLaws.Spells.{Spells}
 use Rattle.archive_core.specs.Laws.{KeysStandApart}
 
--- what a key stands for is the first of the values, or is found among the others
+-- the value of a key is the first of the values, or is found among the others
 data Found (m : Met) (ms : List Met) (k : ℕ) (a : Visit) : Type 0 where
   here : m.key ≡ k → m.visit ≡ a → Found m ms k a
   later : visit_of_key ms k ≡ Some a → Found m ms k a
@@ -30,7 +30,7 @@ either : {P : Type 0} {m : Met} {ms : List Met} {k : ℕ} {a : Visit} → Found 
 either (here e f) h l = h e f
 either (later e) h l = l e
 
--- it stands before what all of them stand before
+-- it is before what all of them are before
 found_before : (n k : ℕ) (ms : List Met) (a : Visit) → AllBefore n ms → visit_of_key ms k ≡ Some a → a.pos < n
 found_before n k [] a all e = absurd (cc)
 found_before n k (m ∷ ms) a all e =

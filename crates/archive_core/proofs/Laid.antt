@@ -6,9 +6,9 @@ use Rattle.archive_shape_writing.specs.Progress.{Progress}
 use Rattle.archive_shape_writing.specs.Progress.Progress.{unmet}
 use Rattle.archive_shape_writing.specs.Writing.{WriterMembers, Written, Failed}
 use Rattle.archive_shape_writing.specs.declared.error.Error.{Error}
-use Rattle.archive_forms_spelling.specs.Spelling.{Spelling}
-use Rattle.archive_forms_spelling.specs.Pointers.{box_spelling}
-use Rattle.archive_forms_spelling.specs.Serializing.{Stopped, IsAt, Serializes}
+use Rattle.archive_forms_values.specs.FormsLaws.Spelling.{Spelling}
+use Rattle.archive_forms_values.specs.FormsLaws.Pointers.{box_spelling}
+use Rattle.archive_forms_values.specs.FormsLaws.Serializing.{Stopped, IsAt, Serializes}
 use Rattle.archive_core.specs.Written.{from_position, root_piece, root_fits, root_refused}
 
 module _ {S W : Type 0} (out : S → W) (m : WriterMembers W) (known : S → ℕ → Progress ℕ) where
@@ -16,7 +16,7 @@ module _ {S W : Type 0} (out : S → W) (m : WriterMembers W) (known : S → ℕ
   abbrev pub over : WriterMembers S
   over = record { known = known; pos = λ s. m.pos (out s); OBSERVABLE = m.OBSERVABLE; COUNTS = m.COUNTS; contents = λ s. m.contents (out s); failures = λ s. m.failures (out s); last_error = λ s. m.last_error (out s) }
 
--- a serializer that shares nothing stands where its writer does
+-- a serializer that shares nothing is at the position of its writer
 pub stands_at : {S : Type 0} (pos : S → ℕ) (known : S → ℕ → Progress ℕ) (serializer : S) → ((key : ℕ) → known serializer key ≡ unmet) → IsAt pos known serializer (from_position (pos serializer))
 stands_at pos known serializer none = record { stands = refl; knows = λ key. none key }
 

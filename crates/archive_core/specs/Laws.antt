@@ -5,11 +5,11 @@ use Rattle.archive_shape_layout.specs.Value.{Value}
 use Rattle.archive_shape_layout.specs.Content.{Names}
 use Rattle.archive_shape_layout.specs.Holds.{Visit, root_position}
 use Rattle.archive_shape_canonical.specs.Settled.{Fit}
-use Rattle.archive_forms_spelling.specs.State.{State, Keys, AreOneToOne, IsConsistent, visit_of_key}
-use Rattle.archive_forms_spelling.specs.Spelling.{Spelling}
-use Rattle.archive_forms_deserializing.specs.Deserializing.{IsReadAt}
+use Rattle.archive_forms_values.specs.FormsLaws.State.{State, Keys, AreOneToOne, IsConsistent, visit_of_key}
+use Rattle.archive_forms_values.specs.FormsLaws.Spelling.{Spelling}
+use Rattle.archive_forms.specs.Deserializing.{IsReadAt}
 use Rattle.archive_core_validation.specs.Depth.{unlimited}
-use Rattle.archive_core_access.specs.Access.{IsAccepted}
+use Rattle.archive_core_validation.specs.Access.{IsAccepted}
 use Rattle.archive_core.specs.Written.{MadeArchive}
 
 module _ {A R : Type 0} (s : Shape) (knows : Names → Type 0) (w : Spelling A R) where
@@ -24,7 +24,8 @@ module _ {A R : Type 0} (s : Shape) (knows : Names → Type 0) (w : Spelling A R
       → MadeArchive s knows w x bytes
       → IsAccepted names bytes s (root_position (length bytes) s) unlimited
 
-  -- what is read back at its root is what the value itself is read back as, wherever shared values stand in it
+  -- what is read back at its root is what the value itself is read back as, regardless of the positions of shared
+  -- values in it
   abbrev pub ReadBackIsWritten : (Value → A → Type 0) → Type 0
   ReadBackIsWritten reads =
       (x y : A) (bytes : List ℕ) (fit : Fit) (names : Names) (keys : Keys)
@@ -35,7 +36,7 @@ module _ {A R : Type 0} (s : Shape) (knows : Names → Type 0) (w : Spelling A R
       → IsReadAt reads s knows bytes (root_position (length bytes) s) y
       → reads (w.plain x) y
 
-  -- two shared values that were written under different keys, when a value's data was or before, stand at different positions
+  -- two shared values that were written under different keys, with a value's data or before, have different positions
   abbrev pub KeysStandApart : Type 0
   KeysStandApart =
       (x : A) (st : State) (k l : ℕ) (a b : Visit)

@@ -10,10 +10,10 @@ use Rattle.archive_shape_writing.specs.Writing.{WriterMembers, Written, Failed}
 use Rattle.archive_shape_writing.specs.Progress.Progress.{unmet}
 use Rattle.archive_shape_writing.specs.declared.error.Error.{Error}
 use Rattle.archive_shape_writing.specs.declared.error.Error.TheVariants.{OutOfMemory}
-use Rattle.archive_forms_spelling.specs.State.{State, Keys, AreOneToOne}
-use Rattle.archive_forms_spelling.specs.Spelling.{Spelling}
-use Rattle.archive_forms_spelling.specs.Regions.{region_piece, region_fits, region_refused}
-use Rattle.archive_forms_spelling.specs.Serializing.{Stopped}
+use Rattle.archive_forms_values.specs.FormsLaws.State.{State, Keys, AreOneToOne}
+use Rattle.archive_forms_values.specs.FormsLaws.Spelling.{Spelling}
+use Rattle.archive_forms_values.specs.FormsLaws.Regions.{region_piece, region_fits, region_refused}
+use Rattle.archive_forms_values.specs.FormsLaws.Serializing.{Stopped}
 
 -- the next byte has this position, and no shared value was written
 abbrev pub from_position : ℕ → State
@@ -26,11 +26,11 @@ pub record IsWrittenFrom {A R : Type 0} (start : ℕ) (s : Shape) (w : Spelling 
   pub canonical : CanonicalArchive fit names bytes start (root_position (length bytes) s) s (w.value x (from_position start)) regions visits
   pub plain : erased (w.value x (from_position start)) ≡ w.plain x
 
--- the data of a value and behind it its own bytes, where the next byte has a position
+-- the data of a value and then its own bytes, where the next byte has a position
 abbrev pub root_piece : {A R : Type 0} → Shape → Spelling A R → A → ℕ → List ℕ
 root_piece s w x n = region_piece w s (x ∷ []) (from_position n)
 
--- they pass no limit; they pass one, and are refused by this error
+-- they are within all limits; they exceed one, and are refused with this error
 abbrev pub root_fits : {A R : Type 0} → Shape → Spelling A R → A → ℕ → Type 0
 root_fits s w x n = region_fits w s (x ∷ []) (from_position n)
 
@@ -38,7 +38,8 @@ abbrev pub root_refused : {A R : Type 0} → Shape → Spelling A R → A → �
 root_refused s w x n e = region_refused w s (x ∷ []) (from_position n) e
 
 module _ {A R W : Type 0} (s : Shape) (w : Spelling A R) (m : WriterMembers W) (x : A) (old : W) where
-  -- what a call that archives a value in a writer promises; a refusal drops the writer, which then held a part of the piece
+  -- the contract of a call that archives a value in a writer; an error drops the writer, which then held a part of the
+  -- piece
   abbrev pub ArchivesIn : Result W Error → Type 0
   ArchivesIn result =
       let piece = root_piece s w x (m.pos old) in
@@ -61,8 +62,8 @@ module _ {A R W : Type 0} (s : Shape) (w : Spelling A R) (m : WriterMembers W) (
       → IsWrittenFrom (m.pos old) s w x fit names (m.contents new)
 
 module _ {A R : Type 0} (s : Shape) where
-  -- what a call that archives a value in memory promises: the bytes are those of a root at the start of an archive; else
-  -- memory was refused, or a limit is passed
+  -- the contract of a call that archives a value in memory: the bytes are those of a root at the start of an archive;
+  -- otherwise an allocation failed, or a limit is exceeded
   abbrev pub MakesBytes : {Q : Type 0} → Spelling A R → A → (Q → List ℕ) → Result Q Error → Type 0
   MakesBytes w x bytes_of result =
       MatchResult result (λ q. (bytes_of q ≡ root_piece s w x 0) × root_fits s w x 0) (λ e. (e ≡ OutOfMemory) ⊎ root_refused s w x 0 e)

@@ -1,15 +1,14 @@
-//! Values as whole archives.
+//! The writing of values as whole archives.
 ghost use Rattle.std.specs.Prelude.{◌≡◌, ℕ, ◌-◌, ◌^◌, ◌<◌, IfOk};
 ghost use Rattle.archive_core.specs.Written.{ArchivesIn, HoldsArchive, MakesBytes, MadeArchive};
 
-use archive_core_serializing::{HighSerializer, Serializer};
-use archive_core_sharing::Share;
+use archive_core_serializing::{HighSerializer, Serializer, Share};
 use archive_forms_writing::{Serialize, serialize_using};
 use archive_shape::{Allocator, Error, Writer};
 use std::alloc::Global;
 
-/// Writes a value behind its data, as the root that ends an archive, with memory of an allocator. A writer that is refused is
-/// dropped.
+/// Writes the data of a value and then its own bytes, as the root at the end of an archive, with memory of `allocator`.
+/// Returns the writer, which is dropped on an error.
 pub fn to_bytes_in_with_alloc<
     T: Serialize<HighSerializer<W, A>>,
     W: Writer + Drop,
@@ -27,7 +26,8 @@ pub fn to_bytes_in_with_alloc<
     }
 }
 
-/// Writes a value behind its data, as the root that ends an archive. A writer that is refused is dropped.
+/// Writes the data of a value and then its own bytes, as the root at the end of an archive. Returns the writer, which
+/// is dropped on an error.
 pub fn to_bytes_in<T: Serialize<HighSerializer<W, Global>>, W: Writer + Drop>(
     alloc: Global,
     value: &T,
@@ -40,7 +40,8 @@ pub fn to_bytes_in<T: Serialize<HighSerializer<W, Global>>, W: Writer + Drop>(
     to_bytes_in_with_alloc::<T, W, Global>(value, writer, alloc)
 }
 
-/// The archive of a value, with memory of an allocator for what writing it takes, and of `alloc` for its bytes.
+/// Returns the archive of a value. The memory for writing it comes from `allocator`, and that for its bytes from
+/// `alloc`.
 pub fn to_bytes_with_alloc<T: Serialize<HighSerializer<Vec<u8>, A>>, A: Allocator + Drop>(
     alloc: Global,
     value: &T,
@@ -52,7 +53,7 @@ pub fn to_bytes_with_alloc<T: Serialize<HighSerializer<Vec<u8>, A>>, A: Allocato
     to_bytes_in_with_alloc::<T, Vec<u8>, A>(value, Vec::new(alloc), allocator)
 }
 
-/// The archive of a value.
+/// Returns the archive of a value, with all memory from `alloc`.
 pub fn to_bytes<T: Serialize<HighSerializer<Vec<u8>, Global>>>(
     alloc: Global,
     value: &T,

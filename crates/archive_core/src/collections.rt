@@ -1,2 +1,2 @@
-//! What maps and sets are archived by.
+//! The types that maps and sets are archived with.
 pub mod util;

@@ -1,9 +1,7 @@
-//! The laws of archives and of all that they are made of. Each is a function without a body, which carries the law as its
-//! contract.
+//! The laws of archives and of all their parts. Each is a function without a body, whose contract is the law.
 ghost use Rattle.archive_core.specs.Laws.{WrittenIsAccepted, ReadBackIsWritten, KeysStandApart};
 
-pub use archive_core_access::unlimited_is_no_limit;
-pub use archive_core_nesting::laws::nesting_is_bounded;
+pub use archive_core_validation::{nesting_is_bounded, unlimited_is_no_limit};
 pub use archive_forms::laws::{
     equal_values_are_hashed_alike, equalities_are_equivalences, forms_are_faithful, held_is_text,
     keyed_lists_are_written, leaf_spells, one_present_is_written, one_text,
@@ -24,22 +22,22 @@ pub use archive_shape_canonical::{
 };
 pub use archive_shape_layout::{leaf_within, leaves_apart};
 
-/// What `to_bytes` writes of a value, `access` accepts, want of memory aside: the buffer has the value at its root, with
-/// regions that ascend and no limit of depth.
+/// `access` accepts what `to_bytes` writes of a value, except for `OutOfMemory`: the buffer has the value at its root,
+/// with regions that ascend and no limit of depth.
 pub fn written_is_accepted<T: Archive>()
     ensures { WrittenIsAccepted T.Archived.shape T.Archived.knows T.spelling }
 {}
 
-/// What `from_bytes` reads back of what `to_bytes` wrote is what the value that was written is read back as: where forms are
-/// faithful, a value that is archived as it, but for where shared values stand.
+/// What `from_bytes` reads back from what `to_bytes` wrote is what the value that was written is read back as. If forms
+/// are faithful, this is a value that is archived as it, except for the positions of shared values.
 pub fn read_back_is_written<T: Archive>()
 where
     T::Archived: ReadBack<T>,
     ensures { ReadBackIsWritten T.Archived.shape T.Archived.knows T.spelling T.Archived.reads }
 {}
 
-/// Shared values with different keys stand at different positions, once the data of a value is written from a state in which
-/// those written before it do.
+/// Shared values with different keys have different positions, after the data of a value is written from a state in
+/// which those written before it have.
 pub fn keys_stand_apart<T: Archive>()
     ensures { KeysStandApart T.Archived.shape T.Archived.knows T.spelling }
 {}

@@ -1,5 +1,5 @@
-//! Archives: how values are written as archives, accessed where they lie, edited and read back. What `archive_shape` and
-//! `archive_forms` have is here too.
+//! Archives: values are written as archives, accessed in place, edited and read back. The items of `archive_shape` and
+//! `archive_forms` are re-exported here.
 #![tactic(auto)]
 
 mod bytes;
@@ -7,24 +7,16 @@ pub mod collections;
 pub mod laws;
 mod reading;
 
-pub use archive_core_access::access;
-pub use archive_core_access::access_mut;
-pub use archive_core_access::access_pos;
-pub use archive_core_access::access_pos_mut;
-pub use archive_core_access::access_pos_with_context;
-pub use archive_core_access::access_with_context;
-pub use archive_core_access::check_pos_with_context;
-pub use archive_core_access::root_position;
 pub use archive_core_serializing::Buffer;
+pub use archive_core_serializing::ExactClone;
 pub use archive_core_serializing::HighSerializer;
+pub use archive_core_serializing::Pool;
+pub use archive_core_serializing::PoolingExt;
+pub use archive_core_serializing::RcValue;
 pub use archive_core_serializing::Serializer;
+pub use archive_core_serializing::Share;
+pub use archive_core_serializing::Unpool;
 pub use archive_core_serializing::WriterExt;
-pub use archive_core_sharing::ExactClone;
-pub use archive_core_sharing::Pool;
-pub use archive_core_sharing::PoolingExt;
-pub use archive_core_sharing::RcValue;
-pub use archive_core_sharing::Share;
-pub use archive_core_sharing::Unpool;
 pub use archive_core_validation::ArchiveContextExt;
 pub use archive_core_validation::ArchiveValidator;
 pub use archive_core_validation::HighValidator;
@@ -32,6 +24,14 @@ pub use archive_core_validation::SharedValidator;
 pub use archive_core_validation::Validator;
 pub use archive_core_validation::Visited;
 pub use archive_core_validation::Visits;
+pub use archive_core_validation::access;
+pub use archive_core_validation::access_mut;
+pub use archive_core_validation::access_pos;
+pub use archive_core_validation::access_pos_mut;
+pub use archive_core_validation::access_pos_with_context;
+pub use archive_core_validation::access_with_context;
+pub use archive_core_validation::check_pos_with_context;
+pub use archive_core_validation::root_position;
 pub use archive_forms::Acyclic;
 pub use archive_forms::Archive;
 pub use archive_forms::ArchiveUnsized;
@@ -130,7 +130,7 @@ pub use archive_forms::serialize_tuple3_each;
 pub use archive_forms::serialize_tuple4_each;
 pub use archive_forms::serialize_using;
 pub use archive_forms::serialize_vec_each;
-pub use archive_forms_reading::native_of;
+pub use archive_forms_values::native_of;
 pub use archive_forms_writing::resolve_field;
 pub use archive_shape::Alignment;
 pub use archive_shape::Allocator;

@@ -1,24 +1,23 @@
-//! Archives are read back.
+//! The reading back of archives as owned values.
 ghost use Rattle.std.specs.Prelude.{ℕ, length, IfOk};
 ghost use Rattle.archive_shape_layout.specs.Content.{Names};
 ghost use Rattle.archive_shape_layout.specs.Holds.{root_position};
-ghost use Rattle.archive_forms_reading.specs.Parts.{HasValue};
-ghost use Rattle.archive_forms_deserializing.specs.Deserializing.{Deserializes, IsReadAt};
+ghost use Rattle.archive_forms_values.specs.Parts.{HasValue};
+ghost use Rattle.archive_forms.specs.Deserializing.{Deserializes, IsReadAt};
 ghost use Rattle.archive_core_validation.specs.Depth.{unlimited};
-ghost use Rattle.archive_core_access.specs.Access.{Decides};
+ghost use Rattle.archive_core_validation.specs.Access.{Decides};
 
-use archive_core_access::access;
-use archive_core_sharing::Unpool;
-use archive_core_validation::HighValidator;
-use archive_forms_deserializing::Deserialize;
+use archive_core_serializing::Unpool;
+use archive_core_validation::{HighValidator, access};
+use archive_forms::Deserialize;
 use archive_forms_writing::Archive;
 use archive_shape::{CheckBytes, Error, Ref};
 use std::alloc::Global;
 
-/// The deserializer of `from_bytes`. It keeps nothing: a shared value is read anew at each pointer that leads to it.
+/// The deserializer of `from_bytes`. It keeps nothing: a shared value is read again at each pointer that leads to it.
 pub type HighDeserializer = Unpool;
 
-/// Reads a value back.
+/// Reads an archived value back as an owned value. The only error is `OutOfMemory`.
 pub fn deserialize<T: Archive, A: Deserialize<T, HighDeserializer>>(
     alloc: Global,
     value: &Ref<'_, A>,
@@ -29,7 +28,7 @@ pub fn deserialize<T: Archive, A: Deserialize<T, HighDeserializer>>(
     A::deserialize(value, alloc, &mut Unpool)
 }
 
-/// Checks an archive, and reads its root back. Refuses what `access` does.
+/// Checks an archive, and reads its root back. The errors are those of `access`.
 pub fn from_bytes<T: Archive>(alloc: Global, bytes: &[u8]) -> Result<T, Error>
 where
     T::Archived: CheckBytes<HighValidator> + Deserialize<T, HighDeserializer>,

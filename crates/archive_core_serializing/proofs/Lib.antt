@@ -1,2 +1,3 @@
+mod Made
 mod Once
 mod Placed

@@ -1,23 +1,23 @@
 -- What a serializer does for a shared value, by what is known of its key.
 use Rattle.std.proofs.Common.{◌≡◌, ℕ, ◌+◌, ◌==◌, cond, true, List, [], ◌∷◌, ◌++◌, length, refl, sym, ap, ap₂, subst, ◌∙◌, inl, inr, Ok, Err, Option, Some, None, append-nil, add-zero, eq-eqb}
 use Rattle.std.specs.Prelude.{Result}
-use Rattle.archive_shape_layout.specs.Shape.{Pointee}
-use Rattle.archive_shape_layout.specs.Holds.{Visit}
-use Rattle.archive_shape_references.specs.Bytes.{zeros}
+use Rattle.archive_shape.specs.ShapeLayout.Shape.{Pointee}
+use Rattle.archive_shape.specs.ShapeLayout.Holds.{Visit}
+use Rattle.archive_shape.specs.Bytes.{zeros}
 use Rattle.archive_shape_writing.specs.Writing.{WriterMembers}
 use Rattle.archive_shape_writing.specs.Progress.{Progress, IsSet, Starts, Finishes}
 use Rattle.archive_shape_writing.specs.Progress.Progress.{unmet, begun, ended}
 use Rattle.archive_shape_writing.specs.declared.error.Error.{Error}
 use Rattle.archive_shape_writing.specs.declared.error.Error.TheVariants.{CyclicSharedPointer, AlreadyFinished, NotStarted}
-use Rattle.archive_forms_spelling.specs.State.{State, Met, advanced, with_begun, visit_of_key, IsNoneOf}
-use Rattle.archive_forms_spelling.specs.Spelling.{Spelling, state_after}
-use Rattle.archive_forms_spelling.specs.Shared.{shared_padding, shared_piece, shared_resolver, shared_met, shared_fits, shared_refused, shared_spelling, first_at, first_piece, met_inside}
-use Rattle.archive_forms_spelling.specs.Serializing.{IsAt, LaysData, of_data, progress, progress_by, is_begun}
-use Rattle.archive_forms_spelling.proofs.Progress.{unmet_key, begun_key, ended_key, begins_in_state, ends_in_state, is_finished}
+use Rattle.archive_forms_writing.specs.FormsLaws.State.{State, Met, advanced, with_begun, visit_of_key, IsNoneOf}
+use Rattle.archive_forms_writing.specs.FormsLaws.Spelling.{Spelling, state_after}
+use Rattle.archive_forms_writing.specs.FormsLaws.Shared.{shared_padding, shared_piece, shared_resolver, shared_met, shared_fits, shared_refused, shared_spelling, first_at, first_piece, met_inside}
+use Rattle.archive_forms_writing.specs.FormsLaws.Serializing.{IsAt, LaysData, of_data, progress, progress_by, is_begun}
+use Rattle.archive_forms_writing.proofs.FormsLaws.Progress.{unmet_key, begun_key, ended_key, begins_in_state, ends_in_state, is_finished}
 use Rattle.archive_forms_writing.proofs.Laying.{Wrote, Stops, wrote_both, stopped_before, stopped_first, stopped_after, as_data, fails_as_data, Fails}
 
 module _ {A W : Type 0} (q : Pointee) (len : A → ℕ) (k : ℕ) (w : Spelling A ℕ) (m : WriterMembers W) (x : A) where
-  -- what a call promises, by what was visited under the key
+  -- the contract of a call, by what was visited under the key
   abbrev Promised : State → Option Visit → W → W → Result ℕ Error → Type 0
   Promised st o old new result =
       LaysData m old new (shared_piece q len (λ a. k) w x st o)
@@ -33,7 +33,7 @@ module _ {A W : Type 0} (q : Pointee) (len : A → ℕ) (k : ℕ) (w : Spelling 
   nothing_wrote : {old new : W} → Untouched old new → Wrote (of_data m) old new []
   nothing_wrote {old} u = record { gains = λ t. u.contents ∙ sym (append-nil (m.contents old)); moves = u.pos ∙ sym (add-zero (m.pos old)); is_quiet = u.failures; keeps = λ key. refl }
 
-  -- a call stopped behind that
+  -- a call stopped after that
   stopped_behind : {old mid new : W} {piece : List ℕ} (P Q : Error → Type 0) {e : Error} → (P e → Q e) → Untouched old mid → Stops (of_data m) mid new piece P e → Stops (of_data m) old new piece Q e
   stopped_behind {piece = piece} P Q f u h = stopped_after (of_data m) piece P Q refl f (nothing_wrote u) h
 
@@ -133,7 +133,7 @@ module _ {A W : Type 0} (q : Pointee) (len : A → ℕ) (k : ℕ) (w : Spelling 
               ),
             )
 
-        -- it was met inside the value
+        -- it was visited inside the value
         met_so : (e : Error) (y : Visit) → met_inside q len (λ a. k) w x st ≡ Some y → e ≡ AlreadyFinished → Promised st None old new (Err e)
         met_so e y some is_ended =
             let refused = shared_refused q len (λ a. k) w x st None in

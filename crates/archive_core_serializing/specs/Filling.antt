@@ -1,11 +1,11 @@
--- What a write into memory of a fixed length does, of which `len` bytes are filled.
+-- The effect of a write into memory of a fixed length, of which `len` bytes are filled.
 use Rattle.std.specs.Prelude.{◌≡◌, ℕ, ◌+◌, ◌<◌, ◌≤◌, List, length}
-use Rattle.archive_shape_references.specs.Bytes.{overwrite}
+use Rattle.archive_shape.specs.Bytes.{overwrite}
 use Rattle.archive_shape_writing.specs.declared.error.Error.{Error}
 use Rattle.archive_shape_writing.specs.declared.error.Error.TheVariants.{BufferOverflow}
 
 module _ (old : List ℕ) (len : ℕ) (piece : List ℕ) (new : List ℕ) (new_len : ℕ) where
-  -- the piece fits, and stands behind what is filled; what stands behind it stays
+  -- the piece fits, and is after what is filled; what is after the piece stays
   pub record IsFilled : Type 0 where
     pub fits : len + length piece ≤ length old
     pub stands : new ≡ overwrite old len piece

@@ -1,4 +1,4 @@
-//! A writer over memory of a fixed length.
+//! `Buffer`, a writer over memory of a fixed length.
 ghost use Rattle.std.specs.Prelude.{◌≡◌, ◌+◌, ◌-◌, ◌^◌, ◌<◌, ◌≤◌, length, take, true, MatchResult};
 ghost use Rattle.archive_shape_writing.specs.Progress.Progress.{unmet};
 ghost use Rattle.archive_shape_writing.specs.Writing.{Appends};
@@ -7,18 +7,18 @@ ghost use Rattle.archive_core_serializing.specs.Filling.{IsFilled, IsOverfull};
 
 use archive_shape::{Error, Positional, Registry, Writer};
 
-/// A writer over memory that is lent. Its first `len` bytes were written.
+/// A writer over borrowed memory. Its first `len` bytes were written.
 #[derive(Drop)]
 pub struct Buffer<'a> {
     pub out: &'a mut [u8],
     pub len: usize,
-    /// How many writes failed.
+    /// The number of writes that failed.
     pub failures: u64,
     ghost fits: { len ≤ length out.now },
 }
 
 impl<'a> Buffer<'a> {
-    /// The writer over this memory, with nothing written.
+    /// Creates a writer over this memory that has written nothing.
     pub fn new(out: &'a mut [u8]) -> Self
         ensures same_reference { result.out.ghost_name ≡ out.entry.ghost_name }
         ensures bytes { result.out.now ≡ out.old }
@@ -32,7 +32,7 @@ impl<'a> Buffer<'a> {
         }
     }
 
-    /// The bytes that were written.
+    /// Returns the bytes that were written.
     pub fn bytes(&self) -> &[u8]
         ensures { result.now ≡ take self.now.len self.now.out.now }
     {
@@ -85,7 +85,8 @@ impl Writer for Buffer<'_> {
         true
     }
 
-    /// Appends the bytes. Refuses those that are more than the rest, and writes none of them then.
+    /// Appends the bytes. Returns `BufferOverflow` if they are more than the remaining bytes, and then writes none of
+    /// them.
     fn write(&mut self, bytes: &[u8]) -> Result<(), Error>
         requires { self.old.failures < 2 ^ 64 - 1 }
         ensures same_reference { self.new.out.ghost_name ≡ self.old.out.ghost_name }

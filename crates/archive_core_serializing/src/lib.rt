@@ -1,5 +1,10 @@
-//! What values are written with: a serializer of three parts, a writer over memory that is lent, and what every writer has.
+//! Writers and serializers: a serializer of three parts, a writer over borrowed memory, the methods of every writer,
+//! and what keeps shared values.
 #![tactic(auto)]
+
+mod shares;
+
+pub use shares::{ExactClone, Pool, PoolingExt, RcValue, Share, Unpool};
 
 mod buffer;
 mod serializer;

@@ -1,7 +1,7 @@
-//! A serializer: a writer, where memory is taken from, and what keeps the shared values that were written.
+//! `Serializer`: a writer, an allocator, and what keeps the shared values that were written.
 ghost use Rattle.std.specs.Prelude.{◌≡◌};
 
-use archive_core_sharing::Share;
+use crate::shares::Share;
 use archive_shape::{Allocator, Error, Positional, Registry, Sharing, SharingState, Writer};
 use std::alloc::Global;
 
@@ -17,7 +17,7 @@ pub struct Serializer<W, A, S> {
 pub type HighSerializer<W, A> = Serializer<W, A, Share>;
 
 impl<W, A, S> Serializer<W, A, S> {
-    /// The serializer of these parts.
+    /// Creates a serializer of these parts.
     pub fn new(writer: W, allocator: A, sharing: S) -> Self
         ensures writer { result.writer ≡ writer }
         ensures allocator { result.allocator ≡ allocator }
@@ -30,7 +30,7 @@ impl<W, A, S> Serializer<W, A, S> {
         }
     }
 
-    /// The parts of the serializer.
+    /// Returns the parts of the serializer.
     pub fn into_raw_parts(self) -> (W, A, S)
         ensures writer { result.0 ≡ self.writer }
         ensures allocator { result.1 ≡ self.allocator }
@@ -44,7 +44,7 @@ impl<W, A, S> Serializer<W, A, S> {
         (writer, allocator, sharing)
     }
 
-    /// The writer of the serializer.
+    /// Returns the writer of the serializer.
     pub fn into_writer(self) -> W
     where
         A: Drop,

@@ -1,15 +1,15 @@
-//! Values that are shared are written once for each key.
+//! `SharingExt` for `Serializer`: shared values are written once for each key.
 ghost use Rattle.std.specs.Prelude.{◌-◌, ◌^◌, ◌<◌};
-ghost use Rattle.archive_shape_references.specs.Bytes.{zeros};
+ghost use Rattle.archive_shape.specs.Bytes.{zeros};
 ghost use Rattle.archive_shape_writing.specs.Writing.{Writes};
-ghost use Rattle.archive_forms_spelling.specs.Shared.{shared_padding};
+ghost use Rattle.archive_forms_writing.specs.FormsLaws.Shared.{shared_padding};
 
 use crate::Serializer;
-use archive_forms_sharing::SharingExt;
-use archive_forms_unsized::SerializeUnsized;
+use archive_forms_borrowed::SerializeUnsized;
+use archive_forms_rc::SharingExt;
 use archive_shape::{Allocator, Error, Sharing, SharingState, Writer};
 
-/// Writes a zero byte behind a value that begins at `start` and has no bytes.
+/// Writes a zero byte after a value that begins at `start`, if the value has no bytes.
 fn pad_empty<W: Writer>(writer: &mut W, start: usize) -> Result<(), Error>
     requires { W.failures writer.old < 2 ^ 64 - 1 }
     ensures { Writes W.Writer writer.old writer.new (zeros (shared_padding start (W.pos writer.old))) result }

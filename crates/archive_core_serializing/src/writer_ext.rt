@@ -1,26 +1,26 @@
-//! What every writer has.
+//! `WriterExt`, with the methods of every writer.
 ghost use Rattle.std.specs.Prelude.{◌≡◌, ◌+◌, ◌-◌, ◌^◌, ◌<◌, ◌≤◌, ◌++◌, IfOk};
-ghost use Rattle.archive_shape_layout.specs.Bytes.{align_up};
-ghost use Rattle.archive_shape_layout.specs.Shape.{align_of};
+ghost use Rattle.archive_shape.specs.ShapeLayout.Bytes.{align_up};
+ghost use Rattle.archive_shape.specs.ShapeLayout.Shape.{align_of};
 ghost use Rattle.archive_shape_writing.specs.Writing.{Writes};
-ghost use Rattle.archive_shape_references.specs.Bytes.{zeros};
-ghost use Rattle.archive_forms_spelling.specs.State.{State};
-ghost use Rattle.archive_forms_spelling.specs.Serializing.{Lays};
-ghost use Rattle.archive_forms_spelling.specs.Regions.{placed_fits, placed_refused};
+ghost use Rattle.archive_shape.specs.Bytes.{zeros};
+ghost use Rattle.archive_forms_writing.specs.FormsLaws.State.{State};
+ghost use Rattle.archive_forms_writing.specs.FormsLaws.Serializing.{Lays};
+ghost use Rattle.archive_forms_writing.specs.FormsLaws.Regions.{placed_fits, placed_refused};
 
 use archive_forms_writing::{Archive, align, pad, resolve_aligned};
 use archive_shape::{Error, Portable, Writer};
 use std::alloc::Global;
 
-/// What every writer has.
+/// Methods of every writer.
 pub trait WriterExt: Writer {
-    /// Writes `padding` zeros.
+    /// Writes `padding` zeros, fewer than 32.
     fn pad(&mut self, padding: usize) -> Result<(), Error>
         requires room { Self.failures self.old < 2 ^ 64 - 1 }
         requires short { padding < 32 }
         ensures { Writes Self.Writer self.old self.new (zeros padding) result };
 
-    /// Writes zeros up to the next position of an alignment, and answers it.
+    /// Writes zeros up to the next multiple of `align`, and returns that position.
     fn align(&mut self, align: usize) -> Result<usize, Error>
         requires room { Self.failures self.old < 2 ^ 64 - 1 }
         requires positive { 0 < align }
@@ -28,14 +28,14 @@ pub trait WriterExt: Writer {
         ensures writes { Writes Self.Writer self.old self.new (zeros (align_up (Self.pos self.old) align - Self.pos self.old)) result }
         ensures aligned { IfOk result (λ pos. pos ≡ align_up (Self.pos self.old) align) };
 
-    /// Writes zeros up to the next position of a type's alignment, and answers it.
+    /// Writes zeros up to the next multiple of the alignment of `T`, and returns that position.
     fn align_for<T: Portable>(&mut self) -> Result<usize, Error>
         requires room { Self.failures self.old < 2 ^ 64 - 1 }
         ensures writes { let at = align_up (Self.pos self.old) (align_of T.shape) in Writes Self.Writer self.old self.new (zeros (at - Self.pos self.old)) result }
         ensures aligned { IfOk result (λ pos. pos ≡ align_up (Self.pos self.old) (align_of T.shape)) };
 
-    /// Writes zeros up to the next position of the archived form's alignment, and there the own bytes of a value, whose
-    /// data was written. The answer is that position.
+    /// Writes zeros up to the next multiple of the alignment of the archived form, and there the own bytes of a value.
+    /// The value's data was written before. Returns the position of the own bytes.
     fn resolve_aligned<T: Archive>(
         &mut self,
         alloc: Global,

@@ -1,16 +1,13 @@
 //! Tests of access to buffers.
 ghost use Rattle.std.specs.Prelude.{◌≡◌, length};
 
-use archive_core_access::{
-    access, access_mut, access_pos, access_pos_mut, access_pos_with_context, access_with_context,
-    check_pos_with_context, root_position,
+use archive_core_validation::{
+    ArchiveValidator, HighValidator, SharedValidator, Validator, access, access_mut, access_pos,
+    access_pos_mut, access_pos_with_context, access_with_context, check_pos_with_context,
+    root_position,
 };
-use archive_core_validation::{ArchiveValidator, HighValidator, SharedValidator, Validator};
-use archive_forms_boxed::ArchivedBoxedSlice;
-use archive_forms_reading::{ArchivedBox, ArchivedOption, ArchivedVec};
-use archive_shape_checking::{CheckBytes, Error};
-use archive_shape_portable::ArchivedU32;
-use archive_shape_references::Ref;
+use archive_forms_values::{ArchivedBox, ArchivedBoxedSlice, ArchivedOption, ArchivedVec};
+use archive_shape::{ArchivedU32, CheckBytes, Error, Ref};
 use std::alloc::Global;
 
 pub(crate) type MaybeBytes = ArchivedOption<ArchivedBoxedSlice<u8>>;
@@ -232,7 +229,7 @@ fn empty_buffers_have_no_root(rt: HostRuntime) {
     }
 }
 
-/// Checks the value at `pos` of a buffer in a validator of a depth.
+/// Checks the value at `pos` of a buffer in a new validator with this depth.
 fn check_in_depth<T: CheckBytes<HighValidator>>(
     alloc: Global,
     bytes: &[u8],

@@ -1,4 +1,4 @@
-//! Tests of what archives are written with, checked in, accessed by and read back from, with a module for each crate that is
+//! Tests of the serializers, validators, access and reading back of archives, with a module for each area that is
 //! tested.
 #![tactic(auto)]
 
@@ -6,6 +6,8 @@
 mod access;
 #[cfg(test)]
 mod archives;
+#[cfg(test)]
+mod rc;
 #[cfg(test)]
 mod regions;
 #[cfg(test)]

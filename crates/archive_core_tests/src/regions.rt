@@ -1,8 +1,8 @@
-//! Tests of values that are checked in a region that a call of a context claims.
+//! Tests of values that are checked in a region that a method of a context claims.
 ghost use Rattle.std.specs.Prelude.{ℕ, ◌+◌, ◌≤◌, length};
 ghost use Rattle.archive_shape_layout.specs.Shape.{size_of};
-ghost use Rattle.archive_shape_checking.specs.Kept.{IsWithin};
-ghost use Rattle.archive_shape_checking.specs.Checks.{Moves};
+ghost use Rattle.archive_shape.specs.Kept.{IsWithin};
+ghost use Rattle.archive_shape.specs.Checks.{Moves};
 
 use crate::access::{MaybeBytes, validator};
 use archive_core::{ArchiveContext, ArchiveContextExt, CheckBytes, Error, HighValidator, Portable};
@@ -28,7 +28,7 @@ fn check_in_subtree<T: CheckBytes<C>, C: ArchiveContext>(
     )
 }
 
-/// The same by the size and the alignment of the bytes.
+/// Checks the value at `pos` while `in_subtree_raw` claims its bytes by their size and alignment.
 fn check_in_subtree_raw<T: CheckBytes<C>, C: ArchiveContext>(
     alloc: Global,
     bytes: &[u8],
@@ -50,7 +50,7 @@ fn check_in_subtree_raw<T: CheckBytes<C>, C: ArchiveContext>(
     )
 }
 
-/// The same by a push and a pop.
+/// Checks the value at `pos` between a push and a pop of its bytes.
 fn check_between_push_and_pop<T: CheckBytes<C>, C: ArchiveContext>(
     alloc: Global,
     bytes: &[u8],

@@ -1,4 +1,4 @@
-//! Tests of what values are written with.
+//! Tests of serializers, writers, and what keeps shared values.
 mod buffers;
 mod one_key;
 mod pool;

@@ -1,4 +1,4 @@
-//! Tests of counted pointers: how they are archived under keys, and what their checks refuse.
+//! Tests of counted pointers: how they are archived under keys, and the errors of their checks.
 use archive_core::{
     ArchivedRc, ArchivedRcSlice, ArchivedTuple2, ArchivedU32, CheckBytes, Error, HighValidator,
     RcFlavor, Shared, access, to_bytes,
@@ -6,13 +6,13 @@ use archive_core::{
 use std::alloc::{AllocError, Global};
 use std::rc::{Rc, RcSlice, RcStr};
 
-/// A text under a key.
+/// Returns a text under a key.
 fn text(alloc: Global, key: usize, text: &str) -> Result<Shared<RcStr>, AllocError> {
     let value = RcStr::from_str(alloc, text)?;
     Ok(Shared { key, value })
 }
 
-/// A number under a key.
+/// Returns a number under a key.
 fn number(alloc: Global, key: usize, number: u32) -> Result<Shared<Rc<u32>>, Error> {
     match Rc::new(alloc, number) {
         Ok(value) => Ok(Shared { key, value }),
@@ -20,13 +20,13 @@ fn number(alloc: Global, key: usize, number: u32) -> Result<Shared<Rc<u32>>, Err
     }
 }
 
-/// Numbers under a key.
+/// Returns numbers under a key.
 fn numbers(alloc: Global, key: usize, numbers: &[u32]) -> Result<Shared<RcSlice<u32>>, AllocError> {
     let value = RcSlice::from_slice(alloc, numbers)?;
     Ok(Shared { key, value })
 }
 
-/// Why an archive is refused.
+/// Returns the error of checking an archive, if there is one.
 fn refusal<T: CheckBytes<HighValidator>>(alloc: Global, bytes: &[u8]) -> Option<Error> {
     access::<T>(alloc, bytes).err()
 }

@@ -8,7 +8,7 @@ use archive_core_validation::{
 use archive_shape::{ArchivedI32, Error};
 use std::alloc::Global;
 
-/// Opens as many pushes, each in the one before.
+/// Opens `pushes` pushes, each in the one before, in a validator with this depth.
 fn nest(alloc: Global, max_depth: usize, pushes: usize) -> Result<(), Error> {
     let mut validator = ArchiveValidator::with_max_depth(alloc, b"\0\0\0\0", max_depth);
     for _ in 0..pushes {

@@ -1,4 +1,4 @@
--- What a table has met after a change at one position, and that this is what visits do there.
+-- The positions that a table has after a change at one position, which are those that visits have there.
 use Rattle.std.proofs.Common.{◌≡◌, ◌≢◌, ℕ, Some, None, Result, Ok, Err, MatchResult, true, false, refl, sym, ap, subst, ⊎_elim, arith}
 use Rattle.std.proofs.Math.Path.{fun_ext}
 use Rattle.std.proofs.lemmas.Grind.{common_steps}
@@ -7,8 +7,8 @@ use Rattle.std.specs.Option.{option_map}
 use Rattle.std.specs.Ordering.{nat_cmp}
 use Rattle.std.specs.BTreeMap.{BTreeMap, get, Updates, IsUnchanged}
 use Rattle.archive_shape_layout.specs.Shape.{Pointee}
-use Rattle.archive_shape_checking.specs.Kept.{Kept, seen_with, with_entry, StartsShared, RefusesShared, FinishesShared}
-use Rattle.archive_shape_checking.specs.declared.context.ValidationState.{ValidationState}
+use Rattle.archive_shape.specs.Kept.{Kept, seen_with, with_entry, StartsShared, RefusesShared, FinishesShared}
+use Rattle.archive_shape.specs.declared.checking.context.ValidationState.{ValidationState}
 use Rattle.archive_shape_writing.specs.declared.error.Error.{Error}
 use Rattle.archive_shape_writing.specs.declared.error.Error.TheVariants.{OutOfMemory}
 use Rattle.archive_core_validation.specs.declared.shared_validator.SharedEntry.{SharedEntry}
@@ -33,12 +33,12 @@ module _ (m n : BTreeMap ℕ SharedEntry) where
     seen_updated k = ap (with_seen k) (fun_ext λ other. updated_at other)
 
   module _ (k : Kept) (pos : ℕ) (x : SharedEntry) where
-    -- a position is met that was not met before
+    -- a position is visited for the first time
     pub starts : get nat_cmp m pos ≡ None → Updates nat_cmp m n pos (Some x) → (seen_in m pos ≡ None) × (with_seen k (seen_in n) ≡ with_entry (with_seen k (seen_in m)) pos (as_entry x))
     unfolding seen_in
     starts none u = (ap (option_map as_entry) none, seen_updated pos x u k)
 
-    -- a position is met again, and the table keeps what it had
+    -- a position is visited again, and the table keeps what it had
     pub starts_again :
         (p : Pointee) (len : ℕ) (result : Result ValidationState Error)
         → IsUnchanged m n

@@ -1,14 +1,14 @@
--- A call for whose time a region is claimed, by the answers of a context.
+-- A call for the duration of which a region is claimed, by the results of a context.
 use Rattle.std.proofs.Common.{◌≡◌, ◌≢◌, inl, inr, ◌%◌, ◌-◌, ◌<◌, ◌^◌, ℕ, min, [], ◌∷◌, ◌++◌, length, Result, Ok, Err, refl, ap, subst, ◌∙◌, arith}
 use native.Mathlib.Decide.{dec_le}
 use denote.Ref.{MutBor}
 use denote.Param.Members.{Once}
 use Rattle.archive_shape_layout.specs.Content.{Span}
-use Rattle.archive_shape_checking.specs.Range.{Range, InRange}
-use Rattle.archive_shape_checking.specs.Kept.{Kept, range_of, pushed, popped}
-use Rattle.archive_shape_checking.specs.Questions.{FirstUnanswered, claim}
-use Rattle.archive_shape_checking.specs.Questions.FirstUnanswered.{unanswered_here, unanswered_later}
-use Rattle.archive_shape_checking.specs.declared.context.PushedRange.{PushedRange}
+use Rattle.archive_shape.specs.Range.{Range, InRange}
+use Rattle.archive_shape.specs.Kept.{Kept, range_of, pushed, popped}
+use Rattle.archive_shape.specs.Questions.{FirstUnanswered, claim}
+use Rattle.archive_shape.specs.Questions.FirstUnanswered.{unanswered_here, unanswered_later}
+use Rattle.archive_shape.specs.declared.checking.context.PushedRange.{PushedRange}
 use Rattle.archive_shape_writing.specs.declared.error.Error.{Error}
 use Rattle.archive_shape_writing.specs.declared.error.Error.TheVariants.{InvalidSubtreePointer, OutOfMemory}
 use Rattle.archive_core_validation.specs.Subtrees.{push_of, IsClaimed, InSubtree}

@@ -1,2 +1,6 @@
-mod Claiming
+pub mod Bounded
 mod Changed
+mod Claiming
+pub mod Empty
+pub mod Rooted
+pub mod Unlimited

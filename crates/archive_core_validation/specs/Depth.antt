@@ -1,12 +1,12 @@
--- What a validator keeps: how many pushes may nest, and what it keeps at first.
+-- What a validator keeps: the number of pushes that may nest, and its initial state.
 use Rattle.std.specs.Prelude.{ℕ, ◌-◌, ◌^◌, ◌==◌, if◌then◌else◌, [], Option, Some, None}
-use Rattle.archive_shape_checking.specs.Kept.{Kept, Seen}
+use Rattle.archive_shape.specs.Kept.{Kept, Seen}
 
 -- with no limit: more than any vector of pushes holds
 abbrev pub unlimited : ℕ
 unlimited = 2 ^ 64
 
--- how many pushes may nest at a depth of n: one less; `usize::MAX` is no limit
+-- the number of pushes that may nest at a depth of n: one less; `usize::MAX` is no limit
 unfoldable pub most_of : ℕ → ℕ
 most_of max_depth = if max_depth == 2 ^ 64 - 1 then unlimited else max_depth - 1
 

@@ -1,11 +1,11 @@
--- A call for whose time a region is claimed.
+-- A call for the duration of which a region is claimed.
 use Rattle.std.specs.Prelude.{◌≡◌, ◌≢◌, ◌⊎◌, ◌+◌, Result, Ok, Err, MatchResult}
 use denote.Ref.{MutBor}
 use denote.Param.Members.{Once}
 use Rattle.archive_shape_layout.specs.Content.{Span}
-use Rattle.archive_shape_checking.specs.Kept.{Kept, range_of, pushed, popped}
-use Rattle.archive_shape_checking.specs.Questions.{AreAnswered, FirstUnanswered, claim}
-use Rattle.archive_shape_checking.specs.declared.context.PushedRange.{PushedRange}
+use Rattle.archive_shape.specs.Kept.{Kept, range_of, pushed, popped}
+use Rattle.archive_shape.specs.Questions.{AreAnswered, FirstUnanswered, claim}
+use Rattle.archive_shape.specs.declared.checking.context.PushedRange.{PushedRange}
 use Rattle.archive_shape_writing.specs.declared.error.Error.{Error}
 use Rattle.archive_shape_writing.specs.declared.error.Error.TheVariants.{OutOfMemory}
 
@@ -23,13 +23,13 @@ module _ {F C R : Type 0} (call : Once F (MutBor C × Unit {0}) (Result R Error 
   abbrev pub TakesClaimed : Type 0
   TakesClaimed = (inner : MutBor C) → IsClaimed k s (kept inner.now) → call.pre f (inner, tt)
 
-  -- and unless it refuses, the open pushes are then the same
+  -- and unless it returns an error, the open pushes are then the same
   abbrev pub KeepsPushes : Type 0
   KeepsPushes =
       (inner left : MutBor C) (value : R) → IsClaimed k s (kept inner.now) → call.post f (inner, tt) (Ok value, (left, tt))
       → (kept left.now).pushes ≡ (kept inner.now).pushes
 
-  -- it was called where the region is claimed, and what it answered and left
+  -- it was called where the region is claimed, with this result, and left this state
   pub record Answers (result : Result R Error) (left : Kept) : Type 0 where
     pub inner : MutBor C
     pub outer : MutBor C
@@ -37,8 +37,8 @@ module _ {F C R : Type 0} (call : Once F (MutBor C × Unit {0}) (Result R Error 
     pub called : call.post f (inner, tt) (result, (outer, tt))
     pub leaves : kept outer.now ≡ left
 
-  -- Ok where the region is claimed and the call answers so; it is then popped. Else, want of memory aside, the error is
-  -- that of the claim, or what the call answers
+  -- Ok where the region is claimed and the call returns Ok; it is then popped. Otherwise, except for `OutOfMemory`, the
+  -- error is that of the claim or of the call
   abbrev pub InSubtree : Result R Error → Kept → Type 0
   InSubtree result new =
       MatchResult result

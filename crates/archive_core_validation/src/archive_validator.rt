@@ -1,24 +1,24 @@
-//! What keeps the range of bytes that may still be claimed.
+//! `ArchiveValidator`, which keeps the range of bytes that may still be claimed.
 ghost use Rattle.std.specs.Prelude.{◌≡◌, length};
 ghost use Rattle.archive_core_validation.specs.Depth.{unlimited, most_of, most_within, none_seen, whole};
 
-use archive_shape_checking::{ArchiveContext, PushedRange};
+use archive_shape::{ArchiveContext, PushedRange};
 use archive_shape_writing::Error;
 use std::alloc::Global;
 
-/// A context of checks that keeps a range and its open pushes, and no shared positions. Its memory grows with the depth that is
-/// met.
+/// A context of checks that keeps a range and its open pushes, and no shared positions. Its memory grows with the depth
+/// of the regions that are checked.
 #[derive(Drop)]
 pub struct ArchiveValidator {
     start: usize,
     end: usize,
-    /// How many pushes may nest, if that is limited.
+    /// The greatest number of pushes that may nest, or `None` for no limit.
     most: Option<usize>,
     pushes: Vec<PushedRange>,
 }
 
 impl ArchiveValidator {
-    /// Of all bytes, with no limit of depth. It takes no memory.
+    /// Creates a validator of all bytes, with no limit of depth. It does not allocate.
     pub fn new(alloc: Global, bytes: &[u8]) -> Self
         ensures { ⟦<ArchiveValidator as ArchiveContext>⟧.kept result ≡ whole (length bytes.now) unlimited }
     {
@@ -30,8 +30,8 @@ impl ArchiveValidator {
         }
     }
 
-    /// Of all bytes, where `max_depth - 1` pushes may nest: 0 and 1 let none nest, and `usize::MAX` is no limit. It takes no
-    /// memory.
+    /// Creates a validator of all bytes, in which at most `max_depth - 1` pushes may nest. With 0 and 1 none may nest,
+    /// and `usize::MAX` is no limit. It does not allocate.
     #[tactic(auto, unfolding(crate::specs::Depth::most_of))]
     pub fn with_max_depth(alloc: Global, bytes: &[u8], max_depth: usize) -> Self
         ensures { ⟦<ArchiveValidator as ArchiveContext>⟧.kept result ≡ whole (length bytes.now) (most_of max_depth) }

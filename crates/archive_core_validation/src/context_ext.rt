@@ -1,19 +1,18 @@
-//! Calls for whose time a region is claimed.
+//! `ArchiveContextExt`, with methods that claim a region for the duration of a call.
 ghost use Rattle.std.specs.Prelude.{◌<◌, ◌^◌};
 ghost use Rattle.archive_shape_layout.specs.Shape.Pointee.{sized};
-ghost use Rattle.archive_shape_checking.specs.Questions.{pointee_span};
+ghost use Rattle.archive_shape.specs.Questions.{pointee_span};
 ghost use Rattle.archive_core_validation.specs.Subtrees.{TakesClaimed, KeepsPushes, InSubtree};
 
-use archive_shape_checking::ArchiveContext;
-use archive_shape_portable::Portable;
+use archive_shape::{ArchiveContext, Portable};
 use archive_shape_writing::Error;
 
-/// Calls of every context.
+/// Methods of every context.
 pub trait ArchiveContextExt: ArchiveContext {
     /// Claims `[pos, pos + size)`, and calls `f` in the range before it. Then the range starts again after the region.
     ///
-    /// Refuses a region outside the range with `InvalidSubtreePointer` and its size, then `Unaligned`, then
-    /// `ExceededMaximumSubtreeDepth`, then what `f` refuses.
+    /// Returns `InvalidSubtreePointer` with the size of a region that is not in the range, then `Unaligned`, then
+    /// `ExceededMaximumSubtreeDepth`, then the error of `f`.
     fn in_subtree_raw<R: Drop, F: FnOnce(&mut Self) -> Result<R, Error>>(
         &mut self,
         pos: usize,
@@ -27,7 +26,7 @@ pub trait ArchiveContextExt: ArchiveContext {
         requires keeps { KeepsPushes F.FnOnce Self.kept f (Self.kept self.old) (record { start = pos; size = size; align = align }) }
         ensures { InSubtree F.FnOnce Self.kept f (Self.kept self.old) (record { start = pos; size = size; align = align }) result (Self.kept self.new) };
 
-    /// The same for the bytes of a value at `pos`.
+    /// Claims the own bytes of a value at `pos`, and calls `f` in the range before them, as `in_subtree_raw` does.
     fn in_subtree<T: Portable, R: Drop, F: FnOnce(&mut Self) -> Result<R, Error>>(
         &mut self,
         pos: usize,

@@ -1,19 +1,19 @@
-//! What keeps the shared positions that were met.
+//! `SharedValidator`, which keeps the shared positions that were visited.
 ghost use Rattle.std.specs.Prelude.{◌≡◌, ◌↔◌, ℕ, IsTrue, MatchResult, Some};
 ghost use Rattle.archive_shape_layout.specs.RuntimeShape.{pointee_of};
-ghost use Rattle.archive_shape_checking.specs.Kept.{Kept, StartsShared, RefusesShared};
+ghost use Rattle.archive_shape.specs.Kept.{Kept, StartsShared, RefusesShared};
 ghost use Rattle.archive_core_validation.specs.Depth.{none_seen};
 ghost use Rattle.archive_core_validation.specs.Visits.{as_entry, seen_in};
 
 use crate::{Visited, Visits};
-use archive_shape_checking::ValidationState;
+use archive_shape::ValidationState;
 use archive_shape_layout::{Pointee, same_shape};
 use archive_shape_writing::Error;
 use std::alloc::Global;
 use std::collections::BTreeMap;
 use std::collections::btree_map::Entry;
 
-/// What a shared position was met as, and whether its check has ended.
+/// The pointee and the length with which a shared position was first visited, and whether its check has ended.
 #[derive(Drop)]
 struct SharedEntry {
     pointee: Pointee,
@@ -21,8 +21,8 @@ struct SharedEntry {
     done: bool,
 }
 
-/// Keeps the shared positions that were met. Its memory grows with their number, and each is found in a time that grows with the
-/// logarithm of their number, whatever the positions are.
+/// Keeps the shared positions that were visited. Its memory grows with their number, and each is found in a time that
+/// grows with the logarithm of their number, for any positions.
 #[derive(Drop)]
 pub struct SharedValidator {
     met: BTreeMap<usize, SharedEntry>,
@@ -40,7 +40,7 @@ fn same_pointee(first: &Pointee, second: &Pointee) -> bool
 }
 
 impl SharedEntry {
-    /// What is known of the position where it is met again.
+    /// Returns the state of a position that is visited again with this pointee and this length.
     fn met_again(&self, len: usize, pointee: &Pointee) -> Result<ValidationState, Error>
         ensures { (k : Kept) (pos : ℕ) → k.seen pos ≡ Some (as_entry self.now)
             → MatchResult result (StartsShared k pos (pointee_of pointee.now) len k) (RefusesShared k pos (pointee_of pointee.now) len) }
@@ -60,7 +60,7 @@ impl SharedEntry {
 }
 
 impl SharedValidator {
-    /// One that has met no position. It takes no memory.
+    /// Creates a validator that has visited no position. It does not allocate.
     #[tactic(auto, unfolding(crate::specs::Visits::seen_in))]
     pub fn new(alloc: Global) -> Self
         ensures { (pos : ℕ) → ⟦<SharedValidator as Visited>⟧.seen result pos ≡ none_seen pos }
@@ -70,7 +70,8 @@ impl SharedValidator {
         }
     }
 
-    /// The same, for any capacity: nothing is reserved, since a search tree takes memory as it grows.
+    /// Creates a validator that has visited no position. Nothing is reserved for any capacity, because a search tree
+    /// allocates as it grows.
     pub fn with_capacity(alloc: Global, _capacity: usize) -> Result<Self, Error>
         ensures { MatchResult result
             (λ v. (pos : ℕ) → ⟦<SharedValidator as Visited>⟧.seen v pos ≡ none_seen pos)

@@ -1,15 +1,15 @@
-//! A validator of archives made of one of ranges and one of shared positions.
+//! `Validator`, a validator of archives that consists of a validator of ranges and one of shared positions.
 ghost use Rattle.std.specs.Prelude.{◌≡◌, ◌≢◌, MatchResult};
 ghost use Rattle.archive_shape_layout.specs.RuntimeShape.{pointee_of};
-ghost use Rattle.archive_shape_checking.specs.Kept.{Kept, Seen, StartsShared, RefusesShared, FinishesShared};
+ghost use Rattle.archive_shape.specs.Kept.{Kept, Seen, StartsShared, RefusesShared, FinishesShared};
 ghost use Rattle.archive_core_validation.specs.Depth.{none_seen, with_seen};
 
 use crate::{ArchiveValidator, SharedValidator};
-use archive_shape_checking::{ArchiveContext, PushedRange, SharedContext, ValidationState};
+use archive_shape::{ArchiveContext, PushedRange, SharedContext, ValidationState};
 use archive_shape_layout::Pointee;
 use archive_shape_writing::Error;
 
-/// What keeps the shared positions that were met.
+/// A type that keeps the shared positions that were visited.
 pub trait Visited {
     ghost seen: { Self → Seen };
 }
@@ -18,10 +18,10 @@ impl Visited for () {
     ghost seen = { λ _. none_seen };
 }
 
-/// What also starts and ends the checks of shared positions, as a `SharedContext` does, whatever else that keeps. After a refusal
-/// it is not used again.
+/// A type that also starts and ends the checks of shared positions, as a `SharedContext` does, regardless of what else
+/// that context keeps. After an error it must not be used again.
 pub trait Visits: Visited {
-    /// Returns what is known of a shared position with n elements, and starts its check at its first visit.
+    /// Returns what is known of a shared position with `len` elements, and starts its check at its first visit.
     fn start_shared(
         &mut self,
         pos: usize,
@@ -32,12 +32,12 @@ pub trait Visits: Visited {
             (StartsShared (with_seen k (Self.seen self.old)) pos (pointee_of pointee) len (with_seen k (Self.seen self.new)))
             (λ e. e ≢ Error.OutOfMemory → RefusesShared (with_seen k (Self.seen self.old)) pos (pointee_of pointee) len e) };
 
-    /// Ends the check of a shared position. It takes no memory.
+    /// Ends the check of a shared position. It does not allocate.
     fn finish_shared(&mut self, pos: usize) -> Result<(), Error>
         ensures { (k : Kept) → FinishesShared (with_seen k (Self.seen self.old)) pos (with_seen k (Self.seen self.new)) result (Self.seen self.old pos) };
 }
 
-/// A context of checks: the range is that of `archive`, and the shared positions are those of `shared`.
+/// A context of checks, with the range of `archive` and the shared positions of `shared`.
 #[derive(Drop)]
 pub struct Validator<A, S> {
     pub archive: A,
@@ -48,6 +48,7 @@ pub struct Validator<A, S> {
 pub type HighValidator = Validator<ArchiveValidator, SharedValidator>;
 
 impl<A, S> Validator<A, S> {
+    /// Creates a validator of its two parts.
     pub fn new(archive: A, shared: S) -> Self
         ensures archive { result.archive ≡ archive }
         ensures shared { result.shared ≡ shared }

@@ -1,9 +1,9 @@
-//! The program: a player is archived, read where it lies, edited in place, and read back.
+//! The example program: a player is archived, read in place, edited in place, and read back.
 #![tactic(auto)]
 
 ghost use Rattle.std.specs.Prelude.{⊤};
-ghost use Rattle.archive_shape_layout.specs.Shape.Shape.{vector};
-ghost use Rattle.archive_forms_reading.specs.Parts.{HasValue};
+ghost use Rattle.archive_shape.specs.ShapeLayout.Shape.Shape.{vector};
+ghost use Rattle.archive_forms_values.specs.Parts.{HasValue};
 ghost use Rattle.archive_example_player.specs.Player.{score_shape, player_shape, KnowsPlayer};
 
 use archive_core::{
@@ -15,7 +15,7 @@ use std::alloc::Global;
 use std::io;
 use thiserror::Error as Described;
 
-/// Why the program ends before its end.
+/// An error that ends the program early.
 #[derive(Debug, Drop, Described)]
 enum Fault {
     #[error("archive: {0}")]
@@ -44,7 +44,7 @@ fn player(alloc: Global) -> Result<Player, Error> {
     })
 }
 
-/// Prints the scores where they lie.
+/// Prints the scores, which are read in place.
 fn print_scores<R: Print>(rt: &R, scores: Ref<'_, ArchivedVec<ArchivedI32>>) -> io::Result<()>
     requires { HasValue (vector score_shape) (λ _. ⊤) scores.bytes.now scores.pos }
 {
@@ -56,7 +56,7 @@ fn print_scores<R: Print>(rt: &R, scores: Ref<'_, ArchivedVec<ArchivedI32>>) -> 
     Ok(())
 }
 
-/// Prints the fields of a player where they lie.
+/// Prints the fields of a player, which are read in place.
 fn print_fields<R: Print>(rt: &R, player: Ref<'_, ArchivedPlayer>) -> io::Result<()>
     requires { HasValue player_shape KnowsPlayer player.bytes.now player.pos }
 {

@@ -6,18 +6,18 @@ use Rattle.std.specs.String.{string_bytes}
 use Rattle.std.specs.Global.{Global}
 use Rattle.archive_shape_layout.specs.Shape.Shape.{text, vector}
 use Rattle.archive_shape_layout.specs.Value.Value.{natural, integer}
-use Rattle.archive_shape_canonical.specs.FirstFit.{first_fit}
-use Rattle.archive_forms_spelling.specs.Fields.{FieldsSpelling, no_fields, more_fields}
-use Rattle.archive_forms_spelling.specs.Pointers.{slice_spelling}
-use Rattle.archive_forms_spelling.specs.Spells.{Spells}
-use Rattle.archive_forms_spelling.specs.Texts.{text_spelling}
-use Rattle.archive_forms_spelling.proofs.Leaves.{leaf_spells}
-use Rattle.archive_forms_spelling.proofs.Options.{option_spells}
-use Rattle.archive_forms_spelling.proofs.Pointers.{slice_spells}
-use Rattle.archive_forms_spelling.proofs.Texts.{text_spells}
-use Rattle.archive_forms_spelling.proofs.Views.{kept_spells, seen_spells}
-use Rattle.archive_forms_reading.specs.declared.resolving.VecResolver.{VecResolver}
-use Rattle.archive_forms_text.specs.declared.resolving.StringResolver.{StringResolver}
+use Rattle.archive_forms_laws.specs.ShapeCanonical.FirstFit.{first_fit}
+use Rattle.archive_forms_laws.specs.Fields.{FieldsSpelling, no_fields, more_fields}
+use Rattle.archive_forms_laws.specs.Pointers.{slice_spelling}
+use Rattle.archive_forms_laws.specs.Spells.{Spells}
+use Rattle.archive_forms_laws.specs.Texts.{text_spelling}
+use Rattle.archive_forms_laws.proofs.Leaves.{leaf_spells}
+use Rattle.archive_forms_laws.proofs.Options.{option_spells}
+use Rattle.archive_forms_laws.proofs.Pointers.{slice_spells}
+use Rattle.archive_forms_laws.proofs.Texts.{text_spells}
+use Rattle.archive_forms_laws.proofs.Views.{kept_spells, seen_spells}
+use Rattle.archive_forms_values.specs.declared.reading.resolving.VecResolver.{VecResolver}
+use Rattle.archive_forms_values.specs.declared.text.resolving.StringResolver.{StringResolver}
 use Rattle.archive_forms_writing.specs.Owned.{str_spelling, string_spelling, vec_spelling}
 use Rattle.archive_example_player.specs.declared.player.Player.{Player}
 use Rattle.archive_example_player.specs.Player.{level_shape, score_shape, scores_shape, level_spelling, score_spelling, scores_spelling}

@@ -1,13 +1,13 @@
--- What stands where the fields of an archived player do.
+-- The values at the positions of the fields of an archived player.
 use Rattle.std.specs.Prelude.{⊤}
 use Rattle.std.proofs.Common.{ℕ, ◌+◌, List}
 use Rattle.archive_shape_layout.specs.Bytes.{align_up}
 use Rattle.archive_shape.proofs.Held.{claims_within}
-use Rattle.archive_forms_layout.specs.Text.{HasText}
-use Rattle.archive_forms_layout.proofs.Held.{held_is_text_law}
-use Rattle.archive_forms_reading.specs.Parts.{HasValue}
-use Rattle.archive_forms_tuples.specs.Fields.{IsGroupOf, AreFieldsAt}
-use Rattle.archive_forms_tuples.proofs.Held.{fields_at}
+use Rattle.archive_forms_laws.specs.Text.{HasText}
+use Rattle.archive_forms_laws.proofs.Held.{held_is_text_law}
+use Rattle.archive_forms_values.specs.Parts.{HasValue}
+use Rattle.archive_forms_values.specs.Fields.{IsGroupOf, AreFieldsAt}
+use Rattle.archive_forms_values.proofs.Held.{fields_at}
 use Rattle.archive_example_player.specs.Player.{level_shape, scores_shape, player_shape, player_parts, KnowsPlayer}
 
 -- each value that a player has is that of its fields

@@ -2,10 +2,10 @@
 use Rattle.std.proofs.Common.{ℕ, ◌+◌, List, Option, Ok, ap}
 use Rattle.archive_shape_layout.specs.Shape.Shape.{tuple, text}
 use Rattle.archive_shape_writing.specs.declared.error.Error.{Error}
-use Rattle.archive_forms_spelling.specs.Fields.{struct_spelling, no_fields}
-use Rattle.archive_forms_spelling.specs.Serializing.{CanResolve, Resolves}
-use Rattle.archive_forms_reading.specs.declared.resolving.VecResolver.{VecResolver}
-use Rattle.archive_forms_text.specs.declared.resolving.StringResolver.{StringResolver}
+use Rattle.archive_forms_laws.specs.Fields.{struct_spelling, no_fields}
+use Rattle.archive_forms_laws.specs.Serializing.{CanResolve, Resolves}
+use Rattle.archive_forms_values.specs.declared.reading.resolving.VecResolver.{VecResolver}
+use Rattle.archive_forms_values.specs.declared.text.resolving.StringResolver.{StringResolver}
 use Rattle.archive_forms_writing.specs.Fields.{field_at, ResolvesField}
 use Rattle.archive_forms_writing.specs.Owned.{string_spelling}
 use Rattle.archive_forms_writing.proofs.Structs.{Placed, placed_none, placed_can, placed_next, placed_stopped, placed_all}

@@ -3,12 +3,12 @@ use Rattle.std.proofs.Common.{◌≡◌, Option, Ok, Err, ap}
 use Rattle.archive_shape_layout.specs.Shape.Shape.{text}
 use Rattle.archive_shape_writing.specs.Writing.{WriterMembers}
 use Rattle.archive_shape_writing.specs.declared.error.Error.{Error}
-use Rattle.archive_forms_spelling.specs.State.{State}
-use Rattle.archive_forms_spelling.specs.Spelling.{state_after}
-use Rattle.archive_forms_spelling.specs.Fields.{no_fields}
-use Rattle.archive_forms_spelling.specs.Serializing.{IsAt, HasState, Serializes}
-use Rattle.archive_forms_reading.specs.declared.resolving.VecResolver.{VecResolver}
-use Rattle.archive_forms_text.specs.declared.resolving.StringResolver.{StringResolver}
+use Rattle.archive_forms_laws.specs.State.{State}
+use Rattle.archive_forms_laws.specs.Spelling.{state_after}
+use Rattle.archive_forms_laws.specs.Fields.{no_fields}
+use Rattle.archive_forms_laws.specs.Serializing.{IsAt, HasState, Serializes}
+use Rattle.archive_forms_values.specs.declared.reading.resolving.VecResolver.{VecResolver}
+use Rattle.archive_forms_values.specs.declared.text.resolving.StringResolver.{StringResolver}
 use Rattle.archive_forms_writing.specs.Owned.{string_spelling}
 use Rattle.archive_forms_writing.proofs.Structs.{Reached, reached_none, reached_next, reached_stopped, reached_all}
 use Rattle.archive_example_player.specs.declared.player.Player.{Player}

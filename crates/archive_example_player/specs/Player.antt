@@ -6,14 +6,14 @@ use Rattle.archive_shape_layout.specs.Shape.{Shape}
 use Rattle.archive_shape_layout.specs.Shape.Shape.{number, text, option, vector}
 use Rattle.archive_shape_layout.specs.Value.Value.{natural, integer}
 use Rattle.archive_shape_layout.specs.Content.{Names}
-use Rattle.archive_forms_checking.specs.Tuples.{tuple3}
-use Rattle.archive_forms_spelling.specs.Spelling.{Spelling}
-use Rattle.archive_forms_spelling.specs.Forms.{leaf_spelling, seen_as}
-use Rattle.archive_forms_spelling.specs.Options.{option_spelling}
-use Rattle.archive_forms_spelling.specs.Fields.{tuple3_spelling}
-use Rattle.archive_forms_reading.specs.declared.resolving.VecResolver.{VecResolver}
-use Rattle.archive_forms_text.specs.declared.resolving.StringResolver.{StringResolver}
-use Rattle.archive_forms_tuples.specs.Fields.{Field, field}
+use Rattle.archive_forms_values.specs.Tuples.{tuple3}
+use Rattle.archive_forms_laws.specs.Spelling.{Spelling}
+use Rattle.archive_forms_laws.specs.Forms.{leaf_spelling, seen_as}
+use Rattle.archive_forms_laws.specs.Options.{option_spelling}
+use Rattle.archive_forms_laws.specs.Fields.{tuple3_spelling}
+use Rattle.archive_forms_values.specs.declared.reading.resolving.VecResolver.{VecResolver}
+use Rattle.archive_forms_values.specs.declared.text.resolving.StringResolver.{StringResolver}
+use Rattle.archive_forms_values.specs.Fields.{Field, field}
 use Rattle.archive_forms_writing.specs.Owned.{string_spelling, vec_spelling}
 use Rattle.archive_example_player.specs.declared.player.Player.{Player}
 

@@ -1,11 +1,12 @@
-//! The archived form of the struct: where its fields stand, how it is checked, read where it lies, edited and read back.
+//! The archived form of the struct: the positions of its fields, and how it is checked, read in place, edited and read
+//! back.
 ghost use Rattle.std.specs.Prelude.{◌≡◌, ◌+◌, ◌-◌, ◌^◌, min, [], ⊤};
 ghost use Rattle.std.proofs.Common.{refl, lit<, lit≤};
 ghost use Rattle.archive_shape_layout.specs.Shape.{size_of};
-ghost use Rattle.archive_forms_layout.specs.Text.{HasText};
-ghost use Rattle.archive_forms_reading.specs.Parts.{HasValue};
-ghost use Rattle.archive_forms_tuples.specs.Fields.{AreFieldsAt};
-ghost use Rattle.archive_forms_deserializing.specs.Reading.{reads_in};
+ghost use Rattle.archive_forms_laws.specs.Text.{HasText};
+ghost use Rattle.archive_forms_values.specs.Parts.{HasValue};
+ghost use Rattle.archive_forms_values.specs.Fields.{AreFieldsAt};
+ghost use Rattle.archive_forms.specs.Reading.{reads_in};
 ghost use Rattle.archive_example_player.specs.Player.{level_shape, scores_shape, player_shape, player_parts, KnowsPlayer, player_fields};
 
 use crate::Player;
@@ -77,7 +78,7 @@ impl<D> Deserialize<Player, D> for ArchivedPlayer {
 }
 
 impl ArchivedPlayer {
-    /// The level.
+    /// Returns the level.
     pub fn level<'a>(this: Ref<'a, ArchivedPlayer>) -> Ref<'a, u8>
         requires { HasValue player_shape KnowsPlayer this.bytes.now this.pos }
         ensures bytes { result.bytes ≡ this.entry.bytes }
@@ -88,7 +89,7 @@ impl ArchivedPlayer {
         ArchivedTuple3::first(Ref::<Fields>::new(this.bytes, this.pos))
     }
 
-    /// The name.
+    /// Returns the name.
     pub fn name<'a>(this: Ref<'a, ArchivedPlayer>) -> Ref<'a, ArchivedString>
         requires { HasValue player_shape KnowsPlayer this.bytes.now this.pos }
         ensures bytes { result.bytes ≡ this.entry.bytes }
@@ -99,7 +100,7 @@ impl ArchivedPlayer {
         ArchivedTuple3::second(Ref::<Fields>::new(this.bytes, this.pos))
     }
 
-    /// The scores, where they are kept.
+    /// Returns the scores, which are none if they are not kept.
     pub fn scores<'a>(
         this: Ref<'a, ArchivedPlayer>,
     ) -> Ref<'a, ArchivedOption<ArchivedVec<ArchivedI32>>>
@@ -112,7 +113,7 @@ impl ArchivedPlayer {
         ArchivedTuple3::third(Ref::<Fields>::new(this.bytes, this.pos))
     }
 
-    /// The level, to be edited.
+    /// Returns the level, which may be edited.
     pub fn level_seal<'a>(this: Seal<'a, ArchivedPlayer>) -> Seal<'a, u8>
         ensures same_reference { result.bytes.ghost_name ≡ this.entry.bytes.ghost_name }
         ensures bytes { result.bytes.now ≡ this.entry.bytes.now }

@@ -1,7 +1,7 @@
-//! A struct of one's own that can be archived: what a derive would write, by hand.
+//! A user-defined struct that can be archived: what a derive macro would write, by hand.
 //!
-//! A player is archived as the tuple of its fields is. So its archived form has the tuple's layout and check, its spelling is
-//! the tuple's, and only the two calls that write the fields are proved anew.
+//! A player is archived as the tuple of its fields is. Its archived form has the tuple's layout and check, and its
+//! spelling is the tuple's. Only the two functions that write the fields are proved separately.
 #![tactic(auto)]
 
 mod archived;

@@ -1,18 +1,18 @@
-//! A struct, and how it is archived.
+//! `Player`, a struct, and how it is archived.
 ghost use Rattle.std.specs.Prelude.{◌-◌, ◌^◌, ◌<◌, [], ◌∷◌, refl};
 ghost use Rattle.std.specs.Int.{w32, to_le_bytes, cast_unsigned};
 ghost use Rattle.std.specs.String.{string_bytes};
 ghost use Rattle.archive_shape_layout.specs.Shape.Shape.{text, vector};
 ghost use Rattle.archive_shape_layout.specs.Value.Value.{natural, integer};
-ghost use Rattle.archive_forms_spelling.specs.Pointers.{slice_spelling};
-ghost use Rattle.archive_forms_spelling.specs.Texts.{text_spelling};
-ghost use Rattle.archive_forms_spelling.specs.Serializing.{CanResolve, HasState, Resolves, Serializes};
-ghost use Rattle.archive_forms_spelling.proofs.Fields.{tuple3_spells};
-ghost use Rattle.archive_forms_spelling.proofs.Leaves.{leaf_spells};
-ghost use Rattle.archive_forms_spelling.proofs.Options.{option_spells};
-ghost use Rattle.archive_forms_spelling.proofs.Pointers.{slice_spells};
-ghost use Rattle.archive_forms_spelling.proofs.Texts.{text_spells};
-ghost use Rattle.archive_forms_spelling.proofs.Views.{kept_spells, seen_spells};
+ghost use Rattle.archive_forms_laws.specs.Pointers.{slice_spelling};
+ghost use Rattle.archive_forms_laws.specs.Texts.{text_spelling};
+ghost use Rattle.archive_forms_laws.specs.Serializing.{CanResolve, HasState, Resolves, Serializes};
+ghost use Rattle.archive_forms_laws.proofs.Fields.{tuple3_spells};
+ghost use Rattle.archive_forms_laws.proofs.Leaves.{leaf_spells};
+ghost use Rattle.archive_forms_laws.proofs.Options.{option_spells};
+ghost use Rattle.archive_forms_laws.proofs.Pointers.{slice_spells};
+ghost use Rattle.archive_forms_laws.proofs.Texts.{text_spells};
+ghost use Rattle.archive_forms_laws.proofs.Views.{kept_spells, seen_spells};
 ghost use Rattle.archive_forms_writing.specs.Owned.{str_spelling, string_spelling, vec_spelling};
 ghost use Rattle.archive_example_player.specs.Player.{KnowsPlayer, level_shape, score_shape, scores_shape, player_shape, level_spelling, score_spelling, scores_spelling, player_fields, fields_spelling, player_spelling};
 
@@ -21,7 +21,7 @@ use archive_core::{
     Allocator, Archive, Error, Place, Serialize, StringResolver, VecResolver, Writer, resolve_field,
 };
 
-/// A player: the level that was reached, a name, and the scores of the games that were played, where they are kept.
+/// A player: the level that was reached, a name, and the scores of the games that were played, if they are kept.
 #[derive(Drop)]
 pub struct Player {
     pub level: u8,

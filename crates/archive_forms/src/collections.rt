@@ -1,2 +1,2 @@
-//! What maps and sets are archived by.
+//! The types with which maps and sets are archived.
 pub mod util;

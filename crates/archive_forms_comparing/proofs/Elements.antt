@@ -1,4 +1,4 @@
--- Elements that stand side by side are compared one by one.
+-- Adjacent elements are compared one by one.
 use Rattle.std.proofs.Common.{◌≡◌, ℕ, zero, suc, ◌+◌, ◌*◌, ◌<◌, min, Bool, true, List, [], ◌∷◌, length, drop, Some, refl, sym, ap, subst, ◌∙◌, arith}
 use Rattle.std.specs.declared.cmp.Ordering.{Ordering}
 use Rattle.std.specs.declared.cmp.Ordering.TheVariants.{Less, Equal, Greater}
@@ -6,14 +6,14 @@ use Rattle.std.specs.Ordering.{nat_cmp, MatchOrdering}
 use Rattle.std.specs.Cmp.{ranks}
 use Rattle.std.specs.Cmp.Lexicographic.{pointwise, slice_cmp}
 use Rattle.std.proofs.lemmas.List.{length-drop}
-use Rattle.archive_shape_layout.specs.Shape.{Shape, size_of}
-use Rattle.archive_shape_layout.specs.Value.{Value, Values, count_values}
-use Rattle.archive_shape_layout.specs.Value.Values.{no_values, more_values}
-use Rattle.archive_shape_layout.specs.Content.{Names}
-use Rattle.archive_shape_layout.specs.Path.{value_in}
+use Rattle.archive_shape.specs.ShapeLayout.Shape.{Shape, size_of}
+use Rattle.archive_shape.specs.ShapeLayout.Value.{Value, Values, count_values}
+use Rattle.archive_shape.specs.ShapeLayout.Value.Values.{no_values, more_values}
+use Rattle.archive_shape.specs.ShapeLayout.Content.{Names}
+use Rattle.archive_shape.specs.ShapeLayout.Path.{value_in}
 use Rattle.archive_shape.specs.Key.{HeldAt}
-use Rattle.archive_forms_ordering.specs.Views.{listed, elements_of}
-use Rattle.archive_forms_reading.specs.Parts.{HasElements, AreElements}
+use Rattle.archive_forms_laws.specs.Views.{listed, elements_of}
+use Rattle.archive_forms_values.specs.Parts.{HasElements, AreElements}
 use Rattle.archive_forms_comparing.specs.Compared.{IsElement}
 
 -- ---- the list of a value's elements

@@ -1,3 +1,4 @@
 pub mod Elements
+pub mod Hashed
 pub mod Ordered
 pub mod Seen

@@ -1,15 +1,15 @@
 -- Values that are seen as their parts, and compared by them.
 use Rattle.std.proofs.Common.{◌≡◌, ℕ, List, Option, Some, None, Result, Ok, Err, MatchOption, MatchResult, refl, sym, ap, subst, ◌∙◌}
-use Rattle.archive_shape_layout.specs.Shape.{Shape}
-use Rattle.archive_shape_layout.specs.Shape.Shape.{option, result, box}
-use Rattle.archive_shape_layout.specs.Shape.Pointee.{sized}
-use Rattle.archive_shape_layout.specs.Value.{Value}
-use Rattle.archive_shape_layout.specs.Content.{Names}
-use Rattle.archive_forms_ordering.specs.Views.{option_of, result_of}
-use Rattle.archive_forms_reading.specs.Parts.{HasValue, IsSomeAt, some_position, IsOkAt, IsErrAt, outcome_position, both, IsBoxAt}
+use Rattle.archive_shape.specs.ShapeLayout.Shape.{Shape}
+use Rattle.archive_shape.specs.ShapeLayout.Shape.Shape.{option, result, box}
+use Rattle.archive_shape.specs.ShapeLayout.Shape.Pointee.{sized}
+use Rattle.archive_shape.specs.ShapeLayout.Value.{Value}
+use Rattle.archive_shape.specs.ShapeLayout.Content.{Names}
+use Rattle.archive_forms_laws.specs.Views.{option_of, result_of}
+use Rattle.archive_forms_values.specs.Parts.{HasValue, IsSomeAt, some_position, IsOkAt, IsErrAt, outcome_position, both, IsBoxAt}
 use Rattle.archive_forms_comparing.specs.Compared.{HasPart, OfBoth}
 
--- ---- what a call answers, said in other words
+-- ---- the result of a call, in other words
 
 pub option_matched : {A : Type 0} (P P' : Type 0) (Q Q' : A → Type 0) (o : Option A) → (P → P') → ((x : A) → Q x → Q' x) → MatchOption o P Q → MatchOption o P' Q'
 option_matched P P' Q Q' None f g h = f h
@@ -21,7 +21,7 @@ result_matched P P' Q Q' (Err y) f g h = g y h
 
 -- ---- parts
 
--- a part that stands in bytes stands in the same bytes
+-- a part that is in bytes is in the same bytes
 pub moved : {is_part : Value → Value → Type 0} {s t : Shape} {knows others : Names → Type 0} {bytes part_bytes : List ℕ} {pos at from : ℕ}
     → part_bytes ≡ bytes → from ≡ at → HasPart is_part s knows bytes pos t others bytes at → HasPart is_part s knows bytes pos t others part_bytes from
 moved {is_part} {s} {t} {knows} {others} {bytes} {pos = pos} {from = from} b p h =

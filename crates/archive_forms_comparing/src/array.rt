@@ -1,18 +1,18 @@
 //! Arrays are compared as vectors of their elements are.
-ghost use Rattle.archive_shape_layout.specs.Shape.Shape.{array};
-ghost use Rattle.archive_shape_layout.specs.Value.{Value};
+ghost use Rattle.archive_shape.specs.ShapeLayout.Shape.Shape.{array};
+ghost use Rattle.archive_shape.specs.ShapeLayout.Value.{Value};
 ghost use Rattle.archive_shape.specs.Key.{HeldAt};
-ghost use Rattle.archive_forms_ordering.specs.Orders.{vector_equality, vector_order};
-ghost use Rattle.archive_forms_ordering.proofs.Forms.{equivalences, total, agree};
-ghost use Rattle.archive_forms_reading.specs.Parts.{HasValue, HasElements, AreElements};
+ghost use Rattle.archive_forms_laws.specs.Orders.{vector_equality, vector_order};
+ghost use Rattle.archive_forms_laws.proofs.Forms.{equivalences, total, agree};
+ghost use Rattle.archive_forms_values.specs.Parts.{HasValue, HasElements, AreElements};
 
 use crate::vector::{compare_elements, equal_elements};
 use crate::{ArchivedEq, ArchivedOrd};
-use archive_forms_reading::{SliceRef, array_slice};
+use archive_forms_values::{SliceRef, array_slice};
 use archive_shape::{Portable, Ref};
 use std::cmp::Ordering;
 
-/// The elements of an array.
+/// Returns the elements of an archived array.
 pub fn array_elements<'a, T: Portable, const N: usize>(this: &Ref<'a, [T; N]>) -> SliceRef<'a, T>
     requires { HasValue (array N T.shape) T.knows this.now.bytes.now this.now.pos }
     ensures there { HasElements T.shape T.knows result.bytes.now result.pos result.len }

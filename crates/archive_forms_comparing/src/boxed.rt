@@ -1,7 +1,7 @@
 //! Boxes are compared as their values.
 use crate::parts::box_value;
 use crate::{ArchivedEq, ArchivedOrd};
-use archive_forms_reading::ArchivedBox;
+use archive_forms_values::ArchivedBox;
 use archive_shape::Ref;
 use std::cmp::Ordering;
 

@@ -1,20 +1,19 @@
 //! Boxes of slices are compared as vectors of their elements are.
-ghost use Rattle.archive_shape_layout.specs.Shape.Shape.{box};
-ghost use Rattle.archive_shape_layout.specs.Shape.Pointee.{slice};
-ghost use Rattle.archive_shape_layout.specs.Value.{Value};
+ghost use Rattle.archive_shape.specs.ShapeLayout.Shape.Shape.{box};
+ghost use Rattle.archive_shape.specs.ShapeLayout.Shape.Pointee.{slice};
+ghost use Rattle.archive_shape.specs.ShapeLayout.Value.{Value};
 ghost use Rattle.archive_shape.specs.Key.{HeldAt};
-ghost use Rattle.archive_forms_ordering.specs.Orders.{vector_equality, vector_order};
-ghost use Rattle.archive_forms_ordering.proofs.Forms.{equivalences, total, agree};
-ghost use Rattle.archive_forms_reading.specs.Parts.{HasValue, HasElements, AreElements};
+ghost use Rattle.archive_forms_laws.specs.Orders.{vector_equality, vector_order};
+ghost use Rattle.archive_forms_laws.proofs.Forms.{equivalences, total, agree};
+ghost use Rattle.archive_forms_values.specs.Parts.{HasValue, HasElements, AreElements};
 
 use crate::vector::{compare_elements, equal_elements};
 use crate::{ArchivedEq, ArchivedOrd};
-use archive_forms_boxed::ArchivedBoxedSlice;
-use archive_forms_reading::SliceRef;
+use archive_forms_values::{ArchivedBoxedSlice, SliceRef};
 use archive_shape::{Portable, Ref};
 use std::cmp::Ordering;
 
-/// The elements of the box of a slice.
+/// Returns the elements of the archived box of a slice.
 pub fn boxed_elements<'a, T: Portable>(this: &Ref<'a, ArchivedBoxedSlice<T>>) -> SliceRef<'a, T>
     requires { HasValue (box (slice T.shape)) T.knows this.now.bytes.now this.now.pos }
     ensures there { HasElements T.shape T.knows result.bytes.now result.pos result.len }

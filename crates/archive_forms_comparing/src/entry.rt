@@ -1,17 +1,17 @@
 //! Entries are compared as the tuples of their key and their value.
 ghost use Rattle.std.specs.Prelude.{◌≡◌};
-ghost use Rattle.archive_forms_checking.specs.Tuples.{tuple2};
-ghost use Rattle.archive_forms_ordering.specs.Orders.{no_fields_equality, no_fields_order, more_fields_equality, more_fields_order, tuple_equality, tuple_order};
-ghost use Rattle.archive_forms_ordering.proofs.Forms.{equivalences, total, agree};
-ghost use Rattle.archive_forms_reading.specs.Parts.{HasValue, both};
+ghost use Rattle.archive_forms_values.specs.Tuples.{tuple2};
+ghost use Rattle.archive_forms_laws.specs.Orders.{no_fields_equality, no_fields_order, more_fields_equality, more_fields_order, tuple_equality, tuple_order};
+ghost use Rattle.archive_forms_laws.proofs.Forms.{equivalences, total, agree};
+ghost use Rattle.archive_forms_values.specs.Parts.{HasValue, both};
 ghost use Rattle.archive_forms_comparing.specs.Compared.{HasPart};
 
 use crate::{ArchivedEq, ArchivedOrd};
-use archive_forms_tuples::{ArchivedTuple2, Entry};
+use archive_forms_values::{ArchivedTuple2, Entry};
 use archive_shape::{Portable, Ref};
 use std::cmp::Ordering;
 
-/// The entry as a tuple, which stands at the same place.
+/// Returns the entry as a tuple of its key and its value, at the same position.
 pub fn tuple_of<'a, K: Portable, V: Portable>(
     this: &Ref<'a, Entry<K, V>>,
 ) -> Ref<'a, ArchivedTuple2<K, V>>

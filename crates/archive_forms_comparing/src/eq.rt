@@ -1,17 +1,18 @@
-//! Equality of archived values.
+//! `ArchivedEq`, the equality of archived values.
 ghost use Rattle.std.specs.Cmp.{IsEquivalence};
-ghost use Rattle.archive_forms_ordering.specs.Orders.{Equality};
-ghost use Rattle.archive_forms_reading.specs.Parts.{HasValue};
+ghost use Rattle.archive_forms_laws.specs.Orders.{Equality};
+ghost use Rattle.archive_forms_values.specs.Parts.{HasValue};
 ghost use Rattle.archive_forms_comparing.specs.Compared.{OfBoth};
 
 use archive_shape::{Portable, Ref};
 
-/// A type of archived values that are equal or not. Equality rests on the values alone, wherever each lies.
+/// A type of archived values that can be compared for equality. The result depends only on the two values, not on their
+/// positions.
 pub trait ArchivedEq: Portable {
-    /// Whether two values are equal.
+    /// The equality of two values.
     ghost equal: { Equality };
 
-    /// Whether the two values are equal.
+    /// Returns `true` if the two values are equal.
     fn eq(this: &Ref<'_, Self>, other: &Ref<'_, Self>) -> bool
         requires this { HasValue Self.shape Self.knows this.now.bytes.now this.now.pos }
         requires other { HasValue Self.shape Self.knows other.now.bytes.now other.now.pos }

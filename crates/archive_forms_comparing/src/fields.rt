@@ -1,14 +1,14 @@
-//! A field is compared where the fields before it do not decide.
+//! The comparison of a field, for which the fields before it come first.
 ghost use Rattle.std.specs.Prelude.{◌&&◌};
 ghost use Rattle.std.specs.Ordering.{ordering_then};
-ghost use Rattle.archive_forms_reading.specs.Parts.{HasValue};
+ghost use Rattle.archive_forms_values.specs.Parts.{HasValue};
 ghost use Rattle.archive_forms_comparing.specs.Compared.{OfBoth};
 
 use crate::{ArchivedEq, ArchivedOrd};
 use archive_shape::Ref;
 use std::cmp::Ordering;
 
-/// Whether two fields are equal, and those before them were.
+/// Returns `true` if two fields are equal and `found` says that those before them are.
 pub(crate) fn equal_then<T: ArchivedEq>(found: bool, this: &Ref<'_, T>, other: &Ref<'_, T>) -> bool
     requires this { HasValue T.shape T.knows this.now.bytes.now this.now.pos }
     requires other { HasValue T.shape T.knows other.now.bytes.now other.now.pos }
@@ -20,7 +20,7 @@ pub(crate) fn equal_then<T: ArchivedEq>(found: bool, this: &Ref<'_, T>, other: &
     T::eq(this, other)
 }
 
-/// How two fields stand to each other, where those before them were equal.
+/// Returns `found`, the order of the fields before, unless it is `Equal`, and otherwise the order of the two fields.
 pub(crate) fn compare_then<T: ArchivedOrd>(
     found: Ordering,
     this: &Ref<'_, T>,

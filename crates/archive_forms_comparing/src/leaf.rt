@@ -1,10 +1,10 @@
-//! Numbers, truth values and chars are compared.
-ghost use Rattle.archive_forms_ordering.specs.Views.{natural_of, integer_of, truth_of};
-ghost use Rattle.archive_forms_ordering.specs.Orders.{natural_equality, natural_order, integer_equality, integer_order, truth_equality, truth_order};
-ghost use Rattle.archive_forms_ordering.proofs.Forms.{equivalences, total, agree};
+//! Numbers, truth values and chars are compared as their native values are.
+ghost use Rattle.archive_forms_laws.specs.Views.{natural_of, integer_of, truth_of};
+ghost use Rattle.archive_forms_laws.specs.Orders.{natural_equality, natural_order, integer_equality, integer_order, truth_equality, truth_order};
+ghost use Rattle.archive_forms_laws.proofs.Forms.{equivalences, total, agree};
 
 use crate::{ArchivedEq, ArchivedOrd, ComparedNative};
-use archive_forms_reading::native_of;
+use archive_forms_values::native_of;
 use archive_shape::{LittleEndian, Ref};
 use std::cmp::Ordering;
 use std::num::{NonZeroI8, NonZeroU8};

@@ -1,9 +1,13 @@
-//! Archived values are compared where they lie, as their native values are.
+//! Archived values are compared in place, as their native values are.
 //!
-//! A value of an archived type is known by where it lies, so the calls take two `Ref`s. The orders and their laws are those
-//! of archive_forms_ordering. What is hashed of archived values, and how they are printed, is in archive_forms_hashing, which
-//! goes by the same parts.
+//! A value of an archived type is known by its position, so the functions take two `Ref`s. The orders and their laws
+//! are those of archive_forms_laws. The module `hashing` hashes and prints archived values, which it takes apart in the
+//! same way.
 #![tactic(auto)]
+
+mod hashing;
+
+pub use hashing::{ArchivedDebug, ArchivedHash, fmt_elements, hash_elements};
 
 mod array;
 mod boxed;

@@ -1,15 +1,15 @@
-//! Native numbers that are compared as the layout's values of them.
+//! `ComparedNative`, native numbers and chars that are compared as their values in the layout.
 ghost use Rattle.std.specs.Prelude.{◌≡◌};
 ghost use Rattle.std.specs.Hash.{Alike};
-ghost use Rattle.archive_forms_ordering.specs.Orders.{Comparison, Hashed};
-ghost use Rattle.archive_forms_ordering.specs.Laws.{IsLawful};
+ghost use Rattle.archive_forms_laws.specs.Orders.{Comparison, Hashed};
+ghost use Rattle.archive_forms_laws.specs.OrderingLaws.{IsLawful};
 
 use archive_shape::Native;
 use std::hash::Hash;
 
-/// A number or char whose value in the layout tells how it compares and what is hashed of it.
+/// A number or char whose value in the layout determines how it is compared and what is hashed of it.
 pub trait ComparedNative: Native + Ord + Hash {
-    /// How the values compare.
+    /// The comparison of the values.
     ghost comparison: { Comparison };
 
     /// What is hashed of a value.
@@ -23,6 +23,6 @@ pub trait ComparedNative: Native + Ord + Hash {
 
     ghost is_lawful: { IsLawful comparison };
 
-    /// Equal values are hashed alike.
+    /// Equal values have the same hash input.
     ghost alike: { Alike comparison.equal hashed };
 }

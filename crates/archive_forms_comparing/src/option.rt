@@ -1,10 +1,10 @@
-//! Options are compared: none before some.
-ghost use Rattle.archive_forms_ordering.specs.Orders.{option_equality, option_order};
-ghost use Rattle.archive_forms_ordering.proofs.Forms.{equivalences, total, agree};
+//! Options are compared: none is less than some.
+ghost use Rattle.archive_forms_laws.specs.Orders.{option_equality, option_order};
+ghost use Rattle.archive_forms_laws.proofs.Forms.{equivalences, total, agree};
 
 use crate::parts::option_value;
 use crate::{ArchivedEq, ArchivedOrd};
-use archive_forms_reading::ArchivedOption;
+use archive_forms_values::ArchivedOption;
 use archive_shape::Ref;
 use std::cmp::Ordering;
 

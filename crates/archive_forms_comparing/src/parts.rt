@@ -1,17 +1,17 @@
-//! The parts of values that have parts, as the values are seen where they are compared.
+//! The parts of archived options, results and boxes that comparisons use.
 ghost use Rattle.std.specs.Prelude.{◌≡◌, None, Some, Ok, Err, MatchOption, MatchResult};
-ghost use Rattle.archive_shape_layout.specs.Shape.Shape.{option, result as result_shape, box};
-ghost use Rattle.archive_shape_layout.specs.Shape.Pointee.{sized};
-ghost use Rattle.archive_shape_layout.specs.Value.{Value};
+ghost use Rattle.archive_shape.specs.ShapeLayout.Shape.Shape.{option, result as result_shape, box};
+ghost use Rattle.archive_shape.specs.ShapeLayout.Shape.Pointee.{sized};
+ghost use Rattle.archive_shape.specs.ShapeLayout.Value.{Value};
 ghost use Rattle.archive_shape.specs.Key.{HeldAt};
-ghost use Rattle.archive_forms_ordering.specs.Views.{option_of, result_of};
-ghost use Rattle.archive_forms_reading.specs.Parts.{HasValue, both};
+ghost use Rattle.archive_forms_laws.specs.Views.{option_of, result_of};
+ghost use Rattle.archive_forms_values.specs.Parts.{HasValue, both};
 ghost use Rattle.archive_forms_comparing.specs.Compared.{HasPart};
 
-use archive_forms_reading::{ArchivedBox, ArchivedOption, ArchivedResult};
+use archive_forms_values::{ArchivedBox, ArchivedOption, ArchivedResult};
 use archive_shape::{Portable, Ref};
 
-/// The value of an option, if there is one.
+/// Returns the value of an archived option, if there is one.
 pub fn option_value<'a, T: Portable>(this: &Ref<'a, ArchivedOption<T>>) -> Option<Ref<'a, T>>
     requires { HasValue (option T.shape) T.knows this.now.bytes.now this.now.pos }
     ensures { MatchOption result
@@ -21,7 +21,7 @@ pub fn option_value<'a, T: Portable>(this: &Ref<'a, ArchivedOption<T>>) -> Optio
     ArchivedOption::as_ref(*this)
 }
 
-/// The value or the error of a result.
+/// Returns the value or the error of an archived result.
 pub fn result_outcome<'a, T: Portable, E: Portable>(
     this: &Ref<'a, ArchivedResult<T, E>>,
 ) -> Result<Ref<'a, T>, Ref<'a, E>>
@@ -33,7 +33,7 @@ pub fn result_outcome<'a, T: Portable, E: Portable>(
     ArchivedResult::as_ref(*this)
 }
 
-/// The value of a box.
+/// Returns the value of an archived box.
 pub fn box_value<'a, T: Portable>(this: &Ref<'a, ArchivedBox<T>>) -> Ref<'a, T>
     requires { HasValue (box (sized T.shape)) T.knows this.now.bytes.now this.now.pos }
     ensures { HasPart (λ v x. v ≡ x) (box (sized T.shape)) T.knows this.now.bytes.now this.now.pos T.shape T.knows result.bytes.now result.pos }

@@ -1,10 +1,10 @@
-//! Results are compared: a value before an error.
-ghost use Rattle.archive_forms_ordering.specs.Orders.{result_equality, result_order};
-ghost use Rattle.archive_forms_ordering.proofs.Forms.{equivalences, total, agree};
+//! Results are compared: a value is less than an error.
+ghost use Rattle.archive_forms_laws.specs.Orders.{result_equality, result_order};
+ghost use Rattle.archive_forms_laws.proofs.Forms.{equivalences, total, agree};
 
 use crate::parts::result_outcome;
 use crate::{ArchivedEq, ArchivedOrd};
-use archive_forms_reading::ArchivedResult;
+use archive_forms_values::ArchivedResult;
 use archive_shape::Ref;
 use std::cmp::Ordering;
 

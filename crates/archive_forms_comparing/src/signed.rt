@@ -1,9 +1,9 @@
-//! Signed numbers, in their own order.
+//! Signed numbers are compared in their own order.
 ghost use Rattle.std.specs.Prelude.{refl};
 ghost use Rattle.std.specs.Hash as fed;
-ghost use Rattle.archive_forms_ordering.specs.Views.{integer_of};
-ghost use Rattle.archive_forms_ordering.specs.Orders.{by_integer};
-ghost use Rattle.archive_forms_ordering.proofs.Forms.{integers_lawful, alike};
+ghost use Rattle.archive_forms_laws.specs.Views.{integer_of};
+ghost use Rattle.archive_forms_laws.specs.Orders.{by_integer};
+ghost use Rattle.archive_forms_laws.proofs.Forms.{integers_lawful, alike};
 
 use crate::ComparedNative;
 use std::num::{NonZeroI16, NonZeroI32, NonZeroI64, NonZeroI128};

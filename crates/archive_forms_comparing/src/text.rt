@@ -1,18 +1,18 @@
 //! Texts are compared by their bytes.
 ghost use Rattle.std.specs.Prelude.{⊤};
-ghost use Rattle.archive_shape_layout.specs.Shape.Shape.{text};
-ghost use Rattle.archive_forms_ordering.specs.Views.{text_of};
-ghost use Rattle.archive_forms_ordering.specs.Orders.{text_equality, text_order};
-ghost use Rattle.archive_forms_ordering.proofs.Forms.{equivalences, total, agree};
-ghost use Rattle.archive_forms_reading.specs.Parts.{HasValue};
+ghost use Rattle.archive_shape.specs.ShapeLayout.Shape.Shape.{text};
+ghost use Rattle.archive_forms_laws.specs.Views.{text_of};
+ghost use Rattle.archive_forms_laws.specs.Orders.{text_equality, text_order};
+ghost use Rattle.archive_forms_laws.proofs.Forms.{equivalences, total, agree};
+ghost use Rattle.archive_forms_values.specs.Parts.{HasValue};
 ghost use Rattle.archive_forms_comparing.specs.Compared.{OfValue};
 
 use crate::{ArchivedEq, ArchivedOrd};
-use archive_forms_text::ArchivedString;
+use archive_forms_values::ArchivedString;
 use archive_shape::{Portable, Ref};
 use std::cmp::Ordering;
 
-/// The text that stands there.
+/// Returns the text of an archived text.
 pub fn text_at<'a>(this: &Ref<'a, ArchivedString>) -> &'a str
     requires { HasValue text (λ _. ⊤) this.now.bytes.now this.now.pos }
     ensures { OfValue text (λ _. ⊤) this.now.bytes.now this.now.pos text_of result.now }

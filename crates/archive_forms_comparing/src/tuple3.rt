@@ -1,20 +1,20 @@
-//! Tuples of three are compared, field by field.
+//! Tuples of three fields are compared field by field.
 ghost use Rattle.std.specs.Prelude.{◌≡◌};
-ghost use Rattle.archive_forms_checking.specs.Tuples.{tuple3};
-ghost use Rattle.archive_forms_ordering.specs.Views.{elements_of, head_of, rest_of};
-ghost use Rattle.archive_forms_ordering.specs.Orders.{no_fields_equality, no_fields_order, more_fields_equality, more_fields_order, tuple_equality, tuple_order};
-ghost use Rattle.archive_forms_ordering.proofs.Forms.{equivalences, total, agree};
-ghost use Rattle.archive_forms_reading.specs.Parts.{HasValue};
-ghost use Rattle.archive_forms_tuples.specs.Fields.{all_three};
+ghost use Rattle.archive_forms_values.specs.Tuples.{tuple3};
+ghost use Rattle.archive_forms_laws.specs.Views.{elements_of, head_of, rest_of};
+ghost use Rattle.archive_forms_laws.specs.Orders.{no_fields_equality, no_fields_order, more_fields_equality, more_fields_order, tuple_equality, tuple_order};
+ghost use Rattle.archive_forms_laws.proofs.Forms.{equivalences, total, agree};
+ghost use Rattle.archive_forms_values.specs.Parts.{HasValue};
+ghost use Rattle.archive_forms_values.specs.Fields.{all_three};
 ghost use Rattle.archive_forms_comparing.specs.Compared.{HasPart};
 
 use crate::fields::{compare_then, equal_then};
 use crate::{ArchivedEq, ArchivedOrd};
-use archive_forms_tuples::ArchivedTuple3;
+use archive_forms_values::ArchivedTuple3;
 use archive_shape::{Portable, Ref};
 use std::cmp::Ordering;
 
-/// The first field.
+/// Returns the first field.
 pub fn first_of<'a, A: Portable, B: Portable, C: Portable>(
     this: &Ref<'a, ArchivedTuple3<A, B, C>>,
 ) -> Ref<'a, A>
@@ -24,7 +24,7 @@ pub fn first_of<'a, A: Portable, B: Portable, C: Portable>(
     ArchivedTuple3::first(*this)
 }
 
-/// The second field.
+/// Returns the second field.
 pub fn second_of<'a, A: Portable, B: Portable, C: Portable>(
     this: &Ref<'a, ArchivedTuple3<A, B, C>>,
 ) -> Ref<'a, B>
@@ -34,7 +34,7 @@ pub fn second_of<'a, A: Portable, B: Portable, C: Portable>(
     ArchivedTuple3::second(*this)
 }
 
-/// The third field.
+/// Returns the third field.
 pub fn third_of<'a, A: Portable, B: Portable, C: Portable>(
     this: &Ref<'a, ArchivedTuple3<A, B, C>>,
 ) -> Ref<'a, C>

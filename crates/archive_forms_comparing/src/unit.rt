@@ -1,6 +1,6 @@
 //! Values without bytes are all equal.
-ghost use Rattle.archive_forms_ordering.specs.Orders.{unit_equality, unit_order};
-ghost use Rattle.archive_forms_ordering.proofs.Forms.{equivalences, total, agree};
+ghost use Rattle.archive_forms_laws.specs.Orders.{unit_equality, unit_order};
+ghost use Rattle.archive_forms_laws.proofs.Forms.{equivalences, total, agree};
 
 use crate::{ArchivedEq, ArchivedOrd};
 use archive_shape::Ref;

@@ -1,9 +1,9 @@
-//! Unsigned numbers and chars, in their own order.
+//! Unsigned numbers and chars are compared in their own order.
 ghost use Rattle.std.specs.Prelude.{refl};
 ghost use Rattle.std.specs.Hash as fed;
-ghost use Rattle.archive_forms_ordering.specs.Views.{natural_of};
-ghost use Rattle.archive_forms_ordering.specs.Orders.{by_natural};
-ghost use Rattle.archive_forms_ordering.proofs.Forms.{naturals_lawful, alike};
+ghost use Rattle.archive_forms_laws.specs.Views.{natural_of};
+ghost use Rattle.archive_forms_laws.specs.Orders.{by_natural};
+ghost use Rattle.archive_forms_laws.proofs.Forms.{naturals_lawful, alike};
 
 use crate::ComparedNative;
 use std::num::{NonZeroU16, NonZeroU32, NonZeroU64, NonZeroU128};

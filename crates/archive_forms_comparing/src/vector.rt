@@ -1,19 +1,19 @@
-//! Vectors are compared: the first elements that are not equal decide, and else the lengths do.
+//! Vectors are compared by their first elements that differ, and otherwise by their lengths.
 ghost use Rattle.std.specs.Prelude.{◌≡◌, ◌<◌};
-ghost use Rattle.archive_shape_layout.specs.Shape.Shape.{vector};
-ghost use Rattle.archive_shape_layout.specs.Value.{Value};
+ghost use Rattle.archive_shape.specs.ShapeLayout.Shape.Shape.{vector};
+ghost use Rattle.archive_shape.specs.ShapeLayout.Value.{Value};
 ghost use Rattle.archive_shape.specs.Key.{HeldAt};
-ghost use Rattle.archive_forms_ordering.specs.Orders.{vector_equality, vector_order};
-ghost use Rattle.archive_forms_ordering.proofs.Forms.{equivalences, total, agree};
-ghost use Rattle.archive_forms_reading.specs.Parts.{HasValue, HasElements, AreElements};
+ghost use Rattle.archive_forms_laws.specs.Orders.{vector_equality, vector_order};
+ghost use Rattle.archive_forms_laws.proofs.Forms.{equivalences, total, agree};
+ghost use Rattle.archive_forms_values.specs.Parts.{HasValue, HasElements, AreElements};
 ghost use Rattle.archive_forms_comparing.specs.Compared.{OfElements, IsElement};
 
 use crate::{ArchivedEq, ArchivedOrd};
-use archive_forms_reading::{ArchivedVec, SliceRef};
+use archive_forms_values::{ArchivedVec, SliceRef};
 use archive_shape::{Portable, Ref};
 use std::cmp::Ordering;
 
-/// The elements of a vector.
+/// Returns the elements of an archived vector.
 pub fn vector_elements<'a, T: Portable>(this: &Ref<'a, ArchivedVec<T>>) -> SliceRef<'a, T>
     requires { HasValue (vector T.shape) T.knows this.now.bytes.now this.now.pos }
     ensures there { HasElements T.shape T.knows result.bytes.now result.pos result.len }
@@ -22,7 +22,7 @@ pub fn vector_elements<'a, T: Portable>(this: &Ref<'a, ArchivedVec<T>>) -> Slice
     ArchivedVec::as_slice(*this)
 }
 
-/// The element at an index.
+/// Returns the element at `index`, which is less than the number of elements.
 pub fn element<'a, T: Portable>(elements: &SliceRef<'a, T>, index: usize) -> Ref<'a, T>
     requires there { HasElements T.shape T.knows elements.now.bytes.now elements.now.pos elements.now.len }
     requires within { index < elements.now.len }
@@ -31,7 +31,7 @@ pub fn element<'a, T: Portable>(elements: &SliceRef<'a, T>, index: usize) -> Ref
     elements.get(index).unwrap()
 }
 
-/// Whether the elements are equal one by one, and as many.
+/// Returns `true` if the two have the same number of elements and these are equal one by one.
 pub fn equal_elements<T: ArchivedEq>(these: &SliceRef<'_, T>, others: &SliceRef<'_, T>) -> bool
     requires these { HasElements T.shape T.knows these.now.bytes.now these.now.pos these.now.len }
     requires others { HasElements T.shape T.knows others.now.bytes.now others.now.pos others.now.len }
@@ -49,7 +49,7 @@ pub fn equal_elements<T: ArchivedEq>(these: &SliceRef<'_, T>, others: &SliceRef<
     true
 }
 
-/// How the elements stand to the others.
+/// Compares the elements in lexicographic order.
 pub fn compare_elements<T: ArchivedOrd>(
     these: &SliceRef<'_, T>,
     others: &SliceRef<'_, T>,

@@ -10,18 +10,18 @@ use Rattle.archive_shape_layout.specs.Content.Label.{same}
 use Rattle.archive_shape_layout.specs.Content.Content.{plain}
 use Rattle.archive_shape_layout.specs.Holds.{Visit, OpenShared}
 use Rattle.archive_shape_layout.proofs.Unique.{by_plain}
-use Rattle.archive_shape_checking.specs.Range.{Range}
-use Rattle.archive_shape_checking.specs.PartFault.{PartFault, PartsFault}
-use Rattle.archive_shape_checking.specs.PartFault.PartsFault.{fault_here, fault_later}
-use Rattle.archive_shape_checking.specs.Kept.{Kept, range_of}
-use Rattle.archive_shape_checking.specs.Checks.{Checks}
-use Rattle.archive_shape_checking.proofs.ByContent.{InPlain, in_plain}
-use Rattle.archive_shape_checking.proofs.ByContent.InPlain.{plain_parts, plain_text, plain_total}
-use Rattle.archive_shape_checking.proofs.Inverted.{IsKnown}
-use Rattle.archive_shape_checking.proofs.Questions.{shape_answered}
+use Rattle.archive_shape.specs.Range.{Range}
+use Rattle.archive_shape.specs.PartFault.{PartFault, PartsFault}
+use Rattle.archive_shape.specs.PartFault.PartsFault.{fault_here, fault_later}
+use Rattle.archive_shape.specs.Kept.{Kept, range_of}
+use Rattle.archive_shape.specs.Checks.{Checks}
+use Rattle.archive_shape.proofs.ByContent.{InPlain, in_plain}
+use Rattle.archive_shape.proofs.ByContent.InPlain.{plain_parts, plain_text, plain_total}
+use Rattle.archive_shape.proofs.Inverted.{IsKnown}
+use Rattle.archive_shape.proofs.Questions.{shape_answered}
 use Rattle.archive_shape_writing.specs.declared.error.Error.{Error}
-use Rattle.archive_forms_layout.proofs.TextContent.{followed}
-use Rattle.archive_forms_reading.proofs.Inside.{one_held}
+use Rattle.archive_forms_laws.proofs.TextContent.{followed}
+use Rattle.archive_forms_values.proofs.Inside.{one_held}
 
 module _ (names : Names) (bytes : List ℕ) (inside : List OpenShared) (before : List Visit) (p : Part) (k : Range) (e : Error) where
   no_more : PartsFault names bytes inside before [] k e → ⊥

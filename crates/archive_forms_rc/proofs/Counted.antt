@@ -9,18 +9,18 @@ use Rattle.archive_shape_layout.specs.Content.Part.{at, behind}
 use Rattle.archive_shape_layout.specs.Content.Content.{counting}
 use Rattle.archive_shape_layout.specs.Holds.{Visit, OpenShared, Ascends, end_after}
 use Rattle.archive_shape_layout.specs.Holds.Holds.{holds_first, holds_later, holds_back}
-use Rattle.archive_shape_checking.specs.Range.{Range}
-use Rattle.archive_shape_checking.specs.Accepts.{Accepts, NestsBelow}
-use Rattle.archive_shape_checking.specs.Questions.{AreAnswered, questions_of}
-use Rattle.archive_shape_checking.specs.PartFault.{PartFault, entry_at}
-use Rattle.archive_shape_checking.specs.PartFault.PartFault.{fault_again, fault_first}
-use Rattle.archive_shape_checking.specs.Kept.{Kept, Records, range_of, seen_with, started_again, with_entry, FinishesShared}
-use Rattle.archive_shape_checking.specs.Checks.{Checks, Checked}
+use Rattle.archive_shape.specs.Range.{Range}
+use Rattle.archive_shape.specs.Accepts.{Accepts, NestsBelow}
+use Rattle.archive_shape.specs.Questions.{AreAnswered, questions_of}
+use Rattle.archive_shape.specs.PartFault.{PartFault, entry_at}
+use Rattle.archive_shape.specs.PartFault.PartFault.{fault_again, fault_first}
+use Rattle.archive_shape.specs.Kept.{Kept, Records, range_of, seen_with, started_again, with_entry, FinishesShared}
+use Rattle.archive_shape.specs.Checks.{Checks, Checked}
 use Rattle.archive_shape_writing.specs.declared.error.Error.{Error}
 use Rattle.archive_shape_writing.specs.declared.error.Error.TheVariants.{OutOfMemory}
-use Rattle.archive_shape_checking.proofs.Questions.{shape_answered}
-use Rattle.archive_shape_checking.proofs.Inverted.{IsKnown}
-use Rattle.archive_forms_layout.proofs.TextContent.{followed}
+use Rattle.archive_shape.proofs.Questions.{shape_answered}
+use Rattle.archive_shape.proofs.Inverted.{IsKnown}
+use Rattle.archive_forms_laws.proofs.TextContent.{followed}
 use Rattle.archive_forms_rc.specs.Visits.{Visits, ClashesAt}
 use Rattle.archive_forms_rc.proofs.Entries.{nothing_met, recorded, opened_is, ended_is, opened_at, opened_records, closed_records}
 

@@ -1,14 +1,14 @@
--- What stands at a shared position, by the positions that are open and those that were visited.
+-- What is at a shared position, by the positions that are open and those that were visited.
 use Rattle.std.proofs.Common.{◌≡◌, ℕ, Bool, true, false, List, [], ◌∷◌, Option, Some, None, refl, sym, ap, ◌∙◌, inl, inr}
 use Rattle.std.proofs.lemmas.Bool.{eq-eqb, ne_eqb}
 use Rattle.std.proofs.lemmas.Bool.Decides.{eqb_tells}
 use Rattle.archive_shape_layout.specs.Shape.{Pointee}
 use Rattle.archive_shape_layout.specs.Value.{Value}
 use Rattle.archive_shape_layout.specs.Holds.{Visit, OpenShared, open_at, visited}
-use Rattle.archive_shape_checking.specs.PartFault.{Entry, entry_of, entry_at}
-use Rattle.archive_shape_checking.specs.Kept.{Seen, seen_with, Records}
+use Rattle.archive_shape.specs.PartFault.{Entry, entry_of, entry_at}
+use Rattle.archive_shape.specs.Kept.{Seen, seen_with, Records}
 
--- ---- what is found at a position stands there
+-- ---- what is found at a position is there
 
 open_stands : (os : List OpenShared) (t : ℕ) (o : OpenShared) → open_at os t ≡ Some o → o.pos ≡ t
 open_stands [] t o e = absurd (cc)

@@ -1,4 +1,4 @@
--- Counted pointers: where they lead, and what the layout has there.
+-- Counted pointers: the positions that they lead to, and the values that the layout has there.
 use Rattle.std.proofs.Common.{◌≡◌, ℕ, suc, ◌≤◌, Bool, List, ◌∷◌, length, Some, refl, sym, ap, subst, ◌∙◌, arith}
 use Rattle.std.specs.Prelude.{⊤}
 use Rattle.archive_shape_layout.specs.Bytes.{window, word_at, target_from}
@@ -17,16 +17,16 @@ use Rattle.archive_shape_layout.proofs.Rooted.{inside_high}
 use Rattle.archive_shape_layout.proofs.Unique.{by_claimed, by_counting, CountedHolds}
 use Rattle.archive_shape_layout.proofs.Unique.CountedHolds.{is_first, is_later, is_back}
 use Rattle.archive_shape_layout.proofs.Visited.{stand_raised, claimed_inside}
-use Rattle.archive_shape_checking.proofs.Inverted.{held_is_known}
-use Rattle.archive_shape_checking.proofs.Questions.{followed_known}
+use Rattle.archive_shape.proofs.Inverted.{held_is_known}
+use Rattle.archive_shape.proofs.Questions.{followed_known}
 use Rattle.archive_shape.specs.Key.{HeldAt}
-use Rattle.archive_forms_layout.proofs.Held.{TextBehind, text_behind}
-use Rattle.archive_forms_layout.proofs.TextContent.{followed}
-use Rattle.archive_forms_checking.proofs.Contents.{sized_is, slice_is}
-use Rattle.archive_forms_checking.proofs.Targets.{first_word}
-use Rattle.archive_forms_reading.specs.Parts.{HasValue, PointsTo, AreElements}
-use Rattle.archive_forms_reading.proofs.Inside.{one_held}
-use Rattle.archive_forms_reading.proofs.Pointed.{made_same, elements_stand}
+use Rattle.archive_forms_laws.proofs.Held.{TextBehind, text_behind}
+use Rattle.archive_forms_laws.proofs.TextContent.{followed}
+use Rattle.archive_forms_values.proofs.Contents.{sized_is, slice_is}
+use Rattle.archive_forms_values.proofs.Targets.{first_word}
+use Rattle.archive_forms_values.specs.Parts.{HasValue, PointsTo, AreElements}
+use Rattle.archive_forms_values.proofs.Inside.{one_held}
+use Rattle.archive_forms_values.proofs.Pointed.{made_same, elements_stand}
 use Rattle.archive_forms_rc.specs.Pointers.{Counts, HasCounted, IsRcAt, IsRcSliceAt, IsRcStrAt}
 use Rattle.archive_forms_rc.specs.Pointers.Counts.{counts, leads_back}
 use Rattle.archive_forms_rc.proofs.Visited.{Stands, visit_stands}
@@ -54,7 +54,7 @@ module _ (cyclic : Bool) (q : Pointee) (knows : Names → Type 0) (bytes : List 
         let leads : target_from pos (word_at (window bytes pos (pointer_size q)) 0) ≡ Some to = subst (λ word. target_from pos word ≡ Some to) (sym word_is) points in
         followed _ to _ leads ∙ ap (counting cyclic to q) says
 
-    -- what the pointer counts is what stands where it leads, whenever it was visited
+    -- what the pointer counts is the value where it leads, regardless of when it was visited
     pub pointer_counts : (v : Value) (h : HeldAt (shared cyclic q) knows bytes pos v) → Counts cyclic to (λ w. Stands h.names bytes pos (record { pos = to; pointee = q; len = n; value = w })) v
     pointer_counts v h = by_visit (by_counting h.names bytes (content_is h.names) h.holds)
       where
@@ -73,7 +73,7 @@ module _ (cyclic : Bool) (q : Pointee) (knows : Names → Type 0) (bytes : List 
         by_visit (is_later {w = w} nowhere met is none stays) = counts is (visit_stands h.names bytes pos to (record { pos = to; pointee = q; len = n; value = w }) (stand_raised h.claimed.below h.claimed.stand) met)
         by_visit (is_back allowed opened is none stays) = leads_back allowed is
 
--- by what stands there
+-- by the value there
 there : {cyclic : Bool} {to : ℕ} {IsThere IsHere : Value → Type 0} {v : Value} → ((w : Value) → IsThere w → IsHere w) → Counts cyclic to IsThere v → Counts cyclic to IsHere v
 there f (counts {w = w} is h) = counts is (f w h)
 there f (leads_back allowed is) = leads_back allowed is
@@ -125,7 +125,7 @@ module _ (cyclic : Bool) (s : Shape) (knows : Names → Type 0) (bytes : List �
   }
 
 module _ (cyclic : Bool) (bytes : List ℕ) (pos to len : ℕ) (points : PointsTo bytes pos to) (says : word_at (window bytes pos 8) 4 ≡ len) where
-  -- a text that is counted stands
+  -- a text that is counted is there
   text_counted : (target : ℕ) (w : Value) {IsThere : Value → Type 0} → Counts cyclic to IsThere (counted target w) → (u : Value) × IsThere u
   text_counted target w (counts {w = u} is h) = (u, h)
   text_counted target w (leads_back allowed is) = absurd (cc)

@@ -4,4 +4,5 @@ pub mod Entries
 pub mod Led
 pub mod Reached
 pub mod Tags
+pub mod Viewed
 pub mod Visited

@@ -6,7 +6,7 @@ use Rattle.archive_shape_layout.specs.Shape.Pointee.{sized, slice, str}
 use Rattle.archive_shape_layout.specs.Value.{Value}
 use Rattle.archive_shape_layout.specs.Content.{Names}
 use Rattle.archive_shape.specs.Key.{HeldAt}
-use Rattle.archive_forms_reading.specs.Parts.{HasValue, AreElements}
+use Rattle.archive_forms_values.specs.Parts.{HasValue, AreElements}
 use Rattle.archive_forms_comparing.specs.Compared.{HasPart}
 use Rattle.archive_forms_comparing.proofs.Seen.{moved}
 use Rattle.archive_forms_rc.specs.Pointers.{Counts, HasCounted, IsRcAt, IsRcSliceAt}

@@ -12,17 +12,17 @@ use Rattle.archive_shape_layout.specs.Content.Part.{at}
 use Rattle.archive_shape_layout.specs.Content.Label.{tagged}
 use Rattle.archive_shape_layout.specs.Content.Content.{plain, illegal}
 use Rattle.archive_shape_layout.proofs.Unique.{by_plain}
-use Rattle.archive_shape_checking.specs.Kept.{Kept}
-use Rattle.archive_shape_checking.specs.Checks.{Checks}
+use Rattle.archive_shape.specs.Kept.{Kept}
+use Rattle.archive_shape.specs.Checks.{Checks}
 use Rattle.archive_shape_writing.specs.declared.error.Error.{Error}
-use Rattle.archive_shape_checking.proofs.Below.{below_checked}
-use Rattle.archive_shape_checking.proofs.Inverted.{IsKnown, held_is_known}
-use Rattle.archive_shape_checking.proofs.Leaves.{alone_checked}
+use Rattle.archive_shape.proofs.Below.{below_checked}
+use Rattle.archive_shape.proofs.Inverted.{IsKnown, held_is_known}
+use Rattle.archive_shape.proofs.Leaves.{alone_checked}
 use Rattle.archive_shape.specs.Key.{HeldAt}
 use Rattle.archive_shape_layout.proofs.Visited.{claimed_raised}
-use Rattle.archive_forms_checking.proofs.Tagged.{own_tag}
-use Rattle.archive_forms_reading.specs.Parts.{HasValue}
-use Rattle.archive_forms_reading.proofs.Inside.{none_held, one_held}
+use Rattle.archive_forms_values.proofs.Tagged.{own_tag}
+use Rattle.archive_forms_values.specs.Parts.{HasValue}
+use Rattle.archive_forms_values.proofs.Inside.{none_held, one_held}
 use Rattle.archive_forms_rc.specs.Pointers.{IsRcAt}
 use Rattle.archive_forms_rc.specs.WeakPointers.{IsNothingAt, IsWeakAt}
 
@@ -76,7 +76,7 @@ module _ (cyclic : Bool) (s : Shape) (knows : Names → Type 0) (bytes : List �
         by (inl e) = absurd (other (sym (weak_tag h.names bytes pos cyclic (sized s)) ∙ eqb-true _ 0 e))
         by (inr e) = sym (weak_tag h.names bytes pos cyclic (sized s)) ∙ eqb-true _ 1 e
 
-    -- a value is that of the pointer behind the tag, after the same visits
+    -- a value is that of the pointer after the tag, after the same visits
     record Pointed (v : Value) (h : HeldAt (weak cyclic (sized s)) knows bytes pos v) : Type 0 where
       pointer : Value
       is : v ≡ chosen 1 (more_values pointer no_values)

@@ -1,4 +1,4 @@
--- What was visited stands where it lies.
+-- A value that was visited is at its position.
 use Rattle.std.proofs.Common.{◌≡◌, ℕ, List, [], ◌∷◌, Option, Some, inl, inr, subst}
 use Rattle.std.proofs.lemmas.Bool.Decides.{eqb_tells}
 use Rattle.archive_shape_layout.specs.Content.{Names}

@@ -1,10 +1,10 @@
--- How counted pointers are compared and what is hashed of them, by what they lead to.
+-- How counted pointers are compared and what is hashed of them, by the values that they lead to.
 use Rattle.std.specs.Ordering.{on}
 use Rattle.archive_shape_layout.specs.Value.{Value}
 use Rattle.archive_shape_layout.specs.Value.Value.{counted}
-use Rattle.archive_forms_ordering.specs.Orders.{Equality, Order, Hashed}
+use Rattle.archive_forms_laws.specs.Orders.{Equality, Order, Hashed}
 
--- the value that one counts, wherever that stands; a value of another form is seen as itself
+-- the value that one counts, regardless of its position; a value of another form is seen as itself
 abbrev pub counted_of : Value → Value
 counted_of (counted pos v) = v
 counted_of v = v

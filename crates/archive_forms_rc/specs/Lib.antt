@@ -1,4 +1,5 @@
 pub mod Compared
+pub mod Counted
 pub mod Pointers
 pub mod Visits
 pub mod WeakPointers

@@ -1,4 +1,4 @@
--- Where weak pointers lead, and what stands there.
+-- The positions that weak pointers lead to, and the values there.
 use Rattle.std.specs.Prelude.{◌≡◌, ℕ, ◌+◌, Bool, List}
 use Rattle.archive_shape_layout.specs.Shape.{Shape}
 use Rattle.archive_shape_layout.specs.Shape.Shape.{weak}
@@ -8,7 +8,7 @@ use Rattle.archive_shape_layout.specs.Value.Value.{chosen}
 use Rattle.archive_shape_layout.specs.Value.Values.{no_values, more_values}
 use Rattle.archive_shape_layout.specs.Content.{Names}
 use Rattle.archive_shape.specs.Key.{HeldAt}
-use Rattle.archive_forms_reading.specs.Parts.{PointsTo}
+use Rattle.archive_forms_values.specs.Parts.{PointsTo}
 use Rattle.archive_forms_rc.specs.Pointers.{Counts}
 
 module _ (cyclic : Bool) (s : Shape) (knows : Names → Type 0) (bytes : List ℕ) (pos : ℕ) where
@@ -22,7 +22,7 @@ module _ (cyclic : Bool) (s : Shape) (knows : Names → Type 0) (bytes : List �
     pub is : v ≡ chosen 1 (more_values pointer no_values)
     pub counts : Counts cyclic to (HeldAt s knows bytes to) pointer
 
-  -- it leads to another, where the value stands that it counts
+  -- it leads to another position, where the value is that it counts
   pub record IsWeakAt (to : ℕ) : Type 0 where
     pub points : PointsTo bytes (pos + 4) to
     pub value : (v : Value) → HeldAt (weak cyclic (sized s)) knows bytes pos v → HasPointer to v

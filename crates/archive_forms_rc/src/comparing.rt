@@ -1,13 +1,14 @@
-//! Counted pointers of flavors that forbid cycles are compared as what they lead to, wherever that stands.
+//! Counted pointers of flavors that forbid cycles are compared as the values that they lead to, regardless of the
+//! positions.
 ghost use Rattle.std.specs.Cmp.{on_equiv, on_total};
-ghost use Rattle.archive_forms_ordering.specs.Orders.{vector_equality, vector_order, text_equality, text_order};
-ghost use Rattle.archive_forms_ordering.proofs.Forms.{equivalences, total, agree};
+ghost use Rattle.archive_forms_laws.specs.Orders.{vector_equality, vector_order, text_equality, text_order};
+ghost use Rattle.archive_forms_laws.proofs.Forms.{equivalences, total, agree};
 ghost use Rattle.archive_forms_rc.specs.Compared.{counted_of, counted_equality, counted_order};
 
 use crate::parts::{rc_elements, rc_text, rc_value};
 use crate::{Acyclic, ArchivedRc, ArchivedRcSlice, ArchivedRcStr};
 use archive_forms_comparing::{ArchivedEq, ArchivedOrd, compare_elements, equal_elements};
-use archive_shape_references::Ref;
+use archive_shape::Ref;
 use std::cmp::Ordering;
 
 impl<T: ArchivedEq, L: Acyclic> ArchivedEq for ArchivedRc<T, L> {

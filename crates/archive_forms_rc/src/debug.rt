@@ -1,11 +1,10 @@
-//! Counted pointers of flavors that forbid cycles are printed as what they lead to is, and weak pointers of each flavor as
-//! `(Weak)`.
+//! Counted pointers of flavors that forbid cycles are printed as the values that they lead to, and weak pointers of
+//! each flavor as `(Weak)`.
 
 use crate::parts::{rc_elements, rc_text, rc_value};
 use crate::{Acyclic, ArchivedRc, ArchivedRcSlice, ArchivedRcStr, ArchivedRcWeak, Flavor};
-use archive_forms_hashing::{ArchivedDebug, fmt_elements};
-use archive_shape_portable::Portable;
-use archive_shape_references::Ref;
+use archive_forms_comparing::{ArchivedDebug, fmt_elements};
+use archive_shape::{Portable, Ref};
 use std::fmt;
 use std::fmt::{Debug, Formatter, Write};
 

@@ -1,17 +1,17 @@
-//! The flavors of counted pointers.
+//! The flavors of counted pointers, which allow or forbid cycles.
 ghost use Rattle.std.specs.Prelude.{◌≡◌, Bool, false, refl};
 
-/// Of which kind a counted pointer is.
+/// The flavor of a counted pointer.
 pub trait Flavor {
     ghost CYCLES: { Bool };
 
-    /// Whether a pointer may lead to what it lies inside.
+    /// Returns `true` if a pointer may lead to a value that it lies inside.
     fn allow_cycles() -> bool
         ensures { result ≡ CYCLES };
 }
 
-/// A flavor that forbids cycles. Its pointers are compared, hashed and printed as what they lead to; around a cycle that would
-/// not end.
+/// A flavor that forbids cycles. Its pointers are compared, hashed and printed as the values that they lead to, which
+/// would not end on a cycle.
 pub trait Acyclic: Flavor {
     ghost acyclic: { Self.CYCLES ≡ false };
 }

@@ -1,13 +1,14 @@
-//! Counted pointers of flavors that forbid cycles are hashed as what they lead to is, wherever that stands.
+//! Counted pointers of flavors that forbid cycles are hashed as the values that they lead to, regardless of the
+//! positions.
 ghost use Rattle.std.specs.Hash.{on_Alike};
-ghost use Rattle.archive_forms_ordering.specs.Orders.{vector_hashed, text_hashed};
-ghost use Rattle.archive_forms_ordering.proofs.Forms.{alike};
+ghost use Rattle.archive_forms_laws.specs.Orders.{vector_hashed, text_hashed};
+ghost use Rattle.archive_forms_laws.proofs.Forms.{alike};
 ghost use Rattle.archive_forms_rc.specs.Compared.{counted_of, counted_hashed};
 
 use crate::parts::{rc_elements, rc_text, rc_value};
 use crate::{Acyclic, ArchivedRc, ArchivedRcSlice, ArchivedRcStr};
-use archive_forms_hashing::{ArchivedHash, hash_elements};
-use archive_shape_references::Ref;
+use archive_forms_comparing::{ArchivedHash, hash_elements};
+use archive_shape::Ref;
 use std::hash::{Hash, Hasher};
 
 impl<T: ArchivedHash, L: Acyclic> ArchivedHash for ArchivedRc<T, L> {

@@ -1,9 +1,14 @@
-//! Counted pointers: archived pointers to a value that several pointers may share, and their check.
+//! Counted pointers: archived pointers to a value that several pointers may share, their checks, and how they are
+//! archived.
 //!
-//! Each is an offset of four bytes, and where it leads to elements or to a text, four bytes with how many elements there are,
-//! or bytes of the text. What it leads to is claimed and checked at the first visit of its position alone; a context keeps
-//! the positions that were met (archive_shape_checking specs/Kept).
+//! Each is an offset of four bytes, followed by four bytes with the number of elements, or of bytes of the text, if it
+//! leads to elements or to a text. What it leads to is claimed and checked only at the first visit of its position. A
+//! context keeps the visited positions (archive_shape's specs/Kept).
 #![tactic(auto)]
+
+mod sharing;
+
+pub use sharing::{Shared, SharedWeak, SharingExt, serialize_rc_from_ref};
 
 mod comparing;
 mod debug;

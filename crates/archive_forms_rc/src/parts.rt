@@ -1,20 +1,19 @@
-//! What counted pointers lead to, as their values are seen where they are compared.
+//! The values that counted pointers lead to, as comparisons use them.
 ghost use Rattle.std.specs.Prelude.{◌≡◌, ⊤};
 ghost use Rattle.archive_shape_layout.specs.Shape.Shape.{shared};
 ghost use Rattle.archive_shape_layout.specs.Shape.Pointee.{sized, slice, str};
 ghost use Rattle.archive_shape_layout.specs.Value.{Value};
 ghost use Rattle.archive_shape.specs.Key.{HeldAt};
-ghost use Rattle.archive_forms_ordering.specs.Views.{text_of};
-ghost use Rattle.archive_forms_reading.specs.Parts.{HasValue, HasElements, AreElements};
+ghost use Rattle.archive_forms_laws.specs.Views.{text_of};
+ghost use Rattle.archive_forms_values.specs.Parts.{HasValue, HasElements, AreElements};
 ghost use Rattle.archive_forms_comparing.specs.Compared.{HasPart, OfValue};
 ghost use Rattle.archive_forms_rc.specs.Compared.{counted_of};
 
 use crate::{Acyclic, ArchivedRc, ArchivedRcSlice, ArchivedRcStr};
-use archive_forms_reading::SliceRef;
-use archive_shape_portable::Portable;
-use archive_shape_references::Ref;
+use archive_forms_values::SliceRef;
+use archive_shape::{Portable, Ref};
 
-/// The value that the pointer leads to.
+/// Returns the value that the pointer leads to.
 pub(crate) fn rc_value<'a, T: Portable, L: Acyclic>(this: &Ref<'a, ArchivedRc<T, L>>) -> Ref<'a, T>
     requires { HasValue (shared L.CYCLES (sized T.shape)) T.knows this.now.bytes.now this.now.pos }
     ensures { HasPart (λ v x. counted_of v ≡ x) (shared L.CYCLES (sized T.shape)) T.knows this.now.bytes.now this.now.pos T.shape T.knows result.bytes.now result.pos }
@@ -22,7 +21,7 @@ pub(crate) fn rc_value<'a, T: Portable, L: Acyclic>(this: &Ref<'a, ArchivedRc<T,
     ArchivedRc::get(*this)
 }
 
-/// The elements that the pointer leads to.
+/// Returns the elements that the pointer leads to.
 pub(crate) fn rc_elements<'a, T: Portable, L: Acyclic>(
     this: &Ref<'a, ArchivedRcSlice<T, L>>,
 ) -> SliceRef<'a, T>
@@ -34,7 +33,7 @@ pub(crate) fn rc_elements<'a, T: Portable, L: Acyclic>(
     ArchivedRcSlice::get(*this)
 }
 
-/// The text that the pointer leads to.
+/// Returns the text that the pointer leads to.
 pub(crate) fn rc_text<'a, L: Acyclic>(this: &Ref<'a, ArchivedRcStr<L>>) -> &'a str
     requires { HasValue (shared L.CYCLES str) (λ _. ⊤) this.now.bytes.now this.now.pos }
     ensures { OfValue (shared L.CYCLES str) (λ _. ⊤) this.now.bytes.now this.now.pos (λ v. text_of (counted_of v)) result.now }

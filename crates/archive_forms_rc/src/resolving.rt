@@ -1,24 +1,23 @@
-//! How counted pointers are written, once it is known where what they lead to stands.
+//! The writing of counted pointers, once the position of what they lead to is known.
 ghost use Rattle.std.specs.Prelude.{◌≡◌, ◌+◌, ◌^◌, ◌<◌, ◌≤◌, ◌++◌, ◌⊎◌, length, MatchResult};
 ghost use Rattle.std.specs.Int.{w32, to_le_bytes};
-ghost use Rattle.archive_shape_references.specs.Bytes.{overwrite};
+ghost use Rattle.archive_shape.specs.Bytes.{overwrite};
 ghost use Rattle.archive_shape_writing.specs.declared.error.Error.TheVariants.{IsizeOverflow, LengthTooLarge};
-ghost use Rattle.archive_shape_pointers.specs.Offsets.{FitsOffset, offset_bytes};
+ghost use Rattle.archive_shape.specs.Offsets.{FitsOffset, offset_bytes};
 
 use crate::{ArchivedRc, ArchivedRcSlice, ArchivedRcStr};
-use archive_forms_boxed::{ArchivedBoxedSlice, ArchivedBoxedStr};
-use archive_forms_reading::{ArchivedBox, BoxResolver};
-use archive_shape_portable::Portable;
-use archive_shape_references::Place;
+use archive_forms_values::{ArchivedBox, ArchivedBoxedSlice, ArchivedBoxedStr, BoxResolver};
+use archive_shape::{Place, Portable};
 use archive_shape_writing::Error;
 
-/// Where the value of a counted pointer stands.
+/// The position of what a counted pointer will lead to.
 #[derive(Clone, Copy, Debug, PartialEq, Eq)]
 pub struct RcResolver {
     pub pos: usize,
 }
 
 impl RcResolver {
+    /// Creates a resolver for a value at `pos`.
     pub const fn from_pos(pos: usize) -> Self
         ensures { result.pos ≡ pos }
     {
@@ -27,7 +26,8 @@ impl RcResolver {
 }
 
 impl<T: Portable, L> ArchivedRc<T, L> {
-    /// Writes the pointer to the value that the resolver tells of. Refuses an offset that does not fit with `IsizeOverflow`.
+    /// Writes the pointer to the value at the resolver's position. Returns `IsizeOverflow` if the offset does not fit
+    /// in an `i32`.
     pub fn resolve_from_raw_parts(
         resolver: RcResolver,
         out: Place<'_, ArchivedRc<T, L>>,
@@ -50,8 +50,10 @@ impl<T: Portable, L> ArchivedRc<T, L> {
 }
 
 impl<T: Portable, L> ArchivedRcSlice<T, L> {
-    /// Writes the pointer to `len` elements, which stand where the resolver tells. Refuses more than 2^32 - 1 elements with
-    /// `LengthTooLarge`, and then an offset that does not fit with `IsizeOverflow`.
+    /// Writes the pointer to `len` elements, which lie at the resolver's position.
+    ///
+    /// Returns `LengthTooLarge` if `len` is more than 2^32 - 1, and otherwise `IsizeOverflow` if the offset does not
+    /// fit in an `i32`.
     pub fn resolve_from_raw_parts(
         resolver: RcResolver,
         len: usize,
@@ -80,8 +82,10 @@ impl<T: Portable, L> ArchivedRcSlice<T, L> {
 }
 
 impl<L> ArchivedRcStr<L> {
-    /// Writes the pointer to a text of `len` bytes, which stand where the resolver tells. Refuses more than 2^32 - 1 bytes with
-    /// `LengthTooLarge`, and then an offset that does not fit with `IsizeOverflow`.
+    /// Writes the pointer to a text of `len` bytes, which lie at the resolver's position.
+    ///
+    /// Returns `LengthTooLarge` if `len` is more than 2^32 - 1, and otherwise `IsizeOverflow` if the offset does not
+    /// fit in an `i32`.
     pub fn resolve_from_raw_parts(
         resolver: RcResolver,
         len: usize,

@@ -1,29 +1,27 @@
-//! Counted pointers to values.
+//! `ArchivedRc`, a counted pointer to a value: its layout, its check and the methods that read it.
 ghost use Rattle.std.specs.Prelude.{◌≡◌, ℕ, ◌+◌, ◌≤◌, length};
 ghost use Rattle.std.proofs.Common.{refl, lit<, lit≤};
 ghost use Rattle.archive_shape_layout.specs.Shape.Shape.{shared};
 ghost use Rattle.archive_shape_layout.specs.Shape.Pointee.{sized};
 ghost use Rattle.archive_shape_layout.specs.Content.{Names};
 ghost use Rattle.archive_shape_layout.specs.Content.Part.{at};
-ghost use Rattle.archive_shape_checking.specs.Kept.{IsWithin};
-ghost use Rattle.archive_shape_checking.specs.Checks.{Checks, Moves};
-ghost use Rattle.archive_shape_checking.specs.Steps.{StepTakes, StepChecks};
-ghost use Rattle.archive_forms_reading.specs.Parts.{HasValue};
+ghost use Rattle.archive_shape.specs.Kept.{IsWithin};
+ghost use Rattle.archive_shape.specs.Checks.{Checks, Moves};
+ghost use Rattle.archive_shape.specs.Steps.{StepTakes, StepChecks};
+ghost use Rattle.archive_forms_values.specs.Parts.{HasValue};
 ghost use Rattle.archive_forms_rc.specs.Pointers.{IsRcAt};
 
 use crate::Flavor;
 use crate::visit::visit;
-use archive_forms_checking::check_behind_each;
-use archive_forms_reading::target_of;
-use archive_shape_checking::{CheckBytes, Error, SharedContext};
-use archive_shape_pointers::RawRelPtrI32;
-use archive_shape_portable::{NoUndef, Portable, Shape};
-use archive_shape_references::{ArchivePointee, Ref};
+use archive_forms_values::{check_behind_each, target_of};
+use archive_shape::{
+    ArchivePointee, CheckBytes, Error, NoUndef, Portable, RawRelPtrI32, Ref, Shape, SharedContext,
+};
 use std::alloc::{AllocError, Global};
 use std::marker::PhantomData;
 
-/// An archived counted pointer to a value, as rkyv's `ArchivedRc<T, L>`: an offset of four bytes that leads to the value, which
-/// others may share.
+/// An archived counted pointer to a value, as rkyv's `ArchivedRc<T, L>`: an offset of four bytes that leads to the
+/// value, which other pointers may share.
 #[derive_where(Clone, Copy)]
 pub struct ArchivedRc<T, L> {
     pub of: PhantomData<(T, L)>,
@@ -62,14 +60,16 @@ impl<T: Portable, L: Flavor> Portable for ArchivedRc<T, L> {
     ghost known = { T.known };
 }
 
-/// Checks the counted pointer of four bytes at `pos`: an offset to the value, counted from `pos` in bytes. At the first visit of
-/// the value its bytes are claimed, and what the step's check claims lies before them. A later visit claims nothing.
+/// Checks the counted pointer of four bytes at `pos`: an offset to the value, in bytes from `pos`. At the first visit
+/// of the value its bytes are claimed, and the regions that the step claims lie before them. A later visit claims
+/// nothing.
 ///
-/// Refuses an offset that leads before the first byte with `InvalidSubtreePointer` and the value's size. A value that was met
-/// as another shape is a `TypeMismatch`, with another number of elements a `MetadataMismatch`; one that the pointer lies
-/// inside is a `CyclicSharedPointer` where the flavor forbids that. At the first visit a value outside the range is an
-/// `InvalidSubtreePointer`; then `Unaligned`, `ExceededMaximumSubtreeDepth`, and what the step refuses. `OutOfMemory` is the
-/// shape's, the context's or the step's.
+/// Returns `InvalidSubtreePointer` with the value's size if the offset leads before the first byte. Returns
+/// `TypeMismatch` if the value was visited before with another shape, `MetadataMismatch` if with another number of
+/// elements, and `CyclicSharedPointer` if the pointer lies inside the value and the flavor forbids that. At the first
+/// visit, returns `InvalidSubtreePointer` if the value is not in the range; then `Unaligned`,
+/// `ExceededMaximumSubtreeDepth`, or the error of the step. `OutOfMemory` comes from the shape, the context or the
+/// step.
 pub fn check_rc_each<
     T: Portable,
     L: Flavor,
@@ -108,7 +108,7 @@ impl<C: SharedContext, T: CheckBytes<C>, L: Flavor> CheckBytes<C> for ArchivedRc
     }
 }
 
-/// Where the value of the pointer at `pos` stands.
+/// Returns the position of the value of the pointer at `pos`.
 pub(crate) fn value_at<T: Portable, L: Flavor>(bytes: &[u8], pos: usize) -> usize
     requires { HasValue (shared L.CYCLES (sized T.shape)) T.knows bytes.now pos }
     ensures { IsRcAt L.CYCLES T.shape T.knows bytes.now pos result }
@@ -117,7 +117,8 @@ pub(crate) fn value_at<T: Portable, L: Flavor>(bytes: &[u8], pos: usize) -> usiz
 }
 
 impl<T: Portable, L: Flavor> ArchivedRc<T, L> {
-    /// The value. Where the pointer leads back to what it lies inside, that is what lies there.
+    /// Returns the value that the pointer leads to. If the pointer leads back to a value that it lies inside, this is
+    /// that value.
     pub fn get<'a>(this: Ref<'a, ArchivedRc<T, L>>) -> Ref<'a, T>
         requires { HasValue (shared L.CYCLES (sized T.shape)) T.knows this.bytes.now this.pos }
         ensures bytes { result.bytes ≡ this.entry.bytes }

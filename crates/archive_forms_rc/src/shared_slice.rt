@@ -1,29 +1,28 @@
-//! Counted pointers to slices.
+//! `ArchivedRcSlice`, a counted pointer to elements: its layout, its check and the methods that read it.
 ghost use Rattle.std.specs.Prelude.{◌≡◌, ℕ, ◌+◌, ◌≤◌, length};
 ghost use Rattle.std.proofs.Common.{refl, lit<, lit≤};
 ghost use Rattle.archive_shape_layout.specs.Shape.Shape.{shared};
 ghost use Rattle.archive_shape_layout.specs.Shape.Pointee.{slice};
 ghost use Rattle.archive_shape_layout.specs.Content.{Names};
 ghost use Rattle.archive_shape_layout.specs.Content.Part.{at};
-ghost use Rattle.archive_shape_checking.specs.Kept.{IsWithin};
-ghost use Rattle.archive_shape_checking.specs.Checks.{Checks, Moves};
-ghost use Rattle.archive_shape_checking.specs.Steps.{StepTakes, StepChecks};
-ghost use Rattle.archive_forms_reading.specs.Parts.{HasValue};
+ghost use Rattle.archive_shape.specs.Kept.{IsWithin};
+ghost use Rattle.archive_shape.specs.Checks.{Checks, Moves};
+ghost use Rattle.archive_shape.specs.Steps.{StepTakes, StepChecks};
+ghost use Rattle.archive_forms_values.specs.Parts.{HasValue};
 ghost use Rattle.archive_forms_rc.specs.Pointers.{IsRcSliceAt};
 
 use crate::Flavor;
 use crate::visit::visit;
-use archive_forms_checking::check_vec_each;
-use archive_forms_reading::{SliceRef, target_of};
-use archive_shape_checking::{CheckBytes, Error, SharedContext};
-use archive_shape_pointers::RelPtr;
-use archive_shape_portable::{ArchivedIsize, NoUndef, Portable, Shape};
-use archive_shape_references::{ArchivePointee, Ref, Slice};
+use archive_forms_values::{SliceRef, check_vec_each, target_of};
+use archive_shape::{
+    ArchivePointee, ArchivedIsize, CheckBytes, Error, NoUndef, Portable, Ref, RelPtr, Shape,
+    SharedContext, Slice,
+};
 use std::alloc::{AllocError, Global};
 use std::marker::PhantomData;
 
-/// An archived counted pointer to a slice, as rkyv's `ArchivedRc<[T], L>`: an offset of four bytes that leads to the elements,
-/// which others may share, and four bytes with their number.
+/// An archived counted pointer to a slice, as rkyv's `ArchivedRc<[T], L>`: an offset of four bytes that leads to the
+/// elements, which other pointers may share, and four bytes with their number.
 #[derive_where(Clone, Copy)]
 pub struct ArchivedRcSlice<T, L> {
     pub of: PhantomData<(T, L)>,
@@ -62,12 +61,12 @@ impl<T: Portable, L: Flavor> Portable for ArchivedRcSlice<T, L> {
     ghost known = { T.known };
 }
 
-/// Checks the counted pointer of eight bytes at `pos`: an offset to the elements, counted from `pos` in bytes, and how many
-/// elements there are. At their first visit their bytes are claimed together, and what the step's checks claim lies before
-/// them. A later visit claims nothing.
+/// Checks the counted pointer of eight bytes at `pos`: an offset to the elements, in bytes from `pos`, and the number
+/// of elements. At the first visit of the elements their bytes are claimed as one region, and the regions that the step
+/// claims lie before it. A later visit claims nothing.
 ///
-/// Refuses as `check_rc_each` does; the size of the elements in `InvalidSubtreePointer` stops at `usize::MAX`, and another
-/// number of elements than at the first visit is a `MetadataMismatch`.
+/// Returns the same errors as `check_rc_each`. The size of the elements in `InvalidSubtreePointer` is at most
+/// `usize::MAX`, and another number of elements than at the first visit is a `MetadataMismatch`.
 pub fn check_rc_slice_each<
     T: Portable,
     L: Flavor,
@@ -92,7 +91,7 @@ pub fn check_rc_slice_each<
     if !visit::<Slice<T>, L, C>(alloc, context, target, len)? {
         return Ok(());
     }
-    // Its own bytes are those of a vector.
+    // The pointer has the own bytes of a vector.
     check_vec_each::<T, C, F>(bytes, pos, context, step)?;
     context.finish_shared(target)
 }
@@ -109,7 +108,7 @@ impl<C: SharedContext, T: CheckBytes<C>, L: Flavor> CheckBytes<C> for ArchivedRc
     }
 }
 
-/// Where the elements of the pointer at `pos` stand, and how many there are.
+/// Returns the position of the elements of the pointer at `pos`, and their number.
 fn elements_at<T: Portable, L: Flavor>(bytes: &[u8], pos: usize) -> (usize, usize)
     requires { HasValue (shared L.CYCLES (slice T.shape)) T.knows bytes.now pos }
     ensures { IsRcSliceAt L.CYCLES T.shape T.knows bytes.now pos result.0 result.1 }
@@ -119,7 +118,8 @@ fn elements_at<T: Portable, L: Flavor>(bytes: &[u8], pos: usize) -> (usize, usiz
 }
 
 impl<T: Portable, L: Flavor> ArchivedRcSlice<T, L> {
-    /// The elements. Where the pointer leads back to what it lies inside, that is what lies there.
+    /// Returns the elements that the pointer leads to. If the pointer leads back to elements that it lies inside, these
+    /// are those elements.
     pub fn get<'a>(this: Ref<'a, ArchivedRcSlice<T, L>>) -> SliceRef<'a, T>
         requires { HasValue (shared L.CYCLES (slice T.shape)) T.knows this.bytes.now this.pos }
         ensures bytes { result.bytes ≡ this.entry.bytes }

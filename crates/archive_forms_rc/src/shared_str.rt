@@ -1,4 +1,4 @@
-//! Counted pointers to texts.
+//! `ArchivedRcStr`, a counted pointer to a text: its layout, its check and the methods that read it.
 ghost use Rattle.std.specs.Prelude.{◌≡◌, ℕ, ◌+◌, ◌≤◌, [], length, refl, ⊤};
 ghost use Rattle.std.proofs.Common.{lit<, lit≤};
 ghost use Rattle.archive_shape_layout.specs.Bytes.{window};
@@ -6,23 +6,22 @@ ghost use Rattle.archive_shape_layout.specs.Shape.Shape.{shared};
 ghost use Rattle.archive_shape_layout.specs.Shape.Pointee.{str};
 ghost use Rattle.archive_shape_layout.specs.Content.{Names};
 ghost use Rattle.archive_shape_layout.specs.Content.Part.{at};
-ghost use Rattle.archive_shape_checking.specs.Kept.{IsWithin};
-ghost use Rattle.archive_shape_checking.specs.Checks.{Checks, Moves};
+ghost use Rattle.archive_shape.specs.Kept.{IsWithin};
+ghost use Rattle.archive_shape.specs.Checks.{Checks, Moves};
 ghost use Rattle.archive_forms_rc.specs.Pointers.{HasCounted, IsRcStrAt};
 
 use crate::Flavor;
 use crate::visit::visit;
-use archive_forms_reading::target_of;
-use archive_forms_text::check_behind;
-use archive_shape_checking::{CheckBytes, Error, SharedContext};
-use archive_shape_pointers::RelPtr;
-use archive_shape_portable::{ArchivedIsize, NoUndef, Pointee, Portable, Shape};
-use archive_shape_references::{Ref, Str};
+use archive_forms_values::{check_behind, target_of};
+use archive_shape::{
+    ArchivedIsize, CheckBytes, Error, NoUndef, Pointee, Portable, Ref, RelPtr, Shape,
+    SharedContext, Str,
+};
 use std::alloc::{AllocError, Global};
 use std::marker::PhantomData;
 
-/// An archived counted pointer to a text, as rkyv's `ArchivedRc<str, L>`: an offset of four bytes that leads to the text, which
-/// others may share, and four bytes with its length in bytes.
+/// An archived counted pointer to a text, as rkyv's `ArchivedRc<str, L>`: an offset of four bytes that leads to the
+/// text, which other pointers may share, and four bytes with its length in bytes.
 #[derive_where(Clone, Copy)]
 pub struct ArchivedRcStr<L> {
     pub of: PhantomData<L>,
@@ -61,11 +60,11 @@ impl<L: Flavor> Portable for ArchivedRcStr<L> {
     ghost known = { λ _ _. tt };
 }
 
-/// Checks the counted pointer of eight bytes at `pos`: an offset to the text, counted from `pos` in bytes, and the text's length
-/// in bytes. At the first visit of the text its bytes are claimed. A later visit claims nothing.
+/// Checks the counted pointer of eight bytes at `pos`: an offset to the text, in bytes from `pos`, and the text's
+/// length in bytes. At the first visit of the text its bytes are claimed. A later visit claims nothing.
 ///
-/// Refuses as `check_rc_each` does; another length than at the first visit is a `MetadataMismatch`, and bytes that are not
-/// UTF-8 are `InvalidUtf8`, once they are claimed.
+/// Returns the same errors as `check_rc_each`. Another length than at the first visit is a `MetadataMismatch`, and
+/// bytes that are not UTF-8 are `InvalidUtf8`, after they were claimed.
 pub fn check_rc_str<L: Flavor, C: SharedContext>(
     alloc: Global,
     bytes: &[u8],
@@ -97,7 +96,7 @@ impl<C: SharedContext, L: Flavor> CheckBytes<C> for ArchivedRcStr<L> {
     }
 }
 
-/// Where the text of the pointer at `pos` stands, and how many bytes it has.
+/// Returns the position of the text of the pointer at `pos`, and its length in bytes.
 fn text_at<L: Flavor>(bytes: &[u8], pos: usize) -> (usize, usize)
     requires { HasCounted L.CYCLES str (λ _. ⊤) bytes.now pos }
     ensures { IsRcStrAt L.CYCLES bytes.now pos result.0 result.1 }
@@ -107,13 +106,13 @@ fn text_at<L: Flavor>(bytes: &[u8], pos: usize) -> (usize, usize)
 }
 
 impl<L: Flavor> ArchivedRcStr<L> {
-    /// The text.
+    /// Returns the text that the pointer leads to.
     pub fn get<'a>(this: Ref<'a, ArchivedRcStr<L>>) -> &'a str
         requires { HasCounted L.CYCLES str (λ _. ⊤) this.bytes.now this.pos }
         ensures { (to len : ℕ) × IsRcStrAt L.CYCLES this.entry.bytes.now this.entry.pos to len × (result.now ≡ window this.entry.bytes.now to len) }
     {
         let (start, len) = text_at::<L>(this.bytes, this.pos);
-        // What stands there is UTF-8.
+        // The bytes there are UTF-8.
         unsafe { std::str::from_utf8_unchecked(&this.bytes[start..start + len]) }
     }
 }

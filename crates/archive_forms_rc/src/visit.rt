@@ -1,16 +1,16 @@
-//! How the check of what a counted pointer leads to begins.
+//! The start of the check of what a counted pointer leads to.
 ghost use Rattle.std.specs.Prelude.{◌≢◌, MatchResult};
 ghost use Rattle.archive_forms_rc.specs.Visits.{Visits, ClashesAt};
 
 use crate::Flavor;
-use archive_shape_checking::{Error, SharedContext, ValidationState};
-use archive_shape_references::ArchivePointee;
+use archive_shape::{ArchivePointee, Error, SharedContext, ValidationState};
 use std::alloc::Global;
 
-/// Starts the check of `len` elements at `target`, and returns whether they are to be checked: at the first visit alone.
+/// Starts the check of `len` elements at `target`, and returns `true` if they are to be checked, which is only at the
+/// first visit.
 ///
-/// Refuses what the context does, and `CyclicSharedPointer` where the pointer lies inside what it leads to and the flavor
-/// forbids that. `OutOfMemory` is the shape's or the context's.
+/// Returns the context's errors, and `CyclicSharedPointer` if the pointer lies inside what it leads to and the flavor
+/// forbids that. `OutOfMemory` comes from the shape or the context.
 pub(crate) fn visit<P: ArchivePointee, L: Flavor, C: SharedContext>(
     alloc: Global,
     context: &mut C,

@@ -1,26 +1,24 @@
-//! Weak pointers to values, which may lead to nothing.
+//! `ArchivedRcWeak`, a weak pointer to a value or to nothing: its layout, its check and the methods that read it.
 ghost use Rattle.std.specs.Prelude.{◌≡◌, ℕ, ◌+◌, ◌≤◌, length, MatchOption};
 ghost use Rattle.std.proofs.Common.{refl, lit<, lit≤};
 ghost use Rattle.archive_shape_layout.specs.Shape.Shape.{weak};
 ghost use Rattle.archive_shape_layout.specs.Shape.Pointee.{sized};
 ghost use Rattle.archive_shape_layout.specs.Content.{Names};
 ghost use Rattle.archive_shape_layout.specs.Content.Part.{at};
-ghost use Rattle.archive_shape_checking.specs.Kept.{IsWithin};
-ghost use Rattle.archive_shape_checking.specs.Checks.{Checks, Moves};
-ghost use Rattle.archive_shape_checking.specs.Steps.{StepTakes, StepChecks};
-ghost use Rattle.archive_forms_reading.specs.Parts.{HasValue};
+ghost use Rattle.archive_shape.specs.Kept.{IsWithin};
+ghost use Rattle.archive_shape.specs.Checks.{Checks, Moves};
+ghost use Rattle.archive_shape.specs.Steps.{StepTakes, StepChecks};
+ghost use Rattle.archive_forms_values.specs.Parts.{HasValue};
 ghost use Rattle.archive_forms_rc.specs.WeakPointers.{IsNothingAt, IsWeakAt};
 
 use crate::shared::value_at;
 use crate::{Flavor, check_rc_each};
-use archive_shape_checking::{CheckBytes, Error, SharedContext};
-use archive_shape_portable::{Portable, Shape};
-use archive_shape_references::{ArchivePointee, Ref};
+use archive_shape::{ArchivePointee, CheckBytes, Error, Portable, Ref, Shape, SharedContext};
 use std::alloc::{AllocError, Global};
 use std::marker::PhantomData;
 
-/// An archived weak pointer to a value, as rkyv's `ArchivedRcWeak<T, L>`: a tag of one byte, which is 0 or 1, and with 1 a counted
-/// pointer four bytes behind. With 0 the bytes of the pointer are not read.
+/// An archived weak pointer to a value, as rkyv's `ArchivedRcWeak<T, L>`: a tag of one byte, which is 0 or 1, and with
+/// 1 a counted pointer four bytes after the tag's position. With 0 the bytes of the pointer are not read.
 #[derive_where(Clone, Copy)]
 pub struct ArchivedRcWeak<T, L> {
     pub of: PhantomData<(T, L)>,
@@ -57,8 +55,9 @@ impl<T: Portable, L: Flavor> Portable for ArchivedRcWeak<T, L> {
     ghost known = { T.known };
 }
 
-/// Checks the weak pointer of eight bytes at `pos`: a tag of one byte, which is 0, or 1 where a counted pointer stands at
-/// `pos + 4`. Refuses any other tag with `InvalidTag`, and a pointer as `check_rc_each` does.
+/// Checks the weak pointer of eight bytes at `pos`: a tag of one byte, which is 0 for nothing, or 1 if a counted
+/// pointer is at `pos + 4`. Returns `InvalidTag` for any other tag, and for a pointer the same errors as
+/// `check_rc_each`.
 pub fn check_rc_weak_each<
     T: Portable,
     L: Flavor,
@@ -94,7 +93,7 @@ impl<C: SharedContext, T: CheckBytes<C>, L: Flavor> CheckBytes<C> for ArchivedRc
 }
 
 impl<T: Portable, L: Flavor> ArchivedRcWeak<T, L> {
-    /// The value, if the pointer leads to one.
+    /// Returns the value, if the pointer leads to one.
     pub fn upgrade<'a>(this: Ref<'a, ArchivedRcWeak<T, L>>) -> Option<Ref<'a, T>>
         requires { HasValue (weak L.CYCLES (sized T.shape)) T.knows this.bytes.now this.pos }
         ensures { MatchOption result

@@ -3,8 +3,8 @@ use denote.Hole.Carrier.{out, roll}
 use Rattle.std.proofs.Common.{◌≡◌, ℕ, List as Listed, Option, Some, None, Ok, Err, Result, refl, ap, subst, ◌∙◌}
 use Rattle.std.specs.Prelude.{Box, MatchResult}
 use Rattle.std.specs.Global.{Global}
-use Rattle.archive_shape_references.specs.Bytes.{overwrite}
-use Rattle.archive_shape_canonical.specs.Sharing.{erased}
+use Rattle.archive_shape.specs.Bytes.{overwrite}
+use Rattle.archive_forms_laws.specs.ShapeCanonical.Sharing.{erased}
 use Rattle.archive_shape_writing.specs.Writing.{WriterMembers}
 use Rattle.archive_shape_writing.specs.declared.error.Error.{Error}
 use Rattle.archive_shape_writing.specs.declared.error.Error.TheVariants.{IsizeOverflow}
@@ -12,15 +12,15 @@ use Rattle.archive_shape_layout.specs.Shape.Shape.{box}
 use Rattle.archive_shape_layout.specs.Shape.Pointee.{sized}
 use Rattle.archive_shape_layout.specs.Value.Value.{chosen}
 use Rattle.archive_shape_layout.specs.Value.Values.{no_values, more_values}
-use Rattle.archive_forms_spelling.specs.Spelling.{Spelling}
-use Rattle.archive_forms_spelling.specs.Options.{option_spelling}
-use Rattle.archive_shape_pointers.specs.Offsets.{FitsOffset, offset_bytes}
-use Rattle.archive_forms_spelling.specs.Serializing.{Resolves, Serializes}
+use Rattle.archive_forms_laws.specs.Spelling.{Spelling}
+use Rattle.archive_forms_laws.specs.Options.{option_spelling}
+use Rattle.archive_shape.specs.Offsets.{FitsOffset, offset_bytes}
+use Rattle.archive_forms_laws.specs.Serializing.{Resolves, Serializes}
 use Rattle.archive_forms_writing.specs.Owned.{boxed_spelling}
-use Rattle.archive_forms_reading.specs.declared.resolving.BoxResolver.{BoxResolver}
-use Rattle.archive_forms_deserializing.specs.Deserializing.{IsReadAt}
-use Rattle.archive_forms_deserializing.specs.Reading.{reads_as, reads_in, reads_option}
-use Rattle.archive_forms_deserializing.proofs.Faithful.{option_faithful}
+use Rattle.archive_forms_values.specs.declared.reading.resolving.BoxResolver.{BoxResolver}
+use Rattle.archive_forms.specs.Deserializing.{IsReadAt}
+use Rattle.archive_forms.specs.Reading.{reads_as, reads_in, reads_option}
+use Rattle.archive_forms.proofs.Faithful.{option_faithful}
 use Rattle.archive_forms_tests.specs.declared.recursive.list.List.{List, List', None', Some', out-List}
 use Rattle.archive_forms_tests.specs.declared.recursive.list.List.TheViews.{roll-List}
 use Rattle.archive_forms_tests.specs.Recursive.{list_shape, list_body, KnowsList}

@@ -1,24 +1,24 @@
--- Values of types that hold themselves, which stand where the shape of the name does.
+-- Values of types that hold themselves, which are where the shape of the name is.
 use Rattle.std.proofs.Common.{ℕ, List, Result, refl}
 use Rattle.archive_shape_layout.specs.Shape.Alignment.{four}
 use Rattle.archive_shape_layout.specs.Value.{Value}
 use Rattle.archive_shape_layout.specs.Content.{Names}
 use Rattle.archive_shape_layout.specs.Content.Part.{at}
-use Rattle.archive_shape_checking.specs.Kept.{Kept}
-use Rattle.archive_shape_checking.specs.Checks.{Checks}
+use Rattle.archive_shape.specs.Kept.{Kept}
+use Rattle.archive_shape.specs.Checks.{Checks}
 use Rattle.archive_shape_writing.specs.declared.error.Error.{Error}
 use Rattle.archive_shape.specs.Key.{HeldAt}
-use Rattle.archive_forms_checking.proofs.Contents.{named_checked}
-use Rattle.archive_forms_reading.specs.Parts.{HasValue}
-use Rattle.archive_forms_reading.proofs.Named.{named_held, named_has}
-use Rattle.archive_forms_spelling.proofs.Levels.{option_box_sized}
+use Rattle.archive_forms_values.proofs.Contents.{named_checked}
+use Rattle.archive_forms_values.specs.Parts.{HasValue}
+use Rattle.archive_forms_values.proofs.Named.{named_held, named_has}
+use Rattle.archive_forms_laws.proofs.Levels.{option_box_sized}
 use Rattle.archive_forms_tests.specs.Recursive.{list_shape, list_body, KnowsList, tree_shape, tree_body, KnowsTree}
 
--- a list stands where its option does
+-- a list is where its option is
 pub list_checked : (names : Names) (bytes : List ℕ) (pos : ℕ) (k l : Kept) (r : Result (Unit {0}) Error) → KnowsList names → Checks names bytes (at pos list_body) k r l → Checks names bytes (at pos list_shape) k r l
 list_checked = named_checked list_body 1 8 four (option_box_sized list_shape) refl
 
--- and a tree where its vector does
+-- and a tree is where its vector is
 pub tree_checked : (names : Names) (bytes : List ℕ) (pos : ℕ) (k l : Kept) (r : Result (Unit {0}) Error) → KnowsTree names → Checks names bytes (at pos tree_body) k r l → Checks names bytes (at pos tree_shape) k r l
 tree_checked = named_checked tree_body 2 8 four refl refl
 

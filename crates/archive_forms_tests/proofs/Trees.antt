@@ -4,20 +4,20 @@ use mathlib.Core.Former.{Count}
 use Rattle.std.proofs.Common.{◌≡◌, ℕ, zero, suc, ◌<◌, ◌≤◌, List, [], ◌∷◌, length, get_or, Result, arith, refl, sym, ap, subst, ◌∙◌}
 use Rattle.std.specs.Prelude.{Vec}
 use Rattle.std.specs.Global.{Global}
-use Rattle.archive_shape_canonical.specs.Sharing.{erased}
+use Rattle.archive_forms_laws.specs.ShapeCanonical.Sharing.{erased}
 use Rattle.archive_shape_writing.specs.Writing.{WriterMembers}
 use Rattle.archive_shape_writing.specs.declared.error.Error.{Error}
-use Rattle.archive_forms_spelling.specs.Spelling.{Spelling}
-use Rattle.archive_forms_spelling.specs.Forms.{kept_as}
-use Rattle.archive_forms_spelling.specs.Pointers.{slice_spelling}
-use Rattle.archive_forms_spelling.specs.Serializing.{Resolves, Serializes}
-use Rattle.archive_forms_spelling.proofs.Agreeing.{said, AgreeOn, slices_agree, self_agrees, serializes_alike}
+use Rattle.archive_forms_laws.specs.Spelling.{Spelling}
+use Rattle.archive_forms_laws.specs.Forms.{kept_as}
+use Rattle.archive_forms_laws.specs.Pointers.{slice_spelling}
+use Rattle.archive_forms_laws.specs.Serializing.{Resolves, Serializes}
+use Rattle.archive_forms_laws.proofs.Agreeing.{said, AgreeOn, slices_agree, self_agrees, serializes_alike}
 use Rattle.archive_forms_writing.specs.Owned.{vec_spelling}
 use Rattle.archive_forms_writing.specs.Steps.{IsElement}
-use Rattle.archive_forms_reading.specs.declared.resolving.VecResolver.{VecResolver}
-use Rattle.archive_forms_deserializing.specs.Deserializing.{IsReadAt}
-use Rattle.archive_forms_deserializing.specs.Reading.{reads_as, reads_in, reads_all}
-use Rattle.archive_forms_deserializing.proofs.Faithful.{all_faithful}
+use Rattle.archive_forms_values.specs.declared.reading.resolving.VecResolver.{VecResolver}
+use Rattle.archive_forms.specs.Deserializing.{IsReadAt}
+use Rattle.archive_forms.specs.Reading.{reads_as, reads_in, reads_all}
+use Rattle.archive_forms.proofs.Faithful.{all_faithful}
 use Rattle.archive_forms_tests.specs.Recursive.{tree_shape, tree_body, KnowsTree}
 use Rattle.archive_forms_tests.specs.Trees.{trees_in, branches_of, levels_below, most_below, tree_level, no_tree, tree_spelling}
 use Rattle.archive_forms_tests.specs.declared.recursive.tree.Tree.{Tree, Tree', Row_of-Tree, end_of-Tree, more_of-Tree, items-the_row-Tree, items_hidden-the_row-Tree-0, out-Tree}

@@ -2,13 +2,13 @@
 use Rattle.std.specs.Prelude.{ℕ, suc, Option, Some, None}
 use Rattle.archive_shape_layout.specs.Shape.Shape.{box}
 use Rattle.archive_shape_layout.specs.Shape.Pointee.{sized}
-use Rattle.archive_forms_spelling.specs.Spelling.{Spelling}
-use Rattle.archive_forms_spelling.specs.Forms.{seen_as, kept_as}
-use Rattle.archive_forms_spelling.specs.Options.{option_spelling}
-use Rattle.archive_forms_spelling.specs.Pointers.{box_spelling}
-use Rattle.archive_forms_spelling.specs.Fields.{unit_spelling}
-use Rattle.archive_forms_spelling.specs.Levels.{self_spelling}
-use Rattle.archive_forms_reading.specs.declared.resolving.BoxResolver.{BoxResolver}
+use Rattle.archive_forms_laws.specs.Spelling.{Spelling}
+use Rattle.archive_forms_laws.specs.Forms.{seen_as, kept_as}
+use Rattle.archive_forms_laws.specs.Options.{option_spelling}
+use Rattle.archive_forms_laws.specs.Pointers.{box_spelling}
+use Rattle.archive_forms_laws.specs.Fields.{unit_spelling}
+use Rattle.archive_forms_laws.specs.Levels.{self_spelling}
+use Rattle.archive_forms_values.specs.declared.reading.resolving.BoxResolver.{BoxResolver}
 use Rattle.archive_forms_tests.specs.Recursive.{list_shape}
 use Rattle.archive_forms_tests.specs.declared.recursive.list.List.{List, List', None', Some'}
 
@@ -17,7 +17,7 @@ abbrev pub list_next : List → Option List
 list_next (List' None') = None
 list_next (List' (Some' p x)) = Some x
 
--- how many lists it leads to, one after the other
+-- the number of lists that it leads to, one after another
 abbrev pub links : List → ℕ
 links (List' None') = 0
 links (List' (Some' p x)) = suc (links x)

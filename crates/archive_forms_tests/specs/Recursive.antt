@@ -1,4 +1,4 @@
--- The layouts of types that hold themselves: a name, and the shape that it stands for.
+-- The layouts of types that hold themselves: a name, and the shape that it denotes.
 use Rattle.std.specs.Prelude.{◌≡◌, Some}
 use Rattle.archive_shape_layout.specs.Shape.{Shape}
 use Rattle.archive_shape_layout.specs.Shape.Alignment.{four}

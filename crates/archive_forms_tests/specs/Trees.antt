@@ -1,11 +1,11 @@
 -- How trees that hold themselves are archived.
 use Rattle.std.specs.Prelude.{ℕ, suc, max, List, [], ◌∷◌}
-use Rattle.archive_forms_spelling.specs.Spelling.{Spelling}
-use Rattle.archive_forms_spelling.specs.Forms.{seen_as, kept_as}
-use Rattle.archive_forms_spelling.specs.Pointers.{slice_spelling}
-use Rattle.archive_forms_spelling.specs.Fields.{unit_spelling}
-use Rattle.archive_forms_spelling.specs.Levels.{self_spelling}
-use Rattle.archive_forms_reading.specs.declared.resolving.VecResolver.{VecResolver}
+use Rattle.archive_forms_laws.specs.Spelling.{Spelling}
+use Rattle.archive_forms_laws.specs.Forms.{seen_as, kept_as}
+use Rattle.archive_forms_laws.specs.Pointers.{slice_spelling}
+use Rattle.archive_forms_laws.specs.Fields.{unit_spelling}
+use Rattle.archive_forms_laws.specs.Levels.{self_spelling}
+use Rattle.archive_forms_values.specs.declared.reading.resolving.VecResolver.{VecResolver}
 use Rattle.archive_forms_tests.specs.Recursive.{tree_shape}
 use Rattle.archive_forms_tests.specs.declared.recursive.tree.Tree.{Tree, Tree', Row_of-Tree, end_of-Tree, more_of-Tree}
 
@@ -17,7 +17,7 @@ trees_in (more_of-Tree t rest) = t ∷ trees_in rest
 abbrev pub branches_of : Tree → List Tree
 branches_of (Tree' shape all) = trees_in all
 
--- how many levels of trees lie below a tree
+-- the number of levels of trees below a tree
 abbrev mutual
   pub levels_below : Tree → ℕ
   levels_below (Tree' shape all) = most_below all

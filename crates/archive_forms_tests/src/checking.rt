@@ -1,4 +1,4 @@
-//! Tests of the checks of forms that have elements.
+//! Tests of the checks of forms that have parts.
 mod arrays;
 mod boxed_slices;
 mod boxes;
@@ -13,7 +13,7 @@ use crate::narrow_context::NarrowContext;
 use archive_shape::{CheckBytes, Error};
 use std::alloc::Global;
 
-/// Checks the value at a position in a context of its own.
+/// Checks the value at `pos` in a new context of the whole buffer, in which at most `most` pushes nest.
 pub(crate) fn check_alone<T: CheckBytes<NarrowContext>>(
     alloc: Global,
     bytes: &[u8],

@@ -1,4 +1,4 @@
-//! Tests of archived forms, with a module for each crate that is tested.
+//! Tests of archived forms, with a module for each area that is tested.
 #![tactic(auto)]
 
 #[cfg(test)]

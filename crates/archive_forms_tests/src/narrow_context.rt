@@ -1,4 +1,4 @@
-//! A context of checks for tests.
+//! `NarrowContext`, a context of checks for tests.
 ghost use Rattle.std.specs.Prelude.{◌≡◌, None};
 
 use archive_shape::{ArchiveContext, Error, PushedRange};
@@ -14,7 +14,7 @@ pub struct NarrowContext {
 }
 
 impl NarrowContext {
-    /// Of n bytes, with n pushes at most.
+    /// Creates a context of `len` bytes, in which at most `most` pushes nest.
     pub fn new(alloc: Global, len: usize, most: usize) -> Self
         ensures start { result.start ≡ 0 }
         ensures end { result.end ≡ len }

@@ -4,12 +4,12 @@ mod unsized_values;
 mod values;
 
 use crate::narrow_context::NarrowContext;
-use archive_forms_deserializing::Deserialize;
+use archive_forms::Deserialize;
 use archive_forms_writing::Archive;
 use archive_shape::{CheckBytes, Error, Ref};
 use std::alloc::Global;
 
-/// Checks the value at a position in a context of its own, of the bytes before it, and reads it back.
+/// Checks the value at `pos` in a new context of the bytes before it, and reads it back.
 pub(crate) fn read_back<T: Archive, A: CheckBytes<NarrowContext> + Deserialize<T, ()>>(
     alloc: Global,
     bytes: &[u8],

@@ -13,7 +13,7 @@ use archive_forms_writing::{Serialize, serialize_using};
 use serializer::MemorySerializer;
 use std::alloc::Global;
 
-/// Whether these bytes are what is written of a value.
+/// Returns `true` if archiving `value` writes exactly `bytes`.
 pub(crate) fn is_archived_as<T: Serialize<MemorySerializer>>(
     alloc: Global,
     value: &T,

@@ -1,19 +1,19 @@
--- The elements of an array: their resolvers, and their own bytes side by side.
+-- The elements of an array: their resolvers, and their own bytes, which are adjacent.
 use Rattle.std.proofs.Common.{◌≡◌, ℕ, zero, suc, ◌+◌, ◌*◌, ◌≤◌, ◌<◌, ◌-◌, ◌^◌, min, set, List, [], ◌∷◌, ◌++◌, length, take, drop, replicate, arith, length-append, append_assoc, append-nil, ap, sym, refl, subst, ◌∙◌, inl, inr, mul-le-mul_right}
 use Rattle.std.specs.Prelude.{⊤}
-use Rattle.archive_shape_layout.specs.Shape.{Shape, size_of}
-use Rattle.archive_shape_references.specs.Bytes.{HasBytes, zeros, overwrite}
+use Rattle.archive_shape.specs.ShapeLayout.Shape.{Shape, size_of}
+use Rattle.archive_shape.specs.Bytes.{HasBytes, zeros, overwrite}
 use Rattle.archive_shape_writing.specs.declared.error.Error.{Error}
-use Rattle.archive_shape_references.proofs.Written.{length-overwrite}
+use Rattle.archive_shape.proofs.Written.{length-overwrite}
 use Rattle.archive_shape_writing.specs.Progress.{Progress}
-use Rattle.archive_shape_canonical.specs.FirstFit.{first_fit}
-use Rattle.archive_forms_spelling.specs.State.{State, advanced, visit_of_key}
-use Rattle.archive_forms_spelling.specs.Spelling.{Spelling, state_after}
-use Rattle.archive_forms_spelling.specs.Regions.{resolvers, pieces, state_after_all}
-use Rattle.archive_forms_spelling.specs.Arrays.{array_own, array_own_fits, array_own_refused}
-use Rattle.archive_forms_spelling.specs.Serializing.{CanResolve, IsAt, progress_by, is_begun}
-use Rattle.archive_forms_spelling.proofs.Regions.{state_after_all_pos, state_after_all_begun}
-use Rattle.archive_forms_reading.proofs.Joined.{overwrites_joined}
+use Rattle.archive_forms_laws.specs.ShapeCanonical.FirstFit.{first_fit}
+use Rattle.archive_forms_laws.specs.State.{State, advanced, visit_of_key}
+use Rattle.archive_forms_laws.specs.Spelling.{Spelling, state_after}
+use Rattle.archive_forms_laws.specs.Regions.{resolvers, pieces, state_after_all}
+use Rattle.archive_forms_laws.specs.Arrays.{array_own, array_own_fits, array_own_refused}
+use Rattle.archive_forms_laws.specs.Serializing.{CanResolve, IsAt, progress_by, is_begun}
+use Rattle.archive_forms_laws.proofs.Regions.{state_after_all_pos, state_after_all_begun}
+use Rattle.archive_forms_values.proofs.Joined.{overwrites_joined}
 use Rattle.archive_forms_writing.proofs.Joining.{still_zero, unfilled}
 
 -- ---- a list that is filled from the front
@@ -44,10 +44,10 @@ module _ {A R W : Type 0} (w : Spelling A R) (s : Shape) (xs : List A) (st : Sta
         knows = λ key. h.knows key ∙ ap (λ b. progress_by (visit_of_key (state_after_all w xs st).met key) (is_begun b key)) begun;
       }
 
--- ---- own bytes side by side
+-- ---- adjacent own bytes
 
 module _ {A R : Type 0} (s : Shape) (w : Spelling A R) (xs : List A) (kept : List R) (bytes : List ℕ) (start pos : ℕ) where
-  -- the own bytes of so many elements are written, up to an offset
+  -- the own bytes of `i` elements are written, up to an offset
   pub record Laid (i offset : ℕ) (now : List ℕ) : Type 0 where
     pub done : List ℕ
     pub stands : offset ≡ i * size_of s
@@ -83,7 +83,7 @@ module _ {A R : Type 0} (s : Shape) (w : Spelling A R) (xs : List A) (kept : Lis
         let both : k ∷ drop (i + 1) kept ≡ w.resolver x h.from ∷ resolvers w (drop (i + 1) xs) (state_after w x h.from) = sym f ∙ h.made ∙ ap (λ l. resolvers w l h.from) e in
         (cc, cc)
 
-    -- the next one can be resolved behind them
+    -- the next one can be resolved after them
     pub laid_can :
         (n : ℕ) → i < n
         → start + n * size_of s ≤ length bytes

@@ -3,22 +3,22 @@ use Rattle.std.proofs.Common.{◌≡◌, ℕ, zero, suc, min, zero-mul, one-mul,
 use Rattle.std.proofs.Math.Nat.{mul-le-mul_right}
 use Rattle.std.proofs.Math.Seq.{take-append_seam}
 use Rattle.std.proofs.lemmas.List.{length-take, length-replicate, take-replicate, drop-replicate, drop-drop, drop_at}
-use Rattle.archive_shape_layout.specs.Shape.{Shape, size_of}
-use Rattle.archive_shape_references.specs.Bytes.{HasBytes, zeros, overwrite}
-use Rattle.archive_shape_references.proofs.Written.{length-overwrite}
+use Rattle.archive_shape.specs.ShapeLayout.Shape.{Shape, size_of}
+use Rattle.archive_shape.specs.Bytes.{HasBytes, zeros, overwrite}
+use Rattle.archive_shape.proofs.Written.{length-overwrite}
 use Rattle.std.specs.Prelude.{Result, Ok, Err, false}
 use Rattle.archive_shape_writing.specs.Progress.Progress.{unmet}
 use Rattle.archive_shape_writing.specs.declared.error.Error.TheVariants.{OutOfMemory, PositionTooLarge}
 use Rattle.archive_shape_writing.specs.Writing.{WriterMembers, Writes}
 use Rattle.archive_shape_writing.specs.declared.error.Error.{Error}
 use Rattle.archive_shape_writing.proofs.Joined.{written_none}
-use Rattle.archive_forms_spelling.specs.State.{State}
-use Rattle.archive_forms_spelling.specs.Spelling.{Spelling, state_after}
-use Rattle.archive_forms_spelling.specs.Serializing.{Lays}
-use Rattle.archive_forms_spelling.specs.Regions.{resolvers, owns, placed_fits, placed_refused, owns_fit, owns_refused}
+use Rattle.archive_forms_laws.specs.State.{State}
+use Rattle.archive_forms_laws.specs.Spelling.{Spelling, state_after}
+use Rattle.archive_forms_laws.specs.Serializing.{Lays}
+use Rattle.archive_forms_laws.specs.Regions.{resolvers, owns, placed_fits, placed_refused, owns_fit, owns_refused}
 use Rattle.archive_forms_writing.proofs.Laying.{Wrote, Fails, Stops, wrote_both, stopped_after, stopped_first, stopped_before}
 
--- ---- bytes that are written behind the first ones
+-- ---- bytes that are written after the first ones
 
 split : (bytes : List ℕ) (at : ℕ) (p : List ℕ) → overwrite bytes at p ≡ (take at bytes ++ p) ++ drop (at + length p) bytes
 split bytes at p = sym (append_assoc (take at bytes) p (drop (at + length p) bytes))
@@ -34,7 +34,7 @@ take_written bytes at n p h e =
     ∙ ap (λ k. take k ((take at bytes ++ p) ++ drop (at + length p) bytes)) (sym (ends bytes at p h))
     ∙ take-append_seam (take at bytes ++ p) (drop (at + length p) bytes)
 
--- and what lies behind them stays
+-- and what lies after them stays
 pub drop_written : (bytes : List ℕ) (at n : ℕ) (p : List ℕ) → at ≤ length bytes → n ≡ length p → drop (at + n) (overwrite bytes at p) ≡ drop (at + n) bytes
 drop_written bytes at n p h e =
     ap (λ k. drop (at + k) (overwrite bytes at p)) e
@@ -42,12 +42,12 @@ drop_written bytes at n p h e =
     ∙ drop_at (take at bytes ++ p) (drop (at + length p) bytes) (at + length p) (ends bytes at p h)
     ∙ ap (λ k. drop (at + k) bytes) (sym e)
 
--- zeros behind the first bytes
+-- zeros after the first bytes
 pub blank_there : (bytes : List ℕ) (at n : ℕ) → at + n ≤ length bytes → drop at bytes ≡ zeros (length bytes - at) → HasBytes bytes at (zeros n)
 blank_there bytes at n h e =
     ap (λ k. take k (drop at bytes)) (length-replicate _ _) ∙ ap (take n) e ∙ take-replicate n (length bytes - at) 0 (omega (arith, h))
 
--- those behind what was written stay
+-- those after what was written stay
 pub blank_behind : (bytes new : List ℕ) (at n : ℕ) (p : List ℕ) → at + n ≤ length bytes → n ≡ length p → new ≡ overwrite bytes at p → drop at bytes ≡ zeros (length bytes - at)
     → (length new ≡ length bytes) × (drop (at + n) new ≡ zeros (length new - (at + n)))
 blank_behind bytes new at n p h e is z =
@@ -64,7 +64,7 @@ blank_behind bytes new at n p h e is z =
 -- ---- elements
 
 module _ {A R W : Type 0} (w : Spelling A R) (shape : Shape) (s : WriterMembers W) (xs : List A) (kept : List R) (st : State) (old : W) where
-  -- the own bytes of so many elements were written, or are the first ones of a buffer
+  -- the own bytes of `i` elements were written, or are the first ones of a buffer
   pub record Buffered (i : ℕ) (now : W) (at : ℕ) (buffer : List ℕ) : Type 0 where
     -- the state that the data of the others was written from
     pub from : State
@@ -199,7 +199,7 @@ module _ {A R W : Type 0} (w : Spelling A R) (shape : Shape) (s : WriterMembers 
 
 module _ {A R W : Type 0} (w : Spelling A R) (shape : Shape) (s : WriterMembers W) (xs : List A) (kept : List R) (old : W) where
   -- the first bytes of a buffer are own bytes, from each state that the data may have been written from, and zeros are
-  -- behind them
+  -- after them
   pub record Filling (i : ℕ) (now : W) (at : ℕ) (buffer : List ℕ) : Type 0 where
     pub within : at ≤ length buffer
     pub blank : drop at buffer ≡ zeros (length buffer - at)
@@ -243,7 +243,7 @@ no_bytes : (n : ℕ) (l : List ℕ) → n ≡ n + length l → l ≡ []
 no_bytes n [] e = refl
 no_bytes n (x ∷ l) e = absurd (omega (arith, e))
 
--- nothing is written: a position stands for the writer
+-- nothing is written: a position represents the writer
 abbrev pub unwritten : WriterMembers ℕ
 unwritten = record { known = λ _ _. unmet; pos = λ n. n; OBSERVABLE = false; COUNTS = false; contents = λ _. []; failures = λ _. 0; last_error = λ _. OutOfMemory }
 
@@ -256,11 +256,11 @@ all_filled {A = A} w shape xs kept st pos i at buffer e h =
       h.fits (subst Q (sym e) tt),
     )
 
--- the next one ends where as many as are all end
+-- the next one ends where all of them end
 pub next_within : (i n size : ℕ) → i < n → i * size + size ≤ n * size
 next_within i n size h = let e : (i + 1) * size ≤ n * size = mul-le-mul_right size (omega (arith, h)) in omega (arith, e)
 
--- a size that is cut at 2^64 - 1 is the size, where many of it are few
+-- a size that is cut at 2^64 - 1 is the size, where a multiple of it is few bytes
 pub few_sized : (n size cut few : ℕ) → few < 2 ^ 64 - 1 → cut ≡ min size (2 ^ 64 - 1) → min (n * cut) (2 ^ 64 - 1) ≤ few → (n * size ≤ few) × (n * size ≡ n * cut)
 few_sized zero size cut few small e h = (let z : 0 * size ≡ 0 = zero-mul size in omega (arith, z), zero-mul size ∙ sym (zero-mul cut))
 few_sized (suc n) size cut few small e h =

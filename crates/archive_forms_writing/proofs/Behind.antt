@@ -1,16 +1,16 @@
--- Own bytes that are written behind data, from the next position of their alignment on.
+-- Own bytes that are written after data, from the next position of their alignment on.
 use Rattle.std.proofs.Common.{◌≡◌, ℕ, ◌-◌, ◌^◌, ◌≤◌, ◌<◌, List, ◌++◌, refl, ap, subst, ◌∙◌, arith, length, inl, inr, Ok, ◌⊎◌}
 use Rattle.std.proofs.lemmas.List.{length-replicate}
-use Rattle.archive_shape_layout.specs.Bytes.{align_up}
-use Rattle.archive_shape_layout.specs.Shape.{Shape, align_of}
-use Rattle.archive_shape_layout.proofs.Framed.{le_align_up}
-use Rattle.archive_shape_references.specs.Bytes.{zeros}
+use Rattle.archive_shape.specs.ShapeLayout.Bytes.{align_up}
+use Rattle.archive_shape.specs.ShapeLayout.Shape.{Shape, align_of}
+use Rattle.archive_shape.proofs.ShapeLayout.Framed.{le_align_up}
+use Rattle.archive_shape.specs.Bytes.{zeros}
 use Rattle.archive_shape_writing.specs.Writing.{WriterMembers}
 use Rattle.archive_shape_writing.specs.declared.error.Error.{Error}
 use Rattle.archive_shape_writing.specs.declared.error.Error.TheVariants.{PositionTooLarge}
-use Rattle.archive_forms_spelling.specs.State.{State}
-use Rattle.archive_forms_spelling.specs.Spelling.{Spelling}
-use Rattle.archive_forms_spelling.specs.Regions.{owns, owns_fit, owns_refused}
+use Rattle.archive_forms_laws.specs.State.{State}
+use Rattle.archive_forms_laws.specs.Spelling.{Spelling}
+use Rattle.archive_forms_laws.specs.Regions.{owns, owns_fit, owns_refused}
 use Rattle.archive_forms_writing.specs.Behind.{LaysBehind}
 use Rattle.archive_forms_writing.proofs.Laying.{Wrote, Fails, Stops, wrote_both, stopped_after, stopped_first, stopped_before}
 

@@ -1,17 +1,17 @@
--- Bytes that are written over others, one behind the other.
+-- Bytes that are written over others, one piece after another.
 use Rattle.std.proofs.Common.{◌≡◌, ℕ, zero, suc, ◌+◌, ◌-◌, ◌≤◌, ◌<◌, set, List, [], ◌∷◌, ◌++◌, length, take, drop, arith, length-append, append_assoc, append-nil, ap, sym, refl, subst, ◌∙◌}
 use Rattle.std.proofs.Math.Seq.{take-append_seam}
 use Rattle.std.proofs.Math.ListN.{drop_of_length-le}
 use Rattle.std.proofs.lemmas.List.{length-take, drop-drop, drop_at, take-append-drop, length-replicate}
-use Rattle.archive_shape_references.specs.Bytes.{HasBytes, zeros, overwrite}
-use Rattle.archive_shape_references.proofs.Written.{length-overwrite, window_there, window_behind}
-use Rattle.archive_shape_references.proofs.Pieces.{stands_left, stands_right}
-use Rattle.archive_forms_spelling.specs.Options.{tagged_bytes}
-use Rattle.archive_forms_reading.proofs.Joined.{overwrites_joined}
+use Rattle.archive_shape.specs.Bytes.{HasBytes, zeros, overwrite}
+use Rattle.archive_shape.proofs.Written.{length-overwrite, window_there, window_behind}
+use Rattle.archive_shape.proofs.Pieces.{stands_left, stands_right}
+use Rattle.archive_forms_laws.specs.Options.{tagged_bytes}
+use Rattle.archive_forms_values.proofs.Joined.{overwrites_joined}
 
 -- ---- bytes that are written over zeros
 
--- bytes are what stands before a piece, the piece, and what stands behind it
+-- bytes are what is before a piece, the piece, and what is after it
 split_window : (bytes : List ℕ) (at n : ℕ) (p : List ℕ) → HasBytes bytes at p → n ≡ length p → bytes ≡ take at bytes ++ (p ++ drop (at + n) bytes)
 split_window bytes at n p s e =
     sym (take-append-drop at bytes)
@@ -45,7 +45,7 @@ fills bytes at k j p s room =
     ∙ ap (λ l. pre ++ l) (sym (append_assoc zk (p ++ zj) rest))
     ∙ ap (λ l. pre ++ ((zk ++ (p ++ zj)) ++ l)) (sym end)
 
--- zeros behind zeros
+-- zeros after zeros
 zeros-append : (m n : ℕ) → zeros m ++ zeros n ≡ zeros (m + n)
 zeros-append zero n = let e : n ≡ 0 + n = omega arith in ap zeros e
 zeros-append (suc m) n = let e : suc (m + n) ≡ suc m + n = omega arith in ap (λ l. 0 ∷ l) (zeros-append m n) ∙ ap zeros e
@@ -54,7 +54,7 @@ zeros-append (suc m) n = let e : suc (m + n) ≡ suc m + n = omega arith in ap (
 pub unfilled : (bytes : List ℕ) (at n : ℕ) → HasBytes bytes at (zeros n) → overwrite bytes at (zeros n) ≡ bytes
 unfilled bytes at n s = sym (split_window bytes at (length (zeros n)) (zeros n) s refl)
 
--- a tag at the start of zeros, and a payload behind it
+-- a tag at the start of zeros, and a payload after it
 pub tagged_over : (bytes : List ℕ) (at offset size tag : ℕ) (payload : List ℕ) → 1 ≤ offset → offset + length payload ≤ size → at + size ≤ length bytes → HasBytes bytes at (zeros size)
     → overwrite (overwrite bytes at (tag ∷ [])) (at + offset) payload ≡ overwrite bytes at (tagged_bytes tag offset size payload)
 tagged_over bytes at offset size tag payload first fits room s =
@@ -93,7 +93,7 @@ zeros_part bytes at size from n fits s =
 -- ---- pieces of a place that is zero
 
 module _ (bytes : List ℕ) (at size : ℕ) (room : at + size ≤ length bytes) (blank : HasBytes bytes at (zeros size)) (done : List ℕ) where
-  -- what lies behind those that were written is still zero
+  -- what lies after those that were written is still zero
   pub still_zero : (from n : ℕ) → length done ≤ from → from + n ≤ size → HasBytes (overwrite bytes at done) (at + from) (zeros n)
   still_zero from n h fits = window_behind bytes at done (omega arith) (at + from) (length (zeros n)) (omega arith) ∙ zeros_part bytes at size from n fits blank
 
@@ -113,7 +113,7 @@ module _ (bytes : List ℕ) (at size : ℕ) (room : at + size ≤ length bytes) 
       ∙ ap (λ l. overwrite now (at + length done) (zeros k ++ l)) (append-nil piece)
       ∙ overwrites_joined bytes at (length done) done (zeros k ++ piece) refl (omega (arith, length-append (zeros k) piece))
 
-  -- the zeros behind the last
+  -- the zeros after the last
   pub zeros_behind : length done ≤ size → overwrite bytes at done ≡ overwrite bytes at (done ++ zeros (size - length done))
   zeros_behind h =
       let n = size - length done in
@@ -136,7 +136,7 @@ whole_over bytes from piece z e =
     let none : drop (0 + length piece) bytes ≡ [] = drop_of_length-le bytes (omega (arith, e)) in
     subst P (sym z) (ap (λ l. piece ++ l) none ∙ append-nil piece)
 
--- ---- a payload behind a tag
+-- ---- a payload after a tag
 
 module _ (offset size payload : ℕ) (first : 1 ≤ offset) (fits : offset + payload ≤ size) (bytes : List ℕ) (start tag : ℕ) (room : start + size ≤ length bytes) (blank : HasBytes bytes start (zeros size)) where
   -- its place is still zero when the tag is set

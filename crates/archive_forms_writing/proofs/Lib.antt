@@ -10,3 +10,5 @@ pub mod Results
 pub mod Root
 pub mod Structs
 pub mod Whole
+pub use Rattle.archive_forms_laws.proofs as FormsLaws
+pub use Rattle.archive_forms_values.proofs as FormsValues

@@ -1,15 +1,15 @@
--- Elements that are written one after the other.
+-- Elements that are written one after another.
 use Rattle.std.proofs.Common.{◌≡◌, ℕ, suc, ◌+◌, ◌≤◌, ◌<◌, List, [], ◌∷◌, ◌++◌, refl, sym, ap, subst, ◌∙◌, length, drop, get_or, append-nil, append_assoc, inl, inr, drop-cons, add-one}
 use Rattle.std.proofs.Math.ListN.{drop_of_length-le}
-use Rattle.archive_shape_layout.specs.Shape.{Shape}
+use Rattle.archive_shape.specs.ShapeLayout.Shape.{Shape}
 use Rattle.archive_shape_writing.specs.Writing.{WriterMembers}
 use Rattle.archive_shape_writing.specs.declared.error.Error.{Error}
 use Rattle.archive_shape_writing.specs.declared.error.Error.TheVariants.{OutOfMemory}
 use Rattle.archive_shape_writing.proofs.Joined.{written_none}
-use Rattle.archive_forms_spelling.specs.State.{State}
-use Rattle.archive_forms_spelling.specs.Spelling.{Spelling, state_after}
-use Rattle.archive_forms_spelling.specs.Regions.{state_after_all, pieces, resolvers, owns, pieces_fit, pieces_refused, placed_fits, placed_refused, owns_fit, owns_refused}
-use Rattle.archive_forms_spelling.specs.Serializing.{IsAt, of_data}
+use Rattle.archive_forms_laws.specs.State.{State}
+use Rattle.archive_forms_laws.specs.Spelling.{Spelling, state_after}
+use Rattle.archive_forms_laws.specs.Regions.{state_after_all, pieces, resolvers, owns, pieces_fit, pieces_refused, placed_fits, placed_refused, owns_fit, owns_refused}
+use Rattle.archive_forms_laws.specs.Serializing.{IsAt, of_data}
 use Rattle.archive_forms_writing.proofs.Laying.{Wrote, Stops, wrote_both, stopped_after, stopped_first, stopped_before}
 
 -- the rest of a list begins with the element at its index
@@ -25,7 +25,7 @@ length-resolvers w [] st = refl
 length-resolvers w (x ∷ xs) st = ap suc (length-resolvers w xs (state_after w x st))
 
 module _ {A R W : Type 0} (w : Spelling A R) (s : WriterMembers W) (xs : List A) (old : W) (st : State) where
-  -- the data of so many elements was written
+  -- the data of `i` elements was written
   pub record Reached (i : ℕ) (now : W) (kept : List R) : Type 0 where
     -- the state then
     pub left : State
@@ -87,7 +87,7 @@ module _ {A R W : Type 0} (w : Spelling A R) (s : WriterMembers W) (xs : List A)
   unfolding reached_none
   first_stopped new x e is at g = reached_stopped 0 old new [] x e is (reached_none at) g
 
-  -- memory was refused
+  -- an allocation failed
   pub reached_memory : (i : ℕ) (now : W) (kept : List R) → Reached i now kept → Stops (of_data s) old now (pieces w xs st) (pieces_refused w xs st) OutOfMemory
   reached_memory i now kept h =
       let none : Error → Type 0 = λ _. ⊥ in
@@ -113,7 +113,7 @@ module _ {A R W : Type 0} (w : Spelling A R) (s : WriterMembers W) (xs : List A)
       }
 
 module _ {A R W : Type 0} (w : Spelling A R) (shape : Shape) (s : WriterMembers W) (xs : List A) (kept : List R) (st : State) (old : W) where
-  -- the own bytes of so many elements were written
+  -- the own bytes of `i` elements were written
   pub record Placed (i : ℕ) (now : W) : Type 0 where
     -- the state that the data of the others was written from
     pub from : State

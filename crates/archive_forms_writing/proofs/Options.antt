@@ -1,18 +1,18 @@
 -- The data of an option that is there, and the own bytes of options.
 use Rattle.std.proofs.Common.{◌≡◌, ℕ, ◌+◌, ◌≤◌, ◌<◌, Option, Some, None, Ok, Err, List, length, set, sym, ap, subst, ◌∙◌, refl, arith}
 use Rattle.std.specs.Prelude.{Result, unwrap_or}
-use Rattle.archive_shape_layout.specs.Bytes.{align_up}
-use Rattle.archive_shape_layout.specs.Shape.{Shape, size_of, align_of}
-use Rattle.archive_shape_layout.specs.Shape.Shape.{option}
-use Rattle.archive_shape_references.specs.Bytes.{HasBytes, zeros, overwrite}
-use Rattle.archive_forms_layout.proofs.Sizes.{behind_tag}
+use Rattle.archive_shape.specs.ShapeLayout.Bytes.{align_up}
+use Rattle.archive_shape.specs.ShapeLayout.Shape.{Shape, size_of, align_of}
+use Rattle.archive_shape.specs.ShapeLayout.Shape.Shape.{option}
+use Rattle.archive_shape.specs.Bytes.{HasBytes, zeros, overwrite}
+use Rattle.archive_forms_laws.proofs.Sizes.{behind_tag}
 use Rattle.archive_shape_writing.specs.Writing.{WriterMembers}
 use Rattle.archive_shape_writing.specs.declared.error.Error.{Error}
-use Rattle.archive_forms_spelling.specs.State.{State}
-use Rattle.archive_forms_spelling.specs.Spelling.{Spelling, state_after}
-use Rattle.archive_forms_spelling.specs.Options.{option_spelling, payload_at, tagged_bytes}
-use Rattle.archive_forms_spelling.specs.Serializing.{of_data, IsAt, Resolves}
-use Rattle.archive_forms_spelling.proofs.Options.{option_room}
+use Rattle.archive_forms_laws.specs.State.{State}
+use Rattle.archive_forms_laws.specs.Spelling.{Spelling, state_after}
+use Rattle.archive_forms_laws.specs.Options.{option_spelling, payload_at, tagged_bytes}
+use Rattle.archive_forms_laws.specs.Serializing.{of_data, IsAt, Resolves}
+use Rattle.archive_forms_laws.proofs.Options.{option_room}
 use Rattle.archive_forms_writing.proofs.Joining.{payload_over, unfilled}
 use Rattle.archive_forms_writing.proofs.Laying.{Wrote, Stops}
 
@@ -30,7 +30,7 @@ module _ {A R W : Type 0} (sh : Shape) (w : Spelling A R) (s : WriterMembers W) 
   pub some_stopped : (e : Error) → Stops (of_data s) old new (w.piece x st) (w.piece_refused x st) e → Stops (of_data s) old new ((option_spelling sh w).piece o st) ((option_spelling sh w).piece_refused o st) e
   some_stopped e h = let P : Option A → Type 0 = λ y. Stops (of_data s) old new ((option_spelling sh w).piece y st) ((option_spelling sh w).piece_refused y st) e in subst P (sym is) h
 
--- where the value of an option lies in it
+-- the position of the value of an option in it
 pub record ValuePlace (s : Shape) (offset : ℕ) : Type 0 where
   pub first : 1 ≤ offset
   pub at : payload_at s ≡ offset
@@ -42,7 +42,7 @@ value_place s offset is positive =
     record { first = omega arith; at = at; fits = omega (arith, option_room s (size_of s) refl) }
 
 module _ {A R : Type 0} (s : Shape) (w : Spelling A R) (sized : (x : A) (r : R) (pos : ℕ) → w.own_fits x r pos → length (w.own x r pos) ≡ size_of s) where
-  -- what an option is resolved to, where its value is resolved behind the tag
+  -- what an option is resolved to, where its value is resolved after the tag
   pub some_resolved : (offset : ℕ) (place : ValuePlace s offset) (bytes set_bytes new final : List ℕ) (start pos from there : ℕ) (o : Option A) (k : Option R) (x : A) (r : R) (result : Result (Unit {0}) Error)
       → o ≡ Some x → k ≡ Some r
       → start + size_of (option s) ≤ length bytes → HasBytes bytes start (zeros (size_of (option s)))

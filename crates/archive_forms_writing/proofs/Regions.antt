@@ -1,26 +1,26 @@
--- A region of elements that is written behind their data.
+-- A region of elements that is written after their data.
 use Rattle.std.proofs.Common.{◌≡◌, ℕ, ◌+◌, ◌-◌, ◌^◌, ◌≤◌, ◌<◌, List, [], ◌∷◌, ◌++◌, refl, sym, ap, subst, ◌∙◌, arith, length, append-nil, append_assoc, inl, inr, Ok, Err, ◌⊎◌}
 use Rattle.std.specs.Prelude.{⊤, Result}
 use Rattle.std.proofs.lemmas.List.{length-replicate}
-use Rattle.archive_shape_layout.specs.Bytes.{align_up}
-use Rattle.archive_shape_layout.specs.Shape.{Shape, align_of}
-use Rattle.archive_shape_layout.proofs.Framed.{le_align_up}
-use Rattle.archive_shape_canonical.specs.FirstFit.{first_fit}
-use Rattle.archive_shape_references.specs.Bytes.{zeros}
+use Rattle.archive_shape.specs.ShapeLayout.Bytes.{align_up}
+use Rattle.archive_shape.specs.ShapeLayout.Shape.{Shape, align_of}
+use Rattle.archive_shape.proofs.ShapeLayout.Framed.{le_align_up}
+use Rattle.archive_forms_laws.specs.ShapeCanonical.FirstFit.{first_fit}
+use Rattle.archive_shape.specs.Bytes.{zeros}
 use Rattle.archive_shape_writing.specs.Writing.{WriterMembers}
 use Rattle.archive_shape_writing.specs.declared.error.Error.{Error}
 use Rattle.archive_shape_writing.specs.declared.error.Error.TheVariants.{PositionTooLarge}
-use Rattle.archive_forms_spelling.specs.State.{State, advanced}
-use Rattle.archive_forms_spelling.specs.Spelling.{Spelling, state_after}
-use Rattle.archive_forms_spelling.specs.Regions.{state_after_all, pieces, owns, pieces_fit, pieces_refused, placed_fits, placed_refused, owns_fit, owns_refused, region_at, region_piece, region_fits, region_refused}
-use Rattle.archive_forms_spelling.specs.Serializing.{IsAt, LaysData, of_data, is_begun, progress_by}
-use Rattle.archive_forms_spelling.specs.State.{visit_of_key}
-use Rattle.archive_forms_spelling.proofs.Regions.{state_after_all_begun}
+use Rattle.archive_forms_laws.specs.State.{State, advanced}
+use Rattle.archive_forms_laws.specs.Spelling.{Spelling, state_after}
+use Rattle.archive_forms_laws.specs.Regions.{state_after_all, pieces, owns, pieces_fit, pieces_refused, placed_fits, placed_refused, owns_fit, owns_refused, region_at, region_piece, region_fits, region_refused}
+use Rattle.archive_forms_laws.specs.Serializing.{IsAt, LaysData, of_data, is_begun, progress_by}
+use Rattle.archive_forms_laws.specs.State.{visit_of_key}
+use Rattle.archive_forms_laws.proofs.Regions.{state_after_all_begun}
 use Rattle.archive_forms_writing.specs.Behind.{LaysBehind}
 use Rattle.archive_forms_writing.proofs.Laying.{Wrote, Fails, Stops, wrote_both, stopped_after, stopped_first, stopped_before, as_data, fails_as_data, stops_as_data}
 
 module _ {A R W : Type 0} (w : Spelling A R) (sh : Shape) (s : WriterMembers W) (xs : List A) (old : W) (st : State) where
-  -- zeros from the end of the data to where the elements stand
+  -- zeros from the end of the data to the position of the elements
   abbrev pub gap : List ℕ
   gap = zeros (region_at w sh xs st - (state_after_all w xs st).pos)
 
@@ -29,7 +29,7 @@ module _ {A R W : Type 0} (w : Spelling A R) (sh : Shape) (s : WriterMembers W) 
     pub wrote : Wrote (of_data s) old mid (pieces w xs st)
     pub is_at : IsAt s.pos s.known mid (state_after_all w xs st)
 
-  -- and zeros behind it
+  -- and zeros after it
   pub record Padded (mid : W) : Type 0 where
     pub wrote : Wrote (of_data s) old mid (pieces w xs st ++ gap)
     pub at : s.pos mid ≡ region_at w sh xs st
@@ -72,7 +72,7 @@ module _ {A R W : Type 0} (w : Spelling A R) (sh : Shape) (s : WriterMembers W) 
       let k : Stops (of_data s) mid new (gap ++ own) none e = stopped_first (of_data s) own (gap ++ own) none none refl (λ r. r) (inl (fails_as_data s (subst P (ap zeros (gap_is mid align is h)) g))) in
       stopped_after (of_data s) (region_piece w sh xs st) none (region_refused w sh xs st) refl (λ r. absurd r) h.wrote k
 
-  -- where the elements stand
+  -- the position of the elements
   pub region_starts : (mid : W) (to align : ℕ) → align ≡ align_of sh → to ≡ align_up (s.pos mid) align → Filled mid → to ≡ region_at w sh xs st
   region_starts mid to align e at h = at ∙ ap (align_up (s.pos mid)) e ∙ ap (λ p. align_up p (align_of sh)) h.is_at.stands
 
@@ -115,7 +115,7 @@ module _ {A R W : Type 0} (w : Spelling A R) (sh : Shape) (s : WriterMembers W) 
         is_at = record { stands = wrote.moves ∙ ap (λ p. p + length (region_piece w sh xs st)) from; knows = λ key. g.keeps key ∙ h.known key };
       }
 
--- ---- own bytes that were written behind all data
+-- ---- own bytes that were written after all data
 
 module _ {A R W : Type 0} (w : Spelling A R) (sh : Shape) (s : WriterMembers W) (xs : List A) (old : W) (st : State) where
   pub region_behind : (mid new : W) (result : Result ℕ Error) → s.pos old ≡ st.pos → Filled w sh s xs old st mid → pieces_fit w xs st

@@ -1,23 +1,23 @@
--- Values behind a tag, and the data and own bytes of results.
+-- Values after a tag, and the data and own bytes of results.
 use Rattle.std.proofs.Common.{◌≡◌, ℕ, ◌+◌, ◌≤◌, ◌<◌, max, Ok, Err, List, length, set, sym, ap, subst, ◌∙◌, arith, length-set, ◌^◌}
 use Rattle.std.specs.Prelude.{Result}
-use Rattle.archive_shape_layout.specs.Bytes.{align_up}
-use Rattle.archive_shape_layout.specs.Shape.{Shape, size_of, align_of}
-use Rattle.archive_shape_layout.specs.Shape.Shape.{result as result_shape}
-use Rattle.archive_shape_references.specs.Bytes.{HasBytes, zeros, overwrite}
-use Rattle.archive_forms_layout.proofs.Sizes.{behind_tag}
+use Rattle.archive_shape.specs.ShapeLayout.Bytes.{align_up}
+use Rattle.archive_shape.specs.ShapeLayout.Shape.{Shape, size_of, align_of}
+use Rattle.archive_shape.specs.ShapeLayout.Shape.Shape.{result as result_shape}
+use Rattle.archive_shape.specs.Bytes.{HasBytes, zeros, overwrite}
+use Rattle.archive_forms_laws.proofs.Sizes.{behind_tag}
 use Rattle.archive_shape_writing.specs.Writing.{WriterMembers}
 use Rattle.archive_shape_writing.specs.declared.error.Error.{Error}
-use Rattle.archive_forms_spelling.specs.State.{State}
-use Rattle.archive_forms_spelling.specs.Spelling.{Spelling, state_after}
-use Rattle.archive_forms_spelling.specs.Payloads.{payload_spelling}
-use Rattle.archive_forms_spelling.specs.Results.{result_spelling, result_payload_at}
-use Rattle.archive_forms_spelling.specs.Serializing.{of_data, IsAt, CanResolve, Resolves}
-use Rattle.archive_forms_spelling.proofs.Results.{result_room}
+use Rattle.archive_forms_laws.specs.State.{State}
+use Rattle.archive_forms_laws.specs.Spelling.{Spelling, state_after}
+use Rattle.archive_forms_laws.specs.Payloads.{payload_spelling}
+use Rattle.archive_forms_laws.specs.Results.{result_spelling, result_payload_at}
+use Rattle.archive_forms_laws.specs.Serializing.{of_data, IsAt, CanResolve, Resolves}
+use Rattle.archive_forms_laws.proofs.SpellingResults.{result_room}
 use Rattle.archive_forms_writing.proofs.Joining.{payload_over, payload_place}
 use Rattle.archive_forms_writing.proofs.Laying.{Wrote, Stops}
 
--- what a value behind a tag is resolved to, where the tag is set and the value is resolved behind it
+-- what a value after a tag is resolved to, where the tag is set and the value is resolved after it
 pub payload_resolved : {A R : Type 0} (w : Spelling A R) (tag offset size payload : ℕ) → 1 ≤ offset → offset + payload ≤ size
     → (bytes set_bytes new final : List ℕ) (start pos from there : ℕ) (x : A) (r : R) (result : Result (Unit {0}) Error)
     → ((p : ℕ) → w.own_fits x r p → length (w.own x r p) ≡ payload)
@@ -38,7 +38,7 @@ payload_resolved w tag offset size payload first fits bytes set_bytes new final 
 payload_resolved w tag offset size payload first fits bytes set_bytes new final start pos from there x r (Err e) sized room blank is_set is_from is_there ends h =
     let F : ℕ → Type 0 = λ n. w.own_refused x r n e in subst F is_there h
 
--- what is asked where a value is resolved behind a tag that is set
+-- what is required where a value is resolved after a tag that is set
 pub payload_can : {A R : Type 0} (w : Spelling A R) (s : Shape) (tag offset size : ℕ) → 1 ≤ offset → offset + size_of s ≤ size
     → (bytes set_bytes : List ℕ) (start pos from there : ℕ) (x : A) (r : R)
     → start + size ≤ length bytes → pos + size < 2 ^ 64 → HasBytes bytes start (zeros size)
@@ -56,7 +56,7 @@ payload_can w s tag offset size first fits bytes set_bytes start pos from there 
       made = made;
     }
 
--- where the value or the error of a result lies in it
+-- the position of the value or the error of a result in it
 pub record OutcomePlace (s t : Shape) (offset : ℕ) : Type 0 where
   pub first : 1 ≤ offset
   pub at : result_payload_at s t ≡ offset
@@ -94,7 +94,7 @@ error_made {R = R} {Q = Q} s t w u o k y r is made h =
     match_error_or (Err a) d = a
 
 module _ {A B R Q : Type 0} (s t : Shape) (w : Spelling A R) (u : Spelling B Q) (o : Result A B) (offset : ℕ) (at : result_payload_at s t ≡ offset) (bytes final : List ℕ) (start pos : ℕ) (answer : Result (Unit {0}) Error) where
-  -- what a result is resolved to, by its tag and what stands behind it
+  -- what a result is resolved to, by its tag and what is after it
   pub value_resolved : (k : Result R Q) (x : A) (r : R) → o ≡ Ok x → k ≡ Ok r
       → Resolves (payload_spelling 0 offset (size_of (result_shape s t)) w) x r pos start bytes final answer
       → Resolves (result_spelling s t w u) o k pos start bytes final answer

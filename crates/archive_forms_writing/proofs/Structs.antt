@@ -1,34 +1,34 @@
--- Fields that are written one after the other: their data, and their own bytes.
+-- Fields that are written one after another: their data, and their own bytes.
 use Rattle.std.proofs.Common.{◌≡◌, ℕ, ◌+◌, ◌-◌, ◌≤◌, ◌<◌, ◌^◌, min, List, [], ◌++◌, length, refl, sym, ap, ap₂, subst, ◌∙◌, arith, inl, inr, Ok, append_assoc, append-nil, length-append}
 use Rattle.std.proofs.lemmas.List.{length-replicate}
-use Rattle.archive_shape_layout.specs.Bytes.{align_up}
-use Rattle.archive_shape_layout.specs.Shape.{Shape, size_of, align_of, fields_end}
-use Rattle.archive_shape_layout.specs.Shape.Shape.{tuple}
-use Rattle.archive_shape_layout.proofs.Framed.{le_align_up, le_fields_end}
-use Rattle.archive_shape_references.specs.Bytes.{HasBytes, zeros, overwrite}
-use Rattle.archive_shape_references.proofs.Written.{length-overwrite}
+use Rattle.archive_shape.specs.ShapeLayout.Bytes.{align_up}
+use Rattle.archive_shape.specs.ShapeLayout.Shape.{Shape, size_of, align_of, fields_end}
+use Rattle.archive_shape.specs.ShapeLayout.Shape.Shape.{tuple}
+use Rattle.archive_shape.proofs.ShapeLayout.Framed.{le_align_up, le_fields_end}
+use Rattle.archive_shape.specs.Bytes.{HasBytes, zeros, overwrite}
+use Rattle.archive_shape.proofs.Written.{length-overwrite}
 use Rattle.archive_shape_writing.specs.Writing.{WriterMembers}
 use Rattle.archive_shape_writing.specs.declared.error.Error.{Error}
 use Rattle.archive_shape_writing.proofs.Joined.{written_none}
-use Rattle.archive_forms_spelling.specs.State.{State, visit_of_key}
-use Rattle.archive_forms_spelling.specs.Spelling.{Spelling, state_after}
-use Rattle.archive_forms_spelling.specs.Fields.{FieldsSpelling, no_fields, more_fields, struct_spelling}
-use Rattle.archive_forms_spelling.specs.Serializing.{IsAt, of_data, CanResolve, Resolves, progress_by, is_begun}
-use Rattle.archive_forms_spelling.proofs.Fields.{struct_room}
+use Rattle.archive_forms_laws.specs.State.{State, visit_of_key}
+use Rattle.archive_forms_laws.specs.Spelling.{Spelling, state_after}
+use Rattle.archive_forms_laws.specs.Fields.{FieldsSpelling, no_fields, more_fields, struct_spelling}
+use Rattle.archive_forms_laws.specs.Serializing.{IsAt, of_data, CanResolve, Resolves, progress_by, is_begun}
+use Rattle.archive_forms_laws.proofs.Fields.{struct_room}
 use Rattle.archive_forms_writing.specs.Fields.{field_at, ResolvesField}
 use Rattle.archive_forms_writing.proofs.Joining.{still_zero, piece_behind, zeros_behind, unfilled}
 use Rattle.archive_forms_writing.proofs.Laying.{Wrote, Stops, wrote_both, stopped_after, stopped_first}
 
 -- ---- one field
 
--- where a field stands, by an offset that stops at `usize::MAX`
+-- the offset of a field, by an offset that is at most `usize::MAX`
 pub field_from : (s : Shape) (offset align from pos : ℕ) → align ≡ align_of s → from ≡ min (align_up offset align) (2 ^ 64 - 1) → pos + field_at s offset + size_of s < 2 ^ 64 → from ≡ field_at s offset
 field_from s offset align from pos is cut fits =
     let e : align_up offset align ≡ field_at s offset = ap (align_up offset) is in
     omega arith
 
 module _ {A R : Type 0} (w : Spelling A R) (s : Shape) (x : A) (r : R) (bytes now : List ℕ) (start pos offset from there at : ℕ) (is : from ≡ field_at s offset) (same : now ≡ bytes) (is_there : there ≡ start + from) (is_at : at ≡ pos + from) where
-  -- what is asked for its value
+  -- what is required for its value
   pub field_can : CanResolve w s x r bytes (start + field_at s offset) (pos + field_at s offset) → CanResolve w s x r now there at
   field_can can =
       let P : List ℕ → Type 0 = λ l. CanResolve w s x r l there at in
@@ -80,7 +80,7 @@ module _ {A R : Type 0} (all : FieldsSpelling A R) (x : A) (r : R) (bytes : List
         let e = h.ends in
         omega arith
 
-    -- what is asked for it
+    -- what is required for it
     pub placed_can : CanResolve w s y.0 k.0 now (start + field_at s offset) (pos + field_at s offset)
     placed_can =
         let a = le_align_up offset (align_of s) in

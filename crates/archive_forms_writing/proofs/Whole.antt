@@ -1,11 +1,11 @@
 -- Own bytes that are written over all bytes of a piece.
 use Rattle.std.proofs.Common.{◌≡◌, ℕ, List, length, sym, ap, subst, ◌∙◌, Ok, Err}
 use Rattle.std.specs.Prelude.{Result, MatchResult}
-use Rattle.archive_shape_layout.specs.Shape.{Shape, size_of}
-use Rattle.archive_shape_references.specs.Bytes.{overwrite}
+use Rattle.archive_shape.specs.ShapeLayout.Shape.{Shape, size_of}
+use Rattle.archive_shape.specs.Bytes.{overwrite}
 use Rattle.archive_shape_writing.specs.declared.error.Error.{Error}
-use Rattle.archive_forms_spelling.specs.Spelling.{Spelling}
-use Rattle.archive_forms_spelling.specs.Serializing.{Resolves}
+use Rattle.archive_forms_laws.specs.Spelling.{Spelling}
+use Rattle.archive_forms_laws.specs.Serializing.{Resolves}
 use Rattle.archive_forms_writing.proofs.Joining.{whole_over}
 
 module _ {A R : Type 0} (s : Shape) (w : Spelling A R) (x : A) (r : R) (sized : (pos : ℕ) → w.own_fits x r pos → length (w.own x r pos) ≡ size_of s) where

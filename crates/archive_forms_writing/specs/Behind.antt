@@ -1,17 +1,17 @@
--- How own bytes are written behind data that was written.
+-- How own bytes are written after data that was written.
 use Rattle.std.specs.Prelude.{◌≡◌, ℕ, ◌-◌, ◌^◌, ◌≤◌, ◌<◌, ◌⊎◌, List, ◌++◌, Result}
-use Rattle.archive_shape_layout.specs.Bytes.{align_up}
-use Rattle.archive_shape_layout.specs.Shape.{Shape, align_of}
-use Rattle.archive_shape_references.specs.Bytes.{zeros}
+use Rattle.archive_shape.specs.ShapeLayout.Bytes.{align_up}
+use Rattle.archive_shape.specs.ShapeLayout.Shape.{Shape, align_of}
+use Rattle.archive_shape.specs.Bytes.{zeros}
 use Rattle.archive_shape_writing.specs.Writing.{WriterMembers}
 use Rattle.archive_shape_writing.specs.declared.error.Error.{Error}
 use Rattle.archive_shape_writing.specs.declared.error.Error.TheVariants.{PositionTooLarge}
-use Rattle.archive_forms_spelling.specs.State.{State}
-use Rattle.archive_forms_spelling.specs.Spelling.{Spelling}
-use Rattle.archive_forms_spelling.specs.Regions.{owns, owns_fit, owns_refused}
-use Rattle.archive_forms_spelling.specs.Serializing.{Lays}
+use Rattle.archive_forms_laws.specs.State.{State}
+use Rattle.archive_forms_laws.specs.Spelling.{Spelling}
+use Rattle.archive_forms_laws.specs.Regions.{owns, owns_fit, owns_refused}
+use Rattle.archive_forms_laws.specs.Serializing.{Lays}
 
--- behind data that ends at a position, elements begin at the next position of their alignment, with zeros before them
+-- after data that ends at a position, elements begin at the next position of their alignment, with zeros before them
 abbrev pub LaysBehind : {A R W : Type 0} → Shape → Spelling A R → WriterMembers W → List A → State → W → W → ℕ → Result ℕ Error → Type 0
 LaysBehind s w members xs st old new pos result =
     let start = align_up pos (align_of s) in

@@ -1,15 +1,15 @@
--- How vectors and boxes are archived, which own their elements, and texts, by their bytes.
+-- How vectors and boxes, which own their elements, are archived, and texts, by their bytes.
 use Rattle.std.specs.Prelude.{ℕ, List, Box, String, Vec}
 use Rattle.std.specs.String.{string_bytes}
 use Rattle.std.specs.Global.{Global}
-use Rattle.archive_shape_layout.specs.Shape.{Shape}
-use Rattle.archive_forms_spelling.specs.Spelling.{Spelling}
-use Rattle.archive_forms_spelling.specs.Forms.{seen_as, kept_as}
-use Rattle.archive_forms_spelling.specs.Pointers.{slice_spelling, box_spelling}
-use Rattle.archive_forms_spelling.specs.Texts.{text_spelling, boxed_text_spelling}
-use Rattle.archive_forms_reading.specs.declared.resolving.BoxResolver.{BoxResolver}
-use Rattle.archive_forms_reading.specs.declared.resolving.VecResolver.{VecResolver}
-use Rattle.archive_forms_text.specs.declared.resolving.StringResolver.{StringResolver}
+use Rattle.archive_shape.specs.ShapeLayout.Shape.{Shape}
+use Rattle.archive_forms_laws.specs.Spelling.{Spelling}
+use Rattle.archive_forms_laws.specs.Forms.{seen_as, kept_as}
+use Rattle.archive_forms_laws.specs.Pointers.{slice_spelling, box_spelling}
+use Rattle.archive_forms_laws.specs.Texts.{text_spelling, boxed_text_spelling}
+use Rattle.archive_forms_values.specs.declared.reading.resolving.BoxResolver.{BoxResolver}
+use Rattle.archive_forms_values.specs.declared.reading.resolving.VecResolver.{VecResolver}
+use Rattle.archive_forms_values.specs.declared.text.resolving.StringResolver.{StringResolver}
 
 -- a vector is archived as the list of its elements
 abbrev pub vec_spelling : {A R : Type 0} → Shape → Spelling A R → Spelling (Vec A Global) VecResolver

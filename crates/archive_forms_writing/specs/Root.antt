@@ -1,15 +1,15 @@
--- What is written where nothing was written before.
+-- What a writer holds that held nothing before.
 use Rattle.std.specs.Prelude.{◌≡◌, [], IsTrue}
-use Rattle.archive_shape_layout.specs.Shape.{Shape}
-use Rattle.archive_shape_layout.specs.Content.{Names}
-use Rattle.archive_shape_canonical.specs.Settled.{Fit}
+use Rattle.archive_shape.specs.ShapeLayout.Shape.{Shape}
+use Rattle.archive_shape.specs.ShapeLayout.Content.{Names}
+use Rattle.archive_forms_laws.specs.ShapeCanonical.Settled.{Fit}
 use Rattle.archive_shape_writing.specs.Writing.{WriterMembers}
-use Rattle.archive_forms_spelling.specs.State.{Keys, AreOneToOne, initial}
-use Rattle.archive_forms_spelling.specs.Spelling.{Spelling}
-use Rattle.archive_forms_spelling.specs.Serializing.{IsAt}
-use Rattle.archive_forms_spelling.specs.Written.{IsWritten}
+use Rattle.archive_forms_laws.specs.State.{Keys, AreOneToOne, initial}
+use Rattle.archive_forms_laws.specs.Spelling.{Spelling}
+use Rattle.archive_forms_laws.specs.Serializing.{IsAt}
+use Rattle.archive_forms_laws.specs.Written.{IsWritten}
 
--- a writer that held nothing, at position 0 and with no key met, holds the one archive of a value
+-- a writer that held nothing, at position 0 and with no known key, holds the one archive of a value
 abbrev pub MakesArchive : {A R W : Type 0} → Shape → (Names → Type 0) → Spelling A R → WriterMembers W → A → W → W → Type 0
 MakesArchive s knows w members x old new =
     IsTrue members.OBSERVABLE

@@ -1,12 +1,12 @@
--- What a step that writes the data of an element has to promise, where a form calls it for its elements.
+-- The contract of a step that writes the data of an element, where a form calls it for its elements.
 use Rattle.std.specs.Prelude.{◌≡◌, ℕ, ◌-◌, ◌^◌, ◌<◌, List, Result, length, get_or, Option, Some, None, Ok, Err, [], ◌∷◌}
 use denote.Ref.{MutBor}
 use denote.Bor.{Bor}
 use denote.Param.Members.{Shared}
 use Rattle.archive_shape_writing.specs.Writing.{WriterMembers}
 use Rattle.archive_shape_writing.specs.declared.error.Error.{Error}
-use Rattle.archive_forms_spelling.specs.Spelling.{Spelling}
-use Rattle.archive_forms_spelling.specs.Serializing.{HasState, SerializesBy}
+use Rattle.archive_forms_laws.specs.Spelling.{Spelling}
+use Rattle.archive_forms_laws.specs.Serializing.{HasState, SerializesBy}
 
 -- an element of a list
 abbrev pub IsElement : {A : Type 0} → List A → A → Type 0
@@ -36,7 +36,7 @@ module _ {F A S Q : Type 0} (call : Shared F (Bor A × (MutBor S × Unit {0})) (
       → HasState members.pos members.known s.now
       → call.pre step (x, (s, tt))
 
-  -- each call writes the data of its element, and answers the resolver
+  -- each call writes the data of its element, and returns the resolver
   abbrev pub StepWrites : {R : Type 0} → (Q → R) → Spelling A R → WriterMembers S → F → Type 0
   StepWrites kept w members step =
       (x : Bor A) (old new : MutBor S) (result : Result Q Error)

@@ -1,20 +1,20 @@
-//! Arrays.
+//! The archiving of arrays.
 ghost use Rattle.std.specs.Prelude.{◌≡◌, ℕ, ◌+◌, ◌-◌, ◌*◌, ◌^◌, ◌<◌, ◌≤◌, [], length, MatchResult};
-ghost use Rattle.archive_shape_layout.specs.Shape.{size_of};
-ghost use Rattle.archive_shape_layout.specs.Shape.Shape.{array};
-ghost use Rattle.archive_shape_references.specs.Bytes.{HasBytes, zeros, overwrite};
-ghost use Rattle.archive_forms_spelling.specs.State.{State};
-ghost use Rattle.archive_forms_spelling.specs.Regions.{resolvers};
-ghost use Rattle.archive_forms_spelling.specs.Arrays.{array_own, array_own_fits, array_own_refused, array_spelling};
-ghost use Rattle.archive_forms_spelling.specs.Serializing.{CanResolve, HasState, Resolves, Serializes, SerializesBy};
-ghost use Rattle.archive_forms_spelling.proofs.Arrays.{array_spells};
+ghost use Rattle.archive_shape.specs.ShapeLayout.Shape.{size_of};
+ghost use Rattle.archive_shape.specs.ShapeLayout.Shape.Shape.{array};
+ghost use Rattle.archive_shape.specs.Bytes.{HasBytes, zeros, overwrite};
+ghost use Rattle.archive_forms_laws.specs.State.{State};
+ghost use Rattle.archive_forms_laws.specs.Regions.{resolvers};
+ghost use Rattle.archive_forms_laws.specs.Arrays.{array_own, array_own_fits, array_own_refused, array_spelling};
+ghost use Rattle.archive_forms_laws.specs.Serializing.{CanResolve, HasState, Resolves, Serializes, SerializesBy};
+ghost use Rattle.archive_forms_laws.proofs.Arrays.{array_spells};
 ghost use Rattle.archive_forms_writing.specs.Steps.{StepTakes, StepWrites};
 
 use crate::{Archive, Serialize, serialize_element};
 use archive_shape::{Allocator, Error, Place, Portable, Writer};
 use std::marker::PhantomData;
 
-/// Writes the own bytes of a value, whose data was written, at `start` of `out`, which is zero there.
+/// Writes the own bytes of a value at `start` of `out`, where the bytes are zeros. The value's data was written before.
 fn resolve_element<T: Archive>(
     value: &T,
     resolver: T::Resolver,
@@ -28,7 +28,8 @@ fn resolve_element<T: Archive>(
     value.resolve(resolver, Place::within(out, start, pos))
 }
 
-/// Writes the own bytes of elements side by side, from `start` of `out` on, which is zero there. Their data was written.
+/// Writes the own bytes of adjacent elements from `start` of `out` on, where the bytes are zeros. Their data was
+/// written before.
 fn resolve_elements<T: Archive>(
     items: &[T],
     kept: &[T::Resolver],
@@ -84,7 +85,7 @@ impl<T: Archive, const N: usize> Archive for [T; N] {
     ghost spells = { λ fit. array_spells fit N T.Archived.shape T.Archived.knows T.spelling (T.spells fit) };
 }
 
-/// The resolvers of no elements.
+/// Returns the resolvers of no elements.
 fn no_resolvers<R: Copy, const N: usize>() -> [R; N]
     requires { N ≡ 0 }
     ensures { result ≡ [] }
@@ -93,7 +94,7 @@ fn no_resolvers<R: Copy, const N: usize>() -> [R; N]
     <[R; N]>::try_from(none).unwrap()
 }
 
-/// Writes the data of the elements of an array by a step.
+/// Writes the data of the elements of an array, each by the step, and returns their resolvers.
 pub fn serialize_array_each<
     T: Archive,
     const N: usize,

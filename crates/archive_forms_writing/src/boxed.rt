@@ -1,16 +1,16 @@
-//! Boxes.
+//! The archiving of boxes.
 ghost use Rattle.std.specs.Prelude.{◌≡◌, ℕ, ◌-◌, ◌^◌, ◌<◌, [], ◌∷◌, refl};
-ghost use Rattle.archive_shape_layout.specs.Shape.Shape.{box};
-ghost use Rattle.archive_shape_layout.specs.Shape.Pointee.{sized};
-ghost use Rattle.archive_forms_spelling.specs.Pointers.{box_spelling};
-ghost use Rattle.archive_forms_spelling.specs.Serializing.{CanResolve, HasState, Resolves, Serializes, SerializesBy};
-ghost use Rattle.archive_forms_spelling.proofs.Pointers.{box_spells};
-ghost use Rattle.archive_forms_spelling.proofs.Views.{kept_spells, seen_spells};
+ghost use Rattle.archive_shape.specs.ShapeLayout.Shape.Shape.{box};
+ghost use Rattle.archive_shape.specs.ShapeLayout.Shape.Pointee.{sized};
+ghost use Rattle.archive_forms_laws.specs.Pointers.{box_spelling};
+ghost use Rattle.archive_forms_laws.specs.Serializing.{CanResolve, HasState, Resolves, Serializes, SerializesBy};
+ghost use Rattle.archive_forms_laws.proofs.Pointers.{box_spells};
+ghost use Rattle.archive_forms_laws.proofs.Views.{kept_spells, seen_spells};
 ghost use Rattle.archive_forms_writing.specs.Owned.{boxed_spelling};
 ghost use Rattle.archive_forms_writing.specs.Steps.{StepTakes, StepWrites};
 
 use crate::{Archive, Serialize, serialize_element, serialize_one_each};
-use archive_forms_reading::{ArchivedBox, BoxResolver};
+use archive_forms_values::{ArchivedBox, BoxResolver};
 use archive_shape::{Allocator, Error, Place, Writer};
 use std::marker::PhantomData;
 
@@ -43,7 +43,7 @@ impl<T: Archive> Archive for Box<T> {
         (box_spells fit T.Archived.shape T.Archived.knows T.spelling (T.spells fit))) };
 }
 
-/// Writes the value of a box behind its data, which a step writes.
+/// Writes the data of a box: the data of its value by the step, and then the value's own bytes.
 pub fn serialize_box_each<
     T: Archive,
     S: Writer + Allocator,

@@ -1,21 +1,20 @@
-//! Boxes of slices and of texts.
+//! The archiving of boxes of slices and of texts.
 ghost use Rattle.std.specs.Prelude.{◌≡◌, ℕ, ◌-◌, ◌^◌, ◌<◌, ⊤, refl};
 ghost use Rattle.std.specs.Box.{boxed_slice_items, boxed_str_bytes};
-ghost use Rattle.archive_shape_layout.specs.Shape.Shape.{box};
-ghost use Rattle.archive_shape_layout.specs.Shape.Pointee.{slice, str};
-ghost use Rattle.archive_forms_spelling.specs.Forms.{seen_as};
-ghost use Rattle.archive_forms_spelling.specs.Pointers.{slice_spelling};
-ghost use Rattle.archive_forms_spelling.specs.Texts.{boxed_text_spelling};
-ghost use Rattle.archive_forms_spelling.specs.Serializing.{CanResolve, HasState, Resolves, Serializes, SerializesBy};
-ghost use Rattle.archive_forms_spelling.proofs.Pointers.{boxed_slice_spells};
-ghost use Rattle.archive_forms_spelling.proofs.Texts.{boxed_text_spells};
-ghost use Rattle.archive_forms_spelling.proofs.Views.{kept_spells, seen_spells};
+ghost use Rattle.archive_shape.specs.ShapeLayout.Shape.Shape.{box};
+ghost use Rattle.archive_shape.specs.ShapeLayout.Shape.Pointee.{slice, str};
+ghost use Rattle.archive_forms_laws.specs.Forms.{seen_as};
+ghost use Rattle.archive_forms_laws.specs.Pointers.{slice_spelling};
+ghost use Rattle.archive_forms_laws.specs.Texts.{boxed_text_spelling};
+ghost use Rattle.archive_forms_laws.specs.Serializing.{CanResolve, HasState, Resolves, Serializes, SerializesBy};
+ghost use Rattle.archive_forms_laws.proofs.Pointers.{boxed_slice_spells};
+ghost use Rattle.archive_forms_laws.proofs.Texts.{boxed_text_spells};
+ghost use Rattle.archive_forms_laws.proofs.Views.{kept_spells, seen_spells};
 ghost use Rattle.archive_forms_writing.specs.Owned.{boxed_slice_spelling, boxed_str_spelling};
 ghost use Rattle.archive_forms_writing.specs.Steps.{StepTakes, StepWrites};
 
 use crate::{Archive, Serialize, serialize_element, serialize_slice_each};
-use archive_forms_boxed::{ArchivedBoxedSlice, ArchivedBoxedStr};
-use archive_forms_reading::BoxResolver;
+use archive_forms_values::{ArchivedBoxedSlice, ArchivedBoxedStr, BoxResolver};
 use archive_shape::{Allocator, Error, Place, Writer};
 use std::boxed::{BoxedSlice, BoxedStr};
 use std::marker::PhantomData;
@@ -53,7 +52,7 @@ impl<T: Archive> Archive for BoxedSlice<T> {
         (boxed_slice_spells fit T.Archived.shape T.Archived.knows T.spelling (T.spells fit))) };
 }
 
-/// Writes the elements of the box of a slice behind their data, which a step writes.
+/// Writes the data of the box of a slice: the data of each element by the step, and then the elements' own bytes.
 pub fn serialize_boxed_slice_each<
     T: Archive,
     S: Writer + Allocator,
@@ -85,8 +84,8 @@ impl<S: Writer + Allocator, T: Serialize<S>> Serialize<S> for BoxedSlice<T> {
     }
 }
 
-/// Writes the bytes of a text that a pointer leads to. The answer is the position of the first. Refuses a position past
-/// 2^32 - 1 with `PositionTooLarge`.
+/// Writes the bytes of a text that a pointer leads to, and returns the position of the first. Returns
+/// `PositionTooLarge` if the position is more than 2^32 - 1.
 pub fn serialize_str<S: Writer>(value: &str, serializer: &mut S) -> Result<usize, Error>
     requires room { S.failures serializer.old < 2 ^ 64 - 1 }
     requires state { HasState S.pos S.known serializer.old }

@@ -1,17 +1,18 @@
-//! Own bytes of items side by side, many of which are written at once.
+//! The writing of the own bytes of adjacent items, many of them at once.
 ghost use Rattle.std.specs.Prelude.{◌≡◌, ℕ, ◌+◌, ◌-◌, ◌*◌, ◌^◌, ◌<◌, ◌≤◌, length, take, min, IfOk, MatchResult, ⊤};
 ghost use Rattle.std.specs.Bool.{MatchBool};
-ghost use Rattle.archive_shape_layout.specs.Shape.{size_of};
+ghost use Rattle.archive_shape.specs.ShapeLayout.Shape.{size_of};
 ghost use Rattle.archive_shape_writing.specs.Writing.{Writes};
-ghost use Rattle.archive_shape_references.specs.Bytes.{HasBytes, zeros, overwrite};
-ghost use Rattle.archive_forms_spelling.specs.State.{State};
-ghost use Rattle.archive_forms_spelling.specs.Serializing.{Lays};
-ghost use Rattle.archive_forms_spelling.specs.Regions.{placed_fits, placed_refused, resolvers, owns, owns_fit, owns_refused};
+ghost use Rattle.archive_shape.specs.Bytes.{HasBytes, zeros, overwrite};
+ghost use Rattle.archive_forms_laws.specs.State.{State};
+ghost use Rattle.archive_forms_laws.specs.Serializing.{Lays};
+ghost use Rattle.archive_forms_laws.specs.Regions.{placed_fits, placed_refused, resolvers, owns, owns_fit, owns_refused};
 
 use crate::Archive;
 use archive_shape::{Error, Place, Portable, Writer};
 
-/// Makes zeros at `start` of a buffer, which will stand at `pos`, the own bytes of a value, whose data was written.
+/// Writes the own bytes of a value at `start` of a buffer, where the bytes are zeros. The buffer will be at position
+/// `pos` of the archive. The value's data was written before.
 fn resolve_at<T: Archive>(
     value: &T,
     resolver: T::Resolver,
@@ -31,7 +32,7 @@ fn resolve_at<T: Archive>(
     value.resolve(resolver, Place::within(buffer, start, pos + start))
 }
 
-/// How many of the bytes of a buffer end before position 2^64, where the first will stand at `pos`.
+/// Returns the number of bytes, of `len` that begin at position `pos`, that end before position 2^64.
 fn room_at(len: usize, pos: usize) -> usize
     ensures { result ≡ min len (2 ^ 64 - 1 - pos) }
 {
@@ -39,8 +40,8 @@ fn room_at(len: usize, pos: usize) -> usize
     if rest < len { rest } else { len }
 }
 
-/// Makes zeros, which will stand at `pos`, the own bytes of items side by side, whose data was written. Answers how many
-/// bytes they are.
+/// Writes the own bytes of adjacent items over a buffer of zeros, which will be at position `pos` of the archive. Their
+/// data was written before. Returns the number of bytes written.
 fn resolve_all<T: Archive>(
     items: &[T],
     kept: &[T::Resolver],
@@ -68,7 +69,7 @@ fn resolve_all<T: Archive>(
     Ok(filled)
 }
 
-/// Writes the first bytes of a buffer, and makes it zeros.
+/// Writes the first `filled` bytes of a buffer, and then fills the buffer with zeros.
 fn flush<W: Writer>(writer: &mut W, buffer: &mut [u8], filled: usize) -> Result<(), Error>
     requires room { W.failures writer.old < 2 ^ 64 - 1 }
     requires within { filled ≤ length buffer.old }
@@ -84,7 +85,7 @@ fn flush<W: Writer>(writer: &mut W, buffer: &mut [u8], filled: usize) -> Result<
     }
 }
 
-/// Writes the own bytes of items side by side, whose data was written, by way of a buffer of zeros.
+/// Writes the own bytes of adjacent items through a buffer of zeros. Their data was written before.
 #[inline(always)]
 pub(crate) fn resolve_through<T: Archive, W: Writer>(
     items: &[T],
@@ -126,13 +127,14 @@ pub(crate) fn resolve_through<T: Archive, W: Writer>(
     writer.write(&buffer[..filled])
 }
 
-/// How many bytes are few.
+/// The number of own bytes up to which they are written at once.
 const FEW: usize = 64;
 
-/// The last position that few bytes may stand at.
+/// The last position at which `FEW` bytes may begin.
 const LAST_OF_FEW: usize = usize::MAX - FEW;
 
-/// Whether so many elements side by side are few bytes, and may stand at a position.
+/// Returns `true` only if `count` adjacent elements have at most `FEW` bytes and end before position 2^64 where they
+/// begin at `pos`.
 pub(crate) fn are_few<T: Portable>(count: usize, pos: usize) -> bool
     ensures { MatchBool result ((count * size_of T.shape ≤ FEW) × (pos + count * size_of T.shape < 2 ^ 64)) ⊤ }
 {
@@ -147,7 +149,7 @@ pub(crate) fn are_few<T: Portable>(count: usize, pos: usize) -> bool
     true
 }
 
-/// Writes the own bytes of items side by side, whose data was written, at once. They are few.
+/// Writes the own bytes of adjacent items, which are at most `FEW` bytes, at once. Their data was written before.
 pub(crate) fn resolve_at_once<T: Archive, W: Writer>(
     items: &[T],
     kept: &[T::Resolver],

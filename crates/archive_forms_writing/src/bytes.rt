@@ -1,14 +1,15 @@
-//! Values as whole archives.
+//! The writing of a value as a whole archive.
 ghost use Rattle.std.specs.Prelude.{◌≡◌, ℕ, ◌-◌, ◌^◌, ◌<◌, [], ◌∷◌, OnOk};
-ghost use Rattle.archive_forms_spelling.specs.Pointers.{box_spelling};
-ghost use Rattle.archive_forms_spelling.specs.Serializing.{HasState, Serializes, SerializesBy};
+ghost use Rattle.archive_forms_laws.specs.Pointers.{box_spelling};
+ghost use Rattle.archive_forms_laws.specs.Serializing.{HasState, Serializes, SerializesBy};
 ghost use Rattle.archive_forms_writing.specs.Root.{MakesArchive};
 
 use crate::{Serialize, serialize_element, serialize_one_each};
 use archive_shape::{Allocator, Error, Writer};
 use std::marker::PhantomData;
 
-/// Writes a value behind its data, as the root that ends an archive. The answer is its position.
+/// Writes the data of a value and then its own bytes, as the root at the end of an archive. Returns the root's
+/// position.
 pub fn serialize_using<T: Serialize<S>, S: Writer + Allocator>(
     value: &T,
     serializer: &mut S,

@@ -1,9 +1,9 @@
-//! Elements that are written behind their data.
+//! The writing of elements: the data of all, and then their own bytes.
 ghost use Rattle.std.specs.Prelude.{◌≡◌, ◌+◌, ◌-◌, ◌^◌, ◌<◌, ◌≤◌, length, take, [], ◌∷◌};
-ghost use Rattle.archive_forms_spelling.specs.State.{State};
-ghost use Rattle.archive_forms_spelling.specs.Serializing.{IsAt, HasState, Lays, LaysData, Serializes, SerializesBy};
-ghost use Rattle.archive_forms_spelling.specs.Regions.{state_after_all, pieces, resolvers, owns, pieces_fit, pieces_refused, owns_fit, owns_refused};
-ghost use Rattle.archive_forms_spelling.specs.Pointers.{slice_spelling, box_spelling};
+ghost use Rattle.archive_forms_laws.specs.State.{State};
+ghost use Rattle.archive_forms_laws.specs.Serializing.{IsAt, HasState, Lays, LaysData, Serializes, SerializesBy};
+ghost use Rattle.archive_forms_laws.specs.Regions.{state_after_all, pieces, resolvers, owns, pieces_fit, pieces_refused, owns_fit, owns_refused};
+ghost use Rattle.archive_forms_laws.specs.Pointers.{slice_spelling, box_spelling};
 ghost use Rattle.archive_forms_writing.specs.Behind.{LaysBehind};
 ghost use Rattle.archive_forms_writing.specs.Steps.{StepTakes, StepWrites};
 
@@ -12,20 +12,20 @@ use crate::{Archive, Serialize, align, resolve_aligned};
 use archive_shape::{Allocator, Error, Portable, Writer};
 use std::marker::PhantomData;
 
-/// The last position that an element may begin at.
+/// The last position at which adjacent elements may begin.
 const LAST_POSITION: usize = u32::MAX as usize;
 
-/// How many bytes of elements are written at once.
+/// The size in bytes of the buffer in which own bytes are collected, unless an element is larger.
 const BUFFER: usize = 256;
 
-/// How many resolvers are kept in an array, for which no memory is taken.
+/// The number of resolvers up to which they are kept in an array, without an allocation.
 const FEW: usize = 16;
 
-/// How many bytes an option of a resolver has at most that is kept in an array.
+/// The greatest size in bytes of an option of a resolver that is kept in an array.
 const SMALL: usize = 32;
 
-/// The step of elements that can be archived by the serializer. A step's answer names the archived form, since a closure over
-/// `T` can be passed on only where its type does.
+/// Writes the data of an element that the serializer can archive. It is the step for such elements. The result names
+/// the archived form, because a closure over `T` can be passed on only if its type does.
 pub fn serialize_element<T: Serialize<S>, S: Writer + Allocator>(
     item: &T,
     serializer: &mut S,
@@ -40,7 +40,7 @@ pub fn serialize_element<T: Serialize<S>, S: Writer + Allocator>(
     }
 }
 
-/// Writes the data of each item by a step, and answers their resolvers.
+/// Writes the data of each item by the step, and returns their resolvers.
 fn serialize_data_each<
     T: Archive,
     S: Writer + Allocator,
@@ -70,7 +70,8 @@ fn serialize_data_each<
     Ok(all)
 }
 
-/// Writes the data of each of few items by a step. Their resolvers are the first ones of the answer.
+/// Writes the data of each item by the step. There are at least one and at most `FEW` items. Their resolvers are the
+/// first ones of the result.
 fn serialize_few_each<
     T: Archive,
     S: Writer + Allocator,
@@ -101,8 +102,9 @@ fn serialize_few_each<
     Ok(kept)
 }
 
-/// Writes the own bytes of items side by side, by way of a buffer that is written whenever it is full. Their data was
-/// written. It is one function, so that the code of few items stays short where it is inlined.
+/// Writes the own bytes of adjacent items through a buffer, which is written whenever it is full. Their data was
+/// written before. It is a function that is not inlined, so that the code for few items stays short where that is
+/// inlined.
 #[inline(never)]
 fn resolve_buffered<T: Archive, S: Writer + Allocator>(
     items: &[T],
@@ -127,7 +129,7 @@ fn resolve_buffered<T: Archive, S: Writer + Allocator>(
     }
 }
 
-/// Writes the own bytes of items side by side. Their data was written.
+/// Writes the own bytes of adjacent items. Their data was written before.
 #[inline(always)]
 fn resolve_items<T: Archive, S: Writer + Allocator>(
     items: &[T],
@@ -147,8 +149,8 @@ fn resolve_items<T: Archive, S: Writer + Allocator>(
     resolve_buffered(items, kept, serializer)
 }
 
-/// Writes the own bytes of items side by side, from the next position of their alignment on. Their data was written. The
-/// answer is the position of the first.
+/// Writes the own bytes of adjacent items from the next position of their alignment on. Their data was written before.
+/// Returns the position of the first.
 #[inline(always)]
 fn resolve_behind<T: Archive, S: Writer + Allocator>(
     items: &[T],
@@ -173,7 +175,8 @@ fn resolve_behind<T: Archive, S: Writer + Allocator>(
     }
 }
 
-/// Writes items behind their data, which a step writes. The answer is the position of the first.
+/// Writes the data of each item by the step, and then the own bytes of all items from the next position of their
+/// alignment on. Returns the position of the first. Returns `PositionTooLarge` if it is more than 2^32 - 1.
 pub fn serialize_slice_each<
     T: Archive,
     S: Writer + Allocator,
@@ -200,7 +203,8 @@ pub fn serialize_slice_each<
     resolve_behind(items, kept.as_slice(), serializer)
 }
 
-/// Writes a value behind its data, which a step writes. The answer is its position.
+/// Writes the data of a value by the step, and then its own bytes at the next position of its alignment. Returns this
+/// position. Returns `PositionTooLarge` if it is more than 2^32 - 1.
 pub fn serialize_one_each<
     T: Archive,
     S: Writer + Allocator,

@@ -1,15 +1,15 @@
-//! Fields of tuples and structs.
+//! The writing of the fields of tuples and structs.
 ghost use Rattle.std.specs.Prelude.{ℕ, ◌+◌};
-ghost use Rattle.archive_forms_spelling.specs.Serializing.{CanResolve};
+ghost use Rattle.archive_forms_laws.specs.Serializing.{CanResolve};
 ghost use Rattle.archive_forms_writing.specs.Fields.{field_at, ResolvesField};
 
 use crate::Archive;
-use archive_forms_checking::next_multiple;
+use archive_forms_values::next_multiple;
 use archive_shape::{Error, Place, Portable};
 
-/// Writes the own bytes of a field, whose data was written, in a place that is zero: at the next multiple of its alignment
-/// from `offset` on, in a struct that begins at `start` of `out` and will stand at `pos`. The answer is the offset at which
-/// the field ends.
+/// Writes the own bytes of a field at the next multiple of its alignment from `offset` on, in a struct that begins at
+/// `start` of `out` and will be at position `pos` of the archive. The bytes there are zeros, and the field's data was
+/// written before. Returns the offset at which the field ends.
 pub fn resolve_field<T: Archive>(
     value: &T,
     resolver: T::Resolver,

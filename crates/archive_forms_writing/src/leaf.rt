@@ -1,10 +1,10 @@
-//! Numbers, truth values and chars.
+//! The archiving of numbers, truth values and chars.
 ghost use Rattle.std.specs.Prelude.{◌≡◌, ℕ, ◌+◌, ◌≤◌, length};
-ghost use Rattle.archive_shape_native.specs.Numbers.{Reads};
-ghost use Rattle.archive_forms_spelling.specs.Forms.{leaf_spelling};
-ghost use Rattle.archive_forms_spelling.specs.Serializing.{CanResolve, Resolves};
-ghost use Rattle.archive_shape_canonical.specs.Canonical.{AreBytes};
-ghost use Rattle.archive_forms_spelling.proofs.Leaves.{leaf_spells};
+ghost use Rattle.archive_shape.specs.ShapeLayout.Numbers.{Reads};
+ghost use Rattle.archive_forms_laws.specs.Forms.{leaf_spelling};
+ghost use Rattle.archive_forms_laws.specs.Serializing.{CanResolve, Resolves};
+ghost use Rattle.archive_forms_laws.specs.ShapeCanonical.Canonical.{AreBytes};
+ghost use Rattle.archive_forms_laws.proofs.Leaves.{leaf_spells};
 
 use crate::{Archive, Serialize};
 use archive_shape::{Allocator, ArchivedLeaf, Error, LittleEndian, Place, Portable, Writer};
@@ -13,7 +13,7 @@ use std::num::{
     NonZeroU64, NonZeroU128,
 };
 
-/// A number, a truth value or a char.
+/// A type of numbers, truth values or chars. Its values are archived without data.
 pub trait Leaf: Copy {
     /// The archived form.
     type Archived: ArchivedLeaf<Native = Self>;

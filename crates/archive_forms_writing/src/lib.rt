@@ -1,4 +1,4 @@
-//! How values are archived: their data is written, and then their own bytes.
+//! The archiving of values: first the data of a value is written, and then its own bytes.
 #![tactic(auto)]
 
 mod archive;

@@ -1,13 +1,13 @@
-//! Options.
+//! The archiving of options.
 ghost use Rattle.std.specs.Prelude.{◌≡◌, ℕ, ◌+◌, ◌-◌, ◌^◌, ◌<◌, ◌≤◌};
-ghost use Rattle.archive_shape_layout.specs.Shape.Shape.{option};
-ghost use Rattle.archive_forms_spelling.specs.Serializing.{CanResolve, HasState, Resolves, Serializes, SerializesBy};
-ghost use Rattle.archive_forms_spelling.specs.Options.{option_spelling};
-ghost use Rattle.archive_forms_spelling.proofs.Options.{option_spells};
+ghost use Rattle.archive_shape.specs.ShapeLayout.Shape.Shape.{option};
+ghost use Rattle.archive_forms_laws.specs.Serializing.{CanResolve, HasState, Resolves, Serializes, SerializesBy};
+ghost use Rattle.archive_forms_laws.specs.Options.{option_spelling};
+ghost use Rattle.archive_forms_laws.proofs.Options.{option_spells};
 ghost use Rattle.archive_forms_writing.specs.Steps.{StepTakes, StepWrites, elements_of};
 
 use crate::{Archive, Serialize, serialize_element};
-use archive_forms_reading::ArchivedOption;
+use archive_forms_values::ArchivedOption;
 use archive_shape::{Allocator, Error, Place, Portable, Writer};
 use std::marker::PhantomData;
 
@@ -46,7 +46,7 @@ impl<T: Archive> Archive for Option<T> {
     ghost spells = { λ fit. option_spells fit T.Archived.shape T.Archived.knows T.spelling (T.spells fit) };
 }
 
-/// Writes the data of the value of an option by a step.
+/// Writes the data of the value of an option, if there is one, by the step.
 pub fn serialize_option_each<
     T: Archive,
     S: Writer + Allocator,

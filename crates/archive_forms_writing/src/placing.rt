@@ -1,13 +1,13 @@
-//! Bytes that are placed behind what was written.
+//! The writing of padding, and of own bytes at a writer's position.
 ghost use Rattle.std.specs.Prelude.{◌≡◌, ℕ, ◌+◌, ◌-◌, ◌^◌, ◌<◌, ◌≤◌, length, IfOk, MatchResult};
-ghost use Rattle.archive_shape_layout.specs.Bytes.{align_up};
-ghost use Rattle.archive_shape_layout.specs.Shape.{size_of};
+ghost use Rattle.archive_shape.specs.ShapeLayout.Bytes.{align_up};
+ghost use Rattle.archive_shape.specs.ShapeLayout.Shape.{size_of};
 ghost use Rattle.archive_shape_writing.specs.Writing.{Writes};
-ghost use Rattle.archive_shape_references.specs.Bytes.{zeros};
-ghost use Rattle.archive_forms_spelling.specs.State.{State};
-ghost use Rattle.archive_shape_canonical.specs.Canonical.{AreBytes};
-ghost use Rattle.archive_forms_spelling.specs.Serializing.{Lays};
-ghost use Rattle.archive_forms_spelling.specs.Regions.{placed_fits, placed_refused};
+ghost use Rattle.archive_shape.specs.Bytes.{zeros};
+ghost use Rattle.archive_forms_laws.specs.State.{State};
+ghost use Rattle.archive_forms_laws.specs.ShapeCanonical.Canonical.{AreBytes};
+ghost use Rattle.archive_forms_laws.specs.Serializing.{Lays};
+ghost use Rattle.archive_forms_laws.specs.Regions.{placed_fits, placed_refused};
 
 use crate::Archive;
 use archive_shape::{Error, Place, Portable, Writer};
@@ -15,7 +15,7 @@ use std::alloc::Global;
 
 const ZEROS: [u8; 32] = [0; 32];
 
-/// Writes `padding` zeros.
+/// Writes `padding` zeros, fewer than 32.
 pub fn pad<W: Writer>(writer: &mut W, padding: usize) -> Result<(), Error>
     requires room { W.failures writer.old < 2 ^ 64 - 1 }
     requires short { padding < 32 }
@@ -27,7 +27,7 @@ pub fn pad<W: Writer>(writer: &mut W, padding: usize) -> Result<(), Error>
     writer.write(&ZEROS[..padding])
 }
 
-/// How far the next position of an alignment is.
+/// Returns the number of bytes from `pos` to the next multiple of `align`.
 fn padding(pos: usize, align: usize) -> usize
     requires { 0 < align }
     ensures gap { result ≡ align_up pos align - pos }
@@ -36,7 +36,7 @@ fn padding(pos: usize, align: usize) -> usize
     (align - pos % align) % align
 }
 
-/// Writes zeros up to the next position of an alignment, and answers it.
+/// Writes zeros up to the next multiple of `align`, and returns that position.
 pub fn align<W: Writer>(writer: &mut W, align: usize) -> Result<usize, Error>
     requires room { W.failures writer.old < 2 ^ 64 - 1 }
     requires positive { 0 < align }
@@ -51,7 +51,7 @@ pub fn align<W: Writer>(writer: &mut W, align: usize) -> Result<usize, Error>
     }
 }
 
-/// Makes zeros the own bytes of a value, whose data was written.
+/// Writes the own bytes of a value over `out`, which has only zeros. The value's data was written before.
 fn resolve_into<T: Archive>(
     value: &T,
     resolver: T::Resolver,
@@ -68,7 +68,10 @@ fn resolve_into<T: Archive>(
     value.resolve(resolver, Place::new(out, pos))
 }
 
-/// Writes the own bytes of a value, whose data was written.
+/// Writes the own bytes of a value at the writer's position. The value's data was written before.
+///
+/// Returns `PositionTooLarge` if the own bytes would end after position 2^64 - 1, and `OutOfMemory` if the allocation
+/// of a buffer for them fails.
 pub fn resolve_aligned<T: Archive, W: Writer>(
     alloc: Global,
     value: &T,

@@ -1,10 +1,10 @@
 //! `usize` and `isize`, which are archived as numbers of four bytes.
 ghost use Rattle.std.specs.Prelude.{◌≡◌, true, false, ⊤};
 ghost use Rattle.std.specs.Int.{w32};
-ghost use Rattle.archive_shape_layout.specs.Shape.Shape.{number};
-ghost use Rattle.archive_forms_spelling.specs.Limits.{usize_spelling, isize_spelling};
-ghost use Rattle.archive_forms_spelling.specs.Serializing.{CanResolve, Resolves};
-ghost use Rattle.archive_forms_spelling.proofs.Limits.{usize_spells, isize_spells};
+ghost use Rattle.archive_shape.specs.ShapeLayout.Shape.Shape.{number};
+ghost use Rattle.archive_forms_laws.specs.Limits.{usize_spelling, isize_spelling};
+ghost use Rattle.archive_forms_laws.specs.Serializing.{CanResolve, Resolves};
+ghost use Rattle.archive_forms_laws.proofs.Limits.{usize_spells, isize_spells};
 
 use crate::{Archive, Serialize};
 use archive_shape::{Allocator, ArchivedIsize, ArchivedUsize, Error, Place, Writer};

@@ -1,14 +1,14 @@
-//! Results.
+//! The archiving of results.
 ghost use Rattle.std.specs.Prelude.{◌≡◌, ℕ, ◌+◌, ◌-◌, ◌^◌, ◌<◌, ◌≤◌};
-ghost use Rattle.archive_shape_layout.specs.Shape.Shape.{result as result_shape};
-ghost use Rattle.archive_forms_spelling.specs.Results.{result_spelling};
-ghost use Rattle.archive_forms_spelling.specs.Serializing.{CanResolve, HasState, Resolves, Serializes, SerializesBy};
-ghost use Rattle.archive_forms_spelling.proofs.Results.{result_spells};
-ghost use Rattle.archive_forms_spelling.proofs.Views.{known_spells};
+ghost use Rattle.archive_shape.specs.ShapeLayout.Shape.Shape.{result as result_shape};
+ghost use Rattle.archive_forms_laws.specs.Results.{result_spelling};
+ghost use Rattle.archive_forms_laws.specs.Serializing.{CanResolve, HasState, Resolves, Serializes, SerializesBy};
+ghost use Rattle.archive_forms_laws.proofs.SpellingResults.{result_spells};
+ghost use Rattle.archive_forms_laws.proofs.Views.{known_spells};
 ghost use Rattle.archive_forms_writing.specs.Steps.{StepTakes, StepWrites, values_of, errors_of};
 
 use crate::{Archive, Serialize, serialize_element};
-use archive_forms_reading::ArchivedResult;
+use archive_forms_values::ArchivedResult;
 use archive_shape::{Allocator, Error, Place, Portable, Writer};
 use std::marker::PhantomData;
 
@@ -57,7 +57,7 @@ impl<T: Archive, E: Archive> Archive for Result<T, E> {
         (known_spells fit E.Archived.shape E.Archived.knows (λ names. T.Archived.knows names × E.Archived.knows names) (λ _ k. k.1) E.spelling (E.spells fit)) };
 }
 
-/// Writes the data of the value of a result by a step, and that of its error by another.
+/// Writes the data of the value of a result by `step`, or that of its error by `step_of_error`.
 pub fn serialize_result_each<
     T: Archive,
     E: Archive,

@@ -1,15 +1,15 @@
-//! Texts.
+//! The archiving of texts.
 ghost use Rattle.std.specs.Prelude.{◌≡◌, ℕ, ◌+◌, ◌-◌, ◌^◌, ◌<◌, ⊤, refl};
 ghost use Rattle.std.specs.String.{string_bytes};
-ghost use Rattle.archive_shape_layout.specs.Shape.Shape.{text};
-ghost use Rattle.archive_forms_spelling.specs.Texts.{text_spelling};
-ghost use Rattle.archive_forms_spelling.specs.Serializing.{CanResolve, HasState, Resolves, Serializes};
-ghost use Rattle.archive_forms_spelling.proofs.Texts.{text_spells};
-ghost use Rattle.archive_forms_spelling.proofs.Views.{kept_spells, seen_spells};
+ghost use Rattle.archive_shape.specs.ShapeLayout.Shape.Shape.{text};
+ghost use Rattle.archive_forms_laws.specs.Texts.{text_spelling};
+ghost use Rattle.archive_forms_laws.specs.Serializing.{CanResolve, HasState, Resolves, Serializes};
+ghost use Rattle.archive_forms_laws.proofs.Texts.{text_spells};
+ghost use Rattle.archive_forms_laws.proofs.Views.{kept_spells, seen_spells};
 ghost use Rattle.archive_forms_writing.specs.Owned.{str_spelling, string_spelling};
 
 use crate::{Archive, Serialize};
-use archive_forms_text::{ArchivedString, ArchivedStringRepr, StringResolver};
+use archive_forms_values::{ArchivedString, ArchivedStringRepr, StringResolver};
 use archive_shape::{Allocator, Error, Place, Writer};
 
 impl Archive for String {
@@ -36,8 +36,11 @@ impl Archive for String {
         (kept_spells fit text (λ _. ⊤) _ _ (λ r. refl) text_spelling (text_spells fit (λ _. ⊤))) };
 }
 
-/// Writes the bytes of a text that does not stand inline. Refuses more than `ArchivedStringRepr::OUT_OF_LINE_CAPACITY` bytes
-/// with `StringTooLong`, and then a position past 2^32 - 1 with `PositionTooLarge`.
+/// Writes the bytes of a text that is not stored inline, and returns their position. A text of at most eight bytes is
+/// stored inline, and nothing is written.
+///
+/// Returns `StringTooLong` for more than `ArchivedStringRepr::OUT_OF_LINE_CAPACITY` bytes, and then `PositionTooLarge`
+/// if the position is more than 2^32 - 1.
 pub fn serialize_from_str<S: Writer>(
     value: &str,
     serializer: &mut S,

@@ -1,13 +1,13 @@
-//! Tuples of one.
+//! The archiving of tuples of one field.
 ghost use Rattle.std.specs.Prelude.{◌≡◌, ℕ, ◌+◌, ◌-◌, ◌^◌, ◌<◌, ◌≤◌, [], ◌∷◌};
-ghost use Rattle.archive_forms_checking.specs.Tuples.{tuple1};
-ghost use Rattle.archive_forms_spelling.specs.Fields.{tuple1_spelling};
-ghost use Rattle.archive_forms_spelling.specs.Serializing.{CanResolve, HasState, Resolves, Serializes, SerializesBy};
-ghost use Rattle.archive_forms_spelling.proofs.Fields.{tuple1_spells};
+ghost use Rattle.archive_forms_values.specs.Tuples.{tuple1};
+ghost use Rattle.archive_forms_laws.specs.Fields.{tuple1_spelling};
+ghost use Rattle.archive_forms_laws.specs.Serializing.{CanResolve, HasState, Resolves, Serializes, SerializesBy};
+ghost use Rattle.archive_forms_laws.proofs.Fields.{tuple1_spells};
 ghost use Rattle.archive_forms_writing.specs.Steps.{StepTakes, StepWrites};
 
 use crate::{Archive, Serialize, resolve_field, serialize_element};
-use archive_forms_tuples::ArchivedTuple1;
+use archive_forms_values::ArchivedTuple1;
 use archive_shape::{Allocator, Error, Place, Portable, Writer};
 use std::marker::PhantomData;
 
@@ -41,7 +41,7 @@ impl<A: Archive> Archive for (A,) {
     ghost spells = { λ fit. tuple1_spells fit A.Archived.knows A.Archived.shape A.spelling (A.spells fit) };
 }
 
-/// Writes the data of the field of a tuple of one by a step.
+/// Writes the data of the field of a tuple of one field by the step.
 pub fn serialize_tuple1_each<
     A: Archive,
     S: Writer + Allocator,

@@ -1,14 +1,14 @@
-//! Tuples of two.
+//! The archiving of tuples of two fields.
 ghost use Rattle.std.specs.Prelude.{◌≡◌, ℕ, ◌+◌, ◌-◌, ◌^◌, ◌<◌, ◌≤◌, [], ◌∷◌};
-ghost use Rattle.archive_forms_checking.specs.Tuples.{tuple2};
-ghost use Rattle.archive_forms_spelling.specs.Fields.{tuple2_spelling};
-ghost use Rattle.archive_forms_spelling.specs.Serializing.{CanResolve, HasState, Resolves, Serializes, SerializesBy};
-ghost use Rattle.archive_forms_spelling.proofs.Fields.{tuple2_spells};
-ghost use Rattle.archive_forms_spelling.proofs.Views.{known_spells};
+ghost use Rattle.archive_forms_values.specs.Tuples.{tuple2};
+ghost use Rattle.archive_forms_laws.specs.Fields.{tuple2_spelling};
+ghost use Rattle.archive_forms_laws.specs.Serializing.{CanResolve, HasState, Resolves, Serializes, SerializesBy};
+ghost use Rattle.archive_forms_laws.proofs.Fields.{tuple2_spells};
+ghost use Rattle.archive_forms_laws.proofs.Views.{known_spells};
 ghost use Rattle.archive_forms_writing.specs.Steps.{StepTakes, StepWrites};
 
 use crate::{Archive, Serialize, resolve_field, serialize_element};
-use archive_forms_tuples::ArchivedTuple2;
+use archive_forms_values::ArchivedTuple2;
 use archive_shape::{Allocator, Error, Place, Portable, Writer};
 use std::marker::PhantomData;
 
@@ -48,7 +48,7 @@ impl<A: Archive, B: Archive> Archive for (A, B) {
         (known_spells fit B.Archived.shape B.Archived.knows (λ names. A.Archived.knows names × B.Archived.knows names) (λ _ k. k.1) B.spelling (B.spells fit)) };
 }
 
-/// Writes the data of each field of a tuple of two, in order, by a step for each.
+/// Writes the data of the fields of a tuple of two, in order, each by its own step.
 pub fn serialize_tuple2_each<
     A: Archive,
     B: Archive,

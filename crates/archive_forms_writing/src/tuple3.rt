@@ -1,14 +1,14 @@
-//! Tuples of three.
+//! The archiving of tuples of three fields.
 ghost use Rattle.std.specs.Prelude.{◌≡◌, ℕ, ◌+◌, ◌-◌, ◌^◌, ◌<◌, ◌≤◌, [], ◌∷◌};
-ghost use Rattle.archive_forms_checking.specs.Tuples.{tuple3};
-ghost use Rattle.archive_forms_spelling.specs.Fields.{tuple3_spelling};
-ghost use Rattle.archive_forms_spelling.specs.Serializing.{CanResolve, HasState, Resolves, Serializes, SerializesBy};
-ghost use Rattle.archive_forms_spelling.proofs.Fields.{tuple3_spells};
-ghost use Rattle.archive_forms_spelling.proofs.Views.{known_spells};
+ghost use Rattle.archive_forms_values.specs.Tuples.{tuple3};
+ghost use Rattle.archive_forms_laws.specs.Fields.{tuple3_spelling};
+ghost use Rattle.archive_forms_laws.specs.Serializing.{CanResolve, HasState, Resolves, Serializes, SerializesBy};
+ghost use Rattle.archive_forms_laws.proofs.Fields.{tuple3_spells};
+ghost use Rattle.archive_forms_laws.proofs.Views.{known_spells};
 ghost use Rattle.archive_forms_writing.specs.Steps.{StepTakes, StepWrites};
 
 use crate::{Archive, Serialize, resolve_field, serialize_element};
-use archive_forms_tuples::ArchivedTuple3;
+use archive_forms_values::ArchivedTuple3;
 use archive_shape::{Allocator, Error, Place, Portable, Writer};
 use std::marker::PhantomData;
 
@@ -53,7 +53,7 @@ impl<A: Archive, B: Archive, C: Archive> Archive for (A, B, C) {
         (known_spells fit C.Archived.shape C.Archived.knows (λ names. A.Archived.knows names × B.Archived.knows names × C.Archived.knows names) (λ _ k. k.2) C.spelling (C.spells fit)) };
 }
 
-/// Writes the data of each field of a tuple of three, in order, by a step for each.
+/// Writes the data of the fields of a tuple of three, in order, each by its own step.
 pub fn serialize_tuple3_each<
     A: Archive,
     B: Archive,

@@ -1,14 +1,14 @@
-//! Tuples of four.
+//! The archiving of tuples of four fields.
 ghost use Rattle.std.specs.Prelude.{◌≡◌, ℕ, ◌+◌, ◌-◌, ◌^◌, ◌<◌, ◌≤◌, [], ◌∷◌};
-ghost use Rattle.archive_forms_checking.specs.Tuples.{tuple4};
-ghost use Rattle.archive_forms_spelling.specs.Fields.{tuple4_spelling};
-ghost use Rattle.archive_forms_spelling.specs.Serializing.{CanResolve, HasState, Resolves, Serializes, SerializesBy};
-ghost use Rattle.archive_forms_spelling.proofs.Fields.{tuple4_spells};
-ghost use Rattle.archive_forms_spelling.proofs.Views.{known_spells};
+ghost use Rattle.archive_forms_values.specs.Tuples.{tuple4};
+ghost use Rattle.archive_forms_laws.specs.Fields.{tuple4_spelling};
+ghost use Rattle.archive_forms_laws.specs.Serializing.{CanResolve, HasState, Resolves, Serializes, SerializesBy};
+ghost use Rattle.archive_forms_laws.proofs.Fields.{tuple4_spells};
+ghost use Rattle.archive_forms_laws.proofs.Views.{known_spells};
 ghost use Rattle.archive_forms_writing.specs.Steps.{StepTakes, StepWrites};
 
 use crate::{Archive, Serialize, resolve_field, serialize_element};
-use archive_forms_tuples::ArchivedTuple4;
+use archive_forms_values::ArchivedTuple4;
 use archive_shape::{Allocator, Error, Place, Portable, Writer};
 use std::marker::PhantomData;
 
@@ -58,7 +58,7 @@ impl<A: Archive, B: Archive, C: Archive, D: Archive> Archive for (A, B, C, D) {
         (known_spells fit D.Archived.shape D.Archived.knows (λ names. A.Archived.knows names × B.Archived.knows names × C.Archived.knows names × D.Archived.knows names) (λ _ k. k.3) D.spelling (D.spells fit)) };
 }
 
-/// Writes the data of each field of a tuple of four, in order, by a step for each.
+/// Writes the data of the fields of a tuple of four, in order, each by its own step.
 pub fn serialize_tuple4_each<
     A: Archive,
     B: Archive,

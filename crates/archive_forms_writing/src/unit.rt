@@ -1,9 +1,9 @@
-//! Values that have no bytes.
-ghost use Rattle.archive_shape_layout.specs.Shape.Shape.{tuple};
-ghost use Rattle.archive_shape_layout.specs.Shape.Shapes.{no_shapes};
-ghost use Rattle.archive_forms_spelling.specs.Fields.{unit_spelling};
-ghost use Rattle.archive_forms_spelling.specs.Serializing.{CanResolve, Resolves};
-ghost use Rattle.archive_forms_spelling.proofs.Fields.{unit_spells};
+//! The archiving of values that have no bytes.
+ghost use Rattle.archive_shape.specs.ShapeLayout.Shape.Shape.{tuple};
+ghost use Rattle.archive_shape.specs.ShapeLayout.Shape.Shapes.{no_shapes};
+ghost use Rattle.archive_forms_laws.specs.Fields.{unit_spelling};
+ghost use Rattle.archive_forms_laws.specs.Serializing.{CanResolve, Resolves};
+ghost use Rattle.archive_forms_laws.proofs.Fields.{unit_spells};
 
 use crate::{Archive, Serialize};
 use archive_shape::{Allocator, Error, Place, Writer};

@@ -1,15 +1,15 @@
-//! Vectors.
+//! The archiving of vectors.
 ghost use Rattle.std.specs.Prelude.{◌≡◌, ℕ, ◌-◌, ◌^◌, ◌<◌, refl};
-ghost use Rattle.archive_shape_layout.specs.Shape.Shape.{vector};
-ghost use Rattle.archive_forms_spelling.specs.Pointers.{slice_spelling};
-ghost use Rattle.archive_forms_spelling.specs.Serializing.{CanResolve, HasState, Resolves, Serializes, SerializesBy};
-ghost use Rattle.archive_forms_spelling.proofs.Pointers.{slice_spells};
-ghost use Rattle.archive_forms_spelling.proofs.Views.{kept_spells, seen_spells};
+ghost use Rattle.archive_shape.specs.ShapeLayout.Shape.Shape.{vector};
+ghost use Rattle.archive_forms_laws.specs.Pointers.{slice_spelling};
+ghost use Rattle.archive_forms_laws.specs.Serializing.{CanResolve, HasState, Resolves, Serializes, SerializesBy};
+ghost use Rattle.archive_forms_laws.proofs.Pointers.{slice_spells};
+ghost use Rattle.archive_forms_laws.proofs.Views.{kept_spells, seen_spells};
 ghost use Rattle.archive_forms_writing.specs.Owned.{vec_spelling};
 ghost use Rattle.archive_forms_writing.specs.Steps.{StepTakes, StepWrites};
 
 use crate::{Archive, Serialize, serialize_element, serialize_slice_each};
-use archive_forms_reading::{ArchivedVec, VecResolver};
+use archive_forms_values::{ArchivedVec, VecResolver};
 use archive_shape::{Allocator, Error, Place, Writer};
 use std::marker::PhantomData;
 
@@ -46,7 +46,7 @@ impl<T: Archive> Archive for Vec<T> {
         (slice_spells fit T.Archived.shape T.Archived.knows T.spelling (T.spells fit))) };
 }
 
-/// Writes the elements of a vector behind their data, which a step writes.
+/// Writes the data of a vector: the data of each element by the step, and then the elements' own bytes.
 pub fn serialize_vec_each<
     T: Archive,
     S: Writer + Allocator,

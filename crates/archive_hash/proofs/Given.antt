@@ -1,25 +1,25 @@
--- What is written of entries that an iterator gives is written of their keys and values.
+-- What is written of entries that an iterator returns is written of their keys and values.
 use Rattle.std.proofs.Common.{◌≡◌, ◌∙◌, ℕ, List, [], ◌∷◌, ◌<◌, map, All, refl, ap, sym, subst, inl, inr, Option, Result, Err}
 use Rattle.std.specs.Iterator.{Yields, Drains}
 use Rattle.std.specs.Map.Iter.{deref_pair}
 use Rattle.std.specs.Option.{option_map}
 use Rattle.std.proofs.lemmas.List.{length-map, get_or-map}
 use denote.Bor.{Bor}
-use Rattle.archive_shape_layout.specs.Shape.{Shape}
+use Rattle.archive_shape.specs.ShapeLayout.Shape.{Shape}
 use Rattle.archive_shape_writing.specs.Writing.{WriterMembers}
 use Rattle.archive_shape_writing.specs.declared.error.Error.{Error}
 use Rattle.archive_shape_writing.specs.declared.error.Error.TheVariants.{IteratorLengthMismatch}
-use Rattle.archive_forms_checking.specs.Tuples.{tuple2}
-use Rattle.archive_forms_spelling.specs.Spelling.{Spelling}
-use Rattle.archive_forms_spelling.specs.Forms.{seen_as}
-use Rattle.archive_forms_spelling.specs.Fields.{tuple2_spelling}
-use Rattle.archive_forms_spelling.specs.Taking.{GivesAs}
-use Rattle.archive_forms_spelling.proofs.Agreeing.{Said, said, serializes_alike}
-use Rattle.archive_forms_collections.specs.declared.entry.EntryAdapter.{EntryAdapter}
-use Rattle.archive_forms_collections.specs.declared.entry.EntryResolver.{EntryResolver}
-use Rattle.archive_forms_collections.specs.Entries.{entry_spelling}
+use Rattle.archive_forms_values.specs.Tuples.{tuple2}
+use Rattle.archive_forms_laws.specs.Spelling.{Spelling}
+use Rattle.archive_forms_laws.specs.Forms.{seen_as}
+use Rattle.archive_forms_laws.specs.Fields.{tuple2_spelling}
+use Rattle.archive_forms_laws.specs.Taking.{GivesAs}
+use Rattle.archive_forms_laws.proofs.Agreeing.{Said, said, serializes_alike}
+use Rattle.archive_forms_borrowed.specs.declared.collections.entry.EntryAdapter.{EntryAdapter}
+use Rattle.archive_forms_borrowed.specs.declared.collections.entry.EntryResolver.{EntryResolver}
+use Rattle.archive_forms_borrowed.specs.Entries.{entry_spelling}
 use Rattle.archive_forms_writing.specs.Steps.{IsElement}
-use Rattle.archive_hash_reading.specs.declared.resolving.HashTableResolver.{HashTableResolver}
+use Rattle.archive_hash_maps.specs.declared.map.resolving.HashTableResolver.{HashTableResolver}
 use Rattle.archive_hash_writing.specs.Claimed.{AreHashesOf, WritesClaimed, WritesTable, written_spelling}
 use Rattle.archive_hash.specs.Given.{WritesEntries, entry_of, pair_of, key_entry}
 use Rattle.archive_hash.proofs.Seen.{hashed_seen}
@@ -27,7 +27,7 @@ use Rattle.archive_hash.proofs.Seen.{hashed_seen}
 -- ---- what comes
 
 module _ {A B I J : Type 0} (gives : I → Option (Bor A × Bor B) → I → Type 0) (see : J → I) where
-  -- a call gives the next key and value as an entry
+  -- a call returns the next key and value as an entry
   abbrev GivesEntry : J → Option (EntryAdapter A B) → J → Type 0
   GivesEntry s r t = gives (see s) (option_map pair_of r) (see t)
 

@@ -1,16 +1,16 @@
 -- The own bytes of a table of entries whose number is known.
 use Rattle.std.proofs.Common.{◌≡◌, ℕ, ◌^◌, ◌≤◌, List, length, refl, subst, inl, inr, ◌∙◌, ◌⊎◌, Result, Ok, Err, arith}
 use Rattle.std.specs.Prelude.{MatchResult}
-use Rattle.archive_shape_layout.specs.Shape.{Shape}
-use Rattle.archive_shape_references.specs.Bytes.{overwrite}
+use Rattle.archive_shape.specs.ShapeLayout.Shape.{Shape}
+use Rattle.archive_shape.specs.Bytes.{overwrite}
 use Rattle.archive_shape_writing.specs.declared.error.Error.{Error}
 use Rattle.archive_shape_writing.specs.declared.error.Error.TheVariants.{LengthTooLarge}
-use Rattle.archive_forms_spelling.specs.Spelling.{Spelling}
-use Rattle.archive_forms_spelling.specs.Serializing.{Resolves}
-use Rattle.archive_forms_spelling.specs.Links.{LinkRefused}
-use Rattle.archive_hash_reading.specs.Resolving.{capacity, own_bytes, IsWithinLimits, IsRefused}
-use Rattle.archive_hash_reading.specs.Resolving.IsRefused.{has_no_load, has_many_places, is_far}
-use Rattle.archive_hash_reading.specs.declared.resolving.HashTableResolver.{HashTableResolver}
+use Rattle.archive_forms_laws.specs.Spelling.{Spelling}
+use Rattle.archive_forms_laws.specs.Serializing.{Resolves}
+use Rattle.archive_forms_laws.specs.Links.{LinkRefused}
+use Rattle.archive_hash_maps.specs.Resolving.{capacity, own_bytes, IsWithinLimits, IsRefused}
+use Rattle.archive_hash_maps.specs.Resolving.IsRefused.{has_no_load, has_many_places, is_far}
+use Rattle.archive_hash_maps.specs.declared.map.resolving.HashTableResolver.{HashTableResolver}
 use Rattle.archive_hash.specs.Owned.{entries_spelling}
 
 refused_as : (len : ℕ) (r : HashTableResolver) (pos : ℕ) (e : Error) → IsRefused len (7, 8) r.pos pos e → LinkRefused r.pos pos e ⊎ ((2 ^ 32 ≤ capacity len (7, 8) r.pos pos) × (e ≡ LengthTooLarge))

@@ -4,26 +4,27 @@ use Rattle.std.specs.Int.{w32, to_le_bytes}
 use Rattle.std.specs.List.{range_with_len}
 use Rattle.std.specs.Option.{option_map}
 use Rattle.std.proofs.lemmas.List.{length-map}
-use Rattle.archive_shape_layout.specs.Bytes.{align_up}
-use Rattle.archive_shape_layout.specs.Shape.{Shape, size_of, align_of}
-use Rattle.archive_shape_layout.specs.Value.Value.{group}
-use Rattle.archive_shape_layout.specs.Value.Values.{more_values}
-use Rattle.archive_shape_canonical.specs.FirstFit.{capacity_for, fitted_from, item_at, present, written_controls}
-use Rattle.archive_shape_canonical.specs.Seen.{keys_alone}
-use Rattle.archive_shape_canonical.specs.Settled.{Fit}
-use Rattle.archive_shape_references.specs.Bytes.{zeros}
+use Rattle.archive_shape.specs.ShapeLayout.Bytes.{align_up}
+use Rattle.archive_shape.specs.ShapeLayout.Shape.{Shape, size_of, align_of}
+use Rattle.archive_shape.specs.ShapeLayout.Value.Value.{group}
+use Rattle.archive_shape.specs.ShapeLayout.Value.Values.{more_values}
+use Rattle.archive_hash_probing.specs.ShapeCanonical.FirstFit.{capacity_for, fitted_from, item_at, present, written_controls}
+use Rattle.archive_hash_probing.specs.ShapeCanonical.Seen.{keys_alone}
+use Rattle.archive_hash_probing.specs.ShapeCanonical.Settled.{Fit}
+use Rattle.archive_shape.specs.Bytes.{zeros}
 use Rattle.archive_shape_writing.specs.declared.error.Error.{Error}
 use Rattle.archive_shape_writing.specs.declared.error.Error.TheVariants.{LengthTooLarge, PositionTooLarge}
-use Rattle.archive_forms_spelling.specs.State.{State, Keys}
-use Rattle.archive_forms_spelling.specs.Spelling.{Spelling, state_after}
-use Rattle.archive_forms_spelling.specs.Forms.{seen_as, kept_as}
-use Rattle.archive_forms_spelling.specs.Links.{link_bytes, LinkFits, LinkRefused}
-use Rattle.archive_forms_spelling.specs.Regions.{state_after_all, values, plain_values, all_suit, pieces, pieces_fit, pieces_refused}
-use Rattle.archive_forms_spelling.proofs.Agreeing.{Said, said}
-use Rattle.archive_hash_spelling.specs.Fitted.{capacity_of, table_of, controls_of}
-use Rattle.archive_hash_spelling.specs.Tables.{buckets, buckets_fit, buckets_refused, controls_at, region_from, IsPlaced, filled_piece, filled_fits, filled_refused, hashed_spelling}
+use Rattle.archive_forms_laws.specs.State.{State, Keys}
+use Rattle.archive_forms_laws.specs.Spelling.{Spelling, state_after}
+use Rattle.archive_forms_laws.specs.Forms.{seen_as, kept_as}
+use Rattle.archive_forms_laws.specs.Links.{link_bytes, LinkFits, LinkRefused}
+use Rattle.archive_forms_laws.specs.Regions.{state_after_all, values, plain_values, all_suit, pieces, pieces_fit, pieces_refused}
+use Rattle.archive_forms_laws.proofs.Agreeing.{Said, said}
+use Rattle.archive_hash_writing.specs.Fitted.{capacity_of, table_of, controls_of}
+use Rattle.archive_hash_writing.specs.Tables.{buckets, buckets_fit, buckets_refused, controls_at, region_from, IsPlaced, filled_piece, filled_fits, filled_refused, hashed_spelling}
 
--- what is said of a table with so many items and places, where these stand, and these controls
+-- what holds of a table with this number of items and places, with the items at these positions, and with these
+-- controls
 abbrev filled : {A R : Type 0} → Shape → Spelling A R → (len cap : ℕ) → List (Option A) → List ℕ → Said (Option ℕ)
 filled s w len cap os controls = record {
   value = λ st. group (values w (present os) st);
@@ -49,7 +50,7 @@ module _ {A B R Q : Type 0} (s : Shape) (view : B → A) (make : R → Q) (get :
   abbrev seen : List (Option B) → List (Option A)
   seen os = map (option_map view) os
 
-  -- ---- what stands at places
+  -- ---- the items at places
 
   states_seen : (os : List (Option B)) (st : State) → state_after_all as_other (present os) st ≡ state_after_all w (present (seen os)) st
   states_seen [] st = refl
@@ -141,7 +142,7 @@ module _ {A B R Q : Type 0} (s : Shape) (view : B → A) (make : R → Q) (get :
         suits_seen os fit given i × ((fit.capacity len ≡ cap) × (fit.table_controls keys ≡ controls) × (fit.table_items keys ≡ keys));
   }
 
-  -- ---- where items stand
+  -- ---- the positions of items
 
   by_place_taken : (b : Bool) (x : B) (o : Option B) → cond b (Some (view x)) (option_map view o) ≡ option_map view (cond b (Some x) o)
   by_place_taken true x o = refl
@@ -162,7 +163,7 @@ module _ {A B R Q : Type 0} (s : Shape) (view : B → A) (make : R → Q) (get :
         sym (items_seen xs (fitted_from (capacity_of most places hashes xs) [] hashes) (range_with_len 0 (capacity_of most places hashes xs)))
         ∙ ap (λ n. map (item_at (map view xs) (fitted_from (capacity_for n most places) [] hashes)) (range_with_len 0 (capacity_for n most places))) (sym (length-map xs view))
 
-    -- the table of items that are seen as others, whatever their resolvers are kept as, is the table of those
+    -- the table of items that are seen as others is the table of those, for all resolvers
     pub hashed_seen : (xs : List B) → said (hashed_spelling most places s as_other hashes) xs ≡ said (hashed_spelling most places s w hashes) (map view xs)
     hashed_seen [] = refl
     hashed_seen (x ∷ xs) =

@@ -1,4 +1,4 @@
--- What std's maps and sets say of an insertion.
+-- What the contracts of std's maps and sets state about an insertion.
 use Rattle.std.proofs.Common.{◌≡◌, ◌∙◌, Bool, true, false, not, cond, ◌||◌, List, [], ◌∷◌, refl, ap, sym, subst, Option, Some, None, Result, Ok, Err}
 use Rattle.std.specs.Prelude.{IfOk, OnOk, is_err}
 use Rattle.std.specs.HashMap as map

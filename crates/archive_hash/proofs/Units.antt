@@ -1,16 +1,16 @@
 -- What is read back of a unit.
 use Rattle.std.proofs.Common.{◌≡◌, ℕ, List, refl, ap, sym, ◌∙◌}
-use Rattle.archive_shape_layout.specs.Shape.Shape.{tuple}
-use Rattle.archive_shape_layout.specs.Shape.Shapes.{no_shapes}
-use Rattle.archive_shape_layout.specs.Value.{Value}
-use Rattle.archive_shape_layout.specs.Value.Value.{group}
-use Rattle.archive_shape_layout.specs.Value.Values.{no_values}
-use Rattle.archive_shape_layout.specs.Content.{Names, shape_content, fields}
-use Rattle.archive_shape_layout.proofs.Unique.{by_plain}
-use Rattle.archive_shape_canonical.specs.Sharing.{erased}
+use Rattle.archive_shape.specs.ShapeLayout.Shape.Shape.{tuple}
+use Rattle.archive_shape.specs.ShapeLayout.Shape.Shapes.{no_shapes}
+use Rattle.archive_shape.specs.ShapeLayout.Value.{Value}
+use Rattle.archive_shape.specs.ShapeLayout.Value.Value.{group}
+use Rattle.archive_shape.specs.ShapeLayout.Value.Values.{no_values}
+use Rattle.archive_shape.specs.ShapeLayout.Content.{Names, shape_content, fields}
+use Rattle.archive_shape.proofs.ShapeLayout.Unique.{by_plain}
+use Rattle.archive_hash_probing.specs.ShapeCanonical.Sharing.{erased}
 use Rattle.archive_shape.specs.Key.{HeldAt}
-use Rattle.archive_forms_reading.proofs.Inside.{none_held}
-use Rattle.archive_forms_reading.proofs.Pointed.{made_whole}
+use Rattle.archive_forms_values.proofs.Inside.{none_held}
+use Rattle.archive_forms_values.proofs.Pointed.{made_whole}
 
 -- it is the empty group
 pub unit_read : (knows : Names → Type 0) (bytes : List ℕ) (pos : ℕ) (v : Value) → HeldAt (tuple no_shapes) knows bytes pos v → group no_values ≡ erased v

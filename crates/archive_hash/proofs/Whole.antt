@@ -2,17 +2,17 @@
 use Rattle.std.proofs.Common.{◌≡◌, ◌∙◌, ℕ, List, [], ◌∷◌, ◌++◌, append-nil, length, map, All, refl, ap, ap₂, sym, subst, inl, inr, Result, Err, arith}
 use Rattle.std.specs.Iterator.{Yields, Drains}
 use Rattle.std.specs.Map.Iter.{TakesFirst, deref_pair}
-use Rattle.archive_shape_layout.specs.Shape.{Shape}
+use Rattle.archive_shape.specs.ShapeLayout.Shape.{Shape}
 use Rattle.archive_shape_writing.specs.Writing.{WriterMembers}
 use Rattle.archive_shape_writing.specs.declared.error.Error.{Error}
 use Rattle.archive_shape_writing.specs.declared.error.Error.TheVariants.{OutOfMemory}
-use Rattle.archive_forms_checking.specs.Tuples.{tuple2}
-use Rattle.archive_forms_spelling.specs.Spelling.{Spelling}
-use Rattle.archive_forms_spelling.specs.Fields.{tuple2_spelling}
-use Rattle.archive_forms_spelling.specs.Serializing.{of_data, Serializes}
-use Rattle.archive_forms_spelling.specs.Taking.{GivesAs}
+use Rattle.archive_forms_values.specs.Tuples.{tuple2}
+use Rattle.archive_forms_laws.specs.Spelling.{Spelling}
+use Rattle.archive_forms_laws.specs.Fields.{tuple2_spelling}
+use Rattle.archive_forms_laws.specs.Serializing.{of_data, Serializes}
+use Rattle.archive_forms_laws.specs.Taking.{GivesAs}
 use Rattle.archive_forms_writing.proofs.Laying.{stopped_before}
-use Rattle.archive_hash_reading.specs.declared.resolving.HashTableResolver.{HashTableResolver}
+use Rattle.archive_hash_maps.specs.declared.map.resolving.HashTableResolver.{HashTableResolver}
 use Rattle.archive_hash_writing.specs.Claimed.{AreHashesOf, WritesClaimed, written_spelling}
 use Rattle.archive_hash.specs.Given.{TakesGiven, WritesEntries}
 use Rattle.archive_hash.specs.Owned.{entries_spelling}
@@ -26,7 +26,7 @@ module _ {T X : Type 0} (shows : T → X) where
   pub drained_all : (from ys : List X) → Drains (GivesAs shows (TakesFirst shows)) from ys → from ≡ ys
   drained_all from ys d = came_seen from d.1.0 ys d.1.1 ∙ ap (λ l. ys ++ l) d.1.2.0 ∙ append-nil ys
 
--- a step that may be called for each entry of a list may be called for those that come of it
+-- a step that may be called for each entry of a list may be called for those of its entries that the iterator returns
 pub takes_given : {A B F : Type 0} (takes : F → A × B → Type 0) (step : F) (from : List (A × B)) → All (takes step) from → TakesGiven (TakesFirst deref_pair) takes step from
 takes_given takes step from all = record { each = λ es d. subst (All (takes step)) (drained_all deref_pair from es d) all }
 
@@ -57,7 +57,7 @@ module _ {A B R Q W : Type 0} (hash : A → ℕ) (k v : Shape) (keys : Spelling 
       subst (λ l. Serializes (entries_spelling hash k v keys vals) s l old new result) (sym all) written
   claimed_all xs all (inr w) = absurd (w.0 (sym (ap length all)))
 
-  -- of the entries in a list, as many as it has are claimed: the table of them was written
+  -- the number of entries that are claimed is the length of their list: the table of them was written
   pub whole_written : (from : List (A × B)) (claimed : ℕ) → from ≡ es → claimed ≡ length es
       → WritesEntries (Drains (GivesAs deref_pair (TakesFirst deref_pair)) from) hash (7, 8) k v keys vals s claimed old new result
       → Serializes (entries_spelling hash k v keys vals) s es old new result

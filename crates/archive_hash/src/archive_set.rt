@@ -1,25 +1,24 @@
-//! How sets of std are archived.
+//! Archives sets of std as hash tables.
 ghost use Rattle.std.specs.Prelude.{◌≡◌, refl};
-ghost use Rattle.archive_shape_layout.specs.Shape.Shape.{tuple};
-ghost use Rattle.archive_shape_layout.specs.Shape.Shapes.{no_shapes};
-ghost use Rattle.archive_forms_checking.specs.Tuples.{tuple2};
-ghost use Rattle.archive_forms_spelling.specs.Fields.{tuple2_spelling, unit_spelling};
-ghost use Rattle.archive_forms_spelling.specs.Forms.{seen_as};
-ghost use Rattle.archive_forms_spelling.specs.Serializing.{CanResolve, Resolves};
-ghost use Rattle.archive_forms_spelling.proofs.Fields.{tuple2_spells, unit_spells};
-ghost use Rattle.archive_forms_spelling.proofs.Views.{kept_spells, known_spells, seen_spells_at};
+ghost use Rattle.archive_shape.specs.ShapeLayout.Shape.Shape.{tuple};
+ghost use Rattle.archive_shape.specs.ShapeLayout.Shape.Shapes.{no_shapes};
+ghost use Rattle.archive_forms_values.specs.Tuples.{tuple2};
+ghost use Rattle.archive_forms_laws.specs.Fields.{tuple2_spelling, unit_spelling};
+ghost use Rattle.archive_forms_laws.specs.Forms.{seen_as};
+ghost use Rattle.archive_forms_laws.specs.Serializing.{CanResolve, Resolves};
+ghost use Rattle.archive_forms_laws.proofs.Fields.{tuple2_spells, unit_spells};
+ghost use Rattle.archive_forms_laws.proofs.Views.{kept_spells, known_spells, seen_spells_at};
 ghost use Rattle.archive_hash_maps.specs.Sets.{set_shape, set_knows};
-ghost use Rattle.archive_hash_keys.specs.Inputs.{input_hash};
-ghost use Rattle.archive_hash_keys.proofs.Small.{input_hash_small};
-ghost use Rattle.archive_hash_spelling.proofs.Tables.{table_spells};
+ghost use Rattle.archive_hash_probing.specs.Inputs.{input_hash};
+ghost use Rattle.archive_hash_probing.proofs.Small.{input_hash_small};
+ghost use Rattle.archive_hash_writing.proofs.SpellingTables.{table_spells};
 ghost use Rattle.archive_hash.specs.Owned.{entries_spelling, key_entries};
 
 use crate::OwnedHashSet;
 use crate::map::LOAD_FACTOR;
 use archive_forms_writing::Archive;
-use archive_hash_maps::{ArchivedHashSet, HashSetResolver};
-use archive_hash_reading::HashTableResolver;
-use archive_hash_scanning::FxHasher64;
+use archive_hash_maps::{ArchivedHashSet, HashSetResolver, HashTableResolver};
+use archive_hash_probing::FxHasher64;
 use archive_shape::{Error, Place};
 use std::hash::Hash;
 

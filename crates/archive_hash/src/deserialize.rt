@@ -1,41 +1,25 @@
-//! Archived maps are read back as maps of std.
+//! Reads archived maps back as maps of std.
 ghost use Rattle.std.specs.Prelude.{length};
-ghost use Rattle.archive_shape_layout.specs.Shape.Shape.{table};
-ghost use Rattle.archive_forms_checking.specs.Tuples.{tuple2};
-ghost use Rattle.archive_forms_reading.specs.Parts.{HasValue, both};
-ghost use Rattle.archive_forms_deserializing.specs.Deserializing.{Deserializes, DeserializesBy};
-ghost use Rattle.archive_forms_deserializing.specs.Steps.{StepTakes, StepReads};
+ghost use Rattle.archive_shape.specs.ShapeLayout.Shape.Shape.{table};
+ghost use Rattle.archive_forms_values.specs.Tuples.{tuple2};
+ghost use Rattle.archive_forms_values.specs.Parts.{HasValue, both};
+ghost use Rattle.archive_forms.specs.Deserializing.{Deserializes, DeserializesBy};
+ghost use Rattle.archive_forms.specs.Steps.{StepTakes, StepReads};
 ghost use Rattle.archive_hash.specs.ReadBack.{reads_map};
 
 use crate::OwnedHashMap;
-use archive_forms_deserializing::{Deserialize, ReadBack};
+use archive_forms::{Deserialize, ReadBack, deserialize_element};
 use archive_forms_writing::Archive;
-use archive_hash_reading::ArchivedHashMap;
+use archive_hash_maps::ArchivedHashMap;
 use archive_shape::{Error, Ref};
 use std::alloc::Global;
 use std::collections::HashMap;
 use std::hash::Hash;
 use std::marker::PhantomData;
 
-/// The step of keys and values that can be read back. A step's answer names the archived form, since a closure over `T` can be
-/// passed on only where its type does.
-pub(crate) fn deserialize_part<T: Archive, A: Deserialize<T, D>, D>(
-    bytes: &[u8],
-    pos: usize,
-    alloc: Global,
-    deserializer: &mut D,
-) -> Result<(T, PhantomData<T::Archived>), Error>
-    requires { HasValue A.shape A.knows bytes.now pos }
-    ensures { DeserializesBy A.reads A.shape A.knows bytes.now pos (λ q. q.0) result }
-{
-    match A::deserialize(&Ref::new(bytes, pos), alloc, deserializer) {
-        Ok(value) => Ok((value, PhantomData)),
-        Err(e) => Err(e),
-    }
-}
-
-/// Reads a map back, whose keys and values steps read. Its entries are inserted by ascending place. The archive of a map that
-/// was checked may have equal keys, of which the first one stays, with the value of the last one.
+/// Reads a map back, whose keys are read by `read_key` and whose values by `read_value`. Its entries are inserted by
+/// ascending place. The archive of a map that was checked may have equal keys. The map then has the first of them, with
+/// the value of the last one. `OutOfMemory` if an insertion fails.
 pub fn deserialize_hash_map_each<
     K: Archive + Eq + Hash + Drop,
     V: Archive + Drop,
@@ -103,11 +87,11 @@ impl<
             |d: &mut D, pos: usize| -> Result<(K, PhantomData<K::Archived>), Error>
                 requires { HasValue A.shape A.knows bytes.now pos }
                 ensures { DeserializesBy A.reads A.shape A.knows bytes.entry.now pos (λ q. q.0) result }
-            { deserialize_part::<K, A, D>(bytes, pos, alloc, d) },
+            { deserialize_element::<K, A, D>(bytes, pos, alloc, d) },
             |d: &mut D, pos: usize| -> Result<(V, PhantomData<V::Archived>), Error>
                 requires { HasValue B.shape B.knows bytes.now pos }
                 ensures { DeserializesBy B.reads B.shape B.knows bytes.entry.now pos (λ q. q.0) result }
-            { deserialize_part::<V, B, D>(bytes, pos, alloc, d) },
+            { deserialize_element::<V, B, D>(bytes, pos, alloc, d) },
         )
     }
 }

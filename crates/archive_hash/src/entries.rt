@@ -1,27 +1,25 @@
-//! Tables of the entries that an iterator gives.
+//! Writes tables of the entries that an iterator returns.
 ghost use Rattle.std.specs.Prelude.{◌≡◌, ◌-◌, ◌^◌, ◌<◌};
 ghost use Rattle.std.specs.Iterator.{Drains, IsFinite};
 ghost use Rattle.std.specs.Map.Iter.{deref_pair};
 ghost use Rattle.std.specs.Option.{option_map};
-ghost use Rattle.archive_forms_collections.specs.Entries.{entry_spelling};
-ghost use Rattle.archive_forms_spelling.specs.Serializing.{HasState, SerializesBy};
-ghost use Rattle.archive_forms_spelling.specs.Taking.{GivesAs};
-ghost use Rattle.archive_hash_keys.specs.Inputs.{input_hash};
+ghost use Rattle.archive_forms_borrowed.specs.Entries.{entry_spelling};
+ghost use Rattle.archive_forms_laws.specs.Serializing.{HasState, SerializesBy};
+ghost use Rattle.archive_forms_laws.specs.Taking.{GivesAs};
+ghost use Rattle.archive_hash_probing.specs.Inputs.{input_hash};
 ghost use Rattle.archive_hash.specs.Given.{TakesGiven, WritesEntries, entry_of, pair_of};
 
-use archive_btree_writing::EntryStep;
-use archive_forms_collections::{EntryAdapter, EntryResolver};
-use archive_forms_tuples::Entry;
+use archive_forms_borrowed::{EntryAdapter, EntryResolver, EntryStep};
+use archive_forms_values::Entry;
 use archive_forms_writing::Archive;
-use archive_hash_keys::hash_key;
-use archive_hash_reading::HashTableResolver;
-use archive_hash_scanning::Scan;
+use archive_hash_maps::HashTableResolver;
+use archive_hash_probing::{Scan, hash_key};
 use archive_hash_writing::serialize_from_iter_scan_each;
 use archive_shape::{Allocator, Error, Writer};
 use std::hash::Hash;
 use std::marker::PhantomData;
 
-/// Entries of the keys and values that an iterator gives.
+/// An iterator over entries, made of the keys and values that another iterator returns.
 #[derive(Drop)]
 pub(crate) struct Entries<'a, K, V, I> {
     pairs: I,
@@ -78,8 +76,8 @@ fn serialize_by_step<K: Archive, V: Archive, S: Writer + Allocator, C: EntryStep
     }
 }
 
-/// Writes the table of the entries of a map that an iterator gives, by the hashes of their keys. Their data is written by a
-/// step, by ascending place.
+/// Writes the table of the entries of a map that an iterator returns, by the hashes of their keys. Their data is
+/// written by `step`, by ascending place.
 pub(crate) fn serialize_entries_scan_each<
     'a,
     G: Scan,

@@ -1,29 +1,30 @@
-//! Tables of the entries of a map that an iterator gives.
+//! Writes tables of the entries of a map that an iterator returns.
 ghost use Rattle.std.specs.Prelude.{ℕ, ◌-◌, ◌^◌, ◌<◌};
 ghost use Rattle.std.specs.Iterator.{Drains, IsFiniteIterable};
 ghost use Rattle.std.specs.Map.Iter.{deref_pair};
-ghost use Rattle.archive_forms_spelling.specs.Serializing.{HasState};
-ghost use Rattle.archive_forms_spelling.specs.Taking.{GivesAs};
-ghost use Rattle.archive_hash_keys.specs.Inputs.{input_hash};
+ghost use Rattle.archive_forms_laws.specs.Serializing.{HasState};
+ghost use Rattle.archive_forms_laws.specs.Taking.{GivesAs};
+ghost use Rattle.archive_hash_probing.specs.Inputs.{input_hash};
 ghost use Rattle.archive_hash.specs.Given.{WritesEntries};
 
 use crate::entries::serialize_entries_scan_each;
-use archive_btree_writing::SerializeEntry;
+use archive_forms_borrowed::SerializeEntry;
 use archive_forms_writing::Serialize;
-use archive_hash_reading::HashTableResolver;
-use archive_hash_scanning::Group;
+use archive_hash_maps::HashTableResolver;
+use archive_hash_probing::Group;
 use archive_shape::{Allocator, Error, Writer};
 use std::hash::Hash;
 
-/// Writes the hash table of the entries that an iterator gives, `len` of which are claimed to come: each, in this order, at its
-/// first fit by the hash of its key. At most `load_factor.0` of `load_factor.1` places are full. Memory is taken for the entries
-/// that come, and none for those that are claimed. No keys are compared: of equal ones each is written.
+/// Writes the hash table of the entries that an iterator returns: each entry, in this order, at its first fit by the
+/// hash of its key. `len` is the number of entries that the caller claims. At most `load_factor.0` of `load_factor.1`
+/// places are full. Memory is allocated for the entries that the iterator returns, and none for those that are only
+/// claimed. Keys are not compared: of equal keys each is written.
 ///
 /// # Errors
-/// `InvalidLoadFactor` where no places or more than all may be full. `IteratorLengthMismatch` where the iterator gives another
-/// number of entries than `len`. Nothing is written in both cases. `LengthTooLarge` where the table would have 2^32 places or
-/// more. `PositionTooLarge` where it would begin past position 2^32, or not end before position 2^64. `OutOfMemory` where memory
-/// is refused. Also what a key or a value is refused for, and what the serializer fails by.
+/// `InvalidLoadFactor` if no places or more than all may be full, and `IteratorLengthMismatch` if the iterator returns
+/// another number of entries than `len`; nothing is written in both cases. `LengthTooLarge` if the table would have
+/// 2^32 places or more. `PositionTooLarge` if it would not begin before position 2^32 or not end before position 2^64.
+/// `OutOfMemory` if an allocation fails. Also each error of writing a key or a value, and each error of the serializer.
 pub fn serialize_map_from_iter<
     'a,
     S: Writer + Allocator,

@@ -1,28 +1,27 @@
-//! Tables of the keys of a set that an iterator gives.
+//! Writes tables of the keys of a set that an iterator returns.
 ghost use Rattle.std.specs.Prelude.{◌≡◌, ℕ, ◌-◌, ◌^◌, ◌<◌};
 ghost use Rattle.std.specs.Iterator.{Drains, IsFinite, IsFiniteIterable};
 ghost use Rattle.std.specs.Option.{option_map};
-ghost use Rattle.archive_shape_layout.specs.Shape.Shape.{tuple};
-ghost use Rattle.archive_shape_layout.specs.Shape.Shapes.{no_shapes};
-ghost use Rattle.archive_forms_collections.specs.Entries.{entry_spelling};
-ghost use Rattle.archive_forms_spelling.specs.Fields.{unit_spelling};
-ghost use Rattle.archive_forms_spelling.specs.Serializing.{HasState, SerializesBy};
-ghost use Rattle.archive_forms_spelling.specs.Taking.{GivesAs};
-ghost use Rattle.archive_hash_keys.specs.Inputs.{input_hash};
+ghost use Rattle.archive_shape.specs.ShapeLayout.Shape.Shape.{tuple};
+ghost use Rattle.archive_shape.specs.ShapeLayout.Shape.Shapes.{no_shapes};
+ghost use Rattle.archive_forms_borrowed.specs.Entries.{entry_spelling};
+ghost use Rattle.archive_forms_laws.specs.Fields.{unit_spelling};
+ghost use Rattle.archive_forms_laws.specs.Serializing.{HasState, SerializesBy};
+ghost use Rattle.archive_forms_laws.specs.Taking.{GivesAs};
+ghost use Rattle.archive_hash_probing.specs.Inputs.{input_hash};
 ghost use Rattle.archive_hash.specs.Given.{WritesEntries, key_entry};
 
-use archive_forms_collections::{EntryAdapter, EntryResolver};
-use archive_forms_tuples::Entry;
+use archive_forms_borrowed::{EntryAdapter, EntryResolver};
+use archive_forms_values::Entry;
 use archive_forms_writing::{Serialize, serialize_element};
-use archive_hash_keys::hash_key;
-use archive_hash_reading::HashTableResolver;
-use archive_hash_scanning::Group;
+use archive_hash_maps::HashTableResolver;
+use archive_hash_probing::{Group, hash_key};
 use archive_hash_writing::serialize_from_iter_scan_each;
 use archive_shape::{Allocator, Error, Writer};
 use std::hash::Hash;
 use std::marker::PhantomData;
 
-/// Entries of the keys that an iterator gives, each beside `()`.
+/// An iterator over the entries of a map to `()`, made of the keys that another iterator returns.
 #[derive(Drop)]
 struct KeysBesideUnits<'a, K, I> {
     keys: I,
@@ -100,10 +99,11 @@ fn serialize_given_keys<
     )
 }
 
-/// Writes the hash table of the keys that an iterator gives, each beside `()`, as `serialize_map_from_iter` writes entries.
+/// Writes the hash table of the keys that an iterator returns, each with `()` as its value, as
+/// `serialize_map_from_iter` writes entries.
 ///
 /// # Errors
-/// As of `serialize_map_from_iter`.
+/// The errors of `serialize_map_from_iter`.
 pub fn serialize_set_from_iter<
     'a,
     S: Writer + Allocator,

@@ -1,5 +1,5 @@
-//! Maps and sets of std are archived as hash tables and read back, and entries that an iterator gives are archived so too. The
-//! archived map and set, and the map's iterators, are here too.
+//! Archives maps and sets of std as hash tables and reads them back, and archives entries that an iterator returns in
+//! the same way. Exports also the archived map and set, and the map's iterators.
 #![tactic(auto)]
 
 mod archive;
@@ -8,18 +8,26 @@ mod deserialize;
 mod entries;
 mod from_iter;
 mod keys_from_iter;
+pub mod laws;
 mod map;
 mod read_set;
 mod serialize;
 mod serialize_set;
 mod set;
 
-pub use archive_btree_writing::{EntryParts, EntryStep, SerializeEntry};
-pub use archive_hash_maps::{ArchivedHashSet, HashSetResolver, eq_hash_map, eq_hash_set};
-pub use archive_hash_reading::{
-    ArchivedHashMap, HashMapResolver, HashTableResolver, Iter, Keys, Values,
+pub use archive_forms_borrowed::{EntryParts, EntryStep, SerializeEntry};
+pub use archive_hash_checking as checking;
+pub use archive_hash_maps as maps;
+pub use archive_hash_maps::map::Iter;
+pub use archive_hash_maps::{
+    ArchivedHashMap, ArchivedHashSet, ArchivedHashTable, HashMapResolver, HashSetResolver,
+    HashTableResolver, IterMut, Keys, RawIter, RawIterSeal, Values, ValuesMut, eq_hash_map,
+    eq_hash_set,
 };
-pub use archive_hash_scanning::FxHasher64;
+pub use archive_hash_probing as probing;
+pub use archive_hash_probing::FxHasher64;
+pub use archive_hash_walking as walking;
+pub use archive_hash_writing as writing;
 pub use deserialize::deserialize_hash_map_each;
 pub use from_iter::serialize_map_from_iter;
 pub use keys_from_iter::serialize_set_from_iter;

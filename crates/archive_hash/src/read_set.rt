@@ -1,31 +1,29 @@
-//! Archived sets are read back as sets of std.
+//! Reads archived sets back as sets of std.
 ghost use Rattle.std.specs.Prelude.{length, ⊤};
-ghost use Rattle.archive_shape_layout.specs.Shape.Shape.{table, tuple};
-ghost use Rattle.archive_shape_layout.specs.Shape.Shapes.{no_shapes};
-ghost use Rattle.archive_forms_checking.specs.Tuples.{tuple2};
-ghost use Rattle.archive_forms_spelling.specs.Fields.{unit_spelling};
-ghost use Rattle.archive_forms_reading.specs.Parts.{HasValue, both};
-ghost use Rattle.archive_forms_deserializing.specs.Deserializing.{Deserializes, DeserializesBy};
-ghost use Rattle.archive_forms_deserializing.specs.Reading.{reads_as};
-ghost use Rattle.archive_forms_deserializing.specs.Steps.{StepTakes, StepReads};
+ghost use Rattle.archive_shape.specs.ShapeLayout.Shape.Shape.{table, tuple};
+ghost use Rattle.archive_shape.specs.ShapeLayout.Shape.Shapes.{no_shapes};
+ghost use Rattle.archive_forms_values.specs.Tuples.{tuple2};
+ghost use Rattle.archive_forms_laws.specs.Fields.{unit_spelling};
+ghost use Rattle.archive_forms_values.specs.Parts.{HasValue, both};
+ghost use Rattle.archive_forms.specs.Deserializing.{Deserializes, DeserializesBy};
+ghost use Rattle.archive_forms.specs.Reading.{reads_as};
+ghost use Rattle.archive_forms.specs.Steps.{StepTakes, StepReads};
 ghost use Rattle.archive_hash_maps.specs.Sets.{HasSet};
 ghost use Rattle.archive_hash.specs.Owned.{key_entries};
 ghost use Rattle.archive_hash.specs.ReadBack.{reads_map};
 
 use crate::OwnedHashSet;
-use crate::deserialize::deserialize_part;
-use archive_forms_deserializing::{Deserialize, ReadBack};
+use archive_forms::{Deserialize, ReadBack, deserialize_element};
 use archive_forms_writing::Archive;
-use archive_hash_maps::ArchivedHashSet;
-use archive_hash_reading::ArchivedHashMap;
+use archive_hash_maps::{ArchivedHashMap, ArchivedHashSet};
 use archive_shape::{Error, Ref};
 use std::alloc::Global;
 use std::collections::HashSet;
 use std::hash::Hash;
 use std::marker::PhantomData;
 
-/// Reads a set back, whose keys a step reads. They are inserted by ascending place. The archive of a set that was checked may
-/// have equal keys, of which the first one stays.
+/// Reads a set back, whose keys are read by `read_key`. They are inserted by ascending place. The archive of a set that
+/// was checked may have equal keys. The set then has the first of them. `OutOfMemory` if an insertion fails.
 pub fn deserialize_hash_set_each<
     K: Archive + Eq + Hash + Drop,
     A: ReadBack<K>,
@@ -81,7 +79,7 @@ impl<K: Archive + Eq + Hash + Drop, H, D, A: Deserialize<K, D>> Deserialize<Owne
             |d: &mut D, pos: usize| -> Result<(K, PhantomData<K::Archived>), Error>
                 requires { HasValue A.shape A.knows bytes.now pos }
                 ensures { DeserializesBy A.reads A.shape A.knows bytes.entry.now pos (λ q. q.0) result }
-            { deserialize_part::<K, A, D>(bytes, pos, alloc, d) },
+            { deserialize_element::<K, A, D>(bytes, pos, alloc, d) },
         )
     }
 }

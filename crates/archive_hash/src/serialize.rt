@@ -1,23 +1,23 @@
-//! Maps of std are written as hash tables.
+//! Writes maps of std as hash tables.
 ghost use Rattle.std.specs.Prelude.{◌≡◌, ◌-◌, ◌^◌, ◌<◌, All, length};
 ghost use Rattle.std.specs.Map.Iter.{TakesFirst, deref_pair};
-ghost use Rattle.archive_forms_spelling.specs.Forms.{seen_as};
-ghost use Rattle.archive_forms_spelling.specs.Serializing.{HasState, Serializes};
-ghost use Rattle.archive_hash_keys.specs.Inputs.{input_hash};
+ghost use Rattle.archive_forms_laws.specs.Forms.{seen_as};
+ghost use Rattle.archive_forms_laws.specs.Serializing.{HasState, Serializes};
+ghost use Rattle.archive_hash_probing.specs.Inputs.{input_hash};
 ghost use Rattle.archive_hash.specs.Given.{TakesGiven};
 ghost use Rattle.archive_hash.specs.Owned.{entries_spelling};
 
 use crate::entries::serialize_entries_scan_each;
 use crate::map::{LOAD_FACTOR, OwnedHashMap};
-use archive_btree_writing::{EntryStep, SerializeEntry};
+use archive_forms_borrowed::{EntryStep, SerializeEntry};
 use archive_forms_writing::{Archive, Serialize};
-use archive_hash_reading::HashTableResolver;
-use archive_hash_scanning::{Group, Scan};
+use archive_hash_maps::HashTableResolver;
+use archive_hash_probing::{Group, Scan};
 use archive_shape::{Allocator, Error, Writer};
 use std::collections::hash_map::Iter;
 use std::hash::Hash;
 
-/// Writes the hash table of the entries of a map that are left, the data of which a step writes.
+/// Writes the hash table of the entries of a map that are left, whose data `step` writes.
 fn serialize_rest_scan_each<
     'a,
     G: Scan,
@@ -40,8 +40,8 @@ fn serialize_rest_scan_each<
     serialize_entries_scan_each::<G, K, V, S, _, C>(len, pairs, LOAD_FACTOR, serializer, step)
 }
 
-/// Writes the hash table of a map, the data of whose entries a step writes, by ascending place. The scan decides how fast places
-/// are found, and not which.
+/// Writes the hash table of a map. `step` writes the data of its entries, by ascending place. The scan `G` decides how
+/// fast places are found, and not which places.
 pub fn serialize_map_scan_each<
     G: Scan,
     K: Archive + Eq + Hash,

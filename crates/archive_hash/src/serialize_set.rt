@@ -1,29 +1,29 @@
-//! Sets of std are written as hash tables.
+//! Writes sets of std as hash tables.
 ghost use Rattle.std.specs.Prelude.{◌≡◌, ◌-◌, ◌^◌, ◌<◌, All, length};
 ghost use Rattle.std.specs.Iterator.{at_most};
 ghost use Rattle.std.specs.Map.Iter.{TakesFirst, deref_pair};
-ghost use Rattle.archive_shape_layout.specs.Shape.Shape.{tuple};
-ghost use Rattle.archive_shape_layout.specs.Shape.Shapes.{no_shapes};
-ghost use Rattle.archive_forms_spelling.specs.Fields.{unit_spelling};
-ghost use Rattle.archive_forms_spelling.specs.Forms.{seen_as};
-ghost use Rattle.archive_forms_spelling.specs.Serializing.{HasState, Serializes};
-ghost use Rattle.archive_hash_keys.specs.Inputs.{input_hash};
+ghost use Rattle.archive_shape.specs.ShapeLayout.Shape.Shape.{tuple};
+ghost use Rattle.archive_shape.specs.ShapeLayout.Shape.Shapes.{no_shapes};
+ghost use Rattle.archive_forms_laws.specs.Fields.{unit_spelling};
+ghost use Rattle.archive_forms_laws.specs.Forms.{seen_as};
+ghost use Rattle.archive_forms_laws.specs.Serializing.{HasState, Serializes};
+ghost use Rattle.archive_hash_probing.specs.Inputs.{input_hash};
 ghost use Rattle.archive_hash.specs.Given.{TakesGiven};
 ghost use Rattle.archive_hash.specs.Owned.{entries_spelling, key_entries};
 
 use crate::OwnedHashSet;
 use crate::entries::serialize_entries_scan_each;
 use crate::map::LOAD_FACTOR;
-use archive_btree_writing::{EntryStep, SerializeEntry};
+use archive_forms_borrowed::{EntryStep, SerializeEntry};
 use archive_forms_writing::{Archive, Serialize};
-use archive_hash_reading::HashTableResolver;
-use archive_hash_scanning::{Group, Scan};
+use archive_hash_maps::HashTableResolver;
+use archive_hash_probing::{Group, Scan};
 use archive_shape::{Allocator, Error, Writer};
 use std::collections::hash_set::Iter;
 use std::hash::Hash;
 use std::marker::Model;
 
-/// The keys of a set that are left, each beside `()`. They are seen as entries.
+/// An iterator over the keys of a set that are left, each with `()` as its value. Its view is a list of entries.
 #[derive(Drop)]
 struct KeyEntries<'a, K> {
     keys: Iter<'a, K>,
@@ -57,7 +57,7 @@ impl<'a, K> Iterator for KeyEntries<'a, K> {
     }
 }
 
-/// Writes the hash table of the keys of a set that are left, the data of which a step writes.
+/// Writes the hash table of the keys of a set that are left, whose data `step` writes.
 fn serialize_keys_scan_each<
     'a,
     G: Scan,
@@ -79,8 +79,8 @@ fn serialize_keys_scan_each<
     serialize_entries_scan_each::<G, K, (), S, _, C>(len, entries, LOAD_FACTOR, serializer, step)
 }
 
-/// Writes the hash table of a set, the data of whose keys a step writes, each beside `()`, by ascending place. The scan decides
-/// how fast places are found, and not which.
+/// Writes the hash table of a set. `step` writes the data of its keys, each with `()` as its value, by ascending place.
+/// The scan `G` decides how fast places are found, and not which places.
 pub fn serialize_set_scan_each<
     G: Scan,
     K: Archive + Eq + Hash,

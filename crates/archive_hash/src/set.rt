@@ -1,4 +1,4 @@
-//! Sets of std.
+//! Sets of std that are archived.
 
 use std::collections::HashSet;
 use std::hash::Hash;

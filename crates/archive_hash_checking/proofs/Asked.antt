@@ -1,8 +1,8 @@
 -- What is left of a list of questions decides it.
 use Rattle.std.proofs.Common.{◌≡◌, List, [], ◌∷◌, ◌++◌, refl, sym, subst}
-use Rattle.archive_shape_checking.specs.Range.{Range}
-use Rattle.archive_shape_checking.specs.Questions.{Question, IsAnswered, AreAnswered, FirstUnanswered, refusal_of}
-use Rattle.archive_shape_checking.specs.Questions.FirstUnanswered.{unanswered_here, unanswered_later}
+use Rattle.archive_shape.specs.Range.{Range}
+use Rattle.archive_shape.specs.Questions.{Question, IsAnswered, AreAnswered, FirstUnanswered, refusal_of}
+use Rattle.archive_shape.specs.Questions.FirstUnanswered.{unanswered_here, unanswered_later}
 use Rattle.archive_shape_writing.specs.declared.error.Error.{Error}
 
 pub record Decides (range : Range) (whole rest : List Question) : Type 0 where
@@ -15,7 +15,7 @@ all_asked range whole rest same = record {
   refused = λ e. subst (FirstUnanswered range e) same;
 }
 
--- those behind, where the first ones are answered
+-- those after them, where the first ones are answered
 pub behind_answered : (range : Range) (xs ys : List Question) → AreAnswered range xs → Decides range (xs ++ ys) ys
 behind_answered range [] ys h = all_asked range ys ys refl
 behind_answered range (q ∷ xs) ys h =

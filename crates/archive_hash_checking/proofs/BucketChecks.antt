@@ -4,14 +4,14 @@ use Rattle.std.specs.Prelude.{MatchResult}
 use Rattle.std.proofs.lemmas.Bool.{le-leb, leb-true}
 use Rattle.archive_shape_layout.specs.Shape.{Shape, size_of, align_of}
 use Rattle.archive_shape_layout.specs.Content.{item, control_count, buckets_span}
-use Rattle.archive_shape_checking.specs.Range.{Range}
-use Rattle.archive_shape_checking.specs.Questions.{FirstUnanswered}
-use Rattle.archive_shape_checking.specs.Questions.FirstUnanswered.{unanswered_here, unanswered_later}
-use Rattle.archive_shape_checking.specs.Kept.{Kept, range_of}
-use Rattle.archive_shape_checking.specs.declared.context.PushedRange.{PushedRange}
+use Rattle.archive_shape.specs.Range.{Range}
+use Rattle.archive_shape.specs.Questions.{FirstUnanswered}
+use Rattle.archive_shape.specs.Questions.FirstUnanswered.{unanswered_here, unanswered_later}
+use Rattle.archive_shape.specs.Kept.{Kept, range_of}
+use Rattle.archive_shape.specs.declared.checking.context.PushedRange.{PushedRange}
 use Rattle.archive_shape_writing.specs.declared.error.Error.{Error}
 use Rattle.archive_shape_writing.specs.declared.error.Error.TheVariants.{OutOfMemory, InvalidSubtreePointer}
-use Rattle.archive_btree_checking.proofs.Claiming.{ClaimOutcome}
+use Rattle.archive_forms_values.proofs.Claiming.{ClaimOutcome}
 use Rattle.archive_hash_checking.specs.Buckets.{AreClaimed, claim_of_buckets}
 
 module _ (target cap : ℕ) (s : Shape) where
@@ -34,7 +34,7 @@ module _ (target cap : ℕ) (s : Shape) where
   unfolding buckets_span
   span_is start align e f = rw (e, f) refl
 
-  -- by the answers of a context, of which one was asked with sizes that stop at `usize::MAX`
+  -- by the results of a context, one of which is for sizes that are at most `usize::MAX`
   pub buckets_claimed :
       (k l : Kept) (result : Result PushedRange Error) (below align : ℕ)
       → below ≡ min (cap * size_of s) (2 ^ 64 - 1) → below ≤ target → target < 2 ^ 64 - 1 → align ≡ align_of s

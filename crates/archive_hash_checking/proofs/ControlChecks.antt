@@ -4,10 +4,10 @@ use Rattle.std.specs.Prelude.{slice_index, MatchResult}
 use Rattle.std.proofs.lemmas.Bool.{lt-ltb, le-ltb, eq-eqb, eqb-true}
 use Rattle.std.proofs.lemmas.List.{drop_more, drop_all}
 use Rattle.archive_shape_layout.specs.Content.{wraps}
-use Rattle.archive_shape_checking.specs.Range.{Range}
-use Rattle.archive_shape_checking.specs.Questions.{Question, AreAnswered, FirstUnanswered, questions_of_controls}
-use Rattle.archive_shape_checking.specs.Questions.Question.{test}
-use Rattle.archive_shape_checking.specs.Questions.FirstUnanswered.{unanswered_here}
+use Rattle.archive_shape.specs.Range.{Range}
+use Rattle.archive_shape.specs.Questions.{Question, AreAnswered, FirstUnanswered, questions_of_controls}
+use Rattle.archive_shape.specs.Questions.Question.{test}
+use Rattle.archive_shape.specs.Questions.FirstUnanswered.{unanswered_here}
 use Rattle.archive_shape_writing.specs.declared.error.Error.{Error}
 use Rattle.archive_shape_writing.specs.declared.error.Error.TheVariants.{UnwrappedControlByte, WrongNumberOfElements}
 use Rattle.archive_hash_checking.specs.Buckets.{questions_of_tags}

@@ -5,22 +5,22 @@ use Rattle.std.proofs.lemmas.Bool.{ne_eqb, lt-ltb, ltb-true}
 use Rattle.std.proofs.lemmas.Bool.Decides.{nat_tests}
 use Rattle.archive_shape_layout.specs.Bytes.{window, word_at, target_from}
 use Rattle.archive_shape_layout.specs.Content.{Item, item_size, control_count, buckets_span}
-use Rattle.archive_shape_checking.specs.Range.{Range}
-use Rattle.archive_shape_checking.specs.Questions.{FirstUnanswered, questions_of_table}
-use Rattle.archive_shape_checking.specs.Questions.FirstUnanswered.{unanswered_here, unanswered_later}
+use Rattle.archive_shape.specs.Range.{Range}
+use Rattle.archive_shape.specs.Questions.{FirstUnanswered, questions_of_table}
+use Rattle.archive_shape.specs.Questions.FirstUnanswered.{unanswered_here, unanswered_later}
 use Rattle.archive_shape_writing.specs.declared.error.Error.TheVariants.{InvalidSubtreePointer, TableLength}
-use Rattle.archive_shape_checking.proofs.Questions.{leads_nowhere}
-use Rattle.archive_forms_checking.proofs.Targets.{first_word}
-use Rattle.archive_btree_layout.proofs.Contents.{word_within}
+use Rattle.archive_shape.proofs.Questions.{leads_nowhere}
+use Rattle.archive_forms_values.proofs.Targets.{first_word}
+use Rattle.archive_shape_layout.proofs.Windows.{word_within}
 use Rattle.archive_hash_checking.specs.Heads.{HasHead}
 use Rattle.archive_hash_checking.specs.declared.head.TableHead.{TableHead}
 
--- an offset leads no further than half the words
+-- an offset leads at most half the words away
 pub leads_near : (pos word t : ℕ) → target_from pos word ≡ Some t → t < pos + 2 ^ 31
 unfolding target_from
 leads_near pos word t leads = grind (arith, nat_tests)
 
--- in a type of so many bytes, which begins with a table's
+-- in a type of `size` bytes, which begins with a table's
 module _ (bytes : List ℕ) (pos size : ℕ) (long : 12 ≤ size) where
   pub own_len : word_at (window bytes pos size) 4 ≡ word_at bytes (pos + 4)
   own_len = word_within bytes pos size 4 (omega arith)

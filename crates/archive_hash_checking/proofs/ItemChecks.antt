@@ -6,9 +6,9 @@ use Rattle.std.proofs.lemmas.List.{drop_more, drop_all}
 use Rattle.std.proofs.Math.Nat.{mul-le-mul_right}
 use Rattle.archive_shape_layout.specs.Content.{Names, Part, Item, item_size, item_part, tagged_items}
 use Rattle.archive_shape_layout.specs.Holds.{Visit, OpenShared}
-use Rattle.archive_shape_checking.specs.Kept.{Kept, Records}
-use Rattle.archive_shape_checking.specs.Checks.{Checks}
-use Rattle.archive_shape_checking.proofs.Ordered.{Left, one_less, checked_records}
+use Rattle.archive_shape.specs.Kept.{Kept, Records}
+use Rattle.archive_shape.specs.Checks.{Checks}
+use Rattle.archive_shape.proofs.Ordered.{Left, one_less, checked_records}
 
 -- the bucket of place i ends where the buckets before it begin
 pub record BucketBelow (i size target bucket : ℕ) : Type 0 where

@@ -1,8 +1,10 @@
 pub mod Asked
-pub mod ControlChecks
-pub mod ItemChecks
 pub mod BucketChecks
-pub mod TableParts
+pub mod ControlChecks
 pub mod HeadChecks
-pub mod TableChecks
+pub mod ItemChecks
 pub mod NumberChecks
+pub mod TableChecks
+pub mod TableParts
+pub use Rattle.archive_forms_values.proofs.FormsLaws as FormsLaws
+pub use Rattle.archive_forms_values.proofs as FormsValues

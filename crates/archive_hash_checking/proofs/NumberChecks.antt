@@ -10,18 +10,18 @@ use Rattle.archive_shape_layout.specs.Content.{Names, content_of, made, item, pl
 use Rattle.archive_shape_layout.specs.Content.Part.{place_at}
 use Rattle.archive_shape_layout.specs.Content.Label.{leaf}
 use Rattle.archive_shape_layout.specs.Content.Content.{plain}
-use Rattle.archive_shape_checking.specs.Range.{Range}
-use Rattle.archive_shape_checking.specs.Questions.{FirstUnanswered}
-use Rattle.archive_shape_checking.specs.Questions.FirstUnanswered.{unanswered_here}
-use Rattle.archive_shape_checking.specs.PartFault.PartFault.{fault_unanswered}
-use Rattle.archive_shape_checking.specs.Kept.{Kept}
-use Rattle.archive_shape_checking.specs.Checks.{Checks}
-use Rattle.archive_shape_checking.specs.declared.context.PushedRange.{PushedRange}
+use Rattle.archive_shape.specs.Range.{Range}
+use Rattle.archive_shape.specs.Questions.{FirstUnanswered}
+use Rattle.archive_shape.specs.Questions.FirstUnanswered.{unanswered_here}
+use Rattle.archive_shape.specs.PartFault.PartFault.{fault_unanswered}
+use Rattle.archive_shape.specs.Kept.{Kept}
+use Rattle.archive_shape.specs.Checks.{Checks}
+use Rattle.archive_shape.specs.declared.checking.context.PushedRange.{PushedRange}
 use Rattle.archive_shape_writing.specs.declared.error.Error.{Error}
 use Rattle.archive_shape_writing.specs.declared.error.Error.TheVariants.{InvalidPlace}
-use Rattle.archive_shape_checking.proofs.Leaves.{alone_checked}
-use Rattle.archive_btree_layout.proofs.Contents.{word_of}
-use Rattle.archive_btree_checking.proofs.NodeContents.{chosen}
+use Rattle.archive_shape.proofs.Leaves.{alone_checked}
+use Rattle.archive_shape_layout.proofs.Windows.{word_of}
+use Rattle.archive_forms_values.proofs.Chosen.{chosen}
 use Rattle.archive_hash_checking.specs.Buckets.{AreClaimed, claim_of_buckets}
 
 module _ (names : Names) (bytes : List ℕ) (pos limit : ℕ) (kept : Kept) where

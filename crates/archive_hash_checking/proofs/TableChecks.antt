@@ -8,16 +8,16 @@ use Rattle.archive_shape_layout.specs.Content.{Names, content_of, made, item, sh
 use Rattle.archive_shape_layout.specs.Content.Part.{at, buckets}
 use Rattle.archive_shape_layout.specs.Content.Label.{same, whole}
 use Rattle.archive_shape_layout.specs.Content.Content.{plain}
-use Rattle.archive_shape_checking.specs.Questions.{FirstUnanswered, questions_of_table}
-use Rattle.archive_shape_checking.specs.PartFault.PartFault.{fault_unanswered}
-use Rattle.archive_shape_checking.specs.Kept.{Kept, range_of}
-use Rattle.archive_shape_checking.specs.Checks.{Checks}
+use Rattle.archive_shape.specs.Questions.{FirstUnanswered, questions_of_table}
+use Rattle.archive_shape.specs.PartFault.PartFault.{fault_unanswered}
+use Rattle.archive_shape.specs.Kept.{Kept, range_of}
+use Rattle.archive_shape.specs.Checks.{Checks}
 use Rattle.archive_shape_writing.specs.declared.error.Error.{Error}
-use Rattle.archive_shape_checking.proofs.Below.{below_checked}
-use Rattle.archive_shape_checking.proofs.Ordered.{none_checked}
-use Rattle.archive_shape_checking.proofs.Wholes.{whole_checked}
-use Rattle.archive_forms_layout.proofs.TextContent.{followed}
-use Rattle.archive_btree_checking.proofs.NodeContents.{chosen, not_chosen}
+use Rattle.archive_shape.proofs.Below.{below_checked}
+use Rattle.archive_shape.proofs.Ordered.{none_checked}
+use Rattle.archive_shape.proofs.Wholes.{whole_checked}
+use Rattle.archive_forms_values.proofs.FormsLaws.TextContent.{followed}
+use Rattle.archive_forms_values.proofs.Chosen.{chosen, not_chosen}
 use Rattle.archive_hash_checking.specs.Heads.{HasHead}
 use Rattle.archive_hash_checking.specs.declared.head.TableHead.{TableHead}
 use Rattle.archive_hash_checking.proofs.HeadChecks.{own_len, own_cap, own_target, some_own, less_own}

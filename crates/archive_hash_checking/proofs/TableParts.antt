@@ -8,17 +8,17 @@ use Rattle.archive_shape_layout.specs.Content.Part.{buckets}
 use Rattle.archive_shape_layout.specs.Content.Label.{whole}
 use Rattle.archive_shape_layout.specs.Content.Content.{claimed}
 use Rattle.archive_shape_layout.proofs.Framed.{le_align_up}
-use Rattle.archive_shape_checking.specs.Questions.{AreAnswered, FirstUnanswered, questions_of, questions_of_controls}
-use Rattle.archive_shape_checking.specs.PartFault.PartFault.{fault_unanswered}
-use Rattle.archive_shape_checking.specs.Kept.{Kept, range_of, popped, Advances, IsWithin}
-use Rattle.archive_shape_checking.specs.Checks.{Checks, ChecksAll}
-use Rattle.archive_shape_checking.specs.Steps.{Narrower}
-use Rattle.archive_shape_checking.specs.declared.context.PushedRange.{PushedRange}
+use Rattle.archive_shape.specs.Questions.{AreAnswered, FirstUnanswered, questions_of, questions_of_controls}
+use Rattle.archive_shape.specs.PartFault.PartFault.{fault_unanswered}
+use Rattle.archive_shape.specs.Kept.{Kept, range_of, popped, Advances, IsWithin}
+use Rattle.archive_shape.specs.Checks.{Checks, ChecksAll}
+use Rattle.archive_shape.specs.Steps.{Narrower}
+use Rattle.archive_shape.specs.declared.checking.context.PushedRange.{PushedRange}
 use Rattle.archive_shape_writing.specs.declared.error.Error.{Error}
 use Rattle.archive_shape_writing.specs.declared.error.Error.TheVariants.{OutOfMemory}
-use Rattle.archive_forms_checking.proofs.Claimed.{pushed_fits, pushed_within, pushed_narrow, pushed_records, one_of_elements}
-use Rattle.archive_btree_checking.proofs.Claiming.{pushes_of, fault_inside, accepted_inside}
-use Rattle.archive_btree_checking.proofs.NodeContents.{chosen}
+use Rattle.archive_forms_values.proofs.Claimed.{pushed_fits, pushed_within, pushed_narrow, pushed_records, one_of_elements}
+use Rattle.archive_forms_values.proofs.Claiming.{pushes_of, fault_inside, accepted_inside}
+use Rattle.archive_forms_values.proofs.Chosen.{chosen}
 use Rattle.archive_hash_checking.specs.Buckets.{AreClaimed, claim_of_buckets, questions_of_tags}
 use Rattle.archive_hash_checking.proofs.Asked.{Decides, behind_answered, both_answered, refused_before}
 use Rattle.archive_hash_checking.proofs.ControlChecks.{controls_wrap}

@@ -1,12 +1,12 @@
--- What is asked of a table's buckets and controls: their claim, and then the controls.
+-- The questions about a table's buckets and controls: their claim, and then the controls.
 use Rattle.std.specs.Prelude.{ℕ, ◌*◌, ◌≤◌, nat_lt, nat_le, ◌==◌, List, [], ◌∷◌, ◌++◌, take, count_by}
 use Rattle.archive_shape_layout.specs.Content.{Item, item_size, buckets_span}
-use Rattle.archive_shape_checking.specs.Questions.{Question, claim, out_of_range, questions_of_controls}
-use Rattle.archive_shape_checking.specs.Questions.Question.{test}
-use Rattle.archive_shape_checking.specs.Kept.{Kept}
-use Rattle.archive_shape_checking.specs.declared.context.PushedRange.{PushedRange}
+use Rattle.archive_shape.specs.Questions.{Question, claim, out_of_range, questions_of_controls}
+use Rattle.archive_shape.specs.Questions.Question.{test}
+use Rattle.archive_shape.specs.Kept.{Kept}
+use Rattle.archive_shape.specs.declared.checking.context.PushedRange.{PushedRange}
 use Rattle.archive_shape_writing.specs.declared.error.Error.TheVariants.{WrongNumberOfElements}
-use Rattle.archive_btree_checking.specs.Nodes.{IsClaimed}
+use Rattle.archive_forms_values.specs.Claims.{IsClaimed}
 
 -- the buckets begin at a position, and the region may be claimed
 abbrev pub claim_of_buckets : (target cap : ℕ) → Item → List Question
@@ -18,7 +18,7 @@ pub record AreClaimed (target cap : ℕ) (it : Item) (old : Kept) (r : PushedRan
   pub below : cap * item_size it ≤ target
   pub claimed : IsClaimed old (buckets_span target cap it) r new
 
--- the controls from the capacity on are as they have to be, and as many of those before are tags as there are items
+-- the controls from the capacity on are as required, and the number of tags among those before is that of the items
 abbrev pub questions_of_tags : (len cap : ℕ) → List ℕ → List Question
 questions_of_tags len cap controls =
     let tags = count_by (λ c. nat_lt c 128) (take cap controls) in

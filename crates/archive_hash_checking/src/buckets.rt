@@ -2,20 +2,19 @@
 ghost use Rattle.std.specs.Prelude.{◌≡◌, ◌≢◌, ℕ, ◌+◌, ◌-◌, ◌^◌, ◌<◌, ◌≤◌, length, MatchResult};
 ghost use Rattle.archive_shape_layout.specs.Content.{Names, item};
 ghost use Rattle.archive_shape_layout.specs.Content.Part.{buckets};
-ghost use Rattle.archive_shape_checking.specs.Questions.{FirstUnanswered};
-ghost use Rattle.archive_shape_checking.specs.Kept.{IsWithin, range_of};
-ghost use Rattle.archive_shape_checking.specs.Checks.{Checks, Moves};
-ghost use Rattle.archive_shape_checking.specs.Steps.{StepTakes, StepChecks};
+ghost use Rattle.archive_shape.specs.Questions.{FirstUnanswered};
+ghost use Rattle.archive_shape.specs.Kept.{IsWithin, range_of};
+ghost use Rattle.archive_shape.specs.Checks.{Checks, Moves};
+ghost use Rattle.archive_shape.specs.Steps.{StepTakes, StepChecks};
 ghost use Rattle.archive_shape_writing.specs.declared.error.Error.TheVariants.{OutOfMemory};
 ghost use Rattle.archive_hash_checking.specs.Buckets.{AreClaimed, claim_of_buckets};
 
 use crate::controls::{check_tags, controls_at};
 use crate::items::check_items;
 use crate::sizes::{buckets_size, table_size};
-use archive_shape_checking::{ArchiveContext, Error, PushedRange};
-use archive_shape_portable::Portable;
+use archive_shape::{ArchiveContext, Error, Portable, PushedRange};
 
-/// Claims the buckets below `target` and the controls from there on, so that what is claimed next lies before them.
+/// Claims the buckets below `target` and the controls from there on. What is claimed next lies before them.
 pub(crate) fn claim_buckets<T: Portable, C: ArchiveContext>(
     target: usize,
     capacity: usize,
@@ -38,11 +37,12 @@ pub(crate) fn claim_buckets<T: Portable, C: ArchiveContext>(
     context.push_subtree_range(start, start + size)
 }
 
-/// Checks the buckets below `target` and the controls from there on, which have `len` items in `capacity` places.
+/// Checks the buckets below `target` and the controls from there on, of a table that has `len` items in `capacity`
+/// places.
 ///
-/// Refuses buckets that begin before the first byte as `InvalidSubtreePointer`, and what a claim refuses; then the first
-/// control from the capacity on that does not repeat, another number of items as `WrongNumberOfElements`, and what the
-/// items are refused for, by ascending places.
+/// Returns `InvalidSubtreePointer` if the buckets begin before the first byte, or the error of the claim; then
+/// `UnwrappedControlByte` for the first control from the capacity on that does not repeat, `WrongNumberOfElements` for
+/// another number of items, and the first error of the items, by ascending places.
 pub(crate) fn check_buckets<
     T: Portable,
     C: ArchiveContext,

@@ -2,14 +2,14 @@
 ghost use Rattle.std.specs.Prelude.{◌≡◌, ◌+◌, ◌-◌, ◌*◌, ◌^◌, ◌<◌, ◌≤◌, ◌==◌, nat_lt, nat_le, cond, length, slice_index, count_by, MatchResult};
 ghost use Rattle.archive_shape_layout.specs.Bytes.{window};
 ghost use Rattle.archive_shape_layout.specs.Content.{control_count};
-ghost use Rattle.archive_shape_checking.specs.Range.{Range};
-ghost use Rattle.archive_shape_checking.specs.Questions.{AreAnswered, FirstUnanswered, questions_of_controls};
+ghost use Rattle.archive_shape.specs.Range.{Range};
+ghost use Rattle.archive_shape.specs.Questions.{AreAnswered, FirstUnanswered, questions_of_controls};
 ghost use Rattle.archive_hash_checking.specs.Buckets.{questions_of_tags};
 
 use crate::sizes::control_count;
-use archive_shape_checking::Error;
+use archive_shape::Error;
 
-/// The controls of a table of so many places, the first of which stands at `target`.
+/// Returns the controls of a table of `capacity` places, the first of which lies at `target`.
 pub fn controls_at(bytes: &[u8], target: usize, capacity: usize) -> &[u8]
     requires small { capacity < 2 ^ 32 }
     requires fits { target + control_count capacity ≤ length bytes.now }
@@ -19,8 +19,8 @@ pub fn controls_at(bytes: &[u8], target: usize, capacity: usize) -> &[u8]
     &bytes[target..target + control_count(capacity)]
 }
 
-/// Whether a control from the capacity on is as it has to be: it repeats the one a capacity before, and from twice the
-/// capacity on it is empty.
+/// Returns `true` if a control from the capacity on is as required: it repeats the one `capacity` before it, and from
+/// twice the capacity on it is empty.
 fn is_wrapped(controls: &[u8], capacity: usize, index: usize) -> bool
     requires beyond { capacity ≤ index }
     requires within { index < length controls.now }
@@ -35,7 +35,7 @@ fn is_wrapped(controls: &[u8], capacity: usize, index: usize) -> bool
     }
 }
 
-/// Refuses the first control from the capacity on that is not as it has to be, as `UnwrappedControlByte`.
+/// Checks the controls from the capacity on. Returns `UnwrappedControlByte` for the first that is not as required.
 fn check_controls(controls: &[u8], capacity: usize) -> Result<(), Error>
     requires { capacity ≤ length controls.now }
     ensures { (range : Range) → MatchResult result
@@ -50,15 +50,15 @@ fn check_controls(controls: &[u8], capacity: usize) -> Result<(), Error>
     Ok(())
 }
 
-/// How many controls are tags.
+/// Returns the number of controls that are tags.
 fn count_tags(controls: &[u8]) -> usize
     ensures { result ≡ count_by (λ c. nat_lt c 128) controls.now }
 {
     controls.iter().filter(|control| **control < 128).count()
 }
 
-/// Refuses the controls of a table of so many items, first as `check_controls` does, and then another number of tags below the
-/// capacity as `WrongNumberOfElements`.
+/// Checks the controls of a table of `len` items: first as `check_controls` does, and then the number of tags below the
+/// capacity. Returns `WrongNumberOfElements` if it is not `len`.
 pub(crate) fn check_tags(controls: &[u8], capacity: usize, len: usize) -> Result<(), Error>
     requires { capacity ≤ length controls.now }
     ensures { (range : Range) → MatchResult result

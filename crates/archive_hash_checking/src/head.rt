@@ -1,32 +1,31 @@
-//! What the own bytes of a table say.
+//! The own bytes of a table, and what they encode.
 ghost use Rattle.std.specs.Prelude.{◌≡◌, ℕ, ◌+◌, ◌-◌, ◌*◌, ◌^◌, ◌≤◌, min, length, MatchResult, MatchOption};
 ghost use Rattle.archive_shape_layout.specs.Bytes.{window, word_at};
 ghost use Rattle.archive_shape_layout.specs.Content.{item};
-ghost use Rattle.archive_shape_checking.specs.Range.{Range};
-ghost use Rattle.archive_shape_checking.specs.Questions.{FirstUnanswered, questions_of_table};
+ghost use Rattle.archive_shape.specs.Range.{Range};
+ghost use Rattle.archive_shape.specs.Questions.{FirstUnanswered, questions_of_table};
 ghost use Rattle.archive_hash_checking.specs.Heads.{HasHead};
 
 use crate::sizes::table_size;
-use crate::words::{target, word};
-use archive_shape_checking::Error;
-use archive_shape_portable::Portable;
+use archive_forms_values::{read_target, read_word};
+use archive_shape::{Error, Portable};
 
-/// What the own bytes of a table with items say.
+/// What the own bytes of a table with items encode.
 #[derive(Clone, Copy, Debug, PartialEq, Eq)]
 pub struct TableHead {
-    /// How many items there are.
+    /// The number of items.
     pub len: usize,
-    /// How many places there are.
+    /// The number of places.
     pub capacity: usize,
-    /// Where the controls begin.
+    /// The position of the first control.
     pub controls: usize,
 }
 
-/// Reads the twelve bytes at `pos` of a table of items with the size of `T`. Where there are no items, there is nothing else
-/// to look at.
+/// Reads the twelve bytes at `pos` of a table of items with the size of `T`. Returns `None` if there are no items: then
+/// the other bytes are not read.
 ///
-/// Refuses as many items as places, or more, as `TableLength`, and then controls before the first byte as
-/// `InvalidSubtreePointer` with the size of all buckets and controls.
+/// Returns `TableLength` if there are as many items as places or more, and then `InvalidSubtreePointer`, with the size
+/// of all buckets and controls, if the controls begin before the first byte.
 pub fn check_head<T: Portable>(bytes: &[u8], pos: usize) -> Result<Option<TableHead>, Error>
     requires { pos + 12 ≤ length bytes.now }
     ensures { MatchResult result
@@ -34,15 +33,15 @@ pub fn check_head<T: Portable>(bytes: &[u8], pos: usize) -> Result<Option<TableH
         (λ e. (range : Range) (size : ℕ) → 12 ≤ size → FirstUnanswered range e (questions_of_table pos (window bytes.now pos size) (item T.shape))) }
 {
     let _len = bytes.len();
-    let len = word(bytes, pos + 4) as usize;
+    let len = read_word(bytes, pos + 4) as usize;
     if len == 0 {
         return Ok(None);
     }
-    let capacity = word(bytes, pos + 8) as usize;
+    let capacity = read_word(bytes, pos + 8) as usize;
     if len >= capacity {
         return Err(Error::TableLength { len, cap: capacity });
     }
-    let Some(controls) = target(bytes, pos) else {
+    let Some(controls) = read_target(bytes, pos) else {
         return Err(Error::InvalidSubtreePointer {
             size: table_size::<T>(capacity),
         });

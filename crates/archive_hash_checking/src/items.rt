@@ -2,14 +2,14 @@
 ghost use Rattle.std.specs.Prelude.{ℕ, ◌+◌, ◌*◌, ◌≤◌, length};
 ghost use Rattle.archive_shape_layout.specs.Shape.{size_of};
 ghost use Rattle.archive_shape_layout.specs.Content.{Names, item, tagged_items};
-ghost use Rattle.archive_shape_checking.specs.Kept.{IsWithin};
-ghost use Rattle.archive_shape_checking.specs.Checks.{ChecksAll, Moves};
-ghost use Rattle.archive_shape_checking.specs.Steps.{StepTakes, StepChecks};
+ghost use Rattle.archive_shape.specs.Kept.{IsWithin};
+ghost use Rattle.archive_shape.specs.Checks.{ChecksAll, Moves};
+ghost use Rattle.archive_shape.specs.Steps.{StepTakes, StepChecks};
 
-use archive_shape_checking::{ArchiveContext, Error};
-use archive_shape_portable::Portable;
+use archive_shape::{ArchiveContext, Error, Portable};
 
-/// Checks the items whose controls are tags, by ascending places, the first of which is the bucket right below `target`.
+/// Checks the items whose controls are tags, by ascending places. The first place is the bucket directly below
+/// `target`.
 pub(crate) fn check_items<
     T: Portable,
     C: ArchiveContext,

@@ -1,8 +1,8 @@
 //! The check of hash tables.
 //!
-//! A table is checked by a step for its items, a closure that checks one item at a position. What it has to promise is in
-//! archive_shape_checking's specs/Steps. The parts of this check are here too for a table whose items are the numbers of
-//! entries that stand elsewhere.
+//! A table is checked by a step for its items, a closure that checks one item at a position. Its contract is defined in
+//! archive_shape's specs/Steps. The parts of this check are also used for a table whose items are the numbers of
+//! entries that lie elsewhere.
 #![tactic(auto)]
 
 mod buckets;
@@ -12,7 +12,6 @@ mod items;
 mod places;
 mod sizes;
 mod table;
-mod words;
 
 pub use controls::controls_at;
 pub use head::{TableHead, check_head};

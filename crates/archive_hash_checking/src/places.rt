@@ -2,29 +2,28 @@
 ghost use Rattle.std.specs.Prelude.{ℕ, ◌+◌, ◌-◌, ◌*◌, ◌^◌, ◌<◌, ◌≤◌, length};
 ghost use Rattle.archive_shape_layout.specs.Content.{Names, place, tagged_items};
 ghost use Rattle.archive_shape_layout.specs.Content.Part.{buckets, place_at};
-ghost use Rattle.archive_shape_checking.specs.Kept.{Kept, IsWithin};
-ghost use Rattle.archive_shape_checking.specs.Checks.{Checks, ChecksAll, Moves};
+ghost use Rattle.archive_shape.specs.Kept.{Kept, IsWithin};
+ghost use Rattle.archive_shape.specs.Checks.{Checks, ChecksAll, Moves};
 
 use crate::buckets::claim_buckets;
 use crate::controls::{check_tags, controls_at};
-use crate::words::word;
-use archive_shape_checking::{ArchiveContext, Error};
-use archive_shape_portable::ArchivedU32;
+use archive_forms_values::read_word;
+use archive_shape::{ArchiveContext, ArchivedU32, Error};
 
-/// Refuses the number of an entry at `pos` that is not below a limit as `InvalidPlace`.
+/// Checks the number of an entry at `pos`. Returns `InvalidPlace` if it is not below `limit`.
 fn check_number(bytes: &[u8], pos: usize, limit: usize) -> Result<(), Error>
     requires { pos + 4 ≤ length bytes.now }
     ensures { (names : Names) (kept : Kept) → Checks names bytes.now (place_at pos limit) kept result kept }
 {
-    let number = word(bytes, pos) as usize;
+    let number = read_word(bytes, pos) as usize;
     if number >= limit {
         return Err(Error::InvalidPlace);
     }
     Ok(())
 }
 
-/// Checks the numbers of entries whose controls are tags, by ascending places, the first of which is the bucket right below
-/// `target`.
+/// Checks the numbers of entries whose controls are tags, by ascending places. The first place is the bucket directly
+/// below `target`.
 fn check_numbers(bytes: &[u8], target: usize, controls: &[u8], limit: usize) -> Result<(), Error>
     requires below { length controls.now * 4 ≤ target }
     requires fits { target ≤ length bytes.now }
@@ -40,11 +39,11 @@ fn check_numbers(bytes: &[u8], target: usize, controls: &[u8], limit: usize) -> 
     Ok(())
 }
 
-/// Checks the buckets below `target` and the controls from there on of a table that leads to `len` entries: it has as many
-/// items in `capacity` places, and each is the number of an entry, four bytes.
+/// Checks the buckets below `target` and the controls from there on, of a table that leads to `len` entries: it has
+/// `len` items in `capacity` places, and each is the number of an entry, four bytes.
 ///
-/// Refuses what `check_table_each` does of buckets and controls, and then, by ascending places, a number that is not below `len`
-/// as `InvalidPlace`. `OutOfMemory` is the context's.
+/// Returns the same errors as `check_table_each` for the buckets and the controls, and then `InvalidPlace` for the
+/// first number, by ascending places, that is not below `len`. `OutOfMemory` comes from the context.
 pub fn check_place_buckets<C: ArchiveContext>(
     bytes: &[u8],
     target: usize,

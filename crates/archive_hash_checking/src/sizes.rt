@@ -1,12 +1,13 @@
-//! How many bytes the buckets and controls of a table take.
+//! The sizes in bytes of the buckets and controls of a table.
 ghost use Rattle.std.specs.Prelude.{◌≡◌, ◌+◌, ◌*◌, ◌-◌, ◌^◌, ◌<◌, min};
 ghost use Rattle.archive_shape_layout.specs.Shape.{size_of};
 ghost use Rattle.archive_shape_layout.specs.Content.{control_count};
 
-use archive_forms_checking::next_multiple;
-use archive_shape_portable::Portable;
+use archive_forms_values::next_multiple;
+use archive_shape::Portable;
 
-/// How many controls a table of so many places has: one for each, rounded up to sixteen, and fifteen more.
+/// Returns the number of controls of a table of `capacity` places: one for each place, rounded up to a multiple of
+/// sixteen, and fifteen more.
 #[tactic(auto, unfolding(archive_shape_layout::specs::Content::control_count, archive_shape_layout::specs::Bytes::align_up))]
 pub fn control_count(capacity: usize) -> usize
     requires { capacity < 2 ^ 32 }
@@ -15,14 +16,15 @@ pub fn control_count(capacity: usize) -> usize
     next_multiple(capacity, 16) + 15
 }
 
-/// How many bytes the buckets of a table of so many places have together. It stops at `usize::MAX`.
+/// Returns the size in bytes of all buckets of a table of `capacity` places, at most `usize::MAX`.
 pub(crate) fn buckets_size<T: Portable>(capacity: usize) -> usize
     ensures { result ≡ min (capacity * size_of T.shape) (2 ^ 64 - 1) }
 {
     capacity.saturating_mul(T::SIZE)
 }
 
-/// How many bytes a table of so many places claims, its buckets and its controls. It stops at `usize::MAX`.
+/// Returns the size in bytes of the region that a table of `capacity` places claims, its buckets and its controls, at
+/// most `usize::MAX`.
 pub(crate) fn table_size<T: Portable>(capacity: usize) -> usize
     requires { capacity < 2 ^ 32 }
     ensures { result ≡ min (capacity * size_of T.shape + control_count capacity) (2 ^ 64 - 1) }

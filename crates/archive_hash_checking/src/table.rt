@@ -3,25 +3,31 @@ ghost use Rattle.std.specs.Prelude.{ℕ, ◌+◌, ◌≤◌, length};
 ghost use Rattle.archive_shape_layout.specs.Shape.Shape.{table};
 ghost use Rattle.archive_shape_layout.specs.Content.{Names};
 ghost use Rattle.archive_shape_layout.specs.Content.Part.{at};
-ghost use Rattle.archive_shape_checking.specs.Kept.{IsWithin};
-ghost use Rattle.archive_shape_checking.specs.Checks.{Checks, Moves};
-ghost use Rattle.archive_shape_checking.specs.Steps.{StepTakes, StepChecks};
+ghost use Rattle.archive_shape.specs.Kept.{IsWithin};
+ghost use Rattle.archive_shape.specs.Checks.{Checks, Moves};
+ghost use Rattle.archive_shape.specs.Steps.{StepTakes, StepChecks};
 
 use crate::buckets::check_buckets;
 use crate::head::check_head;
-use archive_shape_checking::{ArchiveContext, Error};
-use archive_shape_portable::Portable;
+use archive_shape::{ArchiveContext, Error, Portable};
 
-/// Checks the table of twelve bytes at `pos`: an offset to its controls, counted from `pos` in bytes, and how many items and
-/// how many places it has. Where there are no items, nothing else is looked at.
+/// Checks the table of twelve bytes at `pos`: an offset to its controls, in bytes from `pos`, its number of items, and
+/// its number of places. If there are no items, nothing else is checked.
 ///
-/// The buckets, which lie below the controls, and the controls are claimed together, and what the items claim lies before
-/// them. Refuses as many items as places, or more, as `TableLength`; then buckets or controls outside the range as
-/// `InvalidSubtreePointer` with the size of all, which stops at `usize::MAX`, and `Unaligned` and
-/// `ExceededMaximumSubtreeDepth`; then the first control from the capacity on that does not repeat the one a capacity before,
-/// or is not empty from twice the capacity on, as `UnwrappedControlByte`; another number of tags below the capacity than of
-/// items as `WrongNumberOfElements`; and last what the step refuses, by ascending places. `OutOfMemory` is the context's or
-/// the step's.
+/// The buckets, which lie below the controls, and the controls are claimed as one region, and the regions that the
+/// items claim lie before it.
+///
+/// The errors are, in this order:
+///
+/// - `TableLength` if there are as many items as places or more;
+/// - `InvalidSubtreePointer`, with the size of all buckets and controls (at most `usize::MAX`), if these are not in the
+///   range; then `Unaligned` and `ExceededMaximumSubtreeDepth`;
+/// - `UnwrappedControlByte` for the first control from the capacity on that does not repeat the one a capacity before
+///   it, or is not empty from twice the capacity on;
+/// - `WrongNumberOfElements` if the number of tags below the capacity is not that of the items;
+/// - the first error of the step, by ascending places.
+///
+/// `OutOfMemory` comes from the context or the step.
 pub fn check_table_each<T: Portable, C: ArchiveContext, F: Fn(&mut C, usize) -> Result<(), Error>>(
     bytes: &[u8],
     pos: usize,

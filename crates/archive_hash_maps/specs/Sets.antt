@@ -1,14 +1,14 @@
--- What the bytes of a set lead to: those of a map of its keys to `()`.
+-- What the bytes of a set represent: a map of its keys to `()`.
 use Rattle.std.specs.Prelude.{ℕ, List, ⊤}
 use Rattle.archive_shape_layout.specs.Shape.{Shape}
 use Rattle.archive_shape_layout.specs.Shape.Shape.{table, tuple}
 use Rattle.archive_shape_layout.specs.Shape.Shapes.{no_shapes}
 use Rattle.archive_shape_layout.specs.Content.{Names}
-use Rattle.archive_forms_checking.specs.Tuples.{tuple2}
-use Rattle.archive_forms_reading.specs.Parts.{HasValue, both}
+use Rattle.archive_forms_values.specs.Tuples.{tuple2}
+use Rattle.archive_forms_values.specs.Parts.{HasValue, both}
 use Rattle.archive_hash_walking.specs.Tables.{Buckets, IsTableAt, item_positions}
 
--- the layout of a key beside a unit, which has the key's own bytes
+-- the layout of a key and a unit, which has the key's own bytes
 abbrev pub kept_key : Shape → Shape
 kept_key k = tuple2 k (tuple no_shapes)
 
@@ -28,6 +28,6 @@ HasSet k knows bytes pos = HasValue (set_shape k) (set_knows knows) bytes pos
 abbrev pub IsSetAt : List ℕ → Shape → ℕ → Buckets → Type 0
 IsSetAt bytes k pos b = IsTableAt bytes (kept_key k) pos b
 
--- where its keys stand, by ascending place
+-- the positions of its keys, by ascending place
 abbrev pub key_positions : Shape → Buckets → List ℕ
 key_positions k b = item_positions (kept_key k) b

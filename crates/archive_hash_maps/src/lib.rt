@@ -1,17 +1,12 @@
-//! Archived hash sets, and comparisons of archived hash maps and sets with those of std.
+//! Archived hash tables, maps and sets: how they are read, lent for writing, compared and printed.
 #![tactic(auto)]
 
-mod debug;
-mod equal;
-mod iter;
-mod lookup;
-mod resolving;
-mod set;
-mod std_map;
-mod std_set;
+pub mod map;
+pub mod set;
 
-pub use iter::Iter;
-pub use resolving::HashSetResolver;
-pub use set::ArchivedHashSet;
-pub use std_map::eq_hash_map;
-pub use std_set::eq_hash_set;
+pub use map::{
+    ArchivedHashMap, ArchivedHashTable, EntryAt, FullPlaces, HashMapResolver, HashTableResolver,
+    IterMut, Keys, RawIter, RawIterSeal, Values, ValuesMut, items_descend, keys_stay, one_table,
+    table_is_read, table_stays,
+};
+pub use set::{ArchivedHashSet, HashSetResolver, eq_hash_map, eq_hash_set};

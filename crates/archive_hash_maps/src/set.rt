@@ -1,96 +1,16 @@
-//! Archived hash sets.
-ghost use Rattle.std.specs.Prelude.{◌≡◌, ◌++◌, ◌↔◌, [], length, map, All, IsTrue};
-ghost use Rattle.std.proofs.Common.{refl, lit<, lit≤};
-ghost use Rattle.archive_shape_portable.proofs.Naming.{first_types};
-ghost use Rattle.archive_forms_reading.specs.Parts.{HasValue};
-ghost use Rattle.archive_hash_walking.specs.Tables.{Buckets, full_places};
-ghost use Rattle.archive_hash_walking.specs.Places.{item_at};
-ghost use Rattle.archive_hash_walking.specs.Maps.{key_at};
-ghost use Rattle.archive_hash_maps.specs.Sets.{set_shape, set_knows, HasSet, IsSetAt, key_positions};
+//! Archived hash sets, and comparisons of archived hash maps and sets with those of std.
 
-use crate::Iter;
-use archive_hash_reading::ArchivedHashMap;
-use archive_shape_checking::{ArchiveContext, CheckBytes, Error};
-use archive_shape_portable::{NoUndef, Portable, Shape};
-use archive_shape_references::Ref;
-use std::alloc::{AllocError, Global};
-use std::marker::PhantomData;
+mod debug;
+mod equal;
+mod iter;
+mod lookup;
+mod resolving;
+mod set;
+mod std_map;
+mod std_set;
 
-/// An archived set: a table of its keys, whose places follow from their hashes by the hasher `H`. It has the bytes of a map
-/// of its keys to `()`.
-#[derive_where(Clone, Copy)]
-pub struct ArchivedHashSet<K, H> {
-    pub of: PhantomData<(K, H)>,
-}
-
-impl<K, H> NoUndef for ArchivedHashSet<K, H> {}
-
-impl<K: Portable, H> Portable for ArchivedHashSet<K, H> {
-    ghost SIZE = { 12 };
-
-    ghost ALIGN = { 4 };
-
-    ghost shape = { set_shape K.shape };
-
-    ghost knows = { set_knows K.knows };
-
-    ghost named = { K.named ++ [] };
-
-    const SIZE: usize = 12;
-
-    const ALIGN: usize = 4;
-
-    fn shape(alloc: Global) -> Result<Shape, AllocError> {
-        ArchivedHashMap::<K, (), H>::shape(alloc)
-    }
-
-    ghost sized = { refl };
-
-    ghost aligned = { refl };
-
-    ghost aligns = { (lit< tt, lit≤ tt) };
-
-    ghost known = { λ names has. (K.known names (first_types names K.named [] has), tt) };
-}
-
-impl<C: ArchiveContext, K: CheckBytes<C>, H> CheckBytes<C> for ArchivedHashSet<K, H> {
-    fn check(alloc: Global, bytes: &[u8], pos: usize, context: &mut C) -> Result<(), Error> {
-        ArchivedHashMap::<K, (), H>::check(alloc, bytes, pos, context)
-    }
-}
-
-/// The map of the keys to `()`.
-pub(crate) fn as_map<'a, K, H>(
-    this: Ref<'a, ArchivedHashSet<K, H>>,
-) -> Ref<'a, ArchivedHashMap<K, (), H>>
-    ensures { result ≡ item_at this.entry.bytes this.entry.pos }
-{
-    Ref::new(this.bytes, this.pos)
-}
-
-impl<K: Portable, H> ArchivedHashSet<K, H> {
-    /// How many keys there are.
-    pub fn len(this: Ref<'_, ArchivedHashSet<K, H>>) -> usize
-        requires { HasSet K.shape K.knows this.bytes.now this.pos }
-        ensures { (b : Buckets) → IsSetAt this.entry.bytes.now K.shape this.entry.pos b → result ≡ length (full_places b) }
-    {
-        ArchivedHashMap::len(as_map(this))
-    }
-
-    pub fn is_empty(this: Ref<'_, ArchivedHashSet<K, H>>) -> bool
-        requires { HasSet K.shape K.knows this.bytes.now this.pos }
-        ensures { (b : Buckets) → IsSetAt this.entry.bytes.now K.shape this.entry.pos b → IsTrue result ↔ (full_places b ≡ []) }
-    {
-        ArchivedHashMap::is_empty(as_map(this))
-    }
-
-    /// The keys by ascending place.
-    pub fn iter<'a>(this: Ref<'a, ArchivedHashSet<K, H>>) -> Iter<'a, K>
-        requires { HasSet K.shape K.knows this.bytes.now this.pos }
-        ensures there { All (λ r. HasValue K.shape K.knows r.bytes.now r.pos) result }
-        ensures keys { (b : Buckets) → IsSetAt this.entry.bytes.now K.shape this.entry.pos b
-            → result ≡ map (key_at this.entry.bytes) (key_positions K.shape b) }
-    {
-        Iter::new(ArchivedHashMap::keys(as_map(this)))
-    }
-}
+pub use iter::Iter;
+pub use resolving::HashSetResolver;
+pub use set::ArchivedHashSet;
+pub use std_map::eq_hash_map;
+pub use std_set::eq_hash_set;

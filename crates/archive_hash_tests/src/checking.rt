@@ -1,21 +1,20 @@
-//! Tests of what is accepted and refused of hash tables.
+//! Tests of checking hash tables: which are accepted and which are rejected.
 use archive_core_validation::ArchiveValidator;
 use archive_hash_checking::{
     TableHead, check_head, check_place_buckets, check_table_each, control_count, controls_at,
 };
-use archive_shape_checking::{CheckBytes, Error};
-use archive_shape_portable::{ArchivedNonZeroU32, ArchivedU32};
+use archive_shape::{ArchivedNonZeroU32, ArchivedU32, CheckBytes, Error};
 use std::alloc::Global;
 
-/// A table of one number in the second of two places: the bucket of each place, the second place's first; sixteen controls for
-/// the places and fifteen more; a byte of padding; and the table, whose controls begin 32 bytes before it.
+/// A table of one number in the second of two places: the bucket of each place, the second place's first; sixteen
+/// controls for the places and fifteen more; a byte of padding; and the table, whose controls begin 32 bytes before it.
 const ONE_OF_TWO: [u8; 52] = [
     7, 0, 0, 0, 0, 0, 0, 0, 0xff, 0x55, 0xff, 0x55, 0xff, 0xff, 0xff, 0xff, 0xff, 0xff, 0xff, 0xff,
     0xff, 0xff, 0xff, 0xff, 0xff, 0xff, 0xff, 0xff, 0xff, 0xff, 0xff, 0xff, 0xff, 0xff, 0xff, 0xff,
     0xff, 0xff, 0xff, 0, 0xe0, 0xff, 0xff, 0xff, 1, 0, 0, 0, 2, 0, 0, 0,
 ];
 
-/// Whether a table of numbers at the end of bytes is accepted, or why not.
+/// Returns whether a table of numbers at the end of bytes is accepted, or the error.
 fn accepts<T: CheckBytes<ArchiveValidator>>(alloc: Global, bytes: &[u8; 52]) -> Result<(), Error> {
     let mut context = ArchiveValidator::new(alloc, bytes);
     check_table_each::<T, ArchiveValidator, _>(
@@ -110,7 +109,7 @@ fn another_number_of_items_is_refused(rt: HostRuntime) {
     );
 }
 
-/// Whether the buckets and controls of a table that leads to one entry are accepted, or why not.
+/// Returns whether the buckets and controls of a table of one entry are accepted, or the error.
 fn accepts_numbers(alloc: Global, bytes: &[u8; 52]) -> Result<(), Error> {
     let mut context = ArchiveValidator::new(alloc, bytes);
     check_place_buckets(bytes, 8, 1, 2, &mut context)

@@ -1,13 +1,12 @@
-//! Tests of what is accepted and refused of index maps.
+//! Tests of checking index maps: which are accepted and which are rejected.
 use archive_core_validation::ArchiveValidator;
-use archive_forms_tuples::ArchivedTuple2;
-use archive_index_checking::check_index_map_each;
-use archive_shape_checking::{CheckBytes, Error};
-use archive_shape_portable::{ArchivedNonZeroU32, ArchivedU32};
+use archive_forms_values::ArchivedTuple2;
+use archive_index::check_index_map_each;
+use archive_shape::{ArchivedNonZeroU32, ArchivedU32, CheckBytes, Error};
 use std::alloc::Global;
 
-/// 7 leads to 9: a table of the number 0 in the first of two places; a byte of padding; the pair; and the map, whose controls
-/// begin 40 bytes before it, and whose entries begin 20 bytes before their offset.
+/// The index map from 7 to 9: a table of the number 0 in the first of two places; a byte of padding; the pair; and the
+/// map, whose controls begin 40 bytes before it, and whose entries begin 20 bytes before their offset.
 const ONE_PAIR: [u8; 64] = [
     0, 0, 0, 0, 0, 0, 0, 0, 0x2a, 0xff, 0x2a, 0xff, 0xff, 0xff, 0xff, 0xff, 0xff, 0xff, 0xff, 0xff,
     0xff, 0xff, 0xff, 0xff, 0xff, 0xff, 0xff, 0xff, 0xff, 0xff, 0xff, 0xff, 0xff, 0xff, 0xff, 0xff,
@@ -17,7 +16,7 @@ const ONE_PAIR: [u8; 64] = [
 
 type Pair = ArchivedTuple2<ArchivedU32, ArchivedNonZeroU32>;
 
-/// Whether the map at the end of bytes is accepted, or why not.
+/// Returns whether the map at the end of bytes is accepted, or the error.
 fn accepts(alloc: Global, bytes: &[u8; 64]) -> Result<(), Error> {
     let mut context = ArchiveValidator::new(alloc, bytes);
     check_index_map_each::<Pair, ArchiveValidator, _>(

@@ -1,5 +1,5 @@
-//! Tests of archived hash tables: hashes and tags, what scans mark, strides, the places that every width gives, what is
-//! refused of tables and index maps, and what is written.
+//! Tests of archived hash tables: hashes and tags, the marks of scans, strides, the places that scans of every width
+//! find, the errors of checking tables and index maps, and the bytes that are written.
 #![tactic(auto)]
 
 #[cfg(test)]

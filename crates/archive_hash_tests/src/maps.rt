@@ -1,29 +1,29 @@
-//! Tests of walks over archived hash maps, of what is written to them through seals, and of archived hash sets.
+//! Tests of iterating over archived hash maps, of writing to them through seals, and of archived hash sets.
 ghost use Rattle.std.specs.Prelude.{[]};
 
 use crate::reading::root_of;
 use archive_core_validation::HighValidator;
-use archive_forms_hashing::ArchivedDebug;
-use archive_forms_text::ArchivedString;
-use archive_hash_maps::{ArchivedHashSet, eq_hash_map, eq_hash_set};
-use archive_hash_reading::{ArchivedHashMap, ArchivedHashTable};
-use archive_hash_scanning::FxHasher64;
-use archive_shape::{ArchivedU32, Error, Ref, Seal, Str};
-use archive_shape_checking::CheckBytes;
+use archive_forms_comparing::ArchivedDebug;
+use archive_forms_values::ArchivedString;
+use archive_hash_maps::{
+    ArchivedHashMap, ArchivedHashSet, ArchivedHashTable, eq_hash_map, eq_hash_set,
+};
+use archive_hash_probing::FxHasher64;
+use archive_shape::{ArchivedU32, CheckBytes, Error, Ref, Seal, Str};
 use std::alloc::Global;
 use std::collections::{HashMap, HashSet};
 use std::fmt::Formatter;
 use std::test::Fail;
 
-/// A map from texts to texts.
+/// An archived map from texts to texts.
 pub(crate) type Texts = ArchivedHashMap<ArchivedString, ArchivedString, FxHasher64>;
 
-/// The texts that are its keys.
+/// An archived set of texts.
 pub(crate) type Keys = ArchivedHashSet<ArchivedString, FxHasher64>;
 
-/// hello leads to world, foo to bar and baz to bat, in the places 2, 3 and 0 of four, of which the last stands first: a
-/// bucket of sixteen bytes for each place, sixteen controls and fifteen more, a byte of padding, and the map, whose controls
-/// begin 32 bytes before it.
+/// The map from hello to world, foo to bar and baz to bat. They have the places 2, 3 and 0 of four. The bucket of the
+/// last place is first. The bytes are a bucket of sixteen bytes for each place, sixteen controls and fifteen more, a
+/// byte of padding, and the map, whose controls begin 32 bytes before it.
 pub(crate) const THREE: [u8; 108] = [
     b'f', b'o', b'o', 0xff, 0xff, 0xff, 0xff, 0xff, b'b', b'a', b'r', 0xff, 0xff, 0xff, 0xff, 0xff,
     b'h', b'e', b'l', b'l', b'o', 0xff, 0xff, 0xff, b'w', b'o', b'r', b'l', b'd', 0xff, 0xff, 0xff,
@@ -42,10 +42,11 @@ const THREE_KEYS: [u8; 76] = [
     0, 0, 0, 4, 0, 0, 0,
 ];
 
-/// A map or a set of nothing.
+/// A map or a set without entries.
 pub(crate) const NOTHING: [u8; 12] = [1, 0, 0, 0, 0, 0, 0, 0, 0, 0, 0, 0];
 
-/// Where the keys and the values stand that a walk over a map comes to, and how many entries are left at each.
+/// Returns the positions of the key and the value of each entry that an iterator returns, and the number of entries
+/// left after it.
 fn walked(alloc: Global) -> Result<Vec<(usize, usize, usize)>, Error> {
     let root = root_of::<Texts>(alloc, &THREE)?;
     let mut entries = ArchivedHashMap::iter(root);
@@ -66,7 +67,7 @@ fn entries_are_walked_by_ascending_place(rt: HostRuntime) -> Result<(), Fail> {
     Ok(())
 }
 
-/// Where the keys stand, and where the values stand, in walks over them alone.
+/// Returns the positions of the keys and those of the values, from iterators over them alone.
 fn parted(alloc: Global) -> Result<(Vec<usize>, Vec<usize>), Error> {
     let root = root_of::<Texts>(alloc, &THREE)?;
     let mut keys = Vec::new(alloc);
@@ -88,7 +89,7 @@ fn keys_and_values_are_walked_alone(rt: HostRuntime) -> Result<(), Fail> {
     Ok(())
 }
 
-/// Where the key stands that a comparison of the caller's accepts under the hash of a text, and where its value stands.
+/// Returns the position of the key that the caller's comparison accepts for the hash of a text, and that of its value.
 fn compared(alloc: Global, text: &str, at: usize) -> Result<(Option<usize>, Option<usize>), Error> {
     let root = root_of::<Texts>(alloc, &THREE)?;
     let is_there = |_text: &&str, key: Ref<'_, ArchivedString>| key.pos() == at;
@@ -110,7 +111,7 @@ fn comparisons_of_the_caller_find_keys_under_the_hash(rt: HostRuntime) {
     assert_eq!(rt; compared(rt.alloc(), "world", 16), Ok((None, None)));
 }
 
-/// The bytes of the map, where a text has been written over the value of a key, which is inline.
+/// Returns the bytes of the map after a text was written over the value of a key, which is inline.
 fn written(alloc: Global, key: &str, text: &str) -> Result<[u8; 108], Error> {
     let mut bytes = THREE;
     let pos = root_of::<Texts>(alloc, &bytes)?.pos();
@@ -134,7 +135,7 @@ fn values_of_keys_are_written_over(rt: HostRuntime) {
     assert_eq!(rt; written(rt.alloc(), "world", "WORLD"), Ok(THREE));
 }
 
-/// The bytes of a table of one number, where another has been written over the item of a hash.
+/// Returns the bytes of a table of one number after another number was written over the item of a hash.
 fn item_written(alloc: Global, hash: u64, number: u32) -> Result<[u8; 52], Error> {
     let mut bytes = crate::reading::ONE_OF_TWO;
     let pos = root_of::<ArchivedHashTable<ArchivedU32>>(alloc, &bytes)?.pos();
@@ -161,8 +162,8 @@ fn items_of_hashes_are_written_over(rt: HostRuntime) {
     );
 }
 
-/// Where the key and the value stand that are lent of the map from `a` to 1, and the number that is in the bytes where
-/// another has been written over the value.
+/// Returns the positions of the key and the value that the map from `a` to 1 lends, and the number in the bytes after
+/// another was written over the value.
 fn lent(alloc: Global, key: &str, number: u32) -> Result<(Option<(usize, usize)>, u8), Error> {
     let mut bytes = crate::reading::A_TO_ONE;
     let pos = root_of::<crate::reading::Numbers>(alloc, &bytes)?.pos();
@@ -184,8 +185,8 @@ fn keys_are_lent_beside_their_values(rt: HostRuntime) {
     assert_eq!(rt; lent(rt.alloc(), "b", 9), Ok((None, 1)));
 }
 
-/// The number that is in the bytes of the map from `a` to 1 where another has been written, through either seal, over the
-/// value of the key that a comparison of the caller's accepts under the hash of a text.
+/// Returns the number in the bytes of the map from `a` to 1 after another was written, through each of the two seals,
+/// over the value of the key that the caller's comparison accepts for the hash of a text.
 fn accepted(alloc: Global, text: &str, at: usize, number: u32) -> Result<(u8, u8), Error> {
     let mut bytes = crate::reading::A_TO_ONE;
     let mut others = crate::reading::A_TO_ONE;
@@ -211,7 +212,7 @@ fn values_of_accepted_keys_are_written_over(rt: HostRuntime) {
     assert_eq!(rt; accepted(rt.alloc(), "b", 0, 9), Ok((1, 1)));
 }
 
-/// Whether the map is equal to one of std that has these pairs.
+/// Returns whether the map is equal to a map of std with these pairs.
 fn equals(alloc: Global, pairs: &[(&'static str, &'static str)]) -> Result<bool, Error> {
     let root = root_of::<Texts>(alloc, &THREE)?;
     let mut other = HashMap::new(alloc);
@@ -242,7 +243,7 @@ fn maps_of_the_same_pairs_are_equal(rt: HostRuntime) {
     assert_eq!(rt; equals(rt.alloc(), &[foo, baz]), Ok(false));
 }
 
-/// Whether two archives of maps are equal.
+/// Returns whether two archives of maps are equal.
 fn equal_to(alloc: Global, bytes: &[u8], others: &[u8]) -> Result<bool, Error> {
     let this = root_of::<Texts>(alloc, bytes)?;
     let other = root_of::<Texts>(alloc, others)?;
@@ -259,7 +260,7 @@ fn archived_maps_of_equal_entries_are_equal(rt: HostRuntime) {
     assert_eq!(rt; equal_to(rt.alloc(), &NOTHING, &NOTHING), Ok(true));
 }
 
-/// Whether the set is equal to one of std that has these keys.
+/// Returns whether the set is equal to a set of std with these keys.
 fn equals_keys(alloc: Global, keys: &[&'static str]) -> Result<bool, Error> {
     let root = root_of::<Keys>(alloc, &THREE_KEYS)?;
     let mut other = HashSet::new(alloc);
@@ -281,7 +282,7 @@ fn sets_of_the_same_keys_are_equal(rt: HostRuntime) {
     assert_eq!(rt; equals_keys(rt.alloc(), &["hello", "foo"]), Ok(false));
 }
 
-/// Whether two archives of sets are equal.
+/// Returns whether two archives of sets are equal.
 fn equal_sets(alloc: Global, bytes: &[u8], others: &[u8]) -> Result<bool, Error> {
     let this = root_of::<Keys>(alloc, bytes)?;
     let other = root_of::<Keys>(alloc, others)?;
@@ -297,7 +298,7 @@ fn archived_sets_of_equal_keys_are_equal(rt: HostRuntime) {
     assert_eq!(rt; equal_sets(rt.alloc(), &THREE_KEYS, &NOTHING), Ok(false));
 }
 
-/// Where a key of a set stands, and whether the set has it.
+/// Returns the position of a key of the set, and whether the set has it.
 fn key_of(alloc: Global, text: &str) -> Result<(Option<usize>, bool), Error> {
     let root = root_of::<Keys>(alloc, &THREE_KEYS)?;
     let is_there = ArchivedHashSet::contains(root, &text);
@@ -314,7 +315,7 @@ fn keys_of_sets_are_found(rt: HostRuntime) {
     assert_eq!(rt; key_of(rt.alloc(), "world"), Ok((None, false)));
 }
 
-/// How many keys a set has, whether it has none, and where they stand.
+/// Returns the number of keys of a set, whether it is empty, and the positions of its keys.
 fn listed(alloc: Global, bytes: &[u8]) -> Result<(usize, bool, Vec<usize>), Error> {
     let root = root_of::<Keys>(alloc, bytes)?;
     let mut keys = Vec::new(alloc);
@@ -338,7 +339,7 @@ fn keys_of_sets_are_walked_by_ascending_place(rt: HostRuntime) -> Result<(), Fai
     Ok(())
 }
 
-/// The text of a map or a set.
+/// Returns the debug text of a map or a set.
 fn printed<T: ArchivedDebug + CheckBytes<HighValidator>>(
     alloc: Global,
     bytes: &[u8],

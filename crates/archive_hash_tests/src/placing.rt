@@ -1,6 +1,7 @@
-//! Strides, and the places that every width gives.
-use archive_hash_places::{Strides, capacity_for_len, find, first_empty, write_controls};
-use archive_hash_scanning::{Group1, Group8, Group16, Scan};
+//! Tests of strides, and of the places that scans of every width find.
+use archive_hash_probing::{
+    Group1, Group8, Group16, Scan, Strides, capacity_for_len, find, first_empty, write_controls,
+};
 use archive_shape::Error;
 
 #[test]
@@ -51,13 +52,13 @@ const HASHES: [u64; 15] = [
 
 const PLACES: [u32; 15] = [0, 12, 13, 11, 10, 9, 14, 4, 8, 1, 15, 2, 16, 3, 5];
 
-/// What a width makes of these hashes.
+/// The result of writing a table of these hashes by a scan of one width.
 #[derive(Clone, Copy, Debug, PartialEq, Eq)]
 struct Written {
     controls: [u8; 47],
-    /// How many strides the items cost together, if each is found at its place.
+    /// The number of strides that all items cost together, if each is found at its place.
     strides: Option<usize>,
-    /// Where one item more would go.
+    /// The place that one more item would have.
     empty: Option<usize>,
 }
 

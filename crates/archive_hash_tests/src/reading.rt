@@ -1,27 +1,25 @@
-//! Tests of what is read of archived hash tables and maps.
+//! Tests of reading archived hash tables and maps.
 ghost use Rattle.std.specs.Prelude.{◌≡◌, [], IfOk};
-ghost use Rattle.archive_forms_reading.specs.Parts.{HasValue};
+ghost use Rattle.archive_forms_values.specs.Parts.{HasValue};
 
-use archive_core_access::access;
-use archive_core_validation::HighValidator;
-use archive_forms_reading::native_of;
-use archive_forms_text::ArchivedString;
-use archive_hash_reading::{ArchivedHashMap, ArchivedHashTable};
-use archive_hash_scanning::{FxHasher64, Group1, Group8, Group16, Scan};
-use archive_shape::{ArchivedU32, Error, Ref, Steps};
-use archive_shape_checking::CheckBytes;
+use archive_core_validation::{HighValidator, access};
+use archive_forms_values::{ArchivedString, native_of};
+use archive_hash_maps::{ArchivedHashMap, ArchivedHashTable};
+use archive_hash_probing::{FxHasher64, Group1, Group8, Group16, Scan};
+use archive_shape::{ArchivedU32, CheckBytes, Error, Ref, Steps};
 use std::alloc::Global;
 use std::test::Fail;
 
-/// A table of the number 7 in the second of two places: the bucket of each place, the second place's first; sixteen controls
-/// for the places and fifteen more; a byte of padding; and the table, whose controls begin 32 bytes before it.
+/// A table of the number 7 in the second of two places: the bucket of each place, the second place's first; sixteen
+/// controls for the places and fifteen more; a byte of padding; and the table, whose controls begin 32 bytes before it.
 pub(crate) const ONE_OF_TWO: [u8; 52] = [
     7, 0, 0, 0, 0, 0, 0, 0, 0xff, 0x55, 0xff, 0x55, 0xff, 0xff, 0xff, 0xff, 0xff, 0xff, 0xff, 0xff,
     0xff, 0xff, 0xff, 0xff, 0xff, 0xff, 0xff, 0xff, 0xff, 0xff, 0xff, 0xff, 0xff, 0xff, 0xff, 0xff,
     0xff, 0xff, 0xff, 0, 0xe0, 0xff, 0xff, 0xff, 1, 0, 0, 0, 2, 0, 0, 0,
 ];
 
-/// A map from the text `a` to the number 1, whose table has two places: the hash of the text is odd, and its tag is 0x55.
+/// A map from the text `a` to the number 1, whose table has two places: the hash of the text is odd, and its tag is
+/// 0x55.
 pub(crate) const A_TO_ONE: [u8; 68] = [
     b'a', 0xff, 0xff, 0xff, 0xff, 0xff, 0xff, 0xff, 1, 0, 0, 0, 0, 0, 0, 0, 0, 0, 0, 0, 0, 0, 0, 0,
     0xff, 0x55, 0xff, 0x55, 0xff, 0xff, 0xff, 0xff, 0xff, 0xff, 0xff, 0xff, 0xff, 0xff, 0xff, 0xff,
@@ -32,7 +30,7 @@ pub(crate) const A_TO_ONE: [u8; 68] = [
 /// The hash of the text `a`.
 pub(crate) const HASH_OF_A: u64 = 0xaa44_c3c5_b8e2_2aff;
 
-/// The root of bytes that are checked.
+/// Checks bytes and returns their root.
 pub(crate) fn root_of<T: CheckBytes<HighValidator>>(
     alloc: Global,
     bytes: &[u8],
@@ -43,7 +41,7 @@ pub(crate) fn root_of<T: CheckBytes<HighValidator>>(
     access::<T>(alloc, bytes)
 }
 
-/// The number that is found under a hash, and what the search costs.
+/// Returns the number that is found by a hash, and the cost of the search.
 fn counted<S: Scan>(alloc: Global, hash: u64) -> Result<(Option<u32>, Steps), Error> {
     let root = root_of::<ArchivedHashTable<ArchivedU32>>(alloc, &ONE_OF_TWO)?;
     let is_first = |item: Ref<'_, ArchivedU32>| item.pos() == 0;
@@ -67,7 +65,7 @@ fn items_are_found_at_every_width(rt: HostRuntime) {
     assert_eq!(rt; counted::<Group16>(rt.alloc(), 0), Ok((None, steps)));
 }
 
-/// The full places with their tags, and where their items stand, in both walks.
+/// Returns the full places with their tags and their items' positions, and the positions of the items alone.
 fn walked(alloc: Global) -> Result<(Vec<(usize, u8, usize)>, Vec<usize>), Error> {
     let root = root_of::<ArchivedHashTable<ArchivedU32>>(alloc, &ONE_OF_TWO)?;
     let mut places = Vec::new(alloc);
@@ -89,10 +87,10 @@ fn full_places_are_walked(rt: HostRuntime) -> Result<(), Fail> {
     Ok(())
 }
 
-/// What a map from texts to numbers has.
+/// An archived map from texts to numbers.
 pub(crate) type Numbers = ArchivedHashMap<ArchivedString, ArchivedU32, FxHasher64>;
 
-/// The number that a text leads to, and whether the map has the text.
+/// Returns the number that is a text's value, and whether the map has the text.
 fn found(alloc: Global, text: &str) -> Result<(Option<u32>, bool), Error> {
     let root = root_of::<Numbers>(alloc, &A_TO_ONE)?;
     let is_there = ArchivedHashMap::contains_key(root, &text);
@@ -109,7 +107,7 @@ fn keys_of_maps_are_found(rt: HostRuntime) {
     assert_eq!(rt; found(rt.alloc(), ""), Ok((None, false)));
 }
 
-/// How many entries a map has, and how many places.
+/// Returns the number of entries of a map, whether it is empty, and its number of places.
 fn sizes(alloc: Global) -> Result<(usize, bool, usize), Error> {
     let root = root_of::<Numbers>(alloc, &A_TO_ONE)?;
     Ok((

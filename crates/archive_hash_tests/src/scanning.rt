@@ -1,5 +1,5 @@
-//! Hashes of texts, and marks of scans.
-use archive_hash_scanning::{
+//! Tests of the hashes of texts, and of the marks of scans.
+use archive_hash_probing::{
     Bitmask, FxHasher64, Group, Group1, Group8, Group16, MAX_GROUP_WIDTH, Scan, WIDTH, hash_text,
     hash_value, tag_of,
 };

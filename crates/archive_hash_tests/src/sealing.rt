@@ -1,24 +1,24 @@
 //! Tests of cursors that write over the items of tables and the values of maps, and of the own bytes of tables.
 ghost use Rattle.std.specs.Prelude.{◌≡◌, ℕ, ◌+◌, ◌≤◌, List, length};
 ghost use Rattle.archive_shape_layout.specs.Shape.Shape.{table};
-ghost use Rattle.archive_shape_references.specs.Bytes.{overwrite};
-ghost use Rattle.archive_forms_checking.specs.Tuples.{tuple2};
-ghost use Rattle.archive_forms_reading.specs.Parts.{HasValue, both};
+ghost use Rattle.archive_shape.specs.Bytes.{overwrite};
+ghost use Rattle.archive_forms_values.specs.Tuples.{tuple2};
+ghost use Rattle.archive_forms_values.specs.Parts.{HasValue, both};
 
 use crate::maps::{Keys, NOTHING, THREE, Texts};
 use crate::reading::{A_TO_ONE, Numbers, ONE_OF_TWO, root_of};
-use archive_hash_maps::{ArchivedHashSet, HashSetResolver};
-use archive_hash_reading::{
-    ArchivedHashMap, ArchivedHashTable, HashMapResolver, HashTableResolver,
+use archive_hash_maps::{
+    ArchivedHashMap, ArchivedHashSet, ArchivedHashTable, HashMapResolver, HashSetResolver,
+    HashTableResolver,
 };
 use archive_shape::{ArchivedU32, Error, Place, Portable, Ref, Seal};
 use std::alloc::{AllocError, Global};
 use std::test::Fail;
 
-/// A table of numbers.
+/// An archived table of numbers.
 type Table = ArchivedHashTable<ArchivedU32>;
 
-/// Fills own bytes with a byte.
+/// Fills the own bytes at a position with a byte.
 fn fill_at(bytes: &mut [u8], at: usize, size: usize, byte: u8)
     requires { at + size ≤ length bytes.old }
     ensures { (own : List ℕ) × (length own ≡ size) × (bytes.new ≡ overwrite bytes.old at own) }
@@ -26,7 +26,7 @@ fn fill_at(bytes: &mut [u8], at: usize, size: usize, byte: u8)
     bytes[at..at + size].fill(byte);
 }
 
-/// Fills the own bytes of each value with a byte, and notes where it stands and how many are left behind it.
+/// Fills the own bytes of each value with a byte, and records its position and the number of values left after it.
 fn fill_values<K: Portable, V: Portable, H>(
     map: Seal<'_, ArchivedHashMap<K, V, H>>,
     byte: u8,
@@ -43,7 +43,7 @@ fn fill_values<K: Portable, V: Portable, H>(
     Ok(())
 }
 
-/// Fills the own bytes of each item with a byte, and notes where it stands and how many are left behind it.
+/// Fills the own bytes of each item with a byte, and records its position and the number of items left after it.
 fn fill_items<T: Portable>(
     seal: Seal<'_, ArchivedHashTable<T>>,
     byte: u8,
@@ -60,7 +60,7 @@ fn fill_items<T: Portable>(
     Ok(())
 }
 
-/// Fills each value of the map in these bytes.
+/// Fills each value of the map in these bytes, and returns what was recorded.
 fn filled_values(alloc: Global, bytes: &mut [u8], byte: u8) -> Result<Vec<(usize, usize)>, Error> {
     let pos = root_of::<Texts>(alloc, bytes)?.pos();
     let mut met = Vec::new(alloc);
@@ -68,7 +68,7 @@ fn filled_values(alloc: Global, bytes: &mut [u8], byte: u8) -> Result<Vec<(usize
     Ok(met)
 }
 
-/// Fills each item of the table in these bytes.
+/// Fills each item of the table in these bytes, and returns what was recorded.
 fn filled_items(alloc: Global, bytes: &mut [u8], byte: u8) -> Result<Vec<(usize, usize)>, Error> {
     let pos = root_of::<Table>(alloc, bytes)?.pos();
     let mut met = Vec::new(alloc);
@@ -109,7 +109,7 @@ fn cursors_over_nothing_pass_nothing(rt: HostRuntime) -> Result<(), Fail> {
     Ok(())
 }
 
-/// Where the key and the value stand that a cursor lends first, once the value is filled with a byte.
+/// Returns the positions of the key and the value that a cursor lends first, after filling the value with a byte.
 fn fill_first<K: Portable, V: Portable, H>(
     map: Seal<'_, ArchivedHashMap<K, V, H>>,
     byte: u8,
@@ -126,7 +126,7 @@ fn fill_first<K: Portable, V: Portable, H>(
     }
 }
 
-/// What it is of the map from `a` to 1, and the bytes then.
+/// Returns those positions for the map from `a` to 1, and the bytes after the value was filled.
 fn filled_first(alloc: Global, byte: u8) -> Result<(Option<(usize, usize)>, [u8; 68]), Error> {
     let mut bytes = A_TO_ONE;
     let pos = root_of::<Numbers>(alloc, &bytes)?.pos();
@@ -141,7 +141,7 @@ fn cursors_lend_keys_beside_their_values(rt: HostRuntime) {
     assert_eq!(rt; filled_first(rt.alloc(), 9), Ok((Some((0, 8)), expected)));
 }
 
-/// The twelve bytes of a table of so many items at position 40.
+/// Returns the twelve own bytes of a table of `len` items at position 40.
 fn table_bytes(
     len: usize,
     load_factor: (usize, usize),
@@ -154,7 +154,7 @@ fn table_bytes(
     Ok(out)
 }
 
-/// A table of one item, as it stands in the archive of one.
+/// The own bytes of a table of one item, as they are in the archive of one item.
 const ONE: [u8; 12] = [0xe0, 0xff, 0xff, 0xff, 1, 0, 0, 0, 2, 0, 0, 0];
 
 #[test]
@@ -175,7 +175,7 @@ fn own_bytes_tell_the_controls_the_items_and_the_places(rt: HostRuntime) {
     );
 }
 
-/// The twelve bytes of a map and of a set of so many entries at position 40.
+/// Returns the twelve own bytes of a map and of a set of `len` entries at position 40.
 fn map_and_set_bytes(len: usize, to: Option<usize>) -> Result<([u8; 12], [u8; 12]), Error> {
     let mut map = [0; 12];
     let mut set = [0; 12];

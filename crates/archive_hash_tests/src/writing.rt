@@ -1,25 +1,24 @@
-//! Tests of maps that are written as hash tables: how long they are, that their keys are found and read back, what is refused
-//! of load factors and claims, and that every scan writes the same bytes.
+//! Tests of maps that are written as hash tables: their length, looking up and reading back their keys, rejected load
+//! factors and claims, and that every scan writes the same bytes.
 ghost use Rattle.std.specs.Prelude.{◌-◌, ◌^◌, ◌<◌};
-ghost use Rattle.archive_forms_spelling.specs.Serializing.{HasState};
+ghost use Rattle.archive_forms_values.specs.FormsLaws.Serializing.{HasState};
 
 use crate::reading::root_of;
 use archive_core::{from_bytes, to_bytes};
 use archive_core_serializing::Serializer;
-use archive_forms_reading::native_of;
-use archive_forms_text::ArchivedString;
+use archive_forms_values::{ArchivedString, native_of};
 use archive_hash::{OwnedHashMap, OwnedHashSet, serialize_map_from_iter, serialize_set_from_iter};
-use archive_hash_reading::{ArchivedHashMap, HashTableResolver};
-use archive_hash_scanning::{FxHasher64, Group1, Group8, Group16, Scan, hash_value};
+use archive_hash_maps::{ArchivedHashMap, HashTableResolver};
+use archive_hash_probing::{FxHasher64, Group1, Group8, Group16, Scan, hash_value};
 use archive_hash_writing::{serialize_from_iter, serialize_from_iter_scan};
 use archive_shape::{Allocator, ArchivedU32, Error, Positional, Registry, Writer};
 use std::alloc::Global;
 use std::collections::{HashMap, HashSet};
 
-/// A serializer into memory that grows.
+/// A serializer into a growing vector.
 type Memory = Serializer<Vec<u8>, Global, ()>;
 
-/// A serializer into memory that holds nothing.
+/// Creates a serializer that has written nothing.
 fn memory(alloc: Global) -> Memory
     ensures room { ⟦<Memory as Writer>⟧.failures result < 2 ^ 64 - 1 }
     ensures state { HasState ⟦<Memory as Positional>⟧.pos ⟦<Memory as Registry>⟧.known result }
@@ -27,12 +26,12 @@ fn memory(alloc: Global) -> Memory
     Serializer::new(Vec::new(alloc), alloc, ())
 }
 
-/// Texts that lead to numbers.
+/// A map from texts to numbers.
 type Numbers = OwnedHashMap<String, u32>;
 
 type ArchivedNumbers = ArchivedHashMap<ArchivedString, ArchivedU32, FxHasher64>;
 
-/// The text of a number in decimal.
+/// Returns a number in decimal.
 fn decimal(alloc: Global, number: u32) -> Result<String, Error> {
     match format!(in alloc; "{number}") {
         Ok(text) => Ok(text),
@@ -40,7 +39,8 @@ fn decimal(alloc: Global, number: u32) -> Result<String, Error> {
     }
 }
 
-/// How many bytes the archive has of a map of so many numbers in decimal, each of which leads to three words of eight bytes.
+/// Returns the size in bytes of the archive of a map of `count` numbers in decimal, each with three words of eight
+/// bytes as its value.
 fn size_of_decimals(alloc: Global, count: u32) -> Result<usize, Error> {
     let mut map = HashMap::new(alloc);
     for number in 0..count {
@@ -72,7 +72,7 @@ fn tables_have_a_place_more_than_items_and_seven_of_eight_places_full(rt: HostRu
     }
 }
 
-/// The map from the decimal texts of the numbers below one to those numbers.
+/// Returns the map from the decimal texts of the numbers below `count` to those numbers.
 fn decimals(alloc: Global, count: u32) -> Result<Numbers, Error> {
     let mut map = HashMap::new(alloc);
     for number in 0..count {
@@ -83,7 +83,7 @@ fn decimals(alloc: Global, count: u32) -> Result<Numbers, Error> {
     Ok(OwnedHashMap { map })
 }
 
-/// Whether that map is read back from its archive.
+/// Returns whether that map is read back from its archive.
 fn is_read_back(alloc: Global, count: u32) -> Result<bool, Error> {
     let owned = decimals(alloc, count)?;
     let bytes = to_bytes(alloc, &owned)?;
@@ -91,7 +91,7 @@ fn is_read_back(alloc: Global, count: u32) -> Result<bool, Error> {
     Ok(read.map == owned.map)
 }
 
-/// Whether every key of the archive of that map leads to its number, and a text that is no key to none.
+/// Returns whether every key in the archive of that map has its number, and a text that is no key has none.
 fn leads_to_all(alloc: Global, count: u32) -> Result<bool, Error> {
     let bytes = to_bytes(alloc, &decimals(alloc, count)?)?;
     let root = root_of::<ArchivedNumbers>(alloc, bytes.as_slice())?;
@@ -119,7 +119,7 @@ fn every_key_that_was_written_leads_to_its_value(rt: HostRuntime) {
     }
 }
 
-/// Writes the table of so many entries of a map as is claimed, of which so many places may be full.
+/// Writes the table of a map's entries, where the caller claims `claimed` entries, with the given load factor.
 fn write_claimed<S: Writer + Allocator>(
     claimed: usize,
     owned: &OwnedHashMap<u32, u32>,
@@ -132,7 +132,7 @@ fn write_claimed<S: Writer + Allocator>(
     serialize_map_from_iter(claimed, owned.map.iter(), load_factor, serializer)
 }
 
-/// What becomes of a map of so many numbers, of which is claimed how many come.
+/// Returns the result of writing a map of `count` numbers where `claimed` entries are claimed.
 fn claiming(
     alloc: Global,
     claimed: usize,
@@ -176,7 +176,7 @@ fn wrong_claims_are_refused_with_both_numbers(rt: HostRuntime) {
     }
 }
 
-/// The numbers below one in their order, as a table that a scan writes.
+/// Returns the bytes of the table of the numbers below `count` in their order, as a scan writes it.
 fn written_by<G: Scan>(alloc: Global, count: u32) -> Result<Vec<u8>, Error> {
     let mut serializer = memory(alloc);
     let hash = |number: &u32| -> u64 { hash_value::<u32, FxHasher64>(number) };
@@ -190,7 +190,7 @@ fn written_by<G: Scan>(alloc: Global, count: u32) -> Result<Vec<u8>, Error> {
     Ok(serializer.into_writer())
 }
 
-/// The same without naming a scan.
+/// Returns the bytes of the same table, where the call does not name a scan.
 fn written(alloc: Global, count: u32) -> Result<Vec<u8>, Error> {
     let mut serializer = memory(alloc);
     let hash = |number: &u32| -> u64 { hash_value::<u32, FxHasher64>(number) };
@@ -209,10 +209,10 @@ fn every_scan_writes_the_same_bytes(rt: HostRuntime) {
     }
 }
 
-/// Texts that lead to maps.
+/// A map from texts to maps.
 type Maps = OwnedHashMap<String, Numbers>;
 
-/// A text of its own.
+/// Returns an owned copy of a text.
 fn text(alloc: Global, from: &str) -> Result<String, Error> {
     match String::from_str(alloc, from) {
         Ok(text) => Ok(text),
@@ -220,7 +220,7 @@ fn text(alloc: Global, from: &str) -> Result<String, Error> {
     }
 }
 
-/// The map from `x` to the map of one number, and from `y` to the empty map.
+/// Returns the map from `x` to the map of one number, and from `y` to the empty map.
 fn maps(alloc: Global) -> Result<Maps, Error> {
     let mut map = HashMap::new(alloc);
     for (key, count) in [("x", 1), ("y", 0)] {
@@ -234,7 +234,8 @@ fn maps(alloc: Global) -> Result<Maps, Error> {
     Ok(OwnedHashMap { map })
 }
 
-/// How many entries the map at a key of those maps has, when they are read back, and to what `0` leads in it.
+/// Returns the number of entries of the map at a key of those maps, when they are read back, and the value of `0` in
+/// it.
 fn map_at(alloc: Global, key: &str) -> Result<Option<(usize, Option<u32>)>, Error> {
     let bytes = to_bytes(alloc, &maps(alloc)?)?;
     let read = from_bytes::<Maps>(alloc, &bytes)?;
@@ -251,7 +252,7 @@ fn maps_of_maps_are_read_back(rt: HostRuntime) {
     assert_eq!(rt; map_at(rt.alloc(), "z"), Ok(None));
 }
 
-/// The set of the numbers below one.
+/// Returns the set of the numbers below `count`.
 fn numbers(alloc: Global, count: u32) -> Result<OwnedHashSet<u32>, Error> {
     let mut set = HashSet::new(alloc);
     for number in 0..count {
@@ -262,7 +263,7 @@ fn numbers(alloc: Global, count: u32) -> Result<OwnedHashSet<u32>, Error> {
     Ok(OwnedHashSet { set })
 }
 
-/// Whether that set is read back from its archive.
+/// Returns whether that set is read back from its archive.
 fn is_set_read_back(alloc: Global, count: u32) -> Result<bool, Error> {
     let owned = numbers(alloc, count)?;
     let bytes = to_bytes(alloc, &owned)?;
@@ -277,7 +278,7 @@ fn sets_of_many_sizes_are_read_back(rt: HostRuntime) {
     }
 }
 
-/// Writes the table of so many keys of a set as is claimed.
+/// Writes the table of a set's keys, where the caller claims `claimed` keys.
 fn write_keys<S: Writer + Allocator>(
     claimed: usize,
     owned: &OwnedHashSet<u32>,
@@ -289,7 +290,7 @@ fn write_keys<S: Writer + Allocator>(
     serialize_set_from_iter(claimed, owned.set.iter(), (7, 8), serializer)
 }
 
-/// What becomes of a set of so many numbers, of which is claimed how many come.
+/// Returns the result of writing a set of `count` numbers where `claimed` keys are claimed.
 fn claiming_keys(alloc: Global, claimed: usize, count: u32) -> Result<HashTableResolver, Error> {
     write_keys(claimed, &numbers(alloc, count)?, &mut memory(alloc))
 }

@@ -1,9 +1,9 @@
--- The items of a table stand apart.
+-- The items of a table do not overlap.
 use Rattle.std.proofs.Common.{ℕ, zero, suc, ◌+◌, ◌-◌, ◌*◌, ◌<◌, ◌≤◌, Bool, true, false, cond, nat_lt, List, ◌∷◌, filter, map, slice_index, All, arith}
 use Rattle.std.specs.Prelude.{AllPairs}
 use Rattle.std.specs.List.{range_with_len}
 use Rattle.std.proofs.lemmas.List.Elements.{All-nil, All-cons}
-use Rattle.archive_shape_layout.specs.Shape.{Shape, size_of}
+use Rattle.archive_shape.specs.ShapeLayout.Shape.{Shape, size_of}
 use Rattle.archive_hash_walking.specs.Tables.{Buckets, item_position, ItemsDescend}
 use Rattle.archive_hash_walking.proofs.Passed.{room_of}
 use Rattle.archive_hash_walking.proofs.Stays.{item_ends, items_apart, place_fits}

@@ -1,13 +1,13 @@
 -- The keys and values of the entries of maps.
 use Rattle.std.proofs.Common.{ℕ, List, [], ◌∷◌, All}
-use Rattle.archive_shape_layout.specs.Shape.{Shape}
-use Rattle.archive_shape_layout.specs.Shape.Shape.{table}
-use Rattle.archive_shape_layout.specs.Shape.Shapes.{no_shapes}
-use Rattle.archive_shape_layout.specs.Content.{Names}
-use Rattle.archive_forms_checking.specs.Tuples.{tuple2}
-use Rattle.archive_forms_reading.specs.Parts.{HasValue, both}
-use Rattle.archive_forms_tuples.specs.Fields.{field, field_position}
-use Rattle.archive_forms_tuples.proofs.Held.{fields_at}
+use Rattle.archive_shape.specs.ShapeLayout.Shape.{Shape}
+use Rattle.archive_shape.specs.ShapeLayout.Shape.Shape.{table}
+use Rattle.archive_shape.specs.ShapeLayout.Shape.Shapes.{no_shapes}
+use Rattle.archive_shape.specs.ShapeLayout.Content.{Names}
+use Rattle.archive_forms_values.specs.Tuples.{tuple2}
+use Rattle.archive_forms_values.specs.Parts.{HasValue, both}
+use Rattle.archive_forms_values.specs.Fields.{field, field_position}
+use Rattle.archive_forms_values.proofs.Held.{fields_at}
 use Rattle.archive_hash_walking.specs.Tables.{Buckets, IsTableAt, item_positions}
 use Rattle.archive_hash_walking.proofs.Lookups.{items_there}
 

@@ -1,12 +1,12 @@
--- What look-ups of entries of hash maps say.
+-- The results of look-ups of entries of hash maps.
 use denote.Ref.{Bor}
 use Rattle.std.proofs.Common.{◌≡◌, ◌∙◌, ℕ, ◌≤◌, Bool, List, Option, Some, None, refl, ap, sym}
 use Rattle.std.specs.Option.{option_map}
-use Rattle.archive_shape_layout.specs.Shape.{Shape}
-use Rattle.archive_forms_checking.specs.Tuples.{tuple2}
+use Rattle.archive_shape.specs.ShapeLayout.Shape.{Shape}
+use Rattle.archive_forms_values.specs.Tuples.{tuple2}
 use Rattle.archive_hash_walking.specs.Tables.{Buckets}
-use Rattle.archive_shape_references.specs.declared.refs.Ref.{Ref}
-use Rattle.archive_shape_canonical.specs.Strides.{sixteens}
+use Rattle.archive_shape.specs.declared.references.refs.Ref.{Ref}
+use Rattle.archive_hash_probing.specs.ShapeCanonical.Strides.{sixteens}
 use Rattle.archive_hash_walking.specs.Places.{item_at, LooksUp, FindsAccepted, FindsTheOnly}
 use Rattle.archive_hash_walking.specs.Maps.{LooksUpKey}
 use Rattle.archive_hash_walking.proofs.Lookups.{item_is}
@@ -15,7 +15,7 @@ pub same_position : (o : Option ℕ) → o ≡ option_map (λ at. at) o
 same_position None = refl
 same_position (Some at) = refl
 
--- a look-up of a position is one of what stands there
+-- a look-up of a position is a look-up of the value there
 pub looks_up_of :
     {A : Type 0} (hashes : ℕ → Type 0) (says : ℕ → Bool → Type 0) (item : ℕ → A) (k v : Shape) (b : Buckets) (o : Option ℕ) (found : Option A)
     → found ≡ option_map item o → LooksUpKey hashes says (λ at. at) k v b o → LooksUpKey hashes says item k v b found
@@ -44,7 +44,7 @@ pub pair_is :
     Some made ≡ Some there
 pair_is bytes p q key value a b c d = let e = item_is bytes p key a b in let f = item_is bytes q value c d in cc
 
--- what a search of a table answers is a look-up of a position
+-- the result of a search of a table is a look-up of a position
 pub position_of : (hashes : ℕ → Type 0) (says : ℕ → Bool → Type 0) (k v : Shape) (b : Buckets) (hash strides : ℕ) (o : Option ℕ) → hashes hash
     → LooksUp says (tuple2 k v) b hash o strides → FindsAccepted says (tuple2 k v) b o → FindsTheOnly says (tuple2 k v) b hash o → strides ≤ sixteens b.cap
     → LooksUpKey hashes says (λ at. at) k v b o
@@ -60,7 +60,7 @@ mapped_twice : {A B : Type 0} (item : ℕ → A) (g : A → B) (o : Option ℕ) 
 mapped_twice item g None = refl
 mapped_twice item g (Some at) = refl
 
--- what is read of what a look-up gives is a look-up of it
+-- what is read of the result of a look-up is itself a look-up
 pub looks_up_as :
     {A B : Type 0} (hashes : ℕ → Type 0) (says : ℕ → Bool → Type 0) (item : ℕ → A) (g : A → B) (k v : Shape) (b : Buckets) (found : Option A) (other : Option B)
     → other ≡ option_map g found → LooksUpKey hashes says item k v b found → LooksUpKey hashes says (λ at. g (item at)) k v b other

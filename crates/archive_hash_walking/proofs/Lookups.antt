@@ -3,15 +3,15 @@ use denote.Ref.{Bor}
 use Rattle.std.proofs.Common.{◌≡◌, ℕ, zero, suc, ◌+◌, ◌*◌, ◌^◌, ◌-◌, ◌<◌, ◌≤◌, ◌==◌, min, Bool, true, false, cond, nat_lt, List, [], ◌∷◌, map, filter, slice_index, Option, Some, None, Contains, IfSome, All, refl, ap, sym, ◌∙◌, subst, arith, eqb-true, eq-eqb, lt-ltb, ltb-true, mul-le-mul_right}
 use Rattle.std.specs.List.{range_with_len, list_any, flat_map}
 use Rattle.std.proofs.lemmas.List.Elements.{Contains-append_right, All-nil, All-cons, All-contains}
-use Rattle.archive_shape_layout.specs.Shape.{Shape, size_of}
-use Rattle.archive_shape_layout.specs.Shape.Shape.{table}
-use Rattle.archive_shape_layout.specs.Value.{Values}
-use Rattle.archive_shape_layout.specs.Value.Values.{no_values, more_values}
-use Rattle.archive_shape_layout.specs.Content.{Names, members}
-use Rattle.archive_shape_references.specs.declared.refs.Ref.{Ref}
-use Rattle.archive_forms_reading.specs.Parts.{HasValue}
-use Rattle.archive_shape_canonical.specs.Strides.{strides, strides_from, stop, least_power, places_shown}
-use Rattle.archive_hash_layout.specs.Reach.{Reaches, reach, searched}
+use Rattle.archive_shape.specs.ShapeLayout.Shape.{Shape, size_of}
+use Rattle.archive_shape.specs.ShapeLayout.Shape.Shape.{table}
+use Rattle.archive_shape.specs.ShapeLayout.Value.{Values}
+use Rattle.archive_shape.specs.ShapeLayout.Value.Values.{no_values, more_values}
+use Rattle.archive_shape.specs.ShapeLayout.Content.{Names, members}
+use Rattle.archive_shape.specs.declared.references.refs.Ref.{Ref}
+use Rattle.archive_forms_values.specs.Parts.{HasValue}
+use Rattle.archive_hash_probing.specs.ShapeCanonical.Strides.{strides, strides_from, stop, least_power, places_shown}
+use Rattle.archive_hash_probing.specs.ShapeCanonical.Reach.{Reaches, reach, searched}
 use Rattle.archive_hash_walking.specs.Tables.{Buckets, no_buckets, item_position, item_positions, IsTableAt, AreItemsAt}
 use Rattle.archive_hash_walking.specs.Places.{item_at, FindsAccepted}
 use Rattle.archive_hash_walking.proofs.Read.{one_table}
@@ -46,11 +46,11 @@ module _ (s : Shape) (b : Buckets) (p : ℕ) where
   pub full_among : p < b.cap → slice_index b.controls p < 128 → Contains (item_positions s b) (item_position s b.target p)
   full_among below full = item_among (item_position s b.target) (λ q. nat_lt (slice_index b.controls q) 128) b.cap 0 p (omega arith) (omega (arith, below)) (lt-ltb _ _ full)
 
-  -- it stands below the controls
+  -- it lies below the controls
   pub item_room : {bytes : List ℕ} {pos : ℕ} → HasPlaces bytes s pos b → p < b.cap → (p + 1) * size_of s ≤ b.target
   item_room places below = let up : (p + 1) * size_of s ≤ b.cap * size_of s = mul-le-mul_right (size_of s) (omega (arith, below)) in let room = places.room in omega (arith, up, room)
 
--- what is said of the place that is found
+-- what holds of the place that is found
 pub some_item : (P : ℕ → Type 0) (o : Option ℕ) (p : ℕ) → IfSome o P → o ≡ Some p → P p
 some_item P None p h e = absurd cc
 some_item P (Some q) p h e = let same : q ≡ p = cc in subst P same h
@@ -108,7 +108,7 @@ item_there s knows bytes pos at P h found =
     let f = found b.buckets b.table in
     All-contains (HasValue s knows bytes) (item_positions s b.buckets) at (items_there s knows bytes pos h b.buckets b.table) f.0
 
--- items of a table with places have the size that their type says
+-- items of a table with places have the size that their type has
 pub size_is : (size stopped cap target : ℕ) → stopped ≡ min size (2 ^ 64 - 1) → 0 < cap → cap * size ≤ target → target < 2 ^ 64 → stopped ≡ size
 size_is size stopped cap target is some room fits = let one : 1 * size ≤ cap * size = mul-le-mul_right size (omega (arith, some)) in omega (arith, is, one, room, fits)
 

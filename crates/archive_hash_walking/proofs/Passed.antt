@@ -3,15 +3,15 @@ use Rattle.std.proofs.Common.{◌≡◌, ◌∙◌, ℕ, zero, suc, ◌+◌, ◌
 use Rattle.std.specs.List.{range_with_len}
 use Rattle.std.proofs.lemmas.List.{length-map}
 use Rattle.std.proofs.lemmas.List.Elements.{All-nil, All-cons, All-map, All-head, All-contains}
-use Rattle.archive_shape_layout.specs.Bytes.{align_up}
-use Rattle.archive_shape_layout.specs.Shape.{Shape, size_of, align_of}
-use Rattle.archive_shape_layout.specs.Shape.Shapes.{no_shapes, more_shapes}
-use Rattle.archive_shape_layout.specs.Content.{Names, control_count}
-use Rattle.archive_shape_references.specs.Bytes.{overwrite}
-use Rattle.archive_forms_checking.specs.Tuples.{tuple2}
-use Rattle.archive_forms_reading.specs.Parts.{both}
-use Rattle.archive_forms_tuples.specs.Fields.{field_position}
-use Rattle.archive_forms_tuples.proofs.Stands.{field_stands}
+use Rattle.archive_shape.specs.ShapeLayout.Bytes.{align_up}
+use Rattle.archive_shape.specs.ShapeLayout.Shape.{Shape, size_of, align_of}
+use Rattle.archive_shape.specs.ShapeLayout.Shape.Shapes.{no_shapes, more_shapes}
+use Rattle.archive_shape.specs.ShapeLayout.Content.{Names, control_count}
+use Rattle.archive_shape.specs.Bytes.{overwrite}
+use Rattle.archive_forms_values.specs.Tuples.{tuple2}
+use Rattle.archive_forms_values.specs.Parts.{both}
+use Rattle.archive_forms_values.specs.Fields.{field_position}
+use Rattle.archive_forms_values.proofs.Stands.{field_stands}
 use Rattle.archive_hash_walking.specs.Tables.{Buckets, no_buckets, full_places, IsTableAt, item_position}
 use Rattle.archive_hash_walking.specs.Tables.IsTableAt.{has_none, has_buckets}
 use Rattle.archive_hash_walking.specs.Places.{places_from}
@@ -80,7 +80,7 @@ module _ {s : Shape} {knows : Names → Type 0} (m : BegunTable s knows) where
       let left = places_passed m.buckets.controls m.buckets.cap w.next (omega (arith, cap)) in
       goes.count ∙ ap length goes.left ∙ ap (λ l. length (map (item_position s m.buckets.target) l)) left
 
-  -- a table of which items are left has places, in whatever is written over its items
+  -- a table of which items are left has places, after any write over its items
   pub has_places : (bytes : List ℕ) (w : PlacesLeft) (ps : List ℕ) → GoesOn m w ps → (w.left ≡ 0 → ⊥) → IsWritten m bytes → HasPlaces bytes s m.pos m.buckets
   has_places bytes w ps goes some written =
       let t = table_stays s knows m.bytes bytes m.pos m.buckets m.has m.places written in
@@ -135,7 +135,7 @@ unmapped P f [] all = All-nil (λ x. P (f x))
 unmapped P f (x ∷ xs) all = let each = first_of P (f x) (map f xs) (f x ∷ map f xs) refl all in All-cons (λ y. P (f y)) x xs each.0 (unmapped P f xs each.1)
 
 module _ {k v : Shape} {knows others : Names → Type 0} (m : BegunMap k v knows others) where
-  -- whatever is written over its values, its keys are kept
+  -- after any write over its values, its keys are kept
   pub keys_kept : (bytes : List ℕ) → HasValuesWritten m bytes → All (λ at. IsKept k knows m.bytes (take (field_position k no_shapes v at) bytes) at) (items_of m)
   keys_kept bytes written =
       let low = m.buckets.target - m.buckets.cap * size_of (tuple2 k v) in
@@ -147,7 +147,7 @@ module _ {k v : Shape} {knows others : Names → Type 0} (m : BegunMap k v knows
   pub values_within : All (λ at. field_position k no_shapes v at + size_of v ≤ length m.bytes) (items_of m)
   values_within i d less = let within = items_within m i d less in let ends = value_ends k v in omega (arith, within, ends)
 
-  -- the value of the next entry stands behind its key, by sizes and offsets that stop at `usize::MAX`
+  -- the value of the next entry lies after its key, by sizes and offsets that saturate at `usize::MAX`
   pub value_stands : (bytes : List ℕ) (w : PlacesLeft) (ps rest : List ℕ) (at size align behind : ℕ) → GoesOn m w ps → ps ≡ at ∷ rest → HasValuesWritten m bytes → length bytes < 2 ^ 63
       → size ≡ min (size_of k) (2 ^ 64 - 1) → align ≡ align_of v → behind ≡ min (align_up size align) (2 ^ 64 - 1)
       → (at + behind ≡ field_position k no_shapes v at) × (at + behind + size_of v ≤ length bytes)

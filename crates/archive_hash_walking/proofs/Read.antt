@@ -4,32 +4,33 @@ use Rattle.std.proofs.lemmas.List.Elements.{All-nil, All-cons}
 use Rattle.std.proofs.lemmas.List.Sums.{length-filter}
 use Rattle.std.specs.Prelude.{count_by, All}
 use Rattle.std.specs.List.{range_with_len}
-use Rattle.archive_shape_layout.specs.Bytes.{window, word_at, target_from}
-use Rattle.archive_shape_layout.specs.Shape.{Shape, size_of}
-use Rattle.archive_shape_layout.specs.Shape.Shape.{table}
-use Rattle.archive_shape_layout.specs.Value.{Value, Values}
-use Rattle.archive_shape_layout.specs.Value.Value.{group}
-use Rattle.archive_shape_layout.specs.Value.Values.{no_values}
-use Rattle.archive_shape_layout.specs.Content.{Names, Part, Content, content_of, made, members, choose, shape_content, table_parts, buckets_content, buckets_span, control_count, tagged_items, item}
-use Rattle.archive_shape_layout.specs.Content.Part.{at, buckets}
-use Rattle.archive_shape_layout.specs.Content.Label.{same, whole}
-use Rattle.archive_shape_layout.specs.Content.Content.{plain}
-use Rattle.archive_shape_layout.specs.Holds.{Region, Visit, OpenShared, Holds, HoldAll, end_after}
-use Rattle.archive_shape_layout.specs.Holds.HoldAll.{holds_more}
-use Rattle.archive_shape_layout.specs.Visited.{ClaimedAfter}
-use Rattle.archive_shape_layout.proofs.Unique.{by_plain, by_claimed}
-use Rattle.archive_shape_layout.proofs.Framed.{le_align_up}
-use Rattle.archive_shape_layout.proofs.Visited.{claimed_raised, claimed_front, claimed_later, claimed_inside}
-use Rattle.archive_shape_references.proofs.Pieces.{word_within, length-window}
-use Rattle.archive_shape_checking.proofs.Inverted.{IsKnown, held_is_known}
-use Rattle.archive_shape_checking.proofs.Questions.{tested_known, followed_known}
+use Rattle.archive_shape.specs.ShapeLayout.Bytes.{window, word_at, target_from}
+use Rattle.archive_shape.specs.ShapeLayout.Shape.{Shape, size_of}
+use Rattle.archive_shape.specs.ShapeLayout.Shape.Shape.{table}
+use Rattle.archive_shape.specs.ShapeLayout.Value.{Value, Values}
+use Rattle.archive_shape.specs.ShapeLayout.Value.Value.{group}
+use Rattle.archive_shape.specs.ShapeLayout.Value.Values.{no_values}
+use Rattle.archive_shape.specs.ShapeLayout.Content.{Names, Part, Content, content_of, made, members, choose, shape_content, table_parts, buckets_content, buckets_span, control_count, tagged_items, item}
+use Rattle.archive_shape.specs.ShapeLayout.Content.Part.{at, buckets}
+use Rattle.archive_shape.specs.ShapeLayout.Content.Label.{same, whole}
+use Rattle.archive_shape.specs.ShapeLayout.Content.Content.{plain}
+use Rattle.archive_shape.specs.ShapeLayout.Holds.{Region, Visit, OpenShared, Holds, HoldAll, end_after}
+use Rattle.archive_shape.specs.ShapeLayout.Holds.HoldAll.{holds_more}
+use Rattle.archive_shape.specs.ShapeLayout.Visited.{ClaimedAfter}
+use Rattle.archive_shape.proofs.ShapeLayout.Unique.{by_plain, by_claimed}
+use Rattle.archive_shape.proofs.ShapeLayout.Framed.{le_align_up}
+use Rattle.archive_shape.proofs.ShapeLayout.Visited.{claimed_raised, claimed_front, claimed_later, claimed_inside}
+use Rattle.archive_shape.proofs.Pieces.{length-window}
+use Rattle.archive_shape.proofs.Inverted.{IsKnown, held_is_known}
+use Rattle.archive_shape.proofs.Questions.{tested_known, followed_known}
 use Rattle.archive_shape.specs.Key.{HeldAt}
-use Rattle.archive_forms_layout.proofs.TextContent.{followed, chosen_no}
-use Rattle.archive_forms_checking.proofs.Targets.{first_word}
-use Rattle.archive_forms_reading.proofs.Inside.{none_held, one_held}
-use Rattle.archive_forms_reading.proofs.Pointed.{made_same, made_whole}
+use Rattle.archive_forms_values.proofs.FormsLaws.TextContent.{followed, chosen_no}
+use Rattle.archive_forms_values.proofs.Targets.{first_word}
+use Rattle.archive_forms_values.proofs.Inside.{none_held, one_held}
+use Rattle.archive_forms_values.proofs.Pointed.{made_same, made_whole}
 use Rattle.archive_hash_walking.specs.Tables.{Buckets, no_buckets, item_position, item_positions, AreItemsAt, IsTableOf, TableIsRead, OneTable}
 use Rattle.archive_hash_walking.specs.Tables.IsTableAt.{has_none, has_buckets}
+use Rattle.archive_shape.proofs.ShapeLayout.Windows.{word_within}
 
 both_true : (a b : Bool) → (a && b) ≡ true → (a ≡ true) × (b ≡ true)
 both_true true b e = (refl, e)
@@ -51,7 +52,7 @@ map_chosen false f i ps = refl
 
 -- ---- the items of a table
 
--- some value stands at a position, and what it claims ascends before another
+-- some value is at a position, and what it claims ascends before another
 pub record HasBelow (s : Shape) (knows : Names → Type 0) (bytes : List ℕ) (low pos : ℕ) : Type 0 where
   pub value : Value
   pub held : HeldAt s knows bytes pos value
@@ -62,11 +63,11 @@ module _ (s : Shape) (knows : Names → Type 0) (bytes : List ℕ) (names : Name
   abbrev Full : List ℕ → ℕ → ℕ → List ℕ
   Full controls n i = filter (λ p. nat_lt (slice_index controls p) 128) (range_with_len i n)
 
-  -- values stand at positions, and what they claim ascends before the buckets
+  -- values are at positions, and what they claim ascends before the buckets
   abbrev Below : List ℕ → Values → Type 0
   Below ps vs = AreItemsAt s knows bytes ps vs × All (HasBelow s knows bytes (target - cap * size_of s)) ps
 
-  -- items that the layout has in order stand at these positions
+  -- items that the layout has in order are at these positions
   abbrev Stand : List Part → List ℕ → Type 0
   Stand parts ps =
       (level low : ℕ) (inside : List OpenShared) (vs : Values) (regions : List Region) (before after : List Visit)
@@ -139,7 +140,7 @@ pub cap_fits : (cap : ℕ) → cap ≤ control_count cap
 unfolding control_count
 cap_fits cap = let up = le_align_up cap 16 in omega arith
 
--- a table is read, its controls do not stand behind it, and what its items claim ascends before its buckets
+-- a table is read, its controls do not begin after its position, and what its items claim ascends before its buckets
 pub record IsRead (s : Shape) (knows : Names → Type 0) (bytes : List ℕ) (pos : ℕ) (value : Value) : Type 0 where
   pub of : IsTableOf s knows bytes pos value
   pub behind : of.buckets.target ≤ pos
@@ -158,7 +159,7 @@ module _ (s : Shape) (knows : Names → Type 0) (bytes : List ℕ) (pos : ℕ) (
   offset_is : word_at own 0 ≡ word_at bytes pos
   offset_is = first_word bytes pos 12 (omega arith)
 
-  -- the buckets that the layout has behind the table's pointer
+  -- the buckets that the table's pointer leads to in the layout
   record HasBuckets (target cap : ℕ) : Type 0 where
     leads : target_from pos (word_at own 0) ≡ Some target
     fewer : word_at own 4 < cap

@@ -1,11 +1,11 @@
--- What the own bytes of a table say of its places.
+-- What the own bytes of a table state about its places.
 use Rattle.std.proofs.Common.{◌≡◌, ◌∙◌, ℕ, ◌+◌, ◌*◌, ◌<◌, ◌≤◌, ◌==◌, IsTrue, ◌↔◌, List, [], ◌∷◌, length, refl, ap, sym, arith, eqb-true, eq-eqb}
-use Rattle.archive_shape_layout.specs.Bytes.{window, word_at}
-use Rattle.archive_shape_layout.specs.Shape.{Shape, size_of}
-use Rattle.archive_shape_layout.specs.Shape.Shape.{table}
-use Rattle.archive_shape_layout.specs.Content.{Names, control_count}
-use Rattle.archive_forms_reading.specs.Parts.{HasValue, PointsTo}
-use Rattle.archive_hash_places.specs.Controls.{AreControls}
+use Rattle.archive_shape.specs.ShapeLayout.Bytes.{window, word_at}
+use Rattle.archive_shape.specs.ShapeLayout.Shape.{Shape, size_of}
+use Rattle.archive_shape.specs.ShapeLayout.Shape.Shape.{table}
+use Rattle.archive_shape.specs.ShapeLayout.Content.{Names, control_count}
+use Rattle.archive_forms_values.specs.Parts.{HasValue, PointsTo}
+use Rattle.archive_hash_probing.specs.Controls.{AreControls}
 use Rattle.archive_hash_walking.specs.Tables.{Buckets, no_buckets, full_places, IsTableAt, IsTableOf}
 use Rattle.archive_hash_walking.specs.Tables.IsTableAt.{has_none, has_buckets}
 use Rattle.archive_hash_walking.proofs.Read.{table_is_read}

@@ -1,31 +1,31 @@
--- What stays of a table whose items, or the values of whose entries, are written over.
+-- What stays the same of a table whose items, or the values of whose entries, are written over.
 use Rattle.std.proofs.Common.{◌≡◌, ◌∙◌, ℕ, zero, ◌+◌, ◌-◌, ◌*◌, ◌<◌, ◌≤◌, List, [], ◌∷◌, ◌++◌, length, take, drop, map, All, inl, inr, refl, ap, sym, subst, arith, length-append, mul-le-mul_right}
 use Rattle.std.specs.Prelude.{slice_index}
 use Rattle.std.proofs.Math.Seq.{take-append_seam}
 use Rattle.std.proofs.lemmas.Bool.{cases_lt}
 use Rattle.std.proofs.lemmas.List.{ext_get_or, length-take-le, length-drop, places}
 use Rattle.std.proofs.lemmas.List.Elements.{All-nil, All-map}
-use Rattle.archive_shape_layout.specs.Bytes.{target_from, align_up}
-use Rattle.archive_shape_layout.specs.Shape.{Shape, size_of, align_of, fields_end}
-use Rattle.archive_shape_layout.specs.Shape.Shape.{table}
-use Rattle.archive_shape_layout.specs.Shape.Shapes.{no_shapes, more_shapes}
-use Rattle.archive_shape_layout.specs.Value.{Value, Values}
-use Rattle.archive_shape_layout.specs.Value.Value.{group}
-use Rattle.archive_shape_layout.specs.Value.Values.{more_values}
-use Rattle.archive_shape_layout.specs.Content.{Names, control_count}
-use Rattle.archive_shape_layout.specs.Laws.{AgreesOn}
-use Rattle.archive_shape_layout.proofs.Framed.{frame, le_align_up}
-use Rattle.archive_shape_references.specs.Bytes.{overwrite}
-use Rattle.archive_shape_references.proofs.PointerSizes.{first_multiple}
-use Rattle.archive_shape_references.proofs.Written.{length-overwrite, byte_before}
+use Rattle.archive_shape.specs.ShapeLayout.Bytes.{target_from, align_up}
+use Rattle.archive_shape.specs.ShapeLayout.Shape.{Shape, size_of, align_of, fields_end}
+use Rattle.archive_shape.specs.ShapeLayout.Shape.Shape.{table}
+use Rattle.archive_shape.specs.ShapeLayout.Shape.Shapes.{no_shapes, more_shapes}
+use Rattle.archive_shape.specs.ShapeLayout.Value.{Value, Values}
+use Rattle.archive_shape.specs.ShapeLayout.Value.Value.{group}
+use Rattle.archive_shape.specs.ShapeLayout.Value.Values.{more_values}
+use Rattle.archive_shape.specs.ShapeLayout.Content.{Names, control_count}
+use Rattle.archive_shape.specs.ShapeLayout.Laws.{AgreesOn}
+use Rattle.archive_shape.proofs.ShapeLayout.Framed.{frame, le_align_up}
+use Rattle.archive_shape.specs.Bytes.{overwrite}
+use Rattle.archive_shape.proofs.ShapeLayout.PointerSizes.{first_multiple}
+use Rattle.archive_shape.proofs.Written.{length-overwrite, byte_before}
 use Rattle.archive_shape.specs.Key.{HeldAt}
-use Rattle.archive_btree_layout.specs.Changing.{IsOutside}
-use Rattle.archive_btree_layout.proofs.Changed.{AreSame, word_same, window_same, regions_same}
-use Rattle.archive_forms_checking.specs.Tuples.{tuple2}
-use Rattle.archive_forms_reading.specs.Parts.{HasValue, both}
-use Rattle.archive_forms_tuples.specs.Fields.{field, field_position}
-use Rattle.archive_shape_layout.proofs.Visited.{AgreeBelow, regions_agree, claimed_same}
-use Rattle.archive_forms_tuples.proofs.Held.{fields_at}
+use Rattle.archive_shape.specs.ShapeLayout.Bytes.{IsOutside}
+use Rattle.archive_shape.proofs.ShapeLayout.SameBytes.{AreSame, word_same, window_same, regions_same}
+use Rattle.archive_forms_values.specs.Tuples.{tuple2}
+use Rattle.archive_forms_values.specs.Parts.{HasValue, both}
+use Rattle.archive_forms_values.specs.Fields.{field, field_position}
+use Rattle.archive_shape.proofs.ShapeLayout.Visited.{AgreeBelow, regions_agree, claimed_same}
+use Rattle.archive_forms_values.proofs.Held.{fields_at}
 use Rattle.archive_hash_walking.specs.Tables.{Buckets, IsTableAt, item_position, item_positions, full_places}
 use Rattle.archive_hash_walking.specs.Tables.IsTableAt.{has_none, has_buckets}
 use Rattle.archive_hash_walking.specs.Walks.{DiffersAt, IsKept}
@@ -72,7 +72,7 @@ module _ (xs ys : List ℕ) (n : ℕ) (fits : n ≤ length xs) (room : n ≤ len
   spliced_behind : (i : ℕ) → n ≤ i → slice_index (take n xs ++ drop n ys) i ≡ slice_index ys i
   spliced_behind i from = grind (arith, places)
 
--- ---- where items stand
+-- ---- the positions of items
 
 module _ (s : Shape) (b : Buckets) (P : ℕ → Type 0) where
   pub all_items : ((p : ℕ) → p < b.cap → P (item_position s b.target p)) → All P (item_positions s b)
@@ -100,7 +100,7 @@ module _ (s : Shape) (b : Buckets) (room : b.cap * size_of s ≤ b.target) where
 
 -- ---- the table
 
--- its controls do not stand behind it, and what its items claim ascends before its buckets
+-- its controls do not begin after its position, and what its items claim ascends before its buckets
 pub record Stands (s : Shape) (knows : Names → Type 0) (bytes : List ℕ) (pos : ℕ) (b : Buckets) : Type 0 where
   pub behind : b.target ≤ pos
   pub below : All (HasBelow s knows bytes (b.target - b.cap * size_of s)) (item_positions s b)
@@ -110,7 +110,7 @@ table_stands s knows bytes pos b has is =
     let r = is_read s knows bytes pos has.value has.held in
     subst (Stands s knows bytes pos) (one_table bytes s pos r.of.buckets b r.of.table is) (record { behind = r.behind; below = r.below })
 
--- whatever is written over its items, it has the same places
+-- after any write over its items, it has the same places
 pub table_stays : (s : Shape) (knows : Names → Type 0) (bytes others : List ℕ) (pos : ℕ) (b : Buckets) → HasValue (table s) knows bytes pos
     → IsTableAt bytes s pos b → DiffersAt (size_of s) (item_positions s b) bytes others → IsTableAt others s pos b
 table_stays s knows bytes others pos b has (has_none none is) d =

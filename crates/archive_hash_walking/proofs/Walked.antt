@@ -3,9 +3,9 @@ use denote.Ref.{Bor}
 use Rattle.std.proofs.Common.{◌≡◌, ◌∙◌, ℕ, zero, suc, ◌+◌, ◌-◌, ◌<◌, ◌≤◌, Bool, true, false, cond, nat_lt, List, [], ◌∷◌, map, filter, slice_index, All, refl, ap, subst, arith, lt-ltb, ltb-true}
 use Rattle.std.specs.List.{range_with_len}
 use Rattle.std.proofs.lemmas.List.Elements.{All-nil, All-cons}
-use Rattle.archive_shape_layout.specs.Shape.{Shape, size_of}
-use Rattle.archive_shape_layout.specs.Content.{Names}
-use Rattle.archive_forms_reading.specs.Parts.{HasValue}
+use Rattle.archive_shape.specs.ShapeLayout.Shape.{Shape, size_of}
+use Rattle.archive_shape.specs.ShapeLayout.Content.{Names}
+use Rattle.archive_forms_values.specs.Parts.{HasValue}
 use Rattle.archive_hash_walking.specs.Tables.{Buckets, full_places, item_position}
 use Rattle.archive_hash_walking.specs.Places.{places_from, full_place}
 
@@ -57,7 +57,7 @@ pub positions_of : (T : Type 0) (bytes : Bor (List ℕ)) (controls : List ℕ) (
 positions_of T bytes controls s target [] = refl
 positions_of T bytes controls s target (p ∷ ps) = ap (λ qs. item_position s target p ∷ qs) (positions_of T bytes controls s target ps)
 
--- they are there where the items of those positions are
+-- each item at a full place is a value, where each item at those positions is one
 pub all_there : (T : Type 0) (s : Shape) (knows : Names → Type 0) (bytes : Bor (List ℕ)) (controls : List ℕ) (target : ℕ) (ps : List ℕ)
     → All (HasValue s knows bytes.now) (map (item_position s target) ps) → All (λ e. HasValue s knows e.2.bytes.now e.2.pos) (map (full_place {T = T} bytes controls target (size_of s)) ps)
 all_there T s knows bytes controls target [] h = All-nil (λ e. HasValue s knows e.2.bytes.now e.2.pos)

@@ -1,16 +1,16 @@
--- Archived hash maps: tables of entries, and what their look-ups answer.
+-- Archived hash maps: tables of entries, and the results of their look-ups.
 use denote.Ref.{Bor}
 use Rattle.std.specs.Prelude.{◌≡◌, ℕ, ◌+◌, Bool, true, List, slice_index, Option}
 use Rattle.std.specs.List.{fold}
 use Rattle.std.specs.Ordering.{is_eq}
 use Rattle.std.specs.declared.cmp.Ordering.{Ordering}
-use Rattle.archive_shape_canonical.specs.FirstFit.{hash_tag}
-use Rattle.archive_shape_layout.specs.Shape.{Shape}
-use Rattle.archive_shape_layout.specs.Shape.Shapes.{no_shapes}
-use Rattle.archive_shape_references.specs.declared.refs.Ref.{Ref}
-use Rattle.archive_forms_checking.specs.Tuples.{tuple2}
-use Rattle.archive_forms_tuples.specs.Fields.{field_position}
-use Rattle.archive_hash_layout.specs.Reach.{Reaches}
+use Rattle.archive_hash_probing.specs.ShapeCanonical.FirstFit.{hash_tag}
+use Rattle.archive_shape.specs.ShapeLayout.Shape.{Shape}
+use Rattle.archive_shape.specs.ShapeLayout.Shape.Shapes.{no_shapes}
+use Rattle.archive_shape.specs.declared.references.refs.Ref.{Ref}
+use Rattle.archive_forms_values.specs.Tuples.{tuple2}
+use Rattle.archive_forms_values.specs.Fields.{field_position}
+use Rattle.archive_hash_probing.specs.ShapeCanonical.Reach.{Reaches}
 use Rattle.archive_hash_walking.specs.Tables.{Buckets, IsTableAt, item_position}
 use Rattle.archive_hash_walking.specs.Places.{item_at, Answers}
 
@@ -18,12 +18,12 @@ use Rattle.archive_hash_walking.specs.Places.{item_at, Answers}
 abbrev pub HashesTo : {H : Type 0} → (H → Type 0) → (H → List ℕ → H) → (H → ℕ) → List (List ℕ) → ℕ → Type 0
 HashesTo {H} is_default write finish input hash = (first : H) × is_default first × (hash ≡ finish (fold write first input))
 
--- whether the key at a position is the query is said so
+-- the Boolean is whether the key at a position is the query
 abbrev pub KeySays : {Q : Type 0} → (List ℕ → ℕ → Q → Type 0) → (Q → Q → Ordering) → List ℕ → Q → ℕ → Bool → Type 0
 KeySays {Q} key_of order bytes query at x = (key : Q) × key_of bytes at key × (x ≡ is_eq (order key query))
 
--- the map at a position has the query: whichever hash it has, a search for it comes to a key that is the query and that
--- stands under the hash's tag
+-- the map at a position has the query: for each hash of the query, a search for the hash reaches a place whose key is
+-- the query and whose control is the hash's tag
 pub record HasKey {Q : Type 0} (hashes : ℕ → Type 0) (key_of : List ℕ → ℕ → Q → Type 0) (order : Q → Q → Ordering) (bytes : List ℕ) (k v : Shape) (pos : ℕ) (query : Q) : Type 0 where
   pub buckets : Buckets
   pub place : ℕ
@@ -31,7 +31,7 @@ pub record HasKey {Q : Type 0} (hashes : ℕ → Type 0) (key_of : List ℕ → 
   pub reached : (hash : ℕ) → hashes hash → Reaches buckets.controls hash buckets.cap place × (slice_index buckets.controls place ≡ hash_tag hash)
   pub equal : KeySays key_of order bytes query (item_position (tuple2 k v) buckets.target place) true
 
--- what calls say of a query and the keys
+-- what calls return for a query and the keys
 abbrev pub query_calls : {F Q K : Type 0} → (F → Q → Ref K → Bool → Type 0) → F → Q → Bor (List ℕ) → ℕ → Bool → Type 0
 query_calls post accepts query bytes at x = post accepts query (item_at bytes at) x
 
@@ -45,11 +45,11 @@ value_at bytes k v at = item_at bytes (field_position k no_shapes v at)
 abbrev pub entry_at : {K V : Type 0} → Bor (List ℕ) → Shape → Shape → ℕ → Ref K × Ref V
 entry_at bytes k v at = (key_at bytes at, value_at bytes k v at)
 
--- what stands at a position, and what stands so far behind it
+-- the value at a position, and the value `behind` bytes after it
 abbrev pub pair_at : {K V : Type 0} → Bor (List ℕ) → ℕ → ℕ → Ref K × Ref V
 pair_at bytes behind at = (item_at bytes at, item_at bytes (at + behind))
 
--- what a look-up of a key answers, where it hashes to one of these
+-- the result of a look-up of a key that has one of these hashes
 pub record LooksUpKey {A : Type 0} (hashes : ℕ → Type 0) (says : ℕ → Bool → Type 0) (item : ℕ → A) (k v : Shape) (b : Buckets) (found : Option A) : Type 0 where
   pub hash : ℕ
   pub strides : ℕ

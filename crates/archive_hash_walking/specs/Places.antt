@@ -1,14 +1,14 @@
--- The places of a table as the code holds them, and what its look-ups answer.
+-- The places of a table as the code holds them, and the results of its look-ups.
 use denote.Ref.{Bor}
 use Rattle.std.specs.Prelude.{◌≡◌, ℕ, ◌+◌, ◌*◌, ◌-◌, ◌<◌, ◌≤◌, nat_lt, List, filter, Bool, true, false, slice_index, Option, Some, None, IfSome, Contains}
 use Rattle.std.specs.List.{range_with_len}
 use Rattle.std.specs.Option.{option_map}
-use Rattle.archive_shape_layout.specs.Shape.{Shape}
-use Rattle.archive_shape_references.specs.declared.refs.Ref.{Ref}
-use Rattle.archive_shape_canonical.specs.Strides.{sixteens}
-use Rattle.archive_shape_canonical.specs.FirstFit.{hash_tag}
-use Rattle.archive_hash_layout.specs.Reach.{Reaches}
-use Rattle.archive_hash_places.specs.Search.{IsLookup}
+use Rattle.archive_shape.specs.ShapeLayout.Shape.{Shape}
+use Rattle.archive_shape.specs.declared.references.refs.Ref.{Ref}
+use Rattle.archive_hash_probing.specs.ShapeCanonical.Strides.{sixteens}
+use Rattle.archive_hash_probing.specs.ShapeCanonical.FirstFit.{hash_tag}
+use Rattle.archive_hash_probing.specs.ShapeCanonical.Reach.{Reaches}
+use Rattle.archive_hash_probing.specs.Search.{IsLookup}
 use Rattle.archive_hash_walking.specs.Tables.{Buckets, item_position, item_positions}
 use Rattle.archive_hash_walking.specs.declared.buckets.BucketsAt.{BucketsAt}
 
@@ -16,12 +16,12 @@ use Rattle.archive_hash_walking.specs.declared.buckets.BucketsAt.{BucketsAt}
 abbrev pub held : BucketsAt → Buckets
 held r = record { target = r.target; cap = r.capacity; controls = r.controls.now }
 
--- the places from one on whose controls are tags, in ascending order
+-- the places from `next` on whose controls are tags, in ascending order
 abbrev pub places_from : List ℕ → ℕ → ℕ → List ℕ
 places_from controls cap next = filter (λ p. nat_lt (slice_index controls p) 128) (range_with_len next (cap - next))
 
--- what a look-up of a hash finds, where `says at x` holds if x is said of the item at a position: where the item stands, and
--- how many strides were searched; a table without places is not searched
+-- the result of a look-up of a hash, where `says at x` holds if x is the answer for the item at a position: the item's
+-- position, and how many strides were searched; a table without places is not searched
 pub data LooksUp (says : ℕ → Bool → Type 0) (s : Shape) (b : Buckets) (hash : ℕ) (found : Option ℕ) (strides : ℕ) : Type 0 where
   has_no_places : b.cap ≡ 0 → found ≡ None → strides ≡ 0 → LooksUp says s b hash found strides
   has_places :
@@ -30,7 +30,7 @@ pub data LooksUp (says : ℕ → Bool → Type 0) (s : Shape) (b : Buckets) (has
       → IsLookup (λ p x. says (item_position s b.target p) x) b.controls b.cap hash place strides
       → LooksUp says s b hash found strides
 
--- it finds the item of a place that is the only one which can be accepted, stands under its tag and in its reach
+-- it finds the item of a place that is the only one that can be accepted, has the hash's tag and is in its reach
 abbrev pub FindsTheOnly : (ℕ → Bool → Type 0) → Shape → Buckets → ℕ → Option ℕ → Type 0
 FindsTheOnly says s b hash found =
     (place : ℕ)
@@ -48,7 +48,7 @@ FindsAccepted says s b found = IfSome found (λ at. Contains (item_positions s b
 abbrev pub item_at : {T : Type 0} → Bor (List ℕ) → ℕ → Ref T
 item_at bytes at = record { bytes = bytes; pos = at; of = record {} }
 
--- what a look-up answers of the items, as it gives them: `item` is what it gives of the item at a position
+-- the result of a look-up of the items: `item` is what the look-up returns for the item at a position
 pub record Answers {A : Type 0} (says : ℕ → Bool → Type 0) (item : ℕ → A) (s : Shape) (b : Buckets) (hash : ℕ) (found : Option A) (strides : ℕ) : Type 0 where
   pub position : Option ℕ
   pub is : found ≡ option_map item position
@@ -57,7 +57,7 @@ pub record Answers {A : Type 0} (says : ℕ → Bool → Type 0) (item : ℕ →
   pub only : FindsTheOnly says s b hash position
   pub few : strides ≤ sixteens b.cap
 
--- what calls say of the items
+-- what calls return for the items
 abbrev pub calls : {T F : Type 0} → (F → Ref T → Bool → Type 0) → F → Bor (List ℕ) → ℕ → Bool → Type 0
 calls post accepts bytes at x = post accepts (item_at bytes at) x
 

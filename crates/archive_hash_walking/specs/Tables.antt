@@ -1,16 +1,16 @@
--- Hash tables as they stand in archives: their controls, and where their items stand.
+-- Hash tables in archives: their controls, and the positions of their items.
 use Rattle.std.specs.Prelude.{◌≡◌, ℕ, ◌+◌, ◌-◌, ◌*◌, ◌<◌, ◌≤◌, nat_lt, List, [], ◌∷◌, length, slice_index, map, filter, Some, AllPairs, ⊤}
 use Rattle.std.specs.List.{range_with_len}
-use Rattle.archive_shape_layout.specs.Bytes.{window, word_at, target_from}
-use Rattle.archive_shape_layout.specs.Shape.{Shape, size_of}
-use Rattle.archive_shape_layout.specs.Shape.Shape.{table}
-use Rattle.archive_shape_layout.specs.Value.{Value, Values}
-use Rattle.archive_shape_layout.specs.Value.Values.{no_values, more_values}
-use Rattle.archive_shape_layout.specs.Content.{Names, members, control_count}
+use Rattle.archive_shape.specs.ShapeLayout.Bytes.{window, word_at, target_from}
+use Rattle.archive_shape.specs.ShapeLayout.Shape.{Shape, size_of}
+use Rattle.archive_shape.specs.ShapeLayout.Shape.Shape.{table}
+use Rattle.archive_shape.specs.ShapeLayout.Value.{Value, Values}
+use Rattle.archive_shape.specs.ShapeLayout.Value.Values.{no_values, more_values}
+use Rattle.archive_shape.specs.ShapeLayout.Content.{Names, members, control_count}
 use Rattle.archive_shape.specs.Key.{HeldAt}
-use Rattle.archive_hash_places.specs.Controls.{AreControls}
+use Rattle.archive_hash_probing.specs.Controls.{AreControls}
 
--- the places of a table: where its controls begin, how many places there are, and the controls
+-- the places of a table: the position of its controls, the number of places, and the controls
 pub record Buckets : Type 0 where
   pub target : ℕ
   pub cap : ℕ
@@ -24,16 +24,17 @@ no_buckets = record { target = 0; cap = 0; controls = [] }
 abbrev pub full_places : Buckets → List ℕ
 full_places b = filter (λ p. nat_lt (slice_index b.controls p) 128) (range_with_len 0 b.cap)
 
--- where the item of a place stands: place p is the bucket p + 1 below the controls
+-- the position of the item of a place: place p is the bucket p + 1 below the controls
 abbrev pub item_position : Shape → ℕ → ℕ → ℕ
 item_position s target p = target - (p + 1) * size_of s
 
--- where the items stand, by ascending place
+-- the positions of the items, by ascending place
 abbrev pub item_positions : Shape → Buckets → List ℕ
 item_positions s b = map (item_position s b.target) (full_places b)
 
--- the table at a position has these places: none where its length is 0; else its pointer leads to the controls, the bytes
--- have them all and below them a bucket for each place, there are more places than items, and as many tags as items
+-- the table at a position has these places: none where its length is 0; otherwise its pointer leads to the controls,
+-- the bytes have all of them and, before them, a bucket for each place, there are more places than items, and the
+-- number of tags is the number of items
 pub data IsTableAt (bytes : List ℕ) (s : Shape) (pos : ℕ) (b : Buckets) : Type 0 where
   has_none : word_at bytes (pos + 4) ≡ 0 → b ≡ no_buckets → IsTableAt bytes s pos b
   has_buckets :
@@ -49,7 +50,7 @@ pub data IsTableAt (bytes : List ℕ) (s : Shape) (pos : ℕ) (b : Buckets) : Ty
       → IsTableAt bytes s pos b
 
 module _ (s : Shape) (knows : Names → Type 0) (bytes : List ℕ) where
-  -- values stand at positions, one at each
+  -- the values are at these positions, one at each
   abbrev pub AreItemsAt : List ℕ → Values → Type 0
   AreItemsAt [] no_values = ⊤
   AreItemsAt (p ∷ ps) (more_values w ws) = HeldAt s knows bytes p w × AreItemsAt ps ws
@@ -66,7 +67,7 @@ module _ (s : Shape) (knows : Names → Type 0) (bytes : List ℕ) where
   abbrev pub TableIsRead : Type 0
   TableIsRead = (pos : ℕ) (value : Value) → HeldAt (table s) knows bytes pos value → IsTableOf pos value
 
--- the bytes of a table have one list of places
+-- the bytes of a table have exactly one list of places
 abbrev pub OneTable : Type 0
 OneTable =
     (bytes : List ℕ) (s : Shape) (pos : ℕ) (b c : Buckets)

@@ -1,26 +1,27 @@
-//! Where the places of a table are.
+//! Reads the positions and the number of the places of a table.
 ghost use Rattle.std.specs.Prelude.{◌≡◌, ◌+◌, ◌^◌, ◌<◌, ◌≤◌, length, MatchOption};
-ghost use Rattle.archive_shape_layout.specs.Bytes.{word_at};
-ghost use Rattle.archive_shape_layout.specs.Shape.Shape.{table};
-ghost use Rattle.archive_forms_reading.specs.Parts.{HasValue};
+ghost use Rattle.archive_shape.specs.ShapeLayout.Bytes.{word_at};
+ghost use Rattle.archive_shape.specs.ShapeLayout.Shape.Shape.{table};
+ghost use Rattle.archive_forms_values.specs.Parts.{HasValue};
 ghost use Rattle.archive_hash_walking.specs.Tables.{Buckets, no_buckets, IsTableAt};
 ghost use Rattle.archive_hash_walking.specs.Places.{held};
 
-use archive_forms_reading::target_of;
+use archive_forms_values::target_of;
 use archive_hash_checking::controls_at;
-use archive_shape_portable::Portable;
+use archive_shape::Portable;
 
-/// The places of a table that is not empty.
+/// The places of a table that is not empty: its controls, their position and the number of places.
 #[derive(Clone, Copy)]
 pub struct BucketsAt<'a> {
-    /// The controls, which stand one behind the other.
+    /// The control bytes, one after the other.
     pub controls: &'a [u8],
-    /// Where the controls begin. The items stand below.
+    /// The position at which the controls begin. The items lie before it.
     pub target: usize,
+    /// The number of places.
     pub capacity: usize,
 }
 
-/// The number of four bytes at a position.
+/// Reads the little-endian `u32` at a position.
 pub fn number_at(bytes: &[u8], at: usize) -> usize
     requires { at + 4 ≤ length bytes.now }
     ensures value { result ≡ word_at bytes.now at }
@@ -30,7 +31,7 @@ pub fn number_at(bytes: &[u8], at: usize) -> usize
     u32::from_le_bytes([bytes[at], bytes[at + 1], bytes[at + 2], bytes[at + 3]]) as usize
 }
 
-/// The places of the table at `pos`, if it has items.
+/// Returns the places of the table at `pos`, or `None` if it has no items.
 pub fn buckets_at<T: Portable>(bytes: &[u8], pos: usize) -> Option<BucketsAt<'_>>
     requires { HasValue (table T.shape) T.knows bytes.now pos }
     ensures { (b : Buckets) → IsTableAt bytes.entry.now T.shape pos b → MatchOption result

@@ -1,23 +1,22 @@
 //! Cursors over the entries of a map that lend one value at a time.
 ghost use Rattle.std.specs.Prelude.{◌≡◌, ℕ, ◌+◌, ◌≤◌, List, [], ◌∷◌, length, take, IfSome, MatchOption};
-ghost use Rattle.archive_shape_layout.specs.Shape.Shape.{table};
-ghost use Rattle.archive_shape_layout.specs.Shape.Shapes.{no_shapes};
-ghost use Rattle.archive_forms_checking.specs.Tuples.{tuple2};
-ghost use Rattle.archive_forms_reading.specs.Parts.{HasValue, both};
-ghost use Rattle.archive_forms_tuples.specs.Fields.{field_position};
+ghost use Rattle.archive_shape.specs.ShapeLayout.Shape.Shape.{table};
+ghost use Rattle.archive_shape.specs.ShapeLayout.Shape.Shapes.{no_shapes};
+ghost use Rattle.archive_forms_values.specs.Tuples.{tuple2};
+ghost use Rattle.archive_forms_values.specs.Parts.{HasValue, both};
+ghost use Rattle.archive_forms_values.specs.Fields.{field_position};
 ghost use Rattle.archive_hash_walking.specs.Walks.{BegunMap, HasValuesWritten, IsKept, items_of};
 ghost use Rattle.archive_hash_walking.specs.Seals.{IsOwn, IsLent};
 ghost use Rattle.archive_hash_walking.specs.Cursors.{HasEntries, HasValues};
 
 use crate::lending::lend_entry;
 use crate::passing::{EntryAt, PlacesLeft, pass_entry, places_left};
-use archive_forms_tuples::Entry;
-use archive_shape_portable::Portable;
-use archive_shape_references::{OwnSeal, Ref};
+use archive_forms_values::Entry;
+use archive_shape::{OwnSeal, Portable, Ref};
 use std::marker::PhantomData;
 
-/// A cursor over the entries by ascending place. Between its steps the archive's bytes may be written, as long as they differ
-/// from those that it began with at most in the own bytes of the values.
+/// A cursor over the entries by ascending place. Between its steps the archive may be written, as long as it differs
+/// from the archive that the cursor began with at most in the own bytes of the values.
 #[derive(Drop)]
 pub struct IterMut<'a, K, V> {
     /// The whole archive.
@@ -27,7 +26,7 @@ pub struct IterMut<'a, K, V> {
 }
 
 impl<'a, K: Portable, V: Portable> IterMut<'a, K, V> {
-    /// A cursor over the entries of the map at `pos`.
+    /// Creates a cursor over the entries of the map at `pos`.
     pub fn new(bytes: &'a mut [u8], pos: usize) -> Self
         requires has { HasValue (table (tuple2 K.shape V.shape)) (both K.knows V.knows) bytes.old pos }
         ensures same_reference { result.bytes.ghost_name ≡ bytes.entry.ghost_name }
@@ -43,7 +42,7 @@ impl<'a, K: Portable, V: Portable> IterMut<'a, K, V> {
         }
     }
 
-    /// Where the next entry's key and value stand. The entry is passed.
+    /// Returns the positions of the next entry's key and value, and passes the entry.
     pub fn advance(&mut self) -> Option<EntryAt>
         requires { (m : BegunMap K.shape V.shape K.knows V.knows) × (ps : List ℕ) × HasEntries m self.old ps × HasValuesWritten m self.old.bytes.now }
         ensures same_reference { self.new.bytes.ghost_name ≡ self.old.bytes.ghost_name }
@@ -60,8 +59,9 @@ impl<'a, K: Portable, V: Portable> IterMut<'a, K, V> {
         passed
     }
 
-    /// The next entry's key, and its value with only the value's own bytes. The entry is passed. What the archive's bytes are
-    /// after the loan is not said: a caller that is to know them calls `advance`, and makes the seal of those bytes.
+    /// Returns the next entry's key, and its value with only the value's own bytes, and passes the entry. The contract
+    /// does not state the archive's bytes after the loan: a caller that needs them calls `advance`, and creates the
+    /// seal from those bytes.
     pub fn next(&mut self) -> Option<(Ref<'_, K>, OwnSeal<'_, V>)>
         requires { (m : BegunMap K.shape V.shape K.knows V.knows) × (ps : List ℕ) × HasEntries m self.old ps × HasValuesWritten m self.old.bytes.now }
         ensures there { IfSome result (λ r. HasValue K.shape K.knows r.0.bytes.now r.0.pos × (length r.1.own.now ≡ V.SIZE)) }
@@ -75,7 +75,7 @@ impl<'a, K: Portable, V: Portable> IterMut<'a, K, V> {
         Some(lend_entry(self.bytes, entry.key, entry.value))
     }
 
-    /// How many entries are left.
+    /// Returns the number of entries that are left.
     pub fn len(&self) -> usize
         ensures { (m : BegunMap K.shape V.shape K.knows V.knows) (ps : List ℕ) → HasEntries m self.now ps → result ≡ length ps }
     {
@@ -83,14 +83,15 @@ impl<'a, K: Portable, V: Portable> IterMut<'a, K, V> {
     }
 }
 
-/// A cursor over the values by ascending place, as `IterMut` is one over the entries.
+/// A cursor over the values by ascending place. It wraps an `IterMut`, the cursor over the entries.
 #[derive(Drop)]
 pub struct ValuesMut<'a, K, V> {
+    /// The cursor over the entries that the values belong to.
     pub entries: IterMut<'a, K, V>,
 }
 
 impl<'a, K: Portable, V: Portable> ValuesMut<'a, K, V> {
-    /// Where the next value stands. The value is passed.
+    /// Returns the position of the next value, and passes the value.
     pub fn advance(&mut self) -> Option<usize>
         requires { (m : BegunMap K.shape V.shape K.knows V.knows) × (ps : List ℕ) × HasValues m self.old ps × HasValuesWritten m self.old.entries.bytes.now }
         ensures same_reference { self.new.entries.bytes.ghost_name ≡ self.old.entries.bytes.ghost_name }
@@ -106,8 +107,8 @@ impl<'a, K: Portable, V: Portable> ValuesMut<'a, K, V> {
         }
     }
 
-    /// The next value with only its own bytes. The value is passed. What the archive's bytes are after the loan is not said: a
-    /// caller that is to know them calls `advance`, and makes the seal of those bytes.
+    /// Returns the next value with only its own bytes, and passes the value. The contract does not state the archive's
+    /// bytes after the loan: a caller that needs them calls `advance`, and creates the seal from those bytes.
     pub fn next(&mut self) -> Option<OwnSeal<'_, V>>
         requires { (m : BegunMap K.shape V.shape K.knows V.knows) × (ps : List ℕ) × HasValues m self.old ps × HasValuesWritten m self.old.entries.bytes.now }
         ensures there { IfSome result (λ r. length r.own.now ≡ V.SIZE) }
@@ -121,7 +122,7 @@ impl<'a, K: Portable, V: Portable> ValuesMut<'a, K, V> {
         }
     }
 
-    /// How many values are left.
+    /// Returns the number of values that are left.
     pub fn len(&self) -> usize
         ensures { (m : BegunMap K.shape V.shape K.knows V.knows) (ps : List ℕ) → HasValues m self.now ps → result ≡ length ps }
     {

@@ -1,7 +1,7 @@
-//! Whether the entries of one map have their equals in another.
-ghost use Rattle.archive_shape_layout.specs.Shape.Shape.{table};
-ghost use Rattle.archive_forms_checking.specs.Tuples.{tuple2};
-ghost use Rattle.archive_forms_reading.specs.Parts.{HasValue, both};
+//! Checks whether the entries of one map have equal entries in another.
+ghost use Rattle.archive_shape.specs.ShapeLayout.Shape.Shape.{table};
+ghost use Rattle.archive_forms_values.specs.Tuples.{tuple2};
+ghost use Rattle.archive_forms_values.specs.Parts.{HasValue, both};
 ghost use Rattle.archive_hash_walking.specs.Tables.{Buckets, IsTableAt};
 ghost use Rattle.archive_hash_walking.specs.Maps.{LooksUpKey};
 ghost use Rattle.archive_hash_walking.specs.Equal.{KeyHashesTo, EqualSays, HasEqual};
@@ -9,15 +9,13 @@ ghost use Rattle.std.specs.Prelude.{IfSome};
 
 use crate::keyed::value_position;
 use crate::lookup::search_table;
-use archive_forms_comparing::ArchivedEq;
-use archive_forms_hashing::ArchivedHash;
-use archive_forms_tuples::Entry;
-use archive_hash_scanning::Group;
-use archive_shape_portable::Portable;
-use archive_shape_references::Ref;
+use archive_forms_comparing::{ArchivedEq, ArchivedHash};
+use archive_forms_values::Entry;
+use archive_hash_probing::Group;
+use archive_shape::{Portable, Ref};
 use std::hash::Hasher;
 
-/// Where the entry stands whose key is equal to an archived one, in the map at `pos`.
+/// Returns the position of the entry whose key is equal to an archived key, in the map at `pos`.
 pub fn search_equal<K: ArchivedHash, V: Portable, H: Hasher + Default + Drop>(
     bytes: &[u8],
     pos: usize,
@@ -40,7 +38,7 @@ pub fn search_equal<K: ArchivedHash, V: Portable, H: Hasher + Default + Drop>(
     search_table::<Entry<K, V>, Group, _>(bytes, pos, hash, &accepts).0
 }
 
-/// Whether an entry has its equal in the map at `pos`.
+/// Returns whether the map at `pos` has an entry that is equal to `entry`.
 pub fn has_equal<K: ArchivedHash, V: ArchivedEq, H: Hasher + Default + Drop>(
     bytes: &[u8],
     pos: usize,

@@ -2,21 +2,20 @@
 ghost use Rattle.std.specs.Prelude.{◌≡◌, ℕ, ◌+◌, ◌*◌, ◌^◌, ◌<◌, ◌≤◌, [], IfSome, All, length, map};
 ghost use Rattle.std.specs.Iterator.{YieldsFirst, UpTo, item_count};
 ghost use Rattle.std.specs.Iterator.SizeHint.{IsExactHint, IsWithinCount};
-ghost use Rattle.archive_shape_layout.specs.Shape.{size_of};
-ghost use Rattle.archive_shape_layout.specs.Shape.Shape.{table};
-ghost use Rattle.archive_forms_reading.specs.Parts.{HasValue};
+ghost use Rattle.archive_shape.specs.ShapeLayout.Shape.{size_of};
+ghost use Rattle.archive_shape.specs.ShapeLayout.Shape.Shape.{table};
+ghost use Rattle.archive_forms_values.specs.Parts.{HasValue};
 ghost use Rattle.archive_hash_walking.specs.Tables.{Buckets, IsTableAt, item_positions, full_places};
 ghost use Rattle.archive_hash_walking.specs.Places.{full_place};
 
 use crate::buckets::{buckets_at, number_at};
 use crate::places::PlaceWalk;
-use archive_shape_portable::Portable;
-use archive_shape_references::Ref;
+use archive_shape::{Portable, Ref};
 use std::iter::FusedIterator;
 use std::marker::{Model, PhantomData};
 
-/// The full places of a table in ascending order: each with its control, which is a tag, and with its item. It is seen as
-/// those that are left.
+/// An iterator over the full places of a table in ascending order. Each element is a place, its control, which is a
+/// tag, and its item. Its view is the list of the elements that are left.
 #[derive(Drop)]
 pub struct FullPlaces<'a, T> {
     bytes: &'a [u8],
@@ -29,7 +28,7 @@ pub struct FullPlaces<'a, T> {
 
 impl<'a, T> Model for FullPlaces<'a, T> {
     ghost use Rattle.std.specs.Prelude.{◌≡◌, ℕ, ◌+◌, ◌-◌, ◌*◌, ◌^◌, ◌<◌, ◌≤◌, List, map, All, length};
-    ghost use Rattle.archive_shape_references.specs.declared.refs.Ref.{Ref};
+    ghost use Rattle.archive_shape.specs.declared.references.refs.Ref.{Ref};
     ghost use Rattle.archive_hash_walking.specs.Places.{full_place};
 
     ghost Value = { List (ℕ × ℕ × Ref T) };
@@ -40,7 +39,7 @@ impl<'a, T> Model for FullPlaces<'a, T> {
 }
 
 impl<'a, T> FullPlaces<'a, T> {
-    /// No places.
+    /// Creates an iterator without elements.
     pub(crate) fn empty(bytes: &'a [u8]) -> Self
         ensures { result ≡ [] }
     {
@@ -85,7 +84,8 @@ impl<'a, T> ExactSizeIterator for FullPlaces<'a, T> {
 
 impl<'a, T> FusedIterator for FullPlaces<'a, T> {}
 
-/// Where the items of a table stand, by ascending place. It is seen as the positions that are left.
+/// An iterator over the positions of the items of a table, by ascending place. Its view is the list of the positions
+/// that are left.
 #[derive(Drop)]
 pub struct RawIter<'a, T> {
     places: FullPlaces<'a, T>,
@@ -100,7 +100,7 @@ impl<'a, T> Model for RawIter<'a, T> {
 }
 
 impl<'a, T> RawIter<'a, T> {
-    /// Positions of no items.
+    /// Creates an iterator without elements.
     pub fn empty() -> Self
         ensures { result ≡ [] }
     {
@@ -139,7 +139,7 @@ impl<'a, T> ExactSizeIterator for RawIter<'a, T> {
 
 impl<'a, T> FusedIterator for RawIter<'a, T> {}
 
-/// The full places of the table at `pos` in ascending order, each with its tag and its item.
+/// Returns the full places of the table at `pos` in ascending order, each with its tag and its item.
 pub fn full_places_at<T: Portable>(bytes: &[u8], pos: usize) -> FullPlaces<'_, T>
     requires { HasValue (table T.shape) T.knows bytes.now pos }
     ensures there { All (λ e. HasValue T.shape T.knows e.2.bytes.now e.2.pos) result }
@@ -159,7 +159,7 @@ pub fn full_places_at<T: Portable>(bytes: &[u8], pos: usize) -> FullPlaces<'_, T
     }
 }
 
-/// Where the items of the table at `pos` stand, by ascending place.
+/// Returns the positions of the items of the table at `pos`, by ascending place.
 pub fn raw_iter_at<T: Portable>(bytes: &[u8], pos: usize) -> RawIter<'_, T>
     requires { HasValue (table T.shape) T.knows bytes.now pos }
     ensures { (b : Buckets) → IsTableAt bytes.entry.now T.shape pos b → result ≡ item_positions T.shape b }

@@ -1,22 +1,20 @@
 //! Look-ups of the entries of maps by their keys.
 ghost use Rattle.std.specs.Prelude.{◌≡◌, ℕ, IfSome};
-ghost use Rattle.archive_shape_layout.specs.Shape.Shape.{table};
-ghost use Rattle.archive_shape_layout.specs.Shape.Shapes.{no_shapes};
-ghost use Rattle.archive_forms_checking.specs.Tuples.{tuple2};
-ghost use Rattle.archive_forms_reading.specs.Parts.{HasValue, both};
-ghost use Rattle.archive_forms_tuples.specs.Fields.{field_position};
+ghost use Rattle.archive_shape.specs.ShapeLayout.Shape.Shape.{table};
+ghost use Rattle.archive_shape.specs.ShapeLayout.Shape.Shapes.{no_shapes};
+ghost use Rattle.archive_forms_values.specs.Tuples.{tuple2};
+ghost use Rattle.archive_forms_values.specs.Parts.{HasValue, both};
+ghost use Rattle.archive_forms_values.specs.Fields.{field_position};
 ghost use Rattle.archive_hash_walking.specs.Tables.{Buckets, IsTableAt};
 ghost use Rattle.archive_hash_walking.specs.Maps.{HashesTo, KeySays, LooksUpKey, query_calls, key_at};
 
 use crate::lookup::search_table;
-use archive_forms_tuples::Entry;
-use archive_hash_scanning::{Group, hash_value};
-use archive_shape::ArchivedKey;
-use archive_shape_portable::Portable;
-use archive_shape_references::Ref;
+use archive_forms_values::Entry;
+use archive_hash_probing::{Group, hash_value};
+use archive_shape::{ArchivedKey, Portable, Ref};
 use std::hash::{Hash, Hasher};
 
-/// Where the entry of a key stands in the map at `pos`, if the map has the key.
+/// Returns the position of the entry of a key in the map at `pos`, if the map has the key.
 pub fn search_key<Q: Hash, K: ArchivedKey<Q>, V: Portable, H: Hasher + Default + Drop>(
     bytes: &[u8],
     pos: usize,
@@ -34,7 +32,7 @@ pub fn search_key<Q: Hash, K: ArchivedKey<Q>, V: Portable, H: Hasher + Default +
     search_table::<Entry<K, V>, Group, _>(bytes, pos, hash_value::<Q, H>(query), &accepts).0
 }
 
-/// Where the value of the entry at a position stands.
+/// Returns the position of the value of the entry at `at`.
 pub fn value_position<K: Portable, V: Portable>(bytes: &[u8], at: usize) -> usize
     requires { HasValue (tuple2 K.shape V.shape) (both K.knows V.knows) bytes.now at }
     ensures { result ≡ field_position K.shape no_shapes V.shape at }
@@ -42,7 +40,8 @@ pub fn value_position<K: Portable, V: Portable>(bytes: &[u8], at: usize) -> usiz
     Entry::value(Ref::<Entry<K, V>>::new(bytes, at)).pos
 }
 
-/// Where the entry stands whose key the caller's comparison accepts under the query's hash, in the map at `pos`.
+/// Returns the position of the entry that has the query's hash and whose key the caller's comparison accepts, in the
+/// map at `pos`.
 pub fn search_with<
     Q: Hash,
     K: Portable,

@@ -1,11 +1,10 @@
-//! What stands in a buffer, lent with only its own bytes.
+//! Lends values of a buffer with only their own bytes.
 ghost use Rattle.std.specs.Prelude.{◌+◌, ◌≤◌, length};
 ghost use Rattle.archive_hash_walking.specs.Seals.{IsOwn, IsLent};
 
-use archive_shape_portable::Portable;
-use archive_shape_references::{OwnSeal, Ref};
+use archive_shape::{OwnSeal, Portable, Ref};
 
-/// What stands at a position, with only its own bytes.
+/// Returns the value at a position, with only its own bytes.
 pub fn lend_own<T: Portable>(bytes: &mut [u8], at: usize) -> OwnSeal<'_, T>
     requires { at + T.SIZE ≤ length bytes.old }
     ensures { IsOwn T.SIZE bytes.old at result }
@@ -13,7 +12,7 @@ pub fn lend_own<T: Portable>(bytes: &mut [u8], at: usize) -> OwnSeal<'_, T>
     OwnSeal::new(&mut bytes[at..at + T::SIZE], at)
 }
 
-/// The key at a position, and the value at another with only the value's own bytes.
+/// Returns the key at one position, and the value at another with only the value's own bytes.
 pub fn lend_entry<K, V: Portable>(
     bytes: &mut [u8],
     key: usize,

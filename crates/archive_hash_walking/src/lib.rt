@@ -1,5 +1,5 @@
-//! Tables of hashes by where their places stand: walks over the places and the items, cursors that lend one item or value at a
-//! time, and look-ups of items.
+//! Hash tables by the positions of their places: iterators over the places and the items, cursors that lend one item or
+//! value at a time, and look-ups of items.
 #![tactic(auto)]
 
 mod buckets;

@@ -1,18 +1,17 @@
-//! Look-ups of items by where they stand.
+//! Look-ups of items that return positions.
 ghost use Rattle.std.specs.Prelude.{◌≡◌, ◌+◌, ◌*◌, ◌^◌, ◌<◌, ◌≤◌, All};
-ghost use Rattle.archive_shape_layout.specs.Shape.{size_of};
-ghost use Rattle.archive_shape_layout.specs.Shape.Shape.{table};
-ghost use Rattle.archive_shape_canonical.specs.Strides.{sixteens};
-ghost use Rattle.archive_forms_reading.specs.Parts.{HasValue};
+ghost use Rattle.archive_shape.specs.ShapeLayout.Shape.{size_of};
+ghost use Rattle.archive_shape.specs.ShapeLayout.Shape.Shape.{table};
+ghost use Rattle.archive_hash_probing.specs.ShapeCanonical.Strides.{sixteens};
+ghost use Rattle.archive_forms_values.specs.Parts.{HasValue};
 ghost use Rattle.archive_hash_walking.specs.Tables.{Buckets, IsTableAt, item_position, item_positions};
 ghost use Rattle.archive_hash_walking.specs.Places.{LooksUp, FindsAccepted, FindsTheOnly};
 
 use crate::buckets::buckets_at;
-use archive_hash_places::find;
-use archive_hash_scanning::Scan;
-use archive_shape_portable::Portable;
+use archive_hash_probing::{Scan, find};
+use archive_shape::Portable;
 
-/// Where the item of a place stands.
+/// Returns the position of the item of a place.
 pub fn position_of<T: Portable>(target: usize, place: usize) -> usize
     requires small { place < 2 ^ 32 }
     requires room { (place + 1) * size_of T.shape ≤ target }
@@ -21,8 +20,8 @@ pub fn position_of<T: Portable>(target: usize, place: usize) -> usize
     target - (place + 1) * T::SIZE
 }
 
-/// Where an item of a hash stands in the table at `pos`, and how many strides are searched for it. `accepts` says whether
-/// the item at a position is the one that is looked for.
+/// Returns the position of an item that has the hash `hash` in the table at `pos`, and the number of strides that were
+/// searched for it. `accepts` returns whether the item at a position is the one searched for.
 pub fn search_table<T: Portable, S: Scan, F: Fn(usize) -> bool>(
     bytes: &[u8],
     pos: usize,

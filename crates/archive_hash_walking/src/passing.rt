@@ -1,20 +1,19 @@
 //! Steps over the items of a table that may be written over.
 ghost use Rattle.std.specs.Prelude.{◌≡◌, ℕ, ◌+◌, ◌≤◌, List, [], ◌∷◌, length, take, IfSome, MatchOption};
-ghost use Rattle.archive_shape_layout.specs.Shape.Shape.{table};
-ghost use Rattle.archive_shape_layout.specs.Shape.Shapes.{no_shapes};
-ghost use Rattle.archive_forms_reading.specs.Parts.{HasValue};
-ghost use Rattle.archive_forms_tuples.specs.Fields.{field_position};
+ghost use Rattle.archive_shape.specs.ShapeLayout.Shape.Shape.{table};
+ghost use Rattle.archive_shape.specs.ShapeLayout.Shape.Shapes.{no_shapes};
+ghost use Rattle.archive_forms_values.specs.Parts.{HasValue};
+ghost use Rattle.archive_forms_values.specs.Fields.{field_position};
 ghost use Rattle.archive_hash_walking.specs.Walks.{BegunTable, BegunMap, GoesOn, IsWritten, HasValuesWritten, IsKept, items_of};
 
 use crate::buckets::{buckets_at, number_at};
 use crate::lookup::position_of;
 use crate::places::pass_place;
-use archive_forms_checking::next_multiple;
-use archive_forms_tuples::Entry;
+use archive_forms_values::{Entry, next_multiple};
 use archive_hash_checking::controls_at;
-use archive_shape_portable::Portable;
+use archive_shape::Portable;
 
-/// The full places of a table that a cursor has left. Its controls are read anew at each step.
+/// The full places of a table that a cursor has left. The controls are read again at each step.
 #[derive(Clone, Copy)]
 pub(crate) struct PlacesLeft {
     target: usize,
@@ -23,14 +22,14 @@ pub(crate) struct PlacesLeft {
     pub left: usize,
 }
 
-/// Where an entry's key and value stand.
+/// The positions of an entry's key and value.
 #[derive(Clone, Copy, Debug, PartialEq, Eq)]
 pub struct EntryAt {
     pub key: usize,
     pub value: usize,
 }
 
-/// All full places of the table at `pos`.
+/// Returns all full places of the table at `pos`.
 pub(crate) fn places_left<T: Portable>(bytes: &[u8], pos: usize) -> PlacesLeft
     requires { HasValue (table T.shape) T.knows bytes.now pos }
     ensures { (m : BegunTable T.shape T.knows) → m.bytes ≡ bytes.now → m.pos ≡ pos → GoesOn m result (items_of m) × IsWritten m bytes.now }
@@ -51,7 +50,7 @@ pub(crate) fn places_left<T: Portable>(bytes: &[u8], pos: usize) -> PlacesLeft
     }
 }
 
-/// Where the next item stands, which is passed.
+/// Returns the position of the next item, and passes the item.
 pub(crate) fn pass_item<T: Portable>(walk: &mut PlacesLeft, bytes: &[u8]) -> Option<usize>
     requires { (m : BegunTable T.shape T.knows) × (ps : List ℕ) × GoesOn m walk.old ps × IsWritten m bytes.now }
     ensures there { IfSome result (λ at. at + T.SIZE ≤ length bytes.now) }
@@ -70,7 +69,7 @@ pub(crate) fn pass_item<T: Portable>(walk: &mut PlacesLeft, bytes: &[u8]) -> Opt
     Some(position_of::<T>(walk.target, place))
 }
 
-/// Where the next entry stands, which is passed.
+/// Returns the positions of the next entry's key and value, and passes the entry.
 pub(crate) fn pass_entry<K: Portable, V: Portable>(
     walk: &mut PlacesLeft,
     bytes: &[u8],

@@ -1,4 +1,4 @@
-//! Walks over the full places of a table in ascending order.
+//! Iterates over the full places of a table in ascending order.
 ghost use Rattle.std.specs.Prelude.{◌≡◌, ◌<◌, ◌≤◌, [], ◌∷◌, length, slice_index, IfSome, MatchOption};
 ghost use Rattle.std.specs.Iterator.{YieldsFirst, UpTo, item_count};
 ghost use Rattle.std.specs.Iterator.SizeHint.{IsExactHint, IsWithinCount};
@@ -8,7 +8,7 @@ use crate::buckets::BucketsAt;
 use std::iter::FusedIterator;
 use std::marker::Model;
 
-/// Passes places up to the first whose control is a tag.
+/// Advances `next` past the first place whose control is a tag, and returns that place.
 pub(crate) fn pass_place(controls: &[u8], capacity: usize, next: &mut usize) -> Option<usize>
     requires next { next.old ≤ capacity }
     requires within { capacity ≤ length controls.now }
@@ -28,7 +28,7 @@ pub(crate) fn pass_place(controls: &[u8], capacity: usize, next: &mut usize) -> 
     None
 }
 
-/// The full places that a walk over a table has left.
+/// An iterator over the full places of a table that are left, in ascending order.
 #[derive(Drop)]
 pub(crate) struct PlaceWalk<'a> {
     controls: &'a [u8],
@@ -50,7 +50,7 @@ impl<'a> Model for PlaceWalk<'a> {
 }
 
 impl<'a> PlaceWalk<'a> {
-    /// A walk over the places of a table, of which `len` are full.
+    /// Creates an iterator over the places of a table, of which `len` are full.
     pub(crate) fn new(buckets: BucketsAt<'a>, len: usize) -> Self
         requires within { buckets.capacity ≤ length buckets.controls.now }
         requires len { len ≡ length (places_from buckets.controls.now buckets.capacity 0) }
@@ -64,7 +64,7 @@ impl<'a> PlaceWalk<'a> {
         }
     }
 
-    /// A walk over no places.
+    /// Creates an iterator without places.
     pub(crate) fn empty() -> Self
         ensures { result ≡ [] }
     {

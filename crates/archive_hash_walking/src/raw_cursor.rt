@@ -1,19 +1,18 @@
-//! Cursors over the items of a table that lend one at a time.
+//! Cursors over the items of a table that lend one item at a time.
 ghost use Rattle.std.specs.Prelude.{◌≡◌, ℕ, ◌+◌, ◌≤◌, List, [], ◌∷◌, length, IfSome, MatchOption};
-ghost use Rattle.archive_shape_layout.specs.Shape.Shape.{table};
-ghost use Rattle.archive_forms_reading.specs.Parts.{HasValue};
+ghost use Rattle.archive_shape.specs.ShapeLayout.Shape.Shape.{table};
+ghost use Rattle.archive_forms_values.specs.Parts.{HasValue};
 ghost use Rattle.archive_hash_walking.specs.Walks.{BegunTable, IsWritten, items_of};
 ghost use Rattle.archive_hash_walking.specs.Seals.{IsOwn};
 ghost use Rattle.archive_hash_walking.specs.Cursors.{HasItems};
 
 use crate::lending::lend_own;
 use crate::passing::{PlacesLeft, pass_item, places_left};
-use archive_shape_portable::Portable;
-use archive_shape_references::OwnSeal;
+use archive_shape::{OwnSeal, Portable};
 use std::marker::PhantomData;
 
-/// A cursor over the items by ascending place. Between its steps the archive's bytes may be written, as long as they differ
-/// from those that it began with at most in the own bytes of the items.
+/// A cursor over the items by ascending place. Between its steps the archive may be written, as long as it differs from
+/// the archive that the cursor began with at most in the own bytes of the items.
 #[derive(Drop)]
 pub struct RawIterSeal<'a, T> {
     /// The whole archive.
@@ -23,7 +22,7 @@ pub struct RawIterSeal<'a, T> {
 }
 
 impl<'a, T: Portable> RawIterSeal<'a, T> {
-    /// A cursor over the items of the table at `pos`.
+    /// Creates a cursor over the items of the table at `pos`.
     pub fn new(bytes: &'a mut [u8], pos: usize) -> Self
         requires has { HasValue (table T.shape) T.knows bytes.old pos }
         ensures same_reference { result.bytes.ghost_name ≡ bytes.entry.ghost_name }
@@ -39,7 +38,7 @@ impl<'a, T: Portable> RawIterSeal<'a, T> {
         }
     }
 
-    /// Where the next item stands. The item is passed.
+    /// Returns the position of the next item, and passes the item.
     pub fn advance(&mut self) -> Option<usize>
         requires { (m : BegunTable T.shape T.knows) × (ps : List ℕ) × HasItems m self.old ps × IsWritten m self.old.bytes.now }
         ensures same_reference { self.new.bytes.ghost_name ≡ self.old.bytes.ghost_name }
@@ -55,8 +54,8 @@ impl<'a, T: Portable> RawIterSeal<'a, T> {
         passed
     }
 
-    /// The next item with only its own bytes. The item is passed. What the archive's bytes are after the loan is not said: a
-    /// caller that is to know them calls `advance`, and makes the seal of those bytes.
+    /// Returns the next item with only its own bytes, and passes the item. The contract does not state the archive's
+    /// bytes after the loan: a caller that needs them calls `advance`, and creates the seal from those bytes.
     pub fn next(&mut self) -> Option<OwnSeal<'_, T>>
         requires { (m : BegunTable T.shape T.knows) × (ps : List ℕ) × HasItems m self.old ps × IsWritten m self.old.bytes.now }
         ensures there { IfSome result (λ r. length r.own.now ≡ T.SIZE) }
@@ -70,7 +69,7 @@ impl<'a, T: Portable> RawIterSeal<'a, T> {
         Some(lend_own(self.bytes, at))
     }
 
-    /// How many items are left.
+    /// Returns the number of items that are left.
     pub fn len(&self) -> usize
         ensures { (m : BegunTable T.shape T.knows) (ps : List ℕ) → HasItems m self.now ps → result ≡ length ps }
     {

@@ -1,7 +1,7 @@
--- What stands in a table is among its items.
+-- The items at the places of a table are among its items.
 use Rattle.std.proofs.Common.{◌≡◌, ℕ, zero, suc, ◌<◌, List, [], ◌∷◌, length, map, get_or, cond, Bool, true, false, ◌==◌, refl, sym, ap, ◌∙◌, arith, Option, Some, None}
 use Rattle.std.specs.List.{range_with_len, cons_option}
-use Rattle.archive_shape_canonical.specs.FirstFit.{item_at, placed, present}
+use Rattle.archive_hash_probing.specs.ShapeCanonical.FirstFit.{item_at, placed, present}
 use Rattle.archive_forms_writing.specs.Steps.{IsElement}
 
 module _ {A : Type 0} where
@@ -21,7 +21,7 @@ module _ {A : Type 0} where
   item_among (x ∷ xs) [] p y e = absurd (cc)
   item_among (x ∷ xs) (q ∷ qs) p y e = chosen x xs y (q == p) (item_at xs qs p) (item_among xs qs p y) e
 
-  -- what stands there is at some place
+  -- each item there is at some place
   abbrev IsAtSome : (ℕ → Option A) → A → Type 0
   IsAtSome f y = (p : ℕ) × (f p ≡ Some y)
 

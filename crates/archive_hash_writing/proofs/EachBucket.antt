@@ -2,16 +2,16 @@
 use Rattle.std.proofs.Common.{◌≡◌, ℕ, suc, ◌+◌, ◌-◌, ◌*◌, List, [], ◌∷◌, ◌++◌, length, refl, sym, ap, subst, ◌∙◌, arith, Option, Some, None, append-nil, append_assoc, inl, inr}
 use Rattle.std.specs.Prelude.{⊤}
 use Rattle.std.proofs.lemmas.List.Elements.{filter_map-append}
-use Rattle.archive_shape_layout.specs.Shape.{Shape, size_of}
-use Rattle.archive_shape_references.specs.Bytes.{zeros}
-use Rattle.archive_shape_canonical.specs.FirstFit.{present}
+use Rattle.archive_shape.specs.ShapeLayout.Shape.{Shape, size_of}
+use Rattle.archive_shape.specs.Bytes.{zeros}
+use Rattle.archive_hash_probing.specs.ShapeCanonical.FirstFit.{present}
 use Rattle.archive_shape_writing.specs.declared.error.Error.{Error}
-use Rattle.archive_forms_spelling.specs.State.{State}
-use Rattle.archive_forms_spelling.specs.Spelling.{Spelling, state_after}
-use Rattle.archive_forms_spelling.specs.Regions.{state_after_all, resolvers, placed_fits, placed_refused}
-use Rattle.archive_hash_spelling.specs.Tables.{buckets, buckets_fit, buckets_refused, state_after_items}
+use Rattle.archive_forms_writing.specs.FormsLaws.State.{State}
+use Rattle.archive_forms_writing.specs.FormsLaws.Spelling.{Spelling, state_after}
+use Rattle.archive_forms_writing.specs.FormsLaws.Regions.{state_after_all, resolvers, placed_fits, placed_refused}
+use Rattle.archive_hash_writing.specs.Tables.{buckets, buckets_fit, buckets_refused, state_after_items}
 
--- ---- what stands there
+-- ---- the item there
 
 pub present_none : {A : Type 0} (os : List (Option A)) → present (os ++ None ∷ []) ≡ present os
 present_none {A = A} os = filter_map-append (λ (o : Option A). o) os (None ∷ []) ∙ append-nil (present os)
@@ -24,7 +24,7 @@ resolvers_more w [] x st = refl
 resolvers_more w (y ∷ xs) x st = ap (λ l. w.resolver y st ∷ l) (resolvers_more w xs x (state_after w y st))
 
 module _ {A R : Type 0} (s : Shape) (w : Spelling A R) where
-  -- the bucket of a place that begins at a position, where the data of what stands there was written from a state on
+  -- the bucket of a place that begins at a position, where the data of the place's item was written from a state on
   abbrev pub bucket : Option A → State → ℕ → List ℕ
   bucket None st pos = zeros (size_of s)
   bucket (Some x) st pos = w.own x (w.resolver x st) pos
@@ -37,7 +37,7 @@ module _ {A R : Type 0} (s : Shape) (w : Spelling A R) where
   bucket_refused None st pos e = ⊥
   bucket_refused (Some x) st pos e = placed_refused w s x (w.resolver x st) pos e
 
-  -- so many buckets before it
+  -- the position after `length os` buckets and one more before `end`
   abbrev pub before : List (Option A) → ℕ → ℕ
   before os end = end - (length os * size_of s + size_of s)
 

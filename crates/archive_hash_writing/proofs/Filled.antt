@@ -2,17 +2,17 @@
 use Rattle.std.proofs.Common.{◌≡◌, ℕ, ◌+◌, ◌-◌, ◌*◌, ◌≤◌, ◌<◌, List, [], ◌∷◌, ◌++◌, refl, sym, ap, subst, ◌∙◌, arith, length, take, get_or, append-nil, append_assoc, inl, inr, Option, length-append, Ok, Err}
 use Rattle.std.specs.Prelude.{Result}
 use Rattle.std.proofs.lemmas.List.{length-take-le, take_all, take-take, take_at, get_or-take, get_or_at}
-use Rattle.archive_shape_layout.specs.Shape.{Shape, size_of}
-use Rattle.archive_shape_canonical.specs.FirstFit.{present}
+use Rattle.archive_shape.specs.ShapeLayout.Shape.{Shape, size_of}
+use Rattle.archive_hash_probing.specs.ShapeCanonical.FirstFit.{present}
 use Rattle.archive_shape_writing.specs.Writing.{WriterMembers, Writes}
 use Rattle.archive_shape_writing.specs.declared.error.Error.{Error}
 use Rattle.archive_shape_writing.proofs.Joined.{written_none}
-use Rattle.archive_forms_spelling.specs.State.{State}
-use Rattle.archive_forms_spelling.specs.Spelling.{Spelling}
-use Rattle.archive_forms_spelling.specs.Regions.{resolvers}
-use Rattle.archive_forms_spelling.specs.Serializing.{Lays}
+use Rattle.archive_forms_writing.specs.FormsLaws.State.{State}
+use Rattle.archive_forms_writing.specs.FormsLaws.Spelling.{Spelling}
+use Rattle.archive_forms_writing.specs.FormsLaws.Regions.{resolvers}
+use Rattle.archive_forms_writing.specs.FormsLaws.Serializing.{Lays}
 use Rattle.archive_forms_writing.proofs.Laying.{Wrote, Fails, Stops, wrote_both, stopped_after, stopped_first, stopped_before}
-use Rattle.archive_hash_spelling.specs.Tables.{buckets, buckets_fit, buckets_refused, state_after_items}
+use Rattle.archive_hash_writing.specs.Tables.{buckets, buckets_fit, buckets_refused, state_after_items}
 use Rattle.archive_hash_writing.proofs.EachBucket.{bucket, bucket_fits, bucket_refused, before, buckets_more, fits_more, refused_before, refused_there}
 
 -- the last of the first elements
@@ -43,7 +43,7 @@ module _ {A R W : Type 0} (w : Spelling A R) (sh : Shape) (s : WriterMembers W) 
     pub done : List ℕ
     pub wrote : Wrote s old now done
     pub rest : all ≡ done ++ (take at buffer ++ buckets sh w (take p os) st ending)
-    -- the resolvers of what stands before
+    -- the resolvers of the items before
     pub kept_rest : take left kept ≡ resolvers w (present (take p os)) st
     pub fits : buckets_fit sh w (take p os) st ending → buckets_fit sh w os st ending
     pub refuses : (e : Error) → buckets_refused sh w (take p os) st ending e → refused e

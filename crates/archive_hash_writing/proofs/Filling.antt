@@ -4,24 +4,24 @@ use Rattle.std.specs.Prelude.{Result}
 use denote.Bor.{Bor}
 use Rattle.std.proofs.Math.Seq.{take-add}
 use Rattle.std.proofs.lemmas.List.{length-take-le, take-replicate, drop-replicate, drop-drop, length-replicate, take-map, map_more}
-use Rattle.archive_shape_layout.specs.Shape.{Shape, size_of}
-use Rattle.archive_shape_references.specs.Bytes.{zeros, overwrite}
-use Rattle.archive_shape_canonical.specs.FirstFit.{present}
+use Rattle.archive_shape.specs.ShapeLayout.Shape.{Shape, size_of}
+use Rattle.archive_shape.specs.Bytes.{zeros, overwrite}
+use Rattle.archive_hash_probing.specs.ShapeCanonical.FirstFit.{present}
 use Rattle.archive_shape_writing.specs.Writing.{WriterMembers, Writes}
 use Rattle.archive_shape_writing.specs.declared.error.Error.{Error}
-use Rattle.archive_forms_spelling.specs.State.{State}
-use Rattle.archive_forms_spelling.specs.Spelling.{Spelling}
-use Rattle.archive_forms_spelling.specs.Regions.{resolvers, placed_fits, placed_refused}
-use Rattle.archive_forms_spelling.specs.Serializing.{CanResolve}
+use Rattle.archive_forms_writing.specs.FormsLaws.State.{State}
+use Rattle.archive_forms_writing.specs.FormsLaws.Spelling.{Spelling}
+use Rattle.archive_forms_writing.specs.FormsLaws.Regions.{resolvers, placed_fits, placed_refused}
+use Rattle.archive_forms_writing.specs.FormsLaws.Serializing.{CanResolve}
 use Rattle.archive_forms_writing.proofs.Laying.{Stops}
 use Rattle.archive_forms_writing.proofs.Batches.{take_written, blank_there, blank_behind}
-use Rattle.archive_hash_spelling.specs.Tables.{buckets, buckets_refused, state_after_items}
+use Rattle.archive_hash_writing.specs.Tables.{buckets, buckets_refused, state_after_items}
 use Rattle.archive_hash_writing.specs.Standing.{standing}
 use Rattle.archive_hash_writing.specs.Laying.{MakesRoom, LaysBuckets}
 use Rattle.archive_hash_writing.proofs.EachBucket.{before, present_none, present_more, resolvers_more}
 use Rattle.archive_hash_writing.proofs.Filled.{Buffered, last_of, buffered_none, buffered_flushed, buffered_failed, buffered_next, buffered_refused, buffered_all}
 
--- what stands at the first places, with that at one place more
+-- the items at the first places, and the item at the place after them
 pub table_split : {A : Type 0} (table : List (Option (Bor A))) (p : ℕ) (d q : Option (Bor A)) → 0 < p → p ≤ length table → get_or table (p - 1) d ≡ q
     → take p (map standing table) ≡ take (p - 1) (map standing table) ++ standing q ∷ []
 table_split table p d q some within e =
@@ -57,7 +57,7 @@ module _ {A R W : Type 0} (w : Spelling A R) (sh : Shape) (s : WriterMembers W) 
         placed = λ st made. buffered_none w sh s os kept st old buffer made;
       })))
 
-  -- the same, where the buffer and the number of resolvers are what was said
+  -- the same for an equal buffer and an equal number of resolvers
   pub filling_as : (p left other : ℕ) (now : W) (at : ℕ) (buffer new : List ℕ) → Filling p left now at buffer → other ≡ left → new ≡ buffer → Filling p other now at new
   filling_as p left other now at buffer new h e f = let P : ℕ → Type 0 = λ n. Filling p n now at new in let Q : List ℕ → Type 0 = λ l. Filling p left now at l in subst P (sym e) (subst Q (sym f) h)
 
@@ -123,7 +123,7 @@ module _ {A R W : Type 0} (w : Spelling A R) (sh : Shape) (s : WriterMembers W) 
         let step : p * size ≡ q * size + size = ap (λ m. m * size) back ∙ omega arith in
         omega (arith, h.stands, step, e)
 
-    -- nothing stands there
+    -- there is no item
     pub filling_empty : (to : ℕ) → to ≡ at + size_of sh → take p os ≡ take (p - 1) os ++ None ∷ [] → Filling (p - 1) left now to buffer
     filling_empty to e split =
         let q = p - 1 in
@@ -143,7 +143,7 @@ module _ {A R W : Type 0} (w : Spelling A R) (sh : Shape) (s : WriterMembers W) 
               (b.kept_rest ∙ ap (λ l. resolvers w (present l) st) split ∙ ap (λ l. resolvers w l st) (present_none (take q os)));
         })
 
-    -- an item stands there
+    -- there is an item
     module _ (x : A) (split : take p os ≡ take (p - 1) os ++ Some x ∷ []) where
       -- its resolver is the last of those that are left
       pub last_kept : (k : R) (st : State) → kept ≡ resolvers w (present os) st

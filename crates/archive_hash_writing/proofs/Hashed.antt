@@ -22,7 +22,7 @@ module _ {A : Type 0} (hashes : A → ℕ → Type 0) where
   pub hashes_all : (xs : List A) (hs : List ℕ) (i : ℕ) → length xs ≤ i → AreHashesOf hashes (take i xs) hs → AreHashesOf hashes xs hs
   hashes_all xs hs i end all = let P : List A → Type 0 = λ ys. AreHashesOf hashes ys hs in subst P (take_all i xs end) all
 
-  -- there are as many as items
+  -- the number of hashes is the number of items
   pub hashes_even : (xs : List A) (hs : List ℕ) → AreHashesOf hashes xs hs → length hs ≡ length xs
   hashes_even [] [] all = refl
   hashes_even [] (h ∷ hs) all = absurd all

@@ -1,19 +1,19 @@
--- The data of what stands at the places of a table, written by ascending place.
+-- The data of the items at the places of a table, written by ascending place.
 use Rattle.std.proofs.Common.{◌≡◌, ℕ, ◌+◌, ◌<◌, ◌≤◌, List, [], ◌∷◌, ◌++◌, length, drop, get_or, refl, sym, ap, subst, ◌∙◌, Option, Some, None, length-append}
 use denote.Bor.{Bor}
 use Rattle.archive_shape_writing.specs.Writing.{WriterMembers}
 use Rattle.archive_shape_writing.specs.declared.error.Error.{Error}
 use Rattle.archive_shape_writing.specs.declared.error.Error.TheVariants.{OutOfMemory}
-use Rattle.archive_forms_spelling.specs.State.{State}
-use Rattle.archive_forms_spelling.specs.Spelling.{Spelling, state_after}
-use Rattle.archive_forms_spelling.specs.Regions.{pieces, pieces_refused}
-use Rattle.archive_forms_spelling.specs.Serializing.{of_data, IsAt}
+use Rattle.archive_forms_writing.specs.FormsLaws.State.{State}
+use Rattle.archive_forms_writing.specs.FormsLaws.Spelling.{Spelling, state_after}
+use Rattle.archive_forms_writing.specs.FormsLaws.Regions.{pieces, pieces_refused}
+use Rattle.archive_forms_writing.specs.FormsLaws.Serializing.{of_data, IsAt}
 use Rattle.archive_forms_writing.proofs.Laying.{Wrote, Stops}
 use Rattle.archive_forms_writing.proofs.Loops.{Reached, ReachedAll, reached_none, reached_next, reached_stopped, reached_memory, reached_all}
 use Rattle.archive_hash_writing.proofs.Present.{items, items_from, passed_none, passed_item, passed_all, there, behind}
 
 module _ {A R W : Type 0} (w : Spelling A R) (s : WriterMembers W) (table : List (Option (Bor A))) (old : W) where
-  -- the data of what stands before a place was written, from each state that the serializer may have been in
+  -- the data of the items before a place was written, from each state that the serializer may have been in
   pub record Presented (p : ℕ) (now : W) (kept : List R) : Type 0 where
     pub left : drop (length kept) (items table) ≡ items_from table p
     pub reached : (st : State) → IsAt s.pos s.known old st → Reached w s (items table) old st (length kept) now kept
@@ -21,11 +21,11 @@ module _ {A R W : Type 0} (w : Spelling A R) (s : WriterMembers W) (table : List
   pub presented_none : (kept : List R) → kept ≡ [] → Presented 0 old kept
   presented_none kept e = let P : List R → Type 0 = λ l. Presented 0 old l in subst P (sym e) (record { left = refl; reached = λ st at. reached_none w s (items table) old st at })
 
-  -- the same, where all is what was said
+  -- the same for equal values
   pub presented_as : (p : ℕ) (now new : W) (kept all : List R) → Presented p now kept → new ≡ now → all ≡ kept → Presented p new all
   presented_as p now new kept all h e f = let P : W → Type 0 = λ n. Presented p n all in let Q : List R → Type 0 = λ l. Presented p now l in subst P (sym e) (subst Q (sym f) h)
 
-  -- nothing stands at a place
+  -- there is no item at a place
   pub presented_passed : (p : ℕ) (now : W) (kept : List R) → p < length table → None ≡ get_or table p None → Presented p now kept → Presented (p + 1) now kept
   presented_passed p now kept less is h = record { left = passed_none table p (length kept) less is h.left; reached = h.reached }
 
@@ -33,7 +33,7 @@ module _ {A R W : Type 0} (w : Spelling A R) (s : WriterMembers W) (table : List
     next_is : drop (length kept) (items table) ≡ r.now ∷ items_from table (p + 1)
     next_is = passed_item table p (length kept) r less is h.left
 
-    -- the item that stands there
+    -- the item at the place
     pub next_item : (length kept < length (items table)) × (r.now ≡ get_or (items table) (length kept) r.now)
     next_item = there (items table) (items_from table (p + 1)) (length kept) r.now next_is
 

@@ -2,23 +2,23 @@
 use Rattle.std.proofs.Common.{◌≡◌, ℕ, min, ◌+◌, ◌-◌, ◌*◌, ◌≤◌, ◌<◌, ◌^◌, List, sym, ap, subst, ◌∙◌, length, get_or, map, Option, Some, None, Ok}
 use denote.Bor.{Bor}
 use Rattle.std.proofs.lemmas.List.{length-map}
-use Rattle.archive_shape_layout.specs.Shape.{Shape, size_of}
-use Rattle.archive_shape_references.specs.Bytes.{overwrite}
-use Rattle.archive_shape_canonical.specs.FirstFit.{present}
+use Rattle.archive_shape.specs.ShapeLayout.Shape.{Shape, size_of}
+use Rattle.archive_shape.specs.Bytes.{overwrite}
+use Rattle.archive_hash_probing.specs.ShapeCanonical.FirstFit.{present}
 use Rattle.archive_shape_writing.specs.Writing.{WriterMembers}
 use Rattle.archive_shape_writing.specs.declared.error.Error.{Error}
-use Rattle.archive_forms_spelling.specs.State.{State}
-use Rattle.archive_forms_spelling.specs.Spelling.{Spelling}
-use Rattle.archive_forms_spelling.specs.Regions.{resolvers, placed_fits, placed_refused}
-use Rattle.archive_forms_spelling.specs.Serializing.{CanResolve}
+use Rattle.archive_forms_writing.specs.FormsLaws.State.{State}
+use Rattle.archive_forms_writing.specs.FormsLaws.Spelling.{Spelling}
+use Rattle.archive_forms_writing.specs.FormsLaws.Regions.{resolvers, placed_fits, placed_refused}
+use Rattle.archive_forms_writing.specs.FormsLaws.Serializing.{CanResolve}
 use Rattle.archive_forms_writing.proofs.Laying.{Stops}
-use Rattle.archive_hash_spelling.specs.Tables.{buckets, buckets_refused}
+use Rattle.archive_hash_writing.specs.Tables.{buckets, buckets_refused}
 use Rattle.archive_hash_writing.specs.Standing.{standing}
 use Rattle.archive_hash_writing.specs.Laying.{MakesRoom}
 use Rattle.archive_hash_writing.proofs.Filling.{Filling, table_split, room_made, filling_empty, filling_as, some_kept, can_resolve, filling_item, filling_refused}
 
 module _ {A R W : Type 0} (w : Spelling A R) (sh : Shape) (s : WriterMembers W) (table : List (Option (Bor A))) (kept : List R) (old : W) where
-  -- so many bytes of the buffer are in use, and so many more are a bucket
+  -- `at` bytes of the buffer are in use, and the next `size` bytes are a bucket
   pub record Ready (p left : ℕ) (now : W) (at size : ℕ) (buffer : List ℕ) : Type 0 where
     pub some : 0 < p
     pub sized : size ≡ size_of sh
@@ -38,13 +38,13 @@ module _ {A R W : Type 0} (w : Spelling A R) (sh : Shape) (s : WriterMembers W) 
     ends : at + size ≡ at + size_of sh
     ends = ap (λ n. at + n) r.sized
 
-    -- nothing stands there
+    -- there is no item
     pub left_zero : (d : Option (Bor A)) (other : ℕ) (next : List ℕ) → get_or table (p - 1) d ≡ None → other ≡ left → next ≡ buffer → Filling w sh s (map standing table) kept old (p - 1) other now (at + size) next
     left_zero d other next is e f =
         filling_as w sh s (map standing table) kept old (p - 1) left other now (at + size) buffer next
         (filling_empty w sh s (map standing table) kept old p left now at buffer r.some r.room r.filling (at + size) ends (table_split table p d None r.some within is)) e f
 
-    -- an item stands there
+    -- there is an item
     module _ (d : Option (Bor A)) (item : Bor A) (is : get_or table (p - 1) d ≡ Some item) where
       pub resolver_left : (st : State) → kept ≡ resolvers w (present (map standing table)) st → (0 < left) × (left - 1 < length kept)
       resolver_left st made = some_kept w sh s (map standing table) kept old p left now at buffer r.some r.room r.filling item.now (table_split table p d (Some item) r.some within is) st made

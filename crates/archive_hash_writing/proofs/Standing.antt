@@ -1,10 +1,10 @@
--- What stands at the places of a table, one item after the other.
+-- The items at the places of a table, one after the other.
 use Rattle.std.proofs.Common.{◌≡◌, ℕ, ◌+◌, ◌-◌, ◌<◌, ◌≤◌, List, [], ◌∷◌, length, drop, map, set, get_or, replicate, cond, sym, ap, ◌∙◌, arith, Option, Some, None, inl, inr, length-set, get_or-set_same, get_or-set_other}
 use denote.Bor.{Bor}
 use Rattle.std.proofs.lemmas.Bool.Decides.{eqb_tells}
 use Rattle.std.proofs.lemmas.List.{length-map, map-set, drop_more, drop_all, get_or-map, length-replicate, get_or-replicate}
 use Rattle.std.proofs.lemmas.List.FromFn.{length-map-range_with_len, get_or-map-range_with_len, fill_by_all}
-use Rattle.archive_shape_canonical.specs.FirstFit.{item_at, placed}
+use Rattle.archive_hash_probing.specs.ShapeCanonical.FirstFit.{item_at, placed}
 use Rattle.archive_hash_writing.specs.Standing.{standing}
 
 module _ {A : Type 0} where
@@ -39,7 +39,7 @@ module _ {A : Type 0} where
       fill_by_all (item_at [] qs) (map standing empty) cap None (length-map empty standing ∙ length-replicate cap None)
       (λ k less. get_or-map standing empty k None None (omega (arith, length-replicate {A = Option (Bor A)} cap None)) ∙ ap standing (get_or-replicate cap k None None less))
 
-  -- the item before those that stand there is put at its place
+  -- the item before those that are in the table is put at its place
   pub placed_next : (cap i q : ℕ) (qs : List ℕ) (xs : List A) (table next : List (Option (Bor A))) (item : Bor A) → 0 < i → i ≤ length xs → length qs ≡ length xs → q < cap → q ≡ get_or qs (i - 1) 0
       → item.now ≡ get_or xs (i - 1) item.now → map standing table ≡ placed cap (drop i qs) (drop i xs) → next ≡ set table q (Some item)
       → map standing next ≡ placed cap (drop (i - 1) qs) (drop (i - 1) xs)
@@ -55,10 +55,10 @@ module _ {A : Type 0} where
       ∙ ap (λ l. placed cap l (item.now ∷ drop i xs)) (sym first)
       ∙ ap (λ l. placed cap (drop j qs) l) (sym rest)
 
-  -- the table has as many places as there are
+  -- the length of the table is the number of places
   pub places_are : (cap : ℕ) (qs : List ℕ) (xs : List A) (table : List (Option (Bor A))) → map standing table ≡ placed cap qs xs → length table ≡ cap
   places_are cap qs xs table h = sym (length-map table standing) ∙ ap length h ∙ length-placed cap qs xs
 
-  -- before the last one nothing stands there
+  -- before the last one there is no item
   pub placed_first : (cap i : ℕ) (qs : List ℕ) (xs : List A) (table : List (Option (Bor A))) → length xs ≤ i → table ≡ replicate cap None → map standing table ≡ placed cap (drop i qs) (drop i xs)
   placed_first cap i qs xs table end e = ap (map standing) e ∙ placed_none cap (drop i qs) ∙ ap (λ l. placed cap (drop i qs) l) (sym (drop_all i xs end))

@@ -3,31 +3,31 @@ use Rattle.std.proofs.Common.{◌≡◌, ℕ, zero, suc, ◌+◌, ◌-◌, ◌*�
 use Rattle.std.specs.Prelude.{⊤, Result}
 use denote.Bor.{Bor}
 use Rattle.std.proofs.Math.Dec.{eqb-suc-zero}
-use Rattle.archive_shape_layout.specs.Shape.{Shape}
-use Rattle.archive_shape_references.specs.Bytes.{zeros}
-use Rattle.archive_shape_canonical.specs.FirstFit.{capacity_for, first_fit, fitted_from, placed, present, written_controls}
+use Rattle.archive_shape.specs.ShapeLayout.Shape.{Shape}
+use Rattle.archive_shape.specs.Bytes.{zeros}
+use Rattle.archive_hash_probing.specs.ShapeCanonical.FirstFit.{capacity_for, first_fit, fitted_from, placed, present, written_controls}
 use Rattle.archive_shape_writing.specs.Writing.{WriterMembers}
 use Rattle.archive_shape_writing.specs.declared.error.Error.{Error}
 use Rattle.archive_shape_writing.specs.declared.error.Error.TheVariants.{LengthTooLarge, InvalidLoadFactor, PositionTooLarge}
 use Rattle.archive_shape_writing.proofs.Joined.{written_none}
-use Rattle.archive_forms_spelling.specs.State.{State, visit_of_key}
-use Rattle.archive_forms_spelling.specs.Spelling.{Spelling, state_after}
-use Rattle.archive_forms_spelling.specs.Regions.{state_after_all, pieces, pieces_fit, pieces_refused}
-use Rattle.archive_forms_spelling.specs.Serializing.{of_data, IsAt, Serializes, is_begun, progress_by}
-use Rattle.archive_forms_spelling.proofs.Regions.{state_after_all_begun}
+use Rattle.archive_forms_writing.specs.FormsLaws.State.{State, visit_of_key}
+use Rattle.archive_forms_writing.specs.FormsLaws.Spelling.{Spelling, state_after}
+use Rattle.archive_forms_writing.specs.FormsLaws.Regions.{state_after_all, pieces, pieces_fit, pieces_refused}
+use Rattle.archive_forms_writing.specs.FormsLaws.Serializing.{of_data, IsAt, Serializes, is_begun, progress_by}
+use Rattle.archive_forms_writing.proofs.FormsLaws.Regions.{state_after_all_begun}
 use Rattle.archive_forms_writing.proofs.Laying.{Wrote, Stops, wrote_both, stopped_after, stopped_first, stopped_before, as_data, stops_as_data}
-use Rattle.archive_hash_places.specs.Loads.{IsLoadFactor}
-use Rattle.archive_hash_places.proofs.FirstFits.{written_are}
-use Rattle.archive_hash_places.proofs.Wrapping.{count_is}
-use Rattle.archive_hash_reading.specs.declared.resolving.HashTableResolver.{HashTableResolver}
-use Rattle.archive_hash_spelling.specs.Fitted.{table_of, controls_of}
-use Rattle.archive_hash_spelling.specs.Tables.{buckets, controls_at, region_from, state_after_items, IsPlaced, buckets_refused, filled_piece, filled_refused, filled_fits}
+use Rattle.archive_hash_probing.specs.Loads.{IsLoadFactor}
+use Rattle.archive_hash_probing.proofs.FirstFits.{written_are}
+use Rattle.archive_hash_probing.proofs.Wrapping.{count_is}
+use Rattle.archive_hash_maps.specs.declared.map.resolving.HashTableResolver.{HashTableResolver}
+use Rattle.archive_hash_writing.specs.Fitted.{table_of, controls_of}
+use Rattle.archive_hash_writing.specs.Tables.{buckets, controls_at, region_from, state_after_items, IsPlaced, buckets_refused, filled_piece, filled_refused, filled_fits}
 use Rattle.archive_hash_writing.specs.Claimed.{written_spelling}
 use Rattle.archive_hash_writing.specs.Standing.{standing}
 use Rattle.archive_hash_writing.specs.Laying.{LaysRegion}
 use Rattle.archive_hash_writing.proofs.Standing.{length-placed}
 
--- ---- how many places there are
+-- ---- the number of places
 
 capacity_is : (n most places : ℕ) → capacity_for (suc n) most places ≡ max (suc n * places / most) (suc n + 1)
 capacity_is n most places = ap (λ b. cond b 0 (max (suc n * places / most) (suc n + 1))) (eqb-suc-zero n)
@@ -49,7 +49,7 @@ module _ {A R W : Type 0} (load : ℕ × ℕ) (sh : Shape) (w : Spelling A R) (h
   abbrev spelled : Spelling (List A) HashTableResolver
   spelled = written_spelling load sh w hashes
 
-  -- what stands in the table, and its controls
+  -- the items at the table's places, and its controls
   abbrev pub os : List A → List (Option A)
   os xs = table_of load.0 load.1 hashes xs
 
@@ -74,7 +74,7 @@ module _ {A R W : Type 0} (load : ℕ × ℕ) (sh : Shape) (w : Spelling A R) (h
   -- ---- a table of some items
 
   module _ (xs : List A) (some : 0 < length xs) (old : W) (st : State) where
-    -- its region, behind the data of what stands there
+    -- its region, after the data of the items
     abbrev region : List ℕ
     region = zeros (region_from sh w (os xs) st - (state_after_items sh w (os xs) st).pos) ++ (buckets sh w (os xs) st (controls_at sh w (os xs) st) ++ controls xs)
 
@@ -123,7 +123,7 @@ module _ {A R W : Type 0} (load : ℕ × ℕ) (sh : Shape) (w : Spelling A R) (h
           ),
         )
 
-    -- what stands there and the controls are those of the table
+    -- the items at the places and the controls are those of the table
     module _ (o : List (Option A)) (cs : List ℕ) (eo : o ≡ os xs) (ec : cs ≡ controls xs) where
       laid_so : (mid new : W) (result : Result ℕ Error) → LaysRegion sh w s o cs st mid new result → LaysRegion sh w s (os xs) (controls xs) st mid new result
       laid_so mid new result h =
@@ -148,7 +148,7 @@ module _ {A R W : Type 0} (load : ℕ × ℕ) (sh : Shape) (w : Spelling A R) (h
           let I : List (Option A) → Type 0 = λ l. IsAt s.pos s.known mid (state_after_all w (present l) st) in
           table_written mid new to at small (wrote_so mid g) (subst F eo f) (subst I eo is) (laid_so mid new (Ok to) h)
 
--- ---- where items were put
+-- ---- the places of items
 
 pub placed_so : {A : Type 0} (cap : ℕ) (given table : List (Option (Bor A))) (qs : List ℕ) (xs : List A) → given ≡ table → map standing table ≡ placed cap qs xs → map standing given ≡ placed cap qs xs
 placed_so cap given table qs xs e h = ap (map standing) e ∙ h

@@ -1,3 +1,7 @@
 pub mod Claimed
-pub mod Standing
+pub mod Fitted
+pub mod Laws
 pub mod Laying
+pub mod Sample
+pub mod Standing
+pub mod Tables

@@ -1,22 +1,22 @@
-//! The buckets of a table: the own bytes of what stands at each place, from the last place down to the first.
+//! Writes the buckets of a table: the own bytes of the item at each place, from the last place down to the first.
 ghost use Rattle.std.specs.Prelude.{◌≡◌, ◌+◌, ◌-◌, ◌*◌, ◌^◌, ◌<◌, ◌≤◌, length, map};
-ghost use Rattle.archive_shape_layout.specs.Shape.{size_of};
-ghost use Rattle.archive_shape_references.specs.Bytes.{zeros};
-ghost use Rattle.archive_shape_canonical.specs.FirstFit.{present};
-ghost use Rattle.archive_forms_spelling.specs.State.{State};
-ghost use Rattle.archive_forms_spelling.specs.Serializing.{CanResolve, Resolves};
-ghost use Rattle.archive_forms_spelling.specs.Regions.{resolvers};
+ghost use Rattle.archive_shape.specs.ShapeLayout.Shape.{size_of};
+ghost use Rattle.archive_shape.specs.Bytes.{zeros};
+ghost use Rattle.archive_hash_probing.specs.ShapeCanonical.FirstFit.{present};
+ghost use Rattle.archive_forms_writing.specs.FormsLaws.State.{State};
+ghost use Rattle.archive_forms_writing.specs.FormsLaws.Serializing.{CanResolve, Resolves};
+ghost use Rattle.archive_forms_writing.specs.FormsLaws.Regions.{resolvers};
 ghost use Rattle.archive_hash_writing.specs.Standing.{standing};
 ghost use Rattle.archive_hash_writing.specs.Laying.{MakesRoom, LaysBuckets};
 
 use archive_forms_writing::Archive;
 use archive_shape::{Allocator, Error, Place, Portable, Writer};
 
-/// How many bytes of buckets are written at once.
+/// The number of bytes of buckets that are written at once.
 const BUFFER: usize = 256;
 
-/// Makes room for `size` bytes behind the first ones of a buffer, which are in use: where there is none, those are written, and
-/// the buffer is zero again. Answers how many are in use then.
+/// Makes room for `size` bytes after the first `filled` bytes of a buffer, which are in use. If there is no room, those
+/// are written and the whole buffer is set to zero. Returns the number of bytes that are then in use.
 fn make_room<W: Writer>(
     writer: &mut W,
     buffer: &mut [u8],
@@ -39,8 +39,8 @@ fn make_room<W: Writer>(
     }
 }
 
-/// Writes the own bytes of an item, whose data was written, at `start` of a buffer, which is zero there and will stand at
-/// `pos`.
+/// Writes the own bytes of an item, whose data is already written, at `start` of a buffer. The buffer is zero there,
+/// and will itself be written so that these bytes are at position `pos`.
 fn resolve_bucket<T: Archive>(
     item: &T,
     resolver: T::Resolver,
@@ -54,7 +54,8 @@ fn resolve_bucket<T: Archive>(
     item.resolve(resolver, Place::within(buffer, start, pos))
 }
 
-/// Writes the buckets of a table, the data of whose items was written, by way of a buffer of zeros.
+/// Writes the buckets of a table, whose items' data is already written. The buffer that they pass through begins as
+/// zeros.
 fn write_through<'a, T: Archive, W: Writer>(
     table: &[Option<&'a T>],
     kept: &[T::Resolver],
@@ -90,7 +91,8 @@ fn write_through<'a, T: Archive, W: Writer>(
     writer.write(&buffer[..filled])
 }
 
-/// Writes the buckets of a table, the data of whose items was written. They end before position 2^64.
+/// Writes the buckets of a table, whose items' data is already written. They end before position 2^64. Items larger
+/// than the buffer of 256 bytes use a buffer from the serializer's memory; `OutOfMemory` if its allocation fails.
 pub(crate) fn write_buckets<'a, T: Archive, S: Writer + Allocator>(
     table: &[Option<&'a T>],
     kept: &[T::Resolver],

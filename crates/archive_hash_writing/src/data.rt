@@ -1,9 +1,9 @@
-//! The data of the items of a table, by ascending place.
+//! Writes the data of the items of a table, by ascending place.
 ghost use Rattle.std.specs.Prelude.{◌≡◌, ◌-◌, ◌^◌, ◌<◌, map};
-ghost use Rattle.archive_shape_canonical.specs.FirstFit.{present};
-ghost use Rattle.archive_forms_spelling.specs.State.{State};
-ghost use Rattle.archive_forms_spelling.specs.Serializing.{IsAt, HasState, LaysData};
-ghost use Rattle.archive_forms_spelling.specs.Regions.{state_after_all, pieces, resolvers, pieces_fit, pieces_refused};
+ghost use Rattle.archive_hash_probing.specs.ShapeCanonical.FirstFit.{present};
+ghost use Rattle.archive_forms_writing.specs.FormsLaws.State.{State};
+ghost use Rattle.archive_forms_writing.specs.FormsLaws.Serializing.{IsAt, HasState, LaysData};
+ghost use Rattle.archive_forms_writing.specs.FormsLaws.Regions.{state_after_all, pieces, resolvers, pieces_fit, pieces_refused};
 ghost use Rattle.archive_forms_writing.specs.Steps.{StepTakes, StepWrites};
 ghost use Rattle.archive_hash_writing.specs.Standing.{standing};
 
@@ -11,7 +11,7 @@ use archive_forms_writing::Archive;
 use archive_shape::{Allocator, Error, Writer};
 use std::marker::PhantomData;
 
-/// Writes the data of what stands in a table by a step, and answers the resolvers. There are `count` items.
+/// Writes the data of the items in a table by `step`, and returns their resolvers. There are `count` items.
 pub(crate) fn serialize_present_each<
     'a,
     T: Archive,

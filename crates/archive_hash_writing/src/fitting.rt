@@ -1,11 +1,10 @@
-//! Where the items of a table go, by their hashes.
+//! Finds the places of the items of a table by their hashes.
 ghost use Rattle.std.specs.Prelude.{◌≡◌, ◌<◌, ◌^◌, [], All, length, MatchResult};
-ghost use Rattle.archive_shape_canonical.specs.FirstFit.{fitted_from, written_controls};
+ghost use Rattle.archive_hash_probing.specs.ShapeCanonical.FirstFit.{fitted_from, written_controls};
 ghost use Rattle.archive_shape_writing.specs.declared.error.Error.TheVariants.{OutOfMemory};
 
 use archive_hash_checking::control_count;
-use archive_hash_places::write_controls;
-use archive_hash_scanning::Scan;
+use archive_hash_probing::{Scan, write_controls};
 use archive_shape::Error;
 use std::alloc::Global;
 
@@ -16,7 +15,7 @@ pub(crate) struct Fitted {
     pub(crate) places: Vec<u32>,
 }
 
-/// Puts each hash where it first fits, in a table that has more places than there are hashes.
+/// Puts each hash at its first fit, in a table that has more places than there are hashes.
 pub(crate) fn fit<G: Scan>(alloc: Global, capacity: usize, hashes: &[u64]) -> Result<Fitted, Error>
     requires small { capacity < 2 ^ 32 }
     requires room { length hashes.now < capacity }

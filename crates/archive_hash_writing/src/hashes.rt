@@ -1,4 +1,4 @@
-//! The hashes of items.
+//! Computes the hashes of items.
 ghost use Rattle.std.specs.Prelude.{◌≡◌, MatchResult};
 ghost use Rattle.std.specs.Fn.{FnReturnsAt};
 ghost use Rattle.archive_shape_writing.specs.declared.error.Error.TheVariants.{OutOfMemory};
@@ -8,7 +8,7 @@ ghost use Rattle.archive_hash_writing.specs.Claimed.{AreHashesOf};
 use archive_shape::Error;
 use std::alloc::Global;
 
-/// The hash of each item.
+/// Returns the hash of each item.
 pub(crate) fn hash_items<T, H: Fn(&T) -> u64>(
     alloc: Global,
     items: &[T],

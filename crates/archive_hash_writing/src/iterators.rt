@@ -1,30 +1,31 @@
-//! Tables of the items that an iterator gives.
+//! Writes tables of the items that an iterator returns.
 ghost use Rattle.std.specs.Prelude.{◌≡◌, ◌-◌, ◌^◌, ◌<◌, List};
 ghost use Rattle.std.specs.Fn.{FnReturnsAt};
 ghost use Rattle.std.specs.Iterator.{Drains, IsFiniteIterable};
-ghost use Rattle.archive_forms_spelling.specs.Serializing.{HasState, SerializesBy};
+ghost use Rattle.archive_forms_writing.specs.FormsLaws.Serializing.{HasState, SerializesBy};
 ghost use Rattle.archive_forms_writing.specs.Steps.{IsElement, StepTakes, StepWrites};
 ghost use Rattle.archive_hash_writing.specs.Claimed.{WritesTable};
 
 use crate::hashes::hash_items;
 use crate::tables::serialize_hashed;
-use archive_forms_collections::collect_items;
+use archive_forms_borrowed::collect_items;
 use archive_forms_writing::{Archive, Serialize, serialize_element};
-use archive_hash_reading::HashTableResolver;
-use archive_hash_scanning::{Group, Scan};
+use archive_hash_maps::HashTableResolver;
+use archive_hash_probing::{Group, Scan};
 use archive_shape::{Allocator, Error, Writer};
 use std::marker::PhantomData;
 
-/// Writes the table of the items that an iterator gives, `len` of which are claimed to come: each, in this order, at its first
-/// fit. Their data is written by a step, by ascending place. At most `load_factor.0` of `load_factor.1` places are full. Memory
-/// is taken for the items that come, and none for those that are claimed.
+/// Writes the table of the items that an iterator returns: each item, in this order, at its first fit. `len` is the
+/// number of items that the caller claims. The items' data is written by `step`, by ascending place. At most
+/// `load_factor.0` of `load_factor.1` places are full. Memory is allocated for the items that the iterator returns, and
+/// none for those that are only claimed.
 ///
 /// # Errors
-/// `InvalidLoadFactor` where no places or more than all may be full. `IteratorLengthMismatch` where the iterator gives another
-/// number of items than `len`. Nothing is written in both cases. `LengthTooLarge` where the table would have 2^32 places or
-/// more. `PositionTooLarge` where its buckets would not begin before position 2^32, or its controls would not end before
-/// position 2^64. `OutOfMemory` where memory is refused. Besides, what the step or the serializer fails by, and what the own
-/// bytes of an item are refused for.
+/// `InvalidLoadFactor` if no places or more than all may be full, and `IteratorLengthMismatch` if the iterator returns
+/// another number of items than `len`; nothing is written in both cases. `LengthTooLarge` if the table would have 2^32
+/// places or more. `PositionTooLarge` if its buckets would not begin before position 2^32, or its controls would not
+/// end before position 2^64. `OutOfMemory` if an allocation fails. Also each error of `step` and of the serializer, and
+/// each error of resolving an item's own bytes.
 pub fn serialize_from_iter_scan_each<
     G: Scan,
     T: Archive + Drop,
@@ -72,8 +73,8 @@ pub fn serialize_from_iter_scan_each<
     serialize_hashed::<G, T, S, F>(items, hashes, load_factor, serializer, step)
 }
 
-/// Writes the table of the items that an iterator gives, as `serialize_from_iter_scan_each` does. The scan decides how fast
-/// places are found, and not which.
+/// Writes the table of the items that an iterator returns, as `serialize_from_iter_scan_each` does. The scan `G`
+/// decides how fast places are found, and not which places.
 pub fn serialize_from_iter_scan<
     G: Scan,
     S: Writer + Allocator,
@@ -108,7 +109,7 @@ pub fn serialize_from_iter_scan<
     )
 }
 
-/// Writes the table of the items that an iterator gives, as `serialize_from_iter_scan` does, by the widest scan.
+/// Writes the table of the items that an iterator returns, as `serialize_from_iter_scan` does, by the widest scan.
 pub fn serialize_from_iter<
     S: Writer + Allocator,
     T: Serialize<S> + Drop,

@@ -1,5 +1,9 @@
-//! How tables are written of items that an iterator gives.
+//! Writes hash tables of the items that an iterator returns.
 #![tactic(auto)]
+
+mod spelling;
+
+pub use spelling::{each_is_filled, samples_are_spelled, tables_are_written};
 
 mod buckets;
 mod data;

@@ -1,14 +1,14 @@
-//! What stands at each place of a table.
+//! Arranges the items of a table by their places.
 ghost use Rattle.std.specs.Prelude.{◌≡◌, ◌<◌, All, length, map, MatchResult};
-ghost use Rattle.archive_shape_canonical.specs.FirstFit.{placed};
+ghost use Rattle.archive_hash_probing.specs.ShapeCanonical.FirstFit.{placed};
 ghost use Rattle.archive_shape_writing.specs.declared.error.Error.TheVariants.{OutOfMemory};
 ghost use Rattle.archive_hash_writing.specs.Standing.{standing};
 
 use archive_shape::Error;
 use std::alloc::Global;
 
-/// What stands at each of the places of a table: each item at the place beside it. Where two items had one place, the first would
-/// stand there.
+/// Returns the item at each of the places of a table, or `None` where there is no item. Item `i` has the place
+/// `places[i]`. If two items had the same place, the first of them would be there.
 pub(crate) fn place_items<'a, T>(
     alloc: Global,
     capacity: usize,

@@ -1,10 +1,10 @@
-//! The region of a table: its buckets and its controls.
+//! Writes the region of a table: its buckets and its controls.
 ghost use Rattle.std.specs.Prelude.{◌≡◌, ◌+◌, ◌-◌, ◌*◌, ◌^◌, ◌<◌, length, map, MatchOption};
-ghost use Rattle.archive_shape_layout.specs.Shape.{size_of};
-ghost use Rattle.archive_shape_canonical.specs.FirstFit.{present};
-ghost use Rattle.archive_forms_spelling.specs.State.{State};
-ghost use Rattle.archive_forms_spelling.specs.Regions.{resolvers};
-ghost use Rattle.archive_hash_spelling.specs.Tables.{state_after_items};
+ghost use Rattle.archive_shape.specs.ShapeLayout.Shape.{size_of};
+ghost use Rattle.archive_hash_probing.specs.ShapeCanonical.FirstFit.{present};
+ghost use Rattle.archive_forms_writing.specs.FormsLaws.State.{State};
+ghost use Rattle.archive_forms_writing.specs.FormsLaws.Regions.{resolvers};
+ghost use Rattle.archive_hash_writing.specs.Tables.{state_after_items};
 ghost use Rattle.archive_hash_writing.specs.Standing.{standing};
 ghost use Rattle.archive_hash_writing.specs.Laying.{LaysRegion};
 
@@ -12,11 +12,11 @@ use crate::buckets::write_buckets;
 use archive_forms_writing::{Archive, align};
 use archive_shape::{Allocator, Error, Portable, Writer};
 
-/// The last position that the region of a table may begin at.
+/// The last position at which the region of a table may begin.
 const LAST_POSITION: usize = u32::MAX as usize;
 
-/// Where the buckets of a table end that begin at `from`, and its controls begin. None where the region begins past the last
-/// position, or does not end before position 2^64.
+/// Returns the position at which the buckets of a table that begin at `from` end and its controls begin. Returns `None`
+/// if the region begins after the last allowed position, or does not end before position 2^64.
 fn controls_position<T: Portable>(from: usize, places: usize, controls: usize) -> Option<usize>
     requires places { 0 < places }
     requires controls { 0 < controls }
@@ -33,7 +33,7 @@ fn controls_position<T: Portable>(from: usize, places: usize, controls: usize) -
     Some(to)
 }
 
-/// Writes the buckets and the controls of a table behind the data of its items. The answer is where the controls begin.
+/// Writes the buckets and the controls of a table after the data of its items. Returns the position of the controls.
 pub(crate) fn write_region<'a, T: Archive, S: Writer + Allocator>(
     table: &[Option<&'a T>],
     kept: &[T::Resolver],

@@ -1,8 +1,8 @@
-//! Tables whose items have their hashes beside them.
+//! Writes tables of items and their hashes.
 ghost use Rattle.std.specs.Prelude.{◌≡◌, ◌-◌, ◌^◌, ◌<◌, length};
-ghost use Rattle.archive_forms_spelling.specs.Serializing.{HasState, Serializes};
+ghost use Rattle.archive_forms_writing.specs.FormsLaws.Serializing.{HasState, Serializes};
 ghost use Rattle.archive_forms_writing.specs.Steps.{StepTakes, StepWrites};
-ghost use Rattle.archive_hash_places.specs.Loads.{IsLoadFactor};
+ghost use Rattle.archive_hash_probing.specs.Loads.{IsLoadFactor};
 ghost use Rattle.archive_hash_writing.specs.Claimed.{written_spelling};
 
 use crate::data::serialize_present_each;
@@ -10,13 +10,13 @@ use crate::fitting::fit;
 use crate::places::place_items;
 use crate::region::write_region;
 use archive_forms_writing::Archive;
-use archive_hash_places::capacity_for_len;
-use archive_hash_reading::HashTableResolver;
-use archive_hash_scanning::Scan;
+use archive_hash_maps::HashTableResolver;
+use archive_hash_probing::{Scan, capacity_for_len};
 use archive_shape::{Allocator, Error, Writer};
 use std::marker::PhantomData;
 
-/// Writes the table of items with a hash beside each: the data of the items, which a step writes, and then the table.
+/// Writes the table of items, of which `items[i]` has the hash `hashes[i]`: first the data of the items, which `step`
+/// writes, and then the region of the table.
 pub(crate) fn serialize_hashed<
     G: Scan,
     T: Archive,

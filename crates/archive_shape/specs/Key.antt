@@ -8,8 +8,8 @@ use Rattle.archive_shape_layout.specs.Content.Part.{at}
 use Rattle.archive_shape_layout.specs.Holds.{Region, Visit, OpenShared, Holds}
 use Rattle.archive_shape_layout.specs.Visited.{ClaimedAfter}
 
--- under names that a type knows, the layout has this value at a position: its own bytes lie in the buffer, and the regions
--- that it claims ascend before them, after visits of what stands
+-- under names that a type knows, the layout has this value at a position: its own bytes lie in the buffer, the regions
+-- that it claims ascend before them, and what was visited has its value and lies before these regions
 pub record HeldAt (shape : Shape) (knows : Names → Type 0) (bytes : List ℕ) (pos : ℕ) (value : Value) : Type 0 where
   pub names : Names
   pub known : knows names
@@ -23,7 +23,7 @@ pub record HeldAt (shape : Shape) (knows : Names → Type 0) (bytes : List ℕ) 
   pub claimed : ClaimedAfter names bytes before low pos regions
   pub holds : Holds names bytes level inside (at pos shape) value regions before after
 
--- two keys of one value, wherever each lies, compare alike with every query
+-- two keys of one value, at any positions, compare alike with every query
 abbrev pub AreAlike : {Q : Type 0} → Shape → (Names → Type 0) → (List ℕ → ℕ → Q → Type 0) → (Q → Q → Ordering) → Type 0
 AreAlike {Q = Q} shape knows key_of order =
     (bytes other : List ℕ) (pos other_pos : ℕ) (value : Value)

@@ -12,7 +12,7 @@ progress_of Pending = begun
 progress_of (Finished value) = ended value
 
 module _ {T : Type 0} (old new : ℕ → Progress T) (pos : ℕ) where
-  -- where progress is kept, starting tells that of the position; else the position is begun anew
+  -- where progress is kept, starting returns that of the position; else the position is begun anew
   abbrev pub StartsPooling : Bool → PoolingState T → Type 0
   StartsPooling true state = Starts old new pos (progress_of state)
   StartsPooling false state = state ≡ Started

@@ -1,4 +1,4 @@
--- What the state of a shared value tells of its progress.
+-- The progress that the state of a shared value reports.
 use Rattle.std.specs.Prelude.{ℕ}
 use Rattle.archive_shape_writing.specs.Progress.{Progress}
 use Rattle.archive_shape_writing.specs.Progress.Progress.{unmet, begun, ended}

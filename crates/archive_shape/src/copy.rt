@@ -1,9 +1,9 @@
-//! Whether values may be copied as bytes.
+//! A flag that says whether values of a type may be archived as a copy of their bytes.
 ghost use Rattle.std.specs.Prelude.{◌≡◌, true, false};
 
 use std::marker::PhantomData;
 
-/// Whether values of a type may be archived as a copy of their bytes.
+/// A flag that says whether values of `T` may be archived as a copy of their bytes.
 #[derive_where(Clone, Copy)]
 pub struct CopyOptimization<T> {
     pub enabled: bool,
@@ -11,14 +11,14 @@ pub struct CopyOptimization<T> {
 }
 
 impl<T> CopyOptimization<T> {
-    /// They may.
+    /// Returns a flag that allows the copy.
     pub const fn enable() -> Self
         ensures { result.enabled ≡ true }
     {
         CopyOptimization::enable_if(true)
     }
 
-    /// They may where `value` is true.
+    /// Returns a flag that allows the copy if `value` is true.
     pub const fn enable_if(value: bool) -> Self
         ensures { result.enabled ≡ value }
     {
@@ -28,14 +28,14 @@ impl<T> CopyOptimization<T> {
         }
     }
 
-    /// They may not.
+    /// Returns a flag that forbids the copy.
     pub const fn disable() -> Self
         ensures { result.enabled ≡ false }
     {
         CopyOptimization::enable_if(false)
     }
 
-    /// Whether they may.
+    /// Returns whether the copy is allowed.
     pub const fn is_enabled(self) -> bool
         ensures { result ≡ self.enabled }
     {

@@ -1,4 +1,4 @@
-//! Archived keys against queries.
+//! The trait of archived keys, which are compared with queries.
 ghost use Rattle.std.specs.Prelude.{◌≡◌, ℕ, ◌+◌, ◌≤◌, List, length};
 ghost use Rattle.std.proofs.Common.{ap, arith, sym, ◌∙◌};
 ghost use Rattle.std.specs.Cmp.{IsTotalOrder};
@@ -6,55 +6,55 @@ ghost use Rattle.std.specs.Ordering.{is_eq};
 ghost use Rattle.std.specs.declared.cmp.Ordering.{Ordering};
 ghost use Rattle.archive_shape_layout.specs.Bytes.{window};
 ghost use Rattle.archive_shape_layout.specs.Value.{Value};
-ghost use Rattle.archive_shape_native.specs.Numbers.{Reads};
-ghost use Rattle.archive_shape_native.proofs.Held.{held_reads, held_legal};
-ghost use Rattle.archive_shape_native.proofs.Reading.{one_reading};
+ghost use Rattle.archive_shape_layout.specs.Numbers.{Reads};
+ghost use Rattle.archive_shape_layout.proofs.HeldNumbers.{held_reads, held_legal};
+ghost use Rattle.archive_shape_layout.proofs.NumberReading.{one_reading};
 ghost use Rattle.archive_shape.specs.Key.{HeldAt};
 
 use crate::{LittleEndian, Native, Portable, Ref};
 use std::cmp::Ordering;
 
-/// A type of archived keys that a query of type `Q` is compared with. How a key compares rests on the value that the layout
-/// has for it, wherever it lies.
+/// A type of archived keys that are compared with queries of type `Q`. The result of a comparison depends on the value
+/// that the layout has for the key, not on its position.
 pub trait ArchivedKey<Q>: Portable {
-    /// Whether bytes have at a position a key of this type.
+    /// Whether the bytes have a key of this type at a position.
     ghost is_key: { List ℕ → ℕ → Type 0 };
 
-    /// Whether the key that bytes have at a position stands for this.
+    /// Whether the key that the bytes have at a position represents this value of `Q`.
     ghost key_of: { List ℕ → ℕ → Q → Type 0 };
 
-    /// Whether a key of this value stands for this.
+    /// Whether a key of this value of the layout represents this value of `Q`.
     ghost stands_for: { Value → Q → Type 0 };
 
-    /// The keys' own order.
+    /// The order of the keys.
     ghost order: { Q → Q → Ordering };
 
-    /// Whether the key and the query are equal: exactly where `compare` answers `Equal`.
+    /// Returns whether the key and the query are equal, which is exactly where `compare` returns `Equal`.
     fn same(this: &Ref<'_, Self>, query: &Q) -> bool
         requires { is_key this.now.bytes.now this.now.pos }
         ensures { (key : Q) × key_of this.now.bytes.now this.now.pos key × (result ≡ is_eq (order key query.now)) };
 
-    /// How the key stands to the query in the keys' own order.
+    /// Compares the key with the query, in the order of the keys.
     fn compare(this: &Ref<'_, Self>, query: &Q) -> Ordering
         requires { is_key this.now.bytes.now this.now.pos }
         ensures { (key : Q) × key_of this.now.bytes.now this.now.pos key × (result ≡ order key query.now) };
 
-    /// What the layout has at a position is a key.
+    /// A value that the layout has at a position is a key.
     ghost held_is_key: { (bytes : List ℕ) (pos : ℕ) (value : Value) → HeldAt Self.shape Self.knows bytes pos value → is_key bytes pos };
 
-    /// All that this key stands for, its value stands for.
+    /// All that this key represents, its value represents as well.
     ghost held_stands_for: { (bytes : List ℕ) (pos : ℕ) (value : Value) → HeldAt Self.shape Self.knows bytes pos value → (key : Q) → key_of bytes pos key → stands_for value key };
 
-    /// All that a value stands for is alike in the order.
+    /// All that one value represents compares alike with every query.
     ghost one_value: { (value : Value) (a b : Q) → stands_for value a → stands_for value b → (query : Q) → order a query ≡ order b query };
 
-    /// All that the key at a position stands for is alike in the order.
+    /// All that the key at a position represents compares alike with every query.
     ghost one_key: { (bytes : List ℕ) (pos : ℕ) (a b : Q) → key_of bytes pos a → key_of bytes pos b → (query : Q) → order a query ≡ order b query };
 
     ghost is_total: { IsTotalOrder order };
 }
 
-/// Numbers and chars, in their own order.
+/// Numbers and chars, in the order of their native type.
 impl<N: Native + Ord> ArchivedKey<N> for LittleEndian<N> {
     ghost is_key = { λ bytes pos. (pos + N.WIDTH ≤ length bytes) × N.is_legal (window bytes pos N.WIDTH) };
 

@@ -1,15 +1,15 @@
-//! Where memory is taken from.
+//! The trait of values that have an allocator.
 ghost use Rattle.std.specs.Prelude.{◌≡◌};
 ghost use Rattle.std.specs.Global.{Global};
 
 use std::alloc::Global;
 
-/// What has memory to give.
+/// A value that has an allocator.
 pub trait Allocator {
-    /// Where its memory is taken from.
+    /// The allocator.
     ghost memory: { Self → Global };
 
-    /// Where its memory is taken from.
+    /// Returns the allocator that memory is taken from.
     fn memory(&self) -> Global
         ensures { result ≡ memory self.now };
 }

@@ -1,4 +1,4 @@
-//! What keeps the values that are shared, while an archive is read.
+//! The trait of registries that keep the shared values while an archive is read.
 ghost use Rattle.std.specs.Prelude.{◌≡◌, ℕ, Bool, MatchResult};
 ghost use Rattle.archive_shape.specs.Pooling.{StartsPooling, FinishesPooling};
 ghost use Rattle.archive_shape_writing.specs.Progress.{Progress};
@@ -6,18 +6,19 @@ ghost use Rattle.archive_shape_writing.specs.declared.error.Error.TheVariants.{O
 
 use crate::Error;
 
-/// What is known of the value at a shared position.
+/// The progress of the value at a shared position.
 #[derive(Clone, Copy, Drop, Debug, PartialEq, Eq)]
 pub enum PoolingState<T> {
-    /// It was not met before, and is begun now.
+    /// It was not seen before, and is begun now.
     Started,
-    /// It has begun and not finished: the value lies inside itself.
+    /// It has begun and has not finished: the value lies inside itself.
     Pending,
-    /// It has finished, and this was made of it.
+    /// It has finished, and this value was made of it.
     Finished(T),
 }
 
-/// What is told of each shared value that is read. Where it is kept, each is read once. After a refusal it is not used again.
+/// A registry of the shared values that are read. Where it keeps their progress, each is read once. It is not used
+/// again after an error.
 pub trait Pooling<T> {
     /// Whether the progress of positions is kept.
     ghost KEEPS: { Bool };
@@ -25,11 +26,14 @@ pub trait Pooling<T> {
     /// What is known of each position.
     ghost known: { Self → ℕ → Progress T };
 
-    /// Tells what is known of the value at a position, and begins one that was not met. Where nothing is kept, it is begun anew.
+    /// Returns the progress of the value at a position, and begins a value that was not seen before. Where no progress
+    /// is kept, the value is begun anew. Returns `OutOfMemory` when an allocation fails.
     fn start_pooling(&mut self, pos: usize) -> Result<PoolingState<T>, Error>
         ensures { MatchResult result (StartsPooling (known self.old) (known self.new) pos KEEPS) (λ e. e ≡ OutOfMemory) };
 
-    /// Finishes a value that has begun, of which this was made. It takes no memory: the entry was made at its start.
+    /// Finishes a value that has begun, of which `value` was made. Allocates nothing: the entry was made at its start.
+    /// Where progress is kept, returns `NotStarted` for a value that has not begun, and `AlreadyFinished` for one that
+    /// has finished.
     fn finish_pooling(&mut self, pos: usize, value: T) -> Result<(), Error>
         ensures { FinishesPooling (known self.old) (known self.new) pos KEEPS value result };
 }

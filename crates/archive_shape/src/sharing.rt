@@ -1,4 +1,4 @@
-//! What keeps the values that are shared, while an archive is written.
+//! The trait of registries that keep the shared values while an archive is written.
 ghost use Rattle.std.specs.Prelude.{◌≡◌, MatchResult};
 ghost use Rattle.archive_shape_writing.specs.Progress.{Starts, Finishes};
 ghost use Rattle.archive_shape.specs.Sharing.{progress_of};
@@ -6,25 +6,27 @@ ghost use Rattle.archive_shape_writing.specs.declared.error.Error.TheVariants.{O
 
 use crate::{Error, Registry};
 
-/// What is known of a shared value.
+/// The progress of a shared value.
 #[derive(Clone, Copy, Debug, PartialEq, Eq)]
 pub enum SharingState {
-    /// It was not met before, and is begun now.
+    /// It was not seen before, and is begun now.
     Started,
-    /// It has begun and not finished: the value lies inside itself.
+    /// It has begun and has not finished: the value lies inside itself.
     Pending,
     /// It has finished, at this position.
     Finished(usize),
 }
 
-/// What has each shared value written once. Keys are of the user's choosing, one for each shared value. After a refusal
-/// it is not used again.
+/// A registry by which each shared value is written once. The user chooses the keys, one for each shared value. It is
+/// not used again after an error.
 pub trait Sharing: Registry {
-    /// Tells what is known of the value, and begins one that was not met.
+    /// Returns the progress of the value, and begins a value that was not seen before. Returns `OutOfMemory` when an
+    /// allocation fails.
     fn start_sharing(&mut self, key: usize) -> Result<SharingState, Error>
         ensures { MatchResult result (λ state. Starts (Self.known self.old) (Self.known self.new) key (progress_of state)) (λ e. e ≡ OutOfMemory) };
 
-    /// Finishes a value that has begun, at this position. It takes no memory: the entry was made at its start.
+    /// Finishes a value that has begun, at the position `pos`. Allocates nothing: the entry was made at its start.
+    /// Returns `NotStarted` for a value that has not begun, and `AlreadyFinished` for one that has finished.
     fn finish_sharing(&mut self, key: usize, pos: usize) -> Result<(), Error>
         ensures { Finishes (Self.known self.old) (Self.known self.new) key pos result (Self.known self.old key) };
 }

@@ -1,8 +1,10 @@
-//! Counts of steps.
+//! The number of steps that a search takes.
 
-/// How many steps a search took: keys that were compared, and groups of a table that were looked at.
+/// The number of steps that a search took: of keys that were compared, and of groups of a table that were examined.
 #[derive(Clone, Copy, Debug, PartialEq, Eq)]
 pub struct Steps {
+    /// Keys that were compared.
     pub comparisons: usize,
+    /// Groups of a table that were examined.
     pub strides: usize,
 }

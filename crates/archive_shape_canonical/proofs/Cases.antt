@@ -1,4 +1,5 @@
--- One step of two canonical archives of one value: a part with nothing claimed round it, one that claims, and a counted pointer.
+-- One step of two canonical archives of one value: a part with no region claimed around it, one that claims, and a
+-- counted pointer.
 use Rattle.std.proofs.Common.{zero, ◌&&◌, nat_le, ◌≡◌, ℕ, ◌+◌, ◌-◌, suc, Bool, List, [], ◌∷◌, ◌++◌, drop, length, get_or, slice_index, Some, refl, ap, ap₂, sym, subst, ◌∙◌, arith, ◌⊎◌, inl, inr, ⊎_elim, get_or-drop}
 use Rattle.std.specs.Prelude.{⊤}
 use Rattle.archive_shape_layout.specs.Content.{Names, Part, Span, Label, Content, content_of, made, entries, pointee_content, keys_offset, values_offset, links_offset, link_node_size, words_of, node_content, control_count}
@@ -138,7 +139,7 @@ module _ (fit : Fit) (names : Names) (bytes others : List ℕ) (small : AreBytes
   akin_place_too akin_node h = absurd h
   akin_place_too (akin_buckets g) h = absurd h
 
-  -- a byte that is in_field, or a part's, or zero, in both
+  -- a byte that is a field's, or a part's, or zero, in both
   accounted : (p : Part) (ps : List Part) (i : ℕ) → (InField bytes p i → Agree i) → (InField others p i → Agree i) → (InParts ps i → Agree i)
       → FieldPartOrZero bytes p ps i → FieldPartOrZero others p ps i → Agree i
   accounted p ps i f g h a b =

@@ -1,5 +1,5 @@
--- Whether what the layout leaves open is settled, whether regions ascend and whether shared values differ, as tests that
--- give evidence.
+-- Whether what the layout leaves open is settled, whether regions ascend and whether shared values differ, as tests
+-- that give evidence.
 use Rattle.std.proofs.Common.{◌≡◌, ℕ, zero, suc, ◌+◌, ◌-◌, ◌%◌, ◌≤◌, ◌<◌, Bool, true, false, ◌==◌, ◌&&◌, nat_lt, List, [], ◌∷◌, drop, get_or, slice_index, Option, Some, None, refl, ap, sym, subst, ◌∙◌, arith, ◌⊎◌, inl, inr, ⊎_elim, eqb-true, ltb-true, get_or-drop}
 use Rattle.std.proofs.lemmas.Str.{IsUtf8-from_is_utf8}
 use Rattle.archive_shape_layout.specs.Shape.{Pointee}

@@ -1,4 +1,4 @@
--- What is settled where the layout leaves a choice, in_field of whole values and not of what is seen of them.
+-- What is settled where the layout leaves a choice, stated of whole values and not of what is seen of them.
 use Rattle.std.proofs.Common.{arith, refl, ap, ap₂, sym, subst, ◌∙◌, ◌<◌, ◌≤◌, zero, suc, ◌+◌, drop, slice_index, ◌≡◌, ℕ, List, [], ◌∷◌}
 use Rattle.std.specs.Prelude.{⊤}
 use Rattle.archive_shape_layout.specs.Bytes.{window}
@@ -14,7 +14,7 @@ use Rattle.archive_shape_canonical.specs.Sharing.{erased, all_erased}
 
 -- ---- the same of whole values
 
--- what is chosen for a table or an index map, by its items or entries but for where shared ones stand
+-- what is chosen for a table or an index map, by its items or entries without the positions of shared ones
 pub record Choices : Type 0 where
   pub capacity : ℕ → ℕ
   pub table_controls : Value → List ℕ

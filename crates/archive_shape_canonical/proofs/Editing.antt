@@ -1,4 +1,4 @@
--- A write to one leaf's own bytes leaves a canonical archive canonical.
+-- After a write to one leaf's own bytes, a canonical archive is canonical.
 use Rattle.std.proofs.Common.{true, ◌≡◌, ℕ, zero, suc, ◌+◌, ◌-◌, ◌*◌, ◌≤◌, ◌<◌, List, [], ◌∷◌, ◌++◌, length, slice_index, Some, refl, ap, ap₂, sym, subst, ◌∙◌, arith, le_refl, ◌⊎◌, inl, inr, ⊎_elim}
 use Rattle.archive_shape_layout.specs.Bytes.{window, align_up}
 use Rattle.archive_shape_layout.specs.Shape.{Shape, size_of}
@@ -40,7 +40,7 @@ controls_alike bytes others w n spares names target len many it {ps = ps} e i =
     let range = any_fits w n (target - many * item_size it) target ps (claimed_all laid) i in
     spares.outside target (control_count many) (inl range.1)
 
--- ---- canonical parts, by what stands at them
+-- ---- canonical parts, by their contents
 
 module _ (fit : Fit) (names : Names) (bytes : List ℕ) where
   record CanonicalPlain (level : ℕ) (inside : List OpenShared) (p : Part) (l : Label) (ps : List Part) (v : Value) (rs : List Region) (before after : List Visit) (low end : ℕ) : Type 0 where
@@ -106,7 +106,7 @@ pub InRegions-right : (rs qs : List Region) (i : ℕ) → InRegions qs i → InR
 InRegions-right [] qs i h = h
 InRegions-right (r ∷ rs) qs i h = inr (InRegions-right rs qs i h)
 
--- ---- what a fit may see of values stays where no key changes
+-- ---- what a fit may read of values is unchanged where no key changes
 
 key_alone_stays : (j : ℕ) (path : List ℕ) (new : Value) (v : Value) → key_alone (put_at (suc j ∷ path) new v) ≡ key_alone v
 key_alone_stays j path new (group no_values) = refl

@@ -1,4 +1,4 @@
--- Where two buffers have one content at a part, they have the same bytes where it is in_field.
+-- Where two buffers have one content at a part, they have the same bytes in its fields.
 use Rattle.std.proofs.Common.{◌≡◌, ℕ, ◌+◌, ◌-◌, ◌%◌, ◌^◌, ◌≤◌, ◌<◌, zero, suc, Bool, true, false, cond, ◌==◌, ◌||◌, nat_lt, nat_le, List, [], ◌∷◌, drop, length, get_or, slice_index, Option, Some, None, refl, ap, sym, subst, ◌∙◌, arith, ⊎_elim, get_or-drop, eqb-true, leb-true, ℤ}
 use Rattle.std.specs.Prelude.{⊤}
 use Rattle.std.specs.Int.{Width, w8, w16, w32, w64, w128, byte_len, from_le_bytes, cast_signed, cast_unsigned}
@@ -99,7 +99,7 @@ module _ (xs ys : List ℕ) (small : AreBytes xs) (tiny : AreBytes ys) where
   unfolding word_at
   word_lt zs n h = spelled_lt w32 (drop n zs) (drop_bytes n zs h)
 
-  -- an offset is in_field by where it leads
+  -- an offset is determined by where it leads
   one_word : (pos t m n : ℕ) → m < 2 ^ 32 → n < 2 ^ 32 → target_from pos m ≡ Some t → target_from pos n ≡ Some t → m ≡ n
   unfolding target_from
   one_word pos t m n low high e f = by_tests (nat_lt m (2 ^ 31)) (nat_lt n (2 ^ 31)) (nat_le (2 ^ 32 - m) pos) (nat_le (2 ^ 32 - n) pos) refl refl refl refl e f

@@ -1,4 +1,4 @@
--- A path that leads to no key, behind another.
+-- A path that leads to no key, after another.
 use Rattle.std.proofs.Common.{ℕ, zero, suc, List, [], ◌∷◌, ◌++◌, sym, subst}
 use Rattle.archive_shape_layout.specs.Value.{Value, Values}
 use Rattle.archive_shape_layout.specs.Content.{Names, Part}

@@ -1,4 +1,4 @@
--- A part stays clean where its bytes, but for those of parts in it, stay what they are.
+-- A part stays clean where its bytes, except for those of parts in it, are unchanged.
 use Rattle.std.proofs.Common.{◌≡◌, ℕ, ◌+◌, ◌-◌, ◌*◌, ◌≤◌, ◌<◌, zero, suc, Bool, true, false, ◌&&◌, ◌==◌, nat_le, nat_lt, List, [], ◌∷◌, take, drop, get_or, slice_index, count_by, refl, ap, sym, subst, ◌∙◌, arith, ◌⊎◌, inl, inr, ⊎_elim, get_or-take, get_or-drop, leb-true, le_refl}
 use Rattle.std.specs.Prelude.{⊤}
 use Rattle.std.proofs.lemmas.Bool.{cases_lt}
@@ -41,7 +41,7 @@ module _ (bytes others : List ℕ) where
   own_byte (node level most k v pos) i h o = absurd o
   own_byte (buckets target len cap it) i h o = absurd o
 
-  -- ---- which bytes are in_field rests on the content
+  -- ---- which bytes are fields depends on the content
 
   abbrev pub kind_of : Content → ℕ
   kind_of (claimed s (Label.woven n) ps) = 1
@@ -153,7 +153,7 @@ module _ (bytes others : List ℕ) where
   unfolding buckets_content
   buckets_unclaimed target len cap it own k = unclaimed _ _ _ _ k
 
-  -- ---- what a fit may look at
+  -- ---- what a fit may read
 
   seen_still : (names : Names) (p : Part) (c : Content) → content_of names bytes p ≡ c → NoClaim c → seen_bytes_of bytes p ≡ seen_bytes_of others p
   seen_still names (at pos s) c e h = refl

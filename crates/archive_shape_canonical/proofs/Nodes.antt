@@ -15,7 +15,7 @@ use Rattle.archive_shape_canonical.specs.Packed.{ArePacked, IsPacked}
 use Rattle.archive_shape_canonical.proofs.Akin.{Akin, AllAkin, akin_none, akin_more, akin_at, akin_child, akin_entry, akin_place}
 use Rattle.archive_shape_canonical.proofs.Steps.{SameStep, made_whole, count_parts, count_erased, same_members}
 
--- ---- children and entries, in_field apart in what is made of them
+-- ---- children and entries, distinguished in what is made of them
 
 made_woven : (n : ℕ) (v : Value) (vs : Values) → made (woven n) vs ≡ Some v → v ≡ group (weave (first_values n vs) (other_values n vs))
 unfolding made
@@ -29,7 +29,7 @@ record Cut (xs us ys ws : Values) : Type 0 where
   first : xs ≡ us
   rest : ys ≡ ws
 
--- lists that are as long at first
+-- lists whose first parts have the same length
 cut : (xs us ys ws : Values) → count_values xs ≡ count_values us → append_values xs ys ≡ append_values us ws → Cut xs us ys ws
 cut no_values no_values ys ws c e = record { first = refl; rest = e }
 cut no_values (more_values u us) ys ws c e = absurd (omega (arith, c))
@@ -51,7 +51,7 @@ pub count_append : (xs ys : Values) → count_values (append_values xs ys) ≡ c
 count_append no_values ys = omega arith
 count_append (more_values x xs) ys = let h = count_append xs ys in omega (arith, h)
 
--- the last child's items are not those of a child with others behind it
+-- the last child's items are not those of a child with others after it
 unlike : {n : ℕ} (xs us : Values) (d : Value) (cs : Values) (x : Value) (es : Values) → all_erased xs ≡ all_erased (append_values us (more_values x (weave (more_values d cs) es)))
     → count_values xs ≡ n → count_values us ≡ n → ⊥
 unlike xs us d cs x es e a b =

@@ -105,7 +105,7 @@ keys_kept no_values = refl
 keys_kept (more_values v vs) = ap₂ (λ a b. a ∷ b) (key_kept v) (keys_kept vs)
 
 module _ (hash : List ℕ → ℕ) where
-  -- a table's keys stand where first fit puts them by ascending keys
+  -- a table's keys are where first fit puts them by ascending keys
   keys_placed : (controls : List ℕ) (len cap : ℕ) (v : Value) → IsFitted (first_fit hash) controls len cap (more_values (by_keys v) no_values)
       → keys_in (members (erased v)) ≡ placed_keys hash (map_capacity (count_values (members (erased v)))) (ascending (keys_in (members (erased v))))
   keys_placed controls len cap v e =

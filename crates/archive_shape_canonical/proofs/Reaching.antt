@@ -28,7 +28,7 @@ module _ (names : Names) (bytes : List ℕ) (P : Part → Type 0) where
   abbrev pub AllIn : List Part → Type 0
   AllIn ps = (q : Part) → ReachesIn names bytes q ps → P q
 
-  -- of every shared value that was met
+  -- of every shared value that was visited
   abbrev pub Met : List Visit → Type 0
   Met visits = (x : Visit) → visited visits x.pos ≡ Some x → All (behind x.pos x.pointee x.len)
 
@@ -62,7 +62,7 @@ module _ (names : Names) (bytes : List ℕ) (P : Part → Type 0) where
   counted_all p cyclic t pointee len e here below q (reaches_plain f r) = absurd (let g = sym e ∙ f in cc)
   counted_all p cyclic t pointee len e here below q (reaches_claimed f r) = absurd (let g = sym e ∙ f in cc)
 
-  -- one more is met
+  -- one more is visited
   pub more_met : (x : Visit) (visits : List Visit) → All (behind x.pos x.pointee x.len) → Met visits → Met (x ∷ visits)
   more_met x visits here met y e = by_test (x.pos == y.pos) e
     where

@@ -107,7 +107,7 @@ unfolding elements
 length-elements pos zero r = refl
 length-elements pos (suc n) r = let h = length-elements (pos + size_of r) n r in omega arith
 
--- a text has as many bytes as are claimed
+-- a text has the number of bytes that are claimed
 abbrev pub IsCounted : List ℕ → ℕ → Pointee → ℕ → Type 0
 IsCounted bytes t (sized s) len = ⊤
 IsCounted bytes t (slice s) len = ⊤

@@ -1,4 +1,4 @@
--- The archive that writing a value makes: how its regions lie, and what all bytes are that say nothing.
+-- The archive that writing a value makes: where its regions lie, and what all padding and filler bytes are.
 use Rattle.std.specs.Prelude.{◌≡◌, ℕ, ◌+◌, ◌≤◌, ◌<◌, List, [], ◌∷◌, length, slice_index, ◌⊎◌, ⊤}
 use Rattle.archive_shape_layout.specs.Bytes.{align_up}
 use Rattle.archive_shape_layout.specs.Shape.{Shape}
@@ -66,6 +66,6 @@ pub record CanonicalArchive (fit : Fit) (names : Names) (bytes : List ℕ) (star
   pub ends : end_of root.holds start ≡ length bytes
   -- what lies between regions is zero
   pub gaps : (i : ℕ) → start ≤ i → InRegions regions i ⊎ (slice_index bytes i ≡ 0)
-  -- each equal shared value stands once
+  -- equal shared values are written once
   pub once : AreDistinct visits
   pub bytes_are : AreBytes bytes

@@ -1,4 +1,4 @@
--- Which bytes say what a part is, which are those of the parts in it, and that all other bytes are zero.
+-- Which bytes are the fields of a part, which are those of the parts in it, and that all other bytes are zero.
 use Rattle.std.specs.Prelude.{◌≡◌, ℕ, zero, suc, ◌+◌, ◌≤◌, ◌<◌, List, [], ◌∷◌, length, slice_index, drop, ◌⊎◌, ⊤}
 use Rattle.archive_shape_layout.specs.Bytes.{window, word_at}
 use Rattle.archive_shape_layout.specs.Shape.{Shape, size_of, pointer_size}
@@ -27,8 +27,8 @@ abbrev pub InParts : List Part → ℕ → Type 0
 InParts [] i = ⊥
 InParts (p ∷ ps) i = Owns p i ⊎ InParts ps i
 
--- how many of a shape's first bytes say what it is: a number, a tag, an offset, a length; the others are those of the
--- parts in it, or of nothing
+-- the number of a shape's first bytes that are its fields: a number, a tag, an offset, a length; the others are those
+-- of the parts in it, or padding
 abbrev pub field_size : Shape → ℕ
 field_size (number w signed) = size_of (number w signed)
 field_size (nonzero w signed) = size_of (nonzero w signed)
@@ -54,7 +54,7 @@ abbrev pub InFieldOfNode : ℕ → ℕ → Shape → Shape → ℕ → ℕ → T
 InFieldOfNode zero most k v pos i = (i ≡ pos) ⊎ IsIn (pos + links_offset most k v) 4 i
 InFieldOfNode (suc kind) most k v pos i = i ≡ pos
 
--- a position is one of those bytes of a part
+-- a position is that of a byte of a part's fields
 abbrev pub InField : List ℕ → Part → ℕ → Type 0
 InField bytes (at pos s) i = IsIn pos (field_size s) i
 InField bytes (behind pos str len) i = IsIn pos len i
@@ -66,7 +66,7 @@ InField bytes (entry k key_pos v value_pos) i = ⊥
 InField bytes (buckets target len cap it) i = IsIn target (control_count cap) i
 InField bytes (place_at pos limit) i = IsIn pos 4 i
 
--- a byte of a part is one of those, or of a part in it, or zero
+-- a byte of a part is one of its fields, or of a part in it, or zero
 abbrev pub FieldPartOrZero : List ℕ → Part → List Part → ℕ → Type 0
 FieldPartOrZero bytes p ps i = InField bytes p i ⊎ (InParts ps i ⊎ (slice_index bytes i ≡ 0))
 
@@ -77,7 +77,7 @@ PaddingIsZero bytes p (plain l ps) = (i : ℕ) → Owns p i → FieldPartOrZero 
 PaddingIsZero bytes p (claimed s l ps) = (i : ℕ) → IsIn s.start s.size i → FieldPartOrZero bytes p ps i
 PaddingIsZero bytes p (counting cyclic t q len) = (i : ℕ) → Owns p i → FieldPartOrZero bytes p [] i
 
--- ---- bytes that say something, but not all of what they could be: an inline text is filled with ff
+-- ---- fillers: bytes of fields that could have other values in the layout; an inline text is filled with ff
 
 abbrev pub IsTextFilled : List ℕ → Content → Type 0
 IsTextFilled own (plain (written bs) ps) = (i : ℕ) → length bs ≤ i → i < 8 → slice_index own i ≡ 255

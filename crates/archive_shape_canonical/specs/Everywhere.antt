@@ -12,7 +12,7 @@ use Rattle.archive_shape_canonical.specs.Settled.{Fit, IsSettled}
 use Rattle.archive_shape_canonical.specs.Canonical.{CanonicalArchive}
 
 mutual
-  -- a part is another, or in it, through parts with nothing claimed round them, claimed ones and counted pointers
+  -- a part is another, or in it, through parts with no region claimed around them, claimed ones and counted pointers
   pub data Reaches (names : Names) (bytes : List ℕ) (q : Part) : Part → Type 0 where
     reaches_here : {p : Part} → p ≡ q → Reaches names bytes q p
     reaches_plain : {p : Part} {l : Label} {ps : List Part} → content_of names bytes p ≡ plain l ps → ReachesIn names bytes q ps → Reaches names bytes q p
@@ -28,7 +28,7 @@ mutual
     reaches_first : {p : Part} {ps : List Part} → Reaches names bytes q p → ReachesIn names bytes q (p ∷ ps)
     reaches_later : {p : Part} {ps : List Part} → ReachesIn names bytes q ps → ReachesIn names bytes q (p ∷ ps)
 
--- parts of a part hold values with which what is left open there is settled
+-- the parts of a part have values with which what is left open there is settled
 pub record AreSettled (fit : Fit) (names : Names) (bytes : List ℕ) (q : Part) (ps : List Part) : Type 0 where
   pub level : ℕ
   pub inside : List OpenShared
@@ -39,7 +39,7 @@ pub record AreSettled (fit : Fit) (names : Names) (bytes : List ℕ) (q : Part) 
   pub hold : HoldAll names bytes level inside ps values regions before after
   pub settled : IsSettled fit bytes q ps values
 
--- the bytes of a part that say nothing are as written, and what is left open at its parts is settled
+-- the padding and filler bytes of a part are as written, and what is left open at its parts is settled
 pub record IsAsWritten (fit : Fit) (names : Names) (bytes : List ℕ) (q : Part) : Type 0 where
   pub clean : IsClean names bytes q
   pub plain_settled : (l : Label) (ps : List Part) → content_of names bytes q ≡ plain l ps → AreSettled fit names bytes q ps

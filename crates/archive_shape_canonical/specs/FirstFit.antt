@@ -1,4 +1,4 @@
--- First fit: where the items of tables and index maps go whose keys are texts, by the hashes of their keys.
+-- First fit: the places of the items of tables and index maps whose keys are texts, by the hashes of their keys.
 use Rattle.std.specs.Prelude.{ℕ, ◌+◌, ◌*◌, ◌/◌, ◌%◌, ◌^◌, Bool, true, false, ◌==◌, ◌&&◌, ◌||◌, not, cond, max, nat_lt, List, [], ◌∷◌, ◌++◌, map, Option, Some, None}
 use Rattle.std.specs.Option.{unwrap_or}
 use Rattle.std.specs.List.{find, filter_map, flat_map, list_any, range_with_len}
@@ -41,8 +41,8 @@ ascending (k ∷ ks) = put_in k (ascending ks)
 
 -- ---- places
 
--- how many places a table of `len` items has, at a load of `most` items in `places` places: 0 for none, and always one
--- more than its items
+-- the number of places of a table of `len` items, at a load of `most` items in `places` places: 0 for no items, else at
+-- least one more than its items
 abbrev pub capacity_for : ℕ → ℕ → ℕ → ℕ
 capacity_for len most places = cond (len == 0) 0 (max (len * places / most) (len + 1))
 
@@ -54,7 +54,7 @@ map_capacity len = capacity_for len 7 8
 abbrev pub is_free : List ℕ → ℕ → Bool
 is_free taken p = not (list_any (λ q. q == p) taken)
 
--- each hash at the first place that its strides show and that none before it took
+-- each hash at the first place that its strides show and that no hash before it has
 abbrev pub fitted_from : ℕ → List ℕ → List ℕ → List ℕ
 fitted_from cap taken [] = []
 fitted_from cap taken (hash ∷ hashes) =
@@ -70,7 +70,7 @@ control_at [] places p = 255
 control_at (hash ∷ hashes) [] p = 255
 control_at (hash ∷ hashes) (place ∷ places) p = cond (place == p) (hash_tag hash) (control_at hashes places p)
 
--- the places twice over, as far as the controls go, and ff behind
+-- all controls: those of the places twice in order, up to the number of controls, and ff after them
 unfoldable pub written_controls : ℕ → List ℕ → List ℕ → List ℕ
 written_controls cap hashes places =
     map (λ c. cond (nat_lt c (2 * cap)) (control_at hashes places (c % cap)) 255) (range_with_len 0 (16 * sixteens cap + 15))
@@ -86,11 +86,11 @@ item_at [] qs p = None
 item_at (x ∷ xs) [] p = None
 item_at (x ∷ xs) (q ∷ qs) p = cond (q == p) (Some x) (item_at xs qs p)
 
--- what stands at each of `cap` places
+-- the item at each of `cap` places, if there is one
 abbrev pub placed : {C : Type 0} → ℕ → List ℕ → List C → List (Option C)
 placed cap qs xs = map (item_at xs qs) (range_with_len 0 cap)
 
--- what stands there, by ascending place
+-- the items there, by ascending place
 abbrev pub present : {C : Type 0} → List (Option C) → List C
 present os = filter_map (λ o. o) os
 

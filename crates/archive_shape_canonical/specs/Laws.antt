@@ -57,7 +57,7 @@ CanonicalFrame =
     → IsCanonical fit h low
     → CanonicalIn fit names others level inside p v regions before after low (end_of h low)
 
--- a path in an item leads on from the item, and not to its key
+-- a path in a group of items leads into an item, and not to its key
 abbrev pub IsBehindKey : List ℕ → Type 0
 IsBehindKey (i ∷ (suc j ∷ path)) = ⊤
 IsBehindKey (i ∷ (zero ∷ path)) = ⊥
@@ -89,7 +89,7 @@ AvoidsKey (buckets target len cap it) ps inner = ⊤
 AvoidsKey (place_at pos limit) ps inner = ⊤
 
 abbrev mutual
-  -- so at each step of the way
+  -- so at each step of the path
   pub AvoidsKeys : {names : Names} {bytes : List ℕ} {q : Part} {w : Value} {level : ℕ} {inside : List OpenShared} {before : List Visit} {p : Part} {v : Value} {path : List ℕ}
       → Stands names bytes q w level inside before p v path → Type 0
   AvoidsKeys (stands_here a b c) = ⊤
@@ -119,7 +119,7 @@ CanonicalEditOfLeaf =
     → AreBytes others
     → CanonicalArchive fit names others start pos s (put_at path new v) regions visits
 
--- likewise the bytes of a text out of line, where the other text is as long
+-- likewise the bytes of a text out of line, where the other text has the same length
 abbrev pub CanonicalEditOfText : Type 0
 CanonicalEditOfText =
     (fit : Fit) (names : Names) (bytes others : List ℕ) (start pos : ℕ) (s : Shape) (v : Value) (regions : List Region) (visits : List Visit)
@@ -132,7 +132,7 @@ CanonicalEditOfText =
     → AreBytes others
     → CanonicalArchive fit names others start pos s (put_at path (string (window others text_pos len)) v) regions visits
 
--- ---- paths that spare keys, one behind another
+-- ---- paths that lead to no key, one followed by another
 
 pub record AvoidingStands (names : Names) (bytes : List ℕ) (q : Part) (w : Value) (level : ℕ) (inside : List OpenShared) (before : List Visit) (p : Part) (v : Value) (path : List ℕ) : Type 0 where
   pub stands : Stands names bytes q w level inside before p v path

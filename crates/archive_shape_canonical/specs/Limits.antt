@@ -1,4 +1,5 @@
--- What of a value passes the limits of the format, by sizes and positions in whole numbers, and the error of each.
+-- The fields of a value that exceed the limits of the format, by sizes and positions in whole numbers, and the error of
+-- each limit.
 use Rattle.std.specs.Prelude.{◌≡◌, ℕ, ◌+◌, ◌^◌, ◌<◌, ◌≤◌, List, [], ◌∷◌, ◌++◌, map, ◌⊎◌, ⊤}
 use Rattle.archive_shape_layout.specs.Bytes.{align_up}
 use Rattle.archive_shape_layout.specs.Shape.{Shape, Pointee, align_of}
@@ -33,15 +34,15 @@ abbrev pub IsSomePast : List Field → Error → Type 0
 IsSomePast [] e = ⊥
 IsSomePast (f ∷ fs) e = IsFieldPast f e ⊎ IsSomePast fs e
 
--- ---- where a plan lies
+-- ---- the positions of a plan
 
--- a shared value that stands at a position
+-- a shared value that lies at a position
 pub record Shared : Type 0 where
   pub pointee : Pointee
   pub value : Value
   pub pos : ℕ
 
--- the position of the next byte, and the shared values that stand before it
+-- the position of the next byte, and the shared values that lie before it
 pub record State : Type 0 where
   pub pos : ℕ
   pub met : List Shared
@@ -49,7 +50,7 @@ pub record State : Type 0 where
 abbrev pub moved : ℕ → State → State
 moved pos st = record { pos = pos; met = st.met }
 
--- a pointee and a value are none of those met; they are met at a position
+-- a pointee and a value are not among those that were seen; they were seen at a position
 abbrev pub IsUnmet : Pointee → Value → List Shared → Type 0
 IsUnmet q v [] = ⊤
 IsUnmet q v (m ∷ ms) = (m.pointee ≡ q → m.value ≡ v → ⊥) × IsUnmet q v ms
@@ -59,8 +60,8 @@ IsMetAt q v pos [] = ⊥
 IsMetAt q v pos (m ∷ ms) = (record { pointee = q; value = v; pos = pos } ≡ m) ⊎ IsMetAt q v pos ms
 
 mutual
-  -- Own bytes with a plan stand at a position, and from a state on stands what they lead to: the fields of all of it, and
-  -- the state behind. A region begins at the least aligned position behind what its contents lead to.
+  -- Own bytes with a plan lie at a position, and what they lead to lies from a state on: the fields of all of it, and
+  -- the state after it. A region begins at the least aligned position after what its contents lead to.
   pub data Lies : Plan → ℕ → State → List Field → State → Type 0 where
     lies_flat : {own : ℕ} {st : State} → Lies flat own st [] st
     lies_parts : {ps : Plans} {own : ℕ} {st behind : State} {fs : List Field} → LieAll ps own st fs behind → Lies (parts ps) own st fs behind
@@ -113,7 +114,7 @@ pub record Stores (fit : Fit) (names : Names) (s : Shape) (v : Value) (fields : 
   pub root_is : root ≡ align_up inner.pos (align_of s)
   pub fields_are : fields ≡ within ++ position root ∷ []
 
--- what it stores passes a limit
+-- what it stores exceeds a limit
 pub record PastLimits (fit : Fit) (names : Names) (s : Shape) (v : Value) (e : Error) : Type 0 where
   pub fields : List Field
   pub stores : Stores fit names s v fields

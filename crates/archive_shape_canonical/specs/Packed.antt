@@ -1,15 +1,15 @@
--- Packed search trees: each node is full but for the last level, which is filled from the left.
+-- Packed search trees: each node is full, except on the last level, which is filled from the left.
 use Rattle.std.specs.Prelude.{◌≡◌, ℕ, zero, suc, ◌+◌, ◌-◌, ◌*◌, ◌^◌, ◌<◌, min, cond, nat_le, ⊤}
 use Rattle.archive_shape_layout.specs.Value.{Values, count_values}
 use Rattle.archive_shape_layout.specs.Value.Value.{group}
 use Rattle.archive_shape_layout.specs.Value.Values.{no_values, more_values}
 use Rattle.archive_shape_layout.specs.Content.{first_values, other_values, weave}
 
--- how many entries a full tree of so many levels has
+-- the number of entries of a full tree with `levels` levels
 abbrev pub full : ℕ → ℕ → ℕ
 full most levels = (most + 1) ^ levels - 1
 
--- the least number of levels for so many entries, from `levels` on
+-- the least number of levels for n entries, from `levels` on
 abbrev pub levels_from : ℕ → ℕ → ℕ → ℕ → ℕ
 levels_from zero most n levels = levels
 levels_from (suc fuel) most n levels = cond (nat_le n (full most levels)) levels (levels_from fuel most n (levels + 1))
@@ -17,15 +17,15 @@ levels_from (suc fuel) most n levels = cond (nat_le n (full most levels)) levels
 abbrev pub levels_for : ℕ → ℕ → ℕ
 levels_for most n = levels_from n most n 0
 
--- how many items child i has, below a node with n items in all: each child is full but for the last level of the tree,
--- which is filled from the left
+-- the number of items of child i, below a node with n items in all: each child is full, except on the last level of the
+-- tree, which is filled from the left
 abbrev pub child_items : ℕ → ℕ → ℕ → ℕ
 child_items most n i =
     let below = levels_for most n - 1 in
     let width = full most below - full most (below - 1) in
     full most (below - 1) + min width ((n - full most below) - i * width)
 
--- the children are groups of as many items as they are to have
+-- each child is a group of the number of items that it must have
 abbrev pub ArePacked : ℕ → ℕ → ℕ → Values → Type 0
 ArePacked most n i no_values = ⊤
 ArePacked most n i (more_values (group vs) cs) = (count_values vs ≡ child_items most n i) × ArePacked most n (i + 1) cs

@@ -1,4 +1,4 @@
--- The plan of a value: what its own bytes lead to, without positions, whatever the widths of fields.
+-- The plan of a value: what its own bytes lead to, without positions, regardless of the widths of fields.
 use Rattle.std.specs.Prelude.{◌≡◌, ℕ, ◌+◌, ◌*◌, ◌<◌, ◌≤◌, Bool, max, List, [], ◌∷◌, ◌++◌, length, take, Some}
 use Rattle.std.specs.Int.{Width}
 use Rattle.archive_shape_layout.specs.Bytes.{align_up}
@@ -17,7 +17,8 @@ use Rattle.archive_shape_canonical.specs.Seen.{keys_alone}
 use Rattle.archive_shape_canonical.specs.Settled.{Fit}
 use Rattle.archive_shape_canonical.specs.Sharing.{erased, all_erased}
 
--- a region that a pointer leads to: its size and alignment, and how far behind its start the pointer leads
+-- a region that a pointer leads to: its size and alignment, and the number of bytes from its start to the pointer's
+-- target
 pub record Target : Type 0 where
   pub size : ℕ
   pub align : ℕ
@@ -31,9 +32,9 @@ mutual
     parts : Plans → Plan
     -- a pointer, with the lengths that are stored beside it, and what is led to from its target
     leads : List ℕ → Target → Plan → Plan
-    -- a text of so many bytes out of line
+    -- a text of n bytes out of line
     leads_to_text : ℕ → Plan
-    -- a counted pointer to a value, which stands once for each pointee and value
+    -- a counted pointer to a value, which is written once for each pointee and value
     counts : Pointee → Value → List ℕ → Target → Plan → Plan
 
   -- the offset of each part, and its plan
@@ -86,14 +87,14 @@ mutual
         {most : ℕ} {k v : Shape} {items : Values} {n : ℕ} {t : Target} {p : Plan} → 1 ≤ n → n ≡ count_values items → NodePlan fit names most k v items t p
         → HasPlan fit names (tree most k v) (group items) (leads (n ∷ []) t p)
     plan_no_table : {s : Shape} → HasPlan fit names (table s) (group no_values) flat
-    -- its items stand as the fit says; its pointer leads behind the buckets
+    -- its items are in the places of the fit; its pointer leads to the end of the buckets
     plan_table :
         {s : Shape} {items keys : Values} {n cap : ℕ} {ps : Plans} → 1 ≤ n → n ≡ count_values items → cap ≡ fit.capacity n → keys ≡ all_erased (keys_alone items)
         → HavePlans fit names (tagged_items (cap * size_of s) (item s) 0 (take cap (fit.table_controls keys))) items ps
         → HasPlan fit names (table s) (group items)
         (leads (n ∷ (cap ∷ [])) (record { size = cap * size_of s + control_count cap; align = align_of s; lead = cap * size_of s }) (parts ps))
     plan_no_map : {k v : Shape} → HasPlan fit names (index_map k v) (group no_values) flat
-    -- the table of the numbers of its entries, then the entries, whose pointer stands at 12
+    -- the table of the numbers of its entries, then the entries, whose pointer is at byte 12
     plan_map :
         {k v : Shape} {items : Values} {n cap : ℕ} {numbers : List ℕ} {t : Target} {p : Plan} → 1 ≤ n → n ≡ count_values items → cap ≡ fit.capacity n
         → PointeePlan fit names (slice (tuple (more_shapes k (more_shapes v no_shapes)))) (group items) numbers t p
@@ -111,7 +112,7 @@ mutual
         → PointeePlan fit names (slice s) (group vs) (n ∷ []) (whole_target (n * size_of s) (align_of s)) (parts ps)
     plan_str : {bs : List ℕ} {n : ℕ} → n ≡ length bs → PointeePlan fit names str (string bs) (n ∷ []) (whole_target n 1) flat
 
-  -- items stand in a search tree's node, and in those below it
+  -- items lie in a search tree's node, and in those below it
   pub data NodePlan (fit : Fit) (names : Names) : ℕ → Shape → Shape → Values → Target → Plan → Type 0 where
     plan_leaf_node :
         {most : ℕ} {k v : Shape} {items : Values} {ps : Plans} → count_values items ≤ most

@@ -1,5 +1,5 @@
--- What of bytes and values decides where the layout leaves a choice: the kind of a node and how many items each of its
--- children has, the controls of a table and the keys of its items. The values of items are not among this.
+-- The bytes and values that decide where the layout leaves a choice: the kind of a node and the number of items of each
+-- of its children, the controls of a table and the keys of its items. The values of items are not among them.
 use Rattle.std.specs.Prelude.{ℕ, List, [], ◌∷◌, ◌++◌, drop, slice_index}
 use Rattle.archive_shape_layout.specs.Bytes.{window}
 use Rattle.archive_shape_layout.specs.Value.{Value, Values}
@@ -57,7 +57,7 @@ abbrev pub all_by_keys : Values → Values
 all_by_keys no_values = no_values
 all_by_keys (more_values v vs) = more_values (by_keys v) (all_by_keys vs)
 
--- of a group how many it has
+-- of a group the number of its members
 abbrev pub blanks : Values → Values
 blanks no_values = no_values
 blanks (more_values v vs) = more_values (natural 0) (blanks vs)
@@ -81,7 +81,7 @@ first_seen_values (entry k key_pos v value_pos ∷ ps) vs = no_values
 first_seen_values (buckets target len cap it ∷ ps) vs = all_by_keys vs
 first_seen_values (place_at pos limit ∷ ps) vs = no_values
 
--- of values: the keys of the items that a part leads to, and of a node how many items each child has
+-- of values: the keys of the items that a part leads to, and of a node the number of items of each child
 abbrev pub seen_values : Part → List Part → Values → Values
 seen_values (at pos s) ps vs = first_seen_values ps vs
 seen_values (behind pos p len) ps vs = no_values

@@ -1,4 +1,4 @@
--- Where the layout leaves a choice, and what is chosen: search trees are packed, and tables are filled as a fit says.
+-- Where the layout leaves a choice, and what is chosen: search trees are packed, and tables are filled by a fit.
 use Rattle.std.specs.Prelude.{◌≡◌, ℕ, ◌≤◌, List, [], ◌∷◌, slice_index, ⊤}
 use Rattle.archive_shape_layout.specs.Value.{Values, count_values}
 use Rattle.archive_shape_layout.specs.Value.Value.{natural, group}
@@ -9,13 +9,13 @@ use Rattle.archive_shape_canonical.specs.Packed.{IsPacked}
 use Rattle.archive_shape_canonical.specs.Seen.{seen_bytes, seen_values}
 use Rattle.archive_shape_canonical.specs.Sharing.{all_erased}
 
--- How tables are filled. It is given items with their keys alone: those of a table place by place, those of an index map
--- in its order.
+-- How tables are filled. It is given items with their keys alone: those of a table place by place, those of an index
+-- map in its order.
 pub record Fit : Type 0 where
-  -- how many places there are for so many items
+  -- the number of places for a number of items
   pub capacity : ℕ → ℕ
   pub table_controls : Values → List ℕ
-  -- the items of a table in the order in which they are to stand
+  -- the items of a table in the order of their places
   pub table_items : Values → Values
   pub map_controls : Values → List ℕ
   -- the number of the entry in each full place of an index map

@@ -1,15 +1,15 @@
--- Shared values: what is the same of two of them wherever they stand, and that each stands once.
+-- Shared values: what two of them have in common regardless of their positions, and that each is written once.
 use Rattle.std.specs.Prelude.{◌≡◌, ℕ, ◌+◌, ◌==◌, cond, List, [], ◌∷◌, ⊤}
 use Rattle.archive_shape_layout.specs.Value.{Value, Values}
 use Rattle.archive_shape_layout.specs.Value.Value.{natural, integer, boolean, string, group, chosen, counted, back}
 use Rattle.archive_shape_layout.specs.Value.Values.{no_values, more_values}
 use Rattle.archive_shape_layout.specs.Holds.{Visit}
 
--- a shared value that has no byte is followed by one, so that each has a position of its own
+-- a shared value that has no byte is followed by one, so that each has its own position
 abbrev pub end_of_shared : ℕ → ℕ → ℕ
 end_of_shared t end = cond (end == t) (end + 1) end
 
--- ---- values, but for where shared ones stand
+-- ---- values without the positions of shared ones
 
 abbrev mutual
   pub erased : Value → Value

@@ -1,10 +1,11 @@
-//! When bytes are the one archive of a value, at every shape: the archive that writing the value makes.
+//! Canonical archives: the one archive of a value, at every shape, which is the archive that writing the value makes.
 //!
-//! `IsClean` says what the bytes of a part are that say nothing. `IsSettled` says what is chosen where the layout leaves
-//! a choice: packed search trees, and tables filled by a `Fit`, such as first fit. `IsCanonical` says where regions lie.
-//! `CanonicalArchive` is the whole. Each function of `laws` has no body: it carries a law.
+//! `IsClean` says what the padding and filler bytes of a part are. `IsSettled` says what is chosen where the layout
+//! leaves a choice: packed search trees, and tables filled by a `Fit`, such as first fit. `IsCanonical` says where
+//! regions lie. `CanonicalArchive` combines them. Each function of `laws` has an empty body, and its contract is a law.
 #![tactic(auto)]
 
+mod hash;
 mod laws;
 
 pub use laws::{

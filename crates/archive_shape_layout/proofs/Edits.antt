@@ -1,4 +1,4 @@
--- A write to one leaf's own bytes leaves all else as it was.
+-- A write to one leaf's own bytes changes nothing else.
 use Rattle.std.proofs.Common.{Bool, true, false, ◌≡◌, ℕ, zero, suc, ◌+◌, ◌-◌, ◌*◌, ◌≤◌, ◌<◌, List, [], ◌∷◌, ◌++◌, drop, length, slice_index, refl, ap, ap₂, sym, subst, ◌∙◌, arith, le_refl, ◌⊎◌, inl, inr, ⊎_elim, get_or-take, get_or-drop, add_assoc, nat_le, ◌&&◌, max, ◌==◌}
 use Rattle.archive_shape_layout.specs.Bytes.{window, align_up, word_at}
 use Rattle.archive_shape_layout.specs.Shape.{Shape, size_of, align_of}
@@ -90,7 +90,7 @@ module _ (bytes others : List ℕ) (w n : ℕ) (spares : Spares bytes others w n
         regions_agree (r.start + r.size) high rs a.1 (⊎_elim (λ x. inl (omega arith)) (λ x. inr (omega arith)) o),
       )
 
-  -- of parts that do not meet a window, or lie above it, no own byte changes
+  -- of parts that do not overlap a window, or lie above it, no own byte changes
   pub all_own : (base top : ℕ) (p : Part) (ps : List Part) → AllFit base top ps → (InOwn w n p × AllApart p ps) ⊎ (w + n ≤ base) → AllOwn bytes others ps
   all_own base top p [] AllFit.fit_none o = own_none
   all_own base top p (r ∷ ps) (AllFit.fit_more f fs) (inl (i, AllApart.apart_more o os)) =
@@ -206,7 +206,7 @@ any_apart w n p (q ∷ qs) (AllApart.apart_more o os) (any_later i) = any_apart 
 
 -- ---- the parts of a content, from where the part itself lies
 
--- a part that leads on in place: its parts lie in its own bytes
+-- a part whose parts are in place: they lie in its own bytes
 pub plain_parts : (names : Names) (bytes : List ℕ) (base top : ℕ) (p : Part) {l : Label} {ps : List Part} → Fits base top p → content_of names bytes p ≡ plain l ps → AllFit base top ps × Separate ps
 plain_parts names bytes base top (at pos s) {l = l} {ps = ps} f e =
     let own = f.inside pos (size_of s) (le_refl pos, le_refl _) in

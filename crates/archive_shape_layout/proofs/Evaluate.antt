@@ -1,5 +1,5 @@
--- The relation run: an evaluator of `Holds` and of the ascent of the regions, by recursion on a number of steps. A proof
--- by computation writes `root_found .. refl` or `root_refused .. refl` under the line `unfolding run`.
+-- The relation run: an evaluator of `Holds` and of the ascent of the regions, by recursion on a number of steps. A
+-- proof by computation writes `root_found .. refl` or `root_refused .. refl` under the line `unfolding run`.
 use Rattle.std.proofs.Common.{ℕ, zero, suc, ◌+◌, ◌%◌, Bool, true, false, ◌==◌, ◌&&◌, nat_le, List, [], ◌∷◌, ◌++◌, length, Option, Some, None}
 use Rattle.std.specs.Char.{encode_utf8}
 use Rattle.std.specs.Str.{is_utf8, chars}
@@ -61,7 +61,7 @@ of_claimed l own (found r) = finished (legal l) (valued (r.regions ++ own ∷ []
 unfoldable pub fits : ℕ → ℕ → Span → Bool
 fits low high s = nat_le low s.start && (nat_le (s.start + s.size) high && (s.start % s.align == 0))
 
--- a position that is met again
+-- a position that is visited again
 unfoldable pub again : Bool → Value → List Visit → Answer Reading
 again true v before = found (record { value = v; regions = []; after = before })
 again false v before = refused

@@ -1,4 +1,4 @@
--- What the evaluator finds holds, and where it refuses nothing does.
+-- What the evaluator finds has its value, and where the evaluator refuses there is no value.
 use Rattle.std.proofs.Common.{◌≡◌, ℕ, zero, suc, ◌+◌, ◌%◌, ◌≤◌, Bool, true, false, ◌==◌, ◌&&◌, nat_le, List, [], ◌∷◌, ◌++◌, length, Option, Some, None, refl, ap, sym, subst, ◌∙◌, arith, eqb-true, leb-true, append-nil}
 use Rattle.std.specs.Prelude.{⊤}
 use Rattle.std.proofs.lemmas.Bool.{le-leb}
@@ -114,7 +114,7 @@ unfolding Ascends
 ascends_lowered low mid high [] h a = tt
 ascends_lowered low mid high (r ∷ rs) h a = let after = a.0.after in (record { after = omega arith; aligned = a.0.aligned; inside = a.0.inside }, a.1)
 
--- ---- what an answer says
+-- ---- what a result says
 
 module _ (names : Names) (bytes : List ℕ) where
   abbrev pub IsReading : ℕ → List OpenShared → ℕ → ℕ → Part → List Visit → Answer Reading → Type 0

@@ -1,4 +1,4 @@
--- A reading rests on a part's own bytes and on what it claims: where other bytes agree on these, they read alike.
+-- A reading depends on a part's own bytes and on what it claims: where other bytes agree on these, they read alike.
 use Rattle.std.proofs.Common.{◌≡◌, ℕ, ◌+◌, ◌-◌, ◌*◌, ◌≤◌, ◌<◌, max, zero, suc, Bool, true, false, cond, ◌==◌, ◌&&◌, nat_lt, List, [], ◌∷◌, ◌++◌, take, drop, length, slice_index, Option, Some, None, refl, ap, sym, subst, ◌∙◌, arith, le_refl, mul-le-mul_right, take-take, drop-drop, length-take, eqb-true, suc-mul, leb-true, get_or-take, count_by, nat_le, nat_lt}
 use Rattle.std.specs.Prelude.{⊤}
 use Rattle.std.proofs.lemmas.List.{drop-take}

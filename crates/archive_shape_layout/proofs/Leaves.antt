@@ -25,7 +25,7 @@ use Rattle.archive_shape_layout.proofs.Edits.{InAny, Edited, any_fits, any_apart
 apart_swaps : (start size from len : ℕ) → Apart start size from len → Apart from len start size
 apart_swaps start size from len h = ⊎_elim (λ x. inr x) (λ x. inl x) h
 
--- a window in a part's own bytes, and one that does not meet these
+-- a window in a part's own bytes, and one that does not overlap these
 own_apart : (start size from len : ℕ) (t : Part) → InOwn start size t → OutOwn from len t → Apart start size from len
 own_apart start size from len (at pos s) i o = ⊎_elim (λ x. inr (omega arith)) (λ x. inl (omega arith)) o
 own_apart start size from len (entry k key_pos v value_pos) (inl i) o = ⊎_elim (λ x. inr (omega arith)) (λ x. inl (omega arith)) o.0
@@ -90,7 +90,7 @@ module _ (names : Names) (bytes : List ℕ) (q : Part) (u : Value) (start size :
           let follows = one_follows low high span level (subst (Ascends low high) alone a) in
           inr (follows.0, let ends = ap (end_after low) alone ∙ follows.1 in omega arith)
 
-  -- a leaf lies in the own bytes of the part that it stands in, or in what that part claims
+  -- a leaf lies in the own bytes of the part that it is in, or in what that part claims
   pub leaf_lies :
       {level : ℕ} {inside : List OpenShared} {p : Part} {v : Value} {path : List ℕ} {rs : List Region} {before after : List Visit} (low high base top : ℕ)
       → Stands names bytes q u level inside before p v path
@@ -121,7 +121,7 @@ leaf_within_law names bytes pos s v regions visits path p u start size root stan
 
 -- ---- two leaves
 
--- the path in the whole rests on the label, the values, the part and the path in it
+-- the path in the whole depends on the label, the values, the part and the path in it
 same_path : {l k : Label} {vs ws : Values} {i j : ℕ} {inner more path other : List ℕ}
     → l ≡ k → vs ≡ ws → i ≡ j → inner ≡ more → through l vs i inner ≡ Some path → through k ws j more ≡ Some other → path ≡ other
 same_path {l = l} {k = k} {vs = vs} {ws = ws} {i = i} {j = j} {inner = inner} {more = more} {path = path} {other = other} a b c d e f =
@@ -159,7 +159,7 @@ module _ (names : Names) (bytes : List ℕ) where
       (one : IsLeafIn names bytes p start size) (two : IsLeafIn names bytes q from len)
     where
       mutual
-        -- the bytes of two leaves at different paths of a part do not meet
+        -- the bytes of two leaves at different paths of a part do not overlap
         pub apart :
             {level : ℕ} {inside : List OpenShared} {t : Part} {v : Value} {path other : List ℕ} {rs : List Region} {before after : List Visit} (low high base top : ℕ)
             → Stands names bytes p u level inside before t v path

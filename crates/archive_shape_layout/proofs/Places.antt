@@ -1,4 +1,4 @@
--- Where parts' own bytes lie: parts of one content stand apart, after what the content itself reads.
+-- Where parts' own bytes lie: parts of one content do not overlap, and lie after what the content itself reads.
 use Rattle.std.proofs.Common.{◌≡◌, ℕ, ◌+◌, ◌-◌, ◌*◌, ◌≤◌, max, zero, suc, Bool, true, false, cond, ◌==◌, ◌&&◌, nat_lt, List, [], ◌∷◌, ◌++◌, take, length, slice_index, Option, Some, None, refl, arith, le_refl, ◌⊎◌, inl, inr, ⊎_elim, mul-le-mul_right, suc-mul, leb-true, length-take}
 use Rattle.std.specs.Prelude.{⊤}
 use Rattle.archive_shape_layout.specs.Bytes.{align_up, word_at}
@@ -16,7 +16,7 @@ use Rattle.archive_shape_layout.proofs.Framed.{le_align_up, le_fields_end, left_
 abbrev pub Within : ℕ → ℕ → ℕ → ℕ → Type 0
 Within w n start size = (start ≤ w) × (w + n ≤ start + size)
 
--- a window lies in a part's own bytes, where a leaf may stand
+-- a window lies in a part's own bytes, where a leaf may lie
 abbrev pub InOwn : ℕ → ℕ → Part → Type 0
 InOwn w n (at pos s) = Within w n pos (size_of s)
 InOwn w n (entry k key_pos v value_pos) = Within w n key_pos (size_of k) ⊎ Within w n value_pos (size_of v)
@@ -35,7 +35,7 @@ OutOwn w n (behind pos p len) = ⊤
 OutOwn w n (node level most k v pos) = ⊤
 OutOwn w n (buckets target len cap it) = ⊤
 
--- an entry's key and value stand apart
+-- an entry's key and value do not overlap
 abbrev pub Sound : Part → Type 0
 Sound (entry k key_pos v value_pos) = key_pos + size_of k ≤ value_pos
 Sound (at pos s) = ⊤
@@ -275,7 +275,7 @@ items_separate target many it i (c ∷ cs) a b =
 
 -- ---- contents
 
--- and whether a region is claimed round them
+-- and whether a region is claimed around them
 pub data Laid (low high : ℕ) : Bool → Content → Type 0 where
   laid_illegal : {claims : Bool} → Laid low high claims illegal
   laid_plain : {l : Label} {ps : List Part} → AllFit low high ps → Separate ps → Laid low high false (plain l ps)
@@ -304,7 +304,7 @@ behind_laid = one_laid (behind_fits _ _ _ _ _)
 node_one : {low high : ℕ} {l : Label} {level most : ℕ} {k v : Shape} {t : ℕ} → Laid low high false (plain l (node level most k v t ∷ []))
 node_one = one_laid (node_fits _ _ _ _ _ _ _)
 
--- the bytes that a shape's content reads itself, the first of its own
+-- the bytes that a shape's content reads itself, the first of its own bytes
 abbrev pub header_size : Shape → ℕ
 header_size (number w signed) = size_of (number w signed)
 header_size (nonzero w signed) = size_of (nonzero w signed)
@@ -436,7 +436,7 @@ buckets_laid target len many it controls =
     laid_claimed (le_refl _) (omega arith) (widen_all _ _ _ target _ (le_refl _) (omega arith) (items_fit target many it 0 (take many controls) room few)) (items_separate target many it 0 (take many controls) room few))
     laid_illegal
 
--- where no part has bytes of its own for a leaf, any bounds do
+-- where no part has own bytes for a leaf, any bounds do
 pub child_laid : (low high level most : ℕ) (k v : Shape) (pos : ℕ) (own : List ℕ) → Laid low high false (child_content level most k v pos own)
 unfolding child_content
 child_laid low high level most k v pos own =

@@ -1,4 +1,4 @@
--- What stands at a path: its value, and the values beside it.
+-- A part at a path: its value, and the values beside it.
 use Rattle.std.proofs.Common.{◌≡◌, ℕ, zero, suc, ◌-◌, cond, nat_lt, Bool, true, false, List, [], ◌∷◌, ◌++◌, Option, Some, None, refl, ap, ap₂, sym, subst, ◌∙◌}
 use Rattle.archive_shape_layout.specs.Value.{Value, Values}
 use Rattle.archive_shape_layout.specs.Content.{Names, Part}
@@ -123,7 +123,7 @@ part_in zero (p ∷ ps) = Some p
 part_in (suc i) (p ∷ ps) = part_in i ps
 
 module _ (names : Names) (bytes : List ℕ) where
-  -- part i of a list that holds: its value, its context, and that what stands in it stands in the list
+  -- part i of a list that holds: its value, its context, and that a part in it is in the list
   pub record IsPicked (level : ℕ) (inside : List OpenShared) (before : List Visit) (ps : List Part) (vs : Values) (i : ℕ) (p : Part) : Type 0 where
     pub value : Value
     pub regions : List Region

@@ -16,7 +16,7 @@ visit_value : (x y : Visit) → ◌≡◌ {A = Option Visit} (Some x) (Some y) �
 visit_value x y e = let same : x ≡ y = cc in ap (λ (v : Visit). v.value) same
 
 module _ (names : Names) (bytes : List ℕ) where
-  -- what a plain part's value rests on
+  -- what a plain part's value depends on
   pub record PlainHolds (level : ℕ) (inside : List OpenShared) (l : Label) (ps : List Part) (v : Value) (regions : List Region) (before after : List Visit) : Type 0 where
     pub vs : Values
     pub legal : IsLegal l

@@ -1,4 +1,4 @@
--- What was visited stands, before a part and after it.
+-- What was visited has its value, before a part and after it.
 use Rattle.std.proofs.Common.{◌≡◌, ◌∙◌, ℕ, ◌+◌, ◌-◌, ◌≤◌, List, [], ◌∷◌, ◌++◌, take, drop, refl, ap, sym, subst, le_refl, arith, take-take}
 use Rattle.std.proofs.lemmas.List.{drop-take}
 use Rattle.archive_shape_layout.specs.Value.{Value, Values}
@@ -62,7 +62,7 @@ module _ {names : Names} {bytes : List ℕ} where
         ends = both.1.0.inside;
       }
 
-  -- the second begins where what was visited up to the end of the first stands
+  -- the second begins where what was visited up to the end of the first has its value
   pub claimed_behind : {before between : List Visit} {low high : ℕ} {regions later : List Region} (here : List Region) → AllStand names bytes (end_after low here) between → regions ≡ here ++ later
       → ClaimedAfter names bytes before low high regions → ClaimedAfter names bytes between (end_after low here) high later
   claimed_behind {low = low} {high} {later = later} here stand joined c =
@@ -88,7 +88,8 @@ regions_agree low high (r ∷ rs) same a = (same r.start r.size a.0.inside, regi
 
 module _ {names : Names} {bytes others : List ℕ} where
   mutual
-    -- all that was visited after a part stands in bytes that agree on what it claims, where all that was visited before it does
+    -- all that was visited after a part has its value in bytes that agree on what the part claims, where all that was
+    -- visited before it does
     pub part_stands_in : {level : ℕ} {inside : List OpenShared} {p : Part} {v : Value} {regions : List Region} {before after : List Visit} {low high : ℕ}
         → Holds names bytes level inside p v regions before after
         → RegionsAgree bytes others regions
@@ -115,7 +116,7 @@ module _ {names : Names} {bytes others : List ℕ} where
         let split = RegionsAgree-append bytes others here later (subst (RegionsAgree bytes others) joined same) in
         parts_stand_in rest split.1 (claimed_behind here (part_stands_in holds split.0 (claimed_here later joined c)) joined c)
 
-  -- what was visited stands in bytes that agree below a position
+  -- what was visited has its value in bytes that agree below a position
   pub stand_same : {high : ℕ} {visits : List Visit} → AgreeBelow bytes others high → AllStand names bytes high visits → AllStand names others high visits
   stand_same same (none_stand is) = none_stand is
   stand_same {high} same (more_stand {low = low} {regions = regions} stand below ascends holds rest is) =

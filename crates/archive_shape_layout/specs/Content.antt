@@ -1,5 +1,5 @@
--- What stands at a place, one step deep and by cases of the shape: what its own bytes say, the parts below it in the
--- order in which they are visited, and the region that it claims. `Holds` closes it, by recursion.
+-- The content of a part, one step deep and by cases of the shape: what its own bytes say, the parts below it in the
+-- order in which they are visited, and the region that it claims. `Holds` is the recursion over it.
 use Rattle.std.specs.Prelude.{ℕ, zero, suc, ◌+◌, ◌-◌, ◌*◌, ◌/◌, ◌%◌, max, Bool, true, false, cond, ◌&&◌, ◌||◌, nat_le, nat_lt, ◌==◌, IsTrue, IsUtf8, List, [], ◌∷◌, ◌++◌, take, drop, slice_index, count_by, Option, Some, None, ⊤}
 use Rattle.std.specs.Int.{Width, from_le_bytes, cast_signed}
 use Rattle.archive_shape_layout.specs.Bytes.{window, align_up, word_at, target_from}
@@ -11,16 +11,16 @@ use Rattle.archive_shape_layout.specs.Value.{Value, Values, append_values, count
 use Rattle.archive_shape_layout.specs.Value.Value.{natural, integer, boolean, string, group, chosen}
 use Rattle.archive_shape_layout.specs.Value.Values.{no_values, more_values}
 
--- what a bucket of a table holds: an item, or the number of an entry, a u32 below a limit
+-- what a bucket of a table contains: an item, or the number of an entry, a u32 below a limit
 pub data Item : Type 0 where
   item : Shape → Item
   place : ℕ → Item
 
--- where something stands, and what
+-- a part: where it lies, and what it is
 pub data Part : Type 0 where
   -- a value at a position
   at : ℕ → Shape → Part
-  -- what a pointer leads to: its position, and its number of elements
+  -- what a pointer leads to: its position, and the number of elements
   behind : ℕ → Pointee → ℕ → Part
   -- of a search tree with at most `most` entries per node: a node at a level, the root's being 1, a pointer to a child
   -- at a level, and an entry's key and value
@@ -55,11 +55,11 @@ pub data Label : Type 0 where
 pub data Content : Type 0 where
   -- no value has these bytes
   illegal : Content
-  -- parts in order, with nothing claimed round them
+  -- parts in order, with no region claimed around them
   plain : Label → List Part → Content
   -- the same, and then a region that is claimed
   claimed : Span → Label → List Part → Content
-  -- a counted pointer: whether it may lead to what it lies inside, where it leads, to what, and how many elements
+  -- a counted pointer: whether it may lead to what it lies inside, where it leads, to what, and the number of elements
   counting : Bool → ℕ → Pointee → ℕ → Content
 
 -- ---- the names of types that hold themselves, each with its shape
@@ -77,7 +77,7 @@ abbrev pub members : Value → Values
 members (group vs) = vs
 members _ = no_values
 
--- children and entries in turn, ending in a child: a child stands for all its items
+-- children and entries in turn, ending in a child: each child is replaced by all its items
 abbrev pub weave : Values → Values → Values
 weave no_values es = es
 weave (more_values c cs) no_values = members c
@@ -118,12 +118,12 @@ fields pos offset no_shapes = []
 fields pos offset (more_shapes s ss) =
     let from = align_up offset (align_of s) in at (pos + from) s ∷ fields pos (from + size_of s) ss
 
--- elements side by side
+-- contiguous elements
 unfoldable pub elements : ℕ → ℕ → Shape → List Part
 elements pos zero s = []
 elements pos (suc n) s = at pos s ∷ elements (pos + size_of s) n s
 
--- the entries of a node: keys side by side, and values side by side
+-- the entries of a node: contiguous keys, and contiguous values
 unfoldable pub entries : ℕ → Shape → ℕ → Shape → ℕ → List Part
 entries zero k key_pos v value_pos = []
 entries (suc n) k key_pos v value_pos = entry k key_pos v value_pos ∷ entries n k (key_pos + size_of k) v (value_pos + size_of v)
@@ -166,7 +166,7 @@ unfoldable pub choose : Bool → Content → Content → Content
 choose true c d = c
 choose false c d = d
 
--- what stands at the target of a pointer; a pointer that leads before position 0 is not legal
+-- the content that depends on the target of a pointer; a pointer that leads before position 0 is not legal
 unfoldable pub following : Option ℕ → (ℕ → Content) → Content
 following None k = illegal
 following (Some target) k = k target
@@ -179,7 +179,7 @@ number_value w true n = integer (cast_signed w n)
 unfoldable pub is_scalar : ℕ → Bool
 is_scalar n = nat_lt n 55296 || (nat_le 57344 n && nat_lt n 1114112)
 
--- the bytes of a text that stands inline, which is filled with ff
+-- the bytes of an inline text, whose own bytes are filled with ff
 abbrev pub before_ff : List ℕ → List ℕ
 before_ff [] = []
 before_ff (b ∷ bs) = cond (b == 255) [] (b ∷ before_ff bs)
@@ -188,7 +188,7 @@ before_ff (b ∷ bs) = cond (b == 255) [] (b ∷ before_ff bs)
 unfoldable pub text_length : ℕ → ℕ
 text_length word = word % 64 + word / 256 * 64
 
--- a text stands inline where the top two bits of its first byte are not 10
+-- a text is inline where the top two bits of its first byte are not 10
 abbrev pub begins_inline : ℕ → Bool
 begins_inline first = nat_lt first 128 || nat_le 192 first
 
@@ -196,7 +196,7 @@ abbrev pub IsInline : ℕ → Type 0
 IsInline first = IsTrue (begins_inline first)
 
 -- Out of line, its length is a u32 and an offset follows, counted from the text's own position. A text of at most eight
--- bytes stands inline only.
+-- bytes is inline only.
 unfoldable pub text_content : ℕ → List ℕ → Content
 text_content pos own =
     let len = text_length (word_at own 0) in
@@ -205,7 +205,7 @@ text_content pos own =
     (plain (written (before_ff own)) [])
     (choose (nat_lt 8 len) (following (target_from pos (word_at own 4)) (λ t. plain same (behind t str len ∷ []))) illegal)
 
--- how many elements a pointer leads to
+-- the number of elements that a pointer leads to
 abbrev pub pointee_length : Pointee → List ℕ → ℕ
 pointee_length (sized s) own = 1
 pointee_length (slice s) own = word_at own 4
@@ -228,8 +228,8 @@ abbrev pub option_content : Option Shape → (Shape → Content) → Content
 option_content None k = illegal
 option_content (Some s) k = k s
 
--- what the own bytes of a value at a position say: an offset is counted from where it stands, and the pointers of
--- collections without entries are not looked at
+-- what the own bytes of a value at a position say: an offset is counted from its own position, and the pointers of
+-- collections without entries are not read
 unfoldable pub shape_content : Names → ℕ → List ℕ → Shape → Content
 shape_content names pos own (number w signed) = plain (leaf (number_value w signed (from_le_bytes w own))) []
 shape_content names pos own (nonzero w signed) =
@@ -293,7 +293,7 @@ pointee_content bytes pos (slice s) len = claimed (record { start = pos; size = 
 pointee_content bytes pos str len = claimed (record { start = pos; size = len; align = 1 }) (written (window bytes pos len)) []
 
 -- ---- a search tree's node: a kind byte, the keys and the values, and after them, in a leaf, its length, in an inner
--- node the pointers to its children. Where its parts stand:
+-- node the pointers to its children. The offsets of its parts:
 
 unfoldable pub keys_offset : Shape → ℕ
 keys_offset k = align_up 1 (align_of k)
@@ -324,7 +324,7 @@ abbrev pub words_of : ℕ → ℕ → ℕ
 words_of zero most = 1
 words_of (suc kind) most = most + 1
 
--- a leaf (kind 0) has at most `most` entries, an inner node (kind 1) as many, visited after its children
+-- a leaf (kind 0) has at most `most` entries, an inner node (kind 1) has `most` entries, visited after its children
 unfoldable pub node_content : ℕ → ℕ → Shape → Shape → ℕ → ℕ → List ℕ → Content
 node_content level most k v pos zero own =
     let len = word_at own (links_offset most k v) in

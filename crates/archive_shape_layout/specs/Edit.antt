@@ -13,23 +13,23 @@ use Rattle.archive_shape_layout.specs.Holds.{Region, Visit, OpenShared, Holds, H
 use Rattle.archive_shape_layout.specs.Laws.{AgreesOn}
 use Rattle.archive_shape_layout.specs.Path.{value_at, put_at, Stands}
 
--- the window of n from w does not meet that of `size` from `start`
+-- the window of n bytes from w does not overlap that of `size` bytes from `start`
 abbrev pub Apart : ℕ → ℕ → ℕ → ℕ → Type 0
 Apart w n start size = (w + n ≤ start) ⊎ (start + size ≤ w)
 
--- the buffer has the same length, and the bytes outside the window of n from w are the same
+-- the buffer has the same length, and the bytes outside the window of n bytes from w are the same
 pub record Spares (bytes others : List ℕ) (w n : ℕ) : Type 0 where
   pub length : length others ≡ length bytes
   pub outside : (start size : ℕ) → Apart w n start size → AgreesOn bytes others start size
 
--- the value at the path is that of the part which stands there
+-- the value at a path is that of the part at the path
 abbrev pub ValueAtPath : Type 0
 ValueAtPath =
     (names : Names) (bytes : List ℕ) (level : ℕ) (inside : List OpenShared) (before : List Visit) (p q : Part) (v w : Value) (path : List ℕ)
     → Stands names bytes q w level inside before p v path
     → value_at path v ≡ Some w
 
--- a part in a part stands at the one path after the other
+-- a part in a part is at the path of the outer one followed by its own path
 abbrev pub PathsJoin : Type 0
 PathsJoin =
     (names : Names) (bytes : List ℕ) (level : ℕ) (inside : List OpenShared) (before after : List Visit) (p q r : Part) (v w u : Value) (regions : List Region) (path inner : List ℕ)
@@ -40,7 +40,7 @@ PathsJoin =
     → Stands names bytes r u deeper around since q w inner)
     → Stands names bytes r u level inside before p v (path ++ inner)
 
--- a leaf that stands in place, a number, a truth value, a char or an inline text: where its own bytes become those of
+-- a leaf in place, which is a number, a truth value, a char or an inline text: where its own bytes become those of
 -- another value of its shape, the root has the same regions and visits, and that value at the leaf's path
 abbrev pub EditOfLeaf : Type 0
 EditOfLeaf =
@@ -55,7 +55,7 @@ EditOfLeaf =
     → made is no_values ≡ Some new
     → HasRoot names others pos s (put_at path new v) regions visits
 
--- a text out of line: where its bytes become those of another text, as long
+-- a text out of line: where its bytes become those of another text of the same length
 abbrev pub EditOfText : Type 0
 EditOfText =
     (names : Names) (bytes others : List ℕ) (pos : ℕ) (s : Shape) (v : Value) (regions : List Region) (visits : List Visit)
@@ -68,13 +68,13 @@ EditOfText =
 
 -- ---- where leaves lie
 
--- a part is a leaf whose bytes lie in the window of `size` from `start`: a value in place that has no part, or a text
--- out of line
+-- a part is a leaf whose bytes are the window of `size` bytes from `start`: a value in place that has no part, or a
+-- text out of line
 pub data IsLeafIn (names : Names) (bytes : List ℕ) (p : Part) (start size : ℕ) : Type 0 where
   in_place : {s : Shape} {l : Label} → p ≡ at start s → size ≡ size_of s → content_of names bytes p ≡ plain l [] → IsLeafIn names bytes p start size
   out_of_line : p ≡ behind start str size → IsLeafIn names bytes p start size
 
--- the bytes of two leaves at different paths do not meet
+-- the bytes of two leaves at different paths do not overlap
 abbrev pub LeavesApart : Type 0
 LeavesApart =
     (names : Names) (bytes : List ℕ) (pos : ℕ) (s : Shape) (v : Value) (regions : List Region) (visits : List Visit)

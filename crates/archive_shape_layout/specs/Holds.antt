@@ -1,4 +1,4 @@
--- That bytes have a shape and a value at a position, with the regions that are claimed on the way.
+-- That bytes have a shape and a value at a position, with the regions that the value and its parts claim.
 use Rattle.std.specs.Prelude.{◌≡◌, ℕ, suc, ◌+◌, ◌-◌, ◌≤◌, ◌%◌, ◌==◌, Bool, true, cond, List, [], ◌∷◌, ◌++◌, length, Option, Some, None, ⊤}
 use Rattle.archive_shape_layout.specs.Shape.{Shape, Pointee, align_of, size_of}
 use Rattle.archive_shape_layout.specs.Value.{Value, Values}
@@ -8,7 +8,7 @@ use Rattle.archive_shape_layout.specs.Content.{Names, Part, Span, Label, content
 use Rattle.archive_shape_layout.specs.Content.Part.{behind}
 use Rattle.archive_shape_layout.specs.Content.Content.{plain, claimed, counting}
 
--- bytes that are claimed, their alignment, and how many regions they are claimed inside
+-- bytes that are claimed, their alignment, and the number of regions that they are claimed inside
 pub record Region : Type 0 where
   pub start : ℕ
   pub size : ℕ

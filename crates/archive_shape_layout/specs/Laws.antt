@@ -66,7 +66,7 @@ RootRegions =
     → HasRoot names bytes pos s v regions visits
     → AreOfRoot bytes pos s regions
 
--- ---- what a reading rests on
+-- ---- the bytes that a reading depends on
 
 -- two buffers have the same bytes in a window
 abbrev pub AgreesOn : List ℕ → List ℕ → ℕ → ℕ → Type 0

@@ -1,4 +1,4 @@
--- Places in a value, and the parts that stand there.
+-- Paths in a value, and the parts at them.
 use Rattle.std.specs.Prelude.{◌≡◌, ℕ, zero, suc, ◌+◌, ◌-◌, nat_lt, cond, List, [], ◌∷◌, Option, Some, None}
 use Rattle.archive_shape_layout.specs.Value.{Value, Values, count_values}
 use Rattle.archive_shape_layout.specs.Value.Value.{group, chosen}
@@ -44,7 +44,7 @@ abbrev pub beyond : ℕ → Option ℕ → Option ℕ
 beyond n None = None
 beyond n (Some i) = Some (n + i)
 
--- of children and entries in turn, how many items come before those of child i
+-- of children and entries in turn, the number of items before those of child i
 abbrev pub child_place : ℕ → Values → Values → Option ℕ
 child_place i no_values es = None
 child_place zero (more_values (group items) cs) es = Some 0
@@ -52,7 +52,7 @@ child_place zero (more_values c cs) es = None
 child_place (suc i) (more_values c cs) no_values = None
 child_place (suc i) (more_values c cs) (more_values e es) = beyond (count_values (members c) + 1) (child_place i cs es)
 
--- and how many before entry i
+-- and the number of items before entry i
 abbrev pub entry_place : ℕ → Values → Values → Option ℕ
 entry_place i no_values es = Some i
 entry_place i (more_values c cs) no_values = None
@@ -84,8 +84,8 @@ through _ vs i path = None
 -- ---- parts at paths
 
 mutual
-  -- at a level, inside the shared positions that are open and from those visited so far, the part q stands in a part at
-  -- a path of its value, and has the value w there. No shared pointer lies between.
+  -- at a level, inside the shared positions that are open and from those visited so far, the part q is in a part at a
+  -- path of its value, and has the value w there. No shared pointer lies between.
   pub data Stands (names : Names) (bytes : List ℕ) (q : Part) (w : Value) : ℕ → List OpenShared → List Visit → Part → Value → List ℕ → Type 0 where
     stands_here :
         {level : ℕ} {inside : List OpenShared} {before : List Visit} {p : Part} {v : Value} {path : List ℕ}
@@ -108,7 +108,7 @@ mutual
         → through l vs i inner ≡ Some path
         → Stands names bytes q w level inside before p v path
 
-  -- it stands in part i of a list of parts, with their values
+  -- it is in part i of a list of parts, with their values
   pub data StandsIn (names : Names) (bytes : List ℕ) (q : Part) (w : Value) : ℕ → List OpenShared → List Visit → List Part → Values → ℕ → List ℕ → Type 0 where
     stands_first :
         {level : ℕ} {inside : List OpenShared} {before between after : List Visit} {p : Part} {ps : List Part} {v : Value} {vs ws : Values} {here later : List Region} {i : ℕ} {path : List ℕ}

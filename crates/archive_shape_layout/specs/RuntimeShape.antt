@@ -1,4 +1,4 @@
--- The layout that a shape at run time stands for.
+-- The layout that a shape at run time represents.
 use Rattle.std.specs.Int.{w8, w16, w32, w64, w128}
 use Rattle.std.specs.Int as numbers
 use Rattle.archive_shape_layout.specs.declared.shape.Width.{Width}

@@ -30,7 +30,7 @@ mutual
     result : Shape → Shape → Shape
     -- an enum: a tag byte, and the payload of each tag, from 0 on
     choice : Shapes → Shape
-    -- a pointer to a value of its own
+    -- a pointer to its own value
     box : Pointee → Shape
     vector : Shape → Shape
     -- a counted pointer: whether its flavor allows cycles, and what it points to

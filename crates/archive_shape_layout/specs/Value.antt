@@ -1,4 +1,4 @@
--- The values that archived bytes stand for.
+-- The values that archived bytes represent.
 use Rattle.std.specs.Prelude.{ℕ, ◌+◌, Bool, List, ℤ, Option, Some, None}
 
 mutual
@@ -10,7 +10,8 @@ mutual
     boolean : Bool → Value
     -- a text's bytes
     string : List ℕ → Value
-    -- the fields of a tuple, the elements of an array, vector or slice, the items of a map, each a group of key and value
+    -- the fields of a tuple, the elements of an array, vector or slice, the items of a map, each a group of key and
+    -- value
     group : Values → Value
     -- the tag of an option, result or enum, and its payload
     chosen : ℕ → Values → Value

@@ -1,9 +1,9 @@
-//! Laws. Each function below has no body: it carries a law.
+//! The laws of the layout, each a function with an empty body whose contract is the law.
 ghost use Rattle.archive_shape_layout.specs.Laws.{OneValue, AscentSplits, AscentIsApart, AlignmentsAreSmallPowers, RootRegions, Frame};
 ghost use Rattle.archive_shape_layout.specs.Edit.{ValueAtPath, PathsJoin, EditOfLeaf, EditOfText, LeavesApart, LeafWithin};
 ghost use Rattle.archive_shape_layout.specs.Visited.{VisitsStand};
 
-/// Bytes have at most one value of a shape at a place, and with it one list of regions and one list of the shared
+/// Bytes have at most one value of a shape at a position, and with it one list of regions and one list of the shared
 /// positions that have been visited.
 pub fn one_value()
     ensures { OneValue }
@@ -29,43 +29,43 @@ pub fn root_regions()
     ensures { RootRegions }
 {}
 
-/// What bytes hold at a place rests on the place's own bytes and on the regions that are claimed: another buffer with
-/// the same bytes there holds the same.
+/// The value, regions and visits of a part depend on the part's own bytes and on the bytes of the regions that it
+/// claims: another buffer with the same bytes there has the same.
 pub fn frame()
     ensures { Frame }
 {}
 
-/// All that was visited when a part was read has its value where it lies, below the end of what the part claims. So what
-/// the counted pointers in a root lead to stands.
+/// Every shared position that was visited when a part was read has its value, below the end of what the part claims. So
+/// what the counted pointers in a root lead to has its value.
 pub fn visits_stand()
     ensures { VisitsStand }
 {}
 
-/// The value at a path is that of the part which stands there.
+/// The value at a path is that of the part at the path.
 pub fn value_at_path()
     ensures { ValueAtPath }
 {}
 
-/// A part that stands at a path of a second part, which stands at a path of a third, stands in the third at the one path
-/// followed by the other.
+/// A part at a path of a second part, which is at a path of a third, is in the third at the path of the second followed
+/// by its path in the second.
 pub fn paths_join()
     ensures { PathsJoin }
 {}
 
-/// Where only the own bytes of one leaf change, a number's, a truth value's, a char's or an inline text's, and they have
-/// a value of its shape again, the root has the same regions and the new value at the leaf's path; all else in its
-/// value stays.
+/// Where only the own bytes of one leaf change, which is a number, a bool, a char or an inline text, and the new bytes
+/// have a value of its shape, the root has the same regions and the new value at the leaf's path. All else in its value
+/// is unchanged.
 pub fn edit_of_leaf()
     ensures { EditOfLeaf }
 {}
 
-/// The same for the bytes of a text that stands out of line, which stay UTF-8 and as many.
+/// The same for the bytes of a text out of line, where the new bytes are UTF-8 and have the same length.
 pub fn edit_of_text()
     ensures { EditOfText }
 {}
 
-/// The bytes of two leaves at different paths do not meet. A leaf is a value in place that has no part, or a text out
-/// of line.
+/// The bytes of two leaves at different paths do not overlap. A leaf is a value in place that has no part, or a text
+/// out of line.
 pub fn leaves_apart()
     ensures { LeavesApart }
 {}

@@ -1,9 +1,13 @@
 //! The byte layout of archives, for every form of the format, and its laws.
 //!
-//! `content_of` says, one step deep, what stands at a place. `Holds` says that the bytes there have a value, and which
-//! regions are claimed on the way. `HasRoot` says that a buffer has a value at a position, with regions that ascend.
-//! Each function of `laws` has no body: it carries a law. `Shape` is a layout at run time.
+//! `content_of` gives the content of a part, one step deep. `Holds` says that a part has a value, and which regions the
+//! part and its parts claim. `HasRoot` says that a buffer has a value at a position, with regions that ascend. Each
+//! function of `laws` has an empty body, and its contract is a law. `Shape` is a layout at run time.
 #![tactic(auto)]
+
+mod finding;
+
+pub use finding::root_is_found;
 
 mod laws;
 mod shape;

@@ -1,8 +1,8 @@
-//! Layouts as values.
+//! Layouts at run time, and the test whether two are the same.
 ghost use Rattle.std.specs.Prelude.{◌≡◌, ◌↔◌, IsTrue};
 ghost use Rattle.archive_shape_layout.specs.RuntimeShape.{layout_of, pointee_of, shapes_of};
 
-/// How many bits a number has.
+/// The number of bits of a number.
 #[derive(Clone, Copy, Debug, PartialEq, Eq)]
 pub enum Width {
     Bits8,
@@ -12,7 +12,7 @@ pub enum Width {
     Bits128,
 }
 
-/// What positions of a type are multiples of, in bytes.
+/// The alignment of a type in bytes: its positions are multiples of it.
 #[derive(Clone, Copy, Debug, PartialEq, Eq)]
 pub enum Alignment {
     One,
@@ -31,7 +31,7 @@ pub enum Shape {
         width: Width,
         signed: bool,
     },
-    /// A number that is not 0.
+    /// A number that is not 0, as `NonZero`.
     NonZero {
         width: Width,
         signed: bool,
@@ -45,9 +45,9 @@ pub enum Shape {
         element: Box<Shape>,
     },
     Option(Box<Shape>),
-    /// Either of two.
+    /// A value of one of two shapes: the first one is that of `Ok`.
     Result(Box<Shape>, Box<Shape>),
-    /// The payloads of an enum, by tag.
+    /// An enum: the payloads of its variants, by tag.
     Choice(Shapes),
     Boxed(Pointee),
     Vector(Box<Shape>),
@@ -56,21 +56,25 @@ pub enum Shape {
         cyclic: bool,
         pointee: Pointee,
     },
+    /// A weak counted pointer, which may lead to nothing.
     Weak {
         cyclic: bool,
         pointee: Pointee,
     },
+    /// A search tree with at most `entries` entries per node.
     Tree {
         entries: u64,
         key: Box<Shape>,
         value: Box<Shape>,
     },
+    /// A hash table of items.
     Table(Box<Shape>),
+    /// A map that keeps the order of its entries.
     IndexMap {
         key: Box<Shape>,
         value: Box<Shape>,
     },
-    /// A type that holds itself. One name stands for one type.
+    /// A type that holds itself. One name denotes one type.
     Named {
         name: u32,
         size: usize,
@@ -78,7 +82,7 @@ pub enum Shape {
     },
 }
 
-/// Layouts in order.
+/// A list of layouts, as of the fields of a tuple or the payloads of an enum.
 #[cycle(shape)]
 #[derive(Debug, Drop)]
 pub enum Shapes {
@@ -86,7 +90,7 @@ pub enum Shapes {
     Another(Box<Shape>, Box<Shapes>),
 }
 
-/// What a pointer leads to.
+/// What a pointer leads to: one value, a slice, or the bytes of a text.
 #[cycle(shape)]
 #[derive(Debug, Drop)]
 pub enum Pointee {
@@ -95,7 +99,7 @@ pub enum Pointee {
     Text,
 }
 
-/// Whether two shapes are the same layout.
+/// Returns whether two shapes are the same layout.
 #[cycle(same)]
 pub fn same_shape(first: &Shape, second: &Shape) -> bool
     ensures { IsTrue result ↔ (layout_of first.now ≡ layout_of second.now) }

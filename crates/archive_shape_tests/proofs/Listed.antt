@@ -1,4 +1,4 @@
--- Shared positions in a list of what was met, where the first place of a position counts.
+-- Shared positions in a list of those that were seen, where the first place of a position counts.
 use Rattle.std.proofs.Common.{◌≡◌, ℕ, ◌+◌, ◌≤◌, ◌<◌, ◌==◌, Bool, true, false, List, [], ◌∷◌, ◌++◌, length, get_or, Option, Some, None, Ok, Err, option_map, find, refl, sym, ap, subst, ◌∙◌, arith, ⊎_elim}
 use Rattle.std.proofs.Math.ListN.{set}
 use Rattle.std.proofs.Math.Nat.{eq-or-lt_of_le}
@@ -11,8 +11,8 @@ use Rattle.std.proofs.lemmas.Option.{slice_get-get_or, slice_get_past}
 use Rattle.std.specs.List.{position_or_len}
 use Rattle.std.specs.Option.{option_or}
 use Rattle.archive_shape_layout.specs.Shape.{Pointee}
-use Rattle.archive_shape_checking.specs.PartFault.{Entry}
-use Rattle.archive_shape_checking.specs.Kept.{Kept, Seen, seen_with, with_entry, FinishesShared}
+use Rattle.archive_shape.specs.PartFault.{Entry}
+use Rattle.archive_shape.specs.Kept.{Kept, Seen, seen_with, with_entry, FinishesShared}
 use Rattle.archive_shape_writing.specs.declared.error.Error.TheVariants.{NotStarted, AlreadyFinished}
 
 -- ---- the first place
@@ -41,7 +41,7 @@ module _ (X : Type 0) (p : X → Bool) where
   pub is_nowhere : (xs : List X) (i : ℕ) → i ≤ position_or_len p xs → length xs ≤ i → i ≡ position_or_len p xs
   is_nowhere xs i le past = let most = first_within xs in omega arith
 
--- ---- what stands at a position
+-- ---- the entry of a position
 
 pub same_entry : (p q : Pointee) (m n : ℕ) (a b : Bool) → p ≡ q → m ≡ n → a ≡ b → ◌≡◌ {A = Option Entry} (Some (record { pointee = p; len = m; done = a })) (Some (record { pointee = q; len = n; done = b }))
 same_entry p q m n a b e f g = cc
@@ -74,7 +74,7 @@ module _ (X : Type 0) (place : X → ℕ) (entry : X → Entry) where
   none_behind None = refl
   none_behind (Some x) = refl
 
-  -- one more is met, at a position where nothing stood
+  -- one more is seen, at a position that had no entry
   pub listed_more : (xs : List X) (y : X) → listed xs (place y) ≡ None → listed (xs ++ y ∷ []) ≡ seen_with (listed xs) (place y) (entry y)
   listed_more xs y none = fun_ext λ pos. at_position pos
     where
@@ -88,7 +88,7 @@ module _ (X : Type 0) (place : X → ℕ) (entry : X → Entry) where
           rw (ne_eqb (place y) pos (λ e. n (sym e))) (ap (option_map entry) (none_behind _)) ∙ sym (with_other (listed xs) (place y) (entry y) pos n))
           (cases_eq pos (place y))
 
-  -- the item that stands at a place, which is the first of a position
+  -- the item at a place, which is the first of a position
   pub record FoundAt (xs : List X) (pos i : ℕ) (d : X) : Type 0 where
     pub first : i ≡ position_or_len (λ m. place m == pos) xs
     pub below : i < length xs

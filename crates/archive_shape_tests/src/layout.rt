@@ -1,7 +1,7 @@
-//! Layouts at run time.
+//! Tests of layouts at run time.
 
+use archive_shape::{ArchivedI64, LittleEndian, Native, Portable};
 use archive_shape_layout::{Alignment, Pointee, Shape, Shapes, Width, same_shape};
-use archive_shape_portable::{ArchivedI64, LittleEndian, Native, Portable};
 use std::alloc::{AllocError, Global};
 use std::test::Fail;
 

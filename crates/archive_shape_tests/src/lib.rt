@@ -1,4 +1,4 @@
-//! Tests of the lowest layer of an archive library, with a module for each crate that is tested.
+//! Tests of the crates `archive_shape`, `archive_shape_layout` and `archive_shape_writing`.
 #![tactic(auto)]
 
 #[cfg(test)]

@@ -1,4 +1,4 @@
-//! Offsets, and pointers that are stored as offsets.
+//! Tests of offsets, and of pointers that are stored as offsets.
 
 mod offsets;
 mod raw_pointers;

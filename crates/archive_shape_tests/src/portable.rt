@@ -1,4 +1,4 @@
-//! Tests of numbers, chars and truth values as archives have them, and of the layouts of their types.
+//! Tests of archived numbers, chars and bools, and of the layouts of their types.
 mod chars;
 mod layouts;
 mod native;

@@ -1,4 +1,4 @@
-//! References, seals, places and what pointers lead to.
+//! Tests of references, seals, places and what pointers lead to.
 
 mod own_seals;
 mod places;

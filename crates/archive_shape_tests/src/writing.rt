@@ -1,4 +1,4 @@
-//! Tests of writers and of the texts of refusals.
+//! Tests of writers and of the messages of errors.
 mod failing;
 mod refusals;
 mod writers;

@@ -30,7 +30,7 @@ cut_after old a e h = record {
   piece_is = ap (λ x. a ++ x) h.piece_is ∙ sym (append_assoc a h.written h.lost);
 }
 
--- a piece stands after those before it and before those after it
+-- a piece lies after those before it and before those after it
 pub flat_map-split : {X : Type 0} (f : X → List ℕ) (xs : List X) (i : ℕ) (d : X) → i < length xs
     → flat_map f xs ≡ flat_map f (take i xs) ++ (f (get_or xs i d) ++ flat_map f (drop (suc i) xs))
 flat_map-split f [] i d lt = absurd (omega (arith, lt))

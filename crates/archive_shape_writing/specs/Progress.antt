@@ -3,7 +3,7 @@ use Rattle.std.specs.Prelude.{◌≡◌, ◌≢◌, ℕ, Result, Ok, Err}
 use Rattle.archive_shape_writing.specs.declared.error.Error.{Error}
 use Rattle.archive_shape_writing.specs.declared.error.Error.TheVariants.{NotStarted, AlreadyFinished}
 
--- it was not met, has begun, or has ended with an outcome
+-- it was not seen, has begun, or has ended with an outcome
 pub data Progress (A : Type 0) : Type 0 where
   unmet : Progress A
   begun : Progress A
@@ -19,13 +19,13 @@ module _ {A : Type 0} (old new : ℕ → Progress A) where
     pub here : new n ≡ progress
     pub elsewhere : (other : ℕ) → other ≢ n → new other ≡ old other
 
-  -- starting begins what was not met
+  -- starting begins what was not seen
   abbrev pub Begins : ℕ → Progress A → Type 0
   Begins n unmet = IsSet n begun
   Begins n begun = IsSame
   Begins n (ended x) = IsSame
 
-  -- it tells the progress that it found
+  -- it returns the progress that it found
   pub record Starts (n : ℕ) (found : Progress A) : Type 0 where
     pub is_found : old n ≡ found
     pub begins : Begins n found

@@ -1,6 +1,7 @@
--- What a call that writes does to its writer, of which clauses give: whether its contents are observable, whether it
--- counts its failures, its contents, its position, how many of its writes failed, the error of the last that did, and what
--- it knows of shared values. Of contents that are not observable, as those of a file, nothing is said.
+-- What a call that writes does to its writer. Clauses give of the writer: whether its contents are observable, whether
+-- it counts its failures, its contents, its position, the number of its writes that failed, the error of the last one
+-- that failed, and what it knows of shared values. Of contents that are not observable, as those of a file, nothing is
+-- said.
 use Rattle.std.specs.Prelude.{◌≡◌, ℕ, ◌+◌, ◌<◌, Bool, false, List, ◌++◌, length, IsTrue, MatchBool, Result, MatchResult}
 use Rattle.archive_shape_writing.specs.Progress.{Progress, IsSame}
 use Rattle.archive_shape_writing.specs.declared.error.Error.{Error}
@@ -13,7 +14,7 @@ pub record Cut (old new piece : List ℕ) : Type 0 where
   pub new_is : new ≡ old ++ written
   pub piece_is : piece ≡ written ++ lost
 
--- a writer that counts its failures has one more, and one that does not fails for want of memory
+-- a writer that counts its failures has one more, and one that does not fails with OutOfMemory
 abbrev pub IsCounted : Bool → ℕ → ℕ → Error → Type 0
 IsCounted counts old new e = MatchBool counts (new ≡ old + 1) ((new ≡ old) × (e ≡ OutOfMemory))
 
@@ -25,8 +26,8 @@ module _ {W : Type 0} (observable counts : Bool) (contents : W → List ℕ) (po
     pub is_quiet : failures new ≡ failures old
     pub keeps : IsSame (known old) (known new)
 
-  -- The writer failed in the piece, by an error that is its last one. A count that is higher shows the fault; a writer
-  -- that counts none has lost some of the piece.
+  -- The writer failed in the piece, with an error that is its last one. A higher count shows the failure; a writer that
+  -- counts none has lost some of the piece.
   pub record Failed (old new : W) (piece : List ℕ) (e : Error) : Type 0 where
     pub is_cut : IsTrue observable → Cut (contents old) (contents new) piece
     pub is_short : IsTrue observable → counts ≡ false → length (contents new) < length (contents old) + length piece
@@ -34,7 +35,7 @@ module _ {W : Type 0} (observable counts : Bool) (contents : W → List ℕ) (po
     pub is_last : last_error new ≡ e
     pub keeps : IsSame (known old) (known new)
 
-  -- what a call that writes the piece promises
+  -- what a call that writes the piece ensures
   abbrev pub Appends : {A : Type 0} → W → W → List ℕ → Result A Error → Type 0
   Appends old new piece result = MatchResult result (λ _. Written old new piece) (Failed old new piece)
 

@@ -1,11 +1,11 @@
-//! Every refusal of the archive layers.
+//! The error type of the archive crates.
 ghost use Rattle.archive_shape_writing.specs.declared.error.Error.TheVariants.{OutOfMemory};
 ghost use Rattle.std.specs.Prelude.{◌≡◌};
 
 use std::alloc::{AllocError, AllocFailed};
 use thiserror::Error as Described;
 
-/// Every refusal of the archive layers.
+/// An error of the archive crates. Its `Display` is the message given with the variant.
 #[derive(Debug, Clone, Copy, PartialEq, Eq, Described)]
 pub enum Error {
     #[error("the pointer's target is not a multiple of {align}")]

@@ -1,4 +1,4 @@
-//! What bytes are written to, and every refusal of the archive layers.
+//! Writers, to which bytes are appended, and the error type of the archive crates.
 #![tactic(auto)]
 
 mod error;

@@ -1,4 +1,4 @@
-//! What bytes are written to.
+//! The traits of writers, and their implementations for `Vec<u8>` and for references.
 ghost use Rattle.std.specs.Prelude.{◌≡◌, ℕ, ◌-◌, ◌^◌, ◌<◌, List, Bool, true, false, vec_len};
 ghost use Rattle.archive_shape_writing.specs.Progress.{Progress};
 ghost use Rattle.archive_shape_writing.specs.Progress.Progress.{unmet};
@@ -8,22 +8,22 @@ ghost use Rattle.archive_shape_writing.specs.declared.error.Error.TheVariants.{O
 
 use crate::Error;
 
-/// What has a position in the bytes that it writes.
+/// A value that has a position in the bytes that it writes.
 pub trait Positional {
     ghost pos: { Self → ℕ };
 
-    /// The number of bytes before the next one.
+    /// Returns the number of bytes before the next one that is written.
     fn pos(&self) -> usize
         ensures { result ≡ pos self.now };
 }
 
-/// What keeps which shared values were written. What keeps none knows of no key.
+/// A registry of the shared values that were written, by their keys. One that keeps none knows of no key.
 pub trait Registry {
-    /// What is known of each key.
+    /// The progress of each key.
     ghost known: { Self → ℕ → Progress ℕ };
 }
 
-/// What bytes are appended to.
+/// A writer, to which bytes are appended.
 pub trait Writer: Positional + Registry {
     /// Whether contracts can name what the writer holds. Where they cannot, as of a file, `contents` says nothing.
     ghost OBSERVABLE: { Bool };
@@ -34,17 +34,17 @@ pub trait Writer: Positional + Registry {
     /// All bytes that were written.
     ghost contents: { Self → List ℕ };
 
-    /// How many writes failed.
+    /// The number of writes that failed.
     ghost failures: { Self → ℕ };
 
     /// The error of the last write that failed.
     ghost last_error: { Self → Error };
 
-    /// Whether the writer keeps a count of its failures. One that can't fails for want of memory only.
+    /// Returns whether the writer keeps a count of its failures. One that keeps none fails only with `OutOfMemory`.
     fn counts() -> bool
         ensures { result ≡ COUNTS };
 
-    /// Appends the bytes.
+    /// Appends the bytes. Where the write fails, a prefix of them may have been written.
     fn write(&mut self, bytes: &[u8]) -> Result<(), Error>
         requires { failures self.old < 2 ^ 64 - 1 }
         ensures { Appends OBSERVABLE COUNTS contents Self.pos failures last_error Self.known self.old self.new bytes.now result };

@@ -4,8 +4,8 @@ use Rattle.std.specs.Prelude.{String, Result, MatchResult}
 use Rattle.std.specs.declared.alloc.Global.{Global}
 use Rattle.std.specs.Coded.{Coded-set, coded_list, coded_ℕ}
 use Rattle.std.proofs.Math.Logic.{∥∥₁_elim}
-use Rattle.cabinet_text_grammar.specs.Tree.{Tree}
-use Rattle.cabinet_documents.specs.Accepted.{Accepted}
+use Rattle.cabinet.specs.TextGrammar.Tree.{Tree}
+use Rattle.cabinet.specs.Documents.Accepted.{Accepted}
 use Rattle.cabinet.specs.Editing.{EditedByLines}
 use Rattle.cabinet.proofs.SessionLaws.{unedited_bytes_stay}
 use Rattle.cabinet.specs.declared.fault.Fault.{Fault}
@@ -27,7 +27,7 @@ stays : (old new : List ℕ) (lines edited : ℕ) → ∥ ((t : Tree) × Accepte
 stays old new lines edited a e z =
     ∥∥₁_elim a (Coded-set (coded_list coded_ℕ) new old) (λ p. unedited_bytes_stay old new p.0 lines p.1 (subst (EditedByLines old new lines) z e))
 
--- without an edit the bytes are as they were
+-- without an edit the bytes are unchanged
 pub unedited : (old new : List ℕ) (r : Result Count RunFault) → ∥ ((t : Tree) × Accepted old t) ∥₁ → EditsCounted old new r
     → MatchResult r (λ n. n.edits ≡ 0 → new ≡ old) (λ f. f.edits ≡ 0 → new ≡ old)
 unedited old new (Ok n) a e = stays old new n.lines n.edits a e

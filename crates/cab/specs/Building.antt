@@ -1,11 +1,11 @@
--- What building an archive answers.
+-- The results of building an archive.
 use Rattle.std.specs.Prelude.{◌≡◌, ℕ, ◌<◌, ◌⊎◌, List, String, string_bytes, string_len, codes}
 use Rattle.std.specs.declared.alloc.Global.{Global}
-use Rattle.cabinet_text_grammar.specs.Tree.{Tree}
-use Rattle.cabinet_text_grammar.specs.Spelling.{text_of}
-use Rattle.cabinet_text_grammar.specs.Fault.{FirstFault}
-use Rattle.cabinet_documents.specs.Image.{Image}
-use Rattle.cabinet_saving.specs.Saving.{HasNoImageFor}
+use Rattle.cabinet.specs.TextGrammar.Tree.{Tree}
+use Rattle.cabinet.specs.TextGrammar.Spelling.{text_of}
+use Rattle.cabinet.specs.TextGrammar.Fault.{FirstFault}
+use Rattle.cabinet.specs.Documents.Image.{Image}
+use Rattle.cabinet.specs.Archives.Saving.{HasNoImageFor}
 use Rattle.cabinet.specs.declared.fault.Fault.{Fault}
 use Rattle.cabinet.specs.declared.fault.Fault.TheVariants.{Usage, CannotRead, CannotWrite, Text, Save, Open, Run}
 
@@ -15,13 +15,14 @@ pub record Builds (text archive : List ℕ) : Type 0 where
   pub text_is : text ≡ text_of document
   pub is_image : Image document archive
 
--- why there is none: the text's first fault, a document with a kind that has no layout or past the limits, or want of memory
+-- why there is no image: the text's first fault, a document with a kind without a layout or past the limits, or an
+-- allocation that failed
 abbrev pub RefusesText : List ℕ → Fault → Type 0
 RefusesText text (Text refusal) = FirstFault text refusal.line refusal.cause
 RefusesText text (Save refusal) = (t : Tree) × (text ≡ text_of t) × HasNoImageFor t refusal
 RefusesText text _ = ⊥
 
--- the faults that building an archive file ends by; what is printed goes to no file of a name
+-- the faults with which building an archive file ends; what is printed goes to no file with a name
 abbrev pub EndsBuildBy : (text archive : String Global) → Fault → Type 0
 EndsBuildBy text archive (CannotRead path) = path ≡ text
 EndsBuildBy text archive (Text refusal) = (bytes : List ℕ) × FirstFault bytes refusal.line refusal.cause

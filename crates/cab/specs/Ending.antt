@@ -1,10 +1,10 @@
--- What is told of a run in which more than one thing may fail.
+-- The fault that is reported of a run in which more than one operation may fail.
 use Rattle.std.specs.Prelude.{◌≡◌, ℕ, ◌<◌, Bool, true, false, List, String, Result, Ok, Err, IsOk}
 use Rattle.std.specs.declared.alloc.Global.{Global}
-use Rattle.cabinet_text_grammar.specs.Tree.{Tree}
-use Rattle.cabinet_documents.specs.Accepted.{Accepted}
-use Rattle.cabinet_documents.specs.Audit.{IsRefusedFor}
-use Rattle.cabinet_opening.specs.Refused.{refusal_of}
+use Rattle.cabinet.specs.TextGrammar.Tree.{Tree}
+use Rattle.cabinet.specs.Documents.Accepted.{Accepted}
+use Rattle.cabinet.specs.Documents.Audit.{IsRefusedFor}
+use Rattle.cabinet.specs.Archives.Refused.{refusal_of}
 use Rattle.cabinet.specs.Editing.{EditedByLines}
 use Rattle.cabinet.specs.declared.fault.Fault.{Fault}
 use Rattle.cabinet.specs.declared.fault.Fault.TheVariants.{Usage, CannotRead, CannotWrite, Text, Save, Open, Run}
@@ -12,30 +12,30 @@ use Rattle.cabinet.specs.declared.session.Count.{Count}
 use Rattle.cabinet.specs.declared.session.RunFault.{RunFault}
 use Rattle.cabinet.specs.declared.session.RunCause.TheVariants.{Write}
 
--- A run that was done fails where its last answers were not written. Of two faults the first stays.
+-- A completed run fails if its last answers were not written. Of two faults the first is kept.
 abbrev pub IsFlushed : Result Count RunFault → (written : Bool) → Result Count RunFault → Type 0
 IsFlushed (Ok count) true ending = ending ≡ Ok count
 IsFlushed (Ok count) false ending = ending ≡ Err (record { cause = Write; lines = count.lines; edits = count.edits })
 IsFlushed (Err fault) _ ending = ending ≡ Err fault
 
--- A run that was done fails where its archive was not written back. Of two faults the first is told.
+-- A completed run fails if its archive was not written back. Of two faults the first is reported.
 abbrev pub IsFirstFault : Result Count RunFault → (written : Bool) → String Global → Result (Unit {0}) Fault → Type 0
 IsFirstFault (Ok count) true path ending = IsOk ending
 IsFirstFault (Ok count) false path ending = ending ≡ Err (CannotWrite path)
 IsFirstFault (Err fault) _ path ending = ending ≡ Err (Run fault)
 
--- the bytes old became new by some lines, of which this many were edits that were done
+-- lines changed the bytes from old to new, and `edits` of them were edits that were done
 pub record EditedTo (old new : List ℕ) : Type 0 where
   pub lines : ℕ
   pub edits : ℕ
   pub edited : EditedByLines old new lines edits
 
--- they are the archive of some document
+-- the bytes are the archive of some document
 abbrev pub IsArchive : List ℕ → Type 0
 IsArchive bytes = ∥ ((t : Tree) × Accepted bytes t) ∥₁
 
--- What working in the bytes of a file comes to: they are an archive, and lines were carried out, up to a fault of the run;
--- or there was an edit too, which could not be written back; or they are no archive, and are as they were.
+-- The result of working in the bytes of a file: they are an archive, and lines were carried out, up to a fault of the
+-- run; or an edit was done too, which could not be written back; or they are no archive, and are unchanged.
 abbrev pub EditsArchive : (old new : List ℕ) → String Global → Result (Unit {0}) Fault → Type 0
 EditsArchive old new path (Ok done) = IsArchive old × EditedTo old new
 EditsArchive old new path (Err (Run fault)) = IsArchive old × EditedByLines old new fault.lines fault.edits
@@ -46,7 +46,7 @@ EditsArchive old new path (Err (CannotRead other)) = ⊥
 EditsArchive old new path (Err (Text refusal)) = ⊥
 EditsArchive old new path (Err (Save refusal)) = ⊥
 
--- the faults that running an archive file ends by
+-- the faults with which running an archive file ends
 abbrev pub EndsRunBy : String Global → Fault → Type 0
 EndsRunBy path (CannotRead other) = other ≡ path
 EndsRunBy path (Open refusal) = (bytes : List ℕ) × IsRefusedFor bytes (refusal_of refusal)

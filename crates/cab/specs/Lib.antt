@@ -1,3 +1,3 @@
-pub mod Words
 pub mod Building
 pub mod Ending
+pub mod Words

@@ -1,4 +1,4 @@
-//! `cab build`: the archive of the document that a text file holds.
+//! `cab build`, which writes the archive of the document that a text file holds.
 ghost use Rattle.std.specs.Prelude.{◌≡◌, ◌<◌, IfOk, IfErr, string_bytes, string_len, codes};
 ghost use Rattle.cab.specs.Building.{Builds, RefusesText, EndsBuildBy};
 
@@ -7,7 +7,7 @@ use std::alloc::Global;
 use std::fs;
 use std::rt::Files;
 
-/// The archive of the document that has a text.
+/// Returns the archive of the document that has a text.
 pub fn archive_of(alloc: Global, text: &[u8]) -> Result<Vec<u8>, Fault>
     ensures built { IfOk result (λ archive. Builds text.now archive.items) }
     ensures refused { IfErr result (RefusesText text.now) }
@@ -22,7 +22,7 @@ pub fn archive_of(alloc: Global, text: &[u8]) -> Result<Vec<u8>, Fault>
     }
 }
 
-/// The path that stands for the standard output, in the memory of another.
+/// Returns the path `-`, which represents the standard output, in the memory of another path.
 fn standard_output(mut path: String) -> String
     ensures { 0 < string_len path → string_bytes result ≡ codes "-" }
 {
@@ -31,7 +31,7 @@ fn standard_output(mut path: String) -> String
     path
 }
 
-/// Saves the document that a text file holds as an archive file, and prints how many bytes it has.
+/// Saves the document that a text file holds as an archive file, and prints the number of bytes of the archive.
 pub fn build<R: Files + Print + AllocGlobal>(
     rt: &R,
     text: String,

@@ -1,18 +1,20 @@
-//! The words that the program is given.
+//! The commands of the program, and the words that spell them.
 ghost use Rattle.std.specs.Prelude.{◌≡◌, ℕ, List, map, string_bytes, IfSome, IfNone};
 ghost use Rattle.std.specs.Vec.Iter.{into_iter_items};
 ghost use Rattle.cab.specs.Words.{words_of};
 
 use std::env::Args;
 
-/// What the program is asked for. Each word is a path.
+/// A command of the program. Each field is a path.
 #[derive(Debug, Drop)]
 pub enum Command {
+    /// `cab build TEXT ARCHIVE`
     Build { text: String, archive: String },
+    /// `cab run ARCHIVE`
     Run { archive: String },
 }
 
-/// The command that words spell, the program's own name left out.
+/// Returns the command that words spell, if they spell one. The words do not include the program's name.
 pub fn parse(mut words: Args) -> Option<Command>
     ensures spelled { IfSome result (λ command. map string_bytes (into_iter_items words) ≡ words_of command) }
     ensures other { IfNone result ((command : Command) → map string_bytes (into_iter_items words) ≡ words_of command → ⊥) }

@@ -1,18 +1,18 @@
-//! The standard input, as what lines are read from. Of its bytes nothing is known, so contracts can't name what it gives.
+//! The standard input as a source of lines, whose bytes are not known, so that contracts cannot name them.
 ghost use Rattle.std.specs.Prelude.{◌≡◌, ◌≤◌, false, [], length, IfOk};
 
 use cabinet::{Source, SourceFailed};
 use std::io;
 use std::io::{ErrorKind, Read};
 
-/// A stream that bytes are read from, and how many reads failed.
+/// A stream that bytes are read from, with the number of reads that failed.
 #[derive(Drop)]
 pub struct InputStream<R: Read + Drop> {
     stream: R,
     pub failures: u64,
 }
 
-/// One read, begun again where a signal interrupts it.
+/// Reads once, and again as often as a signal interrupts the read.
 fn read_some<R: Read>(stream: &mut R, buffer: &mut [u8]) -> io::Result<usize>
     ensures { IfOk result (λ n. n ≤ length buffer.new) }
 {
@@ -26,6 +26,7 @@ fn read_some<R: Read>(stream: &mut R, buffer: &mut [u8]) -> io::Result<usize>
 }
 
 impl<R: Read + Drop> InputStream<R> {
+    /// Returns a source that reads from a stream.
     pub fn new(stream: R) -> InputStream<R>
         ensures { result.failures ≡ 0 }
     {

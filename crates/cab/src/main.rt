@@ -23,7 +23,7 @@ use std::io::{ErrorKind, IsTerminal};
 use std::process::ExitCode;
 use std::rt::{Env, Files};
 
-/// The words that the program was given, after its own name.
+/// Returns the words that the program was given, after its name.
 fn words<R: Env + AllocGlobal>(rt: &R) -> Result<Args, Fault> {
     match env::args(rt) {
         Ok(mut words) => {
@@ -31,12 +31,12 @@ fn words<R: Env + AllocGlobal>(rt: &R) -> Result<Args, Fault> {
             Ok(words)
         }
         Err(refusal) if refusal.kind() == ErrorKind::InvalidData => Err(Fault::Usage),
-        // Memory was refused, before any path was known.
+        // An allocation failed before any path was known.
         Err(_) => Err(Fault::CannotRead(String::new(rt.alloc()))),
     }
 }
 
-/// Does what the words say.
+/// Carries out the command that the words spell.
 fn carry_out<R: Env + Files + Input + Print + AllocGlobal>(rt: &R) -> Result<(), Fault>
 where
     R::Reader: IsTerminal,
@@ -48,7 +48,7 @@ where
     }
 }
 
-/// What the program ends with.
+/// Returns the exit code of the program for an outcome.
 fn exit_code(outcome: &Result<(), Fault>) -> ExitCode
     ensures { MatchResult outcome.now (λ _. exit_status result ≡ 0) (λ fault. exit_status result ≡ status_of fault) }
 {
@@ -61,7 +61,7 @@ fn exit_code(outcome: &Result<(), Fault>) -> ExitCode
 fn main(rt: HostRuntime) -> ExitCode {
     let outcome = carry_out(&rt);
     if let Err(fault) = &outcome {
-        // Where the standard error takes no line, the status alone tells of the fault.
+        // If the standard error takes no line, only the status reports the fault.
         let _ = fault_line(fault, &mut OutputStream::new(rt.stderr(), false));
     }
     exit_code(&outcome)

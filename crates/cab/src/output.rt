@@ -1,5 +1,4 @@
-//! The standard output and error, as what lines are written to. Of their bytes nothing is known, so contracts can't name
-//! what they hold.
+//! The standard output and error as writers of lines, whose bytes are not known, so that contracts cannot name them.
 ghost use Rattle.std.specs.Prelude.{◌≡◌, ◌+◌, ◌-◌, ◌^◌, ◌<◌, false, true, []};
 ghost use Rattle.archive_shape_writing.specs.Progress.Progress.{unmet};
 
@@ -7,7 +6,7 @@ use archive_shape_writing::{Error, Positional, Registry, Writer};
 use std::io;
 use std::io::Write;
 
-/// A stream that bytes are written to, how many were, and how many writes failed.
+/// A stream that bytes are written to, with the number of bytes that were written and of writes that failed.
 #[derive(Drop)]
 pub struct OutputStream<W: Write + Drop> {
     stream: W,
@@ -18,7 +17,7 @@ pub struct OutputStream<W: Write + Drop> {
     last_error: Error,
 }
 
-/// Writes bytes, and where answers are prompt also those that wait, once a line ends.
+/// Writes bytes. If `is_prompt`, also flushes the stream when the bytes end a line.
 fn write_some<W: Write>(stream: &mut W, bytes: &[u8], is_prompt: bool) -> io::Result<()> {
     stream.write_all(bytes)?;
     if is_prompt && bytes.ends_with(b"\n") {
@@ -28,6 +27,7 @@ fn write_some<W: Write>(stream: &mut W, bytes: &[u8], is_prompt: bool) -> io::Re
 }
 
 impl<W: Write + Drop> OutputStream<W> {
+    /// Returns a writer to a stream, at position 0. If `is_prompt`, each line is written as soon as it ends.
     pub fn new(stream: W, is_prompt: bool) -> OutputStream<W>
         ensures position { result.position ≡ 0 }
         ensures failures { result.failures ≡ 0 }
@@ -53,7 +53,7 @@ impl<W: Write + Drop> OutputStream<W> {
         error
     }
 
-    /// Writes what a buffer still holds.
+    /// Writes the bytes that a buffer of the stream still holds.
     pub fn flush(&mut self) -> io::Result<()> {
         self.stream.flush()
     }

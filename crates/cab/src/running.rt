@@ -1,7 +1,7 @@
-//! `cab run`: the lines of the standard input, carried out in an archive file.
+//! `cab run`, which carries out the lines of the standard input in an archive file.
 ghost use Rattle.std.specs.Prelude.{◌≡◌, ◌-◌, ◌^◌, ◌<◌, true, IfErr, MatchResult};
-ghost use Rattle.cabinet_text_grammar.specs.Tree.{Tree};
-ghost use Rattle.cabinet_documents.specs.Accepted.{Accepted};
+ghost use Rattle.cabinet.specs.TextGrammar.Tree.{Tree};
+ghost use Rattle.cabinet.specs.Documents.Accepted.{Accepted};
 ghost use Rattle.cabinet.specs.Editing.{EditedByLines};
 ghost use Rattle.cab.specs.Ending.{IsFlushed, IsFirstFault, EditsArchive, EndsRunBy};
 
@@ -14,10 +14,10 @@ use std::io::{BufWriter, IsTerminal, Write};
 use std::rt::Files;
 use std::{fs, io};
 
-/// The most bytes of answers that wait to be written.
+/// The maximum number of bytes of answers that wait to be written.
 const BUFFER: usize = 65536;
 
-/// What a run comes to whose last answers were written, or not.
+/// Returns the outcome of a run, by whether its last answers were written.
 fn flushed(outcome: Result<Count, RunFault>, is_written: bool) -> Result<Count, RunFault>
     ensures { IsFlushed outcome is_written result }
 {
@@ -32,7 +32,7 @@ fn flushed(outcome: Result<Count, RunFault>, is_written: bool) -> Result<Count, 
 }
 
 /// Carries out the lines of the standard input in an accepted archive. Answers are written once `BUFFER` bytes of them
-/// wait, and at the end; where the input is a terminal, each at once.
+/// wait, and at the end; if the input is a terminal, each is written at once.
 fn run_lines<R: Input + Print>(rt: &R, alloc: Global, archive: &mut [u8]) -> Result<Count, RunFault>
 where
     R::Reader: IsTerminal,
@@ -57,7 +57,7 @@ where
     flushed(outcome, is_written)
 }
 
-/// How many edits were done.
+/// Returns the number of edits that were done.
 fn edits_of(outcome: &Result<Count, RunFault>) -> u64
     ensures { MatchResult outcome.now (λ count. result ≡ count.edits) (λ fault. result ≡ fault.edits) }
 {
@@ -77,7 +77,7 @@ fn write_back<R: Files>(rt: &R, path: &str, archive: &[u8]) -> io::Result<()>
         .write_all(archive)
 }
 
-/// Writes an archive back if it was edited, and says whether all edits are in its file.
+/// Writes an archive back if it was edited, and returns whether all edits are in its file.
 fn keep_edits<R: Files>(rt: &R, path: &str, archive: &[u8], edits: u64) -> bool
     requires { ∥ ((t : Tree) × Accepted archive.now t) ∥₁ }
     ensures { edits ≡ 0 → result ≡ true }
@@ -85,7 +85,7 @@ fn keep_edits<R: Files>(rt: &R, path: &str, archive: &[u8], edits: u64) -> bool
     edits == 0 || write_back(rt, path, archive).is_ok()
 }
 
-/// What is told of a run whose archive was written back, or not: the first fault.
+/// Returns the first fault of a run, by whether its archive was written back.
 fn first_fault(outcome: Result<Count, RunFault>, is_kept: bool, path: String) -> Result<(), Fault>
     ensures { IsFirstFault outcome is_kept path result }
 {
@@ -96,7 +96,7 @@ fn first_fault(outcome: Result<Count, RunFault>, is_kept: bool, path: String) ->
     }
 }
 
-/// Carries out the lines of the standard input in what was read from a file, if it is an archive.
+/// Carries out the lines of the standard input in the bytes of a file, if they are an archive.
 fn edit_archive<R: Files + Input + Print + AllocGlobal>(
     rt: &R,
     path: String,
@@ -114,7 +114,7 @@ where
     first_fault(outcome, is_kept, path)
 }
 
-/// Carries out the lines of the standard input in an archive file, and writes it back where one of them was an edit.
+/// Carries out the lines of the standard input in an archive file, and writes the file back if an edit was done.
 pub fn run_archive<R: Files + Input + Print + AllocGlobal>(
     rt: &R,
     path: String,

@@ -1,8 +1,10 @@
-mod Roots
+pub mod Nested
 mod Questions
+pub mod RefusalLemmas
+mod Roots
+pub mod SessionLaws
 pub mod Sessions
 pub mod SessionsGiven
 pub mod SessionsProgress
 pub mod SessionsResults
 pub mod WorkedAnswers
-pub mod SessionLaws

@@ -3,24 +3,24 @@ use Rattle.std.proofs.Common.{◌≡◌, ℕ, List, length, Ok, Err, refl, subst
 use Rattle.std.specs.Prelude.{Result, IfOk}
 use Rattle.std.proofs.Math.Logic.{∥∥₁_map}
 use Rattle.archive_shape.specs.Key.{HeldAt}
-use Rattle.archive_shape_layout.specs.Holds.{root_position}
-use Rattle.archive_shape_finding.specs.Finding.{Root}
-use Rattle.archive_shape_finding.proofs.Found.{root_is_found}
-use Rattle.archive_forms_reading.specs.Parts.{HasValue}
-use Rattle.archive_core_access.proofs.Rooted.{root_held}
+use Rattle.archive_shape.specs.ShapeLayout.Holds.{root_position}
+use Rattle.archive_shape.specs.ShapeLayout.Finding.{Root}
+use Rattle.archive_shape.proofs.ShapeLayout.Found.{root_is_found}
+use Rattle.archive_core_validation.specs.FormsValues.Parts.{HasValue}
+use Rattle.archive_core_validation.proofs.Rooted.{root_held}
 use Rattle.cabinet_text_grammar.specs.Tree.{Tree}
-use Rattle.cabinet_documents.specs.Node.{node_shape, node_names, KnowsNode}
-use Rattle.cabinet_documents.specs.Accepted.{Accepted}
-use Rattle.cabinet_asking.specs.Found.{OfDocument}
+use Rattle.cabinet_archived.specs.Documents.Node.{node_shape, node_names, KnowsNode}
+use Rattle.cabinet_archived.specs.Documents.Accepted.{Accepted}
+use Rattle.cabinet_archives.specs.Found.{OfDocument}
 
 abbrev place : List ℕ → ℕ
 place bytes = root_position (length bytes) node_shape
 
--- the value that a document is denoted by stands there
+-- the root has the value that denotes a document
 pub root_of : (bytes : List ℕ) (t : Tree) → (a : Accepted bytes t) → HeldAt node_shape KnowsNode bytes (place bytes) a.value
 root_of bytes t a = root_held node_shape KnowsNode node_names bytes (place bytes) a.value a.regions a.visits refl a.root
 
--- and one stands there wherever bytes are accepted
+-- the root has a value where bytes are accepted
 pub root_there : (bytes other : List ℕ) (pos : ℕ) → other ≡ bytes → pos ≡ place bytes → ∥ ((t : Tree) × Accepted bytes t) ∥₁ → HasValue node_shape KnowsNode other pos
 root_there bytes other pos e at accepted =
     let root_of_accepted : ((t : Tree) × Accepted bytes t) → Root node_names bytes (place bytes) node_shape =
@@ -32,7 +32,7 @@ root_there bytes other pos e at accepted =
     in
     subst (λ b. HasValue node_shape KnowsNode b pos) (sym e) (subst (HasValue node_shape KnowsNode bytes) (sym at) here)
 
--- what is so of the document whose root a node is, is so of each that the bytes are accepted as
+-- what is true of the document whose root a node is, is true of each that the bytes are accepted as
 pub of_accepted : (bytes other : List ℕ) (pos : ℕ) (t : Tree) (is : Tree → Type 0) → other ≡ bytes → pos ≡ place bytes → Accepted bytes t → OfDocument other pos is → is t
 of_accepted bytes other pos t is e at a h =
     let here = subst (λ b. HeldAt node_shape KnowsNode b pos a.value) (sym e) (subst (λ p. HeldAt node_shape KnowsNode bytes p a.value) (sym at) (root_of bytes t a)) in

@@ -1,14 +1,14 @@
 -- The laws of sessions.
 use Rattle.std.proofs.Common.{◌≡◌, ℕ, ◌+◌, suc, zero, List, [], ◌∷◌, take, drop, refl, sym, ap, subst, ◌∙◌, arith, Option, Some, None}
-use Rattle.archive_shape_layout.specs.Value.{Value}
+use Rattle.archive_shape.specs.ShapeLayout.Value.{Value}
 use Rattle.cabinet_text_grammar.specs.Tree.{Tree, Leaf}
 use Rattle.cabinet_text_grammar.specs.Path.{Step}
 use Rattle.cabinet_text_grammar.specs.Line.{Line, get, keys, range, set, Says}
 use Rattle.cabinet_text_grammar.specs.Answering.{Answer, head, keys_are, wrong, missing, done, refused, bad, answer, reply}
-use Rattle.cabinet_documents.specs.Accepted.{Accepted}
-use Rattle.cabinet_documents.specs.Image.{Image}
-use Rattle.cabinet_setting.specs.Setting.{EditLeaves}
-use Rattle.cabinet_setting.proofs.Kept.{set_keeps_accepted, set_keeps_image}
+use Rattle.cabinet_archived.specs.Documents.Accepted.{Accepted}
+use Rattle.cabinet_archived.specs.Documents.Image.{Image}
+use Rattle.cabinet_archives.specs.Setting.{EditLeaves}
+use Rattle.cabinet_archives.proofs.Kept.{set_keeps_accepted, set_keeps_image}
 use Rattle.cabinet.specs.Session.{AllSay, next, after_all, edits, one_if_done}
 use Rattle.cabinet.specs.Editing.{LineLeaves, LinesLeave, no_line, more_lines}
 use Rattle.cabinet.specs.Laws.{IsAfter, AcceptedAfterEachLine, ImageAfterEachLine, UneditedBytesStay}
@@ -31,7 +31,7 @@ next_image x y t text (Some (set path new)) h i a l = set_keeps_image x y t path
 
 -- ---- after each line
 
--- the bytes between, of which something is so that each line keeps
+-- the bytes between, of which a property is true that each line keeps
 module _ (Is : Tree → List ℕ → Type 0)
     (keeps : (x y : List ℕ) (t : Tree) (text : List ℕ) (line : Option Line) → Says text line → Is t x → (a : Accepted x t) → LineLeaves x a.value t line y → Is (next t line) y)
   where

@@ -7,9 +7,9 @@ use Rattle.cabinet_text_grammar.specs.Path.{Step}
 use Rattle.cabinet_text_grammar.specs.Line.{Line, get, keys, range, set, Says}
 use Rattle.cabinet_text_grammar.specs.Answering.{Answer, answer, reply, change, spelled_answer}
 use Rattle.cabinet_text_nodes.specs.Lines.{IsQuestion}
-use Rattle.cabinet_documents.specs.Accepted.{Accepted}
-use Rattle.cabinet_documents.specs.Image.{Image}
-use Rattle.cabinet_setting.specs.Setting.{EditLeaves}
+use Rattle.cabinet_archived.specs.Documents.Accepted.{Accepted}
+use Rattle.cabinet_archived.specs.Documents.Image.{Image}
+use Rattle.cabinet_archives.specs.Setting.{EditLeaves}
 use Rattle.cabinet.specs.Session.{lines_of, AllSay, answer_to, next, answers, after_all, edits, one_if_done}
 use Rattle.cabinet.specs.Editing.{LineLeaves, LinesLeave, no_line, more_lines, Edited, EditedByLines}
 use Rattle.cabinet.specs.Steps.{longest_line, Carried, CarriedCut}
@@ -51,7 +51,7 @@ edits_push : (t : Tree) (ss : List (Option Line)) (s : Option Line) → edits t 
 edits_push t [] s = omega arith
 edits_push t (r ∷ ss) s = omega (arith, edits_push (next t r) ss s)
 
--- what lines leave, and then others
+-- the bytes that lines leave, and after them other lines
 pub lines_join : {x y z : List ℕ} {t : Tree} {ss rest : List (Option Line)} → LinesLeave x t ss y → LinesLeave y (after_all t ss) rest z → LinesLeave x t (ss ++ rest) z
 lines_join {x = x} {z = z} {t = t} {ss = ss} {rest = rest} (no_line e f) k =
     let same : LinesLeave x (after_all t ss) rest z = subst (λ b. LinesLeave b (after_all t ss) rest z) f k in
@@ -93,7 +93,7 @@ answer_by_set t path l s r e h = ap (answer_to t) e ∙ ap spelled_answer (sym h
 pub counted_by_set : (t : Tree) (path : List Step) (l : Leaf) (s : Option Line) (r : Answer) → s ≡ Some (set path l) → r ≡ answer t (set path l) → one_if_done r ≡ one_if_done (reply t s)
 counted_by_set t path l s r e h = ap one_if_done h ∙ ap (λ q. one_if_done (reply t q)) (sym e)
 
--- bytes that say nothing, and questions, leave everything
+-- bytes that are no line, and questions, change no bytes
 pub edited_by_none : (x : List ℕ) → Edited x x (None ∷ [])
 edited_by_none x = record { bytes = λ t a. more_lines refl a refl (no_line refl refl); document = λ t a. a; image = λ t i. i }
 

@@ -1,4 +1,4 @@
--- What was given of an input, and the lines in it.
+-- The bytes that were given of an input, and the lines in them.
 use Rattle.std.proofs.Common.{◌≡◌, ℕ, ◌+◌, ◌-◌, ◌<◌, ◌≤◌, ◌==◌, suc, zero, Bool, true, false, cond, List, [], ◌∷◌, ◌++◌, length, take, drop, refl, sym, ap, ◌∙◌, append_assoc, append-nil, length-append, length-drop, arith, eqb-true, Some, None, not, ltb, ltb-false, get_or}
 use Rattle.std.proofs.lemmas.List.{take-append-drop, take_all, drop_more}
 use Rattle.std.proofs.lemmas.List.Quantifiers.{position-Some}
@@ -92,7 +92,7 @@ left_at_other b c g r e =
     let n : newlines (c ∷ g) ≡ newlines g = omega (arith, newlines-cons c g) in
     ap (λ m. drop m (lines_of (b ++ (c ∷ g ++ r)))) n ∙ ap (λ l. drop (newlines g) (lines_of l)) (sym (append_assoc b (c ∷ []) (g ++ r)))
 
--- after the lines that end in what was given stand the line begun and what is left
+-- after the lines that end in the bytes given come the line begun and the bytes left
 lines_left : (b g r : List ℕ) → newlines b ≡ 0 → drop (newlines g) (lines_of (b ++ (g ++ r))) ≡ lines_of (line_begun b g ++ r)
 lines_left b [] r h = refl
 lines_left b (c ∷ g) r h =
@@ -146,7 +146,7 @@ no_position i m l e =
 pub no_newline : (bytes : List ℕ) → position (λ b. b == 10) bytes ≡ None → newlines bytes ≡ 0
 no_newline bytes e = all_other bytes (no_position _ _ (prefix_len-le-length (λ b. not (b == 10)) bytes) e)
 
--- what stands after it, as a slice of the piece
+-- the bytes after it, as a slice of the piece
 abbrev pub behind : ℕ → List ℕ → List ℕ
 behind end bytes = take (length bytes - (end + 1)) (drop (end + 1) bytes)
 

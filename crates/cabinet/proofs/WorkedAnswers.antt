@@ -1,10 +1,10 @@
--- What a session in the image of a document comes to.
+-- The result of a session in the image of a document.
 use Rattle.std.proofs.Common.{◌≡◌, ◌≤◌, ◌++◌, ℕ, List, length, take, drop, Ok, Err, refl, subst, sym, ap, ◌∙◌, append-nil, arith}
 use Rattle.std.specs.Prelude.{Bool, Result, IfOk, IfErr, IsOk}
 use Rattle.std.proofs.lemmas.List.{take_all, drop_all}
 use Rattle.cabinet_text_grammar.specs.Tree.{Tree}
-use Rattle.cabinet_documents.specs.Accepted.{Accepted}
-use Rattle.cabinet_documents.specs.Image.{Image}
+use Rattle.cabinet_archived.specs.Documents.Accepted.{Accepted}
+use Rattle.cabinet_archived.specs.Documents.Image.{Image}
 use Rattle.cabinet.specs.Steps.{Carried, CarriedCut, Completed, Faulted, read_failed, write_failed, memory_refused, line_too_long, input_too_long}
 use Rattle.cabinet.specs.Headline.{AnswersAsDocument, AnswersCut, AnswersUpTo, IsMet, WorksInPlace}
 use Rattle.cabinet.specs.declared.session.Count.{Count}

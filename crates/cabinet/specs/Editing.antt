@@ -1,16 +1,16 @@
--- What edits do to bytes.
+-- The bytes that edits leave.
 use Rattle.std.specs.Prelude.{◌≡◌, ℕ, List, [], ◌∷◌, length, Option, Some, None}
-use Rattle.archive_shape_layout.specs.Value.{Value}
+use Rattle.archive_shape.specs.ShapeLayout.Value.{Value}
 use Rattle.cabinet_text_grammar.specs.Tree.{Tree}
 use Rattle.cabinet_text_grammar.specs.Line.{Line, get, keys, range, set}
 use Rattle.cabinet_text_grammar.specs.Answering.{reply}
-use Rattle.cabinet_documents.specs.Accepted.{Accepted}
-use Rattle.cabinet_documents.specs.Image.{Image}
-use Rattle.cabinet_setting.specs.Setting.{EditLeaves}
+use Rattle.cabinet_archived.specs.Documents.Accepted.{Accepted}
+use Rattle.cabinet_archived.specs.Documents.Image.{Image}
+use Rattle.cabinet_archives.specs.Setting.{EditLeaves}
 use Rattle.cabinet.specs.Session.{AllSay, next, after_all, edits}
 
--- what a line leaves of the bytes that the document is archived in, its root's value given: an edit writes the own bytes
--- of its leaf where it is done, and no other line writes anything
+-- the bytes that a line leaves of the archive of a document whose root has the value `root`: an edit that is done
+-- writes the own bytes of its leaf, and no other line writes anything
 abbrev pub LineLeaves : List ℕ → Value → Tree → Option Line → List ℕ → Type 0
 LineLeaves bytes root t None left = left ≡ bytes
 LineLeaves bytes root t (Some (get path)) left = left ≡ bytes
@@ -18,7 +18,7 @@ LineLeaves bytes root t (Some (keys path)) left = left ≡ bytes
 LineLeaves bytes root t (Some (range low high path)) left = left ≡ bytes
 LineLeaves bytes root t (Some (set path l)) left = EditLeaves bytes root path l (reply t (Some (set path l))) left
 
--- what lines leave, one after the other
+-- the bytes that lines leave, one line after the other
 pub data LinesLeave : List ℕ → Tree → List (Option Line) → List ℕ → Type 0 where
   no_line : {bytes left : List ℕ} {t : Tree} {said : List (Option Line)} → said ≡ [] → left ≡ bytes → LinesLeave bytes t said left
   more_lines :
@@ -29,13 +29,13 @@ pub data LinesLeave : List ℕ → Tree → List (Option Line) → List ℕ → 
       → LinesLeave mid (next t line) rest left
       → LinesLeave bytes t said left
 
--- the bytes x become y by lines: those edits are written, an archive stays one, and an image stays one
+-- lines change the bytes x to y: their edits are written, an archive stays an archive, and an image stays an image
 pub record Edited (x y : List ℕ) (said : List (Option Line)) : Type 0 where
   pub bytes : (t : Tree) → Accepted x t → LinesLeave x t said y
   pub document : (t : Tree) → Accepted x t → Accepted y (after_all t said)
   pub image : (t : Tree) → Image t x → Image (after_all t said) y
 
--- Some lines were carried out: there were this many, the bytes x became y by them, and this many edits were done.
+-- `lines` lines were carried out, which changed the bytes x to y, and `edited` edits were done.
 pub record EditedByLines (x y : List ℕ) (lines edited : ℕ) : Type 0 where
   pub texts : List (List ℕ)
   pub said : List (Option Line)

@@ -2,12 +2,12 @@
 use Rattle.std.specs.Prelude.{◌≡◌, ℕ, List, take, drop, Option}
 use Rattle.cabinet_text_grammar.specs.Tree.{Tree}
 use Rattle.cabinet_text_grammar.specs.Line.{Line}
-use Rattle.cabinet_documents.specs.Accepted.{Accepted}
-use Rattle.cabinet_documents.specs.Image.{Image}
+use Rattle.cabinet_archived.specs.Documents.Accepted.{Accepted}
+use Rattle.cabinet_archived.specs.Documents.Image.{Image}
 use Rattle.cabinet.specs.Session.{AllSay, after_all}
 use Rattle.cabinet.specs.Editing.{LinesLeave, EditedByLines}
 
--- the first lines leave these bytes, and the others go on from there
+-- the first `lines` lines leave the bytes `mid`, and the others continue from there
 pub record IsAfter (x y : List ℕ) (t : Tree) (said : List (Option Line)) (lines : ℕ) (mid : List ℕ) : Type 0 where
   pub before : LinesLeave x t (take lines said) mid
   pub later : LinesLeave mid (after_all t (take lines said)) (drop lines said) y
@@ -21,7 +21,7 @@ AcceptedAfterEachLine =
     → LinesLeave x t said y
     → (mid : List ℕ) × IsAfter x y t said lines mid × Accepted mid (after_all t (take lines said))
 
--- and where they were the image of the document, its image
+-- after each line the bytes of an image are the image of the document after it
 abbrev pub ImageAfterEachLine : Type 0
 ImageAfterEachLine =
     (t : Tree) (x y : List ℕ) (texts : List (List ℕ)) (said : List (Option Line)) (lines : ℕ)
@@ -30,6 +30,6 @@ ImageAfterEachLine =
     → LinesLeave x t said y
     → (mid : List ℕ) × IsAfter x y t said lines mid × Image (after_all t (take lines said)) mid
 
--- where no edit was done the bytes of an archive are as they were
+-- the bytes of an archive in which no edit was done are unchanged
 abbrev pub UneditedBytesStay : Type 0
 UneditedBytesStay = (x y : List ℕ) (t : Tree) (lines : ℕ) → Accepted x t → EditedByLines x y lines 0 → y ≡ x

@@ -1,8 +1,12 @@
-pub mod Session
 pub mod Editing
-pub mod Steps
-pub mod Reporting
 pub mod Failures
-pub mod Progress
 pub mod Headline
 pub mod Laws
+pub mod Progress
+pub mod RefusalsLaws
+pub mod Reporting
+pub mod Session
+pub mod Steps
+pub use Rattle.cabinet_archives.specs as Archives
+pub use Rattle.cabinet_archived.specs.Documents as Documents
+pub use Rattle.cabinet_text_grammar.specs as TextGrammar

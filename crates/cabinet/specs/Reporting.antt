@@ -3,16 +3,16 @@ use Rattle.std.specs.Prelude.{ℕ, List, ◌++◌, codes, string_bytes}
 use Rattle.std.specs.Fmt.{decimal}
 use Rattle.cabinet_text_grammar.specs.declared.cause.Cause.{Cause}
 use Rattle.cabinet_text_grammar.specs.declared.cause.Cause.TheVariants as cause
-use Rattle.cabinet_opening.specs.declared.opening.OpenRefusal.{OpenRefusal}
-use Rattle.cabinet_opening.specs.declared.opening.OpenRefusal.TheVariants as open_refusal
-use Rattle.cabinet_saving.specs.declared.saving.SaveRefusal.{SaveRefusal}
-use Rattle.cabinet_saving.specs.declared.saving.SaveRefusal.TheVariants as save_refusal
+use Rattle.cabinet_archives.specs.declared.opening.opening.OpenRefusal.{OpenRefusal}
+use Rattle.cabinet_archives.specs.declared.opening.opening.OpenRefusal.TheVariants as open_refusal
+use Rattle.cabinet_archives.specs.declared.saving.saving.SaveRefusal.{SaveRefusal}
+use Rattle.cabinet_archives.specs.declared.saving.saving.SaveRefusal.TheVariants as save_refusal
 use Rattle.cabinet.specs.declared.session.RunCause.{RunCause}
 use Rattle.cabinet.specs.declared.session.RunCause.TheVariants as run_cause
 use Rattle.cabinet.specs.declared.fault.Fault.{Fault}
 use Rattle.cabinet.specs.declared.fault.Fault.TheVariants.{Usage, CannotRead, CannotWrite, Text, Save, Open, Run}
 
--- each refusal is called by its own name
+-- each refusal is written by its name
 abbrev pub cause_name : Cause → List ℕ
 cause_name cause.NotUtf8 = codes "NotUtf8"
 cause_name cause.NoNewline = codes "NoNewline"
@@ -54,7 +54,7 @@ spelled_fault (Save r) = codes "cab: save: " ++ (save_refusal_name r ++ codes "\
 spelled_fault (Open r) = codes "cab: open: " ++ (open_refusal_name r ++ codes "\n")
 spelled_fault (Run f) = codes "cab: run: " ++ (run_cause_name f.cause ++ (codes " after " ++ (decimal f.lines ++ codes " lines\n")))
 
--- 2 where the words are wrong, 1 where something was refused or failed
+-- 2 if the words are no command, 1 if something was refused or failed
 abbrev pub status_of : Fault → ℕ
 status_of Usage = 2
 status_of (CannotRead path) = 1

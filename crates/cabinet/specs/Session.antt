@@ -13,14 +13,14 @@ abbrev pub lines_of : List ℕ → List (List ℕ)
 lines_of [] = []
 lines_of (b ∷ bs) = if b == 10 then [] ∷ lines_of bs else onto_first b (lines_of bs)
 
--- what each of some lines says
+-- what each of a list of lines says
 abbrev pub AllSay : List (List ℕ) → List (Option Line) → Type 0
 AllSay [] [] = Unit {0}
 AllSay (bytes ∷ rest) (line ∷ lines) = Says bytes line × AllSay rest lines
 AllSay [] (line ∷ lines) = ⊥
 AllSay (bytes ∷ rest) [] = ⊥
 
--- the bytes that answer what a line says, and the document after it
+-- the bytes of the answer to what a line says, and the document after the line
 abbrev pub answer_to : Tree → Option Line → List ℕ
 answer_to t line = spelled_answer (reply t line)
 
@@ -36,12 +36,12 @@ abbrev pub after_all : Tree → List (Option Line) → Tree
 after_all t [] = t
 after_all t (line ∷ lines) = after_all (next t line) lines
 
--- an edit that is done is answered so, and nothing else is
+-- only an edit that is done has the answer `done`
 abbrev pub one_if_done : Answer → ℕ
 one_if_done done = 1
 one_if_done _ = 0
 
--- how many edits are done
+-- the number of edits that are done
 abbrev pub edits : Tree → List (Option Line) → ℕ
 edits t [] = 0
 edits t (line ∷ lines) = one_if_done (reply t line) + edits (next t line) lines

@@ -4,19 +4,20 @@ use Rattle.archive_shape_writing.specs.Writing.{Cut}
 use Rattle.cabinet_text_grammar.specs.Tree.{Tree}
 use Rattle.cabinet_text_grammar.specs.Line.{Line}
 use Rattle.cabinet.specs.Session.{lines_of, AllSay, answer_to, answers, after_all, edits}
-use Rattle.cabinet_documents.specs.Accepted.{Accepted}
+use Rattle.cabinet_archived.specs.Documents.Accepted.{Accepted}
 use Rattle.cabinet.specs.Editing.{Edited}
 use Rattle.cabinet.specs.declared.session.RunCause.{RunCause}
 use Rattle.cabinet.specs.declared.session.RunCause.TheVariants.{Read, Write, OutOfMemory, LineTooLong, InputTooLong}
 
--- the most bytes of a line and of an input
+-- the maximum number of bytes of a line and of an input
 abbrev pub longest_line : ℕ
 longest_line = 1048576
 
 abbrev pub longest_input : ℕ
 longest_input = 4294967295
 
--- The first lines of the input were carried out, and no other: their edits are done, and their answers written.
+-- The first `lines` lines of the input were carried out, and no others: their edits are done, and their answers
+-- written.
 pub record Carried (input x y old new : List ℕ) (lines edited : ℕ) : Type 0 where
   pub said : List (Option Line)
   pub say : AllSay (take lines (lines_of input)) said
@@ -26,7 +27,7 @@ pub record Carried (input x y old new : List ℕ) (lines edited : ℕ) : Type 0 
   pub answered : (t : Tree) → Accepted x t → new ≡ old ++ answers t said
   pub edits_counted : (t : Tree) → Accepted x t → edited ≡ edits t said
 
--- They were, but of the answer to the last of them only a prefix was written, which is not all of it where the writer
+-- The same, except that only a prefix of the answer to the last line was written, which is not all of it if the writer
 -- counts no failures.
 pub record CarriedCut (counts : Bool) (input x y old new : List ℕ) (lines edited : ℕ) : Type 0 where
   pub before : List (Option Line)
@@ -45,7 +46,7 @@ pub record CarriedCut (counts : Bool) (input x y old new : List ℕ) (lines edit
 abbrev pub newlines : List ℕ → ℕ
 newlines bytes = count_by (λ b. b == 10) bytes
 
--- what stands after the last newline
+-- the bytes after the last newline
 abbrev pub line_begun : List ℕ → List ℕ → List ℕ
 line_begun begun [] = begun
 line_begun begun (b ∷ bs) = if b == 10 then line_begun [] bs else line_begun (begun ++ b ∷ []) bs
@@ -53,17 +54,18 @@ line_begun begun (b ∷ bs) = if b == 10 then line_begun [] bs else line_begun (
 abbrev pub begun_in : List ℕ → List ℕ
 begun_in bytes = line_begun [] bytes
 
--- A line is left that was not carried out: memory for it was refused.
+-- A line is left that was not carried out: an allocation for it failed.
 abbrev pub IsMemoryRefused : List ℕ → ℕ → Type 0
 IsMemoryRefused input lines = lines < length (lines_of input)
 
--- Each whole line of what the source gave was carried out.
+-- Each whole line of the bytes that the source gave was carried out.
 pub record IsReadFault (input left : List ℕ) (lines : ℕ) : Type 0 where
   pub given : List ℕ
   pub input_is : input ≡ given ++ left
   pub lines_are : lines ≡ newlines given
 
--- A line has more bytes than a line may have, and the first byte too many is not after the first too many of the input.
+-- A line exceeds the limit of a line, and the first byte past that limit is not after the first byte past the limit of
+-- the input.
 pub record IsLineTooLong (input : List ℕ) (lines : ℕ) : Type 0 where
   pub given : List ℕ
   pub rest : List ℕ
@@ -72,14 +74,14 @@ pub record IsLineTooLong (input : List ℕ) (lines : ℕ) : Type 0 where
   pub long : longest_line < length (begun_in given)
   pub lines_are : lines ≡ newlines given
 
--- The input has more bytes than it may have, the line that the first of them is in has not, and each line that ends
--- before it was carried out.
+-- The input exceeds its limit, the line of the first byte past the limit does not exceed the limit of a line up to that
+-- byte, and each line that ends before that byte was carried out.
 pub record IsInputTooLong (input : List ℕ) (lines : ℕ) : Type 0 where
   pub long : longest_input < length input
   pub no_long_line : length (begun_in (take (longest_input + 1) input)) ≤ longest_line
   pub lines_are : lines ≡ newlines (take longest_input input)
 
--- What a fault leaves.
+-- The state after a fault, by its cause.
 pub data Faulted (counts : Bool) (input left x y old new : List ℕ) (lines edited : ℕ) (cause : RunCause) : Type 0 where
   read_failed :
       cause ≡ Read

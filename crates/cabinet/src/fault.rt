@@ -1,33 +1,36 @@
-//! The faults of the program, and the lines about them.
+//! The faults of the program, and the lines that report them.
 ghost use Rattle.std.specs.Prelude.{◌≡◌, ◌-◌, ◌^◌, ◌<◌};
 ghost use Rattle.archive_shape_writing.specs.Writing.{Writes};
 ghost use Rattle.cabinet.specs.Reporting.{cause_name, save_refusal_name, open_refusal_name, run_cause_name, spelled_fault, status_of};
 
 use crate::session::{RunCause, RunFault};
 use archive_shape_writing::{Error, Writer, write_all_pieces, write_three_pieces};
-use cabinet_opening::OpenRefusal;
-use cabinet_saving::SaveRefusal;
+use cabinet_archives::{OpenRefusal, SaveRefusal};
 use cabinet_text_bytes::Decimal;
 use cabinet_text_grammar::Cause;
 use cabinet_text_reading::TextRefusal;
 
-/// A fault of the program.
+/// A fault that ends the program, with an exit status and a line that reports it.
 #[derive(Debug, Drop)]
 pub enum Fault {
-    /// The words are not those of a command.
+    /// The words after the program's name are not those of a command.
     Usage,
-    /// A file of this path was not read.
+    /// The file at this path was not read.
     CannotRead(String),
-    /// A file of this path was not written; `-` is the standard output.
+    /// The file at this path was not written; `-` is the standard output.
     CannotWrite(String),
+    /// A text was not read as a document.
     Text(TextRefusal),
+    /// A document was not saved.
     Save(SaveRefusal),
+    /// Bytes were not opened as an archive.
     Open(OpenRefusal),
+    /// A run ended before the end of its input.
     Run(RunFault),
 }
 
 impl Fault {
-    /// The exit status of a program that ends by the fault.
+    /// Returns the exit status of a program that ends with the fault.
     pub fn status(&self) -> u8
         ensures { result ≡ status_of self.now }
     {
@@ -90,7 +93,7 @@ fn name_of_run_cause(cause: RunCause) -> &'static [u8]
     }
 }
 
-/// Writes the line about a fault. It takes no memory.
+/// Writes the line that reports a fault. Does not allocate.
 pub fn fault_line<W: Writer>(fault: &Fault, writer: &mut W) -> Result<(), Error>
     requires { W.failures writer.old < 2 ^ 64 - 1 }
     ensures { Writes W.Writer writer.old writer.new (spelled_fault fault.now) result }

@@ -1,28 +1,28 @@
-//! Bytes are opened as the archive of a document, asked and edited.
+//! Bytes that are opened as the archive of a document, for questions and edits.
 ghost use Rattle.std.specs.Prelude.{◌≡◌, ◌-◌, ◌^◌, ◌<◌, length, IfOk, IfErr, OnOk};
-ghost use Rattle.archive_shape_layout.specs.Holds.{root_position as position_of_root};
+ghost use Rattle.archive_shape.specs.ShapeLayout.Holds.{root_position as position_of_root};
 ghost use Rattle.archive_shape_writing.specs.Writing.{Writes};
-ghost use Rattle.archive_forms_reading.specs.Parts.{HasValue};
+ghost use Rattle.archive_core_validation.specs.FormsValues.Parts.{HasValue};
 ghost use Rattle.cabinet_text_grammar.specs.Tree.{Tree};
 ghost use Rattle.cabinet_text_grammar.specs.Line as line;
 ghost use Rattle.cabinet_text_grammar.specs.Answering.{answer, change, spelled_answer};
-ghost use Rattle.cabinet_documents.specs.Node.{node_shape, KnowsNode};
-ghost use Rattle.cabinet_documents.specs.Accepted.{Accepted};
-ghost use Rattle.cabinet_documents.specs.Audit.{IsRefusedFor};
-ghost use Rattle.cabinet_documents.specs.Image.{Image};
+ghost use Rattle.cabinet_archived.specs.Documents.Node.{node_shape, KnowsNode};
+ghost use Rattle.cabinet_archived.specs.Documents.Accepted.{Accepted};
+ghost use Rattle.cabinet_archived.specs.Documents.Audit.{IsRefusedFor};
+ghost use Rattle.cabinet_archived.specs.Documents.Image.{Image};
 ghost use Rattle.cabinet_text_nodes.specs.Answers.{Tells};
 ghost use Rattle.cabinet_text_nodes.specs.Lines.{IsQuestion};
 ghost use Rattle.cabinet_text_nodes.specs.Outcomes.{outcome_of};
 ghost use Rattle.cabinet_text_nodes.specs.View.{leaf_of, line_of, path_of};
-ghost use Rattle.cabinet_opening.specs.Refused.{refusal_of};
-ghost use Rattle.cabinet_asking.specs.Failing.{FailsByWriter};
-ghost use Rattle.cabinet_setting.specs.Setting.{EditLeaves};
+ghost use Rattle.cabinet_archives.specs.Refused.{refusal_of};
+ghost use Rattle.cabinet_archives.specs.Failing.{FailsByWriter};
+ghost use Rattle.cabinet_archives.specs.Setting.{EditLeaves};
 
-use archive_core_access::root_position;
+use archive_core_validation::root_position;
 use archive_shape::Ref;
 use archive_shape_writing::{Error, Writer};
 use cabinet_archived::ArchivedNode;
-use cabinet_opening::{OpenRefusal, check};
+use cabinet_archives::{OpenRefusal, check};
 use cabinet_text_nodes::{Asked, Leaf, Line, SetAnswer, Step};
 use std::alloc::Global;
 
@@ -33,8 +33,8 @@ pub struct Opened<'a> {
     ghost accepted: { ∥ ((t : Tree) × Accepted bytes.now t) ∥₁ },
 }
 
-/// Opens bytes that are the archive of a document, and no others. Refused bytes stay as they were: that is proved of
-/// `check`, which this calls, and tested of `open`, since no clause tells a caller what a lent slice holds after an `Err`.
+/// Opens bytes that are the archive of a document, and no others. Refused bytes are unchanged: that is proved of
+/// `check`, which this calls, and tested of `open`, since no clause can state what a lent slice holds after an `Err`.
 pub fn open(alloc: Global, bytes: &mut [u8]) -> Result<Opened<'_>, OpenRefusal>
     ensures same { IfOk result (λ o. o.bytes.ghost_name ≡ bytes.entry.ghost_name) }
     ensures contents { IfOk result (λ o. o.bytes.now ≡ bytes.old) }
@@ -57,14 +57,14 @@ impl<'a> Opened<'a> {
         Opened { bytes }
     }
 
-    /// The bytes as they are now.
+    /// Returns the bytes as they are now.
     pub fn bytes(&self) -> &[u8]
         ensures { result.now ≡ self.now.bytes.now }
     {
         self.bytes
     }
 
-    /// The node that the document begins at.
+    /// Returns the node at the root of the document.
     fn root(&self) -> Ref<'_, ArchivedNode>
         ensures bytes { result.bytes.now ≡ self.now.bytes.now }
         ensures position { result.pos ≡ position_of_root (length self.now.bytes.now) node_shape }
@@ -73,7 +73,7 @@ impl<'a> Opened<'a> {
         Ref::new(self.bytes, root_position::<ArchivedNode>(self.bytes.len()))
     }
 
-    /// Writes the line that answers a question. It reads the nodes on the line's path alone, and takes no memory.
+    /// Writes the line that answers a question. Reads only the nodes on the line's path, and does not allocate.
     pub fn ask<W: Writer>(&self, line: &Line, writer: &mut W) -> Result<Asked, Error>
         requires question { IsQuestion (line_of line.now) }
         requires room { W.failures writer.old < 2 ^ 64 - 1 }
@@ -81,11 +81,11 @@ impl<'a> Opened<'a> {
         ensures asked { IfOk result (λ asked. (t : Tree) → Accepted self.now.bytes.now t → Tells asked (answer t (line_of line.now))) }
         ensures counted { FailsByWriter W.Writer writer.old writer.new result }
     {
-        cabinet_asking::ask(self.root(), line, writer)
+        cabinet_archives::ask(self.root(), line, writer)
     }
 
-    /// Puts a leaf at a path, if one of its kind stands there, and a text of as many bytes where it is a text. It reads the
-    /// nodes on the path alone, and takes no memory.
+    /// Writes a leaf at a path, if the node there is a leaf of the same kind and, for a text, of the same length. Reads
+    /// only the nodes on the path, and does not allocate.
     pub fn set(&mut self, path: &[Step], leaf: &Leaf) -> SetAnswer
         ensures same { self.new.bytes.ghost_name ≡ self.old.bytes.ghost_name }
         ensures answer { (t : Tree) → Accepted self.old.bytes.now t → outcome_of result ≡ answer t (line.set (path_of path.now) (leaf_of leaf.now)) }
@@ -94,6 +94,6 @@ impl<'a> Opened<'a> {
         ensures document { (t : Tree) → Accepted self.old.bytes.now t → Accepted self.new.bytes.now (change t (path_of path.now) (leaf_of leaf.now)) }
         ensures image { (t : Tree) → Image t self.old.bytes.now → Image (change t (path_of path.now) (leaf_of leaf.now)) self.new.bytes.now }
     {
-        cabinet_setting::set(self.bytes, path, leaf)
+        cabinet_archives::set(self.bytes, path, leaf)
     }
 }

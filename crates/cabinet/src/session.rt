@@ -15,34 +15,34 @@ use carrying::{end_input, take_piece};
 use std::alloc::Global;
 use thiserror::Error;
 
-/// How many lines were carried out, and how many of them were edits that were done.
+/// The number of lines that were carried out, and the number of edits among them that were done.
 #[derive(Clone, Copy, Debug, PartialEq, Eq)]
 pub struct Count {
     pub lines: u64,
     pub edits: u64,
 }
 
-/// Why a run ended before its input.
+/// Why a run ended before the end of its input.
 #[derive(Clone, Copy, Debug, PartialEq, Eq, Error)]
 pub enum RunCause {
     /// The source failed.
     #[error("the source failed")]
     Read,
-    /// The writer failed, or memory was refused to it.
+    /// The writer failed, or one of its allocations failed.
     #[error("the writer failed")]
     Write,
-    /// Memory was refused for a line.
+    /// An allocation for a line failed.
     #[error("out of memory")]
     OutOfMemory,
-    /// A line of more than 1,048,576 bytes.
+    /// A line has more than 1,048,576 bytes.
     #[error("a line is too long")]
     LineTooLong,
-    /// An input of more than 4,294,967,295 bytes.
+    /// The input has more than 4,294,967,295 bytes.
     #[error("the input is too long")]
     InputTooLong,
 }
 
-/// A fault, and what was carried out before it.
+/// The cause that ended a run, with the number of lines that were carried out and of edits that were done.
 #[derive(Clone, Copy, Debug, PartialEq, Eq, Error)]
 #[error("{cause} after {lines} lines, {edits} of them edits")]
 pub struct RunFault {
@@ -52,7 +52,7 @@ pub struct RunFault {
 }
 
 impl RunFault {
-    /// The fault of this cause after so much.
+    /// Returns the fault of a cause after the lines and edits of `count`.
     fn after(count: Count, cause: RunCause) -> RunFault
         ensures cause { result.cause ≡ cause }
         ensures lines { result.lines ≡ count.lines }
@@ -66,11 +66,11 @@ impl RunFault {
     }
 }
 
-/// The most bytes that are read at once.
+/// The maximum number of bytes that are read at once.
 const PIECE: usize = 16384;
 
-/// Carries out the lines of a source, and answers each. Memory is taken for a line that does not lie whole in what one
-/// read gives, and for the text of a line.
+/// Carries out the lines of a source, and writes the answer to each. Allocates for a line that does not lie whole in
+/// the bytes of one read, and for the path and the text of a line.
 pub fn run<R: Source, W: Writer>(
     alloc: Global,
     opened: &mut Opened<'_>,
@@ -80,7 +80,7 @@ pub fn run<R: Source, W: Writer>(
     requires reader_counts { R.failures reader.old < 2 ^ 64 - 1 }
     requires writer_counts { W.failures writer.old < 2 ^ 64 - 1 }
     ensures same { opened.new.bytes.ghost_name ≡ opened.old.bytes.ghost_name }
-    // Whatever reader and writer tell.
+    // Regardless of whether reader and writer are observable.
     ensures edits { MatchResult result (λ n. EditedByLines opened.old.bytes.now opened.new.bytes.now n.lines n.edits) (λ f. EditedByLines opened.old.bytes.now opened.new.bytes.now f.lines f.edits) }
     ensures all { IsTrue R.OBSERVABLE → IsTrue W.OBSERVABLE → IfOk result (λ n. Completed (R.left reader.old) opened.old.bytes.now opened.new.bytes.now (W.contents writer.old) (W.contents writer.new) n.lines n.edits) }
     ensures fault { IsTrue R.OBSERVABLE → IsTrue W.OBSERVABLE → IfErr result (λ f. Faulted W.COUNTS (R.left reader.old) (R.left reader.new) opened.old.bytes.now opened.new.bytes.now (W.contents writer.old) (W.contents writer.new) f.lines f.edits f.cause) }

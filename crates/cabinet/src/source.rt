@@ -1,25 +1,26 @@
-//! What the lines of a session are read from.
+//! The source that the lines of a session are read from.
 ghost use Rattle.std.specs.Prelude.{◌≡◌, ℕ, ◌+◌, ◌-◌, ◌^◌, ◌<◌, ◌≤◌, ◌++◌, List, Bool, [], length, take, IsTrue, IfOk, OnOk, OnErr};
 
 use thiserror::Error;
 
-/// The source gave no bytes; its count of failures is one more.
+/// The error of a failed read: the source gave no bytes, and its count of failures rose by one.
 #[derive(Debug, Drop, Error)]
 #[error("the source failed")]
 pub struct SourceFailed;
 
-/// What bytes are read from.
+/// A source that bytes are read from.
 pub trait Source {
-    /// Whether the source tells what it gives: `left` says nothing where it does not, as for a file.
+    /// Whether the bytes that the source gives are observable: if they are not, as for a file, `left` states nothing.
     ghost OBSERVABLE: { Bool };
 
     /// The bytes that have not been read yet.
     ghost left: { Self → List ℕ };
 
-    /// How many reads failed.
+    /// The number of reads that failed.
     ghost failures: { Self → ℕ };
 
-    /// Reads bytes into the front of the buffer, and says how many. 0 where the buffer has room for one is the end.
+    /// Reads bytes into the front of the buffer, and returns their number. 0 means the end of the source, unless the
+    /// buffer is empty.
     fn read(&mut self, buffer: &mut [u8]) -> Result<usize, SourceFailed>
         requires { failures self.old < 2 ^ 64 - 1 }
         ensures count { IfOk result (λ n. n ≤ length buffer.new) }

@@ -1,8 +1,8 @@
 //! Working in the bytes of a saved document.
 ghost use Rattle.std.specs.Prelude.{◌≡◌, ◌-◌, ◌^◌, ◌<◌, IsTrue, IfOk, IfErr, OnErr, MatchResult};
 ghost use Rattle.cabinet_text_grammar.specs.Tree.{Tree};
-ghost use Rattle.cabinet_documents.specs.Accepted.{Accepted};
-ghost use Rattle.cabinet_saving.specs.Saving.{HasNoImageFor};
+ghost use Rattle.cabinet_archived.specs.Documents.Accepted.{Accepted};
+ghost use Rattle.cabinet_archives.specs.Saving.{HasNoImageFor};
 ghost use Rattle.cabinet.specs.Editing.{EditedByLines};
 ghost use Rattle.cabinet.specs.Steps.{Completed, Faulted};
 ghost use Rattle.cabinet.specs.Headline.{WorksInPlace};
@@ -12,18 +12,19 @@ use crate::opened::Opened;
 use crate::session::{Count, RunFault, run};
 use crate::source::Source;
 use archive_shape_writing::Writer;
-use cabinet_saving::{SaveRefusal, to_bytes};
+use cabinet_archives::{SaveRefusal, to_bytes};
 use cabinet_text_nodes::Document;
 use std::alloc::Global;
 
-/// What working in a saved document left, and what came of it.
+/// The bytes of a saved document after work in them, and the outcome of the work.
 #[derive(Drop)]
 pub struct Worked {
     pub bytes: Vec<u8>,
     pub outcome: Result<Count, RunFault>,
 }
 
-/// Carries out the lines of a source in bytes that `check` accepts. Whatever fails, they stay an archive.
+/// Carries out the lines of a source in bytes that `check` accepts. The bytes stay an archive, regardless of any
+/// failure.
 pub fn run_in<R: Source, W: Writer>(
     alloc: Global,
     bytes: &mut [u8],
@@ -34,7 +35,7 @@ pub fn run_in<R: Source, W: Writer>(
     requires reader_counts { R.failures reader.old < 2 ^ 64 - 1 }
     requires writer_counts { W.failures writer.old < 2 ^ 64 - 1 }
     ensures kept { ∥ ((t : Tree) × Accepted bytes.new t) ∥₁ }
-    // Whatever reader and writer tell.
+    // Regardless of whether reader and writer are observable.
     ensures edits { MatchResult result (λ n. EditedByLines bytes.old bytes.new n.lines n.edits) (λ f. EditedByLines bytes.old bytes.new f.lines f.edits) }
     ensures all { IsTrue R.OBSERVABLE → IsTrue W.OBSERVABLE → IfOk result (λ n. Completed (R.left reader.old) bytes.old bytes.new (W.contents writer.old) (W.contents writer.new) n.lines n.edits) }
     ensures fault { IsTrue R.OBSERVABLE → IsTrue W.OBSERVABLE → IfErr result (λ f. Faulted W.COUNTS (R.left reader.old) (R.left reader.new) bytes.old bytes.new (W.contents writer.old) (W.contents writer.new) f.lines f.edits f.cause) }
@@ -45,8 +46,9 @@ pub fn run_in<R: Source, W: Writer>(
     run(alloc, &mut opened, reader, writer)
 }
 
-/// Saves a document, and carries out the lines of a source in what was saved, which is an archive: line for line the
-/// answers are those of the document, and the bytes are those that saving it, as edited so far, writes.
+/// Saves a document in memory, and carries out the lines of a source in the bytes that were saved, which are an
+/// archive. The answer to each line is that of the document, and the bytes are those that saving the document, as
+/// edited so far, writes.
 pub fn work<R: Source, W: Writer>(
     alloc: Global,
     document: &Document,

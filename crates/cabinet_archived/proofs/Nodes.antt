@@ -1,4 +1,4 @@
--- The node by its tag: what it is checked as, and what stands in it.
+-- The node by its tag: what it is checked as, and what lies in it.
 use Rattle.std.proofs.Common.{◌≡◌, ℕ, zero, suc, ◌+◌, ◌≤◌, ◌<◌, List, ◌∷◌, slice_index, Some, None, Err, Result, ◌⊎◌, inl, inr, refl, sym, subst, arith}
 use Rattle.archive_shape_layout.specs.Bytes.{align_up}
 use Rattle.archive_shape_layout.specs.Shape.{Shape, align_of, size_of}
@@ -11,20 +11,20 @@ use Rattle.archive_shape_layout.specs.Content.Part.{at}
 use Rattle.archive_shape_layout.specs.Holds.{Region, Visit, OpenShared, Holds, HoldAll}
 use Rattle.archive_shape_layout.specs.Holds.HoldAll.{holds_more}
 use Rattle.archive_shape_layout.proofs.Unique.{by_plain}
-use Rattle.archive_shape_checking.specs.PartFault.PartFault.{fault_plain}
-use Rattle.archive_shape_checking.specs.PartFault.PartsFault.{fault_here}
-use Rattle.archive_shape_checking.specs.Kept.{Kept}
-use Rattle.archive_shape_checking.specs.Checks.{Checks}
-use Rattle.archive_shape_checking.proofs.Inverted.{IsKnown, held_is_known}
+use Rattle.archive_shape.specs.PartFault.PartFault.{fault_plain}
+use Rattle.archive_shape.specs.PartFault.PartsFault.{fault_here}
+use Rattle.archive_shape.specs.Kept.{Kept}
+use Rattle.archive_shape.specs.Checks.{Checks}
+use Rattle.archive_shape.proofs.Inverted.{IsKnown, held_is_known}
 use Rattle.archive_shape_writing.specs.declared.error.Error.{Error}
 use Rattle.archive_shape_writing.specs.declared.error.Error.TheVariants.{InvalidTag}
 use Rattle.archive_shape.specs.Key.{HeldAt}
-use Rattle.archive_forms_layout.proofs.Sizes.{behind_tag}
-use Rattle.archive_forms_checking.proofs.Contents.{named_checked}
-use Rattle.archive_forms_checking.proofs.Tagged.{choice_checked, untagged_refused}
-use Rattle.archive_forms_reading.specs.Parts.{HasValue, HasPayload}
-use Rattle.archive_forms_reading.proofs.Named.{named_held}
-use Rattle.archive_forms_reading.proofs.Payloads.{choice_has, choice_at}
+use Rattle.archive_forms_values.proofs.FormsLaws.Sizes.{behind_tag}
+use Rattle.archive_forms_values.proofs.Contents.{named_checked}
+use Rattle.archive_forms_values.proofs.Tagged.{choice_checked, untagged_refused}
+use Rattle.archive_forms_values.specs.Parts.{HasValue, HasPayload}
+use Rattle.archive_forms_values.proofs.Named.{named_held}
+use Rattle.archive_forms_values.proofs.Payloads.{choice_has, choice_at}
 use Rattle.cabinet_documents.specs.Node.{node_shape, payloads, absent, KnowsNode}
 use Rattle.cabinet_archived.specs.Kind.{IsTagged}
 
@@ -124,7 +124,7 @@ module _ (bytes : List ℕ) (pos : ℕ) where
         absent_has_none p.held.names bytes (pos + align_of absent) p.held.holds
 
   module _ (there : HasValue node_shape KnowsNode bytes pos) where
-    -- where some value stands, what its tag names stands behind the tag
+    -- where a node has some value, the payload that its tag names lies after the tag
     pub tagged_at :
         (tag : ℕ) (s : Shape) (knows : Names → Type 0) (to : ℕ)
         → to ≡ pos + align_of s

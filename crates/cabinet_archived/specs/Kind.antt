@@ -1,4 +1,4 @@
--- Of which kind a node is, and where its payload stands.
+-- The kind of a node, and the position of its payload.
 use Rattle.std.specs.Prelude.{◌≡◌, ℕ, ◌+◌, true, false, List, ⊤}
 use Rattle.std.specs.Int.{w64}
 use Rattle.std.specs.Borrow.{Bor}
@@ -8,17 +8,17 @@ use Rattle.archive_shape_layout.specs.Shape.Pointee.{sized, str}
 use Rattle.archive_shape_layout.specs.Value.{Value}
 use Rattle.archive_shape_layout.specs.Content.{Names}
 use Rattle.archive_shape.specs.Key.{HeldAt}
-use Rattle.archive_forms_reading.specs.Parts.{HasValue, HasPayload}
+use Rattle.archive_forms_values.specs.Parts.{HasValue, HasPayload}
 use Rattle.cabinet_documents.specs.Node.{node_shape, KnowsNode}
 use Rattle.cabinet_archived.specs.declared.kind.ArchivedKind.{ArchivedKind}
 use Rattle.cabinet_archived.specs.declared.kind.ArchivedKind.TheVariants as kind
 
--- the node at a position has this tag, and its payload, of this shape, stands at another position
+-- the node at `pos` has the tag `tag`, and its payload, of the shape `s`, is at `to`
 pub record IsTagged (bytes : List ℕ) (pos tag : ℕ) (s : Shape) (knows : Names → Type 0) (to : ℕ) : Type 0 where
   pub there : HasValue s knows bytes to
   pub payload : (v : Value) → HeldAt node_shape KnowsNode bytes pos v → HasPayload tag s knows bytes to v
 
--- by the kind: the payload is read from the same bytes, where it stands
+-- by the kind: the reference is to the same bytes, at the payload's position
 abbrev pub IsKindAt : Bor (List ℕ) → ℕ → ArchivedKind → Type 0
 IsKindAt bytes pos (kind.Bool r) = (r.bytes ≡ bytes) × (r.pos ≡ pos + 1) × IsTagged bytes.now pos 0 truth (λ _. ⊤) r.pos
 IsKindAt bytes pos (kind.Int r) = (r.bytes ≡ bytes) × (r.pos ≡ pos + 8) × IsTagged bytes.now pos 1 (number w64 true) (λ _. ⊤) r.pos

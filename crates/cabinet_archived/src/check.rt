@@ -1,24 +1,25 @@
-//! The check of nodes, which may lead to others.
+//! The check of nodes, which may lead to other nodes.
 ghost use Rattle.std.specs.Prelude.{◌≡◌, ℕ, ◌+◌, ◌-◌, ◌^◌, ◌<◌, ◌≤◌, length};
 ghost use Rattle.archive_shape_layout.specs.Content.{Names};
 ghost use Rattle.archive_shape_layout.specs.Content.Part.{at};
 ghost use Rattle.archive_shape_layout.specs.Shape.Shape.{option, box, vector};
 ghost use Rattle.archive_shape_layout.specs.Shape.Pointee.{sized};
-ghost use Rattle.archive_shape_checking.specs.Kept.{IsWithin};
-ghost use Rattle.archive_shape_checking.specs.Checks.{Checks, Moves};
+ghost use Rattle.archive_shape.specs.Kept.{IsWithin};
+ghost use Rattle.archive_shape.specs.Checks.{Checks, Moves};
 ghost use Rattle.cabinet_documents.specs.Node.{node_shape, KnowsNode};
 
 use crate::ArchivedNode;
-use archive_forms_checking::{check_box_each, check_option_each, check_vec_each};
 use archive_forms_rc::{ArchivedRcStr, RcFlavor};
-use archive_forms_reading::ArchivedBox;
-use archive_forms_text::ArchivedString;
+use archive_forms_values::{
+    ArchivedBox, ArchivedString, check_box_each, check_option_each, check_vec_each,
+};
 use archive_shape::{ArchivedI64, CheckBytes, Error, SharedContext};
 use std::alloc::Global;
 
-/// Checks the node at `pos`. What it claims ends at `room` or before.
+/// Checks the node at `pos`. The regions that it claims end at `room` or before.
 ///
-/// Refuses the tag of a kind without a layout, and any above 8, with `InvalidTag`, and a payload with what its check refuses.
+/// Returns `InvalidTag` for the tag of a kind without a layout and for any tag above 8, and otherwise the error of the
+/// payload's check.
 #[cycle(node)]
 pub(crate) fn check_node<C: SharedContext>(
     alloc: Global,
@@ -46,7 +47,7 @@ pub(crate) fn check_node<C: SharedContext>(
     }
 }
 
-/// Checks the option of a box of a node at `pos`. What it claims ends at `room` or before.
+/// Checks the option of a box of a node at `pos`. The regions that it claims end at `room` or before.
 #[cycle(node)]
 fn check_maybe<C: SharedContext>(
     alloc: Global,
@@ -77,7 +78,7 @@ fn check_maybe<C: SharedContext>(
     )
 }
 
-/// Checks the box of a node at `pos`. What it claims ends at `room` or before.
+/// Checks the box of a node at `pos`. The regions that it claims end at `room` or before.
 #[cycle(node)]
 fn check_boxed<C: SharedContext>(
     alloc: Global,
@@ -108,7 +109,7 @@ fn check_boxed<C: SharedContext>(
     )
 }
 
-/// Checks the vector of nodes at `pos`. What it claims ends at `room` or before.
+/// Checks the vector of nodes at `pos`. The regions that it claims end at `room` or before.
 #[cycle(node)]
 fn check_list<C: SharedContext>(
     alloc: Global,

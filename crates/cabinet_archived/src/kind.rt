@@ -1,28 +1,33 @@
-//! Of which kind a node is, and its payload by reference.
+//! The kind of a node, and a reference to its payload.
 ghost use Rattle.std.specs.Prelude.{◌≡◌, ℕ, ◌+◌, ◌^◌, ◌<◌, ◌≤◌, length};
-ghost use Rattle.archive_forms_reading.specs.Parts.{HasValue};
+ghost use Rattle.archive_forms_values.specs.Parts.{HasValue};
 ghost use Rattle.cabinet_documents.specs.Node.{node_shape, KnowsNode};
 ghost use Rattle.cabinet_archived.specs.Kind.{IsKindAt};
 
 use crate::ArchivedNode;
 use archive_forms_rc::{ArchivedRcStr, RcFlavor};
-use archive_forms_reading::{ArchivedBox, ArchivedOption, ArchivedVec};
-use archive_forms_text::ArchivedString;
+use archive_forms_values::{ArchivedBox, ArchivedOption, ArchivedString, ArchivedVec};
 use archive_shape::{ArchivedI64, Ref};
 
-/// The payload of a node, by its kind.
+/// A reference to the payload of a node, by its kind.
 #[derive(Clone, Copy)]
 pub enum ArchivedKind<'a> {
+    /// A truth value: tag 0, at byte 1 of the node.
     Bool(Ref<'a, bool>),
+    /// A number: tag 1, at byte 8.
     Int(Ref<'a, ArchivedI64>),
+    /// A text: tag 2, at byte 4.
     Text(Ref<'a, ArchivedString>),
+    /// A shared text: tag 3, at byte 4.
     Shared(Ref<'a, ArchivedRcStr<RcFlavor>>),
+    /// An option: tag 4, at byte 4.
     Maybe(Ref<'a, ArchivedOption<ArchivedBox<ArchivedNode>>>),
+    /// A list: tag 5, at byte 4.
     List(Ref<'a, ArchivedVec<ArchivedNode>>),
 }
 
 impl ArchivedNode {
-    /// The payload, which is not read.
+    /// Returns the kind, with a reference to the payload. Reads only the tag.
     pub fn kind<'a>(this: Ref<'a, ArchivedNode>) -> ArchivedKind<'a>
         requires { HasValue node_shape KnowsNode this.bytes.now this.pos }
         ensures { IsKindAt this.entry.bytes this.entry.pos result }

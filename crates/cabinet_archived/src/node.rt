@@ -1,4 +1,4 @@
-//! Archived nodes.
+//! The type of archived nodes, with its shape and its check.
 ghost use Rattle.std.specs.Prelude.{◌≡◌, ℕ, ◌+◌, ◌≤◌, [], ◌∷◌, length, refl};
 ghost use Rattle.std.proofs.Common.{lit<, lit≤};
 ghost use Rattle.archive_shape_layout.specs.Shape.Shape.{choice};
@@ -8,8 +8,8 @@ use crate::check::check_node;
 use archive_shape::{Alignment, CheckBytes, Error, Portable, Shape, SharedContext};
 use std::alloc::{AllocError, Global};
 
-/// The archived form of a document's node: a tag of one byte, and by the tag a payload at the first multiple of its alignment
-/// behind it. Maps have no layout yet: their tags are refused.
+/// The archived form of a document's node: a tag of one byte, then the payload of the tag, at the first multiple of its
+/// alignment after the tag. Maps have no layout yet: their tags are refused.
 #[derive(Clone, Copy)]
 pub struct ArchivedNode {}
 

@@ -1,10 +1,10 @@
--- A leaf put in a node's value is that leaf put in the document.
+-- Putting a leaf in a node's value puts it in the document.
 use Rattle.std.proofs.Common.{◌≡◌, ℕ, ℤ, Bool, zero, suc, true, cond, List, [], ◌∷◌, ◌++◌, Option, Some, refl, sym, subst}
-use Rattle.archive_shape_layout.specs.Value.{Value, Values}
-use Rattle.archive_shape_layout.specs.Value.Value.{boolean, integer, string, group}
-use Rattle.archive_shape_layout.specs.Value.Values.{no_values, more_values}
-use Rattle.archive_shape_layout.specs.Path.{put_at, value_in}
-use Rattle.archive_shape_layout.specs.Path as layout
+use Rattle.archive_forms_values.specs.ShapeLayout.Value.{Value, Values}
+use Rattle.archive_forms_values.specs.ShapeLayout.Value.Value.{boolean, integer, string, group}
+use Rattle.archive_forms_values.specs.ShapeLayout.Value.Values.{no_values, more_values}
+use Rattle.archive_forms_values.specs.ShapeLayout.Path.{put_at, value_in}
+use Rattle.archive_forms_values.specs.ShapeLayout.Path as layout
 use Rattle.cabinet_text_grammar.specs.Tree.{Leaf, truth, number, text}
 use Rattle.cabinet_text_grammar.specs.Path.{Step, place, inside}
 use Rattle.cabinet_text_grammar.specs.Answering.{fits}
@@ -35,7 +35,7 @@ text_put (truth c) s h = absurd (cc)
 text_put (number n) s h = absurd (cc)
 text_put (text u) s h = fitting (text s) (text u) h (tagged_value 2 (string u)) (denotes_text {s = u} refl refl)
 
--- what a some's and a list's value stands for
+-- the document that the value of a some and of a list denotes
 pub record IsSome' (u : Value) (t : Tree) : Type 0 where
   pub inner : Tree
   pub is : t ≡ just inner

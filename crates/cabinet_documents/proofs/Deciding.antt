@@ -1,6 +1,6 @@
--- Bytes at whose root a node holds are accepted, or their containers lie too deep in one another.
+-- Bytes at whose root a node holds are accepted, or their containers are nested too deep.
 use Rattle.std.proofs.Common.{◌≡◌, ℕ, ◌+◌, ◌<◌, Bool, true, false, cond, nat_lt, List, [], ◌∷◌, ◌++◌, length, Some, refl, ap, ◌∙◌, arith, ltb-true}
-use Rattle.archive_shape_layout.specs.Holds.{root_position}
+use Rattle.archive_forms_values.specs.ShapeLayout.Holds.{root_position}
 use Rattle.cabinet_documents.specs.Node.{node_shape, node_names}
 use Rattle.cabinet_documents.specs.Walk.{Stop, is_container}
 use Rattle.cabinet_documents.specs.Audit.{too_deep, unless, first_of, deep_faults, map_faults, faults}
@@ -13,7 +13,7 @@ use Rattle.cabinet_documents.proofs.Peaks.{Each, NoMap, height_is, peak, peaked}
 use Rattle.cabinet_documents.proofs.Opening.{of_tree}
 use Rattle.cabinet_documents.proofs.Standing.{accepted_by}
 
--- where a walk goes too deep and comes to no map, its first fault is a container that lies too deep
+-- where a walk goes too deep and visits no map, its first fault is a container that is too deep
 first_deep : (bytes : List ℕ) (walk : List Stop) → Each NoMap walk → 64 < peak 0 walk → first_of (faults bytes walk) ≡ Some too_deep
 first_deep bytes [] h k = absurd (omega (arith, k))
 first_deep bytes (s ∷ rest) h k = by_case (is_container s.part) (nat_lt s.depth 64) refl refl (first_deep bytes rest h.1)

@@ -1,13 +1,13 @@
--- A leaf written over own bytes keeps an archive that of a document.
+-- Writing a leaf over own bytes keeps the bytes an archive of a document.
 use Rattle.std.proofs.Common.{◌≡◌, ℕ, List, [], ◌∷◌, ◌++◌, length, Option, Some, refl, sym, ap, subst, ◌∙◌}
-use Rattle.archive_shape_layout.specs.Value.{Value, Values}
-use Rattle.archive_shape_layout.specs.Value.Value.{group}
-use Rattle.archive_shape_layout.specs.Holds.{HasRoot, root_position}
-use Rattle.archive_shape_layout.specs.Path.{put_at, value_at, value_in, and_then}
-use Rattle.archive_shape_layout.proofs.Stood.{stands_value}
-use Rattle.archive_shape_references.specs.Bytes.{overwrite}
-use Rattle.archive_shape_references.specs.Sealing.{StandsInRoot}
-use Rattle.archive_shape_references.proofs.Written.{length-overwrite}
+use Rattle.archive_forms_values.specs.ShapeLayout.Value.{Value, Values}
+use Rattle.archive_forms_values.specs.ShapeLayout.Value.Value.{group}
+use Rattle.archive_forms_values.specs.ShapeLayout.Holds.{HasRoot, root_position}
+use Rattle.archive_forms_values.specs.ShapeLayout.Path.{put_at, value_at, value_in, and_then}
+use Rattle.archive_forms_values.proofs.ShapeLayout.Stood.{stands_value}
+use Rattle.archive_forms_values.specs.ArchiveShape.Bytes.{overwrite}
+use Rattle.archive_forms_values.specs.ArchiveShape.Sealing.{StandsInRoot}
+use Rattle.archive_forms_values.proofs.ArchiveShape.Written.{length-overwrite}
 use Rattle.cabinet_text_grammar.specs.Tree.{Leaf, Tree, leaf}
 use Rattle.cabinet_text_grammar.specs.Path.{Step, place, inside, node_at}
 use Rattle.cabinet_text_grammar.specs.Answering.{change}

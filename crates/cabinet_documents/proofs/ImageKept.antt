@@ -1,36 +1,36 @@
--- A leaf written over own bytes keeps the one archive of a document.
+-- Writing a leaf over own bytes keeps the one archive of a document.
 use Rattle.std.proofs.Common.{◌≡◌, ℕ, ◌+◌, ◌≤◌, ◌<◌, true, false, Bool, ◌⊎◌, inl, inr, ⊎_elim, List, [], ◌∷◌, ◌++◌, drop, length, slice_index, IsUtf8, refl, sym, ap, subst, ◌∙◌, arith, length-append, w64, get_or-drop}
 use Rattle.std.specs.Int.{to_le_bytes, cast_unsigned}
 use Rattle.std.proofs.lemmas.Bool.{cases_lt}
 use Rattle.std.proofs.lemmas.List.{length-take, drop_at, places}
-use Rattle.archive_shape_layout.specs.Bytes.{window}
-use Rattle.archive_shape_layout.specs.Shape.{Shape, size_of}
-use Rattle.archive_shape_layout.specs.Shape.Shape.{text as text_shape, truth as truth_shape, number as number_shape}
-use Rattle.archive_shape_layout.specs.Shape.Pointee.{str}
-use Rattle.archive_shape_layout.specs.Value.{Value}
-use Rattle.archive_shape_layout.specs.Value.Value.{string, boolean, integer}
-use Rattle.archive_shape_layout.specs.Content.{Names, Part, Label, content_of, choose, made, shape_content, text_content, before_ff, IsInline}
-use Rattle.archive_shape_layout.specs.Content.Part.{at, behind}
-use Rattle.archive_shape_layout.specs.Content.Label.{written, leaf as leaf_label}
-use Rattle.archive_shape_layout.specs.Content.Content.{plain}
-use Rattle.archive_shape_layout.specs.Holds.{Region, Visit, root_position}
-use Rattle.archive_shape_layout.specs.Path.{put_at}
-use Rattle.archive_shape_layout.proofs.Texts.{text_before, split_at_filler}
-use Rattle.archive_shape_layout.proofs.Utf8.{utf8_byte}
-use Rattle.archive_shape_canonical.specs.Clean.{IsFilled, field_size}
-use Rattle.archive_shape_canonical.specs.Settled.{Fit}
-use Rattle.archive_shape_canonical.specs.Canonical.{AreBytes, CanonicalArchive}
-use Rattle.archive_shape_canonical.specs.FirstFit.{first_fit}
-use Rattle.archive_shape_canonical.proofs.Cleanness.{clean_by}
-use Rattle.archive_shape_canonical.proofs.Editing.{canonical_edit_of_leaf_law, canonical_edit_of_text_law}
-use Rattle.archive_shape_canonical.proofs.Small.{small_none, small_more, small_append, small_word, behind_all}
-use Rattle.archive_shape_canonical.proofs.Windows.{window_bytes}
-use Rattle.archive_shape_references.specs.Bytes.{overwrite}
-use Rattle.archive_shape_references.specs.Sealing.{StandsInRoot}
-use Rattle.archive_shape_references.proofs.Pieces.{window_byte}
-use Rattle.archive_shape_references.proofs.Sealed.{held as held_at, inline_after}
-use Rattle.archive_shape_references.proofs.Written.{length-overwrite, overwrite_spares_law, window_from}
-use Rattle.archive_hash_layout.specs.Hash.{text_hash}
+use Rattle.archive_forms_values.specs.ShapeLayout.Bytes.{window}
+use Rattle.archive_forms_values.specs.ShapeLayout.Shape.{Shape, size_of}
+use Rattle.archive_forms_values.specs.ShapeLayout.Shape.Shape.{text as text_shape, truth as truth_shape, number as number_shape}
+use Rattle.archive_forms_values.specs.ShapeLayout.Shape.Pointee.{str}
+use Rattle.archive_forms_values.specs.ShapeLayout.Value.{Value}
+use Rattle.archive_forms_values.specs.ShapeLayout.Value.Value.{string, boolean, integer}
+use Rattle.archive_forms_values.specs.ShapeLayout.Content.{Names, Part, Label, content_of, choose, made, shape_content, text_content, before_ff, IsInline}
+use Rattle.archive_forms_values.specs.ShapeLayout.Content.Part.{at, behind}
+use Rattle.archive_forms_values.specs.ShapeLayout.Content.Label.{written, leaf as leaf_label}
+use Rattle.archive_forms_values.specs.ShapeLayout.Content.Content.{plain}
+use Rattle.archive_forms_values.specs.ShapeLayout.Holds.{Region, Visit, root_position}
+use Rattle.archive_forms_values.specs.ShapeLayout.Path.{put_at}
+use Rattle.archive_forms_values.proofs.ShapeLayout.Texts.{text_before, split_at_filler}
+use Rattle.archive_forms_values.proofs.ShapeLayout.Utf8.{utf8_byte}
+use Rattle.archive_forms_values.specs.ShapeCanonical.Clean.{IsFilled, field_size}
+use Rattle.archive_forms_values.specs.ShapeCanonical.Settled.{Fit}
+use Rattle.archive_forms_values.specs.ShapeCanonical.Canonical.{AreBytes, CanonicalArchive}
+use Rattle.archive_forms_values.specs.ShapeCanonical.FirstFit.{first_fit}
+use Rattle.archive_forms_values.proofs.ShapeCanonical.Cleanness.{clean_by}
+use Rattle.archive_forms_values.proofs.ShapeCanonical.Editing.{canonical_edit_of_leaf_law, canonical_edit_of_text_law}
+use Rattle.archive_forms_values.proofs.ShapeCanonical.Small.{small_none, small_more, small_append, small_word, behind_all}
+use Rattle.archive_forms_values.proofs.ShapeCanonical.Windows.{window_bytes}
+use Rattle.archive_forms_values.specs.ArchiveShape.Bytes.{overwrite}
+use Rattle.archive_forms_values.specs.ArchiveShape.Sealing.{StandsInRoot}
+use Rattle.archive_forms_values.proofs.ArchiveShape.Pieces.{window_byte}
+use Rattle.archive_forms_values.proofs.ArchiveShape.Sealed.{held as held_at, inline_after}
+use Rattle.archive_forms_values.proofs.ArchiveShape.Written.{length-overwrite, overwrite_spares_law, window_from}
+use Rattle.archive_forms_values.specs.ShapeCanonical.Hash.{text_hash}
 use Rattle.cabinet_text_grammar.specs.Tree.{Leaf, truth, number, text, IsLeaf}
 use Rattle.cabinet_text_grammar.specs.Answering.{fits, change}
 use Rattle.cabinet_text_grammar.proofs.Changes.{change_keeps_document}

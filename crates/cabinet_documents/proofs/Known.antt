@@ -1,9 +1,9 @@
--- What the value of a node that holds stands for.
+-- The document that the value of a node that holds denotes.
 use Rattle.std.proofs.Common.{◌≡◌, ℕ, zero, suc, List, ◌∷◌, Some, refl, sym, ap, subst, ◌∙◌, arith, ◌<◌, ◌⊎◌, inl, inr}
-use Rattle.archive_shape_layout.specs.Value.{Value, Values}
-use Rattle.archive_shape_layout.specs.Value.Value.{string, group, chosen, counted}
-use Rattle.archive_shape_layout.specs.Value.Values.{no_values, more_values}
-use Rattle.archive_shape_layout.specs.Path.{value_in}
+use Rattle.archive_forms_values.specs.ShapeLayout.Value.{Value, Values}
+use Rattle.archive_forms_values.specs.ShapeLayout.Value.Value.{string, group, chosen, counted}
+use Rattle.archive_forms_values.specs.ShapeLayout.Value.Values.{no_values, more_values}
+use Rattle.archive_forms_values.specs.ShapeLayout.Path.{value_in}
 use Rattle.cabinet_text_grammar.specs.Tree.{Leaf, truth, number, text, Tree, Trees, leaf, shared, nothing, just, list, no_trees}
 use Rattle.cabinet_text_grammar.specs.Path.{Step, key, node_at, node_in}
 use Rattle.cabinet_documents.specs.Denotes.{Denotes, DenoteAll, tagged_value}

@@ -1,17 +1,17 @@
--- The own bytes of each leaf stand.
+-- Each leaf of an accepted document has own bytes.
 use Rattle.std.proofs.Common.{◌≡◌, ℕ, zero, suc, List, [], ◌∷◌, ◌++◌, length, Some, refl, sym, ap, subst, ◌∙◌}
-use Rattle.archive_shape_layout.specs.Bytes.{window}
-use Rattle.archive_shape_layout.specs.Shape.Pointee.{sized, str}
-use Rattle.archive_shape_layout.specs.Value.{Value, Values}
-use Rattle.archive_shape_layout.specs.Value.Value.{group, string}
-use Rattle.archive_shape_layout.specs.Content.{Part}
-use Rattle.archive_shape_layout.specs.Content.Part.{behind}
-use Rattle.archive_shape_layout.specs.Holds.{Region, Visit, OpenShared, Holds, root_position}
-use Rattle.archive_shape_layout.specs.Edit.IsLeafIn.{out_of_line}
-use Rattle.archive_shape_layout.specs.Path.{Stands, value_in}
-use Rattle.archive_shape_layout.specs.Path.Stands.{stands_here}
-use Rattle.archive_shape_layout.proofs.Leaves.{leaf_within_law}
-use Rattle.archive_shape_references.proofs.Pieces.{length-window}
+use Rattle.archive_forms_values.specs.ShapeLayout.Bytes.{window}
+use Rattle.archive_forms_values.specs.ShapeLayout.Shape.Pointee.{sized, str}
+use Rattle.archive_forms_values.specs.ShapeLayout.Value.{Value, Values}
+use Rattle.archive_forms_values.specs.ShapeLayout.Value.Value.{group, string}
+use Rattle.archive_forms_values.specs.ShapeLayout.Content.{Part}
+use Rattle.archive_forms_values.specs.ShapeLayout.Content.Part.{behind}
+use Rattle.archive_forms_values.specs.ShapeLayout.Holds.{Region, Visit, OpenShared, Holds, root_position}
+use Rattle.archive_forms_values.specs.ShapeLayout.Edit.IsLeafIn.{out_of_line}
+use Rattle.archive_forms_values.specs.ShapeLayout.Path.{Stands, value_in}
+use Rattle.archive_forms_values.specs.ShapeLayout.Path.Stands.{stands_here}
+use Rattle.archive_forms_values.proofs.ShapeLayout.Leaves.{leaf_within_law}
+use Rattle.archive_forms_values.proofs.ArchiveShape.Pieces.{length-window}
 use Rattle.cabinet_text_grammar.specs.Tree.{Leaf, truth, number, text, Tree, leaf}
 use Rattle.cabinet_text_grammar.specs.Path.{Step, key, place, inside, node_at}
 use Rattle.cabinet_documents.specs.Node.{node_names, node_shape, own_bytes}
@@ -23,7 +23,7 @@ use Rattle.cabinet_documents.proofs.Nodes.{absent_law, NodeValue, none_seen, hel
 use Rattle.cabinet_documents.proofs.Steps.{node_cases, behind_below, some_cases, ElementCase, element_cases, TextCase, text_inline, text_out, text_cases}
 use Rattle.cabinet_documents.proofs.Known.{leaf_tag, Known, known_leaf, known_shared, known_none, known_some, known_list, known, known_element, by_key}
 
--- where the payload of a tag stands
+-- the position of the payload of a tag
 abbrev pub place_of : ℕ → Place
 place_of zero = truth_here
 place_of (suc zero) = number_here

@@ -1,27 +1,27 @@
--- What the value of a node is, where one holds; and that no shared position lies inside itself there.
+-- The value of a node, where one holds; and that no shared position lies inside itself there.
 use Rattle.std.proofs.Common.{◌≡◌, ℕ, ℤ, zero, suc, ◌++◌, ◌+◌, ◌^◌, ◌<◌, ◌==◌, cond, Bool, true, false, w64, FitsSigned, IsUtf8, List, [], ◌∷◌, Some, refl, sym, ap, subst, ◌∙◌, arith}
-use Rattle.archive_shape_layout.specs.Shape.Shape.{choice}
-use Rattle.archive_shape_layout.specs.Shape.Shapes.{no_shapes}
-use Rattle.archive_shape_layout.specs.Value.{Value, Values, count_values}
-use Rattle.archive_shape_layout.specs.Value.Value.{integer, boolean, string, group, chosen, counted}
-use Rattle.archive_shape_layout.specs.Value.Values.{no_values, more_values}
-use Rattle.archive_shape_layout.specs.Content.{Part, Label, Span, content_of, made, IsLegal, fields, shape_content}
-use Rattle.archive_shape_layout.specs.Content.Part.{at, behind}
-use Rattle.archive_shape_layout.specs.Content.Label.{leaf, written, same, whole, tagged}
-use Rattle.archive_shape_layout.specs.Content.Content.{illegal, plain, claimed, counting}
-use Rattle.archive_shape_layout.specs.Shape.{Pointee}
-use Rattle.archive_shape_layout.specs.Shape.Pointee.{str}
-use Rattle.archive_shape_layout.specs.Holds.{Region, region_of, Visit, OpenShared, visited, Holds, HoldAll}
-use Rattle.archive_shape_layout.specs.Holds.Holds.{holds_plain, holds_claimed, holds_first, holds_later, holds_back}
-use Rattle.archive_shape_layout.specs.Holds.HoldAll.{holds_none, holds_more}
-use Rattle.archive_shape_layout.proofs.Unique.{by_plain}
-use Rattle.archive_shape_canonical.specs.Canonical.{AreBytes}
+use Rattle.archive_forms_values.specs.ShapeLayout.Shape.Shape.{choice}
+use Rattle.archive_forms_values.specs.ShapeLayout.Shape.Shapes.{no_shapes}
+use Rattle.archive_forms_values.specs.ShapeLayout.Value.{Value, Values, count_values}
+use Rattle.archive_forms_values.specs.ShapeLayout.Value.Value.{integer, boolean, string, group, chosen, counted}
+use Rattle.archive_forms_values.specs.ShapeLayout.Value.Values.{no_values, more_values}
+use Rattle.archive_forms_values.specs.ShapeLayout.Content.{Part, Label, Span, content_of, made, IsLegal, fields, shape_content}
+use Rattle.archive_forms_values.specs.ShapeLayout.Content.Part.{at, behind}
+use Rattle.archive_forms_values.specs.ShapeLayout.Content.Label.{leaf, written, same, whole, tagged}
+use Rattle.archive_forms_values.specs.ShapeLayout.Content.Content.{illegal, plain, claimed, counting}
+use Rattle.archive_forms_values.specs.ShapeLayout.Shape.{Pointee}
+use Rattle.archive_forms_values.specs.ShapeLayout.Shape.Pointee.{str}
+use Rattle.archive_forms_values.specs.ShapeLayout.Holds.{Region, region_of, Visit, OpenShared, visited, Holds, HoldAll}
+use Rattle.archive_forms_values.specs.ShapeLayout.Holds.Holds.{holds_plain, holds_claimed, holds_first, holds_later, holds_back}
+use Rattle.archive_forms_values.specs.ShapeLayout.Holds.HoldAll.{holds_none, holds_more}
+use Rattle.archive_forms_values.proofs.ShapeLayout.Unique.{by_plain}
+use Rattle.archive_forms_values.specs.ShapeCanonical.Canonical.{AreBytes}
 use Rattle.cabinet_documents.specs.Node.{node_names}
 use Rattle.cabinet_documents.specs.Denotes.{tagged_value}
 use Rattle.cabinet_documents.specs.Laws.{IsAcyclic, AreAcyclic, AbsentHasNoValue}
 use Rattle.cabinet_documents.proofs.Places.{Place, node_here, payload_here, truth_here, number_here, text_here, shared_here, option_here, box_here, list_here, absent_here, node_behind, nodes_behind, text_behind, Spot, part_of, parts_at, nodes_from, Passes, node_passes, box_passes, behind_passes, list_passes, text_passes, Pays, pays_truth, pays_number, pays_text, pays_shared, pays_option, pays_list, pays_absent, Follows, passes, pays, truth_is, number_is, text_is, behind_is, none_is, some_is, nodes_follow, Leads, leads_nowhere, leads_absent, leads_plain, leads_claimed, leads_counted, led}
 
--- ---- nothing stands where a payload has no layout
+-- ---- a payload without a layout has no value
 
 module _ (bytes : List ℕ) where
   pub none_illegal :

@@ -2,10 +2,10 @@
 use Rattle.std.proofs.Common.{◌≡◌, ◌≢◌, ℕ, zero, suc, ◌+◌, ◌≤◌, Bool, true, false, if◌then◌else◌, List, [], ◌∷◌, ◌++◌, length, Some, refl, sym, ap, ap₂, ◌∙◌, ⊎_elim}
 use Rattle.std.specs.Str.{bytes_eq}
 use Rattle.std.proofs.lemmas.Slice.Eq.{bytes_eq-Decides}
-use Rattle.archive_shape_layout.specs.Edit.{Apart}
-use Rattle.archive_shape_layout.specs.Holds.{root_position}
-use Rattle.archive_shape_references.specs.Bytes.{overwrite}
-use Rattle.archive_shape_references.proofs.Written.{overwrites_commute}
+use Rattle.archive_forms_values.specs.ShapeLayout.Edit.{Apart}
+use Rattle.archive_forms_values.specs.ShapeLayout.Holds.{root_position}
+use Rattle.archive_forms_values.specs.ArchiveShape.Bytes.{overwrite}
+use Rattle.archive_forms_values.proofs.ArchiveShape.Written.{overwrites_commute}
 use Rattle.cabinet_text_grammar.specs.Tree.{Leaf, Tree, leaf, shared, nothing, just, list, map, Trees, no_trees, more_trees, Pairs, no_pairs, more_pairs}
 use Rattle.cabinet_text_grammar.specs.Path.{Step, key, place, inside, node_at, node_in, node_by}
 use Rattle.cabinet_text_grammar.specs.Answering.{change, change_in, change_by}
@@ -44,7 +44,7 @@ module _ (n : List ℕ) (t : Tree) (ps : Pairs) (a : List ℕ) (path : List Step
   node_past : bytes_eq n a ≡ false → node_by (more_pairs n t ps) a path ≡ node_by ps a path
   node_past e = ap (λ x. if x then node_at t path else node_by ps a path) e
 
--- of a pair, where both keys are its own, one or neither
+-- of a pair, whose key equals both keys, one of them or neither
 both_keys :
     (x y : Bool) (n : List ℕ) (t : Tree) (ps : Pairs) (a b : List ℕ) (path other : List Step) (k h l m : Leaf)
     → bytes_eq n a ≡ x

@@ -1,18 +1,18 @@
--- Inside how many containers the walk of a node goes: as many as its value has.
+-- The number of containers that lie in one another in the walk of a node is that of its value.
 use Rattle.std.proofs.Common.{◌≡◌, ℕ, zero, suc, ◌+◌, ◌<◌, ◌≤◌, max, Bool, true, false, cond, List, [], ◌∷◌, ◌++◌, Some, refl, sym, ap, subst, ◌∙◌, arith, append-nil, w8}
 use Rattle.std.specs.Prelude.{⊤}
 use Rattle.std.specs.List.{flat_map, Contains}
-use Rattle.archive_shape_layout.specs.Value.{Value, Values}
-use Rattle.archive_shape_layout.specs.Value.Value.{natural, integer, boolean, string, group, chosen, counted, back}
-use Rattle.archive_shape_layout.specs.Value.Values.{no_values, more_values}
-use Rattle.archive_shape_layout.specs.Shape.Shape.{choice, array, number as number_shape}
-use Rattle.archive_shape_layout.specs.Shape.Shapes.{no_shapes}
-use Rattle.archive_shape_layout.specs.Shape.Pointee.{str}
-use Rattle.archive_shape_layout.specs.Content.{Part, Label, Content, content_of, made, shape_content, fields}
-use Rattle.archive_shape_layout.specs.Bytes.{align_up}
-use Rattle.archive_shape_layout.specs.Content.Part.{at}
-use Rattle.archive_shape_layout.specs.Content.Label.{leaf, written, same, whole, tagged}
-use Rattle.archive_shape_layout.specs.Content.Content.{illegal, claimed, counting}
+use Rattle.archive_forms_values.specs.ShapeLayout.Value.{Value, Values}
+use Rattle.archive_forms_values.specs.ShapeLayout.Value.Value.{natural, integer, boolean, string, group, chosen, counted, back}
+use Rattle.archive_forms_values.specs.ShapeLayout.Value.Values.{no_values, more_values}
+use Rattle.archive_forms_values.specs.ShapeLayout.Shape.Shape.{choice, array, number as number_shape}
+use Rattle.archive_forms_values.specs.ShapeLayout.Shape.Shapes.{no_shapes}
+use Rattle.archive_forms_values.specs.ShapeLayout.Shape.Pointee.{str}
+use Rattle.archive_forms_values.specs.ShapeLayout.Content.{Part, Label, Content, content_of, made, shape_content, fields}
+use Rattle.archive_forms_values.specs.ShapeLayout.Bytes.{align_up}
+use Rattle.archive_forms_values.specs.ShapeLayout.Content.Part.{at}
+use Rattle.archive_forms_values.specs.ShapeLayout.Content.Label.{leaf, written, same, whole, tagged}
+use Rattle.archive_forms_values.specs.ShapeLayout.Content.Content.{illegal, claimed, counting}
 use Rattle.cabinet_text_grammar.specs.Tree.{Tree, Trees, depth, most_depth}
 use Rattle.cabinet_documents.specs.Node.{node_names}
 use Rattle.cabinet_documents.specs.Denotes.{Denotes, DenoteAll, tagged_value}
@@ -68,7 +68,7 @@ mutual
 pub height_is : {bytes : List ℕ} {v : Value} {t : Tree} → NodeValue bytes v → Denotes v t → height v ≡ depth t
 height_is n d = height_of n d refl
 
--- ---- inside how many a walk goes, from a depth
+-- ---- how many containers lie in one another in a walk, from a depth
 
 abbrev pub peak : ℕ → List Stop → ℕ
 peak d [] = d
@@ -373,7 +373,7 @@ module _ (bytes : List ℕ) where
       peaked_by k pos d is e (ap (λ x. joined x inner) c) (on (record { place = text_behind len; pos = t } ∷ []) (ap parts_of c)) (λ below. counted_peak t len d below (subst (λ x. value_of x vs ≡ Some v) c m))
 
   mutual
-    -- the walk of a place goes as deep as its value is high, and comes to no map
+    -- the walk of a place goes as deep as its value is high, and visits no map
     pub peaked : {d : ℕ} {p : Part} {v : Value} {walk : List Stop} → Walks node_names bytes d p v walk → (k : Place) (pos : ℕ) → p ≡ part_of k pos → Peaked k d v walk
     peaked (walks {depth = d} all m e) k pos is =
         peaked_case k pos d is e m

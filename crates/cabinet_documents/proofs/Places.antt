@@ -3,25 +3,25 @@ use Rattle.std.proofs.Common.{◌≡◌, ℕ, ℤ, zero, suc, ◌+◌, ◌*◌, 
 use Rattle.std.proofs.lemmas.Bool.{lt-ltb, le-ltb}
 use Rattle.std.proofs.lemmas.Bool.Decides.{leb_tells}
 use Rattle.std.specs.Int.{from_le_bytes, cast_signed}
-use Rattle.archive_shape_layout.specs.Bytes.{window, align_up, word_at, target_from}
-use Rattle.archive_shape_layout.specs.Shape.{align_of}
-use Rattle.archive_shape_layout.specs.Shape.Shape.{number, truth, text, option, choice, box, vector, shared}
-use Rattle.archive_shape_layout.specs.Shape.Pointee.{sized, slice, str}
-use Rattle.archive_shape_layout.specs.Value.Value.{integer, boolean}
-use Rattle.archive_shape_layout.specs.Content.{Part, Label, Content, content_of, choose, option_content, shape_tagged, shape_content, pointee_content, text_content, text_length, shared_content, following, begins_inline, before_ff, elements, number_value}
-use Rattle.archive_shape_layout.specs.Content.Part.{at, behind}
-use Rattle.archive_shape_layout.specs.Content.Label.{leaf, written, same, whole, tagged}
-use Rattle.archive_shape_layout.specs.Content.Content.{illegal, plain, claimed, counting}
-use Rattle.archive_shape_canonical.specs.Canonical.{AreBytes}
-use Rattle.archive_shape_checking.proofs.Words.{word_bound}
-use Rattle.archive_shape_references.proofs.Pieces.{word_within}
+use Rattle.archive_forms_values.specs.ShapeLayout.Bytes.{window, align_up, word_at, target_from}
+use Rattle.archive_forms_values.specs.ShapeLayout.Shape.{align_of}
+use Rattle.archive_forms_values.specs.ShapeLayout.Shape.Shape.{number, truth, text, option, choice, box, vector, shared}
+use Rattle.archive_forms_values.specs.ShapeLayout.Shape.Pointee.{sized, slice, str}
+use Rattle.archive_forms_values.specs.ShapeLayout.Value.Value.{integer, boolean}
+use Rattle.archive_forms_values.specs.ShapeLayout.Content.{Part, Label, Content, content_of, choose, option_content, shape_tagged, shape_content, pointee_content, text_content, text_length, shared_content, following, begins_inline, before_ff, elements, number_value}
+use Rattle.archive_forms_values.specs.ShapeLayout.Content.Part.{at, behind}
+use Rattle.archive_forms_values.specs.ShapeLayout.Content.Label.{leaf, written, same, whole, tagged}
+use Rattle.archive_forms_values.specs.ShapeLayout.Content.Content.{illegal, plain, claimed, counting}
+use Rattle.archive_forms_values.specs.ShapeCanonical.Canonical.{AreBytes}
+use Rattle.archive_forms_values.proofs.ArchiveShape.Words.{word_bound}
+use Rattle.archive_forms_values.proofs.ShapeLayout.Windows.{word_within}
 use Rattle.cabinet_documents.specs.Node.{node_shape, node_names, payloads, absent}
 
 -- ---- places
 
 pub data Place : Type 0 where
   node_here payload_here truth_here number_here text_here shared_here option_here box_here list_here absent_here : Place
-  -- what pointers lead to: a node, so many nodes, a text of so many bytes
+  -- what pointers lead to: a node, `n` nodes, or a text of `n` bytes
   node_behind : Place
   nodes_behind text_behind : ℕ → Place
 

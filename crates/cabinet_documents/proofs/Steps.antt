@@ -1,18 +1,18 @@
--- From a node to its payload, and on to the nodes in it: what holds there, and that what stands there stands in the node.
+-- From a node to its payload, and from there to the nodes in it: what holds there, and that it lies in the node.
 use Rattle.std.proofs.Common.{◌≡◌, ℕ, zero, suc, ◌+◌, ◌*◌, Bool, true, false, List, [], ◌∷◌, Some, refl, sym, ap, subst, ◌∙◌, arith}
-use Rattle.archive_shape_layout.specs.Value.{Value, Values, count_values}
-use Rattle.archive_shape_layout.specs.Value.Value.{group, string}
-use Rattle.archive_shape_layout.specs.Value.Values.{no_values, more_values}
-use Rattle.archive_shape_layout.specs.Content.{Part, Label, Span, content_of, made, shape_content, pointee_content, choose, elements}
-use Rattle.archive_shape_layout.specs.Bytes.{align_up, window}
-use Rattle.archive_shape_layout.specs.Content.Label.{same, whole, tagged, written}
-use Rattle.archive_shape_layout.specs.Content.Content.{plain, claimed}
-use Rattle.archive_shape_layout.specs.Holds.{Region, Visit, OpenShared, Holds, HoldAll}
-use Rattle.archive_shape_layout.specs.Holds.HoldAll.{holds_none, holds_more}
-use Rattle.archive_shape_layout.specs.Path.{Stands, StandsIn, through, value_in}
-use Rattle.archive_shape_layout.specs.Path.Stands.{stands_plain, stands_claimed}
-use Rattle.archive_shape_layout.specs.Path.StandsIn.{stands_first, stands_later}
-use Rattle.archive_shape_layout.proofs.Unique.{by_plain, by_claimed}
+use Rattle.archive_forms_values.specs.ShapeLayout.Value.{Value, Values, count_values}
+use Rattle.archive_forms_values.specs.ShapeLayout.Value.Value.{group, string}
+use Rattle.archive_forms_values.specs.ShapeLayout.Value.Values.{no_values, more_values}
+use Rattle.archive_forms_values.specs.ShapeLayout.Content.{Part, Label, Span, content_of, made, shape_content, pointee_content, choose, elements}
+use Rattle.archive_forms_values.specs.ShapeLayout.Bytes.{align_up, window}
+use Rattle.archive_forms_values.specs.ShapeLayout.Content.Label.{same, whole, tagged, written}
+use Rattle.archive_forms_values.specs.ShapeLayout.Content.Content.{plain, claimed}
+use Rattle.archive_forms_values.specs.ShapeLayout.Holds.{Region, Visit, OpenShared, Holds, HoldAll}
+use Rattle.archive_forms_values.specs.ShapeLayout.Holds.HoldAll.{holds_none, holds_more}
+use Rattle.archive_forms_values.specs.ShapeLayout.Path.{Stands, StandsIn, through, value_in}
+use Rattle.archive_forms_values.specs.ShapeLayout.Path.Stands.{stands_plain, stands_claimed}
+use Rattle.archive_forms_values.specs.ShapeLayout.Path.StandsIn.{stands_first, stands_later}
+use Rattle.archive_forms_values.proofs.ShapeLayout.Unique.{by_plain, by_claimed}
 use Rattle.cabinet_documents.specs.Node.{node_names, node_shape}
 use Rattle.cabinet_documents.specs.Denotes.{tagged_value}
 use Rattle.cabinet_documents.proofs.Places.{Place, node_here, payload_here, truth_here, number_here, text_here, option_here, box_here, list_here, node_behind, nodes_behind, text_behind, Spot, part_of, parts_at, Passes, node_passes, box_passes, behind_passes, list_passes, text_passes, Pays, Follows, passes, pays, truth_is, number_is, text_is, none_is, some_is, Leads, leads_nowhere, leads_plain, leads_claimed, led}
@@ -132,7 +132,7 @@ module _ (bytes : List ℕ) where
   unfolding pointee_content
   behind_content pos = refl
 
-  -- what stands at a pointer's target, and in the node there
+  -- what lies at a pointer's target, and in the node there
   pub behind_below : (pos : ℕ) {level : ℕ} {around : List OpenShared} {v : Value} {regions : List Region} {before after : List Visit}
       → Holds node_names bytes level around (part_of node_behind pos) v regions before after
       → Through level (suc level) around (part_of node_behind pos) (part_of node_here pos) v before after
@@ -366,7 +366,7 @@ module _ (bytes : List ℕ) where
           text_out {t = t} {len = len} (cc) one
       by_case (leads_claimed e y b) = absurd (cc)
 
-  -- ---- a leaf has its value, whatever was visited before
+  -- ---- a leaf has its value, regardless of what was visited before
 
   lone_value : (k : Place) (pos : ℕ) {l : Label} {qs : List Spot} {level : ℕ} {around : List OpenShared} {v : Value} {regions : List Region} {before after : List Visit}
       → content_of node_names bytes (part_of k pos) ≡ plain l (parts_at qs) → Follows bytes k l qs → qs ≡ [] → Holds node_names bytes level around (part_of k pos) v regions before after → ValueAt bytes k v

@@ -1,23 +1,23 @@
--- No way in a node leads to a key; and what stands on the way in a canonical archive is clean.
+-- No path in a node leads to a key, and the parts along a path in a canonical archive are clean.
 use Rattle.std.proofs.Common.{◌≡◌, ℕ, List, [], ◌∷◌, refl, sym, ap, subst, ◌∙◌}
-use Rattle.archive_shape_layout.specs.Value.{Value, Values}
-use Rattle.archive_shape_layout.specs.Content.{Names, Part, Content, content_of}
-use Rattle.archive_shape_layout.specs.Holds.{Region, Visit, OpenShared, Holds, HoldAll}
-use Rattle.archive_shape_layout.specs.Holds.Holds.{holds_plain, holds_claimed, holds_first, holds_later, holds_back}
-use Rattle.archive_shape_layout.specs.Holds.HoldAll.{holds_none, holds_more}
-use Rattle.archive_shape_layout.specs.Path.{Stands, StandsIn}
-use Rattle.archive_shape_layout.specs.Path.Stands.{stands_here, stands_plain, stands_claimed}
-use Rattle.archive_shape_layout.specs.Path.StandsIn.{stands_first, stands_later}
-use Rattle.archive_shape_canonical.specs.Clean.{IsClean}
-use Rattle.archive_shape_canonical.specs.Settled.{Fit}
-use Rattle.archive_shape_canonical.specs.Canonical.{IsCanonical, AreCanonical, end_of}
-use Rattle.archive_shape_canonical.specs.Laws.{AvoidsItemKey, AvoidsKey, AvoidsKeys, AvoidKeys}
+use Rattle.archive_forms_values.specs.ShapeLayout.Value.{Value, Values}
+use Rattle.archive_forms_values.specs.ShapeLayout.Content.{Names, Part, Content, content_of}
+use Rattle.archive_forms_values.specs.ShapeLayout.Holds.{Region, Visit, OpenShared, Holds, HoldAll}
+use Rattle.archive_forms_values.specs.ShapeLayout.Holds.Holds.{holds_plain, holds_claimed, holds_first, holds_later, holds_back}
+use Rattle.archive_forms_values.specs.ShapeLayout.Holds.HoldAll.{holds_none, holds_more}
+use Rattle.archive_forms_values.specs.ShapeLayout.Path.{Stands, StandsIn}
+use Rattle.archive_forms_values.specs.ShapeLayout.Path.Stands.{stands_here, stands_plain, stands_claimed}
+use Rattle.archive_forms_values.specs.ShapeLayout.Path.StandsIn.{stands_first, stands_later}
+use Rattle.archive_forms_values.specs.ShapeCanonical.Clean.{IsClean}
+use Rattle.archive_forms_values.specs.ShapeCanonical.Settled.{Fit}
+use Rattle.archive_forms_values.specs.ShapeCanonical.Canonical.{IsCanonical, AreCanonical, end_of}
+use Rattle.archive_forms_values.specs.ShapeCanonical.Laws.{AvoidsItemKey, AvoidsKey, AvoidsKeys, AvoidKeys}
 use Rattle.cabinet_documents.specs.Node.{node_names}
 use Rattle.cabinet_documents.specs.Walk.{parts_of}
 use Rattle.cabinet_documents.proofs.Places.{Place, node_here, payload_here, truth_here, number_here, text_here, shared_here, option_here, box_here, list_here, absent_here, node_behind, nodes_behind, text_behind, Spot, part_of, parts_at, Leads, leads_nowhere, leads_absent, leads_plain, leads_claimed, leads_counted, led}
 use Rattle.cabinet_documents.proofs.Nodes.{absent_law}
 
--- ---- keys stand in trees and tables alone
+-- ---- only trees and tables have keys
 
 avoids_item : (k : Place) (pos : ℕ) (ps : List Part) (inner : List ℕ) → AvoidsItemKey (part_of k pos ∷ ps) inner
 avoids_item node_here pos ps inner = tt
@@ -53,7 +53,7 @@ avoids_part node_behind pos qs inner = tt
 avoids_part (nodes_behind len) pos qs inner = tt
 avoids_part (text_behind len) pos qs inner = tt
 
--- the parts that a place leads to stand at places
+-- the parts that a place leads to are at places
 record Spots (ps : List Part) : Type 0 where
   qs : List Spot
   are : ps ≡ parts_at qs
@@ -99,7 +99,7 @@ module _ (bytes : List ℕ) where
       avoids_in (stands_later h s e z) [] is = absurd (cc)
       avoids_in (stands_later h s e z) (r ∷ qs) is = avoids_in s qs (cc)
 
--- ---- what stands in a canonical archive is clean
+-- ---- the parts in a canonical archive are clean
 
 module _ (fit : Fit) (names : Names) (bytes : List ℕ) {q : Part} {w : Value} where
   mutual

@@ -1,14 +1,14 @@
 -- What holds has a walk.
 use Rattle.std.proofs.Common.{◌≡◌, ℕ, List, [], ◌∷◌, Some, refl, sym, ap, subst, cond, ◌==◌, true, false, Bool, eqb-true}
-use Rattle.archive_shape_layout.specs.Shape.{Pointee}
-use Rattle.archive_shape_layout.specs.Value.{Value, Values}
-use Rattle.archive_shape_layout.specs.Value.Values.{no_values, more_values}
-use Rattle.archive_shape_layout.specs.Content.{Names, Part, Content, content_of}
-use Rattle.archive_shape_layout.specs.Content.Part.{behind}
-use Rattle.archive_shape_layout.specs.Content.Content.{plain, claimed, counting}
-use Rattle.archive_shape_layout.specs.Holds.{Region, Visit, OpenShared, visited, Holds, HoldAll}
-use Rattle.archive_shape_layout.specs.Holds.Holds.{holds_plain, holds_claimed, holds_first, holds_later, holds_back}
-use Rattle.archive_shape_layout.specs.Holds.HoldAll.{holds_none, holds_more}
+use Rattle.archive_forms_values.specs.ShapeLayout.Shape.{Pointee}
+use Rattle.archive_forms_values.specs.ShapeLayout.Value.{Value, Values}
+use Rattle.archive_forms_values.specs.ShapeLayout.Value.Values.{no_values, more_values}
+use Rattle.archive_forms_values.specs.ShapeLayout.Content.{Names, Part, Content, content_of}
+use Rattle.archive_forms_values.specs.ShapeLayout.Content.Part.{behind}
+use Rattle.archive_forms_values.specs.ShapeLayout.Content.Content.{plain, claimed, counting}
+use Rattle.archive_forms_values.specs.ShapeLayout.Holds.{Region, Visit, OpenShared, visited, Holds, HoldAll}
+use Rattle.archive_forms_values.specs.ShapeLayout.Holds.Holds.{holds_plain, holds_claimed, holds_first, holds_later, holds_back}
+use Rattle.archive_forms_values.specs.ShapeLayout.Holds.HoldAll.{holds_none, holds_more}
 use Rattle.cabinet_documents.specs.Walk.{Stop, WalkAll, parts_of, value_of, joined, depth_in}
 use Rattle.cabinet_documents.specs.Walk.Walks.{walks}
 use Rattle.cabinet_documents.specs.Walk.WalkAll.{walk_none, walk_more}

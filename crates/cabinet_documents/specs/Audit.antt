@@ -1,15 +1,15 @@
--- What is wrong with bytes that hold a node, in the order in which opening names it.
+-- The faults of bytes that hold a node, in the order in which opening reports them.
 use Rattle.std.specs.Prelude.{◌≡◌, ℕ, ◌<◌, Bool, true, false, cond, ◌==◌, nat_lt, List, [], ◌∷◌, ◌++◌, length, slice_index, Option, Some, None, ⊤}
 use Rattle.std.specs.List.{flat_map}
-use Rattle.archive_shape_layout.specs.Shape.Shape.{tree, table, index_map}
-use Rattle.archive_shape_layout.specs.Shape.Pointee.{sized}
-use Rattle.archive_shape_layout.specs.Value.{Value}
-use Rattle.archive_shape_layout.specs.Content.{Part, members}
-use Rattle.archive_shape_layout.specs.Content.Part.{at, behind}
-use Rattle.archive_shape_layout.specs.Holds.{Region, Visit, HasRoot, root_position}
-use Rattle.archive_shape_checking.specs.Range.{Range}
-use Rattle.archive_shape_checking.specs.PartFault.{PartFault}
-use Rattle.archive_shape_writing.specs.declared.error.Error.{Error}
+use Rattle.archive_forms_values.specs.ShapeLayout.Shape.Shape.{tree, table, index_map}
+use Rattle.archive_forms_values.specs.ShapeLayout.Shape.Pointee.{sized}
+use Rattle.archive_forms_values.specs.ShapeLayout.Value.{Value}
+use Rattle.archive_forms_values.specs.ShapeLayout.Content.{Part, members}
+use Rattle.archive_forms_values.specs.ShapeLayout.Content.Part.{at, behind}
+use Rattle.archive_forms_values.specs.ShapeLayout.Holds.{Region, Visit, HasRoot, root_position}
+use Rattle.archive_forms_values.specs.ArchiveShape.Range.{Range}
+use Rattle.archive_forms_values.specs.ArchiveShape.PartFault.{PartFault}
+use Rattle.archive_forms_values.specs.ShapeWriting.declared.error.Error.{Error}
 use Rattle.cabinet_documents.specs.Node.{node_shape, node_names}
 use Rattle.cabinet_documents.specs.Order.{ascend}
 use Rattle.cabinet_documents.specs.Walk.{Stop, Walks, is_container}
@@ -24,7 +24,7 @@ abbrev pub unless : Bool → Unsound → List Unsound
 unless true u = []
 unless false u = u ∷ []
 
--- a container stands inside 64 others
+-- a container is too deep inside 64 or more others
 abbrev pub deep_faults : Stop → List Unsound
 deep_faults s = cond (is_container s.part) (unless (nat_lt s.depth 64) too_deep) []
 
@@ -34,7 +34,7 @@ tag_faults t s = unless (slice_index t.controls s.place == tag_of s.key) wrong_t
 abbrev pub search_faults : Table → Entry → List Unsound
 search_faults t e = unless (gives t (found t e.key) e.number) not_found
 
--- hashed: at each full place the tag, then the look-up; kept: first all tags, then all look-ups
+-- a hashed map: at each full place the tag, then the look-up; a kept map: all tags, then all look-ups
 abbrev pub hashed_faults : Table → List Unsound
 hashed_faults t = flat_map (λ s. tag_faults t s ++ search_faults t (entry_of s)) t.slots
 
@@ -47,7 +47,7 @@ map_faults bytes (at pos (table s)) w = hashed_faults (table_of hashed_at bytes 
 map_faults bytes (at pos (index_map k v)) w = kept_faults (table_of kept_at bytes pos w)
 map_faults bytes p w = []
 
--- of all that the walk comes to
+-- the faults of each stop of a walk, in order
 abbrev pub faults : List ℕ → List Stop → List Unsound
 faults bytes walk = flat_map (λ (s : Stop). deep_faults s ++ map_faults bytes s.part s.value) walk
 
@@ -68,7 +68,7 @@ pub record AuditFault (bytes : List ℕ) (u : Unsound) : Type 0 where
   pub walked : Walks node_names bytes 0 (root_part bytes) value walk
   pub first : first_of (faults bytes walk) ≡ Some u
 
--- ---- when nothing is
+-- ---- when there are none
 
 abbrev pub IsMapSound : List ℕ → Part → Value → Type 0
 IsMapSound bytes (at pos (tree most k v)) w = ascend (item_keys (members w)) ≡ true
@@ -86,7 +86,7 @@ pub data Refusal : Type 0 where
   unsound : Unsound → Refusal
   out_of_memory : Refusal
 
--- the whole of so many bytes, in which 2199 regions may nest
+-- all `len` bytes, in which 2199 regions may nest
 abbrev pub whole_range : ℕ → Range
 whole_range len = record { start = 0; end = len; most = 2199; level = 0 }
 

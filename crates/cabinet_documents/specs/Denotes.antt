@@ -1,23 +1,24 @@
--- The document that a node's value stands for.
+-- The document that a node's value denotes.
 use Rattle.std.specs.Prelude.{◌≡◌, ℕ, ℤ, Bool, List}
-use Rattle.archive_shape_layout.specs.Value.{Value, Values}
-use Rattle.archive_shape_layout.specs.Value.Value.{integer, boolean, string, group, chosen, counted}
-use Rattle.archive_shape_layout.specs.Value.Values.{no_values, more_values}
+use Rattle.archive_forms_values.specs.ShapeLayout.Value.{Value, Values}
+use Rattle.archive_forms_values.specs.ShapeLayout.Value.Value.{integer, boolean, string, group, chosen, counted}
+use Rattle.archive_forms_values.specs.ShapeLayout.Value.Values.{no_values, more_values}
 use Rattle.cabinet_text_grammar.specs.Tree.{truth, number, text}
 use Rattle.cabinet_text_grammar.specs.Keys.{ordered, hashed, kept}
 use Rattle.cabinet_text_grammar.specs.Tree.{Tree, leaf, shared, nothing, just, list, Trees, no_trees, more_trees, Pairs, no_pairs, more_pairs, map}
 use Rattle.cabinet_documents.specs.Order.{arranged}
 
--- a tag, with one value after it
+-- a tag and the value of its payload
 abbrev pub tagged_value : ℕ → Value → Value
 tagged_value tag v = chosen tag (more_values v no_values)
 
--- a key and what it leads to
+-- a key and its value
 abbrev pub pair_value : List ℕ → Value → Value
 pair_value k v = group (more_values (string k) (more_values v no_values))
 
 mutual
-  -- by the nine tags. Where a shared text stands is left out; a hashed map's pairs are put in the order of their keys
+  -- by the nine tags; the position of a shared text is left out, and a hashed map's pairs are put in the order of their
+  -- keys
   pub data Denotes : Value → Tree → Type 0 where
     denotes_truth : {v : Value} {t : Tree} {b : Bool} → v ≡ tagged_value 0 (boolean b) → t ≡ leaf (truth b) → Denotes v t
     denotes_number : {v : Value} {t : Tree} {n : ℤ} → v ≡ tagged_value 1 (integer n) → t ≡ leaf (number n) → Denotes v t

@@ -1,10 +1,10 @@
--- Where an edit is done.
+-- When an edit of a document is done.
 use Rattle.std.specs.Prelude.{◌≡◌, true, List, Some}
 use Rattle.cabinet_text_grammar.specs.Tree.{Leaf, Tree, leaf}
 use Rattle.cabinet_text_grammar.specs.Path.{Step, node_at}
 use Rattle.cabinet_text_grammar.specs.Answering.{fits}
 
--- a leaf stands at the path that the new one fits
+-- the node at the path is a leaf that the new leaf fits
 pub record IsDone (t : Tree) (path : List Step) (new : Leaf) : Type 0 where
   pub old : Leaf
   pub there : node_at t path ≡ Some (leaf old)

@@ -1,10 +1,10 @@
--- When bytes are the one archive of a document that saving it writes.
+-- When bytes are the one archive that saving a document writes.
 use Rattle.std.specs.Prelude.{ℕ, ◌<◌, ◌^◌, List, length}
 use Rattle.std.specs.List.{Contains}
-use Rattle.archive_shape_layout.specs.Holds.{Region, root_position}
-use Rattle.archive_shape_canonical.specs.Canonical.{CanonicalArchive}
-use Rattle.archive_shape_canonical.specs.FirstFit.{first_fit}
-use Rattle.archive_hash_layout.specs.Hash.{text_hash}
+use Rattle.archive_forms_values.specs.ShapeLayout.Holds.{Region, root_position}
+use Rattle.archive_forms_values.specs.ShapeCanonical.Canonical.{CanonicalArchive}
+use Rattle.archive_forms_values.specs.ShapeCanonical.FirstFit.{first_fit}
+use Rattle.archive_forms_values.specs.ShapeCanonical.Hash.{text_hash}
 use Rattle.cabinet_documents.specs.Node.{node_shape, node_names}
 use Rattle.cabinet_text_grammar.specs.Tree.{Tree}
 use Rattle.cabinet_documents.specs.Accepted.{Accepted}
@@ -23,5 +23,6 @@ pub record Image (t : Tree) (bytes : List ℕ) : Type 0 where
       accepted.value
       accepted.regions
       accepted.visits
-  -- lengths, counts and offsets are within their limits where they are written at all; positions of regions are to be
+  -- lengths, counts and offsets are within their limits wherever they are written; positions of regions are required to
+  -- be
   pub low : (r : Region) → Contains accepted.regions r → r.start < 2 ^ 32

@@ -1,17 +1,17 @@
 -- Laws of the archives of documents, as statements.
 use Rattle.std.specs.Prelude.{◌≡◌, ◌≢◌, ℕ, ◌<◌, ◌≤◌, pos, List, [], ◌∷◌, ◌++◌, length, Some, ⊤}
-use Rattle.archive_shape_layout.specs.Value.{Value}
-use Rattle.archive_shape_layout.specs.Content.{Names, Part}
-use Rattle.archive_shape_layout.specs.Shape.{Shape}
-use Rattle.archive_shape_layout.specs.Shape.Pointee.{sized}
-use Rattle.archive_shape_layout.specs.Value.{Values}
-use Rattle.archive_shape_layout.specs.Content.Part.{at, behind}
-use Rattle.archive_shape_layout.specs.Holds.{Region, Visit, OpenShared, Holds, HoldAll, HasRoot, root_position}
-use Rattle.archive_shape_layout.specs.Holds.Holds.{holds_plain, holds_claimed, holds_first, holds_later, holds_back}
-use Rattle.archive_shape_layout.specs.Holds.HoldAll.{holds_none, holds_more}
-use Rattle.archive_shape_layout.specs.Edit.{Apart}
-use Rattle.archive_shape_canonical.specs.Canonical.{AreBytes}
-use Rattle.archive_shape_references.specs.Bytes.{overwrite}
+use Rattle.archive_forms_values.specs.ShapeLayout.Value.{Value}
+use Rattle.archive_forms_values.specs.ShapeLayout.Content.{Names, Part}
+use Rattle.archive_forms_values.specs.ShapeLayout.Shape.{Shape}
+use Rattle.archive_forms_values.specs.ShapeLayout.Shape.Pointee.{sized}
+use Rattle.archive_forms_values.specs.ShapeLayout.Value.{Values}
+use Rattle.archive_forms_values.specs.ShapeLayout.Content.Part.{at, behind}
+use Rattle.archive_forms_values.specs.ShapeLayout.Holds.{Region, Visit, OpenShared, Holds, HoldAll, HasRoot, root_position}
+use Rattle.archive_forms_values.specs.ShapeLayout.Holds.Holds.{holds_plain, holds_claimed, holds_first, holds_later, holds_back}
+use Rattle.archive_forms_values.specs.ShapeLayout.Holds.HoldAll.{holds_none, holds_more}
+use Rattle.archive_forms_values.specs.ShapeLayout.Edit.{Apart}
+use Rattle.archive_forms_values.specs.ShapeCanonical.Canonical.{AreBytes}
+use Rattle.archive_forms_values.specs.ArchiveShape.Bytes.{overwrite}
 use Rattle.cabinet_text_grammar.specs.Tree.{Leaf, truth, number, text, IsLeaf}
 use Rattle.cabinet_text_grammar.specs.Path.{Step, key, place, inside}
 use Rattle.cabinet_documents.specs.Node.{node_names, node_shape, absent, own_bytes}
@@ -24,16 +24,16 @@ use Rattle.cabinet_documents.specs.Audit.{Unsound, too_deep, AuditFault, faults,
 use Rattle.cabinet_documents.specs.Accepted.{Accepted}
 use Rattle.cabinet_documents.specs.OwnBytes.{OwnBytes, LeadsTo}
 use Rattle.cabinet_documents.specs.Denotes.{Denotes}
-use Rattle.archive_shape_layout.specs.Path.{put_at}
-use Rattle.archive_shape_layout.specs.Value.Value.{boolean, integer, string}
+use Rattle.archive_forms_values.specs.ShapeLayout.Path.{put_at}
+use Rattle.archive_forms_values.specs.ShapeLayout.Value.Value.{boolean, integer, string}
 use Rattle.cabinet_documents.specs.Image.{Image}
 
--- two walks agree
+-- two walks of a part have the same value and the same stops
 pub record AgreeOnWalk (v w : Value) (xs ys : List Stop) : Type 0 where
   pub value : v ≡ w
   pub walk : xs ≡ ys
 
--- there is one walk
+-- a part has at most one value and one walk
 abbrev pub OneWalk : Type 0
 OneWalk =
     (names : Names) (bytes : List ℕ) (depth : ℕ) (p : Part) (v w : Value) (xs ys : List Stop)
@@ -41,7 +41,7 @@ OneWalk =
     → Walks names bytes depth p w ys
     → AgreeOnWalk v w xs ys
 
--- a part has one
+-- a part has a walk
 pub record HasWalk (names : Names) (bytes : List ℕ) (depth : ℕ) (p : Part) (v : Value) : Type 0 where
   pub walk : List Stop
   pub walked : Walks names bytes depth p v walk
@@ -61,7 +61,7 @@ abbrev mutual
   AreAcyclic (holds_none e f g) = ⊤
   AreAcyclic (holds_more h hs e r) = IsAcyclic h × AreAcyclic hs
 
--- what a root holds has a walk, inside so many containers
+-- the value at a root has a walk, inside any number of containers, where no shared position lies inside itself
 abbrev pub WalkStands : Type 0
 WalkStands =
     (names : Names) (bytes : List ℕ) (depth pos : ℕ) (s : Shape) (v : Value) (regions : List Region) (visits : List Visit)
@@ -69,7 +69,7 @@ WalkStands =
     → IsAcyclic h.holds
     → HasWalk names bytes depth (behind pos (sized s) 1) v
 
--- where a payload has no layout, no value stands
+-- a payload without a layout has no value
 abbrev pub AbsentHasNoValue : Type 0
 AbsentHasNoValue =
     (bytes : List ℕ) (level : ℕ) (inside : List OpenShared) (pos : ℕ) (v : Value) (regions : List Region) (before after : List Visit)
@@ -80,15 +80,15 @@ AbsentHasNoValue =
 abbrev pub OneDocument : Type 0
 OneDocument = (bytes : List ℕ) (s t : Tree) → Accepted bytes s → Accepted bytes t → s ≡ t
 
--- what the audit finds first is one
+-- bytes have at most one first fault of the audit
 abbrev pub OneAuditFault : Type 0
 OneAuditFault = (bytes : List ℕ) (u w : Unsound) → AuditFault bytes u → AuditFault bytes w → u ≡ w
 
--- what is refused, memory aside, is accepted as no document
+-- bytes with a fault of the audit are accepted as no document
 abbrev pub RefusedIsNotAccepted : Type 0
 RefusedIsNotAccepted = (bytes : List ℕ) (u : Unsound) (t : Tree) → AuditFault bytes u → Accepted bytes t → ⊥
 
--- they are accepted as some document
+-- the bytes are accepted as some document
 pub record IsAccepted (bytes : List ℕ) : Type 0 where
   pub tree : Tree
   pub accepted : Accepted bytes tree
@@ -103,7 +103,8 @@ AcceptedStands =
     → faults bytes walk ≡ []
     → IsAccepted bytes
 
--- what a root's value denotes, and whether the bytes are accepted as that, by how many containers lie in one another
+-- the document that a root's value denotes, and whether the bytes are accepted as it, by the number of containers that
+-- lie in one another
 pub record DepthDecided (bytes : List ℕ) (v : Value) : Type 0 where
   pub tree : Tree
   pub denotes : Denotes v tree
@@ -140,7 +141,7 @@ LeafPut =
     → IsDone t path new
     → Denotes (put_at (inner ++ 0 ∷ []) (payload_of new) v) (change t path new)
 
--- the own bytes of each leaf stand
+-- the leaf at a path has own bytes
 pub record OwnBytesStand (bytes : List ℕ) (root : Value) (path : List Step) (size : ℕ) : Type 0 where
   pub start : ℕ
   pub own : OwnBytes bytes root path start size
@@ -152,7 +153,8 @@ LeavesStand =
     → node_at t path ≡ Some (leaf l)
     → OwnBytesStand bytes a.value path (length (own_bytes l))
 
--- where an edit may be done and its leaf is written over own bytes, the bytes are an archive of the document with it
+-- where an edit may be done, writing its leaf over the own bytes of the old one leaves an archive of the document with
+-- the edit
 abbrev pub EditKeepsAccepted : Type 0
 EditKeepsAccepted =
     (bytes : List ℕ) (t : Tree) (path : List Step) (new : Leaf) (start : ℕ)
@@ -162,7 +164,7 @@ EditKeepsAccepted =
     → OwnBytes bytes a.value path start (length (own_bytes new))
     → Accepted (overwrite bytes start (own_bytes new)) (change t path new)
 
--- and where they were an image, they are one
+-- if the bytes were an image, the result is the image of the document with the edit
 abbrev pub EditKeepsImage : Type 0
 EditKeepsImage =
     (bytes : List ℕ) (t : Tree) (path : List Step) (new : Leaf) (start : ℕ)
@@ -172,7 +174,7 @@ EditKeepsImage =
     → OwnBytes bytes i.accepted.value path start (length (own_bytes new))
     → Image (change t path new) (overwrite bytes start (own_bytes new))
 
--- those of two leaves at different paths do not meet
+-- the own bytes of two leaves at different paths do not overlap
 abbrev pub OwnBytesApart : Type 0
 OwnBytesApart =
     (bytes : List ℕ) (t : Tree) (path other : List Step) (start size from len : ℕ)
@@ -187,7 +189,7 @@ pub record EitherOrder (bytes : List ℕ) (t : Tree) (path other : List Step) (l
   pub same_bytes :
       overwrite (overwrite bytes start (own_bytes l)) from (own_bytes m) ≡ overwrite (overwrite bytes from (own_bytes m)) start (own_bytes l)
   pub same_document : change (change t path l) other m ≡ change (change t other m) path l
-  -- each is done after the other too
+  -- each edit is also done after the other
   pub first : IsDone (change t other m) path l
   pub second : IsDone (change t path l) other m
 

@@ -1,11 +1,18 @@
-pub mod Node
-pub mod Order
-pub mod Done
-pub mod Denotes
-pub mod Walk
-pub mod Table
-pub mod Audit
 pub mod Accepted
-pub mod OwnBytes
+pub mod Audit
+pub mod Denotes
+pub mod Done
+pub mod HasLayout
 pub mod Image
 pub mod Laws
+pub mod Node
+pub mod Order
+pub mod OwnBytes
+pub mod Spelling
+pub mod SpellingLaws
+pub mod Table
+pub mod Walk
+pub use Rattle.archive_forms_values.specs.ArchiveShape as ArchiveShape
+pub use Rattle.archive_forms_values.specs.ShapeCanonical as ShapeCanonical
+pub use Rattle.archive_forms_values.specs.ShapeLayout as ShapeLayout
+pub use Rattle.cabinet_text_grammar.specs as TextGrammar

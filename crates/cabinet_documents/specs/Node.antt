@@ -1,25 +1,25 @@
--- The layout of a document's node: 24 bytes, aligned to 8; a tag byte, and by the tag a payload at its alignment.
+-- The layout of a document's node: 24 bytes, aligned to 8; a tag byte, then the payload of the tag at its alignment.
 use Rattle.std.specs.Prelude.{◌≡◌, Some, true, false, List, [], ◌∷◌, ℕ, Bool}
 use Rattle.std.specs.Int.{w8, w64, to_le_bytes, cast_unsigned}
-use Rattle.archive_shape_layout.specs.Shape.{Shape, Shapes}
-use Rattle.archive_shape_layout.specs.Shape.Alignment.{eight}
-use Rattle.archive_shape_layout.specs.Shape.Shape.{number, truth, text, option, choice, box, vector, shared, named, tuple, array}
-use Rattle.archive_shape_layout.specs.Shape.Shapes.{no_shapes, more_shapes}
-use Rattle.archive_shape_layout.specs.Shape.Pointee.{sized, str}
-use Rattle.archive_shape_layout.specs.Content.{Names, shape_named}
+use Rattle.archive_forms_values.specs.ShapeLayout.Shape.{Shape, Shapes}
+use Rattle.archive_forms_values.specs.ShapeLayout.Shape.Alignment.{eight}
+use Rattle.archive_forms_values.specs.ShapeLayout.Shape.Shape.{number, truth, text, option, choice, box, vector, shared, named, tuple, array}
+use Rattle.archive_forms_values.specs.ShapeLayout.Shape.Shapes.{no_shapes, more_shapes}
+use Rattle.archive_forms_values.specs.ShapeLayout.Shape.Pointee.{sized, str}
+use Rattle.archive_forms_values.specs.ShapeLayout.Content.{Names, shape_named}
 use Rattle.cabinet_text_grammar.specs.Tree as document
 
--- nodes lie in nodes, so the shape has a name, 0
+-- a node contains nodes, so its shape is recursive and has a name, 0
 abbrev pub node_shape : Shape
 node_shape = named 0 24 eight
 
--- the payload of a kind that has no layout yet: sixteen bytes in which no value stands, since no byte is the tag of an
--- enum without cases
+-- the payload of a kind that has no layout yet: sixteen bytes that hold no value, since no byte is the tag of an enum
+-- without variants
 abbrev pub absent : Shape
 absent = tuple (more_shapes (choice no_shapes) (more_shapes (array 15 (number w8 false)) no_shapes))
 
 -- in the order of the tags, from 0: a truth value, a number, a text, a shared text, an option, a list, an ordered map,
--- a hashed map, and a map that keeps its order; several pointers may lead to one shared text, and none lies inside it
+-- a hashed map, and a map that keeps its order; several pointers may point to one shared text, and none lies inside it
 abbrev pub payloads : Shapes
 payloads =
     more_shapes truth
@@ -35,7 +35,7 @@ payloads =
 abbrev pub node_names : Names
 node_names = (0, choice payloads) ∷ []
 
--- the lists of named types in which the name 0 stands for a node
+-- the lists of named types in which the name 0 denotes a node
 abbrev pub KnowsNode : Names → Type 0
 KnowsNode names = shape_named names 0 ≡ Some (choice payloads)
 
@@ -43,7 +43,7 @@ abbrev pub truth_byte : Bool → ℕ
 truth_byte true = 1
 truth_byte false = 0
 
--- the bytes that say what a leaf is, and that an edit of it writes
+-- the bytes that encode a leaf, which an edit of it writes
 abbrev pub own_bytes : document.Leaf → List ℕ
 own_bytes (document.truth b) = truth_byte b ∷ []
 own_bytes (document.number n) = to_le_bytes w64 (cast_unsigned w64 n)

@@ -10,13 +10,13 @@ is_below k l = is_lt (slice_cmp nat_cmp k l)
 abbrev pub is_same : List ℕ → List ℕ → Bool
 is_same k l = is_eq (slice_cmp nat_cmp k l)
 
--- each is above the one before
+-- each key is greater than the one before
 abbrev pub ascend : List (List ℕ) → Bool
 ascend [] = true
 ascend (k ∷ []) = true
 ascend (k ∷ (l ∷ ks)) = cond (is_below k l) (ascend (l ∷ ks)) false
 
--- pairs by ascending keys; of equal ones the first stays first
+-- a stable sort of pairs by ascending keys
 abbrev pub inserted : List ℕ → Tree → Pairs → Pairs
 inserted k t no_pairs = more_pairs k t no_pairs
 inserted k t (more_pairs l u ps) = cond (is_below l k) (more_pairs l u (inserted k t ps)) (more_pairs k t (more_pairs l u ps))

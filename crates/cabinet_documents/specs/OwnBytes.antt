@@ -1,21 +1,21 @@
 -- The own bytes of a leaf: those that an edit may write.
 use Rattle.std.specs.Prelude.{◌≡◌, ℕ, true, List, [], ◌∷◌, ◌++◌, length, Some, ◌⊎◌}
 use Rattle.std.specs.Int.{w64}
-use Rattle.archive_shape_layout.specs.Shape.Shape.{truth, number, text}
-use Rattle.archive_shape_layout.specs.Shape.Pointee.{str}
-use Rattle.archive_shape_layout.specs.Value.{Value, Values}
-use Rattle.archive_shape_layout.specs.Value.Value.{group}
-use Rattle.archive_shape_layout.specs.Content.{Part, content_of}
-use Rattle.archive_shape_layout.specs.Content.Label.{written}
-use Rattle.archive_shape_layout.specs.Content.Part.{at, behind}
-use Rattle.archive_shape_layout.specs.Content.Content.{plain}
-use Rattle.archive_shape_layout.specs.Path.{Stands, value_in}
+use Rattle.archive_forms_values.specs.ShapeLayout.Shape.Shape.{truth, number, text}
+use Rattle.archive_forms_values.specs.ShapeLayout.Shape.Pointee.{str}
+use Rattle.archive_forms_values.specs.ShapeLayout.Value.{Value, Values}
+use Rattle.archive_forms_values.specs.ShapeLayout.Value.Value.{group}
+use Rattle.archive_forms_values.specs.ShapeLayout.Content.{Part, content_of}
+use Rattle.archive_forms_values.specs.ShapeLayout.Content.Label.{written}
+use Rattle.archive_forms_values.specs.ShapeLayout.Content.Part.{at, behind}
+use Rattle.archive_forms_values.specs.ShapeLayout.Content.Content.{plain}
+use Rattle.archive_forms_values.specs.ShapeLayout.Path.{Stands, value_in}
 use Rattle.cabinet_text_grammar.specs.Path.{Step, key, place, inside}
 use Rattle.cabinet_documents.specs.Node.{node_names}
 use Rattle.cabinet_documents.specs.Denotes.{tagged_value, pair_value}
 use Rattle.cabinet_documents.specs.Audit.{root_part}
 
--- from a node's value a path of a document leads by this path of the layout to another node's value
+-- a path of a document leads from a node's value to another node's value, and `inner` is the same path in the layout
 pub data LeadsTo : Value → List Step → List ℕ → Value → Type 0 where
   leads_here : {v w : Value} {path : List Step} {inner : List ℕ} → v ≡ w → path ≡ [] → inner ≡ [] → LeadsTo v path inner w
   leads_inside :
@@ -44,7 +44,7 @@ pub data LeadsTo : Value → List Step → List ℕ → Value → Type 0 where
       → LeadsTo u rest more w
       → LeadsTo v path inner w
 
--- so many bytes from a position on are all that a part is: a truth value's byte, a number's eight, a text's bytes
+-- the `size` bytes from `start` on are all of a part: a truth value's byte, a number's eight bytes, or a text's bytes,
 -- inline or out of line
 pub data IsOwn (bytes : List ℕ) (start size : ℕ) : Part → Type 0 where
   own_truth : {p : Part} → p ≡ at start truth → size ≡ 1 → IsOwn bytes start size p
@@ -52,7 +52,7 @@ pub data IsOwn (bytes : List ℕ) (start size : ℕ) : Part → Type 0 where
   own_inline : {p : Part} {s : List ℕ} → p ≡ at start text → content_of node_names bytes p ≡ plain (written s) [] → size ≡ length s → IsOwn bytes start size p
   own_behind : {p : Part} → p ≡ behind start str size → IsOwn bytes start size p
 
--- they are the own bytes of the leaf at a path: of what stands at its payload's place
+-- the bytes are the own bytes of the leaf at a path: those of the part at its payload's place
 pub record OwnBytes (bytes : List ℕ) (root : Value) (path : List Step) (start size : ℕ) : Type 0 where
   pub node : Value
   pub inner : List ℕ

@@ -1,23 +1,24 @@
--- The table of a hashed or a kept map: where its keys stand, and when each is found.
+-- The table of a hashed or a kept map: the places of its keys, and when each key is found.
 use Rattle.std.specs.Prelude.{◌≡◌, ℕ, ◌+◌, ◌-◌, ◌*◌, Bool, true, false, cond, ◌&&◌, ◌==◌, nat_lt, List, [], ◌∷◌, take, map, slice_index, slice_index_or, Option, Some, None}
 use Rattle.std.specs.List.{find, Contains}
-use Rattle.archive_shape_layout.specs.Bytes.{window, word_at, target_from}
-use Rattle.archive_shape_layout.specs.Value.{Value, Values}
-use Rattle.archive_shape_layout.specs.Value.Value.{string, group}
-use Rattle.archive_shape_layout.specs.Value.Values.{no_values, more_values}
-use Rattle.archive_shape_layout.specs.Content.{members, control_count}
-use Rattle.archive_shape_canonical.specs.FirstFit.{hash_tag}
-use Rattle.archive_hash_layout.specs.Hash.{text_hash}
-use Rattle.archive_hash_layout.specs.Reach.{reach, Reaches}
+use Rattle.archive_forms_values.specs.ShapeLayout.Bytes.{window, word_at, target_from}
+use Rattle.archive_forms_values.specs.ShapeLayout.Value.{Value, Values}
+use Rattle.archive_forms_values.specs.ShapeLayout.Value.Value.{string, group}
+use Rattle.archive_forms_values.specs.ShapeLayout.Value.Values.{no_values, more_values}
+use Rattle.archive_forms_values.specs.ShapeLayout.Content.{members, control_count}
+use Rattle.archive_forms_values.specs.ShapeCanonical.FirstFit.{hash_tag}
+use Rattle.archive_forms_values.specs.ShapeCanonical.Hash.{text_hash}
+use Rattle.archive_forms_values.specs.ShapeCanonical.Reach.{reach, Reaches}
 use Rattle.cabinet_documents.specs.Order.{is_same}
 
--- a full place, the number that it stands for (a hashed map's place itself, a kept map's entry), and the key there
+-- a full place, the number that it represents (in a hashed map the place itself, in a kept map an entry), and the key
+-- there
 pub record Slot : Type 0 where
   pub place : ℕ
   pub number : ℕ
   pub key : List ℕ
 
--- the keys that are to be found, each with its number
+-- a key that is to be found, and its number
 pub record Entry : Type 0 where
   pub number : ℕ
   pub key : List ℕ
@@ -28,7 +29,7 @@ pub record Table : Type 0 where
   pub slots : List Slot
   pub entries : List Entry
 
--- the places of tags, from place i on
+-- the places whose control is a tag, where the first control is at place i
 abbrev pub full_from : ℕ → List ℕ → List ℕ
 full_from i [] = []
 full_from i (c ∷ cs) = cond (nat_lt c 128) (i ∷ full_from (i + 1) cs) (full_from (i + 1) cs)
@@ -48,7 +49,7 @@ abbrev pub numbered : ℕ → List (List ℕ) → List Entry
 numbered i [] = []
 numbered i (k ∷ ks) = record { number = i; key = k } ∷ numbered (i + 1) ks
 
--- a hashed map's keys stand in its full places, in order
+-- a hashed map's keys are in its full places, in order
 abbrev pub hashed_slots : List ℕ → List (List ℕ) → List Slot
 hashed_slots [] ks = []
 hashed_slots (p ∷ ps) [] = []
@@ -57,7 +58,7 @@ hashed_slots (p ∷ ps) (k ∷ ks) = record { place = p; number = p; key = k } �
 abbrev pub entry_of : Slot → Entry
 entry_of s = record { number = s.number; key = s.key }
 
--- a kept map's full places have the number of an entry each
+-- each full place of a kept map has the number of an entry
 abbrev pub kept_slot : List ℕ → ℕ → List (List ℕ) → ℕ → Slot
 kept_slot bytes target ks p = let n = word_at bytes (target - (p + 1) * 4) in record { place = p; number = n; key = slice_index_or ks n [] }
 
@@ -87,19 +88,19 @@ table_of kind bytes pos v =
     empty_table
     (where_led (target_from pos (word_at bytes pos)) (kind bytes (word_at bytes (pos + 8)) (item_keys (members v))))
 
--- ---- what is to hold of a table
+-- ---- the conditions on a table
 
 abbrev pub tag_of : List ℕ → ℕ
 tag_of k = hash_tag (text_hash k)
 
--- the places that a look-up of a key comes to
+-- the places that a look-up of a key visits
 abbrev pub key_reach : Table → List ℕ → List ℕ
 key_reach t k = reach t.controls (text_hash k) t.capacity
 
 abbrev pub slot_at : List Slot → ℕ → Option Slot
 slot_at slots p = find (λ (s : Slot). s.place == p) slots
 
--- a full place names an entry, whose key's tag is its control
+-- a full place names an entry, and its control is the tag of the entry's key
 pub record IsTagged (t : Table) (s : Slot) : Type 0 where
   pub named : Contains t.entries (entry_of s)
   pub tag : slice_index t.controls s.place ≡ tag_of s.key
@@ -111,7 +112,7 @@ pub record IsReached (t : Table) (e : Entry) : Type 0 where
   pub names : entry_of slot ≡ e
   pub reached : Reaches t.controls (text_hash e.key) t.capacity slot.place
 
--- so is each, and no two keys are equal
+-- each place is tagged, each entry is reached, and no two keys are equal
 pub record Findable (t : Table) : Type 0 where
   pub tags : (s : Slot) → Contains t.slots s → IsTagged t s
   pub reached : (e : Entry) → Contains t.entries e → IsReached t e
@@ -129,7 +130,7 @@ answers t k p = (slice_index t.controls p == tag_of k) && has_key (slot_at t.slo
 abbrev pub found : Table → List ℕ → Option ℕ
 found t k = find (answers t k) (key_reach t k)
 
--- it gives this number
+-- the place that was found has this number
 abbrev pub is_numbered : Option Slot → ℕ → Bool
 is_numbered None n = false
 is_numbered (Some s) n = s.number == n

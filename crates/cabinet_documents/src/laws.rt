@@ -1,4 +1,4 @@
-//! Laws of the archives of documents, to be cited.
+//! Laws of the archives of documents, as functions without a body that proofs can cite.
 ghost use Rattle.cabinet_documents.specs.Laws.{DepthDecides, EditsInEitherOrder, OwnBytesApart, AcceptedStands, EditKeepsAccepted, EditKeepsImage, LeavesStand, AbsentHasNoValue, OneWalk, FiveIsAccepted, LeafPut, WalkStands, OneDocument, OneAuditFault, RefusedIsNotAccepted};
 
 /// A part has at most one value and one walk.
@@ -11,7 +11,7 @@ pub fn one_document()
     ensures { OneDocument }
 {}
 
-/// An audit's first fault is one.
+/// Bytes have at most one first fault of the audit.
 pub fn one_audit_fault()
     ensures { OneAuditFault }
 {}
@@ -21,12 +21,12 @@ pub fn refused_is_not_accepted()
     ensures { RefusedIsNotAccepted }
 {}
 
-/// What a root holds has a walk, where no shared position lies inside itself.
+/// The value at a root has a walk, where no shared position lies inside itself.
 pub fn walk_stands()
     ensures { WalkStands }
 {}
 
-/// A leaf that is put in a node's value, at a path through options and lists, is put in the document.
+/// Putting a leaf in a node's value, at a path through options and lists, puts it in the document.
 pub fn leaf_put()
     ensures { LeafPut }
 {}
@@ -36,22 +36,23 @@ pub fn five_is_accepted()
     ensures { FiveIsAccepted }
 {}
 
-/// No value stands at a payload of a kind without a layout.
+/// A payload of a kind without a layout has no value.
 pub fn absent_has_no_value()
     ensures { AbsentHasNoValue }
 {}
 
-/// The own bytes of each leaf of an accepted document stand.
+/// Each leaf of an accepted document has own bytes in the archive.
 pub fn leaves_stand()
     ensures { LeavesStand }
 {}
 
-/// A leaf that is written over the own bytes of another, where an edit may be done, leaves an archive of the document with it.
+/// Writing a leaf over the own bytes of another, where the edit may be done, leaves an archive of the document with the
+/// edit.
 pub fn edit_keeps_accepted()
     ensures { EditKeepsAccepted }
 {}
 
-/// And where they were the one archive of a document, they are that of the document with the edit.
+/// The same edit of the one archive of a document leaves the one archive of the document with the edit.
 pub fn edit_keeps_image()
     ensures { EditKeepsImage }
 {}
@@ -61,12 +62,12 @@ pub fn accepted_stands()
     ensures { AcceptedStands }
 {}
 
-/// What a root holds denotes a document: the bytes are accepted as it, or its containers lie too deep in one another.
+/// The value at a root denotes a document: either the bytes are accepted as it, or its containers are nested too deep.
 pub fn depth_decides()
     ensures { DepthDecides }
 {}
 
-/// The own bytes of leaves at different paths do not meet.
+/// The own bytes of leaves at different paths do not overlap.
 pub fn own_bytes_apart()
     ensures { OwnBytesApart }
 {}

@@ -1,4 +1,8 @@
+pub mod Boxes
+pub mod CanonicalLemmas
 pub mod Documents
 pub mod Doubtful
-pub mod Boxes
+mod ImageLemmas
 pub mod Refused
+pub mod Spoilt
+pub mod Stored

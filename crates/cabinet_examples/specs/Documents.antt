@@ -1,9 +1,9 @@
 -- Documents that are written out, with the values that they hold and the regions that they claim.
 use Rattle.std.specs.Prelude.{ℕ, zero, suc, ◌+◌, true, List, [], ◌∷◌, ◌++◌, codes, pos}
 use Prim.Native.String.{String}
-use Rattle.archive_shape_layout.specs.Value.{Value}
-use Rattle.archive_shape_layout.specs.Value.Value.{integer, boolean, string, chosen, counted}
-use Rattle.archive_shape_layout.specs.Holds.{Region}
+use Rattle.cabinet_documents.specs.ShapeLayout.Value.{Value}
+use Rattle.cabinet_documents.specs.ShapeLayout.Value.Value.{integer, boolean, string, chosen, counted}
+use Rattle.cabinet_documents.specs.ShapeLayout.Holds.{Region}
 use Rattle.cabinet_examples.specs.Node.{node_shape, node_names}
 use Rattle.cabinet_examples.specs.Pieces.{zeros, filler, inline, number_node, values, group_of, item_of, region}
 use Rattle.cabinet_examples.specs.Root.{HoldsAtRoot}
@@ -112,7 +112,7 @@ empty_list_bytes = 0x05 ∷ zeros 3 ++ 0xfc ∷ 0xff ∷ 0xff ∷ 0xff ∷ zeros
 abbrev pub EmptyList : Type 0
 EmptyList = HoldsDocument empty_list_bytes 24 0 (list_value []) (region 0 0 8 1 ∷ region 0 24 8 0 ∷ [])
 
--- ---- a shared text that a list holds twice stands once, and is claimed at its first visit
+-- ---- a shared text that a list holds twice is written once, and is claimed at its first visit
 
 abbrev pub shared_text_bytes : List ℕ
 shared_text_bytes =

@@ -1,4 +1,4 @@
--- Documents that no writer makes: the layout allows keys that repeat, tags of other keys and any padding. And the
+-- Documents that no writer makes, since the layout allows keys that repeat, tags of other keys and any padding; and the
 -- empty buffer.
 use Rattle.std.specs.Prelude.{ℕ, List, [], ◌∷◌, ◌++◌}
 use Rattle.cabinet_examples.specs.Node.{node_shape, node_names}
@@ -29,7 +29,7 @@ repeated_hashed_bytes =
     ++ 0x55 ∷ 0xff ∷ 0x55 ∷ 0x55 ∷ 0xff ∷ 0x55 ∷ filler 25 ++ zeros 1
     ++ 0x07 ∷ zeros 3 ++ 0xdc ∷ 0xff ∷ 0xff ∷ 0xff ∷ 0x02 ∷ zeros 3 ++ 0x03 ∷ zeros 3 ++ zeros 8
 
--- the items stand in the order of their places, bucket 0 last in the buffer
+-- the items are in the order of their places, bucket 0 last in the buffer
 abbrev pub HashedMapWithARepeatedKey : Type 0
 HashedMapWithARepeatedKey =
     HoldsDocument repeated_hashed_bytes 152 128
@@ -51,7 +51,8 @@ HashedMapWithAnotherTag =
     (hashed_value (item_of "a" (number_value 1) ∷ []))
     (region 0 95 8 1 ∷ region 96 24 8 0 ∷ [])
 
--- ---- bytes of no field may be any, and so may those after the root, of which there are fewer than its alignment
+-- ---- bytes that belong to no field may have any value, and so may those after the root, which are fewer than its
+-- alignment
 
 abbrev pub padded_bytes : List ℕ
 padded_bytes =
@@ -67,7 +68,7 @@ OrderedMapWithPadding =
     (ordered_value (item_of "coffee" (number_value 300) ∷ item_of "tea" (number_value 250) ∷ []))
     (region 0 176 8 1 ∷ region 176 24 8 0 ∷ [])
 
--- ---- nothing at all
+-- ---- the empty buffer
 
 abbrev pub EmptyBuffer : Type 0
 EmptyBuffer = HoldsNothing node_names node_shape [] 0 0

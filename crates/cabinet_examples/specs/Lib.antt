@@ -1,8 +1,12 @@
-pub mod Node
-pub mod Sizes
-pub mod Pieces
-pub mod Root
+pub mod Boxes
+pub mod Canonical
 pub mod Documents
 pub mod Doubtful
-pub mod Boxes
+pub mod Images
+pub mod Node
+pub mod Pieces
 pub mod Refused
+pub mod Root
+pub mod Sizes
+pub mod Spoilt
+pub mod Stored

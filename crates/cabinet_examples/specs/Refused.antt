@@ -1,15 +1,15 @@
--- One buffer for each rule that refuses: it breaks that rule alone. And beside the limits, what is still accepted.
+-- One buffer for each rule that refuses, which breaks only that rule; and at the limits, what is still accepted.
 use Rattle.std.specs.Prelude.{ℕ, zero, suc, ◌+◌, true, false, Bool, List, [], ◌∷◌, ◌++◌, codes}
 use Rattle.std.specs.Int.{w8, w32}
-use Rattle.archive_shape_layout.specs.Shape.{Shape}
-use Rattle.archive_shape_layout.specs.Shape.Alignment.{four}
-use Rattle.archive_shape_layout.specs.Shape.Shape.{number, character, tuple, shared, tree, named}
-use Rattle.archive_shape_layout.specs.Shape.Shapes.{no_shapes, more_shapes}
-use Rattle.archive_shape_layout.specs.Shape.Pointee.{sized, slice}
-use Rattle.archive_shape_layout.specs.Value.{Value}
-use Rattle.archive_shape_layout.specs.Value.Value.{counted, back}
-use Rattle.archive_shape_layout.specs.Content.{Names}
-use Rattle.archive_shape_layout.specs.Holds.{Region}
+use Rattle.cabinet_documents.specs.ShapeLayout.Shape.{Shape}
+use Rattle.cabinet_documents.specs.ShapeLayout.Shape.Alignment.{four}
+use Rattle.cabinet_documents.specs.ShapeLayout.Shape.Shape.{number, character, tuple, shared, tree, named}
+use Rattle.cabinet_documents.specs.ShapeLayout.Shape.Shapes.{no_shapes, more_shapes}
+use Rattle.cabinet_documents.specs.ShapeLayout.Shape.Pointee.{sized, slice}
+use Rattle.cabinet_documents.specs.ShapeLayout.Value.{Value}
+use Rattle.cabinet_documents.specs.ShapeLayout.Value.Value.{counted, back}
+use Rattle.cabinet_documents.specs.ShapeLayout.Content.{Names}
+use Rattle.cabinet_documents.specs.ShapeLayout.Holds.{Region}
 use Rattle.cabinet_examples.specs.Node.{node_shape, node_names}
 use Rattle.cabinet_examples.specs.Pieces.{zeros, filler, inline, number_node, group_of, region}
 use Rattle.cabinet_examples.specs.Root.{HoldsAtRoot, HoldsNothing}
@@ -39,7 +39,7 @@ TruthValueOfTwo = NoDocument (0x00 ∷ 0x02 ∷ zeros 22) 24 0
 abbrev pub SurrogateChar : Type 0
 SurrogateChar = HoldsNothing [] character (0x00 ∷ 0xd8 ∷ zeros 2) 4 0
 
--- ---- texts: a byte c3 wants another after it, and eight bytes stand inline
+-- ---- texts: a byte c3 requires another after it, and eight bytes are inline
 
 abbrev pub BrokenInlineText : Type 0
 BrokenInlineText = NoDocument (0x02 ∷ zeros 3 ++ 0x61 ∷ 0xc3 ∷ filler 6 ++ zeros 12) 24 0
@@ -55,7 +55,7 @@ abbrev pub LongTextOfEight : Type 0
 LongTextOfEight =
     NoDocument (codes "hello wo" ++ 0x02 ∷ zeros 3 ++ 0x88 ∷ 0x00 ∷ 0x00 ∷ 0x00 ∷ 0xf4 ∷ 0xff ∷ 0xff ∷ 0xff ∷ zeros 12) 32 8
 
--- ---- a hashed map of one number in bucket 1 of two, but for its controls and its capacity
+-- ---- a hashed map of one number in bucket 1 of two, except for its controls and its capacity
 
 abbrev pub hashed_bytes : List ℕ → ℕ → List ℕ
 hashed_bytes controls cap =
@@ -90,7 +90,7 @@ outside_bytes =
 abbrev pub PlaceOutsideTheMap : Type 0
 PlaceOutsideTheMap = NoDocument outside_bytes 96 72
 
--- ---- an ordered map in a leaf, but for the leaf's kind and length
+-- ---- an ordered map in a leaf, except for the leaf's kind and length
 
 abbrev pub leaf_bytes : ℕ → ℕ → List ℕ
 leaf_bytes kind len =

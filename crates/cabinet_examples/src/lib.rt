@@ -1,8 +1,12 @@
 //! Worked archives: the definitions of the layout, run on bytes that are written out.
 //!
-//! Each function below has no body: it carries what one buffer holds at its root, with the regions that are claimed on
-//! the way, or that it holds nothing there.
+//! Each function has no body. The contract of a function below states what one buffer holds at its root, with the
+//! regions that are claimed, or that the buffer holds nothing there. The contracts of the other modules state which
+//! archives are canonical, what some archives store in fields of a limited width, and the images of documents.
 #![tactic(auto)]
+
+mod canonical;
+mod images;
 
 ghost use Rattle.cabinet_examples.specs.Sizes.{NodeSizes};
 ghost use Rattle.cabinet_examples.specs.Documents.{NumberAtTheRoot, TruthAtTheRoot, LongTextAtTheRoot, NothingAtTheRoot, SomeNumber, SixtyFourOptions, EmptyList, SharedTextTwice, EmptySharedTextTwice, OrderedMapOfTwo, OrderedMapOfSix, OrderedMapWithAnEmptyLeaf, HashedMapOfOne, ListInAMapInAMap, KeptMapOfTwo, EmptyKeptMap};
@@ -10,17 +14,39 @@ ghost use Rattle.cabinet_examples.specs.Doubtful.{OrderedMapWithARepeatedKey, Ha
 ghost use Rattle.cabinet_examples.specs.Boxes.{BoxedBytesInAnOption, BoxesThatLeadBeforeTheBuffer, BoxesThatOverlap, BoxesInACircle, OnePositionWithTwoLengths, MapOfANonzeroNumber, LeafShorterThanItsMap, MapWithAKeyOfZero};
 ghost use Rattle.cabinet_examples.specs.Refused.{BoxThatIsNotAligned, UnknownTag, UnknownTagOfAnOption, TruthValueOfTwo, SurrogateChar, BrokenInlineText, BrokenLongText, LongTextOfEight, TableWithoutRoom, ControlThatDoesNotRepeat, EmptyControlThatDoesNotRepeat, TagBeyondTwiceTheCapacity, MoreTagsThanItems, PlaceOutsideTheMap, LeafOfSix, UnknownKindOfNode, ThirtyTwoLevels, ThirtyThreeLevels, OnePositionWithTwoShapes, LoopOfAFlavorWithCycles, LoopOfAFlavorWithoutCycles};
 
+pub use canonical::{
+    byte_behind_the_root, capacity_greater_than_needed, capacity_without_entries,
+    empty_bucket_that_is_not_zero, empty_control_that_is_not_ff, empty_kept_map_is_canonical,
+    empty_list_is_canonical, empty_ordered_map_is_canonical, empty_shared_text_twice_is_canonical,
+    fields_of_a_shared_text, fields_of_a_text, fields_of_nested_maps,
+    filler_of_a_text_that_is_not_ff, gap_before_a_box, gap_before_the_root, hash_of_a,
+    hash_of_the_empty_text, hashed_map_of_one_is_canonical, hashed_map_of_two_is_canonical,
+    kept_map_of_two_is_canonical, kept_map_that_is_not_by_first_fit,
+    list_in_a_map_in_a_map_is_canonical, long_text_is_canonical, nothing_is_canonical,
+    number_is_canonical, offset_without_entries, ordered_map_of_five_is_canonical,
+    ordered_map_of_six_is_canonical, ordered_map_of_two_is_canonical, padding_that_is_not_zero,
+    shared_text_that_stands_twice, shared_text_twice_is_canonical, short_text_is_canonical,
+    some_number_is_canonical, table_that_is_not_by_first_fit, tag_of_another_key,
+    tree_higher_than_its_entries_need, tree_that_is_not_filled_from_the_left, truth_is_canonical,
+    unused_slot_that_is_not_zero,
+};
+pub use images::{
+    empty_list_image, empty_shared_text_image, five_image, list_of_an_empty_list_image,
+    long_text_image, nothing_image, seven_and_nineteen_image, shared_text_image, some_five_image,
+    true_image, world_image,
+};
+
 /// A document node takes 24 bytes, the item of a map 32, a leaf of an ordered map 176 and an inner node 192.
 pub fn node_sizes()
     ensures { NodeSizes }
 {}
 
-/// A number alone: 24 bytes, the root at 0.
+/// A number alone has 24 bytes, with the root at 0.
 pub fn number_at_the_root()
     ensures { NumberAtTheRoot }
 {}
 
-/// A truth value alone.
+/// A truth value alone has 24 bytes, with the root at 0.
 pub fn truth_at_the_root()
     ensures { TruthAtTheRoot }
 {}
@@ -30,12 +56,12 @@ pub fn long_text_at_the_root()
     ensures { LongTextAtTheRoot }
 {}
 
-/// An option that is none.
+/// An option that is none claims only the region of its node.
 pub fn nothing_at_the_root()
     ensures { NothingAtTheRoot }
 {}
 
-/// An option of a number leads to a node of its own before the root.
+/// An option of a number points to its own node before the root.
 pub fn some_number()
     ensures { SomeNumber }
 {}
@@ -50,12 +76,12 @@ pub fn empty_list()
     ensures { EmptyList }
 {}
 
-/// A list with one shared text twice: the text stands once, is claimed once, and both nodes have its position.
+/// A list with one shared text twice: the text is written once, is claimed once, and both nodes have its position.
 pub fn shared_text_twice()
     ensures { SharedTextTwice }
 {}
 
-/// The same with an empty shared text, at a position of its own.
+/// The same with an empty shared text, which has its own position.
 pub fn empty_shared_text_twice()
     ensures { EmptySharedTextTwice }
 {}
@@ -85,12 +111,12 @@ pub fn list_in_a_map_in_a_map()
     ensures { ListInAMapInAMap }
 {}
 
-/// A map that keeps its order: a table of places, and then the entries in their order.
+/// A map that keeps its order has a table of places, and then the entries in their order.
 pub fn kept_map_of_two()
     ensures { KeptMapOfTwo }
 {}
 
-/// A kept map without entries does not look at its pointers.
+/// The pointers of a kept map without entries are not read.
 pub fn empty_kept_map()
     ensures { EmptyKeptMap }
 {}
@@ -100,7 +126,7 @@ pub fn ordered_map_with_a_repeated_key()
     ensures { OrderedMapWithARepeatedKey }
 {}
 
-/// A hashed map may have one key twice; its items stand in the order of their places.
+/// A hashed map may have one key twice; its items are in the order of their places.
 pub fn hashed_map_with_a_repeated_key()
     ensures { HashedMapWithARepeatedKey }
 {}
@@ -110,7 +136,7 @@ pub fn hashed_map_with_another_tag()
     ensures { HashedMapWithAnotherTag }
 {}
 
-/// Bytes of no field may be any, and fewer bytes than the root's alignment may follow it.
+/// Bytes that belong to no field may have any value, and fewer bytes than the root's alignment may follow the root.
 pub fn ordered_map_with_padding()
     ensures { OrderedMapWithPadding }
 {}
@@ -120,7 +146,7 @@ pub fn empty_buffer()
     ensures { EmptyBuffer }
 {}
 
-/// An option of a box of eleven bytes.
+/// An option of a box of eleven bytes holds these bytes.
 pub fn boxed_bytes_in_an_option()
     ensures { BoxedBytesInAnOption }
 {}
@@ -145,12 +171,12 @@ pub fn one_position_with_two_lengths()
     ensures { OnePositionWithTwoLengths }
 {}
 
-/// A search tree of one pair of numbers, its leaf of 48 bytes.
+/// A search tree of one pair of numbers is a leaf of 48 bytes.
 pub fn map_of_a_nonzero_number()
     ensures { MapOfANonzeroNumber }
 {}
 
-/// A search tree holds nothing where it claims more entries than its nodes have.
+/// A search tree holds nothing where its length is greater than the number of entries in its nodes.
 pub fn leaf_shorter_than_its_map()
     ensures { LeafShorterThanItsMap }
 {}
@@ -195,7 +221,7 @@ pub fn broken_long_text()
     ensures { BrokenLongText }
 {}
 
-/// A text of eight bytes stands inline only.
+/// A text of eight bytes is inline only.
 pub fn long_text_of_eight()
     ensures { LongTextOfEight }
 {}
@@ -210,7 +236,7 @@ pub fn control_that_does_not_repeat()
     ensures { ControlThatDoesNotRepeat }
 {}
 
-/// They repeat them byte by byte, also where both stand for an empty place.
+/// The controls repeat byte by byte, even where both bytes represent an empty place.
 pub fn empty_control_that_does_not_repeat()
     ensures { EmptyControlThatDoesNotRepeat }
 {}
@@ -220,7 +246,7 @@ pub fn tag_beyond_twice_the_capacity()
     ensures { TagBeyondTwiceTheCapacity }
 {}
 
-/// There are as many tags as items.
+/// A table has as many tags as items.
 pub fn more_tags_than_items()
     ensures { MoreTagsThanItems }
 {}
@@ -260,7 +286,7 @@ pub fn loop_of_a_flavor_with_cycles()
     ensures { LoopOfAFlavorWithCycles }
 {}
 
-/// Elsewhere it holds nothing.
+/// A counted pointer to itself holds nothing where its flavor does not allow it.
 pub fn loop_of_a_flavor_without_cycles()
     ensures { LoopOfAFlavorWithoutCycles }
 {}

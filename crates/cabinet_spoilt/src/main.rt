@@ -1,5 +1,5 @@
-//! Opens archives in which one byte was changed, each byte to each other value, and tells how many of them were refused or
-//! answered and then were as before.
+//! Opens archives in which one byte was changed, each byte to each other value, and prints how many of them were
+//! refused or answered and then were unchanged.
 #![tactic(auto)]
 
 mod spoiling;

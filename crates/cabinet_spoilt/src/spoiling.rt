@@ -1,10 +1,10 @@
-//! How many archives in which one byte was changed are left as they were.
+//! The number of archives with one changed byte that opening and asking leave unchanged.
 ghost use Rattle.std.specs.Prelude.{◌<◌, length};
 
 use cabinet::{Line, open};
 use std::alloc::{AllocError, Global};
 
-/// An archive with another value of one byte.
+/// Returns an archive with another value of one byte.
 fn spoilt(alloc: Global, archive: &[u8], index: usize, value: u8) -> Result<Vec<u8>, AllocError>
     requires { index < length archive.now }
 {
@@ -15,7 +15,7 @@ fn spoilt(alloc: Global, archive: &[u8], index: usize, value: u8) -> Result<Vec<
     Ok(bytes)
 }
 
-/// Whether bytes are refused, or a question about their document is answered.
+/// Returns whether bytes are refused, or a question about their document is answered.
 fn returns(alloc: Global, bytes: &mut [u8]) -> bool {
     match open(alloc, bytes) {
         Ok(opened) => opened
@@ -25,7 +25,7 @@ fn returns(alloc: Global, bytes: &mut [u8]) -> bool {
     }
 }
 
-/// Whether an archive with another value of one byte is refused or answered, and then as it was before.
+/// Returns whether an archive with another value of one byte is refused or answered, and then unchanged.
 fn is_left(alloc: Global, archive: &[u8], index: usize, value: u8) -> Result<bool, AllocError>
     requires { index < length archive.now }
 {
@@ -34,7 +34,7 @@ fn is_left(alloc: Global, archive: &[u8], index: usize, value: u8) -> Result<boo
     Ok(returns(alloc, bytes.as_mut_slice()) && bytes.as_slice() == before.as_slice())
 }
 
-/// How many of the other values of one byte leave the archive so.
+/// Returns the number of other values of one byte with which the archive is refused or answered, and then unchanged.
 fn count_at(alloc: Global, archive: &[u8], index: usize) -> u32
     requires { index < length archive.now }
 {
@@ -47,7 +47,7 @@ fn count_at(alloc: Global, archive: &[u8], index: usize) -> u32
     count
 }
 
-/// How many of the archives with another value of one byte are refused or answered, and then as they were before.
+/// Returns the number of archives with another value of one byte that are refused or answered, and then unchanged.
 pub fn count_left(alloc: Global, archive: &[u8]) -> u32 {
     let mut count: u32 = 0;
     for index in 0..archive.len() {

@@ -6,7 +6,7 @@ use archive_shape_writing::{Error, Positional, Registry, Writer};
 use cabinet::{Source, SourceFailed};
 use std::alloc::Global;
 
-/// A source that gives at most n bytes at a time, and fails after n reads.
+/// A source that gives at most `most` bytes at a time, and fails after `reads_left` reads.
 #[derive(Drop)]
 pub struct SliceSource<'a> {
     bytes: &'a [u8],
@@ -16,6 +16,7 @@ pub struct SliceSource<'a> {
 }
 
 impl<'a> SliceSource<'a> {
+    /// Returns a source of `bytes` that fails after `reads` reads, and gives at most `most` bytes at a time.
     pub fn new(bytes: &'a [u8], reads: usize, most: usize) -> Self
         ensures { result.failures ≡ 0 }
     {
@@ -49,7 +50,7 @@ impl Source for SliceSource<'_> {
     }
 }
 
-/// A writer that fails after n writes, and writes nothing of the piece that failed.
+/// A writer that fails after `writes_left` writes, and writes nothing of the piece that failed.
 #[derive(Drop)]
 pub struct FailingWriter {
     bytes: Vec<u8>,
@@ -59,6 +60,7 @@ pub struct FailingWriter {
 }
 
 impl FailingWriter {
+    /// Returns a writer that fails after `writes` writes.
     pub fn new(alloc: Global, writes: usize) -> Self
         ensures { result.failures ≡ 0 }
     {
@@ -70,6 +72,7 @@ impl FailingWriter {
         }
     }
 
+    /// Returns the bytes that were written.
     pub fn bytes(&self) -> &[u8] {
         self.bytes.as_slice()
     }

@@ -1,4 +1,4 @@
-//! Archives that are asked and edited line by line, without a source.
+//! Tests of questions and edits in archives, line by line and without a source.
 use crate::doubles::FailingWriter;
 use crate::saved::archive_of;
 use crate::sessions::five;

@@ -1,4 +1,4 @@
-//! The texts of faults and refusals.
+//! Tests of the texts of faults and refusals.
 use archive_shape_writing::Error;
 use cabinet::{
     Cause, Fault, OpenRefusal, RunCause, RunFault, SaveRefusal, SourceFailed, TextRefusal,
@@ -8,7 +8,7 @@ use std::fmt::Display;
 use std::process::Abort;
 use std::test::Fail;
 
-/// Whether a fault has this line and this exit status.
+/// Checks that a fault has this line and this exit status.
 fn has_line(rt: &(impl Abort + AllocGlobal), fault: &Fault, line: &[u8], status: u8) {
     let mut written = Vec::new(rt.alloc());
     assert!(rt; fault_line(fault, &mut written).is_ok());
@@ -16,7 +16,7 @@ fn has_line(rt: &(impl Abort + AllocGlobal), fault: &Fault, line: &[u8], status:
     assert_eq!(rt; fault.status(), status);
 }
 
-/// Whether a value is printed as this text.
+/// Checks that a value is printed as this text.
 fn is_printed_as(rt: &(impl Abort + AllocGlobal), value: &impl Display, text: &str) {
     let printed = value.to_string(rt.alloc()).expect(rt, "memory");
     assert_eq!(rt; printed.as_str(), text);

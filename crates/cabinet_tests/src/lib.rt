@@ -1,6 +1,8 @@
-//! Tests of the cabinet: what the contracts of saving, opening, sessions and faults leave open, on examples.
+//! Tests of the cabinet on examples: what the contracts of saving, opening, sessions and faults leave open.
 #![tactic(auto)]
 
+#[cfg(test)]
+mod archived;
 #[cfg(test)]
 mod doubles;
 #[cfg(test)]
@@ -10,8 +12,14 @@ mod faults;
 #[cfg(test)]
 mod limits;
 #[cfg(test)]
+mod opening;
+#[cfg(test)]
+mod reading_back;
+#[cfg(test)]
 mod refused;
 #[cfg(test)]
 mod saved;
+#[cfg(test)]
+mod saving;
 #[cfg(test)]
 mod sessions;

@@ -1,11 +1,11 @@
-//! The longest line of a session.
+//! Tests of the longest line of a session.
 use crate::doubles::{FailingWriter, SliceSource};
 use crate::sessions::{counted, faulted, five, run_in};
 use cabinet::RunCause;
 use std::alloc::{AllocError, Global};
 use std::test::Fail;
 
-/// A line, and then n bytes without a newline.
+/// Returns `first`, and after it `len` bytes without a newline.
 fn long_line(alloc: Global, first: &[u8], len: usize) -> Result<Vec<u8>, AllocError> {
     let mut input = Vec::from_slice(alloc, first)?;
     for _ in 0..len {

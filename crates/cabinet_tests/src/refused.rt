@@ -1,4 +1,4 @@
-//! Bytes that are no archive, with the first fault of each, and options as deep in one another as there may be.
+//! Tests of bytes that are no archive, with the first fault of each, and of options nested as deep as is allowed.
 use crate::doubles::{FailingWriter, SliceSource};
 use crate::saved::archive_of;
 use crate::sessions::{counted, run_in};
@@ -19,7 +19,7 @@ const TWO_OPTIONS: [u8; 120] =
 const TWO_SHARED: [u8; 88] =
     *b"hello world!\0\0\0\0\x03\0\0\0\xec\xff\xff\xff\x0c\0\0\0\0\0\0\0\0\0\0\0\0\0\0\0\x03\0\0\0\xd4\xff\xff\xff\x0c\0\0\0\0\0\0\0\0\0\0\0\0\0\0\0\x05\0\0\0\xcc\xff\xff\xff\x02\0\0\0\0\0\0\0\0\0\0\0\0\0\0\0";
 
-/// An option of the node right before it.
+/// An option of the node directly before it.
 const SOME: [u8; 24] = *b"\x04\0\0\0\x01\0\0\0\xe0\xff\xff\xff\0\0\0\0\0\0\0\0\0\0\0\0";
 
 #[test]
@@ -113,7 +113,7 @@ fn bytes_that_are_no_archive_stay(rt: HostRuntime) {
     assert!(rt; bytes == [6; 24]);
 }
 
-/// The text of the number 1 in so many options.
+/// Returns the text of the number 1 in `count` options.
 fn options(alloc: Global, count: u32) -> Result<Vec<u8>, AllocError> {
     let mut text = Vec::new(alloc);
     for _ in 0..count {
@@ -123,7 +123,7 @@ fn options(alloc: Global, count: u32) -> Result<Vec<u8>, AllocError> {
     Ok(text)
 }
 
-/// A question for the head inside so many options.
+/// Returns a question for the head inside `count` options.
 fn question(alloc: Global, count: u32) -> Result<Vec<u8>, AllocError> {
     let mut line = Vec::new(alloc);
     line.extend_from_slice(b"get")?;

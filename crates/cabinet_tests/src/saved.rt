@@ -1,11 +1,11 @@
-//! Documents that are saved, refused and worked in.
+//! Tests of documents that are saved, refused and worked in.
 use crate::doubles::{FailingWriter, SliceSource};
 use archive_shape_writing::{Error, Positional};
 use cabinet::{SaveRefusal, check, read_text, save, work};
 use std::alloc::Global;
 use std::test::Fail;
 
-/// The archive of the document that has a text.
+/// Returns the archive of the document that has a text.
 pub fn archive_of(alloc: Global, text: &[u8]) -> Result<Vec<u8>, Fail> {
     let document = read_text(alloc, text).map_err(|_| "no document")?;
     let mut archive = Vec::new(alloc);

@@ -1,11 +1,11 @@
-//! Sessions in the archive of one number: their answers, counts and faults.
+//! Tests of sessions in the archive of one number: their answers, counts and faults.
 ghost use Rattle.std.specs.Prelude.{◌≡◌};
 
 use crate::doubles::{FailingWriter, SliceSource};
 use cabinet::{Count, RunCause, RunFault, open, run};
 use std::alloc::Global;
 
-/// The archive of `int 5`.
+/// Returns the archive of `int 5`.
 pub fn five() -> [u8; 24] {
     let mut bytes = [0u8; 24];
     bytes[0] = 1;
@@ -13,7 +13,7 @@ pub fn five() -> [u8; 24] {
     bytes
 }
 
-/// What a run in these bytes comes to, if they are an archive.
+/// Carries out a run in bytes and returns its outcome, if the bytes are an archive.
 pub fn run_in(
     alloc: Global,
     bytes: &mut [u8],
@@ -30,10 +30,12 @@ pub fn run_in(
     Some(run(alloc, &mut opened, &mut source, writer))
 }
 
+/// Returns the outcome of a run without a fault.
 pub fn counted(lines: u64, edits: u64) -> Option<Result<Count, RunFault>> {
     Some(Ok(Count { lines, edits }))
 }
 
+/// Returns the outcome of a run that ended with a fault.
 pub fn faulted(cause: RunCause, lines: u64, edits: u64) -> Option<Result<Count, RunFault>> {
     Some(Err(RunFault {
         cause,
@@ -107,7 +109,8 @@ fn a_failed_read_ends_the_run(rt: HostRuntime) {
     assert_eq!(rt; bytes[8], 6);
 }
 
-// Memory is taken for the line begun, for a line's text and by the writer. It may be refused where a test runs with little.
+// Memory is allocated for the line begun, for a line's text and by the writer. An allocation may fail where a test runs
+// with little memory.
 #[test]
 fn a_refusal_of_memory_is_told(rt: HostRuntime) {
     let mut bytes = five();

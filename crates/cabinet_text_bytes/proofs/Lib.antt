@@ -1,4 +1,4 @@
-pub mod Numbers
-pub mod Runs
-pub mod Plain
 pub mod Counted
+pub mod Numbers
+pub mod Plain
+pub mod Runs

@@ -11,7 +11,7 @@ use Rattle.std.proofs.Math.ListN.{set}
 use lib.Signed.{lt_z}
 use mathlib.Core.Bool.{true, false}
 
--- the last digit of the rest goes before those that stand already
+-- the last digit of the rest goes before those that are written already
 pub digit_put : (bytes : List ℕ) (start rest : ℕ) → 10 ≤ rest → rest < 2 ^ 64 → start < length bytes → decimal (rest / 10) ++ drop start (set bytes start (48 + rest % 10)) ≡ decimal rest ++ drop (start + 1) bytes
 digit_put bytes start rest more below within =
     ap (λ d. decimal (rest / 10) ++ d) (drop-set bytes start (48 + rest % 10) within)
@@ -44,7 +44,7 @@ sign_put bytes start z room within digits negative =
 digits_model : IsNumeralModel (AllDigits 10) (digits_value 10)
 digits_model = numerals_by_value (AllDigits 10) tells_digits
 
--- digits are a count in its shortest form where no zero stands before others
+-- digits are a count in its shortest form where there is no zero before others
 pub count_read : (digits : List ℕ) (r : Option ℕ)
     → 0 < length digits
     → (get_or digits 0 0 ≡ 48 → length digits ≡ 1)
@@ -58,7 +58,7 @@ count_read digits (Some n) some short read =
     let small : digits_value 10 digits < 2 ^ 64 = omega (arith, read.0, read.2) in
     sym (decimal-digits_value digits_model digits read.1 some short small) ∙ ap decimal read.2
 
--- a zero stands before no other digit
+-- a zero is before no other digit
 pub leading_zero : (n : ℕ) → n < 2 ^ 64 → get_or (decimal n) 0 0 ≡ 48 → length (decimal n) ≡ 1
 leading_zero zero below e = ap length (decimal_digit 0 (omega arith))
 leading_zero (suc n) below e = absurd (omega (arith, first_decimal (suc n) (omega arith) below, e))

@@ -1,4 +1,4 @@
--- Runs of bytes that stand for themselves, in escaped texts.
+-- Runs of bytes that represent themselves, in escaped texts.
 use Rattle.std.proofs.Common.{◌≡◌, ◌≢◌, ℕ, ◌-◌, ◌<◌, List, [], ◌∷◌, ◌++◌, length, get_or, take, drop, sym, ap, ◌∙◌, refl, inl, inr, subst, arith, append_assoc, length-drop, true, not, ◌&&◌}
 use Rattle.std.specs.Prelude.{◌==◌, nat_lt}
 use Rattle.std.specs.List.{list_all}
@@ -32,7 +32,7 @@ differs b c h =
       | inr other ↦ other.1
     ]
 
--- plain bytes stand for themselves
+-- plain bytes represent themselves
 pub own_form : (bytes : List ℕ) → list_all is_plain_byte bytes ≡ true → bytes ≡ escaped bytes
 own_form [] h = refl
 own_form (b ∷ bs) h =
@@ -46,13 +46,13 @@ Lacks-front : (c : ℕ) (xs ys : List ℕ) → Lacks c (xs ++ ys) → Lacks c xs
 Lacks-front c [] ys p = tt
 Lacks-front c (x ∷ xs) ys p = (p.0, Lacks-front c xs ys p.1)
 
--- the front of an escaped text stands for itself where it has no backslash
+-- the front of an escaped text represents itself where it has no backslash
 plain_front : (front rest t : List ℕ) → front ++ rest ≡ escaped t → Lacks 92 front → escaped front ≡ front
 plain_front front rest t h no_backslash =
     let lacks : (c : ℕ) → Lacks c (escaped t) → Lacks c front = λ c p. Lacks-front c front rest (subst (Lacks c) (sym h) p) in
     escaped-plain front (no_backslash, lacks 10 (Lacks-escaped 10 t (inl refl)), lacks 32 (Lacks-escaped 32 t (inr refl)))
 
--- an escaped text in which no backslash stands
+-- an escaped text without a backslash
 pub no_escape : (bytes t : List ℕ) → bytes ≡ escaped t → ((k : ℕ) → k < length bytes → get_or bytes k 0 ≢ 92) → bytes ≡ escaped bytes
 no_escape bytes t h none = sym (escaped-plain bytes (Lacks-from_get_or 92 bytes none, subst (Lacks 10) (sym h) (Lacks-escaped 10 t (inl refl)), subst (Lacks 32) (sym h) (Lacks-escaped 32 t (inr refl))))
 
@@ -69,7 +69,7 @@ pub split_there : (bytes t after : List ℕ) (start b : ℕ) → bytes ≡ escap
 split_there bytes t after start b h before rest =
     sym (take-append-drop start bytes) ∙ ap (λ w. take start bytes ++ w) (sym (to_end bytes start) ∙ rest) ∙ ap (λ w. w ++ (escaped_byte b ++ after)) (sym (run_stands bytes t start h before))
 
--- what stands after the front of an escaped text begins with a byte's escaped form, if anything does
+-- the bytes after the front of an escaped text begin with a byte's escaped form, if there are any
 pub byte_there : (bytes t : List ℕ) (start : ℕ) → bytes ≡ escaped t → ((k : ℕ) → k < start → get_or bytes k 0 ≢ 92) → start < length bytes → ((b : ℕ) (u : List ℕ) → take (length bytes - start) (drop start bytes) ≢ escaped (b ∷ u)) → ⊥
 byte_there bytes t start h before within none = at_text after.text after.escapes where
   after : After (take start bytes) (drop start bytes) t

@@ -12,7 +12,7 @@ use Rattle.cabinet_text_grammar.proofs.Escapes.{escaped-append}
 abbrev pub run : List ℕ → ℕ → ℕ → List ℕ
 run text i j = take (j - i) (drop i text)
 
--- up to `end`, the bytes from `start` on stand for themselves
+-- up to `end`, the bytes from `start` on represent themselves
 abbrev pub IsRun : List ℕ → ℕ → ℕ → Type 0
 IsRun text start end = escaped (take end text) ≡ escaped (take start text) ++ run text start end
 
@@ -30,7 +30,7 @@ run_more text start end below within =
     ∙ take_more (drop start text) (end - start) 0 inside
     ∙ ap (λ b. run text start end ++ b ∷ []) (get_or-drop start text (end - start) 0 ∙ ap (λ n. get_or text n 0) there)
 
--- a byte that stands for itself
+-- a byte that represents itself
 pub longer_run : (text : List ℕ) (start end : ℕ) → start ≤ end → end < length text → escaped_byte (get_or text end 0) ≡ get_or text end 0 ∷ [] → IsRun text start end → IsRun text start (end + 1)
 longer_run text start end below within plain is_run =
     let b = get_or text end 0 in

@@ -1,1 +1,2 @@
 pub mod Words
+pub use Rattle.cabinet_text_grammar.specs as TextGrammar

@@ -1,4 +1,4 @@
-//! Escaped texts: which bytes are one, and the text that they stand for.
+//! Reads escaped texts: whether bytes are one, and the text that they represent.
 ghost use Rattle.std.specs.Prelude.{◌≡◌, ◌≢◌, ℕ, ◌<◌, List, ◌∷◌, ◌++◌, length, slice_index, EachIndex, string_bytes, IsUtf8, MatchOption, IfNone, IfSome, IfOk, IfErr};
 ghost use Rattle.std.specs.Bool.{OnTrue, OnFalse};
 ghost use Rattle.std.specs.List.{list_all};
@@ -7,7 +7,7 @@ ghost use Rattle.cabinet_text_grammar.specs.Spelling.{escaped, escaped_byte};
 
 use std::alloc::{AllocError, Global};
 
-/// The byte that an escaped text begins with, and what follows it.
+/// Returns the byte that an escaped text begins with, and the bytes after its escaped form.
 pub fn first_byte(escaped_text: &[u8]) -> Option<(u8, &[u8])>
     ensures { MatchOption result ((b : ℕ) (t : List ℕ) → escaped_text.now ≢ escaped (b ∷ t)) (λ p. escaped_text.now ≡ escaped_byte p.0 ++ p.1.now) }
 {
@@ -20,14 +20,14 @@ pub fn first_byte(escaped_text: &[u8]) -> Option<(u8, &[u8])>
     }
 }
 
-/// Whether each byte stands above a space and is no backslash. Such a text is the escaped form of itself.
+/// Returns whether each byte is above a space and no backslash. Such a text is the escaped form of itself.
 fn is_plain(bytes: &[u8]) -> bool
     ensures { result ≡ list_all is_plain_byte bytes.now }
 {
     bytes.iter().all(|byte| *byte > b' ' && *byte != b'\\')
 }
 
-/// The length of the text that bytes are the escaped form of, if there is one.
+/// Returns the length of the text that bytes are the escaped form of, if there is one.
 pub fn unescaped_len(argument: &[u8]) -> Option<usize>
     ensures { MatchOption result ((t : List ℕ) → argument.now ≢ escaped t) (λ n. (t : List ℕ) × (length t ≡ n) × (argument.now ≡ escaped t)) }
 {
@@ -38,7 +38,7 @@ pub fn unescaped_len(argument: &[u8]) -> Option<usize>
     }
 }
 
-/// The same, byte by byte.
+/// Returns the same length, counted byte by byte.
 fn count_bytes(argument: &[u8]) -> Option<usize>
     ensures { MatchOption result ((t : List ℕ) → argument.now ≢ escaped t) (λ n. (t : List ℕ) × (length t ≡ n) × (argument.now ≡ escaped t)) }
 {
@@ -54,7 +54,7 @@ fn count_bytes(argument: &[u8]) -> Option<usize>
     Some(len)
 }
 
-/// Whether bytes are the escaped form of a text.
+/// Returns whether bytes are the escaped form of a text.
 pub fn is_escaped(argument: &[u8]) -> bool
     ensures yes { OnTrue result (IsEscaped argument.now) }
     ensures no { OnFalse result (IsEscaped argument.now → ⊥) }
@@ -65,7 +65,7 @@ pub fn is_escaped(argument: &[u8]) -> bool
     }
 }
 
-/// The index of the first backslash.
+/// Returns the index of the first backslash.
 fn backslash_at(bytes: &[u8]) -> Option<usize>
     ensures none { IfNone result (EachIndex bytes.now (λ k. slice_index bytes.now k ≢ 92)) }
     ensures found { IfSome result (λ start. (start < length bytes.now) × (slice_index bytes.now start ≡ 92)) }
@@ -74,7 +74,8 @@ fn backslash_at(bytes: &[u8]) -> Option<usize>
     bytes.iter().position(|byte| *byte == b'\\')
 }
 
-/// The bytes before the first backslash of an escaped text, the byte that is escaped there, and what follows it.
+/// Returns the bytes before the first backslash of an escaped text, the byte that is escaped there, and the bytes after
+/// its escape.
 fn split_escape(escaped_text: &[u8]) -> Option<(&[u8], u8, &[u8])>
     requires { (t : List ℕ) × (escaped_text.now ≡ escaped t) }
     ensures { MatchOption result (escaped_text.now ≡ escaped escaped_text.now) (λ p. escaped_text.now ≡ escaped p.0.now ++ (escaped_byte p.1 ++ p.2.now)) }
@@ -88,7 +89,7 @@ fn split_escape(escaped_text: &[u8]) -> Option<(&[u8], u8, &[u8])>
     Some((&escaped_text[..start], byte, after))
 }
 
-/// The bytes that escaped ones stand for.
+/// Returns the bytes that escaped bytes represent.
 fn unescape(alloc: Global, argument: &[u8]) -> Result<Vec<u8>, AllocError>
     requires { (t : List ℕ) × (argument.now ≡ escaped t) }
     ensures { IfOk result (λ text. argument.now ≡ escaped text.items) }
@@ -104,7 +105,7 @@ fn unescape(alloc: Global, argument: &[u8]) -> Result<Vec<u8>, AllocError>
     Ok(text)
 }
 
-/// The text that escaped bytes stand for.
+/// Returns the text that escaped bytes represent.
 pub fn unescape_text(alloc: Global, argument: &[u8]) -> Result<String, AllocError>
     requires { IsEscaped argument.now }
     ensures { IfOk result (λ text. argument.now ≡ escaped (string_bytes text)) }
@@ -113,7 +114,7 @@ pub fn unescape_text(alloc: Global, argument: &[u8]) -> Result<String, AllocErro
     Ok(unsafe { String::from_utf8_unchecked(bytes) })
 }
 
-/// The text that bytes are the escaped form of, if there is one.
+/// Returns the text that bytes are the escaped form of, if there is one.
 pub fn try_unescape(alloc: Global, argument: &[u8]) -> Result<Option<String>, AllocError>
     requires { IsUtf8 argument.now }
     ensures text { IfOk result (λ text. MatchOption text (IsEscaped argument.now → ⊥) (λ text. argument.now ≡ escaped (string_bytes text))) }

@@ -1,4 +1,4 @@
-//! Numbers, words and escaped texts as bytes: read, and written.
+//! Reads and writes numbers, words and escaped texts as bytes.
 #![tactic(auto)]
 
 mod escape;

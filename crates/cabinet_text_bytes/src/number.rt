@@ -1,4 +1,4 @@
-//! Numbers in decimal: the bytes of a number, and the number that bytes are the shortest form of.
+//! Reads and writes numbers in decimal, in their shortest form.
 ghost use Rattle.std.specs.Prelude.{◌≡◌, ◌≢◌, ℕ, ℤ, ◌^◌, ◌<◌, ◌≤◌, ◌∷◌, drop, MatchOption, FitsSigned};
 ghost use Rattle.std.specs.Int.{w64};
 ghost use Rattle.std.specs.Fmt.{decimal, signed_decimal};
@@ -7,13 +7,13 @@ ghost use Rattle.std.specs.Str.Parse.{AllDigits, digits_value};
 use crate::spelling::after_prefix;
 use std::marker::Model;
 
-/// Room for a sign and the twenty digits of the greatest number.
+/// The length of the longest number: a sign and the twenty digits of the greatest number.
 const MOST: usize = 21;
 
-/// How far the least number lies below zero.
+/// The distance of the least `i64` from zero.
 const FARTHEST: u64 = 1 << 63;
 
-/// A number as it is written in decimal, without memory.
+/// A number as it is written in decimal, without heap memory.
 #[derive(Debug, Drop)]
 pub struct Decimal {
     bytes: [u8; MOST],
@@ -30,7 +30,7 @@ impl Model for Decimal {
     ghost invariant = { λ d. d.start ≤ 20 };
 }
 
-/// Writes a number's digits at the end of the bytes, and says where they begin.
+/// Writes a number's digits at the end of the bytes, and returns the index at which they begin.
 fn put_digits(bytes: &mut [u8; MOST], number: u64) -> usize
     ensures digits { drop result bytes.new ≡ decimal number }
     ensures before { 0 < result }
@@ -48,6 +48,7 @@ fn put_digits(bytes: &mut [u8; MOST], number: u64) -> usize
 }
 
 impl Decimal {
+    /// Writes a signed number in decimal.
     pub fn new(number: i64) -> Decimal
         ensures { result ≡ signed_decimal number }
     {
@@ -60,6 +61,7 @@ impl Decimal {
         Decimal { bytes, start }
     }
 
+    /// Writes an unsigned number in decimal.
     pub fn unsigned(number: u64) -> Decimal
         ensures { result ≡ decimal number }
     {
@@ -68,6 +70,7 @@ impl Decimal {
         Decimal { bytes, start }
     }
 
+    /// Returns the bytes of the number in ASCII.
     pub fn as_bytes(&self) -> &[u8]
         ensures { result.now ≡ self.now }
     {
@@ -75,7 +78,7 @@ impl Decimal {
     }
 }
 
-/// The value of digits; nothing where a byte is no digit or the value has more than 64 bits.
+/// Returns the value of digits, or `None` if a byte is no digit or the value has more than 64 bits.
 fn value_of(digits: &[u8]) -> Option<u64>
     ensures { MatchOption result (AllDigits 10 digits.now → 2 ^ 64 ≤ digits_value 10 digits.now) (λ n. (n < 2 ^ 64) × AllDigits 10 digits.now × (digits_value 10 digits.now ≡ n)) }
 {
@@ -95,7 +98,7 @@ fn value_of(digits: &[u8]) -> Option<u64>
     Some(value)
 }
 
-/// The count that digits write in their shortest form.
+/// Reads a count that is written in decimal in its shortest form.
 pub fn read_count(digits: &[u8]) -> Option<u64>
     ensures { MatchOption result ((n : ℕ) → n < 2 ^ 64 → digits.now ≢ decimal n) (λ n. digits.now ≡ decimal n) }
 {
@@ -108,7 +111,7 @@ pub fn read_count(digits: &[u8]) -> Option<u64>
     value_of(digits)
 }
 
-/// The number at a distance below zero, if it has 64 bits.
+/// Returns the number at a distance below zero, or `None` if the distance is 0 or the number does not fit in 64 bits.
 fn below_zero(distance: u64) -> Option<i64>
     ensures { MatchOption result ((n : ℤ) → FitsSigned w64 n → signed_decimal n ≢ 45 ∷ decimal distance) (λ n. FitsSigned w64 n × (signed_decimal n ≡ 45 ∷ decimal distance)) }
 {
@@ -118,7 +121,7 @@ fn below_zero(distance: u64) -> Option<i64>
     Some(-1 - (distance - 1) as i64)
 }
 
-/// The number of 64 bits that bytes write in its shortest form.
+/// Reads a number of 64 bits that is written in decimal in its shortest form.
 pub fn read_number(bytes: &[u8]) -> Option<i64>
     ensures { MatchOption result ((n : ℤ) → FitsSigned w64 n → bytes.now ≢ signed_decimal n) (λ n. FitsSigned w64 n × (bytes.now ≡ signed_decimal n)) }
 {

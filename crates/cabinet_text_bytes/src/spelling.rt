@@ -1,17 +1,17 @@
-//! What texts and lines have in common: prefixes, words and truth values.
+//! Reads what texts and lines have in common: prefixes, words and truth values.
 ghost use Rattle.std.specs.Prelude.{◌≡◌, ◌≢◌, ◌<◌, ◌≤◌, ◌++◌, List, ℕ, Bool, length, slice_index, MatchOption};
 ghost use Rattle.cabinet_text_grammar.specs.Tree.{truth};
 ghost use Rattle.cabinet_text_grammar.specs.Spelling.{spelled_leaf};
 ghost use Rattle.cabinet_text_bytes.specs.Words.{HasNoSpace, IsAtSpace};
 
-/// What follows a prefix.
+/// Returns the bytes after a prefix, or `None` if they do not begin with it.
 pub fn after_prefix<'a>(bytes: &'a [u8], prefix: &[u8]) -> Option<&'a [u8]>
     ensures { MatchOption result ((rest : List ℕ) → bytes.now ≢ prefix.now ++ rest) (λ rest. bytes.now ≡ prefix.now ++ rest.now) }
 {
     bytes.strip_prefix(prefix)
 }
 
-/// How many bytes stand before the first space.
+/// Returns the number of bytes before the first space.
 fn word_len(bytes: &[u8]) -> usize
     ensures within { result ≤ length bytes.now }
     ensures before { (k : ℕ) → k < result → slice_index bytes.now k ≢ 32 }
@@ -23,7 +23,7 @@ fn word_len(bytes: &[u8]) -> usize
     }
 }
 
-/// The bytes before the first space, and the others.
+/// Splits bytes at the first space, and returns the bytes before it and the others.
 pub fn split_word(bytes: &[u8]) -> (&[u8], &[u8])
     ensures whole { bytes.now ≡ result.0.now ++ result.1.now }
     ensures word { HasNoSpace result.0.now }
@@ -32,7 +32,7 @@ pub fn split_word(bytes: &[u8]) -> (&[u8], &[u8])
     bytes.split_at(word_len(bytes))
 }
 
-/// The truth value whose line bytes are.
+/// Reads the line of a truth value, `bool true` or `bool false`.
 pub fn read_truth(bytes: &[u8]) -> Option<bool>
     ensures { MatchOption result ((b : Bool) → bytes.now ≢ spelled_leaf (truth b)) (λ b. bytes.now ≡ spelled_leaf (truth b)) }
 {

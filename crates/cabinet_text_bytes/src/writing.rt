@@ -1,11 +1,11 @@
-//! Texts, written in their escaped form.
+//! Writes texts in their escaped form.
 ghost use Rattle.std.specs.Prelude.{◌≡◌, ◌-◌, ◌^◌, ◌<◌, ◌++◌, [], ◌∷◌, codes, MatchOption};
 ghost use Rattle.archive_shape_writing.specs.Writing.{Writes};
 ghost use Rattle.cabinet_text_grammar.specs.Spelling.{escaped, escaped_byte};
 
 use archive_shape_writing::{Error, Writer, write_two_pieces};
 
-/// How a byte is escaped, if it does not stand for itself.
+/// Returns the escape of a byte, or `None` if the byte represents itself.
 fn escape_of(byte: u8) -> Option<&'static [u8]>
     ensures { MatchOption result (escaped_byte byte ≡ byte ∷ []) (λ escape. escaped_byte byte ≡ escape.now) }
 {

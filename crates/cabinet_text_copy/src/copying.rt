@@ -1,4 +1,4 @@
-//! The text of a document, read and written again.
+//! Reads the text of a document and writes it again.
 ghost use Rattle.std.specs.Prelude.{◌≡◌, IfOk, MatchResult};
 ghost use Rattle.cabinet_text_copy.specs.Copying.{Refuses};
 
@@ -7,7 +7,7 @@ use cabinet_text_writing::write_text;
 use std::alloc::Global;
 use thiserror::Error;
 
-/// Why a text was not copied.
+/// The error of copying a text.
 #[derive(Clone, Copy, Debug, Error)]
 pub enum Fault {
     #[error("{0}")]
@@ -18,7 +18,7 @@ pub enum Fault {
     Write,
 }
 
-/// The text of the document that has this text. It is written into the memory of the first.
+/// Reads a text as a document, and returns the document's text. It is written into the vector of the first text.
 pub fn copy_text(alloc: Global, mut text: Vec<u8>) -> Result<Vec<u8>, Fault>
     ensures { MatchResult result (λ copy. copy.items ≡ text.items) (Refuses text.items) }
 {

@@ -1,4 +1,4 @@
-//! The program: a document's text is read from the standard input and written to the standard output.
+//! The program: it reads a document's text from the standard input and writes it to the standard output.
 #![tactic(auto)]
 
 mod copying;
@@ -25,7 +25,7 @@ fn main(rt: HostRuntime) -> ExitCode {
     match copy_input(&rt) {
         Ok(()) => ExitCode::from(0),
         Err(fault) => {
-            // Where the standard error takes no line, the status alone tells of the fault.
+            // If the standard error accepts no line, only the exit status reports the fault.
             let _ = eprintln!(&rt; "{fault}");
             ExitCode::from(1)
         }

@@ -1,4 +1,4 @@
--- What setting a leaf leaves as it was.
+-- What setting a leaf leaves unchanged.
 use Rattle.std.proofs.Common.{◌≡◌, ◌≢◌, ℕ, zero, suc, ◌<◌, ◌≤◌, ◌^◌, Bool, true, false, if◌then◌else◌, List, [], ◌∷◌, Option, ap, sym, subst, refl, arith}
 use Rattle.std.specs.Str.{bytes_eq}
 use Rattle.cabinet_text_grammar.specs.Keys.{MapKind}
@@ -6,7 +6,7 @@ use Rattle.cabinet_text_grammar.specs.Tree.{Leaf, Tree, leaf, shared, nothing, j
 use Rattle.cabinet_text_grammar.specs.Path.{Step, key, place, inside, node_at, node_in, node_by}
 use Rattle.cabinet_text_grammar.specs.Answering.{Answer, done, refused, fits, outcome_there, if_there, change, change_in, change_by}
 
--- what is answered to the setting of a leaf where a node may stand
+-- the answer to setting a leaf where there may be a node
 abbrev outcome : Option Tree → Leaf → Answer
 outcome found new = if_there found (outcome_there new)
 
@@ -54,7 +54,7 @@ mutual
       at_key true here there g = ap (λ x. more_pairs l x ps) (here g)
       at_key false here there g = ap (more_pairs l t) (there g)
 
--- a tree that may stand where another one does
+-- a tree that is allowed where another one is
 record Replaces (t u : Tree) : Type 0 where
   pub legal : IsLegal u
   pub deep : depth u ≤ depth t

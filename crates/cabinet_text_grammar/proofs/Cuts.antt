@@ -12,7 +12,7 @@ pub HasNoNewline-among : (xs : List (List ℕ)) (line : List ℕ) (more : List (
 HasNoNewline-among [] line more p = p.0
 HasNoNewline-among (x ∷ xs) line more p = HasNoNewline-among xs line more p.1
 
--- of a text that is cut twice: the cuts are one, or between them stands a line
+-- of a text that is cut twice: the cuts are the same, or there is a line between them
 pub data Cuts (xs : List (List ℕ)) (r : List ℕ) (ys : List (List ℕ)) (s : List ℕ) : Type 0 where
   one_cut : xs ≡ ys → r ≡ s → Cuts xs r ys s
   first_before : (line : List ℕ) (more : List (List ℕ)) (rest : List ℕ) → ys ≡ xs ++ line ∷ more → r ≡ line ++ 10 ∷ rest → Cuts xs r ys s

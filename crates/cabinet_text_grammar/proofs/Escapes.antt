@@ -61,7 +61,7 @@ written b _ x (newline e) h = cc
 written b _ x (space e) h = cc
 written b _ x (plain p q r) h = cc
 
--- what stands after an escaped front of an escaped text is an escaped text
+-- the bytes after an escaped front of an escaped text are an escaped text
 pub record After (front tail t : List ℕ) : Type 0 where
   pub text : List ℕ
   pub whole : t ≡ front ++ text

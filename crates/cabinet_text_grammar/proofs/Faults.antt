@@ -1,4 +1,4 @@
--- What is said against the line of an item that may stand there, and the laws of first faults.
+-- The causes that apply to the line of an item that is allowed there, and the laws of first faults.
 use Rattle.std.proofs.Common.{◌≡◌, ◌≢◌, ℕ, ◌+◌, List, [], ◌∷◌, ◌++◌, length, Option, None, IsUtf8, sym, ap, ◌∙◌, refl, inl, inr, subst, arith, codes, append-nil}
 use Rattle.std.specs.Prelude.{if◌then◌else◌, ◌==◌, slice_get}
 use Rattle.std.proofs.lemmas.List.{append_cancel_left}
@@ -8,7 +8,7 @@ use Rattle.cabinet_text_grammar.specs.Tree.{Tree, IsDocument}
 use Rattle.cabinet_text_grammar.specs.Item.{Item, leaf_item, shared_item, none_item, some_item, list_item, map_item, key_item, items}
 use Rattle.cabinet_text_grammar.specs.Frame.{items_of_stack}
 use Rattle.cabinet_text_grammar.specs.Due.{Due, a_head, a_key, nothing_more, due_in, Admits}
-use Rattle.cabinet_text_grammar.proofs.Machine.{run, going, complete}
+use Rattle.cabinet_text_grammar.specs.Machine.{run, going, complete}
 use Rattle.cabinet_text_grammar.specs.Spelling.{escaped, spelled, lines_of, text_of}
 use Rattle.cabinet_text_grammar.specs.Fault.{Piece, pieces_of, Reached, inside, after_a_document, BreaksOrder, RepeatsKey, HasCause, rank, IsFirstCause, FirstFault}
 use Rattle.cabinet_text_grammar.specs.Laws.{SameFault}
@@ -32,7 +32,7 @@ admitted_item depth (list_item n) p = p.0
 admitted_item depth (map_item kind n) p = p.0
 admitted_item depth (key_item k) p = absurd p
 
--- what may stand inside containers may stand at the start
+-- an item that is allowed inside containers is allowed at the start
 admitted_first : (depth : ℕ) (i : Item) → Admits (a_head depth) i → Admits (a_head 0) i
 admitted_first depth (leaf_item l) p = p
 admitted_first depth (shared_item t) p = p
@@ -89,7 +89,7 @@ key_blameless kind keys k p follows TooDeep other b = b
 key_blameless kind keys k p follows LineAfterEnd other b = b
 key_blameless kind keys k p follows OutOfMemory other b = other refl
 
--- nothing but a want of memory can be said against the line of an item that may stand there
+-- no cause except OutOfMemory applies to the line of an item that is allowed there
 pub blameless : (due : Due) (i : Item) → IsItem i → Admits due i → (cause : Cause) → cause ≢ OutOfMemory → HasCause due (ended_piece (spelled i)) cause → ⊥
 blameless (a_head d) i is p cause other b = head_blameless d i p cause other b
 blameless (a_key kind keys) (key_item k) is p cause other b = key_blameless kind keys k p.0 p.1 cause other b
@@ -115,7 +115,7 @@ nothing_after TooDeep b = b
 nothing_after LineAfterEnd b = b
 nothing_after OutOfMemory b = b
 
--- causes of one rank are one
+-- causes of the same rank are the same
 cause_of : ℕ → Cause
 cause_of n =
     if n == 0 then NotUtf8 else (if n == 1 then NoNewline else (if n == 2 then EndTooEarly else (if n == 3 then KeyExpected else (if n == 4 then BadEscape else (if n == 5 then KeyOrder else (if n == 6 then KeyRepeated else (if n == 7 then UnknownHead else (if n == 8 then BadNumber else (if n == 9 then TooDeep else (if n == 10 then LineAfterEnd else (OutOfMemory)))))))))))
@@ -152,7 +152,7 @@ HaveNoNewline-reached : (ls : List (List ℕ)) (due : Due) → Reached ls due �
 HaveNoNewline-reached ls due (inside fs are is due_is) = subst HaveNoNewline (sym is) (HaveNoNewline-items (items_of_stack fs) (AreItems-stack fs are))
 HaveNoNewline-reached ls due (after_a_document t doc is due_is) = subst HaveNoNewline (sym is) (HaveNoNewline-items (items t) (AreItems-tree t doc.0))
 
--- a line that goes on to another place of some text
+-- a line after which a text continues
 blameless_line : (xs ys : List (List ℕ)) (due later : Due) (line : List ℕ) (more : List (List ℕ)) (cause : Cause) → Reached xs due → Reached ys later → ys ≡ xs ++ line ∷ more → cause ≢ OutOfMemory → HasCause due (ended_piece line) cause → ⊥
 blameless_line xs ys due later line more cause (inside fs are is due_is) (inside gs open_ it_is later_is) h other b =
     let on = lines.goes_on (items_of_stack fs) (items_of_stack gs) line more (AreItems-stack fs are) (AreItems-stack gs open_) (sym it_is ∙ h ∙ ap (λ w. w ++ line ∷ more) is) in
@@ -173,14 +173,14 @@ blameless_line xs ys due later line more cause (after_a_document t doc is due_is
     let on = lines.goes_on (items t) (items s) line more (AreItems-tree t doc.0) (AreItems-tree s other_doc.0) (sym it_is ∙ h ∙ ap (λ w. w ++ line ∷ more) is) in
     no_more_tree t s on.next on.more on.items_are
 
--- and nothing can be said against the text that begins with it
+-- and no cause applies to the text that begins with it
 blameless_text : (xs ys : List (List ℕ)) (due later : Due) (line : List ℕ) (more : List (List ℕ)) (r rest : List ℕ) (cause : Cause) → Reached xs due → Reached ys later → ys ≡ xs ++ line ∷ more → r ≡ line ++ 10 ∷ rest → cause ≢ OutOfMemory → HasCause due (slice_get (pieces_of r) 0) cause → ⊥
 blameless_text xs ys due later line more r rest cause here there h text_is other b =
     let none = HasNoNewline-among xs line more (subst HaveNoNewline h (HaveNoNewline-reached ys later there)) in
     let piece : slice_get (pieces_of r) 0 ≡ ended_piece line = ap (λ w. slice_get (pieces_of w) 0) text_is ∙ first_piece line rest none in
     blameless_line xs ys due later line more cause here there h other (subst (λ p. HasCause due p cause) piece b)
 
--- after some lines one thing is due
+-- after some lines one thing is expected
 same_due : (ls : List (List ℕ)) (due other : Due) → Reached ls due → Reached ls other → due ≡ other
 same_due ls due other (inside fs are is due_is) (inside gs open_ it_is other_is) =
     due_is ∙ ap due_in (same_stack fs gs are open_ (same_items (items_of_stack fs) (items_of_stack gs) (AreItems-stack fs are) (AreItems-stack gs open_) (sym is ∙ it_is))) ∙ sym other_is
@@ -208,7 +208,7 @@ one_fault input line other cause reason a b p q =
     at_cuts (first_after next more rest lines rests) =
         absurd (blameless_text b.before a.before b.due a.due next more b.rest rest reason b.reached a.reached lines rests q b.first.has_cause)
 
--- nothing is said against a document's own text
+-- no cause applies to a document's own text
 pub fault_refuses : (input : List ℕ) (line : ℕ) (cause : Cause) (t : Tree) → FirstFault input line cause → cause ≢ OutOfMemory → IsDocument t → input ≢ text_of t
 fault_refuses input line cause t a other document h =
     at_cuts (cuts_of a.before (lines_of (items t)) a.rest [] (HaveNoNewline-reached a.before a.due a.reached) (HaveNoNewline-items (items t) (AreItems-tree t document.0)) (sym a.input_is ∙ h ∙ sym (append-nil (text_of t))))

@@ -1,4 +1,4 @@
--- What is asked for first of a line, and of the end of a text.
+-- The first cause of a line, and of the end of a text.
 use Rattle.std.proofs.Common.{◌≢◌, ℕ, ◌<◌, ◌≤◌, List, ◌++◌, Some, None, IsUtf8, sym, ap, ◌∙◌, refl, arith, codes, false}
 use Rattle.std.proofs.lemmas.List.{append_cancel_left}
 use Rattle.std.proofs.lemmas.Bool.{false≢true}
@@ -32,7 +32,7 @@ before_end due TooDeep below b = absurd (omega (arith, below))
 before_end due LineAfterEnd below b = absurd (omega (arith, below))
 before_end due OutOfMemory below b = absurd (omega (arith, below))
 
--- the input ends where something is due
+-- the input ends where something is expected
 pub ends_early : (due : Due) → due ≢ nothing_more → IsFirstCause due None EndTooEarly
 ends_early (a_head depth) is = record { has_cause = tt; first = before_end (a_head depth) }
 ends_early (a_key kind keys) is = record { has_cause = tt; first = before_end (a_key kind keys) }
@@ -55,7 +55,7 @@ line_after_end line utf8 = record { has_cause = tt; first = earlier } where
   earlier LineAfterEnd below b = absurd (omega (arith, below))
   earlier OutOfMemory below b = absurd (omega (arith, below))
 
--- a line without a quote where a key is due
+-- a line without a quote where a key is expected
 pub key_expected : (kind : MapKind) (keys : List (List ℕ)) (line : List ℕ) → IsUtf8 line → ((rest : List ℕ) → line ≢ codes "'" ++ rest) → IsFirstCause (a_key kind keys) (ended_piece line) KeyExpected
 key_expected kind keys line utf8 unquoted = record { has_cause = unquoted; first = earlier } where
   earlier : (other : Cause) → rank other < 3 → HasCause (a_key kind keys) (ended_piece line) other → ⊥
@@ -215,7 +215,7 @@ before_newline due line utf8 TooDeep below b = absurd (omega (arith, below))
 before_newline due line utf8 LineAfterEnd below b = absurd (omega (arith, below))
 before_newline due line utf8 OutOfMemory below b = absurd (omega (arith, below))
 
--- a line that no newline ends, wherever it stands
+-- a line that no newline ends, at each position
 pub no_newline : (due : Due) (line : List ℕ) → IsUtf8 line → IsFirstCause due (Some (record { bytes = line; ended = false })) NoNewline
 no_newline (a_head depth) line utf8 = record { has_cause = refl; first = λ other below b. before_newline (a_head depth) line utf8 other below b }
 no_newline (a_key kind keys) line utf8 = record { has_cause = refl; first = λ other below b. before_newline (a_key kind keys) line utf8 other below b }

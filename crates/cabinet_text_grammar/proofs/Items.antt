@@ -4,7 +4,7 @@ use Rattle.std.proofs.lemmas.Bool.Decides.{eqb_tells}
 use Rattle.cabinet_text_grammar.specs.Tree.{Tree, leaf, shared, nothing, just, list, map, Trees, no_trees, more_trees, Pairs, no_pairs, more_pairs, count, pair_count}
 use Rattle.cabinet_text_grammar.specs.Item.{Item, leaf_item, shared_item, none_item, some_item, list_item, map_item, key_item, items, items_of, items_of_pairs}
 use Rattle.cabinet_text_grammar.specs.Frame.{Frame, in_option, in_list, at_key, at_value, items_of_stack}
-use Rattle.cabinet_text_grammar.proofs.Machine.{State, going, complete, stuck, then_tree, then_pair, plug, step, items_of_state}
+use Rattle.cabinet_text_grammar.specs.Machine.{State, going, complete, stuck, then_tree, then_pair, plug, step, items_of_state}
 
 pub count-then : (ts : Trees) (t : Tree) → count (then_tree ts t) ≡ suc (count ts)
 count-then no_trees t = refl

@@ -1,4 +1,4 @@
--- Bytes that do not stand in spelled numbers, texts and leaves.
+-- Bytes that do not occur in spelled numbers, texts and leaves.
 use Rattle.std.proofs.Common.{◌≡◌, ◌≢◌, ℕ, suc, ◌<◌, ◌^◌, ℤ, pos, negsuc, Bool, true, not, ◌&&◌, eqb, List, [], ◌∷◌, ◌++◌, length, get_or, sym, ap, ◌∙◌, inl, inr, ◌⊎◌, refl, arith, FitsSigned, w64, take, length-take, get_or-take}
 use Rattle.std.specs.Fmt.{signed_decimal, decimal}
 use Rattle.std.specs.Str.Parse.{AllDigits, digits_value}
@@ -51,7 +51,7 @@ pub Lacks-signed : (c : ℕ) (z : ℤ) → c < 45 → FitsSigned w64 z → Lacks
 Lacks-signed c (pos n) low fits = Lacks-decimal c n (omega arith) (omega (arith, fits.sfits))
 Lacks-signed c (negsuc n) low fits = (λ e. omega (arith, e), Lacks-decimal c (suc n) (omega arith) (omega (arith, fits.sfits)))
 
--- a byte that is escaped, and does not stand in an escape
+-- a byte that is escaped, and does not occur in an escape
 abbrev pub IsBlank : ℕ → Type 0
 IsBlank c = (c ≡ 10) ⊎ (c ≡ 32)
 

@@ -1,4 +1,4 @@
--- What one more item leads to is legal where the item may stand there, and only there.
+-- The state after one more item is legal where the item is allowed there, and only there.
 use Rattle.std.proofs.Common.{◌≡◌, ℕ, suc, ◌+◌, ◌<◌, ◌≤◌, ◌^◌, List, [], ◌∷◌, length, sym, ap, refl, arith, inl, inr, subst, IsUtf8}
 use Rattle.std.specs.Prelude.{max}
 use Rattle.std.proofs.lemmas.Bool.Decides.{eqb_tells}
@@ -7,7 +7,7 @@ use Rattle.cabinet_text_grammar.specs.Keys.{MapKind, MayFollow}
 use Rattle.cabinet_text_grammar.specs.Item.{Item, leaf_item, shared_item, none_item, some_item, list_item, map_item, key_item}
 use Rattle.cabinet_text_grammar.specs.Frame.{Frame, in_option, in_list, at_key, at_value, keys_after, WantsNode, AreOpen}
 use Rattle.cabinet_text_grammar.specs.Due.{a_head, due_in, Admits}
-use Rattle.cabinet_text_grammar.proofs.Machine.{State, going, complete, stuck, then_tree, then_pair, plug, step, run}
+use Rattle.cabinet_text_grammar.specs.Machine.{State, going, complete, stuck, then_tree, then_pair, plug, step, run}
 use Rattle.cabinet_text_grammar.proofs.Items.{count-then, pair_count-then}
 
 pub max_within : (d a b m : ℕ) → d + a ≤ m → d + b ≤ m → d + max a b ≤ m
@@ -19,7 +19,7 @@ max_left d a b m p = omega (arith, p)
 pub max_right : (d a b m : ℕ) → d + max a b ≤ m → d + b ≤ m
 max_right d a b m p = omega (arith, p)
 
--- a node that may stand inside so many containers
+-- a node that is allowed inside d containers
 abbrev pub Fits : ℕ → Tree → Type 0
 Fits d t = IsLegal t × (d + depth t ≤ 64)
 
@@ -192,7 +192,7 @@ step-head fs (map_item kind n) are wants p =
     ]
 step-head fs (key_item k) are wants p = absurd p
 
--- an item that may stand next leads on
+-- an item that is allowed next leads to a legal state
 pub legal-step : (fs : List Frame) (i : Item) → AreOpen fs → Admits (due_in fs) i → IsLegalState (step fs i)
 legal-step [] i are p = step-head [] i are tt p
 legal-step (in_option ∷ outer) i are p = step-head (in_option ∷ outer) i are tt (subst (λ d. Admits d i) (head_due (in_option ∷ outer) tt) p)
@@ -262,6 +262,6 @@ legal-before_run (going fs) (i ∷ is) legal = (legal-before_step fs i (legal-be
 legal-before_run (complete t) (i ∷ is) legal = absurd legal
 legal-before_run stuck (i ∷ is) legal = absurd legal
 
--- where items go on after those of a stack, the next one may stand there
+-- where items continue after those of a stack, the next one is allowed there
 pub admitted : (fs : List Frame) (i : Item) (is : List Item) → IsLegalState (run (going fs) (i ∷ is)) → Admits (due_in fs) i
 admitted fs i is legal = (legal-before_step fs i (legal-before_run (step fs i) is legal)).1

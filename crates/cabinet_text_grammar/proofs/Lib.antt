@@ -1,15 +1,22 @@
-pub mod Escapes
-pub mod Lacking
-pub mod Pieces
-pub mod Utf8
-pub mod Cuts
-pub mod ReadBack
-pub mod Machine
-pub mod Items
-pub mod Runs
-pub mod Legal
-pub mod Spelled
-pub mod Faults
+mod Answered
 pub mod Changes
-pub mod Lines
+pub mod Cuts
+pub mod Decided
+pub mod Escapes
+mod ExamplesFaults
+mod ExamplesTexts
+pub mod Faults
 pub mod FirstCauses
+pub mod Items
+pub mod KeyLemmas
+pub mod Lacking
+pub mod Legal
+pub mod Lines
+pub mod Pieces
+pub mod ReadBack
+pub mod Runs
+pub mod Spelled
+pub mod Steps
+pub mod Utf8
+pub mod Verdicts
+pub mod Whole

@@ -1,4 +1,4 @@
--- A line read back from its words, so bytes say one line.
+-- A line read back from its words, so that bytes spell at most one line.
 use Rattle.std.proofs.Common.{◌≡◌, ℕ, true, false, List, [], ◌∷◌, ◌++◌, get_or, drop, Option, Some, None, sym, ap, ◌∙◌, refl, inl, inr, arith, append_assoc, append-nil, codes, All}
 use Rattle.std.specs.Prelude.{◌==◌, if◌then◌else◌, map}
 use Rattle.std.specs.Fmt.{signed_decimal}

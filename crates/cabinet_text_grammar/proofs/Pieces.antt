@@ -1,4 +1,4 @@
--- Texts cut after their newlines, and what has none.
+-- Texts cut after their newlines, and the parts that have none.
 use Rattle.std.proofs.Common.{◌≡◌, ◌≢◌, ℕ, ◌+◌, ◌<◌, true, false, List, [], ◌∷◌, ◌++◌, length, get_or, sym, ap, ◌∙◌, refl, inl, inr, arith, codes, take, drop, add-one, drop-cons, Option, Some}
 use Rattle.std.proofs.lemmas.List.{take-append-drop}
 use Rattle.std.specs.Fmt.{signed_decimal}
@@ -47,7 +47,7 @@ ended_piece line = Some (record { bytes = line; ended = true })
 pub first_piece : (line rest : List ℕ) → HasNoNewline line → slice_get (pieces_of (line ++ 10 ∷ rest)) 0 ≡ ended_piece line
 first_piece line rest p = ap (λ ps. slice_get ps 0) (piece_ended line rest p)
 
--- two texts that begin with lines, as far as their newlines
+-- two texts that begin with lines, up to their newlines
 pub same_line : (x y r s : List ℕ) → HasNoNewline x → HasNoNewline y → x ++ 10 ∷ r ≡ y ++ 10 ∷ s → x ≡ y
 same_line x y r s p q h =
     let one : ended_piece x ≡ ended_piece y = sym (first_piece x r p) ∙ ap (λ t. slice_get (pieces_of t) 0) h ∙ first_piece y s q in

@@ -1,4 +1,4 @@
--- An item read back from its line, so no two items have one line.
+-- An item read back from its line, so that no two items have the same line.
 use Rattle.std.proofs.Common.{◌≡◌, ◌≢◌, ℕ, suc, ◌-◌, ◌<◌, ◌^◌, ℤ, pos, negsuc, true, false, eqb, List, [], ◌∷◌, ◌++◌, length, get_or, drop, IsUtf8, FitsSigned, w64, sym, ap, ◌∙◌, refl, inl, inr, subst, arith, codes}
 use Rattle.std.specs.Prelude.{◌==◌, if◌then◌else◌}
 use Rattle.std.specs.Fmt.{decimal, signed_decimal}
@@ -26,7 +26,7 @@ IsItem (list_item n) = n < 2 ^ 64
 IsItem (map_item kind n) = n < 2 ^ 64
 IsItem (key_item k) = IsUtf8 k
 
--- the byte that a letter after a backslash stands for
+-- the byte that a letter after a backslash represents
 unescaped_byte : ℕ → ℕ
 unescaped_byte c = if c == 110 then 10 else (if c == 115 then 32 else 92)
 
@@ -107,7 +107,7 @@ read_back (key_item k) p = ap key_item (unescaped-escaped k)
 pub same_item : (i j : Item) → IsItem i → IsItem j → spelled i ≡ spelled j → i ≡ j
 same_item i j p q h = sym (read_back i p) ∙ ap item_of_line h ∙ read_back j q
 
--- nothing can be said against the argument in an item's own line
+-- no cause applies to the argument in an item's own line
 pub no_bad_escape : (i : Item) → IsItem i → HasBadEscape (spelled i) → ⊥
 unfolding item_of_line
 no_bad_escape i p (inl (rest, h, bad)) =

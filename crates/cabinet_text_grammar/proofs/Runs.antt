@@ -1,4 +1,4 @@
--- Where the items of a tree, and of a stack of open containers, lead to.
+-- The states that the items of a tree, and of a stack of open containers, lead to.
 use Rattle.std.proofs.Common.{◌≡◌, ◌≢◌, ℕ, ◌+◌, ◌<◌, ◌≤◌, true, false, List, [], ◌∷◌, ◌++◌, sym, ap, ◌∙◌, refl, arith, append_assoc, append-nil, inl, inr}
 use Rattle.std.specs.Prelude.{◌==◌}
 use Rattle.std.proofs.lemmas.Bool.Decides.{eqb_tells}
@@ -6,7 +6,7 @@ use Rattle.cabinet_text_grammar.specs.Keys.{MapKind}
 use Rattle.cabinet_text_grammar.specs.Tree.{Tree, leaf, shared, nothing, just, list, map, Trees, no_trees, more_trees, Pairs, no_pairs, more_pairs, count, pair_count}
 use Rattle.cabinet_text_grammar.specs.Item.{Item, some_item, list_item, map_item, key_item, items, items_of, items_of_pairs}
 use Rattle.cabinet_text_grammar.specs.Frame.{Frame, in_option, in_list, at_key, at_value, items_of_stack, AreOpen}
-use Rattle.cabinet_text_grammar.proofs.Machine.{State, going, complete, stuck, then_tree, then_pair, plug, settle, settle_pairs, run}
+use Rattle.cabinet_text_grammar.specs.Machine.{State, going, complete, stuck, then_tree, then_pair, plug, settle, settle_pairs, run}
 use Rattle.cabinet_text_grammar.proofs.Items.{count-then, pair_count-then}
 
 -- some elements after others
@@ -152,7 +152,7 @@ goes_on fs gs more p q h = sym (run-stack fs more p) ∙ ap (run (going [])) (sy
 pub ends_on : (fs : List Frame) (t : Tree) (more : List Item) → AreOpen fs → items t ≡ items_of_stack fs ++ more → run (going fs) more ≡ complete t
 ends_on fs t more p h = sym (run-stack fs more p) ∙ ap (run (going [])) (sym h) ∙ whole_run t
 
--- nothing goes on where a document has ended
+-- no item follows where a document has ended
 pub no_more : (t : Tree) (gs : List Frame) (i : Item) (more : List Item) → AreOpen gs → items_of_stack gs ≢ items t ++ i ∷ more
 no_more t gs i more q h =
     let same : stuck ≡ going gs = sym (run-tree t [] (i ∷ more)) ∙ ap (run (going [])) (sym h) ∙ stack_run gs q in

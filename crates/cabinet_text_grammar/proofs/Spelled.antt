@@ -1,4 +1,4 @@
--- The lines of items: no two items have one line, each is UTF-8 and holds no newline.
+-- The lines of items: no two items have the same line, each is UTF-8 and has no newline.
 use Rattle.std.proofs.Common.{◌≡◌, ℕ, ◌<◌, ◌^◌, true, false, List, [], ◌∷◌, ◌++◌, IsUtf8, ap, ◌∙◌, refl, inl, arith, codes}
 use Rattle.std.specs.Fmt.{decimal, signed_decimal}
 use Rattle.std.proofs.lemmas.Fmt.{IsAscii-decimal, IsAscii-signed}
@@ -85,7 +85,7 @@ IsUtf8-item (map_item hashed n) p = IsUtf8-count (codes "hashed ") n (IsUtf8-wor
 IsUtf8-item (map_item kept n) p = IsUtf8-count (codes "kept ") n (IsUtf8-word (codes "kept ") refl) p
 IsUtf8-item (key_item k) p = IsUtf8-append (codes "'") (escaped k) (IsUtf8-word (codes "'") refl) (IsUtf8-escaped k p)
 
--- lists of items that have the same lines, or lines that go on
+-- lists of items that have the same lines, or lines that continue
 pub same_items : (is js : List Item) → AreItems is → AreItems js → lines_of is ≡ lines_of js → is ≡ js
 same_items [] [] p q h = refl
 same_items [] (j ∷ js) p q h = cc

@@ -14,14 +14,14 @@ high_form b _ high (newline e) = absurd (omega arith)
 high_form b _ high (space e) = absurd (omega arith)
 high_form b _ high (plain p q r) = refl
 
--- bytes above ASCII stand for themselves
+-- bytes above ASCII represent themselves
 escaped_high : (xs : List ℕ) → ((i : ℕ) → i < length xs → 128 ≤ get_or xs i 0) → escaped xs ≡ xs
 escaped_high [] h = refl
 escaped_high (b ∷ bs) h =
     ap (λ v. v ++ escaped bs) (high_form b (escaped_byte b) (h 0 (omega arith)) (form_of b))
     ∙ ap (λ x. b ∷ x) (escaped_high bs (λ i l. h (suc i) (omega arith)))
 
--- a character above ASCII stands for itself
+-- a character above ASCII represents itself
 escaped-encode : (c : ℕ) → 128 ≤ c → escaped (encode_utf8 c) ≡ encode_utf8 c
 escaped-encode c high =
     escaped_high (encode_utf8 c) (λ i l.

@@ -1,4 +1,4 @@
--- What is answered to a line, and the document after it.
+-- The answer to a line, and the document after it.
 use Rattle.std.specs.Prelude.{ℕ, zero, suc, ◌==◌, Bool, true, false, ◌&&◌, if◌then◌else◌, List, [], ◌∷◌, ◌++◌, length, Option, Some, None, codes}
 use Rattle.std.specs.List.{filter}
 use Rattle.std.specs.Str.{bytes_eq}
@@ -16,7 +16,7 @@ pub data Answer : Type 0 where
   -- a node's head
   head : Item → Answer
   keys_are : List (List ℕ) → Answer
-  -- keys are asked of a node that has none in an order
+  -- a question about the keys of a node that has none in an order
   wrong : Answer
   missing : Answer
   done : Answer
@@ -36,7 +36,7 @@ abbrev pub keys_in : Pairs → List (List ℕ)
 keys_in no_pairs = []
 keys_in (more_pairs k t ps) = k ∷ keys_in ps
 
--- from the first bound on and below the second
+-- at or above the first bound and below the second
 abbrev pub lies_within : List ℕ → List ℕ → List ℕ → Bool
 lies_within low high k = is_ge (slice_cmp nat_cmp k low) && is_lt (slice_cmp nat_cmp k high)
 
@@ -49,7 +49,7 @@ abbrev pub keys_within : List ℕ → List ℕ → Tree → Answer
 keys_within low high (map ordered ps) = keys_are (filter (lies_within low high) (keys_in ps))
 keys_within low high _ = wrong
 
--- a leaf may be put where one of its kind stands, and a text where one of as many bytes stands
+-- a leaf may be put in the place of a leaf of its kind, and a text in the place of a text of the same length
 abbrev pub fits : Leaf → Leaf → Bool
 fits (truth b) (truth c) = true
 fits (number m) (number n) = true
@@ -70,12 +70,12 @@ answer t (keys path) = if_there (node_at t path) keys_of
 answer t (range low high path) = if_there (node_at t path) (keys_within low high)
 answer t (set path new) = if_there (node_at t path) (outcome_there new)
 
--- what bytes say, or that they say nothing
+-- the answer to the line that bytes spell, or to bytes that spell none
 abbrev pub reply : Tree → Option Line → Answer
 reply t None = bad
 reply t (Some line) = answer t line
 
--- the document in which a leaf was put where a path leads to one that it fits
+-- the document in which a leaf was put at a path, if the path leads to a leaf that it fits
 abbrev mutual
   pub change : Tree → List Step → Leaf → Tree
   change (leaf old) [] new = if fits old new then leaf new else leaf old
@@ -104,7 +104,7 @@ abbrev pub spelled_keys : List (List ℕ) → List ℕ
 spelled_keys [] = []
 spelled_keys (k ∷ ks) = codes " " ++ (spelled (key_item k) ++ spelled_keys ks)
 
--- the line that tells an answer, with its newline
+-- the line of an answer, with its newline
 abbrev pub spelled_answer : Answer → List ℕ
 spelled_answer (head i) = spelled i ++ codes "\n"
 spelled_answer (keys_are ks) = codes "keys " ++ (decimal (length ks) ++ (spelled_keys ks ++ codes "\n"))

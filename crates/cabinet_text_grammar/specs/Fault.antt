@@ -25,19 +25,20 @@ abbrev pub pieces_of : List ℕ → List Piece
 pieces_of [] = []
 pieces_of (b ∷ bs) = if b == 10 then record { bytes = []; ended = true } ∷ pieces_of bs else onto_first_piece b (pieces_of bs)
 
--- what is due after some lines of a text: they open containers, none at the start, or are those of a document
+-- the line that is expected after some lines of a text: the lines open containers, none at the start, or are those of a
+-- document
 pub data Reached (lines : List (List ℕ)) (due : Due) : Type 0 where
   inside : (fs : List Frame) → AreOpen fs → lines ≡ lines_of (items_of_stack fs) → due ≡ due_in fs → Reached lines due
   after_a_document : (t : Tree) → IsDocument t → lines ≡ lines_of (items t) → due ≡ nothing_more → Reached lines due
 
--- after a word the escaped form of no text
+-- a word, and after it bytes that are the escaped form of no text
 abbrev pub HasBadText : List ℕ → List ℕ → Type 0
 HasBadText word line = (rest : List ℕ) × (line ≡ word ++ rest) × ((t : List ℕ) → IsUtf8 t → rest ≢ escaped t)
 
 abbrev pub HasBadEscape : List ℕ → Type 0
 HasBadEscape line = HasBadText (codes "text '") line ⊎ HasBadText (codes "shared '") line
 
--- the word of a count and something after it
+-- the word of a count, and `rest` after it
 abbrev pub HasCount : List ℕ → List ℕ → Type 0
 HasCount line rest =
     (line ≡ codes "list " ++ rest)
@@ -49,7 +50,7 @@ pub record IsUnknownHead (line : List ℕ) : Type 0 where
   pub no_number : (rest : List ℕ) → line ≢ codes "int " ++ rest
   pub no_count : (rest : List ℕ) → HasCount line rest → ⊥
 
--- after the word of a number no number, or after the word of a count no count
+-- the word of a number and after it no number, or the word of a count and after it no count
 pub data HasBadNumber (line : List ℕ) : Type 0 where
   bad_number :
       (rest : List ℕ)
@@ -62,7 +63,7 @@ pub data HasBadNumber (line : List ℕ) : Type 0 where
       → ((n : ℕ) → n < 2 ^ 64 → rest ≢ decimal n)
       → HasBadNumber line
 
--- a head that may stand at the start, but not inside so many containers
+-- a head that is allowed at the start, but not inside `depth` containers
 abbrev pub IsTooDeep : ℕ → List ℕ → Type 0
 IsTooDeep depth line = (i : Item) × Admits (a_head 0) i × (line ≡ spelled i) × (Admits (a_head depth) i → ⊥)
 
@@ -80,8 +81,8 @@ RepeatsKey ordered keys line = ⊥
 RepeatsKey hashed keys line = ⊥
 RepeatsKey kept keys line = IsWrongKey kept keys line
 
--- What can be said against the piece that stands where something is due; None: the input has ended. Memory may be
--- refused at any head and any key.
+-- The causes that apply to the next piece of a text, by what is expected there; None: the input has ended. Memory may
+-- be refused at any head and any key.
 abbrev pub HasCause : Due → Option Piece → Cause → Type 0
 HasCause (a_head depth) None EndTooEarly = Unit {0}
 HasCause (a_head depth) (Some p) NotUtf8 = IsUtf8 p.bytes → ⊥
@@ -104,7 +105,7 @@ HasCause nothing_more (Some p) NoNewline = p.ended ≡ false
 HasCause nothing_more (Some p) LineAfterEnd = Unit {0}
 HasCause _ _ _ = ⊥
 
--- the order in which causes are asked for
+-- the order in which causes are checked
 abbrev pub rank : Cause → ℕ
 rank NotUtf8 = 0
 rank NoNewline = 1
@@ -119,13 +120,13 @@ rank TooDeep = 9
 rank LineAfterEnd = 10
 rank OutOfMemory = 11
 
--- the first cause of all that can be said
+-- the first cause of all that apply
 pub record IsFirstCause (due : Due) (piece : Option Piece) (cause : Cause) : Type 0 where
   pub has_cause : HasCause due piece cause
   pub first : (other : Cause) → rank other < rank cause → HasCause due piece other → ⊥
 
--- The first faulty line, counted from 1, and its first cause: the lines before it lead to where something is due, and
--- the fault is of what stands there.
+-- The first faulty line, counted from 1, and its first cause: the lines before it determine what is expected next, and
+-- the cause applies to the piece there.
 pub record FirstFault (input : List ℕ) (line : ℕ) (cause : Cause) : Type 0 where
   pub before : List (List ℕ)
   pub rest : List ℕ

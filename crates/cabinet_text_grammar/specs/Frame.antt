@@ -5,16 +5,16 @@ use Rattle.cabinet_text_grammar.specs.Tree.{Trees, Pairs, no_pairs, more_pairs, 
 use Rattle.cabinet_text_grammar.specs.Item.{Item, some_item, list_item, map_item, key_item, items_of, items_of_pairs}
 
 pub data Frame : Type 0 where
-  -- an option, which wants its node
+  -- an option, which expects its node
   in_option : Frame
-  -- a list of n elements, and those so far
+  -- a list of n elements, and its elements up to now
   in_list : ℕ → Trees → Frame
-  -- a map of n pairs, and those so far; it wants a key
+  -- a map of n pairs, and its pairs up to now; it expects a key
   at_key : MapKind → ℕ → Pairs → Frame
-  -- the same after a key, which wants its node
+  -- the same after a key, which expects its node
   at_value : MapKind → ℕ → Pairs → List ℕ → Frame
 
--- what its lines so far say
+-- the items that its lines up to now represent
 abbrev pub items_of_frame : Frame → List Item
 items_of_frame in_option = some_item ∷ []
 items_of_frame (in_list n ts) = list_item n ∷ items_of ts
@@ -34,19 +34,19 @@ keys_after keys (more_pairs k t ps) = keys_after (k ∷ keys) ps
 abbrev pub IsOpenMap : ℕ → MapKind → ℕ → Pairs → Type 0
 IsOpenMap d kind n ps = (n < 2 ^ 64) × (pair_count ps < n) × ArePairs kind [] ps × (d + pairs_depth ps ≤ 64)
 
--- a container that lacks some of what it is to hold
+-- a container that lacks some of its nodes
 abbrev pub IsOpen : ℕ → Frame → Type 0
 IsOpen d in_option = d ≤ 64
 IsOpen d (in_list n ts) = (n < 2 ^ 64) × (count ts < n) × AreLegal ts × (d + most_depth ts ≤ 64)
 IsOpen d (at_key kind n ps) = IsOpenMap d kind n ps
 IsOpen d (at_value kind n ps k) = IsOpenMap d kind n ps × (IsUtf8 k × MayFollow kind (keys_after [] ps) k)
 
--- the innermost container, if there is one, wants a node
+-- the innermost container, if there is one, expects a node
 abbrev pub WantsNode : List Frame → Type 0
 WantsNode (at_key kind n ps ∷ outer) = ⊥
 WantsNode _ = Unit {0}
 
--- each is open, and lies where the one around it wants a node
+-- each is open, and lies where the one around it expects a node
 abbrev pub AreOpen : List Frame → Type 0
 AreOpen [] = Unit {0}
 AreOpen (f ∷ outer) = IsOpen (length outer + 1) f × WantsNode outer × AreOpen outer

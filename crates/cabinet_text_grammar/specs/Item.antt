@@ -1,4 +1,4 @@
--- What a line of a document's text says, and all that the lines of a document say.
+-- The item that a line of a document's text represents, and all items of a document.
 use Rattle.std.specs.Prelude.{ℕ, List, [], ◌∷◌, ◌++◌}
 use Rattle.cabinet_text_grammar.specs.Keys.{MapKind}
 use Rattle.cabinet_text_grammar.specs.Tree.{Leaf, Tree, leaf, shared, nothing, just, list, map, Trees, no_trees, more_trees, Pairs, no_pairs, more_pairs, count, pair_count}

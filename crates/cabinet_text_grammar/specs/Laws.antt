@@ -9,7 +9,7 @@ use Rattle.cabinet_text_grammar.specs.Fault.{FirstFault}
 use Rattle.cabinet_text_grammar.specs.declared.cause.Cause.{Cause}
 use Rattle.cabinet_text_grammar.specs.declared.cause.Cause.TheVariants.{OutOfMemory}
 
--- no two documents have one text
+-- no two documents have the same text
 abbrev pub OneDocument : Type 0
 OneDocument = (s t : Tree) → IsDocument s → IsDocument t → text_of s ≡ text_of t → s ≡ t
 
@@ -19,7 +19,7 @@ FaultRefuses =
     (input : List ℕ) (line : ℕ) (cause : Cause) (t : Tree)
     → FirstFault input line cause → cause ≢ OutOfMemory → IsDocument t → input ≢ text_of t
 
--- a text has one first fault
+-- a text has at most one first fault
 pub record SameFault (line other : ℕ) (cause reason : Cause) : Type 0 where
   pub same_line : line ≡ other
   pub same_cause : cause ≡ reason
@@ -30,11 +30,11 @@ OneFault =
     → FirstFault input line cause → FirstFault input other reason → cause ≢ OutOfMemory → reason ≢ OutOfMemory
     → SameFault line other cause reason
 
--- bytes say one line, or nothing
+-- bytes spell at most one line
 abbrev pub OneLine : Type 0
 OneLine = (bytes : List ℕ) (a b : Option Line) → Says bytes a → Says bytes b → a ≡ b
 
--- only an edit that is done changes the document, and what it leaves is a document
+-- only an edit that is done changes the document, and its result is a document
 abbrev pub OnlyDoneChanges : Type 0
 OnlyDoneChanges = (t : Tree) (path : List Step) (new : Leaf) → answer t (set path new) ≢ done → change t path new ≡ t
 

@@ -1,4 +1,4 @@
--- The lines that ask for something of a document or change it.
+-- The lines that request a part of a document or change it.
 use Rattle.std.specs.Prelude.{◌≡◌, ◌≢◌, ℕ, ◌<◌, ◌^◌, List, [], ◌∷◌, ◌++◌, codes, Option, Some, None, All, IsUtf8}
 use Rattle.std.specs.Fmt.{decimal}
 use Rattle.cabinet_text_grammar.specs.Tree.{Leaf, IsLeaf}
@@ -11,7 +11,7 @@ pub data Line : Type 0 where
   get : List Step → Line
   -- the keys of a map
   keys : List Step → Line
-  -- the keys of a map from the first bound on and below the second
+  -- the keys of a map at or above the first bound and below the second
   range : List ℕ → List ℕ → List Step → Line
   set : List Step → Leaf → Line
 
@@ -44,7 +44,7 @@ IsPossible (keys path) = All IsStep path
 IsPossible (range low high path) = IsUtf8 low × IsUtf8 high × All IsStep path
 IsPossible (set path l) = All IsStep path × IsLeaf l
 
--- what bytes say: the line that they are the spelling of, or nothing where there is none
+-- the line that bytes are the spelling of, or none
 abbrev pub Says : List ℕ → Option Line → Type 0
 Says bytes None = (line : Line) → IsPossible line → bytes ≢ spelling line
 Says bytes (Some line) = IsPossible line × (bytes ≡ spelling line)

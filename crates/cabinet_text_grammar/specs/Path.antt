@@ -1,4 +1,4 @@
--- What a path leads to.
+-- The node that a path leads to.
 use Rattle.std.specs.Prelude.{ℕ, zero, suc, if◌then◌else◌, List, [], ◌∷◌, Option, Some, None}
 use Rattle.std.specs.Str.{bytes_eq}
 use Rattle.cabinet_text_grammar.specs.Tree.{Tree, just, list, map, Trees, no_trees, more_trees, Pairs, no_pairs, more_pairs}
@@ -9,7 +9,7 @@ pub data Step : Type 0 where
   place : ℕ → Step
   inside : Step
 
--- each node lies at its own step from the one around it, and at no other
+-- each node has its own step from the one around it, and no other
 abbrev mutual
   pub node_at : Tree → List Step → Option Tree
   node_at t [] = Some t

@@ -3,7 +3,7 @@ use Rattle.std.specs.Prelude.{ℕ, suc, ◌<◌, ◌≤◌, ◌^◌, max, ℤ, B
 use Rattle.std.specs.Int.{w64}
 use Rattle.cabinet_text_grammar.specs.Keys.{MapKind, MayFollow}
 
--- what a line may set: a truth value, a number, the bytes of a text
+-- the leaves that a line may set: a truth value, a number, the bytes of a text
 pub data Leaf : Type 0 where
   truth : Bool → Leaf
   number : ℤ → Leaf
@@ -38,7 +38,7 @@ abbrev pub pair_count : Pairs → ℕ
 pair_count no_pairs = 0
 pair_count (more_pairs k t ps) = suc (pair_count ps)
 
--- how many containers lie in one another at most; options, lists and maps are containers
+-- the largest number of containers that lie in one another; options, lists and maps are containers
 abbrev mutual
   pub depth : Tree → ℕ
   depth (leaf l) = 0

@@ -1,7 +1,8 @@
-//! Causes why a text is not the text of a document.
+//! The causes for which a text is not the text of a document.
 use thiserror::Error;
 
-/// What is wrong with a line of a document's text. The causes stand in the order in which they are asked for.
+/// The cause of a fault: what is wrong with a line of a document's text. The variants are in the order in which they
+/// are checked.
 #[derive(Clone, Copy, Debug, PartialEq, Eq, Error)]
 pub enum Cause {
     #[error("NotUtf8")]
@@ -9,19 +10,19 @@ pub enum Cause {
     /// The last line lacks its newline.
     #[error("NoNewline")]
     NoNewline,
-    /// A line is due and the input has ended.
+    /// The input has ended where another line is expected.
     #[error("EndTooEarly")]
     EndTooEarly,
-    /// A key is due and the line does not begin with a quote.
+    /// A key is expected and the line does not begin with a quote.
     #[error("KeyExpected")]
     KeyExpected,
-    /// A backslash before another character than `\`, `n` and `s`, or a space.
+    /// A backslash is before another character than `\`, `n` and `s`, or a space is not escaped.
     #[error("BadEscape")]
     BadEscape,
-    /// A key of an ordered or a hashed map is not above the one before.
+    /// A key of an ordered or a hashed map is not above the key before it.
     #[error("KeyOrder")]
     KeyOrder,
-    /// A key of a kept map is one of those before.
+    /// A key of a kept map is the same as an earlier one.
     #[error("KeyRepeated")]
     KeyRepeated,
     #[error("UnknownHead")]
@@ -29,10 +30,10 @@ pub enum Cause {
     /// The argument of `int` or of a count is no number of 64 bits, or not written in its shortest form.
     #[error("BadNumber")]
     BadNumber,
-    /// The head of a container inside 64 containers.
+    /// The line is the head of a container inside 64 containers.
     #[error("TooDeep")]
     TooDeep,
-    /// The document is complete.
+    /// The line is after the end of a complete document.
     #[error("LineAfterEnd")]
     LineAfterEnd,
     #[error("OutOfMemory")]

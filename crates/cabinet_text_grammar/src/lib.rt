@@ -1,5 +1,20 @@
-//! What documents and their texts are: definitions, and laws to be cited.
+//! Documents and their texts: definitions, and laws for other crates to cite.
 #![tactic(auto)]
+
+mod examples;
+mod keys;
+mod texts;
+
+pub use examples::{
+    count_with_a_leading_zero, edited_text, edits, empty_range, hashed_keys_that_descend,
+    head_in_place_of_a_key, heads_of_the_kinds, kept_key_twice, key_in_place_of_a_head,
+    key_with_a_raw_space, keys_of_the_kinds, last_line_without_a_newline, line_after_a_document,
+    list_of_eight, list_without_its_second_element, map_of_four, map_without_its_second_pair,
+    missing_nodes, option_without_its_node, ordered_key_twice, range_between_keys,
+    range_in_the_middle, reversed_range, sixty_five_options, some_with_an_argument,
+};
+pub use keys::{key_has_text, text_has_key};
+pub use texts::{read_back, text_or_fault};
 
 mod cause;
 mod laws;

@@ -1,4 +1,4 @@
--- What setting a leaf comes to in a node, by the first step of its path.
+-- The result of setting a leaf in a node, by the first step of its path.
 use Rattle.std.proofs.Common.{◌≡◌, ◌<◌, length, get_or, ℕ, zero, suc, Bool, true, false, if◌then◌else◌, cond, set, List, [], ◌∷◌, sym, ap, ◌∙◌, refl, arith, Option, Some, None, Global, String}
 use Rattle.std.proofs.lemmas.Option.{slice_get-get_or}
 use Rattle.std.specs.Prelude.{string_bytes, slice_get}
@@ -137,7 +137,7 @@ unplaced (more_pairs m t ps) k path h = by (bytes_eq m k) h (unplaced ps k path)
     by true g rest = cc
     by false g rest = rest (no_next (place_by ps k) g)
 
--- through a map with an order of its own, by the place of a key
+-- through a kept map, by the place of a key
 pub sets_kept_value : (path : List Step) (l : Leaf) {r : SetAnswer} (ps : List (String Global × Node)) (k : List ℕ) (i : ℕ) (p : String Global × Node) (new : Node) → Some i ≡ place_by (node_pairs ps) k → i < length ps → p ≡ get_or ps i p → Sets (node_tree p.1) path l r (node_tree new) → Sets (map kept (node_pairs ps)) (key k ∷ path) l r (map kept (node_pairs (set ps i (p.0, new))))
 sets_kept_value path l ps k i p new at within is h =
     let there : Placed ps k i p = placed ps k i p (sym at) (slice_get-get_or ps i p within ∙ ap Some (sym is)) in

@@ -7,30 +7,30 @@ use Rattle.archive_shape_layout.specs.Value.{Value, Values, count_values}
 use Rattle.archive_shape_layout.specs.Value.Value.{group}
 use Rattle.archive_shape_layout.specs.Value.Values.{no_values, more_values}
 use Rattle.archive_shape_layout.specs.Path.{value_in}
-use Rattle.archive_shape_canonical.specs.Sharing.{erased, all_erased}
-use Rattle.archive_shape_canonical.proofs.Steps.{count_erased}
+use Rattle.archive_forms_laws.specs.ShapeCanonical.Sharing.{erased, all_erased}
+use Rattle.archive_forms_laws.proofs.ShapeCanonical.Steps.{count_erased}
 use Rattle.archive_shape_writing.specs.declared.error.Error.{Error}
 use Rattle.archive_shape.specs.Key.{HeldAt}
-use Rattle.archive_forms_spelling.proofs.Levels.{option_box_sized}
-use Rattle.archive_forms_reading.specs.Parts.{HasValue, IsNoneAt, IsSomeAt}
-use Rattle.archive_forms_reading.proofs.Payloads.{option_by_tag}
-use Rattle.archive_forms_reading.proofs.Pointed.{box_points, box_there, vec_points, vec_there}
-use Rattle.archive_forms_deserializing.specs.Deserializing.{Deserializes}
-use Rattle.archive_forms_deserializing.specs.Reading.{reads_as}
+use Rattle.archive_forms_laws.proofs.Levels.{option_box_sized}
+use Rattle.archive_forms_values.specs.Parts.{HasValue, IsNoneAt, IsSomeAt}
+use Rattle.archive_forms_values.proofs.Payloads.{option_by_tag}
+use Rattle.archive_forms_values.proofs.Pointed.{box_points, box_there, vec_points, vec_there}
+use Rattle.archive_forms.specs.Deserializing.{Deserializes}
+use Rattle.archive_forms.specs.Reading.{reads_as}
 use Rattle.cabinet_text_grammar.specs.Tree as tree
 use Rattle.cabinet_text_grammar.specs.Tree.{Tree, Trees}
 use Rattle.cabinet_documents.specs.Node.{node_shape, KnowsNode}
 use Rattle.cabinet_documents.specs.Denotes.{Denotes, tagged_value}
 use Rattle.cabinet_archived.proofs.Nodes.{tagged_at, is_list}
-use Rattle.cabinet_spelling.specs.Spelling.{boxed_shape}
-use Rattle.cabinet_spelling.specs.HasLayout.{HasLayout, HaveLayout}
-use Rattle.cabinet_spelling.proofs.Denoted.{denoted}
-use Rattle.cabinet_spelling.proofs.Values.{value_of, values_of, node_agrees}
+use Rattle.cabinet_documents.specs.Spelling.{boxed_shape}
+use Rattle.cabinet_documents.specs.HasLayout.{HasLayout, HaveLayout}
+use Rattle.cabinet_documents.proofs.SpellingDenoted.{denoted}
+use Rattle.cabinet_documents.proofs.Values.{value_of, values_of, node_agrees}
 use Rattle.cabinet_text_nodes.specs.Archived.{archived_as}
 use Rattle.cabinet_text_nodes.specs.View.{node_tree}
 use Rattle.cabinet_text_nodes.specs.declared.node.Node.{Node}
 
--- ---- where it stands, what it leads to stands too
+-- ---- a value that the layout has at a position, and the values that it leads to
 
 data Parted (bytes : List ℕ) (v : Value) : Type 0 where
   parted_leaf : {tag : ℕ} {w : Value} → v ≡ tagged_value tag w → tag < 4 → Parted bytes v
@@ -68,14 +68,14 @@ module _ (bytes : List ℕ) (pos : ℕ) (v : Value) (h : HeldAt node_shape Knows
       by (suc (suc (suc (suc (suc n))))) e =
           as_list (is_list bytes pos there (λ f. omega (arith, e, f), λ f. omega (arith, e, f), λ f. omega (arith, e, f), λ f. omega (arith, e, f), λ f. omega (arith, e, f)))
 
--- an element has, but for where shared values stand, the value at its place among such values
+-- an element has, except for the positions of shared values, the value at its place among such values
 erased_at : (i : ℕ) (vs : Values) (x : Value) → value_in i vs ≡ Some x → value_in i (all_erased vs) ≡ Some (erased x)
 erased_at i no_values x e = absurd (cc)
 erased_at zero (more_values v vs) x e = let same : v ≡ x = cc in ap (λ y. Some (erased y)) same
 erased_at (suc i) (more_values v vs) x e = erased_at i vs x e
 
 module _ (bytes : List ℕ) where
-  -- a value that is this one, but for where shared values stand, is that of a node somewhere in the bytes
+  -- a value that is this one, except for the positions of shared values, is that of a node at some position
   abbrev StandsAs : Value → Type 0
   StandsAs u = (v : Value) × (erased v ≡ u) × (pos : ℕ) × HeldAt node_shape KnowsNode bytes pos v
 
@@ -101,7 +101,7 @@ module _ (bytes : List ℕ) where
   inside_some u (parted_maybe {w = w} {to = to} e o) f = let g = ap erased e in let is : erased w ≡ tagged_value 1 u = cc in some_inside to w u o is
   inside_some u (parted_list e l) f = let g = ap erased e in absurd (cc)
 
-  -- each of these values stands in the bytes
+  -- each of these values is at some position
   abbrev AllStand : Values → Type 0
   AllStand us = (i : ℕ) → i < count_values us → (u : Value) × (value_in i us ≡ Some u) × StandsAs u
 
@@ -120,7 +120,7 @@ module _ (bytes : List ℕ) where
       let x = all.each i (omega (arith, less, counted, as_many, all.count)) in
       (erased x.0, subst (λ vs. value_in i vs ≡ Some (erased x.0)) same (erased_at i all.elements x.0 x.1), (x.0, refl {a = erased x.0}, _, x.2))
 
--- what stands in a node has a layout
+-- the nodes inside a node have layouts
 mutual
   laid : (t : Tree) (bytes : List ℕ) → StandsAs bytes (value_of t) → HasLayout t
   laid (tree.leaf l) bytes there = tt
@@ -137,7 +137,7 @@ mutual
       let same : x.0 ≡ value_of t = let is = x.1 in cc in
       (laid t bytes (subst (StandsAs bytes) same x.2), all_laid ts bytes (λ i less. let y = stand (suc i) (omega (arith, less)) in (y.0, y.1, y.2)))
 
--- what a call that reads a node back gives is denoted by the value there
+-- the result of a call that reads a node back is denoted by the value there
 pub read_denotes :
     (bytes : List ℕ) (pos : ℕ) (r : Result Node Error) → Deserializes (reads_as archived_as) node_shape KnowsNode bytes pos r
     → IfOk r (λ n. (v : Value) → HeldAt node_shape KnowsNode bytes pos v → Denotes v (node_tree n))

@@ -1,4 +1,4 @@
--- What is wrong with several nodes, from what is wrong with each.
+-- The fault of several nodes, from the fault of each.
 use Rattle.std.proofs.Common.{◌≡◌, ◌≢◌, ℕ, suc, ◌+◌, ◌<◌, ◌≤◌, ◌^◌, List, [], ◌∷◌, length, get_or, drop, refl, sym, ap, ◌∙◌, subst, arith, inl, inr, Option, Some, None, add-one, drop-cons, map, All, Global, String}
 use Rattle.std.specs.Prelude.{max, string_bytes, string_cmp}
 use Rattle.std.specs.declared.cmp.Ordering.TheVariants.{Less}
@@ -45,7 +45,7 @@ faults_both room t ts (Some RepeatedKey) None p q = (omega (arith, p.0, q.1), in
 faults_both room t ts (Some RepeatedKey) (Some TooDeep) p q = omega (arith, q)
 faults_both room t ts (Some RepeatedKey) (Some RepeatedKey) p q = (omega (arith, p.0, q.0), inl p.1)
 
--- after some trees, the answer so far and that of the rest make the answer of all
+-- after some trees, their fault and that of the rest make the fault of all
 abbrev pub IsFaultBefore : ℕ → Trees → Trees → Option DocumentRefusal → Type 0
 IsFaultBefore room all rest fault = (later : Option DocumentRefusal) → AreFaults room rest later → AreFaults room all (worse_of fault later)
 
@@ -183,7 +183,7 @@ mutual
   no_repeat_among_pairs kind keys (more_pairs k t ps) are (inl h) = no_repeat t are.1.0 h
   no_repeat_among_pairs kind keys (more_pairs k t ps) are (inr h) = no_repeat_among_pairs kind (k ∷ keys) ps are.1.1 h
 
--- a refusal was met: its node is no document's root
+-- a node with a fault is the root of no document
 pub refused_is_no_document : (t : Tree) (refusal : DocumentRefusal) → IsRefusedFor 64 t refusal → IsDocument t → ⊥
 refused_is_no_document t TooDeep met document =
     let deep : depth t ≤ 64 = document.1 in

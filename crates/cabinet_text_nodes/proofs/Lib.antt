@@ -1,10 +1,11 @@
 pub mod Changes
+mod Denoting
 pub mod Faults
 pub mod Paths
-pub mod Twice
+mod ReadBack
 pub mod Resolved
 pub mod Seen
+pub mod Twice
 pub mod Views
 pub mod Written
-mod Denoting
-mod ReadBack
+pub use Rattle.cabinet_text_grammar.proofs as TextGrammar

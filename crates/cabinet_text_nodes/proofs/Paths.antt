@@ -1,4 +1,4 @@
--- What a path leads to in a node, by its first step.
+-- The node that a path leads to in a node, by its first step.
 use Rattle.std.proofs.Common.{◌≡◌, ℕ, zero, suc, ◌+◌, ◌<◌, length, get_or, drop, drop-cons, add-one, Bool, true, false, if◌then◌else◌, cond, List, [], ◌∷◌, sym, ap, ◌∙◌, refl, arith, Option, Some, None, Bor, Global, String}
 use Rattle.std.specs.Prelude.{string_bytes, slice_get}
 use Rattle.std.specs.Option.{option_map, option_copied, option_and_then}
@@ -69,7 +69,7 @@ if_mapped false false n found h = refl
 if_mapped true false n found h = cc
 if_mapped false true n found h = cc
 
--- the test by which a map of texts is asked for a key
+-- the test by which a key is looked up in a map of texts
 abbrev pub is_key : List ℕ → String Global → Bool
 is_key k l = is_eq (slice_cmp nat_cmp k (string_bytes l))
 

@@ -7,25 +7,25 @@ use Rattle.archive_shape_layout.specs.Value.{Value}
 use Rattle.archive_shape_layout.specs.Value.Value.{string, group, counted}
 use Rattle.archive_shape_layout.specs.Value.Values.{more_values}
 use Rattle.archive_shape_layout.specs.Content.{Names}
-use Rattle.archive_shape_canonical.specs.Sharing.{erased}
+use Rattle.archive_forms_laws.specs.ShapeCanonical.Sharing.{erased}
 use Rattle.archive_shape.specs.Key.{HeldAt}
-use Rattle.archive_forms_spelling.specs.Spelling.{Spelling}
-use Rattle.archive_forms_spelling.specs.Options.{option_spelling}
-use Rattle.archive_forms_spelling.specs.Regions.{plain_values}
-use Rattle.archive_forms_reading.specs.declared.resolving.BoxResolver.{BoxResolver}
+use Rattle.archive_forms_laws.specs.Spelling.{Spelling}
+use Rattle.archive_forms_laws.specs.Options.{option_spelling}
+use Rattle.archive_forms_laws.specs.Regions.{plain_values}
+use Rattle.archive_forms_values.specs.declared.reading.resolving.BoxResolver.{BoxResolver}
 use Rattle.archive_forms_rc.specs.Pointers.{Counts}
 use Rattle.archive_forms_rc.specs.Pointers.Counts.{counts, leads_back}
 use Rattle.archive_forms_writing.specs.Owned.{boxed_spelling, vec_spelling}
-use Rattle.archive_forms_deserializing.specs.Deserializing.{IsReadAt}
-use Rattle.archive_forms_deserializing.specs.Reading.{reads_as, reads_in, reads_option, reads_all}
-use Rattle.archive_forms_deserializing.proofs.Faithful.{option_faithful, all_faithful}
+use Rattle.archive_forms.specs.Deserializing.{IsReadAt}
+use Rattle.archive_forms.specs.Reading.{reads_as, reads_in, reads_option, reads_all}
+use Rattle.archive_forms.proofs.Faithful.{option_faithful, all_faithful}
 use Rattle.cabinet_text_grammar.specs.Tree as tree
 use Rattle.cabinet_text_grammar.specs.Tree.{Tree}
 use Rattle.cabinet_documents.specs.Node.{node_shape, KnowsNode}
 use Rattle.cabinet_documents.specs.Denotes.{tagged_value}
 use Rattle.cabinet_archived.specs.Kind.{IsTagged}
-use Rattle.cabinet_spelling.specs.Spelling.{boxed_shape}
-use Rattle.cabinet_spelling.proofs.Values.{value_of, values_of, node_agrees}
+use Rattle.cabinet_documents.specs.Spelling.{boxed_shape}
+use Rattle.cabinet_documents.proofs.Values.{value_of, values_of, node_agrees}
 use Rattle.cabinet_text_nodes.specs.Archived.{archived_as}
 use Rattle.cabinet_text_nodes.specs.View.{node_tree, node_trees}
 use Rattle.cabinet_text_nodes.specs.declared.node.Node.{Node}
@@ -71,7 +71,7 @@ maybe_as v o h = option_faithful (boxed_spelling node_shape archived_as) _ (λ u
 pub list_as : (v : Value) (ns : Vec Node Global) → reads_in (λ (xs : Vec Node Global). xs.items) (reads_all (reads_as archived_as)) v ns → (vec_spelling node_shape archived_as).plain ns ≡ v
 list_as v ns h = all_faithful archived_as (reads_as archived_as) (λ u n e. e) v ns.items h
 
--- ---- a payload that is read back behind its tag is the node's
+-- ---- a payload that is read back after its tag is the node's
 
 module _ (bytes other : Bor (List ℕ)) (pos tag : ℕ) (s : Shape) (knows : Names → Type 0) (to : ℕ) (same : other ≡ bytes) (tagged : IsTagged bytes.now pos tag s knows to) where
   pub payload_read :

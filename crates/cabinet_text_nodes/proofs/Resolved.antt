@@ -8,37 +8,37 @@ use Rattle.archive_shape_layout.specs.Bytes.{align_up}
 use Rattle.archive_shape_layout.specs.Shape.{Shape, size_of, align_of}
 use Rattle.archive_shape_layout.specs.Shape.Shape.{number, truth, text, option, choice, vector, shared as shared_shape}
 use Rattle.archive_shape_layout.specs.Shape.Pointee.{str}
-use Rattle.archive_shape_canonical.specs.FirstFit.{first_fit}
-use Rattle.archive_shape_references.specs.Bytes.{HasBytes, zeros, overwrite}
+use Rattle.archive_forms_laws.specs.ShapeCanonical.FirstFit.{first_fit}
+use Rattle.archive_shape.specs.Bytes.{HasBytes, zeros, overwrite}
 use Rattle.archive_shape_writing.specs.declared.error.Error.{Error}
 use Rattle.archive_shape_writing.specs.declared.error.Error.TheVariants.{IsizeOverflow, LengthTooLarge, InvalidTag}
-use Rattle.archive_forms_spelling.specs.State.{State}
-use Rattle.archive_forms_spelling.specs.Spelling.{Spelling}
-use Rattle.archive_forms_spelling.specs.Payloads.{payload_spelling}
-use Rattle.archive_forms_spelling.specs.Pointers.{box_spelling}
-use Rattle.archive_shape_pointers.specs.Offsets.{FitsOffset, offset_bytes}
-use Rattle.archive_forms_spelling.specs.Levels.{levels_spelling}
-use Rattle.archive_forms_spelling.specs.Serializing.{Resolves}
-use Rattle.archive_forms_spelling.proofs.Levels.{option_box_sized}
-use Rattle.archive_forms_spelling.proofs.Options.{option_spells}
-use Rattle.archive_forms_spelling.proofs.Pointers.{box_spells, slice_spells}
-use Rattle.archive_forms_spelling.proofs.Texts.{text_spells}
-use Rattle.archive_forms_spelling.proofs.Shared.{shared_text_spells}
-use Rattle.archive_forms_spelling.proofs.Views.{kept_spells}
-use Rattle.archive_forms_reading.specs.declared.resolving.BoxResolver.{BoxResolver}
-use Rattle.archive_forms_reading.specs.declared.resolving.VecResolver.{VecResolver}
-use Rattle.archive_forms_text.specs.declared.resolving.StringResolver.{StringResolver}
+use Rattle.archive_forms_laws.specs.State.{State}
+use Rattle.archive_forms_laws.specs.Spelling.{Spelling}
+use Rattle.archive_forms_laws.specs.Payloads.{payload_spelling}
+use Rattle.archive_forms_laws.specs.Pointers.{box_spelling}
+use Rattle.archive_shape.specs.Offsets.{FitsOffset, offset_bytes}
+use Rattle.archive_forms_laws.specs.Levels.{levels_spelling}
+use Rattle.archive_forms_laws.specs.Serializing.{Resolves}
+use Rattle.archive_forms_laws.proofs.Levels.{option_box_sized}
+use Rattle.archive_forms_laws.proofs.Options.{option_spells}
+use Rattle.archive_forms_laws.proofs.Pointers.{box_spells, slice_spells}
+use Rattle.archive_forms_laws.proofs.Texts.{text_spells}
+use Rattle.archive_forms_laws.proofs.Shared.{shared_text_spells}
+use Rattle.archive_forms_laws.proofs.Views.{kept_spells}
+use Rattle.archive_forms_values.specs.declared.reading.resolving.BoxResolver.{BoxResolver}
+use Rattle.archive_forms_values.specs.declared.reading.resolving.VecResolver.{VecResolver}
+use Rattle.archive_forms_values.specs.declared.text.resolving.StringResolver.{StringResolver}
 use Rattle.archive_forms_rc.specs.declared.resolving.RcResolver.{RcResolver}
 use Rattle.archive_forms_writing.proofs.Joining.{unfilled}
 use Rattle.archive_forms_writing.proofs.Results.{payload_resolved}
-use Rattle.cabinet_text_keys.specs.TextKey.{text_key}
+use Rattle.cabinet_text_grammar.specs.TextKey.{text_key}
 use Rattle.cabinet_text_grammar.specs.Tree as tree
 use Rattle.cabinet_text_grammar.specs.Tree.{Tree, depth}
 use Rattle.cabinet_documents.specs.Node.{node_shape, payloads, KnowsNode}
-use Rattle.cabinet_spelling.specs.declared.resolver.NodeResolver.{NodeResolver}
-use Rattle.cabinet_spelling.specs.declared.resolver.NodeResolver.TheVariants as resolver
-use Rattle.cabinet_spelling.specs.Spelling.{truth_spelling, number_spelling, string_spelling, shared_string_spelling, boxed_shape, boxed_spelling, maybe_spelling, list_spelling, text_in, shared_in, maybe_in, list_in, node_of, refused, node_level, node_spelling}
-use Rattle.cabinet_spelling.proofs.Levels.{node_spells_law}
+use Rattle.cabinet_documents.specs.declared.spelling.resolver.NodeResolver.{NodeResolver}
+use Rattle.cabinet_documents.specs.declared.spelling.resolver.NodeResolver.TheVariants as resolver
+use Rattle.cabinet_documents.specs.Spelling.{truth_spelling, number_spelling, string_spelling, shared_string_spelling, boxed_shape, boxed_spelling, maybe_spelling, list_spelling, text_in, shared_in, maybe_in, list_in, node_of, refused, node_level, node_spelling}
+use Rattle.cabinet_documents.proofs.Levels.{node_spells_law}
 use Rattle.cabinet_text_nodes.specs.Archived.{archived_as, tree_within, trees_within}
 use Rattle.cabinet_text_nodes.specs.View.{node_tree, node_trees}
 use Rattle.cabinet_text_nodes.specs.declared.node.Node.{Node}
@@ -130,7 +130,7 @@ list_place = record { first = omega arith; at = refl; fits = omega arith }
 
 module _ (r : NodeResolver) (bytes set_bytes new final : List ℕ) (start pos from there : ℕ) (result : Result (Unit {0}) Error)
     (room : start + 24 ≤ length bytes) (blank : HasBytes bytes start (zeros 24)) (ends : new ≡ final) where
-  -- a payload that is resolved behind its tag is the node's
+  -- a payload that is resolved after its tag is the node's
   kind_resolved :
       {A R : Type 0} (tag offset : ℕ) (s : Shape) (w : Spelling A R) (make : R → NodeResolver) (get : NodeResolver → R) → KindPlace s offset
       → (x : A) (t : Tree) → ((q : R) (p : ℕ) → w.own_fits x q p → length (w.own x q p) ≡ size_of s)
@@ -144,7 +144,7 @@ module _ (r : NodeResolver) (bytes set_bytes new final : List ℕ) (start pos fr
       let behind = payload_resolved w tag offset 24 (size_of s) place.first place.fits bytes set_bytes new final start pos from there x (get r) result (sized (get r)) room blank is_set is_from is_there ends here in
       subst (λ n. Resolves (payload_spelling tag n 24 w) x (get r) pos start bytes final result) (sym place.at) behind
 
-  -- of whatever node has the tree
+  -- of each node with the tree
   as_tree : (n : Node) (t : Tree) → node_tree n ≡ t → Resolves node_spelling t r pos start bytes final result → Resolves archived_as n r pos start bytes final result
   as_tree n t is h = subst (λ u. Resolves node_spelling u r pos start bytes final result) (sym is) h
 

@@ -1,4 +1,4 @@
--- Keys that stand twice among pairs, and how they are found.
+-- Keys that occur twice among pairs, and how they are found.
 use Rattle.std.proofs.Common.{◌≡◌, ℕ, zero, suc, ◌+◌, ◌-◌, ◌<◌, ◌≤◌, Bool, true, false, not, ◌||◌, if◌then◌else◌, List, [], ◌∷◌, length, get_or, take, drop, drop-cons, length-drop, add-one, refl, sym, ap, ◌∙◌, subst, arith, inl, inr, ◌⊎◌, Option, Some, None, Global, String, Bor, BTreeSet}
 use Rattle.std.specs.Prelude.{string_bytes}
 use Rattle.std.specs.BTreeSet.{contains, contains_by, insert_key}
@@ -111,7 +111,7 @@ not_true : (a b : Bool) → a ≡ not b → a ≡ true → b ≡ false
 not_true a true h g = absurd (true≢false (sym g ∙ h))
 not_true a false h g = refl
 
--- a key that is not added to the set stands twice
+-- a key that is not added to the set occurs twice
 pub seen_twice : (s : BTreeSet (Bor (List ℕ))) (key : Bor (List ℕ)) (ps : List (String Global × Node)) (i : ℕ) (p : String Global × Node) (added : Bool) → i < length ps → p ≡ get_or ps i p → key.now ≡ string_bytes p.0
     → added ≡ not (contains slices_cmp s key) → added ≡ false → again (seen s) (node_pairs (drop i ps)) ≡ again none_before (node_pairs ps) → HasKeyTwice (node_pairs ps)
 seen_twice s key ps i p added within is named told not_added same =
@@ -134,11 +134,11 @@ seen_more s after key ps i p added within is named told was_added keys same =
     ∙ ap (again (seen s)) (sym (pairs_from ps i p within is))
     ∙ same
 
--- where all were added, none stands twice
+-- where all were added, none occurs twice
 pub seen_all : (s : BTreeSet (Bor (List ℕ))) (ps : List (String Global × Node)) (i : ℕ) → length ps ≤ i → again (seen s) (node_pairs (drop i ps)) ≡ again none_before (node_pairs ps) → HasKeyTwice (node_pairs ps) → ⊥
 seen_all s ps i end same = not_twice (node_pairs ps) (sym same ∙ ap (λ qs. again (seen s) (node_pairs qs)) (drop_all i ps end))
 
--- the pairs behind one
+-- the pairs after one
 behind : (ps : List (String Global × Node)) (i : ℕ) → take (length ps - (i + 1)) (drop (i + 1) ps) ≡ drop (i + 1) ps
 behind ps i = take_all (length ps - (i + 1)) (drop (i + 1) ps) (omega (arith, length-drop (i + 1) ps))
 
@@ -159,7 +159,7 @@ unplaced_lacks (more_pairs l t ps) k none h = by (bytes_eq l k) (place_by ps k) 
   by false None here further none (inr has) = further refl has
   by false (Some i) here further none (inr has) = true≢false none
 
--- a key that has a place behind its own, and one that has none
+-- a key that has a place after its own, and one that has none
 pub placed_twice : (ps : List (String Global × Node)) (i : ℕ) (p : String Global × Node) (key : List ℕ) (found : Option ℕ) → i < length ps → p ≡ get_or ps i p → key ≡ string_bytes p.0
     → found ≡ place_by (node_pairs (take (length ps - (i + 1)) (drop (i + 1) ps))) key → true ≡ is_some found → HasKeyTwice (node_pairs ps)
 placed_twice ps i p key found within is named told there =

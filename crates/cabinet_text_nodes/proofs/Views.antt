@@ -51,7 +51,7 @@ pub pair_count-node_pairs : (ps : List (String Global × Node)) → tree.pair_co
 pair_count-node_pairs [] = refl
 pair_count-node_pairs (p ∷ ps) = omega (arith, pair_count-node_pairs ps)
 
--- the heads of a list and of a map that have so many elements or pairs
+-- the heads of a list and of a map with n elements or pairs
 pub head-list : {t : Tree} (ns : List Node) (n : ℕ) → t ≡ tree.list (node_trees ns) → n ≡ length ns → list_item n ≡ head_of t
 head-list ns n is counted = ap list_item (counted ∙ sym (count-node_trees ns)) ∙ sym (ap head_of is)
 

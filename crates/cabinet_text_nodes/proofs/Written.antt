@@ -9,34 +9,34 @@ use Rattle.archive_shape_layout.specs.Bytes.{align_up}
 use Rattle.archive_shape_layout.specs.Shape.{Shape, size_of, align_of}
 use Rattle.archive_shape_layout.specs.Value.Value.{group}
 use Rattle.archive_shape_layout.specs.Value.Values.{more_values}
-use Rattle.archive_shape_canonical.specs.Settled.{Fit}
-use Rattle.archive_shape_references.specs.Bytes.{zeros}
+use Rattle.archive_forms_laws.specs.ShapeCanonical.Settled.{Fit}
+use Rattle.archive_shape.specs.Bytes.{zeros}
 use Rattle.archive_shape_writing.specs.Writing.{WriterMembers}
 use Rattle.archive_shape_writing.specs.declared.error.Error.{Error}
 use Rattle.archive_shape_writing.specs.declared.error.Error.TheVariants.{IsizeOverflow, LengthTooLarge, PositionTooLarge, InvalidTag}
-use Rattle.archive_forms_spelling.specs.State.{State, Keys}
-use Rattle.archive_forms_spelling.specs.Spelling.{Spelling, state_after}
-use Rattle.archive_forms_spelling.specs.Forms.{seen_as, kept_as}
-use Rattle.archive_forms_spelling.specs.Regions.{state_after_all, values, plain_values, all_suit, pieces, owns, pieces_fit, pieces_refused, owns_fit, owns_refused, region_at}
-use Rattle.archive_forms_spelling.specs.Pointers.{slice_spelling}
-use Rattle.archive_forms_spelling.specs.Shared.{shared_text_spelling}
-use Rattle.archive_shape_pointers.specs.Offsets.{offset_bytes, FitsOffset}
-use Rattle.archive_forms_spelling.specs.Serializing.{Serializes}
-use Rattle.archive_forms_spelling.proofs.Agreeing.{said, serializes_alike}
+use Rattle.archive_forms_laws.specs.State.{State, Keys}
+use Rattle.archive_forms_laws.specs.Spelling.{Spelling, state_after}
+use Rattle.archive_forms_laws.specs.Forms.{seen_as, kept_as}
+use Rattle.archive_forms_laws.specs.Regions.{state_after_all, values, plain_values, all_suit, pieces, owns, pieces_fit, pieces_refused, owns_fit, owns_refused, region_at}
+use Rattle.archive_forms_laws.specs.Pointers.{slice_spelling}
+use Rattle.archive_forms_laws.specs.Shared.{shared_text_spelling}
+use Rattle.archive_shape.specs.Offsets.{offset_bytes, FitsOffset}
+use Rattle.archive_forms_laws.specs.Serializing.{Serializes}
+use Rattle.archive_forms_laws.proofs.Agreeing.{said, serializes_alike}
 use Rattle.archive_forms_writing.specs.Owned.{vec_spelling}
 use Rattle.archive_forms_writing.specs.Steps.{IsElement}
-use Rattle.archive_forms_reading.specs.declared.resolving.BoxResolver.{BoxResolver}
-use Rattle.archive_forms_reading.specs.declared.resolving.VecResolver.{VecResolver}
-use Rattle.archive_forms_text.specs.declared.resolving.StringResolver.{StringResolver}
-use Rattle.cabinet_text_keys.specs.TextKey.{text_key}
+use Rattle.archive_forms_values.specs.declared.reading.resolving.BoxResolver.{BoxResolver}
+use Rattle.archive_forms_values.specs.declared.reading.resolving.VecResolver.{VecResolver}
+use Rattle.archive_forms_values.specs.declared.text.resolving.StringResolver.{StringResolver}
+use Rattle.cabinet_text_grammar.specs.TextKey.{text_key}
 use Rattle.cabinet_text_grammar.specs.Tree as tree
 use Rattle.cabinet_text_grammar.specs.Keys.{MapKind}
 use Rattle.cabinet_text_grammar.specs.Tree.{Tree, Pairs, depth}
 use Rattle.cabinet_documents.specs.Node.{node_shape}
-use Rattle.cabinet_spelling.specs.declared.resolver.NodeResolver.{NodeResolver}
-use Rattle.cabinet_spelling.specs.declared.resolver.NodeResolver.TheVariants as resolver
-use Rattle.cabinet_spelling.specs.Spelling.{string_spelling, maybe_spelling, list_spelling, trees_in, refused, node_level, node_spelling}
-use Rattle.cabinet_spelling.proofs.Agreeing.{one_level_is_written_law}
+use Rattle.cabinet_documents.specs.declared.spelling.resolver.NodeResolver.{NodeResolver}
+use Rattle.cabinet_documents.specs.declared.spelling.resolver.NodeResolver.TheVariants as resolver
+use Rattle.cabinet_documents.specs.Spelling.{string_spelling, maybe_spelling, list_spelling, trees_in, refused, node_level, node_spelling}
+use Rattle.cabinet_documents.proofs.Agreeing.{one_level_is_written_law}
 use Rattle.cabinet_text_nodes.specs.Archived.{archived_as, tree_within, trees_within, most_within}
 use Rattle.cabinet_text_nodes.specs.View.{trees_of, node_tree, node_trees}
 use Rattle.cabinet_text_nodes.specs.declared.node.Node.{Node}
@@ -96,7 +96,7 @@ module _ {A B R : Type 0} (view : B → A) (w : Spelling A R) where
       (w.own_refused (view x) (w.resolver (view x) st) pos e ⊎ ((2 ^ 64 ≤ pos + size_of s) × (e ≡ PositionTooLarge)))
       ⊎ owns_refusals_seen s xs (state_after w (view x) st) (pos + length (w.own (view x) (w.resolver (view x) st) pos)) e i
 
-  -- where their region lies
+  -- the position of their region
   regions_seen : (s : Shape) (xs : List B) (st : State) → region_at (seen_as view w) s xs st ≡ region_at w s (map view xs) st
   regions_seen s xs st = λ i. align_up (states_seen xs st i).pos (align_of s)
 

@@ -1,4 +1,4 @@
--- What came of an edit and what a question was answered with, beside the answers of the grammar.
+-- The outcomes of edits and questions, next to the answers of the grammar.
 use Rattle.std.specs.Prelude.{◌≡◌, ℕ, suc, if◌then◌else◌, List, Option, Some, None}
 use Rattle.std.specs.Option.{option_map}
 use Rattle.std.specs.Str.{bytes_eq}
@@ -12,12 +12,12 @@ use Rattle.cabinet_text_nodes.specs.declared.answer.Asked.TheVariants as asked
 use Rattle.cabinet_text_nodes.specs.declared.answer.SetAnswer.{SetAnswer}
 use Rattle.cabinet_text_nodes.specs.Outcomes.{outcome_of}
 
--- setting a leaf comes to this answer, and leaves this document
+-- setting a leaf has this outcome, and results in this document
 pub record Sets (t : Tree) (path : List Step) (new : Leaf) (result : SetAnswer) (after : Tree) : Type 0 where
   pub answered : outcome_of result ≡ answering.answer t (set path new)
   pub left : after ≡ answering.change t path new
 
--- an answer to a question is told so
+-- the outcome of a question agrees with its answer
 abbrev pub Tells : Asked → answering.Answer → Type 0
 Tells Answered (answering.head i) = Unit {0}
 Tells Answered (answering.keys_are ks) = Unit {0}

@@ -1,11 +1,11 @@
 -- How a node is archived: as its tree.
 use Rattle.std.specs.Prelude.{ℕ, List, Box, Option, Some, None}
 use Rattle.std.specs.Global.{Global}
-use Rattle.archive_forms_spelling.specs.Spelling.{Spelling}
-use Rattle.archive_forms_spelling.specs.Forms.{seen_as}
+use Rattle.archive_forms_laws.specs.Spelling.{Spelling}
+use Rattle.archive_forms_laws.specs.Forms.{seen_as}
 use Rattle.cabinet_text_grammar.specs.Tree.{Tree, most_depth}
-use Rattle.cabinet_spelling.specs.declared.resolver.NodeResolver.{NodeResolver}
-use Rattle.cabinet_spelling.specs.Spelling.{node_spelling, trees_in}
+use Rattle.cabinet_documents.specs.declared.spelling.resolver.NodeResolver.{NodeResolver}
+use Rattle.cabinet_documents.specs.Spelling.{node_spelling, trees_in}
 use Rattle.cabinet_text_nodes.specs.View.{node_tree, node_trees}
 use Rattle.cabinet_text_nodes.specs.declared.node.Node.{Node}
 
@@ -21,6 +21,6 @@ tree_within (Some b) = Some (node_tree b.value)
 abbrev pub trees_within : List Node → List Tree
 trees_within ns = trees_in (node_trees ns)
 
--- how many containers lie in one another at most in a list
+-- the largest number of containers that lie in one another in a list
 abbrev pub most_within : List Node → ℕ
 most_within ns = most_depth (node_trees ns)

@@ -1,14 +1,14 @@
--- How a proof tells trees apart: by their items.
+-- How a proof distinguishes trees: by their items.
 use Rattle.std.specs.Prelude.{◌≡◌, refl, ℕ, zero, suc, ℤ, Bool, true, false, List, [], ◌⊎◌}
 use Rattle.std.proofs.Common.{inl, inr, ap, sym, ◌∙◌, append-nil}
 use Rattle.std.specs.Coded.{Coded, code_by, coded⊎, coded×, coded_bool, coded_ℕ, coded_ℤ, coded_list}
 use Rattle.cabinet_text_grammar.specs.Keys.{MapKind, ordered, hashed, kept}
 use Rattle.cabinet_text_grammar.specs.Tree.{Leaf, truth, number, text, Tree, leaf}
 use Rattle.cabinet_text_grammar.specs.Item.{Item, leaf_item, shared_item, none_item, some_item, list_item, map_item, key_item, items}
-use Rattle.cabinet_text_grammar.proofs.Machine.{State, going, complete, run}
+use Rattle.cabinet_text_grammar.specs.Machine.{State, going, complete, run}
 use Rattle.cabinet_text_grammar.proofs.Runs.{run-tree}
 
--- a leaf's parts, beside which case it is
+-- a leaf's parts, with its case
 abbrev pub LeafParts : Type 0
 LeafParts = Bool ⊎ (ℤ ⊎ List ℕ)
 

@@ -1,8 +1,9 @@
+pub mod Answers
+pub mod Archived
 pub mod Code
-pub mod View
+pub mod Faults
 pub mod Kinds
 pub mod Lines
 pub mod Outcomes
-pub mod Answers
-pub mod Faults
-pub mod Archived
+pub mod View
+pub use Rattle.cabinet_text_grammar.specs as TextGrammar

@@ -1,4 +1,4 @@
--- What came of an edit, as an answer.
+-- The outcome of an edit, as an answer.
 use Rattle.cabinet_text_grammar.specs.Answering.{Answer, missing, done, refused}
 use Rattle.cabinet_text_nodes.specs.declared.answer.SetAnswer.{SetAnswer}
 use Rattle.cabinet_text_nodes.specs.declared.answer.SetAnswer.TheVariants.{Done, Missing, Refused}

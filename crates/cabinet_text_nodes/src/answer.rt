@@ -1,8 +1,8 @@
-//! What a question was answered with, and what came of an edit.
-/// What a question was answered with.
+//! The outcomes of questions and of edits.
+/// The outcome of a question.
 #[derive(Clone, Copy, Debug, PartialEq, Eq)]
 pub enum Asked {
-    /// The path leads to a node, and the answer tells of it.
+    /// The path leads to a node, and the answer has been written for it.
     Answered,
     /// The path leads nowhere.
     Missing,
@@ -10,13 +10,13 @@ pub enum Asked {
     Wrong,
 }
 
-/// What came of setting a leaf.
+/// The outcome of setting a leaf.
 #[derive(Clone, Copy, Debug, PartialEq, Eq)]
 pub enum SetAnswer {
-    /// The leaf stands there now.
+    /// The leaf is there now.
     Done,
     /// The path leads nowhere.
     Missing,
-    /// What stands there has another kind, or is a text of another length.
+    /// The node there has another kind, or is a text of another length.
     Refused,
 }

@@ -1,29 +1,29 @@
-//! Nodes are archived, each by its kind.
+//! Archives nodes, each by its kind.
 ghost use Rattle.std.specs.Prelude.{◌≡◌, ℕ, suc, ◌+◌, ◌-◌, ◌^◌, ◌<◌, ◌≤◌, length};
 ghost use Rattle.std.specs.Rc.{rc_str_bytes};
-ghost use Rattle.archive_shape_references.specs.Bytes.{HasBytes, zeros};
-ghost use Rattle.archive_forms_spelling.specs.Serializing.{CanResolve, HasState, Resolves, Serializes, SerializesBy};
-ghost use Rattle.archive_forms_spelling.proofs.Views.{seen_spells};
+ghost use Rattle.archive_shape.specs.Bytes.{HasBytes, zeros};
+ghost use Rattle.archive_forms_laws.specs.Serializing.{CanResolve, HasState, Resolves, Serializes, SerializesBy};
+ghost use Rattle.archive_forms_laws.proofs.Views.{seen_spells};
 ghost use Rattle.cabinet_text_grammar.specs.Tree.{depth};
 ghost use Rattle.cabinet_documents.specs.Node.{node_shape, KnowsNode};
-ghost use Rattle.cabinet_spelling.specs.Spelling.{node_spelling, shared_string_spelling, maybe_spelling, list_spelling, text_in, shared_in, maybe_in, list_in};
-ghost use Rattle.cabinet_spelling.proofs.Levels.{node_spells_law};
+ghost use Rattle.cabinet_documents.specs.Spelling.{node_spelling, shared_string_spelling, maybe_spelling, list_spelling, text_in, shared_in, maybe_in, list_in};
+ghost use Rattle.cabinet_documents.proofs.Levels.{node_spells_law};
 ghost use Rattle.cabinet_text_nodes.specs.Archived.{archived_as, tree_within, trees_within, most_within};
 ghost use Rattle.cabinet_text_nodes.specs.View.{node_tree};
 
 use crate::node::Node;
 use archive_forms_rc::{ArchivedRcStr, RcFlavor, RcResolver};
-use archive_forms_reading::{ArchivedBox, ArchivedOption, ArchivedVec, BoxResolver, VecResolver};
-use archive_forms_text::StringResolver;
+use archive_forms_values::{
+    ArchivedBox, ArchivedOption, ArchivedVec, BoxResolver, StringResolver, VecResolver,
+};
 use archive_forms_writing::{Archive, Serialize, serialize_box_each, serialize_vec_each};
 use archive_shape::{Error, Place};
-use cabinet_archived::ArchivedNode;
-use cabinet_sharing::TextSharing;
-use cabinet_spelling::NodeResolver;
+use cabinet_archived::{ArchivedNode, TextSharing};
+use cabinet_documents::NodeResolver;
 use std::marker::PhantomData;
 use std::rc::RcStr;
 
-/// Where the bytes of a text stand.
+/// Returns the position of the bytes of a text.
 fn text_kept(resolver: NodeResolver) -> StringResolver
     ensures { result ≡ text_in resolver }
 {
@@ -33,7 +33,7 @@ fn text_kept(resolver: NodeResolver) -> StringResolver
     }
 }
 
-/// Where a shared text stands.
+/// Returns the position of a shared text.
 fn shared_kept(resolver: NodeResolver) -> RcResolver
     ensures { result ≡ shared_in resolver }
 {
@@ -43,7 +43,7 @@ fn shared_kept(resolver: NodeResolver) -> RcResolver
     }
 }
 
-/// Where the node in an option stands, if there is one.
+/// Returns the position of the node in an option, if there is one.
 fn maybe_kept(resolver: NodeResolver) -> Option<BoxResolver>
     ensures { result ≡ maybe_in resolver }
 {
@@ -53,7 +53,7 @@ fn maybe_kept(resolver: NodeResolver) -> Option<BoxResolver>
     }
 }
 
-/// Where the elements of a list stand.
+/// Returns the position of the elements of a list.
 fn list_kept(resolver: NodeResolver) -> VecResolver
     ensures { result ≡ list_in resolver }
 {
@@ -82,7 +82,7 @@ fn resolve_shared(
     ArchivedRcStr::<RcFlavor>::resolve_from_raw_parts(resolver, text.len(), place)
 }
 
-/// Writes the own bytes of an option, in a place that is zero.
+/// Writes the own bytes of an option, where the buffer is zero.
 fn resolve_maybe(
     content: &Option<Box<Node>>,
     resolver: Option<BoxResolver>,
@@ -136,7 +136,7 @@ impl Archive for Node {
 
     ghost spelling = { archived_as };
 
-    /// Refuses a kind without a layout with `InvalidTag`.
+    /// Writes a node's own bytes. A kind without a layout is an `InvalidTag` error.
     fn resolve(&self, resolver: NodeResolver, out: Place<'_, ArchivedNode>) -> Result<(), Error>
         requires { CanResolve archived_as node_shape self.now resolver out.out.now out.start out.pos }
         ensures { Resolves archived_as self.now resolver out.entry.pos out.entry.start out.entry.out.now out.exit.0.now result }
@@ -219,7 +219,7 @@ fn serialize_maybe<S: TextSharing>(
     }
 }
 
-/// Writes the elements of a list behind their data.
+/// Writes the elements of a list after their data.
 #[cycle(serialize)]
 fn serialize_list<S: TextSharing>(
     nodes: &Vec<Node>,
@@ -247,7 +247,7 @@ fn serialize_list<S: TextSharing>(
     )
 }
 
-/// Writes the data of a node. It calls itself at most as deep as nodes lie in one another.
+/// Writes the data of a node. The depth of its recursion is at most the depth at which nodes lie in one another.
 #[cycle(serialize)]
 fn serialize_node<S: TextSharing>(node: &Node, serializer: &mut S) -> Result<NodeResolver, Error>
     requires room { S.failures serializer.old < 2 ^ 64 - 1 }
@@ -280,7 +280,7 @@ fn serialize_node<S: TextSharing>(node: &Node, serializer: &mut S) -> Result<Nod
 }
 
 impl<S: TextSharing> Serialize<S> for Node {
-    /// Refuses a kind without a layout with `InvalidTag`.
+    /// Writes the data of a node. A kind without a layout is an `InvalidTag` error.
     fn serialize(&self, serializer: &mut S) -> Result<NodeResolver, Error> {
         serialize_node(self, serializer)
     }

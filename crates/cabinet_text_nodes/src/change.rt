@@ -1,4 +1,4 @@
-//! A leaf put in the place of another.
+//! Puts a leaf in the place of another.
 ghost use Rattle.std.specs.Prelude.{◌≡◌, ◌<◌, [], ◌∷◌, length, string_bytes, IfSome};
 ghost use Rattle.cabinet_text_grammar.specs.Keys.{MapKind, kept};
 ghost use Rattle.cabinet_text_grammar.specs.Tree as tree;
@@ -12,7 +12,7 @@ use crate::line::Step;
 use crate::node::Node;
 use std::collections::BTreeMap;
 
-/// Writes a text over another of the same length. It takes no memory.
+/// Writes a text over another of the same length. It allocates no memory.
 fn write_over(text: &mut String, new: &str)
     requires { length (string_bytes text.old) ≡ length new.now }
     ensures { string_bytes text.new ≡ new.now }
@@ -42,7 +42,7 @@ fn put_leaf(node: &mut Node, leaf: LeafRef<'_>) -> SetAnswer
     }
 }
 
-/// The place of a key. It compares the key with each.
+/// Returns the place of a key. It compares the key with each key up to its place.
 pub(crate) fn place_of(pairs: &[(String, Node)], key: &str) -> Option<usize>
     ensures place { result ≡ place_by (node_pairs pairs.now) key.now }
     ensures within { IfSome result (λ place. place < length pairs.now) }
@@ -55,7 +55,7 @@ pub(crate) fn place_of(pairs: &[(String, Node)], key: &str) -> Option<usize>
     None
 }
 
-/// Puts a leaf where a path leads through an option.
+/// Puts a leaf at a path that leads through an option.
 #[cycle(change)]
 fn change_inside(
     content: &mut Option<Box<Node>>,
@@ -74,7 +74,7 @@ fn change_inside(
     change_at(content, rest, leaf)
 }
 
-/// Puts a leaf where a path leads through a list.
+/// Puts a leaf at a path that leads through a list.
 #[cycle(change)]
 fn change_element(
     elements: &mut Vec<Node>,
@@ -93,7 +93,7 @@ fn change_element(
     }
 }
 
-/// Puts a leaf where a path leads through an ordered or a hashed map.
+/// Puts a leaf at a path that leads through an ordered or a hashed map.
 #[cycle(change)]
 fn change_value(
     map: &mut BTreeMap<String, Node>,
@@ -112,7 +112,7 @@ fn change_value(
     }
 }
 
-/// Puts a leaf where a path leads through a map with an order of its own.
+/// Puts a leaf at a path that leads through a kept map.
 #[cycle(change)]
 fn change_kept_value(
     pairs: &mut Vec<(String, Node)>,
@@ -131,7 +131,7 @@ fn change_kept_value(
     }
 }
 
-/// Puts a leaf where a path leads. It calls itself at most as deep as nodes lie in one another.
+/// Puts a leaf at a path. The depth of its recursion is at most the depth at which nodes lie in one another.
 #[cycle(change)]
 pub(crate) fn change_at(node: &mut Node, path: &[Step], leaf: LeafRef<'_>) -> SetAnswer
     ensures { Sets (node_tree node.old) (path_of path.now) (lent_leaf leaf.entry) result (node_tree node.new) }

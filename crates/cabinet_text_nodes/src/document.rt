@@ -1,4 +1,4 @@
-//! A document, which begins at its root.
+//! Documents: nodes that are roots, and changes of their leaves.
 ghost use Rattle.std.specs.Prelude.{◌≡◌, IfOk, IfErr};
 ghost use Rattle.cabinet_text_grammar.specs.Tree.{IsDocument};
 ghost use Rattle.cabinet_text_grammar.specs.Answering.{answer, change};
@@ -16,7 +16,8 @@ use crate::node::Node;
 use crate::refusal::DocumentRefusal;
 use std::marker::Model;
 
-/// A document.
+/// A document: a root of at most 64 containers in one another, whose kept maps have distinct keys. Its view is the
+/// root's tree.
 #[derive(Debug, Drop)]
 pub struct Document {
     root: Node,
@@ -36,13 +37,13 @@ impl Model for Document {
     ghost invariant = { λ d. IsDocument (node_tree d.root) };
 }
 
-/// The most containers that may lie in one another.
+/// The largest number of containers that may lie in one another.
 const MOST: usize = 64;
 
 impl Document {
-    /// The document of a node. That a container lies too deep is told before a repeated key, wherever they stand.
-    /// Where there is memory for a set of the keys of a map, its keys are looked up there; else each two are
-    /// compared, so that it never fails for want of memory.
+    /// Creates the document of a node. `TooDeep` is returned before `RepeatedKey`, regardless of where in the node they
+    /// occur. If a set of the keys of a map can be allocated, the keys are looked up in it; otherwise each two keys are
+    /// compared, so that the check never fails when an allocation does.
     pub fn new(root: Node) -> Result<Document, DocumentRefusal>
         ensures document { IfOk result (λ document. document ≡ node_tree root) }
         ensures refusal { IfErr result (IsRefusedFor 64 (node_tree root)) }
@@ -54,8 +55,8 @@ impl Document {
         }
     }
 
-    /// The document of a node that is known to be one's root: at most 64 containers lie in one another, and the keys
-    /// of each kept map are distinct.
+    /// Creates the document of a node that is known to be a root: at most 64 containers lie in one another, and the
+    /// keys of each kept map are distinct.
     pub fn of_root(root: Node) -> Document
         requires { IsDocument (node_tree root) }
         ensures { result ≡ node_tree root }
@@ -63,6 +64,7 @@ impl Document {
         Document { root }
     }
 
+    /// Returns the root of the document.
     pub fn root(&self) -> &Node
         ensures tree { node_tree result.now ≡ self.now }
         ensures document { IsDocument self.now }
@@ -70,7 +72,7 @@ impl Document {
         &self.root
     }
 
-    /// Puts a leaf where a path leads, in the place of one that it fits. It takes no memory.
+    /// Puts a leaf at a path, in the place of a leaf that it fits. It allocates no memory.
     pub fn change(&mut self, path: &[Step], leaf: &Leaf) -> SetAnswer
         ensures answer { outcome_of result ≡ answer self.old (set (path_of path.now) (leaf_of leaf.now)) }
         ensures document { self.new ≡ change self.old (path_of path.now) (leaf_of leaf.now) }

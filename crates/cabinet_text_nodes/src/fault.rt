@@ -1,4 +1,4 @@
-//! What keeps a node from being the root of a document.
+//! Checks whether a node is the root of a document.
 ghost use Rattle.std.specs.Prelude.{◌≡◌, map};
 ghost use Rattle.cabinet_text_grammar.specs.Keys.{MapKind, kept, ordered, hashed};
 ghost use Rattle.cabinet_text_grammar.specs.Tree as tree;
@@ -11,7 +11,7 @@ use crate::refusal::DocumentRefusal;
 use crate::repeated::repeats_key;
 use std::collections::BTreeMap;
 
-/// Of two answers the one to be told.
+/// Returns the fault that is reported of two: `TooDeep` before `RepeatedKey`.
 fn worse(one: Option<DocumentRefusal>, other: Option<DocumentRefusal>) -> Option<DocumentRefusal>
     ensures { result ≡ worse_of one other }
 {
@@ -24,7 +24,7 @@ fn worse(one: Option<DocumentRefusal>, other: Option<DocumentRefusal>) -> Option
     }
 }
 
-/// What is wrong with nodes, where so many containers may lie in one another.
+/// Returns the fault of several nodes, where at most `room` containers may lie in one another.
 #[cycle(faults)]
 fn fault_among(nodes: &[Node], room: usize) -> Option<DocumentRefusal>
     ensures { AreFaults room (node_trees nodes.now) result }
@@ -36,7 +36,7 @@ fn fault_among(nodes: &[Node], room: usize) -> Option<DocumentRefusal>
     fault
 }
 
-/// What is wrong with the nodes of pairs, where so many containers may lie in one another.
+/// Returns the fault of the nodes of pairs, where at most `room` containers may lie in one another.
 #[cycle(faults)]
 fn fault_among_pairs(pairs: &[(String, Node)], room: usize) -> Option<DocumentRefusal>
     ensures { AreFaults room (node_trees (map (λ p. p.1) pairs.now)) result }
@@ -48,7 +48,7 @@ fn fault_among_pairs(pairs: &[(String, Node)], room: usize) -> Option<DocumentRe
     fault
 }
 
-/// What is wrong with the nodes of a map, where so many containers may lie in one another.
+/// Returns the fault of the nodes of a map, where at most `room` containers may lie in one another.
 #[cycle(faults)]
 fn fault_among_values(values: &BTreeMap<String, Node>, room: usize) -> Option<DocumentRefusal>
     ensures { AreFaults room (node_trees (map (λ p. p.1) values.now.entries)) result }
@@ -60,7 +60,7 @@ fn fault_among_values(values: &BTreeMap<String, Node>, room: usize) -> Option<Do
     fault
 }
 
-/// What is wrong with an option, where so many containers may lie in one another.
+/// Returns the fault of an option, where at most `room` containers may lie in one another.
 #[cycle(faults)]
 fn fault_in_option(content: &Option<Box<Node>>, room: usize) -> Option<DocumentRefusal>
     ensures { IsFault room (node_tree (node_of.Maybe content.now)) result }
@@ -74,7 +74,7 @@ fn fault_in_option(content: &Option<Box<Node>>, room: usize) -> Option<DocumentR
     }
 }
 
-/// What is wrong with a list, where so many containers may lie in one another.
+/// Returns the fault of a list, where at most `room` containers may lie in one another.
 #[cycle(faults)]
 fn fault_in_list(nodes: &Vec<Node>, room: usize) -> Option<DocumentRefusal>
     ensures { IsFault room (tree.list (node_trees nodes.now.items)) result }
@@ -85,7 +85,7 @@ fn fault_in_list(nodes: &Vec<Node>, room: usize) -> Option<DocumentRefusal>
     fault_among(nodes.as_slice(), room)
 }
 
-/// What is wrong with an ordered or a hashed map, where so many containers may lie in one another.
+/// Returns the fault of an ordered or a hashed map, where at most `room` containers may lie in one another.
 #[cycle(faults)]
 fn fault_in_map(values: &BTreeMap<String, Node>, room: usize) -> Option<DocumentRefusal>
     ensures ordered { IsFault room (tree.map ordered (node_pairs values.now.entries)) result }
@@ -98,7 +98,7 @@ fn fault_in_map(values: &BTreeMap<String, Node>, room: usize) -> Option<Document
     fault_among_values(values, room)
 }
 
-/// What is wrong with a map in an order of its own, where so many containers may lie in one another.
+/// Returns the fault of a kept map, where at most `room` containers may lie in one another.
 #[cycle(faults)]
 fn fault_in_kept(pairs: &Vec<(String, Node)>, room: usize) -> Option<DocumentRefusal>
     ensures { IsFault room (tree.map kept (node_pairs pairs.now.items)) result }
@@ -114,8 +114,8 @@ fn fault_in_kept(pairs: &Vec<(String, Node)>, room: usize) -> Option<DocumentRef
     }
 }
 
-/// What is wrong with a node, where so many containers may lie in one another. It calls itself at most as deep as
-/// there is room, and once more.
+/// Returns the fault of a node, where at most `room` containers may lie in one another. The depth of its recursion is
+/// at most `room` + 1.
 #[cycle(faults)]
 pub(crate) fn fault_of(node: &Node, room: usize) -> Option<DocumentRefusal>
     ensures { IsFault room (node_tree node.now) result }

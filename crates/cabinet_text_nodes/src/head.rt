@@ -1,4 +1,4 @@
-//! Heads of nodes: what the line that a node's text begins with says.
+//! The head of a node: the first line of its text.
 ghost use Rattle.std.specs.Prelude.{◌≡◌};
 ghost use Rattle.cabinet_text_grammar.specs.Answering.{head_of};
 ghost use Rattle.cabinet_text_nodes.specs.View.{node_tree, lent_item};
@@ -7,7 +7,7 @@ use crate::leaf::{Leaf, LeafRef};
 use crate::node::Node;
 use std::rc::RcStr;
 
-/// The head of a node. Lists and maps have as many elements or pairs as it says.
+/// The head of a node. Lists and maps have the number of elements or pairs that it states.
 #[derive(Debug, Drop)]
 pub enum Head {
     Leaf(Leaf),
@@ -34,7 +34,7 @@ pub enum HeadRef<'a> {
 }
 
 impl Node {
-    /// What the line that the node's text begins with says.
+    /// Returns the head of the node, which is the first line of its text.
     pub fn head(&self) -> HeadRef<'_>
         ensures { lent_item result ≡ head_of (node_tree self.now) }
     {

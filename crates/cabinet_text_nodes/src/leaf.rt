@@ -1,4 +1,4 @@
-//! Leaves, owned and borrowed, and which of them may be put in the place of which.
+//! Leaves, owned and borrowed, and which leaves may be put in the place of which.
 ghost use Rattle.std.specs.Prelude.{◌≡◌};
 ghost use Rattle.cabinet_text_grammar.specs.Answering as answering;
 ghost use Rattle.cabinet_text_grammar.specs.Tree.{IsLeaf};
@@ -21,6 +21,7 @@ pub enum LeafRef<'a> {
 }
 
 impl Leaf {
+    /// Borrows the leaf.
     pub fn as_ref(&self) -> LeafRef<'_>
         ensures value { lent_leaf result ≡ leaf_of self.now }
         ensures leaf { IsLeaf (leaf_of self.now) }
@@ -33,7 +34,7 @@ impl Leaf {
     }
 }
 
-/// Whether `new` may be put where `there` stands.
+/// Returns whether `new` may be put in the place of `there`: both have the same kind, and texts have the same length.
 pub fn fits(there: LeafRef<'_>, new: LeafRef<'_>) -> bool
     ensures { result ≡ answering.fits (lent_leaf there.entry) (lent_leaf new.entry) }
 {

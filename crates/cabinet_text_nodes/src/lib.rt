@@ -1,4 +1,4 @@
-//! Documents of nine kinds of nodes, and lines about them, as types.
+//! Types of documents, which have nine kinds of nodes, and of lines about documents.
 #![tactic(auto)]
 
 mod answer;

@@ -1,4 +1,4 @@
-//! Steps and lines, and why bytes were not read as a line.
+//! Steps and lines, and the errors of reading a line.
 ghost use Rattle.std.specs.Prelude.{◌↔◌, IsTrue};
 ghost use Rattle.cabinet_text_nodes.specs.Lines.{IsQuestion};
 ghost use Rattle.cabinet_text_nodes.specs.View.{line_of};
@@ -6,7 +6,7 @@ ghost use Rattle.cabinet_text_nodes.specs.View.{line_of};
 use crate::leaf::Leaf;
 use thiserror::Error;
 
-/// A step down a document.
+/// A step down a document, from a node to one inside it.
 #[derive(Debug, Drop)]
 pub enum Step {
     /// Into a map, by a key.
@@ -17,27 +17,27 @@ pub enum Step {
     Inside,
 }
 
-/// What is asked for.
+/// A line: a question about a document, or an edit of it.
 #[derive(Debug, Drop)]
 pub enum Line {
-    /// The head of the node at a path.
+    /// Requests the head of the node at a path.
     Get(Vec<Step>),
-    /// The keys of the map at a path.
+    /// Requests the keys of the map at a path.
     Keys(Vec<Step>),
-    /// The keys of the ordered map at a path, from `lo` on and below `hi`.
+    /// Requests the keys of the ordered map at a path that are at or above `lo` and below `hi`.
     Range {
         lo: String,
         hi: String,
         path: Vec<Step>,
     },
-    /// To put a leaf at a path.
+    /// Puts a leaf at a path.
     Set {
         path: Vec<Step>,
         leaf: Leaf,
     },
 }
 
-/// Why bytes were not read as a line.
+/// The error of reading bytes as a line.
 #[derive(Clone, Copy, Debug, PartialEq, Eq, Error)]
 pub enum LineRefusal {
     #[error("the bytes are no line")]
@@ -47,7 +47,7 @@ pub enum LineRefusal {
 }
 
 impl Line {
-    /// Whether the line changes nothing.
+    /// Returns whether the line changes nothing.
     pub fn is_question(&self) -> bool
         ensures { IsTrue result ↔ IsQuestion (line_of self.now) }
     {

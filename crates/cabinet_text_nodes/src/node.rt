@@ -8,23 +8,23 @@ use crate::leaf::LeafRef;
 use std::collections::BTreeMap;
 use std::rc::RcStr;
 
-/// A node of a document.
+/// A node of a document, which owns the nodes inside it.
 #[derive(Debug, Drop)]
 pub enum Node {
     Bool(bool),
     Int(i64),
     Text(String),
-    /// A text that may stand at several places of an archive.
+    /// A text that may be shared by several pointers of an archive.
     Shared(RcStr),
     Maybe(Option<Box<Node>>),
     List(Vec<Node>),
     Ordered(BTreeMap<String, Node>),
     Hashed(BTreeMap<String, Node>),
-    /// A map in an order of its own; its keys are distinct.
+    /// A map that keeps the order of its pairs; its keys are distinct.
     Kept(Vec<(String, Node)>),
 }
 
-/// The kinds of nodes.
+/// The kinds of nodes, one for each variant of `Node`.
 #[derive(Clone, Copy, Debug, PartialEq, Eq)]
 pub enum Kind {
     Bool,
@@ -39,6 +39,7 @@ pub enum Kind {
 }
 
 impl Node {
+    /// Returns the kind of the node.
     pub fn kind(&self) -> Kind
         ensures { result ≡ kind_of (node_tree self.now) }
     {
@@ -55,7 +56,7 @@ impl Node {
         }
     }
 
-    /// The leaf that the node is, if it is one.
+    /// Returns the leaf that the node is, if it is one.
     pub fn as_leaf(&self) -> Option<LeafRef<'_>>
         ensures { MatchOption result ((l : Leaf) → node_tree self.now ≢ leaf l) (λ l. node_tree self.now ≡ leaf (lent_leaf l)) }
     {

@@ -1,33 +1,32 @@
-//! Archived nodes are read back, each by its kind.
+//! Reads archived nodes back, each by its kind.
 ghost use Rattle.std.specs.Prelude.{◌+◌, ◌≤◌, false, ⊤, IfOk};
 ghost use Rattle.std.specs.Rc.{rc_str_bytes};
 ghost use Rattle.archive_shape.specs.Key.{HeldAt};
 ghost use Rattle.archive_shape_layout.specs.Shape.Shape.{shared, option, box, vector};
 ghost use Rattle.archive_shape_layout.specs.Shape.Pointee.{sized, str};
 ghost use Rattle.archive_shape_layout.specs.Value.{Value};
-ghost use Rattle.archive_forms_reading.specs.Parts.{HasValue};
-ghost use Rattle.archive_forms_deserializing.specs.Deserializing.{Deserializes, DeserializesBy};
-ghost use Rattle.archive_forms_deserializing.specs.Reading.{reads_all, reads_as, reads_in, reads_option};
+ghost use Rattle.archive_forms_values.specs.Parts.{HasValue};
+ghost use Rattle.archive_forms.specs.Deserializing.{Deserializes, DeserializesBy};
+ghost use Rattle.archive_forms.specs.Reading.{reads_all, reads_as, reads_in, reads_option};
 ghost use Rattle.cabinet_documents.specs.Node.{node_shape, KnowsNode};
 ghost use Rattle.cabinet_documents.specs.Denotes.{Denotes};
-ghost use Rattle.cabinet_spelling.specs.Spelling.{shared_string_spelling};
+ghost use Rattle.cabinet_documents.specs.Spelling.{shared_string_spelling};
 ghost use Rattle.cabinet_text_nodes.specs.Archived.{archived_as};
 ghost use Rattle.cabinet_text_nodes.specs.View.{node_tree};
 
 use crate::node::Node;
-use archive_forms_deserializing::{
+use archive_forms::{
     Deserialize, ReadBack, deserialize_box_each, deserialize_option_each, deserialize_vec_each,
 };
 use archive_forms_rc::{ArchivedRcStr, RcFlavor};
-use archive_forms_reading::{ArchivedBox, ArchivedOption, ArchivedVec, native_of};
-use archive_forms_text::ArchivedString;
+use archive_forms_values::{ArchivedBox, ArchivedOption, ArchivedString, ArchivedVec, native_of};
 use archive_shape::{Error, Ref};
 use cabinet_archived::{ArchivedKind, ArchivedNode};
 use std::alloc::Global;
 use std::marker::PhantomData;
 use std::rc::RcStr;
 
-/// Reads a shared text back, as a text of its own.
+/// Reads a shared text back, as an owned copy.
 fn deserialize_shared(text: Ref<'_, ArchivedRcStr<RcFlavor>>, alloc: Global) -> Result<RcStr, Error>
     requires { HasValue (shared false str) (λ _. ⊤) text.bytes.now text.pos }
     ensures { Deserializes (reads_in (λ s. rc_str_bytes s) (reads_as shared_string_spelling)) (shared false str) (λ _. ⊤) text.entry.bytes.now text.entry.pos result }
@@ -125,7 +124,7 @@ fn deserialize_list<D>(
     )
 }
 
-/// Reads a node back. It calls itself at most as deep as nodes lie in one another.
+/// Reads a node back. The depth of its recursion is at most the depth at which nodes lie in one another.
 #[cycle(read)]
 fn deserialize_node<D>(
     node: Ref<'_, ArchivedNode>,
@@ -162,7 +161,7 @@ impl ReadBack<Node> for ArchivedNode {
 }
 
 impl<D> Deserialize<Node, D> for ArchivedNode {
-    /// The node that stands there, whose tree is what the value denotes.
+    /// Reads the node at a position back. Its tree is the one that the value there denotes.
     fn deserialize(
         this: &Ref<'_, ArchivedNode>,
         alloc: Global,

@@ -1,13 +1,13 @@
-//! Why a node is the root of no document.
+//! The errors of creating a document from a node.
 use thiserror::Error;
 
-/// Why a node is the root of no document.
+/// The error of creating a document from a node.
 #[derive(Clone, Copy, Debug, PartialEq, Eq, Error)]
 pub enum DocumentRefusal {
-    /// A container stands inside 64 containers.
+    /// A container lies inside 64 containers.
     #[error("a container stands inside 64 others")]
     TooDeep,
-    /// A map in an order of its own has a key twice.
+    /// A kept map has a key twice.
     #[error("a map has a key twice")]
     RepeatedKey,
 }

@@ -1,4 +1,4 @@
-//! Keys that stand twice in a map with an order of its own.
+//! Checks whether a kept map has a key twice.
 ghost use Rattle.std.specs.Prelude.{◌↔◌, IsTrue, IfOk};
 ghost use Rattle.cabinet_text_nodes.specs.Faults.{HasKeyTwice};
 ghost use Rattle.cabinet_text_nodes.specs.View.{node_pairs};
@@ -8,7 +8,7 @@ use crate::node::Node;
 use std::alloc::{AllocError, Global};
 use std::collections::BTreeSet;
 
-/// Whether a key stands twice, by a set of those before.
+/// Returns whether a key occurs twice, by a set of the keys before it.
 fn repeats_in_set(alloc: Global, pairs: &[(String, Node)]) -> Result<bool, AllocError>
     ensures { IfOk result (λ found. IsTrue found ↔ HasKeyTwice (node_pairs pairs.now)) }
 {
@@ -22,7 +22,7 @@ fn repeats_in_set(alloc: Global, pairs: &[(String, Node)]) -> Result<bool, Alloc
     Ok(false)
 }
 
-/// Whether a key stands twice, by comparing each two. It takes no memory.
+/// Returns whether a key occurs twice, by comparing each two keys. It allocates no memory.
 fn repeats_in_pairs(pairs: &[(String, Node)]) -> bool
     ensures { IsTrue result ↔ HasKeyTwice (node_pairs pairs.now) }
 {
@@ -34,7 +34,7 @@ fn repeats_in_pairs(pairs: &[(String, Node)]) -> bool
     false
 }
 
-/// Whether a key stands twice. Where memory is refused, each two keys are compared.
+/// Returns whether a key occurs twice. If an allocation fails, each two keys are compared.
 pub(crate) fn repeats_key(pairs: &Vec<(String, Node)>) -> bool
     ensures { IsTrue result ↔ HasKeyTwice (node_pairs pairs.now.items) }
 {

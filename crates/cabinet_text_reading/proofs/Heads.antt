@@ -16,12 +16,12 @@ use Rattle.cabinet_text_bytes.specs.Words.{IsEscaped}
 use Rattle.cabinet_text_grammar.proofs.Pieces.{ended_piece}
 use Rattle.cabinet_text_grammar.proofs.Faults.{admitted_item}
 use Rattle.cabinet_text_grammar.proofs.FirstCauses.{bad_escape, unknown_head, bad_number_first, too_deep}
-use Rattle.cabinet_text_laws.proofs.Verdicts.{no_words, memory_first}
+use Rattle.cabinet_text_grammar.proofs.Verdicts.{no_words, memory_first}
 use Rattle.cabinet_text_reading.specs.Heads.{IsContainer, count_word, RefusesText}
 use Rattle.cabinet_text_reading.specs.declared.head.Counted.{Counted}
 use Rattle.cabinet_text_reading.specs.declared.head.Counted.TheVariants.{List as List', Ordered, Hashed, Kept}
 
--- what stands after a word, where the bytes and the word are known by other names
+-- the bytes after a word, for equal bytes and an equal word
 pub after_word : (line bytes prefix word rest : List ℕ) → bytes ≡ line → prefix ≡ word → bytes ≡ prefix ++ rest → line ≡ word ++ rest
 after_word line bytes prefix word rest same_line same_word h = sym same_line ∙ h ∙ ap (λ w. w ++ rest) same_word
 
@@ -29,7 +29,7 @@ pub not_after_word : (line bytes prefix word : List ℕ) → bytes ≡ line → 
 not_after_word line bytes prefix word same_line same_word none rest h =
     none rest (same_line ∙ h ∙ ap (λ w. w ++ rest) (sym same_word))
 
--- what stands after a word of a line is UTF-8
+-- the bytes after a word of a line are UTF-8
 pub after_word_utf8 : (word line rest : List ℕ) → is_ascii_word word ≡ true → line ≡ word ++ rest → IsUtf8 line → IsUtf8 rest
 after_word_utf8 word line rest ascii h utf8 = IsUtf8-past_word word rest ascii (subst IsUtf8 h utf8)
 
@@ -72,7 +72,7 @@ text_refused depth word line argument make BadNumber spells admits bad h utf8 r 
 text_refused depth word line argument make TooDeep spells admits bad h utf8 r = absurd r
 text_refused depth word line argument make LineAfterEnd spells admits bad h utf8 r = absurd r
 
--- after the word of a number stands none
+-- there is no number after the word of a number
 pub number_unread : (depth : ℕ) (line digits : List ℕ) → line ≡ codes "int " ++ digits → IsUtf8 line → ((n : ℤ) → FitsSigned w64 n → digits ≢ signed_decimal n) → IsFirstCause (a_head depth) (ended_piece line) BadNumber
 number_unread depth line digits h utf8 none =
     bad_number_first depth line utf8 (no_words line (λ rest f. first_differs refl (sym h ∙ f)) (λ rest f. first_differs refl (sym h ∙ f))) (bad_number digits h none)
@@ -89,7 +89,7 @@ no_words_count Ordered digits = no_words _ (λ rest f. first_differs refl f) (λ
 no_words_count Hashed digits = no_words _ (λ rest f. first_differs refl f) (λ rest f. first_differs refl f)
 no_words_count Kept digits = no_words _ (λ rest f. first_differs refl f) (λ rest f. first_differs refl f)
 
--- after the word of a count stands none
+-- there is no count after the word of a count
 pub count_unread : (depth : ℕ) (container : Counted) (digits : List ℕ) → IsUtf8 (count_word container ++ digits) → ((n : ℕ) → n < 2 ^ 64 → digits ≢ decimal n) → IsFirstCause (a_head depth) (ended_piece (count_word container ++ digits)) BadNumber
 count_unread depth container digits utf8 none =
     bad_number_first depth _ utf8 (no_words_count container digits) (bad_count digits (has_count container digits) none)

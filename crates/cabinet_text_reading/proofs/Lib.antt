@@ -1,2 +1,9 @@
+pub mod Compared
+pub mod Cuts
+pub mod Found
 pub mod Heads
-pub mod Lines
+pub mod LineLemmas
+pub mod Paths
+pub mod Stacks
+pub mod Taken
+pub mod Wrong

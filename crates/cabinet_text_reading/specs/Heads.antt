@@ -1,4 +1,4 @@
--- What is said of the parts of a head's line.
+-- The parts of a head's line, and the causes that apply to them.
 use Rattle.std.specs.Prelude.{◌≢◌, ℕ, ◌<◌, ◌^◌, List, codes, IsUtf8}
 use Rattle.cabinet_text_grammar.specs.Item.{Item, none_item, some_item, list_item, map_item}
 use Rattle.cabinet_text_grammar.specs.Spelling.{escaped}
@@ -8,7 +8,7 @@ use Rattle.cabinet_text_bytes.specs.Words.{IsEscaped}
 use Rattle.cabinet_text_reading.specs.declared.head.Counted.{Counted}
 use Rattle.cabinet_text_reading.specs.declared.head.Counted.TheVariants.{List as List', Ordered, Hashed, Kept}
 
--- the head of a container, its count of 64 bits
+-- the head of a container, with a count of 64 bits if it has one
 abbrev pub IsContainer : Item → Type 0
 IsContainer none_item = Unit {0}
 IsContainer some_item = Unit {0}
@@ -23,7 +23,8 @@ count_word Ordered = codes "ordered "
 count_word Hashed = codes "hashed "
 count_word Kept = codes "kept "
 
--- why no text is read from the bytes after a quote: they are no text's escaped form, or memory is refused
+-- the cause for which no text is read from the bytes after a quote: they are no text's escaped form, or memory is
+-- refused
 abbrev pub RefusesText : List ℕ → Cause → Type 0
 RefusesText argument BadEscape = (t : List ℕ) → IsUtf8 t → argument ≢ escaped t
 RefusesText argument OutOfMemory = IsEscaped argument

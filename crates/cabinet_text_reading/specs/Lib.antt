@@ -1,2 +1,8 @@
 pub mod Heads
+pub mod Kept
 pub mod Lines
+pub mod Parts
+pub mod Reading
+pub mod Told
+pub mod View
+pub use Rattle.cabinet_text_grammar.specs as TextGrammar

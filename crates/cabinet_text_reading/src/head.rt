@@ -1,4 +1,4 @@
-//! Heads of nodes, read from their lines.
+//! Reads heads of nodes from their lines.
 ghost use Rattle.std.specs.Prelude.{◌≡◌, ◌≢◌, ℕ, ◌≤◌, ◌++◌, List, true, codes, IsUtf8, IfOk, IfErr, MatchOption, string_bytes};
 ghost use Rattle.std.specs.Fmt.{decimal};
 ghost use Rattle.cabinet_text_grammar.specs.Item.{none_item, some_item};
@@ -14,7 +14,7 @@ use cabinet_text_nodes::{Head, Leaf};
 use std::alloc::Global;
 use std::rc::RcStr;
 
-/// The most containers that lie in one another.
+/// The largest number of containers that may lie in one another.
 const MOST: usize = 64;
 
 /// The containers whose heads have a count.
@@ -26,7 +26,8 @@ enum Counted {
     Kept,
 }
 
-/// The text that an argument is the escaped form of.
+/// Reads the text that an argument is the escaped form of. `BadEscape` if there is none; `OutOfMemory` if an allocation
+/// fails.
 fn read_escaped(alloc: Global, argument: &[u8]) -> Result<String, Cause>
     requires { IsUtf8 argument.now }
     ensures text { IfOk result (λ text. argument.now ≡ escaped (string_bytes text)) }
@@ -39,7 +40,7 @@ fn read_escaped(alloc: Global, argument: &[u8]) -> Result<String, Cause>
     }
 }
 
-/// The container whose word a line begins with, and what follows the word.
+/// Returns the container whose word a line begins with, and the bytes after the word.
 fn count_argument(line: &[u8]) -> Option<(Counted, &[u8])>
     ensures { MatchOption result ((rest : List ℕ) → HasCount line.now rest → ⊥) (λ found. line.now ≡ count_word found.0 ++ found.1.now) }
 {
@@ -58,7 +59,7 @@ fn count_argument(line: &[u8]) -> Option<(Counted, &[u8])>
     None
 }
 
-/// The head of a container, where it may stand inside so many.
+/// Returns the head of a container, or `TooDeep` if it is not allowed inside `depth` containers.
 fn within(head: Head, depth: usize) -> Result<Head, Cause>
     requires { IsContainer (item_of head) }
     ensures same { IfOk result (λ inner. item_of inner ≡ item_of head) }
@@ -71,6 +72,7 @@ fn within(head: Head, depth: usize) -> Result<Head, Cause>
     Ok(head)
 }
 
+/// Returns the head of a container with a count.
 fn head_of(container: Counted, count: u64) -> Head
     ensures container { IsContainer (item_of result) }
     ensures line { spelled (item_of result) ≡ count_word container ++ decimal count }
@@ -83,7 +85,7 @@ fn head_of(container: Counted, count: u64) -> Head
     }
 }
 
-/// The head of a container, from what follows its word.
+/// Reads the head of a container from the bytes after its word.
 fn read_counted(container: Counted, digits: &[u8], depth: usize) -> Result<Head, Cause>
     requires { IsUtf8 (count_word container ++ digits.now) }
     ensures head { IfOk result (λ head. Admits (a_head depth) (item_of head)) }
@@ -96,7 +98,7 @@ fn read_counted(container: Counted, digits: &[u8], depth: usize) -> Result<Head,
     within(head_of(container, count), depth)
 }
 
-/// The head of an option that a line is.
+/// Reads a line as the head of an option, `none` or `some`.
 fn read_option(line: &[u8]) -> Option<Head>
     ensures { MatchOption result ((line.now ≢ spelled none_item) × (line.now ≢ spelled some_item)) (λ head. IsContainer (item_of head) × (line.now ≡ spelled (item_of head))) }
 {
@@ -109,7 +111,7 @@ fn read_option(line: &[u8]) -> Option<Head>
     None
 }
 
-/// The head that a line is, inside so many containers.
+/// Reads a line as a head inside `depth` containers.
 pub(crate) fn read_head(alloc: Global, line: &str, depth: usize) -> Result<Head, Cause>
     ensures head { IfOk result (λ head. Admits (a_head depth) (item_of head)) }
     ensures line { IfOk result (λ head. line.now ≡ spelled (item_of head)) }

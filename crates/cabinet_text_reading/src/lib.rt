@@ -1,5 +1,13 @@
-//! Texts of documents, read: the document that has a text, or the first faulty line.
+//! Reads texts: the result is the document with that text, or the first faulty line.
 #![tactic(auto)]
+
+mod lines;
+mod stack;
+
+pub use lines::read_line;
+pub use stack::{
+    Due, Frame, KeptKeyed, KeptPairs, Keyed, Next, OpenMap, Pairs, cmp_escaped, take_head, take_key,
+};
 
 mod head;
 mod line;

@@ -1,4 +1,4 @@
-//! Lines of a text: the first one, and what is wrong with it whatever is due.
+//! Splits a text into lines, and finds the faults of its first line that do not depend on what is expected there.
 ghost use Rattle.std.specs.Prelude.{◌≡◌, ◌≢◌, ℕ, ◌<◌, ◌++◌, ◌∷◌, [], List, true, length, slice_get, slice_index, EachIndex, IfNone, IfSome, IfOk, IfErr, IsUtf8, MatchOption, codes};
 ghost use Rattle.cabinet_text_grammar.specs.Keys.{MapKind};
 ghost use Rattle.cabinet_text_grammar.specs.Due.{Due, a_key, nothing_more};
@@ -10,7 +10,7 @@ use cabinet_text_bytes::{after_prefix, unescaped_len};
 use cabinet_text_grammar::Cause;
 use std::marker::Model;
 
-/// The index of the first newline.
+/// Returns the index of the first newline.
 fn newline_at(text: &[u8]) -> Option<usize>
     ensures none { IfNone result (EachIndex text.now (λ k. slice_index text.now k ≢ 10)) }
     ensures found { IfSome result (λ end. (end < length text.now) × (slice_index text.now end ≡ 10)) }
@@ -19,7 +19,7 @@ fn newline_at(text: &[u8]) -> Option<usize>
     text.iter().position(|byte| *byte == b'\n')
 }
 
-/// What stands before the first newline of a text, and what stands behind it.
+/// Returns the parts of a text before and after its first newline.
 fn split_line(text: &str) -> Option<(&str, &str)>
     ensures { MatchOption result (EachIndex text.now (λ k. slice_index text.now k ≢ 10)) (λ parts. (text.now ≡ parts.0.now ++ 10 ∷ parts.1.now) × EachIndex parts.0.now (λ k. slice_index parts.0.now k ≢ 10)) }
 {
@@ -27,7 +27,7 @@ fn split_line(text: &str) -> Option<(&str, &str)>
     Some((&text[..end], &text[end + 1..]))
 }
 
-/// What is left of a text of which lines were taken: as far as it is UTF-8, and the bytes behind.
+/// The rest of a text after some lines were taken: its longest prefix that is UTF-8, and the bytes after that.
 #[derive(Drop)]
 pub(crate) struct Lines<'a> {
     rest: &'a str,
@@ -43,6 +43,7 @@ impl<'a> Model for Lines<'a> {
 }
 
 impl<'a> Lines<'a> {
+    /// Creates the lines of a whole text.
     pub(crate) fn new(text: &'a [u8]) -> Self
         ensures { result ≡ text.now }
     {
@@ -56,7 +57,8 @@ impl<'a> Lines<'a> {
         }
     }
 
-    /// The first line and what is left behind it; where no line ends, what is wrong with what stands there, if anything does.
+    /// Returns the first line and the rest after it. If no line ends, returns the fault of the bytes that are left, or
+    /// `None` if there are none.
     #[inline(always)]
     fn cut_line(self) -> Result<(&'a str, Lines<'a>), Option<Cause>>
         ensures piece { IfOk result (λ next. slice_get (pieces_of self.entry) 0 ≡ Some (record { bytes = next.0.now; ended = true })) }
@@ -77,7 +79,7 @@ impl<'a> Lines<'a> {
         Err(None)
     }
 
-    /// The first line where something is due, and what is left behind it.
+    /// Returns the first line where a line is expected, and the rest after it.
     pub(crate) fn next_line(self) -> Result<(&'a str, Lines<'a>), Cause>
         ensures piece { IfOk result (λ next. slice_get (pieces_of self.entry) 0 ≡ Some (record { bytes = next.0.now; ended = true })) }
         ensures parts { IfOk result (λ next. self.entry ≡ next.0.now ++ 10 ∷ next.1) }
@@ -90,7 +92,7 @@ impl<'a> Lines<'a> {
         }
     }
 
-    /// What is wrong with what is left behind a document.
+    /// Returns the fault of what is left after a document, if anything is left.
     pub(crate) fn fault_after(self) -> Option<Cause>
         ensures { MatchOption result (self.entry ≡ []) (IsFirstCause nothing_more (slice_get (pieces_of self.entry) 0)) }
     {
@@ -101,7 +103,7 @@ impl<'a> Lines<'a> {
     }
 }
 
-/// The escaped form of the key that a line is.
+/// Reads a line as a key, and returns the key's escaped form.
 pub(crate) fn read_key_argument(line: &str) -> Result<&[u8], Cause>
     ensures argument { IfOk result (λ argument. IsEscaped argument.now) }
     ensures line { IfOk result (λ argument. line.now ≡ codes "'" ++ argument.now) }

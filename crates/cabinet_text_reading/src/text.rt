@@ -1,4 +1,4 @@
-//! Texts of documents: the document that has a text, or the first faulty line.
+//! Reads texts of documents: the result is the document with that text, or the first faulty line.
 ghost use Rattle.std.specs.Prelude.{◌≡◌, ◌+◌, ◌++◌, Some, true, length, IfOk, IfErr};
 ghost use Rattle.cabinet_text_grammar.specs.Tree.{IsDocument};
 ghost use Rattle.cabinet_text_grammar.specs.Item.{items};
@@ -6,20 +6,20 @@ ghost use Rattle.cabinet_text_grammar.specs.Frame.{AreOpen};
 ghost use Rattle.cabinet_text_grammar.specs.Due.{due_in};
 ghost use Rattle.cabinet_text_grammar.specs.Spelling.{text_of};
 ghost use Rattle.cabinet_text_grammar.specs.Fault.{IsFirstCause, FirstFault};
-ghost use Rattle.cabinet_text_grammar.proofs.Machine.{going};
+ghost use Rattle.cabinet_text_grammar.specs.Machine.{going};
 ghost use Rattle.cabinet_text_nodes.specs.View.{node_tree};
-ghost use Rattle.cabinet_text_stack.specs.View.{key_due, stack_of, inside_map, open_at, state_of};
-ghost use Rattle.cabinet_text_laws.specs.Steps.{TakesLine};
+ghost use Rattle.cabinet_text_reading.specs.View.{key_due, stack_of, inside_map, open_at, state_of};
+ghost use Rattle.cabinet_text_grammar.specs.Steps.{TakesLine};
 
 use crate::head::read_head;
 use crate::line::{Lines, read_key_argument};
+use crate::stack::{Due, Frame, Next, OpenMap, take_head, take_key};
 use cabinet_text_grammar::Cause;
 use cabinet_text_nodes::{Document, Node};
-use cabinet_text_stack::{Due, Frame, Next, OpenMap, take_head, take_key};
 use std::alloc::Global;
 use thiserror::Error;
 
-/// The first faulty line, counted from 1, and its first cause.
+/// The error of reading a text: the first faulty line, counted from 1, and its first cause.
 #[derive(Clone, Copy, Debug, PartialEq, Eq, Error)]
 #[error("line {line}: {cause}")]
 pub struct TextRefusal {
@@ -27,7 +27,7 @@ pub struct TextRefusal {
     pub cause: Cause,
 }
 
-/// Takes a node's head in.
+/// Takes in the line of a node's head.
 fn take_head_line<'a>(
     alloc: Global,
     line: &str,
@@ -44,7 +44,7 @@ fn take_head_line<'a>(
     }
 }
 
-/// Takes a key of a map in.
+/// Takes in the line of a key of a map.
 fn take_key_line<'a>(
     alloc: Global,
     line: &'a str,
@@ -58,7 +58,7 @@ fn take_key_line<'a>(
     take_key(alloc, argument, map, stack)
 }
 
-/// Takes a line in, whatever is due.
+/// Takes in a line of the kind that is expected.
 fn take_line<'a>(
     alloc: Global,
     line: &'a str,
@@ -78,7 +78,8 @@ fn take_line<'a>(
     }
 }
 
-/// The document with this root, if nothing follows its text. `line` is that of what would follow.
+/// Returns the document with this root, if there is nothing after its text. `line` is the number of the line after the
+/// text.
 fn end_document(root: Node, rest: Lines<'_>, line: u64) -> Result<Document, TextRefusal>
     requires document { IsDocument (node_tree root) }
     requires line { line ≡ length (items (node_tree root)) + 1 }
@@ -91,8 +92,8 @@ fn end_document(root: Node, rest: Lines<'_>, line: u64) -> Result<Document, Text
     }
 }
 
-/// The document that has this text. It takes time and memory in proportion to the text, but for the comparisons of keys;
-/// nothing is reserved by a count that stands in it.
+/// Returns the document with this text. The time and the memory are in proportion to the text, except for the
+/// comparisons of keys. No memory is reserved by a count in the text.
 pub fn read_text(alloc: Global, text: &[u8]) -> Result<Document, TextRefusal>
     ensures document { IfOk result (λ document. text.now ≡ text_of document) }
     ensures fault { IfErr result (λ refusal. FirstFault text.now refusal.line refusal.cause) }

@@ -1,4 +1,4 @@
-//! Reads the texts of documents, each with lines about it, and prints what the plain documents answer.
+//! Reads the texts of documents, each with lines about it, and prints the answers of the plain documents.
 #![tactic(auto)]
 
 mod sections;
@@ -12,7 +12,7 @@ use std::io;
 use std::io::{ErrorKind, Read, Write};
 use std::process::ExitCode;
 
-/// What is answered to all sections of an input.
+/// Returns the answers to all sections of an input.
 fn answer_all(alloc: Global, input: &[u8]) -> Result<Vec<u8>, Error> {
     let mut answers = Vec::new(alloc);
     let mut rest = input;
@@ -23,7 +23,7 @@ fn answer_all(alloc: Global, input: &[u8]) -> Result<Vec<u8>, Error> {
     Ok(answers)
 }
 
-/// Prints what is answered to the standard input.
+/// Prints the answers to the standard input.
 fn carry_out<R: Input + Print + AllocGlobal>(rt: &R) -> io::Result<()> {
     let mut input = Vec::new(rt.alloc());
     rt.reader().read_to_end(&mut input)?;

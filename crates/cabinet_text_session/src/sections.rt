@@ -1,14 +1,14 @@
-//! Where the sections of an input lie: a document's text, a line `lines`, lines about it, and a line `end`.
+//! Splits an input into sections: a document's text, a line `lines`, lines about it, and a line `end`.
 ghost use Rattle.std.specs.Prelude.{◌<◌, length, IfSome};
 
-/// A document's text, and lines about the document.
+/// A section of an input: a document's text, and lines about the document.
 #[derive(Drop)]
 pub struct Section<'a> {
     pub text: &'a [u8],
     pub lines: &'a [u8],
 }
 
-/// The bytes before the first newline, and those after it.
+/// Returns the bytes before the first newline, and those after it.
 pub fn first_line(bytes: &[u8]) -> (&[u8], &[u8])
     requires { 0 < length bytes.now }
     ensures { length result.1.now < length bytes.now }
@@ -19,7 +19,7 @@ pub fn first_line(bytes: &[u8]) -> (&[u8], &[u8])
     }
 }
 
-/// What stands before the first line that is the mark, and what follows it.
+/// Returns the bytes before the first line that is the mark, and those after that line.
 fn split_at_mark<'a>(input: &'a [u8], mark: &[u8]) -> Option<(&'a [u8], &'a [u8])>
     ensures { IfSome result (λ p. length p.1.now < length input.now) }
 {
@@ -35,7 +35,7 @@ fn split_at_mark<'a>(input: &'a [u8], mark: &[u8]) -> Option<(&'a [u8], &'a [u8]
     None
 }
 
-/// The first section of an input, and what follows it.
+/// Returns the first section of an input, and the bytes after it.
 pub fn first_section(input: &[u8]) -> Option<(Section<'_>, &[u8])>
     ensures { IfSome result (λ p. length p.1.now < length input.now) }
 {

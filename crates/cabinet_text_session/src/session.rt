@@ -1,4 +1,4 @@
-//! What a plain document answers to lines.
+//! Answers the lines of a section from its plain document.
 use crate::sections::{Section, first_line};
 use archive_shape_writing::{Error, Writer, write_three_pieces};
 use cabinet_text::{Cause, Document, Line, LineRefusal, TextRefusal, answer, read_line, read_text};
@@ -23,14 +23,14 @@ fn name_of(cause: Cause) -> &'static [u8] {
     }
 }
 
-/// Tells why a text was refused.
+/// Writes the line and the cause for which a text was refused.
 fn write_refusal(refusal: TextRefusal, answers: &mut Vec<u8>) -> Result<(), Error> {
     let line = Decimal::unsigned(refusal.line);
     write_three_pieces(answers, line.as_bytes(), b" ", name_of(refusal.cause))?;
     answers.write(b"\n")
 }
 
-/// Answers a question, or does an edit and tells what came of it.
+/// Answers a question, or does an edit and writes its outcome.
 fn carry_out(document: &mut Document, line: &Line, answers: &mut Vec<u8>) -> Result<(), Error> {
     if line.is_question() {
         answer(document, line, answers)?;
@@ -40,7 +40,7 @@ fn carry_out(document: &mut Document, line: &Line, answers: &mut Vec<u8>) -> Res
     Ok(())
 }
 
-/// What is answered to bytes, as a line.
+/// Reads bytes as a line, and writes the answer to it.
 fn answer_line(
     alloc: Global,
     document: &mut Document,
@@ -54,7 +54,7 @@ fn answer_line(
     }
 }
 
-/// What is answered to the lines of a section, or why its text was refused.
+/// Writes the answers to the lines of a section, or the fault for which its text was refused.
 pub fn answer_section(
     alloc: Global,
     section: &Section<'_>,

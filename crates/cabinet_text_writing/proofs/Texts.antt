@@ -4,11 +4,11 @@ use Rattle.archive_shape_writing.specs.Progress.{Progress}
 use Rattle.archive_shape_writing.specs.declared.error.Error.{Error}
 use Rattle.archive_shape_writing.specs.Writing.{Written, Failed, Appends}
 use Rattle.archive_shape_writing.proofs.Joined.{written_none, written_both, failed_first, failed_after, failed_among, appends_after}
-use Rattle.cabinet_text_grammar.specs.Tree as tree
-use Rattle.cabinet_text_grammar.specs.Tree.{Tree}
-use Rattle.cabinet_text_grammar.specs.Item.{Item, key_item, items, items_of, items_of_pairs}
-use Rattle.cabinet_text_grammar.specs.Spelling.{spelled, lines_of, ended, text_of}
-use Rattle.cabinet_text_grammar.specs.Answering.{head_of}
+use Rattle.cabinet_text_bytes.specs.TextGrammar.Tree as tree
+use Rattle.cabinet_text_bytes.specs.TextGrammar.Tree.{Tree}
+use Rattle.cabinet_text_bytes.specs.TextGrammar.Item.{Item, key_item, items, items_of, items_of_pairs}
+use Rattle.cabinet_text_bytes.specs.TextGrammar.Spelling.{spelled, lines_of, ended, text_of}
+use Rattle.cabinet_text_bytes.specs.TextGrammar.Answering.{head_of}
 use Rattle.cabinet_text_nodes.specs.View.{node_tree, node_trees, node_pairs}
 use Rattle.cabinet_text_nodes.specs.declared.node.Node.{Node}
 

@@ -1,17 +1,17 @@
-//! Lines of answers, and the parts of those that tell keys.
+//! Writes the lines of answers, and the parts of answers that list keys.
 ghost use Rattle.std.specs.Prelude.{◌-◌, ◌^◌, ◌<◌, ◌++◌, [], ◌∷◌, codes};
 ghost use Rattle.std.specs.Fmt.{decimal};
 ghost use Rattle.archive_shape_writing.specs.Writing.{Writes};
-ghost use Rattle.cabinet_text_grammar.specs.Answering.{spelled_answer, wrong, missing, bad};
-ghost use Rattle.cabinet_text_grammar.specs.Item.{key_item};
-ghost use Rattle.cabinet_text_grammar.specs.Spelling.{spelled};
+ghost use Rattle.cabinet_text_bytes.specs.TextGrammar.Answering.{spelled_answer, wrong, missing, bad};
+ghost use Rattle.cabinet_text_bytes.specs.TextGrammar.Item.{key_item};
+ghost use Rattle.cabinet_text_bytes.specs.TextGrammar.Spelling.{spelled};
 ghost use Rattle.cabinet_text_nodes.specs.Outcomes.{outcome_of};
 
 use archive_shape_writing::{Error, Writer, write_two_pieces};
 use cabinet_text_bytes::{Decimal, write_escaped};
 use cabinet_text_nodes::SetAnswer;
 
-/// Writes what the answer that tells n keys begins with.
+/// Writes the beginning of an answer that lists `count` keys.
 pub fn write_keys_head<W: Writer>(count: u64, writer: &mut W) -> Result<(), Error>
     requires { W.failures writer.old < 2 ^ 64 - 1 }
     ensures { Writes W.Writer writer.old writer.new (codes "keys " ++ decimal count) result }
@@ -36,7 +36,7 @@ pub fn write_missing<W: Writer>(writer: &mut W) -> Result<(), Error>
     writer.write(b"missing\n")
 }
 
-/// Writes the answer to a question for keys that a node has none of in an order.
+/// Writes the answer to a question about the keys of a node that has none in an order.
 pub fn write_wrong<W: Writer>(writer: &mut W) -> Result<(), Error>
     requires { W.failures writer.old < 2 ^ 64 - 1 }
     ensures { Writes W.Writer writer.old writer.new (spelled_answer wrong) result }
@@ -44,7 +44,7 @@ pub fn write_wrong<W: Writer>(writer: &mut W) -> Result<(), Error>
     writer.write(b"wrong\n")
 }
 
-/// Writes the answer to what is no line.
+/// Writes the answer to bytes that are no line.
 pub fn write_bad<W: Writer>(writer: &mut W) -> Result<(), Error>
     requires { W.failures writer.old < 2 ^ 64 - 1 }
     ensures { Writes W.Writer writer.old writer.new (spelled_answer bad) result }

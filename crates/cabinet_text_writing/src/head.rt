@@ -1,9 +1,9 @@
-//! Lines of heads and of keys.
+//! Writes the lines of heads and of keys.
 ghost use Rattle.std.specs.Prelude.{◌-◌, ◌^◌, ◌<◌, ◌++◌, [], ◌∷◌, codes};
 ghost use Rattle.std.specs.Fmt.{decimal};
 ghost use Rattle.archive_shape_writing.specs.Writing.{Writes};
-ghost use Rattle.cabinet_text_grammar.specs.Item.{key_item};
-ghost use Rattle.cabinet_text_grammar.specs.Spelling.{escaped, spelled, spelled_leaf};
+ghost use Rattle.cabinet_text_bytes.specs.TextGrammar.Item.{key_item};
+ghost use Rattle.cabinet_text_bytes.specs.TextGrammar.Spelling.{escaped, spelled, spelled_leaf};
 ghost use Rattle.cabinet_text_nodes.specs.View.{lent_leaf, lent_item};
 
 use archive_shape_writing::{Error, Writer, write_three_pieces};
@@ -42,7 +42,7 @@ fn write_leaf_line<W: Writer>(leaf: LeafRef<'_>, writer: &mut W) -> Result<(), E
     }
 }
 
-/// Writes the line of a head. It takes no memory.
+/// Writes the line of a head, with its newline. It allocates no memory.
 pub fn write_head<W: Writer>(head: HeadRef<'_>, writer: &mut W) -> Result<(), Error>
     requires { W.failures writer.old < 2 ^ 64 - 1 }
     ensures { Writes W.Writer writer.old writer.new (spelled (lent_item head.entry) ++ codes "\n") result }
@@ -59,7 +59,7 @@ pub fn write_head<W: Writer>(head: HeadRef<'_>, writer: &mut W) -> Result<(), Er
     }
 }
 
-/// Writes the line of a key. It takes no memory.
+/// Writes the line of a key, with its newline. It allocates no memory.
 pub fn write_key_line<W: Writer>(key: &str, writer: &mut W) -> Result<(), Error>
     requires { W.failures writer.old < 2 ^ 64 - 1 }
     ensures { Writes W.Writer writer.old writer.new (spelled (key_item key.now) ++ codes "\n") result }

@@ -1,4 +1,4 @@
-//! Texts of documents, and the lines of answers, are written.
+//! Writes texts of documents, and the lines of answers.
 #![tactic(auto)]
 
 mod answer;

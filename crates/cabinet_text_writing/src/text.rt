@@ -1,8 +1,8 @@
-//! Texts of documents: the lines of a node, and after them those of the nodes in it.
+//! Writes texts of documents: the lines of a node, and after them those of the nodes in it.
 ghost use Rattle.std.specs.Prelude.{◌-◌, ◌^◌, ◌<◌, ◌++◌, [], ◌∷◌, codes};
 ghost use Rattle.archive_shape_writing.specs.Writing.{Writes};
-ghost use Rattle.cabinet_text_grammar.specs.Item.{key_item, items_of, items_of_pairs};
-ghost use Rattle.cabinet_text_grammar.specs.Spelling.{spelled, lines_of, ended, text_of};
+ghost use Rattle.cabinet_text_bytes.specs.TextGrammar.Item.{key_item, items_of, items_of_pairs};
+ghost use Rattle.cabinet_text_bytes.specs.TextGrammar.Spelling.{spelled, lines_of, ended, text_of};
 ghost use Rattle.cabinet_text_nodes.specs.View.{node_tree, node_trees, node_pairs};
 
 use crate::head::{write_head, write_key_line};
@@ -51,7 +51,7 @@ fn write_pair<W: Writer>(key: &str, value: &Node, writer: &mut W) -> Result<(), 
     write_node(value, writer)
 }
 
-/// Writes the lines of the pairs of a map that has them by ascending keys.
+/// Writes the lines of the pairs of an ordered or a hashed map, by ascending keys.
 #[cycle(nodes)]
 fn write_map<W: Writer>(pairs: &BTreeMap<String, Node>, writer: &mut W) -> Result<(), Error>
     requires { W.failures writer.old < 2 ^ 64 - 1 }
@@ -63,7 +63,7 @@ fn write_map<W: Writer>(pairs: &BTreeMap<String, Node>, writer: &mut W) -> Resul
     Ok(())
 }
 
-/// Writes the lines of the pairs of a map that has them in an order of its own.
+/// Writes the lines of the pairs of a kept map, in its order.
 #[cycle(nodes)]
 fn write_pairs<W: Writer>(pairs: &[(String, Node)], writer: &mut W) -> Result<(), Error>
     requires { W.failures writer.old < 2 ^ 64 - 1 }
@@ -75,7 +75,7 @@ fn write_pairs<W: Writer>(pairs: &[(String, Node)], writer: &mut W) -> Result<()
     Ok(())
 }
 
-/// Writes the text of a document. It takes no memory.
+/// Writes the text of a document. It allocates no memory.
 pub fn write_text<W: Writer>(document: &Document, writer: &mut W) -> Result<(), Error>
     requires { W.failures writer.old < 2 ^ 64 - 1 }
     ensures { Writes W.Writer writer.old writer.new (text_of document.now) result }

@@ -1,21 +1,20 @@
 //! Cursors over the entries of an archived B-tree map that lend one value at a time.
 ghost use Rattle.std.specs.Prelude.{◌≡◌, ℕ, ◌+◌, ◌≤◌, List, [], ◌∷◌, length, take, IfSome, MatchOption};
-ghost use Rattle.archive_btree_layout.specs.Reading.{Place};
-ghost use Rattle.archive_btree_searching.specs.Nodes.{place_of};
-ghost use Rattle.archive_forms_reading.specs.Parts.{HasValue};
+ghost use Rattle.archive_btree_nodes.specs.BtreeLayout.Reading.{Place};
+ghost use Rattle.archive_btree_nodes.specs.SearchingNodes.{place_of};
+ghost use Rattle.archive_forms_values.specs.Parts.{HasValue};
 ghost use Rattle.archive_btree_walking.specs.Walks.{BegunMap, IsWritten, GoesOn};
 ghost use Rattle.archive_btree_walking.specs.Seals.{IsOwnValue, IsLent};
 ghost use Rattle.archive_btree_walking.specs.Cursors.{HasEntries, HasValues};
 
 use crate::sealing::lending::lend_entry;
 use crate::sealing::passing::pass_entry;
-use archive_btree_searching::{EntryAt, EntryWalk};
-use archive_shape_portable::Portable;
-use archive_shape_references::{OwnSeal, Ref};
+use archive_btree_nodes::{EntryAt, EntryWalk};
+use archive_shape::{OwnSeal, Portable, Ref};
 use std::marker::PhantomData;
 
-/// A cursor over the entries in the order of their keys. Between its steps the archive's bytes may be written, as long as
-/// they differ from those that it began with at most in the values of the map.
+/// A cursor over the entries of a map in the order of their keys. Between its steps the archive's bytes may be written,
+/// as long as they differ from those that it began with at most in the values of the map.
 #[derive(Drop)]
 pub struct IterSeal<'a, K, V> {
     /// The whole archive.
@@ -26,7 +25,7 @@ pub struct IterSeal<'a, K, V> {
 }
 
 impl<'a, K: Portable, V: Portable> IterSeal<'a, K, V> {
-    /// A cursor over the entries that a walk over the bytes has left, which are so many.
+    /// Returns a cursor over the `left` entries that a walk over the bytes has left.
     pub fn new(bytes: &'a mut [u8], walk: EntryWalk, left: usize) -> Self
         ensures same_reference { result.bytes.ghost_name ≡ bytes.entry.ghost_name }
         ensures bytes { result.bytes.now ≡ bytes.old }
@@ -40,7 +39,7 @@ impl<'a, K: Portable, V: Portable> IterSeal<'a, K, V> {
         }
     }
 
-    /// Where the next entry's key and value stand. The entry is passed.
+    /// Passes the next entry, and returns the positions of its key and its value.
     pub fn advance(&mut self) -> Option<EntryAt>
         requires { (most : ℕ) × (m : BegunMap most K.shape V.shape K.knows V.knows) × (es : List Place) × HasEntries m self.old es × IsWritten m self.old.bytes.now }
         ensures same_reference { self.new.bytes.ghost_name ≡ self.old.bytes.ghost_name }
@@ -60,8 +59,9 @@ impl<'a, K: Portable, V: Portable> IterSeal<'a, K, V> {
         Some(entry)
     }
 
-    /// The next entry's key, and its value with only the value's own bytes. The entry is passed. What the archive's bytes are
-    /// after the loan is not said: a caller that is to know them calls `advance`, and makes the seal of those bytes.
+    /// Passes the next entry, and returns its key, and its value with only the value's own bytes. The contract does not
+    /// specify the archive's bytes after the loan: a caller that needs them calls `advance`, and makes the seal of
+    /// those bytes.
     pub fn next(&mut self) -> Option<(Ref<'_, K>, OwnSeal<'_, V>)>
         requires { (most : ℕ) × (m : BegunMap most K.shape V.shape K.knows V.knows) × (es : List Place) × HasEntries m self.old es × IsWritten m self.old.bytes.now }
         ensures there { IfSome result (λ r. HasValue K.shape K.knows r.0.bytes.now r.0.pos × (length r.1.own.now ≡ V.SIZE)) }
@@ -75,7 +75,7 @@ impl<'a, K: Portable, V: Portable> IterSeal<'a, K, V> {
         Some(lend_entry(self.bytes, entry))
     }
 
-    /// How many entries are left.
+    /// Returns the number of entries that are left.
     pub fn len(&self) -> usize
         ensures { (most : ℕ) (m : BegunMap most K.shape V.shape K.knows V.knows) (es : List Place) → HasEntries m self.now es → result ≡ length es }
     {
@@ -83,14 +83,14 @@ impl<'a, K: Portable, V: Portable> IterSeal<'a, K, V> {
     }
 }
 
-/// A cursor over the values in the order of their keys, as `IterSeal` is one over the entries.
+/// A cursor over the values of a map in the order of their keys. It is to values what `IterSeal` is to entries.
 #[derive(Drop)]
 pub struct ValuesSeal<'a, K, V> {
     pub entries: IterSeal<'a, K, V>,
 }
 
 impl<'a, K: Portable, V: Portable> ValuesSeal<'a, K, V> {
-    /// Where the next value stands. The value is passed.
+    /// Passes the next value, and returns its position.
     pub fn advance(&mut self) -> Option<usize>
         requires { (most : ℕ) × (m : BegunMap most K.shape V.shape K.knows V.knows) × (es : List Place) × HasValues m self.old es × IsWritten m self.old.entries.bytes.now }
         ensures same_reference { self.new.entries.bytes.ghost_name ≡ self.old.entries.bytes.ghost_name }
@@ -106,8 +106,8 @@ impl<'a, K: Portable, V: Portable> ValuesSeal<'a, K, V> {
         }
     }
 
-    /// The next value with only its own bytes. The value is passed. What the archive's bytes are after the loan is not said: a
-    /// caller that is to know them calls `advance`, and makes the seal of those bytes.
+    /// Passes the next value, and returns it with only its own bytes. The contract does not specify the archive's bytes
+    /// after the loan: a caller that needs them calls `advance`, and makes the seal of those bytes.
     pub fn next(&mut self) -> Option<OwnSeal<'_, V>>
         requires { (most : ℕ) × (m : BegunMap most K.shape V.shape K.knows V.knows) × (es : List Place) × HasValues m self.old es × IsWritten m self.old.entries.bytes.now }
         ensures there { IfSome result (λ r. length r.own.now ≡ V.SIZE) }
@@ -121,7 +121,7 @@ impl<'a, K: Portable, V: Portable> ValuesSeal<'a, K, V> {
         }
     }
 
-    /// How many values are left.
+    /// Returns the number of values that are left.
     pub fn len(&self) -> usize
         ensures { (most : ℕ) (m : BegunMap most K.shape V.shape K.knows V.knows) (es : List Place) → HasValues m self.now es → result ≡ length es }
     {

@@ -1,21 +1,20 @@
 //! Cursors over the entries of an archived B-tree map between two bounds that lend one value at a time.
 ghost use Rattle.std.specs.Prelude.{◌≡◌, ℕ, ◌+◌, ◌≤◌, List, [], ◌∷◌, length, take, IfSome, MatchOption};
-ghost use Rattle.archive_btree_layout.specs.Reading.{Place};
-ghost use Rattle.archive_btree_searching.specs.Nodes.{place_of};
-ghost use Rattle.archive_forms_reading.specs.Parts.{HasValue};
+ghost use Rattle.archive_btree_nodes.specs.BtreeLayout.Reading.{Place};
+ghost use Rattle.archive_btree_nodes.specs.SearchingNodes.{place_of};
+ghost use Rattle.archive_forms_values.specs.Parts.{HasValue};
 ghost use Rattle.archive_btree_walking.specs.Walks.{BegunMap, IsWritten, GoesOn};
 ghost use Rattle.archive_btree_walking.specs.Seals.{IsLent};
 ghost use Rattle.archive_btree_walking.specs.Cursors.{HasRange};
 
 use crate::sealing::lending::lend_entry;
 use crate::sealing::passing::pass_entry;
-use archive_btree_searching::{EntryAt, EntryWalk};
-use archive_shape_portable::Portable;
-use archive_shape_references::{OwnSeal, Ref};
+use archive_btree_nodes::{EntryAt, EntryWalk};
+use archive_shape::{OwnSeal, Portable, Ref};
 use std::marker::PhantomData;
 
-/// A cursor over the entries between two bounds in the order of their keys. Between its steps the archive's bytes may be
-/// written, as long as they differ from those that it began with at most in the values of the map.
+/// A cursor over the entries of a map between two bounds in the order of their keys. Between its steps the archive's
+/// bytes may be written, as long as they differ from those that it began with at most in the values of the map.
 #[derive(Drop)]
 pub struct RangeSeal<'a, K, V> {
     /// The whole archive.
@@ -25,7 +24,7 @@ pub struct RangeSeal<'a, K, V> {
 }
 
 impl<'a, K: Portable, V: Portable> RangeSeal<'a, K, V> {
-    /// A cursor over the entries that a walk over the bytes has left.
+    /// Returns a cursor over the entries that a walk over the bytes has left.
     pub fn new(bytes: &'a mut [u8], walk: EntryWalk) -> Self
         ensures same_reference { result.bytes.ghost_name ≡ bytes.entry.ghost_name }
         ensures bytes { result.bytes.now ≡ bytes.old }
@@ -38,7 +37,7 @@ impl<'a, K: Portable, V: Portable> RangeSeal<'a, K, V> {
         }
     }
 
-    /// Where the next entry's key and value stand. The entry is passed.
+    /// Passes the next entry, and returns the positions of its key and its value.
     pub fn advance(&mut self) -> Option<EntryAt>
         requires { (most : ℕ) × (m : BegunMap most K.shape V.shape K.knows V.knows) × (es : List Place) × HasRange m self.old es × IsWritten m self.old.bytes.now }
         ensures same_reference { self.new.bytes.ghost_name ≡ self.old.bytes.ghost_name }
@@ -54,8 +53,9 @@ impl<'a, K: Portable, V: Portable> RangeSeal<'a, K, V> {
         passed
     }
 
-    /// The next entry's key, and its value with only the value's own bytes. The entry is passed. What the archive's bytes are
-    /// after the loan is not said: a caller that is to know them calls `advance`, and makes the seal of those bytes.
+    /// Passes the next entry, and returns its key, and its value with only the value's own bytes. The contract does not
+    /// specify the archive's bytes after the loan: a caller that needs them calls `advance`, and makes the seal of
+    /// those bytes.
     pub fn next(&mut self) -> Option<(Ref<'_, K>, OwnSeal<'_, V>)>
         requires { (most : ℕ) × (m : BegunMap most K.shape V.shape K.knows V.knows) × (es : List Place) × HasRange m self.old es × IsWritten m self.old.bytes.now }
         ensures there { IfSome result (λ r. HasValue K.shape K.knows r.0.bytes.now r.0.pos × (length r.1.own.now ≡ V.SIZE)) }

@@ -1,4 +1,4 @@
-//! Tests of a struct of one's own.
+//! Tests of a user-defined struct.
 use super::accessed_and_read;
 use archive_core::{Error, access_mut, from_bytes, root_position, to_bytes};
 use archive_example_player::{ArchivedPlayer, Player};
@@ -15,7 +15,7 @@ const PLAYER: [u8; 52] = [
     42, 0, 0, 0, //
     // At 32 the text: its length 11 with bit 7 set, and the offset from 32 to 0.
     0x8b, 0, 0, 0, 0xe0, 0xff, 0xff, 0xff, //
-    // At 40 the tag of an option that is there, with zeros behind it.
+    // At 40 the tag of an option that has a value, and zeros after it.
     1, 0, 0, 0, //
     // At 44 the vector: the offset from 44 to 12, and the number of its elements.
     0xe0, 0xff, 0xff, 0xff, 4, 0, 0, 0,
@@ -29,7 +29,7 @@ fn player(alloc: Global) -> Result<Player, AllocError> {
     })
 }
 
-/// Whether this is the player with another level.
+/// Returns `true` if this is the player with the level `level`.
 fn is_player(found: &Player, level: u8) -> bool {
     let Some(scores) = &found.scores else {
         return false;

@@ -1,4 +1,4 @@
-//! Tests of values that are archived by each call.
+//! Tests of values that are archived by each function.
 use super::{HELLO, hello};
 use archive_core::{to_bytes, to_bytes_in, to_bytes_in_with_alloc, to_bytes_with_alloc};
 use archive_core_serializing::Buffer;

@@ -5,7 +5,7 @@ use archive_shape::{Error, Positional, Writer};
 use std::alloc::Global;
 use std::test::Fail;
 
-/// Writes a value into memory of a fixed length, as an archive. The answer is its position.
+/// Writes a value into memory of a fixed length, as an archive, and returns its position.
 fn write_into<'a, T: Serialize<Serializer<Buffer<'a>, Global, ()>>>(
     alloc: Global,
     value: &T,

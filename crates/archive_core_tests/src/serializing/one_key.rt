@@ -1,17 +1,18 @@
-//! What keeps the shared value of one key.
+//! `OneKey`, which keeps the shared value of one key.
 ghost use Rattle.std.specs.Prelude.{◌==◌, cond};
 ghost use Rattle.archive_shape_writing.specs.Progress.Progress.{unmet};
 ghost use Rattle.archive_shape.specs.Sharing.{progress_of};
 
 use archive_shape::{Error, Registry, Sharing, SharingState};
 
-/// What the next start of key 0 tells. No other key is started.
+/// The state that the next start of key 0 returns. No other key can be started.
 #[derive(Drop)]
 pub struct OneKey {
     state: SharingState,
 }
 
 impl OneKey {
+    /// Creates a state in which the key has not begun.
     pub fn new() -> Self {
         OneKey {
             state: SharingState::Started,

@@ -1,11 +1,11 @@
-//! Tests of what keeps what was made of shared values.
-use archive_core_sharing::{ExactClone, Pool, RcValue};
+//! Tests of pools, which keep the result of each shared value.
+use archive_core_serializing::{ExactClone, Pool, RcValue};
 use archive_shape::{Error, Pooling, PoolingState};
 use std::alloc::Global;
 use std::rc::Rc;
 use std::test::Fail;
 
-/// Keeps this value as what was made of position 1.
+/// Returns a pool that keeps `value` as the result of position 1.
 fn pool_of_one_position<T: ExactClone>(alloc: Global, value: T) -> Result<Pool<T>, Error> {
     let mut pool = Pool::new(alloc);
     pool.start_pooling(1)?;
@@ -60,7 +60,7 @@ fn pool_of_references_tells_the_same_one(rt: HostRuntime) -> Result<(), Fail> {
     Ok(())
 }
 
-/// The handle that a pool tells of position 1.
+/// Returns the handle that a pool keeps for position 1.
 fn told(pool: &mut Pool<RcValue<u64>>) -> Result<Option<Rc<u64>>, Error> {
     match pool.start_pooling(1)? {
         PoolingState::Finished(value) => Ok(Some(value.into_rc())),

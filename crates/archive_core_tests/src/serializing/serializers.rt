@@ -7,7 +7,7 @@ use archive_shape::{Allocator, Error, Positional, Writer};
 use std::alloc::Global;
 use std::test::Fail;
 
-/// The archive of a value, in memory that grows.
+/// Returns the archive of a value, in memory that grows.
 fn archive_of<T: Serialize<Serializer<Vec<u8>, Global, ()>>>(
     alloc: Global,
     value: &T,
@@ -40,7 +40,7 @@ fn parts_are_given_back(rt: HostRuntime) -> Result<(), Fail> {
     Ok(())
 }
 
-/// Appends bytes in memory that a serializer gives, and answers the position.
+/// Appends a copy of bytes, in memory of the serializer, and returns the position after them.
 fn write_copy<S: Writer + Allocator>(serializer: &mut S, bytes: &[u8]) -> Result<usize, Error>
     requires { S.failures serializer.old < 2 ^ 64 - 1 }
 {

@@ -1,10 +1,10 @@
-//! Tests of what keeps where shared values were written.
-use archive_core_sharing::Share;
+//! Tests of shares, which keep the position of each shared value.
+use archive_core_serializing::Share;
 use archive_shape::{Error, Sharing, SharingState};
 use std::alloc::Global;
 use std::test::Fail;
 
-/// Keeps that the value of key 1 was written at 8.
+/// Returns a share that keeps 8 as the position of the value of key 1.
 fn share_of_one_key(alloc: Global) -> Result<Share, Error> {
     let mut share = Share::new(alloc);
     share.start_sharing(1)?;

@@ -4,7 +4,7 @@ use archive_core_serializing::Serializer;
 use archive_shape::{Error, Sharing, SharingState};
 use std::test::Fail;
 
-/// What a value's starts tell before, in and after it.
+/// Returns the states of a value's starts before, in and after it.
 fn share<S: Sharing>(sharing: &mut S, pos: usize) -> Result<[SharingState; 3], Error> {
     let before = sharing.start_sharing(0)?;
     let inside = sharing.start_sharing(0)?;

@@ -1,4 +1,4 @@
-//! Tests of what every writer has.
+//! Tests of the methods of every writer.
 use archive_core_serializing::WriterExt;
 use archive_shape::{ArchivedU64, Writer};
 use std::test::Fail;

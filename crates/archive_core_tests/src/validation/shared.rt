@@ -1,4 +1,4 @@
-//! Tests of what keeps shared positions.
+//! Tests of validators of shared positions.
 use archive_core_validation::{
     ArchiveContext, ArchiveValidator, SharedContext, SharedValidator, ValidationState, Validator,
     Visits,
@@ -13,7 +13,7 @@ const VISITED: [ValidationState; 3] = [
     ValidationState::Finished,
 ];
 
-/// What starts of a position tell before, in and after its check.
+/// Returns the states of a position's starts before, in and after its check.
 fn visit<V: Visits>(visits: &mut V, pos: usize) -> Result<[ValidationState; 3], Error> {
     let before = visits.start_shared(pos, 3, Pointee::Text)?;
     let inside = visits.start_shared(pos, 3, Pointee::Text)?;
@@ -22,7 +22,7 @@ fn visit<V: Visits>(visits: &mut V, pos: usize) -> Result<[ValidationState; 3], 
     Ok([before, inside, after])
 }
 
-/// The same of a context.
+/// Returns the states of a position's starts before, in and after its check, by a context.
 fn check<C: SharedContext>(context: &mut C, pos: usize) -> Result<[ValidationState; 3], Error> {
     let before = context.start_shared(pos, 3, Pointee::Text)?;
     let inside = context.start_shared(pos, 3, Pointee::Text)?;
@@ -39,7 +39,7 @@ fn slice(alloc: Global, shape: Shape) -> Result<Pointee, Error> {
     Ok(Pointee::Slice(Box::new(alloc, shape)?))
 }
 
-/// The second start of a position that was met as three truth values.
+/// Returns the state of the second start of a position that was visited as three truth values.
 fn meet_again(
     alloc: Global,
     ends: bool,

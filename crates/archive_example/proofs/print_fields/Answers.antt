@@ -1,6 +1,6 @@
 use Rattle.archive_example.proofs.print_fields.Goals as goal
 
--- behind the tag stands the vector
+-- after the tag is the vector
 pub print_scores-requires : goal.print_scores-requires
 print_scores-requires g c =
     let vector = c.in-Some.ensures.2 c.scores.ensures.there.value c.scores.ensures.there.held in

@@ -1,6 +1,6 @@
 use Rattle.archive_example.proofs.print_scores.Goals as goal
 
--- what was handed out is one of the elements
+-- what was returned is one of the elements
 pub native_of-requires : goal.native_of-requires
 native_of-requires g c =
     let got = c.in-Some.ensures in

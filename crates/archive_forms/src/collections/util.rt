@@ -1,3 +1,3 @@
 //! Entries of maps.
-pub use archive_forms_collections::{EntryAdapter, EntryResolver, serialize_entry_each};
-pub use archive_forms_tuples::Entry;
+pub use archive_forms_borrowed::{EntryAdapter, EntryResolver, serialize_entry_each};
+pub use archive_forms_values::Entry;

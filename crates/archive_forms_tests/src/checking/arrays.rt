@@ -1,7 +1,6 @@
 //! Tests of the check of arrays.
 use super::check_alone;
-use archive_forms_reading::ArchivedOption;
-use archive_forms_tuples::ArchivedTuple2;
+use archive_forms_values::{ArchivedOption, ArchivedTuple2};
 use archive_shape::{ArchivedU16, Error, Portable};
 
 #[test]

@@ -1,6 +1,6 @@
 //! Tests of the check of boxes of slices and of texts.
 use super::check_alone;
-use archive_forms_boxed::{ArchivedBoxedSlice, ArchivedBoxedStr};
+use archive_forms_values::{ArchivedBoxedSlice, ArchivedBoxedStr};
 use archive_shape::{ArchivedU16, Error};
 
 #[test]

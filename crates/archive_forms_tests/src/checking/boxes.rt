@@ -1,7 +1,7 @@
 //! Tests of the check of boxes.
 use super::check_alone;
 use crate::narrow_context::NarrowContext;
-use archive_forms_reading::{ArchivedBox, ArchivedOption};
+use archive_forms_values::{ArchivedBox, ArchivedOption};
 use archive_shape::{ArchiveContext, ArchivedI32, CheckBytes, Error};
 
 #[test]

@@ -1,5 +1,5 @@
 //! Tests of the layouts of forms that have elements.
-use archive_forms_reading::{ArchivedBox, ArchivedOption, ArchivedResult, ArchivedVec};
+use archive_forms_values::{ArchivedBox, ArchivedOption, ArchivedResult, ArchivedVec};
 use archive_shape::{ArchivedChar, Portable, Shape};
 use std::test::Fail;
 

@@ -1,6 +1,6 @@
 //! Tests of the check of options.
 use super::check_alone;
-use archive_forms_reading::ArchivedOption;
+use archive_forms_values::ArchivedOption;
 use archive_shape::{ArchivedChar, Error};
 
 #[test]

@@ -1,6 +1,6 @@
 //! Tests of the check of results.
 use super::check_alone;
-use archive_forms_reading::ArchivedResult;
+use archive_forms_values::ArchivedResult;
 use archive_shape::{ArchivedChar, Error};
 
 #[test]

@@ -1,10 +1,10 @@
-//! Tests of the check of elements side by side.
+//! Tests of the check of adjacent elements.
 use crate::narrow_context::NarrowContext;
-use archive_forms_checking::check_slice_each;
+use archive_forms_values::check_slice_each;
 use archive_shape::{CheckBytes, Error};
 use std::alloc::Global;
 
-/// Checks three truth values.
+/// Checks three adjacent truth values.
 fn check_three(alloc: Global, bytes: &[u8; 3]) -> Result<(), Error> {
     let mut context = NarrowContext::new(alloc, 3, 0);
     check_slice_each::<bool, NarrowContext, _>(

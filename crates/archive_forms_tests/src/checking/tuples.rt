@@ -1,7 +1,8 @@
 //! Tests of the check of tuples and entries.
 use super::check_alone;
-use archive_forms_reading::ArchivedBox;
-use archive_forms_tuples::{ArchivedTuple1, ArchivedTuple2, ArchivedTuple3, ArchivedTuple4, Entry};
+use archive_forms_values::{
+    ArchivedBox, ArchivedTuple1, ArchivedTuple2, ArchivedTuple3, ArchivedTuple4, Entry,
+};
 use archive_shape::{ArchivedChar, ArchivedU16, ArchivedU32, ArchivedU64, Error, Portable, Shape};
 use std::test::Fail;
 

@@ -1,6 +1,6 @@
 //! Tests of the check of vectors.
 use super::check_alone;
-use archive_forms_reading::ArchivedVec;
+use archive_forms_values::ArchivedVec;
 use archive_shape::{ArchivedU16, ArchivedU128, Error};
 
 #[test]

@@ -1,8 +1,7 @@
-//! What the calls answer for values that were checked.
-ghost use Rattle.archive_forms_reading.specs.Parts.{HasValue};
+//! The results of comparing, hashing and printing values that were checked.
+ghost use Rattle.archive_forms_values.specs.Parts.{HasValue};
 
-use archive_forms_comparing::ArchivedOrd;
-use archive_forms_hashing::{ArchivedDebug, ArchivedHash};
+use archive_forms_comparing::{ArchivedDebug, ArchivedHash, ArchivedOrd};
 use archive_shape::Ref;
 use std::alloc::Global;
 use std::cmp::Ordering;
@@ -10,7 +9,7 @@ use std::fmt;
 use std::fmt::Formatter;
 use std::hash::{DefaultHasher, Hasher};
 
-/// Whether two values are equal, and how the first stands to the second.
+/// Returns whether two values are equal, and the order of the first relative to the second.
 pub fn compared<T: ArchivedOrd>(this: &Ref<'_, T>, other: &Ref<'_, T>) -> (bool, Ordering)
     requires this { HasValue T.shape T.knows this.now.bytes.now this.now.pos }
     requires other { HasValue T.shape T.knows other.now.bytes.now other.now.pos }
@@ -18,6 +17,7 @@ pub fn compared<T: ArchivedOrd>(this: &Ref<'_, T>, other: &Ref<'_, T>) -> (bool,
     (T::eq(this, other), T::cmp(this, other))
 }
 
+/// Returns the hash of the value with the default hasher.
 pub fn hash_of<T: ArchivedHash>(this: &Ref<'_, T>) -> u64
     requires { HasValue T.shape T.knows this.now.bytes.now this.now.pos }
 {
@@ -26,6 +26,7 @@ pub fn hash_of<T: ArchivedHash>(this: &Ref<'_, T>) -> u64
     state.finish()
 }
 
+/// Returns what `ArchivedDebug` prints for the value.
 pub fn printed<T: ArchivedDebug>(alloc: Global, this: &Ref<'_, T>) -> Result<String, fmt::Error>
     requires { HasValue T.shape T.knows this.now.bytes.now this.now.pos }
 {

@@ -1,9 +1,9 @@
 //! Tests of what is hashed.
 use super::answers::hash_of;
 use crate::reading::checked::checked;
-use archive_forms_boxed::{ArchivedBoxedSlice, ArchivedBoxedStr};
-use archive_forms_reading::{ArchivedOption, ArchivedVec};
-use archive_forms_tuples::Entry;
+use archive_forms_values::{
+    ArchivedBoxedSlice, ArchivedBoxedStr, ArchivedOption, ArchivedVec, Entry,
+};
 use std::hash::{DefaultHasher, Hash, Hasher};
 use std::test::Fail;
 

@@ -1,7 +1,7 @@
 //! Tests of how numbers, truth values and texts are compared.
 use super::answers::compared;
 use crate::reading::checked::checked;
-use archive_forms_text::ArchivedString;
+use archive_forms_values::ArchivedString;
 use archive_shape::{ArchivedI16, ArchivedU16};
 use std::cmp::Ordering;
 use std::test::Fail;

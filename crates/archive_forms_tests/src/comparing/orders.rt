@@ -1,9 +1,10 @@
 //! Tests of how forms with parts are compared.
 use super::answers::compared;
 use crate::reading::checked::checked;
-use archive_forms_boxed::{ArchivedBoxedSlice, ArchivedBoxedStr};
-use archive_forms_reading::{ArchivedBox, ArchivedOption, ArchivedResult, ArchivedVec};
-use archive_forms_tuples::{ArchivedTuple2, ArchivedTuple3, Entry};
+use archive_forms_values::{
+    ArchivedBox, ArchivedBoxedSlice, ArchivedBoxedStr, ArchivedOption, ArchivedResult,
+    ArchivedTuple2, ArchivedTuple3, ArchivedVec, Entry,
+};
 use std::cmp::Ordering;
 use std::test::Fail;
 

@@ -1,10 +1,10 @@
 //! Tests of what is printed.
 use super::answers::printed;
 use crate::reading::checked::checked;
-use archive_forms_boxed::{ArchivedBoxedSlice, ArchivedBoxedStr};
-use archive_forms_reading::{ArchivedBox, ArchivedOption, ArchivedResult, ArchivedVec};
-use archive_forms_text::ArchivedString;
-use archive_forms_tuples::{ArchivedTuple2, Entry};
+use archive_forms_values::{
+    ArchivedBox, ArchivedBoxedSlice, ArchivedBoxedStr, ArchivedOption, ArchivedResult,
+    ArchivedString, ArchivedTuple2, ArchivedVec, Entry,
+};
 use archive_shape::ArchivedI16;
 use std::test::Fail;
 

@@ -1,7 +1,7 @@
 //! Tests of the reading of arrays.
 use super::checked::{checked, position};
-use archive_forms_deserializing::Deserialize;
-use archive_forms_reading::{
+use archive_forms::Deserialize;
+use archive_forms_values::{
     ArchivedBox, ArchivedOption, array_element, array_element_seal, array_slice,
 };
 use archive_shape::{ArchivedU16, ArchivedU32, Seal};

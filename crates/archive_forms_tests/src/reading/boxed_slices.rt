@@ -1,8 +1,7 @@
-//! Tests of boxes of slices and of texts: what is read of them and read back, and their bytes.
+//! Tests of boxes of slices and of texts: the methods that read them, what is read back, and their bytes.
 use super::checked::{checked, position};
-use archive_forms_boxed::{ArchivedBoxedSlice, ArchivedBoxedStr};
-use archive_forms_deserializing::Deserialize;
-use archive_forms_reading::BoxResolver;
+use archive_forms::Deserialize;
+use archive_forms_values::{ArchivedBoxedSlice, ArchivedBoxedStr, BoxResolver};
 use archive_shape::{ArchivedU16, Error, NoUndef, Place, Portable, Seal};
 use std::boxed::{BoxedSlice, BoxedStr};
 use std::test::Fail;

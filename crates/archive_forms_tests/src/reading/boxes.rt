@@ -1,6 +1,6 @@
 //! Tests of the reading of boxes.
 use super::checked::checked;
-use archive_forms_reading::ArchivedBox;
+use archive_forms_values::ArchivedBox;
 use archive_shape::{ArchivedU16, Seal};
 use std::test::Fail;
 

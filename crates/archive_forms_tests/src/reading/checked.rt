@@ -1,12 +1,12 @@
-//! Values that were checked.
+//! References to values that were checked.
 ghost use Rattle.std.specs.Prelude.{◌≡◌, IfOk, []};
-ghost use Rattle.archive_forms_reading.specs.Parts.{HasValue};
+ghost use Rattle.archive_forms_values.specs.Parts.{HasValue};
 
 use crate::narrow_context::NarrowContext;
 use archive_shape::{CheckBytes, Error, Ref};
 use std::alloc::Global;
 
-/// Checks the value at a position in a context of its own, of the bytes before it.
+/// Checks the value at `pos` in a new context of the bytes before it, and returns a reference to it.
 pub fn checked<T: CheckBytes<NarrowContext>>(
     alloc: Global,
     bytes: &[u8],
@@ -25,7 +25,7 @@ pub fn checked<T: CheckBytes<NarrowContext>>(
     Ok(Ref::new(bytes, pos))
 }
 
-/// Where a value that was found stands.
+/// Returns the position of a value that was found.
 pub fn position<T>(found: Option<Ref<'_, T>>) -> Option<usize> {
     match found {
         Some(value) => Some(value.pos()),

@@ -1,6 +1,6 @@
 //! Tests of the reading of options.
 use super::checked::{checked, position};
-use archive_forms_reading::ArchivedOption;
+use archive_forms_values::ArchivedOption;
 use archive_shape::{ArchivedU16, Ref, Seal};
 use std::test::Fail;
 
@@ -58,7 +58,7 @@ fn value_of_an_option_is_edited(rt: HostRuntime) -> Result<(), Fail> {
 }
 
 #[test]
-#[tactic(auto, using(archive_forms_reading::proofs::Payloads::has_some))]
+#[tactic(auto, using(archive_forms_values::proofs::Payloads::has_some))]
 fn value_that_is_there_is_unwrapped(rt: HostRuntime) -> Result<(), Fail> {
     let option = checked::<ArchivedOption<u8>>(rt.alloc(), b"\x01\x05", 0)?;
     if ArchivedOption::is_some(option) {

@@ -1,5 +1,5 @@
 //! Tests of the bytes of boxes and vectors.
-use archive_forms_reading::{ArchivedBox, ArchivedVec, BoxResolver, VecResolver};
+use archive_forms_values::{ArchivedBox, ArchivedVec, BoxResolver, VecResolver};
 use archive_shape::{Error, Place};
 
 #[test]

@@ -1,6 +1,6 @@
 //! Tests of the reading of results.
 use super::checked::{checked, position};
-use archive_forms_reading::ArchivedResult;
+use archive_forms_values::ArchivedResult;
 use archive_shape::{ArchivedU32, Ref};
 use std::test::Fail;
 
@@ -33,7 +33,7 @@ fn error_of_a_result_is_no_value(rt: HostRuntime) -> Result<(), Fail> {
 }
 
 #[test]
-#[tactic(auto, using(archive_forms_reading::proofs::Payloads::has_ok))]
+#[tactic(auto, using(archive_forms_values::proofs::Payloads::has_ok))]
 fn value_of_a_result_is_unwrapped(rt: HostRuntime) -> Result<(), Fail> {
     let result = checked::<ArchivedResult<u8, u8>>(rt.alloc(), b"\0\x05", 0)?;
     if ArchivedResult::is_ok(result) {

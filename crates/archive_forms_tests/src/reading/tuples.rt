@@ -1,6 +1,6 @@
 //! Tests of the reading of tuples and entries.
 use super::checked::checked;
-use archive_forms_tuples::{ArchivedTuple1, ArchivedTuple2, ArchivedTuple3, ArchivedTuple4, Entry};
+use archive_forms_values::{ArchivedTuple1, ArchivedTuple2, ArchivedTuple3, ArchivedTuple4, Entry};
 use archive_shape::{ArchivedU16, ArchivedU32, ArchivedU64};
 use std::test::Fail;
 

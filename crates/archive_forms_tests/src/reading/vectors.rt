@@ -1,6 +1,6 @@
 //! Tests of the reading of vectors.
 use super::checked::{checked, position};
-use archive_forms_reading::ArchivedVec;
+use archive_forms_values::ArchivedVec;
 use archive_shape::{ArchivedU16, Seal};
 use std::test::Fail;
 

@@ -1,7 +1,6 @@
-//! Worked bytes of texts that are read back.
+//! Tests of texts that are read back from bytes.
 use super::read_back;
-use archive_forms_reading::ArchivedOption;
-use archive_forms_text::ArchivedString;
+use archive_forms_values::{ArchivedOption, ArchivedString};
 use std::test::Fail;
 
 #[test]

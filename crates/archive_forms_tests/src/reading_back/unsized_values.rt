@@ -1,9 +1,8 @@
-//! Worked bytes of a value, a slice and a text, each read back as the box that owns it.
+//! Tests of a value, a slice and a text, each read back from bytes as the box that owns it.
 use crate::reading::checked::checked;
 use crate::writing::is_archived_as;
-use archive_forms_boxed::{ArchivedBoxedSlice, ArchivedBoxedStr};
-use archive_forms_deserializing::DeserializeUnsized;
-use archive_forms_reading::ArchivedBox;
+use archive_forms::DeserializeUnsized;
+use archive_forms_values::{ArchivedBox, ArchivedBoxedSlice, ArchivedBoxedStr};
 use archive_shape::{ArchivedU16, ArchivedU32, Slice, Str};
 use std::boxed::{BoxedSlice, BoxedStr};
 use std::test::Fail;

@@ -1,6 +1,6 @@
-//! Worked bytes that are read back.
+//! Tests of values that are read back from bytes.
 use super::read_back;
-use archive_forms_reading::{ArchivedBox, ArchivedOption, ArchivedResult, ArchivedVec};
+use archive_forms_values::{ArchivedBox, ArchivedOption, ArchivedResult, ArchivedVec};
 use archive_shape::{ArchivedU16, ArchivedU32};
 use std::marker::PhantomData;
 use std::test::Fail;

@@ -1,33 +1,32 @@
-//! Lists, each of which may lead to another.
+//! `List`, a test type of lists, each of which may lead to another.
 ghost use Rattle.std.specs.Prelude.{◌≡◌, ℕ, ◌+◌, ◌-◌, ◌^◌, ◌<◌, ◌≤◌, [], ◌∷◌, length, refl};
 ghost use Rattle.std.proofs.Common.{lit<, lit≤};
 ghost use Rattle.archive_shape_layout.specs.Content.{Names};
 ghost use Rattle.archive_shape_layout.specs.Content.Part.{at};
 ghost use Rattle.archive_shape_layout.specs.Shape.Shape.{box};
 ghost use Rattle.archive_shape_layout.specs.Shape.Pointee.{sized};
-ghost use Rattle.archive_shape_checking.specs.Kept.{IsWithin};
-ghost use Rattle.archive_shape_checking.specs.Checks.{Checks, Moves};
+ghost use Rattle.archive_shape.specs.Kept.{IsWithin};
+ghost use Rattle.archive_shape.specs.Checks.{Checks, Moves};
 ghost use Rattle.archive_shape_layout.specs.Shape.Alignment.{four};
-ghost use Rattle.archive_forms_spelling.specs.Serializing.{CanResolve, HasState, Resolves, Serializes, SerializesBy};
-ghost use Rattle.archive_forms_spelling.specs.Pointers.{box_spelling};
-ghost use Rattle.archive_forms_spelling.specs.Options.{option_spelling};
-ghost use Rattle.archive_forms_spelling.proofs.Levels.{option_box_sized, named_spells_at, self_spells};
-ghost use Rattle.archive_forms_spelling.proofs.Options.{none_spells, some_spells};
-ghost use Rattle.archive_forms_spelling.proofs.Pointers.{box_spells_at};
-ghost use Rattle.archive_forms_spelling.proofs.Views.{kept_spells_at, seen_spells_at};
-ghost use Rattle.archive_forms_spelling.specs.Spells.{SpellsAt};
-ghost use Rattle.archive_forms_reading.specs.Parts.{HasValue};
-ghost use Rattle.archive_forms_deserializing.specs.Deserializing.{Deserializes, DeserializesBy};
-ghost use Rattle.archive_forms_deserializing.specs.Reading.{reads_as, reads_in};
+ghost use Rattle.archive_forms_laws.specs.Serializing.{CanResolve, HasState, Resolves, Serializes, SerializesBy};
+ghost use Rattle.archive_forms_laws.specs.Pointers.{box_spelling};
+ghost use Rattle.archive_forms_laws.specs.Options.{option_spelling};
+ghost use Rattle.archive_forms_laws.proofs.Levels.{option_box_sized, named_spells_at, self_spells};
+ghost use Rattle.archive_forms_laws.proofs.Options.{none_spells, some_spells};
+ghost use Rattle.archive_forms_laws.proofs.Pointers.{box_spells_at};
+ghost use Rattle.archive_forms_laws.proofs.Views.{kept_spells_at, seen_spells_at};
+ghost use Rattle.archive_forms_laws.specs.Spells.{SpellsAt};
+ghost use Rattle.archive_forms_values.specs.Parts.{HasValue};
+ghost use Rattle.archive_forms.specs.Deserializing.{Deserializes, DeserializesBy};
+ghost use Rattle.archive_forms.specs.Reading.{reads_as, reads_in};
 ghost use Rattle.archive_forms_tests.specs.declared.recursive.list.List.{List as ListDenot, List', Held-List-next, None', Some'};
 ghost use Rattle.archive_forms_tests.specs.Recursive.{list_shape, list_body, KnowsList};
 ghost use Rattle.archive_forms_tests.specs.Lists.{list_next, links, linked_spelling, list_level, no_list, list_spelling};
 
-use archive_forms_checking::{check_box_each, check_option_each};
-use archive_forms_deserializing::{
-    Deserialize, ReadBack, deserialize_box_each, deserialize_option_each,
+use archive_forms::{Deserialize, ReadBack, deserialize_box_each, deserialize_option_each};
+use archive_forms_values::{
+    ArchivedBox, ArchivedOption, BoxResolver, check_box_each, check_option_each,
 };
-use archive_forms_reading::{ArchivedBox, ArchivedOption, BoxResolver};
 use archive_forms_writing::{Archive, Serialize, serialize_box_each};
 use archive_shape::{
     Alignment, Allocator, ArchiveContext, CheckBytes, Error, Place, Portable, Ref, Shape, Writer,
@@ -35,13 +34,13 @@ use archive_shape::{
 use std::alloc::{AllocError, Global};
 use std::marker::PhantomData;
 
-/// A list of lists: it ends, or leads to another.
+/// A list that ends or leads to another list.
 #[derive(Drop)]
 pub struct List {
     pub next: Option<Box<List>>,
 }
 
-/// The archived form of a list: an option of a box that leads to another.
+/// The archived form of a list: an option of a box that leads to another list.
 #[derive(Clone, Copy)]
 pub struct ArchivedList {}
 
@@ -77,7 +76,7 @@ impl Portable for ArchivedList {
     ghost known = { λ names has. has 0 (1, list_body) (lit< tt) };
 }
 
-/// Checks the list at `pos`. What it claims ends at `room` or before.
+/// Checks the list at `pos`. The regions that it claims end at `room` or before.
 #[cycle(list)]
 fn check_list<C: ArchiveContext>(
     bytes: &[u8],
@@ -107,7 +106,7 @@ fn check_list<C: ArchiveContext>(
     )
 }
 
-/// Checks the box of a list at `pos`. What it claims ends at `room` or before.
+/// Checks the box of a list at `pos`. The regions that it claims end at `room` or before.
 #[cycle(list)]
 fn check_boxed<C: ArchiveContext>(
     bytes: &[u8],

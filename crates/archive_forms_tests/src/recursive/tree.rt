@@ -1,29 +1,28 @@
-//! Trees, which are vectors of trees.
+//! `Tree`, a test type of trees, each of which is a vector of trees.
 ghost use Rattle.std.specs.Prelude.{◌≡◌, ℕ, suc, ◌+◌, ◌-◌, ◌^◌, ◌<◌, ◌≤◌, [], ◌∷◌, length, refl};
 ghost use Rattle.std.proofs.Common.{lit<, lit≤};
 ghost use Rattle.std.proofs.Math.Nat.{le_trans, le-max_left, le-max_right};
 ghost use Rattle.archive_shape_layout.specs.Content.{Names};
 ghost use Rattle.archive_shape_layout.specs.Content.Part.{at};
 ghost use Rattle.archive_shape_layout.specs.Shape.Alignment.{four};
-ghost use Rattle.archive_shape_checking.specs.Kept.{IsWithin};
-ghost use Rattle.archive_shape_checking.specs.Checks.{Checks, Moves};
-ghost use Rattle.archive_forms_spelling.specs.Forms.{seen_as};
-ghost use Rattle.archive_forms_spelling.specs.Pointers.{slice_spelling};
-ghost use Rattle.archive_forms_spelling.specs.Serializing.{CanResolve, HasState, Resolves, Serializes, SerializesBy};
-ghost use Rattle.archive_forms_spelling.specs.Spells.{EachSpells, SpellsAt};
-ghost use Rattle.archive_forms_spelling.proofs.Levels.{named_spells_at, self_spells};
-ghost use Rattle.archive_forms_spelling.proofs.Pointers.{slice_spells_at};
-ghost use Rattle.archive_forms_spelling.proofs.Views.{kept_spells_at, seen_spells_at};
-ghost use Rattle.archive_forms_reading.specs.Parts.{HasValue};
-ghost use Rattle.archive_forms_deserializing.specs.Deserializing.{Deserializes, DeserializesBy};
-ghost use Rattle.archive_forms_deserializing.specs.Reading.{reads_as};
+ghost use Rattle.archive_shape.specs.Kept.{IsWithin};
+ghost use Rattle.archive_shape.specs.Checks.{Checks, Moves};
+ghost use Rattle.archive_forms_laws.specs.Forms.{seen_as};
+ghost use Rattle.archive_forms_laws.specs.Pointers.{slice_spelling};
+ghost use Rattle.archive_forms_laws.specs.Serializing.{CanResolve, HasState, Resolves, Serializes, SerializesBy};
+ghost use Rattle.archive_forms_laws.specs.Spells.{EachSpells, SpellsAt};
+ghost use Rattle.archive_forms_laws.proofs.Levels.{named_spells_at, self_spells};
+ghost use Rattle.archive_forms_laws.proofs.Pointers.{slice_spells_at};
+ghost use Rattle.archive_forms_laws.proofs.Views.{kept_spells_at, seen_spells_at};
+ghost use Rattle.archive_forms_values.specs.Parts.{HasValue};
+ghost use Rattle.archive_forms.specs.Deserializing.{Deserializes, DeserializesBy};
+ghost use Rattle.archive_forms.specs.Reading.{reads_as};
 ghost use Rattle.archive_forms_tests.specs.declared.recursive.tree.Tree.{Tree as TreeDenot, Tree', end_of-Tree, more_of-Tree};
 ghost use Rattle.archive_forms_tests.specs.Recursive.{tree_shape, tree_body, KnowsTree};
 ghost use Rattle.archive_forms_tests.specs.Trees.{trees_in, branches_of, levels_below, most_below, tree_level, no_tree, tree_spelling};
 
-use archive_forms_checking::check_vec_each;
-use archive_forms_deserializing::{Deserialize, ReadBack, deserialize_vec_each};
-use archive_forms_reading::{ArchivedVec, VecResolver};
+use archive_forms::{Deserialize, ReadBack, deserialize_vec_each};
+use archive_forms_values::{ArchivedVec, VecResolver, check_vec_each};
 use archive_forms_writing::{Archive, Serialize, serialize_vec_each};
 use archive_shape::{
     Alignment, Allocator, ArchiveContext, CheckBytes, Error, Place, Portable, Ref, Shape, Writer,
@@ -31,7 +30,7 @@ use archive_shape::{
 use std::alloc::{AllocError, Global};
 use std::marker::PhantomData;
 
-/// A tree of trees.
+/// A tree, which has only other trees as its branches.
 #[derive(Drop)]
 pub struct Tree {
     pub branches: Vec<Tree>,
@@ -73,7 +72,7 @@ impl Portable for ArchivedTree {
     ghost known = { λ names has. has 0 (2, tree_body) (lit< tt) };
 }
 
-/// Checks the tree at `pos`. What it claims ends at `room` or before.
+/// Checks the tree at `pos`. The regions that it claims end at `room` or before.
 fn check_tree<C: ArchiveContext>(
     bytes: &[u8],
     pos: usize,

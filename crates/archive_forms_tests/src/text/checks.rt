@@ -2,11 +2,11 @@
 ghost use Rattle.std.specs.Prelude.{◌+◌, ◌≤◌, length};
 
 use crate::narrow_context::NarrowContext;
-use archive_forms_text::ArchivedString;
+use archive_forms_values::ArchivedString;
 use archive_shape::{ArchiveContext, CheckBytes, Error};
 use std::alloc::Global;
 
-/// Checks the text at a position in a context of its own.
+/// Checks the text at `pos` in a new context of the whole buffer, in which at most `most` pushes nest.
 fn check_alone(alloc: Global, bytes: &[u8], pos: usize, most: usize) -> Result<(), Error>
     requires { pos + 8 ≤ length bytes.now }
 {
@@ -14,7 +14,7 @@ fn check_alone(alloc: Global, bytes: &[u8], pos: usize, most: usize) -> Result<(
     ArchivedString::check(alloc, bytes, pos, &mut context)
 }
 
-/// `hello world!`, and at 12 a text of twelve bytes with this offset.
+/// Returns `hello world!`, and after it, at position 12, a text of twelve bytes with this offset.
 fn twelve_bytes_and(offset: u8) -> [u8; 20] {
     let mut bytes = *b"hello world!\x8c\0\0\0\0\xff\xff\xff";
     bytes[16] = offset;

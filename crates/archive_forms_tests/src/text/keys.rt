@@ -1,11 +1,11 @@
 //! Tests of texts as keys.
 use super::checked::checked;
-use archive_forms_text::ArchivedString;
+use archive_forms_values::ArchivedString;
 use archive_shape::{ArchivedKey, Ref};
 use std::cmp::Ordering;
 use std::test::Fail;
 
-/// Whether a key is a text, and how it stands to it.
+/// Returns whether a key is the text `query`, and the order of the key relative to it.
 fn compared<'q, K: ArchivedKey<&'q str>>(key: &Ref<'_, K>, query: &'q str) -> (bool, Ordering)
     requires { K.is_key key.now.bytes.now key.now.pos }
 {

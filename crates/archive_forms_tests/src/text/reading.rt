@@ -1,6 +1,6 @@
 //! Tests of the reading of texts.
 use super::checked::checked;
-use archive_forms_text::{ArchivedString, ArchivedStringRepr};
+use archive_forms_values::{ArchivedString, ArchivedStringRepr};
 use archive_shape::{NoUndef, Portable, Shape};
 use std::test::Fail;
 

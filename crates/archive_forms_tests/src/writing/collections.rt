@@ -1,17 +1,17 @@
-//! Tests of the elements of slices and of iterators, which are written as vectors, and of entries.
+//! Tests of the elements of slices and iterators, which are written as vectors, and of entries.
 ghost use Rattle.std.specs.Prelude.{◌<◌, ◌^◌};
 
 use super::is_archived_as;
 use super::serializer::MemorySerializer;
-use archive_forms_collections::{
+use archive_forms_borrowed::{
     EntryAdapter, resolve_from_slice, serialize_from_iter, serialize_from_slice,
 };
-use archive_forms_reading::VecResolver;
+use archive_forms_values::VecResolver;
 use archive_shape::{Error, Place};
 use std::alloc::Global;
 use std::test::Fail;
 
-/// What is answered for numbers whose claimed number is `len`, and what is written.
+/// Returns the result of writing numbers with the claimed number `len`, and the serializer.
 fn written_with_claim(
     alloc: Global,
     numbers: Vec<u16>,
@@ -22,7 +22,7 @@ fn written_with_claim(
     (answer, serializer)
 }
 
-/// The own bytes of a vector of one number, which stands before them.
+/// Returns the own bytes of a vector of one number, which lies before them.
 fn vector_of_one(alloc: Global, number: u32) -> Result<[u8; 8], Error> {
     let items = [number];
     let mut serializer = MemorySerializer::new(alloc);

@@ -1,4 +1,4 @@
-//! A serializer that keeps what is written in memory.
+//! `MemorySerializer`, a serializer that writes to memory.
 ghost use Rattle.std.specs.Prelude.{◌≡◌, true, false, vec_len};
 ghost use Rattle.archive_shape_writing.specs.Progress.Progress.{unmet};
 ghost use Rattle.archive_shape_writing.specs.declared.error.Error.TheVariants.{OutOfMemory};
@@ -6,7 +6,7 @@ ghost use Rattle.archive_shape_writing.specs.declared.error.Error.TheVariants.{O
 use archive_shape::{Allocator, Error, Positional, Registry, Writer};
 use std::alloc::Global;
 
-/// A serializer that keeps what is written in memory, and knows no key.
+/// A serializer that writes to memory, and that knows no key.
 #[derive(Drop)]
 pub struct MemorySerializer {
     bytes: Vec<u8>,
@@ -14,6 +14,7 @@ pub struct MemorySerializer {
 }
 
 impl MemorySerializer {
+    /// Creates a serializer that has written nothing.
     pub fn new(alloc: Global) -> Self
         ensures { vec_len result.bytes ≡ 0 }
     {
@@ -23,6 +24,7 @@ impl MemorySerializer {
         }
     }
 
+    /// Returns the bytes that were written.
     pub fn bytes(&self) -> &[u8] {
         self.bytes.as_slice()
     }

@@ -1,4 +1,4 @@
-//! Tests of texts that are written: inline up to eight bytes, and else behind their bytes.
+//! Tests of texts that are archived: inline up to eight bytes, and otherwise after their bytes.
 use super::is_archived_as;
 use std::test::Fail;
 

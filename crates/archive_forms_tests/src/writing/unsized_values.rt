@@ -2,14 +2,15 @@
 ghost use Rattle.std.specs.Prelude.{◌≡◌, ◌≤◌};
 ghost use Rattle.archive_shape_layout.specs.Shape.{size_of};
 ghost use Rattle.archive_shape_layout.specs.Shape.Shape.{box};
-ghost use Rattle.archive_shape_references.specs.Bytes.{zeros};
+ghost use Rattle.archive_shape.specs.Bytes.{zeros};
 
 use super::serializer::MemorySerializer;
-use archive_forms_unsized::{SerializeUnsized, resolve_from_ref, serialize_from_ref};
+use archive_forms_borrowed::{SerializeUnsized, resolve_from_ref, serialize_from_ref};
 use archive_shape::Place;
 use std::alloc::Global;
 
-/// Whether these bytes are what is written before a box at position 8, whose own bytes are resolved in `own`.
+/// Returns `true` if writing a box of `value` at position 8 writes `data` before it. The own bytes of the box are
+/// written to `own`.
 fn is_boxed_behind<U: SerializeUnsized<MemorySerializer>>(
     alloc: Global,
     value: &U,

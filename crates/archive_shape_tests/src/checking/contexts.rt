@@ -1,6 +1,6 @@
 //! Tests of contexts: regions, pushes and shared positions.
 use super::list_context::ListContext;
-use archive_shape_checking::{ArchiveContext, Error, PushedRange, SharedContext, ValidationState};
+use archive_shape::{ArchiveContext, Error, PushedRange, SharedContext, ValidationState};
 use archive_shape_layout::{Pointee, Shape};
 use std::test::Fail;
 
@@ -19,7 +19,7 @@ fn claim<C: ArchiveContext>(
     context.pop_subtree_range(range)
 }
 
-/// Meets a shared position that leads to texts, once.
+/// Visits a shared position that leads to a text, once.
 fn meet<C: SharedContext>(
     context: &mut C,
     pos: usize,

@@ -3,16 +3,16 @@ ghost use Rattle.std.specs.Prelude.{◌≤◌, length};
 ghost use Rattle.archive_shape_layout.specs.Shape.{size_of};
 
 use super::list_context::ListContext;
-use archive_shape_checking::{ArchiveContext, CheckBytes, Error};
-use archive_shape_portable::{
-    ArchivedChar, ArchivedI64, ArchivedNonZeroI128, ArchivedNonZeroU16, ArchivedU16,
+use archive_shape::{
+    ArchiveContext, ArchivedChar, ArchivedI64, ArchivedNonZeroI128, ArchivedNonZeroU16,
+    ArchivedU16, CheckBytes, Error,
 };
 use std::alloc::Global;
 use std::marker::PhantomData;
 use std::num::{NonZeroI8, NonZeroU8};
 use std::test::Fail;
 
-/// Checks the value at 0 in a context of its own, of which the whole range is then still free.
+/// Checks the value at position 0 in a new context, whose whole range is still free after the check.
 fn check_alone<T: CheckBytes<ListContext>>(alloc: Global, bytes: &[u8]) -> Result<(), Error>
     requires { size_of T.shape ≤ length bytes.now }
 {

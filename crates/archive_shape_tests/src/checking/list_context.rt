@@ -1,13 +1,13 @@
-//! A context of checks for tests.
+//! A context of checks, for tests.
 ghost use Rattle.std.specs.Prelude.{◌≡◌, ◌==◌, ◌≤◌, ◌↔◌, IsTrue, length, find, option_map};
 ghost use Rattle.std.specs.List.{position_or_len};
 ghost use Rattle.archive_shape_layout.specs.RuntimeShape.{pointee_of};
 
-use archive_shape_checking::{ArchiveContext, Error, PushedRange, SharedContext, ValidationState};
+use archive_shape::{ArchiveContext, Error, PushedRange, SharedContext, ValidationState};
 use archive_shape_layout::{Pointee, same_shape};
 use std::alloc::Global;
 
-/// What was met at a shared position.
+/// A shared position that was seen, with what it leads to.
 #[derive(Drop)]
 struct Met {
     pos: usize,
@@ -16,7 +16,7 @@ struct Met {
     done: bool,
 }
 
-/// A context that keeps what it met in lists.
+/// A context that keeps the shared positions that were seen in a vector.
 #[derive(Drop)]
 pub struct ListContext {
     start: usize,
@@ -38,7 +38,7 @@ fn same_pointee(first: &Pointee, second: &Pointee) -> bool
 }
 
 impl ListContext {
-    /// Of n bytes, with n pushes at most.
+    /// Creates the context of `len` bytes, with at most `most` open pushes.
     pub fn new(alloc: Global, len: usize, most: usize) -> Self
         ensures start { result.start ≡ 0 }
         ensures end { result.end ≡ len }
@@ -52,7 +52,7 @@ impl ListContext {
         }
     }
 
-    /// Where a shared position stands among those that were met; after the last one where it was not.
+    /// Returns the index of a shared position among those that were seen, or their number where it was not seen.
     fn place_of(&self, pos: usize) -> usize
         ensures first { result ≡ position_or_len (λ m. m.pos == pos) self.now.met.items }
         ensures within { result ≤ length self.now.met.items }

@@ -1,8 +1,8 @@
-//! Offsets, at the ends of what fits.
+//! Tests of offsets, at the least and greatest that fit.
 
-use archive_shape_pointers::{Offset, signed_offset};
-use archive_shape_portable::{
-    ArchivedI16, ArchivedI32, ArchivedI64, ArchivedU16, ArchivedU32, ArchivedU64,
+use archive_shape::{
+    ArchivedI16, ArchivedI32, ArchivedI64, ArchivedU16, ArchivedU32, ArchivedU64, Offset,
+    signed_offset,
 };
 use archive_shape_writing::Error;
 use std::test::Fail;

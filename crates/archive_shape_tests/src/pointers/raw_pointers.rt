@@ -1,11 +1,9 @@
-//! Pointers without metadata.
+//! Tests of pointers without metadata.
 
-use archive_shape_pointers::{
-    RawRelPtr, RawRelPtrI8, RawRelPtrI16, RawRelPtrI32, RawRelPtrI64, RawRelPtrU8, RawRelPtrU16,
-    RawRelPtrU64,
+use archive_shape::{
+    Place, Portable, RawRelPtr, RawRelPtrI8, RawRelPtrI16, RawRelPtrI32, RawRelPtrI64, RawRelPtrU8,
+    RawRelPtrU16, RawRelPtrU64, Ref,
 };
-use archive_shape_portable::Portable;
-use archive_shape_references::{Place, Ref};
 use archive_shape_writing::Error;
 use std::test::Fail;
 

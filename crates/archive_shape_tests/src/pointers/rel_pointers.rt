@@ -1,9 +1,9 @@
-//! Pointers to sized types.
+//! Tests of pointers to sized types.
 #![tactic(auto, unfolding(archive_shape_layout::specs::Bytes::align_up))]
 
-use archive_shape_pointers::RelPtr;
-use archive_shape_portable::{ArchivedI32, ArchivedI64, ArchivedU16, ArchivedU64, Portable};
-use archive_shape_references::{Place, Ref};
+use archive_shape::{
+    ArchivedI32, ArchivedI64, ArchivedU16, ArchivedU64, Place, Portable, Ref, RelPtr,
+};
 use archive_shape_writing::Error;
 use std::test::Fail;
 

@@ -1,12 +1,11 @@
-//! Pointers to slices and texts.
+//! Tests of pointers to slices and texts.
 #![tactic(auto, unfolding(archive_shape_layout::specs::Bytes::align_up))]
 
-use archive_shape_layout::{Shape, Shapes, Width, same_shape};
-use archive_shape_pointers::RelPtr;
-use archive_shape_portable::{
-    ArchivedI16, ArchivedI32, ArchivedU32, ArchivedU64, LittleEndian, Portable,
+use archive_shape::{
+    ArchivedI16, ArchivedI32, ArchivedU32, ArchivedU64, LittleEndian, Place, Portable, Ref, RelPtr,
+    Slice, Str,
 };
-use archive_shape_references::{Place, Ref, Slice, Str};
+use archive_shape_layout::{Shape, Shapes, Width, same_shape};
 use archive_shape_writing::Error;
 use std::alloc::{AllocError, Global};
 use std::test::Fail;

@@ -1,5 +1,5 @@
-//! Chars, by their codes.
-use archive_shape_portable::{ArchivedChar, ArchivedLeaf};
+//! Tests of archived chars, by their codes.
+use archive_shape::{ArchivedChar, ArchivedLeaf};
 use std::test::Fail;
 
 #[test]
@@ -13,7 +13,7 @@ fn chars_by_their_codes(rt: HostRuntime) -> Result<(), Fail> {
     Ok(())
 }
 
-// The codes from d800 to dfff, and those from 110000 on, are no char's.
+// The codes from d800 to dfff, and those from 110000 on, are not codes of chars.
 #[test]
 fn bytes_of_chars(rt: HostRuntime) -> Result<(), Fail> {
     let rows = [

@@ -1,5 +1,5 @@
-//! Sizes, alignments and layouts of types.
-use archive_shape_portable::{
+//! Tests of the sizes, alignments and layouts of types.
+use archive_shape::{
     ArchivedChar, ArchivedI128, LittleEndian, NoUndef, Portable, Shape, Shapes, Width, same_shape,
 };
 use std::alloc::{AllocError, Global};

@@ -1,6 +1,5 @@
-//! Native numbers, beside their archived forms.
-use archive_shape_native::Native;
-use archive_shape_portable::LittleEndian;
+//! Tests of native numbers and of their archived forms.
+use archive_shape::{LittleEndian, Native};
 use std::num::NonZeroU64;
 use std::test::Fail;
 

@@ -1,5 +1,5 @@
-//! Archived numbers.
-use archive_shape_portable::{
+//! Tests of archived numbers.
+use archive_shape::{
     ArchivedI16, ArchivedI128, ArchivedIsize, ArchivedLeaf, ArchivedNonZeroIsize,
     ArchivedNonZeroUsize, ArchivedU64, ArchivedU128, ArchivedUsize,
 };

@@ -1,5 +1,5 @@
-//! Values of one byte, which are archived as themselves.
-use archive_shape_portable::ArchivedLeaf;
+//! Tests of values of one byte, whose archived type is their native type.
+use archive_shape::ArchivedLeaf;
 use std::num::{NonZeroI8, NonZeroU8};
 use std::test::Fail;
 

@@ -1,5 +1,5 @@
-//! Archived numbers without 0.
-use archive_shape_portable::{
+//! Tests of archived numbers without 0.
+use archive_shape::{
     ArchivedLeaf, ArchivedNonZeroI16, ArchivedNonZeroI128, ArchivedNonZeroU16, ArchivedNonZeroU32,
     ArchivedNonZeroU64, ArchivedNonZeroU128,
 };

@@ -1,9 +1,8 @@
-//! What seals of a value's own bytes write.
+//! Tests of what seals of a value's own bytes write.
 ghost use Rattle.std.specs.Prelude.{◌≡◌, length};
 ghost use Rattle.std.specs.Int.{w64, to_le_bytes, cast_unsigned};
 
-use archive_shape_portable::{ArchivedI64, ArchivedU16};
-use archive_shape_references::{OwnSeal, Str};
+use archive_shape::{ArchivedI64, ArchivedU16, OwnSeal, Str};
 use std::test::Fail;
 
 // A caller that seals a number's own bytes knows them afterwards.

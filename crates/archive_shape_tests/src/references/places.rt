@@ -1,10 +1,9 @@
-//! Where values are resolved to.
+//! Tests of the places that values are written to.
 ghost use Rattle.std.specs.Prelude.{◌≡◌, ◌+◌, ◌<◌, ◌≤◌, ◌^◌, [], ◌∷◌, length};
 ghost use Rattle.std.specs.Int.{w64, to_le_bytes, cast_unsigned};
-ghost use Rattle.archive_shape_references.specs.Bytes.{overwrite};
+ghost use Rattle.archive_shape.specs.Bytes.{overwrite};
 
-use archive_shape_portable::{ArchivedI64, ArchivedU16};
-use archive_shape_references::Place;
+use archive_shape::{ArchivedI64, ArchivedU16, Place};
 use std::test::Fail;
 
 // A caller that writes a field knows the whole struct afterwards.

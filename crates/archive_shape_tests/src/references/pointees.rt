@@ -1,8 +1,9 @@
-//! What pointers lead to.
+//! Tests of what pointers lead to.
 
+use archive_shape::{
+    ArchivePointee, ArchivedI64, ArchivedU32, ArchivedUsize, LayoutRaw, Ref, Slice, Str,
+};
 use archive_shape_layout::{Shape, same_shape};
-use archive_shape_portable::{ArchivedI64, ArchivedU32, ArchivedUsize};
-use archive_shape_references::{ArchivePointee, LayoutRaw, Ref, Slice, Str};
 use std::test::Fail;
 
 #[test]

@@ -1,7 +1,6 @@
-//! What references read.
+//! Tests of what references read.
 
-use archive_shape_portable::{ArchivedI32, ArchivedI64, ArchivedU16, ArchivedU32};
-use archive_shape_references::Ref;
+use archive_shape::{ArchivedI32, ArchivedI64, ArchivedU16, ArchivedU32, Ref};
 use std::test::Fail;
 
 #[test]

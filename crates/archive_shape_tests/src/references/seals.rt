@@ -1,10 +1,9 @@
-//! What seals write.
+//! Tests of what seals write.
 ghost use Rattle.std.specs.Prelude.{◌≡◌, ◌+◌, ◌≤◌, length};
 ghost use Rattle.std.specs.Int.{w64, to_le_bytes, cast_unsigned};
-ghost use Rattle.archive_shape_references.specs.Bytes.{overwrite};
+ghost use Rattle.archive_shape.specs.Bytes.{overwrite};
 
-use archive_shape_portable::{ArchivedI32, ArchivedI64, ArchivedU16, ArchivedU32};
-use archive_shape_references::{Seal, Str};
+use archive_shape::{ArchivedI32, ArchivedI64, ArchivedU16, ArchivedU32, Seal, Str};
 use std::test::Fail;
 
 // A caller that seals a number in a buffer knows the whole buffer afterwards.

@@ -11,7 +11,7 @@ use archive_shape::{
 use std::cmp::Ordering;
 use std::num::NonZeroU32;
 
-// A caller that compares a key knows how the number there stands to the query.
+// A caller that compares a key knows how the number there compares with the query.
 fn compare_number(bytes: &[u8], pos: usize, query: u32) -> Ordering
     requires { pos + 4 ≤ length bytes.now }
     ensures { result ≡ nat_cmp (from_le_bytes w32 (window bytes.now pos 4)) query }

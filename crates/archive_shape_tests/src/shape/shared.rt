@@ -3,7 +3,7 @@ use super::slots::Slots;
 use archive_shape::{Error, Pooling, PoolingState, Sharing, SharingState};
 use std::test::Fail;
 
-/// What a value's starts tell before, in and after it.
+/// Starts a value three times, before its writing, inside it and after it, and returns the three states.
 fn share<S: Sharing>(sharing: &mut S, key: usize, pos: usize) -> Result<[SharingState; 3], Error> {
     let before = sharing.start_sharing(key)?;
     let inside = sharing.start_sharing(key)?;
@@ -12,7 +12,7 @@ fn share<S: Sharing>(sharing: &mut S, key: usize, pos: usize) -> Result<[Sharing
     Ok([before, inside, after])
 }
 
-/// The same of a value that is read.
+/// Does the same for a value that is read.
 fn pool<P: Pooling<u32>>(
     pooling: &mut P,
     pos: usize,

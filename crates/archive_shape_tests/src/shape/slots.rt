@@ -1,17 +1,18 @@
-//! A sharing and pooling of a few slots.
+//! A `Sharing` and `Pooling` with four slots, for tests.
 ghost use Rattle.std.specs.Prelude.{true, slice_index_or};
 ghost use Rattle.archive_shape.specs.Pooling.{progress_of};
 ghost use Rattle.archive_shape.specs.declared.pooling.PoolingState.TheVariants.{Started};
 
 use archive_shape::{Error, Pooling, PoolingState, Registry, Sharing, SharingState};
 
-/// What the next start of each number below 4 tells. No other number is started.
+/// The state that the next start of each number below 4 returns. No other number is started.
 #[derive(Drop)]
 pub struct Slots<T> {
     states: [PoolingState<T>; 4],
 }
 
 impl<T: Copy> Slots<T> {
+    /// Creates slots in which no number has started.
     pub fn new() -> Self {
         Slots {
             states: [PoolingState::Started; 4],

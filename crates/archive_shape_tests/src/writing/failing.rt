@@ -1,11 +1,11 @@
-//! A writer that fails.
+//! A writer that fails, for tests.
 ghost use Rattle.std.specs.Prelude.{◌≡◌, true, vec_len};
 ghost use Rattle.archive_shape_writing.specs.Progress.Progress.{unmet};
 
 use archive_shape_writing::{Error, Positional, Registry, Writer};
 use std::alloc::Global;
 
-/// A writer that fails after n writes, and keeps half of the piece that failed.
+/// A writer that fails after a number of writes, and keeps the first half of the piece that failed.
 #[derive(Drop)]
 pub struct FailingWriter {
     bytes: Vec<u8>,
@@ -15,6 +15,7 @@ pub struct FailingWriter {
 }
 
 impl FailingWriter {
+    /// Creates a writer of which `writes` writes succeed.
     pub fn new(alloc: Global, writes: usize) -> Self
         ensures { result.failures ≡ 0 }
     {
@@ -26,10 +27,12 @@ impl FailingWriter {
         }
     }
 
+    /// Returns the bytes that were written.
     pub fn bytes(&self) -> &[u8] {
         self.bytes.as_slice()
     }
 
+    /// Returns the number of writes that failed.
     pub fn failures(&self) -> u64 {
         self.failures
     }

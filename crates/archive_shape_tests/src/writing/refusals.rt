@@ -1,4 +1,4 @@
-//! Tests of the texts of refusals.
+//! Tests of the messages of errors.
 use archive_shape_writing::Error;
 use std::test::Fail;
 

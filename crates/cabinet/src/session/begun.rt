@@ -1,19 +1,19 @@
-//! What a run keeps from one piece of its input to the next.
+//! The state that a run keeps from one piece of its input to the next.
 ghost use Rattle.std.specs.Prelude.{◌≡◌, ◌≢◌, ℕ, ◌+◌, ◌≤◌, Bool, List, [], length, vec_len, IfErr, OnOk};
 
 use super::{Count, RunCause};
 use std::alloc::Global;
 
-/// The most bytes of a line.
+/// The maximum number of bytes of a line.
 pub(super) const LONGEST_LINE: usize = 1_048_576;
 
-/// The most bytes of an input.
+/// The maximum number of bytes of an input.
 pub(super) const LONGEST_INPUT: u64 = 4_294_967_295;
 
-/// What a run keeps from one piece of the input to the next.
+/// The state of a run between two pieces of its input: the line begun and the counts.
 #[derive(Drop)]
 pub(super) struct Begun {
-    /// What stands after the last newline.
+    /// The bytes after the last newline.
     pub(super) line: Vec<u8>,
     pub(super) count: Count,
     /// The number of bytes of the input so far.
@@ -28,6 +28,7 @@ impl Begun {
     ghost use Rattle.cabinet.specs.Steps.{newlines};
     ghost use Rattle.cabinet.specs.Progress.{Takes};
 
+    /// Returns the state at the start of an input.
     pub(super) fn new(alloc: Global) -> Begun
         ensures line { result.line.items ≡ [] }
         ensures lines { result.count.lines ≡ 0 }
@@ -41,7 +42,8 @@ impl Begun {
         }
     }
 
-    /// Takes bytes without a newline to the line begun.
+    /// Appends bytes without a newline to the line begun. Returns `LineTooLong` if the line exceeds its limit, and
+    /// `OutOfMemory` when an allocation fails.
     pub(super) fn take(&mut self, bytes: &[u8]) -> Result<(), RunCause>
         requires { self.old.total + length bytes.now ≤ 4294967295 }
         ensures total { OnOk result (self.new.total ≡ self.old.total + length bytes.now) }

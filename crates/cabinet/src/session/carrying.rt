@@ -1,4 +1,4 @@
-//! The lines of an input are carried out and answered.
+//! Carrying out and answering the lines of an input.
 ghost use Rattle.std.specs.Prelude.{◌≡◌, ◌≢◌, ℕ, ◌+◌, ◌-◌, ◌^◌, ◌<◌, ◌≤◌, ◌==◌, ◌++◌, List, [], ◌∷◌, length, drop, Some, IfOk, IfErr, OnOk, MatchResult, option_map, position, IsTrue};
 ghost use Rattle.archive_shape_writing.specs.Writing.{Writes};
 ghost use Rattle.cabinet_text_grammar.specs.Tree.{Tree};
@@ -8,8 +8,8 @@ ghost use Rattle.cabinet.specs.Session.{lines_of, answer_to, one_if_done};
 ghost use Rattle.cabinet_text_nodes.specs.Lines.{IsQuestion};
 ghost use Rattle.cabinet_text_nodes.specs.Outcomes.{outcome_of};
 ghost use Rattle.cabinet_text_nodes.specs.View.{line_of};
-ghost use Rattle.cabinet_documents.specs.Accepted.{Accepted};
-ghost use Rattle.cabinet_asking.specs.Failing.{FailsByWriter};
+ghost use Rattle.cabinet_archived.specs.Documents.Accepted.{Accepted};
+ghost use Rattle.cabinet_archives.specs.Failing.{FailsByWriter};
 ghost use Rattle.cabinet.specs.Editing.{Edited};
 ghost use Rattle.cabinet.specs.Steps.{longest_line, newlines, Carried, Faulted, Completed};
 ghost use Rattle.cabinet.specs.Failures.{WriterFails};
@@ -19,12 +19,12 @@ use super::begun::{Begun, LONGEST_INPUT, LONGEST_LINE};
 use super::{Count, RunCause};
 use crate::opened::Opened;
 use archive_shape_writing::{Error, Writer};
-use cabinet_text_lines::read_line;
 use cabinet_text_nodes::{Line, LineRefusal, SetAnswer};
+use cabinet_text_reading::read_line;
 use cabinet_text_writing::{write_bad, write_outcome};
 use std::alloc::{AllocError, Global};
 
-/// What bytes say, if anything.
+/// Returns the line that bytes say, or `None` if they are no line.
 fn read_said(alloc: Global, bytes: &[u8]) -> Result<Option<Line>, AllocError>
     ensures { IfOk result (λ line. Says bytes.now (option_map line_of line)) }
 {
@@ -35,7 +35,7 @@ fn read_said(alloc: Global, bytes: &[u8]) -> Result<Option<Line>, AllocError>
     }
 }
 
-/// How many edits an outcome stands for.
+/// Returns the number of edits that an outcome represents.
 fn edits_in(outcome: SetAnswer) -> u64
     ensures counted { result ≡ one_if_done (outcome_of outcome) }
     ensures one { result ≤ 1 }
@@ -46,7 +46,7 @@ fn edits_in(outcome: SetAnswer) -> u64
     }
 }
 
-/// Answers a question.
+/// Writes the answer to a question.
 fn answer_question<W: Writer>(
     opened: &Opened<'_>,
     question: &Line,
@@ -65,7 +65,7 @@ fn answer_question<W: Writer>(
     }
 }
 
-/// Carries out what a line says, and answers it.
+/// Carries out what a line says, and writes the answer.
 fn carry_out<W: Writer>(
     opened: &mut Opened<'_>,
     said: &Option<Line>,
@@ -92,7 +92,7 @@ fn carry_out<W: Writer>(
     }
 }
 
-/// Carries out a line, and answers it.
+/// Reads a line, carries it out and writes the answer.
 fn answer_line<W: Writer>(
     alloc: Global,
     opened: &mut Opened<'_>,
@@ -128,7 +128,7 @@ fn answer_line<W: Writer>(
     }
 }
 
-/// Takes the rest of a line, whose newline is next, and carries the line out.
+/// Takes the rest of a line, which a newline follows, and carries out the line.
 fn end_line<W: Writer>(
     alloc: Global,
     opened: &mut Opened<'_>,
@@ -167,14 +167,14 @@ fn end_line<W: Writer>(
     answered
 }
 
-/// Where the first newline stands.
+/// Returns the index of the first newline.
 fn newline_in(bytes: &[u8]) -> Option<usize>
     ensures { result ≡ position (λ b. b == 10) bytes.now }
 {
     bytes.iter().position(|byte| *byte == b'\n')
 }
 
-/// Takes a piece of the input whole.
+/// Takes all of a piece of the input.
 fn feed<W: Writer>(
     alloc: Global,
     opened: &mut Opened<'_>,
@@ -201,7 +201,8 @@ fn feed<W: Writer>(
     begun.take(rest)
 }
 
-/// Takes a piece of the input, as much of it as an input may have.
+/// Takes a piece of the input, up to the limit of an input. If the piece exceeds the limit, returns `InputTooLong`, or
+/// `LineTooLong` if its first byte past the limit exceeds the limit of a line too.
 pub(super) fn take_piece<W: Writer>(
     alloc: Global,
     opened: &mut Opened<'_>,

@@ -1,9 +1,9 @@
 use Rattle.std.proofs.Common.{List, All, sym, subst}
-use Rattle.archive_shape_layout.specs.Shape.Shape.{tuple}
-use Rattle.archive_shape_layout.specs.Shape.Shapes.{no_shapes}
+use Rattle.archive_shape.specs.ShapeLayout.Shape.Shape.{tuple}
+use Rattle.archive_shape.specs.ShapeLayout.Shape.Shapes.{no_shapes}
 use Rattle.archive_shape_writing.specs.Writing.{WriterMembers}
-use Rattle.archive_forms_spelling.specs.Fields.{unit_spelling}
-use Rattle.archive_forms_spelling.specs.Serializing.{Serializes}
+use Rattle.archive_forms_laws.specs.Fields.{unit_spelling}
+use Rattle.archive_forms_laws.specs.Serializing.{Serializes}
 use Rattle.archive_btree.specs.Owned.{entries_spelling, key_entries}
 use Rattle.archive_btree.proofs.Listed.{takes_entries}
 use Rattle.archive_btree.proofs.serialize_set.serialize_set_each.Goals as goal

@@ -1,7 +1,7 @@
 use Rattle.std.proofs.Common.{◌+◌, ◌≤◌, refl, ap, length, arith, sym, subst}
-use Rattle.archive_shape_layout.specs.Shape.{size_of}
-use Rattle.archive_shape_references.specs.Bytes.{overwrite}
-use Rattle.archive_btree_layout.specs.Tree.{items}
+use Rattle.archive_shape.specs.ShapeLayout.Shape.{size_of}
+use Rattle.archive_shape.specs.Bytes.{overwrite}
+use Rattle.archive_btree_walking.specs.BtreeLayout.Tree.{items}
 use Rattle.archive_btree_walking.specs.Walks.{BegunMap, IsWritten}
 use Rattle.archive_btree_walking.proofs.Roots.{tree_of_value}
 use Rattle.archive_btree_walking.proofs.Sealed.{first_among, value_written}

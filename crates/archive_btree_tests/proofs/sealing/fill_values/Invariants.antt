@@ -1,5 +1,5 @@
 use Rattle.std.proofs.Common.{List}
-use Rattle.archive_btree_layout.specs.Reading.{Place}
+use Rattle.archive_btree_walking.specs.BtreeLayout.Reading.{Place}
 use Rattle.archive_btree_walking.specs.Walks.{BegunMap, IsWritten}
 use Rattle.archive_btree_walking.specs.Cursors.{HasValues}
 use Rattle.archive_btree_tests.proofs.sealing.fill_values.Given as goal

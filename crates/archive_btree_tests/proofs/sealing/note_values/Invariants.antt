@@ -1,5 +1,5 @@
 use Rattle.std.proofs.Common.{List}
-use Rattle.archive_btree_layout.specs.Reading.{Place}
+use Rattle.archive_btree_walking.specs.BtreeLayout.Reading.{Place}
 use Rattle.archive_btree_walking.specs.Walks.{BegunMap, IsWritten}
 use Rattle.archive_btree_walking.specs.Cursors.{HasRange}
 use Rattle.archive_btree_tests.proofs.sealing.note_values.Given as goal

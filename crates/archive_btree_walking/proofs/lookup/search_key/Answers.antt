@@ -1,6 +1,6 @@
 use Rattle.std.proofs.Common.{◌∙◌, sym}
 use Rattle.std.proofs.lemmas.Option.{IfSome_then}
-use Rattle.archive_btree_layout.specs.Tree.{items}
+use Rattle.archive_btree_nodes.specs.BtreeLayout.Tree.{items}
 use Rattle.archive_btree_walking.specs.Lookups.{IsEqualKey}
 use Rattle.archive_btree_walking.proofs.Held.{entries_are}
 use Rattle.archive_btree_walking.proofs.Refs.{finds_called, reversed_equal}

@@ -1,5 +1,5 @@
 use Rattle.std.proofs.Common.{◌≡◌, ◌-◌, ◌^◌, min, None, refl, sym, subst}
-use Rattle.archive_btree_layout.specs.Descent.{descend, met}
+use Rattle.archive_btree_nodes.specs.BtreeLayout.Descent.{descend, met}
 use Rattle.archive_btree_walking.proofs.Roots.{tree_of_value}
 use Rattle.archive_btree_walking.proofs.lookup.search_map.Goals as goal
 

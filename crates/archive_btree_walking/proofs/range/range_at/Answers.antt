@@ -1,6 +1,6 @@
 use Rattle.std.proofs.Common.{sym, subst}
-use Rattle.archive_btree_layout.specs.Tree.{items}
-use Rattle.archive_btree_searching.specs.Ranges.{IsRun}
+use Rattle.archive_btree_nodes.specs.BtreeLayout.Tree.{items}
+use Rattle.archive_btree_nodes.specs.Ranges.{IsRun}
 use Rattle.archive_btree_walking.proofs.Roots.{tree_of_value}
 use Rattle.archive_btree_walking.proofs.range.range_at.Goals as goal
 

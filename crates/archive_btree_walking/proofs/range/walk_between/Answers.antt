@@ -1,8 +1,8 @@
 use Rattle.std.proofs.Common.{[], ap, refl, sym}
 use Rattle.std.specs.Range.Bound.{bound_map}
-use Rattle.archive_btree_layout.specs.Tree.{items}
-use Rattle.archive_btree_searching.proofs.Ranged.{no_run}
-use Rattle.archive_btree_searching.proofs.Stepped.{left_is}
+use Rattle.archive_btree_nodes.specs.BtreeLayout.Tree.{items}
+use Rattle.archive_btree_nodes.proofs.Ranged.{no_run}
+use Rattle.archive_btree_nodes.proofs.Stepped.{left_is}
 use Rattle.archive_btree_walking.specs.Ranges.{is_before, is_behind, items_between}
 use Rattle.archive_btree_walking.proofs.Between.{tells_before, tells_behind, stays_from, stays_behind}
 use Rattle.archive_btree_walking.proofs.Roots.{tree_of_value}

@@ -1,6 +1,6 @@
 use Rattle.std.proofs.Common.{ap, sym}
-use Rattle.archive_btree_layout.specs.Tree.{items}
-use Rattle.archive_btree_searching.proofs.Stepped.{left_is}
+use Rattle.archive_btree_nodes.specs.BtreeLayout.Tree.{items}
+use Rattle.archive_btree_nodes.proofs.Stepped.{left_is}
 use Rattle.archive_btree_walking.proofs.Roots.{tree_of_value}
 use Rattle.archive_btree_walking.proofs.root.entry_walk_at.Goals as goal
 

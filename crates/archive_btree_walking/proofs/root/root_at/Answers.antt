@@ -1,5 +1,5 @@
 use Rattle.std.proofs.Common.{◌≡◌, ◌∙◌, ◌+◌, arith}
-use Rattle.archive_shape_layout.specs.Bytes.{word_at}
+use Rattle.archive_shape.specs.ShapeLayout.Bytes.{word_at}
 use Rattle.archive_btree_walking.proofs.Roots.{map_points, map_root, some_entries, tree_of_value}
 use Rattle.archive_btree_walking.proofs.root.root_at.Goals as goal
 

@@ -1,5 +1,5 @@
 use Rattle.std.proofs.Common.{◌∙◌, ap, sym}
-use Rattle.archive_btree_layout.specs.Tree.{items}
+use Rattle.archive_btree_nodes.specs.BtreeLayout.Tree.{items}
 use Rattle.archive_btree_walking.proofs.Roots.{map_count, tree_of_value}
 use Rattle.archive_btree_walking.proofs.root.walk_at.Goals as goal
 

@@ -1,6 +1,6 @@
 use Rattle.std.proofs.Common.{arith, refl, inl, Err}
 use Rattle.archive_shape_writing.specs.Writing.{WriterMembers}
-use Rattle.archive_forms_spelling.specs.Serializing.{of_data}
+use Rattle.archive_forms_values.specs.FormsLaws.Serializing.{of_data}
 use Rattle.archive_forms_writing.proofs.Laying.{stopped_before}
 use Rattle.archive_btree_writing.specs.Nodes.{borrowed, node_of}
 use Rattle.archive_btree_writing.proofs.Placing.{Behind, data_stopped, node_laid}

@@ -2,8 +2,8 @@ use Rattle.std.proofs.Common.{Ok, Err, refl, sym, subst, ap, ◌∙◌}
 use Rattle.std.specs.Prelude.{nat_eq}
 use Rattle.std.specs.HashMap.{get}
 use Rattle.archive_shape_writing.specs.Writing.{WriterMembers}
-use Rattle.archive_core_sharing.specs.Kept.{progress_kept}
-use Rattle.archive_core_sharing.specs.declared.share.Share.{Share}
+use Rattle.archive_core_serializing.specs.Kept.{progress_kept}
+use Rattle.archive_core_serializing.specs.declared.shares.share.Share.{Share}
 use Rattle.archive_core.specs.Written.{ArchivesIn}
 use Rattle.archive_core.proofs.From.{written_from}
 use Rattle.archive_core.proofs.Laid.{archived_in, stands_at}

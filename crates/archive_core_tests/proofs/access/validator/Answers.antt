@@ -1,5 +1,5 @@
 use Rattle.std.proofs.Common.{ap, ◌∙◌}
-use Rattle.archive_shape_checking.specs.Kept.{Kept}
+use Rattle.archive_shape.specs.Kept.{Kept}
 use Rattle.archive_core_validation.specs.declared.archive_validator.ArchiveValidator.{ArchiveValidator}
 use Rattle.archive_core_tests.proofs.access.validator.Goals as goal
 

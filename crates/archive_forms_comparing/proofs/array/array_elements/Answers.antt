@@ -1,5 +1,5 @@
 use Rattle.std.proofs.Common.{sym, ap, subst}
-use Rattle.archive_forms_reading.specs.Parts.{AreElements}
+use Rattle.archive_forms_values.specs.Parts.{AreElements}
 use Rattle.archive_forms_comparing.proofs.array.array_elements.Goals as goal
 
 pub returns-clause-elements : goal.returns-clause-elements

@@ -1,5 +1,5 @@
 use Rattle.std.proofs.Common.{sym, ap, subst}
-use Rattle.archive_forms_reading.specs.Parts.{HasElements, AreElements}
+use Rattle.archive_forms_values.specs.Parts.{HasElements, AreElements}
 use Rattle.archive_forms_comparing.proofs.boxed_slice.boxed_elements.Goals as goal
 
 pub returns-clause-there : goal.returns-clause-there

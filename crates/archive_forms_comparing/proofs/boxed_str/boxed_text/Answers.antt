@@ -1,5 +1,5 @@
 use Rattle.std.proofs.Common.{◌∙◌, sym, ap}
-use Rattle.archive_forms_ordering.specs.Views.{text_of}
+use Rattle.archive_forms_laws.specs.Views.{text_of}
 use Rattle.archive_forms_comparing.proofs.boxed_str.boxed_text.Goals as goal
 
 pub returns : goal.returns

@@ -1,5 +1,5 @@
 use Rattle.std.proofs.Common.{ap}
-use Rattle.archive_forms_ordering.specs.Views.{option_of}
+use Rattle.archive_forms_laws.specs.Views.{option_of}
 use Rattle.archive_forms_comparing.proofs.Seen.{option_matched, option_part}
 use Rattle.archive_forms_comparing.proofs.parts.option_value.Goals as goal
 

@@ -1,7 +1,7 @@
 use Rattle.std.proofs.Common.{sym, ap}
-use Rattle.archive_forms_ordering.specs.Views.{text_of}
+use Rattle.archive_forms_laws.specs.Views.{text_of}
 use Rattle.archive_shape.proofs.Held.{claims_within}
-use Rattle.archive_forms_layout.proofs.Held.{held_is_text_law, text_value}
+use Rattle.archive_forms_laws.proofs.Held.{held_is_text_law, text_value}
 use Rattle.archive_forms_comparing.proofs.text.text_at.Goals as goal
 
 pub as_str-requires : goal.as_str-requires

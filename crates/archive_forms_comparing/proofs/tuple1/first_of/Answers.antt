@@ -1,5 +1,5 @@
 use Rattle.std.proofs.Common.{ap, []}
-use Rattle.archive_forms_tuples.specs.Fields.{field}
+use Rattle.archive_forms_values.specs.Fields.{field}
 use Rattle.archive_forms_comparing.proofs.Ordered.{first_part}
 use Rattle.archive_forms_comparing.proofs.tuple1.first_of.Goals as goal
 

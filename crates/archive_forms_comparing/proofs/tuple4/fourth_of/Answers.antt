@@ -1,5 +1,5 @@
 use Rattle.std.proofs.Common.{ap, []}
-use Rattle.archive_forms_tuples.specs.Fields.{field, all_four}
+use Rattle.archive_forms_values.specs.Fields.{field, all_four}
 use Rattle.archive_forms_comparing.proofs.Ordered.{fourth_part}
 use Rattle.archive_forms_comparing.proofs.tuple4.fourth_of.Goals as goal
 

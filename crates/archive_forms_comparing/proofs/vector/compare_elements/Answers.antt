@@ -1,6 +1,6 @@
 use Rattle.std.proofs.Common.{◌≡◌, ◌∙◌, sym, min, length, arith}
 use Rattle.std.specs.Ordering.{nat_cmp}
-use Rattle.archive_forms_ordering.specs.Views.{elements_of}
+use Rattle.archive_forms_laws.specs.Views.{elements_of}
 use Rattle.archive_forms_comparing.proofs.Elements.{elements_counted, lengths_decide}
 use Rattle.archive_forms_comparing.proofs.vector.compare_elements.Goals as goal
 

@@ -1,5 +1,5 @@
 use Rattle.std.proofs.Common.{ap}
-use Rattle.archive_forms_reading.proofs.Inside.{some_says}
+use Rattle.archive_forms_values.proofs.Inside.{some_says}
 use Rattle.archive_forms_comparing.proofs.Elements.{element_at}
 use Rattle.archive_forms_comparing.proofs.vector.element.Goals as goal
 

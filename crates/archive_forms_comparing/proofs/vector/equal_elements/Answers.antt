@@ -1,6 +1,6 @@
 use Rattle.std.proofs.Common.{◌≡◌, ◌∙◌, sym, length, arith}
 use Rattle.std.specs.Cmp.Lexicographic.{unequal}
-use Rattle.archive_forms_ordering.specs.Views.{elements_of}
+use Rattle.archive_forms_laws.specs.Views.{elements_of}
 use Rattle.archive_forms_comparing.proofs.Elements.{elements_counted, equal_ends}
 use Rattle.archive_forms_comparing.proofs.vector.equal_elements.Goals as goal
 

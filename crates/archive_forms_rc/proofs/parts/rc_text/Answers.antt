@@ -1,6 +1,6 @@
 use Rattle.std.proofs.Common.{◌∙◌, sym, ap}
 use Rattle.std.specs.Prelude.{⊤}
-use Rattle.archive_forms_ordering.specs.Views.{text_of}
+use Rattle.archive_forms_laws.specs.Views.{text_of}
 use Rattle.archive_forms_rc.proofs.Reached.{counted_there, text_counts}
 use Rattle.archive_forms_rc.proofs.parts.rc_text.Goals as goal
 

@@ -2,8 +2,8 @@ use Rattle.std.proofs.Common.{rules, arith, ◌*◌, refl, ap}
 use Rattle.archive_shape_layout.specs.Shape.{size_of}
 use Rattle.archive_shape_layout.specs.Shape.Shape.{shared}
 use Rattle.archive_shape_layout.specs.Shape.Pointee.{sized}
-use Rattle.archive_forms_checking.proofs.Contents.{astray_refused}
-use Rattle.archive_forms_checking.proofs.Targets.{target_found, target_missed}
+use Rattle.archive_forms_values.proofs.Contents.{astray_refused}
+use Rattle.archive_forms_values.proofs.Targets.{target_found, target_missed}
 use Rattle.archive_forms_rc.proofs.Counted.{clash_checked, fault_checked, first_checked, later_checked}
 use Rattle.archive_forms_rc.proofs.shared.check_rc_each.Goals as goal
 

@@ -3,9 +3,9 @@ use Rattle.archive_shape_layout.specs.Bytes.{window, word_at, align_up}
 use Rattle.archive_shape_layout.specs.Shape.{size_of}
 use Rattle.archive_shape_layout.specs.Shape.Shape.{shared}
 use Rattle.archive_shape_layout.specs.Shape.Pointee.{slice}
-use Rattle.archive_forms_checking.proofs.Contents.{astray_refused}
-use Rattle.archive_forms_checking.proofs.Targets.{target_found, target_missed}
-use Rattle.archive_forms_checking.proofs.Claimed.{elements_cut}
+use Rattle.archive_forms_values.proofs.Contents.{astray_refused}
+use Rattle.archive_forms_values.proofs.Targets.{target_found, target_missed}
+use Rattle.archive_forms_values.proofs.Claimed.{elements_cut}
 use Rattle.archive_forms_rc.proofs.Behind.{elements_checked}
 use Rattle.archive_forms_rc.proofs.Counted.{clash_checked, fault_checked, first_checked, later_checked}
 use Rattle.archive_forms_rc.proofs.shared_slice.check_rc_slice_each.Goals as goal

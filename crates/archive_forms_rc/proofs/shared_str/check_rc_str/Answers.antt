@@ -2,8 +2,8 @@ use Rattle.std.proofs.Common.{rules, arith, ◌*◌, length, ◌≡◌, refl, sy
 use Rattle.archive_shape_layout.specs.Bytes.{window, word_at, align_up}
 use Rattle.archive_shape_layout.specs.Shape.Shape.{shared}
 use Rattle.archive_shape_layout.specs.Shape.Pointee.{str}
-use Rattle.archive_forms_checking.proofs.Contents.{astray_refused}
-use Rattle.archive_forms_checking.proofs.Targets.{target_found, target_missed}
+use Rattle.archive_forms_values.proofs.Contents.{astray_refused}
+use Rattle.archive_forms_values.proofs.Targets.{target_found, target_missed}
 use Rattle.archive_forms_rc.proofs.Counted.{clash_checked, fault_checked, first_checked, later_checked}
 use Rattle.archive_forms_rc.proofs.shared_str.check_rc_str.Goals as goal
 

@@ -1,7 +1,7 @@
 use Rattle.std.proofs.Common.{refl, arith}
 use Rattle.archive_shape_layout.specs.Shape.Shape.{weak}
 use Rattle.archive_shape_layout.specs.Shape.Pointee.{sized}
-use Rattle.archive_forms_checking.proofs.Tagged.{tag_refused}
+use Rattle.archive_forms_values.proofs.Tagged.{tag_refused}
 use Rattle.archive_forms_rc.proofs.Tags.{nothing_checked, pointer_checked}
 use Rattle.archive_forms_rc.proofs.weak.check_rc_weak_each.Goals as goal
 

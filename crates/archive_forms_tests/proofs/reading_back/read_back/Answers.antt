@@ -1,7 +1,7 @@
 use Rattle.std.proofs.Common.{rules, arith, ℕ, List, [], refl, sym, ap, subst}
-use Rattle.archive_forms_reading.specs.Parts.{HasValue}
+use Rattle.archive_forms_values.specs.Parts.{HasValue}
 use Rattle.archive_shape_layout.specs.Visited.AllStand.{none_stand}
-use Rattle.archive_forms_reading.proofs.Accepted.{accepted_has_value}
+use Rattle.archive_forms_values.proofs.Accepted.{accepted_has_value}
 use Rattle.archive_forms_tests.proofs.reading_back.read_back.Goals as goal
 
 pub deserialize-requires : goal.deserialize-requires

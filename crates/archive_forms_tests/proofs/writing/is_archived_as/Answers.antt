@@ -1,5 +1,5 @@
 use Rattle.std.proofs.Common.{refl}
-use Rattle.archive_forms_spelling.specs.State.{initial}
+use Rattle.archive_forms_laws.specs.State.{initial}
 use Rattle.archive_forms_tests.proofs.writing.is_archived_as.Goals as goal
 
 pub serialize_using-requires-clause-state : goal.serialize_using-requires-clause-state

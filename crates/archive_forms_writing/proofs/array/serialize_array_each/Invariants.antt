@@ -1,6 +1,6 @@
 use Rattle.std.proofs.Common.{◌≡◌, length, take}
-use Rattle.archive_forms_spelling.specs.State.{State}
-use Rattle.archive_forms_spelling.specs.Serializing.{IsAt}
+use Rattle.archive_forms_laws.specs.State.{State}
+use Rattle.archive_forms_laws.specs.Serializing.{IsAt}
 use Rattle.archive_forms_writing.proofs.Loops.{Reached}
 use Rattle.archive_forms_writing.proofs.array.serialize_array_each.Given as goal
 

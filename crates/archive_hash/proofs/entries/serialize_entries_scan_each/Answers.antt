@@ -2,8 +2,8 @@ use Rattle.std.proofs.Common.{◌∙◌, ap, map, subst}
 use Rattle.std.specs.Iterator.{Drains}
 use Rattle.std.specs.Map.Iter.{deref_pair}
 use Rattle.archive_shape_writing.specs.Writing.{WriterMembers}
-use Rattle.archive_forms_spelling.specs.Taking.{GivesAs}
-use Rattle.archive_hash_keys.specs.Inputs.{input_hash}
+use Rattle.archive_forms_laws.specs.Taking.{GivesAs}
+use Rattle.archive_hash_probing.specs.Inputs.{input_hash}
 use Rattle.archive_hash.specs.Given.{entry_of}
 use Rattle.archive_hash.proofs.Given.{entries_came, element_taken, entries_written}
 use Rattle.archive_hash.proofs.entries.serialize_entries_scan_each.Goals as goal

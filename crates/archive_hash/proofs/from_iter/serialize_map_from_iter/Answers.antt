@@ -1,5 +1,5 @@
 use Rattle.archive_shape_writing.specs.Writing.{WriterMembers}
-use Rattle.archive_hash_keys.specs.Inputs.{input_hash}
+use Rattle.archive_hash_probing.specs.Inputs.{input_hash}
 use Rattle.archive_hash.proofs.Whole.{writes_more}
 use Rattle.archive_hash.proofs.from_iter.serialize_map_from_iter.Goals as goal
 

@@ -1,11 +1,11 @@
 use Rattle.std.proofs.Common.{◌∙◌, ap, map, subst}
 use Rattle.std.specs.Iterator.{Drains}
-use Rattle.archive_shape_layout.specs.Shape.Shape.{tuple}
-use Rattle.archive_shape_layout.specs.Shape.Shapes.{no_shapes}
+use Rattle.archive_shape.specs.ShapeLayout.Shape.Shape.{tuple}
+use Rattle.archive_shape.specs.ShapeLayout.Shape.Shapes.{no_shapes}
 use Rattle.archive_shape_writing.specs.Writing.{WriterMembers}
-use Rattle.archive_forms_spelling.specs.Fields.{unit_spelling}
-use Rattle.archive_forms_spelling.specs.Taking.{GivesAs}
-use Rattle.archive_hash_keys.specs.Inputs.{input_hash}
+use Rattle.archive_forms_laws.specs.Fields.{unit_spelling}
+use Rattle.archive_forms_laws.specs.Taking.{GivesAs}
+use Rattle.archive_hash_probing.specs.Inputs.{input_hash}
 use Rattle.archive_hash.specs.Given.{entry_of, key_entry}
 use Rattle.archive_hash.proofs.Given.{keys_came, entries_written}
 use Rattle.archive_hash.proofs.keys_from_iter.serialize_given_keys.Goals as goal

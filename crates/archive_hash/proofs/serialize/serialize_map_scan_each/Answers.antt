@@ -1,7 +1,7 @@
 use Rattle.std.proofs.Common.{arith, List, All, length, ap, sym, subst}
 use Rattle.archive_shape_writing.specs.Writing.{WriterMembers}
-use Rattle.archive_forms_spelling.specs.Serializing.{Serializes}
-use Rattle.archive_hash_keys.specs.Inputs.{input_hash}
+use Rattle.archive_forms_laws.specs.Serializing.{Serializes}
+use Rattle.archive_hash_probing.specs.Inputs.{input_hash}
 use Rattle.archive_hash.specs.Owned.{entries_spelling}
 use Rattle.archive_hash.proofs.Whole.{takes_given}
 use Rattle.archive_hash.proofs.serialize.serialize_map_scan_each.Goals as goal

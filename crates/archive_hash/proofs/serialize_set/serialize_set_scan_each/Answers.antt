@@ -1,10 +1,10 @@
 use Rattle.std.proofs.Common.{List, All, sym, subst}
-use Rattle.archive_shape_layout.specs.Shape.Shape.{tuple}
-use Rattle.archive_shape_layout.specs.Shape.Shapes.{no_shapes}
+use Rattle.archive_shape.specs.ShapeLayout.Shape.Shape.{tuple}
+use Rattle.archive_shape.specs.ShapeLayout.Shape.Shapes.{no_shapes}
 use Rattle.archive_shape_writing.specs.Writing.{WriterMembers}
-use Rattle.archive_forms_spelling.specs.Fields.{unit_spelling}
-use Rattle.archive_forms_spelling.specs.Serializing.{Serializes}
-use Rattle.archive_hash_keys.specs.Inputs.{input_hash}
+use Rattle.archive_forms_laws.specs.Fields.{unit_spelling}
+use Rattle.archive_forms_laws.specs.Serializing.{Serializes}
+use Rattle.archive_hash_probing.specs.Inputs.{input_hash}
 use Rattle.archive_hash.specs.Owned.{entries_spelling, key_entries}
 use Rattle.archive_hash.proofs.Whole.{takes_given}
 use Rattle.archive_hash.proofs.serialize_set.serialize_set_scan_each.Goals as goal

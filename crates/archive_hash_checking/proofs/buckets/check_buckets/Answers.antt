@@ -1,8 +1,8 @@
 use Rattle.std.proofs.Common.{rules, arith, length, length-take}
 use Rattle.archive_shape_layout.specs.Content.{item}
-use Rattle.archive_shape_checking.specs.Kept.{range_of}
-use Rattle.archive_forms_checking.proofs.Claimed.{last_push}
-use Rattle.archive_btree_checking.proofs.Claiming.{pushes_of}
+use Rattle.archive_shape.specs.Kept.{range_of}
+use Rattle.archive_forms_values.proofs.Claimed.{last_push}
+use Rattle.archive_forms_values.proofs.Claiming.{pushes_of}
 use Rattle.archive_hash_checking.specs.Buckets.{AreClaimed}
 use Rattle.archive_hash_checking.proofs.TableParts.{places_first, claimed_fits, claimed_narrow, buckets_unclaimed, controls_refused, items_refused, items_accepted}
 use Rattle.archive_hash_checking.proofs.buckets.check_buckets.Goals as goal

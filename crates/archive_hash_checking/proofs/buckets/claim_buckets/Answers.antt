@@ -1,8 +1,8 @@
 use Rattle.std.proofs.Common.{rules, refl, arith, ◌+◌, ◌*◌, ◌-◌, ◌∙◌}
 use Rattle.archive_shape_layout.specs.Shape.{size_of}
 use Rattle.archive_shape_layout.specs.Content.{control_count}
-use Rattle.archive_forms_checking.proofs.Claimed.{misplaced}
-use Rattle.archive_btree_checking.proofs.Claiming.{claim_refused, claim_pushed}
+use Rattle.archive_forms_values.proofs.Claimed.{misplaced}
+use Rattle.archive_forms_values.proofs.Claiming.{claim_refused, claim_pushed}
 use Rattle.archive_hash_checking.proofs.BucketChecks.{buckets_astray, buckets_claimed}
 use Rattle.archive_hash_checking.proofs.buckets.claim_buckets.Goals as goal
 

@@ -1,6 +1,6 @@
 use Rattle.std.proofs.Common.{refl, sym, subst, ◌∙◌}
 use Rattle.std.proofs.lemmas.Bool.{false≢true}
-use Rattle.archive_shape_checking.specs.Questions.{AreAnswered}
+use Rattle.archive_shape.specs.Questions.{AreAnswered}
 use Rattle.archive_hash_checking.proofs.Asked.{all_asked, one_answered, one_refused}
 use Rattle.archive_hash_checking.proofs.ControlChecks.{first_asked, next_asked, none_asked}
 use Rattle.archive_hash_checking.proofs.controls.check_controls.Goals as goal

@@ -1,6 +1,6 @@
 use Rattle.std.proofs.Common.{drop}
-use Rattle.archive_shape_checking.specs.Range.{Range}
-use Rattle.archive_shape_checking.specs.Questions.{questions_of_controls}
+use Rattle.archive_shape.specs.Range.{Range}
+use Rattle.archive_shape.specs.Questions.{questions_of_controls}
 use Rattle.archive_hash_checking.proofs.Asked.{Decides}
 use Rattle.archive_hash_checking.proofs.controls.check_controls.Given as goal
 

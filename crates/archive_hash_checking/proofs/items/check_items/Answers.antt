@@ -1,8 +1,8 @@
 use Rattle.std.proofs.Common.{rules, arith, ◌≡◌, ◌+◌, ◌-◌, ◌*◌, ◌≤◌, length, Ok, Err, refl, sym, subst}
 use Rattle.archive_shape_layout.specs.Shape.{size_of}
 use Rattle.archive_shape_layout.specs.Content.{item, tagged_items}
-use Rattle.archive_shape_checking.specs.Kept.{Advances}
-use Rattle.archive_shape_checking.proofs.Ordered.{all_refused, advances_then, advances_within, all_left, first_fault, none_left}
+use Rattle.archive_shape.specs.Kept.{Advances}
+use Rattle.archive_shape.proofs.Ordered.{all_refused, advances_then, advances_within, all_left, first_fault, none_left}
 use Rattle.archive_hash_checking.proofs.ItemChecks.{BucketBelow, bucket_below, item_next, items_none, LeftFrom, place_checked, place_passed}
 use Rattle.archive_hash_checking.proofs.items.check_items.Goals.{then-controls-place-lt128+in_ok-step, else-controls-place-lt128}
 use Rattle.archive_hash_checking.proofs.items.check_items.Goals as goal

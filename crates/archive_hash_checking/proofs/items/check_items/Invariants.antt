@@ -2,7 +2,7 @@ use Rattle.std.proofs.Common.{◌≡◌, ◌-◌, ◌*◌, List}
 use Rattle.archive_shape_layout.specs.Shape.{size_of}
 use Rattle.archive_shape_layout.specs.Content.{Names, item}
 use Rattle.archive_shape_layout.specs.Holds.{Visit, OpenShared}
-use Rattle.archive_shape_checking.specs.Kept.{Records, Advances}
+use Rattle.archive_shape.specs.Kept.{Records, Advances}
 use Rattle.archive_hash_checking.proofs.ItemChecks.{LeftFrom}
 use Rattle.archive_hash_checking.proofs.items.check_items.Given as goal
 

@@ -1,6 +1,6 @@
 use Rattle.std.proofs.Common.{rules, arith, ◌≡◌, ◌+◌, ◌-◌, ◌*◌, refl}
 use Rattle.archive_shape_layout.specs.Content.{place, tagged_items}
-use Rattle.archive_shape_checking.proofs.Ordered.{all_refused, all_left, first_fault, none_left}
+use Rattle.archive_shape.proofs.Ordered.{all_refused, all_left, first_fault, none_left}
 use Rattle.archive_hash_checking.proofs.ItemChecks.{item_next, items_none, place_checked, place_passed}
 use Rattle.archive_hash_checking.proofs.places.check_numbers.Goals.{then-controls-place-lt128+in_ok-check_number, else-controls-place-lt128}
 use Rattle.archive_hash_checking.proofs.places.check_numbers.Goals as goal

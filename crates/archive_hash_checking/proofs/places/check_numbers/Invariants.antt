@@ -1,7 +1,7 @@
 use Rattle.std.proofs.Common.{◌≡◌, ◌-◌, ◌*◌, List}
 use Rattle.archive_shape_layout.specs.Content.{Names, place}
 use Rattle.archive_shape_layout.specs.Holds.{Visit, OpenShared}
-use Rattle.archive_shape_checking.specs.Kept.{Kept, Records}
+use Rattle.archive_shape.specs.Kept.{Kept, Records}
 use Rattle.archive_hash_checking.proofs.ItemChecks.{LeftFrom}
 use Rattle.archive_hash_checking.proofs.places.check_numbers.Given as goal
 

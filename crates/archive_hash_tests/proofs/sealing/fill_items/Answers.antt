@@ -1,8 +1,8 @@
 use Rattle.std.proofs.Common.{◌+◌, ◌≤◌, refl, ap, length, arith, sym, subst}
 use Rattle.archive_shape_layout.specs.Shape.{size_of}
-use Rattle.archive_hash_walking.specs.Walks.{BegunTable, IsWritten, items_of}
-use Rattle.archive_hash_walking.proofs.Roots.{places_of_value}
-use Rattle.archive_hash_walking.proofs.Passed.{item_written}
+use Rattle.archive_hash_maps.specs.HashWalking.Walks.{BegunTable, IsWritten, items_of}
+use Rattle.archive_hash_maps.proofs.HashWalking.Roots.{places_of_value}
+use Rattle.archive_hash_maps.proofs.HashWalking.Passed.{item_written}
 use Rattle.archive_hash_tests.proofs.sealing.fill_items.Goals as goal
 
 pub loop-at-init : goal.loop-at-init

@@ -1,6 +1,6 @@
 use Rattle.std.proofs.Common.{ℕ, List}
-use Rattle.archive_hash_walking.specs.Walks.{BegunTable, IsWritten}
-use Rattle.archive_hash_walking.specs.Cursors.{HasItems}
+use Rattle.archive_hash_maps.specs.HashWalking.Walks.{BegunTable, IsWritten}
+use Rattle.archive_hash_maps.specs.HashWalking.Cursors.{HasItems}
 use Rattle.archive_hash_tests.proofs.sealing.fill_items.Given as goal
 
 abbrev pub invariant-loop-at : goal.invariant-loop-at

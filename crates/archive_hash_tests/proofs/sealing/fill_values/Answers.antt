@@ -1,8 +1,8 @@
 use Rattle.std.proofs.Common.{◌+◌, ◌≤◌, refl, ap, length, arith, sym, subst}
 use Rattle.archive_shape_layout.specs.Shape.{size_of}
-use Rattle.archive_hash_walking.specs.Walks.{BegunMap, HasValuesWritten, items_of}
-use Rattle.archive_hash_walking.proofs.Roots.{places_of_value}
-use Rattle.archive_hash_walking.proofs.Passed.{value_written}
+use Rattle.archive_hash_maps.specs.HashWalking.Walks.{BegunMap, HasValuesWritten, items_of}
+use Rattle.archive_hash_maps.proofs.HashWalking.Roots.{places_of_value}
+use Rattle.archive_hash_maps.proofs.HashWalking.Passed.{value_written}
 use Rattle.archive_hash_tests.proofs.sealing.fill_values.Goals as goal
 
 pub loop-at-init : goal.loop-at-init

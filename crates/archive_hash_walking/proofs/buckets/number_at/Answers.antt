@@ -1,5 +1,5 @@
 use Rattle.std.proofs.Common.{sym, ◌∙◌}
-use Rattle.archive_shape_checking.proofs.Words.{word_of_bytes}
+use Rattle.archive_shape.proofs.Words.{word_of_bytes}
 use Rattle.archive_hash_walking.proofs.buckets.number_at.Goals as goal
 
 pub returns-clause-value : goal.returns-clause-value

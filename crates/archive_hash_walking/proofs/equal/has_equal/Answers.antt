@@ -1,8 +1,8 @@
 use Rattle.std.proofs.Common.{◌∙◌, Some}
-use Rattle.archive_shape_layout.specs.Shape.Shapes.{no_shapes}
-use Rattle.archive_forms_reading.specs.Parts.{HasValue}
+use Rattle.archive_shape.specs.ShapeLayout.Shape.Shapes.{no_shapes}
+use Rattle.archive_forms_values.specs.Parts.{HasValue}
 use Rattle.archive_forms_comparing.specs.Compared.{OfBoth}
-use Rattle.archive_forms_tuples.specs.Fields.{field_position}
+use Rattle.archive_forms_values.specs.Fields.{field_position}
 use Rattle.archive_hash_walking.proofs.Entries.{entry_parts}
 use Rattle.archive_hash_walking.proofs.Refs.{at_ref, from_ref}
 use Rattle.archive_hash_walking.proofs.equal.has_equal.Goals as goal

@@ -1,6 +1,6 @@
 use Rattle.std.proofs.Common.{◌∙◌, ap}
-use Rattle.archive_forms_checking.specs.Tuples.{tuple2}
-use Rattle.archive_forms_reading.specs.Parts.{both}
+use Rattle.archive_forms_values.specs.Tuples.{tuple2}
+use Rattle.archive_forms_values.specs.Parts.{both}
 use Rattle.archive_hash_walking.specs.Equal.{KeyHashesTo, EqualSays}
 use Rattle.archive_hash_walking.proofs.Lookups.{found_there}
 use Rattle.archive_hash_walking.proofs.Entries.{entries_there}

@@ -1,6 +1,6 @@
 use Rattle.std.proofs.Common.{◌∙◌, ◌+◌, ◌*◌, ◌^◌, ◌<◌, ◌≤◌, length, map, All, sym, ap, subst, arith}
-use Rattle.archive_shape_layout.specs.Shape.{size_of}
-use Rattle.archive_forms_reading.specs.Parts.{HasValue}
+use Rattle.archive_shape.specs.ShapeLayout.Shape.{size_of}
+use Rattle.archive_forms_values.specs.Parts.{HasValue}
 use Rattle.archive_hash_walking.specs.Tables.{IsTableAt, full_places}
 use Rattle.archive_hash_walking.specs.Places.{held, full_place}
 use Rattle.archive_hash_walking.proofs.Read.{cap_fits}

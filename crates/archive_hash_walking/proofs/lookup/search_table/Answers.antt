@@ -1,7 +1,7 @@
 use Rattle.std.proofs.Common.{◌≡◌, ◌∙◌, ◌≤◌, ◌<◌, Some, None, true, slice_index, refl, sym, ap, subst, arith}
 use Rattle.std.proofs.lemmas.List.Elements.{All-contains}
-use Rattle.archive_shape_canonical.specs.Strides.{sixteens}
-use Rattle.archive_hash_places.specs.Search.{IsLookup}
+use Rattle.archive_hash_probing.specs.ShapeCanonical.Strides.{sixteens}
+use Rattle.archive_hash_probing.specs.Search.{IsLookup}
 use Rattle.archive_hash_walking.specs.Tables.{IsTableAt, item_position, item_positions}
 use Rattle.archive_hash_walking.specs.Places.{held, LooksUp, FindsAccepted, FindsTheOnly}
 use Rattle.archive_hash_walking.specs.Places.LooksUp.{has_places}

@@ -1,6 +1,6 @@
 use Rattle.std.proofs.Common.{◌∙◌, sym, subst, arith, take}
-use Rattle.archive_shape_layout.specs.Shape.Shapes.{no_shapes}
-use Rattle.archive_forms_tuples.specs.Fields.{field_position}
+use Rattle.archive_shape.specs.ShapeLayout.Shape.Shapes.{no_shapes}
+use Rattle.archive_forms_values.specs.Fields.{field_position}
 use Rattle.archive_hash_walking.specs.Walks.{IsKept, items_of}
 use Rattle.archive_hash_walking.proofs.Stays.{in_entries}
 use Rattle.archive_hash_walking.proofs.Passed.{first_item, keys_kept, value_stands}

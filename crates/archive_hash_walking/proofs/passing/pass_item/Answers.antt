@@ -1,5 +1,5 @@
 use Rattle.std.proofs.Common.{◌∙◌, ◌+◌, ◌≤◌, ◌∷◌, length, sym, ap, arith}
-use Rattle.archive_shape_layout.specs.Shape.{size_of}
+use Rattle.archive_shape.specs.ShapeLayout.Shape.{size_of}
 use Rattle.archive_hash_walking.proofs.Read.{cap_fits}
 use Rattle.archive_hash_walking.proofs.Roots.{controls_read}
 use Rattle.archive_hash_walking.proofs.Passed.{has_places, read_again, goes_on, none_passed, first_item, items_within}

@@ -1,8 +1,8 @@
 use Rattle.std.proofs.Common.{◌+◌, ◌*◌, length, map, refl, inl}
-use Rattle.archive_shape_layout.specs.Shape.{size_of}
+use Rattle.archive_shape.specs.ShapeLayout.Shape.{size_of}
 use Rattle.archive_shape_writing.specs.Writing.{WriterMembers}
 use Rattle.archive_forms_writing.proofs.Laying.{stopped_before}
-use Rattle.archive_hash_spelling.specs.Tables.{buckets, buckets_refused}
+use Rattle.archive_hash_writing.specs.Tables.{buckets, buckets_refused}
 use Rattle.archive_hash_writing.specs.Standing.{standing}
 use Rattle.archive_hash_writing.proofs.buckets.write_buckets.Goals as goal
 

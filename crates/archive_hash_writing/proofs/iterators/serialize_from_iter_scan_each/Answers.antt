@@ -1,9 +1,9 @@
 use Rattle.std.proofs.Common.{ℕ, ◌∙◌, List, Err, arith, ap, refl, sym, subst, inl, inr, length, rules}
 use Rattle.std.specs.Fn.{FnReturnsAt}
 use Rattle.archive_shape_writing.specs.Writing.{WriterMembers}
-use Rattle.archive_forms_spelling.specs.Serializing.{Serializes}
+use Rattle.archive_forms_writing.specs.FormsLaws.Serializing.{Serializes}
 use Rattle.archive_forms_writing.specs.Steps.{IsElement, StepTakes}
-use Rattle.archive_hash_places.specs.Loads.{IsLoadFactor}
+use Rattle.archive_hash_probing.specs.Loads.{IsLoadFactor}
 use Rattle.archive_hash_writing.specs.Claimed.{AreHashesOf, written_spelling}
 use Rattle.archive_hash_writing.proofs.Hashed.{hashes_even}
 use Rattle.archive_hash_writing.proofs.iterators.serialize_from_iter_scan_each.Goals as goal

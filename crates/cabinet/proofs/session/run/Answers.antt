@@ -29,7 +29,7 @@ returns-in-Ok-end_input-clause-all g c = λ r w.
     let end : g.R.Source.left c.loop-len.reader ≡ [] = c.in-Ok.ensures.end r c.if-len-eq0.true (omega arith) in
     c.in-Ok-end_input.ensures.ended w _ _ _ [] (same_left _ _ _ _ _ _ _ _ _ _ _ end (c.loop-len.invariant.progress r w))
 
--- nothing is said of a fault where there is none
+-- the clause about a fault states nothing where there is none
 pub returns-in-Ok-end_input-clause-fault : goal.returns-in-Ok-end_input-clause-fault
 returns-in-Ok-end_input-clause-fault g c = λ r w. tt
 

@@ -2,7 +2,7 @@ use Rattle.std.proofs.Common.{◌≡◌, ◌+◌, ◌<◌, ◌≤◌, ◌++◌, 
 use Rattle.std.specs.Fmt.{decimal}
 use Rattle.cabinet_text_bytes.proofs.number.put_digits.Given as goal
 
--- the digits of the rest, then those that stand already, are the number's
+-- the digits of the rest, then those that are written already, are the number's
 abbrev pub invariant-loop-rest : goal.invariant-loop-rest
 invariant-loop-rest l = record {
   below : l.rest < 2 ^ 64;

@@ -4,7 +4,7 @@ use Rattle.cabinet_text_grammar.specs.Spelling.{escaped}
 use Rattle.cabinet_text_bytes.proofs.Runs.{IsRun}
 use Rattle.cabinet_text_bytes.proofs.writing.write_escaped.Given as goal
 
--- what stands before `start` was written
+-- the bytes before `start` were written
 abbrev pub invariant-loop-end : goal.invariant-loop-end
 invariant-loop-end g l =
     let w = g.W.Writer in

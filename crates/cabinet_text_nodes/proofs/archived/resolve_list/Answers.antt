@@ -1,5 +1,5 @@
 use Rattle.std.proofs.Common.{rules, arith}
-use Rattle.cabinet_spelling.specs.Spelling.{node_spelling}
+use Rattle.cabinet_documents.specs.Spelling.{node_spelling}
 use Rattle.cabinet_text_nodes.proofs.Resolved.{vec_resolved}
 use Rattle.cabinet_text_nodes.proofs.archived.resolve_list.Goals as goal
 

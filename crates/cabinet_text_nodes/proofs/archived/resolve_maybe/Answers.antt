@@ -1,9 +1,9 @@
 use Rattle.std.proofs.Common.{rules, arith, ℕ, ◌+◌, ◌≤◌, length, refl, sym, ap, subst}
-use Rattle.archive_shape_references.specs.Bytes.{HasBytes, zeros}
-use Rattle.archive_forms_spelling.proofs.Levels.{option_box_sized}
+use Rattle.archive_shape.specs.Bytes.{HasBytes, zeros}
+use Rattle.archive_forms_laws.proofs.Levels.{option_box_sized}
 use Rattle.archive_forms_writing.proofs.Options.{value_place, some_resolved, none_resolved}
 use Rattle.cabinet_documents.specs.Node.{node_shape}
-use Rattle.cabinet_spelling.specs.Spelling.{boxed_shape, boxed_spelling, node_spelling}
+use Rattle.cabinet_documents.specs.Spelling.{boxed_shape, boxed_spelling, node_spelling}
 use Rattle.cabinet_text_nodes.specs.Archived.{tree_within}
 use Rattle.cabinet_text_nodes.specs.View.{node_tree}
 use Rattle.cabinet_text_nodes.proofs.Resolved.{box_resolved, unkept_resolved}

@@ -4,6 +4,6 @@ use Rattle.cabinet_text_nodes.specs.Answers.{place_by}
 use Rattle.cabinet_text_nodes.specs.View.{node_pairs}
 use Rattle.cabinet_text_nodes.proofs.change.place_of.Given as goal
 
--- the key stands nowhere before this place
+-- the key is not before this place
 abbrev pub invariant-loop-place : goal.invariant-loop-place
 invariant-loop-place l = place_by (node_pairs l.pairs) l.key ≡ option_map (λ i. l.place + i) (place_by (node_pairs (drop l.place l.pairs)) l.key)

@@ -5,7 +5,7 @@ use Rattle.std.specs.Prelude.{string_bytes}
 use Rattle.archive_shape_layout.specs.Shape.Shape.{number, truth, text, shared, option, box, vector}
 use Rattle.archive_shape_layout.specs.Shape.Pointee.{sized, str}
 use Rattle.archive_shape_layout.specs.Value.Value.{integer, boolean, string}
-use Rattle.archive_shape_canonical.specs.Sharing.{erased}
+use Rattle.archive_forms_laws.specs.ShapeCanonical.Sharing.{erased}
 use Rattle.cabinet_text_grammar.specs.Tree as tree
 use Rattle.cabinet_documents.specs.Node.{node_shape, KnowsNode}
 use Rattle.cabinet_text_nodes.specs.declared.node.Node.TheVariants as node

@@ -1,6 +1,6 @@
 use Rattle.std.proofs.Common.{rules}
 use Rattle.cabinet_text_nodes.specs.View.{node_tree}
-use Rattle.cabinet_text_laws.proofs.Steps.{fault_after}
+use Rattle.cabinet_text_grammar.proofs.Steps.{fault_after}
 use Rattle.cabinet_text_reading.proofs.text.end_document.Goals as goal
 
 pub returns-in-Some-clause-fault : goal.returns-in-Some-clause-fault

@@ -1,7 +1,7 @@
 use Rattle.std.proofs.Common.{arith, ap, length, length-append, ◌∷◌}
 use Rattle.cabinet_text_grammar.specs.Due.{due_in}
-use Rattle.cabinet_text_stack.specs.View.{open_at, state_of}
-use Rattle.cabinet_text_laws.proofs.Steps.{something_due, one_more, few, fault_inside}
+use Rattle.cabinet_text_reading.specs.View.{open_at, state_of}
+use Rattle.cabinet_text_grammar.proofs.Steps.{something_due, one_more, few, fault_inside}
 use Rattle.cabinet_text_reading.proofs.text.read_text.Goals as goal
 
 pub returns-in-Err-clause-fault : goal.returns-in-Err-clause-fault

@@ -2,11 +2,11 @@ use Rattle.std.proofs.Common.{◌≡◌, ap, sym, ◌∙◌, subst, ℕ, Vec, Gl
 use Rattle.std.proofs.lemmas.Result.{err_from_is_err_and}
 use Rattle.cabinet_text_grammar.specs.Due.{a_head, due_in, Admits}
 use Rattle.cabinet_text_grammar.proofs.Faults.{admitted_item}
-use Rattle.cabinet_text_laws.proofs.Verdicts.{memory_first}
+use Rattle.cabinet_text_grammar.proofs.Verdicts.{memory_first}
 use Rattle.cabinet_text_nodes.specs.View.{item_of}
-use Rattle.cabinet_text_stack.specs.View.{stack_of}
-use Rattle.cabinet_text_stack.specs.declared.frame.Frame.{Frame}
-use Rattle.cabinet_text_stack.proofs.Stacks.{head_told, counted_items}
+use Rattle.cabinet_text_reading.specs.View.{stack_of}
+use Rattle.cabinet_text_reading.specs.declared.stack.frame.Frame.{Frame}
+use Rattle.cabinet_text_reading.proofs.Stacks.{head_told, counted_items}
 use Rattle.cabinet_text_reading.proofs.text.take_head_line.Goals as goal
 
 -- the depth that the length of the stack is

@@ -3,7 +3,7 @@ use Rattle.std.proofs.lemmas.Result.{err_from_is_err_and, IfOk-weaker}
 use Rattle.cabinet_text_grammar.specs.Frame.{keys_after}
 use Rattle.cabinet_text_grammar.specs.Item.{key_item}
 use Rattle.cabinet_text_nodes.specs.View.{node_pairs}
-use Rattle.cabinet_text_stack.specs.View.{kind_of, entries_of}
+use Rattle.cabinet_text_reading.specs.View.{kind_of, entries_of}
 use Rattle.cabinet_text_reading.proofs.text.take_key_line.Goals as goal
 
 pub returns-in_err-argument-clause-fault : goal.returns-in_err-argument-clause-fault

@@ -1,6 +1,6 @@
 use Rattle.std.proofs.lemmas.Result.{err_from_is_err_and}
 use Rattle.archive_shape_writing.proofs.Joined.{appends_after, failed_first}
-use Rattle.cabinet_text_grammar.specs.Spelling.{escaped}
+use Rattle.cabinet_text_bytes.specs.TextGrammar.Spelling.{escaped}
 use Rattle.cabinet_text_writing.proofs.answer.write_key.Goals as goal
 
 pub returns-in_err-write : goal.returns-in_err-write

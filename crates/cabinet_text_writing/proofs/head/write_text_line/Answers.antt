@@ -1,6 +1,6 @@
 use Rattle.std.proofs.Common.{◌++◌, codes}
 use Rattle.archive_shape_writing.proofs.Joined.{appends_after}
-use Rattle.cabinet_text_grammar.specs.Spelling.{escaped}
+use Rattle.cabinet_text_bytes.specs.TextGrammar.Spelling.{escaped}
 use Rattle.cabinet_text_writing.proofs.head.write_text_line.Goals as goal
 
 pub returns : goal.returns

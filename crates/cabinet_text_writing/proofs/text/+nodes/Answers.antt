@@ -2,10 +2,10 @@ use Rattle.std.proofs.Common.{refl, sym, ap, ◌∙◌, inl, inr}
 use Rattle.std.proofs.lemmas.List.{take_all}
 use Rattle.std.proofs.lemmas.Result.{err_from_is_err_and}
 use Rattle.archive_shape_writing.proofs.Joined.{appends_after, failed_first}
-use Rattle.cabinet_text_grammar.specs.Tree as tree
-use Rattle.cabinet_text_grammar.specs.Keys.{ordered, hashed, kept}
-use Rattle.cabinet_text_grammar.specs.Item.{items_of, items_of_pairs}
-use Rattle.cabinet_text_grammar.specs.Spelling.{lines_of, ended, text_of}
+use Rattle.cabinet_text_bytes.specs.TextGrammar.Tree as tree
+use Rattle.cabinet_text_bytes.specs.TextGrammar.Keys.{ordered, hashed, kept}
+use Rattle.cabinet_text_bytes.specs.TextGrammar.Item.{items_of, items_of_pairs}
+use Rattle.cabinet_text_bytes.specs.TextGrammar.Spelling.{lines_of, ended, text_of}
 use Rattle.cabinet_text_nodes.specs.declared.node.Node.TheVariants.{Maybe}
 use Rattle.cabinet_text_nodes.specs.View.{node_tree, node_trees, node_pairs}
 use Rattle.cabinet_text_nodes.proofs.Views.{node_tree-some, node_tree-list, node_tree-ordered, node_tree-hashed, node_tree-kept}

@@ -1,7 +1,7 @@
 use Rattle.std.proofs.Common.{arith, ◌≡◌, ◌+◌, ◌*◌, max, refl, ◌∙◌}
-use Rattle.archive_shape_layout.specs.Shape.{size_of, align_of}
-use Rattle.archive_shape_layout.specs.Content.{keys_offset, values_offset, node_size, links_offset, link_node_size, link_node_align}
-use Rattle.archive_forms_checking.proofs.Claimed.{elements_cut}
+use Rattle.archive_btree_layout.specs.ShapeLayout.Shape.{size_of, align_of}
+use Rattle.archive_btree_layout.specs.ShapeLayout.Content.{keys_offset, values_offset, node_size, links_offset, link_node_size, link_node_align}
+use Rattle.archive_forms_values.proofs.Claimed.{elements_cut}
 use Rattle.archive_btree_nodes.proofs.Offsets.{field_behind, field_at}
 use Rattle.archive_btree_nodes.proofs.Layouts.{layout_is, links_within}
 use Rattle.archive_btree_nodes.proofs.layout.NodeLayout.of.Goals as goal

@@ -1,10 +1,10 @@
 use Rattle.std.proofs.Common.{◌+◌, ◌≤◌, [], length, refl, take, arith}
-use Rattle.archive_shape_layout.specs.Shape.{size_of}
-use Rattle.archive_btree_layout.specs.Tree.{items}
-use Rattle.archive_btree_searching.specs.Nodes.{place_of}
-use Rattle.archive_btree_searching.proofs.Ranged.{no_run}
+use Rattle.archive_shape.specs.ShapeLayout.Shape.{size_of}
+use Rattle.archive_btree_nodes.specs.BtreeLayout.Tree.{items}
+use Rattle.archive_btree_nodes.specs.SearchingNodes.{place_of}
+use Rattle.archive_btree_nodes.proofs.Ranged.{no_run}
 use Rattle.archive_forms_comparing.proofs.Seen.{option_matched}
-use Rattle.archive_forms_reading.specs.Parts.{HasValue}
+use Rattle.archive_forms_values.specs.Parts.{HasValue}
 use Rattle.archive_btree_walking.proofs.Sealed.{walk_goes_on, rest_among, first_among, keys_before, values_within, matched_some}
 use Rattle.archive_btree_walking.proofs.sealing.passing.pass_entry.Goals as goal
 

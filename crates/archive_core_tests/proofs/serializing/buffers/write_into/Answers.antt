@@ -1,5 +1,5 @@
 use Rattle.std.proofs.Common.{ℕ, ap, refl, ◌∙◌}
-use Rattle.archive_forms_spelling.specs.State.{initial}
+use Rattle.archive_forms_values.specs.FormsLaws.State.{initial}
 use Rattle.archive_core_serializing.specs.declared.buffer.Buffer.{Buffer}
 use Rattle.archive_core_tests.proofs.serializing.buffers.write_into.Goals as goal
 

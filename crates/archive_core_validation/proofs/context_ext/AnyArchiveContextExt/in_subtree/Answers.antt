@@ -1,6 +1,6 @@
 use Rattle.std.proofs.Common.{◌∙◌}
 use Rattle.archive_shape_layout.specs.Shape.Pointee.{sized}
-use Rattle.archive_shape_checking.specs.Questions.{pointee_span}
+use Rattle.archive_shape.specs.Questions.{pointee_span}
 use Rattle.archive_core_validation.proofs.Claiming.{resized}
 use Rattle.archive_core_validation.proofs.context_ext.AnyArchiveContextExt.in_subtree.Goals as goal
 

@@ -1,5 +1,5 @@
 use Rattle.std.proofs.Common.{rules, refl}
-use Rattle.archive_shape_checking.proofs.Claims.{place_unanswered, depth_unanswered}
+use Rattle.archive_shape.proofs.Claims.{place_unanswered, depth_unanswered}
 use Rattle.archive_core_validation.proofs.Claiming.{is_claimed, last_push, unclaimed, refused_inside, answered_inside}
 use Rattle.archive_core_validation.proofs.context_ext.AnyArchiveContextExt.in_subtree_raw.Goals as goal
 

@@ -1,5 +1,5 @@
 use Rattle.std.proofs.Common.{sym}
-use Rattle.archive_forms_ordering.specs.Orders.{no_fields_order, more_fields_order, tuple_order}
+use Rattle.archive_forms_laws.specs.Orders.{no_fields_order, more_fields_order, tuple_order}
 use Rattle.archive_forms_comparing.proofs.Seen.{by_parts}
 use Rattle.archive_forms_comparing.proofs.entry.EntryArchivedOrd.cmp.Goals as goal
 

@@ -1,4 +1,4 @@
-use Rattle.archive_forms_ordering.specs.Orders.{truth_equality}
+use Rattle.archive_forms_laws.specs.Orders.{truth_equality}
 use Rattle.archive_forms_comparing.proofs.leaf.BoolArchivedEq.eq.Goals as goal
 
 pub returns : goal.returns

@@ -1,5 +1,5 @@
 use Rattle.std.proofs.Common.{◌∙◌}
-use Rattle.archive_forms_ordering.specs.Orders.{integer_order}
+use Rattle.archive_forms_laws.specs.Orders.{integer_order}
 use Rattle.archive_forms_comparing.proofs.leaf.NonZeroI8ArchivedOrd.cmp.Goals as goal
 
 pub returns : goal.returns

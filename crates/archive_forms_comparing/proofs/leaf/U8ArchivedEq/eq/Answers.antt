@@ -1,4 +1,4 @@
-use Rattle.archive_forms_ordering.specs.Orders.{natural_equality}
+use Rattle.archive_forms_laws.specs.Orders.{natural_equality}
 use Rattle.archive_forms_comparing.proofs.leaf.U8ArchivedEq.eq.Goals as goal
 
 pub returns : goal.returns

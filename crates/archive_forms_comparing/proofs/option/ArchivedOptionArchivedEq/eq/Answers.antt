@@ -1,6 +1,6 @@
 use Rattle.std.proofs.Common.{sym}
 use Rattle.std.specs.Option.{option_eq}
-use Rattle.archive_forms_ordering.specs.Orders.{option_equality}
+use Rattle.archive_forms_laws.specs.Orders.{option_equality}
 use Rattle.archive_forms_comparing.proofs.Seen.{by_parts}
 use Rattle.archive_forms_comparing.proofs.option.ArchivedOptionArchivedEq.eq.Goals as goal
 

@@ -1,6 +1,6 @@
 use Rattle.std.proofs.Common.{sym}
 use Rattle.std.specs.Option.{option_cmp}
-use Rattle.archive_forms_ordering.specs.Orders.{option_order}
+use Rattle.archive_forms_laws.specs.Orders.{option_order}
 use Rattle.archive_forms_comparing.proofs.Seen.{by_parts}
 use Rattle.archive_forms_comparing.proofs.option.ArchivedOptionArchivedOrd.cmp.Goals as goal
 

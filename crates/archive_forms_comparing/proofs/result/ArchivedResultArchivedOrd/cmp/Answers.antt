@@ -1,6 +1,6 @@
 use Rattle.std.proofs.Common.{sym}
 use Rattle.std.specs.Result.{result_cmp}
-use Rattle.archive_forms_ordering.specs.Orders.{result_order}
+use Rattle.archive_forms_laws.specs.Orders.{result_order}
 use Rattle.archive_forms_comparing.proofs.Seen.{by_parts, by_kinds}
 use Rattle.archive_forms_comparing.proofs.result.ArchivedResultArchivedOrd.cmp.Goals as goal
 

@@ -1,5 +1,5 @@
 use Rattle.std.proofs.Common.{◌&&◌, true, sym, ◌∙◌}
-use Rattle.archive_forms_ordering.specs.Views.{elements_of, head_of}
+use Rattle.archive_forms_laws.specs.Views.{elements_of, head_of}
 use Rattle.archive_forms_comparing.proofs.Seen.{by_parts}
 use Rattle.archive_forms_comparing.proofs.Ordered.{equal_more, equal_end}
 use Rattle.archive_forms_comparing.proofs.tuple1.ArchivedTuple1ArchivedEq.eq.Goals as goal

@@ -1,7 +1,7 @@
 use Rattle.std.proofs.Common.{sym, ◌∙◌}
 use Rattle.std.specs.declared.cmp.Ordering.TheVariants.{Equal}
 use Rattle.std.specs.Ordering.{ordering_then}
-use Rattle.archive_forms_ordering.specs.Views.{elements_of, head_of, rest_of}
+use Rattle.archive_forms_laws.specs.Views.{elements_of, head_of, rest_of}
 use Rattle.archive_forms_comparing.proofs.Seen.{by_parts}
 use Rattle.archive_forms_comparing.proofs.Ordered.{compare_more, compare_end}
 use Rattle.archive_forms_comparing.proofs.tuple2.ArchivedTuple2ArchivedOrd.cmp.Goals as goal

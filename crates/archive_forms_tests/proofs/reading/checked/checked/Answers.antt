@@ -1,6 +1,6 @@
 use Rattle.std.proofs.Common.{rules, arith, [], refl}
 use Rattle.archive_shape_layout.specs.Visited.AllStand.{none_stand}
-use Rattle.archive_forms_reading.proofs.Accepted.{accepted_has_value}
+use Rattle.archive_forms_values.proofs.Accepted.{accepted_has_value}
 use Rattle.archive_forms_tests.proofs.reading.checked.checked.Goals as goal
 
 pub returns : goal.returns

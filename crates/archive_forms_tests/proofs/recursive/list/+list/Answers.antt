@@ -1,5 +1,5 @@
 use Rattle.std.proofs.Common.{arith}
-use Rattle.archive_forms_spelling.proofs.Levels.{option_box_sized}
+use Rattle.archive_forms_laws.proofs.Levels.{option_box_sized}
 use Rattle.archive_forms_tests.specs.Recursive.{list_shape}
 use Rattle.archive_forms_tests.proofs.Named.{list_checked}
 use Rattle.archive_forms_tests.proofs.recursive.list.+list.Goals as goal

@@ -1,8 +1,8 @@
 use Rattle.std.proofs.Common.{◌+◌, ◌≤◌, [], length, All, refl, sym, ap, subst}
 use Rattle.archive_shape_layout.specs.Holds.{Region}
 use Rattle.archive_shape_layout.proofs.Rooted.{inside_high}
-use Rattle.archive_forms_layout.specs.Text.{HasText}
-use Rattle.archive_forms_layout.proofs.Held.{held_is_text_law}
+use Rattle.archive_forms_laws.specs.Text.{HasText}
+use Rattle.archive_forms_laws.proofs.Held.{held_is_text_law}
 use Rattle.archive_forms_tests.proofs.text.checked.checked.Goals as goal
 
 pub returns : goal.returns

@@ -1,5 +1,5 @@
 use Rattle.std.proofs.Common.{rules, refl}
-use Rattle.archive_forms_spelling.specs.State.{initial}
+use Rattle.archive_forms_laws.specs.State.{initial}
 use Rattle.archive_forms_tests.proofs.writing.collections.vector_of_one.Goals as goal
 
 pub serialize_from_slice-requires-clause-state : goal.serialize_from_slice-requires-clause-state

@@ -1,5 +1,5 @@
 use Rattle.std.proofs.Common.{refl}
-use Rattle.archive_forms_spelling.specs.State.{initial}
+use Rattle.archive_forms_laws.specs.State.{initial}
 use Rattle.archive_forms_tests.proofs.writing.collections.written_with_claim.Goals as goal
 
 pub serialize_from_iter-answer-requires-clause-state : goal.serialize_from_iter-answer-requires-clause-state

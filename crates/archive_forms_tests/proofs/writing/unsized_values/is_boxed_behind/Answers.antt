@@ -1,5 +1,5 @@
 use Rattle.std.proofs.Common.{rules, refl}
-use Rattle.archive_forms_spelling.specs.State.{initial}
+use Rattle.archive_forms_laws.specs.State.{initial}
 use Rattle.archive_forms_tests.proofs.writing.unsized_values.is_boxed_behind.Goals as goal
 
 pub serialize_from_ref-requires-clause-state : goal.serialize_from_ref-requires-clause-state

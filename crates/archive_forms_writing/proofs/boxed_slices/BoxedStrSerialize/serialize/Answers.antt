@@ -1,8 +1,8 @@
 use Rattle.std.proofs.Common.{ℕ, List, Ok, Err, ap, subst}
 use Rattle.archive_shape_writing.specs.Writing.{WriterMembers}
-use Rattle.archive_forms_spelling.specs.Serializing.{Serializes}
-use Rattle.archive_forms_spelling.specs.Texts.{boxed_text_spelling}
-use Rattle.archive_forms_reading.specs.declared.resolving.BoxResolver.{BoxResolver}
+use Rattle.archive_forms_laws.specs.Serializing.{Serializes}
+use Rattle.archive_forms_laws.specs.Texts.{boxed_text_spelling}
+use Rattle.archive_forms_values.specs.declared.reading.resolving.BoxResolver.{BoxResolver}
 use Rattle.archive_forms_writing.proofs.boxed_slices.BoxedStrSerialize.serialize.Goals as goal
 
 pub returns-in-Ok : goal.returns-in-Ok

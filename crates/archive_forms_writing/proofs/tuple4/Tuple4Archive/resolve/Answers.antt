@@ -1,8 +1,8 @@
 use Rattle.std.proofs.Common.{ap, ◌+◌}
-use Rattle.archive_shape_layout.specs.Shape.Shape.{tuple}
-use Rattle.archive_shape_canonical.specs.FirstFit.{first_fit}
-use Rattle.archive_forms_spelling.specs.Fields.{no_fields, more_fields, struct_spelling}
-use Rattle.archive_forms_spelling.specs.Serializing.{CanResolve}
+use Rattle.archive_shape.specs.ShapeLayout.Shape.Shape.{tuple}
+use Rattle.archive_forms_laws.specs.ShapeCanonical.FirstFit.{first_fit}
+use Rattle.archive_forms_laws.specs.Fields.{no_fields, more_fields, struct_spelling}
+use Rattle.archive_forms_laws.specs.Serializing.{CanResolve}
 use Rattle.archive_forms_writing.specs.Fields.{field_at}
 use Rattle.archive_forms_writing.proofs.Structs.{placed_none, placed_can, placed_next, placed_stopped, placed_all}
 use Rattle.archive_forms_writing.proofs.tuple4.Tuple4Archive.resolve.Goals as goal

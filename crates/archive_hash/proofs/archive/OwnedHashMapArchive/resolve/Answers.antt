@@ -1,5 +1,5 @@
 use Rattle.std.proofs.Common.{rules}
-use Rattle.archive_hash_keys.specs.Inputs.{input_hash}
+use Rattle.archive_hash_probing.specs.Inputs.{input_hash}
 use Rattle.archive_hash.proofs.Resolved.{entries_resolve}
 use Rattle.archive_hash.proofs.archive.OwnedHashMapArchive.resolve.Goals as goal
 

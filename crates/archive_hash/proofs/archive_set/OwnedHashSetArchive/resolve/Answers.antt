@@ -1,9 +1,9 @@
 use Rattle.std.proofs.Common.{rules, ◌∙◌, sym}
 use Rattle.std.proofs.lemmas.List.{length-map}
-use Rattle.archive_shape_layout.specs.Shape.Shape.{tuple}
-use Rattle.archive_shape_layout.specs.Shape.Shapes.{no_shapes}
-use Rattle.archive_forms_spelling.specs.Fields.{unit_spelling}
-use Rattle.archive_hash_keys.specs.Inputs.{input_hash}
+use Rattle.archive_shape.specs.ShapeLayout.Shape.Shape.{tuple}
+use Rattle.archive_shape.specs.ShapeLayout.Shape.Shapes.{no_shapes}
+use Rattle.archive_forms_laws.specs.Fields.{unit_spelling}
+use Rattle.archive_hash_probing.specs.Inputs.{input_hash}
 use Rattle.archive_hash.specs.Owned.{key_entries}
 use Rattle.archive_hash.proofs.Resolved.{entries_resolve}
 use Rattle.archive_hash.proofs.archive_set.OwnedHashSetArchive.resolve.Goals as goal

@@ -1,6 +1,6 @@
 use Rattle.std.proofs.Common.{◌≡◌, List, [], ◌∷◌, ℕ, take, MatchOption, sym, subst}
-use Rattle.archive_shape_layout.specs.Shape.Shapes.{no_shapes}
-use Rattle.archive_forms_tuples.specs.Fields.{field_position}
+use Rattle.archive_shape.specs.ShapeLayout.Shape.Shapes.{no_shapes}
+use Rattle.archive_forms_values.specs.Fields.{field_position}
 use Rattle.archive_hash_walking.specs.Walks.{GoesOn, HasValuesWritten, IsKept}
 use Rattle.archive_hash_walking.proofs.cursors.IterMut.advance.Goals as goal
 

@@ -2,7 +2,7 @@ use Rattle.std.proofs.Common.{◌≡◌, ap, sym, ◌∙◌}
 use Rattle.std.specs.Ordering.{nat_cmp}
 use Rattle.std.specs.Int.{w32, from_le_bytes}
 use Rattle.archive_shape_layout.specs.Bytes.{window}
-use Rattle.archive_shape_native.proofs.Reading.{read_number}
+use Rattle.archive_shape_layout.proofs.NumberReading.{read_number}
 use Rattle.archive_shape_tests.proofs.shape.keys.compare_number.Goals as goal
 
 pub returns : goal.returns

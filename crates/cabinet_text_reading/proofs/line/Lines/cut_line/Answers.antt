@@ -1,6 +1,6 @@
 use Rattle.std.proofs.Common.{◌≡◌, ◌<◌, ◌++◌, ◌∷◌, length, sym, ap, ◌∙◌, append_assoc, arith, rules}
 use Rattle.std.proofs.lemmas.Bool.Decides.{nat_tests}
-use Rattle.cabinet_text_reading.proofs.Lines.{longest_behind, line_first, not_utf8_first, no_newline_first, nothing_left}
+use Rattle.cabinet_text_reading.proofs.LineLemmas.{longest_behind, line_first, not_utf8_first, no_newline_first, nothing_left}
 use Rattle.cabinet_text_reading.proofs.line.Lines.cut_line.Goals as goal
 
 pub invariant_of-result : goal.invariant_of-result

@@ -2,7 +2,7 @@ use Rattle.std.proofs.Common.{◌≡◌, []}
 use Rattle.std.specs.Prelude.{slice_get}
 use Rattle.cabinet_text_grammar.specs.Due.{nothing_more}
 use Rattle.cabinet_text_grammar.specs.Fault.{pieces_of, IsFirstCause}
-use Rattle.cabinet_text_reading.proofs.Lines.{at_due}
+use Rattle.cabinet_text_reading.proofs.LineLemmas.{at_due}
 use Rattle.cabinet_text_reading.proofs.line.Lines.fault_after.Goals as goal
 
 pub returns-in-Err : goal.returns-in-Err

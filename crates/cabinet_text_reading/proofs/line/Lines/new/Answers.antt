@@ -1,5 +1,5 @@
 use Rattle.std.proofs.Common.{rules}
-use Rattle.cabinet_text_reading.proofs.Lines.{longest_whole, longest_valid}
+use Rattle.cabinet_text_reading.proofs.LineLemmas.{longest_whole, longest_valid}
 use Rattle.cabinet_text_reading.proofs.line.Lines.new.Goals as goal
 
 pub invariant_of-t-8 : goal.invariant_of-t-8

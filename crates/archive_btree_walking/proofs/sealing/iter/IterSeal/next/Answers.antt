@@ -1,5 +1,5 @@
 use Rattle.std.proofs.Common.{subst}
-use Rattle.archive_btree_searching.specs.Nodes.{place_of}
+use Rattle.archive_btree_nodes.specs.SearchingNodes.{place_of}
 use Rattle.archive_btree_walking.specs.Seals.{IsLent}
 use Rattle.archive_btree_walking.proofs.sealing.iter.IterSeal.next.Goals as goal
 

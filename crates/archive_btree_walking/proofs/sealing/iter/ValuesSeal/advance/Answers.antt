@@ -1,5 +1,5 @@
 use Rattle.std.proofs.Common.{refl}
-use Rattle.archive_btree_searching.specs.Nodes.{place_of}
+use Rattle.archive_btree_nodes.specs.SearchingNodes.{place_of}
 use Rattle.archive_btree_walking.proofs.sealing.iter.ValuesSeal.advance.Goals as goal
 
 pub returns-in-Some-clause-steps : goal.returns-in-Some-clause-steps

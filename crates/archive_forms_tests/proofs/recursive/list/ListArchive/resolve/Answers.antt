@@ -1,9 +1,9 @@
 use Rattle.std.proofs.Common.{rules, arith, ℕ, ◌+◌, ◌≤◌, length, refl, sym, subst}
 use Rattle.archive_shape_layout.specs.Shape.Shape.{box}
 use Rattle.archive_shape_layout.specs.Shape.Pointee.{sized}
-use Rattle.archive_shape_references.specs.Bytes.{HasBytes, zeros}
-use Rattle.archive_forms_spelling.specs.Levels.{levels_spelling}
-use Rattle.archive_forms_spelling.proofs.Levels.{option_box_sized}
+use Rattle.archive_shape.specs.Bytes.{HasBytes, zeros}
+use Rattle.archive_forms_laws.specs.Levels.{levels_spelling}
+use Rattle.archive_forms_laws.proofs.Levels.{option_box_sized}
 use Rattle.archive_forms_writing.proofs.Options.{value_place, some_resolved, none_resolved}
 use Rattle.archive_forms_tests.specs.Recursive.{list_shape}
 use Rattle.archive_forms_tests.specs.Lists.{list_next, links, linked_spelling, list_level, no_list}

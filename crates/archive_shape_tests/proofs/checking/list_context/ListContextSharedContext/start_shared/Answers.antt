@@ -1,9 +1,9 @@
 use Rattle.std.proofs.Common.{◌≡◌, ℕ, List, false, true, ap, ◌∙◌, refl, arith}
 use Rattle.archive_shape_layout.specs.RuntimeShape.{pointee_of}
-use Rattle.archive_shape_checking.specs.PartFault.{Entry}
-use Rattle.archive_shape_checking.specs.PartFault.Differs.{other_shape, other_length}
-use Rattle.archive_shape_checking.specs.Kept.{Kept, Seen}
-use Rattle.archive_shape_checking.specs.declared.context.PushedRange.{PushedRange}
+use Rattle.archive_shape.specs.PartFault.{Entry}
+use Rattle.archive_shape.specs.PartFault.Differs.{other_shape, other_length}
+use Rattle.archive_shape.specs.Kept.{Kept, Seen}
+use Rattle.archive_shape.specs.declared.checking.context.PushedRange.{PushedRange}
 use Rattle.archive_shape_tests.specs.declared.checking.list_context.Met.{Met}
 use Rattle.archive_shape_tests.proofs.Listed.{FoundAt, listed, listed_none, listed_more, found_entry, same_entry}
 use Rattle.archive_shape_tests.proofs.checking.list_context.ListContextSharedContext.start_shared.Goals as goal

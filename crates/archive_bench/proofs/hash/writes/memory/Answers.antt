@@ -1,0 +1,9 @@
+use Rattle.std.proofs.Common.{ℕ, ap, refl, ◌∙◌, Vec, vec_len}
+use Rattle.std.specs.Global.{Global}
+use Rattle.archive_forms_values.specs.FormsLaws.State.{initial}
+use Rattle.archive_bench.proofs.hash.writes.memory.Goals as goal
+
+pub returns-clause-state : goal.returns-clause-state
+returns-clause-state c =
+    let len_of : Vec ℕ Global → ℕ = λ v. vec_len v in
+    record { state = initial; is_at = record { stands = ap len_of c.new-2.ensures.writer ∙ c.new.ensures.len; knows = λ key. refl } }

@@ -1,0 +1,23 @@
+-- The layout of maps of texts to numbers.
+use Rattle.std.specs.Prelude.{false, ⊤}
+use Rattle.std.specs.Int.{w64}
+use Rattle.archive_shape.specs.ShapeLayout.Shape.{Shape}
+use Rattle.archive_shape.specs.ShapeLayout.Shape.Shape.{number, text, tree}
+use Rattle.archive_shape.specs.ShapeLayout.Content.{Names}
+use Rattle.archive_forms_values.specs.Parts.{both}
+
+abbrev pub text_shape : Shape
+text_shape = text
+
+abbrev pub number_shape : Shape
+number_shape = number w64 false
+
+abbrev pub map_shape : Shape
+map_shape = tree 5 text_shape number_shape
+
+-- no names are in it
+abbrev pub known : Names → Type 0
+known _ = ⊤
+
+abbrev pub map_known : Names → Type 0
+map_known = both known known

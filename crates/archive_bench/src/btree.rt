@@ -1,0 +1,4 @@
+//! Archived search trees that are written, walked and searched, for the benchmark to time.
+
+mod reads;
+mod writes;

@@ -1,4 +1,0 @@
-use Rattle.archive_btree.proofs.nodes.NodeWriterNodeStepTuple2RefRef.write_inner.Goals as goal
-
-pub returns : goal.returns
-returns g c = c.write_inner_each.ensures

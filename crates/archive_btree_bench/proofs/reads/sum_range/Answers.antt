@@ -1,5 +1,0 @@
-use Rattle.archive_btree_bench.proofs.Read.{rest_there}
-use Rattle.archive_btree_bench.proofs.reads.sum_range.Goals as goal
-
-pub loop-key-preserved : goal.loop-key-preserved
-loop-key-preserved c = rest_there _ _ _ c.in-Some.ensures.steps c.loop-key.invariant

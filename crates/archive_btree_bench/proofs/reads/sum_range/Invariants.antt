@@ -1,8 +1,0 @@
-use Rattle.std.proofs.Common.{All}
-use Rattle.archive_btree_walking.specs.Refs.{IsThere}
-use Rattle.archive_btree_bench.specs.Texts.{text_shape, number_shape, known}
-use Rattle.archive_btree_bench.proofs.reads.sum_range.Given as goal
-
--- values stand at the entries that are left
-abbrev pub invariant-loop-key : goal.invariant-loop-key
-invariant-loop-key l = All (IsThere text_shape number_shape known known) l.key-iterator

@@ -1,0 +1,11 @@
+pub mod Compared
+pub mod Equality
+pub mod Fed
+pub mod Found
+pub mod Held
+pub mod Keyed
+pub mod Matched
+pub mod Read
+pub mod Same
+pub mod SealedCalls
+pub mod Visited

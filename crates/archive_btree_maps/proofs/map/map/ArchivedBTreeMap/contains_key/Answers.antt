@@ -1,0 +1,9 @@
+use Rattle.std.proofs.Common.{◌∙◌, sym}
+use Rattle.archive_btree_walking.proofs.Refs.{same_some, found_some}
+use Rattle.archive_btree_maps.proofs.map.map.ArchivedBTreeMap.contains_key.Goals as goal
+
+pub returns-clause-answers : goal.returns-clause-answers
+returns-clause-answers g c t order h q = c.is_some.ensures ∙ same_some _ _ (c.search_key.ensures.answers t order h q).0
+
+pub returns-clause-found : goal.returns-clause-found
+returns-clause-found g c t h y = found_some c.search_key.result.0 _ _ (sym c.is_some.ensures ∙ y) (c.search_key.ensures.found t h)

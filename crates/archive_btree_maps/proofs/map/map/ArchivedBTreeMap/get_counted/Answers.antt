@@ -1,0 +1,29 @@
+use Rattle.std.proofs.Common.{◌∙◌, Some, ap}
+use Rattle.archive_btree_nodes.specs.BtreeLayout.Descent.{descend}
+use Rattle.archive_btree_walking.specs.Refs.{value_at}
+use Rattle.archive_btree_walking.proofs.Refs.{ref_is, found_at, none_found, finds_some}
+use Rattle.archive_btree_walking.proofs.Held.{found_there}
+use Rattle.archive_btree_nodes.specs.BtreeLayout.Tree.{items}
+use Rattle.archive_forms_values.specs.Parts.{HasValue}
+use Rattle.archive_btree_maps.proofs.map.map.ArchivedBTreeMap.get_counted.Goals as goal
+
+pub returns-in-Some-default-clause-answers : goal.returns-in-Some-default-clause-answers
+returns-in-Some-default-clause-answers g c t order h q =
+    let s = c.search_key.ensures.answers t order h q in
+    let there = found_at (value_at c.args.this.bytes {V = g.row.V.Denot}) c.search_key.result.0 (descend order t) c.in-Some-default.entry s.0 c.in-Some-default.is-0 in
+    (ap Some (ref_is _ _ _ c.new.ensures.bytes c.new.ensures.pos) ∙ there, s.1)
+
+pub returns-in-None-default-clause-answers : goal.returns-in-None-default-clause-answers
+returns-in-None-default-clause-answers g c t order h q =
+    let s = c.search_key.ensures.answers t order h q in
+    (none_found (value_at c.args.this.bytes {V = g.row.V.Denot}) c.search_key.result.0 (descend order t) s.0 c.in-None-default.is-0, s.1)
+
+pub returns-in-Some-default-clause-found : goal.returns-in-Some-default-clause-found
+returns-in-Some-default-clause-found g c t h =
+    finds_some (value_at c.args.this.bytes {V = g.row.V.Denot}) _ (items t) c.search_key.result.0 c.in-Some-default.entry c.new.result (c.search_key.ensures.found t h) c.in-Some-default.is-0
+    (ref_is _ _ _ c.new.ensures.bytes c.new.ensures.pos)
+
+pub returns-in-Some-default-clause-there : goal.returns-in-Some-default-clause-there
+returns-in-Some-default-clause-there g c =
+    found_there g.K.Portable.shape g.V.Portable.shape g.K.Portable.knows g.V.Portable.knows c.args.this.bytes.now g.row.E c.args.this.pos c.requires.has
+    (value_at c.args.this.bytes {V = g.row.V.Denot}) _ (λ r. HasValue g.V.Portable.shape g.V.Portable.knows r.bytes.now r.pos) (λ e h. h.1) (Some c.new.result) (returns-in-Some-default-clause-found g c)

@@ -1,0 +1,30 @@
+use Rattle.std.proofs.Common.{◌∙◌, Some, ap}
+use Rattle.archive_btree_nodes.specs.BtreeLayout.Descent.{descend}
+use Rattle.archive_btree_walking.specs.Refs.{entry_at}
+use Rattle.archive_btree_walking.proofs.Refs.{pair_is, found_at, none_found, finds_some}
+use Rattle.archive_btree_walking.proofs.Held.{found_there}
+use Rattle.archive_btree_nodes.specs.BtreeLayout.Tree.{items}
+use Rattle.archive_forms_values.specs.Parts.{HasValue}
+use Rattle.archive_btree_maps.proofs.map.map.ArchivedBTreeMap.get_key_value.Goals as goal
+
+pub returns-in-Some-clause-answers : goal.returns-in-Some-clause-answers
+returns-in-Some-clause-answers g c t order h q =
+    let s = c.search_key.ensures.answers t order h q in
+    let there = found_at (entry_at c.args.this.bytes {K = g.row.K.Denot} {V = g.row.V.Denot}) c.search_key.result.0 (descend order t) c.in-Some.entry s.0 c.in-Some.is in
+    ap Some (pair_is _ _ _ c.new.result c.new-in-Some.result c.new.ensures.bytes c.new.ensures.pos c.new-in-Some.ensures.bytes c.new-in-Some.ensures.pos) ∙ there
+
+pub returns-in-None-clause-answers : goal.returns-in-None-clause-answers
+returns-in-None-clause-answers g c t order h q =
+    let s = c.search_key.ensures.answers t order h q in
+    none_found (entry_at c.args.this.bytes {K = g.row.K.Denot} {V = g.row.V.Denot}) c.search_key.result.0 (descend order t) s.0 c.in-None.is
+
+pub returns-in-Some-clause-found : goal.returns-in-Some-clause-found
+returns-in-Some-clause-found g c t h =
+    finds_some (entry_at c.args.this.bytes {K = g.row.K.Denot} {V = g.row.V.Denot}) _ (items t) c.search_key.result.0 c.in-Some.entry (c.new.result, c.new-in-Some.result) (c.search_key.ensures.found t h) c.in-Some.is
+    (pair_is _ _ _ c.new.result c.new-in-Some.result c.new.ensures.bytes c.new.ensures.pos c.new-in-Some.ensures.bytes c.new-in-Some.ensures.pos)
+
+pub returns-in-Some-clause-there : goal.returns-in-Some-clause-there
+returns-in-Some-clause-there g c =
+    found_there g.K.Portable.shape g.V.Portable.shape g.K.Portable.knows g.V.Portable.knows c.args.this.bytes.now g.row.E c.args.this.pos c.requires.has
+    (entry_at c.args.this.bytes {K = g.row.K.Denot} {V = g.row.V.Denot}) _ (λ r. HasValue g.K.Portable.shape g.K.Portable.knows r.0.bytes.now r.0.pos × HasValue g.V.Portable.shape g.V.Portable.knows r.1.bytes.now r.1.pos)
+    (λ e h. h) (Some (c.new.result, c.new-in-Some.result)) (returns-in-Some-clause-found g c)

@@ -1,0 +1,4 @@
+use Rattle.archive_btree_maps.proofs.set.set.ArchivedBTreeSet.len.Goals as goal
+
+pub returns : goal.returns
+returns g c = simp c.as_map.ensures at c.len.ensures

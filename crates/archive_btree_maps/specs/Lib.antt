@@ -1,0 +1,9 @@
+pub mod Hashing
+pub mod Keys
+pub mod MapComparing
+pub mod MapVisits
+pub mod SealedVisits
+pub mod SetComparing
+pub mod SetVisits
+pub mod Sets
+pub mod StdMaps

@@ -1,0 +1,26 @@
+-- What the bytes of a set lead to: those of a map of its keys to `()`.
+use Rattle.std.specs.Prelude.{ℕ, List, ⊤}
+use Rattle.archive_shape_layout.specs.Shape.{Shape}
+use Rattle.archive_shape_layout.specs.Shape.Shape.{tree, tuple}
+use Rattle.archive_shape_layout.specs.Shape.Shapes.{no_shapes}
+use Rattle.archive_shape_layout.specs.Content.{Names}
+use Rattle.archive_btree_nodes.specs.BtreeLayout.Reading.{Place}
+use Rattle.archive_btree_nodes.specs.BtreeLayout.Tree.{Tree}
+use Rattle.archive_forms_values.specs.Parts.{HasValue, both}
+use Rattle.archive_btree_walking.specs.Maps.{IsMapAt}
+
+-- the layout of a set with at most `most` keys in a node
+abbrev pub set_shape : ℕ → Shape → Shape
+set_shape most k = tree most k (tuple no_shapes)
+
+-- what knows the names of a set is what knows those of its keys
+abbrev pub set_knows : (Names → Type 0) → Names → Type 0
+set_knows knows = both knows (λ _. ⊤)
+
+-- the bytes have some set at a position
+abbrev pub HasSet : ℕ → Shape → (Names → Type 0) → List ℕ → ℕ → Type 0
+HasSet most k knows bytes pos = HasValue (set_shape most k) (set_knows knows) bytes pos
+
+-- the set at a position has this tree, whose items lie where its keys do, in order
+abbrev pub IsSetAt : List ℕ → ℕ → Shape → ℕ → Tree Place → Type 0
+IsSetAt bytes most k pos t = IsMapAt bytes most k (tuple no_shapes) pos t

@@ -1,0 +1,16 @@
+//! Archived B-tree maps and sets: reading, comparing, hashing and printing them, and lending their values to be
+//! written.
+#![tactic(auto)]
+
+pub mod map;
+pub mod set;
+
+pub use map::{
+    ArchivedBTreeMap, BTreeMapResolver, IterSeal, Keys, Range, RangeSeal, Values, ValuesSeal,
+    eq_btree_map, eq_map, equal_maps_are_hashed_alike, map_equalities_are_equivalences,
+    map_is_read, one_map,
+};
+pub use set::{
+    ArchivedBTreeSet, BTreeSetResolver, eq_btree_set, equal_sets_are_hashed_alike,
+    set_equalities_are_equivalences, set_is_read,
+};

@@ -1,0 +1,22 @@
+//! Archived B-tree maps: the type and all that it implements.
+
+mod comparing;
+mod debug;
+mod hashing;
+mod laws;
+mod lookup;
+mod map;
+mod range;
+mod resolving;
+mod sealing;
+mod std_map;
+mod walking;
+
+pub use archive_btree_walking::{
+    Iter, IterSeal, Keys, Range, RangeSeal, Values, ValuesSeal, map_is_read, one_map,
+};
+pub use comparing::eq_map;
+pub use laws::{equal_maps_are_hashed_alike, map_equalities_are_equivalences};
+pub use map::ArchivedBTreeMap;
+pub use resolving::BTreeMapResolver;
+pub use std_map::eq_btree_map;

@@ -1,0 +1,142 @@
+//! Look-ups of keys in archived B-tree maps.
+ghost use Rattle.std.specs.Prelude.{◌≡◌, ◌-◌, ◌^◌, ◌<◌, IsTrue, Some, IfSome, min, All, Contains};
+ghost use Rattle.std.specs.Option.{option_map, is_some};
+ghost use Rattle.std.specs.declared.cmp.Ordering.{Ordering};
+ghost use Rattle.archive_shape_layout.specs.Shape.Shape.{tree};
+ghost use Rattle.archive_btree_nodes.specs.BtreeLayout.Tree.{Tree, items};
+ghost use Rattle.archive_btree_nodes.specs.BtreeLayout.Descent.{descend, met};
+ghost use Rattle.archive_btree_nodes.specs.BtreeLayout.Reading.{Place};
+ghost use Rattle.archive_forms_values.specs.Parts.{HasValue, both};
+ghost use Rattle.archive_btree_walking.specs.Maps.{IsMapAt};
+ghost use Rattle.archive_btree_walking.specs.Refs.{key_at, value_at, entry_at};
+ghost use Rattle.archive_btree_walking.specs.Lookups.{QueryOrders, IsEqualKey, CallsEqual, Finds, HasKey, CallsOrder};
+
+use crate::map::ArchivedBTreeMap;
+use archive_btree_walking::{search_key, search_map};
+use archive_shape::{ArchivedKey, Portable, Ref};
+use std::cmp::Ordering;
+
+impl<K, V: Portable, const E: usize> ArchivedBTreeMap<K, V, E> {
+    /// Returns the value of a key, if the map has the key, and the number of keys that the search compared. The count
+    /// stops at `usize::MAX`.
+    pub fn get_counted<'a, Q>(
+        this: Ref<'a, ArchivedBTreeMap<K, V, E>>,
+        query: &Q,
+    ) -> (Option<Ref<'a, V>>, usize)
+    where
+        K: ArchivedKey<Q>,
+        requires has { HasValue (tree E K.shape V.shape) (both K.knows V.knows) this.bytes.now this.pos }
+        ensures there { IfSome result.0 (λ r. HasValue V.shape V.knows r.bytes.now r.pos) }
+        ensures found { (t : Tree Place) → IsMapAt this.entry.bytes.now E K.shape V.shape this.entry.pos t
+            → Finds (value_at this.entry.bytes) (IsEqualKey K.key_of K.order this.entry.bytes.now query.now) (items t) result.0 }
+        ensures answers { (t : Tree Place) (order : Place → Ordering) → IsMapAt this.entry.bytes.now E K.shape V.shape this.entry.pos t
+            → QueryOrders K.key_of K.order this.entry.bytes.now query.now order (items t)
+            → (result.0 ≡ option_map (value_at this.entry.bytes) (descend order t)) × (result.1 ≡ min (met order t) (2 ^ 64 - 1)) }
+    {
+        match search_key::<Q, K, V, E>(this.bytes, this.pos, query) {
+            (Some(entry), count) => (Some(Ref::new(this.bytes, entry.value)), count),
+            (None, count) => (None, count),
+        }
+    }
+
+    /// Returns the value of a key, if the map has the key.
+    pub fn get<'a, Q>(this: Ref<'a, ArchivedBTreeMap<K, V, E>>, query: &Q) -> Option<Ref<'a, V>>
+    where
+        K: ArchivedKey<Q>,
+        requires has { HasValue (tree E K.shape V.shape) (both K.knows V.knows) this.bytes.now this.pos }
+        ensures there { IfSome result (λ r. HasValue V.shape V.knows r.bytes.now r.pos) }
+        ensures found { (t : Tree Place) → IsMapAt this.entry.bytes.now E K.shape V.shape this.entry.pos t
+            → Finds (value_at this.entry.bytes) (IsEqualKey K.key_of K.order this.entry.bytes.now query.now) (items t) result }
+        ensures answers { (t : Tree Place) (order : Place → Ordering) → IsMapAt this.entry.bytes.now E K.shape V.shape this.entry.pos t
+            → QueryOrders K.key_of K.order this.entry.bytes.now query.now order (items t)
+            → result ≡ option_map (value_at this.entry.bytes) (descend order t) }
+    {
+        ArchivedBTreeMap::get_counted(this, query).0
+    }
+
+    /// Returns a key and its value, if the map has the key.
+    pub fn get_key_value<'a, Q>(
+        this: Ref<'a, ArchivedBTreeMap<K, V, E>>,
+        query: &Q,
+    ) -> Option<(Ref<'a, K>, Ref<'a, V>)>
+    where
+        K: ArchivedKey<Q>,
+        requires has { HasValue (tree E K.shape V.shape) (both K.knows V.knows) this.bytes.now this.pos }
+        ensures there { IfSome result (λ r. HasValue K.shape K.knows r.0.bytes.now r.0.pos × HasValue V.shape V.knows r.1.bytes.now r.1.pos) }
+        ensures found { (t : Tree Place) → IsMapAt this.entry.bytes.now E K.shape V.shape this.entry.pos t
+            → Finds (entry_at this.entry.bytes) (IsEqualKey K.key_of K.order this.entry.bytes.now query.now) (items t) result }
+        ensures answers { (t : Tree Place) (order : Place → Ordering) → IsMapAt this.entry.bytes.now E K.shape V.shape this.entry.pos t
+            → QueryOrders K.key_of K.order this.entry.bytes.now query.now order (items t)
+            → result ≡ option_map (entry_at this.entry.bytes) (descend order t) }
+    {
+        match search_key::<Q, K, V, E>(this.bytes, this.pos, query).0 {
+            Some(entry) => Some((
+                Ref::new(this.bytes, entry.key),
+                Ref::new(this.bytes, entry.value),
+            )),
+            None => None,
+        }
+    }
+
+    /// Checks whether the map has a key.
+    pub fn contains_key<Q>(this: Ref<'_, ArchivedBTreeMap<K, V, E>>, query: &Q) -> bool
+    where
+        K: ArchivedKey<Q>,
+        requires has { HasValue (tree E K.shape V.shape) (both K.knows V.knows) this.bytes.now this.pos }
+        ensures found { (t : Tree Place) → IsMapAt this.entry.bytes.now E K.shape V.shape this.entry.pos t
+            → IsTrue result → (e : Place) × Contains (items t) e × IsEqualKey K.key_of K.order this.entry.bytes.now query.now e }
+        ensures answers { (t : Tree Place) (order : Place → Ordering) → IsMapAt this.entry.bytes.now E K.shape V.shape this.entry.pos t
+            → QueryOrders K.key_of K.order this.entry.bytes.now query.now order (items t)
+            → result ≡ is_some (descend order t) }
+    {
+        search_key::<Q, K, V, E>(this.bytes, this.pos, query)
+            .0
+            .is_some()
+    }
+
+    /// Returns the value of a key that the map has.
+    pub fn index<'a, Q>(this: Ref<'a, ArchivedBTreeMap<K, V, E>>, query: &Q) -> Ref<'a, V>
+    where
+        K: ArchivedKey<Q>,
+        requires has { HasValue (tree E K.shape V.shape) (both K.knows V.knows) this.bytes.now this.pos }
+        requires present { HasKey K.key_of K.order this.bytes.now E K.shape V.shape this.pos query.now }
+        ensures there { HasValue V.shape V.knows result.bytes.now result.pos }
+        ensures found { (t : Tree Place) → IsMapAt this.entry.bytes.now E K.shape V.shape this.entry.pos t
+            → Finds (value_at this.entry.bytes) (IsEqualKey K.key_of K.order this.entry.bytes.now query.now) (items t) (Some result) }
+        ensures answers { (t : Tree Place) (order : Place → Ordering) → IsMapAt this.entry.bytes.now E K.shape V.shape this.entry.pos t
+            → QueryOrders K.key_of K.order this.entry.bytes.now query.now order (items t)
+            → Some result ≡ option_map (value_at this.entry.bytes) (descend order t) }
+    {
+        ArchivedBTreeMap::get(this, query).unwrap()
+    }
+}
+
+impl<K: Portable, V: Portable, const E: usize> ArchivedBTreeMap<K, V, E> {
+    /// Returns the entry that the caller's comparison finds. `compare` returns how the query compares with a key: if it
+    /// does not agree with the order of the keys, an entry may not be found.
+    pub fn get_key_value_with<'a, Q, F: Fn(&Q, Ref<'_, K>) -> Ordering>(
+        this: Ref<'a, ArchivedBTreeMap<K, V, E>>,
+        query: &Q,
+        compare: &F,
+    ) -> Option<(Ref<'a, K>, Ref<'a, V>)>
+        requires has { HasValue (tree E K.shape V.shape) (both K.knows V.knows) this.bytes.now this.pos }
+        requires callable { (t : Tree Place) → IsMapAt this.bytes.now E K.shape V.shape this.pos t
+            → All (λ e. HasValue K.shape K.knows this.bytes.now e.key → F.pre compare.now query (key_at this.bytes e)) (items t) }
+        ensures there { IfSome result (λ r. HasValue K.shape K.knows r.0.bytes.now r.0.pos × HasValue V.shape V.knows r.1.bytes.now r.1.pos) }
+        ensures found { (t : Tree Place) → IsMapAt this.entry.bytes.now E K.shape V.shape this.entry.pos t
+            → Finds (entry_at this.entry.bytes) (CallsEqual F.post compare.now query.entry this.entry.bytes) (items t) result }
+        ensures answers { (t : Tree Place) (order : Place → Ordering) → IsMapAt this.entry.bytes.now E K.shape V.shape this.entry.pos t
+            → CallsOrder F.post compare.now query.entry this.entry.bytes order (items t)
+            → result ≡ option_map (entry_at this.entry.bytes) (descend order t) }
+    {
+        let bytes = this.bytes;
+        let compare_at = |at: usize| -> Ordering
+            requires { F.pre compare.now query (key_at bytes (record { key = at; value = 0 })) }
+            ensures { F.post compare.entry.now query.entry (key_at bytes.entry (record { key = at; value = 0 })) result }
+        { compare(query, Ref::new(bytes, at)) };
+        match search_map::<K, V, _, E>(bytes, this.pos, &compare_at).0 {
+            Some(entry) => Some((Ref::new(bytes, entry.key), Ref::new(bytes, entry.value))),
+            None => None,
+        }
+    }
+}

@@ -1,0 +1,17 @@
+//! Archived B-tree sets: the type and all that it implements.
+
+mod comparing;
+mod debug;
+mod hashing;
+mod iter;
+mod laws;
+mod lookup;
+mod resolving;
+mod set;
+mod walking;
+
+pub use comparing::eq_btree_set;
+pub use iter::Iter;
+pub use laws::{equal_sets_are_hashed_alike, set_equalities_are_equivalences, set_is_read};
+pub use resolving::BTreeSetResolver;
+pub use set::ArchivedBTreeSet;

@@ -1,5 +1,0 @@
-use Rattle.archive_btree_packing.proofs.Written.{maps_are_packed_law}
-use Rattle.archive_btree_packing.proofs.laws.maps_are_packed.Goals as goal
-
-pub returns : goal.returns
-returns c = maps_are_packed_law

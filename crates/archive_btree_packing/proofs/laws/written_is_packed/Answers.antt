@@ -1,5 +1,0 @@
-use Rattle.archive_btree_packing.proofs.Packed.{written_is_packed_law}
-use Rattle.archive_btree_packing.proofs.laws.written_is_packed.Goals as goal
-
-pub returns : goal.returns
-returns c = written_is_packed_law

@@ -1,5 +1,0 @@
-use Rattle.archive_btree_packing.proofs.Held.{written_is_read_law}
-use Rattle.archive_btree_packing.proofs.laws.written_is_read.Goals as goal
-
-pub returns : goal.returns
-returns c = written_is_read_law

@@ -1,7 +1,0 @@
-use Rattle.std.proofs.Common.{All}
-use Rattle.archive_btree_walking.specs.Refs.{IsThere}
-use Rattle.archive_btree_reading.proofs.debug.ArchivedBTreeMapArchivedDebug.fmt.Given as goal
-
--- values stand at the entries that are left
-abbrev pub invariant-loop-key : goal.invariant-loop-key
-invariant-loop-key g l = All (IsThere g.K.Portable.shape g.V.Portable.shape g.K.Portable.knows g.V.Portable.knows) l.key-iterator

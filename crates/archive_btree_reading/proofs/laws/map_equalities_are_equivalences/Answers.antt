@@ -1,5 +1,0 @@
-use Rattle.archive_btree_reading.proofs.Equality.{maps_equiv}
-use Rattle.archive_btree_reading.proofs.laws.map_equalities_are_equivalences.Goals as goal
-
-pub returns : goal.returns
-returns c E F = maps_equiv E F

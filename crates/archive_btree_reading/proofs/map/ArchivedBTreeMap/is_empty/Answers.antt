@@ -1,5 +1,0 @@
-use Rattle.archive_btree_walking.proofs.Roots.{map_empty}
-use Rattle.archive_btree_reading.proofs.map.ArchivedBTreeMap.is_empty.Goals as goal
-
-pub returns : goal.returns
-returns g c t h = map_empty t c.len.result (c.len.ensures t h)

@@ -1,6 +1,0 @@
-pub mod Keyed
-pub mod Read
-pub mod Visited
-pub mod Matched
-pub mod Held
-pub mod Found

@@ -1,8 +1,0 @@
-use Rattle.std.proofs.Common.{◌∙◌}
-use Rattle.archive_btree_sets.proofs.Keyed.{equal_as_maps}
-use Rattle.archive_btree_sets.proofs.comparing.ArchivedBTreeSetArchivedEq.eq.Goals as goal
-
-pub returns : goal.returns
-returns g c v w h i =
-    let equal = simp (c.as_map.ensures, c.as_map-2.ensures) at c.eq_map.ensures in
-    equal v w h i ∙ equal_as_maps g.K.ArchivedEq.equal v w

@@ -1,5 +1,0 @@
-use Rattle.archive_btree_sets.proofs.Read.{set_is_read}
-use Rattle.archive_btree_sets.proofs.laws.set_is_read.Goals as goal
-
-pub returns : goal.returns
-returns g c bytes = set_is_read g.K.Portable.shape g.K.Portable.knows bytes g.row.E

@@ -1,4 +1,0 @@
-use Rattle.archive_btree_sets.proofs.set.ArchivedBTreeSet.is_empty.Goals as goal
-
-pub returns : goal.returns
-returns g c = simp c.as_map.ensures at c.is_empty.ensures

@@ -1,4 +1,0 @@
-use Rattle.archive_btree_sets.proofs.set.ArchivedBTreeSet.len.Goals as goal
-
-pub returns : goal.returns
-returns g c = simp c.as_map.ensures at c.len.ensures

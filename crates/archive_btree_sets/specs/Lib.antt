@@ -1,4 +1,0 @@
-pub mod Sets
-pub mod Keys
-pub mod Visits
-pub mod Comparing

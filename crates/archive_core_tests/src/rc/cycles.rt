@@ -1,0 +1,31 @@
+//! Archives of values that lead to themselves are accepted if their flavor allows cycles, and otherwise refused.
+ghost use Rattle.std.specs.Prelude.{true};
+
+use crate::rc::cyclic::ArchivedLoop;
+use archive_core::{ArchivedRc, Error, Flavor, RcFlavor, access};
+
+/// A flavor that allows cycles.
+struct AnyWay;
+
+impl Flavor for AnyWay {
+    ghost CYCLES = { true };
+
+    fn allow_cycles() -> bool {
+        true
+    }
+}
+
+/// At 0 a pointer to the value at 0, and at 4 another pointer to it.
+const LOOP: [u8; 8] = *b"\0\0\0\0\xfc\xff\xff\xff";
+
+#[test]
+fn a_value_inside_itself_is_accepted_where_cycles_are_allowed(rt: HostRuntime) {
+    let root = access::<ArchivedRc<ArchivedLoop<AnyWay>, AnyWay>>(rt.alloc(), &LOOP);
+    assert!(rt; root.is_ok());
+}
+
+#[test]
+fn a_value_inside_itself_is_refused_where_cycles_are_forbidden(rt: HostRuntime) {
+    let root = access::<ArchivedRc<ArchivedLoop<RcFlavor>, RcFlavor>>(rt.alloc(), &LOOP);
+    assert_eq!(rt; root.err(), Some(Error::CyclicSharedPointer));
+}

@@ -1,0 +1,61 @@
+//! Tests of counted pointers that are read and read back.
+use crate::rc::values::{number, numbers, text};
+use archive_core::{
+    ArchivedRc, ArchivedRcStr, ArchivedRcWeak, ArchivedU32, Error, RcFlavor, Shared, access,
+    from_bytes, native_of, to_bytes,
+};
+use std::alloc::Global;
+use std::rc::{Rc, RcSlice, RcStr};
+
+/// Returns the number that a weak pointer leads to.
+fn upgraded(alloc: Global, bytes: &[u8]) -> Result<Option<u32>, Error> {
+    let root = access::<ArchivedRcWeak<ArchivedU32, RcFlavor>>(alloc, bytes)?;
+    match ArchivedRcWeak::upgrade(root) {
+        Some(value) => Ok(Some(native_of(value))),
+        None => Ok(None),
+    }
+}
+
+#[test]
+fn a_weak_pointer_leads_to_a_value_or_to_nothing(rt: HostRuntime) {
+    let there = b"\x07\0\0\0\x01\0\0\0\xf8\xff\xff\xff";
+    assert_eq!(rt; upgraded(rt.alloc(), there), Ok(Some(7)));
+    assert_eq!(rt; upgraded(rt.alloc(), &[0; 8]), Ok(None));
+}
+
+#[test]
+fn a_counted_pointer_leads_to_its_value(rt: HostRuntime) -> Result<(), Error> {
+    let alloc = rt.alloc();
+    let bytes = to_bytes(alloc, &number(alloc, 3, 9)?)?;
+    let pointer = access::<ArchivedRc<ArchivedU32, RcFlavor>>(alloc, &bytes)?;
+    assert_eq!(rt; native_of(ArchivedRc::get(pointer)), 9);
+    let bytes = to_bytes(alloc, &text(alloc, 3, "hello world!")?)?;
+    let pointer = access::<ArchivedRcStr<RcFlavor>>(alloc, &bytes)?;
+    assert_eq!(rt; ArchivedRcStr::get(pointer), "hello world!");
+    Ok(())
+}
+
+#[test]
+fn numbers_are_read_back_under_their_positions(rt: HostRuntime) -> Result<(), Error> {
+    let alloc = rt.alloc();
+    for (key, position) in [(7, 0), (8, 4)] {
+        let pair = (number(alloc, 7, 5)?, number(alloc, key, 5)?);
+        let bytes = to_bytes(alloc, &pair)?;
+        let (first, second) = from_bytes::<(Shared<Rc<u32>>, Shared<Rc<u32>>)>(alloc, &bytes)?;
+        assert_eq!(rt; (first.key, second.key), (0, position));
+        assert_eq!(rt; (*first.value, *second.value), (5, 5));
+    }
+    Ok(())
+}
+
+#[test]
+fn elements_and_texts_are_read_back(rt: HostRuntime) -> Result<(), Error> {
+    let alloc = rt.alloc();
+    let pair = (numbers(alloc, 1, &[6, 7])?, text(alloc, 2, "hello world!")?);
+    let bytes = to_bytes(alloc, &pair)?;
+    let (first, second) = from_bytes::<(Shared<RcSlice<u32>>, Shared<RcStr>)>(alloc, &bytes)?;
+    assert_eq!(rt; (first.key, second.key), (0, 8));
+    assert_eq!(rt; first.value.as_slice(), &[6, 7][..]);
+    assert_eq!(rt; second.value.as_str(), "hello world!");
+    Ok(())
+}

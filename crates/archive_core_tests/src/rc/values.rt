@@ -1,0 +1,28 @@
+//! The shared values that the tests use.
+use archive_core::{Error, Shared};
+use std::alloc::{AllocError, Global};
+use std::rc::{Rc, RcSlice, RcStr};
+
+/// Returns a number under a key.
+pub fn number(alloc: Global, key: usize, number: u32) -> Result<Shared<Rc<u32>>, Error> {
+    match Rc::new(alloc, number) {
+        Ok(value) => Ok(Shared { key, value }),
+        Err(_) => Err(Error::OutOfMemory),
+    }
+}
+
+/// Returns numbers under a key.
+pub fn numbers(
+    alloc: Global,
+    key: usize,
+    numbers: &[u32],
+) -> Result<Shared<RcSlice<u32>>, AllocError> {
+    let value = RcSlice::from_slice(alloc, numbers)?;
+    Ok(Shared { key, value })
+}
+
+/// Returns a text under a key.
+pub fn text(alloc: Global, key: usize, text: &str) -> Result<Shared<RcStr>, AllocError> {
+    let value = RcStr::from_str(alloc, text)?;
+    Ok(Shared { key, value })
+}

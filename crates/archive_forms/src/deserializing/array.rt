@@ -1,0 +1,59 @@
+//! Arrays are read back.
+ghost use Rattle.std.specs.Prelude.{◌+◌, ◌*◌};
+ghost use Rattle.archive_shape.specs.ShapeLayout.Shape.{size_of};
+ghost use Rattle.archive_shape.specs.ShapeLayout.Shape.Shape.{array};
+ghost use Rattle.archive_forms_values.specs.Parts.{HasValue};
+ghost use Rattle.archive_forms.specs.Deserializing.{Deserializes, DeserializesBy};
+ghost use Rattle.archive_forms.specs.Reading.{reads_all};
+ghost use Rattle.archive_forms.specs.Steps.{StepTakes, StepReads};
+
+use crate::deserializing::deserialize::deserialize_element;
+use crate::deserializing::elements::deserialize_elements_each;
+use crate::deserializing::{Deserialize, ReadBack};
+use archive_forms_values::array_slice;
+use archive_forms_writing::Archive;
+use archive_shape::{Error, Ref};
+use std::alloc::Global;
+use std::marker::PhantomData;
+
+/// Reads an array back, each element by the step. The elements are collected in memory of `alloc`.
+pub fn deserialize_array_each<
+    T: Archive + Drop,
+    A: ReadBack<T>,
+    const N: usize,
+    D,
+    F: Fn(&mut D, usize) -> Result<(T, PhantomData<T::Archived>), Error>,
+>(this: Ref<'_, [A; N]>, alloc: Global, deserializer: &mut D, step: F) -> Result<[T; N], Error>
+    requires there { HasValue (array N A.shape) A.knows this.bytes.now this.pos }
+    requires takes { StepTakes F.Fn step A.shape A.knows this.bytes.now (this.pos + N * size_of A.shape) }
+    requires reads { StepReads F.Fn step A.shape A.knows this.bytes.now (λ q. q.0) A.reads }
+    ensures { Deserializes (reads_all A.reads) (array N A.shape) A.knows this.entry.bytes.now this.entry.pos result }
+{
+    match deserialize_elements_each(array_slice(this), alloc, deserializer, step) {
+        Ok(all) => Ok(<[T; N]>::try_from(all).unwrap()),
+        Err(e) => Err(e),
+    }
+}
+
+impl<T, A: ReadBack<T>, const N: usize> ReadBack<[T; N]> for [A; N] {
+    ghost reads = { reads_all A.reads };
+}
+
+impl<T: Archive + Drop, D, A: Deserialize<T, D>, const N: usize> Deserialize<[T; N], D> for [A; N] {
+    fn deserialize(
+        this: &Ref<'_, [A; N]>,
+        alloc: Global,
+        deserializer: &mut D,
+    ) -> Result<[T; N], Error> {
+        let bytes = this.bytes;
+        deserialize_array_each::<T, A, N, D, _>(
+            *this,
+            alloc,
+            deserializer,
+            |d: &mut D, pos: usize| -> Result<(T, PhantomData<T::Archived>), Error>
+                requires { HasValue A.shape A.knows bytes.now pos }
+                ensures { DeserializesBy A.reads A.shape A.knows bytes.entry.now pos (λ q. q.0) result }
+            { deserialize_element::<T, A, D>(bytes, pos, alloc, d) },
+        )
+    }
+}

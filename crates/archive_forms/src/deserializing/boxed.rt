@@ -1,0 +1,80 @@
+//! Boxes are read back.
+ghost use Rattle.std.specs.Prelude.{refl};
+ghost use Rattle.archive_shape.specs.ShapeLayout.Shape.Shape.{box};
+ghost use Rattle.archive_shape.specs.ShapeLayout.Shape.Pointee.{sized};
+ghost use Rattle.archive_forms_values.specs.Parts.{HasValue};
+ghost use Rattle.archive_forms.specs.Deserializing.{Deserializes, DeserializesBy};
+ghost use Rattle.archive_forms.specs.Reading.{reads_in};
+ghost use Rattle.archive_forms.specs.Steps.{StepTakes, StepReads};
+
+use crate::deserializing::deserialize::deserialize_element;
+use crate::deserializing::{Deserialize, DeserializeUnsized, ReadBack};
+use archive_forms_values::ArchivedBox;
+use archive_forms_writing::Archive;
+use archive_shape::{Error, Ref};
+use std::alloc::Global;
+use std::marker::PhantomData;
+
+/// Reads a box back, its value by the step.
+pub fn deserialize_box_each<
+    T: Archive + Drop,
+    A: ReadBack<T>,
+    D,
+    F: Fn(&mut D, usize) -> Result<(T, PhantomData<T::Archived>), Error>,
+>(
+    this: Ref<'_, ArchivedBox<A>>,
+    alloc: Global,
+    deserializer: &mut D,
+    step: F,
+) -> Result<Box<T>, Error>
+    requires there { HasValue (box (sized A.shape)) A.knows this.bytes.now this.pos }
+    requires takes { StepTakes F.Fn step A.shape A.knows this.bytes.now this.pos }
+    requires reads { StepReads F.Fn step A.shape A.knows this.bytes.now (λ q. q.0) A.reads }
+    ensures { Deserializes (reads_in (λ b. b.value) A.reads) (box (sized A.shape)) A.knows this.entry.bytes.now this.entry.pos result }
+{
+    let value = match step(deserializer, ArchivedBox::get(this).pos) {
+        Ok(done) => done.0,
+        Err(e) => return Err(e),
+    };
+    match Box::new(alloc, value) {
+        Ok(boxed) => Ok(boxed),
+        Err(_) => Err(Error::OutOfMemory),
+    }
+}
+
+impl<T, A: ReadBack<T>> ReadBack<Box<T>> for ArchivedBox<A> {
+    ghost reads = { reads_in (λ b. b.value) A.reads };
+}
+
+impl<T: Archive + Drop, D, A: Deserialize<T, D>> DeserializeUnsized<Box<T>, D> for A {
+    type Boxed = ArchivedBox<A>;
+
+    fn deserialize_unsized(
+        this: &Ref<'_, ArchivedBox<A>>,
+        alloc: Global,
+        deserializer: &mut D,
+    ) -> Result<Box<T>, Error> {
+        let bytes = this.bytes;
+        deserialize_box_each::<T, A, D, _>(
+            *this,
+            alloc,
+            deserializer,
+            |d: &mut D, pos: usize| -> Result<(T, PhantomData<T::Archived>), Error>
+                requires { HasValue A.shape A.knows bytes.now pos }
+                ensures { DeserializesBy A.reads A.shape A.knows bytes.entry.now pos (λ q. q.0) result }
+            { deserialize_element::<T, A, D>(bytes, pos, alloc, d) },
+        )
+    }
+
+    ghost boxed = { refl };
+}
+
+impl<T: Archive + Drop, D, A: Deserialize<T, D>> Deserialize<Box<T>, D> for ArchivedBox<A> {
+    fn deserialize(
+        this: &Ref<'_, ArchivedBox<A>>,
+        alloc: Global,
+        deserializer: &mut D,
+    ) -> Result<Box<T>, Error> {
+        <A as DeserializeUnsized<Box<T>, D>>::deserialize_unsized(this, alloc, deserializer)
+    }
+}

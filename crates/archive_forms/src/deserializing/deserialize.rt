@@ -1,0 +1,41 @@
+//! `ReadBack` and `Deserialize`, the traits of archived values that can be read back as owned values.
+ghost use Rattle.archive_shape.specs.ShapeLayout.Value.{Value};
+ghost use Rattle.archive_forms_values.specs.Parts.{HasValue};
+ghost use Rattle.archive_forms.specs.Deserializing.{Deserializes, DeserializesBy};
+
+use archive_forms_writing::Archive;
+use archive_shape::{Error, Portable, Ref};
+use std::alloc::Global;
+use std::marker::PhantomData;
+
+/// A type of archived values that can be read back as values of type `T`.
+pub trait ReadBack<T>: Portable {
+    /// The values that an archived value may be read back as. It is a relation, because a map with equal keys, or with
+    /// keys in no order, is read back as a different map.
+    ghost reads: { Value → T → Type 0 };
+}
+
+/// A type of archived values that a deserializer of type `D` can read back as values of type `T`.
+pub trait Deserialize<T: Archive, D>: ReadBack<T> {
+    /// Returns a value that the archived value is read back as. The only error is `OutOfMemory`.
+    fn deserialize(this: &Ref<'_, Self>, alloc: Global, deserializer: &mut D) -> Result<T, Error>
+        requires { HasValue Self.shape Self.knows this.now.bytes.now this.now.pos }
+        ensures { Deserializes Self.reads Self.shape Self.knows this.now.bytes.now this.now.pos result };
+}
+
+/// Reads an element back. It is the step for elements that implement `Deserialize`. The result names the archived form,
+/// because a closure over `T` can be passed on only if its type does.
+pub fn deserialize_element<T: Archive, A: Deserialize<T, D>, D>(
+    bytes: &[u8],
+    pos: usize,
+    alloc: Global,
+    deserializer: &mut D,
+) -> Result<(T, PhantomData<T::Archived>), Error>
+    requires { HasValue A.shape A.knows bytes.now pos }
+    ensures { DeserializesBy A.reads A.shape A.knows bytes.now pos (λ q. q.0) result }
+{
+    match A::deserialize(&Ref::new(bytes, pos), alloc, deserializer) {
+        Ok(value) => Ok((value, PhantomData)),
+        Err(e) => Err(e),
+    }
+}

@@ -1,0 +1,79 @@
+//! Results are read back.
+ghost use Rattle.std.specs.Prelude.{◌+◌};
+ghost use Rattle.archive_shape.specs.ShapeLayout.Shape.{size_of};
+ghost use Rattle.archive_shape.specs.ShapeLayout.Shape.Shape.{result as result_shape};
+ghost use Rattle.archive_forms_values.specs.Parts.{HasValue, both};
+ghost use Rattle.archive_forms.specs.Deserializing.{Deserializes, DeserializesBy};
+ghost use Rattle.archive_forms.specs.Reading.{reads_result};
+ghost use Rattle.archive_forms.specs.Steps.{StepTakes, StepReads};
+
+use crate::deserializing::deserialize::deserialize_element;
+use crate::deserializing::{Deserialize, ReadBack};
+use archive_forms_values::ArchivedResult;
+use archive_forms_writing::Archive;
+use archive_shape::{Error, Ref};
+use std::alloc::Global;
+use std::marker::PhantomData;
+
+/// Reads a result back, its value by `step` or its error by `step_of_error`.
+pub fn deserialize_result_each<
+    T: Archive,
+    E: Archive,
+    A: ReadBack<T>,
+    B: ReadBack<E>,
+    D,
+    F: Fn(&mut D, usize) -> Result<(T, PhantomData<T::Archived>), Error>,
+    G: Fn(&mut D, usize) -> Result<(E, PhantomData<E::Archived>), Error>,
+>(
+    this: Ref<'_, ArchivedResult<A, B>>,
+    deserializer: &mut D,
+    step: F,
+    step_of_error: G,
+) -> Result<Result<T, E>, Error>
+    requires there { HasValue (result_shape A.shape B.shape) (both A.knows B.knows) this.bytes.now this.pos }
+    requires takes { StepTakes F.Fn step A.shape A.knows this.bytes.now (this.pos + size_of (result_shape A.shape B.shape)) }
+    requires reads { StepReads F.Fn step A.shape A.knows this.bytes.now (λ q. q.0) A.reads }
+    requires takes_errors { StepTakes G.Fn step_of_error B.shape B.knows this.bytes.now (this.pos + size_of (result_shape A.shape B.shape)) }
+    requires reads_errors { StepReads G.Fn step_of_error B.shape B.knows this.bytes.now (λ q. q.0) B.reads }
+    ensures { Deserializes (reads_result A.reads B.reads) (result_shape A.shape B.shape) (both A.knows B.knows) this.entry.bytes.now this.entry.pos result }
+{
+    match ArchivedResult::as_ref(this) {
+        Ok(value) => match step(deserializer, value.pos) {
+            Ok(done) => Ok(Ok(done.0)),
+            Err(e) => Err(e),
+        },
+        Err(error) => match step_of_error(deserializer, error.pos) {
+            Ok(done) => Ok(Err(done.0)),
+            Err(e) => Err(e),
+        },
+    }
+}
+
+impl<T, E, A: ReadBack<T>, B: ReadBack<E>> ReadBack<Result<T, E>> for ArchivedResult<A, B> {
+    ghost reads = { reads_result A.reads B.reads };
+}
+
+impl<T: Archive, E: Archive, D, A: Deserialize<T, D>, B: Deserialize<E, D>> Deserialize<
+    Result<T, E>,
+    D,
+> for ArchivedResult<A, B> {
+    fn deserialize(
+        this: &Ref<'_, ArchivedResult<A, B>>,
+        alloc: Global,
+        deserializer: &mut D,
+    ) -> Result<Result<T, E>, Error> {
+        let bytes = this.bytes;
+        deserialize_result_each::<T, E, A, B, D, _, _>(
+            *this,
+            deserializer,
+            |d: &mut D, pos: usize| -> Result<(T, PhantomData<T::Archived>), Error>
+                requires { HasValue A.shape A.knows bytes.now pos }
+                ensures { DeserializesBy A.reads A.shape A.knows bytes.entry.now pos (λ q. q.0) result }
+            { deserialize_element::<T, A, D>(bytes, pos, alloc, d) },
+            |d: &mut D, pos: usize| -> Result<(E, PhantomData<E::Archived>), Error>
+                requires { HasValue B.shape B.knows bytes.now pos }
+                ensures { DeserializesBy B.reads B.shape B.knows bytes.entry.now pos (λ q. q.0) result }
+            { deserialize_element::<E, B, D>(bytes, pos, alloc, d) },
+        )
+    }
+}

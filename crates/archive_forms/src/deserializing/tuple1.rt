@@ -1,0 +1,62 @@
+//! Tuples of one field are read back.
+ghost use Rattle.std.specs.Prelude.{◌+◌};
+ghost use Rattle.archive_shape.specs.ShapeLayout.Shape.{size_of};
+ghost use Rattle.archive_forms_values.specs.Tuples.{tuple1};
+ghost use Rattle.archive_forms_values.specs.Parts.{HasValue};
+ghost use Rattle.archive_forms.specs.Deserializing.{Deserializes, DeserializesBy};
+ghost use Rattle.archive_forms.specs.Reading.{reads_tuple1};
+ghost use Rattle.archive_forms.specs.Steps.{StepTakes, StepReads};
+
+use crate::deserializing::deserialize::deserialize_element;
+use crate::deserializing::{Deserialize, ReadBack};
+use archive_forms_values::ArchivedTuple1;
+use archive_forms_writing::Archive;
+use archive_shape::{Error, Ref};
+use std::alloc::Global;
+use std::marker::PhantomData;
+
+/// Reads a tuple of one field back, the field by the step.
+pub fn deserialize_tuple1_each<
+    T: Archive,
+    A: ReadBack<T>,
+    Deserializer,
+    F: Fn(&mut Deserializer, usize) -> Result<(T, PhantomData<T::Archived>), Error>,
+>(
+    this: Ref<'_, ArchivedTuple1<A>>,
+    deserializer: &mut Deserializer,
+    read_first: F,
+) -> Result<(T,), Error>
+    requires there { HasValue (tuple1 A.shape) A.knows this.bytes.now this.pos }
+    requires takes_first { StepTakes F.Fn read_first A.shape A.knows this.bytes.now (this.pos + size_of (tuple1 A.shape)) }
+    requires reads_first { StepReads F.Fn read_first A.shape A.knows this.bytes.now (λ q. q.0) A.reads }
+    ensures { Deserializes (reads_tuple1 A.reads) (tuple1 A.shape) A.knows this.entry.bytes.now this.entry.pos result }
+{
+    let t = match read_first(deserializer, ArchivedTuple1::first(this).pos) {
+        Ok(done) => done.0,
+        Err(e) => return Err(e),
+    };
+    Ok((t,))
+}
+
+impl<T, A: ReadBack<T>> ReadBack<(T,)> for ArchivedTuple1<A> {
+    ghost reads = { reads_tuple1 A.reads };
+}
+
+impl<T: Archive, Deserializer, A: Deserialize<T, Deserializer>> Deserialize<(T,), Deserializer>
+    for ArchivedTuple1<A> {
+    fn deserialize(
+        this: &Ref<'_, ArchivedTuple1<A>>,
+        alloc: Global,
+        deserializer: &mut Deserializer,
+    ) -> Result<(T,), Error> {
+        let bytes = this.bytes;
+        deserialize_tuple1_each::<T, A, Deserializer, _>(
+            *this,
+            deserializer,
+            |d: &mut Deserializer, pos: usize| -> Result<(T, PhantomData<T::Archived>), Error>
+                requires { HasValue A.shape A.knows bytes.now pos }
+                ensures { DeserializesBy A.reads A.shape A.knows bytes.entry.now pos (λ q. q.0) result }
+            { deserialize_element::<T, A, Deserializer>(bytes, pos, alloc, d) },
+        )
+    }
+}

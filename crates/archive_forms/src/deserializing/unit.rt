@@ -1,0 +1,36 @@
+//! Values that have no bytes are read back.
+ghost use Rattle.archive_forms_laws.specs.Fields.{unit_spelling};
+ghost use Rattle.archive_forms.specs.Reading.{reads_as};
+
+use crate::deserializing::{Deserialize, ReadBack};
+use archive_shape::{Error, Ref};
+use std::alloc::Global;
+use std::marker::PhantomData;
+
+impl ReadBack<()> for () {
+    ghost reads = { reads_as unit_spelling };
+}
+
+impl<D> Deserialize<(), D> for () {
+    fn deserialize(
+        _this: &Ref<'_, ()>,
+        _alloc: Global,
+        _deserializer: &mut D,
+    ) -> Result<(), Error> {
+        Ok(())
+    }
+}
+
+impl<T> ReadBack<PhantomData<T>> for PhantomData<T> {
+    ghost reads = { reads_as unit_spelling };
+}
+
+impl<T, D> Deserialize<PhantomData<T>, D> for PhantomData<T> {
+    fn deserialize(
+        _this: &Ref<'_, PhantomData<T>>,
+        _alloc: Global,
+        _deserializer: &mut D,
+    ) -> Result<PhantomData<T>, Error> {
+        Ok(PhantomData)
+    }
+}

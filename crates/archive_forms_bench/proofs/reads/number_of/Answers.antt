@@ -1,6 +1,0 @@
-use Rattle.std.proofs.Common.{ap, ◌∙◌}
-use Rattle.archive_forms_ordering.specs.Views.{natural_of}
-use Rattle.archive_forms_bench.proofs.reads.number_of.Goals as goal
-
-pub returns : goal.returns
-returns c = λ v h. c.from.ensures ∙ ap natural_of (c.native_of.ensures v h)

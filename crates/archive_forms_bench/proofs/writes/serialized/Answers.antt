@@ -1,6 +1,0 @@
-use Rattle.std.proofs.Common.{refl}
-use Rattle.archive_forms_spelling.specs.State.{initial}
-use Rattle.archive_forms_bench.proofs.writes.serialized.Goals as goal
-
-pub serialize_using-requires-clause-state : goal.serialize_using-requires-clause-state
-serialize_using-requires-clause-state g c = record { state = initial; is_at = record { stands = c.new-serializer.ensures.pos; knows = λ key. refl } }

@@ -1,8 +1,0 @@
-//! Archived forms that are checked, written and read, for the benchmark to time.
-#![tactic(auto)]
-
-mod checks;
-mod context;
-mod reads;
-mod serializer;
-mod writes;

@@ -1,0 +1,103 @@
+-- The law of a weak pointer to a value, which has the bytes of an option of the counted pointer.
+use Rattle.std.proofs.Common.{◌≡◌, ℕ, Bool, ◌+◌, List, [], ◌∷◌, Some, None, slice_index, refl, sym, ap, add-zero, inr, arith}
+use Rattle.archive_shape.specs.ShapeLayout.Bytes.{align_up}
+use Rattle.archive_shape.specs.ShapeLayout.Shape.{Shape, size_of}
+use Rattle.archive_shape.specs.ShapeLayout.Shape.Shape.{shared, weak, option}
+use Rattle.archive_shape.specs.ShapeLayout.Shape.Pointee.{sized}
+use Rattle.archive_shape.specs.ShapeLayout.Value.Value.{chosen}
+use Rattle.archive_shape.specs.ShapeLayout.Value.Values.{no_values}
+use Rattle.archive_shape.specs.ShapeLayout.Content.{Names, made, shape_content, choose}
+use Rattle.archive_shape.specs.ShapeLayout.Content.Part.{at}
+use Rattle.archive_shape.specs.ShapeLayout.Content.Label.{tagged}
+use Rattle.archive_shape.specs.ShapeLayout.Content.Content.{plain}
+use Rattle.archive_shape.specs.ShapeLayout.Holds.{OpenShared, Ascends}
+use Rattle.archive_shape.specs.ShapeLayout.Holds.Holds.{holds_plain}
+use Rattle.archive_shape.specs.ShapeLayout.Holds.HoldAll.{holds_none}
+use Rattle.archive_forms_laws.specs.ShapeCanonical.Settled.{Fit}
+use Rattle.archive_shape_canonical.proofs.Cleanness.{clean_by}
+use Rattle.archive_shape.specs.Bytes.{HasBytes, zeros}
+use Rattle.archive_shape.proofs.Pieces.{zero_stands}
+use Rattle.archive_forms_laws.specs.State.{State, visits_of}
+use Rattle.archive_forms_laws.specs.Spelling.{Spelling}
+use Rattle.archive_forms_laws.specs.Spells.{CanonicalPart, SpellsAt, Spells}
+use Rattle.archive_forms_laws.specs.Options.{option_spelling}
+use Rattle.archive_forms_laws.specs.Payloads.{payload_spelling}
+use Rattle.archive_forms_laws.proofs.Gaps.{no_gap}
+use Rattle.archive_forms_laws.proofs.Options.{none_spells, some_spells}
+use Rattle.archive_forms_laws.proofs.Payloads.{payload_spells_at}
+
+module _ (cyclic : Bool) (s : Shape) where
+  -- it has the same number of bytes as the option
+  pub weak_size : size_of (weak cyclic (sized s)) ≡ size_of (option (shared cyclic (sized s)))
+  unfolding align_up
+  weak_size = refl
+
+  nothing_content : (names : Names) (pos : ℕ) (own : List ℕ) → slice_index own 0 ≡ 0 → shape_content names pos own (weak cyclic (sized s)) ≡ plain (tagged 0) []
+  unfolding shape_content choose
+  nothing_content names pos own e = rw e refl
+
+  pointer_content : (names : Names) (pos : ℕ) (own : List ℕ) → slice_index own 0 ≡ 1 → shape_content names pos own (weak cyclic (sized s)) ≡ plain (tagged 1) (at (pos + 4) (shared cyclic (sized s)) ∷ [])
+  unfolding shape_content choose
+  pointer_content names pos own e = rw e refl
+
+  module _ {A R : Type 0} (fit : Fit) (knows : Names → Type 0) (w : Spelling A R) where
+    -- ---- to nothing
+
+    nothing_canonical : (st : State) (pos : ℕ) (names : Names) (bytes : List ℕ) (level : ℕ) (inside : List OpenShared)
+        → HasBytes bytes pos (zeros 8)
+        → CanonicalPart fit names bytes level inside (visits_of st.met) (visits_of st.met) (at pos (weak cyclic (sized s))) (chosen 0 no_values) st.pos (st.pos + 0)
+    unfolding made Ascends
+    nothing_canonical st pos names bytes level inside q =
+        let e = nothing_content names pos _ (ap (λ l. slice_index l 0) q) in
+        record {
+          regions = [];
+          reads = record {
+            holds = holds_plain e tt (holds_none refl refl refl) refl;
+            canonical = (
+              clean_by names bytes (at pos (weak cyclic (sized s))) (plain (tagged 0) []) e (λ i o. inr (inr (zero_stands bytes pos 8 i q o.0 o.1))) tt,
+              tt,
+              tt,
+            );
+            ends = sym (add-zero st.pos);
+          };
+          ascends = tt;
+          gaps = no_gap bytes [] st.pos;
+        }
+
+    nothing_spells : SpellsAt fit (weak cyclic (sized s)) knows (option_spelling (shared cyclic (sized s)) w) None
+    unfolding align_up
+    nothing_spells =
+        let as_option = none_spells fit (shared cyclic (sized s)) knows w in
+        record {
+          sized = as_option.sized;
+          canonical = λ st pos names keys bytes level inside k n known state over f o p q. nothing_canonical st pos names bytes level inside q;
+          consistent = as_option.consistent;
+          keyed = as_option.keyed;
+          piece_bytes = as_option.piece_bytes;
+          own_bytes = as_option.own_bytes;
+          piece_exact = as_option.piece_exact;
+          own_exact = as_option.own_exact;
+        }
+
+    -- ---- to a value
+
+    pointer_spells : (x : A) → SpellsAt fit (shared cyclic (sized s)) knows w x → SpellsAt fit (weak cyclic (sized s)) knows (option_spelling (shared cyclic (sized s)) w) (Some x)
+    unfolding align_up
+    pointer_spells x one =
+        let as_option = some_spells fit (shared cyclic (sized s)) knows w x one in
+        let behind_tag : SpellsAt fit (weak cyclic (sized s)) knows (payload_spelling 1 4 8 w) x =
+        payload_spells_at fit (shared cyclic (sized s)) (weak cyclic (sized s)) knows w 1 4 (omega arith) (omega arith) (omega arith) refl pointer_content (λ bytes pos. tt) x one in
+        record {
+          sized = as_option.sized;
+          canonical = behind_tag.canonical;
+          consistent = as_option.consistent;
+          keyed = as_option.keyed;
+          piece_bytes = as_option.piece_bytes;
+          own_bytes = as_option.own_bytes;
+          piece_exact = as_option.piece_exact;
+          own_exact = as_option.own_exact;
+        }
+
+    pub weak_spells : Spells fit (shared cyclic (sized s)) knows w → Spells fit (weak cyclic (sized s)) knows (option_spelling (shared cyclic (sized s)) w)
+    weak_spells spells None = nothing_spells
+    weak_spells spells (Some x) = pointer_spells x (spells x)

@@ -1,3 +1,0 @@
-pub mod SameContent
-pub mod Slices
-pub mod Texts

@@ -1,5 +1,0 @@
-use Rattle.std.proofs.Common.{rules}
-use Rattle.archive_forms_boxed.proofs.boxed_slice.ArchivedBoxedSlice.resolve_from_raw_parts.Goals as goal
-
-pub returns : goal.returns
-returns g c = search rules

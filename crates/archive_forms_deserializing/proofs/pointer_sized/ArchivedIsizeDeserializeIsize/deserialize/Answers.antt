@@ -1,6 +1,0 @@
-use Rattle.std.proofs.Common.{rules, ap}
-use Rattle.archive_shape_canonical.specs.Sharing.{erased}
-use Rattle.archive_forms_deserializing.proofs.pointer_sized.ArchivedIsizeDeserializeIsize.deserialize.Goals as goal
-
-pub returns : goal.returns
-returns g c = λ v h. let e = ap erased (c.native_of.ensures v h) in search (rules, e)

@@ -1,5 +1,0 @@
-use Rattle.archive_forms_deserializing.proofs.Plain.{unit_read}
-use Rattle.archive_forms_deserializing.proofs.unit.UnitDeserialize.deserialize.Goals as goal
-
-pub returns : goal.returns
-returns g c = unit_read _ c.args._this.now.bytes.now c.args._this.now.pos

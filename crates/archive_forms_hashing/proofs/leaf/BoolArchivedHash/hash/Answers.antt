@@ -1,8 +1,0 @@
-use Rattle.std.proofs.Common.{ap}
-use Rattle.std.specs.Hash.{fed_along}
-use Rattle.std.specs.Hash as fed
-use Rattle.archive_forms_ordering.specs.Views.{truth_of}
-use Rattle.archive_forms_hashing.proofs.leaf.BoolArchivedHash.hash.Goals as goal
-
-pub returns : goal.returns
-returns g c = λ v h. fed_along g.H.Hasher.write _ _ (ap (λ u. fed.bool (truth_of u)) (c.native_of.ensures v h)) c.hash.ensures

@@ -1,9 +1,0 @@
-use Rattle.std.proofs.Common.{sym, refl, [], ◌++◌}
-use Rattle.std.specs.Hash.{fed_then, fed_along}
-use Rattle.archive_forms_hashing.proofs.tuple1.ArchivedTuple1ArchivedHash.hash.Goals as goal
-
-pub returns : goal.returns
-returns g c = λ v h.
-    let x = c.first_of.ensures.each v h in
-    fed_along g.H.Hasher.write _ _ (sym (λ i. (g.A.ArchivedHash.hashed (x.1 i) ++ [])))
-    (fed_then g.H.Hasher.write _ _ _ (g.A.ArchivedHash.hashed x.0) [] (c.hash.ensures x.0 x.2) refl)

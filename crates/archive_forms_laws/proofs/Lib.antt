@@ -1,0 +1,32 @@
+pub mod Agreeing
+pub mod Aligning
+pub mod Arrays
+pub mod Behind
+pub mod FieldSizes
+pub mod Fields
+pub mod Forms
+pub mod Gaps
+pub mod Held
+pub mod Leaves
+pub mod Levels
+pub mod Limits
+pub mod Links
+pub mod Named
+pub mod Once
+pub mod Options
+pub mod OrderingResults
+pub mod Payloads
+pub mod Pointers
+pub mod Progress
+pub mod Regions
+pub mod Samples
+pub mod Shared
+pub mod Sizes
+pub mod SpellingResults
+pub mod States
+pub mod TextContent
+pub mod Texts
+pub mod Views
+pub mod Written
+pub use Rattle.archive_shape.proofs as ArchiveShape
+pub use Rattle.archive_shape_canonical.proofs as ShapeCanonical

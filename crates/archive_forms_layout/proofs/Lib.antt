@@ -1,5 +1,0 @@
-pub mod Held
-pub mod Named
-pub mod Once
-pub mod Sizes
-pub mod TextContent

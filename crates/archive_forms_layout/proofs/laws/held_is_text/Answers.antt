@@ -1,5 +1,0 @@
-use Rattle.archive_forms_layout.proofs.Held.{held_is_text_law}
-use Rattle.archive_forms_layout.proofs.laws.held_is_text.Goals as goal
-
-pub returns : goal.returns
-returns c = held_is_text_law

@@ -1,3 +1,0 @@
-pub mod Laws
-pub mod Orders
-pub mod Views

@@ -1,0 +1,139 @@
+//! Counted pointers with the keys under which their values are shared.
+ghost use Rattle.std.specs.Prelude.{false, ⊤, refl};
+ghost use Rattle.archive_shape_layout.specs.Shape.Shape.{shared};
+ghost use Rattle.archive_shape_layout.specs.Shape.Pointee.{sized, slice, str};
+ghost use Rattle.archive_forms_laws.specs.Serializing.{CanResolve, Resolves};
+ghost use Rattle.archive_forms_rc.specs.Counted.{shared_rc_spelling, shared_slice_rc_spelling, shared_str_rc_spelling};
+ghost use Rattle.archive_forms_laws.proofs.Views.{kept_spells};
+ghost use Rattle.archive_forms_borrowed.proofs.Shared.{seen_value_spells, seen_slice_spells, seen_text_spells};
+ghost use Rattle.std.specs.Rc.{rc_slice_items, rc_str_bytes};
+
+use crate::sharing::{SharingExt, serialize_rc_from_ref};
+use crate::{ArchivedRc, ArchivedRcSlice, ArchivedRcStr, RcFlavor, RcResolver};
+use archive_forms_writing::{Archive, Serialize};
+use archive_shape::{Error, Place};
+use std::rc::{Rc, RcSlice, RcStr};
+
+/// A counted pointer, and the key of its value. Pointers to one value have one key, and no other value of any type has
+/// that key: an archive has one value for each key.
+#[derive(Drop)]
+pub struct Shared<P> {
+    pub key: usize,
+    pub value: P,
+}
+
+impl<T: Archive> Archive for Shared<Rc<T>> {
+    type Archived = ArchivedRc<T::Archived, RcFlavor>;
+
+    type Resolver = RcResolver;
+
+    ghost spelling = { shared_rc_spelling T.Archived.shape T.spelling };
+
+    fn resolve(
+        &self,
+        resolver: RcResolver,
+        out: Place<'_, ArchivedRc<T::Archived, RcFlavor>>,
+    ) -> Result<(), Error>
+        requires { CanResolve (shared_rc_spelling T.Archived.shape T.spelling) (shared false (sized T.Archived.shape)) self.now resolver out.out.now out.start out.pos }
+        ensures { Resolves (shared_rc_spelling T.Archived.shape T.spelling) self.now resolver out.entry.pos out.entry.start out.entry.out.now out.exit.0.now result }
+    {
+        let Place {
+            out,
+            start,
+            pos,
+            ..
+        } = out;
+        ArchivedRc::<T::Archived, RcFlavor>::resolve_from_raw_parts(
+            resolver,
+            Place::within(out, start, pos),
+        )
+    }
+
+    ghost spells = { λ fit. kept_spells fit (shared false (sized T.Archived.shape)) T.Archived.knows _ _ (λ r. refl) _
+        (seen_value_spells fit false T.Archived.knows (λ x. x.key) T.Archived.shape T.spelling (T.spells fit) (λ x. x.value.value)) };
+}
+
+impl<S: SharingExt, T: Serialize<S>> Serialize<S> for Shared<Rc<T>> {
+    fn serialize(&self, serializer: &mut S) -> Result<RcResolver, Error> {
+        let value: &T = &*self.value;
+        serialize_rc_from_ref(self.key, &value, serializer)
+    }
+}
+
+impl<T: Archive> Archive for Shared<RcSlice<T>> {
+    type Archived = ArchivedRcSlice<T::Archived, RcFlavor>;
+
+    type Resolver = RcResolver;
+
+    ghost spelling = { shared_slice_rc_spelling T.Archived.shape T.spelling };
+
+    fn resolve(
+        &self,
+        resolver: RcResolver,
+        out: Place<'_, ArchivedRcSlice<T::Archived, RcFlavor>>,
+    ) -> Result<(), Error>
+        requires { CanResolve (shared_slice_rc_spelling T.Archived.shape T.spelling) (shared false (slice T.Archived.shape)) self.now resolver out.out.now out.start out.pos }
+        ensures { Resolves (shared_slice_rc_spelling T.Archived.shape T.spelling) self.now resolver out.entry.pos out.entry.start out.entry.out.now out.exit.0.now result }
+    {
+        let Place {
+            out,
+            start,
+            pos,
+            ..
+        } = out;
+        ArchivedRcSlice::<T::Archived, RcFlavor>::resolve_from_raw_parts(
+            resolver,
+            self.value.len(),
+            Place::within(out, start, pos),
+        )
+    }
+
+    ghost spells = { λ fit. kept_spells fit (shared false (slice T.Archived.shape)) T.Archived.knows _ _ (λ r. refl) _
+        (seen_slice_spells fit false T.Archived.knows (λ x. x.key) T.Archived.shape T.spelling (T.spells fit) (λ x. rc_slice_items x.value)) };
+}
+
+impl<S: SharingExt, T: Serialize<S>> Serialize<S> for Shared<RcSlice<T>> {
+    fn serialize(&self, serializer: &mut S) -> Result<RcResolver, Error> {
+        let elements: &[T] = self.value.as_slice();
+        serialize_rc_from_ref(self.key, &elements, serializer)
+    }
+}
+
+impl Archive for Shared<RcStr> {
+    type Archived = ArchivedRcStr<RcFlavor>;
+
+    type Resolver = RcResolver;
+
+    ghost spelling = { shared_str_rc_spelling };
+
+    fn resolve(
+        &self,
+        resolver: RcResolver,
+        out: Place<'_, ArchivedRcStr<RcFlavor>>,
+    ) -> Result<(), Error>
+        requires { CanResolve shared_str_rc_spelling (shared false str) self.now resolver out.out.now out.start out.pos }
+        ensures { Resolves shared_str_rc_spelling self.now resolver out.entry.pos out.entry.start out.entry.out.now out.exit.0.now result }
+    {
+        let Place {
+            out,
+            start,
+            pos,
+            ..
+        } = out;
+        ArchivedRcStr::<RcFlavor>::resolve_from_raw_parts(
+            resolver,
+            self.value.len(),
+            Place::within(out, start, pos),
+        )
+    }
+
+    ghost spells = { λ fit. kept_spells fit (shared false str) (λ _. ⊤) _ _ (λ r. refl) _
+        (seen_text_spells fit false (λ _. ⊤) (λ x. x.key) (λ x. rc_str_bytes x.value)) };
+}
+
+impl<S: SharingExt> Serialize<S> for Shared<RcStr> {
+    fn serialize(&self, serializer: &mut S) -> Result<RcResolver, Error> {
+        let text: &str = &*self.value;
+        serialize_rc_from_ref(self.key, &text, serializer)
+    }
+}

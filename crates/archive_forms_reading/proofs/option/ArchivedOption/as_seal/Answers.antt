@@ -1,8 +1,0 @@
-use Rattle.std.proofs.Common.{rules, arith}
-use Rattle.archive_forms_reading.proofs.Payloads.{some_stands}
-use Rattle.archive_forms_reading.proofs.option.ArchivedOption.as_seal.Goals as goal
-
-pub returns-else-is_none_at : goal.returns-else-is_none_at
-returns-else-is_none_at g c =
-    let stands = some_stands g.T.Portable.shape g.T.Portable.knows c.args.this.bytes.now c.args.this.pos g.T.Portable.ALIGN g.met.T.Portable.aligned g.met.T.Portable.aligns.0 in
-    (c.new.ensures.same_reference, c.new.ensures.bytes, omega (arith, c.new.ensures.pos, c.ALIGN.ensures, stands), search rules)

@@ -1,5 +1,0 @@
-use Rattle.archive_forms_spelling.proofs.Samples.{keyed_lists_are_written_law}
-use Rattle.archive_forms_spelling.proofs.laws.keyed_lists_are_written.Goals as goal
-
-pub returns : goal.returns
-returns c = keyed_lists_are_written_law

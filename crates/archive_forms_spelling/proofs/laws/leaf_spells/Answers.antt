@@ -1,6 +1,0 @@
-use Rattle.archive_forms_spelling.specs.Laws.{KnowsAll}
-use Rattle.archive_forms_spelling.proofs.Leaves.{leaf_spells}
-use Rattle.archive_forms_spelling.proofs.laws.leaf_spells.Goals as goal
-
-pub returns : goal.returns
-returns g c = λ fit s bytes_of value_of l. leaf_spells fit s KnowsAll bytes_of value_of l

@@ -1,5 +1,0 @@
-use Rattle.archive_forms_spelling.proofs.Samples.{pairs_are_written_law}
-use Rattle.archive_forms_spelling.proofs.laws.pairs_are_written.Goals as goal
-
-pub returns : goal.returns
-returns c = pairs_are_written_law

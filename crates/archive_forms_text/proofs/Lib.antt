@@ -1,4 +1,0 @@
-pub mod Checked
-pub mod Claims
-pub mod Lengths
-pub mod Placed

@@ -1,5 +1,0 @@
-use Rattle.std.proofs.Common.{rules}
-use Rattle.archive_forms_tuples.proofs.tuple4.ArchivedTuple4Portable.shape.Goals as goal
-
-pub returns : goal.returns
-returns g c = search rules

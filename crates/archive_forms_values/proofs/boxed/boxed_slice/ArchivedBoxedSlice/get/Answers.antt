@@ -1,0 +1,13 @@
+use Rattle.std.proofs.Common.{rules, ap}
+use Rattle.archive_forms_values.proofs.Slices.{has_vector, boxed_slice_there}
+use Rattle.archive_forms_values.proofs.boxed.boxed_slice.ArchivedBoxedSlice.get.Goals as goal
+
+pub as_slice-requires : goal.as_slice-requires
+as_slice-requires g c =
+    let there = has_vector g.T.Portable.shape c.args.this.bytes.now c.args.this.pos g.T.Portable.knows c.requires in
+    search (rules, there)
+
+pub returns-clause-elements : goal.returns-clause-elements
+returns-clause-elements g c =
+    boxed_slice_there g.T.Portable.shape c.args.this.bytes.now c.args.this.pos g.T.Portable.knows _ _ _ _
+    (ap (λ bytes. bytes.now) c.new.ensures.bytes) c.new.ensures.pos c.as_slice.ensures.elements

@@ -1,0 +1,5 @@
+use Rattle.std.proofs.Common.{rules}
+use Rattle.archive_forms_values.proofs.tuples.tuple1.ArchivedTuple1Portable.shape.Goals as goal
+
+pub returns : goal.returns
+returns g c = search rules

@@ -1,0 +1,8 @@
+use Rattle.std.proofs.Common.{[], ◌∷◌}
+use Rattle.archive_forms_values.specs.Parts.{both}
+use Rattle.archive_forms_values.specs.Fields.{field}
+use Rattle.archive_forms_values.proofs.Held.{fields_at}
+use Rattle.archive_forms_values.proofs.tuples.tuple2.ArchivedTuple2.first.Goals as goal
+
+pub returns-clause-value : goal.returns-clause-value
+returns-clause-value g c = fields_at (field g.A.Portable.shape g.A.Portable.knows ∷ field g.B.Portable.shape g.B.Portable.knows ∷ []) (both g.A.Portable.knows g.B.Portable.knows) (λ names known. (known.0, (known.1, tt))) c.args.this.bytes.now c.args.this.pos

@@ -1,0 +1,105 @@
+//! `ArchivedString`: its layout and the methods that read it.
+ghost use Rattle.std.specs.Prelude.{◌≡◌, ◌↔◌, List, ℕ, length, [], IsTrue, refl, ⊤};
+ghost use Rattle.std.proofs.Common.{lit<, lit≤};
+ghost use Rattle.archive_shape_layout.specs.Shape.Shape.{text};
+ghost use Rattle.archive_forms_laws.specs.Text.{HasText, IsText, LiesAt};
+
+use crate::text::ArchivedStringRepr;
+use crate::text::repr::{out_of_line_start, own_bytes};
+use archive_shape::{NoUndef, Portable, Ref, Seal, Shape, Str};
+use std::alloc::{AllocError, Global};
+
+/// An archived text of eight own bytes: the text itself if it has at most eight bytes, and otherwise its length and the
+/// offset of its bytes.
+#[derive(Clone, Copy, Debug, PartialEq, Eq)]
+pub struct ArchivedString;
+
+impl NoUndef for ArchivedString {}
+
+impl Portable for ArchivedString {
+    ghost SIZE = { 8 };
+
+    ghost ALIGN = { 4 };
+
+    ghost shape = { text };
+
+    ghost knows = { λ _. ⊤ };
+
+    ghost named = { [] };
+
+    const SIZE: usize = 8;
+
+    const ALIGN: usize = 4;
+
+    fn shape(_alloc: Global) -> Result<Shape, AllocError> {
+        Ok(Shape::Text)
+    }
+
+    ghost sized = { refl };
+
+    ghost aligned = { refl };
+
+    ghost aligns = { (lit< tt, lit≤ tt) };
+
+    ghost known = { λ _ _. tt };
+}
+
+/// Returns the position of the bytes of the text at `pos`.
+fn start_of(bytes: &[u8], pos: usize) -> usize
+    requires { HasText bytes.now pos }
+    ensures { (len : ℕ) × LiesAt bytes.now pos result len }
+{
+    let own = own_bytes(bytes, pos);
+    if ArchivedStringRepr::is_inline(own) {
+        return pos;
+    }
+    out_of_line_start(own, pos).unwrap()
+}
+
+impl ArchivedString {
+    /// Returns the bytes of the text.
+    pub fn as_bytes<'a>(this: Ref<'a, ArchivedString>) -> &'a [u8]
+        requires { HasText this.bytes.now this.pos }
+        ensures { IsText this.entry.bytes.now this.entry.pos result.now }
+    {
+        ArchivedStringRepr::as_bytes(this.bytes, this.pos)
+    }
+
+    /// Returns the text.
+    pub fn as_str<'a>(this: Ref<'a, ArchivedString>) -> &'a str
+        requires { HasText this.bytes.now this.pos }
+        ensures { IsText this.entry.bytes.now this.entry.pos result.now }
+    {
+        // The bytes there are UTF-8.
+        unsafe { std::str::from_utf8_unchecked(ArchivedString::as_bytes(this)) }
+    }
+
+    /// Returns the text's bytes, which may be edited. They are `len` bytes. The contents of the buffer after the loan
+    /// are not specified.
+    pub fn as_str_seal<'a>(this: Seal<'a, ArchivedString>) -> Seal<'a, Str>
+        requires { HasText this.bytes.now this.pos }
+        ensures same_reference { result.bytes.ghost_name ≡ this.entry.bytes.ghost_name }
+        ensures bytes { result.bytes.now ≡ this.entry.bytes.now }
+        ensures text { (len : ℕ) × LiesAt this.entry.bytes.now this.entry.pos result.pos len }
+    {
+        let Seal { bytes, pos, .. } = this;
+        let start = start_of(bytes, pos);
+        Seal::new(bytes, start)
+    }
+
+    /// Returns the length of the text in bytes.
+    pub fn len(this: Ref<'_, ArchivedString>) -> usize
+        requires { HasText this.bytes.now this.pos }
+        ensures { (t : List ℕ) × IsText this.entry.bytes.now this.entry.pos t × (result ≡ length t) }
+    {
+        ArchivedStringRepr::len(own_bytes(this.bytes, this.pos))
+    }
+
+    /// Returns `true` if the text has no bytes.
+    pub fn is_empty(this: Ref<'_, ArchivedString>) -> bool
+        requires { HasText this.bytes.now this.pos }
+        ensures { (t : List ℕ) × IsText this.entry.bytes.now this.entry.pos t × (IsTrue result ↔ (length t ≡ 0)) }
+    {
+        ArchivedString::len(this) == 0
+    }
+}

@@ -1,6 +1,0 @@
-use Rattle.archive_hash_bench.specs.Texts.{known}
-use Rattle.archive_hash_bench.proofs.Read.{text_there, key_there}
-use Rattle.archive_hash_bench.proofs.reads.has_key.Goals as goal
-
-pub as_str-requires : goal.as_str-requires
-as_str-requires c = text_there known _ _ (key_there c.key.result _ _ c.key.ensures.bytes c.key.ensures.pos c.requires)

@@ -1,5 +1,0 @@
-use Rattle.archive_hash_bench.proofs.Read.{value_there}
-use Rattle.archive_hash_bench.proofs.reads.number_of.Goals as goal
-
-pub native_of-requires : goal.native_of-requires
-native_of-requires c = value_there c.value.result _ _ c.value.ensures.bytes c.value.ensures.pos c.requires

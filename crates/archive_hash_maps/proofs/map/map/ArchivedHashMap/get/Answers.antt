@@ -1,0 +1,31 @@
+use Rattle.std.proofs.Common.{◌∙◌, Some, None, refl, ap}
+use Rattle.archive_shape_layout.specs.Shape.Shapes.{no_shapes}
+use Rattle.archive_forms_values.specs.Parts.{HasValue}
+use Rattle.archive_forms_values.specs.Fields.{field_position}
+use Rattle.archive_hash_walking.specs.Maps.{value_at}
+use Rattle.archive_hash_walking.proofs.Lookups.{item_is}
+use Rattle.archive_hash_walking.proofs.Entries.{entry_parts}
+use Rattle.archive_hash_walking.proofs.LookedUp.{looks_up_of}
+use Rattle.archive_hash_walking.proofs.Refs.{at_ref}
+use Rattle.archive_hash_maps.proofs.map.map.ArchivedHashMap.get.Goals as goal
+
+pub returns-in-Some-clause-there : goal.returns-in-Some-clause-there
+returns-in-Some-clause-there g c =
+    let k = g.K.Portable.shape in
+    let v = g.V.Portable.shape in
+    at_ref (λ bs p. HasValue v g.V.Portable.knows bs.now p) c.new.result c.args.this.bytes (field_position k no_shapes v c.in-Some.at) c.new.ensures.bytes (c.new.ensures.pos ∙ c.value_position.ensures)
+    (entry_parts k v g.K.Portable.knows g.V.Portable.knows c.args.this.bytes.now c.in-Some.at c.in-Some.ensures.there).value
+
+pub returns-in-Some-clause-answers : goal.returns-in-Some-clause-answers
+returns-in-Some-clause-answers g c b is =
+    let k = g.K.Portable.shape in
+    let v = g.V.Portable.shape in
+    looks_up_of _ _ (value_at {V = g.row.V.Denot} c.args.this.bytes k v) k v b (Some c.in-Some.at) (Some c.new.result)
+    (ap Some (item_is c.args.this.bytes (field_position k no_shapes v c.in-Some.at) c.new.result c.new.ensures.bytes (c.new.ensures.pos ∙ c.value_position.ensures)))
+    (c.in-Some.ensures.answers b is)
+
+pub returns-in-None-clause-answers : goal.returns-in-None-clause-answers
+returns-in-None-clause-answers g c b is =
+    let k = g.K.Portable.shape in
+    let v = g.V.Portable.shape in
+    looks_up_of _ _ (value_at {V = g.row.V.Denot} c.args.this.bytes k v) k v b None None refl (c.in-None.ensures.answers b is)

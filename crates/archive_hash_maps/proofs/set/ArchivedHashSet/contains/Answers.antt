@@ -1,4 +1,0 @@
-use Rattle.archive_hash_maps.proofs.set.ArchivedHashSet.contains.Goals as goal
-
-pub returns : goal.returns
-returns g c = simp c.as_map.ensures at c.contains_key.ensures

@@ -1,0 +1,27 @@
+//! Prints archived hash maps as std prints its maps: each key and its value, by ascending place.
+
+use crate::map::ArchivedHashMap;
+use archive_forms_comparing::ArchivedDebug;
+use archive_shape::Ref;
+use std::fmt;
+use std::fmt::{Formatter, Write};
+
+impl<K: ArchivedDebug, V: ArchivedDebug, H> ArchivedDebug for ArchivedHashMap<K, V, H> {
+    fn fmt<W: Write>(
+        this: &Ref<'_, ArchivedHashMap<K, V, H>>,
+        f: &mut Formatter<W>,
+    ) -> fmt::Result {
+        f.write_str("{")?;
+        let mut is_first = true;
+        for (key, value) in ArchivedHashMap::iter(*this) {
+            if !is_first {
+                f.write_str(", ")?;
+            }
+            is_first = false;
+            K::fmt(&key, f)?;
+            f.write_str(": ")?;
+            V::fmt(&value, f)?;
+        }
+        f.write_str("}")
+    }
+}

@@ -1,0 +1,31 @@
+//! Iterators over the items of an archived hash table by ascending place.
+ghost use Rattle.std.specs.Prelude.{◌≡◌, All, map};
+ghost use Rattle.archive_shape_layout.specs.Shape.{size_of};
+ghost use Rattle.archive_shape_layout.specs.Shape.Shape.{table};
+ghost use Rattle.archive_forms_values.specs.Parts.{HasValue};
+ghost use Rattle.archive_hash_walking.specs.Tables.{Buckets, IsTableAt, item_positions, full_places};
+ghost use Rattle.archive_hash_walking.specs.Places.{full_place};
+
+use crate::map::ArchivedHashTable;
+use archive_hash_walking::{FullPlaces, RawIter, full_places_at, raw_iter_at};
+use archive_shape::{Portable, Ref};
+
+impl<T: Portable> ArchivedHashTable<T> {
+    /// Returns the full places in ascending order, each with its tag and its item.
+    pub fn full_places<'a>(this: Ref<'a, ArchivedHashTable<T>>) -> FullPlaces<'a, T>
+        requires { HasValue (table T.shape) T.knows this.bytes.now this.pos }
+        ensures there { All (λ e. HasValue T.shape T.knows e.2.bytes.now e.2.pos) result }
+        ensures places { (b : Buckets) → IsTableAt this.entry.bytes.now T.shape this.entry.pos b
+            → result ≡ map (full_place this.entry.bytes b.controls b.target (size_of T.shape)) (full_places b) }
+    {
+        full_places_at(this.bytes, this.pos)
+    }
+
+    /// Returns the positions of the items, by ascending place.
+    pub fn raw_iter<'a>(this: Ref<'a, ArchivedHashTable<T>>) -> RawIter<'a, T>
+        requires { HasValue (table T.shape) T.knows this.bytes.now this.pos }
+        ensures { (b : Buckets) → IsTableAt this.entry.bytes.now T.shape this.entry.pos b → result ≡ item_positions T.shape b }
+    {
+        raw_iter_at(this.bytes, this.pos)
+    }
+}

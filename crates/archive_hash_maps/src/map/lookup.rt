@@ -1,0 +1,74 @@
+//! Look-ups of items in archived hash tables.
+ghost use Rattle.std.specs.Prelude.{◌≡◌, ℕ, IfSome};
+ghost use Rattle.archive_shape_layout.specs.Shape.Shape.{table};
+ghost use Rattle.archive_forms_values.specs.Parts.{HasValue};
+ghost use Rattle.archive_hash_walking.specs.Tables.{Buckets, IsTableAt};
+ghost use Rattle.archive_hash_walking.specs.Places.{Answers, calls, item_at};
+
+use crate::map::ArchivedHashTable;
+use archive_hash_probing::{Group, Scan};
+use archive_hash_walking::search_table;
+use archive_shape::{Portable, Ref, Steps};
+
+impl<T: Portable> ArchivedHashTable<T> {
+    /// Returns the item that has the hash `hash` and that `accepts` accepts, and the number of strides of sixteen
+    /// controls that were searched for it. `accepts` is called for the items that have the hash's tag, and for a few
+    /// others, until it returns `true`. The count of comparisons in search trees is 0.
+    pub fn get_counted<'a, S: Scan, F: Fn(Ref<'_, T>) -> bool>(
+        this: Ref<'a, ArchivedHashTable<T>>,
+        hash: u64,
+        accepts: &F,
+    ) -> (Option<Ref<'a, T>>, Steps)
+        requires has { HasValue (table T.shape) T.knows this.bytes.now this.pos }
+        requires callable { (at : ℕ) → HasValue T.shape T.knows this.bytes.now at → F.pre accepts.now (item_at this.bytes at) }
+        ensures answers { (b : Buckets) → IsTableAt this.entry.bytes.now T.shape this.entry.pos b
+            → Answers (calls F.post accepts.now this.entry.bytes) (item_at this.entry.bytes) T.shape b hash result.0 result.1.strides }
+        ensures there { IfSome result.0 (λ r. HasValue T.shape T.knows r.bytes.now r.pos) }
+        ensures compares { result.1.comparisons ≡ 0 }
+    {
+        let bytes = this.bytes;
+        let accepts_at = |at: usize| -> bool
+            requires { F.pre accepts.now (item_at bytes at) }
+            ensures { F.post accepts.entry.now (item_at bytes.entry at) result }
+        { accepts(Ref::new(bytes, at)) };
+        let (found, strides) = search_table::<T, S, _>(bytes, this.pos, hash, &accepts_at);
+        let steps = Steps {
+            comparisons: 0,
+            strides,
+        };
+        match found {
+            Some(at) => (Some(Ref::new(bytes, at)), steps),
+            None => (None, steps),
+        }
+    }
+
+    /// Returns the same item as [`ArchivedHashTable::get_counted`], without the count. The caller chooses the scan `S`.
+    pub fn get_with_scan<'a, S: Scan, F: Fn(Ref<'_, T>) -> bool>(
+        this: Ref<'a, ArchivedHashTable<T>>,
+        hash: u64,
+        accepts: &F,
+    ) -> Option<Ref<'a, T>>
+        requires has { HasValue (table T.shape) T.knows this.bytes.now this.pos }
+        requires callable { (at : ℕ) → HasValue T.shape T.knows this.bytes.now at → F.pre accepts.now (item_at this.bytes at) }
+        ensures answers { (b : Buckets) → IsTableAt this.entry.bytes.now T.shape this.entry.pos b
+            → (strides : ℕ) × Answers (calls F.post accepts.now this.entry.bytes) (item_at this.entry.bytes) T.shape b hash result strides }
+        ensures there { IfSome result (λ r. HasValue T.shape T.knows r.bytes.now r.pos) }
+    {
+        ArchivedHashTable::get_counted::<S, F>(this, hash, accepts).0
+    }
+
+    /// Returns the item that has the hash `hash` and that `accepts` accepts.
+    pub fn get_with<'a, F: Fn(Ref<'_, T>) -> bool>(
+        this: Ref<'a, ArchivedHashTable<T>>,
+        hash: u64,
+        accepts: &F,
+    ) -> Option<Ref<'a, T>>
+        requires has { HasValue (table T.shape) T.knows this.bytes.now this.pos }
+        requires callable { (at : ℕ) → HasValue T.shape T.knows this.bytes.now at → F.pre accepts.now (item_at this.bytes at) }
+        ensures answers { (b : Buckets) → IsTableAt this.entry.bytes.now T.shape this.entry.pos b
+            → (strides : ℕ) × Answers (calls F.post accepts.now this.entry.bytes) (item_at this.entry.bytes) T.shape b hash result strides }
+        ensures there { IfSome result (λ r. HasValue T.shape T.knows r.bytes.now r.pos) }
+    {
+        ArchivedHashTable::get_with_scan::<Group, F>(this, hash, accepts)
+    }
+}

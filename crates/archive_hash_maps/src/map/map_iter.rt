@@ -1,0 +1,201 @@
+//! Iterators over the entries of an archived hash map by ascending place.
+ghost use Rattle.std.specs.Prelude.{◌≡◌, ℕ, ◌+◌, ◌^◌, ◌<◌, IfSome, All, length, map};
+ghost use Rattle.std.specs.Iterator.{YieldsFirst, UpTo, item_count};
+ghost use Rattle.std.specs.Iterator.SizeHint.{IsExactHint, IsWithinCount};
+ghost use Rattle.archive_shape_layout.specs.Shape.Shape.{table};
+ghost use Rattle.archive_forms_values.specs.Tuples.{tuple2};
+ghost use Rattle.archive_forms_values.specs.Parts.{HasValue, both};
+ghost use Rattle.archive_hash_walking.specs.Tables.{Buckets, IsTableAt, item_positions};
+ghost use Rattle.archive_hash_walking.specs.Maps.{key_at, value_at, entry_at, pair_at};
+
+use crate::map::{ArchivedHashMap, ArchivedHashTable};
+use archive_forms_values::{Entry, next_multiple};
+use archive_hash_walking::RawIter;
+use archive_shape::{Portable, Ref};
+use std::iter::FusedIterator;
+use std::marker::{Model, PhantomData};
+
+/// An iterator over the entries by ascending place: each key with its value. Its view is the list of the entries that
+/// are left.
+#[derive(Drop)]
+pub struct Iter<'a, K, V> {
+    bytes: &'a [u8],
+    positions: RawIter<'a, Entry<K, V>>,
+    /// The offset of a value from its entry's position.
+    behind: usize,
+    of: PhantomData<(K, V)>,
+}
+
+impl<'a, K, V> Model for Iter<'a, K, V> {
+    ghost use Rattle.std.specs.Prelude.{ℕ, ◌+◌, ◌^◌, ◌<◌, List, map, All};
+    ghost use Rattle.archive_shape.specs.declared.references.refs.Ref.{Ref};
+    ghost use Rattle.archive_hash_walking.specs.Maps.{pair_at};
+
+    ghost Value = { List (Ref K × Ref V) };
+
+    ghost view = { λ it. map (pair_at it.bytes it.behind) it.positions };
+
+    ghost invariant = { λ it. All (λ at. at + it.behind < 2 ^ 64) it.positions };
+}
+
+impl<'a, K, V> Iterator for Iter<'a, K, V> {
+    type Item = (Ref<'a, K>, Ref<'a, V>);
+
+    ghost next_gives = { YieldsFirst (λ xs. xs) };
+
+    ghost remaining = { item_count (λ xs. xs) };
+
+    fn next(&mut self) -> Option<(Ref<'a, K>, Ref<'a, V>)> {
+        let at = self.positions.next()?;
+        Some((
+            Ref::new(self.bytes, at),
+            Ref::new(self.bytes, at + self.behind),
+        ))
+    }
+
+    fn size_hint(&self) -> (usize, Option<usize>)
+        ensures lower { IsWithinCount result.0 (item_count (λ xs. xs) self.now) }
+        ensures upper { IfSome result.1 (UpTo (item_count (λ xs. xs) self.now)) }
+        ensures exact { IsExactHint result (length self.now) }
+    {
+        self.positions.size_hint()
+    }
+}
+
+impl<'a, K, V> ExactSizeIterator for Iter<'a, K, V> {
+    fn len(&self) -> usize {
+        self.positions.len()
+    }
+}
+
+impl<'a, K, V> FusedIterator for Iter<'a, K, V> {}
+
+/// An iterator over the keys by ascending place. Its view is the list of the keys that are left.
+#[derive(Drop)]
+pub struct Keys<'a, K, V> {
+    entries: Iter<'a, K, V>,
+}
+
+impl<'a, K, V> Model for Keys<'a, K, V> {
+    ghost use Rattle.std.specs.Prelude.{List, map};
+    ghost use Rattle.archive_shape.specs.declared.references.refs.Ref.{Ref};
+
+    ghost Value = { List (Ref K) };
+
+    ghost view = { λ it. map (λ e. e.0) it.entries };
+}
+
+impl<'a, K, V> Iterator for Keys<'a, K, V> {
+    type Item = Ref<'a, K>;
+
+    ghost next_gives = { YieldsFirst (λ xs. xs) };
+
+    ghost remaining = { item_count (λ xs. xs) };
+
+    fn next(&mut self) -> Option<Ref<'a, K>> {
+        let (key, _) = self.entries.next()?;
+        Some(key)
+    }
+
+    fn size_hint(&self) -> (usize, Option<usize>)
+        ensures lower { IsWithinCount result.0 (item_count (λ xs. xs) self.now) }
+        ensures upper { IfSome result.1 (UpTo (item_count (λ xs. xs) self.now)) }
+        ensures exact { IsExactHint result (length self.now) }
+    {
+        self.entries.size_hint()
+    }
+}
+
+impl<'a, K, V> ExactSizeIterator for Keys<'a, K, V> {
+    fn len(&self) -> usize {
+        self.entries.len()
+    }
+}
+
+impl<'a, K, V> FusedIterator for Keys<'a, K, V> {}
+
+/// An iterator over the values by ascending place. Its view is the list of the values that are left.
+#[derive(Drop)]
+pub struct Values<'a, K, V> {
+    entries: Iter<'a, K, V>,
+}
+
+impl<'a, K, V> Model for Values<'a, K, V> {
+    ghost use Rattle.std.specs.Prelude.{List, map};
+    ghost use Rattle.archive_shape.specs.declared.references.refs.Ref.{Ref};
+
+    ghost Value = { List (Ref V) };
+
+    ghost view = { λ it. map (λ e. e.1) it.entries };
+}
+
+impl<'a, K, V> Iterator for Values<'a, K, V> {
+    type Item = Ref<'a, V>;
+
+    ghost next_gives = { YieldsFirst (λ xs. xs) };
+
+    ghost remaining = { item_count (λ xs. xs) };
+
+    fn next(&mut self) -> Option<Ref<'a, V>> {
+        let (_, value) = self.entries.next()?;
+        Some(value)
+    }
+
+    fn size_hint(&self) -> (usize, Option<usize>)
+        ensures lower { IsWithinCount result.0 (item_count (λ xs. xs) self.now) }
+        ensures upper { IfSome result.1 (UpTo (item_count (λ xs. xs) self.now)) }
+        ensures exact { IsExactHint result (length self.now) }
+    {
+        self.entries.size_hint()
+    }
+}
+
+impl<'a, K, V> ExactSizeIterator for Values<'a, K, V> {
+    fn len(&self) -> usize {
+        self.entries.len()
+    }
+}
+
+impl<'a, K, V> FusedIterator for Values<'a, K, V> {}
+
+impl<K: Portable, V: Portable, H> ArchivedHashMap<K, V, H> {
+    /// Returns the entries by ascending place: each key with its value.
+    pub fn iter<'a>(this: Ref<'a, ArchivedHashMap<K, V, H>>) -> Iter<'a, K, V>
+        requires { HasValue (table (tuple2 K.shape V.shape)) (both K.knows V.knows) this.bytes.now this.pos }
+        ensures there { All (λ e. HasValue K.shape K.knows e.0.bytes.now e.0.pos × HasValue V.shape V.knows e.1.bytes.now e.1.pos) result }
+        ensures entries { (b : Buckets) → IsTableAt this.entry.bytes.now (tuple2 K.shape V.shape) this.entry.pos b
+            → result ≡ map (entry_at this.entry.bytes K.shape V.shape) (item_positions (tuple2 K.shape V.shape) b) }
+    {
+        let _len = this.bytes.len();
+        Iter {
+            bytes: this.bytes,
+            positions: ArchivedHashTable::raw_iter(ArchivedHashMap::table(this)),
+            behind: next_multiple(K::SIZE, V::ALIGN),
+            of: PhantomData,
+        }
+    }
+
+    /// Returns the keys by ascending place.
+    pub fn keys<'a>(this: Ref<'a, ArchivedHashMap<K, V, H>>) -> Keys<'a, K, V>
+        requires { HasValue (table (tuple2 K.shape V.shape)) (both K.knows V.knows) this.bytes.now this.pos }
+        ensures there { All (λ r. HasValue K.shape K.knows r.bytes.now r.pos) result }
+        ensures keys { (b : Buckets) → IsTableAt this.entry.bytes.now (tuple2 K.shape V.shape) this.entry.pos b
+            → result ≡ map (key_at this.entry.bytes) (item_positions (tuple2 K.shape V.shape) b) }
+    {
+        Keys {
+            entries: ArchivedHashMap::iter(this),
+        }
+    }
+
+    /// Returns the values by ascending place.
+    pub fn values<'a>(this: Ref<'a, ArchivedHashMap<K, V, H>>) -> Values<'a, K, V>
+        requires { HasValue (table (tuple2 K.shape V.shape)) (both K.knows V.knows) this.bytes.now this.pos }
+        ensures there { All (λ r. HasValue V.shape V.knows r.bytes.now r.pos) result }
+        ensures values { (b : Buckets) → IsTableAt this.entry.bytes.now (tuple2 K.shape V.shape) this.entry.pos b
+            → result ≡ map (value_at this.entry.bytes K.shape V.shape) (item_positions (tuple2 K.shape V.shape) b) }
+    {
+        Values {
+            entries: ArchivedHashMap::iter(this),
+        }
+    }
+}

@@ -1,0 +1,89 @@
+//! The type of archived hash tables, its layout and its length.
+ghost use Rattle.std.specs.Prelude.{◌≡◌, ◌↔◌, [], length, IsTrue};
+ghost use Rattle.std.proofs.Common.{refl, lit<, lit≤};
+ghost use Rattle.archive_shape_layout.specs.Shape.Shape.{table};
+ghost use Rattle.archive_forms_values.specs.Parts.{HasValue};
+ghost use Rattle.archive_hash_walking.specs.Tables.{Buckets, IsTableAt, full_places};
+
+use archive_hash_checking::check_table_each;
+use archive_hash_walking::{buckets_at, number_at};
+use archive_shape::{ArchiveContext, CheckBytes, Error, NoUndef, Portable, Ref, Shape};
+use std::alloc::{AllocError, Global};
+use std::marker::PhantomData;
+
+/// An archived table of items: a four-byte offset that leads to the controls, four bytes with the number of items, and
+/// four with the number of places. Without items the offset leads to nothing.
+#[derive_where(Clone, Copy)]
+pub struct ArchivedHashTable<T> {
+    pub of: PhantomData<T>,
+}
+
+impl<T> NoUndef for ArchivedHashTable<T> {}
+
+impl<T: Portable> Portable for ArchivedHashTable<T> {
+    ghost SIZE = { 12 };
+
+    ghost ALIGN = { 4 };
+
+    ghost shape = { table T.shape };
+
+    ghost knows = { T.knows };
+
+    ghost named = { T.named };
+
+    const SIZE: usize = 12;
+
+    const ALIGN: usize = 4;
+
+    fn shape(alloc: Global) -> Result<Shape, AllocError> {
+        Ok(Shape::Table(Box::new(alloc, T::shape(alloc)?)?))
+    }
+
+    ghost sized = { refl };
+
+    ghost aligned = { refl };
+
+    ghost aligns = { (lit< tt, lit≤ tt) };
+
+    ghost known = { λ names has. T.known names has };
+}
+
+impl<C: ArchiveContext, T: CheckBytes<C>> CheckBytes<C> for ArchivedHashTable<T> {
+    fn check(alloc: Global, bytes: &[u8], pos: usize, context: &mut C) -> Result<(), Error> {
+        check_table_each::<T, C, _>(
+            bytes,
+            pos,
+            context,
+            |c: &mut C, p: usize| T::check(alloc, bytes, p, c),
+        )
+    }
+}
+
+impl<T: Portable> ArchivedHashTable<T> {
+    /// Returns the number of items.
+    pub fn len(this: Ref<'_, ArchivedHashTable<T>>) -> usize
+        requires { HasValue (table T.shape) T.knows this.bytes.now this.pos }
+        ensures { (b : Buckets) → IsTableAt this.entry.bytes.now T.shape this.entry.pos b → result ≡ length (full_places b) }
+    {
+        number_at(this.bytes, this.pos + 4)
+    }
+
+    /// Returns whether the table has no items.
+    pub fn is_empty(this: Ref<'_, ArchivedHashTable<T>>) -> bool
+        requires { HasValue (table T.shape) T.knows this.bytes.now this.pos }
+        ensures { (b : Buckets) → IsTableAt this.entry.bytes.now T.shape this.entry.pos b → IsTrue result ↔ (full_places b ≡ []) }
+    {
+        ArchivedHashTable::len(this) == 0
+    }
+
+    /// Returns the number of places, which is 0 for a table without items.
+    pub fn capacity(this: Ref<'_, ArchivedHashTable<T>>) -> usize
+        requires { HasValue (table T.shape) T.knows this.bytes.now this.pos }
+        ensures { (b : Buckets) → IsTableAt this.entry.bytes.now T.shape this.entry.pos b → result ≡ b.cap }
+    {
+        match buckets_at::<T>(this.bytes, this.pos) {
+            Some(buckets) => buckets.capacity,
+            None => 0,
+        }
+    }
+}

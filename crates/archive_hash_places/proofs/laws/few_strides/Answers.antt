@@ -1,5 +1,0 @@
-use Rattle.archive_hash_places.proofs.Coverage.{few_strides}
-use Rattle.archive_hash_places.proofs.laws.few_strides.Goals as goal
-
-pub returns : goal.returns
-returns c = few_strides c.args.hash c.args.capacity c.requires

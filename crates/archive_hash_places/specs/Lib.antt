@@ -1,4 +1,0 @@
-pub mod Controls
-pub mod Search
-pub mod Stops
-pub mod Loads

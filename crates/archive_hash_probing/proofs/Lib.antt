@@ -1,0 +1,24 @@
+pub mod Computed
+pub mod Counts
+pub mod Coverage
+pub mod Findable
+pub mod FirstFits
+pub mod FirstFree
+pub mod FirstHandedIn
+pub mod Fit
+pub mod FreePlaces
+pub mod InStride
+pub mod LaneLemmas
+pub mod Lowest
+pub mod MarkLemmas
+pub mod PlaceLemmas
+pub mod Powers
+pub mod Reached
+pub mod Small
+pub mod StopLemmas
+pub mod StrideLemmas
+pub mod Triangles
+pub mod Walks
+pub mod WordLemmas
+pub mod Wrapping
+pub use Rattle.archive_shape_canonical.proofs as ShapeCanonical

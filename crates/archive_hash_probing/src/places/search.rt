@@ -1,0 +1,120 @@
+//! A look-up along the strides of a hash.
+ghost use Rattle.std.specs.Prelude.{◌≡◌, ℕ, ◌+◌, ◌*◌, ◌%◌, ◌^◌, ◌<◌, ◌≤◌, true, false, length, slice_index, IfSome, MatchOption, Some};
+ghost use Rattle.std.specs.List.{list_any};
+ghost use Rattle.archive_shape_canonical.specs.FirstFit.{hash_tag};
+ghost use Rattle.archive_shape_canonical.specs.Strides.{sixteens};
+ghost use Rattle.archive_shape_canonical.specs.Reach.{is_empty, shown, Reaches};
+ghost use Rattle.archive_hash_probing.specs.Controls.{AreControls};
+ghost use Rattle.archive_hash_probing.specs.Search.{IsFoundIn, IsLookup, IsRefused};
+
+use crate::places::strides::Strides;
+use crate::scanning::{Scan, stride_empties, stride_matches, tag_of};
+
+/// The result of a look-up, and the number of strides that it searched.
+#[derive(Clone, Copy, Debug, PartialEq, Eq)]
+pub struct Found {
+    /// The place of the item, or `None` if no item is found.
+    pub place: Option<usize>,
+    /// The number of strides up to the one that shows the item. If none is found, it is the number up to the first
+    /// stride that shows an empty control.
+    pub strides: usize,
+}
+
+/// Returns the place of a control whose index is below twice the capacity.
+#[tactic(auto, using(crate::proofs::PlaceLemmas::wrapped_low, crate::proofs::PlaceLemmas::wrapped_high))]
+pub(crate) fn place_of(control: usize, capacity: usize) -> usize
+    requires small { capacity < 2 ^ 32 }
+    requires below { control < 2 * capacity }
+    ensures value { result ≡ control % capacity }
+    ensures bound { result < capacity }
+{
+    if control < capacity {
+        control
+    } else {
+        control - capacity
+    }
+}
+
+/// Returns `true` if a stride shows an empty control.
+fn shows_empty<S: Scan>(controls: &[u8], position: usize) -> bool
+    requires { position + 16 ≤ length controls.now }
+    ensures { result ≡ list_any is_empty (shown controls.now position) }
+{
+    stride_empties::<S>(controls, position).any_bit_set()
+}
+
+/// Returns the first accepted item of a stride among those that are marked in the search for the tag.
+fn find_in_stride<S: Scan, F: Fn(usize) -> bool>(
+    controls: &[u8],
+    capacity: usize,
+    position: usize,
+    tag: u8,
+    accepts: &F,
+) -> Option<usize>
+    requires tag { tag < 128 }
+    requires small { capacity < 2 ^ 32 }
+    requires within { position + 16 ≤ length controls.now }
+    requires controls { AreControls controls.now capacity }
+    requires callable { (place : ℕ) → place < capacity → slice_index controls.now place < 128
+        → F.pre accepts.now place }
+    ensures { MatchOption result
+        (IsRefused (λ p. F.post accepts.now p true) (λ p. F.post accepts.now p false)
+        controls.now capacity tag position)
+        (λ place. IsFoundIn (λ p. F.post accepts.now p true) (λ p. F.post accepts.now p false)
+        controls.now capacity tag position place) }
+{
+    let mut marks = stride_matches::<S>(controls, position, tag);
+    while let Some(lane) = marks.lowest_set_bit() {
+        let place = place_of(position + lane, capacity);
+        if accepts(place) {
+            return Some(place);
+        }
+        marks = marks.remove_lowest_bit();
+    }
+    None
+}
+
+/// Looks up an item of a hash in the controls of a table. `accepts` returns whether the item at a place is the one to
+/// be found. It is called for the items under the hash's tag, and for a few others, until it returns `true`.
+pub fn find<S: Scan, F: Fn(usize) -> bool>(
+    controls: &[u8],
+    capacity: usize,
+    hash: u64,
+    accepts: &F,
+) -> Found
+    requires some { 0 < capacity }
+    requires small { capacity < 2 ^ 32 }
+    requires controls { AreControls controls.now capacity }
+    requires callable { (place : ℕ) → place < capacity → slice_index controls.now place < 128
+        → F.pre accepts.now place }
+    ensures answer { IsLookup (F.post accepts.now) controls.now capacity hash result.place result.strides }
+    ensures item { IfSome result.place (λ place. (place < capacity) × (slice_index controls.now place < 128) × F.post accepts.now place true) }
+    ensures few { result.strides ≤ sixteens capacity }
+    ensures findable { (place : ℕ) → Reaches controls.now hash capacity place → slice_index controls.now place ≡ hash_tag hash
+        → (F.post accepts.now place false → ⊥)
+        → ((p : ℕ) → p < capacity → slice_index controls.now p < 128 → F.post accepts.now p true → p ≡ place)
+        → result.place ≡ Some place }
+{
+    let tag = tag_of(hash);
+    let mut strides = Strides::new(hash, capacity);
+    let mut searched = 0;
+    while let Some(position) = strides.next() {
+        searched += 1;
+        if let Some(place) = find_in_stride::<S, F>(controls, capacity, position, tag, accepts) {
+            return Found {
+                place: Some(place),
+                strides: searched,
+            };
+        }
+        if shows_empty::<S>(controls, position) {
+            return Found {
+                place: None,
+                strides: searched,
+            };
+        }
+    }
+    Found {
+        place: None,
+        strides: searched,
+    }
+}

@@ -1,3 +1,0 @@
-pub mod Paired
-pub mod Present
-pub mod Resolved

@@ -1,7 +1,0 @@
-use Rattle.std.proofs.Common.{All}
-use Rattle.archive_forms_reading.specs.Parts.{HasValue}
-use Rattle.archive_hash_reading.proofs.debug.ArchivedHashMapArchivedDebug.fmt.Given as goal
-
--- values stand at the entries that are left
-abbrev pub invariant-loop-key : goal.invariant-loop-key
-invariant-loop-key g l = All (λ e. HasValue g.K.Portable.shape g.K.Portable.knows e.0.bytes.now e.0.pos × HasValue g.V.Portable.shape g.V.Portable.knows e.1.bytes.now e.1.pos) l.key-iterator

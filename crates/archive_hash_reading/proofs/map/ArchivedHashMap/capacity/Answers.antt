@@ -1,8 +1,0 @@
-use Rattle.archive_forms_checking.specs.Tuples.{tuple2}
-use Rattle.archive_hash_walking.specs.Tables.{IsTableAt}
-use Rattle.archive_hash_walking.proofs.Refs.{at_ref}
-use Rattle.archive_hash_reading.proofs.map.ArchivedHashMap.capacity.Goals as goal
-
-pub returns : goal.returns
-returns g c b is =
-    c.capacity.ensures b (at_ref (λ bs p. IsTableAt bs.now (tuple2 g.K.Portable.shape g.V.Portable.shape) p b) c.table.result c.args.this.bytes c.args.this.pos c.table.ensures.bytes c.table.ensures.pos is)

@@ -1,6 +1,0 @@
-use Rattle.std.proofs.Common.{leb}
-use Rattle.archive_hash_scanning.proofs.MarkLemmas.{lanes_left}
-use Rattle.archive_hash_scanning.proofs.scan.Group16Scan.match_empty.Goals as goal
-
-pub returns : goal.returns
-returns c = lanes_left (λ x y. leb x y) c.args.self.lanes 128 c.args.self.sixteen

@@ -1,6 +1,0 @@
-use Rattle.std.proofs.Common.{ltb}
-use Rattle.archive_hash_scanning.proofs.MarkLemmas.{lanes_right}
-use Rattle.archive_hash_scanning.proofs.scan.Group16Scan.match_full.Goals as goal
-
-pub returns : goal.returns
-returns c = lanes_right (λ x y. ltb x y) c.args.self.lanes 128 c.args.self.sixteen

@@ -1,5 +1,0 @@
-use Rattle.archive_hash_scanning.proofs.WordLemmas.{gathered_is}
-use Rattle.archive_hash_scanning.proofs.word.gathered.Goals as goal
-
-pub returns : goal.returns
-returns c = λ marks long e. gathered_is marks c.args.word long e

@@ -1,5 +1,0 @@
-use Rattle.archive_hash_scanning.proofs.WordLemmas.{marked_is}
-use Rattle.archive_hash_scanning.proofs.word.marked.Goals as goal
-
-pub returns : goal.returns
-returns c = λ xs long bytes e. marked_is xs c.args.word long bytes e

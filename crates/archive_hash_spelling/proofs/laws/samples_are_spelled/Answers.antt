@@ -1,5 +1,0 @@
-use Rattle.archive_hash_spelling.proofs.Samples.{samples_are_spelled_law}
-use Rattle.archive_hash_spelling.proofs.laws.samples_are_spelled.Goals as goal
-
-pub returns : goal.returns
-returns c = samples_are_spelled_law

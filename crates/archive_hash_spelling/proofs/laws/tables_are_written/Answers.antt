@@ -1,5 +1,0 @@
-use Rattle.archive_hash_spelling.proofs.Numbers.{tables_are_written_law}
-use Rattle.archive_hash_spelling.proofs.laws.tables_are_written.Goals as goal
-
-pub returns : goal.returns
-returns c = tables_are_written_law

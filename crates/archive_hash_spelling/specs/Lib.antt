@@ -1,4 +1,0 @@
-pub mod Fitted
-pub mod Tables
-pub mod Sample
-pub mod Laws

@@ -1,0 +1,44 @@
+-- Tables of numbers are written as their one archive, where a fit fills them as they are written, and some fit does.
+use Rattle.std.proofs.Common.{ℕ, List, [], ◌∷◌, None, refl, map}
+use Rattle.std.specs.Int.{w32, to_le_bytes}
+use Rattle.archive_shape.specs.ShapeLayout.Value.Value.{natural}
+use Rattle.archive_hash_probing.specs.ShapeCanonical.Settled.{Fit}
+use Rattle.archive_forms_writing.specs.FormsLaws.State.{Keys, AreOneToOne}
+use Rattle.archive_forms_writing.specs.FormsLaws.Spells.{Spells}
+use Rattle.archive_forms_writing.specs.FormsLaws.Regions.{all_suit}
+use Rattle.archive_forms_writing.specs.FormsLaws.SpellingLaws.{KnowsAll}
+use Rattle.archive_forms_writing.proofs.FormsLaws.Leaves.{leaf_spells}
+use Rattle.archive_forms_writing.proofs.FormsLaws.Written.{is_written}
+use Rattle.archive_hash_writing.specs.Fitted.{by_place, capacity_of, controls_of}
+use Rattle.archive_hash_writing.specs.Sample.{number_shape, number_spelling, sample_shape}
+use Rattle.archive_hash_writing.specs.Tables.{table_spelling}
+use Rattle.archive_hash_writing.specs.Laws.{TablesAreWritten, EachIsFilled}
+use Rattle.archive_hash_writing.proofs.SpellingTables.{table_spells}
+
+number_spells : (fit : Fit) → Spells fit number_shape KnowsAll number_spelling
+number_spells fit = leaf_spells fit number_shape KnowsAll (to_le_bytes w32) natural tt
+
+-- no shared value is in them
+abbrev no_keys : Keys
+no_keys k = None
+
+none_to_none : AreOneToOne no_keys
+none_to_none k l a b e f same_type same = absurd (cc)
+
+none_shared : (fit : Fit) (xs : List ℕ) → all_suit number_spelling fit no_keys xs
+none_shared fit [] = tt
+none_shared fit (x ∷ xs) = (tt, none_shared fit xs)
+
+pub tables_are_written_law : TablesAreWritten
+tables_are_written_law most places hash fit names xs bytes small filled f e =
+    is_written fit sample_shape KnowsAll (table_spelling most places number_shape number_spelling hash) xs names no_keys bytes
+    (table_spells fit number_shape KnowsAll number_spelling most places hash small (number_spells fit))
+    tt (none_shared fit (by_place most places (map hash xs) xs), filled) none_to_none f e
+
+-- a fit that fills a table with this number of places and these controls, and leaves the items in their order
+abbrev filling : ℕ → List ℕ → Fit
+filling capacity controls = record { capacity = λ len. capacity; table_controls = λ keys. controls; table_items = λ keys. keys; map_controls = λ keys. []; map_numbers = λ keys. [] }
+
+pub each_is_filled_law : EachIsFilled
+each_is_filled_law most places hashes [] = (filling 0 [], tt)
+each_is_filled_law most places hashes (x ∷ xs) = (filling (capacity_of most places hashes (x ∷ xs)) (controls_of most places hashes (x ∷ xs)), (refl, refl, refl))

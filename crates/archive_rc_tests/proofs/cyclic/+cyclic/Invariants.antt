@@ -1,8 +1,0 @@
-use Rattle.std.proofs.Common.{◌+◌, ◌*◌}
-use Rattle.archive_rc_tests.proofs.cyclic.+cyclic.Given as goal
-
-abbrev pub decreases-check_loop : goal.decreases-check_loop
-decreases-check_loop g l = 2 * l.room + 1
-
-abbrev pub decreases-check_rc_each : goal.decreases-check_rc_each
-decreases-check_rc_each g l = 2 * l.room

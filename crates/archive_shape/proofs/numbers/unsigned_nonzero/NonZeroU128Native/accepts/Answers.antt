@@ -1,0 +1,7 @@
+use Rattle.std.proofs.Common.{false}
+use Rattle.std.specs.Int.{w128}
+use Rattle.archive_shape_layout.proofs.NumberReading.{nonzero_illegal, read_number}
+use Rattle.archive_shape.proofs.numbers.unsigned_nonzero.NonZeroU128Native.accepts.Goals as goal
+
+pub returns-clause-illegal : goal.returns-clause-illegal
+returns-clause-illegal c = nonzero_illegal w128 false _ _ (read_number w128 _ _ c.read.ensures.value)

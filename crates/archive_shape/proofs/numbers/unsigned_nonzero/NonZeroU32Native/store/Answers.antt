@@ -1,0 +1,6 @@
+use Rattle.std.specs.Int.{w32}
+use Rattle.archive_shape_layout.proofs.NumberReading.{nonzero_unsigned_stored}
+use Rattle.archive_shape.proofs.numbers.unsigned_nonzero.NonZeroU32Native.store.Goals as goal
+
+pub returns-clause-value : goal.returns-clause-value
+returns-clause-value c = nonzero_unsigned_stored w32 _ _ _ c.store.ensures.value c.get.ensures.value c.get.ensures.nonzero

@@ -1,0 +1,12 @@
+use Rattle.std.proofs.Common.{rules}
+use Rattle.std.proofs.Common.{false, ap, sym}
+use Rattle.std.specs.Int.{w64}
+use Rattle.archive_shape_layout.specs.Value.Value.{natural}
+use Rattle.archive_shape_layout.proofs.NumberReading.{nonzero_reads}
+use Rattle.archive_shape.proofs.numbers.unsigned_nonzero.NonZeroU64Native.read.Goals as goal
+
+pub returns-clause-bytes : goal.returns-clause-bytes
+returns-clause-bytes c = search rules
+
+pub returns-clause-value : goal.returns-clause-value
+returns-clause-value c = nonzero_reads w64 false _ _ _ c.read.ensures.value (ap natural (sym (rw c.unwrap.ensures at c.new.ensures))) c.requires.legal

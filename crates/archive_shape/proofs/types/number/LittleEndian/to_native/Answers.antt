@@ -1,0 +1,5 @@
+use Rattle.std.proofs.Common.{rules}
+use Rattle.archive_shape.proofs.types.number.LittleEndian.to_native.Goals as goal
+
+pub returns : goal.returns
+returns g c = search rules

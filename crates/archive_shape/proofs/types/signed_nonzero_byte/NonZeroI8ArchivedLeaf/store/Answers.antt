@@ -1,0 +1,7 @@
+use Rattle.std.proofs.Math.Facts.{to_z-of_z}
+use Rattle.std.specs.Int.{w8}
+use Rattle.archive_shape_layout.proofs.NumberReading.{nonzero_signed_stored}
+use Rattle.archive_shape.proofs.types.signed_nonzero_byte.NonZeroI8ArchivedLeaf.store.Goals as goal
+
+pub returns-clause-value : goal.returns-clause-value
+returns-clause-value c = nonzero_signed_stored w8 _ _ _ _ c.store.ensures.value c.store.ensures.bytes (to_z-of_z {w = w8} {z = c.get.result} (record { sfits = c.get.type_inv })) c.get.ensures.value (record { sfits = c.get.type_inv }) c.get.ensures.nonzero

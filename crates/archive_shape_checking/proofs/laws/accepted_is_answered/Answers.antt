@@ -1,5 +1,0 @@
-use Rattle.archive_shape_checking.proofs.QuestionedRegions.{accepted_answered_law}
-use Rattle.archive_shape_checking.proofs.laws.accepted_is_answered.Goals as goal
-
-pub returns : goal.returns
-returns c = accepted_answered_law

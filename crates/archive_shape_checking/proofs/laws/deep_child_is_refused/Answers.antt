@@ -1,5 +1,0 @@
-use Rattle.archive_shape_checking.proofs.Levels.{deep_child_law}
-use Rattle.archive_shape_checking.proofs.laws.deep_child_is_refused.Goals as goal
-
-pub returns : goal.returns
-returns c = deep_child_law

@@ -1,4 +1,0 @@
-pub mod Held
-pub mod Reading
-pub mod Readable
-pub mod Spelling

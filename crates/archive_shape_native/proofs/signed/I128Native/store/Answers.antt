@@ -1,7 +1,0 @@
-use Rattle.std.proofs.Common.{rules}
-use Rattle.std.specs.Int.{w128}
-use Rattle.archive_shape_native.proofs.Reading.{signed_stored}
-use Rattle.archive_shape_native.proofs.signed.I128Native.store.Goals as goal
-
-pub returns-clause-value : goal.returns-clause-value
-returns-clause-value c = signed_stored w128 _ _ c.ranges.self (search rules)

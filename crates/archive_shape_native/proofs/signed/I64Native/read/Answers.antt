@@ -1,7 +1,0 @@
-use Rattle.std.proofs.Common.{rules}
-use Rattle.std.specs.Int.{w64}
-use Rattle.archive_shape_native.proofs.Reading.{signed_reads}
-use Rattle.archive_shape_native.proofs.signed.I64Native.read.Goals as goal
-
-pub returns-clause-value : goal.returns-clause-value
-returns-clause-value c = signed_reads w64 _ _ (search rules)

@@ -1,8 +1,0 @@
-use Rattle.std.proofs.Common.{true}
-use Rattle.std.proofs.Math.Facts.{Fits-of_z}
-use Rattle.std.specs.Int.{w16}
-use Rattle.archive_shape_native.proofs.Reading.{nonzero_illegal, spelled_number}
-use Rattle.archive_shape_native.proofs.signed_nonzero.NonZeroI16Native.accepts.Goals as goal
-
-pub returns-clause-illegal : goal.returns-clause-illegal
-returns-clause-illegal c = nonzero_illegal w16 true _ _ (spelled_number w16 _ _ (Fits-of_z {w = w16} {z = c.read.result} (record { sfits = c.read.type_inv })) c.read.ensures.bytes)

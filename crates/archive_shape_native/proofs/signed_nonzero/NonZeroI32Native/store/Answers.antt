@@ -1,7 +1,0 @@
-use Rattle.std.proofs.Math.Facts.{to_z-of_z}
-use Rattle.std.specs.Int.{w32}
-use Rattle.archive_shape_native.proofs.Reading.{nonzero_signed_stored}
-use Rattle.archive_shape_native.proofs.signed_nonzero.NonZeroI32Native.store.Goals as goal
-
-pub returns-clause-value : goal.returns-clause-value
-returns-clause-value c = nonzero_signed_stored w32 _ _ _ _ c.store.ensures.value c.store.ensures.bytes (to_z-of_z {w = w32} {z = c.get.result} (record { sfits = c.get.type_inv })) c.get.ensures.value (record { sfits = c.get.type_inv }) c.get.ensures.nonzero

@@ -1,7 +1,0 @@
-use Rattle.std.proofs.Common.{rules}
-use Rattle.std.specs.Int.{w16}
-use Rattle.archive_shape_native.proofs.Reading.{unsigned_stored}
-use Rattle.archive_shape_native.proofs.unsigned.U16Native.store.Goals as goal
-
-pub returns-clause-value : goal.returns-clause-value
-returns-clause-value c = unsigned_stored w16 _ _ c.ranges.self (search rules)

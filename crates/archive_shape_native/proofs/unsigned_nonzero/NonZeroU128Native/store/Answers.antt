@@ -1,6 +1,0 @@
-use Rattle.std.specs.Int.{w128}
-use Rattle.archive_shape_native.proofs.Reading.{nonzero_unsigned_stored}
-use Rattle.archive_shape_native.proofs.unsigned_nonzero.NonZeroU128Native.store.Goals as goal
-
-pub returns-clause-value : goal.returns-clause-value
-returns-clause-value c = nonzero_unsigned_stored w128 _ _ _ c.store.ensures.value c.get.ensures.value c.get.ensures.nonzero

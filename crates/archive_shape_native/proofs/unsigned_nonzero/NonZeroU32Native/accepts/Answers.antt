@@ -1,7 +1,0 @@
-use Rattle.std.proofs.Common.{false}
-use Rattle.std.specs.Int.{w32}
-use Rattle.archive_shape_native.proofs.Reading.{nonzero_illegal, read_number}
-use Rattle.archive_shape_native.proofs.unsigned_nonzero.NonZeroU32Native.accepts.Goals as goal
-
-pub returns-clause-illegal : goal.returns-clause-illegal
-returns-clause-illegal c = nonzero_illegal w32 false _ _ (read_number w32 _ _ c.read.ensures.value)

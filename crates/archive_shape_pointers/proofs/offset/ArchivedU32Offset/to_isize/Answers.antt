@@ -1,5 +1,0 @@
-use Rattle.std.proofs.Common.{rules}
-use Rattle.archive_shape_pointers.proofs.offset.ArchivedU32Offset.to_isize.Goals as goal
-
-pub returns : goal.returns
-returns c = search rules

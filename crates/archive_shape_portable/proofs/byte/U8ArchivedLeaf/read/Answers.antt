@@ -1,7 +1,0 @@
-use Rattle.std.proofs.Common.{arith}
-use Rattle.std.proofs.lemmas.Grind.{common_steps}
-use Rattle.archive_shape_native.proofs.Reading.{byte_reads}
-use Rattle.archive_shape_portable.proofs.byte.U8ArchivedLeaf.read.Goals as goal
-
-pub returns-clause-value : goal.returns-clause-value
-returns-clause-value c = byte_reads _ _ (grind (arith, common_steps))

@@ -1,5 +1,0 @@
-use Rattle.archive_shape_native.proofs.Readable.{legal_is_readable_law}
-use Rattle.archive_shape_portable.proofs.laws.legal_is_readable.Goals as goal
-
-pub returns : goal.returns
-returns c = legal_is_readable_law

@@ -1,5 +1,0 @@
-use Rattle.archive_shape_portable.proofs.Naming.{own_types}
-use Rattle.archive_shape_portable.proofs.laws.named_is_known.Goals as goal
-
-pub returns : goal.returns
-returns g c = λ one. g.met.T.Portable.known _ (own_types _ one)

@@ -1,5 +1,0 @@
-use Rattle.std.proofs.Common.{rules}
-use Rattle.archive_shape_portable.proofs.phantom.PhantomDataPortable.shape.Goals as goal
-
-pub returns : goal.returns
-returns g c = search rules

@@ -1,7 +1,0 @@
-use Rattle.std.proofs.Common.{arith}
-use Rattle.std.proofs.lemmas.Grind.{common_steps}
-use Rattle.archive_shape_native.proofs.Reading.{truth_reads, only_set}
-use Rattle.archive_shape_portable.proofs.truth.BoolArchivedLeaf.store.Goals as goal
-
-pub returns-clause-value : goal.returns-clause-value
-returns-clause-value c = let only = only_set c.args.out.now c.if-native.out c.requires in truth_reads _ _ (grind (arith, common_steps))

@@ -1,6 +1,0 @@
-use Rattle.std.proofs.Common.{arith}
-use Rattle.std.proofs.lemmas.Grind.{common_steps}
-use Rattle.archive_shape_references.proofs.seal.Seal.put.Goals as goal
-
-pub returns-clause-contents : goal.returns-clause-contents
-returns-clause-contents g c = grind (arith, common_steps)

@@ -1,0 +1,9 @@
+use Rattle.std.proofs.Common.{sym, ap, ◌∙◌}
+use Rattle.std.specs.BTreeMap.{get_by_text}
+use Rattle.cabinet_documents.proofs.TextGrammar.KeyLemmas.{key_has_text_law}
+use Rattle.cabinet_archived.specs.Texts.{progress_at}
+use Rattle.cabinet_archived.proofs.sharing.text_share.TextShare.position.Goals as goal
+
+pub returns : goal.returns
+returns c =
+    ap (λ s. progress_at (get_by_text c.args.self.now.ends s)) (key_has_text_law c.args.text.now) ∙ ap progress_at (sym c.get.ensures.value ∙ sym c.copied.ensures)

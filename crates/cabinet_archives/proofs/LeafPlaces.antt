@@ -1,0 +1,168 @@
+-- The leaf at a path: the position of its node, by the steps of the path, and that of the bytes that encode it.
+use Rattle.std.proofs.Common.{◌≡◌, ℕ, ℤ, ◌+◌, Bool, true, List, [], ◌∷◌, ◌++◌, length, Some, w64, refl, sym, ap, subst, arith}
+use Rattle.archive_shape.specs.ShapeLayout.Bytes.{window, align_up}
+use Rattle.archive_shape.specs.ShapeLayout.Shape.Shape.{truth, number, text, option, box, vector}
+use Rattle.archive_shape.specs.ShapeLayout.Shape.Pointee.{sized, str}
+use Rattle.archive_shape.specs.ShapeLayout.Value.{Value}
+use Rattle.archive_shape.specs.ShapeLayout.Value.Value.{boolean, integer, string, group}
+use Rattle.archive_shape.specs.ShapeLayout.Content.{Part, content_of}
+use Rattle.archive_shape.specs.ShapeLayout.Content.Part.{at, behind}
+use Rattle.archive_shape.specs.ShapeLayout.Content.Label.{written}
+use Rattle.archive_shape.specs.ShapeLayout.Content.Content.{plain}
+use Rattle.archive_shape.specs.ShapeLayout.Holds.{Region, Visit, OpenShared, Holds}
+use Rattle.archive_shape.specs.ShapeLayout.Path.{Stands}
+use Rattle.archive_shape.specs.ShapeLayout.Path.Stands.{stands_here}
+use Rattle.archive_forms_values.specs.FormsLaws.Text.{LiesAt}
+use Rattle.archive_forms_values.specs.Parts.{PointsTo}
+use Rattle.cabinet_text_nodes.specs.TextGrammar.Tree as document
+use Rattle.cabinet_text_nodes.specs.TextGrammar.Tree.{Leaf, Tree, leaf}
+use Rattle.cabinet_text_nodes.specs.TextGrammar.Path.{Step, key, place, inside, node_at}
+use Rattle.cabinet_archived.specs.Documents.Node.{node_names, node_shape}
+use Rattle.cabinet_archived.specs.Documents.Denotes.{Denotes, tagged_value}
+use Rattle.cabinet_archived.specs.Documents.OwnBytes.{LeadsTo, leads_here, leads_inside, leads_place}
+use Rattle.cabinet_archived.specs.Documents.Laws.{payload_of}
+use Rattle.cabinet_archived.proofs.Documents.Nodes.{NodeValue}
+use Rattle.cabinet_archived.proofs.Documents.Known.{leaf_tag, Known, known_leaf, known_shared, known_none, known_some, known_list, known, known_element, by_key}
+use Rattle.cabinet_archives.specs.Way.{GoesTo, goes_nowhere, goes_on, steps_inside, steps_place}
+use Rattle.cabinet_archives.proofs.Standing.{PaidAt, paid_at, inside_at, element_at, TextAt, text_inline, text_out, text_at}
+
+module _ (bytes : List ℕ) where
+  -- the part that encodes the leaf of the node at `pos`
+  pub data LiesIn (l : Leaf) (pos : ℕ) (part : Part) : Type 0 where
+    truth_lies : {b : Bool} → l ≡ document.truth b → part ≡ at (pos + 1) truth → LiesIn l pos part
+    number_lies : {n : ℤ} → l ≡ document.number n → part ≡ at (pos + 8) (number w64 true) → LiesIn l pos part
+    inline_lies : {s : List ℕ} → l ≡ document.text s → LiesAt bytes (pos + 4) (pos + 4) (length s) → part ≡ at (pos + 4) text → content_of node_names bytes part ≡ plain (written s) [] → LiesIn l pos part
+    far_lies : {start len : ℕ} → l ≡ document.text (window bytes start len) → LiesAt bytes (pos + 4) start len → part ≡ behind start str len → LiesIn l pos part
+
+  record LeafPart (level : ℕ) (around : List OpenShared) (before : List Visit) (pos : ℕ) (v : Value) (l : Leaf) : Type 0 where
+    part : Part
+    payload : Value
+    stands : Stands node_names bytes part payload level around before (at pos node_shape) v (0 ∷ [])
+    lies : LiesIn l pos part
+
+  leaf_part : (pos : ℕ) (l : Leaf) {level : ℕ} {around : List OpenShared} {v : Value} {regions : List Region} {before after : List Visit}
+      → v ≡ tagged_value (leaf_tag l) (payload_of l) → Holds node_names bytes level around (at pos node_shape) v regions before after → LeafPart level around before pos v l
+  unfolding align_up
+  leaf_part pos (document.truth b) is h =
+      let p = paid_at bytes pos 0 (boolean b) is h 1 truth refl refl in
+      record { part = at (pos + 1) truth; payload = boolean b; stands = p.stands _ _ [] (stands_here refl refl refl); lies = truth_lies refl refl }
+  leaf_part pos (document.number n) is h =
+      let p = paid_at bytes pos 1 (integer n) is h 8 (number w64 true) refl refl in
+      record { part = at (pos + 8) (number w64 true); payload = integer n; stands = p.stands _ _ [] (stands_here refl refl refl); lies = number_lies refl refl }
+  leaf_part pos (document.text s) {level = level} {around = around} {v = v} {before = before} {after = after} is h = by_case (text_at bytes (pos + 4) p.holds)
+    where
+      p : PaidAt bytes level around pos 4 text v (string s) before after
+      p = paid_at bytes pos 2 (string s) is h 4 text refl refl
+
+      by_case : TextAt bytes level around (pos + 4) (string s) before after → LeafPart level around before pos v (document.text s)
+      by_case (text_inline {s = u} lies content value) =
+          let same : u ≡ s = cc in
+          record {
+            part = at (pos + 4) text;
+            payload = string s;
+            stands = p.stands _ _ [] (stands_here refl refl refl);
+            lies = inline_lies {s = u} (ap document.text (sym same)) lies refl content;
+          }
+      by_case (text_out {start = start} {len = len} lies value b) =
+          let same : s ≡ window bytes start len = cc in
+          record {
+            part = behind start str len;
+            payload = string s;
+            stands = p.stands _ _ [] (b.stands (behind start str len) (string s) [] (stands_here refl refl refl));
+            lies = far_lies (ap document.text same) lies refl;
+          }
+
+  -- ---- at a path
+
+  pub record LeafFound (level : ℕ) (around : List OpenShared) (before : List Visit) (pos : ℕ) (v : Value) (path : List Step) (l : Leaf) : Type 0 where
+    pub to : ℕ
+    pub way : GoesTo bytes pos path to
+    pub node : Value
+    pub inner : List ℕ
+    pub leads : LeadsTo v path inner node
+    pub part : Part
+    pub payload : Value
+    pub stands : Stands node_names bytes part payload level around before (at pos node_shape) v (inner ++ 0 ∷ [])
+    pub lies : LiesIn l to part
+
+  -- so it is at the rest of the path, wherever a node holds with its value
+  abbrev On : List Step → Leaf → Type 0
+  On rest l =
+      (pos level : ℕ) (around : List OpenShared) (v : Value) (regions : List Region) (before after : List Visit) (t : Tree)
+      → NodeValue bytes v → Denotes v t → Holds node_names bytes level around (at pos node_shape) v regions before after → node_at t rest ≡ Some (leaf l) → LeafFound level around before pos v rest l
+
+  module _ (l : Leaf) {level pos : ℕ} {around : List OpenShared} {v : Value} {regions : List Region} {before after : List Visit} {t : Tree}
+      (h : Holds node_names bytes level around (at pos node_shape) v regions before after)
+    where
+      ends_here : Known bytes v t → node_at t [] ≡ Some (leaf l) → LeafFound level around before pos v [] l
+      ends_here (known_leaf m e f) g =
+          let same : m ≡ l = cc in
+          let p = leaf_part pos m e h in
+          record {
+            to = pos;
+            way = goes_nowhere refl refl;
+            node = v;
+            inner = [];
+            leads = leads_here refl refl refl;
+            part = p.part;
+            payload = p.payload;
+            stands = p.stands;
+            lies = subst (λ x. LiesIn x pos p.part) same p.lies;
+          }
+      ends_here (known_shared e f) g = absurd (cc)
+      ends_here (known_none e f) g = absurd (cc)
+      ends_here (known_some e f n d) g = absurd (cc)
+      ends_here (known_list e f ns ds) g = absurd (cc)
+
+      in_option : (rest : List Step) → On rest l → Known bytes v t → node_at t (inside ∷ rest) ≡ Some (leaf l) → LeafFound level around before pos v (inside ∷ rest) l
+      unfolding align_up
+      in_option rest on (known_leaf m e f) g = let k = subst (λ x. node_at x (inside ∷ rest) ≡ Some (leaf l)) f g in absurd (cc)
+      in_option rest on (known_shared e f) g = let k = subst (λ x. node_at x (inside ∷ rest) ≡ Some (leaf l)) f g in absurd (cc)
+      in_option rest on (known_none e f) g = let k = subst (λ x. node_at x (inside ∷ rest) ≡ Some (leaf l)) f g in absurd (cc)
+      in_option rest on (known_some {w = w} {u = u} e f n d) g =
+          let k : node_at u rest ≡ Some (leaf l) = subst (λ x. node_at x (inside ∷ rest) ≡ Some (leaf l)) f g in
+          let p = paid_at bytes pos 4 (tagged_value 1 w) e h 4 (option (box (sized node_shape))) refl refl in
+          let s = inside_at bytes (pos + 4) w refl p.holds in
+          let r = on s.to _ _ w s.regions _ _ u n d s.holds k in
+          let eight : pos + 4 + 4 ≡ pos + 8 = omega arith in
+          record {
+            to = r.to;
+            way = goes_on {to = r.to} refl (steps_inside refl (subst (λ n. PointsTo bytes n s.to) eight s.points)) r.way;
+            node = r.node;
+            inner = 0 ∷ (0 ∷ r.inner);
+            leads = leads_inside {more = r.inner} e refl refl r.leads;
+            part = r.part;
+            payload = r.payload;
+            stands = p.stands r.part r.payload (0 ∷ (r.inner ++ 0 ∷ [])) (s.stands r.part r.payload (r.inner ++ 0 ∷ []) r.stands);
+            lies = r.lies;
+          }
+      in_option rest on (known_list e f ns ds) g = let k = subst (λ x. node_at x (inside ∷ rest) ≡ Some (leaf l)) f g in absurd (cc)
+
+      in_list : (i : ℕ) (rest : List Step) → On rest l → Known bytes v t → node_at t (place i ∷ rest) ≡ Some (leaf l) → LeafFound level around before pos v (place i ∷ rest) l
+      unfolding align_up
+      in_list i rest on (known_leaf m e f) g = let k = subst (λ x. node_at x (place i ∷ rest) ≡ Some (leaf l)) f g in absurd (cc)
+      in_list i rest on (known_shared e f) g = let k = subst (λ x. node_at x (place i ∷ rest) ≡ Some (leaf l)) f g in absurd (cc)
+      in_list i rest on (known_none e f) g = let k = subst (λ x. node_at x (place i ∷ rest) ≡ Some (leaf l)) f g in absurd (cc)
+      in_list i rest on (known_some e f n d) g = let k = subst (λ x. node_at x (place i ∷ rest) ≡ Some (leaf l)) f g in absurd (cc)
+      in_list i rest on (known_list {vs = vs} {ts = ts} e f ns ds) g =
+          let k = known_element i rest (leaf l) ns ds (subst (λ x. node_at x (place i ∷ rest) ≡ Some (leaf l)) f g) in
+          let p = paid_at bytes pos 5 (group vs) e h 4 (vector node_shape) refl refl in
+          let s = element_at bytes (pos + 4) i k.value vs refl k.there p.holds in
+          let r = on _ _ _ k.value s.regions s.since s.until k.tree k.node k.denotes s.holds k.found in
+          record {
+            to = r.to;
+            way = goes_on {to = r.to} refl (steps_place refl s.points refl) r.way;
+            node = r.node;
+            inner = 0 ∷ (i ∷ r.inner);
+            leads = leads_place {w = r.node} {inner = 0 ∷ (i ∷ r.inner)} {more = r.inner} e k.there refl (refl {a = 0 ∷ (i ∷ r.inner)}) r.leads;
+            part = r.part;
+            payload = r.payload;
+            stands = p.stands r.part r.payload (i ∷ (r.inner ++ 0 ∷ [])) (s.stands r.part r.payload (r.inner ++ 0 ∷ []) r.stands);
+            lies = r.lies;
+          }
+
+  pub leaf_found : (path : List Step) (l : Leaf) → On path l
+  leaf_found [] l pos level around v regions before after t n d h g = ends_here l h (known n d) g
+  leaf_found (inside ∷ rest) l pos level around v regions before after t n d h g = in_option l h rest (leaf_found rest l) (known n d) g
+  leaf_found (place i ∷ rest) l pos level around v regions before after t n d h g = in_list l h i rest (leaf_found rest l) (known n d) g
+  leaf_found (key k ∷ rest) l pos level around v regions before after t n d h g = absurd (by_key l k rest (known n d) g)

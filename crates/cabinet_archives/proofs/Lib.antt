@@ -1,0 +1,17 @@
+mod AskingLemmas
+mod Audited
+mod Depths
+pub mod Kept
+pub mod Layouts
+mod LeafPlaces
+mod NoSteps
+mod Outcomes
+mod OwnPlaces
+mod Paths
+mod Payloads
+mod Put
+mod Reached
+pub mod Saves
+mod Standing
+mod Stepping
+mod Ways

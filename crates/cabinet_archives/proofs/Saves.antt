@@ -1,0 +1,78 @@
+-- A document whose archive is made in memory, and written whole or in part.
+use Rattle.std.proofs.Common.{◌≡◌, ℕ, false, Ok, Err, List, [], ◌++◌, append-nil, ◌⊎◌, ⊎_elim, inl, refl, sym, ap, subst, ◌∙◌}
+use Rattle.std.specs.Prelude.{IsTrue}
+use Rattle.archive_shape_writing.specs.declared.error.Error.{Error}
+use Rattle.archive_shape_writing.specs.declared.error.Error.TheVariants.{OutOfMemory}
+use Rattle.archive_shape_writing.specs.Writing.{WriterMembers, Cut, IsCounted}
+use Rattle.archive_forms_values.specs.FormsLaws.State.{initial}
+use Rattle.archive_forms_values.specs.FormsLaws.Pointers.{box_spelling}
+use Rattle.archive_forms_values.specs.FormsLaws.Serializing.{IsAt, Serializes}
+use Rattle.cabinet_text_nodes.specs.TextGrammar.Tree.{Tree, IsDocument}
+use Rattle.cabinet_archived.specs.Documents.Node.{node_shape}
+use Rattle.cabinet_archived.specs.Documents.Image.{Image}
+use Rattle.cabinet_archived.specs.Documents.HasLayout.{HasLayout}
+use Rattle.cabinet_archived.specs.Documents.SpellingLaws.{archive_of, ArchiveFits}
+use Rattle.cabinet_archived.proofs.Documents.Layouts.{fitting_has_layout_law}
+use Rattle.cabinet_archived.proofs.Documents.Imaged.{written_is_image_law, one_image_law}
+use Rattle.cabinet_text_nodes.specs.Archived.{archived_as}
+use Rattle.cabinet_text_nodes.specs.View.{node_tree}
+use Rattle.cabinet_text_nodes.specs.declared.node.Node.{Node}
+use Rattle.cabinet_archives.specs.declared.saving.saving.SaveRefusal.{SaveRefusal}
+use Rattle.cabinet_archives.specs.declared.saving.saving.SaveRefusal.TheVariants as refusal
+use Rattle.cabinet_archives.specs.Saving.{IsPast, IsUnmadeFor, HasNoImageFor, IsUnsavedFor}
+
+module _ {S : Type 0} (m : WriterMembers S) (n : Node) (old new : S) (at : IsAt m.pos m.known old initial) where
+  -- what was written where nothing was before is the archive
+  pub archive_made :
+      (pos : ℕ) (bytes : List ℕ) → IsTrue m.OBSERVABLE → m.contents old ≡ [] → m.contents new ≡ bytes
+      → Serializes (box_spelling node_shape archived_as) m n old new (Ok pos)
+      → ArchiveFits (node_tree n) × (bytes ≡ archive_of (node_tree n))
+  archive_made pos bytes tells none is h =
+      let o = h initial at in
+      (o.1.1, sym is ∙ o.0.gains tells ∙ ap (λ l. l ++ archive_of (node_tree n)) none)
+
+  -- a writer that counts no failures failed only because an allocation failed
+  pub archive_refused :
+      (e : Error) → m.COUNTS ≡ false
+      → Serializes (box_spelling node_shape archived_as) m n old new (Err e)
+      → (e ≡ OutOfMemory) ⊎ IsPast (node_tree n) e
+  archive_refused e uncounted h =
+      ⊎_elim (λ f. inl (subst (λ b. IsCounted b (m.failures old) (m.failures new) e) uncounted f.is_counted).1) (λ q. q.reason) (h initial at)
+
+  pub archive_past :
+      (e : Error) → m.COUNTS ≡ false → (e ≡ OutOfMemory → ⊥)
+      → Serializes (box_spelling node_shape archived_as) m n old new (Err e)
+      → IsPast (node_tree n) e
+  archive_past e uncounted other h = ⊎_elim (λ q. absurd (other q)) (λ q. q) (archive_refused e uncounted h)
+
+-- ---- a document
+
+written_image : (s t : Tree) (bytes : List ℕ) → s ≡ t → IsDocument t → ArchiveFits s → bytes ≡ archive_of s → Image t bytes
+written_image s t bytes same document fits is =
+    subst (λ u. Image u bytes) same (written_is_image_law s bytes (subst IsDocument (sym same) document) fits is)
+
+-- what was cut from an image was cut from each
+pub cut_of : (t : Tree) (old new bytes image : List ℕ) → HasLayout t → Image t bytes → Cut old new bytes → Image t image → Cut old new image
+cut_of t old new bytes image layout made cut is_image = subst (Cut old new) (one_image_law t bytes image layout made is_image) cut
+
+-- nothing was written
+pub nothing_cut : (old image : List ℕ) → Cut old old image
+nothing_cut old image = record { written = []; lost = image; new_is = sym (append-nil old); piece_is = refl }
+
+-- why there is no image in memory is why the document was not saved
+pub unsaved : {W : Type 0} (m : WriterMembers W) (t : Tree) (old : W) (r : SaveRefusal) → HasNoImageFor t r → IsUnsavedFor m t old old r
+unsaved m t old refusal.Kind h = (h, refl)
+unsaved m t old (refusal.Limit e) h = (h.0, h.1, refl)
+unsaved m t old (refusal.Writer e) h = absurd h
+unsaved m t old refusal.OutOfMemory h = (h, inl refl, refl)
+
+-- why nothing is made of a document that has a layout is why it has no image
+pub unmade : (s t : Tree) (r : SaveRefusal) → s ≡ t → HasLayout s → IsUnmadeFor s r → HasNoImageFor t r
+unmade s t refusal.Kind same layout h = absurd h
+unmade s t (refusal.Limit e) same layout h = (subst HasLayout same layout, subst (λ u. IsPast u e) same h)
+unmade s t (refusal.Writer e) same layout h = absurd h
+unmade s t refusal.OutOfMemory same layout h = subst HasLayout same layout
+
+-- what was made of a document is its image, and it has a layout
+pub image_made : (s t : Tree) (bytes : List ℕ) → s ≡ t → IsDocument t → ArchiveFits s → bytes ≡ archive_of s → Image t bytes × HasLayout t
+image_made s t bytes same document fits is = (written_image s t bytes same document fits is, subst HasLayout same (fitting_has_layout_law s _ fits.0.0))

@@ -1,0 +1,180 @@
+-- What a node is, and what one step from it leads to, by its value.
+use Rattle.std.proofs.Common.{◌≡◌, ℕ, zero, suc, ◌<◌, ◌≤◌, List, [], ◌∷◌, ◌++◌, Option, Some, None, refl, sym, ap, subst, ◌∙◌, arith}
+use Rattle.archive_shape.specs.ShapeLayout.Value.{Value, Values, count_values}
+use Rattle.archive_shape.specs.ShapeLayout.Value.Value.{string, group, chosen, counted}
+use Rattle.archive_shape.specs.ShapeLayout.Value.Values.{no_values}
+use Rattle.archive_shape.specs.ShapeLayout.Path.{value_in}
+use Rattle.cabinet_text_nodes.specs.TextGrammar.Keys.{MapKind}
+use Rattle.cabinet_text_nodes.specs.TextGrammar.Tree.{Leaf, truth, number, text}
+use Rattle.cabinet_text_nodes.specs.TextGrammar.Tree.{Tree, leaf, shared, nothing, just, list, map, Trees, Pairs}
+use Rattle.cabinet_text_nodes.specs.TextGrammar.Path.{Step, key, place, inside, node_at, node_in}
+use Rattle.cabinet_archived.specs.Documents.Denotes.{Denotes, DenoteAll, tagged_value}
+use Rattle.cabinet_archived.specs.Documents.Denotes.Denotes.{denotes_truth, denotes_number, denotes_text, denotes_shared, denotes_nothing, denotes_some, denotes_list, denotes_ordered, denotes_hashed, denotes_kept}
+use Rattle.cabinet_archived.specs.Documents.Denotes.DenoteAll.{denote_none, denote_more}
+use Rattle.cabinet_archived.specs.Documents.Laws.{payload_of}
+use Rattle.cabinet_archived.proofs.Documents.Changing.{of_some, of_list}
+use Rattle.cabinet_text_nodes.proofs.Paths.{then_at, first_step}
+
+-- ---- paths, one after the other
+
+then_both : (found : Option Tree) (path more : List Step) → ((u : Tree) → node_at u (path ++ more) ≡ then_at (node_at u path) more) → then_at found (path ++ more) ≡ then_at (then_at found path) more
+then_both None path more each = refl
+then_both (Some u) path more each = each u
+
+-- a path continues from where its first steps lead
+pub goes_on_at : (path more : List Step) (t : Tree) → node_at t (path ++ more) ≡ then_at (node_at t path) more
+goes_on_at [] more t = refl
+goes_on_at (s ∷ path) more t =
+    first_step t s (path ++ more)
+    ∙ then_both (node_at t (s ∷ [])) path more (goes_on_at path more)
+    ∙ sym (ap (λ found. then_at found more) (first_step t s path))
+
+-- ---- what a node is, by its value
+
+pub nothing_is : {v : Value} {t : Tree} → v ≡ tagged_value 4 (chosen 0 no_values) → Denotes v t → t ≡ nothing
+nothing_is e (denotes_truth f g) = absurd (cc)
+nothing_is e (denotes_number f g) = absurd (cc)
+nothing_is e (denotes_text f g) = absurd (cc)
+nothing_is e (denotes_shared f g) = absurd (cc)
+nothing_is e (denotes_nothing f g) = g
+nothing_is e (denotes_some f g d) = absurd (cc)
+nothing_is e (denotes_list f g d) = absurd (cc)
+nothing_is e (denotes_ordered f g d) = absurd (cc)
+nothing_is e (denotes_hashed f g d) = absurd (cc)
+nothing_is e (denotes_kept f g d) = absurd (cc)
+
+-- the position of a shared text is left out
+pub shared_is : {v : Value} {t : Tree} (at : ℕ) (s : List ℕ) → v ≡ tagged_value 3 (counted at (string s)) → Denotes v t → t ≡ shared s
+shared_is at s e (denotes_truth f g) = absurd (cc)
+shared_is at s e (denotes_number f g) = absurd (cc)
+shared_is at s e (denotes_text f g) = absurd (cc)
+shared_is at s e (denotes_shared {at = other} {s = u} f g) = let same : u ≡ s = cc in g ∙ ap shared same
+shared_is at s e (denotes_nothing f g) = absurd (cc)
+shared_is at s e (denotes_some f g d) = absurd (cc)
+shared_is at s e (denotes_list f g d) = absurd (cc)
+shared_is at s e (denotes_ordered f g d) = absurd (cc)
+shared_is at s e (denotes_hashed f g d) = absurd (cc)
+shared_is at s e (denotes_kept f g d) = absurd (cc)
+
+same_leaf : (l m : Leaf) → payload_of l ≡ payload_of m → l ≡ m
+same_leaf (truth b) (truth c) e = let same : b ≡ c = cc in ap truth same
+same_leaf (truth b) (number n) e = absurd (cc)
+same_leaf (truth b) (text s) e = absurd (cc)
+same_leaf (number m) (truth c) e = absurd (cc)
+same_leaf (number m) (number n) e = let same : m ≡ n = cc in ap number same
+same_leaf (number m) (text s) e = absurd (cc)
+same_leaf (text s) (truth c) e = absurd (cc)
+same_leaf (text s) (number n) e = absurd (cc)
+same_leaf (text s) (text u) e = let same : s ≡ u = cc in ap text same
+
+-- a tag below 3 is that of the leaf that the payload is
+pub leaf_is : {v w : Value} {t : Tree} {tag : ℕ} (l : Leaf) → v ≡ tagged_value tag w → tag < 3 → w ≡ payload_of l → Denotes v t → t ≡ leaf l
+leaf_is {w = w} l e less p (denotes_truth {b = b} f g) = let same : payload_of (truth b) ≡ w = cc in g ∙ ap leaf (same_leaf (truth b) l (same ∙ p))
+leaf_is {w = w} l e less p (denotes_number {n = n} f g) = let same : payload_of (number n) ≡ w = cc in g ∙ ap leaf (same_leaf (number n) l (same ∙ p))
+leaf_is {w = w} l e less p (denotes_text {s = s} f g) = let same : payload_of (text s) ≡ w = cc in g ∙ ap leaf (same_leaf (text s) l (same ∙ p))
+leaf_is {tag = tag} l e less p (denotes_shared f g) = let is : tag ≡ 3 = cc in absurd (omega (arith, less, is))
+leaf_is {tag = tag} l e less p (denotes_nothing f g) = let is : tag ≡ 4 = cc in absurd (omega (arith, less, is))
+leaf_is {tag = tag} l e less p (denotes_some f g d) = let is : tag ≡ 4 = cc in absurd (omega (arith, less, is))
+leaf_is {tag = tag} l e less p (denotes_list f g d) = let is : tag ≡ 5 = cc in absurd (omega (arith, less, is))
+leaf_is {tag = tag} l e less p (denotes_ordered f g d) = let is : tag ≡ 6 = cc in absurd (omega (arith, less, is))
+leaf_is {tag = tag} l e less p (denotes_hashed f g d) = let is : tag ≡ 7 = cc in absurd (omega (arith, less, is))
+leaf_is {tag = tag} l e less p (denotes_kept f g d) = let is : tag ≡ 8 = cc in absurd (omega (arith, less, is))
+
+-- a tag below 6 is that of no map
+pub keyless : {v w : Value} {t : Tree} {tag : ℕ} → v ≡ tagged_value tag w → tag < 6 → Denotes v t → (kind : MapKind) (ps : Pairs) → t ≡ map kind ps → ⊥
+keyless e less (denotes_truth f g) kind ps is = cc
+keyless e less (denotes_number f g) kind ps is = cc
+keyless e less (denotes_text f g) kind ps is = cc
+keyless e less (denotes_shared f g) kind ps is = cc
+keyless e less (denotes_nothing f g) kind ps is = cc
+keyless e less (denotes_some f g d) kind ps is = cc
+keyless e less (denotes_list f g d) kind ps is = cc
+keyless {tag = tag} e less (denotes_ordered f g d) kind ps is = let n : tag ≡ 6 = cc in omega (arith, less, n)
+keyless {tag = tag} e less (denotes_hashed f g d) kind ps is = let n : tag ≡ 7 = cc in omega (arith, less, n)
+keyless {tag = tag} e less (denotes_kept f g d) kind ps is = let n : tag ≡ 8 = cc in omega (arith, less, n)
+
+-- ---- steps that lead nowhere
+
+-- only a step inside leads on from an option
+abbrev pub IsNotInside : Step → Type 0
+IsNotInside inside = ⊥
+IsNotInside s = Unit {0}
+
+-- only a step to a place leads on from a list
+abbrev pub IsNoPlace : Step → Type 0
+IsNoPlace (place i) = ⊥
+IsNoPlace s = Unit {0}
+
+just_other : (u : Tree) (s : Step) → IsNotInside s → node_at (just u) (s ∷ []) ≡ None
+just_other u (key k) other = refl
+just_other u (place i) other = refl
+just_other u inside other = absurd other
+
+list_other : (ts : Trees) (s : Step) → IsNoPlace s → node_at (list ts) (s ∷ []) ≡ None
+list_other ts (key k) other = refl
+list_other ts (place i) other = absurd other
+list_other ts inside other = refl
+
+-- of the nodes that are no maps, an option and a list alone lead on, each by its own step
+pub other_step : {v w : Value} {t : Tree} {tag : ℕ} (s : Step) → v ≡ tagged_value tag w → tag < 6 → (tag ≡ 4 → IsNotInside s) → (tag ≡ 5 → IsNoPlace s) → Denotes v t → node_at t (s ∷ []) ≡ None
+other_step s e less apart beside (denotes_truth f g) = ap (λ u. node_at u (s ∷ [])) g
+other_step s e less apart beside (denotes_number f g) = ap (λ u. node_at u (s ∷ [])) g
+other_step s e less apart beside (denotes_text f g) = ap (λ u. node_at u (s ∷ [])) g
+other_step s e less apart beside (denotes_shared f g) = ap (λ u. node_at u (s ∷ [])) g
+other_step s e less apart beside (denotes_nothing f g) = ap (λ u. node_at u (s ∷ [])) g
+other_step {tag = tag} s e less apart beside (denotes_some {u = u} f g d) = let is : tag ≡ 4 = cc in ap (λ u. node_at u (s ∷ [])) g ∙ just_other u s (apart is)
+other_step {tag = tag} s e less apart beside (denotes_list {ts = ts} f g d) = let is : tag ≡ 5 = cc in ap (λ u. node_at u (s ∷ [])) g ∙ list_other ts s (beside is)
+other_step {tag = tag} s e less apart beside (denotes_ordered f g d) = let is : tag ≡ 6 = cc in absurd (omega (arith, less, is))
+other_step {tag = tag} s e less apart beside (denotes_hashed f g d) = let is : tag ≡ 7 = cc in absurd (omega (arith, less, is))
+other_step {tag = tag} s e less apart beside (denotes_kept f g d) = let is : tag ≡ 8 = cc in absurd (omega (arith, less, is))
+
+-- and into none there is no step
+pub none_step : {v : Value} {t : Tree} (s : Step) → v ≡ tagged_value 4 (chosen 0 no_values) → Denotes v t → node_at t (s ∷ []) ≡ None
+none_step s e d = ap (λ u. node_at u (s ∷ [])) (nothing_is e d)
+
+-- ---- options
+
+-- the node that a step leads to, by its value
+pub record StepFound (u : Value) (s : Step) (t : Tree) : Type 0 where
+  pub tree : Tree
+  pub there : node_at t (s ∷ []) ≡ Some tree
+  pub denotes : Denotes u tree
+
+pub some_step : {v u : Value} {t : Tree} → v ≡ tagged_value 4 (tagged_value 1 u) → Denotes v t → StepFound u inside t
+some_step e d =
+    let o = of_some e d in
+    record { tree = o.inner; there = ap (λ t. node_at t (inside ∷ [])) o.is; denotes = o.denotes }
+
+-- ---- lists
+
+past_end : {vs : Values} {ts : Trees} (i : ℕ) → DenoteAll vs ts → count_values vs ≤ i → node_in ts i [] ≡ None
+past_end i (denote_none e f) past = ap (λ ts. node_in ts i []) f
+past_end zero (denote_more e f d ds) past = let counted = ap count_values e in absurd (omega (arith, counted, past))
+past_end (suc i) (denote_more e f d ds) past =
+    let counted = ap count_values e in
+    ap (λ ts. node_in ts (suc i) []) f ∙ past_end i ds (omega (arith, counted, past))
+
+-- no element lies past the end
+pub past_step : {v : Value} {vs : Values} {t : Tree} (i : ℕ) → v ≡ tagged_value 5 (group vs) → count_values vs ≤ i → Denotes v t → node_at t (place i ∷ []) ≡ None
+past_step i e past d = let l = of_list e d in ap (λ t. node_at t (place i ∷ [])) l.is ∙ past_end i l.denotes past
+
+record ElementFound (u : Value) (i : ℕ) (ts : Trees) : Type 0 where
+  tree : Tree
+  there : node_in ts i [] ≡ Some tree
+  denotes : Denotes u tree
+
+element_found : {vs : Values} {ts : Trees} (i : ℕ) (u : Value) → DenoteAll vs ts → value_in i vs ≡ Some u → ElementFound u i ts
+element_found i u (denote_none e f) g = let none : value_in i no_values ≡ Some u = subst (λ vs. value_in i vs ≡ Some u) e g in absurd (cc)
+element_found zero u (denote_more {v = v} {t = t} e f d ds) g =
+    let here : ◌≡◌ {A = Option Value} (Some v) (Some u) = subst (λ vs. value_in zero vs ≡ Some u) e g in
+    let same : v ≡ u = cc in
+    record { tree = t; there = ap (λ ts. node_in ts zero []) f; denotes = subst (λ v. Denotes v t) same d }
+element_found (suc i) u (denote_more e f d ds) g =
+    let r = element_found i u ds (subst (λ vs. value_in (suc i) vs ≡ Some u) e g) in
+    record { tree = r.tree; there = ap (λ ts. node_in ts (suc i) []) f ∙ r.there; denotes = r.denotes }
+
+pub element_step : {v : Value} {vs : Values} {t : Tree} (i : ℕ) (u : Value) → v ≡ tagged_value 5 (group vs) → value_in i vs ≡ Some u → Denotes v t → StepFound u (place i) t
+element_step i u e at d =
+    let l = of_list e d in
+    let r = element_found i u l.denotes at in
+    record { tree = r.tree; there = ap (λ t. node_at t (place i ∷ [])) l.is ∙ r.there; denotes = r.denotes }

@@ -1,0 +1,131 @@
+-- Where steps and paths lead in the bytes of an archive, and what lies there.
+use Rattle.std.proofs.Common.{◌≡◌, ℕ, ◌+◌, ◌*◌, ◌<◌, ◌≤◌, List, [], ◌∷◌, ◌++◌, Option, Some, None, MatchOption, refl, sym, ap, subst, ◌∙◌, arith}
+use Rattle.archive_shape.specs.ShapeLayout.Bytes.{align_up}
+use Rattle.archive_shape.specs.ShapeLayout.Shape.{Shape, size_of}
+use Rattle.archive_shape.specs.ShapeLayout.Shape.Shape.{option, box, vector}
+use Rattle.archive_shape.specs.ShapeLayout.Shape.Pointee.{sized}
+use Rattle.archive_shape.specs.ShapeLayout.Content.{Names}
+use Rattle.archive_shape.specs.Key.{HeldAt}
+use Rattle.archive_forms_values.specs.Parts.{HasValue, PointsTo, IsNoneAt, IsSomeAt, some_position, IsBoxAt, IsVecAt}
+use Rattle.cabinet_text_nodes.specs.TextGrammar.Path.{Step, place, inside, node_at}
+use Rattle.cabinet_archived.specs.Documents.Node.{node_shape, KnowsNode}
+use Rattle.cabinet_archived.specs.Documents.Denotes.{tagged_value}
+use Rattle.cabinet_archived.specs.Kind.{IsTagged}
+use Rattle.cabinet_text_nodes.proofs.Paths.{then_at}
+use Rattle.cabinet_archives.specs.Way.{StepsTo, steps_inside, steps_place, GoesTo, goes_nowhere, goes_on}
+use Rattle.cabinet_archives.specs.Found.{Reaches, ReachesNone}
+use Rattle.cabinet_archives.proofs.Stepping.{goes_on_at, IsNotInside, IsNoPlace, other_step, none_step, some_step, past_step, element_step}
+
+-- the condition on an option, changed on either side
+pub matched : {A P R : Type 0} (Q S : A → Type 0) (o : Option A) → (P → R) → ((x : A) → Q x → S x) → MatchOption o P Q → MatchOption o R S
+matched Q S None f g h = f h
+matched Q S (Some x) f g h = g x h
+
+-- ---- paths, one after the other
+
+one_step : {bytes : List ℕ} {from to : ℕ} {s : Step} → StepsTo bytes from s to → GoesTo bytes from (s ∷ []) to
+one_step steps = goes_on refl steps (goes_nowhere refl refl)
+
+way_on : {bytes : List ℕ} {from next to : ℕ} {path more : List Step} → GoesTo bytes from path next → GoesTo bytes next more to → GoesTo bytes from (path ++ more) to
+way_on {bytes = bytes} {from = from} {to = to} {more = more} (goes_nowhere e f) way =
+    subst (λ p. GoesTo bytes from (p ++ more) to) (sym e) (subst (λ n. GoesTo bytes n more to) f way)
+way_on {more = more} (goes_on e steps rest) way = goes_on (ap (λ p. p ++ more) e) steps (way_on rest way)
+
+module _ (bytes : List ℕ) (root : ℕ) where
+  pub reaches_self : HasValue node_shape KnowsNode bytes root → Reaches bytes root [] root
+  reaches_self has = record {
+    there = has;
+    way = goes_nowhere refl refl;
+    stands = λ v t h d. record { tree = t; there = refl; node = record { value = v; held = h; denotes = d } };
+  }
+
+  pub reaches_on : {next to : ℕ} {path more : List Step} → Reaches bytes root path next → Reaches bytes next more to → Reaches bytes root (path ++ more) to
+  reaches_on {path = path} {more = more} a b = record {
+    there = b.there;
+    way = way_on a.way b.way;
+    stands = λ v t h d.
+        let p = a.stands v t h d in
+        let q = b.stands p.node.value p.tree p.node.held p.node.denotes in
+        record { tree = q.tree; there = goes_on_at path more t ∙ (ap (λ found. then_at found more) p.there ∙ q.there); node = q.node };
+  }
+
+  pub none_after : {next : ℕ} {path : List Step} (more : List Step) → Reaches bytes root path next → ReachesNone bytes next more → ReachesNone bytes root (path ++ more)
+  none_after {path = path} more a none = λ v t h d.
+      let p = a.stands v t h d in
+      goes_on_at path more t ∙ (ap (λ found. then_at found more) p.there ∙ none p.node.value p.tree p.node.held p.node.denotes)
+
+  -- where the first steps lead nowhere, so does the path
+  pub none_before : (path more : List Step) → ReachesNone bytes root path → ReachesNone bytes root (path ++ more)
+  none_before path more none = λ v t h d. goes_on_at path more t ∙ ap (λ found. then_at found more) (none v t h d)
+
+-- ---- one step, by the node's kind
+
+abbrev pub Boxed : Shape
+Boxed = box (sized node_shape)
+
+behind_box_tag : (pos : ℕ) → some_position Boxed pos ≡ pos + 4
+unfolding align_up
+behind_box_tag pos = refl
+
+module _ (bytes : List ℕ) (pos : ℕ) where
+  -- by a step that is not the kind's own
+  pub other_none : (s : Step) (tag : ℕ) (shape : Shape) (knows : Names → Type 0) (to : ℕ) → tag < 6 → (tag ≡ 4 → IsNotInside s) → (tag ≡ 5 → IsNoPlace s) → IsTagged bytes pos tag shape knows to → ReachesNone bytes pos (s ∷ [])
+  other_none s tag shape knows to less apart beside tagged = λ v t h d. let p = tagged.payload v h in other_step s p.is less apart beside d
+
+  module _ (to : ℕ) (tagged : IsTagged bytes pos 4 (option Boxed) KnowsNode to) where
+    pub empty_none : (s : Step) → IsNoneAt Boxed KnowsNode bytes to → ReachesNone bytes pos (s ∷ [])
+    empty_none s none = λ v t h d.
+        let p = tagged.payload v h in
+        none_step s (p.is ∙ ap (tagged_value 4) (none p.payload p.held)) d
+
+    pub content_there : (at : ℕ) → at ≡ some_position Boxed to → IsSomeAt Boxed KnowsNode bytes to → HasValue Boxed KnowsNode bytes at
+    content_there at e some =
+        let p = some tagged.there.value tagged.there.held in
+        subst (HasValue Boxed KnowsNode bytes) (sym e) (record { value = p.payload; held = p.held })
+
+    -- into an option that is some
+    pub content_reached : (s : Step) (at next : ℕ) → s ≡ inside → to ≡ pos + 4 → at ≡ some_position Boxed to → IsSomeAt Boxed KnowsNode bytes to → IsBoxAt node_shape KnowsNode bytes at next
+        → Reaches bytes pos (s ∷ []) next
+    content_reached s at next is behind e some boxed =
+        let there = content_there at e some in
+        let place_is : at ≡ pos + 8 = omega (arith, e, behind, behind_box_tag to) in
+        record {
+          there = record { value = there.value; held = boxed.value there.value there.held };
+          way = one_step (steps_inside is (subst (λ n. PointsTo bytes n next) place_is boxed.points));
+          stands = λ v t h d.
+              let p = tagged.payload v h in
+              let q = some p.payload p.held in
+              let f = some_step (p.is ∙ ap (tagged_value 4) q.is) d in
+              record {
+                tree = f.tree;
+                there = ap (λ x. node_at t (x ∷ [])) is ∙ f.there;
+                node = record { value = q.payload; held = boxed.value q.payload (subst (λ n. HeldAt Boxed KnowsNode bytes n q.payload) (sym e) q.held); denotes = f.denotes };
+              };
+        }
+
+  module _ (to : ℕ) (tagged : IsTagged bytes pos 5 (vector node_shape) KnowsNode to) (first len : ℕ) (elements : IsVecAt node_shape KnowsNode bytes to first len) where
+    pub past_none : (s : Step) (i : ℕ) → s ≡ place i → len ≤ i → ReachesNone bytes pos (s ∷ [])
+    past_none s i is past = λ v t h d.
+        let p = tagged.payload v h in
+        let all = elements.value p.payload p.held in
+        ap (λ x. node_at t (x ∷ [])) is ∙ past_step i (p.is ∙ ap (tagged_value 5) all.is) (omega (arith, all.count, past)) d
+
+    -- to an element
+    pub element_reached : (s : Step) (i next : ℕ) → s ≡ place i → to ≡ pos + 4 → i < len → next ≡ first + i * size_of node_shape → Reaches bytes pos (s ∷ []) next
+    element_reached s i next is behind less e =
+        let there = elements.value tagged.there.value tagged.there.held in
+        let one = there.each i less in
+        record {
+          there = record { value = one.0; held = subst (λ n. HeldAt node_shape KnowsNode bytes n one.0) (sym e) one.2 };
+          way = one_step (steps_place is (subst (λ n. PointsTo bytes n first) behind elements.points) e);
+          stands = λ v t h d.
+              let p = tagged.payload v h in
+              let all = elements.value p.payload p.held in
+              let x = all.each i less in
+              let f = element_step i x.0 (p.is ∙ ap (tagged_value 5) all.is) x.1 d in
+              record {
+                tree = f.tree;
+                there = ap (λ y. node_at t (y ∷ [])) is ∙ f.there;
+                node = record { value = x.0; held = subst (λ n. HeldAt node_shape KnowsNode bytes n x.0) (sym e) x.2; denotes = f.denotes };
+              };
+        }

@@ -1,0 +1,76 @@
+use Rattle.std.proofs.Common.{sym, subst, ap, ◌∙◌, Bor, List, ℕ, to_z, of_z, arith}
+use Rattle.std.proofs.lemmas.Int.{to_z-of_z}
+use Rattle.std.specs.Prelude.{true, false, ⊤}
+use Rattle.std.specs.Int.{w64}
+use Rattle.archive_shape.specs.ShapeLayout.Bytes.{window}
+use Rattle.archive_shape.specs.ShapeLayout.Shape.Shape.{number, truth, text}
+use Rattle.archive_shape.specs.ShapeLayout.Shape.Pointee.{str}
+use Rattle.archive_shape.specs.ShapeLayout.Value.Value.{integer}
+use Rattle.archive_shape.specs.Key.{HeldAt}
+use Rattle.archive_forms_values.specs.FormsLaws.Text.{HasText, IsText}
+use Rattle.archive_forms_rc.specs.Pointers.{HasCounted, IsRcStrAt}
+use Rattle.archive_forms_values.specs.Parts.{IsNoneAt, IsSomeAt, IsVecAt}
+use Rattle.cabinet_text_nodes.specs.TextGrammar.Tree as tree
+use Rattle.cabinet_archived.specs.Documents.Node.{node_shape, KnowsNode}
+use Rattle.cabinet_archived.proofs.Shared.{counted_there}
+use Rattle.cabinet_archives.proofs.Ways.{Boxed}
+use Rattle.cabinet_archives.proofs.Payloads.{text_has, text_is, leaf_head, shared_head, none_head, some_head, list_head}
+use Rattle.cabinet_archives.proofs.asking.heads.head.Goals as goal
+
+pub as_str-requires : goal.as_str-requires
+as_str-requires c =
+    let is = c.in-Text.ensures in
+    subst (λ (b : Bor (List ℕ)). HasText b.now c.in-Text.text.pos) (sym is.0) (text_has (λ _. ⊤) c.args.node.bytes.now c.in-Text.text.pos is.2.there)
+
+pub returns-in-Bool : goal.returns-in-Bool
+returns-in-Bool c =
+    let is = c.in-Bool.ensures in
+    leaf_head c.args.node.bytes.now c.args.node.pos (tree.truth c.native_of.result) 0 truth (λ _. ⊤) c.in-Bool.value.pos (omega arith) is.2
+    (λ w h. c.native_of.ensures w (subst (λ (b : Bor (List ℕ)). HeldAt truth (λ _. ⊤) b.now c.in-Bool.value.pos w) (sym is.0) h))
+
+pub returns-in-Int : goal.returns-in-Int
+returns-in-Int c =
+    let is = c.in-Int.ensures in
+    let n = c.native_of-in-Int.result in
+    let same = to_z-of_z w64 n (record { sfits = c.native_of-in-Int.type_inv }) in
+    leaf_head c.args.node.bytes.now c.args.node.pos (tree.number (to_z w64 (of_z w64 n))) 1 (number w64 true) (λ _. ⊤) c.in-Int.number.pos (omega arith) is.2
+    (λ w h. ap integer same ∙ c.native_of-in-Int.ensures w (subst (λ (b : Bor (List ℕ)). HeldAt (number w64 true) (λ _. ⊤) b.now c.in-Int.number.pos w) (sym is.0) h))
+
+pub returns-in-Text : goal.returns-in-Text
+returns-in-Text c =
+    let is = c.in-Text.ensures in
+    let there = subst (λ (b : Bor (List ℕ)). IsText b.now c.in-Text.text.pos c.as_str.result.now) is.0 c.as_str.ensures in
+    leaf_head c.args.node.bytes.now c.args.node.pos (tree.text c.as_str.result.now) 2 text (λ _. ⊤) c.in-Text.text.pos (omega arith) is.2
+    (text_is (λ _. ⊤) c.args.node.bytes.now c.in-Text.text.pos c.as_str.result.now there)
+
+pub get-requires : goal.get-requires
+get-requires c =
+    let is = c.in-Shared.ensures in
+    subst (λ (b : Bor (List ℕ)). HasCounted false str (λ _. ⊤) b.now c.in-Shared.text.pos) (sym is.0) (counted_there str (λ _. ⊤) c.args.node.bytes.now c.in-Shared.text.pos is.2.there)
+
+pub returns-in-Shared : goal.returns-in-Shared
+returns-in-Shared c =
+    let is = c.in-Shared.ensures in
+    let got = c.get.ensures in
+    shared_head c.args.node.bytes.now c.args.node.pos c.in-Shared.text.pos got.0 got.1 c.get.result.now is.2
+    (subst (λ (b : Bor (List ℕ)). IsRcStrAt false b.now c.in-Shared.text.pos got.0 got.1) is.0 got.2)
+    (got.3 ∙ ap (λ (b : Bor (List ℕ)). window b.now got.0 got.1) is.0)
+
+pub returns-then-is_none : goal.returns-then-is_none
+returns-then-is_none c =
+    let is = c.in-Maybe.ensures in
+    none_head c.args.node.bytes.now c.args.node.pos c.in-Maybe.maybe.pos is.2
+    (subst (λ (b : Bor (List ℕ)). IsNoneAt Boxed KnowsNode b.now c.in-Maybe.maybe.pos) is.0 c.if-is_none.ensures)
+
+pub returns-else-is_none : goal.returns-else-is_none
+returns-else-is_none c =
+    let is = c.in-Maybe.ensures in
+    some_head c.args.node.bytes.now c.args.node.pos c.in-Maybe.maybe.pos is.2
+    (subst (λ (b : Bor (List ℕ)). IsSomeAt Boxed KnowsNode b.now c.in-Maybe.maybe.pos) is.0 c.if-is_none.ensures)
+
+pub returns-in-List : goal.returns-in-List
+returns-in-List c =
+    let is = c.in-List.ensures in
+    let has = c.len.ensures in
+    list_head c.args.node.bytes.now c.args.node.pos c.in-List.list.pos has.0 c.len.result is.2
+    (subst (λ (b : Bor (List ℕ)). IsVecAt node_shape KnowsNode b.now c.in-List.list.pos has.0 c.len.result) is.0 has.1)

@@ -1,0 +1,54 @@
+use Rattle.std.proofs.Common.{ap, sym, subst, ◌∙◌, Bor, List, ℕ}
+use Rattle.archive_forms_values.specs.Parts.{HasValue, IsNoneAt, IsSomeAt, IsBoxAt, IsVecAt}
+use Rattle.cabinet_archived.specs.Documents.Node.{node_shape, KnowsNode}
+use Rattle.cabinet_text_nodes.specs.View.{step_of}
+use Rattle.cabinet_archives.proofs.Ways.{Boxed, matched, empty_none, content_there, content_reached, past_none, element_reached}
+use Rattle.cabinet_archives.proofs.NoSteps.{not_inside, no_place, no_step}
+use Rattle.cabinet_archives.proofs.asking.walk.step_down.Goals.{in_default-via-in-Maybe+in_default, in_default-via-in-List+in_default, in_default-via-in_default}
+use Rattle.cabinet_archives.proofs.asking.walk.step_down.Goals as goal
+
+pub returns-in_err-content-in-Maybe-Inside : goal.returns-in_err-content-in-Maybe-Inside
+returns-in_err-content-in-Maybe-Inside c =
+    let is = c.in-Maybe-Inside.ensures in
+    let none = subst (λ (b : Bor (List ℕ)). IsNoneAt Boxed KnowsNode b.now c.in-Maybe-Inside.maybe.pos) is.0 c.in_err-content-in-Maybe-Inside.ensures in
+    rw c.from_residual.ensures (empty_none c.args.node.bytes.now c.args.node.pos c.in-Maybe-Inside.maybe.pos is.2 (step_of c.args.step.now) none)
+
+pub get-requires : goal.get-requires
+get-requires c =
+    let is = c.in-Maybe-Inside.ensures in
+    let content = c.in_ok-content-in-Maybe-Inside.content in
+    let says = c.in_ok-content-in-Maybe-Inside.ensures in
+    let some = subst (λ (b : Bor (List ℕ)). IsSomeAt Boxed KnowsNode b.now c.in-Maybe-Inside.maybe.pos) is.0 says.2 in
+    subst (λ (b : Bor (List ℕ)). HasValue Boxed KnowsNode b.now content.pos) (sym (says.0 ∙ is.0))
+    (content_there c.args.node.bytes.now c.args.node.pos c.in-Maybe-Inside.maybe.pos is.2 content.pos says.1 some)
+
+pub returns-in_ok-content-in-Maybe-Inside : goal.returns-in_ok-content-in-Maybe-Inside
+returns-in_ok-content-in-Maybe-Inside c =
+    let is = c.in-Maybe-Inside.ensures in
+    let content = c.in_ok-content-in-Maybe-Inside.content in
+    let says = c.in_ok-content-in-Maybe-Inside.ensures in
+    let some = subst (λ (b : Bor (List ℕ)). IsSomeAt Boxed KnowsNode b.now c.in-Maybe-Inside.maybe.pos) is.0 says.2 in
+    let boxed = subst (λ (b : Bor (List ℕ)). IsBoxAt node_shape KnowsNode b.now content.pos c.get.result.pos) (says.0 ∙ is.0) c.get.ensures.value in (
+      c.get.ensures.bytes ∙ (says.0 ∙ is.0),
+      content_reached c.args.node.bytes.now c.args.node.pos c.in-Maybe-Inside.maybe.pos is.2 (step_of c.args.step.now) content.pos c.get.result.pos (ap step_of c.in-Maybe-Inside.is-1) is.1 says.1 some boxed,
+    )
+
+pub returns-in-List-Place : goal.returns-in-List-Place
+returns-in-List-Place c =
+    let is = c.in-List-Place.ensures in
+    let step_is = ap step_of c.in-List-Place.is-1 in
+    let got = c.get-in-List-Place.ensures in
+    let elements = subst (λ (b : Bor (List ℕ)). IsVecAt node_shape KnowsNode b.now c.in-List-Place.list.pos got.0 got.1) is.0 got.2 in
+    matched _ _ c.get-in-List-Place.result
+    (past_none c.args.node.bytes.now c.args.node.pos c.in-List-Place.list.pos is.2 got.0 got.1 elements (step_of c.args.step.now) c.in-List-Place.place step_is)
+    (λ next says. (says.1 ∙ is.0, element_reached c.args.node.bytes.now c.args.node.pos c.in-List-Place.list.pos is.2 got.0 got.1 elements (step_of c.args.step.now) c.in-List-Place.place next.pos step_is is.1 says.0 says.2))
+    got.3
+
+pub returns-in_default : goal.returns-in_default
+returns-in_default c =
+    let none = no_step c.args.node.bytes c.args.node.pos c.kind.result (step_of c.args.step.now) c.kind.ensures in
+    elim c.in_default.branch [
+      | in_default-via-in-Maybe+in_default w ↦ none (λ r e. not_inside c.args.step.now w.in_default.not-Inside-1) (λ r e. let is = w.in_default.is-0 in absurd (cc))
+      | in_default-via-in-List+in_default w ↦ none (λ r e. let is = w.in_default.is-0 in absurd (cc)) (λ r e. no_place c.args.step.now w.in_default.not-Place-1)
+      | in_default-via-in_default w ↦ none (λ r e. absurd (w.in_default.not-Maybe-0 r e)) (λ r e. absurd (w.in_default.not-List-0 r e))
+    ]

@@ -1,0 +1,32 @@
+use Rattle.std.proofs.Common.{◌++◌, ap, ◌∙◌, subst}
+use Rattle.archive_shape_writing.specs.Writing.{WriterMembers, Cut}
+use Rattle.cabinet_archives.proofs.Saves.{cut_of, nothing_cut, unsaved}
+use Rattle.cabinet_archives.proofs.saving.saving.save.Goals as goal
+
+pub returns-in-Err : goal.returns-in-Err
+returns-in-Err g c =
+    let m : WriterMembers g.row.W.Denot = record { known = g.W.Registry.known; pos = g.W.Positional.pos; OBSERVABLE = g.W.Writer.OBSERVABLE; COUNTS = g.W.Writer.COUNTS; contents = g.W.Writer.contents; failures = g.W.Writer.failures; last_error = g.W.Writer.last_error } in
+    record {
+      saved = tt;
+      laid = tt;
+      quiet = tt;
+      refused = unsaved m c.args.document.now c.args.writer.now c.in-Err.refusal c.in-Err.ensures.refused;
+      cut = λ image is_image tells. nothing_cut (g.W.Writer.contents c.args.writer.now) image;
+    }
+
+pub returns-in-Ok-write-clause-saved : goal.returns-in-Ok-write-clause-saved
+returns-in-Ok-write-clause-saved g c = λ tells. record {
+  image = c.in-Ok.image.items;
+  is_image = c.in-Ok.ensures.image;
+  written = c.in-Ok-write.ensures.gains tells ∙ ap (λ l. g.W.Writer.contents c.args.writer.now ++ l) c.as_slice.ensures.value;
+}
+
+pub returns-in-Err-write-clause-cut : goal.returns-in-Err-write-clause-cut
+returns-in-Err-write-clause-cut g c = λ image is_image tells.
+    cut_of c.args.document.now _ _ c.in-Ok.image.items image c.in-Ok.ensures.laid c.in-Ok.ensures.image
+    (subst (Cut _ _) c.as_slice.ensures.value (c.in-Err-write.ensures.is_cut tells)) is_image
+
+pub returns-clause-cut : goal.returns-clause-cut
+returns-clause-cut g c = λ image is_image tells.
+    cut_of c.args.document.now _ _ c.in-Ok.image.items image c.in-Ok.ensures.laid c.in-Ok.ensures.image
+    (subst (Cut _ _) c.as_slice.ensures.value (c.in-Err-2.ensures.is_cut tells)) is_image

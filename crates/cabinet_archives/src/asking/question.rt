@@ -1,0 +1,78 @@
+//! Answers to questions about the document that bytes are the archive of.
+ghost use Rattle.std.specs.Prelude.{◌-◌, ◌^◌, ◌<◌, IfOk};
+ghost use Rattle.archive_shape_writing.specs.Writing.{Writes};
+ghost use Rattle.archive_forms_values.specs.Parts.{HasValue};
+ghost use Rattle.cabinet_text_nodes.specs.TextGrammar.Answering as grammar;
+ghost use Rattle.cabinet_text_nodes.specs.TextGrammar.Answering.{answer, spelled_answer};
+ghost use Rattle.cabinet_archived.specs.Documents.Node.{node_shape, KnowsNode};
+ghost use Rattle.cabinet_text_nodes.specs.Answers.{Tells};
+ghost use Rattle.cabinet_text_nodes.specs.Lines.{IsQuestion};
+ghost use Rattle.cabinet_text_nodes.specs.View.{line_of};
+ghost use Rattle.cabinet_archives.specs.Failing.{FailsByWriter};
+ghost use Rattle.cabinet_archives.specs.Found.{OfDocument};
+
+use crate::asking::heads::head;
+use crate::asking::walk::find;
+use archive_shape::Ref;
+use archive_shape_writing::{Error, Writer};
+use cabinet_archived::ArchivedNode;
+use cabinet_text_nodes::{Asked, Line};
+use cabinet_text_writing::{write_head, write_missing, write_wrong};
+
+/// Writes the answer that the path leads to no node.
+fn answer_missing<W: Writer>(writer: &mut W) -> Result<Asked, Error>
+    requires { W.failures writer.old < 2 ^ 64 - 1 }
+    ensures written { Writes W.Writer writer.old writer.new (spelled_answer grammar.missing) result }
+    ensures asked { IfOk result (λ asked. Tells asked grammar.missing) }
+{
+    write_missing(writer)?;
+    Ok(Asked::Missing)
+}
+
+/// Writes the answer that a node has no keys in an order.
+fn answer_wrong<W: Writer>(writer: &mut W) -> Result<Asked, Error>
+    requires { W.failures writer.old < 2 ^ 64 - 1 }
+    ensures written { Writes W.Writer writer.old writer.new (spelled_answer grammar.wrong) result }
+    ensures asked { IfOk result (λ asked. Tells asked grammar.wrong) }
+{
+    write_wrong(writer)?;
+    Ok(Asked::Wrong)
+}
+
+/// Writes the head of a node as the answer.
+fn answer_head<W: Writer>(node: Ref<'_, ArchivedNode>, writer: &mut W) -> Result<Asked, Error>
+    requires there { HasValue node_shape KnowsNode node.bytes.now node.pos }
+    requires room { W.failures writer.old < 2 ^ 64 - 1 }
+    ensures written { OfDocument node.entry.bytes.now node.entry.pos (λ t. Writes W.Writer writer.old writer.new (spelled_answer (grammar.head (grammar.head_of t))) result) }
+    ensures asked { IfOk result (λ asked. OfDocument node.entry.bytes.now node.entry.pos (λ t. Tells asked (grammar.head (grammar.head_of t)))) }
+    ensures counted { FailsByWriter W.Writer writer.old writer.new result }
+{
+    write_head(head(node), writer)?;
+    Ok(Asked::Answered)
+}
+
+/// Writes the line that answers a question. Reads only the nodes on the line's path, and does not allocate.
+pub fn ask<W: Writer>(
+    root: Ref<'_, ArchivedNode>,
+    line: &Line,
+    writer: &mut W,
+) -> Result<Asked, Error>
+    requires there { HasValue node_shape KnowsNode root.bytes.now root.pos }
+    requires question { IsQuestion (line_of line.now) }
+    requires room { W.failures writer.old < 2 ^ 64 - 1 }
+    ensures written { OfDocument root.entry.bytes.now root.entry.pos (λ t. Writes W.Writer writer.old writer.new (spelled_answer (answer t (line_of line.now))) result) }
+    ensures asked { IfOk result (λ asked. OfDocument root.entry.bytes.now root.entry.pos (λ t. Tells asked (answer t (line_of line.now)))) }
+    ensures counted { FailsByWriter W.Writer writer.old writer.new result }
+{
+    let path = match line {
+        Line::Get(path) | Line::Keys(path) => path,
+        Line::Range { path, .. } | Line::Set { path, .. } => path,
+    };
+    let Some(node) = find(root, path) else {
+        return answer_missing(writer);
+    };
+    match line {
+        Line::Keys(_) | Line::Range { .. } => answer_wrong(writer),
+        Line::Get(_) | Line::Set { .. } => answer_head(node, writer),
+    }
+}

@@ -1,0 +1,12 @@
+//! Documents in archives: saving them, opening them, questions about them, and edits in place.
+#![tactic(auto)]
+
+mod asking;
+mod opening;
+mod saving;
+mod setting;
+
+pub use asking::{ask, find, head};
+pub use opening::{OpenRefusal, check};
+pub use saving::{SaveRefusal, save, to_bytes};
+pub use setting::set;

@@ -1,6 +1,0 @@
-mod Stepping
-mod Paths
-mod Ways
-mod NoSteps
-mod Payloads
-mod Asking

@@ -1,0 +1,68 @@
+-- A document that is written within the limits has a layout, and one that has none is refused.
+use Rattle.std.proofs.Common.{ℕ, zero, suc, ◌≤◌, arith, refl, ◌⊎◌, inl, inr, ⊎_elim}
+use Rattle.std.proofs.Math.Nat.{le-max_left, le-max_right}
+use Rattle.archive_forms_values.specs.ShapeWriting.declared.error.Error.TheVariants.{InvalidTag}
+use Rattle.archive_forms_values.specs.FormsLaws.State.{State}
+use Rattle.archive_forms_values.specs.FormsLaws.Spelling.{Spelling, state_after}
+use Rattle.archive_forms_values.specs.FormsLaws.Regions.{pieces_fit, pieces_refused}
+use Rattle.archive_forms_values.specs.FormsLaws.Levels.{levels_spelling}
+use Rattle.cabinet_text_grammar.specs.Tree.{Tree, Trees, leaf, shared, nothing, just, list, map, no_trees, more_trees, depth, most_depth}
+use Rattle.cabinet_documents.specs.declared.spelling.resolver.NodeResolver.{NodeResolver}
+use Rattle.cabinet_documents.specs.HasLayout.{HasLayout, HaveLayout}
+use Rattle.cabinet_documents.specs.Spelling.{trees_in, refused, node_level}
+use Rattle.cabinet_documents.specs.SpellingLaws.{FittingHasLayout, LackingIsRefused}
+
+module _ (w : Spelling Tree NodeResolver) where
+  all_laid : (n : ℕ) → ((y : Tree) → depth y ≤ n → (st : State) → w.piece_fits y st → HasLayout y)
+      → (ts : Trees) → most_depth ts ≤ n → (st : State) → pieces_fit w (trees_in ts) st → HaveLayout ts
+  all_laid n each no_trees less st f = tt
+  all_laid n each (more_trees t ts) less st f =
+      let a = le-max_left (depth t) (most_depth ts) in
+      let b = le-max_right (depth t) (most_depth ts) in
+      (each t (omega (arith, a)) st f.0, all_laid n each ts (omega (arith, b)) (state_after w t st) f.1)
+
+  level_laid : (n : ℕ) → ((y : Tree) → suc (depth y) ≤ n → (st : State) → w.piece_fits y st → HasLayout y)
+      → (t : Tree) → depth t ≤ n → (st : State) → (node_level w).piece_fits t st → HasLayout t
+  level_laid n each (leaf l) less st f = tt
+  level_laid n each (shared s) less st f = tt
+  level_laid n each nothing less st f = tt
+  level_laid n each (just t) less st f = each t less st f.0.0
+  level_laid zero each (list ts) less st f = absurd (omega (arith, less))
+  level_laid (suc n) each (list ts) less st f = all_laid n (λ y h. each y (omega (arith, h))) ts (omega (arith, less)) st f.0
+  level_laid n each (map kind ps) less st f = f
+
+levels_laid : (n : ℕ) (t : Tree) → depth t ≤ n → (st : State) → (levels_spelling node_level refused (suc n)).piece_fits t st → HasLayout t
+levels_laid zero t less st f = level_laid refused zero (λ y h. absurd (omega (arith, h))) t less st f
+levels_laid (suc n) t less st f = level_laid (levels_spelling node_level refused (suc n)) (suc n) (λ y h. levels_laid n y (omega (arith, h))) t less st f
+
+pub fitting_has_layout_law : FittingHasLayout
+fitting_has_layout_law t st f = levels_laid (depth t) t (omega arith) st f
+
+-- ---- and one that has none is refused
+
+module _ (w : Spelling Tree NodeResolver) where
+  all_decided : (n : ℕ) → ((y : Tree) → depth y ≤ n → (st : State) → HasLayout y ⊎ w.piece_refused y st InvalidTag)
+      → (ts : Trees) → most_depth ts ≤ n → (st : State) → HaveLayout ts ⊎ pieces_refused w (trees_in ts) st InvalidTag
+  all_decided n each no_trees less st = inl tt
+  all_decided n each (more_trees t ts) less st =
+      let a = le-max_left (depth t) (most_depth ts) in
+      let b = le-max_right (depth t) (most_depth ts) in
+      ⊎_elim (λ h. ⊎_elim (λ k. inl (h, k)) (λ k. inr (inr k)) (all_decided n each ts (omega (arith, b)) (state_after w t st))) (λ h. inr (inl h)) (each t (omega (arith, a)) st)
+
+  level_decided : (n : ℕ) → ((y : Tree) → suc (depth y) ≤ n → (st : State) → HasLayout y ⊎ w.piece_refused y st InvalidTag)
+      → (t : Tree) → depth t ≤ n → (st : State) → HasLayout t ⊎ (node_level w).piece_refused t st InvalidTag
+  level_decided n each (leaf l) less st = inl tt
+  level_decided n each (shared s) less st = inl tt
+  level_decided n each nothing less st = inl tt
+  level_decided n each (just t) less st = ⊎_elim (λ h. inl h) (λ h. inr (inl (inl h))) (each t less st)
+  level_decided zero each (list ts) less st = absurd (omega (arith, less))
+  level_decided (suc n) each (list ts) less st =
+      ⊎_elim (λ h. inl h) (λ h. inr (inl h)) (all_decided n (λ y h. each y (omega (arith, h))) ts (omega (arith, less)) st)
+  level_decided n each (map kind ps) less st = inr refl
+
+levels_decided : (n : ℕ) (t : Tree) → depth t ≤ n → (st : State) → HasLayout t ⊎ (levels_spelling node_level refused (suc n)).piece_refused t st InvalidTag
+levels_decided zero t less st = level_decided refused zero (λ y h. absurd (omega (arith, h))) t less st
+levels_decided (suc n) t less st = level_decided (levels_spelling node_level refused (suc n)) (suc n) (λ y h. levels_decided n y (omega (arith, h))) t less st
+
+pub lacking_is_refused_law : LackingIsRefused
+lacking_is_refused_law t st none = ⊎_elim (λ h. absurd (none h)) (λ h. h) (levels_decided (depth t) t (omega arith) st)

@@ -1,0 +1,115 @@
+-- The bytes that are written for a node are those that the layout reads, and are canonical.
+use Rattle.std.proofs.Common.{◌≡◌, ℕ, suc, true, false, ◌≤◌, ◌<◌, Some, None, refl, arith}
+use Rattle.std.proofs.Math.Nat.{le-max_left, le-max_right}
+use Rattle.std.specs.Int.{w64, to_le_bytes, cast_unsigned}
+use Rattle.archive_forms_values.specs.ShapeLayout.Bytes.{align_up}
+use Rattle.archive_forms_values.specs.ShapeLayout.Shape.{Shape, align_of, size_of}
+use Rattle.archive_forms_values.specs.ShapeLayout.Shape.Alignment.{eight}
+use Rattle.archive_forms_values.specs.ShapeLayout.Shape.Shape.{number, truth, text, option, choice, vector, shared as shared_shape}
+use Rattle.archive_forms_values.specs.ShapeLayout.Shape.Pointee.{str}
+use Rattle.archive_forms_values.specs.ShapeLayout.Value.Value.{integer, boolean}
+use Rattle.archive_forms_values.specs.ShapeLayout.Content.{shape_tagged}
+use Rattle.archive_forms_values.specs.ShapeLayout.Numbers.{truth_bytes}
+use Rattle.archive_forms_values.specs.ShapeCanonical.Settled.{Fit}
+use Rattle.archive_forms_values.specs.FormsLaws.Spelling.{Spelling}
+use Rattle.archive_forms_values.specs.FormsLaws.Spells.{SpellsAt, EachSpells}
+use Rattle.archive_forms_values.specs.FormsLaws.Forms.{seen_as}
+use Rattle.archive_forms_values.specs.FormsLaws.Pointers.{slice_spelling, box_spelling}
+use Rattle.archive_forms_values.specs.FormsLaws.Payloads.{payload_spelling}
+use Rattle.archive_forms_values.specs.FormsLaws.Texts.{text_spelling}
+use Rattle.archive_forms_values.specs.FormsLaws.Shared.{shared_text_spelling}
+use Rattle.archive_forms_laws.proofs.Leaves.{leaf_spells}
+use Rattle.archive_forms_laws.proofs.Levels.{named_spells_at, self_spells}
+use Rattle.archive_forms_laws.proofs.Options.{none_spells, some_spells}
+use Rattle.archive_forms_laws.proofs.Payloads.{variant_spells_at}
+use Rattle.archive_forms_laws.proofs.Pointers.{box_spells_at, slice_spells_at}
+use Rattle.archive_forms_laws.proofs.Texts.{text_spells}
+use Rattle.archive_forms_laws.proofs.Shared.{shared_text_spells}
+use Rattle.archive_forms_laws.proofs.Views.{kept_spells_at, seen_spells_at}
+use Rattle.cabinet_text_grammar.specs.TextKey.{text_key}
+use Rattle.cabinet_text_grammar.specs.Tree as document
+use Rattle.cabinet_text_grammar.specs.Tree.{Tree, Trees, leaf, shared, nothing, just, list, map, no_trees, more_trees, depth, most_depth}
+use Rattle.cabinet_documents.specs.Node.{KnowsNode, node_shape, payloads}
+use Rattle.cabinet_documents.specs.declared.spelling.resolver.NodeResolver.{NodeResolver}
+use Rattle.cabinet_documents.specs.declared.spelling.resolver.NodeResolver.TheVariants as resolver
+use Rattle.cabinet_documents.specs.Spelling.{truth_spelling, number_spelling, string_spelling, shared_string_spelling, boxed_shape, boxed_spelling, maybe_spelling, list_spelling, trees_in, text_in, shared_in, maybe_in, list_in, node_of, refused, spelling_of, node_level}
+use Rattle.cabinet_documents.specs.SpellingLaws.{NodeSpells}
+
+module _ (fit : Fit) where
+  -- the law of a payload is that of the node with it
+  node_of_spells : {A R : Type 0} (tag : ℕ) (s : Shape) (w : Spelling A R) (make : R → NodeResolver) (get : NodeResolver → R) (back : (r : R) → get (make r) ≡ r)
+      → tag < 256 → shape_tagged tag payloads ≡ Some s
+      → (x : A) (t : Tree) → SpellsAt fit s KnowsNode w x → SpellsAt fit (choice payloads) KnowsNode (node_of tag s w make get x) t
+  node_of_spells tag s w make get back small is x t one =
+      let behind = payload_spelling tag (align_up 1 (align_of s)) (size_of (choice payloads)) w in
+      kept_spells_at fit (choice payloads) KnowsNode make get back (seen_as (λ _. x) behind) t
+      (seen_spells_at fit (choice payloads) KnowsNode (λ _. x) behind t (variant_spells_at fit payloads tag s KnowsNode w small is x one))
+
+  refused_spells : (t : Tree) → SpellsAt fit (choice payloads) KnowsNode refused t
+  refused_spells t = record {
+    sized = λ r pos f. absurd f;
+    canonical = λ st pos names keys bytes level inside k n known state over f o p q. absurd f;
+    consistent = λ st h f. absurd f;
+    keyed = λ keys st n known f. absurd f;
+    piece_bytes = λ st f. absurd f;
+    own_bytes = λ r pos f. absurd f;
+    piece_exact = λ st e f r. f;
+    own_exact = λ r pos e f k. f;
+  }
+
+  module _ (w : Spelling Tree NodeResolver) where
+    each_below : (n : ℕ) (ts : Trees) → suc (most_depth ts) ≤ n → ((y : Tree) → suc (depth y) ≤ n → SpellsAt fit node_shape KnowsNode w y)
+        → EachSpells fit node_shape KnowsNode w (trees_in ts)
+    each_below n no_trees less below = tt
+    each_below n (more_trees t ts) less below =
+        let a = le-max_left (depth t) (most_depth ts) in
+        let b = le-max_right (depth t) (most_depth ts) in
+        (below t (omega (arith, a)), each_below n ts (omega (arith, b)) below)
+
+    -- by the kind of a document
+    case_spells : (n : ℕ) (t : Tree) → depth t ≤ n → ((y : Tree) → suc (depth y) ≤ n → SpellsAt fit node_shape KnowsNode w y)
+        → SpellsAt fit (choice payloads) KnowsNode (spelling_of w t) t
+    case_spells n (leaf (document.truth b)) less below =
+        node_of_spells 0 truth truth_spelling (λ _. resolver.Leaf) (λ _. tt) (λ r. refl) (omega arith) refl b (leaf (document.truth b))
+        (leaf_spells fit truth KnowsNode truth_bytes boolean tt b)
+    case_spells n (leaf (document.number z)) less below =
+        node_of_spells 1 (number w64 true) number_spelling (λ _. resolver.Leaf) (λ _. tt) (λ r. refl) (omega arith) refl z (leaf (document.number z))
+        (leaf_spells fit (number w64 true) KnowsNode (λ n. to_le_bytes w64 (cast_unsigned w64 n)) integer tt z)
+    case_spells n (leaf (document.text s)) less below =
+        node_of_spells 2 text string_spelling resolver.Text text_in (λ r. refl) (omega arith) refl s (leaf (document.text s))
+        (kept_spells_at fit text KnowsNode _ _ (λ r. refl) text_spelling s (text_spells fit KnowsNode s))
+    case_spells n (shared s) less below =
+        node_of_spells 3 (shared_shape false str) shared_string_spelling resolver.Shared shared_in (λ r. refl) (omega arith) refl s (shared s)
+        (kept_spells_at fit (shared_shape false str) KnowsNode _ _ (λ r. refl) (shared_text_spelling text_key) s (shared_text_spells fit false KnowsNode text_key s))
+    case_spells n nothing less below =
+        node_of_spells 4 (option boxed_shape) (maybe_spelling w) resolver.Maybe maybe_in (λ r. refl) (omega arith) refl None nothing
+        (none_spells fit boxed_shape KnowsNode (boxed_spelling w))
+    case_spells n (just t) less below =
+        node_of_spells 4 (option boxed_shape) (maybe_spelling w) resolver.Maybe maybe_in (λ r. refl) (omega arith) refl (Some t) (just t)
+        (some_spells fit boxed_shape KnowsNode (boxed_spelling w) t
+        (kept_spells_at fit boxed_shape KnowsNode _ _ (λ r. refl) (box_spelling node_shape w) t
+        (box_spells_at fit node_shape KnowsNode w t (below t less))))
+    case_spells n (list ts) less below =
+        node_of_spells 5 (vector node_shape) (list_spelling w) resolver.List list_in (λ r. refl) (omega arith) refl (trees_in ts) (list ts)
+        (kept_spells_at fit (vector node_shape) KnowsNode _ _ (λ r. refl) (slice_spelling node_shape w) (trees_in ts)
+        (slice_spells_at fit node_shape KnowsNode w (trees_in ts) (each_below n ts less below)))
+    case_spells n (map kind ps) less below = refused_spells (map kind ps)
+
+    level_spells : (n : ℕ) (t : Tree) → depth t ≤ n → ((y : Tree) → suc (depth y) ≤ n → SpellsAt fit node_shape KnowsNode w y)
+        → SpellsAt fit node_shape KnowsNode (node_level w) t
+    unfolding align_up
+    level_spells n t less below =
+        let one = case_spells n t less below in
+        named_spells_at (choice payloads) 0 24 eight refl refl fit KnowsNode (λ names known. known) (node_level w) t (record {
+          sized = one.sized;
+          canonical = one.canonical;
+          consistent = one.consistent;
+          keyed = one.keyed;
+          piece_bytes = one.piece_bytes;
+          own_bytes = one.own_bytes;
+          piece_exact = one.piece_exact;
+          own_exact = one.own_exact;
+        })
+
+pub node_spells_law : NodeSpells
+node_spells_law fit = self_spells fit node_shape KnowsNode node_level refused depth (λ w n x less below. level_spells fit w n x less below)

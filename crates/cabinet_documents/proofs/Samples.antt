@@ -1,0 +1,77 @@
+-- The bytes that small documents are written as, and that they are the images of these documents.
+use Rattle.std.proofs.Common.{ℕ, ◌<◌, ◌^◌, [], ◌∷◌, IsUtf8, refl, arith}
+use Rattle.std.specs.Int.{w64}
+use Rattle.std.proofs.lemmas.Int.{ints}
+use Rattle.archive_forms_values.specs.ShapeLayout.Bytes.{align_up}
+use Rattle.archive_forms_values.specs.ShapeLayout.Content.{shape_content, number_value}
+use Rattle.archive_forms_values.specs.ArchiveShape.Offsets.{FitsOffset}
+use Rattle.archive_forms_values.proofs.FormsLaws.Gaps.{bytes_number}
+use Rattle.cabinet_text_grammar.proofs.Utf8.{IsUtf8-word}
+use Rattle.cabinet_text_grammar.specs.Tree.{Tree, IsDocument, list, no_trees, more_trees}
+use Rattle.cabinet_documents.specs.Laws.{bytes_five}
+use Rattle.cabinet_documents.specs.SpellingLaws.{ArchiveFits, SamplesAreSpelled, SamplesAreImages, five, list_of_five_bytes, shared_twice, shared_twice_bytes}
+use Rattle.cabinet_documents.proofs.Imaged.{written_is_image_law}
+
+pub samples_are_spelled_law : SamplesAreSpelled
+unfolding align_up
+samples_are_spelled_law = (refl, refl, refl)
+
+abbrev list_of_five : Tree
+list_of_five = list (more_trees five no_trees)
+
+small : (n : ℕ) → n < 100 → n < 2 ^ 32
+small n h = omega (arith, h)
+
+little : (n : ℕ) → n < 100 → n < 2 ^ 64
+little n h = omega (arith, h)
+
+text : IsUtf8 (97 ∷ [])
+text = IsUtf8-word (97 ∷ []) refl
+
+five_fits : ArchiveFits five
+unfolding align_up shape_content number_value
+five_fits = ((tt, tt), small 0 (omega arith), (((λ names start. refl, refl, bytes_number w64 5), little 24 (omega arith)), tt))
+
+list_fits : ArchiveFits list_of_five
+unfolding align_up shape_content number_value
+list_fits =
+    let back : FitsOffset 28 0 = record { sfits = omega (arith, ints) } in (
+      (((tt, tt), small 0 (omega arith), (((λ names start. refl, refl, bytes_number w64 5), little 24 (omega arith)), tt)), tt),
+      small 24 (omega arith),
+      (((back, small 1 (omega arith)), little 48 (omega arith)), tt),
+    )
+
+five_document : IsDocument five
+five_document = (record { sfits = omega arith }, omega arith)
+
+list_document : IsDocument list_of_five
+list_document = (((record { sfits = omega arith }, tt), omega arith), omega arith)
+
+shared_fits : ArchiveFits shared_twice
+unfolding align_up
+shared_fits =
+    let first : FitsOffset 12 0 = record { sfits = omega (arith, ints) } in
+    let second : FitsOffset 36 0 = record { sfits = omega (arith, ints) } in
+    let back : FitsOffset 60 8 = record { sfits = omega (arith, ints) } in (
+      (
+        (
+          ((tt, (text, small 0 (omega arith)), refl), (tt, tt)),
+          small 8 (omega arith),
+          (((first, small 1 (omega arith)), little 32 (omega arith)), (((second, small 1 (omega arith)), little 56 (omega arith)), tt)),
+        ),
+        tt,
+      ),
+      small 56 (omega arith),
+      (((back, small 2 (omega arith)), little 80 (omega arith)), tt),
+    )
+
+shared_document : IsDocument shared_twice
+shared_document = (((text, (text, tt)), omega arith), omega arith)
+
+pub samples_are_images_law : SamplesAreImages
+unfolding align_up
+samples_are_images_law = (
+  written_is_image_law five bytes_five five_document five_fits refl,
+  written_is_image_law list_of_five list_of_five_bytes list_document list_fits refl,
+  written_is_image_law shared_twice shared_twice_bytes shared_document shared_fits refl,
+)

@@ -1,0 +1,138 @@
+-- How documents are archived, by their kinds.
+use Rattle.std.specs.Prelude.{◌≡◌, ℕ, ℤ, Bool, true, false, List, [], ◌∷◌, Option, Some, None, ⊤}
+use Rattle.std.specs.Int.{w64, to_le_bytes, cast_unsigned}
+use Rattle.archive_forms_values.specs.ShapeLayout.Bytes.{align_up}
+use Rattle.archive_forms_values.specs.ShapeLayout.Shape.{Shape, size_of, align_of}
+use Rattle.archive_forms_values.specs.ShapeLayout.Shape.Shape.{number, truth, text, option, choice, box, vector, shared as shared_shape}
+use Rattle.archive_forms_values.specs.ShapeLayout.Shape.Pointee.{sized, str}
+use Rattle.archive_forms_values.specs.ShapeLayout.Value.{Value}
+use Rattle.archive_forms_values.specs.ShapeLayout.Value.Value.{integer, boolean, group}
+use Rattle.archive_forms_values.specs.ShapeLayout.Value.Values.{no_values}
+use Rattle.archive_forms_values.specs.ShapeLayout.Numbers.{truth_bytes}
+use Rattle.archive_forms_values.specs.ShapeWriting.declared.error.Error.TheVariants.{InvalidTag}
+use Rattle.archive_forms_values.specs.FormsLaws.Spelling.{Spelling}
+use Rattle.archive_forms_values.specs.FormsLaws.Forms.{leaf_spelling, seen_as, kept_as}
+use Rattle.archive_forms_values.specs.FormsLaws.Pointers.{box_spelling, slice_spelling}
+use Rattle.archive_forms_values.specs.FormsLaws.Options.{option_spelling}
+use Rattle.archive_forms_values.specs.FormsLaws.Payloads.{payload_spelling}
+use Rattle.archive_forms_values.specs.FormsLaws.Texts.{text_spelling}
+use Rattle.archive_forms_values.specs.FormsLaws.Shared.{shared_text_spelling}
+use Rattle.archive_forms_values.specs.FormsLaws.Levels.{self_spelling}
+use Rattle.archive_forms_values.specs.declared.reading.resolving.BoxResolver.{BoxResolver}
+use Rattle.archive_forms_values.specs.declared.reading.resolving.VecResolver.{VecResolver}
+use Rattle.archive_forms_values.specs.declared.text.resolving.StringResolver.{StringResolver}
+use Rattle.archive_forms_rc.specs.declared.resolving.RcResolver.{RcResolver}
+use Rattle.cabinet_text_grammar.specs.TextKey.{text_key}
+use Rattle.cabinet_text_grammar.specs.Tree as document
+use Rattle.cabinet_text_grammar.specs.Tree.{Tree, Trees, leaf, shared, nothing, just, list, map, no_trees, more_trees, depth}
+use Rattle.cabinet_documents.specs.Node.{node_shape, payloads}
+use Rattle.cabinet_documents.specs.declared.spelling.resolver.NodeResolver.{NodeResolver}
+use Rattle.cabinet_documents.specs.declared.spelling.resolver.NodeResolver.TheVariants as resolver
+
+-- ---- payloads
+
+abbrev pub truth_spelling : Spelling Bool (Unit {0})
+truth_spelling = leaf_spelling truth truth_bytes boolean
+
+abbrev pub number_spelling : Spelling ℤ (Unit {0})
+number_spelling = leaf_spelling (number w64 true) (λ n. to_le_bytes w64 (cast_unsigned w64 n)) integer
+
+abbrev pub string_spelling : Spelling (List ℕ) StringResolver
+string_spelling = kept_as (λ n. record { pos = n }) (λ r. r.pos) text_spelling
+
+-- a counted pointer to a text, which is written once under the text's number
+abbrev pub shared_string_spelling : Spelling (List ℕ) RcResolver
+shared_string_spelling = kept_as (λ n. record { pos = n }) (λ r. r.pos) (shared_text_spelling text_key)
+
+abbrev pub boxed_shape : Shape
+boxed_shape = box (sized node_shape)
+
+-- a box of a node, an option of one, and a vector of nodes, where a node is archived by `w`
+abbrev pub boxed_spelling : Spelling Tree NodeResolver → Spelling Tree BoxResolver
+boxed_spelling w = kept_as (λ n. record { pos = n }) (λ r. r.pos) (box_spelling node_shape w)
+
+abbrev pub maybe_spelling : Spelling Tree NodeResolver → Spelling (Option Tree) (Option BoxResolver)
+maybe_spelling w = option_spelling boxed_shape (boxed_spelling w)
+
+abbrev pub list_spelling : Spelling Tree NodeResolver → Spelling (List Tree) VecResolver
+list_spelling w = kept_as (λ n. record { pos = n }) (λ r. r.pos) (slice_spelling node_shape w)
+
+abbrev pub trees_in : Trees → List Tree
+trees_in no_trees = []
+trees_in (more_trees t ts) = t ∷ trees_in ts
+
+-- ---- the resolvers of payloads in that of a node
+
+abbrev pub text_in : NodeResolver → StringResolver
+text_in (resolver.Text r) = r
+text_in _ = record { pos = 0 }
+
+abbrev pub shared_in : NodeResolver → RcResolver
+shared_in (resolver.Shared r) = r
+shared_in _ = record { pos = 0 }
+
+abbrev pub maybe_in : NodeResolver → Option BoxResolver
+maybe_in (resolver.Maybe r) = r
+maybe_in _ = None
+
+abbrev pub list_in : NodeResolver → VecResolver
+list_in (resolver.List r) = r
+list_in _ = record { pos = 0 }
+
+-- ---- nodes
+
+-- a payload after a tag, at its alignment in the 24 bytes of a node
+abbrev pub node_of : {A R : Type 0} → ℕ → Shape → Spelling A R → (R → NodeResolver) → (NodeResolver → R) → A → Spelling Tree NodeResolver
+node_of tag s w make get x =
+    kept_as make get (seen_as (λ _. x) (payload_spelling tag (align_up 1 (align_of s)) (size_of (choice payloads)) w))
+
+-- a kind that has no layout is refused when its data is written
+abbrev pub refused : Spelling Tree NodeResolver
+refused = record {
+  value = λ t st. group no_values;
+  plain = λ t. group no_values;
+  piece = λ t st. [];
+  resolver = λ t st. resolver.Leaf;
+  met = λ t st. st.met;
+  own = λ t r pos. [];
+  piece_fits = λ t st. ⊥;
+  piece_refused = λ t st e. e ≡ InvalidTag;
+  own_fits = λ t r pos. ⊥;
+  own_refused = λ t r pos e. e ≡ InvalidTag;
+  suits = λ fit keys t. ⊤;
+}
+
+-- the spelling of one document, where the documents in it are archived by `w`
+abbrev pub spelling_of : Spelling Tree NodeResolver → Tree → Spelling Tree NodeResolver
+spelling_of w (leaf (document.truth b)) = node_of 0 truth truth_spelling (λ _. resolver.Leaf) (λ _. tt) b
+spelling_of w (leaf (document.number n)) = node_of 1 (number w64 true) number_spelling (λ _. resolver.Leaf) (λ _. tt) n
+spelling_of w (leaf (document.text s)) = node_of 2 text string_spelling resolver.Text text_in s
+spelling_of w (shared s) = node_of 3 (shared_shape false str) shared_string_spelling resolver.Shared shared_in s
+spelling_of w nothing = node_of 4 (option boxed_shape) (maybe_spelling w) resolver.Maybe maybe_in None
+spelling_of w (just t) = node_of 4 (option boxed_shape) (maybe_spelling w) resolver.Maybe maybe_in (Some t)
+spelling_of w (list ts) = node_of 5 (vector node_shape) (list_spelling w) resolver.List list_in (trees_in ts)
+spelling_of w (map kind ps) = refused
+
+-- the spelling of each document, by its case
+abbrev pub node_level : Spelling Tree NodeResolver → Spelling Tree NodeResolver
+node_level w = record {
+  value = λ t st. (spelling_of w t).value t st;
+  plain = λ t. (spelling_of w t).plain t;
+  piece = λ t st. (spelling_of w t).piece t st;
+  resolver = λ t st. (spelling_of w t).resolver t st;
+  met = λ t st. (spelling_of w t).met t st;
+  own = λ t r pos. (spelling_of w t).own t r pos;
+  piece_fits = λ t st. (spelling_of w t).piece_fits t st;
+  piece_refused = λ t st e. (spelling_of w t).piece_refused t st e;
+  own_fits = λ t r pos. (spelling_of w t).own_fits t r pos;
+  own_refused = λ t r pos e. (spelling_of w t).own_refused t r pos e;
+  suits = λ fit keys t. (spelling_of w t).suits fit keys t;
+}
+
+-- the spelling of a document has as many levels as the document is deep
+abbrev pub node_spelling : Spelling Tree NodeResolver
+node_spelling = self_spelling node_level refused depth
+
+-- the value that the layout has for a document, except for the positions of shared texts
+abbrev pub node_value : Tree → Value
+node_value = node_spelling.plain

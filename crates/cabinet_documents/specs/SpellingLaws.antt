@@ -1,0 +1,93 @@
+-- Laws of the spelling of documents, as statements.
+use Rattle.std.specs.Prelude.{◌≡◌, pos, List, ℕ, [], ◌∷◌, Result}
+use Rattle.archive_forms_values.specs.ShapeLayout.Value.{Value}
+use Rattle.archive_forms_values.specs.ShapeCanonical.Settled.{Fit}
+use Rattle.archive_forms_values.specs.ShapeCanonical.Sharing.{erased}
+use Rattle.archive_forms_values.specs.ShapeWriting.Writing.{WriterMembers}
+use Rattle.archive_forms_values.specs.ShapeWriting.declared.error.Error.{Error}
+use Rattle.archive_forms_values.specs.ShapeWriting.declared.error.Error.TheVariants.{InvalidTag}
+use Rattle.archive_forms_values.specs.FormsLaws.State.{State, initial}
+use Rattle.archive_forms_values.specs.FormsLaws.Spells.{Spells}
+use Rattle.archive_forms_values.specs.FormsLaws.Serializing.{Serializes}
+use Rattle.archive_forms_values.specs.FormsLaws.Regions.{region_fits, region_piece}
+use Rattle.cabinet_text_grammar.specs.Tree.{Tree, IsDocument, leaf, number, shared, list, no_trees, more_trees}
+use Rattle.cabinet_documents.specs.Node.{node_shape, KnowsNode}
+use Rattle.cabinet_documents.specs.Denotes.{Denotes}
+use Rattle.cabinet_documents.specs.Image.{Image}
+use Rattle.cabinet_documents.specs.Laws.{bytes_five}
+use Rattle.cabinet_documents.specs.declared.spelling.resolver.NodeResolver.{NodeResolver}
+use Rattle.cabinet_documents.specs.HasLayout.{HasLayout}
+use Rattle.cabinet_documents.specs.Spelling.{node_level, node_spelling, node_value}
+
+abbrev pub NodeSpells : Type 0
+NodeSpells = (fit : Fit) → Spells fit node_shape KnowsNode node_spelling
+
+-- the value of a document denotes it
+abbrev pub ValueDenotes : Type 0
+ValueDenotes = (t : Tree) → HasLayout t → Denotes (node_value t) t
+
+-- no other value denotes it, except for the positions of shared texts
+abbrev pub OneValue : Type 0
+OneValue = (v : Value) (t : Tree) → HasLayout t → Denotes v t → erased v ≡ node_value t
+
+-- all bytes that writing a document produces where nothing was written before
+abbrev pub archive_of : Tree → List ℕ
+archive_of t = region_piece node_spelling node_shape (t ∷ []) initial
+
+-- writing the document exceeds no limit
+abbrev pub ArchiveFits : Tree → Type 0
+ArchiveFits t = region_fits node_spelling node_shape (t ∷ []) initial
+
+-- a document whose writing exceeds no limit has a layout
+abbrev pub FittingHasLayout : Type 0
+FittingHasLayout = (t : Tree) (st : State) → node_spelling.piece_fits t st → HasLayout t
+
+-- a document without a layout is refused with `InvalidTag`
+abbrev pub LackingIsRefused : Type 0
+LackingIsRefused = (t : Tree) (st : State) → (HasLayout t → ⊥) → node_spelling.piece_refused t st InvalidTag
+
+-- a call that writes the data of a node by one level, with the nodes in it by `node_spelling`, writes it by
+-- `node_spelling`
+abbrev pub OneLevelIsWritten : Type 0 → Type 0
+OneLevelIsWritten W =
+    (m : WriterMembers W) (t : Tree) (old new : W) (result : Result NodeResolver Error)
+    → Serializes (node_level node_spelling) m t old new result
+    → Serializes node_spelling m t old new result
+
+-- what is written of a document within the limits is its image
+abbrev pub WrittenIsImage : Type 0
+WrittenIsImage = (t : Tree) (bytes : List ℕ) → IsDocument t → ArchiveFits t → bytes ≡ archive_of t → Image t bytes
+
+-- there is one image of a document that has a layout
+abbrev pub OneImage : Type 0
+OneImage = (t : Tree) (bytes others : List ℕ) → HasLayout t → Image t bytes → Image t others → bytes ≡ others
+
+-- ---- examples
+
+abbrev pub five : Tree
+five = leaf (number (pos 5))
+
+-- the element at 0, and at 24 a tag, the offset of -28 at 28, and the length
+abbrev pub list_of_five_bytes : List ℕ
+list_of_five_bytes =
+    1 ∷ 0 ∷ 0 ∷ 0 ∷ 0 ∷ 0 ∷ 0 ∷ 0 ∷ 5 ∷ 0 ∷ 0 ∷ 0 ∷ 0 ∷ 0 ∷ 0 ∷ 0 ∷ 0 ∷ 0 ∷ 0 ∷ 0 ∷ 0 ∷ 0 ∷ 0 ∷ 0
+    ∷ 5 ∷ 0 ∷ 0 ∷ 0 ∷ 228 ∷ 255 ∷ 255 ∷ 255 ∷ 1 ∷ 0 ∷ 0 ∷ 0 ∷ 0 ∷ 0 ∷ 0 ∷ 0 ∷ 0 ∷ 0 ∷ 0 ∷ 0 ∷ 0 ∷ 0 ∷ 0 ∷ 0 ∷ []
+
+-- the shared text "a", twice
+abbrev pub shared_twice : Tree
+shared_twice = list (more_trees (shared (97 ∷ [])) (more_trees (shared (97 ∷ [])) no_trees))
+
+-- its one byte at 0, the elements at 8 and 32 with the offsets of -12 at 12 and of -36 at 36, and the list at 56
+abbrev pub shared_twice_bytes : List ℕ
+shared_twice_bytes =
+    97 ∷ 0 ∷ 0 ∷ 0 ∷ 0 ∷ 0 ∷ 0 ∷ 0
+    ∷ 3 ∷ 0 ∷ 0 ∷ 0 ∷ 244 ∷ 255 ∷ 255 ∷ 255 ∷ 1 ∷ 0 ∷ 0 ∷ 0 ∷ 0 ∷ 0 ∷ 0 ∷ 0 ∷ 0 ∷ 0 ∷ 0 ∷ 0 ∷ 0 ∷ 0 ∷ 0 ∷ 0
+    ∷ 3 ∷ 0 ∷ 0 ∷ 0 ∷ 220 ∷ 255 ∷ 255 ∷ 255 ∷ 1 ∷ 0 ∷ 0 ∷ 0 ∷ 0 ∷ 0 ∷ 0 ∷ 0 ∷ 0 ∷ 0 ∷ 0 ∷ 0 ∷ 0 ∷ 0 ∷ 0 ∷ 0
+    ∷ 5 ∷ 0 ∷ 0 ∷ 0 ∷ 204 ∷ 255 ∷ 255 ∷ 255 ∷ 2 ∷ 0 ∷ 0 ∷ 0 ∷ 0 ∷ 0 ∷ 0 ∷ 0 ∷ 0 ∷ 0 ∷ 0 ∷ 0 ∷ 0 ∷ 0 ∷ 0 ∷ 0 ∷ []
+
+abbrev pub SamplesAreSpelled : Type 0
+SamplesAreSpelled =
+    (archive_of five ≡ bytes_five) × (archive_of (list (more_trees five no_trees)) ≡ list_of_five_bytes) × (archive_of shared_twice ≡ shared_twice_bytes)
+
+abbrev pub SamplesAreImages : Type 0
+SamplesAreImages = Image five bytes_five × Image (list (more_trees five no_trees)) list_of_five_bytes × Image shared_twice shared_twice_bytes

@@ -1,0 +1,10 @@
+//! How documents are archived: the spelling of a node, and the law that it writes the image of its document.
+
+mod laws;
+mod resolver;
+
+pub use laws::{
+    fitting_has_layout, lacking_is_refused, node_spells, one_image, one_level_is_written,
+    one_value, samples_are_images, samples_are_spelled, value_denotes, written_is_image,
+};
+pub use resolver::NodeResolver;

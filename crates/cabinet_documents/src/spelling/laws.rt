@@ -1,0 +1,52 @@
+//! Laws of the spelling of documents, as functions without a body that proofs can cite.
+ghost use Rattle.cabinet_documents.specs.SpellingLaws.{FittingHasLayout, LackingIsRefused, NodeSpells, OneImage, OneLevelIsWritten, OneValue, SamplesAreImages, SamplesAreSpelled, ValueDenotes, WrittenIsImage};
+
+/// The bytes that are written for a document are those that the layout reads, and are canonical.
+pub fn node_spells()
+    ensures { NodeSpells }
+{}
+
+/// The value that is written for a document denotes it.
+pub fn value_denotes()
+    ensures { ValueDenotes }
+{}
+
+/// No other value denotes a document that has a layout, except for the positions of shared texts.
+pub fn one_value()
+    ensures { OneValue }
+{}
+
+/// Only a document that has a layout is written within the limits.
+pub fn fitting_has_layout()
+    ensures { FittingHasLayout }
+{}
+
+/// A document without a layout is refused when its data is written.
+pub fn lacking_is_refused()
+    ensures { LackingIsRefused }
+{}
+
+/// Writing one level of a node, with the nodes in it written as nodes, writes the node.
+pub fn one_level_is_written<W>()
+    ensures { OneLevelIsWritten W }
+{}
+
+/// The bytes that are written for a document within the limits are its image.
+pub fn written_is_image()
+    ensures { WrittenIsImage }
+{}
+
+/// A document that has a layout has at most one image.
+pub fn one_image()
+    ensures { OneImage }
+{}
+
+/// The number five, a list of it, and a list of one shared text twice are written as the sample bytes.
+pub fn samples_are_spelled()
+    ensures { SamplesAreSpelled }
+{}
+
+/// The sample bytes are the images of these documents.
+pub fn samples_are_images()
+    ensures { SamplesAreImages }
+{}

@@ -1,0 +1,5 @@
+use Rattle.cabinet_examples.proofs.Spoilt.{other_kept_place}
+use Rattle.cabinet_examples.proofs.canonical.spoilt_archives.kept_map_that_is_not_by_first_fit.Goals as goal
+
+pub returns : goal.returns
+returns c = other_kept_place

@@ -1,0 +1,65 @@
+-- Documents whose images are written out.
+use Rattle.std.specs.Prelude.{ℕ, List, [], ◌∷◌, ◌++◌, codes, pos, true}
+use Rattle.cabinet_documents.specs.TextGrammar.Tree.{Tree, leaf, shared, nothing, just, list, no_trees, more_trees, truth, number, text}
+use Rattle.cabinet_documents.specs.Image.{Image}
+use Rattle.cabinet_examples.specs.Pieces.{zeros, filler, number_node}
+use Rattle.cabinet_examples.specs.Documents.{number_bytes, truth_bytes, long_text_bytes, nothing_bytes, some_number_bytes, empty_list_bytes, shared_text_bytes, empty_shared_text_bytes}
+
+-- ---- leaves
+
+abbrev pub FiveImage : Type 0
+FiveImage = Image (leaf (number (pos 5))) number_bytes
+
+abbrev pub TrueImage : Type 0
+TrueImage = Image (leaf (truth true)) truth_bytes
+
+abbrev pub WorldImage : Type 0
+WorldImage = Image (leaf (text (codes "world"))) (0x02 ∷ zeros 3 ++ codes "world" ++ filler 3 ++ zeros 12)
+
+-- the text begins at 0, and its node at 16
+abbrev pub LongTextImage : Type 0
+LongTextImage = Image (leaf (text (codes "hello world!"))) long_text_bytes
+
+-- ---- options
+
+abbrev pub NothingImage : Type 0
+NothingImage = Image nothing nothing_bytes
+
+abbrev pub SomeFiveImage : Type 0
+SomeFiveImage = Image (just (leaf (number (pos 5)))) some_number_bytes
+
+-- ---- a list of the numbers 7 and 19: its elements begin at 0 and 24, and its node at 48
+
+abbrev pub seven_and_nineteen : Tree
+seven_and_nineteen = list (more_trees (leaf (number (pos 7))) (more_trees (leaf (number (pos 19))) no_trees))
+
+abbrev pub seven_and_nineteen_bytes : List ℕ
+seven_and_nineteen_bytes =
+    number_node 7 ++ number_node 19
+    ++ 0x05 ∷ zeros 3 ++ 0xcc ∷ 0xff ∷ 0xff ∷ 0xff ∷ 0x02 ∷ zeros 15
+
+abbrev pub SevenAndNineteenImage : Type 0
+SevenAndNineteenImage = Image seven_and_nineteen seven_and_nineteen_bytes
+
+-- ---- an empty list, and a list of it, whose element begins at 0 and its node at 24
+
+abbrev pub EmptyListImage : Type 0
+EmptyListImage = Image (list no_trees) empty_list_bytes
+
+abbrev pub list_of_an_empty_list_bytes : List ℕ
+list_of_an_empty_list_bytes = empty_list_bytes ++ 0x05 ∷ zeros 3 ++ 0xe4 ∷ 0xff ∷ 0xff ∷ 0xff ∷ 0x01 ∷ zeros 15
+
+abbrev pub ListOfAnEmptyListImage : Type 0
+ListOfAnEmptyListImage = Image (list (more_trees (list no_trees) no_trees)) list_of_an_empty_list_bytes
+
+-- ---- a list of one shared text twice: the text is written once, before the elements, and both lead to it
+
+abbrev pub shared_twice : List ℕ → Tree
+shared_twice s = list (more_trees (shared s) (more_trees (shared s) no_trees))
+
+abbrev pub SharedTextImage : Type 0
+SharedTextImage = Image (shared_twice (codes "hello world!")) shared_text_bytes
+
+-- an empty one is followed by a zero byte
+abbrev pub EmptySharedTextImage : Type 0
+EmptySharedTextImage = Image (shared_twice []) empty_shared_text_bytes

@@ -1,0 +1,58 @@
+//! Worked documents with their images written out, one in the contract of each function.
+
+ghost use Rattle.cabinet_examples.specs.Images.{FiveImage, TrueImage, WorldImage, LongTextImage, NothingImage, SomeFiveImage, SevenAndNineteenImage, EmptyListImage, ListOfAnEmptyListImage, SharedTextImage, EmptySharedTextImage};
+
+/// The image of the number 5.
+pub fn five_image()
+    ensures { FiveImage }
+{}
+
+/// The image of the truth value true.
+pub fn true_image()
+    ensures { TrueImage }
+{}
+
+/// The image of the text `world`, which is inline and filled with `ff`.
+pub fn world_image()
+    ensures { WorldImage }
+{}
+
+/// The image of the text `hello world!`: its bytes lie before its node, which has their length and the offset to them.
+pub fn long_text_image()
+    ensures { LongTextImage }
+{}
+
+/// The image of an option without a node.
+pub fn nothing_image()
+    ensures { NothingImage }
+{}
+
+/// The image of an option of the number 5: the number's node lies before the option's.
+pub fn some_five_image()
+    ensures { SomeFiveImage }
+{}
+
+/// The image of a list of the numbers 7 and 19: its elements lie before its node.
+pub fn seven_and_nineteen_image()
+    ensures { SevenAndNineteenImage }
+{}
+
+/// The image of a list without elements: its pointer leads to its own node's position.
+pub fn empty_list_image()
+    ensures { EmptyListImage }
+{}
+
+/// The image of a list of a list without elements.
+pub fn list_of_an_empty_list_image()
+    ensures { ListOfAnEmptyListImage }
+{}
+
+/// The image of a list of one shared text twice: the text's bytes are written once, and both elements point to them.
+pub fn shared_text_image()
+    ensures { SharedTextImage }
+{}
+
+/// The image of a list of one empty shared text twice, with a zero byte at the position of the text.
+pub fn empty_shared_text_image()
+    ensures { EmptySharedTextImage }
+{}

@@ -1,5 +1,0 @@
-use Rattle.cabinet_examples_canonical.proofs.Canonical.{hash_of_nothing}
-use Rattle.cabinet_examples_canonical.proofs.canonical_archives.hash_of_the_empty_text.Goals as goal
-
-pub returns : goal.returns
-returns c = hash_of_nothing

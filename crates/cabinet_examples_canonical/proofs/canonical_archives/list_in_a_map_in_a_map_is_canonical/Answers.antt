@@ -1,5 +1,0 @@
-use Rattle.cabinet_examples_canonical.proofs.Canonical.{canonical_nested_maps}
-use Rattle.cabinet_examples_canonical.proofs.canonical_archives.list_in_a_map_in_a_map_is_canonical.Goals as goal
-
-pub returns : goal.returns
-returns c = canonical_nested_maps

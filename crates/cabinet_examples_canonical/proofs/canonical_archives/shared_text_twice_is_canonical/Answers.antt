@@ -1,5 +1,0 @@
-use Rattle.cabinet_examples_canonical.proofs.Canonical.{canonical_shared_text}
-use Rattle.cabinet_examples_canonical.proofs.canonical_archives.shared_text_twice_is_canonical.Goals as goal
-
-pub returns : goal.returns
-returns c = canonical_shared_text

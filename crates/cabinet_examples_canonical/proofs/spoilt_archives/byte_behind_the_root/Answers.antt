@@ -1,5 +1,0 @@
-use Rattle.cabinet_examples_canonical.proofs.Spoilt.{byte_behind_root}
-use Rattle.cabinet_examples_canonical.proofs.spoilt_archives.byte_behind_the_root.Goals as goal
-
-pub returns : goal.returns
-returns c = byte_behind_root

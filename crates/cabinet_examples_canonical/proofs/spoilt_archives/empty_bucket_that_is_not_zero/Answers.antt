@@ -1,5 +1,0 @@
-use Rattle.cabinet_examples_canonical.proofs.Spoilt.{marked_bucket}
-use Rattle.cabinet_examples_canonical.proofs.spoilt_archives.empty_bucket_that_is_not_zero.Goals as goal
-
-pub returns : goal.returns
-returns c = marked_bucket

@@ -1,5 +1,0 @@
-use Rattle.cabinet_examples_canonical.proofs.Spoilt.{gap_before_box}
-use Rattle.cabinet_examples_canonical.proofs.spoilt_archives.gap_before_a_box.Goals as goal
-
-pub returns : goal.returns
-returns c = gap_before_box

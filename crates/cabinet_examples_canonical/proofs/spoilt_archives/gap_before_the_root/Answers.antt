@@ -1,5 +1,0 @@
-use Rattle.cabinet_examples_canonical.proofs.Spoilt.{gap_before_root}
-use Rattle.cabinet_examples_canonical.proofs.spoilt_archives.gap_before_the_root.Goals as goal
-
-pub returns : goal.returns
-returns c = gap_before_root

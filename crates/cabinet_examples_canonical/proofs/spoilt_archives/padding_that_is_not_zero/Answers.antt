@@ -1,5 +1,0 @@
-use Rattle.cabinet_examples_canonical.proofs.Spoilt.{marked_padding}
-use Rattle.cabinet_examples_canonical.proofs.spoilt_archives.padding_that_is_not_zero.Goals as goal
-
-pub returns : goal.returns
-returns c = marked_padding

@@ -1,5 +1,0 @@
-use Rattle.cabinet_examples_canonical.proofs.Spoilt.{wrong_tag}
-use Rattle.cabinet_examples_canonical.proofs.spoilt_archives.tag_of_another_key.Goals as goal
-
-pub returns : goal.returns
-returns c = wrong_tag

@@ -1,5 +1,0 @@
-use Rattle.cabinet_examples_canonical.proofs.Spoilt.{leaf_of_none}
-use Rattle.cabinet_examples_canonical.proofs.spoilt_archives.tree_higher_than_its_entries_need.Goals as goal
-
-pub returns : goal.returns
-returns c = leaf_of_none

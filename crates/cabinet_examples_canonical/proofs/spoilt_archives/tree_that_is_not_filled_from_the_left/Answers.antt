@@ -1,5 +1,0 @@
-use Rattle.cabinet_examples_canonical.proofs.Spoilt.{leaf_on_the_right}
-use Rattle.cabinet_examples_canonical.proofs.spoilt_archives.tree_that_is_not_filled_from_the_left.Goals as goal
-
-pub returns : goal.returns
-returns c = leaf_on_the_right

@@ -1,5 +1,0 @@
-use Rattle.cabinet_examples_canonical.proofs.Spoilt.{marked_slot}
-use Rattle.cabinet_examples_canonical.proofs.spoilt_archives.unused_slot_that_is_not_zero.Goals as goal
-
-pub returns : goal.returns
-returns c = marked_slot

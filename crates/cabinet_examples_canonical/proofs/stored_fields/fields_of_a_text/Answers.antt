@@ -1,5 +1,0 @@
-use Rattle.cabinet_examples_canonical.proofs.Stored.{stored_text}
-use Rattle.cabinet_examples_canonical.proofs.stored_fields.fields_of_a_text.Goals as goal
-
-pub returns : goal.returns
-returns c = stored_text

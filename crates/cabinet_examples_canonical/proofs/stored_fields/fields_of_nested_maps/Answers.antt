@@ -1,5 +1,0 @@
-use Rattle.cabinet_examples_canonical.proofs.Stored.{stored_nested_maps}
-use Rattle.cabinet_examples_canonical.proofs.stored_fields.fields_of_nested_maps.Goals as goal
-
-pub returns : goal.returns
-returns c = stored_nested_maps

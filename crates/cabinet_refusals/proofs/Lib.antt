@@ -1,2 +1,0 @@
-pub mod Nested
-pub mod Refusals

@@ -1,5 +1,0 @@
-use Rattle.cabinet_saving.proofs.Layouts.{IsLaidBefore}
-use Rattle.cabinet_saving.proofs.layout.+layouts.Given as goal
-
-abbrev pub invariant-have_layout-loop-node : goal.invariant-have_layout-loop-node
-invariant-have_layout-loop-node l = IsLaidBefore l.nodes l.node-index

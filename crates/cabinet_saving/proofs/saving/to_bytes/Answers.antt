@@ -1,8 +1,0 @@
-use Rattle.cabinet_saving.proofs.Saves.{image_made}
-use Rattle.cabinet_saving.proofs.saving.to_bytes.Goals as goal
-
-pub returns-in-Ok-clause-image : goal.returns-in-Ok-clause-image
-returns-in-Ok-clause-image c = (image_made _ c.args.document.now c.in-Ok.bytes.items c.root-root.ensures.tree c.root-root.ensures.document c.in-Ok.ensures.0 c.in-Ok.ensures.1).0
-
-pub returns-in-Ok-clause-laid : goal.returns-in-Ok-clause-laid
-returns-in-Ok-clause-laid c = (image_made _ c.args.document.now c.in-Ok.bytes.items c.root-root.ensures.tree c.root-root.ensures.document c.in-Ok.ensures.0 c.in-Ok.ensures.1).1

@@ -1,7 +1,0 @@
-//! Tests of saving documents.
-#![tactic(auto)]
-
-#[cfg(test)]
-mod saved;
-#[cfg(test)]
-mod unsaved;

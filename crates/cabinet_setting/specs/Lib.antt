@@ -1,2 +1,0 @@
-pub mod Setting
-pub mod Putting

@@ -1,9 +1,0 @@
-use Rattle.std.proofs.Common.{sym, ap, ◌∙◌}
-use Rattle.std.specs.BTreeMap.{get_by_text}
-use Rattle.cabinet_text_keys.proofs.Keys.{key_has_text_law}
-use Rattle.cabinet_sharing.specs.Texts.{progress_at}
-use Rattle.cabinet_sharing.proofs.text_share.TextShare.position.Goals as goal
-
-pub returns : goal.returns
-returns c =
-    ap (λ s. progress_at (get_by_text c.args.self.now.ends s)) (key_has_text_law c.args.text.now) ∙ ap progress_at (sym c.get.ensures.value ∙ sym c.copied.ensures)

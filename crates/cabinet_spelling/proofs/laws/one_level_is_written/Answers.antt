@@ -1,5 +1,0 @@
-use Rattle.cabinet_spelling.proofs.Agreeing.{one_level_is_written_law}
-use Rattle.cabinet_spelling.proofs.laws.one_level_is_written.Goals as goal
-
-pub returns : goal.returns
-returns g c = one_level_is_written_law

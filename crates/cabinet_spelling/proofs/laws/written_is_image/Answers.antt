@@ -1,5 +1,0 @@
-use Rattle.cabinet_spelling.proofs.Imaged.{written_is_image_law}
-use Rattle.cabinet_spelling.proofs.laws.written_is_image.Goals as goal
-
-pub returns : goal.returns
-returns c = written_is_image_law

@@ -1,3 +1,0 @@
-pub mod HasLayout
-pub mod Spelling
-pub mod Laws

@@ -1,0 +1,117 @@
+//! Tests of which bytes are opened, in archives made by hand with each node directly after the nodes that it leads to.
+use archive_shape_writing::Error;
+use cabinet_archives::{OpenRefusal, check};
+use std::alloc::{AllocError, Global};
+
+const FIVE: [u8; 24] = *b"\x01\0\0\0\0\0\0\0\x05\0\0\0\0\0\0\0\0\0\0\0\0\0\0\0";
+
+const NOTHING: [u8; 24] = *b"\x04\0\0\0\0\0\0\0\0\0\0\0\0\0\0\0\0\0\0\0\0\0\0\0";
+
+/// An option of the node directly before it.
+const SOME: [u8; 24] = *b"\x04\0\0\0\x01\0\0\0\xe0\xff\xff\xff\0\0\0\0\0\0\0\0\0\0\0\0";
+
+/// A list without elements, which ends where its node begins.
+const EMPTY: [u8; 24] = *b"\x05\0\0\0\xfc\xff\xff\xff\0\0\0\0\0\0\0\0\0\0\0\0\0\0\0\0";
+
+/// A list of the node directly before it.
+const ONE: [u8; 24] = *b"\x05\0\0\0\xe4\xff\xff\xff\x01\0\0\0\0\0\0\0\0\0\0\0\0\0\0\0";
+
+/// An option of the node before the one directly before it.
+const SOME_OVER_ANOTHER: [u8; 24] =
+    *b"\x04\0\0\0\x01\0\0\0\xc8\xff\xff\xff\0\0\0\0\0\0\0\0\0\0\0\0";
+
+/// A list of the two nodes directly before it.
+const TWO: [u8; 24] = *b"\x05\0\0\0\xcc\xff\xff\xff\x02\0\0\0\0\0\0\0\0\0\0\0\0\0\0\0";
+
+/// A shared text of twelve bytes, and its node.
+const SHARED: [u8; 40] =
+    *b"hello world!....\x03\0\0\0\xec\xff\xff\xff\x0c\0\0\0\0\0\0\0\0\0\0\0\0\0\0\0";
+
+/// A list of two nodes that share a text of twelve bytes.
+pub const TWO_SHARED: [u8; 88] =
+    *b"hello world!....\x03\0\0\0\xec\xff\xff\xff\x0c\0\0\0\0\0\0\0\0\0\0\0\0\0\0\0\x03\0\0\0\xd4\xff\xff\xff\x0c\0\0\0\0\0\0\0\0\0\0\0\0\0\0\0\x05\0\0\0\xcc\xff\xff\xff\x02\0\0\0\0\0\0\0\0\0\0\0\0\0\0\0";
+
+/// Returns a node and after it `count` nodes, each of which leads to the node before it.
+fn tower(alloc: Global, first: &[u8], each: &[u8], count: usize) -> Result<Vec<u8>, AllocError> {
+    let mut bytes = Vec::new(alloc);
+    bytes.extend_from_slice(first)?;
+    for _ in 0..count {
+        bytes.extend_from_slice(each)?;
+    }
+    Ok(bytes)
+}
+
+#[test]
+fn sixty_four_containers_lie_in_one_another(rt: HostRuntime) -> Result<(), AllocError> {
+    let alloc = rt.alloc();
+    let rows = [
+        (FIVE, SOME, 64),
+        (NOTHING, SOME, 63),
+        (FIVE, ONE, 64),
+        (EMPTY, ONE, 63),
+    ];
+    for (first, each, count) in rows {
+        let most = tower(alloc, &first, &each, count)?;
+        assert_eq!(rt; check(alloc, &most), Ok(()));
+        let more = tower(alloc, &first, &each, count + 1)?;
+        assert_eq!(rt; check(alloc, &more), Err(OpenRefusal::TooDeep));
+    }
+    Ok(())
+}
+
+#[test]
+fn shared_text_is_no_container(rt: HostRuntime) -> Result<(), AllocError> {
+    let alloc = rt.alloc();
+    for each in [SOME, ONE] {
+        let most = tower(alloc, &SHARED, &each, 64)?;
+        assert_eq!(rt; check(alloc, &most), Ok(()));
+        let more = tower(alloc, &SHARED, &each, 65)?;
+        assert_eq!(rt; check(alloc, &more), Err(OpenRefusal::TooDeep));
+    }
+    Ok(())
+}
+
+#[test]
+fn nodes_that_share_a_text_agree(rt: HostRuntime) {
+    let alloc = rt.alloc();
+    let mut shorter = TWO_SHARED;
+    shorter[48] = 11;
+    let mut empty = TWO_SHARED;
+    empty[24] = 0;
+    let mut no_text = TWO_SHARED;
+    no_text[0] = 0xff;
+    let cases = [
+        (TWO_SHARED, Ok(())),
+        (shorter, Err(OpenRefusal::Access(Error::MetadataMismatch))),
+        (empty, Err(OpenRefusal::Access(Error::MetadataMismatch))),
+        (no_text, Err(OpenRefusal::Access(Error::InvalidUtf8))),
+    ];
+    for (bytes, answer) in cases {
+        assert_eq!(rt; check(alloc, &bytes), answer);
+    }
+}
+
+#[test]
+fn each_element_of_a_list_is_audited(rt: HostRuntime) -> Result<(), AllocError> {
+    let alloc = rt.alloc();
+    for (count, answer) in [(61, Ok(())), (62, Err(OpenRefusal::TooDeep))] {
+        let mut bytes = tower(alloc, &NOTHING, &SOME, count)?;
+        bytes.extend_from_slice(&FIVE)?;
+        bytes.extend_from_slice(&SOME_OVER_ANOTHER)?;
+        bytes.extend_from_slice(&TWO)?;
+        assert_eq!(rt; check(alloc, &bytes), answer);
+    }
+    Ok(())
+}
+
+#[test]
+fn bytes_without_a_node_are_refused_by_their_first_fault(rt: HostRuntime) {
+    let alloc = rt.alloc();
+    let no_kind = *b"\x09\0\0\0\0\0\0\0\0\0\0\0\0\0\0\0\0\0\0\0\0\0\0\0";
+    let short = Error::InvalidSubtreePointer { size: 24 };
+    assert_eq!(rt; check(alloc, b""), Err(OpenRefusal::Access(short)));
+    assert_eq!(rt;
+        check(alloc, &no_kind),
+        Err(OpenRefusal::Access(Error::InvalidTag))
+    );
+}

@@ -1,0 +1,3 @@
+//! Tests of documents that are read back from their archives.
+
+mod read_back;

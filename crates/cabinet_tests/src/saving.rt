@@ -1,0 +1,4 @@
+//! Tests of saving documents.
+
+mod saved;
+mod unsaved;

@@ -1,5 +1,0 @@
-use Rattle.cabinet_text_grammar_examples.proofs.Faults.{count_with_a_leading_zero}
-use Rattle.cabinet_text_grammar_examples.proofs.count_with_a_leading_zero.Goals as goal
-
-pub returns : goal.returns
-returns c = count_with_a_leading_zero

@@ -1,5 +1,0 @@
-use Rattle.cabinet_text_grammar_examples.proofs.Faults.{key_with_a_raw_space}
-use Rattle.cabinet_text_grammar_examples.proofs.key_with_a_raw_space.Goals as goal
-
-pub returns : goal.returns
-returns c = key_with_a_raw_space

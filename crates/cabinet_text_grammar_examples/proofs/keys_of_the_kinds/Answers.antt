@@ -1,5 +1,0 @@
-use Rattle.cabinet_text_grammar_examples.proofs.Answered.{keys_of_the_kinds}
-use Rattle.cabinet_text_grammar_examples.proofs.keys_of_the_kinds.Goals as goal
-
-pub returns : goal.returns
-returns c = keys_of_the_kinds

@@ -1,5 +1,0 @@
-use Rattle.cabinet_text_grammar_examples.proofs.Faults.{last_line_without_a_newline}
-use Rattle.cabinet_text_grammar_examples.proofs.last_line_without_a_newline.Goals as goal
-
-pub returns : goal.returns
-returns c = last_line_without_a_newline

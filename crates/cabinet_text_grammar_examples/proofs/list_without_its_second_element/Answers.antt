@@ -1,5 +1,0 @@
-use Rattle.cabinet_text_grammar_examples.proofs.Faults.{list_without_its_second_element}
-use Rattle.cabinet_text_grammar_examples.proofs.list_without_its_second_element.Goals as goal
-
-pub returns : goal.returns
-returns c = list_without_its_second_element

@@ -1,5 +1,0 @@
-use Rattle.cabinet_text_grammar_examples.proofs.Faults.{map_without_its_second_pair}
-use Rattle.cabinet_text_grammar_examples.proofs.map_without_its_second_pair.Goals as goal
-
-pub returns : goal.returns
-returns c = map_without_its_second_pair

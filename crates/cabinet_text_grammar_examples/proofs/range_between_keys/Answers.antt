@@ -1,5 +1,0 @@
-use Rattle.cabinet_text_grammar_examples.proofs.Answered.{range_between_keys}
-use Rattle.cabinet_text_grammar_examples.proofs.range_between_keys.Goals as goal
-
-pub returns : goal.returns
-returns c = range_between_keys

@@ -1,4 +1,0 @@
-pub mod Documents
-pub mod Texts
-pub mod Answers
-pub mod Faulty

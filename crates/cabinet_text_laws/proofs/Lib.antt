@@ -1,4 +1,0 @@
-pub mod Steps
-pub mod Decided
-pub mod Verdicts
-pub mod Whole

@@ -1,0 +1,204 @@
+-- Lines cut into their words, and the errors of reading them.
+use Rattle.std.proofs.Common.{◌≡◌, ◌≢◌, ℕ, ◌-◌, List, [], ◌∷◌, ◌++◌, length, take, drop, sym, ap, ◌∙◌, inl, inr, refl, arith, append_assoc, append-nil, length-append, codes, All, None, Some, Bor}
+use Rattle.std.proofs.lemmas.List.{append_cancel_left}
+use Rattle.std.proofs.lemmas.List.Elements.{All-cons}
+use Rattle.std.proofs.Math.Seq.{take-append_seam, drop-append_seam}
+use Rattle.cabinet_text_bytes.specs.Words.{IsEscaped, HasNoSpace, IsAtSpace}
+use Rattle.cabinet_text_grammar.specs.Tree.{Leaf, text, IsLeaf}
+use Rattle.cabinet_text_grammar.specs.Spelling.{escaped, spelled_leaf}
+use Rattle.cabinet_text_grammar.specs.Path.{Step, key, place, inside}
+use Rattle.cabinet_text_grammar.specs.Line.{Line, get, keys, range, set, IsPossible, IsStep, Says, spelled_path, spelling}
+use Rattle.cabinet_text_grammar.proofs.Escapes.{rest_same, first_differs}
+use Rattle.cabinet_text_grammar.proofs.Lines.{TwoWords, two_words}
+use Rattle.cabinet_text_nodes.specs.declared.line.LineRefusal.{LineRefusal}
+use Rattle.cabinet_text_nodes.specs.declared.line.LineRefusal.TheVariants.{Bad, OutOfMemory}
+use Rattle.cabinet_text_reading.specs.Parts.{IsPath, IsSpelledStep, BeginsWithStep, BeginsByKey, IsCutAfterLeaf, RefusesPath, RefusesLeaf}
+use Rattle.cabinet_text_reading.specs.Reading.{HasSteps, TakesMemory, RefusesLine}
+use Rattle.cabinet_text_reading.specs.declared.lines.path.StepRef.TheVariants.{Key}
+use Rattle.cabinet_text_reading.proofs.Paths.{one_word, same_words, IsAtSpace-path, Lacks-from_HasNoSpace, cut_after_step}
+
+-- where no second word begins, no leaf is spelled
+pub one_word_cut : (bytes word spaced sign : List ℕ) → bytes ≡ word ++ spaced → HasNoSpace word → IsAtSpace spaced → sign ≡ codes " " → ((rest : List ℕ) → spaced ≢ sign ++ rest) → IsCutAfterLeaf bytes bytes []
+one_word_cut bytes word [] sign whole lacks space e none = λ l path p h.
+    absurd (one_word word (spelled_leaf l) (spelled_path path) (Lacks-from_HasNoSpace word lacks) (two_words l p) (sym (append-nil word) ∙ sym whole ∙ h))
+one_word_cut bytes word (b ∷ rest) sign whole lacks space e none =
+    absurd (none rest (ap (λ x. x ∷ rest) space ∙ ap (λ w. w ++ rest) (sym e)))
+
+-- two words before a path, cut where the path begins
+pub two_words_cut :
+    (bytes word spaced sign after argument path front back : List ℕ) (n : ℕ)
+    → bytes ≡ word ++ spaced → spaced ≡ sign ++ after → sign ≡ codes " " → after ≡ argument ++ path
+    → HasNoSpace word → HasNoSpace argument → IsAtSpace path
+    → front ≡ take n bytes → back ≡ drop n bytes → n ≡ length bytes - length path
+    → IsCutAfterLeaf bytes front back
+two_words_cut bytes word spaced sign after argument path front back n whole rest_is e after_is first second space front_is back_is size =
+    let leaf = word ++ 32 ∷ argument in
+    let spelled : bytes ≡ leaf ++ path =
+    whole ∙ ap (λ w. word ++ w) (rest_is ∙ ap (λ w. w ++ after) e ∙ ap (λ w. 32 ∷ w) after_is) ∙ sym (append_assoc word (32 ∷ argument) path) in
+    let words : TwoWords leaf = record {
+      word = word;
+      argument = argument;
+      spelled = refl;
+      first_word = Lacks-from_HasNoSpace word first;
+      second_word = Lacks-from_HasNoSpace argument second;
+    } in
+    let seam : n ≡ length leaf = omega (arith, ap length spelled, length-append leaf path) in
+    let front_same : front ≡ leaf = front_is ∙ ap (λ w. take n w) spelled ∙ ap (λ k. take k (leaf ++ path)) seam ∙ take-append_seam leaf path in
+    let back_same : back ≡ path = back_is ∙ ap (λ w. drop n w) spelled ∙ ap (λ k. drop k (leaf ++ path)) seam ∙ drop-append_seam leaf path in
+    λ l steps p h.
+    let same = same_words leaf (spelled_leaf l) path (spelled_path steps) words (two_words l p) space (IsAtSpace-path steps) (sym spelled ∙ h) in
+    (front_same ∙ same.0, back_same ∙ same.1)
+
+-- bytes that do not begin with a word, for an equal word
+pub not_after : (bytes sign word : List ℕ) → sign ≡ word → ((rest : List ℕ) → bytes ≢ sign ++ rest) → (rest : List ℕ) → bytes ≢ word ++ rest
+not_after bytes sign word e none rest h = none rest (h ∙ ap (λ w. w ++ rest) (sym e))
+
+-- what begins with none of the words of lines
+pub no_line :
+    (bytes : List ℕ)
+    → ((rest : List ℕ) → bytes ≢ codes "get" ++ rest) → ((rest : List ℕ) → bytes ≢ codes "keys" ++ rest)
+    → ((rest : List ℕ) → bytes ≢ codes "range" ++ rest) → ((rest : List ℕ) → bytes ≢ codes "set " ++ rest)
+    → Says bytes None
+no_line bytes no_get no_keys no_range no_set (get path) p h = no_get (spelled_path path) h
+no_line bytes no_get no_keys no_range no_set (keys path) p h = no_keys (spelled_path path) h
+no_line bytes no_get no_keys no_range no_set (range low high path) p h = no_range (spelled_path (key low ∷ key high ∷ path)) h
+no_line bytes no_get no_keys no_range no_set (set path l) p h = no_set (spelled_leaf l ++ spelled_path path) h
+
+has_steps : (bytes : List ℕ) (path : List Step) → bytes ≡ spelled_path path → bytes ≢ [] → HasSteps path
+has_steps bytes [] h some = absurd (some h)
+has_steps bytes (step ∷ path) h some = tt
+
+-- a question that is a word and a path, whose path is refused
+question_refused :
+    (word bytes : List ℕ) (make : List Step → Line) (refusal : LineRefusal)
+    → ((line : Line) → IsPossible line → word ++ bytes ≡ spelling line → IsPath bytes)
+    → ((path : List Step) → All IsStep path → Says (word ++ spelled_path path) (Some (make path)))
+    → ((path : List Step) → HasSteps path → TakesMemory (make path))
+    → RefusesPath bytes refusal → RefusesLine (word ++ bytes) refusal
+question_refused word bytes make Bad only says takes none = λ line p h. none (only line p h)
+question_refused word bytes make OutOfMemory only says takes ((path, steps, h), some) =
+    let said = says path steps in
+    (make path, (said.0, ap (λ w. word ++ w) h ∙ said.1), takes path (has_steps bytes path h some))
+
+only_get : (bytes : List ℕ) (line : Line) → IsPossible line → codes "get" ++ bytes ≡ spelling line → IsPath bytes
+only_get bytes (get path) p h = (path, p, append_cancel_left (codes "get") _ _ h)
+only_get bytes (keys path) p h = absurd (first_differs refl h)
+only_get bytes (range low high path) p h = absurd (first_differs refl h)
+only_get bytes (set path l) p h = absurd (first_differs refl h)
+
+only_keys : (bytes : List ℕ) (line : Line) → IsPossible line → codes "keys" ++ bytes ≡ spelling line → IsPath bytes
+only_keys bytes (get path) p h = absurd (first_differs refl h)
+only_keys bytes (keys path) p h = (path, p, append_cancel_left (codes "keys") _ _ h)
+only_keys bytes (range low high path) p h = absurd (first_differs refl h)
+only_keys bytes (set path l) p h = absurd (first_differs refl h)
+
+pub get_refused : (bytes : List ℕ) (refusal : LineRefusal) → RefusesPath bytes refusal → RefusesLine (codes "get" ++ bytes) refusal
+get_refused bytes refusal = question_refused (codes "get") bytes get refusal (only_get bytes) (λ path steps. (steps, refl)) (λ path some. some)
+
+pub keys_refused : (bytes : List ℕ) (refusal : LineRefusal) → RefusesPath bytes refusal → RefusesLine (codes "keys" ++ bytes) refusal
+keys_refused bytes refusal = question_refused (codes "keys") bytes keys refusal (only_keys bytes) (λ path steps. (steps, refl)) (λ path some. some)
+
+-- the bytes after `range`: two keys and a path
+record IsRange (bytes : List ℕ) : Type 0 where
+  pub low : List ℕ
+  pub high : List ℕ
+  pub path : List Step
+  pub possible : IsPossible (range low high path)
+  pub spelled : bytes ≡ spelled_path (key low ∷ key high ∷ path)
+
+only_range : (bytes : List ℕ) (line : Line) → IsPossible line → codes "range" ++ bytes ≡ spelling line → IsRange bytes
+only_range bytes (get path) p h = absurd (first_differs refl h)
+only_range bytes (keys path) p h = absurd (first_differs refl h)
+only_range bytes (range low high path) p h = record {
+  low = low;
+  high = high;
+  path = path;
+  possible = p;
+  spelled = append_cancel_left (codes "range") _ _ h;
+}
+only_range bytes (set path l) p h = absurd (first_differs refl h)
+
+-- the bytes after the first bound
+second_bound : (bytes rest : List ℕ) (low : Bor (List ℕ)) → BeginsWithStep bytes (Key low) rest → (r : IsRange bytes) → rest ≡ spelled_path (key r.high ∷ r.path)
+second_bound bytes rest low begins r =
+    (cut_after_step bytes (Key low) rest (key r.low) (key r.high ∷ r.path) begins r.possible.0 r.spelled).1
+
+pub no_first_bound : (bytes : List ℕ) → (BeginsByKey bytes → ⊥) → Says (codes "range" ++ bytes) None
+no_first_bound bytes none line p h =
+    let r = only_range bytes line p h in
+    none (r.low, key r.high ∷ r.path, r.possible.0, All-cons IsStep (key r.high) r.path r.possible.1 r.possible.2, r.spelled)
+
+pub no_second_bound : (bytes rest : List ℕ) (low : Bor (List ℕ)) → BeginsWithStep bytes (Key low) rest → (BeginsByKey rest → ⊥) → Says (codes "range" ++ bytes) None
+no_second_bound bytes rest low begins none line p h =
+    let r = only_range bytes line p h in
+    none (r.high, r.path, r.possible.1, r.possible.2, second_bound bytes rest low begins r)
+
+pub no_path_of_range : (bytes rest path : List ℕ) (low high : Bor (List ℕ)) → BeginsWithStep bytes (Key low) rest → BeginsWithStep rest (Key high) path → (IsPath path → ⊥) → Says (codes "range" ++ bytes) None
+no_path_of_range bytes rest path low high first second none line p h =
+    let r = only_range bytes line p h in
+    let after = cut_after_step rest (Key high) path (key r.high) r.path second r.possible.1 (second_bound bytes rest low first r) in
+    none (r.path, r.possible.2, after.1)
+
+-- a borrowed key is an escaped text
+pub IsEscaped-key : (argument : List ℕ) → IsSpelledStep (39 ∷ argument) → IsEscaped argument
+IsEscaped-key argument (key k, p, e) = (k, p, rest_same e)
+IsEscaped-key argument (place n, p, e) = absurd (first_differs refl e)
+IsEscaped-key argument (inside, p, e) = absurd (first_differs refl e)
+
+pub range_spelled :
+    (bytes rest path k l : List ℕ) (low high : Bor (List ℕ)) (steps : List Step)
+    → BeginsWithStep bytes (Key low) rest → BeginsWithStep rest (Key high) path
+    → low.now ≡ escaped k → high.now ≡ escaped l → path ≡ spelled_path steps
+    → codes "range" ++ bytes ≡ spelling (range k l steps)
+range_spelled bytes rest path k l low high steps first second k_is l_is path_is =
+    let quoted : List ℕ → List ℕ → List ℕ = λ argument after. codes " '" ++ (argument ++ after) in
+    ap (λ w. codes "range" ++ w)
+    (first.spelled ∙ ap (λ w. quoted low.now w) second.spelled
+    ∙ ap (λ w. quoted w (quoted high.now path)) k_is
+    ∙ ap (λ w. quoted (escaped k) (quoted w path)) l_is
+    ∙ ap (λ w. quoted (escaped k) (quoted (escaped l) w)) path_is)
+
+-- memory is refused for the bounds or the steps of a range
+pub no_memory_for_range : (bytes rest path : List ℕ) (low high : Bor (List ℕ)) → BeginsWithStep bytes (Key low) rest → BeginsWithStep rest (Key high) path → IsPath path → RefusesLine (codes "range" ++ bytes) OutOfMemory
+no_memory_for_range bytes rest path low high first second (steps, p, h) =
+    let k = IsEscaped-key low.now first.possible in
+    let l = IsEscaped-key high.now second.possible in
+    (range k.0 l.0 steps, ((k.1, l.1, p), range_spelled bytes rest path k.0 l.0 low high steps first second k.2 l.2 h), tt)
+
+edit_spelled : (bytes front rest : List ℕ) (path : List Step) (l : Leaf) → bytes ≡ front ++ rest → front ≡ spelled_leaf l → rest ≡ spelled_path path → codes "set " ++ bytes ≡ spelling (set path l)
+edit_spelled bytes front rest path l whole e h =
+    ap (λ w. codes "set " ++ w) (whole ∙ ap (λ w. w ++ rest) e ∙ ap (λ w. spelled_leaf l ++ w) h)
+
+-- memory is refused for the steps of an edit
+pub no_memory_for_edit : (bytes front rest : List ℕ) (l : Leaf) → bytes ≡ front ++ rest → IsLeaf l → front ≡ spelled_leaf l → IsPath rest → rest ≢ [] → RefusesLine (codes "set " ++ bytes) OutOfMemory
+no_memory_for_edit bytes front rest l whole p e (path, steps, h) some =
+    (set path l, ((steps, p), edit_spelled bytes front rest path l whole e h), inl (has_steps rest path h some))
+
+-- where an edit is cut into its leaf and its path, each is one
+record IsEdit (front rest : List ℕ) : Type 0 where
+  pub leaf : Leaf
+  pub possible : IsLeaf leaf
+  pub spelled : front ≡ spelled_leaf leaf
+  pub path : IsPath rest
+
+only_set : (bytes front rest : List ℕ) → IsCutAfterLeaf bytes front rest → (line : Line) → IsPossible line → codes "set " ++ bytes ≡ spelling line → IsEdit front rest
+only_set bytes front rest cut (get path) p h = absurd (first_differs refl h)
+only_set bytes front rest cut (keys path) p h = absurd (first_differs refl h)
+only_set bytes front rest cut (range low high path) p h = absurd (first_differs refl h)
+only_set bytes front rest cut (set path l) p h =
+    let both = cut l path p.1 (append_cancel_left (codes "set ") _ _ h) in
+    record { leaf = l; possible = p.1; spelled = both.0; path = (path, p.0, both.1) }
+
+pub no_path_of_edit : (bytes front rest : List ℕ) → IsCutAfterLeaf bytes front rest → (IsPath rest → ⊥) → Says (codes "set " ++ bytes) None
+no_path_of_edit bytes front rest cut none line p h =
+    let edit = only_set bytes front rest cut line p h in
+    none edit.path
+
+-- the leaf of an edit is refused
+pub leaf_refused : (bytes front rest : List ℕ) (refusal : LineRefusal) → bytes ≡ front ++ rest → IsCutAfterLeaf bytes front rest → IsPath rest → RefusesLeaf front refusal → RefusesLine (codes "set " ++ bytes) refusal
+leaf_refused bytes front rest Bad whole cut is_path refused =
+    λ line p h.
+    let edit = only_set bytes front rest cut line p h in
+    refused edit.leaf edit.possible edit.spelled
+leaf_refused bytes front rest OutOfMemory whole cut (path, steps, h) (argument, e, (t, utf8, escapes)) =
+    (set path (text t), ((steps, utf8), edit_spelled bytes front rest path (text t) whole (e ∙ ap (λ w. codes "text '" ++ w) escapes) h), inr tt)

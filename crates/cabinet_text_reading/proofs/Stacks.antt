@@ -1,0 +1,136 @@
+-- The stack of the code as open containers.
+use Rattle.std.proofs.Common.{◌≡◌, ◌≢◌, ℕ, zero, suc, ◌+◌, get_or, slice_set, List, [], ◌∷◌, ◌++◌, length, length-append, ◌<◌, subst, sym, ap, ◌∙◌, refl, arith, inl, inr, Vec, Global, String}
+use Rattle.std.specs.Prelude.{string_bytes, string_cmp}
+use Rattle.std.specs.declared.cmp.Ordering.TheVariants.{Less, Greater}
+use Rattle.std.specs.Ordering.{nat_cmp, ordering_reverse}
+use Rattle.std.specs.Cmp.Lexicographic.{slice_cmp}
+use Rattle.std.specs.BTreeMap.{insert_entry}
+use Rattle.std.proofs.Math.Nat.{lt_irrefl}
+use Rattle.std.proofs.lemmas.Cmp.{nat_list_cmp_total}
+use Rattle.std.proofs.lemmas.Bool.Decides.{eqb_tells}
+use Rattle.cabinet_text_grammar.specs.Due.{a_head, due_in}
+use Rattle.cabinet_text_grammar.specs.Frame as frame
+use Rattle.cabinet_text_grammar.specs.Frame.{keys_after, WantsNode}
+use Rattle.cabinet_text_grammar.specs.Keys.{MapKind, ordered, hashed, IsAboveLast}
+use Rattle.cabinet_text_grammar.specs.Tree as tree
+use Rattle.cabinet_text_grammar.specs.Tree.{Tree, Trees, Pairs, no_pairs, more_pairs, ArePairs}
+use Rattle.cabinet_text_grammar.proofs.Legal.{head_due}
+use Rattle.cabinet_text_grammar.specs.Machine.{going, then_tree, then_pair, plug}
+use Rattle.cabinet_text_nodes.specs.View.{node_tree, node_trees, node_pairs}
+use Rattle.cabinet_text_nodes.specs.declared.node.Node.{Node}
+use Rattle.cabinet_text_nodes.proofs.Views.{count-node_trees, pair_count-node_pairs}
+use Rattle.cabinet_text_reading.specs.View.{frame_of, stack_onto, stack_of}
+use Rattle.cabinet_text_reading.specs.declared.stack.frame.Frame.{Frame}
+use Rattle.cabinet_text_reading.specs.declared.stack.frame.Frame.TheVariants as code_frame
+
+stack_onto-push : (outer : List frame.Frame) (fs : List Frame) (f : Frame) → stack_onto outer (fs ++ f ∷ []) ≡ frame_of f ∷ stack_onto outer fs
+stack_onto-push outer [] f = refl
+stack_onto-push outer (g ∷ fs) f = stack_onto-push (frame_of g ∷ outer) fs f
+
+pub stack_of-push : (fs : List Frame) (f : Frame) → stack_of (fs ++ f ∷ []) ≡ frame_of f ∷ stack_of fs
+stack_of-push fs f = stack_onto-push [] fs f
+
+-- the stack before its last frame was taken
+pub opened : (all before : List Frame) (f g : Frame) → all ≡ before ++ f ∷ [] → f ≡ g → stack_of all ≡ frame_of g ∷ stack_of before
+opened all before f g h is = ap stack_of h ∙ stack_of-push before f ∙ ap (λ e. frame_of e ∷ stack_of before) is
+
+-- the innermost container, and that in its place, inside the same others
+changed_onto : (outer : List frame.Frame) (fs : List Frame) (n : ℕ) (f g : Frame) → length fs ≡ suc n → get_or fs n f ≡ f
+    → (others : List frame.Frame) × (stack_onto outer fs ≡ frame_of f ∷ others) × (stack_onto outer (slice_set fs n g) ≡ frame_of g ∷ others)
+changed_onto outer [] n f g long is = absurd cc
+changed_onto outer (h ∷ []) zero f g long is = (outer, ap (λ x. frame_of x ∷ outer) is, refl)
+changed_onto outer (h ∷ []) (suc n) f g long is = absurd cc
+changed_onto outer (h ∷ i ∷ fs) zero f g long is = absurd cc
+changed_onto outer (h ∷ i ∷ fs) (suc n) f g long is = changed_onto (frame_of h ∷ outer) (i ∷ fs) n f g (omega (arith, long)) is
+
+pub changed : (fs : List Frame) (n : ℕ) (f g : Frame) → length fs ≡ suc n → get_or fs n f ≡ f
+    → (others : List frame.Frame) × (stack_of fs ≡ frame_of f ∷ others) × (stack_of (slice_set fs n g) ≡ frame_of g ∷ others)
+changed fs n f g long is = changed_onto [] fs n f g long is
+
+length-stack_onto : (outer : List frame.Frame) (fs : List Frame) → length (stack_onto outer fs) ≡ length outer + length fs
+length-stack_onto outer [] = omega arith
+length-stack_onto outer (f ∷ fs) = omega (arith, length-stack_onto (frame_of f ∷ outer) fs)
+
+wants_onto : (outer : List frame.Frame) (fs : List Frame) → WantsNode outer → WantsNode (stack_onto outer fs)
+wants_onto outer [] wants = wants
+wants_onto outer (code_frame.Maybe ∷ fs) wants = wants_onto (frame_of code_frame.Maybe ∷ outer) fs tt
+wants_onto outer (code_frame.List n v ∷ fs) wants = wants_onto (frame_of (code_frame.List n v) ∷ outer) fs tt
+wants_onto outer (code_frame.Value n ps ∷ fs) wants = wants_onto (frame_of (code_frame.Value n ps) ∷ outer) fs tt
+
+-- inside the code's containers a head is expected
+pub head_told : (fs : List Frame) → due_in (stack_of fs) ≡ a_head (length fs)
+head_told fs = head_due (stack_of fs) (wants_onto [] fs tt) ∙ ap a_head (omega (arith, length-stack_onto [] fs))
+
+pub node_trees-push : (ns : List Node) (n : Node) → node_trees (ns ++ n ∷ []) ≡ then_tree (node_trees ns) (node_tree n)
+node_trees-push [] n = refl
+node_trees-push (m ∷ ns) n = ap (tree.more_trees (node_tree m)) (node_trees-push ns n)
+
+pub counted_items : {A : Type 0} (v : Vec A Global) → length v.items ≡ v.len
+counted_items v = omega (arith, v.ok)
+
+pub node_pairs-push : (ps : List (String Global × Node)) (k : String Global) (n : Node) → node_pairs (ps ++ (k, n) ∷ []) ≡ then_pair (node_pairs ps) (string_bytes k) (node_tree n)
+node_pairs-push [] k n = refl
+node_pairs-push (p ∷ ps) k n = ap (tree.more_pairs (string_bytes p.0) (node_tree p.1)) (node_pairs-push ps k n)
+
+-- a container that is full by a node, and one that is not
+pub list_full : (ns all : List Node) (n : Node) (count : ℕ) (outer : List frame.Frame) → all ≡ ns ++ n ∷ [] → length all ≡ count → plug (tree.list (node_trees all)) outer ≡ plug (node_tree n) (frame.in_list count (node_trees ns) ∷ outer)
+list_full ns all n count outer h full =
+    let trees : node_trees all ≡ then_tree (node_trees ns) (node_tree n) = ap node_trees h ∙ node_trees-push ns n in
+    let counted : tree.count (then_tree (node_trees ns) (node_tree n)) ≡ count = ap tree.count (sym trees) ∙ count-node_trees all ∙ full in
+    elim (eqb_tells (tree.count (then_tree (node_trees ns) (node_tree n))) count) [
+      | inl is ↦ rw is.0 (ap (λ ts. plug (tree.list ts) outer) trees)
+      | inr differs ↦ absurd (differs.1 counted)
+    ]
+
+pub list_more : (ns all : List Node) (n : Node) (count : ℕ) (outer : List frame.Frame) → all ≡ ns ++ n ∷ [] → length all ≢ count → going (frame.in_list count (node_trees all) ∷ outer) ≡ plug (node_tree n) (frame.in_list count (node_trees ns) ∷ outer)
+list_more ns all n count outer h short =
+    let trees : node_trees all ≡ then_tree (node_trees ns) (node_tree n) = ap node_trees h ∙ node_trees-push ns n in
+    let counted : tree.count (then_tree (node_trees ns) (node_tree n)) ≡ length all = ap tree.count (sym trees) ∙ count-node_trees all in
+    elim (eqb_tells (tree.count (then_tree (node_trees ns) (node_tree n))) count) [
+      | inl is ↦ absurd (short (sym counted ∙ is.1))
+      | inr differs ↦ rw differs.0 (ap (λ ts. going (frame.in_list count ts ∷ outer)) trees)
+    ]
+
+pub pairs_full : (kind : MapKind) (ps all : List (String Global × Node)) (k : String Global) (n : Node) (count : ℕ) (outer : List frame.Frame) → all ≡ ps ++ (k, n) ∷ [] → length all ≡ count → plug (tree.map kind (node_pairs all)) outer ≡ plug (node_tree n) (frame.at_value kind count (node_pairs ps) (string_bytes k) ∷ outer)
+pairs_full kind ps all k n count outer h full =
+    let trees : node_pairs all ≡ then_pair (node_pairs ps) (string_bytes k) (node_tree n) = ap node_pairs h ∙ node_pairs-push ps k n in
+    let counted : tree.pair_count (then_pair (node_pairs ps) (string_bytes k) (node_tree n)) ≡ count = ap tree.pair_count (sym trees) ∙ pair_count-node_pairs all ∙ full in
+    elim (eqb_tells (tree.pair_count (then_pair (node_pairs ps) (string_bytes k) (node_tree n))) count) [
+      | inl is ↦ rw is.0 (ap (λ ts. plug (tree.map kind ts) outer) trees)
+      | inr differs ↦ absurd (differs.1 counted)
+    ]
+
+pub pairs_more : (kind : MapKind) (ps all : List (String Global × Node)) (k : String Global) (n : Node) (count : ℕ) (outer : List frame.Frame) → all ≡ ps ++ (k, n) ∷ [] → length all ≢ count → going (frame.at_key kind count (node_pairs all) ∷ outer) ≡ plug (node_tree n) (frame.at_value kind count (node_pairs ps) (string_bytes k) ∷ outer)
+pairs_more kind ps all k n count outer h short =
+    let trees : node_pairs all ≡ then_pair (node_pairs ps) (string_bytes k) (node_tree n) = ap node_pairs h ∙ node_pairs-push ps k n in
+    let counted : tree.pair_count (then_pair (node_pairs ps) (string_bytes k) (node_tree n)) ≡ length all = ap tree.pair_count (sym trees) ∙ pair_count-node_pairs all in
+    elim (eqb_tells (tree.pair_count (then_pair (node_pairs ps) (string_bytes k) (node_tree n))) count) [
+      | inl is ↦ absurd (short (sym counted ∙ is.1))
+      | inr differs ↦ rw differs.0 (ap (λ ts. going (frame.at_key kind count ts ∷ outer)) trees)
+    ]
+
+-- a list that expects more than one node expects more after one
+pub list_open : (ns all : List Node) (n : Node) (count : ℕ) (outer : List frame.Frame) → all ≡ ns ++ n ∷ [] → length ns + 1 < count → going (frame.in_list count (node_trees all) ∷ outer) ≡ plug (node_tree n) (frame.in_list count (node_trees ns) ∷ outer)
+list_open ns all n count outer h more =
+    let long = ap length h ∙ length-append ns (n ∷ []) in
+    list_more ns all n count outer h (λ e. lt_irrefl count (subst (λ i. i < count) (sym long ∙ e) more))
+
+-- hashed pairs ascend as ordered ones do
+pub as_ordered : (keys : List (List ℕ)) (ps : Pairs) → ArePairs hashed keys ps → ArePairs ordered keys ps
+as_ordered keys no_pairs are = tt
+as_ordered keys (more_pairs k t ps) are = (are.0, (are.1.0, as_ordered (k ∷ keys) ps are.1.1))
+
+-- a key above the last of ascending keys is above each
+above_first : (keys : List (List ℕ)) (ps : Pairs) (k : List ℕ) → ArePairs ordered keys ps → IsAboveLast (keys_after keys ps) k → IsAboveLast keys k
+above_first keys no_pairs k are above = above
+above_first [] (more_pairs l t ps) k are above = tt
+above_first (last ∷ keys) (more_pairs l t ps) k are above =
+    nat_list_cmp_total.trans last l k are.0.1 (above_first (l ∷ last ∷ keys) ps k are.1.1 above)
+
+-- and is inserted at the end of the map
+pub insert_behind : (keys : List (List ℕ)) (es : List (String Global × Node)) (k : String Global) (n : Node) → ArePairs ordered keys (node_pairs es) → IsAboveLast (keys_after keys (node_pairs es)) (string_bytes k) → insert_entry string_cmp es k n ≡ es ++ (k, n) ∷ []
+insert_behind keys [] k n are above = refl
+insert_behind keys (e ∷ es) k n are above =
+    let below : slice_cmp nat_cmp (string_bytes e.0) (string_bytes k) ≡ Less = above_first (string_bytes e.0 ∷ keys) (node_pairs es) (string_bytes k) are.1.1 above in
+    let greater : string_cmp k e.0 ≡ Greater = nat_list_cmp_total.antisymm (string_bytes k) (string_bytes e.0) ∙ ap ordering_reverse below in
+    rw greater (ap (λ w. e ∷ w) (insert_behind (string_bytes e.0 ∷ keys) es k n are.1.1 above))

@@ -1,0 +1,27 @@
+use Rattle.std.proofs.Common.{[], ◌∷◌, ◌++◌, ap, sym, ◌∙◌, subst}
+use Rattle.std.specs.Prelude.{string_bytes}
+use Rattle.cabinet_text_grammar.specs.Frame.{keys_after}
+use Rattle.cabinet_text_grammar.specs.Keys.{MayFollow}
+use Rattle.cabinet_text_grammar.specs.Tree.{ArePairs}
+use Rattle.cabinet_text_nodes.specs.View.{node_pairs}
+use Rattle.cabinet_text_reading.specs.View.{keyed_kind, keyed_entries, key_of}
+use Rattle.cabinet_text_reading.proofs.Stacks.{as_ordered, insert_behind}
+use Rattle.cabinet_text_reading.proofs.stack.keyed.Keyed.with_node.Goals as goal
+
+pub returns-in_ok-insert-in-Ordered-clause-pairs : goal.returns-in_ok-insert-in-Ordered-clause-pairs
+returns-in_ok-insert-in-Ordered-clause-pairs c =
+    let entries = c.in-Ordered.pairs.entries in
+    let are = subst (λ ps. ArePairs (keyed_kind ps) [] (node_pairs (keyed_entries ps))) c.in-Ordered.is c.requires.pairs in
+    let above = subst (λ ps. MayFollow (keyed_kind ps) (keys_after [] (node_pairs (keyed_entries ps))) (string_bytes (key_of ps))) c.in-Ordered.is c.requires.follows in
+    c.in_ok-insert-in-Ordered.ensures.entries
+    ∙ insert_behind [] entries c.in-Ordered.key c.args.node are above
+    ∙ ap (λ ps. keyed_entries ps ++ (key_of ps, c.args.node) ∷ []) (sym c.in-Ordered.is)
+
+pub returns-in_ok-insert-in-Hashed-clause-pairs : goal.returns-in_ok-insert-in-Hashed-clause-pairs
+returns-in_ok-insert-in-Hashed-clause-pairs c =
+    let entries = c.in-Hashed.pairs.entries in
+    let are = subst (λ ps. ArePairs (keyed_kind ps) [] (node_pairs (keyed_entries ps))) c.in-Hashed.is c.requires.pairs in
+    let above = subst (λ ps. MayFollow (keyed_kind ps) (keys_after [] (node_pairs (keyed_entries ps))) (string_bytes (key_of ps))) c.in-Hashed.is c.requires.follows in
+    c.in_ok-insert-in-Hashed.ensures.entries
+    ∙ insert_behind [] entries c.in-Hashed.key c.args.node (as_ordered [] (node_pairs entries) are) above
+    ∙ ap (λ ps. keyed_entries ps ++ (key_of ps, c.args.node) ∷ []) (sym c.in-Hashed.is)

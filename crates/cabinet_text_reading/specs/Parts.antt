@@ -1,0 +1,57 @@
+-- The parts of lines: steps, paths and leaves, and the errors of reading them.
+use Rattle.std.specs.Prelude.{◌≡◌, ◌≢◌, ℕ, List, [], ◌∷◌, ◌++◌, codes, All, IsUtf8}
+use Rattle.std.specs.Fmt.{decimal}
+use Rattle.cabinet_text_bytes.specs.Words.{IsEscaped, IsAtSpace}
+use Rattle.cabinet_text_grammar.specs.Tree.{Leaf, IsLeaf}
+use Rattle.cabinet_text_grammar.specs.Spelling.{escaped, spelled_leaf}
+use Rattle.cabinet_text_grammar.specs.Path.{Step, key}
+use Rattle.cabinet_text_grammar.specs.Line.{IsStep, spelled_step, spelled_path}
+use Rattle.cabinet_text_nodes.specs.declared.line.LineRefusal.{LineRefusal}
+use Rattle.cabinet_text_nodes.specs.declared.line.LineRefusal.TheVariants.{Bad, OutOfMemory}
+use Rattle.cabinet_text_reading.specs.declared.lines.path.StepRef.{StepRef}
+use Rattle.cabinet_text_reading.specs.declared.lines.path.StepRef.TheVariants.{Key, Place, Inside}
+
+-- the spelling of a step
+abbrev pub IsSpelledStep : List ℕ → Type 0
+IsSpelledStep bytes = (step : Step) × IsStep step × (bytes ≡ spelled_step step)
+
+-- the spelling of a path
+abbrev pub IsPath : List ℕ → Type 0
+IsPath bytes = (path : List Step) × All IsStep path × (bytes ≡ spelled_path path)
+
+-- the bytes of a borrowed step, whose key is still escaped
+abbrev pub lent_step : StepRef → List ℕ
+lent_step (Key argument) = codes "'" ++ argument.now
+lent_step (Place n) = codes "#" ++ decimal n
+lent_step Inside = codes "?"
+
+-- the bytes begin with a space and a step, and `rest` is the bytes after the step
+pub record BeginsWithStep (bytes : List ℕ) (step : StepRef) (rest : List ℕ) : Type 0 where
+  pub possible : IsSpelledStep (lent_step step)
+  pub spelled : bytes ≡ codes " " ++ (lent_step step ++ rest)
+  pub space : IsAtSpace rest
+
+-- the spelling of a path whose first step is a key
+abbrev pub BeginsByKey : List ℕ → Type 0
+BeginsByKey bytes = (k : List ℕ) × (path : List Step) × IsUtf8 k × All IsStep path × (bytes ≡ spelled_path (key k ∷ path))
+
+-- where bytes are the spellings of a leaf and of a path after it, the leaf's are `front` and the path's are `rest`
+abbrev pub IsCutAfterLeaf : List ℕ → List ℕ → List ℕ → Type 0
+IsCutAfterLeaf bytes front rest =
+    (l : Leaf) (path : List Step)
+    → IsLeaf l → bytes ≡ spelled_leaf l ++ spelled_path path → (front ≡ spelled_leaf l) × (rest ≡ spelled_path path)
+
+-- the bytes are no path; memory is refused only for a path with steps
+abbrev pub RefusesPath : List ℕ → LineRefusal → Type 0
+RefusesPath bytes Bad = IsPath bytes → ⊥
+RefusesPath bytes OutOfMemory = IsPath bytes × (bytes ≢ [])
+
+-- the bytes are no leaf; memory is refused only for a text
+abbrev pub RefusesLeaf : List ℕ → LineRefusal → Type 0
+RefusesLeaf bytes Bad = (l : Leaf) → IsLeaf l → bytes ≢ spelled_leaf l
+RefusesLeaf bytes OutOfMemory = (rest : List ℕ) × (bytes ≡ codes "text '" ++ rest) × IsEscaped rest
+
+-- the bytes are the escaped form of no text; memory is refused only for the escaped form of a text
+abbrev pub RefusesText : List ℕ → LineRefusal → Type 0
+RefusesText bytes Bad = (t : List ℕ) → IsUtf8 t → bytes ≢ escaped t
+RefusesText bytes OutOfMemory = IsEscaped bytes

@@ -1,0 +1,28 @@
+-- The errors of reading bytes as a line.
+use Rattle.std.specs.Prelude.{ℕ, List, [], ◌∷◌, ◌⊎◌, Some, None}
+use Rattle.cabinet_text_grammar.specs.Tree.{Leaf, truth, number, text}
+use Rattle.cabinet_text_grammar.specs.Path.{Step}
+use Rattle.cabinet_text_grammar.specs.Line.{Line, get, keys, range, set, Says}
+use Rattle.cabinet_text_nodes.specs.declared.line.LineRefusal.{LineRefusal}
+use Rattle.cabinet_text_nodes.specs.declared.line.LineRefusal.TheVariants.{Bad, OutOfMemory}
+
+abbrev pub HasSteps : List Step → Type 0
+HasSteps [] = ⊥
+HasSteps (step ∷ path) = Unit {0}
+
+abbrev pub IsText : Leaf → Type 0
+IsText (truth b) = ⊥
+IsText (number n) = ⊥
+IsText (text t) = Unit {0}
+
+-- memory is allocated for the steps of a path, for the bounds of a range and for a text
+abbrev pub TakesMemory : Line → Type 0
+TakesMemory (get path) = HasSteps path
+TakesMemory (keys path) = HasSteps path
+TakesMemory (range low high path) = Unit {0}
+TakesMemory (set path l) = HasSteps path ⊎ IsText l
+
+-- the bytes are no line; memory is refused only for a line that allocates some
+abbrev pub RefusesLine : List ℕ → LineRefusal → Type 0
+RefusesLine bytes Bad = Says bytes None
+RefusesLine bytes OutOfMemory = (line : Line) × Says bytes (Some line) × TakesMemory line

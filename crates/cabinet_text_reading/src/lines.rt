@@ -1,0 +1,7 @@
+//! Reads lines about documents from their bytes.
+
+mod leaf;
+mod line;
+mod path;
+
+pub use line::read_line;

@@ -1,0 +1,18 @@
+//! The open containers of a document that is being read.
+
+mod ascending;
+mod due;
+mod frame;
+mod kept;
+mod key;
+mod keyed;
+mod pairs;
+mod taking;
+
+pub use due::{Due, Next};
+pub use frame::{Frame, OpenMap};
+pub use kept::{KeptKeyed, KeptPairs};
+pub use key::cmp_escaped;
+pub use keyed::Keyed;
+pub use pairs::Pairs;
+pub use taking::{take_head, take_key};

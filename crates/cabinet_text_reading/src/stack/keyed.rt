@@ -1,0 +1,43 @@
+//! The pairs of a map up to now, and the key of the next pair.
+ghost use Rattle.std.specs.Prelude.{◌≡◌, ◌++◌, [], ◌∷◌, IfOk, string_bytes};
+ghost use Rattle.cabinet_text_grammar.specs.Frame.{keys_after};
+ghost use Rattle.cabinet_text_grammar.specs.Keys.{MayFollow};
+ghost use Rattle.cabinet_text_grammar.specs.Tree.{ArePairs};
+ghost use Rattle.cabinet_text_nodes.specs.View.{node_pairs};
+ghost use Rattle.cabinet_text_reading.specs.View.{kind_of, entries_of, keyed_kind, keyed_entries, key_of};
+
+use crate::stack::kept::KeptKeyed;
+use crate::stack::pairs::Pairs;
+use cabinet_text_nodes::Node;
+use std::alloc::AllocError;
+use std::collections::BTreeMap;
+
+/// The pairs of a map, and a key that expects its node.
+#[derive(Drop)]
+pub enum Keyed<'a> {
+    Ordered(BTreeMap<String, Node>, String),
+    Hashed(BTreeMap<String, Node>, String),
+    Kept(KeptKeyed<'a>),
+}
+
+impl<'a> Keyed<'a> {
+    /// Adds the node of the key, which completes the next pair.
+    pub fn with_node(self, node: Node) -> Result<Pairs<'a>, AllocError>
+        requires pairs { ArePairs (keyed_kind self) [] (node_pairs (keyed_entries self)) }
+        requires follows { MayFollow (keyed_kind self) (keys_after [] (node_pairs (keyed_entries self))) (string_bytes (key_of self)) }
+        ensures kind { IfOk result (λ pairs. kind_of pairs ≡ keyed_kind self.entry) }
+        ensures pairs { IfOk result (λ pairs. entries_of pairs ≡ keyed_entries self.entry ++ (key_of self.entry, node) ∷ []) }
+    {
+        match self {
+            Keyed::Ordered(mut pairs, key) => {
+                pairs.insert(key, node)?;
+                Ok(Pairs::Ordered(pairs))
+            }
+            Keyed::Hashed(mut pairs, key) => {
+                pairs.insert(key, node)?;
+                Ok(Pairs::Hashed(pairs))
+            }
+            Keyed::Kept(keyed) => Ok(Pairs::Kept(keyed.with_node(node)?)),
+        }
+    }
+}

@@ -1,0 +1,73 @@
+//! The pairs of a map up to now.
+ghost use Rattle.std.specs.Prelude.{◌≡◌, Some, length, IfOk, IfErr, string_bytes};
+ghost use Rattle.cabinet_text_bytes.specs.Words.{IsEscaped};
+ghost use Rattle.cabinet_text_grammar.specs.Due.{Admits};
+ghost use Rattle.cabinet_text_grammar.specs.Fault.{IsFirstCause};
+ghost use Rattle.cabinet_text_grammar.specs.Item.{key_item};
+ghost use Rattle.cabinet_text_grammar.specs.Spelling.{escaped};
+ghost use Rattle.cabinet_text_grammar.specs.Tree.{map};
+ghost use Rattle.cabinet_text_nodes.specs.View.{node_tree, node_pairs};
+ghost use Rattle.cabinet_text_reading.specs.Told.{key_line};
+ghost use Rattle.cabinet_text_reading.specs.View.{kind_of, entries_of, key_due, keyed_kind, keyed_entries, key_of};
+
+use crate::stack::ascending::key_behind;
+use crate::stack::kept::KeptPairs;
+use crate::stack::keyed::Keyed;
+use cabinet_text_grammar::Cause;
+use cabinet_text_nodes::Node;
+use std::alloc::Global;
+use std::collections::BTreeMap;
+
+/// The pairs of a map that expects a key.
+#[derive(Drop)]
+pub enum Pairs<'a> {
+    Ordered(BTreeMap<String, Node>),
+    Hashed(BTreeMap<String, Node>),
+    Kept(KeptPairs<'a>),
+}
+
+impl<'a> Pairs<'a> {
+    /// Returns the number of pairs.
+    pub fn len(&self) -> usize
+        ensures { result ≡ length (entries_of self.now) }
+    {
+        match self {
+            Pairs::Ordered(pairs) => pairs.len(),
+            Pairs::Hashed(pairs) => pairs.len(),
+            Pairs::Kept(pairs) => pairs.len(),
+        }
+    }
+
+    /// Adds the key of the next pair, if it is allowed after the others. `argument` is the key's escaped form.
+    pub fn with_key(self, alloc: Global, argument: &'a [u8]) -> Result<Keyed<'a>, Cause>
+        requires { IsEscaped argument.now }
+        ensures kind { IfOk result (λ keyed. keyed_kind keyed ≡ kind_of self.entry) }
+        ensures pairs { IfOk result (λ keyed. keyed_entries keyed ≡ entries_of self.entry) }
+        ensures key { IfOk result (λ keyed. argument.now ≡ escaped (string_bytes (key_of keyed))) }
+        ensures admitted { IfOk result (λ keyed. Admits (key_due self.entry) (key_item (string_bytes (key_of keyed)))) }
+        ensures fault { IfErr result (IsFirstCause (key_due self.entry) (Some (key_line argument.now))) }
+    {
+        match self {
+            Pairs::Ordered(pairs) => {
+                let key = key_behind(alloc, &pairs, argument)?;
+                Ok(Keyed::Ordered(pairs, key))
+            }
+            Pairs::Hashed(pairs) => {
+                let key = key_behind(alloc, &pairs, argument)?;
+                Ok(Keyed::Hashed(pairs, key))
+            }
+            Pairs::Kept(pairs) => Ok(Keyed::Kept(pairs.with_key(alloc, argument)?)),
+        }
+    }
+
+    /// Returns the map that has exactly these pairs.
+    pub fn into_node(self) -> Node
+        ensures { node_tree result ≡ map (kind_of self.entry) (node_pairs (entries_of self.entry)) }
+    {
+        match self {
+            Pairs::Ordered(pairs) => Node::Ordered(pairs),
+            Pairs::Hashed(pairs) => Node::Hashed(pairs),
+            Pairs::Kept(pairs) => Node::Kept(pairs.into_pairs()),
+        }
+    }
+}

@@ -1,0 +1,150 @@
+//! Takes heads and keys into the innermost container.
+ghost use Rattle.std.specs.Prelude.{◌≡◌, ℕ, List, [], Some, IfOk, IfErr, string_bytes};
+ghost use Rattle.cabinet_text_bytes.specs.Words.{IsEscaped};
+ghost use Rattle.cabinet_text_grammar.specs.Due.{Admits};
+ghost use Rattle.cabinet_text_grammar.specs.Fault.{IsFirstCause};
+ghost use Rattle.cabinet_text_grammar.specs.Frame.{AreOpen};
+ghost use Rattle.cabinet_text_grammar.specs.Item.{key_item, map_item};
+ghost use Rattle.cabinet_text_grammar.specs.Spelling.{escaped};
+ghost use Rattle.cabinet_text_grammar.specs.Machine.{going, plug, step};
+ghost use Rattle.cabinet_text_nodes.specs.View.{node_tree, item_of};
+ghost use Rattle.cabinet_text_reading.specs.Told.{key_line};
+ghost use Rattle.cabinet_text_reading.specs.View.{kind_of, entries_of, key_due, stack_of, inside_map, state_of};
+
+use crate::stack::due::{Due, Next};
+use crate::stack::frame::{Frame, OpenMap};
+use crate::stack::kept::KeptPairs;
+use crate::stack::pairs::Pairs;
+use cabinet_text_grammar::Cause;
+use cabinet_text_nodes::{Head, Leaf, Node};
+use std::alloc::{AllocError, Global};
+use std::collections::BTreeMap;
+
+/// Puts a whole node into the innermost container. A list that stays open after it is changed in place by `put_in`.
+/// Here each container is taken from the stack, and a container that is full is a whole node itself.
+fn close_with<'a>(
+    alloc: Global,
+    whole: Node,
+    stack: &mut Vec<Frame<'a>>,
+) -> Result<Next<'a>, AllocError>
+    requires { AreOpen (stack_of stack.old.items) }
+    ensures { IfOk result (λ next. state_of next stack.new.items ≡ plug (node_tree whole) (stack_of stack.old.items)) }
+{
+    let mut node = whole;
+    while let Some(frame) = stack.pop() {
+        match frame {
+            Frame::Maybe => {
+                node = Node::Maybe(Some(Box::new(alloc, node)?));
+            }
+            Frame::List { count, mut nodes } => {
+                nodes.push(node)?;
+                if nodes.len() as u64 == count {
+                    node = Node::List(nodes);
+                } else {
+                    stack.push(Frame::List { count, nodes })?;
+                    return Ok(Next::Due(Due::Head));
+                }
+            }
+            Frame::Value { count, pairs } => {
+                let pairs = pairs.with_node(node)?;
+                if pairs.len() as u64 == count {
+                    node = pairs.into_node();
+                } else {
+                    return Ok(Next::Due(Due::Key(OpenMap { count, pairs })));
+                }
+            }
+        }
+    }
+    Ok(Next::Done(node))
+}
+
+/// Puts a whole node into the innermost container. A container that it fills is a whole node itself.
+fn put_in<'a>(
+    alloc: Global,
+    whole: Node,
+    stack: &mut Vec<Frame<'a>>,
+) -> Result<Next<'a>, AllocError>
+    requires { AreOpen (stack_of stack.old.items) }
+    ensures { IfOk result (λ next. state_of next stack.new.items ≡ plug (node_tree whole) (stack_of stack.old.items)) }
+{
+    let Some(frame) = stack.last_mut() else {
+        return Ok(Next::Done(whole));
+    };
+    match frame {
+        Frame::List { count, nodes } if nodes.len() as u64 + 1 < *count => {
+            nodes.push(whole)?;
+            Ok(Next::Due(Due::Head))
+        }
+        _ => close_with(alloc, whole, stack),
+    }
+}
+
+/// Takes a node's head into the innermost container.
+pub fn take_head<'a>(
+    alloc: Global,
+    head: Head,
+    stack: &mut Vec<Frame<'a>>,
+) -> Result<Next<'a>, AllocError>
+    requires { AreOpen (stack_of stack.old.items) }
+    ensures { IfOk result (λ next. state_of next stack.new.items ≡ step (stack_of stack.old.items) (item_of head)) }
+{
+    match head {
+        Head::Leaf(Leaf::Bool(value)) => put_in(alloc, Node::Bool(value), stack),
+        Head::Leaf(Leaf::Int(number)) => put_in(alloc, Node::Int(number), stack),
+        Head::Leaf(Leaf::Text(text)) => put_in(alloc, Node::Text(text), stack),
+        Head::Shared(text) => put_in(alloc, Node::Shared(text), stack),
+        Head::None => put_in(alloc, Node::Maybe(None), stack),
+        Head::Some => {
+            stack.push(Frame::Maybe)?;
+            Ok(Next::Due(Due::Head))
+        }
+        Head::List(count) => {
+            let nodes = Vec::new(alloc);
+            if count == 0 {
+                return put_in(alloc, Node::List(nodes), stack);
+            }
+            stack.push(Frame::List { count, nodes })?;
+            Ok(Next::Due(Due::Head))
+        }
+        Head::Ordered(count) => open_map(alloc, count, Pairs::Ordered(BTreeMap::new(alloc)), stack),
+        Head::Hashed(count) => open_map(alloc, count, Pairs::Hashed(BTreeMap::new(alloc)), stack),
+        Head::Kept(count) => open_map(alloc, count, Pairs::Kept(KeptPairs::new(alloc)), stack),
+    }
+}
+
+/// Opens a map of `count` pairs.
+fn open_map<'a>(
+    alloc: Global,
+    count: u64,
+    pairs: Pairs<'a>,
+    stack: &mut Vec<Frame<'a>>,
+) -> Result<Next<'a>, AllocError>
+    requires opened { AreOpen (stack_of stack.old.items) }
+    requires none { entries_of pairs ≡ [] }
+    ensures { IfOk result (λ next. state_of next stack.new.items ≡ step (stack_of stack.old.items) (map_item (kind_of pairs.entry) count)) }
+{
+    if count == 0 {
+        put_in(alloc, pairs.into_node(), stack)
+    } else {
+        Ok(Next::Due(Due::Key(OpenMap { count, pairs })))
+    }
+}
+
+/// Takes a key into a map. `argument` is the key's escaped form. A node's head is expected next.
+pub fn take_key<'a>(
+    alloc: Global,
+    argument: &'a [u8],
+    map: OpenMap<'a>,
+    stack: &mut Vec<Frame<'a>>,
+) -> Result<(), Cause>
+    requires { IsEscaped argument.now }
+    ensures taken { IfOk result (λ _. (k : List ℕ) × (argument.now ≡ escaped k) × Admits (key_due map.entry.pairs) (key_item k) × (going (stack_of stack.new.items) ≡ step (inside_map map.entry stack.old.items) (key_item k))) }
+    ensures fault { IfErr result (IsFirstCause (key_due map.entry.pairs) (Some (key_line argument.now))) }
+{
+    let OpenMap { count, pairs } = map;
+    let pairs = pairs.with_key(alloc, argument)?;
+    let Ok(()) = stack.push(Frame::Value { count, pairs }) else {
+        return Err(Cause::OutOfMemory);
+    };
+    Ok(())
+}

@@ -1,5 +1,0 @@
-pub mod Compared
-pub mod Found
-pub mod Stacks
-pub mod Taken
-pub mod Wrong

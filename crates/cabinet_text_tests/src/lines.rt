@@ -1,0 +1,4 @@
+//! Tests of reading bytes as lines about documents.
+
+mod lines;
+mod parts;
