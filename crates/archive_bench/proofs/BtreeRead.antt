@@ -10,12 +10,7 @@ use Rattle.archive_forms_values.specs.Parts.{HasValue}
 use Rattle.archive_shape.specs.declared.references.refs.Ref.{Ref}
 use Rattle.archive_btree_walking.specs.Refs.{IsThere}
 use Rattle.archive_bench.specs.BtreeTexts.{text_shape, number_shape, known}
-
--- a text that the layout has
-pub text_there : (knows : Names → Type 0) (bytes : List ℕ) (pos : ℕ) → HasValue text knows bytes pos → HasText bytes pos
-text_there knows bytes pos has =
-    let held = has.held in
-    (held_is_text_law held.names bytes held.level held.inside pos _ held.regions held.before held.after held.own_within (claims_within held) held.holds).stands.there
+use Rattle.archive_bench.proofs.Held.{text_there}
 
 -- the first of entries that are there, and the others
 module _ {K V : Type 0} (x : Ref K × Ref V) (rest whole : List (Ref K × Ref V)) (steps : whole ≡ x ∷ rest) (all : All (IsThere text_shape number_shape known known) whole) where

@@ -13,12 +13,7 @@ use Rattle.archive_forms_values.specs.Parts.{HasValue}
 use Rattle.archive_forms_values.specs.Fields.{field_position}
 use Rattle.archive_hash_maps.proofs.HashWalking.Entries.{entry_parts}
 use Rattle.archive_bench.specs.HashTexts.{text_shape, number_shape, entry_shape, known, entry_known}
-
--- a text that the layout has
-pub text_there : (knows : Names → Type 0) (bytes : List ℕ) (pos : ℕ) → HasValue text knows bytes pos → HasText bytes pos
-text_there knows bytes pos has =
-    let held = has.held in
-    (held_is_text_law held.names bytes held.level held.inside pos _ held.regions held.before held.after held.own_within (claims_within held) held.holds).stands.there
+use Rattle.archive_bench.proofs.Held.{text_there}
 
 -- the key and the value of an entry
 pub key_there : {K : Type 0} (r : Ref K) (bytes : Bor (List ℕ)) (pos : ℕ) → r.bytes ≡ bytes → r.pos ≡ pos → HasValue entry_shape entry_known bytes.now pos → HasValue text_shape known r.bytes.now r.pos

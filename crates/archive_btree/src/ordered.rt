@@ -16,7 +16,7 @@ use archive_shape::{Allocator, Error, Writer};
 use std::marker::PhantomData;
 
 /// The greatest number of entries of a node.
-pub(crate) const MOST: usize = u32::MAX as usize;
+pub(crate) const MAX_ENTRIES: usize = u32::MAX as usize;
 
 /// Writes the search tree of the entries of a map, which come in order and whose data is written by a step. `claimed`
 /// is the number of entries that come.
@@ -43,7 +43,7 @@ pub fn serialize_from_ordered_iter_each<
     requires takes { TakesEntries I.next_gives C.takes step.now entries }
     ensures { BuildsClaimedBy E K.Archived.shape V.Archived.shape K.spelling V.spelling S.Writer (GivesAs deref_pair I.next_gives) (λ r. r.pos) claimed entries serializer.old serializer.new result }
 {
-    if E > MOST {
+    if E > MAX_ENTRIES {
         return Err(Error::OutOfMemory);
     }
     let nodes = NodeWriter { step };

@@ -10,7 +10,7 @@ ghost use Rattle.archive_btree_writing.specs.Built.{BuildsClaimedBy};
 ghost use Rattle.archive_btree.specs.Owned.{key_entry, key_of};
 
 use crate::node_writer::NodeWriter;
-use crate::ordered::MOST;
+use crate::ordered::MAX_ENTRIES;
 use archive_btree_maps::BTreeSetResolver;
 use archive_btree_writing::build_tree_each;
 use archive_forms_borrowed::SerializeEntry;
@@ -64,7 +64,7 @@ pub fn serialize_set_from_ordered_iter<
     requires state { HasState S.pos S.known serializer.old }
     ensures { BuildsClaimedBy E K.Archived.shape (tuple no_shapes) K.spelling unit_spelling S.Writer (GivesAs key_entry I.next_gives) (λ r. r.pos) claimed keys serializer.old serializer.new result }
 {
-    if E > MOST {
+    if E > MAX_ENTRIES {
         return Err(Error::OutOfMemory);
     }
     let nodes = NodeWriter {

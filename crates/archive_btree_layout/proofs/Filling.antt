@@ -77,7 +77,7 @@ Row-none : (A : Type 0) (most k : ℕ) → Row {A = A} most 0 (flat_map (level m
 Row-none A most zero = refl
 Row-none A most (suc k) = (takes_none refl refl, Row-at most (flat_map (level {A = A} most 0) (replicate k absent)) (omega arith) (Row-none A most k))
 
-size-none : (A : Type 0) (most k : ℕ) → length (flat_map (level {A = A} most 0) (replicate k absent)) ≡ k
+pub size-none : (A : Type 0) (most k : ℕ) → length (flat_map (level {A = A} most 0) (replicate k absent)) ≡ k
 size-none A most zero = refl
 size-none A most (suc k) = let e = size-none A most k in omega arith
 

@@ -8,7 +8,7 @@ use Rattle.archive_btree_layout.specs.Tree.{Tree, Branches, entries_of, children
 use Rattle.archive_btree_layout.specs.Tree.Tree.{absent, leaf, inner}
 use Rattle.archive_btree_layout.specs.Tree.Branches.{greater, lesser}
 use Rattle.archive_btree_layout.specs.Packed.{level, IsFull}
-use Rattle.archive_btree_layout.proofs.Filling.{width, room, Fills, FillsAll, Takes, Row, Row-at}
+use Rattle.archive_btree_layout.proofs.Filling.{width, room, Fills, FillsAll, Takes, Row, Row-at, size-none}
 use Rattle.archive_btree_layout.proofs.Filling.Fills.{fills_none, fills_last, fills_leaf, fills_inner}
 use Rattle.archive_btree_layout.proofs.Filling.FillsAll.{fills_greater, fills_lesser}
 use Rattle.archive_btree_layout.proofs.Filling.Takes.{takes_none, takes}
@@ -68,15 +68,11 @@ upper_last most g t u d below = rw append-nil at (u d below)
 upper_inner : {A : Type 0} (most g : ℕ) (bs : Branches A) → Upper most (suc g) (inner bs) → UpperAll most g bs
 upper_inner most g bs u d below = u (suc d) (omega arith)
 
-size_absents : (A : Type 0) (most k : ℕ) → length (flat_map (level {A = A} most 0) (replicate k absent)) ≡ k
-size_absents A most zero = refl
-size_absents A most (suc k) = let e = size_absents A most k in omega arith
-
 mutual
   pub size_of_level : {A : Type 0} (most h : ℕ) (t : Tree A) → 0 < most → Upper most h t → length (level most h t) ≡ width most h
   size_of_level most zero t pos u = refl
   size_of_level most (suc g) absent pos u = absurd (absent_not_full most pos (root_full most g absent u))
-  size_of_level {A} most (suc zero) (leaf es) pos u = size_absents A most (suc most) ∙ omega arith
+  size_of_level {A} most (suc zero) (leaf es) pos u = size-none A most (suc most) ∙ omega arith
   size_of_level most (suc (suc g)) (leaf es) pos u = absurd (leaf_ends most g es pos u)
   size_of_level most (suc g) (inner bs) pos u =
       let own = (root_full most g (inner bs) u).entries in

@@ -21,6 +21,7 @@ use Rattle.archive_forms_values.proofs.Claimed.{misplaced}
 use Rattle.archive_forms_values.proofs.Chosen.{chosen, not_chosen}
 use Rattle.archive_forms_values.proofs.FormsLaws.TextContent.{followed}
 use Rattle.archive_btree_nodes.specs.CheckingNodes.{BeginsNode}
+use Rattle.archive_shape.proofs.Claims.{no_error}
 
 both : (a b : Bool) → a ≡ true → b ≡ true → (a && b) ≡ true
 both a b e f = rw (e, f) refl
@@ -40,9 +41,6 @@ unanswered_before k e (q ∷ xs) ys (unanswered_later h f) = unanswered_later h 
 unanswered_behind : (k : Range) (e : Error) (xs ys : List Question) → AreAnswered k xs → FirstUnanswered k e ys → FirstUnanswered k e (xs ++ ys)
 unanswered_behind k e [] ys h f = f
 unanswered_behind k e (q ∷ xs) ys h f = unanswered_later h.0 (unanswered_behind k e xs ys h.1 f)
-
-no_error : (r : Result (Unit {0}) Error) (e : Error) → r ≡ Err e → r ≡ Ok tt → ⊥
-no_error r e h i = cc
 
 -- a claim that is refused for its place: the first two questions say so
 placed :

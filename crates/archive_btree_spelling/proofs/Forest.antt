@@ -22,16 +22,13 @@ use Rattle.archive_forms_laws.proofs.Gaps.{bytes_none}
 use Rattle.archive_btree_spelling.specs.Parted.{Parted, parted, shares, between}
 use Rattle.archive_btree_spelling.specs.Written.{entry_spelling, state_after_entries, node_at, node_values, node_piece, node_fits, tree_spelling}
 use Rattle.archive_btree_spelling.specs.Maps.{packed_spelling}
-use Rattle.archive_btree_spelling.proofs.Levels.{levels_hold}
+use Rattle.archive_btree_spelling.proofs.Levels.{levels_hold, above}
 use Rattle.archive_btree_spelling.proofs.Slots.{EachEntrySpells}
 use Rattle.archive_btree_spelling.proofs.Shares.{IsWoven, AreLow, Shared, shared}
 use Rattle.archive_btree_spelling.proofs.Trees.{Counted, Rooted, TreeSpells, EachTreeSpells, AllSuit, AllSmall, plain_children, length-links-below}
 use Rattle.archive_btree_spelling.proofs.Weaving.{plain_groups, count_woven, count_of_values, plain_woven, erased_weave, suits_append}
 use Rattle.archive_btree_spelling.proofs.Nodes.{Roomy, roomy, node_end, leaf_of, leaf_canonical, inner_of, inner_canonical, values_counted}
 use Rattle.archive_btree_spelling.proofs.Whole.{node_consistent, node_keyed, node_piece_bytes, node_exact}
-
-over : (n m : ℕ) → nat_le n m ≡ false → m < n
-over n m e = grind (arith, nat_tests)
 
 -- lists below pointers are no longer than all items
 small_woven : {A B R Q : Type 0} (fit : Fit) (most : ℕ) (k v : Shape) (knows : Names → Type 0) (keys : Spelling A R) (vals : Spelling B Q) (l : ℕ) (w : Spelling (List (A × B)) (Option ℕ))
@@ -117,8 +114,8 @@ module _ {A B R Q : Type 0} (fit : Fit) (most : ℕ) (k v : Shape) (knows : Name
     leaf_node : (xs : List (A × B)) → length xs ≤ most → EachEntrySpells fit most k v knows keys vals xs → NodeSpells xs (leaf_of fit most k v knows keys vals w xs)
     leaf_node xs few each = record {
       before = λ st f. node_before (leaf_of fit most k v knows keys vals w xs) st (roomy fit most k v knows keys vals w (leaf_of fit most k v knows keys vals w xs) st _ each few f.1.2.0 f.1.2.1 refl) (omega arith);
-      canonical = λ st names given bytes level inside t low small kn n known state over f s.
-          leaf_canonical fit most k v knows keys vals w xs each st names given bytes level inside t (omega (arith, low)) few small kn n known state over f s;
+      canonical = λ st names given bytes level inside t low small kn n known state above f s.
+          leaf_canonical fit most k v knows keys vals w xs each st names given bytes level inside t (omega (arith, low)) few small kn n known state above f s;
       counted = λ st. record { items = _; is = refl; count = count_of_values (entry_spelling most k v keys vals) xs st };
       keyed = λ given st n known f.
           let both = node_keyed fit most k v knows keys vals l w (leaf_of fit most k v knows keys vals w xs) (omega arith) tt each given st tt n known f in
@@ -143,10 +140,10 @@ module _ {A B R Q : Type 0} (fit : Fit) (most : ℕ) (k v : Shape) (knows : Name
           before = λ st f. node_before p st
               (roomy fit most k v knows keys vals w p st _ laws.1 few f.1.2.0 f.1.2.1 (length-links-below fit most k v knows keys vals l w xss st _ ∙ ap (λ z. z * 4) (let e = parts.pointers in omega (arith, e))))
               (omega arith);
-          canonical = λ st names given bytes level inside t low small kn m known state over f s.
+          canonical = λ st names given bytes level inside t low small kn m known state above f s.
               let named = suits_woven l w given xs xss es parts.woven m in
               inner_canonical fit most k v knows keys vals w l xs xss es laws.0 laws.1 st names given bytes level inside t more parts.pointers parts.own parts.woven parts.are_shares low
-              (small_woven fit most k v knows keys vals l w xs xss es parts.woven small) kn named.0 named.1 known state over f s;
+              (small_woven fit most k v knows keys vals l w xs xss es parts.woven small) kn named.0 named.1 known state above f s;
           counted = λ st. record {
             items = _;
             is = refl;
@@ -174,7 +171,7 @@ module _ {A B R Q : Type 0} (fit : Fit) (most : ℕ) (k v : Shape) (knows : Name
         tested : (b : Bool) → nat_le (length xs) most ≡ b
             → NodeSpells xs (cond b (record { kind = 0; below = []; own = xs }) (record { kind = 1; below = shares most (length xs) 0 most xs; own = between most (length xs) 0 most xs }))
         tested true e = leaf_node xs (leb-true (length xs) most e) each
-        tested false e = inner_node xs some (over (length xs) most e) within each of_list
+        tested false e = inner_node xs some (above (length xs) most e) within each of_list
 
     -- no items are written as nothing
     nothing_spells : TreeSpells fit most k v knows keys vals (suc l) (tree_spelling most k v keys vals w) []

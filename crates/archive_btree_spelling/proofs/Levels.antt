@@ -4,7 +4,7 @@ use Rattle.std.proofs.lemmas.Bool.Decides.{nat_tests}
 use Rattle.std.proofs.Math.Nat.{pow-succ', pow-zero, one-le-pow, pow-le-pow_left}
 use Rattle.archive_forms_laws.specs.ShapeCanonical.Packed.{full, levels_from, levels_for, child_items}
 
-above : (n m : ℕ) → nat_le n m ≡ false → m < n
+pub above : (n m : ℕ) → nat_le n m ≡ false → m < n
 above n m e = grind (arith, nat_tests)
 
 -- where `levels + fuel` levels have room, the least number of levels has

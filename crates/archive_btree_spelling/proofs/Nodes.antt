@@ -36,10 +36,7 @@ use Rattle.archive_btree_spelling.proofs.Trees.{EachTreeSpells, AllSuit, AllSmal
 use Rattle.archive_btree_spelling.proofs.Weaving.{AreCounted, count_counted, woven_packed, woven_values, count_of_values}
 use Rattle.archive_btree_spelling.proofs.Standing.{Quarters, quarters, length-quarters, entries_own_keys, entries_own_values, children_own, in_parts_left, in_parts_right, claimed_part}
 use Rattle.archive_shape_layout.proofs.Windows.{word_within}
-
-keys_behind_kind : (k : Shape) → 1 ≤ keys_offset k
-unfolding keys_offset
-keys_behind_kind k = le_align_up 1 (align_of k)
+use Rattle.archive_shape_layout.proofs.Places.{keys_follow}
 
 some_align : (k v : Shape) → 0 < link_node_align k v
 unfolding link_node_align
@@ -154,7 +151,7 @@ module _ {A B R Q : Type 0} (fit : Fit) (most : ℕ) (k v : Shape) (knows : Name
       let whole_size : length own ≡ own_size most k v keys vals (linked most k v keys vals w p st) =
       length-quarters (keys_offset k) (values_offset most k v) (links_offset most k v) (own_size most k v keys vals (linked most k v keys vals w p st)) p.kind
       (key_slots fit most k v knows keys vals p.own now (pos + keys_offset k)) (value_slots fit most k v knows keys vals p.own now (pos + values_offset most k v)) (words most k v keys vals p.kind (linked most k v keys vals w p st) (pos + links_offset most k v))
-      (keys_behind_kind k) r.keys_room r.values_room r.words_room in
+      (keys_follow k) r.keys_room r.values_room r.words_room in
       omega (arith, children_pos p st, entries_pos p st, length-append first (second ++ (gap ++ own)), length-append second (gap ++ own), length-append gap own, size, whole_size, up)
 
   pub node_quarters : (p : Parted (A × B)) (st : State) (bytes : List ℕ) (pos : ℕ) → Roomy p st pos → HasBytes bytes pos (own_bytes most k v keys vals (linked most k v keys vals w p st) (state_after_children most k v keys vals w p st) pos)
@@ -163,7 +160,7 @@ module _ {A B R Q : Type 0} (fit : Fit) (most : ℕ) (k v : Shape) (knows : Name
       (value_slots fit most k v knows keys vals p.own (state_after_children most k v keys vals w p st) (pos + values_offset most k v))
       (words most k v keys vals p.kind (linked most k v keys vals w p st) (pos + links_offset most k v))
   node_quarters p st bytes pos r s =
-      quarters bytes pos (keys_offset k) (values_offset most k v) (links_offset most k v) (own_size most k v keys vals (linked most k v keys vals w p st)) p.kind _ _ _ (keys_behind_kind k) r.keys_room r.values_room r.words_room s
+      quarters bytes pos (keys_offset k) (values_offset most k v) (links_offset most k v) (own_size most k v keys vals (linked most k v keys vals w p st)) p.kind _ _ _ (keys_follow k) r.keys_room r.values_room r.words_room s
 
   abbrev pub leaf_of : List (A × B) → Parted (A × B)
   leaf_of es = record { kind = 0; below = []; own = es }

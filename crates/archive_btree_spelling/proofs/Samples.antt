@@ -15,22 +15,18 @@ use Rattle.archive_forms_laws.proofs.Gaps.{bytes_word}
 use Rattle.archive_forms_laws.proofs.Leaves.{leaf_spells}
 use Rattle.archive_forms_laws.proofs.Written.{is_written}
 use Rattle.archive_btree_spelling.specs.Written.{entry_spelling}
-use Rattle.archive_btree_spelling.specs.Sample.{number_shape, number_spelling, map_shape, map_spelling, six_pairs, six_pairs_bytes}
+use Rattle.archive_btree_spelling.specs.Sample.{number_shape, map_shape, map_spelling, six_pairs, six_pairs_bytes}
 use Rattle.archive_btree_spelling.specs.Laws.{SamplesAreSpelled, MapsAreWritten, SixPairsAreWritten}
 use Rattle.archive_btree_spelling.proofs.Maps.{btree_spells}
+use Rattle.archive_forms_laws.proofs.Samples.{number_spells, none_to_none}
+use Rattle.archive_forms_laws.specs.Sample.{number_spelling}
 
 pub samples_are_spelled_law : SamplesAreSpelled
 unfolding align_up keys_offset values_offset node_size links_offset link_node_align link_node_size
 samples_are_spelled_law = (refl, refl, refl)
 
-number_spells : (fit : Fit) → Spells fit number_shape KnowsAll number_spelling
-number_spells fit = leaf_spells fit number_shape KnowsAll (to_le_bytes w32) natural tt
-
 abbrev no_keys : Keys
 no_keys k = None
-
-none_to_none : AreOneToOne no_keys
-none_to_none k l a b e f same_type same = absurd (cc)
 
 -- no shared value is in them
 none_shared : (fit : Fit) (xs : List (ℕ × ℕ)) → all_suit (entry_spelling 5 number_shape number_shape number_spelling number_spelling) fit no_keys xs

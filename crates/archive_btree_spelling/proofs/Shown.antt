@@ -6,13 +6,10 @@ use Rattle.archive_forms_laws.specs.ShapeCanonical.Packed.{full, levels_for}
 use Rattle.archive_btree_layout.specs.Tree.{Tree, items, items_of, entries_of}
 use Rattle.archive_btree_spelling.specs.Parted.{Parted, shares, between}
 use Rattle.archive_btree_spelling.specs.Shown.{branches, node_of, tree_of}
-use Rattle.archive_btree_spelling.proofs.Levels.{levels_hold}
+use Rattle.archive_btree_spelling.proofs.Levels.{levels_hold, above}
 use Rattle.archive_btree_spelling.proofs.Shares.{IsWoven, AreShares, AreLow, Shared, shared}
 use Rattle.archive_btree_spelling.proofs.Divided.{IsDivided, AreDivided, packed_divided}
 use Rattle.archive_btree_spelling.specs.Laws.{TreesArePacked}
-
-above : (n m : ℕ) → nat_le n m ≡ false → m < n
-above n m e = grind (arith, nat_tests)
 
 -- ---- items
 

@@ -27,10 +27,11 @@ use Rattle.archive_forms_laws.specs.Regions.{plain_values}
 use Rattle.archive_btree_spelling.specs.Written.{entry_spelling}
 use Rattle.archive_btree_spelling.specs.Maps.{btree_spelling}
 use Rattle.archive_btree_spelling.proofs.Samples.{maps_are_written_law}
-use Rattle.archive_btree_spelling.specs.Sample.{number_shape, number_spelling}
+use Rattle.archive_btree_spelling.specs.Sample.{number_shape}
 use Rattle.archive_btree_spelling.specs.PackingMaps.{HasTree, HasWrittenMap}
 use Rattle.archive_btree_spelling.specs.PackingLaws.{MapIsPacked, MapsArePacked}
 use Rattle.archive_btree_spelling.proofs.Packed.{written_is_packed_law}
+use Rattle.archive_forms_laws.specs.Sample.{number_spelling}
 
 -- ---- a map that is a root
 

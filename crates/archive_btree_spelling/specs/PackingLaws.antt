@@ -14,8 +14,9 @@ use Rattle.archive_forms_laws.specs.Spelling.{Spelling}
 use Rattle.archive_forms_laws.specs.Regions.{region_piece, region_fits}
 use Rattle.archive_forms_laws.specs.Written.{IsWritten}
 use Rattle.archive_btree_spelling.specs.Maps.{btree_spelling}
-use Rattle.archive_btree_spelling.specs.Sample.{number_shape, number_spelling, map_shape, map_spelling}
+use Rattle.archive_btree_spelling.specs.Sample.{number_shape, map_shape, map_spelling}
 use Rattle.archive_btree_spelling.specs.PackingMaps.{HasTree, HasWrittenMap, IsPackedMap}
+use Rattle.archive_forms_laws.specs.Sample.{number_spelling}
 
 -- the tree of a map in a canonical archive is read, also where the root reaches the map through shared values
 abbrev pub WrittenIsRead : Type 0

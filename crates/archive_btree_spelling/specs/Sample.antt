@@ -8,12 +8,10 @@ use Rattle.archive_forms_laws.specs.ArchiveShape.Bytes.{zeros}
 use Rattle.archive_forms_laws.specs.Spelling.{Spelling}
 use Rattle.archive_forms_laws.specs.Forms.{leaf_spelling}
 use Rattle.archive_btree_spelling.specs.Maps.{btree_spelling}
+use Rattle.archive_forms_laws.specs.Sample.{number_spelling}
 
 abbrev pub number_shape : Shape
 number_shape = number w32 false
-
-abbrev pub number_spelling : Spelling ℕ (Unit {0})
-number_spelling = leaf_spelling number_shape (to_le_bytes w32) natural
 
 abbrev pub map_shape : Shape
 map_shape = tree 5 number_shape number_shape

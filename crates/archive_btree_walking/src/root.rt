@@ -12,7 +12,7 @@ ghost use Rattle.archive_btree_walking.specs.Maps.{IsMapAt};
 ghost use Rattle.archive_btree_walking.specs.Walks.{WalksIn};
 
 use archive_btree_nodes::{EntryWalk, NodeLayout, Walk};
-use archive_forms_values::target_of;
+use archive_forms_values::{read_word, target_of};
 use archive_shape::Portable;
 
 /// The position of the root of a search tree, and the layout of its nodes.
@@ -27,9 +27,7 @@ pub fn count_at(bytes: &[u8], pos: usize) -> usize
     requires { pos + 8 ≤ length bytes.now }
     ensures { result ≡ word_at bytes.now (pos + 4) }
 {
-    let _len = bytes.len();
-    let at = pos + 4;
-    u32::from_le_bytes([bytes[at], bytes[at + 1], bytes[at + 2], bytes[at + 3]]) as usize
+    read_word(bytes, pos + 4) as usize
 }
 
 /// Returns the root of the map at `pos`, if the map has entries.

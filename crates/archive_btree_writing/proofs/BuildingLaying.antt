@@ -5,6 +5,7 @@ use Rattle.archive_shape_writing.specs.declared.error.Error.{Error}
 use Rattle.archive_shape_writing.specs.declared.error.Error.TheVariants.{OutOfMemory}
 use Rattle.archive_shape_writing.proofs.Joined.{cut_none, cut_first, cut_after, failed_first, failed_after}
 use Rattle.archive_forms_values.specs.FormsLaws.Serializing.{Stopped, of_data}
+use Rattle.archive_forms_writing.proofs.Laying.{wider}
 
 module _ {W : Type 0} (s : WriterMembers W) where
   abbrev pub Wrote : W → W → List ℕ → Type 0
@@ -15,10 +16,6 @@ module _ {W : Type 0} (s : WriterMembers W) where
   Stops old new piece refused e =
       Failed s.OBSERVABLE s.COUNTS s.contents s.pos s.failures s.last_error (of_data s).known old new piece e
       ⊎ Stopped s.OBSERVABLE s.contents s.failures old new piece refused e
-
-  wider : (P Q : Error → Type 0) {e : Error} → (P e → Q e) → (e ≡ OutOfMemory) ⊎ P e → (e ≡ OutOfMemory) ⊎ Q e
-  wider P Q f (inl m) = inl m
-  wider P Q f (inr r) = inr (f r)
 
   -- nothing was written
   pub stops_before : (old : W) (piece : List ℕ) (refused : Error → Type 0) (e : Error) → refused e → Stops old old piece refused e

@@ -12,6 +12,7 @@ use Rattle.archive_btree_nodes.specs.Layout.{IsNodeLayout}
 use Rattle.archive_btree_writing.specs.declared.children.Children.{Children}
 use Rattle.archive_forms_writing.proofs.Joining.{still_zero, piece_behind, zeros_behind, whole_over, set_over}
 use Rattle.archive_btree_writing.specs.Nodes.{kind_of, AreChildren, words_size}
+use Rattle.archive_shape.proofs.ShapeLayout.Places.{keys_follow}
 
 -- ---- where the parts lie
 
@@ -25,10 +26,6 @@ pub record Parts (most : ℕ) (k v : Shape) (words count : ℕ) (layout : NodeLa
   pub values_end : values_offset most k v + count * size_of v ≤ links_offset most k v
   pub links_end : links_offset most k v + words * 4 ≤ link_node_size words most k v
 
-keys_begin : (k : Shape) → 1 ≤ keys_offset k
-unfolding keys_offset
-keys_begin k = le_align_up 1 (align_of k)
-
 pub parts : (most : ℕ) (k v : Shape) (words count : ℕ) (layout : NodeLayout) → IsNodeLayout most k v layout → count ≤ most → link_node_size words most k v < 2 ^ 64 → 0 < words → Parts most k v words count layout
 parts most k v words count layout is few small some =
     let a = keys_fit 1 most k v in
@@ -40,7 +37,7 @@ parts most k v words count layout is few small some =
       keys = omega (arith, is.keys, a, b, d, small, some);
       values = omega (arith, is.values, b, d, small, some);
       links = omega (arith, is.links, d, small, some);
-      begins = keys_begin k;
+      begins = keys_follow k;
       keys_end = omega (arith, a, m₁);
       values_end = omega (arith, b, m₂);
       links_end = d;

@@ -4,6 +4,7 @@ use Rattle.std.specs.Prelude.{Result, MatchResult}
 use Rattle.std.proofs.Math.Seq.{take-suc-set}
 use Rattle.std.specs.Iterator.{Yields}
 use Rattle.archive_forms_values.specs.FormsLaws.Taking.{MayGive, MayGiveAll, GivesAs}
+use Rattle.archive_forms_writing.proofs.Arrays.{take_one}
 
 module _ {I T : Type 0} (gives : I → Option T → I → Type 0) where
   pub Yields-append : (s t u : I) (xs ys : List T) → Yields gives s xs t → Yields gives t ys u → Yields gives s (xs ++ ys) u
@@ -46,10 +47,6 @@ module _ {I T C : Type 0} (view : T → C) (gives : I → Option T → I → Typ
   Yields-as s t (x ∷ xs) p = (p.0, (x, p.1, refl), Yields-as p.0 t xs p.2)
 
 -- ---- lists that are filled from the front
-
-pub take_one : {A : Type 0} (n : ℕ) (x : A) → 0 < n → take 1 (replicate n x) ≡ x ∷ []
-take_one zero x h = absurd (omega (arith, h))
-take_one (suc n) x h = refl
 
 pub take_set : {A : Type 0} (xs : List A) (i : ℕ) (x : A) → i < length xs → take (i + 1) (set xs i x) ≡ take i xs ++ x ∷ []
 take_set xs i x h = let one : i + 1 ≡ suc i = omega arith in ap (λ n. take n (set xs i x)) one ∙ take-suc-set xs i x h

@@ -26,6 +26,7 @@ use Rattle.archive_forms_values.proofs.Accepted.{accepted_has_value}
 use Rattle.archive_forms_values.proofs.Inside.{one_held}
 use Rattle.archive_shape.specs.Key.{HeldAt}
 use Rattle.archive_core_validation.specs.Access.{root_at, whole_range, Decides}
+use Rattle.archive_forms_values.proofs.Pointed.{made_same}
 
 -- the size that a type says stops at `usize::MAX`, which is the length of no buffer
 pub root_lies :
@@ -74,10 +75,6 @@ pub decided_has_value :
     → IfOk r (λ _. HasValue s knows bytes pos)
 decided_has_value s knows names bytes pos most (Ok x) known h = root_has_value s knows names bytes [] [] pos (whole_range (length bytes) most) known (none_stand refl) (le_refl (length bytes)) h
 decided_has_value s knows names bytes pos most (Err e) known h = tt
-
-made_same : (w v : Value) → made same (more_values w no_values) ≡ Some v → w ≡ v
-unfolding made
-made_same w v e = cc
 
 -- the value of a root is the one at its position
 pub root_held : (s : Shape) (knows : Names → Type 0) (names : Names) (bytes : List ℕ) (pos : ℕ) (v : Value) (regions : List Region) (visits : List Visit)

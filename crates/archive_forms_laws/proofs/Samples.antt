@@ -58,7 +58,7 @@ optional_list_spells fit =
 abbrev no_keys : Keys
 no_keys k = None
 
-none_to_none : AreOneToOne no_keys
+pub none_to_none : AreOneToOne no_keys
 none_to_none k l a b e f same_type same = absurd (cc)
 
 -- no shared value is in them

@@ -25,6 +25,7 @@ use Rattle.archive_forms_values.specs.Parts.{HasValue}
 use Rattle.archive_forms_values.proofs.Inside.{none_held, one_held}
 use Rattle.archive_forms_rc.specs.Pointers.{IsRcAt}
 use Rattle.archive_forms_rc.specs.WeakPointers.{IsNothingAt, IsWeakAt}
+use Rattle.archive_shape.proofs.Questions.{one_tag}
 
 made_tagged : (t : ℕ) (v : Value) → (w : Value) × (made (tagged t) (more_values v no_values) ≡ Some w)
 unfolding made
@@ -50,12 +51,6 @@ module _ (names : Names) (bytes : List ℕ) (pos : ℕ) (cyclic : Bool) (p : Poi
   pointer_checked k l r tag h = below_checked names bytes pos (weak cyclic p) (tagged 1) _ k l r (pointer_is tag) tt (made_tagged 1) h
 
 -- ---- reading
-
-one_tag : (a b : Bool) (x y : Content) → IsKnown (choose a x (choose b y illegal)) → (a ≡ true) ⊎ (b ≡ true)
-unfolding choose
-one_tag true b x y h = inl refl
-one_tag false true x y h = inr refl
-one_tag false false x y h = absurd h
 
 made_chosen : (tag : ℕ) (vs : Values) (v : Value) → made (tagged tag) vs ≡ Some v → v ≡ chosen tag vs
 unfolding made

@@ -3,3 +3,4 @@ pub mod Counted
 pub mod Pointers
 pub mod Visits
 pub mod WeakPointers
+pub use Rattle.archive_forms_writing.specs as FormsWriting

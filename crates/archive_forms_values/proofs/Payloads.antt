@@ -19,14 +19,9 @@ use Rattle.archive_forms_laws.proofs.Sizes.{behind_tag}
 use Rattle.archive_forms_values.proofs.Tagged.{own_tag, option_fits, none_is, some_is, Payloads, ok_is, err_is, choice_tag, choice_is}
 use Rattle.archive_forms_values.specs.Parts.{HasValue, HasPayload, some_position, IsNoneAt, IsSomeAt, HasSome, outcome_position, both, IsOkAt, IsErrAt, HasOk}
 use Rattle.archive_forms_values.proofs.Inside.{none_held, plain_part, PartHeld}
+use Rattle.archive_shape.proofs.Questions.{one_tag}
 
 -- ---- tags
-
-one_tag : (a b : Bool) (x y : Content) → IsKnown (choose a x (choose b y illegal)) → (a ≡ true) ⊎ (b ≡ true)
-unfolding choose
-one_tag true b x y h = inl refl
-one_tag false true x y h = inr refl
-one_tag false false x y h = absurd h
 
 -- a tag that some value has is one of two
 two_tags : (n : ℕ) (x y : Content) → IsKnown (choose (n == 0) x (choose (n == 1) y illegal)) → (n ≡ 0 → ⊥) → n ≡ 1

@@ -23,7 +23,7 @@ module _ {W : Type 0} (s : WriterMembers W) where
   stopped_before old piece refused e r = inr (record { is_cut = λ t. cut_none (s.contents old) piece; is_quiet = refl; reason = r })
 
   -- what is refused is refused for more
-  wider : (P Q : Error → Type 0) {e : Error} → (P e → Q e) → (e ≡ OutOfMemory) ⊎ P e → (e ≡ OutOfMemory) ⊎ Q e
+  pub wider : (P Q : Error → Type 0) {e : Error} → (P e → Q e) → (e ≡ OutOfMemory) ⊎ P e → (e ≡ OutOfMemory) ⊎ Q e
   wider P Q f (inl m) = inl m
   wider P Q f (inr r) = inr (f r)
 

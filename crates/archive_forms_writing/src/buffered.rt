@@ -128,28 +128,28 @@ pub(crate) fn resolve_through<T: Archive, W: Writer>(
 }
 
 /// The number of own bytes up to which they are written at once.
-const FEW: usize = 64;
+const BUFFER_LEN: usize = 64;
 
-/// The last position at which `FEW` bytes may begin.
-const LAST_OF_FEW: usize = usize::MAX - FEW;
+/// The last position at which `BUFFER_LEN` bytes may begin.
+const LAST_BUFFER_POSITION: usize = usize::MAX - BUFFER_LEN;
 
-/// Returns `true` only if `count` adjacent elements have at most `FEW` bytes and end before position 2^64 where they
+/// Returns `true` only if `count` adjacent elements have at most `BUFFER_LEN` bytes and end before position 2^64 where they
 /// begin at `pos`.
 pub(crate) fn are_few<T: Portable>(count: usize, pos: usize) -> bool
-    ensures { MatchBool result ((count * size_of T.shape ≤ FEW) × (pos + count * size_of T.shape < 2 ^ 64)) ⊤ }
+    ensures { MatchBool result ((count * size_of T.shape ≤ BUFFER_LEN) × (pos + count * size_of T.shape < 2 ^ 64)) ⊤ }
 {
     let size = T::SIZE;
     let whole = count.saturating_mul(size);
-    if whole > FEW {
+    if whole > BUFFER_LEN {
         return false;
     }
-    if pos > LAST_OF_FEW {
+    if pos > LAST_BUFFER_POSITION {
         return false;
     }
     true
 }
 
-/// Writes the own bytes of adjacent items, which are at most `FEW` bytes, at once. Their data was written before.
+/// Writes the own bytes of adjacent items, which are at most `BUFFER_LEN` bytes, at once. Their data was written before.
 pub(crate) fn resolve_at_once<T: Archive, W: Writer>(
     items: &[T],
     kept: &[T::Resolver],
@@ -157,14 +157,14 @@ pub(crate) fn resolve_at_once<T: Archive, W: Writer>(
 ) -> Result<(), Error>
     requires room { W.failures writer.old < 2 ^ 64 - 1 }
     requires made { (st : State) × (kept.now ≡ resolvers T.spelling items.now st) }
-    requires few { length items.now * size_of T.Archived.shape ≤ FEW }
+    requires few { length items.now * size_of T.Archived.shape ≤ BUFFER_LEN }
     requires stands { W.pos writer.old + length items.now * size_of T.Archived.shape < 2 ^ 64 }
     ensures { (st : State) → kept.now ≡ resolvers T.spelling items.now st
         → Lays W.Writer writer.old writer.new (owns T.spelling items.now st (W.pos writer.old))
         (λ _. owns_fit T.spelling T.Archived.shape items.now st (W.pos writer.old))
         (owns_refused T.spelling T.Archived.shape items.now st (W.pos writer.old)) result }
 {
-    let mut buffer = [0; FEW];
+    let mut buffer = [0; BUFFER_LEN];
     match resolve_all(items, kept, writer.pos(), &mut buffer) {
         Ok(filled) => writer.write(&buffer[..filled]),
         Err(e) => Err(e),

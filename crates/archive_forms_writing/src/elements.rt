@@ -19,10 +19,10 @@ const LAST_POSITION: usize = u32::MAX as usize;
 const BUFFER: usize = 256;
 
 /// The number of resolvers up to which they are kept in an array, without an allocation.
-const FEW: usize = 16;
+const MAX_KEPT: usize = 16;
 
 /// The greatest size in bytes of an option of a resolver that is kept in an array.
-const SMALL: usize = 32;
+const MAX_KEPT_SIZE: usize = 32;
 
 /// Writes the data of an element that the serializer can archive. It is the step for such elements. The result names
 /// the archived form, because a closure over `T` can be passed on only if its type does.
@@ -70,15 +70,15 @@ fn serialize_data_each<
     Ok(all)
 }
 
-/// Writes the data of each item by the step. There are at least one and at most `FEW` items. Their resolvers are the
+/// Writes the data of each item by the step. There are at least one and at most `MAX_KEPT` items. Their resolvers are the
 /// first ones of the result.
 fn serialize_few_each<
     T: Archive,
     S: Writer + Allocator,
     F: Fn(&T, &mut S) -> Result<(T::Resolver, PhantomData<T::Archived>), Error>,
->(items: &[T], serializer: &mut S, step: F) -> Result<[T::Resolver; FEW], Error>
+>(items: &[T], serializer: &mut S, step: F) -> Result<[T::Resolver; MAX_KEPT], Error>
     requires some { 0 < length items.now }
-    requires few { length items.now ≤ FEW }
+    requires few { length items.now ≤ MAX_KEPT }
     requires room { S.failures serializer.old < 2 ^ 64 - 1 }
     requires state { HasState S.pos S.known serializer.old }
     requires takes { StepTakes F.Fn S.Writer step items.now }
@@ -92,7 +92,7 @@ fn serialize_few_each<
         Ok(done) => done.0,
         Err(e) => return Err(e),
     };
-    let mut kept = [first; FEW];
+    let mut kept = [first; MAX_KEPT];
     for i in 1..items.len() {
         match step(&items[i], serializer) {
             Ok(done) => kept[i] = done.0,
@@ -189,7 +189,7 @@ pub fn serialize_slice_each<
     ensures { Serializes (slice_spelling T.Archived.shape T.spelling) S.Writer items.now serializer.old serializer.new result }
 {
     let none: Option<T::Resolver> = None;
-    if size_of_val(&none) <= SMALL && !items.is_empty() && items.len() <= FEW {
+    if size_of_val(&none) <= MAX_KEPT_SIZE && !items.is_empty() && items.len() <= MAX_KEPT {
         let few = match serialize_few_each(items, serializer, step) {
             Ok(few) => few,
             Err(e) => return Err(e),

@@ -57,7 +57,7 @@ fits_more cap hashes places hash place h e = first_fit_push cap [] hashes places
 abbrev pub Tags : List ℕ → Type 0
 Tags hashes = All (λ h. h < 2 ^ 64) hashes
 
-tag_below : (h : ℕ) → h < 2 ^ 64 → hash_tag h < 128
+pub tag_below : (h : ℕ) → h < 2 ^ 64 → hash_tag h < 128
 unfolding hash_tag
 tag_below h l = omega arith
 

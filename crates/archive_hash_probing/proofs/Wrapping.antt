@@ -5,20 +5,13 @@ use Rattle.archive_shape_canonical.specs.ShapeLayout.Content.{control_count, wra
 use Rattle.archive_shape_canonical.specs.ShapeLayout.Bytes.{align_up}
 use Rattle.archive_shape_canonical.specs.Strides.{sixteens}
 use Rattle.archive_hash_probing.specs.Controls.{AreControls}
+use Rattle.archive_hash_probing.proofs.Computed.{left_true, right_true}
 
 pub record Wraps (controls : List ℕ) (cap : ℕ) : Type 0 where
   pub repeated : (c : ℕ) → cap ≤ c → c < 2 * cap → c < length controls → get_or controls c 0 ≡ get_or controls (c - cap) 0
   pub behind : (c : ℕ) → 2 * cap ≤ c → c < length controls → 128 ≤ get_or controls c 0
 
 -- ---- from the test
-
-left_true : (a b : Bool) → (a && b) ≡ true → a ≡ true
-left_true true b h = refl
-left_true false b h = absurd (true≢false (sym h))
-
-right_true : (a b : Bool) → (a && b) ≡ true → b ≡ true
-right_true true b h = h
-right_true false b h = absurd (true≢false (sym h))
 
 wraps_at : (cap : ℕ) (cs : List ℕ) (i : ℕ) (xs : List ℕ) → wraps cap cs i xs ≡ true → (k : ℕ) → k < length xs
     → (ltb (i + k) cap || cond (ltb (i + k) (2 * cap)) (eqb (get_or xs k 0) (get_or cs (i + k - cap) 0)) (leb 128 (get_or xs k 0))) ≡ true

@@ -31,6 +31,7 @@ use Rattle.archive_forms_values.proofs.Pointed.{made_same, made_whole}
 use Rattle.archive_hash_walking.specs.Tables.{Buckets, no_buckets, item_position, item_positions, AreItemsAt, IsTableOf, TableIsRead, OneTable}
 use Rattle.archive_hash_walking.specs.Tables.IsTableAt.{has_none, has_buckets}
 use Rattle.archive_shape.proofs.ShapeLayout.Windows.{word_within}
+use Rattle.archive_hash_checking.proofs.TableParts.{places_first}
 
 both_true : (a b : Bool) → (a && b) ≡ true → (a ≡ true) × (b ≡ true)
 both_true true b e = (refl, e)
@@ -136,10 +137,6 @@ full_count : (controls : List ℕ) (n : ℕ) → n ≤ length controls
     → count_by (λ c. nat_lt c 128) (take n controls) ≡ length (filter (λ p. nat_lt (slice_index controls p) 128) (range_with_len 0 n))
 full_count controls n long = sym (length-filter (λ c. nat_lt c 128) (take n controls)) ∙ tags_of_full controls n 0 (omega arith)
 
-pub cap_fits : (cap : ℕ) → cap ≤ control_count cap
-unfolding control_count
-cap_fits cap = let up = le_align_up cap 16 in omega arith
-
 -- a table is read, its controls do not begin after its position, and what its items claim ascends before its buckets
 pub record IsRead (s : Shape) (knows : Names → Type 0) (bytes : List ℕ) (pos : ℕ) (value : Value) : Type 0 where
   pub of : IsTableOf s knows bytes pos value
@@ -209,7 +206,7 @@ module _ (s : Shape) (knows : Names → Type 0) (bytes : List ℕ) (pos : ℕ) (
       let own_within = h.own_within in
       let within : target + control_count cap ≤ length bytes = omega (arith, ends, own_within, room) in
       let count : length controls ≡ control_count cap = length-window bytes target (control_count cap) within in
-      let fits = cap_fits cap in
+      let fits = places_first cap in
       let places : Buckets = record { target = target; cap = cap; controls = controls } in
       let value_is : value ≡ group claims.vs = made_whole claims.vs value claims.is_made in
       let items = items_stand s knows bytes h.names h.known target cap room (omega (arith, within)) controls cap 0 (omega arith) (omega (arith, count, fits)) (suc h.level) h.low h.inside claims.vs claims.within h.before h.after claims.all inner.claimed in

@@ -6,7 +6,7 @@ ghost use Rattle.archive_forms_values.specs.Parts.{HasValue};
 ghost use Rattle.archive_hash_walking.specs.Tables.{Buckets, no_buckets, IsTableAt};
 ghost use Rattle.archive_hash_walking.specs.Places.{held};
 
-use archive_forms_values::target_of;
+use archive_forms_values::{read_word, target_of};
 use archive_hash_checking::controls_at;
 use archive_shape::Portable;
 
@@ -27,8 +27,7 @@ pub fn number_at(bytes: &[u8], at: usize) -> usize
     ensures value { result ≡ word_at bytes.now at }
     ensures bound { result < 2 ^ 32 }
 {
-    let _len = bytes.len();
-    u32::from_le_bytes([bytes[at], bytes[at + 1], bytes[at + 2], bytes[at + 3]]) as usize
+    read_word(bytes, at) as usize
 }
 
 /// Returns the places of the table at `pos`, or `None` if it has no items.

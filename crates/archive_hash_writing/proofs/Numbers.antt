@@ -10,20 +10,16 @@ use Rattle.archive_forms_writing.specs.FormsLaws.SpellingLaws.{KnowsAll}
 use Rattle.archive_forms_writing.proofs.FormsLaws.Leaves.{leaf_spells}
 use Rattle.archive_forms_writing.proofs.FormsLaws.Written.{is_written}
 use Rattle.archive_hash_writing.specs.Fitted.{by_place, capacity_of, controls_of}
-use Rattle.archive_hash_writing.specs.Sample.{number_shape, number_spelling, sample_shape}
+use Rattle.archive_hash_writing.specs.Sample.{number_shape, sample_shape}
 use Rattle.archive_hash_writing.specs.Tables.{table_spelling}
 use Rattle.archive_hash_writing.specs.Laws.{TablesAreWritten, EachIsFilled}
 use Rattle.archive_hash_writing.proofs.SpellingTables.{table_spells}
-
-number_spells : (fit : Fit) → Spells fit number_shape KnowsAll number_spelling
-number_spells fit = leaf_spells fit number_shape KnowsAll (to_le_bytes w32) natural tt
+use Rattle.archive_forms_writing.proofs.FormsLaws.Samples.{number_spells, none_to_none}
+use Rattle.archive_forms_writing.specs.FormsLaws.Sample.{number_spelling}
 
 -- no shared value is in them
 abbrev no_keys : Keys
 no_keys k = None
-
-none_to_none : AreOneToOne no_keys
-none_to_none k l a b e f same_type same = absurd (cc)
 
 none_shared : (fit : Fit) (xs : List ℕ) → all_suit number_spelling fit no_keys xs
 none_shared fit [] = tt

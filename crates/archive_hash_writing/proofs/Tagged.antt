@@ -9,7 +9,7 @@ use Rattle.std.proofs.lemmas.List.Sums.{sum_by-cons}
 use Rattle.std.proofs.lemmas.List.Elements.{All-nil, All-cons, All-head, All-tail}
 use Rattle.archive_hash_probing.specs.ShapeCanonical.FirstFit.{control_at, hash_tag, item_at, placed, present, written_controls}
 use Rattle.archive_hash_probing.specs.ShapeCanonical.Strides.{sixteens}
-use Rattle.archive_hash_probing.proofs.FirstFits.{Tags, length-written, written_low}
+use Rattle.archive_hash_probing.proofs.FirstFits.{Tags, length-written, written_low, tag_below}
 
 -- a control of a place with or without an item
 abbrev pub IsTagOf : {A : Type 0} → Option A → ℕ → Type 0
@@ -22,10 +22,6 @@ AreTagged [] [] = ⊤
 AreTagged [] (c ∷ cs) = ⊥
 AreTagged (o ∷ os) [] = ⊥
 AreTagged (o ∷ os) (c ∷ cs) = IsTagOf o c × AreTagged os cs
-
-tag_below : (h : ℕ) → h < 2 ^ 64 → hash_tag h < 128
-unfolding hash_tag
-tag_below h l = omega arith
 
 -- up to the number of places
 first_controls : (cap : ℕ) (hashes qs : List ℕ) → take cap (written_controls cap hashes qs) ≡ map (control_at hashes qs) (range_with_len 0 cap)

@@ -8,12 +8,10 @@ use Rattle.archive_shape.specs.Bytes.{zeros}
 use Rattle.archive_forms_writing.specs.FormsLaws.Spelling.{Spelling}
 use Rattle.archive_forms_writing.specs.FormsLaws.Forms.{leaf_spelling}
 use Rattle.archive_hash_writing.specs.Tables.{table_spelling}
+use Rattle.archive_forms_writing.specs.FormsLaws.Sample.{number_spelling}
 
 abbrev pub number_shape : Shape
 number_shape = number w32 false
-
-abbrev pub number_spelling : Spelling ℕ (Unit {0})
-number_spelling = leaf_spelling number_shape (to_le_bytes w32) natural
 
 -- a hash of numbers whose tag is 55, and whose other bits are the number
 abbrev pub sample_hash : ℕ → ℕ

@@ -13,7 +13,7 @@ use Rattle.archive_shape_writing.specs.declared.error.Error.TheVariants.{Unalign
 pub one_error : (r : Result (Unit {0}) Error) (e d : Error) → r ≡ Err e → r ≡ Err d → e ≡ d
 one_error r e d h i = cc
 
-no_error : (r : Result (Unit {0}) Error) (e : Error) → r ≡ Err e → r ≡ Ok tt → ⊥
+pub no_error : (r : Result (Unit {0}) Error) (e : Error) → r ≡ Err e → r ≡ Ok tt → ⊥
 no_error r e h i = cc
 
 -- the test of a place refuses what lies outside the range, or is not aligned

@@ -36,7 +36,7 @@ unfolding following
 leads_to None f h = absurd h
 leads_to (Some t) f h = refl
 
-one_tag : (a b : Bool) (x y : Content) → IsKnown (choose a x (choose b y illegal)) → (a ≡ true) ⊎ (b ≡ true)
+pub one_tag : (a b : Bool) (x y : Content) → IsKnown (choose a x (choose b y illegal)) → (a ≡ true) ⊎ (b ≡ true)
 unfolding choose
 one_tag true b x y h = inl refl
 one_tag false true x y h = inr refl

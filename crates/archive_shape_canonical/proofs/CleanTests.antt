@@ -89,7 +89,7 @@ abbrev pub covers : List Run → ℕ → Bool
 covers [] i = false
 covers (r ∷ rs) i = (nat_le r.start i && nat_lt i (r.start + r.size)) || covers rs i
 
-either_true : (a b : Bool) → (a || b) ≡ true → (a ≡ true) ⊎ (b ≡ true)
+pub either_true : (a b : Bool) → (a || b) ≡ true → (a ≡ true) ⊎ (b ≡ true)
 either_true true b e = inl refl
 either_true false b e = inr e
 

@@ -32,7 +32,7 @@ is_legal (tagged t) e = tt
 is_legal (woven n) e = tt
 is_legal (total n) e = tt
 
-tests_legal : (l : Label) → IsLegal l → legal l ≡ true
+pub tests_legal : (l : Label) → IsLegal l → legal l ≡ true
 tests_legal (leaf v) h = refl
 tests_legal (written bs) h = is_utf8-from_IsUtf8 bs h
 tests_legal same h = refl
@@ -51,7 +51,7 @@ it_fits low high s e =
       eqb-true (s.start % s.align) 0 (both_right (nat_le (s.start + s.size) high) _ rest),
     )
 
-tests_fit : (low high : ℕ) (s : Span) → low ≤ s.start → s.start + s.size ≤ high → s.start % s.align ≡ 0 → fits low high s ≡ true
+pub tests_fit : (low high : ℕ) (s : Span) → low ≤ s.start → s.start + s.size ≤ high → s.start % s.align ≡ 0 → fits low high s ≡ true
 unfolding fits
 tests_fit low high s a b c =
     both _ _ (le-leb low s.start a) (both _ _ (le-leb (s.start + s.size) high b) (ap (λ n. n == 0) c))
@@ -68,7 +68,7 @@ visit_is v t q len e =
     made_of : (s t : ℕ) (r q : Pointee) (m n : ℕ) (w : Value) → s ≡ t → r ≡ q → m ≡ n → ◌≡◌ {A = Visit} (record { pos = s; pointee = r; len = m; value = w }) (record { pos = t; pointee = q; len = n; value = w })
     made_of s t r q m n w a b c = cc
 
-visit_itself : (t : ℕ) (q : Pointee) (len : ℕ) (v : Value) → same_visit (record { pos = t; pointee = q; len = len; value = v }) t q len ≡ true
+pub visit_itself : (t : ℕ) (q : Pointee) (len : ℕ) (v : Value) → same_visit (record { pos = t; pointee = q; len = len; value = v }) t q len ≡ true
 unfolding same_visit
 visit_itself t q len v = both _ _ (equal t) (both _ _ (pointee_itself q) (equal len))
 
@@ -84,7 +84,7 @@ opened_is o t q len e =
     made_of : (s t : ℕ) (r q : Pointee) (m n : ℕ) → s ≡ t → r ≡ q → m ≡ n → ◌≡◌ {A = OpenShared} (record { pos = s; pointee = r; len = m }) (record { pos = t; pointee = q; len = n })
     made_of s t r q m n a b c = cc
 
-opened_itself : (t : ℕ) (q : Pointee) (len : ℕ) → same_opened (record { pos = t; pointee = q; len = len }) t q len ≡ true
+pub opened_itself : (t : ℕ) (q : Pointee) (len : ℕ) → same_opened (record { pos = t; pointee = q; len = len }) t q len ≡ true
 unfolding same_opened
 opened_itself t q len = both _ _ (equal t) (both _ _ (pointee_itself q) (equal len))
 

@@ -16,33 +16,10 @@ use Rattle.archive_shape_layout.specs.Holds.Holds.{holds_plain, holds_claimed, h
 use Rattle.archive_shape_layout.specs.Holds.HoldAll.{holds_none, holds_more}
 use Rattle.archive_shape_layout.proofs.SameShape.{pointee_itself, both, equal}
 use Rattle.archive_shape_layout.proofs.Ascent.{Ascends-append, end_after-grows}
-use Rattle.archive_shape_layout.proofs.Evaluated.{ascends_below}
+use Rattle.archive_shape_layout.proofs.Evaluated.{ascends_below, tests_fit, visit_itself, tests_legal, opened_itself}
 use Rattle.archive_shape_layout.proofs.Evaluate.{Answer, found, refused, Reading, Readings, Evaluator, legal, valued, finished, of_plain, of_claimed, fits, again, same_visit, same_opened, of_first, of_counted, counted_part, one_part, joined, and_then, evaluate_all, alone, evaluate, evaluate_root}
 
 -- ---- tests
-
-legal_passes : (l : Label) → IsLegal l → legal l ≡ true
-legal_passes (leaf v) h = refl
-legal_passes (written bs) h = is_utf8-from_IsUtf8 bs h
-legal_passes same h = refl
-legal_passes second h = refl
-legal_passes whole h = refl
-legal_passes (tagged t) h = refl
-legal_passes (woven n) h = refl
-legal_passes (total n) h = refl
-
-fitting_passes : (low high : ℕ) (s : Span) → low ≤ s.start → s.start + s.size ≤ high → s.start % s.align ≡ 0 → fits low high s ≡ true
-unfolding fits
-fitting_passes low high s a b c =
-    both _ _ (le-leb low s.start a) (both _ _ (le-leb (s.start + s.size) high b) (ap (λ n. n == 0) c))
-
-visit_passes : (t : ℕ) (q : Pointee) (len : ℕ) (v : Value) → same_visit (record { pos = t; pointee = q; len = len; value = v }) t q len ≡ true
-unfolding same_visit
-visit_passes t q len v = both _ _ (equal t) (both _ _ (pointee_itself q) (equal len))
-
-open_passes : (t : ℕ) (q : Pointee) (len : ℕ) → same_opened (record { pos = t; pointee = q; len = len }) t q len ≡ true
-unfolding same_opened
-open_passes t q len = both _ _ (equal t) (both _ _ (pointee_itself q) (equal len))
 
 -- the region that is claimed last, and those inside it
 record Claim (level low high : ℕ) (within : List Region) (s : Span) : Type 0 where
@@ -56,7 +33,7 @@ claim_of level low high within s a =
     let own : Follows (end_after low within) high (region_of s level) = both.1.0 in
     let after = own.after in
     let grows = end_after-grows low high within both.0 in
-    record { inner = ascends_below low high s.start within both.0 after; passes = fitting_passes low high s (omega arith) own.inside own.aligned }
+    record { inner = ascends_below low high s.start within both.0 after; passes = tests_fit low high s (omega arith) own.inside own.aligned }
 
 -- ---- one step
 
@@ -75,7 +52,7 @@ same_readings {vs = vs} {ws = ws} {rs = rs} {qs = qs} {a = a} {b = b} x y z = ap
 made_passes : (l : Label) (vs : Values) (v : Value) (regions : List Region) (after : List Visit)
     → IsLegal l → made l vs ≡ Some v → finished (legal l) (valued regions after (made l vs)) ≡ reading v regions after
 unfolding finished valued
-made_passes l vs v regions after legal m = ap₂ (λ b w. finished b (valued regions after w)) (legal_passes l legal) m
+made_passes l vs v regions after legal m = ap₂ (λ b w. finished b (valued regions after w)) (tests_legal l legal) m
 
 module _ (all : Evaluator) (level : ℕ) (inside : List OpenShared) (low high : ℕ) (before : List Visit) where
   plain_step : (c : Content) (l : Label) (ps : List Part) (vs : Values) (v : Value) (regions : List Region) (after : List Visit)
@@ -120,12 +97,12 @@ module _ (all : Evaluator) (level : ℕ) (inside : List OpenShared) (low high : 
   later_step : (cyclic : Bool) (t : ℕ) (q : Pointee) (len : ℕ) (v : Value)
       → counted_part all level inside low high before cyclic t q len None (Some (record { pos = t; pointee = q; len = len; value = v })) ≡ reading (counted t v) [] before
   unfolding counted_part again
-  later_step cyclic t q len v = ap (λ b. again b (counted t v) before) (visit_passes t q len v)
+  later_step cyclic t q len v = ap (λ b. again b (counted t v) before) (visit_itself t q len v)
 
   back_step : (t : ℕ) (q : Pointee) (len : ℕ) (w : Option Visit)
       → counted_part all level inside low high before true t q len (Some (record { pos = t; pointee = q; len = len })) w ≡ reading (back t) [] before
   unfolding counted_part again
-  back_step t q len w = ap (λ b. again b (back t) before) (both true _ refl (open_passes t q len))
+  back_step t q len w = ap (λ b. again b (back t) before) (both true _ refl (opened_itself t q len))
 
 -- ---- from a number of steps on
 

@@ -20,7 +20,7 @@ bytes_low_first-suc j (suc k) n =
     ∙ ap (λ (b : ℕ). b ∷ bytes_low_first (suc j) k (n / 256)) (byte_at-suc j n)
 
 -- the sum of what bytes are worth
-abbrev worth : List ℕ → ℕ → ℕ
+abbrev pub worth : List ℕ → ℕ → ℕ
 worth bs k = sum_through (λ i. byte_worth i (get_or bs i 0)) k
 
 worth-cons : (b : ℕ) (bs : List ℕ) (k : ℕ) → worth (b ∷ bs) (suc k) ≡ b + 256 * worth bs k

@@ -384,7 +384,7 @@ at_laid names pos own (named name size align) = by_name (shape_named names name)
     by_name (Some s) = choose_laid _ (plain Label.same (at pos s ∷ [])) illegal
         (λ e. let same = left_equal (size_of s) size _ e in one_laid (at_fits (pos + 0) (pos + size) pos s (omega arith) (omega arith))) laid_illegal
 
-keys_follow : (k : Shape) → 1 ≤ keys_offset k
+pub keys_follow : (k : Shape) → 1 ≤ keys_offset k
 unfolding keys_offset
 keys_follow k = le_align_up 1 (align_of k)
 

@@ -18,6 +18,7 @@ use Rattle.cabinet_archived.specs.Documents.Walk.Walks.{walks}
 use Rattle.cabinet_archived.specs.Documents.Walk.WalkAll.{walk_more}
 use Rattle.cabinet_archived.proofs.Documents.Places.{Place, shared_here, box_here, absent_here, node_behind, nodes_behind, text_behind, Spot, part_of, parts_at, nodes_from, is_behind, Passes, node_passes, box_passes, behind_passes, list_passes, text_passes, Pays, pays_truth, pays_number, pays_text, pays_shared, pays_option, pays_list, pays_absent, Follows, passes, pays, truth_is, number_is, text_is, behind_is, none_is, some_is, nodes_follow, Leads, leads_nowhere, leads_absent, leads_plain, leads_claimed, leads_counted, led}
 use Rattle.cabinet_archived.proofs.Documents.Nodes.{absent_law, counts}
+use Rattle.cabinet_documents.proofs.Peaks.{flat}
 
 -- ---- how many regions may lie around a place inside `depth` containers
 
@@ -92,9 +93,6 @@ claimed_fit level depth pos (some_is e f) b h = absurd (cc)
 claimed_fit level depth pos (nodes_follow {len = len} start e f) b h = subst (Fit (suc level) depth) (sym f) (nodes_fit (suc level) depth start len (omega (arith, h)))
 
 -- ---- walks
-
-abbrev flat : List (List Stop) → List Stop
-flat runs = flat_map (λ x. x) runs
 
 -- at no place is a node of a search tree
 in_order : {bytes : List ℕ} {k : Place} {l : Label} {qs : List Spot} (s : Span) (ps : List Part) (runs : List (List Stop)) → Follows bytes k l qs → joined (claimed s l ps) runs ≡ flat runs

@@ -10,7 +10,7 @@ mod OwnPlaces
 mod Paths
 mod Payloads
 mod Put
-mod Reached
+pub mod Reached
 pub mod Saves
 mod Standing
 mod Stepping

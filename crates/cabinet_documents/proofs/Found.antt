@@ -8,6 +8,8 @@ use Rattle.std.specs.Cmp.Lexicographic.{slice_cmp, nat_list_cmp_total}
 use Rattle.cabinet_documents.specs.Order.{is_same}
 use Rattle.cabinet_documents.specs.Table.{Slot, Entry, Table, Findable, entry_of, slot_at, key_reach, tag_of, has_key, answers, found, is_numbered, gives}
 use Rattle.cabinet_documents.specs.Audit.{unless, wrong_tag, not_found, tag_faults, search_faults, hashed_faults, kept_faults}
+use Rattle.archive_forms_values.proofs.FormsLaws.ShapeCanonical.CleanTests.{either_true}
+use Rattle.archive_forms_values.proofs.ShapeLayout.SameShape.{both_right}
 
 -- ---- lists
 
@@ -36,10 +38,6 @@ is_among test xs x true t h = record { it = x; is = ap (λ c. cond c (Some x) (f
 is_among test xs x false t (inl h) = absurd (cc)
 is_among test xs x false t (inr h) = record { it = h.it; is = ap (λ c. cond c (Some x) (find test xs)) t ∙ h.is }
 
-either : (a b : Bool) → (a || b) ≡ true → (a ≡ true) ⊎ (b ≡ true)
-either true b e = inl refl
-either false b e = inr e
-
 -- where one place is among them and passes, something is found
 pub finds : (test : ℕ → Bool) (xs : List ℕ) (p : ℕ) → list_any (λ q. p == q) xs ≡ true → test p ≡ true → Finds test xs
 finds test [] p e t = absurd (cc)
@@ -48,7 +46,7 @@ finds test (x ∷ xs) p e t =
     (⊎_elim
     (λ h. let same = eqb-true p x h in inl (subst (λ z. test z ≡ true) same t))
     (λ h. inr (finds test xs p h t))
-    (either (p == x) (list_any (λ q. p == q) xs) e))
+    (either_true (p == x) (list_any (λ q. p == q) xs) e))
 
 pub same_self : (n : ℕ) → (n == n) ≡ true
 same_self n = eq-eqb n n refl
@@ -66,10 +64,6 @@ key_self k = is_level (slice_cmp nat_cmp k k) (let total = nat_list_cmp_total in
 both_true : (a b : Bool) → a ≡ true → b ≡ true → (a && b) ≡ true
 both_true true b e f = f
 both_true false b e f = absurd (cc)
-
-second_true : (a b : Bool) → (a && b) ≡ true → b ≡ true
-second_true true b e = e
-second_true false b e = absurd (cc)
 
 -- ---- tables
 
@@ -93,7 +87,7 @@ look_up_gives t f e c =
     let passes : answers t e.key r.slot.place ≡ true = both_true (slice_index t.controls r.slot.place == tag_of e.key) (has_key (slot_at t.slots r.slot.place) e.key) first second in
     let it = finds (answers t e.key) (key_reach t e.key) r.slot.place r.reached passes in
     let good = found_passes (answers t e.key) (key_reach t e.key) it.it it.is in
-    let holds = second_true (slice_index t.controls it.it == tag_of e.key) (has_key (slot_at t.slots it.it) e.key) good.0 in
+    let holds = both_right (slice_index t.controls it.it == tag_of e.key) (has_key (slot_at t.slots it.it) e.key) good.0 in
     ap (λ o. gives t o e.number) it.is ∙ number_given t f e c it.it (slot_at t.slots it.it) refl holds
 
 tag_is_right : (t : Table) → Findable t → (s : Slot) → Contains t.slots s → tag_faults t s ≡ []

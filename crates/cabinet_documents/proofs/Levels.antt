@@ -32,8 +32,9 @@ use Rattle.cabinet_text_grammar.specs.Tree.{Tree, Trees, leaf, shared, nothing, 
 use Rattle.cabinet_documents.specs.Node.{KnowsNode, node_shape, payloads}
 use Rattle.cabinet_documents.specs.declared.spelling.resolver.NodeResolver.{NodeResolver}
 use Rattle.cabinet_documents.specs.declared.spelling.resolver.NodeResolver.TheVariants as resolver
-use Rattle.cabinet_documents.specs.Spelling.{truth_spelling, number_spelling, string_spelling, shared_string_spelling, boxed_shape, boxed_spelling, maybe_spelling, list_spelling, trees_in, text_in, shared_in, maybe_in, list_in, node_of, refused, spelling_of, node_level}
+use Rattle.cabinet_documents.specs.Spelling.{truth_spelling, number_spelling, shared_string_spelling, boxed_shape, boxed_spelling, maybe_spelling, list_spelling, trees_in, text_in, shared_in, maybe_in, list_in, node_of, refused, spelling_of, node_level}
 use Rattle.cabinet_documents.specs.SpellingLaws.{NodeSpells}
+use Rattle.archive_forms_rc.specs.FormsWriting.Owned.{str_spelling}
 
 module _ (fit : Fit) where
   -- the law of a payload is that of the node with it
@@ -76,7 +77,7 @@ module _ (fit : Fit) where
         node_of_spells 1 (number w64 true) number_spelling (λ _. resolver.Leaf) (λ _. tt) (λ r. refl) (omega arith) refl z (leaf (document.number z))
         (leaf_spells fit (number w64 true) KnowsNode (λ n. to_le_bytes w64 (cast_unsigned w64 n)) integer tt z)
     case_spells n (leaf (document.text s)) less below =
-        node_of_spells 2 text string_spelling resolver.Text text_in (λ r. refl) (omega arith) refl s (leaf (document.text s))
+        node_of_spells 2 text str_spelling resolver.Text text_in (λ r. refl) (omega arith) refl s (leaf (document.text s))
         (kept_spells_at fit text KnowsNode _ _ (λ r. refl) text_spelling s (text_spells fit KnowsNode s))
     case_spells n (shared s) less below =
         node_of_spells 3 (shared_shape false str) shared_string_spelling resolver.Shared shared_in (λ r. refl) (omega arith) refl s (shared s)

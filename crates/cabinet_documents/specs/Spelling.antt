@@ -28,6 +28,7 @@ use Rattle.cabinet_text_grammar.specs.Tree.{Tree, Trees, leaf, shared, nothing, 
 use Rattle.cabinet_documents.specs.Node.{node_shape, payloads}
 use Rattle.cabinet_documents.specs.declared.spelling.resolver.NodeResolver.{NodeResolver}
 use Rattle.cabinet_documents.specs.declared.spelling.resolver.NodeResolver.TheVariants as resolver
+use Rattle.archive_forms_rc.specs.FormsWriting.Owned.{str_spelling}
 
 -- ---- payloads
 
@@ -36,9 +37,6 @@ truth_spelling = leaf_spelling truth truth_bytes boolean
 
 abbrev pub number_spelling : Spelling ℤ (Unit {0})
 number_spelling = leaf_spelling (number w64 true) (λ n. to_le_bytes w64 (cast_unsigned w64 n)) integer
-
-abbrev pub string_spelling : Spelling (List ℕ) StringResolver
-string_spelling = kept_as (λ n. record { pos = n }) (λ r. r.pos) text_spelling
 
 -- a counted pointer to a text, which is written once under the text's number
 abbrev pub shared_string_spelling : Spelling (List ℕ) RcResolver
@@ -106,7 +104,7 @@ refused = record {
 abbrev pub spelling_of : Spelling Tree NodeResolver → Tree → Spelling Tree NodeResolver
 spelling_of w (leaf (document.truth b)) = node_of 0 truth truth_spelling (λ _. resolver.Leaf) (λ _. tt) b
 spelling_of w (leaf (document.number n)) = node_of 1 (number w64 true) number_spelling (λ _. resolver.Leaf) (λ _. tt) n
-spelling_of w (leaf (document.text s)) = node_of 2 text string_spelling resolver.Text text_in s
+spelling_of w (leaf (document.text s)) = node_of 2 text str_spelling resolver.Text text_in s
 spelling_of w (shared s) = node_of 3 (shared_shape false str) shared_string_spelling resolver.Shared shared_in s
 spelling_of w nothing = node_of 4 (option boxed_shape) (maybe_spelling w) resolver.Maybe maybe_in None
 spelling_of w (just t) = node_of 4 (option boxed_shape) (maybe_spelling w) resolver.Maybe maybe_in (Some t)

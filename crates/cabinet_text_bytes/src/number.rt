@@ -8,15 +8,15 @@ use crate::spelling::after_prefix;
 use std::marker::Model;
 
 /// The length of the longest number: a sign and the twenty digits of the greatest number.
-const MOST: usize = 21;
+const MAX_LEN: usize = 21;
 
 /// The distance of the least `i64` from zero.
-const FARTHEST: u64 = 1 << 63;
+const MIN_MAGNITUDE: u64 = 1 << 63;
 
 /// A number as it is written in decimal, without heap memory.
 #[derive(Debug, Drop)]
 pub struct Decimal {
-    bytes: [u8; MOST],
+    bytes: [u8; MAX_LEN],
     start: usize,
 }
 
@@ -31,12 +31,12 @@ impl Model for Decimal {
 }
 
 /// Writes a number's digits at the end of the bytes, and returns the index at which they begin.
-fn put_digits(bytes: &mut [u8; MOST], number: u64) -> usize
+fn put_digits(bytes: &mut [u8; MAX_LEN], number: u64) -> usize
     ensures digits { drop result bytes.new ≡ decimal number }
     ensures before { 0 < result }
     ensures within { result ≤ 20 }
 {
-    let mut start = MOST - 1;
+    let mut start = MAX_LEN - 1;
     let mut rest = number;
     while rest >= 10 {
         bytes[start] = b'0' + (rest % 10) as u8;
@@ -52,7 +52,7 @@ impl Decimal {
     pub fn new(number: i64) -> Decimal
         ensures { result ≡ signed_decimal number }
     {
-        let mut bytes = [0; MOST];
+        let mut bytes = [0; MAX_LEN];
         let mut start = put_digits(&mut bytes, number.unsigned_abs());
         if number < 0 {
             start -= 1;
@@ -65,7 +65,7 @@ impl Decimal {
     pub fn unsigned(number: u64) -> Decimal
         ensures { result ≡ decimal number }
     {
-        let mut bytes = [0; MOST];
+        let mut bytes = [0; MAX_LEN];
         let start = put_digits(&mut bytes, number);
         Decimal { bytes, start }
     }
@@ -115,7 +115,7 @@ pub fn read_count(digits: &[u8]) -> Option<u64>
 fn below_zero(distance: u64) -> Option<i64>
     ensures { MatchOption result ((n : ℤ) → FitsSigned w64 n → signed_decimal n ≢ 45 ∷ decimal distance) (λ n. FitsSigned w64 n × (signed_decimal n ≡ 45 ∷ decimal distance)) }
 {
-    if distance == 0 || distance > FARTHEST {
+    if distance == 0 || distance > MIN_MAGNITUDE {
         return None;
     }
     Some(-1 - (distance - 1) as i64)
@@ -134,7 +134,7 @@ pub fn read_number(bytes: &[u8]) -> Option<i64>
     let Some(count) = read_count(bytes) else {
         return None;
     };
-    if count < FARTHEST {
+    if count < MIN_MAGNITUDE {
         Some(count as i64)
     } else {
         None

@@ -17,9 +17,11 @@ pub use keys::{key_has_text, text_has_key};
 pub use texts::{read_back, text_or_fault};
 
 mod cause;
+mod depth;
 mod laws;
 
 pub use cause::Cause;
+pub use depth::MAX_DEPTH;
 pub use laws::{
     change_keeps_document, fault_refuses, one_document, one_fault, one_line, only_done_changes,
 };

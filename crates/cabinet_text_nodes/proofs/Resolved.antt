@@ -37,13 +37,14 @@ use Rattle.cabinet_text_grammar.specs.Tree.{Tree, depth}
 use Rattle.cabinet_documents.specs.Node.{node_shape, payloads, KnowsNode}
 use Rattle.cabinet_documents.specs.declared.spelling.resolver.NodeResolver.{NodeResolver}
 use Rattle.cabinet_documents.specs.declared.spelling.resolver.NodeResolver.TheVariants as resolver
-use Rattle.cabinet_documents.specs.Spelling.{truth_spelling, number_spelling, string_spelling, shared_string_spelling, boxed_shape, boxed_spelling, maybe_spelling, list_spelling, text_in, shared_in, maybe_in, list_in, node_of, refused, node_level, node_spelling}
+use Rattle.cabinet_documents.specs.Spelling.{truth_spelling, number_spelling, shared_string_spelling, boxed_shape, boxed_spelling, maybe_spelling, list_spelling, text_in, shared_in, maybe_in, list_in, node_of, refused, node_level, node_spelling}
 use Rattle.cabinet_documents.proofs.Levels.{node_spells_law}
 use Rattle.cabinet_text_nodes.specs.Archived.{archived_as, tree_within, trees_within}
 use Rattle.cabinet_text_nodes.specs.View.{node_tree, node_trees}
 use Rattle.cabinet_text_nodes.specs.declared.node.Node.{Node}
 use Rattle.cabinet_text_nodes.specs.declared.node.Node.TheVariants as node
 use Rattle.cabinet_text_nodes.proofs.Views.{node_tree-bool, node_tree-int, node_tree-text, node_tree-shared, node_tree-none, node_tree-some, node_tree-list}
+use Rattle.archive_forms_writing.specs.Owned.{str_spelling}
 
 -- ---- payloads by themselves
 
@@ -172,13 +173,13 @@ module _ (r : NodeResolver) (bytes set_bytes new final : List ℕ) (start pos fr
       (n : Node) (s : String Global) → n ≡ node.Text s
       → set_bytes ≡ set bytes start 2 → from ≡ start + 4 → there ≡ pos + 4
       → (k : StringResolver) → k ≡ text_in r
-      → Resolves string_spelling (string_bytes s) k there from set_bytes new result
+      → Resolves str_spelling (string_bytes s) k there from set_bytes new result
       → Resolves archived_as n r pos start bytes final result
   text_resolved n s is is_set is_from is_there k kept h =
       let x = string_bytes s in
       let t = tree.leaf (tree.text x) in
       as_tree n t (ap node_tree is ∙ node_tree-text s)
-      (kind_resolved 2 4 text string_spelling resolver.Text text_in text_place x t (λ q p f. (text_spells (first_fit (λ _. 0)) KnowsNode x).sized q.pos p f) is_set is_from is_there k kept h)
+      (kind_resolved 2 4 text str_spelling resolver.Text text_in text_place x t (λ q p f. (text_spells (first_fit (λ _. 0)) KnowsNode x).sized q.pos p f) is_set is_from is_there k kept h)
 
   pub shared_resolved :
       (n : Node) (s : RcStr Global) → n ≡ node.Shared s
@@ -250,6 +251,6 @@ own_refused_as n t r pos is h = subst (λ u. node_spelling.own_refused u r pos I
 
 -- what is kept of a text was made of it
 pub text_made : (n : Node) (s : String Global) (r : NodeResolver) (k : StringResolver) → n ≡ node.Text s → k ≡ text_in r
-    → (st : State) × (r ≡ archived_as.resolver n st) → (st : State) × (k ≡ string_spelling.resolver (string_bytes s) st)
+    → (st : State) × (r ≡ archived_as.resolver n st) → (st : State) × (k ≡ str_spelling.resolver (string_bytes s) st)
 text_made n s r k is kept made =
     (made.0, kept ∙ ap text_in (made.1 ∙ ap (λ t. node_spelling.resolver t made.0) (ap node_tree is ∙ node_tree-text s)))

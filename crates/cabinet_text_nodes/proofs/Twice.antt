@@ -33,7 +33,7 @@ or_true : (b c : Bool) → c ≡ true → (b || c) ≡ true
 or_true true c h = refl
 or_true false c h = h
 
-either : (b c : Bool) → (b || c) ≡ true → (b ≡ true) ⊎ (c ≡ true)
+pub either : (b c : Bool) → (b || c) ≡ true → (b ≡ true) ⊎ (c ≡ true)
 either true c h = inl refl
 either false c h = inr h
 

@@ -35,13 +35,14 @@ use Rattle.cabinet_text_grammar.specs.Tree.{Tree, Pairs, depth}
 use Rattle.cabinet_documents.specs.Node.{node_shape}
 use Rattle.cabinet_documents.specs.declared.spelling.resolver.NodeResolver.{NodeResolver}
 use Rattle.cabinet_documents.specs.declared.spelling.resolver.NodeResolver.TheVariants as resolver
-use Rattle.cabinet_documents.specs.Spelling.{string_spelling, maybe_spelling, list_spelling, trees_in, refused, node_level, node_spelling}
+use Rattle.cabinet_documents.specs.Spelling.{maybe_spelling, list_spelling, trees_in, refused, node_level, node_spelling}
 use Rattle.cabinet_documents.proofs.Agreeing.{one_level_is_written_law}
 use Rattle.cabinet_text_nodes.specs.Archived.{archived_as, tree_within, trees_within, most_within}
 use Rattle.cabinet_text_nodes.specs.View.{trees_of, node_tree, node_trees}
 use Rattle.cabinet_text_nodes.specs.declared.node.Node.{Node}
 use Rattle.cabinet_text_nodes.specs.declared.node.Node.TheVariants as node
 use Rattle.cabinet_text_nodes.proofs.Views.{node_tree-text, node_tree-shared, node_tree-none, node_tree-some, node_tree-list}
+use Rattle.archive_forms_writing.specs.Owned.{str_spelling}
 
 -- ---- a list of values that are seen as others is archived as the list of those
 
@@ -177,12 +178,12 @@ module _ {W : Type 0} (m : WriterMembers W) (n : Node) (old new : W) where
   as_level t result is h =
       subst (λ u. Serializes node_spelling m u old new result) (sym is) (one_level_is_written_law m t old new result h)
 
-  pub text_wrote : (s : String Global) (r : StringResolver) → n ≡ node.Text s → Serializes string_spelling m (string_bytes s) old new (Ok r) → Serializes archived_as m n old new (Ok (resolver.Text r))
+  pub text_wrote : (s : String Global) (r : StringResolver) → n ≡ node.Text s → Serializes str_spelling m (string_bytes s) old new (Ok r) → Serializes archived_as m n old new (Ok (resolver.Text r))
   text_wrote s r is h =
       as_level (tree.leaf (tree.text (string_bytes s))) (Ok (resolver.Text r)) (ap node_tree is ∙ node_tree-text s)
       (λ st at. let o = h st at in (o.0, (ap (λ q. resolver.Text q) o.1.0, o.1.1, o.1.2)))
 
-  pub text_refused : (s : String Global) (e : Error) → n ≡ node.Text s → Serializes string_spelling m (string_bytes s) old new (Err e) → Serializes archived_as m n old new (Err e)
+  pub text_refused : (s : String Global) (e : Error) → n ≡ node.Text s → Serializes str_spelling m (string_bytes s) old new (Err e) → Serializes archived_as m n old new (Err e)
   text_refused s e is h = as_level (tree.leaf (tree.text (string_bytes s))) (Err e) (ap node_tree is ∙ node_tree-text s) h
 
   pub shared_wrote : (s : RcStr Global) (t : List ℕ) (pos : ℕ) → n ≡ node.Shared s → t ≡ rc_str_bytes s

@@ -14,6 +14,7 @@ use crate::leaf::Leaf;
 use crate::line::Step;
 use crate::node::Node;
 use crate::refusal::DocumentRefusal;
+use cabinet_text_grammar::MAX_DEPTH;
 use std::marker::Model;
 
 /// A document: a root of at most 64 containers in one another, whose kept maps have distinct keys. Its view is the
@@ -37,9 +38,6 @@ impl Model for Document {
     ghost invariant = { λ d. IsDocument (node_tree d.root) };
 }
 
-/// The largest number of containers that may lie in one another.
-const MOST: usize = 64;
-
 impl Document {
     /// Creates the document of a node. `TooDeep` is returned before `RepeatedKey`, regardless of where in the node they
     /// occur. If a set of the keys of a map can be allocated, the keys are looked up in it; otherwise each two keys are
@@ -49,7 +47,7 @@ impl Document {
         ensures refusal { IfErr result (IsRefusedFor 64 (node_tree root)) }
         ensures none { IfErr result (λ _. IsDocument (node_tree root) → ⊥) }
     {
-        match fault_of(&root, MOST) {
+        match fault_of(&root, MAX_DEPTH) {
             Some(refusal) => Err(refusal),
             None => Ok(Document::of_root(root)),
         }

@@ -14,6 +14,7 @@ use Rattle.cabinet_text_grammar.specs.Spelling.{escaped}
 use Rattle.cabinet_text_nodes.specs.declared.node.Node.{Node}
 use Rattle.cabinet_text_nodes.proofs.Seen.{slices_cmp, found_after}
 use Rattle.cabinet_text_reading.specs.Kept.{has_escaped}
+use Rattle.cabinet_text_nodes.proofs.Twice.{either}
 
 -- no pair's key has this escaped form
 abbrev pub LacksEscaped : List ℕ → List (String Global × Node) → Type 0
@@ -22,10 +23,6 @@ LacksEscaped bytes ps = All (λ p. bytes ≢ escaped (string_bytes p.0)) ps
 neither : (b c : Bool) → (b || c) ≡ false → (b ≡ false) × (c ≡ false)
 neither true c h = absurd (true≢false h)
 neither false c h = (refl, h)
-
-either : (b c : Bool) → (b || c) ≡ true → (b ≡ true) ⊎ (c ≡ true)
-either true c h = inl refl
-either false c h = inr h
 
 -- the escaped form of a key is inserted
 pub kept_key : (bytes : List ℕ) (ks : List (Bor (List ℕ))) (a : Bor (List ℕ)) (ps : List (String Global × Node)) (k : String Global)

@@ -9,13 +9,10 @@ ghost use Rattle.cabinet_text_nodes.specs.View.{item_of};
 ghost use Rattle.cabinet_text_reading.specs.Heads.{IsContainer, count_word, RefusesText};
 
 use cabinet_text_bytes::{after_prefix, read_count, read_number, read_truth, try_unescape};
-use cabinet_text_grammar::Cause;
+use cabinet_text_grammar::{Cause, MAX_DEPTH};
 use cabinet_text_nodes::{Head, Leaf};
 use std::alloc::Global;
 use std::rc::RcStr;
-
-/// The largest number of containers that may lie in one another.
-const MOST: usize = 64;
 
 /// The containers whose heads have a count.
 #[derive(Clone, Copy)]
@@ -66,7 +63,7 @@ fn within(head: Head, depth: usize) -> Result<Head, Cause>
     ensures head { IfOk result (λ inner. Admits (a_head depth) (item_of inner)) }
     ensures fault { IfErr result (IsFirstCause (a_head depth) (Some (record { bytes = spelled (item_of head); ended = true }))) }
 {
-    if depth >= MOST {
+    if depth >= MAX_DEPTH {
         return Err(Cause::TooDeep);
     }
     Ok(head)

@@ -1,15 +1,16 @@
 //! Writes the lines of answers, and the parts of answers that list keys.
-ghost use Rattle.std.specs.Prelude.{◌-◌, ◌^◌, ◌<◌, ◌++◌, [], ◌∷◌, codes};
+ghost use Rattle.std.specs.Prelude.{◌-◌, ◌^◌, ◌<◌, ◌++◌, [], ◌∷◌, IfOk, codes};
 ghost use Rattle.std.specs.Fmt.{decimal};
 ghost use Rattle.archive_shape_writing.specs.Writing.{Writes};
 ghost use Rattle.cabinet_text_bytes.specs.TextGrammar.Answering.{spelled_answer, wrong, missing, bad};
 ghost use Rattle.cabinet_text_bytes.specs.TextGrammar.Item.{key_item};
 ghost use Rattle.cabinet_text_bytes.specs.TextGrammar.Spelling.{spelled};
+ghost use Rattle.cabinet_text_nodes.specs.Answers.{Tells};
 ghost use Rattle.cabinet_text_nodes.specs.Outcomes.{outcome_of};
 
 use archive_shape_writing::{Error, Writer, write_two_pieces};
 use cabinet_text_bytes::{Decimal, write_escaped};
-use cabinet_text_nodes::SetAnswer;
+use cabinet_text_nodes::{Asked, SetAnswer};
 
 /// Writes the beginning of an answer that lists `count` keys.
 pub fn write_keys_head<W: Writer>(count: u64, writer: &mut W) -> Result<(), Error>
@@ -42,6 +43,26 @@ pub fn write_wrong<W: Writer>(writer: &mut W) -> Result<(), Error>
     ensures { Writes W.Writer writer.old writer.new (spelled_answer wrong) result }
 {
     writer.write(b"wrong\n")
+}
+
+/// Writes the answer that the path leads to no node.
+pub fn answer_missing<W: Writer>(writer: &mut W) -> Result<Asked, Error>
+    requires { W.failures writer.old < 2 ^ 64 - 1 }
+    ensures written { Writes W.Writer writer.old writer.new (spelled_answer missing) result }
+    ensures asked { IfOk result (λ asked. Tells asked missing) }
+{
+    write_missing(writer)?;
+    Ok(Asked::Missing)
+}
+
+/// Writes the answer that a node has no keys in an order.
+pub fn answer_wrong<W: Writer>(writer: &mut W) -> Result<Asked, Error>
+    requires { W.failures writer.old < 2 ^ 64 - 1 }
+    ensures written { Writes W.Writer writer.old writer.new (spelled_answer wrong) result }
+    ensures asked { IfOk result (λ asked. Tells asked wrong) }
+{
+    write_wrong(writer)?;
+    Ok(Asked::Wrong)
 }
 
 /// Writes the answer to bytes that are no line.

@@ -6,7 +6,8 @@ mod head;
 mod text;
 
 pub use answer::{
-    write_bad, write_key, write_keys_head, write_missing, write_outcome, write_wrong,
+    answer_missing, answer_wrong, write_bad, write_key, write_keys_head, write_missing,
+    write_outcome, write_wrong,
 };
 pub use head::{write_head, write_key_line};
 pub use text::write_text;

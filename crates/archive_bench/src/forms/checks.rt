@@ -9,7 +9,7 @@ use archive_shape::{ArchivedU32, CheckBytes, Portable};
 use std::alloc::Global;
 
 /// The greatest depth to which the timed values may nest.
-const MOST: usize = 64;
+const MAX_DEPTH: usize = 64;
 
 /// Returns whether a check accepts the value at `pos`.
 fn is_accepted<T: CheckBytes<RangeContext>>(alloc: Global, bytes: &[u8], pos: usize) -> bool
@@ -21,7 +21,7 @@ fn is_accepted<T: CheckBytes<RangeContext>>(alloc: Global, bytes: &[u8], pos: us
     if len < size || len - size < pos {
         return false;
     }
-    let mut context = RangeContext::new(alloc, pos, MOST);
+    let mut context = RangeContext::new(alloc, pos, MAX_DEPTH);
     match T::check(alloc, bytes, pos, &mut context) {
         Ok(()) => true,
         Err(_) => false,

@@ -15,7 +15,7 @@ use archive_forms_values::{read_target, read_word};
 use archive_shape::{ArchiveContext, Error, Portable};
 
 /// The greatest number of levels of a tree; the root is on level 1.
-const MOST_LEVELS: usize = 32;
+const MAX_LEVELS: usize = 32;
 
 /// The word of a pointer that leads to no child.
 const NO_CHILD: u32 = 1;
@@ -246,7 +246,7 @@ fn check_child<
     if read_word(bytes, pos) == NO_CHILD {
         return Ok(0);
     }
-    if level > MOST_LEVELS {
+    if level > MAX_LEVELS {
         return Err(Error::TooManyLevels);
     }
     let Some(to) = read_target(bytes, pos) else {

@@ -4,6 +4,7 @@ ghost use Rattle.archive_btree_layout.specs.ShapeLayout.Bytes as layout;
 ghost use Rattle.archive_btree_nodes.specs.SearchingNodes.{IsReadable, entry_count, entry_of, child_of, place_of, pointer_at};
 
 use crate::NodeLayout;
+use archive_forms_values::read_word;
 
 /// The positions of an entry's key and value.
 #[derive(Clone, Copy, Debug, PartialEq, Eq)]
@@ -12,22 +13,13 @@ pub struct EntryAt {
     pub value: usize,
 }
 
-/// Reads the little-endian `u32` at a position.
-fn word_at(bytes: &[u8], pos: usize) -> u32
-    requires { pos + 4 ≤ length bytes.now }
-    ensures { result ≡ layout.word_at bytes.now pos }
-{
-    let own = &bytes[pos..pos + 4];
-    u32::from_le_bytes([own[0], own[1], own[2], own[3]])
-}
-
 /// Returns the position that the pointer at `link` points to, if the pointer is valid.
 fn follow(bytes: &[u8], link: usize) -> Option<usize>
     requires room { link + 4 ≤ length bytes.now }
     requires leads { (layout.word_at bytes.now link ≡ 1 → ⊥) → (child : ℕ) × (layout.target_from link (layout.word_at bytes.now link) ≡ Some child) × (child < 2 ^ 64) }
     ensures { result ≡ pointer_at bytes.now link }
 {
-    let word = word_at(bytes, link);
+    let word = read_word(bytes, link);
     if word == 1 {
         return None;
     }
@@ -45,7 +37,7 @@ pub(crate) fn entry_count(bytes: &[u8], layout: NodeLayout, pos: usize) -> usize
 {
     let _len = bytes.len();
     if bytes[pos] == 0 {
-        word_at(bytes, pos + layout.links) as usize
+        read_word(bytes, pos + layout.links) as usize
     } else {
         layout.entries
     }

@@ -57,6 +57,14 @@ fn start_of(bytes: &[u8], pos: usize) -> usize
 }
 
 impl ArchivedString {
+    /// Returns the position of the text's bytes.
+    pub fn start_of(this: Ref<'_, ArchivedString>) -> usize
+        requires { HasText this.bytes.now this.pos }
+        ensures { (len : ℕ) × LiesAt this.entry.bytes.now this.entry.pos result len }
+    {
+        start_of(this.bytes, this.pos)
+    }
+
     /// Returns the bytes of the text.
     pub fn as_bytes<'a>(this: Ref<'a, ArchivedString>) -> &'a [u8]
         requires { HasText this.bytes.now this.pos }

@@ -17,27 +17,7 @@ use archive_shape::Ref;
 use archive_shape_writing::{Error, Writer};
 use cabinet_archived::ArchivedNode;
 use cabinet_text_nodes::{Asked, Line};
-use cabinet_text_writing::{write_head, write_missing, write_wrong};
-
-/// Writes the answer that the path leads to no node.
-fn answer_missing<W: Writer>(writer: &mut W) -> Result<Asked, Error>
-    requires { W.failures writer.old < 2 ^ 64 - 1 }
-    ensures written { Writes W.Writer writer.old writer.new (spelled_answer grammar.missing) result }
-    ensures asked { IfOk result (λ asked. Tells asked grammar.missing) }
-{
-    write_missing(writer)?;
-    Ok(Asked::Missing)
-}
-
-/// Writes the answer that a node has no keys in an order.
-fn answer_wrong<W: Writer>(writer: &mut W) -> Result<Asked, Error>
-    requires { W.failures writer.old < 2 ^ 64 - 1 }
-    ensures written { Writes W.Writer writer.old writer.new (spelled_answer grammar.wrong) result }
-    ensures asked { IfOk result (λ asked. Tells asked grammar.wrong) }
-{
-    write_wrong(writer)?;
-    Ok(Asked::Wrong)
-}
+use cabinet_text_writing::{answer_missing, answer_wrong, write_head};
 
 /// Writes the head of a node as the answer.
 fn answer_head<W: Writer>(node: Ref<'_, ArchivedNode>, writer: &mut W) -> Result<Asked, Error>

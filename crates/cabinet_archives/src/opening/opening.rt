@@ -11,8 +11,13 @@ use archive_core_validation::{
 };
 use archive_shape_writing::Error;
 use cabinet_archived::ArchivedNode;
+use cabinet_text_grammar::MAX_DEPTH;
 use std::alloc::Global;
 use thiserror::Error as Described;
+
+/// The depth of subtrees at which a check ends: more than the regions that claim one another in an archive of `MAX_DEPTH`
+/// nested containers.
+const MAX_SUBTREE_DEPTH: usize = 2200;
 
 /// Why bytes are not opened as an archive.
 #[derive(Clone, Copy, Debug, PartialEq, Eq, Described)]
@@ -45,12 +50,12 @@ pub fn check(alloc: Global, bytes: &[u8]) -> Result<(), OpenRefusal>
     ensures refused { IfErr result (λ r. IsRefusedFor bytes.now (refusal_of r)) }
 {
     let mut context = Validator::new(
-        ArchiveValidator::with_max_depth(alloc, bytes, 2200),
+        ArchiveValidator::with_max_depth(alloc, bytes, MAX_SUBTREE_DEPTH),
         SharedValidator::new(alloc),
     );
     match access_with_context::<ArchivedNode, HighValidator>(alloc, bytes, &mut context) {
         Ok(root) => {
-            if is_shallow(root, 64) {
+            if is_shallow(root, MAX_DEPTH) {
                 Ok(())
             } else {
                 Err(OpenRefusal::TooDeep)

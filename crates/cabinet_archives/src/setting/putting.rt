@@ -1,7 +1,4 @@
 //! Writing a leaf in the place of a node, in the bytes of an archive.
-ghost use Rattle.std.specs.Prelude.{◌≡◌, ℕ, ◌^◌, ◌<◌, length};
-ghost use Rattle.archive_shape.specs.ShapeLayout.Bytes.{word_at, target_from};
-ghost use Rattle.archive_forms_values.specs.FormsLaws.Text.{HasText, LiesAt};
 ghost use Rattle.archive_forms_values.specs.Parts.{HasValue};
 ghost use Rattle.cabinet_text_nodes.specs.TextGrammar.Answering.{outcome_there};
 ghost use Rattle.cabinet_archived.specs.Documents.Node.{node_shape, KnowsNode};
@@ -10,33 +7,10 @@ ghost use Rattle.cabinet_text_nodes.specs.View.{lent_leaf};
 ghost use Rattle.cabinet_archives.specs.Found.{OfDocument};
 ghost use Rattle.cabinet_archives.specs.Putting.{PutLeaves};
 
-use archive_forms_values::{ArchivedString, ArchivedStringRepr};
+use archive_forms_values::ArchivedString;
 use archive_shape::{ArchivedI64, Ref, Seal, Str};
 use cabinet_archived::{ArchivedKind, ArchivedNode};
 use cabinet_text_nodes::{LeafRef, SetAnswer};
-
-/// Returns the position of the bytes of an out-of-line text at `pos`, by its own bytes. Returns `None` if the offset
-/// leads to no position.
-fn far_start(own: &[u8], pos: usize) -> Option<usize>
-    requires eight { length own.now ≡ 8 }
-    requires small { pos < 2 ^ 63 }
-    ensures { result ≡ target_from pos (word_at own.now 4) }
-{
-    pos.checked_add_signed(ArchivedStringRepr::out_of_line_offset(own))
-}
-
-/// Returns the position of the bytes of a text.
-fn start_of(text: Ref<'_, ArchivedString>) -> usize
-    requires { HasText text.bytes.now text.pos }
-    ensures { (len : ℕ) × LiesAt text.entry.bytes.now text.entry.pos result len }
-{
-    let Ref { bytes, pos, .. } = text;
-    let own = &bytes[pos..pos + 8];
-    if ArchivedStringRepr::is_inline(own) {
-        return pos;
-    }
-    far_start(own, pos).unwrap()
-}
 
 /// Writes a leaf in the place of the node at `pos`, if the node is a leaf of the same kind and, for a text, of the same
 /// length.
@@ -60,7 +34,7 @@ pub(crate) fn put_leaf(bytes: &mut [u8], pos: usize, leaf: LeafRef<'_>) -> SetAn
             if ArchivedString::len(there) != text.len() {
                 return SetAnswer::Refused;
             }
-            let start = start_of(there);
+            let start = ArchivedString::start_of(there);
             Seal::<Str>::new(bytes, start).write_text(text);
             SetAnswer::Done
         }

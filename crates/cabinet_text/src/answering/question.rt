@@ -11,27 +11,7 @@ use crate::answering::keys::{write_kept_keys, write_keys, write_keys_within};
 use crate::answering::walk::node_at;
 use archive_shape_writing::{Error, Writer};
 use cabinet_text_nodes::{Asked, Document, Line, Node};
-use cabinet_text_writing::{write_head, write_missing, write_wrong};
-
-/// Writes the answer that the path leads nowhere.
-fn answer_missing<W: Writer>(writer: &mut W) -> Result<Asked, Error>
-    requires { W.failures writer.old < 2 ^ 64 - 1 }
-    ensures written { Writes W.Writer writer.old writer.new (spelled_answer grammar.missing) result }
-    ensures asked { IfOk result (λ asked. Tells asked grammar.missing) }
-{
-    write_missing(writer)?;
-    Ok(Asked::Missing)
-}
-
-/// Writes the answer that a node has no keys in an order.
-fn answer_wrong<W: Writer>(writer: &mut W) -> Result<Asked, Error>
-    requires { W.failures writer.old < 2 ^ 64 - 1 }
-    ensures written { Writes W.Writer writer.old writer.new (spelled_answer grammar.wrong) result }
-    ensures asked { IfOk result (λ asked. Tells asked grammar.wrong) }
-{
-    write_wrong(writer)?;
-    Ok(Asked::Wrong)
-}
+use cabinet_text_writing::{answer_missing, answer_wrong, write_head};
 
 /// Writes the head of a node.
 fn answer_head<W: Writer>(node: &Node, writer: &mut W) -> Result<Asked, Error>

@@ -6,8 +6,8 @@ use Rattle.archive_forms_laws.specs.Taking.{GivesAs}
 use Rattle.archive_btree.proofs.Listed.{none_begun}
 use Rattle.archive_btree.proofs.ordered.serialize_from_ordered_iter_each.Goals as goal
 
-pub returns-then-this-gt-MOST : goal.returns-then-this-gt-MOST
-returns-then-this-gt-MOST g c =
+pub returns-then-this-gt-MAX_ENTRIES : goal.returns-then-this-gt-MAX_ENTRIES
+returns-then-this-gt-MAX_ENTRIES g c =
     let s : WriterMembers g.row.S.Denot = record { known = g.S.Registry.known; pos = g.S.Positional.pos; OBSERVABLE = g.S.Writer.OBSERVABLE; COUNTS = g.S.Writer.COUNTS; contents = g.S.Writer.contents; failures = g.S.Writer.failures; last_error = g.S.Writer.last_error } in
     inl
     (none_begun (btree_spelling g.row.E g.K.Archived.Portable.shape g.V.Archived.Portable.shape g.K.Archive.spelling g.V.Archive.spelling) s (GivesAs deref_pair g.I.Iterator.next_gives) c.args.claimed c.args.entries c.args.serializer.now)

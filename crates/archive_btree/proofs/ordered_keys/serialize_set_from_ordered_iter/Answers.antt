@@ -10,8 +10,8 @@ use Rattle.archive_btree.proofs.Listed.{none_begun}
 use Rattle.archive_btree.proofs.Seen.{claimed_seen, key_given}
 use Rattle.archive_btree.proofs.ordered_keys.serialize_set_from_ordered_iter.Goals as goal
 
-pub returns-then-this-gt-MOST : goal.returns-then-this-gt-MOST
-returns-then-this-gt-MOST g c =
+pub returns-then-this-gt-MAX_ENTRIES : goal.returns-then-this-gt-MAX_ENTRIES
+returns-then-this-gt-MAX_ENTRIES g c =
     let s : WriterMembers g.row.S.Denot = record { known = g.S.Registry.known; pos = g.S.Positional.pos; OBSERVABLE = g.S.Writer.OBSERVABLE; COUNTS = g.S.Writer.COUNTS; contents = g.S.Writer.contents; failures = g.S.Writer.failures; last_error = g.S.Writer.last_error } in
     inl
     (none_begun (btree_spelling g.row.E g.K.Archived.Portable.shape (tuple no_shapes) g.K.Archive.spelling unit_spelling) s (GivesAs key_entry g.I.Iterator.next_gives) c.args.claimed c.args.keys c.args.serializer.now)

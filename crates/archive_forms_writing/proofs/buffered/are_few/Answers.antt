@@ -7,4 +7,4 @@ pub returns : goal.returns
 returns g c =
     let cut : min (c.args.count * c.SIZE-size.result) (2 ^ 64 - 1) ≤ 64 = search rules in
     let few = (few_sized c.args.count (size_of g.T.Portable.shape) c.SIZE-size.result 64 (omega arith) (c.SIZE-size.ensures ∙ g.met.T.Portable.sized) cut).0 in
-    (few, omega (arith, few, c.if-pos-gt-LAST_OF_FEW.false))
+    (few, omega (arith, few, c.if-pos-gt-LAST_BUFFER_POSITION.false))

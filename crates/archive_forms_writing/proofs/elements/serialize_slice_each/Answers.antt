@@ -18,8 +18,8 @@ resolve_behind-requires-clause-room g c = let all = c.in-Ok.ensures c.requires.s
 pub resolve_behind-requires-clause-made : goal.resolve_behind-requires-clause-made
 resolve_behind-requires-clause-made g c = let all = c.in-Ok.ensures c.requires.state.state c.requires.state.is_at in (c.requires.state.state, all.1.0)
 
-pub returns-then-items-le-FEW : goal.returns-then-items-le-FEW
-returns-then-items-le-FEW g c = λ st at.
+pub returns-then-items-le-MAX_KEPT : goal.returns-then-items-le-MAX_KEPT
+returns-then-items-le-MAX_KEPT g c = λ st at.
     let w = g.T.Archive.spelling in
     let sh = g.T.Archived.Portable.shape in
     let s : WriterMembers g.row.S.Denot = record { known = g.S.Registry.known; pos = g.S.Positional.pos; OBSERVABLE = g.S.Writer.OBSERVABLE; COUNTS = g.S.Writer.COUNTS; contents = g.S.Writer.contents; failures = g.S.Writer.failures; last_error = g.S.Writer.last_error } in

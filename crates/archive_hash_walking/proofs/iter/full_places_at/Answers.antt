@@ -3,7 +3,7 @@ use Rattle.archive_shape.specs.ShapeLayout.Shape.{size_of}
 use Rattle.archive_forms_values.specs.Parts.{HasValue}
 use Rattle.archive_hash_walking.specs.Tables.{IsTableAt, full_places}
 use Rattle.archive_hash_walking.specs.Places.{held, full_place}
-use Rattle.archive_hash_walking.proofs.Read.{cap_fits}
+use Rattle.archive_hash_checking.proofs.TableParts.{places_first}
 use Rattle.archive_hash_walking.proofs.Roots.{places_of_value, table_some, table_count, HasPlaces}
 use Rattle.archive_hash_walking.proofs.Lookups.{item_room, size_is, items_there}
 use Rattle.archive_hash_walking.proofs.Walked.{all_left, places_are, all_there}
@@ -14,7 +14,7 @@ new-requires-clause-within g c =
     let b = places_of_value c.requires in
     let r = c.in-Some.ensures b.buckets b.table in
     let p : HasPlaces c.args.bytes.now g.T.Portable.shape c.args.pos (held c.in-Some.buckets) = subst (HasPlaces c.args.bytes.now g.T.Portable.shape c.args.pos) r.0 (table_some r.1 b.table) in
-    omega (arith, cap_fits c.in-Some.buckets.capacity, p.controls.count)
+    omega (arith, places_first c.in-Some.buckets.capacity, p.controls.count)
 
 pub new-requires-clause-len : goal.new-requires-clause-len
 new-requires-clause-len g c =
@@ -29,7 +29,7 @@ invariant_of-result g c =
     let r = c.in-Some.ensures b.buckets b.table in
     let p : HasPlaces c.args.bytes.now g.T.Portable.shape c.args.pos (held c.in-Some.buckets) = subst (HasPlaces c.args.bytes.now g.T.Portable.shape c.args.pos) r.0 (table_some r.1 b.table) in
     let sized = size_is (size_of g.T.Portable.shape) c.SIZE.result c.in-Some.buckets.capacity c.in-Some.buckets.target (c.SIZE.ensures ∙ g.met.T.Portable.sized) (omega (arith, p.fewer)) p.room r.3 in
-    let fits = cap_fits c.in-Some.buckets.capacity in
+    let fits = places_first c.in-Some.buckets.capacity in
     let all = places_are (λ q. (q < 2 ^ 32) × (q < length c.in-Some.buckets.controls.now) × ((q + 1) * c.SIZE.result ≤ c.in-Some.buckets.target)) (held c.in-Some.buckets)
     (λ q below. (omega (arith, below, r.2), omega (arith, below, fits, p.controls.count), subst (λ n. (q + 1) * n ≤ c.in-Some.buckets.target) (sym sized) (item_room g.T.Portable.shape (held c.in-Some.buckets) q p below))) in
     subst (All (λ q. (q < 2 ^ 32) × (q < length c.in-Some.buckets.controls.now) × ((q + 1) * c.SIZE.result ≤ c.in-Some.buckets.target))) (sym c.new.ensures) all

@@ -1,12 +1,12 @@
 use Rattle.std.proofs.Common.{◌∙◌, ◌+◌, ◌≤◌, ◌∷◌, length, sym, ap, arith}
 use Rattle.archive_shape.specs.ShapeLayout.Shape.{size_of}
-use Rattle.archive_hash_walking.proofs.Read.{cap_fits}
+use Rattle.archive_hash_checking.proofs.TableParts.{places_first}
 use Rattle.archive_hash_walking.proofs.Roots.{controls_read}
 use Rattle.archive_hash_walking.proofs.Passed.{has_places, read_again, goes_on, none_passed, first_item, items_within}
 use Rattle.archive_hash_walking.proofs.passing.pass_item.Goals as goal
 
 pub pass_place-requires-clause-within : goal.pass_place-requires-clause-within
-pass_place-requires-clause-within g c = let fits = cap_fits c.args.walk.now.capacity in omega (arith, c.controls_at-controls.ensures.count, fits)
+pass_place-requires-clause-within g c = let fits = places_first c.args.walk.now.capacity in omega (arith, c.controls_at-controls.ensures.count, fits)
 
 pub returns-in_default-clause-steps : goal.returns-in_default-clause-steps
 returns-in_default-clause-steps g c m ps goes written =

@@ -10,6 +10,6 @@ pub returns-in_default-read_count-2 : goal.returns-in_default-read_count-2
 returns-in_default-read_count-2 c =
     no_number _ (λ digits e. c.in_default.ensures digits (e ∙ ap (λ w. w ++ digits) (sym c.as_slice.ensures))) c.in_default-read_count-2.ensures
 
-pub returns-else-count-lt-FARTHEST : goal.returns-else-count-lt-FARTHEST
-returns-else-count-lt-FARTHEST c = λ z fits e.
-    count_too_great c.in-Some-read_count-2.count z (omega arith) c.if-count-lt-FARTHEST.false fits (sym c.in-Some-read_count-2.ensures ∙ e)
+pub returns-else-count-lt-MIN_MAGNITUDE : goal.returns-else-count-lt-MIN_MAGNITUDE
+returns-else-count-lt-MIN_MAGNITUDE c = λ z fits e.
+    count_too_great c.in-Some-read_count-2.count z (omega arith) c.if-count-lt-MIN_MAGNITUDE.false fits (sym c.in-Some-read_count-2.ensures ∙ e)

@@ -1,5 +1,5 @@
 use Rattle.archive_bench.specs.BtreeTexts.{known}
-use Rattle.archive_bench.proofs.BtreeRead.{text_there}
+use Rattle.archive_bench.proofs.Held.{text_there}
 use Rattle.archive_bench.proofs.btree.reads.weight.Goals as goal
 
 pub as_str-requires : goal.as_str-requires

@@ -24,15 +24,15 @@ check_child-returns-then-read_word-eq-NO_CHILD-clause-exact g t c = λ names kno
     none_counted names c.args.bytes.now (child c.args.level g.row.E g.K.Portable.shape g.V.Portable.shape c.args.pos) (g.C.ArchiveContext.kept c.args.context.now)
     (absent_is names c.args.bytes.now c.args.level g.row.E g.K.Portable.shape g.V.Portable.shape c.args.pos (omega (arith, c.read_word.ensures, c.if-read_word-eq-NO_CHILD.true)))
 
-pub check_child-returns-then-level-gt-MOST_LEVELS-clause-exact : goal.check_child-returns-then-level-gt-MOST_LEVELS-clause-exact
-check_child-returns-then-level-gt-MOST_LEVELS-clause-exact g t c = λ names known_key known_value inside before records other.
+pub check_child-returns-then-level-gt-MAX_LEVELS-clause-exact : goal.check_child-returns-then-level-gt-MAX_LEVELS-clause-exact
+check_child-returns-then-level-gt-MAX_LEVELS-clause-exact g t c = λ names known_key known_value inside before records other.
     let some : word_at c.args.bytes.now c.args.pos ≢ 1 = λ e. omega (arith, e, c.read_word.ensures, c.if-read_word-eq-NO_CHILD.false) in
-    fault_unanswered (level_unanswered names c.args.bytes.now c.args.level g.row.E g.K.Portable.shape g.V.Portable.shape c.args.pos (range_of (g.C.ArchiveContext.kept c.args.context.now)) some c.if-level-gt-MOST_LEVELS.true)
+    fault_unanswered (level_unanswered names c.args.bytes.now c.args.level g.row.E g.K.Portable.shape g.V.Portable.shape c.args.pos (range_of (g.C.ArchiveContext.kept c.args.context.now)) some c.if-level-gt-MAX_LEVELS.true)
 
 pub check_child-returns-in_default-clause-exact : goal.check_child-returns-in_default-clause-exact
 check_child-returns-in_default-clause-exact g t c = λ names known_key known_value inside before records other.
     let some : word_at c.args.bytes.now c.args.pos ≢ 1 = λ e. omega (arith, e, c.read_word.ensures, c.if-read_word-eq-NO_CHILD.false) in
-    let low : c.args.level ≤ 32 = omega (arith, c.if-level-gt-MOST_LEVELS.false) in
+    let low : c.args.level ≤ 32 = omega (arith, c.if-level-gt-MAX_LEVELS.false) in
     fault_unanswered (child_unanswered names c.args.bytes.now c.args.level g.row.E g.K.Portable.shape g.V.Portable.shape c.args.pos (range_of (g.C.ArchiveContext.kept c.args.context.now)) _ some low
     (sym c.in_default.ensures) (ap InvalidSubtreePointer c.requires.layout.size))
 
@@ -41,7 +41,7 @@ check_child-returns-clause-exact g t c = λ names known_key known_value.
     let k = g.K.Portable.shape in
     let v = g.V.Portable.shape in
     let some : word_at c.args.bytes.now c.args.pos ≢ 1 = λ e. omega (arith, e, c.read_word.ensures, c.if-read_word-eq-NO_CHILD.false) in
-    let low : c.args.level ≤ 32 = omega (arith, c.if-level-gt-MOST_LEVELS.false) in
+    let low : c.args.level ≤ 32 = omega (arith, c.if-level-gt-MAX_LEVELS.false) in
     child_counted names c.args.bytes.now (child c.args.level g.row.E k v c.args.pos) (node c.args.level g.row.E k v c.in-Some.to) (g.C.ArchiveContext.kept c.args.context.now) _ _
     (child_is names c.args.bytes.now c.args.level g.row.E k v c.args.pos c.in-Some.to some low (sym c.in-Some.ensures))
     (child_answered names c.args.bytes.now c.args.level g.row.E k v c.args.pos (range_of (g.C.ArchiveContext.kept c.args.context.now)) c.in-Some.to some low (sym c.in-Some.ensures))

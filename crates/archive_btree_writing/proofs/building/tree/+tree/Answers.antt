@@ -4,13 +4,14 @@ use Rattle.archive_shape_writing.specs.Writing.{WriterMembers}
 use Rattle.archive_shape_writing.specs.declared.error.Error.TheVariants.{IteratorLengthMismatch}
 use Rattle.archive_btree_spelling.specs.Maps.{packed_spelling}
 use Rattle.archive_forms_values.specs.FormsLaws.Taking.{GivesAs}
-use Rattle.archive_btree_writing.proofs.Taken.{take_one, take_set, on_err}
+use Rattle.archive_btree_writing.proofs.Taken.{take_set, on_err}
 use Rattle.archive_btree_writing.proofs.Closing.{none_built, ended_behind, cut_wider}
 use Rattle.archive_btree_writing.proofs.Widths.{ToGo, some_wide, inner_above, below_is, child_size, togo_none, togo_more, togo_room, togo_end}
 use Rattle.archive_btree_writing.proofs.Opening.{open_state, open_came}
 use Rattle.archive_btree_writing.proofs.Stepping.{takes_later, takes_all}
 use Rattle.archive_btree_writing.proofs.BuildingChildren.{opened_none, opened_more, cut_below, may_come_end, state_end, built_inner, cut_inner}
 use Rattle.archive_btree_writing.proofs.building.tree.+tree.Goals as goal
+use Rattle.archive_forms_writing.proofs.Arrays.{take_one}
 
 -- ---- an inner node
 

@@ -4,10 +4,11 @@ use Rattle.std.specs.Iterator.{Yields}
 use Rattle.archive_shape_writing.specs.Writing.{WriterMembers}
 use Rattle.archive_shape_writing.specs.declared.error.Error.TheVariants.{IteratorLengthMismatch}
 use Rattle.archive_btree_spelling.specs.Maps.{packed_spelling}
-use Rattle.archive_btree_writing.proofs.Taken.{Yields-more, Yields-as, came_may_come, take_one, take_set, on_err}
+use Rattle.archive_btree_writing.proofs.Taken.{Yields-more, Yields-as, came_may_come, take_set, on_err}
 use Rattle.archive_btree_writing.proofs.Closing.{ended_before, leaf_built, leaf_cut}
 use Rattle.archive_btree_writing.proofs.Stepping.{takes_all}
 use Rattle.archive_btree_writing.proofs.building.tree.build_leaf.Goals as goal
+use Rattle.archive_forms_writing.proofs.Arrays.{take_one}
 
 pub returns-in_err-first-clause-built : goal.returns-in_err-first-clause-built
 returns-in_err-first-clause-built g c = λ above.
