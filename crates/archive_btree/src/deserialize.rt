@@ -5,6 +5,7 @@ ghost use Rattle.archive_forms_writing.specs.FormsValues.Parts.{HasValue, both};
 ghost use Rattle.archive_forms.specs.Deserializing.{Deserializes, DeserializesBy};
 ghost use Rattle.archive_forms.specs.Steps.{StepTakes, StepReads};
 ghost use Rattle.archive_btree.specs.ReadBack.{reads_map};
+ghost use Rattle.archive_btree_walking.specs.Maps.{HasMap};
 
 use crate::OwnedBTreeMap;
 use archive_btree_maps::ArchivedBTreeMap;
@@ -39,7 +40,7 @@ pub fn deserialize_map_each<
     read_key: F,
     read_value: G,
 ) -> Result<OwnedBTreeMap<K, V, E>, Error>
-    requires there { HasValue (tree E A.shape B.shape) (both A.knows B.knows) this.bytes.now this.pos }
+    requires there { HasMap E A.shape B.shape A.knows B.knows this }
     requires takes_key { StepTakes F.Fn read_key A.shape A.knows this.bytes.now (length this.bytes.now) }
     requires reads_key { StepReads F.Fn read_key A.shape A.knows this.bytes.now (λ q. q.0) A.reads }
     requires takes_value { StepTakes G.Fn read_value B.shape B.knows this.bytes.now (length this.bytes.now) }

@@ -8,6 +8,7 @@ use Rattle.archive_btree_nodes.specs.BtreeLayout.Reading.{Place}
 use Rattle.archive_btree_nodes.specs.BtreeLayout.Tree.{Tree}
 use Rattle.archive_forms_values.specs.Parts.{HasValue, both}
 use Rattle.archive_btree_walking.specs.Maps.{IsMapAt}
+use Rattle.archive_shape.specs.declared.references.refs.Ref.{Ref}
 
 -- the layout of a set with at most `most` keys in a node
 abbrev pub set_shape : ℕ → Shape → Shape
@@ -24,3 +25,7 @@ HasSet most k knows bytes pos = HasValue (set_shape most k) (set_knows knows) by
 -- the set at a position has this tree, whose items lie where its keys do, in order
 abbrev pub IsSetAt : List ℕ → ℕ → Shape → ℕ → Tree Place → Type 0
 IsSetAt bytes most k pos t = IsMapAt bytes most k (tuple no_shapes) pos t
+
+-- the set that a reference leads to has this tree
+abbrev pub IsSet : {S : Type 0} → ℕ → Shape → Ref S → Tree Place → Type 0
+IsSet most k this t = IsSetAt this.bytes.now most k this.pos t

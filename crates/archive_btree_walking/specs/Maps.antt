@@ -11,7 +11,8 @@ use Rattle.archive_btree_nodes.specs.BtreeLayout.Reading.{Place, HasNode}
 use Rattle.archive_btree_nodes.specs.BtreeLayout.Tree.{Tree, items}
 use Rattle.archive_btree_nodes.specs.BtreeLayout.Tree.Tree.{absent}
 use Rattle.archive_shape.specs.Key.{HeldAt}
-use Rattle.archive_forms_values.specs.Parts.{both}
+use Rattle.archive_shape.specs.declared.references.refs.Ref.{Ref}
+use Rattle.archive_forms_values.specs.Parts.{HasValue, both}
 
 -- the map at a position has this tree: none where its length is 0, else the one that its pointer leads to, with as many
 -- items as the length says
@@ -24,6 +25,14 @@ pub data IsMapAt (bytes : List ℕ) (most : ℕ) (k v : Shape) (pos : ℕ) (t : 
       → HasNode bytes most k v 1 root t
       → length (items t) ≡ word_at bytes (pos + 4)
       → IsMapAt bytes most k v pos t
+
+-- the map that a reference leads to has this tree
+abbrev pub IsMap : {M : Type 0} → ℕ → Shape → Shape → Ref M → Tree Place → Type 0
+IsMap most k v this t = IsMapAt this.bytes.now most k v this.pos t
+
+-- a reference leads to a map
+abbrev pub HasMap : {M : Type 0} → ℕ → Shape → Shape → (Names → Type 0) → (Names → Type 0) → Ref M → Type 0
+HasMap most k v knows others this = HasValue (tree most k v) (both knows others) this.bytes.now this.pos
 
 module _ (k v : Shape) (knows others : Names → Type 0) (bytes : List ℕ) where
   -- a pair of a key and a value lies at a place

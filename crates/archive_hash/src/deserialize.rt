@@ -6,6 +6,7 @@ ghost use Rattle.archive_forms_values.specs.Parts.{HasValue, both};
 ghost use Rattle.archive_forms.specs.Deserializing.{Deserializes, DeserializesBy};
 ghost use Rattle.archive_forms.specs.Steps.{StepTakes, StepReads};
 ghost use Rattle.archive_hash.specs.ReadBack.{reads_map};
+ghost use Rattle.archive_hash_walking.specs.Maps.{HasMap};
 
 use crate::OwnedHashMap;
 use archive_forms::{Deserialize, ReadBack, deserialize_element};
@@ -36,7 +37,7 @@ pub fn deserialize_hash_map_each<
     read_key: F,
     read_value: G,
 ) -> Result<OwnedHashMap<K, V>, Error>
-    requires there { HasValue (table (tuple2 A.shape B.shape)) (both A.knows B.knows) this.bytes.now this.pos }
+    requires there { HasMap A.shape B.shape A.knows B.knows this }
     requires takes_key { StepTakes F.Fn read_key A.shape A.knows this.bytes.now (length this.bytes.now) }
     requires reads_key { StepReads F.Fn read_key A.shape A.knows this.bytes.now (λ q. q.0) A.reads }
     requires takes_value { StepTakes G.Fn read_value B.shape B.knows this.bytes.now (length this.bytes.now) }

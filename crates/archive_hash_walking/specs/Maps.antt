@@ -11,8 +11,22 @@ use Rattle.archive_shape.specs.declared.references.refs.Ref.{Ref}
 use Rattle.archive_forms_values.specs.Tuples.{tuple2}
 use Rattle.archive_forms_values.specs.Fields.{field_position}
 use Rattle.archive_hash_probing.specs.ShapeCanonical.Reach.{Reaches}
-use Rattle.archive_hash_walking.specs.Tables.{Buckets, IsTableAt, item_position}
+use Rattle.archive_shape.specs.ShapeLayout.Content.{Names}
+use Rattle.archive_forms_values.specs.Parts.{HasValue, both}
+use Rattle.archive_hash_walking.specs.Tables.{Buckets, IsTableAt, IsTable, HasTable, item_position}
 use Rattle.archive_hash_walking.specs.Places.{item_at, Answers}
+
+-- the map that a reference leads to has these places
+abbrev pub IsMap : {M : Type 0} → Shape → Shape → Ref M → Buckets → Type 0
+IsMap k v this b = IsTable (tuple2 k v) this b
+
+-- a reference leads to a map
+abbrev pub HasMap : {M : Type 0} → Shape → Shape → (Names → Type 0) → (Names → Type 0) → Ref M → Type 0
+HasMap k v knows others this = HasTable (tuple2 k v) (both knows others) this
+
+-- a key and a value lie where the two references of an entry lead
+abbrev pub IsThere : {K V : Type 0} → Shape → Shape → (Names → Type 0) → (Names → Type 0) → Ref K × Ref V → Type 0
+IsThere k v knows others entry = HasValue k knows entry.0.bytes.now entry.0.pos × HasValue v others entry.1.bytes.now entry.1.pos
 
 -- an input hashes to this, by a hasher that starts as its default
 abbrev pub HashesTo : {H : Type 0} → (H → Type 0) → (H → List ℕ → H) → (H → ℕ) → List (List ℕ) → ℕ → Type 0

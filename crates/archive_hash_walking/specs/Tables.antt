@@ -8,6 +8,8 @@ use Rattle.archive_shape.specs.ShapeLayout.Value.{Value, Values}
 use Rattle.archive_shape.specs.ShapeLayout.Value.Values.{no_values, more_values}
 use Rattle.archive_shape.specs.ShapeLayout.Content.{Names, members, control_count}
 use Rattle.archive_shape.specs.Key.{HeldAt}
+use Rattle.archive_shape.specs.declared.references.refs.Ref.{Ref}
+use Rattle.archive_forms_values.specs.Parts.{HasValue}
 use Rattle.archive_hash_probing.specs.Controls.{AreControls}
 
 -- the places of a table: the position of its controls, the number of places, and the controls
@@ -48,6 +50,14 @@ pub data IsTableAt (bytes : List ℕ) (s : Shape) (pos : ℕ) (b : Buckets) : Ty
       → AreControls b.controls b.cap
       → length (full_places b) ≡ word_at bytes (pos + 4)
       → IsTableAt bytes s pos b
+
+-- the table that a reference leads to has these places
+abbrev pub IsTable : {T : Type 0} → Shape → Ref T → Buckets → Type 0
+IsTable s this b = IsTableAt this.bytes.now s this.pos b
+
+-- a reference leads to a table
+abbrev pub HasTable : {T : Type 0} → Shape → (Names → Type 0) → Ref T → Type 0
+HasTable s knows this = HasValue (table s) knows this.bytes.now this.pos
 
 module _ (s : Shape) (knows : Names → Type 0) (bytes : List ℕ) where
   -- the values are at these positions, one at each

@@ -5,8 +5,9 @@ ghost use Rattle.archive_shape_layout.specs.Shape.Shape.{tree};
 ghost use Rattle.archive_shape_layout.specs.Value.{Value};
 ghost use Rattle.archive_shape.specs.Key.{HeldAt};
 ghost use Rattle.archive_forms_laws.proofs.Forms.{equivalences};
-ghost use Rattle.archive_forms_values.specs.Parts.{HasValue, both};
+ghost use Rattle.archive_forms_values.specs.Parts.{both};
 ghost use Rattle.archive_btree_maps.specs.MapComparing.{pair_equality, map_equality, IsPairAt, HasPairs, ArePairsAt};
+ghost use Rattle.archive_btree_walking.specs.Maps.{HasMap};
 
 use crate::map::ArchivedBTreeMap;
 use archive_btree_walking::Iter;
@@ -52,8 +53,8 @@ pub fn eq_map<K: ArchivedEq, V: ArchivedEq, const E: usize, const F: usize>(
     this: &Ref<'_, ArchivedBTreeMap<K, V, E>>,
     other: &Ref<'_, ArchivedBTreeMap<K, V, F>>,
 ) -> bool
-    requires this { HasValue (tree E K.shape V.shape) (both K.knows V.knows) this.now.bytes.now this.now.pos }
-    requires other { HasValue (tree F K.shape V.shape) (both K.knows V.knows) other.now.bytes.now other.now.pos }
+    requires this { HasMap E K.shape V.shape K.knows V.knows this.now }
+    requires other { HasMap F K.shape V.shape K.knows V.knows other.now }
     ensures { (v w : Value) → HeldAt (tree E K.shape V.shape) (both K.knows V.knows) this.now.bytes.now this.now.pos v
         → HeldAt (tree F K.shape V.shape) (both K.knows V.knows) other.now.bytes.now other.now.pos w → result ≡ map_equality K.equal V.equal v w }
 {

@@ -6,9 +6,9 @@ ghost use Rattle.archive_shape_layout.specs.Shape.Shape.{tree};
 ghost use Rattle.archive_btree_nodes.specs.BtreeLayout.Tree.{Tree, items};
 ghost use Rattle.archive_btree_nodes.specs.BtreeLayout.Descent.{descend, met};
 ghost use Rattle.archive_btree_nodes.specs.BtreeLayout.Reading.{Place};
-ghost use Rattle.archive_forms_values.specs.Parts.{HasValue, both};
-ghost use Rattle.archive_btree_walking.specs.Maps.{IsMapAt};
-ghost use Rattle.archive_btree_walking.specs.Refs.{key_at, value_at, entry_at};
+ghost use Rattle.archive_forms_values.specs.Parts.{HasValue};
+ghost use Rattle.archive_btree_walking.specs.Maps.{IsMap, HasMap};
+ghost use Rattle.archive_btree_walking.specs.Refs.{IsThere, key_at, value_at, entry_at};
 ghost use Rattle.archive_btree_walking.specs.Lookups.{QueryOrders, IsEqualKey, CallsEqual, Finds, HasKey, CallsOrder};
 
 use crate::map::ArchivedBTreeMap;
@@ -25,11 +25,11 @@ impl<K, V: Portable, const E: usize> ArchivedBTreeMap<K, V, E> {
     ) -> (Option<Ref<'a, V>>, usize)
     where
         K: ArchivedKey<Q>,
-        requires has { HasValue (tree E K.shape V.shape) (both K.knows V.knows) this.bytes.now this.pos }
+        requires has { HasMap E K.shape V.shape K.knows V.knows this }
         ensures there { IfSome result.0 (λ r. HasValue V.shape V.knows r.bytes.now r.pos) }
-        ensures found { (t : Tree Place) → IsMapAt this.entry.bytes.now E K.shape V.shape this.entry.pos t
+        ensures found { (t : Tree Place) → IsMap E K.shape V.shape this.entry t
             → Finds (value_at this.entry.bytes) (IsEqualKey K.key_of K.order this.entry.bytes.now query.now) (items t) result.0 }
-        ensures answers { (t : Tree Place) (order : Place → Ordering) → IsMapAt this.entry.bytes.now E K.shape V.shape this.entry.pos t
+        ensures answers { (t : Tree Place) (order : Place → Ordering) → IsMap E K.shape V.shape this.entry t
             → QueryOrders K.key_of K.order this.entry.bytes.now query.now order (items t)
             → (result.0 ≡ option_map (value_at this.entry.bytes) (descend order t)) × (result.1 ≡ min (met order t) (2 ^ 64 - 1)) }
     {
@@ -43,11 +43,11 @@ impl<K, V: Portable, const E: usize> ArchivedBTreeMap<K, V, E> {
     pub fn get<'a, Q>(this: Ref<'a, ArchivedBTreeMap<K, V, E>>, query: &Q) -> Option<Ref<'a, V>>
     where
         K: ArchivedKey<Q>,
-        requires has { HasValue (tree E K.shape V.shape) (both K.knows V.knows) this.bytes.now this.pos }
+        requires has { HasMap E K.shape V.shape K.knows V.knows this }
         ensures there { IfSome result (λ r. HasValue V.shape V.knows r.bytes.now r.pos) }
-        ensures found { (t : Tree Place) → IsMapAt this.entry.bytes.now E K.shape V.shape this.entry.pos t
+        ensures found { (t : Tree Place) → IsMap E K.shape V.shape this.entry t
             → Finds (value_at this.entry.bytes) (IsEqualKey K.key_of K.order this.entry.bytes.now query.now) (items t) result }
-        ensures answers { (t : Tree Place) (order : Place → Ordering) → IsMapAt this.entry.bytes.now E K.shape V.shape this.entry.pos t
+        ensures answers { (t : Tree Place) (order : Place → Ordering) → IsMap E K.shape V.shape this.entry t
             → QueryOrders K.key_of K.order this.entry.bytes.now query.now order (items t)
             → result ≡ option_map (value_at this.entry.bytes) (descend order t) }
     {
@@ -61,11 +61,11 @@ impl<K, V: Portable, const E: usize> ArchivedBTreeMap<K, V, E> {
     ) -> Option<(Ref<'a, K>, Ref<'a, V>)>
     where
         K: ArchivedKey<Q>,
-        requires has { HasValue (tree E K.shape V.shape) (both K.knows V.knows) this.bytes.now this.pos }
-        ensures there { IfSome result (λ r. HasValue K.shape K.knows r.0.bytes.now r.0.pos × HasValue V.shape V.knows r.1.bytes.now r.1.pos) }
-        ensures found { (t : Tree Place) → IsMapAt this.entry.bytes.now E K.shape V.shape this.entry.pos t
+        requires has { HasMap E K.shape V.shape K.knows V.knows this }
+        ensures there { IfSome result (IsThere K.shape V.shape K.knows V.knows) }
+        ensures found { (t : Tree Place) → IsMap E K.shape V.shape this.entry t
             → Finds (entry_at this.entry.bytes) (IsEqualKey K.key_of K.order this.entry.bytes.now query.now) (items t) result }
-        ensures answers { (t : Tree Place) (order : Place → Ordering) → IsMapAt this.entry.bytes.now E K.shape V.shape this.entry.pos t
+        ensures answers { (t : Tree Place) (order : Place → Ordering) → IsMap E K.shape V.shape this.entry t
             → QueryOrders K.key_of K.order this.entry.bytes.now query.now order (items t)
             → result ≡ option_map (entry_at this.entry.bytes) (descend order t) }
     {
@@ -82,10 +82,10 @@ impl<K, V: Portable, const E: usize> ArchivedBTreeMap<K, V, E> {
     pub fn contains_key<Q>(this: Ref<'_, ArchivedBTreeMap<K, V, E>>, query: &Q) -> bool
     where
         K: ArchivedKey<Q>,
-        requires has { HasValue (tree E K.shape V.shape) (both K.knows V.knows) this.bytes.now this.pos }
-        ensures found { (t : Tree Place) → IsMapAt this.entry.bytes.now E K.shape V.shape this.entry.pos t
+        requires has { HasMap E K.shape V.shape K.knows V.knows this }
+        ensures found { (t : Tree Place) → IsMap E K.shape V.shape this.entry t
             → IsTrue result → (e : Place) × Contains (items t) e × IsEqualKey K.key_of K.order this.entry.bytes.now query.now e }
-        ensures answers { (t : Tree Place) (order : Place → Ordering) → IsMapAt this.entry.bytes.now E K.shape V.shape this.entry.pos t
+        ensures answers { (t : Tree Place) (order : Place → Ordering) → IsMap E K.shape V.shape this.entry t
             → QueryOrders K.key_of K.order this.entry.bytes.now query.now order (items t)
             → result ≡ is_some (descend order t) }
     {
@@ -98,12 +98,12 @@ impl<K, V: Portable, const E: usize> ArchivedBTreeMap<K, V, E> {
     pub fn index<'a, Q>(this: Ref<'a, ArchivedBTreeMap<K, V, E>>, query: &Q) -> Ref<'a, V>
     where
         K: ArchivedKey<Q>,
-        requires has { HasValue (tree E K.shape V.shape) (both K.knows V.knows) this.bytes.now this.pos }
+        requires has { HasMap E K.shape V.shape K.knows V.knows this }
         requires present { HasKey K.key_of K.order this.bytes.now E K.shape V.shape this.pos query.now }
         ensures there { HasValue V.shape V.knows result.bytes.now result.pos }
-        ensures found { (t : Tree Place) → IsMapAt this.entry.bytes.now E K.shape V.shape this.entry.pos t
+        ensures found { (t : Tree Place) → IsMap E K.shape V.shape this.entry t
             → Finds (value_at this.entry.bytes) (IsEqualKey K.key_of K.order this.entry.bytes.now query.now) (items t) (Some result) }
-        ensures answers { (t : Tree Place) (order : Place → Ordering) → IsMapAt this.entry.bytes.now E K.shape V.shape this.entry.pos t
+        ensures answers { (t : Tree Place) (order : Place → Ordering) → IsMap E K.shape V.shape this.entry t
             → QueryOrders K.key_of K.order this.entry.bytes.now query.now order (items t)
             → Some result ≡ option_map (value_at this.entry.bytes) (descend order t) }
     {
@@ -119,13 +119,13 @@ impl<K: Portable, V: Portable, const E: usize> ArchivedBTreeMap<K, V, E> {
         query: &Q,
         compare: &F,
     ) -> Option<(Ref<'a, K>, Ref<'a, V>)>
-        requires has { HasValue (tree E K.shape V.shape) (both K.knows V.knows) this.bytes.now this.pos }
-        requires callable { (t : Tree Place) → IsMapAt this.bytes.now E K.shape V.shape this.pos t
+        requires has { HasMap E K.shape V.shape K.knows V.knows this }
+        requires callable { (t : Tree Place) → IsMap E K.shape V.shape this t
             → All (λ e. HasValue K.shape K.knows this.bytes.now e.key → F.pre compare.now query (key_at this.bytes e)) (items t) }
-        ensures there { IfSome result (λ r. HasValue K.shape K.knows r.0.bytes.now r.0.pos × HasValue V.shape V.knows r.1.bytes.now r.1.pos) }
-        ensures found { (t : Tree Place) → IsMapAt this.entry.bytes.now E K.shape V.shape this.entry.pos t
+        ensures there { IfSome result (IsThere K.shape V.shape K.knows V.knows) }
+        ensures found { (t : Tree Place) → IsMap E K.shape V.shape this.entry t
             → Finds (entry_at this.entry.bytes) (CallsEqual F.post compare.now query.entry this.entry.bytes) (items t) result }
-        ensures answers { (t : Tree Place) (order : Place → Ordering) → IsMapAt this.entry.bytes.now E K.shape V.shape this.entry.pos t
+        ensures answers { (t : Tree Place) (order : Place → Ordering) → IsMap E K.shape V.shape this.entry t
             → CallsOrder F.post compare.now query.entry this.entry.bytes order (items t)
             → result ≡ option_map (entry_at this.entry.bytes) (descend order t) }
     {

@@ -5,8 +5,8 @@ ghost use Rattle.archive_shape_layout.specs.Shape.Shape.{tree};
 ghost use Rattle.archive_shape_layout.proofs.Naming.{first_types, other_types};
 ghost use Rattle.archive_btree_nodes.specs.BtreeLayout.Tree.{Tree, items};
 ghost use Rattle.archive_btree_nodes.specs.BtreeLayout.Reading.{Place};
-ghost use Rattle.archive_forms_values.specs.Parts.{HasValue, both};
-ghost use Rattle.archive_btree_walking.specs.Maps.{IsMapAt};
+ghost use Rattle.archive_forms_values.specs.Parts.{both};
+ghost use Rattle.archive_btree_walking.specs.Maps.{IsMap, HasMap};
 
 use archive_btree_nodes::check_btree_each;
 use archive_btree_walking::count_at;
@@ -76,16 +76,16 @@ impl<C: ArchiveContext, K: CheckBytes<C>, V: CheckBytes<C>, const E: usize> Chec
 impl<K: Portable, V: Portable, const E: usize> ArchivedBTreeMap<K, V, E> {
     /// Returns the number of entries.
     pub fn len(this: Ref<'_, ArchivedBTreeMap<K, V, E>>) -> usize
-        requires { HasValue (tree E K.shape V.shape) (both K.knows V.knows) this.bytes.now this.pos }
-        ensures { (t : Tree Place) → IsMapAt this.entry.bytes.now E K.shape V.shape this.entry.pos t → result ≡ length (items t) }
+        requires { HasMap E K.shape V.shape K.knows V.knows this }
+        ensures { (t : Tree Place) → IsMap E K.shape V.shape this.entry t → result ≡ length (items t) }
     {
         count_at(this.bytes, this.pos)
     }
 
     /// Checks whether the map has no entries.
     pub fn is_empty(this: Ref<'_, ArchivedBTreeMap<K, V, E>>) -> bool
-        requires { HasValue (tree E K.shape V.shape) (both K.knows V.knows) this.bytes.now this.pos }
-        ensures { (t : Tree Place) → IsMapAt this.entry.bytes.now E K.shape V.shape this.entry.pos t → IsTrue result ↔ (items t ≡ []) }
+        requires { HasMap E K.shape V.shape K.knows V.knows this }
+        ensures { (t : Tree Place) → IsMap E K.shape V.shape this.entry t → IsTrue result ↔ (items t ≡ []) }
     {
         ArchivedBTreeMap::len(this) == 0
     }

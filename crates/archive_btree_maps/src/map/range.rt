@@ -7,9 +7,9 @@ ghost use Rattle.archive_btree_nodes.specs.BtreeLayout.Tree.{Tree, items};
 ghost use Rattle.archive_btree_nodes.specs.BtreeLayout.Descent.{Ascends};
 ghost use Rattle.archive_btree_nodes.specs.BtreeLayout.Reading.{Place};
 ghost use Rattle.archive_btree_nodes.specs.Ranges.{IsRun};
-ghost use Rattle.archive_forms_values.specs.Parts.{HasValue, both};
+ghost use Rattle.archive_forms_values.specs.Parts.{HasValue};
 ghost use Rattle.archive_btree_walking.specs.Lookups.{QueryOrders};
-ghost use Rattle.archive_btree_walking.specs.Maps.{IsMapAt};
+ghost use Rattle.archive_btree_walking.specs.Maps.{IsMap, HasMap};
 ghost use Rattle.archive_btree_walking.specs.Ranges.{OfQueries, CallsOrderOf, MayCompare, items_between};
 ghost use Rattle.archive_btree_walking.specs.Refs.{key_at, entry_at, IsThere};
 
@@ -28,11 +28,11 @@ impl<K, V: Portable, const E: usize> ArchivedBTreeMap<K, V, E> {
     ) -> Range<'a, K, V>
     where
         K: ArchivedKey<Q>,
-        requires has { HasValue (tree E K.shape V.shape) (both K.knows V.knows) this.bytes.now this.pos }
+        requires has { HasMap E K.shape V.shape K.knows V.knows this }
         ensures there { All (IsThere K.shape V.shape K.knows V.knows) result }
-        ensures within { (t : Tree Place) → IsMapAt this.entry.bytes.now E K.shape V.shape this.entry.pos t
+        ensures within { (t : Tree Place) → IsMap E K.shape V.shape this.entry t
             → IsRun result (map (entry_at this.entry.bytes) (items t)) }
-        ensures between { (t : Tree Place) (order : Q → Place → Ordering) → IsMapAt this.entry.bytes.now E K.shape V.shape this.entry.pos t
+        ensures between { (t : Tree Place) (order : Q → Place → Ordering) → IsMap E K.shape V.shape this.entry t
             → R.has_bounds bounds
             → OfQueries (λ query. QueryOrders K.key_of K.order this.entry.bytes.now query (order query) (items t) × Ascends (order query) (items t))
             (R.start_bound bounds) (R.end_bound bounds)
@@ -65,13 +65,13 @@ impl<K: Portable, V: Portable, const E: usize> ArchivedBTreeMap<K, V, E> {
         bounds: R,
         compare: &F,
     ) -> Range<'a, K, V>
-        requires has { HasValue (tree E K.shape V.shape) (both K.knows V.knows) this.bytes.now this.pos }
-        requires callable { (t : Tree Place) → IsMapAt this.bytes.now E K.shape V.shape this.pos t
+        requires has { HasMap E K.shape V.shape K.knows V.knows this }
+        requires callable { (t : Tree Place) → IsMap E K.shape V.shape this t
             → All (λ e. HasValue K.shape K.knows this.bytes.now e.key → MayCompare F.pre compare.now (R.has_bounds bounds) (R.start_bound bounds) (R.end_bound bounds) this.bytes e) (items t) }
         ensures there { All (IsThere K.shape V.shape K.knows V.knows) result }
-        ensures within { (t : Tree Place) → IsMapAt this.entry.bytes.now E K.shape V.shape this.entry.pos t
+        ensures within { (t : Tree Place) → IsMap E K.shape V.shape this.entry t
             → IsRun result (map (entry_at this.entry.bytes) (items t)) }
-        ensures between { (t : Tree Place) (order : Q → Place → Ordering) → IsMapAt this.entry.bytes.now E K.shape V.shape this.entry.pos t
+        ensures between { (t : Tree Place) (order : Q → Place → Ordering) → IsMap E K.shape V.shape this.entry t
             → R.has_bounds bounds
             → OfQueries (λ query. CallsOrderOf F.post compare.now query this.entry.bytes (order query) (items t) × Ascends (order query) (items t))
             (R.start_bound bounds) (R.end_bound bounds)

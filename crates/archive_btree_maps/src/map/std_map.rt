@@ -1,11 +1,9 @@
 //! Equality of a map and a map of std.
 ghost use Rattle.std.specs.Prelude.{◌≡◌, ◌↔◌, IsTrue, All};
 ghost use Rattle.std.specs.List.{AllZip};
-ghost use Rattle.archive_shape_layout.specs.Shape.Shape.{tree};
 ghost use Rattle.archive_btree_nodes.specs.BtreeLayout.Tree.{Tree, items};
 ghost use Rattle.archive_btree_nodes.specs.BtreeLayout.Reading.{Place};
-ghost use Rattle.archive_forms_values.specs.Parts.{HasValue, both};
-ghost use Rattle.archive_btree_walking.specs.Maps.{IsMapAt};
+ghost use Rattle.archive_btree_walking.specs.Maps.{IsMap, HasMap};
 ghost use Rattle.archive_btree_walking.specs.Refs.{IsThere};
 ghost use Rattle.archive_btree_maps.specs.StdMaps.{IsSamePair, IsSameEntry};
 
@@ -51,8 +49,8 @@ pub fn eq_btree_map<Q: Ord, W, K: ArchivedKey<Q>, V: ArchivedKey<W>, A: Allocato
     this: &Ref<'_, ArchivedBTreeMap<K, V, E>>,
     other: &BTreeMap<Q, W, A>,
 ) -> bool
-    requires { HasValue (tree E K.shape V.shape) (both K.knows V.knows) this.now.bytes.now this.now.pos }
-    ensures { (t : Tree Place) → IsMapAt this.now.bytes.now E K.shape V.shape this.now.pos t
+    requires { HasMap E K.shape V.shape K.knows V.knows this.now }
+    ensures { (t : Tree Place) → IsMap E K.shape V.shape this.now t
         → IsTrue result ↔ AllZip (IsSameEntry K.key_of K.order V.key_of V.order this.now.bytes.now) (items t) other.now.entries }
 {
     same_entries(ArchivedBTreeMap::iter(*this), other)

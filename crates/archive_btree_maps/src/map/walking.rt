@@ -4,8 +4,7 @@ ghost use Rattle.archive_shape_layout.specs.Shape.Shape.{tree};
 ghost use Rattle.archive_btree_nodes.specs.BtreeLayout.Tree.{Tree, items};
 ghost use Rattle.archive_btree_nodes.specs.BtreeLayout.Reading.{Place};
 ghost use Rattle.archive_btree_nodes.specs.Visiting.{VisitsAll, BreaksWith, IsCallableAt};
-ghost use Rattle.archive_forms_values.specs.Parts.{HasValue, both};
-ghost use Rattle.archive_btree_walking.specs.Maps.{IsMapAt};
+ghost use Rattle.archive_btree_walking.specs.Maps.{IsMap, HasMap};
 ghost use Rattle.archive_btree_walking.specs.Refs.{key_at, value_at, entry_at};
 ghost use Rattle.archive_btree_maps.specs.MapVisits.{MayCallAt, CallsAt};
 
@@ -17,24 +16,24 @@ use std::ops::ControlFlow;
 impl<K: Portable, V: Portable, const E: usize> ArchivedBTreeMap<K, V, E> {
     /// Returns an iterator over the entries in the order of their keys.
     pub fn iter<'a>(this: Ref<'a, ArchivedBTreeMap<K, V, E>>) -> Iter<'a, K, V>
-        requires has { HasValue (tree E K.shape V.shape) (both K.knows V.knows) this.bytes.now this.pos }
-        ensures { (t : Tree Place) → IsMapAt this.entry.bytes.now E K.shape V.shape this.entry.pos t → result ≡ map (entry_at this.entry.bytes) (items t) }
+        requires has { HasMap E K.shape V.shape K.knows V.knows this }
+        ensures { (t : Tree Place) → IsMap E K.shape V.shape this.entry t → result ≡ map (entry_at this.entry.bytes) (items t) }
     {
         Iter::new(this.bytes, walk_at::<K, V, E>(this.bytes, this.pos))
     }
 
     /// Returns an iterator over the keys in their order.
     pub fn keys<'a>(this: Ref<'a, ArchivedBTreeMap<K, V, E>>) -> Keys<'a, K, V>
-        requires has { HasValue (tree E K.shape V.shape) (both K.knows V.knows) this.bytes.now this.pos }
-        ensures { (t : Tree Place) → IsMapAt this.entry.bytes.now E K.shape V.shape this.entry.pos t → result ≡ map (key_at this.entry.bytes) (items t) }
+        requires has { HasMap E K.shape V.shape K.knows V.knows this }
+        ensures { (t : Tree Place) → IsMap E K.shape V.shape this.entry t → result ≡ map (key_at this.entry.bytes) (items t) }
     {
         Keys::new(ArchivedBTreeMap::iter(this))
     }
 
     /// Returns an iterator over the values in the order of their keys.
     pub fn values<'a>(this: Ref<'a, ArchivedBTreeMap<K, V, E>>) -> Values<'a, K, V>
-        requires has { HasValue (tree E K.shape V.shape) (both K.knows V.knows) this.bytes.now this.pos }
-        ensures { (t : Tree Place) → IsMapAt this.entry.bytes.now E K.shape V.shape this.entry.pos t → result ≡ map (value_at this.entry.bytes) (items t) }
+        requires has { HasMap E K.shape V.shape K.knows V.knows this }
+        ensures { (t : Tree Place) → IsMap E K.shape V.shape this.entry t → result ≡ map (value_at this.entry.bytes) (items t) }
     {
         Values::new(ArchivedBTreeMap::iter(this))
     }
@@ -45,9 +44,9 @@ impl<K: Portable, V: Portable, const E: usize> ArchivedBTreeMap<K, V, E> {
         this: Ref<'_, ArchivedBTreeMap<K, V, E>>,
         visit: &mut F,
     ) -> Option<B>
-        requires has { HasValue (tree E K.shape V.shape) (both K.knows V.knows) this.bytes.now this.pos }
-        requires callable { (t : Tree Place) → IsMapAt this.bytes.now E K.shape V.shape this.pos t → IsCallableAt (MayCallAt F.pre this.bytes) (items t) }
-        ensures { (t : Tree Place) → IsMapAt this.entry.bytes.now E K.shape V.shape this.entry.pos t → MatchOption result
+        requires has { HasMap E K.shape V.shape K.knows V.knows this }
+        requires callable { (t : Tree Place) → IsMap E K.shape V.shape this t → IsCallableAt (MayCallAt F.pre this.bytes) (items t) }
+        ensures { (t : Tree Place) → IsMap E K.shape V.shape this.entry t → MatchOption result
             (VisitsAll (CallsAt F.step this.entry.bytes) visit.old visit.new (items t))
             (λ value. BreaksWith (CallsAt F.step this.entry.bytes) visit.old visit.new (items t) value) }
     {

@@ -6,7 +6,7 @@ ghost use Rattle.std.specs.Cmp.Lexicographic.{lists_equiv};
 ghost use Rattle.archive_btree_nodes.specs.BtreeLayout.Tree.{Tree, items};
 ghost use Rattle.archive_btree_nodes.specs.BtreeLayout.Reading.{Place};
 ghost use Rattle.archive_btree_walking.specs.Lookups.{IsEqualKey};
-ghost use Rattle.archive_btree_maps.specs.Sets.{HasSet, IsSetAt};
+ghost use Rattle.archive_btree_maps.specs.Sets.{IsSet, HasSet};
 ghost use Rattle.archive_btree_maps.specs.Keys.{keys_of};
 ghost use Rattle.archive_btree_maps.specs.SetComparing.{set_equality};
 
@@ -34,7 +34,7 @@ pub fn eq_btree_set<Q: Ord, K: ArchivedKey<Q>, A: Allocator, const E: usize>(
     other: &BTreeSet<Q, A>,
 ) -> bool
     requires has { HasSet E K.shape K.knows this.now.bytes.now this.now.pos }
-    ensures { (t : Tree Place) → IsSetAt this.now.bytes.now E K.shape this.now.pos t
+    ensures { (t : Tree Place) → IsSet E K.shape this.now t
         → IsTrue result ↔ AllZip (λ e query. IsEqualKey K.key_of K.order this.now.bytes.now query e) (items t) other.now.keys }
 {
     let keys = ArchivedBTreeSet::iter(*this);

@@ -8,7 +8,7 @@ ghost use Rattle.archive_btree_nodes.specs.BtreeLayout.Reading.{Place};
 ghost use Rattle.archive_forms_values.specs.Parts.{HasValue};
 ghost use Rattle.archive_btree_walking.specs.Refs.{key_at};
 ghost use Rattle.archive_btree_walking.specs.Lookups.{QueryOrders, IsEqualKey, Finds};
-ghost use Rattle.archive_btree_maps.specs.Sets.{HasSet, IsSetAt};
+ghost use Rattle.archive_btree_maps.specs.Sets.{IsSet, HasSet};
 
 use crate::map::ArchivedBTreeMap;
 use crate::set::ArchivedBTreeSet;
@@ -21,9 +21,9 @@ impl<K, const E: usize> ArchivedBTreeSet<K, E> {
     where
         K: ArchivedKey<Q>,
         requires has { HasSet E K.shape K.knows this.bytes.now this.pos }
-        ensures found { (t : Tree Place) → IsSetAt this.entry.bytes.now E K.shape this.entry.pos t
+        ensures found { (t : Tree Place) → IsSet E K.shape this.entry t
             → IsTrue result → (e : Place) × Contains (items t) e × IsEqualKey K.key_of K.order this.entry.bytes.now query.now e }
-        ensures answers { (t : Tree Place) (order : Place → Ordering) → IsSetAt this.entry.bytes.now E K.shape this.entry.pos t
+        ensures answers { (t : Tree Place) (order : Place → Ordering) → IsSet E K.shape this.entry t
             → QueryOrders K.key_of K.order this.entry.bytes.now query.now order (items t)
             → result ≡ is_some (descend order t) }
     {
@@ -36,9 +36,9 @@ impl<K, const E: usize> ArchivedBTreeSet<K, E> {
         K: ArchivedKey<Q>,
         requires has { HasSet E K.shape K.knows this.bytes.now this.pos }
         ensures there { IfSome result (λ r. HasValue K.shape K.knows r.bytes.now r.pos) }
-        ensures found { (t : Tree Place) → IsSetAt this.entry.bytes.now E K.shape this.entry.pos t
+        ensures found { (t : Tree Place) → IsSet E K.shape this.entry t
             → Finds (key_at this.entry.bytes) (IsEqualKey K.key_of K.order this.entry.bytes.now query.now) (items t) result }
-        ensures answers { (t : Tree Place) (order : Place → Ordering) → IsSetAt this.entry.bytes.now E K.shape this.entry.pos t
+        ensures answers { (t : Tree Place) (order : Place → Ordering) → IsSet E K.shape this.entry t
             → QueryOrders K.key_of K.order this.entry.bytes.now query.now order (items t)
             → result ≡ option_map (key_at this.entry.bytes) (descend order t) }
     {

@@ -5,7 +5,7 @@ ghost use Rattle.archive_shape_layout.proofs.Naming.{first_types};
 ghost use Rattle.archive_btree_nodes.specs.BtreeLayout.Tree.{Tree, items};
 ghost use Rattle.archive_btree_nodes.specs.BtreeLayout.Reading.{Place};
 ghost use Rattle.archive_btree_walking.specs.Refs.{ref_at};
-ghost use Rattle.archive_btree_maps.specs.Sets.{set_shape, set_knows, HasSet, IsSetAt};
+ghost use Rattle.archive_btree_maps.specs.Sets.{IsSet, set_shape, set_knows, HasSet};
 
 use crate::map::ArchivedBTreeMap;
 use archive_shape::{ArchiveContext, CheckBytes, Error, NoUndef, Portable, Ref, Shape};
@@ -68,7 +68,7 @@ impl<K: Portable, const E: usize> ArchivedBTreeSet<K, E> {
     /// Returns the number of keys.
     pub fn len(this: Ref<'_, ArchivedBTreeSet<K, E>>) -> usize
         requires { HasSet E K.shape K.knows this.bytes.now this.pos }
-        ensures { (t : Tree Place) → IsSetAt this.entry.bytes.now E K.shape this.entry.pos t → result ≡ length (items t) }
+        ensures { (t : Tree Place) → IsSet E K.shape this.entry t → result ≡ length (items t) }
     {
         ArchivedBTreeMap::len(as_map(this))
     }
@@ -76,7 +76,7 @@ impl<K: Portable, const E: usize> ArchivedBTreeSet<K, E> {
     /// Checks whether the set has no keys.
     pub fn is_empty(this: Ref<'_, ArchivedBTreeSet<K, E>>) -> bool
         requires { HasSet E K.shape K.knows this.bytes.now this.pos }
-        ensures { (t : Tree Place) → IsSetAt this.entry.bytes.now E K.shape this.entry.pos t → IsTrue result ↔ (items t ≡ []) }
+        ensures { (t : Tree Place) → IsSet E K.shape this.entry t → IsTrue result ↔ (items t ≡ []) }
     {
         ArchivedBTreeMap::is_empty(as_map(this))
     }

@@ -1,10 +1,8 @@
 //! Look-ups in archived hash maps by a comparison that the caller passes.
 ghost use Rattle.std.specs.Prelude.{ℕ, IfSome};
-ghost use Rattle.archive_shape_layout.specs.Shape.Shape.{table};
-ghost use Rattle.archive_forms_values.specs.Tuples.{tuple2};
-ghost use Rattle.archive_forms_values.specs.Parts.{HasValue, both};
-ghost use Rattle.archive_hash_walking.specs.Tables.{Buckets, IsTableAt};
-ghost use Rattle.archive_hash_walking.specs.Maps.{HashesTo, LooksUpKey, query_calls, key_at, value_at, entry_at};
+ghost use Rattle.archive_forms_values.specs.Parts.{HasValue};
+ghost use Rattle.archive_hash_walking.specs.Tables.{Buckets};
+ghost use Rattle.archive_hash_walking.specs.Maps.{IsThere, IsMap, HasMap, HashesTo, LooksUpKey, query_calls, key_at, value_at, entry_at};
 
 use crate::map::ArchivedHashMap;
 use archive_hash_walking::{search_with, value_position};
@@ -19,10 +17,10 @@ impl<K: Portable, V: Portable, H: Hasher + Default + Drop> ArchivedHashMap<K, V,
         query: &Q,
         accepts: &F,
     ) -> Option<(Ref<'a, K>, Ref<'a, V>)>
-        requires has { HasValue (table (tuple2 K.shape V.shape)) (both K.knows V.knows) this.bytes.now this.pos }
+        requires has { HasMap K.shape V.shape K.knows V.knows this }
         requires callable { (at : ℕ) → HasValue K.shape K.knows this.bytes.now at → F.pre accepts.now query (key_at this.bytes at) }
-        ensures there { IfSome result (λ r. HasValue K.shape K.knows r.0.bytes.now r.0.pos × HasValue V.shape V.knows r.1.bytes.now r.1.pos) }
-        ensures answers { (b : Buckets) → IsTableAt this.entry.bytes.now (tuple2 K.shape V.shape) this.entry.pos b
+        ensures there { IfSome result (IsThere K.shape V.shape K.knows V.knows) }
+        ensures answers { (b : Buckets) → IsMap K.shape V.shape this.entry b
             → LooksUpKey (HashesTo H.is_default H.write H.finish (Q.hash_input query.now)) (query_calls F.post accepts.now query.entry this.entry.bytes)
             (entry_at this.entry.bytes K.shape V.shape) K.shape V.shape b result }
     {
@@ -41,10 +39,10 @@ impl<K: Portable, V: Portable, H: Hasher + Default + Drop> ArchivedHashMap<K, V,
         query: &Q,
         accepts: &F,
     ) -> Option<Ref<'a, V>>
-        requires has { HasValue (table (tuple2 K.shape V.shape)) (both K.knows V.knows) this.bytes.now this.pos }
+        requires has { HasMap K.shape V.shape K.knows V.knows this }
         requires callable { (at : ℕ) → HasValue K.shape K.knows this.bytes.now at → F.pre accepts.now query (key_at this.bytes at) }
         ensures there { IfSome result (λ r. HasValue V.shape V.knows r.bytes.now r.pos) }
-        ensures answers { (b : Buckets) → IsTableAt this.entry.bytes.now (tuple2 K.shape V.shape) this.entry.pos b
+        ensures answers { (b : Buckets) → IsMap K.shape V.shape this.entry b
             → LooksUpKey (HashesTo H.is_default H.write H.finish (Q.hash_input query.now)) (query_calls F.post accepts.now query.entry this.entry.bytes)
             (value_at this.entry.bytes K.shape V.shape) K.shape V.shape b result }
     {

@@ -1,11 +1,9 @@
 //! Checks whether two archived hash maps are equal.
 ghost use Rattle.std.specs.Prelude.{◌≡◌, ◌⊎◌, true, false, length, map, All, Contains};
-ghost use Rattle.archive_shape_layout.specs.Shape.Shape.{table};
 ghost use Rattle.archive_forms_values.specs.Tuples.{tuple2};
-ghost use Rattle.archive_forms_values.specs.Parts.{HasValue, both};
 ghost use Rattle.archive_shape.specs.declared.references.refs.Ref.{Ref};
-ghost use Rattle.archive_hash_walking.specs.Tables.{Buckets, IsTableAt, full_places, item_positions};
-ghost use Rattle.archive_hash_walking.specs.Maps.{entry_at};
+ghost use Rattle.archive_hash_walking.specs.Tables.{Buckets, full_places, item_positions};
+ghost use Rattle.archive_hash_walking.specs.Maps.{IsMap, HasMap, entry_at};
 ghost use Rattle.archive_hash_walking.specs.Equal.{KeyHashesTo, HasEqual};
 
 use crate::map::ArchivedHashMap;
@@ -21,14 +19,14 @@ impl<K: ArchivedHash, V: ArchivedEq, H: Hasher + Default + Drop> ArchivedHashMap
         this: Ref<'_, ArchivedHashMap<K, V, H>>,
         other: Ref<'_, ArchivedHashMap<K, V, H>>,
     ) -> bool
-        requires this { HasValue (table (tuple2 K.shape V.shape)) (both K.knows V.knows) this.bytes.now this.pos }
-        requires other { HasValue (table (tuple2 K.shape V.shape)) (both K.knows V.knows) other.bytes.now other.pos }
-        ensures equal { (b c : Buckets) → IsTableAt this.entry.bytes.now (tuple2 K.shape V.shape) this.entry.pos b → IsTableAt other.entry.bytes.now (tuple2 K.shape V.shape) other.entry.pos c
+        requires this { HasMap K.shape V.shape K.knows V.knows this }
+        requires other { HasMap K.shape V.shape K.knows V.knows other }
+        ensures equal { (b c : Buckets) → IsMap K.shape V.shape this.entry b → IsMap K.shape V.shape other.entry c
             → result ≡ true
             → (length (full_places b) ≡ length (full_places c))
             × All (λ (e : Ref K × Ref V). HasEqual (KeyHashesTo H.is_default H.write H.finish K.shape K.knows K.hashed) K.shape V.shape K.knows V.knows K.equal V.equal other.entry.bytes.now c e true)
             (map (entry_at this.entry.bytes K.shape V.shape) (item_positions (tuple2 K.shape V.shape) b)) }
-        ensures unequal { (b c : Buckets) → IsTableAt this.entry.bytes.now (tuple2 K.shape V.shape) this.entry.pos b → IsTableAt other.entry.bytes.now (tuple2 K.shape V.shape) other.entry.pos c
+        ensures unequal { (b c : Buckets) → IsMap K.shape V.shape this.entry b → IsMap K.shape V.shape other.entry c
             → result ≡ false
             → (length (full_places b) ≡ length (full_places c) → ⊥)
             ⊎ ((e : Ref K × Ref V) × Contains (map (entry_at this.entry.bytes K.shape V.shape) (item_positions (tuple2 K.shape V.shape) b)) e

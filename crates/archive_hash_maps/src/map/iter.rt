@@ -3,7 +3,7 @@ ghost use Rattle.std.specs.Prelude.{◌≡◌, All, map};
 ghost use Rattle.archive_shape_layout.specs.Shape.{size_of};
 ghost use Rattle.archive_shape_layout.specs.Shape.Shape.{table};
 ghost use Rattle.archive_forms_values.specs.Parts.{HasValue};
-ghost use Rattle.archive_hash_walking.specs.Tables.{Buckets, IsTableAt, item_positions, full_places};
+ghost use Rattle.archive_hash_walking.specs.Tables.{IsTable, HasTable, Buckets, item_positions, full_places};
 ghost use Rattle.archive_hash_walking.specs.Places.{full_place};
 
 use crate::map::ArchivedHashTable;
@@ -13,9 +13,9 @@ use archive_shape::{Portable, Ref};
 impl<T: Portable> ArchivedHashTable<T> {
     /// Returns the full places in ascending order, each with its tag and its item.
     pub fn full_places<'a>(this: Ref<'a, ArchivedHashTable<T>>) -> FullPlaces<'a, T>
-        requires { HasValue (table T.shape) T.knows this.bytes.now this.pos }
+        requires { HasTable T.shape T.knows this }
         ensures there { All (λ e. HasValue T.shape T.knows e.2.bytes.now e.2.pos) result }
-        ensures places { (b : Buckets) → IsTableAt this.entry.bytes.now T.shape this.entry.pos b
+        ensures places { (b : Buckets) → IsTable T.shape this.entry b
             → result ≡ map (full_place this.entry.bytes b.controls b.target (size_of T.shape)) (full_places b) }
     {
         full_places_at(this.bytes, this.pos)
@@ -23,8 +23,8 @@ impl<T: Portable> ArchivedHashTable<T> {
 
     /// Returns the positions of the items, by ascending place.
     pub fn raw_iter<'a>(this: Ref<'a, ArchivedHashTable<T>>) -> RawIter<'a, T>
-        requires { HasValue (table T.shape) T.knows this.bytes.now this.pos }
-        ensures { (b : Buckets) → IsTableAt this.entry.bytes.now T.shape this.entry.pos b → result ≡ item_positions T.shape b }
+        requires { HasTable T.shape T.knows this }
+        ensures { (b : Buckets) → IsTable T.shape this.entry b → result ≡ item_positions T.shape b }
     {
         raw_iter_at(this.bytes, this.pos)
     }

@@ -1,11 +1,9 @@
 //! Look-ups of keys in archived hash maps.
 ghost use Rattle.std.specs.Prelude.{◌≡◌, ℕ, IfSome, Option, Some};
 ghost use Rattle.std.specs.Option.{is_some};
-ghost use Rattle.archive_shape_layout.specs.Shape.Shape.{table};
-ghost use Rattle.archive_forms_values.specs.Tuples.{tuple2};
-ghost use Rattle.archive_forms_values.specs.Parts.{HasValue, both};
-ghost use Rattle.archive_hash_walking.specs.Tables.{Buckets, IsTableAt};
-ghost use Rattle.archive_hash_walking.specs.Maps.{HashesTo, KeySays, HasKey, LooksUpKey, value_at, entry_at};
+ghost use Rattle.archive_forms_values.specs.Parts.{HasValue};
+ghost use Rattle.archive_hash_walking.specs.Tables.{Buckets};
+ghost use Rattle.archive_hash_walking.specs.Maps.{IsThere, IsMap, HasMap, HashesTo, KeySays, HasKey, LooksUpKey, value_at, entry_at};
 
 use crate::map::ArchivedHashMap;
 use archive_hash_walking::{search_key, value_position};
@@ -20,9 +18,9 @@ impl<K, V: Portable, H: Hasher + Default + Drop> ArchivedHashMap<K, V, H> {
     ) -> Option<(Ref<'a, K>, Ref<'a, V>)>
     where
         K: ArchivedKey<Q>,
-        requires has { HasValue (table (tuple2 K.shape V.shape)) (both K.knows V.knows) this.bytes.now this.pos }
-        ensures there { IfSome result (λ r. HasValue K.shape K.knows r.0.bytes.now r.0.pos × HasValue V.shape V.knows r.1.bytes.now r.1.pos) }
-        ensures answers { (b : Buckets) → IsTableAt this.entry.bytes.now (tuple2 K.shape V.shape) this.entry.pos b
+        requires has { HasMap K.shape V.shape K.knows V.knows this }
+        ensures there { IfSome result (IsThere K.shape V.shape K.knows V.knows) }
+        ensures answers { (b : Buckets) → IsMap K.shape V.shape this.entry b
             → LooksUpKey (HashesTo H.is_default H.write H.finish (Q.hash_input query.now)) (KeySays K.key_of K.order this.entry.bytes.now query.now)
             (entry_at this.entry.bytes K.shape V.shape) K.shape V.shape b result }
     {
@@ -42,9 +40,9 @@ impl<K, V: Portable, H: Hasher + Default + Drop> ArchivedHashMap<K, V, H> {
     ) -> Option<Ref<'a, V>>
     where
         K: ArchivedKey<Q>,
-        requires has { HasValue (table (tuple2 K.shape V.shape)) (both K.knows V.knows) this.bytes.now this.pos }
+        requires has { HasMap K.shape V.shape K.knows V.knows this }
         ensures there { IfSome result (λ r. HasValue V.shape V.knows r.bytes.now r.pos) }
-        ensures answers { (b : Buckets) → IsTableAt this.entry.bytes.now (tuple2 K.shape V.shape) this.entry.pos b
+        ensures answers { (b : Buckets) → IsMap K.shape V.shape this.entry b
             → LooksUpKey (HashesTo H.is_default H.write H.finish (Q.hash_input query.now)) (KeySays K.key_of K.order this.entry.bytes.now query.now)
             (value_at this.entry.bytes K.shape V.shape) K.shape V.shape b result }
     {
@@ -58,8 +56,8 @@ impl<K, V: Portable, H: Hasher + Default + Drop> ArchivedHashMap<K, V, H> {
     pub fn contains_key<Q: Hash>(this: Ref<'_, ArchivedHashMap<K, V, H>>, query: &Q) -> bool
     where
         K: ArchivedKey<Q>,
-        requires has { HasValue (table (tuple2 K.shape V.shape)) (both K.knows V.knows) this.bytes.now this.pos }
-        ensures answers { (b : Buckets) → IsTableAt this.entry.bytes.now (tuple2 K.shape V.shape) this.entry.pos b
+        requires has { HasMap K.shape V.shape K.knows V.knows this }
+        ensures answers { (b : Buckets) → IsMap K.shape V.shape this.entry b
             → (found : Option ℕ) × (result ≡ is_some found)
             × LooksUpKey (HashesTo H.is_default H.write H.finish (Q.hash_input query.now)) (KeySays K.key_of K.order this.entry.bytes.now query.now) (λ at. at) K.shape V.shape b found }
     {
@@ -69,10 +67,10 @@ impl<K, V: Portable, H: Hasher + Default + Drop> ArchivedHashMap<K, V, H> {
     pub fn index<'a, Q: Hash>(this: Ref<'a, ArchivedHashMap<K, V, H>>, query: &Q) -> Ref<'a, V>
     where
         K: ArchivedKey<Q>,
-        requires has { HasValue (table (tuple2 K.shape V.shape)) (both K.knows V.knows) this.bytes.now this.pos }
+        requires has { HasMap K.shape V.shape K.knows V.knows this }
         requires present { HasKey (HashesTo H.is_default H.write H.finish (Q.hash_input query.now)) K.key_of K.order this.bytes.now K.shape V.shape this.pos query.now }
         ensures there { HasValue V.shape V.knows result.bytes.now result.pos }
-        ensures answers { (b : Buckets) → IsTableAt this.entry.bytes.now (tuple2 K.shape V.shape) this.entry.pos b
+        ensures answers { (b : Buckets) → IsMap K.shape V.shape this.entry b
             → LooksUpKey (HashesTo H.is_default H.write H.finish (Q.hash_input query.now)) (KeySays K.key_of K.order this.entry.bytes.now query.now)
             (value_at this.entry.bytes K.shape V.shape) K.shape V.shape b (Some result) }
     {

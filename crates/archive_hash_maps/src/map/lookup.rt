@@ -1,8 +1,7 @@
 //! Look-ups of items in archived hash tables.
 ghost use Rattle.std.specs.Prelude.{◌≡◌, ℕ, IfSome};
-ghost use Rattle.archive_shape_layout.specs.Shape.Shape.{table};
 ghost use Rattle.archive_forms_values.specs.Parts.{HasValue};
-ghost use Rattle.archive_hash_walking.specs.Tables.{Buckets, IsTableAt};
+ghost use Rattle.archive_hash_walking.specs.Tables.{IsTable, HasTable, Buckets};
 ghost use Rattle.archive_hash_walking.specs.Places.{Answers, calls, item_at};
 
 use crate::map::ArchivedHashTable;
@@ -19,9 +18,9 @@ impl<T: Portable> ArchivedHashTable<T> {
         hash: u64,
         accepts: &F,
     ) -> (Option<Ref<'a, T>>, Steps)
-        requires has { HasValue (table T.shape) T.knows this.bytes.now this.pos }
+        requires has { HasTable T.shape T.knows this }
         requires callable { (at : ℕ) → HasValue T.shape T.knows this.bytes.now at → F.pre accepts.now (item_at this.bytes at) }
-        ensures answers { (b : Buckets) → IsTableAt this.entry.bytes.now T.shape this.entry.pos b
+        ensures answers { (b : Buckets) → IsTable T.shape this.entry b
             → Answers (calls F.post accepts.now this.entry.bytes) (item_at this.entry.bytes) T.shape b hash result.0 result.1.strides }
         ensures there { IfSome result.0 (λ r. HasValue T.shape T.knows r.bytes.now r.pos) }
         ensures compares { result.1.comparisons ≡ 0 }
@@ -48,9 +47,9 @@ impl<T: Portable> ArchivedHashTable<T> {
         hash: u64,
         accepts: &F,
     ) -> Option<Ref<'a, T>>
-        requires has { HasValue (table T.shape) T.knows this.bytes.now this.pos }
+        requires has { HasTable T.shape T.knows this }
         requires callable { (at : ℕ) → HasValue T.shape T.knows this.bytes.now at → F.pre accepts.now (item_at this.bytes at) }
-        ensures answers { (b : Buckets) → IsTableAt this.entry.bytes.now T.shape this.entry.pos b
+        ensures answers { (b : Buckets) → IsTable T.shape this.entry b
             → (strides : ℕ) × Answers (calls F.post accepts.now this.entry.bytes) (item_at this.entry.bytes) T.shape b hash result strides }
         ensures there { IfSome result (λ r. HasValue T.shape T.knows r.bytes.now r.pos) }
     {
@@ -63,9 +62,9 @@ impl<T: Portable> ArchivedHashTable<T> {
         hash: u64,
         accepts: &F,
     ) -> Option<Ref<'a, T>>
-        requires has { HasValue (table T.shape) T.knows this.bytes.now this.pos }
+        requires has { HasTable T.shape T.knows this }
         requires callable { (at : ℕ) → HasValue T.shape T.knows this.bytes.now at → F.pre accepts.now (item_at this.bytes at) }
-        ensures answers { (b : Buckets) → IsTableAt this.entry.bytes.now T.shape this.entry.pos b
+        ensures answers { (b : Buckets) → IsTable T.shape this.entry b
             → (strides : ℕ) × Answers (calls F.post accepts.now this.entry.bytes) (item_at this.entry.bytes) T.shape b hash result strides }
         ensures there { IfSome result (λ r. HasValue T.shape T.knows r.bytes.now r.pos) }
     {

@@ -4,8 +4,9 @@ ghost use Rattle.std.proofs.Common.{refl, lit<, lit≤};
 ghost use Rattle.archive_shape_layout.specs.Shape.Shape.{table};
 ghost use Rattle.archive_shape_layout.proofs.Naming.{first_types, other_types};
 ghost use Rattle.archive_forms_values.specs.Tuples.{tuple2};
-ghost use Rattle.archive_forms_values.specs.Parts.{HasValue, both};
-ghost use Rattle.archive_hash_walking.specs.Tables.{Buckets, IsTableAt, full_places};
+ghost use Rattle.archive_forms_values.specs.Parts.{both};
+ghost use Rattle.archive_hash_walking.specs.Tables.{Buckets, full_places};
+ghost use Rattle.archive_hash_walking.specs.Maps.{IsMap, HasMap};
 
 use crate::map::ArchivedHashTable;
 use archive_forms_values::Entry;
@@ -73,24 +74,24 @@ impl<K: Portable, V: Portable, H> ArchivedHashMap<K, V, H> {
 
     /// Returns the number of entries.
     pub fn len(this: Ref<'_, ArchivedHashMap<K, V, H>>) -> usize
-        requires { HasValue (table (tuple2 K.shape V.shape)) (both K.knows V.knows) this.bytes.now this.pos }
-        ensures { (b : Buckets) → IsTableAt this.entry.bytes.now (tuple2 K.shape V.shape) this.entry.pos b → result ≡ length (full_places b) }
+        requires { HasMap K.shape V.shape K.knows V.knows this }
+        ensures { (b : Buckets) → IsMap K.shape V.shape this.entry b → result ≡ length (full_places b) }
     {
         ArchivedHashTable::len(ArchivedHashMap::table(this))
     }
 
     /// Returns whether the map has no entries.
     pub fn is_empty(this: Ref<'_, ArchivedHashMap<K, V, H>>) -> bool
-        requires { HasValue (table (tuple2 K.shape V.shape)) (both K.knows V.knows) this.bytes.now this.pos }
-        ensures { (b : Buckets) → IsTableAt this.entry.bytes.now (tuple2 K.shape V.shape) this.entry.pos b → IsTrue result ↔ (full_places b ≡ []) }
+        requires { HasMap K.shape V.shape K.knows V.knows this }
+        ensures { (b : Buckets) → IsMap K.shape V.shape this.entry b → IsTrue result ↔ (full_places b ≡ []) }
     {
         ArchivedHashTable::is_empty(ArchivedHashMap::table(this))
     }
 
     /// Returns the number of places of the table.
     pub fn capacity(this: Ref<'_, ArchivedHashMap<K, V, H>>) -> usize
-        requires { HasValue (table (tuple2 K.shape V.shape)) (both K.knows V.knows) this.bytes.now this.pos }
-        ensures { (b : Buckets) → IsTableAt this.entry.bytes.now (tuple2 K.shape V.shape) this.entry.pos b → result ≡ b.cap }
+        requires { HasMap K.shape V.shape K.knows V.knows this }
+        ensures { (b : Buckets) → IsMap K.shape V.shape this.entry b → result ≡ b.cap }
     {
         ArchivedHashTable::capacity(ArchivedHashMap::table(this))
     }

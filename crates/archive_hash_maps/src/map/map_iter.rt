@@ -4,9 +4,9 @@ ghost use Rattle.std.specs.Iterator.{YieldsFirst, UpTo, item_count};
 ghost use Rattle.std.specs.Iterator.SizeHint.{IsExactHint, IsWithinCount};
 ghost use Rattle.archive_shape_layout.specs.Shape.Shape.{table};
 ghost use Rattle.archive_forms_values.specs.Tuples.{tuple2};
-ghost use Rattle.archive_forms_values.specs.Parts.{HasValue, both};
-ghost use Rattle.archive_hash_walking.specs.Tables.{Buckets, IsTableAt, item_positions};
-ghost use Rattle.archive_hash_walking.specs.Maps.{key_at, value_at, entry_at, pair_at};
+ghost use Rattle.archive_forms_values.specs.Parts.{HasValue};
+ghost use Rattle.archive_hash_walking.specs.Tables.{Buckets, item_positions};
+ghost use Rattle.archive_hash_walking.specs.Maps.{IsThere, IsMap, HasMap, key_at, value_at, entry_at, pair_at};
 
 use crate::map::{ArchivedHashMap, ArchivedHashTable};
 use archive_forms_values::{Entry, next_multiple};
@@ -161,9 +161,9 @@ impl<'a, K, V> FusedIterator for Values<'a, K, V> {}
 impl<K: Portable, V: Portable, H> ArchivedHashMap<K, V, H> {
     /// Returns the entries by ascending place: each key with its value.
     pub fn iter<'a>(this: Ref<'a, ArchivedHashMap<K, V, H>>) -> Iter<'a, K, V>
-        requires { HasValue (table (tuple2 K.shape V.shape)) (both K.knows V.knows) this.bytes.now this.pos }
-        ensures there { All (λ e. HasValue K.shape K.knows e.0.bytes.now e.0.pos × HasValue V.shape V.knows e.1.bytes.now e.1.pos) result }
-        ensures entries { (b : Buckets) → IsTableAt this.entry.bytes.now (tuple2 K.shape V.shape) this.entry.pos b
+        requires { HasMap K.shape V.shape K.knows V.knows this }
+        ensures there { All (IsThere K.shape V.shape K.knows V.knows) result }
+        ensures entries { (b : Buckets) → IsMap K.shape V.shape this.entry b
             → result ≡ map (entry_at this.entry.bytes K.shape V.shape) (item_positions (tuple2 K.shape V.shape) b) }
     {
         let _len = this.bytes.len();
@@ -177,9 +177,9 @@ impl<K: Portable, V: Portable, H> ArchivedHashMap<K, V, H> {
 
     /// Returns the keys by ascending place.
     pub fn keys<'a>(this: Ref<'a, ArchivedHashMap<K, V, H>>) -> Keys<'a, K, V>
-        requires { HasValue (table (tuple2 K.shape V.shape)) (both K.knows V.knows) this.bytes.now this.pos }
+        requires { HasMap K.shape V.shape K.knows V.knows this }
         ensures there { All (λ r. HasValue K.shape K.knows r.bytes.now r.pos) result }
-        ensures keys { (b : Buckets) → IsTableAt this.entry.bytes.now (tuple2 K.shape V.shape) this.entry.pos b
+        ensures keys { (b : Buckets) → IsMap K.shape V.shape this.entry b
             → result ≡ map (key_at this.entry.bytes) (item_positions (tuple2 K.shape V.shape) b) }
     {
         Keys {
@@ -189,9 +189,9 @@ impl<K: Portable, V: Portable, H> ArchivedHashMap<K, V, H> {
 
     /// Returns the values by ascending place.
     pub fn values<'a>(this: Ref<'a, ArchivedHashMap<K, V, H>>) -> Values<'a, K, V>
-        requires { HasValue (table (tuple2 K.shape V.shape)) (both K.knows V.knows) this.bytes.now this.pos }
+        requires { HasMap K.shape V.shape K.knows V.knows this }
         ensures there { All (λ r. HasValue V.shape V.knows r.bytes.now r.pos) result }
-        ensures values { (b : Buckets) → IsTableAt this.entry.bytes.now (tuple2 K.shape V.shape) this.entry.pos b
+        ensures values { (b : Buckets) → IsMap K.shape V.shape this.entry b
             → result ≡ map (value_at this.entry.bytes K.shape V.shape) (item_positions (tuple2 K.shape V.shape) b) }
     {
         Values {

@@ -2,8 +2,7 @@
 ghost use Rattle.std.specs.Prelude.{◌≡◌, ◌↔◌, [], length, IsTrue};
 ghost use Rattle.std.proofs.Common.{refl, lit<, lit≤};
 ghost use Rattle.archive_shape_layout.specs.Shape.Shape.{table};
-ghost use Rattle.archive_forms_values.specs.Parts.{HasValue};
-ghost use Rattle.archive_hash_walking.specs.Tables.{Buckets, IsTableAt, full_places};
+ghost use Rattle.archive_hash_walking.specs.Tables.{IsTable, HasTable, Buckets, full_places};
 
 use archive_hash_checking::check_table_each;
 use archive_hash_walking::{buckets_at, number_at};
@@ -62,24 +61,24 @@ impl<C: ArchiveContext, T: CheckBytes<C>> CheckBytes<C> for ArchivedHashTable<T>
 impl<T: Portable> ArchivedHashTable<T> {
     /// Returns the number of items.
     pub fn len(this: Ref<'_, ArchivedHashTable<T>>) -> usize
-        requires { HasValue (table T.shape) T.knows this.bytes.now this.pos }
-        ensures { (b : Buckets) → IsTableAt this.entry.bytes.now T.shape this.entry.pos b → result ≡ length (full_places b) }
+        requires { HasTable T.shape T.knows this }
+        ensures { (b : Buckets) → IsTable T.shape this.entry b → result ≡ length (full_places b) }
     {
         number_at(this.bytes, this.pos + 4)
     }
 
     /// Returns whether the table has no items.
     pub fn is_empty(this: Ref<'_, ArchivedHashTable<T>>) -> bool
-        requires { HasValue (table T.shape) T.knows this.bytes.now this.pos }
-        ensures { (b : Buckets) → IsTableAt this.entry.bytes.now T.shape this.entry.pos b → IsTrue result ↔ (full_places b ≡ []) }
+        requires { HasTable T.shape T.knows this }
+        ensures { (b : Buckets) → IsTable T.shape this.entry b → IsTrue result ↔ (full_places b ≡ []) }
     {
         ArchivedHashTable::len(this) == 0
     }
 
     /// Returns the number of places, which is 0 for a table without items.
     pub fn capacity(this: Ref<'_, ArchivedHashTable<T>>) -> usize
-        requires { HasValue (table T.shape) T.knows this.bytes.now this.pos }
-        ensures { (b : Buckets) → IsTableAt this.entry.bytes.now T.shape this.entry.pos b → result ≡ b.cap }
+        requires { HasTable T.shape T.knows this }
+        ensures { (b : Buckets) → IsTable T.shape this.entry b → result ≡ b.cap }
     {
         match buckets_at::<T>(this.bytes, this.pos) {
             Some(buckets) => buckets.capacity,

@@ -6,7 +6,7 @@ ghost use Rattle.archive_shape_layout.specs.Shape.Shapes.{no_shapes};
 ghost use Rattle.archive_forms_values.specs.Parts.{HasValue};
 ghost use Rattle.archive_hash_walking.specs.Tables.{Buckets};
 ghost use Rattle.archive_hash_walking.specs.Maps.{HashesTo, KeySays, LooksUpKey, key_at};
-ghost use Rattle.archive_hash_maps.specs.Sets.{HasSet, IsSetAt};
+ghost use Rattle.archive_hash_maps.specs.Sets.{IsSet, HasSet};
 
 use crate::map::ArchivedHashMap;
 use crate::set::ArchivedHashSet;
@@ -21,7 +21,7 @@ impl<K, H: Hasher + Default + Drop> ArchivedHashSet<K, H> {
         K: ArchivedKey<Q>,
         requires has { HasSet K.shape K.knows this.bytes.now this.pos }
         ensures there { IfSome result (λ r. HasValue K.shape K.knows r.bytes.now r.pos) }
-        ensures answers { (b : Buckets) → IsSetAt this.entry.bytes.now K.shape this.entry.pos b
+        ensures answers { (b : Buckets) → IsSet K.shape this.entry b
             → LooksUpKey (HashesTo H.is_default H.write H.finish (Q.hash_input query.now)) (KeySays K.key_of K.order this.entry.bytes.now query.now)
             (key_at this.entry.bytes) K.shape (tuple no_shapes) b result }
     {
@@ -36,7 +36,7 @@ impl<K, H: Hasher + Default + Drop> ArchivedHashSet<K, H> {
     where
         K: ArchivedKey<Q>,
         requires has { HasSet K.shape K.knows this.bytes.now this.pos }
-        ensures answers { (b : Buckets) → IsSetAt this.entry.bytes.now K.shape this.entry.pos b
+        ensures answers { (b : Buckets) → IsSet K.shape this.entry b
             → (found : Option ℕ) × (result ≡ is_some found)
             × LooksUpKey (HashesTo H.is_default H.write H.finish (Q.hash_input query.now)) (KeySays K.key_of K.order this.entry.bytes.now query.now) (λ at. at) K.shape (tuple no_shapes) b found }
     {

@@ -6,7 +6,7 @@ ghost use Rattle.archive_forms_values.specs.Parts.{HasValue};
 ghost use Rattle.archive_hash_walking.specs.Tables.{Buckets, full_places};
 ghost use Rattle.archive_hash_walking.specs.Places.{item_at};
 ghost use Rattle.archive_hash_walking.specs.Maps.{key_at};
-ghost use Rattle.archive_hash_maps.specs.Sets.{set_shape, set_knows, HasSet, IsSetAt, key_positions};
+ghost use Rattle.archive_hash_maps.specs.Sets.{IsSet, set_shape, set_knows, HasSet, key_positions};
 
 use crate::map::ArchivedHashMap;
 use crate::set::Iter;
@@ -70,7 +70,7 @@ impl<K: Portable, H> ArchivedHashSet<K, H> {
     /// Returns the number of keys.
     pub fn len(this: Ref<'_, ArchivedHashSet<K, H>>) -> usize
         requires { HasSet K.shape K.knows this.bytes.now this.pos }
-        ensures { (b : Buckets) → IsSetAt this.entry.bytes.now K.shape this.entry.pos b → result ≡ length (full_places b) }
+        ensures { (b : Buckets) → IsSet K.shape this.entry b → result ≡ length (full_places b) }
     {
         ArchivedHashMap::len(as_map(this))
     }
@@ -78,7 +78,7 @@ impl<K: Portable, H> ArchivedHashSet<K, H> {
     /// Returns whether the set has no keys.
     pub fn is_empty(this: Ref<'_, ArchivedHashSet<K, H>>) -> bool
         requires { HasSet K.shape K.knows this.bytes.now this.pos }
-        ensures { (b : Buckets) → IsSetAt this.entry.bytes.now K.shape this.entry.pos b → IsTrue result ↔ (full_places b ≡ []) }
+        ensures { (b : Buckets) → IsSet K.shape this.entry b → IsTrue result ↔ (full_places b ≡ []) }
     {
         ArchivedHashMap::is_empty(as_map(this))
     }
@@ -87,7 +87,7 @@ impl<K: Portable, H> ArchivedHashSet<K, H> {
     pub fn iter<'a>(this: Ref<'a, ArchivedHashSet<K, H>>) -> Iter<'a, K>
         requires { HasSet K.shape K.knows this.bytes.now this.pos }
         ensures there { All (λ r. HasValue K.shape K.knows r.bytes.now r.pos) result }
-        ensures keys { (b : Buckets) → IsSetAt this.entry.bytes.now K.shape this.entry.pos b
+        ensures keys { (b : Buckets) → IsSet K.shape this.entry b
             → result ≡ map (key_at this.entry.bytes) (key_positions K.shape b) }
     {
         Iter::new(ArchivedHashMap::keys(as_map(this)))

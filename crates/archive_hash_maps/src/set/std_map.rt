@@ -1,10 +1,7 @@
 //! Checks whether an archived hash map is equal to a map of std.
 ghost use Rattle.std.specs.Prelude.{◌≡◌, ◌⊎◌, true, false, length, All, Contains};
-ghost use Rattle.archive_shape_layout.specs.Shape.Shape.{table};
-ghost use Rattle.archive_forms_values.specs.Tuples.{tuple2};
-ghost use Rattle.archive_forms_values.specs.Parts.{HasValue, both};
-ghost use Rattle.archive_hash_walking.specs.Tables.{Buckets, IsTableAt, full_places};
-ghost use Rattle.archive_hash_walking.specs.Maps.{HashesTo};
+ghost use Rattle.archive_hash_walking.specs.Tables.{Buckets, full_places};
+ghost use Rattle.archive_hash_walking.specs.Maps.{IsMap, HasMap, HashesTo};
 ghost use Rattle.archive_hash_maps.specs.StdMaps.{LeadsTo};
 
 use crate::map::ArchivedHashMap;
@@ -19,8 +16,8 @@ fn leads_to<Q: Hash, W, K: ArchivedKey<Q>, V: ArchivedKey<W>, H: Hasher + Defaul
     key: &Q,
     value: &W,
 ) -> bool
-    requires { HasValue (table (tuple2 K.shape V.shape)) (both K.knows V.knows) this.bytes.now this.pos }
-    ensures { (b : Buckets) → IsTableAt this.entry.bytes.now (tuple2 K.shape V.shape) this.entry.pos b
+    requires { HasMap K.shape V.shape K.knows V.knows this }
+    ensures { (b : Buckets) → IsMap K.shape V.shape this.entry b
         → LeadsTo K.key_of K.order V.key_of V.order (λ q. HashesTo H.is_default H.write H.finish (Q.hash_input q)) this.entry.bytes.now K.shape V.shape b (key.now, value.now) result }
 {
     match ArchivedHashMap::get(this, key) {
@@ -40,11 +37,11 @@ pub fn eq_hash_map<
     S: BuildHasher,
     A: Allocator,
 >(this: &Ref<'_, ArchivedHashMap<K, V, H>>, other: &HashMap<Q, W, S, A>) -> bool
-    requires { HasValue (table (tuple2 K.shape V.shape)) (both K.knows V.knows) this.now.bytes.now this.now.pos }
-    ensures equal { (b : Buckets) → IsTableAt this.now.bytes.now (tuple2 K.shape V.shape) this.now.pos b → result ≡ true
+    requires { HasMap K.shape V.shape K.knows V.knows this.now }
+    ensures equal { (b : Buckets) → IsMap K.shape V.shape this.now b → result ≡ true
         → (length (full_places b) ≡ length other.now.entries)
         × All (λ e. LeadsTo K.key_of K.order V.key_of V.order (λ q. HashesTo H.is_default H.write H.finish (Q.hash_input q)) this.now.bytes.now K.shape V.shape b e true) other.now.entries }
-    ensures unequal { (b : Buckets) → IsTableAt this.now.bytes.now (tuple2 K.shape V.shape) this.now.pos b → result ≡ false
+    ensures unequal { (b : Buckets) → IsMap K.shape V.shape this.now b → result ≡ false
         → (length (full_places b) ≡ length other.now.entries → ⊥)
         ⊎ ((e : _) × Contains other.now.entries e
         × LeadsTo K.key_of K.order V.key_of V.order (λ q. HashesTo H.is_default H.write H.finish (Q.hash_input q)) this.now.bytes.now K.shape V.shape b e false) }

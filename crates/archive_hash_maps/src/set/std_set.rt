@@ -2,7 +2,7 @@
 ghost use Rattle.std.specs.Prelude.{◌≡◌, ◌⊎◌, true, false, length, All, Contains};
 ghost use Rattle.archive_hash_walking.specs.Tables.{Buckets, full_places};
 ghost use Rattle.archive_hash_walking.specs.Maps.{HashesTo};
-ghost use Rattle.archive_hash_maps.specs.Sets.{HasSet, IsSetAt};
+ghost use Rattle.archive_hash_maps.specs.Sets.{IsSet, HasSet};
 ghost use Rattle.archive_hash_maps.specs.StdMaps.{IsSaid};
 
 use crate::set::ArchivedHashSet;
@@ -21,10 +21,10 @@ pub fn eq_hash_set<
     A: Allocator,
 >(this: &Ref<'_, ArchivedHashSet<K, H>>, other: &HashSet<Q, S, A>) -> bool
     requires { HasSet K.shape K.knows this.now.bytes.now this.now.pos }
-    ensures equal { (b : Buckets) → IsSetAt this.now.bytes.now K.shape this.now.pos b → result ≡ true
+    ensures equal { (b : Buckets) → IsSet K.shape this.now b → result ≡ true
         → (length (full_places b) ≡ length other.now.keys)
         × All (λ q. IsSaid K.key_of K.order (λ x. HashesTo H.is_default H.write H.finish (Q.hash_input x)) this.now.bytes.now K.shape b q true) other.now.keys }
-    ensures unequal { (b : Buckets) → IsSetAt this.now.bytes.now K.shape this.now.pos b → result ≡ false
+    ensures unequal { (b : Buckets) → IsSet K.shape this.now b → result ≡ false
         → (length (full_places b) ≡ length other.now.keys → ⊥)
         ⊎ ((q : Q) × Contains other.now.keys q
         × IsSaid K.key_of K.order (λ x. HashesTo H.is_default H.write H.finish (Q.hash_input x)) this.now.bytes.now K.shape b q false) }
