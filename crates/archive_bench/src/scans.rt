@@ -10,7 +10,8 @@ use crate::access::{read_i64, read_u32, seal_i64, target, write_i64};
 /// Returns the sum of the `i64`s side by side.
 #[unsafe(no_mangle)]
 pub extern "C" fn archive_bench_sum_i64(bytes: &[u8]) -> i64
-    ensures { result ≡ int_wrap w64 (signed_sum_below (λ i. i64_at bytes.now (i * 8)) (length bytes.now / 8)) }
+    ensures { result ≡ int_wrap w64
+        (signed_sum_below (λ i. i64_at bytes.now (i * 8)) (length bytes.now / 8)) }
 {
     let count = bytes.len() / 8;
     let mut total = 0i64;
@@ -61,7 +62,8 @@ pub extern "C" fn archive_bench_fill_i64(bytes: &mut [u8], first: i64)
 #[unsafe(no_mangle)]
 pub extern "C" fn archive_bench_read_i64(bytes: &[u8], positions: &[u32]) -> i64
     requires { All (λ p. p + 8 ≤ length bytes.now) positions.now }
-    ensures { result ≡ int_wrap w64 (fold (λ total p. total +ℤ i64_at bytes.now p) (pos 0) positions.now) }
+    ensures { result ≡ int_wrap w64
+        (fold (λ total p. total +ℤ i64_at bytes.now p) (pos 0) positions.now) }
 {
     let mut total = 0i64;
     for p in positions {

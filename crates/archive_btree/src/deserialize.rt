@@ -41,11 +41,14 @@ pub fn deserialize_map_each<
     read_value: G,
 ) -> Result<OwnedBTreeMap<K, V, E>, Error>
     requires there { HasMap E A.shape B.shape A.knows B.knows this }
-    requires takes_key { StepTakes F.Fn read_key A.shape A.knows this.bytes.now (length this.bytes.now) }
+    requires takes_key { StepTakes F.Fn read_key A.shape A.knows this.bytes.now
+        (length this.bytes.now) }
     requires reads_key { StepReads F.Fn read_key A.shape A.knows this.bytes.now (λ q. q.0) A.reads }
-    requires takes_value { StepTakes G.Fn read_value B.shape B.knows this.bytes.now (length this.bytes.now) }
+    requires takes_value { StepTakes G.Fn read_value B.shape B.knows this.bytes.now
+        (length this.bytes.now) }
     requires reads_value { StepReads G.Fn read_value B.shape B.knows this.bytes.now (λ q. q.0) B.reads }
-    ensures { Deserializes (reads_map K.cmp (λ m. m.map.entries) A.reads B.reads) (tree E A.shape B.shape) (both A.knows B.knows) this.entry.bytes.now this.entry.pos result }
+    ensures { Deserializes (reads_map K.cmp (λ m. m.map.entries) A.reads B.reads)
+        (tree E A.shape B.shape) (both A.knows B.knows) this.entry.bytes.now this.entry.pos result }
 {
     let mut map = BTreeMap::new(alloc);
     let mut entries = ArchivedBTreeMap::iter(this);

@@ -41,7 +41,9 @@ pub fn serialize_from_ordered_iter_each<
     requires room { S.failures serializer.old < 2 ^ 64 - 1 }
     requires state { HasState S.pos S.known serializer.old }
     requires takes { TakesEntries I.next_gives C.takes step.now entries }
-    ensures { BuildsClaimedBy E K.Archived.shape V.Archived.shape K.spelling V.spelling S.Writer (GivesAs deref_pair I.next_gives) (λ r. r.pos) claimed entries serializer.old serializer.new result }
+    ensures { BuildsClaimedBy E K.Archived.shape V.Archived.shape K.spelling V.spelling S.Writer
+        (GivesAs deref_pair I.next_gives) (λ r. r.pos) claimed entries
+        serializer.old serializer.new result }
 {
     if E > MAX_ENTRIES {
         return Err(Error::OutOfMemory);
@@ -73,7 +75,9 @@ pub fn serialize_from_ordered_iter<
     requires some { 0 < E }
     requires room { S.failures serializer.old < 2 ^ 64 - 1 }
     requires state { HasState S.pos S.known serializer.old }
-    ensures { BuildsClaimedBy E K.Archived.shape V.Archived.shape K.spelling V.spelling S.Writer (GivesAs deref_pair I.next_gives) (λ r. r.pos) claimed entries serializer.old serializer.new result }
+    ensures { BuildsClaimedBy E K.Archived.shape V.Archived.shape K.spelling V.spelling S.Writer
+        (GivesAs deref_pair I.next_gives) (λ r. r.pos) claimed entries
+        serializer.old serializer.new result }
 {
     serialize_from_ordered_iter_each::<K, V, S, SerializeEntry, I, E>(
         claimed,

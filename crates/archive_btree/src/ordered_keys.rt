@@ -62,7 +62,9 @@ pub fn serialize_set_from_ordered_iter<
     requires some { 0 < E }
     requires room { S.failures serializer.old < 2 ^ 64 - 1 }
     requires state { HasState S.pos S.known serializer.old }
-    ensures { BuildsClaimedBy E K.Archived.shape (tuple no_shapes) K.spelling unit_spelling S.Writer (GivesAs key_entry I.next_gives) (λ r. r.pos) claimed keys serializer.old serializer.new result }
+    ensures { BuildsClaimedBy E K.Archived.shape (tuple no_shapes) K.spelling unit_spelling S.Writer
+        (GivesAs key_entry I.next_gives) (λ r. r.pos) claimed keys
+        serializer.old serializer.new result }
 {
     if E > MAX_ENTRIES {
         return Err(Error::OutOfMemory);

@@ -31,7 +31,8 @@ fn serialize_rest_each<
     requires room { S.failures serializer.old < 2 ^ 64 - 1 }
     requires state { HasState S.pos S.known serializer.old }
     requires takes { TakesEntries (TakesFirst deref_pair) C.takes step.now entries }
-    ensures { Serializes (entries_spelling E K.Archived.shape V.Archived.shape K.spelling V.spelling) S.Writer entries.entry serializer.old serializer.new result }
+    ensures { Serializes (entries_spelling E K.Archived.shape V.Archived.shape K.spelling V.spelling)
+        S.Writer entries.entry serializer.old serializer.new result }
 {
     serialize_from_ordered_iter_each::<K, V, S, C, _, E>(len, entries, serializer, step)
 }
@@ -47,7 +48,9 @@ pub fn serialize_map_each<
     requires room { S.failures serializer.old < 2 ^ 64 - 1 }
     requires state { HasState S.pos S.known serializer.old }
     requires takes { All (C.takes step.now) map.now.map.entries }
-    ensures { Serializes (seen_as (λ m. m.map.entries) (entries_spelling E K.Archived.shape V.Archived.shape K.spelling V.spelling)) S.Writer map.now serializer.old serializer.new result }
+    ensures { Serializes (seen_as (λ m. m.map.entries)
+        (entries_spelling E K.Archived.shape V.Archived.shape K.spelling V.spelling)) S.Writer map.now
+        serializer.old serializer.new result }
 {
     if map.map.is_empty() {
         return Ok(BTreeMapResolver::from_pos(None));

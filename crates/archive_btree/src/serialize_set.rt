@@ -69,7 +69,9 @@ fn serialize_keys_each<
     requires room { S.failures serializer.old < 2 ^ 64 - 1 }
     requires state { HasState S.pos S.known serializer.old }
     requires takes { TakesEntries (TakesFirst deref_pair) C.takes step.now entries }
-    ensures { Serializes (entries_spelling E K.Archived.shape (tuple no_shapes) K.spelling unit_spelling) S.Writer entries.entry serializer.old serializer.new result }
+    ensures { Serializes (entries_spelling E K.Archived.shape
+        (tuple no_shapes) K.spelling unit_spelling) S.Writer entries.entry
+        serializer.old serializer.new result }
 {
     serialize_from_ordered_iter_each::<K, (), S, C, _, E>(len, entries, serializer, step)
 }
@@ -85,7 +87,9 @@ pub fn serialize_set_each<
     requires room { S.failures serializer.old < 2 ^ 64 - 1 }
     requires state { HasState S.pos S.known serializer.old }
     requires takes { All (C.takes step.now) (key_entries set.now.set.keys) }
-    ensures { Serializes (seen_as (λ s. key_entries s.set.keys) (entries_spelling E K.Archived.shape (tuple no_shapes) K.spelling unit_spelling)) S.Writer set.now serializer.old serializer.new result }
+    ensures { Serializes (seen_as (λ s. key_entries s.set.keys)
+        (entries_spelling E K.Archived.shape (tuple no_shapes) K.spelling unit_spelling))
+        S.Writer set.now serializer.old serializer.new result }
 {
     if set.set.is_empty() {
         return Ok(BTreeSetResolver::from_pos(None));

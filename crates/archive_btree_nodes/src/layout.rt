@@ -39,8 +39,11 @@ impl NodeLayout {
     /// Returns the layout of nodes with at most `E` entries.
     pub const fn of<K: Portable, V: Portable, const E: usize>() -> Self
         ensures parts { IsNodeLayout E K.shape V.shape result }
-        ensures exact { 0 < E → links_offset E K.shape V.shape < 2 ^ 64 - 1 → IsLayout E K.shape V.shape result }
-        ensures buffer { (bytes : List ℕ) (level pos : ℕ) (t : Tree Place) → 0 < E → length bytes < 2 ^ 64 → HasNode bytes E K.shape V.shape level pos t → IsLayout E K.shape V.shape result }
+        ensures exact { 0 < E → links_offset E K.shape V.shape < 2 ^ 64 - 1
+            → IsLayout E K.shape V.shape result }
+        ensures buffer { (bytes : List ℕ) (level pos : ℕ) (t : Tree Place) → 0 < E
+            → length bytes < 2 ^ 64 → HasNode bytes E K.shape V.shape level pos t
+            → IsLayout E K.shape V.shape result }
     {
         let keys = next_multiple(1, K::ALIGN);
         let keys_end = keys.saturating_add(E.saturating_mul(K::SIZE));

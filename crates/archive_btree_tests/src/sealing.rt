@@ -203,7 +203,8 @@ fn note_values<K: Portable, V: Portable, const E: usize>(
     mut entries: RangeSeal<'_, K, V>,
     met: &mut Vec<usize>,
 ) -> Result<(), AllocError>
-    requires { (m : BegunMap E K.shape V.shape K.knows V.knows) × (es : List Place) × HasRange m entries es × IsWritten m entries.bytes.now }
+    requires { (m : BegunMap E K.shape V.shape K.knows V.knows) × (es : List Place)
+        × HasRange m entries es × IsWritten m entries.bytes.now }
 {
     for _step in 0..4u32 {
         match entries.advance() {

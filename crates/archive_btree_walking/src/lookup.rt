@@ -26,9 +26,12 @@ pub fn search_map<K: Portable, V: Portable, F: Fn(usize) -> Ordering, const E: u
     compare: &F,
 ) -> (Option<EntryAt>, usize)
     requires has { HasValue (tree E K.shape V.shape) (both K.knows V.knows) bytes.now pos }
-    requires callable { (t : Tree Place) → IsMapAt bytes.now E K.shape V.shape pos t → All (λ e. F.pre compare.now e.key) (items t) }
-    ensures found { (t : Tree Place) → IsMapAt bytes.now E K.shape V.shape pos t → IsAmong F.post compare.now (items t) result.0 }
-    ensures answers { (t : Tree Place) (order : Place → Ordering) → IsMapAt bytes.now E K.shape V.shape pos t → Orders F.post compare.now order (items t)
+    requires callable { (t : Tree Place) → IsMapAt bytes.now E K.shape V.shape pos t
+        → All (λ e. F.pre compare.now e.key) (items t) }
+    ensures found { (t : Tree Place) → IsMapAt bytes.now E K.shape V.shape pos t
+        → IsAmong F.post compare.now (items t) result.0 }
+    ensures answers { (t : Tree Place) (order : Place → Ordering)
+        → IsMapAt bytes.now E K.shape V.shape pos t → Orders F.post compare.now order (items t)
         → (option_map place_of result.0 ≡ descend order t) × (result.1 ≡ min (met order t) (2 ^ 64 - 1)) }
 {
     match root_at::<K, V, E>(bytes, pos) {
@@ -47,12 +50,15 @@ pub fn search_key<Q, K: ArchivedKey<Q>, V: Portable, const E: usize>(
     requires has { HasValue (tree E K.shape V.shape) (both K.knows V.knows) bytes.now pos }
     ensures found { (t : Tree Place) → IsMapAt bytes.now E K.shape V.shape pos t
         → Finds (λ e. e) (IsEqualKey K.key_of K.order bytes.now query.now) (items t) (option_map place_of result.0) }
-    ensures answers { (t : Tree Place) (order : Place → Ordering) → IsMapAt bytes.now E K.shape V.shape pos t → QueryOrders K.key_of K.order bytes.now query.now order (items t)
+    ensures answers { (t : Tree Place) (order : Place → Ordering)
+        → IsMapAt bytes.now E K.shape V.shape pos t
+        → QueryOrders K.key_of K.order bytes.now query.now order (items t)
         → (option_map place_of result.0 ≡ descend order t) × (result.1 ≡ min (met order t) (2 ^ 64 - 1)) }
 {
     let compare = |at: usize| -> Ordering
         requires { K.is_key bytes.now at }
-        ensures { (key : Q) × K.key_of bytes.entry.now at key × (result ≡ ordering_reverse (K.order key query.entry.now)) }
+        ensures { (key : Q) × K.key_of bytes.entry.now at key
+            × (result ≡ ordering_reverse (K.order key query.entry.now)) }
     { K::compare(&Ref::new(bytes, at), query).reverse() };
     search_map::<K, V, _, E>(bytes, pos, &compare)
 }

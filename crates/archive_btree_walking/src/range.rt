@@ -120,7 +120,8 @@ pub fn walk_between<K: Portable, V: Portable, Q, C: Fn(&Q, usize) -> Ordering, c
         → All (λ e. OfQueries (λ query. C.pre compare.now query e.key) start end) (items t) }
     ensures within { (t : Tree Place) → IsMapAt bytes.now E K.shape V.shape pos t
         → (es : List Place) × WalksIn bytes.now E K.shape V.shape pos result es × IsRun es (items t) }
-    ensures between { (t : Tree Place) (order : Q → Place → Ordering) → IsMapAt bytes.now E K.shape V.shape pos t
+    ensures between { (t : Tree Place) (order : Q → Place → Ordering)
+        → IsMapAt bytes.now E K.shape V.shape pos t
         → OfQueries (λ query. OrdersCalls C.post compare.now query (order query.now) (items t)) start.entry end.entry
         → WalksIn bytes.now E K.shape V.shape pos result (items_between order (bound_map (λ q. q.now) start.entry) (bound_map (λ q. q.now) end.entry) (items t)) }
 {
@@ -150,8 +151,10 @@ pub fn range_at<'a, K: Portable, V: Portable, Q, C: Fn(&Q, usize) -> Ordering, c
     requires has { HasValue (tree E K.shape V.shape) (both K.knows V.knows) bytes.now pos }
     requires callable { (t : Tree Place) → IsMapAt bytes.now E K.shape V.shape pos t
         → All (λ e. OfQueries (λ query. C.pre compare.now query e.key) start end) (items t) }
-    ensures within { (t : Tree Place) → IsMapAt bytes.entry.now E K.shape V.shape pos t → IsRun result (items t) }
-    ensures between { (t : Tree Place) (order : Q → Place → Ordering) → IsMapAt bytes.entry.now E K.shape V.shape pos t
+    ensures within { (t : Tree Place) → IsMapAt bytes.entry.now E K.shape V.shape pos t
+        → IsRun result (items t) }
+    ensures between { (t : Tree Place) (order : Q → Place → Ordering)
+        → IsMapAt bytes.entry.now E K.shape V.shape pos t
         → OfQueries (λ query. OrdersCalls C.post compare.now query (order query.now) (items t)) start.entry end.entry
         → result ≡ items_between order (bound_map (λ q. q.now) start.entry) (bound_map (λ q. q.now) end.entry) (items t) }
 {

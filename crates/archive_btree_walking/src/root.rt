@@ -70,7 +70,8 @@ pub fn entry_walk_at<K: Portable, V: Portable, const E: usize>(
     pos: usize,
 ) -> EntryWalk
     requires has { HasValue (tree E K.shape V.shape) (both K.knows V.knows) bytes.now pos }
-    ensures { (t : Tree Place) → IsMapAt bytes.now E K.shape V.shape pos t → WalksIn bytes.now E K.shape V.shape pos result (items t) }
+    ensures { (t : Tree Place) → IsMapAt bytes.now E K.shape V.shape pos t
+        → WalksIn bytes.now E K.shape V.shape pos result (items t) }
 {
     match root_at::<K, V, E>(bytes, pos) {
         Some(root) => EntryWalk::new(bytes, root.pos, root.layout),

@@ -78,7 +78,8 @@ pub(crate) fn resolve_keys<'a, K: Archive, V: Archive, const E: usize>(
     pos: usize,
     buffer: &mut [u8],
 ) -> Result<(), Error>
-    requires made { (st : State) × (kept.now ≡ resolvers (borrowed_entry E K.Archived.shape V.Archived.shape K.spelling V.spelling) entries.now st) }
+    requires made { (st : State) × (kept.now ≡ resolvers
+        (borrowed_entry E K.Archived.shape V.Archived.shape K.spelling V.spelling) entries.now st) }
     requires room { start + length entries.now * size_of K.Archived.shape ≤ length buffer.old }
     requires stands { pos + length entries.now * size_of K.Archived.shape < 2 ^ 64 }
     requires blank { HasBytes buffer.old start (zeros (length entries.now * size_of K.Archived.shape)) }
@@ -110,7 +111,8 @@ pub(crate) fn resolve_values<'a, K: Archive, V: Archive, const E: usize>(
     pos: usize,
     buffer: &mut [u8],
 ) -> Result<(), Error>
-    requires made { (st : State) × (kept.now ≡ resolvers (borrowed_entry E K.Archived.shape V.Archived.shape K.spelling V.spelling) entries.now st) }
+    requires made { (st : State) × (kept.now ≡ resolvers
+        (borrowed_entry E K.Archived.shape V.Archived.shape K.spelling V.spelling) entries.now st) }
     requires room { start + length entries.now * size_of V.Archived.shape ≤ length buffer.old }
     requires stands { pos + length entries.now * size_of V.Archived.shape < 2 ^ 64 }
     requires blank { HasBytes buffer.old start (zeros (length entries.now * size_of V.Archived.shape)) }

@@ -37,7 +37,8 @@ fn write_node_each<
     requires taken { All (λ e. C.takes step.now (deref_pair e)) entries.now }
     requires room { S.failures serializer.old < 2 ^ 64 - 1 }
     requires state { HasState S.pos S.known serializer.old }
-    ensures { LaysNode E K.Archived.shape V.Archived.shape K.spelling V.spelling S.Writer (node_of children.entry (map deref_pair entries.now)) serializer.old serializer.new result }
+    ensures { LaysNode E K.Archived.shape V.Archived.shape K.spelling V.spelling S.Writer
+        (node_of children.entry (map deref_pair entries.now)) serializer.old serializer.new result }
 {
     let none: Option<(K::Resolver, V::Resolver)> = None;
     if size_of_val(&none) > LARGEST {
@@ -64,7 +65,8 @@ pub fn write_leaf_each<
     requires taken { All (λ e. C.takes step.now (deref_pair e)) entries.now }
     requires room { S.failures serializer.old < 2 ^ 64 - 1 }
     requires state { HasState S.pos S.known serializer.old }
-    ensures { LaysNode E K.Archived.shape V.Archived.shape K.spelling V.spelling S.Writer (leaf_of (map deref_pair entries.now)) serializer.old serializer.new result }
+    ensures { LaysNode E K.Archived.shape V.Archived.shape K.spelling V.spelling S.Writer
+        (leaf_of (map deref_pair entries.now)) serializer.old serializer.new result }
 {
     write_node_each::<K, V, S, C, E>(entries, None, serializer, step)
 }
@@ -92,7 +94,9 @@ pub fn write_inner_each<
     requires taken { All (λ e. C.takes step.now (deref_pair e)) entries.now }
     requires room { S.failures serializer.old < 2 ^ 64 - 1 }
     requires state { HasState S.pos S.known serializer.old }
-    ensures { LaysNode E K.Archived.shape V.Archived.shape K.spelling V.spelling S.Writer (inner_of (lesser.now ++ greater ∷ []) (map deref_pair entries.now)) serializer.old serializer.new result }
+    ensures { LaysNode E K.Archived.shape V.Archived.shape K.spelling V.spelling S.Writer
+        (inner_of (lesser.now ++ greater ∷ []) (map deref_pair entries.now))
+        serializer.old serializer.new result }
 {
     let children = Some(Children { lesser, greater });
     write_node_each::<K, V, S, C, E>(entries, children, serializer, step)

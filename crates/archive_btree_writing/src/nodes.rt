@@ -40,7 +40,8 @@ fn node_size<K: Portable, V: Portable, const E: usize>(
     children: Option<Children<'_>>,
 ) -> usize
     requires { IsNodeLayout E K.shape V.shape layout.now }
-    ensures { result ≡ as_usize (link_node_size (words_of (kind_of children.entry) E) E K.shape V.shape) }
+    ensures { result ≡ as_usize (link_node_size
+        (words_of (kind_of children.entry) E) E K.shape V.shape) }
 {
     match children {
         None => layout.leaf,
@@ -77,10 +78,15 @@ fn resolve_node<'a, K: Archive, V: Archive, const E: usize>(
     requires small { E < 2 ^ 32 }
     requires whole { AreChildren E children }
     requires parts { IsNodeLayout E K.Archived.shape V.Archived.shape layout }
-    requires made { (st : State) × (kept.now ≡ resolvers (borrowed_entry E K.Archived.shape V.Archived.shape K.spelling V.spelling) entries.now st) }
-    requires blank { buffer.old ≡ zeros (own_size E K.Archived.shape V.Archived.shape (borrowed K.spelling) (borrowed V.spelling) (node_of children entries.now)) }
-    requires stands { pos + own_size E K.Archived.shape V.Archived.shape (borrowed K.spelling) (borrowed V.spelling) (node_of children entries.now) < 2 ^ 64 }
-    ensures { (st : State) → kept.now ≡ resolvers (borrowed_entry E K.Archived.shape V.Archived.shape K.spelling V.spelling) entries.now st
+    requires made { (st : State) × (kept.now ≡ resolvers
+        (borrowed_entry E K.Archived.shape V.Archived.shape K.spelling V.spelling) entries.now st) }
+    requires blank { buffer.old ≡ zeros (own_size E K.Archived.shape V.Archived.shape
+        (borrowed K.spelling) (borrowed V.spelling) (node_of children entries.now)) }
+    requires stands { pos + own_size E K.Archived.shape V.Archived.shape (borrowed K.spelling)
+        (borrowed V.spelling) (node_of children entries.now) < 2 ^ 64 }
+    ensures { (st : State) → kept.now
+        ≡ resolvers (borrowed_entry E K.Archived.shape V.Archived.shape K.spelling V.spelling)
+        entries.now st
         → let n = node_of children.entry entries.now in
         MatchResult result
         (λ _. slots_fit E K.Archived.shape V.Archived.shape (borrowed K.spelling) (borrowed V.spelling) n st pos
@@ -114,10 +120,15 @@ fn write_through<'a, K: Archive, V: Archive, W: Writer, const E: usize>(
     requires small { E < 2 ^ 32 }
     requires whole { AreChildren E children }
     requires parts { IsNodeLayout E K.Archived.shape V.Archived.shape layout }
-    requires made { (st : State) × (kept.now ≡ resolvers (borrowed_entry E K.Archived.shape V.Archived.shape K.spelling V.spelling) entries.now st) }
-    requires blank { buffer.old ≡ zeros (own_size E K.Archived.shape V.Archived.shape (borrowed K.spelling) (borrowed V.spelling) (node_of children entries.now)) }
-    requires stands { W.pos writer.old + own_size E K.Archived.shape V.Archived.shape (borrowed K.spelling) (borrowed V.spelling) (node_of children entries.now) < 2 ^ 64 }
-    ensures { (st : State) → kept.now ≡ resolvers (borrowed_entry E K.Archived.shape V.Archived.shape K.spelling V.spelling) entries.now st
+    requires made { (st : State) × (kept.now ≡ resolvers
+        (borrowed_entry E K.Archived.shape V.Archived.shape K.spelling V.spelling) entries.now st) }
+    requires blank { buffer.old ≡ zeros (own_size E K.Archived.shape V.Archived.shape
+        (borrowed K.spelling) (borrowed V.spelling) (node_of children entries.now)) }
+    requires stands { W.pos writer.old + own_size E K.Archived.shape V.Archived.shape
+        (borrowed K.spelling) (borrowed V.spelling) (node_of children entries.now) < 2 ^ 64 }
+    ensures { (st : State) → kept.now
+        ≡ resolvers (borrowed_entry E K.Archived.shape V.Archived.shape K.spelling V.spelling)
+        entries.now st
         → let n = node_of children.entry entries.now in
         Lays W.Writer writer.old writer.new (own_bytes E K.Archived.shape V.Archived.shape (borrowed K.spelling) (borrowed V.spelling) n st (W.pos writer.old))
         (λ _. slots_fit E K.Archived.shape V.Archived.shape (borrowed K.spelling) (borrowed V.spelling) n st (W.pos writer.old))
@@ -142,11 +153,16 @@ fn write_own<'a, K: Archive, V: Archive, S: Writer + Allocator, const E: usize>(
     requires small { E < 2 ^ 32 }
     requires whole { AreChildren E children }
     requires parts { IsNodeLayout E K.Archived.shape V.Archived.shape layout }
-    requires sized { size ≡ as_usize (own_size E K.Archived.shape V.Archived.shape (borrowed K.spelling) (borrowed V.spelling) (node_of children entries.now)) }
-    requires made { (st : State) × (kept.now ≡ resolvers (borrowed_entry E K.Archived.shape V.Archived.shape K.spelling V.spelling) entries.now st) }
+    requires sized { size ≡ as_usize (own_size E K.Archived.shape V.Archived.shape (borrowed K.spelling)
+        (borrowed V.spelling) (node_of children entries.now)) }
+    requires made { (st : State) × (kept.now ≡ resolvers
+        (borrowed_entry E K.Archived.shape V.Archived.shape K.spelling V.spelling) entries.now st) }
     requires stands { S.pos serializer.old + size < 2 ^ 64 }
-    ensures placed { IfOk result (λ _. S.pos serializer.old + link_node_size (words_of (kind_of children.entry) E) E K.Archived.shape V.Archived.shape < 2 ^ 64) }
-    ensures lays { (st : State) → kept.now ≡ resolvers (borrowed_entry E K.Archived.shape V.Archived.shape K.spelling V.spelling) entries.now st
+    ensures placed { IfOk result (λ _. S.pos serializer.old + link_node_size
+        (words_of (kind_of children.entry) E) E K.Archived.shape V.Archived.shape < 2 ^ 64) }
+    ensures lays { (st : State) → kept.now
+        ≡ resolvers (borrowed_entry E K.Archived.shape V.Archived.shape K.spelling V.spelling)
+        entries.now st
         → let n = node_of children.entry entries.now in
         Lays S.Writer serializer.old serializer.new (own_bytes E K.Archived.shape V.Archived.shape (borrowed K.spelling) (borrowed V.spelling) n st (S.pos serializer.old))
         (λ _. slots_fit E K.Archived.shape V.Archived.shape (borrowed K.spelling) (borrowed V.spelling) n st (S.pos serializer.old))
@@ -188,8 +204,11 @@ fn write_behind<'a, K: Archive, V: Archive, S: Writer + Allocator, const E: usiz
     requires few { length entries.now ≤ E }
     requires small { E < 2 ^ 32 }
     requires whole { AreChildren E children }
-    requires made { (st : State) × (kept.now ≡ resolvers (borrowed_entry E K.Archived.shape V.Archived.shape K.spelling V.spelling) entries.now st) }
-    ensures { (st : State) → kept.now ≡ resolvers (borrowed_entry E K.Archived.shape V.Archived.shape K.spelling V.spelling) entries.now st
+    requires made { (st : State) × (kept.now ≡ resolvers
+        (borrowed_entry E K.Archived.shape V.Archived.shape K.spelling V.spelling) entries.now st) }
+    ensures { (st : State) → kept.now
+        ≡ resolvers (borrowed_entry E K.Archived.shape V.Archived.shape K.spelling V.spelling)
+        entries.now st
         → LaysBehind E K.Archived.shape V.Archived.shape (borrowed K.spelling) (borrowed V.spelling) S.Writer (node_of children.entry entries.now) st serializer.old serializer.new (S.pos serializer.old) result }
 {
     let layout = NodeLayout::of::<K::Archived, V::Archived, E>();
@@ -212,8 +231,11 @@ pub fn write_kept<'a, K: Archive, V: Archive, S: Writer + Allocator, const E: us
     requires few { length entries.now ≤ E }
     requires small { E < 2 ^ 32 }
     requires whole { AreChildren E children }
-    requires made { (st : State) × (take (length entries.now) kept ≡ resolvers (borrowed_entry E K.Archived.shape V.Archived.shape K.spelling V.spelling) entries.now st) }
-    ensures { (st : State) → take (length entries.now) kept ≡ resolvers (borrowed_entry E K.Archived.shape V.Archived.shape K.spelling V.spelling) entries.now st
+    requires made { (st : State) × (take (length entries.now) kept ≡ resolvers
+        (borrowed_entry E K.Archived.shape V.Archived.shape K.spelling V.spelling) entries.now st) }
+    ensures { (st : State) → take (length entries.now) kept
+        ≡ resolvers (borrowed_entry E K.Archived.shape V.Archived.shape K.spelling V.spelling)
+        entries.now st
         → LaysBehind E K.Archived.shape V.Archived.shape (borrowed K.spelling) (borrowed V.spelling) S.Writer (node_of children.entry entries.now) st serializer.old serializer.new (S.pos serializer.old) result }
 {
     let kept = kept.as_slice();

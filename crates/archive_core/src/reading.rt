@@ -35,7 +35,8 @@ where
     requires named { (names : Names) × T.Archived.knows names }
     ensures exact { (names : Names) → T.Archived.knows names
         → Decides names bytes.now T.Archived.shape (root_position (length bytes.now) T.Archived.shape) unlimited result }
-    ensures value { IfOk result (IsReadAt T.Archived.reads T.Archived.shape T.Archived.knows bytes.now (root_position (length bytes.now) T.Archived.shape)) }
+    ensures value { IfOk result (IsReadAt T.Archived.reads T.Archived.shape T.Archived.knows bytes.now
+        (root_position (length bytes.now) T.Archived.shape)) }
 {
     let root = access::<T::Archived>(alloc, bytes)?;
     deserialize::<T, T::Archived>(alloc, &root)

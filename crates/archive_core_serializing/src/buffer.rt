@@ -90,7 +90,8 @@ impl Writer for Buffer<'_> {
     fn write(&mut self, bytes: &[u8]) -> Result<(), Error>
         requires { self.old.failures < 2 ^ 64 - 1 }
         ensures same_reference { self.new.out.ghost_name ≡ self.old.out.ghost_name }
-        ensures appends { Appends true true (λ b. take b.len b.out.now) (λ b. b.len) (λ b. b.failures) (λ _. BufferOverflow) (λ _ _. unmet) self.old self.new bytes.now result }
+        ensures appends { Appends true true (λ b. take b.len b.out.now) (λ b. b.len) (λ b. b.failures)
+            (λ _. BufferOverflow) (λ _ _. unmet) self.old self.new bytes.now result }
         ensures fills { MatchResult result
             (λ _. IsFilled self.old.out.now self.old.len bytes.now self.new.out.now self.new.len)
             (IsOverfull self.old.out.now self.old.len bytes.now self.new.out.now self.new.len) }

@@ -12,7 +12,8 @@ use archive_shape::{Allocator, Error, Sharing, SharingState, Writer};
 /// Writes a zero byte after a value that begins at `start`, if the value has no bytes.
 fn pad_empty<W: Writer>(writer: &mut W, start: usize) -> Result<(), Error>
     requires { W.failures writer.old < 2 ^ 64 - 1 }
-    ensures { Writes W.Writer writer.old writer.new (zeros (shared_padding start (W.pos writer.old))) result }
+    ensures { Writes W.Writer writer.old writer.new
+        (zeros (shared_padding start (W.pos writer.old))) result }
 {
     if writer.pos() == start {
         writer.write(&[0])

@@ -25,13 +25,15 @@ pub trait WriterExt: Writer {
         requires room { Self.failures self.old < 2 ^ 64 - 1 }
         requires positive { 0 < align }
         requires small { align ≤ 32 }
-        ensures writes { Writes Self.Writer self.old self.new (zeros (align_up (Self.pos self.old) align - Self.pos self.old)) result }
+        ensures writes { Writes Self.Writer self.old self.new
+            (zeros (align_up (Self.pos self.old) align - Self.pos self.old)) result }
         ensures aligned { IfOk result (λ pos. pos ≡ align_up (Self.pos self.old) align) };
 
     /// Writes zeros up to the next multiple of the alignment of `T`, and returns that position.
     fn align_for<T: Portable>(&mut self) -> Result<usize, Error>
         requires room { Self.failures self.old < 2 ^ 64 - 1 }
-        ensures writes { let at = align_up (Self.pos self.old) (align_of T.shape) in Writes Self.Writer self.old self.new (zeros (at - Self.pos self.old)) result }
+        ensures writes { let at = align_up (Self.pos self.old) (align_of T.shape) in Writes Self.Writer
+            self.old self.new (zeros (at - Self.pos self.old)) result }
         ensures aligned { IfOk result (λ pos. pos ≡ align_up (Self.pos self.old) (align_of T.shape)) };
 
     /// Writes zeros up to the next multiple of the alignment of the archived form, and there the own bytes of a value.

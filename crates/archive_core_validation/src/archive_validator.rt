@@ -20,7 +20,8 @@ pub struct ArchiveValidator {
 impl ArchiveValidator {
     /// Creates a validator of all bytes, with no limit of depth. It does not allocate.
     pub fn new(alloc: Global, bytes: &[u8]) -> Self
-        ensures { ⟦<ArchiveValidator as ArchiveContext>⟧.kept result ≡ whole (length bytes.now) unlimited }
+        ensures { ⟦<ArchiveValidator as ArchiveContext>⟧.kept result
+            ≡ whole (length bytes.now) unlimited }
     {
         ArchiveValidator {
             start: 0,
@@ -34,7 +35,8 @@ impl ArchiveValidator {
     /// and `usize::MAX` is no limit. It does not allocate.
     #[tactic(auto, unfolding(crate::specs::Depth::most_of))]
     pub fn with_max_depth(alloc: Global, bytes: &[u8], max_depth: usize) -> Self
-        ensures { ⟦<ArchiveValidator as ArchiveContext>⟧.kept result ≡ whole (length bytes.now) (most_of max_depth) }
+        ensures { ⟦<ArchiveValidator as ArchiveContext>⟧.kept result
+            ≡ whole (length bytes.now) (most_of max_depth) }
     {
         if max_depth == usize::MAX {
             return ArchiveValidator::new(alloc, bytes);

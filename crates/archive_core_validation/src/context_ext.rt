@@ -22,9 +22,12 @@ pub trait ArchiveContextExt: ArchiveContext {
     ) -> Result<R, Error>
         requires align { 0 < align }
         requires range { (Self.kept self.old).end < 2 ^ 64 }
-        requires takes { TakesClaimed F.FnOnce Self.kept f (Self.kept self.old) (record { start = pos; size = size; align = align }) }
-        requires keeps { KeepsPushes F.FnOnce Self.kept f (Self.kept self.old) (record { start = pos; size = size; align = align }) }
-        ensures { InSubtree F.FnOnce Self.kept f (Self.kept self.old) (record { start = pos; size = size; align = align }) result (Self.kept self.new) };
+        requires takes { TakesClaimed F.FnOnce Self.kept f (Self.kept self.old)
+            (record { start = pos; size = size; align = align }) }
+        requires keeps { KeepsPushes F.FnOnce Self.kept f (Self.kept self.old)
+            (record { start = pos; size = size; align = align }) }
+        ensures { InSubtree F.FnOnce Self.kept f (Self.kept self.old)
+            (record { start = pos; size = size; align = align }) result (Self.kept self.new) };
 
     /// Claims the own bytes of a value at `pos`, and calls `f` in the range before them, as `in_subtree_raw` does.
     fn in_subtree<T: Portable, R: Drop, F: FnOnce(&mut Self) -> Result<R, Error>>(
@@ -33,9 +36,12 @@ pub trait ArchiveContextExt: ArchiveContext {
         f: F,
     ) -> Result<R, Error>
         requires range { (Self.kept self.old).end < 2 ^ 63 }
-        requires takes { TakesClaimed F.FnOnce Self.kept f (Self.kept self.old) (pointee_span pos (sized T.shape) 1) }
-        requires keeps { KeepsPushes F.FnOnce Self.kept f (Self.kept self.old) (pointee_span pos (sized T.shape) 1) }
-        ensures { InSubtree F.FnOnce Self.kept f (Self.kept self.old) (pointee_span pos (sized T.shape) 1) result (Self.kept self.new) };
+        requires takes { TakesClaimed F.FnOnce Self.kept f (Self.kept self.old)
+            (pointee_span pos (sized T.shape) 1) }
+        requires keeps { KeepsPushes F.FnOnce Self.kept f (Self.kept self.old)
+            (pointee_span pos (sized T.shape) 1) }
+        ensures { InSubtree F.FnOnce Self.kept f (Self.kept self.old)
+            (pointee_span pos (sized T.shape) 1) result (Self.kept self.new) };
 }
 
 impl<C: ArchiveContext> ArchiveContextExt for C {

@@ -34,7 +34,8 @@ pub trait Visits: Visited {
 
     /// Ends the check of a shared position. It does not allocate.
     fn finish_shared(&mut self, pos: usize) -> Result<(), Error>
-        ensures { (k : Kept) → FinishesShared (with_seen k (Self.seen self.old)) pos (with_seen k (Self.seen self.new)) result (Self.seen self.old pos) };
+        ensures { (k : Kept) → FinishesShared (with_seen k (Self.seen self.old)) pos
+            (with_seen k (Self.seen self.new)) result (Self.seen self.old pos) };
 }
 
 /// A context of checks, with the range of `archive` and the shared positions of `shared`.

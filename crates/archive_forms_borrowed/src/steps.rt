@@ -23,7 +23,8 @@ pub trait EntryStep<K: Archive, V: Archive, S: Writer + Allocator> {
         requires taken { takes self.now (key.now, value.now) }
         requires room { S.failures serializer.old < 2 ^ 64 - 1 }
         requires state { HasState S.pos S.known serializer.old }
-        ensures { Serializes (tuple2_spelling K.Archived.shape K.spelling V.Archived.shape V.spelling) S.Writer (key.now, value.now) serializer.old serializer.new result };
+        ensures { Serializes (tuple2_spelling K.Archived.shape K.spelling V.Archived.shape V.spelling)
+            S.Writer (key.now, value.now) serializer.old serializer.new result };
 }
 
 /// The `EntryStep` of entries whose keys and values can be archived by the serializer.

@@ -16,7 +16,8 @@ use std::cmp::Ordering;
 pub fn array_elements<'a, T: Portable, const N: usize>(this: &Ref<'a, [T; N]>) -> SliceRef<'a, T>
     requires { HasValue (array N T.shape) T.knows this.now.bytes.now this.now.pos }
     ensures there { HasElements T.shape T.knows result.bytes.now result.pos result.len }
-    ensures elements { (v : Value) → HeldAt (array N T.shape) T.knows this.now.bytes.now this.now.pos v → AreElements T.shape T.knows result.bytes.now result.pos result.len v }
+    ensures elements { (v : Value) → HeldAt (array N T.shape) T.knows this.now.bytes.now this.now.pos v
+        → AreElements T.shape T.knows result.bytes.now result.pos result.len v }
 {
     array_slice(*this)
 }

@@ -17,7 +17,8 @@ use std::cmp::Ordering;
 pub fn boxed_elements<'a, T: Portable>(this: &Ref<'a, ArchivedBoxedSlice<T>>) -> SliceRef<'a, T>
     requires { HasValue (box (slice T.shape)) T.knows this.now.bytes.now this.now.pos }
     ensures there { HasElements T.shape T.knows result.bytes.now result.pos result.len }
-    ensures elements { (v : Value) → HeldAt (box (slice T.shape)) T.knows this.now.bytes.now this.now.pos v → AreElements T.shape T.knows result.bytes.now result.pos result.len v }
+    ensures elements { (v : Value) → HeldAt (box (slice T.shape)) T.knows this.now.bytes.now
+        this.now.pos v → AreElements T.shape T.knows result.bytes.now result.pos result.len v }
 {
     ArchivedBoxedSlice::get(*this)
 }

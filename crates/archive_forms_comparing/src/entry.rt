@@ -15,8 +15,10 @@ use std::cmp::Ordering;
 pub fn tuple_of<'a, K: Portable, V: Portable>(
     this: &Ref<'a, Entry<K, V>>,
 ) -> Ref<'a, ArchivedTuple2<K, V>>
-    requires { HasValue (tuple2 K.shape V.shape) (both K.knows V.knows) this.now.bytes.now this.now.pos }
-    ensures { HasPart (λ v x. v ≡ x) (tuple2 K.shape V.shape) (both K.knows V.knows) this.now.bytes.now this.now.pos (tuple2 K.shape V.shape) (both K.knows V.knows) result.bytes.now result.pos }
+    requires { HasValue (tuple2 K.shape V.shape) (both K.knows V.knows) this.now.bytes.now
+        this.now.pos }
+    ensures { HasPart (λ v x. v ≡ x) (tuple2 K.shape V.shape) (both K.knows V.knows) this.now.bytes.now
+        this.now.pos (tuple2 K.shape V.shape) (both K.knows V.knows) result.bytes.now result.pos }
 {
     Ref::new(this.bytes, this.pos)
 }

@@ -16,7 +16,8 @@ pub trait ArchivedEq: Portable {
     fn eq(this: &Ref<'_, Self>, other: &Ref<'_, Self>) -> bool
         requires this { HasValue Self.shape Self.knows this.now.bytes.now this.now.pos }
         requires other { HasValue Self.shape Self.knows other.now.bytes.now other.now.pos }
-        ensures { OfBoth Self.shape Self.knows this.now.bytes.now this.now.pos other.now.bytes.now other.now.pos equal result };
+        ensures { OfBoth Self.shape Self.knows this.now.bytes.now
+            this.now.pos other.now.bytes.now other.now.pos equal result };
 
     ghost is_equivalence: { IsEquivalence equal };
 }

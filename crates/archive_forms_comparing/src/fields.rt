@@ -12,7 +12,8 @@ use std::cmp::Ordering;
 pub(crate) fn equal_then<T: ArchivedEq>(found: bool, this: &Ref<'_, T>, other: &Ref<'_, T>) -> bool
     requires this { HasValue T.shape T.knows this.now.bytes.now this.now.pos }
     requires other { HasValue T.shape T.knows other.now.bytes.now other.now.pos }
-    ensures { OfBoth T.shape T.knows this.now.bytes.now this.now.pos other.now.bytes.now other.now.pos (λ v w. found && T.equal v w) result }
+    ensures { OfBoth T.shape T.knows this.now.bytes.now this.now.pos other.now.bytes.now other.now.pos
+        (λ v w. found && T.equal v w) result }
 {
     if !found {
         return false;
@@ -28,7 +29,8 @@ pub(crate) fn compare_then<T: ArchivedOrd>(
 ) -> Ordering
     requires this { HasValue T.shape T.knows this.now.bytes.now this.now.pos }
     requires other { HasValue T.shape T.knows other.now.bytes.now other.now.pos }
-    ensures { OfBoth T.shape T.knows this.now.bytes.now this.now.pos other.now.bytes.now other.now.pos (λ v w. ordering_then found (T.order v w)) result }
+    ensures { OfBoth T.shape T.knows this.now.bytes.now this.now.pos other.now.bytes.now other.now.pos
+        (λ v w. ordering_then found (T.order v w)) result }
 {
     match found {
         Ordering::Equal => T::cmp(this, other),

@@ -18,7 +18,8 @@ pub trait ArchivedOrd: ArchivedEq {
     fn cmp(this: &Ref<'_, Self>, other: &Ref<'_, Self>) -> Ordering
         requires this { HasValue Self.shape Self.knows this.now.bytes.now this.now.pos }
         requires other { HasValue Self.shape Self.knows other.now.bytes.now other.now.pos }
-        ensures { OfBoth Self.shape Self.knows this.now.bytes.now this.now.pos other.now.bytes.now other.now.pos order result };
+        ensures { OfBoth Self.shape Self.knows this.now.bytes.now
+            this.now.pos other.now.bytes.now other.now.pos order result };
 
     ghost is_total: { IsTotalOrder order };
 

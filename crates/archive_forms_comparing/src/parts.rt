@@ -25,7 +25,8 @@ pub fn option_value<'a, T: Portable>(this: &Ref<'a, ArchivedOption<T>>) -> Optio
 pub fn result_outcome<'a, T: Portable, E: Portable>(
     this: &Ref<'a, ArchivedResult<T, E>>,
 ) -> Result<Ref<'a, T>, Ref<'a, E>>
-    requires { HasValue (result_shape T.shape E.shape) (both T.knows E.knows) this.now.bytes.now this.now.pos }
+    requires { HasValue (result_shape T.shape E.shape) (both T.knows E.knows) this.now.bytes.now
+        this.now.pos }
     ensures { MatchResult result
         (λ r. HasPart (λ v x. result_of v ≡ Ok x) (result_shape T.shape E.shape) (both T.knows E.knows) this.now.bytes.now this.now.pos T.shape T.knows r.bytes.now r.pos)
         (λ r. HasPart (λ v x. result_of v ≡ Err x) (result_shape T.shape E.shape) (both T.knows E.knows) this.now.bytes.now this.now.pos E.shape E.knows r.bytes.now r.pos) }
@@ -36,7 +37,8 @@ pub fn result_outcome<'a, T: Portable, E: Portable>(
 /// Returns the value of an archived box.
 pub fn box_value<'a, T: Portable>(this: &Ref<'a, ArchivedBox<T>>) -> Ref<'a, T>
     requires { HasValue (box (sized T.shape)) T.knows this.now.bytes.now this.now.pos }
-    ensures { HasPart (λ v x. v ≡ x) (box (sized T.shape)) T.knows this.now.bytes.now this.now.pos T.shape T.knows result.bytes.now result.pos }
+    ensures { HasPart (λ v x. v ≡ x) (box (sized T.shape)) T.knows this.now.bytes.now
+        this.now.pos T.shape T.knows result.bytes.now result.pos }
 {
     ArchivedBox::get(*this)
 }

@@ -16,7 +16,8 @@ use std::cmp::Ordering;
 /// Returns the only field.
 pub fn first_of<'a, A: Portable>(this: &Ref<'a, ArchivedTuple1<A>>) -> Ref<'a, A>
     requires { HasValue (tuple1 A.shape) A.knows this.now.bytes.now this.now.pos }
-    ensures { HasPart (λ v x. head_of (elements_of v) ≡ x) (tuple1 A.shape) A.knows this.now.bytes.now this.now.pos A.shape A.knows result.bytes.now result.pos }
+    ensures { HasPart (λ v x. head_of (elements_of v) ≡ x) (tuple1 A.shape) A.knows this.now.bytes.now
+        this.now.pos A.shape A.knows result.bytes.now result.pos }
 {
     ArchivedTuple1::first(*this)
 }

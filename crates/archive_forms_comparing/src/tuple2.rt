@@ -15,16 +15,22 @@ use std::cmp::Ordering;
 
 /// Returns the first field.
 pub fn first_of<'a, A: Portable, B: Portable>(this: &Ref<'a, ArchivedTuple2<A, B>>) -> Ref<'a, A>
-    requires { HasValue (tuple2 A.shape B.shape) (both A.knows B.knows) this.now.bytes.now this.now.pos }
-    ensures { HasPart (λ v x. head_of (elements_of v) ≡ x) (tuple2 A.shape B.shape) (both A.knows B.knows) this.now.bytes.now this.now.pos A.shape A.knows result.bytes.now result.pos }
+    requires { HasValue (tuple2 A.shape B.shape) (both A.knows B.knows) this.now.bytes.now
+        this.now.pos }
+    ensures { HasPart (λ v x. head_of (elements_of v) ≡ x) (tuple2 A.shape B.shape)
+        (both A.knows B.knows) this.now.bytes.now this.now.pos A.shape A.knows result.bytes.now
+        result.pos }
 {
     ArchivedTuple2::first(*this)
 }
 
 /// Returns the second field.
 pub fn second_of<'a, A: Portable, B: Portable>(this: &Ref<'a, ArchivedTuple2<A, B>>) -> Ref<'a, B>
-    requires { HasValue (tuple2 A.shape B.shape) (both A.knows B.knows) this.now.bytes.now this.now.pos }
-    ensures { HasPart (λ v x. head_of (rest_of (elements_of v)) ≡ x) (tuple2 A.shape B.shape) (both A.knows B.knows) this.now.bytes.now this.now.pos B.shape B.knows result.bytes.now result.pos }
+    requires { HasValue (tuple2 A.shape B.shape) (both A.knows B.knows) this.now.bytes.now
+        this.now.pos }
+    ensures { HasPart (λ v x. head_of (rest_of (elements_of v)) ≡ x) (tuple2 A.shape B.shape)
+        (both A.knows B.knows) this.now.bytes.now this.now.pos B.shape B.knows result.bytes.now
+        result.pos }
 {
     ArchivedTuple2::second(*this)
 }

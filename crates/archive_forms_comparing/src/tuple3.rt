@@ -18,8 +18,11 @@ use std::cmp::Ordering;
 pub fn first_of<'a, A: Portable, B: Portable, C: Portable>(
     this: &Ref<'a, ArchivedTuple3<A, B, C>>,
 ) -> Ref<'a, A>
-    requires { HasValue (tuple3 A.shape B.shape C.shape) (all_three A.knows B.knows C.knows) this.now.bytes.now this.now.pos }
-    ensures { HasPart (λ v x. head_of (elements_of v) ≡ x) (tuple3 A.shape B.shape C.shape) (all_three A.knows B.knows C.knows) this.now.bytes.now this.now.pos A.shape A.knows result.bytes.now result.pos }
+    requires { HasValue (tuple3 A.shape B.shape C.shape) (all_three A.knows B.knows C.knows)
+        this.now.bytes.now this.now.pos }
+    ensures { HasPart (λ v x. head_of (elements_of v) ≡ x) (tuple3 A.shape B.shape C.shape)
+        (all_three A.knows B.knows C.knows) this.now.bytes.now
+        this.now.pos A.shape A.knows result.bytes.now result.pos }
 {
     ArchivedTuple3::first(*this)
 }
@@ -28,8 +31,11 @@ pub fn first_of<'a, A: Portable, B: Portable, C: Portable>(
 pub fn second_of<'a, A: Portable, B: Portable, C: Portable>(
     this: &Ref<'a, ArchivedTuple3<A, B, C>>,
 ) -> Ref<'a, B>
-    requires { HasValue (tuple3 A.shape B.shape C.shape) (all_three A.knows B.knows C.knows) this.now.bytes.now this.now.pos }
-    ensures { HasPart (λ v x. head_of (rest_of (elements_of v)) ≡ x) (tuple3 A.shape B.shape C.shape) (all_three A.knows B.knows C.knows) this.now.bytes.now this.now.pos B.shape B.knows result.bytes.now result.pos }
+    requires { HasValue (tuple3 A.shape B.shape C.shape) (all_three A.knows B.knows C.knows)
+        this.now.bytes.now this.now.pos }
+    ensures { HasPart (λ v x. head_of (rest_of (elements_of v)) ≡ x) (tuple3 A.shape B.shape C.shape)
+        (all_three A.knows B.knows C.knows) this.now.bytes.now
+        this.now.pos B.shape B.knows result.bytes.now result.pos }
 {
     ArchivedTuple3::second(*this)
 }
@@ -38,8 +44,11 @@ pub fn second_of<'a, A: Portable, B: Portable, C: Portable>(
 pub fn third_of<'a, A: Portable, B: Portable, C: Portable>(
     this: &Ref<'a, ArchivedTuple3<A, B, C>>,
 ) -> Ref<'a, C>
-    requires { HasValue (tuple3 A.shape B.shape C.shape) (all_three A.knows B.knows C.knows) this.now.bytes.now this.now.pos }
-    ensures { HasPart (λ v x. head_of (rest_of (rest_of (elements_of v))) ≡ x) (tuple3 A.shape B.shape C.shape) (all_three A.knows B.knows C.knows) this.now.bytes.now this.now.pos C.shape C.knows result.bytes.now result.pos }
+    requires { HasValue (tuple3 A.shape B.shape C.shape) (all_three A.knows B.knows C.knows)
+        this.now.bytes.now this.now.pos }
+    ensures { HasPart (λ v x. head_of (rest_of (rest_of (elements_of v))) ≡ x)
+        (tuple3 A.shape B.shape C.shape) (all_three A.knows B.knows C.knows) this.now.bytes.now
+        this.now.pos C.shape C.knows result.bytes.now result.pos }
 {
     ArchivedTuple3::third(*this)
 }

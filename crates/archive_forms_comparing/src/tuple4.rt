@@ -18,8 +18,11 @@ use std::cmp::Ordering;
 pub fn first_of<'a, A: Portable, B: Portable, C: Portable, D: Portable>(
     this: &Ref<'a, ArchivedTuple4<A, B, C, D>>,
 ) -> Ref<'a, A>
-    requires { HasValue (tuple4 A.shape B.shape C.shape D.shape) (all_four A.knows B.knows C.knows D.knows) this.now.bytes.now this.now.pos }
-    ensures { HasPart (λ v x. head_of (elements_of v) ≡ x) (tuple4 A.shape B.shape C.shape D.shape) (all_four A.knows B.knows C.knows D.knows) this.now.bytes.now this.now.pos A.shape A.knows result.bytes.now result.pos }
+    requires { HasValue (tuple4 A.shape B.shape C.shape D.shape)
+        (all_four A.knows B.knows C.knows D.knows) this.now.bytes.now this.now.pos }
+    ensures { HasPart (λ v x. head_of (elements_of v) ≡ x) (tuple4 A.shape B.shape C.shape D.shape)
+        (all_four A.knows B.knows C.knows D.knows) this.now.bytes.now
+        this.now.pos A.shape A.knows result.bytes.now result.pos }
 {
     ArchivedTuple4::first(*this)
 }
@@ -28,8 +31,11 @@ pub fn first_of<'a, A: Portable, B: Portable, C: Portable, D: Portable>(
 pub fn second_of<'a, A: Portable, B: Portable, C: Portable, D: Portable>(
     this: &Ref<'a, ArchivedTuple4<A, B, C, D>>,
 ) -> Ref<'a, B>
-    requires { HasValue (tuple4 A.shape B.shape C.shape D.shape) (all_four A.knows B.knows C.knows D.knows) this.now.bytes.now this.now.pos }
-    ensures { HasPart (λ v x. head_of (rest_of (elements_of v)) ≡ x) (tuple4 A.shape B.shape C.shape D.shape) (all_four A.knows B.knows C.knows D.knows) this.now.bytes.now this.now.pos B.shape B.knows result.bytes.now result.pos }
+    requires { HasValue (tuple4 A.shape B.shape C.shape D.shape)
+        (all_four A.knows B.knows C.knows D.knows) this.now.bytes.now this.now.pos }
+    ensures { HasPart (λ v x. head_of (rest_of (elements_of v)) ≡ x)
+        (tuple4 A.shape B.shape C.shape D.shape) (all_four A.knows B.knows C.knows D.knows)
+        this.now.bytes.now this.now.pos B.shape B.knows result.bytes.now result.pos }
 {
     ArchivedTuple4::second(*this)
 }
@@ -38,8 +44,11 @@ pub fn second_of<'a, A: Portable, B: Portable, C: Portable, D: Portable>(
 pub fn third_of<'a, A: Portable, B: Portable, C: Portable, D: Portable>(
     this: &Ref<'a, ArchivedTuple4<A, B, C, D>>,
 ) -> Ref<'a, C>
-    requires { HasValue (tuple4 A.shape B.shape C.shape D.shape) (all_four A.knows B.knows C.knows D.knows) this.now.bytes.now this.now.pos }
-    ensures { HasPart (λ v x. head_of (rest_of (rest_of (elements_of v))) ≡ x) (tuple4 A.shape B.shape C.shape D.shape) (all_four A.knows B.knows C.knows D.knows) this.now.bytes.now this.now.pos C.shape C.knows result.bytes.now result.pos }
+    requires { HasValue (tuple4 A.shape B.shape C.shape D.shape)
+        (all_four A.knows B.knows C.knows D.knows) this.now.bytes.now this.now.pos }
+    ensures { HasPart (λ v x. head_of (rest_of (rest_of (elements_of v))) ≡ x)
+        (tuple4 A.shape B.shape C.shape D.shape) (all_four A.knows B.knows C.knows D.knows)
+        this.now.bytes.now this.now.pos C.shape C.knows result.bytes.now result.pos }
 {
     ArchivedTuple4::third(*this)
 }
@@ -48,8 +57,11 @@ pub fn third_of<'a, A: Portable, B: Portable, C: Portable, D: Portable>(
 pub fn fourth_of<'a, A: Portable, B: Portable, C: Portable, D: Portable>(
     this: &Ref<'a, ArchivedTuple4<A, B, C, D>>,
 ) -> Ref<'a, D>
-    requires { HasValue (tuple4 A.shape B.shape C.shape D.shape) (all_four A.knows B.knows C.knows D.knows) this.now.bytes.now this.now.pos }
-    ensures { HasPart (λ v x. head_of (rest_of (rest_of (rest_of (elements_of v)))) ≡ x) (tuple4 A.shape B.shape C.shape D.shape) (all_four A.knows B.knows C.knows D.knows) this.now.bytes.now this.now.pos D.shape D.knows result.bytes.now result.pos }
+    requires { HasValue (tuple4 A.shape B.shape C.shape D.shape)
+        (all_four A.knows B.knows C.knows D.knows) this.now.bytes.now this.now.pos }
+    ensures { HasPart (λ v x. head_of (rest_of (rest_of (rest_of (elements_of v)))) ≡ x)
+        (tuple4 A.shape B.shape C.shape D.shape) (all_four A.knows B.knows C.knows D.knows)
+        this.now.bytes.now this.now.pos D.shape D.knows result.bytes.now result.pos }
 {
     ArchivedTuple4::fourth(*this)
 }

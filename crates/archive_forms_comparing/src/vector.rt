@@ -17,16 +17,19 @@ use std::cmp::Ordering;
 pub fn vector_elements<'a, T: Portable>(this: &Ref<'a, ArchivedVec<T>>) -> SliceRef<'a, T>
     requires { HasValue (vector T.shape) T.knows this.now.bytes.now this.now.pos }
     ensures there { HasElements T.shape T.knows result.bytes.now result.pos result.len }
-    ensures elements { (v : Value) → HeldAt (vector T.shape) T.knows this.now.bytes.now this.now.pos v → AreElements T.shape T.knows result.bytes.now result.pos result.len v }
+    ensures elements { (v : Value) → HeldAt (vector T.shape) T.knows this.now.bytes.now this.now.pos v
+        → AreElements T.shape T.knows result.bytes.now result.pos result.len v }
 {
     ArchivedVec::as_slice(*this)
 }
 
 /// Returns the element at `index`, which is less than the number of elements.
 pub fn element<'a, T: Portable>(elements: &SliceRef<'a, T>, index: usize) -> Ref<'a, T>
-    requires there { HasElements T.shape T.knows elements.now.bytes.now elements.now.pos elements.now.len }
+    requires there { HasElements T.shape T.knows elements.now.bytes.now elements.now.pos
+        elements.now.len }
     requires within { index < elements.now.len }
-    ensures { IsElement T.shape T.knows elements.now.bytes.now elements.now.pos elements.now.len index result.bytes.now result.pos }
+    ensures { IsElement T.shape T.knows elements.now.bytes.now elements.now.pos elements.now.len index
+        result.bytes.now result.pos }
 {
     elements.get(index).unwrap()
 }

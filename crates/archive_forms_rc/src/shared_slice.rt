@@ -123,7 +123,8 @@ impl<T: Portable, L: Flavor> ArchivedRcSlice<T, L> {
     pub fn get<'a>(this: Ref<'a, ArchivedRcSlice<T, L>>) -> SliceRef<'a, T>
         requires { HasValue (shared L.CYCLES (slice T.shape)) T.knows this.bytes.now this.pos }
         ensures bytes { result.bytes ≡ this.entry.bytes }
-        ensures elements { IsRcSliceAt L.CYCLES T.shape T.knows this.entry.bytes.now this.entry.pos result.pos result.len }
+        ensures elements { IsRcSliceAt L.CYCLES T.shape T.knows this.entry.bytes.now
+            this.entry.pos result.pos result.len }
     {
         let (pos, len) = elements_at::<T, L>(this.bytes, this.pos);
         SliceRef {

@@ -109,7 +109,8 @@ impl<L: Flavor> ArchivedRcStr<L> {
     /// Returns the text that the pointer leads to.
     pub fn get<'a>(this: Ref<'a, ArchivedRcStr<L>>) -> &'a str
         requires { HasCounted L.CYCLES str (λ _. ⊤) this.bytes.now this.pos }
-        ensures { (to len : ℕ) × IsRcStrAt L.CYCLES this.entry.bytes.now this.entry.pos to len × (result.now ≡ window this.entry.bytes.now to len) }
+        ensures { (to len : ℕ) × IsRcStrAt L.CYCLES this.entry.bytes.now this.entry.pos to len
+            × (result.now ≡ window this.entry.bytes.now to len) }
     {
         let (start, len) = text_at::<L>(this.bytes, this.pos);
         // The bytes there are UTF-8.

@@ -20,8 +20,10 @@ pub trait Archive {
 
     /// Writes the own bytes of the value at `out`, where the bytes are zeros. The value's data was written before.
     fn resolve(&self, resolver: Self::Resolver, out: Place<'_, Self::Archived>) -> Result<(), Error>
-        requires { CanResolve spelling Self.Archived.shape self.now resolver out.out.now out.start out.pos }
-        ensures { Resolves spelling self.now resolver out.entry.pos out.entry.start out.entry.out.now out.exit.0.now result };
+        requires { CanResolve spelling Self.Archived.shape self.now resolver out.out.now
+            out.start out.pos }
+        ensures { Resolves spelling self.now resolver out.entry.pos out.entry.start out.entry.out.now
+            out.exit.0.now result };
 
     /// The layout reads what is written as the value, and it is the one archive of the value.
     ghost spells: { (fit : Fit) → Spells fit Self.Archived.shape Self.Archived.knows spelling };

@@ -70,8 +70,10 @@ impl<T: Archive, const N: usize> Archive for [T; N] {
         resolver: [T::Resolver; N],
         out: Place<'_, [T::Archived; N]>,
     ) -> Result<(), Error>
-        requires { CanResolve (array_spelling N T.Archived.shape T.spelling) (array N T.Archived.shape) self.now resolver out.out.now out.start out.pos }
-        ensures { Resolves (array_spelling N T.Archived.shape T.spelling) self.now resolver out.entry.pos out.entry.start out.entry.out.now out.exit.0.now result }
+        requires { CanResolve (array_spelling N T.Archived.shape T.spelling) (array N T.Archived.shape)
+            self.now resolver out.out.now out.start out.pos }
+        ensures { Resolves (array_spelling N T.Archived.shape T.spelling) self.now resolver
+            out.entry.pos out.entry.start out.entry.out.now out.exit.0.now result }
     {
         let Place {
             out,
@@ -105,7 +107,8 @@ pub fn serialize_array_each<
     requires state { HasState S.pos S.known serializer.old }
     requires takes { StepTakes F.Fn S.Writer step items.now }
     requires writes { StepWrites F.Fn (λ q. q.0) T.spelling S.Writer step }
-    ensures { Serializes (array_spelling N T.Archived.shape T.spelling) S.Writer items.now serializer.old serializer.new result }
+    ensures { Serializes (array_spelling N T.Archived.shape T.spelling) S.Writer items.now
+        serializer.old serializer.new result }
 {
     if N == 0 {
         return Ok(no_resolvers());

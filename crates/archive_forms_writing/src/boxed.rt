@@ -26,8 +26,10 @@ impl<T: Archive> Archive for Box<T> {
         resolver: BoxResolver,
         out: Place<'_, ArchivedBox<T::Archived>>,
     ) -> Result<(), Error>
-        requires { CanResolve (boxed_spelling T.Archived.shape T.spelling) (box (sized T.Archived.shape)) self.now resolver out.out.now out.start out.pos }
-        ensures { Resolves (boxed_spelling T.Archived.shape T.spelling) self.now resolver out.entry.pos out.entry.start out.entry.out.now out.exit.0.now result }
+        requires { CanResolve (boxed_spelling T.Archived.shape T.spelling)
+            (box (sized T.Archived.shape)) self.now resolver out.out.now out.start out.pos }
+        ensures { Resolves (boxed_spelling T.Archived.shape T.spelling) self.now resolver out.entry.pos
+            out.entry.start out.entry.out.now out.exit.0.now result }
     {
         let Place {
             out,
@@ -53,7 +55,8 @@ pub fn serialize_box_each<
     requires state { HasState S.pos S.known serializer.old }
     requires takes { StepTakes F.Fn S.Writer step (value.now.value ∷ []) }
     requires writes { StepWrites F.Fn (λ q. q.0) T.spelling S.Writer step }
-    ensures { Serializes (boxed_spelling T.Archived.shape T.spelling) S.Writer value.now serializer.old serializer.new result }
+    ensures { Serializes (boxed_spelling T.Archived.shape T.spelling) S.Writer value.now
+        serializer.old serializer.new result }
 {
     match serialize_one_each(&**value, serializer, step) {
         Ok(pos) => Ok(BoxResolver { pos }),

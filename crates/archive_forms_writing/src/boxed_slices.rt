@@ -31,8 +31,12 @@ impl<T: Archive> Archive for BoxedSlice<T> {
         resolver: BoxResolver,
         out: Place<'_, ArchivedBoxedSlice<T::Archived>>,
     ) -> Result<(), Error>
-        requires { CanResolve (seen_as boxed_slice_items (boxed_slice_spelling T.Archived.shape T.spelling)) (box (slice T.Archived.shape)) self.now resolver out.out.now out.start out.pos }
-        ensures { Resolves (seen_as boxed_slice_items (boxed_slice_spelling T.Archived.shape T.spelling)) self.now resolver out.entry.pos out.entry.start out.entry.out.now out.exit.0.now result }
+        requires { CanResolve (seen_as boxed_slice_items
+            (boxed_slice_spelling T.Archived.shape T.spelling)) (box (slice T.Archived.shape))
+            self.now resolver out.out.now out.start out.pos }
+        ensures { Resolves (seen_as boxed_slice_items
+            (boxed_slice_spelling T.Archived.shape T.spelling)) self.now resolver out.entry.pos
+            out.entry.start out.entry.out.now out.exit.0.now result }
     {
         let Place {
             out,
@@ -62,7 +66,8 @@ pub fn serialize_boxed_slice_each<
     requires state { HasState S.pos S.known serializer.old }
     requires takes { StepTakes F.Fn S.Writer step (boxed_slice_items items.now) }
     requires writes { StepWrites F.Fn (λ q. q.0) T.spelling S.Writer step }
-    ensures { Serializes (seen_as boxed_slice_items (boxed_slice_spelling T.Archived.shape T.spelling)) S.Writer items.now serializer.old serializer.new result }
+    ensures { Serializes (seen_as boxed_slice_items (boxed_slice_spelling T.Archived.shape T.spelling))
+        S.Writer items.now serializer.old serializer.new result }
 {
     match serialize_slice_each(items.as_slice(), serializer, step) {
         Ok(pos) => Ok(BoxResolver { pos }),
@@ -109,8 +114,10 @@ impl Archive for BoxedStr {
     ghost spelling = { seen_as boxed_str_bytes boxed_str_spelling };
 
     fn resolve(&self, resolver: BoxResolver, out: Place<'_, ArchivedBoxedStr>) -> Result<(), Error>
-        requires { CanResolve (seen_as boxed_str_bytes boxed_str_spelling) (box str) self.now resolver out.out.now out.start out.pos }
-        ensures { Resolves (seen_as boxed_str_bytes boxed_str_spelling) self.now resolver out.entry.pos out.entry.start out.entry.out.now out.exit.0.now result }
+        requires { CanResolve (seen_as boxed_str_bytes boxed_str_spelling) (box str) self.now resolver
+            out.out.now out.start out.pos }
+        ensures { Resolves (seen_as boxed_str_bytes boxed_str_spelling) self.now resolver out.entry.pos
+            out.entry.start out.entry.out.now out.exit.0.now result }
     {
         let Place {
             out,

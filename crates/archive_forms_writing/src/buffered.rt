@@ -136,7 +136,8 @@ const LAST_BUFFER_POSITION: usize = usize::MAX - BUFFER_LEN;
 /// Returns `true` only if `count` adjacent elements have at most `BUFFER_LEN` bytes and end before position 2^64 where they
 /// begin at `pos`.
 pub(crate) fn are_few<T: Portable>(count: usize, pos: usize) -> bool
-    ensures { MatchBool result ((count * size_of T.shape ≤ BUFFER_LEN) × (pos + count * size_of T.shape < 2 ^ 64)) ⊤ }
+    ensures { MatchBool result ((count * size_of T.shape ≤ BUFFER_LEN)
+        × (pos + count * size_of T.shape < 2 ^ 64)) ⊤ }
 {
     let size = T::SIZE;
     let whole = count.saturating_mul(size);

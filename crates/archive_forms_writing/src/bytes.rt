@@ -16,7 +16,8 @@ pub fn serialize_using<T: Serialize<S>, S: Writer + Allocator>(
 ) -> Result<usize, Error>
     requires room { S.failures serializer.old < 2 ^ 64 - 1 }
     requires state { HasState S.pos S.known serializer.old }
-    ensures writes { Serializes (box_spelling T.Archived.shape T.spelling) S.Writer value.now serializer.old serializer.new result }
+    ensures writes { Serializes (box_spelling T.Archived.shape T.spelling) S.Writer value.now
+        serializer.old serializer.new result }
     ensures archive { OnOk result (MakesArchive T.Archived.shape T.Archived.knows T.spelling S.Writer value.now serializer.old serializer.new) }
 {
     serialize_one_each::<T, S, _>(

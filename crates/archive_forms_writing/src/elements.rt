@@ -32,7 +32,8 @@ pub fn serialize_element<T: Serialize<S>, S: Writer + Allocator>(
 ) -> Result<(T::Resolver, PhantomData<T::Archived>), Error>
     requires room { S.failures serializer.old < 2 ^ 64 - 1 }
     requires state { HasState S.pos S.known serializer.old }
-    ensures { SerializesBy (λ q. q.0) T.spelling S.Writer item.now serializer.old serializer.new result }
+    ensures { SerializesBy (λ q. q.0) T.spelling S.Writer item.now
+        serializer.old serializer.new result }
 {
     match item.serialize(serializer) {
         Ok(resolver) => Ok((resolver, PhantomData)),
@@ -186,7 +187,8 @@ pub fn serialize_slice_each<
     requires state { HasState S.pos S.known serializer.old }
     requires takes { StepTakes F.Fn S.Writer step items.now }
     requires writes { StepWrites F.Fn (λ q. q.0) T.spelling S.Writer step }
-    ensures { Serializes (slice_spelling T.Archived.shape T.spelling) S.Writer items.now serializer.old serializer.new result }
+    ensures { Serializes (slice_spelling T.Archived.shape T.spelling) S.Writer items.now
+        serializer.old serializer.new result }
 {
     let none: Option<T::Resolver> = None;
     if size_of_val(&none) <= MAX_KEPT_SIZE && !items.is_empty() && items.len() <= MAX_KEPT {
@@ -214,7 +216,8 @@ pub fn serialize_one_each<
     requires state { HasState S.pos S.known serializer.old }
     requires takes { StepTakes F.Fn S.Writer step (value.now ∷ []) }
     requires writes { StepWrites F.Fn (λ q. q.0) T.spelling S.Writer step }
-    ensures { Serializes (box_spelling T.Archived.shape T.spelling) S.Writer value.now serializer.old serializer.new result }
+    ensures { Serializes (box_spelling T.Archived.shape T.spelling) S.Writer value.now
+        serializer.old serializer.new result }
 {
     let alloc = serializer.memory();
     let resolver = match step(value, serializer) {

@@ -18,8 +18,10 @@ pub fn resolve_field<T: Archive>(
     pos: usize,
     offset: usize,
 ) -> Result<usize, Error>
-    requires { CanResolve T.spelling T.Archived.shape value.now resolver out.old (start + field_at T.Archived.shape offset) (pos + field_at T.Archived.shape offset) }
-    ensures { ResolvesField T.spelling T.Archived.shape value.now resolver pos start offset out.old out.new result }
+    requires { CanResolve T.spelling T.Archived.shape value.now resolver out.old
+        (start + field_at T.Archived.shape offset) (pos + field_at T.Archived.shape offset) }
+    ensures { ResolvesField T.spelling T.Archived.shape value.now resolver pos start offset out.old
+        out.new result }
 {
     let _len = out.len();
     let from = next_multiple(offset, T::Archived::ALIGN);

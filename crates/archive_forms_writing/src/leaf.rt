@@ -38,8 +38,10 @@ impl<N: Leaf> Archive for N {
     ghost spelling = { leaf_spelling N.Archived.shape N.Archived.bytes_of N.Archived.value_of };
 
     fn resolve(&self, _resolver: (), out: Place<'_, N::Archived>) -> Result<(), Error>
-        requires { CanResolve (leaf_spelling N.Archived.shape N.Archived.bytes_of N.Archived.value_of) N.Archived.shape self.now tt out.out.now out.start out.pos }
-        ensures { Resolves (leaf_spelling N.Archived.shape N.Archived.bytes_of N.Archived.value_of) self.now tt out.entry.pos out.entry.start out.entry.out.now out.exit.0.now result }
+        requires { CanResolve (leaf_spelling N.Archived.shape N.Archived.bytes_of N.Archived.value_of)
+            N.Archived.shape self.now tt out.out.now out.start out.pos }
+        ensures { Resolves (leaf_spelling N.Archived.shape N.Archived.bytes_of N.Archived.value_of)
+            self.now tt out.entry.pos out.entry.start out.entry.out.now out.exit.0.now result }
     {
         let Place { out, start, .. } = out;
         let end = start + N::Archived::SIZE;

@@ -23,8 +23,10 @@ impl<T: Archive> Archive for Option<T> {
         resolver: Option<T::Resolver>,
         out: Place<'_, ArchivedOption<T::Archived>>,
     ) -> Result<(), Error>
-        requires { CanResolve (option_spelling T.Archived.shape T.spelling) (option T.Archived.shape) self.now resolver out.out.now out.start out.pos }
-        ensures { Resolves (option_spelling T.Archived.shape T.spelling) self.now resolver out.entry.pos out.entry.start out.entry.out.now out.exit.0.now result }
+        requires { CanResolve (option_spelling T.Archived.shape T.spelling) (option T.Archived.shape)
+            self.now resolver out.out.now out.start out.pos }
+        ensures { Resolves (option_spelling T.Archived.shape T.spelling) self.now resolver out.entry.pos
+            out.entry.start out.entry.out.now out.exit.0.now result }
     {
         let Place {
             out,
@@ -56,7 +58,8 @@ pub fn serialize_option_each<
     requires state { HasState S.pos S.known serializer.old }
     requires takes { StepTakes F.Fn S.Writer step (elements_of option.now) }
     requires writes { StepWrites F.Fn (λ q. q.0) T.spelling S.Writer step }
-    ensures { Serializes (option_spelling T.Archived.shape T.spelling) S.Writer option.now serializer.old serializer.new result }
+    ensures { Serializes (option_spelling T.Archived.shape T.spelling) S.Writer option.now
+        serializer.old serializer.new result }
 {
     match option {
         None => Ok(None),

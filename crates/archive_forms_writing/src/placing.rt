@@ -41,7 +41,8 @@ pub fn align<W: Writer>(writer: &mut W, align: usize) -> Result<usize, Error>
     requires room { W.failures writer.old < 2 ^ 64 - 1 }
     requires positive { 0 < align }
     requires small { align ≤ 32 }
-    ensures writes { Writes W.Writer writer.old writer.new (zeros (align_up (W.pos writer.old) align - W.pos writer.old)) result }
+    ensures writes { Writes W.Writer writer.old writer.new
+        (zeros (align_up (W.pos writer.old) align - W.pos writer.old)) result }
     ensures aligned { IfOk result (λ pos. pos ≡ align_up (W.pos writer.old) align) }
 {
     let pos = writer.pos();

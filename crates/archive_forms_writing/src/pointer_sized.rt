@@ -17,8 +17,10 @@ impl Archive for usize {
     ghost spelling = { usize_spelling };
 
     fn resolve(&self, resolver: (), out: Place<'_, ArchivedUsize>) -> Result<(), Error>
-        requires { CanResolve usize_spelling (number w32 false) self.now tt out.out.now out.start out.pos }
-        ensures { Resolves usize_spelling self.now tt out.entry.pos out.entry.start out.entry.out.now out.exit.0.now result }
+        requires { CanResolve usize_spelling (number w32 false) self.now tt out.out.now
+            out.start out.pos }
+        ensures { Resolves usize_spelling self.now tt out.entry.pos out.entry.start out.entry.out.now
+            out.exit.0.now result }
     {
         let Place {
             out,
@@ -49,8 +51,10 @@ impl Archive for isize {
     ghost spelling = { isize_spelling };
 
     fn resolve(&self, resolver: (), out: Place<'_, ArchivedIsize>) -> Result<(), Error>
-        requires { CanResolve isize_spelling (number w32 true) self.now tt out.out.now out.start out.pos }
-        ensures { Resolves isize_spelling self.now tt out.entry.pos out.entry.start out.entry.out.now out.exit.0.now result }
+        requires { CanResolve isize_spelling (number w32 true) self.now tt out.out.now
+            out.start out.pos }
+        ensures { Resolves isize_spelling self.now tt out.entry.pos out.entry.start out.entry.out.now
+            out.exit.0.now result }
     {
         let Place {
             out,

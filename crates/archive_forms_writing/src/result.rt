@@ -24,8 +24,11 @@ impl<T: Archive, E: Archive> Archive for Result<T, E> {
         resolver: Result<T::Resolver, E::Resolver>,
         out: Place<'_, ArchivedResult<T::Archived, E::Archived>>,
     ) -> Result<(), Error>
-        requires { CanResolve (result_spelling T.Archived.shape E.Archived.shape T.spelling E.spelling) (result_shape T.Archived.shape E.Archived.shape) self.now resolver out.out.now out.start out.pos }
-        ensures { Resolves (result_spelling T.Archived.shape E.Archived.shape T.spelling E.spelling) self.now resolver out.entry.pos out.entry.start out.entry.out.now out.exit.0.now result }
+        requires { CanResolve (result_spelling T.Archived.shape E.Archived.shape T.spelling E.spelling)
+            (result_shape T.Archived.shape E.Archived.shape) self.now resolver out.out.now
+            out.start out.pos }
+        ensures { Resolves (result_spelling T.Archived.shape E.Archived.shape T.spelling E.spelling)
+            self.now resolver out.entry.pos out.entry.start out.entry.out.now out.exit.0.now result }
     {
         let Place {
             out,
@@ -76,7 +79,8 @@ pub fn serialize_result_each<
     requires writes { StepWrites F.Fn (λ q. q.0) T.spelling S.Writer step }
     requires takes_errors { StepTakes G.Fn S.Writer step_of_error (errors_of outcome.now) }
     requires writes_errors { StepWrites G.Fn (λ q. q.0) E.spelling S.Writer step_of_error }
-    ensures { Serializes (result_spelling T.Archived.shape E.Archived.shape T.spelling E.spelling) S.Writer outcome.now serializer.old serializer.new result }
+    ensures { Serializes (result_spelling T.Archived.shape E.Archived.shape T.spelling E.spelling)
+        S.Writer outcome.now serializer.old serializer.new result }
 {
     match outcome {
         Ok(value) => match step(value, serializer) {

@@ -23,8 +23,10 @@ impl<A: Archive> Archive for (A,) {
         resolver: (A::Resolver,),
         out: Place<'_, ArchivedTuple1<A::Archived>>,
     ) -> Result<(), Error>
-        requires { CanResolve (tuple1_spelling A.Archived.shape A.spelling) (tuple1 A.Archived.shape) self.now resolver out.out.now out.start out.pos }
-        ensures { Resolves (tuple1_spelling A.Archived.shape A.spelling) self.now resolver out.entry.pos out.entry.start out.entry.out.now out.exit.0.now result }
+        requires { CanResolve (tuple1_spelling A.Archived.shape A.spelling) (tuple1 A.Archived.shape)
+            self.now resolver out.out.now out.start out.pos }
+        ensures { Resolves (tuple1_spelling A.Archived.shape A.spelling) self.now resolver out.entry.pos
+            out.entry.start out.entry.out.now out.exit.0.now result }
     {
         let Place {
             out,
@@ -51,7 +53,8 @@ pub fn serialize_tuple1_each<
     requires state { HasState S.pos S.known serializer.old }
     requires takes_first { StepTakes F.Fn S.Writer first (tuple.now.0 ∷ []) }
     requires writes_first { StepWrites F.Fn (λ q. q.0) A.spelling S.Writer first }
-    ensures { Serializes (tuple1_spelling A.Archived.shape A.spelling) S.Writer tuple.now serializer.old serializer.new result }
+    ensures { Serializes (tuple1_spelling A.Archived.shape A.spelling) S.Writer tuple.now
+        serializer.old serializer.new result }
 {
     let a = match first(&tuple.0, serializer) {
         Ok(done) => done.0,

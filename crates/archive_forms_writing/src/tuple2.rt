@@ -24,8 +24,10 @@ impl<A: Archive, B: Archive> Archive for (A, B) {
         resolver: (A::Resolver, B::Resolver),
         out: Place<'_, ArchivedTuple2<A::Archived, B::Archived>>,
     ) -> Result<(), Error>
-        requires { CanResolve (tuple2_spelling A.Archived.shape A.spelling B.Archived.shape B.spelling) (tuple2 A.Archived.shape B.Archived.shape) self.now resolver out.out.now out.start out.pos }
-        ensures { Resolves (tuple2_spelling A.Archived.shape A.spelling B.Archived.shape B.spelling) self.now resolver out.entry.pos out.entry.start out.entry.out.now out.exit.0.now result }
+        requires { CanResolve (tuple2_spelling A.Archived.shape A.spelling B.Archived.shape B.spelling)
+            (tuple2 A.Archived.shape B.Archived.shape) self.now resolver out.out.now out.start out.pos }
+        ensures { Resolves (tuple2_spelling A.Archived.shape A.spelling B.Archived.shape B.spelling)
+            self.now resolver out.entry.pos out.entry.start out.entry.out.now out.exit.0.now result }
     {
         let Place {
             out,
@@ -67,7 +69,8 @@ pub fn serialize_tuple2_each<
     requires writes_first { StepWrites F.Fn (λ q. q.0) A.spelling S.Writer first }
     requires takes_second { StepTakes G.Fn S.Writer second (tuple.now.1 ∷ []) }
     requires writes_second { StepWrites G.Fn (λ q. q.0) B.spelling S.Writer second }
-    ensures { Serializes (tuple2_spelling A.Archived.shape A.spelling B.Archived.shape B.spelling) S.Writer tuple.now serializer.old serializer.new result }
+    ensures { Serializes (tuple2_spelling A.Archived.shape A.spelling B.Archived.shape B.spelling)
+        S.Writer tuple.now serializer.old serializer.new result }
 {
     let a = match first(&tuple.0, serializer) {
         Ok(done) => done.0,

@@ -17,8 +17,10 @@ impl Archive for () {
     ghost spelling = { unit_spelling };
 
     fn resolve(&self, _resolver: (), out: Place<'_, ()>) -> Result<(), Error>
-        requires { CanResolve unit_spelling (tuple no_shapes) self.now tt out.out.now out.start out.pos }
-        ensures { Resolves unit_spelling self.now tt out.entry.pos out.entry.start out.entry.out.now out.exit.0.now result }
+        requires { CanResolve unit_spelling (tuple no_shapes) self.now tt out.out.now
+            out.start out.pos }
+        ensures { Resolves unit_spelling self.now tt out.entry.pos out.entry.start out.entry.out.now
+            out.exit.0.now result }
     {
         let Place { .. } = out;
         Ok(())
@@ -41,8 +43,10 @@ impl<T> Archive for PhantomData<T> {
     ghost spelling = { unit_spelling };
 
     fn resolve(&self, _resolver: (), out: Place<'_, PhantomData<T>>) -> Result<(), Error>
-        requires { CanResolve unit_spelling (tuple no_shapes) self.now tt out.out.now out.start out.pos }
-        ensures { Resolves unit_spelling self.now tt out.entry.pos out.entry.start out.entry.out.now out.exit.0.now result }
+        requires { CanResolve unit_spelling (tuple no_shapes) self.now tt out.out.now
+            out.start out.pos }
+        ensures { Resolves unit_spelling self.now tt out.entry.pos out.entry.start out.entry.out.now
+            out.exit.0.now result }
     {
         let Place { .. } = out;
         Ok(())

@@ -25,8 +25,10 @@ impl<T: Archive> Archive for Vec<T> {
         resolver: VecResolver,
         out: Place<'_, ArchivedVec<T::Archived>>,
     ) -> Result<(), Error>
-        requires { CanResolve (vec_spelling T.Archived.shape T.spelling) (vector T.Archived.shape) self.now resolver out.out.now out.start out.pos }
-        ensures { Resolves (vec_spelling T.Archived.shape T.spelling) self.now resolver out.entry.pos out.entry.start out.entry.out.now out.exit.0.now result }
+        requires { CanResolve (vec_spelling T.Archived.shape T.spelling) (vector T.Archived.shape)
+            self.now resolver out.out.now out.start out.pos }
+        ensures { Resolves (vec_spelling T.Archived.shape T.spelling) self.now resolver out.entry.pos
+            out.entry.start out.entry.out.now out.exit.0.now result }
     {
         let Place {
             out,
@@ -56,7 +58,8 @@ pub fn serialize_vec_each<
     requires state { HasState S.pos S.known serializer.old }
     requires takes { StepTakes F.Fn S.Writer step items.now.items }
     requires writes { StepWrites F.Fn (λ q. q.0) T.spelling S.Writer step }
-    ensures { Serializes (vec_spelling T.Archived.shape T.spelling) S.Writer items.now serializer.old serializer.new result }
+    ensures { Serializes (vec_spelling T.Archived.shape T.spelling) S.Writer items.now
+        serializer.old serializer.new result }
 {
     match serialize_slice_each(items.as_slice(), serializer, step) {
         Ok(pos) => Ok(VecResolver { pos }),

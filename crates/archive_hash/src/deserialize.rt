@@ -38,11 +38,15 @@ pub fn deserialize_hash_map_each<
     read_value: G,
 ) -> Result<OwnedHashMap<K, V>, Error>
     requires there { HasMap A.shape B.shape A.knows B.knows this }
-    requires takes_key { StepTakes F.Fn read_key A.shape A.knows this.bytes.now (length this.bytes.now) }
+    requires takes_key { StepTakes F.Fn read_key A.shape A.knows this.bytes.now
+        (length this.bytes.now) }
     requires reads_key { StepReads F.Fn read_key A.shape A.knows this.bytes.now (λ q. q.0) A.reads }
-    requires takes_value { StepTakes G.Fn read_value B.shape B.knows this.bytes.now (length this.bytes.now) }
+    requires takes_value { StepTakes G.Fn read_value B.shape B.knows this.bytes.now
+        (length this.bytes.now) }
     requires reads_value { StepReads G.Fn read_value B.shape B.knows this.bytes.now (λ q. q.0) B.reads }
-    ensures { Deserializes (reads_map K.eq (λ m. m.map.entries) A.reads B.reads) (table (tuple2 A.shape B.shape)) (both A.knows B.knows) this.entry.bytes.now this.entry.pos result }
+    ensures { Deserializes (reads_map K.eq (λ m. m.map.entries) A.reads B.reads)
+        (table (tuple2 A.shape B.shape)) (both A.knows B.knows) this.entry.bytes.now
+        this.entry.pos result }
 {
     let mut map = HashMap::new(alloc);
     let mut entries = ArchivedHashMap::iter(this);

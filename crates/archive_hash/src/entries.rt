@@ -62,7 +62,9 @@ fn serialize_by_step<K: Archive, V: Archive, S: Writer + Allocator, C: EntryStep
     requires taken { C.takes step.now (entry_of entry.now) }
     requires room { S.failures serializer.old < 2 ^ 64 - 1 }
     requires state { HasState S.pos S.known serializer.old }
-    ensures { SerializesBy (λ q. q.0) (entry_spelling K.Archived.shape K.spelling V.Archived.shape V.spelling) S.Writer entry.now serializer.old serializer.new result }
+    ensures { SerializesBy (λ q. q.0)
+        (entry_spelling K.Archived.shape K.spelling V.Archived.shape V.spelling) S.Writer entry.now
+        serializer.old serializer.new result }
 {
     match step.serialize_entry(entry.key, entry.value, serializer) {
         Ok(done) => Ok((
@@ -97,7 +99,9 @@ pub(crate) fn serialize_entries_scan_each<
     requires room { S.failures serializer.old < 2 ^ 64 - 1 }
     requires state { HasState S.pos S.known serializer.old }
     requires takes { TakesGiven I.next_gives C.takes step.now pairs }
-    ensures { WritesEntries (Drains (GivesAs deref_pair I.next_gives) pairs) (λ k. input_hash (K.hash_input k)) load_factor K.Archived.shape V.Archived.shape K.spelling V.spelling S.Writer len serializer.old serializer.new result }
+    ensures { WritesEntries (Drains (GivesAs deref_pair I.next_gives) pairs)
+        (λ k. input_hash (K.hash_input k)) load_factor K.Archived.shape V.Archived.shape K.spelling
+        V.spelling S.Writer len serializer.old serializer.new result }
 {
     let entries = Entries {
         pairs,
@@ -121,7 +125,9 @@ pub(crate) fn serialize_entries_scan_each<
             requires taken { C.takes step.now (entry_of entry.now) }
             requires room { S.failures s.old < 2 ^ 64 - 1 }
             requires state { HasState S.pos S.known s.old }
-            ensures { SerializesBy (λ q. q.0) (entry_spelling K.Archived.shape K.spelling V.Archived.shape V.spelling) S.Writer entry.now s.old s.new result }
+            ensures { SerializesBy (λ q. q.0)
+                (entry_spelling K.Archived.shape K.spelling V.Archived.shape V.spelling)
+                S.Writer entry.now s.old s.new result }
         { serialize_by_step(entry, s, step) },
     )
 }

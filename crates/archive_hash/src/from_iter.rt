@@ -39,8 +39,10 @@ pub fn serialize_map_from_iter<
 ) -> Result<HashTableResolver, Error>
     requires room { S.failures serializer.old < 2 ^ 64 - 1 }
     requires state { HasState S.pos S.known serializer.old }
-    requires ends { IsFiniteIterable I.into_iter_gives I.IntoIter.can_next I.IntoIter.remaining entries }
-    ensures { WritesEntries (λ es. (it : I.IntoIter) × I.into_iter_gives entries it × Drains (GivesAs deref_pair I.IntoIter.next_gives) it es)
+    requires ends { IsFiniteIterable I.into_iter_gives I.IntoIter.can_next
+        I.IntoIter.remaining entries }
+    ensures { WritesEntries (λ es. (it : I.IntoIter) × I.into_iter_gives entries it
+        × Drains (GivesAs deref_pair I.IntoIter.next_gives) it es)
         (λ k. input_hash (K.hash_input k)) load_factor K.Archived.shape V.Archived.shape K.spelling V.spelling S.Writer len serializer.old serializer.new result }
 {
     let pairs = entries.into_iter();

@@ -64,7 +64,9 @@ fn serialize_given_keys<
     requires calls { J.can_next keys × IsFinite (J.remaining keys) }
     requires room { S.failures serializer.old < 2 ^ 64 - 1 }
     requires state { HasState S.pos S.known serializer.old }
-    ensures { WritesEntries (Drains (GivesAs key_entry J.next_gives) keys) (λ k. input_hash (K.hash_input k)) load_factor K.Archived.shape (tuple no_shapes) K.spelling unit_spelling S.Writer len serializer.old serializer.new result }
+    ensures { WritesEntries (Drains (GivesAs key_entry J.next_gives) keys)
+        (λ k. input_hash (K.hash_input k)) load_factor K.Archived.shape
+        (tuple no_shapes) K.spelling unit_spelling S.Writer len serializer.old serializer.new result }
 {
     let entries = KeysBesideUnits {
         keys,
@@ -94,7 +96,9 @@ fn serialize_given_keys<
         >
             requires room { S.failures s.old < 2 ^ 64 - 1 }
             requires state { HasState S.pos S.known s.old }
-            ensures { SerializesBy (λ q. q.0) (entry_spelling K.Archived.shape K.spelling (tuple no_shapes) unit_spelling) S.Writer entry.now s.old s.new result }
+            ensures { SerializesBy (λ q. q.0)
+                (entry_spelling K.Archived.shape K.spelling (tuple no_shapes) unit_spelling)
+                S.Writer entry.now s.old s.new result }
         { serialize_element(entry, s) },
     )
 }
@@ -118,7 +122,8 @@ pub fn serialize_set_from_iter<
     requires room { S.failures serializer.old < 2 ^ 64 - 1 }
     requires state { HasState S.pos S.known serializer.old }
     requires ends { IsFiniteIterable I.into_iter_gives I.IntoIter.can_next I.IntoIter.remaining keys }
-    ensures { WritesEntries (λ es. (it : I.IntoIter) × I.into_iter_gives keys it × Drains (GivesAs key_entry I.IntoIter.next_gives) it es)
+    ensures { WritesEntries (λ es. (it : I.IntoIter) × I.into_iter_gives keys it
+        × Drains (GivesAs key_entry I.IntoIter.next_gives) it es)
         (λ k. input_hash (K.hash_input k)) load_factor K.Archived.shape (tuple no_shapes) K.spelling unit_spelling S.Writer len serializer.old serializer.new result }
 {
     let keys = keys.into_iter();

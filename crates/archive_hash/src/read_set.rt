@@ -37,9 +37,12 @@ pub fn deserialize_hash_set_each<
     read_key: F,
 ) -> Result<OwnedHashSet<K>, Error>
     requires there { HasSet A.shape A.knows this.bytes.now this.pos }
-    requires takes_key { StepTakes F.Fn read_key A.shape A.knows this.bytes.now (length this.bytes.now) }
+    requires takes_key { StepTakes F.Fn read_key A.shape A.knows this.bytes.now
+        (length this.bytes.now) }
     requires reads_key { StepReads F.Fn read_key A.shape A.knows this.bytes.now (λ q. q.0) A.reads }
-    ensures { Deserializes (reads_map K.eq (λ s. key_entries s.set.keys) A.reads (reads_as unit_spelling)) (table (tuple2 A.shape (tuple no_shapes))) (both A.knows (λ _. ⊤)) this.entry.bytes.now this.entry.pos result }
+    ensures { Deserializes (reads_map K.eq (λ s. key_entries s.set.keys) A.reads
+        (reads_as unit_spelling)) (table (tuple2 A.shape (tuple no_shapes))) (both A.knows (λ _. ⊤))
+        this.entry.bytes.now this.entry.pos result }
 {
     let mut set = HashSet::new(alloc);
     let map: Ref<'_, ArchivedHashMap<A, (), H>> = Ref {

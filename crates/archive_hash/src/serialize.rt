@@ -35,7 +35,9 @@ fn serialize_rest_scan_each<
     requires room { S.failures serializer.old < 2 ^ 64 - 1 }
     requires state { HasState S.pos S.known serializer.old }
     requires takes { TakesGiven (TakesFirst deref_pair) C.takes step.now pairs }
-    ensures { Serializes (entries_spelling (λ k. input_hash (K.hash_input k)) K.Archived.shape V.Archived.shape K.spelling V.spelling) S.Writer pairs.entry serializer.old serializer.new result }
+    ensures { Serializes (entries_spelling
+        (λ k. input_hash (K.hash_input k)) K.Archived.shape V.Archived.shape K.spelling V.spelling)
+        S.Writer pairs.entry serializer.old serializer.new result }
 {
     serialize_entries_scan_each::<G, K, V, S, _, C>(len, pairs, LOAD_FACTOR, serializer, step)
 }

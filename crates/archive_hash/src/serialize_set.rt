@@ -74,7 +74,9 @@ fn serialize_keys_scan_each<
     requires room { S.failures serializer.old < 2 ^ 64 - 1 }
     requires state { HasState S.pos S.known serializer.old }
     requires takes { TakesGiven (TakesFirst deref_pair) C.takes step.now entries }
-    ensures { Serializes (entries_spelling (λ k. input_hash (K.hash_input k)) K.Archived.shape (tuple no_shapes) K.spelling unit_spelling) S.Writer entries.entry serializer.old serializer.new result }
+    ensures { Serializes (entries_spelling (λ k. input_hash (K.hash_input k)) K.Archived.shape
+        (tuple no_shapes) K.spelling unit_spelling) S.Writer entries.entry
+        serializer.old serializer.new result }
 {
     serialize_entries_scan_each::<G, K, (), S, _, C>(len, entries, LOAD_FACTOR, serializer, step)
 }

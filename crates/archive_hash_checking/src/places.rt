@@ -13,7 +13,8 @@ use archive_shape::{ArchiveContext, ArchivedU32, Error};
 /// Checks the number of an entry at `pos`. Returns `InvalidPlace` if it is not below `limit`.
 fn check_number(bytes: &[u8], pos: usize, limit: usize) -> Result<(), Error>
     requires { pos + 4 ≤ length bytes.now }
-    ensures { (names : Names) (kept : Kept) → Checks names bytes.now (place_at pos limit) kept result kept }
+    ensures { (names : Names) (kept : Kept)
+        → Checks names bytes.now (place_at pos limit) kept result kept }
 {
     let number = read_word(bytes, pos) as usize;
     if number >= limit {
@@ -27,7 +28,9 @@ fn check_number(bytes: &[u8], pos: usize, limit: usize) -> Result<(), Error>
 fn check_numbers(bytes: &[u8], target: usize, controls: &[u8], limit: usize) -> Result<(), Error>
     requires below { length controls.now * 4 ≤ target }
     requires fits { target ≤ length bytes.now }
-    ensures { (names : Names) (kept : Kept) → ChecksAll names bytes.now (tagged_items target (place limit) 0 controls.now) kept result kept }
+    ensures { (names : Names) (kept : Kept)
+        → ChecksAll names bytes.now (tagged_items target (place limit) 0 controls.now) kept
+        result kept }
 {
     let mut bucket = target;
     for place in 0..controls.len() {

@@ -31,7 +31,8 @@ impl<'a, K: Portable, V: Portable> IterMut<'a, K, V> {
         requires has { HasValue (table (tuple2 K.shape V.shape)) (both K.knows V.knows) bytes.old pos }
         ensures same_reference { result.bytes.ghost_name ≡ bytes.entry.ghost_name }
         ensures bytes { result.bytes.now ≡ bytes.old }
-        ensures entries { (m : BegunMap K.shape V.shape K.knows V.knows) → m.bytes ≡ bytes.old → m.pos ≡ pos
+        ensures entries { (m : BegunMap K.shape V.shape K.knows V.knows) → m.bytes ≡ bytes.old
+            → m.pos ≡ pos
             → HasEntries m result (items_of m) × HasValuesWritten m result.bytes.now }
     {
         let walk = places_left::<Entry<K, V>>(bytes, pos);
@@ -44,11 +45,14 @@ impl<'a, K: Portable, V: Portable> IterMut<'a, K, V> {
 
     /// Returns the positions of the next entry's key and value, and passes the entry.
     pub fn advance(&mut self) -> Option<EntryAt>
-        requires { (m : BegunMap K.shape V.shape K.knows V.knows) × (ps : List ℕ) × HasEntries m self.old ps × HasValuesWritten m self.old.bytes.now }
+        requires { (m : BegunMap K.shape V.shape K.knows V.knows) × (ps : List ℕ)
+            × HasEntries m self.old ps × HasValuesWritten m self.old.bytes.now }
         ensures same_reference { self.new.bytes.ghost_name ≡ self.old.bytes.ghost_name }
         ensures bytes { self.new.bytes.now ≡ self.old.bytes.now }
-        ensures there { IfSome result (λ e. HasValue K.shape K.knows (take e.value self.old.bytes.now) e.key × (e.value + V.SIZE ≤ length self.old.bytes.now)) }
-        ensures steps { (m : BegunMap K.shape V.shape K.knows V.knows) (ps : List ℕ) → HasEntries m self.old ps → HasValuesWritten m self.old.bytes.now → MatchOption result
+        ensures there { IfSome result (λ e. HasValue K.shape K.knows
+            (take e.value self.old.bytes.now) e.key × (e.value + V.SIZE ≤ length self.old.bytes.now)) }
+        ensures steps { (m : BegunMap K.shape V.shape K.knows V.knows) (ps : List ℕ)
+            → HasEntries m self.old ps → HasValuesWritten m self.old.bytes.now → MatchOption result
             ((ps ≡ []) × HasEntries m self.new [])
             (λ e. (rest : List ℕ) × (ps ≡ e.key ∷ rest) × (e.value ≡ field_position K.shape no_shapes V.shape e.key)
             × IsKept K.shape K.knows m.bytes (take e.value self.old.bytes.now) e.key × HasEntries m self.new rest) }
@@ -63,9 +67,12 @@ impl<'a, K: Portable, V: Portable> IterMut<'a, K, V> {
     /// does not state the archive's bytes after the loan: a caller that needs them calls `advance`, and creates the
     /// seal from those bytes.
     pub fn next(&mut self) -> Option<(Ref<'_, K>, OwnSeal<'_, V>)>
-        requires { (m : BegunMap K.shape V.shape K.knows V.knows) × (ps : List ℕ) × HasEntries m self.old ps × HasValuesWritten m self.old.bytes.now }
-        ensures there { IfSome result (λ r. HasValue K.shape K.knows r.0.bytes.now r.0.pos × (length r.1.own.now ≡ V.SIZE)) }
-        ensures lends { (m : BegunMap K.shape V.shape K.knows V.knows) (ps : List ℕ) → HasEntries m self.old ps → HasValuesWritten m self.old.bytes.now → MatchOption result
+        requires { (m : BegunMap K.shape V.shape K.knows V.knows) × (ps : List ℕ)
+            × HasEntries m self.old ps × HasValuesWritten m self.old.bytes.now }
+        ensures there { IfSome result (λ r. HasValue K.shape K.knows r.0.bytes.now r.0.pos
+            × (length r.1.own.now ≡ V.SIZE)) }
+        ensures lends { (m : BegunMap K.shape V.shape K.knows V.knows) (ps : List ℕ)
+            → HasEntries m self.old ps → HasValuesWritten m self.old.bytes.now → MatchOption result
             (ps ≡ [])
             (λ r. (at : ℕ) × (rest : List ℕ) × (ps ≡ at ∷ rest) × IsLent V.SIZE self.old.bytes.now at (field_position K.shape no_shapes V.shape at) r.0 r.1) }
     {
@@ -77,7 +84,8 @@ impl<'a, K: Portable, V: Portable> IterMut<'a, K, V> {
 
     /// Returns the number of entries that are left.
     pub fn len(&self) -> usize
-        ensures { (m : BegunMap K.shape V.shape K.knows V.knows) (ps : List ℕ) → HasEntries m self.now ps → result ≡ length ps }
+        ensures { (m : BegunMap K.shape V.shape K.knows V.knows) (ps : List ℕ)
+            → HasEntries m self.now ps → result ≡ length ps }
     {
         self.walk.left
     }
@@ -93,11 +101,14 @@ pub struct ValuesMut<'a, K, V> {
 impl<'a, K: Portable, V: Portable> ValuesMut<'a, K, V> {
     /// Returns the position of the next value, and passes the value.
     pub fn advance(&mut self) -> Option<usize>
-        requires { (m : BegunMap K.shape V.shape K.knows V.knows) × (ps : List ℕ) × HasValues m self.old ps × HasValuesWritten m self.old.entries.bytes.now }
+        requires { (m : BegunMap K.shape V.shape K.knows V.knows) × (ps : List ℕ)
+            × HasValues m self.old ps × HasValuesWritten m self.old.entries.bytes.now }
         ensures same_reference { self.new.entries.bytes.ghost_name ≡ self.old.entries.bytes.ghost_name }
         ensures bytes { self.new.entries.bytes.now ≡ self.old.entries.bytes.now }
         ensures there { IfSome result (λ at. at + V.SIZE ≤ length self.old.entries.bytes.now) }
-        ensures steps { (m : BegunMap K.shape V.shape K.knows V.knows) (ps : List ℕ) → HasValues m self.old ps → HasValuesWritten m self.old.entries.bytes.now → MatchOption result
+        ensures steps { (m : BegunMap K.shape V.shape K.knows V.knows) (ps : List ℕ)
+            → HasValues m self.old ps → HasValuesWritten m self.old.entries.bytes.now
+            → MatchOption result
             ((ps ≡ []) × HasValues m self.new [])
             (λ at. (entry : ℕ) × (rest : List ℕ) × (ps ≡ entry ∷ rest) × (at ≡ field_position K.shape no_shapes V.shape entry) × HasValues m self.new rest) }
     {
@@ -110,9 +121,12 @@ impl<'a, K: Portable, V: Portable> ValuesMut<'a, K, V> {
     /// Returns the next value with only its own bytes, and passes the value. The contract does not state the archive's
     /// bytes after the loan: a caller that needs them calls `advance`, and creates the seal from those bytes.
     pub fn next(&mut self) -> Option<OwnSeal<'_, V>>
-        requires { (m : BegunMap K.shape V.shape K.knows V.knows) × (ps : List ℕ) × HasValues m self.old ps × HasValuesWritten m self.old.entries.bytes.now }
+        requires { (m : BegunMap K.shape V.shape K.knows V.knows) × (ps : List ℕ)
+            × HasValues m self.old ps × HasValuesWritten m self.old.entries.bytes.now }
         ensures there { IfSome result (λ r. length r.own.now ≡ V.SIZE) }
-        ensures lends { (m : BegunMap K.shape V.shape K.knows V.knows) (ps : List ℕ) → HasValues m self.old ps → HasValuesWritten m self.old.entries.bytes.now → MatchOption result
+        ensures lends { (m : BegunMap K.shape V.shape K.knows V.knows) (ps : List ℕ)
+            → HasValues m self.old ps → HasValuesWritten m self.old.entries.bytes.now
+            → MatchOption result
             (ps ≡ [])
             (λ r. (entry : ℕ) × (rest : List ℕ) × (ps ≡ entry ∷ rest) × IsOwn V.SIZE self.old.entries.bytes.now (field_position K.shape no_shapes V.shape entry) r) }
     {
@@ -124,7 +138,8 @@ impl<'a, K: Portable, V: Portable> ValuesMut<'a, K, V> {
 
     /// Returns the number of values that are left.
     pub fn len(&self) -> usize
-        ensures { (m : BegunMap K.shape V.shape K.knows V.knows) (ps : List ℕ) → HasValues m self.now ps → result ≡ length ps }
+        ensures { (m : BegunMap K.shape V.shape K.knows V.knows) (ps : List ℕ) → HasValues m self.now ps
+            → result ≡ length ps }
     {
         self.entries.len()
     }

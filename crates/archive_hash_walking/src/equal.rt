@@ -23,7 +23,8 @@ pub fn search_equal<K: ArchivedHash, V: Portable, H: Hasher + Default + Drop>(
 ) -> Option<usize>
     requires has { HasValue (table (tuple2 K.shape V.shape)) (both K.knows V.knows) bytes.now pos }
     requires key { HasValue K.shape K.knows key.now.bytes.now key.now.pos }
-    ensures there { IfSome result (HasValue (tuple2 K.shape V.shape) (both K.knows V.knows) bytes.entry.now) }
+    ensures there { IfSome result (HasValue (tuple2 K.shape V.shape)
+        (both K.knows V.knows) bytes.entry.now) }
     ensures answers { (b : Buckets) → IsTableAt bytes.entry.now (tuple2 K.shape V.shape) pos b
         → LooksUpKey (KeyHashesTo H.is_default H.write H.finish K.shape K.knows K.hashed key.now) (EqualSays K.shape K.knows K.equal bytes.entry.now key.now) (λ at. at) K.shape V.shape b result }
 {

@@ -162,7 +162,8 @@ pub fn full_places_at<T: Portable>(bytes: &[u8], pos: usize) -> FullPlaces<'_, T
 /// Returns the positions of the items of the table at `pos`, by ascending place.
 pub fn raw_iter_at<T: Portable>(bytes: &[u8], pos: usize) -> RawIter<'_, T>
     requires { HasValue (table T.shape) T.knows bytes.now pos }
-    ensures { (b : Buckets) → IsTableAt bytes.entry.now T.shape pos b → result ≡ item_positions T.shape b }
+    ensures { (b : Buckets) → IsTableAt bytes.entry.now T.shape pos b
+        → result ≡ item_positions T.shape b }
 {
     RawIter {
         places: full_places_at(bytes, pos),

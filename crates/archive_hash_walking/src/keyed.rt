@@ -21,7 +21,8 @@ pub fn search_key<Q: Hash, K: ArchivedKey<Q>, V: Portable, H: Hasher + Default +
     query: &Q,
 ) -> Option<usize>
     requires has { HasValue (table (tuple2 K.shape V.shape)) (both K.knows V.knows) bytes.now pos }
-    ensures there { IfSome result (HasValue (tuple2 K.shape V.shape) (both K.knows V.knows) bytes.entry.now) }
+    ensures there { IfSome result (HasValue (tuple2 K.shape V.shape)
+        (both K.knows V.knows) bytes.entry.now) }
     ensures answers { (b : Buckets) → IsTableAt bytes.entry.now (tuple2 K.shape V.shape) pos b
         → LooksUpKey (HashesTo H.is_default H.write H.finish (Q.hash_input query.now)) (KeySays K.key_of K.order bytes.entry.now query.now) (λ at. at) K.shape V.shape b result }
 {
@@ -50,8 +51,10 @@ pub fn search_with<
     F: Fn(&Q, Ref<'_, K>) -> bool,
 >(bytes: &[u8], pos: usize, query: &Q, accepts: &F) -> Option<usize>
     requires has { HasValue (table (tuple2 K.shape V.shape)) (both K.knows V.knows) bytes.now pos }
-    requires callable { (at : ℕ) → HasValue K.shape K.knows bytes.now at → F.pre accepts.now query (key_at bytes at) }
-    ensures there { IfSome result (HasValue (tuple2 K.shape V.shape) (both K.knows V.knows) bytes.entry.now) }
+    requires callable { (at : ℕ) → HasValue K.shape K.knows bytes.now at
+        → F.pre accepts.now query (key_at bytes at) }
+    ensures there { IfSome result (HasValue (tuple2 K.shape V.shape)
+        (both K.knows V.knows) bytes.entry.now) }
     ensures answers { (b : Buckets) → IsTableAt bytes.entry.now (tuple2 K.shape V.shape) pos b
         → LooksUpKey (HashesTo H.is_default H.write H.finish (Q.hash_input query.now)) (query_calls F.post accepts.now query.entry bytes.entry) (λ at. at) K.shape V.shape b result }
 {

@@ -29,10 +29,14 @@ pub fn search_table<T: Portable, S: Scan, F: Fn(usize) -> bool>(
     accepts: &F,
 ) -> (Option<usize>, usize)
     requires has { HasValue (table T.shape) T.knows bytes.now pos }
-    requires callable { (b : Buckets) → IsTableAt bytes.now T.shape pos b → All (F.pre accepts.now) (item_positions T.shape b) }
-    ensures answers { (b : Buckets) → IsTableAt bytes.entry.now T.shape pos b → LooksUp (F.post accepts.now) T.shape b hash result.0 result.1 }
-    ensures accepted { (b : Buckets) → IsTableAt bytes.entry.now T.shape pos b → FindsAccepted (F.post accepts.now) T.shape b result.0 }
-    ensures findable { (b : Buckets) → IsTableAt bytes.entry.now T.shape pos b → FindsTheOnly (F.post accepts.now) T.shape b hash result.0 }
+    requires callable { (b : Buckets) → IsTableAt bytes.now T.shape pos b
+        → All (F.pre accepts.now) (item_positions T.shape b) }
+    ensures answers { (b : Buckets) → IsTableAt bytes.entry.now T.shape pos b
+        → LooksUp (F.post accepts.now) T.shape b hash result.0 result.1 }
+    ensures accepted { (b : Buckets) → IsTableAt bytes.entry.now T.shape pos b
+        → FindsAccepted (F.post accepts.now) T.shape b result.0 }
+    ensures findable { (b : Buckets) → IsTableAt bytes.entry.now T.shape pos b
+        → FindsTheOnly (F.post accepts.now) T.shape b hash result.0 }
     ensures few { (b : Buckets) → IsTableAt bytes.entry.now T.shape pos b → result.1 ≤ sixteens b.cap }
 {
     let Some(buckets) = buckets_at::<T>(bytes, pos) else {

@@ -32,7 +32,8 @@ pub struct EntryAt {
 /// Returns all full places of the table at `pos`.
 pub(crate) fn places_left<T: Portable>(bytes: &[u8], pos: usize) -> PlacesLeft
     requires { HasValue (table T.shape) T.knows bytes.now pos }
-    ensures { (m : BegunTable T.shape T.knows) → m.bytes ≡ bytes.now → m.pos ≡ pos → GoesOn m result (items_of m) × IsWritten m bytes.now }
+    ensures { (m : BegunTable T.shape T.knows) → m.bytes ≡ bytes.now → m.pos ≡ pos
+        → GoesOn m result (items_of m) × IsWritten m bytes.now }
 {
     match buckets_at::<T>(bytes, pos) {
         Some(buckets) => PlacesLeft {
@@ -52,9 +53,11 @@ pub(crate) fn places_left<T: Portable>(bytes: &[u8], pos: usize) -> PlacesLeft
 
 /// Returns the position of the next item, and passes the item.
 pub(crate) fn pass_item<T: Portable>(walk: &mut PlacesLeft, bytes: &[u8]) -> Option<usize>
-    requires { (m : BegunTable T.shape T.knows) × (ps : List ℕ) × GoesOn m walk.old ps × IsWritten m bytes.now }
+    requires { (m : BegunTable T.shape T.knows) × (ps : List ℕ) × GoesOn m walk.old ps
+        × IsWritten m bytes.now }
     ensures there { IfSome result (λ at. at + T.SIZE ≤ length bytes.now) }
-    ensures steps { (m : BegunTable T.shape T.knows) (ps : List ℕ) → GoesOn m walk.old ps → IsWritten m bytes.now → MatchOption result
+    ensures steps { (m : BegunTable T.shape T.knows) (ps : List ℕ) → GoesOn m walk.old ps
+        → IsWritten m bytes.now → MatchOption result
         ((ps ≡ []) × GoesOn m walk.new [])
         (λ at. (rest : List ℕ) × (ps ≡ at ∷ rest) × GoesOn m walk.new rest) }
 {
@@ -74,9 +77,12 @@ pub(crate) fn pass_entry<K: Portable, V: Portable>(
     walk: &mut PlacesLeft,
     bytes: &[u8],
 ) -> Option<EntryAt>
-    requires { (m : BegunMap K.shape V.shape K.knows V.knows) × (ps : List ℕ) × GoesOn m walk.old ps × HasValuesWritten m bytes.now }
-    ensures there { IfSome result (λ e. HasValue K.shape K.knows (take e.value bytes.now) e.key × (e.value + V.SIZE ≤ length bytes.now)) }
-    ensures steps { (m : BegunMap K.shape V.shape K.knows V.knows) (ps : List ℕ) → GoesOn m walk.old ps → HasValuesWritten m bytes.now → MatchOption result
+    requires { (m : BegunMap K.shape V.shape K.knows V.knows) × (ps : List ℕ) × GoesOn m walk.old ps
+        × HasValuesWritten m bytes.now }
+    ensures there { IfSome result (λ e. HasValue K.shape K.knows (take e.value bytes.now) e.key
+        × (e.value + V.SIZE ≤ length bytes.now)) }
+    ensures steps { (m : BegunMap K.shape V.shape K.knows V.knows) (ps : List ℕ) → GoesOn m walk.old ps
+        → HasValuesWritten m bytes.now → MatchOption result
         ((ps ≡ []) × GoesOn m walk.new [])
         (λ e. (rest : List ℕ) × (ps ≡ e.key ∷ rest) × (e.value ≡ field_position K.shape no_shapes V.shape e.key)
         × IsKept K.shape K.knows m.bytes (take e.value bytes.now) e.key × GoesOn m walk.new rest) }

@@ -40,11 +40,13 @@ impl<'a, T: Portable> RawIterSeal<'a, T> {
 
     /// Returns the position of the next item, and passes the item.
     pub fn advance(&mut self) -> Option<usize>
-        requires { (m : BegunTable T.shape T.knows) × (ps : List ℕ) × HasItems m self.old ps × IsWritten m self.old.bytes.now }
+        requires { (m : BegunTable T.shape T.knows) × (ps : List ℕ) × HasItems m self.old ps
+            × IsWritten m self.old.bytes.now }
         ensures same_reference { self.new.bytes.ghost_name ≡ self.old.bytes.ghost_name }
         ensures bytes { self.new.bytes.now ≡ self.old.bytes.now }
         ensures there { IfSome result (λ at. at + T.SIZE ≤ length self.old.bytes.now) }
-        ensures steps { (m : BegunTable T.shape T.knows) (ps : List ℕ) → HasItems m self.old ps → IsWritten m self.old.bytes.now → MatchOption result
+        ensures steps { (m : BegunTable T.shape T.knows) (ps : List ℕ) → HasItems m self.old ps
+            → IsWritten m self.old.bytes.now → MatchOption result
             ((ps ≡ []) × HasItems m self.new [])
             (λ at. (rest : List ℕ) × (ps ≡ at ∷ rest) × HasItems m self.new rest) }
     {
@@ -57,9 +59,11 @@ impl<'a, T: Portable> RawIterSeal<'a, T> {
     /// Returns the next item with only its own bytes, and passes the item. The contract does not state the archive's
     /// bytes after the loan: a caller that needs them calls `advance`, and creates the seal from those bytes.
     pub fn next(&mut self) -> Option<OwnSeal<'_, T>>
-        requires { (m : BegunTable T.shape T.knows) × (ps : List ℕ) × HasItems m self.old ps × IsWritten m self.old.bytes.now }
+        requires { (m : BegunTable T.shape T.knows) × (ps : List ℕ) × HasItems m self.old ps
+            × IsWritten m self.old.bytes.now }
         ensures there { IfSome result (λ r. length r.own.now ≡ T.SIZE) }
-        ensures lends { (m : BegunTable T.shape T.knows) (ps : List ℕ) → HasItems m self.old ps → IsWritten m self.old.bytes.now → MatchOption result
+        ensures lends { (m : BegunTable T.shape T.knows) (ps : List ℕ) → HasItems m self.old ps
+            → IsWritten m self.old.bytes.now → MatchOption result
             (ps ≡ [])
             (λ r. (at : ℕ) × (rest : List ℕ) × (ps ≡ at ∷ rest) × IsOwn T.SIZE self.old.bytes.now at r) }
     {
@@ -71,7 +75,8 @@ impl<'a, T: Portable> RawIterSeal<'a, T> {
 
     /// Returns the number of items that are left.
     pub fn len(&self) -> usize
-        ensures { (m : BegunTable T.shape T.knows) (ps : List ℕ) → HasItems m self.now ps → result ≡ length ps }
+        ensures { (m : BegunTable T.shape T.knows) (ps : List ℕ) → HasItems m self.now ps
+            → result ≡ length ps }
     {
         self.walk.left
     }

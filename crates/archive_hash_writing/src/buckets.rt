@@ -63,7 +63,8 @@ fn write_through<'a, T: Archive, W: Writer>(
     buffer: &mut [u8],
 ) -> Result<(), Error>
     requires room { W.failures writer.old < 2 ^ 64 - 1 }
-    requires made { (st : State) × (kept.now ≡ resolvers T.spelling (present (map standing table.now)) st) }
+    requires made { (st : State) × (kept.now ≡ resolvers T.spelling
+        (present (map standing table.now)) st) }
     requires blank { buffer.old ≡ zeros (length buffer.old) }
     requires wide { size_of T.Archived.shape ≤ length buffer.old }
     requires stands { W.pos writer.old + length table.now * size_of T.Archived.shape < 2 ^ 64 }
@@ -99,7 +100,8 @@ pub(crate) fn write_buckets<'a, T: Archive, S: Writer + Allocator>(
     serializer: &mut S,
 ) -> Result<(), Error>
     requires room { S.failures serializer.old < 2 ^ 64 - 1 }
-    requires made { (st : State) × (kept.now ≡ resolvers T.spelling (present (map standing table.now)) st) }
+    requires made { (st : State) × (kept.now ≡ resolvers T.spelling
+        (present (map standing table.now)) st) }
     requires some { 0 < length table.now }
     requires stands { S.pos serializer.old + length table.now * size_of T.Archived.shape < 2 ^ 64 }
     ensures { (st : State) → kept.now ≡ resolvers T.spelling (present (map standing table.now)) st

@@ -15,7 +15,8 @@ pub(crate) fn hash_items<T, H: Fn(&T) -> u64>(
     hash: H,
 ) -> Result<Vec<u64>, Error>
     requires { (x : _) → IsElement items.now x.now → H.pre hash x }
-    ensures { MatchResult result (λ hashes. AreHashesOf (λ x h. FnReturnsAt H.Fn hash x h) items.now hashes.items) (λ e. e ≡ OutOfMemory) }
+    ensures { MatchResult result (λ hashes. AreHashesOf
+        (λ x h. FnReturnsAt H.Fn hash x h) items.now hashes.items) (λ e. e ≡ OutOfMemory) }
 {
     let Ok(mut hashes) = Vec::with_capacity(alloc, items.len()) else {
         return Err(Error::OutOfMemory);

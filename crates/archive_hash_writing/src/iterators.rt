@@ -44,10 +44,13 @@ pub fn serialize_from_iter_scan_each<
     requires room { S.failures serializer.old < 2 ^ 64 - 1 }
     requires state { HasState S.pos S.known serializer.old }
     requires ends { IsFiniteIterable I.into_iter_gives I.IntoIter.can_next I.IntoIter.remaining iter }
-    requires takes { (it : I.IntoIter) (xs : List T) → I.into_iter_gives iter it → Drains I.IntoIter.next_gives it xs → StepTakes F.Fn S.Writer step xs }
+    requires takes { (it : I.IntoIter) (xs : List T) → I.into_iter_gives iter it
+        → Drains I.IntoIter.next_gives it xs → StepTakes F.Fn S.Writer step xs }
     requires writes { StepWrites F.Fn (λ q. q.0) T.spelling S.Writer step }
-    requires hashes { (it : I.IntoIter) (xs : List T) → I.into_iter_gives iter it → Drains I.IntoIter.next_gives it xs → (x : _) → IsElement xs x.now → H.pre hash x }
-    ensures { WritesTable (λ xs. (it : I.IntoIter) × I.into_iter_gives iter it × Drains I.IntoIter.next_gives it xs) load_factor T.Archived.shape T.spelling S.Writer
+    requires hashes { (it : I.IntoIter) (xs : List T) → I.into_iter_gives iter it
+        → Drains I.IntoIter.next_gives it xs → (x : _) → IsElement xs x.now → H.pre hash x }
+    ensures { WritesTable (λ xs. (it : I.IntoIter) × I.into_iter_gives iter it
+        × Drains I.IntoIter.next_gives it xs) load_factor T.Archived.shape T.spelling S.Writer
         (λ x h. FnReturnsAt H.Fn hash x h) len serializer.old serializer.new result }
 {
     if load_factor.0 == 0 || load_factor.0 > load_factor.1 {
@@ -91,8 +94,10 @@ pub fn serialize_from_iter_scan<
     requires room { S.failures serializer.old < 2 ^ 64 - 1 }
     requires state { HasState S.pos S.known serializer.old }
     requires ends { IsFiniteIterable I.into_iter_gives I.IntoIter.can_next I.IntoIter.remaining iter }
-    requires hashes { (it : I.IntoIter) (xs : List T) → I.into_iter_gives iter it → Drains I.IntoIter.next_gives it xs → (x : _) → IsElement xs x.now → H.pre hash x }
-    ensures { WritesTable (λ xs. (it : I.IntoIter) × I.into_iter_gives iter it × Drains I.IntoIter.next_gives it xs) load_factor T.Archived.shape T.spelling S.Writer
+    requires hashes { (it : I.IntoIter) (xs : List T) → I.into_iter_gives iter it
+        → Drains I.IntoIter.next_gives it xs → (x : _) → IsElement xs x.now → H.pre hash x }
+    ensures { WritesTable (λ xs. (it : I.IntoIter) × I.into_iter_gives iter it
+        × Drains I.IntoIter.next_gives it xs) load_factor T.Archived.shape T.spelling S.Writer
         (λ x h. FnReturnsAt H.Fn hash x h) len serializer.old serializer.new result }
 {
     serialize_from_iter_scan_each::<G, T, S, I, H, _>(
@@ -125,8 +130,10 @@ pub fn serialize_from_iter<
     requires room { S.failures serializer.old < 2 ^ 64 - 1 }
     requires state { HasState S.pos S.known serializer.old }
     requires ends { IsFiniteIterable I.into_iter_gives I.IntoIter.can_next I.IntoIter.remaining iter }
-    requires hashes { (it : I.IntoIter) (xs : List T) → I.into_iter_gives iter it → Drains I.IntoIter.next_gives it xs → (x : _) → IsElement xs x.now → H.pre hash x }
-    ensures { WritesTable (λ xs. (it : I.IntoIter) × I.into_iter_gives iter it × Drains I.IntoIter.next_gives it xs) load_factor T.Archived.shape T.spelling S.Writer
+    requires hashes { (it : I.IntoIter) (xs : List T) → I.into_iter_gives iter it
+        → Drains I.IntoIter.next_gives it xs → (x : _) → IsElement xs x.now → H.pre hash x }
+    ensures { WritesTable (λ xs. (it : I.IntoIter) × I.into_iter_gives iter it
+        × Drains I.IntoIter.next_gives it xs) load_factor T.Archived.shape T.spelling S.Writer
         (λ x h. FnReturnsAt H.Fn hash x h) len serializer.old serializer.new result }
 {
     serialize_from_iter_scan::<Group, S, T, I, H>(iter, len, load_factor, hash, serializer)

@@ -17,7 +17,8 @@ pub(crate) fn place_items<'a, T>(
 ) -> Result<Vec<Option<&'a T>>, Error>
     requires even { length places.now ≡ length items.now }
     requires within { All (λ place. place < capacity) places.now }
-    ensures { MatchResult result (λ table. map standing table.items ≡ placed capacity places.now items.now) (λ e. e ≡ OutOfMemory) }
+    ensures { MatchResult result (λ table. map standing table.items
+        ≡ placed capacity places.now items.now) (λ e. e ≡ OutOfMemory) }
 {
     let Ok(mut table) = vec![in alloc; None; capacity] else {
         return Err(Error::OutOfMemory);

@@ -43,7 +43,8 @@ pub(crate) fn write_region<'a, T: Archive, S: Writer + Allocator>(
     requires room { S.failures serializer.old < 2 ^ 64 - 1 }
     requires places { 0 < length table.now }
     requires controls { 0 < length controls.now }
-    requires made { (st : State) × (kept.now ≡ resolvers T.spelling (present (map standing table.now)) st) }
+    requires made { (st : State) × (kept.now ≡ resolvers T.spelling
+        (present (map standing table.now)) st) }
     ensures { (st : State) → kept.now ≡ resolvers T.spelling (present (map standing table.now)) st
         → S.pos serializer.old ≡ (state_after_items T.Archived.shape T.spelling (map standing table.now) st).pos
         → LaysRegion T.Archived.shape T.spelling S.Writer (map standing table.now) controls.now st serializer.old serializer.new result }

@@ -35,7 +35,8 @@ pub(crate) fn serialize_hashed<
     requires state { HasState S.pos S.known serializer.old }
     requires takes { StepTakes F.Fn S.Writer step items.now }
     requires writes { StepWrites F.Fn (λ q. q.0) T.spelling S.Writer step }
-    ensures { Serializes (written_spelling load_factor T.Archived.shape T.spelling hashes.now) S.Writer items.now serializer.old serializer.new result }
+    ensures { Serializes (written_spelling load_factor T.Archived.shape T.spelling hashes.now) S.Writer
+        items.now serializer.old serializer.new result }
 {
     let capacity = match capacity_for_len(items.len(), load_factor) {
         Ok(capacity) => capacity,

@@ -16,8 +16,10 @@ pub enum Command {
 
 /// Returns the command that words spell, if they spell one. The words do not include the program's name.
 pub fn parse(mut words: Args) -> Option<Command>
-    ensures spelled { IfSome result (λ command. map string_bytes (into_iter_items words) ≡ words_of command) }
-    ensures other { IfNone result ((command : Command) → map string_bytes (into_iter_items words) ≡ words_of command → ⊥) }
+    ensures spelled { IfSome result (λ command. map string_bytes
+        (into_iter_items words) ≡ words_of command) }
+    ensures other { IfNone result ((command : Command)
+        → map string_bytes (into_iter_items words) ≡ words_of command → ⊥) }
 {
     let verb = words.next()?;
     let first = words.next()?;

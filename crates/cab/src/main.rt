@@ -50,7 +50,8 @@ where
 
 /// Returns the exit code of the program for an outcome.
 fn exit_code(outcome: &Result<(), Fault>) -> ExitCode
-    ensures { MatchResult outcome.now (λ _. exit_status result ≡ 0) (λ fault. exit_status result ≡ status_of fault) }
+    ensures { MatchResult outcome.now (λ _. exit_status result ≡ 0)
+        (λ fault. exit_status result ≡ status_of fault) }
 {
     match outcome {
         Ok(()) => ExitCode::from(0),

@@ -38,9 +38,11 @@ where
     R::Reader: IsTerminal,
     requires { ∥ ((t : Tree) × Accepted archive.old t) ∥₁ }
     ensures kept { ∥ ((t : Tree) × Accepted archive.new t) ∥₁ }
-    ensures edited { MatchResult result (λ n. EditedByLines archive.old archive.new n.lines n.edits) (λ f. EditedByLines archive.old archive.new f.lines f.edits) }
+    ensures edited { MatchResult result (λ n. EditedByLines archive.old archive.new n.lines n.edits)
+        (λ f. EditedByLines archive.old archive.new f.lines f.edits) }
     // Only bytes that were edited need to be written back.
-    ensures unedited { MatchResult result (λ n. n.edits ≡ 0 → archive.new ≡ archive.old) (λ f. f.edits ≡ 0 → archive.new ≡ archive.old) }
+    ensures unedited { MatchResult result (λ n. n.edits ≡ 0
+        → archive.new ≡ archive.old) (λ f. f.edits ≡ 0 → archive.new ≡ archive.old) }
 {
     let Ok(stream) = BufWriter::with_capacity(alloc, BUFFER, io::writer(rt)) else {
         return Err(RunFault {

@@ -77,8 +77,11 @@ impl<'a> Opened<'a> {
     pub fn ask<W: Writer>(&self, line: &Line, writer: &mut W) -> Result<Asked, Error>
         requires question { IsQuestion (line_of line.now) }
         requires room { W.failures writer.old < 2 ^ 64 - 1 }
-        ensures written { (t : Tree) → Accepted self.now.bytes.now t → Writes W.Writer writer.old writer.new (spelled_answer (answer t (line_of line.now))) result }
-        ensures asked { IfOk result (λ asked. (t : Tree) → Accepted self.now.bytes.now t → Tells asked (answer t (line_of line.now))) }
+        ensures written { (t : Tree) → Accepted self.now.bytes.now t
+            → Writes W.Writer writer.old writer.new
+            (spelled_answer (answer t (line_of line.now))) result }
+        ensures asked { IfOk result (λ asked. (t : Tree) → Accepted self.now.bytes.now t
+            → Tells asked (answer t (line_of line.now))) }
         ensures counted { FailsByWriter W.Writer writer.old writer.new result }
     {
         cabinet_archives::ask(self.root(), line, writer)
@@ -88,11 +91,16 @@ impl<'a> Opened<'a> {
     /// only the nodes on the path, and does not allocate.
     pub fn set(&mut self, path: &[Step], leaf: &Leaf) -> SetAnswer
         ensures same { self.new.bytes.ghost_name ≡ self.old.bytes.ghost_name }
-        ensures answer { (t : Tree) → Accepted self.old.bytes.now t → outcome_of result ≡ answer t (line.set (path_of path.now) (leaf_of leaf.now)) }
+        ensures answer { (t : Tree) → Accepted self.old.bytes.now t
+            → outcome_of result ≡ answer t (line.set (path_of path.now) (leaf_of leaf.now)) }
         // No other bytes change.
-        ensures bytes { (t : Tree) (a : Accepted self.old.bytes.now t) → EditLeaves self.old.bytes.now a.value (path_of path.now) (leaf_of leaf.now) (outcome_of result) self.new.bytes.now }
-        ensures document { (t : Tree) → Accepted self.old.bytes.now t → Accepted self.new.bytes.now (change t (path_of path.now) (leaf_of leaf.now)) }
-        ensures image { (t : Tree) → Image t self.old.bytes.now → Image (change t (path_of path.now) (leaf_of leaf.now)) self.new.bytes.now }
+        ensures bytes { (t : Tree) (a : Accepted self.old.bytes.now t)
+            → EditLeaves self.old.bytes.now a.value (path_of path.now) (leaf_of leaf.now)
+            (outcome_of result) self.new.bytes.now }
+        ensures document { (t : Tree) → Accepted self.old.bytes.now t
+            → Accepted self.new.bytes.now (change t (path_of path.now) (leaf_of leaf.now)) }
+        ensures image { (t : Tree) → Image t self.old.bytes.now
+            → Image (change t (path_of path.now) (leaf_of leaf.now)) self.new.bytes.now }
     {
         cabinet_archives::set(self.bytes, path, leaf)
     }

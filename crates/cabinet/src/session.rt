@@ -82,10 +82,17 @@ pub fn run<R: Source, W: Writer>(
     ensures same { opened.new.bytes.ghost_name ≡ opened.old.bytes.ghost_name }
     // Regardless of whether reader and writer are observable.
     ensures edits { MatchResult result (λ n. EditedByLines opened.old.bytes.now opened.new.bytes.now n.lines n.edits) (λ f. EditedByLines opened.old.bytes.now opened.new.bytes.now f.lines f.edits) }
-    ensures all { IsTrue R.OBSERVABLE → IsTrue W.OBSERVABLE → IfOk result (λ n. Completed (R.left reader.old) opened.old.bytes.now opened.new.bytes.now (W.contents writer.old) (W.contents writer.new) n.lines n.edits) }
-    ensures fault { IsTrue R.OBSERVABLE → IsTrue W.OBSERVABLE → IfErr result (λ f. Faulted W.COUNTS (R.left reader.old) (R.left reader.new) opened.old.bytes.now opened.new.bytes.now (W.contents writer.old) (W.contents writer.new) f.lines f.edits f.cause) }
-    ensures reader_fails { MatchResult result (λ _. R.failures reader.new ≡ R.failures reader.old) (λ f. ReaderFails f.cause (R.failures reader.old) (R.failures reader.new)) }
-    ensures writer_fails { MatchResult result (λ _. W.failures writer.new ≡ W.failures writer.old) (λ f. WriterFails W.COUNTS f.cause (W.failures writer.old) (W.failures writer.new)) }
+    ensures all { IsTrue R.OBSERVABLE → IsTrue W.OBSERVABLE
+        → IfOk result (λ n. Completed (R.left reader.old) opened.old.bytes.now opened.new.bytes.now
+        (W.contents writer.old) (W.contents writer.new) n.lines n.edits) }
+    ensures fault { IsTrue R.OBSERVABLE → IsTrue W.OBSERVABLE
+        → IfErr result (λ f. Faulted W.COUNTS (R.left reader.old)
+        (R.left reader.new) opened.old.bytes.now opened.new.bytes.now (W.contents writer.old)
+        (W.contents writer.new) f.lines f.edits f.cause) }
+    ensures reader_fails { MatchResult result (λ _. R.failures reader.new ≡ R.failures reader.old)
+        (λ f. ReaderFails f.cause (R.failures reader.old) (R.failures reader.new)) }
+    ensures writer_fails { MatchResult result (λ _. W.failures writer.new ≡ W.failures writer.old)
+        (λ f. WriterFails W.COUNTS f.cause (W.failures writer.old) (W.failures writer.new)) }
 {
     let mut piece = [0u8; PIECE];
     let mut begun = Begun::new(alloc);

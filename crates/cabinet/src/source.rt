@@ -24,8 +24,10 @@ pub trait Source {
     fn read(&mut self, buffer: &mut [u8]) -> Result<usize, SourceFailed>
         requires { failures self.old < 2 ^ 64 - 1 }
         ensures count { IfOk result (λ n. n ≤ length buffer.new) }
-        ensures bytes { IsTrue OBSERVABLE → IfOk result (λ n. left self.old ≡ take n buffer.new ++ left self.new) }
-        ensures end { IsTrue OBSERVABLE → IfOk result (λ n. n ≡ 0 → 0 < length buffer.old → left self.old ≡ []) }
+        ensures bytes { IsTrue OBSERVABLE → IfOk result
+            (λ n. left self.old ≡ take n buffer.new ++ left self.new) }
+        ensures end { IsTrue OBSERVABLE → IfOk result (λ n. n ≡ 0 → 0 < length buffer.old
+            → left self.old ≡ []) }
         ensures quiet { OnOk result (failures self.new ≡ failures self.old) }
         ensures kept { IsTrue OBSERVABLE → OnErr result (left self.new ≡ left self.old) }
         ensures counted { OnErr result (failures self.new ≡ failures self.old + 1) };

@@ -36,11 +36,19 @@ pub fn run_in<R: Source, W: Writer>(
     requires writer_counts { W.failures writer.old < 2 ^ 64 - 1 }
     ensures kept { ∥ ((t : Tree) × Accepted bytes.new t) ∥₁ }
     // Regardless of whether reader and writer are observable.
-    ensures edits { MatchResult result (λ n. EditedByLines bytes.old bytes.new n.lines n.edits) (λ f. EditedByLines bytes.old bytes.new f.lines f.edits) }
-    ensures all { IsTrue R.OBSERVABLE → IsTrue W.OBSERVABLE → IfOk result (λ n. Completed (R.left reader.old) bytes.old bytes.new (W.contents writer.old) (W.contents writer.new) n.lines n.edits) }
-    ensures fault { IsTrue R.OBSERVABLE → IsTrue W.OBSERVABLE → IfErr result (λ f. Faulted W.COUNTS (R.left reader.old) (R.left reader.new) bytes.old bytes.new (W.contents writer.old) (W.contents writer.new) f.lines f.edits f.cause) }
-    ensures reader_fails { MatchResult result (λ _. R.failures reader.new ≡ R.failures reader.old) (λ f. ReaderFails f.cause (R.failures reader.old) (R.failures reader.new)) }
-    ensures writer_fails { MatchResult result (λ _. W.failures writer.new ≡ W.failures writer.old) (λ f. WriterFails W.COUNTS f.cause (W.failures writer.old) (W.failures writer.new)) }
+    ensures edits { MatchResult result (λ n. EditedByLines bytes.old bytes.new n.lines n.edits)
+        (λ f. EditedByLines bytes.old bytes.new f.lines f.edits) }
+    ensures all { IsTrue R.OBSERVABLE → IsTrue W.OBSERVABLE
+        → IfOk result (λ n. Completed (R.left reader.old) bytes.old bytes.new (W.contents writer.old)
+        (W.contents writer.new) n.lines n.edits) }
+    ensures fault { IsTrue R.OBSERVABLE → IsTrue W.OBSERVABLE
+        → IfErr result (λ f. Faulted W.COUNTS (R.left reader.old)
+        (R.left reader.new) bytes.old bytes.new (W.contents writer.old)
+        (W.contents writer.new) f.lines f.edits f.cause) }
+    ensures reader_fails { MatchResult result (λ _. R.failures reader.new ≡ R.failures reader.old)
+        (λ f. ReaderFails f.cause (R.failures reader.old) (R.failures reader.new)) }
+    ensures writer_fails { MatchResult result (λ _. W.failures writer.new ≡ W.failures writer.old)
+        (λ f. WriterFails W.COUNTS f.cause (W.failures writer.old) (W.failures writer.new)) }
 {
     let mut opened = Opened::new(bytes);
     run(alloc, &mut opened, reader, writer)
@@ -57,9 +65,15 @@ pub fn work<R: Source, W: Writer>(
 ) -> Result<Worked, SaveRefusal>
     requires reader_counts { R.failures reader.old < 2 ^ 64 - 1 }
     requires writer_counts { W.failures writer.old < 2 ^ 64 - 1 }
-    ensures works { IsTrue R.OBSERVABLE → IsTrue W.OBSERVABLE → IfOk result (λ w. WorksInPlace W.COUNTS document.now (R.left reader.old) (R.left reader.new) (W.contents writer.old) (W.contents writer.new) w.bytes.items w.outcome) }
-    ensures reader_fails { IfOk result (λ w. MatchResult w.outcome (λ _. R.failures reader.new ≡ R.failures reader.old) (λ f. ReaderFails f.cause (R.failures reader.old) (R.failures reader.new))) }
-    ensures writer_fails { IfOk result (λ w. MatchResult w.outcome (λ _. W.failures writer.new ≡ W.failures writer.old) (λ f. WriterFails W.COUNTS f.cause (W.failures writer.old) (W.failures writer.new))) }
+    ensures works { IsTrue R.OBSERVABLE → IsTrue W.OBSERVABLE
+        → IfOk result (λ w. WorksInPlace W.COUNTS document.now (R.left reader.old) (R.left reader.new)
+        (W.contents writer.old) (W.contents writer.new) w.bytes.items w.outcome) }
+    ensures reader_fails { IfOk result (λ w. MatchResult w.outcome
+        (λ _. R.failures reader.new ≡ R.failures reader.old)
+        (λ f. ReaderFails f.cause (R.failures reader.old) (R.failures reader.new))) }
+    ensures writer_fails { IfOk result (λ w. MatchResult w.outcome
+        (λ _. W.failures writer.new ≡ W.failures writer.old)
+        (λ f. WriterFails W.COUNTS f.cause (W.failures writer.old) (W.failures writer.new))) }
     ensures refused { IfErr result (HasNoImageFor document.now) }
     ensures unread { OnErr result (reader.new ≡ reader.old) }
     ensures unwritten { OnErr result (writer.new ≡ writer.old) }

@@ -70,7 +70,8 @@ fn resolve_shared(
     out: Place<'_, ArchivedRcStr<RcFlavor>>,
 ) -> Result<(), Error>
     requires { out.start + 8 ≤ length out.out.now }
-    ensures { Resolves shared_string_spelling (rc_str_bytes text.now) resolver out.entry.pos out.entry.start out.entry.out.now out.exit.0.now result }
+    ensures { Resolves shared_string_spelling (rc_str_bytes text.now) resolver out.entry.pos
+        out.entry.start out.entry.out.now out.exit.0.now result }
 {
     let Place {
         out,
@@ -91,7 +92,8 @@ fn resolve_maybe(
     requires room { out.start + 8 ≤ length out.out.now }
     requires stands { out.pos + 8 < 2 ^ 64 }
     requires blank { HasBytes out.out.now out.start (zeros 8) }
-    ensures { Resolves (maybe_spelling node_spelling) (tree_within content.now) resolver out.entry.pos out.entry.start out.entry.out.now out.exit.0.now result }
+    ensures { Resolves (maybe_spelling node_spelling) (tree_within content.now) resolver out.entry.pos
+        out.entry.start out.entry.out.now out.exit.0.now result }
 {
     let Place {
         out,
@@ -117,7 +119,8 @@ fn resolve_list(
     out: Place<'_, ArchivedVec<ArchivedNode>>,
 ) -> Result<(), Error>
     requires { out.start + 8 ≤ length out.out.now }
-    ensures { Resolves (list_spelling node_spelling) (trees_within nodes.now.items) resolver out.entry.pos out.entry.start out.entry.out.now out.exit.0.now result }
+    ensures { Resolves (list_spelling node_spelling) (trees_within nodes.now.items) resolver
+        out.entry.pos out.entry.start out.entry.out.now out.exit.0.now result }
 {
     let Place {
         out,
@@ -139,7 +142,8 @@ impl Archive for Node {
     /// Writes a node's own bytes. A kind without a layout is an `InvalidTag` error.
     fn resolve(&self, resolver: NodeResolver, out: Place<'_, ArchivedNode>) -> Result<(), Error>
         requires { CanResolve archived_as node_shape self.now resolver out.out.now out.start out.pos }
-        ensures { Resolves archived_as self.now resolver out.entry.pos out.entry.start out.entry.out.now out.exit.0.now result }
+        ensures { Resolves archived_as self.now resolver out.entry.pos out.entry.start out.entry.out.now
+            out.exit.0.now result }
     {
         let Place {
             out,
@@ -193,7 +197,8 @@ fn serialize_maybe<S: TextSharing>(
 ) -> Result<Option<BoxResolver>, Error>
     requires room { S.failures serializer.old < 2 ^ 64 - 1 }
     requires state { HasState S.pos S.known serializer.old }
-    ensures { Serializes (maybe_spelling node_spelling) S.Writer (tree_within content.now) serializer.old serializer.new result }
+    ensures { Serializes (maybe_spelling node_spelling) S.Writer (tree_within content.now)
+        serializer.old serializer.new result }
 {
     let Some(inner) = content else {
         return Ok(None);
@@ -227,7 +232,8 @@ fn serialize_list<S: TextSharing>(
 ) -> Result<VecResolver, Error>
     requires room { S.failures serializer.old < 2 ^ 64 - 1 }
     requires state { HasState S.pos S.known serializer.old }
-    ensures { Serializes (list_spelling node_spelling) S.Writer (trees_within nodes.now.items) serializer.old serializer.new result }
+    ensures { Serializes (list_spelling node_spelling) S.Writer (trees_within nodes.now.items)
+        serializer.old serializer.new result }
 {
     serialize_vec_each::<Node, S, _>(
         nodes,

@@ -63,7 +63,8 @@ fn change_inside(
     rest: &[Step],
     leaf: LeafRef<'_>,
 ) -> SetAnswer
-    ensures { Sets (node_tree (node_of.Maybe content.old)) (step_of step.now ∷ path_of rest.now) (lent_leaf leaf.entry) result (node_tree (node_of.Maybe content.new)) }
+    ensures { Sets (node_tree (node_of.Maybe content.old)) (step_of step.now ∷ path_of rest.now)
+        (lent_leaf leaf.entry) result (node_tree (node_of.Maybe content.new)) }
 {
     let Step::Inside = step else {
         return SetAnswer::Missing;
@@ -82,7 +83,8 @@ fn change_element(
     rest: &[Step],
     leaf: LeafRef<'_>,
 ) -> SetAnswer
-    ensures { Sets (tree.list (node_trees elements.old.items)) (step_of step.now ∷ path_of rest.now) (lent_leaf leaf.entry) result (tree.list (node_trees elements.new.items)) }
+    ensures { Sets (tree.list (node_trees elements.old.items)) (step_of step.now ∷ path_of rest.now)
+        (lent_leaf leaf.entry) result (tree.list (node_trees elements.new.items)) }
 {
     let Step::Place(place) = step else {
         return SetAnswer::Missing;
@@ -101,7 +103,9 @@ fn change_value(
     rest: &[Step],
     leaf: LeafRef<'_>,
 ) -> SetAnswer
-    ensures { (kind : MapKind) → Sets (tree.map kind (node_pairs map.old.entries)) (step_of step.now ∷ path_of rest.now) (lent_leaf leaf.entry) result (tree.map kind (node_pairs map.new.entries)) }
+    ensures { (kind : MapKind) → Sets (tree.map kind (node_pairs map.old.entries))
+        (step_of step.now ∷ path_of rest.now) (lent_leaf leaf.entry) result
+        (tree.map kind (node_pairs map.new.entries)) }
 {
     let Step::Key(key) = step else {
         return SetAnswer::Missing;
@@ -120,7 +124,8 @@ fn change_kept_value(
     rest: &[Step],
     leaf: LeafRef<'_>,
 ) -> SetAnswer
-    ensures { Sets (tree.map kept (node_pairs pairs.old.items)) (step_of step.now ∷ path_of rest.now) (lent_leaf leaf.entry) result (tree.map kept (node_pairs pairs.new.items)) }
+    ensures { Sets (tree.map kept (node_pairs pairs.old.items)) (step_of step.now ∷ path_of rest.now)
+        (lent_leaf leaf.entry) result (tree.map kept (node_pairs pairs.new.items)) }
 {
     let Step::Key(key) = step else {
         return SetAnswer::Missing;
@@ -134,7 +139,8 @@ fn change_kept_value(
 /// Puts a leaf at a path. The depth of its recursion is at most the depth at which nodes lie in one another.
 #[cycle(change)]
 pub(crate) fn change_at(node: &mut Node, path: &[Step], leaf: LeafRef<'_>) -> SetAnswer
-    ensures { Sets (node_tree node.old) (path_of path.now) (lent_leaf leaf.entry) result (node_tree node.new) }
+    ensures { Sets (node_tree node.old) (path_of path.now) (lent_leaf leaf.entry) result
+        (node_tree node.new) }
 {
     let Some((step, rest)) = path.split_first() else {
         return put_leaf(node, leaf);

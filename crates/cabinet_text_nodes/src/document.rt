@@ -72,7 +72,8 @@ impl Document {
 
     /// Puts a leaf at a path, in the place of a leaf that it fits. It allocates no memory.
     pub fn change(&mut self, path: &[Step], leaf: &Leaf) -> SetAnswer
-        ensures answer { outcome_of result ≡ answer self.old (set (path_of path.now) (leaf_of leaf.now)) }
+        ensures answer { outcome_of result ≡ answer self.old
+            (set (path_of path.now) (leaf_of leaf.now)) }
         ensures document { self.new ≡ change self.old (path_of path.now) (leaf_of leaf.now) }
     {
         change_at(&mut self.root, path, leaf.as_ref())

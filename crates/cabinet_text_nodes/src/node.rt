@@ -58,7 +58,8 @@ impl Node {
 
     /// Returns the leaf that the node is, if it is one.
     pub fn as_leaf(&self) -> Option<LeafRef<'_>>
-        ensures { MatchOption result ((l : Leaf) → node_tree self.now ≢ leaf l) (λ l. node_tree self.now ≡ leaf (lent_leaf l)) }
+        ensures { MatchOption result ((l : Leaf)
+            → node_tree self.now ≢ leaf l) (λ l. node_tree self.now ≡ leaf (lent_leaf l)) }
     {
         match self {
             Node::Bool(value) => Some(LeafRef::Bool(*value)),

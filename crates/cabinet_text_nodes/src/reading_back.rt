@@ -29,7 +29,8 @@ use std::rc::RcStr;
 /// Reads a shared text back, as an owned copy.
 fn deserialize_shared(text: Ref<'_, ArchivedRcStr<RcFlavor>>, alloc: Global) -> Result<RcStr, Error>
     requires { HasValue (shared false str) (λ _. ⊤) text.bytes.now text.pos }
-    ensures { Deserializes (reads_in (λ s. rc_str_bytes s) (reads_as shared_string_spelling)) (shared false str) (λ _. ⊤) text.entry.bytes.now text.entry.pos result }
+    ensures { Deserializes (reads_in (λ s. rc_str_bytes s) (reads_as shared_string_spelling))
+        (shared false str) (λ _. ⊤) text.entry.bytes.now text.entry.pos result }
 {
     match RcStr::from_str(alloc, ArchivedRcStr::<RcFlavor>::get(text)) {
         Ok(text) => Ok(text),
@@ -45,7 +46,8 @@ fn deserialize_boxed<D>(
     deserializer: &mut D,
 ) -> Result<Box<Node>, Error>
     requires { HasValue (box (sized node_shape)) KnowsNode boxed.bytes.now boxed.pos }
-    ensures { Deserializes (reads_in (λ b. b.value) (reads_as archived_as)) (box (sized node_shape)) KnowsNode boxed.entry.bytes.now boxed.entry.pos result }
+    ensures { Deserializes (reads_in (λ b. b.value) (reads_as archived_as))
+        (box (sized node_shape)) KnowsNode boxed.entry.bytes.now boxed.entry.pos result }
 {
     let Ref { bytes, pos, .. } = boxed;
     deserialize_box_each::<Node, ArchivedNode, D, _>(
@@ -55,7 +57,8 @@ fn deserialize_boxed<D>(
         |d: &mut D, p: usize| -> Result<(Node, PhantomData<ArchivedNode>), Error>
             requires ends { p + 24 ≤ pos }
             requires there { HasValue node_shape KnowsNode bytes.now p }
-            ensures { DeserializesBy (reads_as archived_as) node_shape KnowsNode bytes.entry.now p (λ q. q.0) result }
+            ensures { DeserializesBy (reads_as archived_as) node_shape KnowsNode bytes.entry.now p
+                (λ q. q.0) result }
         {
             let _ = &pos;
             match deserialize_node(Ref::new(bytes, p), alloc, d) {
@@ -75,7 +78,8 @@ fn deserialize_maybe<D>(
     deserializer: &mut D,
 ) -> Result<Option<Box<Node>>, Error>
     requires { HasValue (option (box (sized node_shape))) KnowsNode maybe.bytes.now maybe.pos }
-    ensures { Deserializes (reads_option (reads_in (λ b. b.value) (reads_as archived_as))) (option (box (sized node_shape))) KnowsNode maybe.entry.bytes.now maybe.entry.pos result }
+    ensures { Deserializes (reads_option (reads_in (λ b. b.value) (reads_as archived_as)))
+        (option (box (sized node_shape))) KnowsNode maybe.entry.bytes.now maybe.entry.pos result }
 {
     let Ref { bytes, pos, .. } = maybe;
     deserialize_option_each::<Box<Node>, ArchivedBox<ArchivedNode>, D, _>(
@@ -84,7 +88,8 @@ fn deserialize_maybe<D>(
         |d: &mut D, p: usize| -> Result<(Box<Node>, PhantomData<ArchivedBox<ArchivedNode>>), Error>
             requires ends { p + 4 ≤ pos + 8 }
             requires there { HasValue (box (sized node_shape)) KnowsNode bytes.now p }
-            ensures { DeserializesBy (reads_in (λ b. b.value) (reads_as archived_as)) (box (sized node_shape)) KnowsNode bytes.entry.now p (λ q. q.0) result }
+            ensures { DeserializesBy (reads_in (λ b. b.value) (reads_as archived_as))
+                (box (sized node_shape)) KnowsNode bytes.entry.now p (λ q. q.0) result }
         {
             let _ = &pos;
             match deserialize_boxed(Ref::new(bytes, p), alloc, d) {
@@ -103,7 +108,8 @@ fn deserialize_list<D>(
     deserializer: &mut D,
 ) -> Result<Vec<Node>, Error>
     requires { HasValue (vector node_shape) KnowsNode list.bytes.now list.pos }
-    ensures { Deserializes (reads_in (λ xs. xs.items) (reads_all (reads_as archived_as))) (vector node_shape) KnowsNode list.entry.bytes.now list.entry.pos result }
+    ensures { Deserializes (reads_in (λ xs. xs.items) (reads_all (reads_as archived_as)))
+        (vector node_shape) KnowsNode list.entry.bytes.now list.entry.pos result }
 {
     let Ref { bytes, pos, .. } = list;
     deserialize_vec_each::<Node, ArchivedNode, D, _>(
@@ -113,7 +119,8 @@ fn deserialize_list<D>(
         |d: &mut D, p: usize| -> Result<(Node, PhantomData<ArchivedNode>), Error>
             requires ends { p + 24 ≤ pos }
             requires there { HasValue node_shape KnowsNode bytes.now p }
-            ensures { DeserializesBy (reads_as archived_as) node_shape KnowsNode bytes.entry.now p (λ q. q.0) result }
+            ensures { DeserializesBy (reads_as archived_as) node_shape KnowsNode bytes.entry.now p
+                (λ q. q.0) result }
         {
             let _ = &pos;
             match deserialize_node(Ref::new(bytes, p), alloc, d) {
@@ -132,7 +139,8 @@ fn deserialize_node<D>(
     deserializer: &mut D,
 ) -> Result<Node, Error>
     requires { HasValue node_shape KnowsNode node.bytes.now node.pos }
-    ensures { Deserializes (reads_as archived_as) node_shape KnowsNode node.entry.bytes.now node.entry.pos result }
+    ensures { Deserializes (reads_as archived_as) node_shape KnowsNode node.entry.bytes.now
+        node.entry.pos result }
 {
     match ArchivedNode::kind(node) {
         ArchivedKind::Bool(value) => Ok(Node::Bool(native_of(value))),
@@ -168,8 +176,11 @@ impl<D> Deserialize<Node, D> for ArchivedNode {
         deserializer: &mut D,
     ) -> Result<Node, Error>
         requires { HasValue node_shape KnowsNode this.now.bytes.now this.now.pos }
-        ensures read { Deserializes (reads_as archived_as) node_shape KnowsNode this.now.bytes.now this.now.pos result }
-        ensures denotes { IfOk result (λ node. (v : Value) → HeldAt node_shape KnowsNode this.now.bytes.now this.now.pos v → Denotes v (node_tree node)) }
+        ensures read { Deserializes (reads_as archived_as) node_shape KnowsNode this.now.bytes.now
+            this.now.pos result }
+        ensures denotes { IfOk result (λ node. (v : Value)
+            → HeldAt node_shape KnowsNode this.now.bytes.now this.now.pos v
+            → Denotes v (node_tree node)) }
     {
         deserialize_node(*this, alloc, deserializer)
     }

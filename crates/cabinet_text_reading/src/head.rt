@@ -39,7 +39,8 @@ fn read_escaped(alloc: Global, argument: &[u8]) -> Result<String, Cause>
 
 /// Returns the container whose word a line begins with, and the bytes after the word.
 fn count_argument(line: &[u8]) -> Option<(Counted, &[u8])>
-    ensures { MatchOption result ((rest : List ℕ) → HasCount line.now rest → ⊥) (λ found. line.now ≡ count_word found.0 ++ found.1.now) }
+    ensures { MatchOption result ((rest : List ℕ) → HasCount line.now rest
+        → ⊥) (λ found. line.now ≡ count_word found.0 ++ found.1.now) }
 {
     if let Some(digits) = after_prefix(line, b"list ".as_slice()) {
         return Some((Counted::List, digits));
@@ -61,7 +62,8 @@ fn within(head: Head, depth: usize) -> Result<Head, Cause>
     requires { IsContainer (item_of head) }
     ensures same { IfOk result (λ inner. item_of inner ≡ item_of head) }
     ensures head { IfOk result (λ inner. Admits (a_head depth) (item_of inner)) }
-    ensures fault { IfErr result (IsFirstCause (a_head depth) (Some (record { bytes = spelled (item_of head); ended = true }))) }
+    ensures fault { IfErr result (IsFirstCause (a_head depth)
+        (Some (record { bytes = spelled (item_of head); ended = true }))) }
 {
     if depth >= MAX_DEPTH {
         return Err(Cause::TooDeep);
@@ -87,7 +89,8 @@ fn read_counted(container: Counted, digits: &[u8], depth: usize) -> Result<Head,
     requires { IsUtf8 (count_word container ++ digits.now) }
     ensures head { IfOk result (λ head. Admits (a_head depth) (item_of head)) }
     ensures line { IfOk result (λ head. count_word container ++ digits.now ≡ spelled (item_of head)) }
-    ensures fault { IfErr result (IsFirstCause (a_head depth) (Some (record { bytes = count_word container ++ digits.now; ended = true }))) }
+    ensures fault { IfErr result (IsFirstCause (a_head depth)
+        (Some (record { bytes = count_word container ++ digits.now; ended = true }))) }
 {
     let Some(count) = read_count(digits) else {
         return Err(Cause::BadNumber);
@@ -97,7 +100,9 @@ fn read_counted(container: Counted, digits: &[u8], depth: usize) -> Result<Head,
 
 /// Reads a line as the head of an option, `none` or `some`.
 fn read_option(line: &[u8]) -> Option<Head>
-    ensures { MatchOption result ((line.now ≢ spelled none_item) × (line.now ≢ spelled some_item)) (λ head. IsContainer (item_of head) × (line.now ≡ spelled (item_of head))) }
+    ensures { MatchOption result ((line.now ≢ spelled none_item)
+        × (line.now ≢ spelled some_item)) (λ head. IsContainer (item_of head)
+        × (line.now ≡ spelled (item_of head))) }
 {
     if line == b"none".as_slice() {
         return Some(Head::None);
@@ -112,7 +117,8 @@ fn read_option(line: &[u8]) -> Option<Head>
 pub(crate) fn read_head(alloc: Global, line: &str, depth: usize) -> Result<Head, Cause>
     ensures head { IfOk result (λ head. Admits (a_head depth) (item_of head)) }
     ensures line { IfOk result (λ head. line.now ≡ spelled (item_of head)) }
-    ensures fault { IfErr result (IsFirstCause (a_head depth) (Some (record { bytes = line.now; ended = true }))) }
+    ensures fault { IfErr result (IsFirstCause (a_head depth)
+        (Some (record { bytes = line.now; ended = true }))) }
 {
     let bytes = line.as_bytes();
     if let Some(argument) = after_prefix(bytes, b"text '".as_slice()) {

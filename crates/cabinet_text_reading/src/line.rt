@@ -21,7 +21,9 @@ fn newline_at(text: &[u8]) -> Option<usize>
 
 /// Returns the parts of a text before and after its first newline.
 fn split_line(text: &str) -> Option<(&str, &str)>
-    ensures { MatchOption result (EachIndex text.now (λ k. slice_index text.now k ≢ 10)) (λ parts. (text.now ≡ parts.0.now ++ 10 ∷ parts.1.now) × EachIndex parts.0.now (λ k. slice_index parts.0.now k ≢ 10)) }
+    ensures { MatchOption result (EachIndex text.now (λ k. slice_index text.now k ≢ 10))
+        (λ parts. (text.now ≡ parts.0.now ++ 10 ∷ parts.1.now)
+        × EachIndex parts.0.now (λ k. slice_index parts.0.now k ≢ 10)) }
 {
     let end = newline_at(text.as_bytes())?;
     Some((&text[..end], &text[end + 1..]))
@@ -61,10 +63,12 @@ impl<'a> Lines<'a> {
     /// `None` if there are none.
     #[inline(always)]
     fn cut_line(self) -> Result<(&'a str, Lines<'a>), Option<Cause>>
-        ensures piece { IfOk result (λ next. slice_get (pieces_of self.entry) 0 ≡ Some (record { bytes = next.0.now; ended = true })) }
+        ensures piece { IfOk result (λ next. slice_get (pieces_of self.entry) 0 ≡ Some
+            (record { bytes = next.0.now; ended = true })) }
         ensures utf8 { IfOk result (λ next. IsUtf8 next.0.now) }
         ensures parts { IfOk result (λ next. self.entry ≡ next.0.now ++ 10 ∷ next.1) }
-        ensures end { IfErr result (λ fault. MatchOption fault (self.entry ≡ []) (λ cause. (due : Due) → IsFirstCause due (slice_get (pieces_of self.entry) 0) cause)) }
+        ensures end { IfErr result (λ fault. MatchOption fault (self.entry ≡ [])
+            (λ cause. (due : Due) → IsFirstCause due (slice_get (pieces_of self.entry) 0) cause)) }
     {
         let Lines { rest, more } = self;
         if let Some((line, after)) = split_line(rest) {
@@ -81,9 +85,11 @@ impl<'a> Lines<'a> {
 
     /// Returns the first line where a line is expected, and the rest after it.
     pub(crate) fn next_line(self) -> Result<(&'a str, Lines<'a>), Cause>
-        ensures piece { IfOk result (λ next. slice_get (pieces_of self.entry) 0 ≡ Some (record { bytes = next.0.now; ended = true })) }
+        ensures piece { IfOk result (λ next. slice_get (pieces_of self.entry) 0 ≡ Some
+            (record { bytes = next.0.now; ended = true })) }
         ensures parts { IfOk result (λ next. self.entry ≡ next.0.now ++ 10 ∷ next.1) }
-        ensures fault { IfErr result (λ cause. (due : Due) → due ≢ nothing_more → IsFirstCause due (slice_get (pieces_of self.entry) 0) cause) }
+        ensures fault { IfErr result (λ cause. (due : Due) → due ≢ nothing_more
+            → IsFirstCause due (slice_get (pieces_of self.entry) 0) cause) }
     {
         match self.cut_line() {
             Ok(next) => Ok(next),
@@ -94,7 +100,8 @@ impl<'a> Lines<'a> {
 
     /// Returns the fault of what is left after a document, if anything is left.
     pub(crate) fn fault_after(self) -> Option<Cause>
-        ensures { MatchOption result (self.entry ≡ []) (IsFirstCause nothing_more (slice_get (pieces_of self.entry) 0)) }
+        ensures { MatchOption result (self.entry ≡ [])
+            (IsFirstCause nothing_more (slice_get (pieces_of self.entry) 0)) }
     {
         match self.cut_line() {
             Ok(_) => Some(Cause::LineAfterEnd),
@@ -107,7 +114,8 @@ impl<'a> Lines<'a> {
 pub(crate) fn read_key_argument(line: &str) -> Result<&[u8], Cause>
     ensures argument { IfOk result (λ argument. IsEscaped argument.now) }
     ensures line { IfOk result (λ argument. line.now ≡ codes "'" ++ argument.now) }
-    ensures fault { IfErr result (λ cause. (kind : MapKind) (keys : List (List ℕ)) → IsFirstCause (a_key kind keys) (Some (record { bytes = line.now; ended = true })) cause) }
+    ensures fault { IfErr result (λ cause. (kind : MapKind) (keys : List (List ℕ))
+        → IsFirstCause (a_key kind keys) (Some (record { bytes = line.now; ended = true })) cause) }
 {
     let bytes = line.as_bytes();
     let Some(argument) = after_prefix(bytes, b"'".as_slice()) else {

@@ -34,8 +34,10 @@ fn take_head_line<'a>(
     stack: &mut Vec<Frame<'a>>,
 ) -> Result<Next<'a>, Cause>
     requires { AreOpen (stack_of stack.old.items) }
-    ensures taken { IfOk result (λ next. TakesLine (stack_of stack.old.items) line.now (state_of next stack.new.items)) }
-    ensures fault { IfErr result (IsFirstCause (due_in (stack_of stack.old.items)) (Some (record { bytes = line.now; ended = true }))) }
+    ensures taken { IfOk result (λ next. TakesLine (stack_of stack.old.items) line.now
+        (state_of next stack.new.items)) }
+    ensures fault { IfErr result (IsFirstCause (due_in (stack_of stack.old.items))
+        (Some (record { bytes = line.now; ended = true }))) }
 {
     let head = read_head(alloc, line, stack.len())?;
     match take_head(alloc, head, stack) {
@@ -51,8 +53,10 @@ fn take_key_line<'a>(
     map: OpenMap<'a>,
     stack: &mut Vec<Frame<'a>>,
 ) -> Result<(), Cause>
-    ensures taken { IfOk result (λ _. TakesLine (inside_map map.entry stack.old.items) line.now (going (stack_of stack.new.items))) }
-    ensures fault { IfErr result (IsFirstCause (key_due map.entry.pairs) (Some (record { bytes = line.now; ended = true }))) }
+    ensures taken { IfOk result (λ _. TakesLine (inside_map map.entry stack.old.items) line.now
+        (going (stack_of stack.new.items))) }
+    ensures fault { IfErr result (IsFirstCause (key_due map.entry.pairs)
+        (Some (record { bytes = line.now; ended = true }))) }
 {
     let argument = read_key_argument(line)?;
     take_key(alloc, argument, map, stack)
@@ -66,8 +70,10 @@ fn take_line<'a>(
     stack: &mut Vec<Frame<'a>>,
 ) -> Result<Next<'a>, Cause>
     requires { AreOpen (open_at due stack.old.items) }
-    ensures taken { IfOk result (λ next. TakesLine (open_at due.entry stack.old.items) line.now (state_of next stack.new.items)) }
-    ensures fault { IfErr result (IsFirstCause (due_in (open_at due.entry stack.old.items)) (Some (record { bytes = line.now; ended = true }))) }
+    ensures taken { IfOk result (λ next. TakesLine (open_at due.entry stack.old.items) line.now
+        (state_of next stack.new.items)) }
+    ensures fault { IfErr result (IsFirstCause (due_in (open_at due.entry stack.old.items))
+        (Some (record { bytes = line.now; ended = true }))) }
 {
     match due {
         Due::Head => take_head_line(alloc, line, stack),
@@ -83,8 +89,10 @@ fn take_line<'a>(
 fn end_document(root: Node, rest: Lines<'_>, line: u64) -> Result<Document, TextRefusal>
     requires document { IsDocument (node_tree root) }
     requires line { line ≡ length (items (node_tree root)) + 1 }
-    ensures document { IfOk result (λ document. text_of (node_tree root) ++ rest.entry ≡ text_of document) }
-    ensures fault { IfErr result (λ refusal. FirstFault (text_of (node_tree root) ++ rest.entry) refusal.line refusal.cause) }
+    ensures document { IfOk result (λ document. text_of
+        (node_tree root) ++ rest.entry ≡ text_of document) }
+    ensures fault { IfErr result (λ refusal. FirstFault
+        (text_of (node_tree root) ++ rest.entry) refusal.line refusal.cause) }
 {
     match rest.fault_after() {
         None => Ok(Document::of_root(root)),

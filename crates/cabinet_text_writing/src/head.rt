@@ -13,7 +13,8 @@ use cabinet_text_nodes::{HeadRef, LeafRef};
 /// Writes a word, the escaped form of a text, and a newline.
 fn write_text_line<W: Writer>(word: &[u8], text: &str, writer: &mut W) -> Result<(), Error>
     requires { W.failures writer.old < 2 ^ 64 - 1 }
-    ensures { Writes W.Writer writer.old writer.new (word.now ++ (escaped text.now ++ codes "\n")) result }
+    ensures { Writes W.Writer writer.old writer.new
+        (word.now ++ (escaped text.now ++ codes "\n")) result }
 {
     writer.write(word)?;
     write_escaped_line(text.as_bytes(), writer)
@@ -30,7 +31,8 @@ fn write_count_line<W: Writer>(word: &[u8], count: u64, writer: &mut W) -> Resul
 /// Writes the line of a leaf.
 fn write_leaf_line<W: Writer>(leaf: LeafRef<'_>, writer: &mut W) -> Result<(), Error>
     requires { W.failures writer.old < 2 ^ 64 - 1 }
-    ensures { Writes W.Writer writer.old writer.new (spelled_leaf (lent_leaf leaf.entry) ++ codes "\n") result }
+    ensures { Writes W.Writer writer.old writer.new
+        (spelled_leaf (lent_leaf leaf.entry) ++ codes "\n") result }
 {
     match leaf {
         LeafRef::Bool(true) => writer.write(b"bool true\n"),
@@ -45,7 +47,8 @@ fn write_leaf_line<W: Writer>(leaf: LeafRef<'_>, writer: &mut W) -> Result<(), E
 /// Writes the line of a head, with its newline. It allocates no memory.
 pub fn write_head<W: Writer>(head: HeadRef<'_>, writer: &mut W) -> Result<(), Error>
     requires { W.failures writer.old < 2 ^ 64 - 1 }
-    ensures { Writes W.Writer writer.old writer.new (spelled (lent_item head.entry) ++ codes "\n") result }
+    ensures { Writes W.Writer writer.old writer.new
+        (spelled (lent_item head.entry) ++ codes "\n") result }
 {
     match head {
         HeadRef::Leaf(leaf) => write_leaf_line(leaf, writer),

@@ -33,7 +33,8 @@ fn write_node<W: Writer>(node: &Node, writer: &mut W) -> Result<(), Error>
 #[cycle(nodes)]
 fn write_nodes<W: Writer>(nodes: &[Node], writer: &mut W) -> Result<(), Error>
     requires { W.failures writer.old < 2 ^ 64 - 1 }
-    ensures { Writes W.Writer writer.old writer.new (ended (lines_of (items_of (node_trees nodes.now)))) result }
+    ensures { Writes W.Writer writer.old writer.new
+        (ended (lines_of (items_of (node_trees nodes.now)))) result }
 {
     for node in nodes {
         write_node(node, writer)?;
@@ -45,7 +46,8 @@ fn write_nodes<W: Writer>(nodes: &[Node], writer: &mut W) -> Result<(), Error>
 #[cycle(nodes)]
 fn write_pair<W: Writer>(key: &str, value: &Node, writer: &mut W) -> Result<(), Error>
     requires { W.failures writer.old < 2 ^ 64 - 1 }
-    ensures { Writes W.Writer writer.old writer.new ((spelled (key_item key.now) ++ codes "\n") ++ text_of (node_tree value.now)) result }
+    ensures { Writes W.Writer writer.old writer.new
+        ((spelled (key_item key.now) ++ codes "\n") ++ text_of (node_tree value.now)) result }
 {
     write_key_line(key, writer)?;
     write_node(value, writer)
@@ -55,7 +57,8 @@ fn write_pair<W: Writer>(key: &str, value: &Node, writer: &mut W) -> Result<(), 
 #[cycle(nodes)]
 fn write_map<W: Writer>(pairs: &BTreeMap<String, Node>, writer: &mut W) -> Result<(), Error>
     requires { W.failures writer.old < 2 ^ 64 - 1 }
-    ensures { Writes W.Writer writer.old writer.new (ended (lines_of (items_of_pairs (node_pairs pairs.now.entries)))) result }
+    ensures { Writes W.Writer writer.old writer.new
+        (ended (lines_of (items_of_pairs (node_pairs pairs.now.entries)))) result }
 {
     for (key, node) in pairs {
         write_pair(key.as_str(), node, writer)?;
@@ -67,7 +70,8 @@ fn write_map<W: Writer>(pairs: &BTreeMap<String, Node>, writer: &mut W) -> Resul
 #[cycle(nodes)]
 fn write_pairs<W: Writer>(pairs: &[(String, Node)], writer: &mut W) -> Result<(), Error>
     requires { W.failures writer.old < 2 ^ 64 - 1 }
-    ensures { Writes W.Writer writer.old writer.new (ended (lines_of (items_of_pairs (node_pairs pairs.now)))) result }
+    ensures { Writes W.Writer writer.old writer.new
+        (ended (lines_of (items_of_pairs (node_pairs pairs.now)))) result }
 {
     for (key, node) in pairs {
         write_pair(key.as_str(), node, writer)?;

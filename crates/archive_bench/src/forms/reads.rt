@@ -76,7 +76,8 @@ pub extern "C" fn archive_forms_bench_sum_texts(bytes: &[u8], pos: usize) -> u64
 /// Returns the sum of the numbers in a vector.
 fn sum_list(list: Ref<'_, ArchivedVec<ArchivedU32>>) -> u64
     requires { HasValue (vector (number w32 false)) (λ _. ⊤) list.bytes.now list.pos }
-    ensures { IsOf (sum_of natural_of) (vector (number w32 false)) list.entry.bytes.now list.entry.pos result }
+    ensures { IsOf (sum_of natural_of) (vector (number w32 false)) list.entry.bytes.now
+        list.entry.pos result }
 {
     let numbers = ArchivedVec::as_slice(list);
     let mut total = 0u64;
@@ -91,7 +92,8 @@ fn sum_list(list: Ref<'_, ArchivedVec<ArchivedU32>>) -> u64
 #[unsafe(no_mangle)]
 pub extern "C" fn archive_forms_bench_sum_lists(bytes: &[u8], pos: usize) -> u64
     requires { HasValue (vector (vector (number w32 false))) (λ _. ⊤) bytes.now pos }
-    ensures { IsOf (sum_of (sum_of natural_of)) (vector (vector (number w32 false))) bytes.now pos result }
+    ensures { IsOf (sum_of (sum_of natural_of)) (vector (vector (number w32 false)))
+        bytes.now pos result }
 {
     let vector = Ref::<ArchivedVec<ArchivedVec<ArchivedU32>>>::new(bytes, pos);
     let lists = ArchivedVec::as_slice(vector);

@@ -21,7 +21,9 @@ fn equal_pair<K: ArchivedEq, V: ArchivedEq>(
 ) -> bool
     requires this { (p : Value) × IsPairAt K.shape V.shape K.knows V.knows this.now p }
     requires other { (p : Value) × IsPairAt K.shape V.shape K.knows V.knows other.now p }
-    ensures { (p q : Value) → IsPairAt K.shape V.shape K.knows V.knows this.now p → IsPairAt K.shape V.shape K.knows V.knows other.now q → result ≡ pair_equality K.equal V.equal p q }
+    ensures { (p q : Value) → IsPairAt K.shape V.shape K.knows V.knows this.now p
+        → IsPairAt K.shape V.shape K.knows V.knows other.now q
+        → result ≡ pair_equality K.equal V.equal p q }
 {
     K::eq(&this.0, &other.0) && V::eq(&this.1, &other.1)
 }
@@ -33,7 +35,8 @@ fn equal_entries<K: ArchivedEq, V: ArchivedEq>(
 ) -> bool
     requires these { HasPairs K.shape V.shape K.knows V.knows these }
     requires others { HasPairs K.shape V.shape K.knows V.knows others }
-    ensures { (ps qs : List Value) → ArePairsAt K.shape V.shape K.knows V.knows these.entry ps → ArePairsAt K.shape V.shape K.knows V.knows others.entry qs
+    ensures { (ps qs : List Value) → ArePairsAt K.shape V.shape K.knows V.knows these.entry ps
+        → ArePairsAt K.shape V.shape K.knows V.knows others.entry qs
         → result ≡ pointwise (pair_equality K.equal V.equal) ps qs }
 {
     if these.len() != others.len() {
@@ -55,7 +58,8 @@ pub fn eq_map<K: ArchivedEq, V: ArchivedEq, const E: usize, const F: usize>(
 ) -> bool
     requires this { HasMap E K.shape V.shape K.knows V.knows this.now }
     requires other { HasMap F K.shape V.shape K.knows V.knows other.now }
-    ensures { (v w : Value) → HeldAt (tree E K.shape V.shape) (both K.knows V.knows) this.now.bytes.now this.now.pos v
+    ensures { (v w : Value) → HeldAt (tree E K.shape V.shape) (both K.knows V.knows) this.now.bytes.now
+        this.now.pos v
         → HeldAt (tree F K.shape V.shape) (both K.knows V.knows) other.now.bytes.now other.now.pos w → result ≡ map_equality K.equal V.equal v w }
 {
     equal_entries(

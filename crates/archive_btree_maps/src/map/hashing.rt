@@ -16,7 +16,8 @@ use std::hash::Hasher;
 /// Hashes each key and then its value.
 fn hash_entries<K: ArchivedHash, V: ArchivedHash, H: Hasher>(entries: Iter<'_, K, V>, state: &mut H)
     requires { HasPairs K.shape V.shape K.knows V.knows entries }
-    ensures { (ps : List Value) → ArePairsAt K.shape V.shape K.knows V.knows entries.entry ps → state.new ≡ fold H.write state.old (flat_map (pair_hashed K.hashed V.hashed) ps) }
+    ensures { (ps : List Value) → ArePairsAt K.shape V.shape K.knows V.knows entries.entry ps
+        → state.new ≡ fold H.write state.old (flat_map (pair_hashed K.hashed V.hashed) ps) }
 {
     for (key, value) in entries {
         K::hash(&key, state);

@@ -29,7 +29,8 @@ impl<K, V: Portable, const E: usize> ArchivedBTreeMap<K, V, E> {
         ensures there { IfSome result.0 (λ r. HasValue V.shape V.knows r.bytes.now r.pos) }
         ensures found { (t : Tree Place) → IsMap E K.shape V.shape this.entry t
             → Finds (value_at this.entry.bytes) (IsEqualKey K.key_of K.order this.entry.bytes.now query.now) (items t) result.0 }
-        ensures answers { (t : Tree Place) (order : Place → Ordering) → IsMap E K.shape V.shape this.entry t
+        ensures answers { (t : Tree Place) (order : Place → Ordering)
+            → IsMap E K.shape V.shape this.entry t
             → QueryOrders K.key_of K.order this.entry.bytes.now query.now order (items t)
             → (result.0 ≡ option_map (value_at this.entry.bytes) (descend order t)) × (result.1 ≡ min (met order t) (2 ^ 64 - 1)) }
     {
@@ -47,7 +48,8 @@ impl<K, V: Portable, const E: usize> ArchivedBTreeMap<K, V, E> {
         ensures there { IfSome result (λ r. HasValue V.shape V.knows r.bytes.now r.pos) }
         ensures found { (t : Tree Place) → IsMap E K.shape V.shape this.entry t
             → Finds (value_at this.entry.bytes) (IsEqualKey K.key_of K.order this.entry.bytes.now query.now) (items t) result }
-        ensures answers { (t : Tree Place) (order : Place → Ordering) → IsMap E K.shape V.shape this.entry t
+        ensures answers { (t : Tree Place) (order : Place → Ordering)
+            → IsMap E K.shape V.shape this.entry t
             → QueryOrders K.key_of K.order this.entry.bytes.now query.now order (items t)
             → result ≡ option_map (value_at this.entry.bytes) (descend order t) }
     {
@@ -65,7 +67,8 @@ impl<K, V: Portable, const E: usize> ArchivedBTreeMap<K, V, E> {
         ensures there { IfSome result (IsThere K.shape V.shape K.knows V.knows) }
         ensures found { (t : Tree Place) → IsMap E K.shape V.shape this.entry t
             → Finds (entry_at this.entry.bytes) (IsEqualKey K.key_of K.order this.entry.bytes.now query.now) (items t) result }
-        ensures answers { (t : Tree Place) (order : Place → Ordering) → IsMap E K.shape V.shape this.entry t
+        ensures answers { (t : Tree Place) (order : Place → Ordering)
+            → IsMap E K.shape V.shape this.entry t
             → QueryOrders K.key_of K.order this.entry.bytes.now query.now order (items t)
             → result ≡ option_map (entry_at this.entry.bytes) (descend order t) }
     {
@@ -85,7 +88,8 @@ impl<K, V: Portable, const E: usize> ArchivedBTreeMap<K, V, E> {
         requires has { HasMap E K.shape V.shape K.knows V.knows this }
         ensures found { (t : Tree Place) → IsMap E K.shape V.shape this.entry t
             → IsTrue result → (e : Place) × Contains (items t) e × IsEqualKey K.key_of K.order this.entry.bytes.now query.now e }
-        ensures answers { (t : Tree Place) (order : Place → Ordering) → IsMap E K.shape V.shape this.entry t
+        ensures answers { (t : Tree Place) (order : Place → Ordering)
+            → IsMap E K.shape V.shape this.entry t
             → QueryOrders K.key_of K.order this.entry.bytes.now query.now order (items t)
             → result ≡ is_some (descend order t) }
     {
@@ -103,7 +107,8 @@ impl<K, V: Portable, const E: usize> ArchivedBTreeMap<K, V, E> {
         ensures there { HasValue V.shape V.knows result.bytes.now result.pos }
         ensures found { (t : Tree Place) → IsMap E K.shape V.shape this.entry t
             → Finds (value_at this.entry.bytes) (IsEqualKey K.key_of K.order this.entry.bytes.now query.now) (items t) (Some result) }
-        ensures answers { (t : Tree Place) (order : Place → Ordering) → IsMap E K.shape V.shape this.entry t
+        ensures answers { (t : Tree Place) (order : Place → Ordering)
+            → IsMap E K.shape V.shape this.entry t
             → QueryOrders K.key_of K.order this.entry.bytes.now query.now order (items t)
             → Some result ≡ option_map (value_at this.entry.bytes) (descend order t) }
     {
@@ -125,14 +130,16 @@ impl<K: Portable, V: Portable, const E: usize> ArchivedBTreeMap<K, V, E> {
         ensures there { IfSome result (IsThere K.shape V.shape K.knows V.knows) }
         ensures found { (t : Tree Place) → IsMap E K.shape V.shape this.entry t
             → Finds (entry_at this.entry.bytes) (CallsEqual F.post compare.now query.entry this.entry.bytes) (items t) result }
-        ensures answers { (t : Tree Place) (order : Place → Ordering) → IsMap E K.shape V.shape this.entry t
+        ensures answers { (t : Tree Place) (order : Place → Ordering)
+            → IsMap E K.shape V.shape this.entry t
             → CallsOrder F.post compare.now query.entry this.entry.bytes order (items t)
             → result ≡ option_map (entry_at this.entry.bytes) (descend order t) }
     {
         let bytes = this.bytes;
         let compare_at = |at: usize| -> Ordering
             requires { F.pre compare.now query (key_at bytes (record { key = at; value = 0 })) }
-            ensures { F.post compare.entry.now query.entry (key_at bytes.entry (record { key = at; value = 0 })) result }
+            ensures { F.post compare.entry.now query.entry
+                (key_at bytes.entry (record { key = at; value = 0 })) result }
         { compare(query, Ref::new(bytes, at)) };
         match search_map::<K, V, _, E>(bytes, this.pos, &compare_at).0 {
             Some(entry) => Some((Ref::new(bytes, entry.key), Ref::new(bytes, entry.value))),

@@ -85,7 +85,8 @@ impl<K: Portable, V: Portable, const E: usize> ArchivedBTreeMap<K, V, E> {
     /// Checks whether the map has no entries.
     pub fn is_empty(this: Ref<'_, ArchivedBTreeMap<K, V, E>>) -> bool
         requires { HasMap E K.shape V.shape K.knows V.knows this }
-        ensures { (t : Tree Place) → IsMap E K.shape V.shape this.entry t → IsTrue result ↔ (items t ≡ []) }
+        ensures { (t : Tree Place) → IsMap E K.shape V.shape this.entry t
+            → IsTrue result ↔ (items t ≡ []) }
     {
         ArchivedBTreeMap::len(this) == 0
     }

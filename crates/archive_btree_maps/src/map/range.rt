@@ -32,7 +32,8 @@ impl<K, V: Portable, const E: usize> ArchivedBTreeMap<K, V, E> {
         ensures there { All (IsThere K.shape V.shape K.knows V.knows) result }
         ensures within { (t : Tree Place) → IsMap E K.shape V.shape this.entry t
             → IsRun result (map (entry_at this.entry.bytes) (items t)) }
-        ensures between { (t : Tree Place) (order : Q → Place → Ordering) → IsMap E K.shape V.shape this.entry t
+        ensures between { (t : Tree Place) (order : Q → Place → Ordering)
+            → IsMap E K.shape V.shape this.entry t
             → R.has_bounds bounds
             → OfQueries (λ query. QueryOrders K.key_of K.order this.entry.bytes.now query (order query) (items t) × Ascends (order query) (items t))
             (R.start_bound bounds) (R.end_bound bounds)
@@ -41,7 +42,8 @@ impl<K, V: Portable, const E: usize> ArchivedBTreeMap<K, V, E> {
         let bytes = this.bytes;
         let compare = |query: &Q, at: usize| -> Ordering
             requires { K.is_key bytes.now at }
-            ensures { (key : Q) × K.key_of bytes.entry.now at key × (result ≡ ordering_reverse (K.order key query.now)) }
+            ensures { (key : Q) × K.key_of bytes.entry.now at key
+                × (result ≡ ordering_reverse (K.order key query.now)) }
         { K::compare(&Ref::new(bytes, at), query).reverse() };
         Range::new(
             bytes,
@@ -71,7 +73,8 @@ impl<K: Portable, V: Portable, const E: usize> ArchivedBTreeMap<K, V, E> {
         ensures there { All (IsThere K.shape V.shape K.knows V.knows) result }
         ensures within { (t : Tree Place) → IsMap E K.shape V.shape this.entry t
             → IsRun result (map (entry_at this.entry.bytes) (items t)) }
-        ensures between { (t : Tree Place) (order : Q → Place → Ordering) → IsMap E K.shape V.shape this.entry t
+        ensures between { (t : Tree Place) (order : Q → Place → Ordering)
+            → IsMap E K.shape V.shape this.entry t
             → R.has_bounds bounds
             → OfQueries (λ query. CallsOrderOf F.post compare.now query this.entry.bytes (order query) (items t) × Ascends (order query) (items t))
             (R.start_bound bounds) (R.end_bound bounds)
@@ -80,7 +83,8 @@ impl<K: Portable, V: Portable, const E: usize> ArchivedBTreeMap<K, V, E> {
         let bytes = this.bytes;
         let compare_at = |query: &Q, at: usize| -> Ordering
             requires { F.pre compare.now query (key_at bytes (record { key = at; value = 0 })) }
-            ensures { F.post compare.entry.now query.entry (key_at bytes.entry (record { key = at; value = 0 })) result }
+            ensures { F.post compare.entry.now query.entry
+                (key_at bytes.entry (record { key = at; value = 0 })) result }
         { compare(query, Ref::new(bytes, at)) };
         Range::new(
             bytes,

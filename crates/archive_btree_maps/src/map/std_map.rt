@@ -19,7 +19,8 @@ fn same_pair<Q, W, K: ArchivedKey<Q>, V: ArchivedKey<W>>(
     other: (&Q, &W),
 ) -> bool
     requires { IsThere K.shape V.shape K.knows V.knows this.now }
-    ensures { IsTrue result ↔ IsSamePair K.key_of K.order V.key_of V.order this.now (other.entry.0.now, other.entry.1.now) }
+    ensures { IsTrue result ↔ IsSamePair K.key_of K.order V.key_of V.order this.now
+        (other.entry.0.now, other.entry.1.now) }
 {
     K::same(&this.0, other.0) && V::same(&this.1, other.1)
 }
@@ -30,7 +31,8 @@ fn same_entries<Q: Ord, W, K: ArchivedKey<Q>, V: ArchivedKey<W>, A: Allocator>(
     others: &BTreeMap<Q, W, A>,
 ) -> bool
     requires { All (IsThere K.shape V.shape K.knows V.knows) these }
-    ensures { IsTrue result ↔ AllZip (IsSamePair K.key_of K.order V.key_of V.order) these.entry others.now.entries }
+    ensures { IsTrue result ↔ AllZip (IsSamePair K.key_of K.order V.key_of V.order) these.entry
+        others.now.entries }
 {
     if these.len() != others.len() {
         return false;

@@ -17,7 +17,8 @@ impl<K: Portable, V: Portable, const E: usize> ArchivedBTreeMap<K, V, E> {
     /// Returns an iterator over the entries in the order of their keys.
     pub fn iter<'a>(this: Ref<'a, ArchivedBTreeMap<K, V, E>>) -> Iter<'a, K, V>
         requires has { HasMap E K.shape V.shape K.knows V.knows this }
-        ensures { (t : Tree Place) → IsMap E K.shape V.shape this.entry t → result ≡ map (entry_at this.entry.bytes) (items t) }
+        ensures { (t : Tree Place) → IsMap E K.shape V.shape this.entry t
+            → result ≡ map (entry_at this.entry.bytes) (items t) }
     {
         Iter::new(this.bytes, walk_at::<K, V, E>(this.bytes, this.pos))
     }
@@ -25,7 +26,8 @@ impl<K: Portable, V: Portable, const E: usize> ArchivedBTreeMap<K, V, E> {
     /// Returns an iterator over the keys in their order.
     pub fn keys<'a>(this: Ref<'a, ArchivedBTreeMap<K, V, E>>) -> Keys<'a, K, V>
         requires has { HasMap E K.shape V.shape K.knows V.knows this }
-        ensures { (t : Tree Place) → IsMap E K.shape V.shape this.entry t → result ≡ map (key_at this.entry.bytes) (items t) }
+        ensures { (t : Tree Place) → IsMap E K.shape V.shape this.entry t
+            → result ≡ map (key_at this.entry.bytes) (items t) }
     {
         Keys::new(ArchivedBTreeMap::iter(this))
     }
@@ -33,7 +35,8 @@ impl<K: Portable, V: Portable, const E: usize> ArchivedBTreeMap<K, V, E> {
     /// Returns an iterator over the values in the order of their keys.
     pub fn values<'a>(this: Ref<'a, ArchivedBTreeMap<K, V, E>>) -> Values<'a, K, V>
         requires has { HasMap E K.shape V.shape K.knows V.knows this }
-        ensures { (t : Tree Place) → IsMap E K.shape V.shape this.entry t → result ≡ map (value_at this.entry.bytes) (items t) }
+        ensures { (t : Tree Place) → IsMap E K.shape V.shape this.entry t
+            → result ≡ map (value_at this.entry.bytes) (items t) }
     {
         Values::new(ArchivedBTreeMap::iter(this))
     }
@@ -45,7 +48,8 @@ impl<K: Portable, V: Portable, const E: usize> ArchivedBTreeMap<K, V, E> {
         visit: &mut F,
     ) -> Option<B>
         requires has { HasMap E K.shape V.shape K.knows V.knows this }
-        requires callable { (t : Tree Place) → IsMap E K.shape V.shape this t → IsCallableAt (MayCallAt F.pre this.bytes) (items t) }
+        requires callable { (t : Tree Place) → IsMap E K.shape V.shape this t
+            → IsCallableAt (MayCallAt F.pre this.bytes) (items t) }
         ensures { (t : Tree Place) → IsMap E K.shape V.shape this.entry t → MatchOption result
             (VisitsAll (CallsAt F.step this.entry.bytes) visit.old visit.new (items t))
             (λ value. BreaksWith (CallsAt F.step this.entry.bytes) visit.old visit.new (items t) value) }

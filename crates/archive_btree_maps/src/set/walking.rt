@@ -16,7 +16,8 @@ impl<K: Portable, const E: usize> ArchivedBTreeSet<K, E> {
     /// Returns an iterator over the keys in their order.
     pub fn iter<'a>(this: Ref<'a, ArchivedBTreeSet<K, E>>) -> Iter<'a, K>
         requires has { HasSet E K.shape K.knows this.bytes.now this.pos }
-        ensures { (t : Tree Place) → IsSet E K.shape this.entry t → result ≡ map (key_at this.entry.bytes) (items t) }
+        ensures { (t : Tree Place) → IsSet E K.shape this.entry t
+            → result ≡ map (key_at this.entry.bytes) (items t) }
     {
         Iter::new(ArchivedBTreeMap::keys(as_map(this)))
     }
@@ -28,7 +29,8 @@ impl<K: Portable, const E: usize> ArchivedBTreeSet<K, E> {
         visit: &mut F,
     ) -> Option<B>
         requires has { HasSet E K.shape K.knows this.bytes.now this.pos }
-        requires callable { (t : Tree Place) → IsSet E K.shape this t → All (λ e. (f : F) → F.pre f (key_at this.bytes e)) (items t) }
+        requires callable { (t : Tree Place) → IsSet E K.shape this t
+            → All (λ e. (f : F) → F.pre f (key_at this.bytes e)) (items t) }
         ensures { (t : Tree Place) → IsSet E K.shape this.entry t → MatchOption result
             (VisitsAll F.step visit.old visit.new (map (key_at this.entry.bytes) (items t)))
             (λ value. BreaksWith F.step visit.old visit.new (map (key_at this.entry.bytes) (items t)) value) }

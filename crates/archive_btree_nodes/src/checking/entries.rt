@@ -28,7 +28,8 @@ fn check_entry<
     requires value_fits { value_pos + size_of V.shape ≤ length bytes.now }
     requires range { IsWithin (C.kept context.old) (length bytes.now) }
     requires takes_key { StepTakes F.Fn C.kept bytes.now K.shape key_step.now (C.kept context.old) 0 }
-    requires takes_value { StepTakes G.Fn C.kept bytes.now V.shape value_step.now (C.kept context.old) 0 }
+    requires takes_value { StepTakes G.Fn C.kept bytes.now V.shape value_step.now
+        (C.kept context.old) 0 }
     requires checks_key { StepChecks F.Fn C.kept bytes.now K.shape key_step.now K.knows }
     requires checks_value { StepChecks G.Fn C.kept bytes.now V.shape value_step.now V.knows }
     ensures moves { Moves (C.kept context.old) result (C.kept context.new) }
@@ -59,8 +60,10 @@ pub(crate) fn check_entries<
     requires keys_fit { key_pos + count * size_of K.shape ≤ length bytes.now }
     requires values_fit { value_pos + count * size_of V.shape ≤ length bytes.now }
     requires range { IsWithin (C.kept context.old) (length bytes.now) }
-    requires takes_key { 0 < count → StepTakes F.Fn C.kept bytes.now K.shape key_step.now (C.kept context.old) 0 }
-    requires takes_value { 0 < count → StepTakes G.Fn C.kept bytes.now V.shape value_step.now (C.kept context.old) 0 }
+    requires takes_key { 0 < count → StepTakes F.Fn C.kept bytes.now K.shape key_step.now
+        (C.kept context.old) 0 }
+    requires takes_value { 0 < count → StepTakes G.Fn C.kept bytes.now V.shape value_step.now
+        (C.kept context.old) 0 }
     requires checks_key { StepChecks F.Fn C.kept bytes.now K.shape key_step.now K.knows }
     requires checks_value { StepChecks G.Fn C.kept bytes.now V.shape value_step.now V.knows }
     ensures moves { Moves (C.kept context.old) result (C.kept context.new) }

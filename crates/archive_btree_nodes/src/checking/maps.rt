@@ -37,7 +37,8 @@ pub fn check_btree_each<
     requires fits { pos + 8 ≤ length bytes.now }
     requires range { IsWithin (C.kept context.old) (length bytes.now) }
     requires takes_key { StepTakes F.Fn C.kept bytes.now K.shape key_step (C.kept context.old) K.SIZE }
-    requires takes_value { StepTakes G.Fn C.kept bytes.now V.shape value_step (C.kept context.old) V.SIZE }
+    requires takes_value { StepTakes G.Fn C.kept bytes.now V.shape value_step
+        (C.kept context.old) V.SIZE }
     requires checks_key { StepChecks F.Fn C.kept bytes.now K.shape key_step K.knows }
     requires checks_value { StepChecks G.Fn C.kept bytes.now V.shape value_step V.knows }
     ensures moves { Moves (C.kept context.old) result (C.kept context.new) }

@@ -39,8 +39,10 @@ fn check_leaf<
     requires layout { IsNodeLayout E K.shape V.shape layout }
     requires begins { BeginsNode (range_of (C.kept context.old)) bytes.now E K.shape V.shape pos 0 }
     requires range { IsWithin (C.kept context.old) (length bytes.now) }
-    requires takes_key { StepTakes F.Fn C.kept bytes.now K.shape key_step.now (C.kept context.old) K.SIZE }
-    requires takes_value { StepTakes G.Fn C.kept bytes.now V.shape value_step.now (C.kept context.old) V.SIZE }
+    requires takes_key { StepTakes F.Fn C.kept bytes.now K.shape key_step.now
+        (C.kept context.old) K.SIZE }
+    requires takes_value { StepTakes G.Fn C.kept bytes.now V.shape value_step.now
+        (C.kept context.old) V.SIZE }
     requires checks_key { StepChecks F.Fn C.kept bytes.now K.shape key_step.now K.knows }
     requires checks_value { StepChecks G.Fn C.kept bytes.now V.shape value_step.now V.knows }
     ensures moves { IfOk result (λ _. Advances (C.kept context.old) (C.kept context.new)) }
@@ -91,8 +93,10 @@ pub(crate) fn check_node<
     requires level { level ≤ 32 }
     requires layout { IsNodeLayout E K.shape V.shape layout }
     requires range { IsWithin (C.kept context.old) (length bytes.now) }
-    requires takes_key { StepTakes F.Fn C.kept bytes.now K.shape key_step.now (C.kept context.old) K.SIZE }
-    requires takes_value { StepTakes G.Fn C.kept bytes.now V.shape value_step.now (C.kept context.old) V.SIZE }
+    requires takes_key { StepTakes F.Fn C.kept bytes.now K.shape key_step.now
+        (C.kept context.old) K.SIZE }
+    requires takes_value { StepTakes G.Fn C.kept bytes.now V.shape value_step.now
+        (C.kept context.old) V.SIZE }
     requires checks_key { StepChecks F.Fn C.kept bytes.now K.shape key_step.now K.knows }
     requires checks_value { StepChecks G.Fn C.kept bytes.now V.shape value_step.now V.knows }
     ensures moves { IfOk result (λ _. Advances (C.kept context.old) (C.kept context.new)) }
@@ -132,8 +136,10 @@ fn check_inner<
     requires layout { IsNodeLayout E K.shape V.shape layout }
     requires begins { BeginsNode (range_of (C.kept context.old)) bytes.now E K.shape V.shape pos 1 }
     requires range { IsWithin (C.kept context.old) (length bytes.now) }
-    requires takes_key { StepTakes F.Fn C.kept bytes.now K.shape key_step.now (C.kept context.old) K.SIZE }
-    requires takes_value { StepTakes G.Fn C.kept bytes.now V.shape value_step.now (C.kept context.old) V.SIZE }
+    requires takes_key { StepTakes F.Fn C.kept bytes.now K.shape key_step.now
+        (C.kept context.old) K.SIZE }
+    requires takes_value { StepTakes G.Fn C.kept bytes.now V.shape value_step.now
+        (C.kept context.old) V.SIZE }
     requires checks_key { StepChecks F.Fn C.kept bytes.now K.shape key_step.now K.knows }
     requires checks_value { StepChecks G.Fn C.kept bytes.now V.shape value_step.now V.knows }
     ensures moves { IfOk result (λ _. Advances (C.kept context.old) (C.kept context.new)) }
@@ -187,8 +193,10 @@ fn check_children<
     requires layout { IsNodeLayout E K.shape V.shape layout }
     requires fits { pos + (E + 1) * 4 ≤ length bytes.now }
     requires range { IsWithin (C.kept context.old) (length bytes.now) }
-    requires takes_key { StepTakes F.Fn C.kept bytes.now K.shape key_step.now (C.kept context.old) K.SIZE }
-    requires takes_value { StepTakes G.Fn C.kept bytes.now V.shape value_step.now (C.kept context.old) V.SIZE }
+    requires takes_key { StepTakes F.Fn C.kept bytes.now K.shape key_step.now
+        (C.kept context.old) K.SIZE }
+    requires takes_value { StepTakes G.Fn C.kept bytes.now V.shape value_step.now
+        (C.kept context.old) V.SIZE }
     requires checks_key { StepChecks F.Fn C.kept bytes.now K.shape key_step.now K.knows }
     requires checks_value { StepChecks G.Fn C.kept bytes.now V.shape value_step.now V.knows }
     ensures moves { IfOk result (λ _. Advances (C.kept context.old) (C.kept context.new)) }
@@ -235,8 +243,10 @@ fn check_child<
     requires layout { IsNodeLayout E K.shape V.shape layout }
     requires fits { pos + 4 ≤ length bytes.now }
     requires range { IsWithin (C.kept context.old) (length bytes.now) }
-    requires takes_key { StepTakes F.Fn C.kept bytes.now K.shape key_step.now (C.kept context.old) K.SIZE }
-    requires takes_value { StepTakes G.Fn C.kept bytes.now V.shape value_step.now (C.kept context.old) V.SIZE }
+    requires takes_key { StepTakes F.Fn C.kept bytes.now K.shape key_step.now
+        (C.kept context.old) K.SIZE }
+    requires takes_value { StepTakes G.Fn C.kept bytes.now V.shape value_step.now
+        (C.kept context.old) V.SIZE }
     requires checks_key { StepChecks F.Fn C.kept bytes.now K.shape key_step.now K.knows }
     requires checks_value { StepChecks G.Fn C.kept bytes.now V.shape value_step.now V.knows }
     ensures moves { IfOk result (λ _. Advances (C.kept context.old) (C.kept context.new)) }

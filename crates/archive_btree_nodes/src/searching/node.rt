@@ -16,7 +16,9 @@ pub struct EntryAt {
 /// Returns the position that the pointer at `link` points to, if the pointer is valid.
 fn follow(bytes: &[u8], link: usize) -> Option<usize>
     requires room { link + 4 ≤ length bytes.now }
-    requires leads { (layout.word_at bytes.now link ≡ 1 → ⊥) → (child : ℕ) × (layout.target_from link (layout.word_at bytes.now link) ≡ Some child) × (child < 2 ^ 64) }
+    requires leads { (layout.word_at bytes.now link ≡ 1 → ⊥)
+        → (child : ℕ) × (layout.target_from link (layout.word_at bytes.now link) ≡ Some child)
+        × (child < 2 ^ 64) }
     ensures { result ≡ pointer_at bytes.now link }
 {
     let word = read_word(bytes, link);

@@ -53,7 +53,8 @@ impl<'a> Range<'a> {
     ) -> Self
         requires tree { (t : Tree Place) × IsTreeAt bytes.now layout 1 root t
             × All (λ e. F.pre precedes.now e.key) (items t) × All (λ e. G.pre follows.now e.key) (items t) }
-        ensures within { (t : Tree Place) → IsTreeAt bytes.now layout 1 root t → IsRun result (items t) }
+        ensures within { (t : Tree Place) → IsTreeAt bytes.now layout 1 root t
+            → IsRun result (items t) }
         ensures between { (t : Tree Place) (p q : Place → Bool) → IsTreeAt bytes.now layout 1 root t
             → Decides F.post precedes.now p (items t) → Decides G.post follows.now q (items t)
             → Stays (λ e. not (p e)) (items t) → Stays q (items t)
@@ -72,7 +73,8 @@ impl<'a> Range<'a> {
     /// Returns an iterator over the entries that a walk has left.
     pub(crate) fn from_walk(bytes: &'a [u8], walk: EntryWalk) -> Self
         requires { IsStack bytes.now walk.layout walk.stack.nodes walk.stack.nexts walk.stack.depth }
-        ensures { result ≡ before_key walk.end (stack_items bytes.entry.now walk.layout walk.stack.nodes walk.stack.nexts walk.stack.depth) }
+        ensures { result ≡ before_key walk.end
+            (stack_items bytes.entry.now walk.layout walk.stack.nodes walk.stack.nexts walk.stack.depth) }
     {
         Range {
             bytes,

@@ -35,7 +35,8 @@ fn search_keys<F: Fn(usize) -> Ordering>(
     requires room { first + count * size < 2 ^ 64 }
     ensures within { IsWithin count result }
     ensures equal { IsEqualTo F.post compare.now first size result }
-    ensures answers { (order : ℕ → Ordering) → OrdersKeys F.post compare.now order first size count → Answers order count result }
+    ensures answers { (order : ℕ → Ordering) → OrdersKeys F.post compare.now order first size count
+        → Answers order count result }
 {
     for i in 0..count {
         match compare(first + i * size) {
@@ -55,9 +56,12 @@ pub fn search_counted<F: Fn(usize) -> Ordering>(
     layout: NodeLayout,
     compare: &F,
 ) -> (Option<EntryAt>, usize)
-    requires tree { (t : Tree Place) × IsTreeAt bytes.now layout 1 root t × All (λ e. F.pre compare.now e.key) (items t) }
-    ensures found { (t : Tree Place) → IsTreeAt bytes.now layout 1 root t → IsAmong F.post compare.now (items t) result.0 }
-    ensures answers { (t : Tree Place) (order : Place → Ordering) → IsTreeAt bytes.now layout 1 root t → Orders F.post compare.now order (items t)
+    requires tree { (t : Tree Place) × IsTreeAt bytes.now layout 1 root t
+        × All (λ e. F.pre compare.now e.key) (items t) }
+    ensures found { (t : Tree Place) → IsTreeAt bytes.now layout 1 root t
+        → IsAmong F.post compare.now (items t) result.0 }
+    ensures answers { (t : Tree Place) (order : Place → Ordering) → IsTreeAt bytes.now layout 1 root t
+        → Orders F.post compare.now order (items t)
         → (option_map place_of result.0 ≡ descend order t) × (result.1 ≡ min (met order t) (2 ^ 64 - 1)) }
 {
     let _len = bytes.len();
@@ -89,9 +93,12 @@ pub fn search_tree<F: Fn(usize) -> Ordering>(
     layout: NodeLayout,
     compare: &F,
 ) -> Option<EntryAt>
-    requires tree { (t : Tree Place) × IsTreeAt bytes.now layout 1 root t × All (λ e. F.pre compare.now e.key) (items t) }
-    ensures found { (t : Tree Place) → IsTreeAt bytes.now layout 1 root t → IsAmong F.post compare.now (items t) result }
-    ensures answers { (t : Tree Place) (order : Place → Ordering) → IsTreeAt bytes.now layout 1 root t → Orders F.post compare.now order (items t)
+    requires tree { (t : Tree Place) × IsTreeAt bytes.now layout 1 root t
+        × All (λ e. F.pre compare.now e.key) (items t) }
+    ensures found { (t : Tree Place) → IsTreeAt bytes.now layout 1 root t
+        → IsAmong F.post compare.now (items t) result }
+    ensures answers { (t : Tree Place) (order : Place → Ordering) → IsTreeAt bytes.now layout 1 root t
+        → Orders F.post compare.now order (items t)
         → option_map place_of result ≡ descend order t }
 {
     search_counted(bytes, root, layout, compare).0

@@ -26,7 +26,8 @@ impl EntryWalk {
     /// Returns a walk over the tree at a root.
     pub fn new(bytes: &[u8], root: usize, layout: NodeLayout) -> Self
         requires tree { (t : Tree Place) × IsTreeAt bytes.now layout 1 root t }
-        ensures { (t : Tree Place) → IsTreeAt bytes.now layout 1 root t → HasLeft bytes.now layout root result (items t) }
+        ensures { (t : Tree Place) → IsTreeAt bytes.now layout 1 root t
+            → HasLeft bytes.now layout root result (items t) }
     {
         EntryWalk {
             layout,
@@ -58,7 +59,8 @@ impl EntryWalk {
     ) -> Self
         requires tree { (t : Tree Place) × IsTreeAt bytes.now layout 1 root t
             × All (λ e. F.pre precedes.now e.key) (items t) × All (λ e. G.pre follows.now e.key) (items t) }
-        ensures within { (t : Tree Place) → IsTreeAt bytes.now layout 1 root t → (es : List Place) × HasLeft bytes.now layout root result es × IsRun es (items t) }
+        ensures within { (t : Tree Place) → IsTreeAt bytes.now layout 1 root t
+            → (es : List Place) × HasLeft bytes.now layout root result es × IsRun es (items t) }
         ensures between { (t : Tree Place) (p q : Place → Bool) → IsTreeAt bytes.now layout 1 root t
             → Decides F.post precedes.now p (items t) → Decides G.post follows.now q (items t)
             → Stays (λ e. not (p e)) (items t) → Stays q (items t)
@@ -86,8 +88,10 @@ impl EntryWalk {
     /// Passes the next entry and returns it. The bytes may differ from those of the previous step, as long as the walk
     /// has the same entries left in them.
     pub fn step(&mut self, bytes: &[u8]) -> Option<EntryAt>
-        requires { (l : NodeLayout) × (root : ℕ) × (es : List Place) × HasLeft bytes.now l root self.old es }
-        ensures { (l : NodeLayout) (root : ℕ) (es : List Place) → HasLeft bytes.now l root self.old es → MatchOption result
+        requires { (l : NodeLayout) × (root : ℕ) × (es : List Place)
+            × HasLeft bytes.now l root self.old es }
+        ensures { (l : NodeLayout) (root : ℕ) (es : List Place) → HasLeft bytes.now l root self.old es
+            → MatchOption result
             ((es ≡ []) × HasLeft bytes.now l root self.new [])
             (λ e. (rest : List Place) × (es ≡ place_of e ∷ rest) × HasLeft bytes.now l root self.new rest) }
     {
@@ -96,8 +100,10 @@ impl EntryWalk {
 
     /// Returns an iterator over the entries that are left, in bytes that do not change.
     pub fn over(self, bytes: &[u8]) -> Range<'_>
-        requires { (l : NodeLayout) × (root : ℕ) × (es : List Place) × HasLeft bytes.now l root self es }
-        ensures { (l : NodeLayout) (root : ℕ) (es : List Place) → HasLeft bytes.entry.now l root self es → result ≡ es }
+        requires { (l : NodeLayout) × (root : ℕ) × (es : List Place)
+            × HasLeft bytes.now l root self es }
+        ensures { (l : NodeLayout) (root : ℕ) (es : List Place) → HasLeft bytes.entry.now l root self es
+            → result ≡ es }
     {
         Range::from_walk(bytes, self)
     }

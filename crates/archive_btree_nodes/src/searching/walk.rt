@@ -43,7 +43,8 @@ impl Stack {
         requires { (t : Tree Place) × IsTreeAt bytes.now layout 1 root t }
         ensures stands { IsStack bytes.now layout result.nodes result.nexts result.depth }
         ensures reached { AreReached bytes.now layout root result.nodes result.depth }
-        ensures items { (t : Tree Place) → IsTreeAt bytes.now layout 1 root t → stack_items bytes.now layout result.nodes result.nexts result.depth ≡ items t }
+        ensures items { (t : Tree Place) → IsTreeAt bytes.now layout 1 root t
+            → stack_items bytes.now layout result.nodes result.nexts result.depth ≡ items t }
     {
         let mut stack = Stack::new();
         push_first(&mut stack, bytes, layout, Some(root));
@@ -59,12 +60,14 @@ impl Stack {
         layout: NodeLayout,
         passes: &F,
     ) -> Self
-        requires tree { (t : Tree Place) × IsTreeAt bytes.now layout 1 root t × All (λ e. F.pre passes.now e.key) (items t) }
+        requires tree { (t : Tree Place) × IsTreeAt bytes.now layout 1 root t
+            × All (λ e. F.pre passes.now e.key) (items t) }
         ensures stands { IsStack bytes.now layout result.nodes result.nexts result.depth }
         ensures reached { AreReached bytes.now layout root result.nodes result.depth }
         ensures left { (t : Tree Place) → IsTreeAt bytes.now layout 1 root t
             → (before : List Place) × (items t ≡ before ++ stack_items bytes.now layout result.nodes result.nexts result.depth) }
-        ensures first { IfFirst (λ e. F.post passes.now e.key false) (stack_items bytes.now layout result.nodes result.nexts result.depth) }
+        ensures first { IfFirst (λ e. F.post passes.now e.key false)
+            (stack_items bytes.now layout result.nodes result.nexts result.depth) }
         ensures rest { (t : Tree Place) (test : Place → Bool) → IsTreeAt bytes.now layout 1 root t
             → Decides F.post passes.now test (items t) → Stays (λ e. not (test e)) (items t)
             → stack_items bytes.now layout result.nodes result.nexts result.depth ≡ filter (λ e. not (test e)) (items t) }
@@ -113,7 +116,8 @@ fn count_passing<F: Fn(usize) -> bool>(first: usize, size: usize, count: usize, 
 /// Pushes a child, if there is one, then its first child and so on, down to the node that has the next entry.
 fn push_first(stack: &mut Stack, bytes: &[u8], layout: NodeLayout, mut child: Option<usize>)
     requires stands { IsStack bytes.now layout stack.old.nodes stack.old.nexts stack.old.depth }
-    requires leads { IfSome child (λ pos. (t : Tree Place) × IsTreeAt bytes.now layout (stack.old.depth + 1) pos t) }
+    requires leads { IfSome child (λ pos. (t : Tree Place)
+        × IsTreeAt bytes.now layout (stack.old.depth + 1) pos t) }
     ensures stands { IsStack bytes.now layout stack.new.nodes stack.new.nexts stack.new.depth }
     ensures reached { (root : ℕ) → AreReached bytes.now layout root stack.old.nodes stack.old.depth
         → IfSome child (IsReached bytes.now layout root stack.old.depth) → AreReached bytes.now layout root stack.new.nodes stack.new.depth }
@@ -207,7 +211,8 @@ impl<'a> Model for Walk<'a> {
 impl<'a> Walk<'a> {
     /// Returns a walk over the tree at a root, which has `len` items.
     pub fn new(bytes: &'a [u8], root: usize, layout: NodeLayout, len: usize) -> Self
-        requires tree { (t : Tree Place) × IsTreeAt bytes.now layout 1 root t × (length (items t) ≡ len) }
+        requires tree { (t : Tree Place) × IsTreeAt bytes.now layout 1 root t
+            × (length (items t) ≡ len) }
         ensures { (t : Tree Place) → IsTreeAt bytes.now layout 1 root t → result ≡ items t }
     {
         Walk {

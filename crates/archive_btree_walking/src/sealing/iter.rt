@@ -29,7 +29,8 @@ impl<'a, K: Portable, V: Portable> IterSeal<'a, K, V> {
     pub fn new(bytes: &'a mut [u8], walk: EntryWalk, left: usize) -> Self
         ensures same_reference { result.bytes.ghost_name ≡ bytes.entry.ghost_name }
         ensures bytes { result.bytes.now ≡ bytes.old }
-        ensures entries { (most : ℕ) (m : BegunMap most K.shape V.shape K.knows V.knows) (es : List Place) → GoesOn m walk es → left ≡ length es → HasEntries m result es }
+        ensures entries { (most : ℕ) (m : BegunMap most K.shape V.shape K.knows V.knows)
+            (es : List Place) → GoesOn m walk es → left ≡ length es → HasEntries m result es }
     {
         IterSeal {
             bytes,
@@ -41,11 +42,14 @@ impl<'a, K: Portable, V: Portable> IterSeal<'a, K, V> {
 
     /// Passes the next entry, and returns the positions of its key and its value.
     pub fn advance(&mut self) -> Option<EntryAt>
-        requires { (most : ℕ) × (m : BegunMap most K.shape V.shape K.knows V.knows) × (es : List Place) × HasEntries m self.old es × IsWritten m self.old.bytes.now }
+        requires { (most : ℕ) × (m : BegunMap most K.shape V.shape K.knows V.knows) × (es : List Place)
+            × HasEntries m self.old es × IsWritten m self.old.bytes.now }
         ensures same_reference { self.new.bytes.ghost_name ≡ self.old.bytes.ghost_name }
         ensures bytes { self.new.bytes.now ≡ self.old.bytes.now }
-        ensures there { IfSome result (λ e. HasValue K.shape K.knows (take e.value self.old.bytes.now) e.key × (e.value + V.SIZE ≤ length self.old.bytes.now)) }
-        ensures steps { (most : ℕ) (m : BegunMap most K.shape V.shape K.knows V.knows) (es : List Place) → HasEntries m self.old es → IsWritten m self.old.bytes.now → MatchOption result
+        ensures there { IfSome result (λ e. HasValue K.shape K.knows
+            (take e.value self.old.bytes.now) e.key × (e.value + V.SIZE ≤ length self.old.bytes.now)) }
+        ensures steps { (most : ℕ) (m : BegunMap most K.shape V.shape K.knows V.knows) (es : List Place)
+            → HasEntries m self.old es → IsWritten m self.old.bytes.now → MatchOption result
             ((es ≡ []) × HasEntries m self.new [])
             (λ e. (rest : List Place) × (es ≡ place_of e ∷ rest) × HasEntries m self.new rest) }
     {
@@ -63,9 +67,12 @@ impl<'a, K: Portable, V: Portable> IterSeal<'a, K, V> {
     /// specify the archive's bytes after the loan: a caller that needs them calls `advance`, and makes the seal of
     /// those bytes.
     pub fn next(&mut self) -> Option<(Ref<'_, K>, OwnSeal<'_, V>)>
-        requires { (most : ℕ) × (m : BegunMap most K.shape V.shape K.knows V.knows) × (es : List Place) × HasEntries m self.old es × IsWritten m self.old.bytes.now }
-        ensures there { IfSome result (λ r. HasValue K.shape K.knows r.0.bytes.now r.0.pos × (length r.1.own.now ≡ V.SIZE)) }
-        ensures lends { (most : ℕ) (m : BegunMap most K.shape V.shape K.knows V.knows) (es : List Place) → HasEntries m self.old es → IsWritten m self.old.bytes.now → MatchOption result
+        requires { (most : ℕ) × (m : BegunMap most K.shape V.shape K.knows V.knows) × (es : List Place)
+            × HasEntries m self.old es × IsWritten m self.old.bytes.now }
+        ensures there { IfSome result (λ r. HasValue K.shape K.knows r.0.bytes.now r.0.pos
+            × (length r.1.own.now ≡ V.SIZE)) }
+        ensures lends { (most : ℕ) (m : BegunMap most K.shape V.shape K.knows V.knows) (es : List Place)
+            → HasEntries m self.old es → IsWritten m self.old.bytes.now → MatchOption result
             (es ≡ [])
             (λ r. (e : Place) × (rest : List Place) × (es ≡ e ∷ rest) × IsLent V.SIZE self.old.bytes.now e r.0 r.1) }
     {
@@ -77,7 +84,8 @@ impl<'a, K: Portable, V: Portable> IterSeal<'a, K, V> {
 
     /// Returns the number of entries that are left.
     pub fn len(&self) -> usize
-        ensures { (most : ℕ) (m : BegunMap most K.shape V.shape K.knows V.knows) (es : List Place) → HasEntries m self.now es → result ≡ length es }
+        ensures { (most : ℕ) (m : BegunMap most K.shape V.shape K.knows V.knows) (es : List Place)
+            → HasEntries m self.now es → result ≡ length es }
     {
         self.left
     }
@@ -92,11 +100,13 @@ pub struct ValuesSeal<'a, K, V> {
 impl<'a, K: Portable, V: Portable> ValuesSeal<'a, K, V> {
     /// Passes the next value, and returns its position.
     pub fn advance(&mut self) -> Option<usize>
-        requires { (most : ℕ) × (m : BegunMap most K.shape V.shape K.knows V.knows) × (es : List Place) × HasValues m self.old es × IsWritten m self.old.entries.bytes.now }
+        requires { (most : ℕ) × (m : BegunMap most K.shape V.shape K.knows V.knows) × (es : List Place)
+            × HasValues m self.old es × IsWritten m self.old.entries.bytes.now }
         ensures same_reference { self.new.entries.bytes.ghost_name ≡ self.old.entries.bytes.ghost_name }
         ensures bytes { self.new.entries.bytes.now ≡ self.old.entries.bytes.now }
         ensures there { IfSome result (λ at. at + V.SIZE ≤ length self.old.entries.bytes.now) }
-        ensures steps { (most : ℕ) (m : BegunMap most K.shape V.shape K.knows V.knows) (es : List Place) → HasValues m self.old es → IsWritten m self.old.entries.bytes.now → MatchOption result
+        ensures steps { (most : ℕ) (m : BegunMap most K.shape V.shape K.knows V.knows) (es : List Place)
+            → HasValues m self.old es → IsWritten m self.old.entries.bytes.now → MatchOption result
             ((es ≡ []) × HasValues m self.new [])
             (λ at. (e : Place) × (rest : List Place) × (es ≡ e ∷ rest) × (e.value ≡ at) × HasValues m self.new rest) }
     {
@@ -109,9 +119,11 @@ impl<'a, K: Portable, V: Portable> ValuesSeal<'a, K, V> {
     /// Passes the next value, and returns it with only its own bytes. The contract does not specify the archive's bytes
     /// after the loan: a caller that needs them calls `advance`, and makes the seal of those bytes.
     pub fn next(&mut self) -> Option<OwnSeal<'_, V>>
-        requires { (most : ℕ) × (m : BegunMap most K.shape V.shape K.knows V.knows) × (es : List Place) × HasValues m self.old es × IsWritten m self.old.entries.bytes.now }
+        requires { (most : ℕ) × (m : BegunMap most K.shape V.shape K.knows V.knows) × (es : List Place)
+            × HasValues m self.old es × IsWritten m self.old.entries.bytes.now }
         ensures there { IfSome result (λ r. length r.own.now ≡ V.SIZE) }
-        ensures lends { (most : ℕ) (m : BegunMap most K.shape V.shape K.knows V.knows) (es : List Place) → HasValues m self.old es → IsWritten m self.old.entries.bytes.now → MatchOption result
+        ensures lends { (most : ℕ) (m : BegunMap most K.shape V.shape K.knows V.knows) (es : List Place)
+            → HasValues m self.old es → IsWritten m self.old.entries.bytes.now → MatchOption result
             (es ≡ [])
             (λ r. (e : Place) × (rest : List Place) × (es ≡ e ∷ rest) × IsOwnValue V.SIZE self.old.entries.bytes.now e r) }
     {
@@ -123,7 +135,8 @@ impl<'a, K: Portable, V: Portable> ValuesSeal<'a, K, V> {
 
     /// Returns the number of values that are left.
     pub fn len(&self) -> usize
-        ensures { (most : ℕ) (m : BegunMap most K.shape V.shape K.knows V.knows) (es : List Place) → HasValues m self.now es → result ≡ length es }
+        ensures { (most : ℕ) (m : BegunMap most K.shape V.shape K.knows V.knows) (es : List Place)
+            → HasValues m self.now es → result ≡ length es }
     {
         self.entries.len()
     }

@@ -10,9 +10,12 @@ use archive_shape::Portable;
 
 /// Passes the next entry of a walk and returns it.
 pub fn pass_entry<K: Portable, V: Portable>(walk: &mut EntryWalk, bytes: &[u8]) -> Option<EntryAt>
-    requires { (most : ℕ) × (m : BegunMap most K.shape V.shape K.knows V.knows) × (es : List Place) × GoesOn m walk.old es × IsWritten m bytes.now }
-    ensures there { IfSome result (λ e. HasValue K.shape K.knows (take e.value bytes.now) e.key × (e.value + V.SIZE ≤ length bytes.now)) }
-    ensures steps { (most : ℕ) (m : BegunMap most K.shape V.shape K.knows V.knows) (es : List Place) → GoesOn m walk.old es → IsWritten m bytes.now → MatchOption result
+    requires { (most : ℕ) × (m : BegunMap most K.shape V.shape K.knows V.knows) × (es : List Place)
+        × GoesOn m walk.old es × IsWritten m bytes.now }
+    ensures there { IfSome result (λ e. HasValue K.shape K.knows (take e.value bytes.now) e.key
+        × (e.value + V.SIZE ≤ length bytes.now)) }
+    ensures steps { (most : ℕ) (m : BegunMap most K.shape V.shape K.knows V.knows) (es : List Place)
+        → GoesOn m walk.old es → IsWritten m bytes.now → MatchOption result
         ((es ≡ []) × GoesOn m walk.new [])
         (λ e. (rest : List Place) × (es ≡ place_of e ∷ rest) × GoesOn m walk.new rest) }
 {

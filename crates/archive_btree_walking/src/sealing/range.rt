@@ -28,7 +28,8 @@ impl<'a, K: Portable, V: Portable> RangeSeal<'a, K, V> {
     pub fn new(bytes: &'a mut [u8], walk: EntryWalk) -> Self
         ensures same_reference { result.bytes.ghost_name ≡ bytes.entry.ghost_name }
         ensures bytes { result.bytes.now ≡ bytes.old }
-        ensures entries { (most : ℕ) (m : BegunMap most K.shape V.shape K.knows V.knows) (es : List Place) → GoesOn m walk es → HasRange m result es }
+        ensures entries { (most : ℕ) (m : BegunMap most K.shape V.shape K.knows V.knows)
+            (es : List Place) → GoesOn m walk es → HasRange m result es }
     {
         RangeSeal {
             bytes,
@@ -39,11 +40,14 @@ impl<'a, K: Portable, V: Portable> RangeSeal<'a, K, V> {
 
     /// Passes the next entry, and returns the positions of its key and its value.
     pub fn advance(&mut self) -> Option<EntryAt>
-        requires { (most : ℕ) × (m : BegunMap most K.shape V.shape K.knows V.knows) × (es : List Place) × HasRange m self.old es × IsWritten m self.old.bytes.now }
+        requires { (most : ℕ) × (m : BegunMap most K.shape V.shape K.knows V.knows) × (es : List Place)
+            × HasRange m self.old es × IsWritten m self.old.bytes.now }
         ensures same_reference { self.new.bytes.ghost_name ≡ self.old.bytes.ghost_name }
         ensures bytes { self.new.bytes.now ≡ self.old.bytes.now }
-        ensures there { IfSome result (λ e. HasValue K.shape K.knows (take e.value self.old.bytes.now) e.key × (e.value + V.SIZE ≤ length self.old.bytes.now)) }
-        ensures steps { (most : ℕ) (m : BegunMap most K.shape V.shape K.knows V.knows) (es : List Place) → HasRange m self.old es → IsWritten m self.old.bytes.now → MatchOption result
+        ensures there { IfSome result (λ e. HasValue K.shape K.knows
+            (take e.value self.old.bytes.now) e.key × (e.value + V.SIZE ≤ length self.old.bytes.now)) }
+        ensures steps { (most : ℕ) (m : BegunMap most K.shape V.shape K.knows V.knows) (es : List Place)
+            → HasRange m self.old es → IsWritten m self.old.bytes.now → MatchOption result
             ((es ≡ []) × HasRange m self.new [])
             (λ e. (rest : List Place) × (es ≡ place_of e ∷ rest) × HasRange m self.new rest) }
     {
@@ -57,9 +61,12 @@ impl<'a, K: Portable, V: Portable> RangeSeal<'a, K, V> {
     /// specify the archive's bytes after the loan: a caller that needs them calls `advance`, and makes the seal of
     /// those bytes.
     pub fn next(&mut self) -> Option<(Ref<'_, K>, OwnSeal<'_, V>)>
-        requires { (most : ℕ) × (m : BegunMap most K.shape V.shape K.knows V.knows) × (es : List Place) × HasRange m self.old es × IsWritten m self.old.bytes.now }
-        ensures there { IfSome result (λ r. HasValue K.shape K.knows r.0.bytes.now r.0.pos × (length r.1.own.now ≡ V.SIZE)) }
-        ensures lends { (most : ℕ) (m : BegunMap most K.shape V.shape K.knows V.knows) (es : List Place) → HasRange m self.old es → IsWritten m self.old.bytes.now → MatchOption result
+        requires { (most : ℕ) × (m : BegunMap most K.shape V.shape K.knows V.knows) × (es : List Place)
+            × HasRange m self.old es × IsWritten m self.old.bytes.now }
+        ensures there { IfSome result (λ r. HasValue K.shape K.knows r.0.bytes.now r.0.pos
+            × (length r.1.own.now ≡ V.SIZE)) }
+        ensures lends { (most : ℕ) (m : BegunMap most K.shape V.shape K.knows V.knows) (es : List Place)
+            → HasRange m self.old es → IsWritten m self.old.bytes.now → MatchOption result
             (es ≡ [])
             (λ r. (e : Place) × (rest : List Place) × (es ≡ e ∷ rest) × IsLent V.SIZE self.old.bytes.now e r.0 r.1) }
     {

@@ -43,7 +43,9 @@ pub trait NodeStep<T, S: Writer, const E: usize> {
         requires taken { All (takes self.now) entries.now }
         requires room { S.failures serializer.old < 2 ^ 64 - 1 }
         requires state { HasState S.pos S.known serializer.old }
-        ensures { LaysNode E key_shape value_shape keys values S.Writer (record { kind = 0; roots = []; own = map parts entries.now }) serializer.old serializer.new result };
+        ensures { LaysNode E key_shape value_shape keys values S.Writer
+            (record { kind = 0; roots = []; own = map parts entries.now })
+            serializer.old serializer.new result };
 
     /// Writes an inner node, and returns its position. `lesser` has for each entry the position that its lesser pointer
     /// leads to, and `greater` is that of the greater pointer. A pointer without a position leads to nothing.
@@ -60,5 +62,7 @@ pub trait NodeStep<T, S: Writer, const E: usize> {
         requires taken { All (takes self.now) entries.now }
         requires room { S.failures serializer.old < 2 ^ 64 - 1 }
         requires state { HasState S.pos S.known serializer.old }
-        ensures { LaysNode E key_shape value_shape keys values S.Writer (record { kind = 1; roots = lesser.now ++ greater ∷ []; own = map parts entries.now }) serializer.old serializer.new result };
+        ensures { LaysNode E key_shape value_shape keys values S.Writer
+            (record { kind = 1; roots = lesser.now ++ greater ∷ []; own = map parts entries.now })
+            serializer.old serializer.new result };
 }

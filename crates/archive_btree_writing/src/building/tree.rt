@@ -25,9 +25,12 @@ fn build_leaf<T: Copy, S: Writer, N: NodeStep<T, S, E>, I: Iterator<Item = T>, c
     requires room { S.failures serializer.old < 2 ^ 64 - 1 }
     requires state { HasState S.pos S.known serializer.old }
     requires takes { TakesEach I.next_gives (N.takes nodes.now) source.old.entries }
-    ensures calls { OnOk result (I.can_next source.new.entries × IsFinite (I.remaining source.new.entries)) }
-    ensures counts { OnOk result ((source.new.claimed ≡ source.old.claimed) × (source.new.taken ≡ source.old.taken + count)) }
-    ensures built { (above : ℕ) → Builds E N.key_shape N.value_shape N.keys N.values S.Writer (GivesAs N.parts I.next_gives) (suc above) count
+    ensures calls { OnOk result (I.can_next source.new.entries
+        × IsFinite (I.remaining source.new.entries)) }
+    ensures counts { OnOk result ((source.new.claimed ≡ source.old.claimed)
+        × (source.new.taken ≡ source.old.taken + count)) }
+    ensures built { (above : ℕ) → Builds E N.key_shape N.value_shape N.keys N.values S.Writer
+        (GivesAs N.parts I.next_gives) (suc above) count
         source.old.claimed source.old.taken source.old.entries source.new.entries serializer.old serializer.new result }
 {
     let first = take_entry(source)?;
@@ -61,9 +64,12 @@ fn build_tree<T: Copy, S: Writer, N: NodeStep<T, S, E>, I: Iterator<Item = T>, c
     requires room { S.failures serializer.old < 2 ^ 64 - 1 }
     requires state { HasState S.pos S.known serializer.old }
     requires takes { TakesEach I.next_gives (N.takes nodes.now) source.old.entries }
-    ensures calls { OnOk result (I.can_next source.new.entries × IsFinite (I.remaining source.new.entries)) }
-    ensures counts { OnOk result ((source.new.claimed ≡ source.old.claimed) × (source.new.taken ≡ source.old.taken + (wide - 1 + last))) }
-    ensures built { Builds E N.key_shape N.value_shape N.keys N.values S.Writer (GivesAs N.parts I.next_gives) (suc above) (wide - 1 + last)
+    ensures calls { OnOk result (I.can_next source.new.entries
+        × IsFinite (I.remaining source.new.entries)) }
+    ensures counts { OnOk result ((source.new.claimed ≡ source.old.claimed)
+        × (source.new.taken ≡ source.old.taken + (wide - 1 + last))) }
+    ensures built { Builds E N.key_shape N.value_shape N.keys N.values S.Writer
+        (GivesAs N.parts I.next_gives) (suc above) (wide - 1 + last)
         source.old.claimed source.old.taken source.old.entries source.new.entries serializer.old serializer.new result }
 {
     let count = wide - 1 + last;
@@ -96,9 +102,12 @@ fn build_inner<T: Copy, S: Writer, N: NodeStep<T, S, E>, I: Iterator<Item = T>, 
     requires room { S.failures serializer.old < 2 ^ 64 - 1 }
     requires state { HasState S.pos S.known serializer.old }
     requires takes { TakesEach I.next_gives (N.takes nodes.now) source.old.entries }
-    ensures calls { OnOk result (I.can_next source.new.entries × IsFinite (I.remaining source.new.entries)) }
-    ensures counts { OnOk result ((source.new.claimed ≡ source.old.claimed) × (source.new.taken ≡ source.old.taken + (wide - 1 + last))) }
-    ensures built { Builds E N.key_shape N.value_shape N.keys N.values S.Writer (GivesAs N.parts I.next_gives) (suc above) (wide - 1 + last)
+    ensures calls { OnOk result (I.can_next source.new.entries
+        × IsFinite (I.remaining source.new.entries)) }
+    ensures counts { OnOk result ((source.new.claimed ≡ source.old.claimed)
+        × (source.new.taken ≡ source.old.taken + (wide - 1 + last))) }
+    ensures built { Builds E N.key_shape N.value_shape N.keys N.values S.Writer
+        (GivesAs N.parts I.next_gives) (suc above) (wide - 1 + last)
         source.old.claimed source.old.taken source.old.entries source.new.entries serializer.old serializer.new result }
 {
     let below = wide / (E + 1);
@@ -163,9 +172,12 @@ fn build_lesser<T: Copy, S: Writer, N: NodeStep<T, S, E>, I: Iterator<Item = T>,
     requires room { S.failures serializer.old < 2 ^ 64 - 1 }
     requires state { HasState S.pos S.known serializer.old }
     requires takes { TakesEach I.next_gives (N.takes nodes.now) source.old.entries }
-    ensures calls { OnOk result (I.can_next source.new.entries × IsFinite (I.remaining source.new.entries)) }
-    ensures counts { OnOk result ((source.new.claimed ≡ source.old.claimed) × (source.new.taken ≡ source.old.taken + (wide - 1 + last) + 1)) }
-    ensures built { BuildsLesser E N.key_shape N.value_shape N.keys N.values S.Writer N.parts I.next_gives (suc above) (wide - 1 + last)
+    ensures calls { OnOk result (I.can_next source.new.entries
+        × IsFinite (I.remaining source.new.entries)) }
+    ensures counts { OnOk result ((source.new.claimed ≡ source.old.claimed)
+        × (source.new.taken ≡ source.old.taken + (wide - 1 + last) + 1)) }
+    ensures built { BuildsLesser E N.key_shape N.value_shape N.keys N.values
+        S.Writer N.parts I.next_gives (suc above) (wide - 1 + last)
         source.old.claimed source.old.taken source.old.entries source.new.entries serializer.old serializer.new result }
 {
     let child = build_tree::<T, S, N, I, E>(source, serializer, nodes, node, above, wide, last)?;
@@ -217,7 +229,8 @@ pub fn build_tree_each<
     requires room { S.failures serializer.old < 2 ^ 64 - 1 }
     requires state { HasState S.pos S.known serializer.old }
     requires takes { TakesEach I.next_gives (N.takes nodes.now) entries }
-    ensures { BuildsClaimed E N.key_shape N.value_shape N.keys N.values S.Writer (GivesAs N.parts I.next_gives) claimed entries serializer.old serializer.new result }
+    ensures { BuildsClaimed E N.key_shape N.value_shape N.keys N.values S.Writer
+        (GivesAs N.parts I.next_gives) claimed entries serializer.old serializer.new result }
 {
     let (above, wide) = levels_above::<E>(claimed);
     let mut source = Claimed {

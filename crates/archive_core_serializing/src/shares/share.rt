@@ -29,7 +29,8 @@ impl Share {
 
     /// Creates a share with no keys, and with room for `capacity` keys. Returns `OutOfMemory` if the allocation fails.
     pub fn with_capacity(alloc: Global, capacity: usize) -> Result<Self, Error>
-        ensures empty { MatchResult result (λ share. IsNoneMet (⟦<Share as Registry>⟧.known share)) (λ e. e ≡ OutOfMemory) }
+        ensures empty { MatchResult result (λ share. IsNoneMet (⟦<Share as Registry>⟧.known share))
+            (λ e. e ≡ OutOfMemory) }
         ensures room { IfOk result (λ share. capacity ≤ spare share.ends) }
     {
         Ok(Share {

@@ -50,7 +50,8 @@ pub fn access_pos_with_context<'a, T: CheckBytes<C>, C: ArchiveContext>(
         → Checks names bytes.now (root_at pos T.shape) (C.kept context.old) (check_of result) (C.kept context.new) }
     ensures bytes { IfOk result (λ root. root.bytes ≡ bytes.entry) }
     ensures position { IfOk result (λ root. root.pos ≡ pos) }
-    ensures value { (names : Names) (inside : List OpenShared) (before : List Visit) → T.knows names → Records (C.kept context.old).seen inside before
+    ensures value { (names : Names) (inside : List OpenShared) (before : List Visit) → T.knows names
+        → Records (C.kept context.old).seen inside before
         → AllStand names bytes.now (C.kept context.old).start before
         → IfOk result (λ _. HasValue T.shape T.knows bytes.now pos) }
 {
@@ -70,7 +71,8 @@ pub fn access_with_context<'a, T: CheckBytes<C>, C: ArchiveContext>(
         → Checks names bytes.now (root_at (position_of_root (length bytes.now) T.shape) T.shape) (C.kept context.old) (check_of result) (C.kept context.new) }
     ensures bytes { IfOk result (λ root. root.bytes ≡ bytes.entry) }
     ensures position { IfOk result (λ root. root.pos ≡ position_of_root (length bytes.now) T.shape) }
-    ensures value { (names : Names) (inside : List OpenShared) (before : List Visit) → T.knows names → Records (C.kept context.old).seen inside before
+    ensures value { (names : Names) (inside : List OpenShared) (before : List Visit) → T.knows names
+        → Records (C.kept context.old).seen inside before
         → AllStand names bytes.now (C.kept context.old).start before
         → IfOk result (λ _. HasValue T.shape T.knows bytes.now (position_of_root (length bytes.now) T.shape)) }
 {

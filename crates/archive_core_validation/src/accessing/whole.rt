@@ -17,8 +17,10 @@ fn check_pos<T: CheckBytes<HighValidator>>(
     bytes: &[u8],
     pos: usize,
 ) -> Result<(), Error>
-    ensures exact { (names : Names) → T.knows names → Decides names bytes.now T.shape pos unlimited result }
-    ensures value { (names : Names) → T.knows names → IfOk result (λ _. HasValue T.shape T.knows bytes.now pos) }
+    ensures exact { (names : Names) → T.knows names
+        → Decides names bytes.now T.shape pos unlimited result }
+    ensures value { (names : Names) → T.knows names
+        → IfOk result (λ _. HasValue T.shape T.knows bytes.now pos) }
 {
     let mut context = Validator::new(
         ArchiveValidator::new(alloc, bytes),
@@ -36,10 +38,12 @@ pub fn access_pos<'a, T: CheckBytes<HighValidator>>(
     bytes: &'a [u8],
     pos: usize,
 ) -> Result<Ref<'a, T>, Error>
-    ensures exact { (names : Names) → T.knows names → Decides names bytes.now T.shape pos unlimited result }
+    ensures exact { (names : Names) → T.knows names
+        → Decides names bytes.now T.shape pos unlimited result }
     ensures bytes { IfOk result (λ root. root.bytes ≡ bytes.entry) }
     ensures position { IfOk result (λ root. root.pos ≡ pos) }
-    ensures value { (names : Names) → T.knows names → IfOk result (λ _. HasValue T.shape T.knows bytes.now pos) }
+    ensures value { (names : Names) → T.knows names
+        → IfOk result (λ _. HasValue T.shape T.knows bytes.now pos) }
 {
     check_pos::<T>(alloc, bytes, pos)?;
     Ok(Ref::new(bytes, pos))
@@ -69,11 +73,13 @@ pub fn access_pos_mut<'a, T: CheckBytes<HighValidator>>(
     bytes: &'a mut [u8],
     pos: usize,
 ) -> Result<Seal<'a, T>, Error>
-    ensures exact { (names : Names) → T.knows names → Decides names bytes.old T.shape pos unlimited result }
+    ensures exact { (names : Names) → T.knows names
+        → Decides names bytes.old T.shape pos unlimited result }
     ensures same_reference { IfOk result (λ root. root.bytes.ghost_name ≡ bytes.entry.ghost_name) }
     ensures bytes { IfOk result (λ root. root.bytes.now ≡ bytes.old) }
     ensures position { IfOk result (λ root. root.pos ≡ pos) }
-    ensures value { (names : Names) → T.knows names → IfOk result (λ _. HasValue T.shape T.knows bytes.old pos) }
+    ensures value { (names : Names) → T.knows names
+        → IfOk result (λ _. HasValue T.shape T.knows bytes.old pos) }
 {
     match check_pos::<T>(alloc, bytes, pos) {
         Ok(()) => Ok(Seal::new(bytes, pos)),

@@ -25,9 +25,11 @@ pub fn deserialize_array_each<
     F: Fn(&mut D, usize) -> Result<(T, PhantomData<T::Archived>), Error>,
 >(this: Ref<'_, [A; N]>, alloc: Global, deserializer: &mut D, step: F) -> Result<[T; N], Error>
     requires there { HasValue (array N A.shape) A.knows this.bytes.now this.pos }
-    requires takes { StepTakes F.Fn step A.shape A.knows this.bytes.now (this.pos + N * size_of A.shape) }
+    requires takes { StepTakes F.Fn step A.shape A.knows this.bytes.now
+        (this.pos + N * size_of A.shape) }
     requires reads { StepReads F.Fn step A.shape A.knows this.bytes.now (λ q. q.0) A.reads }
-    ensures { Deserializes (reads_all A.reads) (array N A.shape) A.knows this.entry.bytes.now this.entry.pos result }
+    ensures { Deserializes (reads_all A.reads) (array N A.shape) A.knows this.entry.bytes.now
+        this.entry.pos result }
 {
     match deserialize_elements_each(array_slice(this), alloc, deserializer, step) {
         Ok(all) => Ok(<[T; N]>::try_from(all).unwrap()),

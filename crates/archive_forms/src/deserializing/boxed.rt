@@ -30,7 +30,8 @@ pub fn deserialize_box_each<
     requires there { HasValue (box (sized A.shape)) A.knows this.bytes.now this.pos }
     requires takes { StepTakes F.Fn step A.shape A.knows this.bytes.now this.pos }
     requires reads { StepReads F.Fn step A.shape A.knows this.bytes.now (λ q. q.0) A.reads }
-    ensures { Deserializes (reads_in (λ b. b.value) A.reads) (box (sized A.shape)) A.knows this.entry.bytes.now this.entry.pos result }
+    ensures { Deserializes (reads_in (λ b. b.value) A.reads) (box (sized A.shape)) A.knows
+        this.entry.bytes.now this.entry.pos result }
 {
     let value = match step(deserializer, ArchivedBox::get(this).pos) {
         Ok(done) => done.0,

@@ -34,7 +34,8 @@ pub fn deserialize_boxed_slice_each<
     requires there { HasValue (box (slice A.shape)) A.knows this.bytes.now this.pos }
     requires takes { StepTakes F.Fn step A.shape A.knows this.bytes.now this.pos }
     requires reads { StepReads F.Fn step A.shape A.knows this.bytes.now (λ q. q.0) A.reads }
-    ensures { Deserializes (reads_in boxed_slice_items (reads_all A.reads)) (box (slice A.shape)) A.knows this.entry.bytes.now this.entry.pos result }
+    ensures { Deserializes (reads_in boxed_slice_items (reads_all A.reads))
+        (box (slice A.shape)) A.knows this.entry.bytes.now this.entry.pos result }
 {
     let vector = Ref::<ArchivedVec<A>> {
         bytes: this.bytes,

@@ -20,7 +20,8 @@ pub trait Deserialize<T: Archive, D>: ReadBack<T> {
     /// Returns a value that the archived value is read back as. The only error is `OutOfMemory`.
     fn deserialize(this: &Ref<'_, Self>, alloc: Global, deserializer: &mut D) -> Result<T, Error>
         requires { HasValue Self.shape Self.knows this.now.bytes.now this.now.pos }
-        ensures { Deserializes Self.reads Self.shape Self.knows this.now.bytes.now this.now.pos result };
+        ensures { Deserializes Self.reads Self.shape Self.knows this.now.bytes.now
+            this.now.pos result };
 }
 
 /// Reads an element back. It is the step for elements that implement `Deserialize`. The result names the archived form,

@@ -20,9 +20,11 @@ pub(crate) fn deserialize_elements_each<
     F: Fn(&mut D, usize) -> Result<(T, PhantomData<T::Archived>), Error>,
 >(items: SliceRef<'_, A>, alloc: Global, deserializer: &mut D, step: F) -> Result<Vec<T>, Error>
     requires there { HasElements A.shape A.knows items.bytes.now items.pos items.len }
-    requires takes { StepTakes F.Fn step A.shape A.knows items.bytes.now (items.pos + items.len * size_of A.shape) }
+    requires takes { StepTakes F.Fn step A.shape A.knows items.bytes.now
+        (items.pos + items.len * size_of A.shape) }
     requires reads { StepReads F.Fn step A.shape A.knows items.bytes.now (λ q. q.0) A.reads }
-    ensures { DeserializesAll A.reads A.shape A.knows items.entry.bytes.now items.entry.pos items.entry.len (λ all. all.items) result }
+    ensures { DeserializesAll A.reads A.shape A.knows items.entry.bytes.now items.entry.pos
+        items.entry.len (λ all. all.items) result }
 {
     let mut all = Vec::new(alloc);
     for index in 0..items.len() {

@@ -21,5 +21,6 @@ pub fn forms_are_faithful<
     requires second { IsFaithful U.spelling B.reads }
     requires third { IsFaithful V.spelling C.reads }
     requires fourth { IsFaithful W.spelling D.reads }
-    ensures { FormsAreFaithful T.Archived.shape U.Archived.shape V.Archived.shape W.Archived.shape T.spelling U.spelling V.spelling W.spelling A.reads B.reads C.reads D.reads }
+    ensures { FormsAreFaithful T.Archived.shape U.Archived.shape V.Archived.shape W.Archived.shape
+        T.spelling U.spelling V.spelling W.spelling A.reads B.reads C.reads D.reads }
 {}

@@ -23,9 +23,11 @@ pub fn deserialize_option_each<
     F: Fn(&mut D, usize) -> Result<(T, PhantomData<T::Archived>), Error>,
 >(this: Ref<'_, ArchivedOption<A>>, deserializer: &mut D, step: F) -> Result<Option<T>, Error>
     requires there { HasValue (option A.shape) A.knows this.bytes.now this.pos }
-    requires takes { StepTakes F.Fn step A.shape A.knows this.bytes.now (this.pos + size_of (option A.shape)) }
+    requires takes { StepTakes F.Fn step A.shape A.knows this.bytes.now
+        (this.pos + size_of (option A.shape)) }
     requires reads { StepReads F.Fn step A.shape A.knows this.bytes.now (λ q. q.0) A.reads }
-    ensures { Deserializes (reads_option A.reads) (option A.shape) A.knows this.entry.bytes.now this.entry.pos result }
+    ensures { Deserializes (reads_option A.reads) (option A.shape) A.knows this.entry.bytes.now
+        this.entry.pos result }
 {
     match ArchivedOption::as_ref(this) {
         None => Ok(None),

@@ -30,12 +30,17 @@ pub fn deserialize_result_each<
     step: F,
     step_of_error: G,
 ) -> Result<Result<T, E>, Error>
-    requires there { HasValue (result_shape A.shape B.shape) (both A.knows B.knows) this.bytes.now this.pos }
-    requires takes { StepTakes F.Fn step A.shape A.knows this.bytes.now (this.pos + size_of (result_shape A.shape B.shape)) }
+    requires there { HasValue (result_shape A.shape B.shape) (both A.knows B.knows)
+        this.bytes.now this.pos }
+    requires takes { StepTakes F.Fn step A.shape A.knows this.bytes.now
+        (this.pos + size_of (result_shape A.shape B.shape)) }
     requires reads { StepReads F.Fn step A.shape A.knows this.bytes.now (λ q. q.0) A.reads }
-    requires takes_errors { StepTakes G.Fn step_of_error B.shape B.knows this.bytes.now (this.pos + size_of (result_shape A.shape B.shape)) }
-    requires reads_errors { StepReads G.Fn step_of_error B.shape B.knows this.bytes.now (λ q. q.0) B.reads }
-    ensures { Deserializes (reads_result A.reads B.reads) (result_shape A.shape B.shape) (both A.knows B.knows) this.entry.bytes.now this.entry.pos result }
+    requires takes_errors { StepTakes G.Fn step_of_error B.shape B.knows this.bytes.now
+        (this.pos + size_of (result_shape A.shape B.shape)) }
+    requires reads_errors { StepReads G.Fn step_of_error B.shape B.knows this.bytes.now
+        (λ q. q.0) B.reads }
+    ensures { Deserializes (reads_result A.reads B.reads) (result_shape A.shape B.shape)
+        (both A.knows B.knows) this.entry.bytes.now this.entry.pos result }
 {
     match ArchivedResult::as_ref(this) {
         Ok(value) => match step(deserializer, value.pos) {

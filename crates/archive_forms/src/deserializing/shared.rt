@@ -33,7 +33,8 @@ pub fn deserialize_rc_each<
     requires there { HasValue (shared false (sized A.shape)) A.knows this.bytes.now this.pos }
     requires takes { StepTakes F.Fn step A.shape A.knows this.bytes.now this.pos }
     requires reads { StepReads F.Fn step A.shape A.knows this.bytes.now (λ q. q.0) A.reads }
-    ensures value { Deserializes (reads_in (λ x. x.value.value) (reads_counted A.reads)) (shared false (sized A.shape)) A.knows this.entry.bytes.now this.entry.pos result }
+    ensures value { Deserializes (reads_in (λ x. x.value.value) (reads_counted A.reads))
+        (shared false (sized A.shape)) A.knows this.entry.bytes.now this.entry.pos result }
     ensures key { IfOk result (λ x. IsRcAt false A.shape A.knows this.entry.bytes.now this.entry.pos x.key) }
 {
     let key = ArchivedRc::get(this).pos;
@@ -59,7 +60,8 @@ impl<T: Archive + Drop, D, A: Deserialize<T, D>> Deserialize<Shared<Rc<T>>, D>
         deserializer: &mut D,
     ) -> Result<Shared<Rc<T>>, Error>
         requires { HasValue (shared false (sized A.shape)) A.knows this.now.bytes.now this.now.pos }
-        ensures value { Deserializes (reads_in (λ x. x.value.value) (reads_counted A.reads)) (shared false (sized A.shape)) A.knows this.now.bytes.now this.now.pos result }
+        ensures value { Deserializes (reads_in (λ x. x.value.value) (reads_counted A.reads))
+            (shared false (sized A.shape)) A.knows this.now.bytes.now this.now.pos result }
         ensures key { IfOk result (λ x. IsRcAt false A.shape A.knows this.now.bytes.now this.now.pos x.key) }
     {
         let bytes = this.bytes;

@@ -35,7 +35,9 @@ pub fn deserialize_rc_slice_each<
     requires there { HasValue (shared false (slice A.shape)) A.knows this.bytes.now this.pos }
     requires takes { StepTakes F.Fn step A.shape A.knows this.bytes.now this.pos }
     requires reads { StepReads F.Fn step A.shape A.knows this.bytes.now (λ q. q.0) A.reads }
-    ensures value { Deserializes (reads_in (λ x. rc_slice_items x.value) (reads_counted (reads_all A.reads))) (shared false (slice A.shape)) A.knows this.entry.bytes.now this.entry.pos result }
+    ensures value { Deserializes (reads_in (λ x. rc_slice_items x.value)
+        (reads_counted (reads_all A.reads))) (shared false (slice A.shape)) A.knows this.entry.bytes.now
+        this.entry.pos result }
     ensures key { IfOk result (λ x. IsRcSliceAt false A.shape A.knows this.entry.bytes.now this.entry.pos x.key (length (rc_slice_items x.value))) }
 {
     let items = ArchivedRcSlice::get(this);
@@ -62,7 +64,9 @@ impl<T: Archive + Drop, D, A: Deserialize<T, D>> Deserialize<Shared<RcSlice<T>>,
         deserializer: &mut D,
     ) -> Result<Shared<RcSlice<T>>, Error>
         requires { HasValue (shared false (slice A.shape)) A.knows this.now.bytes.now this.now.pos }
-        ensures value { Deserializes (reads_in (λ x. rc_slice_items x.value) (reads_counted (reads_all A.reads))) (shared false (slice A.shape)) A.knows this.now.bytes.now this.now.pos result }
+        ensures value { Deserializes (reads_in (λ x. rc_slice_items x.value)
+            (reads_counted (reads_all A.reads))) (shared false (slice A.shape)) A.knows
+            this.now.bytes.now this.now.pos result }
         ensures key { IfOk result (λ x. IsRcSliceAt false A.shape A.knows this.now.bytes.now this.now.pos x.key (length (rc_slice_items x.value))) }
     {
         let bytes = this.bytes;

@@ -28,8 +28,10 @@ impl<D> Deserialize<Shared<RcStr>, D> for ArchivedRcStr<RcFlavor> {
         _deserializer: &mut D,
     ) -> Result<Shared<RcStr>, Error>
         requires { HasValue (shared false str) (λ _. ⊤) this.now.bytes.now this.now.pos }
-        ensures value { Deserializes (reads_as shared_str_rc_spelling) (shared false str) (λ _. ⊤) this.now.bytes.now this.now.pos result }
-        ensures key { IfOk result (λ x. IsRcStrAt false this.now.bytes.now this.now.pos x.key (length (rc_str_bytes x.value))) }
+        ensures value { Deserializes (reads_as shared_str_rc_spelling) (shared false str) (λ _. ⊤)
+            this.now.bytes.now this.now.pos result }
+        ensures key { IfOk result (λ x. IsRcStrAt false this.now.bytes.now this.now.pos x.key
+            (length (rc_str_bytes x.value))) }
     {
         let key = target_of(this.bytes, this.pos);
         match RcStr::from_str(alloc, ArchivedRcStr::get(*this)) {

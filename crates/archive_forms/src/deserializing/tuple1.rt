@@ -27,9 +27,11 @@ pub fn deserialize_tuple1_each<
     read_first: F,
 ) -> Result<(T,), Error>
     requires there { HasValue (tuple1 A.shape) A.knows this.bytes.now this.pos }
-    requires takes_first { StepTakes F.Fn read_first A.shape A.knows this.bytes.now (this.pos + size_of (tuple1 A.shape)) }
+    requires takes_first { StepTakes F.Fn read_first A.shape A.knows this.bytes.now
+        (this.pos + size_of (tuple1 A.shape)) }
     requires reads_first { StepReads F.Fn read_first A.shape A.knows this.bytes.now (λ q. q.0) A.reads }
-    ensures { Deserializes (reads_tuple1 A.reads) (tuple1 A.shape) A.knows this.entry.bytes.now this.entry.pos result }
+    ensures { Deserializes (reads_tuple1 A.reads) (tuple1 A.shape) A.knows this.entry.bytes.now
+        this.entry.pos result }
 {
     let t = match read_first(deserializer, ArchivedTuple1::first(this).pos) {
         Ok(done) => done.0,

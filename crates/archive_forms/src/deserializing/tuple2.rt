@@ -31,11 +31,15 @@ pub fn deserialize_tuple2_each<
     read_second: G,
 ) -> Result<(T, U), Error>
     requires there { HasValue (tuple2 A.shape B.shape) (both A.knows B.knows) this.bytes.now this.pos }
-    requires takes_first { StepTakes F.Fn read_first A.shape A.knows this.bytes.now (this.pos + size_of (tuple2 A.shape B.shape)) }
+    requires takes_first { StepTakes F.Fn read_first A.shape A.knows this.bytes.now
+        (this.pos + size_of (tuple2 A.shape B.shape)) }
     requires reads_first { StepReads F.Fn read_first A.shape A.knows this.bytes.now (λ q. q.0) A.reads }
-    requires takes_second { StepTakes G.Fn read_second B.shape B.knows this.bytes.now (this.pos + size_of (tuple2 A.shape B.shape)) }
-    requires reads_second { StepReads G.Fn read_second B.shape B.knows this.bytes.now (λ q. q.0) B.reads }
-    ensures { Deserializes (reads_tuple2 A.reads B.reads) (tuple2 A.shape B.shape) (both A.knows B.knows) this.entry.bytes.now this.entry.pos result }
+    requires takes_second { StepTakes G.Fn read_second B.shape B.knows this.bytes.now
+        (this.pos + size_of (tuple2 A.shape B.shape)) }
+    requires reads_second { StepReads G.Fn read_second B.shape B.knows this.bytes.now
+        (λ q. q.0) B.reads }
+    ensures { Deserializes (reads_tuple2 A.reads B.reads) (tuple2 A.shape B.shape)
+        (both A.knows B.knows) this.entry.bytes.now this.entry.pos result }
 {
     let t = match read_first(deserializer, ArchivedTuple2::first(this).pos) {
         Ok(done) => done.0,

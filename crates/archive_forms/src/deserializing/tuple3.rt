@@ -35,14 +35,20 @@ pub fn deserialize_tuple3_each<
     read_second: G,
     read_third: H,
 ) -> Result<(T, U, V), Error>
-    requires there { HasValue (tuple3 A.shape B.shape C.shape) (all_three A.knows B.knows C.knows) this.bytes.now this.pos }
-    requires takes_first { StepTakes F.Fn read_first A.shape A.knows this.bytes.now (this.pos + size_of (tuple3 A.shape B.shape C.shape)) }
+    requires there { HasValue (tuple3 A.shape B.shape C.shape) (all_three A.knows B.knows C.knows)
+        this.bytes.now this.pos }
+    requires takes_first { StepTakes F.Fn read_first A.shape A.knows this.bytes.now
+        (this.pos + size_of (tuple3 A.shape B.shape C.shape)) }
     requires reads_first { StepReads F.Fn read_first A.shape A.knows this.bytes.now (λ q. q.0) A.reads }
-    requires takes_second { StepTakes G.Fn read_second B.shape B.knows this.bytes.now (this.pos + size_of (tuple3 A.shape B.shape C.shape)) }
-    requires reads_second { StepReads G.Fn read_second B.shape B.knows this.bytes.now (λ q. q.0) B.reads }
-    requires takes_third { StepTakes H.Fn read_third C.shape C.knows this.bytes.now (this.pos + size_of (tuple3 A.shape B.shape C.shape)) }
+    requires takes_second { StepTakes G.Fn read_second B.shape B.knows this.bytes.now
+        (this.pos + size_of (tuple3 A.shape B.shape C.shape)) }
+    requires reads_second { StepReads G.Fn read_second B.shape B.knows this.bytes.now
+        (λ q. q.0) B.reads }
+    requires takes_third { StepTakes H.Fn read_third C.shape C.knows this.bytes.now
+        (this.pos + size_of (tuple3 A.shape B.shape C.shape)) }
     requires reads_third { StepReads H.Fn read_third C.shape C.knows this.bytes.now (λ q. q.0) C.reads }
-    ensures { Deserializes (reads_tuple3 A.reads B.reads C.reads) (tuple3 A.shape B.shape C.shape) (all_three A.knows B.knows C.knows) this.entry.bytes.now this.entry.pos result }
+    ensures { Deserializes (reads_tuple3 A.reads B.reads C.reads) (tuple3 A.shape B.shape C.shape)
+        (all_three A.knows B.knows C.knows) this.entry.bytes.now this.entry.pos result }
 {
     let t = match read_first(deserializer, ArchivedTuple3::first(this).pos) {
         Ok(done) => done.0,

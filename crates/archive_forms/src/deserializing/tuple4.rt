@@ -39,16 +39,25 @@ pub fn deserialize_tuple4_each<
     read_third: H,
     read_fourth: I,
 ) -> Result<(T, U, V, W), Error>
-    requires there { HasValue (tuple4 A.shape B.shape C.shape D.shape) (all_four A.knows B.knows C.knows D.knows) this.bytes.now this.pos }
-    requires takes_first { StepTakes F.Fn read_first A.shape A.knows this.bytes.now (this.pos + size_of (tuple4 A.shape B.shape C.shape D.shape)) }
+    requires there { HasValue (tuple4 A.shape B.shape C.shape D.shape)
+        (all_four A.knows B.knows C.knows D.knows) this.bytes.now this.pos }
+    requires takes_first { StepTakes F.Fn read_first A.shape A.knows this.bytes.now
+        (this.pos + size_of (tuple4 A.shape B.shape C.shape D.shape)) }
     requires reads_first { StepReads F.Fn read_first A.shape A.knows this.bytes.now (λ q. q.0) A.reads }
-    requires takes_second { StepTakes G.Fn read_second B.shape B.knows this.bytes.now (this.pos + size_of (tuple4 A.shape B.shape C.shape D.shape)) }
-    requires reads_second { StepReads G.Fn read_second B.shape B.knows this.bytes.now (λ q. q.0) B.reads }
-    requires takes_third { StepTakes H.Fn read_third C.shape C.knows this.bytes.now (this.pos + size_of (tuple4 A.shape B.shape C.shape D.shape)) }
+    requires takes_second { StepTakes G.Fn read_second B.shape B.knows this.bytes.now
+        (this.pos + size_of (tuple4 A.shape B.shape C.shape D.shape)) }
+    requires reads_second { StepReads G.Fn read_second B.shape B.knows this.bytes.now
+        (λ q. q.0) B.reads }
+    requires takes_third { StepTakes H.Fn read_third C.shape C.knows this.bytes.now
+        (this.pos + size_of (tuple4 A.shape B.shape C.shape D.shape)) }
     requires reads_third { StepReads H.Fn read_third C.shape C.knows this.bytes.now (λ q. q.0) C.reads }
-    requires takes_fourth { StepTakes I.Fn read_fourth D.shape D.knows this.bytes.now (this.pos + size_of (tuple4 A.shape B.shape C.shape D.shape)) }
-    requires reads_fourth { StepReads I.Fn read_fourth D.shape D.knows this.bytes.now (λ q. q.0) D.reads }
-    ensures { Deserializes (reads_tuple4 A.reads B.reads C.reads D.reads) (tuple4 A.shape B.shape C.shape D.shape) (all_four A.knows B.knows C.knows D.knows) this.entry.bytes.now this.entry.pos result }
+    requires takes_fourth { StepTakes I.Fn read_fourth D.shape D.knows this.bytes.now
+        (this.pos + size_of (tuple4 A.shape B.shape C.shape D.shape)) }
+    requires reads_fourth { StepReads I.Fn read_fourth D.shape D.knows this.bytes.now
+        (λ q. q.0) D.reads }
+    ensures { Deserializes (reads_tuple4 A.reads B.reads C.reads D.reads)
+        (tuple4 A.shape B.shape C.shape D.shape) (all_four A.knows B.knows C.knows D.knows)
+        this.entry.bytes.now this.entry.pos result }
 {
     let t = match read_first(deserializer, ArchivedTuple4::first(this).pos) {
         Ok(done) => done.0,

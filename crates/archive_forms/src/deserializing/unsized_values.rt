@@ -21,7 +21,8 @@ pub trait DeserializeUnsized<B: Archive, D>: ArchivePointee {
         deserializer: &mut D,
     ) -> Result<B, Error>
         requires { HasValue Self.Boxed.shape Self.Boxed.knows this.now.bytes.now this.now.pos }
-        ensures { Deserializes Self.Boxed.reads Self.Boxed.shape Self.Boxed.knows this.now.bytes.now this.now.pos result };
+        ensures { Deserializes Self.Boxed.reads Self.Boxed.shape Self.Boxed.knows this.now.bytes.now
+            this.now.pos result };
 
     /// The box is one of the layout.
     ghost boxed: { Self.Boxed.shape ≡ box Self.pointee };

@@ -29,7 +29,8 @@ pub fn deserialize_vec_each<
     requires there { HasValue (vector A.shape) A.knows this.bytes.now this.pos }
     requires takes { StepTakes F.Fn step A.shape A.knows this.bytes.now this.pos }
     requires reads { StepReads F.Fn step A.shape A.knows this.bytes.now (λ q. q.0) A.reads }
-    ensures { Deserializes (reads_in (λ xs. xs.items) (reads_all A.reads)) (vector A.shape) A.knows this.entry.bytes.now this.entry.pos result }
+    ensures { Deserializes (reads_in (λ xs. xs.items) (reads_all A.reads)) (vector A.shape) A.knows
+        this.entry.bytes.now this.entry.pos result }
 {
     deserialize_elements_each(ArchivedVec::as_slice(this), alloc, deserializer, step)
 }

@@ -32,7 +32,8 @@ pub fn deserialize_rc_weak_each<
     requires there { HasValue (weak false (sized A.shape)) A.knows this.bytes.now this.pos }
     requires takes { StepTakes F.Fn step A.shape A.knows this.bytes.now (this.pos + 4) }
     requires reads { StepReads F.Fn step A.shape A.knows this.bytes.now (λ q. q.0) A.reads }
-    ensures value { Deserializes (reads_weak A.reads) (weak false (sized A.shape)) A.knows this.entry.bytes.now this.entry.pos result }
+    ensures value { Deserializes (reads_weak A.reads) (weak false (sized A.shape)) A.knows
+        this.entry.bytes.now this.entry.pos result }
     ensures key { IfOk result (λ x. IsKeyedAt A.shape A.knows this.entry.bytes.now this.entry.pos x) }
 {
     let Some(target) = ArchivedRcWeak::upgrade(this) else {
@@ -63,7 +64,8 @@ impl<T: Archive + Drop, D, A: Deserialize<T, D>> Deserialize<SharedWeak<Rc<T>>, 
         deserializer: &mut D,
     ) -> Result<SharedWeak<Rc<T>>, Error>
         requires { HasValue (weak false (sized A.shape)) A.knows this.now.bytes.now this.now.pos }
-        ensures value { Deserializes (reads_weak A.reads) (weak false (sized A.shape)) A.knows this.now.bytes.now this.now.pos result }
+        ensures value { Deserializes (reads_weak A.reads) (weak false (sized A.shape)) A.knows
+            this.now.bytes.now this.now.pos result }
         ensures key { IfOk result (λ x. IsKeyedAt A.shape A.knows this.now.bytes.now this.now.pos x) }
     {
         let bytes = this.bytes;

@@ -34,8 +34,10 @@ impl<'a, T: Archive> ArchiveUnsized for &'a T {
         resolver: BoxResolver,
         out: Place<'_, ArchivedBox<T::Archived>>,
     ) -> Result<(), Error>
-        requires { CanResolve (box_of (seen_as (λ r. r.now) (box_spelling T.Archived.shape T.spelling))) (box (sized T.Archived.shape)) self.now resolver out.out.now out.start out.pos }
-        ensures { Resolves (box_of (seen_as (λ r. r.now) (box_spelling T.Archived.shape T.spelling))) self.now resolver out.entry.pos out.entry.start out.entry.out.now out.exit.0.now result }
+        requires { CanResolve (box_of (seen_as (λ r. r.now) (box_spelling T.Archived.shape T.spelling)))
+            (box (sized T.Archived.shape)) self.now resolver out.out.now out.start out.pos }
+        ensures { Resolves (box_of (seen_as (λ r. r.now) (box_spelling T.Archived.shape T.spelling)))
+            self.now resolver out.entry.pos out.entry.start out.entry.out.now out.exit.0.now result }
     {
         let Place {
             out,
@@ -84,7 +86,8 @@ impl<'a, T: Archive> ArchiveUnsized for &'a [T] {
         out: Place<'_, ArchivedBoxedSlice<T::Archived>>,
     ) -> Result<(), Error>
         requires { CanResolve (box_of (seen_as (λ r. r.now) (slice_spelling T.Archived.shape T.spelling))) (box (slice T.Archived.shape)) self.now resolver out.out.now out.start out.pos }
-        ensures { Resolves (box_of (seen_as (λ r. r.now) (slice_spelling T.Archived.shape T.spelling))) self.now resolver out.entry.pos out.entry.start out.entry.out.now out.exit.0.now result }
+        ensures { Resolves (box_of (seen_as (λ r. r.now) (slice_spelling T.Archived.shape T.spelling)))
+            self.now resolver out.entry.pos out.entry.start out.entry.out.now out.exit.0.now result }
     {
         let Place {
             out,
@@ -136,8 +139,10 @@ impl<'a> ArchiveUnsized for &'a str {
         resolver: BoxResolver,
         out: Place<'_, ArchivedBoxedStr>,
     ) -> Result<(), Error>
-        requires { CanResolve (box_of (seen_as (λ r. r.now) boxed_text_spelling)) (box str) self.now resolver out.out.now out.start out.pos }
-        ensures { Resolves (box_of (seen_as (λ r. r.now) boxed_text_spelling)) self.now resolver out.entry.pos out.entry.start out.entry.out.now out.exit.0.now result }
+        requires { CanResolve (box_of (seen_as (λ r. r.now) boxed_text_spelling)) (box str)
+            self.now resolver out.out.now out.start out.pos }
+        ensures { Resolves (box_of (seen_as (λ r. r.now) boxed_text_spelling)) self.now resolver
+            out.entry.pos out.entry.start out.entry.out.now out.exit.0.now result }
     {
         let Place {
             out,

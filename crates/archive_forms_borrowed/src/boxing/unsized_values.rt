@@ -27,8 +27,10 @@ pub trait ArchiveUnsized {
 
     /// Writes the own bytes of the box at `out`, where the bytes are zeros. The value and its data were written before.
     fn resolve_box(&self, resolver: BoxResolver, out: Place<'_, Self::Boxed>) -> Result<(), Error>
-        requires { CanResolve (box_of pointed) (box Self.Archived.pointee) self.now resolver out.out.now out.start out.pos }
-        ensures { Resolves (box_of pointed) self.now resolver out.entry.pos out.entry.start out.entry.out.now out.exit.0.now result };
+        requires { CanResolve (box_of pointed) (box Self.Archived.pointee) self.now resolver out.out.now
+            out.start out.pos }
+        ensures { Resolves (box_of pointed) self.now resolver out.entry.pos out.entry.start
+            out.entry.out.now out.exit.0.now result };
 
     /// The box is one of the layout.
     ghost boxed: { Self.Boxed.shape ≡ box Self.Archived.pointee };
@@ -70,8 +72,10 @@ pub fn resolve_from_ref<U: ArchiveUnsized>(
     resolver: BoxResolver,
     out: Place<'_, U::Boxed>,
 ) -> Result<(), Error>
-    requires { CanResolve (box_of U.pointed) (box U.Archived.pointee) value.now resolver out.out.now out.start out.pos }
-    ensures { Resolves (box_of U.pointed) value.now resolver out.entry.pos out.entry.start out.entry.out.now out.exit.0.now result }
+    requires { CanResolve (box_of U.pointed) (box U.Archived.pointee) value.now resolver out.out.now
+        out.start out.pos }
+    ensures { Resolves (box_of U.pointed) value.now resolver out.entry.pos out.entry.start
+        out.entry.out.now out.exit.0.now result }
 {
     let Place {
         out,

@@ -47,7 +47,8 @@ pub fn serialize_from_iter_each<
     requires room { S.failures serializer.old < 2 ^ 64 - 1 }
     requires state { HasState S.pos S.known serializer.old }
     requires ends { IsFiniteIterable I.into_iter_gives I.IntoIter.can_next I.IntoIter.remaining iter }
-    requires takes { (it : I.IntoIter) (xs : List T) → I.into_iter_gives iter it → Drains I.IntoIter.next_gives it xs → StepTakes F.Fn S.Writer step xs }
+    requires takes { (it : I.IntoIter) (xs : List T) → I.into_iter_gives iter it
+        → Drains I.IntoIter.next_gives it xs → StepTakes F.Fn S.Writer step xs }
     requires writes { StepWrites F.Fn (λ q. q.0) T.spelling S.Writer step }
     ensures { RefusesMemory serializer.old serializer.new result
         ⊎ ((it : I.IntoIter) × (xs : List T) × I.into_iter_gives iter it × Drains I.IntoIter.next_gives it xs

@@ -49,8 +49,10 @@ impl<'a, K: Archive, V: Archive> Archive for EntryAdapter<'a, K, V> {
         resolver: EntryResolver<K::Resolver, V::Resolver>,
         out: Place<'_, Entry<K::Archived, V::Archived>>,
     ) -> Result<(), Error>
-        requires { CanResolve (entry_spelling K.Archived.shape K.spelling V.Archived.shape V.spelling) (tuple2 K.Archived.shape V.Archived.shape) self.now resolver out.out.now out.start out.pos }
-        ensures { Resolves (entry_spelling K.Archived.shape K.spelling V.Archived.shape V.spelling) self.now resolver out.entry.pos out.entry.start out.entry.out.now out.exit.0.now result }
+        requires { CanResolve (entry_spelling K.Archived.shape K.spelling V.Archived.shape V.spelling)
+            (tuple2 K.Archived.shape V.Archived.shape) self.now resolver out.out.now out.start out.pos }
+        ensures { Resolves (entry_spelling K.Archived.shape K.spelling V.Archived.shape V.spelling)
+            self.now resolver out.entry.pos out.entry.start out.entry.out.now out.exit.0.now result }
     {
         let Place {
             out,
@@ -96,7 +98,8 @@ pub fn serialize_entry_each<
     requires writes_first { StepWrites F.Fn (λ q. q.0) K.spelling S.Writer first }
     requires takes_second { StepTakes G.Fn S.Writer second (entry.now.value.now ∷ []) }
     requires writes_second { StepWrites G.Fn (λ q. q.0) V.spelling S.Writer second }
-    ensures { Serializes (entry_spelling K.Archived.shape K.spelling V.Archived.shape V.spelling) S.Writer entry.now serializer.old serializer.new result }
+    ensures { Serializes (entry_spelling K.Archived.shape K.spelling V.Archived.shape V.spelling)
+        S.Writer entry.now serializer.old serializer.new result }
 {
     let key = match first(entry.key, serializer) {
         Ok(done) => done.0,

@@ -16,7 +16,8 @@ pub fn serialize_from_slice<S: Writer + Allocator, T: Serialize<S>>(
 ) -> Result<VecResolver, Error>
     requires room { S.failures serializer.old < 2 ^ 64 - 1 }
     requires state { HasState S.pos S.known serializer.old }
-    ensures { Serializes (elements_spelling T.Archived.shape T.spelling) S.Writer items.now serializer.old serializer.new result }
+    ensures { Serializes (elements_spelling T.Archived.shape T.spelling) S.Writer items.now
+        serializer.old serializer.new result }
 {
     let written = serialize_slice_each::<T, S, _>(
         items,
@@ -39,8 +40,10 @@ pub fn resolve_from_slice<T: Archive>(
     resolver: VecResolver,
     out: Place<'_, ArchivedVec<T::Archived>>,
 ) -> Result<(), Error>
-    requires { CanResolve (elements_spelling T.Archived.shape T.spelling) (vector T.Archived.shape) items.now resolver out.out.now out.start out.pos }
-    ensures { Resolves (elements_spelling T.Archived.shape T.spelling) items.now resolver out.entry.pos out.entry.start out.entry.out.now out.exit.0.now result }
+    requires { CanResolve (elements_spelling T.Archived.shape T.spelling) (vector T.Archived.shape)
+        items.now resolver out.out.now out.start out.pos }
+    ensures { Resolves (elements_spelling T.Archived.shape T.spelling) items.now resolver out.entry.pos
+        out.entry.start out.entry.out.now out.exit.0.now result }
 {
     let Place {
         out,

@@ -18,7 +18,8 @@ pub trait ArchivedHash: ArchivedEq {
     /// Feeds the value to the hasher.
     fn hash<H: Hasher>(this: &Ref<'_, Self>, state: &mut H)
         requires { HasValue Self.shape Self.knows this.now.bytes.now this.now.pos }
-        ensures { OfValue Self.shape Self.knows this.now.bytes.now this.now.pos (λ v. fold H.write state.old (hashed v)) state.new };
+        ensures { OfValue Self.shape Self.knows this.now.bytes.now this.now.pos
+            (λ v. fold H.write state.old (hashed v)) state.new };
 
     /// Equal values feed the same to the hasher.
     ghost alike: { Alike Self.equal hashed };

@@ -15,7 +15,8 @@ use std::hash::Hasher;
 /// Feeds the number of elements to the hasher, and then each element.
 pub fn hash_elements<T: ArchivedHash, H: Hasher>(elements: &SliceRef<'_, T>, state: &mut H)
     requires { HasElements T.shape T.knows elements.now.bytes.now elements.now.pos elements.now.len }
-    ensures { (v : Value) → AreElements T.shape T.knows elements.now.bytes.now elements.now.pos elements.now.len v → state.new ≡ fold H.write state.old (vector_hashed T.hashed v) }
+    ensures { (v : Value) → AreElements T.shape T.knows elements.now.bytes.now elements.now.pos
+        elements.now.len v → state.new ≡ fold H.write state.old (vector_hashed T.hashed v) }
 {
     state.write_usize(elements.len());
     for index in 0..elements.len() {

@@ -34,8 +34,10 @@ impl<T: Archive> Archive for Shared<Rc<T>> {
         resolver: RcResolver,
         out: Place<'_, ArchivedRc<T::Archived, RcFlavor>>,
     ) -> Result<(), Error>
-        requires { CanResolve (shared_rc_spelling T.Archived.shape T.spelling) (shared false (sized T.Archived.shape)) self.now resolver out.out.now out.start out.pos }
-        ensures { Resolves (shared_rc_spelling T.Archived.shape T.spelling) self.now resolver out.entry.pos out.entry.start out.entry.out.now out.exit.0.now result }
+        requires { CanResolve (shared_rc_spelling T.Archived.shape T.spelling)
+            (shared false (sized T.Archived.shape)) self.now resolver out.out.now out.start out.pos }
+        ensures { Resolves (shared_rc_spelling T.Archived.shape T.spelling) self.now resolver
+            out.entry.pos out.entry.start out.entry.out.now out.exit.0.now result }
     {
         let Place {
             out,
@@ -72,8 +74,10 @@ impl<T: Archive> Archive for Shared<RcSlice<T>> {
         resolver: RcResolver,
         out: Place<'_, ArchivedRcSlice<T::Archived, RcFlavor>>,
     ) -> Result<(), Error>
-        requires { CanResolve (shared_slice_rc_spelling T.Archived.shape T.spelling) (shared false (slice T.Archived.shape)) self.now resolver out.out.now out.start out.pos }
-        ensures { Resolves (shared_slice_rc_spelling T.Archived.shape T.spelling) self.now resolver out.entry.pos out.entry.start out.entry.out.now out.exit.0.now result }
+        requires { CanResolve (shared_slice_rc_spelling T.Archived.shape T.spelling)
+            (shared false (slice T.Archived.shape)) self.now resolver out.out.now out.start out.pos }
+        ensures { Resolves (shared_slice_rc_spelling T.Archived.shape T.spelling) self.now resolver
+            out.entry.pos out.entry.start out.entry.out.now out.exit.0.now result }
     {
         let Place {
             out,
@@ -111,8 +115,10 @@ impl Archive for Shared<RcStr> {
         resolver: RcResolver,
         out: Place<'_, ArchivedRcStr<RcFlavor>>,
     ) -> Result<(), Error>
-        requires { CanResolve shared_str_rc_spelling (shared false str) self.now resolver out.out.now out.start out.pos }
-        ensures { Resolves shared_str_rc_spelling self.now resolver out.entry.pos out.entry.start out.entry.out.now out.exit.0.now result }
+        requires { CanResolve shared_str_rc_spelling (shared false str) self.now resolver out.out.now
+            out.start out.pos }
+        ensures { Resolves shared_str_rc_spelling self.now resolver out.entry.pos out.entry.start
+            out.entry.out.now out.exit.0.now result }
     {
         let Place {
             out,

@@ -22,7 +22,8 @@ pub trait SharingExt: Writer + Allocator {
     ) -> Result<usize, Error>
         requires room { Self.failures self.old < 2 ^ 64 - 1 }
         requires state { HasState Self.pos Self.known self.old }
-        ensures { Serializes (shared_spelling U.Archived.pointee U.count (λ _. key) U.pointed) Self.Writer value.now self.old self.new result };
+        ensures { Serializes (shared_spelling U.Archived.pointee U.count (λ _. key) U.pointed)
+            Self.Writer value.now self.old self.new result };
 }
 
 /// Writes what a counted pointer to a borrowed value leads to, unless it was written under the key before. Returns the
@@ -34,7 +35,8 @@ pub fn serialize_rc_from_ref<U: SerializeUnsized<S>, S: SharingExt>(
 ) -> Result<RcResolver, Error>
     requires room { S.failures serializer.old < 2 ^ 64 - 1 }
     requires state { HasState S.pos S.known serializer.old }
-    ensures { Serializes (rc_of (shared_spelling U.Archived.pointee U.count (λ _. key) U.pointed)) S.Writer value.now serializer.old serializer.new result }
+    ensures { Serializes (rc_of (shared_spelling U.Archived.pointee U.count (λ _. key) U.pointed))
+        S.Writer value.now serializer.old serializer.new result }
 {
     match serializer.serialize_shared(key, value) {
         Ok(pos) => Ok(RcResolver { pos }),

@@ -33,8 +33,10 @@ impl<T: Archive> Archive for SharedWeak<Rc<T>> {
         resolver: Option<RcResolver>,
         out: Place<'_, ArchivedRcWeak<T::Archived, RcFlavor>>,
     ) -> Result<(), Error>
-        requires { CanResolve (shared_weak_spelling T.Archived.shape T.spelling) (weak false (sized T.Archived.shape)) self.now resolver out.out.now out.start out.pos }
-        ensures { Resolves (shared_weak_spelling T.Archived.shape T.spelling) self.now resolver out.entry.pos out.entry.start out.entry.out.now out.exit.0.now result }
+        requires { CanResolve (shared_weak_spelling T.Archived.shape T.spelling)
+            (weak false (sized T.Archived.shape)) self.now resolver out.out.now out.start out.pos }
+        ensures { Resolves (shared_weak_spelling T.Archived.shape T.spelling) self.now resolver
+            out.entry.pos out.entry.start out.entry.out.now out.exit.0.now result }
     {
         let Place {
             out,

@@ -13,7 +13,8 @@ pub fn checked<T: CheckBytes<NarrowContext>>(
     pos: usize,
 ) -> Result<Ref<'_, T>, Error>
     requires { T.knows [] }
-    ensures { IfOk result (λ r. (r.bytes ≡ bytes.entry) × (r.pos ≡ pos) × HasValue T.shape T.knows bytes.now pos) }
+    ensures { IfOk result (λ r. (r.bytes ≡ bytes.entry) × (r.pos ≡ pos)
+        × HasValue T.shape T.knows bytes.now pos) }
 {
     let len = bytes.len();
     let size = T::SIZE;

@@ -155,7 +155,8 @@ impl Archive for List {
         out: Place<'_, ArchivedList>,
     ) -> Result<(), Error>
         requires { CanResolve list_spelling list_shape self.now resolver out.out.now out.start out.pos }
-        ensures { Resolves list_spelling self.now resolver out.entry.pos out.entry.start out.entry.out.now out.exit.0.now result }
+        ensures { Resolves list_spelling self.now resolver out.entry.pos out.entry.start
+            out.entry.out.now out.exit.0.now result }
     {
         let Place {
             out,
@@ -250,7 +251,8 @@ fn deserialize_list<D>(
         |d: &mut D, p: usize| -> Result<(Box<List>, PhantomData<ArchivedBox<ArchivedList>>), Error>
             requires ends { p + 4 ≤ pos + 8 }
             requires there { HasValue (box (sized list_shape)) KnowsList bytes.now p }
-            ensures { DeserializesBy (reads_in (λ b. b.value) (reads_as list_spelling)) (box (sized list_shape)) KnowsList bytes.entry.now p (λ q. q.0) result }
+            ensures { DeserializesBy (reads_in (λ b. b.value) (reads_as list_spelling))
+                (box (sized list_shape)) KnowsList bytes.entry.now p (λ q. q.0) result }
         {
             let _ = &pos;
             match deserialize_boxed(bytes, p, alloc, d) {
@@ -274,7 +276,8 @@ fn deserialize_boxed<D>(
     deserializer: &mut D,
 ) -> Result<Box<List>, Error>
     requires { HasValue (box (sized list_shape)) KnowsList bytes.now pos }
-    ensures { Deserializes (reads_in (λ b. b.value) (reads_as list_spelling)) (box (sized list_shape)) KnowsList bytes.now pos result }
+    ensures { Deserializes (reads_in (λ b. b.value) (reads_as list_spelling))
+        (box (sized list_shape)) KnowsList bytes.now pos result }
 {
     let this = Ref::<ArchivedBox<ArchivedList>> {
         bytes,
@@ -288,7 +291,8 @@ fn deserialize_boxed<D>(
         |d: &mut D, p: usize| -> Result<(List, PhantomData<ArchivedList>), Error>
             requires ends { p + 8 ≤ pos }
             requires there { HasValue list_shape KnowsList bytes.now p }
-            ensures { DeserializesBy (reads_as list_spelling) list_shape KnowsList bytes.entry.now p (λ q. q.0) result }
+            ensures { DeserializesBy (reads_as list_spelling) list_shape KnowsList bytes.entry.now p
+                (λ q. q.0) result }
         {
             let _ = &pos;
             match deserialize_list(bytes, p, alloc, d) {

@@ -116,7 +116,8 @@ impl Archive for Tree {
 
     fn resolve(&self, resolver: VecResolver, out: Place<'_, ArchivedTree>) -> Result<(), Error>
         requires { CanResolve tree_spelling tree_shape self.now resolver out.out.now out.start out.pos }
-        ensures { Resolves tree_spelling self.now resolver out.entry.pos out.entry.start out.entry.out.now out.exit.0.now result }
+        ensures { Resolves tree_spelling self.now resolver out.entry.pos out.entry.start
+            out.entry.out.now out.exit.0.now result }
     {
         let Place {
             out,
@@ -202,7 +203,8 @@ fn deserialize_tree<D>(
         |d: &mut D, p: usize| -> Result<(Tree, PhantomData<ArchivedTree>), Error>
             requires ends { p + 8 ≤ pos }
             requires there { HasValue tree_shape KnowsTree bytes.now p }
-            ensures { DeserializesBy (reads_as tree_spelling) tree_shape KnowsTree bytes.entry.now p (λ q. q.0) result }
+            ensures { DeserializesBy (reads_as tree_spelling) tree_shape KnowsTree bytes.entry.now p
+                (λ q. q.0) result }
         {
             let _ = &pos;
             match deserialize_tree(bytes, p, alloc, d) {

@@ -94,7 +94,8 @@ impl<T: Portable> ArchivedBoxedSlice<T> {
     pub fn get<'a>(this: Ref<'a, ArchivedBoxedSlice<T>>) -> SliceRef<'a, T>
         requires { HasValue (box (slice T.shape)) T.knows this.bytes.now this.pos }
         ensures bytes { result.bytes ≡ this.entry.bytes }
-        ensures elements { IsBoxedSliceAt T.shape T.knows this.entry.bytes.now this.entry.pos result.pos result.len }
+        ensures elements { IsBoxedSliceAt T.shape T.knows this.entry.bytes.now
+            this.entry.pos result.pos result.len }
     {
         ArchivedVec::as_slice(Ref::<ArchivedVec<T>>::new(this.bytes, this.pos))
     }
@@ -104,7 +105,8 @@ impl<T: Portable> ArchivedBoxedSlice<T> {
         requires { HasValue (box (slice T.shape)) T.knows this.bytes.now this.pos }
         ensures same_reference { result.bytes.ghost_name ≡ this.entry.bytes.ghost_name }
         ensures bytes { result.bytes.now ≡ this.entry.bytes.now }
-        ensures elements { IsBoxedSliceAt T.shape T.knows this.entry.bytes.now this.entry.pos result.pos result.len }
+        ensures elements { IsBoxedSliceAt T.shape T.knows this.entry.bytes.now
+            this.entry.pos result.pos result.len }
     {
         let Seal { bytes, pos, .. } = this;
         ArchivedVec::as_slice_seal(Seal::<ArchivedVec<T>>::new(bytes, pos))
@@ -113,7 +115,8 @@ impl<T: Portable> ArchivedBoxedSlice<T> {
     /// Returns the number of elements.
     pub fn len(this: Ref<'_, ArchivedBoxedSlice<T>>) -> usize
         requires { HasValue (box (slice T.shape)) T.knows this.bytes.now this.pos }
-        ensures { (to : ℕ) × IsBoxedSliceAt T.shape T.knows this.entry.bytes.now this.entry.pos to result }
+        ensures { (to : ℕ) × IsBoxedSliceAt T.shape T.knows this.entry.bytes.now
+            this.entry.pos to result }
     {
         ArchivedBoxedSlice::get(this).len()
     }
@@ -121,7 +124,8 @@ impl<T: Portable> ArchivedBoxedSlice<T> {
     /// Returns `true` if the box has no elements.
     pub fn is_empty(this: Ref<'_, ArchivedBoxedSlice<T>>) -> bool
         requires { HasValue (box (slice T.shape)) T.knows this.bytes.now this.pos }
-        ensures { (to len : ℕ) × IsBoxedSliceAt T.shape T.knows this.entry.bytes.now this.entry.pos to len × (IsTrue result ↔ (len ≡ 0)) }
+        ensures { (to len : ℕ) × IsBoxedSliceAt T.shape T.knows this.entry.bytes.now
+            this.entry.pos to len × (IsTrue result ↔ (len ≡ 0)) }
     {
         ArchivedBoxedSlice::len(this) == 0
     }

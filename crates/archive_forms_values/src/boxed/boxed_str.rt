@@ -75,7 +75,8 @@ impl ArchivedBoxedStr {
     /// Returns the text.
     pub fn get<'a>(this: Ref<'a, ArchivedBoxedStr>) -> &'a str
         requires { HasValue (box str) (λ _. ⊤) this.bytes.now this.pos }
-        ensures { (to len : ℕ) × IsBoxedStrAt this.entry.bytes.now this.entry.pos to len × (result.now ≡ window this.entry.bytes.now to len) }
+        ensures { (to len : ℕ) × IsBoxedStrAt this.entry.bytes.now this.entry.pos to len
+            × (result.now ≡ window this.entry.bytes.now to len) }
     {
         let (start, len) = text_at(this.bytes, this.pos);
         // The bytes there are UTF-8.

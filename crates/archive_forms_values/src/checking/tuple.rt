@@ -20,7 +20,8 @@ pub fn check_tuple1_each<
 >(bytes: &[u8], pos: usize, context: &mut Context, first_step: F) -> Result<(), Error>
     requires fits { pos + size_of (tuple1 A.shape) ≤ length bytes.now }
     requires range { IsWithin (Context.kept context.old) (length bytes.now) }
-    requires takes_first { StepTakes F.Fn Context.kept bytes.now A.shape first_step (Context.kept context.old) 0 }
+    requires takes_first { StepTakes F.Fn Context.kept bytes.now A.shape first_step
+        (Context.kept context.old) 0 }
     requires checks_first { StepChecks F.Fn Context.kept bytes.now A.shape first_step A.knows }
     ensures moves { Moves (Context.kept context.old) result (Context.kept context.new) }
     ensures exact { (names : Names) → A.knows names

@@ -32,9 +32,12 @@ pub fn check_tuple3_each<
 ) -> Result<(), Error>
     requires fits { pos + size_of (tuple3 A.shape B.shape C.shape) ≤ length bytes.now }
     requires range { IsWithin (Context.kept context.old) (length bytes.now) }
-    requires takes_first { StepTakes F.Fn Context.kept bytes.now A.shape first_step (Context.kept context.old) 0 }
-    requires takes_second { StepTakes G.Fn Context.kept bytes.now B.shape second_step (Context.kept context.old) 0 }
-    requires takes_third { StepTakes H.Fn Context.kept bytes.now C.shape third_step (Context.kept context.old) 0 }
+    requires takes_first { StepTakes F.Fn Context.kept bytes.now A.shape first_step
+        (Context.kept context.old) 0 }
+    requires takes_second { StepTakes G.Fn Context.kept bytes.now B.shape second_step
+        (Context.kept context.old) 0 }
+    requires takes_third { StepTakes H.Fn Context.kept bytes.now C.shape third_step
+        (Context.kept context.old) 0 }
     requires checks_first { StepChecks F.Fn Context.kept bytes.now A.shape first_step A.knows }
     requires checks_second { StepChecks G.Fn Context.kept bytes.now B.shape second_step B.knows }
     requires checks_third { StepChecks H.Fn Context.kept bytes.now C.shape third_step C.knows }

@@ -69,7 +69,8 @@ impl<C: ArchiveContext, T: CheckBytes<C>> CheckBytes<C> for ArchivedOption<T> {
 /// Returns `true` if the option at `pos` is none.
 fn is_none_at<T: Portable>(bytes: &[u8], pos: usize) -> bool
     requires { HasValue (option T.shape) T.knows bytes.now pos }
-    ensures { MatchBool result (IsNoneAt T.shape T.knows bytes.now pos) (IsSomeAt T.shape T.knows bytes.now pos) }
+    ensures { MatchBool result (IsNoneAt T.shape T.knows bytes.now pos)
+        (IsSomeAt T.shape T.knows bytes.now pos) }
 {
     bytes[pos] == 0
 }
@@ -154,7 +155,8 @@ impl<T: Portable> ArchivedOption<T> {
     /// Returns the value, or `default` if there is none.
     pub fn unwrap_or<'a>(this: Ref<'a, ArchivedOption<T>>, default: Ref<'a, T>) -> Ref<'a, T>
         requires { HasValue (option T.shape) T.knows this.bytes.now this.pos }
-        ensures { ((result ≡ default.entry) × IsNoneAt T.shape T.knows this.entry.bytes.now this.entry.pos)
+        ensures { ((result ≡ default.entry)
+            × IsNoneAt T.shape T.knows this.entry.bytes.now this.entry.pos)
             ⊎ ((result.bytes ≡ this.entry.bytes) × (result.pos ≡ some_position T.shape this.entry.pos)
             × IsSomeAt T.shape T.knows this.entry.bytes.now this.entry.pos) }
     {

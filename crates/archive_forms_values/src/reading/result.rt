@@ -23,7 +23,8 @@ const fn result_size(
     error_align: usize,
 ) -> usize
     requires { 0 < value_align }
-    ensures { result ≡ min (align_up (max value_align error_align + max value_size error_size) (max value_align error_align)) (2 ^ 64 - 1) }
+    ensures { result ≡ min (align_up (max value_align error_align + max value_size error_size)
+        (max value_align error_align)) (2 ^ 64 - 1) }
 {
     option_size(
         greater(value_size, error_size),
@@ -86,7 +87,8 @@ impl<C: ArchiveContext, T: CheckBytes<C>, E: CheckBytes<C>> CheckBytes<C> for Ar
 /// Returns `true` if the result at `pos` is a value.
 fn is_ok_at<T: Portable, E: Portable>(bytes: &[u8], pos: usize) -> bool
     requires { HasValue (result_shape T.shape E.shape) (both T.knows E.knows) bytes.now pos }
-    ensures { MatchBool result (IsOkAt T.shape E.shape T.knows E.knows bytes.now pos) (IsErrAt T.shape E.shape T.knows E.knows bytes.now pos) }
+    ensures { MatchBool result (IsOkAt T.shape E.shape T.knows E.knows bytes.now pos)
+        (IsErrAt T.shape E.shape T.knows E.knows bytes.now pos) }
 {
     bytes[pos] == 0
 }
@@ -102,7 +104,8 @@ fn outcome_at<T: Portable, E: Portable>(bytes: &[u8], pos: usize) -> usize
 impl<T: Portable, E: Portable> ArchivedResult<T, E> {
     /// Returns `true` if the result is a value.
     pub fn is_ok(this: Ref<'_, ArchivedResult<T, E>>) -> bool
-        requires { HasValue (result_shape T.shape E.shape) (both T.knows E.knows) this.bytes.now this.pos }
+        requires { HasValue (result_shape T.shape E.shape) (both T.knows E.knows)
+            this.bytes.now this.pos }
         ensures { MatchBool result
             (IsOkAt T.shape E.shape T.knows E.knows this.entry.bytes.now this.entry.pos)
             (IsErrAt T.shape E.shape T.knows E.knows this.entry.bytes.now this.entry.pos) }
@@ -112,7 +115,8 @@ impl<T: Portable, E: Portable> ArchivedResult<T, E> {
 
     /// Returns `true` if the result is an error.
     pub fn is_err(this: Ref<'_, ArchivedResult<T, E>>) -> bool
-        requires { HasValue (result_shape T.shape E.shape) (both T.knows E.knows) this.bytes.now this.pos }
+        requires { HasValue (result_shape T.shape E.shape) (both T.knows E.knows)
+            this.bytes.now this.pos }
         ensures { MatchBool result
             (IsErrAt T.shape E.shape T.knows E.knows this.entry.bytes.now this.entry.pos)
             (IsOkAt T.shape E.shape T.knows E.knows this.entry.bytes.now this.entry.pos) }
@@ -122,7 +126,8 @@ impl<T: Portable, E: Portable> ArchivedResult<T, E> {
 
     /// Returns the value or the error.
     pub fn as_ref<'a>(this: Ref<'a, ArchivedResult<T, E>>) -> Result<Ref<'a, T>, Ref<'a, E>>
-        requires { HasValue (result_shape T.shape E.shape) (both T.knows E.knows) this.bytes.now this.pos }
+        requires { HasValue (result_shape T.shape E.shape) (both T.knows E.knows)
+            this.bytes.now this.pos }
         ensures { MatchResult result
             (λ r. (r.bytes ≡ this.entry.bytes) × (r.pos ≡ outcome_position T.shape E.shape this.entry.pos)
             × IsOkAt T.shape E.shape T.knows E.knows this.entry.bytes.now this.entry.pos)
@@ -139,7 +144,8 @@ impl<T: Portable, E: Portable> ArchivedResult<T, E> {
 
     /// Returns the value, or `None` if the result is an error.
     pub fn ok<'a>(this: Ref<'a, ArchivedResult<T, E>>) -> Option<Ref<'a, T>>
-        requires { HasValue (result_shape T.shape E.shape) (both T.knows E.knows) this.bytes.now this.pos }
+        requires { HasValue (result_shape T.shape E.shape) (both T.knows E.knows)
+            this.bytes.now this.pos }
         ensures { MatchOption result
             (IsErrAt T.shape E.shape T.knows E.knows this.entry.bytes.now this.entry.pos)
             (λ r. (r.bytes ≡ this.entry.bytes) × (r.pos ≡ outcome_position T.shape E.shape this.entry.pos)
@@ -166,10 +172,12 @@ impl<T: Portable, E: Portable> ArchivedResult<T, E> {
         this: Ref<'a, ArchivedResult<T, E>>,
         f: F,
     ) -> Ref<'a, T>
-        requires there { HasValue (result_shape T.shape E.shape) (both T.knows E.knows) this.bytes.now this.pos }
+        requires there { HasValue (result_shape T.shape E.shape) (both T.knows E.knows)
+            this.bytes.now this.pos }
         requires callable { IsErrAt T.shape E.shape T.knows E.knows this.bytes.now this.pos
             → (e : _) → (e.bytes ≡ this.bytes) → (e.pos ≡ outcome_position T.shape E.shape this.pos) → F.pre f e }
-        ensures { ((result.bytes ≡ this.entry.bytes) × (result.pos ≡ outcome_position T.shape E.shape this.entry.pos)
+        ensures { ((result.bytes ≡ this.entry.bytes)
+            × (result.pos ≡ outcome_position T.shape E.shape this.entry.pos)
             × IsOkAt T.shape E.shape T.knows E.knows this.entry.bytes.now this.entry.pos)
             ⊎ ((e : _) × (e.bytes ≡ this.entry.bytes) × (e.pos ≡ outcome_position T.shape E.shape this.entry.pos)
             × IsErrAt T.shape E.shape T.knows E.knows this.entry.bytes.now this.entry.pos × F.post f e result) }
@@ -182,7 +190,8 @@ impl<T: Portable, E: Portable> ArchivedResult<T, E> {
 
     /// Returns an iterator over the value, or over nothing if the result is an error.
     pub fn iter<'a>(this: Ref<'a, ArchivedResult<T, E>>) -> Iter<Ref<'a, T>>
-        requires { HasValue (result_shape T.shape E.shape) (both T.knows E.knows) this.bytes.now this.pos }
+        requires { HasValue (result_shape T.shape E.shape) (both T.knows E.knows)
+            this.bytes.now this.pos }
         ensures { MatchOption result
             (IsErrAt T.shape E.shape T.knows E.knows this.entry.bytes.now this.entry.pos)
             (λ r. (r.bytes ≡ this.entry.bytes) × (r.pos ≡ outcome_position T.shape E.shape this.entry.pos)

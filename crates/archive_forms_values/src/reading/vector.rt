@@ -84,7 +84,8 @@ impl<T: Portable> ArchivedVec<T> {
     /// Returns `true` if the vector has no elements.
     pub fn is_empty(this: Ref<'_, ArchivedVec<T>>) -> bool
         requires { HasValue (vector T.shape) T.knows this.bytes.now this.pos }
-        ensures { (to len : ℕ) × IsVecAt T.shape T.knows this.entry.bytes.now this.entry.pos to len × (IsTrue result ↔ (len ≡ 0)) }
+        ensures { (to len : ℕ) × IsVecAt T.shape T.knows this.entry.bytes.now this.entry.pos to len
+            × (IsTrue result ↔ (len ≡ 0)) }
     {
         ArchivedVec::len(this) == 0
     }
@@ -93,7 +94,8 @@ impl<T: Portable> ArchivedVec<T> {
     pub fn as_slice<'a>(this: Ref<'a, ArchivedVec<T>>) -> SliceRef<'a, T>
         requires { HasValue (vector T.shape) T.knows this.bytes.now this.pos }
         ensures bytes { result.bytes ≡ this.entry.bytes }
-        ensures elements { IsVecAt T.shape T.knows this.entry.bytes.now this.entry.pos result.pos result.len }
+        ensures elements { IsVecAt T.shape T.knows this.entry.bytes.now
+            this.entry.pos result.pos result.len }
     {
         let (pos, len) = elements_at::<T>(this.bytes, this.pos);
         SliceRef {
@@ -107,7 +109,8 @@ impl<T: Portable> ArchivedVec<T> {
     /// Returns the element at `index`, or `None` if it is out of bounds.
     pub fn get<'a>(this: Ref<'a, ArchivedVec<T>>, index: usize) -> Option<Ref<'a, T>>
         requires { HasValue (vector T.shape) T.knows this.bytes.now this.pos }
-        ensures { (to len : ℕ) × IsVecAt T.shape T.knows this.entry.bytes.now this.entry.pos to len × MatchOption result
+        ensures { (to len : ℕ) × IsVecAt T.shape T.knows this.entry.bytes.now this.entry.pos to len
+            × MatchOption result
             (len ≤ index)
             (λ r. (index < len) × (r.bytes ≡ this.entry.bytes) × (r.pos ≡ to + index * size_of T.shape)) }
     {
@@ -119,7 +122,8 @@ impl<T: Portable> ArchivedVec<T> {
         requires { HasValue (vector T.shape) T.knows this.bytes.now this.pos }
         ensures same_reference { result.bytes.ghost_name ≡ this.entry.bytes.ghost_name }
         ensures bytes { result.bytes.now ≡ this.entry.bytes.now }
-        ensures elements { IsVecAt T.shape T.knows this.entry.bytes.now this.entry.pos result.pos result.len }
+        ensures elements { IsVecAt T.shape T.knows this.entry.bytes.now
+            this.entry.pos result.pos result.len }
     {
         let Seal { bytes, pos, .. } = this;
         let (pos, len) = elements_at::<T>(bytes, pos);
@@ -135,7 +139,8 @@ impl<T: Portable> ArchivedVec<T> {
     /// buffer after the loan are not specified.
     pub fn get_seal<'a>(this: Seal<'a, ArchivedVec<T>>, index: usize) -> Option<Seal<'a, T>>
         requires { HasValue (vector T.shape) T.knows this.bytes.now this.pos }
-        ensures { (to len : ℕ) × IsVecAt T.shape T.knows this.entry.bytes.now this.entry.pos to len × MatchOption result
+        ensures { (to len : ℕ) × IsVecAt T.shape T.knows this.entry.bytes.now this.entry.pos to len
+            × MatchOption result
             (len ≤ index)
             (λ r. (index < len) × (r.bytes.ghost_name ≡ this.entry.bytes.ghost_name)
             × (r.bytes.now ≡ this.entry.bytes.now) × (r.pos ≡ to + index * size_of T.shape)) }

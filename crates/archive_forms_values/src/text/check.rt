@@ -29,7 +29,8 @@ pub fn check_behind<C: ArchiveContext>(
 ) -> Result<(), Error>
     requires { IsWithin (C.kept context.old) (length bytes.now) }
     ensures moves { Moves (C.kept context.old) result (C.kept context.new) }
-    ensures exact { (names : Names) → Checks names bytes.now (behind start str len) (C.kept context.old) result (C.kept context.new) }
+    ensures exact { (names : Names) → Checks names bytes.now (behind start str len)
+        (C.kept context.old) result (C.kept context.new) }
 {
     let _len = bytes.len();
     context.check_subtree_ptr(start, len, 1)?;

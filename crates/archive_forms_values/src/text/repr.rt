@@ -70,7 +70,8 @@ impl ArchivedStringRepr {
     pub fn len(own: &[u8]) -> usize
         requires { length own.now ≡ 8 }
         ensures length { result ≡ length_of own.now }
-        ensures inline_capacity { IsInline (slice_index own.now 0) → result ≤ ArchivedStringRepr.INLINE_CAPACITY }
+        ensures inline_capacity { IsInline (slice_index own.now 0)
+            → result ≤ ArchivedStringRepr.INLINE_CAPACITY }
         ensures capacity { result ≤ ArchivedStringRepr.OUT_OF_LINE_CAPACITY }
     {
         if ArchivedStringRepr::is_inline(own) {

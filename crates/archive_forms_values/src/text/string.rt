@@ -106,7 +106,8 @@ impl ArchivedString {
     /// Returns `true` if the text has no bytes.
     pub fn is_empty(this: Ref<'_, ArchivedString>) -> bool
         requires { HasText this.bytes.now this.pos }
-        ensures { (t : List ℕ) × IsText this.entry.bytes.now this.entry.pos t × (IsTrue result ↔ (length t ≡ 0)) }
+        ensures { (t : List ℕ) × IsText this.entry.bytes.now this.entry.pos t
+            × (IsTrue result ↔ (length t ≡ 0)) }
     {
         ArchivedString::len(this) == 0
     }

@@ -63,7 +63,8 @@ impl<K: Portable, V: Portable> Entry<K, V> {
         requires { HasValue (tuple2 K.shape V.shape) (both K.knows V.knows) this.bytes.now this.pos }
         ensures bytes { result.bytes ≡ this.entry.bytes }
         ensures pos { result.pos ≡ this.entry.pos }
-        ensures value { AreFieldsAt (field K.shape K.knows ∷ field V.shape V.knows ∷ []) (both K.knows V.knows) this.entry.bytes.now this.entry.pos }
+        ensures value { AreFieldsAt (field K.shape K.knows ∷ field V.shape V.knows ∷ [])
+            (both K.knows V.knows) this.entry.bytes.now this.entry.pos }
     {
         ArchivedTuple2::first(Ref::<ArchivedTuple2<K, V>>::new(this.bytes, this.pos))
     }
@@ -73,7 +74,8 @@ impl<K: Portable, V: Portable> Entry<K, V> {
         requires { HasValue (tuple2 K.shape V.shape) (both K.knows V.knows) this.bytes.now this.pos }
         ensures bytes { result.bytes ≡ this.entry.bytes }
         ensures pos { result.pos ≡ field_position K.shape no_shapes V.shape this.entry.pos }
-        ensures value { AreFieldsAt (field K.shape K.knows ∷ field V.shape V.knows ∷ []) (both K.knows V.knows) this.entry.bytes.now this.entry.pos }
+        ensures value { AreFieldsAt (field K.shape K.knows ∷ field V.shape V.knows ∷ [])
+            (both K.knows V.knows) this.entry.bytes.now this.entry.pos }
     {
         ArchivedTuple2::second(Ref::<ArchivedTuple2<K, V>>::new(this.bytes, this.pos))
     }

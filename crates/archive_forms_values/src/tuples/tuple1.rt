@@ -65,7 +65,8 @@ impl<A: Portable> ArchivedTuple1<A> {
         requires { HasValue (tuple1 A.shape) A.knows this.bytes.now this.pos }
         ensures bytes { result.bytes ≡ this.entry.bytes }
         ensures pos { result.pos ≡ this.entry.pos }
-        ensures value { AreFieldsAt (field A.shape A.knows ∷ []) A.knows this.entry.bytes.now this.entry.pos }
+        ensures value { AreFieldsAt (field A.shape A.knows ∷ []) A.knows this.entry.bytes.now
+            this.entry.pos }
     {
         Ref::new(this.bytes, this.pos)
     }

@@ -79,7 +79,8 @@ impl<A: Portable, B: Portable> ArchivedTuple2<A, B> {
         requires { HasValue (tuple2 A.shape B.shape) (both A.knows B.knows) this.bytes.now this.pos }
         ensures bytes { result.bytes ≡ this.entry.bytes }
         ensures pos { result.pos ≡ this.entry.pos }
-        ensures value { AreFieldsAt (field A.shape A.knows ∷ field B.shape B.knows ∷ []) (both A.knows B.knows) this.entry.bytes.now this.entry.pos }
+        ensures value { AreFieldsAt (field A.shape A.knows ∷ field B.shape B.knows ∷ [])
+            (both A.knows B.knows) this.entry.bytes.now this.entry.pos }
     {
         Ref::new(this.bytes, this.pos)
     }
@@ -89,7 +90,8 @@ impl<A: Portable, B: Portable> ArchivedTuple2<A, B> {
         requires { HasValue (tuple2 A.shape B.shape) (both A.knows B.knows) this.bytes.now this.pos }
         ensures bytes { result.bytes ≡ this.entry.bytes }
         ensures pos { result.pos ≡ field_position A.shape no_shapes B.shape this.entry.pos }
-        ensures value { AreFieldsAt (field A.shape A.knows ∷ field B.shape B.knows ∷ []) (both A.knows B.knows) this.entry.bytes.now this.entry.pos }
+        ensures value { AreFieldsAt (field A.shape A.knows ∷ field B.shape B.knows ∷ [])
+            (both A.knows B.knows) this.entry.bytes.now this.entry.pos }
     {
         let _len = this.bytes.len();
         let offset = next_multiple(A::SIZE, B::ALIGN);

@@ -88,7 +88,8 @@ impl<
 impl<A: Portable, B: Portable, C: Portable> ArchivedTuple3<A, B, C> {
     /// Returns the first field.
     pub fn first<'a>(this: Ref<'a, ArchivedTuple3<A, B, C>>) -> Ref<'a, A>
-        requires { HasValue (tuple3 A.shape B.shape C.shape) (all_three A.knows B.knows C.knows) this.bytes.now this.pos }
+        requires { HasValue (tuple3 A.shape B.shape C.shape) (all_three A.knows B.knows C.knows)
+            this.bytes.now this.pos }
         ensures bytes { result.bytes ≡ this.entry.bytes }
         ensures pos { result.pos ≡ this.entry.pos }
         ensures value { AreFieldsAt (field A.shape A.knows ∷ field B.shape B.knows ∷ field C.shape C.knows ∷ []) (all_three A.knows B.knows C.knows) this.entry.bytes.now this.entry.pos }
@@ -98,7 +99,8 @@ impl<A: Portable, B: Portable, C: Portable> ArchivedTuple3<A, B, C> {
 
     /// Returns the second field.
     pub fn second<'a>(this: Ref<'a, ArchivedTuple3<A, B, C>>) -> Ref<'a, B>
-        requires { HasValue (tuple3 A.shape B.shape C.shape) (all_three A.knows B.knows C.knows) this.bytes.now this.pos }
+        requires { HasValue (tuple3 A.shape B.shape C.shape) (all_three A.knows B.knows C.knows)
+            this.bytes.now this.pos }
         ensures bytes { result.bytes ≡ this.entry.bytes }
         ensures pos { result.pos ≡ field_position A.shape no_shapes B.shape this.entry.pos }
         ensures value { AreFieldsAt (field A.shape A.knows ∷ field B.shape B.knows ∷ field C.shape C.knows ∷ []) (all_three A.knows B.knows C.knows) this.entry.bytes.now this.entry.pos }
@@ -110,9 +112,11 @@ impl<A: Portable, B: Portable, C: Portable> ArchivedTuple3<A, B, C> {
 
     /// Returns the third field.
     pub fn third<'a>(this: Ref<'a, ArchivedTuple3<A, B, C>>) -> Ref<'a, C>
-        requires { HasValue (tuple3 A.shape B.shape C.shape) (all_three A.knows B.knows C.knows) this.bytes.now this.pos }
+        requires { HasValue (tuple3 A.shape B.shape C.shape) (all_three A.knows B.knows C.knows)
+            this.bytes.now this.pos }
         ensures bytes { result.bytes ≡ this.entry.bytes }
-        ensures pos { result.pos ≡ field_position A.shape (more_shapes B.shape no_shapes) C.shape this.entry.pos }
+        ensures pos { result.pos ≡ field_position A.shape (more_shapes B.shape no_shapes) C.shape
+            this.entry.pos }
         ensures value { AreFieldsAt (field A.shape A.knows ∷ field B.shape B.knows ∷ field C.shape C.knows ∷ []) (all_three A.knows B.knows C.knows) this.entry.bytes.now this.entry.pos }
     {
         let _len = this.bytes.len();

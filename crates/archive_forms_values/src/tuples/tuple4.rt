@@ -97,7 +97,8 @@ impl<
 impl<A: Portable, B: Portable, C: Portable, D: Portable> ArchivedTuple4<A, B, C, D> {
     /// Returns the first field.
     pub fn first<'a>(this: Ref<'a, ArchivedTuple4<A, B, C, D>>) -> Ref<'a, A>
-        requires { HasValue (tuple4 A.shape B.shape C.shape D.shape) (all_four A.knows B.knows C.knows D.knows) this.bytes.now this.pos }
+        requires { HasValue (tuple4 A.shape B.shape C.shape D.shape)
+            (all_four A.knows B.knows C.knows D.knows) this.bytes.now this.pos }
         ensures bytes { result.bytes ≡ this.entry.bytes }
         ensures pos { result.pos ≡ this.entry.pos }
         ensures value { AreFieldsAt (field A.shape A.knows ∷ field B.shape B.knows ∷ field C.shape C.knows ∷ field D.shape D.knows ∷ []) (all_four A.knows B.knows C.knows D.knows) this.entry.bytes.now this.entry.pos }
@@ -107,7 +108,8 @@ impl<A: Portable, B: Portable, C: Portable, D: Portable> ArchivedTuple4<A, B, C,
 
     /// Returns the second field.
     pub fn second<'a>(this: Ref<'a, ArchivedTuple4<A, B, C, D>>) -> Ref<'a, B>
-        requires { HasValue (tuple4 A.shape B.shape C.shape D.shape) (all_four A.knows B.knows C.knows D.knows) this.bytes.now this.pos }
+        requires { HasValue (tuple4 A.shape B.shape C.shape D.shape)
+            (all_four A.knows B.knows C.knows D.knows) this.bytes.now this.pos }
         ensures bytes { result.bytes ≡ this.entry.bytes }
         ensures pos { result.pos ≡ field_position A.shape no_shapes B.shape this.entry.pos }
         ensures value { AreFieldsAt (field A.shape A.knows ∷ field B.shape B.knows ∷ field C.shape C.knows ∷ field D.shape D.knows ∷ []) (all_four A.knows B.knows C.knows D.knows) this.entry.bytes.now this.entry.pos }
@@ -119,9 +121,11 @@ impl<A: Portable, B: Portable, C: Portable, D: Portable> ArchivedTuple4<A, B, C,
 
     /// Returns the third field.
     pub fn third<'a>(this: Ref<'a, ArchivedTuple4<A, B, C, D>>) -> Ref<'a, C>
-        requires { HasValue (tuple4 A.shape B.shape C.shape D.shape) (all_four A.knows B.knows C.knows D.knows) this.bytes.now this.pos }
+        requires { HasValue (tuple4 A.shape B.shape C.shape D.shape)
+            (all_four A.knows B.knows C.knows D.knows) this.bytes.now this.pos }
         ensures bytes { result.bytes ≡ this.entry.bytes }
-        ensures pos { result.pos ≡ field_position A.shape (more_shapes B.shape no_shapes) C.shape this.entry.pos }
+        ensures pos { result.pos ≡ field_position A.shape (more_shapes B.shape no_shapes) C.shape
+            this.entry.pos }
         ensures value { AreFieldsAt (field A.shape A.knows ∷ field B.shape B.knows ∷ field C.shape C.knows ∷ field D.shape D.knows ∷ []) (all_four A.knows B.knows C.knows D.knows) this.entry.bytes.now this.entry.pos }
     {
         let _len = this.bytes.len();
@@ -131,9 +135,11 @@ impl<A: Portable, B: Portable, C: Portable, D: Portable> ArchivedTuple4<A, B, C,
 
     /// Returns the fourth field.
     pub fn fourth<'a>(this: Ref<'a, ArchivedTuple4<A, B, C, D>>) -> Ref<'a, D>
-        requires { HasValue (tuple4 A.shape B.shape C.shape D.shape) (all_four A.knows B.knows C.knows D.knows) this.bytes.now this.pos }
+        requires { HasValue (tuple4 A.shape B.shape C.shape D.shape)
+            (all_four A.knows B.knows C.knows D.knows) this.bytes.now this.pos }
         ensures bytes { result.bytes ≡ this.entry.bytes }
-        ensures pos { result.pos ≡ field_position A.shape (more_shapes B.shape (more_shapes C.shape no_shapes)) D.shape this.entry.pos }
+        ensures pos { result.pos ≡ field_position A.shape
+            (more_shapes B.shape (more_shapes C.shape no_shapes)) D.shape this.entry.pos }
         ensures value { AreFieldsAt (field A.shape A.knows ∷ field B.shape B.knows ∷ field C.shape C.knows ∷ field D.shape D.knows ∷ []) (all_four A.knows B.knows C.knows D.knows) this.entry.bytes.now this.entry.pos }
     {
         let _len = this.bytes.len();

@@ -18,7 +18,8 @@ impl<K: Portable, V: Portable, H: Hasher + Default + Drop> ArchivedHashMap<K, V,
         accepts: &F,
     ) -> Option<(Ref<'a, K>, Ref<'a, V>)>
         requires has { HasMap K.shape V.shape K.knows V.knows this }
-        requires callable { (at : ℕ) → HasValue K.shape K.knows this.bytes.now at → F.pre accepts.now query (key_at this.bytes at) }
+        requires callable { (at : ℕ) → HasValue K.shape K.knows this.bytes.now at
+            → F.pre accepts.now query (key_at this.bytes at) }
         ensures there { IfSome result (IsThere K.shape V.shape K.knows V.knows) }
         ensures answers { (b : Buckets) → IsMap K.shape V.shape this.entry b
             → LooksUpKey (HashesTo H.is_default H.write H.finish (Q.hash_input query.now)) (query_calls F.post accepts.now query.entry this.entry.bytes)
@@ -40,7 +41,8 @@ impl<K: Portable, V: Portable, H: Hasher + Default + Drop> ArchivedHashMap<K, V,
         accepts: &F,
     ) -> Option<Ref<'a, V>>
         requires has { HasMap K.shape V.shape K.knows V.knows this }
-        requires callable { (at : ℕ) → HasValue K.shape K.knows this.bytes.now at → F.pre accepts.now query (key_at this.bytes at) }
+        requires callable { (at : ℕ) → HasValue K.shape K.knows this.bytes.now at
+            → F.pre accepts.now query (key_at this.bytes at) }
         ensures there { IfSome result (λ r. HasValue V.shape V.knows r.bytes.now r.pos) }
         ensures answers { (b : Buckets) → IsMap K.shape V.shape this.entry b
             → LooksUpKey (HashesTo H.is_default H.write H.finish (Q.hash_input query.now)) (query_calls F.post accepts.now query.entry this.entry.bytes)

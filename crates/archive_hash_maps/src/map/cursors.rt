@@ -15,7 +15,8 @@ impl<T: Portable> ArchivedHashTable<T> {
         requires has { HasTable T.shape T.knows this }
         ensures same_reference { result.bytes.ghost_name ≡ this.entry.bytes.ghost_name }
         ensures bytes { result.bytes.now ≡ this.entry.bytes.now }
-        ensures items { (m : BegunTable T.shape T.knows) → m.bytes ≡ this.entry.bytes.now → m.pos ≡ this.entry.pos
+        ensures items { (m : BegunTable T.shape T.knows) → m.bytes ≡ this.entry.bytes.now
+            → m.pos ≡ this.entry.pos
             → HasItems m result (items_of m) × IsWritten m result.bytes.now }
     {
         let Seal { bytes, pos, .. } = this;
@@ -29,7 +30,8 @@ impl<K: Portable, V: Portable, H> ArchivedHashMap<K, V, H> {
         requires has { HasMap K.shape V.shape K.knows V.knows this }
         ensures same_reference { result.bytes.ghost_name ≡ this.entry.bytes.ghost_name }
         ensures bytes { result.bytes.now ≡ this.entry.bytes.now }
-        ensures entries { (m : BegunMap K.shape V.shape K.knows V.knows) → m.bytes ≡ this.entry.bytes.now → m.pos ≡ this.entry.pos
+        ensures entries { (m : BegunMap K.shape V.shape K.knows V.knows)
+            → m.bytes ≡ this.entry.bytes.now → m.pos ≡ this.entry.pos
             → HasEntries m result (items_of m) × HasValuesWritten m result.bytes.now }
     {
         let Seal { bytes, pos, .. } = this;
@@ -41,7 +43,8 @@ impl<K: Portable, V: Portable, H> ArchivedHashMap<K, V, H> {
         requires has { HasMap K.shape V.shape K.knows V.knows this }
         ensures same_reference { result.entries.bytes.ghost_name ≡ this.entry.bytes.ghost_name }
         ensures bytes { result.entries.bytes.now ≡ this.entry.bytes.now }
-        ensures values { (m : BegunMap K.shape V.shape K.knows V.knows) → m.bytes ≡ this.entry.bytes.now → m.pos ≡ this.entry.pos
+        ensures values { (m : BegunMap K.shape V.shape K.knows V.knows) → m.bytes ≡ this.entry.bytes.now
+            → m.pos ≡ this.entry.pos
             → HasValues m result (items_of m) × HasValuesWritten m result.entries.bytes.now }
     {
         ValuesMut {

@@ -21,12 +21,14 @@ impl<K: ArchivedHash, V: ArchivedEq, H: Hasher + Default + Drop> ArchivedHashMap
     ) -> bool
         requires this { HasMap K.shape V.shape K.knows V.knows this }
         requires other { HasMap K.shape V.shape K.knows V.knows other }
-        ensures equal { (b c : Buckets) → IsMap K.shape V.shape this.entry b → IsMap K.shape V.shape other.entry c
+        ensures equal { (b c : Buckets) → IsMap K.shape V.shape this.entry b
+            → IsMap K.shape V.shape other.entry c
             → result ≡ true
             → (length (full_places b) ≡ length (full_places c))
             × All (λ (e : Ref K × Ref V). HasEqual (KeyHashesTo H.is_default H.write H.finish K.shape K.knows K.hashed) K.shape V.shape K.knows V.knows K.equal V.equal other.entry.bytes.now c e true)
             (map (entry_at this.entry.bytes K.shape V.shape) (item_positions (tuple2 K.shape V.shape) b)) }
-        ensures unequal { (b c : Buckets) → IsMap K.shape V.shape this.entry b → IsMap K.shape V.shape other.entry c
+        ensures unequal { (b c : Buckets) → IsMap K.shape V.shape this.entry b
+            → IsMap K.shape V.shape other.entry c
             → result ≡ false
             → (length (full_places b) ≡ length (full_places c) → ⊥)
             ⊎ ((e : Ref K × Ref V) × Contains (map (entry_at this.entry.bytes K.shape V.shape) (item_positions (tuple2 K.shape V.shape) b)) e

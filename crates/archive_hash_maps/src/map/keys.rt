@@ -68,7 +68,8 @@ impl<K, V: Portable, H: Hasher + Default + Drop> ArchivedHashMap<K, V, H> {
     where
         K: ArchivedKey<Q>,
         requires has { HasMap K.shape V.shape K.knows V.knows this }
-        requires present { HasKey (HashesTo H.is_default H.write H.finish (Q.hash_input query.now)) K.key_of K.order this.bytes.now K.shape V.shape this.pos query.now }
+        requires present { HasKey (HashesTo H.is_default H.write H.finish (Q.hash_input query.now))
+            K.key_of K.order this.bytes.now K.shape V.shape this.pos query.now }
         ensures there { HasValue V.shape V.knows result.bytes.now result.pos }
         ensures answers { (b : Buckets) → IsMap K.shape V.shape this.entry b
             → LooksUpKey (HashesTo H.is_default H.write H.finish (Q.hash_input query.now)) (KeySays K.key_of K.order this.entry.bytes.now query.now)

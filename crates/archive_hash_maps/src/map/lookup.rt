@@ -19,7 +19,8 @@ impl<T: Portable> ArchivedHashTable<T> {
         accepts: &F,
     ) -> (Option<Ref<'a, T>>, Steps)
         requires has { HasTable T.shape T.knows this }
-        requires callable { (at : ℕ) → HasValue T.shape T.knows this.bytes.now at → F.pre accepts.now (item_at this.bytes at) }
+        requires callable { (at : ℕ) → HasValue T.shape T.knows this.bytes.now at
+            → F.pre accepts.now (item_at this.bytes at) }
         ensures answers { (b : Buckets) → IsTable T.shape this.entry b
             → Answers (calls F.post accepts.now this.entry.bytes) (item_at this.entry.bytes) T.shape b hash result.0 result.1.strides }
         ensures there { IfSome result.0 (λ r. HasValue T.shape T.knows r.bytes.now r.pos) }
@@ -48,7 +49,8 @@ impl<T: Portable> ArchivedHashTable<T> {
         accepts: &F,
     ) -> Option<Ref<'a, T>>
         requires has { HasTable T.shape T.knows this }
-        requires callable { (at : ℕ) → HasValue T.shape T.knows this.bytes.now at → F.pre accepts.now (item_at this.bytes at) }
+        requires callable { (at : ℕ) → HasValue T.shape T.knows this.bytes.now at
+            → F.pre accepts.now (item_at this.bytes at) }
         ensures answers { (b : Buckets) → IsTable T.shape this.entry b
             → (strides : ℕ) × Answers (calls F.post accepts.now this.entry.bytes) (item_at this.entry.bytes) T.shape b hash result strides }
         ensures there { IfSome result (λ r. HasValue T.shape T.knows r.bytes.now r.pos) }
@@ -63,7 +65,8 @@ impl<T: Portable> ArchivedHashTable<T> {
         accepts: &F,
     ) -> Option<Ref<'a, T>>
         requires has { HasTable T.shape T.knows this }
-        requires callable { (at : ℕ) → HasValue T.shape T.knows this.bytes.now at → F.pre accepts.now (item_at this.bytes at) }
+        requires callable { (at : ℕ) → HasValue T.shape T.knows this.bytes.now at
+            → F.pre accepts.now (item_at this.bytes at) }
         ensures answers { (b : Buckets) → IsTable T.shape this.entry b
             → (strides : ℕ) × Answers (calls F.post accepts.now this.entry.bytes) (item_at this.entry.bytes) T.shape b hash result strides }
         ensures there { IfSome result (λ r. HasValue T.shape T.knows r.bytes.now r.pos) }

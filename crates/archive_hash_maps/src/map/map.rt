@@ -83,7 +83,8 @@ impl<K: Portable, V: Portable, H> ArchivedHashMap<K, V, H> {
     /// Returns whether the map has no entries.
     pub fn is_empty(this: Ref<'_, ArchivedHashMap<K, V, H>>) -> bool
         requires { HasMap K.shape V.shape K.knows V.knows this }
-        ensures { (b : Buckets) → IsMap K.shape V.shape this.entry b → IsTrue result ↔ (full_places b ≡ []) }
+        ensures { (b : Buckets) → IsMap K.shape V.shape this.entry b
+            → IsTrue result ↔ (full_places b ≡ []) }
     {
         ArchivedHashTable::is_empty(ArchivedHashMap::table(this))
     }

@@ -25,8 +25,10 @@ impl<T: Portable> ArchivedHashTable<T> {
         accepts: &F,
     ) -> Option<Seal<'a, T>>
         requires has { HasTable T.shape T.knows this }
-        requires callable { (lent : Bor (List ℕ)) (at : ℕ) → lent.now ≡ this.bytes.now → HasValue T.shape T.knows lent.now at → F.pre accepts.now (item_at lent at) }
-        ensures whole { IfSome result (λ r. (r.bytes.ghost_name ≡ this.entry.bytes.ghost_name) × (r.bytes.now ≡ this.entry.bytes.now)) }
+        requires callable { (lent : Bor (List ℕ)) (at : ℕ) → lent.now ≡ this.bytes.now
+            → HasValue T.shape T.knows lent.now at → F.pre accepts.now (item_at lent at) }
+        ensures whole { IfSome result (λ r. (r.bytes.ghost_name ≡ this.entry.bytes.ghost_name)
+            × (r.bytes.now ≡ this.entry.bytes.now)) }
         ensures there { IfSome result (λ r. HasValue T.shape T.knows r.bytes.now r.pos) }
         ensures answers { (b : Buckets) → IsTable T.shape this.entry b
             → (lent : Bor (List ℕ)) × (strides : ℕ) × (lent.now ≡ this.entry.bytes.now)
@@ -54,7 +56,8 @@ impl<K, V: Portable, H: Hasher + Default + Drop> ArchivedHashMap<K, V, H> {
     where
         K: ArchivedKey<Q>,
         requires has { HasMap K.shape V.shape K.knows V.knows this }
-        ensures whole { IfSome result (λ r. (r.bytes.ghost_name ≡ this.entry.bytes.ghost_name) × (r.bytes.now ≡ this.entry.bytes.now)) }
+        ensures whole { IfSome result (λ r. (r.bytes.ghost_name ≡ this.entry.bytes.ghost_name)
+            × (r.bytes.now ≡ this.entry.bytes.now)) }
         ensures there { IfSome result (λ r. HasValue V.shape V.knows r.bytes.now r.pos) }
         ensures answers { (b : Buckets) → IsMap K.shape V.shape this.entry b
             → LooksUpKey (HashesTo H.is_default H.write H.finish (Q.hash_input query.now)) (KeySays K.key_of K.order this.entry.bytes.now query.now)
@@ -108,8 +111,10 @@ impl<K: Portable, V: Portable, H: Hasher + Default + Drop> ArchivedHashMap<K, V,
         accepts: &F,
     ) -> Option<Seal<'a, V>>
         requires has { HasMap K.shape V.shape K.knows V.knows this }
-        requires callable { (lent : Bor (List ℕ)) (at : ℕ) → lent.now ≡ this.bytes.now → HasValue K.shape K.knows lent.now at → F.pre accepts.now query (key_at lent at) }
-        ensures whole { IfSome result (λ r. (r.bytes.ghost_name ≡ this.entry.bytes.ghost_name) × (r.bytes.now ≡ this.entry.bytes.now)) }
+        requires callable { (lent : Bor (List ℕ)) (at : ℕ) → lent.now ≡ this.bytes.now
+            → HasValue K.shape K.knows lent.now at → F.pre accepts.now query (key_at lent at) }
+        ensures whole { IfSome result (λ r. (r.bytes.ghost_name ≡ this.entry.bytes.ghost_name)
+            × (r.bytes.now ≡ this.entry.bytes.now)) }
         ensures there { IfSome result (λ r. HasValue V.shape V.knows r.bytes.now r.pos) }
         ensures answers { (b : Buckets) → IsMap K.shape V.shape this.entry b
             → (lent : Bor (List ℕ)) × (lent.now ≡ this.entry.bytes.now)
@@ -135,7 +140,8 @@ impl<K: Portable, V: Portable, H: Hasher + Default + Drop> ArchivedHashMap<K, V,
         accepts: &F,
     ) -> Option<(Ref<'a, K>, OwnSeal<'a, V>)>
         requires has { HasMap K.shape V.shape K.knows V.knows this }
-        requires callable { (lent : Bor (List ℕ)) (at : ℕ) → lent.now ≡ this.bytes.now → HasValue K.shape K.knows lent.now at → F.pre accepts.now query (key_at lent at) }
+        requires callable { (lent : Bor (List ℕ)) (at : ℕ) → lent.now ≡ this.bytes.now
+            → HasValue K.shape K.knows lent.now at → F.pre accepts.now query (key_at lent at) }
         ensures there { IfSome result (λ r. HasValue K.shape K.knows r.0.bytes.now r.0.pos) }
         ensures own { IfSome result (λ r. length r.1.own.now ≡ V.SIZE) }
         ensures answers { (b : Buckets) → IsMap K.shape V.shape this.entry b

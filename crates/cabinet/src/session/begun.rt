@@ -50,7 +50,8 @@ impl Begun {
         ensures not_read { IfErr result (λ cause. cause ≢ RunCause.Read) }
         ensures not_write { IfErr result (λ cause. cause ≢ RunCause.Write) }
         ensures count { self.new.count ≡ self.old.count }
-        ensures taken { newlines bytes.now ≡ 0 → (counts : Bool) (y new : List ℕ) → Takes counts bytes.now y y new new self.old self.new result }
+        ensures taken { newlines bytes.now ≡ 0 → (counts : Bool) (y new : List ℕ)
+            → Takes counts bytes.now y y new new self.old self.new result }
     {
         if bytes.is_empty() {
             return Ok(());

@@ -54,9 +54,11 @@ fn answer_question<W: Writer>(
 ) -> Result<(), Error>
     requires question { IsQuestion (line_of question.now) }
     requires room { W.failures writer.old < 2 ^ 64 - 1 }
-    ensures unedited { Edited opened.now.bytes.now opened.now.bytes.now (Some (line_of question.now) ∷ []) }
+    ensures unedited { Edited opened.now.bytes.now opened.now.bytes.now
+        (Some (line_of question.now) ∷ []) }
     ensures undone { (t : Tree) → one_if_done (reply t (Some (line_of question.now))) ≡ 0 }
-    ensures written { (t : Tree) → Accepted opened.now.bytes.now t → Writes W.Writer writer.old writer.new (answer_to t (Some (line_of question.now))) result }
+    ensures written { (t : Tree) → Accepted opened.now.bytes.now t
+        → Writes W.Writer writer.old writer.new (answer_to t (Some (line_of question.now))) result }
     ensures counted { FailsByWriter W.Writer writer.old writer.new result }
 {
     match opened.ask(question, writer) {
@@ -75,10 +77,13 @@ fn carry_out<W: Writer>(
     requires room { W.failures writer.old < 2 ^ 64 - 1 }
     requires edits_fit { edits.old < 2 ^ 64 - 1 }
     ensures same { opened.new.bytes.ghost_name ≡ opened.old.bytes.ghost_name }
-    ensures edited { Edited opened.old.bytes.now opened.new.bytes.now (option_map line_of said.now ∷ []) }
-    ensures written { (t : Tree) → Accepted opened.old.bytes.now t → Writes W.Writer writer.old writer.new (answer_to t (option_map line_of said.now)) result }
+    ensures edited { Edited opened.old.bytes.now opened.new.bytes.now
+        (option_map line_of said.now ∷ []) }
+    ensures written { (t : Tree) → Accepted opened.old.bytes.now t
+        → Writes W.Writer writer.old writer.new (answer_to t (option_map line_of said.now)) result }
     ensures counted { FailsByWriter W.Writer writer.old writer.new result }
-    ensures edits_counted { (t : Tree) → Accepted opened.old.bytes.now t → edits.new ≡ edits.old + one_if_done (reply t (option_map line_of said.now)) }
+    ensures edits_counted { (t : Tree) → Accepted opened.old.bytes.now t
+        → edits.new ≡ edits.old + one_if_done (reply t (option_map line_of said.now)) }
     ensures edits_grow { edits.new ≤ edits.old + 1 }
 {
     match said {
@@ -108,7 +113,8 @@ fn answer_line<W: Writer>(
     ensures line_counted { OnOk result (count.new.lines ≡ count.old.lines + 1) }
     ensures edits_within { count.new.edits ≤ count.new.lines }
     ensures not_read { IfErr result (λ cause. cause ≢ RunCause.Read) }
-    ensures writer_fails { MatchResult result (λ _. W.failures writer.new ≡ W.failures writer.old) (λ cause. WriterFails W.COUNTS cause (W.failures writer.old) (W.failures writer.new)) }
+    ensures writer_fails { MatchResult result (λ _. W.failures writer.new ≡ W.failures writer.old)
+        (λ cause. WriterFails W.COUNTS cause (W.failures writer.old) (W.failures writer.new)) }
     ensures edits { KeepsEdits opened.old.bytes.now opened.new.bytes.now count.old count.new }
     ensures carried { IsTrue W.OBSERVABLE → (input x old left : List ℕ) (more : List (List ℕ))
         → Carried input x opened.old.bytes.now old (W.contents writer.old) count.old.lines count.old.edits
@@ -141,9 +147,13 @@ fn end_line<W: Writer>(
     ensures same { opened.new.bytes.ghost_name ≡ opened.old.bytes.ghost_name }
     ensures total { OnOk result (begun.new.total ≡ begun.old.total + length rest.now + 1) }
     ensures not_read { IfErr result (λ cause. cause ≢ RunCause.Read) }
-    ensures writer_fails { MatchResult result (λ _. W.failures writer.new ≡ W.failures writer.old) (λ cause. WriterFails W.COUNTS cause (W.failures writer.old) (W.failures writer.new)) }
-    ensures edits { KeepsEdits opened.old.bytes.now opened.new.bytes.now begun.old.count begun.new.count }
-    ensures taken { IsTrue W.OBSERVABLE → newlines rest.now ≡ 0 → Takes W.COUNTS (rest.now ++ 10 ∷ []) opened.old.bytes.now opened.new.bytes.now (W.contents writer.old) (W.contents writer.new) begun.old begun.new result }
+    ensures writer_fails { MatchResult result (λ _. W.failures writer.new ≡ W.failures writer.old)
+        (λ cause. WriterFails W.COUNTS cause (W.failures writer.old) (W.failures writer.new)) }
+    ensures edits { KeepsEdits opened.old.bytes.now opened.new.bytes.now begun.old.count
+        begun.new.count }
+    ensures taken { IsTrue W.OBSERVABLE → newlines rest.now ≡ 0
+        → Takes W.COUNTS (rest.now ++ 10 ∷ []) opened.old.bytes.now opened.new.bytes.now
+        (W.contents writer.old) (W.contents writer.new) begun.old begun.new result }
 {
     if rest.len() > LONGEST_LINE - begun.line.len() {
         return Err(RunCause::LineTooLong);
@@ -187,9 +197,13 @@ fn feed<W: Writer>(
     ensures total { OnOk result (begun.new.total ≡ begun.old.total + length piece.now) }
     ensures same { opened.new.bytes.ghost_name ≡ opened.old.bytes.ghost_name }
     ensures not_read { IfErr result (λ cause. cause ≢ RunCause.Read) }
-    ensures writer_fails { MatchResult result (λ _. W.failures writer.new ≡ W.failures writer.old) (λ cause. WriterFails W.COUNTS cause (W.failures writer.old) (W.failures writer.new)) }
-    ensures edits { KeepsEdits opened.old.bytes.now opened.new.bytes.now begun.old.count begun.new.count }
-    ensures taken { IsTrue W.OBSERVABLE → Takes W.COUNTS piece.now opened.old.bytes.now opened.new.bytes.now (W.contents writer.old) (W.contents writer.new) begun.old begun.new result }
+    ensures writer_fails { MatchResult result (λ _. W.failures writer.new ≡ W.failures writer.old)
+        (λ cause. WriterFails W.COUNTS cause (W.failures writer.old) (W.failures writer.new)) }
+    ensures edits { KeepsEdits opened.old.bytes.now opened.new.bytes.now begun.old.count
+        begun.new.count }
+    ensures taken { IsTrue W.OBSERVABLE
+        → Takes W.COUNTS piece.now opened.old.bytes.now opened.new.bytes.now (W.contents writer.old)
+        (W.contents writer.new) begun.old begun.new result }
 {
     let mut rest = piece;
     while let Some(end) = newline_in(rest) {
@@ -214,9 +228,13 @@ pub(super) fn take_piece<W: Writer>(
     ensures total { OnOk result (begun.new.total ≡ begun.old.total + length piece.now) }
     ensures same { opened.new.bytes.ghost_name ≡ opened.old.bytes.ghost_name }
     ensures not_read { IfErr result (λ cause. cause ≢ RunCause.Read) }
-    ensures writer_fails { MatchResult result (λ _. W.failures writer.new ≡ W.failures writer.old) (λ cause. WriterFails W.COUNTS cause (W.failures writer.old) (W.failures writer.new)) }
-    ensures edits { KeepsEdits opened.old.bytes.now opened.new.bytes.now begun.old.count begun.new.count }
-    ensures taken { IsTrue W.OBSERVABLE → Takes W.COUNTS piece.now opened.old.bytes.now opened.new.bytes.now (W.contents writer.old) (W.contents writer.new) begun.old begun.new result }
+    ensures writer_fails { MatchResult result (λ _. W.failures writer.new ≡ W.failures writer.old)
+        (λ cause. WriterFails W.COUNTS cause (W.failures writer.old) (W.failures writer.new)) }
+    ensures edits { KeepsEdits opened.old.bytes.now opened.new.bytes.now begun.old.count
+        begun.new.count }
+    ensures taken { IsTrue W.OBSERVABLE
+        → Takes W.COUNTS piece.now opened.old.bytes.now opened.new.bytes.now (W.contents writer.old)
+        (W.contents writer.new) begun.old begun.new result }
 {
     let room = LONGEST_INPUT - begun.total;
     if piece.len() as u64 <= room {
@@ -243,9 +261,12 @@ pub(super) fn end_input<W: Writer>(
     requires { W.failures writer.old < 2 ^ 64 - 1 }
     ensures same { opened.new.bytes.ghost_name ≡ opened.old.bytes.ghost_name }
     ensures not_read { IfErr result (λ cause. cause ≢ RunCause.Read) }
-    ensures writer_fails { MatchResult result (λ _. W.failures writer.new ≡ W.failures writer.old) (λ cause. WriterFails W.COUNTS cause (W.failures writer.old) (W.failures writer.new)) }
-    ensures edits { KeepsEdits opened.old.bytes.now opened.new.bytes.now begun.old.count begun.new.count }
-    ensures ended { IsTrue W.OBSERVABLE → (input x old left : List ℕ) → IsAt input x opened.old.bytes.now old (W.contents writer.old) begun.old []
+    ensures writer_fails { MatchResult result (λ _. W.failures writer.new ≡ W.failures writer.old)
+        (λ cause. WriterFails W.COUNTS cause (W.failures writer.old) (W.failures writer.new)) }
+    ensures edits { KeepsEdits opened.old.bytes.now opened.new.bytes.now begun.old.count
+        begun.new.count }
+    ensures ended { IsTrue W.OBSERVABLE → (input x old left : List ℕ)
+        → IsAt input x opened.old.bytes.now old (W.contents writer.old) begun.old []
         → MatchResult result
         (λ _. Completed input x opened.new.bytes.now old (W.contents writer.new) begun.new.count.lines begun.new.count.edits)
         (StopsAt W.COUNTS input left x opened.new.bytes.now old (W.contents writer.new) begun.new) }

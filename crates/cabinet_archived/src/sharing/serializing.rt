@@ -18,7 +18,8 @@ pub trait TextSharing: Writer + Allocator {
     fn serialize_text(&mut self, text: &str) -> Result<usize, Error>
         requires room { Self.failures self.old < 2 ^ 64 - 1 }
         requires state { HasState Self.pos Self.known self.old }
-        ensures { Serializes (shared_text_spelling text_key) Self.Writer text.now self.old self.new result };
+        ensures { Serializes (shared_text_spelling text_key) Self.Writer text.now self.old
+            self.new result };
 }
 
 /// Writes a zero byte after an empty text.

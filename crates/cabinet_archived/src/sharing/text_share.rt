@@ -42,7 +42,9 @@ impl TextShare {
 
     /// Keeps the position at which a text is written. Returns `OutOfMemory` when an allocation fails.
     pub(crate) fn keep(&mut self, alloc: Global, text: &str, pos: usize) -> Result<(), Error>
-        ensures { MatchResult result (λ _. IsSet (⟦<TextShare as Registry>⟧.known self.old) (⟦<TextShare as Registry>⟧.known self.new) (text_key text.now) (ended pos)) (λ e. e ≡ OutOfMemory) }
+        ensures { MatchResult result (λ _. IsSet (⟦<TextShare as Registry>⟧.known self.old)
+            (⟦<TextShare as Registry>⟧.known self.new) (text_key text.now) (ended pos))
+            (λ e. e ≡ OutOfMemory) }
     {
         let copy = match String::from_str(alloc, text) {
             Ok(copy) => copy,

@@ -23,8 +23,11 @@ use cabinet_text_writing::{answer_missing, answer_wrong, write_head};
 fn answer_head<W: Writer>(node: Ref<'_, ArchivedNode>, writer: &mut W) -> Result<Asked, Error>
     requires there { HasValue node_shape KnowsNode node.bytes.now node.pos }
     requires room { W.failures writer.old < 2 ^ 64 - 1 }
-    ensures written { OfDocument node.entry.bytes.now node.entry.pos (λ t. Writes W.Writer writer.old writer.new (spelled_answer (grammar.head (grammar.head_of t))) result) }
-    ensures asked { IfOk result (λ asked. OfDocument node.entry.bytes.now node.entry.pos (λ t. Tells asked (grammar.head (grammar.head_of t)))) }
+    ensures written { OfDocument node.entry.bytes.now node.entry.pos
+        (λ t. Writes W.Writer writer.old writer.new
+        (spelled_answer (grammar.head (grammar.head_of t))) result) }
+    ensures asked { IfOk result (λ asked. OfDocument node.entry.bytes.now node.entry.pos
+        (λ t. Tells asked (grammar.head (grammar.head_of t)))) }
     ensures counted { FailsByWriter W.Writer writer.old writer.new result }
 {
     write_head(head(node), writer)?;
@@ -40,8 +43,11 @@ pub fn ask<W: Writer>(
     requires there { HasValue node_shape KnowsNode root.bytes.now root.pos }
     requires question { IsQuestion (line_of line.now) }
     requires room { W.failures writer.old < 2 ^ 64 - 1 }
-    ensures written { OfDocument root.entry.bytes.now root.entry.pos (λ t. Writes W.Writer writer.old writer.new (spelled_answer (answer t (line_of line.now))) result) }
-    ensures asked { IfOk result (λ asked. OfDocument root.entry.bytes.now root.entry.pos (λ t. Tells asked (answer t (line_of line.now)))) }
+    ensures written { OfDocument root.entry.bytes.now root.entry.pos
+        (λ t. Writes W.Writer writer.old writer.new
+        (spelled_answer (answer t (line_of line.now))) result) }
+    ensures asked { IfOk result (λ asked. OfDocument root.entry.bytes.now root.entry.pos
+        (λ t. Tells asked (answer t (line_of line.now)))) }
     ensures counted { FailsByWriter W.Writer writer.old writer.new result }
 {
     let path = match line {

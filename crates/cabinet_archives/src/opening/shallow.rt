@@ -32,7 +32,8 @@ fn is_leaf(node: Ref<'_, ArchivedNode>) -> bool
 #[cycle(shallow)]
 fn are_shallow(nodes: SliceRef<'_, ArchivedNode>, room: usize) -> bool
     requires { HasElements node_shape KnowsNode nodes.bytes.now nodes.pos nodes.len }
-    ensures { (v : Value) (t : Tree) → AreElements node_shape KnowsNode nodes.entry.bytes.now nodes.entry.pos nodes.entry.len v
+    ensures { (v : Value) (t : Tree)
+        → AreElements node_shape KnowsNode nodes.entry.bytes.now nodes.entry.pos nodes.entry.len v
         → Denotes (tagged_value 5 v) t → IsTrue result ↔ (depth t ≤ room) }
 {
     let Some(left) = room.checked_sub(1) else {
@@ -51,7 +52,8 @@ fn are_shallow(nodes: SliceRef<'_, ArchivedNode>, room: usize) -> bool
 #[cycle(shallow)]
 fn is_option_shallow(maybe: Ref<'_, ArchivedOption<ArchivedBox<ArchivedNode>>>, room: usize) -> bool
     requires { HasValue (option (box (sized node_shape))) KnowsNode maybe.bytes.now maybe.pos }
-    ensures { (v : Value) (t : Tree) → HeldAt (option (box (sized node_shape))) KnowsNode maybe.entry.bytes.now maybe.entry.pos v
+    ensures { (v : Value) (t : Tree)
+        → HeldAt (option (box (sized node_shape))) KnowsNode maybe.entry.bytes.now maybe.entry.pos v
         → Denotes (tagged_value 4 v) t → IsTrue result ↔ (depth t ≤ room) }
 {
     let Some(left) = room.checked_sub(1) else {

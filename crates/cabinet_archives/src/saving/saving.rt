@@ -72,12 +72,14 @@ pub fn save<W: Writer>(
 ) -> Result<(), SaveRefusal>
     requires start { W.pos writer.old ≡ 0 }
     requires room { W.failures writer.old < 2 ^ 64 - 1 }
-    ensures saved { OnOk result (IsTrue W.OBSERVABLE → Saved document.now (W.contents writer.old) (W.contents writer.new)) }
+    ensures saved { OnOk result (IsTrue W.OBSERVABLE
+        → Saved document.now (W.contents writer.old) (W.contents writer.new)) }
     ensures laid { OnOk result (HasLayout document.now) }
     ensures quiet { OnOk result (W.failures writer.new ≡ W.failures writer.old) }
     ensures refused { IfErr result (IsUnsavedFor W.Writer document.now writer.old writer.new) }
     // The bytes that the writer took are a prefix of the image.
-    ensures cut { OnErr result ((image : List ℕ) → Image document.now image → IsTrue W.OBSERVABLE → Cut (W.contents writer.old) (W.contents writer.new) image) }
+    ensures cut { OnErr result ((image : List ℕ) → Image document.now image → IsTrue W.OBSERVABLE
+        → Cut (W.contents writer.old) (W.contents writer.new) image) }
 {
     let image = match to_bytes(alloc, document) {
         Ok(image) => image,

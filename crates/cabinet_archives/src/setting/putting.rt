@@ -16,7 +16,8 @@ use cabinet_text_nodes::{LeafRef, SetAnswer};
 /// length.
 pub(crate) fn put_leaf(bytes: &mut [u8], pos: usize, leaf: LeafRef<'_>) -> SetAnswer
     requires { HasValue node_shape KnowsNode bytes.old pos }
-    ensures answer { OfDocument bytes.old pos (λ t. outcome_of result ≡ outcome_there (lent_leaf leaf.entry) t) }
+    ensures answer { OfDocument bytes.old pos
+        (λ t. outcome_of result ≡ outcome_there (lent_leaf leaf.entry) t) }
     ensures bytes { PutLeaves bytes.old pos (lent_leaf leaf.entry) (outcome_of result) bytes.new }
 {
     match (ArchivedNode::kind(Ref::new(bytes, pos)), leaf) {

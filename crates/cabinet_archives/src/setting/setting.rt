@@ -20,12 +20,17 @@ use cabinet_text_nodes::{Leaf, SetAnswer, Step};
 /// kind and, for a text, of the same length. Reads only the nodes on the path, and does not allocate.
 pub fn set(bytes: &mut [u8], path: &[Step], leaf: &Leaf) -> SetAnswer
     requires { ∥ ((t : Tree) × Accepted bytes.old t) ∥₁ }
-    ensures answer { (t : Tree) → Accepted bytes.old t → outcome_of result ≡ answer t (line.set (path_of path.now) (leaf_of leaf.now)) }
+    ensures answer { (t : Tree) → Accepted bytes.old t
+        → outcome_of result ≡ answer t (line.set (path_of path.now) (leaf_of leaf.now)) }
     ensures legal { IsLeaf (leaf_of leaf.now) }
     // No other bytes change.
-    ensures bytes { (t : Tree) (a : Accepted bytes.old t) → EditLeaves bytes.old a.value (path_of path.now) (leaf_of leaf.now) (outcome_of result) bytes.new }
-    ensures document { (t : Tree) → Accepted bytes.old t → Accepted bytes.new (change t (path_of path.now) (leaf_of leaf.now)) }
-    ensures image { (t : Tree) → Image t bytes.old → Image (change t (path_of path.now) (leaf_of leaf.now)) bytes.new }
+    ensures bytes { (t : Tree) (a : Accepted bytes.old t)
+        → EditLeaves bytes.old a.value (path_of path.now) (leaf_of leaf.now)
+        (outcome_of result) bytes.new }
+    ensures document { (t : Tree) → Accepted bytes.old t
+        → Accepted bytes.new (change t (path_of path.now) (leaf_of leaf.now)) }
+    ensures image { (t : Tree) → Image t bytes.old
+        → Image (change t (path_of path.now) (leaf_of leaf.now)) bytes.new }
 {
     let new = leaf.as_ref();
     let root = root_position::<ArchivedNode>(bytes.len());

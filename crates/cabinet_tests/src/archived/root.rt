@@ -11,7 +11,8 @@ use std::alloc::Global;
 
 /// Returns the node at the root of bytes, if they are accepted.
 pub fn root_of(alloc: Global, bytes: &[u8]) -> Result<Ref<'_, ArchivedNode>, Error>
-    ensures { IfOk result (λ r. (r.bytes ≡ bytes.entry) × HasValue node_shape KnowsNode r.bytes.now r.pos) }
+    ensures { IfOk result (λ r. (r.bytes ≡ bytes.entry)
+        × HasValue node_shape KnowsNode r.bytes.now r.pos) }
 {
     let root = access::<ArchivedNode>(alloc, bytes);
     match root {

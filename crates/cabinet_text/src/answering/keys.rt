@@ -13,7 +13,8 @@ use std::collections::BTreeMap;
 /// Writes each key of an ordered map.
 fn write_each<W: Writer>(map: &BTreeMap<String, Node>, writer: &mut W) -> Result<(), Error>
     requires { W.failures writer.old < 2 ^ 64 - 1 }
-    ensures { Writes W.Writer writer.old writer.new (spelled_keys (keys_in (node_pairs map.now.entries))) result }
+    ensures { Writes W.Writer writer.old writer.new
+        (spelled_keys (keys_in (node_pairs map.now.entries))) result }
 {
     for (key, _) in map {
         write_key(key.as_str(), writer)?;
@@ -24,7 +25,8 @@ fn write_each<W: Writer>(map: &BTreeMap<String, Node>, writer: &mut W) -> Result
 /// Writes each key of a kept map.
 fn write_each_kept<W: Writer>(pairs: &[(String, Node)], writer: &mut W) -> Result<(), Error>
     requires { W.failures writer.old < 2 ^ 64 - 1 }
-    ensures { Writes W.Writer writer.old writer.new (spelled_keys (keys_in (node_pairs pairs.now))) result }
+    ensures { Writes W.Writer writer.old writer.new
+        (spelled_keys (keys_in (node_pairs pairs.now))) result }
 {
     for (key, _) in pairs {
         write_key(key.as_str(), writer)?;
@@ -38,7 +40,8 @@ pub(crate) fn write_keys<W: Writer>(
     writer: &mut W,
 ) -> Result<(), Error>
     requires { W.failures writer.old < 2 ^ 64 - 1 }
-    ensures { Writes W.Writer writer.old writer.new (spelled_answer (keys_are (keys_in (node_pairs map.now.entries)))) result }
+    ensures { Writes W.Writer writer.old writer.new
+        (spelled_answer (keys_are (keys_in (node_pairs map.now.entries)))) result }
 {
     write_keys_head(map.len() as u64, writer)?;
     write_each(map, writer)?;
@@ -51,7 +54,8 @@ pub(crate) fn write_kept_keys<W: Writer>(
     writer: &mut W,
 ) -> Result<(), Error>
     requires { W.failures writer.old < 2 ^ 64 - 1 }
-    ensures { Writes W.Writer writer.old writer.new (spelled_answer (keys_are (keys_in (node_pairs pairs.now)))) result }
+    ensures { Writes W.Writer writer.old writer.new
+        (spelled_answer (keys_are (keys_in (node_pairs pairs.now)))) result }
 {
     write_keys_head(pairs.len() as u64, writer)?;
     write_each_kept(pairs, writer)?;
@@ -67,7 +71,8 @@ fn is_within(key: &str, low: &str, high: &str) -> bool
 
 /// Returns the number of keys that are at or above the first bound and below the second.
 fn count_within(map: &BTreeMap<String, Node>, low: &str, high: &str) -> usize
-    ensures { result ≡ length (filter (lies_within low.now high.now) (keys_in (node_pairs map.now.entries))) }
+    ensures { result ≡ length (filter (lies_within low.now high.now)
+        (keys_in (node_pairs map.now.entries))) }
 {
     let mut count = 0;
     for (key, _) in map {
@@ -86,7 +91,8 @@ fn write_each_within<W: Writer>(
     writer: &mut W,
 ) -> Result<(), Error>
     requires { W.failures writer.old < 2 ^ 64 - 1 }
-    ensures { Writes W.Writer writer.old writer.new (spelled_keys (filter (lies_within low.now high.now) (keys_in (node_pairs map.now.entries)))) result }
+    ensures { Writes W.Writer writer.old writer.new
+        (spelled_keys (filter (lies_within low.now high.now) (keys_in (node_pairs map.now.entries)))) result }
 {
     for (key, _) in map {
         if is_within(key.as_str(), low, high) {

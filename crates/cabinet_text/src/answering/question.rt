@@ -16,8 +16,10 @@ use cabinet_text_writing::{answer_missing, answer_wrong, write_head};
 /// Writes the head of a node.
 fn answer_head<W: Writer>(node: &Node, writer: &mut W) -> Result<Asked, Error>
     requires { W.failures writer.old < 2 ^ 64 - 1 }
-    ensures written { Writes W.Writer writer.old writer.new (spelled_answer (grammar.head (grammar.head_of (node_tree node.now)))) result }
-    ensures asked { IfOk result (λ asked. Tells asked (grammar.head (grammar.head_of (node_tree node.now)))) }
+    ensures written { Writes W.Writer writer.old writer.new
+        (spelled_answer (grammar.head (grammar.head_of (node_tree node.now)))) result }
+    ensures asked { IfOk result (λ asked. Tells asked
+        (grammar.head (grammar.head_of (node_tree node.now)))) }
 {
     write_head(node.head(), writer)?;
     Ok(Asked::Answered)
@@ -26,7 +28,8 @@ fn answer_head<W: Writer>(node: &Node, writer: &mut W) -> Result<Asked, Error>
 /// Writes the keys of a node, or the answer that it has none in an order.
 fn answer_keys<W: Writer>(node: &Node, writer: &mut W) -> Result<Asked, Error>
     requires { W.failures writer.old < 2 ^ 64 - 1 }
-    ensures written { Writes W.Writer writer.old writer.new (spelled_answer (keys_of (node_tree node.now))) result }
+    ensures written { Writes W.Writer writer.old writer.new
+        (spelled_answer (keys_of (node_tree node.now))) result }
     ensures asked { IfOk result (λ asked. Tells asked (keys_of (node_tree node.now))) }
 {
     match node {
@@ -51,8 +54,10 @@ fn answer_range<W: Writer>(
     writer: &mut W,
 ) -> Result<Asked, Error>
     requires { W.failures writer.old < 2 ^ 64 - 1 }
-    ensures written { Writes W.Writer writer.old writer.new (spelled_answer (keys_within low.now high.now (node_tree node.now))) result }
-    ensures asked { IfOk result (λ asked. Tells asked (keys_within low.now high.now (node_tree node.now))) }
+    ensures written { Writes W.Writer writer.old writer.new
+        (spelled_answer (keys_within low.now high.now (node_tree node.now))) result }
+    ensures asked { IfOk result (λ asked. Tells asked
+        (keys_within low.now high.now (node_tree node.now))) }
 {
     match node {
         Node::Ordered(map) => {
@@ -67,8 +72,10 @@ fn answer_range<W: Writer>(
 pub fn answer<W: Writer>(document: &Document, line: &Line, writer: &mut W) -> Result<Asked, Error>
     requires question { IsQuestion (line_of line.now) }
     requires room { W.failures writer.old < 2 ^ 64 - 1 }
-    ensures written { Writes W.Writer writer.old writer.new (spelled_answer (grammar.answer document.now (line_of line.now))) result }
-    ensures asked { IfOk result (λ asked. Tells asked (grammar.answer document.now (line_of line.now))) }
+    ensures written { Writes W.Writer writer.old writer.new
+        (spelled_answer (grammar.answer document.now (line_of line.now))) result }
+    ensures asked { IfOk result (λ asked. Tells asked
+        (grammar.answer document.now (line_of line.now))) }
 {
     let path = match line {
         Line::Get(path) | Line::Keys(path) => path,

@@ -9,7 +9,8 @@ use cabinet_text_nodes::{Node, Step};
 
 /// Returns the node of a key. It compares the key with each key up to the one that is equal.
 fn node_by<'d>(pairs: &'d [(String, Node)], key: &str) -> Option<&'d Node>
-    ensures { option_map (λ node. node_tree node.now) result ≡ grammar.node_by (node_pairs pairs.now) key.now [] }
+    ensures { option_map (λ node. node_tree node.now) result
+        ≡ grammar.node_by (node_pairs pairs.now) key.now [] }
 {
     for (other, node) in pairs {
         if other.as_str() == key {
@@ -21,7 +22,8 @@ fn node_by<'d>(pairs: &'d [(String, Node)], key: &str) -> Option<&'d Node>
 
 /// Returns the node at one step from another.
 fn node_behind<'d>(node: &'d Node, step: &Step) -> Option<&'d Node>
-    ensures { option_map (λ node. node_tree node.now) result ≡ grammar.node_at (node_tree node.now) (step_of step.now ∷ []) }
+    ensures { option_map (λ node. node_tree node.now) result
+        ≡ grammar.node_at (node_tree node.now) (step_of step.now ∷ []) }
 {
     match (node, step) {
         (Node::Maybe(Some(content)), Step::Inside) => Some(content),
@@ -36,7 +38,8 @@ fn node_behind<'d>(node: &'d Node, step: &Step) -> Option<&'d Node>
 /// Returns the node that a path leads to, if it leads to one. It allocates no memory. A step by the key of an ordered
 /// or a hashed map takes time in proportion to the logarithm of the map's length.
 pub fn node_at<'d>(root: &'d Node, path: &[Step]) -> Option<&'d Node>
-    ensures { option_map (λ node. node_tree node.now) result ≡ grammar.node_at (node_tree root.now) (path_of path.now) }
+    ensures { option_map (λ node. node_tree node.now) result
+        ≡ grammar.node_at (node_tree root.now) (path_of path.now) }
 {
     let mut node = root;
     for step in path {

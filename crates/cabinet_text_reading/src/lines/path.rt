@@ -20,7 +20,8 @@ pub(crate) enum StepRef<'a> {
 
 /// Reads a word as a step.
 fn read_step(word: &[u8]) -> Option<StepRef<'_>>
-    ensures { MatchOption result (IsSpelledStep word.now → ⊥) (λ step. IsSpelledStep (lent_step step) × (word.now ≡ lent_step step)) }
+    ensures { MatchOption result (IsSpelledStep word.now
+        → ⊥) (λ step. IsSpelledStep (lent_step step) × (word.now ≡ lent_step step)) }
 {
     if word == b"?".as_slice() {
         return Some(StepRef::Inside);
@@ -43,7 +44,8 @@ fn read_step(word: &[u8]) -> Option<StepRef<'_>>
 
 /// Returns the first step of a path, and the bytes after it.
 pub(crate) fn next_step(path: &[u8]) -> Option<(StepRef<'_>, &[u8])>
-    ensures { MatchOption result (IsPath path.now → path.now ≡ []) (λ p. BeginsWithStep path.now p.0 p.1.now) }
+    ensures { MatchOption result (IsPath path.now
+        → path.now ≡ []) (λ p. BeginsWithStep path.now p.0 p.1.now) }
 {
     let Some(spaced) = after_prefix(path, b" ".as_slice()) else {
         return None;
@@ -57,7 +59,8 @@ pub(crate) fn next_step(path: &[u8]) -> Option<(StepRef<'_>, &[u8])>
 
 /// Returns the escaped key that a path begins with, and the bytes after it.
 pub(crate) fn next_key(path: &[u8]) -> Option<(&[u8], &[u8])>
-    ensures { MatchOption result (BeginsByKey path.now → ⊥) (λ p. BeginsWithStep path.now (Key p.0) p.1.now) }
+    ensures { MatchOption result (BeginsByKey path.now
+        → ⊥) (λ p. BeginsWithStep path.now (Key p.0) p.1.now) }
 {
     let Some((step, rest)) = next_step(path) else {
         return None;

@@ -16,7 +16,8 @@ use std::collections::BTreeMap;
 /// Returns the fault of a key after the ascending keys of a map. `argument` is the key's escaped form.
 fn order_fault(pairs: &BTreeMap<String, Node>, argument: &[u8]) -> Option<Cause>
     requires { IsEscaped argument.now }
-    ensures { MatchOption result (IsKeyAfter ordered pairs.now.entries argument.now) (λ cause. (cause ≡ KeyOrder) × (IsKeyAfter ordered pairs.now.entries argument.now → ⊥)) }
+    ensures { MatchOption result (IsKeyAfter ordered pairs.now.entries argument.now)
+        (λ cause. (cause ≡ KeyOrder) × (IsKeyAfter ordered pairs.now.entries argument.now → ⊥)) }
 {
     let (last, _) = pairs.last_key_value()?;
     if cmp_escaped(argument, last.as_bytes()).is_gt() {

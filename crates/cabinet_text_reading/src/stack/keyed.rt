@@ -24,9 +24,11 @@ impl<'a> Keyed<'a> {
     /// Adds the node of the key, which completes the next pair.
     pub fn with_node(self, node: Node) -> Result<Pairs<'a>, AllocError>
         requires pairs { ArePairs (keyed_kind self) [] (node_pairs (keyed_entries self)) }
-        requires follows { MayFollow (keyed_kind self) (keys_after [] (node_pairs (keyed_entries self))) (string_bytes (key_of self)) }
+        requires follows { MayFollow (keyed_kind self) (keys_after [] (node_pairs (keyed_entries self)))
+            (string_bytes (key_of self)) }
         ensures kind { IfOk result (λ pairs. kind_of pairs ≡ keyed_kind self.entry) }
-        ensures pairs { IfOk result (λ pairs. entries_of pairs ≡ keyed_entries self.entry ++ (key_of self.entry, node) ∷ []) }
+        ensures pairs { IfOk result (λ pairs. entries_of pairs
+            ≡ keyed_entries self.entry ++ (key_of self.entry, node) ∷ []) }
     {
         match self {
             Keyed::Ordered(mut pairs, key) => {

@@ -44,8 +44,10 @@ impl<'a> Pairs<'a> {
         ensures kind { IfOk result (λ keyed. keyed_kind keyed ≡ kind_of self.entry) }
         ensures pairs { IfOk result (λ keyed. keyed_entries keyed ≡ entries_of self.entry) }
         ensures key { IfOk result (λ keyed. argument.now ≡ escaped (string_bytes (key_of keyed))) }
-        ensures admitted { IfOk result (λ keyed. Admits (key_due self.entry) (key_item (string_bytes (key_of keyed)))) }
-        ensures fault { IfErr result (IsFirstCause (key_due self.entry) (Some (key_line argument.now))) }
+        ensures admitted { IfOk result (λ keyed. Admits (key_due self.entry)
+            (key_item (string_bytes (key_of keyed)))) }
+        ensures fault { IfErr result (IsFirstCause (key_due self.entry)
+            (Some (key_line argument.now))) }
     {
         match self {
             Pairs::Ordered(pairs) => {

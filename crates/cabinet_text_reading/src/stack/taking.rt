@@ -28,7 +28,8 @@ fn close_with<'a>(
     stack: &mut Vec<Frame<'a>>,
 ) -> Result<Next<'a>, AllocError>
     requires { AreOpen (stack_of stack.old.items) }
-    ensures { IfOk result (λ next. state_of next stack.new.items ≡ plug (node_tree whole) (stack_of stack.old.items)) }
+    ensures { IfOk result (λ next. state_of next stack.new.items ≡ plug (node_tree whole)
+        (stack_of stack.old.items)) }
 {
     let mut node = whole;
     while let Some(frame) = stack.pop() {
@@ -65,7 +66,8 @@ fn put_in<'a>(
     stack: &mut Vec<Frame<'a>>,
 ) -> Result<Next<'a>, AllocError>
     requires { AreOpen (stack_of stack.old.items) }
-    ensures { IfOk result (λ next. state_of next stack.new.items ≡ plug (node_tree whole) (stack_of stack.old.items)) }
+    ensures { IfOk result (λ next. state_of next stack.new.items ≡ plug (node_tree whole)
+        (stack_of stack.old.items)) }
 {
     let Some(frame) = stack.last_mut() else {
         return Ok(Next::Done(whole));
@@ -86,7 +88,8 @@ pub fn take_head<'a>(
     stack: &mut Vec<Frame<'a>>,
 ) -> Result<Next<'a>, AllocError>
     requires { AreOpen (stack_of stack.old.items) }
-    ensures { IfOk result (λ next. state_of next stack.new.items ≡ step (stack_of stack.old.items) (item_of head)) }
+    ensures { IfOk result (λ next. state_of next stack.new.items ≡ step (stack_of stack.old.items)
+        (item_of head)) }
 {
     match head {
         Head::Leaf(Leaf::Bool(value)) => put_in(alloc, Node::Bool(value), stack),
@@ -121,7 +124,8 @@ fn open_map<'a>(
 ) -> Result<Next<'a>, AllocError>
     requires opened { AreOpen (stack_of stack.old.items) }
     requires none { entries_of pairs ≡ [] }
-    ensures { IfOk result (λ next. state_of next stack.new.items ≡ step (stack_of stack.old.items) (map_item (kind_of pairs.entry) count)) }
+    ensures { IfOk result (λ next. state_of next stack.new.items ≡ step (stack_of stack.old.items)
+        (map_item (kind_of pairs.entry) count)) }
 {
     if count == 0 {
         put_in(alloc, pairs.into_node(), stack)
@@ -138,8 +142,11 @@ pub fn take_key<'a>(
     stack: &mut Vec<Frame<'a>>,
 ) -> Result<(), Cause>
     requires { IsEscaped argument.now }
-    ensures taken { IfOk result (λ _. (k : List ℕ) × (argument.now ≡ escaped k) × Admits (key_due map.entry.pairs) (key_item k) × (going (stack_of stack.new.items) ≡ step (inside_map map.entry stack.old.items) (key_item k))) }
-    ensures fault { IfErr result (IsFirstCause (key_due map.entry.pairs) (Some (key_line argument.now))) }
+    ensures taken { IfOk result (λ _. (k : List ℕ) × (argument.now ≡ escaped k)
+        × Admits (key_due map.entry.pairs) (key_item k)
+        × (going (stack_of stack.new.items) ≡ step (inside_map map.entry stack.old.items) (key_item k))) }
+    ensures fault { IfErr result (IsFirstCause (key_due map.entry.pairs)
+        (Some (key_line argument.now))) }
 {
     let OpenMap { count, pairs } = map;
     let pairs = pairs.with_key(alloc, argument)?;

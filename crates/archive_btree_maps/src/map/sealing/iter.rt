@@ -16,7 +16,8 @@ impl<K: Portable, V: Portable, const E: usize> ArchivedBTreeMap<K, V, E> {
         requires has { HasMap E K.shape V.shape K.knows V.knows this }
         ensures same_reference { result.bytes.ghost_name ≡ this.entry.bytes.ghost_name }
         ensures bytes { result.bytes.now ≡ this.entry.bytes.now }
-        ensures entries { (m : BegunMap E K.shape V.shape K.knows V.knows) → m.bytes ≡ this.entry.bytes.now → m.pos ≡ this.entry.pos
+        ensures entries { (m : BegunMap E K.shape V.shape K.knows V.knows)
+            → m.bytes ≡ this.entry.bytes.now → m.pos ≡ this.entry.pos
             → HasEntries m result (items m.search_tree) × IsWritten m result.bytes.now }
     {
         let Seal { bytes, pos, .. } = this;
@@ -30,7 +31,8 @@ impl<K: Portable, V: Portable, const E: usize> ArchivedBTreeMap<K, V, E> {
         requires has { HasMap E K.shape V.shape K.knows V.knows this }
         ensures same_reference { result.entries.bytes.ghost_name ≡ this.entry.bytes.ghost_name }
         ensures bytes { result.entries.bytes.now ≡ this.entry.bytes.now }
-        ensures values { (m : BegunMap E K.shape V.shape K.knows V.knows) → m.bytes ≡ this.entry.bytes.now → m.pos ≡ this.entry.pos
+        ensures values { (m : BegunMap E K.shape V.shape K.knows V.knows)
+            → m.bytes ≡ this.entry.bytes.now → m.pos ≡ this.entry.pos
             → HasValues m result (items m.search_tree) × IsWritten m result.entries.bytes.now }
     {
         ValuesSeal {

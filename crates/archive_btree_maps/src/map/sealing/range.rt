@@ -33,9 +33,11 @@ impl<K, V: Portable, const E: usize> ArchivedBTreeMap<K, V, E> {
         requires has { HasMap E K.shape V.shape K.knows V.knows this }
         ensures same_reference { result.bytes.ghost_name ≡ this.entry.bytes.ghost_name }
         ensures bytes { result.bytes.now ≡ this.entry.bytes.now }
-        ensures within { (m : BegunMap E K.shape V.shape K.knows V.knows) → m.bytes ≡ this.entry.bytes.now → m.pos ≡ this.entry.pos
+        ensures within { (m : BegunMap E K.shape V.shape K.knows V.knows)
+            → m.bytes ≡ this.entry.bytes.now → m.pos ≡ this.entry.pos
             → (es : List Place) × HasRange m result es × IsWritten m result.bytes.now }
-        ensures between { (m : BegunMap E K.shape V.shape K.knows V.knows) (order : Q → Place → Ordering) → m.bytes ≡ this.entry.bytes.now → m.pos ≡ this.entry.pos
+        ensures between { (m : BegunMap E K.shape V.shape K.knows V.knows) (order : Q → Place
+            → Ordering) → m.bytes ≡ this.entry.bytes.now → m.pos ≡ this.entry.pos
             → R.has_bounds bounds
             → OfQueries (λ query. QueryOrders K.key_of K.order this.entry.bytes.now query (order query) (items m.search_tree) × Ascends (order query) (items m.search_tree))
             (R.start_bound bounds) (R.end_bound bounds)
@@ -45,7 +47,8 @@ impl<K, V: Portable, const E: usize> ArchivedBTreeMap<K, V, E> {
         let shared: &[u8] = bytes;
         let compare = |query: &Q, at: usize| -> Ordering
             requires { K.is_key shared.now at }
-            ensures { (key : Q) × K.key_of shared.entry.now at key × (result ≡ ordering_reverse (K.order key query.now)) }
+            ensures { (key : Q) × K.key_of shared.entry.now at key
+                × (result ≡ ordering_reverse (K.order key query.now)) }
         { K::compare(&Ref::new(shared, at), query).reverse() };
         let walk = walk_between::<K, V, _, _, E>(
             shared,
@@ -68,13 +71,16 @@ impl<K: Portable, V: Portable, const E: usize> ArchivedBTreeMap<K, V, E> {
         compare: &F,
     ) -> RangeSeal<'a, K, V>
         requires has { HasMap E K.shape V.shape K.knows V.knows this }
-        requires callable { (t : Tree Place) (lent : Bor (List ℕ)) → IsMap E K.shape V.shape this t → lent.now ≡ this.bytes.now
+        requires callable { (t : Tree Place) (lent : Bor (List ℕ)) → IsMap E K.shape V.shape this t
+            → lent.now ≡ this.bytes.now
             → All (λ e. HasValue K.shape K.knows this.bytes.now e.key → MayCompare F.pre compare.now (R.has_bounds bounds) (R.start_bound bounds) (R.end_bound bounds) lent e) (items t) }
         ensures same_reference { result.bytes.ghost_name ≡ this.entry.bytes.ghost_name }
         ensures bytes { result.bytes.now ≡ this.entry.bytes.now }
-        ensures within { (m : BegunMap E K.shape V.shape K.knows V.knows) → m.bytes ≡ this.entry.bytes.now → m.pos ≡ this.entry.pos
+        ensures within { (m : BegunMap E K.shape V.shape K.knows V.knows)
+            → m.bytes ≡ this.entry.bytes.now → m.pos ≡ this.entry.pos
             → (es : List Place) × HasRange m result es × IsWritten m result.bytes.now }
-        ensures between { (m : BegunMap E K.shape V.shape K.knows V.knows) (order : Q → Place → Ordering) → m.bytes ≡ this.entry.bytes.now → m.pos ≡ this.entry.pos
+        ensures between { (m : BegunMap E K.shape V.shape K.knows V.knows) (order : Q → Place
+            → Ordering) → m.bytes ≡ this.entry.bytes.now → m.pos ≡ this.entry.pos
             → R.has_bounds bounds
             → ((lent : Bor (List ℕ)) → lent.now ≡ this.entry.bytes.now
             → OfQueries (λ query. CallsOrderOf F.post compare.now query lent (order query) (items m.search_tree) × Ascends (order query) (items m.search_tree))
@@ -85,7 +91,8 @@ impl<K: Portable, V: Portable, const E: usize> ArchivedBTreeMap<K, V, E> {
         let shared: &[u8] = bytes;
         let compare_at = |query: &Q, at: usize| -> Ordering
             requires { F.pre compare.now query (key_at shared (record { key = at; value = 0 })) }
-            ensures { F.post compare.entry.now query.entry (key_at shared.entry (record { key = at; value = 0 })) result }
+            ensures { F.post compare.entry.now query.entry
+                (key_at shared.entry (record { key = at; value = 0 })) result }
         { compare(query, Ref::new(shared, at)) };
         let walk = walk_between::<K, V, _, _, E>(
             shared,

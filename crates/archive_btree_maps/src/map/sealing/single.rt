@@ -27,7 +27,8 @@ impl<K, V: Portable, const E: usize> ArchivedBTreeMap<K, V, E> {
         K: ArchivedKey<Q>,
         requires has { HasMap E K.shape V.shape K.knows V.knows this }
         ensures there { IfSome result (λ r. HasValue V.shape V.knows r.bytes.now r.pos) }
-        ensures answers { (t : Tree Place) (order : Place → Ordering) → IsMap E K.shape V.shape this.entry t
+        ensures answers { (t : Tree Place) (order : Place → Ordering)
+            → IsMap E K.shape V.shape this.entry t
             → QueryOrders K.key_of K.order this.entry.bytes.now query.now order (items t)
             → MatchOption result
             (descend order t ≡ None)
@@ -51,11 +52,13 @@ impl<K, V: Portable, const E: usize> ArchivedBTreeMap<K, V, E> {
     where
         K: ArchivedKey<Q>,
         requires has { HasMap E K.shape V.shape K.knows V.knows this }
-        ensures there { IfSome result (λ r. HasValue K.shape K.knows r.0.bytes.now r.0.pos × (length r.1.own.now ≡ V.SIZE)) }
+        ensures there { IfSome result (λ r. HasValue K.shape K.knows r.0.bytes.now r.0.pos
+            × (length r.1.own.now ≡ V.SIZE)) }
         ensures found { (t : Tree Place) → IsMap E K.shape V.shape this.entry t
             → IfSome result (λ r. (e : Place) × Contains (items t) e × IsEqualKey K.key_of K.order this.entry.bytes.now query.now e
             × IsLent V.SIZE this.entry.bytes.now e r.0 r.1) }
-        ensures answers { (t : Tree Place) (order : Place → Ordering) → IsMap E K.shape V.shape this.entry t
+        ensures answers { (t : Tree Place) (order : Place → Ordering)
+            → IsMap E K.shape V.shape this.entry t
             → QueryOrders K.key_of K.order this.entry.bytes.now query.now order (items t)
             → MatchOption result
             (descend order t ≡ None)
@@ -79,13 +82,16 @@ impl<K: Portable, V: Portable, const E: usize> ArchivedBTreeMap<K, V, E> {
         compare: &F,
     ) -> Option<(Ref<'a, K>, OwnSeal<'a, V>)>
         requires has { HasMap E K.shape V.shape K.knows V.knows this }
-        requires callable { (t : Tree Place) (lent : Bor (List ℕ)) → IsMap E K.shape V.shape this t → lent.now ≡ this.bytes.now
+        requires callable { (t : Tree Place) (lent : Bor (List ℕ)) → IsMap E K.shape V.shape this t
+            → lent.now ≡ this.bytes.now
             → All (λ e. HasValue K.shape K.knows this.bytes.now e.key → F.pre compare.now query (key_at lent e)) (items t) }
-        ensures there { IfSome result (λ r. HasValue K.shape K.knows r.0.bytes.now r.0.pos × (length r.1.own.now ≡ V.SIZE)) }
+        ensures there { IfSome result (λ r. HasValue K.shape K.knows r.0.bytes.now r.0.pos
+            × (length r.1.own.now ≡ V.SIZE)) }
         ensures found { (t : Tree Place) → IsMap E K.shape V.shape this.entry t
             → IfSome result (λ r. (e : Place) × Contains (items t) e × IsCalledEqual F.post compare.now query.entry this.entry.bytes.now e
             × IsLent V.SIZE this.entry.bytes.now e r.0 r.1) }
-        ensures answers { (t : Tree Place) (order : Place → Ordering) → IsMap E K.shape V.shape this.entry t
+        ensures answers { (t : Tree Place) (order : Place → Ordering)
+            → IsMap E K.shape V.shape this.entry t
             → ((lent : Bor (List ℕ)) → lent.now ≡ this.entry.bytes.now → CallsOrder F.post compare.now query.entry lent order (items t))
             → MatchOption result
             (descend order t ≡ None)
@@ -95,7 +101,8 @@ impl<K: Portable, V: Portable, const E: usize> ArchivedBTreeMap<K, V, E> {
         let shared: &[u8] = bytes;
         let compare_at = |at: usize| -> Ordering
             requires { F.pre compare.now query (key_at shared (record { key = at; value = 0 })) }
-            ensures { F.post compare.entry.now query.entry (key_at shared.entry (record { key = at; value = 0 })) result }
+            ensures { F.post compare.entry.now query.entry
+                (key_at shared.entry (record { key = at; value = 0 })) result }
         { compare(query, Ref::new(shared, at)) };
         match search_map::<K, V, _, E>(shared, pos, &compare_at).0 {
             Some(entry) => Some(lend_entry::<K, V>(bytes, entry)),

@@ -20,9 +20,11 @@ impl<K: Portable, V: Portable, const E: usize> ArchivedBTreeMap<K, V, E> {
         visit: &mut F,
     ) -> Option<B>
         requires has { HasMap E K.shape V.shape K.knows V.knows this }
-        requires callable { (m : BegunMap E K.shape V.shape K.knows V.knows) → m.bytes ≡ this.bytes.now → m.pos ≡ this.pos
+        requires callable { (m : BegunMap E K.shape V.shape K.knows V.knows) → m.bytes ≡ this.bytes.now
+            → m.pos ≡ this.pos
             → (bytes : List ℕ) → IsWritten m bytes → All (MayCallSealed F.pre K.shape K.knows V.SIZE bytes) (items m.search_tree) }
-        ensures { (m : BegunMap E K.shape V.shape K.knows V.knows) → m.bytes ≡ this.entry.bytes.now → m.pos ≡ this.entry.pos
+        ensures { (m : BegunMap E K.shape V.shape K.knows V.knows) → m.bytes ≡ this.entry.bytes.now
+            → m.pos ≡ this.entry.pos
             → VisitsSealed (λ f key value answer left g. F.step f key value answer left g) V.SIZE visit.old this.entry.bytes.now (items m.search_tree) result visit.new this.exit.0.now }
     {
         let Seal { bytes, pos, .. } = this;
