@@ -5,7 +5,7 @@ use Rattle.std.specs.BTreeMap.{insert_entry}
 use Rattle.archive_shape.specs.ShapeLayout.Shape.{Shape}
 use Rattle.archive_shape.specs.ShapeLayout.Shape.Shape.{tree}
 use Rattle.archive_shape.specs.ShapeLayout.Value.{Value, Values}
-use Rattle.archive_shape.specs.ShapeLayout.Value.Value.{natural, integer, boolean, string, group, chosen, counted, back}
+use Rattle.archive_shape.specs.ShapeLayout.Value.Value.{group, back}
 use Rattle.archive_shape.specs.ShapeLayout.Value.Values.{no_values, more_values}
 use Rattle.archive_shape.specs.ShapeLayout.Content.{Names, members}
 use Rattle.archive_shape.proofs.ShapeLayout.Visited.{claimed_raised}
@@ -14,6 +14,7 @@ use denote.Ref.{Bor}
 use Rattle.archive_shape.specs.declared.references.refs.Ref.{Ref}
 use Rattle.archive_shape.specs.Key.{HeldAt}
 use Rattle.archive_forms_writing.specs.FormsValues.Parts.{HasValue, both}
+use Rattle.archive_forms.proofs.Plain.{members_of_group}
 use Rattle.archive_forms.specs.Deserializing.{IsReadAt}
 use Rattle.archive_forms.specs.Reading.{reads_all, reads_each, reads_tuple2}
 use Rattle.archive_btree_spelling.specs.BtreeLayout.Items.{ArePairs, IsTreeRead}
@@ -57,16 +58,6 @@ none_left bytes [] all e f = refl
 none_left bytes (p ∷ ps) all e f = absurd (cc)
 
 -- ---- a map's value is a group
-
-members_of_group : (v : Value) (w : Value) (ws : Values) → members v ≡ more_values w ws → v ≡ group (members v)
-members_of_group (group vs) w ws e = refl
-members_of_group (natural n) w ws e = absurd (cc)
-members_of_group (integer n) w ws e = absurd (cc)
-members_of_group (boolean b) w ws e = absurd (cc)
-members_of_group (string bs) w ws e = absurd (cc)
-members_of_group (chosen n vs) w ws e = absurd (cc)
-members_of_group (counted n v) w ws e = absurd (cc)
-members_of_group (back n) w ws e = absurd (cc)
 
 pairs_grouped : (names : Names) (bytes : List ℕ) (k v : Shape) (value : Value) (ps : List Place) (ws : Values) → members value ≡ ws → (length ps ≡ 0 → ⊥) → ArePairs names bytes k v ps ws → value ≡ group (members value)
 pairs_grouped names bytes k v value [] ws e some h = absurd (some refl)

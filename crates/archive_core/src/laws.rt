@@ -12,15 +12,14 @@ use archive_forms::{Archive, ReadBack};
 pub use archive_shape::laws::{
     accepted_is_answered, alignments_are_small_powers, ascent_is_apart, ascent_splits,
     deep_child_is_refused, edit_of_leaf, edit_of_text, extent_is_claimed, fault_refuses, frame,
-    held_leaf_is_read, illegal_is_refused, keys_of_one_value_are_alike, leaf_is_read,
-    legal_is_readable, named_is_known, one_fault, one_value, overwrite_spares, paths_join,
-    root_regions, sealed_leaf, sealed_text, value_at_path,
+    held_leaf_is_read, illegal_is_refused, keys_of_one_value_are_alike, leaf_is_read, leaf_within,
+    leaves_apart, legal_is_readable, named_is_known, one_fault, one_value, overwrite_spares,
+    paths_join, root_is_found, root_regions, sealed_leaf, sealed_text, value_at_path, visits_stand,
 };
 pub use archive_shape_canonical::{
     avoiding_paths_join, canonical_edit_of_leaf, canonical_edit_of_text, canonical_frame,
     one_archive, tables_of_one_map, written_everywhere,
 };
-pub use archive_shape_layout::{leaf_within, leaves_apart};
 
 /// `access` accepts what `to_bytes` writes of a value, except for `OutOfMemory`: the buffer has the value at its root,
 /// with regions that ascend and no limit of depth.

@@ -2,6 +2,6 @@ mod Counted
 pub mod Faithful
 mod Fields
 mod Outcomes
-mod Plain
+pub mod Plain
 mod Read
 mod ReadWeak

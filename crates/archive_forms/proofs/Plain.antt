@@ -5,10 +5,10 @@ use Rattle.std.specs.String.{string_bytes}
 use Rattle.std.specs.Global.{Global}
 use Rattle.archive_shape.specs.ShapeLayout.Shape.Shape.{tuple, text}
 use Rattle.archive_shape.specs.ShapeLayout.Shape.Shapes.{no_shapes}
-use Rattle.archive_shape.specs.ShapeLayout.Value.{Value}
-use Rattle.archive_shape.specs.ShapeLayout.Value.Value.{group, string}
-use Rattle.archive_shape.specs.ShapeLayout.Value.Values.{no_values}
-use Rattle.archive_shape.specs.ShapeLayout.Content.{Names, shape_content, fields}
+use Rattle.archive_shape.specs.ShapeLayout.Value.{Value, Values}
+use Rattle.archive_shape.specs.ShapeLayout.Value.Value.{natural, integer, boolean, string, group, chosen, counted, back}
+use Rattle.archive_shape.specs.ShapeLayout.Value.Values.{no_values, more_values}
+use Rattle.archive_shape.specs.ShapeLayout.Content.{Names, shape_content, fields, members}
 use Rattle.archive_shape.proofs.ShapeLayout.Unique.{by_plain}
 use Rattle.archive_forms_laws.specs.ShapeCanonical.Sharing.{erased}
 use Rattle.archive_shape.specs.Key.{HeldAt}
@@ -39,3 +39,14 @@ module _ (knows : Names → Type 0) (bytes : List ℕ) (pos : ℕ) where
 
   pub text_read : (x : String Global) (t : List ℕ) → string_bytes x ≡ t → IsText bytes pos t → IsReadAt (reads_as string_spelling) text knows bytes pos x
   text_read x t e is v h = ap string e ∙ sym (ap erased (text_value bytes pos t v (text_there v h) is))
+
+-- a value with members is a group
+pub members_of_group : (v : Value) (w : Value) (ws : Values) → members v ≡ more_values w ws → v ≡ group (members v)
+members_of_group (group vs) w ws e = refl
+members_of_group (natural n) w ws e = absurd (cc)
+members_of_group (integer n) w ws e = absurd (cc)
+members_of_group (boolean b) w ws e = absurd (cc)
+members_of_group (string bs) w ws e = absurd (cc)
+members_of_group (chosen n vs) w ws e = absurd (cc)
+members_of_group (counted n v) w ws e = absurd (cc)
+members_of_group (back n) w ws e = absurd (cc)

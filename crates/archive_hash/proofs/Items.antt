@@ -11,7 +11,7 @@ use Rattle.archive_shape.specs.ShapeLayout.Shape.{Shape}
 use Rattle.archive_shape.specs.ShapeLayout.Shape.Shape.{table}
 use Rattle.archive_shape.specs.ShapeLayout.Shape.Shapes.{no_shapes}
 use Rattle.archive_shape.specs.ShapeLayout.Value.{Value, Values}
-use Rattle.archive_shape.specs.ShapeLayout.Value.Value.{natural, integer, boolean, string, group, chosen, counted, back}
+use Rattle.archive_shape.specs.ShapeLayout.Value.Value.{group}
 use Rattle.archive_shape.specs.ShapeLayout.Value.Values.{no_values, more_values}
 use Rattle.archive_shape.specs.ShapeLayout.Content.{Names, Content, content_of, members, choose, shape_content}
 use Rattle.archive_shape.specs.ShapeLayout.Content.Part.{at}
@@ -28,6 +28,7 @@ use Rattle.archive_forms_values.proofs.Inside.{none_held}
 use Rattle.archive_forms_values.proofs.Pointed.{made_whole}
 use Rattle.archive_forms_values.specs.Fields.{field, field_position}
 use Rattle.archive_forms_values.proofs.Held.{fields_at}
+use Rattle.archive_forms.proofs.Plain.{members_of_group}
 use Rattle.archive_forms.specs.Deserializing.{IsReadAt}
 use Rattle.archive_forms.specs.Reading.{reads_all, reads_each, reads_tuple2}
 use Rattle.archive_hash_maps.specs.HashWalking.Tables.{Buckets, IsTableAt, IsTableOf, AreItemsAt, item_position, item_positions, full_places}
@@ -66,16 +67,6 @@ none_left s t bytes (p ∷ ps) all e f = absurd (cc)
 chosen_yes : (b : Bool) (x y : Content) → b ≡ true → choose b x y ≡ x
 unfolding choose
 chosen_yes b x y e = rw e refl
-
-members_of_group : (v : Value) (w : Value) (ws : Values) → members v ≡ more_values w ws → v ≡ group (members v)
-members_of_group (group vs) w ws e = refl
-members_of_group (natural n) w ws e = absurd (cc)
-members_of_group (integer n) w ws e = absurd (cc)
-members_of_group (boolean b) w ws e = absurd (cc)
-members_of_group (string bs) w ws e = absurd (cc)
-members_of_group (chosen n vs) w ws e = absurd (cc)
-members_of_group (counted n v) w ws e = absurd (cc)
-members_of_group (back n) w ws e = absurd (cc)
 
 module _ (s : Shape) (knows : Names → Type 0) (bytes : List ℕ) (pos : ℕ) (value : Value) (h : HeldAt (table s) knows bytes pos value) where
   empty_grouped : word_at bytes (pos + 4) ≡ 0 → value ≡ group (members value)

@@ -4,5 +4,4 @@ mod Items
 mod Resolved
 pub mod Seen
 mod StdMaps
-mod Units
 mod Whole

@@ -8,7 +8,8 @@ use Rattle.archive_forms.specs.Reading.{reads_as}
 use Rattle.archive_btree.specs.Owned.{key_entries}
 use Rattle.archive_btree_walking.specs.Refs.{entry_at}
 use Rattle.archive_btree.proofs.ReadBack.{next_place, none_left, next_has, reading_begun, entry_read, reading_ended, reading_some}
-use Rattle.archive_btree.proofs.Keyed.{inserted_key, no_keys, unit_read}
+use Rattle.archive_btree.proofs.Keyed.{inserted_key, no_keys}
+use Rattle.archive_forms.proofs.Plain.{unit_read}
 use Rattle.archive_btree.proofs.read_set.deserialize_set_each.Goals as goal
 
 pub loop-key-init : goal.loop-key-init
