@@ -8,7 +8,7 @@ ghost use Rattle.archive_shape.specs.Kept.{IsWithin};
 ghost use Rattle.archive_shape.specs.Checks.{Checks, Moves};
 ghost use Rattle.cabinet_documents.specs.Node.{node_shape, KnowsNode};
 
-use crate::ArchivedNode;
+use crate::{ArchivedNode, tag};
 use archive_forms_rc::{ArchivedRcStr, RcFlavor};
 use archive_forms_values::{
     ArchivedBox, ArchivedString, check_box_each, check_option_each, check_vec_each,
@@ -37,12 +37,27 @@ pub(crate) fn check_node<C: SharedContext>(
 {
     let _len = bytes.len();
     match bytes[pos] {
-        0 => <bool as CheckBytes<C>>::check(alloc, bytes, pos + 1, context),
-        1 => <ArchivedI64 as CheckBytes<C>>::check(alloc, bytes, pos + 8, context),
-        2 => <ArchivedString as CheckBytes<C>>::check(alloc, bytes, pos + 4, context),
-        3 => <ArchivedRcStr<RcFlavor> as CheckBytes<C>>::check(alloc, bytes, pos + 4, context),
-        4 => check_maybe(alloc, bytes, pos + 4, context, room),
-        5 => check_list(alloc, bytes, pos + 4, context, room),
+        tag::BOOL => <bool as CheckBytes<C>>::check(alloc, bytes, pos + tag::BOOL_OFFSET, context),
+        tag::INT => <ArchivedI64 as CheckBytes<C>>::check(
+            alloc,
+            bytes,
+            pos + tag::INT_OFFSET,
+            context,
+        ),
+        tag::TEXT => <ArchivedString as CheckBytes<C>>::check(
+            alloc,
+            bytes,
+            pos + tag::OFFSET,
+            context,
+        ),
+        tag::SHARED => <ArchivedRcStr<RcFlavor> as CheckBytes<C>>::check(
+            alloc,
+            bytes,
+            pos + tag::OFFSET,
+            context,
+        ),
+        tag::MAYBE => check_maybe(alloc, bytes, pos + tag::OFFSET, context, room),
+        tag::LIST => check_list(alloc, bytes, pos + tag::OFFSET, context, room),
         _ => Err(Error::InvalidTag),
     }
 }

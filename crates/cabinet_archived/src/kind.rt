@@ -4,7 +4,7 @@ ghost use Rattle.archive_forms_values.specs.Parts.{HasValue};
 ghost use Rattle.cabinet_documents.specs.Node.{node_shape, KnowsNode};
 ghost use Rattle.cabinet_archived.specs.Kind.{IsKindAt};
 
-use crate::ArchivedNode;
+use crate::{ArchivedNode, tag};
 use archive_forms_rc::{ArchivedRcStr, RcFlavor};
 use archive_forms_values::{ArchivedBox, ArchivedOption, ArchivedString, ArchivedVec};
 use archive_shape::{ArchivedI64, Ref};
@@ -35,12 +35,12 @@ impl ArchivedNode {
         let Ref { bytes, pos, .. } = this;
         let _len = bytes.len();
         match bytes[pos] {
-            0 => ArchivedKind::Bool(Ref::new(bytes, pos + 1)),
-            1 => ArchivedKind::Int(Ref::new(bytes, pos + 8)),
-            2 => ArchivedKind::Text(Ref::new(bytes, pos + 4)),
-            3 => ArchivedKind::Shared(Ref::new(bytes, pos + 4)),
-            4 => ArchivedKind::Maybe(Ref::new(bytes, pos + 4)),
-            _ => ArchivedKind::List(Ref::new(bytes, pos + 4)),
+            tag::BOOL => ArchivedKind::Bool(Ref::new(bytes, pos + tag::BOOL_OFFSET)),
+            tag::INT => ArchivedKind::Int(Ref::new(bytes, pos + tag::INT_OFFSET)),
+            tag::TEXT => ArchivedKind::Text(Ref::new(bytes, pos + tag::OFFSET)),
+            tag::SHARED => ArchivedKind::Shared(Ref::new(bytes, pos + tag::OFFSET)),
+            tag::MAYBE => ArchivedKind::Maybe(Ref::new(bytes, pos + tag::OFFSET)),
+            _ => ArchivedKind::List(Ref::new(bytes, pos + tag::OFFSET)),
         }
     }
 }

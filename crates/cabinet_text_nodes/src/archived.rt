@@ -18,7 +18,7 @@ use archive_forms_values::{
 };
 use archive_forms_writing::{Archive, Serialize, serialize_box_each, serialize_vec_each};
 use archive_shape::{Error, Place};
-use cabinet_archived::{ArchivedNode, TextSharing};
+use cabinet_archived::{ArchivedNode, TextSharing, tag};
 use cabinet_documents::NodeResolver;
 use std::marker::PhantomData;
 use std::rc::RcStr;
@@ -107,7 +107,7 @@ fn resolve_maybe(
     let Some(kept) = resolver else {
         return Ok(());
     };
-    out[start] = 1;
+    out[start] = tag::INT;
     let place = Place::within(out, start + 4, pos + 4);
     ArchivedBox::<ArchivedNode>::resolve_from_raw_parts(kept, place)
 }
@@ -153,31 +153,37 @@ impl Archive for Node {
         } = out;
         match self {
             Node::Bool(value) => {
-                out[start] = 0;
-                return value.resolve((), Place::within(out, start + 1, pos + 1));
+                out[start] = tag::BOOL;
+                return value.resolve(
+                    (),
+                    Place::within(out, start + tag::BOOL_OFFSET, pos + tag::BOOL_OFFSET),
+                );
             }
             Node::Int(number) => {
-                out[start] = 1;
-                return number.resolve((), Place::within(out, start + 8, pos + 8));
+                out[start] = tag::INT;
+                return number.resolve(
+                    (),
+                    Place::within(out, start + tag::INT_OFFSET, pos + tag::INT_OFFSET),
+                );
             }
             Node::Text(text) => {
-                out[start] = 2;
-                let place = Place::within(out, start + 4, pos + 4);
+                out[start] = tag::TEXT;
+                let place = Place::within(out, start + tag::OFFSET, pos + tag::OFFSET);
                 return text.resolve(text_kept(resolver), place);
             }
             Node::Shared(text) => {
-                out[start] = 3;
-                let place = Place::within(out, start + 4, pos + 4);
+                out[start] = tag::SHARED;
+                let place = Place::within(out, start + tag::OFFSET, pos + tag::OFFSET);
                 return resolve_shared(text, shared_kept(resolver), place);
             }
             Node::Maybe(content) => {
-                out[start] = 4;
-                let place = Place::within(out, start + 4, pos + 4);
+                out[start] = tag::MAYBE;
+                let place = Place::within(out, start + tag::OFFSET, pos + tag::OFFSET);
                 return resolve_maybe(content, maybe_kept(resolver), place);
             }
             Node::List(nodes) => {
-                out[start] = 5;
-                let place = Place::within(out, start + 4, pos + 4);
+                out[start] = tag::LIST;
+                let place = Place::within(out, start + tag::OFFSET, pos + tag::OFFSET);
                 return resolve_list(nodes, list_kept(resolver), place);
             }
             Node::Ordered(_) => return Err(Error::InvalidTag),

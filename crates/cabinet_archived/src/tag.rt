@@ -1,0 +1,28 @@
+//! The tags of the kinds of a node, and where each payload lies in the node's 24 bytes.
+
+/// The tag of a truth value, which is at `BOOL_OFFSET`.
+pub const BOOL: u8 = 0;
+
+/// The tag of a number, which is at `INT_OFFSET`.
+pub const INT: u8 = 1;
+
+/// The tag of a text.
+pub const TEXT: u8 = 2;
+
+/// The tag of a shared text.
+pub const SHARED: u8 = 3;
+
+/// The tag of an option.
+pub const MAYBE: u8 = 4;
+
+/// The tag of a list.
+pub const LIST: u8 = 5;
+
+/// The offset of a truth value from the start of the node.
+pub const BOOL_OFFSET: usize = 1;
+
+/// The offset of a number.
+pub const INT_OFFSET: usize = 8;
+
+/// The offset of the payload of each other kind.
+pub const OFFSET: usize = 4;
