@@ -2,12 +2,14 @@
 ghost use denote.Ref.{Bor};
 ghost use Rattle.std.specs.Prelude.{◌≡◌, ℕ, ◌+◌, List, length, Option, Some, None, IfSome, MatchOption};
 ghost use Rattle.std.specs.Option.{option_map};
+ghost use Rattle.archive_shape_layout.specs.Shape.Shape.{table};
 ghost use Rattle.archive_shape_layout.specs.Shape.Shapes.{no_shapes};
-ghost use Rattle.archive_forms_values.specs.Parts.{HasValue};
+ghost use Rattle.archive_forms_values.specs.Tuples.{tuple2};
+ghost use Rattle.archive_forms_values.specs.Parts.{HasValue, both};
 ghost use Rattle.archive_forms_values.specs.Fields.{field_position};
-ghost use Rattle.archive_hash_walking.specs.Tables.{IsTable, HasTable, Buckets};
+ghost use Rattle.archive_hash_walking.specs.Tables.{Buckets, IsTableAt};
 ghost use Rattle.archive_hash_walking.specs.Places.{Answers, calls, item_at};
-ghost use Rattle.archive_hash_walking.specs.Maps.{IsMap, HasMap, HashesTo, KeySays, LooksUpKey, query_calls, key_at};
+ghost use Rattle.archive_hash_walking.specs.Maps.{HashesTo, KeySays, LooksUpKey, query_calls, key_at};
 ghost use Rattle.archive_hash_walking.specs.Seals.{IsLent};
 
 use crate::map::{ArchivedHashMap, ArchivedHashTable};
@@ -24,13 +26,13 @@ impl<T: Portable> ArchivedHashTable<T> {
         hash: u64,
         accepts: &F,
     ) -> Option<Seal<'a, T>>
-        requires has { HasTable T.shape T.knows this }
+        requires has { HasValue (table T.shape) T.knows this.bytes.now this.pos }
         requires callable { (lent : Bor (List ℕ)) (at : ℕ) → lent.now ≡ this.bytes.now
             → HasValue T.shape T.knows lent.now at → F.pre accepts.now (item_at lent at) }
         ensures whole { IfSome result (λ r. (r.bytes.ghost_name ≡ this.entry.bytes.ghost_name)
             × (r.bytes.now ≡ this.entry.bytes.now)) }
         ensures there { IfSome result (λ r. HasValue T.shape T.knows r.bytes.now r.pos) }
-        ensures answers { (b : Buckets) → IsTable T.shape this.entry b
+        ensures answers { (b : Buckets) → IsTableAt this.entry.bytes.now T.shape this.entry.pos b
             → (lent : Bor (List ℕ)) × (strides : ℕ) × (lent.now ≡ this.entry.bytes.now)
             × Answers (calls F.post accepts.now lent) (λ at. at) T.shape b hash (option_map (λ r. r.pos) result) strides }
     {
@@ -55,11 +57,13 @@ impl<K, V: Portable, H: Hasher + Default + Drop> ArchivedHashMap<K, V, H> {
     ) -> Option<Seal<'a, V>>
     where
         K: ArchivedKey<Q>,
-        requires has { HasMap K.shape V.shape K.knows V.knows this }
+        requires has { HasValue (table (tuple2 K.shape V.shape)) (both K.knows V.knows)
+            this.bytes.now this.pos }
         ensures whole { IfSome result (λ r. (r.bytes.ghost_name ≡ this.entry.bytes.ghost_name)
             × (r.bytes.now ≡ this.entry.bytes.now)) }
         ensures there { IfSome result (λ r. HasValue V.shape V.knows r.bytes.now r.pos) }
-        ensures answers { (b : Buckets) → IsMap K.shape V.shape this.entry b
+        ensures answers { (b : Buckets) → IsTableAt this.entry.bytes.now (tuple2 K.shape V.shape)
+            this.entry.pos b
             → LooksUpKey (HashesTo H.is_default H.write H.finish (Q.hash_input query.now)) (KeySays K.key_of K.order this.entry.bytes.now query.now)
             (field_position K.shape no_shapes V.shape) K.shape V.shape b (option_map (λ r. r.pos) result) }
     {
@@ -81,10 +85,12 @@ impl<K, V: Portable, H: Hasher + Default + Drop> ArchivedHashMap<K, V, H> {
     ) -> Option<(Ref<'a, K>, OwnSeal<'a, V>)>
     where
         K: ArchivedKey<Q>,
-        requires has { HasMap K.shape V.shape K.knows V.knows this }
+        requires has { HasValue (table (tuple2 K.shape V.shape)) (both K.knows V.knows)
+            this.bytes.now this.pos }
         ensures there { IfSome result (λ r. HasValue K.shape K.knows r.0.bytes.now r.0.pos) }
         ensures own { IfSome result (λ r. length r.1.own.now ≡ V.SIZE) }
-        ensures answers { (b : Buckets) → IsMap K.shape V.shape this.entry b
+        ensures answers { (b : Buckets) → IsTableAt this.entry.bytes.now (tuple2 K.shape V.shape)
+            this.entry.pos b
             → (found : Option ℕ)
             × LooksUpKey (HashesTo H.is_default H.write H.finish (Q.hash_input query.now)) (KeySays K.key_of K.order this.entry.bytes.now query.now) (λ at. at) K.shape V.shape b found
             × MatchOption result
@@ -110,13 +116,15 @@ impl<K: Portable, V: Portable, H: Hasher + Default + Drop> ArchivedHashMap<K, V,
         query: &Q,
         accepts: &F,
     ) -> Option<Seal<'a, V>>
-        requires has { HasMap K.shape V.shape K.knows V.knows this }
+        requires has { HasValue (table (tuple2 K.shape V.shape)) (both K.knows V.knows)
+            this.bytes.now this.pos }
         requires callable { (lent : Bor (List ℕ)) (at : ℕ) → lent.now ≡ this.bytes.now
             → HasValue K.shape K.knows lent.now at → F.pre accepts.now query (key_at lent at) }
         ensures whole { IfSome result (λ r. (r.bytes.ghost_name ≡ this.entry.bytes.ghost_name)
             × (r.bytes.now ≡ this.entry.bytes.now)) }
         ensures there { IfSome result (λ r. HasValue V.shape V.knows r.bytes.now r.pos) }
-        ensures answers { (b : Buckets) → IsMap K.shape V.shape this.entry b
+        ensures answers { (b : Buckets) → IsTableAt this.entry.bytes.now (tuple2 K.shape V.shape)
+            this.entry.pos b
             → (lent : Bor (List ℕ)) × (lent.now ≡ this.entry.bytes.now)
             × LooksUpKey (HashesTo H.is_default H.write H.finish (Q.hash_input query.now)) (query_calls F.post accepts.now query.entry lent)
             (field_position K.shape no_shapes V.shape) K.shape V.shape b (option_map (λ r. r.pos) result) }
@@ -139,12 +147,14 @@ impl<K: Portable, V: Portable, H: Hasher + Default + Drop> ArchivedHashMap<K, V,
         query: &Q,
         accepts: &F,
     ) -> Option<(Ref<'a, K>, OwnSeal<'a, V>)>
-        requires has { HasMap K.shape V.shape K.knows V.knows this }
+        requires has { HasValue (table (tuple2 K.shape V.shape)) (both K.knows V.knows)
+            this.bytes.now this.pos }
         requires callable { (lent : Bor (List ℕ)) (at : ℕ) → lent.now ≡ this.bytes.now
             → HasValue K.shape K.knows lent.now at → F.pre accepts.now query (key_at lent at) }
         ensures there { IfSome result (λ r. HasValue K.shape K.knows r.0.bytes.now r.0.pos) }
         ensures own { IfSome result (λ r. length r.1.own.now ≡ V.SIZE) }
-        ensures answers { (b : Buckets) → IsMap K.shape V.shape this.entry b
+        ensures answers { (b : Buckets) → IsTableAt this.entry.bytes.now (tuple2 K.shape V.shape)
+            this.entry.pos b
             → (lent : Bor (List ℕ)) × (found : Option ℕ) × (lent.now ≡ this.entry.bytes.now)
             × LooksUpKey (HashesTo H.is_default H.write H.finish (Q.hash_input query.now)) (query_calls F.post accepts.now query.entry lent) (λ at. at) K.shape V.shape b found
             × MatchOption result

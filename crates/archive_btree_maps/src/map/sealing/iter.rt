@@ -2,9 +2,9 @@
 ghost use Rattle.std.specs.Prelude.{◌≡◌};
 ghost use Rattle.archive_shape_layout.specs.Shape.Shape.{tree};
 ghost use Rattle.archive_btree_nodes.specs.BtreeLayout.Tree.{items};
+ghost use Rattle.archive_forms_values.specs.Parts.{HasValue, both};
 ghost use Rattle.archive_btree_walking.specs.Walks.{BegunMap, IsWritten};
 ghost use Rattle.archive_btree_walking.specs.Cursors.{HasEntries, HasValues};
-ghost use Rattle.archive_btree_walking.specs.Maps.{HasMap};
 
 use crate::map::ArchivedBTreeMap;
 use archive_btree_walking::{IterSeal, ValuesSeal, count_at, entry_walk_at};
@@ -13,7 +13,8 @@ use archive_shape::{Portable, Seal};
 impl<K: Portable, V: Portable, const E: usize> ArchivedBTreeMap<K, V, E> {
     /// Returns a cursor over the entries in the order of their keys.
     pub fn iter_seal<'a>(this: Seal<'a, ArchivedBTreeMap<K, V, E>>) -> IterSeal<'a, K, V>
-        requires has { HasMap E K.shape V.shape K.knows V.knows this }
+        requires has { HasValue (tree E K.shape V.shape) (both K.knows V.knows)
+            this.bytes.now this.pos }
         ensures same_reference { result.bytes.ghost_name ≡ this.entry.bytes.ghost_name }
         ensures bytes { result.bytes.now ≡ this.entry.bytes.now }
         ensures entries { (m : BegunMap E K.shape V.shape K.knows V.knows)
@@ -28,7 +29,8 @@ impl<K: Portable, V: Portable, const E: usize> ArchivedBTreeMap<K, V, E> {
 
     /// Returns a cursor over the values in the order of their keys.
     pub fn values_seal<'a>(this: Seal<'a, ArchivedBTreeMap<K, V, E>>) -> ValuesSeal<'a, K, V>
-        requires has { HasMap E K.shape V.shape K.knows V.knows this }
+        requires has { HasValue (tree E K.shape V.shape) (both K.knows V.knows)
+            this.bytes.now this.pos }
         ensures same_reference { result.entries.bytes.ghost_name ≡ this.entry.bytes.ghost_name }
         ensures bytes { result.entries.bytes.now ≡ this.entry.bytes.now }
         ensures values { (m : BegunMap E K.shape V.shape K.knows V.knows)

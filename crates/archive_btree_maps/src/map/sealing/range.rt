@@ -7,9 +7,9 @@ ghost use Rattle.archive_shape_layout.specs.Shape.Shape.{tree};
 ghost use Rattle.archive_btree_nodes.specs.BtreeLayout.Tree.{Tree, items};
 ghost use Rattle.archive_btree_nodes.specs.BtreeLayout.Descent.{Ascends};
 ghost use Rattle.archive_btree_nodes.specs.BtreeLayout.Reading.{Place};
-ghost use Rattle.archive_forms_values.specs.Parts.{HasValue};
+ghost use Rattle.archive_forms_values.specs.Parts.{HasValue, both};
 ghost use Rattle.archive_btree_walking.specs.Lookups.{QueryOrders};
-ghost use Rattle.archive_btree_walking.specs.Maps.{IsMap, HasMap};
+ghost use Rattle.archive_btree_walking.specs.Maps.{IsMapAt};
 ghost use Rattle.archive_btree_walking.specs.Ranges.{OfQueries, CallsOrderOf, MayCompare, items_between};
 ghost use Rattle.archive_btree_walking.specs.Refs.{key_at};
 ghost use Rattle.archive_btree_walking.specs.Walks.{BegunMap, IsWritten};
@@ -30,7 +30,8 @@ impl<K, V: Portable, const E: usize> ArchivedBTreeMap<K, V, E> {
     ) -> RangeSeal<'a, K, V>
     where
         K: ArchivedKey<Q>,
-        requires has { HasMap E K.shape V.shape K.knows V.knows this }
+        requires has { HasValue (tree E K.shape V.shape) (both K.knows V.knows)
+            this.bytes.now this.pos }
         ensures same_reference { result.bytes.ghost_name ≡ this.entry.bytes.ghost_name }
         ensures bytes { result.bytes.now ≡ this.entry.bytes.now }
         ensures within { (m : BegunMap E K.shape V.shape K.knows V.knows)
@@ -70,9 +71,10 @@ impl<K: Portable, V: Portable, const E: usize> ArchivedBTreeMap<K, V, E> {
         bounds: R,
         compare: &F,
     ) -> RangeSeal<'a, K, V>
-        requires has { HasMap E K.shape V.shape K.knows V.knows this }
-        requires callable { (t : Tree Place) (lent : Bor (List ℕ)) → IsMap E K.shape V.shape this t
-            → lent.now ≡ this.bytes.now
+        requires has { HasValue (tree E K.shape V.shape) (both K.knows V.knows)
+            this.bytes.now this.pos }
+        requires callable { (t : Tree Place) (lent : Bor (List ℕ))
+            → IsMapAt this.bytes.now E K.shape V.shape this.pos t → lent.now ≡ this.bytes.now
             → All (λ e. HasValue K.shape K.knows this.bytes.now e.key → MayCompare F.pre compare.now (R.has_bounds bounds) (R.start_bound bounds) (R.end_bound bounds) lent e) (items t) }
         ensures same_reference { result.bytes.ghost_name ≡ this.entry.bytes.ghost_name }
         ensures bytes { result.bytes.now ≡ this.entry.bytes.now }

@@ -6,8 +6,8 @@ ghost use Rattle.archive_shape_layout.specs.Shape.Shape.{tree};
 ghost use Rattle.archive_btree_nodes.specs.BtreeLayout.Tree.{Tree, items};
 ghost use Rattle.archive_btree_nodes.specs.BtreeLayout.Descent.{descend};
 ghost use Rattle.archive_btree_nodes.specs.BtreeLayout.Reading.{Place};
-ghost use Rattle.archive_forms_values.specs.Parts.{HasValue};
-ghost use Rattle.archive_btree_walking.specs.Maps.{IsMap, HasMap};
+ghost use Rattle.archive_forms_values.specs.Parts.{HasValue, both};
+ghost use Rattle.archive_btree_walking.specs.Maps.{IsMapAt};
 ghost use Rattle.archive_btree_walking.specs.Refs.{key_at};
 ghost use Rattle.archive_btree_walking.specs.Lookups.{QueryOrders, IsEqualKey, CallsOrder};
 ghost use Rattle.archive_btree_walking.specs.Seals.{IsLent, IsCalledEqual};
@@ -25,10 +25,11 @@ impl<K, V: Portable, const E: usize> ArchivedBTreeMap<K, V, E> {
     ) -> Option<Seal<'a, V>>
     where
         K: ArchivedKey<Q>,
-        requires has { HasMap E K.shape V.shape K.knows V.knows this }
+        requires has { HasValue (tree E K.shape V.shape) (both K.knows V.knows)
+            this.bytes.now this.pos }
         ensures there { IfSome result (λ r. HasValue V.shape V.knows r.bytes.now r.pos) }
         ensures answers { (t : Tree Place) (order : Place → Ordering)
-            → IsMap E K.shape V.shape this.entry t
+            → IsMapAt this.entry.bytes.now E K.shape V.shape this.entry.pos t
             → QueryOrders K.key_of K.order this.entry.bytes.now query.now order (items t)
             → MatchOption result
             (descend order t ≡ None)
@@ -51,14 +52,16 @@ impl<K, V: Portable, const E: usize> ArchivedBTreeMap<K, V, E> {
     ) -> Option<(Ref<'a, K>, OwnSeal<'a, V>)>
     where
         K: ArchivedKey<Q>,
-        requires has { HasMap E K.shape V.shape K.knows V.knows this }
+        requires has { HasValue (tree E K.shape V.shape) (both K.knows V.knows)
+            this.bytes.now this.pos }
         ensures there { IfSome result (λ r. HasValue K.shape K.knows r.0.bytes.now r.0.pos
             × (length r.1.own.now ≡ V.SIZE)) }
-        ensures found { (t : Tree Place) → IsMap E K.shape V.shape this.entry t
+        ensures found { (t : Tree Place) → IsMapAt this.entry.bytes.now E K.shape V.shape
+            this.entry.pos t
             → IfSome result (λ r. (e : Place) × Contains (items t) e × IsEqualKey K.key_of K.order this.entry.bytes.now query.now e
             × IsLent V.SIZE this.entry.bytes.now e r.0 r.1) }
         ensures answers { (t : Tree Place) (order : Place → Ordering)
-            → IsMap E K.shape V.shape this.entry t
+            → IsMapAt this.entry.bytes.now E K.shape V.shape this.entry.pos t
             → QueryOrders K.key_of K.order this.entry.bytes.now query.now order (items t)
             → MatchOption result
             (descend order t ≡ None)
@@ -81,17 +84,19 @@ impl<K: Portable, V: Portable, const E: usize> ArchivedBTreeMap<K, V, E> {
         query: &Q,
         compare: &F,
     ) -> Option<(Ref<'a, K>, OwnSeal<'a, V>)>
-        requires has { HasMap E K.shape V.shape K.knows V.knows this }
-        requires callable { (t : Tree Place) (lent : Bor (List ℕ)) → IsMap E K.shape V.shape this t
-            → lent.now ≡ this.bytes.now
+        requires has { HasValue (tree E K.shape V.shape) (both K.knows V.knows)
+            this.bytes.now this.pos }
+        requires callable { (t : Tree Place) (lent : Bor (List ℕ))
+            → IsMapAt this.bytes.now E K.shape V.shape this.pos t → lent.now ≡ this.bytes.now
             → All (λ e. HasValue K.shape K.knows this.bytes.now e.key → F.pre compare.now query (key_at lent e)) (items t) }
         ensures there { IfSome result (λ r. HasValue K.shape K.knows r.0.bytes.now r.0.pos
             × (length r.1.own.now ≡ V.SIZE)) }
-        ensures found { (t : Tree Place) → IsMap E K.shape V.shape this.entry t
+        ensures found { (t : Tree Place) → IsMapAt this.entry.bytes.now E K.shape V.shape
+            this.entry.pos t
             → IfSome result (λ r. (e : Place) × Contains (items t) e × IsCalledEqual F.post compare.now query.entry this.entry.bytes.now e
             × IsLent V.SIZE this.entry.bytes.now e r.0 r.1) }
         ensures answers { (t : Tree Place) (order : Place → Ordering)
-            → IsMap E K.shape V.shape this.entry t
+            → IsMapAt this.entry.bytes.now E K.shape V.shape this.entry.pos t
             → ((lent : Bor (List ℕ)) → lent.now ≡ this.entry.bytes.now → CallsOrder F.post compare.now query.entry lent order (items t))
             → MatchOption result
             (descend order t ≡ None)

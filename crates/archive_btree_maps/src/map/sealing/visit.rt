@@ -2,9 +2,9 @@
 ghost use Rattle.std.specs.Prelude.{◌≡◌, ℕ, List, All};
 ghost use Rattle.archive_shape_layout.specs.Shape.Shape.{tree};
 ghost use Rattle.archive_btree_nodes.specs.BtreeLayout.Tree.{items};
+ghost use Rattle.archive_forms_values.specs.Parts.{HasValue, both};
 ghost use Rattle.archive_btree_walking.specs.Walks.{BegunMap, IsWritten};
 ghost use Rattle.archive_btree_maps.specs.SealedVisits.{MayCallSealed, VisitsSealed};
-ghost use Rattle.archive_btree_walking.specs.Maps.{HasMap};
 
 use crate::map::ArchivedBTreeMap;
 use archive_btree_walking::{entry_walk_at, pass_entry};
@@ -19,7 +19,8 @@ impl<K: Portable, V: Portable, const E: usize> ArchivedBTreeMap<K, V, E> {
         this: Seal<'_, ArchivedBTreeMap<K, V, E>>,
         visit: &mut F,
     ) -> Option<B>
-        requires has { HasMap E K.shape V.shape K.knows V.knows this }
+        requires has { HasValue (tree E K.shape V.shape) (both K.knows V.knows)
+            this.bytes.now this.pos }
         requires callable { (m : BegunMap E K.shape V.shape K.knows V.knows) → m.bytes ≡ this.bytes.now
             → m.pos ≡ this.pos
             → (bytes : List ℕ) → IsWritten m bytes → All (MayCallSealed F.pre K.shape K.knows V.SIZE bytes) (items m.search_tree) }
