@@ -24,12 +24,12 @@ module _ {W : Type 0} (s : WriterMembers W) where
   -- a call stopped in the first of two pieces
   pub stops_first : {old new : W} {a : List ℕ} (b : List ℕ) (P Q : Error → Type 0) {e : Error} → (P e → Q e) → Stops old new a P e → Stops old new (a ++ b) Q e
   stops_first b P Q f (inl g) = inl (failed_first b g)
-  stops_first b P Q f (inr g) = inr (record { is_cut = λ t. cut_first b (g.is_cut t); is_quiet = g.is_quiet; reason = wider P Q f g.reason })
+  stops_first b P Q f (inr g) = inr (record { is_cut = λ t. cut_first b (g.is_cut t); is_quiet = g.is_quiet; reason = wider s P Q f g.reason })
 
   -- the first was written, and a call stopped in the second
   pub stops_after : {old mid new : W} {a b : List ℕ} (P Q : Error → Type 0) {e : Error} → (P e → Q e) → Wrote old mid a → Stops mid new b P e → Stops old new (a ++ b) Q e
   stops_after P Q f w (inl g) = inl (failed_after w g)
-  stops_after {old = old} {a = a} P Q f w (inr g) = inr (record { is_cut = λ t. cut_after (s.contents old) a (w.gains t) (g.is_cut t); is_quiet = g.is_quiet ∙ w.is_quiet; reason = wider P Q f g.reason })
+  stops_after {old = old} {a = a} P Q f w (inr g) = inr (record { is_cut = λ t. cut_after (s.contents old) a (w.gains t) (g.is_cut t); is_quiet = g.is_quiet ∙ w.is_quiet; reason = wider s P Q f g.reason })
 
   -- the whole was written
   pub stops_behind : (old new : W) (a : List ℕ) (refused : Error → Type 0) (e : Error) → refused e → Wrote old new a → Stops old new a refused e
