@@ -23,11 +23,11 @@ fn equals(alloc: Global, words: &[u32], pairs: &[(u32, u32)]) -> Result<bool, Er
 
 #[test]
 fn maps_of_the_same_pairs_are_equal(rt: HostRuntime) {
-    assert_eq!(rt; equals(rt.alloc(), &EMPTY, &[]), Ok(true));
-    assert_eq!(rt; equals(rt.alloc(), &ONE_PAIR, &[(7, 11)]), Ok(true));
+    assert!(rt; equals(rt.alloc(), &EMPTY, &[]) == Ok(true));
+    assert!(rt; equals(rt.alloc(), &ONE_PAIR, &[(7, 11)]) == Ok(true));
     let mut pairs = [(6, 16), (5, 15), (4, 14), (3, 13), (2, 12), (1, 11)];
-    assert_eq!(rt; equals(rt.alloc(), &SIX_PAIRS, &pairs), Ok(true));
-    assert_eq!(rt; equals(rt.alloc(), &EMPTY_LEAF, &pairs[1..]), Ok(true));
+    assert!(rt; equals(rt.alloc(), &SIX_PAIRS, &pairs) == Ok(true));
+    assert!(rt; equals(rt.alloc(), &EMPTY_LEAF, &pairs[1..]) == Ok(true));
 }
 
 #[test]
@@ -39,9 +39,9 @@ fn maps_of_other_pairs_are_not_equal(rt: HostRuntime) {
         [(7, 11), (8, 11)].as_slice(),
     ];
     for pairs in rows {
-        assert_eq!(rt; equals(rt.alloc(), &ONE_PAIR, pairs), Ok(false));
+        assert!(rt; equals(rt.alloc(), &ONE_PAIR, pairs) == Ok(false));
     }
-    assert_eq!(rt; equals(rt.alloc(), &EMPTY, &[(7, 11)]), Ok(false));
+    assert!(rt; equals(rt.alloc(), &EMPTY, &[(7, 11)]) == Ok(false));
 }
 
 /// Returns whether two archived maps are equal, by either call, and whether they are hashed alike.
@@ -67,12 +67,6 @@ fn equal_maps_are_hashed_alike(rt: HostRuntime) {
     unused[2] = 9;
     let mut changed = ONE_PAIR;
     changed[6] = 12;
-    assert_eq!(rt;
-        compared(rt.alloc(), &ONE_PAIR, &unused),
-        Ok((true, true, true))
-    );
-    assert_eq!(rt;
-        compared(rt.alloc(), &ONE_PAIR, &changed),
-        Ok((false, false, false))
-    );
+    assert!(rt; compared(rt.alloc(), &ONE_PAIR, &unused) == Ok((true, true, true)));
+    assert!(rt; compared(rt.alloc(), &ONE_PAIR, &changed) == Ok((false, false, false)));
 }

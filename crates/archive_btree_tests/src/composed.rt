@@ -51,7 +51,7 @@ fn is_read_back_beside_a_list(alloc: Global) -> Result<bool, Error> {
 
 #[test]
 fn maps_of_lists_are_read_back(rt: HostRuntime) {
-    assert_eq!(rt; is_read_back_beside_a_list(rt.alloc()), Ok(true));
+    assert!(rt; is_read_back_beside_a_list(rt.alloc()) == Ok(true));
 }
 
 /// Returns the hash of an archived map from `a` to 1 and from `b` to 2.
@@ -80,5 +80,5 @@ fn maps_are_hashed_pair_by_pair(rt: HostRuntime) {
         key.hash(&mut hasher);
         value.hash(&mut hasher);
     }
-    assert_eq!(rt; hash_of_archived(rt.alloc()), Ok(hasher.finish()));
+    assert!(rt; hash_of_archived(rt.alloc()) == Ok(hasher.finish()));
 }

@@ -87,7 +87,7 @@ fn range_has_the_entries_between_its_bounds(rt: HostRuntime) -> Result<(), Fail>
     ];
     for (start, end, items) in rows {
         let met = texts_between(rt.alloc(), (start, end))?;
-        assert_eq!(rt; met.as_slice(), items);
+        assert!(rt; met.as_slice() == items);
     }
     Ok(())
 }
@@ -119,12 +119,12 @@ fn six_between<R: RangeBounds<u32>>(alloc: Global, bounds: R, keys: &[u32]) -> R
 
 #[test]
 fn ranges_of_every_kind(rt: HostRuntime) {
-    assert_eq!(rt; six_between(rt.alloc(), 2..4, &[2, 3]), Ok(true));
-    assert_eq!(rt; six_between(rt.alloc(), 2..=4, &[2, 3, 4]), Ok(true));
-    assert_eq!(rt; six_between(rt.alloc(), 5.., &[5, 6]), Ok(true));
-    assert_eq!(rt; six_between(rt.alloc(), ..2, &[1]), Ok(true));
-    assert_eq!(rt; six_between(rt.alloc(), ..=2, &[1, 2]), Ok(true));
-    assert_eq!(rt; six_between(rt.alloc(), .., &[1, 2, 3, 4, 5, 6]), Ok(true));
+    assert!(rt; six_between(rt.alloc(), 2..4, &[2, 3]) == Ok(true));
+    assert!(rt; six_between(rt.alloc(), 2..=4, &[2, 3, 4]) == Ok(true));
+    assert!(rt; six_between(rt.alloc(), 5.., &[5, 6]) == Ok(true));
+    assert!(rt; six_between(rt.alloc(), ..2, &[1]) == Ok(true));
+    assert!(rt; six_between(rt.alloc(), ..=2, &[1, 2]) == Ok(true));
+    assert!(rt; six_between(rt.alloc(), .., &[1, 2, 3, 4, 5, 6]) == Ok(true));
 }
 
 #[test]
@@ -139,7 +139,7 @@ fn bounds_of_every_kind(rt: HostRuntime) {
         (Bound::Excluded(4), Bound::Included(4), [].as_slice()),
     ];
     for (start, end, keys) in rows {
-        assert_eq!(rt; six_between(rt.alloc(), (start, end), keys), Ok(true));
+        assert!(rt; six_between(rt.alloc(), (start, end), keys) == Ok(true));
     }
 }
 
@@ -148,9 +148,9 @@ fn ranges_of_small_trees(rt: HostRuntime) -> Result<(), Fail> {
     let met = numbers_between(rt.alloc(), &ONE_PAIR, 8..)?;
     assert!(rt; met.is_empty());
     let met = numbers_between(rt.alloc(), &EMPTY_LEAF, 2..4)?;
-    assert_eq!(rt; met.as_slice(), [(2, 12), (3, 13)].as_slice());
+    assert!(rt; met.as_slice() == [(2, 12), (3, 13)].as_slice());
     let met = numbers_between(rt.alloc(), &EMPTY_LEAF, 4..)?;
-    assert_eq!(rt; met.as_slice(), [(4, 14), (5, 15)].as_slice());
+    assert!(rt; met.as_slice() == [(4, 14), (5, 15)].as_slice());
     Ok(())
 }
 
@@ -159,7 +159,7 @@ fn range_of_a_tree_of_three_levels(rt: HostRuntime) -> Result<(), Fail> {
     let words = three_levels(rt.alloc(), NUMBERS)?;
     let met = numbers_between(rt.alloc(), words.as_slice(), 32..100)?;
     let items = entries(rt.alloc(), NUMBERS, 32..100)?;
-    assert_eq!(rt; met.as_slice(), items.as_slice());
+    assert!(rt; met.as_slice() == items.as_slice());
     Ok(())
 }
 
@@ -193,7 +193,7 @@ fn ranges_of_chars_by_a_comparison(rt: HostRuntime) -> Result<(), Fail> {
     for (start, end, numbers) in rows {
         let items = entries(rt.alloc(), CHARS, numbers)?;
         let met = chars_between(rt.alloc(), words.as_slice(), (start, end))?;
-        assert_eq!(rt; met.as_slice(), items.as_slice());
+        assert!(rt; met.as_slice() == items.as_slice());
     }
     Ok(())
 }
@@ -228,7 +228,7 @@ fn range_by_the_first_char_of_texts(rt: HostRuntime) -> Result<(), Fail> {
     let words = two_levels(rt.alloc(), TEXTS)?;
     let met = texts_by_first_char(rt.alloc(), words.as_slice(), 'd'..'w')?;
     let items = entries(rt.alloc(), TEXTS, 3..22)?;
-    assert_eq!(rt; met.as_slice(), items.as_slice());
+    assert!(rt; met.as_slice() == items.as_slice());
     Ok(())
 }
 
@@ -247,9 +247,8 @@ fn ended(alloc: Global) -> Result<[(bool, (usize, Option<usize>)); 3], Error> {
 
 #[test]
 fn ended_range_stays_ended(rt: HostRuntime) {
-    assert_eq!(rt;
-        ended(rt.alloc()),
-        Ok([(false, (0, None)), (true, (0, None)), (true, (0, None))])
+    assert!(rt;
+        ended(rt.alloc()) == Ok([(false, (0, None)), (true, (0, None)), (true, (0, None))])
     );
 }
 
@@ -268,10 +267,7 @@ fn walked<K: CheckBytes<HighValidator>>(
 #[test]
 fn texts_are_walked_in_order(rt: HostRuntime) -> Result<(), Fail> {
     let met = walked::<ArchivedString>(rt.alloc(), &FOUR_TEXTS)?;
-    assert_eq!(rt;
-        met.as_slice(),
-        [(BAR, 20), (BAT, 80), (BAZ, 40), (FOO, 10)].as_slice()
-    );
+    assert!(rt; met.as_slice() == [(BAR, 20), (BAT, 80), (BAZ, 40), (FOO, 10)].as_slice());
     Ok(())
 }
 
@@ -280,7 +276,7 @@ fn texts_in_two_levels_are_walked_in_order(rt: HostRuntime) -> Result<(), Fail> 
     let words = two_levels(rt.alloc(), TEXTS)?;
     let met = walked::<ArchivedString>(rt.alloc(), words.as_slice())?;
     let items = entries(rt.alloc(), TEXTS, 0..25)?;
-    assert_eq!(rt; met.as_slice(), items.as_slice());
+    assert!(rt; met.as_slice() == items.as_slice());
     Ok(())
 }
 
@@ -305,7 +301,7 @@ fn visited(alloc: Global, words: &[u32]) -> Result<Vec<(u32, u32)>, Error> {
 fn walk_visit_and_range_agree(rt: HostRuntime) {
     for words in [&SIX_PAIRS, &EMPTY_LEAF] {
         let met = visited(rt.alloc(), words);
-        assert_eq!(rt; walked::<ArchivedU32>(rt.alloc(), words), met);
-        assert_eq!(rt; numbers_between(rt.alloc(), words, ..), met);
+        assert!(rt; walked::<ArchivedU32>(rt.alloc(), words) == met);
+        assert!(rt; numbers_between(rt.alloc(), words, ..) == met);
     }
 }

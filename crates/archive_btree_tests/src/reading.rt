@@ -25,9 +25,9 @@ fn found(alloc: Global, words: &[u32], key: u32) -> Result<(Option<u32>, usize),
 
 #[test]
 fn keys_lead_to_their_values(rt: HostRuntime) {
-    assert_eq!(rt; found(rt.alloc(), &EMPTY, 7), Ok((None, 0)));
-    assert_eq!(rt; found(rt.alloc(), &ONE_PAIR, 7), Ok((Some(11), 1)));
-    assert_eq!(rt; found(rt.alloc(), &ONE_PAIR, 8), Ok((None, 1)));
+    assert!(rt; found(rt.alloc(), &EMPTY, 7) == Ok((None, 0)));
+    assert!(rt; found(rt.alloc(), &ONE_PAIR, 7) == Ok((Some(11), 1)));
+    assert!(rt; found(rt.alloc(), &ONE_PAIR, 8) == Ok((None, 1)));
     let rows = [
         (0, None, 2),
         (1, Some(11), 2),
@@ -43,8 +43,8 @@ fn keys_lead_to_their_values(rt: HostRuntime) {
             "{key}"
         );
     }
-    assert_eq!(rt; found(rt.alloc(), &EMPTY_LEAF, 3), Ok((Some(13), 3)));
-    assert_eq!(rt; found(rt.alloc(), &EMPTY_LEAF, 9), Ok((None, 5)));
+    assert!(rt; found(rt.alloc(), &EMPTY_LEAF, 3) == Ok((Some(13), 3)));
+    assert!(rt; found(rt.alloc(), &EMPTY_LEAF, 9) == Ok((None, 5)));
 }
 
 /// Returns the word of the value that a key leads to, by each call that looks a key up, and whether the map has the
@@ -72,10 +72,7 @@ fn look_ups_agree(rt: HostRuntime) {
             "{key}"
         );
     }
-    assert_eq!(rt;
-        looked_up(rt.alloc(), &SIX_PAIRS, 7),
-        Ok(([None, None, None], false))
-    );
+    assert!(rt; looked_up(rt.alloc(), &SIX_PAIRS, 7) == Ok(([None, None, None], false)));
 }
 
 /// Returns the positions of the keys and of the values, in order.
@@ -94,22 +91,19 @@ fn walked(alloc: Global, words: &[u32]) -> Result<Vec<(usize, usize)>, Error> {
 #[test]
 fn no_entries_and_one_are_walked(rt: HostRuntime) -> Result<(), Fail> {
     assert!(rt; walked(rt.alloc(), &EMPTY)?.is_empty());
-    assert_eq!(rt;
-        walked(rt.alloc(), &ONE_PAIR)?.as_slice(),
-        [(4, 24)].as_slice()
-    );
+    assert!(rt; walked(rt.alloc(), &ONE_PAIR)?.as_slice() == [(4, 24)].as_slice());
     Ok(())
 }
 
 #[test]
 fn entries_are_walked_in_order(rt: HostRuntime) -> Result<(), Fail> {
-    assert_eq!(rt;
-        walked(rt.alloc(), &SIX_PAIRS)?.as_slice(),
-        [(4, 24), (52, 72), (56, 76), (60, 80), (64, 84), (68, 88)].as_slice()
+    assert!(rt;
+        walked(rt.alloc(), &SIX_PAIRS)?.as_slice()
+            == [(4, 24), (52, 72), (56, 76), (60, 80), (64, 84), (68, 88)].as_slice()
     );
-    assert_eq!(rt;
-        walked(rt.alloc(), &EMPTY_LEAF)?.as_slice(),
-        [(52, 72), (56, 76), (60, 80), (64, 84), (68, 88)].as_slice()
+    assert!(rt;
+        walked(rt.alloc(), &EMPTY_LEAF)?.as_slice()
+            == [(52, 72), (56, 76), (60, 80), (64, 84), (68, 88)].as_slice()
     );
     Ok(())
 }
@@ -135,9 +129,9 @@ fn visited(alloc: Global, words: &[u32], last: usize) -> Result<(Option<usize>, 
 
 #[test]
 fn visit_ends_at_the_first_break(rt: HostRuntime) {
-    assert_eq!(rt; visited(rt.alloc(), &SIX_PAIRS, 76), Ok((Some(76), 3)));
-    assert_eq!(rt; visited(rt.alloc(), &SIX_PAIRS, 0), Ok((None, 6)));
-    assert_eq!(rt; visited(rt.alloc(), &EMPTY_LEAF, 0), Ok((None, 5)));
+    assert!(rt; visited(rt.alloc(), &SIX_PAIRS, 76) == Ok((Some(76), 3)));
+    assert!(rt; visited(rt.alloc(), &SIX_PAIRS, 0) == Ok((None, 6)));
+    assert!(rt; visited(rt.alloc(), &EMPTY_LEAF, 0) == Ok((None, 5)));
 }
 
 #[test]
@@ -146,8 +140,8 @@ fn len_is_the_number_of_entries(rt: HostRuntime) -> Result<(), Fail> {
         let bytes = bytes_of(rt.alloc(), words)?;
         match root_of::<Numbers>(rt.alloc(), bytes.as_slice()) {
             Ok(root) => {
-                assert_eq!(rt; ArchivedBTreeMap::len(root), len);
-                assert_eq!(rt; ArchivedBTreeMap::iter(root).len(), len);
+                assert!(rt; ArchivedBTreeMap::len(root) == len);
+                assert!(rt; ArchivedBTreeMap::iter(root).len() == len);
             }
             Err(_) => assert!(rt; false),
         }

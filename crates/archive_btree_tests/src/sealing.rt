@@ -96,13 +96,11 @@ fn added(
 
 #[test]
 fn visits_write_each_value_in_order_up_to_the_first_break(rt: HostRuntime) {
-    assert_eq!(rt;
-        added(rt.alloc(), &FOUR, 0),
-        Ok((None, [Some(30), Some(90), Some(50), Some(20)]))
+    assert!(rt;
+        added(rt.alloc(), &FOUR, 0) == Ok((None, [Some(30), Some(90), Some(50), Some(20)]))
     );
-    assert_eq!(rt;
-        added(rt.alloc(), &FOUR, 90),
-        Ok((Some(90), [Some(30), Some(90), Some(40), Some(10)]))
+    assert!(rt;
+        added(rt.alloc(), &FOUR, 90) == Ok((Some(90), [Some(30), Some(90), Some(40), Some(10)]))
     );
 }
 
@@ -127,9 +125,8 @@ fn set_after_visit(alloc: Global, words: &[u32]) -> Result<[Option<u32>; 4], Err
 
 #[test]
 fn seals_write_the_values_of_their_keys_after_a_visit(rt: HostRuntime) {
-    assert_eq!(rt;
-        set_after_visit(rt.alloc(), &FOUR),
-        Ok([Some(30), Some(456), Some(50), Some(123)])
+    assert!(rt;
+        set_after_visit(rt.alloc(), &FOUR) == Ok([Some(30), Some(456), Some(50), Some(123)])
     );
 }
 
@@ -179,11 +176,8 @@ fn filled(
 #[test]
 fn cursors_pass_each_value_while_the_values_are_written(rt: HostRuntime) -> Result<(), Fail> {
     let (met, values) = filled(rt.alloc(), &FOUR, 7)?;
-    assert_eq!(rt;
-        met.as_slice(),
-        [(44, 3), (48, 2), (52, 1), (56, 0)].as_slice()
-    );
-    assert_eq!(rt; values, [Some(0x0707_0707); 4]);
+    assert!(rt; met.as_slice() == [(44, 3), (48, 2), (52, 1), (56, 0)].as_slice());
+    assert!(rt; values == [Some(0x0707_0707); 4]);
     Ok(())
 }
 
@@ -231,22 +225,16 @@ fn between<'q, R: RangeBounds<&'q str>>(
 
 #[test]
 fn cursors_pass_the_values_of_a_range(rt: HostRuntime) -> Result<(), Fail> {
-    assert_eq!(rt;
-        between(rt.alloc(), &FOUR, "bat"..="baz")?.as_slice(),
-        [48, 52].as_slice()
-    );
-    assert_eq!(rt;
-        between(rt.alloc(), &FOUR, "bat".."baz")?.as_slice(),
-        [48].as_slice()
-    );
-    assert_eq!(rt;
+    assert!(rt; between(rt.alloc(), &FOUR, "bat"..="baz")?.as_slice() == [48, 52].as_slice());
+    assert!(rt; between(rt.alloc(), &FOUR, "bat".."baz")?.as_slice() == [48].as_slice());
+    assert!(rt;
         between(
             rt.alloc(),
             &FOUR,
             (Bound::Excluded("baz"), Bound::Unbounded)
         )?
-        .as_slice(),
-        [56].as_slice()
+        .as_slice()
+            == [56].as_slice()
     );
     Ok(())
 }
@@ -270,12 +258,8 @@ fn set(alloc: Global, words: &[u32], key: &str, number: u32) -> Result<[Option<u
 
 #[test]
 fn keys_lead_to_seals_of_their_own_values(rt: HostRuntime) {
-    assert_eq!(rt;
-        set(rt.alloc(), &FOUR, "baz", 456),
-        Ok([Some(20), Some(80), Some(456), Some(10)])
+    assert!(rt;
+        set(rt.alloc(), &FOUR, "baz", 456) == Ok([Some(20), Some(80), Some(456), Some(10)])
     );
-    assert_eq!(rt;
-        set(rt.alloc(), &FOUR, "qux", 456),
-        Ok([Some(20), Some(80), Some(40), Some(10)])
-    );
+    assert!(rt; set(rt.alloc(), &FOUR, "qux", 456) == Ok([Some(20), Some(80), Some(40), Some(10)]));
 }

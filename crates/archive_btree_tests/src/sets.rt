@@ -64,11 +64,11 @@ fn walked(alloc: Global, words: &[u32]) -> Result<Vec<(Option<u32>, usize)>, Err
 #[test]
 fn keys_are_walked_in_order(rt: HostRuntime) -> Result<(), Fail> {
     assert!(rt; walked(rt.alloc(), &NONE)?.is_empty());
-    assert_eq!(rt;
-        walked(rt.alloc(), &FOUR)?.as_slice(),
-        [(Some(10), 3), (Some(20), 2), (Some(40), 1), (Some(80), 0)].as_slice()
+    assert!(rt;
+        walked(rt.alloc(), &FOUR)?.as_slice()
+            == [(Some(10), 3), (Some(20), 2), (Some(40), 1), (Some(80), 0)].as_slice()
     );
-    assert_eq!(rt; walked(rt.alloc(), &SIX)?.len(), 6);
+    assert!(rt; walked(rt.alloc(), &SIX)?.len() == 6);
     Ok(())
 }
 
@@ -84,9 +84,9 @@ fn counted(alloc: Global, words: &[u32]) -> Result<(usize, bool), Error> {
 
 #[test]
 fn len_is_the_number_of_keys(rt: HostRuntime) {
-    assert_eq!(rt; counted(rt.alloc(), &NONE), Ok((0, true)));
-    assert_eq!(rt; counted(rt.alloc(), &FOUR), Ok((4, false)));
-    assert_eq!(rt; counted(rt.alloc(), &SIX), Ok((6, false)));
+    assert!(rt; counted(rt.alloc(), &NONE) == Ok((0, true)));
+    assert!(rt; counted(rt.alloc(), &FOUR) == Ok((4, false)));
+    assert!(rt; counted(rt.alloc(), &SIX) == Ok((6, false)));
 }
 
 /// Returns the key that is equal to a number, and whether the set has it.
@@ -102,7 +102,7 @@ fn found(alloc: Global, words: &[u32], key: u32) -> Result<(Option<u32>, bool), 
 
 #[test]
 fn keys_are_found(rt: HostRuntime) {
-    assert_eq!(rt; found(rt.alloc(), &NONE, 10), Ok((None, false)));
+    assert!(rt; found(rt.alloc(), &NONE, 10) == Ok((None, false)));
     for key in [10, 20, 40, 80] {
         assert_eq!(rt;
             found(rt.alloc(), &FOUR, key),
@@ -141,9 +141,9 @@ fn visited(alloc: Global, words: &[u32], last: usize) -> Result<(Option<usize>, 
 
 #[test]
 fn visit_of_keys_ends_at_the_first_break(rt: HostRuntime) {
-    assert_eq!(rt; visited(rt.alloc(), &FOUR, 8), Ok((Some(8), 2)));
-    assert_eq!(rt; visited(rt.alloc(), &FOUR, 0), Ok((None, 4)));
-    assert_eq!(rt; visited(rt.alloc(), &NONE, 0), Ok((None, 0)));
+    assert!(rt; visited(rt.alloc(), &FOUR, 8) == Ok((Some(8), 2)));
+    assert!(rt; visited(rt.alloc(), &FOUR, 0) == Ok((None, 4)));
+    assert!(rt; visited(rt.alloc(), &NONE, 0) == Ok((None, 0)));
 }
 
 /// Checks whether a set has the same keys as one of std.
@@ -161,12 +161,12 @@ fn equals(alloc: Global, words: &[u32], keys: &[u32]) -> Result<bool, Error> {
 
 #[test]
 fn sets_of_the_same_keys_are_equal(rt: HostRuntime) {
-    assert_eq!(rt; equals(rt.alloc(), &NONE, &[]), Ok(true));
-    assert_eq!(rt; equals(rt.alloc(), &FOUR, &[80, 40, 20, 10]), Ok(true));
-    assert_eq!(rt; equals(rt.alloc(), &FOUR, &[10, 20, 40]), Ok(false));
-    assert_eq!(rt; equals(rt.alloc(), &FOUR, &[10, 20, 40, 81]), Ok(false));
-    assert_eq!(rt; equals(rt.alloc(), &FOUR, &[11, 20, 40, 80]), Ok(false));
-    assert_eq!(rt; equals(rt.alloc(), &FOUR, &[10, 20, 40, 80, 81]), Ok(false));
+    assert!(rt; equals(rt.alloc(), &NONE, &[]) == Ok(true));
+    assert!(rt; equals(rt.alloc(), &FOUR, &[80, 40, 20, 10]) == Ok(true));
+    assert!(rt; equals(rt.alloc(), &FOUR, &[10, 20, 40]) == Ok(false));
+    assert!(rt; equals(rt.alloc(), &FOUR, &[10, 20, 40, 81]) == Ok(false));
+    assert!(rt; equals(rt.alloc(), &FOUR, &[11, 20, 40, 80]) == Ok(false));
+    assert!(rt; equals(rt.alloc(), &FOUR, &[10, 20, 40, 80, 81]) == Ok(false));
 }
 
 /// Returns whether two archived sets are equal, and whether they are hashed alike.
@@ -189,8 +189,8 @@ fn compared(alloc: Global, words: &[u32], others: &[u32]) -> Result<(bool, bool)
 fn equal_sets_are_hashed_alike(rt: HostRuntime) {
     let mut unused = FOUR;
     unused[5] = 7;
-    assert_eq!(rt; compared(rt.alloc(), &FOUR, &unused), Ok((true, true)));
-    assert_eq!(rt; compared(rt.alloc(), &FOUR, &SIX), Ok((false, false)));
+    assert!(rt; compared(rt.alloc(), &FOUR, &unused) == Ok((true, true)));
+    assert!(rt; compared(rt.alloc(), &FOUR, &SIX) == Ok((false, false)));
 }
 
 #[test]
@@ -198,6 +198,6 @@ fn set_is_resolved(rt: HostRuntime) {
     let mut own = [0u8; 8];
     let resolver = BTreeSetResolver::from_pos(Some(0));
     let done = Numbers::resolve_from_len(4, resolver, Place::new(&mut own, 28));
-    assert_eq!(rt; done, Ok(()));
-    assert_eq!(rt; own, [0xe4, 0xff, 0xff, 0xff, 4, 0, 0, 0]);
+    assert!(rt; done == Ok(()));
+    assert!(rt; own == [0xe4, 0xff, 0xff, 0xff, 4, 0, 0, 0]);
 }

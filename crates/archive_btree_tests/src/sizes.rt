@@ -133,7 +133,7 @@ fn set_without_bytes(alloc: Global) -> Result<bool, Error> {
 
 #[test]
 fn keys_and_values_without_bytes_are_read_back(rt: HostRuntime) {
-    assert_eq!(rt; numbers_without_values(rt.alloc()), Ok(true));
-    assert_eq!(rt; value_without_key(rt.alloc()), Ok(true));
-    assert_eq!(rt; set_without_bytes(rt.alloc()), Ok(true));
+    assert!(rt; numbers_without_values(rt.alloc()) == Ok(true));
+    assert!(rt; value_without_key(rt.alloc()) == Ok(true));
+    assert!(rt; set_without_bytes(rt.alloc()) == Ok(true));
 }

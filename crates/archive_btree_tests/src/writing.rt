@@ -57,10 +57,10 @@ fn is_map_of(alloc: Global, pairs: &[(u32, u32)], words: &[u32]) -> Result<bool,
 #[test]
 fn maps_are_written_as_packed_trees(rt: HostRuntime) {
     let alloc = rt.alloc();
-    assert_eq!(rt; is_map_of(alloc, &[], &EMPTY), Ok(true));
-    assert_eq!(rt; is_map_of(alloc, &[(7, 11)], &ONE_PAIR), Ok(true));
+    assert!(rt; is_map_of(alloc, &[], &EMPTY) == Ok(true));
+    assert!(rt; is_map_of(alloc, &[(7, 11)], &ONE_PAIR) == Ok(true));
     let pairs = [(1, 11), (2, 12), (3, 13), (4, 14), (5, 15), (6, 16)];
-    assert_eq!(rt; is_map_of(alloc, &pairs, &SIX_PAIRS), Ok(true));
+    assert!(rt; is_map_of(alloc, &pairs, &SIX_PAIRS) == Ok(true));
 }
 
 /// Returns the map from foo to 10, bar to 20, baz to 40 and bat to 80.
@@ -91,8 +91,8 @@ fn is_read_back(alloc: Global, owned: &OwnedBTreeMap<String, u32, 5>) -> Result<
 #[test]
 fn texts_are_read_back(rt: HostRuntime) -> Result<(), Fail> {
     let map = four(rt.alloc())?;
-    assert_eq!(rt; map.map.len(), 4);
-    assert_eq!(rt; is_read_back(rt.alloc(), &map), Ok(true));
+    assert!(rt; map.map.len() == 4);
+    assert!(rt; is_read_back(rt.alloc(), &map) == Ok(true));
     Ok(())
 }
 
@@ -129,10 +129,7 @@ fn wrong_claims_are_refused_with_both_numbers(rt: HostRuntime) {
             "{expected} for {actual}"
         );
     }
-    assert_eq!(rt;
-        claiming(alloc, 2, &pairs[..2]),
-        Ok(BTreeMapResolver::from_pos(Some(0)))
-    );
+    assert!(rt; claiming(alloc, 2, &pairs[..2]) == Ok(BTreeMapResolver::from_pos(Some(0))));
 }
 
 /// Returns the number of bytes of the archive of a map of `count` numbers in decimal, each of which leads to three
@@ -188,9 +185,9 @@ fn is_set_of(alloc: Global, keys: &[u32], words: &[u32]) -> Result<bool, Error> 
 #[test]
 fn sets_are_written_without_bytes_for_values(rt: HostRuntime) {
     let alloc = rt.alloc();
-    assert_eq!(rt; is_set_of(alloc, &[], &NONE), Ok(true));
-    assert_eq!(rt; is_set_of(alloc, &[80, 10, 40, 20], &FOUR), Ok(true));
-    assert_eq!(rt; is_set_of(alloc, &[1, 2, 3, 4, 5, 6], &SIX), Ok(true));
+    assert!(rt; is_set_of(alloc, &[], &NONE) == Ok(true));
+    assert!(rt; is_set_of(alloc, &[80, 10, 40, 20], &FOUR) == Ok(true));
+    assert!(rt; is_set_of(alloc, &[1, 2, 3, 4, 5, 6], &SIX) == Ok(true));
 }
 
 /// Returns the set that is read back of words.
@@ -238,8 +235,8 @@ fn steps_of_keys_and_of_values_write_the_same(rt: HostRuntime) -> Result<(), Fai
     let map = numbers(alloc, &[(7, 11)])?;
     let mut serializer = memory(alloc);
     let written = write_by_parts(&map, &mut serializer);
-    assert_eq!(rt; written, Ok(BTreeMapResolver::from_pos(Some(0))));
-    assert_eq!(rt; serializer.into_writer().len(), 48);
+    assert!(rt; written == Ok(BTreeMapResolver::from_pos(Some(0))));
+    assert!(rt; serializer.into_writer().len() == 48);
     Ok(())
 }
 
@@ -262,12 +259,9 @@ fn keys_in_order_are_written_where_as_many_come_as_are_claimed(
     let alloc = rt.alloc();
     let six = set_of(alloc, &[1, 2, 3, 4, 5, 6])?;
     let written = write_claimed_keys(6, &six, &mut memory(alloc));
-    assert_eq!(rt; written, Ok(BTreeSetResolver::from_pos(Some(28))));
+    assert!(rt; written == Ok(BTreeSetResolver::from_pos(Some(28))));
     let refused = write_claimed_keys(5, &six, &mut memory(alloc));
     let (expected, actual) = (5, 6);
-    assert_eq!(rt;
-        refused,
-        Err(Error::IteratorLengthMismatch { expected, actual })
-    );
+    assert!(rt; refused == Err(Error::IteratorLengthMismatch { expected, actual }));
     Ok(())
 }

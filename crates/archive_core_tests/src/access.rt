@@ -58,14 +58,8 @@ fn root_lies_at_the_end_rounded_down(rt: HostRuntime) {
 #[test]
 fn bytes_in_an_option_are_accepted(rt: HostRuntime) {
     let bytes = *b"Hello world\0\x01\0\0\0\xf0\xff\xff\xff\x0b\0\0\0";
-    assert_eq!(rt;
-        position_of(access::<MaybeBytes>(rt.alloc(), &bytes)),
-        Ok(12)
-    );
-    assert_eq!(rt;
-        position_of(access_pos::<MaybeBytes>(rt.alloc(), &bytes, 12)),
-        Ok(12)
-    );
+    assert!(rt; position_of(access::<MaybeBytes>(rt.alloc(), &bytes)) == Ok(12));
+    assert!(rt; position_of(access_pos::<MaybeBytes>(rt.alloc(), &bytes, 12)) == Ok(12));
 }
 
 #[test]
@@ -74,26 +68,24 @@ fn bytes_in_an_option_are_accepted_in_a_context(rt: HostRuntime) {
     let mut one = validator(rt.alloc(), &bytes, usize::MAX);
     let mut two = validator(rt.alloc(), &bytes, usize::MAX);
     let mut three = validator(rt.alloc(), &bytes, usize::MAX);
-    assert_eq!(rt;
-        check_pos_with_context::<MaybeBytes, HighValidator>(rt.alloc(), &bytes, 12, &mut one),
-        Ok(())
+    assert!(rt;
+        check_pos_with_context::<MaybeBytes, HighValidator>(rt.alloc(), &bytes, 12, &mut one)
+            == Ok(())
     );
-    assert_eq!(rt;
+    assert!(rt;
         position_of(access_pos_with_context::<MaybeBytes, HighValidator>(
             rt.alloc(),
             &bytes,
             12,
             &mut two
-        )),
-        Ok(12)
+        )) == Ok(12)
     );
-    assert_eq!(rt;
+    assert!(rt;
         position_of(access_with_context::<MaybeBytes, HighValidator>(
             rt.alloc(),
             &bytes,
             &mut three
-        )),
-        Ok(12)
+        )) == Ok(12)
     );
 }
 
@@ -102,10 +94,10 @@ fn bytes_in_an_option_are_accepted_to_be_edited(rt: HostRuntime) {
     let bytes = *b"Hello world\0\x01\0\0\0\xf0\xff\xff\xff\x0b\0\0\0";
     let mut lent = bytes;
     match access_mut::<MaybeBytes>(rt.alloc(), &mut lent) {
-        Ok(root) => assert_eq!(rt; root.pos(), 12),
+        Ok(root) => assert!(rt; root.pos() == 12),
         Err(_refusal) => assert!(rt; false),
     }
-    assert_eq!(rt; lent, bytes);
+    assert!(rt; lent == bytes);
 }
 
 #[test]
@@ -113,10 +105,10 @@ fn bytes_in_an_option_at_a_position_are_accepted_to_be_edited(rt: HostRuntime) {
     let bytes = *b"Hello world\0\x01\0\0\0\xf0\xff\xff\xff\x0b\0\0\0";
     let mut lent = bytes;
     match access_pos_mut::<MaybeBytes>(rt.alloc(), &mut lent, 12) {
-        Ok(root) => assert_eq!(rt; root.pos(), 12),
+        Ok(root) => assert!(rt; root.pos() == 12),
         Err(_refusal) => assert!(rt; false),
     }
-    assert_eq!(rt; lent, bytes);
+    assert!(rt; lent == bytes);
 }
 
 #[test]
@@ -125,9 +117,9 @@ fn refused_bytes_stay_as_they_were(rt: HostRuntime) {
     let mut lent = bytes;
     match access_mut::<MaybeBytes>(rt.alloc(), &mut lent) {
         Ok(_root) => assert!(rt; false),
-        Err(refusal) => assert_eq!(rt; refusal, Error::InvalidTag),
+        Err(refusal) => assert!(rt; refusal == Error::InvalidTag),
     }
-    assert_eq!(rt; lent, bytes);
+    assert!(rt; lent == bytes);
 }
 
 #[test]
@@ -136,9 +128,9 @@ fn refused_bytes_at_a_position_stay_as_they_were(rt: HostRuntime) {
     let mut lent = bytes;
     match access_pos_mut::<MaybeBytes>(rt.alloc(), &mut lent, 13) {
         Ok(_root) => assert!(rt; false),
-        Err(refusal) => assert_eq!(rt; refusal, Error::InvalidSubtreePointer { size: 12 }),
+        Err(refusal) => assert!(rt; refusal == (Error::InvalidSubtreePointer { size: 12 })),
     }
-    assert_eq!(rt; lent, bytes);
+    assert!(rt; lent == bytes);
 }
 
 #[test]
@@ -225,7 +217,7 @@ fn empty_buffers_have_no_root(rt: HostRuntime) {
         (root_of::<()>(rt.alloc(), &[]), Ok(0)),
     ];
     for (result, wanted) in rows {
-        assert_eq!(rt; result, wanted);
+        assert!(rt; result == wanted);
     }
 }
 

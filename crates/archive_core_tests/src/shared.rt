@@ -40,7 +40,7 @@ fn texts_of_one_key_stand_once(rt: HostRuntime) -> Result<(), Error> {
     );
     let bytes = to_bytes(alloc, &pair)?;
     let expected: &[u8] = b"hello world!\xf4\xff\xff\xff\x0c\0\0\0\xec\xff\xff\xff\x0c\0\0\0";
-    assert_eq!(rt; &*bytes, expected);
+    assert!(rt; &*bytes == expected);
     Ok(())
 }
 
@@ -50,7 +50,7 @@ fn texts_of_two_keys_stand_twice(rt: HostRuntime) -> Result<(), Error> {
     let pair = (text(alloc, 3, "abcd")?, text(alloc, 4, "abcd")?);
     let bytes = to_bytes(alloc, &pair)?;
     let expected: &[u8] = b"abcdabcd\xf8\xff\xff\xff\x04\0\0\0\xf4\xff\xff\xff\x04\0\0\0";
-    assert_eq!(rt; &*bytes, expected);
+    assert!(rt; &*bytes == expected);
     Ok(())
 }
 
@@ -60,7 +60,7 @@ fn empty_text_is_followed_by_a_zero(rt: HostRuntime) -> Result<(), Error> {
     let pair = (text(alloc, 3, "")?, text(alloc, 3, "")?);
     let bytes = to_bytes(alloc, &pair)?;
     let expected: &[u8] = b"\0\0\0\0\xfc\xff\xff\xff\0\0\0\0\xf4\xff\xff\xff\0\0\0\0";
-    assert_eq!(rt; &*bytes, expected);
+    assert!(rt; &*bytes == expected);
     Ok(())
 }
 
@@ -70,7 +70,7 @@ fn empty_texts_of_two_keys_stand_apart(rt: HostRuntime) -> Result<(), Error> {
     let pair = (text(alloc, 3, "")?, text(alloc, 4, "")?);
     let bytes = to_bytes(alloc, &pair)?;
     let expected: &[u8] = b"\0\0\0\0\xfc\xff\xff\xff\0\0\0\0\xf5\xff\xff\xff\0\0\0\0";
-    assert_eq!(rt; &*bytes, expected);
+    assert!(rt; &*bytes == expected);
     Ok(())
 }
 
@@ -82,7 +82,7 @@ fn numbers_of_one_key_stand_once(rt: HostRuntime) -> Result<(), Error> {
     list.push(number(alloc, 7, 5)?)?;
     let bytes = to_bytes(alloc, &list)?;
     let expected: &[u8] = b"\x05\0\0\0\xfc\xff\xff\xff\xf8\xff\xff\xff\xf8\xff\xff\xff\x02\0\0\0";
-    assert_eq!(rt; &*bytes, expected);
+    assert!(rt; &*bytes == expected);
     Ok(())
 }
 
@@ -93,7 +93,7 @@ fn elements_of_one_key_stand_once(rt: HostRuntime) -> Result<(), Error> {
     let bytes = to_bytes(alloc, &pair)?;
     let expected: &[u8] =
         b"\x06\0\0\0\x07\0\0\0\xf8\xff\xff\xff\x02\0\0\0\xf0\xff\xff\xff\x02\0\0\0";
-    assert_eq!(rt; &*bytes, expected);
+    assert!(rt; &*bytes == expected);
     Ok(())
 }
 
@@ -101,10 +101,7 @@ fn elements_of_one_key_stand_once(rt: HostRuntime) -> Result<(), Error> {
 fn position_has_one_shape(rt: HostRuntime) {
     type Pair = ArchivedTuple2<ArchivedRc<ArchivedU32, RcFlavor>, ArchivedRcSlice<u8, RcFlavor>>;
     let bytes = b"\x01\x02\x03\x04\xfc\xff\xff\xff\xf8\xff\xff\xff\x03\0\0\0";
-    assert_eq!(rt;
-        refusal::<Pair>(rt.alloc(), bytes),
-        Some(Error::TypeMismatch)
-    );
+    assert!(rt; refusal::<Pair>(rt.alloc(), bytes) == Some(Error::TypeMismatch));
 }
 
 #[test]

@@ -82,10 +82,7 @@ fn pop_with_none_open(rt: HostRuntime) {
         end: 4,
         outer: 4,
     };
-    assert_eq!(rt;
-        validator.pop_subtree_range(range),
-        Err(Error::RangePoppedTooManyTimes)
-    );
+    assert!(rt; validator.pop_subtree_range(range) == Err(Error::RangePoppedTooManyTimes));
 }
 
 #[test]
@@ -93,10 +90,7 @@ fn pop_of_another_push(rt: HostRuntime) -> Result<(), Error> {
     let mut validator = ArchiveValidator::new(rt.alloc(), b"\0\0\0\0\0\0\0\0");
     let outer = validator.push_subtree_range(4, 8)?;
     validator.push_subtree_range(2, 4)?;
-    assert_eq!(rt;
-        validator.pop_subtree_range(outer),
-        Err(Error::RangePoppedOutOfOrder)
-    );
+    assert!(rt; validator.pop_subtree_range(outer) == Err(Error::RangePoppedOutOfOrder));
     Ok(())
 }
 
@@ -104,11 +98,8 @@ fn pop_of_another_push(rt: HostRuntime) -> Result<(), Error> {
 fn pop_of_a_push_that_was_popped(rt: HostRuntime) -> Result<(), Error> {
     let mut validator = ArchiveValidator::new(rt.alloc(), b"\0\0\0\0\0\0\0\0");
     let range = validator.push_subtree_range(4, 8)?;
-    assert_eq!(rt; validator.pop_subtree_range(range), Ok(()));
-    assert_eq!(rt;
-        validator.pop_subtree_range(range),
-        Err(Error::RangePoppedTooManyTimes)
-    );
+    assert!(rt; validator.pop_subtree_range(range) == Ok(()));
+    assert!(rt; validator.pop_subtree_range(range) == Err(Error::RangePoppedTooManyTimes));
     Ok(())
 }
 
@@ -208,19 +199,17 @@ fn regions_in_subtrees(rt: HostRuntime) {
 fn range_in_a_subtree(rt: HostRuntime) {
     let archive = ArchiveValidator::with_max_depth(rt.alloc(), b"\0\0\0\0\0\0\0\0\0\0\0\0", 2);
     let mut validator = Validator::new(archive, SharedValidator::new(rt.alloc()));
-    assert_eq!(rt;
+    assert!(rt;
         validator.in_subtree::<ArchivedI32, (), _>(
             4,
             |c: &mut HighValidator| c.check_subtree_ptr(0, 4, 4)
-        ),
-        Ok(())
+        ) == Ok(())
     );
-    assert_eq!(rt;
+    assert!(rt;
         validator.in_subtree::<ArchivedI32, (), _>(
             8,
             |c: &mut HighValidator| c.check_subtree_ptr(0, 4, 4)
-        ),
-        Err(Error::InvalidSubtreePointer { size: 4 })
+        ) == Err(Error::InvalidSubtreePointer { size: 4 })
     );
 }
 

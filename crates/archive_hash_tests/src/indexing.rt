@@ -29,43 +29,37 @@ fn accepts(alloc: Global, bytes: &[u8; 64]) -> Result<(), Error> {
 
 #[test]
 fn index_maps_are_accepted(rt: HostRuntime) {
-    assert_eq!(rt; accepts(rt.alloc(), &ONE_PAIR), Ok(()));
+    assert!(rt; accepts(rt.alloc(), &ONE_PAIR) == Ok(()));
     let mut empty = [0; 64];
     empty[56] = 9;
     empty[60] = 9;
-    assert_eq!(rt; accepts(rt.alloc(), &empty), Ok(()));
+    assert!(rt; accepts(rt.alloc(), &empty) == Ok(()));
 }
 
 #[test]
 fn number_of_no_entry_is_refused(rt: HostRuntime) {
     let mut bytes = ONE_PAIR;
     bytes[4] = 1;
-    assert_eq!(rt; accepts(rt.alloc(), &bytes), Err(Error::InvalidPlace));
+    assert!(rt; accepts(rt.alloc(), &bytes) == Err(Error::InvalidPlace));
 }
 
 #[test]
 fn entries_before_the_bytes_are_refused(rt: HostRuntime) {
     let mut bytes = ONE_PAIR;
     bytes[60] = 0xc3;
-    assert_eq!(rt;
-        accepts(rt.alloc(), &bytes),
-        Err(Error::InvalidSubtreePointer { size: 8 })
-    );
+    assert!(rt; accepts(rt.alloc(), &bytes) == Err(Error::InvalidSubtreePointer { size: 8 }));
 }
 
 #[test]
 fn entries_in_the_table_are_refused(rt: HostRuntime) {
     let mut bytes = ONE_PAIR;
     bytes[60] = 0xe4;
-    assert_eq!(rt;
-        accepts(rt.alloc(), &bytes),
-        Err(Error::InvalidSubtreePointer { size: 8 })
-    );
+    assert!(rt; accepts(rt.alloc(), &bytes) == Err(Error::InvalidSubtreePointer { size: 8 }));
 }
 
 #[test]
 fn entries_are_checked(rt: HostRuntime) {
     let mut bytes = ONE_PAIR;
     bytes[44] = 0;
-    assert_eq!(rt; accepts(rt.alloc(), &bytes), Err(Error::InvalidTag));
+    assert!(rt; accepts(rt.alloc(), &bytes) == Err(Error::InvalidTag));
 }

@@ -60,10 +60,7 @@ fn walked(alloc: Global) -> Result<Vec<(usize, usize, usize)>, Error> {
 #[test]
 fn entries_are_walked_by_ascending_place(rt: HostRuntime) -> Result<(), Fail> {
     let walked = walked(rt.alloc())?;
-    assert_eq!(rt;
-        walked.as_slice(),
-        [(48, 56, 2), (16, 24, 1), (0, 8, 0)].as_slice()
-    );
+    assert!(rt; walked.as_slice() == [(48, 56, 2), (16, 24, 1), (0, 8, 0)].as_slice());
     Ok(())
 }
 
@@ -84,8 +81,8 @@ fn parted(alloc: Global) -> Result<(Vec<usize>, Vec<usize>), Error> {
 #[test]
 fn keys_and_values_are_walked_alone(rt: HostRuntime) -> Result<(), Fail> {
     let (keys, values) = parted(rt.alloc())?;
-    assert_eq!(rt; keys.as_slice(), [48, 16, 0].as_slice());
-    assert_eq!(rt; values.as_slice(), [56, 24, 8].as_slice());
+    assert!(rt; keys.as_slice() == [48, 16, 0].as_slice());
+    assert!(rt; values.as_slice() == [56, 24, 8].as_slice());
     Ok(())
 }
 
@@ -106,9 +103,9 @@ fn compared(alloc: Global, text: &str, at: usize) -> Result<(Option<usize>, Opti
 
 #[test]
 fn comparisons_of_the_caller_find_keys_under_the_hash(rt: HostRuntime) {
-    assert_eq!(rt; compared(rt.alloc(), "hello", 16), Ok((Some(16), Some(24))));
-    assert_eq!(rt; compared(rt.alloc(), "hello", 20), Ok((None, None)));
-    assert_eq!(rt; compared(rt.alloc(), "world", 16), Ok((None, None)));
+    assert!(rt; compared(rt.alloc(), "hello", 16) == Ok((Some(16), Some(24))));
+    assert!(rt; compared(rt.alloc(), "hello", 20) == Ok((None, None)));
+    assert!(rt; compared(rt.alloc(), "world", 16) == Ok((None, None)));
 }
 
 /// Returns the bytes of the map after a text was written over the value of a key, which is inline.
@@ -131,8 +128,8 @@ fn written(alloc: Global, key: &str, text: &str) -> Result<[u8; 108], Error> {
 fn values_of_keys_are_written_over(rt: HostRuntime) {
     let mut expected = THREE;
     expected[24..29].copy_from_slice(b"WORLD");
-    assert_eq!(rt; written(rt.alloc(), "hello", "WORLD"), Ok(expected));
-    assert_eq!(rt; written(rt.alloc(), "world", "WORLD"), Ok(THREE));
+    assert!(rt; written(rt.alloc(), "hello", "WORLD") == Ok(expected));
+    assert!(rt; written(rt.alloc(), "world", "WORLD") == Ok(THREE));
 }
 
 /// Returns the bytes of a table of one number after another number was written over the item of a hash.
@@ -152,14 +149,8 @@ fn item_written(alloc: Global, hash: u64, number: u32) -> Result<[u8; 52], Error
 fn items_of_hashes_are_written_over(rt: HostRuntime) {
     let mut expected = crate::reading::ONE_OF_TWO;
     expected[0] = 9;
-    assert_eq!(rt;
-        item_written(rt.alloc(), crate::reading::HASH_OF_A, 9),
-        Ok(expected)
-    );
-    assert_eq!(rt;
-        item_written(rt.alloc(), 0, 9),
-        Ok(crate::reading::ONE_OF_TWO)
-    );
+    assert!(rt; item_written(rt.alloc(), crate::reading::HASH_OF_A, 9) == Ok(expected));
+    assert!(rt; item_written(rt.alloc(), 0, 9) == Ok(crate::reading::ONE_OF_TWO));
 }
 
 /// Returns the positions of the key and the value that the map from `a` to 1 lends, and the number in the bytes after
@@ -181,8 +172,8 @@ fn lent(alloc: Global, key: &str, number: u32) -> Result<(Option<(usize, usize)>
 
 #[test]
 fn keys_are_lent_beside_their_values(rt: HostRuntime) {
-    assert_eq!(rt; lent(rt.alloc(), "a", 9), Ok((Some((0, 8)), 9)));
-    assert_eq!(rt; lent(rt.alloc(), "b", 9), Ok((None, 1)));
+    assert!(rt; lent(rt.alloc(), "a", 9) == Ok((Some((0, 8)), 9)));
+    assert!(rt; lent(rt.alloc(), "b", 9) == Ok((None, 1)));
 }
 
 /// Returns the number in the bytes of the map from `a` to 1 after another was written, through each of the two seals,
@@ -207,9 +198,9 @@ fn accepted(alloc: Global, text: &str, at: usize, number: u32) -> Result<(u8, u8
 
 #[test]
 fn values_of_accepted_keys_are_written_over(rt: HostRuntime) {
-    assert_eq!(rt; accepted(rt.alloc(), "a", 0, 9), Ok((9, 9)));
-    assert_eq!(rt; accepted(rt.alloc(), "a", 1, 9), Ok((1, 1)));
-    assert_eq!(rt; accepted(rt.alloc(), "b", 0, 9), Ok((1, 1)));
+    assert!(rt; accepted(rt.alloc(), "a", 0, 9) == Ok((9, 9)));
+    assert!(rt; accepted(rt.alloc(), "a", 1, 9) == Ok((1, 1)));
+    assert!(rt; accepted(rt.alloc(), "b", 0, 9) == Ok((1, 1)));
 }
 
 /// Returns whether the map is equal to a map of std with these pairs.
@@ -228,19 +219,10 @@ fn equals(alloc: Global, pairs: &[(&'static str, &'static str)]) -> Result<bool,
 fn maps_of_the_same_pairs_are_equal(rt: HostRuntime) {
     let foo = ("foo", "bar");
     let baz = ("baz", "bat");
-    assert_eq!(rt;
-        equals(rt.alloc(), &[foo, baz, ("hello", "world")]),
-        Ok(true)
-    );
-    assert_eq!(rt;
-        equals(rt.alloc(), &[foo, baz, ("hello", "WORLD")]),
-        Ok(false)
-    );
-    assert_eq!(rt;
-        equals(rt.alloc(), &[foo, baz, ("world", "world")]),
-        Ok(false)
-    );
-    assert_eq!(rt; equals(rt.alloc(), &[foo, baz]), Ok(false));
+    assert!(rt; equals(rt.alloc(), &[foo, baz, ("hello", "world")]) == Ok(true));
+    assert!(rt; equals(rt.alloc(), &[foo, baz, ("hello", "WORLD")]) == Ok(false));
+    assert!(rt; equals(rt.alloc(), &[foo, baz, ("world", "world")]) == Ok(false));
+    assert!(rt; equals(rt.alloc(), &[foo, baz]) == Ok(false));
 }
 
 /// Returns whether two archives of maps are equal.
@@ -254,10 +236,10 @@ fn equal_to(alloc: Global, bytes: &[u8], others: &[u8]) -> Result<bool, Error> {
 fn archived_maps_of_equal_entries_are_equal(rt: HostRuntime) {
     let mut changed = THREE;
     changed[24..29].copy_from_slice(b"WORLD");
-    assert_eq!(rt; equal_to(rt.alloc(), &THREE, &THREE), Ok(true));
-    assert_eq!(rt; equal_to(rt.alloc(), &THREE, &changed), Ok(false));
-    assert_eq!(rt; equal_to(rt.alloc(), &THREE, &NOTHING), Ok(false));
-    assert_eq!(rt; equal_to(rt.alloc(), &NOTHING, &NOTHING), Ok(true));
+    assert!(rt; equal_to(rt.alloc(), &THREE, &THREE) == Ok(true));
+    assert!(rt; equal_to(rt.alloc(), &THREE, &changed) == Ok(false));
+    assert!(rt; equal_to(rt.alloc(), &THREE, &NOTHING) == Ok(false));
+    assert!(rt; equal_to(rt.alloc(), &NOTHING, &NOTHING) == Ok(true));
 }
 
 /// Returns whether the set is equal to a set of std with these keys.
@@ -274,12 +256,9 @@ fn equals_keys(alloc: Global, keys: &[&'static str]) -> Result<bool, Error> {
 
 #[test]
 fn sets_of_the_same_keys_are_equal(rt: HostRuntime) {
-    assert_eq!(rt; equals_keys(rt.alloc(), &["hello", "foo", "baz"]), Ok(true));
-    assert_eq!(rt;
-        equals_keys(rt.alloc(), &["hello", "foo", "bar"]),
-        Ok(false)
-    );
-    assert_eq!(rt; equals_keys(rt.alloc(), &["hello", "foo"]), Ok(false));
+    assert!(rt; equals_keys(rt.alloc(), &["hello", "foo", "baz"]) == Ok(true));
+    assert!(rt; equals_keys(rt.alloc(), &["hello", "foo", "bar"]) == Ok(false));
+    assert!(rt; equals_keys(rt.alloc(), &["hello", "foo"]) == Ok(false));
 }
 
 /// Returns whether two archives of sets are equal.
@@ -293,9 +272,9 @@ fn equal_sets(alloc: Global, bytes: &[u8], others: &[u8]) -> Result<bool, Error>
 fn archived_sets_of_equal_keys_are_equal(rt: HostRuntime) {
     let mut changed = THREE_KEYS;
     changed[8..13].copy_from_slice(b"HELLO");
-    assert_eq!(rt; equal_sets(rt.alloc(), &THREE_KEYS, &THREE_KEYS), Ok(true));
-    assert_eq!(rt; equal_sets(rt.alloc(), &THREE_KEYS, &changed), Ok(false));
-    assert_eq!(rt; equal_sets(rt.alloc(), &THREE_KEYS, &NOTHING), Ok(false));
+    assert!(rt; equal_sets(rt.alloc(), &THREE_KEYS, &THREE_KEYS) == Ok(true));
+    assert!(rt; equal_sets(rt.alloc(), &THREE_KEYS, &changed) == Ok(false));
+    assert!(rt; equal_sets(rt.alloc(), &THREE_KEYS, &NOTHING) == Ok(false));
 }
 
 /// Returns the position of a key of the set, and whether the set has it.
@@ -310,9 +289,9 @@ fn key_of(alloc: Global, text: &str) -> Result<(Option<usize>, bool), Error> {
 
 #[test]
 fn keys_of_sets_are_found(rt: HostRuntime) {
-    assert_eq!(rt; key_of(rt.alloc(), "hello"), Ok((Some(8), true)));
-    assert_eq!(rt; key_of(rt.alloc(), "foo"), Ok((Some(0), true)));
-    assert_eq!(rt; key_of(rt.alloc(), "world"), Ok((None, false)));
+    assert!(rt; key_of(rt.alloc(), "hello") == Ok((Some(8), true)));
+    assert!(rt; key_of(rt.alloc(), "foo") == Ok((Some(0), true)));
+    assert!(rt; key_of(rt.alloc(), "world") == Ok((None, false)));
 }
 
 /// Returns the number of keys of a set, whether it is empty, and the positions of its keys.
@@ -332,10 +311,10 @@ fn listed(alloc: Global, bytes: &[u8]) -> Result<(usize, bool, Vec<usize>), Erro
 #[test]
 fn keys_of_sets_are_walked_by_ascending_place(rt: HostRuntime) -> Result<(), Fail> {
     let (len, is_empty, keys) = listed(rt.alloc(), &THREE_KEYS)?;
-    assert_eq!(rt; (len, is_empty), (3, false));
-    assert_eq!(rt; keys.as_slice(), [24, 8, 0].as_slice());
+    assert!(rt; (len, is_empty) == (3, false));
+    assert!(rt; keys.as_slice() == [24, 8, 0].as_slice());
     let (len, is_empty, keys) = listed(rt.alloc(), &NOTHING)?;
-    assert_eq!(rt; (len, is_empty, keys.len()), (0, true, 0));
+    assert!(rt; (len, is_empty, keys.len()) == (0, true, 0));
     Ok(())
 }
 
@@ -356,14 +335,13 @@ fn printed<T: ArchivedDebug + CheckBytes<HighValidator>>(
 
 #[test]
 fn maps_and_sets_are_printed_as_those_of_std(rt: HostRuntime) -> Result<(), Fail> {
-    assert_eq!(rt;
-        printed::<Texts>(rt.alloc(), &THREE)?.as_str(),
-        "{\"baz\": \"bat\", \"hello\": \"world\", \"foo\": \"bar\"}"
+    assert!(rt;
+        printed::<Texts>(rt.alloc(), &THREE)?.as_str()
+            == "{\"baz\": \"bat\", \"hello\": \"world\", \"foo\": \"bar\"}"
     );
-    assert_eq!(rt;
-        printed::<Keys>(rt.alloc(), &THREE_KEYS)?.as_str(),
-        "{\"baz\", \"hello\", \"foo\"}"
+    assert!(rt;
+        printed::<Keys>(rt.alloc(), &THREE_KEYS)?.as_str() == "{\"baz\", \"hello\", \"foo\"}"
     );
-    assert_eq!(rt; printed::<Texts>(rt.alloc(), &NOTHING)?.as_str(), "{}");
+    assert!(rt; printed::<Texts>(rt.alloc(), &NOTHING)?.as_str() == "{}");
     Ok(())
 }

@@ -7,12 +7,12 @@ use archive_shape::Error;
 #[test]
 fn strides_go_on_by_more_each_time(rt: HostRuntime) {
     let mut strides = Strides::new(5, 65);
-    assert_eq!(rt; strides.next(), Some(5));
-    assert_eq!(rt; strides.next(), Some(21));
-    assert_eq!(rt; strides.next(), Some(53));
-    assert_eq!(rt; strides.next(), Some(37));
-    assert_eq!(rt; strides.next(), Some(69));
-    assert_eq!(rt; strides.next(), None);
+    assert!(rt; strides.next() == Some(5));
+    assert!(rt; strides.next() == Some(21));
+    assert!(rt; strides.next() == Some(53));
+    assert!(rt; strides.next() == Some(37));
+    assert!(rt; strides.next() == Some(69));
+    assert!(rt; strides.next() == None);
 }
 
 #[test]
@@ -88,6 +88,6 @@ fn every_width_writes_and_finds_alike(rt: HostRuntime) {
     let by_one = written_by::<Group1>();
     assert!(rt; by_one.strides.is_some());
     assert!(rt; by_one.empty.is_some());
-    assert_eq!(rt; written_by::<Group8>(), by_one);
-    assert_eq!(rt; written_by::<Group16>(), by_one);
+    assert!(rt; written_by::<Group8>() == by_one);
+    assert!(rt; written_by::<Group16>() == by_one);
 }

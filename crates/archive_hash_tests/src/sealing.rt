@@ -80,12 +80,12 @@ fn filled_items(alloc: Global, bytes: &mut [u8], byte: u8) -> Result<Vec<(usize,
 fn cursors_pass_each_value_while_the_values_are_written(rt: HostRuntime) -> Result<(), Fail> {
     let mut bytes = THREE;
     let met = filled_values(rt.alloc(), &mut bytes, 7)?;
-    assert_eq!(rt; met.as_slice(), [(56, 2), (24, 1), (8, 0)].as_slice());
+    assert!(rt; met.as_slice() == [(56, 2), (24, 1), (8, 0)].as_slice());
     let mut expected = THREE;
     expected[8..16].fill(7);
     expected[24..32].fill(7);
     expected[56..64].fill(7);
-    assert_eq!(rt; bytes, expected);
+    assert!(rt; bytes == expected);
     Ok(())
 }
 
@@ -93,10 +93,10 @@ fn cursors_pass_each_value_while_the_values_are_written(rt: HostRuntime) -> Resu
 fn cursors_pass_each_item_while_the_items_are_written(rt: HostRuntime) -> Result<(), Fail> {
     let mut bytes = ONE_OF_TWO;
     let met = filled_items(rt.alloc(), &mut bytes, 9)?;
-    assert_eq!(rt; met.as_slice(), [(0, 0)].as_slice());
+    assert!(rt; met.as_slice() == [(0, 0)].as_slice());
     let mut expected = ONE_OF_TWO;
     expected[..4].fill(9);
-    assert_eq!(rt; bytes, expected);
+    assert!(rt; bytes == expected);
     Ok(())
 }
 
@@ -105,7 +105,7 @@ fn cursors_over_nothing_pass_nothing(rt: HostRuntime) -> Result<(), Fail> {
     let mut bytes = NOTHING;
     assert!(rt; filled_values(rt.alloc(), &mut bytes, 7)?.is_empty());
     assert!(rt; filled_items(rt.alloc(), &mut bytes, 7)?.is_empty());
-    assert_eq!(rt; bytes, NOTHING);
+    assert!(rt; bytes == NOTHING);
     Ok(())
 }
 
@@ -138,7 +138,7 @@ fn filled_first(alloc: Global, byte: u8) -> Result<(Option<(usize, usize)>, [u8;
 fn cursors_lend_keys_beside_their_values(rt: HostRuntime) {
     let mut expected = A_TO_ONE;
     expected[8..12].fill(9);
-    assert_eq!(rt; filled_first(rt.alloc(), 9), Ok((Some((0, 8)), expected)));
+    assert!(rt; filled_first(rt.alloc(), 9) == Ok((Some((0, 8)), expected)));
 }
 
 /// Returns the twelve own bytes of a table of `len` items at position 40.
@@ -159,20 +159,11 @@ const ONE: [u8; 12] = [0xe0, 0xff, 0xff, 0xff, 1, 0, 0, 0, 2, 0, 0, 0];
 
 #[test]
 fn own_bytes_tell_the_controls_the_items_and_the_places(rt: HostRuntime) {
-    assert_eq!(rt; table_bytes(0, (7, 8), None), Ok(NOTHING));
-    assert_eq!(rt; table_bytes(1, (7, 8), Some(8)), Ok(ONE));
-    assert_eq!(rt;
-        table_bytes(1, (0, 8), Some(8)),
-        Err(Error::InvalidLoadFactor)
-    );
-    assert_eq!(rt;
-        table_bytes(0xffff_ffff, (7, 8), Some(8)),
-        Err(Error::LengthTooLarge)
-    );
-    assert_eq!(rt;
-        table_bytes(1, (7, 8), Some(0xffff_ffff)),
-        Err(Error::IsizeOverflow)
-    );
+    assert!(rt; table_bytes(0, (7, 8), None) == Ok(NOTHING));
+    assert!(rt; table_bytes(1, (7, 8), Some(8)) == Ok(ONE));
+    assert!(rt; table_bytes(1, (0, 8), Some(8)) == Err(Error::InvalidLoadFactor));
+    assert!(rt; table_bytes(0xffff_ffff, (7, 8), Some(8)) == Err(Error::LengthTooLarge));
+    assert!(rt; table_bytes(1, (7, 8), Some(0xffff_ffff)) == Err(Error::IsizeOverflow));
 }
 
 /// Returns the twelve own bytes of a map and of a set of `len` entries at position 40.
@@ -189,6 +180,6 @@ fn map_and_set_bytes(len: usize, to: Option<usize>) -> Result<([u8; 12], [u8; 12
 
 #[test]
 fn maps_and_sets_have_the_own_bytes_of_tables(rt: HostRuntime) {
-    assert_eq!(rt; map_and_set_bytes(1, Some(8)), Ok((ONE, ONE)));
-    assert_eq!(rt; map_and_set_bytes(0, None), Ok((NOTHING, NOTHING)));
+    assert!(rt; map_and_set_bytes(1, Some(8)) == Ok((ONE, ONE)));
+    assert!(rt; map_and_set_bytes(0, None) == Ok((NOTHING, NOTHING)));
 }

@@ -153,15 +153,9 @@ fn claiming(
 fn load_factors_that_leave_no_places_are_refused_of_maps(rt: HostRuntime) {
     let alloc = rt.alloc();
     for load_factor in [(0, 8), (9, 8)] {
-        assert_eq!(rt;
-            claiming(alloc, 3, 3, load_factor),
-            Err(Error::InvalidLoadFactor)
-        );
+        assert!(rt; claiming(alloc, 3, 3, load_factor) == Err(Error::InvalidLoadFactor));
     }
-    assert_eq!(rt;
-        claiming(alloc, 3, 3, (8, 8)),
-        Ok(HashTableResolver::from_pos(Some(32)))
-    );
+    assert!(rt; claiming(alloc, 3, 3, (8, 8)) == Ok(HashTableResolver::from_pos(Some(32))));
 }
 
 #[test]
@@ -247,9 +241,9 @@ fn map_at(alloc: Global, key: &str) -> Result<Option<(usize, Option<u32>)>, Erro
 
 #[test]
 fn maps_of_maps_are_read_back(rt: HostRuntime) {
-    assert_eq!(rt; map_at(rt.alloc(), "x"), Ok(Some((1, Some(0)))));
-    assert_eq!(rt; map_at(rt.alloc(), "y"), Ok(Some((0, None))));
-    assert_eq!(rt; map_at(rt.alloc(), "z"), Ok(None));
+    assert!(rt; map_at(rt.alloc(), "x") == Ok(Some((1, Some(0)))));
+    assert!(rt; map_at(rt.alloc(), "y") == Ok(Some((0, None))));
+    assert!(rt; map_at(rt.alloc(), "z") == Ok(None));
 }
 
 /// Returns the set of the numbers below `count`.
@@ -298,15 +292,12 @@ fn claiming_keys(alloc: Global, claimed: usize, count: u32) -> Result<HashTableR
 #[test]
 fn keys_are_written_where_as_many_come_as_are_claimed(rt: HostRuntime) {
     let alloc = rt.alloc();
-    assert_eq!(rt;
-        claiming_keys(alloc, 3, 3),
-        Ok(HashTableResolver::from_pos(Some(16)))
-    );
-    assert_eq!(rt;
-        claiming_keys(alloc, 2, 3),
-        Err(Error::IteratorLengthMismatch {
-            expected: 2,
-            actual: 3,
-        })
+    assert!(rt; claiming_keys(alloc, 3, 3) == Ok(HashTableResolver::from_pos(Some(16))));
+    assert!(rt;
+        claiming_keys(alloc, 2, 3)
+            == Err(Error::IteratorLengthMismatch {
+                expected: 2,
+                actual: 3,
+            })
     );
 }

@@ -7,13 +7,13 @@ use std::test::Fail;
 
 #[test]
 fn numbers_and_truth_values_have_sizes_and_alignments(rt: HostRuntime) -> Result<(), Fail> {
-    assert_eq!(rt; <ArchivedI64 as Portable>::SIZE, 8);
-    assert_eq!(rt; <ArchivedI64 as Portable>::ALIGN, 8);
-    assert_eq!(rt; <u8 as Portable>::SIZE, 1);
-    assert_eq!(rt; <u8 as Portable>::ALIGN, 1);
-    assert_eq!(rt; <bool as Portable>::SIZE, 1);
-    assert_eq!(rt; <bool as Portable>::ALIGN, 1);
-    assert_eq!(rt; LittleEndian::from_native(5i64).to_native(), 5);
+    assert!(rt; <ArchivedI64 as Portable>::SIZE == 8);
+    assert!(rt; <ArchivedI64 as Portable>::ALIGN == 8);
+    assert!(rt; <u8 as Portable>::SIZE == 1);
+    assert!(rt; <u8 as Portable>::ALIGN == 1);
+    assert!(rt; <bool as Portable>::SIZE == 1);
+    assert!(rt; <bool as Portable>::ALIGN == 1);
+    assert!(rt; LittleEndian::from_native(5i64).to_native() == 5);
     Ok(())
 }
 

@@ -22,7 +22,7 @@ fn a_line_is_too_long(rt: HostRuntime) -> Result<(), Fail> {
         let mut writer = FailingWriter::new(rt.alloc(), usize::MAX);
         let source = SliceSource::new(input.as_slice(), usize::MAX, most);
         let came = run_in(rt.alloc(), &mut bytes, source, &mut writer);
-        assert_eq!(rt; came, faulted(RunCause::LineTooLong, 1, 0));
+        assert!(rt; came == faulted(RunCause::LineTooLong, 1, 0));
         assert!(rt; writer.bytes() == b"int 5\n".as_slice());
     }
     Ok(())
@@ -37,7 +37,7 @@ fn the_longest_line_is_carried_out(rt: HostRuntime) -> Result<(), Fail> {
         let mut writer = FailingWriter::new(rt.alloc(), usize::MAX);
         let source = SliceSource::new(input.as_slice(), usize::MAX, most);
         let came = run_in(rt.alloc(), &mut bytes, source, &mut writer);
-        assert_eq!(rt; came, counted(1, 0));
+        assert!(rt; came == counted(1, 0));
         assert!(rt; writer.bytes() == b"bad\n".as_slice());
     }
     Ok(())

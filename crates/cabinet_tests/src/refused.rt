@@ -36,23 +36,20 @@ fn lists_that_are_no_archive_are_refused(rt: HostRuntime) {
         (unaligned, Error::Unaligned { align: 8 }),
         (without_a_layout, Error::InvalidTag),
     ];
-    assert_eq!(rt; check(rt.alloc(), &TWO), Ok(()));
+    assert!(rt; check(rt.alloc(), &TWO) == Ok(()));
     for (bytes, refusal) in cases {
-        assert_eq!(rt;
-            check(rt.alloc(), &bytes),
-            Err(OpenRefusal::Access(refusal))
-        );
+        assert!(rt; check(rt.alloc(), &bytes) == Err(OpenRefusal::Access(refusal)));
     }
 }
 
 #[test]
 fn an_option_that_leads_to_the_node_of_another_is_refused(rt: HostRuntime) {
-    assert_eq!(rt; check(rt.alloc(), &TWO_OPTIONS), Ok(()));
+    assert!(rt; check(rt.alloc(), &TWO_OPTIONS) == Ok(()));
     let mut shared = TWO_OPTIONS;
     shared[80] = 0xb0;
-    assert_eq!(rt;
-        check(rt.alloc(), &shared),
-        Err(OpenRefusal::Access(Error::InvalidSubtreePointer { size: 24 }))
+    assert!(rt;
+        check(rt.alloc(), &shared)
+            == Err(OpenRefusal::Access(Error::InvalidSubtreePointer { size: 24 }))
     );
 }
 
@@ -72,12 +69,9 @@ fn shared_texts_that_disagree_or_reach_into_nodes_are_refused(rt: HostRuntime) {
         (no_text, Error::InvalidUtf8),
         (into_nodes, Error::InvalidSubtreePointer { size: 17 }),
     ];
-    assert_eq!(rt; check(rt.alloc(), &TWO_SHARED), Ok(()));
+    assert!(rt; check(rt.alloc(), &TWO_SHARED) == Ok(()));
     for (bytes, refusal) in cases {
-        assert_eq!(rt;
-            check(rt.alloc(), &bytes),
-            Err(OpenRefusal::Access(refusal))
-        );
+        assert!(rt; check(rt.alloc(), &bytes) == Err(OpenRefusal::Access(refusal)));
     }
 }
 
@@ -100,7 +94,7 @@ fn leaves_that_are_no_archive_are_refused(rt: HostRuntime) {
         (&no_text, Error::InvalidUtf8),
     ];
     for (bytes, refusal) in cases {
-        assert_eq!(rt; check(rt.alloc(), bytes), Err(OpenRefusal::Access(refusal)));
+        assert!(rt; check(rt.alloc(), bytes) == Err(OpenRefusal::Access(refusal)));
     }
 }
 
@@ -108,7 +102,7 @@ fn leaves_that_are_no_archive_are_refused(rt: HostRuntime) {
 fn bytes_that_are_no_archive_stay(rt: HostRuntime) {
     let mut bytes = [6; 24];
     let refusal = Err(OpenRefusal::Access(Error::InvalidTag));
-    assert_eq!(rt; check(rt.alloc(), &bytes), refusal);
+    assert!(rt; check(rt.alloc(), &bytes) == refusal);
     assert!(rt; open(rt.alloc(), &mut bytes).is_err());
     assert!(rt; bytes == [6; 24]);
 }
@@ -138,16 +132,16 @@ fn options_are_accepted_64_deep_and_no_deeper(rt: HostRuntime) -> Result<(), Fai
     let alloc = rt.alloc();
     let text = options(alloc, 64)?;
     let mut archive = archive_of(alloc, &text)?;
-    assert_eq!(rt; check(alloc, &archive), Ok(()));
+    assert!(rt; check(alloc, &archive) == Ok(()));
     for (count, answer) in [(64, b"int 1\n".as_slice()), (65, b"missing\n")] {
         let line = question(alloc, count)?;
         let source = SliceSource::new(line.as_slice(), usize::MAX, 16384);
         let mut writer = FailingWriter::new(alloc, usize::MAX);
         let came = run_in(alloc, archive.as_mut_slice(), source, &mut writer);
-        assert_eq!(rt; came, counted(1, 0));
+        assert!(rt; came == counted(1, 0));
         assert!(rt; writer.bytes() == answer);
     }
     archive.extend_from_slice(&SOME)?;
-    assert_eq!(rt; check(alloc, &archive), Err(OpenRefusal::TooDeep));
+    assert!(rt; check(alloc, &archive) == Err(OpenRefusal::TooDeep));
     Ok(())
 }

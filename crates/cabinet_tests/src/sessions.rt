@@ -64,9 +64,9 @@ fn lines_are_answered(rt: HostRuntime) {
             let mut writer = FailingWriter::new(rt.alloc(), usize::MAX);
             let source = SliceSource::new(input, usize::MAX, most);
             let came = run_in(rt.alloc(), &mut bytes, source, &mut writer);
-            assert_eq!(rt; came, counted(lines, edits));
+            assert!(rt; came == counted(lines, edits));
             assert!(rt; writer.bytes() == output);
-            assert_eq!(rt; bytes[8], left);
+            assert!(rt; bytes[8] == left);
         }
     }
 }
@@ -79,12 +79,12 @@ fn a_vector_takes_the_answers(rt: HostRuntime) {
     match open(rt.alloc(), &mut bytes) {
         Ok(mut opened) => {
             let came = run(rt.alloc(), &mut opened, &mut source, &mut answers);
-            assert_eq!(rt; came, Ok(Count { lines: 3, edits: 1 }));
+            assert!(rt; came == Ok(Count { lines: 3, edits: 1 }));
         }
         Err(_) => panic!(rt; "the archive was refused"),
     }
     assert!(rt; answers.as_slice() == b"int 5\nok\nint 6\n".as_slice());
-    assert_eq!(rt; bytes[8], 6);
+    assert!(rt; bytes[8] == 6);
 }
 
 #[test]
@@ -93,9 +93,9 @@ fn a_failed_write_ends_the_run(rt: HostRuntime) {
     let mut writer = FailingWriter::new(rt.alloc(), 1);
     let source = SliceSource::new(b"set int 6\nset int 7\nget\n", usize::MAX, 16384);
     let came = run_in(rt.alloc(), &mut bytes, source, &mut writer);
-    assert_eq!(rt; came, faulted(RunCause::Write, 2, 2));
+    assert!(rt; came == faulted(RunCause::Write, 2, 2));
     assert!(rt; writer.bytes() == b"ok\n".as_slice());
-    assert_eq!(rt; bytes[8], 7);
+    assert!(rt; bytes[8] == 7);
 }
 
 #[test]
@@ -104,9 +104,9 @@ fn a_failed_read_ends_the_run(rt: HostRuntime) {
     let mut writer = FailingWriter::new(rt.alloc(), usize::MAX);
     let source = SliceSource::new(b"set int 6\nset i", 1, 16384);
     let came = run_in(rt.alloc(), &mut bytes, source, &mut writer);
-    assert_eq!(rt; came, faulted(RunCause::Read, 1, 1));
+    assert!(rt; came == faulted(RunCause::Read, 1, 1));
     assert!(rt; writer.bytes() == b"ok\n".as_slice());
-    assert_eq!(rt; bytes[8], 6);
+    assert!(rt; bytes[8] == 6);
 }
 
 // Memory is allocated for the line begun, for a line's text and by the writer. An allocation may fail where a test runs
@@ -119,7 +119,7 @@ fn a_refusal_of_memory_is_told(rt: HostRuntime) {
     let output: &[u8] = b"ok\nrefused\nint 6\n";
     match run_in(rt.alloc(), &mut bytes, source, &mut writer) {
         Some(Ok(count)) => {
-            assert_eq!(rt; count, Count { lines: 3, edits: 1 });
+            assert!(rt; count == (Count { lines: 3, edits: 1 }));
             assert!(rt; writer.bytes() == output);
         }
         Some(Err(fault)) => {

@@ -43,8 +43,8 @@ fn is_player(found: &Player, level: u8) -> bool {
 fn a_struct_is_written_behind_what_its_fields_lead_to(rt: HostRuntime) -> Result<(), Fail> {
     let alloc = rt.alloc();
     let bytes = to_bytes(alloc, &player(alloc)?)?;
-    assert_eq!(rt; bytes.as_slice(), PLAYER.as_slice());
-    assert_eq!(rt; root_position::<ArchivedPlayer>(bytes.len()), 28);
+    assert!(rt; bytes.as_slice() == PLAYER.as_slice());
+    assert!(rt; root_position::<ArchivedPlayer>(bytes.len()) == 28);
     Ok(())
 }
 
@@ -64,7 +64,7 @@ fn a_field_is_edited_where_it_lies(rt: HostRuntime) -> Result<(), Fail> {
     ArchivedPlayer::level_seal(root).write(43);
     let mut wanted = PLAYER;
     wanted[28] = 43;
-    assert_eq!(rt; bytes, wanted);
+    assert!(rt; bytes == wanted);
     assert!(rt; is_player(&from_bytes::<Player>(alloc, &bytes)?, 43));
     Ok(())
 }
@@ -74,5 +74,5 @@ fn a_struct_with_a_wrong_tag_is_refused(rt: HostRuntime) {
     let mut bytes = PLAYER;
     bytes[40] = 2;
     let refused = from_bytes::<Player>(rt.alloc(), &bytes).err();
-    assert_eq!(rt; refused, Some(Error::InvalidTag));
+    assert!(rt; refused == Some(Error::InvalidTag));
 }

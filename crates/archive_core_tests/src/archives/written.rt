@@ -47,7 +47,7 @@ fn a_value_in_just_the_bytes_that_it_needs(rt: HostRuntime) -> Result<(), Fail> 
 fn a_number_in_too_few_bytes(rt: HostRuntime) {
     let mut out = [0xccu8; 4];
     let refused = to_bytes_in(rt.alloc(), &7u64, Buffer::from(&mut out)).err();
-    assert_eq!(rt; refused, Some(Error::BufferOverflow));
+    assert!(rt; refused == Some(Error::BufferOverflow));
 }
 
 #[test]

@@ -63,8 +63,8 @@ fn pointers_are_compared_as_their_values(rt: HostRuntime) -> Result<(), Fail> {
     let low = root::<ArchivedRc<u8, RcFlavor>>(alloc, b"\x05...\xfc\xff\xff\xff")?;
     let high = root::<ArchivedRc<u8, RcFlavor>>(alloc, b"....\x05...\xfc\xff\xff\xff")?;
     let more = root::<ArchivedRc<u8, RcFlavor>>(alloc, b"\x06...\xfc\xff\xff\xff")?;
-    assert_eq!(rt; compared(&low, &high), Some(Ordering::Equal));
-    assert_eq!(rt; compared(&high, &more), Some(Ordering::Less));
+    assert!(rt; compared(&low, &high) == Some(Ordering::Equal));
+    assert!(rt; compared(&high, &more) == Some(Ordering::Less));
     Ok(())
 }
 
@@ -75,8 +75,8 @@ fn slices_are_compared_as_their_elements(rt: HostRuntime) -> Result<(), Fail> {
     let low = root::<Bytes>(alloc, b"\x01\x02..\xfc\xff\xff\xff\x02\0\0\0")?;
     let high = root::<Bytes>(alloc, b"....\x01\x02..\xfc\xff\xff\xff\x02\0\0\0")?;
     let short = root::<Bytes>(alloc, b"\x01...\xfc\xff\xff\xff\x01\0\0\0")?;
-    assert_eq!(rt; compared(&low, &high), Some(Ordering::Equal));
-    assert_eq!(rt; compared(&low, &short), Some(Ordering::Greater));
+    assert!(rt; compared(&low, &high) == Some(Ordering::Equal));
+    assert!(rt; compared(&low, &short) == Some(Ordering::Greater));
     Ok(())
 }
 
@@ -87,8 +87,8 @@ fn texts_are_compared_as_texts(rt: HostRuntime) -> Result<(), Fail> {
     let low = root::<Text>(alloc, b"ab..\xfc\xff\xff\xff\x02\0\0\0")?;
     let high = root::<Text>(alloc, b"....ab..\xfc\xff\xff\xff\x02\0\0\0")?;
     let more = root::<Text>(alloc, b"ac..\xfc\xff\xff\xff\x02\0\0\0")?;
-    assert_eq!(rt; compared(&low, &high), Some(Ordering::Equal));
-    assert_eq!(rt; compared(&high, &more), Some(Ordering::Less));
+    assert!(rt; compared(&low, &high) == Some(Ordering::Equal));
+    assert!(rt; compared(&high, &more) == Some(Ordering::Less));
     Ok(())
 }
 
@@ -98,11 +98,11 @@ fn pointers_are_hashed_as_native_ones(rt: HostRuntime) -> Result<(), Fail> {
     let number = root::<ArchivedRc<u8, RcFlavor>>(alloc, b"\x05...\xfc\xff\xff\xff")?;
     let mut state = DefaultHasher::new();
     Hash::hash(&5u8, &mut state);
-    assert_eq!(rt; hash_of(&number), state.finish());
+    assert!(rt; hash_of(&number) == state.finish());
     let text = root::<ArchivedRcStr<RcFlavor>>(alloc, b"ab..\xfc\xff\xff\xff\x02\0\0\0")?;
     let mut state = DefaultHasher::new();
     Hash::hash("ab", &mut state);
-    assert_eq!(rt; hash_of(&text), state.finish());
+    assert!(rt; hash_of(&text) == state.finish());
     Ok(())
 }
 

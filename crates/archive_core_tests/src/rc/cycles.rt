@@ -27,5 +27,5 @@ fn a_value_inside_itself_is_accepted_where_cycles_are_allowed(rt: HostRuntime) {
 #[test]
 fn a_value_inside_itself_is_refused_where_cycles_are_forbidden(rt: HostRuntime) {
     let root = access::<ArchivedRc<ArchivedLoop<RcFlavor>, RcFlavor>>(rt.alloc(), &LOOP);
-    assert_eq!(rt; root.err(), Some(Error::CyclicSharedPointer));
+    assert!(rt; root.err() == Some(Error::CyclicSharedPointer));
 }

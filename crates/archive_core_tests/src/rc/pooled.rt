@@ -10,8 +10,8 @@ fn an_unpool_begins_anew(rt: HostRuntime) -> Result<(), Error> {
     let mut pool = Unpool;
     for value in [3, 4, 5] {
         let state: PoolingState<usize> = pool.start_pooling(8)?;
-        assert_eq!(rt; state, PoolingState::Started);
-        assert_eq!(rt; pool.finish_pooling(8, value), Ok(()));
+        assert!(rt; state == PoolingState::Started);
+        assert!(rt; pool.finish_pooling(8, value) == Ok(()));
     }
     Ok(())
 }
@@ -21,21 +21,17 @@ fn an_unpool_has_a_value_made_each_time(rt: HostRuntime) {
     let mut pool = Unpool;
     for value in [3, 4, 5] {
         let made: Result<usize, Error> = pool.deserialize_shared(8, |_, _| Ok(value));
-        assert_eq!(rt; made, Ok(value));
+        assert!(rt; made == Ok(value));
     }
 }
 
 #[test]
 fn a_pool_has_a_value_made_once(rt: HostRuntime) {
     let mut pool = Pool::<usize>::new(rt.alloc());
-    assert_eq!(rt; pool.deserialize_shared(8, |_, pos| Ok(pos / 2)), Ok(4));
-    assert_eq!(rt;
-        pool.deserialize_shared(8, |_, _| Err(Error::InvalidTag)),
-        Ok(4)
-    );
-    assert_eq!(rt;
-        pool.deserialize_shared(9, |_, _| Err(Error::InvalidTag)),
-        Err(Error::InvalidTag)
+    assert!(rt; pool.deserialize_shared(8, |_, pos| Ok(pos / 2)) == Ok(4));
+    assert!(rt; pool.deserialize_shared(8, |_, _| Err(Error::InvalidTag)) == Ok(4));
+    assert!(rt;
+        pool.deserialize_shared(9, |_, _| Err(Error::InvalidTag)) == Err(Error::InvalidTag)
     );
 }
 
@@ -45,7 +41,7 @@ fn a_value_inside_itself_is_refused(rt: HostRuntime) {
     let made = pool.deserialize_shared(8, |inner: &mut Pool<usize>, pos| {
         inner.deserialize_shared(pos, |_, _| Ok(1))
     });
-    assert_eq!(rt; made, Err(Error::CyclicSharedPointer));
+    assert!(rt; made == Err(Error::CyclicSharedPointer));
 }
 
 #[test]
@@ -55,13 +51,13 @@ fn a_step_leaves_its_position_begun(rt: HostRuntime) {
         inner.finish_pooling(pos, 1)?;
         Ok(2)
     });
-    assert_eq!(rt; made, Err(Error::AlreadyFinished));
+    assert!(rt; made == Err(Error::AlreadyFinished));
     let mut forgotten = Pool::<usize>::new(rt.alloc());
     let made = forgotten.deserialize_shared(8, |inner: &mut Pool<usize>, _| {
         inner.clear();
         Ok(2)
     });
-    assert_eq!(rt; made, Err(Error::NotStarted));
+    assert!(rt; made == Err(Error::NotStarted));
 }
 
 #[test]
@@ -75,8 +71,8 @@ fn pointers_that_are_read_back_share_by_their_keys(rt: HostRuntime) -> Result<()
         let one = pool.deserialize_shared(first.key, |_, _| Ok(RcValue::new(first.value)))?;
         let two = pool.deserialize_shared(second.key, |_, _| Ok(RcValue::new(second.value)))?;
         let (one, two) = (one.into_rc(), two.into_rc());
-        assert_eq!(rt; Rc::ptr_eq(&one, &two), is_one);
-        assert_eq!(rt; (*one, *two), (5, 5));
+        assert!(rt; Rc::ptr_eq(&one, &two) == is_one);
+        assert!(rt; (*one, *two) == (5, 5));
     }
     Ok(())
 }

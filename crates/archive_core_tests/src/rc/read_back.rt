@@ -19,8 +19,8 @@ fn upgraded(alloc: Global, bytes: &[u8]) -> Result<Option<u32>, Error> {
 #[test]
 fn a_weak_pointer_leads_to_a_value_or_to_nothing(rt: HostRuntime) {
     let there = b"\x07\0\0\0\x01\0\0\0\xf8\xff\xff\xff";
-    assert_eq!(rt; upgraded(rt.alloc(), there), Ok(Some(7)));
-    assert_eq!(rt; upgraded(rt.alloc(), &[0; 8]), Ok(None));
+    assert!(rt; upgraded(rt.alloc(), there) == Ok(Some(7)));
+    assert!(rt; upgraded(rt.alloc(), &[0; 8]) == Ok(None));
 }
 
 #[test]
@@ -28,10 +28,10 @@ fn a_counted_pointer_leads_to_its_value(rt: HostRuntime) -> Result<(), Error> {
     let alloc = rt.alloc();
     let bytes = to_bytes(alloc, &number(alloc, 3, 9)?)?;
     let pointer = access::<ArchivedRc<ArchivedU32, RcFlavor>>(alloc, &bytes)?;
-    assert_eq!(rt; native_of(ArchivedRc::get(pointer)), 9);
+    assert!(rt; native_of(ArchivedRc::get(pointer)) == 9);
     let bytes = to_bytes(alloc, &text(alloc, 3, "hello world!")?)?;
     let pointer = access::<ArchivedRcStr<RcFlavor>>(alloc, &bytes)?;
-    assert_eq!(rt; ArchivedRcStr::get(pointer), "hello world!");
+    assert!(rt; ArchivedRcStr::get(pointer) == "hello world!");
     Ok(())
 }
 
@@ -42,8 +42,8 @@ fn numbers_are_read_back_under_their_positions(rt: HostRuntime) -> Result<(), Er
         let pair = (number(alloc, 7, 5)?, number(alloc, key, 5)?);
         let bytes = to_bytes(alloc, &pair)?;
         let (first, second) = from_bytes::<(Shared<Rc<u32>>, Shared<Rc<u32>>)>(alloc, &bytes)?;
-        assert_eq!(rt; (first.key, second.key), (0, position));
-        assert_eq!(rt; (*first.value, *second.value), (5, 5));
+        assert!(rt; (first.key, second.key) == (0, position));
+        assert!(rt; (*first.value, *second.value) == (5, 5));
     }
     Ok(())
 }
@@ -54,8 +54,8 @@ fn elements_and_texts_are_read_back(rt: HostRuntime) -> Result<(), Error> {
     let pair = (numbers(alloc, 1, &[6, 7])?, text(alloc, 2, "hello world!")?);
     let bytes = to_bytes(alloc, &pair)?;
     let (first, second) = from_bytes::<(Shared<RcSlice<u32>>, Shared<RcStr>)>(alloc, &bytes)?;
-    assert_eq!(rt; (first.key, second.key), (0, 8));
-    assert_eq!(rt; first.value.as_slice(), &[6, 7][..]);
-    assert_eq!(rt; second.value.as_str(), "hello world!");
+    assert!(rt; (first.key, second.key) == (0, 8));
+    assert!(rt; first.value.as_slice() == &[6, 7][..]);
+    assert!(rt; second.value.as_str() == "hello world!");
     Ok(())
 }

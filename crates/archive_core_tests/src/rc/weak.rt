@@ -28,10 +28,10 @@ fn the_value_of_one_key_stands_once(rt: HostRuntime) -> Result<(), Error> {
     let pair = (weak(alloc, 3, 7)?, number(alloc, 3, 7)?);
     let bytes = to_bytes(alloc, &pair)?;
     let expected: &[u8] = b"\x07\0\0\0\x01\0\0\0\xf8\xff\xff\xff\xf4\xff\xff\xff";
-    assert_eq!(rt; &*bytes, expected);
+    assert!(rt; &*bytes == expected);
     let (first, second) = from_bytes::<Pair>(alloc, &bytes)?;
-    assert_eq!(rt; led(&first), Some((0, 7)));
-    assert_eq!(rt; (second.key, *second.value), (0, 7));
+    assert!(rt; led(&first) == Some((0, 7)));
+    assert!(rt; (second.key, *second.value) == (0, 7));
     Ok(())
 }
 
@@ -41,10 +41,10 @@ fn the_values_of_two_keys_stand_apart(rt: HostRuntime) -> Result<(), Error> {
     let pair = (weak(alloc, 3, 7)?, number(alloc, 4, 9)?);
     let bytes = to_bytes(alloc, &pair)?;
     let expected: &[u8] = b"\x07\0\0\0\x09\0\0\0\x01\0\0\0\xf4\xff\xff\xff\xf4\xff\xff\xff";
-    assert_eq!(rt; &*bytes, expected);
+    assert!(rt; &*bytes == expected);
     let (first, second) = from_bytes::<Pair>(alloc, &bytes)?;
-    assert_eq!(rt; led(&first), Some((0, 7)));
-    assert_eq!(rt; (second.key, *second.value), (4, 9));
+    assert!(rt; led(&first) == Some((0, 7)));
+    assert!(rt; (second.key, *second.value) == (4, 9));
     Ok(())
 }
 
@@ -53,14 +53,11 @@ fn a_weak_pointer_to_nothing_is_zeros(rt: HostRuntime) -> Result<(), Error> {
     let alloc = rt.alloc();
     let nothing = SharedWeak::<Rc<u32>> { shared: None };
     let bytes = to_bytes(alloc, &nothing)?;
-    assert_eq!(rt; &*bytes, &[0; 8][..]);
-    assert_eq!(rt;
-        led(&from_bytes::<SharedWeak<Rc<u32>>>(alloc, &bytes)?),
-        None
-    );
+    assert!(rt; &*bytes == &[0; 8][..]);
+    assert!(rt; led(&from_bytes::<SharedWeak<Rc<u32>>>(alloc, &bytes)?) == None);
     let pair = (nothing, number(alloc, 3, 7)?);
     let bytes = to_bytes(alloc, &pair)?;
     let expected: &[u8] = b"\x07\0\0\0\0\0\0\0\0\0\0\0\xf4\xff\xff\xff";
-    assert_eq!(rt; &*bytes, expected);
+    assert!(rt; &*bytes == expected);
     Ok(())
 }

@@ -19,16 +19,16 @@ fn write_into<'a, T: Serialize<Serializer<Buffer<'a>, Global, ()>>>(
 fn value_longer_than_the_memory_is_refused(rt: HostRuntime) {
     let mut memory = [0xcc; 4];
     let refused = write_into(rt.alloc(), &7u64, &mut memory);
-    assert_eq!(rt; refused, Err(Error::BufferOverflow));
-    assert_eq!(rt; memory, [0xcc; 4]);
+    assert!(rt; refused == Err(Error::BufferOverflow));
+    assert!(rt; memory == [0xcc; 4]);
 }
 
 #[test]
 fn padding_is_written_as_zeros(rt: HostRuntime) -> Result<(), Fail> {
     let mut memory = [0xcc; 16];
     let pos = write_into(rt.alloc(), &(0u8, 0u64), &mut memory)?;
-    assert_eq!(rt; pos, 0);
-    assert_eq!(rt; memory, [0; 16]);
+    assert!(rt; pos == 0);
+    assert!(rt; memory == [0; 16]);
     Ok(())
 }
 
@@ -37,10 +37,10 @@ fn pieces_go_behind_one_another_up_to_the_end(rt: HostRuntime) -> Result<(), Fai
     let mut memory = [0xcc; 4];
     let mut buffer = Buffer::from(&mut memory);
     buffer.write(b"ab")?;
-    assert_eq!(rt; buffer.write(b"cde"), Err(Error::BufferOverflow));
+    assert!(rt; buffer.write(b"cde") == Err(Error::BufferOverflow));
     buffer.write(b"c")?;
-    assert_eq!(rt; buffer.pos(), 3);
-    assert_eq!(rt; buffer.bytes(), b"abc".as_slice());
-    assert_eq!(rt; memory, [b'a', b'b', b'c', 0xcc]);
+    assert!(rt; buffer.pos() == 3);
+    assert!(rt; buffer.bytes() == b"abc".as_slice());
+    assert!(rt; memory == [b'a', b'b', b'c', 0xcc]);
     Ok(())
 }

@@ -22,10 +22,7 @@ fn text_out_of_line_stands_behind_its_bytes(rt: HostRuntime) -> Result<(), Fail>
     let alloc = rt.alloc();
     let text = String::from_str(alloc, "hello world!")?;
     let archive = archive_of(alloc, &text)?;
-    assert_eq!(rt;
-        archive.as_slice(),
-        b"hello world!\x8c\0\0\0\xf4\xff\xff\xff".as_slice()
-    );
+    assert!(rt; archive.as_slice() == b"hello world!\x8c\0\0\0\xf4\xff\xff\xff".as_slice());
     Ok(())
 }
 
@@ -35,8 +32,8 @@ fn parts_are_given_back(rt: HostRuntime) -> Result<(), Fail> {
     let mut serializer = Serializer::new(Vec::new(alloc), alloc, 5u8);
     serializer.writer.write(b"ab")?;
     let (writer, _, sharing) = serializer.into_raw_parts();
-    assert_eq!(rt; writer.as_slice(), b"ab".as_slice());
-    assert_eq!(rt; sharing, 5);
+    assert!(rt; writer.as_slice() == b"ab".as_slice());
+    assert!(rt; sharing == 5);
     Ok(())
 }
 
@@ -53,8 +50,8 @@ fn write_copy<S: Writer + Allocator>(serializer: &mut S, bytes: &[u8]) -> Result
 fn serializer_writes_as_its_writer(rt: HostRuntime) -> Result<(), Fail> {
     let alloc = rt.alloc();
     let mut serializer = Serializer::new(Vec::new(alloc), alloc, ());
-    assert_eq!(rt; write_copy(&mut serializer, b"ab"), Ok(2));
-    assert_eq!(rt; write_copy(&mut serializer, b"cde"), Ok(5));
-    assert_eq!(rt; serializer.writer.as_slice(), b"abcde".as_slice());
+    assert!(rt; write_copy(&mut serializer, b"ab") == Ok(2));
+    assert!(rt; write_copy(&mut serializer, b"cde") == Ok(5));
+    assert!(rt; serializer.writer.as_slice() == b"abcde".as_slice());
     Ok(())
 }

@@ -15,31 +15,31 @@ fn share_of_one_key(alloc: Global) -> Result<Share, Error> {
 #[test]
 fn key_is_begun_once_and_ends_once(rt: HostRuntime) {
     let mut share = Share::new(rt.alloc());
-    assert_eq!(rt; share.start_sharing(1), Ok(SharingState::Started));
-    assert_eq!(rt; share.start_sharing(1), Ok(SharingState::Pending));
-    assert_eq!(rt; share.finish_sharing(1, 8), Ok(()));
-    assert_eq!(rt; share.start_sharing(1), Ok(SharingState::Finished(8)));
-    assert_eq!(rt; share.start_sharing(2), Ok(SharingState::Started));
+    assert!(rt; share.start_sharing(1) == Ok(SharingState::Started));
+    assert!(rt; share.start_sharing(1) == Ok(SharingState::Pending));
+    assert!(rt; share.finish_sharing(1, 8) == Ok(()));
+    assert!(rt; share.start_sharing(1) == Ok(SharingState::Finished(8)));
+    assert!(rt; share.start_sharing(2) == Ok(SharingState::Started));
 }
 
 #[test]
 fn key_that_has_not_begun_does_not_end(rt: HostRuntime) -> Result<(), Fail> {
     let mut share = share_of_one_key(rt.alloc())?;
-    assert_eq!(rt; share.finish_sharing(2, 8), Err(Error::NotStarted));
+    assert!(rt; share.finish_sharing(2, 8) == Err(Error::NotStarted));
     Ok(())
 }
 
 #[test]
 fn key_that_has_ended_does_not_end_again(rt: HostRuntime) -> Result<(), Fail> {
     let mut share = share_of_one_key(rt.alloc())?;
-    assert_eq!(rt; share.finish_sharing(1, 8), Err(Error::AlreadyFinished));
+    assert!(rt; share.finish_sharing(1, 8) == Err(Error::AlreadyFinished));
     Ok(())
 }
 
 #[test]
 fn share_of_a_capacity_has_no_key(rt: HostRuntime) -> Result<(), Fail> {
     let mut share = Share::with_capacity(rt.alloc(), 8)?;
-    assert_eq!(rt; share.start_sharing(1), Ok(SharingState::Started));
+    assert!(rt; share.start_sharing(1) == Ok(SharingState::Started));
     Ok(())
 }
 
@@ -47,6 +47,6 @@ fn share_of_a_capacity_has_no_key(rt: HostRuntime) -> Result<(), Fail> {
 fn cleared_share_has_no_key(rt: HostRuntime) -> Result<(), Fail> {
     let mut share = share_of_one_key(rt.alloc())?;
     share.clear();
-    assert_eq!(rt; share.start_sharing(1), Ok(SharingState::Started));
+    assert!(rt; share.start_sharing(1) == Ok(SharingState::Started));
     Ok(())
 }

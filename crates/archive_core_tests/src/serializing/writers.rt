@@ -7,9 +7,9 @@ use std::test::Fail;
 fn pads_are_zeros(rt: HostRuntime) -> Result<(), Fail> {
     let mut bytes = Vec::new(rt.alloc());
     bytes.pad(3)?;
-    assert_eq!(rt; bytes.as_slice(), [0; 3].as_slice());
+    assert!(rt; bytes.as_slice() == [0; 3].as_slice());
     bytes.pad(0)?;
-    assert_eq!(rt; bytes.len(), 3);
+    assert!(rt; bytes.len() == 3);
     Ok(())
 }
 
@@ -17,10 +17,10 @@ fn pads_are_zeros(rt: HostRuntime) -> Result<(), Fail> {
 fn writer_is_aligned_by_zeros(rt: HostRuntime) -> Result<(), Fail> {
     let mut bytes = Vec::new(rt.alloc());
     bytes.write(b"abc")?;
-    assert_eq!(rt; bytes.align(4)?, 4);
-    assert_eq!(rt; bytes.align(4), Ok(4));
-    assert_eq!(rt; bytes.align_for::<ArchivedU64>(), Ok(8));
-    assert_eq!(rt; bytes.as_slice(), b"abc\0\0\0\0\0".as_slice());
+    assert!(rt; bytes.align(4)? == 4);
+    assert!(rt; bytes.align(4) == Ok(4));
+    assert!(rt; bytes.align_for::<ArchivedU64>() == Ok(8));
+    assert!(rt; bytes.as_slice() == b"abc\0\0\0\0\0".as_slice());
     Ok(())
 }
 
@@ -29,7 +29,7 @@ fn own_bytes_are_aligned(rt: HostRuntime) -> Result<(), Fail> {
     let alloc = rt.alloc();
     let mut bytes = Vec::new(alloc);
     bytes.write(b"a")?;
-    assert_eq!(rt; bytes.resolve_aligned(alloc, &0x0102u16, ()), Ok(2));
-    assert_eq!(rt; bytes.as_slice(), [b'a', 0, 2, 1].as_slice());
+    assert!(rt; bytes.resolve_aligned(alloc, &0x0102u16, ()) == Ok(2));
+    assert!(rt; bytes.as_slice() == [b'a', 0, 2, 1].as_slice());
     Ok(())
 }

@@ -84,17 +84,14 @@ fn many_positions_in_one_another(rt: HostRuntime) -> Result<(), Error> {
 fn position_of_another_shape_or_length(rt: HostRuntime) -> Result<(), Fail> {
     let alloc = rt.alloc();
     for ends in [false, true] {
-        assert_eq!(rt;
-            meet_again(alloc, ends, 3, Pointee::Text),
-            Err(Error::TypeMismatch)
-        );
+        assert!(rt; meet_again(alloc, ends, 3, Pointee::Text) == Err(Error::TypeMismatch));
         let others = [
             sized(alloc, Shape::Truth)?,
             slice(alloc, Shape::Character)?,
             slice(alloc, Shape::Option(Box::new(alloc, Shape::Truth)?))?,
         ];
         for other in others {
-            assert_eq!(rt; meet_again(alloc, ends, 3, other), Err(Error::TypeMismatch));
+            assert!(rt; meet_again(alloc, ends, 3, other) == Err(Error::TypeMismatch));
         }
         let state = if ends {
             ValidationState::Finished
@@ -120,17 +117,14 @@ fn position_of_another_shape_or_length(rt: HostRuntime) -> Result<(), Fail> {
 
 #[test]
 fn shape_is_told_before_length(rt: HostRuntime) {
-    assert_eq!(rt;
-        meet_again(rt.alloc(), false, 4, Pointee::Text),
-        Err(Error::TypeMismatch)
-    );
+    assert!(rt; meet_again(rt.alloc(), false, 4, Pointee::Text) == Err(Error::TypeMismatch));
 }
 
 #[test]
 fn finish_of_an_unmet_position(rt: HostRuntime) -> Result<(), Fail> {
     let mut visits = SharedValidator::new(rt.alloc());
     visits.start_shared(8, 3, Pointee::Text)?;
-    assert_eq!(rt; visits.finish_shared(16), Err(Error::NotStarted));
+    assert!(rt; visits.finish_shared(16) == Err(Error::NotStarted));
     Ok(())
 }
 
@@ -138,8 +132,8 @@ fn finish_of_an_unmet_position(rt: HostRuntime) -> Result<(), Fail> {
 fn finish_again(rt: HostRuntime) -> Result<(), Fail> {
     let mut visits = SharedValidator::new(rt.alloc());
     visits.start_shared(8, 3, Pointee::Text)?;
-    assert_eq!(rt; visits.finish_shared(8), Ok(()));
-    assert_eq!(rt; visits.finish_shared(8), Err(Error::AlreadyFinished));
+    assert!(rt; visits.finish_shared(8) == Ok(()));
+    assert!(rt; visits.finish_shared(8) == Err(Error::AlreadyFinished));
     Ok(())
 }
 
@@ -164,9 +158,9 @@ fn validator_with_shared_positions(rt: HostRuntime) -> Result<(), Fail> {
     let archive = ArchiveValidator::new(alloc, b"\0\0\0\0\0\0\0\0\0\0\0\0");
     let mut validator = Validator::new(archive, SharedValidator::new(alloc));
     let range = validator.push_subtree_range(8, 12)?;
-    assert_eq!(rt; check(&mut validator, 4), Ok(VISITED));
-    assert_eq!(rt; validator.check_subtree_ptr(4, 4, 4), Ok(()));
+    assert!(rt; check(&mut validator, 4) == Ok(VISITED));
+    assert!(rt; validator.check_subtree_ptr(4, 4, 4) == Ok(()));
     validator.pop_subtree_range(range)?;
-    assert_eq!(rt; validator.finish_shared(4), Err(Error::AlreadyFinished));
+    assert!(rt; validator.finish_shared(4) == Err(Error::AlreadyFinished));
     Ok(())
 }

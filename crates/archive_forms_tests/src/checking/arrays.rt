@@ -21,7 +21,7 @@ fn arrays_refuse_the_first_bad_element(rt: HostRuntime) {
 
 #[test]
 fn array_without_elements_is_accepted(rt: HostRuntime) {
-    assert_eq!(rt; check_alone::<[bool; 0]>(rt.alloc(), b"\x02", 1, 0), Ok(()));
+    assert!(rt; check_alone::<[bool; 0]>(rt.alloc(), b"\x02", 1, 0) == Ok(()));
 }
 
 #[test]
@@ -37,7 +37,7 @@ fn arrays_have_the_size_of_their_elements(rt: HostRuntime) {
         (<[ArchivedU16; 0]>::SIZE, <[ArchivedU16; 0]>::ALIGN, 0, 2),
     ];
     for (size, align, wanted_size, wanted_align) in rows {
-        assert_eq!(rt; size, wanted_size);
-        assert_eq!(rt; align, wanted_align);
+        assert!(rt; size == wanted_size);
+        assert!(rt; align == wanted_align);
     }
 }

@@ -34,8 +34,8 @@ fn sizes_and_alignments(rt: HostRuntime) {
         ),
     ];
     for (size, align, wanted_size, wanted_align) in rows {
-        assert_eq!(rt; size, wanted_size);
-        assert_eq!(rt; align, wanted_align);
+        assert!(rt; size == wanted_size);
+        assert!(rt; align == wanted_align);
     }
 }
 

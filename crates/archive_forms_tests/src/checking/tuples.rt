@@ -40,8 +40,8 @@ fn entries_have_the_layout_of_tuples(rt: HostRuntime) {
         (Entry::<u8, bool>::SIZE, Entry::<u8, bool>::ALIGN, 2, 1),
     ];
     for (size, align, wanted_size, wanted_align) in rows {
-        assert_eq!(rt; size, wanted_size);
-        assert_eq!(rt; align, wanted_align);
+        assert!(rt; size == wanted_size);
+        assert!(rt; align == wanted_align);
     }
 }
 
@@ -126,8 +126,8 @@ fn sizes_of_tuples_are_filled_up(rt: HostRuntime) {
         ),
     ];
     for (size, align, wanted_size, wanted_align) in rows {
-        assert_eq!(rt; size, wanted_size);
-        assert_eq!(rt; align, wanted_align);
+        assert!(rt; size == wanted_size);
+        assert!(rt; align == wanted_align);
     }
 }
 

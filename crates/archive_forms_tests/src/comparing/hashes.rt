@@ -13,7 +13,7 @@ fn equal_vectors_at_other_positions_alike(rt: HostRuntime) -> Result<(), Fail> {
     let low = checked::<ArchivedVec<u8>>(rt.alloc(), bytes, 4)?;
     let bytes = b"....\x01\x02..\xfc\xff\xff\xff\x02\0\0\0";
     let high = checked::<ArchivedVec<u8>>(rt.alloc(), bytes, 8)?;
-    assert_eq!(rt; hash_of(&low), hash_of(&high));
+    assert!(rt; hash_of(&low) == hash_of(&high));
     Ok(())
 }
 
@@ -24,7 +24,7 @@ fn vector_as_a_native_slice(rt: HostRuntime) -> Result<(), Fail> {
     let mut state = DefaultHasher::new();
     let native: &[u8] = &[1, 2];
     Hash::hash(&native, &mut state);
-    assert_eq!(rt; hash_of(&vector), state.finish());
+    assert!(rt; hash_of(&vector) == state.finish());
     Ok(())
 }
 
@@ -34,7 +34,7 @@ fn none_as_a_native_one(rt: HostRuntime) -> Result<(), Fail> {
     let mut state = DefaultHasher::new();
     let native: Option<u8> = None;
     Hash::hash(&native, &mut state);
-    assert_eq!(rt; hash_of(&none), state.finish());
+    assert!(rt; hash_of(&none) == state.finish());
     Ok(())
 }
 
@@ -47,8 +47,8 @@ fn array_and_boxed_slice_as_a_native_slice(rt: HostRuntime) -> Result<(), Fail> 
     let native: &[u8] = &[1, 2];
     Hash::hash(&native, &mut state);
     let expected = state.finish();
-    assert_eq!(rt; hash_of(&array), expected);
-    assert_eq!(rt; hash_of(&boxed), expected);
+    assert!(rt; hash_of(&array) == expected);
+    assert!(rt; hash_of(&boxed) == expected);
     Ok(())
 }
 
@@ -58,7 +58,7 @@ fn boxed_text_as_a_native_one(rt: HostRuntime) -> Result<(), Fail> {
     let boxed = checked::<ArchivedBoxedStr>(rt.alloc(), bytes, 8)?;
     let mut state = DefaultHasher::new();
     Hash::hash("hello", &mut state);
-    assert_eq!(rt; hash_of(&boxed), state.finish());
+    assert!(rt; hash_of(&boxed) == state.finish());
     Ok(())
 }
 
@@ -68,6 +68,6 @@ fn entry_as_a_native_tuple(rt: HostRuntime) -> Result<(), Fail> {
     let mut state = DefaultHasher::new();
     let native: (u8, bool) = (7, true);
     Hash::hash(&native, &mut state);
-    assert_eq!(rt; hash_of(&entry), state.finish());
+    assert!(rt; hash_of(&entry) == state.finish());
     Ok(())
 }

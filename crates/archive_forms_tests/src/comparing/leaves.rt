@@ -10,8 +10,8 @@ use std::test::Fail;
 fn signed_numbers_by_their_sign(rt: HostRuntime) -> Result<(), Fail> {
     let minus_one = checked::<ArchivedI16>(rt.alloc(), b"\xff\xff", 0)?;
     let one = checked::<ArchivedI16>(rt.alloc(), b"\x01\0", 0)?;
-    assert_eq!(rt; compared(&minus_one, &one), (false, Ordering::Less));
-    assert_eq!(rt; compared(&one, &minus_one), (false, Ordering::Greater));
+    assert!(rt; compared(&minus_one, &one) == (false, Ordering::Less));
+    assert!(rt; compared(&one, &minus_one) == (false, Ordering::Greater));
     Ok(())
 }
 
@@ -19,8 +19,8 @@ fn signed_numbers_by_their_sign(rt: HostRuntime) -> Result<(), Fail> {
 fn unsigned_numbers_by_their_highest_byte_first(rt: HostRuntime) -> Result<(), Fail> {
     let small = checked::<ArchivedU16>(rt.alloc(), b"\xff\x01", 0)?;
     let great = checked::<ArchivedU16>(rt.alloc(), b"\0\x02", 0)?;
-    assert_eq!(rt; compared(&small, &great), (false, Ordering::Less));
-    assert_eq!(rt; compared(&small, &small), (true, Ordering::Equal));
+    assert!(rt; compared(&small, &great) == (false, Ordering::Less));
+    assert!(rt; compared(&small, &small) == (true, Ordering::Equal));
     Ok(())
 }
 
@@ -28,7 +28,7 @@ fn unsigned_numbers_by_their_highest_byte_first(rt: HostRuntime) -> Result<(), F
 fn false_before_true(rt: HostRuntime) -> Result<(), Fail> {
     let no = checked::<bool>(rt.alloc(), b"\0", 0)?;
     let yes = checked::<bool>(rt.alloc(), b"\x01", 0)?;
-    assert_eq!(rt; compared(&no, &yes), (false, Ordering::Less));
+    assert!(rt; compared(&no, &yes) == (false, Ordering::Less));
     Ok(())
 }
 
@@ -37,8 +37,8 @@ fn text_inline_before_a_longer_one_out_of_line(rt: HostRuntime) -> Result<(), Fa
     let inline = checked::<ArchivedString>(rt.alloc(), b"12345678", 0)?;
     let bytes = b"123456789...\x89\0\0\0\xf4\xff\xff\xff";
     let out_of_line = checked::<ArchivedString>(rt.alloc(), bytes, 12)?;
-    assert_eq!(rt; compared(&inline, &out_of_line), (false, Ordering::Less));
-    assert_eq!(rt; compared(&out_of_line, &inline), (false, Ordering::Greater));
+    assert!(rt; compared(&inline, &out_of_line) == (false, Ordering::Less));
+    assert!(rt; compared(&out_of_line, &inline) == (false, Ordering::Greater));
     Ok(())
 }
 
@@ -47,6 +47,6 @@ fn text_by_its_first_other_byte(rt: HostRuntime) -> Result<(), Fail> {
     let inline = checked::<ArchivedString>(rt.alloc(), b"2\xff\xff\xff\xff\xff\xff\xff", 0)?;
     let bytes = b"123456789...\x89\0\0\0\xf4\xff\xff\xff";
     let out_of_line = checked::<ArchivedString>(rt.alloc(), bytes, 12)?;
-    assert_eq!(rt; compared(&inline, &out_of_line), (false, Ordering::Greater));
+    assert!(rt; compared(&inline, &out_of_line) == (false, Ordering::Greater));
     Ok(())
 }

@@ -10,10 +10,10 @@ use std::test::Fail;
 fn elements_of_a_box(rt: HostRuntime) -> Result<(), Fail> {
     let bytes = b"\x05\0\x06\0\x07\0..\xf8\xff\xff\xff\x03\0\0\0";
     let three = checked::<ArchivedBoxedSlice<ArchivedU16>>(rt.alloc(), bytes, 8)?;
-    assert_eq!(rt; ArchivedBoxedSlice::len(three), 3);
+    assert!(rt; ArchivedBoxedSlice::len(three) == 3);
     assert!(rt; !ArchivedBoxedSlice::is_empty(three));
-    assert_eq!(rt; position(ArchivedBoxedSlice::get(three).get(2)), Some(4));
-    assert_eq!(rt; position(ArchivedBoxedSlice::get(three).get(3)), None);
+    assert!(rt; position(ArchivedBoxedSlice::get(three).get(2)) == Some(4));
+    assert!(rt; position(ArchivedBoxedSlice::get(three).get(3)) == None);
     Ok(())
 }
 
@@ -29,7 +29,7 @@ fn element_of_a_box_is_edited(rt: HostRuntime) -> Result<(), Fail> {
     let mut bytes = *b"\x05\x06\x07.\xfc\xff\xff\xff\x03\0\0\0";
     checked::<ArchivedBoxedSlice<u8>>(rt.alloc(), &bytes, 4)?;
     match ArchivedBoxedSlice::<u8>::get_seal(Seal::new(&mut bytes, 4)).get(1) {
-        Some(second) => assert_eq!(rt; second.pos(), 1),
+        Some(second) => assert!(rt; second.pos() == 1),
         None => assert!(rt; false),
     }
     Ok(())
@@ -38,9 +38,9 @@ fn element_of_a_box_is_edited(rt: HostRuntime) -> Result<(), Fail> {
 #[test]
 fn text_of_a_box(rt: HostRuntime) -> Result<(), Fail> {
     let hello = checked(rt.alloc(), b"...hello\xfb\xff\xff\xff\x05\0\0\0", 8)?;
-    assert_eq!(rt; ArchivedBoxedStr::get(hello), "hello");
+    assert!(rt; ArchivedBoxedStr::get(hello) == "hello");
     let none = checked(rt.alloc(), &[0; 8], 0)?;
-    assert_eq!(rt; ArchivedBoxedStr::get(none), "");
+    assert!(rt; ArchivedBoxedStr::get(none) == "");
     Ok(())
 }
 
@@ -48,10 +48,7 @@ fn text_of_a_box(rt: HostRuntime) -> Result<(), Fail> {
 fn text_of_a_box_is_edited(rt: HostRuntime) -> Result<(), Fail> {
     let mut bytes = *b"...hello\xfb\xff\xff\xff\x05\0\0\0";
     checked::<ArchivedBoxedStr>(rt.alloc(), &bytes, 8)?;
-    assert_eq!(rt;
-        ArchivedBoxedStr::get_seal(Seal::new(&mut bytes, 8)).pos(),
-        3
-    );
+    assert!(rt; ArchivedBoxedStr::get_seal(Seal::new(&mut bytes, 8)).pos() == 3);
     Ok(())
 }
 
@@ -60,7 +57,7 @@ fn elements_of_a_box_are_read_back(rt: HostRuntime) -> Result<(), Fail> {
     let bytes = b"\x05\0\x06\0\x07\0..\xf8\xff\xff\xff\x03\0\0\0";
     let three = checked::<ArchivedBoxedSlice<ArchivedU16>>(rt.alloc(), bytes, 8)?;
     let back: BoxedSlice<u16> = ArchivedBoxedSlice::deserialize(&three, rt.alloc(), &mut ())?;
-    assert_eq!(rt; back.as_slice(), [5u16, 6, 7].as_slice());
+    assert!(rt; back.as_slice() == [5u16, 6, 7].as_slice());
     Ok(())
 }
 
@@ -68,7 +65,7 @@ fn elements_of_a_box_are_read_back(rt: HostRuntime) -> Result<(), Fail> {
 fn text_of_a_box_is_read_back(rt: HostRuntime) -> Result<(), Fail> {
     let hello = checked::<ArchivedBoxedStr>(rt.alloc(), b"...hello\xfb\xff\xff\xff\x05\0\0\0", 8)?;
     let back: BoxedStr = ArchivedBoxedStr::deserialize(&hello, rt.alloc(), &mut ())?;
-    assert_eq!(rt; back.as_str(), "hello");
+    assert!(rt; back.as_str() == "hello");
     Ok(())
 }
 
@@ -121,8 +118,8 @@ fn size_without_undef<T: NoUndef + Portable>() -> usize {
 
 #[test]
 fn layouts_of_boxes(rt: HostRuntime) {
-    assert_eq!(rt; size_without_undef::<ArchivedBoxedSlice<ArchivedU16>>(), 8);
-    assert_eq!(rt; ArchivedBoxedSlice::<ArchivedU16>::ALIGN, 4);
-    assert_eq!(rt; size_without_undef::<ArchivedBoxedStr>(), 8);
-    assert_eq!(rt; ArchivedBoxedStr::ALIGN, 4);
+    assert!(rt; size_without_undef::<ArchivedBoxedSlice<ArchivedU16>>() == 8);
+    assert!(rt; ArchivedBoxedSlice::<ArchivedU16>::ALIGN == 4);
+    assert!(rt; size_without_undef::<ArchivedBoxedStr>() == 8);
+    assert!(rt; ArchivedBoxedStr::ALIGN == 4);
 }

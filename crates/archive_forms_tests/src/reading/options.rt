@@ -8,10 +8,10 @@ use std::test::Fail;
 fn value_of_an_option_stands_at_its_alignment(rt: HostRuntime) -> Result<(), Fail> {
     let some = checked::<ArchivedOption<ArchivedU16>>(rt.alloc(), b"\x01\0\x05\0", 0)?;
     assert!(rt; ArchivedOption::is_some(some));
-    assert_eq!(rt; position(ArchivedOption::as_ref(some)), Some(2));
+    assert!(rt; position(ArchivedOption::as_ref(some)) == Some(2));
     let none = checked::<ArchivedOption<ArchivedU16>>(rt.alloc(), b"\0\x01\x05\x01", 0)?;
     assert!(rt; ArchivedOption::is_none(none));
-    assert_eq!(rt; position(ArchivedOption::as_ref(none)), None);
+    assert!(rt; position(ArchivedOption::as_ref(none)) == None);
     Ok(())
 }
 
@@ -19,9 +19,9 @@ fn value_of_an_option_stands_at_its_alignment(rt: HostRuntime) -> Result<(), Fai
 fn another_value_stands_for_none(rt: HostRuntime) -> Result<(), Fail> {
     let other = Ref::new(b"..", 0);
     let none = checked::<ArchivedOption<u8>>(rt.alloc(), b"\0\x05", 0)?;
-    assert_eq!(rt; ArchivedOption::ok_or(none, 7).err(), Some(7));
-    assert_eq!(rt; ArchivedOption::unwrap_or(none, other).pos(), 0);
-    assert_eq!(rt; ArchivedOption::unwrap_or_else(none, || other).pos(), 0);
+    assert!(rt; ArchivedOption::ok_or(none, 7).err() == Some(7));
+    assert!(rt; ArchivedOption::unwrap_or(none, other).pos() == 0);
+    assert!(rt; ArchivedOption::unwrap_or_else(none, || other).pos() == 0);
     Ok(())
 }
 
@@ -30,8 +30,8 @@ fn value_goes_before_another(rt: HostRuntime) -> Result<(), Fail> {
     let other = Ref::new(b"..", 0);
     let some = checked::<ArchivedOption<u8>>(rt.alloc(), b"\x01\x05", 0)?;
     assert!(rt; ArchivedOption::ok_or(some, 7).is_ok());
-    assert_eq!(rt; ArchivedOption::unwrap_or(some, other).pos(), 1);
-    assert_eq!(rt; ArchivedOption::unwrap_or_else(some, || other).pos(), 1);
+    assert!(rt; ArchivedOption::unwrap_or(some, other).pos() == 1);
+    assert!(rt; ArchivedOption::unwrap_or_else(some, || other).pos() == 1);
     Ok(())
 }
 
@@ -39,10 +39,10 @@ fn value_goes_before_another(rt: HostRuntime) -> Result<(), Fail> {
 fn item_of_an_option_comes_once(rt: HostRuntime) -> Result<(), Fail> {
     let some = checked::<ArchivedOption<u8>>(rt.alloc(), b"\x01\x05", 0)?;
     let mut items = ArchivedOption::iter(some);
-    assert_eq!(rt; items.len(), 1);
-    assert_eq!(rt; position(items.next()), Some(1));
-    assert_eq!(rt; items.len(), 0);
-    assert_eq!(rt; position(items.next_back()), None);
+    assert!(rt; items.len() == 1);
+    assert!(rt; position(items.next()) == Some(1));
+    assert!(rt; items.len() == 0);
+    assert!(rt; position(items.next_back()) == None);
     Ok(())
 }
 
@@ -51,7 +51,7 @@ fn value_of_an_option_is_edited(rt: HostRuntime) -> Result<(), Fail> {
     let mut bytes = *b"\x01\x05";
     checked::<ArchivedOption<u8>>(rt.alloc(), &bytes, 0)?;
     match ArchivedOption::<u8>::as_seal(Seal::new(&mut bytes, 0)) {
-        Some(value) => assert_eq!(rt; value.pos(), 1),
+        Some(value) => assert!(rt; value.pos() == 1),
         None => assert!(rt; false),
     }
     Ok(())
@@ -62,7 +62,7 @@ fn value_of_an_option_is_edited(rt: HostRuntime) -> Result<(), Fail> {
 fn value_that_is_there_is_unwrapped(rt: HostRuntime) -> Result<(), Fail> {
     let option = checked::<ArchivedOption<u8>>(rt.alloc(), b"\x01\x05", 0)?;
     if ArchivedOption::is_some(option) {
-        assert_eq!(rt; ArchivedOption::unwrap(option).pos(), 1);
+        assert!(rt; ArchivedOption::unwrap(option).pos() == 1);
     }
     Ok(())
 }

@@ -9,13 +9,10 @@ fn value_of_a_result_stands_at_the_greater_alignment(rt: HostRuntime) -> Result<
     let bytes = b"\0\0\0\0\x05\0\0\0";
     let ok = checked::<ArchivedResult<u8, ArchivedU32>>(rt.alloc(), bytes, 0)?;
     assert!(rt; ArchivedResult::is_ok(ok));
-    assert_eq!(rt; position(ArchivedResult::ok(ok)), Some(4));
-    assert_eq!(rt;
-        ArchivedResult::unwrap_or_else(ok, |e| Ref::new(e.bytes(), 0)).pos(),
-        4
-    );
+    assert!(rt; position(ArchivedResult::ok(ok)) == Some(4));
+    assert!(rt; ArchivedResult::unwrap_or_else(ok, |e| Ref::new(e.bytes(), 0)).pos() == 4);
     let mut items = ArchivedResult::iter(ok);
-    assert_eq!(rt; position(items.next()), Some(4));
+    assert!(rt; position(items.next()) == Some(4));
     Ok(())
 }
 
@@ -24,11 +21,8 @@ fn error_of_a_result_is_no_value(rt: HostRuntime) -> Result<(), Fail> {
     let bytes = b"\x01\0\0\0\x05\0\0\0";
     let err = checked::<ArchivedResult<u8, ArchivedU32>>(rt.alloc(), bytes, 0)?;
     assert!(rt; ArchivedResult::is_err(err));
-    assert_eq!(rt; position(ArchivedResult::ok(err)), None);
-    assert_eq!(rt;
-        ArchivedResult::unwrap_or_else(err, |e| Ref::new(e.bytes(), 0)).pos(),
-        0
-    );
+    assert!(rt; position(ArchivedResult::ok(err)) == None);
+    assert!(rt; ArchivedResult::unwrap_or_else(err, |e| Ref::new(e.bytes(), 0)).pos() == 0);
     Ok(())
 }
 
@@ -37,7 +31,7 @@ fn error_of_a_result_is_no_value(rt: HostRuntime) -> Result<(), Fail> {
 fn value_of_a_result_is_unwrapped(rt: HostRuntime) -> Result<(), Fail> {
     let result = checked::<ArchivedResult<u8, u8>>(rt.alloc(), b"\0\x05", 0)?;
     if ArchivedResult::is_ok(result) {
-        assert_eq!(rt; ArchivedResult::unwrap(result).pos(), 1);
+        assert!(rt; ArchivedResult::unwrap(result).pos() == 1);
     }
     Ok(())
 }

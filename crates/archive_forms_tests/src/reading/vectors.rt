@@ -8,11 +8,11 @@ use std::test::Fail;
 fn elements_stand_side_by_side(rt: HostRuntime) -> Result<(), Fail> {
     let bytes = b"\x05\0\x06\0\x07\0..\xf8\xff\xff\xff\x03\0\0\0";
     let vector = checked::<ArchivedVec<ArchivedU16>>(rt.alloc(), bytes, 8)?;
-    assert_eq!(rt; ArchivedVec::len(vector), 3);
-    assert_eq!(rt; ArchivedVec::as_slice(vector).len(), 3);
-    assert_eq!(rt; position(ArchivedVec::get(vector, 0)), Some(0));
-    assert_eq!(rt; position(ArchivedVec::get(vector, 2)), Some(4));
-    assert_eq!(rt; position(ArchivedVec::get(vector, 3)), None);
+    assert!(rt; ArchivedVec::len(vector) == 3);
+    assert!(rt; ArchivedVec::as_slice(vector).len() == 3);
+    assert!(rt; position(ArchivedVec::get(vector, 0)) == Some(0));
+    assert!(rt; position(ArchivedVec::get(vector, 2)) == Some(4));
+    assert!(rt; position(ArchivedVec::get(vector, 3)) == None);
     Ok(())
 }
 
@@ -21,7 +21,7 @@ fn vector_without_elements_is_empty(rt: HostRuntime) -> Result<(), Fail> {
     let vector = checked::<ArchivedVec<ArchivedU16>>(rt.alloc(), &[0; 8], 0)?;
     assert!(rt; ArchivedVec::is_empty(vector));
     assert!(rt; ArchivedVec::as_slice(vector).is_empty());
-    assert_eq!(rt; position(ArchivedVec::get(vector, 0)), None);
+    assert!(rt; position(ArchivedVec::get(vector, 0)) == None);
     Ok(())
 }
 
@@ -30,7 +30,7 @@ fn element_is_edited(rt: HostRuntime) -> Result<(), Fail> {
     let mut bytes = *b"\x05\x06\x07.\xfc\xff\xff\xff\x03\0\0\0";
     checked::<ArchivedVec<u8>>(rt.alloc(), &bytes, 4)?;
     match ArchivedVec::<u8>::get_seal(Seal::new(&mut bytes, 4), 1) {
-        Some(second) => assert_eq!(rt; second.pos(), 1),
+        Some(second) => assert!(rt; second.pos() == 1),
         None => assert!(rt; false),
     }
     Ok(())

@@ -7,7 +7,7 @@ use std::test::Fail;
 fn text_inline_is_read_back(rt: HostRuntime) -> Result<(), Fail> {
     let bytes = b"\0\0\0\0world\xff\xff\xff";
     let text = read_back::<String, ArchivedString>(rt.alloc(), bytes, 4, 0)?;
-    assert_eq!(rt; text.as_str(), "world");
+    assert!(rt; text.as_str() == "world");
     Ok(())
 }
 
@@ -15,7 +15,7 @@ fn text_inline_is_read_back(rt: HostRuntime) -> Result<(), Fail> {
 fn text_out_of_line_is_read_back(rt: HostRuntime) -> Result<(), Fail> {
     let bytes = b"123456789\0\0\0\x89\0\0\0\xf4\xff\xff\xff";
     let text = read_back::<String, ArchivedString>(rt.alloc(), bytes, 12, 1)?;
-    assert_eq!(rt; text.as_str(), "123456789");
+    assert!(rt; text.as_str() == "123456789");
     Ok(())
 }
 
@@ -28,6 +28,6 @@ fn text_of_an_option_is_read_back(rt: HostRuntime) -> Result<(), Fail> {
         0,
         0,
     )?;
-    assert_eq!(rt; text.as_ref().map(|text| text.as_str()), Some("hello"));
+    assert!(rt; text.as_ref().map(|text| text.as_str()) == Some("hello"));
     Ok(())
 }

@@ -16,7 +16,7 @@ fn sized_value_is_read_back(rt: HostRuntime) -> Result<(), Fail> {
         alloc,
         &mut (),
     )?;
-    assert_eq!(rt; *value, 5);
+    assert!(rt; *value == 5);
     Ok(())
 }
 

@@ -37,7 +37,7 @@ fn results_are_read_back(rt: HostRuntime) {
 
 #[test]
 fn values_without_bytes_are_read_back(rt: HostRuntime) {
-    assert_eq!(rt; read_back::<(), ()>(rt.alloc(), b"", 0, 0), Ok(()));
+    assert!(rt; read_back::<(), ()>(rt.alloc(), b"", 0, 0) == Ok(()));
     assert!(rt; read_back::<PhantomData<u32>, PhantomData<u32>>(rt.alloc(), b"\x05", 1, 0).is_ok());
 }
 
@@ -45,7 +45,7 @@ fn values_without_bytes_are_read_back(rt: HostRuntime) {
 fn box_is_read_back(rt: HostRuntime) -> Result<(), Fail> {
     let bytes = b"\x05\0\0\0\xfc\xff\xff\xff";
     let value = read_back::<Box<u32>, ArchivedBox<ArchivedU32>>(rt.alloc(), bytes, 4, 1)?;
-    assert_eq!(rt; *value, 5);
+    assert!(rt; *value == 5);
     Ok(())
 }
 
@@ -53,7 +53,7 @@ fn box_is_read_back(rt: HostRuntime) -> Result<(), Fail> {
 fn vector_is_read_back(rt: HostRuntime) -> Result<(), Fail> {
     let bytes = b"\x01\0\x02\0\xfc\xff\xff\xff\x02\0\0\0";
     let items = read_back::<Vec<u16>, ArchivedVec<ArchivedU16>>(rt.alloc(), bytes, 4, 1)?;
-    assert_eq!(rt; items.as_slice(), [1, 2].as_slice());
+    assert!(rt; items.as_slice() == [1, 2].as_slice());
     Ok(())
 }
 
@@ -66,6 +66,6 @@ fn vector_of_options_is_read_back(rt: HostRuntime) -> Result<(), Fail> {
         4,
         1,
     )?;
-    assert_eq!(rt; items.as_slice(), [Some(7), None].as_slice());
+    assert!(rt; items.as_slice() == [Some(7), None].as_slice());
     Ok(())
 }

@@ -19,8 +19,8 @@ fn lengths_of_texts(rt: HostRuntime) {
         assert_eq!(rt; ArchivedStringRepr::len(&own), len, "{own:?}");
         assert_eq!(rt; ArchivedStringRepr::is_empty(&own), len == 0, "{own:?}");
     }
-    assert_eq!(rt; ArchivedStringRepr::OUT_OF_LINE_CAPACITY, 1_073_741_823);
-    assert_eq!(rt; ArchivedStringRepr::INLINE_CAPACITY, 8);
+    assert!(rt; ArchivedStringRepr::OUT_OF_LINE_CAPACITY == 1_073_741_823);
+    assert!(rt; ArchivedStringRepr::INLINE_CAPACITY == 8);
 }
 
 #[test]
@@ -58,9 +58,9 @@ fn offsets_of_texts(rt: HostRuntime) {
 #[test]
 fn text_inline_is_read(rt: HostRuntime) -> Result<(), Fail> {
     let world = checked(rt.alloc(), b"world\xff\xff\xff", 0)?;
-    assert_eq!(rt; ArchivedString::as_str(world), "world");
-    assert_eq!(rt; ArchivedString::as_bytes(world), "world".as_bytes());
-    assert_eq!(rt; ArchivedString::len(world), 5);
+    assert!(rt; ArchivedString::as_str(world) == "world");
+    assert!(rt; ArchivedString::as_bytes(world) == "world".as_bytes());
+    assert!(rt; ArchivedString::len(world) == 5);
     assert!(rt; !ArchivedString::is_empty(world));
     Ok(())
 }
@@ -68,15 +68,15 @@ fn text_inline_is_read(rt: HostRuntime) -> Result<(), Fail> {
 #[test]
 fn full_text_inline_is_read(rt: HostRuntime) -> Result<(), Fail> {
     let full = checked(rt.alloc(), b"..12345678", 2)?;
-    assert_eq!(rt; ArchivedString::as_str(full), "12345678");
-    assert_eq!(rt; ArchivedString::len(full), 8);
+    assert!(rt; ArchivedString::as_str(full) == "12345678");
+    assert!(rt; ArchivedString::len(full) == 8);
     Ok(())
 }
 
 #[test]
 fn empty_text_is_read(rt: HostRuntime) -> Result<(), Fail> {
     let empty = checked(rt.alloc(), &[0xff; 8], 0)?;
-    assert_eq!(rt; ArchivedString::as_str(empty), "");
+    assert!(rt; ArchivedString::as_str(empty) == "");
     assert!(rt; ArchivedString::is_empty(empty));
     Ok(())
 }
@@ -85,9 +85,9 @@ fn empty_text_is_read(rt: HostRuntime) -> Result<(), Fail> {
 fn text_out_of_line_is_read(rt: HostRuntime) -> Result<(), Fail> {
     let bytes = b"hello world!........\x8c\0\0\0\xec\xff\xff\xff";
     let hello = checked(rt.alloc(), bytes, 20)?;
-    assert_eq!(rt; ArchivedString::as_str(hello), "hello world!");
-    assert_eq!(rt; ArchivedString::as_bytes(hello), "hello world!".as_bytes());
-    assert_eq!(rt; ArchivedString::len(hello), 12);
+    assert!(rt; ArchivedString::as_str(hello) == "hello world!");
+    assert!(rt; ArchivedString::as_bytes(hello) == "hello world!".as_bytes());
+    assert!(rt; ArchivedString::len(hello) == 12);
     assert!(rt; !ArchivedString::is_empty(hello));
     Ok(())
 }
@@ -95,7 +95,7 @@ fn text_out_of_line_is_read(rt: HostRuntime) -> Result<(), Fail> {
 #[test]
 fn text_after_its_own_bytes_is_read(rt: HostRuntime) -> Result<(), Fail> {
     let ahead = checked(rt.alloc(), b"\x89\0\0\0\x08\0\0\0123456789", 0)?;
-    assert_eq!(rt; ArchivedString::as_str(ahead), "123456789");
+    assert!(rt; ArchivedString::as_str(ahead) == "123456789");
     Ok(())
 }
 
@@ -105,8 +105,8 @@ fn size_without_undef<T: NoUndef + Portable>() -> usize {
 
 #[test]
 fn layout_of_texts(rt: HostRuntime) -> Result<(), Fail> {
-    assert_eq!(rt; size_without_undef::<ArchivedString>(), 8);
-    assert_eq!(rt; ArchivedString::ALIGN, 4);
+    assert!(rt; size_without_undef::<ArchivedString>() == 8);
+    assert!(rt; ArchivedString::ALIGN == 4);
     assert!(rt; matches!(ArchivedString::shape(rt.alloc())?, Shape::Text));
     Ok(())
 }

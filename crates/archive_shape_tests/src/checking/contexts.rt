@@ -36,18 +36,9 @@ fn meet<C: SharedContext>(
 fn regions_are_claimed_in_order(rt: HostRuntime) -> Result<(), Fail> {
     let mut context = ListContext::new(rt.alloc(), 64, 1);
     claim(&mut context, 4, 8, 4)?;
-    assert_eq!(rt;
-        claim(&mut context, 8, 4, 4),
-        Err(Error::InvalidSubtreePointer { size: 4 })
-    );
-    assert_eq!(rt;
-        claim(&mut context, 14, 4, 4),
-        Err(Error::Unaligned { align: 4 })
-    );
-    assert_eq!(rt;
-        claim(&mut context, 60, 8, 4),
-        Err(Error::InvalidSubtreePointer { size: 8 })
-    );
+    assert!(rt; claim(&mut context, 8, 4, 4) == Err(Error::InvalidSubtreePointer { size: 4 }));
+    assert!(rt; claim(&mut context, 14, 4, 4) == Err(Error::Unaligned { align: 4 }));
+    assert!(rt; claim(&mut context, 60, 8, 4) == Err(Error::InvalidSubtreePointer { size: 8 }));
     claim(&mut context, 60, 4, 4)?;
     Ok(())
 }
@@ -56,26 +47,20 @@ fn regions_are_claimed_in_order(rt: HostRuntime) -> Result<(), Fail> {
 fn pushes_nest(rt: HostRuntime) -> Result<(), Fail> {
     let mut context = ListContext::new(rt.alloc(), 64, 2);
     let outer = context.push_subtree_range(32, 40)?;
-    assert_eq!(rt;
-        outer,
-        PushedRange {
-            pos: 32,
-            end: 40,
-            outer: 64
-        }
+    assert!(rt;
+        outer
+            == (PushedRange {
+                pos: 32,
+                end: 40,
+                outer: 64
+            })
     );
     let inner = context.push_subtree_range(16, 24)?;
-    assert_eq!(rt;
-        context.push_subtree_range(0, 8),
-        Err(Error::ExceededMaximumSubtreeDepth)
-    );
-    assert_eq!(rt; context.pop_subtree_range(inner), Ok(()));
-    assert_eq!(rt; claim(&mut context, 24, 8, 8), Ok(()));
-    assert_eq!(rt; context.pop_subtree_range(outer), Ok(()));
-    assert_eq!(rt;
-        context.pop_subtree_range(outer),
-        Err(Error::RangePoppedTooManyTimes)
-    );
+    assert!(rt; context.push_subtree_range(0, 8) == Err(Error::ExceededMaximumSubtreeDepth));
+    assert!(rt; context.pop_subtree_range(inner) == Ok(()));
+    assert!(rt; claim(&mut context, 24, 8, 8) == Ok(()));
+    assert!(rt; context.pop_subtree_range(outer) == Ok(()));
+    assert!(rt; context.pop_subtree_range(outer) == Err(Error::RangePoppedTooManyTimes));
     Ok(())
 }
 
@@ -84,10 +69,7 @@ fn pops_go_in_order(rt: HostRuntime) -> Result<(), Fail> {
     let mut context = ListContext::new(rt.alloc(), 64, 2);
     let first = context.push_subtree_range(48, 56)?;
     context.push_subtree_range(44, 48)?;
-    assert_eq!(rt;
-        context.pop_subtree_range(first),
-        Err(Error::RangePoppedOutOfOrder)
-    );
+    assert!(rt; context.pop_subtree_range(first) == Err(Error::RangePoppedOutOfOrder));
     Ok(())
 }
 
@@ -104,8 +86,8 @@ fn shared_positions_are_met_again(rt: HostRuntime) -> Result<(), Fail> {
     for (pos, len, state) in rows {
         assert_eq!(rt; meet(&mut context, pos, len), state, "{pos} {len}");
     }
-    assert_eq!(rt; context.finish_shared(8), Err(Error::AlreadyFinished));
-    assert_eq!(rt; context.finish_shared(24), Err(Error::NotStarted));
+    assert!(rt; context.finish_shared(8) == Err(Error::AlreadyFinished));
+    assert!(rt; context.finish_shared(24) == Err(Error::NotStarted));
     Ok(())
 }
 
@@ -113,11 +95,8 @@ fn shared_positions_are_met_again(rt: HostRuntime) -> Result<(), Fail> {
 fn shared_position_of_another_type(rt: HostRuntime) -> Result<(), Fail> {
     let alloc = rt.alloc();
     let mut context = ListContext::new(alloc, 64, 1);
-    assert_eq!(rt; meet(&mut context, 16, 5), Ok(ValidationState::Started));
+    assert!(rt; meet(&mut context, 16, 5) == Ok(ValidationState::Started));
     let truths = Pointee::Slice(Box::new(alloc, Shape::Truth)?);
-    assert_eq!(rt;
-        context.start_shared(16, 5, truths),
-        Err(Error::TypeMismatch)
-    );
+    assert!(rt; context.start_shared(16, 5, truths) == Err(Error::TypeMismatch));
     Ok(())
 }

@@ -22,8 +22,8 @@ fn pointers_fit_up_to_both_ends(rt: HostRuntime) -> Result<(), Fail> {
         assert_eq!(rt; own, [left], "from {pos} to {to}");
     }
     let refused = RelPtr::<bool, u8>::try_emplace(4, Place::new(&mut own, 8));
-    assert_eq!(rt; refused, Err(Error::IsizeOverflow));
-    assert_eq!(rt; own, [0x80]);
+    assert!(rt; refused == Err(Error::IsizeOverflow));
+    assert!(rt; own == [0x80]);
     Ok(())
 }
 
@@ -33,13 +33,13 @@ fn pointers_are_written_forwards_and_backwards(rt: HostRuntime) -> Result<(), Fa
     let mut bytes = [9u8; 20];
     for pos in [0, 16] {
         let emplaced = Pointer::try_emplace(8, Place::within(&mut bytes, pos, pos));
-        assert_eq!(rt; emplaced, Ok(()));
+        assert!(rt; emplaced == Ok(()));
     }
-    assert_eq!(rt;
-        bytes,
-        [
-            8, 0, 0, 0, 9, 9, 9, 9, 9, 9, 9, 9, 9, 9, 9, 9, 0xf8, 0xff, 0xff, 0xff
-        ]
+    assert!(rt;
+        bytes
+            == [
+                8, 0, 0, 0, 9, 9, 9, 9, 9, 9, 9, 9, 9, 9, 9, 9, 0xf8, 0xff, 0xff, 0xff
+            ]
     );
     Ok(())
 }
@@ -51,13 +51,13 @@ fn pointers_lead_forwards_and_backwards(rt: HostRuntime) -> Result<(), Fail> {
         8, 0, 0, 0, 9, 9, 9, 9, 9, 9, 9, 9, 9, 9, 9, 9, 0xf8, 0xff, 0xff, 0xff,
     ];
     let forwards: Ref<'_, Pointer> = Ref::new(&bytes, 0);
-    assert_eq!(rt; RelPtr::offset(forwards), 8);
-    assert_eq!(rt; RelPtr::target(forwards), Some(8));
+    assert!(rt; RelPtr::offset(forwards) == 8);
+    assert!(rt; RelPtr::target(forwards) == Some(8));
     let backwards: Ref<'_, Pointer> = Ref::new(&bytes, 16);
-    assert_eq!(rt; RelPtr::base(backwards), 16);
-    assert_eq!(rt; RelPtr::offset(backwards), -8);
-    assert_eq!(rt; RelPtr::target(backwards), Some(8));
-    assert_eq!(rt; RelPtr::metadata(backwards), 1);
+    assert!(rt; RelPtr::base(backwards) == 16);
+    assert!(rt; RelPtr::offset(backwards) == -8);
+    assert!(rt; RelPtr::target(backwards) == Some(8));
+    assert!(rt; RelPtr::metadata(backwards) == 1);
     assert!(rt; !RelPtr::is_invalid(backwards));
     Ok(())
 }
@@ -67,14 +67,14 @@ fn offsets_from_2_to_the_63rd_on_are_less_2_to_the_64th(rt: HostRuntime) -> Resu
     type Pointer = RelPtr<ArchivedI64, ArchivedU64>;
     let least = [0u8, 0, 0, 0, 0, 0, 0, 0x80];
     let pointer: Ref<'_, Pointer> = Ref::new(&least, 0);
-    assert_eq!(rt; RelPtr::offset(pointer), isize::MIN);
-    assert_eq!(rt; RelPtr::target(pointer), None);
+    assert!(rt; RelPtr::offset(pointer) == isize::MIN);
+    assert!(rt; RelPtr::target(pointer) == None);
     let bytes = [
         0u8, 0, 0, 0, 0, 0, 0, 0, 0xfd, 0xff, 0xff, 0xff, 0xff, 0xff, 0xff, 0xff,
     ];
     let pointer: Ref<'_, Pointer> = Ref::new(&bytes, 8);
-    assert_eq!(rt; RelPtr::offset(pointer), -3);
-    assert_eq!(rt; RelPtr::target(pointer), Some(5));
+    assert!(rt; RelPtr::offset(pointer) == -3);
+    assert!(rt; RelPtr::target(pointer) == Some(5));
     Ok(())
 }
 
@@ -83,9 +83,9 @@ fn targets_before_the_start_are_none(rt: HostRuntime) -> Result<(), Fail> {
     type Pointer = RelPtr<ArchivedI64, i8>;
     let bytes = [0u8, 0, 0, 0, 0, 0, 0, 0, 0xfd];
     let within: Ref<'_, Pointer> = Ref::new(&bytes, 8);
-    assert_eq!(rt; RelPtr::target(within), Some(5));
+    assert!(rt; RelPtr::target(within) == Some(5));
     let astray: Ref<'_, Pointer> = Ref::new(&[0xff], 0);
-    assert_eq!(rt; RelPtr::target(astray), None);
+    assert!(rt; RelPtr::target(astray) == None);
     Ok(())
 }
 
@@ -93,11 +93,8 @@ fn targets_before_the_start_are_none(rt: HostRuntime) -> Result<(), Fail> {
 fn invalid_pointers_have_an_offset_of_1(rt: HostRuntime) -> Result<(), Fail> {
     type Pointer = RelPtr<bool, u8>;
     let mut bytes = [9u8; 3];
-    assert_eq!(rt;
-        Pointer::try_emplace_invalid(Place::within(&mut bytes, 1, 1)),
-        Ok(())
-    );
-    assert_eq!(rt; bytes, [9, 1, 9]);
+    assert!(rt; Pointer::try_emplace_invalid(Place::within(&mut bytes, 1, 1)) == Ok(()));
+    assert!(rt; bytes == [9, 1, 9]);
     assert!(rt; RelPtr::is_invalid(Ref::<Pointer>::new(&bytes, 1)));
     assert!(rt; !RelPtr::is_invalid(Ref::<Pointer>::new(&bytes, 2)));
     Ok(())

@@ -6,10 +6,10 @@ use std::test::Fail;
 fn chars_by_their_codes(rt: HostRuntime) -> Result<(), Fail> {
     let mut word = [0u8; 4];
     ArchivedChar::store('é', &mut word);
-    assert_eq!(rt; word.as_slice(), [0xe9, 0, 0, 0].as_slice());
+    assert!(rt; word.as_slice() == [0xe9, 0, 0, 0].as_slice());
     let wave = [0x4b, 0xf4, 1, 0];
     assert!(rt; ArchivedChar::accepts(&wave));
-    assert_eq!(rt; ArchivedChar::read(&wave), '\u{1f44b}');
+    assert!(rt; ArchivedChar::read(&wave) == '\u{1f44b}');
     Ok(())
 }
 
@@ -25,7 +25,7 @@ fn bytes_of_chars(rt: HostRuntime) -> Result<(), Fail> {
         ([0, 0, 0x11, 0], false),
     ];
     for (own, is_char) in rows {
-        assert_eq!(rt; ArchivedChar::accepts(&own), is_char);
+        assert!(rt; ArchivedChar::accepts(&own) == is_char);
     }
     Ok(())
 }

@@ -7,13 +7,13 @@ use std::test::Fail;
 fn numbers_of_one_byte(rt: HostRuntime) -> Result<(), Fail> {
     let mut own = [0u8; 1];
     u8::store(200, &mut own);
-    assert_eq!(rt; own.as_slice(), [200].as_slice());
+    assert!(rt; own.as_slice() == [200].as_slice());
     assert!(rt; u8::accepts(&own));
-    assert_eq!(rt; u8::read(&own), 200);
+    assert!(rt; u8::read(&own) == 200);
     assert!(rt; i8::accepts(&own));
-    assert_eq!(rt; i8::read(&own), -56);
+    assert!(rt; i8::read(&own) == -56);
     i8::store(-1, &mut own);
-    assert_eq!(rt; own.as_slice(), [0xff].as_slice());
+    assert!(rt; own.as_slice() == [0xff].as_slice());
     Ok(())
 }
 
@@ -21,7 +21,7 @@ fn numbers_of_one_byte(rt: HostRuntime) -> Result<(), Fail> {
 fn truth_values(rt: HostRuntime) -> Result<(), Fail> {
     let mut own = [0u8; 1];
     bool::store(true, &mut own);
-    assert_eq!(rt; own.as_slice(), [1].as_slice());
+    assert!(rt; own.as_slice() == [1].as_slice());
     assert!(rt; bool::accepts(&own));
     assert!(rt; bool::read(&own));
     assert!(rt; !bool::read(&[0]));
@@ -33,9 +33,9 @@ fn truth_values(rt: HostRuntime) -> Result<(), Fail> {
 fn unsigned_numbers_of_one_byte_without_0(rt: HostRuntime) -> Result<(), Fail> {
     let mut own = [0u8; 1];
     NonZeroU8::store(NonZeroU8::new(7).ok_or("0")?, &mut own);
-    assert_eq!(rt; own.as_slice(), [7].as_slice());
+    assert!(rt; own.as_slice() == [7].as_slice());
     assert!(rt; NonZeroU8::accepts(&own));
-    assert_eq!(rt; NonZeroU8::read(&own).get(), 7);
+    assert!(rt; NonZeroU8::read(&own).get() == 7);
     assert!(rt; !NonZeroU8::accepts(&[0]));
     Ok(())
 }
@@ -44,9 +44,9 @@ fn unsigned_numbers_of_one_byte_without_0(rt: HostRuntime) -> Result<(), Fail> {
 fn signed_numbers_of_one_byte_without_0(rt: HostRuntime) -> Result<(), Fail> {
     let mut own = [0u8; 1];
     NonZeroI8::store(NonZeroI8::new(-7).ok_or("0")?, &mut own);
-    assert_eq!(rt; own.as_slice(), [0xf9].as_slice());
+    assert!(rt; own.as_slice() == [0xf9].as_slice());
     assert!(rt; NonZeroI8::accepts(&own));
-    assert_eq!(rt; NonZeroI8::read(&own).get(), -7);
+    assert!(rt; NonZeroI8::read(&own).get() == -7);
     assert!(rt; !NonZeroI8::accepts(&[0]));
     Ok(())
 }

@@ -10,9 +10,9 @@ use std::test::Fail;
 fn unsigned_numbers_without_0(rt: HostRuntime) -> Result<(), Fail> {
     let mut short = [0u8; 2];
     ArchivedNonZeroU16::store(NonZeroU16::new(0x0102).ok_or("0")?, &mut short);
-    assert_eq!(rt; short.as_slice(), [2, 1].as_slice());
+    assert!(rt; short.as_slice() == [2, 1].as_slice());
     assert!(rt; ArchivedNonZeroU16::accepts(&[0, 1]));
-    assert_eq!(rt; ArchivedNonZeroU16::read(&[0, 1]).get(), 0x0100);
+    assert!(rt; ArchivedNonZeroU16::read(&[0, 1]).get() == 0x0100);
     Ok(())
 }
 
@@ -20,12 +20,12 @@ fn unsigned_numbers_without_0(rt: HostRuntime) -> Result<(), Fail> {
 fn signed_numbers_without_0(rt: HostRuntime) -> Result<(), Fail> {
     let mut short = [0u8; 2];
     ArchivedNonZeroI16::store(NonZeroI16::new(-2).ok_or("0")?, &mut short);
-    assert_eq!(rt; short.as_slice(), [0xfe, 0xff].as_slice());
+    assert!(rt; short.as_slice() == [0xfe, 0xff].as_slice());
     let mut wide = [0u8; 16];
     ArchivedNonZeroI128::store(NonZeroI128::new(-1).ok_or("0")?, &mut wide);
-    assert_eq!(rt; wide.as_slice(), [0xff; 16].as_slice());
+    assert!(rt; wide.as_slice() == [0xff; 16].as_slice());
     assert!(rt; ArchivedNonZeroI128::accepts(&wide));
-    assert_eq!(rt; ArchivedNonZeroI128::read(&wide).get(), -1);
+    assert!(rt; ArchivedNonZeroI128::read(&wide).get() == -1);
     Ok(())
 }
 

@@ -17,11 +17,11 @@ fn set_own_number(own: &mut [u8], pos: usize, value: i64)
 fn own_numbers_are_written_and_put(rt: HostRuntime) -> Result<(), Fail> {
     let mut bytes = [9u8; 8];
     set_own_number(&mut bytes, 33, 300);
-    assert_eq!(rt; bytes, [0x2c, 1, 0, 0, 0, 0, 0, 0]);
+    assert!(rt; bytes == [0x2c, 1, 0, 0, 0, 0, 0, 0]);
     let mut number = OwnSeal::<ArchivedI64>::new(&mut bytes, 33);
     number.put(-180);
-    assert_eq!(rt; number.pos(), 33);
-    assert_eq!(rt; number.as_ref().pos(), 0);
+    assert!(rt; number.pos() == 33);
+    assert!(rt; number.as_ref().pos() == 0);
     Ok(())
 }
 
@@ -31,13 +31,13 @@ fn own_texts_are_written_and_put(rt: HostRuntime) -> Result<(), Fail> {
     let mut text = OwnSeal::<Str>::new(&mut bytes, 33);
     text.put_text("abc");
     text.put_text("xyz");
-    assert_eq!(rt; text.pos(), 33);
-    assert_eq!(rt; bytes, *b"xyz");
+    assert!(rt; text.pos() == 33);
+    assert!(rt; bytes == *b"xyz");
     let mut empty = [9u8; 0];
     OwnSeal::<Str>::new(&mut empty, 33).put_text("");
     let mut text = [9u8; 2];
     OwnSeal::<Str>::new(&mut text, 32).write_text("ab");
-    assert_eq!(rt; text, *b"ab");
+    assert!(rt; text == *b"ab");
     Ok(())
 }
 
@@ -46,13 +46,13 @@ fn own_texts_are_put_through_seals_reborrowed_twice(rt: HostRuntime) -> Result<(
     let mut bytes = [9u8; 3];
     let mut text = OwnSeal::<Str>::new(&mut bytes, 33);
     let mut again = text.reborrow();
-    assert_eq!(rt; again.pos(), 33);
+    assert!(rt; again.pos() == 33);
     again.put_text("xyz");
     let mut third = again.reborrow();
-    assert_eq!(rt; third.pos(), 33);
+    assert!(rt; third.pos() == 33);
     third.put_text("pqr");
-    assert_eq!(rt; text.pos(), 33);
-    assert_eq!(rt; bytes, *b"pqr");
+    assert!(rt; text.pos() == 33);
+    assert!(rt; bytes == *b"pqr");
     Ok(())
 }
 
@@ -64,10 +64,10 @@ fn what_is_put_through_a_reborrowed_seal_is_read_through_the_lending_one(
     let mut number = OwnSeal::<ArchivedU16>::new(&mut own, 34);
     let mut lent = number.reborrow();
     lent.put(0x0807);
-    assert_eq!(rt; number.pos(), 34);
+    assert!(rt; number.pos() == 34);
     let own_bytes = number.as_ref();
     assert!(rt; own_bytes.bytes().len() == 2);
-    assert_eq!(rt; own_bytes.to_native(), 0x0807);
-    assert_eq!(rt; own, [7, 8]);
+    assert!(rt; own_bytes.to_native() == 0x0807);
+    assert!(rt; own == [7, 8]);
     Ok(())
 }

@@ -30,18 +30,18 @@ fn fields_are_written_in_place(rt: HostRuntime) -> Result<(), Fail> {
     let mut bytes = [0u8; 16];
     write_two_bytes(&mut bytes, 32, 7, 0);
     write_field(&mut bytes, 32, -2);
-    assert_eq!(rt;
-        bytes,
-        [
-            7, 0, 0, 0, 0, 0, 0, 0, 0xfe, 0xff, 0xff, 0xff, 0xff, 0xff, 0xff, 0xff
-        ]
+    assert!(rt;
+        bytes
+            == [
+                7, 0, 0, 0, 0, 0, 0, 0, 0xfe, 0xff, 0xff, 0xff, 0xff, 0xff, 0xff, 0xff
+            ]
     );
     Place::<(u8, ArchivedI64)>::new(&mut bytes, 32)
         .field::<u8>(0)
         .write(5);
-    assert_eq!(rt; bytes[0], 5);
+    assert!(rt; bytes[0] == 5);
     Place::<bool>::within(&mut bytes, 0, 0).write(false);
-    assert_eq!(rt; bytes[0], 0);
+    assert!(rt; bytes[0] == 0);
     Ok(())
 }
 
@@ -49,12 +49,12 @@ fn fields_are_written_in_place(rt: HostRuntime) -> Result<(), Fail> {
 fn elements_are_written_up_to_both_ends(rt: HostRuntime) -> Result<(), Fail> {
     let mut bytes = [0u8; 6];
     let last = Place::<[ArchivedU16; 3]>::new(&mut bytes, 32).index(2);
-    assert_eq!(rt; last.pos(), 36);
+    assert!(rt; last.pos() == 36);
     last.write(0x0605);
     let first = Place::<[ArchivedU16; 3]>::new(&mut bytes, 32).index(0);
-    assert_eq!(rt; first.pos(), 32);
+    assert!(rt; first.pos() == 32);
     first.write(0x0201);
-    assert_eq!(rt; bytes, [1, 2, 0, 0, 5, 6]);
+    assert!(rt; bytes == [1, 2, 0, 0, 5, 6]);
     Ok(())
 }
 
@@ -63,9 +63,9 @@ fn wide_elements_stand_side_by_side(rt: HostRuntime) -> Result<(), Fail> {
     let mut bytes = [9u8; 16];
     let numbers = Place::<[ArchivedI64; 2]>::new(&mut bytes, 32);
     let number = numbers.index(1);
-    assert_eq!(rt; number.pos(), 40);
+    assert!(rt; number.pos() == 40);
     number.write(3);
-    assert_eq!(rt; bytes[8], 3);
+    assert!(rt; bytes[8] == 3);
     Ok(())
 }
 
@@ -73,11 +73,11 @@ fn wide_elements_stand_side_by_side(rt: HostRuntime) -> Result<(), Fail> {
 fn fields_are_written_up_to_the_last_position(rt: HostRuntime) -> Result<(), Fail> {
     let mut bytes = [1, 2, 0, 0, 5, 6];
     let place = Place::<(u8, u8)>::within(&mut bytes, 3, usize::MAX - 2).field::<u8>(2);
-    assert_eq!(rt; place.pos(), usize::MAX);
+    assert!(rt; place.pos() == usize::MAX);
     place.write(9);
     Place::<(u8, u8)>::within(&mut bytes, 2, 34)
         .field::<u8>(0)
         .write(8);
-    assert_eq!(rt; bytes, [1, 2, 8, 0, 5, 9]);
+    assert!(rt; bytes == [1, 2, 8, 0, 5, 9]);
     Ok(())
 }

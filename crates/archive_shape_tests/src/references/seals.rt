@@ -18,15 +18,12 @@ fn set_number(bytes: &mut [u8], pos: usize, value: i64)
 fn numbers_stand_low_byte_first(rt: HostRuntime) -> Result<(), Fail> {
     let mut bytes = [0u8; 12];
     set_number(&mut bytes, 2, 300);
-    assert_eq!(rt; bytes, [0, 0, 0x2c, 1, 0, 0, 0, 0, 0, 0, 0, 0]);
+    assert!(rt; bytes == [0, 0, 0x2c, 1, 0, 0, 0, 0, 0, 0, 0, 0]);
     let mut seal = Seal::<ArchivedI64>::new(&mut bytes, 2);
     seal.put(-180);
-    assert_eq!(rt; seal.pos(), 2);
-    assert_eq!(rt; seal.as_ref().to_native(), -180);
-    assert_eq!(rt;
-        bytes,
-        [0, 0, 0x4c, 0xff, 0xff, 0xff, 0xff, 0xff, 0xff, 0xff, 0, 0]
-    );
+    assert!(rt; seal.pos() == 2);
+    assert!(rt; seal.as_ref().to_native() == -180);
+    assert!(rt; bytes == [0, 0, 0x4c, 0xff, 0xff, 0xff, 0xff, 0xff, 0xff, 0xff, 0, 0]);
     Ok(())
 }
 
@@ -36,7 +33,7 @@ fn numbers_are_written_at_each_width(rt: HostRuntime) -> Result<(), Fail> {
     Seal::<ArchivedU16>::new(&mut bytes, 0).write(0x0201);
     Seal::<ArchivedU32>::new(&mut bytes, 2).write(0x8000_0003);
     Seal::<ArchivedI32>::new(&mut bytes, 6).write(-180);
-    assert_eq!(rt; bytes, [1, 2, 3, 0, 0, 0x80, 0x4c, 0xff, 0xff, 0xff]);
+    assert!(rt; bytes == [1, 2, 3, 0, 0, 0x80, 0x4c, 0xff, 0xff, 0xff]);
     Ok(())
 }
 
@@ -46,7 +43,7 @@ fn texts_are_written_and_put(rt: HostRuntime) -> Result<(), Fail> {
     Seal::<Str>::new(&mut bytes, 1).write_text("ab");
     let mut text = Seal::<Str>::new(&mut bytes, 3);
     text.put_text("cd");
-    assert_eq!(rt; bytes, [9, b'a', b'b', b'c', b'd', 9]);
+    assert!(rt; bytes == [9, b'a', b'b', b'c', b'd', 9]);
     Ok(())
 }
 
@@ -60,7 +57,7 @@ fn bytes_and_truth_values_are_written_and_put(rt: HostRuntime) -> Result<(), Fai
     truth.put(false);
     let mut last = Seal::<u8>::new(&mut bytes, 3);
     last.put(2);
-    assert_eq!(rt; bytes, [1, 1, 0, 2]);
+    assert!(rt; bytes == [1, 1, 0, 2]);
     Ok(())
 }
 
@@ -71,12 +68,12 @@ fn what_is_put_through_a_reborrowed_seal_is_read_through_the_lending_one(
     let mut bytes = [9u8; 3];
     let mut seal = Seal::<ArchivedU16>::new(&mut bytes, 1);
     let mut lent = seal.reborrow();
-    assert_eq!(rt; lent.pos(), 1);
+    assert!(rt; lent.pos() == 1);
     lent.put(0x0605);
     lent.reborrow().put(0x0807);
     let whole = seal.as_ref();
     assert!(rt; whole.pos() == 1 && whole.bytes().len() == 3);
-    assert_eq!(rt; whole.to_native(), 0x0807);
-    assert_eq!(rt; bytes, [9, 7, 8]);
+    assert!(rt; whole.to_native() == 0x0807);
+    assert!(rt; bytes == [9, 7, 8]);
     Ok(())
 }

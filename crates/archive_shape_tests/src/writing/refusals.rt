@@ -24,7 +24,7 @@ fn texts_of_refusals(rt: HostRuntime) -> Result<(), Fail> {
     ];
     for (refusal, text) in refusals {
         let shown = format!(in alloc; "{refusal}")?;
-        assert_eq!(rt; shown.as_str(), text);
+        assert!(rt; shown.as_str() == text);
     }
     Ok(())
 }

@@ -13,8 +13,8 @@ fn a_vector_is_a_writer(rt: HostRuntime) -> Result<(), Fail> {
     write_two_pieces(&mut bytes, &[2], &[3, 4])?;
     write_three_pieces(&mut bytes, &[], &[5], &[6])?;
     write_all_pieces(&mut bytes, &[&[7], &[8], &[], &[9]])?;
-    assert_eq!(rt; bytes.as_slice(), [1, 2, 3, 4, 5, 6, 7, 8, 9].as_slice());
-    assert_eq!(rt; bytes.pos(), 9);
+    assert!(rt; bytes.as_slice() == [1, 2, 3, 4, 5, 6, 7, 8, 9].as_slice());
+    assert!(rt; bytes.pos() == 9);
     Ok(())
 }
 
@@ -22,8 +22,8 @@ fn a_vector_is_a_writer(rt: HostRuntime) -> Result<(), Fail> {
 fn a_failed_write_keeps_a_prefix(rt: HostRuntime) -> Result<(), Fail> {
     let mut writer = FailingWriter::new(rt.alloc(), 2);
     let result = write_all_pieces(&mut writer, &[&[1, 2], &[3, 4], &[5, 6], &[7, 8]]);
-    assert_eq!(rt; result, Err(Error::WriterFailed));
-    assert_eq!(rt; writer.bytes(), [1, 2, 3, 4, 5].as_slice());
-    assert_eq!(rt; writer.failures(), 1);
+    assert!(rt; result == Err(Error::WriterFailed));
+    assert!(rt; writer.bytes() == [1, 2, 3, 4, 5].as_slice());
+    assert!(rt; writer.failures() == 1);
     Ok(())
 }

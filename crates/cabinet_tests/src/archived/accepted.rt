@@ -31,28 +31,28 @@ fn payloads_stand_at_their_alignments(rt: HostRuntime) {
     let inline = *b"\x02\0\0\0coffee\xff\xff\0\0\0\0\0\0\0\0\0\0\0\0";
     let behind = *b"nine bytes......\x02\0\0\0\x8a\0\0\0\xec\xff\xff\xff\0\0\0\0\0\0\0\0\0\0\0\0";
     let nothing = *b"\x04\0\0\0\0\0\0\0\0\0\0\0\0\0\0\0\0\0\0\0\0\0\0\0";
-    assert_eq!(rt; kind_of(alloc, &yes), Ok(("bool", 1)));
-    assert_eq!(rt; kind_of(alloc, &FIVE), Ok(("int", 8)));
-    assert_eq!(rt; kind_of(alloc, &inline), Ok(("text", 4)));
-    assert_eq!(rt; kind_of(alloc, &behind), Ok(("text", 20)));
-    assert_eq!(rt; kind_of(alloc, &SHARED), Ok(("shared", 20)));
-    assert_eq!(rt; kind_of(alloc, &nothing), Ok(("option", 4)));
-    assert_eq!(rt; kind_of(alloc, &SOME_FIVE), Ok(("option", 28)));
-    assert_eq!(rt; kind_of(alloc, &SEVEN_AND_NINETEEN), Ok(("list", 52)));
+    assert!(rt; kind_of(alloc, &yes) == Ok(("bool", 1)));
+    assert!(rt; kind_of(alloc, &FIVE) == Ok(("int", 8)));
+    assert!(rt; kind_of(alloc, &inline) == Ok(("text", 4)));
+    assert!(rt; kind_of(alloc, &behind) == Ok(("text", 20)));
+    assert!(rt; kind_of(alloc, &SHARED) == Ok(("shared", 20)));
+    assert!(rt; kind_of(alloc, &nothing) == Ok(("option", 4)));
+    assert!(rt; kind_of(alloc, &SOME_FIVE) == Ok(("option", 28)));
+    assert!(rt; kind_of(alloc, &SEVEN_AND_NINETEEN) == Ok(("list", 52)));
 }
 
 #[test]
 fn payloads_are_read(rt: HostRuntime) -> Result<(), Fail> {
     let alloc = rt.alloc();
     let yes = *b"\0\x01\0\0\0\0\0\0\0\0\0\0\0\0\0\0\0\0\0\0\0\0\0\0";
-    assert_eq!(rt; truth_in(root_of(alloc, &yes)?), Some(true));
-    assert_eq!(rt; truth_in(root_of(alloc, &FIVE)?), None);
-    assert_eq!(rt; number_in(root_of(alloc, &FIVE)?), Some(5));
-    assert_eq!(rt; is_nothing(root_of(alloc, &SOME_FIVE)?), Some(false));
-    assert_eq!(rt; is_nothing(root_of(alloc, &FIVE)?), None);
-    assert_eq!(rt; count_in(root_of(alloc, &SEVEN_AND_NINETEEN)?), Some(2));
-    assert_eq!(rt; shared_in(root_of(alloc, &SHARED)?), Some("hello world!"));
-    assert_eq!(rt; shared_in(root_of(alloc, &FIVE)?), None);
+    assert!(rt; truth_in(root_of(alloc, &yes)?) == Some(true));
+    assert!(rt; truth_in(root_of(alloc, &FIVE)?) == None);
+    assert!(rt; number_in(root_of(alloc, &FIVE)?) == Some(5));
+    assert!(rt; is_nothing(root_of(alloc, &SOME_FIVE)?) == Some(false));
+    assert!(rt; is_nothing(root_of(alloc, &FIVE)?) == None);
+    assert!(rt; count_in(root_of(alloc, &SEVEN_AND_NINETEEN)?) == Some(2));
+    assert!(rt; shared_in(root_of(alloc, &SHARED)?) == Some("hello world!"));
+    assert!(rt; shared_in(root_of(alloc, &FIVE)?) == None);
     Ok(())
 }
 
@@ -74,9 +74,9 @@ fn nodes_share_a_text(rt: HostRuntime) -> Result<(), Fail> {
     ];
     for (bytes, first, second) in cases {
         let root = root_of(alloc, &bytes)?;
-        assert_eq!(rt; shared_at(root, 0), Some(first));
-        assert_eq!(rt; shared_at(root, 1), Some(second));
-        assert_eq!(rt; shared_at(root, 2), None);
+        assert!(rt; shared_at(root, 0) == Some(first));
+        assert!(rt; shared_at(root, 1) == Some(second));
+        assert!(rt; shared_at(root, 2) == None);
     }
     Ok(())
 }

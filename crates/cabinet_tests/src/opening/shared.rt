@@ -55,10 +55,10 @@ fn shared_texts_are_asked_for(rt: HostRuntime) -> Result<(), Fail> {
         if !line.is_question() {
             return Err(Fail::from("no question"));
         }
-        assert_eq!(rt; asked(alloc, &TWO_SHARED, &line, &mut answers)?, answer);
+        assert!(rt; asked(alloc, &TWO_SHARED, &line, &mut answers)? == answer);
     }
     let expected = b"list 2\nshared 'hello\\sworld!\nshared 'hello\\sworld!\nmissing\nwrong\n";
-    assert_eq!(rt; answers.as_slice(), expected.as_slice());
+    assert!(rt; answers.as_slice() == expected.as_slice());
     Ok(())
 }
 
@@ -69,13 +69,10 @@ fn shared_texts_are_never_set(rt: HostRuntime) -> Result<(), Fail> {
     let leaves = [text, Leaf::Int(6), Leaf::Bool(true)];
     let mut bytes = SHARED_AND_FIVE;
     for leaf in &leaves {
-        assert_eq!(rt; set_in(alloc, &mut bytes, 0, leaf)?, SetAnswer::Refused);
+        assert!(rt; set_in(alloc, &mut bytes, 0, leaf)? == SetAnswer::Refused);
         assert!(rt; bytes == SHARED_AND_FIVE);
     }
-    assert_eq!(rt;
-        set_in(alloc, &mut bytes, 1, &Leaf::Int(6))?,
-        SetAnswer::Done
-    );
+    assert!(rt; set_in(alloc, &mut bytes, 1, &Leaf::Int(6))? == SetAnswer::Done);
     let mut six = SHARED_AND_FIVE;
     six[48] = 6;
     assert!(rt; bytes == six);

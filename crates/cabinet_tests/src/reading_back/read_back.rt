@@ -29,7 +29,7 @@ fn list_of_each_kind_is_read_back(rt: HostRuntime) -> Result<(), Fail> {
         b"\0\x01\0\0\0\0\0\0\0\0\0\0\0\0\0\0\0\0\0\0\0\0\0\0\x01\0\0\0\0\0\0\0\x07\0\0\0\0\0\0\0\0\0\0\0\0\0\0\0\x02\0\0\0coffee\xff\xff\0\0\0\0\0\0\0\0\0\0\0\0\x01\0\0\0\0\0\0\0\xfb\xff\xff\xff\xff\xff\xff\xff\0\0\0\0\0\0\0\0\x04\0\0\0\x01\0\0\0\x98\xff\xff\xff\0\0\0\0\0\0\0\0\0\0\0\0\x04\0\0\0\0\0\0\0\0\0\0\0\0\0\0\0\0\0\0\0\0\0\0\0\x05\0\0\0\x84\xff\xff\xff\x01\0\0\0\0\0\0\0\0\0\0\0\0\0\0\0\x05\0\0\0\x84\xff\xff\xff\x05\0\0\0\0\0\0\0\0\0\0\0\0\0\0\0";
     let text = text_of(rt.alloc(), archive)?;
     let expected = b"list 5\ntext 'coffee\nint -5\nsome\nbool true\nnone\nlist 1\nint 7\n";
-    assert_eq!(rt; text.as_slice(), expected.as_slice());
+    assert!(rt; text.as_slice() == expected.as_slice());
     Ok(())
 }
 
@@ -37,7 +37,7 @@ fn list_of_each_kind_is_read_back(rt: HostRuntime) -> Result<(), Fail> {
 fn text_out_of_line_is_read_back(rt: HostRuntime) -> Result<(), Fail> {
     let archive = b"nine bytes......\x02\0\0\0\x8a\0\0\0\xec\xff\xff\xff\0\0\0\0\0\0\0\0\0\0\0\0";
     let text = text_of(rt.alloc(), archive)?;
-    assert_eq!(rt; text.as_slice(), b"text 'nine\\sbytes\n".as_slice());
+    assert!(rt; text.as_slice() == b"text 'nine\\sbytes\n".as_slice());
     Ok(())
 }
 
@@ -46,10 +46,7 @@ fn shared_text_is_read_back_at_each_pointer(rt: HostRuntime) -> Result<(), Fail>
     let archive =
         b"a\0\0\0\0\0\0\0\x03\0\0\0\xf4\xff\xff\xff\x01\0\0\0\0\0\0\0\0\0\0\0\0\0\0\0\x03\0\0\0\xdc\xff\xff\xff\x01\0\0\0\0\0\0\0\0\0\0\0\0\0\0\0\x05\0\0\0\xcc\xff\xff\xff\x02\0\0\0\0\0\0\0\0\0\0\0\0\0\0\0";
     let text = text_of(rt.alloc(), archive)?;
-    assert_eq!(rt;
-        text.as_slice(),
-        b"list 2\nshared 'a\nshared 'a\n".as_slice()
-    );
+    assert!(rt; text.as_slice() == b"list 2\nshared 'a\nshared 'a\n".as_slice());
     Ok(())
 }
 

@@ -17,19 +17,16 @@ fn image(alloc: Global, root: Node) -> Result<Vec<u8>, Fail> {
 #[test]
 fn leaves(rt: HostRuntime) -> Result<(), Fail> {
     let truth = image(rt.alloc(), Node::Bool(true))?;
-    assert_eq!(rt;
-        truth.as_slice(),
-        b"\x00\x01\0\0\0\0\0\0\0\0\0\0\0\0\0\0\0\0\0\0\0\0\0\0".as_slice()
+    assert!(rt;
+        truth.as_slice() == b"\x00\x01\0\0\0\0\0\0\0\0\0\0\0\0\0\0\0\0\0\0\0\0\0\0".as_slice()
     );
     let number = image(rt.alloc(), Node::Int(5))?;
-    assert_eq!(rt;
-        number.as_slice(),
-        b"\x01\0\0\0\0\0\0\0\x05\0\0\0\0\0\0\0\0\0\0\0\0\0\0\0".as_slice()
+    assert!(rt;
+        number.as_slice() == b"\x01\0\0\0\0\0\0\0\x05\0\0\0\0\0\0\0\0\0\0\0\0\0\0\0".as_slice()
     );
     let none = image(rt.alloc(), Node::Maybe(None))?;
-    assert_eq!(rt;
-        none.as_slice(),
-        b"\x04\0\0\0\0\0\0\0\0\0\0\0\0\0\0\0\0\0\0\0\0\0\0\0".as_slice()
+    assert!(rt;
+        none.as_slice() == b"\x04\0\0\0\0\0\0\0\0\0\0\0\0\0\0\0\0\0\0\0\0\0\0\0".as_slice()
     );
     Ok(())
 }
@@ -40,7 +37,7 @@ fn present_option(rt: HostRuntime) -> Result<(), Fail> {
     let bytes = image(rt.alloc(), Node::Maybe(Some(five)))?;
     let expected =
         b"\x01\0\0\0\0\0\0\0\x05\0\0\0\0\0\0\0\0\0\0\0\0\0\0\0\x04\0\0\0\x01\0\0\0\xe0\xff\xff\xff\0\0\0\0\0\0\0\0\0\0\0\0";
-    assert_eq!(rt; bytes.as_slice(), expected.as_slice());
+    assert!(rt; bytes.as_slice() == expected.as_slice());
     Ok(())
 }
 
@@ -50,7 +47,7 @@ fn list_of_two(rt: HostRuntime) -> Result<(), Fail> {
     let bytes = image(rt.alloc(), Node::List(nodes))?;
     let expected =
         b"\x01\0\0\0\0\0\0\0\x07\0\0\0\0\0\0\0\0\0\0\0\0\0\0\0\x01\0\0\0\0\0\0\0\x13\0\0\0\0\0\0\0\0\0\0\0\0\0\0\0\x05\0\0\0\xcc\xff\xff\xff\x02\0\0\0\0\0\0\0\0\0\0\0\0\0\0\0";
-    assert_eq!(rt; bytes.as_slice(), expected.as_slice());
+    assert!(rt; bytes.as_slice() == expected.as_slice());
     Ok(())
 }
 
@@ -62,7 +59,7 @@ fn shared_text_stands_once(rt: HostRuntime) -> Result<(), Fail> {
     let bytes = image(rt.alloc(), Node::List(nodes))?;
     let expected =
         b"a\0\0\0\0\0\0\0\x03\0\0\0\xf4\xff\xff\xff\x01\0\0\0\0\0\0\0\0\0\0\0\0\0\0\0\x03\0\0\0\xdc\xff\xff\xff\x01\0\0\0\0\0\0\0\0\0\0\0\0\0\0\0\x05\0\0\0\xcc\xff\xff\xff\x02\0\0\0\0\0\0\0\0\0\0\0\0\0\0\0";
-    assert_eq!(rt; bytes.as_slice(), expected.as_slice());
+    assert!(rt; bytes.as_slice() == expected.as_slice());
     Ok(())
 }
 
@@ -79,6 +76,6 @@ fn empty_shared_text_stands_before_a_zero_byte(rt: HostRuntime) -> Result<(), Fa
     let bytes = image(rt.alloc(), Node::List(nodes))?;
     let expected =
         b"\0b\0\0\0\0\0\0\x03\0\0\0\xf4\xff\xff\xff\0\0\0\0\0\0\0\0\0\0\0\0\0\0\0\0\x03\0\0\0\xdd\xff\xff\xff\x01\0\0\0\0\0\0\0\0\0\0\0\0\0\0\0\x03\0\0\0\xc4\xff\xff\xff\0\0\0\0\0\0\0\0\0\0\0\0\0\0\0\0\x05\0\0\0\xb4\xff\xff\xff\x03\0\0\0\0\0\0\0\0\0\0\0\0\0\0\0";
-    assert_eq!(rt; bytes.as_slice(), expected.as_slice());
+    assert!(rt; bytes.as_slice() == expected.as_slice());
     Ok(())
 }

@@ -12,7 +12,7 @@ fn kind_without_a_layout(rt: HostRuntime) -> Result<(), Fail> {
     let document = Document::new(Node::List(nodes))?;
     let mut bytes = Vec::new(rt.alloc());
     let refusal = save(rt.alloc(), &document, &mut bytes).err();
-    assert_eq!(rt; refusal, Some(SaveRefusal::Kind));
+    assert!(rt; refusal == Some(SaveRefusal::Kind));
     assert!(rt; bytes.is_empty());
     Ok(())
 }
@@ -23,6 +23,6 @@ fn writer_without_room(rt: HostRuntime) -> Result<(), Fail> {
     let mut room = [0u8; 23];
     let mut writer = Buffer::new(&mut room);
     let refusal = save(rt.alloc(), &document, &mut writer).err();
-    assert_eq!(rt; refusal, Some(SaveRefusal::Writer(Error::BufferOverflow)));
+    assert!(rt; refusal == Some(SaveRefusal::Writer(Error::BufferOverflow)));
     Ok(())
 }

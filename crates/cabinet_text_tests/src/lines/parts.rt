@@ -13,8 +13,8 @@ fn steps_are_read(rt: HostRuntime) -> Result<(), Fail> {
     let [Step::Place(place), Step::Inside, Step::Key(key)] = path.as_slice() else {
         return Err(Fail::from("other steps"));
     };
-    assert_eq!(rt; *place, u64::MAX);
-    assert_eq!(rt; key.as_str(), "a b\n\\");
+    assert!(rt; *place == u64::MAX);
+    assert!(rt; key.as_str() == "a b\n\\");
     assert!(rt; line.is_question());
     Ok(())
 }
@@ -30,8 +30,8 @@ fn edits_carry_long_texts(rt: HostRuntime) -> Result<(), Fail> {
     else {
         return Err(Fail::from("no text"));
     };
-    assert_eq!(rt; path.len(), 1);
-    assert_eq!(rt; text.as_str(), "more than eight bytes");
+    assert!(rt; path.len() == 1);
+    assert!(rt; text.as_str() == "more than eight bytes");
     Ok(())
 }
 
@@ -39,6 +39,6 @@ fn edits_carry_long_texts(rt: HostRuntime) -> Result<(), Fail> {
 fn refusals_print_what_is_wrong(rt: HostRuntime) -> Result<(), Fail> {
     let bad = LineRefusal::Bad;
     let shown = format!(in rt.alloc(); "{bad}")?;
-    assert_eq!(rt; shown.as_str(), "the bytes are no line");
+    assert!(rt; shown.as_str() == "the bytes are no line");
     Ok(())
 }

@@ -28,11 +28,11 @@ fn containers(rt: HostRuntime) -> Result<(), Fail> {
     let leaf = inside_options(alloc, 64, Node::Int(1))?;
     assert!(rt; Document::new(leaf).is_ok());
     let deep = inside_options(alloc, 65, Node::Int(1))?;
-    assert_eq!(rt; Document::new(deep).err(), Some(DocumentRefusal::TooDeep));
+    assert!(rt; Document::new(deep).err() == Some(DocumentRefusal::TooDeep));
     let empty = inside_options(alloc, 63, Node::List(Vec::new(alloc)))?;
     assert!(rt; Document::new(empty).is_ok());
     let deeper = inside_options(alloc, 64, Node::List(Vec::new(alloc)))?;
-    assert_eq!(rt; Document::new(deeper).err(), Some(DocumentRefusal::TooDeep));
+    assert!(rt; Document::new(deeper).err() == Some(DocumentRefusal::TooDeep));
     Ok(())
 }
 
@@ -42,15 +42,9 @@ fn keys(rt: HostRuntime) -> Result<(), Fail> {
     let distinct = kept(alloc, ["b", "a", "", "c"].as_slice())?;
     assert!(rt; Document::new(distinct).is_ok());
     let repeated = kept(alloc, ["b", "a", "c", "b"].as_slice())?;
-    assert_eq!(rt;
-        Document::new(repeated).err(),
-        Some(DocumentRefusal::RepeatedKey)
-    );
+    assert!(rt; Document::new(repeated).err() == Some(DocumentRefusal::RepeatedKey));
     let inner = inside_options(alloc, 3, kept(alloc, ["", ""].as_slice())?)?;
-    assert_eq!(rt;
-        Document::new(inner).err(),
-        Some(DocumentRefusal::RepeatedKey)
-    );
+    assert!(rt; Document::new(inner).err() == Some(DocumentRefusal::RepeatedKey));
     Ok(())
 }
 
@@ -60,6 +54,6 @@ fn a_depth_is_told_first(rt: HostRuntime) -> Result<(), Fail> {
     let repeated = kept(alloc, ["a", "a"].as_slice())?;
     let deep = inside_options(alloc, 64, Node::Int(1))?;
     let both = Node::List(vec![in alloc; repeated, deep]?);
-    assert_eq!(rt; Document::new(both).err(), Some(DocumentRefusal::TooDeep));
+    assert!(rt; Document::new(both).err() == Some(DocumentRefusal::TooDeep));
     Ok(())
 }

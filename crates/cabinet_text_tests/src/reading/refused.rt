@@ -96,6 +96,6 @@ fn a_refusal_prints_its_line_and_its_cause(rt: HostRuntime) -> Result<(), Fail> 
         cause: Cause::KeyRepeated,
     };
     let shown = format!(in rt.alloc(); "{refusal}")?;
-    assert_eq!(rt; shown.as_str(), "line 4: KeyRepeated");
+    assert!(rt; shown.as_str() == "line 4: KeyRepeated");
     Ok(())
 }

@@ -10,7 +10,7 @@ fn an_option_is_written(rt: HostRuntime) -> Result<(), Fail> {
     let document = Document::new(Node::Maybe(Some(inner)))?;
     let mut bytes = Vec::new(rt.alloc());
     write_text(&document, &mut bytes)?;
-    assert_eq!(rt; bytes.as_slice(), b"some\nint -5\n".as_slice());
+    assert!(rt; bytes.as_slice() == b"some\nint -5\n".as_slice());
     Ok(())
 }
 
@@ -22,6 +22,6 @@ fn a_list_is_written(rt: HostRuntime) -> Result<(), Fail> {
     let document = Document::new(Node::List(nodes))?;
     let mut bytes = Vec::new(rt.alloc());
     write_text(&document, &mut bytes)?;
-    assert_eq!(rt; bytes.as_slice(), b"list 2\nbool true\nnone\n".as_slice());
+    assert!(rt; bytes.as_slice() == b"list 2\nbool true\nnone\n".as_slice());
     Ok(())
 }
