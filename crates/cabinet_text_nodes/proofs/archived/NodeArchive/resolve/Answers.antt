@@ -4,7 +4,7 @@ use Rattle.archive_shape_layout.specs.Shape.Shape.{number, truth, text}
 use Rattle.archive_forms_laws.specs.State.{initial}
 use Rattle.archive_forms_writing.proofs.Joining.{payload_place}
 use Rattle.archive_forms_writing.proofs.Results.{payload_can}
-use Rattle.archive_forms_writing.specs.Owned.{str_spelling as archived_text}
+use Rattle.archive_forms_writing.specs.Owned.{string_spelling as archived_text}
 use Rattle.cabinet_documents.specs.Spelling.{truth_spelling, number_spelling}
 use Rattle.cabinet_text_nodes.specs.View.{node_tree}
 use Rattle.cabinet_text_nodes.proofs.Views.{node_tree-ordered, node_tree-hashed, node_tree-kept}
