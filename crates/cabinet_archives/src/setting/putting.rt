@@ -1,4 +1,5 @@
 //! Writing a leaf in the place of a node, in the bytes of an archive.
+ghost use Rattle.std.specs.Prelude.{◌≡◌};
 ghost use Rattle.archive_forms_values.specs.Parts.{HasValue};
 ghost use Rattle.cabinet_text_nodes.specs.TextGrammar.Answering.{outcome_there};
 ghost use Rattle.cabinet_archived.specs.Documents.Node.{node_shape, KnowsNode};
