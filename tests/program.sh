@@ -4,7 +4,8 @@
 set -u
 root=$(cd "$(dirname "$0")/.." && pwd)
 work=$(mktemp -d)
-trap 'rm -rf "$work"' EXIT
+# a file system that a case mounted, and left when the script was stopped
+trap 'umount "$work/files/full" 2> /dev/null; rm -rf "$work"' EXIT
 cab=$work/cab
 
 # Without the path of a program, proves and builds cab, if that is not done yet.
@@ -43,7 +44,7 @@ failed=0
 begin() {
     name=$1
     wrong=
-    rm -rf ./*
+    rm -rf ./* ./.[!.]*
     : > input
 }
 
@@ -92,6 +93,22 @@ lacks() {
     [ ! -e "$1" ] || differs "$1 is there"
 }
 
+# leaves NAME..: the names in the folder, without those of the steps themselves
+leaves() {
+    local names
+    names=$(ls -A | grep -vx -e input -e output -e errors | sort | tr '\n' ' ')
+    [ "$names" = "$(printf '%s\n' "$@" | sort | tr '\n' ' ' | sed 's/^ $//')" ] || differs "the folder has $names"
+}
+
+# file_is FILE FORMAT WORDS: what stat says of a file
+file_is() {
+    [ "$(stat -c "$2" "$1" 2> /dev/null)" = "$3" ] || differs "$1 is $(stat -c "$2" "$1" 2>&1), and not $3"
+}
+
+skip() {
+    echo "skipped: $name: $1"
+}
+
 finish() {
     if [ -z "$wrong" ]; then
         passed=$((passed + 1))
@@ -122,11 +139,12 @@ refuses() {
     run build text new.cab
     prints ''
     ends 1 "cab: text line $3: $4\n"
-    lacks new.cab
+    leaves text
     archive "${five}bbbb"
     run build text a.cab
     ends 1 "cab: text line $3: $4\n"
     holds a.cab "${five}bbbb"
+    leaves a.cab text
     finish
 }
 
@@ -242,7 +260,12 @@ for kind in 'ordered 0' 'hashed 0' 'kept 0'; do
     run build text a.cab
     prints ''
     ends 1 'cab: save: Kind\n'
-    lacks a.cab
+    leaves text
+    archive "$five"
+    run build text a.cab
+    ends 1 'cab: save: Kind\n'
+    holds a.cab "$five"
+    leaves a.cab text
     finish
 done
 
@@ -279,6 +302,11 @@ run build no-text a.cab
 prints ''
 ends 1 'cab: cannot read no-text\n'
 lacks a.cab
+archive "$five"
+run build no-text a.cab
+ends 1 'cab: cannot read no-text\n'
+holds a.cab "$five"
+leaves a.cab
 finish
 
 begin 'a text that is a folder'
@@ -287,6 +315,11 @@ run build folder a.cab
 prints ''
 ends 1 'cab: cannot read folder\n'
 lacks a.cab
+archive "$five"
+run build folder a.cab
+ends 1 'cab: cannot read folder\n'
+holds a.cab "$five"
+leaves a.cab folder
 finish
 
 begin 'a path of no bytes'
@@ -400,6 +433,7 @@ run run a.cab
 prints 'int 5\nrefused\nint 5\n'
 ends 0 ''
 [ "$(stat -c '%i %y' a.cab)" = "$before" ] || differs 'it was written'
+leaves a.cab
 finish
 
 begin 'an edit to the value that is there writes the file'
@@ -577,7 +611,7 @@ archive "$five"
 ended=$?
 prints_many 'ok\n'
 ends 1 'cab: cannot write a.cab\n'
-lacks a.cab
+leaves
 finish
 
 begin 'of two faults the first is told'
@@ -692,6 +726,490 @@ run build text a.cab
 run run a.cab
 cmp -s output text || differs 'it is not the text that the archive was built from'
 ends 0 ''
+finish
+
+# ---- the file of an archive is replaced as a whole
+
+begin 'a run replaces the file'
+archive "$five"
+before=$(stat -c %i a.cab)
+lines 'set int 6\n'
+run run a.cab
+prints 'ok\n'
+ends 0 ''
+holds a.cab "$six"
+[ "$(stat -c %i a.cab)" != "$before" ] || differs 'the old file was written'
+leaves a.cab
+finish
+
+begin 'a build replaces the file, and reads no input'
+archive "$five"
+before=$(stat -c %i a.cab)
+text 'int 6\n'
+lines 'get\nset int 7\n'
+{
+    "$cab" build text a.cab > output 2> errors
+    ended=$?
+    cat > rest
+} < input
+prints 'built 24\n'
+ends 0 ''
+holds a.cab "$six"
+cmp -s rest input || differs 'some of the input was read'
+[ "$(stat -c %i a.cab)" != "$before" ] || differs 'the old file was written'
+leaves a.cab rest text
+finish
+
+begin 'permissions stay'
+text 'int 6\n'
+(umask 027 && "$cab" build text new.cab < input > output 2> errors)
+ended=$?
+ends 0 ''
+file_is new.cab %a 640
+archive "$five"
+for mode in 600 664 755; do
+    chmod $mode a.cab
+    run build text a.cab
+    ends 0 ''
+    holds a.cab "$six"
+    file_is a.cab %a $mode
+    lines 'set int 7\n'
+    run run a.cab
+    ends 0 ''
+    holds a.cab "$seven"
+    file_is a.cab %a $mode
+done
+leaves a.cab new.cab text
+finish
+
+begin 'the owner and the group stay'
+if [ "$(id -u)" = 0 ]; then
+    text 'int 6\n'
+    archive "$five"
+    chmod 640 a.cab
+    chown 65534:65533 a.cab
+    run build text a.cab
+    ends 0 ''
+    holds a.cab "$six"
+    file_is a.cab '%a %u %g' '640 65534 65533'
+    lines 'set int 7\n'
+    run run a.cab
+    ends 0 ''
+    holds a.cab "$seven"
+    file_is a.cab '%a %u %g' '640 65534 65533'
+    finish
+else
+    skip 'only root may give a file another owner'
+fi
+
+begin 'a link stays, and the file that it leads to is replaced'
+mkdir folder
+archive "$five"
+mv a.cab folder/old.cab
+chmod 640 folder/old.cab
+ln -s old.cab folder/middle
+ln -s folder/middle a.cab
+text 'int 6\n'
+run build text a.cab
+prints 'built 24\n'
+ends 0 ''
+holds folder/old.cab "$six"
+lines 'set int 7\n'
+run run a.cab
+prints 'ok\n'
+ends 0 ''
+holds folder/old.cab "$seven"
+file_is folder/old.cab '%F %a' 'regular file 640'
+[ "$(readlink a.cab) $(readlink folder/middle)" = 'folder/middle old.cab' ] || differs 'a link was replaced'
+[ "$(ls -A folder | tr '\n' ' ')" = 'middle old.cab ' ] || differs "the folder has $(ls -A folder)"
+leaves a.cab folder text
+finish
+
+begin 'a link that leads to no file'
+mkdir folder
+ln -s folder/new.cab a.cab
+text 'int 6\n'
+run build text a.cab
+prints 'built 24\n'
+ends 0 ''
+holds folder/new.cab "$six"
+[ "$(readlink a.cab)" = folder/new.cab ] || differs 'the link was replaced'
+finish
+
+begin 'a pipe is written, and stays one'
+mkfifo a.cab
+text 'int 6\n'
+timeout 10 cat a.cab > got &
+run build text a.cab
+wait $!
+prints 'built 24\n'
+ends 0 ''
+holds got "$six"
+file_is a.cab %F fifo
+leaves a.cab got text
+finish
+
+begin 'an archive that is a folder'
+mkdir a.cab
+text 'int 6\n'
+run build text a.cab
+prints ''
+ends 1 'cab: cannot write a.cab\n'
+leaves a.cab text
+finish
+
+begin 'a name that leaves no room for another'
+long=$(printf 'a%.0s' {1..250})
+text 'int 6\n'
+run build text "$long"
+prints 'built 24\n'
+ends 0 ''
+holds "$long" "$six"
+lines 'set int 7\n'
+run run "$long"
+ends 0 ''
+holds "$long" "$seven"
+leaves "$long" text
+finish
+
+begin 'files beside it are left alone, and after a thousand of them it is a fault'
+archive "$five"
+text 'int 6\n'
+for n in {0..998}; do
+    echo "$n" > ".a.cab.cab-$n"
+done
+run build text a.cab
+prints 'built 24\n'
+ends 0 ''
+holds a.cab "$six"
+lacks .a.cab.cab-999
+echo 999 > .a.cab.cab-999
+text 'int 7\n'
+run build text a.cab
+prints ''
+ends 1 'cab: cannot write a.cab\n'
+holds a.cab "$six"
+lines 'set int 7\n'
+run run a.cab
+prints 'ok\n'
+ends 1 'cab: cannot write a.cab\n'
+holds a.cab "$six"
+for n in {0..999}; do
+    read -r line < ".a.cab.cab-$n" && [ "$line" = "$n" ] || differs ".a.cab.cab-$n was written"
+done
+finish
+
+# numbers N: the text of a list of N numbers
+numbers() {
+    echo "list $1"
+    seq 1 "$1" | sed 's/^/int /'
+}
+
+# limited KIB OUTCOME WORD..: runs cab with a limit on the size of each file that it writes. If the outcome is `fails`, a
+# write past the limit fails, and else the signal of the limit ends cab.
+limited() {
+    {
+        (
+            ulimit -c 0
+            [ "$2" != fails ] || trap '' XFSZ
+            ulimit -f "$1"
+            exec "$cab" "${@:3}" < input > output 2> errors
+        )
+        ended=$?
+    } 2> /dev/null
+}
+
+# Archives of 5,000 numbers have 120,024 bytes, which is less than 118 KiB.
+for limit in 1 64 117; do
+    for outcome in fails 'is killed'; do
+        begin "a file-size limit of $limit KiB: a build $outcome"
+        numbers 5000 > text
+        archive "$five"
+        before=$(stat -c '%i %y' a.cab)
+        limited $limit "$outcome" build text a.cab
+        prints ''
+        if [ "$outcome" = fails ]; then
+            ends 1 'cab: cannot write a.cab\n'
+            leaves a.cab text
+        else
+            ends $((128 + $(kill -l XFSZ))) ''
+            leaves .a.cab.cab-0 a.cab text
+        fi
+        holds a.cab "$five"
+        [ "$(stat -c '%i %y' a.cab)" = "$before" ] || differs 'the old file was written'
+        limited 118 fails build text a.cab
+        prints 'built 120024\n'
+        ends 0 ''
+        finish
+
+        begin "a file-size limit of $limit KiB: a run $outcome"
+        numbers 5000 > text
+        run build text a.cab
+        cp a.cab old.cab
+        before=$(stat -c '%i %y' a.cab)
+        lines 'set int -1 #2500\n'
+        limited $limit "$outcome" run a.cab
+        if [ "$outcome" = fails ]; then
+            ends 1 'cab: cannot write a.cab\n'
+            leaves a.cab old.cab text
+        else
+            ends $((128 + $(kill -l XFSZ))) ''
+            leaves .a.cab.cab-0 a.cab old.cab text
+        fi
+        prints 'ok\n'
+        cmp -s a.cab old.cab || differs 'the old archive was written'
+        [ "$(stat -c '%i %y' a.cab)" = "$before" ] || differs 'the old file was written'
+        limited 118 fails run a.cab
+        prints 'ok\n'
+        ends 0 ''
+        lines 'get #2500\n'
+        run run a.cab
+        prints 'int -1\n'
+        finish
+    done
+done
+
+begin 'a full file system'
+mkdir full
+if mount -t tmpfs -o size=160k tmpfs full 2> /dev/null; then
+    numbers 5000 > text
+    run build text full/a.cab
+    ends 0 ''
+    cp full/a.cab old.cab
+    sed -i '2s/.*/int -1/' text
+    run build text full/a.cab
+    prints ''
+    ends 1 'cab: cannot write full/a.cab\n'
+    cmp -s full/a.cab old.cab || differs 'a build wrote the old archive'
+    lines 'set int -1 #2500\n'
+    run run full/a.cab
+    prints 'ok\n'
+    ends 1 'cab: cannot write full/a.cab\n'
+    cmp -s full/a.cab old.cab || differs 'a run wrote the old archive'
+    [ "$(ls -A full)" = a.cab ] || differs "the folder has $(ls -A full)"
+    text 'int 5\n'
+    run build text full/a.cab
+    prints 'built 24\n'
+    ends 0 ''
+    holds full/a.cab "$five"
+    umount full
+    finish
+else
+    skip 'no file system may be mounted here'
+fi
+
+# The command that runs cab for a user whom permissions bind, or nothing where this user is one.
+user=()
+if [ "$(id -u)" = 0 ]; then
+    user=(setpriv --reuid=65534 --regid=65534 --clear-groups)
+    chmod 755 "$work" "$work/files"
+fi
+
+# runs cab with the given words as that user
+run_as_user() {
+    "${user[@]}" "$cab" "$@" < input > output 2> errors
+    ended=$?
+}
+
+if [ ${#user[@]} -gt 0 ] && ! "${user[@]}" test -x "$cab" 2> /dev/null; then
+    begin 'archives in folders of another user'
+    skip 'no command runs cab as another user'
+else
+    begin 'a folder that takes no new file: an archive that may be written is written as it lies'
+    mkdir folder
+    archive "$five"
+    mv a.cab folder
+    chmod 666 folder/a.cab
+    chmod 555 folder
+    before=$(stat -c '%i %a %u' folder/a.cab)
+    text 'int 6\n'
+    chmod 644 text
+    run_as_user build text folder/a.cab
+    prints 'built 24\n'
+    ends 0 ''
+    holds folder/a.cab "$six"
+    lines 'set int 7\n'
+    run_as_user run folder/a.cab
+    prints 'ok\n'
+    ends 0 ''
+    holds folder/a.cab "$seven"
+    file_is folder/a.cab '%i %a %u' "$before"
+    chmod 444 folder/a.cab
+    run_as_user build text folder/a.cab
+    prints ''
+    ends 1 'cab: cannot write folder/a.cab\n'
+    run_as_user build text folder/new.cab
+    ends 1 'cab: cannot write folder/new.cab\n'
+    lines 'set int 6\n'
+    run_as_user run folder/a.cab
+    prints 'ok\n'
+    ends 1 'cab: cannot write folder/a.cab\n'
+    holds folder/a.cab "$seven"
+    [ "$(ls -A folder)" = a.cab ] || differs "the folder has $(ls -A folder)"
+    chmod 755 folder
+    finish
+
+    begin 'an archive that may not be written is not replaced'
+    mkdir folder
+    archive "$five"
+    mv a.cab folder
+    chmod 444 folder/a.cab
+    [ ${#user[@]} -eq 0 ] || chown 65534:65534 folder/a.cab
+    chmod 777 folder
+    text 'int 6\n'
+    chmod 644 text
+    before=$(stat -c '%i %a %u %y' folder/a.cab)
+    run_as_user build text folder/a.cab
+    prints ''
+    ends 1 'cab: cannot write folder/a.cab\n'
+    lines 'set int 6\n'
+    run_as_user run folder/a.cab
+    prints 'ok\n'
+    ends 1 'cab: cannot write folder/a.cab\n'
+    holds folder/a.cab "$five"
+    file_is folder/a.cab '%i %a %u %y' "$before"
+    [ "$(ls -A folder)" = a.cab ] || differs "the folder has $(ls -A folder)"
+    finish
+fi
+
+if [ ${#user[@]} -gt 0 ] && "${user[@]}" test -x "$cab" 2> /dev/null; then
+    begin "another user's archive keeps its owner"
+    mkdir folder
+    archive "$five"
+    mv a.cab folder
+    chmod 666 folder/a.cab
+    for mode in 777 1777; do
+        chmod $mode folder
+        before=$(stat -c '%i %a %u %g' folder/a.cab)
+        lines 'set int 6\n'
+        run_as_user run folder/a.cab
+        prints 'ok\n'
+        ends 0 ''
+        holds folder/a.cab "$six"
+        file_is folder/a.cab '%i %a %u %g' "$before"
+        [ "$(ls -A folder)" = a.cab ] || differs "the folder has $(ls -A folder)"
+    done
+    finish
+fi
+
+begin 'of two runs at once the later one is refused'
+archive "$five"
+{ many_gets; echo 'set int 7' | "$cab" run a.cab > other 2>&1; echo 'set int 6'; } | "$cab" run a.cab > output 2> errors
+ended=$?
+prints_many 'ok\n'
+ends 1 'cab: cannot write a.cab\n'
+holds a.cab "$seven"
+[ "$(cat other)" = ok ] || differs "the earlier one printed $(head -c 200 other)"
+leaves a.cab other
+finish
+
+begin 'a run on an archive that is built anew meanwhile is refused'
+archive "$five"
+text 'int 7\n'
+{ many_gets; "$cab" build text a.cab > other 2>&1; echo 'set int 6'; } | "$cab" run a.cab > output 2> errors
+ended=$?
+prints_many 'ok\n'
+ends 1 'cab: cannot write a.cab\n'
+holds a.cab "$seven"
+leaves a.cab other text
+finish
+
+begin 'a run on a file that is written meanwhile is refused'
+archive "$seven"
+mv a.cab other.cab
+archive "$five"
+touch -d '2001-02-03 04:05:06' a.cab
+{ many_gets; cat other.cab > a.cab; echo 'set int 6'; } | "$cab" run a.cab > output 2> errors
+ended=$?
+prints_many 'ok\n'
+ends 1 'cab: cannot write a.cab\n'
+holds a.cab "$seven"
+leaves a.cab other.cab
+finish
+
+begin 'questions alone are not refused then'
+archive "$five"
+{ many_gets; echo 'set int 7' | "$cab" run a.cab > other 2>&1; echo get; } | "$cab" run a.cab > output 2> errors
+ended=$?
+prints_many 'int 5\n'
+ends 0 ''
+holds a.cab "$seven"
+leaves a.cab other
+finish
+
+if command -v flock > /dev/null; then
+    begin 'a run on a file that another program has locked is refused'
+    archive "$five"
+    lines 'set int 6\n'
+    flock a.cab "$cab" run a.cab < input > output 2> errors
+    ended=$?
+    prints 'ok\n'
+    ends 1 'cab: cannot write a.cab\n'
+    holds a.cab "$five"
+    leaves a.cab
+    finish
+fi
+
+# killed_at_random WORD..: twenty times runs cab on a copy of old.cab, and kills it at a random moment. Each time the copy
+# then has the bytes of old.cab or of new.cab. The milliseconds of a run that is not killed are in $took.
+killed_at_random() {
+    local after old=0 new=0
+    for _ in {1..20}; do
+        cp old.cab a.cab
+        "$cab" "$@" < input > output 2> errors &
+        after=$((RANDOM % (took + took / 5 + 2)))
+        sleep "$((after / 1000)).$(printf %03d $((after % 1000)))"
+        {
+            kill -KILL $!
+            wait $!
+        } 2> /dev/null
+        if cmp -s a.cab old.cab; then
+            old=$((old + 1))
+        elif cmp -s a.cab new.cab; then
+            new=$((new + 1))
+        else
+            differs "after $after ms a.cab was neither old nor new"
+        fi
+    done
+    rm -f .a.cab.cab-*
+    ! ls -A | grep -q '^\.' || differs "the folder has $(ls -A)"
+    name="$name ($old times it was the old one, $new times the new one)"
+}
+
+# milliseconds WORD..: how long cab takes
+milliseconds() {
+    local begun
+    begun=$(date +%s%N)
+    run "$@"
+    took=$((($(date +%s%N) - begun) / 1000000))
+}
+
+begin 'after a killed build the archive is the old or the new one'
+numbers 60000 | sed '2s/.*/int -1/' > text
+milliseconds build text new.cab
+ends 0 ''
+numbers 60000 > other
+run build other old.cab
+ends 0 ''
+killed_at_random build text a.cab
+run build text a.cab
+ends 0 ''
+cmp -s a.cab new.cab || differs 'the archive is not built after all'
+finish
+
+begin 'after a killed run the archive is the old or the new one'
+numbers 60000 > text
+run build text old.cab
+ends 0 ''
+seq 0 19999 | sed 's/.*/set int -1 #&/' > input
+cp old.cab new.cab
+milliseconds run new.cab
+ends 0 ''
+killed_at_random run a.cab
+cp old.cab a.cab
+run run a.cab
+ends 0 ''
+cmp -s a.cab new.cab || differs 'the archive is not edited after all'
 finish
 
 for example in "$root"/examples/*/; do

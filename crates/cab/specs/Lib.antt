@@ -1,3 +1,4 @@
+pub mod Beside
 pub mod Building
 pub mod Ending
 pub mod Words

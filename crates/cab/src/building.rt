@@ -2,9 +2,11 @@
 ghost use Rattle.std.specs.Prelude.{◌≡◌, ◌<◌, IfOk, IfErr, string_bytes, string_len, codes};
 ghost use Rattle.cab.specs.Building.{Builds, RefusesText, EndsBuildBy};
 
+use crate::replacing;
 use cabinet::{Fault, read_text, to_bytes};
 use std::alloc::Global;
 use std::fs;
+use std::fs::File;
 use std::rt::Files;
 
 /// Returns the archive of the document that has a text.
@@ -32,7 +34,7 @@ fn standard_output(mut path: String) -> String
 }
 
 /// Saves the document that a text file holds as an archive file, and prints the number of bytes of the archive.
-pub fn build<R: Files + Print + AllocGlobal>(
+pub fn build<R: Files<File = File> + Print + AllocGlobal>(
     rt: &R,
     text: String,
     archive: String,
@@ -43,7 +45,7 @@ pub fn build<R: Files + Print + AllocGlobal>(
         return Err(Fault::CannotRead(text));
     };
     let image = archive_of(rt.alloc(), bytes.as_slice())?;
-    if fs::write(rt, archive.as_str(), image.as_slice()).is_err() {
+    if replacing::write(rt, archive.as_str(), image.as_slice()).is_err() {
         return Err(Fault::CannotWrite(archive));
     }
     let len = image.len();

@@ -6,10 +6,12 @@ ghost use Rattle.std.specs.Prelude.{◌≡◌, MatchResult};
 ghost use Rattle.std.specs.Process.{exit_status};
 ghost use Rattle.cabinet.specs.Reporting.{status_of};
 
+mod beside;
 mod building;
 mod command;
 mod input;
 mod output;
+mod replacing;
 mod running;
 
 use building::build;
@@ -19,6 +21,7 @@ use output::OutputStream;
 use running::run_archive;
 use std::env;
 use std::env::Args;
+use std::fs::File;
 use std::io::{ErrorKind, IsTerminal};
 use std::process::ExitCode;
 use std::rt::{Env, Files};
@@ -37,7 +40,7 @@ fn words<R: Env + AllocGlobal>(rt: &R) -> Result<Args, Fault> {
 }
 
 /// Carries out the command that the words spell.
-fn carry_out<R: Env + Files + Input + Print + AllocGlobal>(rt: &R) -> Result<(), Fault>
+fn carry_out<R: Env + Files<File = File> + Input + Print + AllocGlobal>(rt: &R) -> Result<(), Fault>
 where
     R::Reader: IsTerminal,
 {

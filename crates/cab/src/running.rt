@@ -7,12 +7,14 @@ ghost use Rattle.cab.specs.Ending.{IsFlushed, IsFirstFault, EditsArchive, EndsRu
 
 use crate::input::InputStream;
 use crate::output::OutputStream;
+use crate::replacing;
+use crate::replacing::write_back;
 use cabinet::{Count, Fault, RunCause, RunFault, check, run_in};
 use std::alloc::Global;
-use std::fs::OpenOptions;
-use std::io::{BufWriter, IsTerminal, Write};
+use std::fs::{File, Metadata};
+use std::io;
+use std::io::{BufWriter, IsTerminal};
 use std::rt::Files;
-use std::{fs, io};
 
 /// The maximum number of bytes of answers that wait to be written.
 const BUFFER: usize = 65536;
@@ -69,22 +71,18 @@ fn edits_of(outcome: &Result<Count, RunFault>) -> u64
     }
 }
 
-/// Writes an archive over the file that it was read from. Edits keep its length.
-fn write_back<R: Files>(rt: &R, path: &str, archive: &[u8]) -> io::Result<()>
-    requires { ∥ ((t : Tree) × Accepted archive.now t) ∥₁ }
-{
-    OpenOptions::new()
-        .write(true)
-        .open(rt, path)?
-        .write_all(archive)
-}
-
 /// Writes an archive back if it was edited, and returns whether all edits are in its file.
-fn keep_edits<R: Files>(rt: &R, path: &str, archive: &[u8], edits: u64) -> bool
+fn keep_edits<R: Files<File = File> + AllocGlobal>(
+    rt: &R,
+    path: &str,
+    archive: &[u8],
+    read: &Metadata,
+    edits: u64,
+) -> bool
     requires { ∥ ((t : Tree) × Accepted archive.now t) ∥₁ }
     ensures { edits ≡ 0 → result ≡ true }
 {
-    edits == 0 || write_back(rt, path, archive).is_ok()
+    edits == 0 || write_back(rt, path, archive, read).is_ok()
 }
 
 /// Returns the first fault of a run, by whether its archive was written back.
@@ -99,10 +97,11 @@ fn first_fault(outcome: Result<Count, RunFault>, is_kept: bool, path: String) ->
 }
 
 /// Carries out the lines of the standard input in the bytes of a file, if they are an archive.
-fn edit_archive<R: Files + Input + Print + AllocGlobal>(
+fn edit_archive<R: Files<File = File> + Input + Print + AllocGlobal>(
     rt: &R,
     path: String,
     archive: &mut [u8],
+    read: &Metadata,
 ) -> Result<(), Fault>
 where
     R::Reader: IsTerminal,
@@ -112,12 +111,12 @@ where
         return Err(Fault::Open(refusal));
     }
     let outcome = run_lines(rt, rt.alloc(), archive);
-    let is_kept = keep_edits(rt, path.as_str(), archive, edits_of(&outcome));
+    let is_kept = keep_edits(rt, path.as_str(), archive, read, edits_of(&outcome));
     first_fault(outcome, is_kept, path)
 }
 
 /// Carries out the lines of the standard input in an archive file, and writes the file back if an edit was done.
-pub fn run_archive<R: Files + Input + Print + AllocGlobal>(
+pub fn run_archive<R: Files<File = File> + Input + Print + AllocGlobal>(
     rt: &R,
     path: String,
 ) -> Result<(), Fault>
@@ -125,8 +124,8 @@ where
     R::Reader: IsTerminal,
     ensures { IfErr result (EndsRunBy path) }
 {
-    match fs::read(rt, path.as_str()) {
-        Ok(mut archive) => edit_archive(rt, path, archive.as_mut_slice()),
+    match replacing::read(rt, path.as_str()) {
+        Ok((mut archive, read)) => edit_archive(rt, path, archive.as_mut_slice(), &read),
         Err(_) => Err(Fault::CannotRead(path)),
     }
 }
