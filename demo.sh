@@ -16,22 +16,32 @@ proved_cab() {
     "$root/crates/cab/out/cab" "$@"
 }
 
-# show CAB NAME: builds an archive of an example's text, and carries out the example's lines in it
-show() {
-    local cab=$1 example=$root/examples/$2 archive=$folder/$2.cab
+# the bytes of NAME.cab
+bytes() {
+    echo "\$ od -A d -t x1 $1.cab"
+    od -A d -t x1 "$folder/$1.cab"
+}
+
+# built CAB NAME: builds NAME.cab of an example's text
+built() {
+    local example=$root/examples/$2
     echo
     echo "\$ cat text"
     cat "$example/text"
     echo "\$ cab build text $2.cab"
-    "$cab" build "$example/text" "$archive" < /dev/null
-    echo "\$ od -A d -t x1 $2.cab"
-    od -A d -t x1 "$archive"
+    "$1" build "$example/text" "$folder/$2.cab" < /dev/null
+    bytes "$2"
+}
+
+# answered CAB NAME: carries out an example's lines in NAME.cab
+answered() {
+    local example=$root/examples/$2
+    echo
     echo "\$ cat lines"
     cat "$example/lines"
     echo "\$ cab run $2.cab < lines"
-    "$cab" run "$archive" < "$example/lines" | tee "$folder/answers"
-    echo "\$ od -A d -t x1 $2.cab"
-    od -A d -t x1 "$archive"
+    "$1" run "$folder/$2.cab" < "$example/lines" | tee "$folder/answers"
+    bytes "$2"
     if ! cmp "$folder/answers" "$example/answers"; then
         echo "The answers differ from examples/$2/answers."
         exit 1
@@ -39,8 +49,11 @@ show() {
     echo "The answers are those of examples/$2/answers."
 }
 
-echo 'cab as it runs before any proof (rt try):'
-show unproved_cab first
+echo 'cab as it runs before any proof (rt try), first in an archive of the number 5:'
+printf '\1\0\0\0\0\0\0\0\5\0\0\0\0\0\0\0\0\0\0\0\0\0\0\0' > "$folder/first.cab"
+bytes first
+answered unproved_cab first
+built unproved_cab first
 
 echo
 echo 'Now cab is proved and built. The first time this may take an hour.'
@@ -52,5 +65,6 @@ fi
 grep '^logic=proved' "$folder/log" | tail -n 1 | cut -d ' ' -f 1-2 || echo 'proved before, and nothing has changed since'
 
 for name in first list catalogue; do
-    show proved_cab "$name"
+    built proved_cab "$name"
+    answered proved_cab "$name"
 done
