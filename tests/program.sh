@@ -31,6 +31,8 @@ twenty=010000000000000014000000000000000000000000000000
 two=05000000ccffffff02000000000000000000000000000000
 # an option of the node that ends where it begins
 some=0400000001000000e0ffffff000000000000000000000000
+# a list of it
+one=05000000e4ffffff01000000000000000000000000000000
 none=040000000000000000000000000000000000000000000000
 # a list of two shared texts, `hello world!` twice, and the empty text twice
 twice=68656c6c6f20776f726c64210000000003000000ecffffff0c000000000000000000000000000000
@@ -489,22 +491,44 @@ ends 0 ''
 holds a.cab 01aaaaaaaaaaaaaa0600000000000000aaaaaaaaaaaaaaaa
 finish
 
-# nests CAUSE N: N options, one in the other, around a number
+# nests KIND NODE CAUSE N: N containers, one in the other, around a number, opened with a stack of 1 MiB
 nests() {
-    begin "$2 options are refused: $1"
-    archive "$five$(printf "$some%.0s" $(seq "$2"))"
+    begin "$4 $1 are refused: $3"
+    archive "$five$(printf "$2%.0s" $(seq "$4"))"
     cp a.cab before.cab
     lines 'set int 6\n'
-    run run a.cab
+    (ulimit -s 1024 && "$cab" run a.cab < input > output 2> errors)
+    ended=$?
     prints ''
-    ends 1 "cab: open: $1\n"
+    ends 1 "cab: open: $3\n"
     cmp -s a.cab before.cab || differs 'a.cab was written'
     finish
 }
 
-nests TooDeep 65
-nests TooDeep 2198
-nests Access 2199
+for kind in "options $some" "lists $one"; do
+    nests $kind TooDeep 65
+    nests $kind TooDeep 2198
+    nests $kind Access 2199
+done
+
+begin 'behind 65 options a tag that is none is told first'
+archive "${five/01/09}$(printf "$some%.0s" {1..65})"
+run run a.cab
+prints ''
+ends 1 'cab: open: Access\n'
+finish
+
+begin 'an option of nothing in 63 lists, and in 64'
+archive "$none$(printf "$one%.0s" {1..63})"
+lines "get$(printf ' #0%.0s' {1..63})\n"
+run run a.cab
+prints 'none\n'
+ends 0 ''
+archive "$none$(printf "$one%.0s" {1..64})"
+run run a.cab
+prints ''
+ends 1 'cab: open: TooDeep\n'
+finish
 
 # of the first shared texts one reaches into the root, two lead to one position with other lengths, also where one is
 # empty, and one is not UTF-8; of the last, both options lead to one node

@@ -1,3 +1,4 @@
+mod Answering
 pub mod Keyed
 pub mod Listed
 mod ReadBack

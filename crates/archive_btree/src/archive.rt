@@ -28,9 +28,10 @@ impl<K: Archive + Ord, V: Archive, const E: usize> Archive for OwnedBTreeMap<K, 
         requires { CanResolve (seen_as (λ m. m.map.entries)
             (entries_spelling E K.Archived.shape V.Archived.shape K.spelling V.spelling))
             (tree E K.Archived.shape V.Archived.shape) self.now resolver out.out.now out.start out.pos }
-        ensures { Resolves (seen_as (λ m. m.map.entries)
-            (entries_spelling E K.Archived.shape V.Archived.shape K.spelling V.spelling))
-            self.now resolver out.entry.pos out.entry.start out.entry.out.now out.exit.0.now result }
+        ensures { Resolves
+            (seen_as (λ m. m.map.entries) (entries_spelling E K.Archived.shape V.Archived.shape K.spelling V.spelling))
+            (tree E K.Archived.shape V.Archived.shape) self.now resolver out.entry.pos out.entry.start
+            out.entry.out.now out.exit.0.now result }
     {
         let Place {
             out,

@@ -33,9 +33,10 @@ impl<K: Archive + Ord, const E: usize> Archive for OwnedBTreeSet<K, E> {
             (entries_spelling E K.Archived.shape (tuple no_shapes) K.spelling unit_spelling))
             (tree E K.Archived.shape (tuple no_shapes)) self.now resolver out.out.now
             out.start out.pos }
-        ensures { Resolves (seen_as (λ s. key_entries s.set.keys)
-            (entries_spelling E K.Archived.shape (tuple no_shapes) K.spelling unit_spelling))
-            self.now resolver out.entry.pos out.entry.start out.entry.out.now out.exit.0.now result }
+        ensures { Resolves
+            (seen_as (λ s. key_entries s.set.keys) (entries_spelling E K.Archived.shape (tuple no_shapes) K.spelling unit_spelling))
+            (tree E K.Archived.shape (tuple no_shapes)) self.now resolver out.entry.pos out.entry.start
+            out.entry.out.now out.exit.0.now result }
     {
         let Place {
             out,

@@ -1,15 +1,16 @@
 //! Reading archived maps back as maps of std.
-ghost use Rattle.std.specs.Prelude.{length};
+ghost use Rattle.std.specs.Prelude.{length, IfOk};
 ghost use Rattle.archive_shape.specs.ShapeLayout.Shape.Shape.{tree};
 ghost use Rattle.archive_forms_writing.specs.FormsValues.Parts.{HasValue, both};
 ghost use Rattle.archive_forms.specs.Deserializing.{Deserializes, DeserializesBy};
+ghost use Rattle.archive_forms.specs.Keeping.{both_of};
 ghost use Rattle.archive_forms.specs.Steps.{StepTakes, StepReads};
 ghost use Rattle.archive_btree.specs.ReadBack.{reads_map};
 ghost use Rattle.archive_btree_walking.specs.Maps.{HasMap};
 
 use crate::OwnedBTreeMap;
 use archive_btree_maps::ArchivedBTreeMap;
-use archive_forms::{Deserialize, ReadBack, deserialize_element};
+use archive_forms::{Deserialize, Deserializer, ReadBack, deserialize_element};
 use archive_forms_writing::Archive;
 use archive_shape::{Error, Ref};
 use std::alloc::Global;
@@ -29,7 +30,7 @@ pub fn deserialize_map_each<
     V: Archive + Drop,
     A: ReadBack<K>,
     B: ReadBack<V>,
-    D,
+    D: Deserializer,
     F: Fn(&mut D, usize) -> Result<(K, PhantomData<K::Archived>), Error>,
     G: Fn(&mut D, usize) -> Result<(V, PhantomData<V::Archived>), Error>,
     const E: usize,
@@ -41,14 +42,16 @@ pub fn deserialize_map_each<
     read_value: G,
 ) -> Result<OwnedBTreeMap<K, V, E>, Error>
     requires there { HasMap E A.shape B.shape A.knows B.knows this }
-    requires takes_key { StepTakes F.Fn read_key A.shape A.knows this.bytes.now
+    requires kept { D.is_of deserializer.old this.bytes.now }
+    requires takes_key { StepTakes F.Fn read_key A.shape A.knows D.is_of this.bytes.now
         (length this.bytes.now) }
-    requires reads_key { StepReads F.Fn read_key A.shape A.knows this.bytes.now (λ q. q.0) A.reads }
-    requires takes_value { StepTakes G.Fn read_value B.shape B.knows this.bytes.now
+    requires reads_key { StepReads F.Fn read_key A.shape A.knows D.is_of this.bytes.now (λ q. q.0) A.reads }
+    requires takes_value { StepTakes G.Fn read_value B.shape B.knows D.is_of this.bytes.now
         (length this.bytes.now) }
-    requires reads_value { StepReads G.Fn read_value B.shape B.knows this.bytes.now (λ q. q.0) B.reads }
-    ensures { Deserializes (reads_map K.cmp (λ m. m.map.entries) A.reads B.reads)
+    requires reads_value { StepReads G.Fn read_value B.shape B.knows D.is_of this.bytes.now (λ q. q.0) B.reads }
+    ensures value { Deserializes (reads_map K.cmp (λ m. m.map.entries) A.reads B.reads)
         (tree E A.shape B.shape) (both A.knows B.knows) this.entry.bytes.now this.entry.pos result }
+    ensures keeps { IfOk result (λ _. D.is_of deserializer.new this.entry.bytes.now) }
 {
     let mut map = BTreeMap::new(alloc);
     let mut entries = ArchivedBTreeMap::iter(this);
@@ -76,29 +79,34 @@ impl<K: Ord, V, A: ReadBack<K>, B: ReadBack<V>, const E: usize> ReadBack<OwnedBT
 impl<
     K: Archive + Ord + Drop,
     V: Archive + Drop,
-    D,
-    A: Deserialize<K, D>,
-    B: Deserialize<V, D>,
+    A: Deserialize<K>,
+    B: Deserialize<V>,
     const E: usize,
-> Deserialize<OwnedBTreeMap<K, V, E>, D> for ArchivedBTreeMap<A, B, E> {
+> Deserialize<OwnedBTreeMap<K, V, E>> for ArchivedBTreeMap<A, B, E> {
+    type Pool = (A::Pool, B::Pool);
+
     fn deserialize(
         this: &Ref<'_, ArchivedBTreeMap<A, B, E>>,
         alloc: Global,
-        deserializer: &mut D,
+        deserializer: &mut (A::Pool, B::Pool),
     ) -> Result<OwnedBTreeMap<K, V, E>, Error> {
         let bytes = this.bytes;
-        deserialize_map_each::<K, V, A, B, D, _, _, E>(
+        deserialize_map_each::<K, V, A, B, (A::Pool, B::Pool), _, _, E>(
             *this,
             alloc,
             deserializer,
-            |d: &mut D, pos: usize| -> Result<(K, PhantomData<K::Archived>), Error>
-                requires { HasValue A.shape A.knows bytes.now pos }
-                ensures { DeserializesBy A.reads A.shape A.knows bytes.entry.now pos (λ q. q.0) result }
-            { deserialize_element::<K, A, D>(bytes, pos, alloc, d) },
-            |d: &mut D, pos: usize| -> Result<(V, PhantomData<V::Archived>), Error>
-                requires { HasValue B.shape B.knows bytes.now pos }
-                ensures { DeserializesBy B.reads B.shape B.knows bytes.entry.now pos (λ q. q.0) result }
-            { deserialize_element::<V, B, D>(bytes, pos, alloc, d) },
+            |d: &mut (A::Pool, B::Pool), pos: usize| -> Result<(K, PhantomData<K::Archived>), Error>
+                requires there { HasValue A.shape A.knows bytes.now pos }
+                requires kept { both_of A.Pool.is_of B.Pool.is_of d.old bytes.now }
+                ensures value { DeserializesBy A.reads A.shape A.knows bytes.entry.now pos (λ q. q.0) result }
+                ensures keeps { IfOk result (λ _. both_of A.Pool.is_of B.Pool.is_of d.new bytes.entry.now) }
+            { deserialize_element::<K, A>(bytes, pos, alloc, &mut d.0) },
+            |d: &mut (A::Pool, B::Pool), pos: usize| -> Result<(V, PhantomData<V::Archived>), Error>
+                requires there { HasValue B.shape B.knows bytes.now pos }
+                requires kept { both_of A.Pool.is_of B.Pool.is_of d.old bytes.now }
+                ensures value { DeserializesBy B.reads B.shape B.knows bytes.entry.now pos (λ q. q.0) result }
+                ensures keeps { IfOk result (λ _. both_of A.Pool.is_of B.Pool.is_of d.new bytes.entry.now) }
+            { deserialize_element::<V, B>(bytes, pos, alloc, &mut d.1) },
         )
     }
 }

@@ -19,8 +19,9 @@ pub use archive_btree_layout as layout;
 pub use archive_btree_maps as maps;
 pub use archive_btree_maps::map::Iter;
 pub use archive_btree_maps::{
-    ArchivedBTreeMap, ArchivedBTreeSet, BTreeMapResolver, BTreeSetResolver, IterSeal, Keys, Range,
-    RangeSeal, Values, ValuesSeal, eq_btree_map, eq_btree_set, eq_map,
+    ArchivedBTreeMap, ArchivedBTreeSet, BTreeMapResolver, BTreeSetResolver, InvalidLength,
+    IterSeal, Keys, Range, RangeSeal, Values, ValuesSeal, eq_btree_map, eq_btree_map_with,
+    eq_btree_set, eq_map,
 };
 pub use archive_btree_nodes as nodes;
 pub use archive_btree_spelling as spelling;

@@ -1,5 +1,5 @@
 //! Reading archived sets back as sets of std.
-ghost use Rattle.std.specs.Prelude.{length, ⊤};
+ghost use Rattle.std.specs.Prelude.{length, IfOk, ⊤};
 ghost use Rattle.archive_shape.specs.ShapeLayout.Shape.Shape.{tree, tuple};
 ghost use Rattle.archive_shape.specs.ShapeLayout.Shape.Shapes.{no_shapes};
 ghost use Rattle.archive_forms_laws.specs.Fields.{unit_spelling};
@@ -13,7 +13,7 @@ ghost use Rattle.archive_btree.specs.ReadBack.{reads_map};
 
 use crate::OwnedBTreeSet;
 use archive_btree_maps::{ArchivedBTreeMap, ArchivedBTreeSet};
-use archive_forms::{Deserialize, ReadBack, deserialize_element};
+use archive_forms::{Deserialize, Deserializer, ReadBack, deserialize_element};
 use archive_forms_writing::Archive;
 use archive_shape::{Error, Ref};
 use std::alloc::Global;
@@ -30,7 +30,7 @@ use std::marker::PhantomData;
 pub fn deserialize_set_each<
     K: Archive + Ord + Drop,
     A: ReadBack<K>,
-    D,
+    D: Deserializer,
     F: Fn(&mut D, usize) -> Result<(K, PhantomData<K::Archived>), Error>,
     const E: usize,
 >(
@@ -40,12 +40,14 @@ pub fn deserialize_set_each<
     read_key: F,
 ) -> Result<OwnedBTreeSet<K, E>, Error>
     requires there { HasSet E A.shape A.knows this.bytes.now this.pos }
-    requires takes_key { StepTakes F.Fn read_key A.shape A.knows this.bytes.now
+    requires kept { D.is_of deserializer.old this.bytes.now }
+    requires takes_key { StepTakes F.Fn read_key A.shape A.knows D.is_of this.bytes.now
         (length this.bytes.now) }
-    requires reads_key { StepReads F.Fn read_key A.shape A.knows this.bytes.now (λ q. q.0) A.reads }
-    ensures { Deserializes (reads_map K.cmp (λ s. key_entries s.set.keys) A.reads
+    requires reads_key { StepReads F.Fn read_key A.shape A.knows D.is_of this.bytes.now (λ q. q.0) A.reads }
+    ensures value { Deserializes (reads_map K.cmp (λ s. key_entries s.set.keys) A.reads
         (reads_as unit_spelling)) (tree E A.shape (tuple no_shapes)) (both A.knows (λ _. ⊤))
         this.entry.bytes.now this.entry.pos result }
+    ensures keeps { IfOk result (λ _. D.is_of deserializer.new this.entry.bytes.now) }
 {
     let mut set = BTreeSet::new(alloc);
     let map: Ref<'_, ArchivedBTreeMap<A, (), E>> = Ref {
@@ -71,24 +73,26 @@ impl<K: Ord, A: ReadBack<K>, const E: usize> ReadBack<OwnedBTreeSet<K, E>>
     ghost reads = { reads_map K.cmp (λ s. key_entries s.set.keys) A.reads (reads_as unit_spelling) };
 }
 
-impl<K: Archive + Ord + Drop, D, A: Deserialize<K, D>, const E: usize> Deserialize<
-    OwnedBTreeSet<K, E>,
-    D,
-> for ArchivedBTreeSet<A, E> {
+impl<K: Archive + Ord + Drop, A: Deserialize<K>, const E: usize> Deserialize<OwnedBTreeSet<K, E>>
+    for ArchivedBTreeSet<A, E> {
+    type Pool = A::Pool;
+
     fn deserialize(
         this: &Ref<'_, ArchivedBTreeSet<A, E>>,
         alloc: Global,
-        deserializer: &mut D,
+        deserializer: &mut A::Pool,
     ) -> Result<OwnedBTreeSet<K, E>, Error> {
         let bytes = this.bytes;
-        deserialize_set_each::<K, A, D, _, E>(
+        deserialize_set_each::<K, A, A::Pool, _, E>(
             *this,
             alloc,
             deserializer,
-            |d: &mut D, pos: usize| -> Result<(K, PhantomData<K::Archived>), Error>
-                requires { HasValue A.shape A.knows bytes.now pos }
-                ensures { DeserializesBy A.reads A.shape A.knows bytes.entry.now pos (λ q. q.0) result }
-            { deserialize_element::<K, A, D>(bytes, pos, alloc, d) },
+            |d: &mut A::Pool, pos: usize| -> Result<(K, PhantomData<K::Archived>), Error>
+                requires there { HasValue A.shape A.knows bytes.now pos }
+                requires kept { A.Pool.is_of d.old bytes.now }
+                ensures value { DeserializesBy A.reads A.shape A.knows bytes.entry.now pos (λ q. q.0) result }
+                ensures keeps { IfOk result (λ _. A.Pool.is_of d.new bytes.entry.now) }
+            { deserialize_element::<K, A>(bytes, pos, alloc, d) },
         )
     }
 }

@@ -1,35 +1,24 @@
 -- Calls of a closure with the keys of a map and seals of their values.
 use denote.Ref.{MutBor}
-use Rattle.std.specs.Prelude.{◌≡◌, ℕ, List, [], ◌∷◌, length, Option, Some, None}
+use Rattle.std.specs.Prelude.{◌≡◌, ℕ, List, [], ◌∷◌, Option, Some, None}
 use Rattle.std.specs.declared.ops.ControlFlow.{ControlFlow}
 use Rattle.std.specs.declared.ops.ControlFlow.TheVariants.{Continue, Break}
 use Rattle.archive_shape_layout.specs.Shape.{Shape}
 use Rattle.archive_shape_layout.specs.Content.{Names}
-use Rattle.archive_shape.specs.Bytes.{overwrite}
+use Rattle.archive_forms_values.specs.Loans.{MayCallLent, LeavesLent}
 use Rattle.archive_shape.specs.declared.references.refs.Ref.{Ref}
 use Rattle.archive_shape.specs.declared.references.own_seal.OwnSeal.{OwnSeal}
 use Rattle.archive_btree_nodes.specs.BtreeLayout.Reading.{Place}
 use Rattle.archive_forms_values.specs.Parts.{HasValue}
-use Rattle.archive_btree_walking.specs.Seals.{IsLent}
 
 -- in any state that it may have reached, the closure may be called with the key and the value of an entry
 abbrev pub MayCallSealed : {F K V : Type 0} → (F → Ref K → MutBor (OwnSeal V) → Type 0) → Shape → (Names → Type 0) → ℕ → List ℕ → Place → Type 0
-MayCallSealed {F} {K} {V} pre k knows size bytes e =
-    (f : F) (key : Ref K) (value : MutBor (OwnSeal V)) → HasValue k knows key.bytes.now key.pos → IsLent size bytes e key value.now → pre f key value
+MayCallSealed {F} pre k knows size bytes e = (f : F) → MayCallLent size bytes e.key e.value (λ key. HasValue k knows key.bytes.now key.pos) (pre f)
 
 module _ {F B K V : Type 0} (step : F → Ref K → MutBor (OwnSeal V) → ControlFlow B (Unit {0}) → MutBor (OwnSeal V) → F → Type 0) (size : ℕ) where
-  -- a call is lent the key and the value of an entry of these bytes, has this result, and leaves other bytes, which
-  -- have another value of the same length in its place: the one that the seal has, if the call left the seal there
-  pub record CallsSealed (f : F) (bytes : List ℕ) (e : Place) (answer : ControlFlow B (Unit {0})) (g : F) (out : List ℕ) : Type 0 where
-    pub key : Ref K
-    pub value : MutBor (OwnSeal V)
-    pub left : MutBor (OwnSeal V)
-    pub own : List ℕ
-    pub lent : IsLent size bytes e key value.now
-    pub calls : step f key value answer left g
-    pub as_long : length own ≡ size
-    pub leaves : left.now.own.ghost_name ≡ value.now.own.ghost_name → own ≡ left.now.own.now
-    pub is : out ≡ overwrite bytes e.value own
+  -- a call is lent the key and the value of an entry of these bytes, has this result, and leaves other bytes
+  abbrev pub CallsSealed : F → List ℕ → Place → ControlFlow B (Unit {0}) → F → List ℕ → Type 0
+  CallsSealed f bytes e answer g out = LeavesLent size bytes e.key e.value (λ key value left. step f key value answer left g) out
 
   -- the calls at these entries, in order, up to the first that breaks: the result is the value that it breaks with, and
   -- the bytes are as the calls leave them

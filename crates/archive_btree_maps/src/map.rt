@@ -15,8 +15,10 @@ mod walking;
 pub use archive_btree_walking::{
     Iter, IterSeal, Keys, Range, RangeSeal, Values, ValuesSeal, map_is_read, one_map,
 };
+/// The error of a leaf that says more entries than fit in a node.
+pub use archive_shape::Error::NodeLength as InvalidLength;
 pub use comparing::eq_map;
 pub use laws::{equal_maps_are_hashed_alike, map_equalities_are_equivalences};
 pub use map::ArchivedBTreeMap;
 pub use resolving::BTreeMapResolver;
-pub use std_map::eq_btree_map;
+pub use std_map::{eq_btree_map, eq_btree_map_with};

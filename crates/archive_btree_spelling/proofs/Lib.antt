@@ -13,6 +13,7 @@ pub mod Samples
 pub mod Shares
 pub mod Shown
 pub mod Slots
+pub mod Spelled
 pub mod Standing
 pub mod Trees
 pub mod Weaving

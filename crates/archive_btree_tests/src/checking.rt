@@ -1,9 +1,9 @@
 //! Tests of the search trees that are refused, and of the errors.
 
 use crate::archives::{EMPTY, EMPTY_LEAF, Numbers, ONE_PAIR, SIX_PAIRS, bytes_of};
-use archive_btree_maps::ArchivedBTreeMap;
-use archive_core_validation::access;
-use archive_shape::{ArchivedNonZeroU32, ArchivedU32, Error};
+use archive_btree_maps::{ArchivedBTreeMap, InvalidLength};
+use archive_core_validation::{ArchiveValidator, access};
+use archive_shape::{ArchivedNonZeroU32, ArchivedU32, Error, Ref};
 use std::alloc::Global;
 use std::test::Fail;
 
@@ -62,4 +62,28 @@ fn entries_are_checked(rt: HostRuntime) -> Result<(), Fail> {
         ).is_err()
     );
     Ok(())
+}
+
+/// Verifies the map at the end of words, of numbers without 0 to numbers.
+fn verifies(alloc: Global, words: &[u32; 14]) -> Result<(), Error> {
+    let bytes = bytes_of(alloc, words)?;
+    let bytes = bytes.as_slice();
+    if bytes.len() != 56 {
+        return Err(Error::BufferOverflow);
+    }
+    let mut context = ArchiveValidator::new(alloc, bytes);
+    let map: Ref<'_, ArchivedBTreeMap<ArchivedNonZeroU32, ArchivedU32, 5>> = Ref::new(bytes, 48);
+    ArchivedBTreeMap::verify(map, alloc, &mut context)
+}
+
+#[test]
+fn search_trees_are_verified(rt: HostRuntime) {
+    let mut words = ONE_PAIR;
+    assert!(rt; verifies(rt.alloc(), &words) == Ok(()));
+    words[1] = 0;
+    assert!(rt; verifies(rt.alloc(), &words) == Err(Error::InvalidTag));
+    words[11] = 6;
+    assert!(rt; verifies(rt.alloc(), &words) == Err(InvalidLength { len: 6, maximum: 5 }));
+    words[13] = 0;
+    assert!(rt; verifies(rt.alloc(), &words) == Ok(()));
 }

@@ -1,9 +1,14 @@
 //! Tests of comparisons of archived maps with others, and with those of std.
+ghost use Rattle.std.specs.Prelude.{false, ⊤};
+ghost use Rattle.std.specs.Int.{w32};
+ghost use Rattle.archive_shape.specs.ShapeLayout.Shape.Shape.{number};
+ghost use Rattle.archive_forms_values.specs.Parts.{HasValue};
 
 use crate::archives::{EMPTY, EMPTY_LEAF, Numbers, ONE_PAIR, SIX_PAIRS, bytes_of, root_of};
-use archive_btree_maps::{eq_btree_map, eq_map};
+use archive_btree_maps::{eq_btree_map, eq_btree_map_with, eq_map};
 use archive_forms_comparing::{ArchivedEq, ArchivedHash};
-use archive_shape::Error;
+use archive_forms_values::native_of;
+use archive_shape::{ArchivedU32, Error, Ref};
 use std::alloc::Global;
 use std::collections::BTreeMap;
 use std::hash::{DefaultHasher, Hasher};
@@ -42,6 +47,30 @@ fn maps_of_other_pairs_are_not_equal(rt: HostRuntime) {
         assert!(rt; equals(rt.alloc(), &ONE_PAIR, pairs) == Ok(false));
     }
     assert!(rt; equals(rt.alloc(), &EMPTY, &[(7, 11)]) == Ok(false));
+}
+
+/// Checks whether an archived map has the same pairs as one of std, whose values are wider numbers.
+fn equals_wider(alloc: Global, words: &[u32], pairs: &[(u32, u64)]) -> Result<bool, Error> {
+    let bytes = bytes_of(alloc, words)?;
+    let root = root_of::<Numbers>(alloc, bytes.as_slice())?;
+    let mut other = BTreeMap::new(alloc);
+    for (key, value) in pairs {
+        if other.insert(*key, *value).is_err() {
+            return Err(Error::OutOfMemory);
+        }
+    }
+    let same = |value: Ref<'_, ArchivedU32>, other: &u64| -> bool
+        requires { HasValue (number w32 false) (λ _. ⊤) value.bytes.now value.pos }
+    { u64::from(native_of(value)) == *other };
+    Ok(eq_btree_map_with(&root, &other, &same))
+}
+
+#[test]
+fn values_that_are_no_keys_are_compared(rt: HostRuntime) {
+    assert!(rt; equals_wider(rt.alloc(), &ONE_PAIR, &[(7, 11)]) == Ok(true));
+    assert!(rt; equals_wider(rt.alloc(), &ONE_PAIR, &[(7, 12)]) == Ok(false));
+    assert!(rt; equals_wider(rt.alloc(), &ONE_PAIR, &[(8, 11)]) == Ok(false));
+    assert!(rt; equals_wider(rt.alloc(), &EMPTY, &[(7, 11)]) == Ok(false));
 }
 
 /// Returns whether two archived maps are equal, by either call, and whether they are hashed alike.

@@ -45,7 +45,7 @@ fn is_read_back_beside_a_list(alloc: Global) -> Result<bool, Error> {
     let pair: Pair = (lists(alloc)?, Vec::new(alloc));
     let bytes = archive_of(alloc, &pair)?;
     let root = root_of::<ArchivedTuple2<ArchivedLists, ArchivedList>>(alloc, bytes.as_slice())?;
-    let read: Pair = ArchivedTuple2::deserialize(&root, alloc, &mut ())?;
+    let read: Pair = ArchivedTuple2::deserialize(&root, alloc, &mut (((), ()), ()))?;
     Ok(read.0.map == pair.0.map && read.1.is_empty())
 }
 

@@ -156,6 +156,26 @@ fn fill_values<K: Portable, V: Portable, const E: usize>(
     Ok(())
 }
 
+/// Fills the own bytes of each value with a byte, in calls that the values are lent to, and appends its position and the
+/// number of values left after it to `met`.
+fn visit_values<K: Portable, V: Portable, const E: usize>(
+    map: Seal<'_, ArchivedBTreeMap<K, V, E>>,
+    byte: u8,
+    met: &mut Vec<(usize, usize)>,
+) -> Result<(), AllocError>
+    requires { HasValue (tree E K.shape V.shape) (both K.knows V.knows) map.bytes.now map.pos }
+{
+    let mut fill = |value: &mut OwnSeal<'_, V>| -> usize {
+        value.own.fill(byte);
+        value.pos()
+    };
+    let mut values = ArchivedBTreeMap::values_seal(map);
+    while let Some(at) = values.visit_next(&mut fill) {
+        met.push((at, values.len()))?;
+    }
+    Ok(())
+}
+
 /// Returns what `fill_values` appends for a map, and the values after each is filled with a byte.
 fn filled(
     alloc: Global,
@@ -178,6 +198,35 @@ fn cursors_pass_each_value_while_the_values_are_written(rt: HostRuntime) -> Resu
     let (met, values) = filled(rt.alloc(), &FOUR, 7)?;
     assert!(rt; met.as_slice() == [(44, 3), (48, 2), (52, 1), (56, 0)].as_slice());
     assert!(rt; values == [Some(0x0707_0707); 4]);
+    Ok(())
+}
+
+/// Returns what `visit_values` appends for a map, and whether the bytes are then those words.
+fn visited(
+    alloc: Global,
+    words: &[u32],
+    byte: u8,
+    expected: &[u32],
+) -> Result<(Vec<(usize, usize)>, bool), Error> {
+    let mut bytes = bytes_of(alloc, words)?;
+    let pos = root_of::<Texts>(alloc, bytes.as_slice())?.pos();
+    let mut met = Vec::new(alloc);
+    visit_values(
+        Seal::<Texts>::new(bytes.as_mut_slice(), pos),
+        byte,
+        &mut met,
+    )?;
+    let same = bytes.as_slice() == bytes_of(alloc, expected)?.as_slice();
+    Ok((met, same))
+}
+
+#[test]
+fn calls_that_values_are_lent_to_write_each_value(rt: HostRuntime) -> Result<(), Fail> {
+    let mut expected = FOUR;
+    expected[11..15].fill(0x0707_0707);
+    let (met, same) = visited(rt.alloc(), &FOUR, 7, &expected)?;
+    assert!(rt; met.as_slice() == [(44, 3), (48, 2), (52, 1), (56, 0)].as_slice());
+    assert!(rt; same);
     Ok(())
 }
 

@@ -53,7 +53,7 @@ fn archived(alloc: Global, count: i32) -> Result<(usize, usize, bool), Error> {
     let owned = decimals(alloc, count)?;
     let bytes = archive_of(alloc, &owned)?;
     let root = root_of::<ArchivedNumbers>(alloc, bytes.as_slice())?;
-    let read: Numbers = ArchivedBTreeMap::deserialize(&root, alloc, &mut ())?;
+    let read: Numbers = ArchivedBTreeMap::deserialize(&root, alloc, &mut ((), ()))?;
     Ok((
         ArchivedBTreeMap::len(root),
         ArchivedBTreeMap::keys(root)
@@ -101,7 +101,11 @@ fn numbers_without_values(alloc: Global) -> Result<bool, Error> {
     let owned: OwnedBTreeMap<u32, (), 5> = OwnedBTreeMap { map };
     let bytes = archive_of(alloc, &owned)?;
     let root = root_of::<ArchivedBTreeMap<ArchivedU32, (), 5>>(alloc, bytes.as_slice())?;
-    let read: OwnedBTreeMap<u32, (), 5> = ArchivedBTreeMap::deserialize(&root, alloc, &mut ())?;
+    let read: OwnedBTreeMap<u32, (), 5> = ArchivedBTreeMap::deserialize(
+        &root,
+        alloc,
+        &mut ((), ()),
+    )?;
     Ok(read.map == owned.map)
 }
 
@@ -114,7 +118,11 @@ fn value_without_key(alloc: Global) -> Result<bool, Error> {
     let owned: OwnedBTreeMap<(), u32, 5> = OwnedBTreeMap { map };
     let bytes = archive_of(alloc, &owned)?;
     let root = root_of::<ArchivedBTreeMap<(), ArchivedU32, 5>>(alloc, bytes.as_slice())?;
-    let read: OwnedBTreeMap<(), u32, 5> = ArchivedBTreeMap::deserialize(&root, alloc, &mut ())?;
+    let read: OwnedBTreeMap<(), u32, 5> = ArchivedBTreeMap::deserialize(
+        &root,
+        alloc,
+        &mut ((), ()),
+    )?;
     Ok(read.map == owned.map)
 }
 

@@ -84,7 +84,11 @@ fn is_read_back(alloc: Global, owned: &OwnedBTreeMap<String, u32, 5>) -> Result<
         alloc,
         bytes.as_slice(),
     )?;
-    let read: OwnedBTreeMap<String, u32, 5> = ArchivedBTreeMap::deserialize(&root, alloc, &mut ())?;
+    let read: OwnedBTreeMap<String, u32, 5> = ArchivedBTreeMap::deserialize(
+        &root,
+        alloc,
+        &mut ((), ()),
+    )?;
     Ok(read.map == owned.map)
 }
 

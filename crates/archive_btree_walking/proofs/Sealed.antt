@@ -1,4 +1,5 @@
 -- What remains of a map whose values are written over.
+use denote.Ref.{MutBor}
 use Rattle.std.proofs.Common.{◌≡◌, ◌∙◌, ℕ, ◌+◌, ◌≤◌, List, [], ◌∷◌, ◌++◌, length, take, Option, Some, None, IfSome, MatchOption, Contains, All, inl, inr, refl, ap, sym, subst, arith, append_assoc}
 use Rattle.std.specs.Prelude.{slice_index}
 use Rattle.std.specs.Option.{option_map}
@@ -11,9 +12,9 @@ use Rattle.archive_shape.specs.ShapeLayout.Shape.Shape.{tree}
 use Rattle.archive_shape.specs.ShapeLayout.Value.{Value, Values}
 use Rattle.archive_shape.specs.ShapeLayout.Value.Values.{no_values, more_values}
 use Rattle.archive_shape.specs.ShapeLayout.Content.{Names, members}
-use Rattle.archive_shape.specs.declared.references.refs.Ref.{Ref}
 use Rattle.archive_shape.specs.declared.references.own_seal.OwnSeal.{OwnSeal}
 use Rattle.archive_shape.specs.Bytes.{overwrite}
+use Rattle.archive_forms_values.specs.Loans.{LeavesOwn}
 use Rattle.archive_shape.proofs.Written.{length-overwrite, byte_before}
 use Rattle.archive_btree_nodes.specs.BtreeLayout.Reading.{Place, HasNode}
 use Rattle.archive_btree_nodes.specs.BtreeLayout.Tree.{Tree, items}
@@ -33,7 +34,6 @@ use Rattle.archive_forms_values.specs.Parts.{HasValue, both}
 use Rattle.archive_btree_walking.specs.Maps.{IsMapAt}
 use Rattle.archive_btree_walking.specs.Maps.IsMapAt.{has_none, has_root}
 use Rattle.archive_btree_walking.specs.Lookups.{Finds}
-use Rattle.archive_btree_walking.specs.Seals.{IsLent}
 use Rattle.archive_btree_walking.specs.Walks.{WalksIn, BegunMap, IsWritten, GoesOn}
 use Rattle.archive_btree_walking.proofs.Read.{held_under}
 use Rattle.archive_btree_walking.proofs.Refs.{finds_some}
@@ -156,6 +156,12 @@ module _ {most : ℕ} {k v : Shape} {knows others : Names → Type 0} (m : Begun
         All-head P e (rest ++ among.after)
         (subst (λ s. All P (s ++ among.after)) is (all_back P among.before (es ++ among.after) (subst (All P) among.is all)))
 
+    -- a call that its value is lent to leaves bytes that differ at most in values
+    pub visited_written : {V : Type 0} {calls : MutBor (OwnSeal V) → MutBor (OwnSeal V) → Type 0} (bytes out : List ℕ) (size : ℕ) → size ≤ size_of v → e.value + size ≤ length bytes
+        → LeavesOwn size bytes e.value calls out → IsWritten m bytes → IsWritten m out
+    visited_written bytes out size small fits h written =
+        subst (IsWritten m) (sym h.is) (value_written v (items m.search_tree) e m.bytes bytes h.own first_among (omega (arith, h.as_long, small)) (omega (arith, h.as_long, fits)) written)
+
 -- ---- what calls return
 
 pub matched_some : {A : Type 0} (P : Type 0) {Q R : A → Type 0} (o : Option A) → MatchOption o P Q → ((x : A) → Q x → R x) → IfSome o R
@@ -168,11 +174,6 @@ pub found_entry : (holds : Place → Type 0) (places : List Place) (o : Option E
 found_entry holds places o e h is =
     let f = finds_some (λ e. e) holds places o e (place_of e) h is refl in
     (subst (Contains places) (sym f.3) f.1, subst holds (sym f.3) f.2)
-
--- the key that is lent lies in the bytes before the value
-pub lent_there : {K V : Type 0} (k : Shape) (knows : Names → Type 0) (size : ℕ) (bytes : List ℕ) (e : Place) (key : Ref K) (value : OwnSeal V) → IsLent size bytes e key value
-    → HasValue k knows (take e.value bytes) e.key → HasValue k knows key.bytes.now key.pos
-lent_there k knows size bytes e key value lent has = subst (λ b. HasValue k knows b key.pos) (sym lent.key_bytes) (subst (HasValue k knows (take e.value bytes)) (sym lent.key_pos) has)
 
 -- the bytes of a map are these
 pub map_at : {most : ℕ} {k v : Shape} {knows others : Names → Type 0} (m : BegunMap most k v knows others) (bytes : List ℕ) (pos : ℕ) → m.bytes ≡ bytes → m.pos ≡ pos

@@ -3,6 +3,5 @@ pub mod Lookups
 pub mod Maps
 pub mod Ranges
 pub mod Refs
-pub mod Seals
 pub mod Walks
 pub use Rattle.archive_btree_nodes.specs.BtreeLayout as BtreeLayout

@@ -29,6 +29,10 @@ IsEqualKey key_of key_order bytes query e = IsSameAs key_of key_order bytes e.ke
 abbrev pub CallsEqual : {F Q K : Type 0} → (F → Q → Ref K → Ordering → Type 0) → F → Q → Bor (List ℕ) → Place → Type 0
 CallsEqual post f query bytes e = post f query (key_at bytes e) Equal
 
+-- it does so regardless of where these bytes are lent
+abbrev pub IsCalledEqual : {F Q K : Type 0} → (F → Q → Ref K → Ordering → Type 0) → F → Q → List ℕ → Place → Type 0
+IsCalledEqual post f query bytes e = (lent : Bor (List ℕ)) × (lent.now ≡ bytes) × CallsEqual post f query lent e
+
 -- what is found, if anything is, is what lies at one of these places, of which this holds
 abbrev pub Finds : {A : Type 0} → (Place → A) → (Place → Type 0) → List Place → Option A → Type 0
 Finds of holds places found = IfSome found (λ a. (e : Place) × Contains places e × holds e × (a ≡ of e))

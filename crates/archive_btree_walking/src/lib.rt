@@ -14,4 +14,4 @@ pub use laws::{map_is_read, one_map};
 pub use lookup::{search_key, search_map};
 pub use range::{Range, range_at, walk_between};
 pub use root::{count_at, entry_walk_at, walk_at};
-pub use sealing::{IterSeal, RangeSeal, ValuesSeal, lend_entry, pass_entry};
+pub use sealing::{IterSeal, RangeSeal, ValuesSeal, pass_entry};

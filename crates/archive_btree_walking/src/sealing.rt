@@ -1,11 +1,9 @@
 //! Cursors over the entries of archived B-tree maps that lend the values, one at a time.
 
 mod iter;
-mod lending;
 mod passing;
 mod range;
 
 pub use iter::{IterSeal, ValuesSeal};
-pub use lending::lend_entry;
 pub use passing::pass_entry;
 pub use range::RangeSeal;

@@ -64,7 +64,8 @@ fn resolve_slot<T: Archive>(
     buffer: &mut [u8],
 ) -> Result<(), Error>
     requires { CanResolve T.spelling T.Archived.shape value.now resolver buffer.old start pos }
-    ensures { Resolves T.spelling value.now resolver pos start buffer.old buffer.new result }
+    ensures { Resolves T.spelling T.Archived.shape value.now resolver pos start buffer.old buffer.new
+        result }
 {
     value.resolve(resolver, Place::within(buffer, start, pos))
 }

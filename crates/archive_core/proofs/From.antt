@@ -1,16 +1,17 @@
--- What is written as a root, from any position on, is the one archive of its value there.
+-- What is written as a root, from any position on, is read there, and is the one archive of its value where no two keys
+-- denote one shared value.
 use Rattle.std.proofs.Common.{◌≡◌, ℕ, ◌+◌, ◌-◌, ◌%◌, ◌*◌, List, [], ◌∷◌, ◌++◌, take, length, length-append, sym, ap, subst, ◌∙◌, arith, inr, ⊎_elim}
 use Rattle.std.proofs.lemmas.Bool.{cases_lt}
 use Rattle.std.proofs.lemmas.List.{take_all, get_or_past}
 use Rattle.std.proofs.Math.Seq.{drop-append_seam}
 use Rattle.archive_shape_layout.specs.Shape.{Shape, size_of, align_of}
 use Rattle.archive_shape_layout.specs.Content.{Names}
-use Rattle.archive_shape_layout.specs.Holds.{Ascends, root_position}
+use Rattle.archive_shape_layout.specs.Holds.{Ascends, HasRoot, root_position}
 use Rattle.archive_shape_canonical.specs.Settled.{Fit}
 use Rattle.archive_shape_canonical.specs.Canonical.{CanonicalArchive, AreBytes}
 use Rattle.archive_shape.specs.Bytes.{HasBytes}
 use Rattle.archive_shape_layout.proofs.Evaluated.{ascends_lowered}
-use Rattle.archive_forms_values.specs.FormsLaws.State.{State, Keys, IsConsistent, AreOneToOne, visits_of}
+use Rattle.archive_forms_values.specs.FormsLaws.State.{State, Keys, IsConsistent, visits_of}
 use Rattle.archive_forms_values.specs.FormsLaws.Spelling.{Spelling}
 use Rattle.archive_forms_values.specs.FormsLaws.Spells.{Spells}
 use Rattle.archive_forms_values.specs.FormsLaws.Regions.{region_at}
@@ -21,10 +22,10 @@ use Rattle.archive_forms_values.proofs.FormsLaws.Written.{are_distinct}
 use Rattle.archive_core.specs.Written.{from_position, IsWrittenFrom, root_piece, root_fits}
 
 pub written_from : {A R : Type 0} (fit : Fit) (s : Shape) (knows : Names → Type 0) (w : Spelling A R) (x : A) (names : Names) (keys : Keys) (front bytes : List ℕ) (start : ℕ)
-    → Spells fit s knows w → knows names → w.suits fit keys x → AreOneToOne keys
-    → root_fits s w x start → length front ≡ start → AreBytes front → bytes ≡ front ++ root_piece s w x start → IsWrittenFrom start s w x fit names bytes
+    → Spells fit s knows w → knows names → w.suits fit keys x
+    → root_fits s w x start → length front ≡ start → AreBytes front → bytes ≡ front ++ root_piece s w x start → IsWrittenFrom start s w x fit names keys bytes
 unfolding root_position
-written_from fit s knows w x names keys front bytes start spells k n one f long are_front e =
+written_from fit s knows w x names keys front bytes start spells k n f long are_front e =
     let st : State = from_position start in
     let piece = root_piece s w x start in
     let t = region_at w s (x ∷ []) st in
@@ -43,20 +44,26 @@ written_from fit s knows w x names keys front bytes start spells k n one f long 
     let at : t ≡ (length bytes - size_of s) - (length bytes - size_of s) % align_of s = sym (ap (λ m. m - m % align_of s) before ∙ ap (λ r. t - r) aligned ∙ omega arith) in
     let whole : start + length piece ≡ length bytes = sym same in
     let are = region_bytes fit s knows w (x ∷ []) (spells x, tt) st f in
-    let R : ℕ → Type 0 = λ pos. CanonicalArchive fit names bytes start pos s (w.value x st) h.regions (visits_of (w.met x st)) in
     let all : AreBytes (front ++ piece) = bytes_append front piece are_front are in
+    let v = w.value x st in
+    let met = visits_of (w.met x st) in
+    let has : HasRoot names bytes t s v h.regions met =
+    record { holds = h.reads.holds; ascends = ascends_lowered 0 start (length bytes) h.regions (omega arith) (subst (λ high. Ascends start high h.regions) whole h.ascends) } in
+    let P : ℕ → Type 0 = λ pos. HasRoot names bytes pos s v h.regions met in
+    let C : ℕ → Type 0 = λ pos. CanonicalArchive fit names bytes start pos s v h.regions met in
     record {
       regions = h.regions;
-      visits = visits_of (w.met x st);
-      canonical = subst R at (record {
-        root = record { holds = h.reads.holds; ascends = ascends_lowered 0 start (length bytes) h.regions (omega arith) (subst (λ high. Ascends start high h.regions) whole h.ascends) };
+      visits = met;
+      root = subst P at has;
+      plain = told.0;
+      canonical = λ one. subst C at (record {
+        root = has;
         canonical = h.reads.canonical;
         ends = h.reads.ends ∙ whole;
         gaps = λ i low. ⊎_elim (λ l. h.gaps i low (omega (arith, l, whole))) (λ g. inr (get_or_past bytes i 0 g)) (cases_lt i (length bytes));
         once = are_distinct keys one (w.met x st) last.own_keys told.1;
         bytes_are = subst AreBytes (sym e) all;
       });
-      plain = told.0;
     }
   where
     take_all_behind : (xs ys : List ℕ) → HasBytes (xs ++ ys) (length xs) ys

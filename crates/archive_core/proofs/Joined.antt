@@ -11,11 +11,11 @@ use Rattle.archive_core.specs.Laws.{WrittenIsAccepted, ReadBackIsWritten}
 
 module _ {A R : Type 0} (s : Shape) (knows : Names → Type 0) (w : Spelling A R) where
   pub written_law : WrittenIsAccepted s knows w
-  written_law x bytes fit names keys known suited one short written =
-      let made = written fit names keys known suited one in
-      unlimited_law names bytes s (root_position (length bytes) s) _ made.regions made.visits short made.canonical.root
+  written_law x bytes fit names keys known suited short written =
+      let made = written fit names keys known suited in
+      unlimited_law names bytes s (root_position (length bytes) s) _ made.regions made.visits short made.root
 
   pub read_back_law : (reads : Value → A → Type 0) → ReadBackIsWritten s knows w reads
-  read_back_law reads x y bytes fit names keys known suited one written read =
-      let made = written fit names keys known suited one in
-      subst (λ v. reads v y) made.plain (read _ (root_held s knows names bytes (root_position (length bytes) s) _ made.regions made.visits known made.canonical.root))
+  read_back_law reads x y bytes fit names keys known suited written read =
+      let made = written fit names keys known suited in
+      subst (λ v. reads v y) made.plain (read _ (root_held s knows names bytes (root_position (length bytes) s) _ made.regions made.visits known made.root))

@@ -5,7 +5,7 @@ use Rattle.archive_shape_layout.specs.Value.{Value}
 use Rattle.archive_shape_layout.specs.Content.{Names}
 use Rattle.archive_shape_layout.specs.Holds.{Visit, root_position}
 use Rattle.archive_shape_canonical.specs.Settled.{Fit}
-use Rattle.archive_forms_values.specs.FormsLaws.State.{State, Keys, AreOneToOne, IsConsistent, visit_of_key}
+use Rattle.archive_forms_values.specs.FormsLaws.State.{State, Keys, IsConsistent, visit_of_key}
 use Rattle.archive_forms_values.specs.FormsLaws.Spelling.{Spelling}
 use Rattle.archive_forms.specs.Deserializing.{IsReadAt}
 use Rattle.archive_core_validation.specs.Depth.{unlimited}
@@ -13,13 +13,12 @@ use Rattle.archive_core_validation.specs.Access.{IsAccepted}
 use Rattle.archive_core.specs.Written.{MadeArchive}
 
 module _ {A R : Type 0} (s : Shape) (knows : Names → Type 0) (w : Spelling A R) where
-  -- the archive of a value is accepted, without a limit of depth
+  -- what archiving a value makes is accepted, without a limit of depth, whichever shared values are equal
   abbrev pub WrittenIsAccepted : Type 0
   WrittenIsAccepted =
       (x : A) (bytes : List ℕ) (fit : Fit) (names : Names) (keys : Keys)
       → knows names
       → w.suits fit keys x
-      → AreOneToOne keys
       → length bytes < 2 ^ 64
       → MadeArchive s knows w x bytes
       → IsAccepted names bytes s (root_position (length bytes) s) unlimited
@@ -31,7 +30,6 @@ module _ {A R : Type 0} (s : Shape) (knows : Names → Type 0) (w : Spelling A R
       (x y : A) (bytes : List ℕ) (fit : Fit) (names : Names) (keys : Keys)
       → knows names
       → w.suits fit keys x
-      → AreOneToOne keys
       → MadeArchive s knows w x bytes
       → IsReadAt reads s knows bytes (root_position (length bytes) s) y
       → reads (w.plain x) y

@@ -2,7 +2,7 @@
 use Rattle.std.specs.Prelude.{◌≡◌, ℕ, ◌∷◌, [], List, length, IsTrue, Result, MatchResult, ◌⊎◌}
 use Rattle.archive_shape_layout.specs.Shape.{Shape}
 use Rattle.archive_shape_layout.specs.Content.{Names}
-use Rattle.archive_shape_layout.specs.Holds.{Region, Visit, root_position}
+use Rattle.archive_shape_layout.specs.Holds.{Region, Visit, HasRoot, root_position}
 use Rattle.archive_shape_canonical.specs.Settled.{Fit}
 use Rattle.archive_shape_canonical.specs.Sharing.{erased}
 use Rattle.archive_shape_canonical.specs.Canonical.{CanonicalArchive, AreBytes}
@@ -19,12 +19,14 @@ use Rattle.archive_forms_values.specs.FormsLaws.Serializing.{Stopped}
 abbrev pub from_position : ℕ → State
 from_position n = record { pos = n; met = []; begun = [] }
 
--- bytes are, from a position on, the archive that writing a value there makes, and its root ends them
-pub record IsWrittenFrom {A R : Type 0} (start : ℕ) (s : Shape) (w : Spelling A R) (x : A) (fit : Fit) (names : Names) (bytes : List ℕ) : Type 0 where
+-- bytes are, from a position on, what writing a value there makes, and its root ends them; this is the one archive of
+-- the value, where no two keys denote one shared value
+pub record IsWrittenFrom {A R : Type 0} (start : ℕ) (s : Shape) (w : Spelling A R) (x : A) (fit : Fit) (names : Names) (keys : Keys) (bytes : List ℕ) : Type 0 where
   pub regions : List Region
   pub visits : List Visit
-  pub canonical : CanonicalArchive fit names bytes start (root_position (length bytes) s) s (w.value x (from_position start)) regions visits
+  pub root : HasRoot names bytes (root_position (length bytes) s) s (w.value x (from_position start)) regions visits
   pub plain : erased (w.value x (from_position start)) ≡ w.plain x
+  pub canonical : AreOneToOne keys → CanonicalArchive fit names bytes start (root_position (length bytes) s) s (w.value x (from_position start)) regions visits
 
 -- the data of a value and then its own bytes, where the next byte has a position
 abbrev pub root_piece : {A R : Type 0} → Shape → Spelling A R → A → ℕ → List ℕ
@@ -58,8 +60,7 @@ module _ {A R W : Type 0} (s : Shape) (w : Spelling A R) (m : WriterMembers W) (
       → (fit : Fit) (names : Names) (keys : Keys)
       → knows names
       → w.suits fit keys x
-      → AreOneToOne keys
-      → IsWrittenFrom (m.pos old) s w x fit names (m.contents new)
+      → IsWrittenFrom (m.pos old) s w x fit names keys (m.contents new)
 
 module _ {A R : Type 0} (s : Shape) where
   -- the contract of a call that archives a value in memory: the bytes are those of a root at the start of an archive;
@@ -68,11 +69,10 @@ module _ {A R : Type 0} (s : Shape) where
   MakesBytes w x bytes_of result =
       MatchResult result (λ q. (bytes_of q ≡ root_piece s w x 0) × root_fits s w x 0) (λ e. (e ≡ OutOfMemory) ⊎ root_refused s w x 0 e)
 
-  -- bytes are the one archive of a value
+  -- bytes are what archiving a value makes
   abbrev pub MadeArchive : (Names → Type 0) → Spelling A R → A → List ℕ → Type 0
   MadeArchive knows w x bytes =
       (fit : Fit) (names : Names) (keys : Keys)
       → knows names
       → w.suits fit keys x
-      → AreOneToOne keys
-      → IsWrittenFrom 0 s w x fit names bytes
+      → IsWrittenFrom 0 s w x fit names keys bytes

@@ -4,17 +4,19 @@ ghost use Rattle.archive_core.specs.Laws.{WrittenIsAccepted, ReadBackIsWritten, 
 pub use archive_core_validation::{nesting_is_bounded, unlimited_is_no_limit};
 pub use archive_forms::laws::{
     equal_values_are_hashed_alike, equalities_are_equivalences, forms_are_faithful, held_is_text,
-    keyed_lists_are_written, leaf_spells, one_present_is_written, one_text,
+    keyed_lists_are_written, leaf_spells, leaves_are_faithful, one_present_is_written, one_text,
     optional_lists_are_written, orders_agree, orders_are_total, out_of_line_capacity,
-    pairs_are_written, texts_are_written, two_shared_is_written, written_once,
+    pairs_are_written, texts_are_faithful, texts_are_written, tuples_are_faithful,
+    two_shared_is_written, written_once,
 };
 use archive_forms::{Archive, ReadBack};
 pub use archive_shape::laws::{
     accepted_is_answered, alignments_are_small_powers, ascent_is_apart, ascent_splits,
     deep_child_is_refused, edit_of_leaf, edit_of_text, extent_is_claimed, fault_refuses, frame,
-    held_leaf_is_read, illegal_is_refused, keys_of_one_value_are_alike, leaf_is_read, leaf_within,
-    leaves_apart, legal_is_readable, named_is_known, one_fault, one_value, overwrite_spares,
-    paths_join, root_is_found, root_regions, sealed_leaf, sealed_text, value_at_path, visits_stand,
+    held_leaf_is_read, illegal_is_refused, keys_of_one_value_are_alike, leaf_in_one_region,
+    leaf_is_read, leaf_within, leaves_apart, legal_is_readable, named_is_known, one_fault,
+    one_value, overwrite_spares, paths_join, root_is_found, root_regions, sealed_leaf, sealed_text,
+    value_at_path, visits_stand,
 };
 pub use archive_shape_canonical::{
     avoiding_paths_join, canonical_edit_of_leaf, canonical_edit_of_text, canonical_frame,

@@ -7,31 +7,29 @@ ghost use Rattle.archive_forms.specs.Deserializing.{Deserializes, IsReadAt};
 ghost use Rattle.archive_core_validation.specs.Depth.{unlimited};
 ghost use Rattle.archive_core_validation.specs.Access.{Decides};
 
-use archive_core_serializing::Unpool;
 use archive_core_validation::{HighValidator, access};
-use archive_forms::Deserialize;
+use archive_forms::{Deserialize, Deserializer};
 use archive_forms_writing::Archive;
 use archive_shape::{CheckBytes, Error, Ref};
 use std::alloc::Global;
 
-/// The deserializer of `from_bytes`. It keeps nothing: a shared value is read again at each pointer that leads to it.
-pub type HighDeserializer = Unpool;
-
-/// Reads an archived value back as an owned value. The only error is `OutOfMemory`.
-pub fn deserialize<T: Archive, A: Deserialize<T, HighDeserializer>>(
+/// Reads an archived value back as an owned value. The pointers of one place in the type share what they lead to, which
+/// is read once. The only error is `OutOfMemory`.
+pub fn deserialize<T: Archive, A: Deserialize<T>>(
     alloc: Global,
     value: &Ref<'_, A>,
 ) -> Result<T, Error>
     requires { HasValue A.shape A.knows value.now.bytes.now value.now.pos }
     ensures { Deserializes A.reads A.shape A.knows value.now.bytes.now value.now.pos result }
 {
-    A::deserialize(value, alloc, &mut Unpool)
+    let mut deserializer = A::Pool::new(alloc);
+    A::deserialize(value, alloc, &mut deserializer)
 }
 
 /// Checks an archive, and reads its root back. The errors are those of `access`.
 pub fn from_bytes<T: Archive>(alloc: Global, bytes: &[u8]) -> Result<T, Error>
 where
-    T::Archived: CheckBytes<HighValidator> + Deserialize<T, HighDeserializer>,
+    T::Archived: CheckBytes<HighValidator> + Deserialize<T>,
     requires named { (names : Names) × T.Archived.knows names }
     ensures exact { (names : Names) → T.Archived.knows names
         → Decides names bytes.now T.Archived.shape (root_position (length bytes.now) T.Archived.shape) unlimited result }

@@ -24,18 +24,18 @@ module _ {F P T : Type 0} (call : Once F (MutBor P × (ℕ × Unit {0})) (Result
     kept true h = by (known left pos) h
       where
         by : (p : Progress T) → Finishes (known left) (known new) pos copy (Ok tt) p → KeepsMade call known true step old pos new (Ok x) left x true p
-        by unmet e = absurd (cc)
+        by unmet e = let never = e.0 in absurd (cc)
         by begun e = (refl, subst (λ y. IsSet (known left) (known new) pos (ended y)) same e.1)
-        by (ended y) e = absurd (cc)
+        by (ended y) e = let never = e.0 in absurd (cc)
     kept false h = refl
 
     unkept : (keeps : Bool) (e : Error) → FinishesPooling (known left) (known new) pos keeps copy (Err e) → KeepsMade call known keeps step old pos new (Err e) left x keeps (known left pos)
     unkept true e h = by (known left pos) h
       where
         by : (p : Progress T) → Finishes (known left) (known new) pos copy (Err e) p → KeepsMade call known true step old pos new (Err e) left x true p
-        by unmet is = let same : e ≡ NotStarted = cc in ap Err same
+        by unmet is = let refused = is.0 in let same : e ≡ NotStarted = cc in (ap Err same, is.1)
         by begun is = let never = is.0 in absurd (cc)
-        by (ended y) is = let same : e ≡ AlreadyFinished = cc in ap Err same
+        by (ended y) is = let refused = is.0 in let same : e ≡ AlreadyFinished = cc in (ap Err same, is.1)
     unkept false e h = absurd (cc)
 
   module _ (keeps : Bool) (inner outer : MutBor P) (starts : StartsPooling (known old) (known inner.now) pos keeps Started) where

@@ -149,8 +149,8 @@ module _ {A W : Type 0} (q : Pointee) (len : A → ℕ) (k : ℕ) (w : Spelling 
             → Promised st None old new (answered result)
         ends_by None (Ok r) e h = ended_so e h.1
         ends_by None (Err d) e h = absurd (let no : ◌≡◌ {A = Result (Unit {0}) Error} (Err d) (Ok tt) = h.0 in cc)
-        ends_by (Some y) (Ok r) e h = absurd (let no : ◌≡◌ {A = Result (Unit {0}) Error} (Ok r) (Err AlreadyFinished) = h in cc)
-        ends_by (Some y) (Err d) e h = met_so d y e (let same : ◌≡◌ {A = Result (Unit {0}) Error} (Err d) (Err AlreadyFinished) = h in cc)
+        ends_by (Some y) (Ok r) e h = absurd (let no : ◌≡◌ {A = Result (Unit {0}) Error} (Ok r) (Err AlreadyFinished) = h.0 in cc)
+        ends_by (Some y) (Err d) e h = met_so d y e (let same : ◌≡◌ {A = Result (Unit {0}) Error} (Err d) (Err AlreadyFinished) = h.0 in cc)
 
         -- finishing the key ends it, or is refused
         pub finished : (result : Result (Unit {0}) Error) → Ends result → Promised st (visit_of_key st.met k) old new (answered result)

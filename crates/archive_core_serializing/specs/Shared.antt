@@ -25,12 +25,12 @@ module _ {F P T : Type 0} (call : Once F (MutBor P × (ℕ × Unit {0})) (Result
     pub leaves : outer.now ≡ left
 
   module _ (new : P) (result : Result T Error) where
-    -- a value that was made is kept where the position has begun, by what the step left of that; otherwise it is only
-    -- returned
+    -- a value that was made is kept where the position has begun, by what the step left of that; otherwise it is refused,
+    -- and nothing changes. A pool that keeps no progress only returns it
     abbrev pub KeepsMade : P → T → Bool → Progress T → Type 0
     KeepsMade left x true begun = (result ≡ Ok x) × IsSet (known left) (known new) pos (ended x)
-    KeepsMade left x true unmet = result ≡ Err NotStarted
-    KeepsMade left x true (ended y) = result ≡ Err AlreadyFinished
+    KeepsMade left x true unmet = (result ≡ Err NotStarted) × IsSame (known left) (known new)
+    KeepsMade left x true (ended y) = (result ≡ Err AlreadyFinished) × IsSame (known left) (known new)
     KeepsMade left x false progress = result ≡ Ok x
 
     -- what the step refuses is refused

@@ -1,1 +1,2 @@
 pub mod Cyclic
+pub mod Towers

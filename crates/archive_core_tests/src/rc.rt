@@ -1,10 +1,13 @@
 //! Tests of counted and weak pointers: the errors of their checks, how they are compared and printed, read once by a
-//! pool, and read back; and a type whose values lead to themselves.
+//! pool, and read back; and types whose values lead to values of the same type.
 
 mod counted;
 mod cycles;
 mod cyclic;
+mod keys;
 mod pooled;
 mod read_back;
+mod read_once;
+mod tower;
 mod values;
 mod weak;

@@ -1,17 +1,13 @@
--- The position of a root, the result of its check, and the position of its value.
-use Rattle.std.proofs.Common.{◌≡◌, ℕ, ◌-◌, ◌%◌, ◌^◌, ◌<◌, ◌≤◌, min, List, [], ◌∷◌, length, Some, Result, Ok, Err, IfOk, refl, ap, subst, ◌∙◌, le_refl, arith}
+-- The position of a root, and the result of its check.
+use Rattle.std.proofs.Common.{◌≡◌, ℕ, ◌-◌, ◌%◌, ◌^◌, ◌<◌, ◌≤◌, min, List, [], ◌∷◌, length, Result, Ok, Err, IfOk, refl, ap, subst, ◌∙◌, le_refl, arith}
 use Rattle.archive_shape_layout.specs.Shape.{Shape, align_of, size_of}
 use Rattle.archive_shape_layout.specs.Shape.Pointee.{sized}
-use Rattle.archive_shape_layout.specs.Value.{Value}
-use Rattle.archive_shape_layout.specs.Value.Values.{no_values, more_values}
-use Rattle.archive_shape_layout.specs.Content.{Names, made}
+use Rattle.archive_shape_layout.specs.Content.{Names}
 use Rattle.archive_shape_layout.specs.Content.Part.{at}
 use Rattle.archive_shape_layout.specs.Content.Label.{same}
-use Rattle.archive_shape_layout.specs.Holds.{Region, Visit, OpenShared, Holds, HasRoot, root_position}
+use Rattle.archive_shape_layout.specs.Holds.{Visit, OpenShared, root_position}
 use Rattle.archive_shape_layout.specs.Visited.{AllStand}
 use Rattle.archive_shape_layout.specs.Visited.AllStand.{none_stand}
-use Rattle.archive_shape_layout.proofs.Unique.{by_claimed}
-use Rattle.archive_shape_layout.proofs.Visited.{claimed_first, claimed_inside}
 use Rattle.archive_shape.specs.Range.{Range, narrowed_to}
 use Rattle.archive_shape.specs.Accepts.{Passes}
 use Rattle.archive_shape.specs.Questions.{pointee_span}
@@ -23,10 +19,8 @@ use Rattle.archive_shape.proofs.Inverted.{claim_answered, claimed_parts, first_p
 use Rattle.archive_forms_values.proofs.Contents.{sized_is}
 use Rattle.archive_forms_values.specs.Parts.{HasValue}
 use Rattle.archive_forms_values.proofs.Accepted.{accepted_has_value}
-use Rattle.archive_forms_values.proofs.Inside.{one_held}
-use Rattle.archive_shape.specs.Key.{HeldAt}
+pub use Rattle.archive_forms_values.proofs.Rooted.{root_held}
 use Rattle.archive_core_validation.specs.Access.{root_at, whole_range, Decides}
-use Rattle.archive_forms_values.proofs.Pointed.{made_same}
 
 -- the size that a type says stops at `usize::MAX`, which is the length of no buffer
 pub root_lies :
@@ -75,26 +69,3 @@ pub decided_has_value :
     → IfOk r (λ _. HasValue s knows bytes pos)
 decided_has_value s knows names bytes pos most (Ok x) known h = root_has_value s knows names bytes [] [] pos (whole_range (length bytes) most) known (none_stand refl) (le_refl (length bytes)) h
 decided_has_value s knows names bytes pos most (Err e) known h = tt
-
--- the value of a root is the one at its position
-pub root_held : (s : Shape) (knows : Names → Type 0) (names : Names) (bytes : List ℕ) (pos : ℕ) (v : Value) (regions : List Region) (visits : List Visit)
-    → knows names → HasRoot names bytes pos s v regions visits → HeldAt s knows bytes pos v
-root_held s knows names bytes pos v regions visits known root =
-    let says = by_claimed names bytes (sized_is names bytes pos s 1) root.holds in
-    let one = one_held names bytes says.all in
-    let value : one.value ≡ v = made_same one.value v (subst (λ x. made same x ≡ Some v) one.is says.is_made) in
-    let inner = claimed_inside says.regions_are (claimed_first root.ascends) in
-    let ends = inner.ends in
-    record {
-      names = names;
-      known = known;
-      level = 1;
-      inside = [];
-      regions = says.within;
-      before = [];
-      after = visits;
-      own_within = omega (arith, ends);
-      low = 0;
-      claimed = inner.claimed;
-      holds = subst (λ x. Holds names bytes 1 [] (at pos s) x says.within [] visits) value one.holds;
-    }

@@ -87,12 +87,13 @@ impl ArchiveContext for ArchiveValidator {
     }
 
     fn pop_subtree_range(&mut self, range: PushedRange) -> Result<(), Error> {
-        let Some(last) = self.pushes.pop() else {
+        let Some(last) = self.pushes.last() else {
             return Err(Error::RangePoppedTooManyTimes);
         };
-        if last != range {
+        if *last != range {
             return Err(Error::RangePoppedOutOfOrder);
         }
+        self.pushes.pop();
         self.start = range.end;
         self.end = range.outer;
         Ok(())

@@ -11,7 +11,6 @@ use archive_shape_layout::{Pointee, same_shape};
 use archive_shape_writing::Error;
 use std::alloc::Global;
 use std::collections::BTreeMap;
-use std::collections::btree_map::Entry;
 
 /// The pointee and the length with which a shared position was first visited, and whether its check has ended.
 #[derive(Drop)]
@@ -92,16 +91,17 @@ impl Visits for SharedValidator {
         len: usize,
         pointee: Pointee,
     ) -> Result<ValidationState, Error> {
-        match self.met.entry(pos)? {
-            Entry::Vacant(entry) => {
-                entry.insert(SharedEntry {
-                    pointee,
-                    len,
-                    done: false,
-                });
-                Ok(ValidationState::Started)
-            }
-            Entry::Occupied(entry) => entry.get().met_again(len, &pointee),
+        if let Some(entry) = self.met.get(&pos) {
+            return entry.met_again(len, &pointee);
+        }
+        let entry = SharedEntry {
+            pointee,
+            len,
+            done: false,
+        };
+        match self.met.insert(pos, entry) {
+            Ok(_) => Ok(ValidationState::Started),
+            Err(_) => Err(Error::OutOfMemory),
         }
     }
 

@@ -19,7 +19,7 @@ impl Visited for () {
 }
 
 /// A type that also starts and ends the checks of shared positions, as a `SharedContext` does, regardless of what else
-/// that context keeps. After an error it must not be used again.
+/// that context keeps. After an error the shared positions are those from before the call.
 pub trait Visits: Visited {
     /// Returns what is known of a shared position with `len` elements, and starts its check at its first visit.
     fn start_shared(
@@ -30,7 +30,8 @@ pub trait Visits: Visited {
     ) -> Result<ValidationState, Error>
         ensures { (k : Kept) → MatchResult result
             (StartsShared (with_seen k (Self.seen self.old)) pos (pointee_of pointee) len (with_seen k (Self.seen self.new)))
-            (λ e. e ≢ Error.OutOfMemory → RefusesShared (with_seen k (Self.seen self.old)) pos (pointee_of pointee) len e) };
+            (λ e. (e ≢ Error.OutOfMemory → RefusesShared (with_seen k (Self.seen self.old)) pos (pointee_of pointee) len e)
+            × (with_seen k (Self.seen self.new) ≡ with_seen k (Self.seen self.old))) };
 
     /// Ends the check of a shared position. It does not allocate.
     fn finish_shared(&mut self, pos: usize) -> Result<(), Error>

@@ -1,5 +1,5 @@
 -- The own bytes of a player, field by field.
-use Rattle.std.proofs.Common.{ℕ, ◌+◌, List, Option, Ok, ap}
+use Rattle.std.proofs.Common.{ℕ, ◌+◌, List, Option, Ok, Err, ap}
 use Rattle.archive_shape_layout.specs.Shape.Shape.{tuple, text}
 use Rattle.archive_shape_writing.specs.declared.error.Error.{Error}
 use Rattle.archive_forms_laws.specs.Fields.{struct_spelling, no_fields}
@@ -23,8 +23,8 @@ module _ (p : Player) (r : Unit {0} × StringResolver × Option VecResolver) (by
   pub level_can : CanResolve level_spelling level_shape p.level r.0 bytes (start + field_at level_shape 0) (pos + field_at level_shape 0)
   level_can = placed_can all (fields_of p) (split r) bytes start pos can level_shape level_spelling from_name (fields_of p) (split r) 0 bytes none
 
-  pub level_refused : (e : Error) → level_spelling.own_refused p.level r.0 (pos + field_at level_shape 0) e → player_spelling.own_refused p r pos e
-  level_refused e h = placed_stopped all (fields_of p) (split r) bytes start pos can level_shape level_spelling from_name (fields_of p) (split r) 0 bytes none e h
+  pub level_refused : (new : List ℕ) (e : Error) → ResolvesField level_spelling level_shape p.level r.0 pos start 0 bytes new (Err e) → Resolves player_spelling player_shape p r pos start bytes new (Err e)
+  level_refused new e h = placed_stopped all (fields_of p) (split r) bytes start pos can level_shape level_spelling from_name (fields_of p) (split r) 0 bytes none e h
 
   module _ (with_level : List ℕ) (level_end : ℕ) (level : ResolvesField level_spelling level_shape p.level r.0 pos start 0 bytes with_level (Ok level_end)) where
     one : Placed all (fields_of p) (split r) bytes start pos from_name (fields_of p).1 (split r).1 level_end with_level
@@ -35,8 +35,8 @@ module _ (p : Player) (r : Unit {0} × StringResolver × Option VecResolver) (by
     pub name_can : CanResolve string_spelling text p.name r.1 with_level (start + field_at text level_end) (pos + field_at text level_end)
     name_can = placed_can all (fields_of p) (split r) bytes start pos can text string_spelling from_scores (fields_of p).1 (split r).1 level_end with_level one
 
-    pub name_refused : (e : Error) → string_spelling.own_refused p.name r.1 (pos + field_at text level_end) e → player_spelling.own_refused p r pos e
-    name_refused e h = placed_stopped all (fields_of p) (split r) bytes start pos can text string_spelling from_scores (fields_of p).1 (split r).1 level_end with_level one e h
+    pub name_refused : (new : List ℕ) (e : Error) → ResolvesField string_spelling text p.name r.1 pos start level_end with_level new (Err e) → Resolves player_spelling player_shape p r pos start bytes new (Err e)
+    name_refused new e h = placed_stopped all (fields_of p) (split r) bytes start pos can text string_spelling from_scores (fields_of p).1 (split r).1 level_end with_level one e h
 
     module _ (with_name : List ℕ) (name_end : ℕ) (name : ResolvesField string_spelling text p.name r.1 pos start level_end with_level with_name (Ok name_end)) where
       two : Placed all (fields_of p) (split r) bytes start pos from_scores (fields_of p).1.1 (split r).1.1 name_end with_name
@@ -47,10 +47,10 @@ module _ (p : Player) (r : Unit {0} × StringResolver × Option VecResolver) (by
       pub scores_can : CanResolve scores_spelling scores_shape p.scores r.2 with_name (start + field_at scores_shape name_end) (pos + field_at scores_shape name_end)
       scores_can = placed_can all (fields_of p) (split r) bytes start pos can scores_shape scores_spelling no_fields (fields_of p).1.1 (split r).1.1 name_end with_name two
 
-      pub scores_refused : (e : Error) → scores_spelling.own_refused p.scores r.2 (pos + field_at scores_shape name_end) e → player_spelling.own_refused p r pos e
-      scores_refused e h = placed_stopped all (fields_of p) (split r) bytes start pos can scores_shape scores_spelling no_fields (fields_of p).1.1 (split r).1.1 name_end with_name two e h
+      pub scores_refused : (new : List ℕ) (e : Error) → ResolvesField scores_spelling scores_shape p.scores r.2 pos start name_end with_name new (Err e) → Resolves player_spelling player_shape p r pos start bytes new (Err e)
+      scores_refused new e h = placed_stopped all (fields_of p) (split r) bytes start pos can scores_shape scores_spelling no_fields (fields_of p).1.1 (split r).1.1 name_end with_name two e h
 
-      pub player_resolved : (new : List ℕ) (end : ℕ) → ResolvesField scores_spelling scores_shape p.scores r.2 pos start name_end with_name new (Ok end) → Resolves player_spelling p r pos start bytes new (Ok tt)
+      pub player_resolved : (new : List ℕ) (end : ℕ) → ResolvesField scores_spelling scores_shape p.scores r.2 pos start name_end with_name new (Ok end) → Resolves player_spelling player_shape p r pos start bytes new (Ok tt)
       player_resolved new end scores =
           placed_all all (fields_of p) (split r) bytes start pos can tt end new
           (placed_next all (fields_of p) (split r) bytes start pos can scores_shape scores_spelling no_fields (fields_of p).1.1 (split r).1.1 name_end with_name two new end

@@ -61,11 +61,13 @@ impl ReadBack<Player> for ArchivedPlayer {
     ghost reads = { reads_in player_fields ⟦<Fields as ReadBack<(u8, String, Option<Vec<i32>>)>>⟧.reads };
 }
 
-impl<D> Deserialize<Player, D> for ArchivedPlayer {
+impl Deserialize<Player> for ArchivedPlayer {
+    type Pool = ((), (), ());
+
     fn deserialize(
         this: &Ref<'_, ArchivedPlayer>,
         alloc: Global,
-        deserializer: &mut D,
+        deserializer: &mut ((), (), ()),
     ) -> Result<Player, Error> {
         let fields = Ref::<Fields>::new(this.bytes, this.pos);
         let (level, name, scores) = Fields::deserialize(&fields, alloc, deserializer)?;

@@ -5,7 +5,9 @@
 #![tactic(auto)]
 
 mod archived;
+mod laws;
 mod player;
 
 pub use archived::ArchivedPlayer;
+pub use laws::player_is_faithful;
 pub use player::Player;

@@ -43,7 +43,7 @@ impl Archive for Player {
     ) -> Result<(), Error>
         requires { CanResolve player_spelling player_shape self.now resolver out.out.now
             out.start out.pos }
-        ensures { Resolves player_spelling self.now resolver out.entry.pos out.entry.start
+        ensures { Resolves player_spelling player_shape self.now resolver out.entry.pos out.entry.start
             out.entry.out.now out.exit.0.now result }
     {
         let Place {

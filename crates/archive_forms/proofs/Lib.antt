@@ -1,6 +1,7 @@
 mod Counted
 pub mod Faithful
 mod Fields
+mod Kept
 mod Outcomes
 pub mod Plain
 mod Read

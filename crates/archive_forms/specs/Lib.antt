@@ -1,5 +1,6 @@
 pub mod Deserializing
 pub mod Faithful
+pub mod Keeping
 pub mod Reading
 pub mod Steps
 pub mod Weak

@@ -1,6 +1,8 @@
 //! The laws of all parts of `archive_forms`. Each is a function with an empty body, whose contract is
 //! the law. Those of the one archive of a value, which writing makes, are here too.
-pub use crate::deserializing::laws::forms_are_faithful;
+pub use crate::deserializing::laws::{
+    forms_are_faithful, leaves_are_faithful, texts_are_faithful, tuples_are_faithful,
+};
 pub use archive_forms_laws::{
     equal_values_are_hashed_alike, equalities_are_equivalences, held_is_text,
     keyed_lists_are_written, leaf_spells, one_present_is_written, one_text,

@@ -15,10 +15,12 @@ pub mod Named
 pub mod Once
 pub mod Options
 pub mod OrderingResults
+pub mod OwnBytes
 pub mod Payloads
 pub mod Pointers
 pub mod Progress
 pub mod Regions
+pub mod Resolved
 pub mod Samples
 pub mod Shared
 pub mod Sizes

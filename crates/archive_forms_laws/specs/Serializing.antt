@@ -2,6 +2,7 @@
 use Rattle.std.specs.Prelude.{◌≡◌, ℕ, ◌+◌, ◌^◌, ◌≤◌, ◌<◌, ◌⊎◌, ◌==◌, cond, List, [], ◌∷◌, length, IsTrue, Bool, true, false, Option, Some, None, Result, MatchResult}
 use Rattle.archive_shape.specs.ShapeLayout.Shape.{Shape, size_of}
 use Rattle.archive_shape.specs.ShapeLayout.Holds.{Visit}
+use Rattle.archive_shape.specs.ShapeLayout.Edit.{Spares}
 use Rattle.archive_shape.specs.Bytes.{HasBytes, zeros, overwrite}
 use Rattle.archive_shape.specs.ShapeWriting.Writing.{WriterMembers, Cut, Written, Failed}
 use Rattle.archive_shape.specs.ShapeWriting.declared.error.Error.{Error}
@@ -89,10 +90,12 @@ Serializes {R = R} w s x old new result = SerializesBy (λ (r : R). r) w s x old
 
 module _ {A R : Type 0} (w : Spelling A R) where
   -- what a call that writes the own bytes of a value ensures: the bytes at `start` become the value's own bytes for the
-  -- position `pos` of the archive
-  abbrev pub Resolves : A → R → ℕ → ℕ → List ℕ → List ℕ → Result (Unit {0}) Error → Type 0
-  Resolves x r pos start old new result =
-      MatchResult result (λ _. w.own_fits x r pos × (new ≡ overwrite old start (w.own x r pos))) (w.own_refused x r pos)
+  -- position `pos` of the archive, and no others change; where it is refused, no others change either
+  abbrev pub Resolves : Shape → A → R → ℕ → ℕ → List ℕ → List ℕ → Result (Unit {0}) Error → Type 0
+  Resolves s x r pos start old new result =
+      MatchResult result
+      (λ _. w.own_fits x r pos × (new ≡ overwrite old start (w.own x r pos)))
+      (λ e. w.own_refused x r pos e × Spares old new start (size_of s))
 
   -- what such a call requires: `bytes` have room for them at `start`, which is zero, they end before position 2^64 of
   -- the archive, and the resolver was made of the value

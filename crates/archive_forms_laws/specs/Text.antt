@@ -41,6 +41,10 @@ pub record IsText (bytes : List ℕ) (pos : ℕ) (t : List ℕ) : Type 0 where
   pub there : HasText bytes pos
   pub is : t ≡ window bytes there.start there.len
 
+-- it has this number of bytes
+abbrev pub HasLength : List ℕ → ℕ → ℕ → Type 0
+HasLength bytes pos len = (t : List ℕ) × IsText bytes pos t × (len ≡ length t)
+
 -- there is at most one text at a position
 abbrev pub OneText : Type 0
 OneText = (bytes : List ℕ) (pos : ℕ) (t u : List ℕ) → IsText bytes pos t → IsText bytes pos u → t ≡ u

@@ -2,6 +2,7 @@ pub mod Behind
 pub mod Counted
 pub mod Entries
 pub mod Led
+pub mod Pointing
 pub mod Reached
 pub mod Tags
 pub mod Viewed

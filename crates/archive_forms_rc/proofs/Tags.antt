@@ -1,30 +1,28 @@
 -- Weak pointers, by their tags.
-use Rattle.std.proofs.Common.{◌≡◌, ℕ, ◌+◌, ◌==◌, Bool, true, false, List, [], ◌∷◌, slice_index, Some, Ok, Result, ◌⊎◌, inl, inr, refl, sym, ap, ◌∙◌, arith, eqb-true}
+use Rattle.std.proofs.Common.{◌≡◌, ℕ, ◌+◌, ◌==◌, Bool, true, List, [], ◌∷◌, slice_index, Some, Ok, Result, ◌⊎◌, inl, inr, refl, sym, ap, ◌∙◌, arith, eqb-true}
 use Rattle.archive_shape_layout.specs.Bytes.{window}
-use Rattle.archive_shape_layout.specs.Shape.{Shape, Pointee, size_of}
+use Rattle.archive_shape_layout.specs.Shape.{Pointee, size_of}
 use Rattle.archive_shape_layout.specs.Shape.Shape.{shared, weak}
-use Rattle.archive_shape_layout.specs.Shape.Pointee.{sized}
 use Rattle.archive_shape_layout.specs.Value.{Value, Values}
 use Rattle.archive_shape_layout.specs.Value.Value.{chosen}
 use Rattle.archive_shape_layout.specs.Value.Values.{no_values, more_values}
-use Rattle.archive_shape_layout.specs.Content.{Names, Content, content_of, made, choose, shape_content}
+use Rattle.archive_shape_layout.specs.Content.{Names, content_of, made, choose, shape_content}
 use Rattle.archive_shape_layout.specs.Content.Part.{at}
 use Rattle.archive_shape_layout.specs.Content.Label.{tagged}
-use Rattle.archive_shape_layout.specs.Content.Content.{plain, illegal}
+use Rattle.archive_shape_layout.specs.Content.Content.{plain}
 use Rattle.archive_shape_layout.proofs.Unique.{by_plain}
 use Rattle.archive_shape.specs.Kept.{Kept}
 use Rattle.archive_shape.specs.Checks.{Checks}
 use Rattle.archive_shape_writing.specs.declared.error.Error.{Error}
 use Rattle.archive_shape.proofs.Below.{below_checked}
-use Rattle.archive_shape.proofs.Inverted.{IsKnown, held_is_known}
+use Rattle.archive_shape.proofs.Inverted.{held_is_known}
 use Rattle.archive_shape.proofs.Leaves.{alone_checked}
 use Rattle.archive_shape.specs.Key.{HeldAt}
 use Rattle.archive_shape_layout.proofs.Visited.{claimed_raised}
 use Rattle.archive_forms_values.proofs.Tagged.{own_tag}
 use Rattle.archive_forms_values.specs.Parts.{HasValue}
 use Rattle.archive_forms_values.proofs.Inside.{none_held, one_held}
-use Rattle.archive_forms_rc.specs.Pointers.{IsRcAt}
-use Rattle.archive_forms_rc.specs.WeakPointers.{IsNothingAt, IsWeakAt}
+use Rattle.archive_forms_rc.specs.WeakPointers.{IsNothingAt, IsPointerAt}
 use Rattle.archive_shape.proofs.Questions.{one_tag}
 
 made_tagged : (t : ℕ) (v : Value) → (w : Value) × (made (tagged t) (more_values v no_values) ≡ Some w)
@@ -56,30 +54,29 @@ made_chosen : (tag : ℕ) (vs : Values) (v : Value) → made (tagged tag) vs ≡
 unfolding made
 made_chosen tag vs v e = cc
 
-module _ (cyclic : Bool) (s : Shape) (knows : Names → Type 0) (bytes : List ℕ) (pos : ℕ) where
-  pub is_nothing : slice_index bytes pos ≡ 0 → IsNothingAt cyclic s knows bytes pos
+module _ (cyclic : Bool) (p : Pointee) (knows : Names → Type 0) (bytes : List ℕ) (pos : ℕ) where
+  pub is_nothing : slice_index bytes pos ≡ 0 → IsNothingAt cyclic p knows bytes pos
   is_nothing tag v h =
-      let says = by_plain h.names bytes (nothing_is h.names bytes pos cyclic (sized s) tag) h.holds in
+      let says = by_plain h.names bytes (nothing_is h.names bytes pos cyclic p tag) h.holds in
       made_chosen 0 says.vs v says.is_made ∙ ap (chosen 0) (none_held h.names bytes says.all)
 
+  -- the pointer after the tag has a value where the weak pointer has one
+  pub pointer_has : IsPointerAt cyclic p knows bytes pos → HasValue (weak cyclic p) knows bytes pos → HasValue (shared cyclic p) knows bytes (pos + 4)
+  pointer_has there has = let one = there has.value has.held in record { value = one.pointer; held = one.held }
+
   module _ (other : slice_index bytes pos ≡ 0 → ⊥) where
-    tag_is_one : (v : Value) (h : HeldAt (weak cyclic (sized s)) knows bytes pos v) → slice_index bytes pos ≡ 1
+    tag_is_one : (v : Value) (h : HeldAt (weak cyclic p) knows bytes pos v) → slice_index bytes pos ≡ 1
     unfolding shape_content
-    tag_is_one v h = by (one_tag (slice_index (window bytes pos 8) 0 == 0) (slice_index (window bytes pos 8) 0 == 1) _ _ (held_is_known h.names bytes h.holds))
+    tag_is_one v h = by (one_tag (slice_index (window bytes pos (size_of (weak cyclic p))) 0 == 0) (slice_index (window bytes pos (size_of (weak cyclic p))) 0 == 1) _ _ (held_is_known h.names bytes h.holds))
       where
-        by : ((slice_index (window bytes pos 8) 0 == 0) ≡ true) ⊎ ((slice_index (window bytes pos 8) 0 == 1) ≡ true) → slice_index bytes pos ≡ 1
-        by (inl e) = absurd (other (sym (weak_tag h.names bytes pos cyclic (sized s)) ∙ eqb-true _ 0 e))
-        by (inr e) = sym (weak_tag h.names bytes pos cyclic (sized s)) ∙ eqb-true _ 1 e
+        by : ((slice_index (window bytes pos (size_of (weak cyclic p))) 0 == 0) ≡ true) ⊎ ((slice_index (window bytes pos (size_of (weak cyclic p))) 0 == 1) ≡ true) → slice_index bytes pos ≡ 1
+        by (inl e) = absurd (other (sym (weak_tag h.names bytes pos cyclic p) ∙ eqb-true _ 0 e))
+        by (inr e) = sym (weak_tag h.names bytes pos cyclic p) ∙ eqb-true _ 1 e
 
     -- a value is that of the pointer after the tag, after the same visits
-    record Pointed (v : Value) (h : HeldAt (weak cyclic (sized s)) knows bytes pos v) : Type 0 where
-      pointer : Value
-      is : v ≡ chosen 1 (more_values pointer no_values)
-      held : HeldAt (shared cyclic (sized s)) knows bytes (pos + 4) pointer
-
-    pointed : (v : Value) (h : HeldAt (weak cyclic (sized s)) knows bytes pos v) → Pointed v h
-    pointed v h =
-        let says = by_plain h.names bytes (pointer_is h.names bytes pos cyclic (sized s) (tag_is_one v h)) h.holds in
+    pub is_pointer : IsPointerAt cyclic p knows bytes pos
+    is_pointer v h =
+        let says = by_plain h.names bytes (pointer_is h.names bytes pos cyclic p (tag_is_one v h)) h.holds in
         let one = one_held h.names bytes says.all in
         let own = h.own_within in
         record {
@@ -99,12 +96,3 @@ module _ (cyclic : Bool) (s : Shape) (knows : Names → Type 0) (bytes : List �
             holds = one.holds;
           };
         }
-
-    pub has_pointer : HasValue (weak cyclic (sized s)) knows bytes pos → HasValue (shared cyclic (sized s)) knows bytes (pos + 4)
-    has_pointer has = let one = pointed has.value has.held in record { value = one.pointer; held = one.held }
-
-    pub is_weak : (to : ℕ) → IsRcAt cyclic s knows bytes (pos + 4) to → IsWeakAt cyclic s knows bytes pos to
-    is_weak to i = record {
-      points = i.points;
-      value = λ v h. let one = pointed v h in record { pointer = one.pointer; is = one.is; counts = i.value one.pointer one.held };
-    }

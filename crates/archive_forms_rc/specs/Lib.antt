@@ -3,4 +3,5 @@ pub mod Counted
 pub mod Pointers
 pub mod Visits
 pub mod WeakPointers
+pub mod WeakResolvers
 pub use Rattle.archive_forms_writing.specs as FormsWriting

@@ -2,7 +2,10 @@
 //! each flavor as `(Weak)`.
 
 use crate::parts::{rc_elements, rc_text, rc_value};
-use crate::{Acyclic, ArchivedRc, ArchivedRcSlice, ArchivedRcStr, ArchivedRcWeak, Flavor};
+use crate::{
+    Acyclic, ArchivedRc, ArchivedRcSlice, ArchivedRcStr, ArchivedRcWeak, ArchivedRcWeakSlice,
+    ArchivedRcWeakStr, Flavor,
+};
 use archive_forms_comparing::{ArchivedDebug, fmt_elements};
 use archive_shape::{Portable, Ref};
 use std::fmt;
@@ -28,6 +31,21 @@ impl<L: Acyclic> ArchivedDebug for ArchivedRcStr<L> {
 
 impl<T: Portable, L: Flavor> ArchivedDebug for ArchivedRcWeak<T, L> {
     fn fmt<W: Write>(_this: &Ref<'_, ArchivedRcWeak<T, L>>, f: &mut Formatter<W>) -> fmt::Result {
+        f.write_str("(Weak)")
+    }
+}
+
+impl<T: Portable, L: Flavor> ArchivedDebug for ArchivedRcWeakSlice<T, L> {
+    fn fmt<W: Write>(
+        _this: &Ref<'_, ArchivedRcWeakSlice<T, L>>,
+        f: &mut Formatter<W>,
+    ) -> fmt::Result {
+        f.write_str("(Weak)")
+    }
+}
+
+impl<L: Flavor> ArchivedDebug for ArchivedRcWeakStr<L> {
+    fn fmt<W: Write>(_this: &Ref<'_, ArchivedRcWeakStr<L>>, f: &mut Formatter<W>) -> fmt::Result {
         f.write_str("(Weak)")
     }
 }

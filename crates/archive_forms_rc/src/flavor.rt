@@ -3,17 +3,16 @@ ghost use Rattle.std.specs.Prelude.{◌≡◌, Bool, false, refl};
 
 /// The flavor of a counted pointer.
 pub trait Flavor {
-    ghost CYCLES: { Bool };
+    ghost ALLOW_CYCLES: { Bool };
 
-    /// Returns `true` if a pointer may lead to a value that it lies inside.
-    fn allow_cycles() -> bool
-        ensures { result ≡ CYCLES };
+    /// Whether a pointer may lead to a value that it lies inside.
+    const ALLOW_CYCLES: bool;
 }
 
 /// A flavor that forbids cycles. Its pointers are compared, hashed and printed as the values that they lead to, which
 /// would not end on a cycle.
 pub trait Acyclic: Flavor {
-    ghost acyclic: { Self.CYCLES ≡ false };
+    ghost acyclic: { Self.ALLOW_CYCLES ≡ false };
 }
 
 /// The flavor of `Rc` and `Arc`, which forbids cycles.
@@ -21,11 +20,9 @@ pub trait Acyclic: Flavor {
 pub struct RcFlavor;
 
 impl Flavor for RcFlavor {
-    ghost CYCLES = { false };
+    ghost ALLOW_CYCLES = { false };
 
-    fn allow_cycles() -> bool {
-        false
-    }
+    const ALLOW_CYCLES: bool = false;
 }
 
 impl Acyclic for RcFlavor {

@@ -21,10 +21,14 @@ mod shared_slice;
 mod shared_str;
 mod visit;
 mod weak;
+mod weak_slice;
+mod weak_str;
 
 pub use flavor::{Acyclic, Flavor, RcFlavor};
-pub use resolving::RcResolver;
+pub use resolving::{RcResolver, RcWeakResolver};
 pub use shared::{ArchivedRc, check_rc_each};
 pub use shared_slice::{ArchivedRcSlice, check_rc_slice_each};
 pub use shared_str::{ArchivedRcStr, check_rc_str};
 pub use weak::{ArchivedRcWeak, check_rc_weak_each};
+pub use weak_slice::{ArchivedRcWeakSlice, check_rc_weak_slice_each};
+pub use weak_str::{ArchivedRcWeakStr, check_rc_weak_str};

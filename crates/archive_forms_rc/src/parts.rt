@@ -15,8 +15,8 @@ use archive_shape::{Portable, Ref};
 
 /// Returns the value that the pointer leads to.
 pub(crate) fn rc_value<'a, T: Portable, L: Acyclic>(this: &Ref<'a, ArchivedRc<T, L>>) -> Ref<'a, T>
-    requires { HasValue (shared L.CYCLES (sized T.shape)) T.knows this.now.bytes.now this.now.pos }
-    ensures { HasPart (λ v x. counted_of v ≡ x) (shared L.CYCLES (sized T.shape)) T.knows
+    requires { HasValue (shared L.ALLOW_CYCLES (sized T.shape)) T.knows this.now.bytes.now this.now.pos }
+    ensures { HasPart (λ v x. counted_of v ≡ x) (shared L.ALLOW_CYCLES (sized T.shape)) T.knows
         this.now.bytes.now this.now.pos T.shape T.knows result.bytes.now result.pos }
 {
     ArchivedRc::get(*this)
@@ -26,9 +26,9 @@ pub(crate) fn rc_value<'a, T: Portable, L: Acyclic>(this: &Ref<'a, ArchivedRc<T,
 pub(crate) fn rc_elements<'a, T: Portable, L: Acyclic>(
     this: &Ref<'a, ArchivedRcSlice<T, L>>,
 ) -> SliceRef<'a, T>
-    requires { HasValue (shared L.CYCLES (slice T.shape)) T.knows this.now.bytes.now this.now.pos }
+    requires { HasValue (shared L.ALLOW_CYCLES (slice T.shape)) T.knows this.now.bytes.now this.now.pos }
     ensures there { HasElements T.shape T.knows result.bytes.now result.pos result.len }
-    ensures elements { (v : Value) → HeldAt (shared L.CYCLES (slice T.shape)) T.knows this.now.bytes.now
+    ensures elements { (v : Value) → HeldAt (shared L.ALLOW_CYCLES (slice T.shape)) T.knows this.now.bytes.now
         this.now.pos v
         → AreElements T.shape T.knows result.bytes.now result.pos result.len (counted_of v) }
 {
@@ -37,8 +37,8 @@ pub(crate) fn rc_elements<'a, T: Portable, L: Acyclic>(
 
 /// Returns the text that the pointer leads to.
 pub(crate) fn rc_text<'a, L: Acyclic>(this: &Ref<'a, ArchivedRcStr<L>>) -> &'a str
-    requires { HasValue (shared L.CYCLES str) (λ _. ⊤) this.now.bytes.now this.now.pos }
-    ensures { OfValue (shared L.CYCLES str) (λ _. ⊤) this.now.bytes.now this.now.pos
+    requires { HasValue (shared L.ALLOW_CYCLES str) (λ _. ⊤) this.now.bytes.now this.now.pos }
+    ensures { OfValue (shared L.ALLOW_CYCLES str) (λ _. ⊤) this.now.bytes.now this.now.pos
         (λ v. text_of (counted_of v)) result.now }
 {
     ArchivedRcStr::get(*this)

@@ -4,6 +4,7 @@ ghost use Rattle.std.specs.Int.{w32, to_le_bytes};
 ghost use Rattle.archive_shape.specs.Bytes.{overwrite};
 ghost use Rattle.archive_shape_writing.specs.declared.error.Error.TheVariants.{IsizeOverflow, LengthTooLarge};
 ghost use Rattle.archive_shape.specs.Offsets.{FitsOffset, offset_bytes};
+ghost use Rattle.archive_forms_rc.specs.WeakResolvers.{weak_resolver, counted_resolver};
 
 use crate::{ArchivedRc, ArchivedRcSlice, ArchivedRcStr};
 use archive_forms_values::{ArchivedBox, ArchivedBoxedSlice, ArchivedBoxedStr, BoxResolver};
@@ -22,6 +23,35 @@ impl RcResolver {
         ensures { result.pos ≡ pos }
     {
         RcResolver { pos }
+    }
+}
+
+/// The position of what a weak pointer will lead to, or `None` if it leads to nothing.
+#[derive(Clone, Copy, Debug, PartialEq, Eq)]
+pub enum RcWeakResolver {
+    None,
+    Some(RcResolver),
+}
+
+impl RcWeakResolver {
+    /// Creates a resolver of an optional one of the counted pointer.
+    pub(crate) fn from_option(resolver: Option<RcResolver>) -> Self
+        ensures { result ≡ weak_resolver resolver }
+    {
+        match resolver {
+            None => RcWeakResolver::None,
+            Some(resolver) => RcWeakResolver::Some(resolver),
+        }
+    }
+
+    /// Returns the resolver of the counted pointer, if there is one.
+    pub(crate) fn into_option(self) -> Option<RcResolver>
+        ensures { result ≡ counted_resolver self }
+    {
+        match self {
+            RcWeakResolver::None => None,
+            RcWeakResolver::Some(resolver) => Some(resolver),
+        }
     }
 }
 

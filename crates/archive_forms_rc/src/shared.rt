@@ -34,7 +34,7 @@ impl<T: Portable, L: Flavor> Portable for ArchivedRc<T, L> {
 
     ghost ALIGN = { 4 };
 
-    ghost shape = { shared L.CYCLES (sized T.shape) };
+    ghost shape = { shared L.ALLOW_CYCLES (sized T.shape) };
 
     ghost knows = { T.knows };
 
@@ -46,7 +46,7 @@ impl<T: Portable, L: Flavor> Portable for ArchivedRc<T, L> {
 
     fn shape(alloc: Global) -> Result<Shape, AllocError> {
         Ok(Shape::Shared {
-            cyclic: L::allow_cycles(),
+            cyclic: L::ALLOW_CYCLES,
             pointee: T::pointee(alloc)?,
         })
     }
@@ -82,7 +82,7 @@ pub fn check_rc_each<
     requires checks { StepChecks F.Fn C.kept bytes.now T.shape step T.knows }
     ensures moves { Moves (C.kept context.old) result (C.kept context.new) }
     ensures exact { (names : Names) → T.knows names
-        → Checks names bytes.now (at pos (shared L.CYCLES (sized T.shape))) (C.kept context.old) result (C.kept context.new) }
+        → Checks names bytes.now (at pos (shared L.ALLOW_CYCLES (sized T.shape))) (C.kept context.old) result (C.kept context.new) }
 {
     let _len = bytes.len();
     let size = T::SIZE;
@@ -110,8 +110,8 @@ impl<C: SharedContext, T: CheckBytes<C>, L: Flavor> CheckBytes<C> for ArchivedRc
 
 /// Returns the position of the value of the pointer at `pos`.
 pub(crate) fn value_at<T: Portable, L: Flavor>(bytes: &[u8], pos: usize) -> usize
-    requires { HasValue (shared L.CYCLES (sized T.shape)) T.knows bytes.now pos }
-    ensures { IsRcAt L.CYCLES T.shape T.knows bytes.now pos result }
+    requires { HasValue (shared L.ALLOW_CYCLES (sized T.shape)) T.knows bytes.now pos }
+    ensures { IsRcAt L.ALLOW_CYCLES T.shape T.knows bytes.now pos result }
 {
     target_of(bytes, pos)
 }
@@ -120,9 +120,9 @@ impl<T: Portable, L: Flavor> ArchivedRc<T, L> {
     /// Returns the value that the pointer leads to. If the pointer leads back to a value that it lies inside, this is
     /// that value.
     pub fn get<'a>(this: Ref<'a, ArchivedRc<T, L>>) -> Ref<'a, T>
-        requires { HasValue (shared L.CYCLES (sized T.shape)) T.knows this.bytes.now this.pos }
+        requires { HasValue (shared L.ALLOW_CYCLES (sized T.shape)) T.knows this.bytes.now this.pos }
         ensures bytes { result.bytes ≡ this.entry.bytes }
-        ensures value { IsRcAt L.CYCLES T.shape T.knows this.entry.bytes.now this.entry.pos result.pos }
+        ensures value { IsRcAt L.ALLOW_CYCLES T.shape T.knows this.entry.bytes.now this.entry.pos result.pos }
     {
         Ref::new(this.bytes, value_at::<T, L>(this.bytes, this.pos))
     }

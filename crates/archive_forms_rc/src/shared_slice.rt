@@ -35,7 +35,7 @@ impl<T: Portable, L: Flavor> Portable for ArchivedRcSlice<T, L> {
 
     ghost ALIGN = { 4 };
 
-    ghost shape = { shared L.CYCLES (slice T.shape) };
+    ghost shape = { shared L.ALLOW_CYCLES (slice T.shape) };
 
     ghost knows = { T.knows };
 
@@ -47,7 +47,7 @@ impl<T: Portable, L: Flavor> Portable for ArchivedRcSlice<T, L> {
 
     fn shape(alloc: Global) -> Result<Shape, AllocError> {
         Ok(Shape::Shared {
-            cyclic: L::allow_cycles(),
+            cyclic: L::ALLOW_CYCLES,
             pointee: Slice::<T>::pointee(alloc)?,
         })
     }
@@ -79,7 +79,7 @@ pub fn check_rc_slice_each<
     requires checks { StepChecks F.Fn C.kept bytes.now T.shape step T.knows }
     ensures moves { Moves (C.kept context.old) result (C.kept context.new) }
     ensures exact { (names : Names) → T.knows names
-        → Checks names bytes.now (at pos (shared L.CYCLES (slice T.shape))) (C.kept context.old) result (C.kept context.new) }
+        → Checks names bytes.now (at pos (shared L.ALLOW_CYCLES (slice T.shape))) (C.kept context.old) result (C.kept context.new) }
 {
     let _len = bytes.len();
     let pointer = Ref::<RelPtr<Slice<T>, ArchivedIsize>>::new(bytes, pos);
@@ -109,9 +109,9 @@ impl<C: SharedContext, T: CheckBytes<C>, L: Flavor> CheckBytes<C> for ArchivedRc
 }
 
 /// Returns the position of the elements of the pointer at `pos`, and their number.
-fn elements_at<T: Portable, L: Flavor>(bytes: &[u8], pos: usize) -> (usize, usize)
-    requires { HasValue (shared L.CYCLES (slice T.shape)) T.knows bytes.now pos }
-    ensures { IsRcSliceAt L.CYCLES T.shape T.knows bytes.now pos result.0 result.1 }
+pub(crate) fn elements_at<T: Portable, L: Flavor>(bytes: &[u8], pos: usize) -> (usize, usize)
+    requires { HasValue (shared L.ALLOW_CYCLES (slice T.shape)) T.knows bytes.now pos }
+    ensures { IsRcSliceAt L.ALLOW_CYCLES T.shape T.knows bytes.now pos result.0 result.1 }
 {
     let len = RelPtr::metadata(Ref::<RelPtr<Slice<T>, ArchivedIsize>>::new(bytes, pos));
     (target_of(bytes, pos), len)
@@ -121,9 +121,9 @@ impl<T: Portable, L: Flavor> ArchivedRcSlice<T, L> {
     /// Returns the elements that the pointer leads to. If the pointer leads back to elements that it lies inside, these
     /// are those elements.
     pub fn get<'a>(this: Ref<'a, ArchivedRcSlice<T, L>>) -> SliceRef<'a, T>
-        requires { HasValue (shared L.CYCLES (slice T.shape)) T.knows this.bytes.now this.pos }
+        requires { HasValue (shared L.ALLOW_CYCLES (slice T.shape)) T.knows this.bytes.now this.pos }
         ensures bytes { result.bytes ≡ this.entry.bytes }
-        ensures elements { IsRcSliceAt L.CYCLES T.shape T.knows this.entry.bytes.now
+        ensures elements { IsRcSliceAt L.ALLOW_CYCLES T.shape T.knows this.entry.bytes.now
             this.entry.pos result.pos result.len }
     {
         let (pos, len) = elements_at::<T, L>(this.bytes, this.pos);

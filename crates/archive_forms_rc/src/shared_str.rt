@@ -34,7 +34,7 @@ impl<L: Flavor> Portable for ArchivedRcStr<L> {
 
     ghost ALIGN = { 4 };
 
-    ghost shape = { shared L.CYCLES str };
+    ghost shape = { shared L.ALLOW_CYCLES str };
 
     ghost knows = { λ _. ⊤ };
 
@@ -46,7 +46,7 @@ impl<L: Flavor> Portable for ArchivedRcStr<L> {
 
     fn shape(_alloc: Global) -> Result<Shape, AllocError> {
         Ok(Shape::Shared {
-            cyclic: L::allow_cycles(),
+            cyclic: L::ALLOW_CYCLES,
             pointee: Pointee::Text,
         })
     }
@@ -75,7 +75,7 @@ pub fn check_rc_str<L: Flavor, C: SharedContext>(
     requires range { IsWithin (C.kept context.old) (length bytes.now) }
     ensures moves { Moves (C.kept context.old) result (C.kept context.new) }
     ensures exact { (names : Names)
-        → Checks names bytes.now (at pos (shared L.CYCLES str)) (C.kept context.old) result (C.kept context.new) }
+        → Checks names bytes.now (at pos (shared L.ALLOW_CYCLES str)) (C.kept context.old) result (C.kept context.new) }
 {
     let _len = bytes.len();
     let pointer = Ref::<RelPtr<Str, ArchivedIsize>>::new(bytes, pos);
@@ -98,8 +98,8 @@ impl<C: SharedContext, L: Flavor> CheckBytes<C> for ArchivedRcStr<L> {
 
 /// Returns the position of the text of the pointer at `pos`, and its length in bytes.
 fn text_at<L: Flavor>(bytes: &[u8], pos: usize) -> (usize, usize)
-    requires { HasCounted L.CYCLES str (λ _. ⊤) bytes.now pos }
-    ensures { IsRcStrAt L.CYCLES bytes.now pos result.0 result.1 }
+    requires { HasCounted L.ALLOW_CYCLES str (λ _. ⊤) bytes.now pos }
+    ensures { IsRcStrAt L.ALLOW_CYCLES bytes.now pos result.0 result.1 }
 {
     let len = RelPtr::metadata(Ref::<RelPtr<Str, ArchivedIsize>>::new(bytes, pos));
     (target_of(bytes, pos), len)
@@ -108,8 +108,8 @@ fn text_at<L: Flavor>(bytes: &[u8], pos: usize) -> (usize, usize)
 impl<L: Flavor> ArchivedRcStr<L> {
     /// Returns the text that the pointer leads to.
     pub fn get<'a>(this: Ref<'a, ArchivedRcStr<L>>) -> &'a str
-        requires { HasCounted L.CYCLES str (λ _. ⊤) this.bytes.now this.pos }
-        ensures { (to len : ℕ) × IsRcStrAt L.CYCLES this.entry.bytes.now this.entry.pos to len
+        requires { HasCounted L.ALLOW_CYCLES str (λ _. ⊤) this.bytes.now this.pos }
+        ensures { (to len : ℕ) × IsRcStrAt L.ALLOW_CYCLES this.entry.bytes.now this.entry.pos to len
             × (result.now ≡ window this.entry.bytes.now to len) }
     {
         let (start, len) = text_at::<L>(this.bytes, this.pos);

@@ -18,14 +18,14 @@ pub(crate) fn visit<P: ArchivePointee, L: Flavor, C: SharedContext>(
     len: usize,
 ) -> Result<bool, Error>
     ensures { MatchResult result
-        (Visits L.CYCLES (C.kept context.old) target P.pointee len (C.kept context.new))
-        (λ e. e ≢ Error.OutOfMemory → ClashesAt L.CYCLES (C.kept context.old) target P.pointee len e) }
+        (Visits L.ALLOW_CYCLES (C.kept context.old) target P.pointee len (C.kept context.new))
+        (λ e. e ≢ Error.OutOfMemory → ClashesAt L.ALLOW_CYCLES (C.kept context.old) target P.pointee len e) }
 {
     let pointee = P::pointee(alloc)?;
     match context.start_shared(target, len, pointee)? {
         ValidationState::Started => Ok(true),
         ValidationState::Finished => Ok(false),
-        ValidationState::Pending if L::allow_cycles() => Ok(false),
+        ValidationState::Pending if L::ALLOW_CYCLES => Ok(false),
         ValidationState::Pending => Err(Error::CyclicSharedPointer),
     }
 }

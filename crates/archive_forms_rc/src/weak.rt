@@ -9,7 +9,8 @@ ghost use Rattle.archive_shape.specs.Kept.{IsWithin};
 ghost use Rattle.archive_shape.specs.Checks.{Checks, Moves};
 ghost use Rattle.archive_shape.specs.Steps.{StepTakes, StepChecks};
 ghost use Rattle.archive_forms_values.specs.Parts.{HasValue};
-ghost use Rattle.archive_forms_rc.specs.WeakPointers.{IsNothingAt, IsWeakAt};
+ghost use Rattle.archive_forms_rc.specs.Pointers.{IsRcAt};
+ghost use Rattle.archive_forms_rc.specs.WeakPointers.{IsNothingAt, IsPointerAt};
 
 use crate::shared::value_at;
 use crate::{Flavor, check_rc_each};
@@ -29,7 +30,7 @@ impl<T: Portable, L: Flavor> Portable for ArchivedRcWeak<T, L> {
 
     ghost ALIGN = { 4 };
 
-    ghost shape = { weak L.CYCLES (sized T.shape) };
+    ghost shape = { weak L.ALLOW_CYCLES (sized T.shape) };
 
     ghost knows = { T.knows };
 
@@ -41,7 +42,7 @@ impl<T: Portable, L: Flavor> Portable for ArchivedRcWeak<T, L> {
 
     fn shape(alloc: Global) -> Result<Shape, AllocError> {
         Ok(Shape::Weak {
-            cyclic: L::allow_cycles(),
+            cyclic: L::ALLOW_CYCLES,
             pointee: T::pointee(alloc)?,
         })
     }
@@ -70,7 +71,7 @@ pub fn check_rc_weak_each<
     requires checks { StepChecks F.Fn C.kept bytes.now T.shape step T.knows }
     ensures moves { Moves (C.kept context.old) result (C.kept context.new) }
     ensures exact { (names : Names) → T.knows names
-        → Checks names bytes.now (at pos (weak L.CYCLES (sized T.shape))) (C.kept context.old) result (C.kept context.new) }
+        → Checks names bytes.now (at pos (weak L.ALLOW_CYCLES (sized T.shape))) (C.kept context.old) result (C.kept context.new) }
 {
     let _len = bytes.len();
     match bytes[pos] {
@@ -95,10 +96,12 @@ impl<C: SharedContext, T: CheckBytes<C>, L: Flavor> CheckBytes<C> for ArchivedRc
 impl<T: Portable, L: Flavor> ArchivedRcWeak<T, L> {
     /// Returns the value, if the pointer leads to one.
     pub fn upgrade<'a>(this: Ref<'a, ArchivedRcWeak<T, L>>) -> Option<Ref<'a, T>>
-        requires { HasValue (weak L.CYCLES (sized T.shape)) T.knows this.bytes.now this.pos }
+        requires { HasValue (weak L.ALLOW_CYCLES (sized T.shape)) T.knows this.bytes.now this.pos }
         ensures { MatchOption result
-            (IsNothingAt L.CYCLES T.shape T.knows this.entry.bytes.now this.entry.pos)
-            (λ r. (r.bytes ≡ this.entry.bytes) × IsWeakAt L.CYCLES T.shape T.knows this.entry.bytes.now this.entry.pos r.pos) }
+            (IsNothingAt L.ALLOW_CYCLES (sized T.shape) T.knows this.entry.bytes.now this.entry.pos)
+            (λ r. (r.bytes ≡ this.entry.bytes)
+            × IsPointerAt L.ALLOW_CYCLES (sized T.shape) T.knows this.entry.bytes.now this.entry.pos
+            × IsRcAt L.ALLOW_CYCLES T.shape T.knows this.entry.bytes.now (this.entry.pos + 4) r.pos) }
     {
         let Ref { bytes, pos, .. } = this;
         if bytes[pos] == 0 {

@@ -16,6 +16,7 @@ use Rattle.archive_forms_laws.specs.Spelling.{Spelling}
 use Rattle.archive_forms_laws.specs.Options.{option_spelling}
 use Rattle.archive_shape.specs.Offsets.{FitsOffset, offset_bytes}
 use Rattle.archive_forms_laws.specs.Serializing.{Resolves, Serializes}
+use Rattle.archive_forms_laws.proofs.Resolved as laws
 use Rattle.archive_forms_writing.specs.Owned.{boxed_spelling}
 use Rattle.archive_forms_values.specs.declared.reading.resolving.BoxResolver.{BoxResolver}
 use Rattle.archive_forms.specs.Deserializing.{IsReadAt}
@@ -48,9 +49,8 @@ next_is x b e = next_as x ∙ ap value_of e
 pub box_resolved :
     (w : Spelling List (Option BoxResolver)) (x : List) (r : BoxResolver) (pos start : ℕ) (old new : Listed ℕ) (result : Result (Unit {0}) Error)
     → MatchResult result (λ _. FitsOffset pos r.pos × (new ≡ overwrite old start (offset_bytes pos r.pos))) (λ e. (e ≡ IsizeOverflow) × ((FitsOffset pos r.pos → ⊥) × (new ≡ old)))
-    → Resolves (linked_spelling w) x r pos start old new result
-box_resolved w x r pos start old new (Ok u) h = h
-box_resolved w x r pos start old new (Err e) h = (h.1.0, h.0)
+    → Resolves (linked_spelling w) (box (sized list_shape)) x r pos start old new result
+box_resolved w x r pos start old new result h = laws.box_resolved list_shape (box (sized list_shape)) w x r.pos pos start old new result h
 
 -- a list is written where its box is
 pub next_written :

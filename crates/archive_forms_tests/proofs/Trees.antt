@@ -90,9 +90,9 @@ trees_spelling = kept_as (λ n. record { pos = n }) (λ r. r.pos) (slice_spellin
 -- the own bytes of the vector are those of the tree
 pub tree_resolved :
     (x : Tree) (r : VecResolver) (pos start : ℕ) (old new : List ℕ) (result : Result (Unit {0}) Error)
-    → Resolves (vec_spelling tree_shape tree_spelling) (out-Tree x).branches r pos start old new result
-    → Resolves tree_spelling x r pos start old new result
-tree_resolved x r pos start old new result h = subst (λ ts. Resolves trees_spelling ts r pos start old new result) (sym (branches_are x)) h
+    → Resolves (vec_spelling tree_shape tree_spelling) tree_shape (out-Tree x).branches r pos start old new result
+    → Resolves tree_spelling tree_shape x r pos start old new result
+tree_resolved x r pos start old new result h = subst (λ ts. Resolves trees_spelling tree_shape ts r pos start old new result) (sym (branches_are x)) h
 
 pub tree_written :
     {W : Type 0} (m : WriterMembers W) (x : Tree) (old new : W) (result : Result VecResolver Error)

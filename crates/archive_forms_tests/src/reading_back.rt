@@ -4,13 +4,13 @@ mod unsized_values;
 mod values;
 
 use crate::narrow_context::NarrowContext;
-use archive_forms::Deserialize;
+use archive_forms::{Deserialize, Deserializer};
 use archive_forms_writing::Archive;
 use archive_shape::{CheckBytes, Error, Ref};
 use std::alloc::Global;
 
 /// Checks the value at `pos` in a new context of the bytes before it, and reads it back.
-pub(crate) fn read_back<T: Archive, A: CheckBytes<NarrowContext> + Deserialize<T, ()>>(
+pub(crate) fn read_back<T: Archive, A: CheckBytes<NarrowContext> + Deserialize<T>>(
     alloc: Global,
     bytes: &[u8],
     pos: usize,
@@ -25,5 +25,6 @@ pub(crate) fn read_back<T: Archive, A: CheckBytes<NarrowContext> + Deserialize<T
     }
     let mut context = NarrowContext::new(alloc, pos, most);
     A::check(alloc, bytes, pos, &mut context)?;
-    A::deserialize(&Ref::new(bytes, pos), alloc, &mut ())
+    let mut deserializer = A::Pool::new(alloc);
+    A::deserialize(&Ref::new(bytes, pos), alloc, &mut deserializer)
 }

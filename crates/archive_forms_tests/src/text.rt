@@ -3,3 +3,4 @@ mod checked;
 mod checks;
 mod keys;
 mod reading;
+mod writing;

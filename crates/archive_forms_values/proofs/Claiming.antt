@@ -40,14 +40,14 @@ module _ (k l : Kept) (s : Span) where
       → (result : Result PushedRange Error)
       → MatchResult result
       (λ r. (r ≡ record { pos = s.start; end = s.start + size; outer = k.end }) × (length k.pushes < k.most) × (l ≡ pushed k r))
-      (λ e. e ≢ OutOfMemory → (k.most ≤ length k.pushes) × (e ≡ ExceededMaximumSubtreeDepth))
+      (λ e. (e ≢ OutOfMemory → (k.most ≤ length k.pushes) × (e ≡ ExceededMaximumSubtreeDepth)) × (l ≡ k))
       → ClaimOutcome result
   claim_pushed size cut small claimable (Ok r) h =
       let push = pushes k l s r size s.align cut refl small claimable h.0 h.1 h.2 in
       record { answered = push.answered; range = push.range; narrowed = h.2 }
   claim_pushed size cut small claimable (Err e) h =
       let place = answered (range_of k) s size s.align cut refl small claimable in
-      λ other. let refused = h other in depth_unanswered (range_of k) s e place.0 place.1 refused.0 refused.1
+      λ other. let refused = h.0 other in depth_unanswered (range_of k) s e place.0 place.1 refused.0 refused.1
 
 -- ---- what is in it
 

@@ -12,10 +12,12 @@ pub mod Inside
 pub mod Joined
 pub mod Led
 pub mod Lengths
+pub mod Lent
 pub mod Named
 pub mod Payloads
 pub mod Placed
 pub mod Pointed
+pub mod Rooted
 pub mod SameContent
 pub mod Slices
 pub mod Stands

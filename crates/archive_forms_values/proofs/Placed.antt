@@ -1,11 +1,13 @@
 -- The position of a text's bytes, by its own bytes.
-use Rattle.std.proofs.Common.{◌≡◌, ℕ, ◌<◌, Bool, true, false, List, length, drop, slice_index, Some, if◌then◌else◌, refl, sym, ap, subst, ◌∙◌, arith, length-take, length-drop}
+use Rattle.std.proofs.Common.{◌≡◌, ℕ, ◌+◌, ◌<◌, ◌≤◌, Bool, true, false, List, length, drop, slice_index, Some, if◌then◌else◌, refl, sym, ap, subst, ◌∙◌, arith, length-append, length-take, length-drop}
 use Rattle.archive_shape_layout.specs.Bytes.{window, word_at, target_from}
 use Rattle.archive_shape_layout.specs.Content.{IsInline, before_ff, text_length}
+use Rattle.archive_shape_layout.proofs.Texts.{split_at_filler}
+use Rattle.archive_shape.proofs.Pieces.{length-window}
 use Rattle.archive_forms_laws.proofs.Once.{one_place}
 use Rattle.archive_forms_laws.proofs.TextContent.{before_ff-take}
 use Rattle.archive_forms_values.specs.Repr.{length_of}
-use Rattle.archive_forms_laws.specs.Text.{own_bytes, LiesAt, HasText, IsText}
+use Rattle.archive_forms_laws.specs.Text.{own_bytes, LiesAt, HasText, IsText, HasLength}
 use Rattle.archive_forms_laws.specs.Text.LiesAt.{inline, out_of_line}
 
 -- ---- by the bytes there
@@ -70,3 +72,25 @@ module _ (bytes : List ℕ) (pos : ℕ) (there : HasText bytes pos) (own : List 
       let whole : length (window bytes there.start there.len) ≡ there.len = simp (length-take, length-drop) (omega arith) in
       let says : n ≡ there.len = e ∙ ap length_of is ∙ sym (stands_long bytes pos there.start there.len there.stands) in
       (window bytes there.start there.len, record { there = there; is = refl }, says ∙ sym whole)
+
+-- ---- where a text of the same length is written
+
+module _ (bytes : List ℕ) (pos start : ℕ) where
+  pub record IsThere (n : ℕ) : Type 0 where
+    pub lies : LiesAt bytes pos start n
+    pub room : start + n ≤ length bytes
+
+  pub text_there : (n : ℕ) → HasLength bytes pos n → ((len : ℕ) × LiesAt bytes pos start len) → IsThere n
+  text_there n has lies =
+      let there = has.1.there in
+      let within = there.within in
+      let one = one_place bytes pos start lies.0 there.start there.len lies.1 there.stands in
+      let counted : n ≡ there.len = has.2 ∙ ap length has.1.is ∙ length-window bytes there.start there.len within in
+      record { lies = subst (LiesAt bytes pos start) (one.1 ∙ sym counted) lies.1; room = omega (arith, one.0, counted, within) }
+
+-- an inline text fits its own bytes
+pub inline_room : (own : List ℕ) (n : ℕ) → IsInline (slice_index own 0) → length_of own ≡ n → n ≤ length own
+inline_room own n begins is =
+    let split = split_at_filler own in
+    let says : n ≡ length (before_ff own) = sym is ∙ chosen_true _ (length (before_ff own)) (text_length (word_at own 0)) begins in
+    omega (arith, says, ap length split.whole, length-append (before_ff own) split.rest)

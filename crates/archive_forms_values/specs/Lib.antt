@@ -2,6 +2,7 @@ pub mod Arrays
 pub mod Boxes
 pub mod Claims
 pub mod Fields
+pub mod Loans
 pub mod Parts
 pub mod Repr
 pub mod Tuples

@@ -15,3 +15,4 @@ pub use laws::out_of_line_capacity;
 pub use repr::ArchivedStringRepr;
 pub use resolving::StringResolver;
 pub use string::ArchivedString;
+pub(crate) use string::write_at;

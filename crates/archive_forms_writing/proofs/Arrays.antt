@@ -1,9 +1,11 @@
 -- The elements of an array: their resolvers, and their own bytes, which are adjacent.
-use Rattle.std.proofs.Common.{◌≡◌, ℕ, zero, suc, ◌+◌, ◌*◌, ◌≤◌, ◌<◌, ◌-◌, ◌^◌, min, set, List, [], ◌∷◌, ◌++◌, length, take, drop, replicate, arith, length-append, append_assoc, append-nil, ap, sym, refl, subst, ◌∙◌, inl, inr, mul-le-mul_right}
+use Rattle.std.proofs.Common.{◌≡◌, ℕ, zero, suc, ◌+◌, ◌*◌, ◌≤◌, ◌<◌, ◌-◌, ◌^◌, min, set, List, [], ◌∷◌, ◌++◌, length, take, drop, replicate, arith, le_refl, length-append, append_assoc, append-nil, ap, sym, refl, subst, ◌∙◌, inl, inr, mul-le-mul_right}
 use Rattle.std.specs.Prelude.{⊤}
 use Rattle.archive_shape.specs.ShapeLayout.Shape.{Shape, size_of}
+use Rattle.archive_shape.specs.ShapeLayout.Edit.{Spares}
 use Rattle.archive_shape.specs.Bytes.{HasBytes, zeros, overwrite}
 use Rattle.archive_shape_writing.specs.declared.error.Error.{Error}
+use Rattle.archive_shape.proofs.Spared.{spares_within, spares_both, spares_overwritten}
 use Rattle.archive_shape.proofs.Written.{length-overwrite}
 use Rattle.archive_shape_writing.specs.Progress.{Progress}
 use Rattle.archive_forms_laws.specs.ShapeCanonical.FirstFit.{first_fit}
@@ -152,11 +154,25 @@ module _ {A R : Type 0} (s : Shape) (w : Spelling A R) (xs : List A) (kept : Lis
         }
 
     -- or is refused
-    pub laid_refused : (d : Error) → w.own_refused x k (pos + offset) d → array_own_refused s w xs kept pos d
-    laid_refused d r =
+    pub laid_refused :
+        {next : List ℕ} (n : ℕ) → i < n
+        → start + n * size_of s ≤ length bytes
+        → (d : Error)
+        → w.own_refused x k (pos + offset) d × Spares now next (start + offset) (size_of s)
+        → array_own_refused s w xs kept pos d × Spares bytes next start (n * size_of s)
+    laid_refused {next} n less room d r =
         let K : List R → Type 0 = λ l. array_own_refused s w (x ∷ drop (i + 1) xs) l (pos + offset) d in
         let X : List A → Type 0 = λ l. array_own_refused s w l (drop i kept) (pos + offset) d in
-        h.refused d (subst X (sym e) (subst K (sym f) (inl r)))
+        let size = n * size_of s in
+        let more : suc i * size_of s ≤ n * size_of s = mul-le-mul_right (size_of s) less in
+        let step : suc i * size_of s ≡ i * size_of s + size_of s = omega arith in
+        let stands = h.stands in
+        let sized_done = h.sized_done in
+        let before : Spares bytes now start size =
+        subst (λ l. Spares bytes l start size) (sym h.written) (spares_overwritten bytes start h.done start size (le_refl start) (omega arith) room) in (
+          h.refused d (subst X (sym e) (subst K (sym f) (inl r.0))),
+          spares_both bytes now next start size before (spares_within now next (start + offset) (size_of s) start size (omega arith) (omega arith) r.1),
+        )
 
   -- all are written
   pub laid_all : {i offset : ℕ} {now : List ℕ} → drop i xs ≡ [] → Laid i offset now → array_own_fits s w xs kept pos × (now ≡ overwrite bytes start (array_own s w xs kept pos))

@@ -1,9 +1,11 @@
 -- Bytes that are written over others, one piece after another.
-use Rattle.std.proofs.Common.{◌≡◌, ℕ, zero, suc, ◌+◌, ◌-◌, ◌≤◌, ◌<◌, set, List, [], ◌∷◌, ◌++◌, length, take, drop, arith, length-append, append_assoc, append-nil, ap, sym, refl, subst, ◌∙◌}
+use Rattle.std.proofs.Common.{◌≡◌, ℕ, zero, suc, ◌+◌, ◌-◌, ◌≤◌, ◌<◌, set, List, [], ◌∷◌, ◌++◌, length, take, drop, arith, le_refl, length-append, append_assoc, append-nil, ap, sym, refl, subst, ◌∙◌}
 use Rattle.std.proofs.Math.Seq.{take-append_seam}
 use Rattle.std.proofs.Math.ListN.{drop_of_length-le}
 use Rattle.std.proofs.lemmas.List.{length-take, drop-drop, drop_at, take-append-drop, length-replicate}
+use Rattle.archive_shape.specs.ShapeLayout.Edit.{Spares}
 use Rattle.archive_shape.specs.Bytes.{HasBytes, zeros, overwrite}
+use Rattle.archive_shape.proofs.Spared.{spares_within, spares_both, spares_overwritten}
 use Rattle.archive_shape.proofs.Written.{length-overwrite, window_there, window_behind}
 use Rattle.archive_shape.proofs.Pieces.{stands_left, stands_right}
 use Rattle.archive_forms_laws.specs.Options.{tagged_bytes}
@@ -150,3 +152,17 @@ module _ (offset size payload : ℕ) (first : 1 ≤ offset) (fits : offset + pay
   payload_over own is =
       ap (λ l. overwrite l (start + offset) own) (set_over bytes start tag (omega arith))
       ∙ tagged_over bytes start offset size tag own first (omega arith) room blank
+
+-- where a tag is set, and what changes then is part of the payload, the rest stays
+pub payload_spares :
+    (offset size payload : ℕ) → 1 ≤ offset → offset + payload ≤ size
+    → (bytes set_bytes new final : List ℕ) (start tag from : ℕ) → start + size ≤ length bytes
+    → set_bytes ≡ set bytes start tag → from ≡ start + offset → new ≡ final
+    → Spares set_bytes new from payload
+    → Spares bytes final start size
+payload_spares offset size payload first fits bytes set_bytes new final start tag from room is_set is_from ends h =
+    let tagged : Spares bytes set_bytes start size =
+    subst (λ l. Spares bytes l start size) (sym (is_set ∙ set_over bytes start tag (omega arith)))
+    (spares_overwritten bytes start (tag ∷ []) start size (le_refl start) (omega arith) room) in
+    subst (λ l. Spares bytes l start size) ends
+    (spares_both bytes set_bytes new start size tagged (spares_within set_bytes new from payload start size (omega arith) (omega arith) h))

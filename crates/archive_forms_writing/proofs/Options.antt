@@ -13,7 +13,7 @@ use Rattle.archive_forms_laws.specs.Spelling.{Spelling, state_after}
 use Rattle.archive_forms_laws.specs.Options.{option_spelling, payload_at, tagged_bytes}
 use Rattle.archive_forms_laws.specs.Serializing.{of_data, IsAt, Resolves}
 use Rattle.archive_forms_laws.proofs.Options.{option_room}
-use Rattle.archive_forms_writing.proofs.Joining.{payload_over, unfilled}
+use Rattle.archive_forms_writing.proofs.Joining.{payload_over, payload_spares, unfilled}
 use Rattle.archive_forms_writing.proofs.Laying.{Wrote, Stops}
 
 module _ {A R W : Type 0} (sh : Shape) (w : Spelling A R) (s : WriterMembers W) (old new : W) (st : State) (o : Option A) (x : A) (is : o ≡ Some x) where
@@ -47,11 +47,11 @@ module _ {A R : Type 0} (s : Shape) (w : Spelling A R) (sized : (x : A) (r : R) 
       → o ≡ Some x → k ≡ Some r
       → start + size_of (option s) ≤ length bytes → HasBytes bytes start (zeros (size_of (option s)))
       → set_bytes ≡ set bytes start 1 → from ≡ start + offset → there ≡ pos + offset → new ≡ final
-      → Resolves w x r there from set_bytes new result
-      → Resolves (option_spelling s w) o k pos start bytes final result
+      → Resolves w s x r there from set_bytes new result
+      → Resolves (option_spelling s w) (option s) o k pos start bytes final result
   some_resolved offset place bytes set_bytes new final start pos from there o k x r (Ok u) is_some is_made room blank is_set is_from is_there ends h =
-      let P : Option A → Type 0 = λ y. Resolves (option_spelling s w) y k pos start bytes final (Ok u) in
-      let Q : Option R → Type 0 = λ q. Resolves (option_spelling s w) (Some x) q pos start bytes final (Ok u) in
+      let P : Option A → Type 0 = λ y. Resolves (option_spelling s w) (option s) y k pos start bytes final (Ok u) in
+      let Q : Option R → Type 0 = λ q. Resolves (option_spelling s w) (option s) (Some x) q pos start bytes final (Ok u) in
       let F : ℕ → Type 0 = λ n. w.own_fits x r n in
       let to : there ≡ pos + payload_at s = is_there ∙ ap (λ n. pos + n) (sym place.at) in
       let own = w.own x r (pos + payload_at s) in
@@ -66,16 +66,19 @@ module _ {A R : Type 0} (s : Shape) (w : Spelling A R) (sized : (x : A) (r : R) 
       ∙ ap (λ n. overwrite bytes start (tagged_bytes 1 n (size_of (option s)) own)) (sym place.at) in
       subst P (sym is_some) (subst Q (sym is_made) (subst F to h.0, written))
   some_resolved offset place bytes set_bytes new final start pos from there o k x r (Err e) is_some is_made room blank is_set is_from is_there ends h =
-      let P : Option A → Type 0 = λ y. Resolves (option_spelling s w) y k pos start bytes final (Err e) in
-      let Q : Option R → Type 0 = λ q. Resolves (option_spelling s w) (Some x) q pos start bytes final (Err e) in
+      let P : Option A → Type 0 = λ y. Resolves (option_spelling s w) (option s) y k pos start bytes final (Err e) in
+      let Q : Option R → Type 0 = λ q. Resolves (option_spelling s w) (option s) (Some x) q pos start bytes final (Err e) in
       let F : ℕ → Type 0 = λ n. w.own_refused x r n e in
-      subst P (sym is_some) (subst Q (sym is_made) (subst F (is_there ∙ ap (λ n. pos + n) (sym place.at)) h))
+      subst P (sym is_some) (subst Q (sym is_made) (
+        subst F (is_there ∙ ap (λ n. pos + n) (sym place.at)) h.0,
+        payload_spares offset (size_of (option s)) (size_of s) place.first place.fits bytes set_bytes new final start 1 from room is_set is_from ends h.1,
+      ))
 
   -- and an option that is not there, in a place that is zero
   pub none_resolved : (bytes : List ℕ) (start pos : ℕ) (o : Option A) (k : Option R) → o ≡ None → HasBytes bytes start (zeros (size_of (option s)))
-      → Resolves (option_spelling s w) o k pos start bytes bytes (Ok tt)
+      → Resolves (option_spelling s w) (option s) o k pos start bytes bytes (Ok tt)
   none_resolved bytes start pos o k is blank =
-      let P : Option A → Type 0 = λ y. Resolves (option_spelling s w) y k pos start bytes bytes (Ok tt) in
+      let P : Option A → Type 0 = λ y. Resolves (option_spelling s w) (option s) y k pos start bytes bytes (Ok tt) in
       subst P (sym is) (tt, sym (unfilled bytes start (size_of (option s)) blank))
 
 module _ {A R : Type 0} (s : Shape) (w : Spelling A R) (o : Option A) (k : Option R) (x : A) (r : R) (is_some : o ≡ Some x) (is_made : k ≡ Some r) where

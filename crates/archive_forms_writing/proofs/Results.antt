@@ -14,18 +14,18 @@ use Rattle.archive_forms_laws.specs.Payloads.{payload_spelling}
 use Rattle.archive_forms_laws.specs.Results.{result_spelling, result_payload_at}
 use Rattle.archive_forms_laws.specs.Serializing.{of_data, IsAt, CanResolve, Resolves}
 use Rattle.archive_forms_laws.proofs.SpellingResults.{result_room}
-use Rattle.archive_forms_writing.proofs.Joining.{payload_over, payload_place}
+use Rattle.archive_forms_writing.proofs.Joining.{payload_over, payload_place, payload_spares}
 use Rattle.archive_forms_writing.proofs.Laying.{Wrote, Stops}
 
 -- what a value after a tag is resolved to, where the tag is set and the value is resolved after it
-pub payload_resolved : {A R : Type 0} (w : Spelling A R) (tag offset size payload : ℕ) → 1 ≤ offset → offset + payload ≤ size
+pub payload_resolved : {A R : Type 0} (w : Spelling A R) (s whole : Shape) (tag offset : ℕ) → 1 ≤ offset → offset + size_of s ≤ size_of whole
     → (bytes set_bytes new final : List ℕ) (start pos from there : ℕ) (x : A) (r : R) (result : Result (Unit {0}) Error)
-    → ((p : ℕ) → w.own_fits x r p → length (w.own x r p) ≡ payload)
-    → start + size ≤ length bytes → HasBytes bytes start (zeros size)
+    → ((p : ℕ) → w.own_fits x r p → length (w.own x r p) ≡ size_of s)
+    → start + size_of whole ≤ length bytes → HasBytes bytes start (zeros (size_of whole))
     → set_bytes ≡ set bytes start tag → from ≡ start + offset → there ≡ pos + offset → new ≡ final
-    → Resolves w x r there from set_bytes new result
-    → Resolves (payload_spelling tag offset size w) x r pos start bytes final result
-payload_resolved w tag offset size payload first fits bytes set_bytes new final start pos from there x r (Ok u) sized room blank is_set is_from is_there ends h =
+    → Resolves w s x r there from set_bytes new result
+    → Resolves (payload_spelling tag offset (size_of whole) w) whole x r pos start bytes final result
+payload_resolved w s whole tag offset first fits bytes set_bytes new final start pos from there x r (Ok u) sized room blank is_set is_from is_there ends h =
     let F : ℕ → Type 0 = λ n. w.own_fits x r n in
     let fit = subst F is_there h.0 in (
       fit,
@@ -33,10 +33,11 @@ payload_resolved w tag offset size payload first fits bytes set_bytes new final 
           ∙ ap (λ l. overwrite l from (w.own x r there)) is_set
           ∙ ap (λ n. overwrite (set bytes start tag) n (w.own x r there)) is_from
           ∙ ap (λ n. overwrite (set bytes start tag) (start + offset) (w.own x r n)) is_there
-          ∙ payload_over offset size payload first fits bytes start tag room blank (w.own x r (pos + offset)) (sized (pos + offset) fit),
+          ∙ payload_over offset (size_of whole) (size_of s) first fits bytes start tag room blank (w.own x r (pos + offset)) (sized (pos + offset) fit),
     )
-payload_resolved w tag offset size payload first fits bytes set_bytes new final start pos from there x r (Err e) sized room blank is_set is_from is_there ends h =
-    let F : ℕ → Type 0 = λ n. w.own_refused x r n e in subst F is_there h
+payload_resolved w s whole tag offset first fits bytes set_bytes new final start pos from there x r (Err e) sized room blank is_set is_from is_there ends h =
+    let F : ℕ → Type 0 = λ n. w.own_refused x r n e in
+    (subst F is_there h.0, payload_spares offset (size_of whole) (size_of s) first fits bytes set_bytes new final start tag from room is_set is_from ends h.1)
 
 -- what is required where a value is resolved after a tag that is set
 pub payload_can : {A R : Type 0} (w : Spelling A R) (s : Shape) (tag offset size : ℕ) → 1 ≤ offset → offset + size_of s ≤ size
@@ -96,21 +97,21 @@ error_made {R = R} {Q = Q} s t w u o k y r is made h =
 module _ {A B R Q : Type 0} (s t : Shape) (w : Spelling A R) (u : Spelling B Q) (o : Result A B) (offset : ℕ) (at : result_payload_at s t ≡ offset) (bytes final : List ℕ) (start pos : ℕ) (answer : Result (Unit {0}) Error) where
   -- what a result is resolved to, by its tag and what is after it
   pub value_resolved : (k : Result R Q) (x : A) (r : R) → o ≡ Ok x → k ≡ Ok r
-      → Resolves (payload_spelling 0 offset (size_of (result_shape s t)) w) x r pos start bytes final answer
-      → Resolves (result_spelling s t w u) o k pos start bytes final answer
+      → Resolves (payload_spelling 0 offset (size_of (result_shape s t)) w) (result_shape s t) x r pos start bytes final answer
+      → Resolves (result_spelling s t w u) (result_shape s t) o k pos start bytes final answer
   value_resolved k x r is made h =
-      let P : Result A B → Type 0 = λ y. Resolves (result_spelling s t w u) y k pos start bytes final answer in
-      let M : Result R Q → Type 0 = λ q. Resolves (result_spelling s t w u) (Ok x) q pos start bytes final answer in
-      let N : ℕ → Type 0 = λ n. Resolves (payload_spelling 0 n (size_of (result_shape s t)) w) x r pos start bytes final answer in
+      let P : Result A B → Type 0 = λ y. Resolves (result_spelling s t w u) (result_shape s t) y k pos start bytes final answer in
+      let M : Result R Q → Type 0 = λ q. Resolves (result_spelling s t w u) (result_shape s t) (Ok x) q pos start bytes final answer in
+      let N : ℕ → Type 0 = λ n. Resolves (payload_spelling 0 n (size_of (result_shape s t)) w) (result_shape s t) x r pos start bytes final answer in
       subst P (sym is) (subst M (sym made) (subst N (sym at) h))
 
   pub error_resolved : (k : Result R Q) (y : B) (r : Q) → o ≡ Err y → k ≡ Err r
-      → Resolves (payload_spelling 1 offset (size_of (result_shape s t)) u) y r pos start bytes final answer
-      → Resolves (result_spelling s t w u) o k pos start bytes final answer
+      → Resolves (payload_spelling 1 offset (size_of (result_shape s t)) u) (result_shape s t) y r pos start bytes final answer
+      → Resolves (result_spelling s t w u) (result_shape s t) o k pos start bytes final answer
   error_resolved k y r is made h =
-      let P : Result A B → Type 0 = λ z. Resolves (result_spelling s t w u) z k pos start bytes final answer in
-      let M : Result R Q → Type 0 = λ q. Resolves (result_spelling s t w u) (Err y) q pos start bytes final answer in
-      let N : ℕ → Type 0 = λ n. Resolves (payload_spelling 1 n (size_of (result_shape s t)) u) y r pos start bytes final answer in
+      let P : Result A B → Type 0 = λ z. Resolves (result_spelling s t w u) (result_shape s t) z k pos start bytes final answer in
+      let M : Result R Q → Type 0 = λ q. Resolves (result_spelling s t w u) (result_shape s t) (Err y) q pos start bytes final answer in
+      let N : ℕ → Type 0 = λ n. Resolves (payload_spelling 1 n (size_of (result_shape s t)) u) (result_shape s t) y r pos start bytes final answer in
       subst P (sym is) (subst M (sym made) (subst N (sym at) h))
 
 module _ {A B R Q W : Type 0} (s t : Shape) (w : Spelling A R) (u : Spelling B Q) (m : WriterMembers W) (old new : W) (st : State) (o : Result A B) where

@@ -1,11 +1,13 @@
 -- Fields that are written one after another: their data, and their own bytes.
-use Rattle.std.proofs.Common.{◌≡◌, ℕ, ◌+◌, ◌-◌, ◌≤◌, ◌<◌, ◌^◌, min, List, [], ◌++◌, length, refl, sym, ap, ap₂, subst, ◌∙◌, arith, inl, inr, Ok, append_assoc, append-nil, length-append}
+use Rattle.std.proofs.Common.{◌≡◌, ℕ, ◌+◌, ◌-◌, ◌≤◌, ◌<◌, ◌^◌, min, List, [], ◌++◌, length, refl, sym, ap, ap₂, subst, ◌∙◌, arith, le_refl, inl, inr, Ok, Err, append_assoc, append-nil, length-append}
 use Rattle.std.proofs.lemmas.List.{length-replicate}
 use Rattle.archive_shape.specs.ShapeLayout.Bytes.{align_up}
 use Rattle.archive_shape.specs.ShapeLayout.Shape.{Shape, size_of, align_of, fields_end}
 use Rattle.archive_shape.specs.ShapeLayout.Shape.Shape.{tuple}
+use Rattle.archive_shape.specs.ShapeLayout.Edit.{Spares}
 use Rattle.archive_shape.proofs.ShapeLayout.Framed.{le_align_up, le_fields_end}
 use Rattle.archive_shape.specs.Bytes.{HasBytes, zeros, overwrite}
+use Rattle.archive_shape.proofs.Spared.{spares_within, spares_both, spares_overwritten}
 use Rattle.archive_shape.proofs.Written.{length-overwrite}
 use Rattle.archive_shape_writing.specs.Writing.{WriterMembers}
 use Rattle.archive_shape_writing.specs.declared.error.Error.{Error}
@@ -37,7 +39,7 @@ module _ {A R : Type 0} (w : Spelling A R) (s : Shape) (x : A) (r : R) (bytes no
       subst P (sym same) (subst F (sym (is_there ∙ ap (λ n. start + n) is)) (subst G (sym (is_at ∙ ap (λ n. pos + n) is)) can))
 
   -- it was resolved, or refused
-  pub field_wrote : (new final : List ℕ) (size : ℕ) → size ≡ size_of s → new ≡ final → Resolves w x r at there now new (Ok tt) → ResolvesField w s x r pos start offset bytes final (Ok (from + size))
+  pub field_wrote : (new final : List ℕ) (size : ℕ) → size ≡ size_of s → new ≡ final → Resolves w s x r at there now new (Ok tt) → ResolvesField w s x r pos start offset bytes final (Ok (from + size))
   field_wrote new final size sized ends h =
       let F : ℕ → Type 0 = λ n. w.own_fits x r n in
       let at_field : at ≡ pos + field_at s offset = is_at ∙ ap (λ n. pos + n) is in (
@@ -49,8 +51,13 @@ module _ {A R : Type 0} (w : Spelling A R) (s : Shape) (x : A) (r : R) (bytes no
             ∙ ap₂ (λ m n. overwrite bytes m (w.own x r n)) (is_there ∙ ap (λ n. start + n) is) at_field,
       )
 
-  pub field_refused : (e : Error) → w.own_refused x r at e → w.own_refused x r (pos + field_at s offset) e
-  field_refused e h = let F : ℕ → Type 0 = λ n. w.own_refused x r n e in subst F (is_at ∙ ap (λ n. pos + n) is) h
+  pub field_refused : (new final : List ℕ) (e : Error) → new ≡ final → Resolves w s x r at there now new (Err e) → ResolvesField w s x r pos start offset bytes final (Err e)
+  field_refused new final e ends h =
+      let F : ℕ → Type 0 = λ n. w.own_refused x r n e in
+      let O : List ℕ → Type 0 = λ l. Spares l new there (size_of s) in
+      let N : List ℕ → Type 0 = λ l. Spares bytes l there (size_of s) in
+      let S : ℕ → Type 0 = λ n. Spares bytes final n (size_of s) in
+      (subst F (is_at ∙ ap (λ n. pos + n) is) h.0, subst S (is_there ∙ ap (λ n. start + n) is) (subst N ends (subst O same h.1)))
 
 -- ---- own bytes
 
@@ -129,11 +136,19 @@ module _ {A R : Type 0} (all : FieldsSpelling A R) (x : A) (r : R) (bytes : List
         })
 
     -- it was refused
-    pub placed_stopped : (e : Error) → w.own_refused y.0 k.0 (pos + field_at s offset) e → all.own_refused x r pos 0 e
-    placed_stopped e f = h.refused e (inl f)
+    pub placed_stopped : {next : List ℕ} (e : Error) → w.own_refused y.0 k.0 (pos + field_at s offset) e × Spares now next (start + field_at s offset) (size_of s)
+        → Resolves (struct_spelling all) (tuple all.shapes) x r pos start bytes next (Err e)
+    placed_stopped {next} e f =
+        let size = size_of (tuple all.shapes) in
+        let a = le_align_up offset (align_of s) in
+        let i = within in
+        let n = h.long in
+        let before : Spares bytes now start size =
+        subst (λ l. Spares bytes l start size) (sym h.is) (spares_overwritten bytes start h.done start size (le_refl start) (omega arith) can.room) in
+        (h.refused e (inl f.0), spares_both bytes now next start size before (spares_within now next (start + field_at s offset) (size_of s) start size (omega arith) (omega arith) f.1))
 
   -- all were written
-  pub placed_all : {B : Type 0} (y : B) (offset : ℕ) (now : List ℕ) → Placed all x r bytes start pos (no_fields {A = B}) y tt offset now → Resolves (struct_spelling all) x r pos start bytes now (Ok tt)
+  pub placed_all : {B : Type 0} (y : B) (offset : ℕ) (now : List ℕ) → Placed all x r bytes start pos (no_fields {A = B}) y tt offset now → Resolves (struct_spelling all) (tuple all.shapes) x r pos start bytes now (Ok tt)
   placed_all y offset now h =
       let size = size_of (tuple all.shapes) in
       let own : all.own x r pos 0 ≡ h.done = h.whole ∙ append-nil h.done in

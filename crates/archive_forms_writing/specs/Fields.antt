@@ -2,6 +2,7 @@
 use Rattle.std.specs.Prelude.{◌≡◌, ℕ, ◌+◌, List, Result, MatchResult}
 use Rattle.archive_shape.specs.ShapeLayout.Bytes.{align_up}
 use Rattle.archive_shape.specs.ShapeLayout.Shape.{Shape, size_of, align_of}
+use Rattle.archive_shape.specs.ShapeLayout.Edit.{Spares}
 use Rattle.archive_shape.specs.Bytes.{overwrite}
 use Rattle.archive_shape_writing.specs.declared.error.Error.{Error}
 use Rattle.archive_forms_laws.specs.Spelling.{Spelling}
@@ -11,10 +12,10 @@ abbrev pub field_at : Shape → ℕ → ℕ
 field_at s offset = align_up offset (align_of s)
 
 -- the contract of a call that writes the own bytes of a field: the bytes at its position become the field's, and the
--- result is the offset at which it ends
+-- result is the offset at which it ends; no others change, also where it is refused
 abbrev pub ResolvesField : {A R : Type 0} → Spelling A R → Shape → A → R → (pos start offset : ℕ) → List ℕ → List ℕ → Result ℕ Error → Type 0
 ResolvesField w s x r pos start offset old new result =
     let from = field_at s offset in
     MatchResult result
     (λ end. (end ≡ from + size_of s) × w.own_fits x r (pos + from) × (new ≡ overwrite old (start + from) (w.own x r (pos + from))))
-    (w.own_refused x r (pos + from))
+    (λ e. w.own_refused x r (pos + from) e × Spares old new (start + from) (size_of s))

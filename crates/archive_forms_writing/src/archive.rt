@@ -22,7 +22,7 @@ pub trait Archive {
     fn resolve(&self, resolver: Self::Resolver, out: Place<'_, Self::Archived>) -> Result<(), Error>
         requires { CanResolve spelling Self.Archived.shape self.now resolver out.out.now
             out.start out.pos }
-        ensures { Resolves spelling self.now resolver out.entry.pos out.entry.start out.entry.out.now
+        ensures { Resolves spelling Self.Archived.shape self.now resolver out.entry.pos out.entry.start out.entry.out.now
             out.exit.0.now result };
 
     /// The layout reads what is written as the value, and it is the one archive of the value.

@@ -1,6 +1,7 @@
 //! The archiving of arrays.
 ghost use Rattle.std.specs.Prelude.{◌≡◌, ℕ, ◌+◌, ◌-◌, ◌*◌, ◌^◌, ◌<◌, ◌≤◌, [], length, MatchResult};
 ghost use Rattle.archive_shape.specs.ShapeLayout.Shape.{size_of};
+ghost use Rattle.archive_shape.specs.ShapeLayout.Edit.{Spares};
 ghost use Rattle.archive_shape.specs.ShapeLayout.Shape.Shape.{array};
 ghost use Rattle.archive_shape.specs.Bytes.{HasBytes, zeros, overwrite};
 ghost use Rattle.archive_forms_laws.specs.State.{State};
@@ -23,7 +24,7 @@ fn resolve_element<T: Archive>(
     out: &mut [u8],
 ) -> Result<(), Error>
     requires { CanResolve T.spelling T.Archived.shape value.now resolver out.old start pos }
-    ensures { Resolves T.spelling value.now resolver pos start out.old out.new result }
+    ensures { Resolves T.spelling T.Archived.shape value.now resolver pos start out.old out.new result }
 {
     value.resolve(resolver, Place::within(out, start, pos))
 }
@@ -44,7 +45,8 @@ fn resolve_elements<T: Archive>(
     ensures { MatchResult result
         (λ _. array_own_fits T.Archived.shape T.spelling items.now kept.now pos
         × (out.new ≡ overwrite out.old start (array_own T.Archived.shape T.spelling items.now kept.now pos)))
-        (array_own_refused T.Archived.shape T.spelling items.now kept.now pos) }
+        (λ e. array_own_refused T.Archived.shape T.spelling items.now kept.now pos e
+        × Spares out.old out.new start (length items.now * size_of T.Archived.shape)) }
 {
     let _len = out.len();
     let size = T::Archived::SIZE;
@@ -72,8 +74,8 @@ impl<T: Archive, const N: usize> Archive for [T; N] {
     ) -> Result<(), Error>
         requires { CanResolve (array_spelling N T.Archived.shape T.spelling) (array N T.Archived.shape)
             self.now resolver out.out.now out.start out.pos }
-        ensures { Resolves (array_spelling N T.Archived.shape T.spelling) self.now resolver
-            out.entry.pos out.entry.start out.entry.out.now out.exit.0.now result }
+        ensures { Resolves (array_spelling N T.Archived.shape T.spelling) (array N T.Archived.shape)
+            self.now resolver out.entry.pos out.entry.start out.entry.out.now out.exit.0.now result }
     {
         let Place {
             out,

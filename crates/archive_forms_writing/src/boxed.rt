@@ -28,8 +28,8 @@ impl<T: Archive> Archive for Box<T> {
     ) -> Result<(), Error>
         requires { CanResolve (boxed_spelling T.Archived.shape T.spelling)
             (box (sized T.Archived.shape)) self.now resolver out.out.now out.start out.pos }
-        ensures { Resolves (boxed_spelling T.Archived.shape T.spelling) self.now resolver out.entry.pos
-            out.entry.start out.entry.out.now out.exit.0.now result }
+        ensures { Resolves (boxed_spelling T.Archived.shape T.spelling) (box (sized T.Archived.shape))
+            self.now resolver out.entry.pos out.entry.start out.entry.out.now out.exit.0.now result }
     {
         let Place {
             out,

@@ -34,9 +34,10 @@ impl<T: Archive> Archive for BoxedSlice<T> {
         requires { CanResolve (seen_as boxed_slice_items
             (boxed_slice_spelling T.Archived.shape T.spelling)) (box (slice T.Archived.shape))
             self.now resolver out.out.now out.start out.pos }
-        ensures { Resolves (seen_as boxed_slice_items
-            (boxed_slice_spelling T.Archived.shape T.spelling)) self.now resolver out.entry.pos
-            out.entry.start out.entry.out.now out.exit.0.now result }
+        ensures { Resolves
+            (seen_as boxed_slice_items (boxed_slice_spelling T.Archived.shape T.spelling))
+            (box (slice T.Archived.shape)) self.now resolver out.entry.pos out.entry.start
+            out.entry.out.now out.exit.0.now result }
     {
         let Place {
             out,
@@ -116,8 +117,8 @@ impl Archive for BoxedStr {
     fn resolve(&self, resolver: BoxResolver, out: Place<'_, ArchivedBoxedStr>) -> Result<(), Error>
         requires { CanResolve (seen_as boxed_str_bytes boxed_str_spelling) (box str) self.now resolver
             out.out.now out.start out.pos }
-        ensures { Resolves (seen_as boxed_str_bytes boxed_str_spelling) self.now resolver out.entry.pos
-            out.entry.start out.entry.out.now out.exit.0.now result }
+        ensures { Resolves (seen_as boxed_str_bytes boxed_str_spelling) (box str) self.now resolver
+            out.entry.pos out.entry.start out.entry.out.now out.exit.0.now result }
     {
         let Place {
             out,

@@ -41,7 +41,8 @@ impl<N: Leaf> Archive for N {
         requires { CanResolve (leaf_spelling N.Archived.shape N.Archived.bytes_of N.Archived.value_of)
             N.Archived.shape self.now tt out.out.now out.start out.pos }
         ensures { Resolves (leaf_spelling N.Archived.shape N.Archived.bytes_of N.Archived.value_of)
-            self.now tt out.entry.pos out.entry.start out.entry.out.now out.exit.0.now result }
+            N.Archived.shape self.now tt out.entry.pos out.entry.start out.entry.out.now out.exit.0.now
+            result }
     {
         let Place { out, start, .. } = out;
         let end = start + N::Archived::SIZE;

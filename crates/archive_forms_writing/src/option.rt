@@ -25,8 +25,8 @@ impl<T: Archive> Archive for Option<T> {
     ) -> Result<(), Error>
         requires { CanResolve (option_spelling T.Archived.shape T.spelling) (option T.Archived.shape)
             self.now resolver out.out.now out.start out.pos }
-        ensures { Resolves (option_spelling T.Archived.shape T.spelling) self.now resolver out.entry.pos
-            out.entry.start out.entry.out.now out.exit.0.now result }
+        ensures { Resolves (option_spelling T.Archived.shape T.spelling) (option T.Archived.shape)
+            self.now resolver out.entry.pos out.entry.start out.entry.out.now out.exit.0.now result }
     {
         let Place {
             out,

@@ -19,8 +19,8 @@ impl Archive for usize {
     fn resolve(&self, resolver: (), out: Place<'_, ArchivedUsize>) -> Result<(), Error>
         requires { CanResolve usize_spelling (number w32 false) self.now tt out.out.now
             out.start out.pos }
-        ensures { Resolves usize_spelling self.now tt out.entry.pos out.entry.start out.entry.out.now
-            out.exit.0.now result }
+        ensures { Resolves usize_spelling (number w32 false) self.now tt out.entry.pos out.entry.start
+            out.entry.out.now out.exit.0.now result }
     {
         let Place {
             out,
@@ -53,8 +53,8 @@ impl Archive for isize {
     fn resolve(&self, resolver: (), out: Place<'_, ArchivedIsize>) -> Result<(), Error>
         requires { CanResolve isize_spelling (number w32 true) self.now tt out.out.now
             out.start out.pos }
-        ensures { Resolves isize_spelling self.now tt out.entry.pos out.entry.start out.entry.out.now
-            out.exit.0.now result }
+        ensures { Resolves isize_spelling (number w32 true) self.now tt out.entry.pos out.entry.start
+            out.entry.out.now out.exit.0.now result }
     {
         let Place {
             out,

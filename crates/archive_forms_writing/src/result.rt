@@ -28,7 +28,8 @@ impl<T: Archive, E: Archive> Archive for Result<T, E> {
             (result_shape T.Archived.shape E.Archived.shape) self.now resolver out.out.now
             out.start out.pos }
         ensures { Resolves (result_spelling T.Archived.shape E.Archived.shape T.spelling E.spelling)
-            self.now resolver out.entry.pos out.entry.start out.entry.out.now out.exit.0.now result }
+            (result_shape T.Archived.shape E.Archived.shape) self.now resolver out.entry.pos
+            out.entry.start out.entry.out.now out.exit.0.now result }
     {
         let Place {
             out,

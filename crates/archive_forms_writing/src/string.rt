@@ -21,7 +21,7 @@ impl Archive for String {
 
     fn resolve(&self, resolver: StringResolver, out: Place<'_, ArchivedString>) -> Result<(), Error>
         requires { CanResolve string_spelling text self.now resolver out.out.now out.start out.pos }
-        ensures { Resolves string_spelling self.now resolver out.entry.pos out.entry.start
+        ensures { Resolves string_spelling text self.now resolver out.entry.pos out.entry.start
             out.entry.out.now out.exit.0.now result }
     {
         let Place {

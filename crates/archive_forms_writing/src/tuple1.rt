@@ -25,8 +25,8 @@ impl<A: Archive> Archive for (A,) {
     ) -> Result<(), Error>
         requires { CanResolve (tuple1_spelling A.Archived.shape A.spelling) (tuple1 A.Archived.shape)
             self.now resolver out.out.now out.start out.pos }
-        ensures { Resolves (tuple1_spelling A.Archived.shape A.spelling) self.now resolver out.entry.pos
-            out.entry.start out.entry.out.now out.exit.0.now result }
+        ensures { Resolves (tuple1_spelling A.Archived.shape A.spelling) (tuple1 A.Archived.shape)
+            self.now resolver out.entry.pos out.entry.start out.entry.out.now out.exit.0.now result }
     {
         let Place {
             out,

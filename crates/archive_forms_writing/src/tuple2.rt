@@ -27,7 +27,8 @@ impl<A: Archive, B: Archive> Archive for (A, B) {
         requires { CanResolve (tuple2_spelling A.Archived.shape A.spelling B.Archived.shape B.spelling)
             (tuple2 A.Archived.shape B.Archived.shape) self.now resolver out.out.now out.start out.pos }
         ensures { Resolves (tuple2_spelling A.Archived.shape A.spelling B.Archived.shape B.spelling)
-            self.now resolver out.entry.pos out.entry.start out.entry.out.now out.exit.0.now result }
+            (tuple2 A.Archived.shape B.Archived.shape) self.now resolver out.entry.pos out.entry.start
+            out.entry.out.now out.exit.0.now result }
     {
         let Place {
             out,

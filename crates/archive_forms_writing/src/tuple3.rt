@@ -25,7 +25,7 @@ impl<A: Archive, B: Archive, C: Archive> Archive for (A, B, C) {
         out: Place<'_, ArchivedTuple3<A::Archived, B::Archived, C::Archived>>,
     ) -> Result<(), Error>
         requires { CanResolve (tuple3_spelling A.Archived.shape A.spelling B.Archived.shape B.spelling C.Archived.shape C.spelling) (tuple3 A.Archived.shape B.Archived.shape C.Archived.shape) self.now resolver out.out.now out.start out.pos }
-        ensures { Resolves (tuple3_spelling A.Archived.shape A.spelling B.Archived.shape B.spelling C.Archived.shape C.spelling) self.now resolver out.entry.pos out.entry.start out.entry.out.now out.exit.0.now result }
+        ensures { Resolves (tuple3_spelling A.Archived.shape A.spelling B.Archived.shape B.spelling C.Archived.shape C.spelling) (tuple3 A.Archived.shape B.Archived.shape C.Archived.shape) self.now resolver out.entry.pos out.entry.start out.entry.out.now out.exit.0.now result }
     {
         let Place {
             out,

@@ -25,7 +25,7 @@ impl<A: Archive, B: Archive, C: Archive, D: Archive> Archive for (A, B, C, D) {
         out: Place<'_, ArchivedTuple4<A::Archived, B::Archived, C::Archived, D::Archived>>,
     ) -> Result<(), Error>
         requires { CanResolve (tuple4_spelling A.Archived.shape A.spelling B.Archived.shape B.spelling C.Archived.shape C.spelling D.Archived.shape D.spelling) (tuple4 A.Archived.shape B.Archived.shape C.Archived.shape D.Archived.shape) self.now resolver out.out.now out.start out.pos }
-        ensures { Resolves (tuple4_spelling A.Archived.shape A.spelling B.Archived.shape B.spelling C.Archived.shape C.spelling D.Archived.shape D.spelling) self.now resolver out.entry.pos out.entry.start out.entry.out.now out.exit.0.now result }
+        ensures { Resolves (tuple4_spelling A.Archived.shape A.spelling B.Archived.shape B.spelling C.Archived.shape C.spelling D.Archived.shape D.spelling) (tuple4 A.Archived.shape B.Archived.shape C.Archived.shape D.Archived.shape) self.now resolver out.entry.pos out.entry.start out.entry.out.now out.exit.0.now result }
     {
         let Place {
             out,

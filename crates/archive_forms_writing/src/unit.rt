@@ -19,8 +19,8 @@ impl Archive for () {
     fn resolve(&self, _resolver: (), out: Place<'_, ()>) -> Result<(), Error>
         requires { CanResolve unit_spelling (tuple no_shapes) self.now tt out.out.now
             out.start out.pos }
-        ensures { Resolves unit_spelling self.now tt out.entry.pos out.entry.start out.entry.out.now
-            out.exit.0.now result }
+        ensures { Resolves unit_spelling (tuple no_shapes) self.now tt out.entry.pos out.entry.start
+            out.entry.out.now out.exit.0.now result }
     {
         let Place { .. } = out;
         Ok(())
@@ -45,8 +45,8 @@ impl<T> Archive for PhantomData<T> {
     fn resolve(&self, _resolver: (), out: Place<'_, PhantomData<T>>) -> Result<(), Error>
         requires { CanResolve unit_spelling (tuple no_shapes) self.now tt out.out.now
             out.start out.pos }
-        ensures { Resolves unit_spelling self.now tt out.entry.pos out.entry.start out.entry.out.now
-            out.exit.0.now result }
+        ensures { Resolves unit_spelling (tuple no_shapes) self.now tt out.entry.pos out.entry.start
+            out.entry.out.now out.exit.0.now result }
     {
         let Place { .. } = out;
         Ok(())

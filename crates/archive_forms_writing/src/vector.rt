@@ -27,8 +27,8 @@ impl<T: Archive> Archive for Vec<T> {
     ) -> Result<(), Error>
         requires { CanResolve (vec_spelling T.Archived.shape T.spelling) (vector T.Archived.shape)
             self.now resolver out.out.now out.start out.pos }
-        ensures { Resolves (vec_spelling T.Archived.shape T.spelling) self.now resolver out.entry.pos
-            out.entry.start out.entry.out.now out.exit.0.now result }
+        ensures { Resolves (vec_spelling T.Archived.shape T.spelling) (vector T.Archived.shape) self.now
+            resolver out.entry.pos out.entry.start out.entry.out.now out.exit.0.now result }
     {
         let Place {
             out,

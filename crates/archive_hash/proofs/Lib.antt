@@ -1,3 +1,4 @@
+mod Answering
 mod Given
 mod Inserted
 mod Items

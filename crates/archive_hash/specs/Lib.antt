@@ -1,3 +1,4 @@
+pub mod Answering
 pub mod Given
 pub mod Owned
 pub mod ReadBack

@@ -33,7 +33,7 @@ impl<K: Archive + Eq + Hash, V: Archive> Archive for OwnedHashMap<K, V> {
         out: Place<'_, ArchivedHashMap<K::Archived, V::Archived, FxHasher64>>,
     ) -> Result<(), Error>
         requires { CanResolve (seen_as (λ m. m.map.entries) (entries_spelling (λ k. input_hash (K.hash_input k)) K.Archived.shape V.Archived.shape K.spelling V.spelling)) (table (tuple2 K.Archived.shape V.Archived.shape)) self.now resolver out.out.now out.start out.pos }
-        ensures { Resolves (seen_as (λ m. m.map.entries) (entries_spelling (λ k. input_hash (K.hash_input k)) K.Archived.shape V.Archived.shape K.spelling V.spelling)) self.now resolver out.entry.pos out.entry.start out.entry.out.now out.exit.0.now result }
+        ensures { Resolves (seen_as (λ m. m.map.entries) (entries_spelling (λ k. input_hash (K.hash_input k)) K.Archived.shape V.Archived.shape K.spelling V.spelling)) (table (tuple2 K.Archived.shape V.Archived.shape)) self.now resolver out.entry.pos out.entry.start out.entry.out.now out.exit.0.now result }
     {
         let Place {
             out,

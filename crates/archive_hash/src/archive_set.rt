@@ -35,7 +35,7 @@ impl<K: Archive + Eq + Hash> Archive for OwnedHashSet<K> {
         out: Place<'_, ArchivedHashSet<K::Archived, FxHasher64>>,
     ) -> Result<(), Error>
         requires { CanResolve (seen_as (λ s. key_entries s.set.keys) (entries_spelling (λ k. input_hash (K.hash_input k)) K.Archived.shape (tuple no_shapes) K.spelling unit_spelling)) (set_shape K.Archived.shape) self.now resolver out.out.now out.start out.pos }
-        ensures { Resolves (seen_as (λ s. key_entries s.set.keys) (entries_spelling (λ k. input_hash (K.hash_input k)) K.Archived.shape (tuple no_shapes) K.spelling unit_spelling)) self.now resolver out.entry.pos out.entry.start out.entry.out.now out.exit.0.now result }
+        ensures { Resolves (seen_as (λ s. key_entries s.set.keys) (entries_spelling (λ k. input_hash (K.hash_input k)) K.Archived.shape (tuple no_shapes) K.spelling unit_spelling)) (set_shape K.Archived.shape) self.now resolver out.entry.pos out.entry.start out.entry.out.now out.exit.0.now result }
     {
         let Place {
             out,

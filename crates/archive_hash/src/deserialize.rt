@@ -1,15 +1,16 @@
 //! Reads archived maps back as maps of std.
-ghost use Rattle.std.specs.Prelude.{length};
+ghost use Rattle.std.specs.Prelude.{length, IfOk};
 ghost use Rattle.archive_shape.specs.ShapeLayout.Shape.Shape.{table};
 ghost use Rattle.archive_forms_values.specs.Tuples.{tuple2};
 ghost use Rattle.archive_forms_values.specs.Parts.{HasValue, both};
 ghost use Rattle.archive_forms.specs.Deserializing.{Deserializes, DeserializesBy};
+ghost use Rattle.archive_forms.specs.Keeping.{both_of};
 ghost use Rattle.archive_forms.specs.Steps.{StepTakes, StepReads};
 ghost use Rattle.archive_hash.specs.ReadBack.{reads_map};
 ghost use Rattle.archive_hash_walking.specs.Maps.{HasMap};
 
 use crate::OwnedHashMap;
-use archive_forms::{Deserialize, ReadBack, deserialize_element};
+use archive_forms::{Deserialize, Deserializer, ReadBack, deserialize_element};
 use archive_forms_writing::Archive;
 use archive_hash_maps::ArchivedHashMap;
 use archive_shape::{Error, Ref};
@@ -27,7 +28,7 @@ pub fn deserialize_hash_map_each<
     A: ReadBack<K>,
     B: ReadBack<V>,
     H,
-    D,
+    D: Deserializer,
     F: Fn(&mut D, usize) -> Result<(K, PhantomData<K::Archived>), Error>,
     G: Fn(&mut D, usize) -> Result<(V, PhantomData<V::Archived>), Error>,
 >(
@@ -38,15 +39,17 @@ pub fn deserialize_hash_map_each<
     read_value: G,
 ) -> Result<OwnedHashMap<K, V>, Error>
     requires there { HasMap A.shape B.shape A.knows B.knows this }
-    requires takes_key { StepTakes F.Fn read_key A.shape A.knows this.bytes.now
+    requires kept { D.is_of deserializer.old this.bytes.now }
+    requires takes_key { StepTakes F.Fn read_key A.shape A.knows D.is_of this.bytes.now
         (length this.bytes.now) }
-    requires reads_key { StepReads F.Fn read_key A.shape A.knows this.bytes.now (λ q. q.0) A.reads }
-    requires takes_value { StepTakes G.Fn read_value B.shape B.knows this.bytes.now
+    requires reads_key { StepReads F.Fn read_key A.shape A.knows D.is_of this.bytes.now (λ q. q.0) A.reads }
+    requires takes_value { StepTakes G.Fn read_value B.shape B.knows D.is_of this.bytes.now
         (length this.bytes.now) }
-    requires reads_value { StepReads G.Fn read_value B.shape B.knows this.bytes.now (λ q. q.0) B.reads }
-    ensures { Deserializes (reads_map K.eq (λ m. m.map.entries) A.reads B.reads)
+    requires reads_value { StepReads G.Fn read_value B.shape B.knows D.is_of this.bytes.now (λ q. q.0) B.reads }
+    ensures value { Deserializes (reads_map K.eq (λ m. m.map.entries) A.reads B.reads)
         (table (tuple2 A.shape B.shape)) (both A.knows B.knows) this.entry.bytes.now
         this.entry.pos result }
+    ensures keeps { IfOk result (λ _. D.is_of deserializer.new this.entry.bytes.now) }
 {
     let mut map = HashMap::new(alloc);
     let mut entries = ArchivedHashMap::iter(this);
@@ -75,28 +78,33 @@ impl<
     K: Archive + Eq + Hash + Drop,
     V: Archive + Drop,
     H,
-    D,
-    A: Deserialize<K, D>,
-    B: Deserialize<V, D>,
-> Deserialize<OwnedHashMap<K, V>, D> for ArchivedHashMap<A, B, H> {
+    A: Deserialize<K>,
+    B: Deserialize<V>,
+> Deserialize<OwnedHashMap<K, V>> for ArchivedHashMap<A, B, H> {
+    type Pool = (A::Pool, B::Pool);
+
     fn deserialize(
         this: &Ref<'_, ArchivedHashMap<A, B, H>>,
         alloc: Global,
-        deserializer: &mut D,
+        deserializer: &mut (A::Pool, B::Pool),
     ) -> Result<OwnedHashMap<K, V>, Error> {
         let bytes = this.bytes;
-        deserialize_hash_map_each::<K, V, A, B, H, D, _, _>(
+        deserialize_hash_map_each::<K, V, A, B, H, (A::Pool, B::Pool), _, _>(
             *this,
             alloc,
             deserializer,
-            |d: &mut D, pos: usize| -> Result<(K, PhantomData<K::Archived>), Error>
-                requires { HasValue A.shape A.knows bytes.now pos }
-                ensures { DeserializesBy A.reads A.shape A.knows bytes.entry.now pos (λ q. q.0) result }
-            { deserialize_element::<K, A, D>(bytes, pos, alloc, d) },
-            |d: &mut D, pos: usize| -> Result<(V, PhantomData<V::Archived>), Error>
-                requires { HasValue B.shape B.knows bytes.now pos }
-                ensures { DeserializesBy B.reads B.shape B.knows bytes.entry.now pos (λ q. q.0) result }
-            { deserialize_element::<V, B, D>(bytes, pos, alloc, d) },
+            |d: &mut (A::Pool, B::Pool), pos: usize| -> Result<(K, PhantomData<K::Archived>), Error>
+                requires there { HasValue A.shape A.knows bytes.now pos }
+                requires kept { both_of A.Pool.is_of B.Pool.is_of d.old bytes.now }
+                ensures value { DeserializesBy A.reads A.shape A.knows bytes.entry.now pos (λ q. q.0) result }
+                ensures keeps { IfOk result (λ _. both_of A.Pool.is_of B.Pool.is_of d.new bytes.entry.now) }
+            { deserialize_element::<K, A>(bytes, pos, alloc, &mut d.0) },
+            |d: &mut (A::Pool, B::Pool), pos: usize| -> Result<(V, PhantomData<V::Archived>), Error>
+                requires there { HasValue B.shape B.knows bytes.now pos }
+                requires kept { both_of A.Pool.is_of B.Pool.is_of d.old bytes.now }
+                ensures value { DeserializesBy B.reads B.shape B.knows bytes.entry.now pos (λ q. q.0) result }
+                ensures keeps { IfOk result (λ _. both_of A.Pool.is_of B.Pool.is_of d.new bytes.entry.now) }
+            { deserialize_element::<V, B>(bytes, pos, alloc, &mut d.1) },
         )
     }
 }

@@ -7,6 +7,7 @@ mod archive_set;
 mod deserialize;
 mod entries;
 mod from_iter;
+mod keys;
 mod keys_from_iter;
 pub mod laws;
 mod map;
@@ -21,8 +22,8 @@ pub use archive_hash_maps as maps;
 pub use archive_hash_maps::map::Iter;
 pub use archive_hash_maps::{
     ArchivedHashMap, ArchivedHashSet, ArchivedHashTable, HashMapResolver, HashSetResolver,
-    HashTableResolver, IterMut, Keys, RawIter, RawIterSeal, Values, ValuesMut, eq_hash_map,
-    eq_hash_set,
+    HashTableResolver, HashedKey, InvalidLength, IterMut, Keys, RawIter, RawIterSeal, Values,
+    ValuesMut, eq_hash_map, eq_hash_set,
 };
 pub use archive_hash_probing as probing;
 pub use archive_hash_probing::FxHasher64;
@@ -30,6 +31,7 @@ pub use archive_hash_walking as walking;
 pub use archive_hash_writing as writing;
 pub use deserialize::deserialize_hash_map_each;
 pub use from_iter::serialize_map_from_iter;
+pub use keys::HashedKeyOf;
 pub use keys_from_iter::serialize_set_from_iter;
 pub use map::OwnedHashMap;
 pub use read_set::deserialize_hash_set_each;

@@ -1,5 +1,5 @@
 //! Reads archived sets back as sets of std.
-ghost use Rattle.std.specs.Prelude.{length, ⊤};
+ghost use Rattle.std.specs.Prelude.{length, IfOk, ⊤};
 ghost use Rattle.archive_shape.specs.ShapeLayout.Shape.Shape.{table, tuple};
 ghost use Rattle.archive_shape.specs.ShapeLayout.Shape.Shapes.{no_shapes};
 ghost use Rattle.archive_forms_values.specs.Tuples.{tuple2};
@@ -13,7 +13,7 @@ ghost use Rattle.archive_hash.specs.Owned.{key_entries};
 ghost use Rattle.archive_hash.specs.ReadBack.{reads_map};
 
 use crate::OwnedHashSet;
-use archive_forms::{Deserialize, ReadBack, deserialize_element};
+use archive_forms::{Deserialize, Deserializer, ReadBack, deserialize_element};
 use archive_forms_writing::Archive;
 use archive_hash_maps::{ArchivedHashMap, ArchivedHashSet};
 use archive_shape::{Error, Ref};
@@ -28,7 +28,7 @@ pub fn deserialize_hash_set_each<
     K: Archive + Eq + Hash + Drop,
     A: ReadBack<K>,
     H,
-    D,
+    D: Deserializer,
     F: Fn(&mut D, usize) -> Result<(K, PhantomData<K::Archived>), Error>,
 >(
     this: Ref<'_, ArchivedHashSet<A, H>>,
@@ -37,12 +37,14 @@ pub fn deserialize_hash_set_each<
     read_key: F,
 ) -> Result<OwnedHashSet<K>, Error>
     requires there { HasSet A.shape A.knows this.bytes.now this.pos }
-    requires takes_key { StepTakes F.Fn read_key A.shape A.knows this.bytes.now
+    requires kept { D.is_of deserializer.old this.bytes.now }
+    requires takes_key { StepTakes F.Fn read_key A.shape A.knows D.is_of this.bytes.now
         (length this.bytes.now) }
-    requires reads_key { StepReads F.Fn read_key A.shape A.knows this.bytes.now (λ q. q.0) A.reads }
-    ensures { Deserializes (reads_map K.eq (λ s. key_entries s.set.keys) A.reads
+    requires reads_key { StepReads F.Fn read_key A.shape A.knows D.is_of this.bytes.now (λ q. q.0) A.reads }
+    ensures value { Deserializes (reads_map K.eq (λ s. key_entries s.set.keys) A.reads
         (reads_as unit_spelling)) (table (tuple2 A.shape (tuple no_shapes))) (both A.knows (λ _. ⊤))
         this.entry.bytes.now this.entry.pos result }
+    ensures keeps { IfOk result (λ _. D.is_of deserializer.new this.entry.bytes.now) }
 {
     let mut set = HashSet::new(alloc);
     let map: Ref<'_, ArchivedHashMap<A, (), H>> = Ref {
@@ -67,22 +69,26 @@ impl<K: Eq + Hash, A: ReadBack<K>, H> ReadBack<OwnedHashSet<K>> for ArchivedHash
     ghost reads = { reads_map K.eq (λ s. key_entries s.set.keys) A.reads (reads_as unit_spelling) };
 }
 
-impl<K: Archive + Eq + Hash + Drop, H, D, A: Deserialize<K, D>> Deserialize<OwnedHashSet<K>, D>
+impl<K: Archive + Eq + Hash + Drop, H, A: Deserialize<K>> Deserialize<OwnedHashSet<K>>
     for ArchivedHashSet<A, H> {
+    type Pool = A::Pool;
+
     fn deserialize(
         this: &Ref<'_, ArchivedHashSet<A, H>>,
         alloc: Global,
-        deserializer: &mut D,
+        deserializer: &mut A::Pool,
     ) -> Result<OwnedHashSet<K>, Error> {
         let bytes = this.bytes;
-        deserialize_hash_set_each::<K, A, H, D, _>(
+        deserialize_hash_set_each::<K, A, H, A::Pool, _>(
             *this,
             alloc,
             deserializer,
-            |d: &mut D, pos: usize| -> Result<(K, PhantomData<K::Archived>), Error>
-                requires { HasValue A.shape A.knows bytes.now pos }
-                ensures { DeserializesBy A.reads A.shape A.knows bytes.entry.now pos (λ q. q.0) result }
-            { deserialize_element::<K, A, D>(bytes, pos, alloc, d) },
+            |d: &mut A::Pool, pos: usize| -> Result<(K, PhantomData<K::Archived>), Error>
+                requires there { HasValue A.shape A.knows bytes.now pos }
+                requires kept { A.Pool.is_of d.old bytes.now }
+                ensures value { DeserializesBy A.reads A.shape A.knows bytes.entry.now pos (λ q. q.0) result }
+                ensures keeps { IfOk result (λ _. A.Pool.is_of d.new bytes.entry.now) }
+            { deserialize_element::<K, A>(bytes, pos, alloc, d) },
         )
     }
 }

@@ -6,7 +6,7 @@ pub mod set;
 
 pub use map::{
     ArchivedHashMap, ArchivedHashTable, EntryAt, FullPlaces, HashMapResolver, HashTableResolver,
-    IterMut, Keys, RawIter, RawIterSeal, Values, ValuesMut, items_descend, keys_stay, one_table,
-    table_is_read, table_stays,
+    HashedKey, InvalidLength, IterMut, Keys, RawIter, RawIterSeal, Values, ValuesMut,
+    found_is_present, items_descend, keys_stay, one_hash, one_table, table_is_read, table_stays,
 };
 pub use set::{ArchivedHashSet, HashSetResolver, eq_hash_map, eq_hash_set};

@@ -51,26 +51,27 @@ module _ (refused : ℕ → Type 0) (cs : List ℕ) (cap tag p : ℕ) (marks : L
     pub fewer_left : (others : ℕ) → others ≡ mask_l (without_first marks) → others < bits
     fewer_left others is = let m = lowest_at marks lane e in omega (arith, is, h.same, fewer_marked marks m.0)
 
-    pub pending_next : (others : ℕ) → refused ((p + lane) % cap) → others ≡ mask_l (without_first marks) → Pending refused cs cap tag p (without_first marks) others
+    pub pending_next : (others : ℕ) → (get_or cs (p + lane) 0 ≡ tag → refused ((p + lane) % cap)) → others ≡ mask_l (without_first marks) → Pending refused cs cap tag p (without_first marks) others
     pending_next others turned is = record {
       long = length-without_first marks ∙ h.long;
       same = is;
       full = λ k m. h.full k (still_marked marks k m);
       waiting = λ k l t. elim (h.waiting k l t) [
         | inl m ↦ elim (cases_eq k (prefix_len not marks)) [
-          | inl s ↦ inr (let low = lowest_at marks lane e in let same : lane ≡ k = low.1 ∙ sym s in subst (λ j. refused ((p + j) % cap)) same turned)
+          | inl s ↦ inr (let low = lowest_at marks lane e in let same : lane ≡ k = low.1 ∙ sym s in subst (λ j. refused ((p + j) % cap)) same (turned (ap (λ j. get_or cs (p + j) 0) same ∙ t)))
           | inr n ↦ inl (other_marked marks k m n)
         ]
         | inr r ↦ inr r
       ];
     }
 
-    pub pending_found : (accepted : ℕ → Type 0) (place : ℕ) → place ≡ (p + lane) % cap → accepted place → IsFoundIn accepted refused cs cap tag p place
-    pending_found accepted place is took = record {
+    pub pending_found : (accepted : ℕ → Type 0) (place : ℕ) → place ≡ (p + lane) % cap → get_or cs (p + lane) 0 ≡ tag → accepted place → IsFoundIn accepted refused cs cap tag p place
+    pending_found accepted place is same_tag took = record {
       lane = lane;
       within = lane_within;
       place_is = is;
       full = lane_full;
+      tagged = same_tag;
       taken = took;
       before = λ k l t. elim (h.waiting k (omega (arith, lane_within)) t) [
         | inl m ↦ let low = lowest_at marks lane e in absurd (true≢false (sym m ∙ below_unmarked marks k (omega (arith, low.1))))

@@ -6,6 +6,7 @@ pub mod FirstFits
 pub mod FirstFree
 pub mod FirstHandedIn
 pub mod Fit
+pub mod Folded
 pub mod FreePlaces
 pub mod InStride
 pub mod LaneLemmas

@@ -1,7 +1,7 @@
 -- A look-up from stride to stride.
 use Rattle.std.proofs.Common.{◌≡◌, ℕ, ◌+◌, true, false, cond, List, [], ◌∷◌, refl, sym, ap, subst, arith, Option, Some, None}
 use Rattle.std.specs.List.{list_any}
-use Rattle.std.proofs.lemmas.List.Elements.{All-nil, All-cons}
+use Rattle.std.proofs.lemmas.List.Elements.{All-nil, All-cons, All-weaker}
 use Rattle.archive_shape_canonical.specs.Reach.{is_empty, shown, searched}
 use Rattle.archive_hash_probing.specs.Search.{IsAnswer, IsFoundIn, IsRefused}
 
@@ -65,3 +65,25 @@ module _ (accepted refused : ℕ → Type 0) (cs : List ℕ) (cap tag : ℕ) whe
 
 pub retagged : (accepted refused : ℕ → Type 0) (cs : List ℕ) (cap t u : ℕ) (ps : List ℕ) (r : Option ℕ) (n : ℕ) → t ≡ u → IsAnswer accepted refused cs cap t ps r n → IsAnswer accepted refused cs cap u ps r n
 retagged accepted refused cs cap t u ps r n e a = subst (λ (x : ℕ). IsAnswer accepted refused cs cap x ps r n) e a
+
+-- an answer by what acceptance and refusal mean
+pub answer_as : (A R B S : ℕ → Type 0) (cs : List ℕ) (cap tag : ℕ) (ps : List ℕ) (r : Option ℕ) (n : ℕ) → ((p : ℕ) → A p → B p) → ((p : ℕ) → R p → S p)
+    → IsAnswer A R cs cap tag ps r n → IsAnswer B S cs cap tag ps r n
+answer_as A R B S cs cap tag ps None n f g a = (a.0, All-weaker (IsRefused A R cs cap tag) (IsRefused B S cs cap tag) (λ p h k l t. g _ (h k l t)) ps a.1)
+answer_as A R B S cs cap tag ps (Some place) n f g a = record {
+  prior = a.prior;
+  stride = a.stride;
+  later = a.later;
+  strides_are = a.strides_are;
+  count = a.count;
+  refused_before = All-weaker (IsRefused A R cs cap tag) (IsRefused B S cs cap tag) (λ p h k l t. g _ (h k l t)) a.prior a.refused_before;
+  found = record {
+    lane = a.found.lane;
+    within = a.found.within;
+    place_is = a.found.place_is;
+    full = a.found.full;
+    tagged = a.found.tagged;
+    taken = f place a.found.taken;
+    before = λ k l t. g _ (a.found.before k l t);
+  };
+}

@@ -11,12 +11,14 @@ module _ (accepted refused : ℕ → Type 0) (controls : List ℕ) (cap tag : �
   abbrev pub IsRefused : ℕ → Type 0
   IsRefused p = (k : ℕ) → k < 16 → slice_index controls (p + k) ≡ tag → refused ((p + k) % cap)
 
-  -- an item of a stride that is accepted, where every item before it that has the tag was refused; its place is full
+  -- an item of a stride that has the tag and is accepted, where every item before it that has the tag was refused; its
+  -- place is full
   pub record IsFoundIn (p place : ℕ) : Type 0 where
     pub lane : ℕ
     pub within : lane < 16
     pub place_is : place ≡ (p + lane) % cap
     pub full : slice_index controls (p + lane) < 128
+    pub tagged : slice_index controls (p + lane) ≡ tag
     pub taken : accepted place
     pub before : (k : ℕ) → k < lane → slice_index controls (p + k) ≡ tag → refused ((p + k) % cap)
 

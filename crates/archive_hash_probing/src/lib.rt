@@ -12,5 +12,5 @@ pub use places::{
 };
 pub use scanning::{
     Bitmask, FxHasher64, Group, Group1, Group8, Group16, MAX_GROUP_WIDTH, NonZeroWord, Scan, WIDTH,
-    Word, hash_text, hash_value, stride_empties, stride_matches, tag_of,
+    Word, hash_text, hash_value, stride_empties, stride_matches, tag_of, width_is_that_of_group,
 };

@@ -3,7 +3,8 @@ use archive_core_validation::ArchiveValidator;
 use archive_hash_checking::{
     TableHead, check_head, check_place_buckets, check_table_each, control_count, controls_at,
 };
-use archive_shape::{ArchivedNonZeroU32, ArchivedU32, CheckBytes, Error};
+use archive_hash_maps::{ArchivedHashTable, InvalidLength};
+use archive_shape::{ArchivedNonZeroU32, ArchivedU32, CheckBytes, Error, Ref};
 use std::alloc::Global;
 
 /// A table of one number in the second of two places: the bucket of each place, the second place's first; sixteen
@@ -135,4 +136,23 @@ fn controls_are_as_many_as_sixteens_of_places_and_fifteen_more(rt: HostRuntime) 
     let controls = controls_at(&ONE_OF_TWO, 8, 2);
     assert!(rt; controls[1] == 0x55);
     assert!(rt; controls.len() == 31);
+}
+
+/// Returns whether the table of numbers without 0 at the end of bytes is verified, or the error.
+fn verifies(alloc: Global, bytes: &[u8; 52]) -> Result<(), Error> {
+    let mut context = ArchiveValidator::new(alloc, bytes);
+    let table: Ref<'_, ArchivedHashTable<ArchivedNonZeroU32>> = Ref::new(bytes, 40);
+    ArchivedHashTable::verify(table, alloc, &mut context)
+}
+
+#[test]
+fn tables_are_verified(rt: HostRuntime) {
+    let mut bytes = ONE_OF_TWO;
+    assert!(rt; verifies(rt.alloc(), &bytes) == Ok(()));
+    bytes[0] = 0;
+    assert!(rt; verifies(rt.alloc(), &bytes) == Err(Error::InvalidTag));
+    bytes[44] = 2;
+    assert!(rt; verifies(rt.alloc(), &bytes) == Err(InvalidLength { len: 2, cap: 2 }));
+    bytes[44] = 0;
+    assert!(rt; verifies(rt.alloc(), &bytes) == Ok(()));
 }

@@ -9,7 +9,7 @@ use archive_hash_maps::{
     ArchivedHashMap, ArchivedHashSet, ArchivedHashTable, eq_hash_map, eq_hash_set,
 };
 use archive_hash_probing::FxHasher64;
-use archive_shape::{ArchivedU32, CheckBytes, Error, Ref, Seal, Str};
+use archive_shape::{ArchivedU32, CheckBytes, Error, Ref, Seal};
 use std::alloc::Global;
 use std::collections::{HashMap, HashSet};
 use std::fmt::Formatter;
@@ -116,7 +116,7 @@ fn written(alloc: Global, key: &str, text: &str) -> Result<[u8; 108], Error> {
         Some(value) => {
             let Seal { bytes, pos, .. } = value;
             if pos <= bytes.len() && text.len() <= bytes.len() - pos {
-                Seal::<Str>::new(bytes, pos).write_text(text);
+                bytes[pos..pos + text.len()].copy_from_slice(text.as_bytes());
             }
         }
         None => {}

@@ -11,7 +11,7 @@ use archive_hash_maps::{
     ArchivedHashMap, ArchivedHashSet, ArchivedHashTable, HashMapResolver, HashSetResolver,
     HashTableResolver,
 };
-use archive_shape::{ArchivedU32, Error, Place, Portable, Ref, Seal};
+use archive_shape::{ArchivedU32, Error, OwnSeal, Place, Portable, Ref, Seal};
 use std::alloc::{AllocError, Global};
 use std::test::Fail;
 
@@ -60,6 +60,26 @@ fn fill_items<T: Portable>(
     Ok(())
 }
 
+/// Fills the own bytes of each value with a byte, in calls that the values are lent to, and records its position and the
+/// number of values left after it.
+fn visit_values<K: Portable, V: Portable, H>(
+    map: Seal<'_, ArchivedHashMap<K, V, H>>,
+    byte: u8,
+    met: &mut Vec<(usize, usize)>,
+) -> Result<(), AllocError>
+    requires { HasValue (table (tuple2 K.shape V.shape)) (both K.knows V.knows) map.bytes.now map.pos }
+{
+    let mut fill = |value: &mut OwnSeal<'_, V>| -> usize {
+        value.own.fill(byte);
+        value.pos()
+    };
+    let mut values = ArchivedHashMap::values_seal(map);
+    while let Some(at) = values.visit_next(&mut fill) {
+        met.push((at, values.len()))?;
+    }
+    Ok(())
+}
+
 /// Fills each value of the map in these bytes, and returns what was recorded.
 fn filled_values(alloc: Global, bytes: &mut [u8], byte: u8) -> Result<Vec<(usize, usize)>, Error> {
     let pos = root_of::<Texts>(alloc, bytes)?.pos();
@@ -80,6 +100,27 @@ fn filled_items(alloc: Global, bytes: &mut [u8], byte: u8) -> Result<Vec<(usize,
 fn cursors_pass_each_value_while_the_values_are_written(rt: HostRuntime) -> Result<(), Fail> {
     let mut bytes = THREE;
     let met = filled_values(rt.alloc(), &mut bytes, 7)?;
+    assert!(rt; met.as_slice() == [(56, 2), (24, 1), (8, 0)].as_slice());
+    let mut expected = THREE;
+    expected[8..16].fill(7);
+    expected[24..32].fill(7);
+    expected[56..64].fill(7);
+    assert!(rt; bytes == expected);
+    Ok(())
+}
+
+/// Fills each value in calls that the values are lent to, and returns what was recorded.
+fn visited_values(alloc: Global, bytes: &mut [u8], byte: u8) -> Result<Vec<(usize, usize)>, Error> {
+    let pos = root_of::<Texts>(alloc, bytes)?.pos();
+    let mut met = Vec::new(alloc);
+    visit_values(Seal::<Texts>::new(bytes, pos), byte, &mut met)?;
+    Ok(met)
+}
+
+#[test]
+fn calls_that_values_are_lent_to_write_each_value(rt: HostRuntime) -> Result<(), Fail> {
+    let mut bytes = THREE;
+    let met = visited_values(rt.alloc(), &mut bytes, 7)?;
     assert!(rt; met.as_slice() == [(56, 2), (24, 1), (8, 0)].as_slice());
     let mut expected = THREE;
     expected[8..16].fill(7);

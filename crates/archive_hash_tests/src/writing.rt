@@ -4,9 +4,11 @@ ghost use Rattle.std.specs.Prelude.{◌-◌, ◌^◌, ◌<◌};
 ghost use Rattle.archive_forms_values.specs.FormsLaws.Serializing.{HasState};
 
 use crate::reading::root_of;
+use archive_core::collections::util::IteratorLengthMismatch;
 use archive_core::{from_bytes, to_bytes};
 use archive_core_serializing::Serializer;
 use archive_forms_values::{ArchivedString, native_of};
+use archive_hash::laws::found_is_present;
 use archive_hash::{OwnedHashMap, OwnedHashSet, serialize_map_from_iter, serialize_set_from_iter};
 use archive_hash_maps::{ArchivedHashMap, HashTableResolver};
 use archive_hash_probing::{FxHasher64, Group1, Group8, Group16, Scan, hash_value};
@@ -103,6 +105,25 @@ fn leads_to_all(alloc: Global, count: u32) -> Result<bool, Error> {
         }
     }
     Ok(!ArchivedHashMap::contains_key(root, &"none"))
+}
+
+/// Returns the number that `index` returns for a text that `get` has found in the archive of that map.
+fn indexed(alloc: Global, count: u32, text: &str) -> Result<Option<u32>, Error> {
+    let bytes = to_bytes(alloc, &decimals(alloc, count)?)?;
+    let root = root_of::<ArchivedNumbers>(alloc, bytes.as_slice())?;
+    match ArchivedHashMap::get(root, &text) {
+        Some(value) => {
+            found_is_present(root, &text, value);
+            Ok(Some(native_of(ArchivedHashMap::index(root, &text))))
+        }
+        None => Ok(None),
+    }
+}
+
+#[test]
+fn keys_that_are_found_can_be_indexed(rt: HostRuntime) {
+    assert!(rt; indexed(rt.alloc(), 17, "16") == Ok(Some(16)));
+    assert!(rt; indexed(rt.alloc(), 17, "17") == Ok(None));
 }
 
 #[test]
@@ -295,7 +316,7 @@ fn keys_are_written_where_as_many_come_as_are_claimed(rt: HostRuntime) {
     assert!(rt; claiming_keys(alloc, 3, 3) == Ok(HashTableResolver::from_pos(Some(16))));
     assert!(rt;
         claiming_keys(alloc, 2, 3)
-            == Err(Error::IteratorLengthMismatch {
+            == Err(IteratorLengthMismatch {
                 expected: 2,
                 actual: 3,
             })

@@ -1,5 +1,5 @@
 -- What lies before a position is read without the bytes from there on.
-use Rattle.std.proofs.Common.{◌≡◌, ◌∙◌, ℕ, ◌+◌, ◌-◌, ◌≤◌, List, [], ◌∷◌, length, take, drop, ap, sym, subst, arith, take-take}
+use Rattle.std.proofs.Common.{◌≡◌, ◌∙◌, ℕ, ◌+◌, ◌-◌, ◌≤◌, List, [], ◌∷◌, length, take, drop, ap, arith, take-take}
 use Rattle.std.proofs.lemmas.List.{drop-take, length-take-le}
 use Rattle.archive_shape.specs.ShapeLayout.Shape.{Shape, size_of, align_of}
 use Rattle.archive_shape.specs.ShapeLayout.Shape.Shapes.{no_shapes}
@@ -10,12 +10,9 @@ use Rattle.archive_shape.proofs.ShapeLayout.Framed.{frame, le_align_up}
 use Rattle.archive_shape.proofs.ShapeLayout.Visited.{take_agrees, regions_agree, claimed_same}
 use Rattle.archive_shape.specs.Key.{HeldAt}
 use Rattle.archive_shape.proofs.Held.{held_ascend}
-use Rattle.archive_shape.specs.declared.references.refs.Ref.{Ref}
-use Rattle.archive_shape.specs.declared.references.own_seal.OwnSeal.{OwnSeal}
 use Rattle.archive_forms_values.specs.Tuples.{tuple2}
 use Rattle.archive_forms_values.specs.Parts.{HasValue, both}
 use Rattle.archive_forms_values.specs.Fields.{field_position}
-use Rattle.archive_hash_walking.specs.Seals.{IsLent}
 use Rattle.archive_hash_walking.proofs.Entries.{entry_parts}
 
 pub held_before : (s : Shape) (knows : Names → Type 0) (bytes : List ℕ) (pos n : ℕ) (v : Value) → n ≤ length bytes → pos + size_of s ≤ n → HeldAt s knows bytes pos v → HeldAt s knows (take n bytes) pos v
@@ -47,9 +44,3 @@ module _ (k v : Shape) (knows others : Names → Type 0) (bytes : List ℕ) (at 
       let within = value_within in
       let behind = le_align_up (size_of k) (align_of v) in
       record { value = parts.key.value; held = held_before k knows bytes at (field_position k no_shapes v at) parts.key.value (omega (arith, within)) (omega (arith, behind)) parts.key.held }
-
--- the lent key is a value there
-pub lent_there : {K V : Type 0} (k : Shape) (knows : Names → Type 0) (size : ℕ) (bytes : List ℕ) (at value_at : ℕ) (key : Ref K) (value : OwnSeal V) → IsLent size bytes at value_at key value
-    → HasValue k knows (take value_at bytes) at → HasValue k knows key.bytes.now key.pos
-lent_there k knows size bytes at value_at key value lent has =
-    subst (λ b. HasValue k knows b key.pos) (sym lent.key_bytes) (subst (HasValue k knows (take value_at bytes)) (sym lent.key_pos) has)

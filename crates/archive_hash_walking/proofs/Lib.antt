@@ -1,6 +1,7 @@
 pub mod Apart
 pub mod Before
 pub mod Entries
+pub mod Found
 pub mod LookedUp
 pub mod Lookups
 pub mod Passed

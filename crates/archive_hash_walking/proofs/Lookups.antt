@@ -63,7 +63,7 @@ none_below (x ∷ xs) = by_test (nat_lt x 0) refl (none_below xs)
     by_test true is e = absurd (let less = ltb-true x 0 is in omega (arith, less))
     by_test false is e = e
 
-no_strides : (hash : ℕ) → strides hash 0 ≡ []
+pub no_strides : (hash : ℕ) → strides hash 0 ≡ []
 unfolding strides strides_from
 no_strides hash = none_below (map (stop hash 0) (range_with_len 0 (least_power 0)))
 

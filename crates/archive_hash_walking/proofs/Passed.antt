@@ -1,4 +1,5 @@
 -- The items that a cursor has left, and what it passes.
+use denote.Ref.{MutBor}
 use Rattle.std.proofs.Common.{◌≡◌, ◌∙◌, ℕ, zero, suc, ◌+◌, ◌-◌, ◌*◌, ◌^◌, ◌<◌, ◌≤◌, min, Bool, true, false, cond, nat_lt, List, [], ◌∷◌, length, take, filter, map, slice_index, All, refl, ap, sym, subst, arith, ltb-true}
 use Rattle.std.specs.List.{range_with_len}
 use Rattle.std.proofs.lemmas.List.{length-map}
@@ -8,6 +9,8 @@ use Rattle.archive_shape.specs.ShapeLayout.Shape.{Shape, size_of, align_of}
 use Rattle.archive_shape.specs.ShapeLayout.Shape.Shapes.{no_shapes, more_shapes}
 use Rattle.archive_shape.specs.ShapeLayout.Content.{Names, control_count}
 use Rattle.archive_shape.specs.Bytes.{overwrite}
+use Rattle.archive_forms_values.specs.Loans.{LeavesOwn}
+use Rattle.archive_shape.specs.declared.references.own_seal.OwnSeal.{OwnSeal}
 use Rattle.archive_forms_values.specs.Tuples.{tuple2}
 use Rattle.archive_forms_values.specs.Parts.{both}
 use Rattle.archive_forms_values.specs.Fields.{field_position}
@@ -120,6 +123,12 @@ module _ {s : Shape} {knows : Names → Type 0} (m : BegunTable s knows) where
       → IsWritten m bytes → IsWritten m (overwrite bytes at own)
   item_written bytes own w ps rest at goes is few fits written = piece_written (size_of s) (items_of m) at m.bytes bytes own (λ P all. first_item P w ps rest at goes is all) few fits written
 
+  -- the next item is lent to a call
+  pub item_visited : {T : Type 0} {calls : MutBor (OwnSeal T) → MutBor (OwnSeal T) → Type 0} (bytes out : List ℕ) (size : ℕ) (w : PlacesLeft) (ps rest : List ℕ) (at : ℕ) → GoesOn m w ps → ps ≡ at ∷ rest
+      → size ≤ size_of s → at + size ≤ length bytes → LeavesOwn size bytes at calls out → IsWritten m bytes → IsWritten m out
+  item_visited bytes out size w ps rest at goes is small fits h written =
+      subst (IsWritten m) (sym h.is) (item_written bytes h.own w ps rest at goes is (omega (arith, h.as_long, small)) (omega (arith, h.as_long, fits)) written)
+
   -- the own bytes of every item lie in the buffer
   pub items_within : All (λ at. at + size_of s ≤ length m.bytes) (items_of m)
   items_within i d less = (((table_stands s knows m.bytes m.pos m.buckets m.has m.places).below) i d less).held.own_within
@@ -166,3 +175,9 @@ module _ {k v : Shape} {knows others : Names → Type 0} (m : BegunMap k v knows
       piece_written (size_of v) (map f (items_of m)) at m.bytes bytes own
       (λ P all. subst P (sym stands) (first_item m (λ p. P (f p)) w ps rest entry goes is (unmapped P f (items_of m) all)))
       few fits written
+
+  -- the value of the next entry is lent to a call
+  pub value_visited : {T : Type 0} {calls : MutBor (OwnSeal T) → MutBor (OwnSeal T) → Type 0} (bytes out : List ℕ) (size : ℕ) (w : PlacesLeft) (ps rest : List ℕ) (entry at : ℕ) → GoesOn m w ps → ps ≡ entry ∷ rest
+      → at ≡ field_position k no_shapes v entry → size ≤ size_of v → at + size ≤ length bytes → LeavesOwn size bytes at calls out → HasValuesWritten m bytes → HasValuesWritten m out
+  value_visited bytes out size w ps rest entry at goes is stands small fits h written =
+      subst (HasValuesWritten m) (sym h.is) (value_written bytes h.own w ps rest entry at goes is stands (omega (arith, h.as_long, small)) (omega (arith, h.as_long, fits)) written)

@@ -2,6 +2,5 @@ pub mod Cursors
 pub mod Equal
 pub mod Maps
 pub mod Places
-pub mod Seals
 pub mod Tables
 pub mod Walks

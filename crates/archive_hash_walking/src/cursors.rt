@@ -1,4 +1,5 @@
 //! Cursors over the entries of a map that lend one value at a time.
+ghost use denote.Ref.{MutBor};
 ghost use Rattle.std.specs.Prelude.{◌≡◌, ℕ, ◌+◌, ◌≤◌, List, [], ◌∷◌, length, take, IfSome, MatchOption};
 ghost use Rattle.archive_shape.specs.ShapeLayout.Shape.Shape.{table};
 ghost use Rattle.archive_shape.specs.ShapeLayout.Shape.Shapes.{no_shapes};
@@ -6,12 +7,11 @@ ghost use Rattle.archive_forms_values.specs.Tuples.{tuple2};
 ghost use Rattle.archive_forms_values.specs.Parts.{HasValue, both};
 ghost use Rattle.archive_forms_values.specs.Fields.{field_position};
 ghost use Rattle.archive_hash_walking.specs.Walks.{BegunMap, HasValuesWritten, IsKept, items_of};
-ghost use Rattle.archive_hash_walking.specs.Seals.{IsOwn, IsLent};
+ghost use Rattle.archive_forms_values.specs.Loans.{IsOwn, IsLent, MayCallLent, LeavesOwn, LeavesLent, VisitsNext};
 ghost use Rattle.archive_hash_walking.specs.Cursors.{HasEntries, HasValues};
 
-use crate::lending::lend_entry;
 use crate::passing::{EntryAt, PlacesLeft, pass_entry, places_left};
-use archive_forms_values::Entry;
+use archive_forms_values::{Entry, lend_entry, visit_entry, visit_own};
 use archive_shape::{OwnSeal, Portable, Ref};
 use std::marker::PhantomData;
 
@@ -82,6 +82,31 @@ impl<'a, K: Portable, V: Portable> IterMut<'a, K, V> {
         Some(lend_entry(self.bytes, entry.key, entry.value))
     }
 
+    /// Calls `visit` with the next entry's key and its value, which has only its own bytes, and passes the entry. The
+    /// key is read from the bytes before the value. Returns the result of the call, or `None` if no entry is left.
+    pub fn visit_next<R, F: FnMut(Ref<'_, K>, &mut OwnSeal<'_, V>) -> R>(
+        &mut self,
+        visit: &mut F,
+    ) -> Option<R>
+        requires has { (m : BegunMap K.shape V.shape K.knows V.knows) × (ps : List ℕ)
+            × HasEntries m self.old ps × HasValuesWritten m self.old.bytes.now }
+        requires callable { (m : BegunMap K.shape V.shape K.knows V.knows) (at : ℕ) (rest : List ℕ)
+            → HasEntries m self.old (at ∷ rest) → HasValuesWritten m self.old.bytes.now
+            → MayCallLent V.SIZE self.old.bytes.now at (field_position K.shape no_shapes V.shape at)
+            (λ key. HasValue K.shape K.knows key.bytes.now key.pos) (F.pre visit.old) }
+        ensures same_reference { self.new.bytes.ghost_name ≡ self.old.bytes.ghost_name }
+        ensures visits { (m : BegunMap K.shape V.shape K.knows V.knows) (ps : List ℕ)
+            → HasEntries m self.old ps → HasValuesWritten m self.old.bytes.now → VisitsNext
+            (λ at answer. LeavesLent V.SIZE self.old.bytes.now at (field_position K.shape no_shapes V.shape at) (λ key value left. F.step visit.old key value answer left visit.new) self.new.bytes.now)
+            ((visit.new ≡ visit.old) × (self.new.bytes.now ≡ self.old.bytes.now))
+            (λ rest. HasEntries m self.new rest × HasValuesWritten m self.new.bytes.now) ps result }
+    {
+        let Some(entry) = self.advance() else {
+            return None;
+        };
+        Some(visit_entry::<K, V, _, _>(self.bytes, entry.key, entry.value, visit))
+    }
+
     /// Returns the number of entries that are left.
     pub fn len(&self) -> usize
         ensures { (m : BegunMap K.shape V.shape K.knows V.knows) (ps : List ℕ)
@@ -134,6 +159,29 @@ impl<'a, K: Portable, V: Portable> ValuesMut<'a, K, V> {
             Some((_key, value)) => Some(value),
             None => None,
         }
+    }
+
+    /// Calls `visit` with the next value, which has only its own bytes, and passes the value. Returns the result of the
+    /// call, or `None` if no value is left.
+    pub fn visit_next<R, F: FnMut(&mut OwnSeal<'_, V>) -> R>(&mut self, visit: &mut F) -> Option<R>
+        requires has { (m : BegunMap K.shape V.shape K.knows V.knows) × (ps : List ℕ)
+            × HasValues m self.old ps × HasValuesWritten m self.old.entries.bytes.now }
+        requires callable { (m : BegunMap K.shape V.shape K.knows V.knows) (entry : ℕ) (rest : List ℕ)
+            (value : MutBor (OwnSeal V))
+            → HasValues m self.old (entry ∷ rest) → HasValuesWritten m self.old.entries.bytes.now
+            → IsOwn V.SIZE self.old.entries.bytes.now (field_position K.shape no_shapes V.shape entry) value.now
+            → F.pre visit.old value }
+        ensures same_reference { self.new.entries.bytes.ghost_name ≡ self.old.entries.bytes.ghost_name }
+        ensures visits { (m : BegunMap K.shape V.shape K.knows V.knows) (ps : List ℕ)
+            → HasValues m self.old ps → HasValuesWritten m self.old.entries.bytes.now → VisitsNext
+            (λ entry answer. LeavesOwn V.SIZE self.old.entries.bytes.now (field_position K.shape no_shapes V.shape entry) (λ value left. F.step visit.old value answer left visit.new) self.new.entries.bytes.now)
+            ((visit.new ≡ visit.old) × (self.new.entries.bytes.now ≡ self.old.entries.bytes.now))
+            (λ rest. HasValues m self.new rest × HasValuesWritten m self.new.entries.bytes.now) ps result }
+    {
+        let Some(at) = self.advance() else {
+            return None;
+        };
+        Some(visit_own::<V, _, _>(self.entries.bytes, at, visit))
     }
 
     /// Returns the number of values that are left.

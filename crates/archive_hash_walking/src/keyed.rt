@@ -8,14 +8,15 @@ ghost use Rattle.archive_forms_values.specs.Fields.{field_position};
 ghost use Rattle.archive_hash_walking.specs.Tables.{Buckets, IsTableAt};
 ghost use Rattle.archive_hash_walking.specs.Maps.{HashesTo, KeySays, LooksUpKey, query_calls, key_at};
 
+use crate::hashed::HashedKey;
 use crate::lookup::search_table;
 use archive_forms_values::Entry;
 use archive_hash_probing::{Group, hash_value};
-use archive_shape::{ArchivedKey, Portable, Ref};
+use archive_shape::{Portable, Ref};
 use std::hash::{Hash, Hasher};
 
 /// Returns the position of the entry of a key in the map at `pos`, if the map has the key.
-pub fn search_key<Q: Hash, K: ArchivedKey<Q>, V: Portable, H: Hasher + Default + Drop>(
+pub fn search_key<Q: Hash, K: HashedKey<Q>, V: Portable, H: Hasher + Default + Drop>(
     bytes: &[u8],
     pos: usize,
     query: &Q,

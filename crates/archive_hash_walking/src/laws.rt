@@ -1,9 +1,13 @@
 //! Laws. Each function below has no body: it states a law in its contract.
-ghost use Rattle.std.specs.Prelude.{ℕ, List};
+ghost use Rattle.std.specs.Prelude.{◌≡◌, ℕ, List};
+ghost use Rattle.archive_hash_probing.specs.Inputs.{input_hash};
+ghost use Rattle.archive_hash_walking.specs.Maps.{HashesTo};
 ghost use Rattle.archive_hash_walking.specs.Tables.{TableIsRead, OneTable, ItemsDescend};
 ghost use Rattle.archive_hash_walking.specs.Walks.{TableStays, KeysStay};
 
+use archive_hash_probing::FxHasher64;
 use archive_shape::Portable;
+use std::hash::Hasher;
 
 /// States that where the layout has a table, its bytes have places, whose items are those of the table's value.
 pub fn table_is_read<T: Portable>()
@@ -28,4 +32,11 @@ pub fn table_stays<T: Portable>()
 /// States that each key of a map is kept after any write over the map's values.
 pub fn keys_stay<K: Portable, V: Portable>()
     ensures { KeysStay K.shape V.shape K.knows V.knows }
+{}
+
+/// States that what is fed to the hasher of archived maps has one hash, by which tables are written.
+pub fn one_hash()
+    ensures { (input : List (List ℕ)) (hash : ℕ)
+        → HashesTo ⟦<FxHasher64 as Default>⟧.is_default ⟦<FxHasher64 as Hasher>⟧.write ⟦<FxHasher64 as Hasher>⟧.finish input hash
+        → hash ≡ input_hash input }
 {}

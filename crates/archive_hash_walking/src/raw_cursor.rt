@@ -1,13 +1,14 @@
 //! Cursors over the items of a table that lend one item at a time.
+ghost use denote.Ref.{MutBor};
 ghost use Rattle.std.specs.Prelude.{◌≡◌, ℕ, ◌+◌, ◌≤◌, List, [], ◌∷◌, length, IfSome, MatchOption};
 ghost use Rattle.archive_shape.specs.ShapeLayout.Shape.Shape.{table};
 ghost use Rattle.archive_forms_values.specs.Parts.{HasValue};
 ghost use Rattle.archive_hash_walking.specs.Walks.{BegunTable, IsWritten, items_of};
-ghost use Rattle.archive_hash_walking.specs.Seals.{IsOwn};
+ghost use Rattle.archive_forms_values.specs.Loans.{IsOwn, LeavesOwn, VisitsNext};
 ghost use Rattle.archive_hash_walking.specs.Cursors.{HasItems};
 
-use crate::lending::lend_own;
 use crate::passing::{PlacesLeft, pass_item, places_left};
+use archive_forms_values::{lend_own, visit_own};
 use archive_shape::{OwnSeal, Portable};
 use std::marker::PhantomData;
 
@@ -71,6 +72,27 @@ impl<'a, T: Portable> RawIterSeal<'a, T> {
             return None;
         };
         Some(lend_own(self.bytes, at))
+    }
+
+    /// Calls `visit` with the next item, which has only its own bytes, and passes the item. Returns the result of the
+    /// call, or `None` if no item is left.
+    pub fn visit_next<R, F: FnMut(&mut OwnSeal<'_, T>) -> R>(&mut self, visit: &mut F) -> Option<R>
+        requires has { (m : BegunTable T.shape T.knows) × (ps : List ℕ) × HasItems m self.old ps
+            × IsWritten m self.old.bytes.now }
+        requires callable { (m : BegunTable T.shape T.knows) (at : ℕ) (rest : List ℕ) (item : MutBor (OwnSeal T))
+            → HasItems m self.old (at ∷ rest) → IsWritten m self.old.bytes.now
+            → IsOwn T.SIZE self.old.bytes.now at item.now → F.pre visit.old item }
+        ensures same_reference { self.new.bytes.ghost_name ≡ self.old.bytes.ghost_name }
+        ensures visits { (m : BegunTable T.shape T.knows) (ps : List ℕ) → HasItems m self.old ps
+            → IsWritten m self.old.bytes.now → VisitsNext
+            (λ at answer. LeavesOwn T.SIZE self.old.bytes.now at (λ item left. F.step visit.old item answer left visit.new) self.new.bytes.now)
+            ((visit.new ≡ visit.old) × (self.new.bytes.now ≡ self.old.bytes.now))
+            (λ rest. HasItems m self.new rest × IsWritten m self.new.bytes.now) ps result }
+    {
+        let Some(at) = self.advance() else {
+            return None;
+        };
+        Some(visit_own::<T, _, _>(self.bytes, at, visit))
     }
 
     /// Returns the number of items that are left.

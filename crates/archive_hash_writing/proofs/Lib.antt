@@ -7,6 +7,7 @@ pub mod Numbers
 pub mod Present
 pub mod Presented
 pub mod Ready
+pub mod Rooted
 pub mod Samples
 pub mod SpellingBuckets
 pub mod SpellingFilled
@@ -17,3 +18,4 @@ pub mod Standing
 pub mod Tagged
 pub mod WholeRegion
 pub mod WholeTable
+pub mod WrittenItems

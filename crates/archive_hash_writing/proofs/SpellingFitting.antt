@@ -1,6 +1,7 @@
 -- The items at the places of a table that is written, and its controls.
 use Rattle.std.proofs.Common.{◌≡◌, ◌∙◌, ℕ, ◌+◌, ◌*◌, ◌/◌, ◌^◌, ◌<◌, ◌==◌, max, Bool, true, false, cond, List, [], length, refl, sym, subst, arith, take, eqb-true}
 use Rattle.std.specs.List.{All}
+use Rattle.std.specs.List.Sorted.{IsPermutation}
 use Rattle.std.proofs.lemmas.List.FromFn.{length-map-range_with_len}
 use Rattle.archive_hash_probing.specs.ShapeCanonical.FirstFit.{capacity_for, item_at}
 use Rattle.archive_hash_probing.specs.Controls.{AreControls}
@@ -9,7 +10,7 @@ use Rattle.archive_hash_probing.proofs.Fit.{IsFirstFit, first_fit}
 use Rattle.archive_hash_probing.proofs.Reached.{same_length, places_low, places_apart}
 use Rattle.archive_hash_writing.specs.Fitted.{capacity_of, places_of, table_of, by_place, controls_of}
 use Rattle.archive_hash_writing.proofs.Tagged.{AreTagged, written_tagged, controls_are}
-use Rattle.archive_hash_writing.proofs.SpellingPresent.{count_present}
+use Rattle.archive_hash_writing.proofs.SpellingPresent.{AreApart, AreBelow, count_present, placed_moved}
 use Rattle.archive_hash_writing.proofs.SpellingFilled.{AreControlsOf}
 
 -- a table that has items has more places
@@ -28,18 +29,24 @@ module _ {A : Type 0} (most places : ℕ) (hashes : List ℕ) (xs : List A) wher
     pub above : length xs < capacity_of most places hashes xs
     above = capacity_above (length xs) most places some
 
-    places_fit : IsFirstFit (capacity_of most places hashes xs) [] hashes (places_of most places hashes xs)
+    pub places_fit : IsFirstFit (capacity_of most places hashes xs) [] hashes (places_of most places hashes xs)
     places_fit = first_fit (capacity_of most places hashes xs) [] hashes (omega (arith, above, even))
+
+    pub length-places : length (places_of most places hashes xs) ≡ length xs
+    length-places = sym (same_length (capacity_of most places hashes xs) [] hashes (places_of most places hashes xs) places_fit) ∙ even
+
+    pub places_below : AreBelow (capacity_of most places hashes xs) (places_of most places hashes xs)
+    places_below j l = places_low (capacity_of most places hashes xs) [] hashes (places_of most places hashes xs) j (omega (arith, above)) places_fit (omega (arith, length-places, even, l))
+
+    pub are_apart : AreApart (places_of most places hashes xs)
+    are_apart i j less l = places_apart (capacity_of most places hashes xs) hashes (places_of most places hashes xs) i j places_fit less (omega (arith, length-places, even, l))
 
     -- all items are in the table
     pub length-by_place : length (by_place most places hashes xs) ≡ length xs
-    length-by_place =
-        let cap = capacity_of most places hashes xs in
-        let qs = places_of most places hashes xs in
-        let long = same_length cap [] hashes qs places_fit in
-        count_present cap xs qs (sym long ∙ even)
-        (λ j l. places_low cap [] hashes qs j (omega (arith, above)) places_fit (omega (arith, long, l)))
-        (λ i j less l. places_apart cap hashes qs i j places_fit less (omega (arith, long, l)))
+    length-by_place = count_present (capacity_of most places hashes xs) xs (places_of most places hashes xs) length-places places_below are_apart
+
+    pub by_place_moved : IsPermutation xs (by_place most places hashes xs)
+    by_place_moved = placed_moved (capacity_of most places hashes xs) xs (places_of most places hashes xs) length-places places_below are_apart
 
     pub controls_of_table : All (λ h. h < 2 ^ 64) hashes → AreControlsOf (table_of most places hashes xs) (controls_of most places hashes xs)
     controls_of_table tags =

@@ -83,7 +83,7 @@ module _ (names : Names) (bytes : List ℕ) (s : Shape) (pos : ℕ) where
       (λ i. choose (nat_lt (e i) (f i)) (following (target i) (λ t. plain same (buckets t (e i) (f i) (item s) ∷ []))) illegal)
       ∙ ap (λ b. choose b (plain same (buckets to len cap (item s) ∷ [])) illegal) (lt-ltb len cap less)
 
-  filled_content : (len cap to : ℕ) → word_at (window bytes pos 12) 4 ≡ len → word_at (window bytes pos 12) 8 ≡ cap → 0 < len → len < cap → target_from pos (word_at (window bytes pos 12) 0) ≡ Some to
+  pub filled_content : (len cap to : ℕ) → word_at (window bytes pos 12) 4 ≡ len → word_at (window bytes pos 12) 8 ≡ cap → 0 < len → len < cap → target_from pos (word_at (window bytes pos 12) 0) ≡ Some to
       → content_of names bytes (at pos (table s)) ≡ plain same (buckets to len cap (item s) ∷ [])
   unfolding shape_content choose
   filled_content len cap to e f some less target =
@@ -95,7 +95,7 @@ module _ (names : Names) (bytes : List ℕ) (s : Shape) (pos : ℕ) where
       tested false f = f
       tested true f = let none = eqb-true len 0 f in absurd (omega (arith, none, some))
 
-count_of : {A R : Type 0} (w : Spelling A R) (xs : List A) (st : State) → count_values (values w xs st) ≡ length xs
+pub count_of : {A R : Type 0} (w : Spelling A R) (xs : List A) (st : State) → count_values (values w xs st) ≡ length xs
 count_of w [] st = refl
 count_of w (x ∷ xs) st = let rest = count_of w xs (state_after w x st) in omega (arith, rest)
 

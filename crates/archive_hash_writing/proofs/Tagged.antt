@@ -37,7 +37,7 @@ first_controls cap hashes qs =
 
 module _ {A : Type 0} where
   -- an item is where its hash's tag is
-  item_tagged : (hashes : List ℕ) (xs : List A) (qs : List ℕ) (p : ℕ) → length hashes ≡ length xs → Tags hashes → IsTagOf (item_at xs qs p) (control_at hashes qs p)
+  pub item_tagged : (hashes : List ℕ) (xs : List A) (qs : List ℕ) (p : ℕ) → length hashes ≡ length xs → Tags hashes → IsTagOf (item_at xs qs p) (control_at hashes qs p)
   item_tagged [] [] qs p e t = omega arith
   item_tagged [] (x ∷ xs) qs p e t = absurd (omega arith)
   item_tagged (h ∷ hs) [] qs p e t = absurd (omega arith)

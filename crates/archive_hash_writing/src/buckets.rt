@@ -49,7 +49,8 @@ fn resolve_bucket<T: Archive>(
     buffer: &mut [u8],
 ) -> Result<(), Error>
     requires { CanResolve T.spelling T.Archived.shape item.now resolver buffer.old start pos }
-    ensures { Resolves T.spelling item.now resolver pos start buffer.old buffer.new result }
+    ensures { Resolves T.spelling T.Archived.shape item.now resolver pos start buffer.old buffer.new
+        result }
 {
     item.resolve(resolver, Place::within(buffer, start, pos))
 }

@@ -10,12 +10,14 @@ pub mod Ordered
 pub mod Pieces
 pub mod Pointees
 mod PointerLemmas
+pub mod Pushes
 pub mod QuestionedRegions
 pub mod Questions
 pub mod Ranges
 pub mod Refused
 pub mod Sealed
 pub mod Shared
+pub mod Spared
 pub mod Texts
 pub mod Wholes
 pub mod Words

@@ -1,5 +1,5 @@
 -- A leaf written over another in a root.
-use Rattle.std.proofs.Common.{◌≡◌, ℕ, ◌+◌, ◌≤◌, ◌<◌, ◌==◌, ◌||◌, Bool, true, false, inl, inr, ⊎_elim, nat_lt, nat_le, List, [], ◌∷◌, ◌++◌, drop, length, slice_index, refl, ap, sym, subst, ◌∙◌, arith, length-append, IsUtf8}
+use Rattle.std.proofs.Common.{◌≡◌, ℕ, ◌+◌, ◌≤◌, ◌<◌, ◌==◌, ◌||◌, Bool, true, false, nat_lt, nat_le, List, [], ◌∷◌, ◌++◌, drop, length, slice_index, refl, ap, sym, subst, ◌∙◌, arith, le_refl, length-append, IsUtf8}
 use Rattle.std.proofs.lemmas.Bool.Decides.{nat_tests}
 use Rattle.std.proofs.lemmas.List.{length-take, drop_at}
 use Rattle.std.specs.Int.{from_le_bytes}
@@ -24,6 +24,7 @@ use Rattle.archive_shape_layout.proofs.NumberReading.{refused}
 use Rattle.archive_shape.specs.Bytes.{overwrite}
 use Rattle.archive_shape.specs.Sealing.{StandsInRoot, SealedLeaf, SealedText}
 use Rattle.archive_shape.specs.Sealing.TextStands.{stands_inline, stands_out_of_line}
+use Rattle.archive_shape.proofs.Spared.{spares_within}
 use Rattle.archive_shape.proofs.Written.{overwrite_spares_law, window_from}
 
 -- the part at a path has its value
@@ -126,12 +127,6 @@ inline_after [] [] u filled = refl
 inline_after [] (b ∷ bs) u filled = inline_byte b (starts_inline [] (b ∷ bs) u filled (omega arith))
 inline_after (b ∷ bs) rest u filled = inline_byte b (starts_inline (b ∷ bs) rest u filled (omega arith))
 
-spares_more : (bytes others : List ℕ) (w n m : ℕ) → n ≤ m → Spares bytes others w n → Spares bytes others w m
-spares_more bytes others w n m le s = record {
-  length = s.length;
-  outside = λ start size apart. s.outside start size (⊎_elim (λ behind. inl (omega (arith, le, behind))) (λ before. inr before) apart);
-}
-
 sealed_inline :
     (names : Names) (bytes t : List ℕ) (pos : ℕ) (s : Shape) (v : Value) (regions : List Region) (visits : List Visit)
     (path : List ℕ) (start : ℕ) (old : Value)
@@ -153,7 +148,7 @@ sealed_inline names bytes t pos s v regions visits path start old root stands in
     let own_is : window others start 8 ≡ t ++ split.rest = window_from bytes start t 8 short fits ∙ ap (λ x. t ++ x) rest_is in
     let sealed = overwrite_spares_law bytes start t fits in
     edit_of_leaf_law names bytes others pos s v regions visits path start text old (string t) (written (before_ff own)) (written t) root stands
-    (spares_more bytes others start (length t) 8 short sealed.spares)
+    (spares_within bytes others start (length t) start 8 (le_refl start) (omega (arith, short)) sealed.spares)
     (inline_content names start own inline)
     (inline_content names start (window others start 8) (subst (λ x. IsInline (slice_index x 0)) (sym own_is) (inline_after t split.rest utf8 split.filled)) ∙ ap (λ x. plain (written x) []) (ap before_ff own_is ∙ text_before t split.rest utf8 split.filled))
     utf8

@@ -74,10 +74,10 @@ pub record RefusesShared (k : Kept) (pos : ℕ) (p : Pointee) (len : ℕ) (e : E
   pub is_met : k.seen pos ≡ Some entry
   pub differs : Differs p len entry e
 
--- ending one: it was not started, it has ended already, or it ends
+-- ending one: it was not started or has ended already, and nothing changes; or it ends
 abbrev pub FinishesShared : Kept → ℕ → Kept → Result (Unit {0}) Error → Option Entry → Type 0
-FinishesShared old pos new result None = result ≡ Err NotStarted
+FinishesShared old pos new result None = (result ≡ Err NotStarted) × (new ≡ old)
 FinishesShared old pos new result (Some x) =
     MatchBool x.done
-    (result ≡ Err AlreadyFinished)
+    ((result ≡ Err AlreadyFinished) × (new ≡ old))
     ((result ≡ Ok tt) × (new ≡ with_entry old pos (record { pointee = x.pointee; len = x.len; done = true })))

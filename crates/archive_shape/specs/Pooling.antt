@@ -17,7 +17,7 @@ module _ {T : Type 0} (old new : ℕ → Progress T) (pos : ℕ) where
   StartsPooling true state = Starts old new pos (progress_of state)
   StartsPooling false state = state ≡ Started
 
-  -- where it is kept, finishing ends what has begun; else it does nothing
+  -- where it is kept, finishing ends what has begun, and refuses all else, where nothing changes; else it does nothing
   abbrev pub FinishesPooling : Bool → T → Result (Unit {0}) Error → Type 0
   FinishesPooling true value result = Finishes old new pos value result (old pos)
   FinishesPooling false value result = result ≡ Ok tt

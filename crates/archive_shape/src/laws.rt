@@ -9,8 +9,8 @@ pub use crate::types::{
 };
 pub use archive_shape_layout::{
     alignments_are_small_powers, ascent_is_apart, ascent_splits, edit_of_leaf, edit_of_text, frame,
-    leaf_within, leaves_apart, one_value, paths_join, root_is_found, root_regions, value_at_path,
-    visits_stand,
+    leaf_in_one_region, leaf_within, leaves_apart, one_value, paths_join, root_is_found,
+    root_regions, value_at_path, visits_stand,
 };
 
 /// The comparison of a key depends on its value alone: two keys of one value, at any positions, compare alike with

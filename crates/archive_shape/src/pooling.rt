@@ -1,7 +1,7 @@
 //! The trait of registries that keep the shared values while an archive is read.
 ghost use Rattle.std.specs.Prelude.{◌≡◌, ℕ, Bool, MatchResult};
 ghost use Rattle.archive_shape.specs.Pooling.{StartsPooling, FinishesPooling};
-ghost use Rattle.archive_shape_writing.specs.Progress.{Progress};
+ghost use Rattle.archive_shape_writing.specs.Progress.{Progress, IsSame};
 ghost use Rattle.archive_shape_writing.specs.declared.error.Error.TheVariants.{OutOfMemory};
 
 use crate::Error;
@@ -17,8 +17,8 @@ pub enum PoolingState<T> {
     Finished(T),
 }
 
-/// A registry of the shared values that are read. Where it keeps their progress, each is read once. It is not used
-/// again after an error.
+/// A registry of the shared values that are read. Where it keeps their progress, each is read once. After an error, what
+/// is known of all positions is what it was before the call.
 pub trait Pooling<T> {
     /// Whether the progress of positions is kept.
     ghost KEEPS: { Bool };
@@ -29,7 +29,8 @@ pub trait Pooling<T> {
     /// Returns the progress of the value at a position, and begins a value that was not seen before. Where no progress
     /// is kept, the value is begun anew. Returns `OutOfMemory` when an allocation fails.
     fn start_pooling(&mut self, pos: usize) -> Result<PoolingState<T>, Error>
-        ensures { MatchResult result (StartsPooling (known self.old) (known self.new) pos KEEPS) (λ e. e ≡ OutOfMemory) };
+        ensures { MatchResult result (StartsPooling (known self.old) (known self.new) pos KEEPS)
+            (λ e. (e ≡ OutOfMemory) × IsSame (known self.old) (known self.new)) };
 
     /// Finishes a value that has begun, of which `value` was made. Allocates nothing: the entry was made at its start.
     /// Where progress is kept, returns `NotStarted` for a value that has not begun, and `AlreadyFinished` for one that

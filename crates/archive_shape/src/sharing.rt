@@ -1,6 +1,6 @@
 //! The trait of registries that keep the shared values while an archive is written.
 ghost use Rattle.std.specs.Prelude.{◌≡◌, MatchResult};
-ghost use Rattle.archive_shape_writing.specs.Progress.{Starts, Finishes};
+ghost use Rattle.archive_shape_writing.specs.Progress.{IsSame, Starts, Finishes};
 ghost use Rattle.archive_shape.specs.Sharing.{progress_of};
 ghost use Rattle.archive_shape_writing.specs.declared.error.Error.TheVariants.{OutOfMemory};
 
@@ -17,13 +17,14 @@ pub enum SharingState {
     Finished(usize),
 }
 
-/// A registry by which each shared value is written once. The user chooses the keys, one for each shared value. It is
-/// not used again after an error.
+/// A registry by which each shared value is written once. The user chooses the keys, one for each shared value. After an
+/// error, the progress of all keys is what it was before the call.
 pub trait Sharing: Registry {
     /// Returns the progress of the value, and begins a value that was not seen before. Returns `OutOfMemory` when an
     /// allocation fails.
     fn start_sharing(&mut self, key: usize) -> Result<SharingState, Error>
-        ensures { MatchResult result (λ state. Starts (Self.known self.old) (Self.known self.new) key (progress_of state)) (λ e. e ≡ OutOfMemory) };
+        ensures { MatchResult result (λ state. Starts (Self.known self.old) (Self.known self.new) key (progress_of state))
+            (λ e. (e ≡ OutOfMemory) × IsSame (Self.known self.old) (Self.known self.new)) };
 
     /// Finishes a value that has begun, at the position `pos`. Allocates nothing: the entry was made at its start.
     /// Returns `NotStarted` for a value that has not begun, and `AlreadyFinished` for one that has finished.

@@ -8,6 +8,7 @@ pub mod Found
 pub mod Framed
 pub mod HeldNumbers
 pub mod Least
+pub mod LeafRegions
 pub mod Leaves
 pub mod Naming
 pub mod Nonzero

@@ -1,5 +1,5 @@
 -- A write to one leaf's own bytes, and where the bytes of leaves lie.
-use Rattle.std.specs.Prelude.{◌≡◌, ◌≢◌, ℕ, ◌+◌, ◌≤◌, ◌⊎◌, IsUtf8, List, [], ◌++◌, length, Some}
+use Rattle.std.specs.Prelude.{◌≡◌, ◌≢◌, ℕ, ◌+◌, ◌≤◌, ◌⊎◌, IsUtf8, List, [], ◌∷◌, ◌++◌, length, Some, All}
 use Rattle.archive_shape_layout.specs.Bytes.{window}
 use Rattle.archive_shape_layout.specs.Shape.{Shape, size_of}
 use Rattle.archive_shape_layout.specs.Shape.Pointee.{sized, str}
@@ -96,3 +96,23 @@ LeafWithin =
     → Stands names bytes p u 0 [] [] (behind pos (sized s) 1) v path
     → IsLeafIn names bytes p start size
     → start + size ≤ length bytes
+
+-- one region of a list has the window of `size` bytes from `start`, and no other overlaps it
+pub record InOneRegion (regions : List Region) (start size : ℕ) : Type 0 where
+  pub earlier : List Region
+  pub region : Region
+  pub later : List Region
+  pub are : regions ≡ earlier ++ region ∷ later
+  pub begins : region.start ≤ start
+  pub ends : start + size ≤ region.start + region.size
+  pub others : All (λ r. Apart r.start r.size start size) (earlier ++ later)
+
+-- a leaf's bytes lie in one region, and no other has any of them; so a leaf of at least one byte lies in exactly one
+abbrev pub LeafInOneRegion : Type 0
+LeafInOneRegion =
+    (names : Names) (bytes : List ℕ) (pos : ℕ) (s : Shape) (v : Value) (regions : List Region) (visits : List Visit)
+    (path : List ℕ) (p : Part) (u : Value) (start size : ℕ)
+    → HasRoot names bytes pos s v regions visits
+    → Stands names bytes p u 0 [] [] (behind pos (sized s) 1) v path
+    → IsLeafIn names bytes p start size
+    → InOneRegion regions start size

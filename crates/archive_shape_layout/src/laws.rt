@@ -1,6 +1,6 @@
 //! The laws of the layout, each a function with an empty body whose contract is the law.
 ghost use Rattle.archive_shape_layout.specs.Laws.{OneValue, AscentSplits, AscentIsApart, AlignmentsAreSmallPowers, RootRegions, Frame};
-ghost use Rattle.archive_shape_layout.specs.Edit.{ValueAtPath, PathsJoin, EditOfLeaf, EditOfText, LeavesApart, LeafWithin};
+ghost use Rattle.archive_shape_layout.specs.Edit.{ValueAtPath, PathsJoin, EditOfLeaf, EditOfText, LeavesApart, LeafWithin, LeafInOneRegion};
 ghost use Rattle.archive_shape_layout.specs.Visited.{VisitsStand};
 
 /// Bytes have at most one value of a shape at a position, and with it one list of regions and one list of the shared
@@ -73,4 +73,10 @@ pub fn leaves_apart()
 /// A leaf's bytes lie in the buffer.
 pub fn leaf_within()
     ensures { LeafWithin }
+{}
+
+/// A leaf's bytes lie in one region of the root, and no other region has any of them. So a leaf of at least one byte
+/// lies in exactly one region.
+pub fn leaf_in_one_region()
+    ensures { LeafInOneRegion }
 {}

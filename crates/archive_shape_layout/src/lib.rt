@@ -14,6 +14,7 @@ mod shape;
 
 pub use laws::{
     alignments_are_small_powers, ascent_is_apart, ascent_splits, edit_of_leaf, edit_of_text, frame,
-    leaf_within, leaves_apart, one_value, paths_join, root_regions, value_at_path, visits_stand,
+    leaf_in_one_region, leaf_within, leaves_apart, one_value, paths_join, root_regions,
+    value_at_path, visits_stand,
 };
 pub use shape::{Alignment, Pointee, Shape, Shapes, Width, same_shape};

@@ -130,11 +130,11 @@ module _ (X : Type 0) (place : X → ℕ) (entry : X → Entry) where
 -- ---- what ending a shared position does
 
 module _ (old new : Kept) (pos : ℕ) where
-  pub finishes_none : old.seen pos ≡ None → FinishesShared old pos new (Err NotStarted) (old.seen pos)
-  finishes_none e = subst (λ o. FinishesShared old pos new (Err NotStarted) o) (sym e) refl
+  pub finishes_none : old.seen pos ≡ None → new ≡ old → FinishesShared old pos new (Err NotStarted) (old.seen pos)
+  finishes_none e same = subst (λ o. FinishesShared old pos new (Err NotStarted) o) (sym e) (refl, same)
 
-  pub finishes_again : (x : Entry) → old.seen pos ≡ Some x → x.done ≡ true → FinishesShared old pos new (Err AlreadyFinished) (old.seen pos)
-  finishes_again x e d = subst (λ o. FinishesShared old pos new (Err AlreadyFinished) o) (sym e) (rw d refl)
+  pub finishes_again : (x : Entry) → old.seen pos ≡ Some x → x.done ≡ true → new ≡ old → FinishesShared old pos new (Err AlreadyFinished) (old.seen pos)
+  finishes_again x e d same = subst (λ o. FinishesShared old pos new (Err AlreadyFinished) o) (sym e) (rw d (refl, same))
 
   pub finishes : (x : Entry) → old.seen pos ≡ Some x → x.done ≡ false → new ≡ with_entry old pos (record { pointee = x.pointee; len = x.len; done = true }) → FinishesShared old pos new (Ok tt) (old.seen pos)
   finishes x e d f = subst (λ o. FinishesShared old pos new (Ok tt) o) (sym e) (rw d (refl, f))

@@ -30,8 +30,8 @@ module _ {A : Type 0} (old new : ℕ → Progress A) where
     pub is_found : old n ≡ found
     pub begins : Begins n found
 
-  -- finishing ends what has begun with this outcome, and refuses all else
+  -- finishing ends what has begun with this outcome, and refuses all else, where nothing changes
   abbrev pub Finishes : ℕ → A → Result (Unit {0}) Error → Progress A → Type 0
-  Finishes n outcome result unmet = result ≡ Err NotStarted
+  Finishes n outcome result unmet = (result ≡ Err NotStarted) × IsSame
   Finishes n outcome result begun = (result ≡ Ok tt) × IsSet n (ended outcome)
-  Finishes n outcome result (ended x) = result ≡ Err AlreadyFinished
+  Finishes n outcome result (ended x) = (result ≡ Err AlreadyFinished) × IsSame

@@ -1,9 +1,9 @@
 //! The check of nodes, which may lead to other nodes.
-ghost use Rattle.std.specs.Prelude.{◌≡◌, ℕ, ◌+◌, ◌-◌, ◌^◌, ◌<◌, ◌≤◌, length};
+ghost use Rattle.std.specs.Prelude.{◌≡◌, ℕ, false, ◌+◌, ◌-◌, ◌^◌, ◌<◌, ◌≤◌, length};
 ghost use Rattle.archive_shape_layout.specs.Content.{Names};
 ghost use Rattle.archive_shape_layout.specs.Content.Part.{at};
-ghost use Rattle.archive_shape_layout.specs.Shape.Shape.{option, box, vector};
-ghost use Rattle.archive_shape_layout.specs.Shape.Pointee.{sized};
+ghost use Rattle.archive_shape_layout.specs.Shape.Shape.{text, shared, option, box, vector};
+ghost use Rattle.archive_shape_layout.specs.Shape.Pointee.{sized, str};
 ghost use Rattle.archive_shape.specs.Kept.{IsWithin};
 ghost use Rattle.archive_shape.specs.Checks.{Checks, Moves};
 ghost use Rattle.cabinet_documents.specs.Node.{node_shape, KnowsNode};
@@ -16,11 +16,46 @@ use archive_forms_values::{
 use archive_shape::{ArchivedI64, CheckBytes, Error, SharedContext};
 use std::alloc::Global;
 
+/// Checks the text at `pos`. A call, so that the stack that it needs is not part of each level of `check_node`.
+#[inline(never)]
+fn check_text<C: SharedContext>(
+    alloc: Global,
+    bytes: &[u8],
+    pos: usize,
+    context: &mut C,
+) -> Result<(), Error>
+    requires fits { pos + 8 ≤ length bytes.now }
+    requires range { IsWithin (C.kept context.old) (length bytes.now) }
+    ensures moves { Moves (C.kept context.old) result (C.kept context.new) }
+    ensures exact { (names : Names)
+        → Checks names bytes.now (at pos text) (C.kept context.old) result (C.kept context.new) }
+{
+    <ArchivedString as CheckBytes<C>>::check(alloc, bytes, pos, context)
+}
+
+/// Checks the pointer to a shared text at `pos`. A call, as `check_text` is.
+#[inline(never)]
+fn check_shared<C: SharedContext>(
+    alloc: Global,
+    bytes: &[u8],
+    pos: usize,
+    context: &mut C,
+) -> Result<(), Error>
+    requires fits { pos + 8 ≤ length bytes.now }
+    requires range { IsWithin (C.kept context.old) (length bytes.now) }
+    ensures moves { Moves (C.kept context.old) result (C.kept context.new) }
+    ensures exact { (names : Names)
+        → Checks names bytes.now (at pos (shared false str)) (C.kept context.old) result (C.kept context.new) }
+{
+    <ArchivedRcStr<RcFlavor> as CheckBytes<C>>::check(alloc, bytes, pos, context)
+}
+
 /// Checks the node at `pos`. The regions that it claims end at `room` or before.
 ///
 /// Returns `InvalidTag` for the tag of a kind without a layout and for any tag above 8, and otherwise the error of the
 /// payload's check.
 #[cycle(node)]
+#[inline(always)]
 pub(crate) fn check_node<C: SharedContext>(
     alloc: Global,
     bytes: &[u8],
@@ -44,18 +79,8 @@ pub(crate) fn check_node<C: SharedContext>(
             pos + tag::INT_OFFSET,
             context,
         ),
-        tag::TEXT => <ArchivedString as CheckBytes<C>>::check(
-            alloc,
-            bytes,
-            pos + tag::OFFSET,
-            context,
-        ),
-        tag::SHARED => <ArchivedRcStr<RcFlavor> as CheckBytes<C>>::check(
-            alloc,
-            bytes,
-            pos + tag::OFFSET,
-            context,
-        ),
+        tag::TEXT => check_text(alloc, bytes, pos + tag::OFFSET, context),
+        tag::SHARED => check_shared(alloc, bytes, pos + tag::OFFSET, context),
         tag::MAYBE => check_maybe(alloc, bytes, pos + tag::OFFSET, context, room),
         tag::LIST => check_list(alloc, bytes, pos + tag::OFFSET, context, room),
         _ => Err(Error::InvalidTag),
@@ -64,6 +89,7 @@ pub(crate) fn check_node<C: SharedContext>(
 
 /// Checks the option of a box of a node at `pos`. The regions that it claims end at `room` or before.
 #[cycle(node)]
+#[inline(never)]
 fn check_maybe<C: SharedContext>(
     alloc: Global,
     bytes: &[u8],
@@ -126,6 +152,7 @@ fn check_boxed<C: SharedContext>(
 
 /// Checks the vector of nodes at `pos`. The regions that it claims end at `room` or before.
 #[cycle(node)]
+#[inline(never)]
 fn check_list<C: SharedContext>(
     alloc: Global,
     bytes: &[u8],

@@ -1,9 +1,11 @@
 mod AskingLemmas
 mod Audited
+mod Deeper
 mod Depths
 pub mod Kept
 pub mod Layouts
 mod LeafPlaces
+mod Nesting
 mod NoSteps
 mod Outcomes
 mod OwnPlaces

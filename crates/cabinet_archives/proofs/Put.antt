@@ -1,16 +1,14 @@
 -- The answer where a leaf is put in a node of a known kind, and the position of a text's bytes.
-use Rattle.std.proofs.Common.{◌≡◌, ℕ, ℤ, ◌+◌, ◌-◌, ◌<◌, ◌≤◌, ◌==◌, Bool, Bor, true, if◌then◌else◌, List, length, take, drop, slice_index, Some, refl, sym, ap, subst, ◌∙◌, arith}
+use Rattle.std.proofs.Common.{◌≡◌, ℕ, ℤ, ◌+◌, ◌-◌, ◌<◌, ◌==◌, Bool, Bor, true, if◌then◌else◌, List, length, take, drop, slice_index, Some, refl, sym, ap, subst, ◌∙◌, arith}
 use Rattle.archive_shape.specs.ShapeLayout.Bytes.{word_at, target_from}
 use Rattle.archive_shape.specs.ShapeLayout.Shape.{Shape}
 use Rattle.archive_shape.specs.ShapeLayout.Shape.Shape.{text as text_shape}
 use Rattle.archive_shape.specs.ShapeLayout.Value.{Value}
 use Rattle.archive_shape.specs.ShapeLayout.Content.{Names, IsInline}
 use Rattle.archive_shape.specs.Bytes.{overwrite}
-use Rattle.archive_shape.proofs.Pieces.{length-window}
 use Rattle.archive_shape.specs.Key.{HeldAt}
 use Rattle.archive_shape.proofs.Held.{claims_within}
-use Rattle.archive_forms_values.specs.FormsLaws.Text.{own_bytes, LiesAt, HasText, IsText, IsTextThere}
-use Rattle.archive_forms_values.proofs.FormsLaws.Once.{one_place}
+use Rattle.archive_forms_values.specs.FormsLaws.Text.{own_bytes, LiesAt, HasText, HasLength, IsTextThere}
 use Rattle.archive_forms_values.proofs.FormsLaws.Held.{held_is_text_law, text_value}
 use Rattle.archive_forms_values.specs.Parts.{HasValue}
 use Rattle.archive_forms_values.proofs.Placed.{stands_far}
@@ -27,10 +25,6 @@ use Rattle.cabinet_text_nodes.specs.declared.leaf.LeafRef.TheVariants as lent
 use Rattle.cabinet_archives.specs.Found.{OfDocument}
 use Rattle.cabinet_archives.specs.Putting.{BeginsAt, IsPut}
 use Rattle.cabinet_archives.proofs.Outcomes.{refused_by_tag, decided_by_leaf, truth_fits, number_fits, text_fits}
-
--- a text that is known to be there, with its length
-abbrev pub HasLength : List ℕ → ℕ → ℕ → Type 0
-HasLength bytes pos n = (x : List ℕ) × IsText bytes pos x × (n ≡ length x)
 
 module _ (bytes : List ℕ) where
   text_held : {knows : Names → Type 0} (pos : ℕ) (v : Value) → HeldAt text_shape knows bytes pos v → IsTextThere bytes pos v
@@ -69,25 +63,12 @@ module _ (bytes : List ℕ) where
       let far = stands_far bytes pos has.start has.len has.stands (subst (λ bs. IsInline (slice_index bs 0) → ⊥) is begins) in
       (has.start, ap (λ bs. target_from pos (word_at bs 4)) is ∙ far.leads)
 
-  pub record IsThere (pos start n : ℕ) : Type 0 where
-    pub lies : LiesAt bytes pos start n
-    pub room : start + n ≤ length bytes
-
-  pub text_there : (pos start n size : ℕ) → HasLength bytes pos n → ((len : ℕ) × LiesAt bytes pos start len) → n ≡ size → IsThere pos start size
-  text_there pos start n size has lies e =
-      let there = has.1.there in
-      let within = there.within in
-      let one = one_place bytes pos start lies.0 there.start there.len lies.1 there.stands in
-      let counted : n ≡ there.len = has.2 ∙ ap length has.1.is ∙ length-window bytes there.start there.len within in
-      let same : lies.0 ≡ size = one.1 ∙ sym counted ∙ e in
-      record { lies = subst (LiesAt bytes pos start) same lies.1; room = omega (arith, one.0, counted, e, within) }
-
   -- a text that is written there is put in its node
-  pub text_is_put : (pos to start : ℕ) (new : Leaf) (u other after : List ℕ) → new ≡ text u → to ≡ pos + 4 → IsThere to start (length u) → other ≡ bytes → after ≡ overwrite other start u
+  pub text_is_put : (pos to start : ℕ) (new : Leaf) (u other after : List ℕ) → new ≡ text u → to ≡ pos + 4 → LiesAt bytes to start (length u) → other ≡ bytes → after ≡ overwrite other start u
       → IsPut bytes pos new after
-  text_is_put pos to start new u other after is place there same written = record {
+  text_is_put pos to start new u other after is place lies same written = record {
     start = start;
-    begins = subst (λ l. BeginsAt bytes pos l start) (sym is) (subst (λ m. LiesAt bytes m start (length u)) place there.lies);
+    begins = subst (λ l. BeginsAt bytes pos l start) (sym is) (subst (λ m. LiesAt bytes m start (length u)) place lies);
     is = written ∙ ap (λ x. overwrite x start u) same ∙ ap (λ l. overwrite bytes start (node.own_bytes l)) (sym is);
   }
 

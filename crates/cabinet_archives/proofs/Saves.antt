@@ -1,5 +1,5 @@
 -- A document whose archive is made in memory, and written whole or in part.
-use Rattle.std.proofs.Common.{◌≡◌, ℕ, false, Ok, Err, List, [], ◌++◌, append-nil, ◌⊎◌, ⊎_elim, inl, refl, sym, ap, subst, ◌∙◌}
+use Rattle.std.proofs.Common.{◌≡◌, ℕ, ◌+◌, ◌<◌, ◌≤◌, false, Ok, Err, List, [], ◌++◌, length, append-nil, ◌⊎◌, ⊎_elim, inl, refl, sym, ap, subst, ◌∙◌, arith}
 use Rattle.std.specs.Prelude.{IsTrue}
 use Rattle.archive_shape_writing.specs.declared.error.Error.{Error}
 use Rattle.archive_shape_writing.specs.declared.error.Error.TheVariants.{OutOfMemory}
@@ -8,18 +8,25 @@ use Rattle.archive_forms_values.specs.FormsLaws.State.{initial}
 use Rattle.archive_forms_values.specs.FormsLaws.Pointers.{box_spelling}
 use Rattle.archive_forms_values.specs.FormsLaws.Serializing.{IsAt, Serializes}
 use Rattle.cabinet_text_nodes.specs.TextGrammar.Tree.{Tree, IsDocument}
-use Rattle.cabinet_archived.specs.Documents.Node.{node_shape}
+use Rattle.archive_shape.specs.ShapeLayout.Holds.{root_position}
+use Rattle.archive_core_validation.proofs.Rooted.{root_held}
+use Rattle.cabinet_archived.specs.Documents.Node.{node_shape, node_names, KnowsNode}
 use Rattle.cabinet_archived.specs.Documents.Image.{Image}
 use Rattle.cabinet_archived.specs.Documents.HasLayout.{HasLayout}
-use Rattle.cabinet_archived.specs.Documents.SpellingLaws.{archive_of, ArchiveFits}
+use Rattle.cabinet_archived.specs.Documents.Spelling.{node_value}
+use Rattle.cabinet_archived.specs.Documents.SpellingLaws.{archive_of, ArchiveFits, ArchiveRefused}
+use Rattle.archive_forms_values.specs.ShapeCanonical.FirstFit.{first_fit}
+use Rattle.archive_forms_values.specs.ShapeCanonical.Hash.{text_hash}
 use Rattle.cabinet_archived.proofs.Documents.Layouts.{fitting_has_layout_law}
 use Rattle.cabinet_archived.proofs.Documents.Imaged.{written_is_image_law, one_image_law}
+use Rattle.cabinet_archived.proofs.Documents.SpellingDenoted.{value_denotes_law}
+use Rattle.cabinet_archived.proofs.Documents.StoredNodes.{refused_is_past_law}
 use Rattle.cabinet_text_nodes.specs.Archived.{archived_as}
 use Rattle.cabinet_text_nodes.specs.View.{node_tree}
 use Rattle.cabinet_text_nodes.specs.declared.node.Node.{Node}
 use Rattle.cabinet_archives.specs.declared.saving.saving.SaveRefusal.{SaveRefusal}
 use Rattle.cabinet_archives.specs.declared.saving.saving.SaveRefusal.TheVariants as refusal
-use Rattle.cabinet_archives.specs.Saving.{IsPast, IsUnmadeFor, HasNoImageFor, IsUnsavedFor}
+use Rattle.cabinet_archives.specs.Saving.{IsPast, IsUnmadeFor, HasNoImageFor, LosesImage, IsUnsavedFor}
 
 module _ {S : Type 0} (m : WriterMembers S) (n : Node) (old new : S) (at : IsAt m.pos m.known old initial) where
   -- what was written where nothing was before is the archive
@@ -35,14 +42,14 @@ module _ {S : Type 0} (m : WriterMembers S) (n : Node) (old new : S) (at : IsAt 
   pub archive_refused :
       (e : Error) → m.COUNTS ≡ false
       → Serializes (box_spelling node_shape archived_as) m n old new (Err e)
-      → (e ≡ OutOfMemory) ⊎ IsPast (node_tree n) e
+      → (e ≡ OutOfMemory) ⊎ ArchiveRefused (node_tree n) e
   archive_refused e uncounted h =
       ⊎_elim (λ f. inl (subst (λ b. IsCounted b (m.failures old) (m.failures new) e) uncounted f.is_counted).1) (λ q. q.reason) (h initial at)
 
   pub archive_past :
       (e : Error) → m.COUNTS ≡ false → (e ≡ OutOfMemory → ⊥)
       → Serializes (box_spelling node_shape archived_as) m n old new (Err e)
-      → IsPast (node_tree n) e
+      → ArchiveRefused (node_tree n) e
   archive_past e uncounted other h = ⊎_elim (λ q. absurd (other q)) (λ q. q) (archive_refused e uncounted h)
 
 -- ---- a document
@@ -59,17 +66,35 @@ cut_of t old new bytes image layout made cut is_image = subst (Cut old new) (one
 pub nothing_cut : (old image : List ℕ) → Cut old old image
 nothing_cut old image = record { written = []; lost = image; new_is = sym (append-nil old); piece_is = refl }
 
+-- what was lost of an image was lost of each
+pub short_of : (t : Tree) (old new bytes image : List ℕ) → HasLayout t → Image t bytes → length new < length old + length bytes → Image t image → length new < length old + length image
+short_of t old new bytes image layout made short is_image =
+    subst (λ l. length new < length old + length l) (one_image_law t bytes image layout made is_image) short
+
+-- an image has a node, so all of it is lost where nothing was written
+nothing_saved : {W : Type 0} (m : WriterMembers W) (t : Tree) (old : W) → LosesImage m t old old
+nothing_saved m t old image is_image tells =
+    let a = is_image.accepted in
+    let pos = root_position (length image) node_shape in
+    let room : pos + 24 ≤ length image = (root_held node_shape KnowsNode node_names image pos a.value a.regions a.visits refl a.root).own_within in
+    omega (arith, room)
+
 -- why there is no image in memory is why the document was not saved
 pub unsaved : {W : Type 0} (m : WriterMembers W) (t : Tree) (old : W) (r : SaveRefusal) → HasNoImageFor t r → IsUnsavedFor m t old old r
 unsaved m t old refusal.Kind h = (h, refl)
 unsaved m t old (refusal.Limit e) h = (h.0, h.1, refl)
 unsaved m t old (refusal.Writer e) h = absurd h
-unsaved m t old refusal.OutOfMemory h = (h, inl refl, refl)
+unsaved m t old refusal.OutOfMemory h = (h, inl refl, refl, nothing_saved m t old)
+
+refused_past : (t : Tree) (e : Error) → HasLayout t → ArchiveRefused t e → IsPast t e
+refused_past t e layout h =
+    let denotes = value_denotes_law t layout in
+    (node_value t, denotes, (refused_is_past_law (first_fit text_hash) t (node_value t) e layout denotes).0 h)
 
 -- why nothing is made of a document that has a layout is why it has no image
 pub unmade : (s t : Tree) (r : SaveRefusal) → s ≡ t → HasLayout s → IsUnmadeFor s r → HasNoImageFor t r
 unmade s t refusal.Kind same layout h = absurd h
-unmade s t (refusal.Limit e) same layout h = (subst HasLayout same layout, subst (λ u. IsPast u e) same h)
+unmade s t (refusal.Limit e) same layout h = (subst HasLayout same layout, subst (λ u. IsPast u e) same (refused_past s e layout h))
 unmade s t (refusal.Writer e) same layout h = absurd h
 unmade s t refusal.OutOfMemory same layout h = subst HasLayout same layout
 

@@ -1,25 +1,28 @@
 -- The results of saving a document.
-use Rattle.std.specs.Prelude.{◌≡◌, ℕ, ◌+◌, ◌⊎◌, true, false, List, [], ◌∷◌, ◌++◌}
+use Rattle.std.specs.Prelude.{◌≡◌, ℕ, ◌+◌, ◌<◌, ◌⊎◌, true, false, List, ◌++◌, length, IsTrue}
 use Rattle.archive_shape_writing.specs.Writing.{WriterMembers}
 use Rattle.archive_shape_writing.specs.declared.error.Error.{Error}
-use Rattle.archive_forms_values.specs.FormsLaws.State.{initial}
-use Rattle.archive_forms_values.specs.FormsLaws.Regions.{region_refused}
+use Rattle.archive_forms_values.specs.ShapeLayout.Value.{Value}
+use Rattle.archive_forms_values.specs.ShapeCanonical.FirstFit.{first_fit}
+use Rattle.archive_forms_values.specs.ShapeCanonical.Hash.{text_hash}
+use Rattle.archive_forms_values.specs.ShapeCanonical.Limits.{PastLimits}
 use Rattle.cabinet_text_nodes.specs.TextGrammar.Tree.{Tree}
-use Rattle.cabinet_archived.specs.Documents.Node.{node_shape}
+use Rattle.cabinet_archived.specs.Documents.Node.{node_shape, node_names}
+use Rattle.cabinet_archived.specs.Documents.Denotes.{Denotes}
 use Rattle.cabinet_archived.specs.Documents.Image.{Image}
 use Rattle.cabinet_archived.specs.Documents.HasLayout.{HasLayout}
-use Rattle.cabinet_archived.specs.Documents.Spelling.{node_spelling}
+use Rattle.cabinet_archived.specs.Documents.SpellingLaws.{ArchiveRefused}
 use Rattle.cabinet_archives.specs.declared.saving.saving.SaveRefusal.{SaveRefusal}
 use Rattle.cabinet_archives.specs.declared.saving.saving.SaveRefusal.TheVariants.{Kind, Limit, Writer, OutOfMemory}
 
--- something in a document exceeds what archives can hold, which the error `e` reports
+-- what a document's value stores exceeds a limit, which the error `e` reports
 abbrev pub IsPast : Tree → Error → Type 0
-IsPast t e = region_refused node_spelling node_shape (t ∷ []) initial e
+IsPast t e = (v : Value) × Denotes v t × PastLimits (first_fit text_hash) node_names node_shape v e
 
 -- why no archive is made of a document that has a layout
 abbrev pub IsUnmadeFor : Tree → SaveRefusal → Type 0
 IsUnmadeFor t Kind = ⊥
-IsUnmadeFor t (Limit e) = IsPast t e
+IsUnmadeFor t (Limit e) = ArchiveRefused t e
 IsUnmadeFor t (Writer e) = ⊥
 IsUnmadeFor t OutOfMemory = Unit {0}
 
@@ -37,12 +40,19 @@ pub record Saved (t : Tree) (old new : List ℕ) : Type 0 where
   pub is_image : Image t image
   pub written : new ≡ old ++ image
 
+-- some of the document's image was not written
+abbrev pub LosesImage : {W : Type 0} → WriterMembers W → Tree → (old new : W) → Type 0
+LosesImage w t old new =
+    (image : List ℕ) → Image t image → IsTrue w.OBSERVABLE → length (w.contents new) < length (w.contents old) + length image
+
 -- why no image was written: the document has a kind without a layout, or something in it exceeds what archives can
 -- hold, and the writer is unchanged; a write failed with the writer's last error, and its count of failures rose by
--- one; or an allocation failed, before anything was written or in a writer that counts no failures
+-- one; or an allocation failed, before anything was written or in a writer that counts no failures, and some of the
+-- image was lost
 abbrev pub IsUnsavedFor : {W : Type 0} → WriterMembers W
     → Tree → (old new : W) → SaveRefusal → Type 0
 IsUnsavedFor w t old new Kind = (HasLayout t → ⊥) × (new ≡ old)
 IsUnsavedFor w t old new (Limit e) = HasLayout t × IsPast t e × (new ≡ old)
 IsUnsavedFor w t old new (Writer e) = HasLayout t × (w.COUNTS ≡ true) × (w.failures new ≡ w.failures old + 1) × (w.last_error new ≡ e)
-IsUnsavedFor w t old new OutOfMemory = HasLayout t × ((new ≡ old) ⊎ (w.COUNTS ≡ false)) × (w.failures new ≡ w.failures old)
+IsUnsavedFor w t old new OutOfMemory =
+    HasLayout t × ((new ≡ old) ⊎ (w.COUNTS ≡ false)) × (w.failures new ≡ w.failures old) × LosesImage w t old new

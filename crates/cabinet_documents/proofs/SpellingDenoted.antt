@@ -18,7 +18,7 @@ use Rattle.cabinet_documents.proofs.Values.{value_of, values_of, node_agrees}
 -- ---- what is known of a value from what is left of it without positions
 
 -- those in which no value lies
-abbrev IsSimple : Value → Type 0
+abbrev pub IsSimple : Value → Type 0
 IsSimple (group vs) = ⊥
 IsSimple (chosen t no_values) = ⊤
 IsSimple (chosen t (more_values v vs)) = ⊥
@@ -36,12 +36,12 @@ unchanged (chosen t (more_values v vs)) u s e = absurd (subst IsSimple (sym e) s
 unchanged (counted t v) u s e = absurd (subst IsSimple (sym e) s)
 unchanged (back t) u s e = e
 
-record Tagged (tag : ℕ) (u v : Value) : Type 0 where
-  inner : Value
-  is : v ≡ tagged_value tag inner
-  same : erased inner ≡ u
+pub record Tagged (tag : ℕ) (u v : Value) : Type 0 where
+  pub inner : Value
+  pub is : v ≡ tagged_value tag inner
+  pub same : erased inner ≡ u
 
-tagged : (tag : ℕ) (u v : Value) → erased v ≡ tagged_value tag u → Tagged tag u v
+pub tagged : (tag : ℕ) (u v : Value) → erased v ≡ tagged_value tag u → Tagged tag u v
 tagged tag u (natural n) e = absurd (cc)
 tagged tag u (integer z) e = absurd (cc)
 tagged tag u (boolean b) e = absurd (cc)
@@ -53,14 +53,14 @@ tagged tag u (chosen t (more_values v (more_values w vs))) e = absurd (cc)
 tagged tag u (counted t v) e = absurd (cc)
 tagged tag u (back t) e = absurd (cc)
 
-simply_tagged : (tag : ℕ) (u v : Value) → IsSimple u → erased v ≡ tagged_value tag u → v ≡ tagged_value tag u
+pub simply_tagged : (tag : ℕ) (u v : Value) → IsSimple u → erased v ≡ tagged_value tag u → v ≡ tagged_value tag u
 simply_tagged tag u v s e = let t = tagged tag u v e in t.is ∙ ap (tagged_value tag) (unchanged t.inner u s t.same)
 
-record Shared (s : List ℕ) (v : Value) : Type 0 where
-  pos : ℕ
-  is : v ≡ counted pos (string s)
+pub record Shared (s : List ℕ) (v : Value) : Type 0 where
+  pub pos : ℕ
+  pub is : v ≡ counted pos (string s)
 
-shared_text : (s : List ℕ) (v : Value) → erased v ≡ counted 0 (string s) → Shared s v
+pub shared_text : (s : List ℕ) (v : Value) → erased v ≡ counted 0 (string s) → Shared s v
 shared_text s (natural n) e = absurd (cc)
 shared_text s (integer z) e = absurd (cc)
 shared_text s (boolean b) e = absurd (cc)
@@ -70,12 +70,12 @@ shared_text s (chosen t vs) e = absurd (cc)
 shared_text s (counted t v) e = let same : erased v ≡ string s = cc in record { pos = t; is = ap (counted t) (unchanged v (string s) tt same) }
 shared_text s (back t) e = absurd (cc)
 
-record Grouped (us : Values) (v : Value) : Type 0 where
-  inner : Values
-  is : v ≡ group inner
-  same : all_erased inner ≡ us
+pub record Grouped (us : Values) (v : Value) : Type 0 where
+  pub inner : Values
+  pub is : v ≡ group inner
+  pub same : all_erased inner ≡ us
 
-grouped : (us : Values) (v : Value) → erased v ≡ group us → Grouped us v
+pub grouped : (us : Values) (v : Value) → erased v ≡ group us → Grouped us v
 grouped us (natural n) e = absurd (cc)
 grouped us (integer z) e = absurd (cc)
 grouped us (boolean b) e = absurd (cc)

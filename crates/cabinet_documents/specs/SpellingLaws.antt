@@ -1,6 +1,7 @@
 -- Laws of the spelling of documents, as statements.
-use Rattle.std.specs.Prelude.{◌≡◌, pos, List, ℕ, [], ◌∷◌, Result}
+use Rattle.std.specs.Prelude.{◌≡◌, ◌↔◌, pos, List, ℕ, [], ◌∷◌, Result}
 use Rattle.archive_forms_values.specs.ShapeLayout.Value.{Value}
+use Rattle.archive_forms_values.specs.ShapeCanonical.Limits.{PastLimits}
 use Rattle.archive_forms_values.specs.ShapeCanonical.Settled.{Fit}
 use Rattle.archive_forms_values.specs.ShapeCanonical.Sharing.{erased}
 use Rattle.archive_forms_values.specs.ShapeWriting.Writing.{WriterMembers}
@@ -9,9 +10,9 @@ use Rattle.archive_forms_values.specs.ShapeWriting.declared.error.Error.TheVaria
 use Rattle.archive_forms_values.specs.FormsLaws.State.{State, initial}
 use Rattle.archive_forms_values.specs.FormsLaws.Spells.{Spells}
 use Rattle.archive_forms_values.specs.FormsLaws.Serializing.{Serializes}
-use Rattle.archive_forms_values.specs.FormsLaws.Regions.{region_fits, region_piece}
+use Rattle.archive_forms_values.specs.FormsLaws.Regions.{region_fits, region_piece, region_refused}
 use Rattle.cabinet_text_grammar.specs.Tree.{Tree, IsDocument, leaf, number, shared, list, no_trees, more_trees}
-use Rattle.cabinet_documents.specs.Node.{node_shape, KnowsNode}
+use Rattle.cabinet_documents.specs.Node.{node_shape, node_names, KnowsNode}
 use Rattle.cabinet_documents.specs.Denotes.{Denotes}
 use Rattle.cabinet_documents.specs.Image.{Image}
 use Rattle.cabinet_documents.specs.Laws.{bytes_five}
@@ -41,6 +42,17 @@ ArchiveFits t = region_fits node_spelling node_shape (t ∷ []) initial
 -- a document whose writing exceeds no limit has a layout
 abbrev pub FittingHasLayout : Type 0
 FittingHasLayout = (t : Tree) (st : State) → node_spelling.piece_fits t st → HasLayout t
+
+-- writing the document exceeds a limit, which the error reports
+abbrev pub ArchiveRefused : Tree → Error → Type 0
+ArchiveRefused t e = region_refused node_spelling node_shape (t ∷ []) initial e
+
+-- a document that has a layout is refused with an error exactly where what a value that denotes it stores is past the
+-- limit of that error
+abbrev pub RefusedIsPast : Type 0
+RefusedIsPast =
+    (fit : Fit) (t : Tree) (v : Value) (e : Error)
+    → HasLayout t → Denotes v t → ArchiveRefused t e ↔ PastLimits fit node_names node_shape v e
 
 -- a document without a layout is refused with `InvalidTag`
 abbrev pub LackingIsRefused : Type 0

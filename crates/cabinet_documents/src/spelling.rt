@@ -5,6 +5,7 @@ mod resolver;
 
 pub use laws::{
     fitting_has_layout, lacking_is_refused, node_spells, one_image, one_level_is_written,
-    one_value, samples_are_images, samples_are_spelled, value_denotes, written_is_image,
+    one_value, refused_is_past, samples_are_images, samples_are_spelled, value_denotes,
+    written_is_image,
 };
 pub use resolver::NodeResolver;

@@ -1,5 +1,5 @@
 //! Reads escaped texts: whether bytes are one, and the text that they represent.
-ghost use Rattle.std.specs.Prelude.{◌≡◌, ◌≢◌, ℕ, ◌<◌, List, ◌∷◌, ◌++◌, length, slice_index, EachIndex, string_bytes, IsUtf8, MatchOption, IfNone, IfSome, IfOk, IfErr};
+ghost use Rattle.std.specs.Prelude.{◌≡◌, ◌≢◌, ℕ, ◌<◌, ◌≤◌, true, List, [], ◌∷◌, ◌++◌, length, slice_index, string_bytes, IsUtf8, MatchOption, IfOk, OnErr};
 ghost use Rattle.std.specs.Bool.{OnTrue, OnFalse};
 ghost use Rattle.std.specs.List.{list_all};
 ghost use Rattle.cabinet_text_bytes.specs.Words.{IsEscaped, is_plain_byte};
@@ -65,67 +65,74 @@ pub fn is_escaped(argument: &[u8]) -> bool
     }
 }
 
-/// Returns the index of the first backslash.
-fn backslash_at(bytes: &[u8]) -> Option<usize>
-    ensures none { IfNone result (EachIndex bytes.now (λ k. slice_index bytes.now k ≢ 92)) }
-    ensures found { IfSome result (λ start. (start < length bytes.now) × (slice_index bytes.now start ≡ 92)) }
-    ensures before { IfSome result (λ start. (k : ℕ) → k < start → slice_index bytes.now k ≢ 92) }
+/// Returns the number of bytes before the first that is not plain.
+fn plain_len(bytes: &[u8]) -> usize
+    ensures within { result ≤ length bytes.now }
+    ensures plain { (k : ℕ) → k < result → is_plain_byte (slice_index bytes.now k) ≡ true }
 {
-    bytes.iter().position(|byte| *byte == b'\\')
+    match bytes
+        .iter()
+        .position(|byte| *byte <= b' ' || *byte == b'\\')
+    {
+        Some(len) => len,
+        None => bytes.len(),
+    }
 }
 
-/// Returns the bytes before the first backslash of an escaped text, the byte that is escaped there, and the bytes after
-/// its escape.
-fn split_escape(escaped_text: &[u8]) -> Option<(&[u8], u8, &[u8])>
-    requires { (t : List ℕ) × (escaped_text.now ≡ escaped t) }
-    ensures { MatchOption result (escaped_text.now ≡ escaped escaped_text.now) (λ p. escaped_text.now ≡ escaped p.0.now ++ (escaped_byte p.1 ++ p.2.now)) }
+/// Splits bytes at the first that is not plain. Those before it are the escaped form of themselves.
+fn split_plain(bytes: &[u8]) -> (&[u8], &[u8])
+    ensures whole { bytes.now ≡ result.0.now ++ result.1.now }
+    ensures plain { result.0.now ≡ escaped result.0.now }
 {
-    let Some(start) = backslash_at(escaped_text) else {
-        return None;
-    };
-    let Some((byte, after)) = first_byte(&escaped_text[start..]) else {
-        return None;
-    };
-    Some((&escaped_text[..start], byte, after))
+    bytes.split_at(plain_len(bytes))
 }
 
-/// Returns the bytes that escaped bytes represent.
-fn unescape(alloc: Global, argument: &[u8]) -> Result<Vec<u8>, AllocError>
-    requires { (t : List ℕ) × (argument.now ≡ escaped t) }
-    ensures { IfOk result (λ text. argument.now ≡ escaped text.items) }
+/// Returns the bytes that bytes are the escaped form of, if there are such. No bytes take no memory.
+fn unescape(alloc: Global, argument: &[u8]) -> Result<Option<Vec<u8>>, AllocError>
+    ensures text { IfOk result (λ text. MatchOption text ((t : List ℕ) → argument.now ≢ escaped t) (λ text. argument.now ≡ escaped text.items)) }
+    ensures memory { OnErr result (argument.now ≢ []) }
 {
     let mut text = Vec::with_capacity(alloc, argument.len())?;
     let mut rest = argument;
-    while let Some((run, byte, after)) = split_escape(rest) {
+    loop {
+        let (run, special) = split_plain(rest);
         text.extend_from_slice(run)?;
+        let Some((byte, after)) = first_byte(special) else {
+            if special.is_empty() {
+                return Ok(Some(text));
+            }
+            return Ok(None);
+        };
         text.push(byte)?;
         rest = after;
     }
-    text.extend_from_slice(rest)?;
-    Ok(text)
 }
 
-/// Returns the text that escaped bytes represent.
+/// Returns the text that escaped bytes represent. An empty text takes no memory.
 pub fn unescape_text(alloc: Global, argument: &[u8]) -> Result<String, AllocError>
     requires { IsEscaped argument.now }
-    ensures { IfOk result (λ text. argument.now ≡ escaped (string_bytes text)) }
+    ensures text { IfOk result (λ text. argument.now ≡ escaped (string_bytes text)) }
+    ensures memory { OnErr result (argument.now ≢ []) }
 {
-    let bytes = unescape(alloc, argument)?;
-    Ok(unsafe { String::from_utf8_unchecked(bytes) })
+    match unescape(alloc, argument) {
+        Ok(Some(bytes)) => Ok(unsafe { String::from_utf8_unchecked(bytes) }),
+        Ok(None) => unreachable!(),
+        Err(e) => Err(e),
+    }
 }
 
-/// Returns the text that bytes are the escaped form of, if there is one.
+/// Returns the text that bytes are the escaped form of, if there is one. An empty text takes no memory.
 pub fn try_unescape(alloc: Global, argument: &[u8]) -> Result<Option<String>, AllocError>
     requires { IsUtf8 argument.now }
     ensures text { IfOk result (λ text. MatchOption text (IsEscaped argument.now → ⊥) (λ text. argument.now ≡ escaped (string_bytes text))) }
-    ensures memory { IfErr result (λ _. IsEscaped argument.now) }
+    ensures memory { OnErr result (IsEscaped argument.now × (argument.now ≢ [])) }
 {
-    if is_plain(argument) {
-        let bytes = Vec::from_slice(alloc, argument)?;
-        return Ok(Some(unsafe { String::from_utf8_unchecked(bytes) }));
-    }
-    match count_bytes(argument) {
-        None => Ok(None),
-        Some(_) => Ok(Some(unescape_text(alloc, argument)?)),
+    match unescape(alloc, argument) {
+        Ok(Some(bytes)) => Ok(Some(unsafe { String::from_utf8_unchecked(bytes) })),
+        Ok(None) => Ok(None),
+        Err(e) => match unescaped_len(argument) {
+            Some(_) => Err(e),
+            None => Ok(None),
+        },
     }
 }

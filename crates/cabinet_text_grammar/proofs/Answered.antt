@@ -1,7 +1,7 @@
 -- The answers are the stated ones: by computation.
 use Rattle.std.proofs.Common.{refl}
 use Rattle.std.specs.Fmt.{digits}
-use Rattle.cabinet_text_grammar.specs.Answers.{Answers, RangeInTheMiddle, RangeBetweenKeys, EmptyRange, ReversedRange, KeysOfTheKinds, HeadsOfTheKinds, MissingNodes, Edits, EditedText}
+use Rattle.cabinet_text_grammar.specs.Answers.{RangeInTheMiddle, RangeBetweenKeys, EmptyRange, ReversedRange, KeysOfTheKinds, HeadsOfTheKinds, MissingNodes, Edits, EditedText}
 
 pub range_in_the_middle : RangeInTheMiddle
 unfolding digits

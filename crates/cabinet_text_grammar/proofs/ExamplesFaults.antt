@@ -1,5 +1,5 @@
 -- The faults are the stated ones: the lines before each lead to open containers, and its cause is the first.
-use Rattle.std.proofs.Common.{◌≡◌, ◌≢◌, ℕ, zero, suc, ◌+◌, ◌<◌, ◌≤◌, ◌^◌, pos, eqb, false, true, List, [], ◌∷◌, ◌++◌, length, IsUtf8, FitsSigned, w64, sym, ap, subst, ◌∙◌, refl, inl, inr, arith, codes}
+use Rattle.std.proofs.Common.{◌≡◌, ◌≢◌, ℕ, zero, suc, ◌<◌, ◌≤◌, ◌^◌, pos, eqb, false, List, [], ◌∷◌, length, IsUtf8, FitsSigned, w64, sym, ap, subst, ◌∙◌, refl, inl, inr, arith, codes}
 use Rattle.std.specs.Fmt.{decimal, digits}
 use Rattle.std.specs.Ordering.{is_lt}
 use Rattle.std.specs.Str.Parse.{digits_value}

@@ -1,5 +1,5 @@
 -- The documents are documents, and their texts are the stated ones.
-use Rattle.std.proofs.Common.{◌≡◌, ◌≢◌, ℕ, ◌<◌, ◌^◌, pos, eqb, false, List, [], ◌∷◌, IsUtf8, FitsSigned, w64, refl, arith, codes}
+use Rattle.std.proofs.Common.{◌≢◌, ℕ, ◌<◌, ◌^◌, pos, List, [], FitsSigned, w64, refl, arith, codes}
 use Rattle.std.specs.Fmt.{digits}
 use Rattle.std.proofs.lemmas.List.Elements.{All-nil, All-cons}
 use Rattle.cabinet_text_grammar.specs.Tree.{IsDocument, IsLegal}

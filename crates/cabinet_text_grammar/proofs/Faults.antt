@@ -1,15 +1,17 @@
 -- The causes that apply to the line of an item that is allowed there, and the laws of first faults.
-use Rattle.std.proofs.Common.{◌≡◌, ◌≢◌, ℕ, ◌+◌, List, [], ◌∷◌, ◌++◌, length, Option, None, IsUtf8, sym, ap, ◌∙◌, refl, inl, inr, subst, arith, codes, append-nil}
+use Rattle.std.proofs.Common.{◌≡◌, ◌≢◌, ℕ, ◌+◌, List, [], ◌∷◌, ◌++◌, length, Option, None, IsUtf8, sym, ap, ◌∙◌, refl, inl, inr, subst, arith, codes, append-nil, length-append}
 use Rattle.std.specs.Prelude.{if◌then◌else◌, ◌==◌, slice_get}
 use Rattle.std.proofs.lemmas.List.{append_cancel_left}
 use Rattle.std.proofs.lemmas.Bool.{false≢true, cases_order}
 use Rattle.cabinet_text_grammar.specs.Keys.{MapKind, ordered, hashed, kept, MayFollow}
-use Rattle.cabinet_text_grammar.specs.Tree.{Tree, IsDocument}
+use Rattle.cabinet_text_grammar.specs.Tree.{Tree, leaf, shared, nothing, just, list, no_trees, more_trees, no_pairs, more_pairs, truth, number, text, IsDocument}
+use Rattle.cabinet_text_grammar.specs.Tree as tree
 use Rattle.cabinet_text_grammar.specs.Item.{Item, leaf_item, shared_item, none_item, some_item, list_item, map_item, key_item, items}
 use Rattle.cabinet_text_grammar.specs.Frame.{items_of_stack}
 use Rattle.cabinet_text_grammar.specs.Due.{Due, a_head, a_key, nothing_more, due_in, Admits}
 use Rattle.cabinet_text_grammar.specs.Machine.{run, going, complete}
 use Rattle.cabinet_text_grammar.specs.Spelling.{escaped, spelled, lines_of, text_of}
+use Rattle.cabinet_text_grammar.specs.Memory.{TakesMemory, TextTakesMemory}
 use Rattle.cabinet_text_grammar.specs.Fault.{Piece, pieces_of, Reached, inside, after_a_document, BreaksOrder, RepeatsKey, HasCause, rank, IsFirstCause, FirstFault}
 use Rattle.cabinet_text_grammar.specs.Laws.{SameFault}
 use Rattle.cabinet_text_grammar.specs.declared.cause.Cause.{Cause}
@@ -224,6 +226,62 @@ fault_refuses input line cause t a other document h =
     at_cuts (first_before next more rest lines rests) =
         blameless_text a.before (lines_of (items t)) a.due nothing_more next more a.rest rest cause a.reached whole lines rests other a.first.has_cause
     at_cuts (first_after next more rest lines rests) = no_line next rest rests
+
+-- the one line of some
+only_line : (line next : List ℕ) (xs more : List (List ℕ)) → line ∷ [] ≡ xs ++ next ∷ more → (xs ≡ []) × (next ≡ line)
+only_line line next [] more h = let e : next ≡ line = cc in (refl, e)
+only_line line next (x ∷ xs) more h = absurd (omega (arith, ap length h, length-append xs (next ∷ more)))
+
+-- a document of one item whose text has OutOfMemory as first fault: the item takes memory
+only_item : (t : Tree) (i : Item) (line : ℕ) → IsDocument t → items t ≡ i ∷ [] → FirstFault (text_of t) line OutOfMemory → TakesMemory 0 i
+only_item t i line document one a =
+    at_cuts (cuts_of a.before (lines_of (items t)) a.rest [] (HaveNoNewline-reached a.before a.due a.reached) (HaveNoNewline-items (items t) are) (sym a.input_is ∙ sym (append-nil (text_of t))))
+  where
+    are : AreItems (items t)
+    are = AreItems-tree t document.0
+
+    is_item : IsItem i
+    is_item = (subst AreItems one are).0
+
+    at_start : a.before ≡ [] → a.due ≡ a_head 0
+    at_start none = same_due [] a.due (a_head 0) (subst (λ ls. Reached ls a.due) none a.reached) (inside [] tt refl refl)
+
+    at_cuts : Cuts a.before a.rest (lines_of (items t)) [] → TakesMemory 0 i
+    at_cuts (one_cut lines rests) =
+        let whole : Reached (lines_of (items t)) nothing_more = after_a_document t document refl refl in
+        let due = same_due (lines_of (items t)) a.due nothing_more (subst (λ ls. Reached ls a.due) lines a.reached) whole in
+        let here = subst (λ d. HasCause d (slice_get (pieces_of a.rest) 0) OutOfMemory) due a.first.has_cause in
+        absurd (nothing_after OutOfMemory (subst (λ r. HasCause nothing_more (slice_get (pieces_of r) 0) OutOfMemory) rests here))
+    at_cuts (first_before next more rest lines rests) =
+        let only = only_line (spelled i) next a.before more (sym (ap lines_of one) ∙ lines) in
+        let none = HasNoNewline-among a.before next more (subst HaveNoNewline lines (HaveNoNewline-items (items t) are)) in
+        let piece : slice_get (pieces_of a.rest) 0 ≡ ended_piece (spelled i) =
+        ap (λ w. slice_get (pieces_of w) 0) rests ∙ first_piece next rest none ∙ ap ended_piece only.1 in
+        let here = subst (λ p. HasCause a.due p OutOfMemory) piece a.first.has_cause in
+        let takes = subst (λ d. HasCause d (ended_piece (spelled i)) OutOfMemory) (at_start only.0) here in
+        subst (TakesMemory 0) (sym (same_item i takes.0 is_item (admitted_item 0 takes.0 takes.1) takes.2)) takes.3
+    at_cuts (first_after next more rest lines rests) = absurd (no_line next rest rests)
+
+-- OutOfMemory is a fault of a document's text only where reading it takes memory
+pub memory_taken : (t : Tree) (line : ℕ) → IsDocument t → FirstFault (text_of t) line OutOfMemory → TextTakesMemory t
+memory_taken (leaf (truth b)) line document a = omega (arith, only_item (leaf (truth b)) (leaf_item (truth b)) line document refl a)
+memory_taken (leaf (number n)) line document a = omega (arith, only_item (leaf (number n)) (leaf_item (number n)) line document refl a)
+memory_taken (leaf (text t)) line document a =
+    elim (only_item (leaf (text t)) (leaf_item (text t)) line document refl a) [
+      | inl some ↦ some
+      | inr inner ↦ absurd (omega (arith, inner))
+    ]
+memory_taken (shared t) line document a = tt
+memory_taken nothing line document a = omega (arith, only_item nothing none_item line document refl a)
+memory_taken (just t) line document a = tt
+memory_taken (list no_trees) line document a =
+    elim (only_item (list no_trees) (list_item 0) line document refl a) [
+      | inl some ↦ absurd (omega (arith, some))
+      | inr inner ↦ absurd (omega (arith, inner))
+    ]
+memory_taken (list (more_trees t ts)) line document a = tt
+memory_taken (tree.map kind no_pairs) line document a = omega (arith, (only_item (tree.map kind no_pairs) (map_item kind 0) line document refl a).1)
+memory_taken (tree.map kind (more_pairs k t ps)) line document a = tt
 
 -- no document's text is another's
 pub one_document : (s t : Tree) → IsDocument s → IsDocument t → text_of s ≡ text_of t → s ≡ t

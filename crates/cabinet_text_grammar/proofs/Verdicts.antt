@@ -6,7 +6,7 @@ use Rattle.cabinet_text_grammar.specs.Tree.{number, text}
 use Rattle.cabinet_text_grammar.specs.Item.{Item, leaf_item, shared_item, none_item, some_item, list_item, map_item, key_item}
 use Rattle.cabinet_text_grammar.specs.Due.{Due, a_head, a_key, nothing_more, Admits}
 use Rattle.cabinet_text_grammar.specs.Spelling.{escaped, spelled}
-use Rattle.cabinet_text_grammar.specs.Fault.{HasBadEscape, HasCount, bad_number, bad_count, rank, IsFirstCause}
+use Rattle.cabinet_text_grammar.specs.Fault.{HasBadEscape, HasCount, bad_number, bad_count, HasCause, rank, IsFirstCause}
 use Rattle.cabinet_text_grammar.specs.declared.cause.Cause.{Cause}
 use Rattle.cabinet_text_grammar.specs.declared.cause.Cause.TheVariants.{KeyExpected, BadEscape, UnknownHead, BadNumber, TooDeep, OutOfMemory}
 use Rattle.cabinet_text_grammar.proofs.Escapes.{first_differs}
@@ -17,17 +17,14 @@ use Rattle.cabinet_text_grammar.proofs.Faults.{admitted_item, blameless}
 use Rattle.cabinet_text_grammar.proofs.FirstCauses.{key_expected, bad_key_escape, wrong_key_cause, wrong_key, bad_escape, no_item, unknown_head, bad_number_first, too_deep}
 use Rattle.cabinet_text_grammar.proofs.Decided.{decide_same, decide_below, decide_item, IsAfter, decide_word, decide_follows}
 
--- OutOfMemory is the first cause where no other cause applies
-pub memory_first : (due : Due) (i : Item) → IsItem i → Admits due i → IsFirstCause due (ended_piece (spelled i)) OutOfMemory
-memory_first (a_head depth) i is p = record {
-  has_cause = tt;
-  first = λ other below b. blameless (a_head depth) i is p other (λ same. omega (arith, below, ap rank same)) b;
+-- OutOfMemory is the first cause where it applies to the line of an item that is allowed there
+pub memory_first :
+    (due : Due) (i : Item) → IsItem i → Admits due i → HasCause due (ended_piece (spelled i)) OutOfMemory
+    → IsFirstCause due (ended_piece (spelled i)) OutOfMemory
+memory_first due i is p applies = record {
+  has_cause = applies;
+  first = λ other below b. blameless due i is p other (λ same. omega (arith, below, ap rank same)) b;
 }
-memory_first (a_key kind keys) i is p = record {
-  has_cause = tt;
-  first = λ other below b. blameless (a_key kind keys) i is p other (λ same. omega (arith, below, ap rank same)) b;
-}
-memory_first nothing_more i is p = absurd p
 
 -- the line is that of an item that is allowed there, or another cause applies first
 pub data Verdict (due : Due) (line : List ℕ) : Type 0 where

@@ -11,8 +11,9 @@ use Rattle.cabinet_text_grammar.specs.declared.cause.Cause.{Cause}
 use Rattle.cabinet_text_grammar.specs.declared.cause.Cause.TheVariants.{NotUtf8, NoNewline, EndTooEarly, LineAfterEnd, OutOfMemory}
 use Rattle.cabinet_text_grammar.specs.Machine.{State, going, complete, stuck, step}
 use Rattle.cabinet_text_grammar.proofs.Pieces.{HasNoNewline, ended_piece, first_piece, piece_open}
-use Rattle.cabinet_text_grammar.proofs.Faults.{one_document, one_fault, fault_refuses}
+use Rattle.cabinet_text_grammar.proofs.Faults.{one_document, one_fault, fault_refuses, memory_taken}
 use Rattle.cabinet_text_grammar.proofs.FirstCauses.{ends_early, line_after_end, no_newline}
+use Rattle.cabinet_text_grammar.specs.Memory.{TextTakesMemory}
 use Rattle.cabinet_text_grammar.specs.TextsLaws.{IsText, IsFaulty}
 use Rattle.cabinet_text_grammar.proofs.Decided.{decide_utf8, decide_memory}
 use Rattle.cabinet_text_grammar.proofs.Steps.{HasRead, something_due, nothing_read, one_more, fault_inside, fault_after}
@@ -117,10 +118,11 @@ module _ (input : List ℕ) where
 outcome : (input : List ℕ) → Outcome input
 outcome input = read_on input (length input) (going []) input 1 (omega arith) (nothing_read input)
 
-faultless : (input : List ℕ) (t : Tree) → IsDocument t → input ≡ text_of t → (line : ℕ) (cause : Cause) → FirstFault input line cause → cause ≡ OutOfMemory
+faultless : (input : List ℕ) (t : Tree) → IsDocument t → input ≡ text_of t → (line : ℕ) (cause : Cause) → FirstFault input line cause → (cause ≡ OutOfMemory) × TextTakesMemory t
 faultless input t document is line cause fault =
     elim (decide_memory cause) [
-      | yes memory ↦ memory
+      | yes memory ↦
+          (memory, memory_taken t line document (subst (λ w. FirstFault w line OutOfMemory) is (subst (FirstFault input line) memory fault)))
       | no other ↦ absurd (fault_refuses input line cause t fault other document is)
     ]
 

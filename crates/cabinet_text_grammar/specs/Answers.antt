@@ -1,12 +1,11 @@
 -- Worked questions and edits, and their answers.
-use Rattle.std.specs.Prelude.{◌≡◌, ℕ, ℤ, pos, negsuc, true, false, List, [], ◌∷◌, codes}
-use Rattle.cabinet_text_grammar.specs.Keys.{kept}
-use Rattle.cabinet_text_grammar.specs.Tree.{truth, number, text, Tree, leaf, map, no_pairs, more_pairs}
+use Rattle.std.specs.Prelude.{◌≡◌, ℕ, pos, negsuc, false, List, [], ◌∷◌, codes}
+use Rattle.cabinet_text_grammar.specs.Tree.{truth, number, text, Tree}
 use Rattle.cabinet_text_grammar.specs.Spelling.{text_of}
-use Rattle.cabinet_text_grammar.specs.Path.{Step, key, place, inside}
+use Rattle.cabinet_text_grammar.specs.Path.{key, place, inside}
 use Rattle.cabinet_text_grammar.specs.Line.{Line, get, keys, range, set, spelling}
 use Rattle.cabinet_text_grammar.specs.Answering.{answer, after, spelled_answer}
-use Rattle.cabinet_text_grammar.specs.Documents.{numeral, map_of_four, kept_map, list_of_eight}
+use Rattle.cabinet_text_grammar.specs.Documents.{map_of_four, kept_map, list_of_eight}
 
 -- a line with this spelling is answered by this line
 pub record Answers (t : Tree) (line : Line) (bytes : List ℕ) (reply : List ℕ) : Type 0 where

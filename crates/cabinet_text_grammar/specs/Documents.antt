@@ -1,7 +1,7 @@
 -- Worked documents.
-use Rattle.std.specs.Prelude.{ℕ, ℤ, pos, true, List, [], ◌∷◌, codes}
-use Rattle.cabinet_text_grammar.specs.Keys.{MapKind, ordered, hashed, kept}
-use Rattle.cabinet_text_grammar.specs.Tree.{truth, number, text, Tree, leaf, shared, nothing, just, list, map, Trees, no_trees, more_trees, Pairs, no_pairs, more_pairs}
+use Rattle.std.specs.Prelude.{ℕ, pos, true, codes}
+use Rattle.cabinet_text_grammar.specs.Keys.{ordered, hashed, kept}
+use Rattle.cabinet_text_grammar.specs.Tree.{truth, number, text, Tree, leaf, shared, nothing, just, list, map, no_trees, more_trees, Pairs, no_pairs, more_pairs}
 
 abbrev pub numeral : ℕ → Tree
 numeral n = leaf (number (pos n))

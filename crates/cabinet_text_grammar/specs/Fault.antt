@@ -8,6 +8,7 @@ use Rattle.cabinet_text_grammar.specs.Item.{Item, key_item, items}
 use Rattle.cabinet_text_grammar.specs.Frame.{Frame, items_of_stack, AreOpen}
 use Rattle.cabinet_text_grammar.specs.Due.{Due, a_head, a_key, nothing_more, due_in, Admits}
 use Rattle.cabinet_text_grammar.specs.Spelling.{escaped, spelled, lines_of, ended}
+use Rattle.cabinet_text_grammar.specs.Memory.{TakesMemory}
 use Rattle.cabinet_text_grammar.specs.declared.cause.Cause.{Cause}
 use Rattle.cabinet_text_grammar.specs.declared.cause.Cause.TheVariants.{NotUtf8, NoNewline, EndTooEarly, KeyExpected, BadEscape, KeyOrder, KeyRepeated, UnknownHead, BadNumber, TooDeep, LineAfterEnd, OutOfMemory}
 
@@ -81,8 +82,12 @@ RepeatsKey ordered keys line = ⊥
 RepeatsKey hashed keys line = ⊥
 RepeatsKey kept keys line = IsWrongKey kept keys line
 
+-- a head that is allowed inside `depth` containers, and takes memory there
+abbrev pub HeadTakesMemory : ℕ → List ℕ → Type 0
+HeadTakesMemory depth line = (i : Item) × Admits (a_head depth) i × (line ≡ spelled i) × TakesMemory depth i
+
 -- The causes that apply to the next piece of a text, by what is expected there; None: the input has ended. Memory may
--- be refused at any head and any key.
+-- be refused at each head that takes some, and at each key.
 abbrev pub HasCause : Due → Option Piece → Cause → Type 0
 HasCause (a_head depth) None EndTooEarly = Unit {0}
 HasCause (a_head depth) (Some p) NotUtf8 = IsUtf8 p.bytes → ⊥
@@ -91,7 +96,7 @@ HasCause (a_head depth) (Some p) BadEscape = HasBadEscape p.bytes
 HasCause (a_head depth) (Some p) UnknownHead = IsUnknownHead p.bytes
 HasCause (a_head depth) (Some p) BadNumber = HasBadNumber p.bytes
 HasCause (a_head depth) (Some p) TooDeep = IsTooDeep depth p.bytes
-HasCause (a_head depth) (Some p) OutOfMemory = Unit {0}
+HasCause (a_head depth) (Some p) OutOfMemory = HeadTakesMemory depth p.bytes
 HasCause (a_key kind keys) None EndTooEarly = Unit {0}
 HasCause (a_key kind keys) (Some p) NotUtf8 = IsUtf8 p.bytes → ⊥
 HasCause (a_key kind keys) (Some p) NoNewline = p.ended ≡ false

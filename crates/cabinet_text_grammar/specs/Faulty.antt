@@ -1,5 +1,5 @@
 -- Worked texts that are the text of no document, each with its first faulty line and the first cause.
-use Rattle.std.specs.Prelude.{ℕ, zero, suc, List, [], ◌∷◌, ◌++◌, codes}
+use Rattle.std.specs.Prelude.{ℕ, zero, suc, List, [], ◌++◌, codes}
 use Rattle.cabinet_text_grammar.specs.Fault.{FirstFault}
 use Rattle.cabinet_text_grammar.specs.declared.cause.Cause.TheVariants.{NoNewline, EndTooEarly, KeyExpected, BadEscape, KeyOrder, KeyRepeated, UnknownHead, BadNumber, TooDeep, LineAfterEnd}
 

@@ -10,6 +10,7 @@ pub mod Keys
 pub mod Laws
 pub mod Line
 pub mod Machine
+pub mod Memory
 pub mod Path
 pub mod Spelling
 pub mod Steps

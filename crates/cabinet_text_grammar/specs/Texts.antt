@@ -1,6 +1,6 @@
 -- Worked documents and their texts.
 use Rattle.std.specs.Prelude.{◌≡◌, codes}
-use Rattle.cabinet_text_grammar.specs.Tree.{Tree, IsDocument}
+use Rattle.cabinet_text_grammar.specs.Tree.{IsDocument}
 use Rattle.cabinet_text_grammar.specs.Spelling.{text_of}
 use Rattle.cabinet_text_grammar.specs.Documents.{map_of_four, list_of_eight}
 

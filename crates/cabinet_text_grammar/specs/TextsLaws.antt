@@ -2,17 +2,19 @@
 use Rattle.std.specs.Prelude.{◌≡◌, ◌≢◌, ◌⊎◌, ℕ, List}
 use Rattle.cabinet_text_grammar.specs.Tree.{Tree, IsDocument}
 use Rattle.cabinet_text_grammar.specs.Spelling.{text_of}
+use Rattle.cabinet_text_grammar.specs.Memory.{TextTakesMemory}
 use Rattle.cabinet_text_grammar.specs.Fault.{FirstFault}
 use Rattle.cabinet_text_grammar.specs.Laws.{SameFault}
 use Rattle.cabinet_text_grammar.specs.declared.cause.Cause.{Cause}
 use Rattle.cabinet_text_grammar.specs.declared.cause.Cause.TheVariants.{OutOfMemory}
 
--- the input is the text of this document and of no other, and the only fault that can be found is OutOfMemory
+-- the input is the text of this document and of no other, and the only fault that can be found is OutOfMemory, where
+-- reading takes memory
 pub record IsText (input : List ℕ) (t : Tree) : Type 0 where
   pub document : IsDocument t
   pub text_is : input ≡ text_of t
   pub alone : (s : Tree) → IsDocument s → input ≡ text_of s → s ≡ t
-  pub faultless : (line : ℕ) (cause : Cause) → FirstFault input line cause → cause ≡ OutOfMemory
+  pub faultless : (line : ℕ) (cause : Cause) → FirstFault input line cause → (cause ≡ OutOfMemory) × TextTakesMemory t
 
 -- the input has this first fault and, except for OutOfMemory, no other, and is the text of no document
 pub record IsFaulty (input : List ℕ) (line : ℕ) (cause : Cause) : Type 0 where

@@ -1,5 +1,5 @@
 -- What is read back of a node, by its kind.
-use Rattle.std.proofs.Common.{◌≡◌, ℕ, false, List, [], ◌∷◌, Option, Some, None, refl, sym, ap, ap₂, subst, ◌∙◌, Global, Box, Vec, Bor}
+use Rattle.std.proofs.Common.{◌≡◌, ℕ, List, [], ◌∷◌, Option, Some, None, refl, sym, ap, ap₂, subst, ◌∙◌, Global, Box, Vec, Bor}
 use Rattle.std.specs.Rc.{rc_str_bytes}
 use Rattle.std.specs.declared.rc.RcStr.{RcStr}
 use Rattle.archive_shape_layout.specs.Shape.{Shape}
@@ -13,8 +13,6 @@ use Rattle.archive_forms_laws.specs.Spelling.{Spelling}
 use Rattle.archive_forms_laws.specs.Options.{option_spelling}
 use Rattle.archive_forms_laws.specs.Regions.{plain_values}
 use Rattle.archive_forms_values.specs.declared.reading.resolving.BoxResolver.{BoxResolver}
-use Rattle.archive_forms_rc.specs.Pointers.{Counts}
-use Rattle.archive_forms_rc.specs.Pointers.Counts.{counts, leads_back}
 use Rattle.archive_forms_writing.specs.Owned.{boxed_spelling, vec_spelling}
 use Rattle.archive_forms.specs.Deserializing.{IsReadAt}
 use Rattle.archive_forms.specs.Reading.{reads_as, reads_in, reads_option, reads_all}
@@ -58,11 +56,6 @@ list_plain ns =
 
 pub shared_plain : (s : RcStr Global) → archived_as.plain (node.Shared s) ≡ tagged_value 3 (counted 0 (string (rc_str_bytes s)))
 shared_plain s = plain_as (node.Shared s) (tree.shared (rc_str_bytes s)) (node_tree-shared s)
-
--- a text that a pointer counts is read back as it
-pub text_counted : (to : ℕ) (s : List ℕ) (v : Value) → Counts false to (λ w. w ≡ string s) v → counted 0 (string s) ≡ erased v
-text_counted to s v (counts is there) = sym (ap erased (is ∙ ap (counted to) there))
-text_counted to s v (leads_back allowed is) = absurd (cc)
 
 -- what is read back of the parts of a node is archived as they are
 pub maybe_as : (v : Value) (o : Option (Box Node Global)) → reads_option (reads_in (λ (b : Box Node Global). b.value) (reads_as archived_as)) v o → maybe_of.plain o ≡ v

@@ -10,6 +10,7 @@ use Rattle.archive_shape_layout.specs.Shape.Shape.{number, truth, text, option, 
 use Rattle.archive_shape_layout.specs.Shape.Pointee.{str}
 use Rattle.archive_forms_laws.specs.ShapeCanonical.FirstFit.{first_fit}
 use Rattle.archive_shape.specs.Bytes.{HasBytes, zeros, overwrite}
+use Rattle.archive_shape.proofs.Spared.{spares_same}
 use Rattle.archive_shape_writing.specs.declared.error.Error.{Error}
 use Rattle.archive_shape_writing.specs.declared.error.Error.TheVariants.{IsizeOverflow, LengthTooLarge, InvalidTag}
 use Rattle.archive_forms_laws.specs.State.{State}
@@ -22,6 +23,7 @@ use Rattle.archive_forms_laws.specs.Serializing.{Resolves}
 use Rattle.archive_forms_laws.proofs.Levels.{option_box_sized}
 use Rattle.archive_forms_laws.proofs.Options.{option_spells}
 use Rattle.archive_forms_laws.proofs.Pointers.{box_spells, slice_spells}
+use Rattle.archive_forms_laws.proofs.Resolved as laws
 use Rattle.archive_forms_laws.proofs.Texts.{text_spells}
 use Rattle.archive_forms_laws.proofs.Shared.{shared_text_spells}
 use Rattle.archive_forms_laws.proofs.Views.{kept_spells}
@@ -52,20 +54,19 @@ use Rattle.archive_forms_writing.specs.Owned.{str_spelling}
 pub box_resolved :
     (w : Spelling Tree NodeResolver) (x : Tree) (r : BoxResolver) (pos start : ℕ) (old new : List ℕ) (result : Result (Unit {0}) Error)
     → MatchResult result (λ _. FitsOffset pos r.pos × (new ≡ overwrite old start (offset_bytes pos r.pos))) (λ e. (e ≡ IsizeOverflow) × ((FitsOffset pos r.pos → ⊥) × (new ≡ old)))
-    → Resolves (boxed_spelling w) x r pos start old new result
-box_resolved w x r pos start old new (Ok u) h = h
-box_resolved w x r pos start old new (Err e) h = (h.1.0, h.0)
+    → Resolves (boxed_spelling w) boxed_shape x r pos start old new result
+box_resolved w x r pos start old new result h = laws.box_resolved node_shape boxed_shape w x r.pos pos start old new result h
 
 -- an option for which no box is kept is zero
 pub unkept_resolved :
     (w : Spelling Tree NodeResolver) (o : Option Tree) (k : Option BoxResolver) (bytes : List ℕ) (start pos : ℕ) → k ≡ None → HasBytes bytes start (zeros 8)
-    → Resolves (maybe_spelling w) o k pos start bytes bytes (Ok tt)
+    → Resolves (maybe_spelling w) (option boxed_shape) o k pos start bytes bytes (Ok tt)
 unkept_resolved w o k bytes start pos is blank =
     let P : ℕ → Type 0 = λ n. HasBytes bytes start (zeros n) in
     let zero_over = unfilled bytes start (size_of (option boxed_shape)) (subst P (sym (option_box_sized node_shape)) blank) in
-    subst (λ q. Resolves (maybe_spelling w) o q pos start bytes bytes (Ok tt)) (sym is) (by o (sym zero_over))
+    subst (λ q. Resolves (maybe_spelling w) (option boxed_shape) o q pos start bytes bytes (Ok tt)) (sym is) (by o (sym zero_over))
   where
-    by : (o : Option Tree) → bytes ≡ overwrite bytes start (zeros (size_of (option boxed_shape))) → Resolves (maybe_spelling w) o None pos start bytes bytes (Ok tt)
+    by : (o : Option Tree) → bytes ≡ overwrite bytes start (zeros (size_of (option boxed_shape))) → Resolves (maybe_spelling w) (option boxed_shape) o None pos start bytes bytes (Ok tt)
     by None same = (tt, same)
     by (Some t) same = (tt, same)
 
@@ -82,20 +83,9 @@ pub vec_resolved :
     → MatchResult result
     (λ _. (FitsOffset pos r.pos × (len < 2 ^ 32)) × (new ≡ overwrite old start (offset_bytes pos r.pos ++ to_le_bytes w32 len)))
     (λ e. (((e ≡ LengthTooLarge) × (2 ^ 32 ≤ len)) ⊎ ((e ≡ IsizeOverflow) × (len < 2 ^ 32) × (FitsOffset pos r.pos → ⊥))) × (new ≡ old))
-    → Resolves (list_spelling w) (trees_within ns) r pos start old new result
+    → Resolves (list_spelling w) (vector node_shape) (trees_within ns) r pos start old new result
 vec_resolved w ns len r pos start old new result is h =
-    by result (subst (λ n. MatchResult result
-    (λ _. (FitsOffset pos r.pos × (n < 2 ^ 32)) × (new ≡ overwrite old start (offset_bytes pos r.pos ++ to_le_bytes w32 n)))
-    (λ e. (((e ≡ LengthTooLarge) × (2 ^ 32 ≤ n)) ⊎ ((e ≡ IsizeOverflow) × (n < 2 ^ 32) × (FitsOffset pos r.pos → ⊥))) × (new ≡ old))) (is ∙ sym (length-trees_in ns)) h)
-  where
-    by :
-        (result : Result (Unit {0}) Error)
-        → MatchResult result
-        (λ _. (FitsOffset pos r.pos × (length (trees_within ns) < 2 ^ 32)) × (new ≡ overwrite old start (offset_bytes pos r.pos ++ to_le_bytes w32 (length (trees_within ns)))))
-        (λ e. (((e ≡ LengthTooLarge) × (2 ^ 32 ≤ length (trees_within ns))) ⊎ ((e ≡ IsizeOverflow) × (length (trees_within ns) < 2 ^ 32) × (FitsOffset pos r.pos → ⊥))) × (new ≡ old))
-        → Resolves (list_spelling w) (trees_within ns) r pos start old new result
-    by (Ok u) h = h
-    by (Err e) h = ⊎_elim (λ k. inr (k.1, k.0)) (λ k. inl (k.2, k.0)) h.0
+    laws.slice_resolved node_shape (vector node_shape) w (trees_within ns) len r.pos pos start old new result (is ∙ sym (length-trees_in ns)) h
 
 -- ---- payloads in nodes
 
@@ -137,23 +127,23 @@ module _ (r : NodeResolver) (bytes set_bytes new final : List ℕ) (start pos fr
       → (x : A) (t : Tree) → ((q : R) (p : ℕ) → w.own_fits x q p → length (w.own x q p) ≡ size_of s)
       → set_bytes ≡ set bytes start tag → from ≡ start + offset → there ≡ pos + offset
       → (k : R) → k ≡ get r
-      → Resolves w x k there from set_bytes new result
-      → Resolves (node_of tag s w make get x) t r pos start bytes final result
+      → Resolves w s x k there from set_bytes new result
+      → Resolves (node_of tag s w make get x) node_shape t r pos start bytes final result
   unfolding align_up
   kind_resolved tag offset s w make get place x t sized is_set is_from is_there k is h =
-      let here = subst (λ q. Resolves w x q there from set_bytes new result) is h in
-      let behind = payload_resolved w tag offset 24 (size_of s) place.first place.fits bytes set_bytes new final start pos from there x (get r) result (sized (get r)) room blank is_set is_from is_there ends here in
-      subst (λ n. Resolves (payload_spelling tag n 24 w) x (get r) pos start bytes final result) (sym place.at) behind
+      let here = subst (λ q. Resolves w s x q there from set_bytes new result) is h in
+      let behind = payload_resolved w s node_shape tag offset place.first place.fits bytes set_bytes new final start pos from there x (get r) result (sized (get r)) room blank is_set is_from is_there ends here in
+      subst (λ n. Resolves (payload_spelling tag n 24 w) node_shape x (get r) pos start bytes final result) (sym place.at) behind
 
   -- of each node with the tree
-  as_tree : (n : Node) (t : Tree) → node_tree n ≡ t → Resolves node_spelling t r pos start bytes final result → Resolves archived_as n r pos start bytes final result
-  as_tree n t is h = subst (λ u. Resolves node_spelling u r pos start bytes final result) (sym is) h
+  as_tree : (n : Node) (t : Tree) → node_tree n ≡ t → Resolves node_spelling node_shape t r pos start bytes final result → Resolves archived_as node_shape n r pos start bytes final result
+  as_tree n t is h = subst (λ u. Resolves node_spelling node_shape u r pos start bytes final result) (sym is) h
 
   pub truth_resolved :
       (n : Node) (b : Bool) → n ≡ node.Bool b
       → set_bytes ≡ set bytes start 0 → from ≡ start + 1 → there ≡ pos + 1
-      → Resolves truth_spelling b tt there from set_bytes new result
-      → Resolves archived_as n r pos start bytes final result
+      → Resolves truth_spelling truth b tt there from set_bytes new result
+      → Resolves archived_as node_shape n r pos start bytes final result
   truth_resolved n b is is_set is_from is_there h =
       let t = tree.leaf (tree.truth b) in
       as_tree n t (ap node_tree is ∙ node_tree-bool b)
@@ -162,8 +152,8 @@ module _ (r : NodeResolver) (bytes set_bytes new final : List ℕ) (start pos fr
   pub number_resolved :
       (n : Node) (z : ℤ) → n ≡ node.Int z
       → set_bytes ≡ set bytes start 1 → from ≡ start + 8 → there ≡ pos + 8
-      → Resolves number_spelling z tt there from set_bytes new result
-      → Resolves archived_as n r pos start bytes final result
+      → Resolves number_spelling (number w64 true) z tt there from set_bytes new result
+      → Resolves archived_as node_shape n r pos start bytes final result
   number_resolved n z is is_set is_from is_there h =
       let t = tree.leaf (tree.number z) in
       as_tree n t (ap node_tree is ∙ node_tree-int z)
@@ -173,8 +163,8 @@ module _ (r : NodeResolver) (bytes set_bytes new final : List ℕ) (start pos fr
       (n : Node) (s : String Global) → n ≡ node.Text s
       → set_bytes ≡ set bytes start 2 → from ≡ start + 4 → there ≡ pos + 4
       → (k : StringResolver) → k ≡ text_in r
-      → Resolves str_spelling (string_bytes s) k there from set_bytes new result
-      → Resolves archived_as n r pos start bytes final result
+      → Resolves str_spelling text (string_bytes s) k there from set_bytes new result
+      → Resolves archived_as node_shape n r pos start bytes final result
   text_resolved n s is is_set is_from is_there k kept h =
       let x = string_bytes s in
       let t = tree.leaf (tree.text x) in
@@ -185,8 +175,8 @@ module _ (r : NodeResolver) (bytes set_bytes new final : List ℕ) (start pos fr
       (n : Node) (s : RcStr Global) → n ≡ node.Shared s
       → set_bytes ≡ set bytes start 3 → from ≡ start + 4 → there ≡ pos + 4
       → (k : RcResolver) → k ≡ shared_in r
-      → Resolves shared_string_spelling (rc_str_bytes s) k there from set_bytes new result
-      → Resolves archived_as n r pos start bytes final result
+      → Resolves shared_string_spelling (shared_shape false str) (rc_str_bytes s) k there from set_bytes new result
+      → Resolves archived_as node_shape n r pos start bytes final result
   shared_resolved n s is is_set is_from is_there k kept h =
       let x = rc_str_bytes s in
       let t = tree.shared x in
@@ -197,8 +187,8 @@ module _ (r : NodeResolver) (bytes set_bytes new final : List ℕ) (start pos fr
   -- the own bytes of an option are the same however the node in it is archived
   maybe_alike :
       (w u : Spelling Tree NodeResolver) (offset size : ℕ) (o : Option Tree) (q : Option BoxResolver)
-      → Resolves (payload_spelling 4 offset size (maybe_spelling w)) o q pos start bytes final result
-      → Resolves (payload_spelling 4 offset size (maybe_spelling u)) o q pos start bytes final result
+      → Resolves (payload_spelling 4 offset size (maybe_spelling w)) node_shape o q pos start bytes final result
+      → Resolves (payload_spelling 4 offset size (maybe_spelling u)) node_shape o q pos start bytes final result
   maybe_alike w u offset size None None h = h
   maybe_alike w u offset size None (Some q) h = h
   maybe_alike w u offset size (Some t) None h = h
@@ -208,8 +198,8 @@ module _ (r : NodeResolver) (bytes set_bytes new final : List ℕ) (start pos fr
       (n : Node) (o : Option (Box Node Global)) → n ≡ node.Maybe o
       → set_bytes ≡ set bytes start 4 → from ≡ start + 4 → there ≡ pos + 4
       → (k : Option BoxResolver) → k ≡ maybe_in r
-      → Resolves (maybe_spelling node_spelling) (tree_within o) k there from set_bytes new result
-      → Resolves archived_as n r pos start bytes final result
+      → Resolves (maybe_spelling node_spelling) (option boxed_shape) (tree_within o) k there from set_bytes new result
+      → Resolves archived_as node_shape n r pos start bytes final result
   maybe_resolved n o is is_set is_from is_there k kept h = by o is h
     where
       size : ℕ
@@ -218,8 +208,8 @@ module _ (r : NodeResolver) (bytes set_bytes new final : List ℕ) (start pos fr
       offset : ℕ
       offset = align_up 1 (align_of (option boxed_shape))
 
-      inside : (x : Option Tree) (t : Tree) → Resolves (maybe_spelling node_spelling) x k there from set_bytes new result
-          → Resolves (payload_spelling 4 offset size (maybe_spelling (levels_spelling node_level refused (depth t)))) x (maybe_in r) pos start bytes final result
+      inside : (x : Option Tree) (t : Tree) → Resolves (maybe_spelling node_spelling) (option boxed_shape) x k there from set_bytes new result
+          → Resolves (payload_spelling 4 offset size (maybe_spelling (levels_spelling node_level refused (depth t)))) node_shape x (maybe_in r) pos start bytes final result
       inside x t h =
           let fit = first_fit (λ _. 0) in
           let boxes = kept_spells fit boxed_shape KnowsNode (λ n. record { pos = n }) (λ r. r.pos) (λ r. refl) (box_spelling node_shape node_spelling) (box_spells fit node_shape KnowsNode node_spelling (node_spells_law fit)) in
@@ -227,7 +217,7 @@ module _ (r : NodeResolver) (bytes set_bytes new final : List ℕ) (start pos fr
           (kind_resolved 4 4 (option boxed_shape) (maybe_spelling node_spelling) resolver.Maybe maybe_in maybe_place x t
           (λ q p f. (option_spells fit boxed_shape KnowsNode (boxed_spelling node_spelling) boxes x).sized q p f) is_set is_from is_there k kept h)
 
-      by : (o : Option (Box Node Global)) → n ≡ node.Maybe o → Resolves (maybe_spelling node_spelling) (tree_within o) k there from set_bytes new result → Resolves archived_as n r pos start bytes final result
+      by : (o : Option (Box Node Global)) → n ≡ node.Maybe o → Resolves (maybe_spelling node_spelling) (option boxed_shape) (tree_within o) k there from set_bytes new result → Resolves archived_as node_shape n r pos start bytes final result
       by None is h = as_tree n tree.nothing (ap node_tree is ∙ node_tree-none) (inside None tree.nothing h)
       by (Some b) is h = let t = tree.just (node_tree b.value) in as_tree n t (ap node_tree is ∙ node_tree-some b) (inside (Some (node_tree b.value)) t h)
 
@@ -235,8 +225,8 @@ module _ (r : NodeResolver) (bytes set_bytes new final : List ℕ) (start pos fr
       (n : Node) (v : Vec Node Global) → n ≡ node.List v
       → set_bytes ≡ set bytes start 5 → from ≡ start + 4 → there ≡ pos + 4
       → (k : VecResolver) → k ≡ list_in r
-      → Resolves (list_spelling node_spelling) (trees_within v.items) k there from set_bytes new result
-      → Resolves archived_as n r pos start bytes final result
+      → Resolves (list_spelling node_spelling) (vector node_shape) (trees_within v.items) k there from set_bytes new result
+      → Resolves archived_as node_shape n r pos start bytes final result
   list_resolved n v is is_set is_from is_there k kept h =
       let fit = first_fit (λ _. 0) in
       let t = tree.list (node_trees v.items) in
@@ -246,8 +236,13 @@ module _ (r : NodeResolver) (bytes set_bytes new final : List ℕ) (start pos fr
       (λ q p f. (slice_spells fit node_shape KnowsNode node_spelling (node_spells_law fit) x).sized q.pos p f) is_set is_from is_there k kept h)
 
 -- a node whose kind has no layout is refused
-pub own_refused_as : (n : Node) (t : Tree) (r : NodeResolver) (pos : ℕ) → node_tree n ≡ t → node_spelling.own_refused t r pos InvalidTag → archived_as.own_refused n r pos InvalidTag
-own_refused_as n t r pos is h = subst (λ u. node_spelling.own_refused u r pos InvalidTag) (sym is) h
+pub own_refused_as :
+    (n : Node) (t : Tree) (r : NodeResolver) (pos start : ℕ) (bytes : List ℕ)
+    → node_tree n ≡ t
+    → node_spelling.own_refused t r pos InvalidTag
+    → Resolves archived_as node_shape n r pos start bytes bytes (Err InvalidTag)
+own_refused_as n t r pos start bytes is h =
+    (subst (λ u. node_spelling.own_refused u r pos InvalidTag) (sym is) h, spares_same bytes bytes start (size_of node_shape) refl)
 
 -- what is kept of a text was made of it
 pub text_made : (n : Node) (s : String Global) (r : NodeResolver) (k : StringResolver) → n ≡ node.Text s → k ≡ text_in r

@@ -1,12 +1,14 @@
 //! Archives nodes, each by its kind.
-ghost use Rattle.std.specs.Prelude.{◌≡◌, ℕ, suc, ◌+◌, ◌-◌, ◌^◌, ◌<◌, ◌≤◌, length};
+ghost use Rattle.std.specs.Prelude.{◌≡◌, ℕ, suc, false, ◌+◌, ◌-◌, ◌^◌, ◌<◌, ◌≤◌, length};
 ghost use Rattle.std.specs.Rc.{rc_str_bytes};
+ghost use Rattle.archive_shape_layout.specs.Shape.Shape.{option, vector, shared};
+ghost use Rattle.archive_shape_layout.specs.Shape.Pointee.{str};
 ghost use Rattle.archive_shape.specs.Bytes.{HasBytes, zeros};
 ghost use Rattle.archive_forms_laws.specs.Serializing.{CanResolve, HasState, Resolves, Serializes, SerializesBy};
 ghost use Rattle.archive_forms_laws.proofs.Views.{seen_spells};
 ghost use Rattle.cabinet_text_grammar.specs.Tree.{depth};
 ghost use Rattle.cabinet_documents.specs.Node.{node_shape, KnowsNode};
-ghost use Rattle.cabinet_documents.specs.Spelling.{node_spelling, shared_string_spelling, maybe_spelling, list_spelling, text_in, shared_in, maybe_in, list_in};
+ghost use Rattle.cabinet_documents.specs.Spelling.{boxed_shape, node_spelling, shared_string_spelling, maybe_spelling, list_spelling, text_in, shared_in, maybe_in, list_in};
 ghost use Rattle.cabinet_documents.proofs.Levels.{node_spells_law};
 ghost use Rattle.cabinet_text_nodes.specs.Archived.{archived_as, tree_within, trees_within, most_within};
 ghost use Rattle.cabinet_text_nodes.specs.View.{node_tree};
@@ -70,8 +72,8 @@ fn resolve_shared(
     out: Place<'_, ArchivedRcStr<RcFlavor>>,
 ) -> Result<(), Error>
     requires { out.start + 8 ≤ length out.out.now }
-    ensures { Resolves shared_string_spelling (rc_str_bytes text.now) resolver out.entry.pos
-        out.entry.start out.entry.out.now out.exit.0.now result }
+    ensures { Resolves shared_string_spelling (shared false str) (rc_str_bytes text.now) resolver
+        out.entry.pos out.entry.start out.entry.out.now out.exit.0.now result }
 {
     let Place {
         out,
@@ -92,8 +94,8 @@ fn resolve_maybe(
     requires room { out.start + 8 ≤ length out.out.now }
     requires stands { out.pos + 8 < 2 ^ 64 }
     requires blank { HasBytes out.out.now out.start (zeros 8) }
-    ensures { Resolves (maybe_spelling node_spelling) (tree_within content.now) resolver out.entry.pos
-        out.entry.start out.entry.out.now out.exit.0.now result }
+    ensures { Resolves (maybe_spelling node_spelling) (option boxed_shape) (tree_within content.now)
+        resolver out.entry.pos out.entry.start out.entry.out.now out.exit.0.now result }
 {
     let Place {
         out,
@@ -119,8 +121,8 @@ fn resolve_list(
     out: Place<'_, ArchivedVec<ArchivedNode>>,
 ) -> Result<(), Error>
     requires { out.start + 8 ≤ length out.out.now }
-    ensures { Resolves (list_spelling node_spelling) (trees_within nodes.now.items) resolver
-        out.entry.pos out.entry.start out.entry.out.now out.exit.0.now result }
+    ensures { Resolves (list_spelling node_spelling) (vector node_shape) (trees_within nodes.now.items)
+        resolver out.entry.pos out.entry.start out.entry.out.now out.exit.0.now result }
 {
     let Place {
         out,
@@ -142,8 +144,8 @@ impl Archive for Node {
     /// Writes a node's own bytes. A kind without a layout is an `InvalidTag` error.
     fn resolve(&self, resolver: NodeResolver, out: Place<'_, ArchivedNode>) -> Result<(), Error>
         requires { CanResolve archived_as node_shape self.now resolver out.out.now out.start out.pos }
-        ensures { Resolves archived_as self.now resolver out.entry.pos out.entry.start out.entry.out.now
-            out.exit.0.now result }
+        ensures { Resolves archived_as node_shape self.now resolver out.entry.pos out.entry.start
+            out.entry.out.now out.exit.0.now result }
     {
         let Place {
             out,

@@ -16,38 +16,47 @@ ghost use Rattle.cabinet_text_nodes.specs.View.{node_tree};
 
 use crate::node::Node;
 use archive_forms::{
-    Deserialize, ReadBack, deserialize_box_each, deserialize_option_each, deserialize_vec_each,
+    Deserialize, Deserializer, Keeps, ReadBack, SharedPool, deserialize_box_each,
+    deserialize_option_each, deserialize_rc_str, deserialize_vec_each,
 };
 use archive_forms_rc::{ArchivedRcStr, RcFlavor};
 use archive_forms_values::{ArchivedBox, ArchivedOption, ArchivedString, ArchivedVec, native_of};
-use archive_shape::{Error, Ref};
+use archive_shape::{Error, Ref, Str};
 use cabinet_archived::{ArchivedKind, ArchivedNode};
 use std::alloc::Global;
 use std::marker::PhantomData;
 use std::rc::RcStr;
 
-/// Reads a shared text back, as an owned copy.
-fn deserialize_shared(text: Ref<'_, ArchivedRcStr<RcFlavor>>, alloc: Global) -> Result<RcStr, Error>
-    requires { HasValue (shared false str) (λ _. ⊤) text.bytes.now text.pos }
-    ensures { Deserializes (reads_in (λ s. rc_str_bytes s) (reads_as shared_string_spelling))
+/// Reads a shared text back, of which pointers to it share one copy.
+fn deserialize_shared<D: Keeps<RcStr, Str>>(
+    text: Ref<'_, ArchivedRcStr<RcFlavor>>,
+    alloc: Global,
+    deserializer: &mut D,
+) -> Result<RcStr, Error>
+    requires there { HasValue (shared false str) (λ _. ⊤) text.bytes.now text.pos }
+    requires kept { D.is_of deserializer.old text.bytes.now }
+    ensures value { Deserializes (reads_in (λ s. rc_str_bytes s) (reads_as shared_string_spelling))
         (shared false str) (λ _. ⊤) text.entry.bytes.now text.entry.pos result }
+    ensures keeps { IfOk result (λ _. D.is_of deserializer.new text.entry.bytes.now) }
 {
-    match RcStr::from_str(alloc, ArchivedRcStr::<RcFlavor>::get(text)) {
-        Ok(text) => Ok(text),
-        Err(e) => Err(e.into()),
+    match deserialize_rc_str(text, alloc, deserializer) {
+        Ok(shared) => Ok(shared.value),
+        Err(e) => Err(e),
     }
 }
 
 /// Reads the box of a node back.
 #[cycle(read)]
-fn deserialize_boxed<D>(
+fn deserialize_boxed<D: Keeps<RcStr, Str>>(
     boxed: Ref<'_, ArchivedBox<ArchivedNode>>,
     alloc: Global,
     deserializer: &mut D,
 ) -> Result<Box<Node>, Error>
-    requires { HasValue (box (sized node_shape)) KnowsNode boxed.bytes.now boxed.pos }
-    ensures { Deserializes (reads_in (λ b. b.value) (reads_as archived_as))
+    requires there { HasValue (box (sized node_shape)) KnowsNode boxed.bytes.now boxed.pos }
+    requires kept { D.is_of deserializer.old boxed.bytes.now }
+    ensures value { Deserializes (reads_in (λ b. b.value) (reads_as archived_as))
         (box (sized node_shape)) KnowsNode boxed.entry.bytes.now boxed.entry.pos result }
+    ensures keeps { IfOk result (λ _. D.is_of deserializer.new boxed.entry.bytes.now) }
 {
     let Ref { bytes, pos, .. } = boxed;
     deserialize_box_each::<Node, ArchivedNode, D, _>(
@@ -57,8 +66,10 @@ fn deserialize_boxed<D>(
         |d: &mut D, p: usize| -> Result<(Node, PhantomData<ArchivedNode>), Error>
             requires ends { p + 24 ≤ pos }
             requires there { HasValue node_shape KnowsNode bytes.now p }
-            ensures { DeserializesBy (reads_as archived_as) node_shape KnowsNode bytes.entry.now p
+            requires kept { D.is_of d.old bytes.now }
+            ensures value { DeserializesBy (reads_as archived_as) node_shape KnowsNode bytes.entry.now p
                 (λ q. q.0) result }
+            ensures keeps { IfOk result (λ _. D.is_of d.new bytes.entry.now) }
         {
             let _ = &pos;
             match deserialize_node(Ref::new(bytes, p), alloc, d) {
@@ -72,14 +83,16 @@ fn deserialize_boxed<D>(
 /// Reads the option of a box of a node back.
 #[cycle(read)]
 #[tactic(auto, unfolding(archive_shape_layout::specs::Bytes::align_up))]
-fn deserialize_maybe<D>(
+fn deserialize_maybe<D: Keeps<RcStr, Str>>(
     maybe: Ref<'_, ArchivedOption<ArchivedBox<ArchivedNode>>>,
     alloc: Global,
     deserializer: &mut D,
 ) -> Result<Option<Box<Node>>, Error>
-    requires { HasValue (option (box (sized node_shape))) KnowsNode maybe.bytes.now maybe.pos }
-    ensures { Deserializes (reads_option (reads_in (λ b. b.value) (reads_as archived_as)))
+    requires there { HasValue (option (box (sized node_shape))) KnowsNode maybe.bytes.now maybe.pos }
+    requires kept { D.is_of deserializer.old maybe.bytes.now }
+    ensures value { Deserializes (reads_option (reads_in (λ b. b.value) (reads_as archived_as)))
         (option (box (sized node_shape))) KnowsNode maybe.entry.bytes.now maybe.entry.pos result }
+    ensures keeps { IfOk result (λ _. D.is_of deserializer.new maybe.entry.bytes.now) }
 {
     let Ref { bytes, pos, .. } = maybe;
     deserialize_option_each::<Box<Node>, ArchivedBox<ArchivedNode>, D, _>(
@@ -88,8 +101,10 @@ fn deserialize_maybe<D>(
         |d: &mut D, p: usize| -> Result<(Box<Node>, PhantomData<ArchivedBox<ArchivedNode>>), Error>
             requires ends { p + 4 ≤ pos + 8 }
             requires there { HasValue (box (sized node_shape)) KnowsNode bytes.now p }
-            ensures { DeserializesBy (reads_in (λ b. b.value) (reads_as archived_as))
+            requires kept { D.is_of d.old bytes.now }
+            ensures value { DeserializesBy (reads_in (λ b. b.value) (reads_as archived_as))
                 (box (sized node_shape)) KnowsNode bytes.entry.now p (λ q. q.0) result }
+            ensures keeps { IfOk result (λ _. D.is_of d.new bytes.entry.now) }
         {
             let _ = &pos;
             match deserialize_boxed(Ref::new(bytes, p), alloc, d) {
@@ -102,14 +117,16 @@ fn deserialize_maybe<D>(
 
 /// Reads the elements of a list back.
 #[cycle(read)]
-fn deserialize_list<D>(
+fn deserialize_list<D: Keeps<RcStr, Str>>(
     list: Ref<'_, ArchivedVec<ArchivedNode>>,
     alloc: Global,
     deserializer: &mut D,
 ) -> Result<Vec<Node>, Error>
-    requires { HasValue (vector node_shape) KnowsNode list.bytes.now list.pos }
-    ensures { Deserializes (reads_in (λ xs. xs.items) (reads_all (reads_as archived_as)))
+    requires there { HasValue (vector node_shape) KnowsNode list.bytes.now list.pos }
+    requires kept { D.is_of deserializer.old list.bytes.now }
+    ensures value { Deserializes (reads_in (λ xs. xs.items) (reads_all (reads_as archived_as)))
         (vector node_shape) KnowsNode list.entry.bytes.now list.entry.pos result }
+    ensures keeps { IfOk result (λ _. D.is_of deserializer.new list.entry.bytes.now) }
 {
     let Ref { bytes, pos, .. } = list;
     deserialize_vec_each::<Node, ArchivedNode, D, _>(
@@ -119,8 +136,10 @@ fn deserialize_list<D>(
         |d: &mut D, p: usize| -> Result<(Node, PhantomData<ArchivedNode>), Error>
             requires ends { p + 24 ≤ pos }
             requires there { HasValue node_shape KnowsNode bytes.now p }
-            ensures { DeserializesBy (reads_as archived_as) node_shape KnowsNode bytes.entry.now p
+            requires kept { D.is_of d.old bytes.now }
+            ensures value { DeserializesBy (reads_as archived_as) node_shape KnowsNode bytes.entry.now p
                 (λ q. q.0) result }
+            ensures keeps { IfOk result (λ _. D.is_of d.new bytes.entry.now) }
         {
             let _ = &pos;
             match deserialize_node(Ref::new(bytes, p), alloc, d) {
@@ -133,23 +152,25 @@ fn deserialize_list<D>(
 
 /// Reads a node back. The depth of its recursion is at most the depth at which nodes lie in one another.
 #[cycle(read)]
-fn deserialize_node<D>(
+fn deserialize_node<D: Keeps<RcStr, Str>>(
     node: Ref<'_, ArchivedNode>,
     alloc: Global,
     deserializer: &mut D,
 ) -> Result<Node, Error>
-    requires { HasValue node_shape KnowsNode node.bytes.now node.pos }
-    ensures { Deserializes (reads_as archived_as) node_shape KnowsNode node.entry.bytes.now
+    requires there { HasValue node_shape KnowsNode node.bytes.now node.pos }
+    requires kept { D.is_of deserializer.old node.bytes.now }
+    ensures value { Deserializes (reads_as archived_as) node_shape KnowsNode node.entry.bytes.now
         node.entry.pos result }
+    ensures keeps { IfOk result (λ _. D.is_of deserializer.new node.entry.bytes.now) }
 {
     match ArchivedNode::kind(node) {
         ArchivedKind::Bool(value) => Ok(Node::Bool(native_of(value))),
         ArchivedKind::Int(number) => Ok(Node::Int(native_of(number))),
-        ArchivedKind::Text(text) => match ArchivedString::deserialize(&text, alloc, deserializer) {
+        ArchivedKind::Text(text) => match ArchivedString::deserialize(&text, alloc, &mut ()) {
             Ok(text) => Ok(Node::Text(text)),
             Err(e) => Err(e),
         },
-        ArchivedKind::Shared(text) => match deserialize_shared(text, alloc) {
+        ArchivedKind::Shared(text) => match deserialize_shared(text, alloc, deserializer) {
             Ok(text) => Ok(Node::Shared(text)),
             Err(e) => Err(e),
         },
@@ -168,16 +189,20 @@ impl ReadBack<Node> for ArchivedNode {
     ghost reads = { reads_as archived_as };
 }
 
-impl<D> Deserialize<Node, D> for ArchivedNode {
+impl Deserialize<Node> for ArchivedNode {
+    type Pool = SharedPool<RcStr, Str, ()>;
+
     /// Reads the node at a position back. Its tree is the one that the value there denotes.
     fn deserialize(
         this: &Ref<'_, ArchivedNode>,
         alloc: Global,
-        deserializer: &mut D,
+        deserializer: &mut SharedPool<RcStr, Str, ()>,
     ) -> Result<Node, Error>
-        requires { HasValue node_shape KnowsNode this.now.bytes.now this.now.pos }
-        ensures read { Deserializes (reads_as archived_as) node_shape KnowsNode this.now.bytes.now
+        requires there { HasValue node_shape KnowsNode this.now.bytes.now this.now.pos }
+        requires kept { ⟦<SharedPool<RcStr, Str, ()> as Deserializer>⟧.is_of deserializer.old this.now.bytes.now }
+        ensures value { Deserializes (reads_as archived_as) node_shape KnowsNode this.now.bytes.now
             this.now.pos result }
+        ensures keeps { IfOk result (λ _. ⟦<SharedPool<RcStr, Str, ()> as Deserializer>⟧.is_of deserializer.new this.now.bytes.now) }
         ensures denotes { IfOk result (λ node. (v : Value)
             → HeldAt node_shape KnowsNode this.now.bytes.now this.now.pos v
             → Denotes v (node_tree node)) }

@@ -1,5 +1,5 @@
 -- Lines cut into their words, and the errors of reading them.
-use Rattle.std.proofs.Common.{◌≡◌, ◌≢◌, ℕ, ◌-◌, List, [], ◌∷◌, ◌++◌, length, take, drop, sym, ap, ◌∙◌, inl, inr, refl, arith, append_assoc, append-nil, length-append, codes, All, None, Some, Bor}
+use Rattle.std.proofs.Common.{◌≡◌, ◌≢◌, ℕ, ◌-◌, List, [], ◌∷◌, ◌++◌, length, take, drop, sym, ap, ◌∙◌, ◌⊎◌, inl, inr, ⊎_elim, refl, arith, append_assoc, append-nil, length-append, codes, All, None, Some, Bor}
 use Rattle.std.proofs.lemmas.List.{append_cancel_left}
 use Rattle.std.proofs.lemmas.List.Elements.{All-cons}
 use Rattle.std.proofs.Math.Seq.{take-append_seam, drop-append_seam}
@@ -139,6 +139,10 @@ no_path_of_range bytes rest path low high first second none line p h =
     let after = cut_after_step rest (Key high) path (key r.high) r.path second r.possible.1 (second_bound bytes rest low first r) in
     none (r.path, r.possible.2, after.1)
 
+-- bytes are the escaped form of a text that is not empty
+not_empty : (bytes t : List ℕ) → bytes ≡ escaped t → bytes ≢ [] → t ≢ []
+not_empty bytes t e some none = some (e ∙ ap escaped none)
+
 -- a borrowed key is an escaped text
 pub IsEscaped-key : (argument : List ℕ) → IsSpelledStep (39 ∷ argument) → IsEscaped argument
 IsEscaped-key argument (key k, p, e) = (k, p, rest_same e)
@@ -159,11 +163,16 @@ range_spelled bytes rest path k l low high steps first second k_is l_is path_is 
     ∙ ap (λ w. quoted (escaped k) (quoted (escaped l) w)) path_is)
 
 -- memory is refused for the bounds or the steps of a range
-pub no_memory_for_range : (bytes rest path : List ℕ) (low high : Bor (List ℕ)) → BeginsWithStep bytes (Key low) rest → BeginsWithStep rest (Key high) path → IsPath path → RefusesLine (codes "range" ++ bytes) OutOfMemory
-no_memory_for_range bytes rest path low high first second (steps, p, h) =
+pub no_memory_for_range :
+    (bytes rest path : List ℕ) (low high : Bor (List ℕ)) → BeginsWithStep bytes (Key low) rest → BeginsWithStep rest (Key high) path → IsPath path
+    → (low.now ≢ []) ⊎ (high.now ≢ []) ⊎ (path ≢ []) → RefusesLine (codes "range" ++ bytes) OutOfMemory
+no_memory_for_range bytes rest path low high first second (steps, p, h) takes =
     let k = IsEscaped-key low.now first.possible in
-    let l = IsEscaped-key high.now second.possible in
-    (range k.0 l.0 steps, ((k.1, l.1, p), range_spelled bytes rest path k.0 l.0 low high steps first second k.2 l.2 h), tt)
+    let l = IsEscaped-key high.now second.possible in (
+      range k.0 l.0 steps,
+      ((k.1, l.1, p), range_spelled bytes rest path k.0 l.0 low high steps first second k.2 l.2 h),
+      ⊎_elim (λ some. inl (not_empty low.now k.0 k.2 some)) (⊎_elim (λ some. inr (inl (not_empty high.now l.0 l.2 some))) (λ some. inr (inr (has_steps path steps h some)))) takes,
+    )
 
 edit_spelled : (bytes front rest : List ℕ) (path : List Step) (l : Leaf) → bytes ≡ front ++ rest → front ≡ spelled_leaf l → rest ≡ spelled_path path → codes "set " ++ bytes ≡ spelling (set path l)
 edit_spelled bytes front rest path l whole e h =
@@ -200,5 +209,5 @@ leaf_refused bytes front rest Bad whole cut is_path refused =
     λ line p h.
     let edit = only_set bytes front rest cut line p h in
     refused edit.leaf edit.possible edit.spelled
-leaf_refused bytes front rest OutOfMemory whole cut (path, steps, h) (argument, e, (t, utf8, escapes)) =
-    (set path (text t), ((steps, utf8), edit_spelled bytes front rest path (text t) whole (e ∙ ap (λ w. codes "text '" ++ w) escapes) h), inr tt)
+leaf_refused bytes front rest OutOfMemory whole cut (path, steps, h) (argument, e, (t, utf8, escapes), some) =
+    (set path (text t), ((steps, utf8), edit_spelled bytes front rest path (text t) whole (e ∙ ap (λ w. codes "text '" ++ w) escapes) h), inr (not_empty argument t escapes some))

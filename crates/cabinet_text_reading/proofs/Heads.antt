@@ -1,10 +1,11 @@
 -- Which heads lines are, and why lines are refused.
-use Rattle.std.proofs.Common.{◌≡◌, ◌≢◌, ℕ, ℤ, Bool, true, false, Option, Some, None, MatchOption, is_some, not, length, ◌<◌, ◌≤◌, ◌^◌, List, ◌++◌, IsUtf8, FitsSigned, w64, sym, ap, ◌∙◌, refl, inl, inr, subst, arith, codes}
+use Rattle.std.proofs.Common.{◌≡◌, ◌≢◌, ℕ, ℤ, Bool, true, false, Option, Some, None, MatchOption, is_some, not, length, ◌<◌, ◌≤◌, ◌^◌, List, [], ◌++◌, IsUtf8, FitsSigned, w64, sym, ap, ◌∙◌, refl, inl, inr, subst, arith, codes}
 use Rattle.std.specs.Fmt.{decimal, signed_decimal}
 use Rattle.cabinet_text_grammar.specs.Keys.{ordered, hashed, kept}
 use Rattle.cabinet_text_grammar.specs.Tree.{truth, number, text}
 use Rattle.cabinet_text_grammar.specs.Item.{Item, leaf_item, shared_item, none_item, some_item, list_item, map_item, key_item}
 use Rattle.cabinet_text_grammar.specs.Due.{a_head, Admits}
+use Rattle.cabinet_text_grammar.specs.Memory.{TakesMemory}
 use Rattle.cabinet_text_grammar.specs.Spelling.{escaped, spelled, spelled_leaf}
 use Rattle.cabinet_text_grammar.specs.Fault.{HasBadText, HasBadEscape, HasCount, bad_number, bad_count, IsFirstCause}
 use Rattle.cabinet_text_grammar.specs.declared.cause.Cause.{Cause}
@@ -17,7 +18,7 @@ use Rattle.cabinet_text_grammar.proofs.Pieces.{ended_piece}
 use Rattle.cabinet_text_grammar.proofs.Faults.{admitted_item}
 use Rattle.cabinet_text_grammar.proofs.FirstCauses.{bad_escape, unknown_head, bad_number_first, too_deep}
 use Rattle.cabinet_text_grammar.proofs.Verdicts.{no_words, memory_first}
-use Rattle.cabinet_text_reading.specs.Heads.{IsContainer, count_word, RefusesText}
+use Rattle.cabinet_text_reading.specs.Heads.{IsContainer, count_word, RefusesText, RefusesShared}
 use Rattle.cabinet_text_reading.specs.declared.head.Counted.{Counted}
 use Rattle.cabinet_text_reading.specs.declared.head.Counted.TheVariants.{List as List', Ordered, Hashed, Kept}
 
@@ -49,28 +50,50 @@ pub not_escaped :
 not_escaped argument None b e f h = λ t u. h t
 not_escaped argument (Some n) b e f h = absurd (false≢true (sym (e ∙ ap not f)))
 
+-- memory is refused for the head of an item that takes some
+pub taken_first : (depth : ℕ) (i : Item) → Admits (a_head depth) i → TakesMemory depth i → IsFirstCause (a_head depth) (ended_piece (spelled i)) OutOfMemory
+taken_first depth i admits takes = memory_first (a_head depth) i (admitted_item depth i admits) admits (i, admits, refl, takes)
+
 -- no text is read after a word that a text or a shared text begins with
 pub text_refused :
     (depth : ℕ) (word line argument : List ℕ) (make : List ℕ → Item) (cause : Cause)
     → ((t : List ℕ) → spelled (make t) ≡ word ++ escaped t)
     → ((t : List ℕ) → IsUtf8 t → Admits (a_head depth) (make t))
+    → ((t : List ℕ) → t ≢ [] → TakesMemory depth (make t))
     → (HasBadText word line → HasBadEscape line)
     → line ≡ word ++ argument → IsUtf8 line → RefusesText argument cause
     → IsFirstCause (a_head depth) (ended_piece line) cause
-text_refused depth word line argument make BadEscape spells admits bad h utf8 r = bad_escape depth line utf8 (bad (argument, h, r))
-text_refused depth word line argument make OutOfMemory spells admits bad h utf8 (t, u, e) =
+text_refused depth word line argument make BadEscape spells admits takes bad h utf8 r = bad_escape depth line utf8 (bad (argument, h, r))
+text_refused depth word line argument make OutOfMemory spells admits takes bad h utf8 ((t, u, e), some) =
     let is : line ≡ spelled (make t) = h ∙ ap (λ w. word ++ w) e ∙ sym (spells t) in
-    rw is (memory_first (a_head depth) (make t) (admitted_item depth (make t) (admits t u)) (admits t u))
-text_refused depth word line argument make NotUtf8 spells admits bad h utf8 r = absurd r
-text_refused depth word line argument make NoNewline spells admits bad h utf8 r = absurd r
-text_refused depth word line argument make EndTooEarly spells admits bad h utf8 r = absurd r
-text_refused depth word line argument make KeyExpected spells admits bad h utf8 r = absurd r
-text_refused depth word line argument make KeyOrder spells admits bad h utf8 r = absurd r
-text_refused depth word line argument make KeyRepeated spells admits bad h utf8 r = absurd r
-text_refused depth word line argument make UnknownHead spells admits bad h utf8 r = absurd r
-text_refused depth word line argument make BadNumber spells admits bad h utf8 r = absurd r
-text_refused depth word line argument make TooDeep spells admits bad h utf8 r = absurd r
-text_refused depth word line argument make LineAfterEnd spells admits bad h utf8 r = absurd r
+    rw is (taken_first depth (make t) (admits t u) (takes t (λ none. some (e ∙ ap escaped none))))
+text_refused depth word line argument make NotUtf8 spells admits takes bad h utf8 r = absurd r
+text_refused depth word line argument make NoNewline spells admits takes bad h utf8 r = absurd r
+text_refused depth word line argument make EndTooEarly spells admits takes bad h utf8 r = absurd r
+text_refused depth word line argument make KeyExpected spells admits takes bad h utf8 r = absurd r
+text_refused depth word line argument make KeyOrder spells admits takes bad h utf8 r = absurd r
+text_refused depth word line argument make KeyRepeated spells admits takes bad h utf8 r = absurd r
+text_refused depth word line argument make UnknownHead spells admits takes bad h utf8 r = absurd r
+text_refused depth word line argument make BadNumber spells admits takes bad h utf8 r = absurd r
+text_refused depth word line argument make TooDeep spells admits takes bad h utf8 r = absurd r
+text_refused depth word line argument make LineAfterEnd spells admits takes bad h utf8 r = absurd r
+
+-- no shared text is read
+pub shared_refused : (depth : ℕ) (line argument : List ℕ) (cause : Cause) → line ≡ codes "shared '" ++ argument → IsUtf8 line → RefusesShared argument cause → IsFirstCause (a_head depth) (ended_piece line) cause
+shared_refused depth line argument BadEscape h utf8 r = bad_escape depth line utf8 (inr (argument, h, r))
+shared_refused depth line argument OutOfMemory h utf8 (t, u, e) =
+    let is : line ≡ spelled (shared_item t) = h ∙ ap (λ w. codes "shared '" ++ w) e in
+    rw is (taken_first depth (shared_item t) u tt)
+shared_refused depth line argument NotUtf8 h utf8 r = absurd r
+shared_refused depth line argument NoNewline h utf8 r = absurd r
+shared_refused depth line argument EndTooEarly h utf8 r = absurd r
+shared_refused depth line argument KeyExpected h utf8 r = absurd r
+shared_refused depth line argument KeyOrder h utf8 r = absurd r
+shared_refused depth line argument KeyRepeated h utf8 r = absurd r
+shared_refused depth line argument UnknownHead h utf8 r = absurd r
+shared_refused depth line argument BadNumber h utf8 r = absurd r
+shared_refused depth line argument TooDeep h utf8 r = absurd r
+shared_refused depth line argument LineAfterEnd h utf8 r = absurd r
 
 -- there is no number after the word of a number
 pub number_unread : (depth : ℕ) (line digits : List ℕ) → line ≡ codes "int " ++ digits → IsUtf8 line → ((n : ℤ) → FitsSigned w64 n → digits ≢ signed_decimal n) → IsFirstCause (a_head depth) (ended_piece line) BadNumber

@@ -89,4 +89,4 @@ refused_first kind es argument cause is (inl h) =
     rw (h.0, is.2) (wrong_key kind keys is.0 is.1 wrong)
 refused_first kind es argument cause is (inr h) =
     let keys = keys_after [] (node_pairs es) in
-    rw (h.0, is.2) (memory_first (a_key kind keys) (key_item is.0) is.1 (is.1, h.1 is.0 is.2))
+    rw (h.0, is.2) (memory_first (a_key kind keys) (key_item is.0) is.1 (is.1, h.1 is.0 is.2) tt)

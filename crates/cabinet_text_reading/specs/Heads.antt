@@ -1,5 +1,5 @@
 -- The parts of a head's line, and the causes that apply to them.
-use Rattle.std.specs.Prelude.{◌≢◌, ℕ, ◌<◌, ◌^◌, List, codes, IsUtf8}
+use Rattle.std.specs.Prelude.{◌≢◌, ℕ, ◌<◌, ◌^◌, List, [], codes, IsUtf8}
 use Rattle.cabinet_text_grammar.specs.Item.{Item, none_item, some_item, list_item, map_item}
 use Rattle.cabinet_text_grammar.specs.Spelling.{escaped}
 use Rattle.cabinet_text_grammar.specs.declared.cause.Cause.{Cause}
@@ -24,8 +24,14 @@ count_word Hashed = codes "hashed "
 count_word Kept = codes "kept "
 
 -- the cause for which no text is read from the bytes after a quote: they are no text's escaped form, or memory is
--- refused
+-- refused for a text that is not empty
 abbrev pub RefusesText : List ℕ → Cause → Type 0
 RefusesText argument BadEscape = (t : List ℕ) → IsUtf8 t → argument ≢ escaped t
-RefusesText argument OutOfMemory = IsEscaped argument
+RefusesText argument OutOfMemory = IsEscaped argument × (argument ≢ [])
 RefusesText argument _ = ⊥
+
+-- the cause for which no shared text is read from them, which takes memory even where it is empty
+abbrev pub RefusesShared : List ℕ → Cause → Type 0
+RefusesShared argument BadEscape = (t : List ℕ) → IsUtf8 t → argument ≢ escaped t
+RefusesShared argument OutOfMemory = IsEscaped argument
+RefusesShared argument _ = ⊥

@@ -46,12 +46,12 @@ abbrev pub RefusesPath : List ℕ → LineRefusal → Type 0
 RefusesPath bytes Bad = IsPath bytes → ⊥
 RefusesPath bytes OutOfMemory = IsPath bytes × (bytes ≢ [])
 
--- the bytes are no leaf; memory is refused only for a text
+-- the bytes are no leaf; memory is refused only for a text that is not empty
 abbrev pub RefusesLeaf : List ℕ → LineRefusal → Type 0
 RefusesLeaf bytes Bad = (l : Leaf) → IsLeaf l → bytes ≢ spelled_leaf l
-RefusesLeaf bytes OutOfMemory = (rest : List ℕ) × (bytes ≡ codes "text '" ++ rest) × IsEscaped rest
+RefusesLeaf bytes OutOfMemory = (rest : List ℕ) × (bytes ≡ codes "text '" ++ rest) × IsEscaped rest × (rest ≢ [])
 
--- the bytes are the escaped form of no text; memory is refused only for the escaped form of a text
+-- the bytes are the escaped form of no text; memory is refused only for that of a text that is not empty
 abbrev pub RefusesText : List ℕ → LineRefusal → Type 0
 RefusesText bytes Bad = (t : List ℕ) → IsUtf8 t → bytes ≢ escaped t
-RefusesText bytes OutOfMemory = IsEscaped bytes
+RefusesText bytes OutOfMemory = IsEscaped bytes × (bytes ≢ [])

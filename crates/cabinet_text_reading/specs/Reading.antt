@@ -1,5 +1,5 @@
 -- The errors of reading bytes as a line.
-use Rattle.std.specs.Prelude.{ℕ, List, [], ◌∷◌, ◌⊎◌, Some, None}
+use Rattle.std.specs.Prelude.{◌≢◌, ℕ, List, [], ◌∷◌, ◌⊎◌, Some, None}
 use Rattle.cabinet_text_grammar.specs.Tree.{Leaf, truth, number, text}
 use Rattle.cabinet_text_grammar.specs.Path.{Step}
 use Rattle.cabinet_text_grammar.specs.Line.{Line, get, keys, range, set, Says}
@@ -10,17 +10,17 @@ abbrev pub HasSteps : List Step → Type 0
 HasSteps [] = ⊥
 HasSteps (step ∷ path) = Unit {0}
 
-abbrev pub IsText : Leaf → Type 0
-IsText (truth b) = ⊥
-IsText (number n) = ⊥
-IsText (text t) = Unit {0}
+abbrev pub IsSomeText : Leaf → Type 0
+IsSomeText (truth b) = ⊥
+IsSomeText (number n) = ⊥
+IsSomeText (text t) = t ≢ []
 
--- memory is allocated for the steps of a path, for the bounds of a range and for a text
+-- memory is allocated for the steps of a path, and for bounds of a range and a text that are not empty
 abbrev pub TakesMemory : Line → Type 0
 TakesMemory (get path) = HasSteps path
 TakesMemory (keys path) = HasSteps path
-TakesMemory (range low high path) = Unit {0}
-TakesMemory (set path l) = HasSteps path ⊎ IsText l
+TakesMemory (range low high path) = (low ≢ []) ⊎ (high ≢ []) ⊎ HasSteps path
+TakesMemory (set path l) = HasSteps path ⊎ IsSomeText l
 
 -- the bytes are no line; memory is refused only for a line that allocates some
 abbrev pub RefusesLine : List ℕ → LineRefusal → Type 0

@@ -8,11 +8,11 @@ ghost use Rattle.cabinet_text_grammar.specs.Fault.{HasCount, IsFirstCause};
 ghost use Rattle.cabinet_text_nodes.specs.View.{item_of};
 ghost use Rattle.cabinet_text_reading.specs.Heads.{IsContainer, count_word, RefusesText};
 
+use crate::shared::SharedTexts;
 use cabinet_text_bytes::{after_prefix, read_count, read_number, read_truth, try_unescape};
 use cabinet_text_grammar::{Cause, MAX_DEPTH};
 use cabinet_text_nodes::{Head, Leaf};
 use std::alloc::Global;
-use std::rc::RcStr;
 
 /// The containers whose heads have a count.
 #[derive(Clone, Copy)]
@@ -25,7 +25,7 @@ enum Counted {
 
 /// Reads the text that an argument is the escaped form of. `BadEscape` if there is none; `OutOfMemory` if an allocation
 /// fails.
-fn read_escaped(alloc: Global, argument: &[u8]) -> Result<String, Cause>
+pub(crate) fn read_escaped(alloc: Global, argument: &[u8]) -> Result<String, Cause>
     requires { IsUtf8 argument.now }
     ensures text { IfOk result (λ text. argument.now ≡ escaped (string_bytes text)) }
     ensures fault { IfErr result (RefusesText argument.now) }
@@ -114,7 +114,12 @@ fn read_option(line: &[u8]) -> Option<Head>
 }
 
 /// Reads a line as a head inside `depth` containers.
-pub(crate) fn read_head(alloc: Global, line: &str, depth: usize) -> Result<Head, Cause>
+pub(crate) fn read_head<'a>(
+    alloc: Global,
+    line: &'a str,
+    depth: usize,
+    texts: &mut SharedTexts<'a>,
+) -> Result<Head, Cause>
     ensures head { IfOk result (λ head. Admits (a_head depth) (item_of head)) }
     ensures line { IfOk result (λ head. line.now ≡ spelled (item_of head)) }
     ensures fault { IfErr result (IsFirstCause (a_head depth)
@@ -126,10 +131,9 @@ pub(crate) fn read_head(alloc: Global, line: &str, depth: usize) -> Result<Head,
         return Ok(Head::Leaf(Leaf::Text(text)));
     }
     if let Some(argument) = after_prefix(bytes, b"shared '".as_slice()) {
-        let text = read_escaped(alloc, argument)?;
-        return match RcStr::from_string(text) {
+        return match texts.read(alloc, argument) {
             Ok(text) => Ok(Head::Shared(text)),
-            Err(_) => Err(Cause::OutOfMemory),
+            Err(cause) => Err(cause),
         };
     }
     if let Some(digits) = after_prefix(bytes, b"int ".as_slice()) {

@@ -11,6 +11,7 @@ pub use stack::{
 
 mod head;
 mod line;
+mod shared;
 mod text;
 
 pub use text::{TextRefusal, read_text};

@@ -13,6 +13,7 @@ ghost use Rattle.cabinet_text_grammar.specs.Steps.{TakesLine};
 
 use crate::head::read_head;
 use crate::line::{Lines, read_key_argument};
+use crate::shared::SharedTexts;
 use crate::stack::{Due, Frame, Next, OpenMap, take_head, take_key};
 use cabinet_text_grammar::Cause;
 use cabinet_text_nodes::{Document, Node};
@@ -30,7 +31,8 @@ pub struct TextRefusal {
 /// Takes in the line of a node's head.
 fn take_head_line<'a>(
     alloc: Global,
-    line: &str,
+    line: &'a str,
+    texts: &mut SharedTexts<'a>,
     stack: &mut Vec<Frame<'a>>,
 ) -> Result<Next<'a>, Cause>
     requires { AreOpen (stack_of stack.old.items) }
@@ -39,7 +41,7 @@ fn take_head_line<'a>(
     ensures fault { IfErr result (IsFirstCause (due_in (stack_of stack.old.items))
         (Some (record { bytes = line.now; ended = true }))) }
 {
-    let head = read_head(alloc, line, stack.len())?;
+    let head = read_head(alloc, line, stack.len(), texts)?;
     match take_head(alloc, head, stack) {
         Ok(next) => Ok(next),
         Err(_) => Err(Cause::OutOfMemory),
@@ -67,6 +69,7 @@ fn take_line<'a>(
     alloc: Global,
     line: &'a str,
     due: Due<'a>,
+    texts: &mut SharedTexts<'a>,
     stack: &mut Vec<Frame<'a>>,
 ) -> Result<Next<'a>, Cause>
     requires { AreOpen (open_at due stack.old.items) }
@@ -76,7 +79,7 @@ fn take_line<'a>(
         (Some (record { bytes = line.now; ended = true }))) }
 {
     match due {
-        Due::Head => take_head_line(alloc, line, stack),
+        Due::Head => take_head_line(alloc, line, texts, stack),
         Due::Key(map) => {
             take_key_line(alloc, line, map, stack)?;
             Ok(Next::Due(Due::Head))
@@ -101,12 +104,13 @@ fn end_document(root: Node, rest: Lines<'_>, line: u64) -> Result<Document, Text
 }
 
 /// Returns the document with this text. The time and the memory are in proportion to the text, except for the
-/// comparisons of keys. No memory is reserved by a count in the text.
+/// comparisons of keys and of shared texts. No memory is reserved by a count in the text.
 pub fn read_text(alloc: Global, text: &[u8]) -> Result<Document, TextRefusal>
     ensures document { IfOk result (λ document. text.now ≡ text_of document) }
     ensures fault { IfErr result (λ refusal. FirstFault text.now refusal.line refusal.cause) }
 {
     let mut stack = Vec::new(alloc);
+    let mut texts = SharedTexts::new(alloc);
     let mut next = Next::Due(Due::Head);
     let mut rest = Lines::new(text);
     let mut line: u64 = 1;
@@ -119,7 +123,7 @@ pub fn read_text(alloc: Global, text: &[u8]) -> Result<Document, TextRefusal>
             Ok(parts) => parts,
             Err(cause) => return Err(TextRefusal { line, cause }),
         };
-        next = match take_line(alloc, bytes, due, &mut stack) {
+        next = match take_line(alloc, bytes, due, &mut texts, &mut stack) {
             Ok(next) => next,
             Err(cause) => return Err(TextRefusal { line, cause }),
         };

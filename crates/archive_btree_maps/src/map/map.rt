@@ -1,7 +1,11 @@
 //! The type of archived B-tree maps.
-ghost use Rattle.std.specs.Prelude.{◌≡◌, ◌++◌, ◌↔◌, [], length, IsTrue};
+ghost use Rattle.std.specs.Prelude.{◌≡◌, ◌+◌, ◌≤◌, ◌++◌, ◌↔◌, [], length, IsTrue};
 ghost use Rattle.std.proofs.Common.{refl, lit<, lit≤};
 ghost use Rattle.archive_shape_layout.specs.Shape.Shape.{tree};
+ghost use Rattle.archive_shape_layout.specs.Content.{Names};
+ghost use Rattle.archive_shape_layout.specs.Content.Part.{at};
+ghost use Rattle.archive_shape.specs.Kept.{IsWithin};
+ghost use Rattle.archive_shape.specs.Checks.{Checks, Moves};
 ghost use Rattle.archive_shape_layout.proofs.Naming.{first_types, other_types};
 ghost use Rattle.archive_btree_nodes.specs.BtreeLayout.Tree.{Tree, items};
 ghost use Rattle.archive_btree_nodes.specs.BtreeLayout.Reading.{Place};
@@ -63,9 +67,33 @@ impl<K: Portable, V: Portable, const E: usize> Portable for ArchivedBTreeMap<K, 
 impl<C: ArchiveContext, K: CheckBytes<C>, V: CheckBytes<C>, const E: usize> CheckBytes<C>
     for ArchivedBTreeMap<K, V, E> {
     fn check(alloc: Global, bytes: &[u8], pos: usize, context: &mut C) -> Result<(), Error> {
+        let this: Ref<'_, ArchivedBTreeMap<K, V, E>> = Ref::new(bytes, pos);
+        ArchivedBTreeMap::verify(this, alloc, context)
+    }
+}
+
+impl<K, V, const E: usize> ArchivedBTreeMap<K, V, E> {
+    /// Checks what the own bytes of the map lead to, of which any are legal: the nodes of its search tree, and the
+    /// entries. It is all of the map's check, with the errors of [`check_btree_each`], where the steps are the checks of
+    /// a key and of a value. If there are no entries, nothing is checked.
+    pub fn verify<C: ArchiveContext>(
+        this: Ref<'_, ArchivedBTreeMap<K, V, E>>,
+        alloc: Global,
+        context: &mut C,
+    ) -> Result<(), Error>
+    where
+        K: CheckBytes<C>,
+        V: CheckBytes<C>,
+        requires fits { this.pos + 8 ≤ length this.bytes.now }
+        requires range { IsWithin (C.kept context.old) (length this.bytes.now) }
+        ensures moves { Moves (C.kept context.old) result (C.kept context.new) }
+        ensures exact { (names : Names) → K.knows names → V.knows names
+            → Checks names this.entry.bytes.now (at this.entry.pos (tree E K.shape V.shape)) (C.kept context.old) result (C.kept context.new) }
+    {
+        let bytes = this.bytes;
         check_btree_each::<K, V, C, _, _, E>(
             bytes,
-            pos,
+            this.pos,
             context,
             |c: &mut C, p: usize| K::check(alloc, bytes, p, c),
             |c: &mut C, p: usize| V::check(alloc, bytes, p, c),

@@ -1,52 +1,97 @@
 //! Equality of a map and a map of std.
-ghost use Rattle.std.specs.Prelude.{◌≡◌, ◌↔◌, IsTrue, All};
+ghost use Rattle.std.specs.Prelude.{◌≡◌, ◌↔◌, ℕ, IsTrue, All};
 ghost use Rattle.std.specs.List.{AllZip};
+ghost use Rattle.std.specs.Ordering.{is_eq};
 ghost use Rattle.archive_btree_nodes.specs.BtreeLayout.Tree.{Tree, items};
 ghost use Rattle.archive_btree_nodes.specs.BtreeLayout.Reading.{Place};
+ghost use Rattle.archive_forms_values.specs.Parts.{HasValue};
 ghost use Rattle.archive_btree_walking.specs.Maps.{IsMap, HasMap};
-ghost use Rattle.archive_btree_walking.specs.Refs.{IsThere};
-ghost use Rattle.archive_btree_maps.specs.StdMaps.{IsSamePair, IsSameEntry};
+ghost use Rattle.archive_btree_walking.specs.Refs.{IsThere, value_at};
+ghost use Rattle.archive_btree_maps.specs.StdMaps.{IsSameEntry, IsSamePair, IsPairSame, IsPairSameAt, AreSame, MayCallValue};
 
 use crate::map::ArchivedBTreeMap;
 use archive_btree_walking::Iter;
-use archive_shape::{ArchivedKey, Ref};
+use archive_shape::{ArchivedKey, Portable, Ref};
 use std::alloc::Allocator;
 use std::collections::BTreeMap;
 
-/// Checks whether a key and its value are the same as a pair of a map of std.
-fn same_pair<Q, W, K: ArchivedKey<Q>, V: ArchivedKey<W>>(
+/// Checks whether a key is the same as that of a pair of a map of std, and `equal` returns `true` of the two values.
+fn same_pair<Q, W, K: ArchivedKey<Q>, V: Portable, F: Fn(Ref<'_, V>, &W) -> bool>(
     this: &(Ref<'_, K>, Ref<'_, V>),
     other: (&Q, &W),
+    equal: &F,
 ) -> bool
-    requires { IsThere K.shape V.shape K.knows V.knows this.now }
-    ensures { IsTrue result ↔ IsSamePair K.key_of K.order V.key_of V.order this.now
-        (other.entry.0.now, other.entry.1.now) }
+    requires there { IsThere K.shape V.shape K.knows V.knows this.now }
+    requires callable { F.pre equal.now this.now.1 other.1 }
+    ensures { IsPairSame K.key_of K.order (F.post equal.now) this.now
+        (other.entry.0.now, other.entry.1.now) result }
 {
-    K::same(&this.0, other.0) && V::same(&this.1, other.1)
+    K::same(&this.0, other.0) && equal(this.1, other.1)
 }
 
 /// Checks whether entries and the pairs of a map of std are equal in number, and the same one by one.
-fn same_entries<Q: Ord, W, K: ArchivedKey<Q>, V: ArchivedKey<W>, A: Allocator>(
-    these: Iter<'_, K, V>,
-    others: &BTreeMap<Q, W, A>,
-) -> bool
-    requires { All (IsThere K.shape V.shape K.knows V.knows) these }
-    ensures { IsTrue result ↔ AllZip (IsSamePair K.key_of K.order V.key_of V.order) these.entry
-        others.now.entries }
+fn same_entries<
+    Q: Ord,
+    W,
+    K: ArchivedKey<Q>,
+    V: Portable,
+    F: Fn(Ref<'_, V>, &W) -> bool,
+    A: Allocator,
+>(these: Iter<'_, K, V>, others: &BTreeMap<Q, W, A>, equal: &F) -> bool
+    requires there { All (IsThere K.shape V.shape K.knows V.knows) these }
+    requires callable { All (λ e. MayCallValue (F.pre equal.now) others.now.entries e.1) these }
+    ensures { AreSame (IsPairSame K.key_of K.order (F.post equal.now)) these.entry others.now.entries
+        result }
 {
     if these.len() != others.len() {
         return false;
     }
     for (this, other) in these.zip(others.iter()) {
-        if !same_pair(&this, other) {
+        if !same_pair(&this, other, equal) {
             return false;
         }
     }
     true
 }
 
+/// Checks the same where the values are keys.
+fn same_keyed<Q: Ord, W, K: ArchivedKey<Q>, V: ArchivedKey<W>, A: Allocator>(
+    these: Iter<'_, K, V>,
+    others: &BTreeMap<Q, W, A>,
+) -> bool
+    requires { All (IsThere K.shape V.shape K.knows V.knows) these }
+    ensures { IsTrue result ↔ AllZip (IsSamePair K.key_of K.order V.key_of V.order) these.entry others.now.entries }
+{
+    let equal = |value: Ref<'_, V>, other: &W| -> bool
+        requires { V.is_key value.bytes.now value.pos }
+        ensures { (key : W) × V.key_of value.entry.bytes.now value.entry.pos key
+            × (result ≡ is_eq (V.order key other.now)) }
+    { V::same(&value, other) };
+    same_entries(these, others, &equal)
+}
+
 /// Checks whether a map and a map of std are equal: whether they have the same number of pairs, and one by one the keys
-/// are the same, and the values.
+/// are the same, and the values by the caller's comparison.
+pub fn eq_btree_map_with<
+    Q: Ord,
+    W,
+    K: ArchivedKey<Q>,
+    V: Portable,
+    F: Fn(Ref<'_, V>, &W) -> bool,
+    A: Allocator,
+    const E: usize,
+>(this: &Ref<'_, ArchivedBTreeMap<K, V, E>>, other: &BTreeMap<Q, W, A>, equal: &F) -> bool
+    requires has { HasMap E K.shape V.shape K.knows V.knows this.now }
+    requires callable { (t : Tree Place) → IsMap E K.shape V.shape this.now t
+        → All (λ e. HasValue V.shape V.knows this.now.bytes.now e.value → MayCallValue (F.pre equal.now) other.now.entries (value_at this.now.bytes e)) (items t) }
+    ensures { (t : Tree Place) → IsMap E K.shape V.shape this.now t
+        → AreSame (λ e. IsPairSameAt K.key_of K.order (F.post equal.now) this.now.bytes.now e.key (value_at this.now.bytes e)) (items t) other.now.entries result }
+{
+    same_entries(ArchivedBTreeMap::iter(*this), other, equal)
+}
+
+/// Checks whether a map and a map of std are equal: whether they have the same number of pairs, and one by one the keys
+/// are the same, and the values. Values that are no keys are compared by [`eq_btree_map_with`].
 pub fn eq_btree_map<Q: Ord, W, K: ArchivedKey<Q>, V: ArchivedKey<W>, A: Allocator, const E: usize>(
     this: &Ref<'_, ArchivedBTreeMap<K, V, E>>,
     other: &BTreeMap<Q, W, A>,
@@ -55,5 +100,5 @@ pub fn eq_btree_map<Q: Ord, W, K: ArchivedKey<Q>, V: ArchivedKey<W>, A: Allocato
     ensures { (t : Tree Place) → IsMap E K.shape V.shape this.now t
         → IsTrue result ↔ AllZip (IsSameEntry K.key_of K.order V.key_of V.order this.now.bytes.now) (items t) other.now.entries }
 {
-    same_entries(ArchivedBTreeMap::iter(*this), other)
+    same_keyed(ArchivedBTreeMap::iter(*this), other)
 }

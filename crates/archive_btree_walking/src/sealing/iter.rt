@@ -1,15 +1,16 @@
 //! Cursors over the entries of an archived B-tree map that lend one value at a time.
+ghost use denote.Ref.{MutBor};
 ghost use Rattle.std.specs.Prelude.{◌≡◌, ℕ, ◌+◌, ◌≤◌, List, [], ◌∷◌, length, take, IfSome, MatchOption};
 ghost use Rattle.archive_btree_nodes.specs.BtreeLayout.Reading.{Place};
 ghost use Rattle.archive_btree_nodes.specs.SearchingNodes.{place_of};
+ghost use Rattle.archive_forms_values.specs.Loans.{IsOwn, IsLent, MayCallLent, LeavesOwn, LeavesLent, VisitsNext};
 ghost use Rattle.archive_forms_values.specs.Parts.{HasValue};
 ghost use Rattle.archive_btree_walking.specs.Walks.{BegunMap, IsWritten, GoesOn};
-ghost use Rattle.archive_btree_walking.specs.Seals.{IsOwnValue, IsLent};
 ghost use Rattle.archive_btree_walking.specs.Cursors.{HasEntries, HasValues};
 
-use crate::sealing::lending::lend_entry;
 use crate::sealing::passing::pass_entry;
 use archive_btree_nodes::{EntryAt, EntryWalk};
+use archive_forms_values::{lend_entry, visit_entry, visit_own};
 use archive_shape::{OwnSeal, Portable, Ref};
 use std::marker::PhantomData;
 
@@ -74,12 +75,36 @@ impl<'a, K: Portable, V: Portable> IterSeal<'a, K, V> {
         ensures lends { (most : ℕ) (m : BegunMap most K.shape V.shape K.knows V.knows) (es : List Place)
             → HasEntries m self.old es → IsWritten m self.old.bytes.now → MatchOption result
             (es ≡ [])
-            (λ r. (e : Place) × (rest : List Place) × (es ≡ e ∷ rest) × IsLent V.SIZE self.old.bytes.now e r.0 r.1) }
+            (λ r. (e : Place) × (rest : List Place) × (es ≡ e ∷ rest) × IsLent V.SIZE self.old.bytes.now e.key e.value r.0 r.1) }
     {
         let Some(entry) = self.advance() else {
             return None;
         };
-        Some(lend_entry(self.bytes, entry))
+        Some(lend_entry(self.bytes, entry.key, entry.value))
+    }
+
+    /// Calls `visit` with the next entry's key and its value, which has only its own bytes, and passes the entry. The
+    /// key is read from the bytes before the value. Returns the result of the call, or `None` if no entry is left.
+    pub fn visit_next<R, F: FnMut(Ref<'_, K>, &mut OwnSeal<'_, V>) -> R>(
+        &mut self,
+        visit: &mut F,
+    ) -> Option<R>
+        requires has { (most : ℕ) × (m : BegunMap most K.shape V.shape K.knows V.knows) × (es : List Place)
+            × HasEntries m self.old es × IsWritten m self.old.bytes.now }
+        requires callable { (most : ℕ) (m : BegunMap most K.shape V.shape K.knows V.knows) (e : Place)
+            (rest : List Place) → HasEntries m self.old (e ∷ rest) → IsWritten m self.old.bytes.now
+            → MayCallLent V.SIZE self.old.bytes.now e.key e.value (λ key. HasValue K.shape K.knows key.bytes.now key.pos) (F.pre visit.old) }
+        ensures same_reference { self.new.bytes.ghost_name ≡ self.old.bytes.ghost_name }
+        ensures visits { (most : ℕ) (m : BegunMap most K.shape V.shape K.knows V.knows) (es : List Place)
+            → HasEntries m self.old es → IsWritten m self.old.bytes.now → VisitsNext
+            (λ e answer. LeavesLent V.SIZE self.old.bytes.now e.key e.value (λ key value left. F.step visit.old key value answer left visit.new) self.new.bytes.now)
+            ((visit.new ≡ visit.old) × (self.new.bytes.now ≡ self.old.bytes.now))
+            (λ rest. HasEntries m self.new rest × IsWritten m self.new.bytes.now) es result }
+    {
+        let Some(entry) = self.advance() else {
+            return None;
+        };
+        Some(visit_entry::<K, V, _, _>(self.bytes, entry.key, entry.value, visit))
     }
 
     /// Returns the number of entries that are left.
@@ -125,12 +150,34 @@ impl<'a, K: Portable, V: Portable> ValuesSeal<'a, K, V> {
         ensures lends { (most : ℕ) (m : BegunMap most K.shape V.shape K.knows V.knows) (es : List Place)
             → HasValues m self.old es → IsWritten m self.old.entries.bytes.now → MatchOption result
             (es ≡ [])
-            (λ r. (e : Place) × (rest : List Place) × (es ≡ e ∷ rest) × IsOwnValue V.SIZE self.old.entries.bytes.now e r) }
+            (λ r. (e : Place) × (rest : List Place) × (es ≡ e ∷ rest) × IsOwn V.SIZE self.old.entries.bytes.now e.value r) }
     {
         match self.entries.next() {
             Some((_key, value)) => Some(value),
             None => None,
         }
+    }
+
+    /// Calls `visit` with the next value, which has only its own bytes, and passes the value. Returns the result of the
+    /// call, or `None` if no value is left.
+    pub fn visit_next<R, F: FnMut(&mut OwnSeal<'_, V>) -> R>(&mut self, visit: &mut F) -> Option<R>
+        requires has { (most : ℕ) × (m : BegunMap most K.shape V.shape K.knows V.knows) × (es : List Place)
+            × HasValues m self.old es × IsWritten m self.old.entries.bytes.now }
+        requires callable { (most : ℕ) (m : BegunMap most K.shape V.shape K.knows V.knows) (e : Place)
+            (rest : List Place) (value : MutBor (OwnSeal V)) → HasValues m self.old (e ∷ rest)
+            → IsWritten m self.old.entries.bytes.now
+            → IsOwn V.SIZE self.old.entries.bytes.now e.value value.now → F.pre visit.old value }
+        ensures same_reference { self.new.entries.bytes.ghost_name ≡ self.old.entries.bytes.ghost_name }
+        ensures visits { (most : ℕ) (m : BegunMap most K.shape V.shape K.knows V.knows) (es : List Place)
+            → HasValues m self.old es → IsWritten m self.old.entries.bytes.now → VisitsNext
+            (λ e answer. LeavesOwn V.SIZE self.old.entries.bytes.now e.value (λ value left. F.step visit.old value answer left visit.new) self.new.entries.bytes.now)
+            ((visit.new ≡ visit.old) × (self.new.entries.bytes.now ≡ self.old.entries.bytes.now))
+            (λ rest. HasValues m self.new rest × IsWritten m self.new.entries.bytes.now) es result }
+    {
+        let Some(at) = self.advance() else {
+            return None;
+        };
+        Some(visit_own::<V, _, _>(self.entries.bytes, at, visit))
     }
 
     /// Returns the number of values that are left.

@@ -8,11 +8,9 @@ use archive_core::{ArchivedRc, Error, Flavor, RcFlavor, access};
 struct AnyWay;
 
 impl Flavor for AnyWay {
-    ghost CYCLES = { true };
+    ghost ALLOW_CYCLES = { true };
 
-    fn allow_cycles() -> bool {
-        true
-    }
+    const ALLOW_CYCLES: bool = true;
 }
 
 /// At 0 a pointer to the value at 0, and at 4 another pointer to it.

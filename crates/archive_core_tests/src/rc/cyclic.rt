@@ -25,9 +25,9 @@ impl<L: Flavor> Portable for ArchivedLoop<L> {
 
     ghost shape = { loop_shape };
 
-    ghost knows = { KnowsLoop L.CYCLES };
+    ghost knows = { KnowsLoop L.ALLOW_CYCLES };
 
-    ghost named = { (1, loop_body L.CYCLES) ∷ [] };
+    ghost named = { (1, loop_body L.ALLOW_CYCLES) ∷ [] };
 
     const SIZE: usize = 4;
 
@@ -47,7 +47,7 @@ impl<L: Flavor> Portable for ArchivedLoop<L> {
 
     ghost aligns = { (lit< tt, lit≤ tt) };
 
-    ghost known = { λ names has. has 0 (1, loop_body L.CYCLES) (lit< tt) };
+    ghost known = { λ names has. has 0 (1, loop_body L.ALLOW_CYCLES) (lit< tt) };
 }
 
 /// Checks the pointer at `pos`. The regions that it claims end at `room` or before.
@@ -63,7 +63,7 @@ fn check_loop<L: Flavor, C: SharedContext>(
     requires range { IsWithin (C.kept context.old) (length bytes.now) }
     requires within { (C.kept context.old).end ≤ room }
     ensures moves { Moves (C.kept context.old) result (C.kept context.new) }
-    ensures exact { (names : Names) → KnowsLoop L.CYCLES names
+    ensures exact { (names : Names) → KnowsLoop L.ALLOW_CYCLES names
         → Checks names bytes.now (at pos loop_shape) (C.kept context.old) result (C.kept context.new) }
 {
     check_rc_each::<ArchivedLoop<L>, L, C, _>(
@@ -76,7 +76,7 @@ fn check_loop<L: Flavor, C: SharedContext>(
             requires range { IsWithin (C.kept c.old) (length bytes.now) }
             requires within { (C.kept c.old).end + 4 ≤ room }
             ensures moves { Moves (C.kept c.old) result (C.kept c.new) }
-            ensures exact { (names : Names) → KnowsLoop L.CYCLES names
+            ensures exact { (names : Names) → KnowsLoop L.ALLOW_CYCLES names
                 → Checks names bytes.entry.now (at p loop_shape) (C.kept c.old) result (C.kept c.new) }
         { check_loop::<L, C>(alloc, bytes, p, c, room - 4) },
     )

@@ -1,8 +1,11 @@
 //! Tests of weak pointers: how they are archived with counted pointers of their keys, and read back.
-use crate::rc::values::number;
-use archive_core::{Error, Shared, SharedWeak, from_bytes, to_bytes};
+use crate::rc::values::{number, numbers, text};
+use archive_core::{
+    ArchivedRcWeak, ArchivedRcWeakSlice, ArchivedRcWeakStr, Error, RcResolver, RcWeakResolver,
+    Serializer, Share, Shared, SharedWeak, from_bytes, to_bytes,
+};
 use std::alloc::Global;
-use std::rc::Rc;
+use std::rc::{Rc, RcSlice, RcStr};
 
 type Pair = (SharedWeak<Rc<u32>>, Shared<Rc<u32>>);
 
@@ -59,5 +62,59 @@ fn a_weak_pointer_to_nothing_is_zeros(rt: HostRuntime) -> Result<(), Error> {
     let bytes = to_bytes(alloc, &pair)?;
     let expected: &[u8] = b"\x07\0\0\0\0\0\0\0\0\0\0\0\xf4\xff\xff\xff";
     assert!(rt; &*bytes == expected);
+    Ok(())
+}
+
+/// Returns the resolver of a weak pointer to a number or to nothing, and what was written for it.
+fn number_written(
+    alloc: Global,
+    value: &Option<Shared<Rc<u32>>>,
+) -> Result<(RcWeakResolver, Vec<u8>), Error> {
+    let sharing = Share::new(alloc);
+    let mut serializer = Serializer::new(Vec::new(alloc), alloc, sharing);
+    match ArchivedRcWeak::serialize_from_ref(value, &mut serializer) {
+        Ok(resolver) => Ok((resolver, serializer.into_writer())),
+        Err(e) => Err(e),
+    }
+}
+
+/// Returns the resolver of a weak pointer to numbers or to nothing, and what was written for it.
+fn numbers_written(
+    alloc: Global,
+    value: &Option<Shared<RcSlice<u32>>>,
+) -> Result<(RcWeakResolver, Vec<u8>), Error> {
+    let sharing = Share::new(alloc);
+    let mut serializer = Serializer::new(Vec::new(alloc), alloc, sharing);
+    match ArchivedRcWeakSlice::serialize_from_ref(value, &mut serializer) {
+        Ok(resolver) => Ok((resolver, serializer.into_writer())),
+        Err(e) => Err(e),
+    }
+}
+
+/// Returns the resolver of a weak pointer to a text or to nothing, and what was written for it.
+fn text_written(
+    alloc: Global,
+    value: &Option<Shared<RcStr>>,
+) -> Result<(RcWeakResolver, Vec<u8>), Error> {
+    let sharing = Share::new(alloc);
+    let mut serializer = Serializer::new(Vec::new(alloc), alloc, sharing);
+    match ArchivedRcWeakStr::serialize_from_ref(value, &mut serializer) {
+        Ok(resolver) => Ok((resolver, serializer.into_writer())),
+        Err(e) => Err(e),
+    }
+}
+
+#[test]
+fn resolvers_keep_where_weak_pointers_lead(rt: HostRuntime) -> Result<(), Error> {
+    let alloc = rt.alloc();
+    let led = RcWeakResolver::Some(RcResolver::from_pos(0));
+    let (kept, bytes) = number_written(alloc, &Some(number(alloc, 3, 7)?))?;
+    assert!(rt; kept == led && bytes.as_slice() == b"\x07\0\0\0".as_slice());
+    let (kept, bytes) = numbers_written(alloc, &Some(numbers(alloc, 4, &[6, 8])?))?;
+    assert!(rt; kept == led && bytes.as_slice() == b"\x06\0\0\0\x08\0\0\0".as_slice());
+    let (kept, bytes) = text_written(alloc, &Some(text(alloc, 5, "ab")?))?;
+    assert!(rt; kept == led && bytes.as_slice() == b"ab".as_slice());
+    let (kept, bytes) = text_written(alloc, &None)?;
+    assert!(rt; kept == RcWeakResolver::None && bytes.is_empty());
     Ok(())
 }

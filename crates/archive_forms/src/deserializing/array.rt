@@ -1,5 +1,5 @@
 //! Arrays are read back.
-ghost use Rattle.std.specs.Prelude.{◌+◌, ◌*◌};
+ghost use Rattle.std.specs.Prelude.{◌+◌, ◌*◌, IfOk};
 ghost use Rattle.archive_shape.specs.ShapeLayout.Shape.{size_of};
 ghost use Rattle.archive_shape.specs.ShapeLayout.Shape.Shape.{array};
 ghost use Rattle.archive_forms_values.specs.Parts.{HasValue};
@@ -9,7 +9,7 @@ ghost use Rattle.archive_forms.specs.Steps.{StepTakes, StepReads};
 
 use crate::deserializing::deserialize::deserialize_element;
 use crate::deserializing::elements::deserialize_elements_each;
-use crate::deserializing::{Deserialize, ReadBack};
+use crate::deserializing::{Deserialize, Deserializer, ReadBack};
 use archive_forms_values::array_slice;
 use archive_forms_writing::Archive;
 use archive_shape::{Error, Ref};
@@ -21,15 +21,17 @@ pub fn deserialize_array_each<
     T: Archive + Drop,
     A: ReadBack<T>,
     const N: usize,
-    D,
+    D: Deserializer,
     F: Fn(&mut D, usize) -> Result<(T, PhantomData<T::Archived>), Error>,
 >(this: Ref<'_, [A; N]>, alloc: Global, deserializer: &mut D, step: F) -> Result<[T; N], Error>
     requires there { HasValue (array N A.shape) A.knows this.bytes.now this.pos }
-    requires takes { StepTakes F.Fn step A.shape A.knows this.bytes.now
+    requires kept { D.is_of deserializer.old this.bytes.now }
+    requires takes { StepTakes F.Fn step A.shape A.knows D.is_of this.bytes.now
         (this.pos + N * size_of A.shape) }
-    requires reads { StepReads F.Fn step A.shape A.knows this.bytes.now (λ q. q.0) A.reads }
-    ensures { Deserializes (reads_all A.reads) (array N A.shape) A.knows this.entry.bytes.now
+    requires reads { StepReads F.Fn step A.shape A.knows D.is_of this.bytes.now (λ q. q.0) A.reads }
+    ensures value { Deserializes (reads_all A.reads) (array N A.shape) A.knows this.entry.bytes.now
         this.entry.pos result }
+    ensures keeps { IfOk result (λ _. D.is_of deserializer.new this.entry.bytes.now) }
 {
     match deserialize_elements_each(array_slice(this), alloc, deserializer, step) {
         Ok(all) => Ok(<[T; N]>::try_from(all).unwrap()),
@@ -41,21 +43,25 @@ impl<T, A: ReadBack<T>, const N: usize> ReadBack<[T; N]> for [A; N] {
     ghost reads = { reads_all A.reads };
 }
 
-impl<T: Archive + Drop, D, A: Deserialize<T, D>, const N: usize> Deserialize<[T; N], D> for [A; N] {
+impl<T: Archive + Drop, A: Deserialize<T>, const N: usize> Deserialize<[T; N]> for [A; N] {
+    type Pool = A::Pool;
+
     fn deserialize(
         this: &Ref<'_, [A; N]>,
         alloc: Global,
-        deserializer: &mut D,
+        deserializer: &mut A::Pool,
     ) -> Result<[T; N], Error> {
         let bytes = this.bytes;
-        deserialize_array_each::<T, A, N, D, _>(
+        deserialize_array_each::<T, A, N, A::Pool, _>(
             *this,
             alloc,
             deserializer,
-            |d: &mut D, pos: usize| -> Result<(T, PhantomData<T::Archived>), Error>
-                requires { HasValue A.shape A.knows bytes.now pos }
-                ensures { DeserializesBy A.reads A.shape A.knows bytes.entry.now pos (λ q. q.0) result }
-            { deserialize_element::<T, A, D>(bytes, pos, alloc, d) },
+            |d: &mut A::Pool, pos: usize| -> Result<(T, PhantomData<T::Archived>), Error>
+                requires there { HasValue A.shape A.knows bytes.now pos }
+                requires kept { A.Pool.is_of d.old bytes.now }
+                ensures value { DeserializesBy A.reads A.shape A.knows bytes.entry.now pos (λ q. q.0) result }
+                ensures keeps { IfOk result (λ _. A.Pool.is_of d.new bytes.entry.now) }
+            { deserialize_element::<T, A>(bytes, pos, alloc, d) },
         )
     }
 }

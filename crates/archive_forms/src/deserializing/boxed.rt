@@ -1,5 +1,5 @@
 //! Boxes are read back.
-ghost use Rattle.std.specs.Prelude.{refl};
+ghost use Rattle.std.specs.Prelude.{refl, IfOk};
 ghost use Rattle.archive_shape.specs.ShapeLayout.Shape.Shape.{box};
 ghost use Rattle.archive_shape.specs.ShapeLayout.Shape.Pointee.{sized};
 ghost use Rattle.archive_forms_values.specs.Parts.{HasValue};
@@ -8,7 +8,7 @@ ghost use Rattle.archive_forms.specs.Reading.{reads_in};
 ghost use Rattle.archive_forms.specs.Steps.{StepTakes, StepReads};
 
 use crate::deserializing::deserialize::deserialize_element;
-use crate::deserializing::{Deserialize, DeserializeUnsized, ReadBack};
+use crate::deserializing::{Deserialize, DeserializeUnsized, Deserializer, ReadBack};
 use archive_forms_values::ArchivedBox;
 use archive_forms_writing::Archive;
 use archive_shape::{Error, Ref};
@@ -19,7 +19,7 @@ use std::marker::PhantomData;
 pub fn deserialize_box_each<
     T: Archive + Drop,
     A: ReadBack<T>,
-    D,
+    D: Deserializer,
     F: Fn(&mut D, usize) -> Result<(T, PhantomData<T::Archived>), Error>,
 >(
     this: Ref<'_, ArchivedBox<A>>,
@@ -28,10 +28,12 @@ pub fn deserialize_box_each<
     step: F,
 ) -> Result<Box<T>, Error>
     requires there { HasValue (box (sized A.shape)) A.knows this.bytes.now this.pos }
-    requires takes { StepTakes F.Fn step A.shape A.knows this.bytes.now this.pos }
-    requires reads { StepReads F.Fn step A.shape A.knows this.bytes.now (λ q. q.0) A.reads }
-    ensures { Deserializes (reads_in (λ b. b.value) A.reads) (box (sized A.shape)) A.knows
+    requires kept { D.is_of deserializer.old this.bytes.now }
+    requires takes { StepTakes F.Fn step A.shape A.knows D.is_of this.bytes.now this.pos }
+    requires reads { StepReads F.Fn step A.shape A.knows D.is_of this.bytes.now (λ q. q.0) A.reads }
+    ensures value { Deserializes (reads_in (λ b. b.value) A.reads) (box (sized A.shape)) A.knows
         this.entry.bytes.now this.entry.pos result }
+    ensures keeps { IfOk result (λ _. D.is_of deserializer.new this.entry.bytes.now) }
 {
     let value = match step(deserializer, ArchivedBox::get(this).pos) {
         Ok(done) => done.0,
@@ -47,35 +49,41 @@ impl<T, A: ReadBack<T>> ReadBack<Box<T>> for ArchivedBox<A> {
     ghost reads = { reads_in (λ b. b.value) A.reads };
 }
 
-impl<T: Archive + Drop, D, A: Deserialize<T, D>> DeserializeUnsized<Box<T>, D> for A {
+impl<T: Archive + Drop, A: Deserialize<T>> DeserializeUnsized<Box<T>> for A {
     type Boxed = ArchivedBox<A>;
+
+    type Pool = A::Pool;
 
     fn deserialize_unsized(
         this: &Ref<'_, ArchivedBox<A>>,
         alloc: Global,
-        deserializer: &mut D,
+        deserializer: &mut A::Pool,
     ) -> Result<Box<T>, Error> {
         let bytes = this.bytes;
-        deserialize_box_each::<T, A, D, _>(
+        deserialize_box_each::<T, A, A::Pool, _>(
             *this,
             alloc,
             deserializer,
-            |d: &mut D, pos: usize| -> Result<(T, PhantomData<T::Archived>), Error>
-                requires { HasValue A.shape A.knows bytes.now pos }
-                ensures { DeserializesBy A.reads A.shape A.knows bytes.entry.now pos (λ q. q.0) result }
-            { deserialize_element::<T, A, D>(bytes, pos, alloc, d) },
+            |d: &mut A::Pool, pos: usize| -> Result<(T, PhantomData<T::Archived>), Error>
+                requires there { HasValue A.shape A.knows bytes.now pos }
+                requires kept { A.Pool.is_of d.old bytes.now }
+                ensures value { DeserializesBy A.reads A.shape A.knows bytes.entry.now pos (λ q. q.0) result }
+                ensures keeps { IfOk result (λ _. A.Pool.is_of d.new bytes.entry.now) }
+            { deserialize_element::<T, A>(bytes, pos, alloc, d) },
         )
     }
 
     ghost boxed = { refl };
 }
 
-impl<T: Archive + Drop, D, A: Deserialize<T, D>> Deserialize<Box<T>, D> for ArchivedBox<A> {
+impl<T: Archive + Drop, A: Deserialize<T>> Deserialize<Box<T>> for ArchivedBox<A> {
+    type Pool = A::Pool;
+
     fn deserialize(
         this: &Ref<'_, ArchivedBox<A>>,
         alloc: Global,
-        deserializer: &mut D,
+        deserializer: &mut A::Pool,
     ) -> Result<Box<T>, Error> {
-        <A as DeserializeUnsized<Box<T>, D>>::deserialize_unsized(this, alloc, deserializer)
+        <A as DeserializeUnsized<Box<T>>>::deserialize_unsized(this, alloc, deserializer)
     }
 }

@@ -1,5 +1,5 @@
 //! Boxes of slices and of texts are read back.
-ghost use Rattle.std.specs.Prelude.{refl};
+ghost use Rattle.std.specs.Prelude.{refl, IfOk};
 ghost use Rattle.std.specs.Box.{boxed_slice_items, boxed_str_bytes};
 ghost use Rattle.archive_shape.specs.ShapeLayout.Shape.Shape.{box};
 ghost use Rattle.archive_shape.specs.ShapeLayout.Shape.Pointee.{slice};
@@ -11,7 +11,9 @@ ghost use Rattle.archive_forms.specs.Reading.{reads_all, reads_as, reads_in};
 ghost use Rattle.archive_forms.specs.Steps.{StepTakes, StepReads};
 
 use crate::deserializing::deserialize::deserialize_element;
-use crate::deserializing::{Deserialize, DeserializeUnsized, ReadBack, deserialize_vec_each};
+use crate::deserializing::{
+    Deserialize, DeserializeUnsized, Deserializer, ReadBack, deserialize_vec_each,
+};
 use archive_forms_values::{ArchivedBoxedSlice, ArchivedBoxedStr, ArchivedVec};
 use archive_forms_writing::Archive;
 use archive_shape::{Error, Ref, Slice, Str};
@@ -23,7 +25,7 @@ use std::marker::PhantomData;
 pub fn deserialize_boxed_slice_each<
     T: Archive + Drop,
     A: ReadBack<T>,
-    D,
+    D: Deserializer,
     F: Fn(&mut D, usize) -> Result<(T, PhantomData<T::Archived>), Error>,
 >(
     this: Ref<'_, ArchivedBoxedSlice<A>>,
@@ -32,10 +34,12 @@ pub fn deserialize_boxed_slice_each<
     step: F,
 ) -> Result<BoxedSlice<T>, Error>
     requires there { HasValue (box (slice A.shape)) A.knows this.bytes.now this.pos }
-    requires takes { StepTakes F.Fn step A.shape A.knows this.bytes.now this.pos }
-    requires reads { StepReads F.Fn step A.shape A.knows this.bytes.now (λ q. q.0) A.reads }
-    ensures { Deserializes (reads_in boxed_slice_items (reads_all A.reads))
+    requires kept { D.is_of deserializer.old this.bytes.now }
+    requires takes { StepTakes F.Fn step A.shape A.knows D.is_of this.bytes.now this.pos }
+    requires reads { StepReads F.Fn step A.shape A.knows D.is_of this.bytes.now (λ q. q.0) A.reads }
+    ensures value { Deserializes (reads_in boxed_slice_items (reads_all A.reads))
         (box (slice A.shape)) A.knows this.entry.bytes.now this.entry.pos result }
+    ensures keeps { IfOk result (λ _. D.is_of deserializer.new this.entry.bytes.now) }
 {
     let vector = Ref::<ArchivedVec<A>> {
         bytes: this.bytes,
@@ -52,37 +56,42 @@ impl<T, A: ReadBack<T>> ReadBack<BoxedSlice<T>> for ArchivedBoxedSlice<A> {
     ghost reads = { reads_in boxed_slice_items (reads_all A.reads) };
 }
 
-impl<T: Archive + Drop, D, A: Deserialize<T, D>> DeserializeUnsized<BoxedSlice<T>, D> for Slice<A> {
+impl<T: Archive + Drop, A: Deserialize<T>> DeserializeUnsized<BoxedSlice<T>> for Slice<A> {
     type Boxed = ArchivedBoxedSlice<A>;
+
+    type Pool = A::Pool;
 
     fn deserialize_unsized(
         this: &Ref<'_, ArchivedBoxedSlice<A>>,
         alloc: Global,
-        deserializer: &mut D,
+        deserializer: &mut A::Pool,
     ) -> Result<BoxedSlice<T>, Error> {
         let bytes = this.bytes;
-        deserialize_boxed_slice_each::<T, A, D, _>(
+        deserialize_boxed_slice_each::<T, A, A::Pool, _>(
             *this,
             alloc,
             deserializer,
-            |d: &mut D, pos: usize| -> Result<(T, PhantomData<T::Archived>), Error>
-                requires { HasValue A.shape A.knows bytes.now pos }
-                ensures { DeserializesBy A.reads A.shape A.knows bytes.entry.now pos (λ q. q.0) result }
-            { deserialize_element::<T, A, D>(bytes, pos, alloc, d) },
+            |d: &mut A::Pool, pos: usize| -> Result<(T, PhantomData<T::Archived>), Error>
+                requires there { HasValue A.shape A.knows bytes.now pos }
+                requires kept { A.Pool.is_of d.old bytes.now }
+                ensures value { DeserializesBy A.reads A.shape A.knows bytes.entry.now pos (λ q. q.0) result }
+                ensures keeps { IfOk result (λ _. A.Pool.is_of d.new bytes.entry.now) }
+            { deserialize_element::<T, A>(bytes, pos, alloc, d) },
         )
     }
 
     ghost boxed = { refl };
 }
 
-impl<T: Archive + Drop, D, A: Deserialize<T, D>> Deserialize<BoxedSlice<T>, D>
-    for ArchivedBoxedSlice<A> {
+impl<T: Archive + Drop, A: Deserialize<T>> Deserialize<BoxedSlice<T>> for ArchivedBoxedSlice<A> {
+    type Pool = A::Pool;
+
     fn deserialize(
         this: &Ref<'_, ArchivedBoxedSlice<A>>,
         alloc: Global,
-        deserializer: &mut D,
+        deserializer: &mut A::Pool,
     ) -> Result<BoxedSlice<T>, Error> {
-        <Slice<A> as DeserializeUnsized<BoxedSlice<T>, D>>::deserialize_unsized(
+        <Slice<A> as DeserializeUnsized<BoxedSlice<T>>>::deserialize_unsized(
             this,
             alloc,
             deserializer,
@@ -90,13 +99,15 @@ impl<T: Archive + Drop, D, A: Deserialize<T, D>> Deserialize<BoxedSlice<T>, D>
     }
 }
 
-impl<D> DeserializeUnsized<BoxedStr, D> for Str {
+impl DeserializeUnsized<BoxedStr> for Str {
     type Boxed = ArchivedBoxedStr;
+
+    type Pool = ();
 
     fn deserialize_unsized(
         this: &Ref<'_, ArchivedBoxedStr>,
         alloc: Global,
-        _deserializer: &mut D,
+        _deserializer: &mut (),
     ) -> Result<BoxedStr, Error> {
         match BoxedStr::from_str(alloc, ArchivedBoxedStr::get(*this)) {
             Ok(text) => Ok(text),
@@ -111,12 +122,14 @@ impl ReadBack<BoxedStr> for ArchivedBoxedStr {
     ghost reads = { reads_as (seen_as boxed_str_bytes boxed_str_spelling) };
 }
 
-impl<D> Deserialize<BoxedStr, D> for ArchivedBoxedStr {
+impl Deserialize<BoxedStr> for ArchivedBoxedStr {
+    type Pool = ();
+
     fn deserialize(
         this: &Ref<'_, ArchivedBoxedStr>,
         alloc: Global,
-        deserializer: &mut D,
+        deserializer: &mut (),
     ) -> Result<BoxedStr, Error> {
-        <Str as DeserializeUnsized<BoxedStr, D>>::deserialize_unsized(this, alloc, deserializer)
+        <Str as DeserializeUnsized<BoxedStr>>::deserialize_unsized(this, alloc, deserializer)
     }
 }

@@ -12,11 +12,13 @@ impl<N: Native + Leaf<Archived = LittleEndian<N>>> ReadBack<N> for LittleEndian<
     ghost reads = { reads_as ⟦<N as Archive>⟧.spelling };
 }
 
-impl<N: Native + Leaf<Archived = LittleEndian<N>>, D> Deserialize<N, D> for LittleEndian<N> {
+impl<N: Native + Leaf<Archived = LittleEndian<N>>> Deserialize<N> for LittleEndian<N> {
+    type Pool = ();
+
     fn deserialize(
         this: &Ref<'_, LittleEndian<N>>,
         _alloc: Global,
-        _deserializer: &mut D,
+        _deserializer: &mut (),
     ) -> Result<N, Error> {
         Ok(native_of(*this))
     }
@@ -26,11 +28,13 @@ impl ReadBack<bool> for bool {
     ghost reads = { reads_as ⟦<bool as Archive>⟧.spelling };
 }
 
-impl<D> Deserialize<bool, D> for bool {
+impl Deserialize<bool> for bool {
+    type Pool = ();
+
     fn deserialize(
         this: &Ref<'_, bool>,
         _alloc: Global,
-        _deserializer: &mut D,
+        _deserializer: &mut (),
     ) -> Result<bool, Error> {
         Ok(native_of(*this))
     }
@@ -40,8 +44,14 @@ impl ReadBack<u8> for u8 {
     ghost reads = { reads_as ⟦<u8 as Archive>⟧.spelling };
 }
 
-impl<D> Deserialize<u8, D> for u8 {
-    fn deserialize(this: &Ref<'_, u8>, _alloc: Global, _deserializer: &mut D) -> Result<u8, Error> {
+impl Deserialize<u8> for u8 {
+    type Pool = ();
+
+    fn deserialize(
+        this: &Ref<'_, u8>,
+        _alloc: Global,
+        _deserializer: &mut (),
+    ) -> Result<u8, Error> {
         Ok(native_of(*this))
     }
 }
@@ -50,8 +60,14 @@ impl ReadBack<i8> for i8 {
     ghost reads = { reads_as ⟦<i8 as Archive>⟧.spelling };
 }
 
-impl<D> Deserialize<i8, D> for i8 {
-    fn deserialize(this: &Ref<'_, i8>, _alloc: Global, _deserializer: &mut D) -> Result<i8, Error> {
+impl Deserialize<i8> for i8 {
+    type Pool = ();
+
+    fn deserialize(
+        this: &Ref<'_, i8>,
+        _alloc: Global,
+        _deserializer: &mut (),
+    ) -> Result<i8, Error> {
         Ok(native_of(*this))
     }
 }
@@ -60,11 +76,13 @@ impl ReadBack<NonZeroU8> for NonZeroU8 {
     ghost reads = { reads_as ⟦<NonZeroU8 as Archive>⟧.spelling };
 }
 
-impl<D> Deserialize<NonZeroU8, D> for NonZeroU8 {
+impl Deserialize<NonZeroU8> for NonZeroU8 {
+    type Pool = ();
+
     fn deserialize(
         this: &Ref<'_, NonZeroU8>,
         _alloc: Global,
-        _deserializer: &mut D,
+        _deserializer: &mut (),
     ) -> Result<NonZeroU8, Error> {
         Ok(native_of(*this))
     }
@@ -74,11 +92,13 @@ impl ReadBack<NonZeroI8> for NonZeroI8 {
     ghost reads = { reads_as ⟦<NonZeroI8 as Archive>⟧.spelling };
 }
 
-impl<D> Deserialize<NonZeroI8, D> for NonZeroI8 {
+impl Deserialize<NonZeroI8> for NonZeroI8 {
+    type Pool = ();
+
     fn deserialize(
         this: &Ref<'_, NonZeroI8>,
         _alloc: Global,
-        _deserializer: &mut D,
+        _deserializer: &mut (),
     ) -> Result<NonZeroI8, Error> {
         Ok(native_of(*this))
     }

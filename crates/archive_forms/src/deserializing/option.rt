@@ -1,5 +1,5 @@
 //! Options are read back.
-ghost use Rattle.std.specs.Prelude.{◌+◌};
+ghost use Rattle.std.specs.Prelude.{◌+◌, IfOk};
 ghost use Rattle.archive_shape.specs.ShapeLayout.Shape.{size_of};
 ghost use Rattle.archive_shape.specs.ShapeLayout.Shape.Shape.{option};
 ghost use Rattle.archive_forms_values.specs.Parts.{HasValue};
@@ -8,7 +8,7 @@ ghost use Rattle.archive_forms.specs.Reading.{reads_option};
 ghost use Rattle.archive_forms.specs.Steps.{StepTakes, StepReads};
 
 use crate::deserializing::deserialize::deserialize_element;
-use crate::deserializing::{Deserialize, ReadBack};
+use crate::deserializing::{Deserialize, Deserializer, ReadBack};
 use archive_forms_values::ArchivedOption;
 use archive_forms_writing::Archive;
 use archive_shape::{Error, Ref};
@@ -19,15 +19,17 @@ use std::marker::PhantomData;
 pub fn deserialize_option_each<
     T: Archive,
     A: ReadBack<T>,
-    D,
+    D: Deserializer,
     F: Fn(&mut D, usize) -> Result<(T, PhantomData<T::Archived>), Error>,
 >(this: Ref<'_, ArchivedOption<A>>, deserializer: &mut D, step: F) -> Result<Option<T>, Error>
     requires there { HasValue (option A.shape) A.knows this.bytes.now this.pos }
-    requires takes { StepTakes F.Fn step A.shape A.knows this.bytes.now
+    requires kept { D.is_of deserializer.old this.bytes.now }
+    requires takes { StepTakes F.Fn step A.shape A.knows D.is_of this.bytes.now
         (this.pos + size_of (option A.shape)) }
-    requires reads { StepReads F.Fn step A.shape A.knows this.bytes.now (λ q. q.0) A.reads }
-    ensures { Deserializes (reads_option A.reads) (option A.shape) A.knows this.entry.bytes.now
+    requires reads { StepReads F.Fn step A.shape A.knows D.is_of this.bytes.now (λ q. q.0) A.reads }
+    ensures value { Deserializes (reads_option A.reads) (option A.shape) A.knows this.entry.bytes.now
         this.entry.pos result }
+    ensures keeps { IfOk result (λ _. D.is_of deserializer.new this.entry.bytes.now) }
 {
     match ArchivedOption::as_ref(this) {
         None => Ok(None),
@@ -42,20 +44,24 @@ impl<T, A: ReadBack<T>> ReadBack<Option<T>> for ArchivedOption<A> {
     ghost reads = { reads_option A.reads };
 }
 
-impl<T: Archive, D, A: Deserialize<T, D>> Deserialize<Option<T>, D> for ArchivedOption<A> {
+impl<T: Archive, A: Deserialize<T>> Deserialize<Option<T>> for ArchivedOption<A> {
+    type Pool = A::Pool;
+
     fn deserialize(
         this: &Ref<'_, ArchivedOption<A>>,
         alloc: Global,
-        deserializer: &mut D,
+        deserializer: &mut A::Pool,
     ) -> Result<Option<T>, Error> {
         let bytes = this.bytes;
-        deserialize_option_each::<T, A, D, _>(
+        deserialize_option_each::<T, A, A::Pool, _>(
             *this,
             deserializer,
-            |d: &mut D, pos: usize| -> Result<(T, PhantomData<T::Archived>), Error>
-                requires { HasValue A.shape A.knows bytes.now pos }
-                ensures { DeserializesBy A.reads A.shape A.knows bytes.entry.now pos (λ q. q.0) result }
-            { deserialize_element::<T, A, D>(bytes, pos, alloc, d) },
+            |d: &mut A::Pool, pos: usize| -> Result<(T, PhantomData<T::Archived>), Error>
+                requires there { HasValue A.shape A.knows bytes.now pos }
+                requires kept { A.Pool.is_of d.old bytes.now }
+                ensures value { DeserializesBy A.reads A.shape A.knows bytes.entry.now pos (λ q. q.0) result }
+                ensures keeps { IfOk result (λ _. A.Pool.is_of d.new bytes.entry.now) }
+            { deserialize_element::<T, A>(bytes, pos, alloc, d) },
         )
     }
 }

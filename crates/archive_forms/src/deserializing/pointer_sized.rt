@@ -11,11 +11,13 @@ impl ReadBack<usize> for ArchivedUsize {
     ghost reads = { reads_as usize_spelling };
 }
 
-impl<D> Deserialize<usize, D> for ArchivedUsize {
+impl Deserialize<usize> for ArchivedUsize {
+    type Pool = ();
+
     fn deserialize(
         this: &Ref<'_, ArchivedUsize>,
         _alloc: Global,
-        _deserializer: &mut D,
+        _deserializer: &mut (),
     ) -> Result<usize, Error> {
         Ok(native_of(*this) as usize)
     }
@@ -25,11 +27,13 @@ impl ReadBack<isize> for ArchivedIsize {
     ghost reads = { reads_as isize_spelling };
 }
 
-impl<D> Deserialize<isize, D> for ArchivedIsize {
+impl Deserialize<isize> for ArchivedIsize {
+    type Pool = ();
+
     fn deserialize(
         this: &Ref<'_, ArchivedIsize>,
         _alloc: Global,
-        _deserializer: &mut D,
+        _deserializer: &mut (),
     ) -> Result<isize, Error> {
         Ok(native_of(*this) as isize)
     }

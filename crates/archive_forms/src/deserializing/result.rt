@@ -1,14 +1,15 @@
 //! Results are read back.
-ghost use Rattle.std.specs.Prelude.{◌+◌};
+ghost use Rattle.std.specs.Prelude.{◌+◌, IfOk};
 ghost use Rattle.archive_shape.specs.ShapeLayout.Shape.{size_of};
 ghost use Rattle.archive_shape.specs.ShapeLayout.Shape.Shape.{result as result_shape};
 ghost use Rattle.archive_forms_values.specs.Parts.{HasValue, both};
 ghost use Rattle.archive_forms.specs.Deserializing.{Deserializes, DeserializesBy};
+ghost use Rattle.archive_forms.specs.Keeping.{both_of};
 ghost use Rattle.archive_forms.specs.Reading.{reads_result};
 ghost use Rattle.archive_forms.specs.Steps.{StepTakes, StepReads};
 
 use crate::deserializing::deserialize::deserialize_element;
-use crate::deserializing::{Deserialize, ReadBack};
+use crate::deserializing::{Deserialize, Deserializer, ReadBack};
 use archive_forms_values::ArchivedResult;
 use archive_forms_writing::Archive;
 use archive_shape::{Error, Ref};
@@ -21,7 +22,7 @@ pub fn deserialize_result_each<
     E: Archive,
     A: ReadBack<T>,
     B: ReadBack<E>,
-    D,
+    D: Deserializer,
     F: Fn(&mut D, usize) -> Result<(T, PhantomData<T::Archived>), Error>,
     G: Fn(&mut D, usize) -> Result<(E, PhantomData<E::Archived>), Error>,
 >(
@@ -32,15 +33,17 @@ pub fn deserialize_result_each<
 ) -> Result<Result<T, E>, Error>
     requires there { HasValue (result_shape A.shape B.shape) (both A.knows B.knows)
         this.bytes.now this.pos }
-    requires takes { StepTakes F.Fn step A.shape A.knows this.bytes.now
+    requires kept { D.is_of deserializer.old this.bytes.now }
+    requires takes { StepTakes F.Fn step A.shape A.knows D.is_of this.bytes.now
         (this.pos + size_of (result_shape A.shape B.shape)) }
-    requires reads { StepReads F.Fn step A.shape A.knows this.bytes.now (λ q. q.0) A.reads }
-    requires takes_errors { StepTakes G.Fn step_of_error B.shape B.knows this.bytes.now
+    requires reads { StepReads F.Fn step A.shape A.knows D.is_of this.bytes.now (λ q. q.0) A.reads }
+    requires takes_errors { StepTakes G.Fn step_of_error B.shape B.knows D.is_of this.bytes.now
         (this.pos + size_of (result_shape A.shape B.shape)) }
-    requires reads_errors { StepReads G.Fn step_of_error B.shape B.knows this.bytes.now
+    requires reads_errors { StepReads G.Fn step_of_error B.shape B.knows D.is_of this.bytes.now
         (λ q. q.0) B.reads }
-    ensures { Deserializes (reads_result A.reads B.reads) (result_shape A.shape B.shape)
+    ensures value { Deserializes (reads_result A.reads B.reads) (result_shape A.shape B.shape)
         (both A.knows B.knows) this.entry.bytes.now this.entry.pos result }
+    ensures keeps { IfOk result (λ _. D.is_of deserializer.new this.entry.bytes.now) }
 {
     match ArchivedResult::as_ref(this) {
         Ok(value) => match step(deserializer, value.pos) {
@@ -58,27 +61,31 @@ impl<T, E, A: ReadBack<T>, B: ReadBack<E>> ReadBack<Result<T, E>> for ArchivedRe
     ghost reads = { reads_result A.reads B.reads };
 }
 
-impl<T: Archive, E: Archive, D, A: Deserialize<T, D>, B: Deserialize<E, D>> Deserialize<
-    Result<T, E>,
-    D,
-> for ArchivedResult<A, B> {
+impl<T: Archive, E: Archive, A: Deserialize<T>, B: Deserialize<E>> Deserialize<Result<T, E>>
+    for ArchivedResult<A, B> {
+    type Pool = (A::Pool, B::Pool);
+
     fn deserialize(
         this: &Ref<'_, ArchivedResult<A, B>>,
         alloc: Global,
-        deserializer: &mut D,
+        deserializer: &mut (A::Pool, B::Pool),
     ) -> Result<Result<T, E>, Error> {
         let bytes = this.bytes;
-        deserialize_result_each::<T, E, A, B, D, _, _>(
+        deserialize_result_each::<T, E, A, B, (A::Pool, B::Pool), _, _>(
             *this,
             deserializer,
-            |d: &mut D, pos: usize| -> Result<(T, PhantomData<T::Archived>), Error>
-                requires { HasValue A.shape A.knows bytes.now pos }
-                ensures { DeserializesBy A.reads A.shape A.knows bytes.entry.now pos (λ q. q.0) result }
-            { deserialize_element::<T, A, D>(bytes, pos, alloc, d) },
-            |d: &mut D, pos: usize| -> Result<(E, PhantomData<E::Archived>), Error>
-                requires { HasValue B.shape B.knows bytes.now pos }
-                ensures { DeserializesBy B.reads B.shape B.knows bytes.entry.now pos (λ q. q.0) result }
-            { deserialize_element::<E, B, D>(bytes, pos, alloc, d) },
+            |d: &mut (A::Pool, B::Pool), pos: usize| -> Result<(T, PhantomData<T::Archived>), Error>
+                requires there { HasValue A.shape A.knows bytes.now pos }
+                requires kept { both_of A.Pool.is_of B.Pool.is_of d.old bytes.now }
+                ensures value { DeserializesBy A.reads A.shape A.knows bytes.entry.now pos (λ q. q.0) result }
+                ensures keeps { IfOk result (λ _. both_of A.Pool.is_of B.Pool.is_of d.new bytes.entry.now) }
+            { deserialize_element::<T, A>(bytes, pos, alloc, &mut d.0) },
+            |d: &mut (A::Pool, B::Pool), pos: usize| -> Result<(E, PhantomData<E::Archived>), Error>
+                requires there { HasValue B.shape B.knows bytes.now pos }
+                requires kept { both_of A.Pool.is_of B.Pool.is_of d.old bytes.now }
+                ensures value { DeserializesBy B.reads B.shape B.knows bytes.entry.now pos (λ q. q.0) result }
+                ensures keeps { IfOk result (λ _. both_of A.Pool.is_of B.Pool.is_of d.new bytes.entry.now) }
+            { deserialize_element::<E, B>(bytes, pos, alloc, &mut d.1) },
         )
     }
 }

@@ -1,30 +1,31 @@
 //! Counted pointers to slices are read back.
-ghost use Rattle.std.specs.Prelude.{false, length, IfOk};
+ghost use Rattle.std.specs.Prelude.{◌≡◌, false, length, IfOk, MatchOption, ⊤};
 ghost use Rattle.std.specs.Rc.{rc_slice_items};
 ghost use Rattle.archive_shape.specs.ShapeLayout.Shape.Shape.{shared};
 ghost use Rattle.archive_shape.specs.ShapeLayout.Shape.Pointee.{slice};
 ghost use Rattle.archive_forms_rc.specs.Pointers.{IsRcSliceAt};
 ghost use Rattle.archive_forms_values.specs.Parts.{HasValue};
-ghost use Rattle.archive_forms.specs.Deserializing.{Deserializes, DeserializesBy};
+ghost use Rattle.archive_forms.specs.Deserializing.{AreReadFrom, Deserializes, DeserializesBy};
 ghost use Rattle.archive_forms.specs.Reading.{reads_all, reads_counted, reads_in};
+ghost use Rattle.archive_forms.specs.Keeping.{pool_of};
 ghost use Rattle.archive_forms.specs.Steps.{StepTakes, StepReads};
 
 use crate::deserializing::deserialize::deserialize_element;
-use crate::deserializing::elements::deserialize_elements_each;
-use crate::deserializing::{Deserialize, ReadBack};
+use crate::deserializing::once::read_elements_once;
+use crate::deserializing::{Deserialize, Keeps, ReadBack, SharedPool};
 use archive_forms_rc::{ArchivedRcSlice, RcFlavor, Shared};
 use archive_forms_writing::Archive;
-use archive_shape::{Error, Ref};
+use archive_shape::{Error, Ref, Slice};
 use std::alloc::Global;
 use std::marker::PhantomData;
 use std::rc::RcSlice;
 
-/// Reads a counted pointer to a slice back, each element by the step. Its key is the position of the elements. They are
-/// read again for each pointer.
+/// Reads a counted pointer to a slice back, each element by the step. Its key is the position of the elements.
+/// Elements that the deserializer keeps are not read again.
 pub fn deserialize_rc_slice_each<
     T: Archive + Drop,
     A: ReadBack<T>,
-    D,
+    D: Keeps<RcSlice<T>, Slice<A>>,
     F: Fn(&mut D, usize) -> Result<(T, PhantomData<T::Archived>), Error>,
 >(
     this: Ref<'_, ArchivedRcSlice<A, RcFlavor>>,
@@ -33,22 +34,25 @@ pub fn deserialize_rc_slice_each<
     step: F,
 ) -> Result<Shared<RcSlice<T>>, Error>
     requires there { HasValue (shared false (slice A.shape)) A.knows this.bytes.now this.pos }
-    requires takes { StepTakes F.Fn step A.shape A.knows this.bytes.now this.pos }
-    requires reads { StepReads F.Fn step A.shape A.knows this.bytes.now (λ q. q.0) A.reads }
+    requires kept { D.is_of deserializer.old this.bytes.now }
+    requires takes { StepTakes F.Fn step A.shape A.knows D.is_of this.bytes.now this.pos }
+    requires reads { StepReads F.Fn step A.shape A.knows D.is_of this.bytes.now (λ q. q.0) A.reads }
     ensures value { Deserializes (reads_in (λ x. rc_slice_items x.value)
         (reads_counted (reads_all A.reads))) (shared false (slice A.shape)) A.knows this.entry.bytes.now
         this.entry.pos result }
     ensures key { IfOk result (λ x. IsRcSliceAt false A.shape A.knows this.entry.bytes.now this.entry.pos x.key (length (rc_slice_items x.value))) }
+    ensures keeps { IfOk result (λ _. D.is_of deserializer.new this.entry.bytes.now) }
+    ensures pooled { IfOk result (λ x. MatchOption (D.kept deserializer.new x.key) ⊥
+        (λ copy. rc_slice_items copy ≡ rc_slice_items x.value)) }
+    ensures unread { IfOk result (λ x. MatchOption (D.kept deserializer.old x.key) ⊤
+        (λ copy. length (rc_slice_items copy) ≡ length (rc_slice_items x.value)
+        → deserializer.new ≡ deserializer.old)) }
 {
     let items = ArchivedRcSlice::get(this);
     let key = items.pos;
-    let all = match deserialize_elements_each::<T, A, D, F>(items, alloc, deserializer, step) {
-        Ok(all) => all,
-        Err(e) => return Err(e),
-    };
-    match RcSlice::from_vec(all) {
+    match read_elements_once(items, alloc, deserializer, step) {
         Ok(value) => Ok(Shared { key, value }),
-        Err(_) => Err(Error::OutOfMemory),
+        Err(e) => Err(e),
     }
 }
 
@@ -56,28 +60,37 @@ impl<T, A: ReadBack<T>> ReadBack<Shared<RcSlice<T>>> for ArchivedRcSlice<A, RcFl
     ghost reads = { reads_in (λ x. rc_slice_items x.value) (reads_counted (reads_all A.reads)) };
 }
 
-impl<T: Archive + Drop, D, A: Deserialize<T, D>> Deserialize<Shared<RcSlice<T>>, D>
+impl<T: Archive + Drop, A: Deserialize<T>> Deserialize<Shared<RcSlice<T>>>
     for ArchivedRcSlice<A, RcFlavor> {
+    type Pool = SharedPool<RcSlice<T>, Slice<A>, A::Pool>;
+
     fn deserialize(
         this: &Ref<'_, ArchivedRcSlice<A, RcFlavor>>,
         alloc: Global,
-        deserializer: &mut D,
+        deserializer: &mut SharedPool<RcSlice<T>, Slice<A>, A::Pool>,
     ) -> Result<Shared<RcSlice<T>>, Error>
-        requires { HasValue (shared false (slice A.shape)) A.knows this.now.bytes.now this.now.pos }
+        requires there { HasValue (shared false (slice A.shape)) A.knows this.now.bytes.now this.now.pos }
+        requires kept { pool_of (λ bytes pos pointer. AreReadFrom A.reads A.shape A.knows bytes pos (rc_slice_items pointer)) A.Pool.is_of deserializer.old this.now.bytes.now }
         ensures value { Deserializes (reads_in (λ x. rc_slice_items x.value)
             (reads_counted (reads_all A.reads))) (shared false (slice A.shape)) A.knows
             this.now.bytes.now this.now.pos result }
         ensures key { IfOk result (λ x. IsRcSliceAt false A.shape A.knows this.now.bytes.now this.now.pos x.key (length (rc_slice_items x.value))) }
+        ensures keeps { IfOk result (λ _. pool_of (λ bytes pos pointer. AreReadFrom A.reads A.shape A.knows bytes pos (rc_slice_items pointer)) A.Pool.is_of deserializer.new this.now.bytes.now) }
     {
         let bytes = this.bytes;
-        deserialize_rc_slice_each::<T, A, D, _>(
+        deserialize_rc_slice_each::<T, A, SharedPool<RcSlice<T>, Slice<A>, A::Pool>, _>(
             *this,
             alloc,
             deserializer,
-            |d: &mut D, pos: usize| -> Result<(T, PhantomData<T::Archived>), Error>
-                requires { HasValue A.shape A.knows bytes.now pos }
-                ensures { DeserializesBy A.reads A.shape A.knows bytes.entry.now pos (λ q. q.0) result }
-            { deserialize_element::<T, A, D>(bytes, pos, alloc, d) },
+            |d: &mut SharedPool<RcSlice<T>, Slice<A>, A::Pool>, pos: usize| -> Result<
+                (T, PhantomData<T::Archived>),
+                Error,
+            >
+                requires there { HasValue A.shape A.knows bytes.now pos }
+                requires kept { pool_of (λ bytes pos pointer. AreReadFrom A.reads A.shape A.knows bytes pos (rc_slice_items pointer)) A.Pool.is_of d.old bytes.now }
+                ensures value { DeserializesBy A.reads A.shape A.knows bytes.entry.now pos (λ q. q.0) result }
+                ensures keeps { IfOk result (λ _. pool_of (λ bytes pos pointer. AreReadFrom A.reads A.shape A.knows bytes pos (rc_slice_items pointer)) A.Pool.is_of d.new bytes.entry.now) }
+            { deserialize_element::<T, A>(bytes, pos, alloc, &mut d.inside) },
         )
     }
 }

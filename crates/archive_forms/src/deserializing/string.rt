@@ -11,11 +11,13 @@ impl ReadBack<String> for ArchivedString {
     ghost reads = { reads_as string_spelling };
 }
 
-impl<D> Deserialize<String, D> for ArchivedString {
+impl Deserialize<String> for ArchivedString {
+    type Pool = ();
+
     fn deserialize(
         this: &Ref<'_, ArchivedString>,
         alloc: Global,
-        _deserializer: &mut D,
+        _deserializer: &mut (),
     ) -> Result<String, Error> {
         match String::from_str(alloc, ArchivedString::as_str(*this)) {
             Ok(text) => Ok(text),

@@ -1,14 +1,15 @@
 //! Tuples of one field are read back.
-ghost use Rattle.std.specs.Prelude.{◌+◌};
+ghost use Rattle.std.specs.Prelude.{◌+◌, IfOk};
 ghost use Rattle.archive_shape.specs.ShapeLayout.Shape.{size_of};
 ghost use Rattle.archive_forms_values.specs.Tuples.{tuple1};
 ghost use Rattle.archive_forms_values.specs.Parts.{HasValue};
 ghost use Rattle.archive_forms.specs.Deserializing.{Deserializes, DeserializesBy};
+ghost use Rattle.archive_forms.specs.Keeping.{one_of};
 ghost use Rattle.archive_forms.specs.Reading.{reads_tuple1};
 ghost use Rattle.archive_forms.specs.Steps.{StepTakes, StepReads};
 
 use crate::deserializing::deserialize::deserialize_element;
-use crate::deserializing::{Deserialize, ReadBack};
+use crate::deserializing::{Deserialize, Deserializer, ReadBack};
 use archive_forms_values::ArchivedTuple1;
 use archive_forms_writing::Archive;
 use archive_shape::{Error, Ref};
@@ -19,19 +20,17 @@ use std::marker::PhantomData;
 pub fn deserialize_tuple1_each<
     T: Archive,
     A: ReadBack<T>,
-    Deserializer,
-    F: Fn(&mut Deserializer, usize) -> Result<(T, PhantomData<T::Archived>), Error>,
->(
-    this: Ref<'_, ArchivedTuple1<A>>,
-    deserializer: &mut Deserializer,
-    read_first: F,
-) -> Result<(T,), Error>
+    S: Deserializer,
+    F: Fn(&mut S, usize) -> Result<(T, PhantomData<T::Archived>), Error>,
+>(this: Ref<'_, ArchivedTuple1<A>>, deserializer: &mut S, read_first: F) -> Result<(T,), Error>
     requires there { HasValue (tuple1 A.shape) A.knows this.bytes.now this.pos }
-    requires takes_first { StepTakes F.Fn read_first A.shape A.knows this.bytes.now
+    requires kept { S.is_of deserializer.old this.bytes.now }
+    requires takes_first { StepTakes F.Fn read_first A.shape A.knows S.is_of this.bytes.now
         (this.pos + size_of (tuple1 A.shape)) }
-    requires reads_first { StepReads F.Fn read_first A.shape A.knows this.bytes.now (λ q. q.0) A.reads }
-    ensures { Deserializes (reads_tuple1 A.reads) (tuple1 A.shape) A.knows this.entry.bytes.now
+    requires reads_first { StepReads F.Fn read_first A.shape A.knows S.is_of this.bytes.now (λ q. q.0) A.reads }
+    ensures value { Deserializes (reads_tuple1 A.reads) (tuple1 A.shape) A.knows this.entry.bytes.now
         this.entry.pos result }
+    ensures keeps { IfOk result (λ _. S.is_of deserializer.new this.entry.bytes.now) }
 {
     let t = match read_first(deserializer, ArchivedTuple1::first(this).pos) {
         Ok(done) => done.0,
@@ -44,21 +43,24 @@ impl<T, A: ReadBack<T>> ReadBack<(T,)> for ArchivedTuple1<A> {
     ghost reads = { reads_tuple1 A.reads };
 }
 
-impl<T: Archive, Deserializer, A: Deserialize<T, Deserializer>> Deserialize<(T,), Deserializer>
-    for ArchivedTuple1<A> {
+impl<T: Archive, A: Deserialize<T>> Deserialize<(T,)> for ArchivedTuple1<A> {
+    type Pool = (A::Pool,);
+
     fn deserialize(
         this: &Ref<'_, ArchivedTuple1<A>>,
         alloc: Global,
-        deserializer: &mut Deserializer,
+        deserializer: &mut (A::Pool,),
     ) -> Result<(T,), Error> {
         let bytes = this.bytes;
-        deserialize_tuple1_each::<T, A, Deserializer, _>(
+        deserialize_tuple1_each::<T, A, (A::Pool,), _>(
             *this,
             deserializer,
-            |d: &mut Deserializer, pos: usize| -> Result<(T, PhantomData<T::Archived>), Error>
-                requires { HasValue A.shape A.knows bytes.now pos }
-                ensures { DeserializesBy A.reads A.shape A.knows bytes.entry.now pos (λ q. q.0) result }
-            { deserialize_element::<T, A, Deserializer>(bytes, pos, alloc, d) },
+            |d: &mut (A::Pool,), pos: usize| -> Result<(T, PhantomData<T::Archived>), Error>
+                requires there { HasValue A.shape A.knows bytes.now pos }
+                requires kept { one_of A.Pool.is_of d.old bytes.now }
+                ensures value { DeserializesBy A.reads A.shape A.knows bytes.entry.now pos (λ q. q.0) result }
+                ensures keeps { IfOk result (λ _. one_of A.Pool.is_of d.new bytes.entry.now) }
+            { deserialize_element::<T, A>(bytes, pos, alloc, &mut d.0) },
         )
     }
 }

@@ -1,14 +1,15 @@
 //! Tuples of two fields are read back.
-ghost use Rattle.std.specs.Prelude.{◌+◌};
+ghost use Rattle.std.specs.Prelude.{◌+◌, IfOk};
 ghost use Rattle.archive_shape.specs.ShapeLayout.Shape.{size_of};
 ghost use Rattle.archive_forms_values.specs.Tuples.{tuple2};
 ghost use Rattle.archive_forms_values.specs.Parts.{HasValue, both};
 ghost use Rattle.archive_forms.specs.Deserializing.{Deserializes, DeserializesBy};
+ghost use Rattle.archive_forms.specs.Keeping.{both_of};
 ghost use Rattle.archive_forms.specs.Reading.{reads_tuple2};
 ghost use Rattle.archive_forms.specs.Steps.{StepTakes, StepReads};
 
 use crate::deserializing::deserialize::deserialize_element;
-use crate::deserializing::{Deserialize, ReadBack};
+use crate::deserializing::{Deserialize, Deserializer, ReadBack};
 use archive_forms_values::ArchivedTuple2;
 use archive_forms_writing::Archive;
 use archive_shape::{Error, Ref};
@@ -21,25 +22,27 @@ pub fn deserialize_tuple2_each<
     U: Archive,
     A: ReadBack<T>,
     B: ReadBack<U>,
-    Deserializer,
-    F: Fn(&mut Deserializer, usize) -> Result<(T, PhantomData<T::Archived>), Error>,
-    G: Fn(&mut Deserializer, usize) -> Result<(U, PhantomData<U::Archived>), Error>,
+    S: Deserializer,
+    F: Fn(&mut S, usize) -> Result<(T, PhantomData<T::Archived>), Error>,
+    G: Fn(&mut S, usize) -> Result<(U, PhantomData<U::Archived>), Error>,
 >(
     this: Ref<'_, ArchivedTuple2<A, B>>,
-    deserializer: &mut Deserializer,
+    deserializer: &mut S,
     read_first: F,
     read_second: G,
 ) -> Result<(T, U), Error>
     requires there { HasValue (tuple2 A.shape B.shape) (both A.knows B.knows) this.bytes.now this.pos }
-    requires takes_first { StepTakes F.Fn read_first A.shape A.knows this.bytes.now
+    requires kept { S.is_of deserializer.old this.bytes.now }
+    requires takes_first { StepTakes F.Fn read_first A.shape A.knows S.is_of this.bytes.now
         (this.pos + size_of (tuple2 A.shape B.shape)) }
-    requires reads_first { StepReads F.Fn read_first A.shape A.knows this.bytes.now (λ q. q.0) A.reads }
-    requires takes_second { StepTakes G.Fn read_second B.shape B.knows this.bytes.now
+    requires reads_first { StepReads F.Fn read_first A.shape A.knows S.is_of this.bytes.now (λ q. q.0) A.reads }
+    requires takes_second { StepTakes G.Fn read_second B.shape B.knows S.is_of this.bytes.now
         (this.pos + size_of (tuple2 A.shape B.shape)) }
-    requires reads_second { StepReads G.Fn read_second B.shape B.knows this.bytes.now
+    requires reads_second { StepReads G.Fn read_second B.shape B.knows S.is_of this.bytes.now
         (λ q. q.0) B.reads }
-    ensures { Deserializes (reads_tuple2 A.reads B.reads) (tuple2 A.shape B.shape)
+    ensures value { Deserializes (reads_tuple2 A.reads B.reads) (tuple2 A.shape B.shape)
         (both A.knows B.knows) this.entry.bytes.now this.entry.pos result }
+    ensures keeps { IfOk result (λ _. S.is_of deserializer.new this.entry.bytes.now) }
 {
     let t = match read_first(deserializer, ArchivedTuple2::first(this).pos) {
         Ok(done) => done.0,
@@ -56,30 +59,31 @@ impl<T, U, A: ReadBack<T>, B: ReadBack<U>> ReadBack<(T, U)> for ArchivedTuple2<A
     ghost reads = { reads_tuple2 A.reads B.reads };
 }
 
-impl<
-    T: Archive + Drop,
-    U: Archive,
-    Deserializer,
-    A: Deserialize<T, Deserializer>,
-    B: Deserialize<U, Deserializer>,
-> Deserialize<(T, U), Deserializer> for ArchivedTuple2<A, B> {
+impl<T: Archive + Drop, U: Archive, A: Deserialize<T>, B: Deserialize<U>> Deserialize<(T, U)>
+    for ArchivedTuple2<A, B> {
+    type Pool = (A::Pool, B::Pool);
+
     fn deserialize(
         this: &Ref<'_, ArchivedTuple2<A, B>>,
         alloc: Global,
-        deserializer: &mut Deserializer,
+        deserializer: &mut (A::Pool, B::Pool),
     ) -> Result<(T, U), Error> {
         let bytes = this.bytes;
-        deserialize_tuple2_each::<T, U, A, B, Deserializer, _, _>(
+        deserialize_tuple2_each::<T, U, A, B, (A::Pool, B::Pool), _, _>(
             *this,
             deserializer,
-            |d: &mut Deserializer, pos: usize| -> Result<(T, PhantomData<T::Archived>), Error>
-                requires { HasValue A.shape A.knows bytes.now pos }
-                ensures { DeserializesBy A.reads A.shape A.knows bytes.entry.now pos (λ q. q.0) result }
-            { deserialize_element::<T, A, Deserializer>(bytes, pos, alloc, d) },
-            |d: &mut Deserializer, pos: usize| -> Result<(U, PhantomData<U::Archived>), Error>
-                requires { HasValue B.shape B.knows bytes.now pos }
-                ensures { DeserializesBy B.reads B.shape B.knows bytes.entry.now pos (λ q. q.0) result }
-            { deserialize_element::<U, B, Deserializer>(bytes, pos, alloc, d) },
+            |d: &mut (A::Pool, B::Pool), pos: usize| -> Result<(T, PhantomData<T::Archived>), Error>
+                requires there { HasValue A.shape A.knows bytes.now pos }
+                requires kept { both_of A.Pool.is_of B.Pool.is_of d.old bytes.now }
+                ensures value { DeserializesBy A.reads A.shape A.knows bytes.entry.now pos (λ q. q.0) result }
+                ensures keeps { IfOk result (λ _. both_of A.Pool.is_of B.Pool.is_of d.new bytes.entry.now) }
+            { deserialize_element::<T, A>(bytes, pos, alloc, &mut d.0) },
+            |d: &mut (A::Pool, B::Pool), pos: usize| -> Result<(U, PhantomData<U::Archived>), Error>
+                requires there { HasValue B.shape B.knows bytes.now pos }
+                requires kept { both_of A.Pool.is_of B.Pool.is_of d.old bytes.now }
+                ensures value { DeserializesBy B.reads B.shape B.knows bytes.entry.now pos (λ q. q.0) result }
+                ensures keeps { IfOk result (λ _. both_of A.Pool.is_of B.Pool.is_of d.new bytes.entry.now) }
+            { deserialize_element::<U, B>(bytes, pos, alloc, &mut d.1) },
         )
     }
 }

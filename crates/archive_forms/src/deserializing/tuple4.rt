@@ -1,15 +1,16 @@
 //! Tuples of four fields are read back.
-ghost use Rattle.std.specs.Prelude.{◌+◌};
+ghost use Rattle.std.specs.Prelude.{◌+◌, IfOk};
 ghost use Rattle.archive_shape.specs.ShapeLayout.Shape.{size_of};
 ghost use Rattle.archive_forms_values.specs.Tuples.{tuple4};
 ghost use Rattle.archive_forms_values.specs.Parts.{HasValue};
 ghost use Rattle.archive_forms_values.specs.Fields.{all_four};
 ghost use Rattle.archive_forms.specs.Deserializing.{Deserializes, DeserializesBy};
+ghost use Rattle.archive_forms.specs.Keeping.{four_of};
 ghost use Rattle.archive_forms.specs.Reading.{reads_tuple4};
 ghost use Rattle.archive_forms.specs.Steps.{StepTakes, StepReads};
 
 use crate::deserializing::deserialize::deserialize_element;
-use crate::deserializing::{Deserialize, ReadBack};
+use crate::deserializing::{Deserialize, Deserializer, ReadBack};
 use archive_forms_values::ArchivedTuple4;
 use archive_forms_writing::Archive;
 use archive_shape::{Error, Ref};
@@ -26,14 +27,14 @@ pub fn deserialize_tuple4_each<
     B: ReadBack<U>,
     C: ReadBack<V>,
     D: ReadBack<W>,
-    Deserializer,
-    F: Fn(&mut Deserializer, usize) -> Result<(T, PhantomData<T::Archived>), Error>,
-    G: Fn(&mut Deserializer, usize) -> Result<(U, PhantomData<U::Archived>), Error>,
-    H: Fn(&mut Deserializer, usize) -> Result<(V, PhantomData<V::Archived>), Error>,
-    I: Fn(&mut Deserializer, usize) -> Result<(W, PhantomData<W::Archived>), Error>,
+    S: Deserializer,
+    F: Fn(&mut S, usize) -> Result<(T, PhantomData<T::Archived>), Error>,
+    G: Fn(&mut S, usize) -> Result<(U, PhantomData<U::Archived>), Error>,
+    H: Fn(&mut S, usize) -> Result<(V, PhantomData<V::Archived>), Error>,
+    I: Fn(&mut S, usize) -> Result<(W, PhantomData<W::Archived>), Error>,
 >(
     this: Ref<'_, ArchivedTuple4<A, B, C, D>>,
-    deserializer: &mut Deserializer,
+    deserializer: &mut S,
     read_first: F,
     read_second: G,
     read_third: H,
@@ -41,23 +42,25 @@ pub fn deserialize_tuple4_each<
 ) -> Result<(T, U, V, W), Error>
     requires there { HasValue (tuple4 A.shape B.shape C.shape D.shape)
         (all_four A.knows B.knows C.knows D.knows) this.bytes.now this.pos }
-    requires takes_first { StepTakes F.Fn read_first A.shape A.knows this.bytes.now
+    requires kept { S.is_of deserializer.old this.bytes.now }
+    requires takes_first { StepTakes F.Fn read_first A.shape A.knows S.is_of this.bytes.now
         (this.pos + size_of (tuple4 A.shape B.shape C.shape D.shape)) }
-    requires reads_first { StepReads F.Fn read_first A.shape A.knows this.bytes.now (λ q. q.0) A.reads }
-    requires takes_second { StepTakes G.Fn read_second B.shape B.knows this.bytes.now
+    requires reads_first { StepReads F.Fn read_first A.shape A.knows S.is_of this.bytes.now (λ q. q.0) A.reads }
+    requires takes_second { StepTakes G.Fn read_second B.shape B.knows S.is_of this.bytes.now
         (this.pos + size_of (tuple4 A.shape B.shape C.shape D.shape)) }
-    requires reads_second { StepReads G.Fn read_second B.shape B.knows this.bytes.now
+    requires reads_second { StepReads G.Fn read_second B.shape B.knows S.is_of this.bytes.now
         (λ q. q.0) B.reads }
-    requires takes_third { StepTakes H.Fn read_third C.shape C.knows this.bytes.now
+    requires takes_third { StepTakes H.Fn read_third C.shape C.knows S.is_of this.bytes.now
         (this.pos + size_of (tuple4 A.shape B.shape C.shape D.shape)) }
-    requires reads_third { StepReads H.Fn read_third C.shape C.knows this.bytes.now (λ q. q.0) C.reads }
-    requires takes_fourth { StepTakes I.Fn read_fourth D.shape D.knows this.bytes.now
+    requires reads_third { StepReads H.Fn read_third C.shape C.knows S.is_of this.bytes.now (λ q. q.0) C.reads }
+    requires takes_fourth { StepTakes I.Fn read_fourth D.shape D.knows S.is_of this.bytes.now
         (this.pos + size_of (tuple4 A.shape B.shape C.shape D.shape)) }
-    requires reads_fourth { StepReads I.Fn read_fourth D.shape D.knows this.bytes.now
+    requires reads_fourth { StepReads I.Fn read_fourth D.shape D.knows S.is_of this.bytes.now
         (λ q. q.0) D.reads }
-    ensures { Deserializes (reads_tuple4 A.reads B.reads C.reads D.reads)
+    ensures value { Deserializes (reads_tuple4 A.reads B.reads C.reads D.reads)
         (tuple4 A.shape B.shape C.shape D.shape) (all_four A.knows B.knows C.knows D.knows)
         this.entry.bytes.now this.entry.pos result }
+    ensures keeps { IfOk result (λ _. S.is_of deserializer.new this.entry.bytes.now) }
 {
     let t = match read_first(deserializer, ArchivedTuple4::first(this).pos) {
         Ok(done) => done.0,
@@ -89,37 +92,72 @@ impl<
     U: Archive + Drop,
     V: Archive + Drop,
     W: Archive,
-    Deserializer,
-    A: Deserialize<T, Deserializer>,
-    B: Deserialize<U, Deserializer>,
-    C: Deserialize<V, Deserializer>,
-    D: Deserialize<W, Deserializer>,
-> Deserialize<(T, U, V, W), Deserializer> for ArchivedTuple4<A, B, C, D> {
+    A: Deserialize<T>,
+    B: Deserialize<U>,
+    C: Deserialize<V>,
+    D: Deserialize<W>,
+> Deserialize<(T, U, V, W)> for ArchivedTuple4<A, B, C, D> {
+    type Pool = (A::Pool, B::Pool, C::Pool, D::Pool);
+
     fn deserialize(
         this: &Ref<'_, ArchivedTuple4<A, B, C, D>>,
         alloc: Global,
-        deserializer: &mut Deserializer,
+        deserializer: &mut (A::Pool, B::Pool, C::Pool, D::Pool),
     ) -> Result<(T, U, V, W), Error> {
         let bytes = this.bytes;
-        deserialize_tuple4_each::<T, U, V, W, A, B, C, D, Deserializer, _, _, _, _>(
+        deserialize_tuple4_each::<
+            T,
+            U,
+            V,
+            W,
+            A,
+            B,
+            C,
+            D,
+            (A::Pool, B::Pool, C::Pool, D::Pool),
+            _,
+            _,
+            _,
+            _,
+        >(
             *this,
             deserializer,
-            |d: &mut Deserializer, pos: usize| -> Result<(T, PhantomData<T::Archived>), Error>
-                requires { HasValue A.shape A.knows bytes.now pos }
-                ensures { DeserializesBy A.reads A.shape A.knows bytes.entry.now pos (λ q. q.0) result }
-            { deserialize_element::<T, A, Deserializer>(bytes, pos, alloc, d) },
-            |d: &mut Deserializer, pos: usize| -> Result<(U, PhantomData<U::Archived>), Error>
-                requires { HasValue B.shape B.knows bytes.now pos }
-                ensures { DeserializesBy B.reads B.shape B.knows bytes.entry.now pos (λ q. q.0) result }
-            { deserialize_element::<U, B, Deserializer>(bytes, pos, alloc, d) },
-            |d: &mut Deserializer, pos: usize| -> Result<(V, PhantomData<V::Archived>), Error>
-                requires { HasValue C.shape C.knows bytes.now pos }
-                ensures { DeserializesBy C.reads C.shape C.knows bytes.entry.now pos (λ q. q.0) result }
-            { deserialize_element::<V, C, Deserializer>(bytes, pos, alloc, d) },
-            |d: &mut Deserializer, pos: usize| -> Result<(W, PhantomData<W::Archived>), Error>
-                requires { HasValue D.shape D.knows bytes.now pos }
-                ensures { DeserializesBy D.reads D.shape D.knows bytes.entry.now pos (λ q. q.0) result }
-            { deserialize_element::<W, D, Deserializer>(bytes, pos, alloc, d) },
+            |d: &mut (A::Pool, B::Pool, C::Pool, D::Pool), pos: usize| -> Result<
+                (T, PhantomData<T::Archived>),
+                Error,
+            >
+                requires there { HasValue A.shape A.knows bytes.now pos }
+                requires kept { four_of A.Pool.is_of B.Pool.is_of C.Pool.is_of D.Pool.is_of d.old bytes.now }
+                ensures value { DeserializesBy A.reads A.shape A.knows bytes.entry.now pos (λ q. q.0) result }
+                ensures keeps { IfOk result (λ _. four_of A.Pool.is_of B.Pool.is_of C.Pool.is_of D.Pool.is_of d.new bytes.entry.now) }
+            { deserialize_element::<T, A>(bytes, pos, alloc, &mut d.0) },
+            |d: &mut (A::Pool, B::Pool, C::Pool, D::Pool), pos: usize| -> Result<
+                (U, PhantomData<U::Archived>),
+                Error,
+            >
+                requires there { HasValue B.shape B.knows bytes.now pos }
+                requires kept { four_of A.Pool.is_of B.Pool.is_of C.Pool.is_of D.Pool.is_of d.old bytes.now }
+                ensures value { DeserializesBy B.reads B.shape B.knows bytes.entry.now pos (λ q. q.0) result }
+                ensures keeps { IfOk result (λ _. four_of A.Pool.is_of B.Pool.is_of C.Pool.is_of D.Pool.is_of d.new bytes.entry.now) }
+            { deserialize_element::<U, B>(bytes, pos, alloc, &mut d.1) },
+            |d: &mut (A::Pool, B::Pool, C::Pool, D::Pool), pos: usize| -> Result<
+                (V, PhantomData<V::Archived>),
+                Error,
+            >
+                requires there { HasValue C.shape C.knows bytes.now pos }
+                requires kept { four_of A.Pool.is_of B.Pool.is_of C.Pool.is_of D.Pool.is_of d.old bytes.now }
+                ensures value { DeserializesBy C.reads C.shape C.knows bytes.entry.now pos (λ q. q.0) result }
+                ensures keeps { IfOk result (λ _. four_of A.Pool.is_of B.Pool.is_of C.Pool.is_of D.Pool.is_of d.new bytes.entry.now) }
+            { deserialize_element::<V, C>(bytes, pos, alloc, &mut d.2) },
+            |d: &mut (A::Pool, B::Pool, C::Pool, D::Pool), pos: usize| -> Result<
+                (W, PhantomData<W::Archived>),
+                Error,
+            >
+                requires there { HasValue D.shape D.knows bytes.now pos }
+                requires kept { four_of A.Pool.is_of B.Pool.is_of C.Pool.is_of D.Pool.is_of d.old bytes.now }
+                ensures value { DeserializesBy D.reads D.shape D.knows bytes.entry.now pos (λ q. q.0) result }
+                ensures keeps { IfOk result (λ _. four_of A.Pool.is_of B.Pool.is_of C.Pool.is_of D.Pool.is_of d.new bytes.entry.now) }
+            { deserialize_element::<W, D>(bytes, pos, alloc, &mut d.3) },
         )
     }
 }

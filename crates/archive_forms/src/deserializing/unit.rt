@@ -11,11 +11,13 @@ impl ReadBack<()> for () {
     ghost reads = { reads_as unit_spelling };
 }
 
-impl<D> Deserialize<(), D> for () {
+impl Deserialize<()> for () {
+    type Pool = ();
+
     fn deserialize(
         _this: &Ref<'_, ()>,
         _alloc: Global,
-        _deserializer: &mut D,
+        _deserializer: &mut (),
     ) -> Result<(), Error> {
         Ok(())
     }
@@ -25,11 +27,13 @@ impl<T> ReadBack<PhantomData<T>> for PhantomData<T> {
     ghost reads = { reads_as unit_spelling };
 }
 
-impl<T, D> Deserialize<PhantomData<T>, D> for PhantomData<T> {
+impl<T> Deserialize<PhantomData<T>> for PhantomData<T> {
+    type Pool = ();
+
     fn deserialize(
         _this: &Ref<'_, PhantomData<T>>,
         _alloc: Global,
-        _deserializer: &mut D,
+        _deserializer: &mut (),
     ) -> Result<PhantomData<T>, Error> {
         Ok(PhantomData)
     }

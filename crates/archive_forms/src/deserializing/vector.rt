@@ -1,4 +1,5 @@
 //! Vectors are read back.
+ghost use Rattle.std.specs.Prelude.{IfOk};
 ghost use Rattle.archive_shape.specs.ShapeLayout.Shape.Shape.{vector};
 ghost use Rattle.archive_forms_values.specs.Parts.{HasValue};
 ghost use Rattle.archive_forms.specs.Deserializing.{Deserializes, DeserializesBy};
@@ -7,7 +8,7 @@ ghost use Rattle.archive_forms.specs.Steps.{StepTakes, StepReads};
 
 use crate::deserializing::deserialize::deserialize_element;
 use crate::deserializing::elements::deserialize_elements_each;
-use crate::deserializing::{Deserialize, ReadBack};
+use crate::deserializing::{Deserialize, Deserializer, ReadBack};
 use archive_forms_values::ArchivedVec;
 use archive_forms_writing::Archive;
 use archive_shape::{Error, Ref};
@@ -18,7 +19,7 @@ use std::marker::PhantomData;
 pub fn deserialize_vec_each<
     T: Archive + Drop,
     A: ReadBack<T>,
-    D,
+    D: Deserializer,
     F: Fn(&mut D, usize) -> Result<(T, PhantomData<T::Archived>), Error>,
 >(
     this: Ref<'_, ArchivedVec<A>>,
@@ -27,10 +28,12 @@ pub fn deserialize_vec_each<
     step: F,
 ) -> Result<Vec<T>, Error>
     requires there { HasValue (vector A.shape) A.knows this.bytes.now this.pos }
-    requires takes { StepTakes F.Fn step A.shape A.knows this.bytes.now this.pos }
-    requires reads { StepReads F.Fn step A.shape A.knows this.bytes.now (λ q. q.0) A.reads }
-    ensures { Deserializes (reads_in (λ xs. xs.items) (reads_all A.reads)) (vector A.shape) A.knows
+    requires kept { D.is_of deserializer.old this.bytes.now }
+    requires takes { StepTakes F.Fn step A.shape A.knows D.is_of this.bytes.now this.pos }
+    requires reads { StepReads F.Fn step A.shape A.knows D.is_of this.bytes.now (λ q. q.0) A.reads }
+    ensures value { Deserializes (reads_in (λ xs. xs.items) (reads_all A.reads)) (vector A.shape) A.knows
         this.entry.bytes.now this.entry.pos result }
+    ensures keeps { IfOk result (λ _. D.is_of deserializer.new this.entry.bytes.now) }
 {
     deserialize_elements_each(ArchivedVec::as_slice(this), alloc, deserializer, step)
 }
@@ -39,21 +42,25 @@ impl<T, A: ReadBack<T>> ReadBack<Vec<T>> for ArchivedVec<A> {
     ghost reads = { reads_in (λ xs. xs.items) (reads_all A.reads) };
 }
 
-impl<T: Archive + Drop, D, A: Deserialize<T, D>> Deserialize<Vec<T>, D> for ArchivedVec<A> {
+impl<T: Archive + Drop, A: Deserialize<T>> Deserialize<Vec<T>> for ArchivedVec<A> {
+    type Pool = A::Pool;
+
     fn deserialize(
         this: &Ref<'_, ArchivedVec<A>>,
         alloc: Global,
-        deserializer: &mut D,
+        deserializer: &mut A::Pool,
     ) -> Result<Vec<T>, Error> {
         let bytes = this.bytes;
-        deserialize_vec_each::<T, A, D, _>(
+        deserialize_vec_each::<T, A, A::Pool, _>(
             *this,
             alloc,
             deserializer,
-            |d: &mut D, pos: usize| -> Result<(T, PhantomData<T::Archived>), Error>
-                requires { HasValue A.shape A.knows bytes.now pos }
-                ensures { DeserializesBy A.reads A.shape A.knows bytes.entry.now pos (λ q. q.0) result }
-            { deserialize_element::<T, A, D>(bytes, pos, alloc, d) },
+            |d: &mut A::Pool, pos: usize| -> Result<(T, PhantomData<T::Archived>), Error>
+                requires there { HasValue A.shape A.knows bytes.now pos }
+                requires kept { A.Pool.is_of d.old bytes.now }
+                ensures value { DeserializesBy A.reads A.shape A.knows bytes.entry.now pos (λ q. q.0) result }
+                ensures keeps { IfOk result (λ _. A.Pool.is_of d.new bytes.entry.now) }
+            { deserialize_element::<T, A>(bytes, pos, alloc, d) },
         )
     }
 }

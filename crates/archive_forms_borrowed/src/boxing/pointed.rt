@@ -37,7 +37,8 @@ impl<'a, T: Archive> ArchiveUnsized for &'a T {
         requires { CanResolve (box_of (seen_as (λ r. r.now) (box_spelling T.Archived.shape T.spelling)))
             (box (sized T.Archived.shape)) self.now resolver out.out.now out.start out.pos }
         ensures { Resolves (box_of (seen_as (λ r. r.now) (box_spelling T.Archived.shape T.spelling)))
-            self.now resolver out.entry.pos out.entry.start out.entry.out.now out.exit.0.now result }
+            (box (sized T.Archived.shape)) self.now resolver out.entry.pos out.entry.start
+            out.entry.out.now out.exit.0.now result }
     {
         let Place {
             out,
@@ -87,7 +88,8 @@ impl<'a, T: Archive> ArchiveUnsized for &'a [T] {
     ) -> Result<(), Error>
         requires { CanResolve (box_of (seen_as (λ r. r.now) (slice_spelling T.Archived.shape T.spelling))) (box (slice T.Archived.shape)) self.now resolver out.out.now out.start out.pos }
         ensures { Resolves (box_of (seen_as (λ r. r.now) (slice_spelling T.Archived.shape T.spelling)))
-            self.now resolver out.entry.pos out.entry.start out.entry.out.now out.exit.0.now result }
+            (box (slice T.Archived.shape)) self.now resolver out.entry.pos out.entry.start
+            out.entry.out.now out.exit.0.now result }
     {
         let Place {
             out,
@@ -141,8 +143,8 @@ impl<'a> ArchiveUnsized for &'a str {
     ) -> Result<(), Error>
         requires { CanResolve (box_of (seen_as (λ r. r.now) boxed_text_spelling)) (box str)
             self.now resolver out.out.now out.start out.pos }
-        ensures { Resolves (box_of (seen_as (λ r. r.now) boxed_text_spelling)) self.now resolver
-            out.entry.pos out.entry.start out.entry.out.now out.exit.0.now result }
+        ensures { Resolves (box_of (seen_as (λ r. r.now) boxed_text_spelling)) (box str) self.now
+            resolver out.entry.pos out.entry.start out.entry.out.now out.exit.0.now result }
     {
         let Place {
             out,

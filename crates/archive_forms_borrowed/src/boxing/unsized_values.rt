@@ -29,7 +29,7 @@ pub trait ArchiveUnsized {
     fn resolve_box(&self, resolver: BoxResolver, out: Place<'_, Self::Boxed>) -> Result<(), Error>
         requires { CanResolve (box_of pointed) (box Self.Archived.pointee) self.now resolver out.out.now
             out.start out.pos }
-        ensures { Resolves (box_of pointed) self.now resolver out.entry.pos out.entry.start
+        ensures { Resolves (box_of pointed) (box Self.Archived.pointee) self.now resolver out.entry.pos out.entry.start
             out.entry.out.now out.exit.0.now result };
 
     /// The box is one of the layout.
@@ -74,8 +74,8 @@ pub fn resolve_from_ref<U: ArchiveUnsized>(
 ) -> Result<(), Error>
     requires { CanResolve (box_of U.pointed) (box U.Archived.pointee) value.now resolver out.out.now
         out.start out.pos }
-    ensures { Resolves (box_of U.pointed) value.now resolver out.entry.pos out.entry.start
-        out.entry.out.now out.exit.0.now result }
+    ensures { Resolves (box_of U.pointed) (box U.Archived.pointee) value.now resolver out.entry.pos
+        out.entry.start out.entry.out.now out.exit.0.now result }
 {
     let Place {
         out,

@@ -52,7 +52,8 @@ impl<'a, K: Archive, V: Archive> Archive for EntryAdapter<'a, K, V> {
         requires { CanResolve (entry_spelling K.Archived.shape K.spelling V.Archived.shape V.spelling)
             (tuple2 K.Archived.shape V.Archived.shape) self.now resolver out.out.now out.start out.pos }
         ensures { Resolves (entry_spelling K.Archived.shape K.spelling V.Archived.shape V.spelling)
-            self.now resolver out.entry.pos out.entry.start out.entry.out.now out.exit.0.now result }
+            (tuple2 K.Archived.shape V.Archived.shape) self.now resolver out.entry.pos out.entry.start
+            out.entry.out.now out.exit.0.now result }
     {
         let Place {
             out,

@@ -42,8 +42,8 @@ pub fn resolve_from_slice<T: Archive>(
 ) -> Result<(), Error>
     requires { CanResolve (elements_spelling T.Archived.shape T.spelling) (vector T.Archived.shape)
         items.now resolver out.out.now out.start out.pos }
-    ensures { Resolves (elements_spelling T.Archived.shape T.spelling) items.now resolver out.entry.pos
-        out.entry.start out.entry.out.now out.exit.0.now result }
+    ensures { Resolves (elements_spelling T.Archived.shape T.spelling) (vector T.Archived.shape)
+        items.now resolver out.entry.pos out.entry.start out.entry.out.now out.exit.0.now result }
 {
     let Place {
         out,

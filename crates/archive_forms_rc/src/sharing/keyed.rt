@@ -36,8 +36,9 @@ impl<T: Archive> Archive for Shared<Rc<T>> {
     ) -> Result<(), Error>
         requires { CanResolve (shared_rc_spelling T.Archived.shape T.spelling)
             (shared false (sized T.Archived.shape)) self.now resolver out.out.now out.start out.pos }
-        ensures { Resolves (shared_rc_spelling T.Archived.shape T.spelling) self.now resolver
-            out.entry.pos out.entry.start out.entry.out.now out.exit.0.now result }
+        ensures { Resolves (shared_rc_spelling T.Archived.shape T.spelling)
+            (shared false (sized T.Archived.shape)) self.now resolver out.entry.pos out.entry.start
+            out.entry.out.now out.exit.0.now result }
     {
         let Place {
             out,
@@ -76,8 +77,9 @@ impl<T: Archive> Archive for Shared<RcSlice<T>> {
     ) -> Result<(), Error>
         requires { CanResolve (shared_slice_rc_spelling T.Archived.shape T.spelling)
             (shared false (slice T.Archived.shape)) self.now resolver out.out.now out.start out.pos }
-        ensures { Resolves (shared_slice_rc_spelling T.Archived.shape T.spelling) self.now resolver
-            out.entry.pos out.entry.start out.entry.out.now out.exit.0.now result }
+        ensures { Resolves (shared_slice_rc_spelling T.Archived.shape T.spelling)
+            (shared false (slice T.Archived.shape)) self.now resolver out.entry.pos out.entry.start
+            out.entry.out.now out.exit.0.now result }
     {
         let Place {
             out,
@@ -117,8 +119,8 @@ impl Archive for Shared<RcStr> {
     ) -> Result<(), Error>
         requires { CanResolve shared_str_rc_spelling (shared false str) self.now resolver out.out.now
             out.start out.pos }
-        ensures { Resolves shared_str_rc_spelling self.now resolver out.entry.pos out.entry.start
-            out.entry.out.now out.exit.0.now result }
+        ensures { Resolves shared_str_rc_spelling (shared false str) self.now resolver out.entry.pos
+            out.entry.start out.entry.out.now out.exit.0.now result }
     {
         let Place {
             out,

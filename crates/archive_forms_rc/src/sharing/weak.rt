@@ -1,18 +1,19 @@
 //! Weak pointers to values that are shared.
-ghost use Rattle.std.specs.Prelude.{false, refl};
+ghost use Rattle.std.specs.Prelude.{◌-◌, ◌^◌, ◌<◌, false, None, Some, refl};
 ghost use Rattle.archive_shape_layout.specs.Shape.Shape.{shared, weak};
-ghost use Rattle.archive_shape_layout.specs.Shape.Pointee.{sized};
-ghost use Rattle.archive_forms_laws.specs.Serializing.{CanResolve, Resolves};
-ghost use Rattle.archive_forms_rc.specs.Counted.{shared_weak_spelling};
+ghost use Rattle.archive_shape_layout.specs.Shape.Pointee.{sized, slice, str};
+ghost use Rattle.archive_forms_laws.specs.Serializing.{CanResolve, HasState, Resolves, Serializes};
+ghost use Rattle.archive_forms_rc.specs.Counted.{shared_weak_spelling, weak_rc_spelling, weak_slice_rc_spelling, weak_str_rc_spelling};
+ghost use Rattle.archive_forms_rc.specs.WeakResolvers.{weak_resolver, counted_resolver};
 ghost use Rattle.archive_forms_laws.proofs.Views.{kept_spells, seen_spells};
 ghost use Rattle.archive_forms_borrowed.proofs.Shared.{seen_value_spells};
 ghost use Rattle.archive_forms_borrowed.proofs.Weak.{weak_spells};
 
 use crate::sharing::{Shared, SharingExt};
-use crate::{ArchivedRcWeak, RcFlavor, RcResolver};
+use crate::{ArchivedRcWeak, ArchivedRcWeakSlice, ArchivedRcWeakStr, RcFlavor, RcWeakResolver};
 use archive_forms_writing::{Archive, Serialize};
-use archive_shape::{Error, Place};
-use std::rc::Rc;
+use archive_shape::{Error, Place, Portable};
+use std::rc::{Rc, RcSlice, RcStr};
 
 /// A weak pointer, which leads to a shared value or to nothing, as std's `Weak` does. A value that it leads to is
 /// written at the first use of its key, as that of a counted pointer is.
@@ -21,22 +22,21 @@ pub struct SharedWeak<P> {
     pub shared: Option<Shared<P>>,
 }
 
-impl<T: Archive> Archive for SharedWeak<Rc<T>> {
-    type Archived = ArchivedRcWeak<T::Archived, RcFlavor>;
-
-    type Resolver = Option<RcResolver>;
-
-    ghost spelling = { shared_weak_spelling T.Archived.shape T.spelling };
-
-    fn resolve(
-        &self,
-        resolver: Option<RcResolver>,
-        out: Place<'_, ArchivedRcWeak<T::Archived, RcFlavor>>,
+impl<T: Portable> ArchivedRcWeak<T, RcFlavor> {
+    /// Writes the weak pointer to a value, or to nothing, at `out`, where the bytes are zeros. The
+    /// resolver was made of the same value, or of nothing.
+    ///
+    /// Returns `IsizeOverflow` if the offset does not fit in an `i32`.
+    pub fn resolve_from_ref<U: Archive<Archived = T>>(
+        value: &Option<Shared<Rc<U>>>,
+        resolver: RcWeakResolver,
+        out: Place<'_, ArchivedRcWeak<T, RcFlavor>>,
     ) -> Result<(), Error>
-        requires { CanResolve (shared_weak_spelling T.Archived.shape T.spelling)
-            (weak false (sized T.Archived.shape)) self.now resolver out.out.now out.start out.pos }
-        ensures { Resolves (shared_weak_spelling T.Archived.shape T.spelling) self.now resolver
-            out.entry.pos out.entry.start out.entry.out.now out.exit.0.now result }
+        requires { CanResolve (weak_rc_spelling T.shape U.spelling)
+            (weak false (sized T.shape)) value.now resolver out.out.now out.start out.pos }
+        ensures { Resolves (weak_rc_spelling T.shape U.spelling)
+            (weak false (sized T.shape)) value.now resolver out.entry.pos out.entry.start
+            out.entry.out.now out.exit.0.now result }
     {
         let Place {
             out,
@@ -44,18 +44,150 @@ impl<T: Archive> Archive for SharedWeak<Rc<T>> {
             pos,
             ..
         } = out;
-        let place = Place::within(out, start, pos);
-        self.shared.resolve(resolver, place)
+        value.resolve(resolver.into_option(), Place::within(out, start, pos))
+    }
+
+    /// Writes what a weak pointer to a value leads to, unless it was written under the key before. Returns the resolver
+    /// of the weak pointer. Nothing is written for a pointer to nothing.
+    pub fn serialize_from_ref<U: Archive<Archived = T> + Serialize<S>, S: SharingExt>(
+        value: &Option<Shared<Rc<U>>>,
+        serializer: &mut S,
+    ) -> Result<RcWeakResolver, Error>
+        requires room { S.failures serializer.old < 2 ^ 64 - 1 }
+        requires state { HasState S.pos S.known serializer.old }
+        ensures { Serializes (weak_rc_spelling T.shape U.spelling) S.Writer value.now
+            serializer.old serializer.new result }
+    {
+        match value.serialize(serializer) {
+            Ok(resolver) => Ok(RcWeakResolver::from_option(resolver)),
+            Err(e) => Err(e),
+        }
+    }
+}
+
+impl<T: Portable> ArchivedRcWeakSlice<T, RcFlavor> {
+    /// Writes the weak pointer to elements, or to nothing, at `out`, where the bytes are zeros. The
+    /// resolver was made of the same elements, or of nothing.
+    ///
+    /// Returns `LengthTooLarge` if there are more than 2^32 - 1, and otherwise `IsizeOverflow` if the offset does not
+    /// fit in an `i32`.
+    pub fn resolve_from_ref<U: Archive<Archived = T>>(
+        value: &Option<Shared<RcSlice<U>>>,
+        resolver: RcWeakResolver,
+        out: Place<'_, ArchivedRcWeakSlice<T, RcFlavor>>,
+    ) -> Result<(), Error>
+        requires { CanResolve (weak_slice_rc_spelling T.shape U.spelling)
+            (weak false (slice T.shape)) value.now resolver out.out.now out.start out.pos }
+        ensures { Resolves (weak_slice_rc_spelling T.shape U.spelling)
+            (weak false (slice T.shape)) value.now resolver out.entry.pos out.entry.start
+            out.entry.out.now out.exit.0.now result }
+    {
+        let Place {
+            out,
+            start,
+            pos,
+            ..
+        } = out;
+        value.resolve(resolver.into_option(), Place::within(out, start, pos))
+    }
+
+    /// Writes what a weak pointer to elements leads to, unless it was written under the key before. Returns the resolver
+    /// of the weak pointer. Nothing is written for a pointer to nothing.
+    pub fn serialize_from_ref<U: Archive<Archived = T> + Serialize<S>, S: SharingExt>(
+        value: &Option<Shared<RcSlice<U>>>,
+        serializer: &mut S,
+    ) -> Result<RcWeakResolver, Error>
+        requires room { S.failures serializer.old < 2 ^ 64 - 1 }
+        requires state { HasState S.pos S.known serializer.old }
+        ensures { Serializes (weak_slice_rc_spelling T.shape U.spelling) S.Writer value.now
+            serializer.old serializer.new result }
+    {
+        match value.serialize(serializer) {
+            Ok(resolver) => Ok(RcWeakResolver::from_option(resolver)),
+            Err(e) => Err(e),
+        }
+    }
+}
+
+impl ArchivedRcWeakStr<RcFlavor> {
+    /// Writes the weak pointer to a text, or to nothing, at `out`, where the bytes are zeros. The
+    /// resolver was made of the same text, or of nothing.
+    ///
+    /// Returns `LengthTooLarge` if it has more than 2^32 - 1 bytes, and otherwise `IsizeOverflow` if the offset does not
+    /// fit in an `i32`.
+    pub fn resolve_from_ref(
+        value: &Option<Shared<RcStr>>,
+        resolver: RcWeakResolver,
+        out: Place<'_, ArchivedRcWeakStr<RcFlavor>>,
+    ) -> Result<(), Error>
+        requires { CanResolve weak_str_rc_spelling (weak false str) value.now resolver out.out.now
+            out.start out.pos }
+        ensures { Resolves weak_str_rc_spelling (weak false str) value.now resolver out.entry.pos
+            out.entry.start out.entry.out.now out.exit.0.now result }
+    {
+        let Place {
+            out,
+            start,
+            pos,
+            ..
+        } = out;
+        value.resolve(resolver.into_option(), Place::within(out, start, pos))
+    }
+
+    /// Writes what a weak pointer to a text leads to, unless it was written under the key before. Returns the resolver
+    /// of the weak pointer. Nothing is written for a pointer to nothing.
+    pub fn serialize_from_ref<S: SharingExt>(
+        value: &Option<Shared<RcStr>>,
+        serializer: &mut S,
+    ) -> Result<RcWeakResolver, Error>
+        requires room { S.failures serializer.old < 2 ^ 64 - 1 }
+        requires state { HasState S.pos S.known serializer.old }
+        ensures { Serializes weak_str_rc_spelling S.Writer value.now serializer.old
+            serializer.new result }
+    {
+        match value.serialize(serializer) {
+            Ok(resolver) => Ok(RcWeakResolver::from_option(resolver)),
+            Err(e) => Err(e),
+        }
+    }
+}
+
+impl<T: Archive> Archive for SharedWeak<Rc<T>> {
+    type Archived = ArchivedRcWeak<T::Archived, RcFlavor>;
+
+    type Resolver = RcWeakResolver;
+
+    ghost spelling = { shared_weak_spelling T.Archived.shape T.spelling };
+
+    fn resolve(
+        &self,
+        resolver: RcWeakResolver,
+        out: Place<'_, ArchivedRcWeak<T::Archived, RcFlavor>>,
+    ) -> Result<(), Error>
+        requires { CanResolve (shared_weak_spelling T.Archived.shape T.spelling)
+            (weak false (sized T.Archived.shape)) self.now resolver out.out.now out.start out.pos }
+        ensures { Resolves (shared_weak_spelling T.Archived.shape T.spelling)
+            (weak false (sized T.Archived.shape)) self.now resolver out.entry.pos out.entry.start
+            out.entry.out.now out.exit.0.now result }
+    {
+        let Place {
+            out,
+            start,
+            pos,
+            ..
+        } = out;
+        ArchivedRcWeak::resolve_from_ref(&self.shared, resolver, Place::within(out, start, pos))
     }
 
     ghost spells = { λ fit. seen_spells fit (weak false (sized T.Archived.shape)) T.Archived.knows (λ x. x.shared) _
+        (kept_spells fit (weak false (sized T.Archived.shape)) T.Archived.knows weak_resolver counted_resolver (elim [ None ↦ refl | Some r ↦ refl ]) _
         (weak_spells false T.Archived.shape fit T.Archived.knows _
         (kept_spells fit (shared false (sized T.Archived.shape)) T.Archived.knows _ _ (λ r. refl) _
-        (seen_value_spells fit false T.Archived.knows (λ x. x.key) T.Archived.shape T.spelling (T.spells fit) (λ x. x.value.value)))) };
+        (seen_value_spells fit false T.Archived.knows (λ x. x.key) T.Archived.shape T.spelling (T.spells fit) (λ x. x.value.value))))) };
 }
 
 impl<S: SharingExt, T: Serialize<S>> Serialize<S> for SharedWeak<Rc<T>> {
-    fn serialize(&self, serializer: &mut S) -> Result<Option<RcResolver>, Error> {
-        self.shared.serialize(serializer)
+    fn serialize(&self, serializer: &mut S) -> Result<RcWeakResolver, Error> {
+        ArchivedRcWeak::serialize_from_ref(&self.shared, serializer)
     }
 }

@@ -11,7 +11,7 @@ use std::test::Fail;
 fn sized_value_is_read_back(rt: HostRuntime) -> Result<(), Fail> {
     let alloc = rt.alloc();
     let there = checked::<ArchivedBox<ArchivedU32>>(alloc, b"\x05\0\0\0\xfc\xff\xff\xff", 4)?;
-    let value = <ArchivedU32 as DeserializeUnsized<Box<u32>, ()>>::deserialize_unsized(
+    let value = <ArchivedU32 as DeserializeUnsized<Box<u32>>>::deserialize_unsized(
         &there,
         alloc,
         &mut (),
@@ -25,10 +25,11 @@ fn slice_is_read_back(rt: HostRuntime) -> Result<(), Fail> {
     let alloc = rt.alloc();
     let bytes = b"\x01\0\x02\0\xfc\xff\xff\xff\x02\0\0\0";
     let there = checked::<ArchivedBoxedSlice<ArchivedU16>>(alloc, bytes, 4)?;
-    let items = <Slice<ArchivedU16> as DeserializeUnsized<
-        BoxedSlice<u16>,
-        (),
-    >>::deserialize_unsized(&there, alloc, &mut ())?;
+    let items = <Slice<ArchivedU16> as DeserializeUnsized<BoxedSlice<u16>>>::deserialize_unsized(
+        &there,
+        alloc,
+        &mut (),
+    )?;
     assert!(rt; is_archived_as(alloc, &items, bytes));
     Ok(())
 }
@@ -38,11 +39,7 @@ fn text_is_read_back(rt: HostRuntime) -> Result<(), Fail> {
     let alloc = rt.alloc();
     let bytes = b"hello\0\0\0\xf8\xff\xff\xff\x05\0\0\0";
     let there = checked::<ArchivedBoxedStr>(alloc, bytes, 8)?;
-    let text = <Str as DeserializeUnsized<BoxedStr, ()>>::deserialize_unsized(
-        &there,
-        alloc,
-        &mut (),
-    )?;
+    let text = <Str as DeserializeUnsized<BoxedStr>>::deserialize_unsized(&there, alloc, &mut ())?;
     assert!(rt; is_archived_as(alloc, &text, bytes));
     Ok(())
 }

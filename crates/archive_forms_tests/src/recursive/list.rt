@@ -155,7 +155,7 @@ impl Archive for List {
         out: Place<'_, ArchivedList>,
     ) -> Result<(), Error>
         requires { CanResolve list_spelling list_shape self.now resolver out.out.now out.start out.pos }
-        ensures { Resolves list_spelling self.now resolver out.entry.pos out.entry.start
+        ensures { Resolves list_spelling list_shape self.now resolver out.entry.pos out.entry.start
             out.entry.out.now out.exit.0.now result }
     {
         let Place {
@@ -231,11 +231,11 @@ impl<S: Writer + Allocator> Serialize<S> for List {
 /// Reads the list at `pos` back.
 #[cycle(read_list)]
 #[tactic(auto, unfolding(archive_shape_layout::specs::Bytes::align_up))]
-fn deserialize_list<D>(
+fn deserialize_list(
     bytes: &[u8],
     pos: usize,
     alloc: Global,
-    deserializer: &mut D,
+    deserializer: &mut (),
 ) -> Result<List, Error>
     requires { HasValue list_shape KnowsList bytes.now pos }
     ensures { Deserializes (reads_as list_spelling) list_shape KnowsList bytes.now pos result }
@@ -245,10 +245,10 @@ fn deserialize_list<D>(
         pos,
         of: PhantomData,
     };
-    let next = deserialize_option_each::<Box<List>, ArchivedBox<ArchivedList>, D, _>(
+    let next = deserialize_option_each::<Box<List>, ArchivedBox<ArchivedList>, (), _>(
         this,
         deserializer,
-        |d: &mut D, p: usize| -> Result<(Box<List>, PhantomData<ArchivedBox<ArchivedList>>), Error>
+        |d: &mut (), p: usize| -> Result<(Box<List>, PhantomData<ArchivedBox<ArchivedList>>), Error>
             requires ends { p + 4 ≤ pos + 8 }
             requires there { HasValue (box (sized list_shape)) KnowsList bytes.now p }
             ensures { DeserializesBy (reads_in (λ b. b.value) (reads_as list_spelling))
@@ -269,11 +269,11 @@ fn deserialize_list<D>(
 
 /// Reads the box of a list at `pos` back.
 #[cycle(read_list)]
-fn deserialize_boxed<D>(
+fn deserialize_boxed(
     bytes: &[u8],
     pos: usize,
     alloc: Global,
-    deserializer: &mut D,
+    deserializer: &mut (),
 ) -> Result<Box<List>, Error>
     requires { HasValue (box (sized list_shape)) KnowsList bytes.now pos }
     ensures { Deserializes (reads_in (λ b. b.value) (reads_as list_spelling))
@@ -284,11 +284,11 @@ fn deserialize_boxed<D>(
         pos,
         of: PhantomData,
     };
-    deserialize_box_each::<List, ArchivedList, D, _>(
+    deserialize_box_each::<List, ArchivedList, (), _>(
         this,
         alloc,
         deserializer,
-        |d: &mut D, p: usize| -> Result<(List, PhantomData<ArchivedList>), Error>
+        |d: &mut (), p: usize| -> Result<(List, PhantomData<ArchivedList>), Error>
             requires ends { p + 8 ≤ pos }
             requires there { HasValue list_shape KnowsList bytes.now p }
             ensures { DeserializesBy (reads_as list_spelling) list_shape KnowsList bytes.entry.now p
@@ -307,11 +307,13 @@ impl ReadBack<List> for ArchivedList {
     ghost reads = { reads_as list_spelling };
 }
 
-impl<D> Deserialize<List, D> for ArchivedList {
+impl Deserialize<List> for ArchivedList {
+    type Pool = ();
+
     fn deserialize(
         this: &Ref<'_, ArchivedList>,
         alloc: Global,
-        deserializer: &mut D,
+        deserializer: &mut (),
     ) -> Result<List, Error> {
         deserialize_list(this.bytes, this.pos, alloc, deserializer)
     }

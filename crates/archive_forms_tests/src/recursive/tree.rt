@@ -116,7 +116,7 @@ impl Archive for Tree {
 
     fn resolve(&self, resolver: VecResolver, out: Place<'_, ArchivedTree>) -> Result<(), Error>
         requires { CanResolve tree_spelling tree_shape self.now resolver out.out.now out.start out.pos }
-        ensures { Resolves tree_spelling self.now resolver out.entry.pos out.entry.start
+        ensures { Resolves tree_spelling tree_shape self.now resolver out.entry.pos out.entry.start
             out.entry.out.now out.exit.0.now result }
     {
         let Place {
@@ -182,11 +182,11 @@ impl<S: Writer + Allocator> Serialize<S> for Tree {
 }
 
 /// Reads the tree at `pos` back.
-fn deserialize_tree<D>(
+fn deserialize_tree(
     bytes: &[u8],
     pos: usize,
     alloc: Global,
-    deserializer: &mut D,
+    deserializer: &mut (),
 ) -> Result<Tree, Error>
     requires { HasValue tree_shape KnowsTree bytes.now pos }
     ensures { Deserializes (reads_as tree_spelling) tree_shape KnowsTree bytes.now pos result }
@@ -196,11 +196,11 @@ fn deserialize_tree<D>(
         pos,
         of: PhantomData,
     };
-    let branches = deserialize_vec_each::<Tree, ArchivedTree, D, _>(
+    let branches = deserialize_vec_each::<Tree, ArchivedTree, (), _>(
         this,
         alloc,
         deserializer,
-        |d: &mut D, p: usize| -> Result<(Tree, PhantomData<ArchivedTree>), Error>
+        |d: &mut (), p: usize| -> Result<(Tree, PhantomData<ArchivedTree>), Error>
             requires ends { p + 8 ≤ pos }
             requires there { HasValue tree_shape KnowsTree bytes.now p }
             ensures { DeserializesBy (reads_as tree_spelling) tree_shape KnowsTree bytes.entry.now p
@@ -223,11 +223,13 @@ impl ReadBack<Tree> for ArchivedTree {
     ghost reads = { reads_as tree_spelling };
 }
 
-impl<D> Deserialize<Tree, D> for ArchivedTree {
+impl Deserialize<Tree> for ArchivedTree {
+    type Pool = ();
+
     fn deserialize(
         this: &Ref<'_, ArchivedTree>,
         alloc: Global,
-        deserializer: &mut D,
+        deserializer: &mut (),
     ) -> Result<Tree, Error> {
         deserialize_tree(this.bytes, this.pos, alloc, deserializer)
     }

@@ -1,14 +1,15 @@
 //! `ArchivedBoxedStr`, a pointer to the bytes of a text: its layout, its check and the methods that read it.
-ghost use Rattle.std.specs.Prelude.{◌≡◌, ℕ, [], refl, ⊤};
+ghost use Rattle.std.specs.Prelude.{◌≡◌, ℕ, length, [], refl, ⊤};
 ghost use Rattle.std.proofs.Common.{lit<, lit≤};
 ghost use Rattle.archive_shape_layout.specs.Bytes.{window};
 ghost use Rattle.archive_shape_layout.specs.Shape.Shape.{box};
 ghost use Rattle.archive_shape_layout.specs.Shape.Pointee.{str};
+ghost use Rattle.archive_shape.specs.Bytes.{overwrite};
 ghost use Rattle.archive_forms_values.specs.Parts.{HasValue};
 ghost use Rattle.archive_forms_values.specs.Boxes.{IsBoxedStrAt};
 
 use crate::reading::target_of;
-use crate::text::check_behind;
+use crate::text::{check_behind, write_at};
 use archive_shape::{
     ArchiveContext, ArchivedIsize, CheckBytes, Error, NoUndef, Pointee, Portable, Ref, RelPtr,
     Seal, Shape, Str,
@@ -94,5 +95,17 @@ impl ArchivedBoxedStr {
         let Seal { bytes, pos, .. } = this;
         let (start, _) = text_at(bytes, pos);
         Seal::new(bytes, start)
+    }
+
+    /// Writes a text over the present one, and consumes the seal. It has as many bytes as the present one.
+    pub fn write_text(this: Seal<'_, ArchivedBoxedStr>, text: &str)
+        requires there { HasValue (box str) (λ _. ⊤) this.bytes.now this.pos }
+        requires same_length { (to : ℕ) × IsBoxedStrAt this.bytes.now this.pos to (length text.now) }
+        ensures { (to : ℕ) × IsBoxedStrAt this.entry.bytes.now this.entry.pos to (length text.now)
+            × (this.exit.0.now ≡ overwrite this.entry.bytes.now to text.now) }
+    {
+        let Seal { bytes, pos, .. } = this;
+        let (start, _) = text_at(bytes, pos);
+        write_at(bytes, start, text);
     }
 }

@@ -1,12 +1,16 @@
 //! `ArchivedString`: its layout and the methods that read it.
-ghost use Rattle.std.specs.Prelude.{◌≡◌, ◌↔◌, List, ℕ, length, [], IsTrue, refl, ⊤};
+ghost use Rattle.std.specs.Prelude.{◌≡◌, ◌+◌, ◌≤◌, ◌↔◌, List, ℕ, length, slice_index, [], IsTrue, MatchResult, refl, ⊤};
 ghost use Rattle.std.proofs.Common.{lit<, lit≤};
 ghost use Rattle.archive_shape_layout.specs.Shape.Shape.{text};
-ghost use Rattle.archive_forms_laws.specs.Text.{HasText, IsText, LiesAt};
+ghost use Rattle.archive_shape_layout.specs.Content.{IsInline};
+ghost use Rattle.archive_shape.specs.Bytes.{overwrite};
+ghost use Rattle.archive_shape_writing.specs.declared.error.Error.TheVariants.{InvalidSubtreePointer};
+ghost use Rattle.archive_forms_laws.specs.Text.{HasText, IsText, HasLength, LiesAt};
+ghost use Rattle.archive_forms_values.specs.Repr.{length_of};
 
 use crate::text::ArchivedStringRepr;
 use crate::text::repr::{out_of_line_start, own_bytes};
-use archive_shape::{NoUndef, Portable, Ref, Seal, Shape, Str};
+use archive_shape::{Error, NoUndef, OwnSeal, Portable, Ref, Seal, Shape, Str};
 use std::alloc::{AllocError, Global};
 
 /// An archived text of eight own bytes: the text itself if it has at most eight bytes, and otherwise its length and the
@@ -56,6 +60,15 @@ fn start_of(bytes: &[u8], pos: usize) -> usize
     out_of_line_start(own, pos).unwrap()
 }
 
+/// Writes the bytes of a text at `start`.
+pub(crate) fn write_at(bytes: &mut [u8], start: usize, text: &str)
+    requires { start + length text.now ≤ length bytes.old }
+    ensures { bytes.new ≡ overwrite bytes.old start text.now }
+{
+    let end = start + text.len();
+    bytes[start..end].copy_from_slice(text.as_bytes());
+}
+
 impl ArchivedString {
     /// Returns the position of the text's bytes.
     pub fn start_of(this: Ref<'_, ArchivedString>) -> usize
@@ -95,10 +108,44 @@ impl ArchivedString {
         Seal::new(bytes, start)
     }
 
+    /// Writes a text over the present one, inline or out of line, and consumes the seal. It has as many bytes as the
+    /// present one.
+    pub fn write_text(this: Seal<'_, ArchivedString>, text: &str)
+        requires { HasLength this.bytes.now this.pos (length text.now) }
+        ensures { (start : ℕ) × LiesAt this.entry.bytes.now this.entry.pos start (length text.now)
+            × (this.exit.0.now ≡ overwrite this.entry.bytes.now start text.now) }
+    {
+        let Seal { bytes, pos, .. } = this;
+        let start = start_of(bytes, pos);
+        write_at(bytes, start, text);
+    }
+
+    /// Writes a text over the present one in its own bytes, where it is inline. It has as many bytes as the present
+    /// one, which `ArchivedStringRepr::len` returns. The seal can be used again.
+    ///
+    /// Returns `InvalidSubtreePointer` with the number of the text's bytes if these are out of line, where the seal has
+    /// no access to them.
+    pub fn put_text(this: &mut OwnSeal<'_, ArchivedString>, text: &str) -> Result<(), Error>
+        requires eight { length this.old.own.now ≡ 8 }
+        requires same_length { length_of this.old.own.now ≡ length text.now }
+        ensures same_reference { this.new.own.ghost_name ≡ this.old.own.ghost_name }
+        ensures pos { this.new.pos ≡ this.old.pos }
+        ensures contents { MatchResult result
+            (λ _. IsInline (slice_index this.old.own.now 0) × (this.new.own.now ≡ overwrite this.old.own.now 0 text.now))
+            (λ e. (e ≡ InvalidSubtreePointer (length text.now)) × ((IsInline (slice_index this.old.own.now 0) → ⊥) × (this.new.own.now ≡ this.old.own.now))) }
+    {
+        let size = text.len();
+        if !ArchivedStringRepr::is_inline(this.as_ref().bytes) {
+            return Err(Error::InvalidSubtreePointer { size });
+        }
+        write_at(this.own, 0, text);
+        Ok(())
+    }
+
     /// Returns the length of the text in bytes.
     pub fn len(this: Ref<'_, ArchivedString>) -> usize
         requires { HasText this.bytes.now this.pos }
-        ensures { (t : List ℕ) × IsText this.entry.bytes.now this.entry.pos t × (result ≡ length t) }
+        ensures { HasLength this.entry.bytes.now this.entry.pos result }
     {
         ArchivedStringRepr::len(own_bytes(this.bytes, this.pos))
     }

@@ -6,8 +6,8 @@ ghost use Rattle.archive_hash_walking.specs.Tables.{Buckets};
 ghost use Rattle.archive_hash_walking.specs.Maps.{IsThere, IsMap, HasMap, HashesTo, KeySays, HasKey, LooksUpKey, value_at, entry_at};
 
 use crate::map::ArchivedHashMap;
-use archive_hash_walking::{search_key, value_position};
-use archive_shape::{ArchivedKey, Portable, Ref};
+use archive_hash_walking::{HashedKey, search_key, value_position};
+use archive_shape::{Portable, Ref};
 use std::hash::{Hash, Hasher};
 
 impl<K, V: Portable, H: Hasher + Default + Drop> ArchivedHashMap<K, V, H> {
@@ -17,7 +17,7 @@ impl<K, V: Portable, H: Hasher + Default + Drop> ArchivedHashMap<K, V, H> {
         query: &Q,
     ) -> Option<(Ref<'a, K>, Ref<'a, V>)>
     where
-        K: ArchivedKey<Q>,
+        K: HashedKey<Q>,
         requires has { HasMap K.shape V.shape K.knows V.knows this }
         ensures there { IfSome result (IsThere K.shape V.shape K.knows V.knows) }
         ensures answers { (b : Buckets) → IsMap K.shape V.shape this.entry b
@@ -39,7 +39,7 @@ impl<K, V: Portable, H: Hasher + Default + Drop> ArchivedHashMap<K, V, H> {
         query: &Q,
     ) -> Option<Ref<'a, V>>
     where
-        K: ArchivedKey<Q>,
+        K: HashedKey<Q>,
         requires has { HasMap K.shape V.shape K.knows V.knows this }
         ensures there { IfSome result (λ r. HasValue V.shape V.knows r.bytes.now r.pos) }
         ensures answers { (b : Buckets) → IsMap K.shape V.shape this.entry b
@@ -55,7 +55,7 @@ impl<K, V: Portable, H: Hasher + Default + Drop> ArchivedHashMap<K, V, H> {
     /// Returns whether the map has a key.
     pub fn contains_key<Q: Hash>(this: Ref<'_, ArchivedHashMap<K, V, H>>, query: &Q) -> bool
     where
-        K: ArchivedKey<Q>,
+        K: HashedKey<Q>,
         requires has { HasMap K.shape V.shape K.knows V.knows this }
         ensures answers { (b : Buckets) → IsMap K.shape V.shape this.entry b
             → (found : Option ℕ) × (result ≡ is_some found)
@@ -66,7 +66,7 @@ impl<K, V: Portable, H: Hasher + Default + Drop> ArchivedHashMap<K, V, H> {
     /// Returns the value of a key that the map has.
     pub fn index<'a, Q: Hash>(this: Ref<'a, ArchivedHashMap<K, V, H>>, query: &Q) -> Ref<'a, V>
     where
-        K: ArchivedKey<Q>,
+        K: HashedKey<Q>,
         requires has { HasMap K.shape V.shape K.knows V.knows this }
         requires present { HasKey (HashesTo H.is_default H.write H.finish (Q.hash_input query.now))
             K.key_of K.order this.bytes.now K.shape V.shape this.pos query.now }

@@ -10,12 +10,13 @@ ghost use Rattle.archive_forms_values.specs.Fields.{field_position};
 ghost use Rattle.archive_hash_walking.specs.Tables.{Buckets, IsTableAt};
 ghost use Rattle.archive_hash_walking.specs.Places.{Answers, calls, item_at};
 ghost use Rattle.archive_hash_walking.specs.Maps.{HashesTo, KeySays, LooksUpKey, query_calls, key_at};
-ghost use Rattle.archive_hash_walking.specs.Seals.{IsLent};
+ghost use Rattle.archive_forms_values.specs.Loans.{IsLent};
 
 use crate::map::{ArchivedHashMap, ArchivedHashTable};
+use archive_forms_values::lend_entry;
 use archive_hash_probing::Group;
-use archive_hash_walking::{lend_entry, search_key, search_table, search_with, value_position};
-use archive_shape::{ArchivedKey, OwnSeal, Portable, Ref, Seal};
+use archive_hash_walking::{HashedKey, search_key, search_table, search_with, value_position};
+use archive_shape::{OwnSeal, Portable, Ref, Seal};
 use std::hash::{Hash, Hasher};
 
 impl<T: Portable> ArchivedHashTable<T> {
@@ -56,7 +57,7 @@ impl<K, V: Portable, H: Hasher + Default + Drop> ArchivedHashMap<K, V, H> {
         query: &Q,
     ) -> Option<Seal<'a, V>>
     where
-        K: ArchivedKey<Q>,
+        K: HashedKey<Q>,
         requires has { HasValue (table (tuple2 K.shape V.shape)) (both K.knows V.knows)
             this.bytes.now this.pos }
         ensures whole { IfSome result (λ r. (r.bytes.ghost_name ≡ this.entry.bytes.ghost_name)
@@ -84,7 +85,7 @@ impl<K, V: Portable, H: Hasher + Default + Drop> ArchivedHashMap<K, V, H> {
         query: &Q,
     ) -> Option<(Ref<'a, K>, OwnSeal<'a, V>)>
     where
-        K: ArchivedKey<Q>,
+        K: HashedKey<Q>,
         requires has { HasValue (table (tuple2 K.shape V.shape)) (both K.knows V.knows)
             this.bytes.now this.pos }
         ensures there { IfSome result (λ r. HasValue K.shape K.knows r.0.bytes.now r.0.pos) }

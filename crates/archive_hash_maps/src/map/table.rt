@@ -1,7 +1,11 @@
 //! The type of archived hash tables, its layout and its length.
-ghost use Rattle.std.specs.Prelude.{◌≡◌, ◌↔◌, [], length, IsTrue};
+ghost use Rattle.std.specs.Prelude.{◌≡◌, ◌+◌, ◌≤◌, ◌↔◌, [], length, IsTrue};
 ghost use Rattle.std.proofs.Common.{refl, lit<, lit≤};
 ghost use Rattle.archive_shape_layout.specs.Shape.Shape.{table};
+ghost use Rattle.archive_shape_layout.specs.Content.{Names};
+ghost use Rattle.archive_shape_layout.specs.Content.Part.{at};
+ghost use Rattle.archive_shape.specs.Kept.{IsWithin};
+ghost use Rattle.archive_shape.specs.Checks.{Checks, Moves};
 ghost use Rattle.archive_hash_walking.specs.Tables.{IsTable, HasTable, Buckets, full_places};
 
 use archive_hash_checking::check_table_each;
@@ -49,9 +53,32 @@ impl<T: Portable> Portable for ArchivedHashTable<T> {
 
 impl<C: ArchiveContext, T: CheckBytes<C>> CheckBytes<C> for ArchivedHashTable<T> {
     fn check(alloc: Global, bytes: &[u8], pos: usize, context: &mut C) -> Result<(), Error> {
+        let this: Ref<'_, ArchivedHashTable<T>> = Ref::new(bytes, pos);
+        ArchivedHashTable::verify(this, alloc, context)
+    }
+}
+
+impl<T> ArchivedHashTable<T> {
+    /// Checks what the own bytes of the table lead to, of which any are legal: its buckets, controls and items. It is
+    /// all of the table's check, with the errors of [`check_table_each`], where the step is the check of an item. If
+    /// there are no items, nothing is checked.
+    pub fn verify<C: ArchiveContext>(
+        this: Ref<'_, ArchivedHashTable<T>>,
+        alloc: Global,
+        context: &mut C,
+    ) -> Result<(), Error>
+    where
+        T: CheckBytes<C>,
+        requires fits { this.pos + 12 ≤ length this.bytes.now }
+        requires range { IsWithin (C.kept context.old) (length this.bytes.now) }
+        ensures moves { Moves (C.kept context.old) result (C.kept context.new) }
+        ensures exact { (names : Names) → T.knows names
+            → Checks names this.entry.bytes.now (at this.entry.pos (table T.shape)) (C.kept context.old) result (C.kept context.new) }
+    {
+        let bytes = this.bytes;
         check_table_each::<T, C, _>(
             bytes,
-            pos,
+            this.pos,
             context,
             |c: &mut C, p: usize| T::check(alloc, bytes, p, c),
         )

@@ -11,14 +11,15 @@ ghost use Rattle.archive_hash_maps.specs.Sets.{IsSet, HasSet};
 use crate::map::ArchivedHashMap;
 use crate::set::ArchivedHashSet;
 use crate::set::set::as_map;
-use archive_shape::{ArchivedKey, Ref};
+use archive_hash_walking::HashedKey;
+use archive_shape::Ref;
 use std::hash::{Hash, Hasher};
 
 impl<K, H: Hasher + Default + Drop> ArchivedHashSet<K, H> {
     /// Returns the archived key that is equal to the query, if the set has one.
     pub fn get<'a, Q: Hash>(this: Ref<'a, ArchivedHashSet<K, H>>, query: &Q) -> Option<Ref<'a, K>>
     where
-        K: ArchivedKey<Q>,
+        K: HashedKey<Q>,
         requires has { HasSet K.shape K.knows this.bytes.now this.pos }
         ensures there { IfSome result (λ r. HasValue K.shape K.knows r.bytes.now r.pos) }
         ensures answers { (b : Buckets) → IsSet K.shape this.entry b
@@ -34,7 +35,7 @@ impl<K, H: Hasher + Default + Drop> ArchivedHashSet<K, H> {
     /// Returns whether the set has a key.
     pub fn contains<Q: Hash>(this: Ref<'_, ArchivedHashSet<K, H>>, query: &Q) -> bool
     where
-        K: ArchivedKey<Q>,
+        K: HashedKey<Q>,
         requires has { HasSet K.shape K.knows this.bytes.now this.pos }
         ensures answers { (b : Buckets) → IsSet K.shape this.entry b
             → (found : Option ℕ) × (result ≡ is_some found)

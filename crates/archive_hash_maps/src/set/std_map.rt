@@ -5,13 +5,14 @@ ghost use Rattle.archive_hash_walking.specs.Maps.{IsMap, HasMap, HashesTo};
 ghost use Rattle.archive_hash_maps.specs.StdMaps.{LeadsTo};
 
 use crate::map::ArchivedHashMap;
+use archive_hash_walking::HashedKey;
 use archive_shape::{ArchivedKey, Ref};
 use std::alloc::Allocator;
 use std::collections::HashMap;
 use std::hash::{BuildHasher, Hash, Hasher};
 
 /// Returns whether the map has a key, and the key's value is the same as `value`.
-fn leads_to<Q: Hash, W, K: ArchivedKey<Q>, V: ArchivedKey<W>, H: Hasher + Default + Drop>(
+fn leads_to<Q: Hash, W, K: HashedKey<Q>, V: ArchivedKey<W>, H: Hasher + Default + Drop>(
     this: Ref<'_, ArchivedHashMap<K, V, H>>,
     key: &Q,
     value: &W,
@@ -31,7 +32,7 @@ fn leads_to<Q: Hash, W, K: ArchivedKey<Q>, V: ArchivedKey<W>, H: Hasher + Defaul
 pub fn eq_hash_map<
     Q: Eq + Hash,
     W,
-    K: ArchivedKey<Q>,
+    K: HashedKey<Q>,
     V: ArchivedKey<W>,
     H: Hasher + Default + Drop,
     S: BuildHasher,

@@ -6,7 +6,8 @@ ghost use Rattle.archive_hash_maps.specs.Sets.{IsSet, HasSet};
 ghost use Rattle.archive_hash_maps.specs.StdMaps.{IsSaid};
 
 use crate::set::ArchivedHashSet;
-use archive_shape::{ArchivedKey, Ref};
+use archive_hash_walking::HashedKey;
+use archive_shape::Ref;
 use std::alloc::Allocator;
 use std::collections::HashSet;
 use std::hash::{BuildHasher, Hash, Hasher};
@@ -15,7 +16,7 @@ use std::hash::{BuildHasher, Hash, Hasher};
 /// archived one has each key of the set of std.
 pub fn eq_hash_set<
     Q: Eq + Hash,
-    K: ArchivedKey<Q>,
+    K: HashedKey<Q>,
     H: Hasher + Default + Drop,
     S: BuildHasher,
     A: Allocator,

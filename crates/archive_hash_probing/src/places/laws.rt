@@ -1,7 +1,7 @@
 //! Laws of look-ups and strides. Each function below has no body: its contract is the law.
 ghost use Rattle.std.specs.Prelude.{◌≡◌, ℕ, ◌+◌, ◌^◌, ◌<◌, ◌≤◌, ◌==◌, true, false, not, [], length, slice_index, Some, None};
 ghost use Rattle.std.specs.List.{list_any, prefix_len};
-ghost use Rattle.archive_shape_canonical.specs.FirstFit.{fitted_from, hash_tag, written_controls};
+ghost use Rattle.archive_shape_canonical.specs.FirstFit.{fitted_from, written_controls};
 ghost use Rattle.archive_shape_canonical.specs.Strides.{places_for, sixteens, strides};
 ghost use Rattle.archive_shape_canonical.specs.Reach.{searched};
 ghost use Rattle.archive_hash_probing.specs.Controls.{AreControls};
@@ -47,8 +47,7 @@ pub fn find_in_written<F: Fn(usize) -> bool>(
         → found.place ≡ None }
 {}
 
-/// If only items under the hash's tag are accepted, there is one result, with one number of strides: scans of every
-/// width return the same.
+/// There is one result, with one number of strides: scans of every width return the same.
 pub fn one_answer<F: Fn(usize) -> bool>(
     controls: &[u8],
     capacity: usize,
@@ -61,15 +60,12 @@ pub fn one_answer<F: Fn(usize) -> bool>(
     requires controls { AreControls controls.now capacity }
     requires never { (place : ℕ) → place < capacity → slice_index controls.now place < 128
         → F.post accepts.now place true → F.post accepts.now place false → ⊥ }
-    requires tagged { (place : ℕ) → place < capacity → slice_index controls.now place < 128
-        → F.post accepts.now place true → slice_index controls.now place ≡ hash_tag hash }
     requires one { IsLookup (F.post accepts.now) controls.now capacity hash one.place one.strides }
     requires other { IsLookup (F.post accepts.now) controls.now capacity hash other.place other.strides }
     ensures { one ≡ other }
 {}
 
-/// An item whose control is the tag of its hash is found in the first stride that shows its place. The number of
-/// strides is counted up to that stride.
+/// An item is found in the first stride that shows its place. The number of strides is counted up to that stride.
 pub fn counts_to_the_place<F: Fn(usize) -> bool>(
     controls: &[u8],
     capacity: usize,
@@ -81,7 +77,6 @@ pub fn counts_to_the_place<F: Fn(usize) -> bool>(
     requires some { 0 < capacity }
     requires controls { AreControls controls.now capacity }
     requires found { IsLookup (F.post accepts.now) controls.now capacity hash (Some place) count }
-    requires tag { slice_index controls.now place ≡ hash_tag hash }
     requires never { F.post accepts.now place true → F.post accepts.now place false → ⊥ }
     ensures { count ≡ prefix_len (λ p. not (shows capacity place p))
         (searched controls.now (strides hash capacity)) + 1 }

@@ -43,7 +43,8 @@ fn shows_empty<S: Scan>(controls: &[u8], position: usize) -> bool
     stride_empties::<S>(controls, position).any_bit_set()
 }
 
-/// Returns the first accepted item of a stride among those that are marked in the search for the tag.
+/// Returns the first accepted item of a stride among those that have the tag. A scan may mark another control above one
+/// that is the tag, so each marked control is compared with the tag.
 fn find_in_stride<S: Scan, F: Fn(usize) -> bool>(
     controls: &[u8],
     capacity: usize,
@@ -65,9 +66,11 @@ fn find_in_stride<S: Scan, F: Fn(usize) -> bool>(
 {
     let mut marks = stride_matches::<S>(controls, position, tag);
     while let Some(lane) = marks.lowest_set_bit() {
-        let place = place_of(position + lane, capacity);
-        if accepts(place) {
-            return Some(place);
+        if controls[position + lane] == tag {
+            let place = place_of(position + lane, capacity);
+            if accepts(place) {
+                return Some(place);
+            }
         }
         marks = marks.remove_lowest_bit();
     }
@@ -75,7 +78,7 @@ fn find_in_stride<S: Scan, F: Fn(usize) -> bool>(
 }
 
 /// Looks up an item of a hash in the controls of a table. `accepts` returns whether the item at a place is the one to
-/// be found. It is called for the items under the hash's tag, and for a few others, until it returns `true`.
+/// be found. It is called for the items under the hash's tag alone, until it returns `true`.
 pub fn find<S: Scan, F: Fn(usize) -> bool>(
     controls: &[u8],
     capacity: usize,

@@ -1,5 +1,5 @@
 //! Marks of lanes, as the bits of a mask.
-ghost use Rattle.std.specs.Prelude.{◌≡◌, ◌↔◌, ◌^◌, ◌<◌, ◌≤◌, Bool, List, length, position, IsTrue};
+ghost use Rattle.std.specs.Prelude.{◌≡◌, ◌↔◌, ◌^◌, ◌<◌, ◌≤◌, Bool, List, [], length, position, IsTrue};
 ghost use Rattle.std.specs.Iterator.{YieldsFirst, item_count};
 ghost use Rattle.std.specs.Simd.Lanes.{mask_l};
 ghost use Rattle.archive_hash_probing.specs.Marks.{without_first, lanes_marked};
@@ -48,6 +48,15 @@ impl Bitmask {
         Bitmask {
             bits: self.bits & self.bits.wrapping_sub(1),
         }
+    }
+}
+
+/// The default is `EMPTY`, which has no marked lane.
+impl Default for Bitmask {
+    ghost is_default = { λ mask. lanes_marked mask.bits ≡ [] };
+
+    fn default() -> Bitmask {
+        Bitmask::EMPTY
     }
 }
 

@@ -1,5 +1,5 @@
 //! The contexts that checks are made in.
-ghost use Rattle.std.specs.Prelude.{◌≡◌, ◌≢◌, ℕ, ◌+◌, ◌%◌, ◌<◌, ◌≤◌, ◌++◌, ◌∷◌, [], List, length, Result, Ok, Err, MatchResult, Some, None};
+ghost use Rattle.std.specs.Prelude.{◌≡◌, ◌≢◌, ℕ, ◌+◌, ◌%◌, ◌<◌, ◌≤◌, ◌++◌, ◌∷◌, [], List, length, Result, Ok, Err, MatchResult, IfErr, Some, None};
 ghost use Rattle.archive_shape_layout.specs.RuntimeShape.{pointee_of};
 ghost use Rattle.archive_shape.specs.Range.{InRange};
 ghost use Rattle.archive_shape.specs.Questions.{out_of_range};
@@ -28,7 +28,8 @@ pub enum ValidationState {
     Finished,
 }
 
-/// A context of checks, which keeps the range of bytes that may still be claimed. It is not used again after an error.
+/// A context of checks, which keeps the range of bytes that may still be claimed. After an error of one of its calls it
+/// keeps what it kept before the call.
 pub trait ArchiveContext {
     ghost kept: { Self → Kept };
 
@@ -47,14 +48,16 @@ pub trait ArchiveContext {
         ensures { MatchResult result
             (λ r. (r ≡ record { pos = pos; end = end; outer = (kept self.old).end })
             × (length (kept self.old).pushes < (kept self.old).most) × (kept self.new ≡ pushed (kept self.old) r))
-            (λ e. e ≢ Error.OutOfMemory → ((kept self.old).most ≤ length (kept self.old).pushes) × (e ≡ Error.ExceededMaximumSubtreeDepth)) };
+            (λ e. (e ≢ Error.OutOfMemory → ((kept self.old).most ≤ length (kept self.old).pushes) × (e ≡ Error.ExceededMaximumSubtreeDepth))
+            × (kept self.new ≡ kept self.old)) };
 
     /// Ends the last open push, which must be `range`, and starts the range again after its region. Returns
     /// `RangePoppedTooManyTimes` where no push is open, and `RangePoppedOutOfOrder` where another push is the last.
     fn pop_subtree_range(&mut self, range: PushedRange) -> Result<(), Error>
         ensures none { (kept self.old).pushes ≡ [] → result ≡ Err Error.RangePoppedTooManyTimes }
         ensures other { (rest : List PushedRange) (last : PushedRange) → (kept self.old).pushes ≡ rest ++ last ∷ [] → last ≢ range → result ≡ Err Error.RangePoppedOutOfOrder }
-        ensures last { (rest : List PushedRange) → (kept self.old).pushes ≡ rest ++ range ∷ [] → (result ≡ Ok tt) × (kept self.new ≡ popped (kept self.old) range rest) };
+        ensures last { (rest : List PushedRange) → (kept self.old).pushes ≡ rest ++ range ∷ [] → (result ≡ Ok tt) × (kept self.new ≡ popped (kept self.old) range rest) }
+        ensures refused { IfErr result (λ _. kept self.new ≡ kept self.old) };
 }
 
 /// A context that also keeps the shared positions that were seen.
@@ -70,7 +73,8 @@ pub trait SharedContext: ArchiveContext {
     ) -> Result<ValidationState, Error>
         ensures { MatchResult result
             (StartsShared (Self.kept self.old) pos (pointee_of pointee) len (Self.kept self.new))
-            (λ e. e ≢ Error.OutOfMemory → RefusesShared (Self.kept self.old) pos (pointee_of pointee) len e) };
+            (λ e. (e ≢ Error.OutOfMemory → RefusesShared (Self.kept self.old) pos (pointee_of pointee) len e)
+            × (Self.kept self.new ≡ Self.kept self.old)) };
 
     /// Ends the check of a shared position. Allocates nothing. Returns `NotStarted` where the check has not begun, and
     /// `AlreadyFinished` where it has ended.

@@ -14,8 +14,8 @@ pub fn sealed_leaf()
     ensures { SealedLeaf }
 {}
 
-/// Where a text is a part of a root, inline or out of line, writing another text of the same length there, as
-/// `Seal::write_text` does, changes only that leaf of the root's value.
+/// Where a text is a part of a root, inline or out of line, writing another text of the same length there, as a seal of
+/// the text does, changes only that leaf of the root's value.
 pub fn sealed_text()
     ensures { SealedText }
 {}

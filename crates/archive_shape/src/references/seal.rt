@@ -3,7 +3,7 @@ ghost use Rattle.std.specs.Prelude.{◌≡◌, ◌+◌, ◌≤◌, length};
 ghost use Rattle.archive_shape.specs.Bytes.{overwrite};
 ghost use Rattle.archive_shape_layout.specs.Numbers.{Reads};
 
-use crate::references::{Ref, Str};
+use crate::references::Ref;
 use crate::types::ArchivedLeaf;
 use std::marker::PhantomData;
 
@@ -78,29 +78,5 @@ impl<'a, T: ArchivedLeaf> Seal<'a, T> {
         let pos = self.pos;
         let end = pos + T::SIZE;
         T::store(native, &mut self.bytes[pos..end]);
-    }
-}
-
-impl<'a> Seal<'a, Str> {
-    /// Writes a text of the same length over the present one, and consumes the seal.
-    pub fn write_text(self, text: &str)
-        requires { self.pos + length text.now ≤ length self.bytes.now }
-        ensures { self.exit.0.now ≡ overwrite self.entry.bytes.now self.entry.pos text.now }
-    {
-        let Seal { bytes, pos, .. } = self;
-        let end = pos + text.len();
-        bytes[pos..end].copy_from_slice(text.as_bytes());
-    }
-
-    /// Writes a text of the same length over the present one. The seal can be used again.
-    pub fn put_text(&mut self, text: &str)
-        requires { self.old.pos + length text.now ≤ length self.old.bytes.now }
-        ensures same_reference { self.new.bytes.ghost_name ≡ self.old.bytes.ghost_name }
-        ensures pos { self.new.pos ≡ self.old.pos }
-        ensures contents { self.new.bytes.now ≡ overwrite self.old.bytes.now self.old.pos text.now }
-    {
-        let pos = self.pos;
-        let end = pos + text.len();
-        self.bytes[pos..end].copy_from_slice(text.as_bytes());
     }
 }

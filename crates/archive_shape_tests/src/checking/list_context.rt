@@ -96,18 +96,21 @@ impl ArchiveContext for ListContext {
             end,
             outer: self.end,
         };
-        self.pushes.push(range)?;
+        if self.pushes.push(range).is_err() {
+            return Err(Error::OutOfMemory);
+        }
         self.end = pos;
         Ok(range)
     }
 
     fn pop_subtree_range(&mut self, range: PushedRange) -> Result<(), Error> {
-        let Some(last) = self.pushes.pop() else {
+        let Some(last) = self.pushes.last() else {
             return Err(Error::RangePoppedTooManyTimes);
         };
-        if last != range {
+        if *last != range {
             return Err(Error::RangePoppedOutOfOrder);
         }
+        self.pushes.pop();
         self.start = range.end;
         self.end = range.outer;
         Ok(())
@@ -123,12 +126,16 @@ impl SharedContext for ListContext {
     ) -> Result<ValidationState, Error> {
         let place = self.place_of(pos);
         if place == self.met.len() {
-            self.met.push(Met {
+            let met = Met {
                 pos,
                 pointee,
                 len,
                 done: false,
-            })?;
+            };
+            match self.met.push(met) {
+                Ok(()) => {}
+                Err(_) => return Err(Error::OutOfMemory),
+            }
             return Ok(ValidationState::Started);
         }
         let met = &self.met[place];

@@ -3,7 +3,7 @@ ghost use Rattle.std.specs.Prelude.{◌≡◌, ◌+◌, ◌≤◌, length};
 ghost use Rattle.std.specs.Int.{w64, to_le_bytes, cast_unsigned};
 ghost use Rattle.archive_shape.specs.Bytes.{overwrite};
 
-use archive_shape::{ArchivedI32, ArchivedI64, ArchivedU16, ArchivedU32, Seal, Str};
+use archive_shape::{ArchivedI32, ArchivedI64, ArchivedU16, ArchivedU32, Seal};
 use std::test::Fail;
 
 // A caller that seals a number in a buffer knows the whole buffer afterwards.
@@ -34,16 +34,6 @@ fn numbers_are_written_at_each_width(rt: HostRuntime) -> Result<(), Fail> {
     Seal::<ArchivedU32>::new(&mut bytes, 2).write(0x8000_0003);
     Seal::<ArchivedI32>::new(&mut bytes, 6).write(-180);
     assert!(rt; bytes == [1, 2, 3, 0, 0, 0x80, 0x4c, 0xff, 0xff, 0xff]);
-    Ok(())
-}
-
-#[test]
-fn texts_are_written_and_put(rt: HostRuntime) -> Result<(), Fail> {
-    let mut bytes = [9u8; 6];
-    Seal::<Str>::new(&mut bytes, 1).write_text("ab");
-    let mut text = Seal::<Str>::new(&mut bytes, 3);
-    text.put_text("cd");
-    assert!(rt; bytes == [9, b'a', b'b', b'c', b'd', 9]);
     Ok(())
 }
 

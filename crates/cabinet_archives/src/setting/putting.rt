@@ -9,7 +9,7 @@ ghost use Rattle.cabinet_archives.specs.Found.{OfDocument};
 ghost use Rattle.cabinet_archives.specs.Putting.{PutLeaves};
 
 use archive_forms_values::ArchivedString;
-use archive_shape::{ArchivedI64, Ref, Seal, Str};
+use archive_shape::{ArchivedI64, Ref, Seal};
 use cabinet_archived::{ArchivedKind, ArchivedNode};
 use cabinet_text_nodes::{LeafRef, SetAnswer};
 
@@ -36,8 +36,8 @@ pub(crate) fn put_leaf(bytes: &mut [u8], pos: usize, leaf: LeafRef<'_>) -> SetAn
             if ArchivedString::len(there) != text.len() {
                 return SetAnswer::Refused;
             }
-            let start = ArchivedString::start_of(there);
-            Seal::<Str>::new(bytes, start).write_text(text);
+            let start = there.pos();
+            ArchivedString::write_text(Seal::new(bytes, start), text);
             SetAnswer::Done
         }
         _ => SetAnswer::Refused,

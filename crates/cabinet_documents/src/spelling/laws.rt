@@ -1,5 +1,5 @@
 //! Laws of the spelling of documents, as functions without a body that proofs can cite.
-ghost use Rattle.cabinet_documents.specs.SpellingLaws.{FittingHasLayout, LackingIsRefused, NodeSpells, OneImage, OneLevelIsWritten, OneValue, SamplesAreImages, SamplesAreSpelled, ValueDenotes, WrittenIsImage};
+ghost use Rattle.cabinet_documents.specs.SpellingLaws.{FittingHasLayout, LackingIsRefused, NodeSpells, OneImage, OneLevelIsWritten, OneValue, RefusedIsPast, SamplesAreImages, SamplesAreSpelled, ValueDenotes, WrittenIsImage};
 
 /// The bytes that are written for a document are those that the layout reads, and are canonical.
 pub fn node_spells()
@@ -19,6 +19,11 @@ pub fn one_value()
 /// Only a document that has a layout is written within the limits.
 pub fn fitting_has_layout()
     ensures { FittingHasLayout }
+{}
+
+/// A document that has a layout is refused exactly where what it stores is past a limit.
+pub fn refused_is_past()
+    ensures { RefusedIsPast }
 {}
 
 /// A document without a layout is refused when its data is written.

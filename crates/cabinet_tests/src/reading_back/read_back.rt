@@ -1,17 +1,19 @@
 //! Tests that read back archives written out by hand, and write the texts of their documents.
 use archive_core_validation::access;
-use archive_forms::Deserialize;
-use archive_shape::Error;
+use archive_forms::{Deserialize, Deserializer, SharedPool};
+use archive_shape::{Error, Str};
 use cabinet_archived::ArchivedNode;
 use cabinet_text_nodes::{Document, Node};
 use cabinet_text_writing::write_text;
 use std::alloc::Global;
+use std::rc::RcStr;
 use std::test::Fail;
 
 /// Reads back the node at the root of an archive.
 fn root_of(alloc: Global, archive: &[u8]) -> Result<Node, Error> {
     let root = access::<ArchivedNode>(alloc, archive)?;
-    ArchivedNode::deserialize(&root, alloc, &mut ())
+    let mut texts = SharedPool::<RcStr, Str, ()>::new(alloc);
+    ArchivedNode::deserialize(&root, alloc, &mut texts)
 }
 
 /// Returns the text of the document that an archive holds.

@@ -5,9 +5,7 @@ ghost use Rattle.cabinet_text_grammar.specs.Spelling.{escaped, spelled_leaf};
 ghost use Rattle.cabinet_text_nodes.specs.View.{leaf_of};
 ghost use Rattle.cabinet_text_reading.specs.Parts.{IsCutAfterLeaf, RefusesLeaf, RefusesText};
 
-use cabinet_text_bytes::{
-    after_prefix, is_escaped, read_number, read_truth, split_word, unescape_text,
-};
+use cabinet_text_bytes::{after_prefix, read_number, read_truth, split_word, try_unescape};
 use cabinet_text_nodes::{Leaf, LineRefusal};
 use std::alloc::Global;
 
@@ -17,11 +15,13 @@ fn read_argument(alloc: Global, argument: &[u8]) -> Result<String, LineRefusal>
     ensures escaped { IfOk result (λ t. argument.now ≡ escaped (string_bytes t)) }
     ensures refused { IfErr result (RefusesText argument.now) }
 {
-    if !is_escaped(argument) {
-        return Err(LineRefusal::Bad);
+    match std::str::from_utf8(argument) {
+        Ok(_) => {}
+        Err(_) => return Err(LineRefusal::Bad),
     }
-    match unescape_text(alloc, argument) {
-        Ok(text) => Ok(text),
+    match try_unescape(alloc, argument) {
+        Ok(Some(text)) => Ok(text),
+        Ok(None) => Err(LineRefusal::Bad),
         Err(_) => Err(LineRefusal::OutOfMemory),
     }
 }

@@ -1,10 +1,11 @@
 //! Takes heads and keys into the innermost container.
-ghost use Rattle.std.specs.Prelude.{◌≡◌, ℕ, List, [], Some, IfOk, IfErr, string_bytes};
+ghost use Rattle.std.specs.Prelude.{◌≡◌, ℕ, ◌<◌, List, [], Some, IfOk, IfErr, OnErr, string_bytes, vec_len};
 ghost use Rattle.cabinet_text_bytes.specs.Words.{IsEscaped};
 ghost use Rattle.cabinet_text_grammar.specs.Due.{Admits};
 ghost use Rattle.cabinet_text_grammar.specs.Fault.{IsFirstCause};
 ghost use Rattle.cabinet_text_grammar.specs.Frame.{AreOpen};
 ghost use Rattle.cabinet_text_grammar.specs.Item.{key_item, map_item};
+ghost use Rattle.cabinet_text_grammar.specs.Memory.{TakesMemory};
 ghost use Rattle.cabinet_text_grammar.specs.Spelling.{escaped};
 ghost use Rattle.cabinet_text_grammar.specs.Machine.{going, plug, step};
 ghost use Rattle.cabinet_text_nodes.specs.View.{node_tree, item_of};
@@ -59,15 +60,17 @@ fn close_with<'a>(
     Ok(Next::Done(node))
 }
 
-/// Puts a whole node into the innermost container. A container that it fills is a whole node itself.
+/// Puts a whole node into the innermost container. A container that it fills is a whole node itself. Where none is open
+/// no memory is taken.
 fn put_in<'a>(
     alloc: Global,
     whole: Node,
     stack: &mut Vec<Frame<'a>>,
 ) -> Result<Next<'a>, AllocError>
     requires { AreOpen (stack_of stack.old.items) }
-    ensures { IfOk result (λ next. state_of next stack.new.items ≡ plug (node_tree whole)
+    ensures next { IfOk result (λ next. state_of next stack.new.items ≡ plug (node_tree whole)
         (stack_of stack.old.items)) }
+    ensures memory { OnErr result (0 < vec_len stack.old) }
 {
     let Some(frame) = stack.last_mut() else {
         return Ok(Next::Done(whole));
@@ -88,8 +91,9 @@ pub fn take_head<'a>(
     stack: &mut Vec<Frame<'a>>,
 ) -> Result<Next<'a>, AllocError>
     requires { AreOpen (stack_of stack.old.items) }
-    ensures { IfOk result (λ next. state_of next stack.new.items ≡ step (stack_of stack.old.items)
+    ensures next { IfOk result (λ next. state_of next stack.new.items ≡ step (stack_of stack.old.items)
         (item_of head)) }
+    ensures memory { OnErr result (TakesMemory (vec_len stack.old) (item_of head)) }
 {
     match head {
         Head::Leaf(Leaf::Bool(value)) => put_in(alloc, Node::Bool(value), stack),
@@ -124,8 +128,9 @@ fn open_map<'a>(
 ) -> Result<Next<'a>, AllocError>
     requires opened { AreOpen (stack_of stack.old.items) }
     requires none { entries_of pairs ≡ [] }
-    ensures { IfOk result (λ next. state_of next stack.new.items ≡ step (stack_of stack.old.items)
+    ensures next { IfOk result (λ next. state_of next stack.new.items ≡ step (stack_of stack.old.items)
         (map_item (kind_of pairs.entry) count)) }
+    ensures memory { OnErr result ((count ≡ 0) × (0 < vec_len stack.old)) }
 {
     if count == 0 {
         put_in(alloc, pairs.into_node(), stack)

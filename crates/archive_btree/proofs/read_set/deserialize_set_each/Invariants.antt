@@ -14,6 +14,7 @@ use Rattle.archive_btree.proofs.read_set.deserialize_set_each.Given as goal
 abbrev pub invariant-loop-key : goal.invariant-loop-key
 invariant-loop-key g l = (left : List Place) × (l.entries ≡ map (entry_at l.fn.this.bytes) left)
     × IsReading g.row.E g.A.ReadBack.reads (reads_as unit_spelling) g.A.Portable.shape (tuple no_shapes) g.A.Portable.knows (λ _. ⊤) l.fn.this.bytes.now g.K.Ord.cmp l.fn.this.pos left (key_entries l.set.keys)
+    × g.D.Deserializer.is_of l.deserializer l.fn.this.bytes.now
 
 abbrev pub decreases-loop-key : goal.decreases-loop-key
 decreases-loop-key g l = length l.entries

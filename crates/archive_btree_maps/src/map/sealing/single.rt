@@ -6,14 +6,15 @@ ghost use Rattle.archive_shape_layout.specs.Shape.Shape.{tree};
 ghost use Rattle.archive_btree_nodes.specs.BtreeLayout.Tree.{Tree, items};
 ghost use Rattle.archive_btree_nodes.specs.BtreeLayout.Descent.{descend};
 ghost use Rattle.archive_btree_nodes.specs.BtreeLayout.Reading.{Place};
+ghost use Rattle.archive_forms_values.specs.Loans.{IsLent};
 ghost use Rattle.archive_forms_values.specs.Parts.{HasValue, both};
 ghost use Rattle.archive_btree_walking.specs.Maps.{IsMapAt};
 ghost use Rattle.archive_btree_walking.specs.Refs.{key_at};
-ghost use Rattle.archive_btree_walking.specs.Lookups.{QueryOrders, IsEqualKey, CallsOrder};
-ghost use Rattle.archive_btree_walking.specs.Seals.{IsLent, IsCalledEqual};
+ghost use Rattle.archive_btree_walking.specs.Lookups.{QueryOrders, IsEqualKey, IsCalledEqual, CallsOrder};
 
 use crate::map::ArchivedBTreeMap;
-use archive_btree_walking::{lend_entry, search_key, search_map};
+use archive_btree_walking::{search_key, search_map};
+use archive_forms_values::lend_entry;
 use archive_shape::{ArchivedKey, OwnSeal, Portable, Ref, Seal};
 use std::cmp::Ordering;
 
@@ -59,17 +60,17 @@ impl<K, V: Portable, const E: usize> ArchivedBTreeMap<K, V, E> {
         ensures found { (t : Tree Place) → IsMapAt this.entry.bytes.now E K.shape V.shape
             this.entry.pos t
             → IfSome result (λ r. (e : Place) × Contains (items t) e × IsEqualKey K.key_of K.order this.entry.bytes.now query.now e
-            × IsLent V.SIZE this.entry.bytes.now e r.0 r.1) }
+            × IsLent V.SIZE this.entry.bytes.now e.key e.value r.0 r.1) }
         ensures answers { (t : Tree Place) (order : Place → Ordering)
             → IsMapAt this.entry.bytes.now E K.shape V.shape this.entry.pos t
             → QueryOrders K.key_of K.order this.entry.bytes.now query.now order (items t)
             → MatchOption result
             (descend order t ≡ None)
-            (λ r. (e : Place) × (descend order t ≡ Some e) × IsLent V.SIZE this.entry.bytes.now e r.0 r.1) }
+            (λ r. (e : Place) × (descend order t ≡ Some e) × IsLent V.SIZE this.entry.bytes.now e.key e.value r.0 r.1) }
     {
         let Seal { bytes, pos, .. } = this;
         match search_key::<Q, K, V, E>(bytes, pos, query).0 {
-            Some(entry) => Some(lend_entry::<K, V>(bytes, entry)),
+            Some(entry) => Some(lend_entry::<K, V>(bytes, entry.key, entry.value)),
             None => None,
         }
     }
@@ -94,13 +95,13 @@ impl<K: Portable, V: Portable, const E: usize> ArchivedBTreeMap<K, V, E> {
         ensures found { (t : Tree Place) → IsMapAt this.entry.bytes.now E K.shape V.shape
             this.entry.pos t
             → IfSome result (λ r. (e : Place) × Contains (items t) e × IsCalledEqual F.post compare.now query.entry this.entry.bytes.now e
-            × IsLent V.SIZE this.entry.bytes.now e r.0 r.1) }
+            × IsLent V.SIZE this.entry.bytes.now e.key e.value r.0 r.1) }
         ensures answers { (t : Tree Place) (order : Place → Ordering)
             → IsMapAt this.entry.bytes.now E K.shape V.shape this.entry.pos t
             → ((lent : Bor (List ℕ)) → lent.now ≡ this.entry.bytes.now → CallsOrder F.post compare.now query.entry lent order (items t))
             → MatchOption result
             (descend order t ≡ None)
-            (λ r. (e : Place) × (descend order t ≡ Some e) × IsLent V.SIZE this.entry.bytes.now e r.0 r.1) }
+            (λ r. (e : Place) × (descend order t ≡ Some e) × IsLent V.SIZE this.entry.bytes.now e.key e.value r.0 r.1) }
     {
         let Seal { bytes, pos, .. } = this;
         let shared: &[u8] = bytes;
@@ -110,7 +111,7 @@ impl<K: Portable, V: Portable, const E: usize> ArchivedBTreeMap<K, V, E> {
                 (key_at shared.entry (record { key = at; value = 0 })) result }
         { compare(query, Ref::new(shared, at)) };
         match search_map::<K, V, _, E>(shared, pos, &compare_at).0 {
-            Some(entry) => Some(lend_entry::<K, V>(bytes, entry)),
+            Some(entry) => Some(lend_entry::<K, V>(bytes, entry.key, entry.value)),
             None => None,
         }
     }

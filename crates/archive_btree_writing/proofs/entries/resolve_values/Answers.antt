@@ -29,7 +29,7 @@ pub returns-in_err-resolve_slot : goal.returns-in_err-resolve_slot
 returns-in_err-resolve_slot g c = λ st made.
     let e = c.in_err-resolve_slot.field-0.0 in
     answers_error c.from_residual.result e _ _ (search rules)
-    (parts_refused _ _ _ _ _ _ _ _ c.args.entries.now c.args.kept.now c.args.buffer.now c.args.start c.args.pos c.index-entries-i.result c.loop-i-test.true c.index-entries-i.is c.requires.room c.requires.stands c.loop-i.invariant c.index-kept-i.result st made e c.in_err-resolve_slot.ensures)
+    (parts_refused _ _ _ _ _ _ _ _ c.args.entries.now c.args.kept.now c.args.buffer.now c.args.start c.args.pos c.index-entries-i.result c.loop-i-test.true c.index-entries-i.is c.requires.room c.requires.stands c.loop-i.invariant c.index-kept-i.result st made e c.in_err-resolve_slot.ensures.0)
 
 pub overflow_add-offset : goal.overflow_add-offset
 overflow_add-offset g c = omega (arith, next_ends _ _ _ _ _ _ _ _ c.args.entries.now c.args.kept.now c.args.buffer.now c.args.start c.args.pos c.index-entries-i.result c.loop-i-test.true c.index-entries-i.is c.requires.room c.requires.stands c.loop-i.invariant, c.requires.stands, c.SIZE-size.ensures, g.met.V.Archived.Portable.sized)

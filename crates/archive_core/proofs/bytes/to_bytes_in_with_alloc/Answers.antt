@@ -20,11 +20,11 @@ returns-in-Ok-clause-writes g c =
     subst P (sym c.into_writer.ensures) told
 
 pub returns-in-Ok-clause-archive : goal.returns-in-Ok-clause-archive
-returns-in-Ok-clause-archive g c = λ told long are fit names keys known keyed one.
+returns-in-Ok-clause-archive g c = λ told long are fit names keys known keyed.
     let m : WriterMembers g.row.W.Denot = record { known = g.W.Registry.known; pos = g.W.Positional.pos; OBSERVABLE = g.W.Writer.OBSERVABLE; COUNTS = g.W.Writer.COUNTS; contents = g.W.Writer.contents; failures = g.W.Writer.failures; last_error = g.W.Writer.last_error } in
     let wrote = archived_in (λ s. s.writer) m _ g.T.Archived.Portable.shape g.T.Archive.spelling c.args.value.now c.new-serializer.result c.serialize_using.new.serializer c.args.writer c.new-serializer.ensures.writer (λ key. ap (λ (sharing : Share). progress_kept (get nat_eq sharing.ends key)) c.new-serializer.ensures.sharing ∙ c.new-sharing.ensures key) (Ok c.in-Ok.field-0) c.in-Ok.ensures.writes in
     written_from fit g.T.Archived.Portable.shape g.T.Archived.Portable.knows g.T.Archive.spelling c.args.value.now names keys (m.contents c.args.writer) _ (m.pos c.args.writer)
-    (g.met.T.Archive.spells fit) known keyed one wrote.1 long are (ap m.contents c.into_writer.ensures ∙ wrote.0.gains told)
+    (g.met.T.Archive.spells fit) known keyed wrote.1 long are (ap m.contents c.into_writer.ensures ∙ wrote.0.gains told)
 
 pub returns-in-Err-clause-writes : goal.returns-in-Err-clause-writes
 returns-in-Err-clause-writes g c =

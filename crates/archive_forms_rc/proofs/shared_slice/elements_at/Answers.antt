@@ -12,11 +12,11 @@ metadata-len-requires g c =
 
 pub target_of-requires-clause-leads : goal.target_of-requires-clause-leads
 target_of-requires-clause-leads g c =
-    pointer_points g.L.Flavor.CYCLES (slice g.T.Portable.shape) g.T.Portable.knows c.args.bytes.now c.args.pos c.requires
+    pointer_points g.L.Flavor.ALLOW_CYCLES (slice g.T.Portable.shape) g.T.Portable.knows c.args.bytes.now c.args.pos c.requires
 
 pub returns : goal.returns
 returns g c =
     let own : word_at (window c.args.bytes.now c.args.pos 8) 4 ≡ c.metadata-len.result =
     ap (λ bs. word_at (window bs c.args.pos 8) 4) (sym (ap (λ bytes. bytes.now) c.new.ensures.bytes))
     ∙ ap (λ n. word_at (window c.new.result.bytes.now n 8) 4) (sym c.new.ensures.pos) ∙ c.metadata-len.ensures.own refl in
-    rc_slice_there g.L.Flavor.CYCLES g.T.Portable.shape g.T.Portable.knows c.args.bytes.now c.args.pos _ c.target_of.ensures _ own
+    rc_slice_there g.L.Flavor.ALLOW_CYCLES g.T.Portable.shape g.T.Portable.knows c.args.bytes.now c.args.pos _ c.target_of.ensures _ own

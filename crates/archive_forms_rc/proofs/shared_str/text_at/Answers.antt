@@ -13,7 +13,7 @@ metadata-len-requires g c =
 
 pub target_of-requires-clause-leads : goal.target_of-requires-clause-leads
 target_of-requires-clause-leads g c =
-    pointer_points g.L.Flavor.CYCLES str (λ _. ⊤) c.args.bytes.now c.args.pos
+    pointer_points g.L.Flavor.ALLOW_CYCLES str (λ _. ⊤) c.args.bytes.now c.args.pos
     (record { value = _; held = c.requires.held })
 
 pub returns : goal.returns
@@ -21,4 +21,4 @@ returns g c =
     let own : word_at (window c.args.bytes.now c.args.pos 8) 4 ≡ c.metadata-len.result =
     ap (λ bs. word_at (window bs c.args.pos 8) 4) (sym (ap (λ bytes. bytes.now) c.new.ensures.bytes))
     ∙ ap (λ n. word_at (window c.new.result.bytes.now n 8) 4) (sym c.new.ensures.pos) ∙ c.metadata-len.ensures.own refl in
-    rc_str_there g.L.Flavor.CYCLES c.args.bytes.now c.args.pos _ _ c.target_of.ensures own c.requires
+    rc_str_there g.L.Flavor.ALLOW_CYCLES c.args.bytes.now c.args.pos _ _ c.target_of.ensures own c.requires

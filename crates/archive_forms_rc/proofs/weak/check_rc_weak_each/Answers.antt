@@ -7,15 +7,15 @@ use Rattle.archive_forms_rc.proofs.weak.check_rc_weak_each.Goals as goal
 
 pub returns-in-0-clause-exact : goal.returns-in-0-clause-exact
 returns-in-0-clause-exact g c names known =
-    nothing_checked names c.args.bytes.now c.args.pos g.L.Flavor.CYCLES (sized g.T.Portable.shape) _ c.in-0.is
+    nothing_checked names c.args.bytes.now c.args.pos g.L.Flavor.ALLOW_CYCLES (sized g.T.Portable.shape) _ c.in-0.is
 
 pub returns-in-1-clause-exact : goal.returns-in-1-clause-exact
 returns-in-1-clause-exact g c names known =
-    pointer_checked names c.args.bytes.now c.args.pos g.L.Flavor.CYCLES (sized g.T.Portable.shape) _ _ _ c.in-1.is
+    pointer_checked names c.args.bytes.now c.args.pos g.L.Flavor.ALLOW_CYCLES (sized g.T.Portable.shape) _ _ _ c.in-1.is
     (c.check_rc_each.ensures.exact names known)
 
 pub returns-in_default-clause-exact : goal.returns-in_default-clause-exact
 returns-in_default-clause-exact g c names known =
     let other = c.in_default in
-    tag_refused names c.args.bytes.now c.args.pos (weak g.L.Flavor.CYCLES (sized g.T.Portable.shape)) _ (g.C.ArchiveContext.kept c.args.context.now) refl (omega arith)
+    tag_refused names c.args.bytes.now c.args.pos (weak g.L.Flavor.ALLOW_CYCLES (sized g.T.Portable.shape)) _ (g.C.ArchiveContext.kept c.args.context.now) refl (omega arith)
     (λ none. omega arith) (λ some. omega arith)

@@ -4,8 +4,8 @@ use Rattle.archive_shape_layout.specs.Visited.AllStand.{none_stand}
 use Rattle.archive_forms_values.proofs.Accepted.{accepted_has_value}
 use Rattle.archive_forms_tests.proofs.reading_back.read_back.Goals as goal
 
-pub deserialize-requires : goal.deserialize-requires
-deserialize-requires g c =
+pub deserialize-requires-clause-there : goal.deserialize-requires-clause-there
+deserialize-requires-clause-there g c =
     let names = g.A.Portable.named in
     let passes = (c.in_ok-check.ensures.exact names c.requires [] [] (λ pos. refl)).passes in
     let here : HasValue g.A.Portable.shape g.A.Portable.knows c.args.bytes.now c.args.pos =

@@ -22,7 +22,8 @@ returns-in-Err g c =
     let less : c.loop-i.i < length c.args.kept.now = omega (arith, n, c.loop-i-test.true) in
     let e = next_of _ _ _ c.loop-i-test.true c.index-items-i.is in
     let f = next_of _ _ _ less c.index-kept-i.is in
-    laid_refused g.T.Archived.Portable.shape g.T.Archive.spelling c.args.items.now c.args.kept.now c.args.out.now c.args.start c.args.pos _ _ e f c.loop-i.invariant _ c.in-Err.ensures
+    laid_refused g.T.Archived.Portable.shape g.T.Archive.spelling c.args.items.now c.args.kept.now c.args.out.now c.args.start c.args.pos _ _ e f c.loop-i.invariant
+    (length c.args.items.now) c.loop-i-test.true c.requires.room _ c.in-Err.ensures
 
 pub loop-i-preserved : goal.loop-i-preserved
 loop-i-preserved g c =

@@ -42,4 +42,4 @@ pub returns-in-Err : goal.returns-in-Err
 returns-in-Err g c =
     let s = g.T.Archived.Portable.shape in
     let from = field_from s c.args.offset c.ALIGN.result c.next_multiple-from.result c.args.pos (c.ALIGN.ensures ∙ g.met.T.Archived.Portable.aligned) c.next_multiple-from.ensures c.requires.stands in
-    field_refused g.T.Archive.spelling s c.args.value.now c.args.resolver c.args.out.now c.within.result.out.now c.args.start c.args.pos c.args.offset c.next_multiple-from.result c.within.result.start c.within.result.pos from c.within.ensures.bytes c.within.ensures.start c.within.ensures.pos _ c.in-Err.ensures
+    field_refused g.T.Archive.spelling s c.args.value.now c.args.resolver c.args.out.now c.within.result.out.now c.args.start c.args.pos c.args.offset c.next_multiple-from.result c.within.result.start c.within.result.pos from c.within.ensures.bytes c.within.ensures.start c.within.ensures.pos c.resolve.new.out.0 _ _ (search rules) c.in-Err.ensures

@@ -7,48 +7,50 @@ use Rattle.archive_hash.proofs.deserialize.deserialize_hash_map_each.Goals as go
 pub loop-key-init : goal.loop-key-init
 loop-key-init g c =
     let b = reading_begun g.A.ReadBack.reads g.B.ReadBack.reads g.A.Portable.shape g.B.Portable.shape g.A.Portable.knows g.B.Portable.knows c.args.this.bytes.now g.met.K.Eq.laws c.args.this.pos c.new-map.result.entries c.requires.there c.new-map.ensures.empty c.new-map.ensures.unique in
-    (b.0, c.iter-entries.ensures.entries b.1.0 b.1.1 ∙ ap (map (entry_at c.args.this.bytes g.A.Portable.shape g.B.Portable.shape)) (sym b.1.2), b.2)
+    (b.0, c.iter-entries.ensures.entries b.1.0 b.1.1 ∙ ap (map (entry_at c.args.this.bytes g.A.Portable.shape g.B.Portable.shape)) (sym b.1.2), b.2, c.requires.kept)
 
 pub read_key-requires : goal.read_key-requires
 read_key-requires g c =
     let i = c.loop-key.invariant in
     let n = next_position g.A.Portable.shape g.B.Portable.shape c.args.this.bytes i.0 c.in-Some.key c.in-Some.value c.loop-key.entries _ i.1 c.in-Some.ensures.steps in
     let has = next_has g.A.ReadBack.reads g.B.ReadBack.reads g.A.Portable.shape g.B.Portable.shape g.A.Portable.knows g.B.Portable.knows c.args.this.bytes.now g.K.PartialEq.eq c.args.this.pos c.args.this.bytes i.0 c.in-Some.key c.in-Some.value _ c.loop-key.map.entries i.2 n in
-    c.requires.takes_key _ _ has.0.held.own_within has.0
+    c.requires.takes_key _ _ has.0.held.own_within has.0 i.3
 
-pub returns-in-Err : goal.returns-in-Err
-returns-in-Err g c =
+pub returns-in-Err-clause-value : goal.returns-in-Err-clause-value
+returns-in-Err-clause-value g c =
     let i = c.loop-key.invariant in
     let n = next_position g.A.Portable.shape g.B.Portable.shape c.args.this.bytes i.0 c.in-Some.key c.in-Some.value c.loop-key.entries _ i.1 c.in-Some.ensures.steps in
     let has = next_has g.A.ReadBack.reads g.B.ReadBack.reads g.A.Portable.shape g.B.Portable.shape g.A.Portable.knows g.B.Portable.knows c.args.this.bytes.now g.K.PartialEq.eq c.args.this.pos c.args.this.bytes i.0 c.in-Some.key c.in-Some.value _ c.loop-key.map.entries i.2 n in
-    c.requires.reads_key _ _ _ _ has.0 c.in-Err.ensures
+    (c.requires.reads_key _ _ _ _ has.0 i.3 c.in-Err.ensures).0
 
 pub read_value-requires : goal.read_value-requires
 read_value-requires g c =
     let i = c.loop-key.invariant in
     let n = next_position g.A.Portable.shape g.B.Portable.shape c.args.this.bytes i.0 c.in-Some.key c.in-Some.value c.loop-key.entries _ i.1 c.in-Some.ensures.steps in
     let has = next_has g.A.ReadBack.reads g.B.ReadBack.reads g.A.Portable.shape g.B.Portable.shape g.A.Portable.knows g.B.Portable.knows c.args.this.bytes.now g.K.PartialEq.eq c.args.this.pos c.args.this.bytes i.0 c.in-Some.key c.in-Some.value _ c.loop-key.map.entries i.2 n in
-    c.requires.takes_value _ _ has.1.held.own_within has.1
+    let key = c.requires.reads_key _ _ _ _ has.0 i.3 c.in-Ok.ensures in
+    c.requires.takes_value _ _ has.1.held.own_within has.1 key.1
 
-pub returns-in-Err-read_value : goal.returns-in-Err-read_value
-returns-in-Err-read_value g c =
+pub returns-in-Err-read_value-clause-value : goal.returns-in-Err-read_value-clause-value
+returns-in-Err-read_value-clause-value g c =
     let i = c.loop-key.invariant in
     let n = next_position g.A.Portable.shape g.B.Portable.shape c.args.this.bytes i.0 c.in-Some.key c.in-Some.value c.loop-key.entries _ i.1 c.in-Some.ensures.steps in
     let has = next_has g.A.ReadBack.reads g.B.ReadBack.reads g.A.Portable.shape g.B.Portable.shape g.A.Portable.knows g.B.Portable.knows c.args.this.bytes.now g.K.PartialEq.eq c.args.this.pos c.args.this.bytes i.0 c.in-Some.key c.in-Some.value _ c.loop-key.map.entries i.2 n in
-    c.requires.reads_value _ _ _ _ has.1 c.in-Err-read_value.ensures
+    let key = c.requires.reads_key _ _ _ _ has.0 i.3 c.in-Ok.ensures in
+    (c.requires.reads_value _ _ _ _ has.1 key.1 c.in-Err-read_value.ensures).0
 
 pub loop-key-preserved : goal.loop-key-preserved
 loop-key-preserved g c =
     let i = c.loop-key.invariant in
     let n = next_position g.A.Portable.shape g.B.Portable.shape c.args.this.bytes i.0 c.in-Some.key c.in-Some.value c.loop-key.entries _ i.1 c.in-Some.ensures.steps in
     let has = next_has g.A.ReadBack.reads g.B.ReadBack.reads g.A.Portable.shape g.B.Portable.shape g.A.Portable.knows g.B.Portable.knows c.args.this.bytes.now g.K.PartialEq.eq c.args.this.pos c.args.this.bytes i.0 c.in-Some.key c.in-Some.value _ c.loop-key.map.entries i.2 n in
-    let key = c.requires.reads_key _ _ _ _ has.0 c.in-Ok.ensures in
-    let value = c.requires.reads_value _ _ _ _ has.1 c.in-Ok-read_value.ensures in
+    let key = c.requires.reads_key _ _ _ _ has.0 i.3 c.in-Ok.ensures in
+    let value = c.requires.reads_value _ _ _ _ has.1 key.1 c.in-Ok-read_value.ensures in
     let put = map_put g.K.PartialEq.eq c.loop-key.map c.insert.new.self (c.in-Ok.done.0, c.in-Ok-read_value.done.0) c.insert.result (search rules) c.insert.ensures.old c.insert.ensures.entries c.insert.ensures.updates in
-    (n.more, n.rest_is, next_read g.A.ReadBack.reads g.B.ReadBack.reads g.A.Portable.shape g.B.Portable.shape g.A.Portable.knows g.B.Portable.knows c.args.this.bytes.now g.met.K.Eq.laws c.args.this.pos c.args.this.bytes i.0 c.in-Some.key c.in-Some.value _ c.loop-key.map.entries c.insert.new.self.entries (c.in-Ok.done.0, c.in-Ok-read_value.done.0) put.old i.2 n key value put.is put.put put.leads c.insert.ensures.unique)
+    (n.more, n.rest_is, next_read g.A.ReadBack.reads g.B.ReadBack.reads g.A.Portable.shape g.B.Portable.shape g.A.Portable.knows g.B.Portable.knows c.args.this.bytes.now g.met.K.Eq.laws c.args.this.pos c.args.this.bytes i.0 c.in-Some.key c.in-Some.value _ c.loop-key.map.entries c.insert.new.self.entries (c.in-Ok.done.0, c.in-Ok-read_value.done.0) put.old i.2 n key.0 value.0 put.is put.put put.leads c.insert.ensures.unique, value.1)
 
-pub returns : goal.returns
-returns g c =
+pub returns-clause-value : goal.returns-clause-value
+returns-clause-value g c =
     let i = c.loop-key.invariant in
     let none : c.loop-key.entries ≡ [] = search rules in
     reading_ended g.A.ReadBack.reads g.B.ReadBack.reads g.A.Portable.shape g.B.Portable.shape g.A.Portable.knows g.B.Portable.knows c.args.this.bytes.now g.K.PartialEq.eq c.args.this.pos i.0 c.loop-key.map.entries (none_left g.A.Portable.shape g.B.Portable.shape c.args.this.bytes i.0 c.loop-key.entries i.1 none) i.2

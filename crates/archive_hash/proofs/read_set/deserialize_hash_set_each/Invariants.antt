@@ -13,6 +13,7 @@ use Rattle.archive_hash.proofs.read_set.deserialize_hash_set_each.Given as goal
 abbrev pub invariant-loop-key : goal.invariant-loop-key
 invariant-loop-key g l = (left : List ℕ) × (l.entries ≡ map (entry_at l.fn.this.bytes g.A.Portable.shape (tuple no_shapes)) left)
     × IsReading g.A.ReadBack.reads (reads_as unit_spelling) g.A.Portable.shape (tuple no_shapes) g.A.Portable.knows (λ _. ⊤) l.fn.this.bytes.now g.K.PartialEq.eq l.fn.this.pos left (key_entries l.set.keys)
+    × g.D.Deserializer.is_of l.deserializer l.fn.this.bytes.now
 
 abbrev pub decreases-loop-key : goal.decreases-loop-key
 decreases-loop-key g l = length l.entries

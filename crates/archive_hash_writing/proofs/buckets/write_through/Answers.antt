@@ -46,7 +46,7 @@ returns-in-Err-resolve_bucket g c = λ st made.
     let s : WriterMembers g.row.W.Denot = record { known = g.W.Registry.known; pos = g.W.Positional.pos; OBSERVABLE = g.W.Writer.OBSERVABLE; COUNTS = g.W.Writer.COUNTS; contents = g.W.Writer.contents; failures = g.W.Writer.failures; last_error = g.W.Writer.last_error } in
     let wide : size_of g.T.Archived.Portable.shape ≤ length c.loop-p.buffer = omega (arith, c.requires.wide, c.loop-p.invariant.same) in
     let r = ready g.T.Archive.spelling g.T.Archived.Portable.shape s c.args.table.now c.args.kept.now c.args.writer.now c.SIZE-size.result _ _ _ c.loop-p-test.true c.requires.stands (c.SIZE-size.ensures ∙ g.met.T.Archived.Portable.sized) wide c.loop-p.invariant.filling c.in-Ok.ensures in
-    refused_there _ _ _ _ _ _ c.loop-p.auto.p r _ c.in-Some.item c.in-Some.is _ c.index-kept-left.is _ _ (ap (λ n. n + c.in-Ok.filled) c.pos.ensures) (inl c.in-Err-resolve_bucket.ensures) st made
+    refused_there _ _ _ _ _ _ c.loop-p.auto.p r _ c.in-Some.item c.in-Some.is _ c.index-kept-left.is _ _ (ap (λ n. n + c.in-Ok.filled) c.pos.ensures) (inl c.in-Err-resolve_bucket.ensures.0) st made
 
 pub loop-p-preserved : goal.loop-p-preserved
 loop-p-preserved g c =

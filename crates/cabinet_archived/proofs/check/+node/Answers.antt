@@ -22,11 +22,11 @@ check_node-returns-in-1-clause-exact g t c = λ names known.
 
 pub check_node-returns-in-2-clause-exact : goal.check_node-returns-in-2-clause-exact
 check_node-returns-in-2-clause-exact g t c = λ names known.
-    payload_checked names c.args.bytes.now c.args.pos known _ _ 2 text _ c.in-2.is refl (omega arith) (c.check-in-2.ensures.exact names tt)
+    payload_checked names c.args.bytes.now c.args.pos known _ _ 2 text _ c.in-2.is refl (omega arith) (c.check_text.ensures.exact names)
 
 pub check_node-returns-in-3-clause-exact : goal.check_node-returns-in-3-clause-exact
 check_node-returns-in-3-clause-exact g t c = λ names known.
-    payload_checked names c.args.bytes.now c.args.pos known _ _ 3 (shared false str) _ c.in-3.is refl (omega arith) (c.check-in-3.ensures.exact names tt)
+    payload_checked names c.args.bytes.now c.args.pos known _ _ 3 (shared false str) _ c.in-3.is refl (omega arith) (c.check_shared.ensures.exact names)
 
 pub check_node-returns-in-4-clause-exact : goal.check_node-returns-in-4-clause-exact
 check_node-returns-in-4-clause-exact g t c = λ names known.

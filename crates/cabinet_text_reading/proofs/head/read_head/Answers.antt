@@ -1,9 +1,11 @@
-use Rattle.std.proofs.Common.{codes, refl, inl, inr, string_bytes}
+use Rattle.std.proofs.Common.{codes, refl, inl, subst, IsUtf8}
 use Rattle.std.proofs.lemmas.Result.{err_from_is_err_and}
 use Rattle.std.proofs.lemmas.Str.{IsUtf8-string_bytes}
+use Rattle.std.specs.Rc.{rc_str_bytes}
+use Rattle.cabinet_text_grammar.proofs.Utf8.{IsUtf8-unescaped}
 use Rattle.cabinet_text_grammar.specs.Tree.{text}
-use Rattle.cabinet_text_grammar.specs.Item.{leaf_item, shared_item}
-use Rattle.cabinet_text_reading.proofs.Heads.{after_word, not_after_word, after_word_utf8, text_refused, number_unread, other_unknown}
+use Rattle.cabinet_text_grammar.specs.Item.{leaf_item}
+use Rattle.cabinet_text_reading.proofs.Heads.{after_word, not_after_word, after_word_utf8, text_refused, shared_refused, number_unread, other_unknown}
 use Rattle.cabinet_text_reading.proofs.head.read_head.Goals as goal
 
 pub read_escaped-requires : goal.read_escaped-requires
@@ -13,30 +15,24 @@ read_escaped-requires c =
 pub returns-in_err-text-clause-fault : goal.returns-in_err-text-clause-fault
 returns-in_err-text-clause-fault c =
     let p = err_from_is_err_and c.from_residual.result c.from_residual.ensures.1 in
-    rw (p.1, p.2) (text_refused c.args.depth (codes "text '") _ _ (λ t. leaf_item (text t)) _ (λ t. refl) (λ t u. u) inl
+    rw (p.1, p.2) (text_refused c.args.depth (codes "text '") _ _ (λ t. leaf_item (text t)) _ (λ t. refl) (λ t u. u) (λ t some. inl some) inl
     (after_word _ _ _ (codes "text '") _ c.as_bytes-bytes.ensures.value c.as_slice.ensures c.in-Some.ensures) c.utf8.line c.in_err-text.ensures.fault)
 
 pub returns-in-Some-clause-head : goal.returns-in-Some-clause-head
 returns-in-Some-clause-head c = IsUtf8-string_bytes c.in_ok-text.text
 
-pub read_escaped-requires-in-Some-after_prefix : goal.read_escaped-requires-in-Some-after_prefix
-read_escaped-requires-in-Some-after_prefix c =
+pub read-requires : goal.read-requires
+read-requires c =
     after_word_utf8 (codes "shared '") _ _ refl (after_word _ _ _ (codes "shared '") _ c.as_bytes-bytes.ensures.value c.as_slice-2.ensures c.in-Some-after_prefix.ensures) c.utf8.line
 
-pub returns-in_err-text-2-clause-fault : goal.returns-in_err-text-2-clause-fault
-returns-in_err-text-2-clause-fault c =
-    let p = err_from_is_err_and c.from_residual-in_err-text-2.result c.from_residual-in_err-text-2.ensures.1 in
-    rw (p.1, p.2) (text_refused c.args.depth (codes "shared '") _ _ shared_item _ (λ t. refl) (λ t u. u) inr
-    (after_word _ _ _ (codes "shared '") _ c.as_bytes-bytes.ensures.value c.as_slice-2.ensures c.in-Some-after_prefix.ensures) c.utf8.line c.in_err-text-2.ensures.fault)
-
 pub returns-in-Ok-clause-head : goal.returns-in-Ok-clause-head
-returns-in-Ok-clause-head c = rw c.in-Ok.ensures.ok (IsUtf8-string_bytes c.in_ok-text-2.text)
+returns-in-Ok-clause-head c =
+    let line = after_word _ _ _ (codes "shared '") _ c.as_bytes-bytes.ensures.value c.as_slice-2.ensures c.in-Some-after_prefix.ensures in
+    IsUtf8-unescaped (rc_str_bytes c.in-Ok.text) (subst IsUtf8 c.in-Ok.ensures.text (after_word_utf8 (codes "shared '") _ _ refl line c.utf8.line))
 
 pub returns-in-Err-clause-fault : goal.returns-in-Err-clause-fault
 returns-in-Err-clause-fault c =
-    text_refused c.args.depth (codes "shared '") _ _ shared_item _ (λ t. refl) (λ t u. u) inr
-    (after_word _ _ _ (codes "shared '") _ c.as_bytes-bytes.ensures.value c.as_slice-2.ensures c.in-Some-after_prefix.ensures) c.utf8.line
-    (string_bytes c.in_ok-text-2.text, IsUtf8-string_bytes c.in_ok-text-2.text, c.in_ok-text-2.ensures.text)
+    shared_refused c.args.depth _ c.in-Some-after_prefix.argument.now _ (after_word _ _ _ (codes "shared '") _ c.as_bytes-bytes.ensures.value c.as_slice-2.ensures c.in-Some-after_prefix.ensures) c.utf8.line c.in-Err.ensures.fault
 
 pub returns-in-None-clause-fault : goal.returns-in-None-clause-fault
 returns-in-None-clause-fault c =

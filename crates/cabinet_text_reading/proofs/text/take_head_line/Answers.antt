@@ -1,11 +1,11 @@
 use Rattle.std.proofs.Common.{◌≡◌, ap, sym, ◌∙◌, subst, ℕ, Vec, Global}
 use Rattle.std.proofs.lemmas.Result.{err_from_is_err_and}
 use Rattle.cabinet_text_grammar.specs.Due.{a_head, due_in, Admits}
-use Rattle.cabinet_text_grammar.proofs.Faults.{admitted_item}
-use Rattle.cabinet_text_grammar.proofs.Verdicts.{memory_first}
+use Rattle.cabinet_text_grammar.specs.Memory.{TakesMemory}
 use Rattle.cabinet_text_nodes.specs.View.{item_of}
 use Rattle.cabinet_text_reading.specs.View.{stack_of}
 use Rattle.cabinet_text_reading.specs.declared.stack.frame.Frame.{Frame}
+use Rattle.cabinet_text_reading.proofs.Heads.{taken_first}
 use Rattle.cabinet_text_reading.proofs.Stacks.{head_told, counted_items}
 use Rattle.cabinet_text_reading.proofs.text.take_head_line.Goals as goal
 
@@ -23,7 +23,7 @@ returns-in-Err-clause-fault c =
     let head = c.in_ok-head.ensures in
     let i = item_of c.in_ok-head.head in
     let depth = c.len.result in
-    rw (deep c.args.stack.now depth c.len.ensures, head.line) (memory_first (a_head depth) i (admitted_item depth i head.head) head.head)
+    rw (deep c.args.stack.now depth c.len.ensures, head.line) (taken_first depth i head.head (subst (λ n. TakesMemory n i) (sym c.len.ensures) c.in-Err.ensures.memory))
 
 pub returns-in-Ok-clause-taken : goal.returns-in-Ok-clause-taken
 returns-in-Ok-clause-taken c =
@@ -33,5 +33,5 @@ returns-in-Ok-clause-taken c =
       item = i;
       admitted = subst (λ due. Admits due i) (sym (deep c.args.stack.now c.len.result c.len.ensures)) head.head;
       line_is = head.line;
-      state_is = c.in-Ok.ensures;
+      state_is = c.in-Ok.ensures.next;
     }

@@ -14,7 +14,7 @@ pub returns-in_err-range : goal.returns-in_err-range
 returns-in_err-range g c =
     let place = c.in_ok-check_subtree_ptr.ensures.claimable refl in
     unclaimed g.F.FnOnce g.C.ArchiveContext.kept c.args.f _ _ _ _ c.in_err-range.field-0.0 (search rules)
-    (λ other. let refused = c.in_err-range.ensures other in depth_unanswered _ _ _ place.0 place.1 refused.0 refused.1)
+    (λ other. let refused = c.in_err-range.ensures.0 other in depth_unanswered _ _ _ place.0 place.1 refused.0 refused.1)
 
 pub returns-in_err-value : goal.returns-in_err-value
 returns-in_err-value g c =

@@ -1,6 +1,6 @@
 use Rattle.std.proofs.Common.{arith, ◌≡◌, ◌*◌, List, ℕ, length, ap, sym, subst, ◌∙◌}
 use Rattle.archive_shape.specs.ShapeLayout.Shape.{size_of}
-use Rattle.archive_forms_values.specs.Parts.{HasValue, HasElements}
+use Rattle.archive_forms_values.specs.Parts.{HasElements}
 use Rattle.archive_forms_values.proofs.Arrays.{array_has}
 use Rattle.archive_forms.specs.Deserializing.{AreReadFrom}
 use Rattle.archive_forms.proofs.Read.{array_read, ok_says}
@@ -18,15 +18,13 @@ deserialize_elements_each-requires-clause-there g c =
     subst P (sym same) (subst Q (sym at.0) (subst R (sym at.1) (array_has g.row.N s knows c.args.this.bytes.now c.args.this.pos c.requires.there)))
 
 pub deserialize_elements_each-requires-clause-takes : goal.deserialize_elements_each-requires-clause-takes
-deserialize_elements_each-requires-clause-takes g c = λ d pos ends there.
+deserialize_elements_each-requires-clause-takes g c = rw c.array_slice.ensures.bytes (λ d pos ends there kept.
     let at = c.array_slice.ensures.stands in
-    let same = ap (λ bytes. bytes.now) c.array_slice.ensures.bytes in
-    let P : List ℕ → Type 0 = λ bytes. HasValue g.A.Portable.shape g.A.Portable.knows bytes pos in
     let limit = ap (λ n. n * size_of g.A.Portable.shape) at.1 in
-    c.requires.takes d pos (omega (arith, ends, at.0, limit)) (subst P same there)
+    c.requires.takes d pos (omega (arith, ends, at.0, limit)) there kept)
 
-pub returns-in-Ok : goal.returns-in-Ok
-returns-in-Ok g c =
+pub returns-in-Ok-clause-value : goal.returns-in-Ok-clause-value
+returns-in-Ok-clause-value g c =
     let w = g.A.ReadBack.reads in
     let s = g.A.Portable.shape in
     let knows = g.A.Portable.knows in
@@ -37,4 +35,4 @@ returns-in-Ok g c =
     let Q : ℕ → Type 0 = λ pos. AreReadFrom w s knows c.args.this.bytes.now pos c.in-Ok.all.items in
     let R : List g.row.T.Denot → Type 0 = λ xs. AreReadFrom w s knows c.args.this.bytes.now c.args.this.pos xs in
     array_read w s knows c.args.this.bytes.now g.row.N c.args.this.pos c.unwrap.result c.array_slice.ensures.elements
-    (ap length items ∙ c.in-Ok.ensures.0 ∙ at.1) (subst R (sym items) (subst Q at.0 (subst P same c.in-Ok.ensures.1)))
+    (ap length items ∙ c.in-Ok.ensures.values.0 ∙ at.1) (subst R (sym items) (subst Q at.0 (subst P same c.in-Ok.ensures.values.1)))

@@ -8,17 +8,17 @@ use Rattle.archive_forms.proofs.deserializing.elements.deserialize_elements_each
 pub loop-index-init : goal.loop-index-init
 loop-index-init g c =
     let P : List g.row.T.Denot → Type 0 = λ l. AreReadFrom g.A.ReadBack.reads g.A.Portable.shape g.A.Portable.knows c.args.items.bytes.now c.args.items.pos l in
-    record { count = ap length c.new-all.ensures.items; read = subst P (sym c.new-all.ensures.items) tt }
+    record { count = ap length c.new-all.ensures.items; read = subst P (sym c.new-all.ensures.items) tt; kept = c.requires.kept }
 
 pub step-requires : goal.step-requires
 step-requires g c =
     let at = some_says _ _ c.get.result c.unwrap-item.result c.get.ensures c.unwrap-item.ensures in
-    c.requires.takes _ _ (element_ends_before g.A.Portable.shape c.args.items.pos _ c.loop-index.index _ at.0 at.2) (element_has _ _ _ _ _ c.loop-index.index _ c.requires.there at.0 at.2)
+    c.requires.takes _ _ (element_ends_before g.A.Portable.shape c.args.items.pos _ c.loop-index.index _ at.0 at.2) (element_has _ _ _ _ _ c.loop-index.index _ c.requires.there at.0 at.2) c.loop-index.invariant.kept
 
-pub returns-in-Err : goal.returns-in-Err
-returns-in-Err g c =
+pub returns-in-Err-clause-values : goal.returns-in-Err-clause-values
+returns-in-Err-clause-values g c =
     let at = some_says _ _ c.get.result c.unwrap-item.result c.get.ensures c.unwrap-item.ensures in
-    c.requires.reads _ _ _ _ (element_has _ _ _ _ _ c.loop-index.index _ c.requires.there at.0 at.2) c.in-Err.ensures
+    (c.requires.reads _ _ _ _ (element_has _ _ _ _ _ c.loop-index.index _ c.requires.there at.0 at.2) c.loop-index.invariant.kept c.in-Err.ensures).0
 
 pub loop-index-preserved : goal.loop-index-preserved
 loop-index-preserved g c =
@@ -29,15 +29,16 @@ loop-index-preserved g c =
     let start = c.args.items.pos in
     let before = c.loop-index.all.items in
     let at = some_says _ _ c.get.result c.unwrap-item.result c.get.ensures c.unwrap-item.ensures in
-    let one = c.requires.reads _ _ _ _ (element_has _ _ _ _ _ c.loop-index.index _ c.requires.there at.0 at.2) c.in-Ok.ensures in
+    let one = c.requires.reads _ _ _ _ (element_has _ _ _ _ _ c.loop-index.index _ c.requires.there at.0 at.2) c.loop-index.invariant.kept c.in-Ok.ensures in
     let items : c.push.new.self.items ≡ before ++ (c.in-Ok.done.0 ∷ []) = pushed _ _ _ _ c.push.ensures.items c.if-is_err.ensures.negation in
     let stands : c.unwrap-item.result.pos ≡ start + length before * size_of s = at.2 ∙ ap (λ n. start + n * size_of s) (sym c.loop-index.invariant.count) in
     let P : ℕ → Type 0 = λ n. IsReadAt w s knows bytes n c.in-Ok.done.0 in
     let Q : List g.row.T.Denot → Type 0 = λ l. AreReadFrom w s knows bytes start l in
     record {
       count = omega (arith, ap length items, length-append before (c.in-Ok.done.0 ∷ []), c.loop-index.invariant.count);
-      read = subst Q (sym items) (one_more w s knows bytes start before c.in-Ok.done.0 c.loop-index.invariant.read (subst P stands one));
+      read = subst Q (sym items) (one_more w s knows bytes start before c.in-Ok.done.0 c.loop-index.invariant.read (subst P stands one.0));
+      kept = one.1;
     }
 
-pub returns : goal.returns
-returns g c = (omega (arith, c.loop-index.invariant.count, c.loop-index.auto.index-end, c.loop-index-test.false, c.len-index-end.ensures), c.loop-index.invariant.read)
+pub returns-clause-values : goal.returns-clause-values
+returns-clause-values g c = (omega (arith, c.loop-index.invariant.count, c.loop-index.auto.index-end, c.loop-index-test.false, c.len-index-end.ensures), c.loop-index.invariant.read)

@@ -1,9 +1,33 @@
-use Rattle.archive_forms.proofs.Faithful.{forms_faithful}
+use Rattle.archive_shape.specs.ShapeLayout.Shape.Pointee.{sized}
+use Rattle.archive_forms_rc.specs.Counted.{shared_rc_spelling}
+use Rattle.archive_forms.proofs.Faithful.{option_faithful, result_faithful, boxed_faithful, vector_faithful, boxed_slice_faithful, array_faithful, shared_faithful, shared_slice_faithful, weak_faithful}
 use Rattle.archive_forms.proofs.deserializing.laws.forms_are_faithful.Goals as goal
 
-pub returns : goal.returns
-returns g c =
-    forms_faithful g.T.Archived.Portable.shape g.U.Archived.Portable.shape g.V.Archived.Portable.shape g.W.Archived.Portable.shape
-    g.T.Archive.spelling g.U.Archive.spelling g.V.Archive.spelling g.W.Archive.spelling
-    g.A.ReadBack.reads g.B.ReadBack.reads g.C.ReadBack.reads g.D.ReadBack.reads
-    c.requires.first c.requires.second c.requires.third c.requires.fourth
+pub returns-clause-options : goal.returns-clause-options
+returns-clause-options g c = option_faithful g.T.Archive.spelling g.A.ReadBack.reads c.requires.first g.T.Archived.Portable.shape
+
+pub returns-clause-results : goal.returns-clause-results
+returns-clause-results g c = result_faithful g.T.Archived.Portable.shape g.U.Archived.Portable.shape g.T.Archive.spelling g.U.Archive.spelling g.A.ReadBack.reads g.B.ReadBack.reads c.requires.first c.requires.second
+
+pub returns-clause-boxes : goal.returns-clause-boxes
+returns-clause-boxes g c = boxed_faithful g.T.Archive.spelling g.A.ReadBack.reads c.requires.first g.T.Archived.Portable.shape
+
+pub returns-clause-vectors : goal.returns-clause-vectors
+returns-clause-vectors g c = vector_faithful g.T.Archive.spelling g.A.ReadBack.reads c.requires.first g.T.Archived.Portable.shape
+
+pub returns-clause-boxed_slices : goal.returns-clause-boxed_slices
+returns-clause-boxed_slices g c = boxed_slice_faithful g.T.Archive.spelling g.A.ReadBack.reads c.requires.first _ g.T.Archived.Portable.shape
+
+pub returns-clause-arrays : goal.returns-clause-arrays
+returns-clause-arrays g c = array_faithful g.T.Archive.spelling g.A.ReadBack.reads c.requires.first g.row.N g.T.Archived.Portable.shape
+
+pub returns-clause-counted : goal.returns-clause-counted
+returns-clause-counted g c = shared_faithful g.T.Archive.spelling g.A.ReadBack.reads c.requires.first g.T.Archived.Portable.shape
+
+pub returns-clause-counted_slices : goal.returns-clause-counted_slices
+returns-clause-counted_slices g c = shared_slice_faithful g.T.Archive.spelling g.A.ReadBack.reads c.requires.first g.T.Archived.Portable.shape
+
+pub returns-clause-weak : goal.returns-clause-weak
+returns-clause-weak g c =
+    let s = g.T.Archived.Portable.shape in
+    weak_faithful (sized s) (shared_rc_spelling s g.T.Archive.spelling) _ (shared_faithful g.T.Archive.spelling g.A.ReadBack.reads c.requires.first s)

@@ -1,22 +1,28 @@
 use Rattle.archive_forms.proofs.Read.{some_has, some_ends, none_read, some_read}
 use Rattle.archive_forms.proofs.deserializing.option.deserialize_option_each.Goals as goal
 
-pub returns-in-None : goal.returns-in-None
-returns-in-None g c =
+pub returns-in-None-clause-value : goal.returns-in-None-clause-value
+returns-in-None-clause-value g c =
     none_read g.A.ReadBack.reads g.A.Portable.shape g.A.Portable.knows c.args.this.bytes.now c.args.this.pos c.in-None.ensures
 
 pub step-requires : goal.step-requires
 step-requires g c =
     c.requires.takes _ _ (some_ends g.A.Portable.shape c.args.this.pos _ c.in-Some.ensures.1)
     (some_has g.A.Portable.shape g.A.Portable.knows c.args.this.bytes.now c.args.this.pos _ c.in-Some.ensures.1 c.in-Some.ensures.2 c.requires.there)
+    c.requires.kept
 
-pub returns-in-Ok : goal.returns-in-Ok
-returns-in-Ok g c =
+pub returns-in-Ok-clause-value : goal.returns-in-Ok-clause-value
+returns-in-Ok-clause-value g c =
     let there = some_has g.A.Portable.shape g.A.Portable.knows c.args.this.bytes.now c.args.this.pos _ c.in-Some.ensures.1 c.in-Some.ensures.2 c.requires.there in
     some_read g.A.ReadBack.reads g.A.Portable.shape g.A.Portable.knows c.args.this.bytes.now c.args.this.pos _ _ c.in-Some.ensures.1 c.in-Some.ensures.2
-    (c.requires.reads _ _ _ _ there c.in-Ok.ensures)
+    (c.requires.reads _ _ _ _ there c.requires.kept c.in-Ok.ensures).0
 
-pub returns : goal.returns
-returns g c =
+pub returns-in-Ok-clause-keeps : goal.returns-in-Ok-clause-keeps
+returns-in-Ok-clause-keeps g c =
     let there = some_has g.A.Portable.shape g.A.Portable.knows c.args.this.bytes.now c.args.this.pos _ c.in-Some.ensures.1 c.in-Some.ensures.2 c.requires.there in
-    c.requires.reads _ _ _ _ there c.in-Err.ensures
+    (c.requires.reads _ _ _ _ there c.requires.kept c.in-Ok.ensures).1
+
+pub returns-clause-value : goal.returns-clause-value
+returns-clause-value g c =
+    let there = some_has g.A.Portable.shape g.A.Portable.knows c.args.this.bytes.now c.args.this.pos _ c.in-Some.ensures.1 c.in-Some.ensures.2 c.requires.there in
+    (c.requires.reads _ _ _ _ there c.requires.kept c.in-Err.ensures).0

@@ -1,18 +1,19 @@
+use Rattle.std.proofs.Common.{arith, ℕ, List, refl, ap, subst}
+use Rattle.archive_forms.specs.Deserializing.{IsReadAt}
 use Rattle.archive_forms.proofs.Counted.{rc_has, rc_before, rc_read}
 use Rattle.archive_forms.proofs.deserializing.shared.deserialize_rc_each.Goals as goal
 
-pub step-requires : goal.step-requires
-step-requires g c =
-    let there = c.get-key.ensures.value in
-    c.requires.takes _ _ (rc_before g.A.Portable.shape g.A.Portable.knows c.args.this.bytes.now c.args.this.pos _ there c.requires.there)
-    (rc_has g.A.Portable.shape g.A.Portable.knows c.args.this.bytes.now c.args.this.pos _ there c.requires.there)
+pub read_value_once-requires-clause-there : goal.read_value_once-requires-clause-there
+read_value_once-requires-clause-there g c =
+    rw c.get-target.ensures.bytes (rc_has g.A.Portable.shape g.A.Portable.knows c.args.this.bytes.now c.args.this.pos _ c.get-target.ensures.value c.requires.there)
 
-pub returns-in-Err-clause-value : goal.returns-in-Err-clause-value
-returns-in-Err-clause-value g c =
-    c.requires.reads _ _ _ _ (rc_has g.A.Portable.shape g.A.Portable.knows c.args.this.bytes.now c.args.this.pos _ c.get-key.ensures.value c.requires.there) c.in-Err.ensures
+pub read_value_once-requires-clause-takes : goal.read_value_once-requires-clause-takes
+read_value_once-requires-clause-takes g c = rw c.get-target.ensures.bytes (λ d pos ends there kept.
+    let before = rc_before g.A.Portable.shape g.A.Portable.knows c.args.this.bytes.now c.args.this.pos _ c.get-target.ensures.value c.requires.there in
+    c.requires.takes d pos (omega (arith, ends, before)) there kept)
 
-pub returns-in-Ok-new-clause-value : goal.returns-in-Ok-new-clause-value
-returns-in-Ok-new-clause-value g c =
-    let there = c.get-key.ensures.value in
-    rc_read g.A.Portable.shape g.A.Portable.knows c.args.this.bytes.now c.args.this.pos _ there g.A.ReadBack.reads _ _ c.in-Ok-new.ensures.ok
-    (c.requires.reads _ _ _ _ (rc_has g.A.Portable.shape g.A.Portable.knows c.args.this.bytes.now c.args.this.pos _ there c.requires.there) c.in-Ok.ensures)
+pub returns-in-Ok-clause-value : goal.returns-in-Ok-clause-value
+returns-in-Ok-clause-value g c =
+    let P : List ℕ → Type 0 = λ bytes. IsReadAt g.A.ReadBack.reads g.A.Portable.shape g.A.Portable.knows bytes c.get-target.result.pos c.in-Ok.value.value in
+    rc_read g.A.Portable.shape g.A.Portable.knows c.args.this.bytes.now c.args.this.pos _ c.get-target.ensures.value g.A.ReadBack.reads _ _ refl
+    (subst P (ap (λ bytes. bytes.now) c.get-target.ensures.bytes) c.in-Ok.ensures.value)

@@ -8,18 +8,26 @@ pub read_first-requires : goal.read_first-requires
 read_first-requires g c =
     let bytes = c.args.this.bytes.now in
     let all = tuple_has (field g.A.Portable.shape g.A.Portable.knows ∷ []) _ bytes c.args.this.pos c.first.ensures.value c.requires.there in
-    c.requires.takes_first _ _ (first_ends g.A.Portable.shape no_shapes c.args.this.pos _ c.first.ensures.pos) (field_has (field g.A.Portable.shape g.A.Portable.knows) bytes _ _ _ _ c.first.ensures.pos all.each)
+    c.requires.takes_first _ _ (first_ends g.A.Portable.shape no_shapes c.args.this.pos _ c.first.ensures.pos) (field_has (field g.A.Portable.shape g.A.Portable.knows) bytes _ _ _ _ c.first.ensures.pos all.each) c.requires.kept
 
-pub returns-in-Err : goal.returns-in-Err
-returns-in-Err g c =
+pub returns-in-Err-clause-value : goal.returns-in-Err-clause-value
+returns-in-Err-clause-value g c =
     let bytes = c.args.this.bytes.now in
     let all = tuple_has (field g.A.Portable.shape g.A.Portable.knows ∷ []) _ bytes c.args.this.pos c.first.ensures.value c.requires.there in
-    c.requires.reads_first _ _ _ _ (field_has (field g.A.Portable.shape g.A.Portable.knows) bytes _ _ _ _ c.first.ensures.pos all.each) c.in-Err.ensures
+    (c.requires.reads_first _ _ _ _ (field_has (field g.A.Portable.shape g.A.Portable.knows) bytes _ _ _ _ c.first.ensures.pos all.each) c.requires.kept c.in-Err.ensures).0
 
-pub returns : goal.returns
-returns g c =
+pub returns-clause-value : goal.returns-clause-value
+returns-clause-value g c =
     let bytes = c.args.this.bytes.now in
     let all = tuple_has (field g.A.Portable.shape g.A.Portable.knows ∷ []) _ bytes c.args.this.pos c.first.ensures.value c.requires.there in
+    let after_first = c.requires.reads_first _ _ _ _ (field_has (field g.A.Portable.shape g.A.Portable.knows) bytes _ _ _ _ c.first.ensures.pos all.each) c.requires.kept c.in-Ok.ensures in
     tuple_read (field g.A.Portable.shape g.A.Portable.knows ∷ []) _ bytes c.args.this.pos _ c.first.ensures.value
-    (field_read g.A.ReadBack.reads (field g.A.Portable.shape g.A.Portable.knows) bytes _ _ _ _ _ c.first.ensures.pos (c.requires.reads_first _ _ _ _ (field_has (field g.A.Portable.shape g.A.Portable.knows) bytes _ _ _ _ c.first.ensures.pos all.each) c.in-Ok.ensures)
+    (field_read g.A.ReadBack.reads (field g.A.Portable.shape g.A.Portable.knows) bytes _ _ _ _ _ c.first.ensures.pos after_first.0
     none_read)
+
+pub returns-clause-keeps : goal.returns-clause-keeps
+returns-clause-keeps g c =
+    let bytes = c.args.this.bytes.now in
+    let all = tuple_has (field g.A.Portable.shape g.A.Portable.knows ∷ []) _ bytes c.args.this.pos c.first.ensures.value c.requires.there in
+    let after_first = c.requires.reads_first _ _ _ _ (field_has (field g.A.Portable.shape g.A.Portable.knows) bytes _ _ _ _ c.first.ensures.pos all.each) c.requires.kept c.in-Ok.ensures in
+    after_first.1

@@ -1,5 +1,5 @@
 use Rattle.std.proofs.Common.{arith, List, ℕ, ap, sym, subst}
-use Rattle.archive_forms_values.specs.Parts.{HasValue, HasElements}
+use Rattle.archive_forms_values.specs.Parts.{HasElements}
 use Rattle.archive_forms.specs.Deserializing.{DeserializesAll}
 use Rattle.archive_forms.proofs.Read.{vec_has, vec_read}
 use Rattle.archive_forms.proofs.deserializing.vector.deserialize_vec_each.Goals as goal
@@ -11,14 +11,12 @@ deserialize_elements_each-requires-clause-there g c =
     subst P (sym same) (vec_has g.A.Portable.shape g.A.Portable.knows c.args.this.bytes.now c.args.this.pos _ _ c.as_slice.ensures.elements c.requires.there)
 
 pub deserialize_elements_each-requires-clause-takes : goal.deserialize_elements_each-requires-clause-takes
-deserialize_elements_each-requires-clause-takes g c = λ d pos ends there.
+deserialize_elements_each-requires-clause-takes g c = rw c.as_slice.ensures.bytes (λ d pos ends there kept.
     let before = c.as_slice.ensures.elements.before c.requires.there in
-    let same = ap (λ bytes. bytes.now) c.as_slice.ensures.bytes in
-    let P : List ℕ → Type 0 = λ bytes. HasValue g.A.Portable.shape g.A.Portable.knows bytes pos in
-    c.requires.takes d pos (omega (arith, ends, before)) (subst P same there)
+    c.requires.takes d pos (omega (arith, ends, before)) there kept)
 
-pub returns : goal.returns
-returns g c =
+pub returns-clause-value : goal.returns-clause-value
+returns-clause-value g c =
     let same = ap (λ bytes. bytes.now) c.as_slice.ensures.bytes in
     let P : List ℕ → Type 0 = λ bytes. DeserializesAll g.A.ReadBack.reads g.A.Portable.shape g.A.Portable.knows bytes c.as_slice.result.pos c.as_slice.result.len (λ all. all.items) c.deserialize_elements_each.result in
-    vec_read g.A.ReadBack.reads g.A.Portable.shape g.A.Portable.knows c.args.this.bytes.now c.args.this.pos _ _ _ c.as_slice.ensures.elements (subst P same c.deserialize_elements_each.ensures)
+    vec_read g.A.ReadBack.reads g.A.Portable.shape g.A.Portable.knows c.args.this.bytes.now c.args.this.pos _ _ _ c.as_slice.ensures.elements (subst P same c.deserialize_elements_each.ensures.values)

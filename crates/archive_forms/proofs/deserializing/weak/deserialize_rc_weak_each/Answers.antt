@@ -1,22 +1,29 @@
-use Rattle.archive_forms.proofs.ReadWeak.{weak_has, weak_before, nothing_read, weak_read}
+use Rattle.std.proofs.Common.{false}
+use Rattle.std.specs.Global.{Global}
+use Rattle.std.specs.declared.rc.Rc.{Rc}
+use Rattle.archive_forms_rc.specs.declared.sharing.keyed.Shared.{Shared}
+use Rattle.archive_shape.specs.ShapeLayout.Shape.Pointee.{sized}
+use Rattle.archive_forms.specs.Reading.{reads_in, reads_counted}
+use Rattle.archive_forms_rc.proofs.Tags.{pointer_has}
+use Rattle.archive_forms.proofs.ReadWeak.{nothing_read, pointer_read}
 use Rattle.archive_forms.proofs.deserializing.weak.deserialize_rc_weak_each.Goals as goal
 
 pub returns-in_default-clause-value : goal.returns-in_default-clause-value
 returns-in_default-clause-value g c =
-    nothing_read g.A.Portable.shape g.A.Portable.knows c.args.this.bytes.now c.args.this.pos g.A.ReadBack.reads c.in_default.ensures
+    nothing_read (sized g.A.Portable.shape) g.A.Portable.knows c.args.this.bytes.now c.args.this.pos (reads_in (λ (x : Shared (Rc g.row.T.Denot Global)). x.value.value) (reads_counted g.A.ReadBack.reads)) c.in_default.ensures
 
-pub step-requires : goal.step-requires
-step-requires g c =
-    let led = c.in-Some.ensures.1 in
-    c.requires.takes _ _ (weak_before g.A.Portable.shape g.A.Portable.knows c.args.this.bytes.now c.args.this.pos _ led c.requires.there)
-    (weak_has g.A.Portable.shape g.A.Portable.knows c.args.this.bytes.now c.args.this.pos _ led c.requires.there)
+pub deserialize_rc_each-requires-clause-there : goal.deserialize_rc_each-requires-clause-there
+deserialize_rc_each-requires-clause-there g c =
+    rw (c.new-pointer.ensures.bytes, c.new-pointer.ensures.pos)
+    (pointer_has false (sized g.A.Portable.shape) g.A.Portable.knows c.args.this.bytes.now c.args.this.pos c.in-Some.ensures.1 c.requires.there)
 
-pub returns-in-Err-clause-value : goal.returns-in-Err-clause-value
-returns-in-Err-clause-value g c =
-    c.requires.reads _ _ _ _ (weak_has g.A.Portable.shape g.A.Portable.knows c.args.this.bytes.now c.args.this.pos _ c.in-Some.ensures.1 c.requires.there) c.in-Err.ensures
+pub deserialize_rc_each-requires-clause-takes : goal.deserialize_rc_each-requires-clause-takes
+deserialize_rc_each-requires-clause-takes g c = rw (c.new-pointer.ensures.bytes, c.new-pointer.ensures.pos) c.requires.takes
 
-pub returns-in-Ok-new-clause-value : goal.returns-in-Ok-new-clause-value
-returns-in-Ok-new-clause-value g c =
-    let led = c.in-Some.ensures.1 in
-    weak_read g.A.Portable.shape g.A.Portable.knows c.args.this.bytes.now c.args.this.pos g.A.ReadBack.reads _ led c.in-Some.target.pos c.in-Ok-new.value _ c.in-Ok-new.ensures.ok
-    (c.requires.reads _ _ _ _ (weak_has g.A.Portable.shape g.A.Portable.knows c.args.this.bytes.now c.args.this.pos _ led c.requires.there) c.in-Ok.ensures)
+pub returns-in-Ok-clause-value : goal.returns-in-Ok-clause-value
+returns-in-Ok-clause-value g c =
+    pointer_read (sized g.A.Portable.shape) g.A.Portable.knows c.args.this.bytes.now c.args.this.pos (reads_in (λ (x : Shared (Rc g.row.T.Denot Global)). x.value.value) (reads_counted g.A.ReadBack.reads)) c.in-Some.ensures.1 c.in-Ok.shared
+    (rw (← c.new-pointer.ensures.bytes, ← c.new-pointer.ensures.pos) c.in-Ok.ensures.value)
+
+pub returns-in-Ok-clause-key : goal.returns-in-Ok-clause-key
+returns-in-Ok-clause-key g c = (c.in-Some.ensures.1, rw (← c.new-pointer.ensures.bytes, ← c.new-pointer.ensures.pos) c.in-Ok.ensures.key)

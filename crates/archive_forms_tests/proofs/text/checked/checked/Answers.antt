@@ -5,8 +5,8 @@ use Rattle.archive_forms_laws.specs.Text.{HasText}
 use Rattle.archive_forms_laws.proofs.Held.{held_is_text_law}
 use Rattle.archive_forms_tests.proofs.text.checked.checked.Goals as goal
 
-pub returns : goal.returns
-returns c =
+pub returns-clause-there : goal.returns-clause-there
+returns-clause-there c =
     let passes = (c.in_ok-check.ensures.exact [] tt [] [] (λ pos. refl)).passes in
     let ascends = inside_high c.new-context.result.start c.new-context.result.end passes.regions passes.accepts.ascends in
     let within : All (λ (r : Region). r.start + r.size ≤ length c.args.bytes.now) passes.regions =

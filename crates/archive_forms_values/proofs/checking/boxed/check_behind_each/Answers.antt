@@ -25,7 +25,7 @@ returns-in_err-range-clause-exact g c names known =
     (c.SIZE-size.ensures ∙ g.met.T.Portable.sized) (c.ALIGN-align.ensures ∙ g.met.T.Portable.aligned) (omega arith)
     (c.in_ok-check_subtree_ptr.ensures.claimable refl) in
     unclaimed names c.args.bytes.now c.args.target (sized g.T.Portable.shape) 1 _ _ _ c.in_err-range.field-0.0 (search rules)
-    (λ other. let refused = c.in_err-range.ensures other in
+    (λ other. let refused = c.in_err-range.ensures.0 other in
     depth_unanswered _ (pointee_span c.args.target (sized g.T.Portable.shape) 1) _ claimable.0 claimable.1 refused.0 refused.1)
 
 pub returns-in_err-step-clause-exact : goal.returns-in_err-step-clause-exact

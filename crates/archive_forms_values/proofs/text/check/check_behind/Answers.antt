@@ -16,7 +16,7 @@ pub returns-in_err-range-clause-exact : goal.returns-in_err-range-clause-exact
 returns-in_err-range-clause-exact g c names =
     let claimable = c.in_ok-check_subtree_ptr.ensures.claimable refl in
     behind_unclaimed names c.args.bytes.now c.args.start c.args.len _ _ _ c.in_err-range.field-0.0 (search rules)
-    (λ other. let refused = c.in_err-range.ensures other in depth_unanswered _ (pointee_span c.args.start str c.args.len) _ claimable.0 claimable.1 refused.0 refused.1)
+    (λ other. let refused = c.in_err-range.ensures.0 other in depth_unanswered _ (pointee_span c.args.start str c.args.len) _ claimable.0 claimable.1 refused.0 refused.1)
 
 pub returns-then-is_utf8-clause-exact : goal.returns-then-is_utf8-clause-exact
 returns-then-is_utf8-clause-exact g c names =

@@ -26,7 +26,7 @@ pub returns-in-Ok : goal.returns-in-Ok
 returns-in-Ok g c =
     let p = outcome_place g.T.Archived.Portable.shape g.E.Archived.Portable.shape c.ALIGN-offset.result _ _ c.ALIGN-offset.ensures g.met.T.Archived.Portable.aligned g.met.E.Archived.Portable.aligned g.met.T.Archived.Portable.aligns.0 in
     value_resolved g.T.Archived.Portable.shape g.E.Archived.Portable.shape g.T.Archive.spelling g.E.Archive.spelling c.args.self.now c.ALIGN-offset.result p.at c.args.out.out.now _ c.args.out.start c.args.out.pos c.resolve.result c.args.resolver c.in-Ok.value c.in-Ok-resolver.kept c.in-Ok.is c.in-Ok-resolver.is
-    (payload_resolved g.T.Archive.spelling 0 c.ALIGN-offset.result (size_of (result_shape g.T.Archived.Portable.shape g.E.Archived.Portable.shape)) (size_of g.T.Archived.Portable.shape) p.first p.fits
+    (payload_resolved g.T.Archive.spelling g.T.Archived.Portable.shape (result_shape g.T.Archived.Portable.shape g.E.Archived.Portable.shape) 0 c.ALIGN-offset.result p.first p.fits
     c.args.out.out.now c.within.result.out.now c.resolve.new.out.0 _ c.args.out.start c.args.out.pos c.within.result.start c.within.result.pos c.in-Ok.value c.in-Ok-resolver.kept c.resolve.result
     (λ pos. (g.met.T.Archive.spells (first_fit (λ _. 0)) c.in-Ok.value).sized c.in-Ok-resolver.kept pos) c.requires.room c.requires.blank c.within.ensures.bytes c.within.ensures.start c.within.ensures.pos (search rules) c.resolve.ensures)
 
@@ -51,6 +51,6 @@ pub returns-in-Err : goal.returns-in-Err
 returns-in-Err g c =
     let p = outcome_place g.T.Archived.Portable.shape g.E.Archived.Portable.shape c.ALIGN-offset.result _ _ c.ALIGN-offset.ensures g.met.T.Archived.Portable.aligned g.met.E.Archived.Portable.aligned g.met.T.Archived.Portable.aligns.0 in
     error_resolved g.T.Archived.Portable.shape g.E.Archived.Portable.shape g.T.Archive.spelling g.E.Archive.spelling c.args.self.now c.ALIGN-offset.result p.at c.args.out.out.now _ c.args.out.start c.args.out.pos c.resolve-in-Err.result c.args.resolver c.in-Err.error c.in-Err-resolver.kept c.in-Err.is c.in-Err-resolver.is
-    (payload_resolved g.E.Archive.spelling 1 c.ALIGN-offset.result (size_of (result_shape g.T.Archived.Portable.shape g.E.Archived.Portable.shape)) (size_of g.E.Archived.Portable.shape) p.first p.fits_error
+    (payload_resolved g.E.Archive.spelling g.E.Archived.Portable.shape (result_shape g.T.Archived.Portable.shape g.E.Archived.Portable.shape) 1 c.ALIGN-offset.result p.first p.fits_error
     c.args.out.out.now c.within-in-Err.result.out.now c.resolve-in-Err.new.out.0 _ c.args.out.start c.args.out.pos c.within-in-Err.result.start c.within-in-Err.result.pos c.in-Err.error c.in-Err-resolver.kept c.resolve-in-Err.result
     (λ pos. (g.met.E.Archive.spells (first_fit (λ _. 0)) c.in-Err.error).sized c.in-Err-resolver.kept pos) c.requires.room c.requires.blank c.within-in-Err.ensures.bytes c.within-in-Err.ensures.start c.within-in-Err.ensures.pos (search rules) c.resolve-in-Err.ensures)

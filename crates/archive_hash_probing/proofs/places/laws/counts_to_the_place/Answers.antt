@@ -10,4 +10,4 @@ returns g c =
     let R = λ (p : ℕ). goal.F-post g c.args.accepts.now p false in
     let cs = c.args.controls.now in
     let cap = c.args.capacity in
-    counted_to A R cs c.args.hash cap (hash_tag c.args.hash) c.requires.some (wraps_of cs cap c.requires.controls) (count_of cs cap c.requires.controls) c.args.place c.args.count c.requires.found c.requires.tag c.requires.never
+    counted_to A R cs c.args.hash cap (hash_tag c.args.hash) c.requires.some (wraps_of cs cap c.requires.controls) (count_of cs cap c.requires.controls) c.args.place c.args.count c.requires.found c.requires.never

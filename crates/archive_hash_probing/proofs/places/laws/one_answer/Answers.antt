@@ -10,5 +10,5 @@ returns g c =
     let R = λ (p : ℕ). goal.F-post g c.args.accepts.now p false in
     let cs = c.args.controls.now in
     let cap = c.args.capacity in
-    let same = one_answer A R cs c.args.hash cap (hash_tag c.args.hash) c.requires.some (wraps_of cs cap c.requires.controls) (count_of cs cap c.requires.controls) c.requires.never c.requires.tagged _ _ _ _ c.requires.one c.requires.other in
+    let same = one_answer A R cs c.args.hash cap (hash_tag c.args.hash) c.requires.some (wraps_of cs cap c.requires.controls) (count_of cs cap c.requires.controls) c.requires.never _ _ _ _ c.requires.one c.requires.other in
     λ i. record { place = same.0 i; strides = same.1 i }

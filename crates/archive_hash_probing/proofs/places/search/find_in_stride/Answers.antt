@@ -2,6 +2,7 @@ use Rattle.std.proofs.Common.{◌≡◌, ℕ, ◌+◌, ◌<◌, false, length, g
 use Rattle.archive_hash_probing.proofs.InStride.{pending_first, pending_next, pending_found, pending_none, few_marks, lane_within, lane_full, fewer_left, full_below, place_of}
 use Rattle.archive_hash_probing.proofs.Wrapping.{wraps_of}
 use Rattle.archive_hash_probing.proofs.places.search.find_in_stride.Goals as goal
+use Rattle.archive_hash_probing.proofs.places.search.find_in_stride.Goals.{then-controls-position+else-accepts, else-controls-position}
 
 pub loop-lane-init : goal.loop-lane-init
 loop-lane-init g c =
@@ -36,7 +37,7 @@ returns-then-accepts g c =
     let cs = c.args.controls.now in
     let h = c.loop-lane.invariant in
     let low = c.in-Some.ensures h.0 (few_marks _ cs c.args.capacity c.args.tag c.args.position h.0 _ h.1) h.1.same in
-    pending_found _ cs c.args.capacity c.args.tag c.args.position h.0 _ h.1 _ low _ _ c.place_of-place.ensures.value c.if-accepts.ensures
+    pending_found _ cs c.args.capacity c.args.tag c.args.position h.0 _ h.1 _ low _ _ c.place_of-place.ensures.value c.if-controls-position.true c.if-accepts.ensures
 
 pub loop-lane-smaller : goal.loop-lane-smaller
 loop-lane-smaller g c =
@@ -49,9 +50,13 @@ pub loop-lane-preserved : goal.loop-lane-preserved
 loop-lane-preserved g c =
     let cs = c.args.controls.now in
     let h = c.loop-lane.invariant in
-    let low = c.in-Some.ensures h.0 (few_marks _ cs c.args.capacity c.args.tag c.args.position h.0 _ h.1) h.1.same in
-    let refused = subst (λ (x : ℕ). goal.F-post g c.args.accepts.now x false) c.place_of-place.ensures.value c.if-accepts.ensures in
-    (_, pending_next _ cs c.args.capacity c.args.tag c.args.position h.0 _ h.1 _ low _ refused (c.remove_lowest_bit-marks.ensures h.0 h.1.same))
+    let low = c.in-Some.ensures h.0 (few_marks _ cs c.args.capacity c.args.tag c.args.position h.0 _ h.1) h.1.same in (
+      _,
+      pending_next _ cs c.args.capacity c.args.tag c.args.position h.0 _ h.1 _ low _ (λ same. elim c.if-controls-position.branch [
+        | then-controls-position+else-accepts w ↦ subst (λ (x : ℕ). goal.F-post g c.args.accepts.now x false) w.place_of-place.ensures.value w.if-accepts.ensures
+        | else-controls-position w ↦ absurd (w.if-controls-position.false same)
+      ]) (c.remove_lowest_bit-marks.ensures h.0 h.1.same),
+    )
 
 pub returns : goal.returns
 returns g c =

@@ -1,5 +1,5 @@
 use Rattle.std.proofs.Common.{subst}
-use Rattle.archive_hash_walking.specs.Seals.{IsOwn}
+use Rattle.archive_forms_values.specs.Loans.{IsOwn}
 use Rattle.archive_hash_walking.proofs.raw_cursor.RawIterSeal.next.Goals as goal
 
 pub returns-in_default-clause-lends : goal.returns-in_default-clause-lends

@@ -1,8 +1,8 @@
-use Rattle.std.proofs.Common.{Bor, List, ℕ, ◌+◌, length, ◌∙◌, arith, rules, refl, sym, ap, subst, true, false}
+use Rattle.std.proofs.Common.{Bor, List, ℕ, refl, sym, ap, subst, true, false}
 use Rattle.std.proofs.lemmas.Bool.{eq-eqb, ne_eqb}
-use Rattle.archive_forms_values.specs.FormsLaws.Text.{HasText}
+use Rattle.archive_forms_values.specs.FormsLaws.Text.{HasText, HasLength}
 use Rattle.cabinet_text_nodes.specs.View.{lent_leaf}
-use Rattle.cabinet_archives.proofs.Put.{HasLength, has_text, put_refused, truth_put, number_put, text_put, IsThere, text_there, text_is_put, not_truth, not_number, not_text, container_refuses, of_same}
+use Rattle.cabinet_archives.proofs.Put.{has_text, put_refused, truth_put, number_put, text_put, not_truth, not_number, not_text, container_refuses, of_same}
 use Rattle.cabinet_archives.proofs.setting.putting.put_leaf.Goals as goal
 
 pub len-requires : goal.len-requires
@@ -16,19 +16,6 @@ returns-then-len-text-clause-answer c =
     let there = subst (λ (b : Bor (List ℕ)). HasLength b.now c.in-Text-Text.there.pos c.len.result) says.0 c.len.ensures in
     of_same _ c.new.ensures.bytes c.new.ensures.pos
     (text_put c.new.result.bytes.now c.new.result.pos (lent_leaf c.args.leaf) c.in-Text-Text.text.now c.len.result false (ap lent_leaf c.in-Text-Text.is-1) says.2 there (ne_eqb _ _ c.if-len-text.true))
-
-pub start_of-start-requires : goal.start_of-start-requires
-start_of-start-requires c =
-    let says = c.in-Text-Text.ensures in
-    subst (λ (b : Bor (List ℕ)). HasText b.now c.in-Text-Text.there.pos) (sym says.0) (has_text c.new.result.bytes.now c.in-Text-Text.there.pos says.2.there)
-
-pub write_text-requires : goal.write_text-requires
-write_text-requires c =
-    let there = text_there c.in-Text-Text.there.bytes.now c.in-Text-Text.there.pos c.start_of-start.result c.len.result (length c.in-Text-Text.text.now) c.len.ensures c.start_of-start.ensures c.if-len-text.false in
-    let same = ap (λ (b : Bor (List ℕ)). length b.now) (c.in-Text-Text.ensures.0 ∙ c.new.ensures.bytes) in
-    let room = there.room in
-    let bytes = ap length c.new-in-Text-Text.ensures.bytes in
-    omega (arith, same, room, bytes, c.new-in-Text-Text.ensures.pos)
 
 pub returns-in-Bool-Bool-clause-answer : goal.returns-in-Bool-Bool-clause-answer
 returns-in-Bool-Bool-clause-answer c =
@@ -46,15 +33,6 @@ returns-else-len-text-clause-answer c =
     let there = subst (λ (b : Bor (List ℕ)). HasLength b.now c.in-Text-Text.there.pos c.len.result) says.0 c.len.ensures in
     of_same _ c.new.ensures.bytes c.new.ensures.pos
     (text_put c.new.result.bytes.now c.new.result.pos (lent_leaf c.args.leaf) c.in-Text-Text.text.now c.len.result true (ap lent_leaf c.in-Text-Text.is-1) says.2 there (eq-eqb _ _ c.if-len-text.false))
-
-pub returns-else-len-text-clause-bytes : goal.returns-else-len-text-clause-bytes
-returns-else-len-text-clause-bytes c =
-    let says = c.in-Text-Text.ensures in
-    let there = text_there c.in-Text-Text.there.bytes.now c.in-Text-Text.there.pos c.start_of-start.result c.len.result (length c.in-Text-Text.text.now) c.len.ensures c.start_of-start.ensures c.if-len-text.false in
-    text_is_put c.args.bytes.now c.args.pos c.in-Text-Text.there.pos c.start_of-start.result (lent_leaf c.args.leaf) c.in-Text-Text.text.now c.args.bytes.now _
-    (ap lent_leaf c.in-Text-Text.is-1) (says.1 ∙ ap (λ n. n + 4) c.new.ensures.pos)
-    (subst (λ (b : Bor (List ℕ)). IsThere b.now c.in-Text-Text.there.pos c.start_of-start.result (length c.in-Text-Text.text.now)) (says.0 ∙ c.new.ensures.bytes) there)
-    refl (search rules)
 
 pub returns-in_default : goal.returns-in_default
 returns-in_default c =

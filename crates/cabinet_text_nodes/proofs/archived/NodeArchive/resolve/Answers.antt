@@ -63,10 +63,10 @@ returns-in-List c =
     c.requires.room c.requires.blank (search rules) c.args.self.now c.in-List.nodes c.in-List.is c.within-place-in-List.ensures.bytes c.within-place-in-List.ensures.start c.within-place-in-List.ensures.pos c.list_kept.result c.list_kept.ensures c.resolve_list.ensures
 
 pub returns-in-Ordered : goal.returns-in-Ordered
-returns-in-Ordered c = own_refused_as c.args.self.now _ c.args.resolver c.args.out.pos (ap node_tree c.in-Ordered.is ∙ node_tree-ordered c.in-Ordered.field-0) refl
+returns-in-Ordered c = own_refused_as c.args.self.now _ c.args.resolver c.args.out.pos c.args.out.start c.args.out.out.now (ap node_tree c.in-Ordered.is ∙ node_tree-ordered c.in-Ordered.field-0) refl
 
 pub returns-in-Hashed : goal.returns-in-Hashed
-returns-in-Hashed c = own_refused_as c.args.self.now _ c.args.resolver c.args.out.pos (ap node_tree c.in-Hashed.is ∙ node_tree-hashed c.in-Hashed.field-0) refl
+returns-in-Hashed c = own_refused_as c.args.self.now _ c.args.resolver c.args.out.pos c.args.out.start c.args.out.out.now (ap node_tree c.in-Hashed.is ∙ node_tree-hashed c.in-Hashed.field-0) refl
 
 pub returns-in-Kept : goal.returns-in-Kept
-returns-in-Kept c = own_refused_as c.args.self.now _ c.args.resolver c.args.out.pos (ap node_tree c.in-Kept.is ∙ node_tree-kept c.in-Kept.field-0) refl
+returns-in-Kept c = own_refused_as c.args.self.now _ c.args.resolver c.args.out.pos c.args.out.start c.args.out.out.now (ap node_tree c.in-Kept.is ∙ node_tree-kept c.in-Kept.field-0) refl

@@ -6,8 +6,8 @@ use Rattle.cabinet_text_reading.specs.declared.stack.frame.Frame.TheVariants as 
 use Rattle.cabinet_text_reading.proofs.Stacks.{changed, list_open, counted_items}
 use Rattle.cabinet_text_reading.proofs.stack.taking.put_in.Goals as goal
 
-pub returns-in_ok-push-in-List : goal.returns-in_ok-push-in-List
-returns-in_ok-push-in-List c =
+pub returns-in_ok-push-in-List-clause-next : goal.returns-in_ok-push-in-List-clause-next
+returns-in_ok-push-in-List-clause-next c =
     let list = frame.List c.in-List.count c.in-List.nodes in
     let some = c.in-Some.ensures.variant.0 refl in
     let long : length c.args.stack.now.items ≡ suc (vec_len c.args.stack.now - 1) = omega (arith, counted_items c.args.stack.now, some) in

@@ -7,12 +7,12 @@ use Rattle.cabinet_text_reading.proofs.Stacks.{stack_of-push}
 use Rattle.cabinet_text_reading.proofs.Taken.{pushed_list}
 use Rattle.cabinet_text_reading.proofs.stack.taking.take_head.Goals as goal
 
-pub returns-in_ok-push-in-Some : goal.returns-in_ok-push-in-Some
-returns-in_ok-push-in-Some c =
+pub returns-in_ok-push-in-Some-clause-next : goal.returns-in_ok-push-in-Some-clause-next
+returns-in_ok-push-in-Some-clause-next c =
     ap going (ap stack_of c.in_ok-push-in-Some.ensures.items ∙ stack_of-push c.args.stack.now.items frame.Maybe) ∙ ap (λ i. step (stack_of c.args.stack.now.items) (item_of i)) (sym c.in-Some.is)
 
-pub returns-in_ok-push-in-List : goal.returns-in_ok-push-in-List
-returns-in_ok-push-in-List c =
+pub returns-in_ok-push-in-List-clause-next : goal.returns-in_ok-push-in-List-clause-next
+returns-in_ok-push-in-List-clause-next c =
     ap going (ap stack_of c.in_ok-push-in-List.ensures.items ∙ stack_of-push c.args.stack.now.items (frame.List c.in-List.count c.new-nodes.result))
     ∙ pushed_list c.in-List.count c.new-nodes.result.items (stack_of c.args.stack.now.items) c.new-nodes.ensures.items c.if-count-eq0.false
     ∙ ap (λ i. step (stack_of c.args.stack.now.items) (item_of i)) (sym c.in-List.is)

@@ -26,4 +26,4 @@ returns-clause-taken c =
 pub returns-in_default-clause-fault : goal.returns-in_default-clause-fault
 returns-in_default-clause-fault c =
     let told = c.in_ok-pairs.ensures in
-    rw told.key (memory_first (key_due c.args.map.pairs) (key_item (string_bytes (key_of c.in_ok-pairs.pairs))) told.admitted.0 told.admitted)
+    rw told.key (memory_first (key_due c.args.map.pairs) (key_item (string_bytes (key_of c.in_ok-pairs.pairs))) told.admitted.0 told.admitted tt)

@@ -4,9 +4,10 @@ use Rattle.std.proofs.lemmas.List.Elements.{All-contains}
 use Rattle.archive_shape_layout.specs.Shape.{size_of}
 use Rattle.archive_btree_nodes.specs.BtreeLayout.Tree.{items}
 use Rattle.archive_btree_nodes.specs.SearchingNodes.{place_of}
+use Rattle.archive_forms_values.proofs.Lent.{lent_there}
 use Rattle.archive_forms_values.specs.Parts.{HasValue}
 use Rattle.archive_btree_walking.proofs.Roots.{tree_of_value}
-use Rattle.archive_btree_walking.proofs.Sealed.{nothing_written, values_within, keys_before, found_entry, lent_there}
+use Rattle.archive_btree_walking.proofs.Sealed.{nothing_written, values_within, keys_before, found_entry}
 use Rattle.archive_btree_maps.proofs.map.map.ArchivedBTreeMap.get_key_value_seal.Goals as goal
 
 pub lend_entry-requires : goal.lend_entry-requires
@@ -36,7 +37,7 @@ returns-in-Some-clause-there g c =
     All-contains (λ e. HasValue k knows (take e.value bytes) e.key) (items m.search_tree) e
     (keys_before g.row.E k v knows g.V.Portable.knows bytes c.args.this.pos has m.search_tree m.map bytes (nothing_written v (items m.search_tree) bytes)) found.0
     in
-    (lent_there k knows g.V.Portable.SIZE bytes e c.lend_entry.result.0 c.lend_entry.result.1 c.lend_entry.ensures key, c.lend_entry.ensures.own_value.len)
+    (lent_there (HasValue k knows) g.V.Portable.SIZE bytes e.key e.value c.lend_entry.result.0 c.lend_entry.result.1 c.lend_entry.ensures key, c.lend_entry.ensures.own_value.len)
 
 pub returns-in-Some-clause-found : goal.returns-in-Some-clause-found
 returns-in-Some-clause-found g c t h =

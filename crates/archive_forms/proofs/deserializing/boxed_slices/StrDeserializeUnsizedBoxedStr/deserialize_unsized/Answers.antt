@@ -3,7 +3,7 @@ use Rattle.archive_shape.specs.ShapeLayout.Value.Value.{string}
 use Rattle.archive_forms_laws.specs.ShapeCanonical.Sharing.{erased}
 use Rattle.archive_forms.proofs.deserializing.boxed_slices.StrDeserializeUnsizedBoxedStr.deserialize_unsized.Goals as goal
 
-pub returns-in-Ok : goal.returns-in-Ok
-returns-in-Ok g c = λ v held.
+pub returns-in-Ok-clause-value : goal.returns-in-Ok-clause-value
+returns-in-Ok-clause-value c = λ v held.
     let there = c.get.ensures in
     ap string (c.in-Ok.ensures.ok ∙ there.3) ∙ sym (ap erased (there.2.value v held))

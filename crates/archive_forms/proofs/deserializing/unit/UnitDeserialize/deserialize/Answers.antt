@@ -1,5 +1,5 @@
 use Rattle.archive_forms.proofs.Plain.{unit_read}
 use Rattle.archive_forms.proofs.deserializing.unit.UnitDeserialize.deserialize.Goals as goal
 
-pub returns : goal.returns
-returns g c = unit_read _ c.args._this.now.bytes.now c.args._this.now.pos
+pub returns-clause-value : goal.returns-clause-value
+returns-clause-value c = unit_read _ c.args._this.now.bytes.now c.args._this.now.pos

@@ -2,8 +2,10 @@ use denote.MutBor.{as_bor}
 use Rattle.std.proofs.Common.{Some, None, refl, subst, arith}
 use Rattle.archive_shape_layout.specs.Shape.Shapes.{no_shapes}
 use Rattle.archive_forms_values.specs.Fields.{field_position}
-use Rattle.archive_hash_walking.specs.Seals.{IsLent}
-use Rattle.archive_hash_walking.proofs.Before.{value_within, key_before, lent_there}
+use Rattle.archive_forms_values.specs.Loans.{IsLent}
+use Rattle.archive_forms_values.proofs.Lent.{lent_there}
+use Rattle.archive_forms_values.specs.Parts.{HasValue}
+use Rattle.archive_hash_walking.proofs.Before.{value_within, key_before}
 use Rattle.archive_hash_maps.proofs.map.map.ArchivedHashMap.get_key_value_seal_with.Goals as goal
 
 pub search_with-requires-clause-callable : goal.search_with-requires-clause-callable
@@ -20,7 +22,7 @@ returns-in-Some-clause-there g c =
     let v = g.V.Portable.shape in
     let bytes = c.args.this.bytes.now in
     let lent = subst (λ p. IsLent g.V.Portable.SIZE bytes c.in-Some.at p c.lend_entry.result.0 c.lend_entry.result.1) c.value_position-value.ensures c.lend_entry.ensures in
-    lent_there k g.K.Portable.knows g.V.Portable.SIZE bytes c.in-Some.at (field_position k no_shapes v c.in-Some.at) c.lend_entry.result.0 c.lend_entry.result.1 lent
+    lent_there (HasValue k g.K.Portable.knows) g.V.Portable.SIZE bytes c.in-Some.at (field_position k no_shapes v c.in-Some.at) c.lend_entry.result.0 c.lend_entry.result.1 lent
     (key_before k v g.K.Portable.knows g.V.Portable.knows bytes c.in-Some.at c.in-Some.ensures.there)
 
 pub returns-in-Some-clause-own : goal.returns-in-Some-clause-own

@@ -1,4 +1,4 @@
-use Rattle.std.proofs.Common.{ℕ, ◌<◌, List, length, ap, ◌∙◌, true, arith}
+use Rattle.std.proofs.Common.{ℕ, ◌<◌, List, length, ap, ◌∙◌, true, refl, arith}
 use Rattle.std.proofs.Math.ListN.{set}
 use Rattle.archive_shape_layout.specs.RuntimeShape.{pointee_of}
 use Rattle.archive_shape.specs.PartFault.{Entry}
@@ -22,7 +22,7 @@ returns-then-place-len c =
     let s = c.args.self.now in
     let first = c.place_of-place.ensures.first in
     let k = kept s.start s.end s.most s.pushes.items (listed Met place entry s.met.items) in
-    finishes_none k k c.args.pos (listed_none Met place entry s.met.items c.args.pos (omega arith))
+    finishes_none k k c.args.pos (listed_none Met place entry s.met.items c.args.pos (omega arith)) refl
 
 pub returns-then-index : goal.returns-then-index
 returns-then-index c =
@@ -31,7 +31,7 @@ returns-then-index c =
     let d = c.index.result.now in
     let k = kept s.start s.end s.most s.pushes.items (listed Met place entry s.met.items) in
     let found : FoundAt Met place entry s.met.items c.args.pos i d = record { first = c.place_of-place.ensures.first; below = omega arith; read = c.index.ensures } in
-    finishes_again k k c.args.pos (entry d) (found_entry Met place entry s.met.items c.args.pos i d found) c.if-index.true
+    finishes_again k k c.args.pos (entry d) (found_entry Met place entry s.met.items c.args.pos i d found) c.if-index.true refl
 
 pub returns : goal.returns
 returns c =

@@ -23,19 +23,19 @@ returns-then-place-len c =
     let first = c.place_of-place.ensures.first in
     let none = listed_none Met place entry s.met.items c.args.pos (omega arith) in
     let y : Met = record { pos = c.args.pos; pointee = c.args.pointee; len = c.args.len; done = false } in
-    (none, ap (λ xs. kept s.start s.end s.most s.pushes.items (listed Met place entry xs)) c.in_ok-push.ensures.items ∙ ap (λ seen. kept s.start s.end s.most s.pushes.items seen) (listed_more Met place entry s.met.items y none))
+    (none, ap (λ xs. kept s.start s.end s.most s.pushes.items (listed Met place entry xs)) c.in-Ok.ensures.items ∙ ap (λ seen. kept s.start s.end s.most s.pushes.items seen) (listed_more Met place entry s.met.items y none))
 
 pub returns-then-not-same_pointee : goal.returns-then-not-same_pointee
 returns-then-not-same_pointee c =
     let d = c.index-met.result.now in
     let found : FoundAt Met place entry c.args.self.now.met.items c.args.pos c.place_of-place.result d = record { first = c.place_of-place.ensures.first; below = omega arith; read = c.index-met.ensures } in
-    λ other. record { entry = entry d; is_met = found_entry Met place entry _ _ _ d found; differs = other_shape (λ e. let same : false ≡ true = c.if-not-same_pointee.ensures.1 e in cc) refl }
+    (λ other. record { entry = entry d; is_met = found_entry Met place entry _ _ _ d found; differs = other_shape (λ e. let same : false ≡ true = c.if-not-same_pointee.ensures.1 e in cc) refl }, refl)
 
 pub returns-then-met-len : goal.returns-then-met-len
 returns-then-met-len c =
     let d = c.index-met.result.now in
     let found : FoundAt Met place entry c.args.self.now.met.items c.args.pos c.place_of-place.result d = record { first = c.place_of-place.ensures.first; below = omega arith; read = c.index-met.ensures } in
-    λ other. record { entry = entry d; is_met = found_entry Met place entry _ _ _ d found; differs = other_length (c.if-not-same_pointee.ensures.0 refl) c.if-met-len.true refl }
+    (λ other. record { entry = entry d; is_met = found_entry Met place entry _ _ _ d found; differs = other_length (c.if-not-same_pointee.ensures.0 refl) c.if-met-len.true refl }, refl)
 
 pub returns-then-met : goal.returns-then-met
 returns-then-met c =

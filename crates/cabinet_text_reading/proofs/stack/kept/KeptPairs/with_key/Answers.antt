@@ -20,7 +20,7 @@ returns-in-Err-clause-fault c =
 pub invariant_of-result : goal.invariant_of-result
 invariant_of-result c bytes =
     rw c.in-Ok-true.ensures.keys
-    (kept_key bytes c.self.inside.seen.keys c.args.argument c.self.inside.pairs.items c.in-Ok.key c.in-Ok.ensures (c.self.invariant bytes))
+    (kept_key bytes c.self.inside.seen.keys c.args.argument c.self.inside.pairs.items c.in-Ok.key c.in-Ok.ensures.text (c.self.invariant bytes))
 
 pub returns-in-Ok-clause-after : goal.returns-in-Ok-clause-after
 returns-in-Ok-clause-after c =

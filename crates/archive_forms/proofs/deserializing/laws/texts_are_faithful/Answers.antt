@@ -1,0 +1,10 @@
+use Rattle.archive_forms.proofs.deserializing.laws.texts_are_faithful.Goals as goal
+
+pub returns-clause-texts : goal.returns-clause-texts
+returns-clause-texts c = λ v x h. h
+
+pub returns-clause-boxed : goal.returns-clause-boxed
+returns-clause-boxed c = λ v x h. h
+
+pub returns-clause-counted : goal.returns-clause-counted
+returns-clause-counted c = λ v x h. h

@@ -1,0 +1,30 @@
+use Rattle.std.proofs.Common.{false}
+use Rattle.std.specs.Global.{Global}
+use Rattle.std.specs.declared.rc.RcSlice.{RcSlice}
+use Rattle.archive_forms_rc.specs.declared.sharing.keyed.Shared.{Shared}
+use Rattle.std.specs.Rc.{rc_slice_items}
+use Rattle.archive_shape.specs.ShapeLayout.Shape.Pointee.{slice}
+use Rattle.archive_forms.specs.Reading.{reads_in, reads_counted, reads_all}
+use Rattle.archive_forms_rc.proofs.Tags.{pointer_has}
+use Rattle.archive_forms.proofs.ReadWeak.{nothing_read, pointer_read}
+use Rattle.archive_forms.proofs.deserializing.weak_slice.deserialize_rc_weak_slice_each.Goals as goal
+
+pub returns-in_default-clause-value : goal.returns-in_default-clause-value
+returns-in_default-clause-value g c =
+    nothing_read (slice g.A.Portable.shape) g.A.Portable.knows c.args.this.bytes.now c.args.this.pos (reads_in (λ (x : Shared (RcSlice g.row.T.Denot Global)). rc_slice_items x.value) (reads_counted (reads_all g.A.ReadBack.reads))) c.in_default.ensures
+
+pub deserialize_rc_slice_each-requires-clause-there : goal.deserialize_rc_slice_each-requires-clause-there
+deserialize_rc_slice_each-requires-clause-there g c =
+    rw (c.new-pointer.ensures.bytes, c.new-pointer.ensures.pos)
+    (pointer_has false (slice g.A.Portable.shape) g.A.Portable.knows c.args.this.bytes.now c.args.this.pos c.in-Some.ensures.1 c.requires.there)
+
+pub deserialize_rc_slice_each-requires-clause-takes : goal.deserialize_rc_slice_each-requires-clause-takes
+deserialize_rc_slice_each-requires-clause-takes g c = rw (c.new-pointer.ensures.bytes, c.new-pointer.ensures.pos) c.requires.takes
+
+pub returns-in-Ok-clause-value : goal.returns-in-Ok-clause-value
+returns-in-Ok-clause-value g c =
+    pointer_read (slice g.A.Portable.shape) g.A.Portable.knows c.args.this.bytes.now c.args.this.pos (reads_in (λ (x : Shared (RcSlice g.row.T.Denot Global)). rc_slice_items x.value) (reads_counted (reads_all g.A.ReadBack.reads))) c.in-Some.ensures.1 c.in-Ok.shared
+    (rw (← c.new-pointer.ensures.bytes, ← c.new-pointer.ensures.pos) c.in-Ok.ensures.value)
+
+pub returns-in-Ok-clause-key : goal.returns-in-Ok-clause-key
+returns-in-Ok-clause-key g c = (c.in-Some.ensures.1, rw (← c.new-pointer.ensures.bytes, ← c.new-pointer.ensures.pos) c.in-Ok.ensures.key)

@@ -1,0 +1,96 @@
+//! What counted pointers lead to is read once for each position.
+ghost use Rattle.std.specs.Prelude.{◌≡◌, ◌+◌, ◌*◌, length, IfOk, IsSome, MatchOption, ⊤};
+ghost use Rattle.std.specs.Rc.{rc_slice_items};
+ghost use Rattle.archive_shape.specs.ShapeLayout.Shape.{size_of};
+ghost use Rattle.archive_forms_values.specs.Parts.{HasValue, HasElements};
+ghost use Rattle.archive_forms.specs.Deserializing.{DeserializesBy, DeserializesAll};
+ghost use Rattle.archive_forms.specs.Steps.{StepTakes, StepReads};
+
+use crate::deserializing::elements::deserialize_elements_each;
+use crate::deserializing::keeping::keep_clone;
+use crate::deserializing::{Keeps, ReadBack};
+use archive_forms_values::SliceRef;
+use archive_forms_writing::Archive;
+use archive_shape::{Error, Ref, Slice};
+use std::alloc::Global;
+use std::marker::PhantomData;
+use std::rc::{Rc, RcSlice};
+
+/// Returns a pointer to the value at a position: a clone of the one that is kept, if one is, and otherwise one to what
+/// the step reads, of which a clone is kept.
+pub(crate) fn read_value_once<
+    T: Archive + Drop,
+    A: ReadBack<T>,
+    D: Keeps<Rc<T>, A>,
+    F: Fn(&mut D, usize) -> Result<(T, PhantomData<T::Archived>), Error>,
+>(value: Ref<'_, A>, alloc: Global, deserializer: &mut D, step: F) -> Result<Rc<T>, Error>
+    requires there { HasValue A.shape A.knows value.bytes.now value.pos }
+    requires kept { D.is_of deserializer.old value.bytes.now }
+    requires takes { StepTakes F.Fn step A.shape A.knows D.is_of value.bytes.now
+        (value.pos + size_of A.shape) }
+    requires reads { StepReads F.Fn step A.shape A.knows D.is_of value.bytes.now (λ q. q.0) A.reads }
+    ensures value { DeserializesBy A.reads A.shape A.knows value.entry.bytes.now value.entry.pos
+        (λ pointer. pointer.value) result }
+    ensures keeps { IfOk result (λ _. D.is_of deserializer.new value.entry.bytes.now) }
+    ensures pooled { IfOk result (λ pointer. MatchOption (D.kept deserializer.new value.entry.pos) ⊥
+        (λ copy. copy.value ≡ pointer.value)) }
+    ensures unread { IsSome (D.kept deserializer.old value.entry.pos) → deserializer.new ≡ deserializer.old }
+{
+    let pos = value.pos;
+    match deserializer.clone_kept(pos) {
+        Ok(Some(pointer)) => return Ok(pointer),
+        Ok(None) => {}
+        Err(e) => return Err(e),
+    }
+    let read = match step(deserializer, pos) {
+        Ok(done) => done.0,
+        Err(e) => return Err(e),
+    };
+    let pointer = match Rc::new(alloc, read) {
+        Ok(pointer) => pointer,
+        Err(_) => return Err(Error::OutOfMemory),
+    };
+    keep_clone::<_, A, D>(deserializer, pos, pointer)
+}
+
+/// Returns a pointer to elements: a clone of the one that is kept for their position, if it leads to as many, and
+/// otherwise one to what the step reads, of which a clone is kept.
+pub(crate) fn read_elements_once<
+    T: Archive + Drop,
+    A: ReadBack<T>,
+    D: Keeps<RcSlice<T>, Slice<A>>,
+    F: Fn(&mut D, usize) -> Result<(T, PhantomData<T::Archived>), Error>,
+>(items: SliceRef<'_, A>, alloc: Global, deserializer: &mut D, step: F) -> Result<RcSlice<T>, Error>
+    requires there { HasElements A.shape A.knows items.bytes.now items.pos items.len }
+    requires kept { D.is_of deserializer.old items.bytes.now }
+    requires takes { StepTakes F.Fn step A.shape A.knows D.is_of items.bytes.now
+        (items.pos + items.len * size_of A.shape) }
+    requires reads { StepReads F.Fn step A.shape A.knows D.is_of items.bytes.now (λ q. q.0) A.reads }
+    ensures values { DeserializesAll A.reads A.shape A.knows items.entry.bytes.now items.entry.pos
+        items.entry.len (λ pointer. rc_slice_items pointer) result }
+    ensures keeps { IfOk result (λ _. D.is_of deserializer.new items.entry.bytes.now) }
+    ensures pooled { IfOk result (λ pointer. MatchOption (D.kept deserializer.new items.entry.pos) ⊥
+        (λ copy. rc_slice_items copy ≡ rc_slice_items pointer)) }
+    ensures unread { MatchOption (D.kept deserializer.old items.entry.pos) ⊤
+        (λ copy. length (rc_slice_items copy) ≡ items.entry.len → deserializer.new ≡ deserializer.old) }
+{
+    let pos = items.pos;
+    match deserializer.clone_kept(pos) {
+        Ok(Some(pointer)) => {
+            if pointer.len() == items.len() {
+                return Ok(pointer);
+            }
+        }
+        Ok(None) => {}
+        Err(e) => return Err(e),
+    }
+    let all = match deserialize_elements_each::<T, A, D, F>(items, alloc, deserializer, step) {
+        Ok(all) => all,
+        Err(e) => return Err(e),
+    };
+    let pointer = match RcSlice::from_vec(all) {
+        Ok(pointer) => pointer,
+        Err(_) => return Err(Error::OutOfMemory),
+    };
+    keep_clone::<_, Slice<A>, D>(deserializer, pos, pointer)
+}

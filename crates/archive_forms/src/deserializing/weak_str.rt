@@ -1,0 +1,53 @@
+//! Weak pointers to texts are read back.
+ghost use Rattle.std.specs.Prelude.{◌≡◌, ◌+◌, false, length, IfOk, MatchOption, ⊤};
+ghost use Rattle.std.specs.Rc.{rc_str_bytes};
+ghost use Rattle.archive_shape.specs.ShapeLayout.Shape.Shape.{weak};
+ghost use Rattle.archive_shape.specs.ShapeLayout.Shape.Pointee.{str};
+ghost use Rattle.archive_forms_rc.specs.Counted.{shared_str_rc_spelling};
+ghost use Rattle.archive_forms_rc.specs.Pointers.{IsRcStrAt};
+ghost use Rattle.archive_forms_values.specs.Parts.{HasValue};
+ghost use Rattle.archive_forms.specs.Deserializing.{Deserializes};
+ghost use Rattle.archive_forms.specs.Reading.{reads_as};
+ghost use Rattle.archive_forms.specs.Weak.{reads_weak, IsKeyedAt};
+
+use crate::deserializing::{Keeps, ReadBack, deserialize_rc_str};
+use archive_forms_rc::{ArchivedRcStr, ArchivedRcWeakStr, RcFlavor, SharedWeak};
+use archive_shape::{Error, Ref, Str};
+use std::alloc::Global;
+use std::rc::RcStr;
+
+/// Reads a weak pointer to a text back. The key is the position of the text, as that of counted pointers to the text
+/// is. A text that the deserializer keeps is not read again.
+pub fn deserialize_rc_weak_str<D: Keeps<RcStr, Str>>(
+    this: Ref<'_, ArchivedRcWeakStr<RcFlavor>>,
+    alloc: Global,
+    deserializer: &mut D,
+) -> Result<SharedWeak<RcStr>, Error>
+    requires there { HasValue (weak false str) (λ _. ⊤) this.bytes.now this.pos }
+    requires kept { D.is_of deserializer.old this.bytes.now }
+    ensures value { Deserializes (reads_weak (reads_as shared_str_rc_spelling)) (weak false str)
+        (λ _. ⊤) this.entry.bytes.now this.entry.pos result }
+    ensures key { IfOk result (IsKeyedAt str (λ _. ⊤) this.entry.bytes.now this.entry.pos
+        (λ x. IsRcStrAt false this.entry.bytes.now (this.entry.pos + 4) x.key (length (rc_str_bytes x.value)))) }
+    ensures keeps { IfOk result (λ _. D.is_of deserializer.new this.entry.bytes.now) }
+    ensures pooled { IfOk result (λ x. MatchOption x.shared ⊤ (λ led. MatchOption
+        (D.kept deserializer.new led.key) ⊥ (λ copy. rc_str_bytes copy ≡ rc_str_bytes led.value))) }
+    ensures unread { IfOk result (λ x. MatchOption x.shared ⊤ (λ led. MatchOption
+        (D.kept deserializer.old led.key) ⊤ (λ copy. length (rc_str_bytes copy) ≡ length (rc_str_bytes led.value)
+        → deserializer.new ≡ deserializer.old))) }
+{
+    let Some(_) = ArchivedRcWeakStr::upgrade(this) else {
+        return Ok(SharedWeak { shared: None });
+    };
+    let pointer = Ref::<ArchivedRcStr<RcFlavor>>::new(this.bytes, this.pos + 4);
+    match deserialize_rc_str(pointer, alloc, deserializer) {
+        Ok(shared) => Ok(SharedWeak {
+            shared: Some(shared),
+        }),
+        Err(e) => Err(e),
+    }
+}
+
+impl ReadBack<SharedWeak<RcStr>> for ArchivedRcWeakStr<RcFlavor> {
+    ghost reads = { reads_weak (reads_as shared_str_rc_spelling) };
+}

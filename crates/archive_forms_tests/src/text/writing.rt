@@ -1,0 +1,59 @@
+//! Tests of the writing of texts over others.
+ghost use Rattle.std.specs.Prelude.{◌≡◌, ◌+◌, ◌≤◌, length};
+ghost use Rattle.archive_forms_values.specs.Repr.{length_of};
+
+use super::checked::checked;
+use archive_forms_values::{ArchivedBoxedStr, ArchivedString, ArchivedStringRepr};
+use archive_shape::{Error, OwnSeal, Seal};
+use std::alloc::Global;
+use std::test::Fail;
+
+/// Writes a text over the one at `pos`, if it has as many bytes.
+fn written(alloc: Global, bytes: &mut [u8], pos: usize, text: &str) -> Result<bool, Error>
+    requires { pos + 8 ≤ length bytes.old }
+{
+    let there = checked(alloc, bytes, pos)?;
+    if ArchivedString::len(there) != text.len() {
+        return Ok(false);
+    }
+    ArchivedString::write_text(Seal::new(bytes, pos), text);
+    Ok(true)
+}
+
+/// The bytes of a text out of line, and then its own.
+const LONG: [u8; 20] = *b"hello there.\x8c\0\0\0\xf4\xff\xff\xff";
+
+#[test]
+fn texts_are_written_over_others(rt: HostRuntime) -> Result<(), Fail> {
+    let mut bytes = LONG;
+    assert!(rt; written(rt.alloc(), &mut bytes, 12, "HELLO THERE!") == Ok(true));
+    assert!(rt; bytes == *b"HELLO THERE!\x8c\0\0\0\xf4\xff\xff\xff");
+    assert!(rt; written(rt.alloc(), &mut bytes, 12, "HELLO") == Ok(false));
+    let mut inline = *b"..world\xff\xff\xff";
+    assert!(rt; written(rt.alloc(), &mut inline, 2, "WORLD") == Ok(true));
+    assert!(rt; inline == *b"..WORLD\xff\xff\xff");
+    assert!(rt; written(rt.alloc(), &mut inline, 2, "WORLDS") == Ok(false));
+    Ok(())
+}
+
+/// Puts a text over the one whose own bytes these are, if it has as many bytes.
+fn put(own: &mut [u8; 8], text: &str) -> Result<bool, Error> {
+    if ArchivedStringRepr::len(own) != text.len() {
+        return Ok(false);
+    }
+    let mut seal = OwnSeal::<ArchivedString>::new(own, 16);
+    ArchivedString::put_text(&mut seal, text)?;
+    Ok(true)
+}
+
+#[test]
+fn texts_are_put_in_their_own_bytes(rt: HostRuntime) -> Result<(), Fail> {
+    let mut own = *b"world\xff\xff\xff";
+    assert!(rt; put(&mut own, "WORLD") == Ok(true));
+    assert!(rt; own == *b"WORLD\xff\xff\xff");
+    assert!(rt; put(&mut own, "WORLDS") == Ok(false));
+    let mut far = *b"\x8c\0\0\0\xf4\xff\xff\xff";
+    assert!(rt; put(&mut far, "HELLO THERE!") == Err(Error::InvalidSubtreePointer { size: 12 }));
+    assert!(rt; far == *b"\x8c\0\0\0\xf4\xff\xff\xff");
+    Ok(())
+}
