@@ -27,10 +27,12 @@ use Rattle.archive_btree_spelling.proofs.BtreeLayout.Descending.{descent_finds, 
 use Rattle.archive_btree_walking.specs.BtreeLayout.Descent.{descend}
 use Rattle.archive_btree_walking.specs.BtreeLayout.Reading.{Place}
 use Rattle.archive_btree_walking.specs.BtreeLayout.Tree.{Tree, items}
-use Rattle.archive_btree_walking.specs.Lookups.{QueryOrders, HasKey}
+use Rattle.archive_btree_walking.specs.Lookups.{QueryOrders, QuerySays, HasKey}
 use Rattle.archive_btree_walking.specs.Maps.{IsMapAt, AreEntriesAt, IsEntryAt}
+use Rattle.archive_btree_walking.proofs.LookedUp.{ordered_search}
 use Rattle.archive_btree_walking.proofs.Read.{map_is_read}
 use Rattle.archive_btree.specs.Answering.{IsWrittenMap, HasEntry, KeysAscend, entry_with, FindsEntry, AnswersKeys}
+use Rattle.archive_btree_nodes.specs.Descents.{DescendsTo}
 use Rattle.archive_btree_nodes.proofs.Sublists.{pairs_head, pairs_tail}
 
 -- ---- orders
@@ -170,14 +172,27 @@ module _ {A B R P : Type 0} (most : ℕ) (k v : Shape) (knows others : Names →
 
     -- ---- the map
 
+    -- the keys at places of entries
+    keys_there : (ps : List Place) (es : List (A × B)) → AllZip Entry ps es → All (λ p. (found : Q) × key_of bytes p.key found) ps
+    keys_there [] [] h = All-nil (λ p. (found : Q) × key_of bytes p.key found)
+    keys_there [] (e ∷ es) h = absurd h
+    keys_there (p ∷ ps) [] h = absurd h
+    keys_there (p ∷ ps) (e ∷ es) h = All-cons (λ q. (found : Q) × key_of bytes q.key found) p ps (key e.0, represents e.0 h.0.state p.key h.0.key_held) (keys_there ps es h.1)
+
     -- the entry is at the place that the search ends at
-    has_entry : (pos : ℕ) (t : Tree Place) → IsMapAt bytes most k v pos t → (query : Q) (orders : Place → Ordering) → QueryOrders key_of order bytes query orders (items t)
-        → (o : Option (A × B)) → IsSome o → MatchOption o (descend orders t ≡ None) (λ e. IsSomeAnd (descend orders t) (λ at. Entry at e))
-        → HasKey key_of order bytes most k v pos query
-    has_entry pos t map query orders right None some h = absurd cc
-    has_entry pos t map query orders right (Some e) some h =
-        let found = some_of (λ at. Entry at e) (descend orders t) h in
-        record { search_tree = t; order = orders; entry = found.0; map = map; orders = right; found = found.1 }
+    has_entry : (query : Q) → (orders : Place → Ordering) (pos : ℕ) (t : Tree Place) → IsMapAt bytes most k v pos t → QueryOrders key_of order bytes query orders (items t) → All (λ p. (found : Q) × key_of bytes p.key found) (items t)
+        → (at : Place) → descend orders t ≡ Some at → HasKey key_of order bytes most k v pos query
+    has_entry query orders pos t map right keys at ends = record {
+      search_tree = t;
+      entry = at;
+      map = map;
+      found = subst (DescendsTo (QuerySays key_of order bytes query) t) ends (ordered_search key_of order bytes query orders t right keys);
+    }
+
+    entry_is_there : (query : Q) (orders : Place → Ordering) (t : Tree Place) (o : Option (A × B)) → IsSome o → MatchOption o (descend orders t ≡ None) (λ e. IsSomeAnd (descend orders t) (λ at. Entry at e))
+        → (at : Place) × (descend orders t ≡ Some at)
+    entry_is_there query orders t None some h = absurd cc
+    entry_is_there query orders t (Some e) some h = some_of (λ at. Entry at e) (descend orders t) h
 
     -- of a map at any position
     pub held_answers : (pos : ℕ) (es : List (A × B)) (st : State) → 0 < most → HeldAt (tree most k v) (both knows others) bytes pos ((btree_spelling most k v keys vals).value es st)
@@ -201,18 +216,14 @@ module _ {A B R P : Type 0} (most : ℕ) (k v : Shape) (knows others : Names →
           walks = there;
           finds = finds;
           has = λ query some.
-              has_entry pos m.search_tree m.map query (orders_of query ps es) (right query) (entry_with most k v knows others keys vals bytes key order query es) some (finds query (orders_of query ps es) (right query));
+              let orders = orders_of query ps es in
+              let ends = entry_is_there query orders m.search_tree (entry_with most k v knows others keys vals bytes key order query es) some (finds query orders (right query)) in
+              has_entry query orders pos m.search_tree m.map (right query) (keys_there ps es there) ends.0 ends.1;
           has_found = λ query at within same.
-              let equal : orders_of query ps es at ≡ Equal = order_at query ps es there within.0 at within.1 at within.2 same.0 same.1 ∙ ap ordering_reverse same.2 in
-              let found = find_some (λ p. is_eq (orders_of query ps es p)) ps within.0 at within.1 (ap (λ p. is_eq (orders_of query ps es p)) within.2 ∙ ap is_eq equal) in
-              record {
-                search_tree = m.search_tree;
-                order = orders_of query ps es;
-                entry = found.0;
-                map = m.map;
-                orders = right query;
-                found = searched query (orders_of query ps es) (right query) ∙ found.1;
-              };
+              let orders = orders_of query ps es in
+              let equal : orders at ≡ Equal = order_at query ps es there within.0 at within.1 at within.2 same.0 same.1 ∙ ap ordering_reverse same.2 in
+              let found = find_some (λ p. is_eq (orders p)) ps within.0 at within.1 (ap (λ p. is_eq (orders p)) within.2 ∙ ap is_eq equal) in
+              has_entry query orders pos m.search_tree m.map (right query) (keys_there ps es there) found.0 (searched query orders (right query) ∙ found.1);
         }
 
     -- of a map that is a root

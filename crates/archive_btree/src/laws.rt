@@ -9,8 +9,8 @@ pub use archive_btree_layout::{
     packed_is_least, pairs_stay, tree_is_read, tree_stays, values_apart,
 };
 pub use archive_btree_maps::{
-    equal_maps_are_hashed_alike, equal_sets_are_hashed_alike, map_equalities_are_equivalences,
-    set_equalities_are_equivalences, set_is_read,
+    equal_maps_are_hashed_alike, equal_sets_are_hashed_alike, found_is_present,
+    map_equalities_are_equivalences, set_equalities_are_equivalences, set_is_read,
 };
 pub use archive_btree_spelling::{
     maps_are_packed, maps_are_written, six_pairs_are_written, trees_are_packed, written_is_least,

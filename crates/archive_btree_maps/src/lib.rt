@@ -8,7 +8,7 @@ pub mod set;
 pub use map::{
     ArchivedBTreeMap, BTreeMapResolver, InvalidLength, IterSeal, Keys, Range, RangeSeal, Values,
     ValuesSeal, eq_btree_map, eq_btree_map_with, eq_map, equal_maps_are_hashed_alike,
-    map_equalities_are_equivalences, map_is_read, one_map,
+    found_is_present, map_equalities_are_equivalences, map_is_read, one_map,
 };
 pub use set::{
     ArchivedBTreeSet, BTreeSetResolver, eq_btree_set, equal_sets_are_hashed_alike,

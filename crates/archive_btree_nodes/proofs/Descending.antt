@@ -1,18 +1,20 @@
 -- The descent through a node, by what a search among its keys returns, and what holds of its items.
-use Rattle.std.proofs.Common.{◌≡◌, ℕ, zero, suc, ◌+◌, ◌<◌, ◌≤◌, List, ◌∷◌, min, Some, refl, sym, subst, arith}
+use Rattle.std.proofs.Common.{◌≡◌, ℕ, zero, suc, ◌+◌, ◌<◌, ◌≤◌, List, ◌∷◌, min, Option, Some, refl, ap, sym, subst, arith}
 use Rattle.std.specs.Prelude.{All}
 use Rattle.std.specs.declared.cmp.Ordering.{Ordering}
-use Rattle.std.specs.declared.cmp.Ordering.TheVariants.{Less, Equal}
+use Rattle.std.specs.declared.cmp.Ordering.TheVariants.{Less, Equal, Greater}
 use Rattle.std.proofs.lemmas.List.Elements.{All-head, All-tail}
 use Rattle.archive_btree_layout.specs.Tree.{Tree, Branches, items, items_of}
 use Rattle.archive_btree_layout.specs.Descent.{descend, descend_in, met, met_by}
 use Rattle.archive_btree_layout.specs.Reading.{Place}
 use Rattle.archive_btree_nodes.specs.SearchingNodes.{child_of, entry_of}
-use Rattle.archive_btree_nodes.specs.Searching.{IsAbove}
+use Rattle.archive_btree_nodes.specs.Descents.{DescendsTo, DescendsIn}
+use Rattle.archive_btree_nodes.specs.Searching.{AreBelow}
 use Rattle.archive_btree_nodes.specs.declared.layout.NodeLayout.{NodeLayout}
 use Rattle.archive_btree_nodes.proofs.Sublists.{all_front, all_back}
 use Rattle.archive_btree_nodes.proofs.NodeTree.{ChildIs, Branching}
 use Rattle.archive_btree_nodes.proofs.NodeTree.Branching.{last, more}
+use Rattle.archive_btree_nodes.proofs.Said.{IsAbove}
 
 module _ (bytes : List ℕ) (l : NodeLayout) (level pos : ℕ) where
   module _ (P : Place → Type 0) where
@@ -91,3 +93,35 @@ module _ (bytes : List ℕ) (l : NodeLayout) (level pos : ℕ) where
           count = rw (e, own) next;
           holds = λ all. rest.holds (All-tail P _ _ (all_back P (items t) (entry_of l pos i ∷ items_of cs) (subst (λ x. All P (items_of x)) e all)));
         }
+
+  -- ---- by what is said of each entry
+
+  module _ (says : Place → Ordering → Type 0) where
+    pub ends_said : (n i d j : ℕ) (bs : Branches Place) → j ≡ i + d → Branching bytes l level pos n i bs → d < n → AreBelow (λ m. says (entry_of l pos m)) j
+        → says (entry_of l pos j) Equal → DescendsIn says bs (Some (entry_of l pos j))
+    ends_said n i d j bs at (last z c e) below above is = absurd (omega arith)
+    ends_said n i zero j bs at (more z c r e) below above is =
+        let here : j ≡ i = omega arith in
+        rw e (Equal, subst (λ x. says (entry_of l pos x) Equal) here is, ap (λ x. Some (entry_of l pos x)) here)
+    ends_said n i (suc d) j bs at (more {m = m} {cs = cs} z c r e) below above is =
+        rw e (Greater, above i (omega arith), ends_said m (suc i) d j cs (omega arith) r (omega arith) above is)
+
+    -- where the search in child j ends, the search in all branches does
+    pub record Leads (bs : Branches Place) (j : ℕ) : Type 0 where
+      pub tree : Tree Place
+      pub is : ChildIs bytes l level (child_of bytes l pos j) tree
+      pub leads : (found : Option Place) → DescendsTo says tree found → DescendsIn says bs found
+
+    pub leads_on : (n i d j : ℕ) (bs : Branches Place) → j ≡ i + d → Branching bytes l level pos n i bs → d ≤ n → AreBelow (λ m. says (entry_of l pos m)) j
+        → (d < n → says (entry_of l pos j) Less) → Leads bs j
+    leads_on n i d j bs at (last {t = t} z c e) below above is =
+        let here : i ≡ j = omega arith in
+        subst (Leads bs) here (record { tree = t; is = c; leads = λ found ends. rw e ends })
+    leads_on n i zero j bs at (more {t = t} z c r e) below above is =
+        let here : j ≡ i = omega arith in
+        let own = subst (λ x. says (entry_of l pos x) Less) here (is (omega arith)) in
+        subst (Leads bs) (sym here) (record { tree = t; is = c; leads = λ found ends. rw e (Less, own, ends) })
+    leads_on n i (suc d) j bs at (more {m = m} {cs = cs} z c r e) below above is =
+        let own = above i (omega arith) in
+        let rest = leads_on m (suc i) d j cs (omega arith) r (omega arith) above (λ b. is (omega arith)) in
+        record { tree = rest.tree; is = rest.is; leads = λ found ends. rw e (Greater, own, rest.leads found ends) }

@@ -13,6 +13,7 @@ pub mod Pointers
 pub mod Ranged
 pub mod Reached
 pub mod Rooms
+pub mod Said
 pub mod Stays
 pub mod Stepped
 pub mod Sublists

@@ -2,18 +2,20 @@
 use Rattle.std.proofs.Common.{◌≡◌, ◌∙◌, ℕ, zero, suc, ◌+◌, ◌*◌, ◌^◌, ◌<◌, ◌≤◌, List, [], ◌∷◌, length, Option, Some, None, refl, ap, sym, subst, arith}
 use Rattle.std.specs.Prelude.{slice_index}
 use Rattle.std.specs.declared.cmp.Ordering.{Ordering}
+use Rattle.std.specs.declared.cmp.Ordering.TheVariants.{Less, Equal, Greater}
 use Rattle.archive_btree_layout.specs.ShapeLayout.Bytes.{word_at, target_from}
 use Rattle.archive_btree_layout.specs.ShapeLayout.Shape.{Shape, size_of}
 use Rattle.archive_btree_layout.specs.ShapeLayout.Content.{keys_offset, values_offset, links_offset}
 use Rattle.archive_btree_layout.proofs.ShapeLayout.Framed.{keys_fit, values_fit, links_fit}
 use Rattle.archive_btree_layout.specs.Tree.{Tree, Branches, items, items_of}
-use Rattle.archive_btree_layout.specs.Tree.Tree.{absent}
+use Rattle.archive_btree_layout.specs.Tree.Tree.{absent, leaf, inner}
 use Rattle.archive_btree_layout.specs.Tree.Branches.{greater, lesser}
 use Rattle.archive_btree_layout.specs.Descent.{find_in, descend, descend_in, met, met_in, met_by}
 use Rattle.archive_btree_layout.specs.Reading.{Place, places, HasNode, HasBranches, HasChild}
 use Rattle.archive_btree_layout.specs.Reading.HasNode.{has_leaf, has_inner}
 use Rattle.archive_btree_layout.specs.Reading.HasBranches.{has_greater, has_lesser}
 use Rattle.archive_btree_layout.specs.Reading.HasChild.{no_child, a_child}
+use Rattle.archive_btree_nodes.specs.Descents.{FindsIn, DescendsTo, DescendsIn}
 use Rattle.archive_btree_nodes.specs.Layout.{IsLayout}
 use Rattle.archive_btree_nodes.specs.SearchingLayout.{IsTreeAt}
 use Rattle.archive_btree_nodes.specs.SearchingNodes.{child_of, entry_of, entry_count, pointer_at, link_at, IsReadable}
@@ -59,6 +61,21 @@ pub met_by_bare : {A : Type 0} (order : A → Ordering) (es : List A) → met_by
 met_by_bare order [] = refl
 met_by_bare order (e ∷ es) = rw (met_by_bare order es) refl
 
+pub said_in_bare : {A : Type 0} (says : A → Ordering → Type 0) (es : List A) (found : Option A) → DescendsIn says (bare es) found → FindsIn says es found
+said_in_bare says [] found h = h
+said_in_bare says (e ∷ es) found (Less, s, h) = (Less, s, h)
+said_in_bare says (e ∷ es) found (Equal, s, h) = (Equal, s, h)
+said_in_bare says (e ∷ es) found (Greater, s, h) = (Greater, s, said_in_bare says es found h)
+
+-- the branches of a tree's node: those of an inner node, or the bare entries of a leaf
+pub data MadeOf {A : Type 0} (t : Tree A) (bs : Branches A) : Type 0 where
+  of_leaf : {es : List A} → t ≡ leaf es → bs ≡ bare es → MadeOf t bs
+  of_inner : t ≡ inner bs → MadeOf t bs
+
+pub same_said : {A : Type 0} (says : A → Ordering → Type 0) (t : Tree A) (bs : Branches A) (found : Option A) → MadeOf t bs → DescendsIn says bs found → DescendsTo says t found
+same_said says t bs found (of_leaf {es = es} is e) ends = rw is (said_in_bare says es found (rw (sym e) ends))
+same_said says t bs found (of_inner is) ends = rw is ends
+
 -- the branches that a tree's node has
 pub record HasBranching (bytes : List ℕ) (l : NodeLayout) (level pos : ℕ) (t : Tree Place) : Type 0 where
   pub branches : Branches Place
@@ -66,6 +83,7 @@ pub record HasBranching (bytes : List ℕ) (l : NodeLayout) (level pos : ℕ) (t
   pub same_items : items t ≡ items_of branches
   pub same_descent : (order : Place → Ordering) → descend order t ≡ descend_in order branches
   pub same_met : (order : Place → Ordering) → met order t ≡ met_by order branches
+  pub made : MadeOf t branches
 
 module _ (bytes : List ℕ) (most : ℕ) (k v : Shape) (l : NodeLayout) (lay : IsLayout most k v l) where
   child_is : (level link : ℕ) (t : Tree Place) → HasChild bytes most k v level link t → ChildIs bytes l level (pointer_at bytes link) t
@@ -132,6 +150,7 @@ module _ (bytes : List ℕ) (most : ℕ) (k v : Shape) (l : NodeLayout) (lay : I
         same_items = rw f (sym (items_of_bare es));
         same_descent = λ order. rw f (sym (descend_in_bare order es));
         same_met = λ order. rw f (sym (met_by_bare order es));
+        made = of_leaf f refl;
       }
   node_branching level pos t (has_inner {bs = bs} a b kind d e) =
       record {
@@ -142,6 +161,7 @@ module _ (bytes : List ℕ) (most : ℕ) (k v : Shape) (l : NodeLayout) (lay : I
         same_items = rw e refl;
         same_descent = λ order. rw e refl;
         same_met = λ order. rw e refl;
+        made = of_inner e;
       }
 
   -- ---- a node can be read

@@ -1,5 +1,5 @@
 -- A search in a node of a tree in bytes leads where the descent does.
-use Rattle.std.proofs.Common.{◌≡◌, ◌∙◌, ℕ, suc, ◌+◌, ◌<◌, ◌≤◌, List, min, Some, None, ap, subst, arith}
+use Rattle.std.proofs.Common.{◌≡◌, ◌∙◌, ℕ, suc, ◌+◌, ◌*◌, ◌<◌, ◌≤◌, List, min, Option, Some, None, refl, ap, subst, arith}
 use Rattle.std.specs.Prelude.{All, ⊤}
 use Rattle.std.specs.declared.cmp.Ordering.{Ordering}
 use Rattle.archive_btree_layout.specs.Tree.{Tree, items}
@@ -10,9 +10,11 @@ use Rattle.archive_btree_nodes.specs.declared.searching.search.Outcome.{Outcome}
 use Rattle.archive_btree_nodes.specs.declared.searching.search.Outcome.TheVariants.{Equals, Before}
 use Rattle.archive_btree_nodes.specs.SearchingLayout.{IsTreeAt}
 use Rattle.archive_btree_nodes.specs.SearchingNodes.{entry_count, entry_of, child_of}
-use Rattle.archive_btree_nodes.specs.Searching.{Answers, Orders, OrdersKeys}
-use Rattle.archive_btree_nodes.proofs.NodeTree.{ChildIs, HasBranching, tree_branching}
-use Rattle.archive_btree_nodes.proofs.Descending.{entry_holds, child_holds, ends_at, goes_on}
+use Rattle.archive_btree_nodes.specs.Descents.{DescendsTo}
+use Rattle.archive_btree_nodes.specs.Searching.{IsSaid, Orders}
+use Rattle.archive_btree_nodes.proofs.NodeTree.{ChildIs, HasBranching, same_said, tree_branching}
+use Rattle.archive_btree_nodes.proofs.Descending.{entry_holds, child_holds, ends_at, goes_on, ends_said, leads_on}
+use Rattle.archive_btree_nodes.proofs.Said.{OrdersKeys, Answers, said_answers}
 
 module _ (bytes : List ℕ) (l : NodeLayout) (level pos : ℕ) (t : Tree Place) (h : IsTreeAt bytes l level pos t) where
   own : HasBranching bytes l level pos t
@@ -44,9 +46,10 @@ module _ (bytes : List ℕ) (l : NodeLayout) (level pos : ℕ) (t : Tree Place) 
 
   -- what a search among its keys returns, for an order of all items
   pub node_answers : {F : Type 0} (post : F → ℕ → Ordering → Type 0) (f : F) (order : Place → Ordering) (count : ℕ) (o : Outcome) → count ≡ entry_count bytes l pos
-      → ((by : ℕ → Ordering) → OrdersKeys post f by (pos + l.keys) l.key_size count → Answers by count o)
+      → IsSaid (λ i r. post f (pos + l.keys + i * l.key_size) r) count o
       → Orders post f order (items t) → Answers (λ i. order (entry_of l pos i)) (entry_count bytes l pos) o
-  node_answers post f order count o e answers all = (rw e at answers) (λ i. order (entry_of l pos i)) (keys_order post f order all)
+  node_answers post f order count o e said all =
+      said_answers post f (pos + l.keys) l.key_size (entry_count bytes l pos) o (subst (λ n. IsSaid (λ i r. post f (pos + l.keys + i * l.key_size) r) n o) e said) (λ i. order (entry_of l pos i)) (keys_order post f order all)
 
   -- ---- what a search returns
 
@@ -92,3 +95,34 @@ module _ (bytes : List ℕ) (l : NodeLayout) (level pos : ℕ) (t : Tree Place) 
             count = own.same_met order ∙ g.count;
             holds = λ all. g.holds (subst (All P) own.same_items all);
           }
+
+  -- ---- where the search ends, by what is said of each entry
+
+  module _ (says : Place → Ordering → Type 0) (count j : ℕ) (e : count ≡ entry_count bytes l pos) where
+    abbrev IsSaidHere : ℕ → Outcome → Type 0
+    IsSaidHere n o = IsSaid (λ i. says (entry_of l pos i)) n o
+
+    pub ends_there : IsSaid (λ i. says (entry_of l pos i)) count (Equals j) → DescendsTo says t (Some (entry_of l pos j))
+    ends_there said =
+        let s = subst (λ n. IsSaidHere n (Equals j)) e said in
+        same_said says t own.branches (Some (entry_of l pos j)) own.made (ends_said bytes l (suc level) pos says (entry_count bytes l pos) 0 j j own.branches (omega arith) own.stand s.0 s.1 s.2)
+
+    -- the search in a child ends where that in the tree does
+    pub record LeadsTo (p : ℕ) : Type 0 where
+      pub tree : Tree Place
+      pub stands : IsTreeAt bytes l (suc level) p tree
+      pub leads : (found : Option Place) → DescendsTo says tree found → DescendsTo says t found
+
+    module _ (said : IsSaid (λ i. says (entry_of l pos i)) count (Before j)) where
+      pub ends_nowhere : child_of bytes l pos j ≡ None → DescendsTo says t None
+      ends_nowhere no_child =
+          let s = subst (λ n. IsSaidHere n (Before j)) e said in
+          let g = leads_on bytes l (suc level) pos says (entry_count bytes l pos) 0 j j own.branches (omega arith) own.stand s.0 s.1 s.2 in
+          let none = subst (λ o. ChildIs bytes l (suc level) o g.tree) no_child g.is in
+          same_said says t own.branches None own.made (g.leads None (rw none refl))
+
+      pub leads_to : (p : ℕ) → child_of bytes l pos j ≡ Some p → LeadsTo p
+      leads_to p child =
+          let s = subst (λ n. IsSaidHere n (Before j)) e said in
+          let g = leads_on bytes l (suc level) pos says (entry_count bytes l pos) 0 j j own.branches (omega arith) own.stand s.0 s.1 s.2 in
+          record { tree = g.tree; stands = subst (λ o. ChildIs bytes l (suc level) o g.tree) child g.is; leads = λ found ends. same_said says t own.branches found own.made (g.leads found ends) }

@@ -5,7 +5,7 @@ ghost use Rattle.archive_shape.specs.ShapeLayout.Shape.Shape.{number};
 ghost use Rattle.archive_forms_values.specs.Parts.{HasValue};
 
 use crate::archives::{EMPTY, EMPTY_LEAF, Numbers, ONE_PAIR, SIX_PAIRS, bytes_of, root_of};
-use archive_btree_maps::ArchivedBTreeMap;
+use archive_btree_maps::{ArchivedBTreeMap, found_is_present};
 use archive_forms_values::native_of;
 use archive_shape::{ArchivedU32, Error, Ref};
 use std::alloc::Global;
@@ -73,6 +73,26 @@ fn look_ups_agree(rt: HostRuntime) {
         );
     }
     assert!(rt; looked_up(rt.alloc(), &SIX_PAIRS, 7) == Ok(([None, None, None], false)));
+}
+
+/// Returns the value that `index` returns for a key that `get` has found.
+fn indexed(alloc: Global, words: &[u32], key: u32) -> Result<Option<u32>, Error> {
+    let bytes = bytes_of(alloc, words)?;
+    let root = root_of::<Numbers>(alloc, bytes.as_slice())?;
+    match ArchivedBTreeMap::get(root, &key) {
+        Some(value) => {
+            found_is_present(root, &key, value);
+            Ok(Some(native_of(ArchivedBTreeMap::index(root, &key))))
+        }
+        None => Ok(None),
+    }
+}
+
+#[test]
+fn keys_that_are_found_can_be_indexed(rt: HostRuntime) {
+    assert!(rt; indexed(rt.alloc(), &SIX_PAIRS, 6) == Ok(Some(16)));
+    assert!(rt; indexed(rt.alloc(), &SIX_PAIRS, 7) == Ok(None));
+    assert!(rt; indexed(rt.alloc(), &EMPTY_LEAF, 3) == Ok(Some(13)));
 }
 
 /// Returns the positions of the keys and of the values, in order.

@@ -1,5 +1,6 @@
 pub mod Between
 pub mod Held
+pub mod LookedUp
 pub mod One
 pub mod Read
 pub mod Refs

@@ -1,14 +1,15 @@
 -- How a query compares with the keys of a map.
 use denote.Ref.{Bor}
 use Rattle.std.specs.Prelude.{◌≡◌, ℕ, List, Option, Some, IfSome, All, Contains}
+use Rattle.std.specs.Option.{option_map}
 use Rattle.std.specs.Ordering.{ordering_reverse}
 use Rattle.std.specs.declared.cmp.Ordering.{Ordering}
 use Rattle.std.specs.declared.cmp.Ordering.TheVariants.{Equal}
 use Rattle.archive_shape.specs.ShapeLayout.Shape.{Shape}
 use Rattle.archive_shape.specs.declared.references.refs.Ref.{Ref}
 use Rattle.archive_btree_nodes.specs.BtreeLayout.Reading.{Place}
-use Rattle.archive_btree_nodes.specs.BtreeLayout.Descent.{descend}
-use Rattle.archive_btree_nodes.specs.BtreeLayout.Tree.{Tree, items}
+use Rattle.archive_btree_nodes.specs.BtreeLayout.Tree.{Tree}
+use Rattle.archive_btree_nodes.specs.Descents.{DescendsTo}
 use Rattle.archive_btree_walking.specs.Maps.{IsMapAt}
 use Rattle.archive_btree_walking.specs.Refs.{key_at}
 
@@ -37,14 +38,20 @@ IsCalledEqual post f query bytes e = (lent : Bor (List ℕ)) × (lent.now ≡ by
 abbrev pub Finds : {A : Type 0} → (Place → A) → (Place → Type 0) → List Place → Option A → Type 0
 Finds of holds places found = IfSome found (λ a. (e : Place) × Contains places e × holds e × (a ≡ of e))
 
--- the map at a position has a key that compares as equal to the query
+-- a key at a place compares with the query as this order says
+abbrev pub QuerySays : {Q : Type 0} → (List ℕ → ℕ → Q → Type 0) → (Q → Q → Ordering) → List ℕ → Q → Place → Ordering → Type 0
+QuerySays key_of key_order bytes query e order = (key : _) × key_of bytes e.key key × (order ≡ ordering_reverse (key_order key query))
+
+-- what is found is what lies at the entry that the search for the query ends at
+abbrev pub LooksUp : {A Q : Type 0} → (Place → A) → (List ℕ → ℕ → Q → Type 0) → (Q → Q → Ordering) → List ℕ → Q → Tree Place → Option A → Type 0
+LooksUp of key_of key_order bytes query t found = (entry : Option Place) × DescendsTo (QuerySays key_of key_order bytes query) t entry × (found ≡ option_map of entry)
+
+-- the map at a position has a key that compares as equal to the query, where the search for the query ends
 pub record HasKey {Q : Type 0} (key_of : List ℕ → ℕ → Q → Type 0) (key_order : Q → Q → Ordering) (bytes : List ℕ) (most : ℕ) (k v : Shape) (pos : ℕ) (query : Q) : Type 0 where
   pub search_tree : Tree Place
-  pub order : Place → Ordering
   pub entry : Place
   pub map : IsMapAt bytes most k v pos search_tree
-  pub orders : QueryOrders key_of key_order bytes query order (items search_tree)
-  pub found : descend order search_tree ≡ Some entry
+  pub found : DescendsTo (QuerySays key_of key_order bytes query) search_tree (Some entry)
 
 -- the calls at the keys of these places return what this order does
 abbrev pub CallsOrder : {F Q K : Type 0} → (F → Q → Ref K → Ordering → Type 0) → F → Q → Bor (List ℕ) → (Place → Ordering) → List Place → Type 0

@@ -7,11 +7,12 @@ ghost use Rattle.archive_shape.specs.ShapeLayout.Shape.Shape.{tree};
 ghost use Rattle.archive_btree_nodes.specs.BtreeLayout.Tree.{Tree, items};
 ghost use Rattle.archive_btree_nodes.specs.BtreeLayout.Descent.{descend, met};
 ghost use Rattle.archive_btree_nodes.specs.BtreeLayout.Reading.{Place};
+ghost use Rattle.archive_btree_nodes.specs.Descents.{DescendsTo};
 ghost use Rattle.archive_btree_nodes.specs.SearchingNodes.{place_of};
 ghost use Rattle.archive_btree_nodes.specs.Searching.{IsAmong, Orders};
 ghost use Rattle.archive_forms_values.specs.Parts.{HasValue, both};
 ghost use Rattle.archive_btree_walking.specs.Maps.{IsMapAt};
-ghost use Rattle.archive_btree_walking.specs.Lookups.{QueryOrders, IsEqualKey, Finds};
+ghost use Rattle.archive_btree_walking.specs.Lookups.{QueryOrders, QuerySays, IsEqualKey, Finds};
 
 use crate::root::root_at;
 use archive_btree_nodes::{EntryAt, search_counted};
@@ -30,6 +31,8 @@ pub fn search_map<K: Portable, V: Portable, F: Fn(usize) -> Ordering, const E: u
         → All (λ e. F.pre compare.now e.key) (items t) }
     ensures found { (t : Tree Place) → IsMapAt bytes.now E K.shape V.shape pos t
         → IsAmong F.post compare.now (items t) result.0 }
+    ensures descends { (t : Tree Place) → IsMapAt bytes.now E K.shape V.shape pos t
+        → DescendsTo (λ e r. F.post compare.now e.key r) t (option_map place_of result.0) }
     ensures answers { (t : Tree Place) (order : Place → Ordering)
         → IsMapAt bytes.now E K.shape V.shape pos t → Orders F.post compare.now order (items t)
         → (option_map place_of result.0 ≡ descend order t) × (result.1 ≡ min (met order t) (2 ^ 64 - 1)) }
@@ -50,6 +53,8 @@ pub fn search_key<Q, K: ArchivedKey<Q>, V: Portable, const E: usize>(
     requires has { HasValue (tree E K.shape V.shape) (both K.knows V.knows) bytes.now pos }
     ensures found { (t : Tree Place) → IsMapAt bytes.now E K.shape V.shape pos t
         → Finds (λ e. e) (IsEqualKey K.key_of K.order bytes.now query.now) (items t) (option_map place_of result.0) }
+    ensures descends { (t : Tree Place) → IsMapAt bytes.now E K.shape V.shape pos t
+        → DescendsTo (QuerySays K.key_of K.order bytes.now query.now) t (option_map place_of result.0) }
     ensures answers { (t : Tree Place) (order : Place → Ordering)
         → IsMapAt bytes.now E K.shape V.shape pos t
         → QueryOrders K.key_of K.order bytes.now query.now order (items t)

@@ -1,15 +1,16 @@
 //! Look-ups of keys in archived B-tree maps.
-ghost use Rattle.std.specs.Prelude.{◌≡◌, ◌-◌, ◌^◌, ◌<◌, IsTrue, Some, IfSome, min, All, Contains};
+ghost use Rattle.std.specs.Prelude.{◌≡◌, ◌-◌, ◌^◌, ◌<◌, IsTrue, Option, Some, IfSome, min, All, Contains};
 ghost use Rattle.std.specs.Option.{option_map, is_some};
 ghost use Rattle.std.specs.declared.cmp.Ordering.{Ordering};
 ghost use Rattle.archive_shape_layout.specs.Shape.Shape.{tree};
 ghost use Rattle.archive_btree_nodes.specs.BtreeLayout.Tree.{Tree, items};
 ghost use Rattle.archive_btree_nodes.specs.BtreeLayout.Descent.{descend, met};
 ghost use Rattle.archive_btree_nodes.specs.BtreeLayout.Reading.{Place};
+ghost use Rattle.archive_btree_nodes.specs.Descents.{DescendsTo};
 ghost use Rattle.archive_forms_values.specs.Parts.{HasValue};
 ghost use Rattle.archive_btree_walking.specs.Maps.{IsMap, HasMap};
 ghost use Rattle.archive_btree_walking.specs.Refs.{IsThere, key_at, value_at, entry_at};
-ghost use Rattle.archive_btree_walking.specs.Lookups.{QueryOrders, IsEqualKey, CallsEqual, Finds, HasKey, CallsOrder};
+ghost use Rattle.archive_btree_walking.specs.Lookups.{QueryOrders, QuerySays, IsEqualKey, CallsEqual, Finds, LooksUp, HasKey, CallsOrder};
 
 use crate::map::ArchivedBTreeMap;
 use archive_btree_walking::{search_key, search_map};
@@ -29,6 +30,8 @@ impl<K, V: Portable, const E: usize> ArchivedBTreeMap<K, V, E> {
         ensures there { IfSome result.0 (λ r. HasValue V.shape V.knows r.bytes.now r.pos) }
         ensures found { (t : Tree Place) → IsMap E K.shape V.shape this.entry t
             → Finds (value_at this.entry.bytes) (IsEqualKey K.key_of K.order this.entry.bytes.now query.now) (items t) result.0 }
+        ensures looks_up { (t : Tree Place) → IsMap E K.shape V.shape this.entry t
+            → LooksUp (value_at this.entry.bytes) K.key_of K.order this.entry.bytes.now query.now t result.0 }
         ensures answers { (t : Tree Place) (order : Place → Ordering)
             → IsMap E K.shape V.shape this.entry t
             → QueryOrders K.key_of K.order this.entry.bytes.now query.now order (items t)
@@ -48,6 +51,8 @@ impl<K, V: Portable, const E: usize> ArchivedBTreeMap<K, V, E> {
         ensures there { IfSome result (λ r. HasValue V.shape V.knows r.bytes.now r.pos) }
         ensures found { (t : Tree Place) → IsMap E K.shape V.shape this.entry t
             → Finds (value_at this.entry.bytes) (IsEqualKey K.key_of K.order this.entry.bytes.now query.now) (items t) result }
+        ensures looks_up { (t : Tree Place) → IsMap E K.shape V.shape this.entry t
+            → LooksUp (value_at this.entry.bytes) K.key_of K.order this.entry.bytes.now query.now t result }
         ensures answers { (t : Tree Place) (order : Place → Ordering)
             → IsMap E K.shape V.shape this.entry t
             → QueryOrders K.key_of K.order this.entry.bytes.now query.now order (items t)
@@ -67,6 +72,8 @@ impl<K, V: Portable, const E: usize> ArchivedBTreeMap<K, V, E> {
         ensures there { IfSome result (IsThere K.shape V.shape K.knows V.knows) }
         ensures found { (t : Tree Place) → IsMap E K.shape V.shape this.entry t
             → Finds (entry_at this.entry.bytes) (IsEqualKey K.key_of K.order this.entry.bytes.now query.now) (items t) result }
+        ensures looks_up { (t : Tree Place) → IsMap E K.shape V.shape this.entry t
+            → LooksUp (entry_at this.entry.bytes) K.key_of K.order this.entry.bytes.now query.now t result }
         ensures answers { (t : Tree Place) (order : Place → Ordering)
             → IsMap E K.shape V.shape this.entry t
             → QueryOrders K.key_of K.order this.entry.bytes.now query.now order (items t)
@@ -88,6 +95,8 @@ impl<K, V: Portable, const E: usize> ArchivedBTreeMap<K, V, E> {
         requires has { HasMap E K.shape V.shape K.knows V.knows this }
         ensures found { (t : Tree Place) → IsMap E K.shape V.shape this.entry t
             → IsTrue result → (e : Place) × Contains (items t) e × IsEqualKey K.key_of K.order this.entry.bytes.now query.now e }
+        ensures looks_up { (t : Tree Place) → IsMap E K.shape V.shape this.entry t
+            → (entry : Option Place) × DescendsTo (QuerySays K.key_of K.order this.entry.bytes.now query.now) t entry × (result ≡ is_some entry) }
         ensures answers { (t : Tree Place) (order : Place → Ordering)
             → IsMap E K.shape V.shape this.entry t
             → QueryOrders K.key_of K.order this.entry.bytes.now query.now order (items t)
@@ -107,6 +116,8 @@ impl<K, V: Portable, const E: usize> ArchivedBTreeMap<K, V, E> {
         ensures there { HasValue V.shape V.knows result.bytes.now result.pos }
         ensures found { (t : Tree Place) → IsMap E K.shape V.shape this.entry t
             → Finds (value_at this.entry.bytes) (IsEqualKey K.key_of K.order this.entry.bytes.now query.now) (items t) (Some result) }
+        ensures looks_up { (t : Tree Place) → IsMap E K.shape V.shape this.entry t
+            → LooksUp (value_at this.entry.bytes) K.key_of K.order this.entry.bytes.now query.now t (Some result) }
         ensures answers { (t : Tree Place) (order : Place → Ordering)
             → IsMap E K.shape V.shape this.entry t
             → QueryOrders K.key_of K.order this.entry.bytes.now query.now order (items t)

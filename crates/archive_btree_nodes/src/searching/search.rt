@@ -1,5 +1,5 @@
 //! The search for a key.
-ghost use Rattle.std.specs.Prelude.{◌≡◌, ℕ, ◌-◌, ◌+◌, ◌*◌, ◌^◌, ◌<◌, ◌≤◌, min, All};
+ghost use Rattle.std.specs.Prelude.{◌≡◌, ℕ, ◌-◌, ◌+◌, ◌*◌, ◌^◌, ◌<◌, min, All};
 ghost use Rattle.std.specs.Option.{option_map};
 ghost use Rattle.std.specs.declared.cmp.Ordering.{Ordering};
 ghost use Rattle.archive_btree_layout.specs.Tree.{Tree, items};
@@ -7,7 +7,8 @@ ghost use Rattle.archive_btree_layout.specs.Descent.{descend, met};
 ghost use Rattle.archive_btree_layout.specs.Reading.{Place};
 ghost use Rattle.archive_btree_nodes.specs.SearchingLayout.{IsTreeAt};
 ghost use Rattle.archive_btree_nodes.specs.SearchingNodes.{place_of};
-ghost use Rattle.archive_btree_nodes.specs.Searching.{Answers, IsAmong, IsEqualTo, IsWithin, Orders, OrdersKeys};
+ghost use Rattle.archive_btree_nodes.specs.Descents.{DescendsTo};
+ghost use Rattle.archive_btree_nodes.specs.Searching.{IsAmong, IsSaid, Orders};
 
 use crate::NodeLayout;
 use crate::searching::EntryAt;
@@ -33,10 +34,7 @@ fn search_keys<F: Fn(usize) -> Ordering>(
 ) -> Outcome
     requires callable { (i : ℕ) → i < count → F.pre compare.now (first + i * size) }
     requires room { first + count * size < 2 ^ 64 }
-    ensures within { IsWithin count result }
-    ensures equal { IsEqualTo F.post compare.now first size result }
-    ensures answers { (order : ℕ → Ordering) → OrdersKeys F.post compare.now order first size count
-        → Answers order count result }
+    ensures { IsSaid (λ i r. F.post compare.now (first + i * size) r) count result }
 {
     for i in 0..count {
         match compare(first + i * size) {
@@ -60,6 +58,8 @@ pub fn search_counted<F: Fn(usize) -> Ordering>(
         × All (λ e. F.pre compare.now e.key) (items t) }
     ensures found { (t : Tree Place) → IsTreeAt bytes.now layout 1 root t
         → IsAmong F.post compare.now (items t) result.0 }
+    ensures descends { (t : Tree Place) → IsTreeAt bytes.now layout 1 root t
+        → DescendsTo (λ e r. F.post compare.now e.key r) t (option_map place_of result.0) }
     ensures answers { (t : Tree Place) (order : Place → Ordering) → IsTreeAt bytes.now layout 1 root t
         → Orders F.post compare.now order (items t)
         → (option_map place_of result.0 ≡ descend order t) × (result.1 ≡ min (met order t) (2 ^ 64 - 1)) }
@@ -97,6 +97,8 @@ pub fn search_tree<F: Fn(usize) -> Ordering>(
         × All (λ e. F.pre compare.now e.key) (items t) }
     ensures found { (t : Tree Place) → IsTreeAt bytes.now layout 1 root t
         → IsAmong F.post compare.now (items t) result }
+    ensures descends { (t : Tree Place) → IsTreeAt bytes.now layout 1 root t
+        → DescendsTo (λ e r. F.post compare.now e.key r) t (option_map place_of result) }
     ensures answers { (t : Tree Place) (order : Place → Ordering) → IsTreeAt bytes.now layout 1 root t
         → Orders F.post compare.now order (items t)
         → option_map place_of result ≡ descend order t }

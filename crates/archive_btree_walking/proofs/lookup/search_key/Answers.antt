@@ -18,3 +18,6 @@ returns-clause-found g c t h =
 
 pub returns-clause-answers : goal.returns-clause-answers
 returns-clause-answers g c t order h q = c.search_map.ensures.answers t order h (λ i d less r p. p.2 ∙ sym (q i d less p.0 p.1))
+
+pub returns-clause-descends : goal.returns-clause-descends
+returns-clause-descends g c t h = c.search_map.ensures.descends t h

@@ -1,5 +1,6 @@
 use Rattle.std.proofs.Common.{◌≡◌, ◌-◌, ◌^◌, min, None, refl, sym, subst}
 use Rattle.archive_btree_nodes.specs.BtreeLayout.Descent.{descend, met}
+use Rattle.archive_btree_nodes.specs.Descents.{DescendsTo}
 use Rattle.archive_btree_walking.proofs.Roots.{tree_of_value}
 use Rattle.archive_btree_walking.proofs.lookup.search_map.Goals as goal
 
@@ -16,3 +17,9 @@ returns-in-None-clause-answers g c t order h orders = subst (λ x. (None ≡ des
 
 pub returns-in-Some-clause-found : goal.returns-in-Some-clause-found
 returns-in-Some-clause-found g c t h = c.search_counted.ensures.found t (c.in-Some.ensures.tree t h)
+
+pub returns-in-Some-clause-descends : goal.returns-in-Some-clause-descends
+returns-in-Some-clause-descends g c t h = c.search_counted.ensures.descends t (c.in-Some.ensures.tree t h)
+
+pub returns-in-None-clause-descends : goal.returns-in-None-clause-descends
+returns-in-None-clause-descends g c t h = subst (λ x. DescendsTo (λ e r. goal.F-post g c.args.compare.now e.key r) x None) (sym (c.in-None.ensures.tree t h)) refl

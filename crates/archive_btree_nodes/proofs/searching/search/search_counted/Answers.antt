@@ -1,14 +1,15 @@
 use Rattle.std.proofs.Common.{◌≡◌, ◌∙◌, ◌+◌, ◌*◌, ◌≤◌, suc, min, ap, sym, subst, refl, arith, mul-le-mul_right}
-use Rattle.std.specs.Prelude.{Some, Contains}
+use Rattle.std.specs.Prelude.{Some, None, Contains}
 use Rattle.std.specs.declared.cmp.Ordering.{Ordering}
 use Rattle.std.specs.declared.cmp.Ordering.TheVariants.{Equal}
 use Rattle.std.proofs.lemmas.List.Elements.{All-contains_itself}
 use Rattle.archive_btree_layout.specs.Tree.{items}
+use Rattle.archive_btree_nodes.specs.Descents.{DescendsTo}
 use Rattle.archive_btree_nodes.specs.SearchingLayout.{IsTreeAt}
 use Rattle.archive_btree_nodes.specs.SearchingNodes.{entry_count}
 use Rattle.archive_btree_nodes.specs.declared.searching.search.Outcome.TheVariants.{Equals, Before}
 use Rattle.archive_btree_nodes.proofs.NodeTree.{tree_level, tree_readable}
-use Rattle.archive_btree_nodes.proofs.Nodes.{own_holds, child_stands, node_answers, found, missing, onward}
+use Rattle.archive_btree_nodes.proofs.Nodes.{own_holds, child_stands, node_answers, found, missing, onward, ends_there, ends_nowhere, leads_to}
 use Rattle.archive_btree_nodes.proofs.searching.search.search_counted.Goals as goal
 
 pub loop-level-init : goal.loop-level-init
@@ -16,6 +17,7 @@ loop-level-init g c =
     record {
       stands = c.requires.tree;
       among = λ t h. (t, h, All-contains_itself (items t));
+      descends = λ t h. (t, h, λ found ends. ends);
       leads = λ t order h orders. (t, 0, h, orders, refl, omega arith, omega arith);
     }
 
@@ -58,7 +60,7 @@ child_of-requires-clause-node g c =
 pub returns-in-Equals-clause-answers : goal.returns-in-Equals-clause-answers
 returns-in-Equals-clause-answers g c t order h orders =
     let r = c.loop-level.invariant.leads t order h orders in
-    let a = node_answers c.args.bytes.now c.args.layout (c.loop-level._level + 1) c.loop-level.pos r.0 r.2 (goal.F-post g) c.args.compare.now order _ (Equals c.in-Equals.i) c.entry_count-count.ensures c.in-Equals.ensures.answers r.3 in
+    let a = node_answers c.args.bytes.now c.args.layout (c.loop-level._level + 1) c.loop-level.pos r.0 r.2 (goal.F-post g) c.args.compare.now order _ (Equals c.in-Equals.i) c.entry_count-count.ensures c.in-Equals.ensures r.3 in
     let f = found c.args.bytes.now c.args.layout (c.loop-level._level + 1) c.loop-level.pos r.0 r.2 order c.in-Equals.i a in
     (ap Some c.entry_of-entry.ensures ∙ sym f.found ∙ sym r.4, omega (arith, c.saturating_add.ensures, r.5, r.6, f.count))
 
@@ -69,15 +71,26 @@ returns-in-Equals-clause-found g c t h =
     let r = c.loop-level.invariant.among t h in
     let own =
     own_holds bytes l (c.loop-level._level + 1) c.loop-level.pos r.0 r.1 (Contains (items t)) r.2 c.in-Equals.i
-    (omega (arith, c.in-Equals.ensures.within, c.entry_count-count.ensures))
+    (omega (arith, c.in-Equals.ensures.0, c.entry_count-count.ensures))
     in
     let here = c.entry_of-entry.ensures in
-    (subst (Contains (items t)) (sym here) own, subst (λ e. goal.F-post g c.args.compare.now e.key Equal) (sym here) c.in-Equals.ensures.equal)
+    (subst (Contains (items t)) (sym here) own, subst (λ e. goal.F-post g c.args.compare.now e.key Equal) (sym here) c.in-Equals.ensures.2)
+
+pub returns-in-Equals-clause-descends : goal.returns-in-Equals-clause-descends
+returns-in-Equals-clause-descends g c t h =
+    let r = c.loop-level.invariant.descends t h in
+    let here = ends_there c.args.bytes.now c.args.layout (c.loop-level._level + 1) c.loop-level.pos r.0 r.1 (λ e o. goal.F-post g c.args.compare.now e.key o) _ c.in-Equals.i c.entry_count-count.ensures c.in-Equals.ensures in
+    r.2 _ (subst (DescendsTo (λ e o. goal.F-post g c.args.compare.now e.key o) r.0) (ap Some (sym c.entry_of-entry.ensures)) here)
+
+pub returns-in-None-clause-descends : goal.returns-in-None-clause-descends
+returns-in-None-clause-descends g c t h =
+    let r = c.loop-level.invariant.descends t h in
+    r.2 None (ends_nowhere c.args.bytes.now c.args.layout (c.loop-level._level + 1) c.loop-level.pos r.0 r.1 (λ e o. goal.F-post g c.args.compare.now e.key o) _ c.in-Before.i c.entry_count-count.ensures c.in-Before.ensures (sym c.in-None.ensures))
 
 pub returns-in-None-clause-answers : goal.returns-in-None-clause-answers
 returns-in-None-clause-answers g c t order h orders =
     let r = c.loop-level.invariant.leads t order h orders in
-    let a = node_answers c.args.bytes.now c.args.layout (c.loop-level._level + 1) c.loop-level.pos r.0 r.2 (goal.F-post g) c.args.compare.now order _ (Before c.in-Before.i) c.entry_count-count.ensures c.in-Before.ensures.answers r.3 in
+    let a = node_answers c.args.bytes.now c.args.layout (c.loop-level._level + 1) c.loop-level.pos r.0 r.2 (goal.F-post g) c.args.compare.now order _ (Before c.in-Before.i) c.entry_count-count.ensures c.in-Before.ensures r.3 in
     let f = missing c.args.bytes.now c.args.layout (c.loop-level._level + 1) c.loop-level.pos r.0 r.2 order c.in-Before.i a (sym c.in-None.ensures) in (
       sym f.none ∙ sym r.4,
       omega (arith, c.saturating_add-compared.ensures, c.min.ensures, c.saturating_add-in-Before.ensures, c.entry_count-count.ensures, r.5, r.6, f.count),
@@ -94,7 +107,7 @@ loop-level-preserved g c =
     let s = c.loop-level.invariant.stands in
     let next =
     child_stands bytes l level pos s.0 s.1 (λ e. goal.F-pre g c.args.compare.now e.key) s.2 i c.in-Some.child
-    (omega (arith, c.in-Before.ensures.within, c.entry_count-count.ensures)) (sym c.in-Some.ensures)
+    (omega (arith, c.in-Before.ensures.0, c.entry_count-count.ensures)) (sym c.in-Some.ensures)
     in
     record {
       stands = (next.tree, subst (λ x. IsTreeAt bytes l x c.in-Some.child next.tree) step next.stands, next.holds);
@@ -102,12 +115,16 @@ loop-level-preserved g c =
           let r = c.loop-level.invariant.among t h in
           let child =
           child_stands bytes l level pos r.0 r.1 (Contains (items t)) r.2 i c.in-Some.child
-          (omega (arith, c.in-Before.ensures.within, c.entry_count-count.ensures)) (sym c.in-Some.ensures)
+          (omega (arith, c.in-Before.ensures.0, c.entry_count-count.ensures)) (sym c.in-Some.ensures)
           in
           (child.tree, subst (λ x. IsTreeAt bytes l x c.in-Some.child child.tree) step child.stands, child.holds);
+      descends = λ t h.
+          let r = c.loop-level.invariant.descends t h in
+          let child = leads_to bytes l level pos r.0 r.1 (λ e o. goal.F-post g c.args.compare.now e.key o) _ i c.entry_count-count.ensures c.in-Before.ensures c.in-Some.child (sym c.in-Some.ensures) in
+          (child.tree, subst (λ x. IsTreeAt bytes l x c.in-Some.child child.tree) step child.stands, λ found ends. r.2 found (child.leads found ends));
       leads = λ t order h orders.
           let r = c.loop-level.invariant.leads t order h orders in
-          let a = node_answers bytes l level pos r.0 r.2 (goal.F-post g) c.args.compare.now order _ (Before c.in-Before.i) c.entry_count-count.ensures c.in-Before.ensures.answers r.3 in
+          let a = node_answers bytes l level pos r.0 r.2 (goal.F-post g) c.args.compare.now order _ (Before c.in-Before.i) c.entry_count-count.ensures c.in-Before.ensures r.3 in
           let f = onward bytes l level pos r.0 r.2 order i a (λ e. (o : Ordering) → goal.F-post g c.args.compare.now e.key o → o ≡ order e) c.in-Some.child (sym c.in-Some.ensures) in (
             f.tree,
             r.1 + min (suc i) (entry_count bytes l pos),

@@ -1,9 +1,10 @@
-use Rattle.std.proofs.Common.{◌≡◌, ◌+◌, ◌-◌, ◌^◌, ℕ, min}
+use Rattle.std.proofs.Common.{◌≡◌, ◌+◌, ◌-◌, ◌^◌, ℕ, min, Option}
 use Rattle.std.specs.Prelude.{All, Contains}
 use Rattle.std.specs.declared.cmp.Ordering.{Ordering}
 use Rattle.archive_btree_layout.specs.Tree.{Tree, items}
 use Rattle.archive_btree_layout.specs.Descent.{descend, met}
 use Rattle.archive_btree_layout.specs.Reading.{Place}
+use Rattle.archive_btree_nodes.specs.Descents.{DescendsTo}
 use Rattle.archive_btree_nodes.specs.SearchingLayout.{IsTreeAt}
 use Rattle.archive_btree_nodes.specs.Searching.{Orders}
 use Rattle.archive_btree_nodes.proofs.searching.search.search_counted.Given as goal
@@ -15,6 +16,10 @@ invariant-loop-level g l =
       among :
           (t : Tree Place) → IsTreeAt l.bytes l.layout 1 l.root t
           → (u : Tree Place) × IsTreeAt l.bytes l.layout (l._level + 1) l.pos u × All (λ e. Contains (items t) e) (items u);
+      descends :
+          (t : Tree Place) → IsTreeAt l.bytes l.layout 1 l.root t
+          → (u : Tree Place) × IsTreeAt l.bytes l.layout (l._level + 1) l.pos u
+          × ((found : Option Place) → DescendsTo (λ e r. goal.F-post g l.compare e.key r) u found → DescendsTo (λ e r. goal.F-post g l.compare e.key r) t found);
       leads :
           (t : Tree Place) (order : Place → Ordering) → IsTreeAt l.bytes l.layout 1 l.root t → Orders (goal.F-post g) l.compare order (items t)
           → (u : Tree Place) × (n : ℕ) × IsTreeAt l.bytes l.layout (l._level + 1) l.pos u × Orders (goal.F-post g) l.compare order (items u) × (descend order t ≡ descend order u)

@@ -1,5 +1,7 @@
-use Rattle.std.proofs.Common.{◌∙◌, Some, ap}
+use Rattle.std.proofs.Common.{◌∙◌, Some, refl, ap}
+use Rattle.std.specs.Option.{option_map}
 use Rattle.archive_btree_nodes.specs.BtreeLayout.Descent.{descend}
+use Rattle.archive_btree_nodes.specs.SearchingNodes.{place_of}
 use Rattle.archive_btree_walking.specs.Refs.{value_at}
 use Rattle.archive_btree_walking.proofs.Refs.{ref_is, found_at, none_found, finds_some}
 use Rattle.archive_btree_walking.proofs.Held.{found_there}
@@ -27,3 +29,14 @@ pub returns-in-Some-default-clause-there : goal.returns-in-Some-default-clause-t
 returns-in-Some-default-clause-there g c =
     found_there g.K.Portable.shape g.V.Portable.shape g.K.Portable.knows g.V.Portable.knows c.args.this.bytes.now g.row.E c.args.this.pos c.requires.has
     (value_at c.args.this.bytes {V = g.row.V.Denot}) _ (λ r. HasValue g.V.Portable.shape g.V.Portable.knows r.bytes.now r.pos) (λ e h. h.1) (Some c.new.result) (returns-in-Some-default-clause-found g c)
+
+pub returns-in-Some-default-clause-looks_up : goal.returns-in-Some-default-clause-looks_up
+returns-in-Some-default-clause-looks_up g c t h =
+    let entry = option_map place_of c.search_key.result.0 in
+    let there = found_at (value_at c.args.this.bytes {V = g.row.V.Denot}) c.search_key.result.0 entry c.in-Some-default.entry refl c.in-Some-default.is-0 in
+    (entry, c.search_key.ensures.descends t h, ap Some (ref_is _ _ _ c.new.ensures.bytes c.new.ensures.pos) ∙ there)
+
+pub returns-in-None-default-clause-looks_up : goal.returns-in-None-default-clause-looks_up
+returns-in-None-default-clause-looks_up g c t h =
+    let entry = option_map place_of c.search_key.result.0 in
+    (entry, c.search_key.ensures.descends t h, none_found (value_at c.args.this.bytes {V = g.row.V.Denot}) c.search_key.result.0 entry refl c.in-None-default.is-0)

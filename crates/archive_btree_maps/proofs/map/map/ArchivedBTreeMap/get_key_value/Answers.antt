@@ -1,5 +1,7 @@
-use Rattle.std.proofs.Common.{◌∙◌, Some, ap}
+use Rattle.std.proofs.Common.{◌∙◌, Some, refl, ap}
+use Rattle.std.specs.Option.{option_map}
 use Rattle.archive_btree_nodes.specs.BtreeLayout.Descent.{descend}
+use Rattle.archive_btree_nodes.specs.SearchingNodes.{place_of}
 use Rattle.archive_btree_walking.specs.Refs.{entry_at}
 use Rattle.archive_btree_walking.proofs.Refs.{pair_is, found_at, none_found, finds_some}
 use Rattle.archive_btree_walking.proofs.Held.{found_there}
@@ -28,3 +30,14 @@ returns-in-Some-clause-there g c =
     found_there g.K.Portable.shape g.V.Portable.shape g.K.Portable.knows g.V.Portable.knows c.args.this.bytes.now g.row.E c.args.this.pos c.requires.has
     (entry_at c.args.this.bytes {K = g.row.K.Denot} {V = g.row.V.Denot}) _ (λ r. HasValue g.K.Portable.shape g.K.Portable.knows r.0.bytes.now r.0.pos × HasValue g.V.Portable.shape g.V.Portable.knows r.1.bytes.now r.1.pos)
     (λ e h. h) (Some (c.new.result, c.new-in-Some.result)) (returns-in-Some-clause-found g c)
+
+pub returns-in-Some-clause-looks_up : goal.returns-in-Some-clause-looks_up
+returns-in-Some-clause-looks_up g c t h =
+    let entry = option_map place_of c.search_key.result.0 in
+    let there = found_at (entry_at c.args.this.bytes {K = g.row.K.Denot} {V = g.row.V.Denot}) c.search_key.result.0 entry c.in-Some.entry refl c.in-Some.is in
+    (entry, c.search_key.ensures.descends t h, ap Some (pair_is _ _ _ c.new.result c.new-in-Some.result c.new.ensures.bytes c.new.ensures.pos c.new-in-Some.ensures.bytes c.new-in-Some.ensures.pos) ∙ there)
+
+pub returns-in-None-clause-looks_up : goal.returns-in-None-clause-looks_up
+returns-in-None-clause-looks_up g c t h =
+    let entry = option_map place_of c.search_key.result.0 in
+    (entry, c.search_key.ensures.descends t h, none_found (entry_at c.args.this.bytes {K = g.row.K.Denot} {V = g.row.V.Denot}) c.search_key.result.0 entry refl c.in-None.is)
