@@ -1,5 +1,5 @@
 -- Lines cut into their words, and the errors of reading them.
-use Rattle.std.proofs.Common.{◌≡◌, ◌≢◌, ℕ, ◌-◌, List, [], ◌∷◌, ◌++◌, length, take, drop, sym, ap, ◌∙◌, ◌⊎◌, inl, inr, ⊎_elim, refl, arith, append_assoc, append-nil, length-append, codes, All, None, Some, Bor}
+use Rattle.std.proofs.Common.{◌≡◌, ◌≢◌, ℕ, ◌-◌, List, [], ◌∷◌, ◌++◌, length, take, drop, sym, ap, ◌∙◌, ◌⊎◌, inl, inr, ⊎_elim, refl, arith, append_assoc, append-nil, length-append, codes, All, None, Some}
 use Rattle.std.proofs.lemmas.List.{append_cancel_left}
 use Rattle.std.proofs.lemmas.List.Elements.{All-cons}
 use Rattle.std.proofs.Math.Seq.{take-append_seam, drop-append_seam}
@@ -12,10 +12,9 @@ use Rattle.cabinet_text_grammar.proofs.Escapes.{rest_same, first_differs}
 use Rattle.cabinet_text_grammar.proofs.Lines.{TwoWords, two_words}
 use Rattle.cabinet_text_nodes.specs.declared.line.LineRefusal.{LineRefusal}
 use Rattle.cabinet_text_nodes.specs.declared.line.LineRefusal.TheVariants.{Bad, OutOfMemory}
-use Rattle.cabinet_text_reading.specs.Parts.{IsPath, IsSpelledStep, BeginsWithStep, BeginsByKey, IsCutAfterLeaf, RefusesPath, RefusesLeaf}
+use Rattle.cabinet_text_reading.specs.Parts.{IsPath, BeginsWithWord, BeginsByKey, IsCutAfterLeaf, RefusesPath, RefusesLeaf}
 use Rattle.cabinet_text_reading.specs.Reading.{HasSteps, TakesMemory, RefusesLine}
-use Rattle.cabinet_text_reading.specs.declared.lines.path.StepRef.TheVariants.{Key}
-use Rattle.cabinet_text_reading.proofs.Paths.{one_word, same_words, IsAtSpace-path, Lacks-from_HasNoSpace, cut_after_step}
+use Rattle.cabinet_text_reading.proofs.Paths.{one_word, same_words, IsAtSpace-path, Lacks-from_HasNoSpace, cut_after_word}
 
 -- where no second word begins, no leaf is spelled
 pub one_word_cut : (bytes word spaced sign : List ℕ) → bytes ≡ word ++ spaced → HasNoSpace word → IsAtSpace spaced → sign ≡ codes " " → ((rest : List ℕ) → spaced ≢ sign ++ rest) → IsCutAfterLeaf bytes bytes []
@@ -118,61 +117,67 @@ only_range bytes (range low high path) p h = record {
 }
 only_range bytes (set path l) p h = absurd (first_differs refl h)
 
--- the bytes after the first bound
-second_bound : (bytes rest : List ℕ) (low : Bor (List ℕ)) → BeginsWithStep bytes (Key low) rest → (r : IsRange bytes) → rest ≡ spelled_path (key r.high ∷ r.path)
-second_bound bytes rest low begins r =
-    (cut_after_step bytes (Key low) rest (key r.low) (key r.high ∷ r.path) begins r.possible.0 r.spelled).1
+-- bytes are the escaped form of a text that is not empty
+not_empty : (bytes t : List ℕ) → bytes ≡ escaped t → bytes ≢ [] → t ≢ []
+not_empty bytes t e some none = some (e ∙ ap escaped none)
+
+-- the bounds and the path of a range, where its first two words are cut
+record IsCutRange (low high path : List ℕ) : Type 0 where
+  pub first : IsEscaped low
+  pub second : IsEscaped high
+  pub rest : IsPath path
 
 pub no_first_bound : (bytes : List ℕ) → (BeginsByKey bytes → ⊥) → Says (codes "range" ++ bytes) None
 no_first_bound bytes none line p h =
     let r = only_range bytes line p h in
     none (r.low, key r.high ∷ r.path, r.possible.0, All-cons IsStep (key r.high) r.path r.possible.1 r.possible.2, r.spelled)
 
-pub no_second_bound : (bytes rest : List ℕ) (low : Bor (List ℕ)) → BeginsWithStep bytes (Key low) rest → (BeginsByKey rest → ⊥) → Says (codes "range" ++ bytes) None
-no_second_bound bytes rest low begins none line p h =
-    let r = only_range bytes line p h in
-    none (r.high, r.path, r.possible.1, r.possible.2, second_bound bytes rest low begins r)
+module _ (bytes rest low : List ℕ) (first : BeginsWithWord bytes (39 ∷ low) rest) where
+  first_cut : (r : IsRange bytes) → (39 ∷ low ≡ 39 ∷ escaped r.low) × (rest ≡ spelled_path (key r.high ∷ r.path))
+  first_cut r = cut_after_word bytes (39 ∷ low) rest (key r.low) (key r.high ∷ r.path) first r.possible.0 r.spelled
 
-pub no_path_of_range : (bytes rest path : List ℕ) (low high : Bor (List ℕ)) → BeginsWithStep bytes (Key low) rest → BeginsWithStep rest (Key high) path → (IsPath path → ⊥) → Says (codes "range" ++ bytes) None
-no_path_of_range bytes rest path low high first second none line p h =
-    let r = only_range bytes line p h in
-    let after = cut_after_step rest (Key high) path (key r.high) r.path second r.possible.1 (second_bound bytes rest low first r) in
-    none (r.path, r.possible.2, after.1)
+  pub no_second_bound : (BeginsByKey rest → ⊥) → Says (codes "range" ++ bytes) None
+  no_second_bound none line p h =
+      let r = only_range bytes line p h in
+      none (r.high, r.path, r.possible.1, r.possible.2, (first_cut r).1)
 
--- bytes are the escaped form of a text that is not empty
-not_empty : (bytes t : List ℕ) → bytes ≡ escaped t → bytes ≢ [] → t ≢ []
-not_empty bytes t e some none = some (e ∙ ap escaped none)
+  module _ (path high : List ℕ) (second : BeginsWithWord rest (39 ∷ high) path) where
+    cut_range : (line : Line) → IsPossible line → codes "range" ++ bytes ≡ spelling line → IsCutRange low high path
+    cut_range line p h =
+        let r = only_range bytes line p h in
+        let one = first_cut r in
+        let two = cut_after_word rest (39 ∷ high) path (key r.high) r.path second r.possible.1 one.1 in
+        record {
+          first = (r.low, r.possible.0, rest_same one.0);
+          second = (r.high, r.possible.1, rest_same two.0);
+          rest = (r.path, r.possible.2, two.1);
+        }
 
--- a borrowed key is an escaped text
-pub IsEscaped-key : (argument : List ℕ) → IsSpelledStep (39 ∷ argument) → IsEscaped argument
-IsEscaped-key argument (key k, p, e) = (k, p, rest_same e)
-IsEscaped-key argument (place n, p, e) = absurd (first_differs refl e)
-IsEscaped-key argument (inside, p, e) = absurd (first_differs refl e)
+    -- a bound or the path is refused
+    pub no_range : (IsEscaped low → IsEscaped high → IsPath path → ⊥) → Says (codes "range" ++ bytes) None
+    no_range none line p h = let r = cut_range line p h in none r.first r.second r.rest
 
-pub range_spelled :
-    (bytes rest path k l : List ℕ) (low high : Bor (List ℕ)) (steps : List Step)
-    → BeginsWithStep bytes (Key low) rest → BeginsWithStep rest (Key high) path
-    → low.now ≡ escaped k → high.now ≡ escaped l → path ≡ spelled_path steps
-    → codes "range" ++ bytes ≡ spelling (range k l steps)
-range_spelled bytes rest path k l low high steps first second k_is l_is path_is =
-    let quoted : List ℕ → List ℕ → List ℕ = λ argument after. codes " '" ++ (argument ++ after) in
-    ap (λ w. codes "range" ++ w)
-    (first.spelled ∙ ap (λ w. quoted low.now w) second.spelled
-    ∙ ap (λ w. quoted w (quoted high.now path)) k_is
-    ∙ ap (λ w. quoted (escaped k) (quoted w path)) l_is
-    ∙ ap (λ w. quoted (escaped k) (quoted (escaped l) w)) path_is)
+    pub range_spelled : (k l : List ℕ) (steps : List Step) → low ≡ escaped k → high ≡ escaped l → path ≡ spelled_path steps → codes "range" ++ bytes ≡ spelling (range k l steps)
+    range_spelled k l steps k_is l_is path_is =
+        let quoted : List ℕ → List ℕ → List ℕ = λ argument after. codes " '" ++ (argument ++ after) in
+        ap (λ w. codes "range" ++ w)
+        (first.spelled ∙ ap (λ w. quoted low w) second.spelled
+        ∙ ap (λ w. quoted w (quoted high path)) k_is
+        ∙ ap (λ w. quoted (escaped k) (quoted w path)) l_is
+        ∙ ap (λ w. quoted (escaped k) (quoted (escaped l) w)) path_is)
 
--- memory is refused for the bounds or the steps of a range
-pub no_memory_for_range :
-    (bytes rest path : List ℕ) (low high : Bor (List ℕ)) → BeginsWithStep bytes (Key low) rest → BeginsWithStep rest (Key high) path → IsPath path
-    → (low.now ≢ []) ⊎ (high.now ≢ []) ⊎ (path ≢ []) → RefusesLine (codes "range" ++ bytes) OutOfMemory
-no_memory_for_range bytes rest path low high first second (steps, p, h) takes =
-    let k = IsEscaped-key low.now first.possible in
-    let l = IsEscaped-key high.now second.possible in (
+    -- memory is refused for the bounds or the steps of a range
+    pub no_memory_for_range : IsEscaped low → IsEscaped high → IsPath path → (low ≢ []) ⊎ (high ≢ []) ⊎ (path ≢ []) → RefusesLine (codes "range" ++ bytes) OutOfMemory
+    no_memory_for_range k l (steps, p, h) takes = (
       range k.0 l.0 steps,
-      ((k.1, l.1, p), range_spelled bytes rest path k.0 l.0 low high steps first second k.2 l.2 h),
-      ⊎_elim (λ some. inl (not_empty low.now k.0 k.2 some)) (⊎_elim (λ some. inr (inl (not_empty high.now l.0 l.2 some))) (λ some. inr (inr (has_steps path steps h some)))) takes,
+      ((k.1, l.1, p), range_spelled k.0 l.0 steps k.2 l.2 h),
+      ⊎_elim (λ some. inl (not_empty low k.0 k.2 some)) (⊎_elim (λ some. inr (inl (not_empty high l.0 l.2 some))) (λ some. inr (inr (has_steps path steps h some)))) takes,
     )
+
+    -- the path of a range is refused, whose bounds are read
+    pub range_path_refused : (refusal : LineRefusal) → IsEscaped low → IsEscaped high → RefusesPath path refusal → RefusesLine (codes "range" ++ bytes) refusal
+    range_path_refused Bad k l none = no_range (λ _ _ p. none p)
+    range_path_refused OutOfMemory k l (p, some) = no_memory_for_range k l p (inr (inr some))
 
 edit_spelled : (bytes front rest : List ℕ) (path : List Step) (l : Leaf) → bytes ≡ front ++ rest → front ≡ spelled_leaf l → rest ≡ spelled_path path → codes "set " ++ bytes ≡ spelling (set path l)
 edit_spelled bytes front rest path l whole e h =
@@ -198,16 +203,17 @@ only_set bytes front rest cut (set path l) p h =
     let both = cut l path p.1 (append_cancel_left (codes "set ") _ _ h) in
     record { leaf = l; possible = p.1; spelled = both.0; path = (path, p.0, both.1) }
 
-pub no_path_of_edit : (bytes front rest : List ℕ) → IsCutAfterLeaf bytes front rest → (IsPath rest → ⊥) → Says (codes "set " ++ bytes) None
-no_path_of_edit bytes front rest cut none line p h =
-    let edit = only_set bytes front rest cut line p h in
-    none edit.path
+-- the path of an edit is refused, whose leaf is read
+pub edit_path_refused : (bytes front rest : List ℕ) (l : Leaf) (refusal : LineRefusal) → bytes ≡ front ++ rest → IsCutAfterLeaf bytes front rest → IsLeaf l → front ≡ spelled_leaf l → RefusesPath rest refusal → RefusesLine (codes "set " ++ bytes) refusal
+edit_path_refused bytes front rest l Bad whole cut p e none = λ line q h. none (only_set bytes front rest cut line q h).path
+edit_path_refused bytes front rest l OutOfMemory whole cut p e (path, some) = no_memory_for_edit bytes front rest l whole p e path some
 
--- the leaf of an edit is refused
-pub leaf_refused : (bytes front rest : List ℕ) (refusal : LineRefusal) → bytes ≡ front ++ rest → IsCutAfterLeaf bytes front rest → IsPath rest → RefusesLeaf front refusal → RefusesLine (codes "set " ++ bytes) refusal
-leaf_refused bytes front rest Bad whole cut is_path refused =
-    λ line p h.
+-- the leaf of an edit is refused, or memory for it where the rest is no path
+pub no_edit : (bytes front rest : List ℕ) → IsCutAfterLeaf bytes front rest → ((l : Leaf) → IsLeaf l → front ≡ spelled_leaf l → IsPath rest → ⊥) → Says (codes "set " ++ bytes) None
+no_edit bytes front rest cut none = λ line p h.
     let edit = only_set bytes front rest cut line p h in
-    refused edit.leaf edit.possible edit.spelled
-leaf_refused bytes front rest OutOfMemory whole cut (path, steps, h) (argument, e, (t, utf8, escapes), some) =
+    none edit.leaf edit.possible edit.spelled edit.path
+
+pub no_memory_for_leaf : (bytes front rest : List ℕ) → bytes ≡ front ++ rest → IsPath rest → RefusesLeaf front OutOfMemory → RefusesLine (codes "set " ++ bytes) OutOfMemory
+no_memory_for_leaf bytes front rest whole (path, steps, h) (argument, e, (t, utf8, escapes), some) =
     (set path (text t), ((steps, utf8), edit_spelled bytes front rest path (text t) whole (e ∙ ap (λ w. codes "text '" ++ w) escapes) h), inr (not_empty argument t escapes some))

@@ -1,9 +1,10 @@
 -- Where the words of a line end, and how a path begins.
-use Rattle.std.proofs.Common.{◌≡◌, ◌≢◌, ℕ, ◌+◌, ◌<◌, List, [], ◌∷◌, ◌++◌, length, Option, Some, None, MatchOption, Bor, sym, ap, subst, ◌∙◌, refl, arith, append_assoc, append-nil, length-append, codes, All}
+use Rattle.std.proofs.Common.{◌≡◌, ◌≢◌, ℕ, ◌+◌, ◌<◌, Bool, true, false, List, [], ◌∷◌, ◌++◌, length, Bor, sym, ap, subst, ◌∙◌, refl, arith, append_assoc, append-nil, length-append, codes, All}
+use Rattle.std.specs.Bool.{OnTrue, OnFalse}
 use Rattle.std.specs.Fmt.{decimal}
 use Rattle.std.proofs.lemmas.List.{map-append}
 use Rattle.std.proofs.lemmas.List.Elements.{All-cons, All-head, All-tail, All-push}
-use Rattle.cabinet_text_bytes.specs.Words.{HasNoSpace, IsAtSpace}
+use Rattle.cabinet_text_bytes.specs.Words.{IsEscaped, HasNoSpace, IsAtSpace}
 use Rattle.cabinet_text_grammar.specs.Spelling.{escaped}
 use Rattle.cabinet_text_grammar.specs.Path.{Step, key, place, inside}
 use Rattle.cabinet_text_grammar.specs.Line.{IsStep, spelled_step, spelled_path}
@@ -11,8 +12,10 @@ use Rattle.cabinet_text_grammar.proofs.Escapes.{first_same, rest_same, first_dif
 use Rattle.cabinet_text_grammar.proofs.Lacking.{Lacks, Lacks-from_get_or}
 use Rattle.cabinet_text_grammar.proofs.Lines.{Lacks-step, TwoWords}
 use Rattle.cabinet_text_nodes.specs.View.{step_of, path_of}
+use Rattle.cabinet_text_nodes.specs.declared.line.LineRefusal.{LineRefusal}
+use Rattle.cabinet_text_nodes.specs.declared.line.LineRefusal.TheVariants.{Bad, OutOfMemory}
 use Rattle.cabinet_text_nodes.specs.declared.line.Step as code
-use Rattle.cabinet_text_reading.specs.Parts.{IsPath, IsSpelledStep, BeginsWithStep, BeginsByKey, lent_step}
+use Rattle.cabinet_text_reading.specs.Parts.{IsPath, IsSpelledStep, BeginsWithWord, BeginsByKey, RefusesStep, RefusesSteps, RefusesText, PlaceFits, lent_step}
 use Rattle.cabinet_text_reading.specs.declared.lines.path.StepRef.{StepRef}
 use Rattle.cabinet_text_reading.specs.declared.lines.path.StepRef.TheVariants.{Key, Place, Inside}
 
@@ -69,25 +72,22 @@ no_sign word question hash quote no_option is_question no_place is_hash no_key i
 no_sign word question hash quote no_option is_question no_place is_hash no_key is_quote (inside, p, e) =
     no_option (e ∙ sym is_question)
 
--- a step after a space, and the bytes after it
-pub same_step : (v w x y : List ℕ) → IsSpelledStep v → IsSpelledStep w → IsAtSpace x → IsAtSpace y → 32 ∷ (v ++ x) ≡ 32 ∷ (w ++ y) → (v ≡ w) × (x ≡ y)
-same_step v w x y p q r s h = same_cut v w x y (Lacks-spelled_step v p) (Lacks-spelled_step w q) r s (rest_same h)
-
 -- a path is nothing, or a step and a path after it
-pub IsPath-step : (bytes : List ℕ) (step : StepRef) (rest : List ℕ) → BeginsWithStep bytes step rest → IsPath rest → IsPath bytes
-IsPath-step bytes step rest begins (path, steps, h) =
-    let first = begins.possible in
+pub IsPath-step : (bytes word rest : List ℕ) → BeginsWithWord bytes word rest → IsSpelledStep word → IsPath rest → IsPath bytes
+IsPath-step bytes word rest begins first (path, steps, h) =
     (first.0 ∷ path, All-cons IsStep first.0 path first.1 steps, begins.spelled ∙ ap (λ w. 32 ∷ (w ++ rest)) first.2 ∙ ap (λ w. 32 ∷ (spelled_step first.0 ++ w)) h)
 
 -- a path that begins with a step, cut after it
-pub cut_after_step : (bytes : List ℕ) (lent : StepRef) (rest : List ℕ) (step : Step) (path : List Step) → BeginsWithStep bytes lent rest → IsStep step → bytes ≡ spelled_path (step ∷ path) → (lent_step lent ≡ spelled_step step) × (rest ≡ spelled_path path)
-cut_after_step bytes lent rest step path begins p h =
-    same_step (lent_step lent) (spelled_step step) rest (spelled_path path) begins.possible (step, p, refl) begins.space (IsAtSpace-path path) (sym begins.spelled ∙ h)
+pub cut_after_word : (bytes word rest : List ℕ) (step : Step) (path : List Step) → BeginsWithWord bytes word rest → IsStep step → bytes ≡ spelled_path (step ∷ path) → (word ≡ spelled_step step) × (rest ≡ spelled_path path)
+cut_after_word bytes word rest step path begins p h =
+    same_cut word (spelled_step step) rest (spelled_path path) (Lacks-from_HasNoSpace word begins.no_space) (Lacks-step step p) begins.space (IsAtSpace-path path) (rest_same (sym begins.spelled ∙ h))
 
-pub IsPath-after_step : (bytes : List ℕ) (step : StepRef) (rest : List ℕ) → BeginsWithStep bytes step rest → IsPath bytes → IsPath rest
-IsPath-after_step bytes lent rest begins ([], steps, h) = absurd (cc (begins.spelled, h))
-IsPath-after_step bytes lent rest begins (step ∷ path, steps, h) =
-    (path, All-tail IsStep step path steps, (cut_after_step bytes lent rest step path begins (All-head IsStep step path steps) h).1)
+pub IsPath-word : (bytes word rest : List ℕ) → BeginsWithWord bytes word rest → IsPath bytes → IsSpelledStep word × IsPath rest
+IsPath-word bytes word rest begins ([], steps, h) = absurd (cc (begins.spelled, h))
+IsPath-word bytes word rest begins (step ∷ path, steps, h) =
+    let p = All-head IsStep step path steps in
+    let cut = cut_after_word bytes word rest step path begins p h in
+    ((step, p, cut.0), (path, All-tail IsStep step path steps, cut.1))
 
 -- what does not begin with a space is no path, unless it is empty
 pub no_space : (bytes sign : List ℕ) → sign ≡ codes " " → ((rest : List ℕ) → bytes ≢ sign ++ rest) → IsPath bytes → bytes ≡ []
@@ -106,10 +106,10 @@ no_word bytes sign spaced word rest e whole cut lacks space none (step ∷ path,
     let words = same_cut word (spelled_step step) rest (spelled_path path) (Lacks-from_HasNoSpace word lacks) (Lacks-step step p) space (IsAtSpace-path path) both in
     absurd (none (step, p, words.0))
 
--- the step that a path begins with
-pub begins : (bytes sign spaced word rest : List ℕ) (step : StepRef) → sign ≡ codes " " → bytes ≡ sign ++ spaced → spaced ≡ word ++ rest → IsAtSpace rest → IsSpelledStep (lent_step step) → word ≡ lent_step step → BeginsWithStep bytes step rest
-begins bytes sign spaced word rest step e whole cut space possible is = record {
-  possible = possible;
+-- the word that a path begins with
+pub begins : (bytes sign spaced word rest step : List ℕ) → sign ≡ codes " " → bytes ≡ sign ++ spaced → spaced ≡ word ++ rest → HasNoSpace word → IsAtSpace rest → word ≡ step → BeginsWithWord bytes step rest
+begins bytes sign spaced word rest step e whole cut lacks space is = record {
+  no_space = subst HasNoSpace is lacks;
   spelled = whole ∙ ap (λ w. w ++ spaced) e ∙ ap (λ w. 32 ∷ w) (cut ∙ ap (λ w. w ++ rest) is);
   space = space;
 }
@@ -119,12 +119,12 @@ pub no_key : (bytes : List ℕ) → (IsPath bytes → bytes ≡ []) → BeginsBy
 no_key bytes none (k, path, utf8, steps, h) =
     absurd (cc (h, none (key k ∷ path, All-cons IsStep (key k) path utf8 steps, h)))
 
-pub other_step : (bytes rest : List ℕ) (step : StepRef) → BeginsWithStep bytes step rest → ((argument : Bor (List ℕ)) → step ≡ Key argument → ⊥) → BeginsByKey bytes → ⊥
+pub other_step : (bytes rest : List ℕ) (step : StepRef) → BeginsWithWord bytes (lent_step step) rest → ((argument : Bor (List ℕ)) → step ≡ Key argument → ⊥) → BeginsByKey bytes → ⊥
 other_step bytes rest (Key argument) begins none by_key = none argument refl
 other_step bytes rest (Place n) begins none (k, path, utf8, steps, h) =
-    absurd (first_differs refl (cut_after_step bytes (Place n) rest (key k) path begins utf8 h).0)
+    absurd (first_differs refl (cut_after_word bytes (lent_step (Place n)) rest (key k) path begins utf8 h).0)
 other_step bytes rest Inside begins none (k, path, utf8, steps, h) =
-    absurd (first_differs refl (cut_after_step bytes Inside rest (key k) path begins utf8 h).0)
+    absurd (first_differs refl (cut_after_word bytes (lent_step Inside) rest (key k) path begins utf8 h).0)
 
 spelled_path-append : (p q : List Step) → spelled_path (p ++ q) ≡ spelled_path p ++ spelled_path q
 spelled_path-append [] q = refl
@@ -137,7 +137,7 @@ pub All-step : (path : List code.Step) (step : code.Step) → IsStep (step_of st
 All-step path step possible p =
     rw (map-append step_of path (step ∷ [])) (All-push IsStep (path_of path) (step_of step) p possible)
 
-pub spelled-step : (path : List code.Step) (step : code.Step) (lent : StepRef) (bytes rest after : List ℕ) → bytes ≡ spelled_path (path_of path) ++ rest → BeginsWithStep rest lent after → lent_step lent ≡ spelled_step (step_of step) → bytes ≡ spelled_path (path_of (path ++ step ∷ [])) ++ after
+pub spelled-step : (path : List code.Step) (step : code.Step) (word bytes rest after : List ℕ) → bytes ≡ spelled_path (path_of path) ++ rest → BeginsWithWord rest word after → word ≡ spelled_step (step_of step) → bytes ≡ spelled_path (path_of (path ++ step ∷ [])) ++ after
 spelled-step path step lent bytes rest after h begins is =
     let word = spelled_step (step_of step) in
     let one : spelled_path (step_of step ∷ []) ++ after ≡ 32 ∷ (word ++ after) = ap (λ w. 32 ∷ (w ++ after)) (append-nil word) in
@@ -147,18 +147,45 @@ spelled-step path step lent bytes rest after h begins is =
     ∙ sym (append_assoc (spelled_path (path_of path)) (spelled_path (step_of step ∷ [])) after)
     ∙ ap (λ w. w ++ after) (sym whole)
 
--- a path begins with its next step, or has none
-pub next_is : (left : List ℕ) (r : Option (StepRef × Bor (List ℕ))) → IsPath left
-    → MatchOption r (IsPath left → left ≡ []) (λ p. BeginsWithStep left p.0 p.1.now)
-    → MatchOption r (left ≡ []) (λ p. BeginsWithStep left p.0 p.1.now)
-next_is left None is_path h = h is_path
-next_is left (Some p) is_path h = h
+-- the bytes after a word are fewer
+pub less_left : (bytes word rest : List ℕ) → BeginsWithWord bytes word rest → length rest < length bytes
+less_left bytes word rest begins = omega (arith, ap length begins.spelled, length-append word rest)
 
--- the length of what is left of a path, whose next step was read
-abbrev pub length_left : Option (StepRef × Bor (List ℕ)) → ℕ
-length_left None = 0
-length_left (Some p) = length p.1.now + 1
+-- a key in a line, and what it is where it is read
+pub key_step : (argument : List ℕ) → IsEscaped argument → IsSpelledStep (39 ∷ argument)
+key_step argument (k, p, e) = (key k, p, ap (λ w. 39 ∷ w) e)
 
-pub length_left-less : (r o : Option (StepRef × Bor (List ℕ))) (p : StepRef × Bor (List ℕ)) → o ≡ Some p → MatchOption r (IsPath p.1.now → p.1.now ≡ []) (λ q. BeginsWithStep p.1.now q.0 q.1.now) → length_left r < length_left o
-length_left-less None o p e h = rw e (omega arith)
-length_left-less (Some q) o p e h = rw e (omega (arith, ap length h.spelled, length-append (lent_step q.0) q.1.now))
+-- a borrowed key that is a step is an escaped text
+pub IsEscaped-key : (argument : List ℕ) → IsSpelledStep (39 ∷ argument) → IsEscaped argument
+IsEscaped-key argument (key k, p, e) = (k, p, rest_same e)
+IsEscaped-key argument (place n, p, e) = absurd (first_differs refl e)
+IsEscaped-key argument (inside, p, e) = absurd (first_differs refl e)
+
+-- the refusal of a borrowed key
+pub key_refused : (argument : List ℕ) (refusal : LineRefusal) → RefusesText argument refusal → RefusesStep (39 ∷ argument) refusal
+key_refused argument Bad none = λ step. let k = IsEscaped-key argument step in none k.0 k.1 k.2
+key_refused argument OutOfMemory r = key_step argument r.0
+
+-- the refusal of a step, in bytes that are a path only if it is a step
+pub step_refused : (bytes word : List ℕ) (refusal : LineRefusal) → (IsPath bytes → IsSpelledStep word) → bytes ≢ [] → RefusesStep word refusal → RefusesSteps bytes refusal
+step_refused bytes word Bad only some none = λ path. none (only path)
+step_refused bytes word OutOfMemory only some r = some
+
+-- a borrowed step that is no key is a step
+pub place_step : (step : StepRef) (n : ℕ) → step ≡ Place n → PlaceFits step → IsSpelledStep (lent_step step)
+place_step step n e small = rw e (place n, subst PlaceFits e small, refl)
+
+pub inside_step : (step : StepRef) → step ≡ Inside → IsSpelledStep (lent_step step)
+inside_step step e = rw e (inside, tt, refl)
+
+pub key_tells : (b : Bool) (step : StepRef) (argument : Bor (List ℕ)) → step ≡ Key argument → OnTrue b (IsEscaped argument.now) → OnTrue b (IsSpelledStep (lent_step step))
+key_tells false step argument e h = tt
+key_tells true step argument e h = rw e (key_step argument.now h)
+
+pub key_tells_not : (b : Bool) (step : StepRef) (argument : Bor (List ℕ)) → step ≡ Key argument → OnFalse b (IsEscaped argument.now → ⊥) → OnFalse b (IsSpelledStep (lent_step step) → ⊥)
+key_tells_not true step argument e h = tt
+key_tells_not false step argument e h = rw e (λ s. h (IsEscaped-key argument.now s))
+
+pub some_left : (bytes before rest : List ℕ) → bytes ≡ before ++ rest → rest ≢ [] → bytes ≢ []
+some_left bytes [] rest e some none = some (sym e ∙ none)
+some_left bytes (b ∷ before) rest e some none = absurd (cc (e, none))

@@ -1,7 +1,7 @@
 -- The parts of lines: steps, paths and leaves, and the errors of reading them.
-use Rattle.std.specs.Prelude.{◌≡◌, ◌≢◌, ℕ, List, [], ◌∷◌, ◌++◌, codes, All, IsUtf8}
+use Rattle.std.specs.Prelude.{◌≡◌, ◌≢◌, ℕ, ◌<◌, ◌^◌, List, [], ◌∷◌, ◌++◌, codes, All, IsUtf8}
 use Rattle.std.specs.Fmt.{decimal}
-use Rattle.cabinet_text_bytes.specs.Words.{IsEscaped, IsAtSpace}
+use Rattle.cabinet_text_bytes.specs.Words.{IsEscaped, HasNoSpace, IsAtSpace}
 use Rattle.cabinet_text_grammar.specs.Tree.{Leaf, IsLeaf}
 use Rattle.cabinet_text_grammar.specs.Spelling.{escaped, spelled_leaf}
 use Rattle.cabinet_text_grammar.specs.Path.{Step, key}
@@ -19,16 +19,22 @@ IsSpelledStep bytes = (step : Step) × IsStep step × (bytes ≡ spelled_step st
 abbrev pub IsPath : List ℕ → Type 0
 IsPath bytes = (path : List Step) × All IsStep path × (bytes ≡ spelled_path path)
 
--- the bytes of a borrowed step, whose key is still escaped
+-- the bytes of a borrowed step, whose key is still escaped, or no escaped text
 abbrev pub lent_step : StepRef → List ℕ
 lent_step (Key argument) = codes "'" ++ argument.now
 lent_step (Place n) = codes "#" ++ decimal n
 lent_step Inside = codes "?"
 
--- the bytes begin with a space and a step, and `rest` is the bytes after the step
-pub record BeginsWithStep (bytes : List ℕ) (step : StepRef) (rest : List ℕ) : Type 0 where
-  pub possible : IsSpelledStep (lent_step step)
-  pub spelled : bytes ≡ codes " " ++ (lent_step step ++ rest)
+-- the place of a borrowed step is counted in 64 bits
+abbrev pub PlaceFits : StepRef → Type 0
+PlaceFits (Key argument) = Unit {0}
+PlaceFits (Place n) = n < 2 ^ 64
+PlaceFits Inside = Unit {0}
+
+-- the bytes begin with a space and a word, and `rest` is the bytes after the word
+pub record BeginsWithWord (bytes word rest : List ℕ) : Type 0 where
+  pub no_space : HasNoSpace word
+  pub spelled : bytes ≡ codes " " ++ (word ++ rest)
   pub space : IsAtSpace rest
 
 -- the spelling of a path whose first step is a key
@@ -40,6 +46,16 @@ abbrev pub IsCutAfterLeaf : List ℕ → List ℕ → List ℕ → Type 0
 IsCutAfterLeaf bytes front rest =
     (l : Leaf) (path : List Step)
     → IsLeaf l → bytes ≡ spelled_leaf l ++ spelled_path path → (front ≡ spelled_leaf l) × (rest ≡ spelled_path path)
+
+-- the bytes are no step; memory is refused only for a step
+abbrev pub RefusesStep : List ℕ → LineRefusal → Type 0
+RefusesStep bytes Bad = IsSpelledStep bytes → ⊥
+RefusesStep bytes OutOfMemory = IsSpelledStep bytes
+
+-- the bytes are no path; memory is refused only for bytes, whether or not they are a path
+abbrev pub RefusesSteps : List ℕ → LineRefusal → Type 0
+RefusesSteps bytes Bad = IsPath bytes → ⊥
+RefusesSteps bytes OutOfMemory = bytes ≢ []
 
 -- the bytes are no path; memory is refused only for a path with steps
 abbrev pub RefusesPath : List ℕ → LineRefusal → Type 0

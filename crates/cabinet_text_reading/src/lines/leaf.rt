@@ -10,7 +10,7 @@ use cabinet_text_nodes::{Leaf, LineRefusal};
 use std::alloc::Global;
 
 /// Reads the text that bytes are the escaped form of.
-fn read_argument(alloc: Global, argument: &[u8]) -> Result<String, LineRefusal>
+pub(crate) fn read_argument(alloc: Global, argument: &[u8]) -> Result<String, LineRefusal>
     ensures text { IfOk result (λ t. IsUtf8 (string_bytes t)) }
     ensures escaped { IfOk result (λ t. argument.now ≡ escaped (string_bytes t)) }
     ensures refused { IfErr result (RefusesText argument.now) }

@@ -1,18 +1,18 @@
 //! Reads paths of lines: whether bytes are a path, and its steps.
-ghost use Rattle.std.specs.Prelude.{◌≡◌, ◌≢◌, [], All, MatchOption, IfOk, IfErr};
+ghost use Rattle.std.specs.Prelude.{◌≡◌, ◌++◌, [], All, MatchOption, IfOk, IfErr, codes};
 ghost use Rattle.std.specs.Bool.{OnTrue, OnFalse};
 ghost use Rattle.cabinet_text_grammar.specs.Line.{IsStep, spelled_step, spelled_path};
 ghost use Rattle.cabinet_text_nodes.specs.View.{step_of, path_of};
-ghost use Rattle.cabinet_text_reading.specs.Parts.{IsPath, IsSpelledStep, BeginsWithStep, BeginsByKey, lent_step};
-ghost use Rattle.cabinet_text_reading.specs.declared.lines.path.StepRef.TheVariants.{Key};
+ghost use Rattle.cabinet_text_reading.specs.Parts.{IsPath, IsSpelledStep, BeginsWithWord, BeginsByKey, RefusesPath, RefusesStep, RefusesSteps, PlaceFits, lent_step};
 
-use cabinet_text_bytes::{after_prefix, is_escaped, read_count, split_word, unescape_text};
-use cabinet_text_nodes::Step;
-use std::alloc::{AllocError, Global};
+use crate::lines::leaf::read_argument;
+use cabinet_text_bytes::{after_prefix, is_escaped, read_count, split_word};
+use cabinet_text_nodes::{LineRefusal, Step};
+use std::alloc::Global;
 
-/// A step whose key is borrowed from a line, and is still escaped.
+/// A step that is borrowed from a line. The bytes of a key are not checked: they may be no escaped text.
 #[derive(Clone, Copy)]
-pub(crate) enum StepRef<'a> {
+enum StepRef<'a> {
     Key(&'a [u8]),
     Place(u64),
     Inside,
@@ -20,8 +20,7 @@ pub(crate) enum StepRef<'a> {
 
 /// Reads a word as a step.
 fn read_step(word: &[u8]) -> Option<StepRef<'_>>
-    ensures { MatchOption result (IsSpelledStep word.now
-        → ⊥) (λ step. IsSpelledStep (lent_step step) × (word.now ≡ lent_step step)) }
+    ensures { MatchOption result (IsSpelledStep word.now → ⊥) (λ step. PlaceFits step × (word.now ≡ lent_step step)) }
 {
     if word == b"?".as_slice() {
         return Some(StepRef::Inside);
@@ -35,17 +34,13 @@ fn read_step(word: &[u8]) -> Option<StepRef<'_>>
     let Some(argument) = after_prefix(word, b"'".as_slice()) else {
         return None;
     };
-    if is_escaped(argument) {
-        Some(StepRef::Key(argument))
-    } else {
-        None
-    }
+    Some(StepRef::Key(argument))
 }
 
 /// Returns the first step of a path, and the bytes after it.
-pub(crate) fn next_step(path: &[u8]) -> Option<(StepRef<'_>, &[u8])>
+fn next_step(path: &[u8]) -> Option<(StepRef<'_>, &[u8])>
     ensures { MatchOption result (IsPath path.now
-        → path.now ≡ []) (λ p. BeginsWithStep path.now p.0 p.1.now) }
+        → path.now ≡ []) (λ p. PlaceFits p.0 × BeginsWithWord path.now (lent_step p.0) p.1.now) }
 {
     let Some(spaced) = after_prefix(path, b" ".as_slice()) else {
         return None;
@@ -57,10 +52,10 @@ pub(crate) fn next_step(path: &[u8]) -> Option<(StepRef<'_>, &[u8])>
     Some((step, rest))
 }
 
-/// Returns the escaped key that a path begins with, and the bytes after it.
+/// Returns the bytes of the key that a path begins with, and the bytes after it. Those of the key are not checked.
 pub(crate) fn next_key(path: &[u8]) -> Option<(&[u8], &[u8])>
     ensures { MatchOption result (BeginsByKey path.now
-        → ⊥) (λ p. BeginsWithStep path.now (Key p.0) p.1.now) }
+        → ⊥) (λ p. BeginsWithWord path.now (codes "'" ++ p.0.now) p.1.now) }
 {
     let Some((step, rest)) = next_step(path) else {
         return None;
@@ -71,6 +66,18 @@ pub(crate) fn next_key(path: &[u8]) -> Option<(&[u8], &[u8])>
     Some((argument, rest))
 }
 
+/// Returns whether a borrowed step is a step, which its key decides.
+fn is_step(step: StepRef<'_>) -> bool
+    requires { PlaceFits step }
+    ensures yes { OnTrue result (IsSpelledStep (lent_step step.entry)) }
+    ensures no { OnFalse result (IsSpelledStep (lent_step step.entry) → ⊥) }
+{
+    match step {
+        StepRef::Key(argument) => is_escaped(argument),
+        StepRef::Place(_) | StepRef::Inside => true,
+    }
+}
+
 /// Returns whether bytes are a path.
 pub(crate) fn is_path(bytes: &[u8]) -> bool
     ensures yes { OnTrue result (IsPath bytes.now) }
@@ -78,39 +85,74 @@ pub(crate) fn is_path(bytes: &[u8]) -> bool
 {
     let mut rest = bytes;
     while !rest.is_empty() {
-        let Some((_, after)) = next_step(rest) else {
+        let Some((step, after)) = next_step(rest) else {
             return false;
         };
+        if !is_step(step) {
+            return false;
+        }
         rest = after;
     }
     true
 }
 
 /// Returns an owned copy of a step. Only a key allocates memory.
-fn own_step(alloc: Global, step: StepRef<'_>) -> Result<Step, AllocError>
-    requires { IsSpelledStep (lent_step step) }
+fn own_step(alloc: Global, step: StepRef<'_>) -> Result<Step, LineRefusal>
+    requires { PlaceFits step }
     ensures possible { IfOk result (λ s. IsStep (step_of s)) }
     ensures spelled { IfOk result (λ s. lent_step step.entry ≡ spelled_step (step_of s)) }
+    ensures refused { IfErr result (RefusesStep (lent_step step.entry)) }
 {
     match step {
-        StepRef::Key(argument) => Ok(Step::Key(unescape_text(alloc, argument)?)),
+        StepRef::Key(argument) => match read_argument(alloc, argument) {
+            Ok(key) => Ok(Step::Key(key)),
+            Err(refusal) => Err(refusal),
+        },
         StepRef::Place(place) => Ok(Step::Place(place)),
         StepRef::Inside => Ok(Step::Inside),
     }
 }
 
-/// Reads the steps of a path, and allocates memory for them.
-pub(crate) fn own_path(alloc: Global, bytes: &[u8]) -> Result<Vec<Step>, AllocError>
-    requires { IsPath bytes.now }
+/// Reads bytes as a path. What follows a step for which memory is refused is not read.
+fn read_steps(alloc: Global, bytes: &[u8]) -> Result<Vec<Step>, LineRefusal>
     ensures steps { IfOk result (λ path. All IsStep (path_of path.items)) }
     ensures spelled { IfOk result (λ path. bytes.now ≡ spelled_path (path_of path.items)) }
-    ensures refused { IfErr result (λ error. bytes.now ≢ []) }
+    ensures refused { IfErr result (RefusesSteps bytes.now) }
 {
     let mut path = Vec::new(alloc);
-    let mut next = next_step(bytes);
-    while let Some((step, rest)) = next {
-        path.push(own_step(alloc, step)?)?;
-        next = next_step(rest);
+    let mut rest = bytes;
+    while !rest.is_empty() {
+        let Some((step, after)) = next_step(rest) else {
+            return Err(LineRefusal::Bad);
+        };
+        match own_step(alloc, step) {
+            Ok(step) => match path.push(step) {
+                Ok(()) => {}
+                Err(_) => return Err(LineRefusal::OutOfMemory),
+            },
+            Err(refusal) => return Err(refusal),
+        }
+        rest = after;
     }
     Ok(path)
+}
+
+/// Reads bytes as a path. They are read a second time only where memory is refused, which is the refusal only if they
+/// are a path.
+pub(crate) fn read_path(alloc: Global, bytes: &[u8]) -> Result<Vec<Step>, LineRefusal>
+    ensures steps { IfOk result (λ path. All IsStep (path_of path.items)) }
+    ensures spelled { IfOk result (λ path. bytes.now ≡ spelled_path (path_of path.items)) }
+    ensures refused { IfErr result (RefusesPath bytes.now) }
+{
+    match read_steps(alloc, bytes) {
+        Ok(path) => Ok(path),
+        Err(LineRefusal::Bad) => Err(LineRefusal::Bad),
+        Err(LineRefusal::OutOfMemory) => {
+            if is_path(bytes) {
+                Err(LineRefusal::OutOfMemory)
+            } else {
+                Err(LineRefusal::Bad)
+            }
+        }
+    }
 }

@@ -1,5 +1,5 @@
-use Rattle.std.proofs.lemmas.Str.{IsUtf8-string_bytes}
+use Rattle.cabinet_text_reading.proofs.Paths.{key_refused}
 use Rattle.cabinet_text_reading.proofs.lines.path.own_step.Goals as goal
 
-pub returns-in_ok-unescape_text-in-Key-clause-possible : goal.returns-in_ok-unescape_text-in-Key-clause-possible
-returns-in_ok-unescape_text-in-Key-clause-possible c = IsUtf8-string_bytes c.in_ok-unescape_text-in-Key.field-0
+pub returns-in-Err-clause-refused : goal.returns-in-Err-clause-refused
+returns-in-Err-clause-refused c = rw c.in-Key.is (key_refused c.in-Key.argument.now c.in-Err.refusal c.in-Err.ensures.refused)
