@@ -1,9 +1,9 @@
 #!/usr/bin/env bash
 # Times cab run over a million lines beside sed over the same lines, and prints the most memory that cab held; then
 # times questions and edits of one element in lists of several lengths, and building and opening them; then compares the
-# processor time and the memory of cab on three documents of a million leaves, a list of numbers, a list of records and
-# a list of uses of a thousand shared texts, with those of bench/plain.rs, the same two commands in plain Rust, and, if
-# jq is installed, with the processor time of jq.
+# processor time and the memory of cab on documents of a million leaves, a list of numbers, a list of records and a list
+# of uses of a thousand shared texts, and of a million nodes, a list of chains of options, with those of bench/plain.rs,
+# the same two commands in plain Rust, and, if jq is installed, with the processor time of jq.
 # Without rustc, cab is compared with sed alone.
 # Each time is the least of three, and each processor time the least of five, those of a comparison taken in turns.
 set -eu
@@ -169,6 +169,16 @@ awk 'BEGIN {
     }
     print "]" > "uses.json"
 }'
+# a list of 16,000 chains of 62 options, each around a number: a million nodes
+awk 'BEGIN {
+    print "list 16000" > "chains"
+    for (i = 1; i <= 16000; i++) {
+        for (j = 1; j <= 62; j++) {
+            print "some" > "chains"
+        }
+        print "int " i > "chains"
+    }
+}'
 # questions, edits, and the paths of the questions: 100,000 places of each document, in no order
 awk 'BEGIN {
     for (i = 1; i <= 100000; i++) {
@@ -233,3 +243,11 @@ for document in numbers records uses; do
     memory_beside_plain "$document: build" build $document pipe
     memory_beside_plain "$document: open" run $document.cab
 done
+
+document=chains
+./plain build chains chains.cab > answers
+asked_of_jq=()
+beside_plain 'chains: build' /dev/null build ../chains a.cab
+beside_plain 'chains: open' /dev/null run a.cab
+memory_beside_plain 'chains: build' build chains pipe
+memory_beside_plain 'chains: open' run chains.cab
