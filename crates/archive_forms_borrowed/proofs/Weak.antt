@@ -1,9 +1,10 @@
--- The law of a weak pointer to a value, which has the bytes of an option of the counted pointer.
-use Rattle.std.proofs.Common.{◌≡◌, ℕ, Bool, ◌+◌, List, [], ◌∷◌, Some, None, slice_index, refl, sym, ap, add-zero, inr, arith}
-use Rattle.archive_shape.specs.ShapeLayout.Bytes.{align_up}
-use Rattle.archive_shape.specs.ShapeLayout.Shape.{Shape, size_of}
+-- The law of a weak pointer, which has the bytes of an option of the counted pointer.
+use Rattle.std.proofs.Common.{◌≡◌, ℕ, Bool, ◌+◌, List, [], ◌∷◌, Some, None, length, slice_index, refl, sym, ap, subst, ◌∙◌, add-zero, inr, arith}
+use Rattle.std.proofs.lemmas.List.{length-replicate}
+use Rattle.archive_shape.specs.ShapeLayout.Bytes.{window, align_up}
+use Rattle.archive_shape.specs.ShapeLayout.Shape.{Pointee, size_of}
 use Rattle.archive_shape.specs.ShapeLayout.Shape.Shape.{shared, weak, option}
-use Rattle.archive_shape.specs.ShapeLayout.Shape.Pointee.{sized}
+use Rattle.archive_shape.specs.ShapeLayout.Shape.Pointee.{sized, slice, str}
 use Rattle.archive_shape.specs.ShapeLayout.Value.Value.{chosen}
 use Rattle.archive_shape.specs.ShapeLayout.Value.Values.{no_values}
 use Rattle.archive_shape.specs.ShapeLayout.Content.{Names, made, shape_content, choose}
@@ -26,17 +27,24 @@ use Rattle.archive_forms_laws.proofs.Gaps.{no_gap}
 use Rattle.archive_forms_laws.proofs.Options.{none_spells, some_spells}
 use Rattle.archive_forms_laws.proofs.Payloads.{payload_spells_at}
 
-module _ (cyclic : Bool) (s : Shape) where
-  -- it has the same number of bytes as the option
-  pub weak_size : size_of (weak cyclic (sized s)) ≡ size_of (option (shared cyclic (sized s)))
-  unfolding align_up
-  weak_size = refl
+-- it has the same number of bytes as the option
+weak_size : (cyclic : Bool) (p : Pointee) → size_of (option (shared cyclic p)) ≡ size_of (weak cyclic p)
+unfolding align_up
+weak_size cyclic (sized s) = refl
+weak_size cyclic (slice s) = refl
+weak_size cyclic str = refl
 
-  nothing_content : (names : Names) (pos : ℕ) (own : List ℕ) → slice_index own 0 ≡ 0 → shape_content names pos own (weak cyclic (sized s)) ≡ plain (tagged 0) []
+zero_tag : (cyclic : Bool) (p : Pointee) → slice_index (zeros (size_of (weak cyclic p))) 0 ≡ 0
+zero_tag cyclic (sized s) = refl
+zero_tag cyclic (slice s) = refl
+zero_tag cyclic str = refl
+
+module _ (cyclic : Bool) (p : Pointee) where
+  nothing_content : (names : Names) (pos : ℕ) (own : List ℕ) → slice_index own 0 ≡ 0 → shape_content names pos own (weak cyclic p) ≡ plain (tagged 0) []
   unfolding shape_content choose
   nothing_content names pos own e = rw e refl
 
-  pointer_content : (names : Names) (pos : ℕ) (own : List ℕ) → slice_index own 0 ≡ 1 → shape_content names pos own (weak cyclic (sized s)) ≡ plain (tagged 1) (at (pos + 4) (shared cyclic (sized s)) ∷ [])
+  pointer_content : (names : Names) (pos : ℕ) (own : List ℕ) → slice_index own 0 ≡ 1 → shape_content names pos own (weak cyclic p) ≡ plain (tagged 1) (at (pos + 4) (shared cyclic p) ∷ [])
   unfolding shape_content choose
   pointer_content names pos own e = rw e refl
 
@@ -44,17 +52,18 @@ module _ (cyclic : Bool) (s : Shape) where
     -- ---- to nothing
 
     nothing_canonical : (st : State) (pos : ℕ) (names : Names) (bytes : List ℕ) (level : ℕ) (inside : List OpenShared)
-        → HasBytes bytes pos (zeros 8)
-        → CanonicalPart fit names bytes level inside (visits_of st.met) (visits_of st.met) (at pos (weak cyclic (sized s))) (chosen 0 no_values) st.pos (st.pos + 0)
+        → HasBytes bytes pos (zeros (size_of (weak cyclic p)))
+        → CanonicalPart fit names bytes level inside (visits_of st.met) (visits_of st.met) (at pos (weak cyclic p)) (chosen 0 no_values) st.pos (st.pos + 0)
     unfolding made Ascends
     nothing_canonical st pos names bytes level inside q =
-        let e = nothing_content names pos _ (ap (λ l. slice_index l 0) q) in
+        let long : length (zeros (size_of (weak cyclic p))) ≡ size_of (weak cyclic p) = length-replicate _ _ in
+        let e = nothing_content names pos _ (ap (λ n. slice_index (window bytes pos n) 0) (sym long) ∙ ap (λ l. slice_index l 0) q ∙ zero_tag cyclic p) in
         record {
           regions = [];
           reads = record {
             holds = holds_plain e tt (holds_none refl refl refl) refl;
             canonical = (
-              clean_by names bytes (at pos (weak cyclic (sized s))) (plain (tagged 0) []) e (λ i o. inr (inr (zero_stands bytes pos 8 i q o.0 o.1))) tt,
+              clean_by names bytes (at pos (weak cyclic p)) (plain (tagged 0) []) e (λ i o. inr (inr (zero_stands bytes pos (size_of (weak cyclic p)) i q o.0 o.1))) tt,
               tt,
               tt,
             );
@@ -64,13 +73,13 @@ module _ (cyclic : Bool) (s : Shape) where
           gaps = no_gap bytes [] st.pos;
         }
 
-    nothing_spells : SpellsAt fit (weak cyclic (sized s)) knows (option_spelling (shared cyclic (sized s)) w) None
-    unfolding align_up
+    nothing_spells : SpellsAt fit (weak cyclic p) knows (option_spelling (shared cyclic p) w) None
     nothing_spells =
-        let as_option = none_spells fit (shared cyclic (sized s)) knows w in
+        let as_option = none_spells fit (shared cyclic p) knows w in
+        let same = weak_size cyclic p in
         record {
-          sized = as_option.sized;
-          canonical = λ st pos names keys bytes level inside k n known state over f o p q. nothing_canonical st pos names bytes level inside q;
+          sized = λ r pos f. as_option.sized r pos f ∙ same;
+          canonical = λ st pos names keys bytes level inside k n known state over f o p q. nothing_canonical st pos names bytes level inside (subst (λ size. HasBytes bytes pos (zeros size)) same q);
           consistent = as_option.consistent;
           keyed = as_option.keyed;
           piece_bytes = as_option.piece_bytes;
@@ -81,14 +90,17 @@ module _ (cyclic : Bool) (s : Shape) where
 
     -- ---- to a value
 
-    pointer_spells : (x : A) → SpellsAt fit (shared cyclic (sized s)) knows w x → SpellsAt fit (weak cyclic (sized s)) knows (option_spelling (shared cyclic (sized s)) w) (Some x)
+    pointer_spells : (x : A) → SpellsAt fit (shared cyclic p) knows w x → SpellsAt fit (weak cyclic p) knows (option_spelling (shared cyclic p) w) (Some x)
     unfolding align_up
     pointer_spells x one =
-        let as_option = some_spells fit (shared cyclic (sized s)) knows w x one in
-        let behind_tag : SpellsAt fit (weak cyclic (sized s)) knows (payload_spelling 1 4 8 w) x =
-        payload_spells_at fit (shared cyclic (sized s)) (weak cyclic (sized s)) knows w 1 4 (omega arith) (omega arith) (omega arith) refl pointer_content (λ bytes pos. tt) x one in
+        let as_option = some_spells fit (shared cyclic p) knows w x one in
+        let same = weak_size cyclic p in
+        let behind_tag : SpellsAt fit (weak cyclic p) knows (payload_spelling 1 4 (size_of (option (shared cyclic p))) w) x =
+        subst (λ size. SpellsAt fit (weak cyclic p) knows (payload_spelling 1 4 size w) x) (sym same)
+        (payload_spells_at fit (shared cyclic p) (weak cyclic p) knows w 1 4 (omega arith) (omega arith) (omega arith) refl pointer_content (λ bytes pos. tt) x one)
+        in
         record {
-          sized = as_option.sized;
+          sized = λ r pos f. as_option.sized r pos f ∙ same;
           canonical = behind_tag.canonical;
           consistent = as_option.consistent;
           keyed = as_option.keyed;
@@ -98,6 +110,6 @@ module _ (cyclic : Bool) (s : Shape) where
           own_exact = as_option.own_exact;
         }
 
-    pub weak_spells : Spells fit (shared cyclic (sized s)) knows w → Spells fit (weak cyclic (sized s)) knows (option_spelling (shared cyclic (sized s)) w)
+    pub weak_spells : Spells fit (shared cyclic p) knows w → Spells fit (weak cyclic p) knows (option_spelling (shared cyclic p) w)
     weak_spells spells None = nothing_spells
     weak_spells spells (Some x) = pointer_spells x (spells x)

@@ -49,6 +49,12 @@ weak_slice_rc_spelling s w = weak_of (slice s) (shared_slice_rc_spelling s w)
 abbrev pub weak_str_rc_spelling : Spelling (Option (Shared (RcStr Global))) RcWeakResolver
 weak_str_rc_spelling = weak_of str shared_str_rc_spelling
 
--- std's weak pointer to a value
+-- std's weak pointers to a value, elements and a text
 abbrev pub shared_weak_spelling : {A R : Type 0} → Shape → Spelling A R → Spelling (SharedWeak (Rc A Global)) RcWeakResolver
 shared_weak_spelling s w = seen_as (λ x. x.shared) (weak_rc_spelling s w)
+
+abbrev pub shared_weak_slice_spelling : {A R : Type 0} → Shape → Spelling A R → Spelling (SharedWeak (RcSlice A Global)) RcWeakResolver
+shared_weak_slice_spelling s w = seen_as (λ x. x.shared) (weak_slice_rc_spelling s w)
+
+abbrev pub shared_weak_str_spelling : Spelling (SharedWeak (RcStr Global)) RcWeakResolver
+shared_weak_str_spelling = seen_as (λ x. x.shared) weak_str_rc_spelling

@@ -9,6 +9,8 @@ use std::rc::{Rc, RcSlice, RcStr};
 
 type Pair = (SharedWeak<Rc<u32>>, Shared<Rc<u32>>);
 
+type Unsized = (SharedWeak<RcSlice<u32>>, SharedWeak<RcStr>);
+
 /// Returns a weak pointer to a number under a key.
 fn weak(alloc: Global, key: usize, value: u32) -> Result<SharedWeak<Rc<u32>>, Error> {
     let shared = number(alloc, key, value)?;
@@ -62,6 +64,31 @@ fn a_weak_pointer_to_nothing_is_zeros(rt: HostRuntime) -> Result<(), Error> {
     let bytes = to_bytes(alloc, &pair)?;
     let expected: &[u8] = b"\x07\0\0\0\0\0\0\0\0\0\0\0\xf4\xff\xff\xff";
     assert!(rt; &*bytes == expected);
+    Ok(())
+}
+
+#[test]
+fn weak_pointers_to_elements_and_texts_are_archived_and_read(rt: HostRuntime) -> Result<(), Error> {
+    let alloc = rt.alloc();
+    let pair = (
+        SharedWeak {
+            shared: Some(numbers(alloc, 1, &[6, 8])?),
+        },
+        SharedWeak {
+            shared: Some(text(alloc, 2, "ab")?),
+        },
+    );
+    let bytes = to_bytes(alloc, &pair)?;
+    let expected: &[u8] =
+        b"\x06\0\0\0\x08\0\0\0ab\0\0\x01\0\0\0\xf0\xff\xff\xff\x02\0\0\0\x01\0\0\0\xec\xff\xff\xff\x02\0\0\0";
+    assert!(rt; &*bytes == expected);
+    let (elements, letters) = from_bytes::<Unsized>(alloc, &bytes)?;
+    assert!(rt;
+        matches!(&elements.shared, Some(led) if led.key == 0 && led.value.as_slice() == [6, 8].as_slice())
+    );
+    assert!(rt; matches!(&letters.shared, Some(led) if led.key == 8 && &*led.value == "ab"));
+    let nothing: Unsized = (SharedWeak { shared: None }, SharedWeak { shared: None });
+    assert!(rt; &*to_bytes(alloc, &nothing)? == &[0; 24][..]);
     Ok(())
 }
 

@@ -5,7 +5,8 @@ ghost use Rattle.archive_forms.specs.Faithful.{IsFaithful};
 
 use crate::deserializing::ReadBack;
 use archive_forms_rc::{
-    ArchivedRc, ArchivedRcSlice, ArchivedRcStr, ArchivedRcWeak, RcFlavor, Shared, SharedWeak,
+    ArchivedRc, ArchivedRcSlice, ArchivedRcStr, ArchivedRcWeak, ArchivedRcWeakSlice,
+    ArchivedRcWeakStr, RcFlavor, Shared, SharedWeak,
 };
 use archive_forms_values::{
     ArchivedBox, ArchivedBoxedSlice, ArchivedBoxedStr, ArchivedOption, ArchivedResult,
@@ -42,6 +43,8 @@ pub fn forms_are_faithful<T: Archive, U: Archive, A: ReadBack<T>, B: ReadBack<U>
         ⟦<ArchivedRcSlice<A, RcFlavor> as ReadBack<Shared<RcSlice<T>>>>⟧.reads }
     ensures weak { IsFaithful ⟦<SharedWeak<Rc<T>> as Archive>⟧.spelling
         ⟦<ArchivedRcWeak<A, RcFlavor> as ReadBack<SharedWeak<Rc<T>>>>⟧.reads }
+    ensures weak_slices { IsFaithful ⟦<SharedWeak<RcSlice<T>> as Archive>⟧.spelling
+        ⟦<ArchivedRcWeakSlice<A, RcFlavor> as ReadBack<SharedWeak<RcSlice<T>>>>⟧.reads }
 {}
 
 /// So is a tuple of fields that are.
@@ -89,10 +92,12 @@ pub fn leaves_are_faithful<N: Native + Leaf<Archived = LittleEndian<N>>, T>()
         ⟦<PhantomData<T> as ReadBack<PhantomData<T>>>⟧.reads }
 {}
 
-/// Texts are read back as what was archived, by value, in a box and shared.
+/// Texts are read back as what was archived, by value, in a box, shared and through weak pointers.
 pub fn texts_are_faithful()
     ensures texts { IsFaithful ⟦<String as Archive>⟧.spelling ⟦<ArchivedString as ReadBack<String>>⟧.reads }
     ensures boxed { IsFaithful ⟦<BoxedStr as Archive>⟧.spelling ⟦<ArchivedBoxedStr as ReadBack<BoxedStr>>⟧.reads }
     ensures counted { IsFaithful ⟦<Shared<RcStr> as Archive>⟧.spelling
         ⟦<ArchivedRcStr<RcFlavor> as ReadBack<Shared<RcStr>>>⟧.reads }
+    ensures weak { IsFaithful ⟦<SharedWeak<RcStr> as Archive>⟧.spelling
+        ⟦<ArchivedRcWeakStr<RcFlavor> as ReadBack<SharedWeak<RcStr>>>⟧.reads }
 {}

@@ -5,12 +5,14 @@ ghost use Rattle.archive_shape.specs.ShapeLayout.Shape.Shape.{weak};
 ghost use Rattle.archive_shape.specs.ShapeLayout.Shape.Pointee.{slice};
 ghost use Rattle.archive_forms_rc.specs.Pointers.{IsRcSliceAt};
 ghost use Rattle.archive_forms_values.specs.Parts.{HasValue};
-ghost use Rattle.archive_forms.specs.Deserializing.{Deserializes};
+ghost use Rattle.archive_forms.specs.Deserializing.{AreReadFrom, Deserializes, DeserializesBy};
+ghost use Rattle.archive_forms.specs.Keeping.{pool_of};
 ghost use Rattle.archive_forms.specs.Reading.{reads_all, reads_counted, reads_in};
 ghost use Rattle.archive_forms.specs.Steps.{StepTakes, StepReads};
 ghost use Rattle.archive_forms.specs.Weak.{reads_weak, IsKeyedAt};
 
-use crate::deserializing::{Keeps, ReadBack, deserialize_rc_slice_each};
+use crate::deserializing::deserialize::deserialize_element;
+use crate::deserializing::{Deserialize, Keeps, ReadBack, SharedPool, deserialize_rc_slice_each};
 use archive_forms_rc::{ArchivedRcSlice, ArchivedRcWeakSlice, RcFlavor, SharedWeak};
 use archive_forms_writing::Archive;
 use archive_shape::{Error, Ref, Slice};
@@ -61,4 +63,40 @@ pub fn deserialize_rc_weak_slice_each<
 
 impl<T, A: ReadBack<T>> ReadBack<SharedWeak<RcSlice<T>>> for ArchivedRcWeakSlice<A, RcFlavor> {
     ghost reads = { reads_weak (reads_in (λ x. rc_slice_items x.value) (reads_counted (reads_all A.reads))) };
+}
+
+impl<T: Archive + Drop, A: Deserialize<T>> Deserialize<SharedWeak<RcSlice<T>>>
+    for ArchivedRcWeakSlice<A, RcFlavor> {
+    type Pool = SharedPool<RcSlice<T>, Slice<A>, A::Pool>;
+
+    fn deserialize(
+        this: &Ref<'_, ArchivedRcWeakSlice<A, RcFlavor>>,
+        alloc: Global,
+        deserializer: &mut SharedPool<RcSlice<T>, Slice<A>, A::Pool>,
+    ) -> Result<SharedWeak<RcSlice<T>>, Error>
+        requires there { HasValue (weak false (slice A.shape)) A.knows this.now.bytes.now this.now.pos }
+        requires kept { pool_of (λ bytes pos pointer. AreReadFrom A.reads A.shape A.knows bytes pos (rc_slice_items pointer)) A.Pool.is_of deserializer.old this.now.bytes.now }
+        ensures value { Deserializes (reads_weak (reads_in (λ x. rc_slice_items x.value) (reads_counted (reads_all A.reads))))
+            (weak false (slice A.shape)) A.knows this.now.bytes.now this.now.pos result }
+        ensures key { IfOk result (IsKeyedAt (slice A.shape) A.knows this.now.bytes.now this.now.pos
+            (λ x. IsRcSliceAt false A.shape A.knows this.now.bytes.now (this.now.pos + 4) x.key
+            (length (rc_slice_items x.value)))) }
+        ensures keeps { IfOk result (λ _. pool_of (λ bytes pos pointer. AreReadFrom A.reads A.shape A.knows bytes pos (rc_slice_items pointer)) A.Pool.is_of deserializer.new this.now.bytes.now) }
+    {
+        let bytes = this.bytes;
+        deserialize_rc_weak_slice_each::<T, A, SharedPool<RcSlice<T>, Slice<A>, A::Pool>, _>(
+            *this,
+            alloc,
+            deserializer,
+            |d: &mut SharedPool<RcSlice<T>, Slice<A>, A::Pool>, pos: usize| -> Result<
+                (T, PhantomData<T::Archived>),
+                Error,
+            >
+                requires there { HasValue A.shape A.knows bytes.now pos }
+                requires kept { pool_of (λ bytes pos pointer. AreReadFrom A.reads A.shape A.knows bytes pos (rc_slice_items pointer)) A.Pool.is_of d.old bytes.now }
+                ensures value { DeserializesBy A.reads A.shape A.knows bytes.entry.now pos (λ q. q.0) result }
+                ensures keeps { IfOk result (λ _. pool_of (λ bytes pos pointer. AreReadFrom A.reads A.shape A.knows bytes pos (rc_slice_items pointer)) A.Pool.is_of d.new bytes.entry.now) }
+            { deserialize_element::<T, A>(bytes, pos, alloc, &mut d.inside) },
+        )
+    }
 }

@@ -7,10 +7,11 @@ ghost use Rattle.archive_forms_rc.specs.Counted.{shared_str_rc_spelling};
 ghost use Rattle.archive_forms_rc.specs.Pointers.{IsRcStrAt};
 ghost use Rattle.archive_forms_values.specs.Parts.{HasValue};
 ghost use Rattle.archive_forms.specs.Deserializing.{Deserializes};
+ghost use Rattle.archive_forms.specs.Keeping.{IsTextAt, pool_of};
 ghost use Rattle.archive_forms.specs.Reading.{reads_as};
 ghost use Rattle.archive_forms.specs.Weak.{reads_weak, IsKeyedAt};
 
-use crate::deserializing::{Keeps, ReadBack, deserialize_rc_str};
+use crate::deserializing::{Deserialize, Keeps, ReadBack, SharedPool, deserialize_rc_str};
 use archive_forms_rc::{ArchivedRcStr, ArchivedRcWeakStr, RcFlavor, SharedWeak};
 use archive_shape::{Error, Ref, Str};
 use std::alloc::Global;
@@ -50,4 +51,24 @@ pub fn deserialize_rc_weak_str<D: Keeps<RcStr, Str>>(
 
 impl ReadBack<SharedWeak<RcStr>> for ArchivedRcWeakStr<RcFlavor> {
     ghost reads = { reads_weak (reads_as shared_str_rc_spelling) };
+}
+
+impl Deserialize<SharedWeak<RcStr>> for ArchivedRcWeakStr<RcFlavor> {
+    type Pool = SharedPool<RcStr, Str, ()>;
+
+    fn deserialize(
+        this: &Ref<'_, ArchivedRcWeakStr<RcFlavor>>,
+        alloc: Global,
+        deserializer: &mut SharedPool<RcStr, Str, ()>,
+    ) -> Result<SharedWeak<RcStr>, Error>
+        requires there { HasValue (weak false str) (λ _. ⊤) this.now.bytes.now this.now.pos }
+        requires kept { pool_of (λ bytes pos pointer. IsTextAt bytes pos (rc_str_bytes pointer)) (λ _ _. ⊤) deserializer.old this.now.bytes.now }
+        ensures value { Deserializes (reads_weak (reads_as shared_str_rc_spelling)) (weak false str)
+            (λ _. ⊤) this.now.bytes.now this.now.pos result }
+        ensures key { IfOk result (IsKeyedAt str (λ _. ⊤) this.now.bytes.now this.now.pos
+            (λ x. IsRcStrAt false this.now.bytes.now (this.now.pos + 4) x.key (length (rc_str_bytes x.value)))) }
+        ensures keeps { IfOk result (λ _. pool_of (λ bytes pos pointer. IsTextAt bytes pos (rc_str_bytes pointer)) (λ _ _. ⊤) deserializer.new this.now.bytes.now) }
+    {
+        deserialize_rc_weak_str(*this, alloc, deserializer)
+    }
 }

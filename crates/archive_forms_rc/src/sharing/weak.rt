@@ -1,12 +1,13 @@
 //! Weak pointers to values that are shared.
-ghost use Rattle.std.specs.Prelude.{◌-◌, ◌^◌, ◌<◌, false, None, Some, refl};
+ghost use Rattle.std.specs.Prelude.{◌-◌, ◌^◌, ◌<◌, false, None, Some, ⊤, refl};
+ghost use Rattle.std.specs.Rc.{rc_slice_items, rc_str_bytes};
 ghost use Rattle.archive_shape_layout.specs.Shape.Shape.{shared, weak};
 ghost use Rattle.archive_shape_layout.specs.Shape.Pointee.{sized, slice, str};
 ghost use Rattle.archive_forms_laws.specs.Serializing.{CanResolve, HasState, Resolves, Serializes};
-ghost use Rattle.archive_forms_rc.specs.Counted.{shared_weak_spelling, weak_rc_spelling, weak_slice_rc_spelling, weak_str_rc_spelling};
+ghost use Rattle.archive_forms_rc.specs.Counted.{shared_weak_spelling, shared_weak_slice_spelling, shared_weak_str_spelling, weak_rc_spelling, weak_slice_rc_spelling, weak_str_rc_spelling};
 ghost use Rattle.archive_forms_rc.specs.WeakResolvers.{weak_resolver, counted_resolver};
 ghost use Rattle.archive_forms_laws.proofs.Views.{kept_spells, seen_spells};
-ghost use Rattle.archive_forms_borrowed.proofs.Shared.{seen_value_spells};
+ghost use Rattle.archive_forms_borrowed.proofs.Shared.{seen_value_spells, seen_slice_spells, seen_text_spells};
 ghost use Rattle.archive_forms_borrowed.proofs.Weak.{weak_spells};
 
 use crate::sharing::{Shared, SharingExt};
@@ -181,7 +182,7 @@ impl<T: Archive> Archive for SharedWeak<Rc<T>> {
 
     ghost spells = { λ fit. seen_spells fit (weak false (sized T.Archived.shape)) T.Archived.knows (λ x. x.shared) _
         (kept_spells fit (weak false (sized T.Archived.shape)) T.Archived.knows weak_resolver counted_resolver (elim [ None ↦ refl | Some r ↦ refl ]) _
-        (weak_spells false T.Archived.shape fit T.Archived.knows _
+        (weak_spells false (sized T.Archived.shape) fit T.Archived.knows _
         (kept_spells fit (shared false (sized T.Archived.shape)) T.Archived.knows _ _ (λ r. refl) _
         (seen_value_spells fit false T.Archived.knows (λ x. x.key) T.Archived.shape T.spelling (T.spells fit) (λ x. x.value.value))))) };
 }
@@ -189,5 +190,88 @@ impl<T: Archive> Archive for SharedWeak<Rc<T>> {
 impl<S: SharingExt, T: Serialize<S>> Serialize<S> for SharedWeak<Rc<T>> {
     fn serialize(&self, serializer: &mut S) -> Result<RcWeakResolver, Error> {
         ArchivedRcWeak::serialize_from_ref(&self.shared, serializer)
+    }
+}
+
+impl<T: Archive> Archive for SharedWeak<RcSlice<T>> {
+    type Archived = ArchivedRcWeakSlice<T::Archived, RcFlavor>;
+
+    type Resolver = RcWeakResolver;
+
+    ghost spelling = { shared_weak_slice_spelling T.Archived.shape T.spelling };
+
+    fn resolve(
+        &self,
+        resolver: RcWeakResolver,
+        out: Place<'_, ArchivedRcWeakSlice<T::Archived, RcFlavor>>,
+    ) -> Result<(), Error>
+        requires { CanResolve (shared_weak_slice_spelling T.Archived.shape T.spelling)
+            (weak false (slice T.Archived.shape)) self.now resolver out.out.now out.start out.pos }
+        ensures { Resolves (shared_weak_slice_spelling T.Archived.shape T.spelling)
+            (weak false (slice T.Archived.shape)) self.now resolver out.entry.pos out.entry.start
+            out.entry.out.now out.exit.0.now result }
+    {
+        let Place {
+            out,
+            start,
+            pos,
+            ..
+        } = out;
+        ArchivedRcWeakSlice::resolve_from_ref(
+            &self.shared,
+            resolver,
+            Place::within(out, start, pos),
+        )
+    }
+
+    ghost spells = { λ fit. seen_spells fit (weak false (slice T.Archived.shape)) T.Archived.knows (λ x. x.shared) _
+        (kept_spells fit (weak false (slice T.Archived.shape)) T.Archived.knows weak_resolver counted_resolver (elim [ None ↦ refl | Some r ↦ refl ]) _
+        (weak_spells false (slice T.Archived.shape) fit T.Archived.knows _
+        (kept_spells fit (shared false (slice T.Archived.shape)) T.Archived.knows _ _ (λ r. refl) _
+        (seen_slice_spells fit false T.Archived.knows (λ x. x.key) T.Archived.shape T.spelling (T.spells fit) (λ x. rc_slice_items x.value))))) };
+}
+
+impl<S: SharingExt, T: Serialize<S>> Serialize<S> for SharedWeak<RcSlice<T>> {
+    fn serialize(&self, serializer: &mut S) -> Result<RcWeakResolver, Error> {
+        ArchivedRcWeakSlice::serialize_from_ref(&self.shared, serializer)
+    }
+}
+
+impl Archive for SharedWeak<RcStr> {
+    type Archived = ArchivedRcWeakStr<RcFlavor>;
+
+    type Resolver = RcWeakResolver;
+
+    ghost spelling = { shared_weak_str_spelling };
+
+    fn resolve(
+        &self,
+        resolver: RcWeakResolver,
+        out: Place<'_, ArchivedRcWeakStr<RcFlavor>>,
+    ) -> Result<(), Error>
+        requires { CanResolve shared_weak_str_spelling (weak false str) self.now resolver
+            out.out.now out.start out.pos }
+        ensures { Resolves shared_weak_str_spelling (weak false str) self.now resolver
+            out.entry.pos out.entry.start out.entry.out.now out.exit.0.now result }
+    {
+        let Place {
+            out,
+            start,
+            pos,
+            ..
+        } = out;
+        ArchivedRcWeakStr::resolve_from_ref(&self.shared, resolver, Place::within(out, start, pos))
+    }
+
+    ghost spells = { λ fit. seen_spells fit (weak false str) (λ _. ⊤) (λ x. x.shared) _
+        (kept_spells fit (weak false str) (λ _. ⊤) weak_resolver counted_resolver (elim [ None ↦ refl | Some r ↦ refl ]) _
+        (weak_spells false str fit (λ _. ⊤) _
+        (kept_spells fit (shared false str) (λ _. ⊤) _ _ (λ r. refl) _
+        (seen_text_spells fit false (λ _. ⊤) (λ x. x.key) (λ x. rc_str_bytes x.value))))) };
+}
+
+impl<S: SharingExt> Serialize<S> for SharedWeak<RcStr> {
+    fn serialize(&self, serializer: &mut S) -> Result<RcWeakResolver, Error> {
+        ArchivedRcWeakStr::serialize_from_ref(&self.shared, serializer)
     }
 }

@@ -1,5 +1,5 @@
-use Rattle.archive_shape.specs.ShapeLayout.Shape.Pointee.{sized}
-use Rattle.archive_forms_rc.specs.Counted.{shared_rc_spelling}
+use Rattle.archive_shape.specs.ShapeLayout.Shape.Pointee.{sized, slice}
+use Rattle.archive_forms_rc.specs.Counted.{shared_rc_spelling, shared_slice_rc_spelling}
 use Rattle.archive_forms.proofs.Faithful.{option_faithful, result_faithful, boxed_faithful, vector_faithful, boxed_slice_faithful, array_faithful, shared_faithful, shared_slice_faithful, weak_faithful}
 use Rattle.archive_forms.proofs.deserializing.laws.forms_are_faithful.Goals as goal
 
@@ -31,3 +31,8 @@ pub returns-clause-weak : goal.returns-clause-weak
 returns-clause-weak g c =
     let s = g.T.Archived.Portable.shape in
     weak_faithful (sized s) (shared_rc_spelling s g.T.Archive.spelling) _ (shared_faithful g.T.Archive.spelling g.A.ReadBack.reads c.requires.first s)
+
+pub returns-clause-weak_slices : goal.returns-clause-weak_slices
+returns-clause-weak_slices g c =
+    let s = g.T.Archived.Portable.shape in
+    weak_faithful (slice s) (shared_slice_rc_spelling s g.T.Archive.spelling) _ (shared_slice_faithful g.T.Archive.spelling g.A.ReadBack.reads c.requires.first s)
