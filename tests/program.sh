@@ -65,6 +65,11 @@ archive() {
     printf "$(sed 's/../\\x&/g' <<< "$1")" > a.cab
 }
 
+# put AT HEX: changes bytes of the file a.cab
+put() {
+    printf "$(sed 's/../\\x&/g' <<< "$2")" | dd of=a.cab bs=1 seek="$1" conv=notrunc status=none
+}
+
 # runs cab with the given words
 run() {
     "$cab" "$@" < input > output 2> errors
@@ -238,10 +243,21 @@ refuses 'a head without a count' 'list\n' 1 UnknownHead
 refuses 'a list in a list, with no count' 'list 1\nlist x\n' 2 BadNumber
 refuses 'keys of a hashed map that descend' "hashed 2\n'b\nint 1\n'a\nint 2\n" 4 KeyOrder
 refuses 'a key that a kept map has' "kept 2\n'b\nint 1\n'b\nint 2\n" 4 KeyRepeated
+refuses 'keys of an ordered map that descend' "ordered 2\n'b\nint 1\n'a\nint 2\n" 4 KeyOrder
+refuses 'a key that an ordered map has' "ordered 2\n'b\nint 1\n'b\nint 2\n" 4 KeyOrder
+refuses 'keys that ascend only without regard to case' "ordered 2\n'a\nint 1\n'B\nint 2\n" 4 KeyOrder
 refuses 'a map with no key' 'ordered 1\nint 1\n' 2 KeyExpected
+refuses 'a key with a space' "ordered 1\n'a b\nint 1\n" 2 BadEscape
+refuses 'a key with nothing under it' "ordered 1\n'a\n" 3 EndTooEarly
+refuses 'a map with too few keys' "ordered 2\n'a\nint 1\n" 4 EndTooEarly
+refuses 'a map with too many keys' "ordered 1\n'a\nint 1\n'b\nint 2\n" 4 LineAfterEnd
+refuses 'a map of -1 keys' 'ordered -1\n' 1 BadNumber
 refuses 'an option with a count' 'some 1\n' 1 UnknownHead
 refuses 'an option of nothing' 'some\n' 2 EndTooEarly
 refuses 'a container in 64 others' "$(printf 'some\\n%.0s' {1..65})int 1\n" 65 TooDeep
+refuses 'a map in 64 options' "$(printf 'some\\n%.0s' {1..64})ordered 0\n" 65 TooDeep
+refuses 'an option in 64 maps' "$(printf "ordered 1\\\\n'a\\\\n%.0s" {1..64})none\n" 129 TooDeep
+refuses 'a list in 64 options and maps' "$(printf "some\\\\nordered 1\\\\n'a\\\\n%.0s" {1..32})list 0\n" 97 TooDeep
 
 begin '64 options, one in the other'
 text "$(printf 'some\\n%.0s' {1..64})int 5\n"
@@ -256,7 +272,7 @@ ends 0 ''
 holds a.cab "$six$(printf "$some%.0s" {1..64})"
 finish
 
-for kind in 'ordered 0' 'hashed 0' 'kept 0'; do
+for kind in 'hashed 0' 'kept 0' "hashed 1\n'a\nint 5" "ordered 1\n'a\nhashed 0" "ordered 1\n'a\nlist 1\nkept 0"; do
     begin "a kind without a layout: $kind"
     text "list 2\nint 5\n$kind\n"
     run build text a.cab
@@ -281,14 +297,16 @@ grep -qx 'cab: text line [0-9]*: OutOfMemory' errors || differs "its faults were
 lacks a.cab
 finish
 
-begin 'no memory is taken for a count'
-text 'list 4000000000\n'
-(ulimit -v 1000000 && "$cab" build text a.cab < input > output 2> errors)
-ended=$?
-prints ''
-ends 1 'cab: text line 2: EndTooEarly\n'
-lacks a.cab
-finish
+for head in 'list 4000000000' 'ordered 18446744073709551615'; do
+    begin "no memory is taken for a count: $head"
+    text "$head\n"
+    (ulimit -v 1000000 && "$cab" build text a.cab < input > output 2> errors)
+    ended=$?
+    prints ''
+    ends 1 'cab: text line 2: EndTooEarly\n'
+    lacks a.cab
+    finish
+done
 
 begin 'a longer old archive is cut'
 text 'int 5\n'
@@ -491,24 +509,24 @@ ends 0 ''
 holds a.cab 01aaaaaaaaaaaaaa0600000000000000aaaaaaaaaaaaaaaa
 finish
 
-# nests KIND NODE CAUSE N: N containers, one in the other, around a number, opened with a stack of 1 MiB
+# nests KIND FIRST NODE LAST CAUSE N: N containers, one in the other, opened with a stack of 2 MiB. The bytes of the
+# innermost one come first, those of each further one's node follow, and last those of the root where they are others.
 nests() {
-    begin "$4 $1 are refused: $3"
-    archive "$five$(printf "$2%.0s" $(seq "$4"))"
+    begin "$6 $1 are refused: $5"
+    archive "$2$(printf "$3%.0s" $(seq 2 "$6"))$4"
     cp a.cab before.cab
     lines 'set int 6\n'
-    (ulimit -s 1024 && "$cab" run a.cab < input > output 2> errors)
+    (ulimit -s 2048 && "$cab" run a.cab < input > output 2> errors)
     ended=$?
     prints ''
-    ends 1 "cab: open: $3\n"
+    ends 1 "cab: open: $5\n"
     cmp -s a.cab before.cab || differs 'a.cab was written'
     finish
 }
 
-for kind in "options $some" "lists $one"; do
-    nests $kind TooDeep 65
-    nests $kind TooDeep 2198
-    nests $kind Access 2199
+for outcome in 'TooDeep 65' 'TooDeep 2198' 'Access 2199'; do
+    nests options "$five$some" "$some" '' $outcome
+    nests lists "$five$one" "$one" '' $outcome
 done
 
 begin 'behind 65 options a tag that is none is told first'
@@ -533,7 +551,8 @@ finish
 # of the first shared texts one reaches into the root, two lead to one position with other lengths, also where one is
 # empty, and one is not UTF-8; of the last, both options lead to one node
 for bytes in '' 01 "${five:2}" ff0000000000000005000000000000000000000000000000 000200000000000000000000000000000000000000000000 02000000fe6f726c64ffffff000000000000000000000000 \
-    020000008100000064ffffff000000000000000000000000 06000000fcffffff00000000000000000000000000000000 \
+    020000008100000064ffffff000000000000000000000000 \
+    070000000100000000000000000000000000000000000000 080000000100000000000000000000000100000000000000 \
     03000000fcffffff01000000000000000000000000000000 "${twice:0:96}0b${twice:98}" "${empties:0:80}01${empties:82}" "ff${twice:2}" \
     "$seven${nineteen}05000000d4ffffff02000000000000000000000000000000" \
     "$seven${nineteen}05000000ceffffff01000000000000000000000000000000" \
@@ -720,6 +739,25 @@ if command -v script > /dev/null; then
     finish
 fi
 
+if command -v script > /dev/null; then
+    begin 'a reader that goes away after the first of three answers'
+    archive "$five"
+    {
+        echo 'set int 6'
+        for _ in $(seq 100); do
+            [ -e gone ] && break
+            sleep 0.1
+        done
+        printf 'set int 7\nget\n'
+    } | script -qec "{ '$cab' run a.cab 2> errors; echo \$? > status; } | { head -n 1 > output; exec <&-; touch gone; }" /dev/null > terminal
+    ended=$(cat status)
+    prints 'ok\n'
+    # the second edit was done, and its answer was not written
+    ends 1 'cab: run: Write after 2 lines\n'
+    holds a.cab "$seven"
+    finish
+fi
+
 # edited_as_built PATH LEAF LINE: after an edit in the file text's document, the bytes are those that cab build makes of
 # the text whose line of this number is the leaf
 edited_as_built() {
@@ -751,6 +789,471 @@ run run a.cab
 cmp -s output text || differs 'it is not the text that the archive was built from'
 ends 0 ''
 finish
+
+# ---- ordered maps
+
+absent=01000000
+
+# zeros N: N bytes of zero
+zeros() {
+    printf "%0$((2 * $1))d" 0
+}
+
+# word N: a number, in four bytes
+word() {
+    local hex
+    printf -v hex %08x $(($1 & 0xffffffff))
+    echo "${hex:6}${hex:4:2}${hex:2:2}${hex:0:2}"
+}
+
+# slots KEY NUMBER ..: in a node of a tree the five keys, what no field has, and the five values, all numbers; the last
+# keys and values are unused. A key has at most eight characters of ASCII.
+slots() {
+    local keys= values= place code
+    while [ $# -gt 0 ]; do
+        for place in {0..7}; do
+            code=ff
+            [ "$place" -ge ${#1} ] || printf -v code %02x "'${1:place:1}"
+            keys=$keys$code
+        done
+        values=${values}0100000000000000$(word "$2")$(zeros 12)
+        shift 2
+    done
+    keys=$keys$(zeros 44)
+    values=$values$(zeros 120)
+    echo "${keys:0:88}${values:0:240}"
+}
+
+# leaf KEY NUMBER ..: a leaf of a tree, 176 bytes
+leaf() {
+    echo "00000000$(slots "$@")$(word $(($# / 2)))00000000"
+}
+
+# inner CHILDREN KEY NUMBER ..: an inner node of a tree, 192 bytes; CHILDREN are the offsets of its six children
+inner() {
+    echo "01000000$(slots "${@:2}")$1"
+}
+
+# map OFFSET LENGTH: the node of an ordered map
+map() {
+    echo "06000000$(word "$1")$(word "$2")$(zeros 12)"
+}
+
+# with BYTES AT HEX ..: the bytes, changed at these positions
+with() {
+    local bytes=$1
+    while [ $# -gt 1 ]; do
+        bytes=${bytes:0:2 * $2}$3${bytes:2 * $2 + ${#3}}
+        shift 2
+    done
+    echo "$bytes"
+}
+
+# asks NAME TEXT LINES ANSWERS: the answers in the archive of a text, which they leave as it was
+asks() {
+    begin "$1"
+    text "$2"
+    run build text a.cab
+    ends 0 ''
+    cp a.cab before.cab
+    lines "$3"
+    run run a.cab
+    prints "$4"
+    ends 0 ''
+    cmp -s a.cab before.cab || differs 'the archive was written'
+    finish
+}
+
+coffee=$(leaf coffee 300 tea 250)060000004cffffff02000000000000000000000000000000
+letters=$(leaf a 1)$(inner "a8feffff$absent$absent$absent$absent$absent" b 2 c 3 d 4 e 5 f 6)060000003cffffff06000000000000000000000000000000
+
+builds 'ordered 0' 060000000100000000000000000000000000000000000000
+builds "ordered 2\n'coffee\nint 300\n'tea\nint 250" "$coffee"
+builds "ordered 6\n'a\nint 1\n'b\nint 2\n'c\nint 3\n'd\nint 4\n'e\nint 5\n'f\nint 6" "$letters"
+# of each entry the key's bytes and then those that its value leads to precede the node
+builds "ordered 1\n'hello\\sworld!\ntext 'HELLO\\sWORLD!" \
+    "68656c6c6f20776f726c642148454c4c4f20574f524c4421$(with "$(leaf x 0)" 4 8c000000e4ffffff 48 020000008c000000c0ffffff)$(map -180 1)"
+builds "ordered 2\n'a\nordered 1\n'x\nint 1\n'b\nint 2" "$(leaf x 1)$(with "$(leaf a 0 b 2)" 48 "$(map -228 1)")$(map -180 2)"
+builds "list 2\nordered 1\n'a\nint 1\nordered 0" "$(leaf a 1)$(map -180 1)$(map 1 0)05000000ccffffff02000000000000000000000000000000"
+builds "ordered 2\n'a\nshared 'x\n'b\nlist 1\nshared 'x" \
+    "780000000000000003000000f4ffffff01000000$(zeros 12)$(with "$(leaf a 0 b 0)" 48 03000000acffffff01 72 050000009cffffff01)$(map -180 2)"
+# a node's children, with what their values lead to, precede what its own values lead to
+builds "ordered 12\n$(printf "'%s\\\\nint 0\\\\n" a b c d e)'f\nshared 'one\n'g\nshared 'two\n$(printf "'%s\\\\nint 0\\\\n" h i j k)'l\nint 0" \
+    "$(leaf a 0 b 0 c 0 d 0 e 0)74776f0000000000$(with "$(leaf g 0 h 0)" 48 03000000c4ffffff03)6f6e650000000000$(
+        with "$(inner "e8fdffff9cfeffff$absent$absent$absent$absent" f 0 i 0 j 0 k 0 l 0)" 48 03000000c4ffffff03
+    )$(map -196 12)"
+
+# decimals N: the text of an ordered map whose keys are the numbers below N, each with the number 0
+decimals() {
+    echo "ordered $1"
+    seq 0 $(($1 - 1)) | LC_ALL=C sort | sed "s/.*/'&\nint 0/"
+}
+
+for counted in '0 24' '1 200' '5 200' '6 392' '17 744' '35 1272' '36 1464' '112 4136' '215 7704'; do
+    read -r count size <<< "$counted"
+    begin "an ordered map of $count keys, each of which answers"
+    decimals "$count" > text
+    run build text a.cab
+    prints "built $size\n"
+    ends 0 ''
+    cp a.cab before.cab
+    { seq 0 "$count" | sed "s/.*/get '&/"; echo keys; } > input
+    run run a.cab
+    { yes 'int 0' | head -n "$count"; echo missing; echo "keys $count$(grep "^'" text | sed 's/^/ /' | tr -d '\n')"; } > expected
+    cmp -s output expected || differs 'the answers are others'
+    ends 0 ''
+    cmp -s a.cab before.cab || differs 'the archive was written'
+    finish
+done
+
+answers_in "$coffee" 'questions and edits under a key' \
+    "get\nget 'tea\nset int 275 'tea\nget 'tea\nget 'coffee\n" 'ordered 2\nint 250\nok\nint 275\nint 300\n' "$(with "$coffee" 80 1301)"
+answers_in "$coffee" 'edits of other kinds, and of a map' \
+    "set bool true 'tea\nset text 'hot 'tea\nset int 5\nset text 'tea\nget 'tea\n" 'refused\nrefused\nrefused\nrefused\nint 250\n' "$coffee"
+answers_in "$coffee" 'steps of other kinds in a map' \
+    "get #0\nget ?\nget 'tea 'tea\nget 'tea #0\nset int 5 #0\nkeys #0\n" 'missing\nmissing\nmissing\nmissing\nmissing\nmissing\n' "$coffee"
+answers_in "$letters" 'edits in a leaf and in an inner node' \
+    "set int -1 'a\nset int 70000 'f\nget 'a\nget 'b\nget 'e\nget 'f\n" 'ok\nok\nint -1\nint 2\nint 5\nint 70000\n' \
+    "$(with "$letters" 56 ffffffffffffffff 328 701101)"
+answers_in "$(with "$coffee" 188 aaaaaaaaaaaaaaaaaaaaaaaa)bbbbbbbbbbbbbb" 'bytes of a map that no field has, and bytes behind it, stay' \
+    "set int 275 'tea\nget\n" 'ok\nordered 2\n' "$(with "$coffee" 80 1301 188 aaaaaaaaaaaaaaaaaaaaaaaa)bbbbbbbbbbbbbb"
+# keys 2 to 4 look like texts out of line, values 2 to 4 have a tag that is none
+used=$(with "$coffee" 1 aaaaaa 20 "$(printf '80%.0s' {1..24})" 44 bbbbbbbb 96 "$(printf 'cc%.0s' {1..72})" 172 dddddddd)
+answers_in "$used" 'slots that are not used' "keys\nset int 275 'tea\nrange 'd 'z\n" "keys 2 'coffee 'tea\nok\nkeys 1 'tea\n" "$(with "$used" 80 1301)"
+# the pointer of a map without keys is not followed
+for pointer in 01000000 fcffffff 00000080; do
+    answers_in "06000000$pointer$(zeros 16)" "an empty map with the pointer $pointer" \
+        "get\nkeys\nrange ' 'z\nget 'a\nget '\nset int 5 'a\n" 'ordered 0\nkeys 0\nkeys 0\nmissing\nmissing\nmissing\n' "06000000$pointer$(zeros 16)"
+done
+
+asks 'keys of a map' "ordered 6\n'a\nint 1\n'b\nint 2\n'c\nint 3\n'd\nint 4\n'e\nint 5\n'f\nint 6\n" \
+    "keys\nget\nget 'a\nget 'b\nget 'c\nget 'd\nget 'e\nget 'f\n" "keys 6 'a 'b 'c 'd 'e 'f\nordered 6\nint 1\nint 2\nint 3\nint 4\nint 5\nint 6\n"
+
+bars="ordered 4\n'bar\nint 20\n'bat\nint 80\n'baz\nint 40\n'foo\nint 10\n"
+asks 'ranges' "$bars" "range 'bat 'foo\nrange 'foo 'bat\nrange 'bat 'bat\nrange 'a 'z #0\n" "keys 2 'bat 'baz\nkeys 0\nkeys 0\nmissing\n"
+asks 'a range has its first bound, and not its last one' "$bars" \
+    "range 'bar 'foo\nrange 'bar 'fooa\nrange 'baz 'foo\nrange 'foo 'fooa\nrange 'bara 'baz\n" \
+    "keys 3 'bar 'bat 'baz\nkeys 4 'bar 'bat 'baz 'foo\nkeys 1 'baz\nkeys 1 'foo\nkeys 1 'bat\n"
+asks 'ranges between, before and after the keys' "$bars" \
+    "range 'c 'd\nrange 'bas 'bat\nrange 'a 'bar\nrange ' '\nrange ' 'a\nrange 'fooa 'z\nrange 'g 'z\n" \
+    'keys 0\nkeys 0\nkeys 0\nkeys 0\nkeys 0\nkeys 0\nkeys 0\n'
+asks 'ranges whose first bound is above the last one' "$bars" \
+    "range 'z 'a\nrange 'foo 'bar\nrange 'bau 'bas\nrange 'a '\nrange 'bat 'bar\n" 'keys 0\nkeys 0\nkeys 0\nkeys 0\nkeys 0\n'
+asks 'ranges of all keys' "$bars" "range 'a 'z\nrange ' 'g\nrange 'bar 'z\n" \
+    "keys 4 'bar 'bat 'baz 'foo\nkeys 4 'bar 'bat 'baz 'foo\nkeys 4 'bar 'bat 'baz 'foo\n"
+asks 'keys and ranges of what lies under a key' "$bars" \
+    "keys 'bar\nrange 'a 'z 'bar\nkeys 'ba\nrange 'a 'z 'ba\nkeys 'bar 'bar\nrange 'a 'z ?\n" 'wrong\nwrong\nmissing\nmissing\nmissing\nmissing\n'
+asks 'ranges without their bounds' "$bars" "range\nrange 'a\nrange 'a #0\nrange a z\nrange  'a 'z\nrange 'a 'z \nrange 'a 'z z\n" \
+    'bad\nbad\nbad\nbad\nbad\nbad\nbad\n'
+asks 'a key that is not there' "$bars" \
+    "get 'a\nget 'baq\nget 'bas\nget 'bau\nget 'c\nget 'z\nget 'ba\nget 'bata\nget '\nget 'BAT\n" \
+    'missing\nmissing\nmissing\nmissing\nmissing\nmissing\nmissing\nmissing\nmissing\nmissing\n'
+asks 'edits under a key that is not there' "$bars" \
+    "set int 1 'a\nset int 1 'bas\nset int 1 'z\nset int 1 'ba\nset int 1 'bata\nset bool true '\nset text 'bas 'bas\nset int 1 'bat 'bat\n" \
+    'missing\nmissing\nmissing\nmissing\nmissing\nmissing\nmissing\nmissing\n'
+
+# three levels of nodes; the keys 00, 02 and so on to 98
+begin 'keys and ranges over many nodes'
+{ echo 'ordered 50'; seq -f "'%02.0f" 0 2 98 | sed 's/$/\nnone/'; } > text
+run build text a.cab
+ends 0 ''
+# for each number to 99 what is under it, the key from it on and below the next one, and all keys from it on
+seq -f %02.0f 0 99 | sed "s/.*/get '&\nrange '& '&a\nrange '& 'a/" > input
+echo keys >> input
+for key in $(seq -f %02.0f 0 99); do
+    from=$(seq -f "'%02.0f" $(((10#$key + 1) / 2 * 2)) 2 98)
+    rest="keys $(wc -w <<< "$from")$(printf ' %s' $from)"
+    [ -n "$from" ] || rest='keys 0'
+    if [ $((10#$key % 2)) = 0 ]; then
+        printf '%s\n' none "keys 1 '$key" "$rest"
+    else
+        printf '%s\n' missing 'keys 0' "$rest"
+    fi
+done > expected
+echo "keys 50$(seq -f " '%02.0f" 0 2 98 | tr -d '\n')" >> expected
+run run a.cab
+cmp -s output expected || differs "$(diff output expected | head -n 4 | tr '\n' '|')"
+ends 0 ''
+finish
+
+nested="ordered 3\n'a\nordered 2\n'x\nint 1\n'y\nlist 2\nint 2\nordered 1\n'z\nint 3\n'b\nsome\nordered 1\n'x\nint 4\n'c\nnone\n"
+asks 'the keys of a map are not those of the maps in it' "$nested" \
+    "keys\nrange ' '~\nkeys 'a\nkeys 'a 'y #1\nkeys 'b ?\nrange 'x 'y 'a\nget 'x\nget 'z\nget 'a 'z\nget 'a 'a\nset int 5 'x\n" \
+    "keys 3 'a 'b 'c\nkeys 3 'a 'b 'c\nkeys 2 'x 'y\nkeys 1 'z\nkeys 1 'x\nkeys 1 'x\nmissing\nmissing\nmissing\nmissing\nmissing\n"
+asks 'questions in maps, lists and options' "$nested" \
+    "get\nget 'a\nget 'a 'x\nget 'a 'y\nget 'a 'y #0\nget 'a 'y #1\nget 'a 'y #1 'z\nget 'b\nget 'b ?\nget 'b ? 'x\nget 'c\nget 'c ?\nkeys 'b\nkeys 'a 'y\nkeys 'c\nrange 'a 'z 'b\n" \
+    'ordered 3\nordered 2\nint 1\nlist 2\nint 2\nordered 1\nint 3\nsome\nordered 1\nint 4\nnone\nmissing\nwrong\nwrong\nwrong\nwrong\n'
+
+for edit in "'a 'x|int -3|5" "'a 'y #0|int 70000|8" "'a 'y #1 'z|int 9|11" "'b ? 'x|int -4|16"; do
+    IFS='|' read -r path leaf line <<< "$edit"
+    begin "an edit at $path"
+    text "$nested"
+    edited_as_built "$path" "$leaf" "$line"
+    finish
+done
+
+begin 'an edit under a key'
+text "ordered 2\n'coffee\nint 300\n'tea\nint 250\n"
+edited_as_built "'tea" 'int 275' 5
+finish
+
+begin 'an edit of a text under a key, where both have more than eight bytes'
+text "ordered 2\n'ten\\sletters\ntext 'nine\\sbytes\n'zoo\nbool true\n"
+edited_as_built "'ten\\\\sletters" "text 'NINE\\\\sBYTES" 3
+finish
+
+# by their bytes the keys are 0a, 20, 5a, 61 0a 62, 61 20 62, 61 5c 62, 61 62, c3 a9, after the empty one
+odd="ordered 9\n'\nint 0\n'\\\\n\nint 1\n'\\\\s\nint 2\n'Z\nint 3\n'a\\\\nb\nint 4\n'a\\\\sb\nint 5\n'a\\\\\\\\b\nint 6\n'ab\nint 7\n'\xc3\xa9\nint 8\n"
+asks 'keys of other characters' "$odd" \
+    "get '\nget '\\\\n\nget '\\\\s\nget 'Z\nget 'a\\\\nb\nget 'a\\\\sb\nget 'a\\\\\\\\b\nget 'ab\nget '\xc3\xa9\nget 'a\nget 'e\n" \
+    'int 0\nint 1\nint 2\nint 3\nint 4\nint 5\nint 6\nint 7\nint 8\nmissing\nmissing\n'
+asks 'keys ascend by their bytes' "$odd" \
+    "keys\nrange 'a 'b\nrange '\\\\s 'a\nrange ' '\\\\s\nrange 'b '\xc4\nrange 'z '\xc3\xaa\n" \
+    "keys 9 ' '\\\\n '\\\\s 'Z 'a\\\\nb 'a\\\\sb 'a\\\\\\\\b 'ab '\xc3\xa9\nkeys 4 'a\\\\nb 'a\\\\sb 'a\\\\\\\\b 'ab\nkeys 2 '\\\\s 'Z\nkeys 2 ' '\\\\n\nbad\nkeys 1 '\xc3\xa9\n"
+# of which those of eight bytes lie in the node, and those of more before it
+asks 'long keys' "ordered 5\n'aaaaaaa\nint 7\n'aaaaaaaa\nint 8\n'aaaaaaaaa\nint 9\n'aaaaaaaaaa\nint 10\n'aaaaaaab\nint 11\n" \
+    "keys\nget 'aaaaaaa\nget 'aaaaaaaa\nget 'aaaaaaaaa\nget 'aaaaaaaaaa\nget 'aaaaaaaaaaa\nget 'aaaaaaab\nrange 'aaaaaaaa 'aaaaaaab\nrange 'aaaaaaaaaaa 'z\n" \
+    "keys 5 'aaaaaaa 'aaaaaaaa 'aaaaaaaaa 'aaaaaaaaaa 'aaaaaaab\nint 7\nint 8\nint 9\nint 10\nmissing\nint 11\nkeys 3 'aaaaaaaa 'aaaaaaaaa 'aaaaaaaaaa\nkeys 1 'aaaaaaab\n"
+
+begin 'an edit under one key of many'
+{ echo 'ordered 100000'; seq -f "'%06.0f" 1 100000 | sed 's/$/\nint 300/'; } > text
+run build text a.cab
+# of 100,000 entries 3,334 nodes have children and 16,666 have none
+prints "built $((3334 * 192 + 16666 * 176 + 24))\n"
+cp a.cab before.cab
+lines "get '050000\nset int 301 '050000\nget '050000\nget '049999\nget '050001\nrange '049999 '050002\nget '0500000\nget\n"
+run run a.cab
+prints "int 300\nok\nint 301\nint 300\nint 300\nkeys 3 '049999 '050000 '050001\nmissing\nordered 100000\n"
+ends 0 ''
+sed -i '100001s/.*/int 301/' text
+run build text after.cab
+cmp -s a.cab after.cab || differs 'the bytes are not those of the edited document'
+[ "$(cmp -l before.cab a.cab | wc -l)" = 1 ] || differs 'other bytes were written'
+finish
+
+begin 'a map is printed by asking for its keys and for what is under each'
+{ echo 'ordered 3000'; seq -f "'%04.0f" 1 3000 | sed "s/\(.*\)/\1\ntext \1/"; } > text
+run build text a.cab
+ends 0 ''
+echo keys > input
+run run a.cab
+{ echo get; tr ' ' '\n' < output | sed '1,2d; s/^/get /'; } > input
+tr ' ' '\n' < output | sed '1d; 2s/^/ordered /' > heads
+run run a.cab
+sed 1d output | paste -d '\n' <(sed 1d heads) - | sed "1i $(head -n 1 output)" | cmp -s - text || differs 'it is not the text that the archive was built from'
+ends 0 ''
+finish
+
+# ---- trees that saving does not write
+
+begin 'a tree whose one child is a leaf without entries'
+empty_leaf=$(zeros 176)$(inner "$absent$absent$absent$absent${absent}94feffff" a 1 b 2 c 3 d 4 e 5)$(map -196 5)
+archive "$empty_leaf"
+lines "keys\nrange 'b 'd\nset int 9 'c\nget 'c\nget 'f\nrange 'e 'z\n"
+run run a.cab
+prints "keys 5 'a 'b 'c 'd 'e\nkeys 2 'b 'c\nok\nint 9\nmissing\nkeys 1 'e\n"
+ends 0 ''
+holds a.cab "$(with "$empty_leaf" 280 09)"
+finish
+
+# tall_nodes LEVELS [VALUE]: inner nodes, one on each level, linked by their greater pointers alone. The keys are 000 and so
+# on from the root on, each with the number 0, but for the last one, whose node begins with VALUE if that is given.
+tall_nodes() {
+    local level key pairs greater=$absent value=${2:-}
+    for ((level = $1; level > 0; level--)); do
+        pairs=()
+        for ((key = 5 * level - 5; key < 5 * level; key++)); do
+            printf -v pairs[${#pairs[@]}] %03d $key
+            pairs+=(0)
+        done
+        # the fifth value is at 144
+        with "$(inner "$absent$absent$absent$absent$absent$greater" "${pairs[@]}")" 144 "$value"
+        value=
+        greater=84feffff
+    done | tr -d '\n'
+}
+
+begin 'a tree of 32 levels'
+archive "$(tall_nodes 32)$(map -196 160)"
+[ "$(stat -c %s a.cab)" = 6168 ] || differs "it has $(stat -c %s a.cab) bytes"
+cp a.cab before.cab
+lines "get\nkeys\nget '000\nset int 9 '159\nget '159\nget '158\nget '160\nrange '154 '156\nrange '159 '9\n"
+run run a.cab
+prints "ordered 160\nkeys 160$(seq -f " '%03.0f" 0 159 | tr -d '\n')\nint 0\nok\nint 9\nint 0\nmissing\nkeys 2 '154 '155\nkeys 1 '159\n"
+ends 0 ''
+[ "$(cmp -l before.cab a.cab)" = ' 153   0  11' ] || differs "other bytes were written: $(cmp -l before.cab a.cab | head -n 3)"
+finish
+
+begin 'a tree of 33 levels'
+archive "$(tall_nodes 33)$(map -196 165)"
+[ "$(stat -c %s a.cab)" = 6360 ] || differs "it has $(stat -c %s a.cab) bytes"
+cp a.cab before.cab
+lines "keys\nset int 9 '159\n"
+run run a.cab
+prints ''
+ends 1 'cab: open: Access\n'
+cmp -s a.cab before.cab || differs 'a.cab was written'
+finish
+
+# 64 maps, one in the other under the last key of a tree of 32 levels: nothing that is accepted lies deeper
+begin 'the text under 64 keys, each at the end of a tree of 32 levels, with a stack of 1 MiB'
+path=$(printf " '159%.0s" {1..64})
+innermost=68656c6c6f20776f726c642100000000$(tall_nodes 32 020000008c0000005cffffff00000000)
+archive "$innermost$(printf "$(tall_nodes 32 "06000000acfeffffa000000000000000")%.0s" {1..63})$(map -196 160)"
+cp a.cab before.cab
+lines "get$path\nset text 'HELLO\\sWORLD!$path\nget$path\nkeys${path% *}\n"
+(ulimit -s 1024 && "$cab" run a.cab < input > output 2> errors)
+ended=$?
+prints "text 'hello\\sworld!\nok\ntext 'HELLO\\sWORLD!\nkeys 160$(seq -f " '%03.0f" 0 159 | tr -d '\n')\n"
+ends 0 ''
+[ "$(head -c 12 a.cab)" = 'HELLO WORLD!' ] || differs 'the text is another'
+cmp -s <(tail -c +13 a.cab) <(tail -c +13 before.cab) || differs 'other bytes were written'
+finish
+
+# ---- trees that are not opened
+
+# unopened HEX CAUSE NAME: bytes that are refused
+unopened() {
+    begin "not opened: $3"
+    archive "$1"
+    lines "keys\nset int 6 'a\n"
+    run run a.cab
+    prints ''
+    ends 1 "cab: open: $2\n"
+    holds a.cab "$1"
+    leaves a.cab
+    finish
+}
+
+unopened "$(with "$coffee" 168 06)" Access 'a leaf that says six entries'
+unopened "$(with "$coffee" 168 01)" Access 'a map that says more entries than there are'
+unopened "$(with "$coffee" 184 01)" Access 'a map that says fewer entries than there are'
+unopened "$(with "$coffee" 0 02)" Access 'a node that is neither a leaf nor an inner node'
+unopened "$(with "$coffee" 0 01)" Access 'an inner node that reaches into the root'
+unopened "$(with "$coffee" 180 4d)" Access 'a node that does not begin at a multiple of 8'
+unopened "$(with "$coffee" 180 01000000)" Access 'a map with keys and no node'
+unopened "$(with "$coffee" 180 48)" Access 'a node before the first byte'
+unopened "$(with "$coffee" 4 fe)" Access 'a key that is not UTF-8'
+unopened "$(with "$coffee" 4 8100000000000000)" Access 'a key of one byte out of line'
+unopened "$(with "$coffee" 72 09)" Access 'a value that is none'
+unopened "$(with "$coffee" 72 07)" Access 'a hashed map in an ordered one'
+unopened "$(with "$letters" 344 58ffffff)" Access 'a node inside itself'
+unopened "$(with "$letters" 348 a4feffff)" Access 'two children at one position'
+unopened "$(with "$letters" 344 "$absent")" Access 'a map whose first leaf is not linked'
+unopened "$(leaf a 1)$(map -180 1)$(map -204 1)05000000ccffffff02000000000000000000000000000000" Access 'two maps with one tree'
+
+# equal keys, of which the second one has other bytes behind its end
+equal=$(with "$(leaf a 1 a 2)" 14 00)
+unopened "$(leaf a 1 a 2)$(map -180 2)" KeysNotAscending 'a key twice'
+unopened "$equal$(map -180 2)" KeysNotAscending 'a key twice, with other bytes behind its end'
+unopened "$(with "$coffee" 4 746561ffffffffff 12 636f66666565ffff)" KeysNotAscending 'two keys that have changed places'
+unopened "$(leaf a 1 ab 2 aa 3)$(map -180 3)" KeysNotAscending 'a last key that is not above the one before'
+unopened "$(leaf a 1 '' 2)$(map -180 2)" KeysNotAscending 'an empty key that is not the first'
+unopened "$(with "$letters" 4 67)" KeysNotAscending 'a key in the first child that is above those of its parent'
+unopened "$(with "$letters" 4 62)" KeysNotAscending 'a key in the first child that its parent has'
+unopened "$(with "$(tall_nodes 2)" 4 303034)$(map -196 10)" KeysNotAscending 'a key in the greater child that its parent has'
+unopened "$(with "$(tall_nodes 32)" 4 303030)$(map -196 160)" KeysNotAscending 'a key on the last level that the root has'
+unopened "$(leaf a 1 a 2)$(with "$(leaf a 0 b 2)" 48 "$(map -228 2)")$(map -180 2)" KeysNotAscending 'a map in a map with a key twice'
+
+begin 'keys that ascend in each node of a saved archive, and not across them'
+{ echo 'ordered 35'; seq -f "'%02.0f" 0 34 | sed 's/$/\nint 0/'; } > text
+run build text a.cab
+prints 'built 1272\n'
+# the sixth leaf begins at 880, its keys at 884: the first one becomes the root's last one, 29 instead of 30
+put 884 3239
+cp a.cab before.cab
+lines "keys\nset int 5 '00\n"
+run run a.cab
+prints ''
+ends 1 'cab: open: KeysNotAscending\n'
+cmp -s a.cab before.cab || differs 'a.cab was written'
+finish
+
+# of several faults the one that is met first: those of the layout first of all, and a container's own before its parts'
+options=$(printf "$some%.0s" {1..63})
+unopened "$(with "$(leaf a 1 a 2)" 72 09)$(map -180 2)" Access 'a key twice, and a value that is none'
+unopened "$(leaf a 1 a 2)$(map -180 2)$options" KeysNotAscending 'a key twice in 63 options'
+unopened "$(leaf a 1 a 2)$(map -180 2)$options$some" TooDeep 'a key twice in 64 options'
+unopened "$five$options$(with "$(leaf a 0 a 0)" 48 0400000001000000b0ffffff)$(map -180 2)" KeysNotAscending 'a key twice, and a value that lies too deep'
+unopened "$five$options$(with "$(leaf a 0 b 0)" 48 0400000001000000b0ffffff)$(map -180 2)" TooDeep 'a value that lies too deep'
+unopened "$(leaf a 1 a 2)$five$options$(map -1716 2)0400000001000000c8ffffff$(zeros 12)05000000ccffffff02000000000000000000000000000000" \
+    KeysNotAscending 'a key twice, and behind it an element that lies too deep'
+unopened "$five$options$(leaf a 1 a 2)040000000100000030ffffff$(zeros 12)$(map -204 2)05000000ccffffff02000000000000000000000000000000" \
+    TooDeep 'an element that lies too deep, and behind it a key twice'
+
+begin 'an empty map in 63 options, and in 64'
+archive "$(map 1 0)$options"
+lines "keys$(printf ' ?%.0s' {1..63})\n"
+run run a.cab
+prints 'keys 0\n'
+ends 0 ''
+archive "$(map 1 0)$options$some"
+run run a.cab
+prints ''
+ends 1 'cab: open: TooDeep\n'
+finish
+
+begin '64 options and maps, one in the other'
+text "$(printf "some\\\\nordered 1\\\\n'a\\\\n%.0s" {1..32})int 5\n"
+run build text a.cab
+# each map takes a leaf and the node that its option leads to; the options lie in the leaves, all but the root
+prints "built $((32 * (176 + 24) + 24))\n"
+lines "get$(printf " ? 'a%.0s" {1..32})\nset int 6$(printf " ? 'a%.0s" {1..32})\nkeys$(printf " ? 'a%.0s" {1..31}) ?\n"
+run run a.cab
+prints "int 5\nok\nkeys 1 'a\n"
+ends 0 ''
+# one more option around them
+cat <(cat a.cab) <(printf "$(sed 's/../\\x&/g' <<< "$some")") > more.cab
+cp more.cab before.cab
+run run more.cab
+prints ''
+ends 1 'cab: open: TooDeep\n'
+cmp -s more.cab before.cab || differs 'more.cab was written'
+finish
+
+for outcome in 'TooDeep 65' 'TooDeep 2198' 'Access 2199'; do
+    nests maps "$(leaf a 5)" "$(with "$(leaf a 0)" 48 06000000 52 "$(word -228)" 56 01)" "$(map -180 1)" $outcome
+done
+
+# flips NAME HEX LINES N: opens the bytes with each single bit changed. N times they are the archive of a document, and
+# answer each line; else they are refused, and left as they were.
+flips() {
+    local bytes at bit changed names=() asked accepted=0
+    begin "$1"
+    lines "$3"
+    asked=$(wc -l < input)
+    bytes=$(sed 's/../\\x&/g' <<< "$2")
+    mkdir folder
+    for ((at = 0; at < ${#2} / 2; at++)); do
+        for bit in 1 2 4 8 16 32 64 128; do
+            printf -v changed %02x $((0x${2:2 * at:2} ^ bit))
+            changed=${bytes:0:4 * at}\\x$changed${bytes:4 * at + 4}
+            printf "$changed" > folder/$at.$bit
+            "$cab" run folder/$at.$bit < input > output 2> errors
+            ended=$?
+            if [ $ended = 0 ]; then
+                mapfile answered < output
+                [ ${#answered[@]} = "$asked" ] || differs "with bit $bit of byte $at it answered ${#answered[@]} lines"
+                accepted=$((accepted + 1))
+            else
+                read -r fault < errors
+                case "$ended $fault" in
+                    '1 cab: open: Access' | '1 cab: open: KeysNotAscending' | '1 cab: open: TooDeep') ;;
+                    *) differs "with bit $bit of byte $at it ended with status $ended and $fault" ;;
+                esac
+                [ ! -s output ] || differs "with bit $bit of byte $at it answered"
+                names+=("folder/$at.$bit")
+                printf "$changed" >> expected
+            fi
+        done
+    done
+    cat "${names[@]}" | cmp -s - expected || differs 'an archive that was refused was written'
+    [ $accepted = "$4" ] || differs "$accepted were opened, and not $4"
+    finish
+}
+
+flips 'each bit of a map with one leaf' "$coffee" "get\nkeys\nrange 'd 'z\nget 'coffee\nset int 275 'tea\nget 'tea\n" 1451
+flips 'each bit of a map with two nodes' "$letters" "get\nkeys\nrange 'b 'e\nget 'a\nset int 7 'f\nget 'f\n" 2699
 
 # ---- the file of an archive is replaced as a whole
 

@@ -5,6 +5,7 @@
 mod archive;
 mod archive_set;
 mod deserialize;
+mod entries;
 pub mod laws;
 mod map;
 mod node_writer;
@@ -29,6 +30,7 @@ pub use archive_btree_walking as walking;
 pub use archive_btree_writing as writing;
 pub use archive_forms_borrowed::{EntryParts, EntryStep, SerializeEntry};
 pub use deserialize::deserialize_map_each;
+pub use entries::serialize_entries_with_each;
 pub use map::OwnedBTreeMap;
 pub use ordered::{serialize_from_ordered_iter, serialize_from_ordered_iter_each};
 pub use ordered_keys::serialize_set_from_ordered_iter;

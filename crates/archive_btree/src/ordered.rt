@@ -11,12 +11,55 @@ use crate::node_writer::NodeWriter;
 use archive_btree_maps::BTreeMapResolver;
 use archive_btree_writing::build_tree_each;
 use archive_forms_borrowed::{EntryStep, SerializeEntry};
-use archive_forms_writing::{Archive, Serialize};
+use archive_forms_writing::{Archive, ArchiveWith, ByArchive, Serialize};
 use archive_shape::{Allocator, Error, Writer};
 use std::marker::PhantomData;
 
 /// The greatest number of entries of a node.
 pub(crate) const MAX_ENTRIES: usize = u32::MAX as usize;
+
+/// Writes the search tree of the entries of a map, as `serialize_from_ordered_iter_each` does. The values are archived
+/// by `with`.
+pub(crate) fn serialize_from_ordered_iter_with_each<
+    'a,
+    K: Archive + 'a,
+    V: 'a,
+    A: ArchiveWith<V>,
+    S: Writer + Allocator,
+    C: EntryStep<K, V, A, S>,
+    I: Iterator<Item = (&'a K, &'a V)>,
+    const E: usize,
+>(
+    with: &A,
+    claimed: usize,
+    entries: I,
+    serializer: &mut S,
+    step: &C,
+) -> Result<BTreeMapResolver, Error>
+    requires calls { I.can_next entries × IsFinite (I.remaining entries) }
+    requires some { 0 < E }
+    requires room { S.failures serializer.old < 2 ^ 64 - 1 }
+    requires state { HasState S.pos S.known serializer.old }
+    requires takes { TakesEntries I.next_gives (C.takes step.now) with.now entries }
+    ensures { BuildsClaimedBy E K.Archived.shape A.Archived.shape K.spelling (A.spelling with.now)
+        S.Writer (GivesAs deref_pair I.next_gives) (λ r. r.pos) claimed entries
+        serializer.old serializer.new result }
+{
+    if E > MAX_ENTRIES {
+        return Err(Error::OutOfMemory);
+    }
+    let nodes = NodeWriter { with, step };
+    match build_tree_each::<(&'a K, &'a V), S, _, I, E>(
+        claimed,
+        entries,
+        serializer,
+        &nodes,
+        PhantomData,
+    ) {
+        Ok(pos) => Ok(BTreeMapResolver { pos }),
+        Err(e) => Err(e),
+    }
+}
 
 /// Writes the search tree of the entries of a map, which come in order and whose data is written by a step. `claimed`
 /// is the number of entries that come.
@@ -32,7 +75,7 @@ pub fn serialize_from_ordered_iter_each<
     K: Archive + 'a,
     V: Archive + 'a,
     S: Writer + Allocator,
-    C: EntryStep<K, V, S>,
+    C: EntryStep<K, V, ByArchive, S>,
     I: Iterator<Item = (&'a K, &'a V)>,
     const E: usize,
 >(claimed: usize, entries: I, serializer: &mut S, step: &C) -> Result<BTreeMapResolver, Error>
@@ -40,25 +83,14 @@ pub fn serialize_from_ordered_iter_each<
     requires some { 0 < E }
     requires room { S.failures serializer.old < 2 ^ 64 - 1 }
     requires state { HasState S.pos S.known serializer.old }
-    requires takes { TakesEntries I.next_gives C.takes step.now entries }
+    requires takes { TakesEntries I.next_gives (C.takes step.now) (record {}) entries }
     ensures { BuildsClaimedBy E K.Archived.shape V.Archived.shape K.spelling V.spelling S.Writer
         (GivesAs deref_pair I.next_gives) (λ r. r.pos) claimed entries
         serializer.old serializer.new result }
 {
-    if E > MAX_ENTRIES {
-        return Err(Error::OutOfMemory);
-    }
-    let nodes = NodeWriter { step };
-    match build_tree_each::<(&'a K, &'a V), S, _, I, E>(
-        claimed,
-        entries,
-        serializer,
-        &nodes,
-        PhantomData,
-    ) {
-        Ok(pos) => Ok(BTreeMapResolver { pos }),
-        Err(e) => Err(e),
-    }
+    serialize_from_ordered_iter_with_each::<K, V, ByArchive, S, C, I, E>(
+        &ByArchive, claimed, entries, serializer, step,
+    )
 }
 
 /// Writes the search tree of the entries of a map, which come in order, as `serialize_from_ordered_iter_each` does. The

@@ -14,7 +14,7 @@ use crate::ordered::MAX_ENTRIES;
 use archive_btree_maps::BTreeSetResolver;
 use archive_btree_writing::build_tree_each;
 use archive_forms_borrowed::SerializeEntry;
-use archive_forms_writing::Serialize;
+use archive_forms_writing::{ByArchive, Serialize};
 use archive_shape::{Allocator, Error, Writer};
 use std::marker::PhantomData;
 
@@ -70,6 +70,7 @@ pub fn serialize_set_from_ordered_iter<
         return Err(Error::OutOfMemory);
     }
     let nodes = NodeWriter {
+        with: &ByArchive,
         step: &SerializeEntry,
     };
     let entries = KeyEntries {

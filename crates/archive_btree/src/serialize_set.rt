@@ -12,7 +12,7 @@ ghost use Rattle.archive_btree.specs.Owned.{TakesEntries, entries_spelling, key_
 use crate::{OwnedBTreeSet, serialize_from_ordered_iter_each};
 use archive_btree_maps::BTreeSetResolver;
 use archive_forms_borrowed::{EntryStep, SerializeEntry};
-use archive_forms_writing::{Archive, Serialize};
+use archive_forms_writing::{Archive, ByArchive, Serialize};
 use archive_shape::{Allocator, Error, Writer};
 use std::collections::btree_set::Iter;
 use std::marker::Model;
@@ -56,7 +56,7 @@ fn serialize_keys_each<
     'a,
     K: Archive + 'a,
     S: Writer + Allocator,
-    C: EntryStep<K, (), S>,
+    C: EntryStep<K, (), ByArchive, S>,
     const E: usize,
 >(
     len: usize,
@@ -68,7 +68,7 @@ fn serialize_keys_each<
     requires counted { len ≡ length entries }
     requires room { S.failures serializer.old < 2 ^ 64 - 1 }
     requires state { HasState S.pos S.known serializer.old }
-    requires takes { TakesEntries (TakesFirst deref_pair) C.takes step.now entries }
+    requires takes { TakesEntries (TakesFirst deref_pair) (C.takes step.now) (record {}) entries }
     ensures { Serializes (entries_spelling E K.Archived.shape
         (tuple no_shapes) K.spelling unit_spelling) S.Writer entries.entry
         serializer.old serializer.new result }
@@ -81,12 +81,12 @@ fn serialize_keys_each<
 pub fn serialize_set_each<
     K: Archive + Ord,
     S: Writer + Allocator,
-    C: EntryStep<K, (), S>,
+    C: EntryStep<K, (), ByArchive, S>,
     const E: usize,
 >(set: &OwnedBTreeSet<K, E>, serializer: &mut S, step: &C) -> Result<BTreeSetResolver, Error>
     requires room { S.failures serializer.old < 2 ^ 64 - 1 }
     requires state { HasState S.pos S.known serializer.old }
-    requires takes { All (C.takes step.now) (key_entries set.now.set.keys) }
+    requires takes { All (C.takes step.now (record {})) (key_entries set.now.set.keys) }
     ensures { Serializes (seen_as (λ s. key_entries s.set.keys)
         (entries_spelling E K.Archived.shape (tuple no_shapes) K.spelling unit_spelling))
         S.Writer set.now serializer.old serializer.new result }

@@ -1,8 +1,7 @@
 -- Pieces of data that calls write, one after the other.
-use Rattle.std.proofs.Common.{◌≡◌, ℕ, List, [], ◌++◌, append-nil, subst, ◌∙◌, inl, inr, ◌⊎◌, refl}
+use Rattle.std.proofs.Common.{ℕ, List, [], ◌++◌, append-nil, subst, ◌∙◌, inl, inr, ◌⊎◌, refl}
 use Rattle.archive_shape_writing.specs.Writing.{WriterMembers, Written, Failed}
 use Rattle.archive_shape_writing.specs.declared.error.Error.{Error}
-use Rattle.archive_shape_writing.specs.declared.error.Error.TheVariants.{OutOfMemory}
 use Rattle.archive_shape_writing.proofs.Joined.{cut_none, cut_first, cut_after, failed_first, failed_after}
 use Rattle.archive_forms_values.specs.FormsLaws.Serializing.{Stopped, of_data}
 use Rattle.archive_forms_writing.proofs.Laying.{wider}

@@ -1,9 +1,9 @@
 -- A node's bytes, which are written part by part over zeros.
 use Rattle.std.proofs.Common.{◌≡◌, ℕ, ◌+◌, ◌-◌, ◌*◌, ◌^◌, ◌≤◌, ◌<◌, set, List, [], ◌∷◌, ◌++◌, length, refl, arith, length-append, append_assoc, ap, sym, subst, ◌∙◌, mul-le-mul_right, Some, None, Option}
 use Rattle.std.proofs.lemmas.List.{length-replicate}
-use Rattle.archive_shape.specs.ShapeLayout.Shape.{Shape, size_of, align_of}
+use Rattle.archive_shape.specs.ShapeLayout.Shape.{Shape, size_of}
 use Rattle.archive_shape.specs.ShapeLayout.Content.{keys_offset, values_offset, links_offset, link_node_size, words_of}
-use Rattle.archive_shape.proofs.ShapeLayout.Framed.{le_align_up, keys_fit, values_fit, links_fit}
+use Rattle.archive_shape.proofs.ShapeLayout.Framed.{keys_fit, values_fit, links_fit}
 use Rattle.archive_shape.specs.Bytes.{HasBytes, zeros, overwrite}
 use Rattle.archive_shape.proofs.Written.{length-overwrite, window_there}
 use Rattle.archive_btree_spelling.specs.Written.{filled}

@@ -1,10 +1,9 @@
 -- Items that an iterator yields, one run of calls after another.
-use Rattle.std.proofs.Common.{◌≡◌, ℕ, zero, suc, ◌+◌, ◌<◌, List, [], ◌∷◌, ◌++◌, length, take, set, replicate, map, Option, Some, Err, refl, ap, ◌∙◌, subst, sym, arith}
+use Rattle.std.proofs.Common.{◌≡◌, ℕ, suc, ◌+◌, ◌<◌, List, [], ◌∷◌, ◌++◌, length, take, set, map, Option, Some, Err, refl, ap, ◌∙◌, subst, sym, arith}
 use Rattle.std.specs.Prelude.{Result, MatchResult}
 use Rattle.std.proofs.Math.Seq.{take-suc-set}
 use Rattle.std.specs.Iterator.{Yields}
 use Rattle.archive_forms_values.specs.FormsLaws.Taking.{MayGive, MayGiveAll, GivesAs}
-use Rattle.archive_forms_writing.proofs.Arrays.{take_one}
 
 module _ {I T : Type 0} (gives : I → Option T → I → Type 0) where
   pub Yields-append : (s t u : I) (xs ys : List T) → Yields gives s xs t → Yields gives t ys u → Yields gives s (xs ++ ys) u

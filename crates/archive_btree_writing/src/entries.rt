@@ -1,52 +1,51 @@
 //! The entries of a node: their data, and their own bytes.
-ghost use Rattle.std.specs.Prelude.{◌≡◌, ℕ, ◌+◌, ◌-◌, ◌*◌, ◌^◌, ◌<◌, ◌≤◌, length, take, All, MatchResult};
+ghost use Rattle.std.specs.Prelude.{◌≡◌, ℕ, ◌+◌, ◌*◌, ◌^◌, ◌<◌, ◌≤◌, length, take, MatchResult};
 ghost use Rattle.std.specs.Map.Iter.{deref_pair};
 ghost use Rattle.archive_shape.specs.ShapeLayout.Shape.{size_of};
 ghost use Rattle.archive_shape.specs.Bytes.{HasBytes, zeros, overwrite};
 ghost use Rattle.archive_forms_values.specs.FormsLaws.State.{State};
 ghost use Rattle.archive_forms_values.specs.FormsLaws.Spelling.{state_after};
-ghost use Rattle.archive_forms_values.specs.FormsLaws.Serializing.{CanResolve, IsAt, HasState, LaysData, Resolves};
+ghost use Rattle.archive_forms_values.specs.FormsLaws.Serializing.{CanResolve, IsAt, LaysData, Resolves};
 ghost use Rattle.archive_forms_values.specs.FormsLaws.Regions.{state_after_all, pieces, resolvers, pieces_fit, pieces_refused};
 ghost use Rattle.archive_btree_spelling.specs.Written.{slots, AllSlots, AnySlot, key_own, value_own};
-ghost use Rattle.archive_btree_writing.specs.Nodes.{borrowed, borrowed_entry};
+ghost use Rattle.archive_btree_writing.specs.Nodes.{CanSerialize, borrowed, borrowed_entry};
 
 use archive_forms_borrowed::EntryStep;
-use archive_forms_writing::Archive;
+use archive_forms_writing::{Archive, ArchiveWith, ByArchive};
 use archive_shape::{Allocator, Error, Place, Portable, Writer};
 
 /// Writes the data of the entries of a node, by a step. Returns their resolvers as the first elements of the array.
 pub fn serialize_entries<
     'a,
     K: Archive,
-    V: Archive,
+    V,
+    A: ArchiveWith<V>,
     S: Writer + Allocator,
-    C: EntryStep<K, V, S>,
+    C: EntryStep<K, V, A, S>,
     const E: usize,
 >(
+    with: &A,
     entries: &[(&'a K, &'a V)],
     serializer: &mut S,
     step: &C,
-) -> Result<[(K::Resolver, V::Resolver); E], Error>
-    requires some { 0 < length entries.now }
-    requires few { length entries.now ≤ E }
-    requires taken { All (λ e. C.takes step.now (deref_pair e)) entries.now }
-    requires room { S.failures serializer.old < 2 ^ 64 - 1 }
-    requires state { HasState S.pos S.known serializer.old }
+) -> Result<[(K::Resolver, A::Resolver); E], Error>
+    requires { CanSerialize E (λ e. C.takes step.now with.now (deref_pair e)) entries.now
+        S.failures S.pos S.known serializer.old }
     ensures { (st : State) → IsAt S.pos S.known serializer.old st
-        → let w = borrowed_entry E K.Archived.shape V.Archived.shape K.spelling V.spelling in
+        → let w = borrowed_entry E K.Archived.shape A.Archived.shape K.spelling (A.spelling with.now) in
         LaysData S.Writer serializer.old serializer.new (pieces w entries.now st)
         (λ all. (take (length entries.now) all ≡ resolvers w entries.now st) × pieces_fit w entries.now st × IsAt S.pos S.known serializer.new (state_after_all w entries.now st))
         (pieces_refused w entries.now st) result }
 {
     let first = &entries[0];
-    let first = match step.serialize_entry(first.0, first.1, serializer) {
+    let first = match step.serialize_entry(with, first.0, first.1, serializer) {
         Ok(done) => done,
         Err(e) => return Err(e),
     };
     let mut kept = [first; E];
     for i in 1..entries.len() {
         let entry = &entries[i];
-        match step.serialize_entry(entry.0, entry.1, serializer) {
+        match step.serialize_entry(with, entry.0, entry.1, serializer) {
             Ok(done) => kept[i] = done,
             Err(e) => return Err(e),
         }
@@ -56,82 +55,98 @@ pub fn serialize_entries<
 
 /// Writes the own bytes of a value, whose data is written, at `start` of a buffer, which is zero there and will lie at
 /// position `pos` of the archive.
-fn resolve_slot<T: Archive>(
+fn resolve_slot<T, A: ArchiveWith<T>>(
+    with: &A,
     value: &T,
-    resolver: T::Resolver,
+    resolver: A::Resolver,
     start: usize,
     pos: usize,
     buffer: &mut [u8],
 ) -> Result<(), Error>
-    requires { CanResolve T.spelling T.Archived.shape value.now resolver buffer.old start pos }
-    ensures { Resolves T.spelling T.Archived.shape value.now resolver pos start buffer.old buffer.new
-        result }
+    requires { CanResolve (A.spelling with.now) A.Archived.shape value.now resolver buffer.old start pos }
+    ensures { Resolves (A.spelling with.now) A.Archived.shape value.now resolver pos start
+        buffer.old buffer.new result }
 {
-    value.resolve(resolver, Place::within(buffer, start, pos))
+    with.resolve_with(value, resolver, Place::within(buffer, start, pos))
 }
 
 /// Writes the own bytes of the keys of entries, whose data is written, side by side from `start` of a buffer on, which
 /// is zero there and will lie at position `pos` of the archive.
-pub(crate) fn resolve_keys<'a, K: Archive, V: Archive, const E: usize>(
+pub(crate) fn resolve_keys<'a, K: Archive, V, A: ArchiveWith<V>, const E: usize>(
     entries: &[(&'a K, &'a V)],
-    kept: &[(K::Resolver, V::Resolver)],
+    kept: &[(K::Resolver, A::Resolver)],
     start: usize,
     pos: usize,
     buffer: &mut [u8],
 ) -> Result<(), Error>
-    requires made { (st : State) × (kept.now ≡ resolvers
-        (borrowed_entry E K.Archived.shape V.Archived.shape K.spelling V.spelling) entries.now st) }
+    requires made { (with : A) × (st : State) × (kept.now ≡ resolvers
+        (borrowed_entry E K.Archived.shape A.Archived.shape K.spelling (A.spelling with)) entries.now st) }
     requires room { start + length entries.now * size_of K.Archived.shape ≤ length buffer.old }
     requires stands { pos + length entries.now * size_of K.Archived.shape < 2 ^ 64 }
     requires blank { HasBytes buffer.old start (zeros (length entries.now * size_of K.Archived.shape)) }
-    ensures { (st : State)
-        → let w = borrowed_entry E K.Archived.shape V.Archived.shape K.spelling V.spelling in
+    ensures { (with : A) (st : State)
+        → let w = borrowed_entry E K.Archived.shape A.Archived.shape K.spelling (A.spelling with) in
         kept.now ≡ resolvers w entries.now st
         → let keys = borrowed K.spelling in
-        let vals = borrowed V.spelling in
+        let vals = borrowed (A.spelling with) in
         MatchResult result
         (λ _. AllSlots (state_after w) (size_of K.Archived.shape) (λ x then here. keys.own_fits x.0 (keys.resolver x.0 then) here) entries.now st pos
-        × (buffer.new ≡ overwrite buffer.old start (slots (state_after w) (size_of K.Archived.shape) (key_own E K.Archived.shape V.Archived.shape keys vals) entries.now st pos)))
+        × (buffer.new ≡ overwrite buffer.old start (slots (state_after w) (size_of K.Archived.shape) (key_own E K.Archived.shape A.Archived.shape keys vals) entries.now st pos)))
         (λ e. AnySlot (state_after w) (size_of K.Archived.shape) (λ x then here. keys.own_refused x.0 (keys.resolver x.0 then) here e) entries.now st pos) }
 {
     let _len = buffer.len();
     let size = K::Archived::SIZE;
     let mut offset = 0;
     for (i, entry) in entries.iter().enumerate() {
-        resolve_slot(entry.0, kept[i].0, start + offset, pos + offset, buffer)?;
+        resolve_slot(
+            &ByArchive,
+            entry.0,
+            kept[i].0,
+            start + offset,
+            pos + offset,
+            buffer,
+        )?;
         offset += size;
     }
     Ok(())
 }
 
 /// Writes the own bytes of the values of entries, as `resolve_keys` does of the keys.
-pub(crate) fn resolve_values<'a, K: Archive, V: Archive, const E: usize>(
+pub(crate) fn resolve_values<'a, K: Archive, V, A: ArchiveWith<V>, const E: usize>(
+    with: &A,
     entries: &[(&'a K, &'a V)],
-    kept: &[(K::Resolver, V::Resolver)],
+    kept: &[(K::Resolver, A::Resolver)],
     start: usize,
     pos: usize,
     buffer: &mut [u8],
 ) -> Result<(), Error>
     requires made { (st : State) × (kept.now ≡ resolvers
-        (borrowed_entry E K.Archived.shape V.Archived.shape K.spelling V.spelling) entries.now st) }
-    requires room { start + length entries.now * size_of V.Archived.shape ≤ length buffer.old }
-    requires stands { pos + length entries.now * size_of V.Archived.shape < 2 ^ 64 }
-    requires blank { HasBytes buffer.old start (zeros (length entries.now * size_of V.Archived.shape)) }
+        (borrowed_entry E K.Archived.shape A.Archived.shape K.spelling (A.spelling with.now)) entries.now st) }
+    requires room { start + length entries.now * size_of A.Archived.shape ≤ length buffer.old }
+    requires stands { pos + length entries.now * size_of A.Archived.shape < 2 ^ 64 }
+    requires blank { HasBytes buffer.old start (zeros (length entries.now * size_of A.Archived.shape)) }
     ensures { (st : State)
-        → let w = borrowed_entry E K.Archived.shape V.Archived.shape K.spelling V.spelling in
+        → let w = borrowed_entry E K.Archived.shape A.Archived.shape K.spelling (A.spelling with.now) in
         kept.now ≡ resolvers w entries.now st
         → let keys = borrowed K.spelling in
-        let vals = borrowed V.spelling in
+        let vals = borrowed (A.spelling with.now) in
         MatchResult result
-        (λ _. AllSlots (state_after w) (size_of V.Archived.shape) (λ x then here. vals.own_fits x.1 (vals.resolver x.1 (state_after keys x.0 then)) here) entries.now st pos
-        × (buffer.new ≡ overwrite buffer.old start (slots (state_after w) (size_of V.Archived.shape) (value_own E K.Archived.shape V.Archived.shape keys vals) entries.now st pos)))
-        (λ e. AnySlot (state_after w) (size_of V.Archived.shape) (λ x then here. vals.own_refused x.1 (vals.resolver x.1 (state_after keys x.0 then)) here e) entries.now st pos) }
+        (λ _. AllSlots (state_after w) (size_of A.Archived.shape) (λ x then here. vals.own_fits x.1 (vals.resolver x.1 (state_after keys x.0 then)) here) entries.now st pos
+        × (buffer.new ≡ overwrite buffer.old start (slots (state_after w) (size_of A.Archived.shape) (value_own E K.Archived.shape A.Archived.shape keys vals) entries.now st pos)))
+        (λ e. AnySlot (state_after w) (size_of A.Archived.shape) (λ x then here. vals.own_refused x.1 (vals.resolver x.1 (state_after keys x.0 then)) here e) entries.now st pos) }
 {
     let _len = buffer.len();
-    let size = V::Archived::SIZE;
+    let size = A::Archived::SIZE;
     let mut offset = 0;
     for (i, entry) in entries.iter().enumerate() {
-        resolve_slot(entry.1, kept[i].1, start + offset, pos + offset, buffer)?;
+        resolve_slot(
+            with,
+            entry.1,
+            kept[i].1,
+            start + offset,
+            pos + offset,
+            buffer,
+        )?;
         offset += size;
     }
     Ok(())

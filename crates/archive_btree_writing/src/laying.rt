@@ -9,7 +9,7 @@ use crate::children::Children;
 use crate::entries::serialize_entries;
 use crate::nodes::write_kept;
 use archive_forms_borrowed::EntryStep;
-use archive_forms_writing::Archive;
+use archive_forms_writing::{Archive, ArchiveWith};
 use archive_shape::{Allocator, Error, Writer};
 
 /// The greatest size in bytes of an option of the resolvers of an entry, so that those of a node have fewer than 2^63
@@ -20,11 +20,13 @@ const LARGEST: usize = i32::MAX as usize;
 fn write_node_each<
     'a,
     K: Archive,
-    V: Archive,
+    V,
+    A: ArchiveWith<V>,
     S: Writer + Allocator,
-    C: EntryStep<K, V, S>,
+    C: EntryStep<K, V, A, S>,
     const E: usize,
 >(
+    with: &A,
     entries: &[(&'a K, &'a V)],
     children: Option<Children<'_>>,
     serializer: &mut S,
@@ -34,18 +36,18 @@ fn write_node_each<
     requires few { length entries.now ≤ E }
     requires small { E < 2 ^ 32 }
     requires whole { AreChildren E children }
-    requires taken { All (λ e. C.takes step.now (deref_pair e)) entries.now }
+    requires taken { All (λ e. C.takes step.now with.now (deref_pair e)) entries.now }
     requires room { S.failures serializer.old < 2 ^ 64 - 1 }
     requires state { HasState S.pos S.known serializer.old }
-    ensures { LaysNode E K.Archived.shape V.Archived.shape K.spelling V.spelling S.Writer
+    ensures { LaysNode E K.Archived.shape A.Archived.shape K.spelling (A.spelling with.now) S.Writer
         (node_of children.entry (map deref_pair entries.now)) serializer.old serializer.new result }
 {
-    let none: Option<(K::Resolver, V::Resolver)> = None;
+    let none: Option<(K::Resolver, A::Resolver)> = None;
     if size_of_val(&none) > LARGEST {
         return Err(Error::OutOfMemory);
     }
-    match serialize_entries::<K, V, S, C, E>(entries, serializer, step) {
-        Ok(kept) => write_kept::<K, V, S, E>(entries, kept, children, serializer),
+    match serialize_entries::<K, V, A, S, C, E>(with, entries, serializer, step) {
+        Ok(kept) => write_kept::<K, V, A, S, E>(with, entries, kept, children, serializer),
         Err(e) => Err(e),
     }
 }
@@ -54,21 +56,22 @@ fn write_node_each<
 pub fn write_leaf_each<
     'a,
     K: Archive,
-    V: Archive,
+    V,
+    A: ArchiveWith<V>,
     S: Writer + Allocator,
-    C: EntryStep<K, V, S>,
+    C: EntryStep<K, V, A, S>,
     const E: usize,
->(entries: &[(&'a K, &'a V)], serializer: &mut S, step: &C) -> Result<usize, Error>
+>(with: &A, entries: &[(&'a K, &'a V)], serializer: &mut S, step: &C) -> Result<usize, Error>
     requires some { 0 < length entries.now }
     requires few { length entries.now ≤ E }
     requires small { E < 2 ^ 32 }
-    requires taken { All (λ e. C.takes step.now (deref_pair e)) entries.now }
+    requires taken { All (λ e. C.takes step.now with.now (deref_pair e)) entries.now }
     requires room { S.failures serializer.old < 2 ^ 64 - 1 }
     requires state { HasState S.pos S.known serializer.old }
-    ensures { LaysNode E K.Archived.shape V.Archived.shape K.spelling V.spelling S.Writer
+    ensures { LaysNode E K.Archived.shape A.Archived.shape K.spelling (A.spelling with.now) S.Writer
         (leaf_of (map deref_pair entries.now)) serializer.old serializer.new result }
 {
-    write_node_each::<K, V, S, C, E>(entries, None, serializer, step)
+    write_node_each::<K, V, A, S, C, E>(with, entries, None, serializer, step)
 }
 
 /// Writes an inner node after the data of its entries, which a step writes, and returns its position. `lesser` has for
@@ -76,11 +79,13 @@ pub fn write_leaf_each<
 pub fn write_inner_each<
     'a,
     K: Archive,
-    V: Archive,
+    V,
+    A: ArchiveWith<V>,
     S: Writer + Allocator,
-    C: EntryStep<K, V, S>,
+    C: EntryStep<K, V, A, S>,
     const E: usize,
 >(
+    with: &A,
     entries: &[(&'a K, &'a V)],
     lesser: &[Option<usize>],
     greater: Option<usize>,
@@ -91,13 +96,13 @@ pub fn write_inner_each<
     requires full { length entries.now ≡ E }
     requires pointers { length lesser.now ≡ E }
     requires small { E < 2 ^ 32 }
-    requires taken { All (λ e. C.takes step.now (deref_pair e)) entries.now }
+    requires taken { All (λ e. C.takes step.now with.now (deref_pair e)) entries.now }
     requires room { S.failures serializer.old < 2 ^ 64 - 1 }
     requires state { HasState S.pos S.known serializer.old }
-    ensures { LaysNode E K.Archived.shape V.Archived.shape K.spelling V.spelling S.Writer
+    ensures { LaysNode E K.Archived.shape A.Archived.shape K.spelling (A.spelling with.now) S.Writer
         (inner_of (lesser.now ++ greater ∷ []) (map deref_pair entries.now))
         serializer.old serializer.new result }
 {
     let children = Some(Children { lesser, greater });
-    write_node_each::<K, V, S, C, E>(entries, children, serializer, step)
+    write_node_each::<K, V, A, S, C, E>(with, entries, children, serializer, step)
 }

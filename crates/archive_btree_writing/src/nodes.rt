@@ -8,14 +8,14 @@ ghost use Rattle.archive_forms_values.specs.FormsLaws.Serializing.{Lays};
 ghost use Rattle.archive_forms_values.specs.FormsLaws.Regions.{resolvers};
 ghost use Rattle.archive_btree_spelling.specs.Written.{own_size, own_bytes, slots_fit, slots_refused};
 ghost use Rattle.archive_btree_nodes.specs.Layout.{IsNodeLayout};
-ghost use Rattle.archive_btree_writing.specs.Nodes.{borrowed, borrowed_entry, kind_of, node_of, AreChildren, LaysBehind};
+ghost use Rattle.archive_btree_writing.specs.Nodes.{borrowed, borrowed_entry, kind_of, node_of, AreChildren, CanWrite, LaysBehind};
 ghost use Rattle.archive_forms_values.specs.Claims.{as_usize};
 
 use crate::children::Children;
 use crate::entries::{resolve_keys, resolve_values};
 use crate::words::store_words;
 use archive_btree_nodes::NodeLayout;
-use archive_forms_writing::{Archive, align};
+use archive_forms_writing::{Archive, ArchiveWith, align};
 use archive_shape::{Allocator, Error, Portable, Writer};
 
 /// The greatest position that a node may begin at.
@@ -66,9 +66,10 @@ fn check_place(pos: usize, size: usize) -> Result<(), Error>
 }
 
 /// Writes the node of entries, whose data is written, over zeros, which will lie at `pos`.
-fn resolve_node<'a, K: Archive, V: Archive, const E: usize>(
+fn resolve_node<'a, K: Archive, V, A: ArchiveWith<V>, const E: usize>(
+    with: &A,
     entries: &[(&'a K, &'a V)],
-    kept: &[(K::Resolver, V::Resolver)],
+    kept: &[(K::Resolver, A::Resolver)],
     children: Option<Children<'_>>,
     layout: NodeLayout,
     pos: usize,
@@ -77,26 +78,33 @@ fn resolve_node<'a, K: Archive, V: Archive, const E: usize>(
     requires few { length entries.now ≤ E }
     requires small { E < 2 ^ 32 }
     requires whole { AreChildren E children }
-    requires parts { IsNodeLayout E K.Archived.shape V.Archived.shape layout }
+    requires parts { IsNodeLayout E K.Archived.shape A.Archived.shape layout }
     requires made { (st : State) × (kept.now ≡ resolvers
-        (borrowed_entry E K.Archived.shape V.Archived.shape K.spelling V.spelling) entries.now st) }
-    requires blank { buffer.old ≡ zeros (own_size E K.Archived.shape V.Archived.shape
-        (borrowed K.spelling) (borrowed V.spelling) (node_of children entries.now)) }
-    requires stands { pos + own_size E K.Archived.shape V.Archived.shape (borrowed K.spelling)
-        (borrowed V.spelling) (node_of children entries.now) < 2 ^ 64 }
+        (borrowed_entry E K.Archived.shape A.Archived.shape K.spelling (A.spelling with.now)) entries.now st) }
+    requires blank { buffer.old ≡ zeros (own_size E K.Archived.shape A.Archived.shape
+        (borrowed K.spelling) (borrowed (A.spelling with.now)) (node_of children entries.now)) }
+    requires stands { pos + own_size E K.Archived.shape A.Archived.shape (borrowed K.spelling)
+        (borrowed (A.spelling with.now)) (node_of children entries.now) < 2 ^ 64 }
     ensures { (st : State) → kept.now
-        ≡ resolvers (borrowed_entry E K.Archived.shape V.Archived.shape K.spelling V.spelling)
+        ≡ resolvers (borrowed_entry E K.Archived.shape A.Archived.shape K.spelling (A.spelling with.now))
         entries.now st
         → let n = node_of children.entry entries.now in
         MatchResult result
-        (λ _. slots_fit E K.Archived.shape V.Archived.shape (borrowed K.spelling) (borrowed V.spelling) n st pos
-        × (buffer.new ≡ own_bytes E K.Archived.shape V.Archived.shape (borrowed K.spelling) (borrowed V.spelling) n st pos))
-        (slots_refused E K.Archived.shape V.Archived.shape (borrowed K.spelling) (borrowed V.spelling) n st pos) }
+        (λ _. slots_fit E K.Archived.shape A.Archived.shape (borrowed K.spelling) (borrowed (A.spelling with.now)) n st pos
+        × (buffer.new ≡ own_bytes E K.Archived.shape A.Archived.shape (borrowed K.spelling) (borrowed (A.spelling with.now)) n st pos))
+        (slots_refused E K.Archived.shape A.Archived.shape (borrowed K.spelling) (borrowed (A.spelling with.now)) n st pos) }
 {
     let _len = buffer.len();
     buffer[0] = kind(children);
-    resolve_keys::<K, V, E>(entries, kept, layout.keys, pos + layout.keys, buffer)?;
-    resolve_values::<K, V, E>(entries, kept, layout.values, pos + layout.values, buffer)?;
+    resolve_keys::<K, V, A, E>(entries, kept, layout.keys, pos + layout.keys, buffer)?;
+    resolve_values::<K, V, A, E>(
+        with,
+        entries,
+        kept,
+        layout.values,
+        pos + layout.values,
+        buffer,
+    )?;
     store_words(
         entries.len() as u32,
         children,
@@ -107,9 +115,10 @@ fn resolve_node<'a, K: Archive, V: Archive, const E: usize>(
 }
 
 /// Writes the node of entries, whose data is written, through a buffer of zeros of its size.
-fn write_through<'a, K: Archive, V: Archive, W: Writer, const E: usize>(
+fn write_through<'a, K: Archive, V, A: ArchiveWith<V>, W: Writer, const E: usize>(
+    with: &A,
     entries: &[(&'a K, &'a V)],
-    kept: &[(K::Resolver, V::Resolver)],
+    kept: &[(K::Resolver, A::Resolver)],
     children: Option<Children<'_>>,
     layout: NodeLayout,
     writer: &mut W,
@@ -119,30 +128,31 @@ fn write_through<'a, K: Archive, V: Archive, W: Writer, const E: usize>(
     requires few { length entries.now ≤ E }
     requires small { E < 2 ^ 32 }
     requires whole { AreChildren E children }
-    requires parts { IsNodeLayout E K.Archived.shape V.Archived.shape layout }
+    requires parts { IsNodeLayout E K.Archived.shape A.Archived.shape layout }
     requires made { (st : State) × (kept.now ≡ resolvers
-        (borrowed_entry E K.Archived.shape V.Archived.shape K.spelling V.spelling) entries.now st) }
-    requires blank { buffer.old ≡ zeros (own_size E K.Archived.shape V.Archived.shape
-        (borrowed K.spelling) (borrowed V.spelling) (node_of children entries.now)) }
-    requires stands { W.pos writer.old + own_size E K.Archived.shape V.Archived.shape
-        (borrowed K.spelling) (borrowed V.spelling) (node_of children entries.now) < 2 ^ 64 }
+        (borrowed_entry E K.Archived.shape A.Archived.shape K.spelling (A.spelling with.now)) entries.now st) }
+    requires blank { buffer.old ≡ zeros (own_size E K.Archived.shape A.Archived.shape
+        (borrowed K.spelling) (borrowed (A.spelling with.now)) (node_of children entries.now)) }
+    requires stands { W.pos writer.old + own_size E K.Archived.shape A.Archived.shape
+        (borrowed K.spelling) (borrowed (A.spelling with.now)) (node_of children entries.now) < 2 ^ 64 }
     ensures { (st : State) → kept.now
-        ≡ resolvers (borrowed_entry E K.Archived.shape V.Archived.shape K.spelling V.spelling)
+        ≡ resolvers (borrowed_entry E K.Archived.shape A.Archived.shape K.spelling (A.spelling with.now))
         entries.now st
         → let n = node_of children.entry entries.now in
-        Lays W.Writer writer.old writer.new (own_bytes E K.Archived.shape V.Archived.shape (borrowed K.spelling) (borrowed V.spelling) n st (W.pos writer.old))
-        (λ _. slots_fit E K.Archived.shape V.Archived.shape (borrowed K.spelling) (borrowed V.spelling) n st (W.pos writer.old))
-        (slots_refused E K.Archived.shape V.Archived.shape (borrowed K.spelling) (borrowed V.spelling) n st (W.pos writer.old)) result }
+        Lays W.Writer writer.old writer.new (own_bytes E K.Archived.shape A.Archived.shape (borrowed K.spelling) (borrowed (A.spelling with.now)) n st (W.pos writer.old))
+        (λ _. slots_fit E K.Archived.shape A.Archived.shape (borrowed K.spelling) (borrowed (A.spelling with.now)) n st (W.pos writer.old))
+        (slots_refused E K.Archived.shape A.Archived.shape (borrowed K.spelling) (borrowed (A.spelling with.now)) n st (W.pos writer.old)) result }
 {
     let pos = writer.pos();
-    resolve_node::<K, V, E>(entries, kept, children, layout, pos, buffer)?;
+    resolve_node::<K, V, A, E>(with, entries, kept, children, layout, pos, buffer)?;
     writer.write(buffer)
 }
 
 /// Writes the node of entries, whose data is written. The buffer of a node of more than 256 bytes is allocated.
-fn write_own<'a, K: Archive, V: Archive, S: Writer + Allocator, const E: usize>(
+fn write_own<'a, K: Archive, V, A: ArchiveWith<V>, S: Writer + Allocator, const E: usize>(
+    with: &A,
     entries: &[(&'a K, &'a V)],
-    kept: &[(K::Resolver, V::Resolver)],
+    kept: &[(K::Resolver, A::Resolver)],
     children: Option<Children<'_>>,
     layout: NodeLayout,
     size: usize,
@@ -152,25 +162,26 @@ fn write_own<'a, K: Archive, V: Archive, S: Writer + Allocator, const E: usize>(
     requires few { length entries.now ≤ E }
     requires small { E < 2 ^ 32 }
     requires whole { AreChildren E children }
-    requires parts { IsNodeLayout E K.Archived.shape V.Archived.shape layout }
-    requires sized { size ≡ as_usize (own_size E K.Archived.shape V.Archived.shape (borrowed K.spelling)
-        (borrowed V.spelling) (node_of children entries.now)) }
+    requires parts { IsNodeLayout E K.Archived.shape A.Archived.shape layout }
+    requires sized { size ≡ as_usize (own_size E K.Archived.shape A.Archived.shape (borrowed K.spelling)
+        (borrowed (A.spelling with.now)) (node_of children entries.now)) }
     requires made { (st : State) × (kept.now ≡ resolvers
-        (borrowed_entry E K.Archived.shape V.Archived.shape K.spelling V.spelling) entries.now st) }
+        (borrowed_entry E K.Archived.shape A.Archived.shape K.spelling (A.spelling with.now)) entries.now st) }
     requires stands { S.pos serializer.old + size < 2 ^ 64 }
     ensures placed { IfOk result (λ _. S.pos serializer.old + link_node_size
-        (words_of (kind_of children.entry) E) E K.Archived.shape V.Archived.shape < 2 ^ 64) }
+        (words_of (kind_of children.entry) E) E K.Archived.shape A.Archived.shape < 2 ^ 64) }
     ensures lays { (st : State) → kept.now
-        ≡ resolvers (borrowed_entry E K.Archived.shape V.Archived.shape K.spelling V.spelling)
+        ≡ resolvers (borrowed_entry E K.Archived.shape A.Archived.shape K.spelling (A.spelling with.now))
         entries.now st
         → let n = node_of children.entry entries.now in
-        Lays S.Writer serializer.old serializer.new (own_bytes E K.Archived.shape V.Archived.shape (borrowed K.spelling) (borrowed V.spelling) n st (S.pos serializer.old))
-        (λ _. slots_fit E K.Archived.shape V.Archived.shape (borrowed K.spelling) (borrowed V.spelling) n st (S.pos serializer.old))
-        (slots_refused E K.Archived.shape V.Archived.shape (borrowed K.spelling) (borrowed V.spelling) n st (S.pos serializer.old)) result }
+        Lays S.Writer serializer.old serializer.new (own_bytes E K.Archived.shape A.Archived.shape (borrowed K.spelling) (borrowed (A.spelling with.now)) n st (S.pos serializer.old))
+        (λ _. slots_fit E K.Archived.shape A.Archived.shape (borrowed K.spelling) (borrowed (A.spelling with.now)) n st (S.pos serializer.old))
+        (slots_refused E K.Archived.shape A.Archived.shape (borrowed K.spelling) (borrowed (A.spelling with.now)) n st (S.pos serializer.old)) result }
 {
     if size <= BUFFER {
         let mut buffer = [0; BUFFER];
-        return write_through::<K, V, S, E>(
+        return write_through::<K, V, A, S, E>(
+            with,
             entries,
             kept,
             children,
@@ -180,7 +191,8 @@ fn write_own<'a, K: Archive, V: Archive, S: Writer + Allocator, const E: usize>(
         );
     }
     match vec![in serializer.memory(); 0u8; size] {
-        Ok(mut buffer) => write_through::<K, V, S, E>(
+        Ok(mut buffer) => write_through::<K, V, A, S, E>(
+            with,
             entries,
             kept,
             children,
@@ -194,9 +206,10 @@ fn write_own<'a, K: Archive, V: Archive, S: Writer + Allocator, const E: usize>(
 
 /// Writes the node of entries, whose data is written, from the next position of its alignment on, and returns its
 /// position.
-fn write_behind<'a, K: Archive, V: Archive, S: Writer + Allocator, const E: usize>(
+fn write_behind<'a, K: Archive, V, A: ArchiveWith<V>, S: Writer + Allocator, const E: usize>(
+    with: &A,
     entries: &[(&'a K, &'a V)],
-    kept: &[(K::Resolver, V::Resolver)],
+    kept: &[(K::Resolver, A::Resolver)],
     children: Option<Children<'_>>,
     serializer: &mut S,
 ) -> Result<usize, Error>
@@ -205,39 +218,37 @@ fn write_behind<'a, K: Archive, V: Archive, S: Writer + Allocator, const E: usiz
     requires small { E < 2 ^ 32 }
     requires whole { AreChildren E children }
     requires made { (st : State) × (kept.now ≡ resolvers
-        (borrowed_entry E K.Archived.shape V.Archived.shape K.spelling V.spelling) entries.now st) }
+        (borrowed_entry E K.Archived.shape A.Archived.shape K.spelling (A.spelling with.now)) entries.now st) }
     ensures { (st : State) → kept.now
-        ≡ resolvers (borrowed_entry E K.Archived.shape V.Archived.shape K.spelling V.spelling)
+        ≡ resolvers (borrowed_entry E K.Archived.shape A.Archived.shape K.spelling (A.spelling with.now))
         entries.now st
-        → LaysBehind E K.Archived.shape V.Archived.shape (borrowed K.spelling) (borrowed V.spelling) S.Writer (node_of children.entry entries.now) st serializer.old serializer.new (S.pos serializer.old) result }
+        → LaysBehind E K.Archived.shape A.Archived.shape (borrowed K.spelling) (borrowed (A.spelling with.now)) S.Writer (node_of children.entry entries.now) st serializer.old serializer.new (S.pos serializer.old) result }
 {
-    let layout = NodeLayout::of::<K::Archived, V::Archived, E>();
+    let layout = NodeLayout::of::<K::Archived, A::Archived, E>();
     let to = align(serializer, layout.link_align)?;
-    let size = node_size::<K::Archived, V::Archived, E>(&layout, children);
+    let size = node_size::<K::Archived, A::Archived, E>(&layout, children);
     check_place(to, size)?;
-    write_own::<K, V, S, E>(entries, kept, children, layout, size, serializer)?;
+    write_own::<K, V, A, S, E>(with, entries, kept, children, layout, size, serializer)?;
     Ok(to)
 }
 
 /// Writes a node as `write_behind` does, where `kept` is an array of resolvers, the first of which are those of the
 /// entries.
-pub fn write_kept<'a, K: Archive, V: Archive, S: Writer + Allocator, const E: usize>(
+pub fn write_kept<'a, K: Archive, V, A: ArchiveWith<V>, S: Writer + Allocator, const E: usize>(
+    with: &A,
     entries: &[(&'a K, &'a V)],
-    kept: [(K::Resolver, V::Resolver); E],
+    kept: [(K::Resolver, A::Resolver); E],
     children: Option<Children<'_>>,
     serializer: &mut S,
 ) -> Result<usize, Error>
-    requires room { S.failures serializer.old < 2 ^ 64 - 1 }
-    requires few { length entries.now ≤ E }
-    requires small { E < 2 ^ 32 }
-    requires whole { AreChildren E children }
-    requires made { (st : State) × (take (length entries.now) kept ≡ resolvers
-        (borrowed_entry E K.Archived.shape V.Archived.shape K.spelling V.spelling) entries.now st) }
+    requires { CanWrite E children
+        (borrowed_entry E K.Archived.shape A.Archived.shape K.spelling (A.spelling with.now))
+        entries.now (take (length entries.now) kept) S.failures serializer.old }
     ensures { (st : State) → take (length entries.now) kept
-        ≡ resolvers (borrowed_entry E K.Archived.shape V.Archived.shape K.spelling V.spelling)
+        ≡ resolvers (borrowed_entry E K.Archived.shape A.Archived.shape K.spelling (A.spelling with.now))
         entries.now st
-        → LaysBehind E K.Archived.shape V.Archived.shape (borrowed K.spelling) (borrowed V.spelling) S.Writer (node_of children.entry entries.now) st serializer.old serializer.new (S.pos serializer.old) result }
+        → LaysBehind E K.Archived.shape A.Archived.shape (borrowed K.spelling) (borrowed (A.spelling with.now)) S.Writer (node_of children.entry entries.now) st serializer.old serializer.new (S.pos serializer.old) result }
 {
     let kept = kept.as_slice();
-    write_behind::<K, V, S, E>(entries, &kept[..entries.len()], children, serializer)
+    write_behind::<K, V, A, S, E>(with, entries, &kept[..entries.len()], children, serializer)
 }

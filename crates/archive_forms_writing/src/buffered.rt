@@ -8,28 +8,29 @@ ghost use Rattle.archive_forms_laws.specs.State.{State};
 ghost use Rattle.archive_forms_laws.specs.Serializing.{Lays};
 ghost use Rattle.archive_forms_laws.specs.Regions.{placed_fits, placed_refused, resolvers, owns, owns_fit, owns_refused};
 
-use crate::Archive;
+use crate::ArchiveWith;
 use archive_shape::{Error, Place, Portable, Writer};
 
 /// Writes the own bytes of a value at `start` of a buffer, where the bytes are zeros. The buffer will be at position
 /// `pos` of the archive. The value's data was written before.
-fn resolve_at<T: Archive>(
+fn resolve_at<T, A: ArchiveWith<T>>(
+    with: &A,
     value: &T,
-    resolver: T::Resolver,
+    resolver: A::Resolver,
     pos: usize,
     buffer: &mut [u8],
     start: usize,
 ) -> Result<(), Error>
-    requires made { (st : State) × (resolver ≡ T.spelling.resolver value.now st) }
-    requires room { start + size_of T.Archived.shape ≤ length buffer.old }
-    requires stands { pos + start + size_of T.Archived.shape < 2 ^ 64 }
-    requires blank { HasBytes buffer.old start (zeros (size_of T.Archived.shape)) }
+    requires made { (st : State) × (resolver ≡ (A.spelling with.now).resolver value.now st) }
+    requires room { start + size_of A.Archived.shape ≤ length buffer.old }
+    requires stands { pos + start + size_of A.Archived.shape < 2 ^ 64 }
+    requires blank { HasBytes buffer.old start (zeros (size_of A.Archived.shape)) }
     ensures { MatchResult result
-        (λ _. placed_fits T.spelling T.Archived.shape value.now resolver (pos + start)
-        × (buffer.new ≡ overwrite buffer.old start (T.spelling.own value.now resolver (pos + start))))
-        (placed_refused T.spelling T.Archived.shape value.now resolver (pos + start)) }
+        (λ _. placed_fits (A.spelling with.now) A.Archived.shape value.now resolver (pos + start)
+        × (buffer.new ≡ overwrite buffer.old start ((A.spelling with.now).own value.now resolver (pos + start))))
+        (placed_refused (A.spelling with.now) A.Archived.shape value.now resolver (pos + start)) }
 {
-    value.resolve(resolver, Place::within(buffer, start, pos + start))
+    with.resolve_with(value, resolver, Place::within(buffer, start, pos + start))
 }
 
 /// Returns the number of bytes, of `len` that begin at position `pos`, that end before position 2^64.
@@ -42,26 +43,27 @@ fn room_at(len: usize, pos: usize) -> usize
 
 /// Writes the own bytes of adjacent items over a buffer of zeros, which will be at position `pos` of the archive. Their
 /// data was written before. Returns the number of bytes written.
-fn resolve_all<T: Archive>(
+fn resolve_all<T, A: ArchiveWith<T>>(
+    with: &A,
     items: &[T],
-    kept: &[T::Resolver],
+    kept: &[A::Resolver],
     pos: usize,
     buffer: &mut [u8],
 ) -> Result<usize, Error>
-    requires made { (st : State) × (kept.now ≡ resolvers T.spelling items.now st) }
-    requires room { length items.now * size_of T.Archived.shape ≤ length buffer.old }
-    requires stands { pos + length items.now * size_of T.Archived.shape < 2 ^ 64 }
+    requires made { (st : State) × (kept.now ≡ resolvers (A.spelling with.now) items.now st) }
+    requires room { length items.now * size_of A.Archived.shape ≤ length buffer.old }
+    requires stands { pos + length items.now * size_of A.Archived.shape < 2 ^ 64 }
     requires blank { buffer.old ≡ zeros (length buffer.old) }
-    ensures { (st : State) → kept.now ≡ resolvers T.spelling items.now st → MatchResult result
-        (λ filled. (filled ≤ length buffer.new) × (take filled buffer.new ≡ owns T.spelling items.now st pos)
-        × owns_fit T.spelling T.Archived.shape items.now st pos)
-        (owns_refused T.spelling T.Archived.shape items.now st pos) }
+    ensures { (st : State) → kept.now ≡ resolvers (A.spelling with.now) items.now st → MatchResult result
+        (λ filled. (filled ≤ length buffer.new) × (take filled buffer.new ≡ owns (A.spelling with.now) items.now st pos)
+        × owns_fit (A.spelling with.now) A.Archived.shape items.now st pos)
+        (owns_refused (A.spelling with.now) A.Archived.shape items.now st pos) }
 {
     let _len = buffer.len();
-    let size = T::Archived::SIZE;
+    let size = A::Archived::SIZE;
     let mut filled = 0;
     for (i, item) in items.iter().enumerate() {
-        if let Err(e) = resolve_at(item, kept[i], pos, buffer, filled) {
+        if let Err(e) = resolve_at(with, item, kept[i], pos, buffer, filled) {
             return Err(e);
         }
         filled += size;
@@ -87,23 +89,24 @@ fn flush<W: Writer>(writer: &mut W, buffer: &mut [u8], filled: usize) -> Result<
 
 /// Writes the own bytes of adjacent items through a buffer of zeros. Their data was written before.
 #[inline(always)]
-pub(crate) fn resolve_through<T: Archive, W: Writer>(
+pub(crate) fn resolve_through<T, A: ArchiveWith<T>, W: Writer>(
+    with: &A,
     items: &[T],
-    kept: &[T::Resolver],
+    kept: &[A::Resolver],
     writer: &mut W,
     buffer: &mut [u8],
 ) -> Result<(), Error>
     requires room { W.failures writer.old < 2 ^ 64 - 1 }
-    requires made { (st : State) × (kept.now ≡ resolvers T.spelling items.now st) }
+    requires made { (st : State) × (kept.now ≡ resolvers (A.spelling with.now) items.now st) }
     requires blank { buffer.old ≡ zeros (length buffer.old) }
-    requires wide { size_of T.Archived.shape ≤ length buffer.old }
-    ensures { (st : State) → kept.now ≡ resolvers T.spelling items.now st
-        → Lays W.Writer writer.old writer.new (owns T.spelling items.now st (W.pos writer.old))
-        (λ _. owns_fit T.spelling T.Archived.shape items.now st (W.pos writer.old))
-        (owns_refused T.spelling T.Archived.shape items.now st (W.pos writer.old)) result }
+    requires wide { size_of A.Archived.shape ≤ length buffer.old }
+    ensures { (st : State) → kept.now ≡ resolvers (A.spelling with.now) items.now st
+        → Lays W.Writer writer.old writer.new (owns (A.spelling with.now) items.now st (W.pos writer.old))
+        (λ _. owns_fit (A.spelling with.now) A.Archived.shape items.now st (W.pos writer.old))
+        (owns_refused (A.spelling with.now) A.Archived.shape items.now st (W.pos writer.old)) result }
 {
     let len = buffer.len();
-    let size = T::Archived::SIZE;
+    let size = A::Archived::SIZE;
     let mut base = writer.pos();
     let mut room = room_at(len, base);
     let mut filled = 0;
@@ -119,7 +122,7 @@ pub(crate) fn resolve_through<T: Archive, W: Writer>(
                 return Err(Error::PositionTooLarge);
             }
         }
-        if let Err(e) = resolve_at(item, kept[i], base, buffer, filled) {
+        if let Err(e) = resolve_at(with, item, kept[i], base, buffer, filled) {
             return Err(e);
         }
         filled += size;
@@ -151,22 +154,23 @@ pub(crate) fn are_few<T: Portable>(count: usize, pos: usize) -> bool
 }
 
 /// Writes the own bytes of adjacent items, which are at most `BUFFER_LEN` bytes, at once. Their data was written before.
-pub(crate) fn resolve_at_once<T: Archive, W: Writer>(
+pub(crate) fn resolve_at_once<T, A: ArchiveWith<T>, W: Writer>(
+    with: &A,
     items: &[T],
-    kept: &[T::Resolver],
+    kept: &[A::Resolver],
     writer: &mut W,
 ) -> Result<(), Error>
     requires room { W.failures writer.old < 2 ^ 64 - 1 }
-    requires made { (st : State) × (kept.now ≡ resolvers T.spelling items.now st) }
-    requires few { length items.now * size_of T.Archived.shape ≤ BUFFER_LEN }
-    requires stands { W.pos writer.old + length items.now * size_of T.Archived.shape < 2 ^ 64 }
-    ensures { (st : State) → kept.now ≡ resolvers T.spelling items.now st
-        → Lays W.Writer writer.old writer.new (owns T.spelling items.now st (W.pos writer.old))
-        (λ _. owns_fit T.spelling T.Archived.shape items.now st (W.pos writer.old))
-        (owns_refused T.spelling T.Archived.shape items.now st (W.pos writer.old)) result }
+    requires made { (st : State) × (kept.now ≡ resolvers (A.spelling with.now) items.now st) }
+    requires few { length items.now * size_of A.Archived.shape ≤ BUFFER_LEN }
+    requires stands { W.pos writer.old + length items.now * size_of A.Archived.shape < 2 ^ 64 }
+    ensures { (st : State) → kept.now ≡ resolvers (A.spelling with.now) items.now st
+        → Lays W.Writer writer.old writer.new (owns (A.spelling with.now) items.now st (W.pos writer.old))
+        (λ _. owns_fit (A.spelling with.now) A.Archived.shape items.now st (W.pos writer.old))
+        (owns_refused (A.spelling with.now) A.Archived.shape items.now st (W.pos writer.old)) result }
 {
     let mut buffer = [0; BUFFER_LEN];
-    match resolve_all(items, kept, writer.pos(), &mut buffer) {
+    match resolve_all(with, items, kept, writer.pos(), &mut buffer) {
         Ok(filled) => writer.write(&buffer[..filled]),
         Err(e) => Err(e),
     }

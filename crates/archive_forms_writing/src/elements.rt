@@ -8,7 +8,7 @@ ghost use Rattle.archive_forms_writing.specs.Behind.{LaysBehind};
 ghost use Rattle.archive_forms_writing.specs.Steps.{StepTakes, StepWrites};
 
 use crate::buffered::{are_few, resolve_at_once, resolve_through};
-use crate::{Archive, Serialize, align, resolve_aligned};
+use crate::{Archive, ArchiveWith, ByArchive, Serialize, align, resolve_aligned};
 use archive_shape::{Allocator, Error, Portable, Writer};
 use std::marker::PhantomData;
 
@@ -43,18 +43,19 @@ pub fn serialize_element<T: Serialize<S>, S: Writer + Allocator>(
 
 /// Writes the data of each item by the step, and returns their resolvers.
 fn serialize_data_each<
-    T: Archive,
+    T,
+    A: ArchiveWith<T>,
     S: Writer + Allocator,
-    F: Fn(&T, &mut S) -> Result<(T::Resolver, PhantomData<T::Archived>), Error>,
->(items: &[T], serializer: &mut S, step: F) -> Result<Vec<T::Resolver>, Error>
+    F: Fn(&T, &mut S) -> Result<(A::Resolver, PhantomData<A::Archived>), Error>,
+>(with: &A, items: &[T], serializer: &mut S, step: F) -> Result<Vec<A::Resolver>, Error>
     requires room { S.failures serializer.old < 2 ^ 64 - 1 }
     requires state { HasState S.pos S.known serializer.old }
     requires takes { StepTakes F.Fn S.Writer step items.now }
-    requires writes { StepWrites F.Fn (λ q. q.0) T.spelling S.Writer step }
+    requires writes { StepWrites F.Fn (λ q. q.0) (A.spelling with.now) S.Writer step }
     ensures { (st : State) → IsAt S.pos S.known serializer.old st
-        → LaysData S.Writer serializer.old serializer.new (pieces T.spelling items.now st)
-        (λ all. (all.items ≡ resolvers T.spelling items.now st) × pieces_fit T.spelling items.now st × IsAt S.pos S.known serializer.new (state_after_all T.spelling items.now st))
-        (pieces_refused T.spelling items.now st) result }
+        → LaysData S.Writer serializer.old serializer.new (pieces (A.spelling with.now) items.now st)
+        (λ all. (all.items ≡ resolvers (A.spelling with.now) items.now st) × pieces_fit (A.spelling with.now) items.now st × IsAt S.pos S.known serializer.new (state_after_all (A.spelling with.now) items.now st))
+        (pieces_refused (A.spelling with.now) items.now st) result }
 {
     let Ok(mut all) = Vec::with_capacity(serializer.memory(), items.len()) else {
         return Err(Error::OutOfMemory);
@@ -74,20 +75,21 @@ fn serialize_data_each<
 /// Writes the data of each item by the step. There are at least one and at most `MAX_KEPT` items. Their resolvers are the
 /// first ones of the result.
 fn serialize_few_each<
-    T: Archive,
+    T,
+    A: ArchiveWith<T>,
     S: Writer + Allocator,
-    F: Fn(&T, &mut S) -> Result<(T::Resolver, PhantomData<T::Archived>), Error>,
->(items: &[T], serializer: &mut S, step: F) -> Result<[T::Resolver; MAX_KEPT], Error>
+    F: Fn(&T, &mut S) -> Result<(A::Resolver, PhantomData<A::Archived>), Error>,
+>(with: &A, items: &[T], serializer: &mut S, step: F) -> Result<[A::Resolver; MAX_KEPT], Error>
     requires some { 0 < length items.now }
     requires few { length items.now ≤ MAX_KEPT }
     requires room { S.failures serializer.old < 2 ^ 64 - 1 }
     requires state { HasState S.pos S.known serializer.old }
     requires takes { StepTakes F.Fn S.Writer step items.now }
-    requires writes { StepWrites F.Fn (λ q. q.0) T.spelling S.Writer step }
+    requires writes { StepWrites F.Fn (λ q. q.0) (A.spelling with.now) S.Writer step }
     ensures { (st : State) → IsAt S.pos S.known serializer.old st
-        → LaysData S.Writer serializer.old serializer.new (pieces T.spelling items.now st)
-        (λ all. (take (length items.now) all ≡ resolvers T.spelling items.now st) × pieces_fit T.spelling items.now st × IsAt S.pos S.known serializer.new (state_after_all T.spelling items.now st))
-        (pieces_refused T.spelling items.now st) result }
+        → LaysData S.Writer serializer.old serializer.new (pieces (A.spelling with.now) items.now st)
+        (λ all. (take (length items.now) all ≡ resolvers (A.spelling with.now) items.now st) × pieces_fit (A.spelling with.now) items.now st × IsAt S.pos S.known serializer.new (state_after_all (A.spelling with.now) items.now st))
+        (pieces_refused (A.spelling with.now) items.now st) result }
 {
     let first = match step(&items[0], serializer) {
         Ok(done) => done.0,
@@ -107,70 +109,73 @@ fn serialize_few_each<
 /// written before. It is a function that is not inlined, so that the code for few items stays short where that is
 /// inlined.
 #[inline(never)]
-fn resolve_buffered<T: Archive, S: Writer + Allocator>(
+fn resolve_buffered<T, A: ArchiveWith<T>, S: Writer + Allocator>(
+    with: &A,
     items: &[T],
-    kept: &[T::Resolver],
+    kept: &[A::Resolver],
     serializer: &mut S,
 ) -> Result<(), Error>
     requires room { S.failures serializer.old < 2 ^ 64 - 1 }
-    requires made { (st : State) × (kept.now ≡ resolvers T.spelling items.now st) }
-    ensures { (st : State) → kept.now ≡ resolvers T.spelling items.now st
-        → Lays S.Writer serializer.old serializer.new (owns T.spelling items.now st (S.pos serializer.old))
-        (λ _. owns_fit T.spelling T.Archived.shape items.now st (S.pos serializer.old))
-        (owns_refused T.spelling T.Archived.shape items.now st (S.pos serializer.old)) result }
+    requires made { (st : State) × (kept.now ≡ resolvers (A.spelling with.now) items.now st) }
+    ensures { (st : State) → kept.now ≡ resolvers (A.spelling with.now) items.now st
+        → Lays S.Writer serializer.old serializer.new (owns (A.spelling with.now) items.now st (S.pos serializer.old))
+        (λ _. owns_fit (A.spelling with.now) A.Archived.shape items.now st (S.pos serializer.old))
+        (owns_refused (A.spelling with.now) A.Archived.shape items.now st (S.pos serializer.old)) result }
 {
-    let size = T::Archived::SIZE;
+    let size = A::Archived::SIZE;
     if size <= BUFFER {
         let mut buffer = [0; BUFFER];
-        return resolve_through(items, kept, serializer, &mut buffer);
+        return resolve_through(with, items, kept, serializer, &mut buffer);
     }
     match vec![in serializer.memory(); 0u8; size] {
-        Ok(mut buffer) => resolve_through(items, kept, serializer, buffer.as_mut_slice()),
+        Ok(mut buffer) => resolve_through(with, items, kept, serializer, buffer.as_mut_slice()),
         Err(_) => Err(Error::OutOfMemory),
     }
 }
 
 /// Writes the own bytes of adjacent items. Their data was written before.
 #[inline(always)]
-fn resolve_items<T: Archive, S: Writer + Allocator>(
+fn resolve_items<T, A: ArchiveWith<T>, S: Writer + Allocator>(
+    with: &A,
     items: &[T],
-    kept: &[T::Resolver],
+    kept: &[A::Resolver],
     serializer: &mut S,
 ) -> Result<(), Error>
     requires room { S.failures serializer.old < 2 ^ 64 - 1 }
-    requires made { (st : State) × (kept.now ≡ resolvers T.spelling items.now st) }
-    ensures { (st : State) → kept.now ≡ resolvers T.spelling items.now st
-        → Lays S.Writer serializer.old serializer.new (owns T.spelling items.now st (S.pos serializer.old))
-        (λ _. owns_fit T.spelling T.Archived.shape items.now st (S.pos serializer.old))
-        (owns_refused T.spelling T.Archived.shape items.now st (S.pos serializer.old)) result }
+    requires made { (st : State) × (kept.now ≡ resolvers (A.spelling with.now) items.now st) }
+    ensures { (st : State) → kept.now ≡ resolvers (A.spelling with.now) items.now st
+        → Lays S.Writer serializer.old serializer.new (owns (A.spelling with.now) items.now st (S.pos serializer.old))
+        (λ _. owns_fit (A.spelling with.now) A.Archived.shape items.now st (S.pos serializer.old))
+        (owns_refused (A.spelling with.now) A.Archived.shape items.now st (S.pos serializer.old)) result }
 {
-    if are_few::<T::Archived>(items.len(), serializer.pos()) {
-        return resolve_at_once(items, kept, serializer);
+    if are_few::<A::Archived>(items.len(), serializer.pos()) {
+        return resolve_at_once(with, items, kept, serializer);
     }
-    resolve_buffered(items, kept, serializer)
+    resolve_buffered(with, items, kept, serializer)
 }
 
 /// Writes the own bytes of adjacent items from the next position of their alignment on. Their data was written before.
 /// Returns the position of the first.
 #[inline(always)]
-fn resolve_behind<T: Archive, S: Writer + Allocator>(
+fn resolve_behind<T, A: ArchiveWith<T>, S: Writer + Allocator>(
+    with: &A,
     items: &[T],
-    kept: &[T::Resolver],
+    kept: &[A::Resolver],
     serializer: &mut S,
 ) -> Result<usize, Error>
     requires room { S.failures serializer.old < 2 ^ 64 - 1 }
-    requires made { (st : State) × (kept.now ≡ resolvers T.spelling items.now st) }
-    ensures { (st : State) → kept.now ≡ resolvers T.spelling items.now st
-        → LaysBehind T.Archived.shape T.spelling S.Writer items.now st serializer.old serializer.new (S.pos serializer.old) result }
+    requires made { (st : State) × (kept.now ≡ resolvers (A.spelling with.now) items.now st) }
+    ensures { (st : State) → kept.now ≡ resolvers (A.spelling with.now) items.now st
+        → LaysBehind A.Archived.shape (A.spelling with.now) S.Writer items.now st serializer.old serializer.new (S.pos serializer.old) result }
 {
-    let to = match align(serializer, T::Archived::ALIGN) {
+    let to = match align(serializer, A::Archived::ALIGN) {
         Ok(to) => to,
         Err(e) => return Err(e),
     };
     if to > LAST_POSITION {
         return Err(Error::PositionTooLarge);
     }
-    match resolve_items(items, kept, serializer) {
+    match resolve_items(with, items, kept, serializer) {
         Ok(()) => Ok(to),
         Err(e) => Err(e),
     }
@@ -178,6 +183,36 @@ fn resolve_behind<T: Archive, S: Writer + Allocator>(
 
 /// Writes the data of each item by the step, and then the own bytes of all items from the next position of their
 /// alignment on. Returns the position of the first. Returns `PositionTooLarge` if it is more than 2^32 - 1.
+pub fn serialize_slice_with_each<
+    T,
+    A: ArchiveWith<T>,
+    S: Writer + Allocator,
+    F: Fn(&T, &mut S) -> Result<(A::Resolver, PhantomData<A::Archived>), Error>,
+>(with: &A, items: &[T], serializer: &mut S, step: F) -> Result<usize, Error>
+    requires room { S.failures serializer.old < 2 ^ 64 - 1 }
+    requires state { HasState S.pos S.known serializer.old }
+    requires takes { StepTakes F.Fn S.Writer step items.now }
+    requires writes { StepWrites F.Fn (λ q. q.0) (A.spelling with.now) S.Writer step }
+    ensures { Serializes (slice_spelling A.Archived.shape (A.spelling with.now)) S.Writer items.now
+        serializer.old serializer.new result }
+{
+    let none: Option<A::Resolver> = None;
+    if size_of_val(&none) <= MAX_KEPT_SIZE && !items.is_empty() && items.len() <= MAX_KEPT {
+        let few = match serialize_few_each(with, items, serializer, step) {
+            Ok(few) => few,
+            Err(e) => return Err(e),
+        };
+        return resolve_behind(with, items, &few[..items.len()], serializer);
+    }
+    let kept = match serialize_data_each(with, items, serializer, step) {
+        Ok(kept) => kept,
+        Err(e) => return Err(e),
+    };
+    resolve_behind(with, items, kept.as_slice(), serializer)
+}
+
+/// Writes the data of each item by the step, and then the own bytes of all items, as `serialize_slice_with_each` does.
+/// The items are archived by `Archive`.
 pub fn serialize_slice_each<
     T: Archive,
     S: Writer + Allocator,
@@ -190,19 +225,7 @@ pub fn serialize_slice_each<
     ensures { Serializes (slice_spelling T.Archived.shape T.spelling) S.Writer items.now
         serializer.old serializer.new result }
 {
-    let none: Option<T::Resolver> = None;
-    if size_of_val(&none) <= MAX_KEPT_SIZE && !items.is_empty() && items.len() <= MAX_KEPT {
-        let few = match serialize_few_each(items, serializer, step) {
-            Ok(few) => few,
-            Err(e) => return Err(e),
-        };
-        return resolve_behind(items, &few[..items.len()], serializer);
-    }
-    let kept = match serialize_data_each(items, serializer, step) {
-        Ok(kept) => kept,
-        Err(e) => return Err(e),
-    };
-    resolve_behind(items, kept.as_slice(), serializer)
+    serialize_slice_with_each::<T, ByArchive, S, F>(&ByArchive, items, serializer, step)
 }
 
 /// Writes the data of a value by the step, and then its own bytes at the next position of its alignment. Returns this

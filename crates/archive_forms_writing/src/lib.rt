@@ -24,12 +24,14 @@ mod tuple4;
 mod unit;
 mod vector;
 
-pub use archive::{Archive, Serialize};
+pub use archive::{Archive, ArchiveWith, ByArchive, Serialize};
 pub use array::serialize_array_each;
 pub use boxed::serialize_box_each;
 pub use boxed_slices::{serialize_boxed_slice_each, serialize_str};
 pub use bytes::serialize_using;
-pub use elements::{serialize_element, serialize_one_each, serialize_slice_each};
+pub use elements::{
+    serialize_element, serialize_one_each, serialize_slice_each, serialize_slice_with_each,
+};
 pub use fields::resolve_field;
 pub use key::KeyOf;
 pub use leaf::Leaf;

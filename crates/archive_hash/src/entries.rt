@@ -11,7 +11,7 @@ ghost use Rattle.archive_hash.specs.Given.{TakesGiven, WritesEntries, entry_of, 
 
 use archive_forms_borrowed::{EntryAdapter, EntryResolver, EntryStep};
 use archive_forms_values::Entry;
-use archive_forms_writing::Archive;
+use archive_forms_writing::{Archive, ByArchive};
 use archive_hash_maps::HashTableResolver;
 use archive_hash_probing::{Scan, hash_key};
 use archive_hash_writing::serialize_from_iter_scan_each;
@@ -48,7 +48,12 @@ impl<'a, K: 'a, V: 'a, I: Iterator<Item = (&'a K, &'a V)>> Iterator for Entries<
 }
 
 /// Writes the data of an entry by a step.
-fn serialize_by_step<K: Archive, V: Archive, S: Writer + Allocator, C: EntryStep<K, V, S>>(
+fn serialize_by_step<
+    K: Archive,
+    V: Archive,
+    S: Writer + Allocator,
+    C: EntryStep<K, V, ByArchive, S>,
+>(
     entry: &EntryAdapter<'_, K, V>,
     serializer: &mut S,
     step: &C,
@@ -59,14 +64,14 @@ fn serialize_by_step<K: Archive, V: Archive, S: Writer + Allocator, C: EntryStep
     ),
     Error,
 >
-    requires taken { C.takes step.now (entry_of entry.now) }
+    requires taken { C.takes step.now (record {}) (entry_of entry.now) }
     requires room { S.failures serializer.old < 2 ^ 64 - 1 }
     requires state { HasState S.pos S.known serializer.old }
     ensures { SerializesBy (λ q. q.0)
         (entry_spelling K.Archived.shape K.spelling V.Archived.shape V.spelling) S.Writer entry.now
         serializer.old serializer.new result }
 {
-    match step.serialize_entry(entry.key, entry.value, serializer) {
+    match step.serialize_entry(&ByArchive, entry.key, entry.value, serializer) {
         Ok(done) => Ok((
             EntryResolver {
                 key: done.0,
@@ -87,7 +92,7 @@ pub(crate) fn serialize_entries_scan_each<
     V: Archive + 'a,
     S: Writer + Allocator,
     I: Iterator<Item = (&'a K, &'a V)>,
-    C: EntryStep<K, V, S>,
+    C: EntryStep<K, V, ByArchive, S>,
 >(
     len: usize,
     pairs: I,
@@ -98,7 +103,7 @@ pub(crate) fn serialize_entries_scan_each<
     requires calls { I.can_next pairs × IsFinite (I.remaining pairs) }
     requires room { S.failures serializer.old < 2 ^ 64 - 1 }
     requires state { HasState S.pos S.known serializer.old }
-    requires takes { TakesGiven I.next_gives C.takes step.now pairs }
+    requires takes { TakesGiven I.next_gives (C.takes step.now) (record {}) pairs }
     ensures { WritesEntries (Drains (GivesAs deref_pair I.next_gives) pairs)
         (λ k. input_hash (K.hash_input k)) load_factor K.Archived.shape V.Archived.shape K.spelling
         V.spelling S.Writer len serializer.old serializer.new result }
@@ -122,7 +127,7 @@ pub(crate) fn serialize_entries_scan_each<
             ),
             Error,
         >
-            requires taken { C.takes step.now (entry_of entry.now) }
+            requires taken { C.takes step.now (record {}) (entry_of entry.now) }
             requires room { S.failures s.old < 2 ^ 64 - 1 }
             requires state { HasState S.pos S.known s.old }
             ensures { SerializesBy (λ q. q.0)

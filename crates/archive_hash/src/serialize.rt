@@ -10,7 +10,7 @@ ghost use Rattle.archive_hash.specs.Owned.{entries_spelling};
 use crate::entries::serialize_entries_scan_each;
 use crate::map::{LOAD_FACTOR, OwnedHashMap};
 use archive_forms_borrowed::{EntryStep, SerializeEntry};
-use archive_forms_writing::{Archive, Serialize};
+use archive_forms_writing::{Archive, ByArchive, Serialize};
 use archive_hash_maps::HashTableResolver;
 use archive_hash_probing::{Group, Scan};
 use archive_shape::{Allocator, Error, Writer};
@@ -24,7 +24,7 @@ fn serialize_rest_scan_each<
     K: Archive + Hash + 'a,
     V: Archive + 'a,
     S: Writer + Allocator,
-    C: EntryStep<K, V, S>,
+    C: EntryStep<K, V, ByArchive, S>,
 >(
     len: usize,
     pairs: Iter<'a, K, V>,
@@ -34,7 +34,7 @@ fn serialize_rest_scan_each<
     requires counted { len ≡ length pairs }
     requires room { S.failures serializer.old < 2 ^ 64 - 1 }
     requires state { HasState S.pos S.known serializer.old }
-    requires takes { TakesGiven (TakesFirst deref_pair) C.takes step.now pairs }
+    requires takes { TakesGiven (TakesFirst deref_pair) (C.takes step.now) (record {}) pairs }
     ensures { Serializes (entries_spelling
         (λ k. input_hash (K.hash_input k)) K.Archived.shape V.Archived.shape K.spelling V.spelling)
         S.Writer pairs.entry serializer.old serializer.new result }
@@ -49,11 +49,11 @@ pub fn serialize_map_scan_each<
     K: Archive + Eq + Hash,
     V: Archive,
     S: Writer + Allocator,
-    C: EntryStep<K, V, S>,
+    C: EntryStep<K, V, ByArchive, S>,
 >(map: &OwnedHashMap<K, V>, serializer: &mut S, step: &C) -> Result<HashTableResolver, Error>
     requires room { S.failures serializer.old < 2 ^ 64 - 1 }
     requires state { HasState S.pos S.known serializer.old }
-    requires takes { All (C.takes step.now) map.now.map.entries }
+    requires takes { All (C.takes step.now (record {})) map.now.map.entries }
     ensures { Serializes (seen_as (λ m. m.map.entries) (entries_spelling (λ k. input_hash (K.hash_input k)) K.Archived.shape V.Archived.shape K.spelling V.spelling)) S.Writer map.now serializer.old serializer.new result }
 {
     serialize_rest_scan_each::<G, K, V, S, C>(map.map.len(), map.map.iter(), serializer, step)
@@ -64,11 +64,11 @@ pub fn serialize_map_each<
     K: Archive + Eq + Hash,
     V: Archive,
     S: Writer + Allocator,
-    C: EntryStep<K, V, S>,
+    C: EntryStep<K, V, ByArchive, S>,
 >(map: &OwnedHashMap<K, V>, serializer: &mut S, step: &C) -> Result<HashTableResolver, Error>
     requires room { S.failures serializer.old < 2 ^ 64 - 1 }
     requires state { HasState S.pos S.known serializer.old }
-    requires takes { All (C.takes step.now) map.now.map.entries }
+    requires takes { All (C.takes step.now (record {})) map.now.map.entries }
     ensures { Serializes (seen_as (λ m. m.map.entries) (entries_spelling (λ k. input_hash (K.hash_input k)) K.Archived.shape V.Archived.shape K.spelling V.spelling)) S.Writer map.now serializer.old serializer.new result }
 {
     serialize_map_scan_each::<Group, K, V, S, C>(map, serializer, step)

@@ -15,7 +15,7 @@ use crate::OwnedHashSet;
 use crate::entries::serialize_entries_scan_each;
 use crate::map::LOAD_FACTOR;
 use archive_forms_borrowed::{EntryStep, SerializeEntry};
-use archive_forms_writing::{Archive, Serialize};
+use archive_forms_writing::{Archive, ByArchive, Serialize};
 use archive_hash_maps::HashTableResolver;
 use archive_hash_probing::{Group, Scan};
 use archive_shape::{Allocator, Error, Writer};
@@ -63,7 +63,7 @@ fn serialize_keys_scan_each<
     G: Scan,
     K: Archive + Hash + 'a,
     S: Writer + Allocator,
-    C: EntryStep<K, (), S>,
+    C: EntryStep<K, (), ByArchive, S>,
 >(
     len: usize,
     entries: KeyEntries<'a, K>,
@@ -73,7 +73,7 @@ fn serialize_keys_scan_each<
     requires counted { len ≡ length entries }
     requires room { S.failures serializer.old < 2 ^ 64 - 1 }
     requires state { HasState S.pos S.known serializer.old }
-    requires takes { TakesGiven (TakesFirst deref_pair) C.takes step.now entries }
+    requires takes { TakesGiven (TakesFirst deref_pair) (C.takes step.now) (record {}) entries }
     ensures { Serializes (entries_spelling (λ k. input_hash (K.hash_input k)) K.Archived.shape
         (tuple no_shapes) K.spelling unit_spelling) S.Writer entries.entry
         serializer.old serializer.new result }
@@ -87,11 +87,11 @@ pub fn serialize_set_scan_each<
     G: Scan,
     K: Archive + Eq + Hash,
     S: Writer + Allocator,
-    C: EntryStep<K, (), S>,
+    C: EntryStep<K, (), ByArchive, S>,
 >(set: &OwnedHashSet<K>, serializer: &mut S, step: &C) -> Result<HashTableResolver, Error>
     requires room { S.failures serializer.old < 2 ^ 64 - 1 }
     requires state { HasState S.pos S.known serializer.old }
-    requires takes { All (C.takes step.now) (key_entries set.now.set.keys) }
+    requires takes { All (C.takes step.now (record {})) (key_entries set.now.set.keys) }
     ensures { Serializes (seen_as (λ s. key_entries s.set.keys) (entries_spelling (λ k. input_hash (K.hash_input k)) K.Archived.shape (tuple no_shapes) K.spelling unit_spelling)) S.Writer set.now serializer.old serializer.new result }
 {
     let entries = KeyEntries {
@@ -101,14 +101,14 @@ pub fn serialize_set_scan_each<
 }
 
 /// Writes the hash table of a set, as `serialize_set_scan_each` does, by the widest scan.
-pub fn serialize_set_each<K: Archive + Eq + Hash, S: Writer + Allocator, C: EntryStep<K, (), S>>(
-    set: &OwnedHashSet<K>,
-    serializer: &mut S,
-    step: &C,
-) -> Result<HashTableResolver, Error>
+pub fn serialize_set_each<
+    K: Archive + Eq + Hash,
+    S: Writer + Allocator,
+    C: EntryStep<K, (), ByArchive, S>,
+>(set: &OwnedHashSet<K>, serializer: &mut S, step: &C) -> Result<HashTableResolver, Error>
     requires room { S.failures serializer.old < 2 ^ 64 - 1 }
     requires state { HasState S.pos S.known serializer.old }
-    requires takes { All (C.takes step.now) (key_entries set.now.set.keys) }
+    requires takes { All (C.takes step.now (record {})) (key_entries set.now.set.keys) }
     ensures { Serializes (seen_as (λ s. key_entries s.set.keys) (entries_spelling (λ k. input_hash (K.hash_input k)) K.Archived.shape (tuple no_shapes) K.spelling unit_spelling)) S.Writer set.now serializer.old serializer.new result }
 {
     serialize_set_scan_each::<Group, K, S, C>(set, serializer, step)

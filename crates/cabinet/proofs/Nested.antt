@@ -1,10 +1,10 @@
--- The number of regions around each region of a document: at most one for each container around it, and the root's.
-use Rattle.std.proofs.Common.{◌≡◌, ℕ, zero, suc, ◌+◌, ◌<◌, ◌≤◌, Bool, true, false, cond, List, [], ◌∷◌, ◌++◌, refl, sym, ap, subst, ◌∙◌, arith}
+-- The number of regions around each region of a document: for each container around it at most as many as a search tree
+-- has levels, and the root's.
+use Rattle.std.proofs.Common.{◌≡◌, ℕ, zero, suc, ◌+◌, ◌*◌, ◌<◌, ◌≤◌, Bool, true, false, cond, List, [], ◌∷◌, ◌++◌, refl, sym, ap, subst, ◌∙◌, arith}
 use Rattle.std.specs.Prelude.{⊤}
-use Rattle.std.specs.List.{Contains, flat_map}
-use Rattle.std.proofs.lemmas.List.Elements.{Contains-append_left, Contains-append_right}
+use Rattle.std.specs.List.{Contains}
 use Rattle.archive_shape.specs.ShapeLayout.Value.{Value, Values}
-use Rattle.archive_shape.specs.ShapeLayout.Content.{Part, Span, Label, content_of}
+use Rattle.archive_shape.specs.ShapeLayout.Content.{Part, Span, Label, Content, content_of}
 use Rattle.archive_shape.specs.ShapeLayout.Content.Part.{behind}
 use Rattle.archive_shape.specs.ShapeLayout.Content.Content.{plain, claimed}
 use Rattle.archive_shape.specs.ShapeLayout.Holds.{Region, region_of, Visit, OpenShared, Holds, HoldAll}
@@ -16,55 +16,63 @@ use Rattle.cabinet_archived.specs.Documents.Node.{node_names}
 use Rattle.cabinet_archived.specs.Documents.Walk.{Stop, Walks, WalkAll, is_container, depth_in, parts_of, joined}
 use Rattle.cabinet_archived.specs.Documents.Walk.Walks.{walks}
 use Rattle.cabinet_archived.specs.Documents.Walk.WalkAll.{walk_more}
-use Rattle.cabinet_archived.proofs.Documents.Places.{Place, shared_here, box_here, absent_here, node_behind, nodes_behind, text_behind, Spot, part_of, parts_at, nodes_from, is_behind, Passes, node_passes, box_passes, behind_passes, list_passes, text_passes, Pays, pays_truth, pays_number, pays_text, pays_shared, pays_option, pays_list, pays_absent, Follows, passes, pays, truth_is, number_is, text_is, behind_is, none_is, some_is, nodes_follow, Leads, leads_nowhere, leads_absent, leads_plain, leads_claimed, leads_counted, led}
+use Rattle.cabinet_archived.proofs.Documents.Places.{Place, shared_here, box_here, tree_node, tree_child, absent_here, node_behind, nodes_behind, text_behind, Spot, part_of, parts_at, nodes_from, entries_from, children_from, is_behind, Passes, node_passes, box_passes, behind_passes, list_passes, text_passes, child_passes, Pays, pays_truth, pays_number, pays_text, pays_shared, pays_option, pays_list, pays_ordered, pays_absent, Follows, passes, pays, truth_is, number_is, text_is, behind_is, none_is, some_is, nodes_follow, empty_is, total_is, leaf_follows, inner_follows, no_child_is, entry_follows, Leads, leads_nowhere, leads_absent, leads_plain, leads_claimed, leads_counted, led}
 use Rattle.cabinet_archived.proofs.Documents.Nodes.{absent_law, counts}
-use Rattle.cabinet_documents.proofs.Peaks.{flat}
+use Rattle.cabinet_archived.proofs.Documents.Stops.{Each, each_front, each_flat, flat}
 
--- ---- how many regions may lie around a place inside `depth` containers
+-- ---- how many regions may lie around a place
 
--- between a container and the region that it leads to
-abbrev is_between : Place → Bool
-is_between box_here = true
-is_between node_behind = true
-is_between (nodes_behind len) = true
-is_between k = false
-
--- how many more regions than containers may lie around a place
+-- the most regions around a place inside no container, and the 32 levels of a search tree
 abbrev pub spare : Place → ℕ
-spare k = cond (is_between k) 0 1
+spare (tree_node level) = level
+spare (tree_child level) = level
+spare box_here = 32
+spare node_behind = 32
+spare (nodes_behind len) = 32
+spare k = 33
 
-spare_low : (b : Bool) → cond b 0 1 ≤ 1
-spare_low true = omega arith
-spare_low false = omega arith
+-- the number of regions around a place inside `depth` containers is as low as that
+abbrev pub Fits : ℕ → ℕ → Place → Type 0
+Fits level depth k = level + 32 ≤ 32 * depth + spare k
 
--- no more lie around each of these
 abbrev pub Fit : ℕ → ℕ → List Spot → Type 0
 Fit level depth [] = ⊤
-Fit level depth (q ∷ qs) = (level ≤ depth + spare q.place) × Fit level depth qs
+Fit level depth (q ∷ qs) = Fits level depth q.place × Fit level depth qs
 
-nodes_fit : (level depth pos n : ℕ) → level ≤ depth + 1 → Fit level depth (nodes_from pos n)
-nodes_fit level depth pos zero h = tt
-nodes_fit level depth pos (suc n) h = (h, nodes_fit level depth (pos + 24) n h)
+module _ (level depth : ℕ) where
+  nodes_fit : (pos n : ℕ) → level + 32 ≤ 32 * depth + 33 → Fit level depth (nodes_from pos n)
+  nodes_fit pos zero h = tt
+  nodes_fit pos (suc n) h = (h, nodes_fit (pos + 24) n h)
 
-passes_fit : {bytes : List ℕ} {k j : Place} (level depth pos : ℕ) → Passes bytes k j → level ≤ depth + spare k → level ≤ depth_in depth (part_of k pos) + spare j
+  entries_fit : (n key value : ℕ) → level + 32 ≤ 32 * depth + 33 → Fit level depth (entries_from n key value)
+  entries_fit zero key value h = tt
+  entries_fit (suc n) key value h = (h, entries_fit n (key + 8) (value + 24) h)
+
+  branches_fit : (n deeper link : ℕ) (es : List Spot) → level + 32 ≤ 32 * depth + deeper → Fit level depth es → Fit level depth (children_from n deeper link ++ es)
+  branches_fit zero deeper link es h k = k
+  branches_fit (suc n) deeper link es h k = (h, branches_fit n deeper (link + 4) es h k)
+
+passes_fit : {bytes : List ℕ} {k j : Place} (level depth pos : ℕ) → Passes bytes k j → Fits level depth k → Fits level (depth_in depth (part_of k pos)) j
 passes_fit level depth pos node_passes h = h
 passes_fit level depth pos box_passes h = h
 passes_fit level depth pos behind_passes h = omega (arith, h)
 passes_fit level depth pos (list_passes small) h = omega (arith, h)
 passes_fit level depth pos text_passes h = h
+passes_fit level depth pos child_passes h = h
 
-pays_fit : {tag : ℕ} {j : Place} → Pays tag j → spare j ≡ 1
+pays_fit : {tag : ℕ} {j : Place} → Pays tag j → spare j ≡ 33
 pays_fit pays_truth = refl
 pays_fit pays_number = refl
 pays_fit pays_text = refl
 pays_fit pays_shared = refl
 pays_fit pays_option = refl
 pays_fit pays_list = refl
+pays_fit pays_ordered = refl
 pays_fit (pays_absent z) = refl
 
 -- what follows a place without its own region
 plain_fit : {bytes : List ℕ} {k : Place} {l : Label} {qs : List Spot} (level depth pos : ℕ)
-    → Follows bytes k l qs → level ≤ depth + spare k → Fit level (depth_in depth (part_of k pos)) qs
+    → Follows bytes k l qs → Fits level depth k → Fit level (depth_in depth (part_of k pos)) qs
 plain_fit {k = k} level depth pos (passes p e f) h = subst (Fit level (depth_in depth (part_of k pos))) (sym f) (passes_fit level depth pos p h, tt)
 plain_fit level depth pos (pays p e f) h = let z = pays_fit p in subst (Fit level depth) (sym f) (omega (arith, z, h), tt)
 plain_fit level depth pos (truth_is e f) h = subst (Fit level depth) (sym f) tt
@@ -74,72 +82,86 @@ plain_fit level depth pos (behind_is e f) h = subst (Fit level depth) (sym f) tt
 plain_fit level depth pos (none_is e f) h = subst (Fit level (depth + 1)) (sym f) tt
 plain_fit level depth pos (some_is e f) h = subst (Fit level (depth + 1)) (sym f) (omega (arith, h), tt)
 plain_fit level depth pos (nodes_follow {len = len} start e f) h = subst (Fit level depth) (sym f) (nodes_fit level depth start len (omega (arith, h)))
+plain_fit level depth pos (empty_is e f) h = subst (Fit level (depth + 1)) (sym f) tt
+plain_fit level depth pos (total_is small e f) h = subst (Fit level (depth + 1)) (sym f) (omega (arith, h), tt)
+plain_fit level depth pos (leaf_follows n key value low e f) h = subst (Fit level depth) (sym f) (entries_fit level depth n key value (omega (arith, low, h)))
+plain_fit level depth pos (inner_follows most deeper link key value low next e f) h =
+    subst (Fit level depth) (sym f) (branches_fit level depth (suc most) deeper link (entries_from most key value) (omega (arith, next, h)) (entries_fit level depth most key value (omega (arith, low, h))))
+plain_fit level depth pos (no_child_is e f) h = subst (Fit level depth) (sym f) tt
+plain_fit level depth pos (entry_follows e f) h = subst (Fit level depth) (sym f) (h, (h, tt))
 
--- and one with
+-- what follows a place in its own region, which is not at a level above a tree's highest
+record ClaimedFit (level depth : ℕ) (k : Place) (qs : List Spot) : Type 0 where
+  inner : Fit (suc level) depth qs
+  low : spare k ≤ 33
+
 claimed_fit : {bytes : List ℕ} {k : Place} {l : Label} {qs : List Spot} (level depth pos : ℕ)
-    → Follows bytes k l qs → is_behind k ≡ true → level ≤ depth + spare k → Fit (suc level) (depth_in depth (part_of k pos)) qs
+    → Follows bytes k l qs → is_behind k ≡ true → Fits level depth k → ClaimedFit level (depth_in depth (part_of k pos)) k qs
 claimed_fit level depth pos (passes node_passes e f) b h = absurd (cc)
 claimed_fit level depth pos (passes box_passes e f) b h = absurd (cc)
-claimed_fit level depth pos (passes behind_passes e f) b h = subst (Fit (suc level) depth) (sym f) (omega (arith, h), tt)
+claimed_fit level depth pos (passes behind_passes e f) b h = record { inner = subst (Fit (suc level) depth) (sym f) (omega (arith, h), tt); low = omega arith }
 claimed_fit level depth pos (passes (list_passes small) e f) b h = absurd (cc)
 claimed_fit level depth pos (passes text_passes e f) b h = absurd (cc)
+claimed_fit level depth pos (passes child_passes e f) b h = absurd (cc)
 claimed_fit level depth pos (pays p e f) b h = absurd (cc)
 claimed_fit level depth pos (truth_is e f) b h = absurd (cc)
 claimed_fit level depth pos (number_is e fits f) b h = absurd (cc)
 claimed_fit level depth pos (text_is e f) b h = absurd (cc)
-claimed_fit level depth pos (behind_is e f) b h = subst (Fit (suc level) depth) (sym f) tt
+claimed_fit level depth pos (behind_is e f) b h = record { inner = subst (Fit (suc level) depth) (sym f) tt; low = omega arith }
 claimed_fit level depth pos (none_is e f) b h = absurd (cc)
 claimed_fit level depth pos (some_is e f) b h = absurd (cc)
-claimed_fit level depth pos (nodes_follow {len = len} start e f) b h = subst (Fit (suc level) depth) (sym f) (nodes_fit (suc level) depth start len (omega (arith, h)))
+claimed_fit level depth pos (nodes_follow {len = len} start e f) b h = record { inner = subst (Fit (suc level) depth) (sym f) (nodes_fit (suc level) depth start len (omega (arith, h))); low = omega arith }
+claimed_fit level depth pos (empty_is e f) b h = absurd (cc)
+claimed_fit level depth pos (total_is small e f) b h = absurd (cc)
+claimed_fit level depth pos (leaf_follows n key value low e f) b h = record {
+  inner = subst (Fit (suc level) depth) (sym f) (entries_fit (suc level) depth n key value (omega (arith, low, h)));
+  low = omega (arith, low);
+}
+claimed_fit level depth pos (inner_follows most deeper link key value low next e f) b h = record {
+  inner =
+      subst (Fit (suc level) depth) (sym f)
+      (branches_fit (suc level) depth (suc most) deeper link (entries_from most key value) (omega (arith, next, h)) (entries_fit (suc level) depth most key value (omega (arith, low, h))));
+  low = omega (arith, low);
+}
+claimed_fit level depth pos (no_child_is e f) b h = absurd (cc)
+claimed_fit level depth pos (entry_follows e f) b h = absurd (cc)
 
 -- ---- walks
 
--- at no place is a node of a search tree
-in_order : {bytes : List ℕ} {k : Place} {l : Label} {qs : List Spot} (s : Span) (ps : List Part) (runs : List (List Stop)) → Follows bytes k l qs → joined (claimed s l ps) runs ≡ flat runs
-in_order s ps runs (passes p e f) = ap (λ x. joined (claimed s x ps) runs) e
-in_order s ps runs (pays p e f) = ap (λ x. joined (claimed s x ps) runs) e
-in_order s ps runs (truth_is e f) = ap (λ x. joined (claimed s x ps) runs) e
-in_order s ps runs (number_is e fits f) = ap (λ x. joined (claimed s x ps) runs) e
-in_order s ps runs (text_is e f) = ap (λ x. joined (claimed s x ps) runs) e
-in_order s ps runs (behind_is e f) = ap (λ x. joined (claimed s x ps) runs) e
-in_order s ps runs (none_is e f) = ap (λ x. joined (claimed s x ps) runs) e
-in_order s ps runs (some_is e f) = ap (λ x. joined (claimed s x ps) runs) e
-in_order s ps runs (nodes_follow start e f) = ap (λ x. joined (claimed s x ps) runs) e
+-- a container does not lie inside 64 others
+abbrev pub IsLow : Stop → Type 0
+IsLow s = is_container s.part ≡ true → s.depth < 64
 
--- no container lies inside 64 others
-abbrev pub IsShallow : List Stop → Type 0
-IsShallow walk = (s : Stop) → Contains walk s → is_container s.part ≡ true → s.depth < 64
+pub each_of : (P : Stop → Type 0) (xs : List Stop) → ((s : Stop) → Contains xs s → P s) → Each P xs
+each_of P [] h = tt
+each_of P (x ∷ xs) h = (h x (0, omega arith, refl), each_of P xs (λ s c. h s (suc c.0, (let less = c.1 in omega arith), c.2)))
 
 -- a walk that has visited its first part
 record Entered (depth : ℕ) (p : Part) (runs : List (List Stop)) : Type 0 where
   low : depth_in depth p ≤ 64
-  shallow : IsShallow (flat runs)
+  shallow : Each IsLow (flat runs)
 
 one_deeper : (b : Bool) (depth : ℕ) → depth ≤ 64 → (b ≡ true → depth < 64) → cond b (depth + 1) depth ≤ 64
 one_deeper true depth low h = let own = h refl in omega (arith, own)
 one_deeper false depth low h = low
 
-entered : {depth : ℕ} {p : Part} {v : Value} {walk rest : List Stop} (runs : List (List Stop))
-    → walk ≡ record { depth = depth; part = p; value = v } ∷ rest → rest ≡ flat runs → IsShallow walk → depth ≤ 64 → Entered depth p runs
-entered {depth = depth} {p = p} {v = v} {rest = rest} runs e f h low =
-    let first : Stop = record { depth = depth; part = p; value = v } in
-    let all : IsShallow (first ∷ rest) = subst IsShallow e h in
-    record {
-      low = one_deeper (is_container p) depth low (all first (zero, omega arith, refl));
-      shallow = subst IsShallow f (λ s c. all s (Contains-append_right (first ∷ []) rest s c));
-    }
+entered : {depth : ℕ} {p : Part} {v : Value} {walk : List Stop} (c : Content) (runs : List (List Stop))
+    → walk ≡ record { depth = depth; part = p; value = v } ∷ joined c runs → Each IsLow walk → depth ≤ 64 → Entered depth p runs
+entered {depth = depth} {p = p} {v = v} c runs e h low =
+    let all : IsLow (record { depth = depth; part = p; value = v }) × Each IsLow (joined c runs) = subst (Each IsLow) e h in
+    record { low = one_deeper (is_container p) depth low all.0; shallow = each_flat IsLow c runs all.1 }
 
 -- ---- regions
 
 module _ (bytes : List ℕ) where
   -- what follows a place in the layout
-  record Next (level depth : ℕ) (p : Part) (l : Label) (ps : List Part) : Type 0 where
+  record Next (level depth : ℕ) (p : Part) (ps : List Part) : Type 0 where
     qs : List Spot
     parts_are : ps ≡ parts_at qs
     fit : Fit level (depth_in depth p) qs
 
   plain_next : (level depth : ℕ) (k : Place) (pos : ℕ) {p : Part} {l : Label} {ps : List Part} → Leads bytes k (content_of node_names bytes (part_of k pos)) → (k ≡ absent_here → ⊥)
-      → p ≡ part_of k pos → content_of node_names bytes p ≡ plain l ps → level ≤ depth + spare k → Next level depth p l ps
+      → p ≡ part_of k pos → content_of node_names bytes p ≡ plain l ps → Fits level depth k → Next level depth p ps
   plain_next level depth k pos (leads_nowhere f) present is e h = let g = ap (content_of node_names bytes) is in absurd (cc)
   plain_next level depth absent_here pos leads_absent present is e h = absurd (present refl)
   plain_next level depth k pos (leads_plain {qs = qs} f fs) present is e h =
@@ -148,83 +170,80 @@ module _ (bytes : List ℕ) where
   plain_next level depth k pos (leads_claimed f fs b) present is e h = let g = ap (content_of node_names bytes) is in absurd (cc)
   plain_next level depth k pos (leads_counted f) present is e h = let g = ap (content_of node_names bytes) is in absurd (cc)
 
-  record NextBehind (level depth : ℕ) (p : Part) (s : Span) (l : Label) (ps : List Part) : Type 0 where
-    next : Next (suc level) depth p l ps
-    flat_is : (runs : List (List Stop)) → joined (claimed s l ps) runs ≡ flat runs
+  record NextBehind (level depth : ℕ) (k : Place) (p : Part) (ps : List Part) : Type 0 where
+    next : Next (suc level) depth p ps
+    low : spare k ≤ 33
 
   claimed_next : (level depth : ℕ) (k : Place) (pos : ℕ) {p : Part} {s : Span} {l : Label} {ps : List Part} → Leads bytes k (content_of node_names bytes (part_of k pos)) → (k ≡ absent_here → ⊥)
-      → p ≡ part_of k pos → content_of node_names bytes p ≡ claimed s l ps → level ≤ depth + spare k → NextBehind level depth p s l ps
+      → p ≡ part_of k pos → content_of node_names bytes p ≡ claimed s l ps → Fits level depth k → NextBehind level depth k p ps
   claimed_next level depth k pos (leads_nowhere f) present is e h = let g = ap (content_of node_names bytes) is in absurd (cc)
   claimed_next level depth absent_here pos leads_absent present is e h = absurd (present refl)
   claimed_next level depth k pos (leads_plain f fs) present is e h = let g = ap (content_of node_names bytes) is in absurd (cc)
   claimed_next level depth k pos (leads_counted f) present is e h = let g = ap (content_of node_names bytes) is in absurd (cc)
-  claimed_next level depth k pos {s = s} {l = l} {ps = ps} (leads_claimed {l = l'} {qs = qs} f fs b) present is e h =
+  claimed_next level depth k pos (leads_claimed {qs = qs} f fs b) present is e h =
       let g = ap (content_of node_names bytes) is in
-      let label : l' ≡ l = cc in
-      record {
-        next = record { qs = qs; parts_are = cc; fit = subst (λ x. Fit (suc level) (depth_in depth x) qs) (sym is) (claimed_fit level depth pos fs b h) };
-        flat_is = λ runs. subst (λ x. joined (claimed s x ps) runs ≡ flat runs) label (in_order s ps runs fs);
-      }
+      let c = claimed_fit level depth pos fs b h in
+      record { next = record { qs = qs; parts_are = cc; fit = subst (λ x. Fit (suc level) (depth_in depth x) qs) (sym is) c.inner }; low = c.low }
 
   present_there : (k : Place) (pos : ℕ) {level : ℕ} {inside : List OpenShared} {p : Part} {v : Value} {regions : List Region} {before after : List Visit}
       → Holds node_names bytes level inside p v regions before after → p ≡ part_of k pos → k ≡ absent_here → ⊥
   present_there k pos {level = level} {inside = inside} {v = v} {regions = regions} {before = before} {after = after} h is f =
       absurd (absent_law bytes level inside pos v regions before after (subst (λ x. Holds node_names bytes level inside x v regions before after) (is ∙ ap (λ x. part_of x pos) f) h))
 
-  region_nests : (level depth : ℕ) (k : Place) (s : Span) → depth ≤ 64 → level ≤ depth + spare k → NestsBelow 66 (region_of s level ∷ [])
+  region_nests : (level depth : ℕ) (k : Place) (s : Span) → depth ≤ 64 → spare k ≤ 33 → Fits level depth k → NestsBelow 2050 (region_of s level ∷ [])
   unfolding NestsBelow
-  region_nests level depth k s low h = let z = spare_low (is_between k) in (omega (arith, z, low, h), tt)
+  region_nests level depth k s low few h = (omega (arith, few, low, h), tt)
 
   -- no more regions lie around a shared text than around the pointer to it
-  counted_fit : (level depth : ℕ) (k : Place) (pos : ℕ) {p : Part} → p ≡ part_of k pos → k ≡ shared_here → level ≤ depth + spare k → level ≤ depth_in depth p + 1
-  counted_fit level depth k pos is here h =
-      let there : level ≤ depth + spare shared_here = subst (λ j. level ≤ depth + spare j) here h in
-      subst (λ x. level ≤ depth_in depth x + 1) (sym (is ∙ ap (λ j. part_of j pos) here)) there
+  counted_fit : (level depth : ℕ) (k : Place) (pos len : ℕ) {p : Part} → p ≡ part_of k pos → k ≡ shared_here → Fits level depth k → Fits level (depth_in depth p) (text_behind len)
+  counted_fit level depth k pos len is here h =
+      let there : Fits level depth shared_here = subst (Fits level depth) here h in
+      subst (λ x. Fits level (depth_in depth x) (text_behind len)) (sym (is ∙ ap (λ j. part_of j pos) here)) there
 
   -- the walk of one part
   record OneWalk (depth : ℕ) (p : Part) : Type 0 where
     value : Value
     walk : List Stop
     walked : Walks node_names bytes depth p value walk
-    shallow : IsShallow walk
+    shallow : Each IsLow walk
 
-  one_walk : {depth : ℕ} {p : Part} {ws : Values} {runs : List (List Stop)} → WalkAll node_names bytes depth (p ∷ []) ws runs → IsShallow (flat runs) → OneWalk depth p
+  one_walk : {depth : ℕ} {p : Part} {ws : Values} {runs : List (List Stop)} → WalkAll node_names bytes depth (p ∷ []) ws runs → Each IsLow (flat runs) → OneWalk depth p
   one_walk (walk_more {v = v} {here = run} {later = others} w all f g) shallow =
-      let both : IsShallow (run ++ flat others) = subst (λ x. IsShallow (flat x)) g shallow in
-      record { value = v; walk = run; walked = w; shallow = λ s c. both s (Contains-append_left run (flat others) s c) }
+      let both = each_front IsLow run (flat others) (subst (λ x. Each IsLow (flat x)) g shallow) in
+      record { value = v; walk = run; walked = w; shallow = both.0 }
 
   mutual
     unfolding NestsBelow
 
-    -- in a walk in which no container lies inside 64 others, at most 66 regions lie in one another
+    -- in a walk in which no container lies inside 64 others, at most 2,050 regions lie in one another
     pub nests : {level depth : ℕ} {inside : List OpenShared} {p : Part} {v w : Value} {regions : List Region} {before after : List Visit} {walk : List Stop}
-        → Holds node_names bytes level inside p v regions before after → Walks node_names bytes depth p w walk → IsShallow walk → depth ≤ 64
-        → (k : Place) (pos : ℕ) → p ≡ part_of k pos → level ≤ depth + spare k → NestsBelow 66 regions
-    nests {level = level} {depth = depth} {p = p} (holds_plain {l = l} {ps = ps} e legal all m) (walks {vs = ws} {inner = runs} wall y is_walk) shallow low k pos is h =
+        → Holds node_names bytes level inside p v regions before after → Walks node_names bytes depth p w walk → Each IsLow walk → depth ≤ 64
+        → (k : Place) (pos : ℕ) → p ≡ part_of k pos → Fits level depth k → NestsBelow 2050 regions
+    nests {level = level} {depth = depth} {p = p} (holds_plain e legal all m) (walks {vs = ws} {inner = runs} wall y is_walk) shallow low k pos is h =
         let n = plain_next level depth k pos (led bytes k pos) (present_there k pos (holds_plain e legal all m) is) is e h in
-        let i = entered runs is_walk (ap (λ c. joined c runs) e) shallow low in
+        let i = entered (content_of node_names bytes p) runs is_walk shallow low in
         all_nest all (subst (λ c. WalkAll node_names bytes (depth_in depth p) (parts_of c) ws runs) e wall) i.shallow i.low n.qs n.parts_are n.fit
-    nests {level = level} {depth = depth} {p = p} (holds_claimed {within = within} {s = s} {l = l} {ps = ps} e legal all m x) (walks {vs = ws} {inner = runs} wall y is_walk) shallow low k pos is h =
+    nests {level = level} {depth = depth} {p = p} (holds_claimed {within = within} {s = s} e legal all m x) (walks {vs = ws} {inner = runs} wall y is_walk) shallow low k pos is h =
         let b = claimed_next level depth k pos (led bytes k pos) (present_there k pos (holds_claimed e legal all m x) is) is e h in
         let n = b.next in
-        let i = entered runs is_walk (ap (λ c. joined c runs) e ∙ b.flat_is runs) shallow low in
+        let i = entered (content_of node_names bytes p) runs is_walk shallow low in
         let inner = all_nest all (subst (λ c. WalkAll node_names bytes (depth_in depth p) (parts_of c) ws runs) e wall) i.shallow i.low n.qs n.parts_are n.fit in
-        subst (NestsBelow 66) (sym x) (NestsBelow-append 66 within (region_of s level ∷ []) inner (region_nests level depth k s low h))
+        subst (NestsBelow 2050) (sym x) (NestsBelow-append 2050 within (region_of s level ∷ []) inner (region_nests level depth k s low b.low h))
     nests {level = level} {depth = depth} {p = p} (holds_first {t = t} {q = q} {len = len} e a b h d g) (walks {vs = ws} {inner = runs} wall y is_walk) shallow low k pos is fit =
         let c = counts bytes k pos (ap (content_of node_names bytes) (sym is) ∙ e) in
-        let i = entered runs is_walk (ap (λ x. joined x runs) e) shallow low in
+        let i = entered (content_of node_names bytes p) runs is_walk shallow low in
         let o = one_walk (subst (λ x. WalkAll node_names bytes (depth_in depth p) (parts_of x) ws runs) e wall) i.shallow in
-        nests h o.walked o.shallow i.low (text_behind len) t (ap (λ x. behind t x len) c.to_text) (counted_fit level depth k pos is c.here fit)
-    nests (holds_later e a b d g h) walked shallow low k pos is fit = subst (NestsBelow 66) (sym g) tt
-    nests (holds_back e a d g h) walked shallow low k pos is fit = subst (NestsBelow 66) (sym g) tt
+        nests h o.walked o.shallow i.low (text_behind len) t (ap (λ x. behind t x len) c.to_text) (counted_fit level depth k pos len is c.here fit)
+    nests (holds_later e a b d g h) walked shallow low k pos is fit = subst (NestsBelow 2050) (sym g) tt
+    nests (holds_back e a d g h) walked shallow low k pos is fit = subst (NestsBelow 2050) (sym g) tt
 
     all_nest : {level depth : ℕ} {inside : List OpenShared} {ps : List Part} {vs ws : Values} {regions : List Region} {before after : List Visit} {runs : List (List Stop)}
-        → HoldAll node_names bytes level inside ps vs regions before after → WalkAll node_names bytes depth ps ws runs → IsShallow (flat runs) → depth ≤ 64
-        → (qs : List Spot) → ps ≡ parts_at qs → Fit level depth qs → NestsBelow 66 regions
-    all_nest (holds_none e f g) walked shallow low qs is fit = subst (NestsBelow 66) (sym f) tt
+        → HoldAll node_names bytes level inside ps vs regions before after → WalkAll node_names bytes depth ps ws runs → Each IsLow (flat runs) → depth ≤ 64
+        → (qs : List Spot) → ps ≡ parts_at qs → Fit level depth qs → NestsBelow 2050 regions
+    all_nest (holds_none e f g) walked shallow low qs is fit = subst (NestsBelow 2050) (sym f) tt
     all_nest (holds_more h hs e r) walked shallow low [] is fit = absurd (cc)
     all_nest (holds_more {here = here} {later = later} h hs e r) (walk_more {here = run} {later = others} w ws f g) shallow low (q ∷ qs) is fit =
-        let both : IsShallow (run ++ flat others) = subst (λ x. IsShallow (flat x)) g shallow in
-        let first = nests h w (λ s c. both s (Contains-append_left run (flat others) s c)) low q.place q.pos (cc) fit.0 in
-        let rest = all_nest hs ws (λ s c. both s (Contains-append_right run (flat others) s c)) low qs (cc) fit.1 in
-        subst (NestsBelow 66) (sym r) (NestsBelow-append 66 here later first rest)
+        let both = each_front IsLow run (flat others) (subst (λ x. Each IsLow (flat x)) g shallow) in
+        let first = nests h w both.0 low q.place q.pos (cc) fit.0 in
+        let rest = all_nest hs ws both.1 low qs (cc) fit.1 in
+        subst (NestsBelow 2050) (sym r) (NestsBelow-append 2050 here later first rest)

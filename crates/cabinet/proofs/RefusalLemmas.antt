@@ -11,16 +11,16 @@ use Rattle.cabinet_archived.specs.Documents.Accepted.{Accepted}
 use Rattle.cabinet_archived.proofs.Documents.Places.{node_behind}
 use Rattle.cabinet_archived.proofs.Documents.Sound.{refused_law as refused_is_not_accepted}
 use Rattle.cabinet.specs.RefusalsLaws.{AcceptedIsNotRefused}
-use Rattle.cabinet.proofs.Nested.{nests}
+use Rattle.cabinet.proofs.Nested.{IsLow, each_of, nests}
 
 pub accepted_passes : (bytes : List ℕ) (t : Tree) → Accepted bytes t → Passes node_names bytes [] [] (root_part bytes) (whole_range (length bytes))
 accepted_passes bytes t a =
-    let inner = nests bytes a.root.holds a.walked (λ s c. (a.sound s c).0) (omega arith) node_behind (root_position (length bytes) node_shape) refl (omega arith) in
+    let inner = nests bytes a.root.holds a.walked (each_of IsLow a.walk (λ s c. (a.sound s c).0)) (omega arith) node_behind (root_position (length bytes) node_shape) refl (omega arith) in
     record {
       value = a.value;
       regions = a.regions;
       after = a.visits;
-      accepts = record { holds = a.root.holds; ascends = a.root.ascends; nests = nests_below_more 66 2199 a.regions (omega arith) inner };
+      accepts = record { holds = a.root.holds; ascends = a.root.ascends; nests = nests_below_more 2050 2199 a.regions (omega arith) inner };
     }
 
 pub accepted_is_not_refused_law : AcceptedIsNotRefused

@@ -1,5 +1,5 @@
 -- The laws of sessions.
-use Rattle.std.proofs.Common.{◌≡◌, ℕ, ◌+◌, suc, zero, List, [], ◌∷◌, take, drop, refl, sym, ap, subst, ◌∙◌, arith, Option, Some, None}
+use Rattle.std.proofs.Common.{◌≡◌, ℕ, ◌+◌, suc, zero, List, [], ◌∷◌, take, refl, sym, ap, subst, ◌∙◌, arith, Option, Some, None}
 use Rattle.archive_shape.specs.ShapeLayout.Value.{Value}
 use Rattle.cabinet_text_grammar.specs.Tree.{Tree, Leaf}
 use Rattle.cabinet_text_grammar.specs.Path.{Step}

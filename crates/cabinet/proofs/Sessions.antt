@@ -11,7 +11,7 @@ use Rattle.cabinet_archived.specs.Documents.Accepted.{Accepted}
 use Rattle.cabinet_archived.specs.Documents.Image.{Image}
 use Rattle.cabinet_archives.specs.Setting.{EditLeaves}
 use Rattle.cabinet.specs.Session.{lines_of, AllSay, answer_to, next, answers, after_all, edits, one_if_done}
-use Rattle.cabinet.specs.Editing.{LineLeaves, LinesLeave, no_line, more_lines, Edited, EditedByLines}
+use Rattle.cabinet.specs.Editing.{LinesLeave, no_line, more_lines, Edited, EditedByLines}
 use Rattle.cabinet.specs.Steps.{longest_line, Carried, CarriedCut}
 
 -- ---- one more element

@@ -1,6 +1,6 @@
 -- The result of a session in the image of a document.
-use Rattle.std.proofs.Common.{◌≡◌, ◌≤◌, ◌++◌, ℕ, List, length, take, drop, Ok, Err, refl, subst, sym, ap, ◌∙◌, append-nil, arith}
-use Rattle.std.specs.Prelude.{Bool, Result, IfOk, IfErr, IsOk}
+use Rattle.std.proofs.Common.{◌≡◌, ◌≤◌, ◌++◌, ℕ, List, length, take, drop, Ok, Err, subst, sym, ap, ◌∙◌, append-nil, arith}
+use Rattle.std.specs.Prelude.{Bool, Result, IfOk, IfErr}
 use Rattle.std.proofs.lemmas.List.{take_all, drop_all}
 use Rattle.cabinet_text_grammar.specs.Tree.{Tree}
 use Rattle.cabinet_archived.specs.Documents.Accepted.{Accepted}

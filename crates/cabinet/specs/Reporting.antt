@@ -3,8 +3,8 @@ use Rattle.std.specs.Prelude.{ℕ, List, ◌++◌, codes, string_bytes}
 use Rattle.std.specs.Fmt.{decimal}
 use Rattle.cabinet_text_grammar.specs.declared.cause.Cause.{Cause}
 use Rattle.cabinet_text_grammar.specs.declared.cause.Cause.TheVariants as cause
-use Rattle.cabinet_archives.specs.declared.opening.opening.OpenRefusal.{OpenRefusal}
-use Rattle.cabinet_archives.specs.declared.opening.opening.OpenRefusal.TheVariants as open_refusal
+use Rattle.cabinet_archives.specs.declared.opening.refusal.OpenRefusal.{OpenRefusal}
+use Rattle.cabinet_archives.specs.declared.opening.refusal.OpenRefusal.TheVariants as open_refusal
 use Rattle.cabinet_archives.specs.declared.saving.saving.SaveRefusal.{SaveRefusal}
 use Rattle.cabinet_archives.specs.declared.saving.saving.SaveRefusal.TheVariants as save_refusal
 use Rattle.cabinet.specs.declared.session.RunCause.{RunCause}
@@ -36,6 +36,7 @@ save_refusal_name save_refusal.OutOfMemory = codes "OutOfMemory"
 abbrev pub open_refusal_name : OpenRefusal → List ℕ
 open_refusal_name (open_refusal.Access e) = codes "Access"
 open_refusal_name open_refusal.TooDeep = codes "TooDeep"
+open_refusal_name open_refusal.KeysNotAscending = codes "KeysNotAscending"
 open_refusal_name open_refusal.OutOfMemory = codes "OutOfMemory"
 
 abbrev pub run_cause_name : RunCause → List ℕ

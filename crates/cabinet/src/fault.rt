@@ -77,6 +77,7 @@ fn name_of_open_refusal(refusal: &OpenRefusal) -> &'static [u8]
     match refusal {
         OpenRefusal::Access(_) => b"Access",
         OpenRefusal::TooDeep => b"TooDeep",
+        OpenRefusal::KeysNotAscending => b"KeysNotAscending",
         OpenRefusal::OutOfMemory => b"OutOfMemory",
     }
 }

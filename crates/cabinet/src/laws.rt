@@ -3,7 +3,7 @@ ghost use Rattle.cabinet.specs.Laws.{AcceptedAfterEachLine, ImageAfterEachLine, 
 
 pub use crate::refusals::accepted_is_not_refused;
 pub use cabinet_documents::{
-    absent_has_no_value, accepted_stands, depth_decides, edit_keeps_accepted, edit_keeps_image,
+    absent_has_no_value, accepted_stands, audit_decides, edit_keeps_accepted, edit_keeps_image,
     edits_in_either_order, fitting_has_layout, lacking_is_refused, leaf_put, leaves_stand,
     node_spells, one_audit_fault, one_document, one_image, one_value, one_walk, own_bytes_apart,
     refused_is_not_accepted, value_denotes, walk_stands, written_is_image,

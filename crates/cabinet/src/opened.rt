@@ -1,6 +1,7 @@
 //! Bytes that are opened as the archive of a document, for questions and edits.
 ghost use Rattle.std.specs.Prelude.{◌≡◌, ◌-◌, ◌^◌, ◌<◌, length, IfOk, IfErr, OnOk};
 ghost use Rattle.archive_shape.specs.ShapeLayout.Holds.{root_position as position_of_root};
+ghost use Rattle.archive_shape.specs.ShapeLayout.Content.Part.{at};
 ghost use Rattle.archive_shape_writing.specs.Writing.{Writes};
 ghost use Rattle.archive_core_validation.specs.FormsValues.Parts.{HasValue};
 ghost use Rattle.cabinet_text_grammar.specs.Tree.{Tree};
@@ -17,6 +18,7 @@ ghost use Rattle.cabinet_text_nodes.specs.View.{leaf_of, line_of, path_of};
 ghost use Rattle.cabinet_archives.specs.Refused.{refusal_of};
 ghost use Rattle.cabinet_archives.specs.Failing.{FailsByWriter};
 ghost use Rattle.cabinet_archives.specs.Setting.{EditLeaves};
+ghost use Rattle.cabinet_archives.specs.Sound.{IsSoundPart};
 
 use archive_core_validation::root_position;
 use archive_shape::Ref;
@@ -69,11 +71,13 @@ impl<'a> Opened<'a> {
         ensures bytes { result.bytes.now ≡ self.now.bytes.now }
         ensures position { result.pos ≡ position_of_root (length self.now.bytes.now) node_shape }
         ensures there { HasValue node_shape KnowsNode result.bytes.now result.pos }
+        ensures sound { IsSoundPart result.bytes.now (at result.pos node_shape) }
     {
         Ref::new(self.bytes, root_position::<ArchivedNode>(self.bytes.len()))
     }
 
-    /// Writes the line that answers a question. Reads only the nodes on the line's path, and does not allocate.
+    /// Writes the line that answers a question. Reads only the nodes on the line's path and those that hold the keys
+    /// that it asks for, and does not allocate.
     pub fn ask<W: Writer>(&self, line: &Line, writer: &mut W) -> Result<Asked, Error>
         requires question { IsQuestion (line_of line.now) }
         requires room { W.failures writer.old < 2 ^ 64 - 1 }

@@ -2,13 +2,14 @@
 ghost use Rattle.std.specs.Prelude.{◌≡◌, ℕ, false, ◌+◌, ◌-◌, ◌^◌, ◌<◌, ◌≤◌, length};
 ghost use Rattle.archive_shape_layout.specs.Content.{Names};
 ghost use Rattle.archive_shape_layout.specs.Content.Part.{at};
-ghost use Rattle.archive_shape_layout.specs.Shape.Shape.{text, shared, option, box, vector};
+ghost use Rattle.archive_shape_layout.specs.Shape.Shape.{text, shared, option, box, vector, tree};
 ghost use Rattle.archive_shape_layout.specs.Shape.Pointee.{sized, str};
 ghost use Rattle.archive_shape.specs.Kept.{IsWithin};
 ghost use Rattle.archive_shape.specs.Checks.{Checks, Moves};
 ghost use Rattle.cabinet_documents.specs.Node.{node_shape, KnowsNode};
 
 use crate::{ArchivedNode, tag};
+use archive_btree_nodes::check_btree_each;
 use archive_forms_rc::{ArchivedRcStr, RcFlavor};
 use archive_forms_values::{
     ArchivedBox, ArchivedString, check_box_each, check_option_each, check_vec_each,
@@ -83,6 +84,7 @@ pub(crate) fn check_node<C: SharedContext>(
         tag::SHARED => check_shared(alloc, bytes, pos + tag::OFFSET, context),
         tag::MAYBE => check_maybe(alloc, bytes, pos + tag::OFFSET, context, room),
         tag::LIST => check_list(alloc, bytes, pos + tag::OFFSET, context, room),
+        tag::ORDERED => check_ordered(alloc, bytes, pos + tag::OFFSET, context, room),
         _ => Err(Error::InvalidTag),
     }
 }
@@ -171,6 +173,45 @@ fn check_list<C: SharedContext>(
         bytes,
         pos,
         context,
+        |c: &mut C, p: usize| -> Result<(), Error>
+            requires fits { p + 24 ≤ length bytes.now }
+            requires range { IsWithin (C.kept c.old) (length bytes.now) }
+            requires within { (C.kept c.old).end + 24 ≤ room }
+            ensures moves { Moves (C.kept c.old) result (C.kept c.new) }
+            ensures exact { (names : Names) → KnowsNode names
+                → Checks names bytes.entry.now (at p node_shape) (C.kept c.old) result (C.kept c.new) }
+        { check_node(alloc, bytes, p, c, room - 24) },
+    )
+}
+
+/// Checks the search tree of nodes with texts as keys at `pos`. The regions that it claims end at `room` or before.
+#[cycle(node)]
+#[inline(never)]
+fn check_ordered<C: SharedContext>(
+    alloc: Global,
+    bytes: &[u8],
+    pos: usize,
+    context: &mut C,
+    room: usize,
+) -> Result<(), Error>
+    requires fits { pos + 8 ≤ length bytes.now }
+    requires range { IsWithin (C.kept context.old) (length bytes.now) }
+    requires within { (C.kept context.old).end ≤ room }
+    ensures moves { Moves (C.kept context.old) result (C.kept context.new) }
+    ensures exact { (names : Names) → KnowsNode names
+        → Checks names bytes.now (at pos (tree 5 text node_shape)) (C.kept context.old) result (C.kept context.new) }
+{
+    check_btree_each::<ArchivedString, ArchivedNode, C, _, _, 5>(
+        bytes,
+        pos,
+        context,
+        |c: &mut C, p: usize| -> Result<(), Error>
+            requires fits { p + 8 ≤ length bytes.now }
+            requires range { IsWithin (C.kept c.old) (length bytes.now) }
+            ensures moves { Moves (C.kept c.old) result (C.kept c.new) }
+            ensures exact { (names : Names)
+                → Checks names bytes.entry.now (at p text) (C.kept c.old) result (C.kept c.new) }
+        { check_text(alloc, bytes, p, c) },
         |c: &mut C, p: usize| -> Result<(), Error>
             requires fits { p + 24 ≤ length bytes.now }
             requires range { IsWithin (C.kept c.old) (length bytes.now) }

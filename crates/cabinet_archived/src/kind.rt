@@ -5,6 +5,7 @@ ghost use Rattle.cabinet_documents.specs.Node.{node_shape, KnowsNode};
 ghost use Rattle.cabinet_archived.specs.Kind.{IsKindAt};
 
 use crate::{ArchivedNode, tag};
+use archive_btree_maps::ArchivedBTreeMap;
 use archive_forms_rc::{ArchivedRcStr, RcFlavor};
 use archive_forms_values::{ArchivedBox, ArchivedOption, ArchivedString, ArchivedVec};
 use archive_shape::{ArchivedI64, Ref};
@@ -24,6 +25,8 @@ pub enum ArchivedKind<'a> {
     Maybe(Ref<'a, ArchivedOption<ArchivedBox<ArchivedNode>>>),
     /// A list: tag 5, at byte 4.
     List(Ref<'a, ArchivedVec<ArchivedNode>>),
+    /// An ordered map: tag 6, at byte 4.
+    Ordered(Ref<'a, ArchivedBTreeMap<ArchivedString, ArchivedNode, 5>>),
 }
 
 impl ArchivedNode {
@@ -40,7 +43,8 @@ impl ArchivedNode {
             tag::TEXT => ArchivedKind::Text(Ref::new(bytes, pos + tag::OFFSET)),
             tag::SHARED => ArchivedKind::Shared(Ref::new(bytes, pos + tag::OFFSET)),
             tag::MAYBE => ArchivedKind::Maybe(Ref::new(bytes, pos + tag::OFFSET)),
-            _ => ArchivedKind::List(Ref::new(bytes, pos + tag::OFFSET)),
+            tag::LIST => ArchivedKind::List(Ref::new(bytes, pos + tag::OFFSET)),
+            _ => ArchivedKind::Ordered(Ref::new(bytes, pos + tag::OFFSET)),
         }
     }
 }

@@ -18,6 +18,9 @@ pub const MAYBE: u8 = 4;
 /// The tag of a list.
 pub const LIST: u8 = 5;
 
+/// The tag of an ordered map.
+pub const ORDERED: u8 = 6;
+
 /// The offset of a truth value from the start of the node.
 pub const BOOL_OFFSET: usize = 1;
 

@@ -1,5 +1,5 @@
 -- The leaf at a path: the position of its node, by the steps of the path, and that of the bytes that encode it.
-use Rattle.std.proofs.Common.{◌≡◌, ℕ, ℤ, ◌+◌, Bool, true, List, [], ◌∷◌, ◌++◌, length, Some, w64, refl, sym, ap, subst, arith}
+use Rattle.std.proofs.Common.{◌≡◌, ℕ, ℤ, ◌+◌, Bool, true, List, [], ◌∷◌, ◌++◌, length, Some, w64, refl, sym, ap, subst, arith, inl}
 use Rattle.archive_shape.specs.ShapeLayout.Bytes.{window, align_up}
 use Rattle.archive_shape.specs.ShapeLayout.Shape.Shape.{truth, number, text, option, box, vector}
 use Rattle.archive_shape.specs.ShapeLayout.Shape.Pointee.{sized, str}
@@ -10,6 +10,7 @@ use Rattle.archive_shape.specs.ShapeLayout.Content.Part.{at, behind}
 use Rattle.archive_shape.specs.ShapeLayout.Content.Label.{written}
 use Rattle.archive_shape.specs.ShapeLayout.Content.Content.{plain}
 use Rattle.archive_shape.specs.ShapeLayout.Holds.{Region, Visit, OpenShared, Holds}
+use Rattle.archive_shape.specs.Key.{HeldAt}
 use Rattle.archive_shape.specs.ShapeLayout.Path.{Stands}
 use Rattle.archive_shape.specs.ShapeLayout.Path.Stands.{stands_here}
 use Rattle.archive_forms_values.specs.FormsLaws.Text.{LiesAt}
@@ -17,14 +18,21 @@ use Rattle.archive_forms_values.specs.Parts.{PointsTo}
 use Rattle.cabinet_text_nodes.specs.TextGrammar.Tree as document
 use Rattle.cabinet_text_nodes.specs.TextGrammar.Tree.{Leaf, Tree, leaf}
 use Rattle.cabinet_text_nodes.specs.TextGrammar.Path.{Step, key, place, inside, node_at}
-use Rattle.cabinet_archived.specs.Documents.Node.{node_names, node_shape}
+use Rattle.cabinet_archived.specs.Documents.Node.{node_names, node_shape, KnowsNode}
 use Rattle.cabinet_archived.specs.Documents.Denotes.{Denotes, tagged_value}
-use Rattle.cabinet_archived.specs.Documents.OwnBytes.{LeadsTo, leads_here, leads_inside, leads_place}
+use Rattle.cabinet_archived.specs.Documents.OwnBytes.{LeadsTo, leads_here, leads_inside, leads_place, leads_key}
 use Rattle.cabinet_archived.specs.Documents.Laws.{payload_of}
 use Rattle.cabinet_archived.proofs.Documents.Nodes.{NodeValue}
-use Rattle.cabinet_archived.proofs.Documents.Known.{leaf_tag, Known, known_leaf, known_shared, known_none, known_some, known_list, known, known_element, by_key}
-use Rattle.cabinet_archives.specs.Way.{GoesTo, goes_nowhere, goes_on, steps_inside, steps_place}
-use Rattle.cabinet_archives.proofs.Standing.{PaidAt, paid_at, inside_at, element_at, TextAt, text_inline, text_out, text_at}
+use Rattle.cabinet_archived.proofs.Documents.Known.{leaf_tag, LeafValue, Known, known_leaf, known_shared, known_none, known_some, known_list, known_ordered, known, known_element, known_pair}
+use Rattle.cabinet_archived.proofs.Documents.BtreeSpelling.PairsStand.{tree_pair_stands}
+use Rattle.cabinet_archived.proofs.Documents.Places.{node_here}
+use Rattle.cabinet_archived.proofs.Documents.Leading.{ToLeaf}
+use Rattle.cabinet_archived.proofs.Documents.Avoiding.{avoids}
+use Rattle.cabinet_archives.specs.Ordered.{map_shape}
+use Rattle.cabinet_archives.specs.Way.{GoesTo, goes_nowhere, goes_on, steps_inside, steps_place, steps_key}
+use Rattle.cabinet_archives.proofs.Standing.{PaidAt, paid_at, tag_is, inside_at, element_at, TextAt, text_inline, text_out, text_at}
+use Rattle.cabinet_archives.proofs.Entries.{pair_entry}
+use Rattle.cabinet_archives.proofs.Inner.{map_held, inside_held, element_held}
 
 module _ (bytes : List ℕ) where
   -- the part that encodes the leaf of the node at `pos`
@@ -80,6 +88,7 @@ module _ (bytes : List ℕ) where
     pub node : Value
     pub inner : List ℕ
     pub leads : LeadsTo v path inner node
+    pub is_leaf : LeafValue node l
     pub part : Part
     pub payload : Value
     pub stands : Stands node_names bytes part payload level around before (at pos node_shape) v (inner ++ 0 ∷ [])
@@ -89,10 +98,11 @@ module _ (bytes : List ℕ) where
   abbrev On : List Step → Leaf → Type 0
   On rest l =
       (pos level : ℕ) (around : List OpenShared) (v : Value) (regions : List Region) (before after : List Visit) (t : Tree)
-      → NodeValue bytes v → Denotes v t → Holds node_names bytes level around (at pos node_shape) v regions before after → node_at t rest ≡ Some (leaf l) → LeafFound level around before pos v rest l
+      → NodeValue bytes v → Denotes v t → Holds node_names bytes level around (at pos node_shape) v regions before after → HeldAt node_shape KnowsNode bytes pos v → node_at t rest ≡ Some (leaf l)
+      → LeafFound level around before pos v rest l
 
   module _ (l : Leaf) {level pos : ℕ} {around : List OpenShared} {v : Value} {regions : List Region} {before after : List Visit} {t : Tree}
-      (h : Holds node_names bytes level around (at pos node_shape) v regions before after)
+      (h : Holds node_names bytes level around (at pos node_shape) v regions before after) (there : HeldAt node_shape KnowsNode bytes pos v)
     where
       ends_here : Known bytes v t → node_at t [] ≡ Some (leaf l) → LeafFound level around before pos v [] l
       ends_here (known_leaf m e f) g =
@@ -104,6 +114,7 @@ module _ (bytes : List ℕ) where
             node = v;
             inner = [];
             leads = leads_here refl refl refl;
+            is_leaf = subst (LeafValue v) same e;
             part = p.part;
             payload = p.payload;
             stands = p.stands;
@@ -113,6 +124,7 @@ module _ (bytes : List ℕ) where
       ends_here (known_none e f) g = absurd (cc)
       ends_here (known_some e f n d) g = absurd (cc)
       ends_here (known_list e f ns ds) g = absurd (cc)
+      ends_here (known_ordered e f ns ds) g = absurd (cc)
 
       in_option : (rest : List Step) → On rest l → Known bytes v t → node_at t (inside ∷ rest) ≡ Some (leaf l) → LeafFound level around before pos v (inside ∷ rest) l
       unfolding align_up
@@ -123,20 +135,23 @@ module _ (bytes : List ℕ) where
           let k : node_at u rest ≡ Some (leaf l) = subst (λ x. node_at x (inside ∷ rest) ≡ Some (leaf l)) f g in
           let p = paid_at bytes pos 4 (tagged_value 1 w) e h 4 (option (box (sized node_shape))) refl refl in
           let s = inside_at bytes (pos + 4) w refl p.holds in
-          let r = on s.to _ _ w s.regions _ _ u n d s.holds k in
           let eight : pos + 4 + 4 ≡ pos + 8 = omega arith in
+          let points = subst (λ n. PointsTo bytes n s.to) eight s.points in
+          let r = on s.to _ _ w s.regions _ _ u n d s.holds (inside_held bytes pos v there w s.to e (tag_is bytes pos 4 (tagged_value 1 w) e h) points) k in
           record {
             to = r.to;
-            way = goes_on {to = r.to} refl (steps_inside refl (subst (λ n. PointsTo bytes n s.to) eight s.points)) r.way;
+            way = goes_on {to = r.to} refl (steps_inside refl points) r.way;
             node = r.node;
             inner = 0 ∷ (0 ∷ r.inner);
             leads = leads_inside {more = r.inner} e refl refl r.leads;
+            is_leaf = r.is_leaf;
             part = r.part;
             payload = r.payload;
             stands = p.stands r.part r.payload (0 ∷ (r.inner ++ 0 ∷ [])) (s.stands r.part r.payload (r.inner ++ 0 ∷ []) r.stands);
             lies = r.lies;
           }
       in_option rest on (known_list e f ns ds) g = let k = subst (λ x. node_at x (inside ∷ rest) ≡ Some (leaf l)) f g in absurd (cc)
+      in_option rest on (known_ordered e f ns ds) g = let k = subst (λ x. node_at x (inside ∷ rest) ≡ Some (leaf l)) f g in absurd (cc)
 
       in_list : (i : ℕ) (rest : List Step) → On rest l → Known bytes v t → node_at t (place i ∷ rest) ≡ Some (leaf l) → LeafFound level around before pos v (place i ∷ rest) l
       unfolding align_up
@@ -148,21 +163,53 @@ module _ (bytes : List ℕ) where
           let k = known_element i rest (leaf l) ns ds (subst (λ x. node_at x (place i ∷ rest) ≡ Some (leaf l)) f g) in
           let p = paid_at bytes pos 5 (group vs) e h 4 (vector node_shape) refl refl in
           let s = element_at bytes (pos + 4) i k.value vs refl k.there p.holds in
-          let r = on _ _ _ k.value s.regions s.since s.until k.tree k.node k.denotes s.holds k.found in
+          let held = element_held bytes pos v there vs i s.first k.value e (tag_is bytes pos 5 (group vs) e h) s.points k.there in
+          let r = on _ _ _ k.value s.regions s.since s.until k.tree k.node k.denotes s.holds held k.found in
           record {
             to = r.to;
             way = goes_on {to = r.to} refl (steps_place refl s.points refl) r.way;
             node = r.node;
             inner = 0 ∷ (i ∷ r.inner);
             leads = leads_place {w = r.node} {inner = 0 ∷ (i ∷ r.inner)} {more = r.inner} e k.there refl (refl {a = 0 ∷ (i ∷ r.inner)}) r.leads;
+            is_leaf = r.is_leaf;
             part = r.part;
             payload = r.payload;
             stands = p.stands r.part r.payload (i ∷ (r.inner ++ 0 ∷ [])) (s.stands r.part r.payload (r.inner ++ 0 ∷ []) r.stands);
             lies = r.lies;
           }
+      in_list i rest on (known_ordered e f ns ds) g = let k = subst (λ x. node_at x (place i ∷ rest) ≡ Some (leaf l)) f g in absurd (cc)
+
+      in_map : (k : List ℕ) (rest : List Step) → On rest l → Known bytes v t → node_at t (key k ∷ rest) ≡ Some (leaf l) → LeafFound level around before pos v (key k ∷ rest) l
+      unfolding align_up
+      in_map k rest on (known_leaf m e f) g = let n = subst (λ x. node_at x (key k ∷ rest) ≡ Some (leaf l)) f g in absurd (cc)
+      in_map k rest on (known_shared e f) g = let n = subst (λ x. node_at x (key k ∷ rest) ≡ Some (leaf l)) f g in absurd (cc)
+      in_map k rest on (known_none e f) g = let n = subst (λ x. node_at x (key k ∷ rest) ≡ Some (leaf l)) f g in absurd (cc)
+      in_map k rest on (known_some e f n d) g = let n = subst (λ x. node_at x (key k ∷ rest) ≡ Some (leaf l)) f g in absurd (cc)
+      in_map k rest on (known_list e f ns ds) g = let n = subst (λ x. node_at x (key k ∷ rest) ≡ Some (leaf l)) f g in absurd (cc)
+      in_map k rest on (known_ordered {vs = vs} e f ns ds) g =
+          let p = known_pair k rest (leaf l) ns ds (subst (λ x. node_at x (key k ∷ rest) ≡ Some (leaf l)) f g) in
+          let o = paid_at bytes pos 6 (group vs) e h 4 map_shape refl refl in
+          let s = tree_pair_stands o.holds p.number (string k) p.value p.there in
+          let x = pair_entry bytes (pos + 4) vs (map_held bytes pos v there (group vs) e (tag_is bytes pos 6 (group vs) e h)) k p.number s.value_pos p.value p.there p.first s.item in
+          let r = on s.value_pos s.deeper around p.value s.regions s.since s.until p.tree p.node p.denotes s.holds x.held p.found in
+          let inner = r.inner ++ 0 ∷ [] in
+          let way : ToLeaf p.value inner = record { steps = rest; inner = r.inner; node = r.node; leads = r.leads; leaf = l; is_leaf = r.is_leaf; is = refl } in
+          let stands = s.stands r.part r.payload inner (record { stands = r.stands; spares = avoids bytes s.holds r.stands node_here s.value_pos refl way }) in
+          record {
+            to = r.to;
+            way = goes_on {to = r.to} refl (steps_key refl x.entry) r.way;
+            node = r.node;
+            inner = 0 ∷ (p.number ∷ (1 ∷ r.inner));
+            leads = leads_key e (inl refl) p.there refl refl r.leads;
+            is_leaf = r.is_leaf;
+            part = r.part;
+            payload = r.payload;
+            stands = o.stands r.part r.payload (p.number ∷ (1 ∷ inner)) stands.stands;
+            lies = r.lies;
+          }
 
   pub leaf_found : (path : List Step) (l : Leaf) → On path l
-  leaf_found [] l pos level around v regions before after t n d h g = ends_here l h (known n d) g
-  leaf_found (inside ∷ rest) l pos level around v regions before after t n d h g = in_option l h rest (leaf_found rest l) (known n d) g
-  leaf_found (place i ∷ rest) l pos level around v regions before after t n d h g = in_list l h i rest (leaf_found rest l) (known n d) g
-  leaf_found (key k ∷ rest) l pos level around v regions before after t n d h g = absurd (by_key l k rest (known n d) g)
+  leaf_found [] l pos level around v regions before after t n d h there g = ends_here l h there (known n d) g
+  leaf_found (inside ∷ rest) l pos level around v regions before after t n d h there g = in_option l h there rest (leaf_found rest l) (known n d) g
+  leaf_found (place i ∷ rest) l pos level around v regions before after t n d h there g = in_list l h there i rest (leaf_found rest l) (known n d) g
+  leaf_found (key k ∷ rest) l pos level around v regions before after t n d h there g = in_map l h there k rest (leaf_found rest l) (known n d) g

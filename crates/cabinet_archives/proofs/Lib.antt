@@ -1,11 +1,13 @@
-mod AskingLemmas
+mod Ascending
 mod Audited
-mod Deeper
-mod Depths
+mod Auditing
 pub mod Kept
+mod Entries
+mod Inner
+mod KeysAsked
 pub mod Layouts
+mod Leading
 mod LeafPlaces
-mod Nesting
 mod NoSteps
 mod Outcomes
 mod OwnPlaces
@@ -14,6 +16,11 @@ mod Payloads
 mod Put
 pub mod Reached
 pub mod Saves
+mod Soundness
 mod Standing
 mod Stepping
+mod Tags
+mod Texts
+mod Walked
 mod Ways
+mod Within

@@ -5,20 +5,23 @@ use Rattle.archive_shape.specs.ShapeLayout.Shape.Pointee.{str}
 use Rattle.archive_shape.specs.ShapeLayout.Content.{Part}
 use Rattle.archive_shape.specs.ShapeLayout.Content.Part.{at, behind}
 use Rattle.archive_shape.specs.ShapeLayout.Holds.{root_position}
+use Rattle.archive_shape.specs.Key.{HeldAt}
 use Rattle.archive_forms_values.proofs.FormsLaws.Once.{one_place}
 use Rattle.archive_forms_values.specs.Parts.{PointsTo}
 use Rattle.cabinet_text_nodes.specs.TextGrammar.Tree as document
 use Rattle.cabinet_text_nodes.specs.TextGrammar.Tree.{Leaf, Tree, leaf}
 use Rattle.cabinet_text_nodes.specs.TextGrammar.Path.{Step, node_at}
 use Rattle.cabinet_text_nodes.specs.TextGrammar.Answering.{fits}
-use Rattle.cabinet_archived.specs.Documents.Node.{node_shape, own_bytes}
+use Rattle.cabinet_archived.specs.Documents.Node.{node_shape, KnowsNode, own_bytes}
 use Rattle.cabinet_archived.specs.Documents.Accepted.{Accepted}
 use Rattle.cabinet_archived.specs.Documents.OwnBytes.{OwnBytes, IsOwn, own_truth, own_number, own_inline, own_behind}
 use Rattle.cabinet_archived.proofs.Documents.Places.{node_behind}
 use Rattle.cabinet_archived.proofs.Documents.Nodes.{none_seen, held}
 use Rattle.cabinet_archived.proofs.Documents.Steps.{behind_below}
-use Rattle.cabinet_archives.specs.Way.{StepsTo, steps_inside, steps_place, GoesTo, goes_nowhere, goes_on}
+use Rattle.cabinet_archives.specs.Way.{StepsTo, steps_inside, steps_place, steps_key, GoesTo, goes_nowhere, goes_on}
+use Rattle.cabinet_archives.specs.Ordered.{HasEntry}
 use Rattle.cabinet_archives.specs.Putting.{BeginsAt}
+use Rattle.cabinet_archives.proofs.Entries.{one_entry}
 use Rattle.cabinet_archives.proofs.LeafPlaces.{LiesIn, truth_lies, number_lies, inline_lies, far_lies, leaf_found}
 
 -- ---- a path leads to one position
@@ -30,7 +33,14 @@ module _ (bytes : List ℕ) where
   one_step : {from to other : ℕ} {s : Step} → StepsTo bytes from s to → StepsTo bytes from s other → to ≡ other
   one_step {from = from} (steps_inside e p) (steps_inside f q) = one_target (from + 8) p q
   one_step (steps_inside e p) (steps_place f q g) = absurd (cc)
+  one_step (steps_inside e p) (steps_key f q) = absurd (cc)
   one_step (steps_place e p g) (steps_inside f q) = absurd (cc)
+  one_step (steps_place e p g) (steps_key f q) = absurd (cc)
+  one_step (steps_key e p) (steps_inside f q) = absurd (cc)
+  one_step (steps_key e p) (steps_place f q g) = absurd (cc)
+  one_step {from = from} {other = other} (steps_key {k = k} e p) (steps_key {k = l} f q) =
+      let same_key : l ≡ k = cc in
+      one_entry bytes (from + 4) k p (subst (λ x. HasEntry bytes (from + 4) x other) same_key q)
   one_step {from = from} (steps_place {i = i} e p g) (steps_place {i = j} {first = first} f q h) =
       let same_place : i ≡ j = cc in
       g ∙ ap (λ n. n + i * 24) (one_target (from + 4) p q) ∙ ap (λ n. first + n * 24) same_place ∙ sym h
@@ -67,12 +77,12 @@ module _ (bytes : List ℕ) where
       own_behind (p ∙ ap (λ n. behind n str len) (sym one.0) ∙ ap (behind start str) (sym one.1))
 
   pub own_there : (t : Tree) (path : List Step) (old new : Leaf) (start to : ℕ) (a : Accepted bytes t)
-      → node_at t path ≡ Some (leaf old) → fits old new ≡ true → GoesTo bytes (root_position (length bytes) node_shape) path to → BeginsAt bytes to new start
+      → HeldAt node_shape KnowsNode bytes (root_position (length bytes) node_shape) a.value → node_at t path ≡ Some (leaf old) → fits old new ≡ true → GoesTo bytes (root_position (length bytes) node_shape) path to → BeginsAt bytes to new start
       → OwnBytes bytes a.value path start (length (own_bytes new))
-  own_there t path old new start to a there f way begins =
+  own_there t path old new start to a root_there there f way begins =
       let pos = root_position (length bytes) node_shape in
       let b = behind_below bytes pos a.root.holds in
-      let r = leaf_found bytes path old pos 1 [] a.value b.regions [] a.visits t (held bytes a.root.holds node_behind pos refl (none_seen bytes)).value a.denotes b.holds there in
+      let r = leaf_found bytes path old pos 1 [] a.value b.regions [] a.visits t (held bytes a.root.holds node_behind pos refl (none_seen bytes)).value a.denotes b.holds root_there there in
       let same_place : to ≡ r.to = one_way way r.way in
       record {
         node = r.node;

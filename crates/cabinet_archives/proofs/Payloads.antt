@@ -1,14 +1,14 @@
--- The head of an archived node, by its kind, and that it is no map.
-use Rattle.std.proofs.Common.{◌≡◌, ℕ, zero, suc, ◌+◌, ◌<◌, List, slice_index, refl, sym, ap, ◌∙◌, arith}
-use Rattle.std.specs.Prelude.{true, false, ⊤}
-use Rattle.std.specs.Int.{w64}
+-- The head of an archived node, by its kind.
+use Rattle.std.proofs.Common.{◌≡◌, ℕ, ◌<◌, List, [], ◌∷◌, length, refl, sym, ap, ◌∙◌, arith}
+use Rattle.std.specs.Prelude.{false, ⊤}
 use Rattle.archive_shape.specs.ShapeLayout.Bytes.{window}
-use Rattle.archive_shape.specs.ShapeLayout.Shape.{Shape, align_of}
-use Rattle.archive_shape.specs.ShapeLayout.Shape.Shape.{number, truth, text, shared, option, vector}
+use Rattle.archive_shape.specs.ShapeLayout.Shape.{Shape}
+use Rattle.archive_shape.specs.ShapeLayout.Shape.Shape.{text, shared, option, vector}
 use Rattle.archive_shape.specs.ShapeLayout.Shape.Pointee.{str}
 use Rattle.archive_shape.specs.ShapeLayout.Value.{Value, Values, count_values}
 use Rattle.archive_shape.specs.ShapeLayout.Value.Value.{string, counted as counting}
-use Rattle.archive_shape.specs.ShapeLayout.Content.{Names}
+use Rattle.archive_shape.specs.ShapeLayout.Value.Values.{no_values, more_values}
+use Rattle.archive_shape.specs.ShapeLayout.Content.{Names, members}
 use Rattle.archive_shape.specs.Key.{HeldAt}
 use Rattle.archive_shape.proofs.Held.{claims_within}
 use Rattle.archive_forms_values.specs.FormsLaws.Text.{HasText, IsText, IsTextThere}
@@ -16,21 +16,25 @@ use Rattle.archive_forms_values.proofs.FormsLaws.Held.{held_is_text_law, text_va
 use Rattle.archive_forms_rc.specs.Pointers.{Counts, IsRcStrAt}
 use Rattle.archive_forms_rc.specs.Pointers.Counts.{counts, leads_back}
 use Rattle.archive_forms_values.specs.Parts.{HasValue, IsNoneAt, IsSomeAt, IsVecAt}
-use Rattle.archive_forms_values.proofs.FormsLaws.Levels.{option_box_sized}
-use Rattle.cabinet_text_nodes.specs.TextGrammar.Keys.{MapKind}
-use Rattle.cabinet_text_nodes.specs.TextGrammar.Tree.{Leaf, leaf, shared as shared_text, nothing, just, list, map, Tree, Trees, Pairs, count}
-use Rattle.cabinet_text_nodes.specs.TextGrammar.Item.{leaf_item, shared_item, none_item, some_item, list_item}
-use Rattle.cabinet_text_nodes.specs.TextGrammar.Answering.{head_of, keys_of, keys_within, wrong}
+use Rattle.archive_btree_walking.specs.BtreeLayout.Reading.{Place}
+use Rattle.archive_btree_walking.specs.BtreeLayout.Tree.{Tree as SearchTree, items}
+use Rattle.archive_btree_walking.specs.Maps.{IsMapAt, IsMapOf, AreEntriesAt}
+use Rattle.archive_btree_walking.proofs.Roots.{tree_of_value}
+use Rattle.cabinet_text_nodes.specs.TextGrammar.Keys.{ordered}
+use Rattle.cabinet_text_nodes.specs.TextGrammar.Tree.{Leaf, Tree, Trees, Pairs, count, pair_count}
+use Rattle.cabinet_text_nodes.specs.TextGrammar.Item.{leaf_item, shared_item, none_item, some_item, list_item, map_item}
+use Rattle.cabinet_text_nodes.specs.TextGrammar.Answering.{head_of}
 use Rattle.cabinet_archived.specs.Documents.Node.{node_shape, KnowsNode}
-use Rattle.cabinet_archived.specs.Documents.Denotes.{Denotes, DenoteAll, tagged_value}
+use Rattle.cabinet_archived.specs.Documents.Denotes.{Denotes, DenoteAll, DenotePairs, tagged_value}
 use Rattle.cabinet_archived.specs.Documents.Denotes.DenoteAll.{denote_none, denote_more}
+use Rattle.cabinet_archived.specs.Documents.Denotes.DenotePairs.{denote_no_pairs, denote_pair}
 use Rattle.cabinet_archived.specs.Documents.Laws.{payload_of}
 use Rattle.cabinet_archived.proofs.Documents.Changing.{of_some, of_list}
 use Rattle.cabinet_archived.specs.Kind.{IsTagged}
-use Rattle.cabinet_archived.proofs.Nodes.{IsOther, tagged_at, is_list}
 use Rattle.cabinet_archives.specs.Found.{OfDocument}
+use Rattle.cabinet_archives.specs.Ordered.{map_shape, knows_map}
 use Rattle.cabinet_archives.proofs.Ways.{Boxed}
-use Rattle.cabinet_archives.proofs.Stepping.{nothing_is, shared_is, leaf_is, keyless}
+use Rattle.cabinet_archives.proofs.Stepping.{nothing_is, shared_is, leaf_is, ordered_by}
 
 -- ---- texts
 
@@ -49,6 +53,16 @@ text_is knows bytes pos t is v h = sym (text_value bytes pos t v (text_there kno
 counted : {vs : Values} {ts : Trees} → DenoteAll vs ts → count_values vs ≡ count ts
 counted (denote_none e f) = ap count_values e ∙ sym (ap count f)
 counted (denote_more e f d ds) = let more = counted ds in let one = ap count_values e in let other = ap count f in omega (arith, more, one, other)
+
+pairs_counted : {vs : Values} {ps : Pairs} → DenotePairs vs ps → count_values vs ≡ pair_count ps
+pairs_counted (denote_no_pairs e f) = ap count_values e ∙ sym (ap pair_count f)
+pairs_counted (denote_pair e f d ds) = let more = pairs_counted ds in let one = ap count_values e in let other = ap pair_count f in omega (arith, more, one, other)
+
+entries_counted : (bytes : List ℕ) (ps : List Place) (vs : Values) → AreEntriesAt text node_shape (λ _. ⊤) KnowsNode bytes ps vs → length ps ≡ count_values vs
+entries_counted bytes [] no_values h = refl
+entries_counted bytes [] (more_values v vs) h = absurd h
+entries_counted bytes (p ∷ ps) no_values h = absurd h
+entries_counted bytes (p ∷ ps) (more_values v vs) h = let more = entries_counted bytes ps vs h.1 in omega (arith, more)
 
 module _ (bytes : List ℕ) (pos : ℕ) where
   pub leaf_head : (l : Leaf) (tag : ℕ) (shape : Shape) (knows : Names → Type 0) (to : ℕ) → tag < 3 → IsTagged bytes pos tag shape knows to
@@ -86,50 +100,10 @@ module _ (bytes : List ℕ) (pos : ℕ) where
       let l = of_list (p.is ∙ ap (tagged_value 5) all.is) d in
       ap list_item (sym all.count ∙ counted l.denotes) ∙ sym (ap head_of l.is)
 
-  -- ---- no node with a layout is a map
-
-  -- a tag of a kind with a layout
-  record HasLowTag : Type 0 where
-    tag : ℕ
-    low : tag < 6
-    payload : (v : Value) → HeldAt node_shape KnowsNode bytes pos v → (w : Value) × (v ≡ tagged_value tag w)
-
-  low_tag : (there : HasValue node_shape KnowsNode bytes pos) → HasLowTag
-  low_tag there = by (slice_index bytes pos) refl
-    where
-      of_kind : (tag : ℕ) (shape : Shape) (knows : Names → Type 0) → tag < 6 → IsTagged bytes pos tag shape knows (pos + align_of shape) → HasLowTag
-      of_kind tag shape knows low tagged = record { tag = tag; low = low; payload = λ v h. let p = tagged.payload v h in (p.payload, p.is) }
-
-      a_list : IsOther (slice_index bytes pos) → HasLowTag
-      a_list other = of_kind 5 (vector node_shape) KnowsNode (omega arith) (tagged_at bytes pos there 5 (vector node_shape) KnowsNode _ refl (is_list bytes pos there other) refl (omega arith) (omega arith) (λ names known. known))
-
-      by : (n : ℕ) → slice_index bytes pos ≡ n → HasLowTag
-      by zero e = of_kind 0 truth (λ _. ⊤) (omega arith) (tagged_at bytes pos there 0 truth (λ _. ⊤) _ refl e refl (omega arith) (omega arith) (λ names known. tt))
-      by (suc zero) e = of_kind 1 (number w64 true) (λ _. ⊤) (omega arith) (tagged_at bytes pos there 1 (number w64 true) (λ _. ⊤) _ refl e refl (omega arith) (omega arith) (λ names known. tt))
-      by (suc (suc zero)) e = of_kind 2 text (λ _. ⊤) (omega arith) (tagged_at bytes pos there 2 text (λ _. ⊤) _ refl e refl (omega arith) (omega arith) (λ names known. tt))
-      by (suc (suc (suc zero))) e = of_kind 3 (shared false str) (λ _. ⊤) (omega arith) (tagged_at bytes pos there 3 (shared false str) (λ _. ⊤) _ refl e refl (omega arith) (omega arith) (λ names known. tt))
-      by (suc (suc (suc (suc zero)))) e = of_kind 4 (option Boxed) KnowsNode (omega arith) (tagged_at bytes pos there 4 (option Boxed) KnowsNode _ refl e refl (omega arith) (omega (arith, option_box_sized node_shape)) (λ names known. known))
-      by (suc (suc (suc (suc (suc n))))) e = a_list (λ f. omega arith, λ f. omega arith, λ f. omega arith, λ f. omega arith, λ f. omega arith)
-
-pub no_map : (bytes : List ℕ) (pos : ℕ) (v : Value) (t : Tree) → HeldAt node_shape KnowsNode bytes pos v → Denotes v t → (kind : MapKind) (ps : Pairs) → t ≡ map kind ps → ⊥
-no_map bytes pos v t h d =
-    let has = low_tag bytes pos (record { value = v; held = h }) in
-    let p = has.payload v h in
-    keyless p.1 has.low d
-
--- what is no map has no keys
-pub no_keys : (t : Tree) → ((kind : MapKind) (ps : Pairs) → t ≡ map kind ps → ⊥) → keys_of t ≡ wrong
-no_keys (leaf l) h = refl
-no_keys (shared_text s) h = refl
-no_keys nothing h = refl
-no_keys (just t) h = refl
-no_keys (list ts) h = refl
-no_keys (map kind ps) h = absurd (h kind ps refl)
-
-pub no_keys_within : (low high : List ℕ) (t : Tree) → ((kind : MapKind) (ps : Pairs) → t ≡ map kind ps → ⊥) → keys_within low high t ≡ wrong
-no_keys_within low high (leaf l) h = refl
-no_keys_within low high (shared_text s) h = refl
-no_keys_within low high nothing h = refl
-no_keys_within low high (just t) h = refl
-no_keys_within low high (list ts) h = refl
-no_keys_within low high (map kind ps) h = absurd (h kind ps refl)
+  -- as many pairs as the tree has items
+  pub ordered_head : (to len : ℕ) → IsTagged bytes pos 6 map_shape knows_map to → ((t : SearchTree Place) → IsMapAt bytes 5 text node_shape to t → len ≡ length (items t)) → OfDocument bytes pos (λ t. map_item ordered len ≡ head_of t)
+  ordered_head to len tagged says = λ v t h d.
+      let p = tagged.payload v h in
+      let m : IsMapOf text node_shape (λ _. ⊤) KnowsNode bytes 5 to p.payload = tree_of_value (record { value = p.payload; held = p.held }) in
+      let o = ordered_by p.is d in
+      ap (map_item ordered) (says m.search_tree m.map ∙ entries_counted bytes (items m.search_tree) (members p.payload) m.entries ∙ pairs_counted o.denotes) ∙ sym (ap head_of o.is)

@@ -2,6 +2,7 @@
 use Rattle.std.proofs.Common.{◌≡◌, ℕ, Bor, List, length, refl, sym, ap, subst, ◌∙◌}
 use Rattle.std.proofs.Math.Logic.{∥∥₁_map}
 use Rattle.archive_shape.specs.ShapeLayout.Holds.{root_position}
+use Rattle.archive_shape.specs.ShapeLayout.Content.Part.{at}
 use Rattle.archive_shape.specs.Key.{HeldAt}
 use Rattle.archive_shape.proofs.ShapeLayout.Found.{root_is_found}
 use Rattle.archive_forms_values.specs.Parts.{HasValue}
@@ -13,6 +14,9 @@ use Rattle.cabinet_text_nodes.specs.TextGrammar.Answering.{Answer, head, keys_ar
 use Rattle.cabinet_archived.specs.Documents.Node.{node_shape, node_names, KnowsNode}
 use Rattle.cabinet_archived.specs.Documents.Accepted.{Accepted}
 use Rattle.cabinet_archived.specs.Documents.Image.{Image}
+use Rattle.cabinet_archived.proofs.Documents.NodeWalks.{behind_walk}
+use Rattle.cabinet_archived.proofs.Documents.Sound.{no_faults}
+use Rattle.cabinet_archives.specs.Sound.{HasSoundWalk, IsSoundPart}
 use Rattle.cabinet_archives.specs.Found.{OfDocument, Reaches, ReachesNone}
 use Rattle.cabinet_archives.specs.Setting.{EditLeaves}
 use Rattle.cabinet_archives.specs.Putting.{PutLeaves}
@@ -25,13 +29,21 @@ root_of bytes = root_position (length bytes) node_shape
 module _ (bytes : List ℕ) where
   -- ---- the root of accepted bytes
 
-  root_there : {t : Tree} (a : Accepted bytes t) → HeldAt node_shape KnowsNode bytes (root_of bytes) a.value
+  pub root_there : {t : Tree} (a : Accepted bytes t) → HeldAt node_shape KnowsNode bytes (root_of bytes) a.value
   root_there a = root_held node_shape KnowsNode node_names bytes (root_of bytes) a.value a.regions a.visits refl a.root
 
   pub root_has_value : ∥ ((t : Tree) × Accepted bytes t) ∥₁ → HasValue node_shape KnowsNode bytes (root_of bytes)
   root_has_value known =
       let r = root_is_found node_names bytes (root_of bytes) node_shape (∥∥₁_map known (λ x. record { value = x.1.value; regions = x.1.regions; visits = x.1.visits; root = x.1.root })) in
       record { value = r.value; held = root_held node_shape KnowsNode node_names bytes (root_of bytes) r.value r.regions r.visits refl r.root }
+
+  sound_root : {t : Tree} → Accepted bytes t → HasSoundWalk bytes (at (root_of bytes) node_shape)
+  sound_root a =
+      let b = behind_walk bytes (root_of bytes) a.walked in
+      record { depth = 0; value = a.value; walk = b.run; walked = b.node; sound = sym b.faults_are ∙ no_faults bytes a.walk a.sound }
+
+  pub root_is_sound : ∥ ((t : Tree) × Accepted bytes t) ∥₁ → IsSoundPart bytes (at (root_of bytes) node_shape)
+  root_is_sound known = ∥∥₁_map known (λ x. sound_root x.1)
 
   module _ (path : List Step) (new : Leaf) where
     -- what an outcome and the bytes after it are, of each document that the bytes are the archive of
@@ -60,7 +72,7 @@ module _ (bytes : List ℕ) where
       left_there missing e p t a = p
       left_there done e p t a =
           let d = done_at t path new (sym (answered_there t a) ∙ e) in
-          record { start = p.start; own = own_there bytes t path d.old new p.start to a d.there d.fitting reached.way p.begins; is = p.is }
+          record { start = p.start; own = own_there bytes t path d.old new p.start to a (root_there a) d.there d.fitting reached.way p.begins; is = p.is }
       left_there refused e p t a = p
       left_there bad e p t a = p
 
@@ -84,9 +96,12 @@ module _ (bytes : List ℕ) where
 pub value_as : {x y : Bor (List ℕ)} {pos to : ℕ} → x ≡ y → pos ≡ to → HasValue node_shape KnowsNode y.now to → HasValue node_shape KnowsNode x.now pos
 value_as {y = y} {pos = pos} e f h = subst (λ (b : Bor (List ℕ)). HasValue node_shape KnowsNode b.now pos) (sym e) (subst (λ n. HasValue node_shape KnowsNode y.now n) (sym f) h)
 
-pub reaches_as : {x y : Bor (List ℕ)} {from root to at : ℕ} (path : List Step) → x ≡ y → from ≡ root → at ≡ to → Reaches x.now from path to → Reaches y.now root path at
-reaches_as {x = x} {from = from} {root = root} {to = to} {at = at} path e f g r =
-    subst (λ (b : Bor (List ℕ)). Reaches b.now root path at) e (subst (λ n. Reaches x.now n path at) f (subst (λ n. Reaches x.now from path n) (sym g) r))
+pub sound_as : {x y : Bor (List ℕ)} {pos to : ℕ} → x ≡ y → pos ≡ to → IsSoundPart y.now (at to node_shape) → IsSoundPart x.now (at pos node_shape)
+sound_as {y = y} {pos = pos} e f h = subst (λ (b : Bor (List ℕ)). IsSoundPart b.now (at pos node_shape)) (sym e) (subst (λ n. IsSoundPart y.now (at n node_shape)) (sym f) h)
+
+pub reaches_as : {x y : Bor (List ℕ)} {from root to pos : ℕ} (path : List Step) → x ≡ y → from ≡ root → pos ≡ to → Reaches x.now from path to → Reaches y.now root path pos
+reaches_as {x = x} {from = from} {root = root} {to = to} {pos = pos} path e f g r =
+    subst (λ (b : Bor (List ℕ)). Reaches b.now root path pos) e (subst (λ n. Reaches x.now n path pos) f (subst (λ n. Reaches x.now from path n) (sym g) r))
 
 pub set_as : (bytes : List ℕ) (path : List Step) (lent new : Leaf) (pos : ℕ) (o : Answer) (after : List ℕ) → lent ≡ new → Reaches bytes (root_of bytes) path pos
     → OfDocument bytes pos (λ t. o ≡ outcome_there lent t) → PutLeaves bytes pos lent o after → Sets bytes path new o after

@@ -21,7 +21,7 @@ use Rattle.cabinet_archived.proofs.Documents.Layouts.{fitting_has_layout_law}
 use Rattle.cabinet_archived.proofs.Documents.Imaged.{written_is_image_law, one_image_law}
 use Rattle.cabinet_archived.proofs.Documents.SpellingDenoted.{value_denotes_law}
 use Rattle.cabinet_archived.proofs.Documents.StoredNodes.{refused_is_past_law}
-use Rattle.cabinet_text_nodes.specs.Archived.{archived_as}
+use Rattle.cabinet_archived.specs.Archived.{archived_as}
 use Rattle.cabinet_text_nodes.specs.View.{node_tree}
 use Rattle.cabinet_text_nodes.specs.declared.node.Node.{Node}
 use Rattle.cabinet_archives.specs.declared.saving.saving.SaveRefusal.{SaveRefusal}

@@ -62,7 +62,7 @@ module _ (bytes : List ℕ) where
       there = same_below bytes (plain_below bytes (node_content pos) h)
 
       -- the tag of a node's value is its byte
-      tag_is : slice_index bytes pos ≡ tag
+      pub tag_is : slice_index bytes pos ≡ tag
       unfolding shape_content
       tag_is = by_tag (shape_tagged (slice_index bytes pos) payloads) refl
         where

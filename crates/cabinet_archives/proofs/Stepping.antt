@@ -3,15 +3,18 @@ use Rattle.std.proofs.Common.{◌≡◌, ℕ, zero, suc, ◌<◌, ◌≤◌, Lis
 use Rattle.archive_shape.specs.ShapeLayout.Value.{Value, Values, count_values}
 use Rattle.archive_shape.specs.ShapeLayout.Value.Value.{string, group, chosen, counted}
 use Rattle.archive_shape.specs.ShapeLayout.Value.Values.{no_values}
+use Rattle.archive_shape.specs.ShapeLayout.Content.{members}
 use Rattle.archive_shape.specs.ShapeLayout.Path.{value_in}
-use Rattle.cabinet_text_nodes.specs.TextGrammar.Keys.{MapKind}
+use Rattle.cabinet_text_nodes.specs.TextGrammar.Keys.{MapKind, ordered}
 use Rattle.cabinet_text_nodes.specs.TextGrammar.Tree.{Leaf, truth, number, text}
 use Rattle.cabinet_text_nodes.specs.TextGrammar.Tree.{Tree, leaf, shared, nothing, just, list, map, Trees, Pairs}
-use Rattle.cabinet_text_nodes.specs.TextGrammar.Path.{Step, key, place, inside, node_at, node_in}
-use Rattle.cabinet_archived.specs.Documents.Denotes.{Denotes, DenoteAll, tagged_value}
+use Rattle.cabinet_text_nodes.specs.TextGrammar.Path.{Step, key, place, inside, node_at, node_in, node_by}
+use Rattle.cabinet_archived.specs.Documents.Denotes.{Denotes, DenoteAll, DenotePairs, tagged_value, pair_value}
 use Rattle.cabinet_archived.specs.Documents.Denotes.Denotes.{denotes_truth, denotes_number, denotes_text, denotes_shared, denotes_nothing, denotes_some, denotes_list, denotes_ordered, denotes_hashed, denotes_kept}
 use Rattle.cabinet_archived.specs.Documents.Denotes.DenoteAll.{denote_none, denote_more}
+use Rattle.cabinet_archived.specs.Documents.Denotes.DenotePairs.{denote_no_pairs, denote_pair}
 use Rattle.cabinet_archived.specs.Documents.Laws.{payload_of}
+use Rattle.cabinet_archived.proofs.Documents.ByKey.{node_here, node_past, keys_same, keys_differ}
 use Rattle.cabinet_archived.proofs.Documents.Changing.{of_some, of_list}
 use Rattle.cabinet_text_nodes.proofs.Paths.{then_at, first_step}
 
@@ -80,19 +83,6 @@ leaf_is {tag = tag} l e less p (denotes_ordered f g d) = let is : tag ≡ 6 = cc
 leaf_is {tag = tag} l e less p (denotes_hashed f g d) = let is : tag ≡ 7 = cc in absurd (omega (arith, less, is))
 leaf_is {tag = tag} l e less p (denotes_kept f g d) = let is : tag ≡ 8 = cc in absurd (omega (arith, less, is))
 
--- a tag below 6 is that of no map
-pub keyless : {v w : Value} {t : Tree} {tag : ℕ} → v ≡ tagged_value tag w → tag < 6 → Denotes v t → (kind : MapKind) (ps : Pairs) → t ≡ map kind ps → ⊥
-keyless e less (denotes_truth f g) kind ps is = cc
-keyless e less (denotes_number f g) kind ps is = cc
-keyless e less (denotes_text f g) kind ps is = cc
-keyless e less (denotes_shared f g) kind ps is = cc
-keyless e less (denotes_nothing f g) kind ps is = cc
-keyless e less (denotes_some f g d) kind ps is = cc
-keyless e less (denotes_list f g d) kind ps is = cc
-keyless {tag = tag} e less (denotes_ordered f g d) kind ps is = let n : tag ≡ 6 = cc in omega (arith, less, n)
-keyless {tag = tag} e less (denotes_hashed f g d) kind ps is = let n : tag ≡ 7 = cc in omega (arith, less, n)
-keyless {tag = tag} e less (denotes_kept f g d) kind ps is = let n : tag ≡ 8 = cc in omega (arith, less, n)
-
 -- ---- steps that lead nowhere
 
 -- only a step inside leads on from an option
@@ -105,6 +95,11 @@ abbrev pub IsNoPlace : Step → Type 0
 IsNoPlace (place i) = ⊥
 IsNoPlace s = Unit {0}
 
+-- only a step to a key leads on from a map
+abbrev pub IsNoKey : Step → Type 0
+IsNoKey (key k) = ⊥
+IsNoKey s = Unit {0}
+
 just_other : (u : Tree) (s : Step) → IsNotInside s → node_at (just u) (s ∷ []) ≡ None
 just_other u (key k) other = refl
 just_other u (place i) other = refl
@@ -115,18 +110,23 @@ list_other ts (key k) other = refl
 list_other ts (place i) other = absurd other
 list_other ts inside other = refl
 
--- of the nodes that are no maps, an option and a list alone lead on, each by its own step
-pub other_step : {v w : Value} {t : Tree} {tag : ℕ} (s : Step) → v ≡ tagged_value tag w → tag < 6 → (tag ≡ 4 → IsNotInside s) → (tag ≡ 5 → IsNoPlace s) → Denotes v t → node_at t (s ∷ []) ≡ None
-other_step s e less apart beside (denotes_truth f g) = ap (λ u. node_at u (s ∷ [])) g
-other_step s e less apart beside (denotes_number f g) = ap (λ u. node_at u (s ∷ [])) g
-other_step s e less apart beside (denotes_text f g) = ap (λ u. node_at u (s ∷ [])) g
-other_step s e less apart beside (denotes_shared f g) = ap (λ u. node_at u (s ∷ [])) g
-other_step s e less apart beside (denotes_nothing f g) = ap (λ u. node_at u (s ∷ [])) g
-other_step {tag = tag} s e less apart beside (denotes_some {u = u} f g d) = let is : tag ≡ 4 = cc in ap (λ u. node_at u (s ∷ [])) g ∙ just_other u s (apart is)
-other_step {tag = tag} s e less apart beside (denotes_list {ts = ts} f g d) = let is : tag ≡ 5 = cc in ap (λ u. node_at u (s ∷ [])) g ∙ list_other ts s (beside is)
-other_step {tag = tag} s e less apart beside (denotes_ordered f g d) = let is : tag ≡ 6 = cc in absurd (omega (arith, less, is))
-other_step {tag = tag} s e less apart beside (denotes_hashed f g d) = let is : tag ≡ 7 = cc in absurd (omega (arith, less, is))
-other_step {tag = tag} s e less apart beside (denotes_kept f g d) = let is : tag ≡ 8 = cc in absurd (omega (arith, less, is))
+map_other : (kind : MapKind) (ps : Pairs) (s : Step) → IsNoKey s → node_at (map kind ps) (s ∷ []) ≡ None
+map_other kind ps (key k) other = absurd other
+map_other kind ps (place i) other = refl
+map_other kind ps inside other = refl
+
+-- of the nodes with a layout, an option, a list and an ordered map alone lead on, each by its own step
+pub other_step : {v w : Value} {t : Tree} {tag : ℕ} (s : Step) → v ≡ tagged_value tag w → tag < 7 → (tag ≡ 4 → IsNotInside s) → (tag ≡ 5 → IsNoPlace s) → (tag ≡ 6 → IsNoKey s) → Denotes v t → node_at t (s ∷ []) ≡ None
+other_step s e less apart beside keyless (denotes_truth f g) = ap (λ u. node_at u (s ∷ [])) g
+other_step s e less apart beside keyless (denotes_number f g) = ap (λ u. node_at u (s ∷ [])) g
+other_step s e less apart beside keyless (denotes_text f g) = ap (λ u. node_at u (s ∷ [])) g
+other_step s e less apart beside keyless (denotes_shared f g) = ap (λ u. node_at u (s ∷ [])) g
+other_step s e less apart beside keyless (denotes_nothing f g) = ap (λ u. node_at u (s ∷ [])) g
+other_step {tag = tag} s e less apart beside keyless (denotes_some {u = u} f g d) = let is : tag ≡ 4 = cc in ap (λ u. node_at u (s ∷ [])) g ∙ just_other u s (apart is)
+other_step {tag = tag} s e less apart beside keyless (denotes_list {ts = ts} f g d) = let is : tag ≡ 5 = cc in ap (λ u. node_at u (s ∷ [])) g ∙ list_other ts s (beside is)
+other_step {tag = tag} s e less apart beside keyless (denotes_ordered {ps = ps} f g d) = let is : tag ≡ 6 = cc in ap (λ u. node_at u (s ∷ [])) g ∙ map_other ordered ps s (keyless is)
+other_step {tag = tag} s e less apart beside keyless (denotes_hashed f g d) = let is : tag ≡ 7 = cc in absurd (omega (arith, less, is))
+other_step {tag = tag} s e less apart beside keyless (denotes_kept f g d) = let is : tag ≡ 8 = cc in absurd (omega (arith, less, is))
 
 -- and into none there is no step
 pub none_step : {v : Value} {t : Tree} (s : Step) → v ≡ tagged_value 4 (chosen 0 no_values) → Denotes v t → node_at t (s ∷ []) ≡ None
@@ -178,3 +178,62 @@ element_step i u e at d =
     let l = of_list e d in
     let r = element_found i u l.denotes at in
     record { tree = r.tree; there = ap (λ t. node_at t (place i ∷ [])) l.is ∙ r.there; denotes = r.denotes }
+
+-- ---- ordered maps
+
+record PairFound (u : Value) (k : List ℕ) (ps : Pairs) : Type 0 where
+  tree : Tree
+  there : node_by ps k [] ≡ Some tree
+  denotes : Denotes u tree
+
+-- the first item with a key is the pair that the key leads to
+pair_found : {vs : Values} {ps : Pairs} (k : List ℕ) (i : ℕ) (u : Value) → DenotePairs vs ps → value_in i vs ≡ Some (pair_value k u)
+    → ((j : ℕ) (other : Value) → j < i → value_in j vs ≡ Some (pair_value k other) → ⊥)
+    → PairFound u k ps
+pair_found k i u (denote_no_pairs e f) g first = let none : value_in i no_values ≡ Some (pair_value k u) = subst (λ vs. value_in i vs ≡ Some (pair_value k u)) e g in absurd (cc)
+pair_found k zero u (denote_pair {k = l} {v = v} {t = t} {ps = ps} e f d ds) g first =
+    let here : ◌≡◌ {A = Option Value} (Some (pair_value l v)) (Some (pair_value k u)) = subst (λ vs. value_in zero vs ≡ Some (pair_value k u)) e g in
+    let same : v ≡ u = cc in
+    let key_is : l ≡ k = cc in
+    record { tree = t; there = ap (λ ps. node_by ps k []) f ∙ node_here l t ps k [] (keys_same l k key_is); denotes = subst (λ v. Denotes v t) same d }
+pair_found k (suc i) u (denote_pair {k = l} {v = v} {vs = vs} {t = t} {ps = ps} e f d ds) g first =
+    let r = pair_found k i u ds (subst (λ vs. value_in (suc i) vs ≡ Some (pair_value k u)) e g) (λ j other less x. first (suc j) other (omega (arith, less)) (ap (value_in (suc j)) e ∙ x)) in
+    let apart : l ≡ k → ⊥ = λ same. first zero v (omega arith) (ap (value_in zero) e ∙ ap (λ x. Some (pair_value x v)) same) in
+    record { tree = r.tree; there = ap (λ ps. node_by ps k []) f ∙ node_past l t ps k [] (keys_differ l k apart) ∙ r.there; denotes = r.denotes }
+
+pair_missing : {vs : Values} {ps : Pairs} (k : List ℕ) → DenotePairs vs ps → ((i : ℕ) (u : Value) → value_in i vs ≡ Some (pair_value k u) → ⊥) → node_by ps k [] ≡ None
+pair_missing k (denote_no_pairs e f) none = ap (λ ps. node_by ps k []) f
+pair_missing k (denote_pair {k = l} {v = v} {t = t} {ps = ps} e f d ds) none =
+    let apart : l ≡ k → ⊥ = λ same. none zero v (ap (value_in zero) e ∙ ap (λ x. Some (pair_value x v)) same) in
+    ap (λ ps. node_by ps k []) f ∙ node_past l t ps k [] (keys_differ l k apart) ∙ pair_missing k ds (λ i u x. none (suc i) u (ap (value_in (suc i)) e ∙ x))
+
+-- an ordered map, by its payload
+pub record OrderedBy (w : Value) (t : Tree) : Type 0 where
+  pub pairs : Pairs
+  pub is : t ≡ map ordered pairs
+  pub denotes : DenotePairs (members w) pairs
+
+pub ordered_by : {v w : Value} {t : Tree} → v ≡ tagged_value 6 w → Denotes v t → OrderedBy w t
+ordered_by e (denotes_truth f g) = absurd (cc)
+ordered_by e (denotes_number f g) = absurd (cc)
+ordered_by e (denotes_text f g) = absurd (cc)
+ordered_by e (denotes_shared f g) = absurd (cc)
+ordered_by e (denotes_nothing f g) = absurd (cc)
+ordered_by e (denotes_some f g d) = absurd (cc)
+ordered_by e (denotes_list f g d) = absurd (cc)
+ordered_by {w = w} e (denotes_ordered {vs = vs} {ps = ps} f g d) =
+    let same : w ≡ group vs = cc in
+    record { pairs = ps; is = g; denotes = subst (λ x. DenotePairs (members x) ps) (sym same) d }
+ordered_by e (denotes_hashed f g d) = absurd (cc)
+ordered_by e (denotes_kept f g d) = absurd (cc)
+
+pub key_step : {v w : Value} {t : Tree} (k : List ℕ) (i : ℕ) (u : Value) → v ≡ tagged_value 6 w → value_in i (members w) ≡ Some (pair_value k u)
+    → ((j : ℕ) (other : Value) → j < i → value_in j (members w) ≡ Some (pair_value k other) → ⊥)
+    → Denotes v t → StepFound u (key k) t
+key_step k i u e at first d =
+    let o = ordered_by e d in
+    let r = pair_found k i u o.denotes at first in
+    record { tree = r.tree; there = ap (λ t. node_at t (key k ∷ [])) o.is ∙ r.there; denotes = r.denotes }
+
+pub no_key_step : {v w : Value} {t : Tree} (k : List ℕ) → v ≡ tagged_value 6 w → ((i : ℕ) (u : Value) → value_in i (members w) ≡ Some (pair_value k u) → ⊥) → Denotes v t → node_at t (key k ∷ []) ≡ None
+no_key_step k e none d = let o = ordered_by e d in ap (λ t. node_at t (key k ∷ [])) o.is ∙ pair_missing k o.denotes none

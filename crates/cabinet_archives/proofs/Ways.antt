@@ -1,20 +1,28 @@
 -- Where steps and paths lead in the bytes of an archive, and what lies there.
-use Rattle.std.proofs.Common.{◌≡◌, ℕ, ◌+◌, ◌*◌, ◌<◌, ◌≤◌, List, [], ◌∷◌, ◌++◌, Option, Some, None, MatchOption, refl, sym, ap, subst, ◌∙◌, arith}
+use Rattle.std.proofs.Common.{◌≡◌, ℕ, ◌+◌, ◌*◌, ◌<◌, ◌≤◌, List, [], ◌∷◌, ◌++◌, Option, Some, None, MatchOption, Bor, refl, sym, ap, subst, ◌∙◌, arith}
+use Rattle.std.specs.Prelude.{IfSome}
+use Rattle.archive_shape.specs.declared.references.refs.Ref.{Ref}
+use Rattle.cabinet_archived.specs.declared.node.ArchivedNode.{ArchivedNode}
 use Rattle.archive_shape.specs.ShapeLayout.Bytes.{align_up}
 use Rattle.archive_shape.specs.ShapeLayout.Shape.{Shape, size_of}
 use Rattle.archive_shape.specs.ShapeLayout.Shape.Shape.{option, box, vector}
 use Rattle.archive_shape.specs.ShapeLayout.Shape.Pointee.{sized}
 use Rattle.archive_shape.specs.ShapeLayout.Content.{Names}
+use Rattle.archive_shape.specs.ShapeLayout.Content.Part.{at}
 use Rattle.archive_shape.specs.Key.{HeldAt}
 use Rattle.archive_forms_values.specs.Parts.{HasValue, PointsTo, IsNoneAt, IsSomeAt, some_position, IsBoxAt, IsVecAt}
-use Rattle.cabinet_text_nodes.specs.TextGrammar.Path.{Step, place, inside, node_at}
+use Rattle.cabinet_text_nodes.specs.TextGrammar.Path.{Step, key, place, inside, node_at}
 use Rattle.cabinet_archived.specs.Documents.Node.{node_shape, KnowsNode}
 use Rattle.cabinet_archived.specs.Documents.Denotes.{tagged_value}
 use Rattle.cabinet_archived.specs.Kind.{IsTagged}
 use Rattle.cabinet_text_nodes.proofs.Paths.{then_at}
-use Rattle.cabinet_archives.specs.Way.{StepsTo, steps_inside, steps_place, GoesTo, goes_nowhere, goes_on}
+use Rattle.cabinet_archives.specs.Ordered.{map_shape, knows_map, OfMap, HasEntry, KeyLeads, KeyLeadsNowhere}
+use Rattle.cabinet_archives.specs.Sound.{HasSoundWalk, IsSoundPart}
+use Rattle.std.proofs.Math.Logic.{∥∥₁_map}
+use Rattle.cabinet_archives.specs.Way.{StepsTo, steps_inside, steps_place, steps_key, GoesTo, goes_nowhere, goes_on}
 use Rattle.cabinet_archives.specs.Found.{Reaches, ReachesNone}
-use Rattle.cabinet_archives.proofs.Stepping.{goes_on_at, IsNotInside, IsNoPlace, other_step, none_step, some_step, past_step, element_step}
+use Rattle.cabinet_archives.proofs.Soundness.{option_sound, list_sound, some_sound, element_sound}
+use Rattle.cabinet_archives.proofs.Stepping.{goes_on_at, IsNotInside, IsNoPlace, IsNoKey, other_step, none_step, some_step, past_step, element_step, key_step, no_key_step}
 
 -- the condition on an option, changed on either side
 pub matched : {A P R : Type 0} (Q S : A → Type 0) (o : Option A) → (P → R) → ((x : A) → Q x → S x) → MatchOption o P Q → MatchOption o R S
@@ -32,9 +40,10 @@ way_on {bytes = bytes} {from = from} {to = to} {more = more} (goes_nowhere e f) 
 way_on {more = more} (goes_on e steps rest) way = goes_on (ap (λ p. p ++ more) e) steps (way_on rest way)
 
 module _ (bytes : List ℕ) (root : ℕ) where
-  pub reaches_self : HasValue node_shape KnowsNode bytes root → Reaches bytes root [] root
-  reaches_self has = record {
+  pub reaches_self : HasValue node_shape KnowsNode bytes root → IsSoundPart bytes (at root node_shape) → Reaches bytes root [] root
+  reaches_self has sound = record {
     there = has;
+    sound = sound;
     way = goes_nowhere refl refl;
     stands = λ v t h d. record { tree = t; there = refl; node = record { value = v; held = h; denotes = d } };
   }
@@ -42,6 +51,7 @@ module _ (bytes : List ℕ) (root : ℕ) where
   pub reaches_on : {next to : ℕ} {path more : List Step} → Reaches bytes root path next → Reaches bytes next more to → Reaches bytes root (path ++ more) to
   reaches_on {path = path} {more = more} a b = record {
     there = b.there;
+    sound = b.sound;
     way = way_on a.way b.way;
     stands = λ v t h d.
         let p = a.stands v t h d in
@@ -69,8 +79,8 @@ behind_box_tag pos = refl
 
 module _ (bytes : List ℕ) (pos : ℕ) where
   -- by a step that is not the kind's own
-  pub other_none : (s : Step) (tag : ℕ) (shape : Shape) (knows : Names → Type 0) (to : ℕ) → tag < 6 → (tag ≡ 4 → IsNotInside s) → (tag ≡ 5 → IsNoPlace s) → IsTagged bytes pos tag shape knows to → ReachesNone bytes pos (s ∷ [])
-  other_none s tag shape knows to less apart beside tagged = λ v t h d. let p = tagged.payload v h in other_step s p.is less apart beside d
+  pub other_none : (s : Step) (tag : ℕ) (shape : Shape) (knows : Names → Type 0) (to : ℕ) → tag < 7 → (tag ≡ 4 → IsNotInside s) → (tag ≡ 5 → IsNoPlace s) → (tag ≡ 6 → IsNoKey s) → IsTagged bytes pos tag shape knows to → ReachesNone bytes pos (s ∷ [])
+  other_none s tag shape knows to less apart beside keyless tagged = λ v t h d. let p = tagged.payload v h in other_step s p.is less apart beside keyless d
 
   module _ (to : ℕ) (tagged : IsTagged bytes pos 4 (option Boxed) KnowsNode to) where
     pub empty_none : (s : Step) → IsNoneAt Boxed KnowsNode bytes to → ReachesNone bytes pos (s ∷ [])
@@ -78,19 +88,23 @@ module _ (bytes : List ℕ) (pos : ℕ) where
         let p = tagged.payload v h in
         none_step s (p.is ∙ ap (tagged_value 4) (none p.payload p.held)) d
 
-    pub content_there : (at : ℕ) → at ≡ some_position Boxed to → IsSomeAt Boxed KnowsNode bytes to → HasValue Boxed KnowsNode bytes at
-    content_there at e some =
+    pub content_there : (from : ℕ) → from ≡ some_position Boxed to → IsSomeAt Boxed KnowsNode bytes to → HasValue Boxed KnowsNode bytes from
+    content_there from e some =
         let p = some tagged.there.value tagged.there.held in
         subst (HasValue Boxed KnowsNode bytes) (sym e) (record { value = p.payload; held = p.held })
 
     -- into an option that is some
-    pub content_reached : (s : Step) (at next : ℕ) → s ≡ inside → to ≡ pos + 4 → at ≡ some_position Boxed to → IsSomeAt Boxed KnowsNode bytes to → IsBoxAt node_shape KnowsNode bytes at next
+    pub content_reached : (node : HasValue node_shape KnowsNode bytes pos) (sound : IsSoundPart bytes (at pos node_shape)) (s : Step) (from next : ℕ) → s ≡ inside → to ≡ pos + 4 → from ≡ some_position Boxed to → IsSomeAt Boxed KnowsNode bytes to → IsBoxAt node_shape KnowsNode bytes from next
         → Reaches bytes pos (s ∷ []) next
-    content_reached s at next is behind e some boxed =
-        let there = content_there at e some in
-        let place_is : at ≡ pos + 8 = omega (arith, e, behind, behind_box_tag to) in
+    content_reached node sound s from next is behind e some boxed =
+        let there = content_there from e some in
+        let place_is : from ≡ pos + 8 = omega (arith, e, behind, behind_box_tag to) in
         record {
           there = record { value = there.value; held = boxed.value there.value there.held };
+          sound =
+              ∥∥₁_map sound (λ walk.
+              some_sound bytes tagged.there (subst (λ n. HasSoundWalk bytes (at n (option Boxed))) (sym behind) (option_sound bytes node walk tagged)) some
+              (subst (λ n. PointsTo bytes n next) (e ∙ behind_box_tag to) boxed.points));
           way = one_step (steps_inside is (subst (λ n. PointsTo bytes n next) place_is boxed.points));
           stands = λ v t h d.
               let p = tagged.payload v h in
@@ -111,12 +125,15 @@ module _ (bytes : List ℕ) (pos : ℕ) where
         ap (λ x. node_at t (x ∷ [])) is ∙ past_step i (p.is ∙ ap (tagged_value 5) all.is) (omega (arith, all.count, past)) d
 
     -- to an element
-    pub element_reached : (s : Step) (i next : ℕ) → s ≡ place i → to ≡ pos + 4 → i < len → next ≡ first + i * size_of node_shape → Reaches bytes pos (s ∷ []) next
-    element_reached s i next is behind less e =
+    pub element_reached : (node : HasValue node_shape KnowsNode bytes pos) (sound : IsSoundPart bytes (at pos node_shape)) (s : Step) (i next : ℕ) → s ≡ place i → to ≡ pos + 4 → i < len → next ≡ first + i * size_of node_shape → Reaches bytes pos (s ∷ []) next
+    element_reached node sound s i next is behind less e =
         let there = elements.value tagged.there.value tagged.there.held in
         let one = there.each i less in
         record {
           there = record { value = one.0; held = subst (λ n. HeldAt node_shape KnowsNode bytes n one.0) (sym e) one.2 };
+          sound =
+              subst (λ n. IsSoundPart bytes (at n node_shape)) (sym e)
+              (∥∥₁_map sound (λ walk. element_sound bytes i tagged.there (subst (λ n. HasSoundWalk bytes (at n (vector node_shape))) (sym behind) (list_sound bytes node walk tagged)) elements less));
           way = one_step (steps_place is (subst (λ n. PointsTo bytes n first) behind elements.points) e);
           stands = λ v t h d.
               let p = tagged.payload v h in
@@ -129,3 +146,42 @@ module _ (bytes : List ℕ) (pos : ℕ) where
                 node = record { value = x.0; held = subst (λ n. HeldAt node_shape KnowsNode bytes n x.0) (sym e) x.2; denotes = f.denotes };
               };
         }
+
+  module _ (to : ℕ) (tagged : IsTagged bytes pos 6 map_shape knows_map to) where
+    -- by a key that the map has not
+    pub key_none : (s : Step) (k : List ℕ) → s ≡ key k → OfMap bytes to (λ v. KeyLeadsNowhere v k) → ReachesNone bytes pos (s ∷ [])
+    key_none s k is nowhere = λ v t h d.
+        let p = tagged.payload v h in
+        ap (λ x. node_at t (x ∷ [])) is ∙ no_key_step k p.is (nowhere p.payload p.held) d
+
+    -- to the node of a key
+    pub entry_reached : (s : Step) (k : List ℕ) (next : ℕ) → s ≡ key k → to ≡ pos + 4 → OfMap bytes to (λ v. KeyLeads bytes v k next) → HasEntry bytes to k next → IsSoundPart bytes (at next node_shape)
+        → Reaches bytes pos (s ∷ []) next
+    entry_reached s k next is behind leads entry sound =
+        let one = leads tagged.there.value tagged.there.held in
+        record {
+          there = record { value = one.node; held = one.held };
+          sound = sound;
+          way = one_step (steps_key is (subst (λ n. HasEntry bytes n k next) behind entry));
+          stands = λ v t h d.
+              let p = tagged.payload v h in
+              let x = leads p.payload p.held in
+              let f = key_step k x.index x.node p.is x.item x.first d in
+              record {
+                tree = f.tree;
+                there = ap (λ y. node_at t (y ∷ [])) is ∙ f.there;
+                node = record { value = x.node; held = x.held; denotes = f.denotes };
+              };
+        }
+
+-- a step to a key, by what the look-up of the key finds
+pub by_key : (bytes : Bor (List ℕ)) (pos to : ℕ) → IsTagged bytes.now pos 6 map_shape knows_map to → (s : Step) (k : List ℕ) → s ≡ key k → to ≡ pos + 4
+    → (result : Option (Ref ArchivedNode))
+    → OfMap bytes.now to (λ v. MatchOption result (KeyLeadsNowhere v k) (λ node. (node.bytes ≡ bytes) × KeyLeads bytes.now v k node.pos))
+    → IfSome result (λ node. HasEntry bytes.now to k node.pos)
+    → IfSome result (λ node. IsSoundPart bytes.now (at node.pos node_shape))
+    → MatchOption result (ReachesNone bytes.now pos (s ∷ [])) (λ node. (node.bytes ≡ bytes) × Reaches bytes.now pos (s ∷ []) node.pos)
+by_key bytes pos to tagged s k is behind None leads entry sound = key_none bytes.now pos to tagged s k is leads
+by_key bytes pos to tagged s k is behind (Some node) leads entry sound =
+    let one = leads tagged.there.value tagged.there.held in
+    (one.0, entry_reached bytes.now pos to tagged s k node.pos is behind (λ v h. (leads v h).1) entry sound)

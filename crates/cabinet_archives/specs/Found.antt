@@ -1,12 +1,14 @@
 -- The node that a path leads to in an archived document.
 use Rattle.std.specs.Prelude.{◌≡◌, ℕ, List, Some, None}
 use Rattle.archive_shape.specs.ShapeLayout.Value.{Value}
+use Rattle.archive_shape.specs.ShapeLayout.Content.Part.{at}
 use Rattle.archive_shape.specs.Key.{HeldAt}
 use Rattle.archive_forms_values.specs.Parts.{HasValue}
 use Rattle.cabinet_text_nodes.specs.TextGrammar.Tree.{Tree}
 use Rattle.cabinet_text_nodes.specs.TextGrammar.Path.{Step, node_at}
 use Rattle.cabinet_archived.specs.Documents.Node.{node_shape, KnowsNode}
 use Rattle.cabinet_archived.specs.Documents.Denotes.{Denotes}
+use Rattle.cabinet_archives.specs.Sound.{IsSoundPart}
 use Rattle.cabinet_archives.specs.Way.{GoesTo}
 
 -- `is` is true of every document whose root is the node at `pos`
@@ -28,6 +30,7 @@ pub record StandsIn (bytes : List ℕ) (pos : ℕ) (path : List Step) (t : Tree)
 -- the path leads from the root at `root` to the node at `to`
 pub record Reaches (bytes : List ℕ) (root : ℕ) (path : List Step) (to : ℕ) : Type 0 where
   pub there : HasValue node_shape KnowsNode bytes to
+  pub sound : IsSoundPart bytes (at to node_shape)
   pub way : GoesTo bytes root path to
   pub stands : OfDocument bytes root (StandsIn bytes to path)
 

@@ -1,7 +1,9 @@
 pub mod Failing
 pub mod Found
+pub mod Ordered
 pub mod Putting
 pub mod Refused
 pub mod Saving
 pub mod Setting
+pub mod Sound
 pub mod Way

@@ -3,12 +3,13 @@ use Rattle.std.specs.Prelude.{◌≡◌, ◌≢◌}
 use Rattle.archive_shape_writing.specs.declared.error.Error.{Error}
 use Rattle.archive_shape_writing.specs.declared.error.Error.TheVariants as error
 use Rattle.cabinet_archived.specs.Documents.Audit as audit
-use Rattle.cabinet_archives.specs.declared.opening.opening.OpenRefusal.{OpenRefusal}
-use Rattle.cabinet_archives.specs.declared.opening.opening.OpenRefusal.TheVariants.{Access, TooDeep, OutOfMemory}
+use Rattle.cabinet_archives.specs.declared.opening.refusal.OpenRefusal.{OpenRefusal}
+use Rattle.cabinet_archives.specs.declared.opening.refusal.OpenRefusal.TheVariants.{Access, TooDeep, KeysNotAscending, OutOfMemory}
 
 abbrev pub refusal_of : OpenRefusal → audit.Refusal
 refusal_of (Access e) = audit.access e
 refusal_of TooDeep = audit.unsound audit.too_deep
+refusal_of KeysNotAscending = audit.unsound audit.keys_not_ascending
 refusal_of OutOfMemory = audit.out_of_memory
 
 -- an access fails because an allocation failed, or otherwise because of the bytes

@@ -1,6 +1,7 @@
 //! Questions about documents, answered from the bytes of their archives.
 
 mod heads;
+mod keys;
 mod question;
 mod walk;
 

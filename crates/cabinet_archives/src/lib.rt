@@ -2,6 +2,7 @@
 #![tactic(auto)]
 
 mod asking;
+mod maps;
 mod opening;
 mod saving;
 mod setting;

@@ -1,6 +1,8 @@
-//! Opening bytes as the archive of a document: a node is accessed at their root and then audited.
+//! Opening bytes as the archive of a document.
 
+mod audit;
 mod opening;
-mod shallow;
+mod refusal;
 
-pub use opening::{OpenRefusal, check};
+pub use opening::check;
+pub use refusal::OpenRefusal;

@@ -1,9 +1,9 @@
 -- Writing one level of a node, with the nodes below it written as nodes, writes the node.
-use Rattle.std.proofs.Common.{◌≡◌, ℕ, suc, ◌+◌, ◌≤◌, [], ◌∷◌, Option, Some, None, refl, arith}
+use Rattle.std.proofs.Common.{◌≡◌, ℕ, suc, ◌+◌, ◌≤◌, List, [], ◌∷◌, map as mapped, Option, Some, None, refl, arith}
 use Rattle.std.proofs.Math.Nat.{le-max_left, le-max_right}
 use Rattle.archive_forms_values.specs.ShapeLayout.Bytes.{align_up}
 use Rattle.archive_forms_values.specs.ShapeLayout.Shape.{Shape, size_of, align_of}
-use Rattle.archive_forms_values.specs.ShapeLayout.Shape.Shape.{option, choice, vector}
+use Rattle.archive_forms_values.specs.ShapeLayout.Shape.Shape.{text, option, choice, vector, tree}
 use Rattle.archive_forms_values.specs.ShapeLayout.Value.Value.{chosen}
 use Rattle.archive_forms_values.specs.ShapeLayout.Value.Values.{no_values, more_values}
 use Rattle.archive_forms_values.specs.ShapeWriting.declared.error.Error.{Error}
@@ -12,12 +12,16 @@ use Rattle.archive_forms_values.specs.FormsLaws.Forms.{kept_as}
 use Rattle.archive_forms_values.specs.FormsLaws.Pointers.{box_spelling, slice_spelling}
 use Rattle.archive_forms_values.specs.FormsLaws.Options.{tagged_bytes, payload_at, option_spelling, option_own, option_own_fits, option_own_refused}
 use Rattle.archive_forms_values.proofs.FormsLaws.Agreeing.{said, AgreeOn, slices_agree, self_agrees, serializes_alike}
+use Rattle.archive_forms_rc.specs.FormsWriting.Owned.{str_spelling}
+use Rattle.archive_btree_spelling.specs.Maps.{btree_spelling}
+use Rattle.archive_btree_spelling.proofs.Seen.{btree_agrees}
+use Rattle.cabinet_text_grammar.specs.Keys.{ordered, hashed, kept}
 use Rattle.cabinet_text_grammar.specs.Tree as document
-use Rattle.cabinet_text_grammar.specs.Tree.{Tree, Trees, leaf, shared, nothing, just, list, map, no_trees, more_trees, depth, most_depth}
+use Rattle.cabinet_text_grammar.specs.Tree.{Tree, Trees, Pairs, leaf, shared, nothing, just, list, map, no_trees, more_trees, no_pairs, more_pairs, depth, most_depth, pairs_depth}
 use Rattle.cabinet_documents.specs.Node.{node_shape, payloads}
 use Rattle.cabinet_documents.specs.declared.spelling.resolver.NodeResolver.{NodeResolver}
 use Rattle.cabinet_documents.specs.declared.spelling.resolver.NodeResolver.TheVariants as resolver
-use Rattle.cabinet_documents.specs.Spelling.{boxed_shape, boxed_spelling, maybe_spelling, list_spelling, trees_in, maybe_in, list_in, node_of, refused, node_level, node_spelling}
+use Rattle.cabinet_documents.specs.Spelling.{boxed_shape, boxed_spelling, maybe_spelling, list_spelling, ordered_spelling, trees_in, pairs_in, maybe_in, list_in, ordered_in, node_of, refused, node_level, node_spelling}
 use Rattle.cabinet_documents.specs.SpellingLaws.{OneLevelIsWritten}
 
 module _ {A R : Type 0} (w u : Spelling A R) (x : A) (same : said w x ≡ said u x) where
@@ -138,6 +142,13 @@ trees_agree w u n (more_trees t ts) less same =
     let b = le-max_right (depth t) (most_depth ts) in
     (same t (omega (arith, a)), trees_agree w u n ts (omega (arith, b)) same)
 
+pairs_agree : (w u : Spelling Tree NodeResolver) (n : ℕ) (ps : Pairs) → suc (pairs_depth ps) ≤ n → ((y : Tree) → suc (depth y) ≤ n → said w y ≡ said u y) → AgreeOn w u (mapped (λ (e : List ℕ × Tree). e.1) (pairs_in ps))
+pairs_agree w u n no_pairs less same = tt
+pairs_agree w u n (more_pairs k t ps) less same =
+    let a = le-max_left (depth t) (pairs_depth ps) in
+    let b = le-max_right (depth t) (pairs_depth ps) in
+    (same t (omega (arith, a)), pairs_agree w u n ps (omega (arith, b)) same)
+
 level_agrees : (w u : Spelling Tree NodeResolver) (t : Tree) → ((y : Tree) → suc (depth y) ≤ depth t → said w y ≡ said u y) → said (node_level w) t ≡ said (node_level u) t
 level_agrees w u (leaf (document.truth b)) same = refl
 level_agrees w u (leaf (document.number n)) same = refl
@@ -154,7 +165,13 @@ level_agrees w u (list ts) same =
     let all = slices_agree w u node_shape xs (trees_agree w u (suc (most_depth ts)) ts (omega arith) same) in
     let kept = kept_agree (slice_spelling node_shape w) (slice_spelling node_shape u) xs all (λ n. record { pos = n }) (λ r. r.pos) in
     node_of_agrees (list_spelling w) (list_spelling u) xs kept 5 (vector node_shape) resolver.List list_in (list ts)
-level_agrees w u (map kind ps) same = refl
+level_agrees w u (map ordered ps) same =
+    let xs = pairs_in ps in
+    let all = btree_agrees 5 text node_shape str_spelling w u xs (pairs_agree w u (suc (pairs_depth ps)) ps (omega arith) same) in
+    let kept = kept_agree (btree_spelling 5 text node_shape str_spelling w) (btree_spelling 5 text node_shape str_spelling u) xs all (λ o. record { pos = o }) (λ r. r.pos) in
+    node_of_agrees (ordered_spelling w) (ordered_spelling u) xs kept 6 (tree 5 text node_shape) resolver.Ordered ordered_in (map ordered ps)
+level_agrees w u (map hashed ps) same = refl
+level_agrees w u (map kept ps) same = refl
 
 pub node_said : (t : Tree) → said (node_level node_spelling) t ≡ said node_spelling t
 node_said = self_agrees node_level refused depth level_agrees

@@ -12,7 +12,7 @@ use Rattle.cabinet_documents.specs.Node.{node_names, node_shape}
 use Rattle.cabinet_documents.specs.Denotes.{tagged_value, pair_value}
 use Rattle.cabinet_documents.specs.OwnBytes.{LeadsTo, leads_here, leads_inside, leads_place, leads_key}
 use Rattle.cabinet_documents.specs.Laws.{OwnBytesApart}
-use Rattle.cabinet_documents.proofs.Known.{high_tag}
+use Rattle.cabinet_documents.proofs.Changing.{high_tag}
 use Rattle.cabinet_documents.proofs.OwnWritten.{in_leaf}
 
 -- ---- a path of the layout is that of one path of the document

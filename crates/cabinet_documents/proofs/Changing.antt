@@ -1,21 +1,25 @@
 -- Putting a leaf in a node's value puts it in the document.
-use Rattle.std.proofs.Common.{◌≡◌, ℕ, ℤ, Bool, zero, suc, true, cond, List, [], ◌∷◌, ◌++◌, Option, Some, refl, sym, subst}
+use Rattle.std.proofs.Common.{◌≡◌, ℕ, ℤ, Bool, zero, suc, true, false, cond, List, [], ◌∷◌, ◌++◌, Option, Some, refl, sym, ap, subst, ◌∙◌, ◌<◌, arith, ◌⊎◌, inl, inr, ◌≢◌}
+use Rattle.std.specs.Str.{bytes_eq}
 use Rattle.archive_forms_values.specs.ShapeLayout.Value.{Value, Values}
 use Rattle.archive_forms_values.specs.ShapeLayout.Value.Value.{boolean, integer, string, group}
-use Rattle.archive_forms_values.specs.ShapeLayout.Value.Values.{no_values, more_values}
+use Rattle.archive_forms_values.specs.ShapeLayout.Value.Values.{no_values}
 use Rattle.archive_forms_values.specs.ShapeLayout.Path.{put_at, value_in}
 use Rattle.archive_forms_values.specs.ShapeLayout.Path as layout
+use Rattle.cabinet_text_grammar.specs.Keys.{MapKind, ordered, hashed, kept}
 use Rattle.cabinet_text_grammar.specs.Tree.{Leaf, truth, number, text}
-use Rattle.cabinet_text_grammar.specs.Path.{Step, place, inside}
+use Rattle.cabinet_text_grammar.specs.Path.{Step, key, place, inside}
 use Rattle.cabinet_text_grammar.specs.Answering.{fits}
-use Rattle.cabinet_text_grammar.specs.Tree.{Tree, Trees, leaf, just, list}
-use Rattle.cabinet_text_grammar.specs.Path.{node_at, node_in}
-use Rattle.cabinet_text_grammar.specs.Answering.{change, change_in}
-use Rattle.cabinet_documents.specs.Denotes.{Denotes, DenoteAll, tagged_value}
+use Rattle.cabinet_text_grammar.specs.Tree.{Tree, Trees, Pairs, leaf, just, list, map, IsLegal, AreLegal}
+use Rattle.cabinet_text_grammar.specs.Path.{node_at, node_in, node_by}
+use Rattle.cabinet_text_grammar.specs.Answering.{change, change_in, change_by}
+use Rattle.cabinet_documents.specs.Denotes.{Denotes, DenoteAll, DenotePairs, tagged_value, pair_value}
 use Rattle.cabinet_documents.specs.Denotes.Denotes.{denotes_truth, denotes_number, denotes_text, denotes_shared, denotes_nothing, denotes_some, denotes_list, denotes_ordered, denotes_hashed, denotes_kept}
 use Rattle.cabinet_documents.specs.Denotes.DenoteAll.{denote_none, denote_more}
+use Rattle.cabinet_documents.specs.Denotes.DenotePairs.{denote_no_pairs, denote_pair}
 use Rattle.cabinet_documents.specs.OwnBytes.{LeadsTo, leads_here, leads_inside, leads_place, leads_key}
-use Rattle.cabinet_documents.specs.Laws.{payload_of, HasNoKey, LeafPut}
+use Rattle.cabinet_documents.specs.Laws.{payload_of, LeafPut}
+use Rattle.cabinet_documents.proofs.ByKey.{change_here, change_past, node_here, node_past, keys_same, keys_differ, Lacks, AreDistinct, distinct, in_order, distinct_in_order, node_in_order, change_in_order}
 
 fitting : (old new : Leaf) → fits old new ≡ true → (v : Value) → Denotes v (leaf new) → Denotes v (cond (fits old new) (leaf new) (leaf old))
 fitting old new h v d = subst (λ c. Denotes v (cond c (leaf new) (leaf old))) (sym h) d
@@ -35,7 +39,7 @@ text_put (truth c) s h = absurd (cc)
 text_put (number n) s h = absurd (cc)
 text_put (text u) s h = fitting (text s) (text u) h (tagged_value 2 (string u)) (denotes_text {s = u} refl refl)
 
--- the document that the value of a some and of a list denotes
+-- the document that the value of a some, of a list and of a map denotes
 pub record IsSome' (u : Value) (t : Tree) : Type 0 where
   pub inner : Tree
   pub is : t ≡ just inner
@@ -70,8 +74,64 @@ of_list g (denotes_ordered e f k) = absurd (cc)
 of_list g (denotes_hashed e f k) = absurd (cc)
 of_list g (denotes_kept e f k) = absurd (cc)
 
+pub record IsOrdered (vs : Values) (t : Tree) : Type 0 where
+  pub pairs : Pairs
+  pub is : t ≡ map ordered pairs
+  pub denotes : DenotePairs vs pairs
+
+pub of_ordered : {v : Value} {vs : Values} {t : Tree} → v ≡ tagged_value 6 (group vs) → Denotes v t → IsOrdered vs t
+of_ordered g (denotes_truth e f) = absurd (cc)
+of_ordered g (denotes_number e f) = absurd (cc)
+of_ordered g (denotes_text e f) = absurd (cc)
+of_ordered g (denotes_shared e f) = absurd (cc)
+of_ordered g (denotes_nothing e f) = absurd (cc)
+of_ordered g (denotes_some e f k) = absurd (cc)
+of_ordered g (denotes_list e f k) = absurd (cc)
+of_ordered {vs = vs} g (denotes_ordered {vs = ws} {ps = ps} e f k) = let same : ws ≡ vs = cc in record { pairs = ps; is = f; denotes = subst (λ y. DenotePairs y ps) same k }
+of_ordered g (denotes_hashed e f k) = absurd (cc)
+of_ordered g (denotes_kept e f k) = absurd (cc)
+
+-- of a map of any kind, which has the pairs in the order of its kind
+pub record IsMap (tag : ℕ) (vs : Values) (t : Tree) : Type 0 where
+  pub kind : MapKind
+  pub pairs : Pairs
+  pub is : t ≡ map kind (in_order kind pairs)
+  pub denotes : DenotePairs vs pairs
+  -- the tag is that of the kind
+  pub made : (ws : Values) (ps : Pairs) → DenotePairs ws ps → Denotes (tagged_value tag (group ws)) (map kind (in_order kind ps))
+
+-- the tags of maps are none of the others
+pub high_tag : (tag n : ℕ) → tag ≡ n → (n ≡ 6) ⊎ ((n ≡ 7) ⊎ (n ≡ 8)) → tag < 6 → ⊥
+high_tag tag n e (inl a) h = omega arith
+high_tag tag n e (inr (inl a)) h = omega arith
+high_tag tag n e (inr (inr a)) h = omega arith
+
+pub of_map : {v : Value} {tag : ℕ} {vs : Values} {t : Tree} → v ≡ tagged_value tag (group vs) → (tag ≡ 6) ⊎ ((tag ≡ 7) ⊎ (tag ≡ 8)) → Denotes v t → IsMap tag vs t
+of_map g high (denotes_truth e f) = absurd (cc)
+of_map g high (denotes_number e f) = absurd (cc)
+of_map g high (denotes_text e f) = absurd (cc)
+of_map g high (denotes_shared e f) = absurd (cc)
+of_map g high (denotes_nothing e f) = absurd (cc)
+of_map g high (denotes_some e f k) = absurd (cc)
+of_map {tag = tag} g high (denotes_list e f k) = let low : 5 ≡ tag = cc in absurd (high_tag 5 tag low high (omega arith))
+of_map {tag = tag} {vs = vs} g high (denotes_ordered {vs = ws} {ps = ps} e f k) =
+    let same : ws ≡ vs = cc in
+    let is : 6 ≡ tag = cc in
+    record { kind = ordered; pairs = ps; is = f; denotes = subst (λ y. DenotePairs y ps) same k; made = λ us qs d. subst (λ n. Denotes (tagged_value n (group us)) (map ordered qs)) is (denotes_ordered refl refl d) }
+of_map {tag = tag} {vs = vs} g high (denotes_hashed {vs = ws} {ps = ps} e f k) =
+    let same : ws ≡ vs = cc in
+    let is : 7 ≡ tag = cc in
+    record { kind = hashed; pairs = ps; is = f; denotes = subst (λ y. DenotePairs y ps) same k; made = λ us qs d. subst (λ n. Denotes (tagged_value n (group us)) (map hashed (in_order hashed qs))) is (denotes_hashed refl refl d) }
+of_map {tag = tag} {vs = vs} g high (denotes_kept {vs = ws} {ps = ps} e f k) =
+    let same : ws ≡ vs = cc in
+    let is : 8 ≡ tag = cc in
+    record { kind = kept; pairs = ps; is = f; denotes = subst (λ y. DenotePairs y ps) same k; made = λ us qs d. subst (λ n. Denotes (tagged_value n (group us)) (map kept qs)) is (denotes_kept refl refl d) }
+
+-- ---- a leaf put where one is
+
 module _ (new : Leaf) where
-  abbrev Put : Value → List Step → List ℕ → Tree → Type 0
+  -- a leaf put in a value at a path is put in the document
+  abbrev pub Put : Value → List Step → List ℕ → Tree → Type 0
   Put v path inner t = Denotes (put_at (inner ++ 0 ∷ []) (payload_of new) v) (change t path new)
 
   put_here : {v : Value} {t : Tree} → Denotes v t → (old : Leaf) → t ≡ leaf old → fits old new ≡ true → Put v [] [] t
@@ -92,66 +152,123 @@ module _ (new : Leaf) where
   put_here (denotes_hashed e f k) old g h = absurd (cc)
   put_here (denotes_kept e f k) old g h = absurd (cc)
 
-  put_in :
-      {vs : Values} {ts : Trees} (i : ℕ) (u : Value) (path : List Step) (inner : List ℕ) (old : Leaf)
-      → DenoteAll vs ts
-      → value_in i vs ≡ Some u
-      → node_in ts i path ≡ Some (leaf old)
-      → ((t : Tree) → Denotes u t → node_at t path ≡ Some (leaf old) → Put u path inner t)
-      → DenoteAll (layout.change_in i (λ x. put_at (inner ++ 0 ∷ []) (payload_of new) x) vs) (change_in ts i path new)
-  put_in {vs = vs} {ts = ts} i u path inner old (denote_none e f) g h ih =
-      let none : value_in i no_values ≡ Some u = subst (λ x. value_in i x ≡ Some u) e g in
-      absurd (cc)
-  put_in {vs = vs} {ts = ts} zero u path inner old (denote_more {v = v} {vs = vs'} {t = t} {ts = ts'} e f d k) g h ih =
-      let here : ◌≡◌ {A = Option Value} (Some v) (Some u) = subst (λ x. value_in zero x ≡ Some u) e g in
-      let same : v ≡ u = cc in
-      let there : node_at t path ≡ Some (leaf old) = subst (λ x. node_in x zero path ≡ Some (leaf old)) f h in
-      let one = ih t (subst (λ x. Denotes x t) same d) there in
-      let two = subst (λ x. Put x path inner t) (sym same) one in
-      subst (λ x. DenoteAll (layout.change_in zero (λ y. put_at (inner ++ 0 ∷ []) (payload_of new) y) x) (change_in ts zero path new)) (sym e)
-      (subst (λ x. DenoteAll (more_values (put_at (inner ++ 0 ∷ []) (payload_of new) v) vs') (change_in x zero path new)) (sym f)
-      (denote_more refl refl two k))
-  put_in {vs = vs} {ts = ts} (suc i) u path inner old (denote_more {v = v} {vs = vs'} {t = t} {ts = ts'} e f d k) g h ih =
-      let here : value_in i vs' ≡ Some u = subst (λ x. value_in (suc i) x ≡ Some u) e g in
-      let there : node_in ts' i path ≡ Some (leaf old) = subst (λ x. node_in x (suc i) path ≡ Some (leaf old)) f h in
-      let others = put_in i u path inner old k here there ih in
-      subst (λ x. DenoteAll (layout.change_in (suc i) (λ y. put_at (inner ++ 0 ∷ []) (payload_of new) y) x) (change_in ts (suc i) path new)) (sym e)
-      (subst (λ x. DenoteAll (more_values v (layout.change_in i (λ y. put_at (inner ++ 0 ∷ []) (payload_of new) y) vs')) (change_in x (suc i) path new)) (sym f)
-      (denote_more refl refl d others))
+-- ---- what a path leads to
 
-  pub put :
-      {v w : Value} {path : List Step} {inner : List ℕ}
-      → LeadsTo v path inner w
-      → HasNoKey path
-      → (t : Tree)
-      → Denotes v t
-      → (old : Leaf)
-      → node_at t path ≡ Some (leaf old)
-      → fits old new ≡ true
-      → Put v path inner t
-  put {v = v} (leads_here {path = path} {inner = inner} e f g) n t d old h k =
-      let there : ◌≡◌ {A = Option Tree} (Some t) (Some (leaf old)) = subst (λ x. node_at t x ≡ Some (leaf old)) f h in
-      let is : t ≡ leaf old = cc in
-      subst (λ x. Put v path x t) (sym g) (subst (λ x. Put v x [] t) (sym f) (put_here d old is k))
-  put {v = v} (leads_inside {w = w} {u = u} {path = path} {rest = rest} {inner = inner} {more = more} e f g l) n t d old h k =
-      let s = of_some e d in
-      let none : HasNoKey rest = subst HasNoKey f n in
-      let there : node_at s.inner rest ≡ Some (leaf old) = subst (λ x. node_at x (inside ∷ rest) ≡ Some (leaf old)) s.is (subst (λ x. node_at t x ≡ Some (leaf old)) f h) in
-      let one = put l none s.inner s.denotes old there k in
-      subst (λ x. Put x path inner t) (sym e) (subst (λ x. Put (tagged_value 4 (tagged_value 1 u)) path x t) (sym g)
-      (subst (λ x. Put (tagged_value 4 (tagged_value 1 u)) x (0 ∷ (0 ∷ more)) t) (sym f)
-      (subst (λ x. Put (tagged_value 4 (tagged_value 1 u)) (inside ∷ rest) (0 ∷ (0 ∷ more)) x) (sym s.is)
-      (denotes_some refl refl one))))
-  put {v = v} (leads_place {w = w} {u = u} {vs = vs} {i = i} {path = path} {rest = rest} {inner = inner} {more = more} e i_is f g l) n t d old h k =
-      let s = of_list e d in
-      let none : HasNoKey rest = subst HasNoKey f n in
-      let there : node_in s.elements i rest ≡ Some (leaf old) = subst (λ x. node_at x (place i ∷ rest) ≡ Some (leaf old)) s.is (subst (λ x. node_at t x ≡ Some (leaf old)) f h) in
-      let all = put_in i u rest more old s.denotes i_is there (λ t' d' h'. put l none t' d' old h' k) in
-      subst (λ x. Put x path inner t) (sym e) (subst (λ x. Put (tagged_value 5 (group vs)) path x t) (sym g)
-      (subst (λ x. Put (tagged_value 5 (group vs)) x (0 ∷ (i ∷ more)) t) (sym f)
-      (subst (λ x. Put (tagged_value 5 (group vs)) (place i ∷ rest) (0 ∷ (i ∷ more)) x) (sym s.is)
-      (denotes_list refl refl all))))
-  put (leads_key {k = key_here} e tag i_is f g l) n t d old h k = absurd (subst HasNoKey f n)
+-- a key that a pair has is not one that all lack
+other_key : {vs : Values} {ps : Pairs} (i : ℕ) (k l : List ℕ) (u : Value) → DenotePairs vs ps → value_in i vs ≡ Some (pair_value k u) → Lacks l ps → k ≢ l
+other_key i k l u (denote_no_pairs e f) g h same =
+    let none : value_in i no_values ≡ Some (pair_value k u) = ap (value_in i) (sym e) ∙ g in
+    cc
+other_key zero k l u (denote_pair {k = m} {v = v} e f d rest) g h same =
+    let here : ◌≡◌ {A = Option Value} (Some (pair_value m v)) (Some (pair_value k u)) = ap (value_in zero) (sym e) ∙ g in
+    let keys : m ≡ k = cc in
+    (subst (Lacks l) f h).0 (keys ∙ same)
+other_key (suc i) k l u (denote_pair e f d rest) g h same = other_key i k l u rest (ap (value_in (suc i)) (sym e) ∙ g) (subst (Lacks l) f h).1 same
+
+module _ (w : Value) (s : Tree) where
+  -- a path leads to a node's value in a value and to its document in the document; and a leaf put in the one is that
+  -- leaf put in the other
+  pub record Reaches (v : Value) (path : List Step) (inner : List ℕ) (t : Tree) : Type 0 where
+    pub there : Denotes w s
+    pub put : (new : Leaf) → Put new w [] [] s → Put new v path inner t
+
+  -- likewise in a value of a list
+  record ReachesIn (vs : Values) (i : ℕ) (path : List Step) (inner : List ℕ) (ts : Trees) : Type 0 where
+    there : Denotes w s
+    put : (new : Leaf) → Put new w [] [] s → DenoteAll (layout.change_in i (λ x. put_at (inner ++ 0 ∷ []) (payload_of new) x) vs) (change_in ts i path new)
+
+  -- and in the value of a pair, which is the second of two
+  record ReachesBy (vs : Values) (i : ℕ) (k : List ℕ) (path : List Step) (inner : List ℕ) (ps : Pairs) : Type 0 where
+    there : Denotes w s
+    put : (new : Leaf) → Put new w [] [] s → DenotePairs (layout.change_in i (λ x. put_at (1 ∷ (inner ++ 0 ∷ [])) (payload_of new) x) vs) (change_by ps k path new)
+
+  moved : {v v' : Value} {path path' : List Step} {inner inner' : List ℕ} {t t' : Tree}
+      → v ≡ v' → path ≡ path' → inner ≡ inner' → t ≡ t' → Reaches v' path' inner' t' → Reaches v path inner t
+  moved {v' = v'} {path = path} {path' = path'} {inner = inner} {inner' = inner'} {t = t} a b c d h =
+      subst (λ x. Reaches x path inner t) (sym a) (subst (λ x. Reaches v' x inner t) (sym b) (subst (λ x. Reaches v' path' x t) (sym c) (subst (Reaches v' path' inner') (sym d) h)))
+
+  -- it is so at the rest of the path
+  abbrev Onward : Value → List Step → List ℕ → Type 0
+  Onward u path inner = (t : Tree) → IsLegal t → Denotes u t → node_at t path ≡ Some s → Reaches u path inner t
+
+  in_list :
+      {vs : Values} {ts : Trees} (i : ℕ) (u : Value) (path : List Step) (inner : List ℕ)
+      → DenoteAll vs ts → AreLegal ts → value_in i vs ≡ Some u → node_in ts i path ≡ Some s → Onward u path inner → ReachesIn vs i path inner ts
+  in_list i u path inner (denote_none e f) legal g h on =
+      let none : value_in i no_values ≡ Some u = ap (value_in i) (sym e) ∙ g in
+      absurd (cc)
+  in_list zero u path inner (denote_more {v = v} {t = t} e f d k) legal g h on =
+      let here : ◌≡◌ {A = Option Value} (Some v) (Some u) = ap (value_in zero) (sym e) ∙ g in
+      let same : u ≡ v = cc in
+      let r = on t (subst AreLegal f legal).0 (subst (λ x. Denotes x t) (sym same) d) (ap (λ x. node_in x zero path) (sym f) ∙ h) in
+      record {
+        there = r.there;
+        put = λ new p. denote_more
+            (ap (layout.change_in zero (λ x. put_at (inner ++ 0 ∷ []) (payload_of new) x)) e) (ap (λ x. change_in x zero path new) f)
+            (subst (λ x. Put new x path inner t) same (r.put new p)) k;
+      }
+  in_list (suc i) u path inner (denote_more e f d k) legal g h on =
+      let r = in_list i u path inner k (subst AreLegal f legal).1 (ap (value_in (suc i)) (sym e) ∙ g) (ap (λ x. node_in x (suc i) path) (sym f) ∙ h) on in
+      record {
+        there = r.there;
+        put = λ new p. denote_more
+            (ap (layout.change_in (suc i) (λ x. put_at (inner ++ 0 ∷ []) (payload_of new) x)) e) (ap (λ x. change_in x (suc i) path new) f) d (r.put new p);
+      }
+
+  by_key :
+      {vs : Values} {ps : Pairs} (i : ℕ) (k : List ℕ) (u : Value) (path : List Step) (inner : List ℕ)
+      → DenotePairs vs ps → AreDistinct ps → value_in i vs ≡ Some (pair_value k u) → node_by ps k path ≡ Some s → Onward u path inner → ReachesBy vs i k path inner ps
+  by_key i k u path inner (denote_no_pairs e f) legal g h on =
+      let none : value_in i no_values ≡ Some (pair_value k u) = ap (value_in i) (sym e) ∙ g in
+      absurd (cc)
+  by_key zero k u path inner (denote_pair {k = l} {v = v} {t = t} {ps = ps} e f d rest) legal g h on =
+      let here : ◌≡◌ {A = Option Value} (Some (pair_value l v)) (Some (pair_value k u)) = ap (value_in zero) (sym e) ∙ g in
+      let same : u ≡ v = cc in
+      let keys : bytes_eq l k ≡ true = keys_same l k (cc) in
+      let r = on t (subst AreDistinct f legal).1 (subst (λ x. Denotes x t) (sym same) d) (sym (node_here l t ps k path keys) ∙ ap (λ x. node_by x k path) (sym f) ∙ h) in
+      record {
+        there = r.there;
+        put = λ new p. denote_pair
+            (ap (layout.change_in zero (λ x. put_at (1 ∷ (inner ++ 0 ∷ [])) (payload_of new) x)) e) (ap (λ x. change_by x k path new) f ∙ change_here l t ps k path new keys)
+            (subst (λ x. Put new x path inner t) same (r.put new p)) rest;
+      }
+  by_key (suc i) k u path inner (denote_pair {k = l} {t = t} {ps = ps} e f d rest) legal g h on =
+      let all = subst AreDistinct f legal in
+      let later = ap (value_in (suc i)) (sym e) ∙ g in
+      let keys : bytes_eq l k ≡ false = keys_differ l k (λ same. other_key i k l u rest later all.0 (sym same)) in
+      let r = by_key i k u path inner rest all.2 later (sym (node_past l t ps k path keys) ∙ ap (λ x. node_by x k path) (sym f) ∙ h) on in
+      record {
+        there = r.there;
+        put = λ new p. denote_pair
+            (ap (layout.change_in (suc i) (λ x. put_at (1 ∷ (inner ++ 0 ∷ [])) (payload_of new) x)) e) (ap (λ x. change_by x k path new) f ∙ change_past l t ps k path new keys)
+            d (r.put new p);
+      }
+
+  pub reaches : {v : Value} {path : List Step} {inner : List ℕ} → LeadsTo v path inner w → Onward v path inner
+  reaches (leads_here {v = v} e f g) t legal d h =
+      let there : ◌≡◌ {A = Option Tree} (Some t) (Some s) = ap (node_at t) (sym f) ∙ h in
+      let is : t ≡ s = cc in
+      moved e f g is (record { there = subst (λ x. Denotes x s) e (subst (Denotes v) is d); put = λ new p. p })
+  reaches (leads_inside {rest = rest} e f g l) t legal d h =
+      let o = of_some e d in
+      let r = reaches l o.inner (subst IsLegal o.is legal) o.denotes (ap (λ x. node_at x (inside ∷ rest)) (sym o.is) ∙ ap (node_at t) (sym f) ∙ h) in
+      moved e f g o.is (record { there = r.there; put = λ new p. denotes_some refl refl (r.put new p) })
+  reaches (leads_place {u = u} {i = i} {rest = rest} {more = more} e i_is f g l) t legal d h =
+      let o = of_list e d in
+      let r = in_list i u rest more o.denotes (subst IsLegal o.is legal).0 i_is (ap (λ x. node_at x (place i ∷ rest)) (sym o.is) ∙ ap (node_at t) (sym f) ∙ h) (λ x y z n. reaches l x y z n) in
+      moved e f g o.is (record { there = r.there; put = λ new p. denotes_list refl refl (r.put new p) })
+  reaches (leads_key {u = u} {vs = vs} {i = i} {tag = tag} {k = k} {rest = rest} {more = more} e high i_is f g l) t legal d h =
+      let o = of_map e high d in
+      let all = distinct o.kind [] (in_order o.kind o.pairs) (subst IsLegal o.is legal).0 in
+      let there : node_by (in_order o.kind o.pairs) k rest ≡ Some s = ap (λ x. node_at x (key k ∷ rest)) (sym o.is) ∙ ap (node_at t) (sym f) ∙ h in
+      let r = by_key i k u rest more o.denotes (distinct_in_order o.kind o.pairs all) i_is (sym (node_in_order o.kind k rest o.pairs all) ∙ there) (λ x y z n. reaches l x y z n) in
+      moved e f g o.is (record {
+        there = r.there;
+        put = λ new p. subst (λ x. Denotes (tagged_value tag (group (layout.change_in i (λ y. put_at (1 ∷ (more ++ 0 ∷ [])) (payload_of new) y) vs))) (map o.kind x))
+            (sym (change_in_order o.kind k rest new o.pairs all)) (o.made _ _ (r.put new p));
+      })
 
 pub leaf_put_law : LeafPut
-leaf_put_law v w t path inner new l n d x = put new l n t d x.old x.there x.fitting
+leaf_put_law v w t path inner new l document d x =
+    let r = reaches w (leaf x.old) l t document.0 d x.there in
+    r.put new (put_here new r.there x.old refl x.fitting)

@@ -1,28 +1,28 @@
 -- The fields that the values without nodes in them store, against the limits of how they are written.
-use Rattle.std.proofs.Common.{◌≡◌, ℕ, suc, ℤ, pos, negsuc, ◌+◌, ◌-◌, ◌<◌, ◌≤◌, ◌^◌, ◌==◌, cond, Bool, true, false, List, [], ◌∷◌, ◌++◌, map, length, Option, Some, None, refl, sym, ap, ap₂, subst, ◌∙◌, arith, ◌⊎◌, inl, inr, ⊎_elim, length-append, add-zero}
+use Rattle.std.proofs.Common.{◌≡◌, ℕ, suc, ℤ, pos, negsuc, ◌+◌, ◌-◌, ◌<◌, ◌≤◌, ◌^◌, ◌==◌, cond, Bool, true, false, List, [], ◌∷◌, ◌++◌, map, length, replicate, Option, Some, None, refl, sym, ap, ap₂, subst, ◌∙◌, arith, ◌⊎◌, inl, inr, ⊎_elim, length-append, add-zero}
 use Rattle.std.specs.Prelude.{⊤, FitsSigned}
 use Rattle.std.specs.Int.{w32}
-use Rattle.std.proofs.lemmas.Bool.{cases_lt}
+use Rattle.std.proofs.lemmas.Bool.{cases_lt, leb-true}
 use Rattle.std.proofs.lemmas.Bool.Decides.{eqb_tells, nat_tests}
 use Rattle.std.proofs.lemmas.Int.{ints}
 use Rattle.std.proofs.lemmas.List.{length-replicate}
 use Rattle.archive_forms_values.specs.ShapeLayout.Bytes.{align_up}
-use Rattle.archive_forms_values.specs.ShapeLayout.Shape.{Shape, Pointee, align_of}
+use Rattle.archive_forms_values.specs.ShapeLayout.Shape.{Pointee}
 use Rattle.archive_forms_values.specs.ShapeLayout.Shape.Pointee.{str}
 use Rattle.archive_forms_values.specs.ShapeLayout.Value.{Value}
 use Rattle.archive_forms_values.specs.ShapeLayout.Value.Value.{string}
 use Rattle.archive_forms_values.specs.ShapeLayout.Holds.{Visit}
 use Rattle.archive_forms_values.specs.ShapeWriting.declared.error.Error.{Error}
-use Rattle.archive_forms_values.specs.ShapeWriting.declared.error.Error.TheVariants.{PositionTooLarge, LengthTooLarge, StringTooLong, IsizeOverflow}
+use Rattle.archive_forms_values.specs.ShapeWriting.declared.error.Error.TheVariants.{PositionTooLarge}
 use Rattle.archive_forms_values.specs.ShapeCanonical.Sharing.{end_of_shared}
-use Rattle.archive_forms_values.specs.ShapeCanonical.Plan.{Plan, flat, parts, leads, leads_to_text, counts, Target, no_plans}
-use Rattle.archive_forms_values.specs.ShapeCanonical.Limits.{Field, offset, position, count, text_length, IsSomePast, Shared, moved, IsUnmet, IsMetAt, Lies, lies_flat, lies_parts, lies_leads, lies_text, lies_first, lies_later, lie_none, lie_more}
+use Rattle.archive_forms_values.specs.ShapeCanonical.Plan.{Plan, flat, parts, leads, leads_to_text, Target, Plans}
+use Rattle.archive_forms_values.specs.ShapeCanonical.Limits.{Field, offset, position, count, text_length, IsSomePast, Shared, moved, IsUnmet, IsMetAt, Lies, lies_flat, lies_parts, lies_leads, lies_text, lies_first, lies_later, LieAll, lie_none, lie_more}
 use Rattle.archive_forms_values.specs.ShapeCanonical.Limits as limits
 use Rattle.archive_forms_values.specs.ArchiveShape.Offsets.{difference, FitsOffset}
 use Rattle.archive_forms_values.specs.ArchiveShape.Bytes.{zeros}
-use Rattle.archive_forms_values.specs.FormsLaws.State.{State, Met, visit_of_key, with_begun, IsNoneOf, IsOneOf}
+use Rattle.archive_forms_values.specs.FormsLaws.State.{State, Met, visit_of_key, IsNoneOf, IsOneOf}
 use Rattle.archive_forms_values.specs.FormsLaws.Spelling.{Spelling}
-use Rattle.archive_forms_values.specs.FormsLaws.Texts.{is_short, text_piece, text_resolver, text_piece_refused, text_own_refused, boxed_text_spelling}
+use Rattle.archive_forms_values.specs.FormsLaws.Texts.{is_short, text_piece, text_own, text_resolver, text_piece_refused, text_own_refused, boxed_text_spelling}
 use Rattle.archive_forms_values.specs.FormsLaws.Shared.{shared_padding, shared_piece, shared_resolver, shared_met, shared_refused}
 use Rattle.archive_forms_rc.specs.FormsWriting.Owned.{str_spelling}
 use Rattle.cabinet_text_grammar.specs.TextKey.{text_key, text_of_key}
@@ -108,6 +108,10 @@ one_met q v n k (x ∷ seen) (m ∷ ms) a (inr f) (inr g) = one_met q v n k seen
 abbrev pub laid : State → List Shared → limits.State
 laid s seen = record { pos = s.pos; met = seen }
 
+-- a state at the position of a state of writing is one
+pub reached : (b : limits.State) (s : State) → b.pos ≡ s.pos → b ≡ laid s b.met
+reached b s e = ap (λ n. let z : limits.State = record { pos = n; met = b.met } in z) e
+
 -- ---- fields
 
 pub past_left : (xs ys : List Field) (e : Error) → IsSomePast xs e → IsSomePast (xs ++ ys) e
@@ -149,6 +153,9 @@ past_offset from to far = far_refuses from to (difference from to) refl far
 
 pub flat_lies : (own : ℕ) (st b : limits.State) (fs : List Field) → Lies flat own st fs b → (fs ≡ []) × (b ≡ st)
 flat_lies own st b fs lies_flat = (refl, refl)
+
+pub parts_lies : (ps : Plans) (own : ℕ) (st b : limits.State) (fs : List Field) → Lies (parts ps) own st fs b → LieAll ps own st fs b
+parts_lies ps own st b fs (lies_parts h) = h
 
 -- of one part at an offset
 pub part_lies : (at own : ℕ) (p : Plan) (st b : limits.State) (fs : List Field) → Lies (one_plan at p) own st fs b
@@ -209,6 +216,18 @@ no_fields w x s seen own fs b alike met piece no_data no_own ends = record {
 }
 
 -- ---- texts
+
+-- a text has eight own bytes
+pub text_length_of : (t : List ℕ) (to at : ℕ) → length (text_own (is_short t) t to at) ≡ 8
+text_length_of t to at = by_kind (is_short t) refl
+  where
+    by_kind : (b : Bool) → is_short t ≡ b → length (text_own b t to at) ≡ 8
+    by_kind true is =
+        let short : length t ≤ 8 = leb-true (length t) 8 is in
+        let rest : List ℕ = replicate (8 - length t) 255 in
+        let filled : length rest ≡ 8 - length t = length-replicate _ _ in
+        omega (arith, length-append t rest)
+    by_kind false is = refl
 
 short_is : (t : List ℕ) → length t ≤ 8 → is_short t ≡ true
 short_is t h = grind (arith, nat_tests)

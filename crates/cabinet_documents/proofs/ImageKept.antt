@@ -39,13 +39,12 @@ use Rattle.cabinet_documents.specs.OwnBytes.{IsOwn, own_truth, own_number, own_i
 use Rattle.cabinet_documents.specs.Laws.{payload_of, EditKeepsImage}
 use Rattle.cabinet_documents.proofs.Changing.{leaf_put_law}
 use Rattle.cabinet_documents.proofs.Places.{node_behind}
-use Rattle.cabinet_documents.proofs.Nodes.{none_seen, held}
 use Rattle.cabinet_documents.proofs.Steps.{truth_there, number_there, text_there, text_behind_there}
-use Rattle.cabinet_documents.proofs.Known.{no_key}
 use Rattle.cabinet_documents.proofs.OwnWritten.{inline_says, truth_plain, number_plain, truth_kind, number_kind, text_kind, truth_reads, number_reads, own_within}
-use Rattle.cabinet_documents.proofs.EditKept.{payload_is}
+use Rattle.cabinet_documents.proofs.EditKept.{node_is, payload_is}
 use Rattle.cabinet_documents.proofs.Standing.{sound_walk}
-use Rattle.cabinet_documents.proofs.Unkeyed.{avoids, clean_at}
+use Rattle.cabinet_documents.proofs.Leading.{ToLeaf}
+use Rattle.cabinet_documents.proofs.Avoiding.{avoids, clean_at}
 
 -- ---- what is written are bytes
 
@@ -73,7 +72,7 @@ byte_behind bytes piece start i h k = grind (arith, places)
 -- ---- the archive with another leaf
 
 module _ (fit : Fit) (bytes : List ℕ) (pos : ℕ) (v : Value) (regions : List Region) (visits : List Visit) (path : List ℕ)
-    (canonical : CanonicalArchive fit node_names bytes 0 pos node_shape v regions visits) where
+    (canonical : CanonicalArchive fit node_names bytes 0 pos node_shape v regions visits) (way : ToLeaf v path) where
   abbrev Kept : ℕ → List ℕ → Value → Type 0
   Kept start piece new = CanonicalArchive fit node_names (overwrite bytes start piece) 0 pos node_shape (put_at path new v) regions visits
 
@@ -96,7 +95,7 @@ module _ (fit : Fit) (bytes : List ℕ) (pos : ℕ) (v : Value) (regions : List 
       let own_is : window others start (size_of s) ≡ piece = ap (window others start) (sym size) ∙ written.stands in
       let is : content_of node_names others (at start s) ≡ plain (leaf_label new) [] = ap (λ x. shape_content node_names start x s) own_is ∙ reads node_names start in
       canonical_edit_of_leaf_law fit node_names bytes others 0 pos node_shape v regions visits path start s old new l (leaf_label new) canonical stands
-      (avoids bytes canonical.root.holds stands node_behind pos refl)
+      (avoids bytes canonical.root.holds stands node_behind pos refl way)
       (record { length = written.spares.length; outside = λ from n apart. written.spares.outside from n (subst (λ m. (start + m ≤ from) ⊎ (from + n ≤ start)) (sym size) apart) })
       was
       is
@@ -132,7 +131,7 @@ module _ (fit : Fit) (bytes : List ℕ) (pos : ℕ) (v : Value) (regions : List 
       let was_filled : IsFilled bytes (at start text_shape) (plain (written s) []) = subst (IsFilled bytes (at start text_shape)) was clean.filled in
       let sealed = overwrite_spares_law bytes start t room in
       canonical_edit_of_leaf_law fit node_names bytes others 0 pos node_shape v regions visits path start text_shape old (string t) (written s) (written t) canonical stands
-      (avoids bytes canonical.root.holds stands node_behind pos refl)
+      (avoids bytes canonical.root.holds stands node_behind pos refl way)
       (record { length = sealed.spares.length; outside = λ from n apart. sealed.spares.outside from n (⊎_elim (λ behind. inl (omega (arith, short, behind))) (λ before. inr before) apart) })
       was
       is
@@ -155,7 +154,7 @@ module _ (fit : Fit) (bytes : List ℕ) (pos : ℕ) (v : Value) (regions : List 
       let others : List ℕ = overwrite bytes start t in
       subst (λ u. CanonicalArchive fit node_names others 0 pos node_shape (put_at path (string u) v) regions visits) written.stands
       (canonical_edit_of_text_law fit node_names bytes others 0 pos node_shape v regions visits path start (length t) old canonical stands
-      (avoids bytes canonical.root.holds stands node_behind pos refl)
+      (avoids bytes canonical.root.holds stands node_behind pos refl way)
       written.spares
       (subst IsUtf8 (sym written.stands) utf8)
       (overwritten_bytes bytes t start canonical.bytes_are (text_bytes t utf8)))
@@ -207,16 +206,17 @@ edit_keeps_image_law bytes t path new start i legal done o =
     let a = i.accepted in
     let pos = root_position (length bytes) node_shape in
     let fit = first_fit text_hash in
-    let h = (held bytes a.root.holds node_behind pos refl (none_seen bytes)).value in
     let inner = o.inner ++ 0 ∷ [] in
     let room = own_within bytes pos a.value a.regions a.visits inner a.root o.stands o.own in
     let others = overwrite bytes start (own_bytes new) in
     let size : length others ≡ length bytes = length-overwrite bytes start (own_bytes new) room in
     let stands = subst (λ x. StandsInRoot node_names bytes pos node_shape a.value inner o.part x) (payload_is bytes done.old a o done.there) o.stands in
     let value = put_at inner (payload_of new) a.value in
-    let kept = leaf_is_kept fit bytes pos a.value a.regions a.visits inner i.canonical done.old new stands o.own refl done.fitting legal in
+    let node = node_is done.old o.leads a.document a.denotes done.there in
+    let way : ToLeaf a.value inner = record { steps = path; inner = o.inner; node = o.node; leads = o.leads; leaf = done.old; is_leaf = node; is = refl } in
+    let kept = leaf_is_kept fit bytes pos a.value a.regions a.visits inner i.canonical way done.old new stands o.own refl done.fitting legal in
     let canonical = subst (λ n. CanonicalArchive fit node_names others 0 (root_position n node_shape) node_shape value a.regions a.visits) (sym size) kept in
-    let denotes = leaf_put_law a.value o.node t path o.inner new o.leads (no_key o.leads h) a.denotes done in
+    let denotes = leaf_put_law a.value o.node t path o.inner new o.leads a.document a.denotes done in
     let document = change_keeps_document t path new a.document legal in
     let walk = sound_walk others (change t path new) value a.regions a.visits canonical.root denotes document in
     record {

@@ -1,31 +1,40 @@
 -- The document that the value of a node that holds denotes.
-use Rattle.std.proofs.Common.{◌≡◌, ℕ, zero, suc, List, ◌∷◌, Some, refl, sym, ap, subst, ◌∙◌, arith, ◌<◌, ◌⊎◌, inl, inr}
+use Rattle.std.proofs.Common.{◌≡◌, ℕ, zero, suc, ◌<◌, Bool, true, false, List, Some, refl, sym, ap, subst, ◌∙◌, arith, true≢false}
+use Rattle.std.specs.Str.{bytes_eq}
+use Rattle.std.proofs.lemmas.Slice.Eq.{bytes_eq-Decides}
 use Rattle.archive_forms_values.specs.ShapeLayout.Value.{Value, Values}
 use Rattle.archive_forms_values.specs.ShapeLayout.Value.Value.{string, group, chosen, counted}
-use Rattle.archive_forms_values.specs.ShapeLayout.Value.Values.{no_values, more_values}
+use Rattle.archive_forms_values.specs.ShapeLayout.Value.Values.{no_values}
 use Rattle.archive_forms_values.specs.ShapeLayout.Path.{value_in}
-use Rattle.cabinet_text_grammar.specs.Tree.{Leaf, truth, number, text, Tree, Trees, leaf, shared, nothing, just, list, no_trees}
-use Rattle.cabinet_text_grammar.specs.Path.{Step, key, node_at, node_in}
-use Rattle.cabinet_documents.specs.Denotes.{Denotes, DenoteAll, tagged_value}
-use Rattle.cabinet_documents.specs.Denotes.Denotes.{denotes_truth, denotes_number, denotes_text, denotes_shared, denotes_nothing}
+use Rattle.cabinet_text_grammar.specs.Keys.{ordered}
+use Rattle.cabinet_text_grammar.specs.Tree.{Leaf, truth, number, text, Tree, Trees, Pairs, leaf, shared, nothing, just, list, map, no_trees}
+use Rattle.cabinet_text_grammar.specs.Tree as document
+use Rattle.cabinet_text_grammar.specs.Path.{Step, node_at, node_in, node_by}
+use Rattle.cabinet_documents.specs.Denotes.{Denotes, DenoteAll, DenotePairs, tagged_value, pair_value}
+use Rattle.cabinet_documents.specs.Denotes.Denotes.{denotes_truth, denotes_number, denotes_text, denotes_shared, denotes_nothing, denotes_some, denotes_list, denotes_ordered, denotes_hashed, denotes_kept}
 use Rattle.cabinet_documents.specs.Denotes.DenoteAll.{denote_none, denote_more}
-use Rattle.cabinet_documents.specs.OwnBytes.{LeadsTo, leads_here, leads_inside, leads_place, leads_key}
-use Rattle.cabinet_documents.specs.Laws.{payload_of, HasNoKey}
+use Rattle.cabinet_documents.specs.Denotes.DenotePairs.{denote_no_pairs, denote_pair}
+use Rattle.cabinet_documents.specs.Laws.{payload_of}
+use Rattle.cabinet_documents.proofs.ByKey.{node_here, node_past}
+use Rattle.cabinet_documents.proofs.Changing.{of_some, of_list, of_ordered}
 use Rattle.cabinet_documents.proofs.Denoted.{one_tree}
-use Rattle.cabinet_documents.proofs.Changing.{of_some, of_list}
-use Rattle.cabinet_documents.proofs.Nodes.{NodeValue, truth_value, number_value, text_value, shared_value, none_value, some_value, list_value, NodeValues, no_nodes, more_nodes}
+use Rattle.cabinet_documents.proofs.Nodes.{NodeValue, truth_value, number_value, text_value, shared_value, none_value, some_value, list_value, ordered_value, NodeValues, no_nodes, more_nodes, PairValues, no_pairs, more_pairs}
 
 abbrev pub leaf_tag : Leaf → ℕ
 leaf_tag (truth b) = 0
 leaf_tag (number n) = 1
 leaf_tag (text s) = 2
 
+abbrev pub LeafValue : Value → Leaf → Type 0
+LeafValue v l = v ≡ tagged_value (leaf_tag l) (payload_of l)
+
 pub data Known (bytes : List ℕ) (v : Value) (t : Tree) : Type 0 where
-  known_leaf : (l : Leaf) → v ≡ tagged_value (leaf_tag l) (payload_of l) → t ≡ leaf l → Known bytes v t
+  known_leaf : (l : Leaf) → LeafValue v l → t ≡ leaf l → Known bytes v t
   known_shared : {pos : ℕ} {s : List ℕ} → v ≡ tagged_value 3 (counted pos (string s)) → t ≡ shared s → Known bytes v t
   known_none : v ≡ tagged_value 4 (chosen 0 no_values) → t ≡ nothing → Known bytes v t
   known_some : {w : Value} {u : Tree} → v ≡ tagged_value 4 (tagged_value 1 w) → t ≡ just u → NodeValue bytes w → Denotes w u → Known bytes v t
   known_list : {vs : Values} {ts : Trees} → v ≡ tagged_value 5 (group vs) → t ≡ list ts → NodeValues bytes vs → DenoteAll vs ts → Known bytes v t
+  known_ordered : {vs : Values} {ps : Pairs} → v ≡ tagged_value 6 (group vs) → t ≡ map ordered ps → PairValues bytes vs → DenotePairs vs ps → Known bytes v t
 
 pub known : {bytes : List ℕ} {v : Value} {t : Tree} → NodeValue bytes v → Denotes v t → Known bytes v t
 known (truth_value {b = b} e) d = known_leaf (truth b) e (one_tree d (denotes_truth e refl))
@@ -35,6 +44,20 @@ known (shared_value {s = s} e f) d = known_shared e (one_tree d (denotes_shared 
 known (none_value e) d = known_none e (one_tree d (denotes_nothing e refl))
 known (some_value e n) d = let s = of_some e d in known_some e s.is n s.denotes
 known (list_value e ns small) d = let s = of_list e d in known_list e s.is ns s.denotes
+known (ordered_value e ps small) d = let s = of_ordered e d in known_ordered e s.is ps s.denotes
+
+-- the value of a leaf
+pub leaf_value : {v : Value} {t : Tree} → Denotes v t → (l : Leaf) → t ≡ leaf l → LeafValue v l
+leaf_value {v = v} (denotes_truth {b = b} e f) l g = let same : truth b ≡ l = cc in subst (LeafValue v) same e
+leaf_value {v = v} (denotes_number {n = n} e f) l g = let same : number n ≡ l = cc in subst (LeafValue v) same e
+leaf_value {v = v} (denotes_text {s = s} e f) l g = let same : text s ≡ l = cc in subst (LeafValue v) same e
+leaf_value (denotes_shared e f) l g = absurd (cc)
+leaf_value (denotes_nothing e f) l g = absurd (cc)
+leaf_value (denotes_some e f k) l g = absurd (cc)
+leaf_value (denotes_list e f k) l g = absurd (cc)
+leaf_value (denotes_ordered e f k) l g = absurd (cc)
+leaf_value (denotes_hashed e f k) l g = absurd (cc)
+leaf_value (denotes_kept e f k) l g = absurd (cc)
 
 -- ---- element i
 
@@ -64,69 +87,57 @@ known_element {bytes = bytes} (suc i) path t (more_nodes {ws = ws'} n h hs) (den
     let k = known_element i path t (subst (NodeValues bytes) same hs) ds (subst (λ x. node_in x (suc i) path ≡ Some t) f g) in
     record { value = k.value; tree = k.tree; there = ap (value_in (suc i)) e ∙ k.there; node = k.node; denotes = k.denotes; found = k.found }
 
--- ---- paths have no keys there
+-- ---- the pair with a key
 
-pub value_there : {bytes : List ℕ} {vs : Values} (i : ℕ) (u : Value) → NodeValues bytes vs → value_in i vs ≡ Some u → NodeValue bytes u
-value_there i u (no_nodes e) g = let h : value_in i no_values ≡ Some u = subst (λ x. value_in i x ≡ Some u) e g in absurd (cc)
-value_there {bytes = bytes} zero u (more_nodes {ws = ws} {v = v} e n ns) g =
-    let h : value_in 0 (more_values v ws) ≡ Some u = subst (λ x. value_in 0 x ≡ Some u) e g in
-    let same : v ≡ u = cc in
-    subst (NodeValue bytes) same n
-value_there (suc i) u (more_nodes {ws = ws} {v = v} e n ns) g = value_there i u ns (subst (λ x. value_in (suc i) x ≡ Some u) e g)
+pub record KnownPair (bytes : List ℕ) (vs : Values) (k : List ℕ) (path : List Step) (t : Tree) : Type 0 where
+  pub number : ℕ
+  pub value : Value
+  pub tree : Tree
+  pub there : value_in number vs ≡ Some (pair_value k value)
+  -- no pair before it has the key
+  pub first : (i : ℕ) (other : Value) → i < number → value_in i vs ≡ Some (pair_value k other) → ⊥
+  pub node : NodeValue bytes value
+  pub denotes : Denotes value tree
+  pub found : node_at tree path ≡ Some t
 
-record SomeNode (bytes : List ℕ) (u : Value) : Type 0 where
-  node : NodeValue bytes u
+pub known_pair : {bytes : List ℕ} {vs : Values} {ps : Pairs} (k : List ℕ) (path : List Step) (t : Tree) → PairValues bytes vs → DenotePairs vs ps → node_by ps k path ≡ Some t → KnownPair bytes vs k path t
+known_pair k path t ns (denote_no_pairs e f) g = let h : node_by document.no_pairs k path ≡ Some t = ap (λ x. node_by x k path) (sym f) ∙ g in absurd (cc)
+known_pair k path t (no_pairs n) (denote_pair e f d ds) g = absurd (cc)
+known_pair {bytes = bytes} {vs = vs} k path t (more_pairs {ws = ws'} {k = l'} {v = v'} n utf8 h hs) (denote_pair {k = l} {v = v} {vs = ws} {t = u} {ps = us} e f d ds) g =
+    by_case (bytes_eq l k) refl (λ there. known_pair k path t (subst (PairValues bytes) (cc) hs) ds there)
+  where
+    all : node_by (document.more_pairs l u us) k path ≡ Some t
+    all = ap (λ x. node_by x k path) (sym f) ∙ g
 
-some_node : {bytes : List ℕ} {v u : Value} → v ≡ tagged_value 4 (tagged_value 1 u) → NodeValue bytes v → SomeNode bytes u
-some_node e (truth_value f) = absurd (cc)
-some_node e (number_value f g) = absurd (cc)
-some_node e (text_value f g) = absurd (cc)
-some_node e (shared_value f g) = absurd (cc)
-some_node e (none_value f) = absurd (cc)
-some_node {bytes = bytes} {u = u} e (some_value {w = w} f n) = let same : w ≡ u = cc in record { node = subst (NodeValue bytes) same n }
-some_node e (list_value f ns small) = absurd (cc)
-
-record ListNodes (bytes : List ℕ) (vs : Values) : Type 0 where
-  nodes : NodeValues bytes vs
-
-list_nodes : {bytes : List ℕ} {v : Value} {vs : Values} → v ≡ tagged_value 5 (group vs) → NodeValue bytes v → ListNodes bytes vs
-list_nodes e (truth_value f) = absurd (cc)
-list_nodes e (number_value f g) = absurd (cc)
-list_nodes e (text_value f g) = absurd (cc)
-list_nodes e (shared_value f g) = absurd (cc)
-list_nodes e (none_value f) = absurd (cc)
-list_nodes e (some_value f n) = absurd (cc)
-list_nodes {bytes = bytes} {vs = vs} e (list_value {vs = ws} f ns small) = let same : ws ≡ vs = cc in record { nodes = subst (NodeValues bytes) same ns }
-
--- the tags of nodes that hold
-abbrev pub tag_of : Value → ℕ
-tag_of (chosen tag vs) = tag
-tag_of v = 0
-
-low_tag : {bytes : List ℕ} {v : Value} → NodeValue bytes v → tag_of v < 6
-low_tag (truth_value f) = omega (arith, ap tag_of f)
-low_tag (number_value f g) = omega (arith, ap tag_of f)
-low_tag (text_value f g) = omega (arith, ap tag_of f)
-low_tag (shared_value f g) = omega (arith, ap tag_of f)
-low_tag (none_value f) = omega (arith, ap tag_of f)
-low_tag (some_value f n) = omega (arith, ap tag_of f)
-low_tag (list_value f ns small) = omega (arith, ap tag_of f)
-
-pub high_tag : (tag n : ℕ) → tag ≡ n → (n ≡ 6) ⊎ ((n ≡ 7) ⊎ (n ≡ 8)) → tag < 6 → ⊥
-high_tag tag n e (inl a) h = omega arith
-high_tag tag n e (inr (inl a)) h = omega arith
-high_tag tag n e (inr (inr a)) h = omega arith
-
-pub no_key : {bytes : List ℕ} {v w : Value} {path : List Step} {inner : List ℕ} → LeadsTo v path inner w → NodeValue bytes v → HasNoKey path
-no_key (leads_here e f g) n = subst HasNoKey (sym f) tt
-no_key (leads_inside {rest = rest} e f g l) n = subst HasNoKey (sym f) (no_key l (some_node e n).node)
-no_key (leads_place {u = u} {i = i} {rest = rest} e there f g l) n = subst HasNoKey (sym f) (no_key l (value_there i u (list_nodes e n).nodes there))
-no_key {v = v} (leads_key {tag = tag} e high there f g l) n = absurd (high_tag (tag_of v) tag (ap tag_of e) high (low_tag n))
-
--- a path by a key leads to no leaf
-pub by_key : {bytes : List ℕ} {v : Value} {t : Tree} (l : Leaf) (k : List ℕ) (rest : List Step) → Known bytes v t → node_at t (key k ∷ rest) ≡ Some (leaf l) → ⊥
-by_key l k rest (known_leaf m e f) g = let n = subst (λ x. node_at x (key k ∷ rest) ≡ Some (leaf l)) f g in cc
-by_key l k rest (known_shared e f) g = let n = subst (λ x. node_at x (key k ∷ rest) ≡ Some (leaf l)) f g in cc
-by_key l k rest (known_none e f) g = let n = subst (λ x. node_at x (key k ∷ rest) ≡ Some (leaf l)) f g in cc
-by_key l k rest (known_some e f m d) g = let n = subst (λ x. node_at x (key k ∷ rest) ≡ Some (leaf l)) f g in cc
-by_key l k rest (known_list e f ns ds) g = let n = subst (λ x. node_at x (key k ∷ rest) ≡ Some (leaf l)) f g in cc
+    by_case : (b : Bool) → bytes_eq l k ≡ b → (node_by us k path ≡ Some t → KnownPair bytes ws k path t) → KnownPair bytes vs k path t
+    by_case true keys on =
+        let same : v' ≡ v = cc in
+        record {
+          number = 0;
+          value = v;
+          tree = u;
+          there = ap (value_in 0) e ∙ ap (λ x. Some (pair_value x v)) ((bytes_eq-Decides l k).0 keys);
+          first = λ i other less has. absurd (omega (arith, less));
+          node = subst (NodeValue bytes) same h;
+          denotes = d;
+          found = sym (node_here l u us k path keys) ∙ all;
+        }
+    by_case false keys on =
+        let r = on (sym (node_past l u us k path keys) ∙ all) in
+        record {
+          number = suc r.number;
+          value = r.value;
+          tree = r.tree;
+          there = ap (value_in (suc r.number)) e ∙ r.there;
+          first = past r.number r.first;
+          node = r.node;
+          denotes = r.denotes;
+          found = r.found;
+        }
+      where
+        past : (n : ℕ) → ((i : ℕ) (other : Value) → i < n → value_in i ws ≡ Some (pair_value k other) → ⊥) → (i : ℕ) (other : Value) → i < suc n → value_in i vs ≡ Some (pair_value k other) → ⊥
+        past n before zero other less has =
+            let here : Some (pair_value l v) ≡ Some (pair_value k other) = sym (ap (value_in 0) e) ∙ has in
+            let same : l ≡ k = cc in
+            absurd (true≢false (sym ((bytes_eq-Decides l k).1 same) ∙ keys))
+        past n before (suc i) other less has = before i other (omega (arith, less)) (sym (ap (value_in (suc i)) e) ∙ has)

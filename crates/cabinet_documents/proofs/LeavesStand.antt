@@ -1,11 +1,13 @@
 -- Each leaf of an accepted document has own bytes.
-use Rattle.std.proofs.Common.{◌≡◌, ℕ, zero, suc, List, [], ◌∷◌, ◌++◌, length, Some, refl, sym, ap, subst, ◌∙◌}
+use Rattle.std.proofs.Common.{◌≡◌, ℕ, suc, List, [], ◌∷◌, ◌++◌, length, Some, refl, sym, ap, subst, ◌∙◌, inl}
 use Rattle.archive_forms_values.specs.ShapeLayout.Bytes.{window}
+use Rattle.archive_forms_values.specs.ShapeLayout.Shape.{Shape}
 use Rattle.archive_forms_values.specs.ShapeLayout.Shape.Pointee.{sized, str}
 use Rattle.archive_forms_values.specs.ShapeLayout.Value.{Value, Values}
 use Rattle.archive_forms_values.specs.ShapeLayout.Value.Value.{group, string}
 use Rattle.archive_forms_values.specs.ShapeLayout.Content.{Part}
 use Rattle.archive_forms_values.specs.ShapeLayout.Content.Part.{behind}
+use Rattle.archive_btree_spelling.proofs.PairsStand.{PairStands, tree_pair_stands}
 use Rattle.archive_forms_values.specs.ShapeLayout.Holds.{Region, Visit, OpenShared, Holds, root_position}
 use Rattle.archive_forms_values.specs.ShapeLayout.Edit.IsLeafIn.{out_of_line}
 use Rattle.archive_forms_values.specs.ShapeLayout.Path.{Stands, value_in}
@@ -15,23 +17,15 @@ use Rattle.archive_forms_values.proofs.ArchiveShape.Pieces.{length-window}
 use Rattle.cabinet_text_grammar.specs.Tree.{Leaf, truth, number, text, Tree, leaf}
 use Rattle.cabinet_text_grammar.specs.Path.{Step, key, place, inside, node_at}
 use Rattle.cabinet_documents.specs.Node.{node_names, node_shape, own_bytes}
-use Rattle.cabinet_documents.specs.Denotes.{Denotes, tagged_value}
-use Rattle.cabinet_documents.specs.OwnBytes.{LeadsTo, leads_here, leads_inside, leads_place, IsOwn, own_truth, own_number, own_inline, own_behind}
+use Rattle.cabinet_documents.specs.Denotes.{Denotes, tagged_value, pair_value}
+use Rattle.cabinet_documents.specs.OwnBytes.{LeadsTo, leads_here, leads_inside, leads_place, leads_key, IsOwn, own_truth, own_number, own_inline, own_behind}
 use Rattle.cabinet_documents.specs.Laws.{payload_of, OwnBytesStand, LeavesStand}
-use Rattle.cabinet_documents.proofs.Places.{Place, node_here, truth_here, number_here, text_here, shared_here, option_here, list_here, absent_here, node_behind, text_behind, part_of, Pays, pays_truth, pays_number, pays_text, pays_shared, pays_option, pays_list, pays_absent}
+use Rattle.cabinet_documents.proofs.Places.{Place, node_here, text_here, list_here, ordered_here, node_behind, text_behind, part_of, Pays, pays_truth, pays_number, pays_text, pays_shared, pays_option, pays_list, pays_ordered, pays_absent}
 use Rattle.cabinet_documents.proofs.Nodes.{absent_law, NodeValue, none_seen, held}
-use Rattle.cabinet_documents.proofs.Steps.{node_cases, behind_below, some_cases, ElementCase, element_cases, TextCase, text_inline, text_out, text_cases}
-use Rattle.cabinet_documents.proofs.Known.{leaf_tag, Known, known_leaf, known_shared, known_none, known_some, known_list, known, known_element, by_key}
-
--- the position of the payload of a tag
-abbrev pub place_of : ℕ → Place
-place_of zero = truth_here
-place_of (suc zero) = number_here
-place_of (suc (suc zero)) = text_here
-place_of (suc (suc (suc zero))) = shared_here
-place_of (suc (suc (suc (suc zero)))) = option_here
-place_of (suc (suc (suc (suc (suc zero))))) = list_here
-place_of (suc (suc (suc (suc (suc (suc n)))))) = absent_here
+use Rattle.cabinet_documents.proofs.Steps.{place_of, node_cases, behind_below, some_cases, ElementCase, element_cases, TextCase, text_inline, text_out, text_cases}
+use Rattle.cabinet_documents.proofs.Known.{leaf_tag, LeafValue, Known, known_leaf, known_shared, known_none, known_some, known_list, known_ordered, known, known_element, known_pair}
+use Rattle.cabinet_documents.proofs.Leading.{ToLeaf}
+use Rattle.cabinet_documents.proofs.Avoiding.{avoids}
 
 module _ (bytes : List ℕ) where
   -- the payload of a node whose tag is known
@@ -50,6 +44,7 @@ module _ (bytes : List ℕ) where
   place_is pos pays_shared h = refl
   place_is pos pays_option h = refl
   place_is pos pays_list h = refl
+  place_is pos pays_ordered h = refl
   place_is pos {level = level} {around = around} {v = v} {regions = regions} {before = before} {after = after} (pays_absent z) h =
       absurd (absent_law bytes level around pos v regions before after h)
 
@@ -96,6 +91,7 @@ module _ (bytes : List ℕ) where
     pub node : Value
     pub inner : List ℕ
     pub leads : LeadsTo v path inner node
+    pub is_leaf : LeafValue node l
     pub part : Part
     pub payload : Value
     pub stands : Stands node_names bytes part payload level around before (part_of node_here pos) v (inner ++ 0 ∷ [])
@@ -109,11 +105,31 @@ module _ (bytes : List ℕ) where
     node = r.node;
     inner = 0 ∷ (i ∷ r.inner);
     leads = leads_place e there refl refl r.leads;
+    is_leaf = r.is_leaf;
     part = r.part;
     payload = r.payload;
     stands = o.stands r.part r.payload (i ∷ (r.inner ++ 0 ∷ [])) (s.stands r.part r.payload (r.inner ++ 0 ∷ []) r.stands);
     own = r.own;
   }
+
+  mapped : (l : Leaf) {level pos : ℕ} {around : List OpenShared} {v : Value} {vs : Values} {before after : List Visit} (k : List ℕ) (i : ℕ) (rest : List Step) (u : Value)
+      → v ≡ tagged_value 6 (group vs) → value_in i vs ≡ Some (pair_value k u)
+      → (o : PaidAt level around pos v (group vs) ordered_here before after) (s : PairStands node_names bytes 5 Shape.text node_shape level around before o.payload_pos (group vs) i u)
+      → LeafStands s.deeper around s.since s.value_pos u rest l → LeafStands level around before pos v (key k ∷ rest) l
+  mapped l k i rest u e there o s r =
+      let inner = r.inner ++ 0 ∷ [] in
+      let way : ToLeaf u inner = record { steps = rest; inner = r.inner; node = r.node; leads = r.leads; leaf = l; is_leaf = r.is_leaf; is = refl } in
+      let stands = s.stands r.part r.payload inner (record { stands = r.stands; spares = avoids bytes s.holds r.stands node_here s.value_pos refl way }) in
+      record {
+        node = r.node;
+        inner = 0 ∷ (i ∷ (1 ∷ r.inner));
+        leads = leads_key e (inl refl) there refl refl r.leads;
+        is_leaf = r.is_leaf;
+        part = r.part;
+        payload = r.payload;
+        stands = o.stands r.part r.payload (i ∷ (1 ∷ inner)) stands.stands;
+        own = r.own;
+      }
 
   -- so it is at the rest of the path, wherever a node holds with its value
   abbrev On : List Step → Leaf → Type 0
@@ -133,6 +149,7 @@ module _ (bytes : List ℕ) where
             node = v;
             inner = [];
             leads = leads_here refl refl refl;
+            is_leaf = subst (LeafValue v) same e;
             part = p.part;
             payload = p.payload;
             stands = o.stands p.part p.payload [] p.stands;
@@ -142,6 +159,7 @@ module _ (bytes : List ℕ) where
       ends_here (known_none e f) g = absurd (cc)
       ends_here (known_some e f n d) g = absurd (cc)
       ends_here (known_list e f ns ds) g = absurd (cc)
+      ends_here (known_ordered e f ns ds) g = absurd (cc)
 
       in_option : (rest : List Step) → On rest l → Known bytes v t → node_at t (inside ∷ rest) ≡ Some (leaf l) → LeafStands level around before pos v (inside ∷ rest) l
       in_option rest on (known_leaf m e f) g = let k = subst (λ x. node_at x (inside ∷ rest) ≡ Some (leaf l)) f g in absurd (cc)
@@ -156,12 +174,14 @@ module _ (bytes : List ℕ) where
             node = r.node;
             inner = 0 ∷ (0 ∷ r.inner);
             leads = leads_inside e refl refl r.leads;
+            is_leaf = r.is_leaf;
             part = r.part;
             payload = r.payload;
             stands = o.stands r.part r.payload (0 ∷ (r.inner ++ 0 ∷ [])) (s.stands r.part r.payload (r.inner ++ 0 ∷ []) r.stands);
             own = r.own;
           }
       in_option rest on (known_list e f ns ds) g = let k = subst (λ x. node_at x (inside ∷ rest) ≡ Some (leaf l)) f g in absurd (cc)
+      in_option rest on (known_ordered e f ns ds) g = let k = subst (λ x. node_at x (inside ∷ rest) ≡ Some (leaf l)) f g in absurd (cc)
 
       in_list : (i : ℕ) (rest : List Step) → On rest l → Known bytes v t → node_at t (place i ∷ rest) ≡ Some (leaf l) → LeafStands level around before pos v (place i ∷ rest) l
       in_list i rest on (known_leaf m e f) g = let k = subst (λ x. node_at x (place i ∷ rest) ≡ Some (leaf l)) f g in absurd (cc)
@@ -173,12 +193,25 @@ module _ (bytes : List ℕ) where
           let o = paid_at pos 5 (group vs) e h in
           let s = element_cases bytes o.payload_pos i k.value refl k.there o.holds in
           listed l i rest k.value e k.there o s (on s.node_pos _ _ k.value s.regions s.since s.until k.tree k.node k.denotes s.holds k.found)
+      in_list i rest on (known_ordered e f ns ds) g = let k = subst (λ x. node_at x (place i ∷ rest) ≡ Some (leaf l)) f g in absurd (cc)
+
+      in_map : (k : List ℕ) (rest : List Step) → On rest l → Known bytes v t → node_at t (key k ∷ rest) ≡ Some (leaf l) → LeafStands level around before pos v (key k ∷ rest) l
+      in_map k rest on (known_leaf m e f) g = let n = subst (λ x. node_at x (key k ∷ rest) ≡ Some (leaf l)) f g in absurd (cc)
+      in_map k rest on (known_shared e f) g = let n = subst (λ x. node_at x (key k ∷ rest) ≡ Some (leaf l)) f g in absurd (cc)
+      in_map k rest on (known_none e f) g = let n = subst (λ x. node_at x (key k ∷ rest) ≡ Some (leaf l)) f g in absurd (cc)
+      in_map k rest on (known_some e f n d) g = let n = subst (λ x. node_at x (key k ∷ rest) ≡ Some (leaf l)) f g in absurd (cc)
+      in_map k rest on (known_list e f ns ds) g = let n = subst (λ x. node_at x (key k ∷ rest) ≡ Some (leaf l)) f g in absurd (cc)
+      in_map k rest on (known_ordered {vs = vs} e f ns ds) g =
+          let p = known_pair k rest (leaf l) ns ds (subst (λ x. node_at x (key k ∷ rest) ≡ Some (leaf l)) f g) in
+          let o = paid_at pos 6 (group vs) e h in
+          let s = tree_pair_stands o.holds p.number (string k) p.value p.there in
+          mapped l k p.number rest p.value e p.there o s (on s.value_pos s.deeper around p.value s.regions s.since s.until p.tree p.node p.denotes s.holds p.found)
 
   pub leaf_stands : (path : List Step) (l : Leaf) → On path l
   leaf_stands [] l pos level around v regions before after t n d h g = ends_here l h (known n d) g
   leaf_stands (inside ∷ rest) l pos level around v regions before after t n d h g = in_option l h rest (leaf_stands rest l) (known n d) g
   leaf_stands (place i ∷ rest) l pos level around v regions before after t n d h g = in_list l h i rest (leaf_stands rest l) (known n d) g
-  leaf_stands (key k ∷ rest) l pos level around v regions before after t n d h g = absurd (by_key l k rest (known n d) g)
+  leaf_stands (key k ∷ rest) l pos level around v regions before after t n d h g = in_map l h k rest (leaf_stands rest l) (known n d) g
 
 pub leaves_stand_law : LeavesStand
 leaves_stand_law bytes t path l a g =

@@ -1,11 +1,11 @@
 -- The bytes that are written for a node are those that the layout reads, and are canonical.
-use Rattle.std.proofs.Common.{◌≡◌, ℕ, suc, true, false, ◌≤◌, ◌<◌, Some, None, refl, arith}
+use Rattle.std.proofs.Common.{◌≡◌, ℕ, suc, true, false, ◌≤◌, ◌<◌, List, Some, None, refl, arith}
 use Rattle.std.proofs.Math.Nat.{le-max_left, le-max_right}
 use Rattle.std.specs.Int.{w64, to_le_bytes, cast_unsigned}
 use Rattle.archive_forms_values.specs.ShapeLayout.Bytes.{align_up}
 use Rattle.archive_forms_values.specs.ShapeLayout.Shape.{Shape, align_of, size_of}
 use Rattle.archive_forms_values.specs.ShapeLayout.Shape.Alignment.{eight}
-use Rattle.archive_forms_values.specs.ShapeLayout.Shape.Shape.{number, truth, text, option, choice, vector, shared as shared_shape}
+use Rattle.archive_forms_values.specs.ShapeLayout.Shape.Shape.{number, truth, text, option, choice, vector, tree, shared as shared_shape}
 use Rattle.archive_forms_values.specs.ShapeLayout.Shape.Pointee.{str}
 use Rattle.archive_forms_values.specs.ShapeLayout.Value.Value.{integer, boolean}
 use Rattle.archive_forms_values.specs.ShapeLayout.Content.{shape_tagged}
@@ -26,13 +26,17 @@ use Rattle.archive_forms_laws.proofs.Pointers.{box_spells_at, slice_spells_at}
 use Rattle.archive_forms_laws.proofs.Texts.{text_spells}
 use Rattle.archive_forms_laws.proofs.Shared.{shared_text_spells}
 use Rattle.archive_forms_laws.proofs.Views.{kept_spells_at, seen_spells_at}
+use Rattle.archive_btree_spelling.specs.Maps.{btree_spelling}
+use Rattle.archive_btree_spelling.proofs.Slots.{EachEntrySpells}
+use Rattle.archive_btree_spelling.proofs.Maps.{btree_spells_at}
+use Rattle.cabinet_text_grammar.specs.Keys.{ordered, hashed, kept}
 use Rattle.cabinet_text_grammar.specs.TextKey.{text_key}
 use Rattle.cabinet_text_grammar.specs.Tree as document
-use Rattle.cabinet_text_grammar.specs.Tree.{Tree, Trees, leaf, shared, nothing, just, list, map, no_trees, more_trees, depth, most_depth}
+use Rattle.cabinet_text_grammar.specs.Tree.{Tree, Trees, Pairs, leaf, shared, nothing, just, list, map, no_trees, more_trees, no_pairs, more_pairs, depth, most_depth, pairs_depth}
 use Rattle.cabinet_documents.specs.Node.{KnowsNode, node_shape, payloads}
 use Rattle.cabinet_documents.specs.declared.spelling.resolver.NodeResolver.{NodeResolver}
 use Rattle.cabinet_documents.specs.declared.spelling.resolver.NodeResolver.TheVariants as resolver
-use Rattle.cabinet_documents.specs.Spelling.{truth_spelling, number_spelling, shared_string_spelling, boxed_shape, boxed_spelling, maybe_spelling, list_spelling, trees_in, text_in, shared_in, maybe_in, list_in, node_of, refused, spelling_of, node_level}
+use Rattle.cabinet_documents.specs.Spelling.{truth_spelling, number_spelling, shared_string_spelling, boxed_shape, boxed_spelling, maybe_spelling, list_spelling, ordered_spelling, trees_in, pairs_in, text_in, shared_in, maybe_in, list_in, ordered_in, node_of, refused, spelling_of, node_level}
 use Rattle.cabinet_documents.specs.SpellingLaws.{NodeSpells}
 use Rattle.archive_forms_rc.specs.FormsWriting.Owned.{str_spelling}
 
@@ -58,6 +62,9 @@ module _ (fit : Fit) where
     own_exact = λ r pos e f k. f;
   }
 
+  text_spells_here : (s : List ℕ) → SpellsAt fit text KnowsNode str_spelling s
+  text_spells_here s = kept_spells_at fit text KnowsNode _ _ (λ r. refl) text_spelling s (text_spells fit KnowsNode s)
+
   module _ (w : Spelling Tree NodeResolver) where
     each_below : (n : ℕ) (ts : Trees) → suc (most_depth ts) ≤ n → ((y : Tree) → suc (depth y) ≤ n → SpellsAt fit node_shape KnowsNode w y)
         → EachSpells fit node_shape KnowsNode w (trees_in ts)
@@ -66,6 +73,14 @@ module _ (fit : Fit) where
         let a = le-max_left (depth t) (most_depth ts) in
         let b = le-max_right (depth t) (most_depth ts) in
         (below t (omega (arith, a)), each_below n ts (omega (arith, b)) below)
+
+    each_entry_below : (n : ℕ) (ps : Pairs) → suc (pairs_depth ps) ≤ n → ((y : Tree) → suc (depth y) ≤ n → SpellsAt fit node_shape KnowsNode w y)
+        → EachEntrySpells fit 5 text node_shape KnowsNode str_spelling w (pairs_in ps)
+    each_entry_below n no_pairs less below = tt
+    each_entry_below n (more_pairs k t ps) less below =
+        let a = le-max_left (depth t) (pairs_depth ps) in
+        let b = le-max_right (depth t) (pairs_depth ps) in
+        ((text_spells_here k, below t (omega (arith, a))), each_entry_below n ps (omega (arith, b)) below)
 
     -- by the kind of a document
     case_spells : (n : ℕ) (t : Tree) → depth t ≤ n → ((y : Tree) → suc (depth y) ≤ n → SpellsAt fit node_shape KnowsNode w y)
@@ -77,8 +92,7 @@ module _ (fit : Fit) where
         node_of_spells 1 (number w64 true) number_spelling (λ _. resolver.Leaf) (λ _. tt) (λ r. refl) (omega arith) refl z (leaf (document.number z))
         (leaf_spells fit (number w64 true) KnowsNode (λ n. to_le_bytes w64 (cast_unsigned w64 n)) integer tt z)
     case_spells n (leaf (document.text s)) less below =
-        node_of_spells 2 text str_spelling resolver.Text text_in (λ r. refl) (omega arith) refl s (leaf (document.text s))
-        (kept_spells_at fit text KnowsNode _ _ (λ r. refl) text_spelling s (text_spells fit KnowsNode s))
+        node_of_spells 2 text str_spelling resolver.Text text_in (λ r. refl) (omega arith) refl s (leaf (document.text s)) (text_spells_here s)
     case_spells n (shared s) less below =
         node_of_spells 3 (shared_shape false str) shared_string_spelling resolver.Shared shared_in (λ r. refl) (omega arith) refl s (shared s)
         (kept_spells_at fit (shared_shape false str) KnowsNode _ _ (λ r. refl) (shared_text_spelling text_key) s (shared_text_spells fit false KnowsNode text_key s))
@@ -94,7 +108,12 @@ module _ (fit : Fit) where
         node_of_spells 5 (vector node_shape) (list_spelling w) resolver.List list_in (λ r. refl) (omega arith) refl (trees_in ts) (list ts)
         (kept_spells_at fit (vector node_shape) KnowsNode _ _ (λ r. refl) (slice_spelling node_shape w) (trees_in ts)
         (slice_spells_at fit node_shape KnowsNode w (trees_in ts) (each_below n ts less below)))
-    case_spells n (map kind ps) less below = refused_spells (map kind ps)
+    case_spells n (map ordered ps) less below =
+        node_of_spells 6 (tree 5 text node_shape) (ordered_spelling w) resolver.Ordered ordered_in (λ r. refl) (omega arith) refl (pairs_in ps) (map ordered ps)
+        (kept_spells_at fit (tree 5 text node_shape) KnowsNode _ _ (λ r. refl) (btree_spelling 5 text node_shape str_spelling w) (pairs_in ps)
+        (btree_spells_at fit 5 text node_shape KnowsNode str_spelling w (omega arith) (pairs_in ps) (each_entry_below n ps less below)))
+    case_spells n (map hashed ps) less below = refused_spells (map hashed ps)
+    case_spells n (map kept ps) less below = refused_spells (map kept ps)
 
     level_spells : (n : ℕ) (t : Tree) → depth t ≤ n → ((y : Tree) → suc (depth y) ≤ n → SpellsAt fit node_shape KnowsNode w y)
         → SpellsAt fit node_shape KnowsNode (node_level w) t

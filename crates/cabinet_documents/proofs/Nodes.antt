@@ -1,13 +1,13 @@
 -- The value of a node, where one holds; and that no shared position lies inside itself there.
-use Rattle.std.proofs.Common.{◌≡◌, ℕ, ℤ, zero, suc, ◌++◌, ◌+◌, ◌^◌, ◌<◌, ◌==◌, cond, Bool, true, false, w64, FitsSigned, IsUtf8, List, [], ◌∷◌, Some, refl, sym, ap, subst, ◌∙◌, arith}
+use Rattle.std.proofs.Common.{◌≡◌, ℕ, ℤ, zero, suc, ◌++◌, ◌+◌, ◌^◌, ◌<◌, ◌==◌, cond, Bool, true, false, w64, FitsSigned, IsUtf8, List, [], ◌∷◌, Some, None, refl, sym, ap, ap₂, subst, ◌∙◌, arith, eqb-true}
 use Rattle.archive_forms_values.specs.ShapeLayout.Shape.Shape.{choice}
 use Rattle.archive_forms_values.specs.ShapeLayout.Shape.Shapes.{no_shapes}
-use Rattle.archive_forms_values.specs.ShapeLayout.Value.{Value, Values, count_values}
+use Rattle.archive_forms_values.specs.ShapeLayout.Value.{Value, Values, count_values, append_values}
 use Rattle.archive_forms_values.specs.ShapeLayout.Value.Value.{integer, boolean, string, group, chosen, counted}
 use Rattle.archive_forms_values.specs.ShapeLayout.Value.Values.{no_values, more_values}
-use Rattle.archive_forms_values.specs.ShapeLayout.Content.{Part, Label, Span, content_of, made, IsLegal, fields, shape_content}
+use Rattle.archive_forms_values.specs.ShapeLayout.Content.{Part, Label, Span, content_of, made, IsLegal, fields, shape_content, members, weave, first_values, other_values}
 use Rattle.archive_forms_values.specs.ShapeLayout.Content.Part.{at, behind}
-use Rattle.archive_forms_values.specs.ShapeLayout.Content.Label.{leaf, written, same, whole, tagged}
+use Rattle.archive_forms_values.specs.ShapeLayout.Content.Label.{leaf, written, same, whole, tagged, woven, total}
 use Rattle.archive_forms_values.specs.ShapeLayout.Content.Content.{illegal, plain, claimed, counting}
 use Rattle.archive_forms_values.specs.ShapeLayout.Shape.{Pointee}
 use Rattle.archive_forms_values.specs.ShapeLayout.Shape.Pointee.{str}
@@ -17,9 +17,9 @@ use Rattle.archive_forms_values.specs.ShapeLayout.Holds.HoldAll.{holds_none, hol
 use Rattle.archive_forms_values.proofs.ShapeLayout.Unique.{by_plain}
 use Rattle.archive_forms_values.specs.ShapeCanonical.Canonical.{AreBytes}
 use Rattle.cabinet_documents.specs.Node.{node_names}
-use Rattle.cabinet_documents.specs.Denotes.{tagged_value}
+use Rattle.cabinet_documents.specs.Denotes.{tagged_value, pair_value}
 use Rattle.cabinet_documents.specs.Laws.{IsAcyclic, AreAcyclic, AbsentHasNoValue}
-use Rattle.cabinet_documents.proofs.Places.{Place, node_here, payload_here, truth_here, number_here, text_here, shared_here, option_here, box_here, list_here, absent_here, node_behind, nodes_behind, text_behind, Spot, part_of, parts_at, nodes_from, Passes, node_passes, box_passes, behind_passes, list_passes, text_passes, Pays, pays_truth, pays_number, pays_text, pays_shared, pays_option, pays_list, pays_absent, Follows, passes, pays, truth_is, number_is, text_is, behind_is, none_is, some_is, nodes_follow, Leads, leads_nowhere, leads_absent, leads_plain, leads_claimed, leads_counted, led}
+use Rattle.cabinet_documents.proofs.Places.{Place, node_here, payload_here, truth_here, number_here, text_here, shared_here, option_here, box_here, list_here, ordered_here, tree_node, tree_child, entry_here, absent_here, node_behind, nodes_behind, text_behind, Spot, part_of, parts_at, nodes_from, entries_from, children_from, Passes, node_passes, box_passes, behind_passes, list_passes, text_passes, child_passes, Pays, pays_truth, pays_number, pays_text, pays_shared, pays_option, pays_list, pays_ordered, pays_absent, Follows, passes, pays, truth_is, number_is, text_is, behind_is, none_is, some_is, nodes_follow, empty_is, total_is, leaf_follows, inner_follows, no_child_is, entry_follows, Leads, leads_nowhere, leads_absent, leads_plain, leads_claimed, leads_counted, led}
 
 -- ---- a payload without a layout has no value
 
@@ -58,10 +58,16 @@ mutual
     none_value : {v : Value} → v ≡ tagged_value 4 (chosen 0 no_values) → NodeValue bytes v
     some_value : {v w : Value} → v ≡ tagged_value 4 (tagged_value 1 w) → NodeValue bytes w → NodeValue bytes v
     list_value : {v : Value} {vs : Values} → v ≡ tagged_value 5 (group vs) → NodeValues bytes vs → (AreBytes bytes → count_values vs < 2 ^ 64) → NodeValue bytes v
+    ordered_value : {v : Value} {vs : Values} → v ≡ tagged_value 6 (group vs) → PairValues bytes vs → (AreBytes bytes → count_values vs < 2 ^ 64) → NodeValue bytes v
 
   pub data NodeValues (bytes : List ℕ) : Values → Type 0 where
     no_nodes : {vs : Values} → vs ≡ no_values → NodeValues bytes vs
     more_nodes : {vs ws : Values} {v : Value} → vs ≡ more_values v ws → NodeValue bytes v → NodeValues bytes ws → NodeValues bytes vs
+
+  -- the pairs of a map
+  pub data PairValues (bytes : List ℕ) : Values → Type 0 where
+    no_pairs : {vs : Values} → vs ≡ no_values → PairValues bytes vs
+    more_pairs : {vs ws : Values} {k : List ℕ} {v : Value} → vs ≡ more_values (pair_value k v) ws → IsUtf8 k → NodeValue bytes v → PairValues bytes ws → PairValues bytes vs
 
 pub record TruthValue (v : Value) : Type 0 where
   pub b : Bool
@@ -93,6 +99,25 @@ pub record ListValue (bytes : List ℕ) (v : Value) : Type 0 where
   pub nodes : NodeValues bytes vs
   pub small : AreBytes bytes → count_values vs < 2 ^ 64
 
+pub record MapValue (bytes : List ℕ) (v : Value) : Type 0 where
+  pub vs : Values
+  pub is : v ≡ group vs
+  pub pairs : PairValues bytes vs
+  pub small : AreBytes bytes → count_values vs < 2 ^ 64
+
+-- what a part of a search tree has: some of a map's pairs, or one
+pub record PairsValue (bytes : List ℕ) (v : Value) : Type 0 where
+  pub vs : Values
+  pub is : v ≡ group vs
+  pub pairs : PairValues bytes vs
+
+pub record PairValue (bytes : List ℕ) (v : Value) : Type 0 where
+  pub k : List ℕ
+  pub w : Value
+  pub is : v ≡ pair_value k w
+  pub utf8 : IsUtf8 k
+  pub node : NodeValue bytes w
+
 pub record NodesValue (bytes : List ℕ) (len : ℕ) (v : Value) : Type 0 where
   pub vs : Values
   pub is : v ≡ group vs
@@ -110,6 +135,10 @@ ValueAt bytes shared_here v = SharedValue v
 ValueAt bytes option_here v = OptionValue bytes v
 ValueAt bytes box_here v = NodeValue bytes v
 ValueAt bytes list_here v = ListValue bytes v
+ValueAt bytes ordered_here v = MapValue bytes v
+ValueAt bytes (tree_node level) v = PairsValue bytes v
+ValueAt bytes (tree_child level) v = PairsValue bytes v
+ValueAt bytes (entry_here key) v = PairValue bytes v
 ValueAt bytes absent_here v = ⊥
 ValueAt bytes node_behind v = NodeValue bytes v
 ValueAt bytes (nodes_behind len) v = NodesValue bytes len v
@@ -127,6 +156,7 @@ module _ (bytes : List ℕ) where
   one_passed v behind_passes h = h
   one_passed v (list_passes small) h = record { vs = h.vs; is = h.is; nodes = h.nodes; small = λ b. subst (λ n. n < 2 ^ 64) (sym h.counted) (small b) }
   one_passed v text_passes h = h
+  one_passed v child_passes h = h
 
   one_paid : {tag : ℕ} {j : Place} {w v : Value} → Pays tag j → v ≡ tagged_value tag w → ValueAt bytes j w → NodeValue bytes v
   one_paid pays_truth e h = truth_value (e ∙ ap (tagged_value 0) h.is)
@@ -136,6 +166,7 @@ module _ (bytes : List ℕ) where
   one_paid pays_option e (option_none f) = none_value (e ∙ ap (tagged_value 4) f)
   one_paid pays_option e (option_some f n) = some_value (e ∙ ap (tagged_value 4) f) n
   one_paid pays_list e h = list_value (e ∙ ap (tagged_value 5) h.is) h.nodes h.small
+  one_paid pays_ordered e h = ordered_value (e ∙ ap (tagged_value 6) h.is) h.pairs h.small
   one_paid (pays_absent z) e h = absurd h
 
   record Nodes (n : ℕ) (vs : Values) : Type 0 where
@@ -156,6 +187,70 @@ module _ (bytes : List ℕ) where
   no_more e (none_at f) = f
   no_more e (more_at f h hs) = absurd (cc)
 
+  -- ---- the pairs of a node of a search tree
+
+  pairs_append : {us ws : Values} → PairValues bytes us → PairValues bytes ws → PairValues bytes (append_values us ws)
+  pairs_append {ws = ws} (no_pairs e) h = subst (PairValues bytes) (sym (ap (λ x. append_values x ws) e)) h
+  pairs_append {ws = ws} (more_pairs e u n ps) h = more_pairs (ap (λ x. append_values x ws) e) u n (pairs_append ps h)
+
+  entries_made : (n key value : ℕ) (qs : List Spot) (vs : Values) → qs ≡ entries_from n key value → ValuesAt bytes qs vs → PairValues bytes vs
+  entries_made zero key value qs vs is (none_at e) = no_pairs e
+  entries_made zero key value qs vs is (more_at e h hs) = absurd (cc)
+  entries_made (suc n) key value qs vs is (none_at e) = absurd (cc)
+  entries_made (suc n) key value qs vs is (more_at {q = q} {qs = rest} {ws = ws} {v = v} e h hs) =
+      let first : q ≡ record { place = entry_here key; pos = value } = cc in
+      let pair : PairValue bytes v = subst (λ (x : Spot). ValueAt bytes x.place v) first h in
+      more_pairs (e ∙ ap (λ x. more_values x ws) pair.is) pair.utf8 pair.node (entries_made n (key + 8) (value + 24) rest ws (cc) hs)
+
+  -- the pairs below the pointers to children, and then those of the entries between them
+  data ChildrenPairs : Values → Type 0 where
+    no_children : {vs : Values} → vs ≡ no_values → ChildrenPairs vs
+    more_children : {vs ws : Values} {v : Value} → vs ≡ more_values v ws → PairsValue bytes v → ChildrenPairs ws → ChildrenPairs vs
+
+  record NodePairs (n : ℕ) (vs : Values) : Type 0 where
+    below : ChildrenPairs (first_values n vs)
+    own : PairValues bytes (other_values n vs)
+
+  node_pairs : (n deeper link most key value : ℕ) (qs : List Spot) (vs : Values) → qs ≡ children_from n deeper link ++ entries_from most key value → ValuesAt bytes qs vs → NodePairs n vs
+  node_pairs zero deeper link most key value qs vs is hs = record { below = no_children refl; own = entries_made most key value qs vs is hs }
+  node_pairs (suc n) deeper link most key value qs vs is (none_at e) = absurd (cc)
+  node_pairs (suc n) deeper link most key value qs vs is (more_at {q = q} {qs = rest} {ws = ws} {v = v} e h hs) =
+      let first : q ≡ record { place = tree_child deeper; pos = link } = cc in
+      let r = node_pairs n deeper (link + 4) most key value rest ws (cc) hs in
+      record {
+        below = more_children (ap (first_values (suc n)) e) (subst (λ (x : Spot). ValueAt bytes x.place v) first h) r.below;
+        own = subst (PairValues bytes) (sym (ap (other_values (suc n)) e)) r.own;
+      }
+
+  woven_pairs : {cs es : Values} → ChildrenPairs cs → PairValues bytes es → PairValues bytes (weave cs es)
+  woven_pairs {es = es} (no_children e) h = subst (PairValues bytes) (sym (ap (λ x. weave x es) e)) h
+  woven_pairs {es = all} (more_children {ws = cs} {v = c} e p ps) (no_pairs f) =
+      let P : Values → Values → Type 0 = λ x y. PairValues bytes (weave x y) in
+      subst (λ x. P x all) (sym e) (subst (P (more_values c cs)) (sym f) (subst (λ x. PairValues bytes (members x)) (sym p.is) p.pairs))
+  woven_pairs {es = all} (more_children {ws = cs} {v = c} e p ps) (more_pairs {ws = es} {k = k} {v = w} f u n rest) =
+      let P : Values → Values → Type 0 = λ x y. PairValues bytes (weave x y) in
+      let own = subst (λ x. PairValues bytes (members x)) (sym p.is) p.pairs in
+      subst (λ x. P x all) (sym e) (subst (P (more_values c cs)) (sym f) (pairs_append own (more_pairs refl u n (woven_pairs ps rest))))
+
+  -- a text and a node make a pair
+  pair_made : {key value : ℕ} {qs : List Spot} {vs : Values} {v : Value}
+      → qs ≡ record { place = text_here; pos = key } ∷ (record { place = node_here; pos = value } ∷ []) → ValuesAt bytes qs vs → v ≡ group vs → PairValue bytes v
+  pair_made e (none_at f) m = absurd (cc)
+  pair_made e (more_at f h (none_at g)) m = absurd (cc)
+  pair_made {key = key} {value = value} e (more_at {q = q} {v = x} f h (more_at {q = r} {qs = qs} {v = y} g k hs)) m =
+      let first : q ≡ record { place = text_here; pos = key } = cc in
+      let second : r ≡ record { place = node_here; pos = value } = cc in
+      let none : qs ≡ [] = cc in
+      let text_is : TextValue x = subst (λ (z : Spot). ValueAt bytes z.place x) first h in
+      let rest = no_more none hs in
+      record {
+        k = text_is.s;
+        w = y;
+        is = m ∙ ap group (f ∙ ap₂ more_values text_is.is (g ∙ ap (more_values y) rest));
+        utf8 = text_is.utf8;
+        node = subst (λ (z : Spot). ValueAt bytes z.place y) second k;
+      }
+
   record Alone (j : Place) (vs : Values) : Type 0 where
     value : Value
     is : vs ≡ more_values value no_values
@@ -168,6 +263,10 @@ module _ (bytes : List ℕ) where
       let none : qs ≡ [] = cc in
       let rest = no_more none hs in
       record { value = v; is = f ∙ ap (more_values v) rest; there = subst (λ (x : Spot). ValueAt bytes x.place v) same h }
+
+  total_made : (v : Value) (len : ℕ) (b : Bool) (w : Value) → (count_values (members v) == len) ≡ b → cond b (Some v) None ≡ Some w → (w ≡ v) × (count_values (members v) ≡ len)
+  total_made v len true w e m = (cc, eqb-true _ _ e)
+  total_made v len false w e m = absurd (cc)
 
   pub follow : {k : Place} {l : Label} {qs : List Spot} {vs : Values} {v : Value}
       → Follows bytes k l qs → IsLegal l → ValuesAt bytes qs vs → made l vs ≡ Some v → ValueAt bytes k v
@@ -205,6 +304,28 @@ module _ (bytes : List ℕ) where
       let n : made whole vs ≡ Some v = subst (λ x. made x vs ≡ Some v) e m in
       let r = nodes_made pos len _ vs f hs in
       record { vs = vs; is = cc; nodes = r.nodes; counted = r.counted }
+  follow {l = l} {vs = vs} {v = v} (empty_is e f) legal hs m =
+      let n : made whole no_values ≡ Some v = subst (λ x. made whole x ≡ Some v) (no_more f hs) (subst (λ x. made x vs ≡ Some v) e m) in
+      record { vs = no_values; is = cc; pairs = no_pairs refl; small = λ b. omega arith }
+  follow {l = l} {vs = vs} {v = v} (total_is {len = len} small e f) legal hs m =
+      let a = alone f hs in
+      let n : made (total len) (more_values a.value no_values) ≡ Some v = subst (λ x. made (total len) x ≡ Some v) a.is (subst (λ x. made x vs ≡ Some v) e m) in
+      let t = total_made a.value len (count_values (members a.value) == len) v refl n in
+      let counted : count_values a.there.vs ≡ len = sym (ap (λ x. count_values (members x)) a.there.is) ∙ t.1 in
+      record { vs = a.there.vs; is = t.0 ∙ a.there.is; pairs = a.there.pairs; small = λ b. subst (λ x. x < 2 ^ 64) (sym counted) (small b) }
+  follow {l = l} {vs = vs} {v = v} (leaf_follows len key value low e f) legal hs m =
+      let n : made whole vs ≡ Some v = subst (λ x. made x vs ≡ Some v) e m in
+      record { vs = vs; is = cc; pairs = entries_made len key value _ vs f hs }
+  follow {l = l} {vs = vs} {v = v} (inner_follows most deeper link key value low next e f) legal hs m =
+      let n : made (woven (suc most)) vs ≡ Some v = subst (λ x. made x vs ≡ Some v) e m in
+      let p = node_pairs (suc most) deeper link most key value _ vs f hs in
+      record { vs = weave (first_values (suc most) vs) (other_values (suc most) vs); is = cc; pairs = woven_pairs p.below p.own }
+  follow {l = l} {vs = vs} {v = v} (no_child_is e f) legal hs m =
+      let n : made whole no_values ≡ Some v = subst (λ x. made whole x ≡ Some v) (no_more f hs) (subst (λ x. made x vs ≡ Some v) e m) in
+      record { vs = no_values; is = cc; pairs = no_pairs refl }
+  follow {l = l} {vs = vs} {v = v} (entry_follows e f) legal hs m =
+      let n : made whole vs ≡ Some v = subst (λ x. made x vs ≡ Some v) e m in
+      pair_made f hs (cc)
 
   -- ---- a shared text alone counts
 

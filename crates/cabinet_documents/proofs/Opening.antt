@@ -1,19 +1,27 @@
 -- Bytes at whose root a node holds, with a walk without faults, are the archive of a document.
 use Rattle.std.proofs.Common.{◌≡◌, ℕ, ◌+◌, ◌<◌, ◌≤◌, ◌^◌, Bool, true, false, cond, nat_lt, List, [], ◌∷◌, ◌++◌, length, refl, sym, ap, subst, ◌∙◌, arith, ltb-true}
+use Rattle.std.specs.Prelude.{⊤}
 use Rattle.archive_forms_values.specs.ShapeLayout.Value.{Value, Values, count_values}
 use Rattle.archive_forms_values.specs.ShapeLayout.Holds.{root_position}
 use Rattle.archive_forms_values.specs.ShapeCanonical.Canonical.{AreBytes}
-use Rattle.cabinet_text_grammar.specs.Tree.{truth, number, text, Tree, leaf, shared, nothing, just, list, Trees, no_trees, more_trees, count, IsLegal, AreLegal}
+use Rattle.cabinet_text_grammar.specs.Keys.{ordered}
+use Rattle.cabinet_text_grammar.specs.Tree.{truth, number, text, Tree, leaf, shared, nothing, just, list, map, Trees, no_trees, more_trees, count, IsLegal, AreLegal, Pairs, no_pairs as no_pairs_of, more_pairs as more_pairs_of, pair_count, ArePairs}
 use Rattle.cabinet_documents.specs.Node.{node_shape}
-use Rattle.cabinet_documents.specs.Denotes.{Denotes, DenoteAll}
-use Rattle.cabinet_documents.specs.Denotes.Denotes.{denotes_truth, denotes_number, denotes_text, denotes_shared, denotes_nothing, denotes_some, denotes_list}
+use Rattle.cabinet_documents.specs.Denotes.{Denotes, DenoteAll, DenotePairs}
+use Rattle.cabinet_documents.specs.Denotes.Denotes.{denotes_truth, denotes_number, denotes_text, denotes_shared, denotes_nothing, denotes_some, denotes_list, denotes_ordered}
 use Rattle.cabinet_documents.specs.Denotes.DenoteAll.{denote_none, denote_more}
+use Rattle.cabinet_documents.specs.Denotes.DenotePairs.{denote_no_pairs, denote_pair}
+use Rattle.cabinet_documents.specs.Order.{ascend}
+use Rattle.cabinet_documents.specs.Table.{item_keys}
 use Rattle.cabinet_documents.specs.Walk.{Stop, is_container}
 use Rattle.cabinet_documents.specs.Audit.{Unsound, too_deep, unless, deep_faults, map_faults, faults}
 use Rattle.cabinet_documents.specs.Laws.{AcceptedStands}
 use Rattle.cabinet_documents.proofs.Places.{node_behind}
-use Rattle.cabinet_documents.proofs.Nodes.{NodeValue, truth_value, number_value, text_value, shared_value, none_value, some_value, list_value, NodeValues, no_nodes, more_nodes, none_seen, held}
-use Rattle.cabinet_documents.proofs.Peaks.{height_is, peak, peaked}
+use Rattle.cabinet_documents.proofs.Nodes.{NodeValue, truth_value, number_value, text_value, shared_value, none_value, some_value, list_value, ordered_value, NodeValues, no_nodes, more_nodes, PairValues, no_pairs, more_pairs, none_seen, held}
+use Rattle.cabinet_documents.proofs.Keyed.{AscendAfter, first_after}
+use Rattle.cabinet_documents.proofs.Heights.{Keyed, AllKeyed, height_is}
+use Rattle.cabinet_documents.proofs.Stops.{peak, Each}
+use Rattle.cabinet_documents.proofs.Peaks.{IsQuiet, peaked}
 use Rattle.cabinet_documents.proofs.Standing.{accepted_by}
 
 -- ---- the document of a node's value
@@ -21,36 +29,75 @@ use Rattle.cabinet_documents.proofs.Standing.{accepted_by}
 pub record OfTree (bytes : List ℕ) (v : Value) : Type 0 where
   pub tree : Tree
   pub denotes : Denotes v tree
-  pub legal : AreBytes bytes → IsLegal tree
+  pub legal : AreBytes bytes → Keyed v → IsLegal tree
 
 record OfTrees (bytes : List ℕ) (vs : Values) : Type 0 where
   trees : Trees
   denote : DenoteAll vs trees
-  legal : AreBytes bytes → AreLegal trees
+  legal : AreBytes bytes → AllKeyed vs → AreLegal trees
   counted : count trees ≡ count_values vs
+
+record OfPairs (bytes : List ℕ) (vs : Values) : Type 0 where
+  pairs : Pairs
+  denote : DenotePairs vs pairs
+  legal : AreBytes bytes → AllKeyed vs → (before : List (List ℕ)) → AscendAfter before (item_keys vs) → ArePairs ordered before pairs
+  counted : pair_count pairs ≡ count_values vs
 
 mutual
   pub of_tree : {bytes : List ℕ} {v : Value} → NodeValue bytes v → OfTree bytes v
-  of_tree (truth_value {b = b} e) = record { tree = leaf (truth b); denotes = denotes_truth e refl; legal = λ small. tt }
-  of_tree (number_value {n = n} e fits) = record { tree = leaf (number n); denotes = denotes_number e refl; legal = λ small. fits }
-  of_tree (text_value {s = s} e utf8) = record { tree = leaf (text s); denotes = denotes_text e refl; legal = λ small. utf8 }
-  of_tree (shared_value {s = s} e utf8) = record { tree = shared s; denotes = denotes_shared e refl; legal = λ small. utf8 }
-  of_tree (none_value e) = record { tree = nothing; denotes = denotes_nothing e refl; legal = λ small. tt }
-  of_tree (some_value e n) = let r = of_tree n in record { tree = just r.tree; denotes = denotes_some e refl r.denotes; legal = r.legal }
-  of_tree (list_value e ns few) =
+  of_tree (truth_value {b = b} e) = record { tree = leaf (truth b); denotes = denotes_truth e refl; legal = λ small keyed. tt }
+  of_tree (number_value {n = n} e fits) = record { tree = leaf (number n); denotes = denotes_number e refl; legal = λ small keyed. fits }
+  of_tree (text_value {s = s} e utf8) = record { tree = leaf (text s); denotes = denotes_text e refl; legal = λ small keyed. utf8 }
+  of_tree (shared_value {s = s} e utf8) = record { tree = shared s; denotes = denotes_shared e refl; legal = λ small keyed. utf8 }
+  of_tree (none_value e) = record { tree = nothing; denotes = denotes_nothing e refl; legal = λ small keyed. tt }
+  of_tree (some_value {w = w} e n) =
+      let r = of_tree n in
+      record { tree = just r.tree; denotes = denotes_some e refl r.denotes; legal = λ small keyed. let k : ⊤ × ((⊤ × (Keyed w × ⊤)) × ⊤) = subst Keyed e keyed in r.legal small k.1.0.1.0 }
+  of_tree (list_value {vs = vs} e ns few) =
       let r = of_trees ns in
-      record { tree = list r.trees; denotes = denotes_list e refl r.denote; legal = λ small. (r.legal small, subst (λ n. n < 2 ^ 64) (sym r.counted) (few small)) }
+      record {
+        tree = list r.trees;
+        denotes = denotes_list e refl r.denote;
+        legal = λ small keyed.
+            let k : ⊤ × (AllKeyed vs × ⊤) = subst Keyed e keyed in
+            (r.legal small k.1.0, subst (λ n. n < 2 ^ 64) (sym r.counted) (few small));
+      }
+  of_tree (ordered_value {vs = vs} e ps few) =
+      let r = of_pairs ps in
+      record {
+        tree = map ordered r.pairs;
+        denotes = denotes_ordered e refl r.denote;
+        legal = λ small keyed.
+            let k : (ascend (item_keys vs) ≡ true) × (AllKeyed vs × ⊤) = subst Keyed e keyed in
+            (r.legal small k.1.0 [] k.0, subst (λ n. n < 2 ^ 64) (sym r.counted) (few small));
+      }
 
   of_trees : {bytes : List ℕ} {vs : Values} → NodeValues bytes vs → OfTrees bytes vs
-  of_trees (no_nodes e) = record { trees = no_trees; denote = denote_none e refl; legal = λ small. tt; counted = sym (ap count_values e) }
-  of_trees (more_nodes e n ns) =
+  of_trees (no_nodes e) = record { trees = no_trees; denote = denote_none e refl; legal = λ small keyed. tt; counted = sym (ap count_values e) }
+  of_trees (more_nodes {ws = ws} {v = v} e n ns) =
       let r = of_tree n in
       let rs = of_trees ns in
       let c = rs.counted in
       record {
         trees = more_trees r.tree rs.trees;
         denote = denote_more e refl r.denotes rs.denote;
-        legal = λ small. (r.legal small, rs.legal small);
+        legal = λ small keyed. let k : Keyed v × AllKeyed ws = subst AllKeyed e keyed in (r.legal small k.0, rs.legal small k.1);
+        counted = omega (arith, c) ∙ sym (ap count_values e);
+      }
+
+  of_pairs : {bytes : List ℕ} {vs : Values} → PairValues bytes vs → OfPairs bytes vs
+  of_pairs (no_pairs e) = record { pairs = no_pairs_of; denote = denote_no_pairs e refl; legal = λ small keyed before after. tt; counted = sym (ap count_values e) }
+  of_pairs (more_pairs {ws = ws} {k = k} {v = v} e utf8 n ns) =
+      let r = of_tree n in
+      let rs = of_pairs ns in
+      let c = rs.counted in
+      record {
+        pairs = more_pairs_of k r.tree rs.pairs;
+        denote = denote_pair e refl r.denotes rs.denote;
+        legal = λ small keyed before after.
+            let x : (⊤ × (Keyed v × ⊤)) × AllKeyed ws = subst AllKeyed e keyed in
+            let a = first_after before k (item_keys ws) (subst (λ y. AscendAfter before (item_keys y)) e after) in
+            ((utf8, a.0), (r.legal small x.0.1.0, rs.legal small x.1 (k ∷ before) a.1));
         counted = omega (arith, c) ∙ sym (ap count_values e);
       }
 
@@ -81,6 +128,12 @@ shallow bytes (s ∷ rest) e =
     let others = shallow bytes rest (right_nil (deep_faults s ++ map_faults bytes s.part s.value) (faults bytes rest) e) in
     omega arith
 
+quiet : (bytes : List ℕ) (walk : List Stop) → faults bytes walk ≡ [] → Each (IsQuiet bytes) walk
+quiet bytes [] e = tt
+quiet bytes (s ∷ rest) e =
+    let here = left_nil (deep_faults s ++ map_faults bytes s.part s.value) (faults bytes rest) e in
+    (right_nil (deep_faults s) (map_faults bytes s.part s.value) here, quiet bytes rest (right_nil (deep_faults s ++ map_faults bytes s.part s.value) (faults bytes rest) e))
+
 pub accepted_stands_law : AcceptedStands
 accepted_stands_law bytes v regions visits walk small root walked none =
     let pos = root_position (length bytes) node_shape in
@@ -89,4 +142,4 @@ accepted_stands_law bytes v regions visits walk small root walked none =
     let p = peaked bytes walked node_behind pos refl in
     let high = height_is n r.denotes in
     let low = shallow bytes walk none in
-    record { tree = r.tree; accepted = accepted_by bytes r.tree v regions visits root r.denotes (r.legal small, omega (arith, p.peak_is, high, low)) }
+    record { tree = r.tree; accepted = accepted_by bytes r.tree v regions visits root r.denotes (r.legal small (p.keyed (quiet bytes walk none)).1, omega (arith, p.peak_is, high, low)) }

@@ -11,6 +11,7 @@ use Rattle.cabinet_text_grammar.specs.Path.{Step, key, place, inside, node_at, n
 use Rattle.cabinet_text_grammar.specs.Answering.{change, change_in, change_by}
 use Rattle.cabinet_documents.specs.Node.{node_shape, own_bytes}
 use Rattle.cabinet_documents.specs.Laws.{EditsInEitherOrder}
+use Rattle.cabinet_documents.proofs.ByKey.{change_here, change_past, node_here, node_past}
 use Rattle.cabinet_documents.proofs.OwnWritten.{own_within}
 use Rattle.cabinet_documents.proofs.Apart.{own_bytes_apart_law}
 
@@ -28,21 +29,6 @@ record BothBy (ps : Pairs) (a b : List ℕ) (path other : List Step) (l m : Leaf
   same_pairs : change_by (change_by ps a path l) b other m ≡ change_by (change_by ps b other m) a path l
   stays : node_by (change_by ps a path l) b other ≡ node_by ps b other
   other_stays : node_by (change_by ps b other m) a path ≡ node_by ps a path
-
--- ---- at a key, and past it
-
-module _ (n : List ℕ) (t : Tree) (ps : Pairs) (a : List ℕ) (path : List Step) where
-  change_here : (l : Leaf) → bytes_eq n a ≡ true → change_by (more_pairs n t ps) a path l ≡ more_pairs n (change t path l) ps
-  change_here l e = ap (λ x. if x then more_pairs n (change t path l) ps else more_pairs n t (change_by ps a path l)) e
-
-  change_past : (l : Leaf) → bytes_eq n a ≡ false → change_by (more_pairs n t ps) a path l ≡ more_pairs n t (change_by ps a path l)
-  change_past l e = ap (λ x. if x then more_pairs n (change t path l) ps else more_pairs n t (change_by ps a path l)) e
-
-  node_here : bytes_eq n a ≡ true → node_by (more_pairs n t ps) a path ≡ node_at t path
-  node_here e = ap (λ x. if x then node_at t path else node_by ps a path) e
-
-  node_past : bytes_eq n a ≡ false → node_by (more_pairs n t ps) a path ≡ node_by ps a path
-  node_past e = ap (λ x. if x then node_at t path else node_by ps a path) e
 
 -- of a pair, whose key equals both keys, one of them or neither
 both_keys :

@@ -1,123 +1,67 @@
--- The number of containers that lie in one another in the walk of a node is that of its value.
-use Rattle.std.proofs.Common.{◌≡◌, ℕ, zero, suc, ◌+◌, ◌<◌, ◌≤◌, max, Bool, true, false, cond, List, [], ◌∷◌, ◌++◌, Some, refl, sym, ap, subst, ◌∙◌, arith, append-nil, w8}
+-- In the walk of a node as many containers lie in one another as its value is high, and the keys of its maps ascend
+-- where those of the value do.
+use Rattle.std.proofs.Common.{◌≡◌, ℕ, zero, suc, ◌+◌, ◌<◌, ◌≤◌, max, Bool, true, false, cond, ◌==◌, List, [], ◌∷◌, ◌++◌, Some, None, refl, sym, ap, subst, ◌∙◌, arith, append-nil, w8}
 use Rattle.std.specs.Prelude.{⊤}
 use Rattle.std.specs.List.{flat_map, Contains}
-use Rattle.archive_forms_values.specs.ShapeLayout.Value.{Value, Values}
-use Rattle.archive_forms_values.specs.ShapeLayout.Value.Value.{natural, integer, boolean, string, group, chosen, counted, back}
+use Rattle.archive_forms_values.specs.ShapeLayout.Value.{Value, Values, count_values}
+use Rattle.archive_forms_values.specs.ShapeLayout.Value.Value.{integer, boolean, string, group, chosen, counted}
 use Rattle.archive_forms_values.specs.ShapeLayout.Value.Values.{no_values, more_values}
 use Rattle.archive_forms_values.specs.ShapeLayout.Shape.Shape.{choice, array, number as number_shape}
 use Rattle.archive_forms_values.specs.ShapeLayout.Shape.Shapes.{no_shapes}
 use Rattle.archive_forms_values.specs.ShapeLayout.Shape.Pointee.{str}
-use Rattle.archive_forms_values.specs.ShapeLayout.Content.{Part, Label, Content, content_of, made, shape_content, fields}
+use Rattle.archive_forms_values.specs.ShapeLayout.Content.{Part, Label, Content, content_of, made, members, weave, first_values, other_values, shape_content, fields}
 use Rattle.archive_forms_values.specs.ShapeLayout.Bytes.{align_up}
 use Rattle.archive_forms_values.specs.ShapeLayout.Content.Part.{at}
-use Rattle.archive_forms_values.specs.ShapeLayout.Content.Label.{leaf, written, same, whole, tagged}
-use Rattle.archive_forms_values.specs.ShapeLayout.Content.Content.{illegal, claimed, counting}
-use Rattle.cabinet_text_grammar.specs.Tree.{Tree, Trees, depth, most_depth}
+use Rattle.archive_forms_values.specs.ShapeLayout.Content.Label.{leaf, written, same, second, whole, tagged, woven, total}
+use Rattle.archive_forms_values.specs.ShapeLayout.Content.Content.{illegal, plain, claimed, counting}
 use Rattle.cabinet_documents.specs.Node.{node_names}
-use Rattle.cabinet_documents.specs.Denotes.{Denotes, DenoteAll, tagged_value}
-use Rattle.cabinet_documents.specs.Denotes.Denotes.{denotes_truth, denotes_number, denotes_text, denotes_shared, denotes_nothing}
-use Rattle.cabinet_documents.specs.Denotes.DenoteAll.{denote_none, denote_more}
-use Rattle.cabinet_documents.specs.Walk.{Stop, Walks, WalkAll, is_container, depth_in, parts_of, value_of, joined}
+use Rattle.cabinet_documents.specs.Denotes.{tagged_value}
+use Rattle.cabinet_documents.specs.Order.{ascend}
+use Rattle.cabinet_documents.specs.Table.{item_keys}
+use Rattle.cabinet_documents.specs.Walk.{Stop, Walks, WalkAll, is_container, depth_in, parts_of, value_of, joined, in_turn}
 use Rattle.cabinet_documents.specs.Walk.Walks.{walks}
 use Rattle.cabinet_documents.specs.Walk.WalkAll.{walk_none, walk_more}
-use Rattle.cabinet_documents.specs.Audit.{IsMapSound}
-use Rattle.cabinet_documents.proofs.Denoted.{one_tree}
-use Rattle.cabinet_documents.proofs.Changing.{of_some, of_list}
-use Rattle.cabinet_documents.proofs.Nodes.{no_choice, NodeValue, truth_value, number_value, text_value, shared_value, none_value, some_value, list_value, NodeValues, no_nodes, more_nodes}
-use Rattle.cabinet_documents.proofs.Places.{Place, node_here, payload_here, truth_here, number_here, text_here, shared_here, option_here, box_here, list_here, absent_here, node_behind, nodes_behind, text_behind, Spot, part_of, parts_at, nodes_from, lifts, Passes, node_passes, box_passes, behind_passes, list_passes, text_passes, Pays, pays_truth, pays_number, pays_text, pays_shared, pays_option, pays_list, pays_absent, Follows, passes, pays, truth_is, number_is, text_is, behind_is, none_is, some_is, nodes_follow, Leads, leads_nowhere, leads_absent, leads_plain, leads_claimed, leads_counted, led}
-
--- ---- how many containers lie in one another in a node's value
-
-abbrev mutual
-  pub height : Value → ℕ
-  height (natural n) = 0
-  height (integer n) = 0
-  height (boolean b) = 0
-  height (string s) = 0
-  height (group vs) = heights vs
-  height (chosen tag vs) = lifts tag + heights vs
-  height (counted pos v) = height v
-  height (back pos) = 0
-
-  pub heights : Values → ℕ
-  heights no_values = 0
-  heights (more_values v vs) = max (height v) (heights vs)
-
-mutual
-  height_of : {bytes : List ℕ} {v w : Value} {t : Tree} → NodeValue bytes v → Denotes w t → v ≡ w → height v ≡ depth t
-  height_of (truth_value e) d q = ap height e ∙ sym (ap depth (one_tree d (denotes_truth (sym q ∙ e) refl)))
-  height_of (number_value e f) d q = ap height e ∙ sym (ap depth (one_tree d (denotes_number (sym q ∙ e) refl)))
-  height_of (text_value e f) d q = ap height e ∙ sym (ap depth (one_tree d (denotes_text (sym q ∙ e) refl)))
-  height_of (shared_value e u) d q = ap height e ∙ sym (ap depth (one_tree d (denotes_shared (sym q ∙ e) refl)))
-  height_of (none_value e) d q = ap height e ∙ sym (ap depth (one_tree d (denotes_nothing (sym q ∙ e) refl)))
-  height_of (some_value e n) d q = let s = of_some (sym q ∙ e) d in let r = height_of n s.denotes refl in ap height e ∙ omega (arith, r) ∙ sym (ap depth s.is)
-  height_of (list_value e ns small) d q = let s = of_list (sym q ∙ e) d in let r = heights_of ns s.denotes refl in ap height e ∙ omega (arith, r) ∙ sym (ap depth s.is)
-
-  heights_of : {bytes : List ℕ} {vs ws : Values} {ts : Trees} → NodeValues bytes vs → DenoteAll ws ts → vs ≡ ws → heights vs ≡ most_depth ts
-  heights_of (no_nodes e) (denote_none f g) q = ap heights e ∙ sym (ap most_depth g)
-  heights_of (no_nodes e) (denote_more f g d ds) q = absurd (cc)
-  heights_of (more_nodes e n ns) (denote_none f g) q = absurd (cc)
-  heights_of (more_nodes {ws = ws} {v = v} e n ns) (denote_more {v = v'} {vs = ws'} f g d ds) q =
-      let one : v ≡ v' = cc in
-      let others : ws ≡ ws' = cc in
-      let r = height_of n d one in
-      let rs = heights_of ns ds others in
-      ap heights e ∙ omega (arith, r, rs) ∙ sym (ap most_depth g)
-
-pub height_is : {bytes : List ℕ} {v : Value} {t : Tree} → NodeValue bytes v → Denotes v t → height v ≡ depth t
-height_is n d = height_of n d refl
-
--- ---- how many containers lie in one another in a walk, from a depth
-
-abbrev pub peak : ℕ → List Stop → ℕ
-peak d [] = d
-peak d (s ∷ rest) = max (cond (is_container s.part) (s.depth + 1) d) (peak d rest)
-
-peak_low : (d : ℕ) (walk : List Stop) → d ≤ peak d walk
-peak_low d [] = omega arith
-peak_low d (s ∷ rest) = let r = peak_low d rest in omega arith
-
-peak_append : (d : ℕ) (xs ys : List Stop) → peak d (xs ++ ys) ≡ max (peak d xs) (peak d ys)
-peak_append d [] ys = let r = peak_low d ys in omega arith
-peak_append d (s ∷ xs) ys = let r = peak_append d xs ys in omega arith
-
-raise_one : (b : Bool) (d e p q : ℕ) → max (d + 1) p ≡ q → max (d + 1) (max (cond b (e + 1) d) p) ≡ max (cond b (e + 1) (d + 1)) q
-raise_one true d e p q h = omega arith
-raise_one false d e p q h = omega arith
-
-peak_raise : (d : ℕ) (walk : List Stop) → max (d + 1) (peak d walk) ≡ peak (d + 1) walk
-peak_raise d [] = omega arith
-peak_raise d (s ∷ rest) = raise_one (is_container s.part) d s.depth (peak d rest) (peak (d + 1) rest) (peak_raise d rest)
-
--- of each stop
-abbrev pub Each : (Stop → Type 0) → List Stop → Type 0
-Each P [] = ⊤
-Each P (s ∷ rest) = P s × Each P rest
-
-each_append : (P : Stop → Type 0) (xs ys : List Stop) → Each P xs → Each P ys → Each P (xs ++ ys)
-each_append P [] ys h k = k
-each_append P (x ∷ xs) ys h k = (h.0, each_append P xs ys h.1 k)
-
-pub each_contains : (P : Stop → Type 0) (xs : List Stop) (s : Stop) → Each P xs → Contains xs s → P s
-each_contains P [] s h c = let a = c.1 in absurd (omega (arith, a))
-each_contains P (x ∷ xs) s h (zero, a, e) = subst P e h.0
-each_contains P (x ∷ xs) s h (suc n, a, e) = each_contains P xs s h.1 (n, omega (arith, a), e)
-
-abbrev pub flat : List (List Stop) → List Stop
-flat runs = flat_map (λ x. x) runs
+use Rattle.cabinet_documents.specs.Audit.{IsMapSound, map_faults, unless, keys_not_ascending}
+use Rattle.cabinet_documents.proofs.Stops.{peak, peak_low, peak_append, peak_raise, peak_joined, Each, each_append, each_front, each_joined, each_flat, flat}
+use Rattle.cabinet_documents.proofs.Heights.{height, heights, heights_split, heights_weave, KeysAscend, Keyed, AllKeyed, AreGroups, keyed_split, keyed_joined, keyed_weave, keyed_woven}
+use Rattle.cabinet_documents.proofs.Nodes.{no_choice}
+use Rattle.cabinet_documents.proofs.Places.{Place, node_here, payload_here, truth_here, number_here, text_here, shared_here, option_here, box_here, list_here, ordered_here, tree_node, tree_child, entry_here, absent_here, node_behind, nodes_behind, text_behind, Spot, part_of, parts_at, nodes_from, entries_from, children_from, lifts, Passes, node_passes, box_passes, behind_passes, list_passes, text_passes, child_passes, Pays, pays_truth, pays_number, pays_text, pays_shared, pays_option, pays_list, pays_ordered, pays_absent, Follows, passes, pays, truth_is, number_is, text_is, behind_is, none_is, some_is, nodes_follow, empty_is, total_is, leaf_follows, inner_follows, no_child_is, entry_follows, Leads, leads_nowhere, leads_absent, leads_plain, leads_claimed, leads_counted, led}
 
 -- ---- of places
 
 abbrev pub lift : Place → ℕ
 lift option_here = 1
 lift list_here = 1
+lift ordered_here = 1
 lift k = 0
 
 abbrev contains : Place → Bool
 contains option_here = true
 contains list_here = true
+contains ordered_here = true
 contains k = false
+
+-- neither a container nor a payload without a layout
+abbrev is_plain : Place → Bool
+is_plain option_here = false
+is_plain list_here = false
+is_plain ordered_here = false
+is_plain absent_here = false
+is_plain k = true
+
+-- the keys of the map at a place ascend
+abbrev pub OwnKeyed : Place → Value → Type 0
+OwnKeyed ordered_here v = ascend (item_keys (members v)) ≡ true
+OwnKeyed k v = ⊤
+
+abbrev pub KeyedAt : Place → Value → Type 0
+KeyedAt k v = OwnKeyed k v × Keyed v
+
+-- the value of a part of a search tree is a group
+abbrev GroupedAt : Place → Value → Type 0
+GroupedAt (tree_node level) v = v ≡ group (members v)
+GroupedAt (tree_child level) v = v ≡ group (members v)
+GroupedAt k v = ⊤
 
 container_is : (k : Place) (pos : ℕ) → is_container (part_of k pos) ≡ contains k
 container_is node_here pos = refl
@@ -129,6 +73,10 @@ container_is shared_here pos = refl
 container_is option_here pos = refl
 container_is box_here pos = refl
 container_is list_here pos = refl
+container_is ordered_here pos = refl
+container_is (tree_node level) pos = refl
+container_is (tree_child level) pos = refl
+container_is (entry_here key) pos = refl
 container_is absent_here pos = refl
 container_is node_behind pos = refl
 container_is (nodes_behind len) pos = refl
@@ -148,169 +96,402 @@ lift_is shared_here = refl
 lift_is option_here = refl
 lift_is box_here = refl
 lift_is list_here = refl
+lift_is ordered_here = refl
+lift_is (tree_node level) = refl
+lift_is (tree_child level) = refl
+lift_is (entry_here key) = refl
 lift_is absent_here = refl
 lift_is node_behind = refl
 lift_is (nodes_behind len) = refl
 lift_is (text_behind len) = refl
+
+plain_lift : (k : Place) → is_plain k ≡ true → lift k ≡ 0
+plain_lift node_here e = refl
+plain_lift payload_here e = refl
+plain_lift truth_here e = refl
+plain_lift number_here e = refl
+plain_lift text_here e = refl
+plain_lift shared_here e = refl
+plain_lift option_here e = absurd (cc)
+plain_lift box_here e = refl
+plain_lift list_here e = absurd (cc)
+plain_lift ordered_here e = absurd (cc)
+plain_lift (tree_node level) e = refl
+plain_lift (tree_child level) e = refl
+plain_lift (entry_here key) e = refl
+plain_lift absent_here e = absurd (cc)
+plain_lift node_behind e = refl
+plain_lift (nodes_behind len) e = refl
+plain_lift (text_behind len) e = refl
+
+plain_own : (k : Place) (v : Value) → is_plain k ≡ true → OwnKeyed k v
+plain_own node_here v e = tt
+plain_own payload_here v e = tt
+plain_own truth_here v e = tt
+plain_own number_here v e = tt
+plain_own text_here v e = tt
+plain_own shared_here v e = tt
+plain_own option_here v e = tt
+plain_own box_here v e = tt
+plain_own list_here v e = tt
+plain_own ordered_here v e = absurd (cc)
+plain_own (tree_node level) v e = tt
+plain_own (tree_child level) v e = tt
+plain_own (entry_here key) v e = tt
+plain_own absent_here v e = tt
+plain_own node_behind v e = tt
+plain_own (nodes_behind len) v e = tt
+plain_own (text_behind len) v e = tt
 
 -- with the stop at a place before a walk
 peak_stop : (b : Bool) (d n : ℕ) (walk : List Stop) → cond b 1 0 ≡ n → max (cond b (d + 1) d) (peak d walk) ≡ peak (d + n) walk
 peak_stop true d n walk h = let e : d + n ≡ d + 1 = omega arith in peak_raise d walk ∙ ap (λ m. peak m walk) (sym e)
 peak_stop false d n walk h = let e : d + n ≡ d = omega arith in let low = peak_low d walk in let m : max d (peak d walk) ≡ peak d walk = omega arith in m ∙ ap (λ m. peak m walk) (sym e)
 
-abbrev pub NoMap : Stop → Type 0
-NoMap s = (bytes : List ℕ) → IsMapSound bytes s.part s.value
+-- the map at a stop is sound, and has no fault
+abbrev pub Sounds : List ℕ → Stop → Type 0
+Sounds bytes s = IsMapSound bytes s.part s.value
 
-no_map : (k : Place) (pos : ℕ) (bytes : List ℕ) (w : Value) → IsMapSound bytes (part_of k pos) w
-no_map node_here pos bytes w = tt
-no_map payload_here pos bytes w = tt
-no_map truth_here pos bytes w = tt
-no_map number_here pos bytes w = tt
-no_map text_here pos bytes w = tt
-no_map shared_here pos bytes w = tt
-no_map option_here pos bytes w = tt
-no_map box_here pos bytes w = tt
-no_map list_here pos bytes w = tt
-no_map absent_here pos bytes w = tt
-no_map node_behind pos bytes w = tt
-no_map (nodes_behind len) pos bytes w = tt
-no_map (text_behind len) pos bytes w = tt
+abbrev pub IsQuiet : List ℕ → Stop → Type 0
+IsQuiet bytes s = map_faults bytes s.part s.value ≡ []
 
-pub record Peaked (k : Place) (d : ℕ) (v : Value) (walk : List Stop) : Type 0 where
+own_sound : (k : Place) (pos : ℕ) (bytes : List ℕ) (v : Value) → IsMapSound bytes (part_of k pos) v ≡ OwnKeyed k v
+own_sound node_here pos bytes v = refl
+own_sound payload_here pos bytes v = refl
+own_sound truth_here pos bytes v = refl
+own_sound number_here pos bytes v = refl
+own_sound text_here pos bytes v = refl
+own_sound shared_here pos bytes v = refl
+own_sound option_here pos bytes v = refl
+own_sound box_here pos bytes v = refl
+own_sound list_here pos bytes v = refl
+own_sound ordered_here pos bytes v = refl
+own_sound (tree_node level) pos bytes v = refl
+own_sound (tree_child level) pos bytes v = refl
+own_sound (entry_here key) pos bytes v = refl
+own_sound absent_here pos bytes v = refl
+own_sound node_behind pos bytes v = refl
+own_sound (nodes_behind len) pos bytes v = refl
+own_sound (text_behind len) pos bytes v = refl
+
+no_fault : (b : Bool) → unless b keys_not_ascending ≡ [] → b ≡ true
+no_fault true e = refl
+no_fault false e = absurd (cc)
+
+own_quiet : (k : Place) (pos : ℕ) (bytes : List ℕ) (v : Value) → map_faults bytes (part_of k pos) v ≡ [] → OwnKeyed k v
+own_quiet node_here pos bytes v e = tt
+own_quiet payload_here pos bytes v e = tt
+own_quiet truth_here pos bytes v e = tt
+own_quiet number_here pos bytes v e = tt
+own_quiet text_here pos bytes v e = tt
+own_quiet shared_here pos bytes v e = tt
+own_quiet option_here pos bytes v e = tt
+own_quiet box_here pos bytes v e = tt
+own_quiet list_here pos bytes v e = tt
+own_quiet ordered_here pos bytes v e = no_fault (ascend (item_keys (members v))) e
+own_quiet (tree_node level) pos bytes v e = tt
+own_quiet (tree_child level) pos bytes v e = tt
+own_quiet (entry_here key) pos bytes v e = tt
+own_quiet absent_here pos bytes v e = tt
+own_quiet node_behind pos bytes v e = tt
+own_quiet (nodes_behind len) pos bytes v e = tt
+own_quiet (text_behind len) pos bytes v e = tt
+
+pub record Peaked (bytes : List ℕ) (k : Place) (d : ℕ) (v : Value) (walk : List Stop) : Type 0 where
   pub peak_is : peak d walk ≡ d + (lift k + height v)
-  pub stops : Each NoMap walk
+  pub sound : KeyedAt k v → Each (Sounds bytes) walk
+  pub keyed : Each (IsQuiet bytes) walk → KeyedAt k v
+  pub grouped : GroupedAt k v
+  pub present : k ≡ absent_here → ⊥
 
-data AllPeaked (d : ℕ) : List Spot → Values → List (List Stop) → Type 0 where
-  none_peaked : {vs : Values} {runs : List (List Stop)} → vs ≡ no_values → runs ≡ [] → AllPeaked d [] vs runs
+data AllPeaked (bytes : List ℕ) (d : ℕ) : List Spot → Values → List (List Stop) → Type 0 where
+  none_peaked : {vs : Values} {runs : List (List Stop)} → vs ≡ no_values → runs ≡ [] → AllPeaked bytes d [] vs runs
   more_peaked : {q : Spot} {qs : List Spot} {vs ws : Values} {v : Value} {here : List Stop} {runs later : List (List Stop)}
-      → vs ≡ more_values v ws → runs ≡ here ∷ later → Peaked q.place d v here → AllPeaked d qs ws later → AllPeaked d (q ∷ qs) vs runs
+      → vs ≡ more_values v ws → runs ≡ here ∷ later → Peaked bytes q.place d v here → AllPeaked bytes d qs ws later → AllPeaked bytes d (q ∷ qs) vs runs
 
-all_stops : {d : ℕ} {qs : List Spot} {vs : Values} {runs : List (List Stop)} → AllPeaked d qs vs runs → Each NoMap (flat runs)
-all_stops (none_peaked e f) = subst (λ x. Each NoMap (flat x)) (sym f) tt
-all_stops (more_peaked {here = here} {later = later} e f p ps) = subst (λ x. Each NoMap (flat x)) (sym f) (each_append NoMap here (flat later) p.stops (all_stops ps))
+abbrev AllPlain : List Spot → Type 0
+AllPlain [] = ⊤
+AllPlain (q ∷ qs) = (is_plain q.place ≡ true) × AllPlain qs
 
-record One (j : Place) (d : ℕ) (vs : Values) (runs : List (List Stop)) : Type 0 where
-  value : Value
-  values_are : vs ≡ more_values value no_values
-  peak_is : peak d (flat runs) ≡ d + (lift j + height value)
+plain_append : (xs ys : List Spot) → AllPlain xs → AllPlain ys → AllPlain (xs ++ ys)
+plain_append [] ys h k = k
+plain_append (x ∷ xs) ys h k = (h.0, plain_append xs ys h.1 k)
 
-no_more : {d : ℕ} {qs : List Spot} {vs : Values} {runs : List (List Stop)} → qs ≡ [] → AllPeaked d qs vs runs → (vs ≡ no_values) × (runs ≡ [])
-no_more e (none_peaked f g) = (f, g)
-no_more e (more_peaked f g p ps) = absurd (cc)
+nodes_plain : (pos n : ℕ) → AllPlain (nodes_from pos n)
+nodes_plain pos zero = tt
+nodes_plain pos (suc n) = (refl, nodes_plain (pos + 24) n)
 
-one : (j : Place) (pos : ℕ) {d : ℕ} {qs : List Spot} {vs : Values} {runs : List (List Stop)} → qs ≡ record { place = j; pos = pos } ∷ [] → AllPeaked d qs vs runs → One j d vs runs
-one j pos e (none_peaked f g) = absurd (cc)
-one j pos {d = d} e (more_peaked {q = q} {qs = qs} {v = v} {here = here} f g p ps) =
-    let same_spot : q ≡ record { place = j; pos = pos } = cc in
-    let none : qs ≡ [] = cc in
-    let rest = no_more none ps in
-    let place_is : q.place ≡ j = ap (λ (x : Spot). x.place) same_spot in
-    record {
-      value = v;
-      values_are = f ∙ ap (more_values v) rest.0;
-      peak_is = ap (λ x. peak d (flat x)) g ∙ ap (λ x. peak d (here ++ flat x)) rest.1 ∙ ap (peak d) (append-nil here) ∙ p.peak_is ∙ ap (λ k. d + (lift k + height v)) place_is;
-    }
+entries_plain : (n key value : ℕ) → AllPlain (entries_from n key value)
+entries_plain zero key value = tt
+entries_plain (suc n) key value = (refl, entries_plain n (key + 8) (value + 24))
 
-nodes_peak : {d : ℕ} (pos n : ℕ) {qs : List Spot} {vs : Values} {runs : List (List Stop)} → qs ≡ nodes_from pos n → AllPeaked d qs vs runs → peak d (flat runs) ≡ d + heights vs
-nodes_peak {d = d} pos n e (none_peaked f g) = ap (λ x. peak d (flat x)) g ∙ omega arith ∙ ap (λ x. d + heights x) (sym f)
-nodes_peak pos zero e (more_peaked f g p ps) = absurd (cc)
-nodes_peak {d = d} pos (suc n) e (more_peaked {q = q} {qs = qs} {ws = ws} {v = v} {here = here} {later = later} f g p ps) =
-    let first : q ≡ record { place = node_here; pos = pos } = cc in
-    let place_is : q.place ≡ node_here = ap (λ (x : Spot). x.place) first in
-    let r : peak d here ≡ d + (lift node_here + height v) = p.peak_is ∙ ap (λ k. d + (lift k + height v)) place_is in
-    let rs = nodes_peak (pos + 24) n (cc) ps in
-    ap (λ x. peak d (flat x)) g ∙ peak_append d here (flat later) ∙ omega (arith, r, rs) ∙ ap (λ x. d + heights x) (sym f)
-
-pass_lift : {bytes : List ℕ} {k j : Place} → Passes bytes k j → lift j ≡ 0
-pass_lift node_passes = refl
-pass_lift box_passes = refl
-pass_lift behind_passes = refl
-pass_lift (list_passes small) = refl
-pass_lift text_passes = refl
-
-pay_lift : {tag : ℕ} {j : Place} → Pays tag j → lifts tag ≡ lift j
-pay_lift pays_truth = refl
-pay_lift pays_number = refl
-pay_lift pays_text = refl
-pay_lift pays_shared = refl
-pay_lift pays_option = refl
-pay_lift pays_list = refl
-pay_lift (pays_absent z) = z
-
--- what follows a place
-follow : {bytes : List ℕ} (k : Place) (d : ℕ) {l : Label} {qs : List Spot} {vs : Values} {runs : List (List Stop)} {v : Value}
-    → Follows bytes k l qs → AllPeaked (d + lift k) qs vs runs → made l vs ≡ Some v → peak (d + lift k) (flat runs) ≡ d + (lift k + height v)
-unfolding made
-follow k d {l = l} {vs = vs} {v = v} (passes {j = j} {pos = pos} p e f) ps m =
-    let o = one j pos f ps in
-    let n : made same (more_values o.value no_values) ≡ Some v = subst (λ x. made same x ≡ Some v) o.values_are (subst (λ x. made x vs ≡ Some v) e m) in
-    let is : o.value ≡ v = cc in
-    let h : height o.value ≡ height v = ap height is in
-    let z = pass_lift p in
-    o.peak_is ∙ omega (arith, h, z)
-follow k d {l = l} {vs = vs} {v = v} (pays {tag = tag} {j = j} {pos = pos} p e f) ps m =
-    let o = one j pos f ps in
-    let n : made (tagged tag) (more_values o.value no_values) ≡ Some v = subst (λ x. made (tagged tag) x ≡ Some v) o.values_are (subst (λ x. made x vs ≡ Some v) e m) in
-    let is : v ≡ tagged_value tag o.value = cc in
-    let h : height v ≡ height (tagged_value tag o.value) = ap height is in
-    let z = pay_lift p in
-    o.peak_is ∙ omega (arith, h, z)
-follow k d {l = l} {vs = vs} {v = v} (truth_is {b = b} e f) ps m =
-    let none = no_more f ps in
-    let n : made (leaf (boolean b)) no_values ≡ Some v = subst (λ x. made (leaf (boolean b)) x ≡ Some v) none.0 (subst (λ x. made x vs ≡ Some v) e m) in
-    let is : v ≡ boolean b = cc in
-    let h : height v ≡ 0 = ap height is in
-    ap (λ x. peak (d + 0) (flat x)) none.1 ∙ omega (arith, h)
-follow k d {l = l} {vs = vs} {v = v} (number_is {n = i} e fits f) ps m =
-    let none = no_more f ps in
-    let n : made (leaf (integer i)) no_values ≡ Some v = subst (λ x. made (leaf (integer i)) x ≡ Some v) none.0 (subst (λ x. made x vs ≡ Some v) e m) in
-    let is : v ≡ integer i = cc in
-    let h : height v ≡ 0 = ap height is in
-    ap (λ x. peak (d + 0) (flat x)) none.1 ∙ omega (arith, h)
-follow k d {l = l} {vs = vs} {v = v} (text_is {s = s} e f) ps m =
-    let none = no_more f ps in
-    let n : made (written s) no_values ≡ Some v = subst (λ x. made (written s) x ≡ Some v) none.0 (subst (λ x. made x vs ≡ Some v) e m) in
-    let is : v ≡ string s = cc in
-    let h : height v ≡ 0 = ap height is in
-    ap (λ x. peak (d + 0) (flat x)) none.1 ∙ omega (arith, h)
-follow k d {l = l} {vs = vs} {v = v} (behind_is {s = s} e f) ps m =
-    let none = no_more f ps in
-    let n : made (written s) no_values ≡ Some v = subst (λ x. made (written s) x ≡ Some v) none.0 (subst (λ x. made x vs ≡ Some v) e m) in
-    let is : v ≡ string s = cc in
-    let h : height v ≡ 0 = ap height is in
-    ap (λ x. peak (d + 0) (flat x)) none.1 ∙ omega (arith, h)
-follow k d {l = l} {vs = vs} {v = v} (none_is e f) ps m =
-    let none = no_more f ps in
-    let n : made (tagged 0) no_values ≡ Some v = subst (λ x. made (tagged 0) x ≡ Some v) none.0 (subst (λ x. made x vs ≡ Some v) e m) in
-    let is : v ≡ chosen 0 no_values = cc in
-    let h : height v ≡ 0 = ap height is in
-    ap (λ x. peak (d + 1) (flat x)) none.1 ∙ omega (arith, h)
-follow k d {l = l} {vs = vs} {v = v} (some_is {pos = pos} e f) ps m =
-    let o = one box_here pos f ps in
-    let n : made (tagged 1) (more_values o.value no_values) ≡ Some v = subst (λ x. made (tagged 1) x ≡ Some v) o.values_are (subst (λ x. made x vs ≡ Some v) e m) in
-    let is : v ≡ tagged_value 1 o.value = cc in
-    let h : height v ≡ height (tagged_value 1 o.value) = ap height is in
-    o.peak_is ∙ omega (arith, h)
-follow k d {l = l} {vs = vs} {v = v} (nodes_follow {len = len} pos e f) ps m =
-    let n : made whole vs ≡ Some v = subst (λ x. made x vs ≡ Some v) e m in
-    let is : v ≡ group vs = cc in
-    let h : height v ≡ heights vs = ap height is in
-    nodes_peak pos len f ps ∙ omega (arith, h)
-
--- at none of them is a node of a search tree
-joined_plain : {bytes : List ℕ} {k : Place} {l : Label} {qs : List Spot} (c : Content) (start size align : ℕ) (runs : List (List Stop)) → Follows bytes k l qs
-    → c ≡ claimed (record { start = start; size = size; align = align }) l (parts_at qs) → joined c runs ≡ flat runs
-joined_plain {qs = qs} c start size align runs (passes p e f) g = ap (λ x. joined x runs) (g ∙ ap (λ x. claimed (record { start = start; size = size; align = align }) x (parts_at qs)) e)
-joined_plain {qs = qs} c start size align runs (pays p e f) g = ap (λ x. joined x runs) (g ∙ ap (λ x. claimed (record { start = start; size = size; align = align }) x (parts_at qs)) e)
-joined_plain {qs = qs} c start size align runs (truth_is e f) g = ap (λ x. joined x runs) (g ∙ ap (λ x. claimed (record { start = start; size = size; align = align }) x (parts_at qs)) e)
-joined_plain {qs = qs} c start size align runs (number_is e h f) g = ap (λ x. joined x runs) (g ∙ ap (λ x. claimed (record { start = start; size = size; align = align }) x (parts_at qs)) e)
-joined_plain {qs = qs} c start size align runs (text_is e f) g = ap (λ x. joined x runs) (g ∙ ap (λ x. claimed (record { start = start; size = size; align = align }) x (parts_at qs)) e)
-joined_plain {qs = qs} c start size align runs (behind_is e f) g = ap (λ x. joined x runs) (g ∙ ap (λ x. claimed (record { start = start; size = size; align = align }) x (parts_at qs)) e)
-joined_plain {qs = qs} c start size align runs (none_is e f) g = ap (λ x. joined x runs) (g ∙ ap (λ x. claimed (record { start = start; size = size; align = align }) x (parts_at qs)) e)
-joined_plain {qs = qs} c start size align runs (some_is e f) g = ap (λ x. joined x runs) (g ∙ ap (λ x. claimed (record { start = start; size = size; align = align }) x (parts_at qs)) e)
-joined_plain {qs = qs} c start size align runs (nodes_follow pos e f) g = ap (λ x. joined x runs) (g ∙ ap (λ x. claimed (record { start = start; size = size; align = align }) x (parts_at qs)) e)
+children_plain : (n level pos : ℕ) → AllPlain (children_from n level pos)
+children_plain zero level pos = tt
+children_plain (suc n) level pos = (refl, children_plain n level (pos + 4))
 
 module _ (bytes : List ℕ) where
+  -- ---- parts that are no containers themselves
+
+  plain_peak : {d : ℕ} {qs : List Spot} {vs : Values} {runs : List (List Stop)} → AllPeaked bytes d qs vs runs → AllPlain qs → peak d (flat runs) ≡ d + heights vs
+  plain_peak {d = d} (none_peaked f g) h = ap (λ x. peak d (flat x)) g ∙ omega arith ∙ ap (λ x. d + heights x) (sym f)
+  plain_peak {d = d} (more_peaked {q = q} {ws = ws} {v = v} {here = here} {later = later} f g p ps) h =
+      let z = plain_lift q.place h.0 in
+      let r = p.peak_is in
+      let rs = plain_peak ps h.1 in
+      ap (λ x. peak d (flat x)) g ∙ peak_append d here (flat later) ∙ omega (arith, r, rs, z) ∙ ap (λ x. d + heights x) (sym f)
+
+  plain_sound : {d : ℕ} {qs : List Spot} {vs : Values} {runs : List (List Stop)} → AllPeaked bytes d qs vs runs → AllPlain qs → AllKeyed vs → Each (Sounds bytes) (flat runs)
+  plain_sound (none_peaked f g) h k = subst (λ x. Each (Sounds bytes) (flat x)) (sym g) tt
+  plain_sound (more_peaked {q = q} {ws = ws} {v = v} {here = here} {later = later} f g p ps) h k =
+      let both : Keyed v × AllKeyed ws = subst AllKeyed f k in
+      subst (λ x. Each (Sounds bytes) (flat x)) (sym g) (each_append (Sounds bytes) here (flat later) (p.sound (plain_own q.place v h.0, both.0)) (plain_sound ps h.1 both.1))
+
+  plain_keyed : {d : ℕ} {qs : List Spot} {vs : Values} {runs : List (List Stop)} → AllPeaked bytes d qs vs runs → Each (IsQuiet bytes) (flat runs) → AllKeyed vs
+  plain_keyed (none_peaked f g) h = subst AllKeyed (sym f) tt
+  plain_keyed (more_peaked {ws = ws} {v = v} {here = here} {later = later} f g p ps) h =
+      let both = each_front (IsQuiet bytes) here (flat later) (subst (λ x. Each (IsQuiet bytes) (flat x)) g h) in
+      subst AllKeyed (sym f) ((p.keyed both.0).1, plain_keyed ps both.1)
+
+  -- ---- one part
+
+  record One (j : Place) (d : ℕ) (vs : Values) (runs : List (List Stop)) : Type 0 where
+    value : Value
+    values_are : vs ≡ more_values value no_values
+    peak_is : peak d (flat runs) ≡ d + (lift j + height value)
+    sound : KeyedAt j value → Each (Sounds bytes) (flat runs)
+    keyed : Each (IsQuiet bytes) (flat runs) → KeyedAt j value
+    grouped : GroupedAt j value
+    present : j ≡ absent_here → ⊥
+
+  no_more : {d : ℕ} {qs : List Spot} {vs : Values} {runs : List (List Stop)} → qs ≡ [] → AllPeaked bytes d qs vs runs → (vs ≡ no_values) × (runs ≡ [])
+  no_more e (none_peaked f g) = (f, g)
+  no_more e (more_peaked f g p ps) = absurd (cc)
+
+  one : (j : Place) (pos : ℕ) {d : ℕ} {qs : List Spot} {vs : Values} {runs : List (List Stop)} → qs ≡ record { place = j; pos = pos } ∷ [] → AllPeaked bytes d qs vs runs → One j d vs runs
+  one j pos e (none_peaked f g) = absurd (cc)
+  one j pos {d = d} e (more_peaked {q = q} {qs = qs} {v = v} {here = here} f g p ps) =
+      let same_spot : q ≡ record { place = j; pos = pos } = cc in
+      let none : qs ≡ [] = cc in
+      let rest = no_more none ps in
+      let there : Peaked bytes j d v here = subst (λ (x : Spot). Peaked bytes x.place d v here) same_spot p in
+      let runs_are = ap flat g ∙ ap (λ x. here ++ flat x) rest.1 ∙ append-nil here in
+      record {
+        value = v;
+        values_are = f ∙ ap (more_values v) rest.0;
+        peak_is = ap (peak d) runs_are ∙ there.peak_is;
+        sound = λ k. subst (Each (Sounds bytes)) (sym runs_are) (there.sound k);
+        keyed = λ h. there.keyed (subst (Each (IsQuiet bytes)) runs_are h);
+        grouped = there.grouped;
+        present = there.present;
+      }
+
+  -- ---- what follows a place
+
+  pass_plain : {k j : Place} → Passes bytes k j → is_plain j ≡ true
+  pass_plain node_passes = refl
+  pass_plain box_passes = refl
+  pass_plain behind_passes = refl
+  pass_plain (list_passes small) = refl
+  pass_plain text_passes = refl
+  pass_plain child_passes = refl
+
+  pass_grouped : {k j : Place} (v : Value) → Passes bytes k j → GroupedAt j v → GroupedAt k v
+  pass_grouped v node_passes g = tt
+  pass_grouped v box_passes g = tt
+  pass_grouped v behind_passes g = tt
+  pass_grouped v (list_passes small) g = tt
+  pass_grouped v text_passes g = tt
+  pass_grouped v child_passes g = g
+
+  pay_lift : {tag : ℕ} {j : Place} → Pays tag j → lifts tag ≡ lift j
+  pay_lift pays_truth = refl
+  pay_lift pays_number = refl
+  pay_lift pays_text = refl
+  pay_lift pays_shared = refl
+  pay_lift pays_option = refl
+  pay_lift pays_list = refl
+  pay_lift pays_ordered = refl
+  pay_lift (pays_absent z) = z
+
+  pay_own : {tag : ℕ} {j : Place} (v : Value) → Pays tag j → (j ≡ absent_here → ⊥) → OwnKeyed j v ≡ KeysAscend tag (more_values v no_values)
+  pay_own v pays_truth h = refl
+  pay_own v pays_number h = refl
+  pay_own v pays_text h = refl
+  pay_own v pays_shared h = refl
+  pay_own v pays_option h = refl
+  pay_own v pays_list h = refl
+  pay_own v pays_ordered h = refl
+  pay_own v (pays_absent z) h = absurd (h refl)
+
+  all_groups : (n level pos : ℕ) (rest : List Spot) {d : ℕ} {qs : List Spot} {vs : Values} {runs : List (List Stop)} → qs ≡ children_from n level pos ++ rest → AllPeaked bytes d qs vs runs → AreGroups (first_values n vs)
+  all_groups zero level pos rest e ps = tt
+  all_groups (suc n) level pos rest e (none_peaked f g) = absurd (cc)
+  all_groups (suc n) level pos rest e (more_peaked {q = q} {qs = qs} {ws = ws} {v = v} f g p ps) =
+      let first : q ≡ record { place = tree_child level; pos = pos } = cc in
+      let others : qs ≡ children_from n level (pos + 4) ++ rest = cc in
+      let here : v ≡ group (members v) = subst (λ (x : Spot). GroupedAt x.place v) first p.grouped in
+      subst AreGroups (sym (ap (first_values (suc n)) f)) (here, all_groups n level (pos + 4) rest others ps)
+
+  -- how many are there
+  entries_count : (n key value : ℕ) {d : ℕ} {qs : List Spot} {vs : Values} {runs : List (List Stop)} → qs ≡ entries_from n key value → AllPeaked bytes d qs vs runs → count_values vs ≡ n
+  entries_count zero key value e (none_peaked f g) = ap count_values f
+  entries_count zero key value e (more_peaked f g p ps) = absurd (cc)
+  entries_count (suc n) key value e (none_peaked f g) = absurd (cc)
+  entries_count (suc n) key value e (more_peaked f g p ps) = let r = entries_count n (key + 8) (value + 24) (cc) ps in ap count_values f ∙ omega (arith, r)
+
+  record Counted (n most : ℕ) (vs : Values) : Type 0 where
+    children : count_values (first_values n vs) ≡ n
+    entries : count_values (other_values n vs) ≡ most
+
+  both_counted : (n level pos most key value : ℕ) {d : ℕ} {qs : List Spot} {vs : Values} {runs : List (List Stop)} → qs ≡ children_from n level pos ++ entries_from most key value → AllPeaked bytes d qs vs runs → Counted n most vs
+  both_counted zero level pos most key value e ps = record { children = refl; entries = entries_count most key value e ps }
+  both_counted (suc n) level pos most key value e (none_peaked f g) = absurd (cc)
+  both_counted (suc n) level pos most key value e (more_peaked {ws = ws} {v = v} f g p ps) =
+      let r = both_counted n level (pos + 4) most key value (cc) ps in
+      let c = r.children in
+      record { children = ap (λ x. count_values (first_values (suc n) x)) f ∙ omega (arith, c); entries = ap (λ x. count_values (other_values (suc n) x)) f ∙ r.entries }
+
+  -- what a place's value is made of says of it
+  record Made (k : Place) (d : ℕ) (v : Value) (runs : List (List Stop)) : Type 0 where
+    peak_is : peak (d + lift k) (flat runs) ≡ d + (lift k + height v)
+    sound : Keyed v → OwnKeyed k v → Each (Sounds bytes) (flat runs)
+    keyed : Each (IsQuiet bytes) (flat runs) → Keyed v
+    grouped : GroupedAt k v
+
+  -- by the value of one part, of none, and of several
+  made_same : (k j : Place) (d : ℕ) (v : Value) {vs : Values} {runs : List (List Stop)} → is_plain j ≡ true → (o : One j (d + lift k) vs runs) → v ≡ o.value → GroupedAt k v → Made k d v runs
+  made_same k j d v p o e g =
+      let z = plain_lift j p in
+      let h = ap height e in
+      let r = o.peak_is in
+      record {
+        peak_is = o.peak_is ∙ omega (arith, h, z);
+        sound = λ x own. o.sound (plain_own j o.value p, subst Keyed e x);
+        keyed = λ x. subst Keyed (sym e) (o.keyed x).1;
+        grouped = g;
+      }
+
+  made_leaf : (k : Place) (d : ℕ) (v : Value) {runs : List (List Stop)} → runs ≡ [] → height v ≡ 0 → Keyed v → GroupedAt k v → Made k d v runs
+  made_leaf k d v none h x g = record {
+    peak_is = ap (λ y. peak (d + lift k) (flat y)) none ∙ omega (arith, h);
+    sound = λ y own. subst (λ y. Each (Sounds bytes) (flat y)) (sym none) tt;
+    keyed = λ y. x;
+    grouped = g;
+  }
+
+  made_group : (k : Place) (d : ℕ) (v : Value) {qs : List Spot} {vs : Values} {runs : List (List Stop)} → AllPeaked bytes (d + lift k) qs vs runs → AllPlain qs
+      → height v ≡ heights vs → lift k ≡ 0 → (Keyed v → AllKeyed vs) → (AllKeyed vs → Keyed v) → GroupedAt k v → Made k d v runs
+  made_group k d v ps low h z to from g =
+      let r = plain_peak ps low in
+      record {
+        peak_is = r ∙ omega (arith, h, z);
+        sound = λ x own. plain_sound ps low (to x);
+        keyed = λ x. from (plain_keyed ps x);
+        grouped = g;
+      }
+
+  total_is_same : (v : Value) (len : ℕ) (b : Bool) (w : Value) → cond b (Some v) None ≡ Some w → w ≡ v
+  total_is_same v len true w m = cc
+  total_is_same v len false w m = absurd (cc)
+
+  follow : (k : Place) (d : ℕ) {l : Label} {qs : List Spot} {vs : Values} {runs : List (List Stop)} {v : Value}
+      → Follows bytes k l qs → AllPeaked bytes (d + lift k) qs vs runs → made l vs ≡ Some v → Made k d v runs
+  unfolding made
+  follow k d {l = l} {vs = vs} {v = v} (passes {j = j} {pos = pos} p e f) ps m =
+      let o = one j pos f ps in
+      let n : made same (more_values o.value no_values) ≡ Some v = subst (λ x. made same x ≡ Some v) o.values_are (subst (λ x. made x vs ≡ Some v) e m) in
+      let is : v ≡ o.value = cc in
+      made_same k j d v (pass_plain p) o is (pass_grouped v p (subst (GroupedAt j) (sym is) o.grouped))
+  follow k d {l = l} {vs = vs} {runs = runs} {v = v} (pays {tag = tag} {j = j} {pos = pos} p e f) ps m =
+      let o = one j pos f ps in
+      let n : made (tagged tag) (more_values o.value no_values) ≡ Some v = subst (λ x. made (tagged tag) x ≡ Some v) o.values_are (subst (λ x. made x vs ≡ Some v) e m) in
+      let is : v ≡ tagged_value tag o.value = cc in
+      let h : height v ≡ height (tagged_value tag o.value) = ap height is in
+      let z = pay_lift p in
+      let own = pay_own o.value p o.present in
+      record {
+        peak_is = o.peak_is ∙ omega (arith, h, z);
+        sound = λ x y. let k : KeysAscend tag (more_values o.value no_values) × (Keyed o.value × ⊤) = subst Keyed is x in o.sound (subst (λ X. X) (sym own) k.0, k.1.0);
+        keyed = λ x. let k = o.keyed x in subst Keyed (sym is) (subst (λ X. X) own k.0, (k.1, tt));
+        grouped = tt;
+      }
+  follow k d {l = l} {vs = vs} {v = v} (truth_is {b = b} e f) ps m =
+      let none = no_more f ps in
+      let n : made (leaf (boolean b)) no_values ≡ Some v = subst (λ x. made (leaf (boolean b)) x ≡ Some v) none.0 (subst (λ x. made x vs ≡ Some v) e m) in
+      let is : v ≡ boolean b = cc in
+      made_leaf k d v none.1 (ap height is) (subst Keyed (sym is) tt) tt
+  follow k d {l = l} {vs = vs} {v = v} (number_is {n = i} e fits f) ps m =
+      let none = no_more f ps in
+      let n : made (leaf (integer i)) no_values ≡ Some v = subst (λ x. made (leaf (integer i)) x ≡ Some v) none.0 (subst (λ x. made x vs ≡ Some v) e m) in
+      let is : v ≡ integer i = cc in
+      made_leaf k d v none.1 (ap height is) (subst Keyed (sym is) tt) tt
+  follow k d {l = l} {vs = vs} {v = v} (text_is {s = s} e f) ps m =
+      let none = no_more f ps in
+      let n : made (written s) no_values ≡ Some v = subst (λ x. made (written s) x ≡ Some v) none.0 (subst (λ x. made x vs ≡ Some v) e m) in
+      let is : v ≡ string s = cc in
+      made_leaf k d v none.1 (ap height is) (subst Keyed (sym is) tt) tt
+  follow k d {l = l} {vs = vs} {v = v} (behind_is {s = s} e f) ps m =
+      let none = no_more f ps in
+      let n : made (written s) no_values ≡ Some v = subst (λ x. made (written s) x ≡ Some v) none.0 (subst (λ x. made x vs ≡ Some v) e m) in
+      let is : v ≡ string s = cc in
+      made_leaf k d v none.1 (ap height is) (subst Keyed (sym is) tt) tt
+  follow k d {l = l} {vs = vs} {v = v} (none_is e f) ps m =
+      let none = no_more f ps in
+      let n : made (tagged 0) no_values ≡ Some v = subst (λ x. made (tagged 0) x ≡ Some v) none.0 (subst (λ x. made x vs ≡ Some v) e m) in
+      let is : v ≡ chosen 0 no_values = cc in
+      made_leaf k d v none.1 (ap height is) (subst Keyed (sym is) (tt, tt)) tt
+  follow k d {l = l} {vs = vs} {v = v} (some_is {pos = pos} e f) ps m =
+      let o = one box_here pos f ps in
+      let n : made (tagged 1) (more_values o.value no_values) ≡ Some v = subst (λ x. made (tagged 1) x ≡ Some v) o.values_are (subst (λ x. made x vs ≡ Some v) e m) in
+      let is : v ≡ tagged_value 1 o.value = cc in
+      let h : height v ≡ height (tagged_value 1 o.value) = ap height is in
+      record {
+        peak_is = o.peak_is ∙ omega (arith, h);
+        sound = λ x y. let k : ⊤ × (Keyed o.value × ⊤) = subst Keyed is x in o.sound (tt, k.1.0);
+        keyed = λ x. subst Keyed (sym is) (tt, ((o.keyed x).1, tt));
+        grouped = tt;
+      }
+  follow k d {l = l} {vs = vs} {v = v} (nodes_follow {len = len} pos e f) ps m =
+      let n : made whole vs ≡ Some v = subst (λ x. made x vs ≡ Some v) e m in
+      let is : v ≡ group vs = cc in
+      made_group k d v ps (subst AllPlain (sym f) (nodes_plain pos len)) (ap height is) refl (subst Keyed is) (λ x. subst Keyed (sym is) x) tt
+  follow k d {l = l} {vs = vs} {v = v} (empty_is e f) ps m =
+      let none = no_more f ps in
+      let n : made whole no_values ≡ Some v = subst (λ x. made whole x ≡ Some v) none.0 (subst (λ x. made x vs ≡ Some v) e m) in
+      let is : v ≡ group no_values = cc in
+      made_leaf k d v none.1 (ap height is) (subst Keyed (sym is) tt) tt
+  follow k d {l = l} {vs = vs} {v = v} (total_is {len = len} {root = root} small e f) ps m =
+      let o = one (tree_node 1) root f ps in
+      let n : made (total len) (more_values o.value no_values) ≡ Some v = subst (λ x. made (total len) x ≡ Some v) o.values_are (subst (λ x. made x vs ≡ Some v) e m) in
+      made_same k (tree_node 1) d v refl o (total_is_same o.value len (count_values (members o.value) == len) v n) tt
+  follow k d {l = l} {vs = vs} {v = v} (leaf_follows len key value low e f) ps m =
+      let n : made whole vs ≡ Some v = subst (λ x. made x vs ≡ Some v) e m in
+      let is : v ≡ group vs = cc in
+      made_group k d v ps (subst AllPlain (sym f) (entries_plain len key value)) (ap height is) refl (subst Keyed is) (λ x. subst Keyed (sym is) x) (is ∙ sym (ap (λ x. group (members x)) is))
+  follow k d {l = l} {vs = vs} {v = v} (inner_follows most deep link key value low next e f) ps m =
+      let c = suc most in
+      let n : made (woven c) vs ≡ Some v = subst (λ x. made x vs ≡ Some v) e m in
+      let is : v ≡ group (weave (first_values c vs) (other_values c vs)) = cc in
+      let groups = all_groups c deep link (entries_from most key value) f ps in
+      let counted = both_counted c deep link most key value f ps in
+      let one_more = counted.children ∙ ap suc (sym counted.entries) in
+      made_group k d v ps (subst AllPlain (sym f) (plain_append (children_from c deep link) (entries_from most key value) (children_plain c deep link) (entries_plain most key value)))
+      (ap height is ∙ heights_weave (first_values c vs) (other_values c vs) groups one_more ∙ sym (heights_split c vs)) refl
+      (λ x. let k = keyed_woven (first_values c vs) (other_values c vs) groups one_more (subst Keyed is x) in keyed_joined c vs k.0 k.1)
+      (λ x. let k = keyed_split c vs x in subst Keyed (sym is) (keyed_weave (first_values c vs) (other_values c vs) groups one_more k.0 k.1))
+      (is ∙ sym (ap (λ x. group (members x)) is))
+  follow k d {l = l} {vs = vs} {v = v} (no_child_is e f) ps m =
+      let none = no_more f ps in
+      let n : made whole no_values ≡ Some v = subst (λ x. made whole x ≡ Some v) none.0 (subst (λ x. made x vs ≡ Some v) e m) in
+      let is : v ≡ group no_values = cc in
+      made_leaf k d v none.1 (ap height is) (subst Keyed (sym is) tt) (is ∙ sym (ap (λ x. group (members x)) is))
+  follow k d {l = l} {vs = vs} {v = v} (entry_follows e f) ps m =
+      let n : made whole vs ≡ Some v = subst (λ x. made x vs ≡ Some v) e m in
+      let is : v ≡ group vs = cc in
+      made_group k d v ps (subst AllPlain (sym f) (refl, (refl, tt))) (ap height is) refl (subst Keyed is) (λ x. subst Keyed (sym is) x) tt
+
+  -- ---- walks
+
   no_first : {d : ℕ} {q : Part} {v : Value} {walk : List Stop} (pos : ℕ) → Walks node_names bytes d q v walk → q ≡ at pos (choice no_shapes) → ⊥
   no_first pos (walks {p = q} {v = v} {vs = vs} all m e) is =
       let n : value_of illegal vs ≡ Some v = subst (λ x. value_of x vs ≡ Some v) (ap (content_of node_names bytes) is ∙ no_choice bytes pos) m in
@@ -327,72 +508,72 @@ module _ (bytes : List ℕ) where
   peaked_by : (k : Place) (pos d : ℕ) {p : Part} {v : Value} {vs : Values} {walk : List Stop} {inner : List (List Stop)} {qs : List Spot}
       → p ≡ part_of k pos
       → walk ≡ record { depth = d; part = p; value = v } ∷ joined (content_of node_names bytes p) inner
-      → joined (content_of node_names bytes p) inner ≡ flat inner
-      → AllPeaked (depth_in d p) qs vs inner
-      → (AllPeaked (d + lift k) qs vs inner → peak (d + lift k) (flat inner) ≡ d + (lift k + height v))
-      → Peaked k d v walk
-  peaked_by k pos d {p = p} {v = v} {vs = vs} {inner = inner} {qs = qs} is e j ps on =
+      → (k ≡ absent_here → ⊥)
+      → AllPeaked bytes (depth_in d p) qs vs inner
+      → (AllPeaked bytes (d + lift k) qs vs inner → Made k d v inner)
+      → Peaked bytes k d v walk
+  peaked_by k pos d {p = p} {v = v} {vs = vs} {inner = inner} {qs = qs} is e present ps on =
+      let c = content_of node_names bytes p in
       let container : is_container p ≡ contains k = ap is_container is ∙ container_is k pos in
       let depth_is : depth_in d p ≡ d + lift k = ap (λ b. cond b (d + 1) d) container ∙ deeper (contains k) d (lift k) (lift_is k) in
-      let below = subst (λ n. AllPeaked n qs vs inner) depth_is ps in
+      let m : Made k d v inner = on (subst (λ n. AllPeaked bytes n qs vs inner) depth_is ps) in
+      let own : IsMapSound bytes p v ≡ OwnKeyed k v = ap (λ x. IsMapSound bytes x v) is ∙ own_sound k pos bytes v in
       record {
-        peak_is = ap (peak d) e ∙ ap (λ x. max (cond (is_container p) (d + 1) d) (peak d x)) j ∙ ap (λ b. max (cond b (d + 1) d) (peak d (flat inner))) container
-            ∙ peak_stop (contains k) d (lift k) (flat inner) (lift_is k) ∙ on below;
-        stops = subst (Each NoMap) (sym e) (λ b. subst (λ x. IsMapSound b x v) (sym is) (no_map k pos b v), subst (Each NoMap) (sym j) (all_stops below));
+        peak_is = ap (peak d) e ∙ ap (λ x. max (cond (is_container p) (d + 1) d) x) (peak_joined d c inner) ∙ ap (λ b. max (cond b (d + 1) d) (peak d (flat inner))) container
+            ∙ peak_stop (contains k) d (lift k) (flat inner) (lift_is k) ∙ m.peak_is;
+        sound = λ x. subst (Each (Sounds bytes)) (sym e) (subst (λ X. X) (sym own) x.0, each_joined (Sounds bytes) c inner (m.sound x.1 x.0));
+        keyed = λ x. let h = subst (Each (IsQuiet bytes)) e x in (own_quiet k pos bytes v (ap (λ y. map_faults bytes y v) (sym is) ∙ h.0), m.keyed (each_flat (IsQuiet bytes) c inner h.1));
+        grouped = m.grouped;
+        present = present;
       }
 
-  counted_peak : (t len d : ℕ) {vs : Values} {v : Value} {runs : List (List Stop)}
-      → AllPeaked (d + 0) (record { place = text_behind len; pos = t } ∷ []) vs runs → value_of (counting false t str len) vs ≡ Some v → peak (d + 0) (flat runs) ≡ d + (0 + height v)
-  counted_peak t len d {vs = vs} {v = v} ps m =
+  counted_made : (t len d : ℕ) {vs : Values} {v : Value} {runs : List (List Stop)}
+      → AllPeaked bytes (d + 0) (record { place = text_behind len; pos = t } ∷ []) vs runs → value_of (counting false t str len) vs ≡ Some v → Made shared_here d v runs
+  counted_made t len d {vs = vs} {v = v} ps m =
       let o = one (text_behind len) t refl ps in
       let n : value_of (counting false t str len) (more_values o.value no_values) ≡ Some v = subst (λ x. value_of (counting false t str len) x ≡ Some v) o.values_are m in
       let is : v ≡ counted t o.value = cc in
       let h : height v ≡ height o.value = ap height is in
-      o.peak_is ∙ omega (arith, h)
+      record {
+        peak_is = o.peak_is ∙ omega (arith, h);
+        sound = λ x own. o.sound (tt, subst Keyed is x);
+        keyed = λ x. subst Keyed (sym is) (o.keyed x).1;
+        grouped = tt;
+      }
 
   peaked_case : (k : Place) (pos d : ℕ) {p : Part} {v : Value} {vs : Values} {walk : List Stop} {inner : List (List Stop)}
       → p ≡ part_of k pos
       → walk ≡ record { depth = d; part = p; value = v } ∷ joined (content_of node_names bytes p) inner
       → value_of (content_of node_names bytes p) vs ≡ Some v
       → (k ≡ absent_here → ⊥)
-      → ((qs : List Spot) → parts_of (content_of node_names bytes p) ≡ parts_at qs → AllPeaked (depth_in d p) qs vs inner)
+      → ((qs : List Spot) → parts_of (content_of node_names bytes p) ≡ parts_at qs → AllPeaked bytes (depth_in d p) qs vs inner)
       → Leads bytes k (content_of node_names bytes (part_of k pos))
-      → Peaked k d v walk
+      → Peaked bytes k d v walk
   peaked_case k pos d {v = v} {vs = vs} is e m present on (leads_nowhere f) =
       let n : value_of illegal vs ≡ Some v = subst (λ x. value_of x vs ≡ Some v) (ap (content_of node_names bytes) is ∙ f) m in
       absurd (cc)
   peaked_case absent_here pos d is e m present on leads_absent = absurd (present refl)
   peaked_case k pos d {v = v} {vs = vs} {inner = inner} is e m present on (leads_plain f fs) =
       let c = ap (content_of node_names bytes) is ∙ f in
-      peaked_by k pos d is e (ap (λ x. joined x inner) c) (on _ (ap parts_of c)) (λ below. follow k d fs below (subst (λ x. value_of x vs ≡ Some v) c m))
-  peaked_case k pos d {p = p} {v = v} {vs = vs} {inner = inner} is e m present on (leads_claimed {start = start} {size = size} {align = align} f fs b) =
+      peaked_by k pos d is e present (on _ (ap parts_of c)) (λ below. follow k d fs below (subst (λ x. value_of x vs ≡ Some v) c m))
+  peaked_case k pos d {p = p} {v = v} {vs = vs} {inner = inner} is e m present on (leads_claimed f fs b) =
       let c = ap (content_of node_names bytes) is ∙ f in
-      peaked_by k pos d is e (joined_plain (content_of node_names bytes p) start size align inner fs c) (on _ (ap parts_of c)) (λ below. follow k d fs below (subst (λ x. value_of x vs ≡ Some v) c m))
+      peaked_by k pos d is e present (on _ (ap parts_of c)) (λ below. follow k d fs below (subst (λ x. value_of x vs ≡ Some v) c m))
   peaked_case k pos d {v = v} {vs = vs} {inner = inner} is e m present on (leads_counted {t = t} {len = len} f) =
       let c = ap (content_of node_names bytes) is ∙ f in
-      peaked_by k pos d is e (ap (λ x. joined x inner) c) (on (record { place = text_behind len; pos = t } ∷ []) (ap parts_of c)) (λ below. counted_peak t len d below (subst (λ x. value_of x vs ≡ Some v) c m))
+      peaked_by k pos d is e present (on (record { place = text_behind len; pos = t } ∷ []) (ap parts_of c)) (λ below. counted_made t len d below (subst (λ x. value_of x vs ≡ Some v) c m))
 
   mutual
-    -- the walk of a place goes as deep as its value is high, and visits no map
-    pub peaked : {d : ℕ} {p : Part} {v : Value} {walk : List Stop} → Walks node_names bytes d p v walk → (k : Place) (pos : ℕ) → p ≡ part_of k pos → Peaked k d v walk
+    -- the walk of a place goes as deep as its value is high, and its maps are sound where the value's are
+    pub peaked : {d : ℕ} {p : Part} {v : Value} {walk : List Stop} → Walks node_names bytes d p v walk → (k : Place) (pos : ℕ) → p ≡ part_of k pos → Peaked bytes k d v walk
     peaked (walks {depth = d} all m e) k pos is =
         peaked_case k pos d is e m
         (λ f. no_walk (pos + 0) all (ap (λ x. parts_of (content_of node_names bytes x)) (is ∙ ap (λ x. part_of x pos) f) ∙ absent_parts pos))
         (λ qs f. all_peaked all qs f)
         (led bytes k pos)
 
-    all_peaked : {d : ℕ} {ps : List Part} {vs : Values} {runs : List (List Stop)} → WalkAll node_names bytes d ps vs runs → (qs : List Spot) → ps ≡ parts_at qs → AllPeaked d qs vs runs
+    all_peaked : {d : ℕ} {ps : List Part} {vs : Values} {runs : List (List Stop)} → WalkAll node_names bytes d ps vs runs → (qs : List Spot) → ps ≡ parts_at qs → AllPeaked bytes d qs vs runs
     all_peaked (walk_none e f) [] is = none_peaked e f
     all_peaked (walk_none e f) (q ∷ qs) is = absurd (cc)
     all_peaked (walk_more w ws e f) [] is = absurd (cc)
     all_peaked (walk_more w ws e f) (q ∷ qs) is = more_peaked e f (peaked w q.place q.pos (cc)) (all_peaked ws qs (cc))
-
--- ---- a walk that does not go too deep
-
-pub all_below : (d : ℕ) (walk : List Stop) → peak d walk ≤ 64 → Each (λ (s : Stop). is_container s.part ≡ true → s.depth < 64) walk
-all_below d [] h = tt
-all_below d (s ∷ rest) h = (one_below (is_container s.part) refl, all_below d rest (omega arith))
-  where
-    one_below : (b : Bool) → is_container s.part ≡ b → is_container s.part ≡ true → s.depth < 64
-    one_below true e f = let k : cond (is_container s.part) (s.depth + 1) d ≡ s.depth + 1 = ap (λ b. cond b (s.depth + 1) d) e in omega arith
-    one_below false e f = absurd (cc)

@@ -1,16 +1,16 @@
 -- The parts that a node leads to, and what each says.
-use Rattle.std.proofs.Common.{◌≡◌, ℕ, ℤ, zero, suc, ◌+◌, ◌*◌, ◌^◌, ◌<◌, Bool, true, false, nat_lt, ◌==◌, List, [], ◌∷◌, slice_index, Option, Some, None, refl, ap, arith, w64, FitsSigned, inl, inr}
-use Rattle.std.proofs.lemmas.Bool.{lt-ltb, le-ltb}
+use Rattle.std.proofs.Common.{◌≡◌, ℕ, ℤ, zero, suc, ◌+◌, ◌*◌, ◌^◌, ◌<◌, ◌≤◌, Bool, true, false, nat_lt, nat_le, ◌&&◌, ◌==◌, List, [], ◌∷◌, ◌++◌, drop, slice_index, Option, Some, None, refl, ap, ap₂, ◌∙◌, arith, w64, FitsSigned, inl, inr}
+use Rattle.std.proofs.lemmas.Bool.{lt-ltb, le-ltb, leb-true}
 use Rattle.std.proofs.lemmas.Bool.Decides.{leb_tells}
 use Rattle.std.specs.Int.{from_le_bytes, cast_signed}
 use Rattle.archive_forms_values.specs.ShapeLayout.Bytes.{window, align_up, word_at, target_from}
 use Rattle.archive_forms_values.specs.ShapeLayout.Shape.{align_of}
-use Rattle.archive_forms_values.specs.ShapeLayout.Shape.Shape.{number, truth, text, option, choice, box, vector, shared}
+use Rattle.archive_forms_values.specs.ShapeLayout.Shape.Shape.{number, truth, text, option, choice, box, vector, shared, tree}
 use Rattle.archive_forms_values.specs.ShapeLayout.Shape.Pointee.{sized, slice, str}
 use Rattle.archive_forms_values.specs.ShapeLayout.Value.Value.{integer, boolean}
-use Rattle.archive_forms_values.specs.ShapeLayout.Content.{Part, Label, Content, content_of, choose, option_content, shape_tagged, shape_content, pointee_content, text_content, text_length, shared_content, following, begins_inline, before_ff, elements, number_value}
-use Rattle.archive_forms_values.specs.ShapeLayout.Content.Part.{at, behind}
-use Rattle.archive_forms_values.specs.ShapeLayout.Content.Label.{leaf, written, same, whole, tagged}
+use Rattle.archive_forms_values.specs.ShapeLayout.Content.{Part, Label, Content, content_of, choose, option_content, shape_tagged, shape_content, pointee_content, text_content, text_length, shared_content, following, begins_inline, before_ff, elements, number_value, children, entries, keys_offset, values_offset, links_offset, node_content, child_content, node_span, words_of}
+use Rattle.archive_forms_values.specs.ShapeLayout.Content.Part.{at, behind, node, child, entry}
+use Rattle.archive_forms_values.specs.ShapeLayout.Content.Label.{leaf, written, same, whole, tagged, woven, total}
 use Rattle.archive_forms_values.specs.ShapeLayout.Content.Content.{illegal, plain, claimed, counting}
 use Rattle.archive_forms_values.specs.ShapeCanonical.Canonical.{AreBytes}
 use Rattle.archive_forms_values.proofs.ArchiveShape.Words.{word_bound}
@@ -20,7 +20,10 @@ use Rattle.cabinet_documents.specs.Node.{node_shape, node_names, payloads, absen
 -- ---- places
 
 pub data Place : Type 0 where
-  node_here payload_here truth_here number_here text_here shared_here option_here box_here list_here absent_here : Place
+  node_here payload_here truth_here number_here text_here shared_here option_here box_here list_here ordered_here absent_here : Place
+  -- of a search tree: a node and a pointer to a child, each at a level, and the value of an entry whose key is at a
+  -- position
+  tree_node tree_child entry_here : ℕ → Place
   -- what pointers lead to: a node, `n` nodes, or a text of `n` bytes
   node_behind : Place
   nodes_behind text_behind : ℕ → Place
@@ -39,6 +42,10 @@ part_of shared_here pos = at pos (shared false str)
 part_of option_here pos = at pos (option (box (sized node_shape)))
 part_of box_here pos = at pos (box (sized node_shape))
 part_of list_here pos = at pos (vector node_shape)
+part_of ordered_here pos = at pos (tree 5 text node_shape)
+part_of (tree_node level) pos = node level 5 text node_shape pos
+part_of (tree_child level) pos = child level 5 text node_shape pos
+part_of (entry_here key) pos = entry text key node_shape pos
 part_of absent_here pos = at pos absent
 part_of node_behind pos = behind pos (sized node_shape) 1
 part_of (nodes_behind len) pos = behind pos (slice node_shape) len
@@ -57,6 +64,29 @@ unfolding elements
 nodes_are pos zero = refl
 nodes_are pos (suc n) = ap (λ ps. at pos node_shape ∷ ps) (nodes_are (pos + 24) n)
 
+-- the entries of a node, and the pointers to its children
+abbrev pub entries_from : ℕ → ℕ → ℕ → List Spot
+entries_from zero key value = []
+entries_from (suc n) key value = record { place = entry_here key; pos = value } ∷ entries_from n (key + 8) (value + 24)
+
+abbrev pub children_from : ℕ → ℕ → ℕ → List Spot
+children_from zero level pos = []
+children_from (suc n) level pos = record { place = tree_child level; pos = pos } ∷ children_from n level (pos + 4)
+
+entries_are : (n key value : ℕ) → entries n text key node_shape value ≡ parts_at (entries_from n key value)
+unfolding entries
+entries_are zero key value = refl
+entries_are (suc n) key value = ap (λ ps. entry text key node_shape value ∷ ps) (entries_are n (key + 8) (value + 24))
+
+children_are : (n level pos : ℕ) → children n level 5 text node_shape pos ≡ parts_at (children_from n level pos)
+unfolding children
+children_are zero level pos = refl
+children_are (suc n) level pos = ap (λ ps. child level 5 text node_shape pos ∷ ps) (children_are n level (pos + 4))
+
+parts_append : (xs ys : List Spot) → parts_at xs ++ parts_at ys ≡ parts_at (xs ++ ys)
+parts_append [] ys = refl
+parts_append (x ∷ xs) ys = ap (λ ps. part_of x.place x.pos ∷ ps) (parts_append xs ys)
+
 -- ---- how they follow one another
 
 -- a place has the value of what it leads to
@@ -66,11 +96,13 @@ pub data Passes (bytes : List ℕ) : Place → Place → Type 0 where
   behind_passes : Passes bytes node_behind node_here
   list_passes : {len : ℕ} → (AreBytes bytes → len < 2 ^ 64) → Passes bytes list_here (nodes_behind len)
   text_passes : {len : ℕ} → Passes bytes text_here (text_behind len)
+  child_passes : {level : ℕ} → Passes bytes (tree_child level) (tree_node level)
 
--- a tag's node is a container where its payload is an option or a list
+-- a tag's node is a container where its payload is an option, a list or an ordered map
 abbrev pub lifts : ℕ → ℕ
 lifts (suc (suc (suc (suc zero)))) = 1
 lifts (suc (suc (suc (suc (suc zero))))) = 1
+lifts (suc (suc (suc (suc (suc (suc zero)))))) = 1
 lifts n = 0
 
 -- a tag and its payload
@@ -81,6 +113,7 @@ pub data Pays : ℕ → Place → Type 0 where
   pays_shared : Pays 3 shared_here
   pays_option : Pays 4 option_here
   pays_list : Pays 5 list_here
+  pays_ordered : Pays 6 ordered_here
   pays_absent : {tag : ℕ} → lifts tag ≡ 0 → Pays tag absent_here
 
 -- how the value at a place is made, of the values at others
@@ -94,11 +127,20 @@ pub data Follows (bytes : List ℕ) : Place → Label → List Spot → Type 0 w
   none_is : {l : Label} {qs : List Spot} → l ≡ tagged 0 → qs ≡ [] → Follows bytes option_here l qs
   some_is : {l : Label} {qs : List Spot} {pos : ℕ} → l ≡ tagged 1 → qs ≡ record { place = box_here; pos = pos } ∷ [] → Follows bytes option_here l qs
   nodes_follow : {l : Label} {qs : List Spot} {len : ℕ} (pos : ℕ) → l ≡ whole → qs ≡ nodes_from pos len → Follows bytes (nodes_behind len) l qs
+  empty_is : {l : Label} {qs : List Spot} → l ≡ whole → qs ≡ [] → Follows bytes ordered_here l qs
+  total_is : {l : Label} {qs : List Spot} {len root : ℕ} → (AreBytes bytes → len < 2 ^ 64) → l ≡ total len → qs ≡ record { place = tree_node 1; pos = root } ∷ [] → Follows bytes ordered_here l qs
+  -- on one of 32 levels
+  leaf_follows : {l : Label} {qs : List Spot} {level : ℕ} (n key value : ℕ) → level ≤ 32 → l ≡ whole → qs ≡ entries_from n key value → Follows bytes (tree_node level) l qs
+  -- with one child more than entries
+  inner_follows : {l : Label} {qs : List Spot} {level : ℕ} (most deeper link key value : ℕ) → level ≤ 32 → deeper ≡ level + 1 → l ≡ woven (suc most) → qs ≡ children_from (suc most) deeper link ++ entries_from most key value → Follows bytes (tree_node level) l qs
+  no_child_is : {l : Label} {qs : List Spot} {level : ℕ} → l ≡ whole → qs ≡ [] → Follows bytes (tree_child level) l qs
+  entry_follows : {l : Label} {qs : List Spot} {key value : ℕ} → l ≡ whole → qs ≡ record { place = text_here; pos = key } ∷ (record { place = node_here; pos = value } ∷ []) → Follows bytes (entry_here key) l qs
 
 abbrev pub is_behind : Place → Bool
 is_behind node_behind = true
 is_behind (nodes_behind len) = true
 is_behind (text_behind len) = true
+is_behind (tree_node level) = true
 is_behind k = false
 
 pub data Leads (bytes : List ℕ) : Place → Content → Type 0 where
@@ -126,7 +168,7 @@ module _ (bytes : List ℕ) where
   payload_led pos (suc (suc (suc zero))) = leads_plain refl (pays pays_shared refl refl)
   payload_led pos (suc (suc (suc (suc zero)))) = leads_plain refl (pays pays_option refl refl)
   payload_led pos (suc (suc (suc (suc (suc zero))))) = leads_plain refl (pays pays_list refl refl)
-  payload_led pos (suc (suc (suc (suc (suc (suc zero)))))) = leads_plain refl (pays (pays_absent {tag = 6} refl) refl refl)
+  payload_led pos (suc (suc (suc (suc (suc (suc zero)))))) = leads_plain refl (pays pays_ordered refl refl)
   payload_led pos (suc (suc (suc (suc (suc (suc (suc zero))))))) = leads_plain refl (pays (pays_absent {tag = 7} refl) refl refl)
   payload_led pos (suc (suc (suc (suc (suc (suc (suc (suc zero)))))))) = leads_plain refl (pays (pays_absent {tag = 8} refl) refl refl)
   payload_led pos (suc (suc (suc (suc (suc (suc (suc (suc (suc n))))))))) = leads_nowhere refl
@@ -166,6 +208,49 @@ module _ (bytes : List ℕ) where
   list_led None len small = leads_nowhere refl
   list_led (Some t) len small = leads_plain {qs = record { place = nodes_behind len; pos = t } ∷ []} refl (passes (list_passes small) refl refl)
 
+  ordered_led : (o : Option ℕ) (len : ℕ) (none : Bool) → (AreBytes bytes → len < 2 ^ 64)
+      → Leads bytes ordered_here (choose none (plain whole []) (following o (λ t. plain (total len) (node 1 5 text node_shape t ∷ []))))
+  unfolding choose following
+  ordered_led o len true small = leads_plain {qs = []} refl (empty_is refl refl)
+  ordered_led None len false small = leads_nowhere refl
+  ordered_led (Some t) len false small = leads_plain {qs = record { place = tree_node 1; pos = t } ∷ []} refl (total_is small refl refl)
+
+  leaf_led : (level pos len : ℕ) (low few : Bool) → nat_le level 32 ≡ low
+      → Leads bytes (tree_node level) (choose (low && few) (claimed (node_span 1 5 text node_shape pos) whole (entries len text (pos + keys_offset text) node_shape (pos + values_offset 5 text node_shape))) illegal)
+  unfolding choose
+  leaf_led level pos len true true e =
+      let key = pos + keys_offset text in
+      let value = pos + values_offset 5 text node_shape in
+      leads_claimed {qs = entries_from len key value} (ap (claimed (node_span 1 5 text node_shape pos) whole) (entries_are len key value)) (leaf_follows len key value (leb-true level 32 e) refl refl) refl
+  leaf_led level pos len true false e = leads_nowhere refl
+  leaf_led level pos len false few e = leads_nowhere refl
+
+  inner_led : (level pos : ℕ) (low : Bool) → nat_le level 32 ≡ low
+      → Leads bytes (tree_node level)
+      (choose low (claimed (node_span 6 5 text node_shape pos) (woven 6) (children 6 (level + 1) 5 text node_shape (pos + links_offset 5 text node_shape) ++ entries 5 text (pos + keys_offset text) node_shape (pos + values_offset 5 text node_shape))) illegal)
+  unfolding choose
+  inner_led level pos true e =
+      let link = pos + links_offset 5 text node_shape in
+      let key = pos + keys_offset text in
+      let value = pos + values_offset 5 text node_shape in
+      let both = ap₂ (λ xs ys. xs ++ ys) (children_are 6 (level + 1) link) (entries_are 5 key value) ∙ parts_append (children_from 6 (level + 1) link) (entries_from 5 key value) in
+      leads_claimed {qs = children_from 6 (level + 1) link ++ entries_from 5 key value} (ap (claimed (node_span 6 5 text node_shape pos) (woven 6)) both) (inner_follows 5 (level + 1) link key value (leb-true level 32 e) refl refl refl) refl
+  inner_led level pos false e = leads_nowhere refl
+
+  node_led : (level pos kind : ℕ) (own : List ℕ) → Leads bytes (tree_node level) (node_content level 5 text node_shape pos kind own)
+  unfolding node_content
+  node_led level pos zero own = leaf_led level pos (word_at own (links_offset 5 text node_shape)) (nat_le level 32) (nat_le (word_at own (links_offset 5 text node_shape)) 5) refl
+  node_led level pos (suc zero) own = inner_led level pos (nat_le level 32) refl
+  node_led level pos (suc (suc kind)) own = leads_nowhere refl
+
+  child_led : (level : ℕ) (o : Option ℕ) (none low : Bool)
+      → Leads bytes (tree_child level) (choose none (plain whole []) (choose low (following o (λ t. plain same (node level 5 text node_shape t ∷ []))) illegal))
+  unfolding choose following
+  child_led level o true low = leads_plain {qs = []} refl (no_child_is refl refl)
+  child_led level None false true = leads_nowhere refl
+  child_led level (Some t) false true = leads_plain {qs = record { place = tree_node level; pos = t } ∷ []} refl (passes child_passes refl refl)
+  child_led level o false false = leads_nowhere refl
+
   length_small : (pos : ℕ) → AreBytes bytes → word_at (window bytes pos 8) 4 < 2 ^ 64
   length_small pos small =
       let e = word_within bytes pos 8 4 (omega arith) in
@@ -174,7 +259,7 @@ module _ (bytes : List ℕ) where
 
   -- what a place says
   pub led : (k : Place) (pos : ℕ) → Leads bytes k (content_of node_names bytes (part_of k pos))
-  unfolding shape_content pointee_content text_content shared_content number_value choose align_up
+  unfolding shape_content pointee_content text_content shared_content number_value child_content choose align_up
   led node_here pos = leads_plain {qs = record { place = payload_here; pos = pos } ∷ []} refl (passes node_passes refl refl)
   led payload_here pos = payload_led pos (slice_index (window bytes pos 24) 0)
   led truth_here pos = truth_led (slice_index (window bytes pos 1) 0) (nat_lt (slice_index (window bytes pos 1) 0) 2)
@@ -185,6 +270,10 @@ module _ (bytes : List ℕ) where
   led option_here pos = option_led (pos + 4) (slice_index (window bytes pos 8) 0 == 0) (slice_index (window bytes pos 8) 0 == 1)
   led box_here pos = box_led (target_from pos (word_at (window bytes pos 4) 0))
   led list_here pos = list_led (target_from pos (word_at (window bytes pos 8) 0)) (word_at (window bytes pos 8) 4) (length_small pos)
+  led ordered_here pos = ordered_led (target_from pos (word_at (window bytes pos 8) 0)) (word_at (window bytes pos 8) 4) (word_at (window bytes pos 8) 4 == 0) (length_small pos)
+  led (tree_node level) pos = node_led level pos (slice_index (drop pos bytes) 0) (window bytes pos (node_span (words_of (slice_index (drop pos bytes) 0) 5) 5 text node_shape pos).size)
+  led (tree_child level) pos = child_led level (target_from pos (word_at (window bytes pos 4) 0)) (word_at (window bytes pos 4) 0 == 1) (nat_le level 32)
+  led (entry_here key) pos = leads_plain {qs = record { place = text_here; pos = key } ∷ (record { place = node_here; pos = pos } ∷ [])} refl (entry_follows refl refl)
   led absent_here pos = leads_absent
   led node_behind pos = leads_claimed {qs = record { place = node_here; pos = pos } ∷ []} refl (passes behind_passes refl refl) refl
   led (nodes_behind len) pos = leads_claimed {qs = nodes_from pos len} (ap (claimed (record { start = pos; size = len * 24; align = 8 }) whole) (nodes_are pos len)) (nodes_follow pos refl refl) refl

@@ -1,27 +1,32 @@
 -- The plans that values of documents have: what their own bytes lead to.
-use Rattle.std.proofs.Common.{◌≡◌, ℕ, suc, ◌+◌, ◌*◌, ◌<◌, ◌≤◌, true, false, List, [], ◌∷◌, length, Some, refl, sym, ap, ap₂, subst, ◌∙◌, arith, inl, inr, ⊎_elim}
+use Rattle.std.proofs.Common.{◌≡◌, ℕ, suc, ◌+◌, ◌*◌, ◌<◌, ◌≤◌, true, false, List, [], ◌∷◌, length, Some, refl, sym, ap, ap₂, subst, ◌∙◌, arith, ⊎_elim}
 use Rattle.std.specs.Int.{w64}
 use Rattle.std.proofs.lemmas.Bool.{cases_lt}
+use Rattle.std.proofs.lemmas.List.{nil_from_length}
 use Rattle.archive_forms_values.specs.ShapeLayout.Bytes.{align_up}
 use Rattle.archive_forms_values.specs.ShapeLayout.Shape.{Shape, size_of, align_of}
-use Rattle.archive_forms_values.specs.ShapeLayout.Shape.Shape.{number, truth, text, option, choice, box, vector, shared as shared_shape}
-use Rattle.archive_forms_values.specs.ShapeLayout.Shape.Pointee.{sized, str}
+use Rattle.archive_forms_values.specs.ShapeLayout.Shape.Shape.{number, truth, text, option, choice, vector, tree, shared as shared_shape}
+use Rattle.archive_forms_values.specs.ShapeLayout.Shape.Pointee.{str}
 use Rattle.archive_forms_values.specs.ShapeLayout.Value.{Value, Values, count_values}
 use Rattle.archive_forms_values.specs.ShapeLayout.Value.Value.{integer, boolean, string, group, chosen, counted}
 use Rattle.archive_forms_values.specs.ShapeLayout.Value.Values.{no_values, more_values}
 use Rattle.archive_forms_values.specs.ShapeLayout.Content.{shape_tagged, elements}
 use Rattle.archive_forms_values.specs.ShapeLayout.Content.Part.{at}
+use Rattle.archive_forms_values.specs.ShapeCanonical.Packed.{levels_for}
 use Rattle.archive_forms_values.specs.ShapeCanonical.Settled.{Fit}
 use Rattle.archive_forms_values.specs.ShapeCanonical.Sharing.{erased, all_erased}
-use Rattle.archive_forms_values.specs.ShapeCanonical.Plan.{Plan, flat, parts, leads, leads_to_text, counts, Plans, no_plans, more_plans, whole_target, truth_is_flat, number_is_flat, HasPlan, plan_flat, plan_inline, plan_text, plan_none, plan_some, plan_choice, plan_box, plan_vector, plan_shared, plan_named, plan_sized, plan_slice, plan_str, HavePlans, plans_none, plans_at}
+use Rattle.archive_forms_values.specs.ShapeCanonical.Plan.{Plan, flat, parts, leads, leads_to_text, counts, Target, Plans, no_plans, more_plans, whole_target, truth_is_flat, number_is_flat, HasPlan, plan_flat, plan_inline, plan_text, plan_none, plan_some, plan_choice, plan_box, plan_vector, plan_shared, plan_no_tree, plan_tree, plan_named, plan_sized, plan_slice, plan_str, HavePlans, plans_none, plans_at}
+use Rattle.archive_btree_spelling.proofs.Parting.{EachIs}
+use Rattle.archive_btree_spelling.proofs.Planned.{listed, count_same, TreePlan, tree_planned, IsPlanned, tree_has_plan}
+use Rattle.cabinet_text_grammar.specs.Keys.{ordered, hashed, kept}
 use Rattle.cabinet_text_grammar.specs.Tree as document
-use Rattle.cabinet_text_grammar.specs.Tree.{Tree, Trees, leaf, shared, nothing, just, list, map, no_trees, more_trees}
+use Rattle.cabinet_text_grammar.specs.Tree.{Tree, Trees, Pairs, leaf, shared, nothing, just, list, map, no_trees, more_trees, no_pairs, more_pairs}
 use Rattle.cabinet_documents.specs.Node.{node_shape, node_names, payloads}
-use Rattle.cabinet_documents.specs.Denotes.{tagged_value}
-use Rattle.cabinet_documents.specs.HasLayout.{HasLayout, HaveLayout}
-use Rattle.cabinet_documents.specs.Spelling.{boxed_shape}
-use Rattle.cabinet_documents.proofs.Values.{value_of, values_of}
-use Rattle.cabinet_documents.proofs.SpellingDenoted.{tagged, simply_tagged, shared_text, grouped}
+use Rattle.cabinet_documents.specs.Denotes.{tagged_value, pair_value}
+use Rattle.cabinet_documents.specs.HasLayout.{HasLayout, HaveLayout, HavePairsLayout}
+use Rattle.cabinet_documents.specs.Spelling.{boxed_shape, pairs_in}
+use Rattle.cabinet_documents.proofs.Values.{value_of, values_of, values_of_pairs}
+use Rattle.cabinet_documents.proofs.SpellingDenoted.{tagged, simply_tagged, shared_text, grouped, paired}
 
 -- the plan of a text, inline or out of line
 pub data TextPlan (t : List ℕ) (p : Plan) : Type 0 where
@@ -40,6 +45,14 @@ list_plan n ps = leads (n ∷ []) (whole_target (n * size_of node_shape) (align_
 -- of one part at an offset
 abbrev pub one_plan : ℕ → Plan → Plan
 one_plan offset p = parts (more_plans offset p no_plans)
+
+-- the value of an entry
+abbrev pub entry_value : List ℕ × Tree → Value
+entry_value x = pair_value x.0 (value_of x.1)
+
+pub entry_values : (fit : Fit) (ps : Pairs) → values_of_pairs ps ≡ listed fit node_names 5 text node_shape entry_value (pairs_in ps)
+entry_values fit no_pairs = refl
+entry_values fit (more_pairs k t ps) = ap (more_values (pair_value k (value_of t))) (entry_values fit ps)
 
 module _ (fit : Fit) where
   abbrev pub Planned : Shape → Value → Plan → Type 0
@@ -146,6 +159,30 @@ module _ (fit : Fit) where
         is = ap (λ k. list_plan k ps) size;
       }
 
+  -- the values and the plans of entries
+  abbrev pub entries_listed : List (List ℕ × Tree) → Values
+  entries_listed xs = listed fit node_names 5 text node_shape entry_value xs
+
+  abbrev pub EntriesPlan : ℕ → List (List ℕ × Tree) → Target → Plan → Type 0
+  EntriesPlan levels xs t q = TreePlan fit node_names 5 text node_shape entry_value levels xs t q
+
+  -- the plan of an ordered map, without entries or with some
+  pub data MapPlan (xs : List (List ℕ × Tree)) (p : Plan) : Type 0 where
+    is_empty : xs ≡ [] → p ≡ flat → MapPlan xs p
+    is_rooted : {t : Target} {q : Plan} → 0 < length xs → EntriesPlan (levels_for 5 (length xs)) xs t q → p ≡ leads (length xs ∷ []) t q → MapPlan xs p
+
+  pub map_planned : (xs : List (List ℕ × Tree)) (us : Values) (v : Value) (p : Plan) → v ≡ group us → all_erased us ≡ entries_listed xs → Planned (tree 5 text node_shape) v p → MapPlan xs p
+  map_planned xs us v p is same (plan_flat f) = elim f [ ]
+  map_planned xs us v p is same plan_no_tree =
+      let none : no_values ≡ us = cc in
+      is_empty (nil_from_length xs (sym (count_same fit node_names 5 text node_shape entry_value us xs same) ∙ ap count_values (sym none))) refl
+  map_planned xs us v p is same (plan_tree {items = items} {n = n} {t = t} {p = q} some n_is h) =
+      let alike : items ≡ us = cc in
+      let here : all_erased items ≡ entries_listed xs = ap all_erased alike ∙ same in
+      let size : n ≡ length xs = n_is ∙ count_same fit node_names 5 text node_shape entry_value items xs here in
+      let more : 0 < length xs = omega (arith, size, some) in
+      is_rooted more (tree_planned fit node_names 5 text node_shape entry_value (levels_for 5 (length xs)) xs items t q (omega arith) more (omega arith) here h) (ap (λ m. leads (m ∷ []) t q) size)
+
   -- the first of some elements, and the others
   pub record FirstPlan (offset : ℕ) (v : Value) (vs : Values) (ps : Plans) : Type 0 where
     pub first : Plan
@@ -175,6 +212,19 @@ module _ (fit : Fit) where
       let made : Planned node_shape (tagged_value tag u) p = plan_named refl (plan_choice e (plans_at h plans_none)) in
       (p, subst (λ x. Planned node_shape x p) (sym is) made)
 
+  text_has_plan : (t : List ℕ) → (p : Plan) × Planned text (string t) p
+  text_has_plan t = ⊎_elim (λ long. (leads_to_text (length t), plan_text long refl)) (λ short. (flat, plan_inline short)) (cases_lt 8 (length t))
+
+  map_has_plan : (xs : List (List ℕ × Tree)) (us : Values) (v : Value) → v ≡ tagged_value 6 (group us) → all_erased us ≡ entries_listed xs
+      → EachIs (IsPlanned fit node_names 5 text node_shape entry_value) xs → (p : Plan) × Planned node_shape v p
+  map_has_plan [] no_values v is same each = plan_node 6 (tree 5 text node_shape) (group no_values) v flat is refl plan_no_tree
+  map_has_plan [] (more_values u us) v is same each = absurd cc
+  map_has_plan (x ∷ xs) us v is same each =
+      let count = count_same fit node_names 5 text node_shape entry_value us (x ∷ xs) same in
+      let some : 1 ≤ count_values us = omega (arith, count) in
+      let p = tree_has_plan fit node_names 5 text node_shape entry_value (levels_for 5 (length (x ∷ xs))) (x ∷ xs) us (omega arith) (omega arith) (omega arith) each same in
+      plan_node 6 (tree 5 text node_shape) (group us) v (leads (count_values us ∷ []) p.0 p.1) is refl (plan_tree some refl p.2)
+
   mutual
     unfolding elements
 
@@ -182,11 +232,8 @@ module _ (fit : Fit) where
     has_plan (leaf (document.truth b)) v h e = let x = tagged 0 (boolean b) v e in plan_node 0 truth x.inner v flat x.is refl (plan_flat truth_is_flat)
     has_plan (leaf (document.number n)) v h e = let x = tagged 1 (integer n) v e in plan_node 1 (number w64 true) x.inner v flat x.is refl (plan_flat number_is_flat)
     has_plan (leaf (document.text t)) v h e =
-        let is = simply_tagged 2 (string t) v tt e in
-        ⊎_elim
-        (λ long. plan_node 2 text (string t) v (leads_to_text (length t)) is refl (plan_text long refl))
-        (λ short. plan_node 2 text (string t) v flat is refl (plan_inline short))
-        (cases_lt 8 (length t))
+        let p = text_has_plan t in
+        plan_node 2 text (string t) v p.0 (simply_tagged 2 (string t) v tt e) refl p.1
     has_plan (shared t) v h e =
         let x = tagged 3 (counted 0 (string t)) v e in
         let y = shared_text t x.inner x.same in
@@ -203,7 +250,23 @@ module _ (fit : Fit) where
         let y = grouped (values_of ts) x.inner x.same in
         let ps = have_plans ts y.inner 0 h y.same in
         plan_node 5 (vector node_shape) (group y.inner) v (list_plan (count_values y.inner) ps.0) (x.is ∙ ap (tagged_value 5) y.is) refl (plan_vector (plan_slice refl ps.1))
-    has_plan (map kind ps) v h e = absurd h
+    has_plan (map ordered ps) v h e =
+        let x = tagged 6 (group (values_of_pairs ps)) v e in
+        let y = grouped (values_of_pairs ps) x.inner x.same in
+        map_has_plan (pairs_in ps) y.inner v (x.is ∙ ap (tagged_value 6) y.is) (y.same ∙ entry_values fit ps) (pairs_have_plans ps h)
+    has_plan (map hashed ps) v h e = absurd h
+    has_plan (map kept ps) v h e = absurd h
+
+    pairs_have_plans : (ps : Pairs) → HavePairsLayout ps → EachIs (IsPlanned fit node_names 5 text node_shape entry_value) (pairs_in ps)
+    pairs_have_plans no_pairs h = tt
+    pairs_have_plans (more_pairs k t ps) h = (
+      λ e same.
+          let x = paired k (value_of t) e same in
+          let p = text_has_plan k in
+          let q = has_plan t x.inner h.0 x.same in
+          record { key = string k; value = x.inner; key_plan = p.0; value_plan = q.0; is = x.is; key_planned = p.1; value_planned = q.1 },
+      pairs_have_plans ps h.1,
+    )
 
     have_plans : (ts : Trees) (vs : Values) (offset : ℕ) → HaveLayout ts → all_erased vs ≡ values_of ts → (ps : Plans) × ArePlanned offset vs ps
     have_plans no_trees no_values offset h e = (no_plans, plans_none)

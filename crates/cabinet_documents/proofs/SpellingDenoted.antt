@@ -5,15 +5,17 @@ use Rattle.archive_forms_values.specs.ShapeLayout.Value.{Value, Values}
 use Rattle.archive_forms_values.specs.ShapeLayout.Value.Value.{natural, integer, boolean, string, group, chosen, counted, back}
 use Rattle.archive_forms_values.specs.ShapeLayout.Value.Values.{no_values, more_values}
 use Rattle.archive_forms_values.specs.ShapeCanonical.Sharing.{erased, all_erased}
+use Rattle.cabinet_text_grammar.specs.Keys.{ordered, hashed, kept}
 use Rattle.cabinet_text_grammar.specs.Tree as document
-use Rattle.cabinet_text_grammar.specs.Tree.{Tree, Trees, leaf, shared, nothing, just, list, map, no_trees, more_trees}
-use Rattle.cabinet_documents.specs.Denotes.{tagged_value, Denotes, DenoteAll}
-use Rattle.cabinet_documents.specs.Denotes.Denotes.{denotes_truth, denotes_number, denotes_text, denotes_shared, denotes_nothing, denotes_some, denotes_list}
+use Rattle.cabinet_text_grammar.specs.Tree.{Tree, Trees, Pairs, leaf, shared, nothing, just, list, map, no_trees, more_trees, no_pairs, more_pairs}
+use Rattle.cabinet_documents.specs.Denotes.{tagged_value, pair_value, Denotes, DenoteAll, DenotePairs}
+use Rattle.cabinet_documents.specs.Denotes.Denotes.{denotes_truth, denotes_number, denotes_text, denotes_shared, denotes_nothing, denotes_some, denotes_list, denotes_ordered}
 use Rattle.cabinet_documents.specs.Denotes.DenoteAll.{denote_none, denote_more}
-use Rattle.cabinet_documents.specs.HasLayout.{HasLayout, HaveLayout}
+use Rattle.cabinet_documents.specs.Denotes.DenotePairs.{denote_no_pairs, denote_pair}
+use Rattle.cabinet_documents.specs.HasLayout.{HasLayout, HaveLayout, HavePairsLayout}
 use Rattle.cabinet_documents.specs.Spelling.{node_value}
 use Rattle.cabinet_documents.specs.SpellingLaws.{ValueDenotes}
-use Rattle.cabinet_documents.proofs.Values.{value_of, values_of, node_agrees}
+use Rattle.cabinet_documents.proofs.Values.{value_of, values_of, values_of_pairs, node_agrees}
 
 -- ---- what is known of a value from what is left of it without positions
 
@@ -85,6 +87,22 @@ grouped us (chosen t vs) e = absurd (cc)
 grouped us (counted t v) e = absurd (cc)
 grouped us (back t) e = absurd (cc)
 
+pub record Paired (k : List ℕ) (u v : Value) : Type 0 where
+  pub inner : Value
+  pub is : v ≡ pair_value k inner
+  pub same : erased inner ≡ u
+
+pub paired : (k : List ℕ) (u v : Value) → erased v ≡ pair_value k u → Paired k u v
+paired k u v e = let p = grouped (more_values (string k) (more_values u no_values)) v e in of_two p.inner p.is p.same where
+  of_two : (vs : Values) → v ≡ group vs → all_erased vs ≡ more_values (string k) (more_values u no_values) → Paired k u v
+  of_two no_values is same = absurd (cc)
+  of_two (more_values x no_values) is same = absurd (cc)
+  of_two (more_values x (more_values y no_values)) is same =
+      let first : erased x ≡ string k = cc in
+      let second : erased y ≡ u = cc in
+      record { inner = y; is = is ∙ ap (λ z. group (more_values z (more_values y no_values))) (unchanged x (string k) tt first); same = second }
+  of_two (more_values x (more_values y (more_values z vs))) is same = absurd (cc)
+
 -- ---- what it denotes
 
 mutual
@@ -105,7 +123,12 @@ mutual
       let p = tagged 5 (group (values_of ts)) v e in
       let x = grouped (values_of ts) p.inner p.same in
       denotes_list (p.is ∙ ap (tagged_value 5) x.is) refl (all_denoted ts x.inner h x.same)
-  denoted (map kind ps) v h e = absurd h
+  denoted (map ordered ps) v h e =
+      let p = tagged 6 (group (values_of_pairs ps)) v e in
+      let x = grouped (values_of_pairs ps) p.inner p.same in
+      denotes_ordered (p.is ∙ ap (tagged_value 6) x.is) refl (pairs_denoted ps x.inner h x.same)
+  denoted (map hashed ps) v h e = absurd h
+  denoted (map kept ps) v h e = absurd h
 
   all_denoted : (ts : Trees) (vs : Values) → HaveLayout ts → all_erased vs ≡ values_of ts → DenoteAll vs ts
   all_denoted no_trees no_values h e = denote_none refl refl
@@ -115,6 +138,16 @@ mutual
       let first : erased v ≡ value_of t = cc in
       let rest : all_erased vs ≡ values_of ts = cc in
       denote_more refl refl (denoted t v h.0 first) (all_denoted ts vs h.1 rest)
+
+  pairs_denoted : (ps : Pairs) (vs : Values) → HavePairsLayout ps → all_erased vs ≡ values_of_pairs ps → DenotePairs vs ps
+  pairs_denoted no_pairs no_values h e = denote_no_pairs refl refl
+  pairs_denoted no_pairs (more_values v vs) h e = absurd (cc)
+  pairs_denoted (more_pairs k t ps) no_values h e = absurd (cc)
+  pairs_denoted (more_pairs k t ps) (more_values v vs) h e =
+      let first : erased v ≡ pair_value k (value_of t) = cc in
+      let rest : all_erased vs ≡ values_of_pairs ps = cc in
+      let p = paired k (value_of t) v first in
+      denote_pair (ap (λ z. more_values z vs) p.is) refl (denoted t p.inner h.0 p.same) (pairs_denoted ps vs h.1 rest)
 
 -- ---- a document's value has no positions
 
@@ -127,11 +160,17 @@ mutual
   nowhere nothing = refl
   nowhere (just t) = ap (λ v. tagged_value 4 (tagged_value 1 v)) (nowhere t)
   nowhere (list ts) = ap (λ vs. tagged_value 5 (group vs)) (all_nowhere ts)
-  nowhere (map kind ps) = refl
+  nowhere (map ordered ps) = ap (λ vs. tagged_value 6 (group vs)) (pairs_nowhere ps)
+  nowhere (map hashed ps) = refl
+  nowhere (map kept ps) = refl
 
   all_nowhere : (ts : Trees) → all_erased (values_of ts) ≡ values_of ts
   all_nowhere no_trees = refl
   all_nowhere (more_trees t ts) = ap₂ more_values (nowhere t) (all_nowhere ts)
+
+  pairs_nowhere : (ps : Pairs) → all_erased (values_of_pairs ps) ≡ values_of_pairs ps
+  pairs_nowhere no_pairs = refl
+  pairs_nowhere (more_pairs k t ps) = ap₂ (λ (v : Value) (vs : Values). more_values (pair_value k v) vs) (nowhere t) (pairs_nowhere ps)
 
 pub value_denotes_law : ValueDenotes
 value_denotes_law t h = let same = (node_agrees t).plain in denoted t (node_value t) h (ap erased same ∙ nowhere t)

@@ -12,7 +12,10 @@ use Rattle.cabinet_documents.specs.Accepted.{Accepted}
 use Rattle.cabinet_documents.proofs.Walkable.{walk_stands_law}
 use Rattle.cabinet_documents.proofs.Places.{node_behind}
 use Rattle.cabinet_documents.proofs.Nodes.{none_seen, held}
-use Rattle.cabinet_documents.proofs.Peaks.{NoMap, each_contains, height_is, peaked, all_below}
+use Rattle.cabinet_documents.proofs.Heights.{height_is}
+use Rattle.cabinet_documents.proofs.Keyed.{keyed_is}
+use Rattle.cabinet_documents.proofs.Stops.{each_contains, all_below}
+use Rattle.cabinet_documents.proofs.Peaks.{Sounds, peaked}
 
 -- a walk of the root, in which nothing is unsound
 pub record HasSoundWalk (bytes : List ℕ) (v : Value) : Type 0 where
@@ -32,10 +35,11 @@ module _ (bytes : List ℕ) (t : Tree) (v : Value) (regions : List Region) (visi
       let p = peaked bytes w.walked node_behind pos refl in
       let high = height_is h.value denotes in
       let below = all_below 0 w.walk (omega (arith, p.peak_is, high, document.1)) in
+      let sound = p.sound (tt, keyed_is h.value denotes document.0) in
       record {
         walk = w.walk;
         walked = w.walked;
-        sound = λ s c. (each_contains (λ (x : Stop). is_container x.part ≡ true → x.depth < 64) w.walk s below c, each_contains NoMap w.walk s p.stops c bytes);
+        sound = λ s c. (each_contains (λ (x : Stop). is_container x.part ≡ true → x.depth < 64) w.walk s below c, each_contains (Sounds bytes) w.walk s sound c);
       }
 
   pub accepted_by : Accepted bytes t

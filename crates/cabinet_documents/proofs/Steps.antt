@@ -15,7 +15,7 @@ use Rattle.archive_forms_values.specs.ShapeLayout.Path.StandsIn.{stands_first, s
 use Rattle.archive_forms_values.proofs.ShapeLayout.Unique.{by_plain, by_claimed}
 use Rattle.cabinet_documents.specs.Node.{node_names, node_shape}
 use Rattle.cabinet_documents.specs.Denotes.{tagged_value}
-use Rattle.cabinet_documents.proofs.Places.{Place, node_here, payload_here, truth_here, number_here, text_here, option_here, box_here, list_here, node_behind, nodes_behind, text_behind, Spot, part_of, parts_at, Passes, node_passes, box_passes, behind_passes, list_passes, text_passes, Pays, Follows, passes, pays, truth_is, number_is, text_is, none_is, some_is, Leads, leads_nowhere, leads_plain, leads_claimed, led}
+use Rattle.cabinet_documents.proofs.Places.{Place, node_here, payload_here, truth_here, number_here, text_here, shared_here, option_here, box_here, list_here, ordered_here, tree_child, absent_here, node_behind, nodes_behind, text_behind, Spot, part_of, parts_at, Passes, node_passes, box_passes, behind_passes, list_passes, text_passes, child_passes, Pays, Follows, passes, pays, truth_is, number_is, text_is, none_is, some_is, Leads, leads_nowhere, leads_plain, leads_claimed, led}
 use Rattle.cabinet_documents.proofs.Nodes.{none_illegal, TruthValue, NumberValue, TextValue, ValueAt, ValuesAt, none_at, follow}
 
 -- some places pass on the value of what they lead to
@@ -25,6 +25,7 @@ is_passing box_here = true
 is_passing node_behind = true
 is_passing list_here = true
 is_passing text_here = true
+is_passing (tree_child level) = true
 is_passing k = false
 
 pub passing : {bytes : List ℕ} {k j : Place} → Passes bytes k j → is_passing k ≡ true
@@ -33,6 +34,18 @@ passing box_passes = refl
 passing behind_passes = refl
 passing (list_passes small) = refl
 passing text_passes = refl
+passing child_passes = refl
+
+-- where the payload of a tag is
+abbrev pub place_of : ℕ → Place
+place_of zero = truth_here
+place_of (suc zero) = number_here
+place_of (suc (suc zero)) = text_here
+place_of (suc (suc (suc zero))) = shared_here
+place_of (suc (suc (suc (suc zero)))) = option_here
+place_of (suc (suc (suc (suc (suc zero))))) = list_here
+place_of (suc (suc (suc (suc (suc (suc zero)))))) = ordered_here
+place_of (suc (suc (suc (suc (suc (suc (suc n))))))) = absent_here
 
 module _ (bytes : List ℕ) where
   -- ---- the one part of another

@@ -1,13 +1,11 @@
 -- What a document stores is past a limit exactly where writing it is refused.
-use Rattle.std.proofs.Common.{◌≡◌, ℕ, zero, suc, ◌+◌, ◌-◌, ◌*◌, ◌<◌, ◌≤◌, ◌^◌, Bool, true, false, List, [], ◌∷◌, ◌++◌, map as mapped, length, replicate, Option, Some, None, refl, sym, ap, ap₂, subst, ◌∙◌, arith, ◌⊎◌, inl, inr, ⊎_elim, length-append, add-zero}
-use Rattle.std.specs.Prelude.{◌↔◌}
+use Rattle.std.proofs.Common.{◌≡◌, ℕ, zero, suc, ◌+◌, ◌-◌, ◌≤◌, ◌^◌, Bool, true, false, List, [], ◌∷◌, ◌++◌, length, Option, Some, None, refl, sym, ap, subst, ◌∙◌, arith, ◌⊎◌, inl, inr, ⊎_elim}
 use Rattle.std.specs.Int.{w32, w64, to_le_bytes, cast_unsigned}
 use Rattle.std.proofs.Math.Nat.{le-max_left, le-max_right}
-use Rattle.std.proofs.lemmas.Bool.{leb-true}
 use Rattle.std.proofs.lemmas.List.{length-replicate}
 use Rattle.archive_forms_values.specs.ShapeLayout.Bytes.{align_up}
-use Rattle.archive_forms_values.specs.ShapeLayout.Shape.{Shape, size_of, align_of}
-use Rattle.archive_forms_values.specs.ShapeLayout.Shape.Shape.{number, truth, text, option, choice, vector, shared as shared_shape}
+use Rattle.archive_forms_values.specs.ShapeLayout.Shape.{align_of}
+use Rattle.archive_forms_values.specs.ShapeLayout.Shape.Shape.{number, truth, text, option, vector, tree, shared as shared_shape}
 use Rattle.archive_forms_values.specs.ShapeLayout.Shape.Pointee.{str}
 use Rattle.archive_forms_values.specs.ShapeLayout.Value.{Value, Values, count_values}
 use Rattle.archive_forms_values.specs.ShapeLayout.Value.Value.{integer, boolean, string, group, chosen, counted}
@@ -15,51 +13,51 @@ use Rattle.archive_forms_values.specs.ShapeLayout.Value.Values.{no_values, more_
 use Rattle.archive_forms_values.specs.ShapeLayout.Numbers.{truth_bytes}
 use Rattle.archive_forms_values.proofs.ShapeLayout.Framed.{le_align_up}
 use Rattle.archive_forms_values.specs.ShapeWriting.declared.error.Error.{Error}
-use Rattle.archive_forms_values.specs.ShapeWriting.declared.error.Error.TheVariants.{PositionTooLarge, LengthTooLarge, IsizeOverflow}
+use Rattle.archive_forms_values.specs.ShapeWriting.declared.error.Error.TheVariants.{PositionTooLarge}
 use Rattle.archive_forms_values.specs.ShapeCanonical.Settled.{Fit}
 use Rattle.archive_forms_values.specs.ShapeCanonical.Sharing.{erased, all_erased}
-use Rattle.archive_forms_values.specs.ShapeCanonical.Plan.{Plan, flat, parts, leads, Plans, no_plans, more_plans, whole_target}
-use Rattle.archive_forms_values.specs.ShapeCanonical.Limits.{Field, offset, position, count, IsSomePast, Shared, moved, Lies, lies_flat, lies_parts, lies_leads, lies_text, LieAll, lie_none, lie_more, Stores, PastLimits}
+use Rattle.archive_forms_values.specs.ShapeCanonical.Plan.{Plan, flat}
+use Rattle.archive_forms_values.specs.ShapeCanonical.Limits.{Field, position, count, IsSomePast, Lies, PastLimits}
 use Rattle.archive_forms_values.specs.ShapeCanonical.Limits as limits
-use Rattle.archive_forms_values.specs.ArchiveShape.Offsets.{FitsOffset, offset_bytes}
-use Rattle.archive_forms_values.specs.ArchiveShape.Bytes.{zeros}
+use Rattle.archive_forms_values.specs.ArchiveShape.Offsets.{offset_bytes}
 use Rattle.archive_forms_values.specs.FormsLaws.State.{State, initial}
-use Rattle.archive_forms_values.specs.FormsLaws.Spelling.{Spelling, state_after}
-use Rattle.archive_forms_values.specs.FormsLaws.Regions.{state_after_all, pieces, owns, pieces_refused, owns_refused, region_at, region_piece, region_refused}
-use Rattle.archive_forms_values.specs.FormsLaws.Options.{tagged_bytes, option_own}
-use Rattle.archive_forms_values.specs.FormsLaws.Texts.{is_short, inline_bytes, text_own}
+use Rattle.archive_forms_values.specs.FormsLaws.Spelling.{Spelling}
+use Rattle.archive_forms_values.specs.FormsLaws.Regions.{state_after_all, region_at, region_refused}
+use Rattle.archive_forms_values.specs.FormsLaws.Links.{link_bytes}
+use Rattle.archive_forms_values.specs.FormsLaws.Options.{option_own}
+use Rattle.archive_forms_values.specs.FormsLaws.Texts.{is_short, text_own}
 use Rattle.archive_forms_values.specs.FormsLaws.Levels.{levels_spelling}
 use Rattle.archive_forms_values.proofs.FormsLaws.Payloads.{length-tagged}
 use Rattle.archive_forms_values.specs.declared.reading.resolving.BoxResolver.{BoxResolver}
 use Rattle.archive_forms_rc.specs.FormsWriting.Owned.{str_spelling}
+use Rattle.archive_btree_spelling.proofs.Parting.{EachIs}
+use Rattle.cabinet_text_grammar.specs.Keys.{ordered, hashed, kept}
 use Rattle.cabinet_text_grammar.specs.Tree as document
-use Rattle.cabinet_text_grammar.specs.Tree.{Tree, Trees, leaf, shared, nothing, just, list, map, no_trees, more_trees, depth, most_depth}
-use Rattle.cabinet_documents.specs.Node.{node_shape, node_names, payloads}
+use Rattle.cabinet_text_grammar.specs.Tree.{Tree, Trees, Pairs, leaf, shared, nothing, just, list, map, no_trees, more_trees, no_pairs, more_pairs, depth, most_depth, pairs_depth}
+use Rattle.cabinet_documents.specs.Node.{node_shape, node_names}
 use Rattle.cabinet_documents.specs.Denotes.{tagged_value}
-use Rattle.cabinet_documents.specs.HasLayout.{HasLayout, HaveLayout}
+use Rattle.cabinet_documents.specs.HasLayout.{HasLayout, HaveLayout, HavePairsLayout}
 use Rattle.cabinet_documents.specs.declared.spelling.resolver.NodeResolver.{NodeResolver}
 use Rattle.cabinet_documents.specs.declared.spelling.resolver.NodeResolver.TheVariants as resolver
-use Rattle.cabinet_documents.specs.Spelling.{truth_spelling, number_spelling, shared_string_spelling, boxed_shape, boxed_spelling, maybe_spelling, list_spelling, trees_in, text_in, shared_in, maybe_in, list_in, node_of, refused, spelling_of, node_level, node_spelling}
+use Rattle.cabinet_documents.specs.Spelling.{truth_spelling, number_spelling, shared_string_spelling, boxed_shape, boxed_spelling, maybe_spelling, list_spelling, ordered_spelling, trees_in, pairs_in, text_in, shared_in, maybe_in, list_in, ordered_in, refused, spelling_of, node_level, node_spelling}
 use Rattle.cabinet_documents.specs.SpellingLaws.{RefusedIsPast}
-use Rattle.cabinet_documents.proofs.Values.{value_of, values_of, node_agrees, one_value_law}
+use Rattle.cabinet_documents.proofs.Values.{value_of, values_of, values_of_pairs, node_agrees, one_value_law}
 use Rattle.cabinet_documents.proofs.SpellingDenoted.{tagged, simply_tagged, shared_text, grouped}
-use Rattle.cabinet_documents.proofs.Plans.{box_plan, list_plan, one_plan, Planned, ArePlanned, node_planned, truth_planned, number_planned, text_planned, shared_planned, none_planned, some_planned, box_planned, list_planned, first_planned, none_are_planned, has_plan}
-use Rattle.cabinet_documents.proofs.Fields.{Alike, laid, past_left, past_right, past_either, offset_past, past_offset, flat_lies, part_lies, LedTo, leads_lies, IsFar, Reads, no_fields, text_reads, shared_reads, shared_lies}
-use Rattle.cabinet_documents.proofs.Storing.{CanLie, as_plan, node_reads, Tells, ReadsNode, LiesNode, AllTell, ReadsAll, as_part, flat_can_lie, text_can_lie, one_read, box_region, box_lies, list_region, list_lies, box_reads, some_reads, list_reads}
+use Rattle.cabinet_documents.proofs.Plans.{entry_values, map_planned, Planned, node_planned, truth_planned, number_planned, text_planned, shared_planned, none_planned, some_planned, box_planned, list_planned, has_plan}
+use Rattle.cabinet_documents.proofs.Fields.{text_length_of, laid, past_left, past_right, past_either, flat_lies, part_lies, Reads, no_fields, text_reads, shared_reads, shared_lies}
+use Rattle.cabinet_documents.proofs.StoredEntries.{TellsEntry}
+use Rattle.cabinet_documents.proofs.StoredTrees.{map_reads, map_lies}
+use Rattle.cabinet_documents.proofs.Storing.{as_plan, node_reads, Tells, ReadsNode, LiesNode, AllTell, ReadsAll, as_part, flat_can_lie, text_can_lie, one_read, box_region, box_lies, list_region, list_lies, box_reads, some_reads, list_reads}
 
 -- ---- the sizes of nodes
-
-text_length_of : (b : Bool) (t : List ℕ) (to pos : ℕ) → is_short t ≡ b → length (text_own b t to pos) ≡ 8
-text_length_of true t to pos is =
-    let short : length t ≤ 8 = leb-true (length t) 8 is in
-    let rest : List ℕ = replicate (8 - length t) 255 in
-    let filled : length rest ≡ 8 - length t = length-replicate _ _ in
-    omega (arith, length-append t rest)
-text_length_of false t to pos is = refl
 
 truth_length : (b : Bool) → length (truth_bytes b) ≡ 1
 truth_length true = refl
 truth_length false = refl
+
+map_length : (root : Option ℕ) (pos n : ℕ) → length (link_bytes root pos ++ to_le_bytes w32 n) ≡ 8
+map_length None pos n = refl
+map_length (Some to) pos n = refl
 
 module _ (w : Spelling Tree NodeResolver) where
   none_length : (r : Option BoxResolver) (pos : ℕ) → length (option_own boxed_shape (boxed_spelling w) None r pos) ≡ 8
@@ -77,7 +75,7 @@ module _ (w : Spelling Tree NodeResolver) where
   node_length (leaf (document.truth b)) layout r pos = let n = truth_length b in length-tagged 0 1 24 (truth_bytes b) (omega arith) (omega (arith, n))
   node_length (leaf (document.number z)) layout r pos = length-tagged 1 8 24 (to_le_bytes w64 (cast_unsigned w64 z)) (omega arith) (omega arith)
   node_length (leaf (document.text t)) layout r pos =
-      let n = text_length_of (is_short t) t (text_in r).pos (pos + 4) refl in
+      let n = text_length_of t (text_in r).pos (pos + 4) in
       length-tagged 2 4 24 (text_own (is_short t) t (text_in r).pos (pos + 4)) (omega arith) (omega (arith, n))
   node_length (shared t) layout r pos = length-tagged 3 4 24 (offset_bytes (pos + 4) (shared_in r).pos ++ to_le_bytes w32 (length t)) (omega arith) (omega arith)
   node_length nothing layout r pos =
@@ -88,7 +86,13 @@ module _ (w : Spelling Tree NodeResolver) where
       length-tagged 4 4 24 (option_own boxed_shape (boxed_spelling w) (Some t) (maybe_in r) (pos + 4)) (omega arith) (omega (arith, n))
   node_length (list ts) layout r pos =
       length-tagged 5 4 24 (offset_bytes (pos + 4) (list_in r).pos ++ to_le_bytes w32 (length (trees_in ts))) (omega arith) (omega arith)
-  node_length (map kind ps) layout r pos = absurd layout
+  node_length (map ordered ps) layout r pos =
+      let root = (ordered_in r).pos in
+      let count = length (pairs_in ps) in
+      let n = map_length root (pos + 4) count in
+      length-tagged 6 4 24 (link_bytes root (pos + 4) ++ to_le_bytes w32 count) (omega arith) (omega (arith, n))
+  node_length (map hashed ps) layout r pos = absurd layout
+  node_length (map kept ps) layout r pos = absurd layout
 
 -- ---- one level of nodes
 
@@ -118,6 +122,13 @@ module _ (fit : Fit) (w : Spelling Tree NodeResolver) where
       let a = le-max_left (depth t) (most_depth ts) in
       let b = le-max_right (depth t) (most_depth ts) in
       (each t (omega (arith, a)) layout.0, trees_tell n each ts (omega (arith, b)) layout.1)
+
+  pairs_tell : (n : ℕ) → ((y : Tree) → suc (depth y) ≤ n → HasLayout y → Tells fit w y) → (ps : Pairs) → suc (pairs_depth ps) ≤ n → HavePairsLayout ps → EachIs (TellsEntry w fit) (pairs_in ps)
+  pairs_tell n each no_pairs less layout = tt
+  pairs_tell n each (more_pairs k t ps) less layout =
+      let a = le-max_left (depth t) (pairs_depth ps) in
+      let b = le-max_right (depth t) (pairs_depth ps) in
+      (each t (omega (arith, a)) layout.0, pairs_tell n each ps (omega (arith, b)) layout.1)
 
   level_reads : (n : ℕ) → ((y : Tree) → suc (depth y) ≤ n → HasLayout y → Tells fit w y) → (t : Tree) → depth t ≤ n → HasLayout t → ReadsNode fit (node_level w) t
   level_reads n each (leaf (document.truth b)) less layout v p same planned s seen alike begun own fs c h =
@@ -187,7 +198,19 @@ module _ (fit : Fit) (w : Spelling Tree NodeResolver) where
       as_level (list ts) s own fs c
       (node_reads 5 shape (list_spelling w) resolver.List list_in (trees_in ts) (list ts) s own l.0 fs c refl
       (list_reads fit w (trees_in ts) s (own + align_up 1 (align_of shape)) l.0 c region) l.2)
-  level_reads n each (map kind ps) less layout v p same planned s seen alike begun own fs c h = absurd layout
+  level_reads n each (map ordered ps) less layout v p same planned s seen alike begun own fs c h =
+      let shape = tree 5 text node_shape in
+      let xs = pairs_in ps in
+      let x = tagged 6 (group (values_of_pairs ps)) v same in
+      let y = grouped (values_of_pairs ps) x.inner x.same in
+      let q = node_planned fit 6 shape x.inner v p x.is refl planned in
+      let l = part_lies (align_up 1 (align_of shape)) own q.inner (laid s seen) c fs (subst (λ z. Lies z own (laid s seen) fs c) q.is h) in
+      let m = map_planned fit xs y.inner x.inner q.inner y.is (y.same ∙ entry_values fit ps) q.planned in
+      as_level (map ordered ps) s own fs c
+      (node_reads 6 shape (ordered_spelling w) resolver.Ordered ordered_in xs (map ordered ps) s own l.0 fs c refl
+      (map_reads w fit xs q.inner m (pairs_tell n each ps less layout) s seen alike begun (own + align_up 1 (align_of shape)) l.0 c l.1) l.2)
+  level_reads n each (map hashed ps) less layout v p same planned s seen alike begun own fs c h = absurd layout
+  level_reads n each (map kept ps) less layout v p same planned s seen alike begun own fs c h = absurd layout
 
   level_lies : (n : ℕ) → ((y : Tree) → suc (depth y) ≤ n → HasLayout y → Tells fit w y) → (t : Tree) → depth t ≤ n → HasLayout t → LiesNode fit (node_level w) t
   level_lies n each (leaf (document.truth b)) less layout v p same planned s seen alike begun own =
@@ -231,7 +254,16 @@ module _ (fit : Fit) (w : Spelling Tree NodeResolver) where
       let many = list_planned fit y.inner x.inner q.inner y.is q.planned in
       as_part shape p q.inner own (laid s seen) q.is
       (list_lies fit w ts (trees_tell n each ts less layout) y.inner many.inner q.inner y.same many.planned many.is s seen alike begun (own + align_up 1 (align_of shape)))
-  level_lies n each (map kind ps) less layout v p same planned s seen alike begun own = absurd layout
+  level_lies n each (map ordered ps) less layout v p same planned s seen alike begun own =
+      let shape = tree 5 text node_shape in
+      let xs = pairs_in ps in
+      let x = tagged 6 (group (values_of_pairs ps)) v same in
+      let y = grouped (values_of_pairs ps) x.inner x.same in
+      let q = node_planned fit 6 shape x.inner v p x.is refl planned in
+      let m = map_planned fit xs y.inner x.inner q.inner y.is (y.same ∙ entry_values fit ps) q.planned in
+      as_part shape p q.inner own (laid s seen) q.is (map_lies w fit xs q.inner m (pairs_tell n each ps less layout) s seen alike begun (own + align_up 1 (align_of shape)))
+  level_lies n each (map hashed ps) less layout v p same planned s seen alike begun own = absurd layout
+  level_lies n each (map kept ps) less layout v p same planned s seen alike begun own = absurd layout
 
   level_tells : (n : ℕ) → ((y : Tree) → suc (depth y) ≤ n → HasLayout y → Tells fit w y) → (t : Tree) → depth t ≤ n → HasLayout t → Tells fit (node_level w) t
   level_tells n each t less layout = record {

@@ -1,48 +1,30 @@
 -- What nodes store side by side, and in the regions that pointers lead to, against the limits of how they are written.
-use Rattle.std.proofs.Common.{◌≡◌, ℕ, zero, suc, ◌+◌, ◌-◌, ◌*◌, ◌<◌, ◌≤◌, ◌^◌, Bool, true, false, List, [], ◌∷◌, ◌++◌, map as mapped, length, replicate, Option, Some, None, refl, sym, ap, ap₂, subst, ◌∙◌, arith, ◌⊎◌, inl, inr, ⊎_elim, length-append, add-zero}
-use Rattle.std.specs.Prelude.{◌↔◌}
-use Rattle.std.specs.Int.{w32, w64, to_le_bytes, cast_unsigned}
-use Rattle.std.proofs.Math.Nat.{le-max_left, le-max_right}
+use Rattle.std.proofs.Common.{◌≡◌, ℕ, ◌+◌, ◌-◌, ◌*◌, ◌<◌, ◌≤◌, ◌^◌, List, [], ◌∷◌, ◌++◌, map as mapped, length, Some, refl, sym, ap, subst, ◌∙◌, arith, ◌⊎◌, inl, inr, ⊎_elim, length-append, add-zero}
 use Rattle.std.proofs.lemmas.List.{length-replicate}
 use Rattle.archive_forms_values.specs.ShapeLayout.Bytes.{align_up}
-use Rattle.archive_forms_values.specs.ShapeLayout.Shape.{Shape, size_of, align_of}
-use Rattle.archive_forms_values.specs.ShapeLayout.Shape.Shape.{number, truth, text, option, choice, vector, shared as shared_shape}
-use Rattle.archive_forms_values.specs.ShapeLayout.Shape.Pointee.{str}
+use Rattle.archive_forms_values.specs.ShapeLayout.Shape.{Shape, align_of}
 use Rattle.archive_forms_values.specs.ShapeLayout.Value.{Value, Values, count_values}
-use Rattle.archive_forms_values.specs.ShapeLayout.Value.Value.{integer, boolean, string, group, chosen, counted}
 use Rattle.archive_forms_values.specs.ShapeLayout.Value.Values.{no_values, more_values}
-use Rattle.archive_forms_values.specs.ShapeLayout.Numbers.{truth_bytes}
 use Rattle.archive_forms_values.proofs.ShapeLayout.Framed.{le_align_up}
 use Rattle.archive_forms_values.specs.ShapeWriting.declared.error.Error.{Error}
-use Rattle.archive_forms_values.specs.ShapeWriting.declared.error.Error.TheVariants.{PositionTooLarge, LengthTooLarge, IsizeOverflow}
+use Rattle.archive_forms_values.specs.ShapeWriting.declared.error.Error.TheVariants.{PositionTooLarge, IsizeOverflow}
 use Rattle.archive_forms_values.specs.ShapeCanonical.Settled.{Fit}
 use Rattle.archive_forms_values.specs.ShapeCanonical.Sharing.{erased, all_erased}
-use Rattle.archive_forms_values.specs.ShapeCanonical.Plan.{Plan, flat, parts, leads, leads_to_text, Plans, no_plans, more_plans, whole_target}
-use Rattle.archive_forms_values.specs.ShapeCanonical.Limits.{Field, offset, position, count, IsSomePast, Shared, moved, Lies, lies_flat, lies_parts, lies_leads, lies_text, LieAll, lie_none, lie_more, Stores, PastLimits}
+use Rattle.archive_forms_values.specs.ShapeCanonical.Plan.{Plan, flat, parts, leads_to_text, Plans, no_plans, more_plans, whole_target}
+use Rattle.archive_forms_values.specs.ShapeCanonical.Limits.{Field, offset, position, count, IsSomePast, Shared, moved, Lies, lies_flat, lies_parts, lies_leads, lies_text, LieAll, lie_none, lie_more}
 use Rattle.archive_forms_values.specs.ShapeCanonical.Limits as limits
-use Rattle.archive_forms_values.specs.ArchiveShape.Offsets.{FitsOffset, offset_bytes}
+use Rattle.archive_forms_values.specs.ArchiveShape.Offsets.{FitsOffset}
 use Rattle.archive_forms_values.specs.ArchiveShape.Bytes.{zeros}
-use Rattle.archive_forms_values.specs.FormsLaws.State.{State, initial}
+use Rattle.archive_forms_values.specs.FormsLaws.State.{State}
 use Rattle.archive_forms_values.specs.FormsLaws.Spelling.{Spelling, state_after}
 use Rattle.archive_forms_values.specs.FormsLaws.Regions.{state_after_all, pieces, owns, pieces_refused, owns_refused, region_at, region_piece, region_refused}
-use Rattle.archive_forms_values.specs.FormsLaws.Options.{tagged_bytes, option_own}
-use Rattle.archive_forms_values.specs.FormsLaws.Texts.{is_short, inline_bytes, text_own}
-use Rattle.archive_forms_values.specs.FormsLaws.Levels.{levels_spelling}
-use Rattle.archive_forms_values.proofs.FormsLaws.Payloads.{length-tagged}
-use Rattle.archive_forms_values.specs.declared.reading.resolving.BoxResolver.{BoxResolver}
-use Rattle.archive_forms_rc.specs.FormsWriting.Owned.{str_spelling}
-use Rattle.cabinet_text_grammar.specs.Tree as document
-use Rattle.cabinet_text_grammar.specs.Tree.{Tree, Trees, leaf, shared, nothing, just, list, map, no_trees, more_trees, depth, most_depth}
-use Rattle.cabinet_documents.specs.Node.{node_shape, node_names, payloads}
-use Rattle.cabinet_documents.specs.Denotes.{tagged_value}
-use Rattle.cabinet_documents.specs.HasLayout.{HasLayout, HaveLayout}
+use Rattle.cabinet_text_grammar.specs.Tree.{Tree, Trees, no_trees, more_trees}
+use Rattle.cabinet_documents.specs.Node.{node_shape}
 use Rattle.cabinet_documents.specs.declared.spelling.resolver.NodeResolver.{NodeResolver}
-use Rattle.cabinet_documents.specs.declared.spelling.resolver.NodeResolver.TheVariants as resolver
-use Rattle.cabinet_documents.specs.Spelling.{truth_spelling, number_spelling, shared_string_spelling, boxed_shape, boxed_spelling, maybe_spelling, list_spelling, trees_in, text_in, shared_in, maybe_in, list_in, node_of, refused, spelling_of, node_level, node_spelling}
+use Rattle.cabinet_documents.specs.Spelling.{boxed_shape, boxed_spelling, maybe_spelling, list_spelling, trees_in, node_of, refused}
 use Rattle.cabinet_documents.proofs.Values.{value_of, values_of}
-use Rattle.cabinet_documents.proofs.SpellingDenoted.{tagged, simply_tagged, shared_text, grouped}
-use Rattle.cabinet_documents.proofs.Plans.{TextPlan, is_inline, is_far, box_plan, list_plan, one_plan, Planned, ArePlanned, node_planned, truth_planned, number_planned, text_planned, shared_planned, none_planned, some_planned, box_planned, list_planned, first_planned, none_are_planned, has_plan}
-use Rattle.cabinet_documents.proofs.Fields.{Alike, laid, past_left, past_right, past_either, offset_past, past_offset, flat_lies, part_lies, LedTo, leads_lies, IsFar, Reads, no_fields, text_reads, shared_reads, shared_lies}
+use Rattle.cabinet_documents.proofs.Plans.{TextPlan, is_inline, is_far, box_plan, list_plan, one_plan, Planned, ArePlanned, first_planned, none_are_planned}
+use Rattle.cabinet_documents.proofs.Fields.{Alike, laid, reached, parts_lies, past_left, past_right, past_either, offset_past, past_offset, leads_lies, IsFar, Reads}
 
 -- a plan lies from a state on, with own bytes at a position
 abbrev pub CanLie : Plan → ℕ → limits.State → Type 0
@@ -131,10 +113,6 @@ module _ (fit : Fit) (w : Spelling Tree NodeResolver) where
       let rest = after_pos xs (state_after w x s) in
       omega (arith, rest, length-append (w.piece x s) (pieces w xs (state_after w x s)))
 
-  -- the state between a node and those behind it
-  between_is : (t : Tree) (s : State) (own : ℕ) (fs : List Field) (b : limits.State) → Reads w t s own fs b → b ≡ laid (state_after w t s) b.met
-  between_is t s own fs b h = ap (λ n. let z : limits.State = record { pos = n; met = b.met } in z) h.there
-
   first_and_rest :
       (t : Tree) (ts : List Tree) (s : State) (pos : ℕ) (here there fs : List Field) (between b : limits.State)
       → length (w.own t (w.resolver t s) pos) ≡ 24
@@ -171,18 +149,18 @@ module _ (fit : Fit) (w : Spelling Tree NodeResolver) where
     refused_all = λ e p. absurd (subst (λ l. IsSomePast l e) ends.0 p);
   }
 
-  no_lies : (own : ℕ) (st b : limits.State) (fs : List Field) → LieAll no_plans own st fs b → (fs ≡ []) × (b ≡ st)
+  pub no_lies : (own : ℕ) (st b : limits.State) (fs : List Field) → LieAll no_plans own st fs b → (fs ≡ []) × (b ≡ st)
   no_lies own st b fs lie_none = (refl, refl)
 
-  record FirstLies (at : ℕ) (p : Plan) (ps : Plans) (own : ℕ) (st b : limits.State) (fs : List Field) : Type 0 where
-    between : limits.State
-    here : List Field
-    there : List Field
-    first : Lies p (own + at) st here between
-    rest : LieAll ps own between there b
-    all : fs ≡ here ++ there
+  pub record FirstLies (at : ℕ) (p : Plan) (ps : Plans) (own : ℕ) (st b : limits.State) (fs : List Field) : Type 0 where
+    pub between : limits.State
+    pub here : List Field
+    pub there : List Field
+    pub first : Lies p (own + at) st here between
+    pub rest : LieAll ps own between there b
+    pub all : fs ≡ here ++ there
 
-  first_lies : (at : ℕ) (p : Plan) (ps : Plans) (own : ℕ) (st b : limits.State) (fs : List Field) → LieAll (more_plans at p ps) own st fs b → FirstLies at p ps own st b fs
+  pub first_lies : (at : ℕ) (p : Plan) (ps : Plans) (own : ℕ) (st b : limits.State) (fs : List Field) → LieAll (more_plans at p ps) own st fs b → FirstLies at p ps own st b fs
   first_lies at p ps own st b fs (lie_more {between = between} {here = here} {there = there} h k all) =
       record { between = between; here = here; there = there; first = h; rest = k; all = all }
 
@@ -205,10 +183,10 @@ module _ (fit : Fit) (w : Spelling Tree NodeResolver) where
       let next = state_after w t s in
       let rest = all_read ts vs plan.others (at + 24) own (pos + length (w.own t (w.resolver t s) pos)) next l.between.met l.there b tell.1 others plan.are first.alike begun
       (omega (arith, size, pos_is))
-      (subst (λ z. LieAll plan.others own z l.there b) (between_is t s pos l.here l.between first) l.rest) in
+      (subst (λ z. LieAll plan.others own z l.there b) (reached l.between next first.there) l.rest) in
       first_and_rest t (trees_in ts) s pos l.here l.there fs l.between b size first rest l.all
 
-  one_more_lies : (at : ℕ) (p : Plan) (ps : Plans) (own : ℕ) (st between b : limits.State) (here there : List Field) → Lies p (own + at) st here between → LieAll ps own between there b
+  pub one_more_lies : (at : ℕ) (p : Plan) (ps : Plans) (own : ℕ) (st between b : limits.State) (here there : List Field) → Lies p (own + at) st here between → LieAll ps own between there b
       → CanAllLie (more_plans at p ps) own st
   one_more_lies at p ps own st between b here there h k = (here ++ there, b, lie_more h k refl)
 
@@ -226,7 +204,7 @@ module _ (fit : Fit) (w : Spelling Tree NodeResolver) where
       let l = tell.0.lies v plan.first one plan.planned s seen alike begun (own + at) in
       let first = tell.0.reads v plan.first one plan.planned s seen alike begun (own + at) l.0 l.1 l.2 in
       let rest = all_lie ts vs plan.others (at + 24) own (state_after w t s) l.1.met tell.1 others plan.are first.alike begun in
-      let there = subst (λ z. LieAll plan.others own z rest.0 rest.1) (sym (between_is t s (own + at) l.0 l.1 first)) rest.2 in
+      let there = subst (λ z. LieAll plan.others own z rest.0 rest.1) (sym (reached l.1 (state_after w t s) first.there)) rest.2 in
       subst (λ x. CanAllLie x own (laid s seen)) (sym plan.is) (one_more_lies at plan.first plan.others own (laid s seen) l.1 rest.1 l.0 rest.0 l.2 there)
 
   -- ---- the region of nodes that a pointer leads to
@@ -343,9 +321,6 @@ module _ (fit : Fit) (w : Spelling Tree NodeResolver) where
       at_start
       (l.ends ∙ ap (λ k. moved (k + n * 24) l.inner) begins)
       (l.fields ∙ ap (λ k. region_fields own k (n ∷ []) l.within) begins)
-    where
-      parts_lies : (qs : Plans) (at : ℕ) (st c : limits.State) (gs : List Field) → Lies (parts qs) at st gs c → LieAll qs at st gs c
-      parts_lies qs at st c gs (lies_parts k) = k
 
   pub list_lies : (ts : Trees) → AllTell ts → (vs : Values) (ps : Plans) (q : Plan) → all_erased vs ≡ values_of ts → ArePlanned fit 0 vs ps → q ≡ list_plan (count_values vs) ps
       → (s : State) (seen : List Shared) → Alike seen s.met → s.begun ≡ [] → (own : ℕ) → CanLie q own (laid s seen)

@@ -1,5 +1,5 @@
 -- Laws of the archives of documents, as statements.
-use Rattle.std.specs.Prelude.{◌≡◌, ◌≢◌, ℕ, ◌<◌, ◌≤◌, pos, List, [], ◌∷◌, ◌++◌, length, Some, ⊤}
+use Rattle.std.specs.Prelude.{◌≡◌, ◌≢◌, ℕ, pos, List, [], ◌∷◌, ◌++◌, length, Some, ⊤}
 use Rattle.archive_forms_values.specs.ShapeLayout.Value.{Value}
 use Rattle.archive_forms_values.specs.ShapeLayout.Content.{Names, Part}
 use Rattle.archive_forms_values.specs.ShapeLayout.Shape.{Shape}
@@ -13,14 +13,14 @@ use Rattle.archive_forms_values.specs.ShapeLayout.Edit.{Apart}
 use Rattle.archive_forms_values.specs.ShapeCanonical.Canonical.{AreBytes}
 use Rattle.archive_forms_values.specs.ArchiveShape.Bytes.{overwrite}
 use Rattle.cabinet_text_grammar.specs.Tree.{Leaf, truth, number, text, IsLeaf}
-use Rattle.cabinet_text_grammar.specs.Path.{Step, key, place, inside}
+use Rattle.cabinet_text_grammar.specs.Path.{Step}
 use Rattle.cabinet_documents.specs.Node.{node_names, node_shape, absent, own_bytes}
-use Rattle.cabinet_text_grammar.specs.Tree.{Tree, leaf, depth}
+use Rattle.cabinet_text_grammar.specs.Tree.{Tree, leaf, IsDocument}
 use Rattle.cabinet_text_grammar.specs.Path.{node_at}
 use Rattle.cabinet_text_grammar.specs.Answering.{change}
 use Rattle.cabinet_documents.specs.Done.{IsDone}
 use Rattle.cabinet_documents.specs.Walk.{Stop, Walks}
-use Rattle.cabinet_documents.specs.Audit.{Unsound, too_deep, AuditFault, faults, root_part}
+use Rattle.cabinet_documents.specs.Audit.{Unsound, AuditFault, faults, first_of, root_part}
 use Rattle.cabinet_documents.specs.Accepted.{Accepted}
 use Rattle.cabinet_documents.specs.OwnBytes.{OwnBytes, LeadsTo}
 use Rattle.cabinet_documents.specs.Denotes.{Denotes}
@@ -103,20 +103,20 @@ AcceptedStands =
     → faults bytes walk ≡ []
     → IsAccepted bytes
 
--- the document that a root's value denotes, and whether the bytes are accepted as it, by the number of containers that
--- lie in one another
-pub record DepthDecided (bytes : List ℕ) (v : Value) : Type 0 where
-  pub tree : Tree
-  pub denotes : Denotes v tree
-  pub accepted : depth tree ≤ 64 → Accepted bytes tree
-  pub refused : 64 < depth tree → AuditFault bytes too_deep
+-- the walk of a root's value, and what it decides: without a fault the bytes are accepted as a document, and otherwise
+-- its first fault is theirs
+pub record AuditDecided (bytes : List ℕ) (v : Value) : Type 0 where
+  pub walk : List Stop
+  pub walked : Walks node_names bytes 0 (root_part bytes) v walk
+  pub accepted : faults bytes walk ≡ [] → IsAccepted bytes
+  pub refused : (u : Unsound) → first_of (faults bytes walk) ≡ Some u → AuditFault bytes u
 
-abbrev pub DepthDecides : Type 0
-DepthDecides =
+abbrev pub AuditDecides : Type 0
+AuditDecides =
     (bytes : List ℕ) (v : Value) (regions : List Region) (visits : List Visit)
     → AreBytes bytes
     → HasRoot node_names bytes (root_position (length bytes) node_shape) node_shape v regions visits
-    → DepthDecided bytes v
+    → AuditDecided bytes v
 
 -- ---- edits
 
@@ -125,18 +125,12 @@ payload_of (truth b) = boolean b
 payload_of (number n) = integer n
 payload_of (text s) = string s
 
-abbrev pub HasNoKey : List Step → Type 0
-HasNoKey [] = ⊤
-HasNoKey (key k ∷ path) = ⊥
-HasNoKey (place i ∷ path) = HasNoKey path
-HasNoKey (inside ∷ path) = HasNoKey path
-
--- a leaf put in a node's value, at a path through options and lists, is that leaf put in the document
+-- a leaf put in a node's value, at a path through options, lists and maps, is that leaf put in the document
 abbrev pub LeafPut : Type 0
 LeafPut =
     (v w : Value) (t : Tree) (path : List Step) (inner : List ℕ) (new : Leaf)
     → LeadsTo v path inner w
-    → HasNoKey path
+    → IsDocument t
     → Denotes v t
     → IsDone t path new
     → Denotes (put_at (inner ++ 0 ∷ []) (payload_of new) v) (change t path new)

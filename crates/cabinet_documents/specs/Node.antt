@@ -3,7 +3,7 @@ use Rattle.std.specs.Prelude.{◌≡◌, Some, true, false, List, [], ◌∷◌,
 use Rattle.std.specs.Int.{w8, w64, to_le_bytes, cast_unsigned}
 use Rattle.archive_forms_values.specs.ShapeLayout.Shape.{Shape, Shapes}
 use Rattle.archive_forms_values.specs.ShapeLayout.Shape.Alignment.{eight}
-use Rattle.archive_forms_values.specs.ShapeLayout.Shape.Shape.{number, truth, text, option, choice, box, vector, shared, named, tuple, array}
+use Rattle.archive_forms_values.specs.ShapeLayout.Shape.Shape.{number, truth, text, option, choice, box, vector, shared, tree, named, tuple, array}
 use Rattle.archive_forms_values.specs.ShapeLayout.Shape.Shapes.{no_shapes, more_shapes}
 use Rattle.archive_forms_values.specs.ShapeLayout.Shape.Pointee.{sized, str}
 use Rattle.archive_forms_values.specs.ShapeLayout.Content.{Names, shape_named}
@@ -28,7 +28,7 @@ payloads =
     (more_shapes (shared false str)
     (more_shapes (option (box (sized node_shape)))
     (more_shapes (vector node_shape)
-    (more_shapes absent
+    (more_shapes (tree 5 text node_shape)
     (more_shapes absent
     (more_shapes absent no_shapes))))))))
 

@@ -3,7 +3,7 @@ use Rattle.std.specs.Prelude.{◌≡◌, ℕ, ℤ, Bool, true, false, List, [], 
 use Rattle.std.specs.Int.{w64, to_le_bytes, cast_unsigned}
 use Rattle.archive_forms_values.specs.ShapeLayout.Bytes.{align_up}
 use Rattle.archive_forms_values.specs.ShapeLayout.Shape.{Shape, size_of, align_of}
-use Rattle.archive_forms_values.specs.ShapeLayout.Shape.Shape.{number, truth, text, option, choice, box, vector, shared as shared_shape}
+use Rattle.archive_forms_values.specs.ShapeLayout.Shape.Shape.{number, truth, text, option, choice, box, vector, tree, shared as shared_shape}
 use Rattle.archive_forms_values.specs.ShapeLayout.Shape.Pointee.{sized, str}
 use Rattle.archive_forms_values.specs.ShapeLayout.Value.{Value}
 use Rattle.archive_forms_values.specs.ShapeLayout.Value.Value.{integer, boolean, group}
@@ -22,9 +22,12 @@ use Rattle.archive_forms_values.specs.declared.reading.resolving.BoxResolver.{Bo
 use Rattle.archive_forms_values.specs.declared.reading.resolving.VecResolver.{VecResolver}
 use Rattle.archive_forms_values.specs.declared.text.resolving.StringResolver.{StringResolver}
 use Rattle.archive_forms_rc.specs.declared.resolving.RcResolver.{RcResolver}
+use Rattle.archive_btree_spelling.specs.Maps.{btree_spelling}
+use Rattle.archive_btree_maps.specs.declared.map.resolving.BTreeMapResolver.{BTreeMapResolver}
+use Rattle.cabinet_text_grammar.specs.Keys.{ordered, hashed, kept}
 use Rattle.cabinet_text_grammar.specs.TextKey.{text_key}
 use Rattle.cabinet_text_grammar.specs.Tree as document
-use Rattle.cabinet_text_grammar.specs.Tree.{Tree, Trees, leaf, shared, nothing, just, list, map, no_trees, more_trees, depth}
+use Rattle.cabinet_text_grammar.specs.Tree.{Tree, Trees, Pairs, leaf, shared, nothing, just, list, map, no_trees, more_trees, no_pairs, more_pairs, depth}
 use Rattle.cabinet_documents.specs.Node.{node_shape, payloads}
 use Rattle.cabinet_documents.specs.declared.spelling.resolver.NodeResolver.{NodeResolver}
 use Rattle.cabinet_documents.specs.declared.spelling.resolver.NodeResolver.TheVariants as resolver
@@ -59,6 +62,14 @@ abbrev pub trees_in : Trees → List Tree
 trees_in no_trees = []
 trees_in (more_trees t ts) = t ∷ trees_in ts
 
+-- a search tree of pairs, at most five in a node, where a node of a document is archived by `w`
+abbrev pub ordered_spelling : Spelling Tree NodeResolver → Spelling (List (List ℕ × Tree)) BTreeMapResolver
+ordered_spelling w = kept_as (λ o. record { pos = o }) (λ r. r.pos) (btree_spelling 5 text node_shape str_spelling w)
+
+abbrev pub pairs_in : Pairs → List (List ℕ × Tree)
+pairs_in no_pairs = []
+pairs_in (more_pairs k t ps) = (k, t) ∷ pairs_in ps
+
 -- ---- the resolvers of payloads in that of a node
 
 abbrev pub text_in : NodeResolver → StringResolver
@@ -76,6 +87,10 @@ maybe_in _ = None
 abbrev pub list_in : NodeResolver → VecResolver
 list_in (resolver.List r) = r
 list_in _ = record { pos = 0 }
+
+abbrev pub ordered_in : NodeResolver → BTreeMapResolver
+ordered_in (resolver.Ordered r) = r
+ordered_in _ = record { pos = None }
 
 -- ---- nodes
 
@@ -109,7 +124,9 @@ spelling_of w (shared s) = node_of 3 (shared_shape false str) shared_string_spel
 spelling_of w nothing = node_of 4 (option boxed_shape) (maybe_spelling w) resolver.Maybe maybe_in None
 spelling_of w (just t) = node_of 4 (option boxed_shape) (maybe_spelling w) resolver.Maybe maybe_in (Some t)
 spelling_of w (list ts) = node_of 5 (vector node_shape) (list_spelling w) resolver.List list_in (trees_in ts)
-spelling_of w (map kind ps) = refused
+spelling_of w (map ordered ps) = node_of 6 (tree 5 text node_shape) (ordered_spelling w) resolver.Ordered ordered_in (pairs_in ps)
+spelling_of w (map hashed ps) = refused
+spelling_of w (map kept ps) = refused
 
 -- the spelling of each document, by its case
 abbrev pub node_level : Spelling Tree NodeResolver → Spelling Tree NodeResolver

@@ -1,5 +1,5 @@
 //! Laws of the archives of documents, as functions without a body that proofs can cite.
-ghost use Rattle.cabinet_documents.specs.Laws.{DepthDecides, EditsInEitherOrder, OwnBytesApart, AcceptedStands, EditKeepsAccepted, EditKeepsImage, LeavesStand, AbsentHasNoValue, OneWalk, FiveIsAccepted, LeafPut, WalkStands, OneDocument, OneAuditFault, RefusedIsNotAccepted};
+ghost use Rattle.cabinet_documents.specs.Laws.{AuditDecides, EditsInEitherOrder, OwnBytesApart, AcceptedStands, EditKeepsAccepted, EditKeepsImage, LeavesStand, AbsentHasNoValue, OneWalk, FiveIsAccepted, LeafPut, WalkStands, OneDocument, OneAuditFault, RefusedIsNotAccepted};
 
 /// A part has at most one value and one walk.
 pub fn one_walk()
@@ -26,7 +26,7 @@ pub fn walk_stands()
     ensures { WalkStands }
 {}
 
-/// Putting a leaf in a node's value, at a path through options and lists, puts it in the document.
+/// Putting a leaf in a node's value, at a path through options, lists and maps, puts it in the document.
 pub fn leaf_put()
     ensures { LeafPut }
 {}
@@ -62,9 +62,9 @@ pub fn accepted_stands()
     ensures { AcceptedStands }
 {}
 
-/// The value at a root denotes a document: either the bytes are accepted as it, or its containers are nested too deep.
-pub fn depth_decides()
-    ensures { DepthDecides }
+/// The audit decides of bytes at whose root a node holds: they are accepted as a document, or its first fault is theirs.
+pub fn audit_decides()
+    ensures { AuditDecides }
 {}
 
 /// The own bytes of leaves at different paths do not overlap.

@@ -79,6 +79,11 @@ fn faults_are_written_as_lines(rt: HostRuntime) {
             1,
         ),
         (
+            Fault::Open(OpenRefusal::KeysNotAscending),
+            b"cab: open: KeysNotAscending\n".as_slice(),
+            1,
+        ),
+        (
             Fault::Run(run),
             b"cab: run: Write after 3 lines\n".as_slice(),
             1,
@@ -100,6 +105,11 @@ fn refusals_to_open_and_save_are_printed(rt: HostRuntime) {
         &rt,
         &OpenRefusal::TooDeep,
         "more than 64 containers lie in one another",
+    );
+    is_printed_as(
+        &rt,
+        &OpenRefusal::KeysNotAscending,
+        "the keys of an ordered map do not ascend",
     );
     is_printed_as(&rt, &OpenRefusal::OutOfMemory, "out of memory");
     is_printed_as(&rt, &SaveRefusal::Kind, "a kind of node has no layout yet");

@@ -14,8 +14,6 @@ mod limits;
 #[cfg(test)]
 mod opening;
 #[cfg(test)]
-mod reading_back;
-#[cfg(test)]
 mod refused;
 #[cfg(test)]
 mod saved;

@@ -1,4 +1,5 @@
 //! Tests of saving documents.
 
+pub mod ordered;
 mod saved;
 mod unsaved;

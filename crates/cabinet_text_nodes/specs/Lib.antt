@@ -1,5 +1,4 @@
 pub mod Answers
-pub mod Archived
 pub mod Code
 pub mod Faults
 pub mod Kinds

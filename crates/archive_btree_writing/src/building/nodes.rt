@@ -31,7 +31,7 @@ pub trait NodeStep<T, S: Writer, const E: usize> {
 
     ghost keys: { Spelling Self.Key Self.KeyResolver };
 
-    ghost values: { Spelling Self.Value Self.ValueResolver };
+    ghost values: { Self → Spelling Self.Value Self.ValueResolver };
 
     /// The condition under which the methods may be called for nodes that have this entry.
     ghost takes: { Self → T → Type 0 };
@@ -43,7 +43,7 @@ pub trait NodeStep<T, S: Writer, const E: usize> {
         requires taken { All (takes self.now) entries.now }
         requires room { S.failures serializer.old < 2 ^ 64 - 1 }
         requires state { HasState S.pos S.known serializer.old }
-        ensures { LaysNode E key_shape value_shape keys values S.Writer
+        ensures { LaysNode E key_shape value_shape keys (values self.now) S.Writer
             (record { kind = 0; roots = []; own = map parts entries.now })
             serializer.old serializer.new result };
 
@@ -62,7 +62,7 @@ pub trait NodeStep<T, S: Writer, const E: usize> {
         requires taken { All (takes self.now) entries.now }
         requires room { S.failures serializer.old < 2 ^ 64 - 1 }
         requires state { HasState S.pos S.known serializer.old }
-        ensures { LaysNode E key_shape value_shape keys values S.Writer
+        ensures { LaysNode E key_shape value_shape keys (values self.now) S.Writer
             (record { kind = 1; roots = lesser.now ++ greater ∷ []; own = map parts entries.now })
             serializer.old serializer.new result };
 }

@@ -29,7 +29,7 @@ fn build_leaf<T: Copy, S: Writer, N: NodeStep<T, S, E>, I: Iterator<Item = T>, c
         × IsFinite (I.remaining source.new.entries)) }
     ensures counts { OnOk result ((source.new.claimed ≡ source.old.claimed)
         × (source.new.taken ≡ source.old.taken + count)) }
-    ensures built { (above : ℕ) → Builds E N.key_shape N.value_shape N.keys N.values S.Writer
+    ensures built { (above : ℕ) → Builds E N.key_shape N.value_shape N.keys (N.values nodes.now) S.Writer
         (GivesAs N.parts I.next_gives) (suc above) count
         source.old.claimed source.old.taken source.old.entries source.new.entries serializer.old serializer.new result }
 {
@@ -68,7 +68,7 @@ fn build_tree<T: Copy, S: Writer, N: NodeStep<T, S, E>, I: Iterator<Item = T>, c
         × IsFinite (I.remaining source.new.entries)) }
     ensures counts { OnOk result ((source.new.claimed ≡ source.old.claimed)
         × (source.new.taken ≡ source.old.taken + (wide - 1 + last))) }
-    ensures built { Builds E N.key_shape N.value_shape N.keys N.values S.Writer
+    ensures built { Builds E N.key_shape N.value_shape N.keys (N.values nodes.now) S.Writer
         (GivesAs N.parts I.next_gives) (suc above) (wide - 1 + last)
         source.old.claimed source.old.taken source.old.entries source.new.entries serializer.old serializer.new result }
 {
@@ -106,7 +106,7 @@ fn build_inner<T: Copy, S: Writer, N: NodeStep<T, S, E>, I: Iterator<Item = T>, 
         × IsFinite (I.remaining source.new.entries)) }
     ensures counts { OnOk result ((source.new.claimed ≡ source.old.claimed)
         × (source.new.taken ≡ source.old.taken + (wide - 1 + last))) }
-    ensures built { Builds E N.key_shape N.value_shape N.keys N.values S.Writer
+    ensures built { Builds E N.key_shape N.value_shape N.keys (N.values nodes.now) S.Writer
         (GivesAs N.parts I.next_gives) (suc above) (wide - 1 + last)
         source.old.claimed source.old.taken source.old.entries source.new.entries serializer.old serializer.new result }
 {
@@ -176,7 +176,7 @@ fn build_lesser<T: Copy, S: Writer, N: NodeStep<T, S, E>, I: Iterator<Item = T>,
         × IsFinite (I.remaining source.new.entries)) }
     ensures counts { OnOk result ((source.new.claimed ≡ source.old.claimed)
         × (source.new.taken ≡ source.old.taken + (wide - 1 + last) + 1)) }
-    ensures built { BuildsLesser E N.key_shape N.value_shape N.keys N.values
+    ensures built { BuildsLesser E N.key_shape N.value_shape N.keys (N.values nodes.now)
         S.Writer N.parts I.next_gives (suc above) (wide - 1 + last)
         source.old.claimed source.old.taken source.old.entries source.new.entries serializer.old serializer.new result }
 {
@@ -229,7 +229,7 @@ pub fn build_tree_each<
     requires room { S.failures serializer.old < 2 ^ 64 - 1 }
     requires state { HasState S.pos S.known serializer.old }
     requires takes { TakesEach I.next_gives (N.takes nodes.now) entries }
-    ensures { BuildsClaimed E N.key_shape N.value_shape N.keys N.values S.Writer
+    ensures { BuildsClaimed E N.key_shape N.value_shape N.keys (N.values nodes.now) S.Writer
         (GivesAs N.parts I.next_gives) claimed entries serializer.old serializer.new result }
 {
     let (above, wide) = levels_above::<E>(claimed);

@@ -11,7 +11,7 @@ use crate::saving::layout::has_layout;
 use archive_core_serializing::Serializer;
 use archive_forms_writing::serialize_using;
 use archive_shape_writing::{Error, Writer};
-use cabinet_archived::TextShare;
+use cabinet_archived::{NodeIn, TextShare};
 use cabinet_text_nodes::{Document, Node};
 use std::alloc::Global;
 use thiserror::Error as Described;
@@ -19,7 +19,7 @@ use thiserror::Error as Described;
 /// Why a document was not saved.
 #[derive(Clone, Copy, Debug, PartialEq, Eq, Described)]
 pub enum SaveRefusal {
-    /// The document contains a map.
+    /// The document contains a hashed map or a map that keeps its order.
     #[error("a kind of node has no layout yet")]
     Kind,
     /// A text, a count or a position exceeds what archives can hold.
@@ -40,7 +40,14 @@ fn archive_in_memory(alloc: Global, root: &Node) -> Result<Vec<u8>, SaveRefusal>
         (IsUnmadeFor (node_tree root.now)) }
 {
     let mut serializer = Serializer::new(Vec::new(alloc), alloc, TextShare::new(alloc));
-    match serialize_using::<Node, Serializer<Vec<u8>, Global, TextShare>>(root, &mut serializer) {
+    let root = NodeIn {
+        wholes: &[],
+        node: root,
+    };
+    match serialize_using::<NodeIn<'_>, Serializer<Vec<u8>, Global, TextShare>>(
+        &root,
+        &mut serializer,
+    ) {
         Ok(_) => Ok(serializer.into_writer()),
         Err(e) => match e {
             Error::OutOfMemory => Err(SaveRefusal::OutOfMemory),

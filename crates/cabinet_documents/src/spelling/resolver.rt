@@ -1,4 +1,5 @@
 //! The resolver of a node, which holds the position of its data.
+use archive_btree_maps::BTreeMapResolver;
 use archive_forms_rc::RcResolver;
 use archive_forms_values::{BoxResolver, StringResolver, VecResolver};
 
@@ -15,4 +16,6 @@ pub enum NodeResolver {
     Maybe(Option<BoxResolver>),
     /// A list, whose data is its elements.
     List(VecResolver),
+    /// An ordered map, whose data is its search tree.
+    Ordered(BTreeMapResolver),
 }

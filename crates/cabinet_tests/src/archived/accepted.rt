@@ -3,6 +3,7 @@ use crate::archived::payloads::{
     count_in, is_nothing, kind_of, number_in, shared_at, shared_in, truth_in,
 };
 use crate::archived::root::root_of;
+use crate::saving::ordered::COFFEE_AND_TEA;
 use std::test::Fail;
 
 /// The archive of the number 5.
@@ -39,6 +40,7 @@ fn payloads_stand_at_their_alignments(rt: HostRuntime) {
     assert!(rt; kind_of(alloc, &nothing) == Ok(("option", 4)));
     assert!(rt; kind_of(alloc, &SOME_FIVE) == Ok(("option", 28)));
     assert!(rt; kind_of(alloc, &SEVEN_AND_NINETEEN) == Ok(("list", 52)));
+    assert!(rt; kind_of(alloc, &COFFEE_AND_TEA) == Ok(("ordered", 180)));
 }
 
 #[test]

@@ -20,6 +20,7 @@ fn place_of(kind: ArchivedKind<'_>) -> (&'static str, usize) {
         ArchivedKind::Shared(payload) => ("shared", payload.pos()),
         ArchivedKind::Maybe(payload) => ("option", payload.pos()),
         ArchivedKind::List(payload) => ("list", payload.pos()),
+        ArchivedKind::Ordered(payload) => ("ordered", payload.pos()),
     }
 }
 

@@ -3,9 +3,8 @@ ghost use Rattle.cabinet_text_nodes.specs.Lines.{IsQuestion};
 ghost use Rattle.cabinet_text_nodes.specs.View.{line_of};
 
 use crate::opening::check::TWO_SHARED;
-use archive_core_validation::access;
-use cabinet_archived::ArchivedNode;
-use cabinet_archives::{ask, check, set};
+use cabinet::open;
+use cabinet_archives::{check, set};
 use cabinet_text_nodes::{Asked, Leaf, Line, SetAnswer, Step};
 use std::alloc::{AllocError, Global};
 use std::test::Fail;
@@ -24,11 +23,11 @@ fn path_to(alloc: Global, places: &[u64]) -> Result<Vec<Step>, AllocError> {
 }
 
 /// Writes the answer to a question about the archive, and returns how the question was answered.
-fn asked(alloc: Global, bytes: &[u8], line: &Line, answers: &mut Vec<u8>) -> Result<Asked, Fail>
+fn asked(alloc: Global, bytes: &mut [u8], line: &Line, answers: &mut Vec<u8>) -> Result<Asked, Fail>
     requires { IsQuestion (line_of line.now) }
 {
-    let root = access::<ArchivedNode>(alloc, bytes)?;
-    Ok(ask(root, line, answers)?)
+    let opened = open(alloc, bytes).map_err(|_| "refused")?;
+    Ok(opened.ask(line, answers)?)
 }
 
 /// Sets the leaf at a place in the archive.
@@ -50,12 +49,13 @@ fn shared_texts_are_asked_for(rt: HostRuntime) -> Result<(), Fail> {
         (Line::Get(path_to(alloc, &[1, 0])?), Asked::Missing),
         (Line::Keys(path_to(alloc, &[0])?), Asked::Wrong),
     ];
+    let mut bytes = TWO_SHARED;
     let mut answers = Vec::new(alloc);
     for (line, answer) in questions {
         if !line.is_question() {
             return Err(Fail::from("no question"));
         }
-        assert!(rt; asked(alloc, &TWO_SHARED, &line, &mut answers)? == answer);
+        assert!(rt; asked(alloc, &mut bytes, &line, &mut answers)? == answer);
     }
     let expected = b"list 2\nshared 'hello\\sworld!\nshared 'hello\\sworld!\nmissing\nwrong\n";
     assert!(rt; answers.as_slice() == expected.as_slice());

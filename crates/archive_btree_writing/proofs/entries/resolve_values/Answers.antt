@@ -32,12 +32,12 @@ returns-in_err-resolve_slot g c = λ st made.
     (parts_refused _ _ _ _ _ _ _ _ c.args.entries.now c.args.kept.now c.args.buffer.now c.args.start c.args.pos c.index-entries-i.result c.loop-i-test.true c.index-entries-i.is c.requires.room c.requires.stands c.loop-i.invariant c.index-kept-i.result st made e c.in_err-resolve_slot.ensures.0)
 
 pub overflow_add-offset : goal.overflow_add-offset
-overflow_add-offset g c = omega (arith, next_ends _ _ _ _ _ _ _ _ c.args.entries.now c.args.kept.now c.args.buffer.now c.args.start c.args.pos c.index-entries-i.result c.loop-i-test.true c.index-entries-i.is c.requires.room c.requires.stands c.loop-i.invariant, c.requires.stands, c.SIZE-size.ensures, g.met.V.Archived.Portable.sized)
+overflow_add-offset g c = omega (arith, next_ends _ _ _ _ _ _ _ _ c.args.entries.now c.args.kept.now c.args.buffer.now c.args.start c.args.pos c.index-entries-i.result c.loop-i-test.true c.index-entries-i.is c.requires.room c.requires.stands c.loop-i.invariant, c.requires.stands, c.SIZE-size.ensures, g.met.A.Archived.Portable.sized)
 
 pub loop-i-preserved : goal.loop-i-preserved
 loop-i-preserved g c =
     parts_next _ _ _ _ _ _ _ _ c.args.entries.now c.args.kept.now c.args.buffer.now c.args.start c.args.pos c.index-entries-i.result c.loop-i-test.true c.index-entries-i.is c.requires.room c.requires.stands c.loop-i.invariant c.index-kept-i.result c.SIZE-size.result c.resolve_slot.new.buffer
-    (c.SIZE-size.ensures ∙ g.met.V.Archived.Portable.sized) c.in_ok-resolve_slot.ensures.0 c.in_ok-resolve_slot.ensures.1
+    (c.SIZE-size.ensures ∙ g.met.A.Archived.Portable.sized) c.in_ok-resolve_slot.ensures.0 c.in_ok-resolve_slot.ensures.1
 
 pub returns : goal.returns
 returns g c = λ st made. parts_all _ _ _ _ _ _ _ _ c.args.entries.now c.args.kept.now c.args.buffer.now c.args.start c.args.pos st made c.loop-i-test.false c.loop-i.invariant

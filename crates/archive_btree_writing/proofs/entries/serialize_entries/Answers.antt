@@ -9,7 +9,7 @@ use Rattle.archive_btree_writing.proofs.entries.serialize_entries.Goals as goal
 pub returns-in-Err : goal.returns-in-Err
 returns-in-Err g c = λ st at.
     let some : 0 < length c.args.entries.now = c.requires.some in
-    let w = borrowed_entry g.row.E g.K.Archived.Portable.shape g.V.Archived.Portable.shape g.K.Archive.spelling g.V.Archive.spelling in
+    let w = borrowed_entry g.row.E g.K.Archived.Portable.shape g.A.Archived.Portable.shape g.K.Archive.spelling (g.A.ArchiveWith.spelling c.args.with.now) in
     let e = next_of c.args.entries.now 0 _ some c.index-entries-0.is in
     let s : WriterMembers g.row.S.Denot = record { known = g.S.Registry.known; pos = g.S.Positional.pos; OBSERVABLE = g.S.Writer.OBSERVABLE; COUNTS = g.S.Writer.COUNTS; contents = g.S.Writer.contents; failures = g.S.Writer.failures; last_error = g.S.Writer.last_error } in
     first_stopped w s c.args.entries.now _ st _ _ _ e at (c.in-Err.ensures st at)
@@ -18,14 +18,14 @@ pub loop-i-init : goal.loop-i-init
 loop-i-init g c =
     let some : 0 < length c.args.entries.now = c.requires.some in
     let more : 0 < g.row.E = omega (arith, some, c.requires.few) in
-    let w = borrowed_entry g.row.E g.K.Archived.Portable.shape g.V.Archived.Portable.shape g.K.Archive.spelling g.V.Archive.spelling in
+    let w = borrowed_entry g.row.E g.K.Archived.Portable.shape g.A.Archived.Portable.shape g.K.Archive.spelling (g.A.ArchiveWith.spelling c.args.with.now) in
     let e = next_of c.args.entries.now 0 _ some c.index-entries-0.is in
     let s : WriterMembers g.row.S.Denot = record { known = g.S.Registry.known; pos = g.S.Positional.pos; OBSERVABLE = g.S.Writer.OBSERVABLE; COUNTS = g.S.Writer.COUNTS; contents = g.S.Writer.contents; failures = g.S.Writer.failures; last_error = g.S.Writer.last_error } in
     record {
       whole = length-replicate g.row.E c.in-Ok.done;
       within = some;
       reached = λ st at.
-          let P : List (g.row.K-Resolver.Denot × g.row.V-Resolver.Denot) → Type 0 = λ l. Reached w s c.args.entries.now c.args.serializer.now st 1 c.serialize_entry.new.serializer l in
+          let P : List (g.row.K-Resolver.Denot × g.row.A-Resolver.Denot) → Type 0 = λ l. Reached w s c.args.entries.now c.args.serializer.now st 1 c.serialize_entry.new.serializer l in
           let l = c.in-Ok.ensures st at in
           let z = reached_first w s c.args.entries.now _ st _ _ e at l.0 l.1.1 l.1.2 in
           subst P (sym (take_one g.row.E c.in-Ok.done more ∙ ap (λ q. q ∷ []) l.1.0)) z;
@@ -49,7 +49,7 @@ pub loop-i-preserved : goal.loop-i-preserved
 loop-i-preserved g c =
     let less : c.loop-i.i < length c.args.entries.now = c.loop-i-test.true in
     let inside : c.loop-i.i < length c.loop-i.kept = omega (arith, c.loop-i-test.true, c.loop-i.invariant.whole, c.requires.few) in
-    let w = borrowed_entry g.row.E g.K.Archived.Portable.shape g.V.Archived.Portable.shape g.K.Archive.spelling g.V.Archive.spelling in
+    let w = borrowed_entry g.row.E g.K.Archived.Portable.shape g.A.Archived.Portable.shape g.K.Archive.spelling (g.A.ArchiveWith.spelling c.args.with.now) in
     let s : WriterMembers g.row.S.Denot = record { known = g.S.Registry.known; pos = g.S.Positional.pos; OBSERVABLE = g.S.Writer.OBSERVABLE; COUNTS = g.S.Writer.COUNTS; contents = g.S.Writer.contents; failures = g.S.Writer.failures; last_error = g.S.Writer.last_error } in
     let e = next_of c.args.entries.now c.loop-i.i _ less c.index-entries-i.is in
     let before = take c.loop-i.i c.loop-i.kept in
@@ -57,7 +57,7 @@ loop-i-preserved g c =
       whole = length-set _ _ _ ∙ c.loop-i.invariant.whole;
       within = omega (arith, less);
       reached = λ st at.
-          let P : List (g.row.K-Resolver.Denot × g.row.V-Resolver.Denot) → Type 0 = λ l. Reached w s c.args.entries.now c.args.serializer.now st (c.loop-i.i + 1) c.serialize_entry-in-loop-i.new.serializer l in
+          let P : List (g.row.K-Resolver.Denot × g.row.A-Resolver.Denot) → Type 0 = λ l. Reached w s c.args.entries.now c.args.serializer.now st (c.loop-i.i + 1) c.serialize_entry-in-loop-i.new.serializer l in
           let r = c.loop-i.invariant.reached st at in
           let l = c.in-Ok-serialize_entry.ensures r.left r.is_at in
           let z = reached_next _ _ _ _ _ c.loop-i.i _ _ _ _ e r l.0 l.1.1 l.1.2 in

@@ -12,6 +12,6 @@ invariant-loop-i g l = record {
   -- from each state that the serializer may have been in
   reached :
       (st : State) → IsAt g.S.Positional.pos g.S.Registry.known l.fn.serializer st
-      → Reached (borrowed_entry g.row.E g.K.Archived.Portable.shape g.V.Archived.Portable.shape g.K.Archive.spelling g.V.Archive.spelling)
+      → Reached (borrowed_entry g.row.E g.K.Archived.Portable.shape g.A.Archived.Portable.shape g.K.Archive.spelling (g.A.ArchiveWith.spelling l.with))
       (record { known = g.S.Registry.known; pos = g.S.Positional.pos; OBSERVABLE = g.S.Writer.OBSERVABLE; COUNTS = g.S.Writer.COUNTS; contents = g.S.Writer.contents; failures = g.S.Writer.failures; last_error = g.S.Writer.last_error }) l.entries l.fn.serializer st l.i l.serializer (take l.i l.kept);
 }

@@ -8,21 +8,21 @@ use Rattle.archive_btree_writing.proofs.nodes.write_behind.Goals as goal
 pub align-requires-clause-positive : goal.align-requires-clause-positive
 align-requires-clause-positive g c =
     let k = g.K.Archived.Portable.shape in
-    let v = g.V.Archived.Portable.shape in
-    (node_aligns k v _ _ c.of-layout.result.link_align g.met.K.Archived.Portable.aligned g.met.V.Archived.Portable.aligned g.met.K.Archived.Portable.aligns.1 g.met.V.Archived.Portable.aligns.1 c.of-layout.ensures.parts.link_align).0
+    let v = g.A.Archived.Portable.shape in
+    (node_aligns k v _ _ c.of-layout.result.link_align g.met.K.Archived.Portable.aligned g.met.A.Archived.Portable.aligned g.met.K.Archived.Portable.aligns.1 g.met.A.Archived.Portable.aligns.1 c.of-layout.ensures.parts.link_align).0
 
 pub align-requires-clause-small : goal.align-requires-clause-small
 align-requires-clause-small g c =
     let k = g.K.Archived.Portable.shape in
-    let v = g.V.Archived.Portable.shape in
-    (node_aligns k v _ _ c.of-layout.result.link_align g.met.K.Archived.Portable.aligned g.met.V.Archived.Portable.aligned g.met.K.Archived.Portable.aligns.1 g.met.V.Archived.Portable.aligns.1 c.of-layout.ensures.parts.link_align).1
+    let v = g.A.Archived.Portable.shape in
+    (node_aligns k v _ _ c.of-layout.result.link_align g.met.K.Archived.Portable.aligned g.met.A.Archived.Portable.aligned g.met.K.Archived.Portable.aligns.1 g.met.A.Archived.Portable.aligns.1 c.of-layout.ensures.parts.link_align).1
 
 pub returns-in_err-to : goal.returns-in_err-to
 returns-in_err-to g c = λ st made.
     let k = g.K.Archived.Portable.shape in
-    let v = g.V.Archived.Portable.shape in
+    let v = g.A.Archived.Portable.shape in
     let keys = borrowed g.K.Archive.spelling in
-    let vals = borrowed g.V.Archive.spelling in
+    let vals = borrowed (g.A.ArchiveWith.spelling c.args.with.now) in
     let n = node_of c.args.children c.args.entries.now in
     let old = c.args.serializer.now in
     let s : WriterMembers g.row.S.Denot = record { known = g.S.Registry.known; pos = g.S.Positional.pos; OBSERVABLE = g.S.Writer.OBSERVABLE; COUNTS = g.S.Writer.COUNTS; contents = g.S.Writer.contents; failures = g.S.Writer.failures; last_error = g.S.Writer.last_error } in
@@ -32,9 +32,9 @@ returns-in_err-to g c = λ st made.
 pub returns-in_err-check_place : goal.returns-in_err-check_place
 returns-in_err-check_place g c = λ st made.
     let k = g.K.Archived.Portable.shape in
-    let v = g.V.Archived.Portable.shape in
+    let v = g.A.Archived.Portable.shape in
     let keys = borrowed g.K.Archive.spelling in
-    let vals = borrowed g.V.Archive.spelling in
+    let vals = borrowed (g.A.ArchiveWith.spelling c.args.with.now) in
     let n = node_of c.args.children c.args.entries.now in
     let old = c.args.serializer.now in
     let s : WriterMembers g.row.S.Denot = record { known = g.S.Registry.known; pos = g.S.Positional.pos; OBSERVABLE = g.S.Writer.OBSERVABLE; COUNTS = g.S.Writer.COUNTS; contents = g.S.Writer.contents; failures = g.S.Writer.failures; last_error = g.S.Writer.last_error } in
@@ -48,9 +48,9 @@ write_own-requires-clause-room g c =
 pub write_own-requires-clause-stands : goal.write_own-requires-clause-stands
 write_own-requires-clause-stands g c =
     let k = g.K.Archived.Portable.shape in
-    let v = g.V.Archived.Portable.shape in
+    let v = g.A.Archived.Portable.shape in
     let keys = borrowed g.K.Archive.spelling in
-    let vals = borrowed g.V.Archive.spelling in
+    let vals = borrowed (g.A.ArchiveWith.spelling c.args.with.now) in
     let n = node_of c.args.children c.args.entries.now in
     let old = c.args.serializer.now in
     let s : WriterMembers g.row.S.Denot = record { known = g.S.Registry.known; pos = g.S.Positional.pos; OBSERVABLE = g.S.Writer.OBSERVABLE; COUNTS = g.S.Writer.COUNTS; contents = g.S.Writer.contents; failures = g.S.Writer.failures; last_error = g.S.Writer.last_error } in
@@ -60,9 +60,9 @@ write_own-requires-clause-stands g c =
 pub returns-in_err-write_own : goal.returns-in_err-write_own
 returns-in_err-write_own g c = λ st made.
     let k = g.K.Archived.Portable.shape in
-    let v = g.V.Archived.Portable.shape in
+    let v = g.A.Archived.Portable.shape in
     let keys = borrowed g.K.Archive.spelling in
-    let vals = borrowed g.V.Archive.spelling in
+    let vals = borrowed (g.A.ArchiveWith.spelling c.args.with.now) in
     let n = node_of c.args.children c.args.entries.now in
     let old = c.args.serializer.now in
     let s : WriterMembers g.row.S.Denot = record { known = g.S.Registry.known; pos = g.S.Positional.pos; OBSERVABLE = g.S.Writer.OBSERVABLE; COUNTS = g.S.Writer.COUNTS; contents = g.S.Writer.contents; failures = g.S.Writer.failures; last_error = g.S.Writer.last_error } in
@@ -72,9 +72,9 @@ returns-in_err-write_own g c = λ st made.
 pub returns : goal.returns
 returns g c = λ st made.
     let k = g.K.Archived.Portable.shape in
-    let v = g.V.Archived.Portable.shape in
+    let v = g.A.Archived.Portable.shape in
     let keys = borrowed g.K.Archive.spelling in
-    let vals = borrowed g.V.Archive.spelling in
+    let vals = borrowed (g.A.ArchiveWith.spelling c.args.with.now) in
     let n = node_of c.args.children c.args.entries.now in
     let old = c.args.serializer.now in
     let s : WriterMembers g.row.S.Denot = record { known = g.S.Registry.known; pos = g.S.Positional.pos; OBSERVABLE = g.S.Writer.OBSERVABLE; COUNTS = g.S.Writer.COUNTS; contents = g.S.Writer.contents; failures = g.S.Writer.failures; last_error = g.S.Writer.last_error } in

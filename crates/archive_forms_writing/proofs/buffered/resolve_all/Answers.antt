@@ -7,27 +7,27 @@ use Rattle.archive_forms_writing.proofs.buffered.resolve_all.Goals as goal
 
 pub resolve_at-requires-clause-blank : goal.resolve_at-requires-clause-blank
 resolve_at-requires-clause-blank g c =
-    let size = size_of g.T.Archived.Portable.shape in
+    let size = size_of g.A.Archived.Portable.shape in
     let within = next_within c.loop-i.i (length c.args.items.now) size c.loop-i-test.true in
     let roomy : c.loop-i.filled + size ≤ length c.loop-i.buffer = omega (arith, within, c.loop-i.invariant.counted, c.loop-i.invariant.same, c.requires.room) in
     blank_there c.loop-i.buffer c.loop-i.filled size roomy c.loop-i.invariant.filling.blank
 
 pub resolve_at-requires-clause-room : goal.resolve_at-requires-clause-room
 resolve_at-requires-clause-room g c =
-    let size = size_of g.T.Archived.Portable.shape in
+    let size = size_of g.A.Archived.Portable.shape in
     let within = next_within c.loop-i.i (length c.args.items.now) size c.loop-i-test.true in
     omega (arith, within, c.loop-i.invariant.counted, c.loop-i.invariant.same, c.requires.room)
 
 pub resolve_at-requires-clause-stands : goal.resolve_at-requires-clause-stands
 resolve_at-requires-clause-stands g c =
-    let size = size_of g.T.Archived.Portable.shape in
+    let size = size_of g.A.Archived.Portable.shape in
     let within = next_within c.loop-i.i (length c.args.items.now) size c.loop-i-test.true in
     omega (arith, within, c.loop-i.invariant.counted, c.requires.stands)
 
 pub resolve_at-requires-clause-made : goal.resolve_at-requires-clause-made
 resolve_at-requires-clause-made g c =
     let made = c.requires.made in
-    let n : length c.args.kept.now ≡ length c.args.items.now = ap length made.1 ∙ length-resolvers g.T.Archive.spelling c.args.items.now made.0 in
+    let n : length c.args.kept.now ≡ length c.args.items.now = ap length made.1 ∙ length-resolvers (g.A.ArchiveWith.spelling c.args.with.now) c.args.items.now made.0 in
     let e = next_of _ _ _ c.loop-i-test.true c.index-items-i.is in
     let f = next_of c.args.kept.now c.loop-i.i _ (omega (arith, c.loop-i-test.true, n)) c.index-kept-i.is in
     let h = c.loop-i.invariant.filling.placed made.0 made.1 in
@@ -36,11 +36,11 @@ resolve_at-requires-clause-made g c =
 pub offset_bounds-kept-i : goal.offset_bounds-kept-i
 offset_bounds-kept-i g c =
     let made = c.requires.made in
-    let n : length c.args.kept.now ≡ length c.args.items.now = ap length made.1 ∙ length-resolvers g.T.Archive.spelling c.args.items.now made.0 in omega (arith, c.loop-i-test.true, n)
+    let n : length c.args.kept.now ≡ length c.args.items.now = ap length made.1 ∙ length-resolvers (g.A.ArchiveWith.spelling c.args.with.now) c.args.items.now made.0 in omega (arith, c.loop-i-test.true, n)
 
 pub returns-in-Err : goal.returns-in-Err
 returns-in-Err g c = λ st is.
-    let n : length c.args.kept.now ≡ length c.args.items.now = ap length is ∙ length-resolvers g.T.Archive.spelling c.args.items.now st in
+    let n : length c.args.kept.now ≡ length c.args.items.now = ap length is ∙ length-resolvers (g.A.ArchiveWith.spelling c.args.with.now) c.args.items.now st in
     let e = next_of _ _ _ c.loop-i-test.true c.index-items-i.is in
     let f = next_of c.args.kept.now c.loop-i.i _ (omega (arith, c.loop-i-test.true, n)) c.index-kept-i.is in
     buffered_refuses _ _ _ _ _ _ _ c.loop-i.i _ c.loop-i.filled _ _ _ _ e f (c.loop-i.invariant.filling.placed st is) c.in-Err.ensures
@@ -48,16 +48,16 @@ returns-in-Err g c = λ st is.
 pub loop-i-preserved : goal.loop-i-preserved
 loop-i-preserved g c =
     let made = c.requires.made in
-    let n : length c.args.kept.now ≡ length c.args.items.now = ap length made.1 ∙ length-resolvers g.T.Archive.spelling c.args.items.now made.0 in
+    let n : length c.args.kept.now ≡ length c.args.items.now = ap length made.1 ∙ length-resolvers (g.A.ArchiveWith.spelling c.args.with.now) c.args.items.now made.0 in
     let e = next_of _ _ _ c.loop-i-test.true c.index-items-i.is in
     let f = next_of c.args.kept.now c.loop-i.i _ (omega (arith, c.loop-i-test.true, n)) c.index-kept-i.is in
     let fit = c.in_default.ensures.0 in
-    let sh = g.T.Archived.Portable.shape in
+    let sh = g.A.Archived.Portable.shape in
     let x = c.index-items-i.result in
     let k = c.index-kept-i.result in
     let at = c.loop-i.filled in
-    let size : c.SIZE-size.result ≡ size_of sh = omega (arith, fit.1, c.SIZE-size.ensures, g.met.T.Archived.Portable.sized) in
-    let own = (g.met.T.Archive.spells (first_fit (λ _. 0)) x).sized k (c.args.pos + at) fit.0 in
+    let size : c.SIZE-size.result ≡ size_of sh = omega (arith, fit.1, c.SIZE-size.ensures, g.met.A.Archived.Portable.sized) in
+    let own = (g.met.A.ArchiveWith.spells c.args.with.now (first_fit (λ _. 0)) x).sized k (c.args.pos + at) fit.0 in
     let within = next_within c.loop-i.i (length c.args.items.now) (size_of sh) c.loop-i-test.true in
     let next = filling_next _ _ _ _ _ _ c.loop-i.i _ at c.SIZE-size.result c.loop-i.buffer c.resolve_at.new.buffer x k e f (omega (arith, within, size, c.loop-i.invariant.counted, c.loop-i.invariant.same, c.requires.room)) c.loop-i.invariant.filling (size ∙ sym own) c.in_default.ensures.1 fit in
     record { same = search rules; counted = omega (arith, size, c.loop-i.invariant.counted); filling = next }

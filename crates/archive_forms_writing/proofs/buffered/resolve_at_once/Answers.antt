@@ -6,8 +6,8 @@ use Rattle.archive_forms_writing.proofs.buffered.resolve_at_once.Goals as goal
 
 pub returns-in-Ok : goal.returns-in-Ok
 returns-in-Ok g c = λ st made.
-    let w = g.T.Archive.spelling in
-    let sh = g.T.Archived.Portable.shape in
+    let w = (g.A.ArchiveWith.spelling c.args.with.now) in
+    let sh = g.A.Archived.Portable.shape in
     let xs = c.args.items.now in
     let s : WriterMembers g.row.W.Denot = record { known = g.W.Registry.known; pos = g.W.Positional.pos; OBSERVABLE = g.W.Writer.OBSERVABLE; COUNTS = g.W.Writer.COUNTS; contents = g.W.Writer.contents; failures = g.W.Writer.failures; last_error = g.W.Writer.last_error } in
     let pos = g.W.Positional.pos c.args.writer.now in
@@ -18,8 +18,8 @@ returns-in-Ok g c = λ st made.
 
 pub returns-in-Err : goal.returns-in-Err
 returns-in-Err g c = λ st made.
-    let w = g.T.Archive.spelling in
-    let sh = g.T.Archived.Portable.shape in
+    let w = (g.A.ArchiveWith.spelling c.args.with.now) in
+    let sh = g.A.Archived.Portable.shape in
     let xs = c.args.items.now in
     let s : WriterMembers g.row.W.Denot = record { known = g.W.Registry.known; pos = g.W.Positional.pos; OBSERVABLE = g.W.Writer.OBSERVABLE; COUNTS = g.W.Writer.COUNTS; contents = g.W.Writer.contents; failures = g.W.Writer.failures; last_error = g.W.Writer.last_error } in
     let pos = g.W.Positional.pos c.args.writer.now in

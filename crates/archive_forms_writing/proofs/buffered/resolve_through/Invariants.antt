@@ -9,5 +9,5 @@ invariant-loop-i g l = record {
   within : l.filled ≤ l.room;
   roomy : l.room ≤ length l.fn.buffer;
   ends : l.base + l.room < 2 ^ 64;
-  filling : Filling g.T.Archive.spelling g.T.Archived.Portable.shape (record { known = g.W.Registry.known; pos = g.W.Positional.pos; OBSERVABLE = g.W.Writer.OBSERVABLE; COUNTS = g.W.Writer.COUNTS; contents = g.W.Writer.contents; failures = g.W.Writer.failures; last_error = g.W.Writer.last_error }) l.items l.kept l.fn.writer l.i l.writer l.filled l.buffer;
+  filling : Filling (g.A.ArchiveWith.spelling l.with) g.A.Archived.Portable.shape (record { known = g.W.Registry.known; pos = g.W.Positional.pos; OBSERVABLE = g.W.Writer.OBSERVABLE; COUNTS = g.W.Writer.COUNTS; contents = g.W.Writer.contents; failures = g.W.Writer.failures; last_error = g.W.Writer.last_error }) l.items l.kept l.fn.writer l.i l.writer l.filled l.buffer;
 }

@@ -5,22 +5,22 @@ use Rattle.archive_forms_writing.proofs.elements.resolve_behind.Goals as goal
 
 pub returns-in-Err : goal.returns-in-Err
 returns-in-Err g c = λ st made.
-    let w = g.T.Archive.spelling in
-    let sh = g.T.Archived.Portable.shape in
+    let w = (g.A.ArchiveWith.spelling c.args.with.now) in
+    let sh = g.A.Archived.Portable.shape in
     let s : WriterMembers g.row.S.Denot = record { known = g.S.Registry.known; pos = g.S.Positional.pos; OBSERVABLE = g.S.Writer.OBSERVABLE; COUNTS = g.S.Writer.COUNTS; contents = g.S.Writer.contents; failures = g.S.Writer.failures; last_error = g.S.Writer.last_error } in
     let xs = c.args.items.now in
     let old = c.args.serializer.now in
-    let aligned = c.ALIGN.ensures ∙ g.met.T.Archived.Portable.aligned in
+    let aligned = c.ALIGN.ensures ∙ g.met.A.Archived.Portable.aligned in
     behind_failed w sh s xs st old _ _ _ aligned c.in-Err.ensures.writes
 
 pub returns-then-to-gt-LAST_POSITION : goal.returns-then-to-gt-LAST_POSITION
 returns-then-to-gt-LAST_POSITION g c = λ st made.
-    let w = g.T.Archive.spelling in
-    let sh = g.T.Archived.Portable.shape in
+    let w = (g.A.ArchiveWith.spelling c.args.with.now) in
+    let sh = g.A.Archived.Portable.shape in
     let s : WriterMembers g.row.S.Denot = record { known = g.S.Registry.known; pos = g.S.Positional.pos; OBSERVABLE = g.S.Writer.OBSERVABLE; COUNTS = g.S.Writer.COUNTS; contents = g.S.Writer.contents; failures = g.S.Writer.failures; last_error = g.S.Writer.last_error } in
     let xs = c.args.items.now in
     let old = c.args.serializer.now in
-    let aligned = c.ALIGN.ensures ∙ g.met.T.Archived.Portable.aligned in
+    let aligned = c.ALIGN.ensures ∙ g.met.A.Archived.Portable.aligned in
     behind_far w sh s xs st old _ _ c.in-Ok.to aligned c.in-Ok.ensures.aligned (omega (arith, c.if-to-gt-LAST_POSITION.true)) c.in-Ok.ensures.writes
 
 pub resolve_items-requires-clause-room : goal.resolve_items-requires-clause-room
@@ -28,21 +28,21 @@ resolve_items-requires-clause-room g c = omega (arith, c.in-Ok.ensures.writes.is
 
 pub returns-in-Ok-resolve_items : goal.returns-in-Ok-resolve_items
 returns-in-Ok-resolve_items g c = λ st made.
-    let w = g.T.Archive.spelling in
-    let sh = g.T.Archived.Portable.shape in
+    let w = (g.A.ArchiveWith.spelling c.args.with.now) in
+    let sh = g.A.Archived.Portable.shape in
     let s : WriterMembers g.row.S.Denot = record { known = g.S.Registry.known; pos = g.S.Positional.pos; OBSERVABLE = g.S.Writer.OBSERVABLE; COUNTS = g.S.Writer.COUNTS; contents = g.S.Writer.contents; failures = g.S.Writer.failures; last_error = g.S.Writer.last_error } in
     let xs = c.args.items.now in
     let old = c.args.serializer.now in
-    let aligned = c.ALIGN.ensures ∙ g.met.T.Archived.Portable.aligned in
+    let aligned = c.ALIGN.ensures ∙ g.met.A.Archived.Portable.aligned in
     let own = c.in-Ok-resolve_items.ensures st made in
     behind_written w sh s xs st old _ _ aligned c.in-Ok.ensures.writes _ c.in-Ok.to c.in-Ok.ensures.aligned (omega (arith, c.if-to-gt-LAST_POSITION.false)) own.0 own.1
 
 pub returns-in-Err-resolve_items : goal.returns-in-Err-resolve_items
 returns-in-Err-resolve_items g c = λ st made.
-    let w = g.T.Archive.spelling in
-    let sh = g.T.Archived.Portable.shape in
+    let w = (g.A.ArchiveWith.spelling c.args.with.now) in
+    let sh = g.A.Archived.Portable.shape in
     let s : WriterMembers g.row.S.Denot = record { known = g.S.Registry.known; pos = g.S.Positional.pos; OBSERVABLE = g.S.Writer.OBSERVABLE; COUNTS = g.S.Writer.COUNTS; contents = g.S.Writer.contents; failures = g.S.Writer.failures; last_error = g.S.Writer.last_error } in
     let xs = c.args.items.now in
     let old = c.args.serializer.now in
-    let aligned = c.ALIGN.ensures ∙ g.met.T.Archived.Portable.aligned in
+    let aligned = c.ALIGN.ensures ∙ g.met.A.Archived.Portable.aligned in
     behind_stopped w sh s xs st old _ _ aligned c.in-Ok.ensures.writes _ _ (c.in-Err-resolve_items.ensures st made)

@@ -10,7 +10,7 @@ pub loop-item-init : goal.loop-item-init
 loop-item-init g c = record {
   alike = refl;
   reached = λ st at.
-      let P : List g.row.T-Resolver.Denot → Type 0 = λ l. Reached g.T.Archive.spelling (record { known = g.S.Registry.known; pos = g.S.Positional.pos; OBSERVABLE = g.S.Writer.OBSERVABLE; COUNTS = g.S.Writer.COUNTS; contents = g.S.Writer.contents; failures = g.S.Writer.failures; last_error = g.S.Writer.last_error }) c.args.items.now c.args.serializer.now st 0 c.args.serializer.now l in
+      let P : List g.row.A-Resolver.Denot → Type 0 = λ l. Reached (g.A.ArchiveWith.spelling c.args.with.now) (record { known = g.S.Registry.known; pos = g.S.Positional.pos; OBSERVABLE = g.S.Writer.OBSERVABLE; COUNTS = g.S.Writer.COUNTS; contents = g.S.Writer.contents; failures = g.S.Writer.failures; last_error = g.S.Writer.last_error }) c.args.items.now c.args.serializer.now st 0 c.args.serializer.now l in
       subst P (sym c.in-Ok.ensures.items) (reached_none _ _ _ _ _ at);
 }
 
@@ -40,7 +40,7 @@ loop-item-preserved g c =
     record {
       alike = refl;
       reached = λ st at.
-          let P : List g.row.T-Resolver.Denot → Type 0 = λ l. Reached g.T.Archive.spelling (record { known = g.S.Registry.known; pos = g.S.Positional.pos; OBSERVABLE = g.S.Writer.OBSERVABLE; COUNTS = g.S.Writer.COUNTS; contents = g.S.Writer.contents; failures = g.S.Writer.failures; last_error = g.S.Writer.last_error }) c.args.items.now c.args.serializer.now st (c.loop-item.item-index + 1) c.step.new.arg3 l in
+          let P : List g.row.A-Resolver.Denot → Type 0 = λ l. Reached (g.A.ArchiveWith.spelling c.args.with.now) (record { known = g.S.Registry.known; pos = g.S.Positional.pos; OBSERVABLE = g.S.Writer.OBSERVABLE; COUNTS = g.S.Writer.COUNTS; contents = g.S.Writer.contents; failures = g.S.Writer.failures; last_error = g.S.Writer.last_error }) c.args.items.now c.args.serializer.now st (c.loop-item.item-index + 1) c.step.new.arg3 l in
           let r = c.loop-item.invariant.reached st at in
           let l = c.requires.writes _ _ _ _ (omega (arith, r.wrote.is_quiet, c.requires.room)) (record { state = r.left; is_at = r.is_at }) c.in-Ok-step.ensures r.left r.is_at in
           let z = reached_next _ _ _ _ _ c.loop-item.item-index _ _ _ _ e r l.0 l.1.1 l.1.2 in

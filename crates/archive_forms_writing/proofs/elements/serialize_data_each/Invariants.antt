@@ -10,5 +10,5 @@ invariant-loop-item g l = record {
   -- from each state that the serializer may have been in
   reached :
       (st : State) → IsAt g.S.Positional.pos g.S.Registry.known l.fn.serializer st
-      → Reached g.T.Archive.spelling (record { known = g.S.Registry.known; pos = g.S.Positional.pos; OBSERVABLE = g.S.Writer.OBSERVABLE; COUNTS = g.S.Writer.COUNTS; contents = g.S.Writer.contents; failures = g.S.Writer.failures; last_error = g.S.Writer.last_error }) l.items l.fn.serializer st l.item-index l.serializer l.all.items;
+      → Reached (g.A.ArchiveWith.spelling l.with) (record { known = g.S.Registry.known; pos = g.S.Positional.pos; OBSERVABLE = g.S.Writer.OBSERVABLE; COUNTS = g.S.Writer.COUNTS; contents = g.S.Writer.contents; failures = g.S.Writer.failures; last_error = g.S.Writer.last_error }) l.items l.fn.serializer st l.item-index l.serializer l.all.items;
 }

@@ -11,7 +11,7 @@ returns-in-Err g c = λ st at.
     let e = next_of c.args.items.now 0 _ some c.index-items-0.is in
     let s : WriterMembers g.row.S.Denot = record { known = g.S.Registry.known; pos = g.S.Positional.pos; OBSERVABLE = g.S.Writer.OBSERVABLE; COUNTS = g.S.Writer.COUNTS; contents = g.S.Writer.contents; failures = g.S.Writer.failures; last_error = g.S.Writer.last_error } in
     let h = c.requires.writes _ _ _ _ c.requires.room c.requires.state c.in-Err.ensures st at in
-    first_stopped g.T.Archive.spelling s c.args.items.now _ st _ _ _ e at h
+    first_stopped (g.A.ArchiveWith.spelling c.args.with.now) s c.args.items.now _ st _ _ _ e at h
 
 pub loop-i-init : goal.loop-i-init
 loop-i-init g c =
@@ -23,9 +23,9 @@ loop-i-init g c =
       whole = length-replicate 16 c.in-Ok.done.0;
       within = some;
       reached = λ st at.
-          let P : List g.row.T-Resolver.Denot → Type 0 = λ l. Reached g.T.Archive.spelling s c.args.items.now c.args.serializer.now st 1 c.step.new.arg3 l in
+          let P : List g.row.A-Resolver.Denot → Type 0 = λ l. Reached (g.A.ArchiveWith.spelling c.args.with.now) s c.args.items.now c.args.serializer.now st 1 c.step.new.arg3 l in
           let l = c.requires.writes _ _ _ _ c.requires.room c.requires.state c.in-Ok.ensures st at in
-          let z = reached_first g.T.Archive.spelling s c.args.items.now _ st _ _ e at l.0 l.1.1 l.1.2 in
+          let z = reached_first (g.A.ArchiveWith.spelling c.args.with.now) s c.args.items.now _ st _ _ e at l.0 l.1.1 l.1.2 in
           subst P (sym (take_one 16 c.in-Ok.done.0 more ∙ ap (λ q. q ∷ []) l.1.0)) z;
     }
 
@@ -52,7 +52,7 @@ loop-i-preserved g c =
       whole = length-set _ _ _ ∙ c.loop-i.invariant.whole;
       within = omega (arith, less);
       reached = λ st at.
-          let P : List g.row.T-Resolver.Denot → Type 0 = λ l. Reached g.T.Archive.spelling (record { known = g.S.Registry.known; pos = g.S.Positional.pos; OBSERVABLE = g.S.Writer.OBSERVABLE; COUNTS = g.S.Writer.COUNTS; contents = g.S.Writer.contents; failures = g.S.Writer.failures; last_error = g.S.Writer.last_error }) c.args.items.now c.args.serializer.now st (c.loop-i.i + 1) c.step-in-loop-i.new.arg3 l in
+          let P : List g.row.A-Resolver.Denot → Type 0 = λ l. Reached (g.A.ArchiveWith.spelling c.args.with.now) (record { known = g.S.Registry.known; pos = g.S.Positional.pos; OBSERVABLE = g.S.Writer.OBSERVABLE; COUNTS = g.S.Writer.COUNTS; contents = g.S.Writer.contents; failures = g.S.Writer.failures; last_error = g.S.Writer.last_error }) c.args.items.now c.args.serializer.now st (c.loop-i.i + 1) c.step-in-loop-i.new.arg3 l in
           let r = c.loop-i.invariant.reached st at in
           let l = c.requires.writes _ _ _ _ (omega (arith, r.wrote.is_quiet, c.requires.room)) (record { state = r.left; is_at = r.is_at }) c.in-Ok-step.ensures r.left r.is_at in
           let z = reached_next _ _ _ _ _ c.loop-i.i _ _ _ _ e r l.0 l.1.1 l.1.2 in

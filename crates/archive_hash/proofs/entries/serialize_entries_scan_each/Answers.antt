@@ -11,7 +11,7 @@ use Rattle.archive_hash.proofs.entries.serialize_entries_scan_each.Goals as goal
 pub serialize_from_iter_scan_each-requires-clause-takes : goal.serialize_from_iter_scan_each-requires-clause-takes
 serialize_from_iter_scan_each-requires-clause-takes g c = λ it es is d x to el room state.
     let all = c.requires.takes.each (map entry_of es) (subst (λ from. Drains (GivesAs deref_pair g.I.Iterator.next_gives) from (map entry_of es)) (ap (λ e. e.pairs) is) (entries_came g.I.Iterator.next_gives (λ e. e.pairs) it es d)) in
-    (element_taken (g.C.EntryStep.takes c.args.step.now) es x.now all el, (room, state))
+    (element_taken (g.C.EntryStep.takes c.args.step.now (record {})) es x.now all el, (room, state))
 
 pub returns : goal.returns
 returns g c =

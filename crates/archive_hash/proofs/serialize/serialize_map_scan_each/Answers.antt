@@ -8,7 +8,7 @@ use Rattle.archive_hash.proofs.serialize.serialize_map_scan_each.Goals as goal
 
 pub serialize_rest_scan_each-requires-clause-takes : goal.serialize_rest_scan_each-requires-clause-takes
 serialize_rest_scan_each-requires-clause-takes g c =
-    takes_given g.C.EntryStep.takes c.args.step.now c.iter.result (subst (All (g.C.EntryStep.takes c.args.step.now)) (sym c.iter.ensures.rest) c.requires.takes)
+    takes_given (g.C.EntryStep.takes c.args.step.now) (record {}) c.iter.result (subst (All (g.C.EntryStep.takes c.args.step.now (record {}))) (sym c.iter.ensures.rest) c.requires.takes)
 
 pub serialize_rest_scan_each-requires-clause-counted : goal.serialize_rest_scan_each-requires-clause-counted
 serialize_rest_scan_each-requires-clause-counted g c = let rest = ap length c.iter.ensures.rest in omega (arith, c.len.ensures.len, rest)

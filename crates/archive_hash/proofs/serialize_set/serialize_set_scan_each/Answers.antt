@@ -11,8 +11,8 @@ use Rattle.archive_hash.proofs.serialize_set.serialize_set_scan_each.Goals as go
 
 pub serialize_keys_scan_each-requires-clause-takes : goal.serialize_keys_scan_each-requires-clause-takes
 serialize_keys_scan_each-requires-clause-takes g c =
-    let P : List g.row.K.Denot → Type 0 = λ ks. All (g.C.EntryStep.takes c.args.step.now) (key_entries ks) in
-    takes_given g.C.EntryStep.takes c.args.step.now (key_entries c.iter.result) (subst P (sym c.iter.ensures.rest) c.requires.takes)
+    let P : List g.row.K.Denot → Type 0 = λ ks. All (g.C.EntryStep.takes c.args.step.now (record {})) (key_entries ks) in
+    takes_given (g.C.EntryStep.takes c.args.step.now) (record {}) (key_entries c.iter.result) (subst P (sym c.iter.ensures.rest) c.requires.takes)
 
 pub returns : goal.returns
 returns g c =

@@ -1,7 +1,7 @@
 use Rattle.std.proofs.Common.{arith, refl}
 use Rattle.std.specs.Prelude.{true, false}
 use Rattle.std.specs.Int.{w64}
-use Rattle.archive_shape_layout.specs.Shape.Shape.{number, truth, text, shared, option, box, vector}
+use Rattle.archive_shape_layout.specs.Shape.Shape.{number, truth, text, shared, option, box, vector, tree}
 use Rattle.archive_shape_layout.specs.Shape.Pointee.{sized, str}
 use Rattle.archive_forms_values.proofs.FormsLaws.Levels.{option_box_sized}
 use Rattle.cabinet_documents.specs.Node.{node_shape}
@@ -36,7 +36,11 @@ pub check_node-returns-in-5-clause-exact : goal.check_node-returns-in-5-clause-e
 check_node-returns-in-5-clause-exact g t c = λ names known.
     payload_checked names c.args.bytes.now c.args.pos known _ _ 5 (vector node_shape) _ c.in-5.is refl (omega arith) (c.check_list.ensures.exact names known)
 
+pub check_node-returns-in-6-clause-exact : goal.check_node-returns-in-6-clause-exact
+check_node-returns-in-6-clause-exact g t c = λ names known.
+    payload_checked names c.args.bytes.now c.args.pos known _ _ 6 (tree 5 text node_shape) _ c.in-6.is refl (omega arith) (c.check_ordered.ensures.exact names known)
+
 pub check_node-returns-in_default-clause-exact : goal.check_node-returns-in_default-clause-exact
 check_node-returns-in_default-clause-exact g t c = λ names known.
     let other = c.in_default in
-    other_refused names c.args.bytes.now c.args.pos known _ (g.C.ArchiveContext.kept c.args.context.now) (λ e. omega arith, λ e. omega arith, λ e. omega arith, λ e. omega arith, λ e. omega arith) (λ e. omega arith)
+    other_refused names c.args.bytes.now c.args.pos known _ (g.C.ArchiveContext.kept c.args.context.now) (λ e. omega arith, λ e. omega arith, λ e. omega arith, λ e. omega arith, λ e. omega arith, λ e. omega arith) (λ e. omega arith)

@@ -21,3 +21,9 @@ decreases-check_list g l = 8 * l.room + 4
 
 abbrev pub decreases-check_list-check_vec_each : goal.decreases-check_list-check_vec_each
 decreases-check_list-check_vec_each g l = 8 * l.room + 3
+
+abbrev pub decreases-check_ordered : goal.decreases-check_ordered
+decreases-check_ordered g l = 8 * l.room + 4
+
+abbrev pub decreases-check_ordered-check_btree_each+arg5 : goal.decreases-check_ordered-check_btree_each+arg5
+decreases-check_ordered-check_btree_each+arg5 g l = 8 * l.room + 3

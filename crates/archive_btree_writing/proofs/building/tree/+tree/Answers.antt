@@ -43,9 +43,9 @@ build_inner-returns-in_err-child-clause-built g t c =
     let size = ap (λ z. b - 1 + z) c.min.ensures ∙ child_size E c.args.above c.args.wide c.args.last c.requires.some.0 c.requires.wide c.requires.fits c.requires.many 0 c.args.last (omega arith) (omega arith) in
     let go = togo_room E c.args.above c.args.wide c.args.last c.requires.some.0 c.requires.wide c.requires.fits c.requires.many 0 c.args.last 0 (omega arith) (togo_none E c.args.above c.args.wide c.args.last c.requires.some.0 c.requires.wide c.requires.fits c.requires.many) in
     on_err _ _ c.from_residual.result c.in_err-child.field-0.0 (search rules)
-    (cut_below E m.key_shape m.value_shape m.keys m.values s m.parts g.I.Iterator.next_gives c.args.source.now.entries c.args.serializer.now c.args.above up n c.requires.many 0 0 (b - 1 + c.min.result) 1 c.args.source.now.entries c.args.serializer.now c.build_lesser.new.serializer [] [] c.args.source.now.claimed c.args.source.now.taken c.args.source.now.claimed c.args.source.now.taken c.in_err-child.field-0.0
+    (cut_below E m.key_shape m.value_shape m.keys (m.values c.args.nodes.now) s m.parts g.I.Iterator.next_gives c.args.source.now.entries c.args.serializer.now c.args.above up n c.requires.many 0 0 (b - 1 + c.min.result) 1 c.args.source.now.entries c.args.serializer.now c.build_lesser.new.serializer [] [] c.args.source.now.claimed c.args.source.now.taken c.args.source.now.claimed c.args.source.now.taken c.in_err-child.field-0.0
     size (omega (arith, go, c.min.ensures)) (λ z. absurd (omega (arith, z, c.requires.some))) (omega (arith, go, c.min.ensures, c.requires.some)) refl (omega arith)
-    (opened_none E m.key_shape m.value_shape m.keys m.values s m.parts g.I.Iterator.next_gives c.args.source.now.entries c.args.serializer.now c.args.above up n c.requires.many)
+    (opened_none E m.key_shape m.value_shape m.keys (m.values c.args.nodes.now) s m.parts g.I.Iterator.next_gives c.args.source.now.entries c.args.serializer.now c.args.above up n c.requires.many)
     c.in_err-child.ensures.built)
 
 pub build_inner-loop-i-init : goal.build_inner-loop-i-init
@@ -74,10 +74,10 @@ build_inner-loop-i-init g t c =
       togo = subst Left (sym c.saturating_sub-left.ensures) (subst Done (sym came) more);
       calls = c.in_ok-child.ensures.calls;
       opened =
-          opened_more E m.key_shape m.value_shape m.keys m.values s m.parts g.I.Iterator.next_gives c.args.source.now.entries c.args.serializer.now c.args.above up n c.requires.many 0 0 (b - 1 + c.min.result) (c.build_lesser.new.source.taken - c.args.source.now.taken) c.args.source.now.entries built.0 c.build_lesser.new.source.entries c.args.serializer.now c.build_lesser.new.serializer
+          opened_more E m.key_shape m.value_shape m.keys (m.values c.args.nodes.now) s m.parts g.I.Iterator.next_gives c.args.source.now.entries c.args.serializer.now c.args.above up n c.requires.many 0 0 (b - 1 + c.min.result) (c.build_lesser.new.source.taken - c.args.source.now.taken) c.args.source.now.entries built.0 c.build_lesser.new.source.entries c.args.serializer.now c.build_lesser.new.serializer
           [] (take 1 (replicate E c.in_ok-child.child)) [] (take 1 (replicate E c.in_ok-child.entry)) c.in_ok-child.child c.in_ok-child.entry
           some size (omega (arith, told.1)) (take_one E c.in_ok-child.child some) (take_one E c.in_ok-child.entry some)
-          (opened_none E m.key_shape m.value_shape m.keys m.values s m.parts g.I.Iterator.next_gives c.args.source.now.entries c.args.serializer.now c.args.above up n c.requires.many)
+          (opened_none E m.key_shape m.value_shape m.keys (m.values c.args.nodes.now) s m.parts g.I.Iterator.next_gives c.args.source.now.entries c.args.serializer.now c.args.above up n c.requires.many)
           built.1 built.2;
     }
 
@@ -96,7 +96,7 @@ build_inner-build_lesser-requires-in-loop-i g t c κs within =
     let b = c.args.wide / (E + 1) in
     let inv = c.loop-i.invariant in
     let done = c.loop-i.source.taken - c.args.source.now.taken in
-    let child = packed_spelling E m.key_shape m.value_shape m.keys m.values (suc (c.args.above - 1)) in
+    let child = packed_spelling E m.key_shape m.value_shape m.keys (m.values c.args.nodes.now) (suc (c.args.above - 1)) in
     let now = open_state E n child s m.parts g.I.Iterator.next_gives c.args.source.now.entries c.args.serializer.now c.loop-i.i (E - c.loop-i.i) done c.loop-i.source.entries c.loop-i.serializer (take c.loop-i.i c.loop-i.lesser) (take c.loop-i.i c.loop-i.own) inv.opened c.requires.state in
     let came = open_came E n child s m.parts g.I.Iterator.next_gives c.args.source.now.entries c.args.serializer.now c.loop-i.i (E - c.loop-i.i) done c.loop-i.source.entries c.loop-i.serializer (take c.loop-i.i c.loop-i.lesser) (take c.loop-i.i c.loop-i.own) inv.opened in
     let go = togo_room E c.args.above c.args.wide c.args.last c.requires.some.0 c.requires.wide c.requires.fits c.requires.many c.loop-i.i c.loop-i.left done inv.within inv.togo in
@@ -124,7 +124,7 @@ build_inner-returns-in_err-child-2-clause-built g t c =
     let size = ap (λ z. b - 1 + z) c.min-in-loop-i.ensures ∙ child_size E c.args.above c.args.wide c.args.last c.requires.some.0 c.requires.wide c.requires.fits c.requires.many c.loop-i.i c.loop-i.left inv.within inv.left in
     let go = togo_room E c.args.above c.args.wide c.args.last c.requires.some.0 c.requires.wide c.requires.fits c.requires.many c.loop-i.i c.loop-i.left done inv.within inv.togo in
     on_err _ _ c.from_residual-in_err-child-2.result c.in_err-child-2.field-0.0 (search rules)
-    (cut_below E m.key_shape m.value_shape m.keys m.values s m.parts g.I.Iterator.next_gives c.args.source.now.entries c.args.serializer.now c.args.above up n c.requires.many c.loop-i.i done (b - 1 + c.min-in-loop-i.result) 1 c.loop-i.source.entries c.loop-i.serializer c.build_lesser-in-loop-i.new.serializer (take c.loop-i.i c.loop-i.lesser) (take c.loop-i.i c.loop-i.own)
+    (cut_below E m.key_shape m.value_shape m.keys (m.values c.args.nodes.now) s m.parts g.I.Iterator.next_gives c.args.source.now.entries c.args.serializer.now c.args.above up n c.requires.many c.loop-i.i done (b - 1 + c.min-in-loop-i.result) 1 c.loop-i.source.entries c.loop-i.serializer c.build_lesser-in-loop-i.new.serializer (take c.loop-i.i c.loop-i.lesser) (take c.loop-i.i c.loop-i.own)
     c.args.source.now.claimed c.args.source.now.taken c.loop-i.source.claimed c.loop-i.source.taken c.in_err-child-2.field-0.0
     size (omega (arith, go, c.min-in-loop-i.ensures)) (λ z. absurd (omega (arith, z, c.loop-i-test.true))) (omega (arith, go, c.min-in-loop-i.ensures, c.loop-i-test.true)) inv.claims (omega (arith, inv.further))
     inv.opened c.in_err-child-2.ensures.built)
@@ -158,7 +158,7 @@ build_inner-loop-i-preserved g t c =
       togo = subst Left (sym c.saturating_sub-left-in-loop-i.ensures) (subst Done (sym came) more);
       calls = c.in_ok-child-2.ensures.calls;
       opened =
-          opened_more E m.key_shape m.value_shape m.keys m.values s m.parts g.I.Iterator.next_gives c.args.source.now.entries c.args.serializer.now c.args.above up n c.requires.many c.loop-i.i done (b - 1 + c.min-in-loop-i.result) after c.loop-i.source.entries built.0 c.build_lesser-in-loop-i.new.source.entries c.loop-i.serializer c.build_lesser-in-loop-i.new.serializer
+          opened_more E m.key_shape m.value_shape m.keys (m.values c.args.nodes.now) s m.parts g.I.Iterator.next_gives c.args.source.now.entries c.args.serializer.now c.args.above up n c.requires.many c.loop-i.i done (b - 1 + c.min-in-loop-i.result) after c.loop-i.source.entries built.0 c.build_lesser-in-loop-i.new.source.entries c.loop-i.serializer c.build_lesser-in-loop-i.new.serializer
           (take c.loop-i.i c.loop-i.lesser) (take (c.loop-i.i + 1) (set c.loop-i.lesser c.loop-i.i c.in_ok-child-2.child)) (take c.loop-i.i c.loop-i.own) (take (c.loop-i.i + 1) (set c.loop-i.own c.loop-i.i c.in_ok-child-2.entry)) c.in_ok-child-2.child c.in_ok-child-2.entry
           less size (omega (arith, told.1, inv.further)) (take_set c.loop-i.lesser c.loop-i.i c.in_ok-child-2.child (omega (arith, less, inv.pointers))) (take_set c.loop-i.own c.loop-i.i c.in_ok-child-2.entry (omega (arith, less, inv.entries)))
           inv.opened built.1 built.2;
@@ -179,7 +179,7 @@ build_inner-build_tree-requires g t c κs within =
     let b = c.args.wide / (E + 1) in
     let inv = c.loop-i.invariant in
     let done = c.loop-i.source.taken - c.args.source.now.taken in
-    let child = packed_spelling E m.key_shape m.value_shape m.keys m.values (suc (c.args.above - 1)) in
+    let child = packed_spelling E m.key_shape m.value_shape m.keys (m.values c.args.nodes.now) (suc (c.args.above - 1)) in
     let now = open_state E n child s m.parts g.I.Iterator.next_gives c.args.source.now.entries c.args.serializer.now c.loop-i.i (E - c.loop-i.i) done c.loop-i.source.entries c.loop-i.serializer (take c.loop-i.i c.loop-i.lesser) (take c.loop-i.i c.loop-i.own) inv.opened c.requires.state in
     let came = open_came E n child s m.parts g.I.Iterator.next_gives c.args.source.now.entries c.args.serializer.now c.loop-i.i (E - c.loop-i.i) done c.loop-i.source.entries c.loop-i.serializer (take c.loop-i.i c.loop-i.lesser) (take c.loop-i.i c.loop-i.own) inv.opened in
     let end : c.loop-i.i ≡ E = omega (arith, c.loop-i-test.false, inv.within) in
@@ -209,7 +209,7 @@ build_inner-returns-in_err-greater-clause-built g t c =
     let ends = togo_end E c.args.above c.args.wide c.args.last c.requires.some.0 c.requires.wide c.requires.fits c.requires.many c.loop-i.i c.loop-i.left done end inv.left inv.togo in
     let size = ap (λ z. b - 1 + z) (sym ends.0) ∙ child_size E c.args.above c.args.wide c.args.last c.requires.some.0 c.requires.wide c.requires.fits c.requires.many c.loop-i.i c.loop-i.left inv.within inv.left in
     on_err _ _ c.from_residual-in_err-greater.result c.in_err-greater.field-0.0 (search rules)
-    (cut_below E m.key_shape m.value_shape m.keys m.values s m.parts g.I.Iterator.next_gives c.args.source.now.entries c.args.serializer.now c.args.above up n c.requires.many c.loop-i.i done (b - 1 + c.loop-i.left) 0 c.loop-i.source.entries c.loop-i.serializer c.build_tree.new.serializer (take c.loop-i.i c.loop-i.lesser) (take c.loop-i.i c.loop-i.own)
+    (cut_below E m.key_shape m.value_shape m.keys (m.values c.args.nodes.now) s m.parts g.I.Iterator.next_gives c.args.source.now.entries c.args.serializer.now c.args.above up n c.requires.many c.loop-i.i done (b - 1 + c.loop-i.left) 0 c.loop-i.source.entries c.loop-i.serializer c.build_tree.new.serializer (take c.loop-i.i c.loop-i.lesser) (take c.loop-i.i c.loop-i.own)
     c.args.source.now.claimed c.args.source.now.taken c.loop-i.source.claimed c.loop-i.source.taken c.in_err-greater.field-0.0
     size (omega (arith, ends.1, end)) (λ z. ends.1) (omega (arith, ends.1)) inv.claims (omega (arith, inv.further))
     inv.opened c.in_err-greater.ensures.built)
@@ -240,7 +240,7 @@ build_inner-write_inner-requires-clause-taken g t c =
     let done = c.loop-i.source.taken - c.args.source.now.taken in
     let end : c.loop-i.i ≡ E = omega (arith, c.loop-i-test.false, inv.within) in
     let ends = togo_end E c.args.above c.args.wide c.args.last c.requires.some.0 c.requires.wide c.requires.fits c.requires.many c.loop-i.i c.loop-i.left done end inv.left inv.togo in
-    takes_all g.I.Iterator.next_gives (g.N.NodeStep.takes c.args.nodes.now) c.args.source.now.entries c.requires.takes c.loop-i.own (may_come_end E m.key_shape m.value_shape m.keys m.values s m.parts g.I.Iterator.next_gives c.args.source.now.entries c.args.serializer.now c.args.above up n c.requires.many done (b - 1 + c.loop-i.left) c.loop-i.i c.loop-i.source.entries c.build_tree.new.source.entries c.loop-i.serializer c.build_tree.new.serializer c.build_tree.new.serializer c.loop-i.lesser c.loop-i.own c.in_ok-greater.greater end inv.pointers inv.entries ends.1 inv.opened c.in_ok-greater.ensures.built)
+    takes_all g.I.Iterator.next_gives (g.N.NodeStep.takes c.args.nodes.now) c.args.source.now.entries c.requires.takes c.loop-i.own (may_come_end E m.key_shape m.value_shape m.keys (m.values c.args.nodes.now) s m.parts g.I.Iterator.next_gives c.args.source.now.entries c.args.serializer.now c.args.above up n c.requires.many done (b - 1 + c.loop-i.left) c.loop-i.i c.loop-i.source.entries c.build_tree.new.source.entries c.loop-i.serializer c.build_tree.new.serializer c.build_tree.new.serializer c.loop-i.lesser c.loop-i.own c.in_ok-greater.greater end inv.pointers inv.entries ends.1 inv.opened c.in_ok-greater.ensures.built)
 
 pub build_inner-write_inner-requires-clause-room : goal.build_inner-write_inner-requires-clause-room
 build_inner-write_inner-requires-clause-room g t c =
@@ -254,7 +254,7 @@ build_inner-write_inner-requires-clause-room g t c =
     let done = c.loop-i.source.taken - c.args.source.now.taken in
     let end : c.loop-i.i ≡ E = omega (arith, c.loop-i-test.false, inv.within) in
     let ends = togo_end E c.args.above c.args.wide c.args.last c.requires.some.0 c.requires.wide c.requires.fits c.requires.many c.loop-i.i c.loop-i.left done end inv.left inv.togo in
-    let state = state_end E m.key_shape m.value_shape m.keys m.values s m.parts g.I.Iterator.next_gives c.args.source.now.entries c.args.serializer.now c.args.above up n c.requires.many done (b - 1 + c.loop-i.left) c.loop-i.i c.loop-i.source.entries c.build_tree.new.source.entries c.loop-i.serializer c.build_tree.new.serializer c.build_tree.new.serializer c.loop-i.lesser c.loop-i.own c.in_ok-greater.greater end inv.pointers inv.entries ends.1 inv.opened c.in_ok-greater.ensures.built c.requires.state in
+    let state = state_end E m.key_shape m.value_shape m.keys (m.values c.args.nodes.now) s m.parts g.I.Iterator.next_gives c.args.source.now.entries c.args.serializer.now c.args.above up n c.requires.many done (b - 1 + c.loop-i.left) c.loop-i.i c.loop-i.source.entries c.build_tree.new.source.entries c.loop-i.serializer c.build_tree.new.serializer c.build_tree.new.serializer c.loop-i.lesser c.loop-i.own c.in_ok-greater.greater end inv.pointers inv.entries ends.1 inv.opened c.in_ok-greater.ensures.built c.requires.state in
     let room : s.failures c.build_tree.new.serializer < 2 ^ 64 - 1 = omega (arith, state.1, c.requires.room) in
     omega (arith, state.1, c.requires.room)
 
@@ -270,7 +270,7 @@ build_inner-write_inner-requires-clause-state g t c =
     let done = c.loop-i.source.taken - c.args.source.now.taken in
     let end : c.loop-i.i ≡ E = omega (arith, c.loop-i-test.false, inv.within) in
     let ends = togo_end E c.args.above c.args.wide c.args.last c.requires.some.0 c.requires.wide c.requires.fits c.requires.many c.loop-i.i c.loop-i.left done end inv.left inv.togo in
-    let state = state_end E m.key_shape m.value_shape m.keys m.values s m.parts g.I.Iterator.next_gives c.args.source.now.entries c.args.serializer.now c.args.above up n c.requires.many done (b - 1 + c.loop-i.left) c.loop-i.i c.loop-i.source.entries c.build_tree.new.source.entries c.loop-i.serializer c.build_tree.new.serializer c.build_tree.new.serializer c.loop-i.lesser c.loop-i.own c.in_ok-greater.greater end inv.pointers inv.entries ends.1 inv.opened c.in_ok-greater.ensures.built c.requires.state in
+    let state = state_end E m.key_shape m.value_shape m.keys (m.values c.args.nodes.now) s m.parts g.I.Iterator.next_gives c.args.source.now.entries c.args.serializer.now c.args.above up n c.requires.many done (b - 1 + c.loop-i.left) c.loop-i.i c.loop-i.source.entries c.build_tree.new.source.entries c.loop-i.serializer c.build_tree.new.serializer c.build_tree.new.serializer c.loop-i.lesser c.loop-i.own c.in_ok-greater.greater end inv.pointers inv.entries ends.1 inv.opened c.in_ok-greater.ensures.built c.requires.state in
     state.0
 
 pub build_inner-returns-in-Ok-clause-built : goal.build_inner-returns-in-Ok-clause-built
@@ -285,7 +285,7 @@ build_inner-returns-in-Ok-clause-built g t c =
     let done = c.loop-i.source.taken - c.args.source.now.taken in
     let end : c.loop-i.i ≡ E = omega (arith, c.loop-i-test.false, inv.within) in
     let ends = togo_end E c.args.above c.args.wide c.args.last c.requires.some.0 c.requires.wide c.requires.fits c.requires.many c.loop-i.i c.loop-i.left done end inv.left inv.togo in
-    built_inner E m.key_shape m.value_shape m.keys m.values s m.parts g.I.Iterator.next_gives c.args.source.now.entries c.args.serializer.now c.args.above up n c.requires.many done (b - 1 + c.loop-i.left) c.loop-i.i c.loop-i.source.entries c.build_tree.new.source.entries c.loop-i.serializer c.build_tree.new.serializer c.write_inner.new.serializer c.loop-i.lesser c.loop-i.own c.in_ok-greater.greater end inv.pointers inv.entries ends.1 inv.opened c.in_ok-greater.ensures.built c.in-Ok.pos c.in-Ok.ensures
+    built_inner E m.key_shape m.value_shape m.keys (m.values c.args.nodes.now) s m.parts g.I.Iterator.next_gives c.args.source.now.entries c.args.serializer.now c.args.above up n c.requires.many done (b - 1 + c.loop-i.left) c.loop-i.i c.loop-i.source.entries c.build_tree.new.source.entries c.loop-i.serializer c.build_tree.new.serializer c.write_inner.new.serializer c.loop-i.lesser c.loop-i.own c.in_ok-greater.greater end inv.pointers inv.entries ends.1 inv.opened c.in_ok-greater.ensures.built c.in-Ok.pos c.in-Ok.ensures
 
 pub build_inner-returns-in-Err-clause-built : goal.build_inner-returns-in-Err-clause-built
 build_inner-returns-in-Err-clause-built g t c =
@@ -299,7 +299,7 @@ build_inner-returns-in-Err-clause-built g t c =
     let done = c.loop-i.source.taken - c.args.source.now.taken in
     let end : c.loop-i.i ≡ E = omega (arith, c.loop-i-test.false, inv.within) in
     let ends = togo_end E c.args.above c.args.wide c.args.last c.requires.some.0 c.requires.wide c.requires.fits c.requires.many c.loop-i.i c.loop-i.left done end inv.left inv.togo in
-    cut_inner E m.key_shape m.value_shape m.keys m.values s m.parts g.I.Iterator.next_gives c.args.source.now.entries c.args.serializer.now c.args.above up n c.requires.many done (b - 1 + c.loop-i.left) c.loop-i.i c.loop-i.source.entries c.build_tree.new.source.entries c.loop-i.serializer c.build_tree.new.serializer c.write_inner.new.serializer c.loop-i.lesser c.loop-i.own c.in_ok-greater.greater end inv.pointers inv.entries ends.1 inv.opened c.in_ok-greater.ensures.built c.args.source.now.claimed c.args.source.now.taken c.in-Err.e c.in-Err.ensures
+    cut_inner E m.key_shape m.value_shape m.keys (m.values c.args.nodes.now) s m.parts g.I.Iterator.next_gives c.args.source.now.entries c.args.serializer.now c.args.above up n c.requires.many done (b - 1 + c.loop-i.left) c.loop-i.i c.loop-i.source.entries c.build_tree.new.source.entries c.loop-i.serializer c.build_tree.new.serializer c.write_inner.new.serializer c.loop-i.lesser c.loop-i.own c.in_ok-greater.greater end inv.pointers inv.entries ends.1 inv.opened c.in_ok-greater.ensures.built c.args.source.now.claimed c.args.source.now.taken c.in-Err.e c.in-Err.ensures
 
 -- ---- what is below a lesser pointer
 
@@ -309,7 +309,7 @@ build_lesser-returns-in_err-child-clause-built g t c =
     let m = g.N.NodeStep in
     let s : WriterMembers g.row.S.Denot = record { known = g.S.Registry.known; pos = g.S.Positional.pos; OBSERVABLE = g.S.Writer.OBSERVABLE; COUNTS = g.S.Writer.COUNTS; contents = g.S.Writer.contents; failures = g.S.Writer.failures; last_error = g.S.Writer.last_error } in
     on_err _ _ c.from_residual.result c.in_err-child.field-0.0 (search rules)
-    (cut_wider (packed_spelling E m.key_shape m.value_shape m.keys m.values (suc c.args.above)) s (GivesAs m.parts g.I.Iterator.next_gives) c.args.source.now.claimed c.args.source.now.taken (c.args.wide - 1 + c.args.last) c.args.source.now.entries c.args.serializer.now c.build_tree.new.serializer c.in_err-child.field-0.0 c.in_err-child.ensures.built)
+    (cut_wider (packed_spelling E m.key_shape m.value_shape m.keys (m.values c.args.nodes.now) (suc c.args.above)) s (GivesAs m.parts g.I.Iterator.next_gives) c.args.source.now.claimed c.args.source.now.taken (c.args.wide - 1 + c.args.last) c.args.source.now.entries c.args.serializer.now c.build_tree.new.serializer c.in_err-child.field-0.0 c.in_err-child.ensures.built)
 
 pub build_lesser-returns-in_err-entry-clause-built : goal.build_lesser-returns-in_err-entry-clause-built
 build_lesser-returns-in_err-entry-clause-built g t c =
@@ -319,7 +319,7 @@ build_lesser-returns-in_err-entry-clause-built g t c =
     let told = c.in_ok-child.ensures.counts in
     let ended = c.in_err-entry.ensures.taken in
     on_err _ _ c.from_residual-in_err-entry.result c.in_err-entry.field-0.0 (search rules)
-    (ended_behind (packed_spelling E m.key_shape m.value_shape m.keys m.values (suc c.args.above)) s (GivesAs m.parts g.I.Iterator.next_gives) c.args.source.now.claimed c.args.source.now.taken (c.args.wide - 1 + c.args.last) c.args.source.now.entries c.args.serializer.now c.build_tree.new.source.entries c.take_entry.new.source.entries c.build_tree.new.serializer c.in_ok-child.child c.in_err-entry.field-0.0 c.in_ok-child.ensures.built ended.0
+    (ended_behind (packed_spelling E m.key_shape m.value_shape m.keys (m.values c.args.nodes.now) (suc c.args.above)) s (GivesAs m.parts g.I.Iterator.next_gives) c.args.source.now.claimed c.args.source.now.taken (c.args.wide - 1 + c.args.last) c.args.source.now.entries c.args.serializer.now c.build_tree.new.source.entries c.take_entry.new.source.entries c.build_tree.new.serializer c.in_ok-child.child c.in_err-entry.field-0.0 c.in_ok-child.ensures.built ended.0
     (ended.1 ∙ ap (λ z. IteratorLengthMismatch z c.build_tree.new.source.taken) told.0 ∙ ap (λ z. IteratorLengthMismatch c.args.source.now.claimed z) told.1))
 
 -- ---- what is below a pointer
@@ -333,7 +333,7 @@ build_tree-returns-then-count-eq0-clause-built g t c =
     let E = g.row.E in
     let m = g.N.NodeStep in
     let s : WriterMembers g.row.S.Denot = record { known = g.S.Registry.known; pos = g.S.Positional.pos; OBSERVABLE = g.S.Writer.OBSERVABLE; COUNTS = g.S.Writer.COUNTS; contents = g.S.Writer.contents; failures = g.S.Writer.failures; last_error = g.S.Writer.last_error } in
-    none_built E m.key_shape m.value_shape m.keys m.values s m.parts g.I.Iterator.next_gives (packed_spelling E m.key_shape m.value_shape m.keys m.values c.args.above) c.args.source.now.entries c.args.serializer.now
+    none_built E m.key_shape m.value_shape m.keys (m.values c.args.nodes.now) s m.parts g.I.Iterator.next_gives (packed_spelling E m.key_shape m.value_shape m.keys (m.values c.args.nodes.now) c.args.above) c.args.source.now.entries c.args.serializer.now
     (c.args.wide - 1 + c.args.last) (omega (arith, c.if-count-eq0.true))
 
 pub build_tree-returns-then-count-clause-built : goal.build_tree-returns-then-count-clause-built

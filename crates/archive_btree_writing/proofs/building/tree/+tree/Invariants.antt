@@ -26,7 +26,7 @@ invariant-build_inner-loop-i g l = record {
   calls : g.I.Iterator.can_next l.source.entries × IsFinite (g.I.Iterator.remaining l.source.entries);
   opened :
       Open g.row.E (l.wide - 1 + l.last)
-      (packed_spelling g.row.E g.N.NodeStep.key_shape g.N.NodeStep.value_shape g.N.NodeStep.keys g.N.NodeStep.values (suc (l.above - 1)))
+      (packed_spelling g.row.E g.N.NodeStep.key_shape g.N.NodeStep.value_shape g.N.NodeStep.keys (g.N.NodeStep.values l.nodes) (suc (l.above - 1)))
       (record { known = g.S.Registry.known; pos = g.S.Positional.pos; OBSERVABLE = g.S.Writer.OBSERVABLE; COUNTS = g.S.Writer.COUNTS; contents = g.S.Writer.contents; failures = g.S.Writer.failures; last_error = g.S.Writer.last_error })
       g.N.NodeStep.parts g.I.Iterator.next_gives l.fn.source.entries l.fn.serializer
       l.i (g.row.E - l.i) (l.source.taken - l.fn.source.taken) l.source.entries l.serializer (take l.i l.lesser) (take l.i l.own);

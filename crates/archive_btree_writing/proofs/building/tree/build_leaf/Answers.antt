@@ -80,8 +80,8 @@ returns-in-Ok-clause-built g c = λ above.
     let came : Yields g.I.Iterator.next_gives c.args.source.now.entries items c.loop-i.source.entries = rw end at inv.came in
     let m = g.N.NodeStep in
     let s : WriterMembers g.row.S.Denot = record { known = g.S.Registry.known; pos = g.S.Positional.pos; OBSERVABLE = g.S.Writer.OBSERVABLE; COUNTS = g.S.Writer.COUNTS; contents = g.S.Writer.contents; failures = g.S.Writer.failures; last_error = g.S.Writer.last_error } in
-    let w = packed_spelling g.row.E m.key_shape m.value_shape m.keys m.values above in
-    leaf_built g.row.E m.key_shape m.value_shape m.keys m.values s m.parts g.I.Iterator.next_gives w c.args.source.now.entries c.args.serializer.now c.args.count c.requires.few.0 c.requires.some
+    let w = packed_spelling g.row.E m.key_shape m.value_shape m.keys (m.values c.args.nodes.now) above in
+    leaf_built g.row.E m.key_shape m.value_shape m.keys (m.values c.args.nodes.now) s m.parts g.I.Iterator.next_gives w c.args.source.now.entries c.args.serializer.now c.args.count c.requires.few.0 c.requires.some
     (map m.parts items) c.loop-i.source.entries (Yields-as m.parts g.I.Iterator.next_gives _ _ items came) (length-map items m.parts ∙ size) c.write_leaf.new.serializer c.in-Ok.pos c.in-Ok.ensures
 
 pub returns-in-Err-clause-built : goal.returns-in-Err-clause-built
@@ -93,6 +93,6 @@ returns-in-Err-clause-built g c = λ above.
     let came : Yields g.I.Iterator.next_gives c.args.source.now.entries items c.loop-i.source.entries = rw end at inv.came in
     let m = g.N.NodeStep in
     let s : WriterMembers g.row.S.Denot = record { known = g.S.Registry.known; pos = g.S.Positional.pos; OBSERVABLE = g.S.Writer.OBSERVABLE; COUNTS = g.S.Writer.COUNTS; contents = g.S.Writer.contents; failures = g.S.Writer.failures; last_error = g.S.Writer.last_error } in
-    let w = packed_spelling g.row.E m.key_shape m.value_shape m.keys m.values above in
-    leaf_cut g.row.E m.key_shape m.value_shape m.keys m.values s m.parts g.I.Iterator.next_gives w c.args.source.now.entries c.args.serializer.now c.args.count c.requires.few.0 c.requires.some
+    let w = packed_spelling g.row.E m.key_shape m.value_shape m.keys (m.values c.args.nodes.now) above in
+    leaf_cut g.row.E m.key_shape m.value_shape m.keys (m.values c.args.nodes.now) s m.parts g.I.Iterator.next_gives w c.args.source.now.entries c.args.serializer.now c.args.count c.requires.few.0 c.requires.some
     (map m.parts items) c.loop-i.source.entries (Yields-as m.parts g.I.Iterator.next_gives _ _ items came) (length-map items m.parts ∙ size) c.write_leaf.new.serializer c.args.source.now.claimed c.args.source.now.taken c.in-Err.e c.in-Err.ensures

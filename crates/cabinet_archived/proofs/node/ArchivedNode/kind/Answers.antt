@@ -1,11 +1,12 @@
 use Rattle.std.proofs.Common.{arith, refl}
 use Rattle.std.specs.Prelude.{true, false, ⊤}
 use Rattle.std.specs.Int.{w64}
-use Rattle.archive_shape_layout.specs.Shape.Shape.{number, truth, text, shared, option, box, vector}
+use Rattle.archive_shape_layout.specs.Shape.Shape.{number, truth, text, shared, option, box, vector, tree}
 use Rattle.archive_shape_layout.specs.Shape.Pointee.{sized, str}
+use Rattle.archive_forms_values.specs.Parts.{both}
 use Rattle.archive_forms_values.proofs.FormsLaws.Levels.{option_box_sized}
 use Rattle.cabinet_documents.specs.Node.{node_shape, KnowsNode}
-use Rattle.cabinet_archived.proofs.Nodes.{tagged_at, is_list}
+use Rattle.cabinet_archived.proofs.Nodes.{tagged_at, is_ordered}
 use Rattle.cabinet_archived.proofs.node.ArchivedNode.kind.Goals as goal
 
 pub returns-in-0 : goal.returns-in-0
@@ -43,11 +44,18 @@ returns-in-4 c = (
   tagged_at c.args.this.bytes.now c.args.this.pos c.requires 4 (option (box (sized node_shape))) KnowsNode _ c.new-in-4.ensures.pos c.in-4.is refl (omega arith) (omega (arith, option_box_sized node_shape)) (λ names known. known),
 )
 
+pub returns-in-5 : goal.returns-in-5
+returns-in-5 c = (
+  c.new-in-5.ensures.bytes,
+  c.new-in-5.ensures.pos,
+  tagged_at c.args.this.bytes.now c.args.this.pos c.requires 5 (vector node_shape) KnowsNode _ c.new-in-5.ensures.pos c.in-5.is refl (omega arith) (omega arith) (λ names known. known),
+)
+
 pub returns-in_default : goal.returns-in_default
 returns-in_default c =
     let other = c.in_default in
-    let tag = is_list c.args.this.bytes.now c.args.this.pos c.requires (λ e. omega arith, λ e. omega arith, λ e. omega arith, λ e. omega arith, λ e. omega arith) in (
+    let tag = is_ordered c.args.this.bytes.now c.args.this.pos c.requires (λ e. omega arith, λ e. omega arith, λ e. omega arith, λ e. omega arith, λ e. omega arith, λ e. omega arith) in (
       c.new-in_default.ensures.bytes,
       c.new-in_default.ensures.pos,
-      tagged_at c.args.this.bytes.now c.args.this.pos c.requires 5 (vector node_shape) KnowsNode _ c.new-in_default.ensures.pos tag refl (omega arith) (omega arith) (λ names known. known),
+      tagged_at c.args.this.bytes.now c.args.this.pos c.requires 6 (tree 5 text node_shape) (both (λ _. ⊤) KnowsNode) _ c.new-in_default.ensures.pos tag refl (omega arith) (omega arith) (λ names known. (tt, known)),
     )

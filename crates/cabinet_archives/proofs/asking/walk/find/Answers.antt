@@ -6,7 +6,7 @@ use Rattle.cabinet_archives.proofs.Ways.{reaches_self, reaches_on, none_after, n
 use Rattle.cabinet_archives.proofs.asking.walk.find.Goals as goal
 
 pub loop-step-init : goal.loop-step-init
-loop-step-init c = (refl, reaches_self c.args.root.bytes.now c.args.root.pos c.requires)
+loop-step-init c = (refl, reaches_self c.args.root.bytes.now c.args.root.pos c.requires.there c.requires.sound)
 
 pub returns-in_err-node : goal.returns-in_err-node
 returns-in_err-node c =

@@ -1,10 +1,17 @@
-use Rattle.std.proofs.Common.{ap, sym, subst, ◌∙◌, Bor, List, ℕ}
+use Rattle.std.proofs.Common.{◌≡◌, ap, sym, subst, ◌∙◌, Bor, List, ℕ, MatchOption}
+use Rattle.std.specs.Prelude.{IfSome}
+use Rattle.archive_shape.specs.ShapeLayout.Content.Part.{at}
 use Rattle.archive_forms_values.specs.Parts.{HasValue, IsNoneAt, IsSomeAt, IsBoxAt, IsVecAt}
 use Rattle.cabinet_archived.specs.Documents.Node.{node_shape, KnowsNode}
+use Rattle.cabinet_text_nodes.specs.TextGrammar.Path.{key as key_step}
 use Rattle.cabinet_text_nodes.specs.View.{step_of}
-use Rattle.cabinet_archives.proofs.Ways.{Boxed, matched, empty_none, content_there, content_reached, past_none, element_reached}
-use Rattle.cabinet_archives.proofs.NoSteps.{not_inside, no_place, no_step}
-use Rattle.cabinet_archives.proofs.asking.walk.step_down.Goals.{in_default-via-in-Maybe+in_default, in_default-via-in-List+in_default, in_default-via-in_default}
+use Rattle.cabinet_archives.specs.Ordered.{map_shape, OfMap, HasEntry, KeyLeads, KeyLeadsNowhere}
+use Rattle.cabinet_archives.specs.Sound.{IsSoundPart}
+use Rattle.cabinet_archives.proofs.Ways.{Boxed, matched, empty_none, content_there, content_reached, past_none, element_reached, by_key}
+use Rattle.std.proofs.Math.Logic.{∥∥₁_map}
+use Rattle.cabinet_archives.proofs.Soundness.{ordered_sound}
+use Rattle.cabinet_archives.proofs.NoSteps.{not_inside, no_place, no_key, no_step}
+use Rattle.cabinet_archives.proofs.asking.walk.step_down.Goals.{in_default-via-in-Maybe+in_default, in_default-via-in-List+in_default, in_default-via-in-Ordered+in_default, in_default-via-in_default}
 use Rattle.cabinet_archives.proofs.asking.walk.step_down.Goals as goal
 
 pub returns-in_err-content-in-Maybe-Inside : goal.returns-in_err-content-in-Maybe-Inside
@@ -30,7 +37,7 @@ returns-in_ok-content-in-Maybe-Inside c =
     let some = subst (λ (b : Bor (List ℕ)). IsSomeAt Boxed KnowsNode b.now c.in-Maybe-Inside.maybe.pos) is.0 says.2 in
     let boxed = subst (λ (b : Bor (List ℕ)). IsBoxAt node_shape KnowsNode b.now content.pos c.get.result.pos) (says.0 ∙ is.0) c.get.ensures.value in (
       c.get.ensures.bytes ∙ (says.0 ∙ is.0),
-      content_reached c.args.node.bytes.now c.args.node.pos c.in-Maybe-Inside.maybe.pos is.2 (step_of c.args.step.now) content.pos c.get.result.pos (ap step_of c.in-Maybe-Inside.is-1) is.1 says.1 some boxed,
+      content_reached c.args.node.bytes.now c.args.node.pos c.in-Maybe-Inside.maybe.pos is.2 c.requires.there c.requires.sound (step_of c.args.step.now) content.pos c.get.result.pos (ap step_of c.in-Maybe-Inside.is-1) is.1 says.1 some boxed,
     )
 
 pub returns-in-List-Place : goal.returns-in-List-Place
@@ -41,14 +48,37 @@ returns-in-List-Place c =
     let elements = subst (λ (b : Bor (List ℕ)). IsVecAt node_shape KnowsNode b.now c.in-List-Place.list.pos got.0 got.1) is.0 got.2 in
     matched _ _ c.get-in-List-Place.result
     (past_none c.args.node.bytes.now c.args.node.pos c.in-List-Place.list.pos is.2 got.0 got.1 elements (step_of c.args.step.now) c.in-List-Place.place step_is)
-    (λ next says. (says.1 ∙ is.0, element_reached c.args.node.bytes.now c.args.node.pos c.in-List-Place.list.pos is.2 got.0 got.1 elements (step_of c.args.step.now) c.in-List-Place.place next.pos step_is is.1 says.0 says.2))
+    (λ next says. (says.1 ∙ is.0, element_reached c.args.node.bytes.now c.args.node.pos c.in-List-Place.list.pos is.2 got.0 got.1 elements c.requires.there c.requires.sound (step_of c.args.step.now) c.in-List-Place.place next.pos step_is is.1 says.0 says.2))
     got.3
+
+pub get-requires-in-Ordered-Key-clause-sound : goal.get-requires-in-Ordered-Key-clause-sound
+get-requires-in-Ordered-Key-clause-sound c =
+    let is = c.in-Ordered-Key.ensures in
+    let map = c.in-Ordered-Key.map in
+    subst (λ (b : Bor (List ℕ)). IsSoundPart b.now (at map.pos map_shape)) (sym is.0)
+    (subst (λ n. IsSoundPart c.args.node.bytes.now (at n map_shape)) (sym is.1) (∥∥₁_map c.requires.sound (λ walk. ordered_sound c.args.node.bytes.now c.requires.there walk is.2)))
+
+pub returns-in-Ordered-Key : goal.returns-in-Ordered-Key
+returns-in-Ordered-Key c =
+    let is = c.in-Ordered-Key.ensures in
+    let bytes = c.args.node.bytes in
+    let pos = c.args.node.pos in
+    let map = c.in-Ordered-Key.map in
+    let key = c.as_str.result.now in
+    let step_is = ap step_of c.in-Ordered-Key.is-1 ∙ ap key_step (sym c.as_str.ensures.value) in
+    let got = c.get-in-Ordered-Key.ensures in
+    by_key bytes pos map.pos is.2 (step_of c.args.step.now) key step_is is.1 c.get-in-Ordered-Key.result
+    (subst (λ (b : Bor (List ℕ)). OfMap b.now map.pos (λ v. MatchOption c.get-in-Ordered-Key.result (KeyLeadsNowhere v key) (λ node. (node.bytes ≡ b) × KeyLeads b.now v key node.pos))) is.0 got.leads)
+    (subst (λ (b : Bor (List ℕ)). IfSome c.get-in-Ordered-Key.result (λ node. HasEntry b.now map.pos key node.pos)) is.0 got.way)
+    (subst (λ (b : Bor (List ℕ)). IfSome c.get-in-Ordered-Key.result (λ node. IsSoundPart b.now (at node.pos node_shape))) is.0 got.sound)
 
 pub returns-in_default : goal.returns-in_default
 returns-in_default c =
     let none = no_step c.args.node.bytes c.args.node.pos c.kind.result (step_of c.args.step.now) c.kind.ensures in
     elim c.in_default.branch [
-      | in_default-via-in-Maybe+in_default w ↦ none (λ r e. not_inside c.args.step.now w.in_default.not-Inside-1) (λ r e. let is = w.in_default.is-0 in absurd (cc))
-      | in_default-via-in-List+in_default w ↦ none (λ r e. let is = w.in_default.is-0 in absurd (cc)) (λ r e. no_place c.args.step.now w.in_default.not-Place-1)
-      | in_default-via-in_default w ↦ none (λ r e. absurd (w.in_default.not-Maybe-0 r e)) (λ r e. absurd (w.in_default.not-List-0 r e))
+      | in_default-via-in-Maybe+in_default w ↦ none (λ r e. not_inside c.args.step.now w.in_default.not-Inside-1) (λ r e. let is = w.in_default.is-0 in absurd (cc)) (λ r e. let is = w.in_default.is-0 in absurd (cc))
+      | in_default-via-in-List+in_default w ↦ none (λ r e. let is = w.in_default.is-0 in absurd (cc)) (λ r e. no_place c.args.step.now w.in_default.not-Place-1) (λ r e. let is = w.in_default.is-0 in absurd (cc))
+      | in_default-via-in-Ordered+in_default w ↦
+          none (λ r e. let is = w.in_default.is-0 in absurd (cc)) (λ r e. let is = w.in_default.is-0 in absurd (cc)) (λ r e. no_key c.args.step.now w.in_default.not-Key-1)
+      | in_default-via-in_default w ↦ none (λ r e. absurd (w.in_default.not-Maybe-0 r e)) (λ r e. absurd (w.in_default.not-List-0 r e)) (λ r e. absurd (w.in_default.not-Ordered-0 r e))
     ]

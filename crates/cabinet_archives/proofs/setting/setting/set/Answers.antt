@@ -3,11 +3,14 @@ use Rattle.cabinet_text_nodes.specs.Outcomes.{outcome_of}
 use Rattle.cabinet_text_nodes.specs.View.{lent_leaf, leaf_of, path_of}
 use Rattle.cabinet_text_nodes.specs.TextGrammar.Answering.{missing}
 use Rattle.cabinet_archives.proofs.Put.{of_same}
-use Rattle.cabinet_archives.proofs.Reached.{root_has_value, none_set, accepted_after, image_after, value_as, reaches_as, set_as}
+use Rattle.cabinet_archives.proofs.Reached.{root_has_value, root_is_sound, none_set, accepted_after, image_after, value_as, sound_as, reaches_as, set_as}
 use Rattle.cabinet_archives.proofs.setting.setting.set.Goals as goal
 
 pub find-requires : goal.find-requires
-find-requires c = value_as c.new.ensures.bytes (c.new.ensures.pos ∙ c.root_position-root.ensures) (root_has_value c.args.bytes.now c.requires)
+find-requires c = record {
+  there = value_as c.new.ensures.bytes (c.new.ensures.pos ∙ c.root_position-root.ensures) (root_has_value c.args.bytes.now c.requires);
+  sound = sound_as c.new.ensures.bytes (c.new.ensures.pos ∙ c.root_position-root.ensures) (root_is_sound c.args.bytes.now c.requires);
+}
 
 pub returns-in_default : goal.returns-in_default
 returns-in_default c =

@@ -3,7 +3,7 @@ use Rattle.std.specs.List.{filter}
 use Rattle.std.proofs.lemmas.Result.{err_from_is_err_and}
 use Rattle.cabinet_text_grammar.specs.Answering.{keys_in, lies_within}
 use Rattle.cabinet_text_nodes.specs.View.{node_pairs}
-use Rattle.cabinet_text.proofs.Pieces.{keys_appended, keys_head_failed, keys_failed}
+use Rattle.cabinet_text_writing.proofs.Pieces.{keys_appended, keys_head_failed, keys_failed}
 use Rattle.cabinet_text.proofs.answering.keys.write_keys_within.Goals as goal
 
 pub returns-in_err-write_keys_head : goal.returns-in_err-write_keys_head

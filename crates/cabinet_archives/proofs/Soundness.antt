@@ -1,0 +1,66 @@
+-- What lies in a part whose walk has no fault has none either.
+use Rattle.std.proofs.Common.{◌≡◌, ◌∙◌, ℕ, zero, suc, ◌+◌, ◌*◌, ◌<◌, List, [], ◌∷◌, ◌++◌, get_or, nat_lt, refl, sym}
+use Rattle.std.specs.List.{flat_map}
+use Rattle.archive_shape.specs.ShapeLayout.Shape.{Shape, size_of}
+use Rattle.archive_shape.specs.ShapeLayout.Shape.Shape.{option, vector}
+use Rattle.archive_shape.specs.ShapeLayout.Content.{Names, Part}
+use Rattle.archive_shape.specs.ShapeLayout.Content.Part.{at}
+use Rattle.archive_forms_values.specs.Parts.{HasValue, PointsTo, IsSomeAt, IsVecAt}
+use Rattle.cabinet_archived.specs.Documents.Node.{node_shape, node_names, KnowsNode}
+use Rattle.cabinet_archived.specs.Documents.Walk.{Stop}
+use Rattle.cabinet_archived.specs.Documents.Audit.{too_deep, unless, faults}
+use Rattle.cabinet_archived.specs.Kind.{IsTagged}
+use Rattle.cabinet_archived.proofs.Documents.NodeWalks.{element_walk}
+use Rattle.cabinet_archived.proofs.Documents.Places.{option_here, list_here, ordered_here, part_of}
+use Rattle.cabinet_archives.specs.Sound.{HasSoundWalk}
+use Rattle.cabinet_archives.proofs.Tags.{tag_is}
+use Rattle.cabinet_archives.proofs.Walked.{Boxed, Inner, option_in, list_in, ordered_in, some_in, vector_in}
+
+pub left_nil : {A : Type 0} (xs ys : List A) → xs ++ ys ≡ [] → xs ≡ []
+left_nil [] ys e = refl
+left_nil (x ∷ xs) ys e = absurd (cc)
+
+pub right_nil : {A : Type 0} (xs ys : List A) → xs ++ ys ≡ [] → ys ≡ []
+right_nil [] ys e = e
+right_nil (x ∷ xs) ys e = absurd (cc)
+
+module _ (bytes : List ℕ) where
+  one_nil : (runs : List (List Stop)) (i : ℕ) → flat_map (faults bytes) runs ≡ [] → faults bytes (get_or runs i []) ≡ []
+  one_nil [] i e = refl
+  one_nil (run ∷ runs) zero e = left_nil (faults bytes run) (flat_map (faults bytes) runs) e
+  one_nil (run ∷ runs) (suc i) e = one_nil runs i (right_nil (faults bytes run) (flat_map (faults bytes) runs) e)
+
+  -- ---- payloads
+
+  inner_sound : {depth : ℕ} {p : Part} {walk : List Stop} → faults bytes walk ≡ [] → Inner bytes depth p walk → HasSoundWalk bytes p
+  inner_sound {depth = depth} none i = record { depth = depth; value = i.value; walk = i.run; walked = i.walked; sound = sym i.faults_are ∙ none }
+
+  module _ {pos : ℕ} (there : HasValue node_shape KnowsNode bytes pos) {s : Shape} {knows : Names → Type 0} {to : ℕ} (w : HasSoundWalk bytes (at pos node_shape)) where
+    pub option_sound : IsTagged bytes pos 4 s knows to → HasSoundWalk bytes (part_of option_here (pos + 4))
+    option_sound tagged = inner_sound w.sound (option_in bytes w.walked (tag_is bytes pos there tagged))
+
+    pub list_sound : IsTagged bytes pos 5 s knows to → HasSoundWalk bytes (part_of list_here (pos + 4))
+    list_sound tagged = inner_sound w.sound (list_in bytes w.walked (tag_is bytes pos there tagged))
+
+    pub ordered_sound : IsTagged bytes pos 6 s knows to → HasSoundWalk bytes (part_of ordered_here (pos + 4))
+    ordered_sound tagged = inner_sound w.sound (ordered_in bytes w.walked (tag_is bytes pos there tagged))
+
+  -- ---- nodes in containers
+
+  pub some_sound : {pos next : ℕ} → HasValue (option Boxed) KnowsNode bytes pos → HasSoundWalk bytes (part_of option_here pos) → IsSomeAt Boxed KnowsNode bytes pos → PointsTo bytes (pos + 4) next → HasSoundWalk bytes (at next node_shape)
+  some_sound has w some points =
+      let d = some_in bytes has w.walked some points in
+      record { depth = w.depth + 1; value = d.value; walk = d.run; walked = d.walked; sound = right_nil (unless (nat_lt w.depth 64) too_deep) (faults bytes d.run) (sym d.faults_are ∙ w.sound) }
+
+  pub element_sound : {pos to len : ℕ} (i : ℕ) → HasValue (vector node_shape) KnowsNode bytes pos → HasSoundWalk bytes (part_of list_here pos) → IsVecAt node_shape KnowsNode bytes pos to len → i < len
+      → HasSoundWalk bytes (at (to + i * size_of node_shape) node_shape)
+  element_sound {to = to} {len = len} i has w vec less =
+      let l = vector_in bytes has vec w.walked in
+      let e = element_walk node_names bytes node_shape i len less l.nodes in
+      record {
+        depth = w.depth + 1;
+        value = e.value;
+        walk = get_or l.runs i [];
+        walked = e.walk;
+        sound = one_nil l.runs i (right_nil (unless (nat_lt w.depth 64) too_deep) (flat_map (faults bytes) l.runs) (sym l.faults_are ∙ w.sound));
+      }

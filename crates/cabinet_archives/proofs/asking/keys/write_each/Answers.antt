@@ -1,0 +1,38 @@
+use Rattle.std.proofs.Common.{ap, sym, subst, ◌∙◌, flat_map}
+use Rattle.std.specs.Prelude.{All}
+use Rattle.std.proofs.lemmas.List.Elements.{All-head, All-tail}
+use Rattle.std.proofs.lemmas.Result.{err_from_is_err_and}
+use Rattle.cabinet_text_writing.proofs.Pieces.{none_before, one_more, one_failed, all_written}
+use Rattle.cabinet_archives.proofs.Ascending.{HasTextIn, all_there}
+use Rattle.cabinet_archives.proofs.Texts.{text_is}
+use Rattle.cabinet_archives.proofs.Within.{key_piece, all_pieces}
+use Rattle.cabinet_archives.proofs.asking.keys.write_each.Goals as goal
+
+pub loop-key-init : goal.loop-key-init
+loop-key-init g c = record {
+  there = subst (All HasTextIn) (sym c.into_iter-key-iterator.ensures.into_iter_gives) (all_there c.args.map.bytes c.args.map.pos c.requires.there _ c.keys-key-items.ensures);
+  written = none_before key_piece _ c.into_iter-key-iterator.result;
+}
+
+pub as_str-requires : goal.as_str-requires
+as_str-requires g c = All-head HasTextIn _ _ (subst (All HasTextIn) c.in-Some.ensures.steps c.loop-key.invariant.there)
+
+pub returns-in_err-write_key-clause-written : goal.returns-in_err-write_key-clause-written
+returns-in_err-write_key-clause-written g c = λ v h.
+    let p = err_from_is_err_and c.from_residual.result c.from_residual.ensures.1 in
+    let failed = rw (text_is c.in-Some.key.bytes.now c.in-Some.key.pos c.as_str.result.now c.as_str.ensures) at c.in_err-write_key.ensures in
+    let all = ap (flat_map key_piece) c.into_iter-key-iterator.ensures.into_iter_gives ∙ all_pieces c.args.map.bytes c.args.map.pos _ c.keys-key-items.ensures v h in
+    rw (p.1, p.2) (one_failed key_piece c.in-Some.key c.next.new.self all c.in-Some.ensures.steps c.loop-key.invariant.written failed)
+
+pub loop-key-preserved : goal.loop-key-preserved
+loop-key-preserved g c =
+    let written = rw (text_is c.in-Some.key.bytes.now c.in-Some.key.pos c.as_str.result.now c.as_str.ensures) at c.in_ok-write_key.ensures in
+    record {
+      there = All-tail HasTextIn _ _ (subst (All HasTextIn) c.in-Some.ensures.steps c.loop-key.invariant.there);
+      written = one_more key_piece c.in-Some.key c.next.new.self c.in-Some.ensures.steps c.loop-key.invariant.written written;
+    }
+
+pub returns-clause-written : goal.returns-clause-written
+returns-clause-written g c = λ v h.
+    let all = ap (flat_map key_piece) c.into_iter-key-iterator.ensures.into_iter_gives ∙ all_pieces c.args.map.bytes c.args.map.pos _ c.keys-key-items.ensures v h in
+    all_written key_piece all c.in-None.ensures.steps.0 c.loop-key.invariant.written

@@ -1,0 +1,14 @@
+use Rattle.std.specs.Prelude.{⊤, All}
+use Rattle.archive_shape.specs.ShapeLayout.Shape.Shape.{text}
+use Rattle.archive_btree_walking.specs.Refs.{IsThere}
+use Rattle.cabinet_archived.specs.Documents.Node.{node_shape, KnowsNode}
+use Rattle.cabinet_text_writing.proofs.Pieces.{AreWrittenBefore}
+use Rattle.cabinet_archives.proofs.Within.{entry_piece}
+use Rattle.cabinet_archives.proofs.asking.keys.write_each_within.Given as goal
+
+-- entries lie where those lead that are left, and the keys of those before them were written
+abbrev pub invariant-loop-key : goal.invariant-loop-key
+invariant-loop-key g l = let w = g.W.Writer in record {
+  there : All (IsThere text node_shape (λ _. ⊤) KnowsNode) l.key-iterator;
+  written : AreWrittenBefore w.OBSERVABLE w.COUNTS w.contents g.W.Positional.pos w.failures w.last_error g.W.Registry.known entry_piece l.fn.writer l.writer l.initial.key-iterator l.key-iterator;
+}

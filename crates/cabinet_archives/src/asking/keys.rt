@@ -1,0 +1,87 @@
+//! Writes the keys of ordered maps in the bytes of archives.
+ghost use Rattle.std.specs.Prelude.{◌-◌, ◌^◌, ◌<◌};
+ghost use Rattle.std.specs.List.{filter};
+ghost use Rattle.archive_shape.specs.ShapeLayout.Content.{members};
+ghost use Rattle.archive_shape.specs.ShapeLayout.Content.Part.{at};
+ghost use Rattle.archive_shape_writing.specs.Writing.{Writes};
+ghost use Rattle.archive_forms_values.specs.Parts.{HasValue};
+ghost use Rattle.cabinet_text_nodes.specs.TextGrammar.Answering.{keys_are, lies_within, spelled_keys, spelled_answer};
+ghost use Rattle.cabinet_archived.specs.Documents.Table.{item_keys};
+ghost use Rattle.cabinet_archives.specs.Failing.{FailsByWriter};
+ghost use Rattle.cabinet_archives.specs.Ordered.{OfMap, knows_map, map_shape};
+ghost use Rattle.cabinet_archives.specs.Sound.{IsSoundPart};
+
+use crate::maps::OrderedMap;
+use archive_forms_values::ArchivedString;
+use archive_shape::Ref;
+use archive_shape_writing::{Error, Writer};
+use cabinet_text_writing::{write_key, write_keys_head};
+
+/// Writes each key of an ordered map.
+fn write_each<W: Writer>(map: Ref<'_, OrderedMap>, writer: &mut W) -> Result<(), Error>
+    requires there { HasValue map_shape knows_map map.bytes.now map.pos }
+    requires room { W.failures writer.old < 2 ^ 64 - 1 }
+    ensures written { OfMap map.entry.bytes.now map.entry.pos
+        (λ v. Writes W.Writer writer.old writer.new (spelled_keys (item_keys (members v))) result) }
+    ensures counted { FailsByWriter W.Writer writer.old writer.new result }
+{
+    for key in OrderedMap::keys(map) {
+        write_key(ArchivedString::as_str(key), writer)?;
+    }
+    Ok(())
+}
+
+/// Writes the answer that lists the keys of an ordered map. Does not allocate.
+pub(crate) fn write_keys<W: Writer>(map: Ref<'_, OrderedMap>, writer: &mut W) -> Result<(), Error>
+    requires there { HasValue map_shape knows_map map.bytes.now map.pos }
+    requires room { W.failures writer.old < 2 ^ 64 - 1 }
+    ensures written { OfMap map.entry.bytes.now map.entry.pos
+        (λ v. Writes W.Writer writer.old writer.new (spelled_answer (keys_are (item_keys (members v)))) result) }
+    ensures counted { FailsByWriter W.Writer writer.old writer.new result }
+{
+    write_keys_head(OrderedMap::len(map) as u64, writer)?;
+    write_each(map, writer)?;
+    writer.write(b"\n")
+}
+
+/// Writes each key that is at or above the first bound and below the second.
+fn write_each_within<W: Writer>(
+    map: Ref<'_, OrderedMap>,
+    low: &str,
+    high: &str,
+    writer: &mut W,
+) -> Result<(), Error>
+    requires there { HasValue map_shape knows_map map.bytes.now map.pos }
+    requires sound { IsSoundPart map.bytes.now (at map.pos map_shape) }
+    requires room { W.failures writer.old < 2 ^ 64 - 1 }
+    ensures written { OfMap map.entry.bytes.now map.entry.pos (λ v. Writes W.Writer writer.old writer.new
+        (spelled_keys (filter (lies_within low.now high.now) (item_keys (members v)))) result) }
+    ensures counted { FailsByWriter W.Writer writer.old writer.new result }
+{
+    for (key, _) in OrderedMap::range(map, low..high) {
+        write_key(ArchivedString::as_str(key), writer)?;
+    }
+    Ok(())
+}
+
+/// Writes the answer that lists the keys at or above the first bound and below the second. Reads the nodes of the tree
+/// on the way to the bounds and between them, and does not allocate.
+pub(crate) fn write_keys_within<W: Writer>(
+    map: Ref<'_, OrderedMap>,
+    low: &str,
+    high: &str,
+    writer: &mut W,
+) -> Result<(), Error>
+    requires there { HasValue map_shape knows_map map.bytes.now map.pos }
+    requires sound { IsSoundPart map.bytes.now (at map.pos map_shape) }
+    requires room { W.failures writer.old < 2 ^ 64 - 1 }
+    ensures written { OfMap map.entry.bytes.now map.entry.pos (λ v. Writes W.Writer writer.old writer.new
+        (spelled_answer (keys_are (filter (lies_within low.now high.now) (item_keys (members v))))) result) }
+    ensures counted { FailsByWriter W.Writer writer.old writer.new result }
+{
+    let _all = OrderedMap::len(map);
+    let count = OrderedMap::range(map, low..high).count();
+    write_keys_head(count as u64, writer)?;
+    write_each_within(map, low, high, writer)?;
+    writer.write(b"\n")
+}

@@ -1,0 +1,62 @@
+//! Ordered maps of archived nodes: whether their keys ascend, and the node of a key.
+ghost use Rattle.std.specs.Prelude.{◌≡◌, ℕ, true, List, IfSome, MatchOption};
+ghost use Rattle.std.specs.Option.{option_map};
+ghost use Rattle.archive_shape.specs.ShapeLayout.Value.{Value};
+ghost use Rattle.archive_shape.specs.ShapeLayout.Content.{members};
+ghost use Rattle.archive_shape.specs.ShapeLayout.Content.Part.{at};
+ghost use Rattle.archive_forms_values.specs.Parts.{HasValue};
+ghost use Rattle.cabinet_archived.specs.Documents.Node.{node_names, node_shape};
+ghost use Rattle.cabinet_archived.specs.Documents.Order.{ascend, is_below};
+ghost use Rattle.cabinet_archived.specs.Documents.Table.{item_keys};
+ghost use Rattle.cabinet_archived.specs.Documents.Walk.{Stop, Walks};
+ghost use Rattle.cabinet_archives.specs.Ordered.{HasEntry, KeyLeads, KeyLeadsNowhere, OfMap, knows_map, map_shape};
+ghost use Rattle.cabinet_archives.specs.Sound.{IsSoundPart};
+
+use archive_btree_maps::ArchivedBTreeMap;
+use archive_forms_values::ArchivedString;
+use archive_shape::Ref;
+use cabinet_archived::ArchivedNode;
+
+/// The search tree of nodes under texts.
+pub(crate) type OrderedMap = ArchivedBTreeMap<ArchivedString, ArchivedNode, 5>;
+
+/// Returns whether a key is above the one before it, if there is one.
+fn is_above(key: &str, last: Option<&str>) -> bool
+    ensures { MatchOption (option_map (λ k. k.now) last.entry) (result ≡ true) (λ k. result ≡ is_below k key.now) }
+{
+    match last {
+        Some(before) => before < key,
+        None => true,
+    }
+}
+
+/// Returns whether the keys of an ordered map ascend in the order of their bytes.
+pub(crate) fn keys_ascend(map: Ref<'_, OrderedMap>) -> bool
+    requires { HasValue map_shape knows_map map.bytes.now map.pos }
+    ensures { (depth : ℕ) (v : Value) (walk : List Stop)
+        → Walks node_names map.entry.bytes.now depth (at map.entry.pos map_shape) v walk
+        → result ≡ ascend (item_keys (members v)) }
+{
+    let mut last: Option<&str> = None;
+    for key in OrderedMap::keys(map) {
+        let text = ArchivedString::as_str(key);
+        if !is_above(text, last) {
+            return false;
+        }
+        last = Some(text);
+    }
+    true
+}
+
+/// Returns the node of a key, if the map has the key. Reads only the tree's nodes on the way to the key.
+pub(crate) fn get<'a>(map: Ref<'a, OrderedMap>, key: &str) -> Option<Ref<'a, ArchivedNode>>
+    requires has { HasValue map_shape knows_map map.bytes.now map.pos }
+    requires sound { IsSoundPart map.bytes.now (at map.pos map_shape) }
+    ensures leads { OfMap map.entry.bytes.now map.entry.pos (λ v. MatchOption result
+        (KeyLeadsNowhere v key.now)
+        (λ node. (node.bytes ≡ map.entry.bytes) × KeyLeads map.entry.bytes.now v key.now node.pos)) }
+    ensures way { IfSome result (λ node. HasEntry map.entry.bytes.now map.entry.pos key.now node.pos) }
+    ensures sound { IfSome result (λ node. IsSoundPart map.entry.bytes.now (at node.pos node_shape)) }
+{
+    OrderedMap::get(map, &key)
+}

@@ -1,0 +1,32 @@
+//! Why bytes are not opened as the archive of a document.
+ghost use Rattle.cabinet_archives.specs.Refused.{IsRefusalFor};
+
+use archive_shape_writing::Error;
+use thiserror::Error as Described;
+
+/// Why bytes are not opened as an archive.
+#[derive(Clone, Copy, Debug, PartialEq, Eq, Described)]
+pub enum OpenRefusal {
+    /// The bytes hold no node at their root.
+    #[error("the bytes are not an archive: {0}")]
+    Access(Error),
+    /// A container lies inside 64 others.
+    #[error("more than 64 containers lie in one another")]
+    TooDeep,
+    /// A key of an ordered map is not above the one before it.
+    #[error("the keys of an ordered map do not ascend")]
+    KeysNotAscending,
+    /// An allocation failed.
+    #[error("out of memory")]
+    OutOfMemory,
+}
+
+/// Returns the refusal for the error of an access.
+pub(crate) fn refused(error: Error) -> OpenRefusal
+    ensures { IsRefusalFor error result }
+{
+    match error {
+        Error::OutOfMemory => OpenRefusal::OutOfMemory,
+        error => OpenRefusal::Access(error),
+    }
+}

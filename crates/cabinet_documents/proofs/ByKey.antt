@@ -1,0 +1,207 @@
+-- The pairs of a map by their keys: distinct keys, a change at a key, and pairs in the order of their keys.
+use Rattle.std.proofs.Common.{◌≡◌, ◌≢◌, ℕ, suc, Bool, true, false, if◌then◌else◌, cond, List, [], ◌∷◌, Contains, All, refl, sym, ap, ap₂, subst, ◌∙◌, arith, ◌⊎◌, inl, inr}
+use Rattle.std.specs.Prelude.{⊤}
+use Rattle.std.specs.Str.{bytes_eq}
+use Rattle.std.specs.Ordering.{ordering_reverse}
+use Rattle.std.specs.declared.cmp.Ordering.TheVariants.{Less, Greater}
+use Rattle.std.specs.Cmp.Lexicographic.{nat_list_cmp_total}
+use Rattle.std.proofs.lemmas.Bool.{false_from_ne_true}
+use Rattle.std.proofs.lemmas.Slice.Eq.{bytes_eq-Decides}
+use Rattle.cabinet_text_grammar.specs.Keys.{MapKind, ordered, hashed, kept, IsBelow, IsAboveLast, MayFollow}
+use Rattle.cabinet_text_grammar.specs.Tree.{Leaf, Tree, Pairs, no_pairs, more_pairs, IsLegal, ArePairs}
+use Rattle.cabinet_text_grammar.specs.Path.{Step, node_at, node_by}
+use Rattle.cabinet_text_grammar.specs.Answering.{change, change_by}
+use Rattle.cabinet_documents.specs.Order.{is_below, inserted, arranged}
+
+-- ---- at a key, and past it
+
+module _ (n : List ℕ) (t : Tree) (ps : Pairs) (a : List ℕ) (path : List Step) where
+  pub change_here : (l : Leaf) → bytes_eq n a ≡ true → change_by (more_pairs n t ps) a path l ≡ more_pairs n (change t path l) ps
+  change_here l e = ap (λ x. if x then more_pairs n (change t path l) ps else more_pairs n t (change_by ps a path l)) e
+
+  pub change_past : (l : Leaf) → bytes_eq n a ≡ false → change_by (more_pairs n t ps) a path l ≡ more_pairs n t (change_by ps a path l)
+  change_past l e = ap (λ x. if x then more_pairs n (change t path l) ps else more_pairs n t (change_by ps a path l)) e
+
+  pub node_here : bytes_eq n a ≡ true → node_by (more_pairs n t ps) a path ≡ node_at t path
+  node_here e = ap (λ x. if x then node_at t path else node_by ps a path) e
+
+  pub node_past : bytes_eq n a ≡ false → node_by (more_pairs n t ps) a path ≡ node_by ps a path
+  node_past e = ap (λ x. if x then node_at t path else node_by ps a path) e
+
+pub keys_same : (k l : List ℕ) → k ≡ l → bytes_eq k l ≡ true
+keys_same k l e = (bytes_eq-Decides k l).1 e
+
+pub keys_differ : (k l : List ℕ) → k ≢ l → bytes_eq k l ≡ false
+keys_differ k l h = false_from_ne_true (bytes_eq k l) (λ e. h ((bytes_eq-Decides k l).0 e))
+
+-- ---- distinct keys
+
+-- no pair has the key
+abbrev pub Lacks : List ℕ → Pairs → Type 0
+Lacks k no_pairs = ⊤
+Lacks k (more_pairs l t ps) = (l ≢ k) × Lacks k ps
+
+-- the keys are distinct, and the nodes are legal
+abbrev pub AreDistinct : Pairs → Type 0
+AreDistinct no_pairs = ⊤
+AreDistinct (more_pairs k t ps) = Lacks k ps × IsLegal t × AreDistinct ps
+
+-- of a relation between a key and the keys so far, the last first: where it holds of the last key, and then holds on with
+-- each key that may follow, all of which differ
+module _
+    (kind : MapKind) (IsSoFar : List ℕ → List (List ℕ) → Type 0)
+    (begins : (k : List ℕ) (keys : List (List ℕ)) → IsSoFar k (k ∷ keys))
+    (goes_on : (k l : List ℕ) (keys : List (List ℕ)) → IsSoFar k keys → MayFollow kind keys l → (l ≢ k) × IsSoFar k (l ∷ keys))
+  where
+    lacks : (k : List ℕ) (keys : List (List ℕ)) (ps : Pairs) → IsSoFar k keys → ArePairs kind keys ps → Lacks k ps
+    lacks k keys no_pairs h p = tt
+    lacks k keys (more_pairs l t ps) h p = let g = goes_on k l keys h p.0.1 in (g.0, lacks k (l ∷ keys) ps g.1 p.1.1)
+
+    all_distinct : (keys : List (List ℕ)) (ps : Pairs) → ArePairs kind keys ps → AreDistinct ps
+    all_distinct keys no_pairs p = tt
+    all_distinct keys (more_pairs k t ps) p = (lacks k (k ∷ keys) ps (begins k keys) p.1.1, p.1.0, all_distinct (k ∷ keys) ps p.1.1)
+
+-- a key is the last of some keys, or below it
+abbrev IsUpTo : List ℕ → List (List ℕ) → Type 0
+IsUpTo k [] = ⊥
+IsUpTo k (last ∷ keys) = (k ≡ last) ⊎ IsBelow k last
+
+below_self : (k l : List ℕ) → IsBelow k l → l ≢ k
+below_self k l h e =
+    let total = nat_list_cmp_total in
+    let self : IsBelow k k = subst (IsBelow k) e h in
+    let both : Less ≡ Greater = sym self ∙ total.antisymm k k ∙ ap ordering_reverse self in
+    cc
+
+further : (k l : List ℕ) (keys : List (List ℕ)) → IsUpTo k keys → IsAboveLast keys l → (l ≢ k) × IsUpTo k (l ∷ keys)
+further k l [] h a = absurd h
+further k l (last ∷ keys) (inl e) a = let b = subst (λ x. IsBelow x l) (sym e) a in (below_self k l b, inr b)
+further k l (last ∷ keys) (inr h) a = let total = nat_list_cmp_total in let b = total.trans k last l h a in (below_self k l b, inr b)
+
+other : (k l : List ℕ) (keys : List (List ℕ)) → Contains keys k → All (λ before. before ≢ l) keys → (l ≢ k) × Contains (l ∷ keys) k
+other k l keys c all =
+    let low = c.1 in
+    (λ e. all c.0 k c.1 (c.2 ∙ sym e), (suc c.0, omega arith, c.2))
+
+pub distinct : (kind : MapKind) (keys : List (List ℕ)) (ps : Pairs) → ArePairs kind keys ps → AreDistinct ps
+distinct ordered = all_distinct ordered IsUpTo (λ k keys. inl refl) further
+distinct hashed = all_distinct hashed IsUpTo (λ k keys. inl refl) further
+distinct kept = all_distinct kept (λ k keys. Contains keys k) (λ k keys. (0, omega arith, refl)) other
+
+-- ---- pairs in the order of their keys
+
+lacks_inserted : (k l : List ℕ) (t : Tree) (ps : Pairs) → Lacks k (inserted l t ps) → Lacks k (more_pairs l t ps)
+lacks_inserted k l t no_pairs h = h
+lacks_inserted k l t (more_pairs m u ps) h = by_case (is_below m l) h (lacks_inserted k l t ps)
+  where
+    by_case : (b : Bool) → Lacks k (cond b (more_pairs m u (inserted l t ps)) (more_pairs l t (more_pairs m u ps))) → (Lacks k (inserted l t ps) → Lacks k (more_pairs l t ps)) → Lacks k (more_pairs l t (more_pairs m u ps))
+    by_case true g on = let r = on g.1 in (r.0, (g.0, r.1))
+    by_case false g on = g
+
+distinct_inserted : (l : List ℕ) (t : Tree) (ps : Pairs) → AreDistinct (inserted l t ps) → AreDistinct (more_pairs l t ps)
+distinct_inserted l t no_pairs h = h
+distinct_inserted l t (more_pairs m u ps) h = by_case (is_below m l) h (distinct_inserted l t ps)
+  where
+    by_case : (b : Bool) → AreDistinct (cond b (more_pairs m u (inserted l t ps)) (more_pairs l t (more_pairs m u ps))) → (AreDistinct (inserted l t ps) → AreDistinct (more_pairs l t ps)) → AreDistinct (more_pairs l t (more_pairs m u ps))
+    by_case true g on =
+        let r = on g.2 in
+        let s = lacks_inserted m l t ps g.0 in
+        (((λ e. s.0 (sym e)), r.0), r.1, (s.1, g.1, r.2))
+    by_case false g on = g
+
+lacks_arranged : (k : List ℕ) (ps : Pairs) → Lacks k (arranged ps) → Lacks k ps
+lacks_arranged k no_pairs h = tt
+lacks_arranged k (more_pairs l t ps) h = let r = lacks_inserted k l t (arranged ps) h in (r.0, lacks_arranged k ps r.1)
+
+distinct_arranged : (ps : Pairs) → AreDistinct (arranged ps) → AreDistinct ps
+distinct_arranged no_pairs h = tt
+distinct_arranged (more_pairs l t ps) h = let r = distinct_inserted l t (arranged ps) h in (lacks_arranged l ps r.0, r.1, distinct_arranged ps r.2)
+
+-- the node at a key
+
+either_first : {A : Type 0} (a b : Bool) (x y z : A) → (a ≡ true → b ≡ true → ⊥) → (if b then y else (if a then x else z)) ≡ (if a then x else (if b then y else z))
+either_first true true x y z h = absurd (h refl refl)
+either_first true false x y z h = refl
+either_first false true x y z h = refl
+either_first false false x y z h = refl
+
+module _ (a : List ℕ) (path : List Step) where
+  node_inserted : (l : List ℕ) (t : Tree) (ps : Pairs) → Lacks l ps → node_by (inserted l t ps) a path ≡ node_by (more_pairs l t ps) a path
+  node_inserted l t no_pairs h = refl
+  node_inserted l t (more_pairs m u ps) h = by_case (is_below m l) (node_inserted l t ps h.1)
+    where
+      by_case : (b : Bool) → node_by (inserted l t ps) a path ≡ node_by (more_pairs l t ps) a path
+          → node_by (cond b (more_pairs m u (inserted l t ps)) (more_pairs l t (more_pairs m u ps))) a path ≡ node_by (more_pairs l t (more_pairs m u ps)) a path
+      by_case true e =
+          ap (λ x. if bytes_eq m a then node_at u path else x) e
+          ∙ either_first (bytes_eq l a) (bytes_eq m a) (node_at t path) (node_at u path) (node_by ps a path)
+          (λ x y. h.0 ((bytes_eq-Decides m a).0 y ∙ sym ((bytes_eq-Decides l a).0 x)))
+      by_case false e = refl
+
+  node_arranged : (ps : Pairs) → AreDistinct (arranged ps) → node_by (arranged ps) a path ≡ node_by ps a path
+  node_arranged no_pairs h = refl
+  node_arranged (more_pairs l t ps) h =
+      let r = distinct_inserted l t (arranged ps) h in
+      node_inserted l t (arranged ps) r.0 ∙ ap (λ x. if bytes_eq l a then node_at t path else x) (node_arranged ps r.2)
+
+-- a change at a key is one of each node by its key
+
+abbrev mapped : (List ℕ → Tree → Tree) → Pairs → Pairs
+mapped f no_pairs = no_pairs
+mapped f (more_pairs k t ps) = more_pairs k (f k t) (mapped f ps)
+
+mapped_inserted : (f : List ℕ → Tree → Tree) (l : List ℕ) (t : Tree) (ps : Pairs) → mapped f (inserted l t ps) ≡ inserted l (f l t) (mapped f ps)
+mapped_inserted f l t no_pairs = refl
+mapped_inserted f l t (more_pairs m u ps) = by_case (is_below m l) (mapped_inserted f l t ps)
+  where
+    by_case : (b : Bool) → mapped f (inserted l t ps) ≡ inserted l (f l t) (mapped f ps)
+        → mapped f (cond b (more_pairs m u (inserted l t ps)) (more_pairs l t (more_pairs m u ps)))
+        ≡ cond b (more_pairs m (f m u) (inserted l (f l t) (mapped f ps))) (more_pairs l (f l t) (more_pairs m (f m u) (mapped f ps)))
+    by_case true e = ap (more_pairs m (f m u)) e
+    by_case false e = refl
+
+mapped_arranged : (f : List ℕ → Tree → Tree) (ps : Pairs) → mapped f (arranged ps) ≡ arranged (mapped f ps)
+mapped_arranged f no_pairs = refl
+mapped_arranged f (more_pairs l t ps) = mapped_inserted f l t (arranged ps) ∙ ap (inserted l (f l t)) (mapped_arranged f ps)
+
+module _ (a : List ℕ) (path : List Step) (new : Leaf) where
+  abbrev changed : List ℕ → Tree → Tree
+  changed k t = if bytes_eq k a then change t path new else t
+
+  lacking_stays : (ps : Pairs) → Lacks a ps → mapped changed ps ≡ ps
+  lacking_stays no_pairs h = refl
+  lacking_stays (more_pairs k t ps) h = ap₂ (more_pairs k) (ap (λ b. if b then change t path new else t) (keys_differ k a h.0)) (lacking_stays ps h.1)
+
+  change_is_mapped : (ps : Pairs) → AreDistinct ps → change_by ps a path new ≡ mapped changed ps
+  change_is_mapped no_pairs h = refl
+  change_is_mapped (more_pairs k t ps) h = by_case (bytes_eq k a) refl (change_is_mapped ps h.2)
+    where
+      by_case : (b : Bool) → bytes_eq k a ≡ b → change_by ps a path new ≡ mapped changed ps → change_by (more_pairs k t ps) a path new ≡ mapped changed (more_pairs k t ps)
+      by_case true e on =
+          let alone : Lacks a ps = subst (λ x. Lacks x ps) ((bytes_eq-Decides k a).0 e) h.0 in
+          change_here k t ps a path new e ∙ ap₂ (more_pairs k) (sym (ap (λ b. if b then change t path new else t) e)) (sym (lacking_stays ps alone))
+      by_case false e on = change_past k t ps a path new e ∙ ap₂ (more_pairs k) (sym (ap (λ b. if b then change t path new else t) e)) on
+
+-- ---- the order in which a map has its pairs
+
+abbrev pub in_order : MapKind → Pairs → Pairs
+in_order ordered ps = ps
+in_order hashed ps = arranged ps
+in_order kept ps = ps
+
+pub distinct_in_order : (kind : MapKind) (ps : Pairs) → AreDistinct (in_order kind ps) → AreDistinct ps
+distinct_in_order ordered ps h = h
+distinct_in_order hashed ps h = distinct_arranged ps h
+distinct_in_order kept ps h = h
+
+pub node_in_order : (kind : MapKind) (a : List ℕ) (path : List Step) (ps : Pairs) → AreDistinct (in_order kind ps) → node_by (in_order kind ps) a path ≡ node_by ps a path
+node_in_order ordered a path ps h = refl
+node_in_order hashed a path ps h = node_arranged a path ps h
+node_in_order kept a path ps h = refl
+
+pub change_in_order : (kind : MapKind) (a : List ℕ) (path : List Step) (new : Leaf) (ps : Pairs) → AreDistinct (in_order kind ps)
+    → change_by (in_order kind ps) a path new ≡ in_order kind (change_by ps a path new)
+change_in_order ordered a path new ps h = refl
+change_in_order hashed a path new ps h =
+    change_is_mapped a path new (arranged ps) h ∙ mapped_arranged (changed a path new) ps ∙ ap arranged (sym (change_is_mapped a path new ps (distinct_arranged ps h)))
+change_in_order kept a path new ps h = refl

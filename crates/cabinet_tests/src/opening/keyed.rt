@@ -1,0 +1,144 @@
+//! Tests of questions and edits under the keys of ordered maps.
+use crate::saved::archive_of;
+use crate::saving::ordered::{COFFEE_AND_TEA, decimal, decimals};
+use cabinet::{Asked, Leaf, Line, SetAnswer, Step, open, read_line, to_bytes};
+use std::alloc::{AllocError, Global};
+use std::test::Fail;
+
+/// A map from a to e to the numbers from 1 to 5, as saving never writes it: a leaf without entries from 0 on, an inner
+/// node from 176 on, whose child after the last entry is that leaf, and the root from 368 on.
+pub const FIVE_ABOVE_NONE: [u8; 392] =
+    *b"\0\0\0\0\0\0\0\0\0\0\0\0\0\0\0\0\0\0\0\0\0\0\0\0\0\0\0\0\0\0\0\0\0\0\0\0\0\0\0\0\0\0\0\0\0\0\0\0\0\0\0\0\0\0\0\0\0\0\0\0\0\0\0\0\0\0\0\0\0\0\0\0\0\0\0\0\0\0\0\0\0\0\0\0\0\0\0\0\0\0\0\0\0\0\0\0\0\0\0\0\0\0\0\0\0\0\0\0\0\0\0\0\0\0\0\0\0\0\0\0\0\0\0\0\0\0\0\0\0\0\0\0\0\0\0\0\0\0\0\0\0\0\0\0\0\0\0\0\0\0\0\0\0\0\0\0\0\0\0\0\0\0\0\0\0\0\0\0\0\0\0\0\0\0\0\0\x01\0\0\0a\xff\xff\xff\xff\xff\xff\xffb\xff\xff\xff\xff\xff\xff\xffc\xff\xff\xff\xff\xff\xff\xffd\xff\xff\xff\xff\xff\xff\xffe\xff\xff\xff\xff\xff\xff\xff\0\0\0\0\x01\0\0\0\0\0\0\0\x01\0\0\0\0\0\0\0\0\0\0\0\0\0\0\0\x01\0\0\0\0\0\0\0\x02\0\0\0\0\0\0\0\0\0\0\0\0\0\0\0\x01\0\0\0\0\0\0\0\x03\0\0\0\0\0\0\0\0\0\0\0\0\0\0\0\x01\0\0\0\0\0\0\0\x04\0\0\0\0\0\0\0\0\0\0\0\0\0\0\0\x01\0\0\0\0\0\0\0\x05\0\0\0\0\0\0\0\0\0\0\0\0\0\0\0\x01\0\0\0\x01\0\0\0\x01\0\0\0\x01\0\0\0\x01\0\0\0\x94\xfe\xff\xff\x06\0\0\0<\xff\xff\xff\x05\0\0\0\0\0\0\0\0\0\0\0\0\0\0\0";
+
+#[test]
+fn keys_of_a_tree_with_an_empty_leaf_are_answered(rt: HostRuntime) -> Result<(), Fail> {
+    let mut bytes = FIVE_ABOVE_NONE;
+    let opened = open(rt.alloc(), &mut bytes).map_err(|_| "refused")?;
+    let questions = [
+        (
+            b"get".as_slice(),
+            Asked::Answered,
+            b"ordered 5\n".as_slice(),
+        ),
+        (b"keys", Asked::Answered, b"keys 5 'a 'b 'c 'd 'e\n"),
+        (b"range 'b 'd", Asked::Answered, b"keys 2 'b 'c\n"),
+        (b"range 'bb 'e", Asked::Answered, b"keys 2 'c 'd\n"),
+        (b"range 'e 'z", Asked::Answered, b"keys 1 'e\n"),
+        (b"range ' 'a", Asked::Answered, b"keys 0\n"),
+        (b"range 'f 'z", Asked::Answered, b"keys 0\n"),
+        (b"range 'd 'b", Asked::Answered, b"keys 0\n"),
+        (b"range 'b 'b", Asked::Answered, b"keys 0\n"),
+        (b"get 'a", Asked::Answered, b"int 1\n"),
+        (b"get 'e", Asked::Answered, b"int 5\n"),
+        (b"get 'f", Asked::Missing, b"missing\n"),
+        (b"get '", Asked::Missing, b"missing\n"),
+        (b"get #0", Asked::Missing, b"missing\n"),
+        (b"get ?", Asked::Missing, b"missing\n"),
+        (b"get 'a 'a", Asked::Missing, b"missing\n"),
+        (b"keys 'a", Asked::Wrong, b"wrong\n"),
+        (b"keys 'f", Asked::Missing, b"missing\n"),
+        (b"range 'a 'z 'a", Asked::Wrong, b"wrong\n"),
+        (b"range 'a 'z #0", Asked::Missing, b"missing\n"),
+    ];
+    for (bytes, asked, answer) in questions {
+        let line = read_line(rt.alloc(), bytes)?;
+        if !line.is_question() {
+            return Err(Fail::from("no question"));
+        }
+        let mut answers = Vec::new(rt.alloc());
+        assert!(rt; opened.ask(&line, &mut answers)? == asked);
+        assert!(rt; answers.as_slice() == answer);
+    }
+    Ok(())
+}
+
+/// Returns the path of one key.
+fn key(alloc: Global, text: &str) -> Result<Step, AllocError> {
+    Ok(Step::Key(String::from_str(alloc, text)?))
+}
+
+#[test]
+fn a_leaf_under_a_key_is_set_in_its_own_bytes(rt: HostRuntime) -> Result<(), Fail> {
+    let mut bytes = FIVE_ABOVE_NONE;
+    let mut wanted = bytes;
+    wanted[280] = 9;
+    let mut opened = open(rt.alloc(), &mut bytes).map_err(|_| "refused")?;
+    let path = [key(rt.alloc(), "c")?];
+    assert!(rt; opened.set(&path, &Leaf::Int(9)) == SetAnswer::Done);
+    assert!(rt; opened.set(&path, &Leaf::Bool(true)) == SetAnswer::Refused);
+    assert!(rt; opened.set(&[], &Leaf::Int(9)) == SetAnswer::Refused);
+    assert!(rt; opened.set(&[key(rt.alloc(), "f")?], &Leaf::Int(9)) == SetAnswer::Missing);
+    assert!(rt; bytes == wanted);
+    Ok(())
+}
+
+#[test]
+fn bytes_of_no_field_stay_where_a_leaf_is_set(rt: HostRuntime) -> Result<(), Fail> {
+    let mut bytes = [0xbb; 207];
+    bytes[..200].copy_from_slice(&COFFEE_AND_TEA);
+    bytes[188..200].copy_from_slice(&[0xaa; 12]);
+    let mut wanted = bytes;
+    wanted[80] = 0x13;
+    wanted[81] = 0x01;
+    let mut opened = open(rt.alloc(), &mut bytes).map_err(|_| "refused")?;
+    let path = [key(rt.alloc(), "tea")?];
+    assert!(rt; opened.set(&path, &Leaf::Int(275)) == SetAnswer::Done);
+    assert!(rt; bytes == wanted);
+    Ok(())
+}
+
+#[test]
+fn a_map_with_a_leaf_set_is_saved_as_its_document(rt: HostRuntime) -> Result<(), Fail> {
+    let alloc = rt.alloc();
+    let text =
+        b"ordered 2\n'a\nlist 2\nbool true\ntext 'nine\\sbytes\n'b\nsome\nordered 1\n'c\nint 5\n";
+    let mut bytes = archive_of(alloc, text)?;
+    let mut opened = open(alloc, bytes.as_mut_slice()).map_err(|_| "refused")?;
+    let in_list = [key(alloc, "a")?, Step::Place(1)];
+    let leaf = Leaf::Text(String::from_str(alloc, "NINE BYTES")?);
+    assert!(rt; opened.set(&in_list, &leaf) == SetAnswer::Done);
+    let in_map = [key(alloc, "b")?, Step::Inside, key(alloc, "c")?];
+    assert!(rt; opened.set(&in_map, &Leaf::Int(-6)) == SetAnswer::Done);
+    let wanted =
+        b"ordered 2\n'a\nlist 2\nbool true\ntext 'NINE\\sBYTES\n'b\nsome\nordered 1\n'c\nint -6\n";
+    assert!(rt; bytes.as_slice() == archive_of(alloc, wanted)?.as_slice());
+    Ok(())
+}
+
+/// Asks for each of `count` decimal texts in the map of these, and writes the answers.
+fn ask_for_each(alloc: Global, count: i64, answers: &mut Vec<u8>) -> Result<(), Fail> {
+    let mut bytes = to_bytes(alloc, &decimals(alloc, count)?)?;
+    let opened = open(alloc, bytes.as_mut_slice()).map_err(|_| "refused")?;
+    for number in 0..count {
+        let mut path = Vec::new(alloc);
+        path.push(Step::Key(decimal(alloc, number)?))?;
+        opened.ask(&Line::Get(path), answers)?;
+    }
+    Ok(())
+}
+
+/// Returns the heads of the numbers below `count`.
+fn heads(alloc: Global, count: i64) -> Result<Vec<u8>, Fail> {
+    let mut heads = Vec::new(alloc);
+    for number in 0..count {
+        heads.extend_from_slice(b"int ")?;
+        heads.extend_from_slice(decimal(alloc, number)?.as_bytes())?;
+        heads.push(b'\n')?;
+    }
+    Ok(heads)
+}
+
+#[test]
+fn each_key_answers_in_maps_of_each_size(rt: HostRuntime) -> Result<(), Fail> {
+    for count in 0..=40 {
+        let mut answers = Vec::new(rt.alloc());
+        ask_for_each(rt.alloc(), count, &mut answers)?;
+        assert!(rt; answers.as_slice() == heads(rt.alloc(), count)?.as_slice());
+    }
+    for count in [112, 215] {
+        let mut answers = Vec::new(rt.alloc());
+        ask_for_each(rt.alloc(), count, &mut answers)?;
+        assert!(rt; answers.as_slice() == heads(rt.alloc(), count)?.as_slice());
+    }
+    Ok(())
+}

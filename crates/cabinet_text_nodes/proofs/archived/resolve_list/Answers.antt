@@ -1,9 +1,0 @@
-use Rattle.std.proofs.Common.{rules, arith}
-use Rattle.cabinet_documents.specs.Spelling.{node_spelling}
-use Rattle.cabinet_text_nodes.proofs.Resolved.{vec_resolved}
-use Rattle.cabinet_text_nodes.proofs.archived.resolve_list.Goals as goal
-
-pub returns : goal.returns
-returns c =
-    vec_resolved node_spelling c.args.nodes.now.items c.len.result c.args.resolver c.args.out.pos c.args.out.start c.args.out.out.now _ c.resolve_from_len.result
-    (omega (arith, c.len.ensures, c.args.nodes.now.ok)) (search rules)
