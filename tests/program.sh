@@ -509,24 +509,24 @@ ends 0 ''
 holds a.cab 01aaaaaaaaaaaaaa0600000000000000aaaaaaaaaaaaaaaa
 finish
 
-# nests KIND FIRST NODE LAST CAUSE N: N containers, one in the other, opened with a stack of 2 MiB. The bytes of the
-# innermost one come first, those of each further one's node follow, and last those of the root where they are others.
+# nests MIB KIND FIRST NODE LAST CAUSE N: N containers, one in the other, opened with a stack of so many MiB. The bytes of
+# the innermost one come first, those of each further one's node follow, and last those of the root where they are others.
 nests() {
-    begin "$6 $1 are refused: $5"
-    archive "$2$(printf "$3%.0s" $(seq 2 "$6"))$4"
+    begin "$7 $2 are refused: $6"
+    archive "$3$(printf "$4%.0s" $(seq 2 "$7"))$5"
     cp a.cab before.cab
     lines 'set int 6\n'
-    (ulimit -s 2048 && "$cab" run a.cab < input > output 2> errors)
+    (ulimit -s $(($1 * 1024)) && "$cab" run a.cab < input > output 2> errors)
     ended=$?
     prints ''
-    ends 1 "cab: open: $5\n"
+    ends 1 "cab: open: $6\n"
     cmp -s a.cab before.cab || differs 'a.cab was written'
     finish
 }
 
 for outcome in 'TooDeep 65' 'TooDeep 2198' 'Access 2199'; do
-    nests options "$five$some" "$some" '' $outcome
-    nests lists "$five$one" "$one" '' $outcome
+    nests 1 options "$five$some" "$some" '' $outcome
+    nests 1 lists "$five$one" "$one" '' $outcome
 done
 
 begin 'behind 65 options a tag that is none is told first'
@@ -1212,7 +1212,7 @@ cmp -s more.cab before.cab || differs 'more.cab was written'
 finish
 
 for outcome in 'TooDeep 65' 'TooDeep 2198' 'Access 2199'; do
-    nests maps "$(leaf a 5)" "$(with "$(leaf a 0)" 48 06000000 52 "$(word -228)" 56 01)" "$(map -180 1)" $outcome
+    nests 2 maps "$(leaf a 5)" "$(with "$(leaf a 0)" 48 06000000 52 "$(word -228)" 56 01)" "$(map -180 1)" $outcome
 done
 
 # flips NAME HEX LINES N: opens the bytes with each single bit changed. N times they are the archive of a document, and
