@@ -1,11 +1,15 @@
-//! The two commands of cab in plain, safe Rust, with which bench/run.sh compares cab. Archives and answers are those of
-//! cab, and the same texts, archives, lines and inputs are refused; the wording of a refusal differs. As in cab a text
-//! is read into a document, for which nothing is reserved by a count, and then the document is archived.
+//! The two commands of cab in plain, safe Rust, with which bench/run.sh and bench/ordered.sh compare cab. Archives and
+//! answers are those of cab, and the same texts, archives, lines and inputs are refused; the wording of a refusal
+//! differs. As in cab a text is read into a document, for which nothing is reserved by a count, and then that is
+//! archived.
 
 mod plain_archive;
+mod plain_tree;
 
 use plain_archive::{Archive, View, archive_of};
+use plain_tree::Walk;
 use std::borrow::Cow;
+use std::collections::BTreeMap;
 use std::env;
 use std::error::Error;
 use std::fs::{self, OpenOptions};
@@ -14,6 +18,10 @@ use std::str::{FromStr, Split};
 
 /// The greatest number of containers that lie in one another.
 const MOST: usize = 64;
+
+/// The greatest number of pairs that are inserted into a map as they are read. More are read first, and then make a map
+/// at once, which takes less time for them, and more for few.
+const FEW_PAIRS: u64 = if cfg!(pair_by_pair) { u64::MAX } else { 11 };
 
 const LONGEST_LINE: usize = 1 << 20;
 const LONGEST_INPUT: usize = u32::MAX as usize;
@@ -31,7 +39,12 @@ enum Node<'a> {
     Shared(Cow<'a, str>),
     Maybe(Option<Box<Node<'a>>>),
     List(Vec<Node<'a>>),
+    Ordered(Pairs<'a>),
 }
+
+type Pair<'a> = (Cow<'a, str>, Node<'a>);
+
+type Pairs<'a> = BTreeMap<Cow<'a, str>, Node<'a>>;
 
 // ---- texts
 
@@ -93,6 +106,7 @@ struct Lines<'a> {
 }
 
 impl<'a> Lines<'a> {
+    #[inline(always)]
     fn next(&mut self) -> Option<&'a str> {
         self.taken += 1;
         let (line, rest) = split_once(self.rest, b'\n')?;
@@ -115,6 +129,9 @@ impl<'a> Lines<'a> {
         }
         match split_once(line, b' ')? {
             ("list", count) if depth < MOST => self.next_elements(read_number(count)?, depth + 1),
+            ("ordered", count) if depth < MOST => self
+                .next_pairs(read_number(count)?, depth + 1)
+                .map(Node::Ordered),
             ("shared", argument) => read_quoted(argument).map(Node::Shared),
             (kind, argument) => read_leaf(kind, argument).map(Node::Leaf),
         }
@@ -126,6 +143,34 @@ impl<'a> Lines<'a> {
             elements.push(self.next_node(depth)?);
         }
         Some(Node::List(elements))
+    }
+
+    /// Reads a pair, whose key must be above the one before.
+    fn next_pair(&mut self, before: Option<&str>, depth: usize) -> Option<Pair<'a>> {
+        let key = read_quoted(self.next()?)?;
+        if before.is_some_and(|before| *key <= *before) {
+            return None;
+        }
+        Some((key, self.next_node(depth)?))
+    }
+
+    fn next_pairs(&mut self, count: u64, depth: usize) -> Option<Pairs<'a>> {
+        if count <= FEW_PAIRS {
+            let mut pairs = Pairs::new();
+            for _ in 0..count {
+                let before = pairs.last_key_value().map(|(key, _)| &**key);
+                let (key, node) = self.next_pair(before, depth)?;
+                pairs.insert(key, node);
+            }
+            return Some(pairs);
+        }
+        let mut pairs: Vec<Pair<'a>> = Vec::new();
+        for _ in 0..count {
+            let before = pairs.last().map(|(key, _)| &**key);
+            let pair = self.next_pair(before, depth)?;
+            pairs.push(pair);
+        }
+        Some(pairs.into_iter().collect())
     }
 }
 
@@ -143,31 +188,33 @@ fn read_document(text: &str) -> Result<Node<'_>, Refusal> {
 
 // ---- lines
 
-enum Step {
+enum Step<'a> {
     Place(u64),
     Inside,
-    /// By a key, which leads to nothing: there are no maps yet.
-    Key,
+    Key(Cow<'a, str>),
 }
+
+type Path<'a> = Vec<Step<'a>>;
 
 enum Line<'a> {
-    Get(Vec<Step>),
-    /// All keys of a map, or those of a range.
-    Keys(Vec<Step>),
-    Set(Vec<Step>, Leaf<'a>),
+    Get(Path<'a>),
+    Keys(Path<'a>),
+    /// The keys from one on and below another.
+    Range([Cow<'a, str>; 2], Path<'a>),
+    Set(Path<'a>, Leaf<'a>),
 }
 
-fn read_step(word: &str) -> Option<Step> {
+fn read_step(word: &str) -> Option<Step<'_>> {
     if word == "?" {
         return Some(Step::Inside);
     }
     match word.strip_prefix('#') {
         Some(place) => read_number(place).map(Step::Place),
-        None => read_quoted(word).map(|_| Step::Key),
+        None => read_quoted(word).map(Step::Key),
     }
 }
 
-fn read_path(words: Split<'_, char>) -> Option<Vec<Step>> {
+fn read_path<'a>(words: Split<'a, char>) -> Option<Path<'a>> {
     words.map(read_step).collect()
 }
 
@@ -177,9 +224,8 @@ fn read_line(line: &[u8]) -> Option<Line<'_>> {
         "get" => read_path(words).map(Line::Get),
         "keys" => read_path(words).map(Line::Keys),
         "range" => {
-            read_quoted(words.next()?)?;
-            read_quoted(words.next()?)?;
-            read_path(words).map(Line::Keys)
+            let bounds = [read_quoted(words.next()?)?, read_quoted(words.next()?)?];
+            Some(Line::Range(bounds, read_path(words)?))
         }
         "set" => {
             let leaf = read_leaf(words.next()?, words.next()?)?;
@@ -198,7 +244,21 @@ fn write_head(bytes: &[u8], there: View, out: &mut impl Write) -> io::Result<()>
         View::Maybe(None) => out.write_all(b"none\n"),
         View::Maybe(Some(_)) => out.write_all(b"some\n"),
         View::List { count, .. } => writeln!(out, "list {count}"),
+        View::Ordered { count, .. } => writeln!(out, "ordered {count}"),
     }
+}
+
+fn write_keys<'a>(
+    count: usize,
+    keys: impl Iterator<Item = &'a [u8]>,
+    out: &mut impl Write,
+) -> io::Result<()> {
+    write!(out, "keys {count}")?;
+    for key in keys {
+        out.write_all(b" '")?;
+        write_escaped(key, out)?;
+    }
+    out.write_all(b"\n")
 }
 
 /// Writes a head with the text after its apostrophe.
@@ -231,6 +291,19 @@ fn carry_out(archive: &mut Archive, line: &Line, out: &mut impl Write) -> io::Re
             None => out.write_all(b"missing\n"),
         },
         Line::Keys(path) => match archive.find(path) {
+            Some((_, View::Ordered { root, count })) => {
+                write_keys(count, Walk::all(&archive.bytes, root), out)
+            }
+            Some(_) => out.write_all(b"wrong\n"),
+            None => out.write_all(b"missing\n"),
+        },
+        Line::Range([low, high], path) => match archive.find(path) {
+            Some((_, View::Ordered { root, .. })) => {
+                let keys: Vec<_> = Walk::from(&archive.bytes, root, low.as_bytes())
+                    .take_while(|key| *key < high.as_bytes())
+                    .collect();
+                write_keys(keys.len(), keys.into_iter(), out)
+            }
             Some(_) => out.write_all(b"wrong\n"),
             None => out.write_all(b"missing\n"),
         },

@@ -1,20 +1,24 @@
 //! Archives of documents in plain Rust: written, checked, read and edited in place.
 
+use crate::plain_tree::find_key;
 use crate::{Leaf, MOST, Node, Refusal, Step};
 use std::collections::HashMap;
 use std::collections::hash_map::Entry;
 use std::ops::Range;
 use std::slice;
 
-const NODE: usize = 24;
-const ALIGN: usize = 8;
+pub const NODE: usize = 24;
+pub const TEXT: usize = 8;
+pub const ALIGN: usize = 8;
+/// The offset that denotes no target.
+pub const NOTHING: [u8; 4] = 1i32.to_le_bytes();
 const LONGEST_INLINE: usize = 8;
 const LONGEST_TEXT: usize = (1 << 30) - 1;
 
 // ---- archives that are written
 
-struct ArchiveWriter<'a> {
-    bytes: Vec<u8>,
+pub struct ArchiveWriter<'a> {
+    pub bytes: Vec<u8>,
     /// For each node that is still to be written, the position of what it leads to.
     targets: Vec<u32>,
     /// The position of each shared text.
@@ -26,20 +30,35 @@ impl<'a> ArchiveWriter<'a> {
         Ok(u32::try_from(self.bytes.len())?)
     }
 
+    /// Writes zeros up to the next place for nodes, and returns its position.
+    pub fn align(&mut self) -> Result<u32, Refusal> {
+        self.bytes
+            .resize(self.bytes.len().next_multiple_of(ALIGN), 0);
+        self.position()
+    }
+
+    /// Writes a text that is out of line, and returns its position.
+    pub fn put_text(&mut self, text: &str) -> Result<u32, Refusal> {
+        if text.len() > LONGEST_TEXT {
+            return Err("a text is too long".into());
+        }
+        if text.len() <= LONGEST_INLINE {
+            return Ok(0);
+        }
+        let start = self.position()?;
+        self.bytes.extend_from_slice(text.as_bytes());
+        Ok(start)
+    }
+
     /// Writes what a node leads to, and returns its position.
-    fn put_data(&mut self, node: &'a Node) -> Result<u32, Refusal> {
+    #[inline(always)]
+    pub fn put_data(&mut self, node: &'a Node) -> Result<u32, Refusal> {
         match node {
-            Node::Leaf(Leaf::Text(text)) if text.len() > LONGEST_TEXT => {
-                Err("a text is too long".into())
-            }
-            Node::Leaf(Leaf::Text(text)) if text.len() > LONGEST_INLINE => {
-                let start = self.position()?;
-                self.bytes.extend_from_slice(text.as_bytes());
-                Ok(start)
-            }
+            Node::Leaf(Leaf::Text(text)) => self.put_text(text),
             Node::Shared(text) => self.put_shared(text),
             Node::Maybe(Some(inside)) => self.put_nodes(slice::from_ref(inside)),
             Node::List(elements) => self.put_nodes(elements),
+            Node::Ordered(pairs) if !pairs.is_empty() => self.put_tree(pairs),
             _ => Ok(0),
         }
     }
@@ -66,63 +85,77 @@ impl<'a> ArchiveWriter<'a> {
             let target = self.put_data(node)?;
             self.targets.push(target);
         }
-        self.bytes
-            .resize(self.bytes.len().next_multiple_of(ALIGN), 0);
-        let start = self.position()?;
+        let start = self.align()?;
         for (node, at) in nodes.iter().zip(first..) {
-            let own = self.own_bytes(node, self.targets[at])?;
+            let own = own_bytes(node, self.targets[at], self.bytes.len())?;
             self.bytes.extend_from_slice(&own);
         }
         self.targets.truncate(first);
         Ok(start)
     }
+}
 
-    /// Returns the offset of a target from the given number of bytes into the next node.
-    fn offset(&self, target: u32, from: usize) -> Result<[u8; 4], Refusal> {
-        let offset = i64::from(target) - (self.bytes.len() + from) as i64;
-        Ok(i32::try_from(offset)?.to_le_bytes())
+/// Returns the offset of a target from a position.
+pub fn offset(target: u32, from: usize) -> Result<[u8; 4], Refusal> {
+    let offset = i64::from(target) - from as i64;
+    Ok(i32::try_from(offset)?.to_le_bytes())
+}
+
+/// Returns the own bytes of a text at a position.
+#[inline(always)]
+pub fn text_bytes(text: &str, target: u32, pos: usize) -> Result<[u8; TEXT], Refusal> {
+    let mut own = [0xff; TEXT];
+    if text.len() <= LONGEST_INLINE {
+        own[..text.len()].copy_from_slice(text.as_bytes());
+    } else {
+        let len = text.len() as u32;
+        let word = (len >> 6 << 8) | 0x80 | (len & 0x3f);
+        own[..4].copy_from_slice(&word.to_le_bytes());
+        own[4..].copy_from_slice(&offset(target, pos)?);
     }
+    Ok(own)
+}
 
-    /// Returns the own bytes of the next node.
-    fn own_bytes(&self, node: &Node, target: u32) -> Result<[u8; NODE], Refusal> {
-        let mut own = [0; NODE];
-        match node {
-            Node::Leaf(Leaf::Bool(value)) => own[1] = u8::from(*value),
-            Node::Leaf(Leaf::Int(number)) => {
-                own[0] = 1;
-                own[8..16].copy_from_slice(&number.to_le_bytes());
-            }
-            Node::Leaf(Leaf::Text(text)) if text.len() <= LONGEST_INLINE => {
-                own[0] = 2;
-                own[4..12].fill(0xff);
-                own[4..4 + text.len()].copy_from_slice(text.as_bytes());
-            }
-            Node::Leaf(Leaf::Text(text)) => {
-                let len = text.len() as u32;
-                let word = (len >> 6 << 8) | 0x80 | (len & 0x3f);
-                own[0] = 2;
-                own[4..8].copy_from_slice(&word.to_le_bytes());
-                own[8..12].copy_from_slice(&self.offset(target, 4)?);
-            }
-            Node::Shared(text) => {
-                own[0] = 3;
-                own[4..8].copy_from_slice(&self.offset(target, 4)?);
-                own[8..12].copy_from_slice(&u32::try_from(text.len())?.to_le_bytes());
-            }
-            Node::Maybe(None) => own[0] = 4,
-            Node::Maybe(Some(_)) => {
-                own[0] = 4;
-                own[4] = 1;
-                own[8..12].copy_from_slice(&self.offset(target, 8)?);
-            }
-            Node::List(elements) => {
-                own[0] = 5;
-                own[4..8].copy_from_slice(&self.offset(target, 4)?);
-                own[8..12].copy_from_slice(&u32::try_from(elements.len())?.to_le_bytes());
-            }
+/// Returns the own bytes of a node at a position.
+#[inline(always)]
+pub fn own_bytes(node: &Node, target: u32, pos: usize) -> Result<[u8; NODE], Refusal> {
+    let mut own = [0; NODE];
+    match node {
+        Node::Leaf(Leaf::Bool(value)) => own[1] = u8::from(*value),
+        Node::Leaf(Leaf::Int(number)) => {
+            own[0] = 1;
+            own[8..16].copy_from_slice(&number.to_le_bytes());
         }
-        Ok(own)
+        Node::Leaf(Leaf::Text(text)) => {
+            own[0] = 2;
+            own[4..12].copy_from_slice(&text_bytes(text, target, pos + 4)?);
+        }
+        Node::Shared(text) => {
+            own[0] = 3;
+            own[4..8].copy_from_slice(&offset(target, pos + 4)?);
+            own[8..12].copy_from_slice(&u32::try_from(text.len())?.to_le_bytes());
+        }
+        Node::Maybe(None) => own[0] = 4,
+        Node::Maybe(Some(_)) => {
+            own[0] = 4;
+            own[4] = 1;
+            own[8..12].copy_from_slice(&offset(target, pos + 8)?);
+        }
+        Node::List(elements) => {
+            own[0] = 5;
+            own[4..8].copy_from_slice(&offset(target, pos + 4)?);
+            own[8..12].copy_from_slice(&u32::try_from(elements.len())?.to_le_bytes());
+        }
+        Node::Ordered(pairs) => {
+            own[0] = 6;
+            own[4..8].copy_from_slice(&match pairs.is_empty() {
+                true => NOTHING,
+                false => offset(target, pos + 4)?,
+            });
+            own[8..12].copy_from_slice(&u32::try_from(pairs.len())?.to_le_bytes());
+        }
     }
+    Ok(own)
 }
 
 /// Returns the archive of a document.
@@ -146,29 +179,35 @@ pub enum View {
     Shared(Range<usize>),
     Maybe(Option<usize>),
     List { first: usize, count: usize },
+    Ordered { root: Option<usize>, count: usize },
 }
 
-fn word_in(own: &[u8; NODE], at: usize) -> [u8; 4] {
-    [own[at], own[at + 1], own[at + 2], own[at + 3]]
+/// Returns the bytes at a place in others.
+pub fn part<const N: usize>(own: &[u8], at: usize) -> &[u8; N] {
+    own[at..at + N].as_array().unwrap()
+}
+
+pub fn word_in(own: &[u8], at: usize) -> u32 {
+    u32::from_le_bytes(*part(own, at))
 }
 
 /// Returns the position that an offset leads to from a position.
-fn target(from: usize, offset: [u8; 4]) -> Option<usize> {
-    from.checked_add_signed(i32::from_le_bytes(offset) as isize)
+pub fn target(from: usize, offset: u32) -> Option<usize> {
+    from.checked_add_signed(offset as i32 as isize)
 }
 
-fn view_text(own: &[u8; NODE], pos: usize) -> Option<Range<usize>> {
-    if own[4] >> 6 != 0b10 {
-        let bytes = &own[4..12];
-        let len = bytes
+/// Returns where a text at a position has its bytes. Those out of line are not checked.
+pub fn view_text(own: &[u8; TEXT], pos: usize) -> Option<Range<usize>> {
+    if own[0] >> 6 != 0b10 {
+        let len = own
             .iter()
             .position(|byte| *byte == 0xff)
-            .unwrap_or(bytes.len());
-        return Some(pos + 4..pos + 4 + len);
+            .unwrap_or(own.len());
+        return Some(pos..pos + len);
     }
-    let word = u32::from_le_bytes(word_in(own, 4));
+    let word = word_in(own, 0);
     let len = ((word >> 8 << 6) | (word & 0x3f)) as usize;
-    let start = target(pos + 4, word_in(own, 8))?;
+    let start = target(pos, word_in(own, 4))?;
     (len > LONGEST_INLINE).then_some(start..start + len)
 }
 
@@ -178,17 +217,25 @@ fn view(own: &[u8; NODE], pos: usize) -> Option<View> {
     Some(match (own[0], own[4]) {
         (0, _) if own[1] <= 1 => View::Bool(own[1] == 1),
         (1, _) => View::Int(i64::from_le_bytes(own[8..16].try_into().ok()?)),
-        (2, _) => View::Text(view_text(own, pos)?),
+        (2, _) => View::Text(view_text(part(own, 4), pos + 4)?),
         (3, _) => {
             let start = target(pos + 4, word_in(own, 4))?;
-            View::Shared(start..start + u32::from_le_bytes(word_in(own, 8)) as usize)
+            View::Shared(start..start + word_in(own, 8) as usize)
         }
         (4, 0) => View::Maybe(None),
         (4, 1) => View::Maybe(Some(target(pos + 8, word_in(own, 8))?)),
         (5, _) => View::List {
             first: target(pos + 4, word_in(own, 4))?,
-            count: u32::from_le_bytes(word_in(own, 8)) as usize,
+            count: word_in(own, 8) as usize,
         },
+        (6, _) => {
+            let count = word_in(own, 8) as usize;
+            let root = match count {
+                0 => None,
+                _ => Some(target(pos + 4, word_in(own, 4))?),
+            };
+            View::Ordered { root, count }
+        }
         _ => return None,
     })
 }
@@ -198,9 +245,9 @@ fn view_at(bytes: &[u8], pos: usize) -> Option<View> {
 }
 
 /// The check of an archive, with the end of the last region that was claimed.
-struct Check<'a> {
-    bytes: &'a [u8],
-    claimed: usize,
+pub struct Check<'a> {
+    pub bytes: &'a [u8],
+    pub claimed: usize,
     /// The positions of the shared texts that were visited, and where each ends.
     shared: HashMap<usize, usize>,
 }
@@ -214,22 +261,33 @@ impl Check<'_> {
         }
         let (nodes, _) = self.bytes[start..after].as_chunks::<NODE>();
         for (i, own) in nodes.iter().enumerate() {
-            match view(own, start + i * NODE)? {
-                View::Bool(_) | View::Int(_) => {}
-                View::Text(text) => self.text(text, start)?,
-                View::Shared(text) => self.shared(text, start)?,
-                _ if depth == MOST => return None,
-                View::Maybe(None) => {}
-                View::Maybe(Some(inside)) => self.nodes(inside, 1, start, depth + 1)?,
-                View::List { first, count } => self.nodes(first, count, start, depth + 1)?,
-            }
+            self.node(own, start + i * NODE, start, depth)?;
         }
         self.claimed = after;
         Some(())
     }
 
+    /// Checks a node whose region was claimed, and what it leads to, which ends at `end` at most.
+    #[inline(always)]
+    pub fn node(&mut self, own: &[u8; NODE], pos: usize, end: usize, depth: usize) -> Option<()> {
+        match view(own, pos)? {
+            View::Bool(_) | View::Int(_) => Some(()),
+            View::Text(text) => self.text(text, end),
+            View::Shared(text) => self.shared(text, end),
+            _ if depth == MOST => None,
+            View::Maybe(None) | View::Ordered { root: None, .. } => Some(()),
+            View::Maybe(Some(inside)) => self.nodes(inside, 1, end, depth + 1),
+            View::List { first, count } => self.nodes(first, count, end, depth + 1),
+            View::Ordered {
+                root: Some(root),
+                count,
+            } => self.tree(root, count, end, depth + 1),
+        }
+    }
+
     /// Checks a text that ends at `end` at most where it is out of line.
-    fn text(&mut self, text: Range<usize>, end: usize) -> Option<()> {
+    #[inline(always)]
+    pub fn text(&mut self, text: Range<usize>, end: usize) -> Option<()> {
         if text.len() > LONGEST_INLINE {
             if text.start < self.claimed || end < text.end {
                 return None;
@@ -241,6 +299,7 @@ impl Check<'_> {
     }
 
     /// Checks a shared text, at its first use as a text that is out of line.
+    #[inline(always)]
     fn shared(&mut self, text: Range<usize>, end: usize) -> Option<()> {
         match self.shared.entry(text.start) {
             Entry::Occupied(there) => (*there.get() == text.end).then_some(()),
@@ -290,6 +349,9 @@ impl Archive {
                     first + *place as usize * NODE
                 }
                 (View::Maybe(Some(inside)), Step::Inside) => inside,
+                (View::Ordered { root, .. }, Step::Key(key)) => {
+                    find_key(&self.bytes, root, key.as_bytes())?
+                }
                 _ => return None,
             };
         }

@@ -6,19 +6,12 @@
 # the same two commands in plain Rust, and, if jq is installed, with the processor time of jq.
 # Without rustc, cab is compared with sed alone.
 # Each time is the least of three, and each processor time the least of five, those of a comparison taken in turns.
+# Usage: bench/run.sh [CAB [PROCESSOR]]. Without CAB, a program that is there for PROCESSOR, cab is proved and built.
 set -eu
-root=$(cd "$(dirname "$0")/.." && pwd)
-work=$(mktemp -d)
-trap 'rm -rf "$work"' EXIT
-cab=$root/crates/cab/out/cab
-
-# Without its stamp cab is built again, and the log names the processor.
-rm -f "$root/crates/cab/out/cab.stamp"
-if ! (cd "$root/crates/cab" && rt run -- build "$root/examples/first/text" "$work/first.cab") < /dev/null > "$work/log" 2>&1; then
-    cat "$work/log"
-    exit 1
-fi
+source "$(dirname "$0")/programs.sh"
+find_cab "$@"
 cd "$work"
+"$cab" build "$root/examples/first/text" first.cab > answers
 mkfifo pipe
 
 # ---- what is measured
@@ -30,52 +23,6 @@ taken() {
     began=${EPOCHREALTIME/./}
     "$@" < "$lines" > answers
     echo $((${EPOCHREALTIME/./} - began))
-}
-
-# prints the microseconds of the processor, in user and system mode
-spent() {
-    local lines=$1 user system TIMEFORMAT='%U %S'
-    shift
-    read -r user system < <({ time "$@" < "$lines" > answers; } 2>&1)
-    echo $(((10#${user/./} + 10#${system/./}) * 1000))
-}
-
-# prints the most kilobytes that a command held when it waits for more lines than those of the file $1, or for room in
-# the pipe
-held() {
-    local lines=$1 id
-    shift
-    "$@" < pipe > answers &
-    id=$!
-    exec 3> pipe
-    cat "$lines" >&3
-    sleep 0.2
-    until grep -q '^State:[[:space:]]*[SZ]' "/proc/$id/status"; do
-        sleep 0.1
-    done
-    sed -n 's/^VmHWM:[[:space:]]*\([0-9]*\) kB/\1/p' "/proc/$id/status"
-    exec 3>&-
-    kill $id
-    wait $id 2> /dev/null || true
-}
-
-least() {
-    if [ "$1" -eq 0 ] || [ "$2" -lt "$1" ]; then echo "$2"; else echo "$1"; fi
-}
-
-seconds() {
-    printf '%d.%03d s' $(($1 / 1000000)) $(($1 / 1000 % 1000))
-}
-
-ratio() {
-    printf '%d.%02d' $(($1 / $2)) $(($1 * 100 / $2 % 100))
-}
-
-same() {
-    if ! cmp -s "$1" "$2"; then
-        echo "$1 and $2 differ"
-        exit 1
-    fi
 }
 
 # ---- lines
@@ -136,10 +83,7 @@ if ! command -v rustc > /dev/null; then
     echo 'no rustc: cab was not compared with plain Rust'
     exit 0
 fi
-# the processor that cab is compiled for
-processor=$(sed -n 's/^logic=proved.* cpu=\([^ ]*\).*/\1/p' log | tail -n 1)
-rustc --edition 2024 -C opt-level=3 -C codegen-units=1 ${processor:+-C target-cpu="$processor"} \
-    -o plain "$root/bench/plain.rs"
+compile_plain plain
 command -v jq > /dev/null || echo 'no jq: cab was not compared with it'
 echo "beside plain Rust, both for the processor ${processor:-that rustc assumes}, user and system time:"
 
@@ -215,14 +159,6 @@ beside_plain() {
     same cab-files/a.cab plain-files/a.cab
     echo -n "$what: cab $(seconds "$by_cab"), plain Rust $(seconds "$by_plain"), ratio $(ratio "$by_cab" "$by_plain")"
     if [ "$by_jq" = 0 ]; then echo; else echo ", jq $(seconds "$by_jq"), ratio $(ratio "$by_cab" "$by_jq")"; fi
-}
-
-memory_beside_plain() {
-    local what=$1 by_cab by_plain
-    shift
-    by_cab=$(held /dev/null "$cab" "$@")
-    by_plain=$(held /dev/null ./plain "$@")
-    echo "most memory of $what: cab $by_cab kB, plain Rust $by_plain kB, ratio $(ratio "$by_cab" "$by_plain")"
 }
 
 mkdir cab-files plain-files

@@ -1,0 +1,285 @@
+#!/usr/bin/env bash
+# Usage: bench/ordered.sh [CAB [PROCESSOR]]. Compares the processor time of cab on two documents of a million leaves in
+# ordered maps, one map and a list of 200,000 maps of five, with that of bench/plain.rs, the same two commands in plain
+# Rust, and, where they are installed, with that of jq on the same document as JSON and of sqlite3 on a table of the
+# same keys. The table is built by an import, and each question is one statement. Archives and answers are compared.
+# Last it opens an archive of few lists and texts, which has no maps.
+# Without CAB, a program that is there for PROCESSOR, cab is proved and built. Each time is the least of five, those of
+# a comparison taken in turns. A ratio is that of cab's time to the one before it, with its goal in brackets.
+set -eu
+source "$(dirname "$0")/programs.sh"
+find_cab "$@"
+cd "$work"
+mkfifo pipe
+compile_plain plain
+compile_plain plain-pairs --cfg pair_by_pair
+has_jq=$(command -v jq || echo)
+has_sqlite=$(command -v sqlite3 || echo)
+echo "for the processor ${processor:-that rustc assumes}, user and system time"
+mkdir {cab,plain,jq,sqlite}-files
+
+# ---- the documents
+
+# each document as a text, as JSON and as rows of a table
+awk 'BEGIN {
+    leaves = 1000000
+    fields = 5
+    print "ordered", leaves > "map"
+    for (i = 1; i <= leaves; i++) {
+        key = sprintf("key%07d", i)
+        text = "value number " i
+        printf "%s\"%s\":%s", i == 1 ? "{" : ",", key, i % 2 ? i : "\"" text "\"" > "map.json"
+        printf "%s\t%s\n", key, i % 2 ? i : text > "map.rows"
+        printf "'\''%s\n%s\n", key, i % 2 ? "int " i : "text '\''value\\snumber\\s" i > "map"
+    }
+    print "}" > "map.json"
+    print "list", leaves / fields > "records"
+    for (place = 0; place < leaves / fields; place++) {
+        i = place * fields + fields
+        score = i * 7919 % 1000
+        printf "ordered 5\n'\''active\nbool true\n'\''id\nint %d\n'\''mail\ntext '\''user%d@example.org\n" \
+            "'\''name\ntext '\''user\\s%d\n'\''score\nint %d\n", i, i, i, score > "records"
+        printf "%s{\"active\":true,\"id\":%d,\"mail\":\"user%d@example.org\",\"name\":\"user %d\",\"score\":%d}", \
+            place ? "," : "[", i, i, i, score > "records.json"
+        printf "%d\tactive\ttrue\n%d\tid\t%d\n", place, place, i > "records.rows"
+        printf "%d\tmail\tuser%d@example.org\n", place, i > "records.rows"
+        printf "%d\tname\tuser %d\n%d\tscore\t%d\n", place, i, place, score > "records.rows"
+    }
+    print "]" > "records.json"
+}'
+cat > map.table << 'END'
+pragma synchronous = off;
+pragma journal_mode = off;
+create table leaves (key text primary key, value numeric) without rowid;
+.mode tabs
+.import ../map.rows leaves
+END
+cat > records.table << 'END'
+pragma synchronous = off;
+pragma journal_mode = off;
+create table leaves
+    (record integer, key text, value numeric, primary key (record, key)) without rowid;
+.mode tabs
+.import ../records.rows leaves
+END
+
+# ---- the lines, and statements that request the same
+
+# 100,000 places of each document, in no order; and of its maps all keys, and ranges
+awk 'BEGIN {
+    split("active id mail name score", fields, " ")
+    of = "select value from leaves where"
+    list = "select key from leaves where"
+    edit = "update leaves set value ="
+    print "begin;" > "map.set.sql"
+    print "begin;" > "records.set.sql"
+    for (i = 1; i <= 100000; i++) {
+        place = i * 7919 % 1000000
+        key = sprintf("key%07d", place + 1)
+        number_key = sprintf("key%07d", place - place % 2 + 1)
+        record = place % 200000
+        field = fields[int(place / 200000) + 1]
+        print "get '\''" key > "map.get"
+        printf "[\"%s\"]\n", key > "map.paths"
+        printf "%s key = '\''%s'\'';\n", of, key > "map.get.sql"
+        print "set int " i " '\''" number_key > "map.set"
+        printf "%s %d where key = '\''%s'\'';\n", edit, i, number_key > "map.set.sql"
+        print "get #" record " '\''" field > "records.get"
+        printf "[%d,\"%s\"]\n", record, field > "records.paths"
+        printf "%s record = %d and key = '\''%s'\'';\n", of, record, field > "records.get.sql"
+        print "set int " i " #" record " '\''score" > "records.set"
+        printf "%s %d where record = %d and key = '\''score'\'';\n", edit, i, record > "records.set.sql"
+        print "keys #" record > "records.keys"
+        printf "%s record = %d order by key;\n", list, record > "records.keys.sql"
+        print "range '\''id '\''name #" record > "records.range"
+        printf "%s record = %d and key >= '\''id'\'' and key < '\''name'\'' order by key;\n", list, record \
+            > "records.range.sql"
+    }
+    print "commit;" > "map.set.sql"
+    print "commit;" > "records.set.sql"
+    print "keys" > "map.keys"
+    print "select key from leaves order by key;" > "map.keys.sql"
+    for (i = 1; i <= 1000; i++) {
+        first = i * 7919 % 999900 + 1
+        low = sprintf("key%07d", first)
+        high = sprintf("key%07d", first + 100)
+        printf "range '\''%s '\''%s\n", low, high > "map.range"
+        printf "%s key >= '\''%s'\'' and key < '\''%s'\'' order by key;\n", list, low, high > "map.range.sql"
+    }
+}'
+
+# ---- the comparisons
+
+# The words of jq, and the statements of sqlite3 on a copy of the document's table, that request the same as the lines
+# of a comparison; nothing where there are none. The goals of the ratios to plain Rust, jq and sqlite3.
+jq_words=()
+statements=
+plain_goal=1.1
+jq_goal=
+sqlite_goal=
+
+# prints the ratio $1 to $2, and a goal
+beside() {
+    echo -n "ratio $(ratio "$1" "$2")${3:+ ($3)}"
+}
+
+# taken_by WORD..: measures by_cab, by_plain, by_jq and by_sqlite, the times that programs take to do the same, cab and
+# plain Rust by the command WORD.. with the lines of the file $lines
+taken_by() {
+    by_cab=0 by_plain=0 by_jq=0 by_sqlite=0
+    for _ in 1 2 3 4 5; do
+        cp "$document.cab" cab-files/a.cab
+        cp "$document.cab" plain-files/a.cab
+        by_cab=$(cd cab-files && least $by_cab "$(spent "$lines" "$cab" "$@")")
+        by_plain=$(cd plain-files && least $by_plain "$(spent "$lines" ../plain "$@")")
+        if [ ${#jq_words[@]} != 0 ] && [ "$has_jq" ]; then
+            by_jq=$(cd jq-files && least $by_jq "$(spent /dev/null jq "${jq_words[@]}")")
+        fi
+        if [ "$statements" ] && [ "$has_sqlite" ]; then
+            rm -f sqlite-files/a.db
+            [ ! -e "$document.db" ] || cp "$document.db" sqlite-files/a.db
+            by_sqlite=$(cd sqlite-files && least $by_sqlite "$(spent "../$statements" sqlite3 -batch a.db)")
+        fi
+    done
+    same cab-files/answers plain-files/answers
+    same cab-files/a.cab plain-files/a.cab
+}
+
+# prints what was taken, but for the end of the line
+print_taken() {
+    echo -n "$document: $1: cab $(seconds "$by_cab"), plain Rust $(seconds "$by_plain")," \
+        "$(beside "$by_cab" "$by_plain" "$plain_goal")"
+    [ "$by_jq" = 0 ] || echo -n "; jq $(seconds "$by_jq"), $(beside "$by_cab" "$by_jq" "$jq_goal")"
+    [ "$by_sqlite" = 0 ] ||
+        echo -n "; sqlite3 $(seconds "$by_sqlite"), $(beside "$by_cab" "$by_sqlite" "$sqlite_goal")"
+}
+
+# prints the time $1 less the time $2, or 0
+less() {
+    echo $(($1 > $2 ? $1 - $2 : 0))
+}
+
+# asked WHAT KIND: compares lines of a kind after opening, also without the times of opening
+asked() {
+    local cab_alone plain_alone
+    lines=$work/$document.$2
+    statements=$document.$2.sql
+    taken_by run a.cab
+    print_taken "open, and $1"
+    cab_alone=$(less "$by_cab" "$cab_opens")
+    plain_alone=$(less "$by_plain" "$plain_opens")
+    echo -n "; less opening: cab $(seconds "$cab_alone"), plain Rust $(seconds "$plain_alone")," \
+        "$(beside "$cab_alone" "$plain_alone")"
+    [ "$by_sqlite" = 0 ] || echo -n "; beside sqlite3 $(beside "$cab_alone" "$by_sqlite" "$sqlite_goal")"
+    echo
+}
+
+# answered PROGRAM COMMAND..: the answers of cab, as the command writes them, must be those of a program that is there
+answered() {
+    local answers=$1-files/answers
+    shift
+    [ ! -e "$answers" ] || { "$@" cab-files/answers > told && same told "$answers"; }
+}
+
+heads() {
+    sed "s/^[a-z]* '*//; s/\\\\s/ /g" "$@"
+}
+
+keys() {
+    sed "s/^keys [0-9]* '//; s/ '/\n/g" "$@"
+}
+
+for document in map records; do
+    ./plain build $document $document.cab > answers
+
+    lines=/dev/null
+    jq_words=(-c . ../$document.json)
+    jq_goal=0.4
+    statements=$document.table
+    taken_by build ../$document a.cab
+    print_taken build
+    [ ! -e sqlite-files/a.db ] || mv sqlite-files/a.db $document.db
+    by_pairs=0
+    for _ in 1 2 3 4 5; do
+        by_pairs=$(least $by_pairs "$(spent /dev/null ./plain-pairs build $document pairs.cab)")
+    done
+    same pairs.cab $document.cab
+    echo "; plain Rust pair by pair $(seconds "$by_pairs"), $(beside "$by_cab" "$by_pairs")"
+
+    jq_words=()
+    jq_goal=
+    statements=
+    taken_by run a.cab
+    print_taken open
+    echo
+    cab_opens=$by_cab
+    plain_opens=$by_plain
+
+    sqlite_goal=0.15
+    jq_words=(-r --slurpfile paths ../$document.paths 'getpath($paths[])' ../$document.json)
+    jq_goal=0.15
+    asked '100,000 get' get
+    answered jq heads
+    answered sqlite heads
+    jq_words=()
+    if [ $document = map ]; then
+        asked 'keys of all' keys
+        answered sqlite keys
+        asked '1,000 ranges of a hundred keys' range
+        answered sqlite keys
+    else
+        asked '100,000 keys of a map of five' keys
+        answered sqlite keys
+        asked '100,000 ranges of two keys' range
+        answered sqlite keys
+    fi
+    sqlite_goal=
+    asked '100,000 set int' set
+
+    memory_beside_plain "$document: build" build $document pipe
+    memory_beside_plain "$document: open" run $document.cab
+done
+
+# ---- an archive of few regions without maps
+
+{
+    echo 'list 3'
+    for i in {1..3}; do
+        echo 'list 10'
+        for j in {1..10}; do
+            echo "text 'number\s$i\sof\s$j"
+        done
+    done
+} > few
+echo 'int 5' > one
+./plain build few few.cab > answers
+./plain build one one.cab > answers
+
+# runs a program 500 times on an archive, without lines
+opened() {
+    for _ in {1..500}; do
+        "$1" run "$2"
+    done
+}
+
+# prints the instructions of a program that opens an archive
+instructions() {
+    valgrind --tool=callgrind --callgrind-out-file=/dev/null "$1" run "$2" 2>&1 < /dev/null |
+        sed -n 's/.*Collected : \([0-9]*\)$/\1/p'
+}
+
+by_cab=0 by_plain=0
+for _ in 1 2 3 4 5; do
+    by_cab=$(least $by_cab "$(spent /dev/null opened "$cab" few.cab)")
+    by_plain=$(least $by_plain "$(spent /dev/null opened ./plain few.cab)")
+done
+echo -n "few: 500 times open 30 texts in three lists: cab $(seconds "$by_cab"), plain Rust $(seconds "$by_plain")," \
+    "$(beside "$by_cab" "$by_plain" "$plain_goal")"
+if command -v valgrind > /dev/null; then
+    by_cab=$(($(instructions "$cab" few.cab) - $(instructions "$cab" one.cab)))
+    by_plain=$(($(instructions ./plain few.cab) - $(instructions ./plain one.cab)))
+    echo "; instructions of one, less those of opening one number: cab $by_cab, plain Rust $by_plain," \
+        "$(beside "$by_cab" "$by_plain")"
+else
+    echo
+fi
