@@ -22,7 +22,7 @@ use Rattle.archive_forms_writing.specs.Steps.{IsElement}
 use Rattle.archive_hash_maps.specs.declared.map.resolving.HashTableResolver.{HashTableResolver}
 use Rattle.archive_hash_writing.specs.Claimed.{AreHashesOf, WritesClaimed, WritesTable, written_spelling}
 use Rattle.archive_hash.specs.Given.{WritesEntries, entry_of, pair_of, key_entry}
-use Rattle.archive_hash.proofs.Seen.{hashed_seen}
+use Rattle.archive_hash_writing.proofs.Seen.{hashed_seen}
 
 -- ---- what comes
 

@@ -2,7 +2,6 @@ mod Answering
 mod Given
 mod Inserted
 mod Items
-mod Resolved
-pub mod Seen
+pub mod Resolved
 mod StdMaps
 mod Whole

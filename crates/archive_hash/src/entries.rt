@@ -9,12 +9,13 @@ ghost use Rattle.archive_forms_laws.specs.Taking.{GivesAs};
 ghost use Rattle.archive_hash_probing.specs.Inputs.{input_hash};
 ghost use Rattle.archive_hash.specs.Given.{TakesGiven, WritesEntries, entry_of, pair_of};
 
+use crate::entry_with::EntryWith;
 use archive_forms_borrowed::{EntryAdapter, EntryResolver, EntryStep};
 use archive_forms_values::Entry;
-use archive_forms_writing::{Archive, ByArchive};
+use archive_forms_writing::{Archive, ArchiveWith};
 use archive_hash_maps::HashTableResolver;
 use archive_hash_probing::{Scan, hash_key};
-use archive_hash_writing::serialize_from_iter_scan_each;
+use archive_hash_writing::serialize_from_iter_scan_with_each;
 use archive_shape::{Allocator, Error, Writer};
 use std::hash::Hash;
 use std::marker::PhantomData;
@@ -47,31 +48,33 @@ impl<'a, K: 'a, V: 'a, I: Iterator<Item = (&'a K, &'a V)>> Iterator for Entries<
     }
 }
 
-/// Writes the data of an entry by a step.
+/// Writes the data of an entry, whose value is archived by `with`, by a step.
 fn serialize_by_step<
     K: Archive,
-    V: Archive,
+    V,
+    A: ArchiveWith<V>,
     S: Writer + Allocator,
-    C: EntryStep<K, V, ByArchive, S>,
+    C: EntryStep<K, V, A, S>,
 >(
+    with: &A,
     entry: &EntryAdapter<'_, K, V>,
     serializer: &mut S,
     step: &C,
 ) -> Result<
     (
-        EntryResolver<K::Resolver, V::Resolver>,
-        PhantomData<Entry<K::Archived, V::Archived>>,
+        EntryResolver<K::Resolver, A::Resolver>,
+        PhantomData<Entry<K::Archived, A::Archived>>,
     ),
     Error,
 >
-    requires taken { C.takes step.now (record {}) (entry_of entry.now) }
+    requires taken { C.takes step.now with.now (entry_of entry.now) }
     requires room { S.failures serializer.old < 2 ^ 64 - 1 }
     requires state { HasState S.pos S.known serializer.old }
     ensures { SerializesBy (λ q. q.0)
-        (entry_spelling K.Archived.shape K.spelling V.Archived.shape V.spelling) S.Writer entry.now
+        (entry_spelling K.Archived.shape K.spelling A.Archived.shape (A.spelling with.now)) S.Writer entry.now
         serializer.old serializer.new result }
 {
-    match step.serialize_entry(&ByArchive, entry.key, entry.value, serializer) {
+    match step.serialize_entry(with, entry.key, entry.value, serializer) {
         Ok(done) => Ok((
             EntryResolver {
                 key: done.0,
@@ -84,16 +87,18 @@ fn serialize_by_step<
 }
 
 /// Writes the table of the entries of a map that an iterator returns, by the hashes of their keys. Their data is
-/// written by `step`, by ascending place.
+/// written by `step`, by ascending place. The values are archived by `with`.
 pub(crate) fn serialize_entries_scan_each<
     'a,
     G: Scan,
     K: Archive + Hash + 'a,
-    V: Archive + 'a,
+    V: 'a,
+    A: ArchiveWith<V>,
     S: Writer + Allocator,
     I: Iterator<Item = (&'a K, &'a V)>,
-    C: EntryStep<K, V, ByArchive, S>,
+    C: EntryStep<K, V, A, S>,
 >(
+    with: &A,
     len: usize,
     pairs: I,
     load_factor: (usize, usize),
@@ -103,16 +108,26 @@ pub(crate) fn serialize_entries_scan_each<
     requires calls { I.can_next pairs × IsFinite (I.remaining pairs) }
     requires room { S.failures serializer.old < 2 ^ 64 - 1 }
     requires state { HasState S.pos S.known serializer.old }
-    requires takes { TakesGiven I.next_gives (C.takes step.now) (record {}) pairs }
+    requires takes { TakesGiven I.next_gives (C.takes step.now) with.now pairs }
     ensures { WritesEntries (Drains (GivesAs deref_pair I.next_gives) pairs)
-        (λ k. input_hash (K.hash_input k)) load_factor K.Archived.shape V.Archived.shape K.spelling
-        V.spelling S.Writer len serializer.old serializer.new result }
+        (λ k. input_hash (K.hash_input k)) load_factor K.Archived.shape A.Archived.shape K.spelling
+        (A.spelling with.now) S.Writer len serializer.old serializer.new result }
 {
     let entries = Entries {
         pairs,
         of: PhantomData,
     };
-    serialize_from_iter_scan_each::<G, EntryAdapter<'a, K, V>, S, Entries<'a, K, V, I>, _, _>(
+    let by = EntryWith { values: with };
+    serialize_from_iter_scan_with_each::<
+        G,
+        EntryAdapter<'a, K, V>,
+        EntryWith<'_, A>,
+        S,
+        Entries<'a, K, V, I>,
+        _,
+        _,
+    >(
+        &by,
         entries,
         len,
         load_factor,
@@ -122,17 +137,17 @@ pub(crate) fn serialize_entries_scan_each<
         serializer,
         |entry: &EntryAdapter<K, V>, s: &mut S| -> Result<
             (
-                EntryResolver<K::Resolver, V::Resolver>,
-                PhantomData<Entry<K::Archived, V::Archived>>,
+                EntryResolver<K::Resolver, A::Resolver>,
+                PhantomData<Entry<K::Archived, A::Archived>>,
             ),
             Error,
         >
-            requires taken { C.takes step.now (record {}) (entry_of entry.now) }
+            requires taken { C.takes step.now with.now (entry_of entry.now) }
             requires room { S.failures s.old < 2 ^ 64 - 1 }
             requires state { HasState S.pos S.known s.old }
             ensures { SerializesBy (λ q. q.0)
-                (entry_spelling K.Archived.shape K.spelling V.Archived.shape V.spelling)
+                (entry_spelling K.Archived.shape K.spelling A.Archived.shape (A.spelling with.entry.now))
                 S.Writer entry.now s.old s.new result }
-        { serialize_by_step(entry, s, step) },
+        { serialize_by_step(with, entry, s, step) },
     )
 }

@@ -9,7 +9,7 @@ ghost use Rattle.archive_hash.specs.Given.{WritesEntries};
 
 use crate::entries::serialize_entries_scan_each;
 use archive_forms_borrowed::SerializeEntry;
-use archive_forms_writing::Serialize;
+use archive_forms_writing::{ByArchive, Serialize};
 use archive_hash_maps::HashTableResolver;
 use archive_hash_probing::Group;
 use archive_shape::{Allocator, Error, Writer};
@@ -46,7 +46,8 @@ pub fn serialize_map_from_iter<
         (λ k. input_hash (K.hash_input k)) load_factor K.Archived.shape V.Archived.shape K.spelling V.spelling S.Writer len serializer.old serializer.new result }
 {
     let pairs = entries.into_iter();
-    serialize_entries_scan_each::<Group, K, V, S, I::IntoIter, SerializeEntry>(
+    serialize_entries_scan_each::<Group, K, V, ByArchive, S, I::IntoIter, SerializeEntry>(
+        &ByArchive,
         len,
         pairs,
         load_factor,

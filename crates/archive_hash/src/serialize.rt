@@ -39,7 +39,14 @@ fn serialize_rest_scan_each<
         (λ k. input_hash (K.hash_input k)) K.Archived.shape V.Archived.shape K.spelling V.spelling)
         S.Writer pairs.entry serializer.old serializer.new result }
 {
-    serialize_entries_scan_each::<G, K, V, S, _, C>(len, pairs, LOAD_FACTOR, serializer, step)
+    serialize_entries_scan_each::<G, K, V, ByArchive, S, _, C>(
+        &ByArchive,
+        len,
+        pairs,
+        LOAD_FACTOR,
+        serializer,
+        step,
+    )
 }
 
 /// Writes the hash table of a map. `step` writes the data of its entries, by ascending place. The scan `G` decides how

@@ -78,7 +78,14 @@ fn serialize_keys_scan_each<
         (tuple no_shapes) K.spelling unit_spelling) S.Writer entries.entry
         serializer.old serializer.new result }
 {
-    serialize_entries_scan_each::<G, K, (), S, _, C>(len, entries, LOAD_FACTOR, serializer, step)
+    serialize_entries_scan_each::<G, K, (), ByArchive, S, _, C>(
+        &ByArchive,
+        len,
+        entries,
+        LOAD_FACTOR,
+        serializer,
+        step,
+    )
 }
 
 /// Writes the hash table of a set. `step` writes the data of its keys, each with `()` as its value, by ascending place.

@@ -25,12 +25,12 @@ use Rattle.archive_hash_writing.specs.Tables.{buckets, buckets_fit, buckets_refu
 use Rattle.archive_hash_writing.proofs.Tagged.{AreTagged}
 
 -- a place without a tag holds no item, and one with a tag does
-tagged_none : (target : ℕ) (it : Item) (i c : ℕ) (cs : List ℕ) → 128 ≤ c → tagged_items target it i (c ∷ cs) ≡ tagged_items target it (i + 1) cs
+pub tagged_none : (target : ℕ) (it : Item) (i c : ℕ) (cs : List ℕ) → 128 ≤ c → tagged_items target it i (c ∷ cs) ≡ tagged_items target it (i + 1) cs
 unfolding tagged_items
 tagged_none target it i c cs h =
     ap (λ b. cond b (item_part it (target - (i + 1) * item_size it) ∷ tagged_items target it (i + 1) cs) (tagged_items target it (i + 1) cs)) (le-ltb c 128 h)
 
-tagged_some : (target : ℕ) (it : Item) (i c : ℕ) (cs : List ℕ) → c < 128
+pub tagged_some : (target : ℕ) (it : Item) (i c : ℕ) (cs : List ℕ) → c < 128
     → tagged_items target it i (c ∷ cs) ≡ item_part it (target - (i + 1) * item_size it) ∷ tagged_items target it (i + 1) cs
 unfolding tagged_items
 tagged_some target it i c cs h =

@@ -47,7 +47,7 @@ use Rattle.archive_shape_layout.proofs.Windows.{word_within}
 
 -- ---- a table's own bytes
 
-length-own : (controls : Option ℕ) (pos len cap : ℕ) → length (link_bytes controls pos ++ (to_le_bytes w32 len ++ to_le_bytes w32 cap)) ≡ 12
+pub length-own : (controls : Option ℕ) (pos len cap : ℕ) → length (link_bytes controls pos ++ (to_le_bytes w32 len ++ to_le_bytes w32 cap)) ≡ 12
 length-own None pos len cap = refl
 length-own (Some to) pos len cap = refl
 

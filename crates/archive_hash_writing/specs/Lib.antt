@@ -1,3 +1,4 @@
+pub mod Beside
 pub mod Claimed
 pub mod Fitted
 pub mod Laws

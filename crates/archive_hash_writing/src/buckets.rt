@@ -9,7 +9,7 @@ ghost use Rattle.archive_forms_writing.specs.FormsLaws.Regions.{resolvers};
 ghost use Rattle.archive_hash_writing.specs.Standing.{standing};
 ghost use Rattle.archive_hash_writing.specs.Laying.{MakesRoom, LaysBuckets};
 
-use archive_forms_writing::Archive;
+use archive_forms_writing::ArchiveWith;
 use archive_shape::{Allocator, Error, Place, Portable, Writer};
 
 /// The number of bytes of buckets that are written at once.
@@ -41,39 +41,41 @@ fn make_room<W: Writer>(
 
 /// Writes the own bytes of an item, whose data is already written, at `start` of a buffer. The buffer is zero there,
 /// and will itself be written so that these bytes are at position `pos`.
-fn resolve_bucket<T: Archive>(
+fn resolve_bucket<T, A: ArchiveWith<T>>(
+    with: &A,
     item: &T,
-    resolver: T::Resolver,
+    resolver: A::Resolver,
     start: usize,
     pos: usize,
     buffer: &mut [u8],
 ) -> Result<(), Error>
-    requires { CanResolve T.spelling T.Archived.shape item.now resolver buffer.old start pos }
-    ensures { Resolves T.spelling T.Archived.shape item.now resolver pos start buffer.old buffer.new
+    requires { CanResolve (A.spelling with.now) A.Archived.shape item.now resolver buffer.old start pos }
+    ensures { Resolves (A.spelling with.now) A.Archived.shape item.now resolver pos start buffer.old buffer.new
         result }
 {
-    item.resolve(resolver, Place::within(buffer, start, pos))
+    with.resolve_with(item, resolver, Place::within(buffer, start, pos))
 }
 
 /// Writes the buckets of a table, whose items' data is already written. The buffer that they pass through begins as
 /// zeros.
-fn write_through<'a, T: Archive, W: Writer>(
+fn write_through<'a, T, A: ArchiveWith<T>, W: Writer>(
+    with: &A,
     table: &[Option<&'a T>],
-    kept: &[T::Resolver],
+    kept: &[A::Resolver],
     writer: &mut W,
     buffer: &mut [u8],
 ) -> Result<(), Error>
     requires room { W.failures writer.old < 2 ^ 64 - 1 }
-    requires made { (st : State) × (kept.now ≡ resolvers T.spelling
+    requires made { (st : State) × (kept.now ≡ resolvers (A.spelling with.now)
         (present (map standing table.now)) st) }
     requires blank { buffer.old ≡ zeros (length buffer.old) }
-    requires wide { size_of T.Archived.shape ≤ length buffer.old }
-    requires stands { W.pos writer.old + length table.now * size_of T.Archived.shape < 2 ^ 64 }
-    ensures { (st : State) → kept.now ≡ resolvers T.spelling (present (map standing table.now)) st
-        → LaysBuckets T.Archived.shape T.spelling W.Writer (map standing table.now) st writer.old writer.new result }
+    requires wide { size_of A.Archived.shape ≤ length buffer.old }
+    requires stands { W.pos writer.old + length table.now * size_of A.Archived.shape < 2 ^ 64 }
+    ensures { (st : State) → kept.now ≡ resolvers (A.spelling with.now) (present (map standing table.now)) st
+        → LaysBuckets A.Archived.shape (A.spelling with.now) W.Writer (map standing table.now) st writer.old writer.new result }
 {
     let _len = buffer.len();
-    let size = T::Archived::SIZE;
+    let size = A::Archived::SIZE;
     let mut left = kept.len();
     let mut filled = 0;
     for p in (0..table.len()).rev() {
@@ -84,7 +86,7 @@ fn write_through<'a, T: Archive, W: Writer>(
         if let Some(item) = table[p] {
             left -= 1;
             let pos = writer.pos() + filled;
-            if let Err(e) = resolve_bucket(item, kept[left], filled, pos, buffer) {
+            if let Err(e) = resolve_bucket(with, item, kept[left], filled, pos, buffer) {
                 return Err(e);
             }
         }
@@ -95,26 +97,27 @@ fn write_through<'a, T: Archive, W: Writer>(
 
 /// Writes the buckets of a table, whose items' data is already written. They end before position 2^64. Items larger
 /// than the buffer of 256 bytes use a buffer from the serializer's memory; `OutOfMemory` if its allocation fails.
-pub(crate) fn write_buckets<'a, T: Archive, S: Writer + Allocator>(
+pub(crate) fn write_buckets<'a, T, A: ArchiveWith<T>, S: Writer + Allocator>(
+    with: &A,
     table: &[Option<&'a T>],
-    kept: &[T::Resolver],
+    kept: &[A::Resolver],
     serializer: &mut S,
 ) -> Result<(), Error>
     requires room { S.failures serializer.old < 2 ^ 64 - 1 }
-    requires made { (st : State) × (kept.now ≡ resolvers T.spelling
+    requires made { (st : State) × (kept.now ≡ resolvers (A.spelling with.now)
         (present (map standing table.now)) st) }
     requires some { 0 < length table.now }
-    requires stands { S.pos serializer.old + length table.now * size_of T.Archived.shape < 2 ^ 64 }
-    ensures { (st : State) → kept.now ≡ resolvers T.spelling (present (map standing table.now)) st
-        → LaysBuckets T.Archived.shape T.spelling S.Writer (map standing table.now) st serializer.old serializer.new result }
+    requires stands { S.pos serializer.old + length table.now * size_of A.Archived.shape < 2 ^ 64 }
+    ensures { (st : State) → kept.now ≡ resolvers (A.spelling with.now) (present (map standing table.now)) st
+        → LaysBuckets A.Archived.shape (A.spelling with.now) S.Writer (map standing table.now) st serializer.old serializer.new result }
 {
-    let size = T::Archived::SIZE;
+    let size = A::Archived::SIZE;
     if size <= BUFFER {
         let mut buffer = [0; BUFFER];
-        return write_through(table, kept, serializer, &mut buffer);
+        return write_through(with, table, kept, serializer, &mut buffer);
     }
     match vec![in serializer.memory(); 0u8; size] {
-        Ok(mut buffer) => write_through(table, kept, serializer, buffer.as_mut_slice()),
+        Ok(mut buffer) => write_through(with, table, kept, serializer, buffer.as_mut_slice()),
         Err(_) => Err(Error::OutOfMemory),
     }
 }

@@ -7,31 +7,33 @@ ghost use Rattle.archive_forms_writing.specs.FormsLaws.Regions.{state_after_all,
 ghost use Rattle.archive_forms_writing.specs.Steps.{StepTakes, StepWrites};
 ghost use Rattle.archive_hash_writing.specs.Standing.{standing};
 
-use archive_forms_writing::Archive;
+use archive_forms_writing::ArchiveWith;
 use archive_shape::{Allocator, Error, Writer};
 use std::marker::PhantomData;
 
 /// Writes the data of the items in a table by `step`, and returns their resolvers. There are `count` items.
 pub(crate) fn serialize_present_each<
     'a,
-    T: Archive,
+    T,
+    A: ArchiveWith<T>,
     S: Writer + Allocator,
-    F: Fn(&T, &mut S) -> Result<(T::Resolver, PhantomData<T::Archived>), Error>,
+    F: Fn(&T, &mut S) -> Result<(A::Resolver, PhantomData<A::Archived>), Error>,
 >(
+    with: &A,
     table: &[Option<&'a T>],
     count: usize,
     serializer: &mut S,
     step: F,
-) -> Result<Vec<T::Resolver>, Error>
+) -> Result<Vec<A::Resolver>, Error>
     requires room { S.failures serializer.old < 2 ^ 64 - 1 }
     requires state { HasState S.pos S.known serializer.old }
     requires takes { StepTakes F.Fn S.Writer step (present (map standing table.now)) }
-    requires writes { StepWrites F.Fn (λ q. q.0) T.spelling S.Writer step }
+    requires writes { StepWrites F.Fn (λ q. q.0) (A.spelling with.now) S.Writer step }
     ensures { (st : State) → IsAt S.pos S.known serializer.old st
         → let xs = present (map standing table.now) in
-        LaysData S.Writer serializer.old serializer.new (pieces T.spelling xs st)
-        (λ all. (all.items ≡ resolvers T.spelling xs st) × pieces_fit T.spelling xs st × IsAt S.pos S.known serializer.new (state_after_all T.spelling xs st))
-        (pieces_refused T.spelling xs st) result }
+        LaysData S.Writer serializer.old serializer.new (pieces (A.spelling with.now) xs st)
+        (λ all. (all.items ≡ resolvers (A.spelling with.now) xs st) × pieces_fit (A.spelling with.now) xs st × IsAt S.pos S.known serializer.new (state_after_all (A.spelling with.now) xs st))
+        (pieces_refused (A.spelling with.now) xs st) result }
 {
     let Ok(mut all) = Vec::with_capacity(serializer.memory(), count) else {
         return Err(Error::OutOfMemory);

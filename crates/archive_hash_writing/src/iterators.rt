@@ -9,16 +9,16 @@ ghost use Rattle.archive_hash_writing.specs.Claimed.{WritesTable};
 use crate::hashes::hash_items;
 use crate::tables::serialize_hashed;
 use archive_forms_borrowed::collect_items;
-use archive_forms_writing::{Archive, Serialize, serialize_element};
+use archive_forms_writing::{Archive, ArchiveWith, ByArchive, Serialize, serialize_element};
 use archive_hash_maps::HashTableResolver;
 use archive_hash_probing::{Group, Scan};
 use archive_shape::{Allocator, Error, Writer};
 use std::marker::PhantomData;
 
 /// Writes the table of the items that an iterator returns: each item, in this order, at its first fit. `len` is the
-/// number of items that the caller claims. The items' data is written by `step`, by ascending place. At most
-/// `load_factor.0` of `load_factor.1` places are full. Memory is allocated for the items that the iterator returns, and
-/// none for those that are only claimed.
+/// number of items that the caller claims. The items' data is written by `step`, by ascending place, and the items are
+/// archived by `with`. At most `load_factor.0` of `load_factor.1` places are full. Memory is allocated for the items that
+/// the iterator returns, and none for those that are only claimed.
 ///
 /// # Errors
 /// `InvalidLoadFactor` if no places or more than all may be full, and `IteratorLengthMismatch` if the iterator returns
@@ -26,6 +26,60 @@ use std::marker::PhantomData;
 /// places or more. `PositionTooLarge` if its buckets would not begin before position 2^32, or its controls would not
 /// end before position 2^64. `OutOfMemory` if an allocation fails. Also each error of `step` and of the serializer, and
 /// each error of resolving an item's own bytes.
+pub fn serialize_from_iter_scan_with_each<
+    G: Scan,
+    T: Drop,
+    A: ArchiveWith<T>,
+    S: Writer + Allocator,
+    I: IntoIterator<Item = T> + Drop,
+    H: Fn(&T) -> u64,
+    F: Fn(&T, &mut S) -> Result<(A::Resolver, PhantomData<A::Archived>), Error>,
+>(
+    with: &A,
+    iter: I,
+    len: usize,
+    load_factor: (usize, usize),
+    hash: H,
+    serializer: &mut S,
+    step: F,
+) -> Result<HashTableResolver, Error>
+    requires room { S.failures serializer.old < 2 ^ 64 - 1 }
+    requires state { HasState S.pos S.known serializer.old }
+    requires ends { IsFiniteIterable I.into_iter_gives I.IntoIter.can_next I.IntoIter.remaining iter }
+    requires takes { (it : I.IntoIter) (xs : List T) → I.into_iter_gives iter it
+        → Drains I.IntoIter.next_gives it xs → StepTakes F.Fn S.Writer step xs }
+    requires writes { StepWrites F.Fn (λ q. q.0) (A.spelling with.now) S.Writer step }
+    requires hashes { (it : I.IntoIter) (xs : List T) → I.into_iter_gives iter it
+        → Drains I.IntoIter.next_gives it xs → (x : _) → IsElement xs x.now → H.pre hash x }
+    ensures { WritesTable (λ xs. (it : I.IntoIter) × I.into_iter_gives iter it
+        × Drains I.IntoIter.next_gives it xs) load_factor A.Archived.shape (A.spelling with.now) S.Writer
+        (λ x h. FnReturnsAt H.Fn hash x h) len serializer.old serializer.new result }
+{
+    if load_factor.0 == 0 || load_factor.0 > load_factor.1 {
+        return Err(Error::InvalidLoadFactor);
+    }
+    let items = match collect_items(serializer.memory(), iter) {
+        Ok(items) => items,
+        Err(e) => return Err(e),
+    };
+    let actual = items.len();
+    if actual != len {
+        return Err(Error::IteratorLengthMismatch {
+            expected: len,
+            actual,
+        });
+    }
+    let items = items.as_slice();
+    let hashes = match hash_items(serializer.memory(), items, hash) {
+        Ok(hashes) => hashes,
+        Err(e) => return Err(e),
+    };
+    let hashes = hashes.as_slice();
+    serialize_hashed::<G, T, A, S, F>(with, items, hashes, load_factor, serializer, step)
+}
+
+/// Writes the table of the items that an iterator returns, as `serialize_from_iter_scan_with_each` does. The items are
+/// archived by `Archive`.
 pub fn serialize_from_iter_scan_each<
     G: Scan,
     T: Archive + Drop,
@@ -53,27 +107,15 @@ pub fn serialize_from_iter_scan_each<
         × Drains I.IntoIter.next_gives it xs) load_factor T.Archived.shape T.spelling S.Writer
         (λ x h. FnReturnsAt H.Fn hash x h) len serializer.old serializer.new result }
 {
-    if load_factor.0 == 0 || load_factor.0 > load_factor.1 {
-        return Err(Error::InvalidLoadFactor);
-    }
-    let items = match collect_items(serializer.memory(), iter) {
-        Ok(items) => items,
-        Err(e) => return Err(e),
-    };
-    let actual = items.len();
-    if actual != len {
-        return Err(Error::IteratorLengthMismatch {
-            expected: len,
-            actual,
-        });
-    }
-    let items = items.as_slice();
-    let hashes = match hash_items(serializer.memory(), items, hash) {
-        Ok(hashes) => hashes,
-        Err(e) => return Err(e),
-    };
-    let hashes = hashes.as_slice();
-    serialize_hashed::<G, T, S, F>(items, hashes, load_factor, serializer, step)
+    serialize_from_iter_scan_with_each::<G, T, ByArchive, S, I, H, F>(
+        &ByArchive,
+        iter,
+        len,
+        load_factor,
+        hash,
+        serializer,
+        step,
+    )
 }
 
 /// Writes the table of the items that an iterator returns, as `serialize_from_iter_scan_each` does. The scan `G`

@@ -14,4 +14,7 @@ mod places;
 mod region;
 mod tables;
 
-pub use iterators::{serialize_from_iter, serialize_from_iter_scan, serialize_from_iter_scan_each};
+pub use iterators::{
+    serialize_from_iter, serialize_from_iter_scan, serialize_from_iter_scan_each,
+    serialize_from_iter_scan_with_each,
+};

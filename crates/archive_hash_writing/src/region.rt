@@ -9,7 +9,7 @@ ghost use Rattle.archive_hash_writing.specs.Standing.{standing};
 ghost use Rattle.archive_hash_writing.specs.Laying.{LaysRegion};
 
 use crate::buckets::write_buckets;
-use archive_forms_writing::{Archive, align};
+use archive_forms_writing::{ArchiveWith, align};
 use archive_shape::{Allocator, Error, Portable, Writer};
 
 /// The last position at which the region of a table may begin.
@@ -34,29 +34,30 @@ fn controls_position<T: Portable>(from: usize, places: usize, controls: usize) -
 }
 
 /// Writes the buckets and the controls of a table after the data of its items. Returns the position of the controls.
-pub(crate) fn write_region<'a, T: Archive, S: Writer + Allocator>(
+pub(crate) fn write_region<'a, T, A: ArchiveWith<T>, S: Writer + Allocator>(
+    with: &A,
     table: &[Option<&'a T>],
-    kept: &[T::Resolver],
+    kept: &[A::Resolver],
     controls: &[u8],
     serializer: &mut S,
 ) -> Result<usize, Error>
     requires room { S.failures serializer.old < 2 ^ 64 - 1 }
     requires places { 0 < length table.now }
     requires controls { 0 < length controls.now }
-    requires made { (st : State) × (kept.now ≡ resolvers T.spelling
+    requires made { (st : State) × (kept.now ≡ resolvers (A.spelling with.now)
         (present (map standing table.now)) st) }
-    ensures { (st : State) → kept.now ≡ resolvers T.spelling (present (map standing table.now)) st
-        → S.pos serializer.old ≡ (state_after_items T.Archived.shape T.spelling (map standing table.now) st).pos
-        → LaysRegion T.Archived.shape T.spelling S.Writer (map standing table.now) controls.now st serializer.old serializer.new result }
+    ensures { (st : State) → kept.now ≡ resolvers (A.spelling with.now) (present (map standing table.now)) st
+        → S.pos serializer.old ≡ (state_after_items A.Archived.shape (A.spelling with.now) (map standing table.now) st).pos
+        → LaysRegion A.Archived.shape (A.spelling with.now) S.Writer (map standing table.now) controls.now st serializer.old serializer.new result }
 {
-    let from = match align(serializer, T::Archived::ALIGN) {
+    let from = match align(serializer, A::Archived::ALIGN) {
         Ok(from) => from,
         Err(e) => return Err(e),
     };
-    let Some(to) = controls_position::<T::Archived>(from, table.len(), controls.len()) else {
+    let Some(to) = controls_position::<A::Archived>(from, table.len(), controls.len()) else {
         return Err(Error::PositionTooLarge);
     };
-    if let Err(e) = write_buckets(table, kept, serializer) {
+    if let Err(e) = write_buckets(with, table, kept, serializer) {
         return Err(e);
     }
     match serializer.write(controls) {

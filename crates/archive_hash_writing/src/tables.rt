@@ -9,7 +9,7 @@ use crate::data::serialize_present_each;
 use crate::fitting::fit;
 use crate::places::place_items;
 use crate::region::write_region;
-use archive_forms_writing::Archive;
+use archive_forms_writing::ArchiveWith;
 use archive_hash_maps::HashTableResolver;
 use archive_hash_probing::{Scan, capacity_for_len};
 use archive_shape::{Allocator, Error, Writer};
@@ -19,10 +19,12 @@ use std::marker::PhantomData;
 /// writes, and then the region of the table.
 pub(crate) fn serialize_hashed<
     G: Scan,
-    T: Archive,
+    T,
+    A: ArchiveWith<T>,
     S: Writer + Allocator,
-    F: Fn(&T, &mut S) -> Result<(T::Resolver, PhantomData<T::Archived>), Error>,
+    F: Fn(&T, &mut S) -> Result<(A::Resolver, PhantomData<A::Archived>), Error>,
 >(
+    with: &A,
     items: &[T],
     hashes: &[u64],
     load_factor: (usize, usize),
@@ -34,8 +36,8 @@ pub(crate) fn serialize_hashed<
     requires room { S.failures serializer.old < 2 ^ 64 - 1 }
     requires state { HasState S.pos S.known serializer.old }
     requires takes { StepTakes F.Fn S.Writer step items.now }
-    requires writes { StepWrites F.Fn (λ q. q.0) T.spelling S.Writer step }
-    ensures { Serializes (written_spelling load_factor T.Archived.shape T.spelling hashes.now) S.Writer
+    requires writes { StepWrites F.Fn (λ q. q.0) (A.spelling with.now) S.Writer step }
+    ensures { Serializes (written_spelling load_factor A.Archived.shape (A.spelling with.now) hashes.now) S.Writer
         items.now serializer.old serializer.new result }
 {
     let capacity = match capacity_for_len(items.len(), load_factor) {
@@ -55,12 +57,12 @@ pub(crate) fn serialize_hashed<
         Err(e) => return Err(e),
     };
     let at_places = table.as_slice();
-    let kept = match serialize_present_each(at_places, items.len(), serializer, step) {
+    let kept = match serialize_present_each(with, at_places, items.len(), serializer, step) {
         Ok(kept) => kept,
         Err(e) => return Err(e),
     };
     let controls = fitted.controls.as_slice();
-    match write_region(at_places, kept.as_slice(), controls, serializer) {
+    match write_region(with, at_places, kept.as_slice(), controls, serializer) {
         Ok(to) => Ok(HashTableResolver { pos: Some(to) }),
         Err(e) => Err(e),
     }

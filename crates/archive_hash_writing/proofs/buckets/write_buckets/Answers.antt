@@ -8,8 +8,8 @@ use Rattle.archive_hash_writing.proofs.buckets.write_buckets.Goals as goal
 
 pub returns-in-Err : goal.returns-in-Err
 returns-in-Err g c = λ st made.
-    let w = g.T.Archive.spelling in
-    let sh = g.T.Archived.Portable.shape in
+    let w = g.A.ArchiveWith.spelling c.args.with.now in
+    let sh = g.A.Archived.Portable.shape in
     let s : WriterMembers g.row.S.Denot = record { known = g.S.Registry.known; pos = g.S.Positional.pos; OBSERVABLE = g.S.Writer.OBSERVABLE; COUNTS = g.S.Writer.COUNTS; contents = g.S.Writer.contents; failures = g.S.Writer.failures; last_error = g.S.Writer.last_error } in
     let os = map standing c.args.table.now in
     let end = g.S.Positional.pos c.args.serializer.now + length os * size_of sh in

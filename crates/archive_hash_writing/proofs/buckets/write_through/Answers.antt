@@ -21,45 +21,45 @@ returns-in-Err g c = λ st made. filling_failed _ _ _ _ _ _ c.loop-p.p _ _ _ _ _
 pub overflow_sub-left : goal.overflow_sub-left
 overflow_sub-left g c =
     let s : WriterMembers g.row.W.Denot = record { known = g.W.Registry.known; pos = g.W.Positional.pos; OBSERVABLE = g.W.Writer.OBSERVABLE; COUNTS = g.W.Writer.COUNTS; contents = g.W.Writer.contents; failures = g.W.Writer.failures; last_error = g.W.Writer.last_error } in
-    let wide : size_of g.T.Archived.Portable.shape ≤ length c.loop-p.buffer = omega (arith, c.requires.wide, c.loop-p.invariant.same) in
-    let r = ready g.T.Archive.spelling g.T.Archived.Portable.shape s c.args.table.now c.args.kept.now c.args.writer.now c.SIZE-size.result _ _ _ c.loop-p-test.true c.requires.stands (c.SIZE-size.ensures ∙ g.met.T.Archived.Portable.sized) wide c.loop-p.invariant.filling c.in-Ok.ensures in
+    let wide : size_of g.A.Archived.Portable.shape ≤ length c.loop-p.buffer = omega (arith, c.requires.wide, c.loop-p.invariant.same) in
+    let r = ready (g.A.ArchiveWith.spelling c.args.with.now) g.A.Archived.Portable.shape s c.args.table.now c.args.kept.now c.args.writer.now c.SIZE-size.result _ _ _ c.loop-p-test.true c.requires.stands (c.SIZE-size.ensures ∙ g.met.A.Archived.Portable.sized) wide c.loop-p.invariant.filling c.in-Ok.ensures in
     let kept = resolver_left _ _ _ _ _ _ c.loop-p.auto.p r _ c.in-Some.item c.in-Some.is c.requires.made.0 c.requires.made.1 in
     omega (arith, kept.0)
 
 pub bounds-kept-left : goal.bounds-kept-left
 bounds-kept-left g c =
     let s : WriterMembers g.row.W.Denot = record { known = g.W.Registry.known; pos = g.W.Positional.pos; OBSERVABLE = g.W.Writer.OBSERVABLE; COUNTS = g.W.Writer.COUNTS; contents = g.W.Writer.contents; failures = g.W.Writer.failures; last_error = g.W.Writer.last_error } in
-    let wide : size_of g.T.Archived.Portable.shape ≤ length c.loop-p.buffer = omega (arith, c.requires.wide, c.loop-p.invariant.same) in
-    let r = ready g.T.Archive.spelling g.T.Archived.Portable.shape s c.args.table.now c.args.kept.now c.args.writer.now c.SIZE-size.result _ _ _ c.loop-p-test.true c.requires.stands (c.SIZE-size.ensures ∙ g.met.T.Archived.Portable.sized) wide c.loop-p.invariant.filling c.in-Ok.ensures in
+    let wide : size_of g.A.Archived.Portable.shape ≤ length c.loop-p.buffer = omega (arith, c.requires.wide, c.loop-p.invariant.same) in
+    let r = ready (g.A.ArchiveWith.spelling c.args.with.now) g.A.Archived.Portable.shape s c.args.table.now c.args.kept.now c.args.writer.now c.SIZE-size.result _ _ _ c.loop-p-test.true c.requires.stands (c.SIZE-size.ensures ∙ g.met.A.Archived.Portable.sized) wide c.loop-p.invariant.filling c.in-Ok.ensures in
     let kept = resolver_left _ _ _ _ _ _ c.loop-p.auto.p r _ c.in-Some.item c.in-Some.is c.requires.made.0 c.requires.made.1 in
     kept.1
 
 pub resolve_bucket-requires : goal.resolve_bucket-requires
 resolve_bucket-requires g c =
     let s : WriterMembers g.row.W.Denot = record { known = g.W.Registry.known; pos = g.W.Positional.pos; OBSERVABLE = g.W.Writer.OBSERVABLE; COUNTS = g.W.Writer.COUNTS; contents = g.W.Writer.contents; failures = g.W.Writer.failures; last_error = g.W.Writer.last_error } in
-    let wide : size_of g.T.Archived.Portable.shape ≤ length c.loop-p.buffer = omega (arith, c.requires.wide, c.loop-p.invariant.same) in
-    let r = ready g.T.Archive.spelling g.T.Archived.Portable.shape s c.args.table.now c.args.kept.now c.args.writer.now c.SIZE-size.result _ _ _ c.loop-p-test.true c.requires.stands (c.SIZE-size.ensures ∙ g.met.T.Archived.Portable.sized) wide c.loop-p.invariant.filling c.in-Ok.ensures in
+    let wide : size_of g.A.Archived.Portable.shape ≤ length c.loop-p.buffer = omega (arith, c.requires.wide, c.loop-p.invariant.same) in
+    let r = ready (g.A.ArchiveWith.spelling c.args.with.now) g.A.Archived.Portable.shape s c.args.table.now c.args.kept.now c.args.writer.now c.SIZE-size.result _ _ _ c.loop-p-test.true c.requires.stands (c.SIZE-size.ensures ∙ g.met.A.Archived.Portable.sized) wide c.loop-p.invariant.filling c.in-Ok.ensures in
     can_be_resolved _ _ _ _ _ _ c.loop-p.auto.p r _ c.in-Some.item c.in-Some.is _ c.index-kept-left.is c.requires.made.0 c.requires.made.1 _ (ap (λ n. n + c.in-Ok.filled) c.pos.ensures)
 
 pub returns-in-Err-resolve_bucket : goal.returns-in-Err-resolve_bucket
 returns-in-Err-resolve_bucket g c = λ st made.
     let s : WriterMembers g.row.W.Denot = record { known = g.W.Registry.known; pos = g.W.Positional.pos; OBSERVABLE = g.W.Writer.OBSERVABLE; COUNTS = g.W.Writer.COUNTS; contents = g.W.Writer.contents; failures = g.W.Writer.failures; last_error = g.W.Writer.last_error } in
-    let wide : size_of g.T.Archived.Portable.shape ≤ length c.loop-p.buffer = omega (arith, c.requires.wide, c.loop-p.invariant.same) in
-    let r = ready g.T.Archive.spelling g.T.Archived.Portable.shape s c.args.table.now c.args.kept.now c.args.writer.now c.SIZE-size.result _ _ _ c.loop-p-test.true c.requires.stands (c.SIZE-size.ensures ∙ g.met.T.Archived.Portable.sized) wide c.loop-p.invariant.filling c.in-Ok.ensures in
+    let wide : size_of g.A.Archived.Portable.shape ≤ length c.loop-p.buffer = omega (arith, c.requires.wide, c.loop-p.invariant.same) in
+    let r = ready (g.A.ArchiveWith.spelling c.args.with.now) g.A.Archived.Portable.shape s c.args.table.now c.args.kept.now c.args.writer.now c.SIZE-size.result _ _ _ c.loop-p-test.true c.requires.stands (c.SIZE-size.ensures ∙ g.met.A.Archived.Portable.sized) wide c.loop-p.invariant.filling c.in-Ok.ensures in
     refused_there _ _ _ _ _ _ c.loop-p.auto.p r _ c.in-Some.item c.in-Some.is _ c.index-kept-left.is _ _ (ap (λ n. n + c.in-Ok.filled) c.pos.ensures) (inl c.in-Err-resolve_bucket.ensures.0) st made
 
 pub loop-p-preserved : goal.loop-p-preserved
 loop-p-preserved g c =
     let s : WriterMembers g.row.W.Denot = record { known = g.W.Registry.known; pos = g.W.Positional.pos; OBSERVABLE = g.W.Writer.OBSERVABLE; COUNTS = g.W.Writer.COUNTS; contents = g.W.Writer.contents; failures = g.W.Writer.failures; last_error = g.W.Writer.last_error } in
-    let wide : size_of g.T.Archived.Portable.shape ≤ length c.loop-p.buffer = omega (arith, c.requires.wide, c.loop-p.invariant.same) in
-    let r = ready g.T.Archive.spelling g.T.Archived.Portable.shape s c.args.table.now c.args.kept.now c.args.writer.now c.SIZE-size.result _ _ _ c.loop-p-test.true c.requires.stands (c.SIZE-size.ensures ∙ g.met.T.Archived.Portable.sized) wide c.loop-p.invariant.filling c.in-Ok.ensures in
+    let wide : size_of g.A.Archived.Portable.shape ≤ length c.loop-p.buffer = omega (arith, c.requires.wide, c.loop-p.invariant.same) in
+    let r = ready (g.A.ArchiveWith.spelling c.args.with.now) g.A.Archived.Portable.shape s c.args.table.now c.args.kept.now c.args.writer.now c.SIZE-size.result _ _ _ c.loop-p-test.true c.requires.stands (c.SIZE-size.ensures ∙ g.met.A.Archived.Portable.sized) wide c.loop-p.invariant.filling c.in-Ok.ensures in
     elim c.match-table-p.branch [
       | in-Some+in_default-resolve_bucket v ↦
           (let pos = v.pos.result + c.in-Ok.filled in
           let there : pos ≡ g.W.Positional.pos c.make_room.new.writer + c.in-Ok.filled = ap (λ n. n + c.in-Ok.filled) v.pos.ensures in
           let done = v.in_default-resolve_bucket.ensures in
           let can = can_be_resolved _ _ _ _ _ _ c.loop-p.auto.p r _ v.in-Some.item v.in-Some.is _ v.index-kept-left.is c.requires.made.0 c.requires.made.1 pos there in
-          let sized = sym ((g.met.T.Archive.spells (first_fit (λ _. 0)) v.in-Some.item.now).sized v.index-kept-left.result pos done.0) in
+          let sized = sym ((g.met.A.ArchiveWith.spells c.args.with.now (first_fit (λ _. 0)) v.in-Some.item.now).sized v.index-kept-left.result pos done.0) in
           record { same = search rules; filling = put_there _ _ _ _ _ _ c.loop-p.auto.p r _ v.in-Some.item v.in-Some.is _ v.index-kept-left.is _ pos _ _ v.left-is there sized v.buffer-is done.1 (done.0, can.stands) })
       | in_default v ↦ record { same = search rules; filling = left_zero _ _ _ _ _ _ c.loop-p.auto.p r _ _ _ v.in_default.is v.left-is v.buffer-is }
     ]

@@ -1,5 +1,10 @@
-use Rattle.std.proofs.Common.{◌≡◌, ◌+◌, arith, refl, ap, List, [], ◌∷◌, ◌++◌, Bool, true, false, if◌then◌else◌, None}
+use Rattle.std.proofs.Common.{◌≡◌, ◌+◌, arith, refl, ap, List, [], ◌∷◌, ◌++◌, Bool, true, false, if◌then◌else◌, None, map, inl}
 use Rattle.archive_shape_writing.specs.Writing.{WriterMembers}
+use Rattle.archive_hash_probing.specs.ShapeCanonical.FirstFit.{present}
+use Rattle.archive_forms_writing.specs.FormsLaws.Serializing.{of_data}
+use Rattle.archive_forms_writing.specs.FormsLaws.Regions.{pieces, pieces_refused}
+use Rattle.archive_forms_writing.proofs.Laying.{stopped_before}
+use Rattle.archive_hash_writing.specs.Standing.{standing}
 use Rattle.archive_hash_writing.proofs.Present.{read_as}
 use Rattle.archive_hash_writing.proofs.Presented.{presented_none, presented_as, presented_passed, next_item, presented_next, presented_stopped, presented_memory, presented_all}
 use Rattle.archive_hash_writing.proofs.data.serialize_present_each.Goals.{in-Some+in-Ok-step+else-is_err, in_default-place}
@@ -8,6 +13,13 @@ use Rattle.archive_hash_writing.proofs.data.serialize_present_each.Goals as goal
 pushed : {A : Type 0} (b : Bool) (x y z : List A) → x ≡ (if b then y else z) → b ≡ true → x ≡ y
 pushed true x y z e t = e
 pushed false x y z e t = absurd (cc)
+
+pub returns-in_default : goal.returns-in_default
+returns-in_default g c = λ st at.
+    let w = g.A.ArchiveWith.spelling c.args.with.now in
+    let s : WriterMembers g.row.S.Denot = record { known = g.S.Registry.known; pos = g.S.Positional.pos; OBSERVABLE = g.S.Writer.OBSERVABLE; COUNTS = g.S.Writer.COUNTS; contents = g.S.Writer.contents; failures = g.S.Writer.failures; last_error = g.S.Writer.last_error } in
+    let xs = present (map standing c.args.table.now) in
+    stopped_before (of_data s) c.args.serializer.now (pieces w xs st) (pieces_refused w xs st) _ (inl refl)
 
 pub loop-place-init : goal.loop-place-init
 loop-place-init g c = record { alike = refl; presented = presented_none _ _ _ _ _ c.in-Ok.ensures.items }
@@ -34,7 +46,7 @@ returns-then-is_err g c = λ st at.
     let is = read_as c.args.table.now c.loop-place.place-index _ _ c.place-item.is c.in-Some.is in
     let h = c.loop-place.invariant.presented in
     let r = h.reached st at in
-    let next = presented_next g.T.Archive.spelling s c.args.table.now c.args.serializer.now c.loop-place.place-index _ _ _ c.loop-place-test.true is h c.step.new.arg3 c.in-Ok-step.done.0 _ refl
+    let next = presented_next (g.A.ArchiveWith.spelling c.args.with.now) s c.args.table.now c.args.serializer.now c.loop-place.place-index _ _ _ c.loop-place-test.true is h c.step.new.arg3 c.in-Ok-step.done.0 _ refl
     (λ from there. c.requires.writes _ _ _ _ (omega (arith, r.wrote.is_quiet, c.requires.room)) (record { state = from; is_at = there }) c.in-Ok-step.ensures from there) in
     presented_memory _ _ _ _ (c.loop-place.place-index + 1) _ _ next st at
 
@@ -49,12 +61,12 @@ loop-place-preserved g c =
       | in-Some+in-Ok-step+else-is_err w ↦
           (let is = read_as table i _ _ c.place-item.is w.in-Some.is in
           let items : w.push.new.self.items ≡ c.loop-place.all.items ++ (w.in-Ok-step.done.0 ∷ []) = pushed _ _ _ _ w.push.ensures.items w.if-is_err.ensures.negation in
-          let next = presented_next g.T.Archive.spelling s table c.args.serializer.now i _ _ _ c.loop-place-test.true is h w.step.new.arg3 w.in-Ok-step.done.0 _ items
+          let next = presented_next (g.A.ArchiveWith.spelling c.args.with.now) s table c.args.serializer.now i _ _ _ c.loop-place-test.true is h w.step.new.arg3 w.in-Ok-step.done.0 _ items
           (λ from there. c.requires.writes _ _ _ _ (omega (arith, r.wrote.is_quiet, c.requires.room)) (record { state = from; is_at = there }) w.in-Ok-step.ensures from there) in
           record { alike = refl; presented = presented_as _ _ _ _ (i + 1) _ _ _ _ next w.serializer-is (ap (λ v. v.items) w.all-is) })
       | in_default-place w ↦
           (let is = read_as table i _ None c.place-item.is w.in_default-place.is in
-          record { alike = refl; presented = presented_as _ _ _ _ (i + 1) _ _ _ _ (presented_passed g.T.Archive.spelling s table c.args.serializer.now i _ _ c.loop-place-test.true is h) w.serializer-is (ap (λ v. v.items) w.all-is) })
+          record { alike = refl; presented = presented_as _ _ _ _ (i + 1) _ _ _ _ (presented_passed (g.A.ArchiveWith.spelling c.args.with.now) s table c.args.serializer.now i _ _ c.loop-place-test.true is h) w.serializer-is (ap (λ v. v.items) w.all-is) })
     ]
 
 pub returns : goal.returns

@@ -7,24 +7,24 @@ use Rattle.archive_hash_writing.proofs.region.write_region.Goals as goal
 
 pub returns-in-Err : goal.returns-in-Err
 returns-in-Err g c = λ st made at.
-    let w = g.T.Archive.spelling in
-    let sh = g.T.Archived.Portable.shape in
+    let w = g.A.ArchiveWith.spelling c.args.with.now in
+    let sh = g.A.Archived.Portable.shape in
     let s : WriterMembers g.row.S.Denot = record { known = g.S.Registry.known; pos = g.S.Positional.pos; OBSERVABLE = g.S.Writer.OBSERVABLE; COUNTS = g.S.Writer.COUNTS; contents = g.S.Writer.contents; failures = g.S.Writer.failures; last_error = g.S.Writer.last_error } in
     let os = map standing c.args.table.now in
     let controls = c.args.controls.now in
     let old = c.args.serializer.now in
-    let aligned = c.ALIGN.ensures ∙ g.met.T.Archived.Portable.aligned in
+    let aligned = c.ALIGN.ensures ∙ g.met.A.Archived.Portable.aligned in
     gap_failed w sh s os controls st old at _ aligned _ _ c.in-Err.ensures.writes
 
 pub returns-in_default : goal.returns-in_default
 returns-in_default g c = λ st made at.
-    let w = g.T.Archive.spelling in
-    let sh = g.T.Archived.Portable.shape in
+    let w = g.A.ArchiveWith.spelling c.args.with.now in
+    let sh = g.A.Archived.Portable.shape in
     let s : WriterMembers g.row.S.Denot = record { known = g.S.Registry.known; pos = g.S.Positional.pos; OBSERVABLE = g.S.Writer.OBSERVABLE; COUNTS = g.S.Writer.COUNTS; contents = g.S.Writer.contents; failures = g.S.Writer.failures; last_error = g.S.Writer.last_error } in
     let os = map standing c.args.table.now in
     let controls = c.args.controls.now in
     let old = c.args.serializer.now in
-    let aligned = c.ALIGN.ensures ∙ g.met.T.Archived.Portable.aligned in
+    let aligned = c.ALIGN.ensures ∙ g.met.A.Archived.Portable.aligned in
     region_far w sh s os controls st old at _ aligned _ c.in-Ok.from c.in-Ok.ensures.aligned c.in-Ok.ensures.writes (length c.args.table.now) (length controls) (sym (length-map c.args.table.now standing)) refl c.in_default.ensures
 
 pub write_buckets-requires-clause-stands : goal.write_buckets-requires-clause-stands
@@ -35,13 +35,13 @@ write_buckets-requires-clause-stands g c =
 
 pub returns-in-Err-write_buckets : goal.returns-in-Err-write_buckets
 returns-in-Err-write_buckets g c = λ st made at.
-    let w = g.T.Archive.spelling in
-    let sh = g.T.Archived.Portable.shape in
+    let w = g.A.ArchiveWith.spelling c.args.with.now in
+    let sh = g.A.Archived.Portable.shape in
     let s : WriterMembers g.row.S.Denot = record { known = g.S.Registry.known; pos = g.S.Positional.pos; OBSERVABLE = g.S.Writer.OBSERVABLE; COUNTS = g.S.Writer.COUNTS; contents = g.S.Writer.contents; failures = g.S.Writer.failures; last_error = g.S.Writer.last_error } in
     let os = map standing c.args.table.now in
     let controls = c.args.controls.now in
     let old = c.args.serializer.now in
-    let aligned = c.ALIGN.ensures ∙ g.met.T.Archived.Portable.aligned in
+    let aligned = c.ALIGN.ensures ∙ g.met.A.Archived.Portable.aligned in
     buckets_stopped w sh s os controls st old at _ aligned _ c.in-Ok.from c.in-Ok.ensures.aligned c.in-Ok.ensures.writes _ _ (c.in-Err-write_buckets.ensures st made)
 
 pub write-requires : goal.write-requires
@@ -49,24 +49,24 @@ write-requires g c = let laid = c.in_default-write_buckets.ensures c.requires.ma
 
 pub returns-in-Ok-write : goal.returns-in-Ok-write
 returns-in-Ok-write g c = λ st made at.
-    let w = g.T.Archive.spelling in
-    let sh = g.T.Archived.Portable.shape in
+    let w = g.A.ArchiveWith.spelling c.args.with.now in
+    let sh = g.A.Archived.Portable.shape in
     let s : WriterMembers g.row.S.Denot = record { known = g.S.Registry.known; pos = g.S.Positional.pos; OBSERVABLE = g.S.Writer.OBSERVABLE; COUNTS = g.S.Writer.COUNTS; contents = g.S.Writer.contents; failures = g.S.Writer.failures; last_error = g.S.Writer.last_error } in
     let os = map standing c.args.table.now in
     let controls = c.args.controls.now in
     let old = c.args.serializer.now in
-    let aligned = c.ALIGN.ensures ∙ g.met.T.Archived.Portable.aligned in
+    let aligned = c.ALIGN.ensures ∙ g.met.A.Archived.Portable.aligned in
     let laid = c.in_default-write_buckets.ensures st made in
     region_laid w sh s os controls st old at _ aligned _ c.in-Ok.from c.in-Ok.ensures.aligned c.in-Ok.ensures.writes _ laid.0 _ c.in-Some.to _ (sym (length-map c.args.table.now standing)) c.in-Some.ensures.0 c.in-Some.ensures.1 c.in-Some.ensures.2 laid.1 c.in-Ok-write.ensures
 
 pub returns-in-Err-write : goal.returns-in-Err-write
 returns-in-Err-write g c = λ st made at.
-    let w = g.T.Archive.spelling in
-    let sh = g.T.Archived.Portable.shape in
+    let w = g.A.ArchiveWith.spelling c.args.with.now in
+    let sh = g.A.Archived.Portable.shape in
     let s : WriterMembers g.row.S.Denot = record { known = g.S.Registry.known; pos = g.S.Positional.pos; OBSERVABLE = g.S.Writer.OBSERVABLE; COUNTS = g.S.Writer.COUNTS; contents = g.S.Writer.contents; failures = g.S.Writer.failures; last_error = g.S.Writer.last_error } in
     let os = map standing c.args.table.now in
     let controls = c.args.controls.now in
     let old = c.args.serializer.now in
-    let aligned = c.ALIGN.ensures ∙ g.met.T.Archived.Portable.aligned in
+    let aligned = c.ALIGN.ensures ∙ g.met.A.Archived.Portable.aligned in
     let laid = c.in_default-write_buckets.ensures st made in
     controls_failed w sh s os controls st old at _ aligned _ c.in-Ok.from c.in-Ok.ensures.aligned c.in-Ok.ensures.writes _ laid.0 _ _ c.in-Err-write.ensures

@@ -12,8 +12,8 @@ use Rattle.archive_hash_writing.proofs.tables.serialize_hashed.Goals as goal
 
 pub returns-in-Err : goal.returns-in-Err
 returns-in-Err g c = λ st at.
-    let w = g.T.Archive.spelling in
-    let sh = g.T.Archived.Portable.shape in
+    let w = g.A.ArchiveWith.spelling c.args.with.now in
+    let sh = g.A.Archived.Portable.shape in
     let s : WriterMembers g.row.S.Denot = record { known = g.S.Registry.known; pos = g.S.Positional.pos; OBSERVABLE = g.S.Writer.OBSERVABLE; COUNTS = g.S.Writer.COUNTS; contents = g.S.Writer.contents; failures = g.S.Writer.failures; last_error = g.S.Writer.last_error } in
     let load = c.args.load_factor in
     let hashes = c.args.hashes.now in
@@ -23,8 +23,8 @@ returns-in-Err g c = λ st at.
 
 pub returns-then-capacity-eq0 : goal.returns-then-capacity-eq0
 returns-then-capacity-eq0 g c =
-    let w = g.T.Archive.spelling in
-    let sh = g.T.Archived.Portable.shape in
+    let w = g.A.ArchiveWith.spelling c.args.with.now in
+    let sh = g.A.Archived.Portable.shape in
     let s : WriterMembers g.row.S.Denot = record { known = g.S.Registry.known; pos = g.S.Positional.pos; OBSERVABLE = g.S.Writer.OBSERVABLE; COUNTS = g.S.Writer.COUNTS; contents = g.S.Writer.contents; failures = g.S.Writer.failures; last_error = g.S.Writer.last_error } in
     let load = c.args.load_factor in
     let hashes = c.args.hashes.now in
@@ -39,8 +39,8 @@ fit-requires-clause-room g c =
 
 pub returns-in-Err-place_items : goal.returns-in-Err-place_items
 returns-in-Err-place_items g c = λ st at.
-    let w = g.T.Archive.spelling in
-    let sh = g.T.Archived.Portable.shape in
+    let w = g.A.ArchiveWith.spelling c.args.with.now in
+    let sh = g.A.Archived.Portable.shape in
     let s : WriterMembers g.row.S.Denot = record { known = g.S.Registry.known; pos = g.S.Positional.pos; OBSERVABLE = g.S.Writer.OBSERVABLE; COUNTS = g.S.Writer.COUNTS; contents = g.S.Writer.contents; failures = g.S.Writer.failures; last_error = g.S.Writer.last_error } in
     let load = c.args.load_factor in
     let hashes = c.args.hashes.now in
@@ -56,8 +56,8 @@ serialize_present_each-requires-clause-takes g c = λ x t el room state.
 
 pub returns-in-Err-serialize_present_each : goal.returns-in-Err-serialize_present_each
 returns-in-Err-serialize_present_each g c = λ st at.
-    let w = g.T.Archive.spelling in
-    let sh = g.T.Archived.Portable.shape in
+    let w = g.A.ArchiveWith.spelling c.args.with.now in
+    let sh = g.A.Archived.Portable.shape in
     let s : WriterMembers g.row.S.Denot = record { known = g.S.Registry.known; pos = g.S.Positional.pos; OBSERVABLE = g.S.Writer.OBSERVABLE; COUNTS = g.S.Writer.COUNTS; contents = g.S.Writer.contents; failures = g.S.Writer.failures; last_error = g.S.Writer.last_error } in
     let load = c.args.load_factor in
     let hashes = c.args.hashes.now in
@@ -85,8 +85,8 @@ write_region-requires-clause-made g c = let l = c.in-Ok-serialize_present_each.e
 
 pub returns-in-Ok-write_region : goal.returns-in-Ok-write_region
 returns-in-Ok-write_region g c = λ st at.
-    let w = g.T.Archive.spelling in
-    let sh = g.T.Archived.Portable.shape in
+    let w = g.A.ArchiveWith.spelling c.args.with.now in
+    let sh = g.A.Archived.Portable.shape in
     let s : WriterMembers g.row.S.Denot = record { known = g.S.Registry.known; pos = g.S.Positional.pos; OBSERVABLE = g.S.Writer.OBSERVABLE; COUNTS = g.S.Writer.COUNTS; contents = g.S.Writer.contents; failures = g.S.Writer.failures; last_error = g.S.Writer.last_error } in
     let load = c.args.load_factor in
     let hashes = c.args.hashes.now in
@@ -101,8 +101,8 @@ returns-in-Ok-write_region g c = λ st at.
 
 pub returns : goal.returns
 returns g c = λ st at.
-    let w = g.T.Archive.spelling in
-    let sh = g.T.Archived.Portable.shape in
+    let w = g.A.ArchiveWith.spelling c.args.with.now in
+    let sh = g.A.Archived.Portable.shape in
     let s : WriterMembers g.row.S.Denot = record { known = g.S.Registry.known; pos = g.S.Positional.pos; OBSERVABLE = g.S.Writer.OBSERVABLE; COUNTS = g.S.Writer.COUNTS; contents = g.S.Writer.contents; failures = g.S.Writer.failures; last_error = g.S.Writer.last_error } in
     let load = c.args.load_factor in
     let hashes = c.args.hashes.now in

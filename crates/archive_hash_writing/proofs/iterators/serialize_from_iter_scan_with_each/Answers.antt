@@ -6,7 +6,7 @@ use Rattle.archive_forms_writing.specs.Steps.{IsElement, StepTakes}
 use Rattle.archive_hash_probing.specs.Loads.{IsLoadFactor}
 use Rattle.archive_hash_writing.specs.Claimed.{AreHashesOf, written_spelling}
 use Rattle.archive_hash_writing.proofs.Hashed.{hashes_even}
-use Rattle.archive_hash_writing.proofs.iterators.serialize_from_iter_scan_each.Goals as goal
+use Rattle.archive_hash_writing.proofs.iterators.serialize_from_iter_scan_with_each.Goals as goal
 
 pub returns-in-Err : goal.returns-in-Err
 returns-in-Err g c =
@@ -47,6 +47,6 @@ returns g c =
     let is = c.as_slice-items.ensures.value in
     let hashes : g.row.T.Denot → ℕ → Type 0 = λ x h. FnReturnsAt g.H.Fn c.args.hash x h in
     let P : List g.row.T.Denot → Type 0 = λ xs. AreHashesOf hashes xs c.as_slice-hashes.result.now in
-    let Q : List g.row.T.Denot → Type 0 = λ xs. Serializes (written_spelling c.args.load_factor g.T.Archived.Portable.shape g.T.Archive.spelling c.as_slice-hashes.result.now) s xs c.args.serializer.now c.serialize_hashed.new.serializer c.serialize_hashed.result in
+    let Q : List g.row.T.Denot → Type 0 = λ xs. Serializes (written_spelling c.args.load_factor g.A.Archived.Portable.shape (g.A.ArchiveWith.spelling c.args.with.now) c.as_slice-hashes.result.now) s xs c.args.serializer.now c.serialize_hashed.new.serializer c.serialize_hashed.result in
     let beside = AreHashesOf hashes c.as_slice-items.result.now in
     inr (load, inr (c.in-Ok.items.items, c.in-Ok.ensures, inl (search rules, c.as_slice-hashes.result.now, subst P is (subst beside (sym c.as_slice-hashes.ensures.value) c.in-Ok-hash_items.ensures), subst Q is c.serialize_hashed.ensures)))

@@ -1,5 +1,5 @@
 -- The table of items that are seen as others is the table of those.
-use Rattle.std.proofs.Common.{◌≡◌, ◌∙◌, ℕ, ◌+◌, ◌-◌, ◌*◌, ◌^◌, ◌<◌, ◌≤◌, ◌==◌, Bool, true, false, cond, List, [], ◌∷◌, ◌++◌, length, map, ◌⊎◌, refl, ap, ap₂, sym, Option, Some, None}
+use Rattle.std.proofs.Common.{◌≡◌, ◌∙◌, ℕ, ◌+◌, ◌-◌, ◌*◌, ◌^◌, ◌<◌, ◌≤◌, List, [], ◌∷◌, ◌++◌, length, map, ◌⊎◌, refl, ap, ap₂, sym, Option, Some, None}
 use Rattle.std.specs.Int.{w32, to_le_bytes}
 use Rattle.std.specs.List.{range_with_len}
 use Rattle.std.specs.Option.{option_map}
@@ -14,13 +14,14 @@ use Rattle.archive_hash_probing.specs.ShapeCanonical.Settled.{Fit}
 use Rattle.archive_shape.specs.Bytes.{zeros}
 use Rattle.archive_shape_writing.specs.declared.error.Error.{Error}
 use Rattle.archive_shape_writing.specs.declared.error.Error.TheVariants.{LengthTooLarge, PositionTooLarge}
-use Rattle.archive_forms_laws.specs.State.{State, Keys}
-use Rattle.archive_forms_laws.specs.Spelling.{Spelling, state_after}
-use Rattle.archive_forms_laws.specs.Forms.{seen_as, kept_as}
-use Rattle.archive_forms_laws.specs.Links.{link_bytes, LinkFits, LinkRefused}
-use Rattle.archive_forms_laws.specs.Regions.{state_after_all, values, plain_values, all_suit, pieces, pieces_fit, pieces_refused}
-use Rattle.archive_forms_laws.proofs.Agreeing.{Said, said}
+use Rattle.archive_forms_writing.specs.FormsLaws.State.{State, Keys}
+use Rattle.archive_forms_writing.specs.FormsLaws.Spelling.{Spelling, state_after}
+use Rattle.archive_forms_writing.specs.FormsLaws.Forms.{seen_as, kept_as}
+use Rattle.archive_forms_writing.specs.FormsLaws.Links.{link_bytes, LinkFits, LinkRefused}
+use Rattle.archive_forms_writing.specs.FormsLaws.Regions.{state_after_all, values, plain_values, all_suit, pieces, pieces_fit, pieces_refused}
+use Rattle.archive_forms_writing.proofs.FormsLaws.Agreeing.{Said, said}
 use Rattle.archive_hash_writing.specs.Fitted.{capacity_of, table_of, controls_of}
+use Rattle.archive_hash_writing.proofs.Placed.{item_mapped}
 use Rattle.archive_hash_writing.specs.Tables.{buckets, buckets_fit, buckets_refused, controls_at, region_from, IsPlaced, filled_piece, filled_fits, filled_refused, hashed_spelling}
 
 -- what holds of a table with this number of items and places, with the items at these positions, and with these
@@ -144,18 +145,9 @@ module _ {A B R Q : Type 0} (s : Shape) (view : B → A) (make : R → Q) (get :
 
   -- ---- the positions of items
 
-  by_place_taken : (b : Bool) (x : B) (o : Option B) → cond b (Some (view x)) (option_map view o) ≡ option_map view (cond b (Some x) o)
-  by_place_taken true x o = refl
-  by_place_taken false x o = refl
-
-  item_seen : (xs : List B) (qs : List ℕ) (p : ℕ) → item_at (map view xs) qs p ≡ option_map view (item_at xs qs p)
-  item_seen [] qs p = refl
-  item_seen (x ∷ xs) [] p = refl
-  item_seen (x ∷ xs) (q ∷ qs) p = ap (cond (q == p) (Some (view x))) (item_seen xs qs p) ∙ by_place_taken (q == p) x (item_at xs qs p)
-
   items_seen : (xs : List B) (qs ps : List ℕ) → map (item_at (map view xs) qs) ps ≡ seen (map (item_at xs qs) ps)
   items_seen xs qs [] = refl
-  items_seen xs qs (p ∷ ps) = ap₂ (λ o os. o ∷ os) (item_seen xs qs p) (items_seen xs qs ps)
+  items_seen xs qs (p ∷ ps) = ap₂ (λ o os. o ∷ os) (item_mapped view xs qs p) (items_seen xs qs ps)
 
   module _ (most places : ℕ) (hashes : List ℕ) where
     table_seen : (xs : List B) → seen (table_of most places hashes xs) ≡ table_of most places hashes (map view xs)
