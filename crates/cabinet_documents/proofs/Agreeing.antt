@@ -1,9 +1,9 @@
 -- Writing one level of a node, with the nodes below it written as nodes, writes the node.
-use Rattle.std.proofs.Common.{◌≡◌, ℕ, suc, ◌+◌, ◌≤◌, List, [], ◌∷◌, map as mapped, Option, Some, None, refl, arith}
+use Rattle.std.proofs.Common.{◌≡◌, ℕ, suc, ◌+◌, ◌≤◌, List, [], ◌∷◌, map as mapped, Option, Some, None, refl, ap, arith}
 use Rattle.std.proofs.Math.Nat.{le-max_left, le-max_right}
 use Rattle.archive_forms_values.specs.ShapeLayout.Bytes.{align_up}
 use Rattle.archive_forms_values.specs.ShapeLayout.Shape.{Shape, size_of, align_of}
-use Rattle.archive_forms_values.specs.ShapeLayout.Shape.Shape.{text, option, choice, vector, tree}
+use Rattle.archive_forms_values.specs.ShapeLayout.Shape.Shape.{text, option, choice, vector, tree, table}
 use Rattle.archive_forms_values.specs.ShapeLayout.Value.Value.{chosen}
 use Rattle.archive_forms_values.specs.ShapeLayout.Value.Values.{no_values, more_values}
 use Rattle.archive_forms_values.specs.ShapeWriting.declared.error.Error.{Error}
@@ -12,16 +12,20 @@ use Rattle.archive_forms_values.specs.FormsLaws.Forms.{kept_as}
 use Rattle.archive_forms_values.specs.FormsLaws.Pointers.{box_spelling, slice_spelling}
 use Rattle.archive_forms_values.specs.FormsLaws.Options.{tagged_bytes, payload_at, option_spelling, option_own, option_own_fits, option_own_refused}
 use Rattle.archive_forms_values.proofs.FormsLaws.Agreeing.{said, AgreeOn, slices_agree, self_agrees, serializes_alike}
+use Rattle.archive_forms_values.specs.FormsLaws.Fields.{tuple2_spelling}
+use Rattle.archive_forms_values.specs.ShapeCanonical.Hash.{text_hash}
 use Rattle.archive_forms_rc.specs.FormsWriting.Owned.{str_spelling}
 use Rattle.archive_btree_spelling.specs.Maps.{btree_spelling}
 use Rattle.archive_btree_spelling.proofs.Seen.{btree_agrees}
+use Rattle.archive_hash_writing.specs.Tables.{table_spelling}
+use Rattle.archive_hash_writing.proofs.Agreeing.{one_spelling, tables_agree}
 use Rattle.cabinet_text_grammar.specs.Keys.{ordered, hashed, kept}
 use Rattle.cabinet_text_grammar.specs.Tree as document
 use Rattle.cabinet_text_grammar.specs.Tree.{Tree, Trees, Pairs, leaf, shared, nothing, just, list, map, no_trees, more_trees, no_pairs, more_pairs, depth, most_depth, pairs_depth}
-use Rattle.cabinet_documents.specs.Node.{node_shape, payloads}
+use Rattle.cabinet_documents.specs.Node.{node_shape, pair_shape, payloads}
 use Rattle.cabinet_documents.specs.declared.spelling.resolver.NodeResolver.{NodeResolver}
 use Rattle.cabinet_documents.specs.declared.spelling.resolver.NodeResolver.TheVariants as resolver
-use Rattle.cabinet_documents.specs.Spelling.{boxed_shape, boxed_spelling, maybe_spelling, list_spelling, ordered_spelling, trees_in, pairs_in, maybe_in, list_in, ordered_in, node_of, refused, node_level, node_spelling}
+use Rattle.cabinet_documents.specs.Spelling.{boxed_shape, boxed_spelling, maybe_spelling, list_spelling, ordered_spelling, pair_spelling, hashed_spelling, trees_in, pairs_in, maybe_in, list_in, ordered_in, hashed_in, node_of, refused, node_level, node_spelling}
 use Rattle.cabinet_documents.specs.SpellingLaws.{OneLevelIsWritten}
 
 module _ {A R : Type 0} (w u : Spelling A R) (x : A) (same : said w x ≡ said u x) where
@@ -149,6 +153,14 @@ pairs_agree w u n (more_pairs k t ps) less same =
     let b = le-max_right (depth t) (pairs_depth ps) in
     (same t (omega (arith, a)), pairs_agree w u n ps (omega (arith, b)) same)
 
+-- a pair by its value
+pair_agrees : (w u : Spelling Tree NodeResolver) (p : List ℕ × Tree) → said w p.1 ≡ said u p.1 → said (pair_spelling w) p ≡ said (pair_spelling u) p
+pair_agrees w u p same = ap (λ s. said (tuple2_spelling text str_spelling node_shape s) (p.0, 0)) (one_spelling w u (λ (i : ℕ). p.1) (λ i. same))
+
+all_pairs_agree : (w u : Spelling Tree NodeResolver) (xs : List (List ℕ × Tree)) → AgreeOn w u (mapped (λ (e : List ℕ × Tree). e.1) xs) → AgreeOn (pair_spelling w) (pair_spelling u) xs
+all_pairs_agree w u [] h = tt
+all_pairs_agree w u (x ∷ xs) h = (pair_agrees w u x h.0, all_pairs_agree w u xs h.1)
+
 level_agrees : (w u : Spelling Tree NodeResolver) (t : Tree) → ((y : Tree) → suc (depth y) ≤ depth t → said w y ≡ said u y) → said (node_level w) t ≡ said (node_level u) t
 level_agrees w u (leaf (document.truth b)) same = refl
 level_agrees w u (leaf (document.number n)) same = refl
@@ -170,7 +182,13 @@ level_agrees w u (map ordered ps) same =
     let all = btree_agrees 5 text node_shape str_spelling w u xs (pairs_agree w u (suc (pairs_depth ps)) ps (omega arith) same) in
     let kept = kept_agree (btree_spelling 5 text node_shape str_spelling w) (btree_spelling 5 text node_shape str_spelling u) xs all (λ o. record { pos = o }) (λ r. r.pos) in
     node_of_agrees (ordered_spelling w) (ordered_spelling u) xs kept 6 (tree 5 text node_shape) resolver.Ordered ordered_in (map ordered ps)
-level_agrees w u (map hashed ps) same = refl
+level_agrees w u (map hashed ps) same =
+    let xs = pairs_in ps in
+    let hash : List ℕ × Tree → ℕ = λ p. text_hash p.0 in
+    let pairs = all_pairs_agree w u xs (pairs_agree w u (suc (pairs_depth ps)) ps (omega arith) same) in
+    let all = tables_agree (pair_spelling w) (pair_spelling u) pair_shape 7 8 hash xs pairs in
+    let kept = kept_agree (table_spelling 7 8 pair_shape (pair_spelling w) hash) (table_spelling 7 8 pair_shape (pair_spelling u) hash) xs all (λ o. record { pos = o }) (λ r. r.pos) in
+    node_of_agrees (hashed_spelling w) (hashed_spelling u) xs kept 7 (table pair_shape) resolver.Hashed hashed_in (map hashed ps)
 level_agrees w u (map kept ps) same = refl
 
 pub node_said : (t : Tree) → said (node_level node_spelling) t ≡ said node_spelling t

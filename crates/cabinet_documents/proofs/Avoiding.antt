@@ -20,9 +20,9 @@ use Rattle.archive_forms_values.specs.ShapeCanonical.Canonical.{IsCanonical, Are
 use Rattle.archive_forms_values.specs.ShapeCanonical.Laws.{IsOnward, AvoidsKey, AvoidsKeys, AvoidKeys}
 use Rattle.cabinet_documents.specs.Node.{node_names}
 use Rattle.cabinet_documents.specs.Denotes.{pair_value}
-use Rattle.cabinet_documents.proofs.Places.{Place, node_here, payload_here, truth_here, number_here, text_here, shared_here, option_here, box_here, ordered_here, tree_node, tree_child, entry_here, absent_here, nodes_behind, text_behind, Spot, part_of, parts_at, nodes_from, entries_from, children_from, Passes, node_passes, box_passes, behind_passes, list_passes, text_passes, child_passes, Pays, pays_truth, pays_number, pays_text, pays_shared, pays_option, pays_list, pays_ordered, pays_absent, Follows, passes, pays, truth_is, number_is, text_is, behind_is, none_is, some_is, nodes_follow, empty_is, total_is, leaf_follows, inner_follows, no_child_is, entry_follows, Leads, leads_nowhere, leads_absent, leads_plain, leads_claimed, leads_counted, led}
+use Rattle.cabinet_documents.proofs.Places.{Place, node_here, payload_here, truth_here, number_here, text_here, shared_here, option_here, box_here, ordered_here, table_here, pair_here, tree_node, tree_child, entry_here, buckets_here, absent_here, nodes_behind, text_behind, Spot, part_of, parts_at, nodes_from, entries_from, children_from, items_from, Passes, node_passes, box_passes, behind_passes, list_passes, text_passes, child_passes, table_passes, Pays, pays_truth, pays_number, pays_text, pays_shared, pays_option, pays_list, pays_ordered, pays_hashed, pays_absent, Follows, passes, pays, truth_is, number_is, text_is, behind_is, none_is, some_is, nodes_follow, empty_is, total_is, leaf_follows, inner_follows, no_child_is, entry_follows, no_items_is, items_follow, pair_follows, Leads, leads_nowhere, leads_absent, leads_plain, leads_claimed, leads_counted, led}
 use Rattle.cabinet_documents.proofs.Nodes.{absent_law}
-use Rattle.cabinet_documents.proofs.Leading.{ToLeaf, IntoPart, Aims, IsSpot, value_is, payload_aims, only_spot, node_spot, entry_spot, child_spot, spot_behind, same_through, total_through, whole_through, child_through, entry_through, pair_below, pair_here, item_here, behind_key}
+use Rattle.cabinet_documents.proofs.Leading.{ToLeaf, FromPair, IntoPart, Aims, IsSpot, value_is, payload_aims, only_spot, node_spot, entry_spot, item_spot, child_spot, spot_behind, same_through, total_through, whole_through, child_through, entry_through, pair_below, pair_in, item_here, behind_key}
 use Rattle.cabinet_documents.proofs.Steps.{place_of}
 
 -- ---- how a way goes on from each place
@@ -61,6 +61,7 @@ module _ (bytes : List ℕ) where
   pass_on p (list_passes small) pos v path a = (tt, a)
   pass_on p text_passes pos v path a = (tt, tt)
   pass_on p child_passes pos v path a = (behind_key a, a)
+  pass_on p (table_passes small) pos v path a = (behind_key a, a)
 
   payload_free : {tag : ℕ} {j : Place} (p pos : ℕ) (inner : List ℕ) → Pays tag j → AvoidsKey (part_of payload_here pos) (part_of j p ∷ []) inner
   payload_free p pos inner pays_truth = tt
@@ -70,6 +71,7 @@ module _ (bytes : List ℕ) where
   payload_free p pos inner pays_option = tt
   payload_free p pos inner pays_list = tt
   payload_free p pos inner pays_ordered = tt
+  payload_free p pos inner pays_hashed = tt
   payload_free p pos inner (pays_absent z) = tt
 
   paid_aims : {tag : ℕ} {j : Place} (u : Value) (inner : List ℕ) → Pays tag j → Aims (place_of tag) u inner → Aims j u inner
@@ -80,6 +82,7 @@ module _ (bytes : List ℕ) where
   paid_aims u inner pays_option a = a
   paid_aims u inner pays_list a = a
   paid_aims u inner pays_ordered a = a
+  paid_aims u inner pays_hashed a = a
   paid_aims u inner (pays_absent z) a = tt
 
   paid : {tag : ℕ} {j : Place} (p : ℕ) → Pays tag j → Goes payload_here (tagged tag) (record { place = j; pos = p } ∷ [])
@@ -118,7 +121,7 @@ module _ (bytes : List ℕ) where
 
   in_leaf : (level n key value : ℕ) → Goes (tree_node level) whole (entries_from n key value)
   in_leaf level n key value pos vs v u w i inner path m there at_w t a =
-      let here = pair_here m there (whole_through vs i inner path t) a in
+      let here = pair_in m there (whole_through vs i inner path t) a in
       record {
         avoids = subst IsOnward (sym here.is) tt;
         aims = λ q is. subst (λ k. Aims k u inner) (sym (entry_spot i n key value q is).1) here;
@@ -139,7 +142,7 @@ module _ (bytes : List ℕ) where
             aims = λ q is. subst (λ k. Aims k u inner) (sym (child_spot i (suc most) deeper link (entries_from most key value) q (ltb-true i (suc most) low) is)) below;
           }
       by_test false high =
-          let here = pair_here m there (entry_through (suc most) vs i inner path high t) a in
+          let here = pair_in m there (entry_through (suc most) vs i inner path high t) a in
           record {
             avoids = subst IsOnward (sym here.is) tt;
             aims = λ q is.
@@ -147,15 +150,25 @@ module _ (bytes : List ℕ) where
                 subst (λ k. Aims k u inner) (sym (entry_spot s.0 most key value q s.1).1) here;
           }
 
-  -- the value of an entry is its second part
+  in_items : (target len cap : ℕ) (controls : List ℕ) → Goes (buckets_here target len cap) whole (items_from target 0 controls)
+  in_items target len cap controls pos vs v u w i inner path m there at_w t a = record {
+    avoids = tt;
+    aims = λ q is. subst (λ k. Aims k u inner) (sym (item_spot i target 0 controls q is)) (pair_in m there (whole_through vs i inner path t) a);
+  }
+
+  -- the value of a pair is its second part
   second_spot : (i key value : ℕ) (q : Spot) → i ≡ 1 → IsSpot i (record { place = text_here; pos = key } ∷ (record { place = node_here; pos = value } ∷ [])) q → q.place ≡ node_here
   second_spot zero key value q e s = absurd (omega (arith, e))
   second_spot (suc zero) key value q e s = ap (λ (x : Spot). x.place) (sym s)
   second_spot (suc (suc i)) key value q e s = absurd s
 
-  in_entry_of : (key value : ℕ) → Goes (entry_here key) whole (record { place = text_here; pos = key } ∷ (record { place = node_here; pos = value } ∷ []))
+  -- of an entry of a search tree, and of a pair by itself
+  in_pair_of : (k : Place) (key value : ℕ) → ((v : Value) (path : List ℕ) → Aims k v path → FromPair v path)
+      → ((pos : ℕ) (inner : List ℕ) → AvoidsKey (part_of k pos) (part_of text_here key ∷ (part_of node_here value ∷ [])) inner)
+      → Goes k whole (record { place = text_here; pos = key } ∷ (record { place = node_here; pos = value } ∷ []))
   unfolding made
-  in_entry_of key value pos vs v u w i inner path m there at_w t a =
+  in_pair_of k key value from free pos vs v u w i inner path m there at_w t aimed =
+      let a = from v path aimed in
       let both : i ∷ inner ≡ 1 ∷ a.more = path_is t ∙ a.is in
       let second : i ≡ 1 = cc in
       let rest : inner ≡ a.more = cc in
@@ -163,8 +176,8 @@ module _ (bytes : List ℕ) where
       let values : group vs ≡ pair_value a.key a.item = sym of_group ∙ a.there in
       let same_item : u ≡ a.item = value_is (ap (λ o. and_then o (λ z. Some z)) (sym there) ∙ ap₂ (λ n x. value_at (n ∷ []) x) second values) in
       record {
-        avoids = tt;
-        aims = λ q is. subst (λ k. Aims k u inner) (sym (second_spot i key value q second is)) (subst (λ x. ToLeaf x inner) (sym same_item) (subst (ToLeaf a.item) (sym rest) a.on));
+        avoids = free pos inner;
+        aims = λ q is. subst (λ x. Aims x u inner) (sym (second_spot i key value q second is)) (subst (λ x. ToLeaf x inner) (sym same_item) (subst (ToLeaf a.item) (sym rest) a.on));
       }
 
   goes : {k : Place} {l : Label} {qs : List Spot} → Follows bytes k l qs → Goes k l qs
@@ -182,21 +195,24 @@ module _ (bytes : List ℕ) where
   goes (leaf_follows {level = level} n key value low e f) = as_given e f (in_leaf level n key value)
   goes (inner_follows {level = level} most deeper link key value low next e f) = as_given e f (in_inner level most deeper link key value)
   goes (no_child_is {level = level} e f) = as_given e f (none_follow (tree_child level) _ (λ pos inner. tt))
-  goes (entry_follows {key = key} {value = value} e f) = as_given e f (in_entry_of key value)
+  goes (entry_follows {key = key} {value = value} e f) = as_given e f (in_pair_of (entry_here key) key value (λ v path a. a) (λ pos inner. tt))
+  goes (no_items_is e f) = as_given e f (none_follow table_here _ (λ pos inner. tt))
+  goes (items_follow {target = target} {len = len} {cap = cap} controls are count e f) = as_given e f (in_items target len cap controls)
+  goes (pair_follows key value e f) = as_given e f (in_pair_of pair_here key value (λ v path a. a) (λ pos inner. tt))
 
   -- ---- the whole way
 
-  data Says (c : Content) (l : Label) (ps : List Part) : Type 0 where
+  pub data Says (c : Content) (l : Label) (ps : List Part) : Type 0 where
     says_plain : c ≡ plain l ps → Says c l ps
     says_claimed : {s : Span} → c ≡ claimed s l ps → Says c l ps
 
   -- the parts that follow are at spots
-  record Spots (k : Place) (l : Label) (ps : List Part) : Type 0 where
-    qs : List Spot
-    are : ps ≡ parts_at qs
-    follow : Follows bytes k l qs
+  pub record Spots (k : Place) (l : Label) (ps : List Part) : Type 0 where
+    pub qs : List Spot
+    pub are : ps ≡ parts_at qs
+    pub follow : Follows bytes k l qs
 
-  spots : {level : ℕ} {inside : List OpenShared} {v : Value} {regions : List Region} {before after : List Visit} {c : Content} {l : Label} {ps : List Part} (k : Place) (pos : ℕ)
+  pub spots : {level : ℕ} {inside : List OpenShared} {v : Value} {regions : List Region} {before after : List Visit} {c : Content} {l : Label} {ps : List Part} (k : Place) (pos : ℕ)
       → Holds node_names bytes level inside (part_of k pos) v regions before after → Leads bytes k c → Says c l ps → Spots k l ps
   spots k pos h (leads_nowhere g) (says_plain e) = absurd (cc)
   spots k pos h (leads_nowhere g) (says_claimed e) = absurd (cc)

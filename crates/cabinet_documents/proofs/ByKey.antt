@@ -2,10 +2,11 @@
 use Rattle.std.proofs.Common.{◌≡◌, ◌≢◌, ℕ, suc, Bool, true, false, if◌then◌else◌, cond, List, [], ◌∷◌, Contains, All, refl, sym, ap, ap₂, subst, ◌∙◌, arith, ◌⊎◌, inl, inr}
 use Rattle.std.specs.Prelude.{⊤}
 use Rattle.std.specs.Str.{bytes_eq}
-use Rattle.std.specs.Ordering.{ordering_reverse}
+use Rattle.std.specs.Ordering.{is_lt, ordering_reverse}
 use Rattle.std.specs.declared.cmp.Ordering.TheVariants.{Less, Greater}
 use Rattle.std.specs.Cmp.Lexicographic.{nat_list_cmp_total}
 use Rattle.std.proofs.lemmas.Bool.{false_from_ne_true}
+use Rattle.std.proofs.lemmas.Cmp.{tied_itself}
 use Rattle.std.proofs.lemmas.Slice.Eq.{bytes_eq-Decides}
 use Rattle.cabinet_text_grammar.specs.Keys.{MapKind, ordered, hashed, kept, IsBelow, IsAboveLast, MayFollow}
 use Rattle.cabinet_text_grammar.specs.Tree.{Leaf, Tree, Pairs, no_pairs, more_pairs, IsLegal, ArePairs}
@@ -36,15 +37,31 @@ keys_differ k l h = false_from_ne_true (bytes_eq k l) (λ e. h ((bytes_eq-Decide
 
 -- ---- distinct keys
 
+-- a key is none of some, and no two keys are equal
+abbrev pub IsNewKey : List ℕ → List (List ℕ) → Type 0
+IsNewKey k [] = ⊤
+IsNewKey k (l ∷ ks) = (l ≢ k) × IsNewKey k ks
+
+abbrev pub AreKeysDistinct : List (List ℕ) → Type 0
+AreKeysDistinct [] = ⊤
+AreKeysDistinct (k ∷ ks) = IsNewKey k ks × AreKeysDistinct ks
+
+abbrev pub pair_keys : Pairs → List (List ℕ)
+pair_keys no_pairs = []
+pair_keys (more_pairs k t ps) = k ∷ pair_keys ps
+
 -- no pair has the key
 abbrev pub Lacks : List ℕ → Pairs → Type 0
-Lacks k no_pairs = ⊤
-Lacks k (more_pairs l t ps) = (l ≢ k) × Lacks k ps
+Lacks k ps = IsNewKey k (pair_keys ps)
 
 -- the keys are distinct, and the nodes are legal
 abbrev pub AreDistinct : Pairs → Type 0
 AreDistinct no_pairs = ⊤
 AreDistinct (more_pairs k t ps) = Lacks k ps × IsLegal t × AreDistinct ps
+
+pub keys_distinct : (ps : Pairs) → AreDistinct ps → AreKeysDistinct (pair_keys ps)
+keys_distinct no_pairs h = tt
+keys_distinct (more_pairs k t ps) h = (h.0, keys_distinct ps h.2)
 
 -- of a relation between a key and the keys so far, the last first: where it holds of the last key, and then holds on with
 -- each key that may follow, all of which differ
@@ -125,24 +142,30 @@ either_first true false x y z h = refl
 either_first false true x y z h = refl
 either_first false false x y z h = refl
 
+below_differs : (k l : List ℕ) → is_below k l ≡ true → k ≢ l
+below_differs k l below e =
+    let tied = ap is_lt (tied_itself nat_list_cmp_total l) in
+    let self : is_below l l ≡ true = subst (λ x. is_below x l ≡ true) e below in
+    let both : true ≡ false = sym self ∙ tied in
+    cc
+
 module _ (a : List ℕ) (path : List Step) where
-  node_inserted : (l : List ℕ) (t : Tree) (ps : Pairs) → Lacks l ps → node_by (inserted l t ps) a path ≡ node_by (more_pairs l t ps) a path
-  node_inserted l t no_pairs h = refl
-  node_inserted l t (more_pairs m u ps) h = by_case (is_below m l) (node_inserted l t ps h.1)
+  -- by a key one finds the same where a pair is at its place and where it is the first
+  node_inserted : (l : List ℕ) (t : Tree) (ps : Pairs) → node_by (inserted l t ps) a path ≡ node_by (more_pairs l t ps) a path
+  node_inserted l t no_pairs = refl
+  node_inserted l t (more_pairs m u ps) = by_case (is_below m l) refl (node_inserted l t ps)
     where
-      by_case : (b : Bool) → node_by (inserted l t ps) a path ≡ node_by (more_pairs l t ps) a path
+      by_case : (b : Bool) → is_below m l ≡ b → node_by (inserted l t ps) a path ≡ node_by (more_pairs l t ps) a path
           → node_by (cond b (more_pairs m u (inserted l t ps)) (more_pairs l t (more_pairs m u ps))) a path ≡ node_by (more_pairs l t (more_pairs m u ps)) a path
-      by_case true e =
+      by_case true below e =
           ap (λ x. if bytes_eq m a then node_at u path else x) e
           ∙ either_first (bytes_eq l a) (bytes_eq m a) (node_at t path) (node_at u path) (node_by ps a path)
-          (λ x y. h.0 ((bytes_eq-Decides m a).0 y ∙ sym ((bytes_eq-Decides l a).0 x)))
-      by_case false e = refl
+          (λ x y. below_differs m l below ((bytes_eq-Decides m a).0 y ∙ sym ((bytes_eq-Decides l a).0 x)))
+      by_case false below e = refl
 
-  node_arranged : (ps : Pairs) → AreDistinct (arranged ps) → node_by (arranged ps) a path ≡ node_by ps a path
-  node_arranged no_pairs h = refl
-  node_arranged (more_pairs l t ps) h =
-      let r = distinct_inserted l t (arranged ps) h in
-      node_inserted l t (arranged ps) r.0 ∙ ap (λ x. if bytes_eq l a then node_at t path else x) (node_arranged ps r.2)
+  node_arranged : (ps : Pairs) → node_by (arranged ps) a path ≡ node_by ps a path
+  node_arranged no_pairs = refl
+  node_arranged (more_pairs l t ps) = node_inserted l t (arranged ps) ∙ ap (λ x. if bytes_eq l a then node_at t path else x) (node_arranged ps)
 
 -- a change at a key is one of each node by its key
 
@@ -194,10 +217,10 @@ distinct_in_order ordered ps h = h
 distinct_in_order hashed ps h = distinct_arranged ps h
 distinct_in_order kept ps h = h
 
-pub node_in_order : (kind : MapKind) (a : List ℕ) (path : List Step) (ps : Pairs) → AreDistinct (in_order kind ps) → node_by (in_order kind ps) a path ≡ node_by ps a path
-node_in_order ordered a path ps h = refl
-node_in_order hashed a path ps h = node_arranged a path ps h
-node_in_order kept a path ps h = refl
+pub node_in_order : (kind : MapKind) (a : List ℕ) (path : List Step) (ps : Pairs) → node_by (in_order kind ps) a path ≡ node_by ps a path
+node_in_order ordered a path ps = refl
+node_in_order hashed a path ps = node_arranged a path ps
+node_in_order kept a path ps = refl
 
 pub change_in_order : (kind : MapKind) (a : List ℕ) (path : List Step) (new : Leaf) (ps : Pairs) → AreDistinct (in_order kind ps)
     → change_by (in_order kind ps) a path new ≡ in_order kind (change_by ps a path new)

@@ -17,6 +17,7 @@ use Rattle.cabinet_documents.specs.Denotes.{Denotes, DenoteAll, DenotePairs, tag
 use Rattle.cabinet_documents.specs.Denotes.Denotes.{denotes_truth, denotes_number, denotes_text, denotes_shared, denotes_nothing, denotes_some, denotes_list, denotes_ordered, denotes_hashed, denotes_kept}
 use Rattle.cabinet_documents.specs.Denotes.DenoteAll.{denote_none, denote_more}
 use Rattle.cabinet_documents.specs.Denotes.DenotePairs.{denote_no_pairs, denote_pair}
+use Rattle.cabinet_documents.specs.Order.{arranged}
 use Rattle.cabinet_documents.specs.OwnBytes.{LeadsTo, leads_here, leads_inside, leads_place, leads_key}
 use Rattle.cabinet_documents.specs.Laws.{payload_of, LeafPut}
 use Rattle.cabinet_documents.proofs.ByKey.{change_here, change_past, node_here, node_past, keys_same, keys_differ, Lacks, AreDistinct, distinct, in_order, distinct_in_order, node_in_order, change_in_order}
@@ -91,6 +92,11 @@ of_ordered {vs = vs} g (denotes_ordered {vs = ws} {ps = ps} e f k) = let same : 
 of_ordered g (denotes_hashed e f k) = absurd (cc)
 of_ordered g (denotes_kept e f k) = absurd (cc)
 
+pub record IsHashed (vs : Values) (t : Tree) : Type 0 where
+  pub pairs : Pairs
+  pub is : t ≡ map hashed (arranged pairs)
+  pub denotes : DenotePairs vs pairs
+
 -- of a map of any kind, which has the pairs in the order of its kind
 pub record IsMap (tag : ℕ) (vs : Values) (t : Tree) : Type 0 where
   pub kind : MapKind
@@ -126,6 +132,19 @@ of_map {tag = tag} {vs = vs} g high (denotes_kept {vs = ws} {ps = ps} e f k) =
     let same : ws ≡ vs = cc in
     let is : 8 ≡ tag = cc in
     record { kind = kept; pairs = ps; is = f; denotes = subst (λ y. DenotePairs y ps) same k; made = λ us qs d. subst (λ n. Denotes (tagged_value n (group us)) (map kept qs)) is (denotes_kept refl refl d) }
+
+-- of a hashed map by itself
+pub of_hashed : {v : Value} {vs : Values} {t : Tree} → v ≡ tagged_value 7 (group vs) → Denotes v t → IsHashed vs t
+of_hashed g (denotes_truth e f) = absurd (cc)
+of_hashed g (denotes_number e f) = absurd (cc)
+of_hashed g (denotes_text e f) = absurd (cc)
+of_hashed g (denotes_shared e f) = absurd (cc)
+of_hashed g (denotes_nothing e f) = absurd (cc)
+of_hashed g (denotes_some e f k) = absurd (cc)
+of_hashed g (denotes_list e f k) = absurd (cc)
+of_hashed g (denotes_ordered e f k) = absurd (cc)
+of_hashed {vs = vs} g (denotes_hashed {vs = ws} {ps = ps} e f k) = let same : ws ≡ vs = cc in record { pairs = ps; is = f; denotes = subst (λ y. DenotePairs y ps) same k }
+of_hashed g (denotes_kept e f k) = absurd (cc)
 
 -- ---- a leaf put where one is
 
@@ -261,7 +280,7 @@ module _ (w : Value) (s : Tree) where
       let o = of_map e high d in
       let all = distinct o.kind [] (in_order o.kind o.pairs) (subst IsLegal o.is legal).0 in
       let there : node_by (in_order o.kind o.pairs) k rest ≡ Some s = ap (λ x. node_at x (key k ∷ rest)) (sym o.is) ∙ ap (node_at t) (sym f) ∙ h in
-      let r = by_key i k u rest more o.denotes (distinct_in_order o.kind o.pairs all) i_is (sym (node_in_order o.kind k rest o.pairs all) ∙ there) (λ x y z n. reaches l x y z n) in
+      let r = by_key i k u rest more o.denotes (distinct_in_order o.kind o.pairs all) i_is (sym (node_in_order o.kind k rest o.pairs) ∙ there) (λ x y z n. reaches l x y z n) in
       moved e f g o.is (record {
         there = r.there;
         put = λ new p. subst (λ x. Denotes (tagged_value tag (group (layout.change_in i (λ y. put_at (1 ∷ (more ++ 0 ∷ [])) (payload_of new) y) vs))) (map o.kind x))

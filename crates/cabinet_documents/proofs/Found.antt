@@ -1,6 +1,7 @@
 -- In a table whose keys can be found, each look-up gives its number.
-use Rattle.std.proofs.Common.{◌≡◌, ℕ, suc, ◌==◌, ◌&&◌, ◌||◌, Bool, true, false, cond, List, [], ◌∷◌, ◌++◌, slice_index, Option, Some, None, refl, ap, subst, ◌∙◌, arith, eqb-true, eq-eqb, ◌⊎◌, inl, inr, ⊎_elim}
+use Rattle.std.proofs.Common.{◌≡◌, ℕ, suc, ◌==◌, Bool, true, false, cond, List, [], ◌∷◌, ◌++◌, slice_index, Option, Some, None, refl, ap, subst, ◌∙◌, arith, eqb-true, eq-eqb, ◌⊎◌, inl, inr, ⊎_elim}
 use Rattle.std.specs.List.{find, flat_map, list_any, Contains}
+use Rattle.std.proofs.lemmas.Bool.{and_from}
 use Rattle.std.specs.Ordering.{is_eq, nat_cmp, ordering_reverse}
 use Rattle.std.specs.declared.cmp.Ordering.{Ordering}
 use Rattle.std.specs.declared.cmp.Ordering.TheVariants.{Less, Equal, Greater}
@@ -61,10 +62,6 @@ is_level Greater e = absurd (cc)
 pub key_self : (k : List ℕ) → is_same k k ≡ true
 key_self k = is_level (slice_cmp nat_cmp k k) (let total = nat_list_cmp_total in total.antisymm k k)
 
-both_true : (a b : Bool) → a ≡ true → b ≡ true → (a && b) ≡ true
-both_true true b e f = f
-both_true false b e f = absurd (cc)
-
 -- ---- tables
 
 number_given : (t : Table) (f : Findable t) (e : Entry) → Contains t.entries e → (p : ℕ) (s : Option Slot) → slot_at t.slots p ≡ s → has_key s e.key ≡ true → is_numbered s e.number ≡ true
@@ -84,7 +81,7 @@ look_up_gives t f e c =
     let tag : slice_index t.controls r.slot.place ≡ tag_of e.key = tags.tag ∙ ap tag_of same_key in
     let first : (slice_index t.controls r.slot.place == tag_of e.key) ≡ true = subst (λ n. (slice_index t.controls r.slot.place == n) ≡ true) tag (same_self (slice_index t.controls r.slot.place)) in
     let second : has_key (slot_at t.slots r.slot.place) e.key ≡ true = ap (λ o. has_key o e.key) r.there ∙ (ap (λ k. is_same k e.key) same_key ∙ key_self e.key) in
-    let passes : answers t e.key r.slot.place ≡ true = both_true (slice_index t.controls r.slot.place == tag_of e.key) (has_key (slot_at t.slots r.slot.place) e.key) first second in
+    let passes : answers t e.key r.slot.place ≡ true = and_from (slice_index t.controls r.slot.place == tag_of e.key) (has_key (slot_at t.slots r.slot.place) e.key) first second in
     let it = finds (answers t e.key) (key_reach t e.key) r.slot.place r.reached passes in
     let good = found_passes (answers t e.key) (key_reach t e.key) it.it it.is in
     let holds = both_right (slice_index t.controls it.it == tag_of e.key) (has_key (slot_at t.slots it.it) e.key) good.0 in

@@ -1,4 +1,5 @@
--- The number of containers that lie in one another in a node's value, and whether the keys of the maps in it ascend.
+-- The number of containers that lie in one another in a node's value, and whether the keys of the maps in it are those of
+-- maps.
 use Rattle.std.proofs.Common.{◌≡◌, ℕ, zero, suc, ◌+◌, max, true, List, [], refl, sym, ap, subst, ◌∙◌, arith}
 use Rattle.std.specs.Prelude.{⊤}
 use Rattle.archive_forms_values.specs.ShapeLayout.Value.{Value, Values, append_values, count_values}
@@ -6,15 +7,17 @@ use Rattle.archive_forms_values.specs.ShapeLayout.Value.Value.{natural, integer,
 use Rattle.archive_forms_values.specs.ShapeLayout.Value.Values.{no_values, more_values}
 use Rattle.archive_forms_values.specs.ShapeLayout.Content.{members, weave, first_values, other_values}
 use Rattle.cabinet_text_grammar.specs.Tree.{Tree, Trees, Pairs, depth, most_depth, pairs_depth}
-use Rattle.cabinet_documents.specs.Denotes.{Denotes, DenoteAll, DenotePairs, tagged_value}
+use Rattle.cabinet_documents.specs.Denotes.{Denotes, DenoteAll, DenotePairs}
 use Rattle.cabinet_documents.specs.Denotes.Denotes.{denotes_truth, denotes_number, denotes_text, denotes_shared, denotes_nothing}
 use Rattle.cabinet_documents.specs.Denotes.DenoteAll.{denote_none, denote_more}
 use Rattle.cabinet_documents.specs.Denotes.DenotePairs.{denote_no_pairs, denote_pair}
 use Rattle.cabinet_documents.specs.Order.{ascend}
 use Rattle.cabinet_documents.specs.Table.{item_keys}
 use Rattle.cabinet_documents.proofs.Denoted.{one_tree}
-use Rattle.cabinet_documents.proofs.Changing.{of_some, of_list, of_ordered}
-use Rattle.cabinet_documents.proofs.Nodes.{NodeValue, truth_value, number_value, text_value, shared_value, none_value, some_value, list_value, ordered_value, NodeValues, no_nodes, more_nodes, PairValues, no_pairs, more_pairs}
+use Rattle.cabinet_documents.proofs.Arranged.{arranged_depth}
+use Rattle.cabinet_documents.proofs.ByKey.{AreKeysDistinct}
+use Rattle.cabinet_documents.proofs.Changing.{of_some, of_list, of_ordered, of_hashed}
+use Rattle.cabinet_documents.proofs.Nodes.{NodeValue, truth_value, number_value, text_value, shared_value, none_value, some_value, list_value, ordered_value, hashed_value, NodeValues, no_nodes, more_nodes, PairValues, no_pairs, more_pairs}
 use Rattle.cabinet_documents.proofs.Places.{lifts}
 
 -- ---- how many containers lie in one another
@@ -44,6 +47,11 @@ mutual
   height_of (some_value e n) d q = let s = of_some (sym q ∙ e) d in let r = height_of n s.denotes refl in ap height e ∙ omega (arith, r) ∙ sym (ap depth s.is)
   height_of (list_value e ns small) d q = let s = of_list (sym q ∙ e) d in let r = heights_of ns s.denotes refl in ap height e ∙ omega (arith, r) ∙ sym (ap depth s.is)
   height_of (ordered_value e ps small) d q = let s = of_ordered (sym q ∙ e) d in let r = heights_of_pairs ps s.denotes refl in ap height e ∙ omega (arith, r) ∙ sym (ap depth s.is)
+  height_of (hashed_value e ps small) d q =
+      let s = of_hashed (sym q ∙ e) d in
+      let r = heights_of_pairs ps s.denotes refl in
+      let a = arranged_depth s.pairs in
+      ap height e ∙ omega (arith, r, a) ∙ sym (ap depth s.is)
 
   heights_of : {bytes : List ℕ} {vs ws : Values} {ts : Trees} → NodeValues bytes vs → DenoteAll ws ts → vs ≡ ws → heights vs ≡ most_depth ts
   heights_of (no_nodes e) (denote_none f g) q = ap heights e ∙ sym (ap most_depth g)
@@ -70,32 +78,40 @@ mutual
 pub height_is : {bytes : List ℕ} {v : Value} {t : Tree} → NodeValue bytes v → Denotes v t → height v ≡ depth t
 height_is n d = height_of n d refl
 
--- ---- whether keys ascend
+-- ---- whether keys ascend, or are distinct
 
 abbrev payload_keys : Values → List (List ℕ)
 payload_keys (more_values v no_values) = item_keys (members v)
 payload_keys vs = []
 
--- the keys of an ordered map, whose tag is 6, ascend
-abbrev pub KeysAscend : ℕ → Values → Type 0
-KeysAscend (suc (suc (suc (suc (suc (suc zero)))))) vs = ascend (payload_keys vs) ≡ true
-KeysAscend tag vs = ⊤
+-- the keys of an ordered map, whose tag is 6, ascend; those of a hashed map, whose tag is 7, are distinct
+abbrev pub KeysSuit : ℕ → Values → Type 0
+KeysSuit (suc (suc (suc (suc (suc (suc zero)))))) vs = ascend (payload_keys vs) ≡ true
+KeysSuit (suc (suc (suc (suc (suc (suc (suc zero))))))) vs = AreKeysDistinct (payload_keys vs)
+KeysSuit tag vs = ⊤
 
 abbrev mutual
-  -- so do those of each map in a value
-  pub Keyed : Value → Type 0
-  Keyed (natural n) = ⊤
-  Keyed (integer n) = ⊤
-  Keyed (boolean b) = ⊤
-  Keyed (string s) = ⊤
-  Keyed (group vs) = AllKeyed vs
-  Keyed (chosen tag vs) = KeysAscend tag vs × AllKeyed vs
-  Keyed (counted pos v) = Keyed v
-  Keyed (back pos) = ⊤
+  -- the values below each tag in a value suit the tag
+  pub Suited : (ℕ → Values → Type 0) → Value → Type 0
+  Suited Suits (natural n) = ⊤
+  Suited Suits (integer n) = ⊤
+  Suited Suits (boolean b) = ⊤
+  Suited Suits (string s) = ⊤
+  Suited Suits (group vs) = AllSuited Suits vs
+  Suited Suits (chosen tag vs) = Suits tag vs × AllSuited Suits vs
+  Suited Suits (counted pos v) = Suited Suits v
+  Suited Suits (back pos) = ⊤
 
-  pub AllKeyed : Values → Type 0
-  AllKeyed no_values = ⊤
-  AllKeyed (more_values v vs) = Keyed v × AllKeyed vs
+  pub AllSuited : (ℕ → Values → Type 0) → Values → Type 0
+  AllSuited Suits no_values = ⊤
+  AllSuited Suits (more_values v vs) = Suited Suits v × AllSuited Suits vs
+
+-- the keys of each map in a value are those of a map
+abbrev pub Keyed : Value → Type 0
+Keyed v = Suited KeysSuit v
+
+abbrev pub AllKeyed : Values → Type 0
+AllKeyed vs = AllSuited KeysSuit vs
 
 -- ---- the items of a node of a search tree have what its children and its entries have
 
@@ -124,18 +140,18 @@ heights_weave (more_values c cs) (more_values e es) h n =
     let a = heights_append (members c) (more_values e (weave cs es)) in
     omega (arith, g, r, a)
 
-keyed_append : (us vs : Values) → AllKeyed us → AllKeyed vs → AllKeyed (append_values us vs)
-keyed_append no_values vs h k = k
-keyed_append (more_values u us) vs h k = (h.0, keyed_append us vs h.1 k)
+pub suited_append : (Suits : ℕ → Values → Type 0) (us vs : Values) → AllSuited Suits us → AllSuited Suits vs → AllSuited Suits (append_values us vs)
+suited_append Suits no_values vs h k = k
+suited_append Suits (more_values u us) vs h k = (h.0, suited_append Suits us vs h.1 k)
 
 keyed_front : (us vs : Values) → AllKeyed (append_values us vs) → AllKeyed us × AllKeyed vs
 keyed_front no_values vs h = (tt, h)
 keyed_front (more_values u us) vs h = let r = keyed_front us vs h.1 in ((h.0, r.0), r.1)
 
-pub keyed_split : (n : ℕ) (vs : Values) → AllKeyed vs → AllKeyed (first_values n vs) × AllKeyed (other_values n vs)
-keyed_split zero vs h = (tt, h)
-keyed_split (suc n) no_values h = (tt, tt)
-keyed_split (suc n) (more_values v vs) h = let r = keyed_split n vs h.1 in ((h.0, r.0), r.1)
+pub suited_split : (Suits : ℕ → Values → Type 0) (n : ℕ) (vs : Values) → AllSuited Suits vs → AllSuited Suits (first_values n vs) × AllSuited Suits (other_values n vs)
+suited_split Suits zero vs h = (tt, h)
+suited_split Suits (suc n) no_values h = (tt, tt)
+suited_split Suits (suc n) (more_values v vs) h = let r = suited_split Suits n vs h.1 in ((h.0, r.0), r.1)
 
 pub keyed_joined : (n : ℕ) (vs : Values) → AllKeyed (first_values n vs) → AllKeyed (other_values n vs) → AllKeyed vs
 keyed_joined zero vs h k = k
@@ -146,7 +162,7 @@ pub keyed_weave : (cs es : Values) → AreGroups cs → count_values cs ≡ suc 
 keyed_weave no_values es g n h k = absurd (omega (arith, n))
 keyed_weave (more_values c cs) no_values g n h k = subst Keyed g.0 h.0
 keyed_weave (more_values c cs) (more_values e es) g n h k =
-    keyed_append (members c) (more_values e (weave cs es)) (subst Keyed g.0 h.0) (k.0, keyed_weave cs es g.1 (omega (arith, n)) h.1 k.1)
+    suited_append KeysSuit (members c) (more_values e (weave cs es)) (subst Keyed g.0 h.0) (k.0, keyed_weave cs es g.1 (omega (arith, n)) h.1 k.1)
 
 pub keyed_woven : (cs es : Values) → AreGroups cs → count_values cs ≡ suc (count_values es) → AllKeyed (weave cs es) → AllKeyed cs × AllKeyed es
 keyed_woven no_values es g n h = absurd (omega (arith, n))

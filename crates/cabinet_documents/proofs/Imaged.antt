@@ -17,6 +17,7 @@ use Rattle.archive_forms_values.specs.ShapeCanonical.Sharing.{erased}
 use Rattle.archive_forms_values.proofs.FormsLaws.Written.{is_written, written_once_law}
 use Rattle.cabinet_text_grammar.specs.Tree.{Tree}
 use Rattle.cabinet_documents.specs.Node.{KnowsNode, node_shape, node_names}
+use Rattle.cabinet_documents.proofs.CanonicalNodes.{canonical_tables, canonical_fitted}
 use Rattle.cabinet_documents.proofs.Standing.{sound_walk}
 use Rattle.cabinet_documents.specs.Spelling.{node_spelling}
 use Rattle.cabinet_documents.specs.SpellingLaws.{WrittenIsImage, OneImage}
@@ -82,13 +83,14 @@ written_is_image_law t bytes document f e =
     let layout = fitting_has_layout_law t initial f.0.0 in
     let fit = first_fit text_hash in
     let agrees = node_agrees t in
-    let written = is_written fit node_shape KnowsNode node_spelling t node_names text_keys bytes (node_spells_law fit) refl (agrees.suits fit) text_keys_differ f e in
+    let written = is_written fit node_shape KnowsNode node_spelling t node_names text_keys bytes (node_spells_law fit) refl (agrees.suits document.0) text_keys_differ f e in
     let archive = written.archive in
     let v = node_spelling.value t initial in
     let root = archive.canonical.root in
     let pos = root_position (length bytes) node_shape in
-    let denotes = denoted t v layout (written.plain ∙ agrees.plain) in
-    let walk = sound_walk bytes t v archive.regions archive.visits root denotes document in
+    let denotes = denoted t v layout document.0 (written.plain ∙ agrees.plain) in
+    let tables = canonical_tables bytes v archive.regions archive.visits archive.canonical t denotes document in
+    let walk = sound_walk bytes t v archive.regions archive.visits root denotes document tables in
     let low = root_low t bytes f e in
     let begins = root_begins bytes pos (length bytes) root.holds refl root.ascends in
     record {
@@ -111,7 +113,9 @@ pub one_image_law : OneImage
 one_image_law t bytes others layout i k =
     let a = i.accepted in
     let b = k.accepted in
-    let same : erased a.value ≡ erased b.value = one_value_law a.value t layout a.denotes ∙ sym (one_value_law b.value t layout b.denotes) in
+    let first = canonical_fitted bytes a.value a.regions a.visits i.canonical in
+    let second = canonical_fitted others b.value b.regions b.visits k.canonical in
+    let same : erased a.value ≡ erased b.value = one_value_law a.value t layout a.document a.denotes first ∙ sym (one_value_law b.value t layout a.document b.denotes second) in
     written_once_law (first_fit text_hash) node_names bytes others node_shape a.value b.value
     (record { regions = a.regions; visits = a.visits; canonical = i.canonical })
     (record { regions = b.regions; visits = b.visits; canonical = k.canonical })

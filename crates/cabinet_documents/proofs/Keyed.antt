@@ -1,21 +1,20 @@
--- The keys of the maps in a node's value ascend just where its document is legal.
-use Rattle.std.proofs.Common.{◌≡◌, ℕ, suc, ◌+◌, Bool, true, false, cond, List, [], ◌∷◌, refl, sym, ap, subst, ◌∙◌}
-use Rattle.std.specs.Prelude.{⊤}
+-- The keys of the maps in a node's value ascend, or are distinct, where its document is legal.
+use Rattle.std.proofs.Common.{◌≡◌, ℕ, Bool, true, false, cond, List, [], ◌∷◌, refl, sym, ap, subst, ◌∙◌}
 use Rattle.std.specs.Ordering.{is_lt, nat_cmp}
-use Rattle.std.specs.declared.cmp.Ordering.{Ordering}
-use Rattle.std.specs.declared.cmp.Ordering.TheVariants.{Less, Equal, Greater}
 use Rattle.std.specs.Cmp.Lexicographic.{slice_cmp}
 use Rattle.archive_forms_values.specs.ShapeLayout.Value.{Value, Values}
-use Rattle.cabinet_text_grammar.specs.Keys.{ordered, IsAboveLast}
-use Rattle.cabinet_text_grammar.specs.Tree.{Tree, Trees, Pairs, IsLegal, AreLegal, ArePairs}
+use Rattle.cabinet_text_grammar.specs.Keys.{ordered, hashed, IsAboveLast}
+use Rattle.cabinet_text_grammar.specs.Tree.{Tree, Trees, Pairs, no_pairs as none, more_pairs as more, IsLegal, AreLegal, ArePairs}
 use Rattle.cabinet_documents.specs.Denotes.{Denotes, DenoteAll, DenotePairs}
 use Rattle.cabinet_documents.specs.Denotes.DenoteAll.{denote_none, denote_more}
 use Rattle.cabinet_documents.specs.Denotes.DenotePairs.{denote_no_pairs, denote_pair}
-use Rattle.cabinet_documents.specs.Order.{ascend, is_below}
+use Rattle.cabinet_documents.specs.Order.{ascend, is_below, arranged}
 use Rattle.cabinet_documents.specs.Table.{item_keys}
-use Rattle.cabinet_documents.proofs.Changing.{of_some, of_list, of_ordered}
+use Rattle.cabinet_documents.proofs.Arranged.{is_less}
+use Rattle.cabinet_documents.proofs.ByKey.{AreKeysDistinct, pair_keys, AreDistinct, keys_distinct, distinct, distinct_in_order}
+use Rattle.cabinet_documents.proofs.Changing.{of_some, of_list, of_ordered, of_hashed}
 use Rattle.cabinet_documents.proofs.Heights.{Keyed, AllKeyed}
-use Rattle.cabinet_documents.proofs.Nodes.{NodeValue, truth_value, number_value, text_value, shared_value, none_value, some_value, list_value, ordered_value, NodeValues, no_nodes, more_nodes, PairValues, no_pairs, more_pairs}
+use Rattle.cabinet_documents.proofs.Nodes.{NodeValue, truth_value, number_value, text_value, shared_value, none_value, some_value, list_value, ordered_value, hashed_value, NodeValues, no_nodes, more_nodes, PairValues, no_pairs, more_pairs}
 
 -- ---- keys after others, of which the last comes first
 
@@ -28,11 +27,6 @@ pub after_first : (before : List (List ℕ)) (k : List ℕ) (ks : List (List ℕ
 after_first [] k ks h rest = rest
 after_first (last ∷ before) k ks h rest = ap (λ o. cond (is_lt o) (ascend (k ∷ ks)) false) h ∙ rest
 
-is_less : (o : Ordering) → is_lt o ≡ true → o ≡ Less
-is_less Less e = refl
-is_less Equal e = absurd (cc)
-is_less Greater e = absurd (cc)
-
 both_true : (b c : Bool) → cond b c false ≡ true → (b ≡ true) × (c ≡ true)
 both_true true c e = (refl, e)
 both_true false c e = absurd (cc)
@@ -44,6 +38,17 @@ first_after (last ∷ before) k ks h = let b = both_true (is_below last k) (asce
 none_after : (before : List (List ℕ)) → AscendAfter before []
 none_after [] = refl
 none_after (last ∷ before) = refl
+
+-- ---- the keys of a document's pairs
+
+pub keys_denoted : {vs : Values} {ps : Pairs} → DenotePairs vs ps → item_keys vs ≡ pair_keys ps
+keys_denoted (denote_no_pairs e f) = ap item_keys e ∙ sym (ap pair_keys f)
+keys_denoted (denote_pair {k = k} e f d ds) = ap item_keys e ∙ ap (λ ks. k ∷ ks) (keys_denoted ds) ∙ sym (ap pair_keys f)
+
+-- those of an ordered map ascend
+pairs_ascend : (before : List (List ℕ)) (ps : Pairs) → ArePairs ordered before ps → AscendAfter before (pair_keys ps)
+pairs_ascend before none h = none_after before
+pairs_ascend before (more k t ps) h = after_first before k (pair_keys ps) h.0.1 (pairs_ascend (k ∷ before) ps h.1.1)
 
 -- ---- the value of a legal document
 
@@ -59,8 +64,14 @@ mutual
   keyed_of (ordered_value e ps small) d q l =
       let s = of_ordered (sym q ∙ e) d in
       let a = subst IsLegal s.is l in
-      let p = pairs_keyed_of [] ps s.denotes refl a.0 in
-      subst Keyed (sym e) (p.0, (p.1, tt))
+      let keys = subst (λ ks. ascend ks ≡ true) (sym (keys_denoted s.denotes)) (pairs_ascend [] s.pairs a.0) in
+      subst Keyed (sym e) (keys, (pairs_keyed_of ps s.denotes refl (distinct ordered [] s.pairs a.0), tt))
+  keyed_of (hashed_value e ps small) d q l =
+      let s = of_hashed (sym q ∙ e) d in
+      let a = subst IsLegal s.is l in
+      let each = distinct_in_order hashed s.pairs (distinct hashed [] (arranged s.pairs) a.0) in
+      let keys = subst AreKeysDistinct (sym (keys_denoted s.denotes)) (keys_distinct s.pairs each) in
+      subst Keyed (sym e) (keys, (pairs_keyed_of ps s.denotes refl each, tt))
 
   all_keyed_of : {bytes : List ℕ} {vs ws : Values} {ts : Trees} → NodeValues bytes vs → DenoteAll ws ts → vs ≡ ws → AreLegal ts → AllKeyed vs
   all_keyed_of (no_nodes e) d q l = subst AllKeyed (sym e) tt
@@ -71,18 +82,14 @@ mutual
       let a = subst AreLegal g l in
       subst AllKeyed (sym e) (keyed_of n d one a.0, all_keyed_of ns ds others a.1)
 
-  pairs_keyed_of : {bytes : List ℕ} {vs ws : Values} {qs : Pairs} (before : List (List ℕ)) → PairValues bytes vs → DenotePairs ws qs → vs ≡ ws → ArePairs ordered before qs → AscendAfter before (item_keys vs) × AllKeyed vs
-  pairs_keyed_of before (no_pairs e) d q l = (subst (λ x. AscendAfter before (item_keys x)) (sym e) (none_after before), subst AllKeyed (sym e) tt)
-  pairs_keyed_of before (more_pairs e u n ns) (denote_no_pairs f g) q l = absurd (cc)
-  pairs_keyed_of before (more_pairs {ws = ws} {k = k} {v = v} e u n ns) (denote_pair {k = k'} {v = v'} {vs = ws'} {ps = ps} f g d ds) q l =
-      let key : k ≡ k' = cc in
+  pairs_keyed_of : {bytes : List ℕ} {vs ws : Values} {qs : Pairs} → PairValues bytes vs → DenotePairs ws qs → vs ≡ ws → AreDistinct qs → AllKeyed vs
+  pairs_keyed_of (no_pairs e) d q l = subst AllKeyed (sym e) tt
+  pairs_keyed_of (more_pairs e u n ns) (denote_no_pairs f g) q l = absurd (cc)
+  pairs_keyed_of (more_pairs {ws = ws} {v = v} e u n ns) (denote_pair {v = v'} {vs = ws'} f g d ds) q l =
       let one : v ≡ v' = cc in
       let others : ws ≡ ws' = cc in
-      let a = subst (ArePairs ordered before) g l in
-      let rest = pairs_keyed_of (k ∷ before) ns ds others (subst (λ x. ArePairs ordered (x ∷ before) ps) (sym key) a.1.1) in (
-        subst (λ x. AscendAfter before (item_keys x)) (sym e) (after_first before k (item_keys ws) (subst (IsAboveLast before) (sym key) a.0.1) rest.0),
-        subst AllKeyed (sym e) ((tt, (keyed_of n d one a.1.0, tt)), rest.1),
-      )
+      let a = subst AreDistinct g l in
+      subst AllKeyed (sym e) ((tt, (keyed_of n d one a.1, tt)), pairs_keyed_of ns ds others a.2)
 
 pub keyed_is : {bytes : List ℕ} {v : Value} {t : Tree} → NodeValue bytes v → Denotes v t → IsLegal t → Keyed v
 keyed_is n d l = keyed_of n d refl l

@@ -6,19 +6,20 @@ use Rattle.archive_forms_values.specs.ShapeLayout.Value.{Value, Values}
 use Rattle.archive_forms_values.specs.ShapeLayout.Value.Value.{string, group, chosen, counted}
 use Rattle.archive_forms_values.specs.ShapeLayout.Value.Values.{no_values}
 use Rattle.archive_forms_values.specs.ShapeLayout.Path.{value_in}
-use Rattle.cabinet_text_grammar.specs.Keys.{ordered}
-use Rattle.cabinet_text_grammar.specs.Tree.{Leaf, truth, number, text, Tree, Trees, Pairs, leaf, shared, nothing, just, list, map, no_trees}
+use Rattle.cabinet_text_grammar.specs.Keys.{ordered, hashed}
+use Rattle.cabinet_text_grammar.specs.Tree.{Leaf, truth, number, text, Tree, Trees, Pairs, leaf, shared, nothing, just, list, map, no_trees, IsLegal, AreLegal}
 use Rattle.cabinet_text_grammar.specs.Tree as document
 use Rattle.cabinet_text_grammar.specs.Path.{Step, node_at, node_in, node_by}
 use Rattle.cabinet_documents.specs.Denotes.{Denotes, DenoteAll, DenotePairs, tagged_value, pair_value}
 use Rattle.cabinet_documents.specs.Denotes.Denotes.{denotes_truth, denotes_number, denotes_text, denotes_shared, denotes_nothing, denotes_some, denotes_list, denotes_ordered, denotes_hashed, denotes_kept}
 use Rattle.cabinet_documents.specs.Denotes.DenoteAll.{denote_none, denote_more}
 use Rattle.cabinet_documents.specs.Denotes.DenotePairs.{denote_no_pairs, denote_pair}
+use Rattle.cabinet_documents.specs.Order.{arranged}
 use Rattle.cabinet_documents.specs.Laws.{payload_of}
-use Rattle.cabinet_documents.proofs.ByKey.{node_here, node_past}
-use Rattle.cabinet_documents.proofs.Changing.{of_some, of_list, of_ordered}
+use Rattle.cabinet_documents.proofs.ByKey.{node_here, node_past, AreDistinct}
+use Rattle.cabinet_documents.proofs.Changing.{of_some, of_list, of_ordered, of_hashed}
 use Rattle.cabinet_documents.proofs.Denoted.{one_tree}
-use Rattle.cabinet_documents.proofs.Nodes.{NodeValue, truth_value, number_value, text_value, shared_value, none_value, some_value, list_value, ordered_value, NodeValues, no_nodes, more_nodes, PairValues, no_pairs, more_pairs}
+use Rattle.cabinet_documents.proofs.Nodes.{NodeValue, truth_value, number_value, text_value, shared_value, none_value, some_value, list_value, ordered_value, hashed_value, NodeValues, no_nodes, more_nodes, PairValues, no_pairs, more_pairs}
 
 abbrev pub leaf_tag : Leaf → ℕ
 leaf_tag (truth b) = 0
@@ -35,6 +36,7 @@ pub data Known (bytes : List ℕ) (v : Value) (t : Tree) : Type 0 where
   known_some : {w : Value} {u : Tree} → v ≡ tagged_value 4 (tagged_value 1 w) → t ≡ just u → NodeValue bytes w → Denotes w u → Known bytes v t
   known_list : {vs : Values} {ts : Trees} → v ≡ tagged_value 5 (group vs) → t ≡ list ts → NodeValues bytes vs → DenoteAll vs ts → Known bytes v t
   known_ordered : {vs : Values} {ps : Pairs} → v ≡ tagged_value 6 (group vs) → t ≡ map ordered ps → PairValues bytes vs → DenotePairs vs ps → Known bytes v t
+  known_hashed : {vs : Values} {ps : Pairs} → v ≡ tagged_value 7 (group vs) → t ≡ map hashed (arranged ps) → PairValues bytes vs → DenotePairs vs ps → Known bytes v t
 
 pub known : {bytes : List ℕ} {v : Value} {t : Tree} → NodeValue bytes v → Denotes v t → Known bytes v t
 known (truth_value {b = b} e) d = known_leaf (truth b) e (one_tree d (denotes_truth e refl))
@@ -45,6 +47,7 @@ known (none_value e) d = known_none e (one_tree d (denotes_nothing e refl))
 known (some_value e n) d = let s = of_some e d in known_some e s.is n s.denotes
 known (list_value e ns small) d = let s = of_list e d in known_list e s.is ns s.denotes
 known (ordered_value e ps small) d = let s = of_ordered e d in known_ordered e s.is ps s.denotes
+known (hashed_value e ps small) d = let s = of_hashed e d in known_hashed e s.is ps s.denotes
 
 -- the value of a leaf
 pub leaf_value : {v : Value} {t : Tree} → Denotes v t → (l : Leaf) → t ≡ leaf l → LeafValue v l
@@ -67,12 +70,13 @@ pub record KnownElement (bytes : List ℕ) (vs : Values) (i : ℕ) (path : List 
   pub there : value_in i vs ≡ Some value
   pub node : NodeValue bytes value
   pub denotes : Denotes value tree
+  pub legal : IsLegal tree
   pub found : node_at tree path ≡ Some t
 
-pub known_element : {bytes : List ℕ} {vs : Values} {ts : Trees} (i : ℕ) (path : List Step) (t : Tree) → NodeValues bytes vs → DenoteAll vs ts → node_in ts i path ≡ Some t → KnownElement bytes vs i path t
-known_element i path t ns (denote_none e f) g = let h : node_in no_trees i path ≡ Some t = subst (λ x. node_in x i path ≡ Some t) f g in absurd (cc)
-known_element i path t (no_nodes n) (denote_more e f d ds) g = absurd (cc)
-known_element {bytes = bytes} zero path t (more_nodes {v = v'} n h hs) (denote_more {v = v} {t = u} {ts = us} e f d ds) g =
+pub known_element : {bytes : List ℕ} {vs : Values} {ts : Trees} (i : ℕ) (path : List Step) (t : Tree) → NodeValues bytes vs → DenoteAll vs ts → AreLegal ts → node_in ts i path ≡ Some t → KnownElement bytes vs i path t
+known_element i path t ns (denote_none e f) l g = let h : node_in no_trees i path ≡ Some t = subst (λ x. node_in x i path ≡ Some t) f g in absurd (cc)
+known_element i path t (no_nodes n) (denote_more e f d ds) l g = absurd (cc)
+known_element {bytes = bytes} zero path t (more_nodes {v = v'} n h hs) (denote_more {v = v} {t = u} {ts = us} e f d ds) l g =
     let same : v' ≡ v = cc in
     record {
       value = v;
@@ -80,12 +84,13 @@ known_element {bytes = bytes} zero path t (more_nodes {v = v'} n h hs) (denote_m
       there = ap (value_in 0) e;
       node = subst (NodeValue bytes) same h;
       denotes = d;
+      legal = (subst AreLegal f l).0;
       found = subst (λ x. node_in x 0 path ≡ Some t) f g;
     }
-known_element {bytes = bytes} (suc i) path t (more_nodes {ws = ws'} n h hs) (denote_more {vs = ws} e f d ds) g =
+known_element {bytes = bytes} (suc i) path t (more_nodes {ws = ws'} n h hs) (denote_more {vs = ws} e f d ds) l g =
     let same : ws' ≡ ws = cc in
-    let k = known_element i path t (subst (NodeValues bytes) same hs) ds (subst (λ x. node_in x (suc i) path ≡ Some t) f g) in
-    record { value = k.value; tree = k.tree; there = ap (value_in (suc i)) e ∙ k.there; node = k.node; denotes = k.denotes; found = k.found }
+    let k = known_element i path t (subst (NodeValues bytes) same hs) ds (subst AreLegal f l).1 (subst (λ x. node_in x (suc i) path ≡ Some t) f g) in
+    record { value = k.value; tree = k.tree; there = ap (value_in (suc i)) e ∙ k.there; node = k.node; denotes = k.denotes; legal = k.legal; found = k.found }
 
 -- ---- the pair with a key
 
@@ -98,16 +103,20 @@ pub record KnownPair (bytes : List ℕ) (vs : Values) (k : List ℕ) (path : Lis
   pub first : (i : ℕ) (other : Value) → i < number → value_in i vs ≡ Some (pair_value k other) → ⊥
   pub node : NodeValue bytes value
   pub denotes : Denotes value tree
+  pub legal : IsLegal tree
   pub found : node_at tree path ≡ Some t
 
-pub known_pair : {bytes : List ℕ} {vs : Values} {ps : Pairs} (k : List ℕ) (path : List Step) (t : Tree) → PairValues bytes vs → DenotePairs vs ps → node_by ps k path ≡ Some t → KnownPair bytes vs k path t
-known_pair k path t ns (denote_no_pairs e f) g = let h : node_by document.no_pairs k path ≡ Some t = ap (λ x. node_by x k path) (sym f) ∙ g in absurd (cc)
-known_pair k path t (no_pairs n) (denote_pair e f d ds) g = absurd (cc)
-known_pair {bytes = bytes} {vs = vs} k path t (more_pairs {ws = ws'} {k = l'} {v = v'} n utf8 h hs) (denote_pair {k = l} {v = v} {vs = ws} {t = u} {ps = us} e f d ds) g =
-    by_case (bytes_eq l k) refl (λ there. known_pair k path t (subst (PairValues bytes) (cc) hs) ds there)
+pub known_pair : {bytes : List ℕ} {vs : Values} {ps : Pairs} (k : List ℕ) (path : List Step) (t : Tree) → PairValues bytes vs → DenotePairs vs ps → AreDistinct ps → node_by ps k path ≡ Some t → KnownPair bytes vs k path t
+known_pair k path t ns (denote_no_pairs e f) each g = let h : node_by document.no_pairs k path ≡ Some t = ap (λ x. node_by x k path) (sym f) ∙ g in absurd (cc)
+known_pair k path t (no_pairs n) (denote_pair e f d ds) each g = absurd (cc)
+known_pair {bytes = bytes} {vs = vs} k path t (more_pairs {ws = ws'} {k = l'} {v = v'} n utf8 h hs) (denote_pair {k = l} {v = v} {vs = ws} {t = u} {ps = us} e f d ds) each g =
+    by_case (bytes_eq l k) refl (λ there. known_pair k path t (subst (PairValues bytes) (cc) hs) ds others.2 there)
   where
     all : node_by (document.more_pairs l u us) k path ≡ Some t
     all = ap (λ x. node_by x k path) (sym f) ∙ g
+
+    others : AreDistinct (document.more_pairs l u us)
+    others = subst AreDistinct f each
 
     by_case : (b : Bool) → bytes_eq l k ≡ b → (node_by us k path ≡ Some t → KnownPair bytes ws k path t) → KnownPair bytes vs k path t
     by_case true keys on =
@@ -120,6 +129,7 @@ known_pair {bytes = bytes} {vs = vs} k path t (more_pairs {ws = ws'} {k = l'} {v
           first = λ i other less has. absurd (omega (arith, less));
           node = subst (NodeValue bytes) same h;
           denotes = d;
+          legal = others.1;
           found = sym (node_here l u us k path keys) ∙ all;
         }
     by_case false keys on =
@@ -132,6 +142,7 @@ known_pair {bytes = bytes} {vs = vs} k path t (more_pairs {ws = ws'} {k = l'} {v
           first = past r.number r.first;
           node = r.node;
           denotes = r.denotes;
+          legal = r.legal;
           found = r.found;
         }
       where

@@ -1,5 +1,5 @@
 -- How a path in a value leads to a leaf, at each place.
-use Rattle.std.proofs.Common.{◌≡◌, ℕ, zero, suc, ◌+◌, ◌-◌, ◌<◌, ◌≤◌, nat_lt, cond, true, false, List, [], ◌∷◌, ◌++◌, Option, Some, None, refl, sym, ap, subst, ◌∙◌, arith, ◌⊎◌, inl, inr}
+use Rattle.std.proofs.Common.{◌≡◌, ℕ, zero, suc, ◌+◌, ◌-◌, ◌*◌, ◌<◌, ◌≤◌, nat_lt, cond, Bool, true, false, List, [], ◌∷◌, ◌++◌, Option, Some, None, refl, sym, ap, subst, ◌∙◌, arith, ◌⊎◌, inl, inr}
 use Rattle.std.specs.Prelude.{⊤}
 use Rattle.archive_forms_values.specs.ShapeLayout.Value.{Value, Values}
 use Rattle.archive_forms_values.specs.ShapeLayout.Value.Value.{group, chosen}
@@ -13,7 +13,7 @@ use Rattle.cabinet_text_grammar.specs.Tree.{Leaf, truth, number, text}
 use Rattle.cabinet_text_grammar.specs.Path.{Step}
 use Rattle.cabinet_documents.specs.Denotes.{tagged_value, pair_value}
 use Rattle.cabinet_documents.specs.OwnBytes.{LeadsTo, leads_here, leads_inside, leads_place, leads_key}
-use Rattle.cabinet_documents.proofs.Places.{Place, node_here, payload_here, truth_here, number_here, text_here, shared_here, option_here, box_here, list_here, ordered_here, tree_node, tree_child, entry_here, absent_here, node_behind, nodes_behind, text_behind, Spot, nodes_from, entries_from, children_from}
+use Rattle.cabinet_documents.proofs.Places.{Place, node_here, payload_here, truth_here, number_here, text_here, shared_here, option_here, box_here, list_here, ordered_here, table_here, pair_here, tree_node, tree_child, entry_here, buckets_here, absent_here, node_behind, nodes_behind, text_behind, Spot, nodes_from, entries_from, children_from, items_from}
 use Rattle.cabinet_documents.proofs.Known.{leaf_tag, LeafValue}
 use Rattle.cabinet_documents.proofs.Steps.{place_of}
 
@@ -69,9 +69,12 @@ Aims option_here v path = ToItem v path
 Aims box_here v path = ToLeaf v path
 Aims list_here v path = ToItem v path
 Aims ordered_here v path = ToPair v path
+Aims table_here v path = ToPair v path
+Aims pair_here v path = FromPair v path
 Aims (tree_node level) v path = ToPair v path
 Aims (tree_child level) v path = ToPair v path
 Aims (entry_here key) v path = FromPair v path
+Aims (buckets_here target len cap) v path = ToPair v path
 Aims absent_here v path = ⊤
 Aims node_behind v path = ToLeaf v path
 Aims (nodes_behind len) v path = ToItem v path
@@ -89,7 +92,7 @@ leaf_aims (text s) u path = tt
 
 map_aims : (tag : ℕ) (u : Value) (path : List ℕ) → (tag ≡ 6) ⊎ ((tag ≡ 7) ⊎ (tag ≡ 8)) → ToPair u path → Aims (place_of tag) u path
 map_aims tag u path (inl six) p = subst (λ n. Aims (place_of n) u path) (sym six) p
-map_aims tag u path (inr (inl seven)) p = subst (λ n. Aims (place_of n) u path) (sym seven) tt
+map_aims tag u path (inr (inl seven)) p = subst (λ n. Aims (place_of n) u path) (sym seven) p
 map_aims tag u path (inr (inr eight)) p = subst (λ n. Aims (place_of n) u path) (sym eight) tt
 
 record SamePayload (tag n : ℕ) (u w : Value) : Type 0 where
@@ -159,6 +162,16 @@ pub entry_spot : (i n key value : ℕ) (q : Spot) → IsSpot i (entries_from n k
 entry_spot i zero key value q s = absurd s
 entry_spot zero (suc n) key value q s = (key, ap (λ (x : Spot). x.place) (sym s))
 entry_spot (suc i) (suc n) key value q s = entry_spot i n (key + 8) (value + 24) q s
+
+pub item_spot : (i target j : ℕ) (controls : List ℕ) (q : Spot) → IsSpot i (items_from target j controls) q → q.place ≡ pair_here
+item_spot i target j [] q s = absurd s
+item_spot i target j (c ∷ cs) q s = by_test (nat_lt c 128) i s (λ n h. item_spot n target (j + 1) cs q h)
+  where
+    by_test : (b : Bool) (n : ℕ) → IsSpot n (cond b (record { place = pair_here; pos = target - (j + 1) * 32 } ∷ items_from target (j + 1) cs) (items_from target (j + 1) cs)) q
+        → ((m : ℕ) → IsSpot m (items_from target (j + 1) cs) q → q.place ≡ pair_here) → q.place ≡ pair_here
+    by_test true zero h on = ap (λ (x : Spot). x.place) (sym h)
+    by_test true (suc n) h on = on n h
+    by_test false n h on = on n h
 
 -- children come before entries
 pub child_spot : (i n level link : ℕ) (es : List Spot) (q : Spot) → i < n → IsSpot i (children_from n level link ++ es) q → q.place ≡ tree_child level
@@ -267,9 +280,9 @@ pair_below {l = l} {vs = vs} {i = i} {inner = inner} {v = v} {u = u} {w = w} mad
     let same_pair : x.0 ≡ pair_value a.key a.item = value_is (sym found ∙ ap (λ n. value_at (n ∷ []) v) number ∙ a.there) in
     record { key = a.key; item = a.item; i = s.m; more = a.more; there = x.1 ∙ ap (λ y. Some y) same_pair; is = s.inner_is ∙ ap (λ p. s.m ∷ p) rest; on = a.on }
 
-pub pair_here : {l : Label} {vs : Values} {i : ℕ} {inner path : List ℕ} {v u : Value}
+pub pair_in : {l : Label} {vs : Values} {i : ℕ} {inner path : List ℕ} {v u : Value}
     → made l vs ≡ Some v → value_in i vs ≡ Some u → IntoPart l vs i inner path → ToPair v path → FromPair u inner
-pair_here {l = l} {vs = vs} {i = i} {v = v} {u = u} made_of there s a =
+pair_in {l = l} {vs = vs} {i = i} {v = v} {u = u} made_of there s a =
     let both = sym s.way ∙ a.is in
     let number : s.j ≡ a.i = cc in
     let found = (put_label l vs i [] (s.j ∷ []) v v u u made_of there refl s.alone).is_there in

@@ -1,29 +1,32 @@
 -- Each leaf of an accepted document has own bytes.
-use Rattle.std.proofs.Common.{◌≡◌, ℕ, suc, List, [], ◌∷◌, ◌++◌, length, Some, refl, sym, ap, subst, ◌∙◌, inl}
+use Rattle.std.proofs.Common.{◌≡◌, ℕ, suc, List, [], ◌∷◌, ◌++◌, length, Some, refl, sym, ap, subst, ◌∙◌, ◌⊎◌, inl, inr}
 use Rattle.archive_forms_values.specs.ShapeLayout.Bytes.{window}
-use Rattle.archive_forms_values.specs.ShapeLayout.Shape.{Shape}
 use Rattle.archive_forms_values.specs.ShapeLayout.Shape.Pointee.{sized, str}
 use Rattle.archive_forms_values.specs.ShapeLayout.Value.{Value, Values}
 use Rattle.archive_forms_values.specs.ShapeLayout.Value.Value.{group, string}
 use Rattle.archive_forms_values.specs.ShapeLayout.Content.{Part}
 use Rattle.archive_forms_values.specs.ShapeLayout.Content.Part.{behind}
-use Rattle.archive_btree_spelling.proofs.PairsStand.{PairStands, tree_pair_stands}
+use Rattle.archive_btree_spelling.proofs.PairsStand.{tree_pair_stands}
 use Rattle.archive_forms_values.specs.ShapeLayout.Holds.{Region, Visit, OpenShared, Holds, root_position}
 use Rattle.archive_forms_values.specs.ShapeLayout.Edit.IsLeafIn.{out_of_line}
 use Rattle.archive_forms_values.specs.ShapeLayout.Path.{Stands, value_in}
 use Rattle.archive_forms_values.specs.ShapeLayout.Path.Stands.{stands_here}
 use Rattle.archive_forms_values.proofs.ShapeLayout.Leaves.{leaf_within_law}
 use Rattle.archive_forms_values.proofs.ArchiveShape.Pieces.{length-window}
-use Rattle.cabinet_text_grammar.specs.Tree.{Leaf, truth, number, text, Tree, leaf}
+use Rattle.cabinet_text_grammar.specs.Keys.{ordered, hashed}
+use Rattle.cabinet_text_grammar.specs.Tree.{Leaf, truth, number, text, Tree, leaf, IsLegal}
 use Rattle.cabinet_text_grammar.specs.Path.{Step, key, place, inside, node_at}
 use Rattle.cabinet_documents.specs.Node.{node_names, node_shape, own_bytes}
 use Rattle.cabinet_documents.specs.Denotes.{Denotes, tagged_value, pair_value}
 use Rattle.cabinet_documents.specs.OwnBytes.{LeadsTo, leads_here, leads_inside, leads_place, leads_key, IsOwn, own_truth, own_number, own_inline, own_behind}
 use Rattle.cabinet_documents.specs.Laws.{payload_of, OwnBytesStand, LeavesStand}
-use Rattle.cabinet_documents.proofs.Places.{Place, node_here, text_here, list_here, ordered_here, node_behind, text_behind, part_of, Pays, pays_truth, pays_number, pays_text, pays_shared, pays_option, pays_list, pays_ordered, pays_absent}
+use Rattle.cabinet_documents.specs.Order.{arranged}
+use Rattle.cabinet_documents.proofs.ByKey.{distinct, distinct_in_order, node_in_order}
+use Rattle.cabinet_documents.proofs.TableSteps.{table_node}
+use Rattle.cabinet_documents.proofs.Places.{Place, node_here, text_here, list_here, ordered_here, table_here, node_behind, text_behind, part_of, Pays, pays_truth, pays_number, pays_text, pays_shared, pays_option, pays_list, pays_ordered, pays_hashed, pays_absent}
 use Rattle.cabinet_documents.proofs.Nodes.{absent_law, NodeValue, none_seen, held}
 use Rattle.cabinet_documents.proofs.Steps.{place_of, node_cases, behind_below, some_cases, ElementCase, element_cases, TextCase, text_inline, text_out, text_cases}
-use Rattle.cabinet_documents.proofs.Known.{leaf_tag, LeafValue, Known, known_leaf, known_shared, known_none, known_some, known_list, known_ordered, known, known_element, known_pair}
+use Rattle.cabinet_documents.proofs.Known.{leaf_tag, LeafValue, Known, known_leaf, known_shared, known_none, known_some, known_list, known_ordered, known_hashed, known, known_element, known_pair}
 use Rattle.cabinet_documents.proofs.Leading.{ToLeaf}
 use Rattle.cabinet_documents.proofs.Avoiding.{avoids}
 
@@ -45,6 +48,7 @@ module _ (bytes : List ℕ) where
   place_is pos pays_option h = refl
   place_is pos pays_list h = refl
   place_is pos pays_ordered h = refl
+  place_is pos pays_hashed h = refl
   place_is pos {level = level} {around = around} {v = v} {regions = regions} {before = before} {after = after} (pays_absent z) h =
       absurd (absent_law bytes level around pos v regions before after h)
 
@@ -112,22 +116,52 @@ module _ (bytes : List ℕ) where
     own = r.own;
   }
 
-  mapped : (l : Leaf) {level pos : ℕ} {around : List OpenShared} {v : Value} {vs : Values} {before after : List Visit} (k : List ℕ) (i : ℕ) (rest : List Step) (u : Value)
-      → v ≡ tagged_value 6 (group vs) → value_in i vs ≡ Some (pair_value k u)
-      → (o : PaidAt level around pos v (group vs) ordered_here before after) (s : PairStands node_names bytes 5 Shape.text node_shape level around before o.payload_pos (group vs) i u)
-      → LeafStands s.deeper around s.since s.value_pos u rest l → LeafStands level around before pos v (key k ∷ rest) l
-  mapped l k i rest u e there o s r =
+  -- the node of pair i of a map
+  pub record PairCase (k : Place) (level : ℕ) (around : List OpenShared) (before : List Visit) (pos : ℕ) (w : Value) (i : ℕ) (y : Value) : Type 0 where
+    pub deeper : ℕ
+    pub node_pos : ℕ
+    pub regions : List Region
+    pub since : List Visit
+    pub until : List Visit
+    pub holds : Holds node_names bytes deeper around (part_of node_here node_pos) y regions since until
+    pub stands : (r : Part) (u : Value) (inner : List ℕ) → Stands node_names bytes r u deeper around since (part_of node_here node_pos) y inner → ToLeaf y inner
+        → Stands node_names bytes r u level around before (part_of k pos) w (i ∷ (1 ∷ inner))
+
+  ordered_case : (pos i : ℕ) (k : List ℕ) (y : Value) {level : ℕ} {around : List OpenShared} {vs : Values} {regions : List Region} {before after : List Visit}
+      → value_in i vs ≡ Some (pair_value k y) → Holds node_names bytes level around (part_of ordered_here pos) (group vs) regions before after → PairCase ordered_here level around before pos (group vs) i y
+  ordered_case pos i k y there h =
+      let s = tree_pair_stands h i (string k) y there in
+      record {
+        deeper = s.deeper;
+        node_pos = s.value_pos;
+        regions = s.regions;
+        since = s.since;
+        until = s.until;
+        holds = s.holds;
+        stands = λ r u inner x way. (s.stands r u inner (record { stands = x; spares = avoids bytes s.holds x node_here s.value_pos refl way })).stands;
+      }
+
+  hashed_case : (pos i : ℕ) (k : List ℕ) (y : Value) {level : ℕ} {around : List OpenShared} {vs : Values} {regions : List Region} {before after : List Visit}
+      → value_in i vs ≡ Some (pair_value k y) → Holds node_names bytes level around (part_of table_here pos) (group vs) regions before after → PairCase table_here level around before pos (group vs) i y
+  hashed_case pos i k y there h =
+      let s = table_node bytes pos i k y refl there h in
+      record { deeper = s.deeper; node_pos = s.node_pos; regions = s.regions; since = s.since; until = s.until; holds = s.holds; stands = λ r u inner x way. s.stands r u inner x }
+
+  mapped : (l : Leaf) {level pos : ℕ} {around : List OpenShared} {v : Value} {vs : Values} {before after : List Visit} (tag : ℕ) (q : Place) (k : List ℕ) (i : ℕ) (rest : List Step) (u : Value)
+      → v ≡ tagged_value tag (group vs) → (tag ≡ 6) ⊎ ((tag ≡ 7) ⊎ (tag ≡ 8)) → value_in i vs ≡ Some (pair_value k u)
+      → (o : PaidAt level around pos v (group vs) q before after) (s : PairCase q level around before o.payload_pos (group vs) i u)
+      → LeafStands s.deeper around s.since s.node_pos u rest l → LeafStands level around before pos v (key k ∷ rest) l
+  mapped l tag q k i rest u e high there o s r =
       let inner = r.inner ++ 0 ∷ [] in
       let way : ToLeaf u inner = record { steps = rest; inner = r.inner; node = r.node; leads = r.leads; leaf = l; is_leaf = r.is_leaf; is = refl } in
-      let stands = s.stands r.part r.payload inner (record { stands = r.stands; spares = avoids bytes s.holds r.stands node_here s.value_pos refl way }) in
       record {
         node = r.node;
         inner = 0 ∷ (i ∷ (1 ∷ r.inner));
-        leads = leads_key e (inl refl) there refl refl r.leads;
+        leads = leads_key e high there refl refl r.leads;
         is_leaf = r.is_leaf;
         part = r.part;
         payload = r.payload;
-        stands = o.stands r.part r.payload (i ∷ (1 ∷ inner)) stands.stands;
+        stands = o.stands r.part r.payload (i ∷ (1 ∷ inner)) (s.stands r.part r.payload inner r.stands way);
         own = r.own;
       }
 
@@ -135,10 +169,10 @@ module _ (bytes : List ℕ) where
   abbrev On : List Step → Leaf → Type 0
   On rest l =
       (pos level : ℕ) (around : List OpenShared) (v : Value) (regions : List Region) (before after : List Visit) (t : Tree)
-      → NodeValue bytes v → Denotes v t → Holds node_names bytes level around (part_of node_here pos) v regions before after → node_at t rest ≡ Some (leaf l) → LeafStands level around before pos v rest l
+      → NodeValue bytes v → Denotes v t → IsLegal t → Holds node_names bytes level around (part_of node_here pos) v regions before after → node_at t rest ≡ Some (leaf l) → LeafStands level around before pos v rest l
 
   module _ (l : Leaf) {level pos : ℕ} {around : List OpenShared} {v : Value} {regions : List Region} {before after : List Visit} {t : Tree}
-      (h : Holds node_names bytes level around (part_of node_here pos) v regions before after)
+      (legal : IsLegal t) (h : Holds node_names bytes level around (part_of node_here pos) v regions before after)
     where
       ends_here : Known bytes v t → node_at t [] ≡ Some (leaf l) → LeafStands level around before pos v [] l
       ends_here (known_leaf m e f) g =
@@ -160,6 +194,7 @@ module _ (bytes : List ℕ) where
       ends_here (known_some e f n d) g = absurd (cc)
       ends_here (known_list e f ns ds) g = absurd (cc)
       ends_here (known_ordered e f ns ds) g = absurd (cc)
+      ends_here (known_hashed e f ns ds) g = absurd (cc)
 
       in_option : (rest : List Step) → On rest l → Known bytes v t → node_at t (inside ∷ rest) ≡ Some (leaf l) → LeafStands level around before pos v (inside ∷ rest) l
       in_option rest on (known_leaf m e f) g = let k = subst (λ x. node_at x (inside ∷ rest) ≡ Some (leaf l)) f g in absurd (cc)
@@ -169,7 +204,7 @@ module _ (bytes : List ℕ) where
           let k : node_at u rest ≡ Some (leaf l) = subst (λ x. node_at x (inside ∷ rest) ≡ Some (leaf l)) f g in
           let o = paid_at pos 4 (tagged_value 1 w) e h in
           let s = some_cases bytes o.payload_pos {w = w} refl o.holds in
-          let r = on s.node_pos _ _ w s.regions _ _ u n d s.holds k in
+          let r = on s.node_pos _ _ w s.regions _ _ u n d (subst IsLegal f legal) s.holds k in
           record {
             node = r.node;
             inner = 0 ∷ (0 ∷ r.inner);
@@ -182,6 +217,7 @@ module _ (bytes : List ℕ) where
           }
       in_option rest on (known_list e f ns ds) g = let k = subst (λ x. node_at x (inside ∷ rest) ≡ Some (leaf l)) f g in absurd (cc)
       in_option rest on (known_ordered e f ns ds) g = let k = subst (λ x. node_at x (inside ∷ rest) ≡ Some (leaf l)) f g in absurd (cc)
+      in_option rest on (known_hashed e f ns ds) g = let k = subst (λ x. node_at x (inside ∷ rest) ≡ Some (leaf l)) f g in absurd (cc)
 
       in_list : (i : ℕ) (rest : List Step) → On rest l → Known bytes v t → node_at t (place i ∷ rest) ≡ Some (leaf l) → LeafStands level around before pos v (place i ∷ rest) l
       in_list i rest on (known_leaf m e f) g = let k = subst (λ x. node_at x (place i ∷ rest) ≡ Some (leaf l)) f g in absurd (cc)
@@ -189,11 +225,12 @@ module _ (bytes : List ℕ) where
       in_list i rest on (known_none e f) g = let k = subst (λ x. node_at x (place i ∷ rest) ≡ Some (leaf l)) f g in absurd (cc)
       in_list i rest on (known_some e f n d) g = let k = subst (λ x. node_at x (place i ∷ rest) ≡ Some (leaf l)) f g in absurd (cc)
       in_list i rest on (known_list {vs = vs} {ts = ts} e f ns ds) g =
-          let k = known_element i rest (leaf l) ns ds (subst (λ x. node_at x (place i ∷ rest) ≡ Some (leaf l)) f g) in
+          let k = known_element i rest (leaf l) ns ds (subst IsLegal f legal).0 (subst (λ x. node_at x (place i ∷ rest) ≡ Some (leaf l)) f g) in
           let o = paid_at pos 5 (group vs) e h in
           let s = element_cases bytes o.payload_pos i k.value refl k.there o.holds in
-          listed l i rest k.value e k.there o s (on s.node_pos _ _ k.value s.regions s.since s.until k.tree k.node k.denotes s.holds k.found)
+          listed l i rest k.value e k.there o s (on s.node_pos _ _ k.value s.regions s.since s.until k.tree k.node k.denotes k.legal s.holds k.found)
       in_list i rest on (known_ordered e f ns ds) g = let k = subst (λ x. node_at x (place i ∷ rest) ≡ Some (leaf l)) f g in absurd (cc)
+      in_list i rest on (known_hashed e f ns ds) g = let k = subst (λ x. node_at x (place i ∷ rest) ≡ Some (leaf l)) f g in absurd (cc)
 
       in_map : (k : List ℕ) (rest : List Step) → On rest l → Known bytes v t → node_at t (key k ∷ rest) ≡ Some (leaf l) → LeafStands level around before pos v (key k ∷ rest) l
       in_map k rest on (known_leaf m e f) g = let n = subst (λ x. node_at x (key k ∷ rest) ≡ Some (leaf l)) f g in absurd (cc)
@@ -201,23 +238,31 @@ module _ (bytes : List ℕ) where
       in_map k rest on (known_none e f) g = let n = subst (λ x. node_at x (key k ∷ rest) ≡ Some (leaf l)) f g in absurd (cc)
       in_map k rest on (known_some e f n d) g = let n = subst (λ x. node_at x (key k ∷ rest) ≡ Some (leaf l)) f g in absurd (cc)
       in_map k rest on (known_list e f ns ds) g = let n = subst (λ x. node_at x (key k ∷ rest) ≡ Some (leaf l)) f g in absurd (cc)
-      in_map k rest on (known_ordered {vs = vs} e f ns ds) g =
-          let p = known_pair k rest (leaf l) ns ds (subst (λ x. node_at x (key k ∷ rest) ≡ Some (leaf l)) f g) in
+      in_map k rest on (known_ordered {vs = vs} {ps = ps} e f ns ds) g =
+          let each = distinct ordered [] ps (subst IsLegal f legal).0 in
+          let p = known_pair k rest (leaf l) ns ds each (subst (λ x. node_at x (key k ∷ rest) ≡ Some (leaf l)) f g) in
           let o = paid_at pos 6 (group vs) e h in
-          let s = tree_pair_stands o.holds p.number (string k) p.value p.there in
-          mapped l k p.number rest p.value e p.there o s (on s.value_pos s.deeper around p.value s.regions s.since s.until p.tree p.node p.denotes s.holds p.found)
+          let s = ordered_case o.payload_pos p.number k p.value p.there o.holds in
+          mapped l 6 ordered_here k p.number rest p.value e (inl refl) p.there o s (on s.node_pos s.deeper around p.value s.regions s.since s.until p.tree p.node p.denotes p.legal s.holds p.found)
+      in_map k rest on (known_hashed {vs = vs} {ps = ps} e f ns ds) g =
+          let all = distinct hashed [] (arranged ps) (subst IsLegal f legal).0 in
+          let there = sym (node_in_order hashed k rest ps) ∙ subst (λ x. node_at x (key k ∷ rest) ≡ Some (leaf l)) f g in
+          let p = known_pair k rest (leaf l) ns ds (distinct_in_order hashed ps all) there in
+          let o = paid_at pos 7 (group vs) e h in
+          let s = hashed_case o.payload_pos p.number k p.value p.there o.holds in
+          mapped l 7 table_here k p.number rest p.value e (inr (inl refl)) p.there o s (on s.node_pos s.deeper around p.value s.regions s.since s.until p.tree p.node p.denotes p.legal s.holds p.found)
 
   pub leaf_stands : (path : List Step) (l : Leaf) → On path l
-  leaf_stands [] l pos level around v regions before after t n d h g = ends_here l h (known n d) g
-  leaf_stands (inside ∷ rest) l pos level around v regions before after t n d h g = in_option l h rest (leaf_stands rest l) (known n d) g
-  leaf_stands (place i ∷ rest) l pos level around v regions before after t n d h g = in_list l h i rest (leaf_stands rest l) (known n d) g
-  leaf_stands (key k ∷ rest) l pos level around v regions before after t n d h g = in_map l h k rest (leaf_stands rest l) (known n d) g
+  leaf_stands [] l pos level around v regions before after t n d legal h g = ends_here l legal h (known n d) g
+  leaf_stands (inside ∷ rest) l pos level around v regions before after t n d legal h g = in_option l legal h rest (leaf_stands rest l) (known n d) g
+  leaf_stands (place i ∷ rest) l pos level around v regions before after t n d legal h g = in_list l legal h i rest (leaf_stands rest l) (known n d) g
+  leaf_stands (key k ∷ rest) l pos level around v regions before after t n d legal h g = in_map l legal h k rest (leaf_stands rest l) (known n d) g
 
 pub leaves_stand_law : LeavesStand
 leaves_stand_law bytes t path l a g =
     let pos = root_position (length bytes) node_shape in
     let b = behind_below bytes pos a.root.holds in
-    let r = leaf_stands bytes path l pos 1 [] a.value b.regions [] a.visits t (held bytes a.root.holds node_behind pos refl (none_seen bytes)).value a.denotes b.holds g in
+    let r = leaf_stands bytes path l pos 1 [] a.value b.regions [] a.visits t (held bytes a.root.holds node_behind pos refl (none_seen bytes)).value a.denotes a.document.0 b.holds g in
     let stands = b.stands r.part r.payload (r.inner ++ 0 ∷ []) r.stands in
     by_case r.node r.inner r.leads r.part r.payload stands r.own
   where

@@ -1,15 +1,17 @@
 -- The bytes that are written for a node are those that the layout reads, and are canonical.
-use Rattle.std.proofs.Common.{◌≡◌, ℕ, suc, true, false, ◌≤◌, ◌<◌, List, Some, None, refl, arith}
+use Rattle.std.proofs.Common.{◌≡◌, ℕ, suc, true, false, ◌≤◌, ◌<◌, List, map as list_map, Some, None, refl, arith}
 use Rattle.std.proofs.Math.Nat.{le-max_left, le-max_right}
+use Rattle.std.proofs.lemmas.List.{length-map}
 use Rattle.std.specs.Int.{w64, to_le_bytes, cast_unsigned}
 use Rattle.archive_forms_values.specs.ShapeLayout.Bytes.{align_up}
 use Rattle.archive_forms_values.specs.ShapeLayout.Shape.{Shape, align_of, size_of}
 use Rattle.archive_forms_values.specs.ShapeLayout.Shape.Alignment.{eight}
-use Rattle.archive_forms_values.specs.ShapeLayout.Shape.Shape.{number, truth, text, option, choice, vector, tree, shared as shared_shape}
+use Rattle.archive_forms_values.specs.ShapeLayout.Shape.Shape.{number, truth, text, option, choice, vector, tree, table, shared as shared_shape}
 use Rattle.archive_forms_values.specs.ShapeLayout.Shape.Pointee.{str}
 use Rattle.archive_forms_values.specs.ShapeLayout.Value.Value.{integer, boolean}
 use Rattle.archive_forms_values.specs.ShapeLayout.Content.{shape_tagged}
 use Rattle.archive_forms_values.specs.ShapeLayout.Numbers.{truth_bytes}
+use Rattle.archive_forms_values.specs.ShapeCanonical.Hash.{text_hash}
 use Rattle.archive_forms_values.specs.ShapeCanonical.Settled.{Fit}
 use Rattle.archive_forms_values.specs.FormsLaws.Spelling.{Spelling}
 use Rattle.archive_forms_values.specs.FormsLaws.Spells.{SpellsAt, EachSpells}
@@ -18,6 +20,7 @@ use Rattle.archive_forms_values.specs.FormsLaws.Pointers.{slice_spelling, box_sp
 use Rattle.archive_forms_values.specs.FormsLaws.Payloads.{payload_spelling}
 use Rattle.archive_forms_values.specs.FormsLaws.Texts.{text_spelling}
 use Rattle.archive_forms_values.specs.FormsLaws.Shared.{shared_text_spelling}
+use Rattle.archive_forms_laws.proofs.Fields.{tuple2_spells_at}
 use Rattle.archive_forms_laws.proofs.Leaves.{leaf_spells}
 use Rattle.archive_forms_laws.proofs.Levels.{named_spells_at, self_spells}
 use Rattle.archive_forms_laws.proofs.Options.{none_spells, some_spells}
@@ -29,14 +32,18 @@ use Rattle.archive_forms_laws.proofs.Views.{kept_spells_at, seen_spells_at}
 use Rattle.archive_btree_spelling.specs.Maps.{btree_spelling}
 use Rattle.archive_btree_spelling.proofs.Slots.{EachEntrySpells}
 use Rattle.archive_btree_spelling.proofs.Maps.{btree_spells_at}
+use Rattle.archive_hash_writing.specs.Tables.{table_spelling}
+use Rattle.archive_hash_writing.specs.Tables.{hashed_spelling as of_hashes}
+use Rattle.archive_hash_writing.proofs.Small.{text_hashes_small}
+use Rattle.archive_hash_writing.proofs.SpellingTables.{hashed_spells_of}
 use Rattle.cabinet_text_grammar.specs.Keys.{ordered, hashed, kept}
 use Rattle.cabinet_text_grammar.specs.TextKey.{text_key}
 use Rattle.cabinet_text_grammar.specs.Tree as document
 use Rattle.cabinet_text_grammar.specs.Tree.{Tree, Trees, Pairs, leaf, shared, nothing, just, list, map, no_trees, more_trees, no_pairs, more_pairs, depth, most_depth, pairs_depth}
-use Rattle.cabinet_documents.specs.Node.{KnowsNode, node_shape, payloads}
+use Rattle.cabinet_documents.specs.Node.{KnowsNode, node_shape, pair_shape, payloads}
 use Rattle.cabinet_documents.specs.declared.spelling.resolver.NodeResolver.{NodeResolver}
 use Rattle.cabinet_documents.specs.declared.spelling.resolver.NodeResolver.TheVariants as resolver
-use Rattle.cabinet_documents.specs.Spelling.{truth_spelling, number_spelling, shared_string_spelling, boxed_shape, boxed_spelling, maybe_spelling, list_spelling, ordered_spelling, trees_in, pairs_in, text_in, shared_in, maybe_in, list_in, ordered_in, node_of, refused, spelling_of, node_level}
+use Rattle.cabinet_documents.specs.Spelling.{truth_spelling, number_spelling, shared_string_spelling, boxed_shape, boxed_spelling, maybe_spelling, list_spelling, ordered_spelling, pair_spelling, hashed_spelling, trees_in, pairs_in, text_in, shared_in, maybe_in, list_in, ordered_in, hashed_in, node_of, refused, spelling_of, node_level}
 use Rattle.cabinet_documents.specs.SpellingLaws.{NodeSpells}
 use Rattle.archive_forms_rc.specs.FormsWriting.Owned.{str_spelling}
 
@@ -82,6 +89,27 @@ module _ (fit : Fit) where
         let b = le-max_right (depth t) (pairs_depth ps) in
         ((text_spells_here k, below t (omega (arith, a))), each_entry_below n ps (omega (arith, b)) below)
 
+    each_pair_below : (n : ℕ) (ps : Pairs) → suc (pairs_depth ps) ≤ n → ((y : Tree) → suc (depth y) ≤ n → SpellsAt fit node_shape KnowsNode w y)
+        → EachSpells fit pair_shape KnowsNode (pair_spelling w) (pairs_in ps)
+    each_pair_below n no_pairs less below = tt
+    each_pair_below n (more_pairs k t ps) less below =
+        let a = le-max_left (depth t) (pairs_depth ps) in
+        let b = le-max_right (depth t) (pairs_depth ps) in
+        (tuple2_spells_at fit KnowsNode text str_spelling node_shape w (k, t) (text_spells_here k) (below t (omega (arith, a))), each_pair_below n ps (omega (arith, b)) below)
+
+    as_table : (xs : List (List ℕ × Tree)) → SpellsAt fit (table pair_shape) KnowsNode (of_hashes 7 8 pair_shape (pair_spelling w) (list_map (λ p. text_hash p.0) xs)) xs
+        → SpellsAt fit (table pair_shape) KnowsNode (table_spelling 7 8 pair_shape (pair_spelling w) (λ p. text_hash p.0)) xs
+    as_table xs one = record {
+      sized = one.sized;
+      canonical = one.canonical;
+      consistent = one.consistent;
+      keyed = one.keyed;
+      piece_bytes = one.piece_bytes;
+      own_bytes = one.own_bytes;
+      piece_exact = one.piece_exact;
+      own_exact = one.own_exact;
+    }
+
     -- by the kind of a document
     case_spells : (n : ℕ) (t : Tree) → depth t ≤ n → ((y : Tree) → suc (depth y) ≤ n → SpellsAt fit node_shape KnowsNode w y)
         → SpellsAt fit (choice payloads) KnowsNode (spelling_of w t) t
@@ -112,7 +140,12 @@ module _ (fit : Fit) where
         node_of_spells 6 (tree 5 text node_shape) (ordered_spelling w) resolver.Ordered ordered_in (λ r. refl) (omega arith) refl (pairs_in ps) (map ordered ps)
         (kept_spells_at fit (tree 5 text node_shape) KnowsNode _ _ (λ r. refl) (btree_spelling 5 text node_shape str_spelling w) (pairs_in ps)
         (btree_spells_at fit 5 text node_shape KnowsNode str_spelling w (omega arith) (pairs_in ps) (each_entry_below n ps less below)))
-    case_spells n (map hashed ps) less below = refused_spells (map hashed ps)
+    case_spells n (map hashed ps) less below =
+        let xs = pairs_in ps in
+        let hashes = list_map (λ (p : List ℕ × Tree). text_hash p.0) xs in
+        node_of_spells 7 (table pair_shape) (hashed_spelling w) resolver.Hashed hashed_in (λ r. refl) (omega arith) refl xs (map hashed ps)
+        (kept_spells_at fit (table pair_shape) KnowsNode _ _ (λ r. refl) (table_spelling 7 8 pair_shape (pair_spelling w) (λ p. text_hash p.0)) xs
+        (as_table xs (hashed_spells_of fit pair_shape KnowsNode (pair_spelling w) 7 8 hashes xs (length-map xs (λ p. text_hash p.0)) (text_hashes_small (λ p. p.0) xs) (each_pair_below n ps less below))))
     case_spells n (map kept ps) less below = refused_spells (map kept ps)
 
     level_spells : (n : ℕ) (t : Tree) → depth t ≤ n → ((y : Tree) → suc (depth y) ≤ n → SpellsAt fit node_shape KnowsNode w y)

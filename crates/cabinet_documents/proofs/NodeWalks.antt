@@ -23,7 +23,7 @@ use Rattle.cabinet_documents.specs.Node.{node_shape, node_names, payloads, absen
 use Rattle.cabinet_documents.specs.Denotes.{tagged_value}
 use Rattle.cabinet_documents.specs.Walk.{Stop, Walks, WalkAll}
 use Rattle.cabinet_documents.specs.Audit.{too_deep, unless, faults}
-use Rattle.cabinet_documents.proofs.Places.{node_here, payload_here, option_here, box_here, list_here, ordered_here, node_behind, part_of}
+use Rattle.cabinet_documents.proofs.Places.{node_here, payload_here, option_here, box_here, list_here, ordered_here, table_here, node_behind, part_of}
 use Rattle.cabinet_documents.proofs.Begun.{faults-flat, Ends, begun, not_walked, no_walks, first_walk, ends, onward}
 use Rattle.cabinet_documents.proofs.TreeWalks.{QuietKeys, behind_quiet, text_quiet}
 
@@ -87,6 +87,14 @@ pub data NodeWalk (bytes : List ℕ) (depth pos : ℕ) (v : Value) (walk : List 
       → slice_index bytes pos ≡ 6
       → v ≡ tagged_value 6 w
       → Walks node_names bytes depth (part_of ordered_here (pos + 4)) w run
+      → faults bytes walk ≡ faults bytes run
+      → NodeWalk bytes depth pos v walk
+  -- a hashed map
+  hashed_walks :
+      {w : Value} {run : List Stop}
+      → slice_index bytes pos ≡ 7
+      → v ≡ tagged_value 7 w
+      → Walks node_names bytes depth (part_of table_here (pos + 4)) w run
       → faults bytes walk ≡ faults bytes run
       → NodeWalk bytes depth pos v walk
 
@@ -264,7 +272,8 @@ module _ (bytes : List ℕ) where
       let p = paid 5 pos (part_of list_here (pos + 4)) {walk = walk} (payload_content 5 pos e) around h in list_walks e p.value_is p.next p.faults_are
   payload_walk (suc (suc (suc (suc (suc (suc zero)))))) pos {walk = walk} e around h =
       let p = paid 6 pos (part_of ordered_here (pos + 4)) {walk = walk} (payload_content 6 pos e) around h in ordered_walks e p.value_is p.next p.faults_are
-  payload_walk (suc (suc (suc (suc (suc (suc (suc zero))))))) pos e around h = absurd (no_payload 7 (pos + 1) pos (payload_content 7 pos e) h)
+  payload_walk (suc (suc (suc (suc (suc (suc (suc zero))))))) pos {walk = walk} e around h =
+      let p = paid 7 pos (part_of table_here (pos + 4)) {walk = walk} (payload_content 7 pos e) around h in hashed_walks e p.value_is p.next p.faults_are
   payload_walk (suc (suc (suc (suc (suc (suc (suc (suc zero)))))))) pos e around h = absurd (no_payload 8 (pos + 1) pos (payload_content 8 pos e) h)
   payload_walk (suc (suc (suc (suc (suc (suc (suc (suc (suc n))))))))) pos e around h = absurd (not_walked node_names bytes (payload_content (suc (suc (suc (suc (suc (suc (suc (suc (suc n))))))))) pos e) h)
 

@@ -1,5 +1,5 @@
 -- The value of a node, where one holds; and that no shared position lies inside itself there.
-use Rattle.std.proofs.Common.{◌≡◌, ℕ, ℤ, zero, suc, ◌++◌, ◌+◌, ◌^◌, ◌<◌, ◌==◌, cond, Bool, true, false, w64, FitsSigned, IsUtf8, List, [], ◌∷◌, Some, None, refl, sym, ap, ap₂, subst, ◌∙◌, arith, eqb-true}
+use Rattle.std.proofs.Common.{◌≡◌, ℕ, ℤ, zero, suc, ◌++◌, ◌+◌, ◌-◌, ◌*◌, ◌^◌, ◌<◌, ◌==◌, cond, nat_lt, length, Bool, true, false, w64, FitsSigned, IsUtf8, List, [], ◌∷◌, Some, None, refl, sym, ap, ap₂, subst, ◌∙◌, arith, eqb-true}
 use Rattle.archive_forms_values.specs.ShapeLayout.Shape.Shape.{choice}
 use Rattle.archive_forms_values.specs.ShapeLayout.Shape.Shapes.{no_shapes}
 use Rattle.archive_forms_values.specs.ShapeLayout.Value.{Value, Values, count_values, append_values}
@@ -18,8 +18,9 @@ use Rattle.archive_forms_values.proofs.ShapeLayout.Unique.{by_plain}
 use Rattle.archive_forms_values.specs.ShapeCanonical.Canonical.{AreBytes}
 use Rattle.cabinet_documents.specs.Node.{node_names}
 use Rattle.cabinet_documents.specs.Denotes.{tagged_value, pair_value}
+use Rattle.cabinet_documents.specs.Table.{full_from}
 use Rattle.cabinet_documents.specs.Laws.{IsAcyclic, AreAcyclic, AbsentHasNoValue}
-use Rattle.cabinet_documents.proofs.Places.{Place, node_here, payload_here, truth_here, number_here, text_here, shared_here, option_here, box_here, list_here, ordered_here, tree_node, tree_child, entry_here, absent_here, node_behind, nodes_behind, text_behind, Spot, part_of, parts_at, nodes_from, entries_from, children_from, Passes, node_passes, box_passes, behind_passes, list_passes, text_passes, child_passes, Pays, pays_truth, pays_number, pays_text, pays_shared, pays_option, pays_list, pays_ordered, pays_absent, Follows, passes, pays, truth_is, number_is, text_is, behind_is, none_is, some_is, nodes_follow, empty_is, total_is, leaf_follows, inner_follows, no_child_is, entry_follows, Leads, leads_nowhere, leads_absent, leads_plain, leads_claimed, leads_counted, led}
+use Rattle.cabinet_documents.proofs.Places.{Place, node_here, payload_here, truth_here, number_here, text_here, shared_here, option_here, box_here, list_here, ordered_here, table_here, pair_here, tree_node, tree_child, entry_here, buckets_here, absent_here, node_behind, nodes_behind, text_behind, Spot, part_of, parts_at, nodes_from, entries_from, children_from, items_from, Passes, node_passes, box_passes, behind_passes, list_passes, text_passes, child_passes, table_passes, Pays, pays_truth, pays_number, pays_text, pays_shared, pays_option, pays_list, pays_ordered, pays_hashed, pays_absent, Follows, passes, pays, truth_is, number_is, text_is, behind_is, none_is, some_is, nodes_follow, empty_is, total_is, leaf_follows, inner_follows, no_child_is, entry_follows, no_items_is, items_follow, pair_follows, Leads, leads_nowhere, leads_absent, leads_plain, leads_claimed, leads_counted, led}
 
 -- ---- a payload without a layout has no value
 
@@ -59,6 +60,7 @@ mutual
     some_value : {v w : Value} → v ≡ tagged_value 4 (tagged_value 1 w) → NodeValue bytes w → NodeValue bytes v
     list_value : {v : Value} {vs : Values} → v ≡ tagged_value 5 (group vs) → NodeValues bytes vs → (AreBytes bytes → count_values vs < 2 ^ 64) → NodeValue bytes v
     ordered_value : {v : Value} {vs : Values} → v ≡ tagged_value 6 (group vs) → PairValues bytes vs → (AreBytes bytes → count_values vs < 2 ^ 64) → NodeValue bytes v
+    hashed_value : {v : Value} {vs : Values} → v ≡ tagged_value 7 (group vs) → PairValues bytes vs → (AreBytes bytes → count_values vs < 2 ^ 64) → NodeValue bytes v
 
   pub data NodeValues (bytes : List ℕ) : Values → Type 0 where
     no_nodes : {vs : Values} → vs ≡ no_values → NodeValues bytes vs
@@ -111,6 +113,13 @@ pub record PairsValue (bytes : List ℕ) (v : Value) : Type 0 where
   pub is : v ≡ group vs
   pub pairs : PairValues bytes vs
 
+-- what the buckets of a hashed map have: its pairs
+pub record ItemsValue (bytes : List ℕ) (len : ℕ) (v : Value) : Type 0 where
+  pub vs : Values
+  pub is : v ≡ group vs
+  pub pairs : PairValues bytes vs
+  pub counted : count_values vs ≡ len
+
 pub record PairValue (bytes : List ℕ) (v : Value) : Type 0 where
   pub k : List ℕ
   pub w : Value
@@ -136,9 +145,12 @@ ValueAt bytes option_here v = OptionValue bytes v
 ValueAt bytes box_here v = NodeValue bytes v
 ValueAt bytes list_here v = ListValue bytes v
 ValueAt bytes ordered_here v = MapValue bytes v
+ValueAt bytes table_here v = MapValue bytes v
+ValueAt bytes pair_here v = PairValue bytes v
 ValueAt bytes (tree_node level) v = PairsValue bytes v
 ValueAt bytes (tree_child level) v = PairsValue bytes v
 ValueAt bytes (entry_here key) v = PairValue bytes v
+ValueAt bytes (buckets_here target len cap) v = ItemsValue bytes len v
 ValueAt bytes absent_here v = ⊥
 ValueAt bytes node_behind v = NodeValue bytes v
 ValueAt bytes (nodes_behind len) v = NodesValue bytes len v
@@ -157,6 +169,7 @@ module _ (bytes : List ℕ) where
   one_passed v (list_passes small) h = record { vs = h.vs; is = h.is; nodes = h.nodes; small = λ b. subst (λ n. n < 2 ^ 64) (sym h.counted) (small b) }
   one_passed v text_passes h = h
   one_passed v child_passes h = h
+  one_passed v (table_passes small) h = record { vs = h.vs; is = h.is; pairs = h.pairs; small = λ b. subst (λ n. n < 2 ^ 64) (sym h.counted) (small b) }
 
   one_paid : {tag : ℕ} {j : Place} {w v : Value} → Pays tag j → v ≡ tagged_value tag w → ValueAt bytes j w → NodeValue bytes v
   one_paid pays_truth e h = truth_value (e ∙ ap (tagged_value 0) h.is)
@@ -167,6 +180,7 @@ module _ (bytes : List ℕ) where
   one_paid pays_option e (option_some f n) = some_value (e ∙ ap (tagged_value 4) f) n
   one_paid pays_list e h = list_value (e ∙ ap (tagged_value 5) h.is) h.nodes h.small
   one_paid pays_ordered e h = ordered_value (e ∙ ap (tagged_value 6) h.is) h.pairs h.small
+  one_paid pays_hashed e h = hashed_value (e ∙ ap (tagged_value 7) h.is) h.pairs h.small
   one_paid (pays_absent z) e h = absurd h
 
   record Nodes (n : ℕ) (vs : Values) : Type 0 where
@@ -201,6 +215,28 @@ module _ (bytes : List ℕ) where
       let first : q ≡ record { place = entry_here key; pos = value } = cc in
       let pair : PairValue bytes v = subst (λ (x : Spot). ValueAt bytes x.place v) first h in
       more_pairs (e ∙ ap (λ x. more_values x ws) pair.is) pair.utf8 pair.node (entries_made n (key + 8) (value + 24) rest ws (cc) hs)
+
+  -- the pairs of the buckets whose controls are tags
+  record Items (n : ℕ) (vs : Values) : Type 0 where
+    pairs : PairValues bytes vs
+    counted : count_values vs ≡ n
+
+  one_item : (b : Bool) (pos i : ℕ) (full : List ℕ) (later qs : List Spot) (vs : Values) → qs ≡ cond b (record { place = pair_here; pos = pos } ∷ later) later → ValuesAt bytes qs vs
+      → ((rs : List Spot) (ws : Values) → rs ≡ later → ValuesAt bytes rs ws → Items (length full) ws) → Items (length (cond b (i ∷ full) full)) vs
+  one_item false pos i full later qs vs is hs on = on qs vs is hs
+  one_item true pos i full later qs vs is (none_at e) on = absurd (cc)
+  one_item true pos i full later qs vs is (more_at {q = q} {qs = rest} {ws = ws} {v = v} e h hs) on =
+      let first : q ≡ record { place = pair_here; pos = pos } = cc in
+      let pair : PairValue bytes v = subst (λ (x : Spot). ValueAt bytes x.place v) first h in
+      let r = on rest ws (cc) hs in
+      let c = r.counted in
+      record { pairs = more_pairs (e ∙ ap (λ x. more_values x ws) pair.is) pair.utf8 pair.node r.pairs; counted = ap count_values e ∙ omega (arith, c) }
+
+  items_made : (target i : ℕ) (controls : List ℕ) (qs : List Spot) (vs : Values) → qs ≡ items_from target i controls → ValuesAt bytes qs vs → Items (length (full_from i controls)) vs
+  items_made target i [] qs vs is (none_at e) = record { pairs = no_pairs e; counted = ap count_values e }
+  items_made target i [] qs vs is (more_at e h hs) = absurd (cc)
+  items_made target i (c ∷ cs) qs vs is hs =
+      one_item (nat_lt c 128) (target - (i + 1) * 32) i (full_from (i + 1) cs) (items_from target (i + 1) cs) qs vs is hs (λ rs ws e ks. items_made target (i + 1) cs rs ws e ks)
 
   -- the pairs below the pointers to children, and then those of the entries between them
   data ChildrenPairs : Values → Type 0 where
@@ -324,6 +360,16 @@ module _ (bytes : List ℕ) where
       let n : made whole no_values ≡ Some v = subst (λ x. made whole x ≡ Some v) (no_more f hs) (subst (λ x. made x vs ≡ Some v) e m) in
       record { vs = no_values; is = cc; pairs = no_pairs refl }
   follow {l = l} {vs = vs} {v = v} (entry_follows e f) legal hs m =
+      let n : made whole vs ≡ Some v = subst (λ x. made x vs ≡ Some v) e m in
+      pair_made f hs (cc)
+  follow {l = l} {vs = vs} {v = v} (no_items_is e f) legal hs m =
+      let n : made whole no_values ≡ Some v = subst (λ x. made whole x ≡ Some v) (no_more f hs) (subst (λ x. made x vs ≡ Some v) e m) in
+      record { vs = no_values; is = cc; pairs = no_pairs refl; small = λ b. omega arith }
+  follow {l = l} {vs = vs} {v = v} (items_follow {target = target} controls are count e f) legal hs m =
+      let n : made whole vs ≡ Some v = subst (λ x. made x vs ≡ Some v) e m in
+      let r = items_made target 0 controls _ vs f hs in
+      record { vs = vs; is = cc; pairs = r.pairs; counted = r.counted ∙ count }
+  follow {l = l} {vs = vs} {v = v} (pair_follows key value e f) legal hs m =
       let n : made whole vs ≡ Some v = subst (λ x. made x vs ≡ Some v) e m in
       pair_made f hs (cc)
 

@@ -4,24 +4,28 @@ use Rattle.std.specs.Prelude.{⊤}
 use Rattle.archive_forms_values.specs.ShapeLayout.Value.{Value, Values, count_values}
 use Rattle.archive_forms_values.specs.ShapeLayout.Holds.{root_position}
 use Rattle.archive_forms_values.specs.ShapeCanonical.Canonical.{AreBytes}
-use Rattle.cabinet_text_grammar.specs.Keys.{ordered}
+use Rattle.cabinet_text_grammar.specs.Keys.{ordered, hashed}
 use Rattle.cabinet_text_grammar.specs.Tree.{truth, number, text, Tree, leaf, shared, nothing, just, list, map, Trees, no_trees, more_trees, count, IsLegal, AreLegal, Pairs, no_pairs as no_pairs_of, more_pairs as more_pairs_of, pair_count, ArePairs}
 use Rattle.cabinet_documents.specs.Node.{node_shape}
 use Rattle.cabinet_documents.specs.Denotes.{Denotes, DenoteAll, DenotePairs}
-use Rattle.cabinet_documents.specs.Denotes.Denotes.{denotes_truth, denotes_number, denotes_text, denotes_shared, denotes_nothing, denotes_some, denotes_list, denotes_ordered}
+use Rattle.cabinet_documents.specs.Denotes.Denotes.{denotes_truth, denotes_number, denotes_text, denotes_shared, denotes_nothing, denotes_some, denotes_list, denotes_ordered, denotes_hashed}
 use Rattle.cabinet_documents.specs.Denotes.DenoteAll.{denote_none, denote_more}
 use Rattle.cabinet_documents.specs.Denotes.DenotePairs.{denote_no_pairs, denote_pair}
-use Rattle.cabinet_documents.specs.Order.{ascend}
+use Rattle.cabinet_documents.specs.Order.{ascend, arranged}
 use Rattle.cabinet_documents.specs.Table.{item_keys}
 use Rattle.cabinet_documents.specs.Walk.{Stop, is_container}
-use Rattle.cabinet_documents.specs.Audit.{Unsound, too_deep, unless, deep_faults, map_faults, faults}
+use Rattle.cabinet_documents.specs.Audit.{too_deep, unless, deep_faults, map_faults, faults}
 use Rattle.cabinet_documents.specs.Laws.{AcceptedStands}
 use Rattle.cabinet_documents.proofs.Places.{node_behind}
-use Rattle.cabinet_documents.proofs.Nodes.{NodeValue, truth_value, number_value, text_value, shared_value, none_value, some_value, list_value, ordered_value, NodeValues, no_nodes, more_nodes, PairValues, no_pairs, more_pairs, none_seen, held}
-use Rattle.cabinet_documents.proofs.Keyed.{AscendAfter, first_after}
+use Rattle.cabinet_documents.proofs.Nodes.{NodeValue, truth_value, number_value, text_value, shared_value, none_value, some_value, list_value, ordered_value, hashed_value, NodeValues, no_nodes, more_nodes, PairValues, no_pairs, more_pairs, none_seen, held}
+use Rattle.cabinet_documents.proofs.Arranged.{AreEachLegal, arranged_pairs, arranged_count}
+use Rattle.cabinet_documents.proofs.ByKey.{AreKeysDistinct, pair_keys}
+use Rattle.cabinet_documents.proofs.FoundKeys.{no_left, no_right}
+use Rattle.cabinet_documents.proofs.Keyed.{AscendAfter, first_after, keys_denoted}
 use Rattle.cabinet_documents.proofs.Heights.{Keyed, AllKeyed, height_is}
 use Rattle.cabinet_documents.proofs.Stops.{peak, Each}
 use Rattle.cabinet_documents.proofs.Peaks.{IsQuiet, peaked}
+use Rattle.cabinet_documents.proofs.TableSound.{quiet_tables}
 use Rattle.cabinet_documents.proofs.Standing.{accepted_by}
 
 -- ---- the document of a node's value
@@ -40,8 +44,15 @@ record OfTrees (bytes : List ℕ) (vs : Values) : Type 0 where
 record OfPairs (bytes : List ℕ) (vs : Values) : Type 0 where
   pairs : Pairs
   denote : DenotePairs vs pairs
-  legal : AreBytes bytes → AllKeyed vs → (before : List (List ℕ)) → AscendAfter before (item_keys vs) → ArePairs ordered before pairs
+  legal : AreBytes bytes → AllKeyed vs → AreEachLegal pairs
   counted : pair_count pairs ≡ count_values vs
+
+-- legal pairs whose keys ascend are those of an ordered map
+ascending_pairs : (before : List (List ℕ)) (ps : Pairs) → AreEachLegal ps → AscendAfter before (pair_keys ps) → ArePairs ordered before ps
+ascending_pairs before no_pairs_of legal after = tt
+ascending_pairs before (more_pairs_of k t ps) legal after =
+    let a = first_after before k (pair_keys ps) after in
+    ((legal.0, a.0), (legal.1, ascending_pairs (k ∷ before) ps legal.2 a.1))
 
 mutual
   pub of_tree : {bytes : List ℕ} {v : Value} → NodeValue bytes v → OfTree bytes v
@@ -69,7 +80,16 @@ mutual
         denotes = denotes_ordered e refl r.denote;
         legal = λ small keyed.
             let k : (ascend (item_keys vs) ≡ true) × (AllKeyed vs × ⊤) = subst Keyed e keyed in
-            (r.legal small k.1.0 [] k.0, subst (λ n. n < 2 ^ 64) (sym r.counted) (few small));
+            (ascending_pairs [] r.pairs (r.legal small k.1.0) (subst (λ ks. ascend ks ≡ true) (keys_denoted r.denote) k.0), subst (λ n. n < 2 ^ 64) (sym r.counted) (few small));
+      }
+  of_tree (hashed_value {vs = vs} e ps few) =
+      let r = of_pairs ps in
+      record {
+        tree = map hashed (arranged r.pairs);
+        denotes = denotes_hashed e refl r.denote;
+        legal = λ small keyed.
+            let k : AreKeysDistinct (item_keys vs) × (AllKeyed vs × ⊤) = subst Keyed e keyed in
+            (arranged_pairs r.pairs (r.legal small k.1.0) (subst AreKeysDistinct (keys_denoted r.denote) k.0), subst (λ n. n < 2 ^ 64) (sym (arranged_count r.pairs ∙ r.counted)) (few small));
       }
 
   of_trees : {bytes : List ℕ} {vs : Values} → NodeValues bytes vs → OfTrees bytes vs
@@ -86,7 +106,7 @@ mutual
       }
 
   of_pairs : {bytes : List ℕ} {vs : Values} → PairValues bytes vs → OfPairs bytes vs
-  of_pairs (no_pairs e) = record { pairs = no_pairs_of; denote = denote_no_pairs e refl; legal = λ small keyed before after. tt; counted = sym (ap count_values e) }
+  of_pairs (no_pairs e) = record { pairs = no_pairs_of; denote = denote_no_pairs e refl; legal = λ small keyed. tt; counted = sym (ap count_values e) }
   of_pairs (more_pairs {ws = ws} {k = k} {v = v} e utf8 n ns) =
       let r = of_tree n in
       let rs = of_pairs ns in
@@ -94,22 +114,11 @@ mutual
       record {
         pairs = more_pairs_of k r.tree rs.pairs;
         denote = denote_pair e refl r.denotes rs.denote;
-        legal = λ small keyed before after.
-            let x : (⊤ × (Keyed v × ⊤)) × AllKeyed ws = subst AllKeyed e keyed in
-            let a = first_after before k (item_keys ws) (subst (λ y. AscendAfter before (item_keys y)) e after) in
-            ((utf8, a.0), (r.legal small x.0.1.0, rs.legal small x.1 (k ∷ before) a.1));
+        legal = λ small keyed. let x : (⊤ × (Keyed v × ⊤)) × AllKeyed ws = subst AllKeyed e keyed in (utf8, r.legal small x.0.1.0, rs.legal small x.1);
         counted = omega (arith, c) ∙ sym (ap count_values e);
       }
 
 -- ---- a walk without faults
-
-left_nil : (xs ys : List Unsound) → xs ++ ys ≡ [] → xs ≡ []
-left_nil [] ys e = refl
-left_nil (x ∷ xs) ys e = absurd (cc)
-
-right_nil : (xs ys : List Unsound) → xs ++ ys ≡ [] → ys ≡ []
-right_nil [] ys e = e
-right_nil (x ∷ xs) ys e = absurd (cc)
 
 not_deep : (t : Bool) (m : ℕ) → nat_lt m 64 ≡ t → unless t too_deep ≡ [] → m < 64
 not_deep true m h e = ltb-true m 64 h
@@ -122,17 +131,17 @@ one_shallow false m e = omega arith
 shallow : (bytes : List ℕ) (walk : List Stop) → faults bytes walk ≡ [] → peak 0 walk ≤ 64
 shallow bytes [] e = omega arith
 shallow bytes (s ∷ rest) e =
-    let here = left_nil (deep_faults s ++ map_faults bytes s.part s.value) (faults bytes rest) e in
-    let deep = left_nil (deep_faults s) (map_faults bytes s.part s.value) here in
+    let here = no_left (deep_faults s ++ map_faults bytes s.part s.value) (faults bytes rest) e in
+    let deep = no_left (deep_faults s) (map_faults bytes s.part s.value) here in
     let one = one_shallow (is_container s.part) s.depth deep in
-    let others = shallow bytes rest (right_nil (deep_faults s ++ map_faults bytes s.part s.value) (faults bytes rest) e) in
+    let others = shallow bytes rest (no_right (deep_faults s ++ map_faults bytes s.part s.value) (faults bytes rest) e) in
     omega arith
 
 quiet : (bytes : List ℕ) (walk : List Stop) → faults bytes walk ≡ [] → Each (IsQuiet bytes) walk
 quiet bytes [] e = tt
 quiet bytes (s ∷ rest) e =
-    let here = left_nil (deep_faults s ++ map_faults bytes s.part s.value) (faults bytes rest) e in
-    (right_nil (deep_faults s) (map_faults bytes s.part s.value) here, quiet bytes rest (right_nil (deep_faults s ++ map_faults bytes s.part s.value) (faults bytes rest) e))
+    let here = no_left (deep_faults s ++ map_faults bytes s.part s.value) (faults bytes rest) e in
+    (no_right (deep_faults s) (map_faults bytes s.part s.value) here, quiet bytes rest (no_right (deep_faults s ++ map_faults bytes s.part s.value) (faults bytes rest) e))
 
 pub accepted_stands_law : AcceptedStands
 accepted_stands_law bytes v regions visits walk small root walked none =
@@ -142,4 +151,8 @@ accepted_stands_law bytes v regions visits walk small root walked none =
     let p = peaked bytes walked node_behind pos refl in
     let high = height_is n r.denotes in
     let low = shallow bytes walk none in
-    record { tree = r.tree; accepted = accepted_by bytes r.tree v regions visits root r.denotes (r.legal small (p.keyed (quiet bytes walk none)).1, omega (arith, p.peak_is, high, low)) }
+    let none_there = quiet bytes walk none in
+    record {
+      tree = r.tree;
+      accepted = accepted_by bytes r.tree v regions visits root r.denotes (r.legal small (p.keyed none_there).1, omega (arith, p.peak_is, high, low)) (record { walk = walk; walked = walked; sound = quiet_tables bytes walk none_there });
+    }

@@ -1,10 +1,12 @@
--- Writing a leaf over the own bytes of another: the root that the bytes then hold.
-use Rattle.std.proofs.Common.{◌≡◌, ℕ, ℤ, ◌+◌, ◌≤◌, ◌<◌, Bool, true, false, nat_lt, List, [], ◌∷◌, length, drop, slice_index, Option, Some, None, refl, sym, ap, subst, ◌∙◌, arith, length-append, w64, FitsSigned, pos as positive, negsuc as negative, ◌^◌}
-use Rattle.std.proofs.lemmas.List.{length-take}
+-- The own bytes of a leaf, and what is at their place where another leaf is written over them.
+use Rattle.std.proofs.Common.{◌≡◌, ℕ, ℤ, ◌+◌, ◌≤◌, ◌<◌, Bool, true, false, nat_lt, List, [], ◌∷◌, length, drop, slice_index, Option, Some, None, refl, sym, ap, subst, ◌∙◌, arith, length-append, ◌++◌, IsUtf8, ◌⊎◌, inl, inr, ⊎_elim, w64, FitsSigned, pos as positive, negsuc as negative, ◌^◌}
+use Rattle.std.proofs.lemmas.Bool.{cases_lt}
+use Rattle.std.proofs.lemmas.List.{length-take, drop_at}
 use Rattle.std.proofs.lemmas.Int.{to_z-of_z}
 use Rattle.std.proofs.lemmas.Nat.{from_le_bytes-to_le_bytes_8}
 use Rattle.std.specs.Int.{from_le_bytes, to_le_bytes, cast_signed, cast_unsigned}
 use Rattle.archive_forms_values.specs.ShapeLayout.Bytes.{window, word_at, target_from}
+use Rattle.archive_forms_values.specs.ShapeLayout.Shape.{Shape, size_of}
 use Rattle.archive_forms_values.specs.ShapeLayout.Shape.Shape.{text as text_shape, truth as truth_shape, number as number_shape}
 use Rattle.archive_forms_values.specs.ShapeLayout.Shape.Pointee.{str}
 use Rattle.archive_forms_values.specs.ShapeLayout.Value.{Value}
@@ -14,15 +16,17 @@ use Rattle.archive_forms_values.specs.ShapeLayout.Content.Part.{at, behind}
 use Rattle.archive_forms_values.specs.ShapeLayout.Content.Label.{written, same, leaf as leaf_label}
 use Rattle.archive_forms_values.specs.ShapeLayout.Content.Content.{plain, illegal}
 use Rattle.archive_forms_values.specs.ShapeLayout.Holds.{Region, Visit, OpenShared, HasRoot, Holds}
-use Rattle.archive_forms_values.specs.ShapeLayout.Edit.{IsLeafIn}
+use Rattle.archive_forms_values.specs.ShapeLayout.Edit.{Spares, IsLeafIn}
 use Rattle.archive_forms_values.specs.ShapeLayout.Edit.IsLeafIn.{in_place, out_of_line}
-use Rattle.archive_forms_values.specs.ShapeLayout.Path.{put_at}
-use Rattle.archive_forms_values.proofs.ShapeLayout.Texts.{split_at_filler}
+use Rattle.archive_forms_values.proofs.ShapeLayout.Texts.{text_before, split_at_filler}
+use Rattle.archive_forms_values.proofs.ShapeLayout.Utf8.{utf8_byte}
+use Rattle.archive_forms_values.specs.ShapeCanonical.Canonical.{AreBytes}
+use Rattle.archive_forms_values.proofs.ShapeCanonical.Small.{small_none, small_more, small_word, behind_all}
 use Rattle.archive_forms_values.proofs.ShapeLayout.Leaves.{leaf_within_law}
 use Rattle.archive_forms_values.specs.ArchiveShape.Bytes.{overwrite}
 use Rattle.archive_forms_values.specs.ArchiveShape.Sealing.{StandsInRoot}
-use Rattle.archive_forms_values.specs.ArchiveShape.Sealing.TextStands.{stands_inline, stands_out_of_line}
-use Rattle.archive_forms_values.proofs.ArchiveShape.Sealed.{held as held_at, sealed_leaf_law, sealed_text_law}
+use Rattle.archive_forms_values.proofs.ArchiveShape.Sealed.{held as held_at, inline_after}
+use Rattle.archive_forms_values.proofs.ArchiveShape.Written.{overwrite_spares_law, window_from}
 use Rattle.cabinet_text_grammar.specs.Tree.{Leaf, truth, number, text, IsLeaf}
 use Rattle.cabinet_text_grammar.specs.Answering.{fits}
 use Rattle.cabinet_documents.specs.Node.{node_names, node_shape, own_bytes, truth_byte}
@@ -143,11 +147,101 @@ unfolding shape_content number_value
 number_reads n f names pos =
     ap (λ x. plain (leaf_label (integer x)) []) (ap (cast_signed w64) (from_le_bytes-to_le_bytes_8 (cast_unsigned w64 n) (unsigned_fits n f)) ∙ to_z-of_z w64 n f)
 
-module _ (bytes : List ℕ) (pos : ℕ) (v : Value) (regions : List Region) (visits : List Visit) (path : List ℕ) (root : HasRoot node_names bytes pos node_shape v regions visits) where
-  -- a root with another leaf
-  abbrev pub Rewritten : ℕ → Leaf → Type 0
-  Rewritten start new = HasRoot node_names (overwrite bytes start (own_bytes new)) pos node_shape (put_at path (payload_of new) v) regions visits
+-- ---- what is written are bytes
 
+pub text_bytes : (t : List ℕ) → IsUtf8 t → AreBytes t
+text_bytes t u i = ⊎_elim (λ l. let low = utf8_byte t u i l in omega arith) (λ g. behind_all t i g) (cases_lt i (length t))
+
+truth_small : (b : Bool) → truth_byte b < 256
+truth_small true = omega arith
+truth_small false = omega arith
+
+pub own_are_bytes : (l : Leaf) → IsLeaf l → AreBytes (own_bytes l)
+own_are_bytes (truth b) h = (small_more (truth_small b) small_none).each
+own_are_bytes (number n) h = (small_word w64 (cast_unsigned w64 n)).each
+own_are_bytes (text t) h = text_bytes t h
+
+-- ---- what is written, at its place
+
+-- a shape whose values have bytes of their own, all of them
+pub data IsFixed (s : Shape) : Type 0 where
+  fixed_truth : s ≡ truth_shape → IsFixed s
+  fixed_number : s ≡ number_shape w64 true → IsFixed s
+
+module _ (bytes : List ℕ) where
+  -- no other byte changes than those of a leaf in place, which then has this label
+  pub record WrittenAt (s : Shape) (piece : List ℕ) (start : ℕ) (l : Label) : Type 0 where
+    pub spares : Spares bytes (overwrite bytes start piece) start (size_of s)
+    pub is : content_of node_names (overwrite bytes start piece) (at start s) ≡ plain l []
+
+  pub leaf_written : (s : Shape) (piece : List ℕ) (start : ℕ) (new : Value) → length piece ≡ size_of s → start + length piece ≤ length bytes
+      → ((names : Names) (p : ℕ) → shape_content names p piece s ≡ plain (leaf_label new) []) → WrittenAt s piece start (leaf_label new)
+  leaf_written s piece start new size room reads =
+      let sealed = overwrite_spares_law bytes start piece room in
+      let others : List ℕ = overwrite bytes start piece in
+      let own_is : window others start (size_of s) ≡ piece = ap (window others start) (sym size) ∙ sealed.stands in
+      record {
+        spares = record { length = sealed.spares.length; outside = λ from n apart. sealed.spares.outside from n (subst (λ m. (start + m ≤ from) ⊎ (from + n ≤ start)) (sym size) apart) };
+        is = ap (λ x. shape_content node_names start x s) own_is ∙ reads node_names start;
+      }
+
+  -- a text inline
+  pub inline_written : (t : List ℕ) (start : ℕ) (s : List ℕ) → content_of node_names bytes (at start text_shape) ≡ plain (written s) [] → length s ≡ length t → start + length t ≤ length bytes → IsUtf8 t
+      → WrittenAt text_shape t start (written t)
+  unfolding shape_content text_content choose
+  inline_written t start s was size room utf8 =
+      let others : List ℕ = overwrite bytes start t in
+      let own : List ℕ = window bytes start 8 in
+      let says = inline_says bytes start s was in
+      let split = split_at_filler own in
+      let long : length t ≡ length (before_ff own) = sym size ∙ ap length says.is in
+      let short : length t ≤ 8 = omega (arith, long, ap length split.whole, length-append (before_ff own) split.rest, length-take 8 (drop start bytes)) in
+      let rest_is : drop (length t) own ≡ split.rest =
+      ap (λ n. drop n own) long ∙ ap (drop (length (before_ff own))) split.whole ∙ drop_at (before_ff own) split.rest (length (before_ff own)) refl in
+      let own_is : window others start 8 ≡ t ++ split.rest = window_from bytes start t 8 short room ∙ ap (λ x. t ++ x) rest_is in
+      let inline : IsInline (slice_index (window others start 8) 0) = subst (λ x. IsInline (slice_index x 0)) (sym own_is) (inline_after t split.rest utf8 split.filled) in
+      let reads : content_of node_names others (at start text_shape) ≡ plain (written (before_ff (window others start 8))) [] = rw inline refl in
+      let is : content_of node_names others (at start text_shape) ≡ plain (written t) [] = reads ∙ ap (λ x. plain (written x) []) (ap before_ff own_is ∙ text_before t split.rest utf8 split.filled) in
+      let sealed = overwrite_spares_law bytes start t room in
+      record {
+        spares = record { length = sealed.spares.length; outside = λ from n apart. sealed.spares.outside from n (⊎_elim (λ behind. inl (omega (arith, short, behind))) (λ before. inr before) apart) };
+        is = is;
+      }
+
+-- what is so of the bytes with another leaf of each kind
+module _ (bytes : List ℕ) (pos : ℕ) (v : Value) (path : List ℕ) (K : ℕ → List ℕ → Value → Type 0) where
+  abbrev pub LeafWrites : Type 0
+  LeafWrites =
+      (s : Shape)
+      → IsFixed s
+      → (piece : List ℕ) (start : ℕ) (old new : Value) (l : Label)
+      → StandsInRoot node_names bytes pos node_shape v path (at start s) old
+      → content_of node_names bytes (at start s) ≡ plain l []
+      → length piece ≡ size_of s
+      → start + length piece ≤ length bytes
+      → ((names : Names) (p : ℕ) → shape_content names p piece s ≡ plain (leaf_label new) [])
+      → AreBytes piece
+      → K start piece new
+
+  abbrev pub InlineWrites : Type 0
+  InlineWrites =
+      (t : List ℕ) (start : ℕ) (s : List ℕ) (old : Value)
+      → StandsInRoot node_names bytes pos node_shape v path (at start text_shape) old
+      → content_of node_names bytes (at start text_shape) ≡ plain (written s) []
+      → length s ≡ length t
+      → start + length t ≤ length bytes
+      → IsUtf8 t
+      → K start t (string t)
+
+  abbrev pub FarWrites : Type 0
+  FarWrites =
+      (t : List ℕ) (start : ℕ) (old : Value)
+      → StandsInRoot node_names bytes pos node_shape v path (behind start str (length t)) old
+      → start + length t ≤ length bytes
+      → IsUtf8 t
+      → K start t (string t)
+
+module _ (bytes : List ℕ) (pos : ℕ) (v : Value) (regions : List Region) (visits : List Visit) (path : List ℕ) (root : HasRoot node_names bytes pos node_shape v regions visits) where
   pub own_within : {part : Part} {payload : Value} {start size : ℕ} → StandsInRoot node_names bytes pos node_shape v path part payload → IsOwn bytes start size part → start + size ≤ length bytes
   own_within {part = part} {payload = payload} {start = start} stands own =
       let h = held_at node_names bytes part payload root.holds stands in
@@ -156,43 +250,46 @@ module _ (bytes : List ℕ) (pos : ℕ) (v : Value) (regions : List Region) (vis
       let short = i.short in
       omega arith
 
-  pub rewritten : {part : Part} {start size : ℕ} (old new : Leaf) → StandsInRoot node_names bytes pos node_shape v path part (payload_of old) → IsOwn bytes start size part
-      → size ≡ length (own_bytes new) → fits old new ≡ true → IsLeaf new → Rewritten start new
-  rewritten {part = part} {start = start} old new stands (own_truth e f) size_is fit legal =
-      let there = subst (λ x. StandsInRoot node_names bytes pos node_shape v path x (payload_of old)) e stands in
-      let h = held_at node_names bytes (at start truth_shape) (payload_of old) root.holds there in
-      let t = truth_there bytes start h.holds in
-      let k = truth_kind old new t.b t.is fit in
-      let room : start + 1 ≤ length bytes = own_within stands (own_truth e refl) in
-      subst (Rewritten start) (sym k.is)
-      (sealed_leaf_law node_names bytes (truth_byte k.b ∷ []) pos node_shape v regions visits path start truth_shape (payload_of old) (boolean k.b) root tt there refl room (truth_reads k.b))
-  rewritten {part = part} {start = start} old new stands (own_number e f) size_is fit legal =
-      let there = subst (λ x. StandsInRoot node_names bytes pos node_shape v path x (payload_of old)) e stands in
-      let h = held_at node_names bytes (at start (number_shape w64 true)) (payload_of old) root.holds there in
-      let t = number_there bytes start h.holds in
-      let k = number_kind old new t.n t.is fit in
-      let room : start + 8 ≤ length bytes = own_within stands (own_number e refl) in
-      let is_number : IsLeaf (number k.n) = subst IsLeaf k.is legal in
-      subst (Rewritten start) (sym k.is)
-      (sealed_leaf_law node_names bytes (to_le_bytes w64 (cast_unsigned w64 k.n)) pos node_shape v regions visits path start (number_shape w64 true) (payload_of old) (integer k.n) root tt there refl room (number_reads k.n is_number))
-  rewritten {part = part} {start = start} {size = size} old new stands (own_inline {s = s} e c f) size_is fit legal =
-      let there = subst (λ x. StandsInRoot node_names bytes pos node_shape v path x (payload_of old)) e stands in
-      let h = held_at node_names bytes (at start text_shape) (payload_of old) root.holds there in
-      let t = text_there bytes start h.holds in
-      let k = text_kind old new t.s t.is fit in
-      let room : start + size ≤ length bytes = own_within stands (own_inline {s = s} e c f) in
-      let i = inline_says bytes start s (ap (content_of node_names bytes) (sym e) ∙ c) in
-      let len : size ≡ length k.s = size_is ∙ ap (λ x. length (own_bytes x)) k.is in
-      let is_text : IsLeaf (text k.s) = subst IsLeaf k.is legal in
-      subst (Rewritten start) (sym k.is)
-      (sealed_text_law node_names bytes k.s pos node_shape v regions visits path start root (stands_inline there i.is_inline (sym len ∙ f ∙ ap length i.is)) (subst (λ n. start + n ≤ length bytes) len room) is_text)
-  rewritten {part = part} {start = start} {size = size} old new stands (own_behind e) size_is fit legal =
-      let there = subst (λ x. StandsInRoot node_names bytes pos node_shape v path x (payload_of old)) e stands in
-      let h = held_at node_names bytes (behind start str size) (payload_of old) root.holds there in
-      let t = text_behind_there bytes start size h.holds in
-      let k = text_kind old new t.s t.is fit in
-      let room : start + size ≤ length bytes = own_within stands (own_behind e) in
-      let len : size ≡ length k.s = size_is ∙ ap (λ x. length (own_bytes x)) k.is in
-      let is_text : IsLeaf (text k.s) = subst IsLeaf k.is legal in
-      subst (Rewritten start) (sym k.is)
-      (sealed_text_law node_names bytes k.s pos node_shape v regions visits path start root (stands_out_of_line (subst (λ n. StandsInRoot node_names bytes pos node_shape v path (behind start str n) (payload_of old)) len there)) (subst (λ n. start + n ≤ length bytes) len room) is_text)
+  -- by the kind of the leaf
+  module _ (K : ℕ → List ℕ → Value → Type 0) (fixed : LeafWrites bytes pos v path K) (inline : InlineWrites bytes pos v path K) (far : FarWrites bytes pos v path K) where
+    abbrev Kept : ℕ → Leaf → Type 0
+    Kept start new = K start (own_bytes new) (payload_of new)
+
+    pub by_own : {part : Part} {start size : ℕ} (old new : Leaf) → StandsInRoot node_names bytes pos node_shape v path part (payload_of old) → IsOwn bytes start size part
+        → size ≡ length (own_bytes new) → fits old new ≡ true → IsLeaf new → K start (own_bytes new) (payload_of new)
+    by_own {start = start} old new stands (own_truth e f) size_is fit legal =
+        let there = subst (λ x. StandsInRoot node_names bytes pos node_shape v path x (payload_of old)) e stands in
+        let h = held_at node_names bytes (at start truth_shape) (payload_of old) root.holds there in
+        let t = truth_there bytes start h.holds in
+        let k = truth_kind old new t.b t.is fit in
+        let room : start + 1 ≤ length bytes = own_within stands (own_truth e refl) in
+        let c = truth_plain bytes start h.holds in
+        subst (Kept start) (sym k.is)
+        (fixed truth_shape (fixed_truth refl) (truth_byte k.b ∷ []) start (payload_of old) (boolean k.b) c.label there c.is refl room (truth_reads k.b) (own_are_bytes (truth k.b) (subst IsLeaf k.is legal)))
+    by_own {start = start} old new stands (own_number e f) size_is fit legal =
+        let there = subst (λ x. StandsInRoot node_names bytes pos node_shape v path x (payload_of old)) e stands in
+        let h = held_at node_names bytes (at start (number_shape w64 true)) (payload_of old) root.holds there in
+        let t = number_there bytes start h.holds in
+        let k = number_kind old new t.n t.is fit in
+        let room : start + 8 ≤ length bytes = own_within stands (own_number e refl) in
+        let is_number : IsLeaf (number k.n) = subst IsLeaf k.is legal in
+        subst (Kept start) (sym k.is)
+        (fixed (number_shape w64 true) (fixed_number refl) (to_le_bytes w64 (cast_unsigned w64 k.n)) start (payload_of old) (integer k.n) _ there (number_plain bytes start) refl room (number_reads k.n is_number) (own_are_bytes (number k.n) is_number))
+    by_own {start = start} {size = size} old new stands (own_inline {s = s} e c f) size_is fit legal =
+        let there = subst (λ x. StandsInRoot node_names bytes pos node_shape v path x (payload_of old)) e stands in
+        let h = held_at node_names bytes (at start text_shape) (payload_of old) root.holds there in
+        let t = text_there bytes start h.holds in
+        let k = text_kind old new t.s t.is fit in
+        let room : start + size ≤ length bytes = own_within stands (own_inline {s = s} e c f) in
+        let len : size ≡ length k.s = size_is ∙ ap (λ x. length (own_bytes x)) k.is in
+        subst (Kept start) (sym k.is)
+        (inline k.s start s (payload_of old) there (ap (content_of node_names bytes) (sym e) ∙ c) (sym f ∙ len) (subst (λ n. start + n ≤ length bytes) len room) (subst IsLeaf k.is legal))
+    by_own {start = start} {size = size} old new stands (own_behind e) size_is fit legal =
+        let there = subst (λ x. StandsInRoot node_names bytes pos node_shape v path x (payload_of old)) e stands in
+        let h = held_at node_names bytes (behind start str size) (payload_of old) root.holds there in
+        let t = text_behind_there bytes start size h.holds in
+        let k = text_kind old new t.s t.is fit in
+        let room : start + size ≤ length bytes = own_within stands (own_behind e) in
+        let len : size ≡ length k.s = size_is ∙ ap (λ x. length (own_bytes x)) k.is in
+        subst (Kept start) (sym k.is)
+        (far k.s start (payload_of old) (subst (λ n. StandsInRoot node_names bytes pos node_shape v path (behind start str n) (payload_of old)) len there) (subst (λ n. start + n ≤ length bytes) len room) (subst IsLeaf k.is legal))

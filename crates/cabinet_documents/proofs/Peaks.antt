@@ -1,207 +1,45 @@
--- In the walk of a node as many containers lie in one another as its value is high, and the keys of its maps ascend
--- where those of the value do.
-use Rattle.std.proofs.Common.{◌≡◌, ℕ, zero, suc, ◌+◌, ◌<◌, ◌≤◌, max, Bool, true, false, cond, ◌==◌, List, [], ◌∷◌, ◌++◌, Some, None, refl, sym, ap, subst, ◌∙◌, arith, append-nil, w8}
+-- In the walk of a node as many containers lie in one another as its value is high, and the keys of its maps are those
+-- of maps where those of the value are.
+use Rattle.std.proofs.Common.{◌≡◌, ℕ, zero, suc, ◌+◌, ◌-◌, ◌*◌, nat_lt, max, Bool, true, false, cond, ◌==◌, List, [], ◌∷◌, ◌++◌, length, Some, None, refl, sym, ap, subst, ◌∙◌, arith, append-nil, w8}
 use Rattle.std.specs.Prelude.{⊤}
-use Rattle.std.specs.List.{flat_map, Contains}
 use Rattle.archive_forms_values.specs.ShapeLayout.Value.{Value, Values, count_values}
 use Rattle.archive_forms_values.specs.ShapeLayout.Value.Value.{integer, boolean, string, group, chosen, counted}
 use Rattle.archive_forms_values.specs.ShapeLayout.Value.Values.{no_values, more_values}
 use Rattle.archive_forms_values.specs.ShapeLayout.Shape.Shape.{choice, array, number as number_shape}
 use Rattle.archive_forms_values.specs.ShapeLayout.Shape.Shapes.{no_shapes}
 use Rattle.archive_forms_values.specs.ShapeLayout.Shape.Pointee.{str}
-use Rattle.archive_forms_values.specs.ShapeLayout.Content.{Part, Label, Content, content_of, made, members, weave, first_values, other_values, shape_content, fields}
-use Rattle.archive_forms_values.specs.ShapeLayout.Bytes.{align_up}
+use Rattle.archive_forms_values.specs.ShapeLayout.Content.{Part, Label, content_of, made, members, weave, first_values, other_values, shape_content, fields}
+use Rattle.archive_forms_values.specs.ShapeLayout.Bytes.{align_up, word_at}
 use Rattle.archive_forms_values.specs.ShapeLayout.Content.Part.{at}
-use Rattle.archive_forms_values.specs.ShapeLayout.Content.Label.{leaf, written, same, second, whole, tagged, woven, total}
-use Rattle.archive_forms_values.specs.ShapeLayout.Content.Content.{illegal, plain, claimed, counting}
-use Rattle.cabinet_documents.specs.Node.{node_names}
+use Rattle.archive_forms_values.specs.ShapeLayout.Content.Label.{leaf, written, same, whole, tagged, woven, total}
+use Rattle.archive_forms_values.specs.ShapeLayout.Content.Content.{illegal, plain, counting}
+use Rattle.cabinet_documents.specs.Node.{node_names, pair_shape}
 use Rattle.cabinet_documents.specs.Denotes.{tagged_value}
-use Rattle.cabinet_documents.specs.Order.{ascend}
-use Rattle.cabinet_documents.specs.Table.{item_keys}
-use Rattle.cabinet_documents.specs.Walk.{Stop, Walks, WalkAll, is_container, depth_in, parts_of, value_of, joined, in_turn}
+use Rattle.cabinet_documents.specs.Table.{item_keys, full_from, Findable, table_of, hashed_at}
+use Rattle.cabinet_documents.specs.Walk.{Stop, Walks, WalkAll, is_container, depth_in, parts_of, value_of, joined}
 use Rattle.cabinet_documents.specs.Walk.Walks.{walks}
 use Rattle.cabinet_documents.specs.Walk.WalkAll.{walk_none, walk_more}
-use Rattle.cabinet_documents.specs.Audit.{IsMapSound, map_faults, unless, keys_not_ascending}
-use Rattle.cabinet_documents.proofs.Stops.{peak, peak_low, peak_append, peak_raise, peak_joined, Each, each_append, each_front, each_joined, each_flat, flat}
-use Rattle.cabinet_documents.proofs.Heights.{height, heights, heights_split, heights_weave, KeysAscend, Keyed, AllKeyed, AreGroups, keyed_split, keyed_joined, keyed_weave, keyed_woven}
+use Rattle.cabinet_documents.specs.Audit.{map_faults}
+use Rattle.cabinet_documents.proofs.Stops.{peak, peak_append, peak_joined, Each, each_append, each_front, each_joined, each_flat, flat}
+use Rattle.cabinet_documents.proofs.Heights.{height, heights, heights_split, heights_weave, KeysSuit, Keyed, AllKeyed, AreGroups, suited_split, keyed_joined, keyed_weave, keyed_woven}
 use Rattle.cabinet_documents.proofs.Nodes.{no_choice}
-use Rattle.cabinet_documents.proofs.Places.{Place, node_here, payload_here, truth_here, number_here, text_here, shared_here, option_here, box_here, list_here, ordered_here, tree_node, tree_child, entry_here, absent_here, node_behind, nodes_behind, text_behind, Spot, part_of, parts_at, nodes_from, entries_from, children_from, lifts, Passes, node_passes, box_passes, behind_passes, list_passes, text_passes, child_passes, Pays, pays_truth, pays_number, pays_text, pays_shared, pays_option, pays_list, pays_ordered, pays_absent, Follows, passes, pays, truth_is, number_is, text_is, behind_is, none_is, some_is, nodes_follow, empty_is, total_is, leaf_follows, inner_follows, no_child_is, entry_follows, Leads, leads_nowhere, leads_absent, leads_plain, leads_claimed, leads_counted, led}
+use Rattle.cabinet_documents.proofs.Places.{Place, shared_here, box_here, table_here, pair_here, tree_node, tree_child, buckets_here, absent_here, text_behind, Spot, part_of, parts_at, nodes_from, entries_from, children_from, items_from, lifts, Passes, node_passes, box_passes, behind_passes, list_passes, text_passes, child_passes, table_passes, Pays, pays_truth, pays_number, pays_text, pays_shared, pays_option, pays_list, pays_ordered, pays_hashed, pays_absent, Follows, passes, pays, truth_is, number_is, text_is, behind_is, none_is, some_is, nodes_follow, empty_is, total_is, leaf_follows, inner_follows, no_child_is, entry_follows, no_items_is, items_follow, pair_follows, is_behind, Leads, leads_nowhere, leads_absent, leads_plain, leads_claimed, leads_counted, led}
+use Rattle.cabinet_documents.proofs.ByKey.{AreKeysDistinct}
+use Rattle.cabinet_documents.proofs.Containers.{lift, contains, is_plain, OwnKeyed, KeyedAt, GroupedAt, FoundApart, container_is, deeper, lift_is, plain_lift, plain_own, peak_stop, own_sound, own_quiet}
+use Rattle.cabinet_documents.proofs.TableSound.{IsPlainSound, TableRead, reads_none, reads_buckets, table_read, led_table, keys_count, found_distinct}
 
--- ---- of places
-
-abbrev pub lift : Place → ℕ
-lift option_here = 1
-lift list_here = 1
-lift ordered_here = 1
-lift k = 0
-
-abbrev contains : Place → Bool
-contains option_here = true
-contains list_here = true
-contains ordered_here = true
-contains k = false
-
--- neither a container nor a payload without a layout
-abbrev is_plain : Place → Bool
-is_plain option_here = false
-is_plain list_here = false
-is_plain ordered_here = false
-is_plain absent_here = false
-is_plain k = true
-
--- the keys of the map at a place ascend
-abbrev pub OwnKeyed : Place → Value → Type 0
-OwnKeyed ordered_here v = ascend (item_keys (members v)) ≡ true
-OwnKeyed k v = ⊤
-
-abbrev pub KeyedAt : Place → Value → Type 0
-KeyedAt k v = OwnKeyed k v × Keyed v
-
--- the value of a part of a search tree is a group
-abbrev GroupedAt : Place → Value → Type 0
-GroupedAt (tree_node level) v = v ≡ group (members v)
-GroupedAt (tree_child level) v = v ≡ group (members v)
-GroupedAt k v = ⊤
-
-container_is : (k : Place) (pos : ℕ) → is_container (part_of k pos) ≡ contains k
-container_is node_here pos = refl
-container_is payload_here pos = refl
-container_is truth_here pos = refl
-container_is number_here pos = refl
-container_is text_here pos = refl
-container_is shared_here pos = refl
-container_is option_here pos = refl
-container_is box_here pos = refl
-container_is list_here pos = refl
-container_is ordered_here pos = refl
-container_is (tree_node level) pos = refl
-container_is (tree_child level) pos = refl
-container_is (entry_here key) pos = refl
-container_is absent_here pos = refl
-container_is node_behind pos = refl
-container_is (nodes_behind len) pos = refl
-container_is (text_behind len) pos = refl
-
-deeper : (b : Bool) (d n : ℕ) → cond b 1 0 ≡ n → cond b (d + 1) d ≡ d + n
-deeper true d n h = omega arith
-deeper false d n h = omega arith
-
-lift_is : (k : Place) → cond (contains k) 1 0 ≡ lift k
-lift_is node_here = refl
-lift_is payload_here = refl
-lift_is truth_here = refl
-lift_is number_here = refl
-lift_is text_here = refl
-lift_is shared_here = refl
-lift_is option_here = refl
-lift_is box_here = refl
-lift_is list_here = refl
-lift_is ordered_here = refl
-lift_is (tree_node level) = refl
-lift_is (tree_child level) = refl
-lift_is (entry_here key) = refl
-lift_is absent_here = refl
-lift_is node_behind = refl
-lift_is (nodes_behind len) = refl
-lift_is (text_behind len) = refl
-
-plain_lift : (k : Place) → is_plain k ≡ true → lift k ≡ 0
-plain_lift node_here e = refl
-plain_lift payload_here e = refl
-plain_lift truth_here e = refl
-plain_lift number_here e = refl
-plain_lift text_here e = refl
-plain_lift shared_here e = refl
-plain_lift option_here e = absurd (cc)
-plain_lift box_here e = refl
-plain_lift list_here e = absurd (cc)
-plain_lift ordered_here e = absurd (cc)
-plain_lift (tree_node level) e = refl
-plain_lift (tree_child level) e = refl
-plain_lift (entry_here key) e = refl
-plain_lift absent_here e = absurd (cc)
-plain_lift node_behind e = refl
-plain_lift (nodes_behind len) e = refl
-plain_lift (text_behind len) e = refl
-
-plain_own : (k : Place) (v : Value) → is_plain k ≡ true → OwnKeyed k v
-plain_own node_here v e = tt
-plain_own payload_here v e = tt
-plain_own truth_here v e = tt
-plain_own number_here v e = tt
-plain_own text_here v e = tt
-plain_own shared_here v e = tt
-plain_own option_here v e = tt
-plain_own box_here v e = tt
-plain_own list_here v e = tt
-plain_own ordered_here v e = absurd (cc)
-plain_own (tree_node level) v e = tt
-plain_own (tree_child level) v e = tt
-plain_own (entry_here key) v e = tt
-plain_own absent_here v e = tt
-plain_own node_behind v e = tt
-plain_own (nodes_behind len) v e = tt
-plain_own (text_behind len) v e = tt
-
--- with the stop at a place before a walk
-peak_stop : (b : Bool) (d n : ℕ) (walk : List Stop) → cond b 1 0 ≡ n → max (cond b (d + 1) d) (peak d walk) ≡ peak (d + n) walk
-peak_stop true d n walk h = let e : d + n ≡ d + 1 = omega arith in peak_raise d walk ∙ ap (λ m. peak m walk) (sym e)
-peak_stop false d n walk h = let e : d + n ≡ d = omega arith in let low = peak_low d walk in let m : max d (peak d walk) ≡ peak d walk = omega arith in m ∙ ap (λ m. peak m walk) (sym e)
-
--- the map at a stop is sound, and has no fault
-abbrev pub Sounds : List ℕ → Stop → Type 0
-Sounds bytes s = IsMapSound bytes s.part s.value
+-- the map at a stop is sound, or where it is a table has distinct keys; and it has no fault
+abbrev pub PlainSounds : List ℕ → Stop → Type 0
+PlainSounds bytes s = IsPlainSound bytes s.part s.value
 
 abbrev pub IsQuiet : List ℕ → Stop → Type 0
 IsQuiet bytes s = map_faults bytes s.part s.value ≡ []
 
-own_sound : (k : Place) (pos : ℕ) (bytes : List ℕ) (v : Value) → IsMapSound bytes (part_of k pos) v ≡ OwnKeyed k v
-own_sound node_here pos bytes v = refl
-own_sound payload_here pos bytes v = refl
-own_sound truth_here pos bytes v = refl
-own_sound number_here pos bytes v = refl
-own_sound text_here pos bytes v = refl
-own_sound shared_here pos bytes v = refl
-own_sound option_here pos bytes v = refl
-own_sound box_here pos bytes v = refl
-own_sound list_here pos bytes v = refl
-own_sound ordered_here pos bytes v = refl
-own_sound (tree_node level) pos bytes v = refl
-own_sound (tree_child level) pos bytes v = refl
-own_sound (entry_here key) pos bytes v = refl
-own_sound absent_here pos bytes v = refl
-own_sound node_behind pos bytes v = refl
-own_sound (nodes_behind len) pos bytes v = refl
-own_sound (text_behind len) pos bytes v = refl
-
-no_fault : (b : Bool) → unless b keys_not_ascending ≡ [] → b ≡ true
-no_fault true e = refl
-no_fault false e = absurd (cc)
-
-own_quiet : (k : Place) (pos : ℕ) (bytes : List ℕ) (v : Value) → map_faults bytes (part_of k pos) v ≡ [] → OwnKeyed k v
-own_quiet node_here pos bytes v e = tt
-own_quiet payload_here pos bytes v e = tt
-own_quiet truth_here pos bytes v e = tt
-own_quiet number_here pos bytes v e = tt
-own_quiet text_here pos bytes v e = tt
-own_quiet shared_here pos bytes v e = tt
-own_quiet option_here pos bytes v e = tt
-own_quiet box_here pos bytes v e = tt
-own_quiet list_here pos bytes v e = tt
-own_quiet ordered_here pos bytes v e = no_fault (ascend (item_keys (members v))) e
-own_quiet (tree_node level) pos bytes v e = tt
-own_quiet (tree_child level) pos bytes v e = tt
-own_quiet (entry_here key) pos bytes v e = tt
-own_quiet absent_here pos bytes v e = tt
-own_quiet node_behind pos bytes v e = tt
-own_quiet (nodes_behind len) pos bytes v e = tt
-own_quiet (text_behind len) pos bytes v e = tt
-
 pub record Peaked (bytes : List ℕ) (k : Place) (d : ℕ) (v : Value) (walk : List Stop) : Type 0 where
   pub peak_is : peak d walk ≡ d + (lift k + height v)
-  pub sound : KeyedAt k v → Each (Sounds bytes) walk
+  pub sound : KeyedAt k v → Each (PlainSounds bytes) walk
   pub keyed : Each (IsQuiet bytes) walk → KeyedAt k v
-  pub grouped : GroupedAt k v
+  pub grouped : GroupedAt bytes k v
   pub present : k ≡ absent_here → ⊥
 
 data AllPeaked (bytes : List ℕ) (d : ℕ) : List Spot → Values → List (List Stop) → Type 0 where
@@ -225,6 +63,14 @@ entries_plain : (n key value : ℕ) → AllPlain (entries_from n key value)
 entries_plain zero key value = tt
 entries_plain (suc n) key value = (refl, entries_plain n (key + 8) (value + 24))
 
+items_plain : (target i : ℕ) (controls : List ℕ) → AllPlain (items_from target i controls)
+items_plain target i [] = tt
+items_plain target i (c ∷ cs) = by_test (nat_lt c 128) (items_plain target (i + 1) cs)
+  where
+    by_test : (b : Bool) → AllPlain (items_from target (i + 1) cs) → AllPlain (cond b (record { place = pair_here; pos = target - (i + 1) * 32 } ∷ items_from target (i + 1) cs) (items_from target (i + 1) cs))
+    by_test true h = (refl, h)
+    by_test false h = h
+
 children_plain : (n level pos : ℕ) → AllPlain (children_from n level pos)
 children_plain zero level pos = tt
 children_plain (suc n) level pos = (refl, children_plain n level (pos + 4))
@@ -240,11 +86,11 @@ module _ (bytes : List ℕ) where
       let rs = plain_peak ps h.1 in
       ap (λ x. peak d (flat x)) g ∙ peak_append d here (flat later) ∙ omega (arith, r, rs, z) ∙ ap (λ x. d + heights x) (sym f)
 
-  plain_sound : {d : ℕ} {qs : List Spot} {vs : Values} {runs : List (List Stop)} → AllPeaked bytes d qs vs runs → AllPlain qs → AllKeyed vs → Each (Sounds bytes) (flat runs)
-  plain_sound (none_peaked f g) h k = subst (λ x. Each (Sounds bytes) (flat x)) (sym g) tt
+  plain_sound : {d : ℕ} {qs : List Spot} {vs : Values} {runs : List (List Stop)} → AllPeaked bytes d qs vs runs → AllPlain qs → AllKeyed vs → Each (PlainSounds bytes) (flat runs)
+  plain_sound (none_peaked f g) h k = subst (λ x. Each (PlainSounds bytes) (flat x)) (sym g) tt
   plain_sound (more_peaked {q = q} {ws = ws} {v = v} {here = here} {later = later} f g p ps) h k =
       let both : Keyed v × AllKeyed ws = subst AllKeyed f k in
-      subst (λ x. Each (Sounds bytes) (flat x)) (sym g) (each_append (Sounds bytes) here (flat later) (p.sound (plain_own q.place v h.0, both.0)) (plain_sound ps h.1 both.1))
+      subst (λ x. Each (PlainSounds bytes) (flat x)) (sym g) (each_append (PlainSounds bytes) here (flat later) (p.sound (plain_own q.place v h.0, both.0)) (plain_sound ps h.1 both.1))
 
   plain_keyed : {d : ℕ} {qs : List Spot} {vs : Values} {runs : List (List Stop)} → AllPeaked bytes d qs vs runs → Each (IsQuiet bytes) (flat runs) → AllKeyed vs
   plain_keyed (none_peaked f g) h = subst AllKeyed (sym f) tt
@@ -258,9 +104,9 @@ module _ (bytes : List ℕ) where
     value : Value
     values_are : vs ≡ more_values value no_values
     peak_is : peak d (flat runs) ≡ d + (lift j + height value)
-    sound : KeyedAt j value → Each (Sounds bytes) (flat runs)
+    sound : KeyedAt j value → Each (PlainSounds bytes) (flat runs)
     keyed : Each (IsQuiet bytes) (flat runs) → KeyedAt j value
-    grouped : GroupedAt j value
+    grouped : GroupedAt bytes j value
     present : j ≡ absent_here → ⊥
 
   no_more : {d : ℕ} {qs : List Spot} {vs : Values} {runs : List (List Stop)} → qs ≡ [] → AllPeaked bytes d qs vs runs → (vs ≡ no_values) × (runs ≡ [])
@@ -279,7 +125,7 @@ module _ (bytes : List ℕ) where
         value = v;
         values_are = f ∙ ap (more_values v) rest.0;
         peak_is = ap (peak d) runs_are ∙ there.peak_is;
-        sound = λ k. subst (Each (Sounds bytes)) (sym runs_are) (there.sound k);
+        sound = λ k. subst (Each (PlainSounds bytes)) (sym runs_are) (there.sound k);
         keyed = λ h. there.keyed (subst (Each (IsQuiet bytes)) runs_are h);
         grouped = there.grouped;
         present = there.present;
@@ -294,14 +140,16 @@ module _ (bytes : List ℕ) where
   pass_plain (list_passes small) = refl
   pass_plain text_passes = refl
   pass_plain child_passes = refl
+  pass_plain (table_passes small) = refl
 
-  pass_grouped : {k j : Place} (v : Value) → Passes bytes k j → GroupedAt j v → GroupedAt k v
+  pass_grouped : {k j : Place} (v : Value) → Passes bytes k j → GroupedAt bytes j v → GroupedAt bytes k v
   pass_grouped v node_passes g = tt
   pass_grouped v box_passes g = tt
   pass_grouped v behind_passes g = tt
   pass_grouped v (list_passes small) g = tt
   pass_grouped v text_passes g = tt
   pass_grouped v child_passes g = g
+  pass_grouped v (table_passes small) g = tt
 
   pay_lift : {tag : ℕ} {j : Place} → Pays tag j → lifts tag ≡ lift j
   pay_lift pays_truth = refl
@@ -311,9 +159,10 @@ module _ (bytes : List ℕ) where
   pay_lift pays_option = refl
   pay_lift pays_list = refl
   pay_lift pays_ordered = refl
+  pay_lift pays_hashed = refl
   pay_lift (pays_absent z) = z
 
-  pay_own : {tag : ℕ} {j : Place} (v : Value) → Pays tag j → (j ≡ absent_here → ⊥) → OwnKeyed j v ≡ KeysAscend tag (more_values v no_values)
+  pay_own : {tag : ℕ} {j : Place} (v : Value) → Pays tag j → (j ≡ absent_here → ⊥) → OwnKeyed j v ≡ KeysSuit tag (more_values v no_values)
   pay_own v pays_truth h = refl
   pay_own v pays_number h = refl
   pay_own v pays_text h = refl
@@ -321,6 +170,7 @@ module _ (bytes : List ℕ) where
   pay_own v pays_option h = refl
   pay_own v pays_list h = refl
   pay_own v pays_ordered h = refl
+  pay_own v pays_hashed h = refl
   pay_own v (pays_absent z) h = absurd (h refl)
 
   all_groups : (n level pos : ℕ) (rest : List Spot) {d : ℕ} {qs : List Spot} {vs : Values} {runs : List (List Stop)} → qs ≡ children_from n level pos ++ rest → AllPeaked bytes d qs vs runs → AreGroups (first_values n vs)
@@ -329,7 +179,7 @@ module _ (bytes : List ℕ) where
   all_groups (suc n) level pos rest e (more_peaked {q = q} {qs = qs} {ws = ws} {v = v} f g p ps) =
       let first : q ≡ record { place = tree_child level; pos = pos } = cc in
       let others : qs ≡ children_from n level (pos + 4) ++ rest = cc in
-      let here : v ≡ group (members v) = subst (λ (x : Spot). GroupedAt x.place v) first p.grouped in
+      let here : v ≡ group (members v) = subst (λ (x : Spot). GroupedAt bytes x.place v) first p.grouped in
       subst AreGroups (sym (ap (first_values (suc n)) f)) (here, all_groups n level (pos + 4) rest others ps)
 
   -- how many are there
@@ -338,6 +188,19 @@ module _ (bytes : List ℕ) where
   entries_count zero key value e (more_peaked f g p ps) = absurd (cc)
   entries_count (suc n) key value e (none_peaked f g) = absurd (cc)
   entries_count (suc n) key value e (more_peaked f g p ps) = let r = entries_count n (key + 8) (value + 24) (cc) ps in ap count_values f ∙ omega (arith, r)
+
+  -- one for each full place
+  one_item : (b : Bool) (pos i : ℕ) (full : List ℕ) (later : List Spot) {d : ℕ} {qs : List Spot} {vs : Values} {runs : List (List Stop)} → qs ≡ cond b (record { place = pair_here; pos = pos } ∷ later) later → AllPeaked bytes d qs vs runs
+      → ((rs : List Spot) (ws : Values) (others : List (List Stop)) → rs ≡ later → AllPeaked bytes d rs ws others → count_values ws ≡ length full) → count_values vs ≡ length (cond b (i ∷ full) full)
+  one_item false pos i full later e ps on = on _ _ _ e ps
+  one_item true pos i full later e (none_peaked f g) on = absurd (cc)
+  one_item true pos i full later e (more_peaked f g p ps) on = let c = on _ _ _ (cc) ps in ap count_values f ∙ omega (arith, c)
+
+  items_count : (target i : ℕ) (controls : List ℕ) {d : ℕ} {qs : List Spot} {vs : Values} {runs : List (List Stop)} → qs ≡ items_from target i controls → AllPeaked bytes d qs vs runs → count_values vs ≡ length (full_from i controls)
+  items_count target i [] e (none_peaked f g) = ap count_values f
+  items_count target i [] e (more_peaked f g p ps) = absurd (cc)
+  items_count target i (c ∷ cs) e ps =
+      one_item (nat_lt c 128) (target - (i + 1) * 32) i (full_from (i + 1) cs) (items_from target (i + 1) cs) e ps (λ rs ws others f qs. items_count target (i + 1) cs f qs)
 
   record Counted (n most : ℕ) (vs : Values) : Type 0 where
     children : count_values (first_values n vs) ≡ n
@@ -354,12 +217,12 @@ module _ (bytes : List ℕ) where
   -- what a place's value is made of says of it
   record Made (k : Place) (d : ℕ) (v : Value) (runs : List (List Stop)) : Type 0 where
     peak_is : peak (d + lift k) (flat runs) ≡ d + (lift k + height v)
-    sound : Keyed v → OwnKeyed k v → Each (Sounds bytes) (flat runs)
+    sound : Keyed v → OwnKeyed k v → Each (PlainSounds bytes) (flat runs)
     keyed : Each (IsQuiet bytes) (flat runs) → Keyed v
-    grouped : GroupedAt k v
+    grouped : GroupedAt bytes k v
 
   -- by the value of one part, of none, and of several
-  made_same : (k j : Place) (d : ℕ) (v : Value) {vs : Values} {runs : List (List Stop)} → is_plain j ≡ true → (o : One j (d + lift k) vs runs) → v ≡ o.value → GroupedAt k v → Made k d v runs
+  made_same : (k j : Place) (d : ℕ) (v : Value) {vs : Values} {runs : List (List Stop)} → is_plain j ≡ true → (o : One j (d + lift k) vs runs) → v ≡ o.value → GroupedAt bytes k v → Made k d v runs
   made_same k j d v p o e g =
       let z = plain_lift j p in
       let h = ap height e in
@@ -371,16 +234,16 @@ module _ (bytes : List ℕ) where
         grouped = g;
       }
 
-  made_leaf : (k : Place) (d : ℕ) (v : Value) {runs : List (List Stop)} → runs ≡ [] → height v ≡ 0 → Keyed v → GroupedAt k v → Made k d v runs
+  made_leaf : (k : Place) (d : ℕ) (v : Value) {runs : List (List Stop)} → runs ≡ [] → height v ≡ 0 → Keyed v → GroupedAt bytes k v → Made k d v runs
   made_leaf k d v none h x g = record {
     peak_is = ap (λ y. peak (d + lift k) (flat y)) none ∙ omega (arith, h);
-    sound = λ y own. subst (λ y. Each (Sounds bytes) (flat y)) (sym none) tt;
+    sound = λ y own. subst (λ y. Each (PlainSounds bytes) (flat y)) (sym none) tt;
     keyed = λ y. x;
     grouped = g;
   }
 
   made_group : (k : Place) (d : ℕ) (v : Value) {qs : List Spot} {vs : Values} {runs : List (List Stop)} → AllPeaked bytes (d + lift k) qs vs runs → AllPlain qs
-      → height v ≡ heights vs → lift k ≡ 0 → (Keyed v → AllKeyed vs) → (AllKeyed vs → Keyed v) → GroupedAt k v → Made k d v runs
+      → height v ≡ heights vs → lift k ≡ 0 → (Keyed v → AllKeyed vs) → (AllKeyed vs → Keyed v) → GroupedAt bytes k v → Made k d v runs
   made_group k d v ps low h z to from g =
       let r = plain_peak ps low in
       record {
@@ -401,7 +264,7 @@ module _ (bytes : List ℕ) where
       let o = one j pos f ps in
       let n : made same (more_values o.value no_values) ≡ Some v = subst (λ x. made same x ≡ Some v) o.values_are (subst (λ x. made x vs ≡ Some v) e m) in
       let is : v ≡ o.value = cc in
-      made_same k j d v (pass_plain p) o is (pass_grouped v p (subst (GroupedAt j) (sym is) o.grouped))
+      made_same k j d v (pass_plain p) o is (pass_grouped v p (subst (GroupedAt bytes j) (sym is) o.grouped))
   follow k d {l = l} {vs = vs} {runs = runs} {v = v} (pays {tag = tag} {j = j} {pos = pos} p e f) ps m =
       let o = one j pos f ps in
       let n : made (tagged tag) (more_values o.value no_values) ≡ Some v = subst (λ x. made (tagged tag) x ≡ Some v) o.values_are (subst (λ x. made x vs ≡ Some v) e m) in
@@ -411,7 +274,7 @@ module _ (bytes : List ℕ) where
       let own = pay_own o.value p o.present in
       record {
         peak_is = o.peak_is ∙ omega (arith, h, z);
-        sound = λ x y. let k : KeysAscend tag (more_values o.value no_values) × (Keyed o.value × ⊤) = subst Keyed is x in o.sound (subst (λ X. X) (sym own) k.0, k.1.0);
+        sound = λ x y. let k : KeysSuit tag (more_values o.value no_values) × (Keyed o.value × ⊤) = subst Keyed is x in o.sound (subst (λ X. X) (sym own) k.0, k.1.0);
         keyed = λ x. let k = o.keyed x in subst Keyed (sym is) (subst (λ X. X) own k.0, (k.1, tt));
         grouped = tt;
       }
@@ -478,7 +341,7 @@ module _ (bytes : List ℕ) where
       made_group k d v ps (subst AllPlain (sym f) (plain_append (children_from c deep link) (entries_from most key value) (children_plain c deep link) (entries_plain most key value)))
       (ap height is ∙ heights_weave (first_values c vs) (other_values c vs) groups one_more ∙ sym (heights_split c vs)) refl
       (λ x. let k = keyed_woven (first_values c vs) (other_values c vs) groups one_more (subst Keyed is x) in keyed_joined c vs k.0 k.1)
-      (λ x. let k = keyed_split c vs x in subst Keyed (sym is) (keyed_weave (first_values c vs) (other_values c vs) groups one_more k.0 k.1))
+      (λ x. let k = suited_split KeysSuit c vs x in subst Keyed (sym is) (keyed_weave (first_values c vs) (other_values c vs) groups one_more k.0 k.1))
       (is ∙ sym (ap (λ x. group (members x)) is))
   follow k d {l = l} {vs = vs} {v = v} (no_child_is e f) ps m =
       let none = no_more f ps in
@@ -489,6 +352,58 @@ module _ (bytes : List ℕ) where
       let n : made whole vs ≡ Some v = subst (λ x. made x vs ≡ Some v) e m in
       let is : v ≡ group vs = cc in
       made_group k d v ps (subst AllPlain (sym f) (refl, (refl, tt))) (ap height is) refl (subst Keyed is) (λ x. subst Keyed (sym is) x) tt
+  follow k d {l = l} {vs = vs} {v = v} (no_items_is e f) ps m =
+      let none = no_more f ps in
+      let n : made whole no_values ≡ Some v = subst (λ x. made whole x ≡ Some v) none.0 (subst (λ x. made x vs ≡ Some v) e m) in
+      let is : v ≡ group no_values = cc in
+      made_leaf k d v none.1 (ap height is) (subst Keyed (sym is) tt) tt
+  follow k d {l = l} {vs = vs} {v = v} (items_follow {target = target} {cap = cap} controls are count e f) ps m =
+      let n : made whole vs ≡ Some v = subst (λ x. made x vs ≡ Some v) e m in
+      let is : v ≡ group vs = cc in
+      let items = items_count target 0 controls f ps in
+      made_group k d v ps (subst AllPlain (sym f) (items_plain target 0 controls)) (ap height is) refl (subst Keyed is) (λ x. subst Keyed (sym is) x)
+      (ap (λ x. count_values (members x)) is ∙ items ∙ ap (λ cs. length (full_from 0 cs)) are)
+  follow k d {l = l} {vs = vs} {v = v} (pair_follows key value e f) ps m =
+      let n : made whole vs ≡ Some v = subst (λ x. made x vs ≡ Some v) e m in
+      let is : v ≡ group vs = cc in
+      made_group k d v ps (subst AllPlain (sym f) (refl, (refl, tt))) (ap height is) refl (subst Keyed is) (λ x. subst Keyed (sym is) x) tt
+
+  -- the keys of a table that are found are distinct, since each full place has an item
+  buckets_apart : (pos target len cap : ℕ) {d : ℕ} {v : Value} {run : List Stop} → Peaked bytes (buckets_here target len cap) d v run
+      → TableRead bytes pos same (part_of (buckets_here target len cap) target ∷ []) pair_shape → Findable (table_of hashed_at bytes pos v) → AreKeysDistinct (item_keys (members v))
+  buckets_apart pos target len cap p (reads_none e f z) h = absurd (cc)
+  buckets_apart pos target len cap {v = v} p (reads_buckets {target = goal} e f some leads) h =
+      let at_target : target ≡ goal = cc in
+      let places : cap ≡ word_at bytes (pos + 8) = cc in
+      let led_there = led_table bytes hashed_at pos v some (leads ∙ ap Some (sym at_target)) ∙ ap (λ n. hashed_at bytes n (item_keys (members v)) target) (sym places) in
+      found_distinct bytes cap target (item_keys (members v)) (keys_count (members v) ∙ p.grouped) (subst Findable led_there h)
+
+  buckets_one : (pos goal target len cap : ℕ) {d : ℕ} {qs : List Spot} {vs : Values} {runs : List (List Stop)} {v : Value}
+      → qs ≡ record { place = buckets_here target len cap; pos = goal } ∷ [] → AllPeaked bytes d qs vs runs → made same vs ≡ Some v
+      → TableRead bytes pos same (part_of (buckets_here target len cap) target ∷ []) pair_shape → Findable (table_of hashed_at bytes pos v) → AreKeysDistinct (item_keys (members v))
+  unfolding made
+  buckets_one pos goal target len cap e (none_peaked f g) m r h = absurd (cc)
+  buckets_one pos goal target len cap {d = d} {v = v} e (more_peaked {q = q} {qs = qs} {v = u} {here = here} f g p ps) m r h =
+      let same_spot : q ≡ record { place = buckets_here target len cap; pos = goal } = cc in
+      let none : qs ≡ [] = cc in
+      let rest = no_more none ps in
+      let n : made same (more_values u no_values) ≡ Some v = subst (λ x. made same x ≡ Some v) (f ∙ ap (more_values u) rest.0) m in
+      let is : u ≡ v = cc in
+      let there : Peaked bytes (buckets_here target len cap) d u here = subst (λ (x : Spot). Peaked bytes x.place d u here) same_spot p in
+      buckets_apart pos target len cap (subst (λ x. Peaked bytes (buckets_here target len cap) d x here) is there) r h
+
+  apart : (k : Place) (pos : ℕ) {d : ℕ} {l : Label} {qs : List Spot} {vs : Values} {runs : List (List Stop)} {v : Value}
+      → content_of node_names bytes (part_of k pos) ≡ plain l (parts_at qs) → Follows bytes k l qs → AllPeaked bytes d qs vs runs → made l vs ≡ Some v → FoundApart bytes k pos v
+  unfolding made
+  apart k pos {l = l} {qs = qs} {vs = vs} {v = v} c (passes {pos = goal} (table_passes {target = target} {len = len} {cap = cap} small) e f) ps m is h =
+      let read = table_read bytes node_names pos pair_shape (c ∙ ap (λ x. plain x (parts_at qs)) e ∙ ap (λ x. plain same (parts_at x)) f) in
+      buckets_one pos goal target len cap f ps (subst (λ x. made x vs ≡ Some v) e m) read h
+  apart k pos {l = l} {qs = qs} {vs = vs} {v = v} c (no_items_is e f) ps m is h =
+      let none = no_more f ps in
+      let n : made whole no_values ≡ Some v = subst (λ x. made whole x ≡ Some v) none.0 (subst (λ x. made x vs ≡ Some v) e m) in
+      let alone : v ≡ group no_values = cc in
+      subst (λ x. AreKeysDistinct (item_keys (members x))) (sym alone) tt
+  apart k pos c fs ps m is h = absurd (cc)
 
   -- ---- walks
 
@@ -497,11 +412,11 @@ module _ (bytes : List ℕ) where
       let n : value_of illegal vs ≡ Some v = subst (λ x. value_of x vs ≡ Some v) (ap (content_of node_names bytes) is ∙ no_choice bytes pos) m in
       cc
 
-  no_walk : (pos : ℕ) {d : ℕ} {ps rest : List Part} {vs : Values} {runs : List (List Stop)} → WalkAll node_names bytes d ps vs runs → ps ≡ at pos (choice no_shapes) ∷ rest → ⊥
+  pub no_walk : (pos : ℕ) {d : ℕ} {ps rest : List Part} {vs : Values} {runs : List (List Stop)} → WalkAll node_names bytes d ps vs runs → ps ≡ at pos (choice no_shapes) ∷ rest → ⊥
   no_walk pos (walk_none e f) g = absurd (cc)
   no_walk pos (walk_more {p = q} {v = v} w ws e f) g = let is : q ≡ at pos (choice no_shapes) = cc in no_first pos w is
 
-  absent_parts : (pos : ℕ) → parts_of (content_of node_names bytes (part_of absent_here pos)) ≡ at (pos + 0) (choice no_shapes) ∷ (at (pos + 1) (array 15 (number_shape w8 false)) ∷ [])
+  pub absent_parts : (pos : ℕ) → parts_of (content_of node_names bytes (part_of absent_here pos)) ≡ at (pos + 0) (choice no_shapes) ∷ (at (pos + 1) (array 15 (number_shape w8 false)) ∷ [])
   unfolding shape_content fields align_up
   absent_parts pos = refl
 
@@ -509,20 +424,20 @@ module _ (bytes : List ℕ) where
       → p ≡ part_of k pos
       → walk ≡ record { depth = d; part = p; value = v } ∷ joined (content_of node_names bytes p) inner
       → (k ≡ absent_here → ⊥)
+      → FoundApart bytes k pos v
       → AllPeaked bytes (depth_in d p) qs vs inner
       → (AllPeaked bytes (d + lift k) qs vs inner → Made k d v inner)
       → Peaked bytes k d v walk
-  peaked_by k pos d {p = p} {v = v} {vs = vs} {inner = inner} {qs = qs} is e present ps on =
+  peaked_by k pos d {p = p} {v = v} {vs = vs} {inner = inner} {qs = qs} is e present free ps on =
       let c = content_of node_names bytes p in
       let container : is_container p ≡ contains k = ap is_container is ∙ container_is k pos in
       let depth_is : depth_in d p ≡ d + lift k = ap (λ b. cond b (d + 1) d) container ∙ deeper (contains k) d (lift k) (lift_is k) in
       let m : Made k d v inner = on (subst (λ n. AllPeaked bytes n qs vs inner) depth_is ps) in
-      let own : IsMapSound bytes p v ≡ OwnKeyed k v = ap (λ x. IsMapSound bytes x v) is ∙ own_sound k pos bytes v in
       record {
         peak_is = ap (peak d) e ∙ ap (λ x. max (cond (is_container p) (d + 1) d) x) (peak_joined d c inner) ∙ ap (λ b. max (cond b (d + 1) d) (peak d (flat inner))) container
             ∙ peak_stop (contains k) d (lift k) (flat inner) (lift_is k) ∙ m.peak_is;
-        sound = λ x. subst (Each (Sounds bytes)) (sym e) (subst (λ X. X) (sym own) x.0, each_joined (Sounds bytes) c inner (m.sound x.1 x.0));
-        keyed = λ x. let h = subst (Each (IsQuiet bytes)) e x in (own_quiet k pos bytes v (ap (λ y. map_faults bytes y v) (sym is) ∙ h.0), m.keyed (each_flat (IsQuiet bytes) c inner h.1));
+        sound = λ x. subst (Each (PlainSounds bytes)) (sym e) (subst (λ y. IsPlainSound bytes y v) (sym is) (own_sound k pos bytes v x.0), each_joined (PlainSounds bytes) c inner (m.sound x.1 x.0));
+        keyed = λ x. let h = subst (Each (IsQuiet bytes)) e x in (own_quiet k pos bytes v free (ap (λ y. map_faults bytes y v) (sym is) ∙ h.0), m.keyed (each_flat (IsQuiet bytes) c inner h.1));
         grouped = m.grouped;
         present = present;
       }
@@ -555,13 +470,16 @@ module _ (bytes : List ℕ) where
   peaked_case absent_here pos d is e m present on leads_absent = absurd (present refl)
   peaked_case k pos d {v = v} {vs = vs} {inner = inner} is e m present on (leads_plain f fs) =
       let c = ap (content_of node_names bytes) is ∙ f in
-      peaked_by k pos d is e present (on _ (ap parts_of c)) (λ below. follow k d fs below (subst (λ x. value_of x vs ≡ Some v) c m))
+      let made_of = subst (λ x. value_of x vs ≡ Some v) c m in
+      let parts = on _ (ap parts_of c) in
+      peaked_by k pos d is e present (apart k pos f fs parts made_of) parts (λ below. follow k d fs below made_of)
   peaked_case k pos d {p = p} {v = v} {vs = vs} {inner = inner} is e m present on (leads_claimed f fs b) =
       let c = ap (content_of node_names bytes) is ∙ f in
-      peaked_by k pos d is e present (on _ (ap parts_of c)) (λ below. follow k d fs below (subst (λ x. value_of x vs ≡ Some v) c m))
-  peaked_case k pos d {v = v} {vs = vs} {inner = inner} is e m present on (leads_counted {t = t} {len = len} f) =
+      peaked_by k pos d is e present (λ t. absurd (let at_table : is_behind table_here ≡ true = subst (λ x. is_behind x ≡ true) t b in cc)) (on _ (ap parts_of c))
+      (λ below. follow k d fs below (subst (λ x. value_of x vs ≡ Some v) c m))
+  peaked_case shared_here pos d {v = v} {vs = vs} {inner = inner} is e m present on (leads_counted {t = t} {len = len} f) =
       let c = ap (content_of node_names bytes) is ∙ f in
-      peaked_by k pos d is e present (on (record { place = text_behind len; pos = t } ∷ []) (ap parts_of c)) (λ below. counted_made t len d below (subst (λ x. value_of x vs ≡ Some v) c m))
+      peaked_by shared_here pos d is e present (λ t. absurd (cc)) (on (record { place = text_behind len; pos = t } ∷ []) (ap parts_of c)) (λ below. counted_made t len d below (subst (λ x. value_of x vs ≡ Some v) c m))
 
   mutual
     -- the walk of a place goes as deep as its value is high, and its maps are sound where the value's are

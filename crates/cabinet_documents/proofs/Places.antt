@@ -1,29 +1,34 @@
 -- The parts that a node leads to, and what each says.
-use Rattle.std.proofs.Common.{◌≡◌, ℕ, ℤ, zero, suc, ◌+◌, ◌*◌, ◌^◌, ◌<◌, ◌≤◌, Bool, true, false, nat_lt, nat_le, ◌&&◌, ◌==◌, List, [], ◌∷◌, ◌++◌, drop, slice_index, Option, Some, None, refl, ap, ap₂, ◌∙◌, arith, w64, FitsSigned, inl, inr}
+use Rattle.std.proofs.Common.{◌≡◌, ℕ, ℤ, zero, suc, ◌+◌, ◌-◌, ◌*◌, ◌^◌, ◌<◌, ◌≤◌, Bool, true, false, cond, nat_lt, nat_le, ◌&&◌, ◌==◌, List, [], ◌∷◌, ◌++◌, take, drop, length, slice_index, Option, Some, None, refl, sym, ap, ap₂, ◌∙◌, arith, eqb-true, w64, FitsSigned, inl, inr}
+use Rattle.std.specs.List.{count_by}
+use Rattle.std.proofs.lemmas.List.Sums.{sum_by-cons}
 use Rattle.std.proofs.lemmas.Bool.{lt-ltb, le-ltb, leb-true}
 use Rattle.std.proofs.lemmas.Bool.Decides.{leb_tells}
 use Rattle.std.specs.Int.{from_le_bytes, cast_signed}
 use Rattle.archive_forms_values.specs.ShapeLayout.Bytes.{window, align_up, word_at, target_from}
 use Rattle.archive_forms_values.specs.ShapeLayout.Shape.{align_of}
-use Rattle.archive_forms_values.specs.ShapeLayout.Shape.Shape.{number, truth, text, option, choice, box, vector, shared, tree}
+use Rattle.archive_forms_values.specs.ShapeLayout.Shape.Shape.{number, truth, text, option, choice, box, vector, shared, tree, table}
 use Rattle.archive_forms_values.specs.ShapeLayout.Shape.Pointee.{sized, slice, str}
 use Rattle.archive_forms_values.specs.ShapeLayout.Value.Value.{integer, boolean}
-use Rattle.archive_forms_values.specs.ShapeLayout.Content.{Part, Label, Content, content_of, choose, option_content, shape_tagged, shape_content, pointee_content, text_content, text_length, shared_content, following, begins_inline, before_ff, elements, number_value, children, entries, keys_offset, values_offset, links_offset, node_content, child_content, node_span, words_of}
-use Rattle.archive_forms_values.specs.ShapeLayout.Content.Part.{at, behind, node, child, entry}
+use Rattle.archive_forms_values.specs.ShapeLayout.Content.{Part, Label, Content, content_of, choose, option_content, shape_tagged, shape_content, pointee_content, text_content, text_length, shared_content, following, begins_inline, before_ff, elements, number_value, children, entries, keys_offset, values_offset, links_offset, node_content, child_content, node_span, words_of, item, tagged_items, table_parts, control_count, wraps, buckets_span, buckets_content, fields}
+use Rattle.archive_forms_values.specs.ShapeLayout.Content.Part.{at, behind, node, child, entry, buckets}
 use Rattle.archive_forms_values.specs.ShapeLayout.Content.Label.{leaf, written, same, whole, tagged, woven, total}
 use Rattle.archive_forms_values.specs.ShapeLayout.Content.Content.{illegal, plain, claimed, counting}
 use Rattle.archive_forms_values.specs.ShapeCanonical.Canonical.{AreBytes}
 use Rattle.archive_forms_values.proofs.ArchiveShape.Words.{word_bound}
 use Rattle.archive_forms_values.proofs.ShapeLayout.Windows.{word_within}
-use Rattle.cabinet_documents.specs.Node.{node_shape, node_names, payloads, absent}
+use Rattle.cabinet_documents.specs.Node.{node_shape, pair_shape, node_names, payloads, absent}
+use Rattle.cabinet_documents.specs.Table.{full_from}
 
 -- ---- places
 
 pub data Place : Type 0 where
-  node_here payload_here truth_here number_here text_here shared_here option_here box_here list_here ordered_here absent_here : Place
+  node_here payload_here truth_here number_here text_here shared_here option_here box_here list_here ordered_here table_here pair_here absent_here : Place
   -- of a search tree: a node and a pointer to a child, each at a level, and the value of an entry whose key is at a
   -- position
   tree_node tree_child entry_here : ℕ → Place
+  -- of a hashed map: the buckets below a position, with so many items in so many places
+  buckets_here : ℕ → ℕ → ℕ → Place
   -- what pointers lead to: a node, `n` nodes, or a text of `n` bytes
   node_behind : Place
   nodes_behind text_behind : ℕ → Place
@@ -43,9 +48,12 @@ part_of option_here pos = at pos (option (box (sized node_shape)))
 part_of box_here pos = at pos (box (sized node_shape))
 part_of list_here pos = at pos (vector node_shape)
 part_of ordered_here pos = at pos (tree 5 text node_shape)
+part_of table_here pos = at pos (table pair_shape)
+part_of pair_here pos = at pos pair_shape
 part_of (tree_node level) pos = node level 5 text node_shape pos
 part_of (tree_child level) pos = child level 5 text node_shape pos
 part_of (entry_here key) pos = entry text key node_shape pos
+part_of (buckets_here target len cap) pos = buckets target len cap (item pair_shape)
 part_of absent_here pos = at pos absent
 part_of node_behind pos = behind pos (sized node_shape) 1
 part_of (nodes_behind len) pos = behind pos (slice node_shape) len
@@ -83,6 +91,29 @@ unfolding children
 children_are zero level pos = refl
 children_are (suc n) level pos = ap (λ ps. child level 5 text node_shape pos ∷ ps) (children_are n level (pos + 4))
 
+-- the pairs of the places whose controls are tags, where the first control is at place i
+abbrev pub items_from : ℕ → ℕ → List ℕ → List Spot
+items_from target i [] = []
+items_from target i (c ∷ cs) = cond (nat_lt c 128) (record { place = pair_here; pos = target - (i + 1) * 32 } ∷ items_from target (i + 1) cs) (items_from target (i + 1) cs)
+
+one_more_item : (b : Bool) (pos : ℕ) (ps : List Part) (qs : List Spot) → ps ≡ parts_at qs → cond b (at pos pair_shape ∷ ps) ps ≡ parts_at (cond b (record { place = pair_here; pos = pos } ∷ qs) qs)
+one_more_item true pos ps qs e = ap (λ xs. at pos pair_shape ∷ xs) e
+one_more_item false pos ps qs e = e
+
+items_are : (target i : ℕ) (cs : List ℕ) → tagged_items target (item pair_shape) i cs ≡ parts_at (items_from target i cs)
+unfolding tagged_items align_up
+items_are target i [] = refl
+items_are target i (c ∷ cs) = one_more_item (nat_lt c 128) (target - (i + 1) * 32) _ _ (items_are target (i + 1) cs)
+
+one_more_full : (b : Bool) (i n : ℕ) (ps : List ℕ) → length ps ≡ n → length (cond b (i ∷ ps) ps) ≡ cond b 1 0 + n
+one_more_full true i n ps e = omega (arith, e)
+one_more_full false i n ps e = omega (arith, e)
+
+-- there are as many full places as controls that are tags
+pub full_count : (i : ℕ) (cs : List ℕ) → length (full_from i cs) ≡ count_by (λ c. nat_lt c 128) cs
+full_count i [] = refl
+full_count i (c ∷ cs) = one_more_full (nat_lt c 128) i (count_by (λ x. nat_lt x 128) cs) (full_from (i + 1) cs) (full_count (i + 1) cs) ∙ sym (sum_by-cons (λ x. cond (nat_lt x 128) 1 0) c cs)
+
 parts_append : (xs ys : List Spot) → parts_at xs ++ parts_at ys ≡ parts_at (xs ++ ys)
 parts_append [] ys = refl
 parts_append (x ∷ xs) ys = ap (λ ps. part_of x.place x.pos ∷ ps) (parts_append xs ys)
@@ -97,12 +128,14 @@ pub data Passes (bytes : List ℕ) : Place → Place → Type 0 where
   list_passes : {len : ℕ} → (AreBytes bytes → len < 2 ^ 64) → Passes bytes list_here (nodes_behind len)
   text_passes : {len : ℕ} → Passes bytes text_here (text_behind len)
   child_passes : {level : ℕ} → Passes bytes (tree_child level) (tree_node level)
+  table_passes : {target len cap : ℕ} → (AreBytes bytes → len < 2 ^ 64) → Passes bytes table_here (buckets_here target len cap)
 
--- a tag's node is a container where its payload is an option, a list or an ordered map
+-- a tag's node is a container where its payload is an option, a list, an ordered or a hashed map
 abbrev pub lifts : ℕ → ℕ
 lifts (suc (suc (suc (suc zero)))) = 1
 lifts (suc (suc (suc (suc (suc zero))))) = 1
 lifts (suc (suc (suc (suc (suc (suc zero)))))) = 1
+lifts (suc (suc (suc (suc (suc (suc (suc zero))))))) = 1
 lifts n = 0
 
 -- a tag and its payload
@@ -114,6 +147,7 @@ pub data Pays : ℕ → Place → Type 0 where
   pays_option : Pays 4 option_here
   pays_list : Pays 5 list_here
   pays_ordered : Pays 6 ordered_here
+  pays_hashed : Pays 7 table_here
   pays_absent : {tag : ℕ} → lifts tag ≡ 0 → Pays tag absent_here
 
 -- how the value at a place is made, of the values at others
@@ -135,12 +169,17 @@ pub data Follows (bytes : List ℕ) : Place → Label → List Spot → Type 0 w
   inner_follows : {l : Label} {qs : List Spot} {level : ℕ} (most deeper link key value : ℕ) → level ≤ 32 → deeper ≡ level + 1 → l ≡ woven (suc most) → qs ≡ children_from (suc most) deeper link ++ entries_from most key value → Follows bytes (tree_node level) l qs
   no_child_is : {l : Label} {qs : List Spot} {level : ℕ} → l ≡ whole → qs ≡ [] → Follows bytes (tree_child level) l qs
   entry_follows : {l : Label} {qs : List Spot} {key value : ℕ} → l ≡ whole → qs ≡ record { place = text_here; pos = key } ∷ (record { place = node_here; pos = value } ∷ []) → Follows bytes (entry_here key) l qs
+  no_items_is : {l : Label} {qs : List Spot} → l ≡ whole → qs ≡ [] → Follows bytes table_here l qs
+  -- of the controls of all places
+  items_follow : {l : Label} {qs : List Spot} {target len cap : ℕ} (controls : List ℕ) → controls ≡ take cap (window bytes target (control_count cap)) → length (full_from 0 controls) ≡ len → l ≡ whole → qs ≡ items_from target 0 controls → Follows bytes (buckets_here target len cap) l qs
+  pair_follows : {l : Label} {qs : List Spot} (key value : ℕ) → l ≡ whole → qs ≡ record { place = text_here; pos = key } ∷ (record { place = node_here; pos = value } ∷ []) → Follows bytes pair_here l qs
 
 abbrev pub is_behind : Place → Bool
 is_behind node_behind = true
 is_behind (nodes_behind len) = true
 is_behind (text_behind len) = true
 is_behind (tree_node level) = true
+is_behind (buckets_here target len cap) = true
 is_behind k = false
 
 pub data Leads (bytes : List ℕ) : Place → Content → Type 0 where
@@ -169,7 +208,7 @@ module _ (bytes : List ℕ) where
   payload_led pos (suc (suc (suc (suc zero)))) = leads_plain refl (pays pays_option refl refl)
   payload_led pos (suc (suc (suc (suc (suc zero))))) = leads_plain refl (pays pays_list refl refl)
   payload_led pos (suc (suc (suc (suc (suc (suc zero)))))) = leads_plain refl (pays pays_ordered refl refl)
-  payload_led pos (suc (suc (suc (suc (suc (suc (suc zero))))))) = leads_plain refl (pays (pays_absent {tag = 7} refl) refl refl)
+  payload_led pos (suc (suc (suc (suc (suc (suc (suc zero))))))) = leads_plain refl (pays pays_hashed refl refl)
   payload_led pos (suc (suc (suc (suc (suc (suc (suc (suc zero)))))))) = leads_plain refl (pays (pays_absent {tag = 8} refl) refl refl)
   payload_led pos (suc (suc (suc (suc (suc (suc (suc (suc (suc n))))))))) = leads_nowhere refl
 
@@ -251,15 +290,34 @@ module _ (bytes : List ℕ) where
   child_led level (Some t) false true = leads_plain {qs = record { place = tree_node level; pos = t } ∷ []} refl (passes child_passes refl refl)
   child_led level o false false = leads_nowhere refl
 
-  length_small : (pos : ℕ) → AreBytes bytes → word_at (window bytes pos 8) 4 < 2 ^ 64
-  length_small pos small =
-      let e = word_within bytes pos 8 4 (omega arith) in
+  table_led : (o : Option ℕ) (len cap : ℕ) (none fewer : Bool) → (AreBytes bytes → len < 2 ^ 64)
+      → Leads bytes table_here (choose none (plain whole []) (choose fewer (following o (λ t. plain same (buckets t len cap (item pair_shape) ∷ []))) illegal))
+  unfolding choose following
+  table_led o len cap true fewer small = leads_plain {qs = []} refl (no_items_is refl refl)
+  table_led None len cap false true small = leads_nowhere refl
+  table_led (Some t) len cap false true small = leads_plain {qs = record { place = buckets_here t len cap; pos = t } ∷ []} refl (passes (table_passes small) refl refl)
+  table_led o len cap false false small = leads_nowhere refl
+
+  buckets_led : (target len cap : ℕ) (room wrapped counted : Bool) → (count_by (λ c. nat_lt c 128) (take cap (window bytes target (control_count cap))) == len) ≡ counted
+      → Leads bytes (buckets_here target len cap)
+      (choose (room && (wrapped && counted)) (claimed (buckets_span target cap (item pair_shape)) whole (tagged_items target (item pair_shape) 0 (take cap (window bytes target (control_count cap))))) illegal)
+  unfolding choose
+  buckets_led target len cap true true true e =
+      let controls = take cap (window bytes target (control_count cap)) in
+      leads_claimed {qs = items_from target 0 controls} (ap (claimed (buckets_span target cap (item pair_shape)) whole) (items_are target 0 controls)) (items_follow controls refl (full_count 0 controls ∙ eqb-true _ _ e) refl refl) refl
+  buckets_led target len cap true true false e = leads_nowhere refl
+  buckets_led target len cap true false counted e = leads_nowhere refl
+  buckets_led target len cap false wrapped counted e = leads_nowhere refl
+
+  length_small : (pos size : ℕ) → 8 ≤ size → AreBytes bytes → word_at (window bytes pos size) 4 < 2 ^ 64
+  length_small pos size long small =
+      let e = word_within bytes pos size 4 (omega (arith, long)) in
       let b = word_bound bytes (pos + 4) (λ i. omega (arith, small i)) in
       omega (arith, e, b)
 
   -- what a place says
   pub led : (k : Place) (pos : ℕ) → Leads bytes k (content_of node_names bytes (part_of k pos))
-  unfolding shape_content pointee_content text_content shared_content number_value child_content choose align_up
+  unfolding shape_content pointee_content text_content shared_content number_value child_content table_parts buckets_content fields choose align_up
   led node_here pos = leads_plain {qs = record { place = payload_here; pos = pos } ∷ []} refl (passes node_passes refl refl)
   led payload_here pos = payload_led pos (slice_index (window bytes pos 24) 0)
   led truth_here pos = truth_led (slice_index (window bytes pos 1) 0) (nat_lt (slice_index (window bytes pos 1) 0) 2)
@@ -269,11 +327,18 @@ module _ (bytes : List ℕ) where
   led shared_here pos = shared_led (target_from pos (word_at (window bytes pos 8) 0)) (word_at (window bytes pos 8) 4)
   led option_here pos = option_led (pos + 4) (slice_index (window bytes pos 8) 0 == 0) (slice_index (window bytes pos 8) 0 == 1)
   led box_here pos = box_led (target_from pos (word_at (window bytes pos 4) 0))
-  led list_here pos = list_led (target_from pos (word_at (window bytes pos 8) 0)) (word_at (window bytes pos 8) 4) (length_small pos)
-  led ordered_here pos = ordered_led (target_from pos (word_at (window bytes pos 8) 0)) (word_at (window bytes pos 8) 4) (word_at (window bytes pos 8) 4 == 0) (length_small pos)
+  led list_here pos = list_led (target_from pos (word_at (window bytes pos 8) 0)) (word_at (window bytes pos 8) 4) (length_small pos 8 (omega arith))
+  led ordered_here pos = ordered_led (target_from pos (word_at (window bytes pos 8) 0)) (word_at (window bytes pos 8) 4) (word_at (window bytes pos 8) 4 == 0) (length_small pos 8 (omega arith))
   led (tree_node level) pos = node_led level pos (slice_index (drop pos bytes) 0) (window bytes pos (node_span (words_of (slice_index (drop pos bytes) 0) 5) 5 text node_shape pos).size)
   led (tree_child level) pos = child_led level (target_from pos (word_at (window bytes pos 4) 0)) (word_at (window bytes pos 4) 0 == 1) (nat_le level 32)
   led (entry_here key) pos = leads_plain {qs = record { place = text_here; pos = key } ∷ (record { place = node_here; pos = pos } ∷ [])} refl (entry_follows refl refl)
+  led table_here pos =
+      let own = window bytes pos 12 in
+      table_led (target_from pos (word_at own 0)) (word_at own 4) (word_at own 8) (word_at own 4 == 0) (nat_lt (word_at own 4) (word_at own 8)) (length_small pos 12 (omega arith))
+  led (buckets_here target len cap) pos =
+      let controls = window bytes target (control_count cap) in
+      buckets_led target len cap (nat_le (cap * 32) target) (wraps cap controls 0 controls) (count_by (λ c. nat_lt c 128) (take cap controls) == len) refl
+  led pair_here pos = leads_plain {qs = record { place = text_here; pos = pos + 0 } ∷ (record { place = node_here; pos = pos + 8 } ∷ [])} refl (pair_follows (pos + 0) (pos + 8) refl refl)
   led absent_here pos = leads_absent
   led node_behind pos = leads_claimed {qs = record { place = node_here; pos = pos } ∷ []} refl (passes behind_passes refl refl) refl
   led (nodes_behind len) pos = leads_claimed {qs = nodes_from pos len} (ap (claimed (record { start = pos; size = len * 24; align = 8 }) whole) (nodes_are pos len)) (nodes_follow pos refl refl) refl

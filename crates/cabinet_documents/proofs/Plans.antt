@@ -1,31 +1,38 @@
 -- The plans that values of documents have: what their own bytes lead to.
 use Rattle.std.proofs.Common.{◌≡◌, ℕ, suc, ◌+◌, ◌*◌, ◌<◌, ◌≤◌, true, false, List, [], ◌∷◌, length, Some, refl, sym, ap, ap₂, subst, ◌∙◌, arith, ⊎_elim}
 use Rattle.std.specs.Int.{w64}
+use Rattle.std.specs.List.{AllByRecursion}
 use Rattle.std.proofs.lemmas.Bool.{cases_lt}
 use Rattle.std.proofs.lemmas.List.{nil_from_length}
 use Rattle.archive_forms_values.specs.ShapeLayout.Bytes.{align_up}
 use Rattle.archive_forms_values.specs.ShapeLayout.Shape.{Shape, size_of, align_of}
-use Rattle.archive_forms_values.specs.ShapeLayout.Shape.Shape.{number, truth, text, option, choice, vector, tree, shared as shared_shape}
+use Rattle.archive_forms_values.specs.ShapeLayout.Shape.Shape.{number, truth, text, option, choice, vector, tree, table, shared as shared_shape}
 use Rattle.archive_forms_values.specs.ShapeLayout.Shape.Pointee.{str}
 use Rattle.archive_forms_values.specs.ShapeLayout.Value.{Value, Values, count_values}
 use Rattle.archive_forms_values.specs.ShapeLayout.Value.Value.{integer, boolean, string, group, chosen, counted}
 use Rattle.archive_forms_values.specs.ShapeLayout.Value.Values.{no_values, more_values}
-use Rattle.archive_forms_values.specs.ShapeLayout.Content.{shape_tagged, elements}
+use Rattle.archive_forms_values.specs.ShapeLayout.Content.{shape_tagged, fields, elements}
 use Rattle.archive_forms_values.specs.ShapeLayout.Content.Part.{at}
 use Rattle.archive_forms_values.specs.ShapeCanonical.Packed.{levels_for}
 use Rattle.archive_forms_values.specs.ShapeCanonical.Settled.{Fit}
 use Rattle.archive_forms_values.specs.ShapeCanonical.Sharing.{erased, all_erased}
-use Rattle.archive_forms_values.specs.ShapeCanonical.Plan.{Plan, flat, parts, leads, leads_to_text, counts, Target, Plans, no_plans, more_plans, whole_target, truth_is_flat, number_is_flat, HasPlan, plan_flat, plan_inline, plan_text, plan_none, plan_some, plan_choice, plan_box, plan_vector, plan_shared, plan_no_tree, plan_tree, plan_named, plan_sized, plan_slice, plan_str, HavePlans, plans_none, plans_at}
+use Rattle.archive_forms_values.specs.ShapeCanonical.Plan.{Plan, flat, parts, leads, leads_to_text, counts, Target, Plans, no_plans, more_plans, whole_target, truth_is_flat, number_is_flat, HasPlan, plan_flat, plan_inline, plan_text, plan_tuple, plan_none, plan_some, plan_choice, plan_box, plan_vector, plan_shared, plan_no_tree, plan_tree, plan_no_table, plan_table, plan_named, plan_sized, plan_slice, plan_str, HavePlans, plans_none, plans_at}
+use Rattle.archive_forms_values.specs.FormsLaws.Views.{listed as listed_in}
 use Rattle.archive_btree_spelling.proofs.Parting.{EachIs}
-use Rattle.archive_btree_spelling.proofs.Planned.{listed, count_same, TreePlan, tree_planned, IsPlanned, tree_has_plan}
-use Rattle.cabinet_text_grammar.specs.Keys.{ordered, hashed, kept}
+use Rattle.archive_btree_spelling.proofs.Planned.{pair, listed, count_same, EntryPlan, TreePlan, tree_planned, IsPlanned, tree_has_plan}
+use Rattle.archive_hash_writing.specs.Fitted.{capacity_of, places_of, table_of, controls_of}
+use Rattle.archive_hash_writing.proofs.Placed.{placed_each}
+use Rattle.archive_hash_writing.proofs.Planned.{table_target, count_listed, ItemPlans, IsFilled, table_planned, table_has_plan, IsPlanned as IsItemPlanned}
+use Rattle.cabinet_text_grammar.specs.Keys.{MapKind, ordered, hashed, kept}
 use Rattle.cabinet_text_grammar.specs.Tree as document
-use Rattle.cabinet_text_grammar.specs.Tree.{Tree, Trees, Pairs, leaf, shared, nothing, just, list, map, no_trees, more_trees, no_pairs, more_pairs}
-use Rattle.cabinet_documents.specs.Node.{node_shape, node_names, payloads}
+use Rattle.cabinet_text_grammar.specs.Tree.{Tree, Trees, Pairs, leaf, shared, nothing, just, list, map, no_trees, more_trees, no_pairs, more_pairs, IsLegal, AreLegal, ArePairs}
+use Rattle.cabinet_documents.specs.Node.{node_shape, node_names, pair_shape, payloads}
 use Rattle.cabinet_documents.specs.Denotes.{tagged_value, pair_value}
 use Rattle.cabinet_documents.specs.HasLayout.{HasLayout, HaveLayout, HavePairsLayout}
 use Rattle.cabinet_documents.specs.Spelling.{boxed_shape, pairs_in}
-use Rattle.cabinet_documents.proofs.Values.{value_of, values_of, values_of_pairs}
+use Rattle.cabinet_documents.proofs.FirstFit.{by_first_fit}
+use Rattle.cabinet_documents.proofs.PlacedPairs.{pair_hashes}
+use Rattle.cabinet_documents.proofs.Values.{value_of, values_of, values_of_pairs, entry_value}
 use Rattle.cabinet_documents.proofs.SpellingDenoted.{tagged, simply_tagged, shared_text, grouped, paired}
 
 -- the plan of a text, inline or out of line
@@ -39,16 +46,27 @@ text_plan t = counts str (string t) (length t ∷ []) (whole_target (length t) 1
 abbrev pub box_plan : Plan → Plan
 box_plan p = leads [] (whole_target (size_of node_shape) (align_of node_shape)) p
 
-abbrev pub list_plan : ℕ → Plans → Plan
-list_plan n ps = leads (n ∷ []) (whole_target (n * size_of node_shape) (align_of node_shape)) (parts ps)
+-- of a pointer to so many values, with numbers beside it
+abbrev pub slice_plan : Shape → List ℕ → ℕ → Plans → Plan
+slice_plan s numbers n ps = leads numbers (whole_target (n * size_of s) (align_of s)) (parts ps)
 
 -- of one part at an offset
 abbrev pub one_plan : ℕ → Plan → Plan
 one_plan offset p = parts (more_plans offset p no_plans)
 
--- the value of an entry
-abbrev pub entry_value : List ℕ × Tree → Value
-entry_value x = pair_value x.0 (value_of x.1)
+-- of a key and the node after it, where they lie in a pair
+abbrev pub key_at : ℕ
+key_at = 0 + align_up 0 (align_of text)
+
+abbrev pub node_at : ℕ
+node_at = 0 + align_up (align_up 0 (align_of text) + size_of text) (align_of node_shape)
+
+abbrev pub pair_plan : Plan → Plan → Plan
+pair_plan p q = parts (more_plans key_at p (more_plans node_at q no_plans))
+
+-- the number of places of the table of pairs
+abbrev pub places_for : List (List ℕ × Tree) → ℕ
+places_for xs = capacity_of 7 8 (pair_hashes xs) xs
 
 pub entry_values : (fit : Fit) (ps : Pairs) → values_of_pairs ps ≡ listed fit node_names 5 text node_shape entry_value (pairs_in ps)
 entry_values fit no_pairs = refl
@@ -58,8 +76,9 @@ module _ (fit : Fit) where
   abbrev pub Planned : Shape → Value → Plan → Type 0
   Planned s v p = HasPlan fit node_names s v p
 
-  abbrev pub ArePlanned : ℕ → Values → Plans → Type 0
-  ArePlanned offset vs ps = HavePlans fit node_names (elements offset (count_values vs) node_shape) vs ps
+  -- values side by side from an offset on
+  abbrev pub ArePlanned : Shape → ℕ → Values → Plans → Type 0
+  ArePlanned s offset vs ps = HavePlans fit node_names (elements offset (count_values vs) s) vs ps
 
   -- ---- what plans there are
 
@@ -76,8 +95,8 @@ module _ (fit : Fit) where
 
   pub record ListPlan (vs : Values) (p : Plan) : Type 0 where
     pub inner : Plans
-    pub planned : ArePlanned 0 vs inner
-    pub is : p ≡ list_plan (count_values vs) inner
+    pub planned : ArePlanned node_shape 0 vs inner
+    pub is : p ≡ slice_plan node_shape (count_values vs ∷ []) (count_values vs) inner
 
   one_planned : (offset : ℕ) (s : Shape) (u : Value) (vs : Values) (ps : Plans) → vs ≡ more_values u no_values → HavePlans fit node_names (at offset s ∷ []) vs ps
       → (q : Plan) × Planned s u q × (ps ≡ more_plans offset q no_plans)
@@ -155,8 +174,8 @@ module _ (fit : Fit) where
       let size : n ≡ count_values us = n_is ∙ ap count_values same in
       record {
         inner = ps;
-        planned = subst (λ x. ArePlanned 0 x ps) same (subst (λ k. HavePlans fit node_names (elements 0 k node_shape) vs ps) n_is h);
-        is = ap (λ k. list_plan k ps) size;
+        planned = subst (λ x. ArePlanned node_shape 0 x ps) same (subst (λ k. HavePlans fit node_names (elements 0 k node_shape) vs ps) n_is h);
+        is = ap (λ k. slice_plan node_shape (k ∷ []) k ps) size;
       }
 
   -- the values and the plans of entries
@@ -183,26 +202,70 @@ module _ (fit : Fit) where
       let more : 0 < length xs = omega (arith, size, some) in
       is_rooted more (tree_planned fit node_names 5 text node_shape entry_value (levels_for 5 (length xs)) xs items t q (omega arith) more (omega arith) here h) (ap (λ m. leads (m ∷ []) t q) size)
 
-  -- the first of some elements, and the others
-  pub record FirstPlan (offset : ℕ) (v : Value) (vs : Values) (ps : Plans) : Type 0 where
-    pub first : Plan
-    pub others : Plans
-    pub planned : Planned node_shape v first
-    pub are : ArePlanned (offset + 24) vs others
-    pub is : ps ≡ more_plans offset first others
+  -- of a key and the node after it
+  pub record PairPlan (x : List ℕ × Tree) (p : Plan) : Type 0 where
+    pub key_plan : Plan
+    pub value_plan : Plan
+    pub entry : EntryPlan fit node_names 5 text node_shape entry_value x key_plan value_plan
+    pub is : p ≡ pair_plan key_plan value_plan
 
-  first_of : (offset n : ℕ) (v : Value) (vs : Values) (ps : Plans) → n ≡ suc (count_values vs) → HavePlans fit node_names (elements offset n node_shape) (more_values v vs) ps → FirstPlan offset v vs ps
-  unfolding elements
-  first_of offset n v vs ps e h = taken ps (subst (λ k. HavePlans fit node_names (elements offset k node_shape) (more_values v vs) ps) e h) where
-    taken : (qs : Plans) → HavePlans fit node_names (elements offset (suc (count_values vs)) node_shape) (more_values v vs) qs → FirstPlan offset v vs qs
-    taken qs (plans_at {p = p} {ps = others} here there) = record { first = p; others = others; planned = here; are = there; is = refl }
+  pub pair_planned : (x : List ℕ × Tree) (v : Value) (p : Plan) → erased v ≡ entry_value x → Planned pair_shape v p → PairPlan x p
+  unfolding fields
+  pair_planned x v p same (plan_flat f) = elim f [ ]
+  pair_planned x v p same (plan_tuple (plans_at {v = key} {p = q} f (plans_at {v = value} {p = r} g plans_none))) = record {
+    key_plan = q;
+    value_plan = r;
+    entry = record { key = key; value = value; same = same; key_planned = f; value_planned = g };
+    is = refl;
+  }
 
-  pub first_planned : (offset : ℕ) (v : Value) (vs : Values) (ps : Plans) → ArePlanned offset (more_values v vs) ps → FirstPlan offset v vs ps
-  first_planned offset v vs ps h = first_of offset (count_values (more_values v vs)) v vs ps (omega arith) h
+  -- the fit gives the pairs of a hashed map with these values the places where they are written
+  abbrev pub FillsPairs : List (List ℕ × Tree) → Values → Type 0
+  FillsPairs [] vs = vs ≡ no_values
+  FillsPairs (x ∷ xs) vs =
+      IsFilled fit node_names pair_shape entry_value (table_of 7 8 (pair_hashes (x ∷ xs)) (x ∷ xs)) (controls_of 7 8 (pair_hashes (x ∷ xs)) (x ∷ xs)) (length (x ∷ xs)) (places_for (x ∷ xs)) vs
 
-  pub none_are_planned : (offset : ℕ) (ps : Plans) → ArePlanned offset no_values ps → ps ≡ no_plans
-  unfolding elements
-  none_are_planned offset ps plans_none = refl
+  -- the plan of a hashed map
+  abbrev pub PairsPlan : List (List ℕ × Tree) → Plan → Type 0
+  PairsPlan [] p = p ≡ flat
+  PairsPlan (x ∷ xs) p =
+      (ps : Plans) × ItemPlans fit node_names pair_shape entry_value (places_for (x ∷ xs) * size_of pair_shape) 0 (table_of 7 8 (pair_hashes (x ∷ xs)) (x ∷ xs)) ps
+      × (p ≡ leads (length (x ∷ xs) ∷ (places_for (x ∷ xs) ∷ [])) (table_target pair_shape (places_for (x ∷ xs))) (parts ps))
+
+  no_pairs_planned : (us : Values) (v : Value) (p : Plan) → v ≡ group us → all_erased us ≡ no_values → Planned (table pair_shape) v p → p ≡ flat
+  no_pairs_planned us v p is none (plan_flat f) = elim f [ ]
+  no_pairs_planned us v p is none plan_no_table = refl
+  no_pairs_planned us v p is none (plan_table {items = items} {n = n} some n_is cap_is keys_are h) =
+      let alike : items ≡ us = cc in
+      let count : count_values items ≡ 0 = sym (count_listed items) ∙ ap (λ z. length (listed_in z)) (ap all_erased alike ∙ none) in
+      absurd (omega (arith, some, n_is, count))
+
+  pub pairs_planned : (xs : List (List ℕ × Tree)) (vs us : Values) (v : Value) (p : Plan) → FillsPairs xs vs → v ≡ group us → all_erased us ≡ vs → Planned (table pair_shape) v p → PairsPlan xs p
+  pairs_planned [] vs us v p fills is same h = no_pairs_planned us v p is (same ∙ fills) h
+  pairs_planned (x ∷ xs) vs us v p fills is same h =
+      table_planned fit node_names pair_shape entry_value (table_of 7 8 (pair_hashes (x ∷ xs)) (x ∷ xs)) (controls_of 7 8 (pair_hashes (x ∷ xs)) (x ∷ xs)) (length (x ∷ xs)) (places_for (x ∷ xs)) vs fills us v p is same h
+
+  module _ (s : Shape) where
+    -- the first of some elements, and the others
+    pub record FirstPlan (offset : ℕ) (v : Value) (vs : Values) (ps : Plans) : Type 0 where
+      pub first : Plan
+      pub others : Plans
+      pub planned : Planned s v first
+      pub are : ArePlanned s (offset + size_of s) vs others
+      pub is : ps ≡ more_plans offset first others
+
+    first_of : (offset n : ℕ) (v : Value) (vs : Values) (ps : Plans) → n ≡ suc (count_values vs) → HavePlans fit node_names (elements offset n s) (more_values v vs) ps → FirstPlan offset v vs ps
+    unfolding elements
+    first_of offset n v vs ps e h = taken ps (subst (λ k. HavePlans fit node_names (elements offset k s) (more_values v vs) ps) e h) where
+      taken : (qs : Plans) → HavePlans fit node_names (elements offset (suc (count_values vs)) s) (more_values v vs) qs → FirstPlan offset v vs qs
+      taken qs (plans_at {p = p} {ps = others} here there) = record { first = p; others = others; planned = here; are = there; is = refl }
+
+    pub first_planned : (offset : ℕ) (v : Value) (vs : Values) (ps : Plans) → ArePlanned s offset (more_values v vs) ps → FirstPlan offset v vs ps
+    first_planned offset v vs ps h = first_of offset (count_values (more_values v vs)) v vs ps (omega arith) h
+
+    pub none_are_planned : (offset : ℕ) (ps : Plans) → ArePlanned s offset no_values ps → ps ≡ no_plans
+    unfolding elements
+    none_are_planned offset ps plans_none = refl
 
   -- ---- that there are plans
 
@@ -225,58 +288,89 @@ module _ (fit : Fit) where
       let p = tree_has_plan fit node_names 5 text node_shape entry_value (levels_for 5 (length (x ∷ xs))) (x ∷ xs) us (omega arith) (omega arith) (omega arith) each same in
       plan_node 6 (tree 5 text node_shape) (group us) v (leads (count_values us ∷ []) p.0 p.1) is refl (plan_tree some refl p.2)
 
-  mutual
-    unfolding elements
+  pair_has_plan : (x : List ℕ × Tree) → IsPlanned fit node_names 5 text node_shape entry_value x → IsItemPlanned fit node_names pair_shape entry_value x
+  unfolding fields
+  pair_has_plan x each v same =
+      let h = each v same in
+      let p = pair_plan h.key_plan h.value_plan in
+      let made : Planned pair_shape (pair fit node_names 5 text node_shape entry_value h.key h.value) p = plan_tuple (plans_at h.key_planned (plans_at h.value_planned plans_none)) in
+      (p, subst (λ z. Planned pair_shape z p) (sym h.is) made)
 
-    pub has_plan : (t : Tree) (v : Value) → HasLayout t → erased v ≡ value_of t → (p : Plan) × Planned node_shape v p
-    has_plan (leaf (document.truth b)) v h e = let x = tagged 0 (boolean b) v e in plan_node 0 truth x.inner v flat x.is refl (plan_flat truth_is_flat)
-    has_plan (leaf (document.number n)) v h e = let x = tagged 1 (integer n) v e in plan_node 1 (number w64 true) x.inner v flat x.is refl (plan_flat number_is_flat)
-    has_plan (leaf (document.text t)) v h e =
-        let p = text_has_plan t in
-        plan_node 2 text (string t) v p.0 (simply_tagged 2 (string t) v tt e) refl p.1
-    has_plan (shared t) v h e =
-        let x = tagged 3 (counted 0 (string t)) v e in
-        let y = shared_text t x.inner x.same in
-        plan_node 3 (shared_shape false str) (counted y.pos (string t)) v (text_plan t) (x.is ∙ ap (tagged_value 3) y.is) refl (plan_shared (plan_str refl) refl)
-    has_plan nothing v h e = plan_node 4 (option boxed_shape) (chosen 0 no_values) v flat (simply_tagged 4 (chosen 0 no_values) v tt e) refl plan_none
-    has_plan (just t) v h e =
-        let x = tagged 4 (tagged_value 1 (value_of t)) v e in
-        let y = tagged 1 (value_of t) x.inner x.same in
-        let p = has_plan t y.inner h y.same in
-        plan_node 4 (option boxed_shape) (tagged_value 1 y.inner) v (one_plan (align_up 1 (align_of boxed_shape)) (box_plan p.0)) (x.is ∙ ap (tagged_value 4) y.is) refl
-        (plan_some (plans_at (plan_box (plan_sized p.1)) plans_none))
-    has_plan (list ts) v h e =
-        let x = tagged 5 (group (values_of ts)) v e in
-        let y = grouped (values_of ts) x.inner x.same in
-        let ps = have_plans ts y.inner 0 h y.same in
-        plan_node 5 (vector node_shape) (group y.inner) v (list_plan (count_values y.inner) ps.0) (x.is ∙ ap (tagged_value 5) y.is) refl (plan_vector (plan_slice refl ps.1))
-    has_plan (map ordered ps) v h e =
-        let x = tagged 6 (group (values_of_pairs ps)) v e in
-        let y = grouped (values_of_pairs ps) x.inner x.same in
-        map_has_plan (pairs_in ps) y.inner v (x.is ∙ ap (tagged_value 6) y.is) (y.same ∙ entry_values fit ps) (pairs_have_plans ps h)
-    has_plan (map hashed ps) v h e = absurd h
-    has_plan (map kept ps) v h e = absurd h
+  pairs_have_plan : (xs : List (List ℕ × Tree)) → EachIs (IsPlanned fit node_names 5 text node_shape entry_value) xs → AllByRecursion (IsItemPlanned fit node_names pair_shape entry_value) xs
+  pairs_have_plan [] each = tt
+  pairs_have_plan (x ∷ xs) each = (pair_has_plan x each.0, pairs_have_plan xs each.1)
 
-    pairs_have_plans : (ps : Pairs) → HavePairsLayout ps → EachIs (IsPlanned fit node_names 5 text node_shape entry_value) (pairs_in ps)
-    pairs_have_plans no_pairs h = tt
-    pairs_have_plans (more_pairs k t ps) h = (
-      λ e same.
-          let x = paired k (value_of t) e same in
-          let p = text_has_plan k in
-          let q = has_plan t x.inner h.0 x.same in
-          record { key = string k; value = x.inner; key_plan = p.0; value_plan = q.0; is = x.is; key_planned = p.1; value_planned = q.1 },
-      pairs_have_plans ps h.1,
-    )
+  hashed_has_plan : (xs : List (List ℕ × Tree)) (vs us : Values) (v : Value) → v ≡ tagged_value 7 (group us) → all_erased us ≡ vs → FillsPairs xs vs
+      → EachIs (IsPlanned fit node_names 5 text node_shape entry_value) xs → (p : Plan) × Planned node_shape v p
+  hashed_has_plan [] vs no_values v is same fills each = plan_node 7 (table pair_shape) (group no_values) v flat is refl plan_no_table
+  hashed_has_plan [] vs (more_values u us) v is same fills each = let none : more_values (erased u) (all_erased us) ≡ no_values = same ∙ fills in absurd cc
+  hashed_has_plan (x ∷ xs) vs us v is same fills each =
+      let qs = places_of 7 8 (pair_hashes (x ∷ xs)) (x ∷ xs) in
+      let all = placed_each (IsItemPlanned fit node_names pair_shape entry_value) (places_for (x ∷ xs)) qs (x ∷ xs) (pairs_have_plan (x ∷ xs) each) in
+      let p = table_has_plan fit node_names pair_shape entry_value (table_of 7 8 (pair_hashes (x ∷ xs)) (x ∷ xs)) (controls_of 7 8 (pair_hashes (x ∷ xs)) (x ∷ xs)) (length (x ∷ xs)) (places_for (x ∷ xs)) vs fills us same all in
+      plan_node 7 (table pair_shape) (group us) v p.0 is refl p.1
 
-    have_plans : (ts : Trees) (vs : Values) (offset : ℕ) → HaveLayout ts → all_erased vs ≡ values_of ts → (ps : Plans) × ArePlanned offset vs ps
-    have_plans no_trees no_values offset h e = (no_plans, plans_none)
-    have_plans no_trees (more_values v vs) offset h e = absurd cc
-    have_plans (more_trees t ts) no_values offset h e = absurd cc
-    have_plans (more_trees t ts) (more_values v vs) offset h e =
-        let first : erased v ≡ value_of t = cc in
-        let rest : all_erased vs ≡ values_of ts = cc in
-        let p = has_plan t v h.0 first in
-        let ps = have_plans ts vs (offset + 24) h.1 rest in
-        let count : suc (count_values vs) ≡ count_values (more_values v vs) = omega arith in
-        let all : HavePlans fit node_names (elements offset (suc (count_values vs)) node_shape) (more_values v vs) (more_plans offset p.0 ps.0) = plans_at p.1 ps.1 in
-        (more_plans offset p.0 ps.0, subst (λ n. HavePlans fit node_names (elements offset n node_shape) (more_values v vs) (more_plans offset p.0 ps.0)) count all)
+  -- of each hashed map whose keys ascend
+  abbrev pub FillsMaps : Type 0
+  FillsMaps = (ps : Pairs) → ArePairs hashed [] ps → FillsPairs (pairs_in ps) (by_first_fit (values_of_pairs ps))
+
+  module _ (fills : FillsMaps) where
+    mutual
+      unfolding elements
+
+      pub has_plan : (t : Tree) (v : Value) → HasLayout t → IsLegal t → erased v ≡ value_of t → (p : Plan) × Planned node_shape v p
+      has_plan (leaf (document.truth b)) v h legal e = let x = tagged 0 (boolean b) v e in plan_node 0 truth x.inner v flat x.is refl (plan_flat truth_is_flat)
+      has_plan (leaf (document.number n)) v h legal e = let x = tagged 1 (integer n) v e in plan_node 1 (number w64 true) x.inner v flat x.is refl (plan_flat number_is_flat)
+      has_plan (leaf (document.text t)) v h legal e =
+          let p = text_has_plan t in
+          plan_node 2 text (string t) v p.0 (simply_tagged 2 (string t) v tt e) refl p.1
+      has_plan (shared t) v h legal e =
+          let x = tagged 3 (counted 0 (string t)) v e in
+          let y = shared_text t x.inner x.same in
+          plan_node 3 (shared_shape false str) (counted y.pos (string t)) v (text_plan t) (x.is ∙ ap (tagged_value 3) y.is) refl (plan_shared (plan_str refl) refl)
+      has_plan nothing v h legal e = plan_node 4 (option boxed_shape) (chosen 0 no_values) v flat (simply_tagged 4 (chosen 0 no_values) v tt e) refl plan_none
+      has_plan (just t) v h legal e =
+          let x = tagged 4 (tagged_value 1 (value_of t)) v e in
+          let y = tagged 1 (value_of t) x.inner x.same in
+          let p = has_plan t y.inner h legal y.same in
+          plan_node 4 (option boxed_shape) (tagged_value 1 y.inner) v (one_plan (align_up 1 (align_of boxed_shape)) (box_plan p.0)) (x.is ∙ ap (tagged_value 4) y.is) refl
+          (plan_some (plans_at (plan_box (plan_sized p.1)) plans_none))
+      has_plan (list ts) v h legal e =
+          let x = tagged 5 (group (values_of ts)) v e in
+          let y = grouped (values_of ts) x.inner x.same in
+          let ps = have_plans ts y.inner 0 h legal.0 y.same in
+          plan_node 5 (vector node_shape) (group y.inner) v (slice_plan node_shape (count_values y.inner ∷ []) (count_values y.inner) ps.0) (x.is ∙ ap (tagged_value 5) y.is) refl (plan_vector (plan_slice refl ps.1))
+      has_plan (map ordered ps) v h legal e =
+          let x = tagged 6 (group (values_of_pairs ps)) v e in
+          let y = grouped (values_of_pairs ps) x.inner x.same in
+          map_has_plan (pairs_in ps) y.inner v (x.is ∙ ap (tagged_value 6) y.is) (y.same ∙ entry_values fit ps) (pairs_have_plans ordered [] ps h legal.0)
+      has_plan (map hashed ps) v h legal e =
+          let vs = by_first_fit (values_of_pairs ps) in
+          let x = tagged 7 (group vs) v e in
+          let y = grouped vs x.inner x.same in
+          hashed_has_plan (pairs_in ps) vs y.inner v (x.is ∙ ap (tagged_value 7) y.is) y.same (fills ps legal.0) (pairs_have_plans hashed [] ps h legal.0)
+      has_plan (map kept ps) v h legal e = absurd h
+
+      pairs_have_plans : (kind : MapKind) (keys : List (List ℕ)) (ps : Pairs) → HavePairsLayout ps → ArePairs kind keys ps → EachIs (IsPlanned fit node_names 5 text node_shape entry_value) (pairs_in ps)
+      pairs_have_plans kind keys no_pairs h legal = tt
+      pairs_have_plans kind keys (more_pairs k t ps) h legal = (
+        λ e same.
+            let x = paired k (value_of t) e same in
+            let p = text_has_plan k in
+            let q = has_plan t x.inner h.0 legal.1.0 x.same in
+            record { key = string k; value = x.inner; key_plan = p.0; value_plan = q.0; is = x.is; key_planned = p.1; value_planned = q.1 },
+        pairs_have_plans kind (k ∷ keys) ps h.1 legal.1.1,
+      )
+
+      have_plans : (ts : Trees) (vs : Values) (offset : ℕ) → HaveLayout ts → AreLegal ts → all_erased vs ≡ values_of ts → (ps : Plans) × ArePlanned node_shape offset vs ps
+      have_plans no_trees no_values offset h legal e = (no_plans, plans_none)
+      have_plans no_trees (more_values v vs) offset h legal e = absurd cc
+      have_plans (more_trees t ts) no_values offset h legal e = absurd cc
+      have_plans (more_trees t ts) (more_values v vs) offset h legal e =
+          let first : erased v ≡ value_of t = cc in
+          let rest : all_erased vs ≡ values_of ts = cc in
+          let p = has_plan t v h.0 legal.0 first in
+          let ps = have_plans ts vs (offset + 24) h.1 legal.1 rest in
+          let count : suc (count_values vs) ≡ count_values (more_values v vs) = omega arith in
+          let all : HavePlans fit node_names (elements offset (suc (count_values vs)) node_shape) (more_values v vs) (more_plans offset p.0 ps.0) = plans_at p.1 ps.1 in
+          (more_plans offset p.0 ps.0, subst (λ n. HavePlans fit node_names (elements offset n node_shape) (more_values v vs) (more_plans offset p.0 ps.0)) count all)

@@ -1,21 +1,33 @@
 -- A value that is a document's, except for the positions of shared texts, denotes it.
-use Rattle.std.proofs.Common.{◌≡◌, ℕ, List, refl, sym, ap, ap₂, subst, ◌∙◌}
+use Rattle.std.proofs.Common.{◌≡◌, ℕ, List, [], ◌∷◌, length, refl, sym, ap, ap₂, subst, ◌∙◌, arith}
 use Rattle.std.specs.Prelude.{⊤}
-use Rattle.archive_forms_values.specs.ShapeLayout.Value.{Value, Values}
+use Rattle.std.specs.List.{AllByRecursion}
+use Rattle.archive_forms_values.specs.ShapeLayout.Value.{Value, Values, count_values}
 use Rattle.archive_forms_values.specs.ShapeLayout.Value.Value.{natural, integer, boolean, string, group, chosen, counted, back}
 use Rattle.archive_forms_values.specs.ShapeLayout.Value.Values.{no_values, more_values}
+use Rattle.archive_forms_values.specs.ShapeCanonical.FirstFit.{ascending, keys_in, map_capacity, placed_keys}
+use Rattle.archive_forms_values.specs.ShapeCanonical.Hash.{text_hash}
 use Rattle.archive_forms_values.specs.ShapeCanonical.Sharing.{erased, all_erased}
-use Rattle.cabinet_text_grammar.specs.Keys.{ordered, hashed, kept}
+use Rattle.archive_hash_writing.specs.Fitted.{capacity_of, places_of, by_place}
+use Rattle.archive_hash_writing.proofs.Placed.{placed_each}
+use Rattle.cabinet_text_grammar.specs.Keys.{MapKind, ordered, hashed, kept}
 use Rattle.cabinet_text_grammar.specs.Tree as document
-use Rattle.cabinet_text_grammar.specs.Tree.{Tree, Trees, Pairs, leaf, shared, nothing, just, list, map, no_trees, more_trees, no_pairs, more_pairs}
+use Rattle.cabinet_text_grammar.specs.Tree.{Tree, Trees, Pairs, leaf, shared, nothing, just, list, map, no_trees, more_trees, no_pairs, more_pairs, IsLegal, AreLegal, ArePairs}
 use Rattle.cabinet_documents.specs.Denotes.{tagged_value, pair_value, Denotes, DenoteAll, DenotePairs}
-use Rattle.cabinet_documents.specs.Denotes.Denotes.{denotes_truth, denotes_number, denotes_text, denotes_shared, denotes_nothing, denotes_some, denotes_list, denotes_ordered}
+use Rattle.cabinet_documents.specs.Denotes.Denotes.{denotes_truth, denotes_number, denotes_text, denotes_shared, denotes_nothing, denotes_some, denotes_list, denotes_ordered, denotes_hashed}
 use Rattle.cabinet_documents.specs.Denotes.DenoteAll.{denote_none, denote_more}
 use Rattle.cabinet_documents.specs.Denotes.DenotePairs.{denote_no_pairs, denote_pair}
+use Rattle.cabinet_documents.specs.Fitted.{IsFitted, AreFitted, ArePairsFitted, AreFirstFit}
+use Rattle.cabinet_documents.specs.Fitted.IsFitted.{leaf_is_fitted, nothing_is_fitted, some_is_fitted, list_is_fitted, ordered_is_fitted, hashed_is_fitted}
+use Rattle.cabinet_documents.specs.Fitted.AreFitted.{none_are_fitted, more_are_fitted}
+use Rattle.cabinet_documents.specs.Fitted.ArePairsFitted.{no_pairs_are_fitted, more_pairs_are_fitted}
 use Rattle.cabinet_documents.specs.HasLayout.{HasLayout, HaveLayout, HavePairsLayout}
-use Rattle.cabinet_documents.specs.Spelling.{node_value}
+use Rattle.cabinet_documents.specs.Spelling.{node_value, pairs_in}
 use Rattle.cabinet_documents.specs.SpellingLaws.{ValueDenotes}
-use Rattle.cabinet_documents.proofs.Values.{value_of, values_of, values_of_pairs, node_agrees}
+use Rattle.cabinet_documents.proofs.ByKey.{pair_keys}
+use Rattle.cabinet_documents.proofs.FirstFit.{by_first_fit}
+use Rattle.cabinet_documents.proofs.PlacedPairs.{pairs_of, pairs_of_in, pair_hashes, placed_pairs, arranged_placed, first_fit_keys}
+use Rattle.cabinet_documents.proofs.Values.{value_of, values_of, values_of_pairs, first_fit_pairs, node_agrees}
 
 -- ---- what is known of a value from what is left of it without positions
 
@@ -105,72 +117,132 @@ paired k u v e = let p = grouped (more_values (string k) (more_values u no_value
 
 -- ---- what it denotes
 
+-- a value that is a pair's, except for the positions of shared texts, denotes its node
+abbrev IsDenotable : List ℕ × Tree → Type 0
+IsDenotable p = (v : Value) → erased v ≡ value_of p.1 → Denotes v p.1
+
+pairs_denoted : (xs : List (List ℕ × Tree)) (vs : Values) → AllByRecursion IsDenotable xs → all_erased vs ≡ values_of_pairs (pairs_of xs) → DenotePairs vs (pairs_of xs)
+pairs_denoted [] no_values h e = denote_no_pairs refl refl
+pairs_denoted [] (more_values v vs) h e = absurd (cc)
+pairs_denoted (x ∷ xs) no_values h e = absurd (cc)
+pairs_denoted (x ∷ xs) (more_values v vs) h e =
+    let first : erased v ≡ pair_value x.0 (value_of x.1) = cc in
+    let rest : all_erased vs ≡ values_of_pairs (pairs_of xs) = cc in
+    let p = paired x.0 (value_of x.1) v first in
+    denote_pair (ap (λ z. more_values z vs) p.is) refl (h.0 p.inner p.same) (pairs_denoted xs vs h.1 rest)
+
 mutual
-  pub denoted : (t : Tree) (v : Value) → HasLayout t → erased v ≡ value_of t → Denotes v t
-  denoted (leaf (document.truth b)) v h e = denotes_truth (simply_tagged 0 (boolean b) v tt e) refl
-  denoted (leaf (document.number n)) v h e = denotes_number (simply_tagged 1 (integer n) v tt e) refl
-  denoted (leaf (document.text s)) v h e = denotes_text (simply_tagged 2 (string s) v tt e) refl
-  denoted (shared s) v h e =
+  pub denoted : (t : Tree) (v : Value) → HasLayout t → IsLegal t → erased v ≡ value_of t → Denotes v t
+  denoted (leaf (document.truth b)) v h l e = denotes_truth (simply_tagged 0 (boolean b) v tt e) refl
+  denoted (leaf (document.number n)) v h l e = denotes_number (simply_tagged 1 (integer n) v tt e) refl
+  denoted (leaf (document.text s)) v h l e = denotes_text (simply_tagged 2 (string s) v tt e) refl
+  denoted (shared s) v h l e =
       let p = tagged 3 (counted 0 (string s)) v e in
       let x = shared_text s p.inner p.same in
       denotes_shared (p.is ∙ ap (tagged_value 3) x.is) refl
-  denoted nothing v h e = denotes_nothing (simply_tagged 4 (chosen 0 no_values) v tt e) refl
-  denoted (just t) v h e =
+  denoted nothing v h l e = denotes_nothing (simply_tagged 4 (chosen 0 no_values) v tt e) refl
+  denoted (just t) v h l e =
       let p = tagged 4 (tagged_value 1 (value_of t)) v e in
       let x = tagged 1 (value_of t) p.inner p.same in
-      denotes_some (p.is ∙ ap (tagged_value 4) x.is) refl (denoted t x.inner h x.same)
-  denoted (list ts) v h e =
+      denotes_some (p.is ∙ ap (tagged_value 4) x.is) refl (denoted t x.inner h l x.same)
+  denoted (list ts) v h l e =
       let p = tagged 5 (group (values_of ts)) v e in
       let x = grouped (values_of ts) p.inner p.same in
-      denotes_list (p.is ∙ ap (tagged_value 5) x.is) refl (all_denoted ts x.inner h x.same)
-  denoted (map ordered ps) v h e =
+      denotes_list (p.is ∙ ap (tagged_value 5) x.is) refl (all_denoted ts x.inner h l.0 x.same)
+  denoted (map ordered ps) v h l e =
       let p = tagged 6 (group (values_of_pairs ps)) v e in
       let x = grouped (values_of_pairs ps) p.inner p.same in
-      denotes_ordered (p.is ∙ ap (tagged_value 6) x.is) refl (pairs_denoted ps x.inner h x.same)
-  denoted (map hashed ps) v h e = absurd h
-  denoted (map kept ps) v h e = absurd h
+      let each = each_denotable ordered [] ps h l.0 in
+      let same = pairs_of_in ps in
+      denotes_ordered (p.is ∙ ap (tagged_value 6) x.is) (ap (map ordered) (sym same)) (pairs_denoted (pairs_in ps) x.inner each (x.same ∙ ap values_of_pairs (sym same)))
+  denoted (map hashed ps) v h l e =
+      let p = tagged 7 (group (by_first_fit (values_of_pairs ps))) v e in
+      let x = grouped (by_first_fit (values_of_pairs ps)) p.inner p.same in
+      let xs = pairs_in ps in
+      let hashes = pair_hashes xs in
+      let each = placed_each IsDenotable (capacity_of 7 8 hashes xs) (places_of 7 8 hashes xs) xs (each_denotable hashed [] ps h l.0) in
+      denotes_hashed (p.is ∙ ap (tagged_value 7) x.is) (ap (map hashed) (sym (arranged_placed ps l.0))) (pairs_denoted (by_place 7 8 hashes xs) x.inner each (x.same ∙ first_fit_pairs ps))
+  denoted (map kept ps) v h l e = absurd h
 
-  all_denoted : (ts : Trees) (vs : Values) → HaveLayout ts → all_erased vs ≡ values_of ts → DenoteAll vs ts
-  all_denoted no_trees no_values h e = denote_none refl refl
-  all_denoted no_trees (more_values v vs) h e = absurd (cc)
-  all_denoted (more_trees t ts) no_values h e = absurd (cc)
-  all_denoted (more_trees t ts) (more_values v vs) h e =
+  all_denoted : (ts : Trees) (vs : Values) → HaveLayout ts → AreLegal ts → all_erased vs ≡ values_of ts → DenoteAll vs ts
+  all_denoted no_trees no_values h l e = denote_none refl refl
+  all_denoted no_trees (more_values v vs) h l e = absurd (cc)
+  all_denoted (more_trees t ts) no_values h l e = absurd (cc)
+  all_denoted (more_trees t ts) (more_values v vs) h l e =
       let first : erased v ≡ value_of t = cc in
       let rest : all_erased vs ≡ values_of ts = cc in
-      denote_more refl refl (denoted t v h.0 first) (all_denoted ts vs h.1 rest)
+      denote_more refl refl (denoted t v h.0 l.0 first) (all_denoted ts vs h.1 l.1 rest)
 
-  pairs_denoted : (ps : Pairs) (vs : Values) → HavePairsLayout ps → all_erased vs ≡ values_of_pairs ps → DenotePairs vs ps
-  pairs_denoted no_pairs no_values h e = denote_no_pairs refl refl
-  pairs_denoted no_pairs (more_values v vs) h e = absurd (cc)
-  pairs_denoted (more_pairs k t ps) no_values h e = absurd (cc)
-  pairs_denoted (more_pairs k t ps) (more_values v vs) h e =
-      let first : erased v ≡ pair_value k (value_of t) = cc in
-      let rest : all_erased vs ≡ values_of_pairs ps = cc in
-      let p = paired k (value_of t) v first in
-      denote_pair (ap (λ z. more_values z vs) p.is) refl (denoted t p.inner h.0 p.same) (pairs_denoted ps vs h.1 rest)
+  each_denotable : (kind : MapKind) (before : List (List ℕ)) (ps : Pairs) → HavePairsLayout ps → ArePairs kind before ps → AllByRecursion IsDenotable (pairs_in ps)
+  each_denotable kind before no_pairs h l = tt
+  each_denotable kind before (more_pairs k t ps) h l = (λ v e. denoted t v h.0 l.1.0 e, each_denotable kind (k ∷ before) ps h.1 l.1.1)
 
--- ---- a document's value has no positions
+-- ---- a document's value is in the order of first fit, and has no positions
+
+abbrev IsSettledPair : List ℕ × Tree → Type 0
+IsSettledPair p = IsFitted (value_of p.1) × (erased (value_of p.1) ≡ value_of p.1)
+
+pairs_fitted : (xs : List (List ℕ × Tree)) → AllByRecursion IsSettledPair xs → ArePairsFitted (values_of_pairs (pairs_of xs))
+pairs_fitted [] h = no_pairs_are_fitted refl
+pairs_fitted (x ∷ xs) h = more_pairs_are_fitted refl h.0.0 (pairs_fitted xs h.1)
+
+pairs_nowhere : (xs : List (List ℕ × Tree)) → AllByRecursion IsSettledPair xs → all_erased (values_of_pairs (pairs_of xs)) ≡ values_of_pairs (pairs_of xs)
+pairs_nowhere [] h = refl
+pairs_nowhere (x ∷ xs) h = ap₂ (λ (v : Value) (vs : Values). more_values (pair_value x.0 v) vs) h.0.1 (pairs_nowhere xs h.1)
+
+keys_are : (ps : Pairs) → keys_in (values_of_pairs ps) ≡ pair_keys ps
+keys_are no_pairs = refl
+keys_are (more_pairs k t ps) = ap (λ ks. k ∷ ks) (keys_are ps)
+
+count_is : (ps : Pairs) → count_values (values_of_pairs ps) ≡ length (pair_keys ps)
+count_is no_pairs = refl
+count_is (more_pairs k t ps) = let rest = count_is ps in omega (arith, rest)
+
+first_fit_settled : (ps : Pairs) → ArePairs hashed [] ps → AreFirstFit (by_first_fit (values_of_pairs ps))
+first_fit_settled ps legal =
+    let qs = placed_pairs ps in
+    subst (λ x. AreFirstFit x) (sym (first_fit_pairs ps))
+    (keys_are qs ∙ first_fit_keys ps legal ∙ sym (ap₂ (λ n ks. placed_keys text_hash (map_capacity n) (ascending ks)) (count_is qs) (keys_are qs)))
 
 mutual
-  nowhere : (t : Tree) → erased (value_of t) ≡ value_of t
-  nowhere (leaf (document.truth b)) = refl
-  nowhere (leaf (document.number n)) = refl
-  nowhere (leaf (document.text s)) = refl
-  nowhere (shared s) = refl
-  nowhere nothing = refl
-  nowhere (just t) = ap (λ v. tagged_value 4 (tagged_value 1 v)) (nowhere t)
-  nowhere (list ts) = ap (λ vs. tagged_value 5 (group vs)) (all_nowhere ts)
-  nowhere (map ordered ps) = ap (λ vs. tagged_value 6 (group vs)) (pairs_nowhere ps)
-  nowhere (map hashed ps) = refl
-  nowhere (map kept ps) = refl
+  settled : (t : Tree) → HasLayout t → IsLegal t → IsFitted (value_of t) × (erased (value_of t) ≡ value_of t)
+  settled (leaf (document.truth b)) h l = (leaf_is_fitted {tag = 0} refl (omega arith), refl)
+  settled (leaf (document.number n)) h l = (leaf_is_fitted {tag = 1} refl (omega arith), refl)
+  settled (leaf (document.text s)) h l = (leaf_is_fitted {tag = 2} refl (omega arith), refl)
+  settled (shared s) h l = (leaf_is_fitted {tag = 3} refl (omega arith), refl)
+  settled nothing h l = (nothing_is_fitted refl, refl)
+  settled (just t) h l = let r = settled t h l in (some_is_fitted refl r.0, ap (λ v. tagged_value 4 (tagged_value 1 v)) r.1)
+  settled (list ts) h l = let r = all_settled ts h l.0 in (list_is_fitted refl r.0, ap (λ vs. tagged_value 5 (group vs)) r.1)
+  settled (map ordered ps) h l =
+      let each = each_settled ordered [] ps h l.0 in
+      let same = ap values_of_pairs (pairs_of_in ps) in (
+        ordered_is_fitted refl (subst ArePairsFitted same (pairs_fitted (pairs_in ps) each)),
+        ap (λ vs. tagged_value 6 (group vs)) (ap all_erased (sym same) ∙ pairs_nowhere (pairs_in ps) each ∙ same),
+      )
+  settled (map hashed ps) h l =
+      let xs = pairs_in ps in
+      let hashes = pair_hashes xs in
+      let each = placed_each IsSettledPair (capacity_of 7 8 hashes xs) (places_of 7 8 hashes xs) xs (each_settled hashed [] ps h l.0) in
+      let same = sym (first_fit_pairs ps) in (
+        hashed_is_fitted refl (first_fit_settled ps l.0) (subst ArePairsFitted same (pairs_fitted (by_place 7 8 hashes xs) each)),
+        ap (λ vs. tagged_value 7 (group vs)) (ap all_erased (sym same) ∙ pairs_nowhere (by_place 7 8 hashes xs) each ∙ same),
+      )
+  settled (map kept ps) h l = absurd h
 
-  all_nowhere : (ts : Trees) → all_erased (values_of ts) ≡ values_of ts
-  all_nowhere no_trees = refl
-  all_nowhere (more_trees t ts) = ap₂ more_values (nowhere t) (all_nowhere ts)
+  all_settled : (ts : Trees) → HaveLayout ts → AreLegal ts → AreFitted (values_of ts) × (all_erased (values_of ts) ≡ values_of ts)
+  all_settled no_trees h l = (none_are_fitted refl, refl)
+  all_settled (more_trees t ts) h l =
+      let r = settled t h.0 l.0 in
+      let rs = all_settled ts h.1 l.1 in
+      (more_are_fitted refl r.0 rs.0, ap₂ more_values r.1 rs.1)
 
-  pairs_nowhere : (ps : Pairs) → all_erased (values_of_pairs ps) ≡ values_of_pairs ps
-  pairs_nowhere no_pairs = refl
-  pairs_nowhere (more_pairs k t ps) = ap₂ (λ (v : Value) (vs : Values). more_values (pair_value k v) vs) (nowhere t) (pairs_nowhere ps)
+  each_settled : (kind : MapKind) (before : List (List ℕ)) (ps : Pairs) → HavePairsLayout ps → ArePairs kind before ps → AllByRecursion IsSettledPair (pairs_in ps)
+  each_settled kind before no_pairs h l = tt
+  each_settled kind before (more_pairs k t ps) h l = (settled t h.0 l.1.0, each_settled kind (k ∷ before) ps h.1 l.1.1)
 
 pub value_denotes_law : ValueDenotes
-value_denotes_law t h = let same = (node_agrees t).plain in denoted t (node_value t) h (ap erased same ∙ nowhere t)
+value_denotes_law t h document =
+    let same = (node_agrees t).plain in
+    let legal = document.0 in
+    let own = settled t h legal in
+    (denoted t (node_value t) h legal (ap erased same ∙ own.1), subst IsFitted (sym same) own.0)

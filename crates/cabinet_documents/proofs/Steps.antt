@@ -1,5 +1,7 @@
 -- From a node to its payload, and from there to the nodes in it: what holds there, and that it lies in the node.
 use Rattle.std.proofs.Common.{◌≡◌, ℕ, zero, suc, ◌+◌, ◌*◌, Bool, true, false, List, [], ◌∷◌, Some, refl, sym, ap, subst, ◌∙◌, arith}
+use Rattle.std.specs.Prelude.{⊤}
+use Rattle.std.specs.List.{slice_get}
 use Rattle.archive_forms_values.specs.ShapeLayout.Value.{Value, Values, count_values}
 use Rattle.archive_forms_values.specs.ShapeLayout.Value.Value.{group, string}
 use Rattle.archive_forms_values.specs.ShapeLayout.Value.Values.{no_values, more_values}
@@ -15,7 +17,7 @@ use Rattle.archive_forms_values.specs.ShapeLayout.Path.StandsIn.{stands_first, s
 use Rattle.archive_forms_values.proofs.ShapeLayout.Unique.{by_plain, by_claimed}
 use Rattle.cabinet_documents.specs.Node.{node_names, node_shape}
 use Rattle.cabinet_documents.specs.Denotes.{tagged_value}
-use Rattle.cabinet_documents.proofs.Places.{Place, node_here, payload_here, truth_here, number_here, text_here, shared_here, option_here, box_here, list_here, ordered_here, tree_child, absent_here, node_behind, nodes_behind, text_behind, Spot, part_of, parts_at, Passes, node_passes, box_passes, behind_passes, list_passes, text_passes, child_passes, Pays, Follows, passes, pays, truth_is, number_is, text_is, none_is, some_is, Leads, leads_nowhere, leads_plain, leads_claimed, led}
+use Rattle.cabinet_documents.proofs.Places.{Place, node_here, payload_here, truth_here, number_here, text_here, shared_here, option_here, box_here, list_here, ordered_here, table_here, tree_child, absent_here, node_behind, nodes_behind, text_behind, Spot, part_of, parts_at, nodes_from, nodes_are, Passes, node_passes, box_passes, behind_passes, list_passes, text_passes, child_passes, table_passes, Pays, Follows, passes, pays, truth_is, number_is, text_is, none_is, some_is, Leads, leads_nowhere, leads_plain, leads_claimed, led}
 use Rattle.cabinet_documents.proofs.Nodes.{none_illegal, TruthValue, NumberValue, TextValue, ValueAt, ValuesAt, none_at, follow}
 
 -- some places pass on the value of what they lead to
@@ -26,6 +28,7 @@ is_passing node_behind = true
 is_passing list_here = true
 is_passing text_here = true
 is_passing (tree_child level) = true
+is_passing table_here = true
 is_passing k = false
 
 pub passing : {bytes : List ℕ} {k j : Place} → Passes bytes k j → is_passing k ≡ true
@@ -35,6 +38,7 @@ passing behind_passes = refl
 passing (list_passes small) = refl
 passing text_passes = refl
 passing child_passes = refl
+passing (table_passes small) = refl
 
 -- where the payload of a tag is
 abbrev pub place_of : ℕ → Place
@@ -45,7 +49,16 @@ place_of (suc (suc (suc zero))) = shared_here
 place_of (suc (suc (suc (suc zero)))) = option_here
 place_of (suc (suc (suc (suc (suc zero))))) = list_here
 place_of (suc (suc (suc (suc (suc (suc zero)))))) = ordered_here
-place_of (suc (suc (suc (suc (suc (suc (suc n))))))) = absent_here
+place_of (suc (suc (suc (suc (suc (suc (suc zero))))))) = table_here
+place_of (suc (suc (suc (suc (suc (suc (suc (suc n)))))))) = absent_here
+
+abbrev pub AllAt : Place → List Spot → Type 0
+AllAt k [] = ⊤
+AllAt k (q ∷ qs) = (q.place ≡ k) × AllAt k qs
+
+nodes_at : (pos n : ℕ) → AllAt node_here (nodes_from pos n)
+nodes_at pos zero = tt
+nodes_at pos (suc n) = (refl, nodes_at (pos + 24) n)
 
 module _ (bytes : List ℕ) where
   -- ---- the one part of another
@@ -279,45 +292,49 @@ module _ (bytes : List ℕ) where
 
   -- ---- element i of a list
 
-  pub record Element (level : ℕ) (around : List OpenShared) (before : List Visit) (ps : List Part) (vs : Values) (i : ℕ) (u : Value) : Type 0 where
-    pub node_pos : ℕ
+  -- of parts that are all at places of one kind
+  pub record Element (k : Place) (level : ℕ) (around : List OpenShared) (before : List Visit) (ps : List Part) (vs : Values) (i : ℕ) (u : Value) : Type 0 where
+    pub pos : ℕ
+    pub among : slice_get ps i ≡ Some (part_of k pos)
     pub regions : List Region
     pub since : List Visit
     pub until : List Visit
-    pub holds : Holds node_names bytes level around (part_of node_here node_pos) u regions since until
-    pub within : (r : Part) (w : Value) (path : List ℕ) → Stands node_names bytes r w level around since (part_of node_here node_pos) u path → StandsIn node_names bytes r w level around before ps vs i path
+    pub holds : Holds node_names bytes level around (part_of k pos) u regions since until
+    pub within : (r : Part) (w : Value) (path : List ℕ) → Stands node_names bytes r w level around since (part_of k pos) u path → StandsIn node_names bytes r w level around before ps vs i path
 
-  element : (i n pos : ℕ) (u : Value) {level : ℕ} {around : List OpenShared} {ps : List Part} {vs : Values} {regions : List Region} {before after : List Visit}
-      → HoldAll node_names bytes level around ps vs regions before after → ps ≡ elements pos n node_shape → value_in i vs ≡ Some u → Element level around before ps vs i u
-  unfolding elements
-  element i n pos u (holds_none e f g) is there =
+  pub element : (k : Place) (i : ℕ) (qs : List Spot) (u : Value) {level : ℕ} {around : List OpenShared} {ps : List Part} {vs : Values} {regions : List Region} {before after : List Visit}
+      → HoldAll node_names bytes level around ps vs regions before after → ps ≡ parts_at qs → AllAt k qs → value_in i vs ≡ Some u → Element k level around before ps vs i u
+  element k i qs u (holds_none e f g) is each there =
       let none : value_in i no_values ≡ Some u = subst (λ x. value_in i x ≡ Some u) e there in
       absurd (cc)
-  element i zero pos u (holds_more h hs e r) is there = absurd (cc)
-  element zero (suc n) pos u {level = level} {around = around} {before = before} (holds_more {p = p} {v = v} {vs = vs} {here = here} {between = between} h hs e r) is there =
-      let part_is : p ≡ part_of node_here pos = cc in
+  element k i [] u (holds_more h hs e r) is each there = absurd (cc)
+  element k zero (q ∷ qs) u {level = level} {around = around} {before = before} (holds_more {p = p} {v = v} {vs = vs} {here = here} {between = between} h hs e r) is each there =
+      let at_spot : p ≡ part_of q.place q.pos = cc in
+      let part_is : p ≡ part_of k q.pos = at_spot ∙ ap (λ x. part_of x q.pos) each.0 in
       let first : value_in 0 (more_values v vs) ≡ Some u = subst (λ x. value_in 0 x ≡ Some u) e there in
       let value_is : v ≡ u = cc in
       record {
-        node_pos = pos;
+        pos = q.pos;
+        among = ap Some part_is;
         regions = here;
         since = before;
         until = between;
         holds = subst (λ x. Holds node_names bytes level around x u here before between) part_is (subst (λ x. Holds node_names bytes level around p x here before between) value_is h);
-        within = λ q w path s. stands_first
-            (subst (λ x. Stands node_names bytes q w level around before x v path) (sym part_is) (subst (λ x. Stands node_names bytes q w level around before (part_of node_here pos) x path) (sym value_is) s))
+        within = λ t w path s. stands_first
+            (subst (λ x. Stands node_names bytes t w level around before x v path) (sym part_is) (subst (λ x. Stands node_names bytes t w level around before (part_of k q.pos) x path) (sym value_is) s))
             h hs e refl;
       }
-  element (suc i) (suc n) pos u (holds_more {v = v} {vs = vs} h hs e r) is there =
+  element k (suc i) (q ∷ qs) u (holds_more {v = v} {vs = vs} h hs e r) is each there =
       let later : value_in (suc i) (more_values v vs) ≡ Some u = subst (λ x. value_in (suc i) x ≡ Some u) e there in
-      let k = element i n (pos + 24) u hs (cc) later in
+      let o = element k i qs u hs (cc) each.1 later in
       record {
-        node_pos = k.node_pos;
-        regions = k.regions;
-        since = k.since;
-        until = k.until;
-        holds = k.holds;
-        within = λ q w path s. stands_later h (k.within q w path s) e refl;
+        pos = o.pos;
+        among = o.among;
+        regions = o.regions;
+        since = o.since;
+        until = o.until;
+        holds = o.holds;
+        within = λ t w path s. stands_later h (o.within t w path s) e refl;
       }
 
   pub record ElementCase (level : ℕ) (around : List OpenShared) (pos : ℕ) (v u : Value) (i : ℕ) (before : List Visit) : Type 0 where
@@ -336,9 +353,9 @@ module _ (bytes : List ℕ) where
       let group_is = c.value_is in
       let values : vs ≡ c.vs = cc in
       let i_there : value_in i c.vs ≡ Some u = ap (value_in i) (sym values) ∙ there in
-      let k = element i c.len c.target u c.all refl i_there in
+      let k = element node_here i (nodes_from c.target c.len) u c.all (nodes_are c.target c.len) (nodes_at c.target c.len) i_there in
       record {
-        node_pos = k.node_pos;
+        node_pos = k.pos;
         regions = k.regions;
         since = k.since;
         until = k.until;
@@ -352,7 +369,7 @@ module _ (bytes : List ℕ) where
     text_inline : {s : List ℕ} → content_of node_names bytes (part_of text_here pos) ≡ plain (written s) [] → v ≡ string s → TextCase level around pos v before after
     text_out : {t len : ℕ} → v ≡ string (window bytes t len) → Through level level around (part_of text_here pos) (part_of (text_behind len) t) v before after → TextCase level around pos v before after
 
-  no_parts : {level : ℕ} {around : List OpenShared} {vs : Values} {regions : List Region} {before after : List Visit}
+  pub no_parts : {level : ℕ} {around : List OpenShared} {vs : Values} {regions : List Region} {before after : List Visit}
       → HoldAll node_names bytes level around [] vs regions before after → vs ≡ no_values
   no_parts (holds_none f g h) = f
 

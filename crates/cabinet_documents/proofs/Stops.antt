@@ -48,6 +48,10 @@ each_contains P [] s h c = let a = c.1 in absurd (omega (arith, a))
 each_contains P (x ∷ xs) s h (zero, a, e) = subst P e h.0
 each_contains P (x ∷ xs) s h (suc n, a, e) = each_contains P xs s h.1 (n, omega (arith, a), e)
 
+pub each_of : (P : Stop → Type 0) (xs : List Stop) → ((s : Stop) → Contains xs s → P s) → Each P xs
+each_of P [] h = tt
+each_of P (x ∷ xs) h = (h x (0, omega arith, refl), each_of P xs (λ s c. let a = c.1 in h s (suc c.0, omega (arith, a), c.2)))
+
 abbrev pub flat : List (List Stop) → List Stop
 flat runs = flat_map (λ x. x) runs
 

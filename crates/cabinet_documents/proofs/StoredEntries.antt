@@ -1,14 +1,11 @@
 -- What the entries of a search tree's node store, and what lies below its pointers, against the limits of how they are
 -- written.
-use Rattle.std.proofs.Common.{◌≡◌, ℕ, zero, suc, ◌+◌, ◌<◌, ◌≤◌, List, [], ◌∷◌, ◌++◌, map as mapped, length, Option, None, refl, sym, ap, subst, ◌∙◌, arith, ◌⊎◌, inl, inr, ⊎_elim, length-append, append_assoc, add-zero}
+use Rattle.std.proofs.Common.{◌≡◌, ℕ, zero, suc, ◌+◌, ◌<◌, ◌≤◌, List, [], ◌∷◌, ◌++◌, map as mapped, length, Option, None, refl, sym, ap, subst, ◌∙◌, arith, ◌⊎◌, inl, inr, ⊎_elim, append_assoc, add-zero}
 use Rattle.archive_forms_values.specs.ShapeLayout.Shape.{size_of}
 use Rattle.archive_forms_values.specs.ShapeLayout.Shape.Shape.{text}
-use Rattle.archive_forms_values.specs.ShapeLayout.Value.{Value}
-use Rattle.archive_forms_values.specs.ShapeLayout.Value.Value.{string}
 use Rattle.archive_forms_values.specs.ShapeWriting.declared.error.Error.{Error}
 use Rattle.archive_forms_values.specs.ShapeCanonical.Settled.{Fit}
-use Rattle.archive_forms_values.specs.ShapeCanonical.Sharing.{erased}
-use Rattle.archive_forms_values.specs.ShapeCanonical.Plan.{Target, Plan, leads, Plans, more_plans}
+use Rattle.archive_forms_values.specs.ShapeCanonical.Plan.{Target, Plan, leads, Plans}
 use Rattle.archive_forms_values.specs.ShapeCanonical.Limits.{Field, count, IsSomePast, Shared, Lies, LieAll, lie_none}
 use Rattle.archive_forms_values.specs.ShapeCanonical.Limits as limits
 use Rattle.archive_forms_values.specs.FormsLaws.State.{State}
@@ -19,117 +16,73 @@ use Rattle.archive_forms_rc.specs.FormsWriting.Owned.{str_spelling}
 use Rattle.archive_btree_spelling.specs.Written.{AnySlot, LinksRefused}
 use Rattle.archive_btree_spelling.specs.Maps.{packed_spelling}
 use Rattle.archive_btree_spelling.proofs.Parting.{EachIs}
-use Rattle.archive_btree_spelling.proofs.Planned.{pair, EntryPlan, EntryPlans, ChildPlans}
+use Rattle.archive_btree_spelling.proofs.Planned.{EntryPlans, ChildPlans}
 use Rattle.cabinet_text_grammar.specs.Tree.{Tree}
 use Rattle.cabinet_documents.specs.Node.{node_shape, node_names}
-use Rattle.cabinet_documents.specs.Denotes.{pair_value}
 use Rattle.cabinet_documents.specs.declared.spelling.resolver.NodeResolver.{NodeResolver}
-use Rattle.cabinet_documents.proofs.Values.{value_of, entries}
-use Rattle.cabinet_documents.proofs.SpellingDenoted.{paired}
-use Rattle.cabinet_documents.proofs.Plans.{TextPlan, entry_value, EntriesPlan, text_planned}
-use Rattle.cabinet_documents.proofs.Fields.{Alike, laid, reached, past_left, past_right, past_either, IsFar, Reads, text_reads}
-use Rattle.cabinet_documents.proofs.Storing.{CanLie, CanAllLie, text_can_lie, Tells, no_lies, first_lies, one_more_lies}
-
--- a key and the document that it has in a map
-abbrev pub Entry : Type 0
-Entry = List ℕ × Tree
-
--- writing data leaves what was begun as it was
-pub begun_after : {A R : Type 0} (u : Spelling A R) (xs : List A) (s : State) → (state_after_all u xs s).begun ≡ s.begun
-begun_after u [] s = refl
-begun_after u (x ∷ xs) s = begun_after u xs (state_after u x s)
+use Rattle.cabinet_documents.specs.Spelling.{pair_spelling}
+use Rattle.cabinet_documents.proofs.Values.{entry_value}
+use Rattle.cabinet_documents.proofs.Plans.{EntriesPlan}
+use Rattle.cabinet_documents.proofs.Fields.{Alike, laid, reached, past_left, past_right, past_either, IsFar}
+use Rattle.cabinet_documents.proofs.Storing.{CanLie, CanAllLie, no_lies, first_lies, one_more_lies}
+use Rattle.cabinet_documents.proofs.StoredPairs.{Entry, KeyRefused, ValueRefused, ReadsEntry, TellsEntry, entry_read, entry_lies}
 
 -- ---- entries
 
 module _ (w : Spelling Tree NodeResolver) where
   -- the own bytes of keys or of values side by side, from a position on, exceed a limit
   abbrev pub KeysRefused : List Entry → State → ℕ → Error → Type 0
-  KeysRefused xs s a e = AnySlot (state_after (entries w)) (size_of text) (λ x then at. str_spelling.own_refused x.0 (str_spelling.resolver x.0 then) at e) xs s a
+  KeysRefused xs s a e = AnySlot (state_after (pair_spelling w)) (size_of text) (λ x then at. KeyRefused w x then at e) xs s a
 
   abbrev pub ValuesRefused : List Entry → State → ℕ → Error → Type 0
-  ValuesRefused xs s b e = AnySlot (state_after (entries w)) (size_of node_shape) (λ x then at. w.own_refused x.1 (w.resolver x.1 (state_after str_spelling x.0 then)) at e) xs s b
+  ValuesRefused xs s b e = AnySlot (state_after (pair_spelling w)) (size_of node_shape) (λ x then at. ValueRefused w x then at e) xs s b
 
-  -- as `Reads`, of entries whose keys and values lie side by side from two positions on
+  -- as `Reads`, of pair_spelling whose keys and values lie side by side from two positions on
   pub record ReadsEntries (xs : List Entry) (s : State) (a b : ℕ) (fs : List Field) (c : limits.State) : Type 0 where
-    pub alike : Alike c.met (state_after_all (entries w) xs s).met
-    pub there : c.pos ≡ (state_after_all (entries w) xs s).pos
+    pub alike : Alike c.met (state_after_all (pair_spelling w) xs s).met
+    pub there : c.pos ≡ (state_after_all (pair_spelling w) xs s).pos
     pub up : s.pos ≤ c.pos
-    pub pieces_past : (e : Error) → pieces_refused (entries w) xs s e → IsSomePast fs e ⊎ IsFar c.pos e
+    pub pieces_past : (e : Error) → pieces_refused (pair_spelling w) xs s e → IsSomePast fs e ⊎ IsFar c.pos e
     pub keys_past : (e : Error) → KeysRefused xs s a e → IsSomePast fs e
     pub values_past : (e : Error) → ValuesRefused xs s b e → IsSomePast fs e
-    pub refused_all : (e : Error) → IsSomePast fs e → pieces_refused (entries w) xs s e ⊎ (KeysRefused xs s a e ⊎ ValuesRefused xs s b e)
-
-  -- an entry is written when its value is
-  entry_after : (x : Entry) (s : State) → (state_after (entries w) x s).pos ≡ (state_after w x.1 (state_after str_spelling x.0 s)).pos
-  entry_after x s =
-      let of_key = str_spelling.piece x.0 s in
-      let of_value = w.piece x.1 (state_after str_spelling x.0 s) in
-      omega (arith, length-append of_key (of_value ++ []), length-append of_value [])
+    pub refused_all : (e : Error) → IsSomePast fs e → pieces_refused (pair_spelling w) xs s e ⊎ (KeysRefused xs s a e ⊎ ValuesRefused xs s b e)
 
   entry_and_rest :
-      (x : Entry) (xs : List Entry) (s : State) (a b : ℕ) (of_key of_value others later fs : List Field) (one two c : limits.State)
-      → Reads str_spelling x.0 s a of_key one
-      → Reads w x.1 (state_after str_spelling x.0 s) b of_value two
-      → ReadsEntries xs (state_after (entries w) x s) (a + size_of text) (b + size_of node_shape) others c
-      → fs ≡ of_key ++ later
-      → later ≡ of_value ++ others
+      (x : Entry) (xs : List Entry) (s : State) (a b : ℕ) (here there fs : List Field) (between c : limits.State)
+      → ReadsEntry w x s a b here between
+      → ReadsEntries xs (state_after (pair_spelling w) x s) (a + size_of text) (b + size_of node_shape) there c
+      → fs ≡ here ++ there
       → ReadsEntries (x ∷ xs) s a b fs c
-  entry_and_rest x xs s a b of_key of_value others later fs one two c key value rest all more =
-      let at_one = key.there in
-      let at_two = value.there in
+  entry_and_rest x xs s a b here there fs between c entry rest all =
+      let at_between = entry.there in
       let up = rest.up in
-      let after = entry_after x s in
-      let first : (e : Error) → IsSomePast of_key e → IsSomePast fs e = λ e p. subst (λ l. IsSomePast l e) (sym all) (past_left of_key later e p) in
-      let behind : (e : Error) → IsSomePast (of_value ++ others) e → IsSomePast fs e =
-      λ e p. subst (λ l. IsSomePast l e) (sym all) (past_right of_key later e (subst (λ l. IsSomePast l e) (sym more) p)) in
-      let second : (e : Error) → IsSomePast of_value e → IsSomePast fs e = λ e p. behind e (past_left of_value others e p) in
-      let third : (e : Error) → IsSomePast others e → IsSomePast fs e = λ e p. behind e (past_right of_value others e p) in
+      let first : (e : Error) → IsSomePast here e → IsSomePast fs e = λ e p. subst (λ l. IsSomePast l e) (sym all) (past_left here there e p) in
+      let later : (e : Error) → IsSomePast there e → IsSomePast fs e = λ e p. subst (λ l. IsSomePast l e) (sym all) (past_right here there e p) in
       record {
         alike = rest.alike;
         there = rest.there;
-        up = omega (arith, up, after);
+        up = omega (arith, up);
         pieces_past = λ e. ⊎_elim
-            (⊎_elim
-            (λ r. ⊎_elim (λ p. inl (first e p)) (λ far. inr (omega (arith, far.0, at_one, up, after), far.1)) (key.piece_past e r))
-            (⊎_elim
-            (λ r. ⊎_elim (λ p. inl (second e p)) (λ far. inr (omega (arith, far.0, at_two, up, after), far.1)) (value.piece_past e r))
-            (λ none. absurd none)))
-            (λ r. ⊎_elim (λ p. inl (third e p)) (λ far. inr far) (rest.pieces_past e r));
-        keys_past = λ e. ⊎_elim (λ r. first e (key.own_past e r)) (λ r. third e (rest.keys_past e r));
-        values_past = λ e. ⊎_elim (λ r. second e (value.own_past e r)) (λ r. third e (rest.values_past e r));
+            (λ r. ⊎_elim (λ p. inl (first e p)) (λ far. inr (omega (arith, far.0, at_between, up), far.1)) (entry.piece_past e r))
+            (λ r. ⊎_elim (λ p. inl (later e p)) (λ far. inr far) (rest.pieces_past e r));
+        keys_past = λ e. ⊎_elim (λ r. first e (entry.key_past e r)) (λ r. later e (rest.keys_past e r));
+        values_past = λ e. ⊎_elim (λ r. first e (entry.value_past e r)) (λ r. later e (rest.values_past e r));
         refused_all = λ e p. ⊎_elim
-            (λ q. ⊎_elim (λ r. inl (inl (inl r))) (λ r. inr (inl (inl r))) (key.refused e q))
-            (λ q. ⊎_elim
-            (λ g. ⊎_elim (λ r. inl (inl (inr (inl r)))) (λ r. inr (inr (inl r))) (value.refused e g))
-            (λ g. ⊎_elim (λ r. inl (inr r)) (⊎_elim (λ r. inr (inl (inr r))) (λ r. inr (inr (inr r)))) (rest.refused_all e g))
-            (past_either of_value others e (subst (λ l. IsSomePast l e) more q)))
-            (past_either of_key later e (subst (λ l. IsSomePast l e) all p));
+            (λ q. ⊎_elim (λ r. inl (inl r)) (⊎_elim (λ r. inr (inl (inl r))) (λ r. inr (inr (inl r)))) (entry.refused e q))
+            (λ q. ⊎_elim (λ r. inl (inr r)) (⊎_elim (λ r. inr (inl (inr r))) (λ r. inr (inr (inr r)))) (rest.refused_all e q))
+            (past_either here there e (subst (λ l. IsSomePast l e) all p));
       }
 
   module _ (fit : Fit) where
-    -- what is known of the value of an entry
-    abbrev pub TellsEntry : Entry → Type 0
-    TellsEntry x = Tells fit w x.1
-
     abbrev pub EntriesPlanned : ℕ → ℕ → List Entry → Plans → Type 0
     EntriesPlanned at_key at_value xs ps = EntryPlans fit node_names 5 text node_shape entry_value at_key at_value xs ps
 
-    key_planned : (x : Entry) (p q : Plan) (e : EntryPlan fit node_names 5 text node_shape entry_value x p q) → TextPlan x.0 p
-    key_planned x p q e =
-        let two = paired x.0 (value_of x.1) (pair fit node_names 5 text node_shape entry_value e.key e.value) e.same in
-        let is : pair fit node_names 5 text node_shape entry_value e.key e.value ≡ pair_value x.0 two.inner = two.is in
-        let key_is : e.key ≡ string x.0 = cc in
-        text_planned fit x.0 e.key p key_is e.key_planned
-
-    value_same : (x : Entry) (key value : Value) → erased (pair fit node_names 5 text node_shape entry_value key value) ≡ entry_value x → erased value ≡ value_of x.1
-    value_same x key value e = cc
-
     pub entries_read :
         (xs : List Entry) (ps : Plans) (at_key at_value own a b : ℕ) (s : State) (seen : List Shared) (fs : List Field) (c : limits.State)
-        → EachIs TellsEntry xs → EntriesPlanned at_key at_value xs ps → Alike seen s.met → s.begun ≡ [] → a ≡ own + at_key → b ≡ own + at_value
+        → EachIs (TellsEntry w fit) xs → EntriesPlanned at_key at_value xs ps → Alike seen s.met → s.begun ≡ [] → a ≡ own + at_key → b ≡ own + at_value
         → LieAll ps own (laid s seen) fs c → ReadsEntries xs s a b fs c
     entries_read [] ps at_key at_value own a b s seen fs c each planned alike begun a_is b_is h =
-        let ends = no_lies fit w own (laid s seen) c fs (subst (λ x. LieAll x own (laid s seen) fs c) planned h) in
+        let ends = no_lies own (laid s seen) c fs (subst (λ x. LieAll x own (laid s seen) fs c) planned h) in
         let at_end : c.pos ≡ s.pos = ap (λ (z : limits.State). z.pos) ends.1 in
         record {
           alike = subst (λ (z : limits.State). Alike z.met s.met) (sym ends.1) alike;
@@ -141,41 +94,20 @@ module _ (w : Spelling Tree NodeResolver) where
           refused_all = λ e p. absurd (subst (λ l. IsSomePast l e) ends.0 p);
         }
     entries_read (x ∷ xs) ps at_key at_value own a b s seen fs c each planned alike begun a_is b_is h =
-        let p = planned.key_plan in
-        let q = planned.value_plan in
-        let behind = more_plans at_value q planned.others in
-        let l = first_lies fit w at_key p behind own (laid s seen) c fs (subst (λ z. LieAll z own (laid s seen) fs c) planned.is h) in
-        let m = first_lies fit w at_value q planned.others own l.between c l.there l.rest in
-        let e = planned.entry in
-        let next = state_after str_spelling x.0 s in
-        let key = text_reads x.0 s seen a p l.here l.between (key_planned x p q e) alike (subst (λ n. Lies p n (laid s seen) l.here l.between) (sym a_is) l.first) in
-        let lies = subst (λ n. Lies q n (laid next l.between.met) m.here m.between) (sym b_is) (subst (λ z. Lies q (own + at_value) z m.here m.between) (reached l.between next key.there) m.first) in
-        let value = each.0.reads e.value q (value_same x e.key e.value e.same) e.value_planned next l.between.met key.alike begun b m.here m.between lies in
-        let rest = entries_read xs planned.others (at_key + size_of text) (at_value + size_of node_shape) own (a + size_of text) (b + size_of node_shape) (state_after (entries w) x s) m.between.met m.there c
-        each.1 planned.rest value.alike begun (omega (arith, a_is)) (omega (arith, b_is))
-        (subst (λ z. LieAll planned.others own z m.there c) (reached m.between (state_after (entries w) x s) (value.there ∙ sym (entry_after x s))) m.rest) in
-        entry_and_rest x xs s a b l.here m.here m.there l.there fs l.between m.between c key value rest l.all m.all
+        let l = entry_read w fit x planned.key_plan planned.value_plan planned.others at_key at_value own s seen each.0 planned.entry alike begun a b fs c a_is b_is
+        (subst (λ z. LieAll z own (laid s seen) fs c) planned.is h) in
+        let rest = entries_read xs planned.others (at_key + size_of text) (at_value + size_of node_shape) own (a + size_of text) (b + size_of node_shape) (state_after (pair_spelling w) x s) l.between.met l.there c
+        each.1 planned.rest l.reads.alike begun (omega (arith, a_is)) (omega (arith, b_is)) l.lies in
+        entry_and_rest x xs s a b l.here l.there fs l.between c l.reads rest l.all
 
     pub entries_lie :
         (xs : List Entry) (ps : Plans) (at_key at_value own : ℕ) (s : State) (seen : List Shared)
-        → EachIs TellsEntry xs → EntriesPlanned at_key at_value xs ps → Alike seen s.met → s.begun ≡ [] → CanAllLie ps own (laid s seen)
+        → EachIs (TellsEntry w fit) xs → EntriesPlanned at_key at_value xs ps → Alike seen s.met → s.begun ≡ [] → CanAllLie ps own (laid s seen)
     entries_lie [] ps at_key at_value own s seen each planned alike begun = subst (λ x. CanAllLie x own (laid s seen)) (sym planned) ([], laid s seen, lie_none)
     entries_lie (x ∷ xs) ps at_key at_value own s seen each planned alike begun =
-        let p = planned.key_plan in
-        let q = planned.value_plan in
-        let e = planned.entry in
-        let next = state_after str_spelling x.0 s in
-        let after = state_after (entries w) x s in
-        let k = text_can_lie x.0 p (own + at_key) (laid s seen) (key_planned x p q e) in
-        let key = text_reads x.0 s seen (own + at_key) p k.0 k.1 (key_planned x p q e) alike k.2 in
-        let same = value_same x e.key e.value e.same in
-        let v = each.0.lies e.value q same e.value_planned next k.1.met key.alike begun (own + at_value) in
-        let value = each.0.reads e.value q same e.value_planned next k.1.met key.alike begun (own + at_value) v.0 v.1 v.2 in
-        let rest = entries_lie xs planned.others (at_key + size_of text) (at_value + size_of node_shape) own after v.1.met each.1 planned.rest value.alike begun in
-        let here = subst (λ z. Lies q (own + at_value) z v.0 v.1) (sym (reached k.1 next key.there)) v.2 in
-        let there = subst (λ z. LieAll planned.others own z rest.0 rest.1) (sym (reached v.1 after (value.there ∙ sym (entry_after x s)))) rest.2 in
-        let behind = one_more_lies fit w at_value q planned.others own k.1 v.1 rest.1 v.0 rest.0 here there in
-        subst (λ z. CanAllLie z own (laid s seen)) (sym planned.is) (one_more_lies fit w at_key p (more_plans at_value q planned.others) own (laid s seen) k.1 behind.1 k.0 behind.0 k.2 behind.2)
+        subst (λ z. CanAllLie z own (laid s seen)) (sym planned.is)
+        (entry_lies w fit x planned.key_plan planned.value_plan planned.others at_key at_value own s seen each.0 planned.entry alike begun
+        (λ met both. entries_lie xs planned.others (at_key + size_of text) (at_value + size_of node_shape) own (state_after (pair_spelling w) x s) met each.1 planned.rest both begun))
 
   -- ---- below pointers
 
@@ -301,7 +233,7 @@ module _ (w : Spelling Tree NodeResolver) where
         }
     children_read ((x ∷ xs) ∷ xss) behind all at own link s seen fs b each planned alike begun link_is h =
         let p = leads [] planned.target planned.plan in
-        let m = first_lies fit w at p planned.others own (laid s seen) b fs (subst (λ z. LieAll z own (laid s seen) fs b) planned.is h) in
+        let m = first_lies at p planned.others own (laid s seen) b fs (subst (λ z. LieAll z own (laid s seen) fs b) planned.is h) in
         let next = state_after (packed l) (x ∷ xs) s in
         let first = (each.0 (omega arith)).reads planned.target planned.plan planned.first [] s seen alike begun link m.here m.between (subst (λ n. Lies p n (laid s seen) m.here m.between) (sym link_is) m.first) in
         let rest = children_read xss behind planned.others (at + 4) own (link + 4) next m.between.met m.there b each.1 planned.rest first.alike begun (omega (arith, link_is))
@@ -332,4 +264,4 @@ module _ (w : Spelling Tree NodeResolver) where
         let first = tree.reads planned.target planned.plan planned.first [] s seen alike begun (own + at) h.0 h.1 h.2 in
         let rest = children_lie xss behind planned.others (at + 4) own next h.1.met each.1 planned.rest first.alike begun others in
         let there = subst (λ z. LieAll planned.others own z rest.0 rest.1) (sym (reached h.1 next first.there)) rest.2 in
-        subst (λ z. CanAllLie z own (laid s seen)) (sym planned.is) (one_more_lies fit w at p planned.others own (laid s seen) h.1 rest.1 h.0 rest.0 h.2 there)
+        subst (λ z. CanAllLie z own (laid s seen)) (sym planned.is) (one_more_lies at p planned.others own (laid s seen) h.1 rest.1 h.0 rest.0 h.2 there)

@@ -1,21 +1,24 @@
 -- What a document stores is past a limit exactly where writing it is refused.
-use Rattle.std.proofs.Common.{◌≡◌, ℕ, zero, suc, ◌+◌, ◌-◌, ◌≤◌, ◌^◌, Bool, true, false, List, [], ◌∷◌, ◌++◌, length, Option, Some, None, refl, sym, ap, subst, ◌∙◌, arith, ◌⊎◌, inl, inr, ⊎_elim}
+use Rattle.std.proofs.Common.{◌≡◌, ℕ, zero, suc, ◌+◌, ◌≤◌, ◌^◌, Bool, true, false, List, [], ◌∷◌, ◌++◌, map as mapped, length, Option, Some, None, refl, sym, ap, subst, ◌∙◌, arith, inl, inr, ⊎_elim}
+use Rattle.std.specs.List.{AllByRecursion}
 use Rattle.std.specs.Int.{w32, w64, to_le_bytes, cast_unsigned}
 use Rattle.std.proofs.Math.Nat.{le-max_left, le-max_right}
 use Rattle.std.proofs.lemmas.List.{length-replicate}
 use Rattle.archive_forms_values.specs.ShapeLayout.Bytes.{align_up}
 use Rattle.archive_forms_values.specs.ShapeLayout.Shape.{align_of}
-use Rattle.archive_forms_values.specs.ShapeLayout.Shape.Shape.{number, truth, text, option, vector, tree, shared as shared_shape}
+use Rattle.archive_forms_values.specs.ShapeLayout.Shape.Shape.{number, truth, text, option, vector, tree, table, shared as shared_shape}
 use Rattle.archive_forms_values.specs.ShapeLayout.Shape.Pointee.{str}
-use Rattle.archive_forms_values.specs.ShapeLayout.Value.{Value, Values, count_values}
+use Rattle.archive_forms_values.specs.ShapeLayout.Value.{Value, count_values}
 use Rattle.archive_forms_values.specs.ShapeLayout.Value.Value.{integer, boolean, string, group, chosen, counted}
-use Rattle.archive_forms_values.specs.ShapeLayout.Value.Values.{no_values, more_values}
+use Rattle.archive_forms_values.specs.ShapeLayout.Value.Values.{no_values}
 use Rattle.archive_forms_values.specs.ShapeLayout.Numbers.{truth_bytes}
 use Rattle.archive_forms_values.proofs.ShapeLayout.Framed.{le_align_up}
 use Rattle.archive_forms_values.specs.ShapeWriting.declared.error.Error.{Error}
 use Rattle.archive_forms_values.specs.ShapeWriting.declared.error.Error.TheVariants.{PositionTooLarge}
+use Rattle.archive_forms_values.specs.ShapeCanonical.FirstFit.{first_fit}
+use Rattle.archive_forms_values.specs.ShapeCanonical.Hash.{text_hash}
 use Rattle.archive_forms_values.specs.ShapeCanonical.Settled.{Fit}
-use Rattle.archive_forms_values.specs.ShapeCanonical.Sharing.{erased, all_erased}
+use Rattle.archive_forms_values.specs.ShapeCanonical.Sharing.{erased}
 use Rattle.archive_forms_values.specs.ShapeCanonical.Plan.{Plan, flat}
 use Rattle.archive_forms_values.specs.ShapeCanonical.Limits.{Field, position, count, IsSomePast, Lies, PastLimits}
 use Rattle.archive_forms_values.specs.ShapeCanonical.Limits as limits
@@ -23,6 +26,7 @@ use Rattle.archive_forms_values.specs.ArchiveShape.Offsets.{offset_bytes}
 use Rattle.archive_forms_values.specs.FormsLaws.State.{State, initial}
 use Rattle.archive_forms_values.specs.FormsLaws.Spelling.{Spelling}
 use Rattle.archive_forms_values.specs.FormsLaws.Regions.{state_after_all, region_at, region_refused}
+use Rattle.archive_forms_values.specs.FormsLaws.Views.{listed}
 use Rattle.archive_forms_values.specs.FormsLaws.Links.{link_bytes}
 use Rattle.archive_forms_values.specs.FormsLaws.Options.{option_own}
 use Rattle.archive_forms_values.specs.FormsLaws.Texts.{is_short, text_own}
@@ -31,23 +35,26 @@ use Rattle.archive_forms_values.proofs.FormsLaws.Payloads.{length-tagged}
 use Rattle.archive_forms_values.specs.declared.reading.resolving.BoxResolver.{BoxResolver}
 use Rattle.archive_forms_rc.specs.FormsWriting.Owned.{str_spelling}
 use Rattle.archive_btree_spelling.proofs.Parting.{EachIs}
-use Rattle.cabinet_text_grammar.specs.Keys.{ordered, hashed, kept}
+use Rattle.cabinet_text_grammar.specs.Keys.{MapKind, ordered, hashed, kept}
 use Rattle.cabinet_text_grammar.specs.Tree as document
-use Rattle.cabinet_text_grammar.specs.Tree.{Tree, Trees, Pairs, leaf, shared, nothing, just, list, map, no_trees, more_trees, no_pairs, more_pairs, depth, most_depth, pairs_depth}
-use Rattle.cabinet_documents.specs.Node.{node_shape, node_names}
+use Rattle.cabinet_text_grammar.specs.Tree.{Tree, Trees, Pairs, leaf, shared, nothing, just, list, map, no_trees, more_trees, no_pairs, more_pairs, depth, most_depth, pairs_depth, IsLegal, AreLegal, ArePairs}
+use Rattle.cabinet_documents.specs.Node.{node_shape, node_names, pair_shape}
 use Rattle.cabinet_documents.specs.Denotes.{tagged_value}
 use Rattle.cabinet_documents.specs.HasLayout.{HasLayout, HaveLayout, HavePairsLayout}
 use Rattle.cabinet_documents.specs.declared.spelling.resolver.NodeResolver.{NodeResolver}
 use Rattle.cabinet_documents.specs.declared.spelling.resolver.NodeResolver.TheVariants as resolver
-use Rattle.cabinet_documents.specs.Spelling.{truth_spelling, number_spelling, shared_string_spelling, boxed_shape, boxed_spelling, maybe_spelling, list_spelling, ordered_spelling, trees_in, pairs_in, text_in, shared_in, maybe_in, list_in, ordered_in, refused, spelling_of, node_level, node_spelling}
+use Rattle.cabinet_documents.specs.Spelling.{truth_spelling, number_spelling, shared_string_spelling, boxed_shape, boxed_spelling, maybe_spelling, list_spelling, ordered_spelling, hashed_spelling, trees_in, pairs_in, text_in, shared_in, maybe_in, list_in, ordered_in, hashed_in, refused, spelling_of, node_level, node_spelling}
 use Rattle.cabinet_documents.specs.SpellingLaws.{RefusedIsPast}
+use Rattle.cabinet_documents.proofs.FirstFit.{by_first_fit}
 use Rattle.cabinet_documents.proofs.Values.{value_of, values_of, values_of_pairs, node_agrees, one_value_law}
 use Rattle.cabinet_documents.proofs.SpellingDenoted.{tagged, simply_tagged, shared_text, grouped}
-use Rattle.cabinet_documents.proofs.Plans.{entry_values, map_planned, Planned, node_planned, truth_planned, number_planned, text_planned, shared_planned, none_planned, some_planned, box_planned, list_planned, has_plan}
+use Rattle.cabinet_documents.proofs.Plans.{entry_values, places_for, FillsMaps, pairs_planned, map_planned, Planned, node_planned, truth_planned, number_planned, text_planned, shared_planned, none_planned, some_planned, box_planned, list_planned, has_plan, slice_plan}
 use Rattle.cabinet_documents.proofs.Fields.{text_length_of, laid, past_left, past_right, past_either, flat_lies, part_lies, Reads, no_fields, text_reads, shared_reads, shared_lies}
-use Rattle.cabinet_documents.proofs.StoredEntries.{TellsEntry}
+use Rattle.cabinet_documents.proofs.StoredPairs.{TellsEntry}
+use Rattle.cabinet_documents.proofs.StoredTables.{hashed_reads, hashed_lies}
+use Rattle.cabinet_documents.proofs.Filling.{first_fit_fills}
 use Rattle.cabinet_documents.proofs.StoredTrees.{map_reads, map_lies}
-use Rattle.cabinet_documents.proofs.Storing.{as_plan, node_reads, Tells, ReadsNode, LiesNode, AllTell, ReadsAll, as_part, flat_can_lie, text_can_lie, one_read, box_region, box_lies, list_region, list_lies, box_reads, some_reads, list_reads}
+use Rattle.cabinet_documents.proofs.Storing.{as_plan, node_reads, Tells, ReadsNode, LiesNode, ReadsAll, as_part, flat_can_lie, text_can_lie, one_read, box_region, box_lies, length-values, slice_region, slice_lies, box_reads, some_reads, list_reads}
 
 -- ---- the sizes of nodes
 
@@ -58,6 +65,10 @@ truth_length false = refl
 map_length : (root : Option ℕ) (pos n : ℕ) → length (link_bytes root pos ++ to_le_bytes w32 n) ≡ 8
 map_length None pos n = refl
 map_length (Some to) pos n = refl
+
+table_length : (controls : Option ℕ) (pos n cap : ℕ) → length (link_bytes controls pos ++ (to_le_bytes w32 n ++ to_le_bytes w32 cap)) ≡ 12
+table_length None pos n cap = refl
+table_length (Some to) pos n cap = refl
 
 module _ (w : Spelling Tree NodeResolver) where
   none_length : (r : Option BoxResolver) (pos : ℕ) → length (option_own boxed_shape (boxed_spelling w) None r pos) ≡ 8
@@ -91,21 +102,21 @@ module _ (w : Spelling Tree NodeResolver) where
       let count = length (pairs_in ps) in
       let n = map_length root (pos + 4) count in
       length-tagged 6 4 24 (link_bytes root (pos + 4) ++ to_le_bytes w32 count) (omega arith) (omega (arith, n))
-  node_length (map hashed ps) layout r pos = absurd layout
+  node_length (map hashed ps) layout r pos =
+      let controls = (hashed_in r).pos in
+      let count = length (pairs_in ps) in
+      let places = places_for (pairs_in ps) in
+      let n = table_length controls (pos + 4) count places in
+      length-tagged 7 4 24 (link_bytes controls (pos + 4) ++ (to_le_bytes w32 count ++ to_le_bytes w32 places)) (omega arith) (omega (arith, n))
   node_length (map kept ps) layout r pos = absurd layout
 
 -- ---- one level of nodes
 
-counted_values : (ts : Trees) (vs : Values) → all_erased vs ≡ values_of ts → count_values vs ≡ length (trees_in ts)
-counted_values no_trees no_values h = refl
-counted_values no_trees (more_values v vs) h = absurd cc
-counted_values (more_trees t ts) no_values h = absurd cc
-counted_values (more_trees t ts) (more_values v vs) h =
-    let rest : all_erased vs ≡ values_of ts = cc in
-    let more = counted_values ts vs rest in
-    omega (arith, more)
+values_listed : (ts : Trees) → listed (values_of ts) ≡ mapped value_of (trees_in ts)
+values_listed no_trees = refl
+values_listed (more_trees t ts) = ap (λ vs. value_of t ∷ vs) (values_listed ts)
 
-module _ (fit : Fit) (w : Spelling Tree NodeResolver) where
+module _ (fit : Fit) (fills : FillsMaps fit) (w : Spelling Tree NodeResolver) where
   -- what is read of the kind of a node is read of the node
   as_level : (t : Tree) (s : State) (own : ℕ) (fs : List Field) (b : limits.State) → Reads (spelling_of w t) t s own fs b → Reads (node_level w) t s own fs b
   as_level t s own fs b h = record {
@@ -116,22 +127,26 @@ module _ (fit : Fit) (w : Spelling Tree NodeResolver) where
     refused = h.refused;
   }
 
-  trees_tell : (n : ℕ) → ((y : Tree) → suc (depth y) ≤ n → HasLayout y → Tells fit w y) → (ts : Trees) → suc (most_depth ts) ≤ n → HaveLayout ts → AllTell fit w ts
-  trees_tell n each no_trees less layout = tt
-  trees_tell n each (more_trees t ts) less layout =
+  -- of documents that are less deep
+  abbrev EachTells : ℕ → Type 0
+  EachTells n = (y : Tree) → suc (depth y) ≤ n → HasLayout y → IsLegal y → Tells fit w y
+
+  trees_tell : (n : ℕ) → EachTells n → (ts : Trees) → suc (most_depth ts) ≤ n → HaveLayout ts → AreLegal ts → AllByRecursion (Tells fit w) (trees_in ts)
+  trees_tell n each no_trees less layout legal = tt
+  trees_tell n each (more_trees t ts) less layout legal =
       let a = le-max_left (depth t) (most_depth ts) in
       let b = le-max_right (depth t) (most_depth ts) in
-      (each t (omega (arith, a)) layout.0, trees_tell n each ts (omega (arith, b)) layout.1)
+      (each t (omega (arith, a)) layout.0 legal.0, trees_tell n each ts (omega (arith, b)) layout.1 legal.1)
 
-  pairs_tell : (n : ℕ) → ((y : Tree) → suc (depth y) ≤ n → HasLayout y → Tells fit w y) → (ps : Pairs) → suc (pairs_depth ps) ≤ n → HavePairsLayout ps → EachIs (TellsEntry w fit) (pairs_in ps)
-  pairs_tell n each no_pairs less layout = tt
-  pairs_tell n each (more_pairs k t ps) less layout =
+  pairs_tell : (n : ℕ) → EachTells n → (kind : MapKind) (keys : List (List ℕ)) (ps : Pairs) → suc (pairs_depth ps) ≤ n → HavePairsLayout ps → ArePairs kind keys ps → EachIs (TellsEntry w fit) (pairs_in ps)
+  pairs_tell n each kind keys no_pairs less layout legal = tt
+  pairs_tell n each kind keys (more_pairs k t ps) less layout legal =
       let a = le-max_left (depth t) (pairs_depth ps) in
       let b = le-max_right (depth t) (pairs_depth ps) in
-      (each t (omega (arith, a)) layout.0, pairs_tell n each ps (omega (arith, b)) layout.1)
+      (each t (omega (arith, a)) layout.0 legal.1.0, pairs_tell n each kind (k ∷ keys) ps (omega (arith, b)) layout.1 legal.1.1)
 
-  level_reads : (n : ℕ) → ((y : Tree) → suc (depth y) ≤ n → HasLayout y → Tells fit w y) → (t : Tree) → depth t ≤ n → HasLayout t → ReadsNode fit (node_level w) t
-  level_reads n each (leaf (document.truth b)) less layout v p same planned s seen alike begun own fs c h =
+  level_reads : (n : ℕ) → EachTells n → (t : Tree) → depth t ≤ n → HasLayout t → IsLegal t → ReadsNode fit (node_level w) t
+  level_reads n each (leaf (document.truth b)) less layout legal v p same planned s seen alike begun own fs c h =
       let x = tagged 0 (boolean b) v same in
       let q = node_planned fit 0 truth x.inner v p x.is refl planned in
       let l = part_lies (align_up 1 (align_of truth)) own q.inner (laid s seen) c fs (subst (λ z. Lies z own (laid s seen) fs c) q.is h) in
@@ -139,7 +154,7 @@ module _ (fit : Fit) (w : Spelling Tree NodeResolver) where
       as_level (leaf (document.truth b)) s own fs c
       (node_reads 0 truth truth_spelling (λ _. resolver.Leaf) (λ _. tt) b (leaf (document.truth b)) s own l.0 fs c refl
       (no_fields truth_spelling b s seen (own + align_up 1 (align_of truth)) l.0 c alike refl refl (λ e r. r) (λ e r. r) ends) l.2)
-  level_reads n each (leaf (document.number z)) less layout v p same planned s seen alike begun own fs c h =
+  level_reads n each (leaf (document.number z)) less layout legal v p same planned s seen alike begun own fs c h =
       let shape = number w64 true in
       let x = tagged 1 (integer z) v same in
       let q = node_planned fit 1 shape x.inner v p x.is refl planned in
@@ -148,14 +163,14 @@ module _ (fit : Fit) (w : Spelling Tree NodeResolver) where
       as_level (leaf (document.number z)) s own fs c
       (node_reads 1 shape number_spelling (λ _. resolver.Leaf) (λ _. tt) z (leaf (document.number z)) s own l.0 fs c refl
       (no_fields number_spelling z s seen (own + align_up 1 (align_of shape)) l.0 c alike refl refl (λ e r. r) (λ e r. r) ends) l.2)
-  level_reads n each (leaf (document.text t)) less layout v p same planned s seen alike begun own fs c h =
+  level_reads n each (leaf (document.text t)) less layout legal v p same planned s seen alike begun own fs c h =
       let is = simply_tagged 2 (string t) v tt same in
       let q = node_planned fit 2 text (string t) v p is refl planned in
       let l = part_lies (align_up 1 (align_of text)) own q.inner (laid s seen) c fs (subst (λ y. Lies y own (laid s seen) fs c) q.is h) in
       as_level (leaf (document.text t)) s own fs c
       (node_reads 2 text str_spelling resolver.Text text_in t (leaf (document.text t)) s own l.0 fs c refl
       (text_reads t s seen (own + align_up 1 (align_of text)) q.inner l.0 c (text_planned fit t (string t) q.inner refl q.planned) alike l.1) l.2)
-  level_reads n each (shared t) less layout v p same planned s seen alike begun own fs c h =
+  level_reads n each (shared t) less layout legal v p same planned s seen alike begun own fs c h =
       let shape = shared_shape false str in
       let x = tagged 3 (counted 0 (string t)) v same in
       let y = shared_text t x.inner x.same in
@@ -164,7 +179,7 @@ module _ (fit : Fit) (w : Spelling Tree NodeResolver) where
       as_level (shared t) s own fs c
       (node_reads 3 shape shared_string_spelling resolver.Shared shared_in t (shared t) s own l.0 fs c refl
       (shared_reads t s seen alike begun (own + align_up 1 (align_of shape)) q.inner l.0 c (shared_planned fit y.pos t x.inner q.inner y.is q.planned) l.1) l.2)
-  level_reads n each nothing less layout v p same planned s seen alike begun own fs c h =
+  level_reads n each nothing less layout legal v p same planned s seen alike begun own fs c h =
       let shape = option boxed_shape in
       let is = simply_tagged 4 (chosen 0 no_values) v tt same in
       let q = node_planned fit 4 shape (chosen 0 no_values) v p is refl planned in
@@ -173,7 +188,7 @@ module _ (fit : Fit) (w : Spelling Tree NodeResolver) where
       as_level nothing s own fs c
       (node_reads 4 shape (maybe_spelling w) resolver.Maybe maybe_in None nothing s own l.0 fs c refl
       (no_fields (maybe_spelling w) None s seen (own + align_up 1 (align_of shape)) l.0 c alike refl refl (λ e r. r) (λ e r. r) ends) l.2)
-  level_reads n each (just t) less layout v p same planned s seen alike begun own fs c h =
+  level_reads n each (just t) less layout legal v p same planned s seen alike begun own fs c h =
       let shape = option boxed_shape in
       let x = tagged 4 (tagged_value 1 (value_of t)) v same in
       let y = tagged 1 (value_of t) x.inner x.same in
@@ -183,22 +198,24 @@ module _ (fit : Fit) (w : Spelling Tree NodeResolver) where
       let some = some_planned fit y.inner x.inner q.inner y.is q.planned in
       let m = part_lies (align_up 1 (align_of boxed_shape)) at some.0 (laid s seen) c l.0 (subst (λ z. Lies z at (laid s seen) l.0 c) some.2 l.1) in
       let box = box_planned fit y.inner some.0 some.1 in
-      let region = box_region fit w t (each t less layout) y.inner box.inner some.0 y.same box.planned box.is s seen alike begun (at + align_up 1 (align_of boxed_shape)) m.0 c m.1 in
+      let region = box_region fit w t (each t less layout legal) y.inner box.inner some.0 y.same box.planned box.is s seen alike begun (at + align_up 1 (align_of boxed_shape)) m.0 c m.1 in
       as_level (just t) s own fs c
       (node_reads 4 shape (maybe_spelling w) resolver.Maybe maybe_in (Some t) (just t) s own l.0 fs c refl
       (some_reads fit w t s at m.0 l.0 c (box_reads fit w t s (at + align_up 1 (align_of boxed_shape)) m.0 c region) m.2) l.2)
-  level_reads n each (list ts) less layout v p same planned s seen alike begun own fs c h =
+  level_reads n each (list ts) less layout legal v p same planned s seen alike begun own fs c h =
       let shape = vector node_shape in
       let x = tagged 5 (group (values_of ts)) v same in
       let y = grouped (values_of ts) x.inner x.same in
       let q = node_planned fit 5 shape x.inner v p x.is refl planned in
       let l = part_lies (align_up 1 (align_of shape)) own q.inner (laid s seen) c fs (subst (λ z. Lies z own (laid s seen) fs c) q.is h) in
       let many = list_planned fit y.inner x.inner q.inner y.is q.planned in
-      let region = list_region fit w ts (trees_tell n each ts less layout) y.inner many.inner q.inner y.same many.planned many.is (counted_values ts y.inner y.same) s seen alike begun (own + align_up 1 (align_of shape)) l.0 c l.1 in
+      let these = ap listed y.same ∙ values_listed ts in
+      let is = many.is ∙ ap (λ k. slice_plan node_shape (k ∷ []) (count_values y.inner) many.inner) (length-values fit node_shape value_of w (trees_in ts) y.inner these) in
+      let region = slice_region fit node_shape value_of w (trees_in ts) (trees_tell n each ts less layout legal.0) y.inner many.inner q.inner (length (trees_in ts) ∷ []) these many.planned is s seen alike begun (own + align_up 1 (align_of shape)) l.0 c l.1 in
       as_level (list ts) s own fs c
       (node_reads 5 shape (list_spelling w) resolver.List list_in (trees_in ts) (list ts) s own l.0 fs c refl
       (list_reads fit w (trees_in ts) s (own + align_up 1 (align_of shape)) l.0 c region) l.2)
-  level_reads n each (map ordered ps) less layout v p same planned s seen alike begun own fs c h =
+  level_reads n each (map ordered ps) less layout legal v p same planned s seen alike begun own fs c h =
       let shape = tree 5 text node_shape in
       let xs = pairs_in ps in
       let x = tagged 6 (group (values_of_pairs ps)) v same in
@@ -208,34 +225,46 @@ module _ (fit : Fit) (w : Spelling Tree NodeResolver) where
       let m = map_planned fit xs y.inner x.inner q.inner y.is (y.same ∙ entry_values fit ps) q.planned in
       as_level (map ordered ps) s own fs c
       (node_reads 6 shape (ordered_spelling w) resolver.Ordered ordered_in xs (map ordered ps) s own l.0 fs c refl
-      (map_reads w fit xs q.inner m (pairs_tell n each ps less layout) s seen alike begun (own + align_up 1 (align_of shape)) l.0 c l.1) l.2)
-  level_reads n each (map hashed ps) less layout v p same planned s seen alike begun own fs c h = absurd layout
-  level_reads n each (map kept ps) less layout v p same planned s seen alike begun own fs c h = absurd layout
+      (map_reads w fit xs q.inner m (pairs_tell n each ordered [] ps less layout legal.0) s seen alike begun (own + align_up 1 (align_of shape)) l.0 c l.1) l.2)
+  level_reads n each (map hashed ps) less layout legal v p same planned s seen alike begun own fs c h =
+      let shape = table pair_shape in
+      let xs = pairs_in ps in
+      let vs = by_first_fit (values_of_pairs ps) in
+      let x = tagged 7 (group vs) v same in
+      let y = grouped vs x.inner x.same in
+      let q = node_planned fit 7 shape x.inner v p x.is refl planned in
+      let l = part_lies (align_up 1 (align_of shape)) own q.inner (laid s seen) c fs (subst (λ z. Lies z own (laid s seen) fs c) q.is h) in
+      let filled = fills ps legal.0 in
+      let m = pairs_planned fit xs vs y.inner x.inner q.inner filled y.is y.same q.planned in
+      as_level (map hashed ps) s own fs c
+      (node_reads 7 shape (hashed_spelling w) resolver.Hashed hashed_in xs (map hashed ps) s own l.0 fs c refl
+      (hashed_reads w fit xs vs q.inner filled m (pairs_tell n each hashed [] ps less layout legal.0) s seen alike begun (own + align_up 1 (align_of shape)) l.0 c l.1) l.2)
+  level_reads n each (map kept ps) less layout legal v p same planned s seen alike begun own fs c h = absurd layout
 
-  level_lies : (n : ℕ) → ((y : Tree) → suc (depth y) ≤ n → HasLayout y → Tells fit w y) → (t : Tree) → depth t ≤ n → HasLayout t → LiesNode fit (node_level w) t
-  level_lies n each (leaf (document.truth b)) less layout v p same planned s seen alike begun own =
+  level_lies : (n : ℕ) → EachTells n → (t : Tree) → depth t ≤ n → HasLayout t → IsLegal t → LiesNode fit (node_level w) t
+  level_lies n each (leaf (document.truth b)) less layout legal v p same planned s seen alike begun own =
       let x = tagged 0 (boolean b) v same in
       let q = node_planned fit 0 truth x.inner v p x.is refl planned in
       as_part truth p q.inner own (laid s seen) q.is (as_plan q.inner flat _ (laid s seen) (truth_planned fit x.inner q.inner q.planned) (flat_can_lie _ (laid s seen)))
-  level_lies n each (leaf (document.number z)) less layout v p same planned s seen alike begun own =
+  level_lies n each (leaf (document.number z)) less layout legal v p same planned s seen alike begun own =
       let shape = number w64 true in
       let x = tagged 1 (integer z) v same in
       let q = node_planned fit 1 shape x.inner v p x.is refl planned in
       as_part shape p q.inner own (laid s seen) q.is (as_plan q.inner flat _ (laid s seen) (number_planned fit x.inner q.inner q.planned) (flat_can_lie _ (laid s seen)))
-  level_lies n each (leaf (document.text t)) less layout v p same planned s seen alike begun own =
+  level_lies n each (leaf (document.text t)) less layout legal v p same planned s seen alike begun own =
       let q = node_planned fit 2 text (string t) v p (simply_tagged 2 (string t) v tt same) refl planned in
       as_part text p q.inner own (laid s seen) q.is (text_can_lie t q.inner _ (laid s seen) (text_planned fit t (string t) q.inner refl q.planned))
-  level_lies n each (shared t) less layout v p same planned s seen alike begun own =
+  level_lies n each (shared t) less layout legal v p same planned s seen alike begun own =
       let shape = shared_shape false str in
       let x = tagged 3 (counted 0 (string t)) v same in
       let y = shared_text t x.inner x.same in
       let q = node_planned fit 3 shape x.inner v p x.is refl planned in
       as_part shape p q.inner own (laid s seen) q.is (shared_lies t s seen alike begun (own + align_up 1 (align_of shape)) q.inner (shared_planned fit y.pos t x.inner q.inner y.is q.planned))
-  level_lies n each nothing less layout v p same planned s seen alike begun own =
+  level_lies n each nothing less layout legal v p same planned s seen alike begun own =
       let shape = option boxed_shape in
       let q = node_planned fit 4 shape (chosen 0 no_values) v p (simply_tagged 4 (chosen 0 no_values) v tt same) refl planned in
       as_part shape p q.inner own (laid s seen) q.is (as_plan q.inner flat _ (laid s seen) (none_planned fit (chosen 0 no_values) q.inner refl q.planned) (flat_can_lie _ (laid s seen)))
-  level_lies n each (just t) less layout v p same planned s seen alike begun own =
+  level_lies n each (just t) less layout legal v p same planned s seen alike begun own =
       let shape = option boxed_shape in
       let x = tagged 4 (tagged_value 1 (value_of t)) v same in
       let y = tagged 1 (value_of t) x.inner x.same in
@@ -245,42 +274,53 @@ module _ (fit : Fit) (w : Spelling Tree NodeResolver) where
       let box = box_planned fit y.inner some.0 some.1 in
       as_part shape p q.inner own (laid s seen) q.is
       (as_part boxed_shape q.inner some.0 at (laid s seen) some.2
-      (box_lies fit w t (each t less layout) y.inner box.inner some.0 y.same box.planned box.is s seen alike begun (at + align_up 1 (align_of boxed_shape))))
-  level_lies n each (list ts) less layout v p same planned s seen alike begun own =
+      (box_lies fit w t (each t less layout legal) y.inner box.inner some.0 y.same box.planned box.is s seen alike begun (at + align_up 1 (align_of boxed_shape))))
+  level_lies n each (list ts) less layout legal v p same planned s seen alike begun own =
       let shape = vector node_shape in
       let x = tagged 5 (group (values_of ts)) v same in
       let y = grouped (values_of ts) x.inner x.same in
       let q = node_planned fit 5 shape x.inner v p x.is refl planned in
       let many = list_planned fit y.inner x.inner q.inner y.is q.planned in
       as_part shape p q.inner own (laid s seen) q.is
-      (list_lies fit w ts (trees_tell n each ts less layout) y.inner many.inner q.inner y.same many.planned many.is s seen alike begun (own + align_up 1 (align_of shape)))
-  level_lies n each (map ordered ps) less layout v p same planned s seen alike begun own =
+      (slice_lies fit node_shape value_of w (trees_in ts) (trees_tell n each ts less layout legal.0) y.inner many.inner q.inner (count_values y.inner ∷ []) (ap listed y.same ∙ values_listed ts) many.planned many.is s seen alike begun (own + align_up 1 (align_of shape)))
+  level_lies n each (map ordered ps) less layout legal v p same planned s seen alike begun own =
       let shape = tree 5 text node_shape in
       let xs = pairs_in ps in
       let x = tagged 6 (group (values_of_pairs ps)) v same in
       let y = grouped (values_of_pairs ps) x.inner x.same in
       let q = node_planned fit 6 shape x.inner v p x.is refl planned in
       let m = map_planned fit xs y.inner x.inner q.inner y.is (y.same ∙ entry_values fit ps) q.planned in
-      as_part shape p q.inner own (laid s seen) q.is (map_lies w fit xs q.inner m (pairs_tell n each ps less layout) s seen alike begun (own + align_up 1 (align_of shape)))
-  level_lies n each (map hashed ps) less layout v p same planned s seen alike begun own = absurd layout
-  level_lies n each (map kept ps) less layout v p same planned s seen alike begun own = absurd layout
+      as_part shape p q.inner own (laid s seen) q.is (map_lies w fit xs q.inner m (pairs_tell n each ordered [] ps less layout legal.0) s seen alike begun (own + align_up 1 (align_of shape)))
+  level_lies n each (map hashed ps) less layout legal v p same planned s seen alike begun own =
+      let shape = table pair_shape in
+      let xs = pairs_in ps in
+      let vs = by_first_fit (values_of_pairs ps) in
+      let x = tagged 7 (group vs) v same in
+      let y = grouped vs x.inner x.same in
+      let q = node_planned fit 7 shape x.inner v p x.is refl planned in
+      let filled = fills ps legal.0 in
+      let m = pairs_planned fit xs vs y.inner x.inner q.inner filled y.is y.same q.planned in
+      as_part shape p q.inner own (laid s seen) q.is
+      (hashed_lies w fit xs vs q.inner filled m (pairs_tell n each hashed [] ps less layout legal.0) s seen alike begun (own + align_up 1 (align_of shape)))
+  level_lies n each (map kept ps) less layout legal v p same planned s seen alike begun own = absurd layout
 
-  level_tells : (n : ℕ) → ((y : Tree) → suc (depth y) ≤ n → HasLayout y → Tells fit w y) → (t : Tree) → depth t ≤ n → HasLayout t → Tells fit (node_level w) t
-  level_tells n each t less layout = record {
+  level_tells : (n : ℕ) → EachTells n → (t : Tree) → depth t ≤ n → HasLayout t → IsLegal t → Tells fit (node_level w) t
+  level_tells n each t less layout legal = record {
     sized = node_length w t layout;
-    reads = level_reads n each t less layout;
-    lies = level_lies n each t less layout;
+    reads = level_reads n each t less layout legal;
+    lies = level_lies n each t less layout legal;
   }
 
 -- ---- documents
 
-levels_tell : (fit : Fit) (n : ℕ) (t : Tree) → depth t ≤ n → HasLayout t → Tells fit (levels_spelling node_level refused (suc n)) t
-levels_tell fit zero t less layout = level_tells fit refused zero (λ y h. absurd (omega (arith, h))) t less layout
-levels_tell fit (suc n) t less layout = level_tells fit (levels_spelling node_level refused (suc n)) (suc n) (λ y h. levels_tell fit n y (omega (arith, h))) t less layout
+levels_tell : (fit : Fit) → FillsMaps fit → (n : ℕ) (t : Tree) → depth t ≤ n → HasLayout t → IsLegal t → Tells fit (levels_spelling node_level refused (suc n)) t
+levels_tell fit fills zero t less layout legal = level_tells fit fills refused zero (λ y h. absurd (omega (arith, h))) t less layout legal
+levels_tell fit fills (suc n) t less layout legal =
+    level_tells fit fills (levels_spelling node_level refused (suc n)) (suc n) (λ y h. levels_tell fit fills n y (omega (arith, h))) t less layout legal
 
-node_tells : (fit : Fit) (t : Tree) → HasLayout t → Tells fit node_spelling t
-node_tells fit t layout =
-    let h = levels_tell fit (depth t) t (omega arith) layout in
+node_tells : (fit : Fit) → FillsMaps fit → (t : Tree) → HasLayout t → IsLegal t → Tells fit node_spelling t
+node_tells fit fills t layout legal =
+    let h = levels_tell fit fills (depth t) t (omega arith) layout legal in
     record {
       sized = h.sized;
       reads = λ v p same planned s seen alike begun own fs b l.
@@ -291,17 +331,17 @@ node_tells fit t layout =
 
 -- ---- the root's region, which no pointer leads to
 
-module _ (fit : Fit) (t : Tree) (layout : HasLayout t) (v : Value) (same : erased v ≡ value_of t) (e : Error) where
+module _ (fit : Fit) (fills : FillsMaps fit) (t : Tree) (layout : HasLayout t) (legal : IsLegal t) (v : Value) (same : erased v ≡ value_of t) (e : Error) where
   tell : Tells fit node_spelling t
-  tell = node_tells fit t layout
+  tell = node_tells fit fills t layout legal
 
   abbrev AtRoot : List Field → limits.State → Type 0
-  AtRoot within inner = ReadsAll fit node_spelling (t ∷ []) initial (region_at node_spelling node_shape (t ∷ []) initial) within inner
+  AtRoot within inner = ReadsAll fit node_shape value_of node_spelling (t ∷ []) initial (region_at node_spelling node_shape (t ∷ []) initial) within inner
 
   at_root : (p : Plan) → Planned fit node_shape v p → (within : List Field) (inner : limits.State) → Lies p (region_at node_spelling node_shape (t ∷ []) initial) (laid initial []) within inner → AtRoot within inner
   at_root p planned within inner h =
       let start = region_at node_spelling node_shape (t ∷ []) initial in
-      one_read fit node_spelling t initial start within inner (tell.sized (node_spelling.resolver t initial) start) (tell.reads v p same planned initial [] tt refl start within inner h)
+      one_read fit node_shape value_of node_spelling t initial start within inner (tell.sized (node_spelling.resolver t initial) start) (tell.reads v p same planned initial [] tt refl start within inner h)
 
   root_past : (within : List Field) (inner : limits.State) → AtRoot within inner
       → region_refused node_spelling node_shape (t ∷ []) initial e → IsSomePast (within ++ position (region_at node_spelling node_shape (t ∷ []) initial) ∷ []) e
@@ -327,7 +367,7 @@ module _ (fit : Fit) (t : Tree) (layout : HasLayout t) (v : Value) (same : erase
   pub stored_past : region_refused node_spelling node_shape (t ∷ []) initial e → PastLimits fit node_names node_shape v e
   stored_past r =
       let start = region_at node_spelling node_shape (t ∷ []) initial in
-      let plan = has_plan fit t v layout same in
+      let plan = has_plan fit fills t v layout legal same in
       let l = tell.lies v plan.0 same plan.1 initial [] tt refl start in
       let there = (tell.reads v plan.0 same plan.1 initial [] tt refl start l.0 l.1 l.2).there in
       record {
@@ -356,6 +396,7 @@ module _ (fit : Fit) (t : Tree) (layout : HasLayout t) (v : Value) (same : erase
       (subst (λ l. IsSomePast l e) (x.fields_are ∙ ap (λ n. x.within ++ position n ∷ []) begins) past.past)
 
 pub refused_is_past_law : RefusedIsPast
-refused_is_past_law fit t v e layout denotes =
-    let same : erased v ≡ value_of t = one_value_law v t layout denotes ∙ (node_agrees t).plain in
-    (stored_past fit t layout v same e, past_refused fit t layout v same e)
+refused_is_past_law t v e layout document denotes fitted =
+    let fit = first_fit text_hash in
+    let same : erased v ≡ value_of t = one_value_law v t layout document denotes fitted ∙ (node_agrees t).plain in
+    (stored_past fit first_fit_fills t layout document.0 v same e, past_refused fit first_fit_fills t layout document.0 v same e)

@@ -1,5 +1,5 @@
 -- What the search trees of ordered maps store, against the limits of how they are written.
-use Rattle.std.proofs.Common.{◌≡◌, ℕ, zero, suc, ◌+◌, ◌*◌, ◌<◌, ◌≤◌, ◌^◌, List, [], ◌∷◌, ◌++◌, map as mapped, length, Option, Some, refl, sym, ap, ap₂, subst, ◌∙◌, arith, ◌⊎◌, inl, inr, ⊎_elim, length-append, add-zero}
+use Rattle.std.proofs.Common.{◌≡◌, ℕ, zero, suc, ◌+◌, ◌*◌, ◌<◌, ◌≤◌, ◌^◌, List, [], ◌∷◌, map as mapped, length, Option, Some, refl, sym, ap, ap₂, subst, ◌∙◌, arith, ◌⊎◌, inl, inr, ⊎_elim, length-append, add-zero}
 use Rattle.std.proofs.lemmas.Bool.{cases_lt}
 use Rattle.archive_forms_values.specs.ShapeLayout.Bytes.{align_up}
 use Rattle.archive_forms_values.specs.ShapeLayout.Shape.{size_of}
@@ -17,6 +17,7 @@ use Rattle.archive_forms_values.specs.FormsLaws.State.{State}
 use Rattle.archive_forms_values.specs.FormsLaws.Spelling.{Spelling, state_after}
 use Rattle.archive_forms_values.specs.FormsLaws.Regions.{pieces_refused}
 use Rattle.archive_forms_values.specs.FormsLaws.Links.{LinkRefused}
+use Rattle.archive_forms_values.proofs.FormsLaws.Regions.{state_after_all_begun}
 use Rattle.archive_forms_rc.specs.FormsWriting.Owned.{str_spelling}
 use Rattle.archive_btree_spelling.specs.Parted.{Parted, shares, between, parted}
 use Rattle.archive_btree_spelling.specs.Written.{key_own, value_own, words, IsPlaced, slots_refused, state_after_children, linked, state_after_entries, node_at, node_piece, node_refused}
@@ -28,12 +29,14 @@ use Rattle.archive_btree_spelling.proofs.Planned.{PartedPlan}
 use Rattle.cabinet_text_grammar.specs.Tree.{Tree}
 use Rattle.cabinet_documents.specs.Node.{KnowsNode, node_shape, node_names}
 use Rattle.cabinet_documents.specs.declared.spelling.resolver.NodeResolver.{NodeResolver}
-use Rattle.cabinet_documents.specs.Spelling.{ordered_spelling}
-use Rattle.cabinet_documents.proofs.Values.{entries}
-use Rattle.cabinet_documents.proofs.Plans.{entry_value, EntriesPlan, MapPlan, is_empty, is_rooted}
-use Rattle.cabinet_documents.proofs.Fields.{text_length_of, Alike, laid, reached, parts_lies, past_left, past_right, past_either, offset_past, past_offset, flat_lies, leads_lies, IsFar, Reads, no_fields}
-use Rattle.cabinet_documents.proofs.Storing.{CanLie, as_plan, flat_can_lie, region_fields}
-use Rattle.cabinet_documents.proofs.StoredEntries.{Entry, begun_after, TellsEntry, entries_read, entries_lie, packed, TreeTells, TellsBelow, ChildrenPlanned, EntriesPlanned, children_read, children_lie}
+use Rattle.cabinet_documents.specs.Spelling.{pair_spelling, ordered_spelling}
+use Rattle.cabinet_documents.proofs.Values.{entry_value}
+use Rattle.cabinet_documents.proofs.Plans.{EntriesPlan, MapPlan, is_empty, is_rooted}
+use Rattle.cabinet_documents.proofs.Fields.{text_length_of, Alike, laid, reached, parts_lies, past_left, past_right, past_either, flat_lies, leads_lies, IsFar, Reads, no_fields}
+use Rattle.cabinet_documents.proofs.StoredRegions.{region_fields, led_read}
+use Rattle.cabinet_documents.proofs.Storing.{CanLie, as_plan, flat_can_lie}
+use Rattle.cabinet_documents.proofs.StoredPairs.{Entry, TellsEntry}
+use Rattle.cabinet_documents.proofs.StoredEntries.{entries_read, entries_lie, packed, TreeTells, TellsBelow, ChildrenPlanned, EntriesPlanned, children_read, children_lie}
 
 module _ (w : Spelling Tree NodeResolver) where
   abbrev Below : Type 1
@@ -52,7 +55,7 @@ module _ (w : Spelling Tree NodeResolver) where
   size_for p = link_node_size (words_of p.kind 5) 5 text node_shape
 
   abbrev PartsRefused : Below → Parted Entry → State → Error → Type 0
-  PartsRefused u p s e = pieces_refused u p.below s e ⊎ pieces_refused (entries w) p.own (after_children u p s) e
+  PartsRefused u p s e = pieces_refused u p.below s e ⊎ pieces_refused (pair_spelling w) p.own (after_children u p s) e
 
   abbrev SlotsRefused : Below → Parted Entry → State → ℕ → Error → Type 0
   SlotsRefused u p s start e = slots_refused 5 text node_shape str_spelling w (linked 5 text node_shape str_spelling w u p s) (after_children u p s) start e
@@ -75,43 +78,32 @@ module _ (w : Spelling Tree NodeResolver) where
         → node_refused 5 text node_shape str_spelling w u p s e ⊎ (LinkRefused (Some (start_of u p s)) own e ⊎ IsSomePast (mapped count numbers) e)
 
   rooted_read :
-      (fit : Fit) (u : Below) (p : Parted Entry) (s : State) (own : ℕ) (numbers : List ℕ) (within fs : List Field) (inner b : limits.State)
+      (u : Below) (p : Parted Entry) (s : State) (own : ℕ) (numbers : List ℕ) (within fs : List Field) (inner b : limits.State)
       → start_of u p s + size_for p ≡ s.pos + length (node_piece 5 text node_shape str_spelling w u p s)
       → ReadsParts u p s (start_of u p s) within inner
       → b ≡ moved (start_of u p s + size_for p) inner
-      → fs ≡ region_fields fit w own (start_of u p s) numbers within
+      → fs ≡ region_fields own (start_of u p s) (start_of u p s + 0) numbers within
       → ReadsRooted u p s own numbers fs b
-  rooted_read fit u p s own numbers within fs inner b size h ends fields =
+  rooted_read u p s own numbers within fs inner b size h ends fields =
       let start = start_of u p s in
-      let tail : List Field = position start ∷ (offset own (start + 0) ∷ mapped count numbers) in
       let behind : b.pos ≡ start + size_for p = ap (λ (z : limits.State). z.pos) ends in
       let up : inner.pos ≤ start = subst (λ n. n ≤ start) (sym h.there) (le_align_up (after_entries u p s).pos (link_node_align text node_shape)) in
-      let back : (e : Error) → IsSomePast (within ++ tail) e → IsSomePast fs e = λ e q. subst (λ l. IsSomePast l e) (sym fields) q in
-      let inside : (e : Error) → IsSomePast within e → IsSomePast fs e = λ e q. back e (past_left within tail e q) in
-      let high : (e : Error) → 2 ^ 32 ≤ start → e ≡ PositionTooLarge → IsSomePast fs e = λ e far is. back e (past_right within tail e (inl (far, is))) in
-      let of_parts : (e : Error) → PartsRefused u p s e → IsSomePast fs e =
-      λ e r. ⊎_elim (λ q. inside e q) (λ far. high e (omega (arith, far.0, up)) far.1) (h.parts_past e r) in
-      let unplaced : (e : Error) → (IsPlaced 5 text node_shape str_spelling w (linked 5 text node_shape str_spelling w u p s) start → ⊥) → e ≡ PositionTooLarge → IsSomePast fs e ⊎ IsFar b.pos e =
-      λ e none is.
+      let Unplaced : Error → Type 0 = λ e. (IsPlaced 5 text node_shape str_spelling w (linked 5 text node_shape str_spelling w u p s) start → ⊥) × (e ≡ PositionTooLarge) in
+      let led = led_read (PartsRefused u p s) Unplaced (SlotsRefused u p s start) own start start numbers within fs inner.pos b.pos up
+      (λ e r.
       ⊎_elim
-      (λ low. ⊎_elim (λ short. absurd (none (low, short))) (λ far. inr (omega (arith, far, behind), is)) (cases_lt (start + size_for p) (2 ^ 64)))
-      (λ far. inl (high e far is))
-      (cases_lt start (2 ^ 32)) in
+      (λ low. ⊎_elim (λ short. absurd (r.0 (low, short))) (λ far. inr (omega (arith, far, behind), r.1)) (cases_lt (start + size_for p) (2 ^ 64)))
+      (λ far. inl (far, r.1))
+      (cases_lt start (2 ^ 32)))
+      (λ e far. ((λ placed. let low = placed.0 in let above = far.0 in omega (arith, low, above)), far.1))
+      (record { data_past = h.parts_past; own_past = λ e r. inl (h.slots_past e r); refused_within = h.refused_parts })
+      (fields ∙ ap (λ n. region_fields own start n numbers within) (add-zero start)) in
       record {
         alike = subst (λ (z : limits.State). Alike z.met (after_entries u p s).met) (sym ends) h.alike;
         there = behind ∙ size;
-        past = λ e. ⊎_elim
-            (λ r. inl (of_parts e (inl r)))
-            (⊎_elim (λ r. inl (of_parts e (inr r))) (⊎_elim (λ far. unplaced e far.0 far.1) (λ r. inl (inside e (h.slots_past e r)))));
-        beside = λ e. ⊎_elim
-            (λ far. back e (past_right within tail e (inr (inl (subst (λ n. (own + 2 ^ 31 ≤ n) ⊎ (n + 2 ^ 31 < own)) (sym (add-zero start)) (offset_past own start far.0), far.1)))))
-            (λ q. back e (past_right within tail e (inr (inr q))));
-        refused_node = λ e q. ⊎_elim
-            (λ g. ⊎_elim (⊎_elim (λ r. inl (inl r)) (λ r. inl (inr (inl r)))) (λ r. inl (inr (inr (inr r)))) (h.refused_parts e g))
-            (⊎_elim
-            (λ far. inl (inr (inr (inl ((λ placed. let low = placed.0 in let above = far.0 in omega (arith, low, above)), far.1)))))
-            (⊎_elim (λ far. inr (inl (past_offset own start (subst (λ n. (own + 2 ^ 31 ≤ n) ⊎ (n + 2 ^ 31 < own)) (add-zero start) far.0), far.1))) (λ r. inr (inr r))))
-            (past_either within tail e (subst (λ l. IsSomePast l e) fields q));
+        past = λ e. ⊎_elim (λ r. led.past e (inl (inl r))) (⊎_elim (λ r. led.past e (inl (inr r))) (λ r. led.past e (inr r)));
+        beside = led.beside;
+        refused_node = λ e q. ⊎_elim (λ g. inl (⊎_elim (⊎_elim (λ r. inl r) (λ r. inr (inl r))) (λ r. inr (inr r)) g)) (λ g. inr g) (led.refused_led e q);
       }
 
   -- ---- the size of a node
@@ -120,7 +112,7 @@ module _ (w : Spelling Tree NodeResolver) where
     key_slots_size : (xs : List Entry) (s : State) (pos : ℕ) → length (key_slots fit 5 text node_shape KnowsNode str_spelling w xs s pos) ≡ length xs * 8
     key_slots_size [] s pos = omega arith
     key_slots_size (x ∷ xs) s pos =
-        let after = state_after (entries w) x s in
+        let after = state_after (pair_spelling w) x s in
         let own = key_own 5 text node_shape str_spelling w x s pos in
         let first : length own ≡ 8 = text_length_of x.0 (str_spelling.resolver x.0 s).pos pos in
         let rest = key_slots_size xs after (pos + size_of text) in
@@ -129,7 +121,7 @@ module _ (w : Spelling Tree NodeResolver) where
     value_slots_size : (xs : List Entry) → EachIs (TellsEntry w fit) xs → (s : State) (pos : ℕ) → length (value_slots fit 5 text node_shape KnowsNode str_spelling w xs s pos) ≡ length xs * 24
     value_slots_size [] each s pos = omega arith
     value_slots_size (x ∷ xs) each s pos =
-        let after = state_after (entries w) x s in
+        let after = state_after (pair_spelling w) x s in
         let own = value_own 5 text node_shape str_spelling w x s pos in
         let first : length own ≡ 24 = each.0.sized (w.resolver x.1 (state_after str_spelling x.0 s)) pos in
         let rest = value_slots_size xs each.1 after (pos + size_of node_shape) in
@@ -175,7 +167,7 @@ module _ (w : Spelling Tree NodeResolver) where
           let now = after_children u p s in
           let c = children_read w fit l p.below behind all (links_offset 5 text node_shape) start (start + links_offset 5 text node_shape) s seen within inner below children_planned alike begun refl h in
           let r = entries_read w fit p.own behind (keys_offset text) (values_offset 5 text node_shape) start (start + keys_offset text) (start + values_offset 5 text node_shape) now c.between.met c.there inner
-          own_tell entries_planned c.reads.alike (begun_after u p.below s ∙ begun) refl refl
+          own_tell entries_planned c.reads.alike (state_after_all_begun fit text KnowsNode u p.below s ∙ begun) refl refl
           (subst (λ z. LieAll behind start z c.there inner) (reached c.between now c.reads.there) c.lies) in
           let at_between = c.reads.there in
           let up = r.up in
@@ -209,17 +201,17 @@ module _ (w : Spelling Tree NodeResolver) where
             let start = start_of u p s in
             let there = (read_at f.start f.within f.inner f.lies).there in
             let begins : f.start ≡ start = f.begins ∙ ap (λ (z : Target). align_up f.inner.pos z.align) planned.target ∙ ap (λ n. align_up n (link_node_align text node_shape)) there in
-            rooted_read fit u p s own numbers f.within fs f.inner b size
+            rooted_read u p s own numbers f.within fs f.inner b size
             (read_at start f.within f.inner (subst (λ n. Lies q n (laid s seen) f.within f.inner) begins f.lies))
             (f.ends ∙ ap₂ (λ (n : ℕ) (z : Target). moved (n + z.size) f.inner) begins planned.target)
-            (f.fields ∙ ap₂ (λ (n : ℕ) (z : Target). f.within ++ position n ∷ (offset own (n + z.lead) ∷ mapped count numbers)) begins planned.target)
+            (f.fields ∙ ap₂ (λ (n : ℕ) (z : Target). region_fields own n (n + z.lead) numbers f.within) begins planned.target)
 
         node_lies : CanLie (leads numbers t q) own (laid s seen)
         node_lies =
             let u = packed w l in
             let start = start_of u p s in
             let h = children_lie w fit l p.below planned.own planned.all (links_offset 5 text node_shape) start s seen below planned.children_planned alike begun
-            (λ met both. entries_lie w fit p.own planned.own (keys_offset text) (values_offset 5 text node_shape) start (after_children u p s) met own_tell planned.entries_planned both (begun_after u p.below s ∙ begun)) in
+            (λ met both. entries_lie w fit p.own planned.own (keys_offset text) (values_offset 5 text node_shape) start (after_children u p s) met own_tell planned.entries_planned both (state_after_all_begun fit text KnowsNode u p.below s ∙ begun)) in
             let lies = subst (λ z. Lies z start (laid s seen) h.0 h.1) (sym planned.is) (lies_parts h.2) in
             let there = (read_at start h.0 h.1 lies).there in
             (_, _, lies_leads lies (ap (λ n. align_up n (link_node_align text node_shape)) (sym there) ∙ ap (λ (z : Target). align_up h.1.pos z.align) (sym planned.target)) refl refl)

@@ -1,30 +1,34 @@
--- What nodes store side by side, and in the regions that pointers lead to, against the limits of how they are written.
-use Rattle.std.proofs.Common.{◌≡◌, ℕ, ◌+◌, ◌-◌, ◌*◌, ◌<◌, ◌≤◌, ◌^◌, List, [], ◌∷◌, ◌++◌, map as mapped, length, Some, refl, sym, ap, subst, ◌∙◌, arith, ◌⊎◌, inl, inr, ⊎_elim, length-append, add-zero}
-use Rattle.std.proofs.lemmas.List.{length-replicate}
+-- What values store side by side, and in the regions that pointers lead to, against the limits of how they are written.
+use Rattle.std.proofs.Common.{◌≡◌, ℕ, ◌+◌, ◌-◌, ◌*◌, ◌≤◌, ◌^◌, List, [], ◌∷◌, ◌++◌, map as mapped, length, Some, refl, sym, ap, subst, ◌∙◌, arith, ◌⊎◌, inl, inr, ⊎_elim, length-append, add-zero}
+use Rattle.std.specs.List.{AllByRecursion}
+use Rattle.std.proofs.lemmas.List.{length-replicate, length-map}
 use Rattle.archive_forms_values.specs.ShapeLayout.Bytes.{align_up}
-use Rattle.archive_forms_values.specs.ShapeLayout.Shape.{Shape, align_of}
+use Rattle.archive_forms_values.specs.ShapeLayout.Shape.{Shape, size_of, align_of}
 use Rattle.archive_forms_values.specs.ShapeLayout.Value.{Value, Values, count_values}
 use Rattle.archive_forms_values.specs.ShapeLayout.Value.Values.{no_values, more_values}
 use Rattle.archive_forms_values.proofs.ShapeLayout.Framed.{le_align_up}
 use Rattle.archive_forms_values.specs.ShapeWriting.declared.error.Error.{Error}
-use Rattle.archive_forms_values.specs.ShapeWriting.declared.error.Error.TheVariants.{PositionTooLarge, IsizeOverflow}
+use Rattle.archive_forms_values.specs.ShapeWriting.declared.error.Error.TheVariants.{PositionTooLarge}
 use Rattle.archive_forms_values.specs.ShapeCanonical.Settled.{Fit}
 use Rattle.archive_forms_values.specs.ShapeCanonical.Sharing.{erased, all_erased}
 use Rattle.archive_forms_values.specs.ShapeCanonical.Plan.{Plan, flat, parts, leads_to_text, Plans, no_plans, more_plans, whole_target}
-use Rattle.archive_forms_values.specs.ShapeCanonical.Limits.{Field, offset, position, count, IsSomePast, Shared, moved, Lies, lies_flat, lies_parts, lies_leads, lies_text, LieAll, lie_none, lie_more}
+use Rattle.archive_forms_values.specs.ShapeCanonical.Limits.{Field, IsSomePast, Shared, moved, Lies, lies_flat, lies_parts, lies_leads, lies_text, LieAll, lie_none, lie_more}
 use Rattle.archive_forms_values.specs.ShapeCanonical.Limits as limits
-use Rattle.archive_forms_values.specs.ArchiveShape.Offsets.{FitsOffset}
 use Rattle.archive_forms_values.specs.ArchiveShape.Bytes.{zeros}
 use Rattle.archive_forms_values.specs.FormsLaws.State.{State}
 use Rattle.archive_forms_values.specs.FormsLaws.Spelling.{Spelling, state_after}
-use Rattle.archive_forms_values.specs.FormsLaws.Regions.{state_after_all, pieces, owns, pieces_refused, owns_refused, region_at, region_piece, region_refused}
-use Rattle.cabinet_text_grammar.specs.Tree.{Tree, Trees, no_trees, more_trees}
-use Rattle.cabinet_documents.specs.Node.{node_shape}
+use Rattle.archive_forms_values.specs.FormsLaws.Regions.{state_after_all, pieces, owns, pieces_refused, owns_refused, region_at, region_piece}
+use Rattle.archive_forms_values.specs.FormsLaws.Views.{listed}
+use Rattle.archive_forms_values.proofs.FormsLaws.Regions.{state_after_all_pos}
+use Rattle.archive_hash_writing.proofs.Planned.{count_listed}
+use Rattle.cabinet_text_grammar.specs.Tree.{Tree}
+use Rattle.cabinet_documents.specs.Node.{node_shape, KnowsNode}
 use Rattle.cabinet_documents.specs.declared.spelling.resolver.NodeResolver.{NodeResolver}
-use Rattle.cabinet_documents.specs.Spelling.{boxed_shape, boxed_spelling, maybe_spelling, list_spelling, trees_in, node_of, refused}
-use Rattle.cabinet_documents.proofs.Values.{value_of, values_of}
-use Rattle.cabinet_documents.proofs.Plans.{TextPlan, is_inline, is_far, box_plan, list_plan, one_plan, Planned, ArePlanned, first_planned, none_are_planned}
-use Rattle.cabinet_documents.proofs.Fields.{Alike, laid, reached, parts_lies, past_left, past_right, past_either, offset_past, past_offset, leads_lies, IsFar, Reads}
+use Rattle.cabinet_documents.specs.Spelling.{boxed_shape, boxed_spelling, maybe_spelling, list_spelling, node_of}
+use Rattle.cabinet_documents.proofs.Values.{value_of}
+use Rattle.cabinet_documents.proofs.Plans.{TextPlan, is_inline, is_far, box_plan, slice_plan, one_plan, Planned, ArePlanned, first_planned, none_are_planned}
+use Rattle.cabinet_documents.proofs.Fields.{Alike, laid, reached, parts_lies, past_left, past_right, past_either, leads_lies, IsFar, Reads}
+use Rattle.cabinet_documents.proofs.StoredRegions.{region_fields, ReadsLed, led_read}
 
 -- a plan lies from a state on, with own bytes at a position
 abbrev pub CanLie : Plan → ℕ → limits.State → Type 0
@@ -49,6 +53,27 @@ pub text_can_lie : (t : List ℕ) (p : Plan) (own : ℕ) (st : limits.State) →
 text_can_lie t p own st (is_inline short is) = as_plan p flat own st is (flat_can_lie own st)
 text_can_lie t p own st (is_far long is) = as_plan p (leads_to_text (length t)) own st is (_, _, lies_text refl refl)
 
+-- ---- plans side by side
+
+pub no_lies : (own : ℕ) (st b : limits.State) (fs : List Field) → LieAll no_plans own st fs b → (fs ≡ []) × (b ≡ st)
+no_lies own st b fs lie_none = (refl, refl)
+
+pub record FirstLies (at : ℕ) (p : Plan) (ps : Plans) (own : ℕ) (st b : limits.State) (fs : List Field) : Type 0 where
+  pub between : limits.State
+  pub here : List Field
+  pub there : List Field
+  pub first : Lies p (own + at) st here between
+  pub rest : LieAll ps own between there b
+  pub all : fs ≡ here ++ there
+
+pub first_lies : (at : ℕ) (p : Plan) (ps : Plans) (own : ℕ) (st b : limits.State) (fs : List Field) → LieAll (more_plans at p ps) own st fs b → FirstLies at p ps own st b fs
+first_lies at p ps own st b fs (lie_more {between = between} {here = here} {there = there} h k all) =
+    record { between = between; here = here; there = there; first = h; rest = k; all = all }
+
+pub one_more_lies : (at : ℕ) (p : Plan) (ps : Plans) (own : ℕ) (st between b : limits.State) (here there : List Field) → Lies p (own + at) st here between → LieAll ps own between there b
+    → CanAllLie (more_plans at p ps) own st
+one_more_lies at p ps own st between b here there h k = (here ++ there, b, lie_more h k refl)
+
 -- ---- a node, by what its payload stores
 
 module _ {A R : Type 0} (tag : ℕ) (shape : Shape) (w : Spelling A R) (make : R → NodeResolver) (get : NodeResolver → R) (x : A) (t : Tree) where
@@ -67,63 +92,52 @@ module _ {A R : Type 0} (tag : ℕ) (shape : Shape) (w : Spelling A R) (make : R
             (past_either here [] e (subst (λ l. IsSomePast l e) all p));
       }
 
--- ---- what is known of a node
+-- ---- what is known of a value
 
-module _ (fit : Fit) (w : Spelling Tree NodeResolver) where
-  abbrev pub ReadsNode : Tree → Type 0
-  ReadsNode t =
-      (v : Value) (p : Plan) → erased v ≡ value_of t → Planned fit node_shape v p
+module _ (fit : Fit) {A R : Type 0} (shape : Shape) (as_value : A → Value) (w : Spelling A R) where
+  abbrev pub ReadsValue : A → Type 0
+  ReadsValue x =
+      (v : Value) (p : Plan) → erased v ≡ as_value x → Planned fit shape v p
       → (s : State) (seen : List Shared) → Alike seen s.met → s.begun ≡ [] → (own : ℕ) (fs : List Field) (b : limits.State)
-      → Lies p own (laid s seen) fs b → Reads w t s own fs b
+      → Lies p own (laid s seen) fs b → Reads w x s own fs b
 
-  abbrev pub LiesNode : Tree → Type 0
-  LiesNode t =
-      (v : Value) (p : Plan) → erased v ≡ value_of t → Planned fit node_shape v p
+  abbrev pub LiesValue : A → Type 0
+  LiesValue x =
+      (v : Value) (p : Plan) → erased v ≡ as_value x → Planned fit shape v p
       → (s : State) (seen : List Shared) → Alike seen s.met → s.begun ≡ [] → (own : ℕ) → CanLie p own (laid s seen)
 
-  pub record Tells (t : Tree) : Type 0 where
-    pub sized : (r : NodeResolver) (pos : ℕ) → length (w.own t r pos) ≡ 24
-    pub reads : ReadsNode t
-    pub lies : LiesNode t
+  pub record TellsValue (x : A) : Type 0 where
+    pub sized : (r : R) (pos : ℕ) → length (w.own x r pos) ≡ size_of shape
+    pub reads : ReadsValue x
+    pub lies : LiesValue x
 
-  abbrev pub AllTell : Trees → Type 0
-  AllTell no_trees = Unit {0}
-  AllTell (more_trees t ts) = Tells t × AllTell ts
+  -- ---- values side by side
 
-  -- ---- nodes side by side
-
-  pub record ReadsAll (xs : List Tree) (s : State) (pos : ℕ) (fs : List Field) (b : limits.State) : Type 0 where
+  pub record ReadsAll (xs : List A) (s : State) (pos : ℕ) (fs : List Field) (b : limits.State) : Type 0 where
     pub alike : Alike b.met (state_after_all w xs s).met
     pub there : b.pos ≡ (state_after_all w xs s).pos
     pub pieces_past : (e : Error) → pieces_refused w xs s e → IsSomePast fs e ⊎ IsFar b.pos e
-    pub owns_past : (e : Error) → owns_refused w node_shape xs s pos e → IsSomePast fs e ⊎ ((2 ^ 64 ≤ pos + length xs * 24) × (e ≡ PositionTooLarge))
-    pub refused_all : (e : Error) → IsSomePast fs e → pieces_refused w xs s e ⊎ owns_refused w node_shape xs s pos e
+    pub owns_past : (e : Error) → owns_refused w shape xs s pos e → IsSomePast fs e ⊎ ((2 ^ 64 ≤ pos + length xs * size_of shape) × (e ≡ PositionTooLarge))
+    pub refused_all : (e : Error) → IsSomePast fs e → pieces_refused w xs s e ⊎ owns_refused w shape xs s pos e
 
-  length-owns : (ts : Trees) → AllTell ts → (s : State) (pos : ℕ) → length (owns w (trees_in ts) s pos) ≡ length (trees_in ts) * 24
-  length-owns no_trees tell s pos = omega arith
-  length-owns (more_trees t ts) tell s pos =
-      let own = w.own t (w.resolver t s) pos in
-      let first = tell.0.sized (w.resolver t s) pos in
-      let rest = length-owns ts tell.1 (state_after w t s) (pos + length own) in
-      length-append own (owns w (trees_in ts) (state_after w t s) (pos + length own)) ∙ omega (arith, first, rest)
-
-  after_pos : (xs : List Tree) (s : State) → (state_after_all w xs s).pos ≡ s.pos + length (pieces w xs s)
-  after_pos [] s = sym (add-zero s.pos)
-  after_pos (x ∷ xs) s =
-      let rest = after_pos xs (state_after w x s) in
-      omega (arith, rest, length-append (w.piece x s) (pieces w xs (state_after w x s)))
+  length-owns : (xs : List A) → AllByRecursion TellsValue xs → (s : State) (pos : ℕ) → length (owns w xs s pos) ≡ length xs * size_of shape
+  length-owns [] tell s pos = omega arith
+  length-owns (x ∷ xs) tell s pos =
+      let own = w.own x (w.resolver x s) pos in
+      let first = tell.0.sized (w.resolver x s) pos in
+      let rest = length-owns xs tell.1 (state_after w x s) (pos + length own) in
+      length-append own (owns w xs (state_after w x s) (pos + length own)) ∙ omega (arith, first, rest)
 
   first_and_rest :
-      (t : Tree) (ts : List Tree) (s : State) (pos : ℕ) (here there fs : List Field) (between b : limits.State)
-      → length (w.own t (w.resolver t s) pos) ≡ 24
-      → Reads w t s pos here between
-      → ReadsAll ts (state_after w t s) (pos + length (w.own t (w.resolver t s) pos)) there b
+      (x : A) (xs : List A) (s : State) (pos : ℕ) (here there fs : List Field) (between b : limits.State)
+      → length (w.own x (w.resolver x s) pos) ≡ size_of shape
+      → Reads w x s pos here between
+      → ReadsAll xs (state_after w x s) (pos + length (w.own x (w.resolver x s) pos)) there b
       → fs ≡ here ++ there
-      → ReadsAll (t ∷ ts) s pos fs b
-  first_and_rest t ts s pos here there fs between b size first rest all =
-      let s' = state_after w t s in
+      → ReadsAll (x ∷ xs) s pos fs b
+  first_and_rest x xs s pos here there fs between b size first rest all =
       let up = rest.there in
-      let behind = after_pos ts s' in
+      let behind = state_after_all_pos fit shape KnowsNode w xs (state_after w x s) in
       let mid = first.there in
       record {
         alike = rest.alike;
@@ -149,124 +163,123 @@ module _ (fit : Fit) (w : Spelling Tree NodeResolver) where
     refused_all = λ e p. absurd (subst (λ l. IsSomePast l e) ends.0 p);
   }
 
-  pub no_lies : (own : ℕ) (st b : limits.State) (fs : List Field) → LieAll no_plans own st fs b → (fs ≡ []) × (b ≡ st)
-  no_lies own st b fs lie_none = (refl, refl)
-
-  pub record FirstLies (at : ℕ) (p : Plan) (ps : Plans) (own : ℕ) (st b : limits.State) (fs : List Field) : Type 0 where
-    pub between : limits.State
-    pub here : List Field
-    pub there : List Field
-    pub first : Lies p (own + at) st here between
-    pub rest : LieAll ps own between there b
-    pub all : fs ≡ here ++ there
-
-  pub first_lies : (at : ℕ) (p : Plan) (ps : Plans) (own : ℕ) (st b : limits.State) (fs : List Field) → LieAll (more_plans at p ps) own st fs b → FirstLies at p ps own st b fs
-  first_lies at p ps own st b fs (lie_more {between = between} {here = here} {there = there} h k all) =
-      record { between = between; here = here; there = there; first = h; rest = k; all = all }
-
   all_read :
-      (ts : Trees) (vs : Values) (ps : Plans) (at own pos : ℕ) (s : State) (seen : List Shared) (fs : List Field) (b : limits.State)
-      → AllTell ts → all_erased vs ≡ values_of ts → ArePlanned fit at vs ps → Alike seen s.met → s.begun ≡ [] → pos ≡ own + at
-      → LieAll ps own (laid s seen) fs b → ReadsAll (trees_in ts) s pos fs b
-  all_read no_trees no_values ps at own pos s seen fs b tell same planned alike begun pos_is h =
-      let none = none_are_planned fit at ps planned in
+      (xs : List A) (vs : Values) (ps : Plans) (at own pos : ℕ) (s : State) (seen : List Shared) (fs : List Field) (b : limits.State)
+      → AllByRecursion TellsValue xs → listed (all_erased vs) ≡ mapped as_value xs → ArePlanned fit shape at vs ps → Alike seen s.met → s.begun ≡ [] → pos ≡ own + at
+      → LieAll ps own (laid s seen) fs b → ReadsAll xs s pos fs b
+  all_read [] no_values ps at own pos s seen fs b tell same planned alike begun pos_is h =
+      let none = none_are_planned fit shape at ps planned in
       none_read s seen pos fs b alike (no_lies own (laid s seen) b fs (subst (λ x. LieAll x own (laid s seen) fs b) none h))
-  all_read no_trees (more_values v vs) ps at own pos s seen fs b tell same planned alike begun pos_is h = absurd cc
-  all_read (more_trees t ts) no_values ps at own pos s seen fs b tell same planned alike begun pos_is h = absurd cc
-  all_read (more_trees t ts) (more_values v vs) ps at own pos s seen fs b tell same planned alike begun pos_is h =
-      let one : erased v ≡ value_of t = cc in
-      let others : all_erased vs ≡ values_of ts = cc in
-      let plan = first_planned fit at v vs ps planned in
-      let l = first_lies at plan.first plan.others own (laid s seen) b fs (subst (λ x. LieAll x own (laid s seen) fs b) plan.is h) in
+  all_read [] (more_values v vs) ps at own pos s seen fs b tell same planned alike begun pos_is h = absurd cc
+  all_read (x ∷ xs) no_values ps at own pos s seen fs b tell same planned alike begun pos_is h = absurd cc
+  all_read (x ∷ xs) (more_values v vs) ps at own pos s seen fs b tell same planned alike begun pos_is h =
+      let one : erased v ≡ as_value x = cc in
+      let others : listed (all_erased vs) ≡ mapped as_value xs = cc in
+      let plan = first_planned fit shape at v vs ps planned in
+      let l = first_lies at plan.first plan.others own (laid s seen) b fs (subst (λ z. LieAll z own (laid s seen) fs b) plan.is h) in
       let first = tell.0.reads v plan.first one plan.planned s seen alike begun pos l.here l.between (subst (λ n. Lies plan.first n (laid s seen) l.here l.between) (sym pos_is) l.first) in
-      let size = tell.0.sized (w.resolver t s) pos in
-      let next = state_after w t s in
-      let rest = all_read ts vs plan.others (at + 24) own (pos + length (w.own t (w.resolver t s) pos)) next l.between.met l.there b tell.1 others plan.are first.alike begun
+      let size = tell.0.sized (w.resolver x s) pos in
+      let next = state_after w x s in
+      let rest = all_read xs vs plan.others (at + size_of shape) own (pos + length (w.own x (w.resolver x s) pos)) next l.between.met l.there b tell.1 others plan.are first.alike begun
       (omega (arith, size, pos_is))
       (subst (λ z. LieAll plan.others own z l.there b) (reached l.between next first.there) l.rest) in
-      first_and_rest t (trees_in ts) s pos l.here l.there fs l.between b size first rest l.all
-
-  pub one_more_lies : (at : ℕ) (p : Plan) (ps : Plans) (own : ℕ) (st between b : limits.State) (here there : List Field) → Lies p (own + at) st here between → LieAll ps own between there b
-      → CanAllLie (more_plans at p ps) own st
-  one_more_lies at p ps own st between b here there h k = (here ++ there, b, lie_more h k refl)
+      first_and_rest x xs s pos l.here l.there fs l.between b size first rest l.all
 
   all_lie :
-      (ts : Trees) (vs : Values) (ps : Plans) (at own : ℕ) (s : State) (seen : List Shared)
-      → AllTell ts → all_erased vs ≡ values_of ts → ArePlanned fit at vs ps → Alike seen s.met → s.begun ≡ [] → CanAllLie ps own (laid s seen)
-  all_lie no_trees no_values ps at own s seen tell same planned alike begun =
-      subst (λ x. CanAllLie x own (laid s seen)) (sym (none_are_planned fit at ps planned)) ([], laid s seen, lie_none)
-  all_lie no_trees (more_values v vs) ps at own s seen tell same planned alike begun = absurd cc
-  all_lie (more_trees t ts) no_values ps at own s seen tell same planned alike begun = absurd cc
-  all_lie (more_trees t ts) (more_values v vs) ps at own s seen tell same planned alike begun =
-      let one : erased v ≡ value_of t = cc in
-      let others : all_erased vs ≡ values_of ts = cc in
-      let plan = first_planned fit at v vs ps planned in
+      (xs : List A) (vs : Values) (ps : Plans) (at own : ℕ) (s : State) (seen : List Shared)
+      → AllByRecursion TellsValue xs → listed (all_erased vs) ≡ mapped as_value xs → ArePlanned fit shape at vs ps → Alike seen s.met → s.begun ≡ [] → CanAllLie ps own (laid s seen)
+  all_lie [] no_values ps at own s seen tell same planned alike begun =
+      subst (λ x. CanAllLie x own (laid s seen)) (sym (none_are_planned fit shape at ps planned)) ([], laid s seen, lie_none)
+  all_lie [] (more_values v vs) ps at own s seen tell same planned alike begun = absurd cc
+  all_lie (x ∷ xs) no_values ps at own s seen tell same planned alike begun = absurd cc
+  all_lie (x ∷ xs) (more_values v vs) ps at own s seen tell same planned alike begun =
+      let one : erased v ≡ as_value x = cc in
+      let others : listed (all_erased vs) ≡ mapped as_value xs = cc in
+      let plan = first_planned fit shape at v vs ps planned in
       let l = tell.0.lies v plan.first one plan.planned s seen alike begun (own + at) in
       let first = tell.0.reads v plan.first one plan.planned s seen alike begun (own + at) l.0 l.1 l.2 in
-      let rest = all_lie ts vs plan.others (at + 24) own (state_after w t s) l.1.met tell.1 others plan.are first.alike begun in
-      let there = subst (λ z. LieAll plan.others own z rest.0 rest.1) (sym (reached l.1 (state_after w t s) first.there)) rest.2 in
-      subst (λ x. CanAllLie x own (laid s seen)) (sym plan.is) (one_more_lies at plan.first plan.others own (laid s seen) l.1 rest.1 l.0 rest.0 l.2 there)
+      let rest = all_lie xs vs plan.others (at + size_of shape) own (state_after w x s) l.1.met tell.1 others plan.are first.alike begun in
+      let there = subst (λ z. LieAll plan.others own z rest.0 rest.1) (sym (reached l.1 (state_after w x s) first.there)) rest.2 in
+      subst (λ z. CanAllLie z own (laid s seen)) (sym plan.is) (one_more_lies at plan.first plan.others own (laid s seen) l.1 rest.1 l.0 rest.0 l.2 there)
 
-  -- ---- the region of nodes that a pointer leads to
+  -- ---- the region of values that a pointer leads to
 
-  pub record ReadsRegion (xs : List Tree) (s : State) (own : ℕ) (numbers : List ℕ) (fs : List Field) (b : limits.State) : Type 0 where
+  pub record ReadsRegion (xs : List A) (s : State) (own : ℕ) (numbers : List ℕ) (fs : List Field) (b : limits.State) : Type 0 where
     pub alike : Alike b.met (state_after_all w xs s).met
-    pub there : b.pos ≡ s.pos + length (region_piece w node_shape xs s)
-    pub past : (e : Error) → region_refused w node_shape xs s e → IsSomePast fs e ⊎ IsFar b.pos e
-    pub beside : (e : Error) → ((FitsOffset own (region_at w node_shape xs s) → ⊥) × (e ≡ IsizeOverflow)) ⊎ IsSomePast (mapped count numbers) e → IsSomePast fs e
-    pub refused_region : (e : Error) → IsSomePast fs e
-        → region_refused w node_shape xs s e ⊎ (((FitsOffset own (region_at w node_shape xs s) → ⊥) × (e ≡ IsizeOverflow)) ⊎ IsSomePast (mapped count numbers) e)
+    pub there : b.pos ≡ s.pos + length (region_piece w shape xs s)
+    pub led : ReadsLed
+        (pieces_refused w xs s) (IsFar (region_at w shape xs s)) (owns_refused w shape xs s (region_at w shape xs s))
+        own (region_at w shape xs s) numbers fs b.pos
 
-  region_length : (xs : List Tree) (s : State) → length (owns w xs s (region_at w node_shape xs s)) ≡ length xs * 24
-      → s.pos + length (region_piece w node_shape xs s) ≡ region_at w node_shape xs s + length xs * 24
+  region_length : (xs : List A) (s : State) → length (owns w xs s (region_at w shape xs s)) ≡ length xs * size_of shape
+      → s.pos + length (region_piece w shape xs s) ≡ region_at w shape xs s + length xs * size_of shape
   region_length xs s size =
-      let start = region_at w node_shape xs s in
+      let start = region_at w shape xs s in
       let front = pieces w xs s in
       let gap = zeros (start - (state_after_all w xs s).pos) in
-      let behind = after_pos xs s in
-      let up = le_align_up (state_after_all w xs s).pos (align_of node_shape) in
+      let behind = state_after_all_pos fit shape KnowsNode w xs s in
+      let up = le_align_up (state_after_all w xs s).pos (align_of shape) in
       let filled : length gap ≡ start - (state_after_all w xs s).pos = length-replicate _ _ in
       omega (arith, length-append front (gap ++ owns w xs s start), length-append gap (owns w xs s start))
 
-  abbrev pub region_fields : ℕ → ℕ → List ℕ → List Field → List Field
-  region_fields own start numbers within = within ++ position start ∷ (offset own (start + 0) ∷ mapped count numbers)
-
   region_read :
-      (xs : List Tree) (s : State) (own : ℕ) (numbers : List ℕ) (within fs : List Field) (inner b : limits.State)
-      → length (owns w xs s (region_at w node_shape xs s)) ≡ length xs * 24
-      → ReadsAll xs s (region_at w node_shape xs s) within inner
-      → b ≡ moved (region_at w node_shape xs s + length xs * 24) inner
-      → fs ≡ region_fields own (region_at w node_shape xs s) numbers within
+      (xs : List A) (s : State) (own : ℕ) (numbers : List ℕ) (within fs : List Field) (inner b : limits.State)
+      → length (owns w xs s (region_at w shape xs s)) ≡ length xs * size_of shape
+      → ReadsAll xs s (region_at w shape xs s) within inner
+      → b ≡ moved (region_at w shape xs s + length xs * size_of shape) inner
+      → fs ≡ region_fields own (region_at w shape xs s) (region_at w shape xs s + 0) numbers within
       → ReadsRegion xs s own numbers fs b
   region_read xs s own numbers within fs inner b size h ends fields =
-      let start = region_at w node_shape xs s in
-      let tail : List Field = position start ∷ (offset own (start + 0) ∷ mapped count numbers) in
-      let behind : b.pos ≡ start + length xs * 24 = ap (λ (z : limits.State). z.pos) ends in
-      let up : inner.pos ≤ start = subst (λ n. n ≤ start) (sym h.there) (le_align_up (state_after_all w xs s).pos (align_of node_shape)) in
-      let back : (e : Error) → IsSomePast (within ++ tail) e → IsSomePast fs e = λ e p. subst (λ l. IsSomePast l e) (sym fields) p in
-      let high : (e : Error) → 2 ^ 32 ≤ start → e ≡ PositionTooLarge → IsSomePast fs e = λ e far is. back e (past_right within tail e (inl (far, is))) in
+      let start = region_at w shape xs s in
+      let behind : b.pos ≡ start + length xs * size_of shape = ap (λ (z : limits.State). z.pos) ends in
+      let up : inner.pos ≤ start = subst (λ n. n ≤ start) (sym h.there) (le_align_up (state_after_all w xs s).pos (align_of shape)) in
       record {
         alike = subst (λ (z : limits.State). Alike z.met (state_after_all w xs s).met) (sym ends) h.alike;
         there = behind ∙ sym (region_length xs s size);
-        past = λ e. ⊎_elim
-            (λ r. inl (⊎_elim (λ p. back e (past_left within tail e p)) (λ far. high e (omega (arith, far.0, up)) far.1) (h.pieces_past e r)))
-            (⊎_elim
-            (λ far. inl (high e far.0 far.1))
-            (λ r. ⊎_elim (λ p. inl (back e (past_left within tail e p))) (λ far. inr (omega (arith, far.0, behind), far.1)) (h.owns_past e r)));
-        beside = λ e. ⊎_elim
-            (λ far. back e (past_right within tail e (inr (inl (subst (λ n. (own + 2 ^ 31 ≤ n) ⊎ (n + 2 ^ 31 < own)) (sym (add-zero start)) (offset_past own start far.0), far.1)))))
-            (λ p. back e (past_right within tail e (inr (inr p))));
-        refused_region = λ e p. ⊎_elim
-            (λ q. ⊎_elim (λ r. inl (inl r)) (λ r. inl (inr (inr r))) (h.refused_all e q))
-            (⊎_elim (λ far. inl (inr (inl far)))
-            (⊎_elim (λ far. inr (inl (past_offset own start (subst (λ n. (own + 2 ^ 31 ≤ n) ⊎ (n + 2 ^ 31 < own)) (add-zero start) far.0), far.1))) (λ q. inr (inr q))))
-            (past_either within tail e (subst (λ l. IsSomePast l e) fields p));
+        led = led_read (pieces_refused w xs s) (IsFar start) (owns_refused w shape xs s start) own start start numbers within fs inner.pos b.pos
+            up
+            (λ e far. inl far)
+            (λ e far. far)
+            (record {
+              data_past = h.pieces_past;
+              own_past = λ e r. ⊎_elim (λ p. inl p) (λ far. inr (omega (arith, far.0, behind), far.1)) (h.owns_past e r);
+              refused_within = h.refused_all;
+            })
+            (fields ∙ ap (λ n. region_fields own start n numbers within) (add-zero start));
       }
 
-  -- ---- one node in its own region
+  pub length-values : (xs : List A) (vs : Values) → listed (all_erased vs) ≡ mapped as_value xs → count_values vs ≡ length xs
+  length-values xs vs same = sym (count_listed vs) ∙ ap length same ∙ length-map xs as_value
 
-  pub one_read : (t : Tree) (s : State) (pos : ℕ) (fs : List Field) (b : limits.State) → length (w.own t (w.resolver t s) pos) ≡ 24 → Reads w t s pos fs b → ReadsAll (t ∷ []) s pos fs b
-  one_read t s pos fs b size h = record {
+  module _ (xs : List A) (tell : AllByRecursion TellsValue xs) (vs : Values) (ps : Plans) (q : Plan) (numbers : List ℕ) (same : listed (all_erased vs) ≡ mapped as_value xs)
+      (planned : ArePlanned fit shape 0 vs ps) (q_is : q ≡ slice_plan shape numbers (count_values vs) ps) (s : State) (seen : List Shared) (alike : Alike seen s.met) (begun : s.begun ≡ []) (own : ℕ) where
+    pub slice_region : (fs : List Field) (b : limits.State) → Lies q own (laid s seen) fs b → ReadsRegion xs s own numbers fs b
+    slice_region fs b h =
+        let n = length xs in
+        let l = leads_lies numbers (whole_target (n * size_of shape) (align_of shape)) (parts ps) own (laid s seen) b fs
+        (subst (λ x. Lies x own (laid s seen) fs b) (q_is ∙ ap (λ k. slice_plan shape numbers k ps) (length-values xs vs same)) h) in
+        let all = parts_lies ps l.start (laid s seen) l.inner l.within l.lies in
+        let there = (all_read xs vs ps 0 l.start l.start s seen l.within l.inner tell same planned alike begun (sym (add-zero l.start)) all).there in
+        let start = region_at w shape xs s in
+        let begins : l.start ≡ start = l.begins ∙ ap (λ k. align_up k (align_of shape)) there in
+        let at_start = all_read xs vs ps 0 start start s seen l.within l.inner tell same planned alike begun (sym (add-zero start)) (subst (λ k. LieAll ps k (laid s seen) l.within l.inner) begins all) in
+        region_read xs s own numbers l.within fs l.inner b
+        (length-owns xs tell s start)
+        at_start
+        (l.ends ∙ ap (λ k. moved (k + n * size_of shape) l.inner) begins)
+        (l.fields ∙ ap (λ k. region_fields own k (k + 0) numbers l.within) begins)
+
+    pub slice_lies : CanLie q own (laid s seen)
+    slice_lies =
+        let start = region_at w shape xs s in
+        let l = all_lie xs vs ps 0 start s seen tell same planned alike begun in
+        let there = (all_read xs vs ps 0 start start s seen l.0 l.1 tell same planned alike begun (sym (add-zero start)) l.2).there in
+        as_plan q (slice_plan shape numbers (count_values vs) ps) own (laid s seen) q_is (_, _, lies_leads (lies_parts l.2) (ap (λ n. align_up n (align_of shape)) (sym there)) refl refl)
+
+  -- ---- one value in its own region
+
+  pub one_read : (x : A) (s : State) (pos : ℕ) (fs : List Field) (b : limits.State) → length (w.own x (w.resolver x s) pos) ≡ size_of shape → Reads w x s pos fs b → ReadsAll (x ∷ []) s pos fs b
+  one_read x s pos fs b size h = record {
     alike = h.alike;
     there = h.there;
     pieces_past = λ e. ⊎_elim (λ r. h.piece_past e r) (λ none. absurd none);
@@ -274,12 +287,29 @@ module _ (fit : Fit) (w : Spelling Tree NodeResolver) where
     refused_all = λ e p. ⊎_elim (λ r. inl (inl r)) (λ r. inr (inl (inl r))) (h.refused e p);
   }
 
+-- ---- nodes
+
+module _ (fit : Fit) (w : Spelling Tree NodeResolver) where
+  abbrev pub ReadsNode : Tree → Type 0
+  ReadsNode t = ReadsValue fit node_shape value_of w t
+
+  abbrev pub LiesNode : Tree → Type 0
+  LiesNode t = LiesValue fit node_shape value_of w t
+
+  abbrev pub Tells : Tree → Type 0
+  Tells t = TellsValue fit node_shape value_of w t
+
+  abbrev pub ReadsNodes : List Tree → State → ℕ → List ℕ → List Field → limits.State → Type 0
+  ReadsNodes xs s own numbers fs b = ReadsRegion fit node_shape value_of w xs s own numbers fs b
+
+  -- ---- one node in its own region
+
   one_length : (t : Tree) (s : State) (pos : ℕ) → length (w.own t (w.resolver t s) pos) ≡ 24 → length (owns w (t ∷ []) s pos) ≡ 24
   one_length t s pos size = length-append (w.own t (w.resolver t s) pos) [] ∙ omega (arith, size)
 
   pub box_region : (t : Tree) → Tells t → (v : Value) (p q : Plan) → erased v ≡ value_of t → Planned fit node_shape v p → q ≡ box_plan p
       → (s : State) (seen : List Shared) → Alike seen s.met → s.begun ≡ [] → (own : ℕ) (fs : List Field) (b : limits.State)
-      → Lies q own (laid s seen) fs b → ReadsRegion (t ∷ []) s own [] fs b
+      → Lies q own (laid s seen) fs b → ReadsNodes (t ∷ []) s own [] fs b
   box_region t tell v p q same planned q_is s seen alike begun own fs b h =
       let l = leads_lies [] (whole_target 24 8) p own (laid s seen) b fs (subst (λ x. Lies x own (laid s seen) fs b) q_is h) in
       let there = (tell.reads v p same planned s seen alike begun l.start l.within l.inner l.lies).there in
@@ -288,11 +318,11 @@ module _ (fit : Fit) (w : Spelling Tree NodeResolver) where
       let at_start = tell.reads v p same planned s seen alike begun start l.within l.inner (subst (λ n. Lies p n (laid s seen) l.within l.inner) begins l.lies) in
       let size = tell.sized (w.resolver t s) start in
       let one : 24 ≡ length (t ∷ []) * 24 = omega arith in
-      region_read (t ∷ []) s own [] l.within fs l.inner b
+      region_read fit node_shape value_of w (t ∷ []) s own [] l.within fs l.inner b
       (one_length t s start size ∙ one)
-      (one_read t s start l.within l.inner size at_start)
+      (one_read fit node_shape value_of w t s start l.within l.inner size at_start)
       (l.ends ∙ ap (λ n. moved (n + 24) l.inner) begins ∙ ap (λ n. moved (start + n) l.inner) one)
-      (l.fields ∙ ap (λ n. region_fields own n [] l.within) begins)
+      (l.fields ∙ ap (λ n. region_fields own n (n + 0) [] l.within) begins)
 
   pub box_lies : (t : Tree) → Tells t → (v : Value) (p q : Plan) → erased v ≡ value_of t → Planned fit node_shape v p → q ≡ box_plan p
       → (s : State) (seen : List Shared) → Alike seen s.met → s.begun ≡ [] → (own : ℕ) → CanLie q own (laid s seen)
@@ -302,43 +332,15 @@ module _ (fit : Fit) (w : Spelling Tree NodeResolver) where
       let there = (tell.reads v p same planned s seen alike begun start l.0 l.1 l.2).there in
       as_plan q (box_plan p) own (laid s seen) q_is (_, _, lies_leads l.2 (ap (λ n. align_up n 8) (sym there)) refl refl)
 
-  pub list_region : (ts : Trees) → AllTell ts → (vs : Values) (ps : Plans) (q : Plan) → all_erased vs ≡ values_of ts → ArePlanned fit 0 vs ps → q ≡ list_plan (count_values vs) ps
-      → count_values vs ≡ length (trees_in ts)
-      → (s : State) (seen : List Shared) → Alike seen s.met → s.begun ≡ [] → (own : ℕ) (fs : List Field) (b : limits.State)
-      → Lies q own (laid s seen) fs b → ReadsRegion (trees_in ts) s own (length (trees_in ts) ∷ []) fs b
-  list_region ts tell vs ps q same planned q_is long s seen alike begun own fs b h =
-      let xs = trees_in ts in
-      let n = length xs in
-      let l = leads_lies (n ∷ []) (whole_target (n * 24) 8) (parts ps) own (laid s seen) b fs
-      (subst (λ x. Lies x own (laid s seen) fs b) (q_is ∙ ap (λ k. list_plan k ps) long) h) in
-      let all = parts_lies ps l.start (laid s seen) l.inner l.within l.lies in
-      let there = (all_read ts vs ps 0 l.start l.start s seen l.within l.inner tell same planned alike begun (sym (add-zero l.start)) all).there in
-      let start = region_at w node_shape xs s in
-      let begins : l.start ≡ start = l.begins ∙ ap (λ k. align_up k 8) there in
-      let at_start = all_read ts vs ps 0 start start s seen l.within l.inner tell same planned alike begun (sym (add-zero start)) (subst (λ k. LieAll ps k (laid s seen) l.within l.inner) begins all) in
-      region_read xs s own (n ∷ []) l.within fs l.inner b
-      (length-owns ts tell s start)
-      at_start
-      (l.ends ∙ ap (λ k. moved (k + n * 24) l.inner) begins)
-      (l.fields ∙ ap (λ k. region_fields own k (n ∷ []) l.within) begins)
-
-  pub list_lies : (ts : Trees) → AllTell ts → (vs : Values) (ps : Plans) (q : Plan) → all_erased vs ≡ values_of ts → ArePlanned fit 0 vs ps → q ≡ list_plan (count_values vs) ps
-      → (s : State) (seen : List Shared) → Alike seen s.met → s.begun ≡ [] → (own : ℕ) → CanLie q own (laid s seen)
-  list_lies ts tell vs ps q same planned q_is s seen alike begun own =
-      let start = region_at w node_shape (trees_in ts) s in
-      let l = all_lie ts vs ps 0 start s seen tell same planned alike begun in
-      let there = (all_read ts vs ps 0 start start s seen l.0 l.1 tell same planned alike begun (sym (add-zero start)) l.2).there in
-      as_plan q (list_plan (count_values vs) ps) own (laid s seen) q_is (_, _, lies_leads (lies_parts l.2) (ap (λ n. align_up n 8) (sym there)) refl refl)
-
   -- ---- payloads that lead to nodes
 
-  pub box_reads : (t : Tree) (s : State) (own : ℕ) (fs : List Field) (b : limits.State) → ReadsRegion (t ∷ []) s own [] fs b → Reads (boxed_spelling w) t s own fs b
+  pub box_reads : (t : Tree) (s : State) (own : ℕ) (fs : List Field) (b : limits.State) → ReadsNodes (t ∷ []) s own [] fs b → Reads (boxed_spelling w) t s own fs b
   box_reads t s own fs b h = record {
     alike = h.alike;
     there = h.there;
-    piece_past = h.past;
-    own_past = λ e r. h.beside e (inl r);
-    refused = λ e p. ⊎_elim (λ r. inl r) (⊎_elim (λ r. inr r) (λ none. absurd none)) (h.refused_region e p);
+    piece_past = h.led.past;
+    own_past = λ e r. h.led.beside e (inl r);
+    refused = λ e p. ⊎_elim (λ r. inl r) (⊎_elim (λ r. inr r) (λ none. absurd none)) (h.led.refused_led e p);
   }
 
   pub some_reads : (t : Tree) (s : State) (own : ℕ) (here fs : List Field) (b : limits.State) → Reads (boxed_spelling w) t s (own + align_up 1 (align_of boxed_shape)) here b → fs ≡ here ++ []
@@ -351,11 +353,11 @@ module _ (fit : Fit) (w : Spelling Tree NodeResolver) where
     refused = λ e p. ⊎_elim (λ q. h.refused e q) (λ none. absurd none) (past_either here [] e (subst (λ l. IsSomePast l e) all p));
   }
 
-  pub list_reads : (xs : List Tree) (s : State) (own : ℕ) (fs : List Field) (b : limits.State) → ReadsRegion xs s own (length xs ∷ []) fs b → Reads (list_spelling w) xs s own fs b
+  pub list_reads : (xs : List Tree) (s : State) (own : ℕ) (fs : List Field) (b : limits.State) → ReadsNodes xs s own (length xs ∷ []) fs b → Reads (list_spelling w) xs s own fs b
   list_reads xs s own fs b h = record {
     alike = h.alike;
     there = h.there;
-    piece_past = h.past;
-    own_past = λ e. ⊎_elim (λ r. h.beside e (inl r)) (λ long. h.beside e (inr (inl long)));
-    refused = λ e p. ⊎_elim (λ r. inl r) (⊎_elim (λ r. inr (inl r)) (⊎_elim (λ long. inr (inr long)) (λ none. absurd none))) (h.refused_region e p);
+    piece_past = h.led.past;
+    own_past = λ e. ⊎_elim (λ r. h.led.beside e (inl r)) (λ long. h.led.beside e (inr (inl long)));
+    refused = λ e p. ⊎_elim (λ r. inl r) (⊎_elim (λ r. inr (inl r)) (⊎_elim (λ long. inr (inr long)) (λ none. absurd none))) (h.led.refused_led e p);
   }

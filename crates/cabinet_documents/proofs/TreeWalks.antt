@@ -28,7 +28,7 @@ use Rattle.archive_forms_values.proofs.Targets.{first_word}
 use Rattle.archive_forms_values.proofs.FormsLaws.TextContent.{followed}
 use Rattle.archive_forms_values.proofs.ShapeLayout.Framed.{links_fit}
 use Rattle.archive_forms_values.proofs.ShapeLayout.Windows.{word_within, word_of}
-use Rattle.cabinet_documents.specs.Walk.{Stop, Walks, WalkAll, in_turn}
+use Rattle.cabinet_documents.specs.Walk.{Stop, Walks, WalkAll, in_turn, depth_in}
 use Rattle.cabinet_documents.specs.Order.{ascend}
 use Rattle.cabinet_documents.specs.Table.{item_keys}
 use Rattle.cabinet_documents.specs.Audit.{too_deep, keys_not_ascending, unless, faults}
@@ -148,7 +148,7 @@ module _ (names : Names) (bytes : List ℕ) where
         more_items (ap (λ x. x ++ qs) e) (ap (λ x. append_values x ws) f) (ap (λ x. x ++ others) g) key value (items-append rest b)
 
     -- the walks of entries: each has the faults of its value's walk
-    data EntriesWalk : List Place → Values → List (List Stop) → Type 0 where
+    pub data EntriesWalk : List Place → Values → List (List Stop) → Type 0 where
       no_entries : {ps : List Place} {vs : Values} {runs : List (List Stop)} → ps ≡ [] → vs ≡ no_values → runs ≡ [] → EntriesWalk ps vs runs
       more_entries :
           {p : Place} {ps qs : List Place} {x y : Value} {vs ws : Values} {here first run : List Stop} {later runs : List (List Stop)}
@@ -161,20 +161,22 @@ module _ (names : Names) (bytes : List ℕ) where
           → EntriesWalk ps vs later
           → EntriesWalk qs ws runs
 
-    record EntryWalked (key value : ℕ) (w : Value) (walk : List Stop) : Type 0 where
-      first : Value
-      second : Value
-      key_run : List Stop
-      value_run : List Stop
-      key_walk : Walks names bytes depth (at key k) first key_run
-      value_walk : Walks names bytes depth (at value v) second value_run
-      value_is : w ≡ group (more_values first (more_values second no_values))
-      faults_are : faults bytes walk ≡ faults bytes value_run
+    pub record PairWalked (key value : ℕ) (w : Value) (walk : List Stop) : Type 0 where
+      pub first : Value
+      pub second : Value
+      pub key_run : List Stop
+      pub value_run : List Stop
+      pub key_walk : Walks names bytes depth (at key k) first key_run
+      pub value_walk : Walks names bytes depth (at value v) second value_run
+      pub value_is : w ≡ group (more_values first (more_values second no_values))
+      pub faults_are : faults bytes walk ≡ faults bytes value_run
 
-    entry_walked : {w : Value} {walk : List Stop} (key value : ℕ) → QuietKeys names bytes k depth → Walks names bytes depth (entry k key v value) w walk → EntryWalked key value w walk
-    entry_walked {w = w} key value quiet h =
-        let b = begun names bytes (plain whole (at key k ∷ (at value v ∷ []))) refl h in
-        let f = first_walk names bytes b.all in
+    -- of a part that is no container and has no faults of its own
+    pub pair_walked : {w : Value} {walk : List Stop} (p : Part) (key value : ℕ) → content_of names bytes p ≡ plain whole (at key k ∷ (at value v ∷ [])) → depth_in depth p ≡ depth → own_faults bytes depth p w ≡ []
+        → QuietKeys names bytes k depth → Walks names bytes depth p w walk → PairWalked key value w walk
+    pair_walked {w = w} p key value content flat own quiet h =
+        let b = begun names bytes (plain whole (at key k ∷ (at value v ∷ []))) content h in
+        let f = first_walk names bytes (subst (λ n. WalkAll names bytes n (at key k ∷ (at value v ∷ [])) b.vs b.runs) flat b.all) in
         let g = only_walk names bytes f.rest in
         let both : b.vs ≡ more_values f.value (more_values g.value no_values) = f.values_are ∙ ap (more_values f.value) g.values_are in
         let runs : b.runs ≡ f.run ∷ (g.run ∷ []) = f.runs_are ∙ ap (λ z. f.run ∷ z) g.runs_are in
@@ -188,6 +190,7 @@ module _ (names : Names) (bytes : List ℕ) where
           value_is = made_whole b.vs w b.is_made ∙ ap group both;
           faults_are =
               b.faults_are
+              ∙ ap (λ z. z ++ faults bytes (flat_map (λ a. a) b.runs)) own
               ∙ ap (λ z. faults bytes (flat_map (λ a. a) z)) runs
               ∙ faults-append bytes f.run (g.run ++ [])
               ∙ ap (λ z. z ++ faults bytes (g.run ++ [])) (quiet key f.value f.run f.first)
@@ -199,17 +202,17 @@ module _ (names : Names) (bytes : List ℕ) where
     entries_walked zero key value quiet all = let n = no_walks names bytes all in no_entries refl n.0 n.1
     entries_walked (suc n) key value quiet all =
         let f = first_walk names bytes all in
-        let e = entry_walked key value quiet f.first in
+        let e = pair_walked (entry k key v value) key value refl refl refl quiet f.first in
         more_entries refl (f.values_are ∙ ap (λ z. more_values z f.others) e.value_is) f.runs_are e.key_walk e.value_walk e.faults_are
         (entries_walked n (key + size_of k) (value + size_of v) quiet f.rest)
 
     -- a walk that has the faults of the walks of items' values
-    record ItemsWalked (ps : List Place) (vs : Values) (walk : List Stop) : Type 0 where
-      runs : List (List Stop)
-      items : ItemsWalk names bytes k v depth ps vs runs
-      faults_are : faults bytes walk ≡ flat_map (faults bytes) runs
+    pub record ItemsWalked (ps : List Place) (vs : Values) (walk : List Stop) : Type 0 where
+      pub runs : List (List Stop)
+      pub items : ItemsWalk names bytes k v depth ps vs runs
+      pub faults_are : faults bytes walk ≡ flat_map (faults bytes) runs
 
-    flat_walked : {ps : List Place} {vs : Values} {runs : List (List Stop)} → EntriesWalk ps vs runs → ItemsWalked ps vs (flat_map (λ x. x) runs)
+    pub flat_walked : {ps : List Place} {vs : Values} {runs : List (List Stop)} → EntriesWalk ps vs runs → ItemsWalked ps vs (flat_map (λ x. x) runs)
     flat_walked (no_entries e f g) = record { runs = []; items = no_items e f refl; faults_are = ap (λ x. faults bytes (flat_map (λ a. a) x)) g }
     flat_walked (more_entries {here = here} {run = run} {later = later} e f g key value h rest) =
         let r = flat_walked rest in

@@ -1,34 +1,40 @@
 -- The value of a document, by its kinds, is the one that the spelling gives it, except for positions of shared texts.
-use Rattle.std.proofs.Common.{◌≡◌, ℕ, zero, suc, ◌≤◌, List, length, Some, refl, sym, ap, ap₂, subst, ◌∙◌, arith}
+use Rattle.std.proofs.Common.{◌≡◌, ℕ, zero, suc, ◌≤◌, Bool, true, false, cond, List, [], ◌∷◌, length, map as list_map, Some, refl, sym, ap, ap₂, subst, ◌∙◌, arith}
 use Rattle.std.proofs.Math.Nat.{le-max_left, le-max_right}
-use Rattle.archive_forms_values.specs.ShapeLayout.Shape.Shape.{text}
 use Rattle.archive_forms_values.specs.ShapeLayout.Shape.Pointee.{str}
-use Rattle.archive_forms_values.specs.ShapeLayout.Value.{Value, Values}
+use Rattle.archive_forms_values.specs.ShapeLayout.Value.{Value, Values, count_values}
 use Rattle.archive_forms_values.specs.ShapeLayout.Value.Value.{integer, boolean, string, group, chosen, counted}
 use Rattle.archive_forms_values.specs.ShapeLayout.Value.Values.{no_values, more_values}
-use Rattle.archive_forms_values.specs.ShapeCanonical.Settled.{Fit}
+use Rattle.archive_forms_values.specs.ShapeCanonical.FirstFit.{ascending, first_fit, keys_in, map_capacity, placed_keys}
+use Rattle.archive_forms_values.specs.ShapeCanonical.Hash.{text_hash}
 use Rattle.archive_forms_values.specs.ShapeCanonical.Sharing.{erased, all_erased}
 use Rattle.archive_forms_values.specs.FormsLaws.State.{Keys, SharedValue, AreOneToOne}
 use Rattle.archive_forms_values.specs.FormsLaws.Spelling.{Spelling}
 use Rattle.archive_forms_values.specs.FormsLaws.Regions.{plain_values, all_suit}
 use Rattle.archive_forms_values.specs.FormsLaws.Levels.{levels_spelling}
-use Rattle.archive_forms_values.specs.declared.text.resolving.StringResolver.{StringResolver}
-use Rattle.archive_forms_rc.specs.FormsWriting.Owned.{str_spelling}
-use Rattle.archive_btree_spelling.specs.Written.{entry_spelling}
-use Rattle.cabinet_text_grammar.specs.Keys.{ordered, hashed, kept}
+use Rattle.archive_hash_writing.specs.Fitted.{capacity_of, places_of, by_place}
+use Rattle.archive_hash_writing.proofs.FirstFitted.{filled_by, all_suit_placed}
+use Rattle.cabinet_text_grammar.specs.Keys.{MapKind, ordered, hashed, kept}
 use Rattle.cabinet_text_grammar.specs.TextKey.{text_key, text_of_key}
 use Rattle.cabinet_text_grammar.proofs.KeyLemmas.{key_has_text_law, text_has_key_law}
 use Rattle.cabinet_text_grammar.specs.Tree as document
-use Rattle.cabinet_text_grammar.specs.Tree.{Tree, Trees, Pairs, leaf, shared, nothing, just, list, map, no_trees, more_trees, no_pairs, more_pairs, depth, most_depth, pairs_depth}
-use Rattle.cabinet_documents.specs.Node.{node_shape}
+use Rattle.cabinet_text_grammar.specs.Tree.{Tree, Trees, Pairs, leaf, shared, nothing, just, list, map, no_trees, more_trees, no_pairs, more_pairs, depth, most_depth, pairs_depth, IsLegal, AreLegal, ArePairs}
+use Rattle.cabinet_documents.specs.Node.{pair_shape}
 use Rattle.cabinet_documents.specs.Denotes.{tagged_value, pair_value, Denotes, DenoteAll, DenotePairs}
 use Rattle.cabinet_documents.specs.Denotes.Denotes.{denotes_truth, denotes_number, denotes_text, denotes_shared, denotes_nothing, denotes_some, denotes_list, denotes_ordered, denotes_hashed, denotes_kept}
 use Rattle.cabinet_documents.specs.Denotes.DenoteAll.{denote_none, denote_more}
 use Rattle.cabinet_documents.specs.Denotes.DenotePairs.{denote_no_pairs, denote_pair}
 use Rattle.cabinet_documents.specs.declared.spelling.resolver.NodeResolver.{NodeResolver}
 use Rattle.cabinet_documents.specs.HasLayout.{HasLayout, HaveLayout, HavePairsLayout}
-use Rattle.cabinet_documents.specs.Spelling.{trees_in, pairs_in, refused, node_level, node_spelling}
+use Rattle.cabinet_documents.specs.Fitted.{IsFitted, AreFitted, ArePairsFitted}
+use Rattle.cabinet_documents.specs.Order.{is_below, inserted, arranged}
+use Rattle.cabinet_documents.specs.Spelling.{trees_in, pairs_in, pair_spelling, refused, node_level, node_spelling}
 use Rattle.cabinet_documents.specs.SpellingLaws.{OneValue}
+use Rattle.cabinet_documents.proofs.ByKey.{pair_keys, AreDistinct, distinct, distinct_in_order}
+use Rattle.cabinet_documents.proofs.FirstFit.{values_in, by_first_fit, first_fit_mapped, first_fit_plain}
+use Rattle.cabinet_documents.proofs.Fitting.{fitted_some, fitted_list, fitted_ordered, fitted_hashed, fitted_more, fitted_pair}
+use Rattle.cabinet_documents.proofs.KeyOrder.{ascending_stays}
+use Rattle.cabinet_documents.proofs.PlacedPairs.{pairs_of, keys_listed, pair_hashes, placed_pairs, placed_arranged}
 
 abbrev mutual
   pub value_of : Tree → Value
@@ -40,7 +46,7 @@ abbrev mutual
   value_of (just t) = tagged_value 4 (tagged_value 1 (value_of t))
   value_of (list ts) = tagged_value 5 (group (values_of ts))
   value_of (map ordered ps) = tagged_value 6 (group (values_of_pairs ps))
-  value_of (map hashed ps) = group no_values
+  value_of (map hashed ps) = tagged_value 7 (group (by_first_fit (values_of_pairs ps)))
   value_of (map kept ps) = group no_values
 
   pub values_of : Trees → Values
@@ -74,27 +80,23 @@ text_keys_differ k l a b e f same_type same =
     let texts : text_of_key k ≡ text_of_key l = same_text (ap (λ (x : SharedValue). x.value) first ∙ same ∙ sym (ap (λ (x : SharedValue). x.value) second)) in
     sym (text_has_key_law k) ∙ ap text_key texts ∙ text_has_key_law l
 
--- ---- a spelling gives a document this value, and it has no tables, and shared texts under their keys
+-- ---- a spelling gives a document this value, and its tables are by first fit, and shared texts under their keys
 
 pub record Agrees (w : Spelling Tree NodeResolver) (t : Tree) : Type 0 where
   pub plain : w.plain t ≡ value_of t
-  pub suits : (fit : Fit) → w.suits fit text_keys t
+  pub suits : IsLegal t → w.suits (first_fit text_hash) text_keys t
 
 record AllAgree (w : Spelling Tree NodeResolver) (ts : Trees) : Type 0 where
   plain : plain_values w (trees_in ts) ≡ values_of ts
-  suits : (fit : Fit) → all_suit w fit text_keys (trees_in ts)
-
--- the spelling of an entry of a map, by that of its value
-abbrev pub entries : Spelling Tree NodeResolver → Spelling (List ℕ × Tree) (StringResolver × NodeResolver)
-entries w = entry_spelling 5 text node_shape str_spelling w
+  suits : AreLegal ts → all_suit w (first_fit text_hash) text_keys (trees_in ts)
 
 record PairsAgree (w : Spelling Tree NodeResolver) (ps : Pairs) : Type 0 where
-  plain : plain_values (entries w) (pairs_in ps) ≡ values_of_pairs ps
-  suits : (fit : Fit) → all_suit (entries w) fit text_keys (pairs_in ps)
+  plain : plain_values (pair_spelling w) (pairs_in ps) ≡ values_of_pairs ps
+  suits : (kind : MapKind) (before : List (List ℕ)) → ArePairs kind before ps → all_suit (pair_spelling w) (first_fit text_hash) text_keys (pairs_in ps)
 
 module _ (w : Spelling Tree NodeResolver) where
   all_agree : (n : ℕ) → ((y : Tree) → depth y ≤ n → Agrees w y) → (ts : Trees) → most_depth ts ≤ n → AllAgree w ts
-  all_agree n each no_trees less = record { plain = refl; suits = λ fit. tt }
+  all_agree n each no_trees less = record { plain = refl; suits = λ legal. tt }
   all_agree n each (more_trees t ts) less =
       let a = le-max_left (depth t) (most_depth ts) in
       let b = le-max_right (depth t) (most_depth ts) in
@@ -102,11 +104,11 @@ module _ (w : Spelling Tree NodeResolver) where
       let rest = all_agree n each ts (omega (arith, b)) in
       record {
         plain = ap₂ more_values first.plain rest.plain;
-        suits = λ fit. (first.suits fit, rest.suits fit);
+        suits = λ legal. (first.suits legal.0, rest.suits legal.1);
       }
 
   pairs_agree : (n : ℕ) → ((y : Tree) → depth y ≤ n → Agrees w y) → (ps : Pairs) → pairs_depth ps ≤ n → PairsAgree w ps
-  pairs_agree n each no_pairs less = record { plain = refl; suits = λ fit. tt }
+  pairs_agree n each no_pairs less = record { plain = refl; suits = λ kind before legal. tt }
   pairs_agree n each (more_pairs k t ps) less =
       let a = le-max_left (depth t) (pairs_depth ps) in
       let b = le-max_right (depth t) (pairs_depth ps) in
@@ -114,15 +116,15 @@ module _ (w : Spelling Tree NodeResolver) where
       let rest = pairs_agree n each ps (omega (arith, b)) in
       record {
         plain = ap₂ (λ (v : Value) (vs : Values). more_values (pair_value k v) vs) first.plain rest.plain;
-        suits = λ fit. ((tt, (first.suits fit, tt)), rest.suits fit);
+        suits = λ kind before legal. ((tt, (first.suits legal.1.0, tt)), rest.suits kind (k ∷ before) legal.1.1);
       }
 
   level_agrees : (n : ℕ) → ((y : Tree) → suc (depth y) ≤ n → Agrees w y) → (t : Tree) → depth t ≤ n → Agrees (node_level w) t
-  level_agrees n each (leaf (document.truth b)) less = record { plain = refl; suits = λ fit. tt }
-  level_agrees n each (leaf (document.number z)) less = record { plain = refl; suits = λ fit. tt }
-  level_agrees n each (leaf (document.text s)) less = record { plain = refl; suits = λ fit. tt }
-  level_agrees n each (shared s) less = record { plain = refl; suits = λ fit. (key_stands s, tt) }
-  level_agrees n each nothing less = record { plain = refl; suits = λ fit. tt }
+  level_agrees n each (leaf (document.truth b)) less = record { plain = refl; suits = λ legal. tt }
+  level_agrees n each (leaf (document.number z)) less = record { plain = refl; suits = λ legal. tt }
+  level_agrees n each (leaf (document.text s)) less = record { plain = refl; suits = λ legal. tt }
+  level_agrees n each (shared s) less = record { plain = refl; suits = λ legal. (key_stands s, tt) }
+  level_agrees n each nothing less = record { plain = refl; suits = λ legal. tt }
   level_agrees n each (just t) less =
       let one = each t less in
       record {
@@ -134,17 +136,29 @@ module _ (w : Spelling Tree NodeResolver) where
       let all = all_agree n (λ y h. each y (omega (arith, h))) ts (omega (arith, less)) in
       record {
         plain = ap (λ vs. tagged_value 5 (group vs)) all.plain;
-        suits = all.suits;
+        suits = λ legal. all.suits legal.0;
       }
-  level_agrees zero each (map ordered ps) less = absurd (omega (arith, less))
+  level_agrees zero each (map kind ps) less = absurd (omega (arith, less))
   level_agrees (suc n) each (map ordered ps) less =
       let all = pairs_agree n (λ y h. each y (omega (arith, h))) ps (omega (arith, less)) in
       record {
         plain = ap (λ vs. tagged_value 6 (group vs)) all.plain;
-        suits = all.suits;
+        suits = λ legal. all.suits ordered [] legal.0;
       }
-  level_agrees n each (map hashed ps) less = record { plain = refl; suits = λ fit. tt }
-  level_agrees n each (map kept ps) less = record { plain = refl; suits = λ fit. tt }
+  level_agrees (suc n) each (map hashed ps) less =
+      let pairs = pair_spelling w in
+      let xs = pairs_in ps in
+      let hashes = pair_hashes xs in
+      let all = pairs_agree n (λ y h. each y (omega (arith, h))) ps (omega (arith, less)) in
+      let ascend = λ (legal : ArePairs hashed [] ps). ap ascending (keys_listed ps) ∙ ascending_stays [] ps legal ∙ sym (keys_listed ps) in
+      record {
+        plain = ap (λ vs. tagged_value 7 (group vs)) (first_fit_plain pairs (λ x. x.0) (λ x. refl) xs ∙ ap by_first_fit all.plain);
+        suits = λ legal. (
+          all_suit_placed pairs (first_fit text_hash) text_keys (capacity_of 7 8 hashes xs) (places_of 7 8 hashes xs) xs (all.suits hashed [] legal.0),
+          filled_by pairs (λ x. x.0) (λ x. refl) pair_shape text_hash xs (ascend legal.0),
+        );
+      }
+  level_agrees (suc n) each (map kept ps) less = record { plain = refl; suits = λ legal. tt }
 
 levels_agree : (n : ℕ) (t : Tree) → depth t ≤ n → Agrees (levels_spelling node_level refused (suc n)) t
 levels_agree zero t less = level_agrees refused zero (λ y h. absurd (omega (arith, h))) t less
@@ -153,32 +167,90 @@ levels_agree (suc n) t less = level_agrees (levels_spelling node_level refused (
 pub node_agrees : (t : Tree) → Agrees node_spelling t
 node_agrees t = let h = levels_agree (depth t) t (omega arith) in record { plain = h.plain; suits = h.suits }
 
+-- ---- a map's pairs by place
+
+-- the value of a pair
+abbrev pub entry_value : List ℕ × Tree → Value
+entry_value p = pair_value p.0 (value_of p.1)
+
+pub pairs_are : (ps : Pairs) → values_of_pairs ps ≡ values_in (list_map entry_value (pairs_in ps))
+pairs_are no_pairs = refl
+pairs_are (more_pairs k t ps) = ap (more_values (pair_value k (value_of t))) (pairs_are ps)
+
+values_are : (xs : List (List ℕ × Tree)) → values_in (list_map entry_value xs) ≡ values_of_pairs (pairs_of xs)
+values_are [] = refl
+values_are (x ∷ xs) = ap (more_values (entry_value x)) (values_are xs)
+
+pub first_fit_pairs : (ps : Pairs) → by_first_fit (values_of_pairs ps) ≡ values_of_pairs (placed_pairs ps)
+first_fit_pairs ps =
+    ap by_first_fit (pairs_are ps) ∙ first_fit_mapped entry_value (λ p. p.0) (λ p. refl) (pairs_in ps) ∙ values_are (by_place 7 8 (pair_hashes (pairs_in ps)) (pairs_in ps))
+
 -- ---- no other value denotes it, except for the positions of shared texts
 
+keys_denoted : {vs : Values} {ps : Pairs} → DenotePairs vs ps → keys_in vs ≡ pair_keys ps
+keys_denoted (denote_no_pairs e f) = ap keys_in e ∙ sym (ap pair_keys f)
+keys_denoted (denote_pair {k = k} e f d ds) = ap keys_in e ∙ ap (λ ks. k ∷ ks) (keys_denoted ds) ∙ sym (ap pair_keys f)
+
+count_denoted : {vs : Values} {ps : Pairs} → DenotePairs vs ps → count_values vs ≡ length (pair_keys ps)
+count_denoted (denote_no_pairs e f) = ap count_values e ∙ sym (ap (λ x. length (pair_keys x)) f)
+count_denoted (denote_pair {vs = vs} e f d ds) = let rest = count_denoted ds in ap count_values e ∙ omega (arith, rest) ∙ sym (ap (λ x. length (pair_keys x)) f)
+
+have_layout_inserted : (k : List ℕ) (t : Tree) (ps : Pairs) → HavePairsLayout (inserted k t ps) → HavePairsLayout (more_pairs k t ps)
+have_layout_inserted k t no_pairs h = h
+have_layout_inserted k t (more_pairs l u ps) h = by_case (is_below l k) h (have_layout_inserted k t ps)
+  where
+    by_case : (b : Bool) → HavePairsLayout (cond b (more_pairs l u (inserted k t ps)) (more_pairs k t (more_pairs l u ps))) → (HavePairsLayout (inserted k t ps) → HavePairsLayout (more_pairs k t ps))
+        → HavePairsLayout (more_pairs k t (more_pairs l u ps))
+    by_case true g on = let r = on g.1 in (r.0, (g.0, r.1))
+    by_case false g on = g
+
+have_layout_arranged : (ps : Pairs) → HavePairsLayout (arranged ps) → HavePairsLayout ps
+have_layout_arranged no_pairs h = tt
+have_layout_arranged (more_pairs k t ps) h = let r = have_layout_inserted k t (arranged ps) h in (r.0, have_layout_arranged ps r.1)
+
 mutual
-  only : (v : Value) (t : Tree) → HasLayout t → Denotes v t → erased v ≡ value_of t
-  only v t h (denotes_truth e f) = ap erased e ∙ sym (ap value_of f)
-  only v t h (denotes_number e f) = ap erased e ∙ sym (ap value_of f)
-  only v t h (denotes_text e f) = ap erased e ∙ sym (ap value_of f)
-  only v t h (denotes_shared e f) = ap erased e ∙ sym (ap value_of f)
-  only v t h (denotes_nothing e f) = ap erased e ∙ sym (ap value_of f)
-  only v t h (denotes_some {w = w} {u = u} e f d) = ap erased e ∙ (ap (λ x. tagged_value 4 (tagged_value 1 x)) (only w u (subst HasLayout f h) d) ∙ sym (ap value_of f))
-  only v t h (denotes_list {vs = vs} {ts = ts} e f d) = ap erased e ∙ (ap (λ x. tagged_value 5 (group x)) (all_only vs ts (subst HasLayout f h) d) ∙ sym (ap value_of f))
-  only v t h (denotes_ordered {vs = vs} {ps = ps} e f d) = ap erased e ∙ (ap (λ x. tagged_value 6 (group x)) (pairs_only vs ps (subst HasLayout f h) d) ∙ sym (ap value_of f))
-  only v t h (denotes_hashed e f d) = absurd (subst HasLayout f h)
-  only v t h (denotes_kept e f d) = absurd (subst HasLayout f h)
+  only : (v : Value) (t : Tree) → HasLayout t → IsLegal t → Denotes v t → IsFitted v → erased v ≡ value_of t
+  only v t h l (denotes_truth e f) i = ap erased e ∙ sym (ap value_of f)
+  only v t h l (denotes_number e f) i = ap erased e ∙ sym (ap value_of f)
+  only v t h l (denotes_text e f) i = ap erased e ∙ sym (ap value_of f)
+  only v t h l (denotes_shared e f) i = ap erased e ∙ sym (ap value_of f)
+  only v t h l (denotes_nothing e f) i = ap erased e ∙ sym (ap value_of f)
+  only v t h l (denotes_some {w = w} {u = u} e f d) i =
+      ap erased e ∙ (ap (λ x. tagged_value 4 (tagged_value 1 x)) (only w u (subst HasLayout f h) (subst IsLegal f l) d (fitted_some i e)) ∙ sym (ap value_of f))
+  only v t h l (denotes_list {vs = vs} {ts = ts} e f d) i =
+      let legal = subst IsLegal f l in
+      ap erased e ∙ (ap (λ x. tagged_value 5 (group x)) (all_only vs ts (subst HasLayout f h) legal.0 d (fitted_list i e)) ∙ sym (ap value_of f))
+  only v t h l (denotes_ordered {vs = vs} {ps = ps} e f d) i =
+      let legal = subst IsLegal f l in
+      ap erased e ∙ (ap (λ x. tagged_value 6 (group x)) (pairs_only vs ps (subst HasLayout f h) (distinct ordered [] ps legal.0) d (fitted_ordered i e)) ∙ sym (ap value_of f))
+  only v t h l (denotes_hashed {vs = vs} {ps = ps} e f d) i =
+      let legal = subst IsLegal f l in
+      let apart = distinct_in_order hashed ps (distinct hashed [] (arranged ps) legal.0) in
+      let fit = fitted_hashed i e in
+      let keys = keys_denoted d in
+      let count = count_denoted d in
+      let by_fit = sym keys ∙ fit.0 ∙ ap₂ (λ n ks. placed_keys text_hash (map_capacity n) (ascending ks)) count keys in
+      ap erased e
+      ∙ (ap (λ x. tagged_value 7 (group x)) (pairs_only vs ps (have_layout_arranged ps (subst HasLayout f h)) apart d fit.1 ∙ ap values_of_pairs (sym (placed_arranged ps apart by_fit)) ∙ sym (first_fit_pairs (arranged ps)))
+      ∙ sym (ap value_of f))
+  only v t h l (denotes_kept e f d) i = absurd (subst HasLayout f h)
 
-  all_only : (vs : Values) (ts : Trees) → HaveLayout ts → DenoteAll vs ts → all_erased vs ≡ values_of ts
-  all_only vs ts h (denote_none e f) = ap all_erased e ∙ sym (ap values_of f)
-  all_only ws us h (denote_more {v = v} {vs = vs} {t = t} {ts = ts} e f d ds) =
+  all_only : (vs : Values) (ts : Trees) → HaveLayout ts → AreLegal ts → DenoteAll vs ts → AreFitted vs → all_erased vs ≡ values_of ts
+  all_only vs ts h l (denote_none e f) i = ap all_erased e ∙ sym (ap values_of f)
+  all_only ws us h l (denote_more {v = v} {vs = vs} {t = t} {ts = ts} e f d ds) i =
       let both = subst HaveLayout f h in
-      ap all_erased e ∙ (ap₂ more_values (only v t both.0 d) (all_only vs ts both.1 ds) ∙ sym (ap values_of f))
+      let legal = subst AreLegal f l in
+      let fit = fitted_more i e in
+      ap all_erased e ∙ (ap₂ more_values (only v t both.0 legal.0 d fit.0) (all_only vs ts both.1 legal.1 ds fit.1) ∙ sym (ap values_of f))
 
-  pairs_only : (vs : Values) (ps : Pairs) → HavePairsLayout ps → DenotePairs vs ps → all_erased vs ≡ values_of_pairs ps
-  pairs_only vs ps h (denote_no_pairs e f) = ap all_erased e ∙ sym (ap values_of_pairs f)
-  pairs_only ws qs h (denote_pair {k = k} {v = v} {vs = vs} {t = t} {ps = ps} e f d ds) =
+  pairs_only : (vs : Values) (ps : Pairs) → HavePairsLayout ps → AreDistinct ps → DenotePairs vs ps → ArePairsFitted vs → all_erased vs ≡ values_of_pairs ps
+  pairs_only vs ps h l (denote_no_pairs e f) i = ap all_erased e ∙ sym (ap values_of_pairs f)
+  pairs_only ws qs h l (denote_pair {k = k} {v = v} {vs = vs} {t = t} {ps = ps} e f d ds) i =
       let both = subst HavePairsLayout f h in
-      ap all_erased e ∙ (ap₂ (λ (x : Value) (xs : Values). more_values (pair_value k x) xs) (only v t both.0 d) (pairs_only vs ps both.1 ds) ∙ sym (ap values_of_pairs f))
+      let legal = subst AreDistinct f l in
+      let fit = fitted_pair i e in
+      ap all_erased e
+      ∙ (ap₂ (λ (x : Value) (xs : Values). more_values (pair_value k x) xs) (only v t both.0 legal.1 d fit.0) (pairs_only vs ps both.1 legal.2 ds fit.1) ∙ sym (ap values_of_pairs f))
 
 pub one_value_law : OneValue
-one_value_law v t h d = only v t h d ∙ sym (node_agrees t).plain
+one_value_law v t h document d fit = only v t h document.0 d fit ∙ sym (node_agrees t).plain

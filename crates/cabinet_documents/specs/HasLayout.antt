@@ -3,7 +3,7 @@ use Rattle.std.specs.Prelude.{⊤}
 use Rattle.cabinet_text_grammar.specs.Keys.{ordered, hashed, kept}
 use Rattle.cabinet_text_grammar.specs.Tree.{Tree, leaf, shared, nothing, just, list, map, Trees, no_trees, more_trees, Pairs, no_pairs, more_pairs}
 
--- documents whose maps are ordered ones
+-- documents whose maps are ordered or hashed ones
 abbrev mutual
   pub HasLayout : Tree → Type 0
   HasLayout (leaf l) = ⊤
@@ -12,7 +12,7 @@ abbrev mutual
   HasLayout (just t) = HasLayout t
   HasLayout (list ts) = HaveLayout ts
   HasLayout (map ordered ps) = HavePairsLayout ps
-  HasLayout (map hashed ps) = ⊥
+  HasLayout (map hashed ps) = HavePairsLayout ps
   HasLayout (map kept ps) = ⊥
 
   pub HaveLayout : Trees → Type 0

@@ -2,6 +2,7 @@ pub mod Accepted
 pub mod Audit
 pub mod Denotes
 pub mod Done
+pub mod Fitted
 pub mod HasLayout
 pub mod Image
 pub mod Laws

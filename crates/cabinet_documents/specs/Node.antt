@@ -3,7 +3,7 @@ use Rattle.std.specs.Prelude.{◌≡◌, Some, true, false, List, [], ◌∷◌,
 use Rattle.std.specs.Int.{w8, w64, to_le_bytes, cast_unsigned}
 use Rattle.archive_forms_values.specs.ShapeLayout.Shape.{Shape, Shapes}
 use Rattle.archive_forms_values.specs.ShapeLayout.Shape.Alignment.{eight}
-use Rattle.archive_forms_values.specs.ShapeLayout.Shape.Shape.{number, truth, text, option, choice, box, vector, shared, tree, named, tuple, array}
+use Rattle.archive_forms_values.specs.ShapeLayout.Shape.Shape.{number, truth, text, option, choice, box, vector, shared, tree, table, named, tuple, array}
 use Rattle.archive_forms_values.specs.ShapeLayout.Shape.Shapes.{no_shapes, more_shapes}
 use Rattle.archive_forms_values.specs.ShapeLayout.Shape.Pointee.{sized, str}
 use Rattle.archive_forms_values.specs.ShapeLayout.Content.{Names, shape_named}
@@ -12,6 +12,10 @@ use Rattle.cabinet_text_grammar.specs.Tree as document
 -- a node contains nodes, so its shape is recursive and has a name, 0
 abbrev pub node_shape : Shape
 node_shape = named 0 24 eight
+
+-- a pair of a hashed map: the key, then the node
+abbrev pub pair_shape : Shape
+pair_shape = tuple (more_shapes text (more_shapes node_shape no_shapes))
 
 -- the payload of a kind that has no layout yet: sixteen bytes that hold no value, since no byte is the tag of an enum
 -- without variants
@@ -29,7 +33,7 @@ payloads =
     (more_shapes (option (box (sized node_shape)))
     (more_shapes (vector node_shape)
     (more_shapes (tree 5 text node_shape)
-    (more_shapes absent
+    (more_shapes (table pair_shape)
     (more_shapes absent no_shapes))))))))
 
 abbrev pub node_names : Names

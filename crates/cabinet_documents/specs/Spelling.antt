@@ -3,19 +3,20 @@ use Rattle.std.specs.Prelude.{◌≡◌, ℕ, ℤ, Bool, true, false, List, [], 
 use Rattle.std.specs.Int.{w64, to_le_bytes, cast_unsigned}
 use Rattle.archive_forms_values.specs.ShapeLayout.Bytes.{align_up}
 use Rattle.archive_forms_values.specs.ShapeLayout.Shape.{Shape, size_of, align_of}
-use Rattle.archive_forms_values.specs.ShapeLayout.Shape.Shape.{number, truth, text, option, choice, box, vector, tree, shared as shared_shape}
+use Rattle.archive_forms_values.specs.ShapeLayout.Shape.Shape.{number, truth, text, option, choice, box, vector, tree, table, shared as shared_shape}
 use Rattle.archive_forms_values.specs.ShapeLayout.Shape.Pointee.{sized, str}
 use Rattle.archive_forms_values.specs.ShapeLayout.Value.{Value}
 use Rattle.archive_forms_values.specs.ShapeLayout.Value.Value.{integer, boolean, group}
 use Rattle.archive_forms_values.specs.ShapeLayout.Value.Values.{no_values}
 use Rattle.archive_forms_values.specs.ShapeLayout.Numbers.{truth_bytes}
+use Rattle.archive_forms_values.specs.ShapeCanonical.Hash.{text_hash}
 use Rattle.archive_forms_values.specs.ShapeWriting.declared.error.Error.TheVariants.{InvalidTag}
 use Rattle.archive_forms_values.specs.FormsLaws.Spelling.{Spelling}
 use Rattle.archive_forms_values.specs.FormsLaws.Forms.{leaf_spelling, seen_as, kept_as}
 use Rattle.archive_forms_values.specs.FormsLaws.Pointers.{box_spelling, slice_spelling}
 use Rattle.archive_forms_values.specs.FormsLaws.Options.{option_spelling}
 use Rattle.archive_forms_values.specs.FormsLaws.Payloads.{payload_spelling}
-use Rattle.archive_forms_values.specs.FormsLaws.Texts.{text_spelling}
+use Rattle.archive_forms_values.specs.FormsLaws.Fields.{tuple2_spelling}
 use Rattle.archive_forms_values.specs.FormsLaws.Shared.{shared_text_spelling}
 use Rattle.archive_forms_values.specs.FormsLaws.Levels.{self_spelling}
 use Rattle.archive_forms_values.specs.declared.reading.resolving.BoxResolver.{BoxResolver}
@@ -24,11 +25,13 @@ use Rattle.archive_forms_values.specs.declared.text.resolving.StringResolver.{St
 use Rattle.archive_forms_rc.specs.declared.resolving.RcResolver.{RcResolver}
 use Rattle.archive_btree_spelling.specs.Maps.{btree_spelling}
 use Rattle.archive_btree_maps.specs.declared.map.resolving.BTreeMapResolver.{BTreeMapResolver}
+use Rattle.archive_hash_maps.specs.declared.map.resolving.HashTableResolver.{HashTableResolver}
+use Rattle.archive_hash_writing.specs.Tables.{table_spelling}
 use Rattle.cabinet_text_grammar.specs.Keys.{ordered, hashed, kept}
 use Rattle.cabinet_text_grammar.specs.TextKey.{text_key}
 use Rattle.cabinet_text_grammar.specs.Tree as document
 use Rattle.cabinet_text_grammar.specs.Tree.{Tree, Trees, Pairs, leaf, shared, nothing, just, list, map, no_trees, more_trees, no_pairs, more_pairs, depth}
-use Rattle.cabinet_documents.specs.Node.{node_shape, payloads}
+use Rattle.cabinet_documents.specs.Node.{node_shape, pair_shape, payloads}
 use Rattle.cabinet_documents.specs.declared.spelling.resolver.NodeResolver.{NodeResolver}
 use Rattle.cabinet_documents.specs.declared.spelling.resolver.NodeResolver.TheVariants as resolver
 use Rattle.archive_forms_rc.specs.FormsWriting.Owned.{str_spelling}
@@ -66,6 +69,14 @@ trees_in (more_trees t ts) = t ∷ trees_in ts
 abbrev pub ordered_spelling : Spelling Tree NodeResolver → Spelling (List (List ℕ × Tree)) BTreeMapResolver
 ordered_spelling w = kept_as (λ o. record { pos = o }) (λ r. r.pos) (btree_spelling 5 text node_shape str_spelling w)
 
+-- a table of pairs by the hashes of their keys, at most seven of eight places full; the data of a pair is that of its
+-- key and then that of its node
+abbrev pub pair_spelling : Spelling Tree NodeResolver → Spelling (List ℕ × Tree) (StringResolver × NodeResolver)
+pair_spelling w = tuple2_spelling text str_spelling node_shape w
+
+abbrev pub hashed_spelling : Spelling Tree NodeResolver → Spelling (List (List ℕ × Tree)) HashTableResolver
+hashed_spelling w = kept_as (λ o. record { pos = o }) (λ r. r.pos) (table_spelling 7 8 pair_shape (pair_spelling w) (λ p. text_hash p.0))
+
 abbrev pub pairs_in : Pairs → List (List ℕ × Tree)
 pairs_in no_pairs = []
 pairs_in (more_pairs k t ps) = (k, t) ∷ pairs_in ps
@@ -91,6 +102,10 @@ list_in _ = record { pos = 0 }
 abbrev pub ordered_in : NodeResolver → BTreeMapResolver
 ordered_in (resolver.Ordered r) = r
 ordered_in _ = record { pos = None }
+
+abbrev pub hashed_in : NodeResolver → HashTableResolver
+hashed_in (resolver.Hashed r) = r
+hashed_in _ = record { pos = None }
 
 -- ---- nodes
 
@@ -125,7 +140,7 @@ spelling_of w nothing = node_of 4 (option boxed_shape) (maybe_spelling w) resolv
 spelling_of w (just t) = node_of 4 (option boxed_shape) (maybe_spelling w) resolver.Maybe maybe_in (Some t)
 spelling_of w (list ts) = node_of 5 (vector node_shape) (list_spelling w) resolver.List list_in (trees_in ts)
 spelling_of w (map ordered ps) = node_of 6 (tree 5 text node_shape) (ordered_spelling w) resolver.Ordered ordered_in (pairs_in ps)
-spelling_of w (map hashed ps) = refused
+spelling_of w (map hashed ps) = node_of 7 (table pair_shape) (hashed_spelling w) resolver.Hashed hashed_in (pairs_in ps)
 spelling_of w (map kept ps) = refused
 
 -- the spelling of each document, by its case

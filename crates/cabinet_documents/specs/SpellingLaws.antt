@@ -1,6 +1,8 @@
 -- Laws of the spelling of documents, as statements.
 use Rattle.std.specs.Prelude.{◌≡◌, ◌↔◌, pos, List, ℕ, [], ◌∷◌, Result}
 use Rattle.archive_forms_values.specs.ShapeLayout.Value.{Value}
+use Rattle.archive_forms_values.specs.ShapeCanonical.FirstFit.{first_fit}
+use Rattle.archive_forms_values.specs.ShapeCanonical.Hash.{text_hash}
 use Rattle.archive_forms_values.specs.ShapeCanonical.Limits.{PastLimits}
 use Rattle.archive_forms_values.specs.ShapeCanonical.Settled.{Fit}
 use Rattle.archive_forms_values.specs.ShapeCanonical.Sharing.{erased}
@@ -14,6 +16,7 @@ use Rattle.archive_forms_values.specs.FormsLaws.Regions.{region_fits, region_pie
 use Rattle.cabinet_text_grammar.specs.Tree.{Tree, IsDocument, leaf, number, shared, list, no_trees, more_trees}
 use Rattle.cabinet_documents.specs.Node.{node_shape, node_names, KnowsNode}
 use Rattle.cabinet_documents.specs.Denotes.{Denotes}
+use Rattle.cabinet_documents.specs.Fitted.{IsFitted}
 use Rattle.cabinet_documents.specs.Image.{Image}
 use Rattle.cabinet_documents.specs.Laws.{bytes_five}
 use Rattle.cabinet_documents.specs.declared.spelling.resolver.NodeResolver.{NodeResolver}
@@ -23,13 +26,13 @@ use Rattle.cabinet_documents.specs.Spelling.{node_level, node_spelling, node_val
 abbrev pub NodeSpells : Type 0
 NodeSpells = (fit : Fit) → Spells fit node_shape KnowsNode node_spelling
 
--- the value of a document denotes it
+-- the value of a document denotes it, and its hashed maps are in the order of first fit
 abbrev pub ValueDenotes : Type 0
-ValueDenotes = (t : Tree) → HasLayout t → Denotes (node_value t) t
+ValueDenotes = (t : Tree) → HasLayout t → IsDocument t → Denotes (node_value t) t × IsFitted (node_value t)
 
--- no other value denotes it, except for the positions of shared texts
+-- no other value in that order denotes it, except for the positions of shared texts
 abbrev pub OneValue : Type 0
-OneValue = (v : Value) (t : Tree) → HasLayout t → Denotes v t → erased v ≡ node_value t
+OneValue = (v : Value) (t : Tree) → HasLayout t → IsDocument t → Denotes v t → IsFitted v → erased v ≡ node_value t
 
 -- all bytes that writing a document produces where nothing was written before
 abbrev pub archive_of : Tree → List ℕ
@@ -48,11 +51,11 @@ abbrev pub ArchiveRefused : Tree → Error → Type 0
 ArchiveRefused t e = region_refused node_spelling node_shape (t ∷ []) initial e
 
 -- a document that has a layout is refused with an error exactly where what a value that denotes it stores is past the
--- limit of that error
+-- limit of that error, where the value's hashed maps are in the order of first fit
 abbrev pub RefusedIsPast : Type 0
 RefusedIsPast =
-    (fit : Fit) (t : Tree) (v : Value) (e : Error)
-    → HasLayout t → Denotes v t → ArchiveRefused t e ↔ PastLimits fit node_names node_shape v e
+    (t : Tree) (v : Value) (e : Error)
+    → HasLayout t → IsDocument t → Denotes v t → IsFitted v → ArchiveRefused t e ↔ PastLimits (first_fit text_hash) node_names node_shape v e
 
 -- a document without a layout is refused with `InvalidTag`
 abbrev pub LackingIsRefused : Type 0

@@ -6,12 +6,14 @@ pub fn node_spells()
     ensures { NodeSpells }
 {}
 
-/// The value that is written for a document denotes it.
+/// The value that is written for a document denotes it, with the pairs of its hashed maps in the
+/// order of first fit.
 pub fn value_denotes()
     ensures { ValueDenotes }
 {}
 
-/// No other value denotes a document that has a layout, except for the positions of shared texts.
+/// No other value in that order denotes a document that has a layout, except for the positions of
+/// shared texts.
 pub fn one_value()
     ensures { OneValue }
 {}

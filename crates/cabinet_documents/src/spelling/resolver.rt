@@ -2,6 +2,7 @@
 use archive_btree_maps::BTreeMapResolver;
 use archive_forms_rc::RcResolver;
 use archive_forms_values::{BoxResolver, StringResolver, VecResolver};
+use archive_hash_maps::HashTableResolver;
 
 /// The position of the data that a node points to, by its kind; it is known once the data is written.
 #[derive(Clone, Copy, Debug, PartialEq, Eq)]
@@ -18,4 +19,6 @@ pub enum NodeResolver {
     List(VecResolver),
     /// An ordered map, whose data is its search tree.
     Ordered(BTreeMapResolver),
+    /// A hashed map, whose data is its table.
+    Hashed(HashTableResolver),
 }

@@ -1,0 +1,199 @@
+-- Where a table in a walk is sound, what its bytes say of it, and that its keys are distinct.
+use Rattle.std.proofs.Common.{◌≡◌, ℕ, suc, ◌+◌, ◌≤◌, ◌<◌, ◌==◌, nat_lt, Bool, true, false, cond, List, [], ◌∷◌, take, length, map, Option, Some, None, refl, sym, ap, subst, ◌∙◌, arith, eqb-true, eq-eqb}
+use Rattle.std.specs.Prelude.{⊤}
+use Rattle.std.specs.List.{Contains}
+use Rattle.std.proofs.lemmas.Bool.{ne_eqb}
+use Rattle.archive_forms_values.specs.ShapeLayout.Bytes.{window, word_at, target_from}
+use Rattle.archive_forms_values.specs.ShapeLayout.Shape.{Shape}
+use Rattle.archive_forms_values.specs.ShapeLayout.Shape.Shape.{table}
+use Rattle.archive_forms_values.specs.ShapeLayout.Value.{Value, Values, count_values}
+use Rattle.archive_forms_values.specs.ShapeLayout.Value.Values.{no_values, more_values}
+use Rattle.archive_forms_values.specs.ShapeLayout.Content.{Names, Part, Label, content_of, members, item, control_count, choose, following, shape_content, table_parts}
+use Rattle.archive_forms_values.specs.ShapeLayout.Content.Part.{at, buckets}
+use Rattle.archive_forms_values.specs.ShapeLayout.Content.Label.{same, whole}
+use Rattle.archive_forms_values.specs.ShapeLayout.Content.Content.{illegal, plain}
+use Rattle.archive_forms_values.proofs.Targets.{first_word}
+use Rattle.archive_forms_values.proofs.ShapeLayout.Windows.{word_within}
+use Rattle.cabinet_documents.specs.Table.{Entry, Table, Findable, entry_of, full_from, hashed_slots, hashed_at, table_of, where_led, empty_table, item_keys}
+use Rattle.cabinet_documents.specs.Order.{is_same}
+use Rattle.cabinet_documents.specs.Walk.{Stop}
+use Rattle.cabinet_documents.specs.Audit.{IsMapSound, map_faults}
+use Rattle.cabinet_documents.proofs.ByKey.{IsNewKey, AreKeysDistinct}
+use Rattle.cabinet_documents.proofs.Found.{key_self}
+use Rattle.cabinet_documents.proofs.FoundKeys.{hashed_is_findable}
+use Rattle.cabinet_documents.proofs.Stops.{Each}
+
+-- ---- the tables among the parts of a walk
+
+abbrev pub IsTableSound : List ℕ → Part → Value → Type 0
+IsTableSound bytes (at pos (table s)) w = Findable (table_of hashed_at bytes pos w)
+IsTableSound bytes p w = ⊤
+
+-- the keys of a table are distinct, and the other maps are sound
+abbrev pub IsPlainSound : List ℕ → Part → Value → Type 0
+IsPlainSound bytes (at pos (table s)) w = AreKeysDistinct (item_keys (members w))
+IsPlainSound bytes p w = IsMapSound bytes p w
+
+abbrev pub TableSounds : List ℕ → Stop → Type 0
+TableSounds bytes s = IsTableSound bytes s.part s.value
+
+-- a part is a table, or not
+pub data TableCase : Part → Type 0 where
+  is_table : (pos : ℕ) (s : Shape) {p : Part} → p ≡ at pos (table s) → TableCase p
+  is_none : {p : Part} → ((bytes : List ℕ) (w : Value) → IsTableSound bytes p w) → ((bytes : List ℕ) (w : Value) → IsPlainSound bytes p w → IsMapSound bytes p w) → TableCase p
+
+shape_case : (pos : ℕ) (s : Shape) → TableCase (at pos s)
+shape_case pos (table s) = is_table pos s refl
+shape_case pos s = is_none (λ bytes w. tt) (λ bytes w h. h)
+
+pub table_case : (p : Part) → TableCase p
+table_case (at pos s) = shape_case pos s
+table_case p = is_none (λ bytes w. tt) (λ bytes w h. h)
+
+pub both_sound : (bytes : List ℕ) (p : Part) (w : Value) → IsPlainSound bytes p w → IsTableSound bytes p w → IsMapSound bytes p w
+both_sound bytes p w a b = by_case (table_case p)
+  where
+    by_case : TableCase p → IsMapSound bytes p w
+    by_case (is_table pos s e) = subst (λ x. IsMapSound bytes x w) (sym e) (subst (λ x. IsTableSound bytes x w) e b)
+    by_case (is_none t same_sound) = same_sound bytes w a
+
+pub table_sound : (bytes : List ℕ) (p : Part) (w : Value) → IsMapSound bytes p w → IsTableSound bytes p w
+table_sound bytes p w a = by_case (table_case p)
+  where
+    by_case : TableCase p → IsTableSound bytes p w
+    by_case (is_table pos s e) = subst (λ x. IsTableSound bytes x w) (sym e) (subst (λ x. IsMapSound bytes x w) e a)
+    by_case (is_none t same_sound) = t bytes w
+
+-- a hashed map's places are its entries
+hashed_entries : (bytes : List ℕ) (pos : ℕ) (w : Value) → (table_of hashed_at bytes pos w).entries ≡ map entry_of (table_of hashed_at bytes pos w).slots
+hashed_entries bytes pos w = by_case (word_at bytes (pos + 4) == 0) (target_from pos (word_at bytes pos))
+  where
+    keys : List (List ℕ)
+    keys = item_keys (members w)
+
+    by_case : (b : Bool) (o : Option ℕ)
+        → (cond b empty_table (where_led o (hashed_at bytes (word_at bytes (pos + 8)) keys))).entries
+        ≡ map entry_of (cond b empty_table (where_led o (hashed_at bytes (word_at bytes (pos + 8)) keys))).slots
+    by_case true o = refl
+    by_case false None = refl
+    by_case false (Some t) = refl
+
+pub quiet_table : (bytes : List ℕ) (p : Part) (w : Value) → map_faults bytes p w ≡ [] → IsTableSound bytes p w
+quiet_table bytes p w e = by_case (table_case p)
+  where
+    by_case : TableCase p → IsTableSound bytes p w
+    by_case (is_table pos s f) =
+        let none = subst (λ x. map_faults bytes x w ≡ []) f e in
+        subst (λ x. IsTableSound bytes x w) (sym f) (hashed_is_findable (table_of hashed_at bytes pos w) (hashed_entries bytes pos w) none)
+    by_case (is_none t same_sound) = t bytes w
+
+-- without faults all tables are sound
+pub quiet_tables : (bytes : List ℕ) (walk : List Stop) → Each (λ (s : Stop). map_faults bytes s.part s.value ≡ []) walk → Each (TableSounds bytes) walk
+quiet_tables bytes [] h = tt
+quiet_tables bytes (s ∷ rest) h = (quiet_table bytes s.part s.value h.0, quiet_tables bytes rest h.1)
+
+pub each_sound : (bytes : List ℕ) (walk : List Stop) → Each (λ (s : Stop). IsPlainSound bytes s.part s.value) walk → Each (TableSounds bytes) walk → Each (λ (s : Stop). IsMapSound bytes s.part s.value) walk
+each_sound bytes [] h k = tt
+each_sound bytes (s ∷ rest) h k = (both_sound bytes s.part s.value h.0 k.0, each_sound bytes rest h.1 k.1)
+
+pub sound_tables : (bytes : List ℕ) (walk : List Stop) → Each (λ (s : Stop). IsMapSound bytes s.part s.value) walk → Each (TableSounds bytes) walk
+sound_tables bytes [] h = tt
+sound_tables bytes (s ∷ rest) h = (table_sound bytes s.part s.value h.0, sound_tables bytes rest h.1)
+
+-- ---- what a table's bytes say
+
+module _ (bytes : List ℕ) where
+  pub data TableRead (pos : ℕ) (l : Label) (ps : List Part) (s : Shape) : Type 0 where
+    reads_none : l ≡ whole → ps ≡ [] → word_at bytes (pos + 4) ≡ 0 → TableRead pos l ps s
+    reads_buckets :
+        {target len : ℕ} → l ≡ same → ps ≡ buckets target len (word_at bytes (pos + 8)) (item s) ∷ [] → (word_at bytes (pos + 4) ≡ 0 → ⊥) → target_from pos (word_at bytes pos) ≡ Some target
+        → TableRead pos l ps s
+
+  read_table : (pos len : ℕ) (s : Shape) (none fewer : Bool) (o : Option ℕ) {l : Label} {ps : List Part}
+      → (word_at bytes (pos + 4) == 0) ≡ none → target_from pos (word_at bytes pos) ≡ o
+      → choose none (plain whole []) (choose fewer (following o (λ t. plain same (buckets t len (word_at bytes (pos + 8)) (item s) ∷ []))) illegal) ≡ plain l ps
+      → TableRead pos l ps s
+  unfolding choose following
+  read_table pos len s true fewer o n t e = reads_none (cc) (cc) (eqb-true _ 0 n)
+  read_table pos len s false true None n t e = absurd (cc)
+  read_table pos len s false true (Some target) n t e = reads_buckets {target = target} {len = len} (cc) (cc) (λ z. let f = eq-eqb (word_at bytes (pos + 4)) 0 z in absurd (cc)) t
+  read_table pos len s false false o n t e = absurd (cc)
+
+  pub table_read : (names : Names) (pos : ℕ) (s : Shape) {l : Label} {ps : List Part} → content_of names bytes (at pos (table s)) ≡ plain l ps → TableRead pos l ps s
+  unfolding shape_content table_parts
+  table_read names pos s {l = l} {ps = ps} e =
+      let own = window bytes pos 12 in
+      let count = word_within bytes pos 12 4 (omega arith) in
+      let places = word_within bytes pos 12 8 (omega arith) in
+      let offset = first_word bytes pos 12 (omega arith) in
+      read_table pos (word_at own 4) s (word_at bytes (pos + 4) == 0) (nat_lt (word_at own 4) (word_at own 8)) (target_from pos (word_at bytes pos)) refl refl
+      (subst (λ n. choose (n == 0) (plain whole []) (choose (nat_lt (word_at own 4) (word_at own 8)) (following (target_from pos (word_at bytes pos)) (λ t. plain same (buckets t (word_at own 4) (word_at bytes (pos + 8)) (item s) ∷ []))) illegal) ≡ plain l ps) count
+      (subst (λ n. choose (word_at own 4 == 0) (plain whole []) (choose (nat_lt (word_at own 4) (word_at own 8)) (following (target_from pos (word_at bytes pos)) (λ t. plain same (buckets t (word_at own 4) n (item s) ∷ []))) illegal) ≡ plain l ps) places
+      (subst (λ n. choose (word_at own 4 == 0) (plain whole []) (choose (nat_lt (word_at own 4) (word_at own 8)) (following (target_from pos n) (λ t. plain same (buckets t (word_at own 4) (word_at own 8) (item s) ∷ []))) illegal) ≡ plain l ps) offset e)))
+
+  -- of either kind of table
+  module _ (kind : List ℕ → ℕ → List (List ℕ) → ℕ → Table) (pos : ℕ) (v : Value) where
+    pub no_table : word_at bytes (pos + 4) ≡ 0 → table_of kind bytes pos v ≡ empty_table
+    no_table z = ap (λ b. cond b empty_table (where_led (target_from pos (word_at bytes pos)) (kind bytes (word_at bytes (pos + 8)) (item_keys (members v))))) (eq-eqb (word_at bytes (pos + 4)) 0 z)
+
+    pub led_table : {target : ℕ} → (word_at bytes (pos + 4) ≡ 0 → ⊥) → target_from pos (word_at bytes pos) ≡ Some target
+        → table_of kind bytes pos v ≡ kind bytes (word_at bytes (pos + 8)) (item_keys (members v)) target
+    led_table some leads =
+        ap (λ b. cond b empty_table (where_led (target_from pos (word_at bytes pos)) (kind bytes (word_at bytes (pos + 8)) (item_keys (members v))))) (ne_eqb (word_at bytes (pos + 4)) 0 some)
+        ∙ ap (λ o. where_led o (kind bytes (word_at bytes (pos + 8)) (item_keys (members v)))) leads
+
+-- ---- the keys that are found are distinct
+
+-- full places ascend
+abbrev pub Above : ℕ → List ℕ → Type 0
+Above n [] = ⊤
+Above n (p ∷ ps) = (n ≤ p) × Above (p + 1) ps
+
+above_less : (n m : ℕ) (ps : List ℕ) → n ≤ m → Above m ps → Above n ps
+above_less n m [] h a = tt
+above_less n m (p ∷ ps) h a = let low = a.0 in (omega (arith, h, low), a.1)
+
+pub full_above : (i : ℕ) (cs : List ℕ) → Above i (full_from i cs)
+full_above i [] = tt
+full_above i (c ∷ cs) = by_test (nat_lt c 128) (full_above (i + 1) cs)
+  where
+    by_test : (b : Bool) → Above (i + 1) (full_from (i + 1) cs) → Above i (cond b (i ∷ full_from (i + 1) cs) (full_from (i + 1) cs))
+    by_test true a = (omega arith, a)
+    by_test false a = above_less i (i + 1) (full_from (i + 1) cs) (omega arith) a
+
+abbrev SameNumbers : List Entry → Type 0
+SameNumbers es = (a b : Entry) → Contains es a → Contains es b → is_same a.key b.key ≡ true → a.number ≡ b.number
+
+later_among : (e x : Entry) (es : List Entry) → Contains es x → Contains (e ∷ es) x
+later_among e x es c = let a = c.1 in (suc c.0, omega (arith, a), c.2)
+
+new_key : (ps : List ℕ) (ks : List (List ℕ)) (p n : ℕ) (k : List ℕ) → length ps ≡ length ks → p < n → Above n ps
+    → ((e : Entry) → Contains (map entry_of (hashed_slots ps ks)) e → is_same k e.key ≡ true → p ≡ e.number) → IsNewKey k ks
+new_key [] [] p n k many less a h = tt
+new_key [] (l ∷ ks) p n k many less a h = absurd (cc)
+new_key (q ∷ ps) [] p n k many less a h = absurd (cc)
+new_key (q ∷ ps) (l ∷ ks) p n k many less a h = (
+  (λ e. let low = a.0 in let at_q : p ≡ q = h (record { number = q; key = l }) (0, omega arith, refl) (subst (λ x. is_same k x ≡ true) (sym e) (key_self k)) in omega (arith, less, low, at_q)),
+  new_key ps ks p (q + 1) k (cc) (let low = a.0 in omega (arith, less, low)) a.1 (λ e c. h e (later_among (record { number = q; key = l }) e (map entry_of (hashed_slots ps ks)) c)),
+)
+
+distinct_keys : (ps : List ℕ) (ks : List (List ℕ)) (n : ℕ) → length ps ≡ length ks → Above n ps → SameNumbers (map entry_of (hashed_slots ps ks)) → AreKeysDistinct ks
+distinct_keys [] [] n many a h = tt
+distinct_keys [] (l ∷ ks) n many a h = absurd (cc)
+distinct_keys (q ∷ ps) [] n many a h = absurd (cc)
+distinct_keys (q ∷ ps) (l ∷ ks) n many a h =
+    let first : Entry = record { number = q; key = l } in
+    let others = map entry_of (hashed_slots ps ks) in (
+      new_key ps ks q (q + 1) l (cc) (omega arith) a.1 (λ e c. h first e (0, omega arith, refl) (later_among first e others c)),
+      distinct_keys ps ks (q + 1) (cc) a.1 (λ x y c d. h x y (later_among first x others c) (later_among first y others d)),
+    )
+
+pub keys_count : (vs : Values) → length (item_keys vs) ≡ count_values vs
+keys_count no_values = refl
+keys_count (more_values v vs) = let r = keys_count vs in omega (arith, r)
+
+-- where each full place has an item
+pub found_distinct : (bytes : List ℕ) (cap target : ℕ) (ks : List (List ℕ)) → length ks ≡ length (full_from 0 (take cap (window bytes target (control_count cap)))) → Findable (hashed_at bytes cap ks target) → AreKeysDistinct ks
+found_distinct bytes cap target ks many f =
+    let places = full_from 0 (take cap (window bytes target (control_count cap))) in
+    distinct_keys places ks 0 (sym many) (full_above 0 (take cap (window bytes target (control_count cap)))) f.distinct
