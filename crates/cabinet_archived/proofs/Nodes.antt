@@ -38,18 +38,18 @@ absent_sized = refl
 
 -- none of the first tags with a layout
 abbrev pub IsOther : ℕ → Type 0
-IsOther n = (n ≡ 0 → ⊥) × (n ≡ 1 → ⊥) × (n ≡ 2 → ⊥) × (n ≡ 3 → ⊥) × (n ≡ 4 → ⊥) × (n ≡ 5 → ⊥)
+IsOther n = (n ≡ 0 → ⊥) × (n ≡ 1 → ⊥) × (n ≡ 2 → ⊥) × (n ≡ 3 → ⊥) × (n ≡ 4 → ⊥) × (n ≡ 5 → ⊥) × (n ≡ 6 → ⊥)
 
--- such a tag is that of an ordered map, or that of an absent payload, or it names none
-others : (n : ℕ) → IsOther n → (n ≡ 6) ⊎ ((shape_tagged n payloads ≡ Some absent) ⊎ (shape_tagged n payloads ≡ None))
+-- such a tag is that of a hashed map, or that of an absent payload, or it names none
+others : (n : ℕ) → IsOther n → (n ≡ 7) ⊎ ((shape_tagged n payloads ≡ Some absent) ⊎ (shape_tagged n payloads ≡ None))
 others zero h = absurd (h.0 refl)
 others (suc zero) h = absurd (h.1 refl)
 others (suc (suc zero)) h = absurd (h.2 refl)
 others (suc (suc (suc zero))) h = absurd (h.3 refl)
 others (suc (suc (suc (suc zero)))) h = absurd (h.4 refl)
 others (suc (suc (suc (suc (suc zero))))) h = absurd (h.5 refl)
-others (suc (suc (suc (suc (suc (suc zero)))))) h = inl refl
-others (suc (suc (suc (suc (suc (suc (suc zero))))))) h = inr (inl refl)
+others (suc (suc (suc (suc (suc (suc zero)))))) h = absurd (h.6 refl)
+others (suc (suc (suc (suc (suc (suc (suc zero))))))) h = inl refl
 others (suc (suc (suc (suc (suc (suc (suc (suc zero)))))))) h = inr (inl refl)
 others (suc (suc (suc (suc (suc (suc (suc (suc (suc n))))))))) h = inr (inr refl)
 
@@ -92,10 +92,10 @@ module _ (names : Names) (bytes : List ℕ) where
         as_enum r (choice_checked names bytes pos payloads tag s (align_of s) tag_is payload (behind_tag (align_of s) some) k l r h)
 
     -- tags without a layout are refused
-    pub other_refused : IsOther (slice_index bytes pos) → (slice_index bytes pos ≡ 6 → ⊥) → Checks names bytes (at pos node_shape) k (Err InvalidTag) l
+    pub other_refused : IsOther (slice_index bytes pos) → (slice_index bytes pos ≡ 7 → ⊥) → Checks names bytes (at pos node_shape) k (Err InvalidTag) l
     other_refused other no_map = by (others (slice_index bytes pos) other)
       where
-        by : (slice_index bytes pos ≡ 6) ⊎ ((shape_tagged (slice_index bytes pos) payloads ≡ Some absent) ⊎ (shape_tagged (slice_index bytes pos) payloads ≡ None)) → Checks names bytes (at pos node_shape) k (Err InvalidTag) l
+        by : (slice_index bytes pos ≡ 7) ⊎ ((shape_tagged (slice_index bytes pos) payloads ≡ Some absent) ⊎ (shape_tagged (slice_index bytes pos) payloads ≡ None)) → Checks names bytes (at pos node_shape) k (Err InvalidTag) l
         by (inl e) = absurd (no_map e)
         by (inr (inl e)) = payload_checked (slice_index bytes pos) absent (Err InvalidTag) refl e (omega arith) (absent_refused (pos + align_of absent) k l)
         by (inr (inr e)) = as_enum (Err InvalidTag) (untagged_refused names bytes pos payloads k l e)
@@ -140,11 +140,11 @@ module _ (bytes : List ℕ) (pos : ℕ) where
         let one = all there.value there.held in
         record { there = record { value = one.payload; held = one.held }; payload = all }
 
-    -- and a tag that is none of the first is that of an ordered map
-    pub is_ordered : IsOther (slice_index bytes pos) → slice_index bytes pos ≡ 6
-    is_ordered other = by (others (slice_index bytes pos) other)
+    -- and a tag that is none of the first is that of a hashed map
+    pub is_hashed : IsOther (slice_index bytes pos) → slice_index bytes pos ≡ 7
+    is_hashed other = by (others (slice_index bytes pos) other)
       where
-        by : (slice_index bytes pos ≡ 6) ⊎ ((shape_tagged (slice_index bytes pos) payloads ≡ Some absent) ⊎ (shape_tagged (slice_index bytes pos) payloads ≡ None)) → slice_index bytes pos ≡ 6
+        by : (slice_index bytes pos ≡ 7) ⊎ ((shape_tagged (slice_index bytes pos) payloads ≡ Some absent) ⊎ (shape_tagged (slice_index bytes pos) payloads ≡ None)) → slice_index bytes pos ≡ 7
         by (inl e) = e
         by (inr (inl e)) = absurd (absent_at there.value there.held e)
         by (inr (inr e)) = absurd (choice_has payloads KnowsNode bytes pos there.value (enum_held there.value there.held) e)

@@ -6,7 +6,7 @@ use Rattle.std.specs.Rc.{rc_str_bytes}
 use Rattle.std.specs.declared.rc.RcStr.{RcStr}
 use Rattle.archive_shape_layout.specs.Bytes.{align_up}
 use Rattle.archive_shape_layout.specs.Shape.{Shape, size_of, align_of}
-use Rattle.archive_shape_layout.specs.Shape.Shape.{number, truth, text, option, choice, vector, tree as tree_shape, shared as shared_shape}
+use Rattle.archive_shape_layout.specs.Shape.Shape.{number, truth, text, option, choice, vector, table, tree as tree_shape, shared as shared_shape}
 use Rattle.archive_shape_layout.specs.Shape.Pointee.{str}
 use Rattle.archive_forms_laws.specs.ShapeCanonical.FirstFit.{first_fit}
 use Rattle.archive_shape.specs.Bytes.{HasBytes, zeros, overwrite}
@@ -31,8 +31,10 @@ use Rattle.archive_forms_laws.specs.Links.{LinkFits, LinkRefused, link_bytes}
 use Rattle.archive_forms_laws.specs.Texts.{text_spelling}
 use Rattle.archive_btree_spelling.proofs.Maps.{map_spells}
 use Rattle.archive_btree_maps.specs.declared.map.resolving.BTreeMapResolver.{BTreeMapResolver}
+use Rattle.archive_hash_maps.specs.declared.map.resolving.HashTableResolver.{HashTableResolver}
+use Rattle.archive_hash_writing.proofs.SpellingTables.{length-own}
 use Rattle.std.specs.BTreeMap.{BTreeMap}
-use Rattle.cabinet_text_grammar.specs.Keys.{ordered}
+use Rattle.cabinet_text_grammar.specs.Keys.{ordered, hashed}
 use Rattle.archive_forms_values.specs.declared.reading.resolving.BoxResolver.{BoxResolver}
 use Rattle.archive_forms_values.specs.declared.reading.resolving.VecResolver.{VecResolver}
 use Rattle.archive_forms_values.specs.declared.text.resolving.StringResolver.{StringResolver}
@@ -42,16 +44,16 @@ use Rattle.archive_forms_writing.proofs.Results.{payload_resolved}
 use Rattle.cabinet_text_grammar.specs.TextKey.{text_key}
 use Rattle.cabinet_text_grammar.specs.Tree as tree
 use Rattle.cabinet_text_grammar.specs.Tree.{Tree, depth}
-use Rattle.cabinet_documents.specs.Node.{node_shape, payloads, KnowsNode}
+use Rattle.cabinet_documents.specs.Node.{node_shape, pair_shape, payloads, KnowsNode}
 use Rattle.cabinet_documents.specs.declared.spelling.resolver.NodeResolver.{NodeResolver}
 use Rattle.cabinet_documents.specs.declared.spelling.resolver.NodeResolver.TheVariants as resolver
-use Rattle.cabinet_documents.specs.Spelling.{truth_spelling, number_spelling, shared_string_spelling, boxed_shape, boxed_spelling, maybe_spelling, list_spelling, ordered_spelling, text_in, shared_in, maybe_in, list_in, ordered_in, node_of, refused, node_level, node_spelling}
+use Rattle.cabinet_documents.specs.Spelling.{truth_spelling, number_spelling, shared_string_spelling, boxed_shape, boxed_spelling, maybe_spelling, list_spelling, ordered_spelling, hashed_spelling, text_in, shared_in, maybe_in, list_in, ordered_in, hashed_in, node_of, refused, node_level, node_spelling}
 use Rattle.cabinet_documents.proofs.Levels.{node_spells_law}
 use Rattle.cabinet_archived.specs.Archived.{archived_as, tree_within, trees_within, pairs_within}
 use Rattle.cabinet_text_nodes.specs.View.{node_tree, node_trees, node_pairs}
 use Rattle.cabinet_text_nodes.specs.declared.node.Node.{Node}
 use Rattle.cabinet_text_nodes.specs.declared.node.Node.TheVariants as node
-use Rattle.cabinet_text_nodes.proofs.Views.{node_tree-bool, node_tree-int, node_tree-text, node_tree-shared, node_tree-none, node_tree-some, node_tree-list, node_tree-ordered}
+use Rattle.cabinet_text_nodes.proofs.Views.{node_tree-bool, node_tree-int, node_tree-text, node_tree-shared, node_tree-none, node_tree-some, node_tree-list, node_tree-ordered, node_tree-hashed}
 use Rattle.archive_forms_writing.specs.Owned.{str_spelling}
 
 -- ---- payloads by themselves
@@ -93,7 +95,7 @@ pub vec_resolved :
 vec_resolved w ns len r pos start old new result is h =
     laws.slice_resolved node_shape (vector node_shape) w (trees_within ns) len r.pos pos start old new result (is ∙ sym (length-trees_in ns)) h
 
-length-pairs_in : (ps : List (String Global × Node)) → length (pairs_within ps) ≡ length ps
+pub length-pairs_in : (ps : List (String Global × Node)) → length (pairs_within ps) ≡ length ps
 length-pairs_in [] = refl
 length-pairs_in (p ∷ ps) = ap suc (length-pairs_in ps)
 
@@ -147,6 +149,10 @@ list_place = record { first = omega arith; at = refl; fits = omega arith }
 pub ordered_place : KindPlace (tree_shape 5 text node_shape) 4
 unfolding align_up
 ordered_place = record { first = omega arith; at = refl; fits = omega arith }
+
+pub hashed_place : KindPlace (table pair_shape) 4
+unfolding align_up
+hashed_place = record { first = omega arith; at = refl; fits = omega arith }
 
 module _ (r : NodeResolver) (bytes set_bytes new final : List ℕ) (start pos from there : ℕ) (result : Result (Unit {0}) Error)
     (room : start + 24 ≤ length bytes) (blank : HasBytes bytes start (zeros 24)) (ends : new ≡ final) where
@@ -277,6 +283,19 @@ module _ (r : NodeResolver) (bytes set_bytes new final : List ℕ) (start pos fr
       as_tree n t (ap node_tree is ∙ node_tree-ordered b)
       (kind_resolved 6 4 (tree_shape 5 text node_shape) (ordered_spelling node_spelling) resolver.Ordered ordered_in ordered_place x t
       (λ q p f. (map_spells fit 5 text node_shape KnowsNode str_spelling node_spelling (λ y. kept_spells_at fit text KnowsNode _ _ (λ z. refl) text_spelling y (text_spells fit KnowsNode y)) (node_spells_law fit) x (λ _. omega arith)).sized q.pos p f) is_set is_from is_there k kept h)
+
+  pub hashed_resolved :
+      (n : Node) (b : BTreeMap (String Global) Node) → n ≡ node.Hashed b
+      → set_bytes ≡ set bytes start 7 → from ≡ start + 4 → there ≡ pos + 4
+      → (k : HashTableResolver) → k ≡ hashed_in r
+      → Resolves (hashed_spelling node_spelling) (table pair_shape) (pairs_within b.entries) k there from set_bytes new result
+      → Resolves archived_as node_shape n r pos start bytes final result
+  hashed_resolved n b is is_set is_from is_there k kept h =
+      let t = tree.map hashed (node_pairs b.entries) in
+      let x = pairs_within b.entries in
+      as_tree n t (ap node_tree is ∙ node_tree-hashed b)
+      (kind_resolved 7 4 (table pair_shape) (hashed_spelling node_spelling) resolver.Hashed hashed_in hashed_place x t
+      (λ q p f. length-own q.pos p _ _) is_set is_from is_there k kept h)
 
 -- a node whose kind has no layout is refused
 pub own_refused_as :

@@ -1,5 +1,5 @@
 -- What is written of a node, by its kind.
-use Rattle.std.proofs.Common.{◌≡◌, ℕ, zero, suc, ◌+◌, ◌-◌, ◌≤◌, ◌<◌, ◌^◌, ◌⊎◌, List, [], ◌∷◌, ◌++◌, length, map, get_or, append-nil, inr, Option, Some, None, Result, Ok, Err, refl, sym, ap, subst, ◌∙◌, arith, Global, String, Box, Vec}
+use Rattle.std.proofs.Common.{◌≡◌, ℕ, zero, suc, ◌+◌, ◌-◌, ◌≤◌, ◌<◌, ◌^◌, ◌⊎◌, List, [], ◌∷◌, ◌++◌, length, map, get_or, append-nil, inr, Option, Some, None, Result, Ok, Err, refl, sym, ap, ap₂, subst, ◌∙◌, arith, Global, String, Box, Vec}
 use Rattle.std.specs.Prelude.{string_bytes}
 use Rattle.std.specs.Int.{w32, to_le_bytes}
 use Rattle.std.specs.Rc.{rc_str_bytes}
@@ -18,6 +18,7 @@ use Rattle.archive_forms_laws.specs.State.{State, Keys}
 use Rattle.archive_forms_laws.specs.Spelling.{Spelling, state_after}
 use Rattle.archive_forms_laws.specs.Forms.{seen_as, kept_as}
 use Rattle.archive_forms_laws.specs.Regions.{state_after_all, values, plain_values, all_suit, pieces, owns, pieces_fit, pieces_refused, owns_fit, owns_refused, region_at}
+use Rattle.archive_forms_laws.specs.Fields.{tuple2_spelling}
 use Rattle.archive_forms_laws.specs.Pointers.{slice_spelling}
 use Rattle.archive_forms_laws.specs.Shared.{shared_text_spelling}
 use Rattle.archive_shape.specs.Offsets.{offset_bytes, FitsOffset}
@@ -33,20 +34,28 @@ use Rattle.cabinet_text_grammar.specs.Keys.{ordered, hashed, kept}
 use Rattle.std.specs.BTreeMap.{BTreeMap}
 use Rattle.archive_shape_layout.specs.Shape.Shape.{text}
 use Rattle.archive_btree.specs.Owned.{entries_spelling}
+use Rattle.std.specs.Hash as fed
+use Rattle.archive_forms_laws.specs.ShapeCanonical.Hash.{text_hash}
+use Rattle.archive_hash.specs.Owned as table
+use Rattle.archive_hash_maps.specs.declared.map.resolving.HashTableResolver.{HashTableResolver}
+use Rattle.archive_hash_probing.specs.Inputs.{input_hash}
+use Rattle.archive_hash_writing.specs.Tables.{table_spelling, hashed_spelling as items_spelling}
+use Rattle.archive_hash_writing.proofs.Seen.{hashed_seen}
+use Rattle.archive_hash_writing.proofs.TextHash.{text_fed}
 use Rattle.archive_btree_spelling.specs.Maps.{btree_spelling}
 use Rattle.archive_btree_spelling.proofs.Seen.{btree_seen, seen_entry}
 use Rattle.archive_btree_maps.specs.declared.map.resolving.BTreeMapResolver.{BTreeMapResolver}
 use Rattle.cabinet_text_grammar.specs.Tree.{Tree, Pairs, depth}
-use Rattle.cabinet_documents.specs.Node.{node_shape}
+use Rattle.cabinet_documents.specs.Node.{node_shape, pair_shape}
 use Rattle.cabinet_documents.specs.declared.spelling.resolver.NodeResolver.{NodeResolver}
 use Rattle.cabinet_documents.specs.declared.spelling.resolver.NodeResolver.TheVariants as resolver
-use Rattle.cabinet_documents.specs.Spelling.{maybe_spelling, list_spelling, ordered_spelling, trees_in, refused, node_level, node_spelling}
+use Rattle.cabinet_documents.specs.Spelling.{maybe_spelling, list_spelling, ordered_spelling, pair_spelling, hashed_spelling, trees_in, refused, node_level, node_spelling}
 use Rattle.cabinet_documents.proofs.Agreeing.{one_level_is_written_law}
 use Rattle.cabinet_archived.specs.Archived.{archived_as, tree_within, trees_within, most_within, pairs_within, most_in_pairs}
 use Rattle.cabinet_text_nodes.specs.View.{trees_of, node_tree, node_trees, node_pairs}
 use Rattle.cabinet_text_nodes.specs.declared.node.Node.{Node}
 use Rattle.cabinet_text_nodes.specs.declared.node.Node.TheVariants as node
-use Rattle.cabinet_text_nodes.proofs.Views.{node_tree-text, node_tree-shared, node_tree-none, node_tree-some, node_tree-list, node_tree-ordered}
+use Rattle.cabinet_text_nodes.proofs.Views.{node_tree-text, node_tree-shared, node_tree-none, node_tree-some, node_tree-list, node_tree-ordered, node_tree-hashed}
 use Rattle.archive_forms_writing.specs.Owned.{str_spelling, string_spelling}
 
 -- ---- a list of values that are seen as others is archived as the list of those
@@ -189,6 +198,31 @@ pairs_written m ps old new result h =
     subst (λ qs. Serializes (ordered_spelling node_spelling) m qs old new result) (pairs_are ps)
     (serializes_alike pairs_spelling (seen_as (map (seen_entry string_bytes node_tree)) (ordered_spelling node_spelling)) ps alike m old new result h)
 
+-- by the hashes of what its keys feed to a hasher
+abbrev key_hash : String Global → ℕ
+key_hash k = input_hash (fed.str (string_bytes k))
+
+abbrev table_of_pairs : Spelling (List (String Global × Node)) HashTableResolver
+table_of_pairs = table.entries_spelling key_hash text node_shape string_spelling archived_as
+
+hashes_are : (ps : List (String Global × Node)) → map (λ e. key_hash e.0) ps ≡ map (λ p. text_hash p.0) (map (seen_entry string_bytes node_tree) ps)
+hashes_are [] = refl
+hashes_are (p ∷ ps) = ap₂ (λ h hs. h ∷ hs) (sym (text_fed (string_bytes p.0))) (hashes_are ps)
+
+pub table_written :
+    {W : Type 0} (m : WriterMembers W) (ps : List (String Global × Node)) (old new : W) (result : Result HashTableResolver Error)
+    → Serializes table_of_pairs m ps old new result
+    → Serializes (hashed_spelling node_spelling) m (pairs_within ps) old new result
+table_written m ps old new result h =
+    let view = seen_entry string_bytes node_tree in
+    let xs = map view ps in
+    let own = tuple2_spelling text string_spelling node_shape archived_as in
+    let seen = ap (λ hs. said (items_spelling 7 8 pair_shape own hs) ps) (hashes_are ps)
+    ∙ hashed_seen pair_shape view (λ r. r) (λ r. r) (λ r. refl) (pair_spelling node_spelling) 7 8 (map (λ p. text_hash p.0) xs) ps in
+    let alike = kept_alike (table_spelling 7 8 pair_shape own (λ e. key_hash e.0)) (table_spelling 7 8 pair_shape (pair_spelling node_spelling) (λ p. text_hash p.0)) ps xs seen (λ o. record { pos = o }) (λ r. r.pos) in
+    subst (λ qs. Serializes (hashed_spelling node_spelling) m qs old new result) (pairs_are ps)
+    (serializes_alike table_of_pairs (seen_as (map view) (hashed_spelling node_spelling)) ps alike m old new result h)
+
 -- ---- each node in a list, an option or a map lies in fewer containers
 
 -- in an option
@@ -282,6 +316,14 @@ module _ {W : Type 0} (m : WriterMembers W) (n : Node) (old new : W) where
   pub ordered_refused : (b : BTreeMap (String Global) Node) (e : Error) → n ≡ node.Ordered b → Serializes (ordered_spelling node_spelling) m (pairs_within b.entries) old new (Err e) → Serializes archived_as m n old new (Err e)
   ordered_refused b e is h = as_level (tree.map ordered (node_pairs b.entries)) (Err e) (ap node_tree is ∙ node_tree-ordered b) h
 
+  pub hashed_wrote : (b : BTreeMap (String Global) Node) (r : HashTableResolver) → n ≡ node.Hashed b → Serializes (hashed_spelling node_spelling) m (pairs_within b.entries) old new (Ok r) → Serializes archived_as m n old new (Ok (resolver.Hashed r))
+  hashed_wrote b r is h =
+      as_level (tree.map hashed (node_pairs b.entries)) (Ok (resolver.Hashed r)) (ap node_tree is ∙ node_tree-hashed b)
+      (λ st at. let o = h st at in (o.0, (ap (λ q. resolver.Hashed q) o.1.0, o.1.1, o.1.2)))
+
+  pub hashed_refused : (b : BTreeMap (String Global) Node) (e : Error) → n ≡ node.Hashed b → Serializes (hashed_spelling node_spelling) m (pairs_within b.entries) old new (Err e) → Serializes archived_as m n old new (Err e)
+  hashed_refused b e is h = as_level (tree.map hashed (node_pairs b.entries)) (Err e) (ap node_tree is ∙ node_tree-hashed b) h
+
 -- a node whose kind has no layout is refused, and nothing is written of it
 module _ {W : Type 0} (m : WriterMembers W) (n : Node) (old : W) where
   refused_stops : (t : Tree) → Serializes refused m t old old (Err InvalidTag)
@@ -290,9 +332,6 @@ module _ {W : Type 0} (m : WriterMembers W) (n : Node) (old : W) where
     is_quiet = refl;
     reason = inr refl;
   })
-
-  pub hashed_refused : (ps : Pairs) → node_tree n ≡ tree.map hashed ps → Serializes archived_as m n old old (Err InvalidTag)
-  hashed_refused ps is = as_level m n old old (tree.map hashed ps) (Err InvalidTag) is (refused_stops (tree.map hashed ps))
 
   pub kept_refused : (ps : Pairs) → node_tree n ≡ tree.map kept ps → Serializes archived_as m n old old (Err InvalidTag)
   kept_refused ps is = as_level m n old old (tree.map kept ps) (Err InvalidTag) is (refused_stops (tree.map kept ps))

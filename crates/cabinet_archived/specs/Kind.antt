@@ -3,13 +3,13 @@ use Rattle.std.specs.Prelude.{◌≡◌, ℕ, ◌+◌, true, false, List, ⊤}
 use Rattle.std.specs.Int.{w64}
 use Rattle.std.specs.Borrow.{Bor}
 use Rattle.archive_shape_layout.specs.Shape.{Shape}
-use Rattle.archive_shape_layout.specs.Shape.Shape.{number, truth, text, shared, option, box, vector, tree}
+use Rattle.archive_shape_layout.specs.Shape.Shape.{number, truth, text, shared, option, box, vector, tree, table}
 use Rattle.archive_shape_layout.specs.Shape.Pointee.{sized, str}
 use Rattle.archive_shape_layout.specs.Value.{Value}
 use Rattle.archive_shape_layout.specs.Content.{Names}
 use Rattle.archive_shape.specs.Key.{HeldAt}
 use Rattle.archive_forms_values.specs.Parts.{HasValue, HasPayload, both}
-use Rattle.cabinet_documents.specs.Node.{node_shape, KnowsNode}
+use Rattle.cabinet_documents.specs.Node.{node_shape, pair_shape, KnowsNode}
 use Rattle.cabinet_archived.specs.declared.kind.ArchivedKind.{ArchivedKind}
 use Rattle.cabinet_archived.specs.declared.kind.ArchivedKind.TheVariants as kind
 
@@ -27,3 +27,4 @@ IsKindAt bytes pos (kind.Shared r) = (r.bytes ≡ bytes) × (r.pos ≡ pos + 4) 
 IsKindAt bytes pos (kind.Maybe r) = (r.bytes ≡ bytes) × (r.pos ≡ pos + 4) × IsTagged bytes.now pos 4 (option (box (sized node_shape))) KnowsNode r.pos
 IsKindAt bytes pos (kind.List r) = (r.bytes ≡ bytes) × (r.pos ≡ pos + 4) × IsTagged bytes.now pos 5 (vector node_shape) KnowsNode r.pos
 IsKindAt bytes pos (kind.Ordered r) = (r.bytes ≡ bytes) × (r.pos ≡ pos + 4) × IsTagged bytes.now pos 6 (tree 5 text node_shape) (both (λ _. ⊤) KnowsNode) r.pos
+IsKindAt bytes pos (kind.Hashed r) = (r.bytes ≡ bytes) × (r.pos ≡ pos + 4) × IsTagged bytes.now pos 7 (table pair_shape) (both (λ _. ⊤) KnowsNode) r.pos

@@ -2,18 +2,20 @@
 ghost use Rattle.std.specs.Prelude.{◌≡◌, ℕ, false, ◌+◌, ◌-◌, ◌^◌, ◌<◌, ◌≤◌, length};
 ghost use Rattle.archive_shape_layout.specs.Content.{Names};
 ghost use Rattle.archive_shape_layout.specs.Content.Part.{at};
-ghost use Rattle.archive_shape_layout.specs.Shape.Shape.{text, shared, option, box, vector, tree};
+ghost use Rattle.archive_shape_layout.specs.Shape.Shape.{text, shared, option, box, vector, tree, table};
 ghost use Rattle.archive_shape_layout.specs.Shape.Pointee.{sized, str};
 ghost use Rattle.archive_shape.specs.Kept.{IsWithin};
 ghost use Rattle.archive_shape.specs.Checks.{Checks, Moves};
-ghost use Rattle.cabinet_documents.specs.Node.{node_shape, KnowsNode};
+ghost use Rattle.cabinet_documents.specs.Node.{node_shape, pair_shape, KnowsNode};
 
 use crate::{ArchivedNode, tag};
 use archive_btree_nodes::check_btree_each;
 use archive_forms_rc::{ArchivedRcStr, RcFlavor};
 use archive_forms_values::{
-    ArchivedBox, ArchivedString, check_box_each, check_option_each, check_vec_each,
+    ArchivedBox, ArchivedString, Entry, check_box_each, check_option_each, check_tuple2_each,
+    check_vec_each,
 };
+use archive_hash_checking::check_table_each;
 use archive_shape::{ArchivedI64, CheckBytes, Error, SharedContext};
 use std::alloc::Global;
 
@@ -85,6 +87,7 @@ pub(crate) fn check_node<C: SharedContext>(
         tag::MAYBE => check_maybe(alloc, bytes, pos + tag::OFFSET, context, room),
         tag::LIST => check_list(alloc, bytes, pos + tag::OFFSET, context, room),
         tag::ORDERED => check_ordered(alloc, bytes, pos + tag::OFFSET, context, room),
+        tag::HASHED => check_hashed(alloc, bytes, pos + tag::OFFSET, context, room),
         _ => Err(Error::InvalidTag),
     }
 }
@@ -220,5 +223,77 @@ fn check_ordered<C: SharedContext>(
             ensures exact { (names : Names) → KnowsNode names
                 → Checks names bytes.entry.now (at p node_shape) (C.kept c.old) result (C.kept c.new) }
         { check_node(alloc, bytes, p, c, room - 24) },
+    )
+}
+
+/// Checks the hash table of pairs of a text and a node at `pos`. The regions that it claims end at `room` or before.
+#[cycle(node)]
+#[inline(never)]
+#[tactic(auto, unfolding(archive_shape_layout::specs::Bytes::align_up))]
+fn check_hashed<C: SharedContext>(
+    alloc: Global,
+    bytes: &[u8],
+    pos: usize,
+    context: &mut C,
+    room: usize,
+) -> Result<(), Error>
+    requires fits { pos + 12 ≤ length bytes.now }
+    requires range { IsWithin (C.kept context.old) (length bytes.now) }
+    requires within { (C.kept context.old).end ≤ room }
+    ensures moves { Moves (C.kept context.old) result (C.kept context.new) }
+    ensures exact { (names : Names) → KnowsNode names
+        → Checks names bytes.now (at pos (table pair_shape)) (C.kept context.old) result (C.kept context.new) }
+{
+    check_table_each::<Entry<ArchivedString, ArchivedNode>, C, _>(
+        bytes,
+        pos,
+        context,
+        |c: &mut C, p: usize| -> Result<(), Error>
+            requires fits { p + 32 ≤ length bytes.now }
+            requires range { IsWithin (C.kept c.old) (length bytes.now) }
+            requires within { (C.kept c.old).end + 32 ≤ room }
+            ensures moves { Moves (C.kept c.old) result (C.kept c.new) }
+            ensures exact { (names : Names) → KnowsNode names
+                → Checks names bytes.entry.now (at p pair_shape) (C.kept c.old) result (C.kept c.new) }
+        { check_pair(alloc, bytes, p, c, room - 32) },
+    )
+}
+
+/// Checks the pair of a text and a node at `pos`. The regions that it claims end at `room` or before.
+#[cycle(node)]
+#[tactic(auto, unfolding(archive_shape_layout::specs::Bytes::align_up))]
+fn check_pair<C: SharedContext>(
+    alloc: Global,
+    bytes: &[u8],
+    pos: usize,
+    context: &mut C,
+    room: usize,
+) -> Result<(), Error>
+    requires fits { pos + 32 ≤ length bytes.now }
+    requires range { IsWithin (C.kept context.old) (length bytes.now) }
+    requires within { (C.kept context.old).end ≤ room }
+    ensures moves { Moves (C.kept context.old) result (C.kept context.new) }
+    ensures exact { (names : Names) → KnowsNode names
+        → Checks names bytes.now (at pos pair_shape) (C.kept context.old) result (C.kept context.new) }
+{
+    check_tuple2_each::<ArchivedString, ArchivedNode, C, _, _>(
+        bytes,
+        pos,
+        context,
+        |c: &mut C, key: usize| -> Result<(), Error>
+            requires fits { key + 8 ≤ length bytes.now }
+            requires range { IsWithin (C.kept c.old) (length bytes.now) }
+            ensures moves { Moves (C.kept c.old) result (C.kept c.new) }
+            ensures exact { (names : Names)
+                → Checks names bytes.entry.now (at key text) (C.kept c.old) result (C.kept c.new) }
+        { check_text(alloc, bytes, key, c) },
+        |c: &mut C, value: usize| -> Result<(), Error>
+            requires fits { value + 24 ≤ length bytes.now }
+            requires range { IsWithin (C.kept c.old) (length bytes.now) }
+            requires within { (C.kept c.old).end ≤ room }
+            ensures moves { Moves (C.kept c.old) result (C.kept c.new) }
+            ensures exact { (names : Names) → KnowsNode names
+                → Checks names bytes.entry.now (at value node_shape) (C.kept c.old) result (C.kept c.new) }
+        { check_node(alloc, bytes, value, c, room) },
     )
 }

@@ -8,6 +8,8 @@ use crate::{ArchivedNode, tag};
 use archive_btree_maps::ArchivedBTreeMap;
 use archive_forms_rc::{ArchivedRcStr, RcFlavor};
 use archive_forms_values::{ArchivedBox, ArchivedOption, ArchivedString, ArchivedVec};
+use archive_hash_maps::ArchivedHashMap;
+use archive_hash_probing::FxHasher64;
 use archive_shape::{ArchivedI64, Ref};
 
 /// A reference to the payload of a node, by its kind.
@@ -27,6 +29,8 @@ pub enum ArchivedKind<'a> {
     List(Ref<'a, ArchivedVec<ArchivedNode>>),
     /// An ordered map: tag 6, at byte 4.
     Ordered(Ref<'a, ArchivedBTreeMap<ArchivedString, ArchivedNode, 5>>),
+    /// A hashed map: tag 7, at byte 4.
+    Hashed(Ref<'a, ArchivedHashMap<ArchivedString, ArchivedNode, FxHasher64>>),
 }
 
 impl ArchivedNode {
@@ -44,7 +48,8 @@ impl ArchivedNode {
             tag::SHARED => ArchivedKind::Shared(Ref::new(bytes, pos + tag::OFFSET)),
             tag::MAYBE => ArchivedKind::Maybe(Ref::new(bytes, pos + tag::OFFSET)),
             tag::LIST => ArchivedKind::List(Ref::new(bytes, pos + tag::OFFSET)),
-            _ => ArchivedKind::Ordered(Ref::new(bytes, pos + tag::OFFSET)),
+            tag::ORDERED => ArchivedKind::Ordered(Ref::new(bytes, pos + tag::OFFSET)),
+            _ => ArchivedKind::Hashed(Ref::new(bytes, pos + tag::OFFSET)),
         }
     }
 }

@@ -21,6 +21,9 @@ pub const LIST: u8 = 5;
 /// The tag of an ordered map.
 pub const ORDERED: u8 = 6;
 
+/// The tag of a hashed map.
+pub const HASHED: u8 = 7;
+
 /// The offset of a truth value from the start of the node.
 pub const BOOL_OFFSET: usize = 1;
 

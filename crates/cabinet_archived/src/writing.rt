@@ -1,241 +1,30 @@
 //! Archives nodes, each by its kind and beside the table of its document.
-ghost use Rattle.std.specs.Prelude.{◌≡◌, ℕ, suc, false, ◌+◌, ◌-◌, ◌^◌, ◌<◌, ◌≤◌, length};
-ghost use Rattle.std.specs.Rc.{rc_str_bytes};
-ghost use Rattle.archive_shape_layout.specs.Shape.Shape.{option, vector, shared, text, tree};
-ghost use Rattle.archive_shape_layout.specs.Shape.Pointee.{str};
-ghost use Rattle.archive_shape.specs.Bytes.{HasBytes, zeros};
+ghost use Rattle.std.specs.Prelude.{◌≡◌, ◌-◌, ◌^◌, ◌<◌, ◌≤◌};
 ghost use Rattle.archive_forms_laws.specs.Serializing.{CanResolve, HasState, Resolves, Serializes, SerializesBy};
 ghost use Rattle.archive_forms_laws.proofs.Views.{seen_spells};
 ghost use Rattle.cabinet_text_grammar.specs.Tree.{depth};
 ghost use Rattle.cabinet_documents.specs.Node.{node_shape, KnowsNode};
 ghost use Rattle.archive_forms_writing.specs.Owned.{string_spelling};
-ghost use Rattle.cabinet_documents.specs.Spelling.{boxed_shape, node_spelling, shared_string_spelling, maybe_spelling, list_spelling, ordered_spelling, text_in, shared_in, maybe_in, list_in, ordered_in};
+ghost use Rattle.cabinet_documents.specs.Spelling.{node_spelling, maybe_spelling, list_spelling, ordered_spelling, hashed_spelling};
 ghost use Rattle.cabinet_documents.proofs.Levels.{node_spells_law};
 ghost use Rattle.cabinet_archived.specs.Archived.{archived_as, archived_in, tree_within, trees_within, most_within, pairs_within, most_in_pairs};
 ghost use Rattle.cabinet_text_nodes.specs.View.{node_tree};
 
-use crate::{ArchivedNode, NodeIn, NodesIn, TextSharing, tag};
-use archive_btree::serialize_entries_with_each;
-use archive_btree_maps::{ArchivedBTreeMap, BTreeMapResolver};
-use archive_forms_rc::{ArchivedRcStr, RcFlavor, RcResolver};
-use archive_forms_values::{
-    ArchivedBox, ArchivedOption, ArchivedString, ArchivedVec, BoxResolver, StringResolver,
-    VecResolver,
-};
+use crate::resolving::resolve_node;
+use crate::{ArchivedNode, NodeIn, NodesIn, TextSharing};
+use archive_btree_maps::BTreeMapResolver;
+use archive_forms_rc::RcResolver;
+use archive_forms_values::{ArchivedString, BoxResolver, StringResolver, VecResolver};
 use archive_forms_writing::{
     Archive, ArchiveWith, Serialize, serialize_element, serialize_one_each,
     serialize_slice_with_each,
 };
+use archive_hash_maps::HashTableResolver;
 use archive_shape::{Error, Place};
 use cabinet_documents::NodeResolver;
 use cabinet_text_nodes::Node;
 use std::collections::BTreeMap;
 use std::marker::PhantomData;
-use std::rc::RcStr;
-
-/// Returns the position of the bytes of a text.
-fn text_kept(resolver: NodeResolver) -> StringResolver
-    ensures { result ≡ text_in resolver }
-{
-    match resolver {
-        NodeResolver::Text(kept) => kept,
-        _ => StringResolver { pos: 0 },
-    }
-}
-
-/// Returns the position of a shared text.
-fn shared_kept(resolver: NodeResolver) -> RcResolver
-    ensures { result ≡ shared_in resolver }
-{
-    match resolver {
-        NodeResolver::Shared(kept) => kept,
-        _ => RcResolver { pos: 0 },
-    }
-}
-
-/// Returns the position of the node in an option, if there is one.
-fn maybe_kept(resolver: NodeResolver) -> Option<BoxResolver>
-    ensures { result ≡ maybe_in resolver }
-{
-    match resolver {
-        NodeResolver::Maybe(kept) => kept,
-        _ => None,
-    }
-}
-
-/// Returns the position of the elements of a list.
-fn list_kept(resolver: NodeResolver) -> VecResolver
-    ensures { result ≡ list_in resolver }
-{
-    match resolver {
-        NodeResolver::List(kept) => kept,
-        _ => VecResolver { pos: 0 },
-    }
-}
-
-/// Returns the position of the root of an ordered map's search tree, if the map has pairs.
-fn ordered_kept(resolver: NodeResolver) -> BTreeMapResolver
-    ensures { result ≡ ordered_in resolver }
-{
-    match resolver {
-        NodeResolver::Ordered(kept) => kept,
-        _ => BTreeMapResolver { pos: None },
-    }
-}
-
-/// Writes the pointer to a shared text.
-fn resolve_shared(
-    text: &RcStr,
-    resolver: RcResolver,
-    out: Place<'_, ArchivedRcStr<RcFlavor>>,
-) -> Result<(), Error>
-    requires { out.start + 8 ≤ length out.out.now }
-    ensures { Resolves shared_string_spelling (shared false str) (rc_str_bytes text.now) resolver
-        out.entry.pos out.entry.start out.entry.out.now out.exit.0.now result }
-{
-    let Place {
-        out,
-        start,
-        pos,
-        ..
-    } = out;
-    let place = Place::within(out, start, pos);
-    ArchivedRcStr::<RcFlavor>::resolve_from_raw_parts(resolver, text.len(), place)
-}
-
-/// Writes the own bytes of an option, where the buffer is zero.
-fn resolve_maybe(
-    content: &Option<Box<Node>>,
-    resolver: Option<BoxResolver>,
-    out: Place<'_, ArchivedOption<ArchivedBox<ArchivedNode>>>,
-) -> Result<(), Error>
-    requires room { out.start + 8 ≤ length out.out.now }
-    requires stands { out.pos + 8 < 2 ^ 64 }
-    requires blank { HasBytes out.out.now out.start (zeros 8) }
-    ensures { Resolves (maybe_spelling node_spelling) (option boxed_shape) (tree_within content.now)
-        resolver out.entry.pos out.entry.start out.entry.out.now out.exit.0.now result }
-{
-    let Place {
-        out,
-        start,
-        pos,
-        ..
-    } = out;
-    let Some(_) = content else {
-        return Ok(());
-    };
-    let Some(kept) = resolver else {
-        return Ok(());
-    };
-    out[start] = tag::INT;
-    let place = Place::within(out, start + 4, pos + 4);
-    ArchivedBox::<ArchivedNode>::resolve_from_raw_parts(kept, place)
-}
-
-/// Writes the own bytes of a list.
-fn resolve_list(
-    nodes: &Vec<Node>,
-    resolver: VecResolver,
-    out: Place<'_, ArchivedVec<ArchivedNode>>,
-) -> Result<(), Error>
-    requires { out.start + 8 ≤ length out.out.now }
-    ensures { Resolves (list_spelling node_spelling) (vector node_shape) (trees_within nodes.now.items)
-        resolver out.entry.pos out.entry.start out.entry.out.now out.exit.0.now result }
-{
-    let Place {
-        out,
-        start,
-        pos,
-        ..
-    } = out;
-    let place = Place::within(out, start, pos);
-    ArchivedVec::<ArchivedNode>::resolve_from_len(nodes.len(), resolver, place)
-}
-
-/// Writes the own bytes of an ordered map.
-fn resolve_ordered(
-    map: &BTreeMap<String, Node>,
-    resolver: BTreeMapResolver,
-    out: Place<'_, ArchivedBTreeMap<ArchivedString, ArchivedNode, 5>>,
-) -> Result<(), Error>
-    requires { out.start + 8 ≤ length out.out.now }
-    ensures { Resolves (ordered_spelling node_spelling) (tree 5 text node_shape) (pairs_within map.now.entries)
-        resolver out.entry.pos out.entry.start out.entry.out.now out.exit.0.now result }
-{
-    let Place {
-        out,
-        start,
-        pos,
-        ..
-    } = out;
-    let place = Place::within(out, start, pos);
-    ArchivedBTreeMap::<ArchivedString, ArchivedNode, 5>::resolve_from_len(
-        map.len(),
-        resolver,
-        place,
-    )
-}
-
-/// Writes a node's own bytes. A kind without a layout is an `InvalidTag` error.
-fn resolve_node(
-    node: &Node,
-    resolver: NodeResolver,
-    out: Place<'_, ArchivedNode>,
-) -> Result<(), Error>
-    requires { CanResolve archived_as node_shape node.now resolver out.out.now out.start out.pos }
-    ensures { Resolves archived_as node_shape node.now resolver out.entry.pos out.entry.start
-        out.entry.out.now out.exit.0.now result }
-{
-    let Place {
-        out,
-        start,
-        pos,
-        ..
-    } = out;
-    match node {
-        Node::Bool(value) => {
-            out[start] = tag::BOOL;
-            return value.resolve(
-                (),
-                Place::within(out, start + tag::BOOL_OFFSET, pos + tag::BOOL_OFFSET),
-            );
-        }
-        Node::Int(number) => {
-            out[start] = tag::INT;
-            return number.resolve(
-                (),
-                Place::within(out, start + tag::INT_OFFSET, pos + tag::INT_OFFSET),
-            );
-        }
-        Node::Text(text) => {
-            out[start] = tag::TEXT;
-            let place = Place::within(out, start + tag::OFFSET, pos + tag::OFFSET);
-            return text.resolve(text_kept(resolver), place);
-        }
-        Node::Shared(text) => {
-            out[start] = tag::SHARED;
-            let place = Place::within(out, start + tag::OFFSET, pos + tag::OFFSET);
-            return resolve_shared(text, shared_kept(resolver), place);
-        }
-        Node::Maybe(content) => {
-            out[start] = tag::MAYBE;
-            let place = Place::within(out, start + tag::OFFSET, pos + tag::OFFSET);
-            return resolve_maybe(content, maybe_kept(resolver), place);
-        }
-        Node::List(nodes) => {
-            out[start] = tag::LIST;
-            let place = Place::within(out, start + tag::OFFSET, pos + tag::OFFSET);
-            return resolve_list(nodes, list_kept(resolver), place);
-        }
-        Node::Ordered(map) => {
-            out[start] = tag::ORDERED;
-            let place = Place::within(out, start + tag::OFFSET, pos + tag::OFFSET);
-            return resolve_ordered(map, ordered_kept(resolver), place);
-        }
-        Node::Hashed(_) => return Err(Error::InvalidTag),
-        Node::Kept(_) => return Err(Error::InvalidTag),
-    }
-}
 
 impl<'a> Archive for NodeIn<'a> {
     type Archived = ArchivedNode;
@@ -379,7 +168,43 @@ fn serialize_ordered<S: TextSharing>(
     ensures { Serializes (ordered_spelling node_spelling) S.Writer (pairs_within map.now.entries)
         serializer.old serializer.new result }
 {
-    serialize_entries_with_each::<String, Node, NodesIn<'_>, S, _, _, 5>(
+    archive_btree::serialize_entries_with_each::<String, Node, NodesIn<'_>, S, _, _, 5>(
+        &NodesIn { wholes },
+        map,
+        serializer,
+        |key: &String, s: &mut S| -> Result<(StringResolver, PhantomData<ArchivedString>), Error>
+            requires room { S.failures s.old < 2 ^ 64 - 1 }
+            requires state { HasState S.pos S.known s.old }
+            ensures { SerializesBy (λ q. q.0) string_spelling S.Writer key.now s.old s.new result }
+        { serialize_element(key, s) },
+        |item: &Node, s: &mut S| -> Result<(NodeResolver, PhantomData<ArchivedNode>), Error>
+            requires below { depth (node_tree item.now) ≤ most_in_pairs map.now.entries }
+            requires room { S.failures s.old < 2 ^ 64 - 1 }
+            requires state { HasState S.pos S.known s.old }
+            ensures { SerializesBy (λ q. q.0) archived_as S.Writer item.now s.old s.new result }
+        {
+            let _ = &map;
+            match serialize_node(NodeIn { wholes, node: item }, s) {
+                Ok(resolver) => Ok((resolver, PhantomData)),
+                Err(e) => Err(e),
+            }
+        },
+    )
+}
+
+/// Writes the table of the pairs of a hashed map after the data of its pairs.
+#[cycle(serialize)]
+fn serialize_hashed<S: TextSharing>(
+    wholes: &[Node],
+    map: &BTreeMap<String, Node>,
+    serializer: &mut S,
+) -> Result<HashTableResolver, Error>
+    requires room { S.failures serializer.old < 2 ^ 64 - 1 }
+    requires state { HasState S.pos S.known serializer.old }
+    ensures { Serializes (hashed_spelling node_spelling) S.Writer (pairs_within map.now.entries)
+        serializer.old serializer.new result }
+{
+    archive_hash::serialize_entries_with_each::<String, Node, NodesIn<'_>, S, _, _>(
         &NodesIn { wholes },
         map,
         serializer,
@@ -436,7 +261,10 @@ fn serialize_node<S: TextSharing>(
             Ok(kept) => Ok(NodeResolver::Ordered(kept)),
             Err(e) => Err(e),
         },
-        Node::Hashed(_) => Err(Error::InvalidTag),
+        Node::Hashed(map) => match serialize_hashed(node.wholes, map, serializer) {
+            Ok(kept) => Ok(NodeResolver::Hashed(kept)),
+            Err(e) => Err(e),
+        },
         Node::Kept(_) => Err(Error::InvalidTag),
     }
 }

@@ -2,7 +2,7 @@ use Rattle.std.proofs.Common.{◌+◌, ◌*◌}
 use Rattle.cabinet_archived.proofs.check.+node.Given as goal
 
 abbrev pub decreases-check_node : goal.decreases-check_node
-decreases-check_node g l = 8 * l.room + 5
+decreases-check_node g l = 8 * l.room + 7
 
 abbrev pub decreases-check_maybe : goal.decreases-check_maybe
 decreases-check_maybe g l = 8 * l.room + 4
@@ -23,7 +23,19 @@ abbrev pub decreases-check_list-check_vec_each : goal.decreases-check_list-check
 decreases-check_list-check_vec_each g l = 8 * l.room + 3
 
 abbrev pub decreases-check_ordered : goal.decreases-check_ordered
-decreases-check_ordered g l = 8 * l.room + 4
+decreases-check_ordered g l = 8 * l.room + 6
 
 abbrev pub decreases-check_ordered-check_btree_each+arg5 : goal.decreases-check_ordered-check_btree_each+arg5
-decreases-check_ordered-check_btree_each+arg5 g l = 8 * l.room + 3
+decreases-check_ordered-check_btree_each+arg5 g l = 8 * l.room + 5
+
+abbrev pub decreases-check_hashed : goal.decreases-check_hashed
+decreases-check_hashed g l = 8 * l.room + 6
+
+abbrev pub decreases-check_hashed-check_table_each : goal.decreases-check_hashed-check_table_each
+decreases-check_hashed-check_table_each g l = 8 * l.room + 5
+
+abbrev pub decreases-check_pair : goal.decreases-check_pair
+decreases-check_pair g l = 8 * l.room + 9
+
+abbrev pub decreases-check_pair-check_tuple2_each+arg5 : goal.decreases-check_pair-check_tuple2_each+arg5
+decreases-check_pair-check_tuple2_each+arg5 g l = 8 * l.room + 8

@@ -1,4 +1,4 @@
-use Rattle.std.proofs.Common.{rules, ℕ, Result, Ok, Err, ap, subst, ◌∙◌}
+use Rattle.std.proofs.Common.{rules, Ok, Err, ap, subst, ◌∙◌}
 use Rattle.archive_shape_writing.specs.Writing.{WriterMembers}
 use Rattle.archive_forms_laws.specs.Serializing.{Serializes}
 use Rattle.archive_forms_laws.specs.Pointers.{slice_spelling}
@@ -6,8 +6,8 @@ use Rattle.archive_forms_writing.specs.Steps.{IsElement}
 use Rattle.cabinet_documents.specs.Node.{node_shape}
 use Rattle.cabinet_archived.specs.Archived.{archived_as}
 use Rattle.cabinet_text_nodes.specs.View.{node_tree, node_pairs}
-use Rattle.cabinet_text_nodes.proofs.Views.{node_tree-hashed, node_tree-kept}
-use Rattle.cabinet_archived.proofs.Written.{list_written, list_stopped, pairs_written, element_below, pair_below, only_element, text_wrote, shared_wrote, shared_refused, maybe_wrote, maybe_refused, list_wrote, list_refused, ordered_wrote, ordered_refused, hashed_refused, kept_refused}
+use Rattle.cabinet_text_nodes.proofs.Views.{node_tree-kept}
+use Rattle.cabinet_archived.proofs.Written.{list_written, list_stopped, pairs_written, table_written, element_below, pair_below, only_element, text_wrote, shared_wrote, shared_refused, maybe_wrote, maybe_refused, list_wrote, list_refused, ordered_wrote, ordered_refused, hashed_wrote, hashed_refused, kept_refused}
 use Rattle.cabinet_archived.proofs.writing.+serialize.Goals as goal
 
 pub serialize_list-serialize_slice_with_each-written-requires-clause-takes : goal.serialize_list-serialize_slice_with_each-written-requires-clause-takes
@@ -85,10 +85,23 @@ serialize_node-returns-in-Err-serialize_ordered g t c =
     let m : WriterMembers g.row.S.Denot = record { known = g.S.Registry.known; pos = g.S.Positional.pos; OBSERVABLE = g.S.Writer.OBSERVABLE; COUNTS = g.S.Writer.COUNTS; contents = g.S.Writer.contents; failures = g.S.Writer.failures; last_error = g.S.Writer.last_error } in
     ordered_refused m c.args.node.node.now c.args.serializer.now c.serialize_ordered.new.serializer c.in-Ordered.map c.in-Err-serialize_ordered.e c.in-Ordered.is c.in-Err-serialize_ordered.ensures
 
-pub serialize_node-returns-in-Hashed : goal.serialize_node-returns-in-Hashed
-serialize_node-returns-in-Hashed g t c =
+pub serialize_hashed-serialize_entries_with_each-requires-clause-takes_value : goal.serialize_hashed-serialize_entries_with_each-requires-clause-takes_value
+serialize_hashed-serialize_entries_with_each-requires-clause-takes_value g t c = λ x s element room state.
+    let below = pair_below c.args.map.now.entries x.now element in
+    search (rules, below)
+
+pub serialize_hashed-returns : goal.serialize_hashed-returns
+serialize_hashed-returns g t c = table_written _ c.args.map.now.entries _ _ _ c.serialize_entries_with_each.ensures
+
+pub serialize_node-returns-in-Ok-serialize_hashed : goal.serialize_node-returns-in-Ok-serialize_hashed
+serialize_node-returns-in-Ok-serialize_hashed g t c =
     let m : WriterMembers g.row.S.Denot = record { known = g.S.Registry.known; pos = g.S.Positional.pos; OBSERVABLE = g.S.Writer.OBSERVABLE; COUNTS = g.S.Writer.COUNTS; contents = g.S.Writer.contents; failures = g.S.Writer.failures; last_error = g.S.Writer.last_error } in
-    hashed_refused m c.args.node.node.now c.args.serializer.now (node_pairs c.in-Hashed.field-0.entries) (ap node_tree c.in-Hashed.is ∙ node_tree-hashed c.in-Hashed.field-0)
+    hashed_wrote m c.args.node.node.now c.args.serializer.now c.serialize_hashed.new.serializer c.in-Hashed.map c.in-Ok-serialize_hashed.kept c.in-Hashed.is c.in-Ok-serialize_hashed.ensures
+
+pub serialize_node-returns-in-Err-serialize_hashed : goal.serialize_node-returns-in-Err-serialize_hashed
+serialize_node-returns-in-Err-serialize_hashed g t c =
+    let m : WriterMembers g.row.S.Denot = record { known = g.S.Registry.known; pos = g.S.Positional.pos; OBSERVABLE = g.S.Writer.OBSERVABLE; COUNTS = g.S.Writer.COUNTS; contents = g.S.Writer.contents; failures = g.S.Writer.failures; last_error = g.S.Writer.last_error } in
+    hashed_refused m c.args.node.node.now c.args.serializer.now c.serialize_hashed.new.serializer c.in-Hashed.map c.in-Err-serialize_hashed.e c.in-Hashed.is c.in-Err-serialize_hashed.ensures
 
 pub serialize_node-returns-in-Kept : goal.serialize_node-returns-in-Kept
 serialize_node-returns-in-Kept g t c =

@@ -7,9 +7,9 @@ use Rattle.archive_forms_writing.proofs.Results.{payload_can}
 use Rattle.archive_forms_writing.specs.Owned.{string_spelling as archived_text}
 use Rattle.cabinet_documents.specs.Spelling.{truth_spelling, number_spelling}
 use Rattle.cabinet_text_nodes.specs.View.{node_tree}
-use Rattle.cabinet_text_nodes.proofs.Views.{node_tree-hashed, node_tree-kept}
-use Rattle.cabinet_archived.proofs.Resolved.{truth_place, number_place, text_place, truth_resolved, number_resolved, text_resolved, shared_resolved, maybe_resolved, list_resolved, ordered_resolved, text_made, own_refused_as}
-use Rattle.cabinet_archived.proofs.writing.resolve_node.Goals as goal
+use Rattle.cabinet_text_nodes.proofs.Views.{node_tree-kept}
+use Rattle.cabinet_archived.proofs.Resolved.{truth_place, number_place, text_place, truth_resolved, number_resolved, text_resolved, shared_resolved, maybe_resolved, list_resolved, ordered_resolved, hashed_resolved, text_made, own_refused_as}
+use Rattle.cabinet_archived.proofs.resolving.resolve_node.Goals as goal
 
 pub resolve-requires : goal.resolve-requires
 resolve-requires c =
@@ -68,7 +68,9 @@ returns-in-Ordered c =
     c.requires.room c.requires.blank (search rules) c.args.node.now c.in-Ordered.map c.in-Ordered.is c.within-place-in-Ordered.ensures.bytes c.within-place-in-Ordered.ensures.start c.within-place-in-Ordered.ensures.pos c.ordered_kept.result c.ordered_kept.ensures c.resolve_ordered.ensures
 
 pub returns-in-Hashed : goal.returns-in-Hashed
-returns-in-Hashed c = own_refused_as c.args.node.now _ c.args.resolver c.args.out.pos c.args.out.start c.args.out.out.now (ap node_tree c.in-Hashed.is ∙ node_tree-hashed c.in-Hashed.field-0) refl
+returns-in-Hashed c =
+    hashed_resolved c.args.resolver c.args.out.out.now c.within-place-in-Hashed.result.out.now c.resolve_hashed.new.out.0 _ c.args.out.start c.args.out.pos c.within-place-in-Hashed.result.start c.within-place-in-Hashed.result.pos c.resolve_hashed.result
+    c.requires.room c.requires.blank (search rules) c.args.node.now c.in-Hashed.map c.in-Hashed.is c.within-place-in-Hashed.ensures.bytes c.within-place-in-Hashed.ensures.start c.within-place-in-Hashed.ensures.pos c.hashed_kept.result c.hashed_kept.ensures c.resolve_hashed.ensures
 
 pub returns-in-Kept : goal.returns-in-Kept
 returns-in-Kept c = own_refused_as c.args.node.now _ c.args.resolver c.args.out.pos c.args.out.start c.args.out.out.now (ap node_tree c.in-Kept.is ∙ node_tree-kept c.in-Kept.field-0) refl

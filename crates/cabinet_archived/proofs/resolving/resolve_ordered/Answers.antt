@@ -1,7 +1,7 @@
 use Rattle.std.proofs.Common.{rules, arith}
 use Rattle.cabinet_documents.specs.Spelling.{node_spelling}
 use Rattle.cabinet_archived.proofs.Resolved.{map_resolved}
-use Rattle.cabinet_archived.proofs.writing.resolve_ordered.Goals as goal
+use Rattle.cabinet_archived.proofs.resolving.resolve_ordered.Goals as goal
 
 pub returns : goal.returns
 returns c =

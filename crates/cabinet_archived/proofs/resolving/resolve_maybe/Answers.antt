@@ -7,7 +7,7 @@ use Rattle.cabinet_documents.specs.Spelling.{boxed_shape, boxed_spelling, node_s
 use Rattle.cabinet_archived.specs.Archived.{tree_within}
 use Rattle.cabinet_text_nodes.specs.View.{node_tree}
 use Rattle.cabinet_archived.proofs.Resolved.{box_resolved, unkept_resolved}
-use Rattle.cabinet_archived.proofs.writing.resolve_maybe.Goals as goal
+use Rattle.cabinet_archived.proofs.resolving.resolve_maybe.Goals as goal
 
 pub returns-in_default : goal.returns-in_default
 returns-in_default c =

@@ -1,0 +1,272 @@
+//! Writes the own bytes of nodes, each by its kind.
+ghost use Rattle.std.specs.Prelude.{◌≡◌, false, ◌+◌, ◌-◌, ◌^◌, ◌<◌, ◌≤◌, length};
+ghost use Rattle.std.specs.Rc.{rc_str_bytes};
+ghost use Rattle.archive_shape_layout.specs.Shape.Shape.{option, vector, shared, text, tree, table};
+ghost use Rattle.archive_shape_layout.specs.Shape.Pointee.{str};
+ghost use Rattle.archive_shape.specs.Bytes.{HasBytes, zeros};
+ghost use Rattle.archive_forms_laws.specs.Serializing.{CanResolve, Resolves};
+ghost use Rattle.cabinet_documents.specs.Node.{node_shape, pair_shape};
+ghost use Rattle.cabinet_documents.specs.Spelling.{boxed_shape, node_spelling, shared_string_spelling, maybe_spelling, list_spelling, ordered_spelling, hashed_spelling, text_in, shared_in, maybe_in, list_in, ordered_in, hashed_in};
+ghost use Rattle.cabinet_archived.specs.Archived.{archived_as, tree_within, trees_within, pairs_within};
+
+use crate::{ArchivedNode, tag};
+use archive_btree_maps::{ArchivedBTreeMap, BTreeMapResolver};
+use archive_forms_rc::{ArchivedRcStr, RcFlavor, RcResolver};
+use archive_forms_values::{
+    ArchivedBox, ArchivedOption, ArchivedString, ArchivedVec, BoxResolver, StringResolver,
+    VecResolver,
+};
+use archive_forms_writing::Archive;
+use archive_hash::LOAD_FACTOR;
+use archive_hash_maps::{ArchivedHashMap, HashMapResolver, HashTableResolver};
+use archive_hash_probing::FxHasher64;
+use archive_shape::{Error, Place};
+use cabinet_documents::NodeResolver;
+use cabinet_text_nodes::Node;
+use std::collections::BTreeMap;
+use std::rc::RcStr;
+
+/// Returns the position of the bytes of a text.
+fn text_kept(resolver: NodeResolver) -> StringResolver
+    ensures { result ≡ text_in resolver }
+{
+    match resolver {
+        NodeResolver::Text(kept) => kept,
+        _ => StringResolver { pos: 0 },
+    }
+}
+
+/// Returns the position of a shared text.
+fn shared_kept(resolver: NodeResolver) -> RcResolver
+    ensures { result ≡ shared_in resolver }
+{
+    match resolver {
+        NodeResolver::Shared(kept) => kept,
+        _ => RcResolver { pos: 0 },
+    }
+}
+
+/// Returns the position of the node in an option, if there is one.
+fn maybe_kept(resolver: NodeResolver) -> Option<BoxResolver>
+    ensures { result ≡ maybe_in resolver }
+{
+    match resolver {
+        NodeResolver::Maybe(kept) => kept,
+        _ => None,
+    }
+}
+
+/// Returns the position of the elements of a list.
+fn list_kept(resolver: NodeResolver) -> VecResolver
+    ensures { result ≡ list_in resolver }
+{
+    match resolver {
+        NodeResolver::List(kept) => kept,
+        _ => VecResolver { pos: 0 },
+    }
+}
+
+/// Returns the position of the root of an ordered map's search tree, if the map has pairs.
+fn ordered_kept(resolver: NodeResolver) -> BTreeMapResolver
+    ensures { result ≡ ordered_in resolver }
+{
+    match resolver {
+        NodeResolver::Ordered(kept) => kept,
+        _ => BTreeMapResolver { pos: None },
+    }
+}
+
+/// Returns the position of the controls of a hashed map's table, if the map has pairs.
+fn hashed_kept(resolver: NodeResolver) -> HashTableResolver
+    ensures { result ≡ hashed_in resolver }
+{
+    match resolver {
+        NodeResolver::Hashed(kept) => kept,
+        _ => HashTableResolver { pos: None },
+    }
+}
+
+/// Writes the pointer to a shared text.
+fn resolve_shared(
+    text: &RcStr,
+    resolver: RcResolver,
+    out: Place<'_, ArchivedRcStr<RcFlavor>>,
+) -> Result<(), Error>
+    requires { out.start + 8 ≤ length out.out.now }
+    ensures { Resolves shared_string_spelling (shared false str) (rc_str_bytes text.now) resolver
+        out.entry.pos out.entry.start out.entry.out.now out.exit.0.now result }
+{
+    let Place {
+        out,
+        start,
+        pos,
+        ..
+    } = out;
+    let place = Place::within(out, start, pos);
+    ArchivedRcStr::<RcFlavor>::resolve_from_raw_parts(resolver, text.len(), place)
+}
+
+/// Writes the own bytes of an option, where the buffer is zero.
+fn resolve_maybe(
+    content: &Option<Box<Node>>,
+    resolver: Option<BoxResolver>,
+    out: Place<'_, ArchivedOption<ArchivedBox<ArchivedNode>>>,
+) -> Result<(), Error>
+    requires room { out.start + 8 ≤ length out.out.now }
+    requires stands { out.pos + 8 < 2 ^ 64 }
+    requires blank { HasBytes out.out.now out.start (zeros 8) }
+    ensures { Resolves (maybe_spelling node_spelling) (option boxed_shape) (tree_within content.now)
+        resolver out.entry.pos out.entry.start out.entry.out.now out.exit.0.now result }
+{
+    let Place {
+        out,
+        start,
+        pos,
+        ..
+    } = out;
+    let Some(_) = content else {
+        return Ok(());
+    };
+    let Some(kept) = resolver else {
+        return Ok(());
+    };
+    out[start] = tag::INT;
+    let place = Place::within(out, start + 4, pos + 4);
+    ArchivedBox::<ArchivedNode>::resolve_from_raw_parts(kept, place)
+}
+
+/// Writes the own bytes of a list.
+fn resolve_list(
+    nodes: &Vec<Node>,
+    resolver: VecResolver,
+    out: Place<'_, ArchivedVec<ArchivedNode>>,
+) -> Result<(), Error>
+    requires { out.start + 8 ≤ length out.out.now }
+    ensures { Resolves (list_spelling node_spelling) (vector node_shape) (trees_within nodes.now.items)
+        resolver out.entry.pos out.entry.start out.entry.out.now out.exit.0.now result }
+{
+    let Place {
+        out,
+        start,
+        pos,
+        ..
+    } = out;
+    let place = Place::within(out, start, pos);
+    ArchivedVec::<ArchivedNode>::resolve_from_len(nodes.len(), resolver, place)
+}
+
+/// Writes the own bytes of an ordered map.
+fn resolve_ordered(
+    map: &BTreeMap<String, Node>,
+    resolver: BTreeMapResolver,
+    out: Place<'_, ArchivedBTreeMap<ArchivedString, ArchivedNode, 5>>,
+) -> Result<(), Error>
+    requires { out.start + 8 ≤ length out.out.now }
+    ensures { Resolves (ordered_spelling node_spelling) (tree 5 text node_shape) (pairs_within map.now.entries)
+        resolver out.entry.pos out.entry.start out.entry.out.now out.exit.0.now result }
+{
+    let Place {
+        out,
+        start,
+        pos,
+        ..
+    } = out;
+    let place = Place::within(out, start, pos);
+    ArchivedBTreeMap::<ArchivedString, ArchivedNode, 5>::resolve_from_len(
+        map.len(),
+        resolver,
+        place,
+    )
+}
+
+/// Writes the own bytes of a hashed map.
+fn resolve_hashed(
+    map: &BTreeMap<String, Node>,
+    resolver: HashTableResolver,
+    out: Place<'_, ArchivedHashMap<ArchivedString, ArchivedNode, FxHasher64>>,
+) -> Result<(), Error>
+    requires { out.start + 12 ≤ length out.out.now }
+    ensures { Resolves (hashed_spelling node_spelling) (table pair_shape) (pairs_within map.now.entries)
+        resolver out.entry.pos out.entry.start out.entry.out.now out.exit.0.now result }
+{
+    let Place {
+        out,
+        start,
+        pos,
+        ..
+    } = out;
+    let len = map.len();
+    let table = HashMapResolver { table: resolver };
+    let place = Place::within(out, start, pos);
+    ArchivedHashMap::<ArchivedString, ArchivedNode, FxHasher64>::resolve_from_len(
+        len,
+        LOAD_FACTOR,
+        table,
+        place,
+    )
+}
+
+/// Writes a node's own bytes. A kind without a layout is an `InvalidTag` error.
+pub(crate) fn resolve_node(
+    node: &Node,
+    resolver: NodeResolver,
+    out: Place<'_, ArchivedNode>,
+) -> Result<(), Error>
+    requires { CanResolve archived_as node_shape node.now resolver out.out.now out.start out.pos }
+    ensures { Resolves archived_as node_shape node.now resolver out.entry.pos out.entry.start
+        out.entry.out.now out.exit.0.now result }
+{
+    let Place {
+        out,
+        start,
+        pos,
+        ..
+    } = out;
+    match node {
+        Node::Bool(value) => {
+            out[start] = tag::BOOL;
+            return value.resolve(
+                (),
+                Place::within(out, start + tag::BOOL_OFFSET, pos + tag::BOOL_OFFSET),
+            );
+        }
+        Node::Int(number) => {
+            out[start] = tag::INT;
+            return number.resolve(
+                (),
+                Place::within(out, start + tag::INT_OFFSET, pos + tag::INT_OFFSET),
+            );
+        }
+        Node::Text(text) => {
+            out[start] = tag::TEXT;
+            let place = Place::within(out, start + tag::OFFSET, pos + tag::OFFSET);
+            return text.resolve(text_kept(resolver), place);
+        }
+        Node::Shared(text) => {
+            out[start] = tag::SHARED;
+            let place = Place::within(out, start + tag::OFFSET, pos + tag::OFFSET);
+            return resolve_shared(text, shared_kept(resolver), place);
+        }
+        Node::Maybe(content) => {
+            out[start] = tag::MAYBE;
+            let place = Place::within(out, start + tag::OFFSET, pos + tag::OFFSET);
+            return resolve_maybe(content, maybe_kept(resolver), place);
+        }
+        Node::List(nodes) => {
+            out[start] = tag::LIST;
+            let place = Place::within(out, start + tag::OFFSET, pos + tag::OFFSET);
+            return resolve_list(nodes, list_kept(resolver), place);
+        }
+        Node::Ordered(map) => {
+            out[start] = tag::ORDERED;
+            let place = Place::within(out, start + tag::OFFSET, pos + tag::OFFSET);
+            return resolve_ordered(map, ordered_kept(resolver), place);
+        }
+        Node::Hashed(map) => {
+            out[start] = tag::HASHED;
+            let place = Place::within(out, start + tag::OFFSET, pos + tag::OFFSET);
+            return resolve_hashed(map, hashed_kept(resolver), place);
+        }
+        Node::Kept(_) => return Err(Error::InvalidTag),
+    }
+}
