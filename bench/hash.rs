@@ -13,13 +13,14 @@ mod measured;
 #[allow(dead_code)]
 #[path = "plain_forms.rs"]
 mod forms;
+mod plain_probing;
 #[path = "plain_hash.rs"]
 mod rust;
 
 use library::{WRITES, least_times};
 use maps::{QUERIES, SIZES, Texts, entries, queries};
 use measured::{greatest, mixed, report};
-use rust::FxHasher64;
+use plain_probing::FxHasher64;
 use std::collections::HashMap;
 use std::hash::BuildHasherDefault;
 use std::hint::black_box;

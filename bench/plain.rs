@@ -1,9 +1,11 @@
-//! The two commands of cab in plain, safe Rust, with which bench/run.sh and bench/ordered.sh compare cab. Archives and
+//! The two commands of cab in plain, safe Rust, with which bench/run.sh and bench/maps.sh compare cab. Archives and
 //! answers are those of cab, and the same texts, archives, lines and inputs are refused; the wording of a refusal
 //! differs. As in cab a text is read into a document, for which nothing is reserved by a count, and then that is
 //! archived.
 
 mod plain_archive;
+mod plain_probing;
+mod plain_table;
 mod plain_tree;
 
 use plain_archive::{Archive, View, archive_of};
@@ -40,6 +42,7 @@ enum Node<'a> {
     Maybe(Option<Box<Node<'a>>>),
     List(Vec<Node<'a>>),
     Ordered(Pairs<'a>),
+    Hashed(Pairs<'a>),
 }
 
 type Pair<'a> = (Cow<'a, str>, Node<'a>);
@@ -132,6 +135,9 @@ impl<'a> Lines<'a> {
             ("ordered", count) if depth < MOST => self
                 .next_pairs(read_number(count)?, depth + 1)
                 .map(Node::Ordered),
+            ("hashed", count) if depth < MOST => self
+                .next_pairs(read_number(count)?, depth + 1)
+                .map(Node::Hashed),
             ("shared", argument) => read_quoted(argument).map(Node::Shared),
             (kind, argument) => read_leaf(kind, argument).map(Node::Leaf),
         }
@@ -245,6 +251,7 @@ fn write_head(bytes: &[u8], there: View, out: &mut impl Write) -> io::Result<()>
         View::Maybe(Some(_)) => out.write_all(b"some\n"),
         View::List { count, .. } => writeln!(out, "list {count}"),
         View::Ordered { count, .. } => writeln!(out, "ordered {count}"),
+        View::Hashed { count, .. } => writeln!(out, "hashed {count}"),
     }
 }
 

@@ -1,5 +1,7 @@
 //! Archives of documents in plain Rust: written, checked, read and edited in place.
 
+use crate::plain_probing::capacity;
+use crate::plain_table::{Table, find_in_table};
 use crate::plain_tree::find_key;
 use crate::{Leaf, MOST, Node, Refusal, Step};
 use std::collections::HashMap;
@@ -59,6 +61,7 @@ impl<'a> ArchiveWriter<'a> {
             Node::Maybe(Some(inside)) => self.put_nodes(slice::from_ref(inside)),
             Node::List(elements) => self.put_nodes(elements),
             Node::Ordered(pairs) if !pairs.is_empty() => self.put_tree(pairs),
+            Node::Hashed(pairs) if !pairs.is_empty() => self.put_table(pairs),
             _ => Ok(0),
         }
     }
@@ -154,6 +157,15 @@ pub fn own_bytes(node: &Node, target: u32, pos: usize) -> Result<[u8; NODE], Ref
             });
             own[8..12].copy_from_slice(&u32::try_from(pairs.len())?.to_le_bytes());
         }
+        Node::Hashed(pairs) => {
+            own[0] = 7;
+            own[4..8].copy_from_slice(&match pairs.is_empty() {
+                true => NOTHING,
+                false => offset(target, pos + 4)?,
+            });
+            own[8..12].copy_from_slice(&u32::try_from(pairs.len())?.to_le_bytes());
+            own[12..16].copy_from_slice(&u32::try_from(capacity(pairs.len()))?.to_le_bytes());
+        }
     }
     Ok(own)
 }
@@ -180,6 +192,7 @@ pub enum View {
     Maybe(Option<usize>),
     List { first: usize, count: usize },
     Ordered { root: Option<usize>, count: usize },
+    Hashed { table: Option<Table>, count: usize },
 }
 
 /// Returns the bytes at a place in others.
@@ -236,6 +249,18 @@ fn view(own: &[u8; NODE], pos: usize) -> Option<View> {
             };
             View::Ordered { root, count }
         }
+        (7, _) => {
+            let count = word_in(own, 8) as usize;
+            let places = word_in(own, 12) as usize;
+            let table = match count {
+                0 => None,
+                _ => Some(Table {
+                    controls: target(pos + 4, word_in(own, 4))?,
+                    places,
+                }),
+            };
+            View::Hashed { table, count }
+        }
         _ => return None,
     })
 }
@@ -275,13 +300,19 @@ impl Check<'_> {
             View::Text(text) => self.text(text, end),
             View::Shared(text) => self.shared(text, end),
             _ if depth == MOST => None,
-            View::Maybe(None) | View::Ordered { root: None, .. } => Some(()),
+            View::Maybe(None)
+            | View::Ordered { root: None, .. }
+            | View::Hashed { table: None, .. } => Some(()),
             View::Maybe(Some(inside)) => self.nodes(inside, 1, end, depth + 1),
             View::List { first, count } => self.nodes(first, count, end, depth + 1),
             View::Ordered {
                 root: Some(root),
                 count,
             } => self.tree(root, count, end, depth + 1),
+            View::Hashed {
+                table: Some(table),
+                count,
+            } => self.table(table, count, end, depth + 1),
         }
     }
 
@@ -351,6 +382,9 @@ impl Archive {
                 (View::Maybe(Some(inside)), Step::Inside) => inside,
                 (View::Ordered { root, .. }, Step::Key(key)) => {
                     find_key(&self.bytes, root, key.as_bytes())?
+                }
+                (View::Hashed { table, .. }, Step::Key(key)) => {
+                    find_in_table(&self.bytes, table, key)?
                 }
                 _ => return None,
             };

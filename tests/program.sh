@@ -272,7 +272,7 @@ ends 0 ''
 holds a.cab "$six$(printf "$some%.0s" {1..64})"
 finish
 
-for kind in 'hashed 0' 'kept 0' "hashed 1\n'a\nint 5" "ordered 1\n'a\nhashed 0" "ordered 1\n'a\nlist 1\nkept 0"; do
+for kind in 'kept 0' "kept 1\n'a\nint 5" "hashed 1\n'a\nkept 0" "ordered 1\n'a\nlist 1\nkept 0"; do
     begin "a kind without a layout: $kind"
     text "list 2\nint 5\n$kind\n"
     run build text a.cab
@@ -552,7 +552,7 @@ finish
 # empty, and one is not UTF-8; of the last, both options lead to one node
 for bytes in '' 01 "${five:2}" ff0000000000000005000000000000000000000000000000 000200000000000000000000000000000000000000000000 02000000fe6f726c64ffffff000000000000000000000000 \
     020000008100000064ffffff000000000000000000000000 \
-    070000000100000000000000000000000000000000000000 080000000100000000000000000000000100000000000000 \
+    080000000100000000000000000000000100000000000000 \
     03000000fcffffff01000000000000000000000000000000 "${twice:0:96}0b${twice:98}" "${empties:0:80}01${empties:82}" "ff${twice:2}" \
     "$seven${nineteen}05000000d4ffffff02000000000000000000000000000000" \
     "$seven${nineteen}05000000ceffffff01000000000000000000000000000000" \
@@ -806,17 +806,29 @@ word() {
     echo "${hex:6}${hex:4:2}${hex:2:2}${hex:0:2}"
 }
 
+# key KEY: the eight bytes of a key of at most eight characters of ASCII
+key() {
+    local bytes= place code
+    for place in {0..7}; do
+        code=ff
+        [ "$place" -ge ${#1} ] || printf -v code %02x "'${1:place:1}"
+        bytes=$bytes$code
+    done
+    echo "$bytes"
+}
+
+# number N: the node of a number from 0 to 2^31 - 1
+number() {
+    echo "0100000000000000$(word "$1")$(zeros 12)"
+}
+
 # slots KEY NUMBER ..: in a node of a tree the five keys, what no field has, and the five values, all numbers; the last
-# keys and values are unused. A key has at most eight characters of ASCII.
+# keys and values are unused
 slots() {
-    local keys= values= place code
+    local keys= values=
     while [ $# -gt 0 ]; do
-        for place in {0..7}; do
-            code=ff
-            [ "$place" -ge ${#1} ] || printf -v code %02x "'${1:place:1}"
-            keys=$keys$code
-        done
-        values=${values}0100000000000000$(word "$2")$(zeros 12)
+        keys=$keys$(key "$1")
+        values=$values$(number "$2")
         shift 2
     done
     keys=$keys$(zeros 44)
@@ -1136,7 +1148,7 @@ unopened "$(with "$coffee" 180 48)" Access 'a node before the first byte'
 unopened "$(with "$coffee" 4 fe)" Access 'a key that is not UTF-8'
 unopened "$(with "$coffee" 4 8100000000000000)" Access 'a key of one byte out of line'
 unopened "$(with "$coffee" 72 09)" Access 'a value that is none'
-unopened "$(with "$coffee" 72 07)" Access 'a hashed map in an ordered one'
+unopened "$(with "$coffee" 72 07)" Access 'a hashed map without a table in an ordered one'
 unopened "$(with "$letters" 344 58ffffff)" Access 'a node inside itself'
 unopened "$(with "$letters" 348 a4feffff)" Access 'two children at one position'
 unopened "$(with "$letters" 344 "$absent")" Access 'a map whose first leaf is not linked'
@@ -1238,7 +1250,8 @@ flips() {
             else
                 read -r fault < errors
                 case "$ended $fault" in
-                    '1 cab: open: Access' | '1 cab: open: KeysNotAscending' | '1 cab: open: TooDeep') ;;
+                    '1 cab: open: Access' | '1 cab: open: TooDeep') ;;
+                    '1 cab: open: KeysNotAscending' | '1 cab: open: WrongTag' | '1 cab: open: NotFound') ;;
                     *) differs "with bit $bit of byte $at it ended with status $ended and $fault" ;;
                 esac
                 [ ! -s output ] || differs "with bit $bit of byte $at it answered"
@@ -1254,6 +1267,250 @@ flips() {
 
 flips 'each bit of a map with one leaf' "$coffee" "get\nkeys\nrange 'd 'z\nget 'coffee\nset int 275 'tea\nget 'tea\n" 1451
 flips 'each bit of a map with two nodes' "$letters" "get\nkeys\nrange 'b 'e\nget 'a\nset int 7 'f\nget 'f\n" 2699
+
+# ---- hashed maps
+
+# hash_of KEY: sets `hash` to the hash of a text of ASCII: each word of eight bytes, the first byte lowest, and the word 255
+# at the end. Numbers here have 64 bits, as the hash has, with a sign.
+hash_of() {
+    local word at place code
+    hash=0
+    for ((at = 0; at < ${#1}; at += 8)); do
+        word=0
+        for place in {7..0}; do
+            code=0
+            [ $((at + place)) -ge ${#1} ] || printf -v code %d "'${1:at + place:1}"
+            word=$((word << 8 | code))
+        done
+        hash=$((((hash << 5 | hash >> 59 & 31) ^ word) * 0x517cc1b727220a95))
+    done
+    hash=$((((hash << 5 | hash >> 59 & 31) ^ 255) * 0x517cc1b727220a95))
+}
+
+# first_place PLACES: sets `place` to what is left of `hash` without its sign
+first_place() {
+    place=$((((hash >> 1 & 0x7fffffffffffffff) % $1 * 2 + (hash & 1)) % $1))
+}
+
+# table KEY NODE ..: the buckets and the controls of at most fourteen pairs. Sixteen places or fewer have one stride, so
+# each pair lies at the first free place from its hash on. A bucket ends where that of the place before begins.
+table() {
+    local count=$(($# / 2)) hash place control of_places=() of_tags=() bytes=
+    local places=$((count * 8 / 7 > count ? count * 8 / 7 : count + 1))
+    while [ $# -gt 0 ]; do
+        hash_of "$1"
+        first_place $places
+        while [ "${of_places[place]:-}" ]; do
+            place=$(((place + 1) % places))
+        done
+        of_places[place]=$(key "$1")$2
+        printf -v of_tags[place] %02x $((hash >> 57 & 127))
+        shift 2
+    done
+    for ((place = places - 1; place >= 0; place--)); do
+        bytes=$bytes${of_places[place]:-$(zeros 32)}
+    done
+    for ((control = 0; control < 31; control++)); do
+        if [ $control -lt $((2 * places)) ]; then
+            bytes=$bytes${of_tags[control % places]:-ff}
+        else
+            bytes=${bytes}ff
+        fi
+    done
+    echo "$bytes"
+}
+
+# hashed OFFSET LENGTH PLACES: the node of a hashed map
+hashed() {
+    echo "07000000$(word "$1")$(word "$2")$(word "$3")$(zeros 8)"
+}
+
+begin 'the hashes by which the tables below are filled'
+hash_of a
+[ "$(printf %x $hash)" = aa44c3c5b8e22aff ] || differs "that of a is $(printf %x $hash)"
+hash_of ''
+[ "$(printf %x $hash)" = 2b44f56ffae88a6b ] || differs "that of the empty text is $(printf %x $hash)"
+finish
+
+world=61ffffffffffffff02000000776f726c64ffffff$(zeros 44)ff55ff55$(printf 'ff%.0s' {1..27})0007000000dcffffff01000000020000000000000000000000
+single=$(table a "$(number 1)")00$(hashed -36 1 2)
+under_eu="$seven$nineteen$(table vat "05000000a4ffffff02000000$(zeros 12)")00$(with "$(leaf eu 0)" 48 "$(hashed -84 1 2)")$(map -180 1)"
+
+builds 'hashed 0' 070000000100000000000000000000000000000000000000
+builds "hashed 1\n'a\ntext 'world" "$world"
+builds "hashed 1\n'a\nint 1" "$single"
+builds "ordered 1\n'eu\nhashed 1\n'vat\nlist 2\nint 7\nint 19" "$under_eu"
+builds "hashed 3\n'bar\nint 20\n'baz\nint 40\n'foo\nint 10" "$(table bar "$(number 20)" baz "$(number 40)" foo "$(number 10)")00$(hashed -36 3 4)"
+builds "hashed 7\n$(printf "'%s\\\\nbool true\\\\n" a b c d e f)'g\nbool true" \
+    "$(table $(for letter in a b c d e f g; do echo "$letter 0001$(zeros 22)"; done))00$(hashed -36 7 8)"
+builds "list 2\nhashed 1\n'a\nint 1\nhashed 0" "$(table a "$(number 1)")00$(hashed -36 1 2)$(hashed 1 0 0)05000000ccffffff02000000000000000000000000000000"
+# the key's bytes and then those that the value leads to precede the table
+builds "hashed 1\n'hello\\sworld!\ntext 'HELLO\\sWORLD!" "$(
+    hash_of 'hello world!'
+    first_place 2
+    bytes=68656c6c6f20776f726c642148454c4c4f20574f524c4421$(table x "$(number 0)")00$(hashed -36 1 2)
+    # the bucket of place 1 is at 24, that of place 0 at 56; the text is 24 or 56 bytes before its key
+    at=$((56 - 32 * place))
+    printf -v tag %02x $((hash >> 57 & 127))
+    with "$bytes" 24 "$(zeros 64)" $at "8c000000$(word $((-at)))020000008c000000$(word $((12 - at - 12)))$(zeros 12)" \
+        88 ffffffff $((88 + place)) $tag $((90 + place)) $tag
+)"
+# a shared text lies once in the archive
+builds "hashed 2\n'a\nshared 'x\n'b\nshared 'x" "$(
+    pairs=()
+    for letter in a b; do
+        hash_of $letter
+        first_place 3
+        [ "$letter" = a ] && of_a=$place
+    done
+    [ $place != $of_a ] || place=$(((place + 1) % 3))
+    # the text at 0; the buckets begin at 8 and end at 104, and the node's pointer is 12 bytes after its key
+    for at in $((104 - 32 * (of_a + 1))) $((104 - 32 * (place + 1))); do
+        pairs+=("03000000$(word $((-at - 12)))01000000$(zeros 12)")
+    done
+    echo "7800000000000000$(table a "${pairs[0]}" b "${pairs[1]}")00$(hashed -36 2 3)"
+)"
+
+for counted in '0 24' '1 120' '5 248' '6 280' '17 680' '35 1368' '36 1400' '112 4264' '215 8136'; do
+    read -r count size <<< "$counted"
+    begin "a hashed map of $count keys, each of which answers"
+    decimals "$count" | sed 's/^ordered/hashed/' > text
+    run build text a.cab
+    prints "built $size\n"
+    ends 0 ''
+    cp a.cab before.cab
+    { seq 0 "$count" | sed "s/.*/get '&/"; echo keys; echo get; } > input
+    run run a.cab
+    { yes 'int 0' | head -n "$count"; echo missing; echo wrong; echo "hashed $count"; } > expected
+    cmp -s output expected || differs 'the answers are others'
+    ends 0 ''
+    cmp -s a.cab before.cab || differs 'the archive was written'
+    finish
+done
+
+answers_in "$world" 'edits and questions under a key of a hashed map' \
+    "set text 'WORLD 'a\nget 'a\nset text 'worlds 'a\nget 'a\nkeys\nget\n" "ok\ntext 'WORLD\nrefused\ntext 'WORLD\nwrong\nhashed 1\n" \
+    "$(with "$world" 12 574f524c44)"
+answers_in "$under_eu" 'a hashed map in an ordered one' \
+    "get 'eu 'vat #1\nset int 20 'eu 'vat #1\nget 'eu 'vat #1\nget 'eu 'vat #0\nget 'eu 'vat #2\n" 'int 19\nok\nint 20\nint 7\nmissing\n' \
+    "$(with "$under_eu" 32 14)"
+answers_in "$single" 'a hashed map has no keys in an order' \
+    "keys\nrange 'a 'b\nrange 'b 'a\nkeys 'a\nkeys 'b\nrange 'a 'b 'b\n" 'wrong\nwrong\nwrong\nwrong\nmissing\nmissing\n' "$single"
+answers_in "$single" 'keys that are not there, and steps of other kinds, in a hashed map' \
+    "get 'b\nget '\nget 'aa\nget #0\nget ?\nget 'a 'a\nget 'a #0\nset int 5 'b\nset int 5 #0\nset int 5\nset bool true 'a\nget 'a\n" \
+    'missing\nmissing\nmissing\nmissing\nmissing\nmissing\nmissing\nmissing\nmissing\nrefused\nrefused\nint 1\n' "$single"
+answers_in "$(with "$single" 32 "$(printf 'aa%.0s' {1..32})" 95 bb 112 "$(printf 'cc%.0s' {1..8})")dddddddddddddd" \
+    'bytes of a hashed map that no field has' "set int 275 'a\nget 'a\n" 'ok\nint 275\n' \
+    "$(with "$single" 16 1301 32 "$(printf 'aa%.0s' {1..32})" 95 bb 112 "$(printf 'cc%.0s' {1..8})")dddddddddddddd"
+# an empty control is any byte from 80 on
+answers_in "$(with "$single" 64 80 66 80 68 "$(printf '9f%.0s' {1..27})")" 'empty controls of another byte' "get 'a\nget 'b\n" 'int 1\nmissing\n' \
+    "$(with "$single" 64 80 66 80 68 "$(printf '9f%.0s' {1..27})")"
+# neither the pointer nor the number of places of a map without keys is looked at
+for fields in 01000000 fcffffff 00000080; do
+    answers_in "07000000${fields}00000000ffffffff$(zeros 8)" "an empty hashed map with the pointer $fields" \
+        "get\nkeys\nget 'a\nset int 5 'a\n" 'hashed 0\nwrong\nmissing\nmissing\n' "07000000${fields}00000000ffffffff$(zeros 8)"
+done
+# of 32 places the sixteen from 31 on, which a search for a shows, begin with 31 and go on with 0
+far=$(zeros 832)$(key a)$(number 1)$(zeros 160)$(printf 'ff%.0s' {1..47})00$(hashed -52 1 32)
+found=$(with "$far" 1029 55 1061 55)
+answers_in "$found" 'a key in another place that its search shows' "get 'a\nset int 2 'a\nget 'b\n" 'int 1\nok\nmissing\n' "$(with "$found" 848 02)"
+
+nested="hashed 3\n'a\nhashed 2\n'x\nint 1\n'y\nlist 2\nint 2\nordered 1\n'z\nint 3\n'b\nsome\nhashed 1\n'x\nint 4\n'c\nnone\n"
+asks 'questions in hashed maps, in lists, options and ordered maps' "$nested" \
+    "get\nget 'a\nget 'a 'x\nget 'a 'y #0\nget 'a 'y #1\nget 'a 'y #1 'z\nkeys 'a 'y #1\nget 'b\nget 'b ?\nget 'b ? 'x\nget 'c\nget 'x\nget 'a 'a\nkeys 'a\nkeys 'b ?\n" \
+    "hashed 3\nhashed 2\nint 1\nint 2\nordered 1\nint 3\nkeys 1 'z\nsome\nhashed 1\nint 4\nnone\nmissing\nmissing\nwrong\nwrong\n"
+
+for edit in "'a 'x|int -3|5" "'a 'y #0|int 70000|8" "'a 'y #1 'z|int 9|11" "'b ? 'x|int -4|16"; do
+    IFS='|' read -r path leaf line <<< "$edit"
+    begin "an edit in a hashed map at $path"
+    text "$nested"
+    edited_as_built "$path" "$leaf" "$line"
+    finish
+done
+
+asks 'keys of other characters in a hashed map' "${odd/ordered/hashed}" \
+    "get '\nget '\\\\n\nget '\\\\s\nget 'Z\nget 'a\\\\nb\nget 'a\\\\sb\nget 'a\\\\\\\\b\nget 'ab\nget '\xc3\xa9\nget 'a\nget 'e\n" \
+    'int 0\nint 1\nint 2\nint 3\nint 4\nint 5\nint 6\nint 7\nint 8\nmissing\nmissing\n'
+# of one word, of a word and more, and of two words
+asks 'long keys in a hashed map' "hashed 5\n'aaaaaaa\nint 7\n'aaaaaaaa\nint 8\n'aaaaaaaaa\nint 9\n'aaaaaaaaaaaaaaaa\nint 16\n'aaaaaaaaaaaaaaaaa\nint 17\n" \
+    "get 'aaaaaaa\nget 'aaaaaaaa\nget 'aaaaaaaaa\nget 'aaaaaaaaaaaaaaaa\nget 'aaaaaaaaaaaaaaaaa\nget 'aaaaaa\nget 'aaaaaaaaaa\n" \
+    'int 7\nint 8\nint 9\nint 16\nint 17\nmissing\nmissing\n'
+
+begin 'an edit under one key of many in a hashed map'
+{ echo 'hashed 100000'; seq -f "'%06.0f" 1 100000 | sed 's/$/\nint 300/'; } > text
+run build text a.cab
+# 114,285 places, which are filled up to 114,288 for the controls
+prints "built $(((114285 * 32 + 114288 + 15 + 7) / 8 * 8 + 24))\n"
+cp a.cab before.cab
+lines "get '050000\nset int 301 '050000\nget '050000\nget '049999\nget '0500000\nget\n"
+run run a.cab
+prints "int 300\nok\nint 301\nint 300\nmissing\nhashed 100000\n"
+ends 0 ''
+sed -i '100001s/.*/int 301/' text
+run build text after.cab
+cmp -s a.cab after.cab || differs 'the bytes are not those of the edited document'
+[ "$(cmp -l before.cab a.cab | wc -l)" = 1 ] || differs 'other bytes were written'
+finish
+
+begin 'hashed maps, lists and options 64 deep'
+text "$(printf "some\\\\nhashed 1\\\\n'a\\\\n%.0s" {1..32})int 5\n"
+run build text a.cab
+ends 0 ''
+lines "get$(printf " ? 'a%.0s" {1..32})\nset int 6$(printf " ? 'a%.0s" {1..32})\nget$(printf " ? 'a%.0s" {1..32})\n"
+run run a.cab
+prints 'int 5\nok\nint 6\n'
+ends 0 ''
+cat <(cat a.cab) <(printf "$(sed 's/../\\x&/g' <<< "$some")") > more.cab
+cp more.cab before.cab
+run run more.cab
+prints ''
+ends 1 'cab: open: TooDeep\n'
+cmp -s more.cab before.cab || differs 'more.cab was written'
+finish
+
+# ---- tables that are not opened
+
+unopened "$(with "$single" 108 01)" Access 'a hashed map with as many pairs as places'
+unopened "$(with "$single" 67 54)" Access 'a control that is not repeated'
+unopened "$(with "$single" 68 00)" Access 'a control past twice the places that is a tag'
+unopened "$(with "$single" 65 ff 67 ff)" Access 'a hashed map that says more pairs than there are'
+unopened "$(with "$single" 64 55 66 55)" Access 'a hashed map that says fewer pairs than there are'
+unopened "$(with "$single" 100 01000000)" Access 'a table that reaches into the node'
+unopened "$(with "$single" 100 d4)" Access 'a table that begins before the first byte'
+unopened "$(with "$single" 0 fe)" Access 'a key of a hashed map that is not UTF-8'
+unopened "$(with "$single" 0 8100000000000000)" Access 'a key of a hashed map of one byte out of line'
+unopened "$(with "$single" 8 09)" Access 'a value of a hashed map that is none'
+unopened "$(with "$single" 8 08)" Access 'a kept map in a hashed one'
+unopened "$(table a "$(number 1)")00$(hashed -36 1 2)$(hashed -60 1 2)05000000ccffffff02000000000000000000000000000000" Access 'two hashed maps with one table'
+
+unopened "$(with "$single" 65 54 67 54)" WrongTag 'a control that is another tag'
+unopened "$(with "$single" 0 62)" WrongTag 'another key under the tag'
+unopened "$(table a "$(number 1)" a "$(number 2)")00$(hashed -36 2 3)" NotFound 'a key twice in a hashed map'
+unopened "$(with "$far" 1044 55)" WrongTag 'a tag over an empty bucket, whose key is eight bytes of zero'
+unfound=$(zeros 352)$(key a)$(number 1)$(zeros 640)$(with "$(printf 'ff%.0s' {1..47})" 20 55)00$(hashed -52 1 32)
+unopened "$unfound" NotFound 'a key in a place that its search does not show'
+
+# of several faults the one that is met first: of a place its control before its search, and a map's own before its parts'
+unopened "$(with "$unfound" 1044 54)" WrongTag 'a control that is another tag, in a place that the search does not show'
+unopened "$(with "$single" 65 54 67 54)$options" WrongTag 'another tag in 63 options'
+unopened "$(with "$single" 65 54 67 54)$options$some" TooDeep 'another tag in 64 options'
+# with_double KEY: a hashed map with an ordered one under a key, in which a key is twice; the tree's leaf is at 0
+with_double() {
+    hash_of "$1"
+    first_place 2
+    echo "$(leaf a 1 a 2)$(table "$1" "$(map $((-(176 + 64 - 32 * (place + 1) + 12))) 2)")00$(hashed -36 1 2)"
+}
+unopened "$(with_double b)" KeysNotAscending 'a key twice in an ordered map in a hashed one'
+hash_of b
+first_place 2
+unopened "$(with "$(with_double b)" $((240 + place)) 01 $((242 + place)) 01)" WrongTag 'another tag, and a key twice in the ordered map under it\'
+
+flips 'each bit of a hashed map' "$world" "get\nkeys\nget 'a\nset text 'WORLD 'a\nget 'a\n" 763
+flips 'each bit of a hashed map in an ordered one' "$under_eu" "get\nkeys\nget 'eu\nget 'eu 'vat\nset int 20 'eu 'vat #1\nget 'eu 'vat #1\n" 2356
+
+for outcome in 'TooDeep 65' 'TooDeep 2198' 'Access 2199'; do
+    nests 1 'hashed maps' "${world:0:192}" "${world:0:16}07000000d4ffffff0100000002000000$(zeros 40)${world:128:64}" "${world:192}" $outcome
+done
 
 # ---- the file of an archive is replaced as a whole
 

@@ -1,6 +1,6 @@
 -- The number of regions around each region of a document: for each container around it at most as many as a search tree
 -- has levels, and the root's.
-use Rattle.std.proofs.Common.{◌≡◌, ℕ, zero, suc, ◌+◌, ◌*◌, ◌<◌, ◌≤◌, Bool, true, false, cond, List, [], ◌∷◌, ◌++◌, refl, sym, ap, subst, ◌∙◌, arith}
+use Rattle.std.proofs.Common.{◌≡◌, ℕ, zero, suc, ◌+◌, ◌-◌, ◌*◌, ◌<◌, ◌≤◌, nat_lt, Bool, true, false, cond, List, [], ◌∷◌, ◌++◌, refl, sym, ap, subst, ◌∙◌, arith}
 use Rattle.std.specs.Prelude.{⊤}
 use Rattle.std.specs.List.{Contains}
 use Rattle.archive_shape.specs.ShapeLayout.Value.{Value, Values}
@@ -16,7 +16,7 @@ use Rattle.cabinet_archived.specs.Documents.Node.{node_names}
 use Rattle.cabinet_archived.specs.Documents.Walk.{Stop, Walks, WalkAll, is_container, depth_in, parts_of, joined}
 use Rattle.cabinet_archived.specs.Documents.Walk.Walks.{walks}
 use Rattle.cabinet_archived.specs.Documents.Walk.WalkAll.{walk_more}
-use Rattle.cabinet_archived.proofs.Documents.Places.{Place, shared_here, box_here, tree_node, tree_child, absent_here, node_behind, nodes_behind, text_behind, Spot, part_of, parts_at, nodes_from, entries_from, children_from, is_behind, Passes, node_passes, box_passes, behind_passes, list_passes, text_passes, child_passes, Pays, pays_truth, pays_number, pays_text, pays_shared, pays_option, pays_list, pays_ordered, pays_absent, Follows, passes, pays, truth_is, number_is, text_is, behind_is, none_is, some_is, nodes_follow, empty_is, total_is, leaf_follows, inner_follows, no_child_is, entry_follows, Leads, leads_nowhere, leads_absent, leads_plain, leads_claimed, leads_counted, led}
+use Rattle.cabinet_archived.proofs.Documents.Places.{Place, shared_here, box_here, pair_here, tree_node, tree_child, buckets_here, absent_here, node_behind, nodes_behind, text_behind, Spot, part_of, parts_at, nodes_from, entries_from, children_from, items_from, is_behind, Passes, node_passes, box_passes, behind_passes, list_passes, text_passes, child_passes, table_passes, Pays, pays_truth, pays_number, pays_text, pays_shared, pays_option, pays_list, pays_ordered, pays_hashed, pays_absent, Follows, passes, pays, truth_is, number_is, text_is, behind_is, none_is, some_is, nodes_follow, empty_is, total_is, leaf_follows, inner_follows, no_child_is, entry_follows, no_items_is, items_follow, pair_follows, Leads, leads_nowhere, leads_absent, leads_plain, leads_claimed, leads_counted, led}
 use Rattle.cabinet_archived.proofs.Documents.Nodes.{absent_law, counts}
 use Rattle.cabinet_archived.proofs.Documents.Stops.{Each, each_front, each_flat, flat}
 
@@ -29,6 +29,7 @@ spare (tree_child level) = level
 spare box_here = 32
 spare node_behind = 32
 spare (nodes_behind len) = 32
+spare (buckets_here target len cap) = 32
 spare k = 33
 
 -- the number of regions around a place inside `depth` containers is as low as that
@@ -52,6 +53,14 @@ module _ (level depth : ℕ) where
   branches_fit zero deeper link es h k = k
   branches_fit (suc n) deeper link es h k = (h, branches_fit n deeper (link + 4) es h k)
 
+items_fit : (level depth target i : ℕ) (cs : List ℕ) → level + 32 ≤ 32 * depth + 33 → Fit level depth (items_from target i cs)
+items_fit level depth target i [] h = tt
+items_fit level depth target i (c ∷ cs) h = by (nat_lt c 128) (items_fit level depth target (i + 1) cs h)
+  where
+    by : (b : Bool) → Fit level depth (items_from target (i + 1) cs) → Fit level depth (cond b (record { place = pair_here; pos = target - (i + 1) * 32 } ∷ items_from target (i + 1) cs) (items_from target (i + 1) cs))
+    by true k = (h, k)
+    by false k = k
+
 passes_fit : {bytes : List ℕ} {k j : Place} (level depth pos : ℕ) → Passes bytes k j → Fits level depth k → Fits level (depth_in depth (part_of k pos)) j
 passes_fit level depth pos node_passes h = h
 passes_fit level depth pos box_passes h = h
@@ -59,6 +68,7 @@ passes_fit level depth pos behind_passes h = omega (arith, h)
 passes_fit level depth pos (list_passes small) h = omega (arith, h)
 passes_fit level depth pos text_passes h = h
 passes_fit level depth pos child_passes h = h
+passes_fit level depth pos (table_passes small) h = omega (arith, h)
 
 pays_fit : {tag : ℕ} {j : Place} → Pays tag j → spare j ≡ 33
 pays_fit pays_truth = refl
@@ -68,6 +78,7 @@ pays_fit pays_shared = refl
 pays_fit pays_option = refl
 pays_fit pays_list = refl
 pays_fit pays_ordered = refl
+pays_fit pays_hashed = refl
 pays_fit (pays_absent z) = refl
 
 -- what follows a place without its own region
@@ -89,6 +100,9 @@ plain_fit level depth pos (inner_follows most deeper link key value low next e f
     subst (Fit level depth) (sym f) (branches_fit level depth (suc most) deeper link (entries_from most key value) (omega (arith, next, h)) (entries_fit level depth most key value (omega (arith, low, h))))
 plain_fit level depth pos (no_child_is e f) h = subst (Fit level depth) (sym f) tt
 plain_fit level depth pos (entry_follows e f) h = subst (Fit level depth) (sym f) (h, (h, tt))
+plain_fit level depth pos (no_items_is e f) h = subst (Fit level (depth + 1)) (sym f) tt
+plain_fit level depth pos (items_follow {target = target} controls are count e f) h = subst (Fit level depth) (sym f) (items_fit level depth target 0 controls (omega (arith, h)))
+plain_fit level depth pos (pair_follows key value e f) h = subst (Fit level depth) (sym f) (h, (h, tt))
 
 -- what follows a place in its own region, which is not at a level above a tree's highest
 record ClaimedFit (level depth : ℕ) (k : Place) (qs : List Spot) : Type 0 where
@@ -103,6 +117,7 @@ claimed_fit level depth pos (passes behind_passes e f) b h = record { inner = su
 claimed_fit level depth pos (passes (list_passes small) e f) b h = absurd (cc)
 claimed_fit level depth pos (passes text_passes e f) b h = absurd (cc)
 claimed_fit level depth pos (passes child_passes e f) b h = absurd (cc)
+claimed_fit level depth pos (passes (table_passes small) e f) b h = absurd (cc)
 claimed_fit level depth pos (pays p e f) b h = absurd (cc)
 claimed_fit level depth pos (truth_is e f) b h = absurd (cc)
 claimed_fit level depth pos (number_is e fits f) b h = absurd (cc)
@@ -125,6 +140,12 @@ claimed_fit level depth pos (inner_follows most deeper link key value low next e
 }
 claimed_fit level depth pos (no_child_is e f) b h = absurd (cc)
 claimed_fit level depth pos (entry_follows e f) b h = absurd (cc)
+claimed_fit level depth pos (no_items_is e f) b h = absurd (cc)
+claimed_fit level depth pos (items_follow {target = target} controls are count e f) b h = record {
+  inner = subst (Fit (suc level) depth) (sym f) (items_fit (suc level) depth target 0 controls (omega (arith, h)));
+  low = omega arith;
+}
+claimed_fit level depth pos (pair_follows key value e f) b h = absurd (cc)
 
 -- ---- walks
 

@@ -37,6 +37,8 @@ abbrev pub open_refusal_name : OpenRefusal → List ℕ
 open_refusal_name (open_refusal.Access e) = codes "Access"
 open_refusal_name open_refusal.TooDeep = codes "TooDeep"
 open_refusal_name open_refusal.KeysNotAscending = codes "KeysNotAscending"
+open_refusal_name open_refusal.WrongTag = codes "WrongTag"
+open_refusal_name open_refusal.NotFound = codes "NotFound"
 open_refusal_name open_refusal.OutOfMemory = codes "OutOfMemory"
 
 abbrev pub run_cause_name : RunCause → List ℕ

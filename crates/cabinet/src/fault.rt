@@ -78,6 +78,8 @@ fn name_of_open_refusal(refusal: &OpenRefusal) -> &'static [u8]
         OpenRefusal::Access(_) => b"Access",
         OpenRefusal::TooDeep => b"TooDeep",
         OpenRefusal::KeysNotAscending => b"KeysNotAscending",
+        OpenRefusal::WrongTag => b"WrongTag",
+        OpenRefusal::NotFound => b"NotFound",
         OpenRefusal::OutOfMemory => b"OutOfMemory",
     }
 }

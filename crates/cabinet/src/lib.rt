@@ -9,9 +9,10 @@ mod session;
 mod source;
 mod working;
 
+pub use archive_hash_probing::{Group, Group1, Group8, Group16, Scan};
 pub use cabinet_archived as archived;
 pub use cabinet_archives as archives;
-pub use cabinet_archives::{OpenRefusal, SaveRefusal, check, save, to_bytes};
+pub use cabinet_archives::{OpenRefusal, SaveRefusal, check, check_scanned, save, to_bytes};
 pub use cabinet_documents as documents;
 pub use cabinet_text_grammar::Cause;
 pub use cabinet_text_nodes::{
@@ -20,7 +21,7 @@ pub use cabinet_text_nodes::{
 pub use cabinet_text_reading::{TextRefusal, read_line, read_text};
 pub use cabinet_text_writing::write_text;
 pub use fault::{Fault, fault_line};
-pub use opened::{Opened, open};
+pub use opened::{Opened, open, open_scanned};
 pub use session::{Count, RunCause, RunFault, run};
 pub use source::{Source, SourceFailed};
 pub use working::{Worked, run_in, work};

@@ -21,17 +21,20 @@ ghost use Rattle.cabinet_archives.specs.Setting.{EditLeaves};
 ghost use Rattle.cabinet_archives.specs.Sound.{IsSoundPart};
 
 use archive_core_validation::root_position;
+use archive_hash_probing::{Group, Scan};
 use archive_shape::Ref;
 use archive_shape_writing::{Error, Writer};
 use cabinet_archived::ArchivedNode;
-use cabinet_archives::{OpenRefusal, check};
+use cabinet_archives::{OpenRefusal, check_scanned};
 use cabinet_text_nodes::{Asked, Leaf, Line, SetAnswer, Step};
 use std::alloc::Global;
+use std::marker::PhantomData;
 
-/// Bytes that are the archive of a document.
+/// Bytes that are the archive of a document, whose hashed maps are searched by the scan `G`.
 #[derive(Drop)]
-pub struct Opened<'a> {
+pub struct Opened<'a, G = Group> {
     pub bytes: &'a mut [u8],
+    pub scan: PhantomData<G>,
     ghost accepted: { ∥ ((t : Tree) × Accepted bytes.now t) ∥₁ },
 }
 
@@ -43,20 +46,34 @@ pub fn open(alloc: Global, bytes: &mut [u8]) -> Result<Opened<'_>, OpenRefusal>
     ensures accepted { OnOk result ((t : Tree) × Accepted bytes.old t) }
     ensures refused { IfErr result (λ r. IsRefusedFor bytes.old (refusal_of r)) }
 {
-    match check(alloc, bytes) {
-        Ok(()) => Ok(Opened { bytes }),
+    open_scanned::<Group>(alloc, bytes)
+}
+
+/// Opens bytes as `open` does, with another scan for the look-ups in hashed maps, here and in each question and edit. All
+/// scans find the same.
+pub fn open_scanned<G: Scan>(alloc: Global, bytes: &mut [u8]) -> Result<Opened<'_, G>, OpenRefusal>
+    ensures same { IfOk result (λ o. o.bytes.ghost_name ≡ bytes.entry.ghost_name) }
+    ensures contents { IfOk result (λ o. o.bytes.now ≡ bytes.old) }
+    ensures accepted { OnOk result ((t : Tree) × Accepted bytes.old t) }
+    ensures refused { IfErr result (λ r. IsRefusedFor bytes.old (refusal_of r)) }
+{
+    match check_scanned::<G>(alloc, bytes) {
+        Ok(()) => Ok(Opened::new(bytes)),
         Err(refusal) => Err(refusal),
     }
 }
 
-impl<'a> Opened<'a> {
+impl<'a, G: Scan> Opened<'a, G> {
     /// Opens bytes that `check` has accepted.
-    pub fn new(bytes: &'a mut [u8]) -> Opened<'a>
+    pub fn new(bytes: &'a mut [u8]) -> Opened<'a, G>
         requires { ∥ ((t : Tree) × Accepted bytes.old t) ∥₁ }
         ensures same { result.bytes.ghost_name ≡ bytes.entry.ghost_name }
         ensures contents { result.bytes.now ≡ bytes.old }
     {
-        Opened { bytes }
+        Opened {
+            bytes,
+            scan: PhantomData,
+        }
     }
 
     /// Returns the bytes as they are now.
@@ -88,7 +105,7 @@ impl<'a> Opened<'a> {
             → Tells asked (answer t (line_of line.now))) }
         ensures counted { FailsByWriter W.Writer writer.old writer.new result }
     {
-        cabinet_archives::ask(self.root(), line, writer)
+        cabinet_archives::ask::<G, W>(self.root(), line, writer)
     }
 
     /// Writes a leaf at a path, if the node there is a leaf of the same kind and, for a text, of the same length. Reads
@@ -106,6 +123,6 @@ impl<'a> Opened<'a> {
         ensures image { (t : Tree) → Image t self.old.bytes.now
             → Image (change t (path_of path.now) (leaf_of leaf.now)) self.new.bytes.now }
     {
-        cabinet_archives::set(self.bytes, path, leaf)
+        cabinet_archives::set::<G>(self.bytes, path, leaf)
     }
 }

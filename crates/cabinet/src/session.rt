@@ -9,6 +9,7 @@ mod carrying;
 
 use crate::opened::Opened;
 use crate::source::Source;
+use archive_hash_probing::Scan;
 use archive_shape_writing::Writer;
 use begun::Begun;
 use carrying::{end_input, take_piece};
@@ -71,9 +72,9 @@ const PIECE: usize = 16384;
 
 /// Carries out the lines of a source, and writes the answer to each. Allocates for a line that does not lie whole in
 /// the bytes of one read, and for the path and the text of a line.
-pub fn run<R: Source, W: Writer>(
+pub fn run<G: Scan, R: Source, W: Writer>(
     alloc: Global,
-    opened: &mut Opened<'_>,
+    opened: &mut Opened<'_, G>,
     reader: &mut R,
     writer: &mut W,
 ) -> Result<Count, RunFault>

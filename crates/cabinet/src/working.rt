@@ -11,6 +11,7 @@ ghost use Rattle.cabinet.specs.Failures.{ReaderFails, WriterFails};
 use crate::opened::Opened;
 use crate::session::{Count, RunFault, run};
 use crate::source::Source;
+use archive_hash_probing::Group;
 use archive_shape_writing::Writer;
 use cabinet_archives::{SaveRefusal, to_bytes};
 use cabinet_text_nodes::Document;
@@ -50,7 +51,7 @@ pub fn run_in<R: Source, W: Writer>(
     ensures writer_fails { MatchResult result (λ _. W.failures writer.new ≡ W.failures writer.old)
         (λ f. WriterFails W.COUNTS f.cause (W.failures writer.old) (W.failures writer.new)) }
 {
-    let mut opened = Opened::new(bytes);
+    let mut opened = Opened::<Group>::new(bytes);
     run(alloc, &mut opened, reader, writer)
 }
 

@@ -68,11 +68,11 @@ module _ (bytes : List ℕ) (depth : ℕ) where
   audited_in r inner told = λ v walk h. let i = inner v walk h in reports_as r i.faults_are (told i.value i.run i.walked)
 
   -- a container has its own fault first
-  record HasOwn (walk : List Stop) : Type 0 where
-    rest : List audit.Unsound
-    faults_are : faults bytes walk ≡ unless (nat_lt depth 64) too_deep ++ rest
+  pub record HasOwn (walk : List Stop) : Type 0 where
+    pub rest : List audit.Unsound
+    pub faults_are : faults bytes walk ≡ unless (nat_lt depth 64) too_deep ++ rest
 
-  own_reported : (r : OpenRefusal) (walk : List Stop) → 64 ≤ depth → r ≡ refusal.TooDeep → HasOwn walk → Reports (Err r) (faults bytes walk)
+  pub own_reported : (r : OpenRefusal) (walk : List Stop) → 64 ≤ depth → r ≡ refusal.TooDeep → HasOwn walk → Reports (Err r) (faults bytes walk)
   own_reported r walk deep e own = reports_as (Err r) own.faults_are (deep_reported depth r own.rest deep e)
 
   own_of_option : (pos : ℕ) (v : Value) (walk : List Stop) → OptionWalk bytes depth pos v walk → HasOwn walk
@@ -240,11 +240,35 @@ module _ (bytes : Bor (List ℕ)) where
       by e (no_items a b c) = ap (flat_map (faults bytes.now)) c
       by e (more_items a b c k n all) = let x = e ∙ ap (map (value_at bytes {V = ArchivedNode})) a in absurd (cc)
 
-  -- ---- ordered maps
+  -- ---- maps
 
   -- nodes are left of a map, and it has their faults and no others
-  abbrev pub IsLeft : (depth inner pos : ℕ) → List (Ref ArchivedNode) → Type 0
-  IsLeft depth inner pos left = (v : Value) (walk : List Stop) → Walks node_names bytes.now depth (at pos map_shape) v walk → AreLeft inner left (faults bytes.now walk)
+  abbrev pub IsLeft : (depth inner : ℕ) → Part → List (Ref ArchivedNode) → Type 0
+  IsLeft depth inner p left = (v : Value) (walk : List Stop) → Walks node_names bytes.now depth p v walk → AreLeft inner left (faults bytes.now walk)
+
+  module _ (depth inner : ℕ) (p : Part) where
+    module _ {left : List (Ref ArchivedNode)} {r : Ref ArchivedNode} {others : List (Ref ArchivedNode)} (e : left ≡ r ∷ others) (is : IsLeft depth inner p left) where
+      -- of one without a fault, the others are left
+      pub left_on : Audits bytes.now inner (part_of node_here r.pos) (Ok tt) → IsLeft depth inner p others
+      left_on none = λ v walk h.
+          let f = first_left e (is v walk h) in
+          subst (AreLeft inner others) (sym (f.rest_is ∙ ap (λ x. x ++ f.later) (none f.value f.run f.first))) f.left
+
+      pub left_refused : (why : OpenRefusal) → Audits bytes.now inner (part_of node_here r.pos) (Err why) → Audits bytes.now depth p (Err why)
+      left_refused why told = λ v walk h.
+          let f = first_left e (is v walk h) in
+          reports_as (Err why) f.rest_is (refused_first why (faults bytes.now f.run) f.later (told f.value f.run f.first))
+
+    pub left_none : {left : List (Ref ArchivedNode)} → left ≡ [] → IsLeft depth inner p left → Audits bytes.now depth p (Ok tt)
+    left_none e is = λ v walk h. none_left e (is v walk h)
+
+  -- nodes stand at all of them
+  pub nodes_there : (ps : List Place) (ws : Values) → AreEntriesAt text node_shape (λ _. ⊤) KnowsNode bytes.now ps ws → All (IsNodeOf bytes) (map (value_at bytes) ps)
+  nodes_there [] ws h = All-nil (IsNodeOf bytes)
+  nodes_there (p ∷ ps) no_values h = absurd h
+  nodes_there (p ∷ ps) (more_values w ws) h = All-cons (IsNodeOf bytes) (value_at bytes p) (map (value_at bytes) ps) (refl, record { value = h.0.value; held = h.0.value_held }) (nodes_there ps ws h.1)
+
+  -- ---- ordered maps
 
   module _ (depth inner : ℕ) (deeper : inner ≡ depth + 1) (low : inner ≤ 64) (pos : ℕ) where
     module _ (has : HasValue map_shape knows_map bytes.now pos) where
@@ -255,7 +279,7 @@ module _ (bytes : Bor (List ℕ)) where
       pub all_left : (ascends : Bool) (left : List (Ref ArchivedNode)) → ascends ≡ true
           → ((depth : ℕ) (v : Value) (walk : List Stop) → Walks node_names bytes.now depth (at pos map_shape) v walk → ascends ≡ ascend (item_keys (members v)))
           → ((t : Tree Place) → IsMapAt bytes.now 5 text node_shape pos t → left ≡ map (value_at bytes) (items t))
-          → IsLeft depth inner pos left
+          → IsLeft depth inner (at pos map_shape) left
       all_left ascends left is_up told values = λ v walk h.
           let m = map_in bytes.now tree.map h in
           let up = sym (told depth v walk h) ∙ is_up in
@@ -284,26 +308,5 @@ module _ (bytes : Bor (List ℕ)) where
           ∙ ap (λ b. unless b keys_not_ascending ++ flat_map (faults bytes.now) m.runs) down)
           (keys_not_ascending, refl, refl)
 
-      -- nodes stand at all of them
-      nodes_there : (ps : List Place) (ws : Values) → AreEntriesAt text node_shape (λ _. ⊤) KnowsNode bytes.now ps ws → All (IsNodeOf bytes) (map (value_at bytes) ps)
-      nodes_there [] ws h = All-nil (IsNodeOf bytes)
-      nodes_there (p ∷ ps) no_values h = absurd h
-      nodes_there (p ∷ ps) (more_values w ws) h = All-cons (IsNodeOf bytes) (value_at bytes p) (map (value_at bytes) ps) (refl, record { value = h.0.value; held = h.0.value_held }) (nodes_there ps ws h.1)
-
       pub all_there : (left : List (Ref ArchivedNode)) → ((t : Tree Place) → IsMapAt bytes.now 5 text node_shape pos t → left ≡ map (value_at bytes) (items t)) → All (IsNodeOf bytes) left
       all_there left values = subst (All (IsNodeOf bytes)) (sym (values tree.search_tree tree.map)) (nodes_there (items tree.search_tree) (members has.value) tree.entries)
-
-    module _ {left : List (Ref ArchivedNode)} {r : Ref ArchivedNode} {others : List (Ref ArchivedNode)} (e : left ≡ r ∷ others) (is : IsLeft depth inner pos left) where
-      -- of one without a fault, the others are left
-      pub left_on : Audits bytes.now inner (part_of node_here r.pos) (Ok tt) → IsLeft depth inner pos others
-      left_on none = λ v walk h.
-          let f = first_left e (is v walk h) in
-          subst (AreLeft inner others) (sym (f.rest_is ∙ ap (λ x. x ++ f.later) (none f.value f.run f.first))) f.left
-
-      pub left_refused : (why : OpenRefusal) → Audits bytes.now inner (part_of node_here r.pos) (Err why) → Audits bytes.now depth (at pos map_shape) (Err why)
-      left_refused why told = λ v walk h.
-          let f = first_left e (is v walk h) in
-          reports_as (Err why) f.rest_is (refused_first why (faults bytes.now f.run) f.later (told f.value f.run f.first))
-
-    pub left_none : {left : List (Ref ArchivedNode)} → left ≡ [] → IsLeft depth inner pos left → Audits bytes.now depth (at pos map_shape) (Ok tt)
-    left_none e is = λ v walk h. none_left e (is v walk h)

@@ -29,29 +29,44 @@ got_of i [] e h = absurd h
 got_of zero (x ∷ xs) e h = ap Some h
 got_of (suc i) (x ∷ xs) e h = got_of i xs e h
 
+-- there is one first of those that something is true of
+pub one_first : {A : Type 0} (P : A → Type 0) (xs : List A) (i j : ℕ) (a b : A) → slice_get xs i ≡ Some a → slice_get xs j ≡ Some b → P a → P b
+    → ((n : ℕ) (c : A) → n < i → slice_get xs n ≡ Some c → P c → ⊥) → ((n : ℕ) (c : A) → n < j → slice_get xs n ≡ Some c → P c → ⊥) → a ≡ b
+one_first P xs i j a b at_i at_j pa pb before_i before_j = by (nat_lt i j) (nat_lt j i) refl refl
+  where
+    by : (x y : Bool) → nat_lt i j ≡ x → nat_lt j i ≡ y → a ≡ b
+    by true y e f = absurd (before_j i a (ltb-true i j e) at_i pa)
+    by false true e f = absurd (before_i j b (ltb-true j i f) at_j pb)
+    by false false e f =
+        let less = ltb-false i j e in
+        let more = ltb-false j i f in
+        let same : i ≡ j = omega (arith, less, more) in
+        let both = sym at_i ∙ (ap (slice_get xs) same ∙ at_j) in
+        cc
+
 module _ (bytes : List ℕ) where
-  abbrev Entry : Place → Value → Type 0
+  abbrev pub Entry : Place → Value → Type 0
   Entry p w = IsEntryAt text node_shape (λ _. ⊤) KnowsNode bytes p w
 
-  abbrev Entries : List Place → Values → Type 0
+  abbrev pub Entries : List Place → Values → Type 0
   Entries ps ws = AreEntriesAt text node_shape (λ _. ⊤) KnowsNode bytes ps ws
 
   -- a place for each value, and a value for each place
-  place_of : (ps : List Place) (ws : Values) (i : ℕ) (w : Value) → Entries ps ws → value_in i ws ≡ Some w → (e : Place) × (slice_get ps i ≡ Some e) × Entry e w
+  pub place_of : (ps : List Place) (ws : Values) (i : ℕ) (w : Value) → Entries ps ws → value_in i ws ≡ Some w → (e : Place) × (slice_get ps i ≡ Some e) × Entry e w
   place_of [] no_values i w h e = absurd (cc)
   place_of [] (more_values x ws) i w h e = absurd h
   place_of (p ∷ ps) no_values i w h e = absurd h
   place_of (p ∷ ps) (more_values x ws) zero w h e = let same : x ≡ w = cc in (p, refl, subst (Entry p) same h.0)
   place_of (p ∷ ps) (more_values x ws) (suc i) w h e = place_of ps ws i w h.1 e
 
-  value_of : (ps : List Place) (ws : Values) (i : ℕ) (p : Place) → Entries ps ws → slice_get ps i ≡ Some p → (w : Value) × (value_in i ws ≡ Some w) × Entry p w
+  pub value_of : (ps : List Place) (ws : Values) (i : ℕ) (p : Place) → Entries ps ws → slice_get ps i ≡ Some p → (w : Value) × (value_in i ws ≡ Some w) × Entry p w
   value_of [] ws i p h e = absurd (cc)
   value_of (q ∷ ps) no_values i p h e = absurd h
   value_of (q ∷ ps) (more_values x ws) zero p h e = let same : q ≡ p = cc in (x, refl, subst (λ (y : Place). Entry y x) same h.0)
   value_of (q ∷ ps) (more_values x ws) (suc i) p h e = value_of ps ws i p h.1 e
 
   -- the value of an entry whose text is a key
-  pair_there : (p : Place) (w : Value) (k : List ℕ) → (h : Entry p w) → IsText bytes p.key k → w ≡ pair_value k h.value
+  pub pair_there : (p : Place) (w : Value) (k : List ℕ) → (h : Entry p w) → IsText bytes p.key k → w ≡ pair_value k h.value
   pair_there p w k h t = h.is ∙ ap (λ x. group (more_values x (more_values h.value no_values))) (held_text bytes p.key (λ _. ⊤) h.key h.key_held ∙ ap string (sym (text_is bytes p.key k t)))
 
   -- ---- a key leads to one place
@@ -60,25 +75,12 @@ module _ (bytes : List ℕ) where
     one_tree : y.search_tree ≡ x.search_tree
     one_tree = one_map bytes 5 text node_shape pos y.search_tree x.search_tree y.map x.map
 
-    at_second : slice_get (items x.search_tree) y.index ≡ Some y.entry
-    at_second = subst (λ t. slice_get (items t) y.index ≡ Some y.entry) one_tree y.among
-
-    at_first : slice_get (items y.search_tree) x.index ≡ Some x.entry
-    at_first = subst (λ t. slice_get (items t) x.index ≡ Some x.entry) (sym one_tree) x.among
-
     pub one_entry : to ≡ other
-    one_entry = by (nat_lt x.index y.index) (nat_lt y.index x.index) refl refl
-      where
-        by : (b c : Bool) → nat_lt x.index y.index ≡ b → nat_lt y.index x.index ≡ c → to ≡ other
-        by true c e f = absurd (y.first x.index x.entry (ltb-true x.index y.index e) at_first x.is_key)
-        by false true e f = absurd (x.first y.index y.entry (ltb-true y.index x.index f) at_second y.is_key)
-        by false false e f =
-            let less = ltb-false x.index y.index e in
-            let more = ltb-false y.index x.index f in
-            let same : y.index ≡ x.index = omega (arith, less, more) in
-            let entries : Some x.entry ≡ Some y.entry = sym x.among ∙ ap (slice_get (items x.search_tree)) (sym same) ∙ at_second in
-            let entry : x.entry ≡ y.entry = cc in
-            x.node ∙ ap (λ (p : Place). p.value) entry ∙ sym y.node
+    one_entry =
+        let there : slice_get (items x.search_tree) y.index ≡ Some y.entry = subst (λ t. slice_get (items t) y.index ≡ Some y.entry) one_tree y.among in
+        let before = subst (λ t. (i : ℕ) (p : Place) → i < y.index → slice_get (items t) i ≡ Some p → IsText bytes p.key k → ⊥) one_tree y.first in
+        let entry = one_first (λ (p : Place). IsText bytes p.key k) (items x.search_tree) x.index y.index x.entry y.entry x.among there x.is_key y.is_key x.first before in
+        x.node ∙ ap (λ (p : Place). p.value) entry ∙ sym y.node
 
   -- ---- the entry of a pair
 

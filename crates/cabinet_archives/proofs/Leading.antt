@@ -41,7 +41,8 @@ use Rattle.cabinet_archived.proofs.Documents.TreeWalks.{ItemsWalk, no_items, mor
 use Rattle.archive_forms_values.specs.Parts.{HasValue}
 use Rattle.cabinet_archived.specs.Documents.Node.{node_shape, node_names, KnowsNode}
 use Rattle.cabinet_archived.specs.declared.node.ArchivedNode.{ArchivedNode}
-use Rattle.cabinet_archives.specs.Ordered.{map_shape, knows_map, HasEntry, KeyLeads, KeyLeadsNowhere}
+use Rattle.cabinet_archives.specs.Ordered.{map_shape, knows_map, HasEntry}
+use Rattle.cabinet_archives.specs.Keyed.{KeyLeads, KeyLeadsNowhere}
 use Rattle.cabinet_archives.specs.Sound.{HasSoundWalk, IsSoundPart}
 use Rattle.cabinet_archives.proofs.Texts.{text_at, texts_at, text_is, text_there, held_text, entry_key, walked_keys}
 use Rattle.cabinet_archives.proofs.Soundness.{left_nil, right_nil}

@@ -1,9 +1,10 @@
 -- The leaf at a path: the position of its node, by the steps of the path, and that of the bytes that encode it.
-use Rattle.std.proofs.Common.{◌≡◌, ℕ, ℤ, ◌+◌, Bool, true, List, [], ◌∷◌, ◌++◌, length, Some, w64, refl, sym, ap, subst, arith, inl}
+use Rattle.std.proofs.Common.{◌≡◌, ℕ, ℤ, ◌+◌, Bool, true, List, [], ◌∷◌, ◌++◌, length, Some, w64, refl, sym, ap, subst, ◌∙◌, arith, ◌⊎◌, inl, inr}
 use Rattle.archive_shape.specs.ShapeLayout.Bytes.{window, align_up}
 use Rattle.archive_shape.specs.ShapeLayout.Shape.Shape.{truth, number, text, option, box, vector}
 use Rattle.archive_shape.specs.ShapeLayout.Shape.Pointee.{sized, str}
-use Rattle.archive_shape.specs.ShapeLayout.Value.{Value}
+use Rattle.archive_shape.specs.ShapeLayout.Value.{Value, Values}
+use Rattle.archive_forms_values.specs.ShapeLayout.Path.{value_in}
 use Rattle.archive_shape.specs.ShapeLayout.Value.Value.{boolean, integer, string, group}
 use Rattle.archive_shape.specs.ShapeLayout.Content.{Part, content_of}
 use Rattle.archive_shape.specs.ShapeLayout.Content.Part.{at, behind}
@@ -15,24 +16,30 @@ use Rattle.archive_shape.specs.ShapeLayout.Path.{Stands}
 use Rattle.archive_shape.specs.ShapeLayout.Path.Stands.{stands_here}
 use Rattle.archive_forms_values.specs.FormsLaws.Text.{LiesAt}
 use Rattle.archive_forms_values.specs.Parts.{PointsTo}
+use Rattle.cabinet_text_nodes.specs.TextGrammar.Keys.{ordered, hashed}
 use Rattle.cabinet_text_nodes.specs.TextGrammar.Tree as document
-use Rattle.cabinet_text_nodes.specs.TextGrammar.Tree.{Leaf, Tree, leaf}
+use Rattle.cabinet_text_nodes.specs.TextGrammar.Tree.{Leaf, Tree, leaf, IsLegal}
 use Rattle.cabinet_text_nodes.specs.TextGrammar.Path.{Step, key, place, inside, node_at}
 use Rattle.cabinet_archived.specs.Documents.Node.{node_names, node_shape, KnowsNode}
-use Rattle.cabinet_archived.specs.Documents.Denotes.{Denotes, tagged_value}
+use Rattle.cabinet_archived.specs.Documents.Denotes.{Denotes, pair_value, tagged_value}
+use Rattle.cabinet_archived.specs.Documents.Order.{arranged}
 use Rattle.cabinet_archived.specs.Documents.OwnBytes.{LeadsTo, leads_here, leads_inside, leads_place, leads_key}
 use Rattle.cabinet_archived.specs.Documents.Laws.{payload_of}
 use Rattle.cabinet_archived.proofs.Documents.Nodes.{NodeValue}
-use Rattle.cabinet_archived.proofs.Documents.Known.{leaf_tag, LeafValue, Known, known_leaf, known_shared, known_none, known_some, known_list, known_ordered, known, known_element, known_pair}
+use Rattle.cabinet_archived.proofs.Documents.Known.{leaf_tag, LeafValue, Known, known_leaf, known_shared, known_none, known_some, known_list, known_ordered, known_hashed, known, known_element, known_pair}
+use Rattle.cabinet_archived.proofs.Documents.ByKey.{distinct, distinct_in_order, node_in_order}
+use Rattle.cabinet_archived.proofs.Documents.TableSteps.{table_node}
 use Rattle.cabinet_archived.proofs.Documents.BtreeSpelling.PairsStand.{tree_pair_stands}
 use Rattle.cabinet_archived.proofs.Documents.Places.{node_here}
 use Rattle.cabinet_archived.proofs.Documents.Leading.{ToLeaf}
 use Rattle.cabinet_archived.proofs.Documents.Avoiding.{avoids}
+use Rattle.cabinet_archives.specs.Hashed.{table_shape}
 use Rattle.cabinet_archives.specs.Ordered.{map_shape}
-use Rattle.cabinet_archives.specs.Way.{GoesTo, goes_nowhere, goes_on, steps_inside, steps_place, steps_key}
+use Rattle.cabinet_archives.specs.Way.{StepsTo, GoesTo, goes_nowhere, goes_on, steps_inside, steps_place, steps_key, steps_hashed}
 use Rattle.cabinet_archives.proofs.Standing.{PaidAt, paid_at, tag_is, inside_at, element_at, TextAt, text_inline, text_out, text_at}
+use Rattle.cabinet_archives.proofs.Buckets.{pair_bucket}
 use Rattle.cabinet_archives.proofs.Entries.{pair_entry}
-use Rattle.cabinet_archives.proofs.Inner.{map_held, inside_held, element_held}
+use Rattle.cabinet_archives.proofs.Inner.{map_held, table_held, inside_held, element_held}
 
 module _ (bytes : List ℕ) where
   -- the part that encodes the leaf of the node at `pos`
@@ -94,15 +101,34 @@ module _ (bytes : List ℕ) where
     pub stands : Stands node_names bytes part payload level around before (at pos node_shape) v (inner ++ 0 ∷ [])
     pub lies : LiesIn l to part
 
+  -- through pair i of a map
+  mapped : (l : Leaf) {level pos deeper : ℕ} {around : List OpenShared} {v : Value} {vs : Values} {before since : List Visit} (tag : ℕ) (k : List ℕ) (i : ℕ) (rest : List Step) (u : Value)
+      → v ≡ tagged_value tag (group vs) → (tag ≡ 6) ⊎ ((tag ≡ 7) ⊎ (tag ≡ 8)) → value_in i vs ≡ Some (pair_value k u) → (next : ℕ) → StepsTo bytes pos (key k) next → (r : LeafFound deeper around since next u rest l)
+      → (ToLeaf u (r.inner ++ 0 ∷ []) → Stands node_names bytes r.part r.payload deeper around since (at next node_shape) u (r.inner ++ 0 ∷ [])
+      → Stands node_names bytes r.part r.payload level around before (at pos node_shape) v (0 ∷ (i ∷ (1 ∷ (r.inner ++ 0 ∷ [])))))
+      → LeafFound level around before pos v (key k ∷ rest) l
+  mapped l tag k i rest u e high there next steps r stand = record {
+    to = r.to;
+    way = goes_on refl steps r.way;
+    node = r.node;
+    inner = 0 ∷ (i ∷ (1 ∷ r.inner));
+    leads = leads_key e high there refl refl r.leads;
+    is_leaf = r.is_leaf;
+    part = r.part;
+    payload = r.payload;
+    stands = stand (record { steps = rest; inner = r.inner; node = r.node; leads = r.leads; leaf = l; is_leaf = r.is_leaf; is = refl }) r.stands;
+    lies = r.lies;
+  }
+
   -- so it is at the rest of the path, wherever a node holds with its value
   abbrev On : List Step → Leaf → Type 0
   On rest l =
       (pos level : ℕ) (around : List OpenShared) (v : Value) (regions : List Region) (before after : List Visit) (t : Tree)
-      → NodeValue bytes v → Denotes v t → Holds node_names bytes level around (at pos node_shape) v regions before after → HeldAt node_shape KnowsNode bytes pos v → node_at t rest ≡ Some (leaf l)
+      → NodeValue bytes v → Denotes v t → IsLegal t → Holds node_names bytes level around (at pos node_shape) v regions before after → HeldAt node_shape KnowsNode bytes pos v → node_at t rest ≡ Some (leaf l)
       → LeafFound level around before pos v rest l
 
   module _ (l : Leaf) {level pos : ℕ} {around : List OpenShared} {v : Value} {regions : List Region} {before after : List Visit} {t : Tree}
-      (h : Holds node_names bytes level around (at pos node_shape) v regions before after) (there : HeldAt node_shape KnowsNode bytes pos v)
+      (legal : IsLegal t) (h : Holds node_names bytes level around (at pos node_shape) v regions before after) (there : HeldAt node_shape KnowsNode bytes pos v)
     where
       ends_here : Known bytes v t → node_at t [] ≡ Some (leaf l) → LeafFound level around before pos v [] l
       ends_here (known_leaf m e f) g =
@@ -125,6 +151,7 @@ module _ (bytes : List ℕ) where
       ends_here (known_some e f n d) g = absurd (cc)
       ends_here (known_list e f ns ds) g = absurd (cc)
       ends_here (known_ordered e f ns ds) g = absurd (cc)
+      ends_here (known_hashed e f ns ds) g = absurd (cc)
 
       in_option : (rest : List Step) → On rest l → Known bytes v t → node_at t (inside ∷ rest) ≡ Some (leaf l) → LeafFound level around before pos v (inside ∷ rest) l
       unfolding align_up
@@ -137,7 +164,7 @@ module _ (bytes : List ℕ) where
           let s = inside_at bytes (pos + 4) w refl p.holds in
           let eight : pos + 4 + 4 ≡ pos + 8 = omega arith in
           let points = subst (λ n. PointsTo bytes n s.to) eight s.points in
-          let r = on s.to _ _ w s.regions _ _ u n d s.holds (inside_held bytes pos v there w s.to e (tag_is bytes pos 4 (tagged_value 1 w) e h) points) k in
+          let r = on s.to _ _ w s.regions _ _ u n d (subst IsLegal f legal) s.holds (inside_held bytes pos v there w s.to e (tag_is bytes pos 4 (tagged_value 1 w) e h) points) k in
           record {
             to = r.to;
             way = goes_on {to = r.to} refl (steps_inside refl points) r.way;
@@ -152,6 +179,7 @@ module _ (bytes : List ℕ) where
           }
       in_option rest on (known_list e f ns ds) g = let k = subst (λ x. node_at x (inside ∷ rest) ≡ Some (leaf l)) f g in absurd (cc)
       in_option rest on (known_ordered e f ns ds) g = let k = subst (λ x. node_at x (inside ∷ rest) ≡ Some (leaf l)) f g in absurd (cc)
+      in_option rest on (known_hashed e f ns ds) g = let k = subst (λ x. node_at x (inside ∷ rest) ≡ Some (leaf l)) f g in absurd (cc)
 
       in_list : (i : ℕ) (rest : List Step) → On rest l → Known bytes v t → node_at t (place i ∷ rest) ≡ Some (leaf l) → LeafFound level around before pos v (place i ∷ rest) l
       unfolding align_up
@@ -160,11 +188,11 @@ module _ (bytes : List ℕ) where
       in_list i rest on (known_none e f) g = let k = subst (λ x. node_at x (place i ∷ rest) ≡ Some (leaf l)) f g in absurd (cc)
       in_list i rest on (known_some e f n d) g = let k = subst (λ x. node_at x (place i ∷ rest) ≡ Some (leaf l)) f g in absurd (cc)
       in_list i rest on (known_list {vs = vs} {ts = ts} e f ns ds) g =
-          let k = known_element i rest (leaf l) ns ds (subst (λ x. node_at x (place i ∷ rest) ≡ Some (leaf l)) f g) in
+          let k = known_element i rest (leaf l) ns ds (subst IsLegal f legal).0 (subst (λ x. node_at x (place i ∷ rest) ≡ Some (leaf l)) f g) in
           let p = paid_at bytes pos 5 (group vs) e h 4 (vector node_shape) refl refl in
           let s = element_at bytes (pos + 4) i k.value vs refl k.there p.holds in
           let held = element_held bytes pos v there vs i s.first k.value e (tag_is bytes pos 5 (group vs) e h) s.points k.there in
-          let r = on _ _ _ k.value s.regions s.since s.until k.tree k.node k.denotes s.holds held k.found in
+          let r = on _ _ _ k.value s.regions s.since s.until k.tree k.node k.denotes k.legal s.holds held k.found in
           record {
             to = r.to;
             way = goes_on {to = r.to} refl (steps_place refl s.points refl) r.way;
@@ -178,6 +206,7 @@ module _ (bytes : List ℕ) where
             lies = r.lies;
           }
       in_list i rest on (known_ordered e f ns ds) g = let k = subst (λ x. node_at x (place i ∷ rest) ≡ Some (leaf l)) f g in absurd (cc)
+      in_list i rest on (known_hashed e f ns ds) g = let k = subst (λ x. node_at x (place i ∷ rest) ≡ Some (leaf l)) f g in absurd (cc)
 
       in_map : (k : List ℕ) (rest : List Step) → On rest l → Known bytes v t → node_at t (key k ∷ rest) ≡ Some (leaf l) → LeafFound level around before pos v (key k ∷ rest) l
       unfolding align_up
@@ -186,30 +215,30 @@ module _ (bytes : List ℕ) where
       in_map k rest on (known_none e f) g = let n = subst (λ x. node_at x (key k ∷ rest) ≡ Some (leaf l)) f g in absurd (cc)
       in_map k rest on (known_some e f n d) g = let n = subst (λ x. node_at x (key k ∷ rest) ≡ Some (leaf l)) f g in absurd (cc)
       in_map k rest on (known_list e f ns ds) g = let n = subst (λ x. node_at x (key k ∷ rest) ≡ Some (leaf l)) f g in absurd (cc)
-      in_map k rest on (known_ordered {vs = vs} e f ns ds) g =
-          let p = known_pair k rest (leaf l) ns ds (subst (λ x. node_at x (key k ∷ rest) ≡ Some (leaf l)) f g) in
+      in_map k rest on (known_ordered {vs = vs} {ps = ps} e f ns ds) g =
+          let each = distinct ordered [] ps (subst IsLegal f legal).0 in
+          let p = known_pair k rest (leaf l) ns ds each (subst (λ x. node_at x (key k ∷ rest) ≡ Some (leaf l)) f g) in
           let o = paid_at bytes pos 6 (group vs) e h 4 map_shape refl refl in
           let s = tree_pair_stands o.holds p.number (string k) p.value p.there in
-          let x = pair_entry bytes (pos + 4) vs (map_held bytes pos v there (group vs) e (tag_is bytes pos 6 (group vs) e h)) k p.number s.value_pos p.value p.there p.first s.item in
-          let r = on s.value_pos s.deeper around p.value s.regions s.since s.until p.tree p.node p.denotes s.holds x.held p.found in
-          let inner = r.inner ++ 0 ∷ [] in
-          let way : ToLeaf p.value inner = record { steps = rest; inner = r.inner; node = r.node; leads = r.leads; leaf = l; is_leaf = r.is_leaf; is = refl } in
-          let stands = s.stands r.part r.payload inner (record { stands = r.stands; spares = avoids bytes s.holds r.stands node_here s.value_pos refl way }) in
-          record {
-            to = r.to;
-            way = goes_on {to = r.to} refl (steps_key refl x.entry) r.way;
-            node = r.node;
-            inner = 0 ∷ (p.number ∷ (1 ∷ r.inner));
-            leads = leads_key e (inl refl) p.there refl refl r.leads;
-            is_leaf = r.is_leaf;
-            part = r.part;
-            payload = r.payload;
-            stands = o.stands r.part r.payload (p.number ∷ (1 ∷ inner)) stands.stands;
-            lies = r.lies;
-          }
+          let tag = tag_is bytes pos 6 (group vs) e h in
+          let x = pair_entry bytes (pos + 4) vs (map_held bytes pos v there (group vs) e tag) k p.number s.value_pos p.value p.there p.first s.item in
+          let r = on s.value_pos s.deeper around p.value s.regions s.since s.until p.tree p.node p.denotes p.legal s.holds x.held p.found in
+          mapped l 6 k p.number rest p.value e (inl refl) p.there s.value_pos (steps_key refl tag x.entry) r
+          (λ way stands. o.stands r.part r.payload (p.number ∷ (1 ∷ (r.inner ++ 0 ∷ []))) (s.stands r.part r.payload (r.inner ++ 0 ∷ []) (record { stands = stands; spares = avoids bytes s.holds stands node_here s.value_pos refl way })).stands)
+      in_map k rest on (known_hashed {vs = vs} {ps = ps} e f ns ds) g =
+          let all = distinct hashed [] (arranged ps) (subst IsLegal f legal).0 in
+          let at_key = sym (node_in_order hashed k rest ps) ∙ subst (λ x. node_at x (key k ∷ rest) ≡ Some (leaf l)) f g in
+          let p = known_pair k rest (leaf l) ns ds (distinct_in_order hashed ps all) at_key in
+          let o = paid_at bytes pos 7 (group vs) e h 4 table_shape refl refl in
+          let s = table_node bytes (pos + 4) p.number k p.value refl p.there o.holds in
+          let tag = tag_is bytes pos 7 (group vs) e h in
+          let x = pair_bucket bytes (pos + 4) vs (table_held bytes pos v there (group vs) e tag) k p.number s.pair_pos s.node_pos p.value p.there p.first s.is_pair s.behind_key in
+          let r = on s.node_pos s.deeper around p.value s.regions s.since s.until p.tree p.node p.denotes p.legal s.holds x.held p.found in
+          mapped l 7 k p.number rest p.value e (inr (inl refl)) p.there s.node_pos (steps_hashed refl tag x.bucket) r
+          (λ way stands. o.stands r.part r.payload (p.number ∷ (1 ∷ (r.inner ++ 0 ∷ []))) (s.stands r.part r.payload (r.inner ++ 0 ∷ []) stands))
 
   pub leaf_found : (path : List Step) (l : Leaf) → On path l
-  leaf_found [] l pos level around v regions before after t n d h there g = ends_here l h there (known n d) g
-  leaf_found (inside ∷ rest) l pos level around v regions before after t n d h there g = in_option l h there rest (leaf_found rest l) (known n d) g
-  leaf_found (place i ∷ rest) l pos level around v regions before after t n d h there g = in_list l h there i rest (leaf_found rest l) (known n d) g
-  leaf_found (key k ∷ rest) l pos level around v regions before after t n d h there g = in_map l h there k rest (leaf_found rest l) (known n d) g
+  leaf_found [] l pos level around v regions before after t n d legal h there g = ends_here l legal h there (known n d) g
+  leaf_found (inside ∷ rest) l pos level around v regions before after t n d legal h there g = in_option l legal h there rest (leaf_found rest l) (known n d) g
+  leaf_found (place i ∷ rest) l pos level around v regions before after t n d legal h there g = in_list l legal h there i rest (leaf_found rest l) (known n d) g
+  leaf_found (key k ∷ rest) l pos level around v regions before after t n d legal h there g = in_map l legal h there k rest (leaf_found rest l) (known n d) g

@@ -2,7 +2,10 @@ mod Ascending
 mod Audited
 mod Auditing
 pub mod Kept
+mod Buckets
 mod Entries
+mod HashedAuditing
+mod HashedLeading
 mod Inner
 mod KeysAsked
 pub mod Layouts
@@ -11,14 +14,19 @@ mod LeafPlaces
 mod NoSteps
 mod Outcomes
 mod OwnPlaces
+mod Pairs
 mod Paths
 mod Payloads
 mod Put
 pub mod Reached
 pub mod Saves
+mod Searched
 mod Soundness
 mod Standing
 mod Stepping
+mod TableAudit
+mod TableLookups
+mod Tables
 mod Tags
 mod Texts
 mod Walked

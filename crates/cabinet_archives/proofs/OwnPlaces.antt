@@ -1,5 +1,5 @@
 -- The own bytes of the leaf at a path begin in the node that the path leads to.
-use Rattle.std.proofs.Common.{◌≡◌, ℕ, ◌+◌, ◌*◌, true, w64, List, [], ◌∷◌, ◌++◌, length, Option, Some, refl, sym, ap, subst, ◌∙◌}
+use Rattle.std.proofs.Common.{◌≡◌, ℕ, ◌+◌, ◌*◌, true, w64, List, [], ◌∷◌, ◌++◌, length, Option, Some, refl, sym, ap, subst, ◌∙◌, arith}
 use Rattle.archive_shape.specs.ShapeLayout.Shape.Shape.{truth, number, text}
 use Rattle.archive_shape.specs.ShapeLayout.Shape.Pointee.{str}
 use Rattle.archive_shape.specs.ShapeLayout.Content.{Part}
@@ -18,9 +18,11 @@ use Rattle.cabinet_archived.specs.Documents.OwnBytes.{OwnBytes, IsOwn, own_truth
 use Rattle.cabinet_archived.proofs.Documents.Places.{node_behind}
 use Rattle.cabinet_archived.proofs.Documents.Nodes.{none_seen, held}
 use Rattle.cabinet_archived.proofs.Documents.Steps.{behind_below}
-use Rattle.cabinet_archives.specs.Way.{StepsTo, steps_inside, steps_place, steps_key, GoesTo, goes_nowhere, goes_on}
+use Rattle.cabinet_archives.specs.Way.{StepsTo, steps_inside, steps_place, steps_key, steps_hashed, GoesTo, goes_nowhere, goes_on}
+use Rattle.cabinet_archives.specs.Hashed.{HasBucket}
 use Rattle.cabinet_archives.specs.Ordered.{HasEntry}
 use Rattle.cabinet_archives.specs.Putting.{BeginsAt}
+use Rattle.cabinet_archives.proofs.Buckets.{one_bucket}
 use Rattle.cabinet_archives.proofs.Entries.{one_entry}
 use Rattle.cabinet_archives.proofs.LeafPlaces.{LiesIn, truth_lies, number_lies, inline_lies, far_lies, leaf_found}
 
@@ -33,14 +35,23 @@ module _ (bytes : List ℕ) where
   one_step : {from to other : ℕ} {s : Step} → StepsTo bytes from s to → StepsTo bytes from s other → to ≡ other
   one_step {from = from} (steps_inside e p) (steps_inside f q) = one_target (from + 8) p q
   one_step (steps_inside e p) (steps_place f q g) = absurd (cc)
-  one_step (steps_inside e p) (steps_key f q) = absurd (cc)
+  one_step (steps_inside e p) (steps_key f t q) = absurd (cc)
+  one_step (steps_inside e p) (steps_hashed f t q) = absurd (cc)
   one_step (steps_place e p g) (steps_inside f q) = absurd (cc)
-  one_step (steps_place e p g) (steps_key f q) = absurd (cc)
-  one_step (steps_key e p) (steps_inside f q) = absurd (cc)
-  one_step (steps_key e p) (steps_place f q g) = absurd (cc)
-  one_step {from = from} {other = other} (steps_key {k = k} e p) (steps_key {k = l} f q) =
+  one_step (steps_place e p g) (steps_key f t q) = absurd (cc)
+  one_step (steps_place e p g) (steps_hashed f t q) = absurd (cc)
+  one_step (steps_key e t p) (steps_inside f q) = absurd (cc)
+  one_step (steps_key e t p) (steps_place f q g) = absurd (cc)
+  one_step {from = from} {other = other} (steps_key {k = k} e t p) (steps_key {k = l} f u q) =
       let same_key : l ≡ k = cc in
       one_entry bytes (from + 4) k p (subst (λ x. HasEntry bytes (from + 4) x other) same_key q)
+  one_step (steps_key e t p) (steps_hashed f u q) = let both : ◌≡◌ {A = ℕ} 6 7 = sym t ∙ u in absurd (omega (arith, both))
+  one_step (steps_hashed e t p) (steps_inside f q) = absurd (cc)
+  one_step (steps_hashed e t p) (steps_place f q g) = absurd (cc)
+  one_step (steps_hashed e t p) (steps_key f u q) = let both : ◌≡◌ {A = ℕ} 7 6 = sym t ∙ u in absurd (omega (arith, both))
+  one_step {from = from} {other = other} (steps_hashed {k = k} e t p) (steps_hashed {k = l} f u q) =
+      let same_key : l ≡ k = cc in
+      one_bucket bytes (from + 4) k p (subst (λ x. HasBucket bytes (from + 4) x other) same_key q)
   one_step {from = from} (steps_place {i = i} e p g) (steps_place {i = j} {first = first} f q h) =
       let same_place : i ≡ j = cc in
       g ∙ ap (λ n. n + i * 24) (one_target (from + 4) p q) ∙ ap (λ n. first + n * 24) same_place ∙ sym h
@@ -82,7 +93,7 @@ module _ (bytes : List ℕ) where
   own_there t path old new start to a root_there there f way begins =
       let pos = root_position (length bytes) node_shape in
       let b = behind_below bytes pos a.root.holds in
-      let r = leaf_found bytes path old pos 1 [] a.value b.regions [] a.visits t (held bytes a.root.holds node_behind pos refl (none_seen bytes)).value a.denotes b.holds root_there there in
+      let r = leaf_found bytes path old pos 1 [] a.value b.regions [] a.visits t (held bytes a.root.holds node_behind pos refl (none_seen bytes)).value a.denotes a.document.0 b.holds root_there there in
       let same_place : to ≡ r.to = one_way way r.way in
       record {
         node = r.node;

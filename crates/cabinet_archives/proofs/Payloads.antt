@@ -1,6 +1,7 @@
 -- The head of an archived node, by its kind.
-use Rattle.std.proofs.Common.{◌≡◌, ℕ, ◌<◌, List, [], ◌∷◌, length, refl, sym, ap, ◌∙◌, arith}
+use Rattle.std.proofs.Common.{◌≡◌, ℕ, ◌<◌, List, [], ◌∷◌, length, map, refl, sym, ap, ◌∙◌, arith}
 use Rattle.std.specs.Prelude.{false, ⊤}
+use Rattle.std.proofs.lemmas.List.{length-map}
 use Rattle.archive_shape.specs.ShapeLayout.Bytes.{window}
 use Rattle.archive_shape.specs.ShapeLayout.Shape.{Shape}
 use Rattle.archive_shape.specs.ShapeLayout.Shape.Shape.{text, shared, option, vector}
@@ -20,21 +21,27 @@ use Rattle.archive_btree_walking.specs.BtreeLayout.Reading.{Place}
 use Rattle.archive_btree_walking.specs.BtreeLayout.Tree.{Tree as SearchTree, items}
 use Rattle.archive_btree_walking.specs.Maps.{IsMapAt, IsMapOf, AreEntriesAt}
 use Rattle.archive_btree_walking.proofs.Roots.{tree_of_value}
-use Rattle.cabinet_text_nodes.specs.TextGrammar.Keys.{ordered}
+use Rattle.archive_hash_walking.specs.Tables.{Buckets, full_places, item_position, item_positions, IsTableAt}
+use Rattle.archive_hash_walking.proofs.Read.{table_is_read}
+use Rattle.cabinet_text_nodes.specs.TextGrammar.Keys.{MapKind, ordered, hashed, kept}
 use Rattle.cabinet_text_nodes.specs.TextGrammar.Tree.{Leaf, Tree, Trees, Pairs, count, pair_count}
 use Rattle.cabinet_text_nodes.specs.TextGrammar.Item.{leaf_item, shared_item, none_item, some_item, list_item, map_item}
 use Rattle.cabinet_text_nodes.specs.TextGrammar.Answering.{head_of}
-use Rattle.cabinet_archived.specs.Documents.Node.{node_shape, KnowsNode}
+use Rattle.cabinet_archived.specs.Documents.Node.{node_shape, pair_shape, KnowsNode}
 use Rattle.cabinet_archived.specs.Documents.Denotes.{Denotes, DenoteAll, DenotePairs, tagged_value}
 use Rattle.cabinet_archived.specs.Documents.Denotes.DenoteAll.{denote_none, denote_more}
 use Rattle.cabinet_archived.specs.Documents.Denotes.DenotePairs.{denote_no_pairs, denote_pair}
 use Rattle.cabinet_archived.specs.Documents.Laws.{payload_of}
+use Rattle.cabinet_archived.proofs.Documents.Arranged.{arranged_count}
+use Rattle.cabinet_archived.proofs.Documents.ByKey.{in_order}
 use Rattle.cabinet_archived.proofs.Documents.Changing.{of_some, of_list}
 use Rattle.cabinet_archived.specs.Kind.{IsTagged}
 use Rattle.cabinet_archives.specs.Found.{OfDocument}
+use Rattle.cabinet_archives.specs.Hashed.{table_shape, knows_table}
 use Rattle.cabinet_archives.specs.Ordered.{map_shape, knows_map}
+use Rattle.cabinet_archives.proofs.Pairs.{pair_entry, entries_of_pairs}
 use Rattle.cabinet_archives.proofs.Ways.{Boxed}
-use Rattle.cabinet_archives.proofs.Stepping.{nothing_is, shared_is, leaf_is, ordered_by}
+use Rattle.cabinet_archives.proofs.Stepping.{nothing_is, shared_is, leaf_is, kind_of, map_by}
 
 -- ---- texts
 
@@ -63,6 +70,11 @@ entries_counted bytes [] no_values h = refl
 entries_counted bytes [] (more_values v vs) h = absurd h
 entries_counted bytes (p ∷ ps) no_values h = absurd h
 entries_counted bytes (p ∷ ps) (more_values v vs) h = let more = entries_counted bytes ps vs h.1 in omega (arith, more)
+
+count_in_order : (kind : MapKind) (ps : Pairs) → pair_count (in_order kind ps) ≡ pair_count ps
+count_in_order ordered ps = refl
+count_in_order hashed ps = arranged_count ps
+count_in_order kept ps = refl
 
 module _ (bytes : List ℕ) (pos : ℕ) where
   pub leaf_head : (l : Leaf) (tag : ℕ) (shape : Shape) (knows : Names → Type 0) (to : ℕ) → tag < 3 → IsTagged bytes pos tag shape knows to
@@ -100,10 +112,24 @@ module _ (bytes : List ℕ) (pos : ℕ) where
       let l = of_list (p.is ∙ ap (tagged_value 5) all.is) d in
       ap list_item (sym all.count ∙ counted l.denotes) ∙ sym (ap head_of l.is)
 
-  -- as many pairs as the tree has items
-  pub ordered_head : (to len : ℕ) → IsTagged bytes pos 6 map_shape knows_map to → ((t : SearchTree Place) → IsMapAt bytes 5 text node_shape to t → len ≡ length (items t)) → OfDocument bytes pos (λ t. map_item ordered len ≡ head_of t)
-  ordered_head to len tagged says = λ v t h d.
+  -- as many pairs as a map's value has
+  map_head : (to len : ℕ) {tag : ℕ} {shape : Shape} {knows : Names → Type 0} → IsTagged bytes pos tag shape knows to → 5 < tag → ((v : Value) → HeldAt shape knows bytes to v → len ≡ count_values (members v)) → OfDocument bytes pos (λ t. map_item (kind_of tag) len ≡ head_of t)
+  map_head to len {tag = tag} tagged high says = λ v t h d.
       let p = tagged.payload v h in
-      let m : IsMapOf text node_shape (λ _. ⊤) KnowsNode bytes 5 to p.payload = tree_of_value (record { value = p.payload; held = p.held }) in
-      let o = ordered_by p.is d in
-      ap (map_item ordered) (says m.search_tree m.map ∙ entries_counted bytes (items m.search_tree) (members p.payload) m.entries ∙ pairs_counted o.denotes) ∙ sym (ap head_of o.is)
+      let o = map_by p.is high d in
+      ap (map_item (kind_of tag)) (says p.payload p.held ∙ (pairs_counted o.denotes ∙ sym (count_in_order (kind_of tag) o.pairs))) ∙ sym (ap head_of o.is)
+
+  -- as the tree has items
+  pub ordered_head : (to len : ℕ) → IsTagged bytes pos 6 map_shape knows_map to → ((t : SearchTree Place) → IsMapAt bytes 5 text node_shape to t → len ≡ length (items t)) → OfDocument bytes pos (λ t. map_item ordered len ≡ head_of t)
+  ordered_head to len tagged says = map_head to len tagged (omega arith) (λ v h.
+      let m : IsMapOf text node_shape (λ _. ⊤) KnowsNode bytes 5 to v = tree_of_value (record { value = v; held = h }) in
+      says m.search_tree m.map ∙ entries_counted bytes (items m.search_tree) (members v) m.entries)
+
+  -- as the table has full places
+  pub hashed_head : (to len : ℕ) → IsTagged bytes pos 7 table_shape knows_table to → ((b : Buckets) → IsTableAt bytes pair_shape to b → len ≡ length (full_places b)) → OfDocument bytes pos (λ t. map_item hashed len ≡ head_of t)
+  hashed_head to len tagged says = map_head to len tagged (omega arith) (λ v h.
+      let m = table_is_read pair_shape knows_table bytes to v h in
+      let ps = item_positions pair_shape m.buckets in
+      says m.buckets m.table
+      ∙ (sym (length-map (full_places m.buckets) (item_position pair_shape m.buckets.target))
+      ∙ (sym (length-map ps (pair_entry bytes)) ∙ entries_counted bytes (map (pair_entry bytes) ps) (members v) (entries_of_pairs bytes ps (members v) m.items))))

@@ -15,8 +15,6 @@ use Rattle.cabinet_archived.specs.Documents.Image.{Image}
 use Rattle.cabinet_archived.specs.Documents.HasLayout.{HasLayout}
 use Rattle.cabinet_archived.specs.Documents.Spelling.{node_value}
 use Rattle.cabinet_archived.specs.Documents.SpellingLaws.{archive_of, ArchiveFits, ArchiveRefused}
-use Rattle.archive_forms_values.specs.ShapeCanonical.FirstFit.{first_fit}
-use Rattle.archive_forms_values.specs.ShapeCanonical.Hash.{text_hash}
 use Rattle.cabinet_archived.proofs.Documents.Layouts.{fitting_has_layout_law}
 use Rattle.cabinet_archived.proofs.Documents.Imaged.{written_is_image_law, one_image_law}
 use Rattle.cabinet_archived.proofs.Documents.SpellingDenoted.{value_denotes_law}
@@ -86,17 +84,17 @@ unsaved m t old (refusal.Limit e) h = (h.0, h.1, refl)
 unsaved m t old (refusal.Writer e) h = absurd h
 unsaved m t old refusal.OutOfMemory h = (h, inl refl, refl, nothing_saved m t old)
 
-refused_past : (t : Tree) (e : Error) → HasLayout t → ArchiveRefused t e → IsPast t e
-refused_past t e layout h =
-    let denotes = value_denotes_law t layout in
-    (node_value t, denotes, (refused_is_past_law (first_fit text_hash) t (node_value t) e layout denotes).0 h)
+refused_past : (t : Tree) (e : Error) → HasLayout t → IsDocument t → ArchiveRefused t e → IsPast t e
+refused_past t e layout document h =
+    let of_value = value_denotes_law t layout document in
+    (node_value t, of_value.0, of_value.1, (refused_is_past_law t (node_value t) e layout document of_value.0 of_value.1).0 h)
 
 -- why nothing is made of a document that has a layout is why it has no image
-pub unmade : (s t : Tree) (r : SaveRefusal) → s ≡ t → HasLayout s → IsUnmadeFor s r → HasNoImageFor t r
-unmade s t refusal.Kind same layout h = absurd h
-unmade s t (refusal.Limit e) same layout h = (subst HasLayout same layout, subst (λ u. IsPast u e) same (refused_past s e layout h))
-unmade s t (refusal.Writer e) same layout h = absurd h
-unmade s t refusal.OutOfMemory same layout h = subst HasLayout same layout
+pub unmade : (s t : Tree) (r : SaveRefusal) → s ≡ t → IsDocument t → HasLayout s → IsUnmadeFor s r → HasNoImageFor t r
+unmade s t refusal.Kind same document layout h = absurd h
+unmade s t (refusal.Limit e) same document layout h = (subst HasLayout same layout, subst (λ u. IsPast u e) same (refused_past s e layout (subst IsDocument (sym same) document) h))
+unmade s t (refusal.Writer e) same document layout h = absurd h
+unmade s t refusal.OutOfMemory same document layout h = subst HasLayout same layout
 
 -- what was made of a document is its image, and it has a layout
 pub image_made : (s t : Tree) (bytes : List ℕ) → s ≡ t → IsDocument t → ArchiveFits s → bytes ≡ archive_of s → Image t bytes × HasLayout t

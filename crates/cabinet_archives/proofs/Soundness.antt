@@ -11,10 +11,10 @@ use Rattle.cabinet_archived.specs.Documents.Walk.{Stop}
 use Rattle.cabinet_archived.specs.Documents.Audit.{too_deep, unless, faults}
 use Rattle.cabinet_archived.specs.Kind.{IsTagged}
 use Rattle.cabinet_archived.proofs.Documents.NodeWalks.{element_walk}
-use Rattle.cabinet_archived.proofs.Documents.Places.{option_here, list_here, ordered_here, part_of}
+use Rattle.cabinet_archived.proofs.Documents.Places.{option_here, list_here, part_of}
 use Rattle.cabinet_archives.specs.Sound.{HasSoundWalk}
 use Rattle.cabinet_archives.proofs.Tags.{tag_is}
-use Rattle.cabinet_archives.proofs.Walked.{Boxed, Inner, option_in, list_in, ordered_in, some_in, vector_in}
+use Rattle.cabinet_archives.proofs.Walked.{Boxed, Inner, payload_place, payload_in, some_in, vector_in}
 
 pub left_nil : {A : Type 0} (xs ys : List A) → xs ++ ys ≡ [] → xs ≡ []
 left_nil [] ys e = refl
@@ -36,14 +36,9 @@ module _ (bytes : List ℕ) where
   inner_sound {depth = depth} none i = record { depth = depth; value = i.value; walk = i.run; walked = i.walked; sound = sym i.faults_are ∙ none }
 
   module _ {pos : ℕ} (there : HasValue node_shape KnowsNode bytes pos) {s : Shape} {knows : Names → Type 0} {to : ℕ} (w : HasSoundWalk bytes (at pos node_shape)) where
-    pub option_sound : IsTagged bytes pos 4 s knows to → HasSoundWalk bytes (part_of option_here (pos + 4))
-    option_sound tagged = inner_sound w.sound (option_in bytes w.walked (tag_is bytes pos there tagged))
-
-    pub list_sound : IsTagged bytes pos 5 s knows to → HasSoundWalk bytes (part_of list_here (pos + 4))
-    list_sound tagged = inner_sound w.sound (list_in bytes w.walked (tag_is bytes pos there tagged))
-
-    pub ordered_sound : IsTagged bytes pos 6 s knows to → HasSoundWalk bytes (part_of ordered_here (pos + 4))
-    ordered_sound tagged = inner_sound w.sound (ordered_in bytes w.walked (tag_is bytes pos there tagged))
+    -- the payload of a container's node
+    pub payload_sound : {tag : ℕ} → 3 < tag → IsTagged bytes pos tag s knows to → HasSoundWalk bytes (part_of (payload_place tag) (pos + 4))
+    payload_sound {tag = tag} high tagged = inner_sound w.sound (payload_in bytes w.walked tag (tag_is bytes pos there tagged) high)
 
   -- ---- nodes in containers
 

@@ -5,7 +5,7 @@ use Rattle.archive_shape.specs.ShapeLayout.Value.Value.{string, group, chosen, c
 use Rattle.archive_shape.specs.ShapeLayout.Value.Values.{no_values}
 use Rattle.archive_shape.specs.ShapeLayout.Content.{members}
 use Rattle.archive_shape.specs.ShapeLayout.Path.{value_in}
-use Rattle.cabinet_text_nodes.specs.TextGrammar.Keys.{MapKind, ordered}
+use Rattle.cabinet_text_nodes.specs.TextGrammar.Keys.{MapKind, ordered, hashed, kept}
 use Rattle.cabinet_text_nodes.specs.TextGrammar.Tree.{Leaf, truth, number, text}
 use Rattle.cabinet_text_nodes.specs.TextGrammar.Tree.{Tree, leaf, shared, nothing, just, list, map, Trees, Pairs}
 use Rattle.cabinet_text_nodes.specs.TextGrammar.Path.{Step, key, place, inside, node_at, node_in, node_by}
@@ -14,7 +14,8 @@ use Rattle.cabinet_archived.specs.Documents.Denotes.Denotes.{denotes_truth, deno
 use Rattle.cabinet_archived.specs.Documents.Denotes.DenoteAll.{denote_none, denote_more}
 use Rattle.cabinet_archived.specs.Documents.Denotes.DenotePairs.{denote_no_pairs, denote_pair}
 use Rattle.cabinet_archived.specs.Documents.Laws.{payload_of}
-use Rattle.cabinet_archived.proofs.Documents.ByKey.{node_here, node_past, keys_same, keys_differ}
+use Rattle.cabinet_archived.specs.Documents.Order.{arranged}
+use Rattle.cabinet_archived.proofs.Documents.ByKey.{in_order, node_in_order, node_here, node_past, keys_same, keys_differ}
 use Rattle.cabinet_archived.proofs.Documents.Changing.{of_some, of_list}
 use Rattle.cabinet_text_nodes.proofs.Paths.{then_at, first_step}
 
@@ -115,18 +116,18 @@ map_other kind ps (key k) other = absurd other
 map_other kind ps (place i) other = refl
 map_other kind ps inside other = refl
 
--- of the nodes with a layout, an option, a list and an ordered map alone lead on, each by its own step
-pub other_step : {v w : Value} {t : Tree} {tag : ℕ} (s : Step) → v ≡ tagged_value tag w → tag < 7 → (tag ≡ 4 → IsNotInside s) → (tag ≡ 5 → IsNoPlace s) → (tag ≡ 6 → IsNoKey s) → Denotes v t → node_at t (s ∷ []) ≡ None
-other_step s e less apart beside keyless (denotes_truth f g) = ap (λ u. node_at u (s ∷ [])) g
-other_step s e less apart beside keyless (denotes_number f g) = ap (λ u. node_at u (s ∷ [])) g
-other_step s e less apart beside keyless (denotes_text f g) = ap (λ u. node_at u (s ∷ [])) g
-other_step s e less apart beside keyless (denotes_shared f g) = ap (λ u. node_at u (s ∷ [])) g
-other_step s e less apart beside keyless (denotes_nothing f g) = ap (λ u. node_at u (s ∷ [])) g
-other_step {tag = tag} s e less apart beside keyless (denotes_some {u = u} f g d) = let is : tag ≡ 4 = cc in ap (λ u. node_at u (s ∷ [])) g ∙ just_other u s (apart is)
-other_step {tag = tag} s e less apart beside keyless (denotes_list {ts = ts} f g d) = let is : tag ≡ 5 = cc in ap (λ u. node_at u (s ∷ [])) g ∙ list_other ts s (beside is)
-other_step {tag = tag} s e less apart beside keyless (denotes_ordered {ps = ps} f g d) = let is : tag ≡ 6 = cc in ap (λ u. node_at u (s ∷ [])) g ∙ map_other ordered ps s (keyless is)
-other_step {tag = tag} s e less apart beside keyless (denotes_hashed f g d) = let is : tag ≡ 7 = cc in absurd (omega (arith, less, is))
-other_step {tag = tag} s e less apart beside keyless (denotes_kept f g d) = let is : tag ≡ 8 = cc in absurd (omega (arith, less, is))
+-- an option, a list and a map alone lead on, each by its own step
+pub other_step : {v w : Value} {t : Tree} {tag : ℕ} (s : Step) → v ≡ tagged_value tag w → (tag ≡ 4 → IsNotInside s) → (tag ≡ 5 → IsNoPlace s) → (5 < tag → IsNoKey s) → Denotes v t → node_at t (s ∷ []) ≡ None
+other_step s e apart beside keyless (denotes_truth f g) = ap (λ u. node_at u (s ∷ [])) g
+other_step s e apart beside keyless (denotes_number f g) = ap (λ u. node_at u (s ∷ [])) g
+other_step s e apart beside keyless (denotes_text f g) = ap (λ u. node_at u (s ∷ [])) g
+other_step s e apart beside keyless (denotes_shared f g) = ap (λ u. node_at u (s ∷ [])) g
+other_step s e apart beside keyless (denotes_nothing f g) = ap (λ u. node_at u (s ∷ [])) g
+other_step {tag = tag} s e apart beside keyless (denotes_some {u = u} f g d) = let is : tag ≡ 4 = cc in ap (λ u. node_at u (s ∷ [])) g ∙ just_other u s (apart is)
+other_step {tag = tag} s e apart beside keyless (denotes_list {ts = ts} f g d) = let is : tag ≡ 5 = cc in ap (λ u. node_at u (s ∷ [])) g ∙ list_other ts s (beside is)
+other_step {tag = tag} s e apart beside keyless (denotes_ordered {ps = ps} f g d) = let is : tag ≡ 6 = cc in ap (λ u. node_at u (s ∷ [])) g ∙ map_other ordered ps s (keyless (omega (arith, is)))
+other_step {tag = tag} s e apart beside keyless (denotes_hashed {ps = ps} f g d) = let is : tag ≡ 7 = cc in ap (λ u. node_at u (s ∷ [])) g ∙ map_other hashed (arranged ps) s (keyless (omega (arith, is)))
+other_step {tag = tag} s e apart beside keyless (denotes_kept {ps = ps} f g d) = let is : tag ≡ 8 = cc in ap (λ u. node_at u (s ∷ [])) g ∙ map_other kept ps s (keyless (omega (arith, is)))
 
 -- and into none there is no step
 pub none_step : {v : Value} {t : Tree} (s : Step) → v ≡ tagged_value 4 (chosen 0 no_values) → Denotes v t → node_at t (s ∷ []) ≡ None
@@ -179,7 +180,7 @@ element_step i u e at d =
     let r = element_found i u l.denotes at in
     record { tree = r.tree; there = ap (λ t. node_at t (place i ∷ [])) l.is ∙ r.there; denotes = r.denotes }
 
--- ---- ordered maps
+-- ---- maps
 
 record PairFound (u : Value) (k : List ℕ) (ps : Pairs) : Type 0 where
   tree : Tree
@@ -207,33 +208,47 @@ pair_missing k (denote_pair {k = l} {v = v} {t = t} {ps = ps} e f d ds) none =
     let apart : l ≡ k → ⊥ = λ same. none zero v (ap (value_in zero) e ∙ ap (λ x. Some (pair_value x v)) same) in
     ap (λ ps. node_by ps k []) f ∙ node_past l t ps k [] (keys_differ l k apart) ∙ pair_missing k ds (λ i u x. none (suc i) u (ap (value_in (suc i)) e ∙ x))
 
--- an ordered map, by its payload
-pub record OrderedBy (w : Value) (t : Tree) : Type 0 where
+-- a map, by its payload: its pairs are those of the payload, in the order of its kind
+pub record MapBy (kind : MapKind) (w : Value) (t : Tree) : Type 0 where
   pub pairs : Pairs
-  pub is : t ≡ map ordered pairs
+  pub is : t ≡ map kind (in_order kind pairs)
   pub denotes : DenotePairs (members w) pairs
 
-pub ordered_by : {v w : Value} {t : Tree} → v ≡ tagged_value 6 w → Denotes v t → OrderedBy w t
-ordered_by e (denotes_truth f g) = absurd (cc)
-ordered_by e (denotes_number f g) = absurd (cc)
-ordered_by e (denotes_text f g) = absurd (cc)
-ordered_by e (denotes_shared f g) = absurd (cc)
-ordered_by e (denotes_nothing f g) = absurd (cc)
-ordered_by e (denotes_some f g d) = absurd (cc)
-ordered_by e (denotes_list f g d) = absurd (cc)
-ordered_by {w = w} e (denotes_ordered {vs = vs} {ps = ps} f g d) =
-    let same : w ≡ group vs = cc in
-    record { pairs = ps; is = g; denotes = subst (λ x. DenotePairs (members x) ps) (sym same) d }
-ordered_by e (denotes_hashed f g d) = absurd (cc)
-ordered_by e (denotes_kept f g d) = absurd (cc)
+-- the kind of a tag
+abbrev pub kind_of : ℕ → MapKind
+kind_of (suc (suc (suc (suc (suc (suc zero)))))) = ordered
+kind_of (suc (suc (suc (suc (suc (suc (suc zero))))))) = hashed
+kind_of tag = kept
 
-pub key_step : {v w : Value} {t : Tree} (k : List ℕ) (i : ℕ) (u : Value) → v ≡ tagged_value 6 w → value_in i (members w) ≡ Some (pair_value k u)
+pub map_by : {v w : Value} {t : Tree} {tag : ℕ} → v ≡ tagged_value tag w → 5 < tag → Denotes v t → MapBy (kind_of tag) w t
+map_by {v = v} {w = w} {t = t} {tag = tag} e high d = by refl d
+  where
+    some : (n : ℕ) (ps : Pairs) (vs : Values) → tag ≡ n → w ≡ group vs → t ≡ map (kind_of n) (in_order (kind_of n) ps) → DenotePairs vs ps → MapBy (kind_of tag) w t
+    some n ps vs is same g ds =
+        subst (λ x. MapBy (kind_of x) w t) (sym is)
+        (record { pairs = ps; is = g; denotes = subst (λ x. DenotePairs (members x) ps) (sym same) ds })
+
+    by : {u : Value} → v ≡ u → Denotes u t → MapBy (kind_of tag) w t
+    by q (denotes_truth f g) = let is : tag ≡ 0 = cc in absurd (omega (arith, high, is))
+    by q (denotes_number f g) = let is : tag ≡ 1 = cc in absurd (omega (arith, high, is))
+    by q (denotes_text f g) = let is : tag ≡ 2 = cc in absurd (omega (arith, high, is))
+    by q (denotes_shared f g) = let is : tag ≡ 3 = cc in absurd (omega (arith, high, is))
+    by q (denotes_nothing f g) = let is : tag ≡ 4 = cc in absurd (omega (arith, high, is))
+    by q (denotes_some f g ds) = let is : tag ≡ 4 = cc in absurd (omega (arith, high, is))
+    by q (denotes_list f g ds) = let is : tag ≡ 5 = cc in absurd (omega (arith, high, is))
+    by q (denotes_ordered {vs = vs} {ps = ps} f g ds) = let is : tag ≡ 6 = cc in let same : w ≡ group vs = cc in some 6 ps vs is same g ds
+    by q (denotes_hashed {vs = vs} {ps = ps} f g ds) = let is : tag ≡ 7 = cc in let same : w ≡ group vs = cc in some 7 ps vs is same g ds
+    by q (denotes_kept {vs = vs} {ps = ps} f g ds) = let is : tag ≡ 8 = cc in let same : w ≡ group vs = cc in some 8 ps vs is same g ds
+
+-- ---- a step by a key
+
+pub key_step : {v w : Value} {t : Tree} {tag : ℕ} (k : List ℕ) (i : ℕ) (u : Value) → v ≡ tagged_value tag w → 5 < tag → value_in i (members w) ≡ Some (pair_value k u)
     → ((j : ℕ) (other : Value) → j < i → value_in j (members w) ≡ Some (pair_value k other) → ⊥)
     → Denotes v t → StepFound u (key k) t
-key_step k i u e at first d =
-    let o = ordered_by e d in
+key_step {tag = tag} k i u e high at first d =
+    let o = map_by e high d in
     let r = pair_found k i u o.denotes at first in
-    record { tree = r.tree; there = ap (λ t. node_at t (key k ∷ [])) o.is ∙ r.there; denotes = r.denotes }
+    record { tree = r.tree; there = ap (λ t. node_at t (key k ∷ [])) o.is ∙ (node_in_order (kind_of tag) k [] o.pairs ∙ r.there); denotes = r.denotes }
 
-pub no_key_step : {v w : Value} {t : Tree} (k : List ℕ) → v ≡ tagged_value 6 w → ((i : ℕ) (u : Value) → value_in i (members w) ≡ Some (pair_value k u) → ⊥) → Denotes v t → node_at t (key k ∷ []) ≡ None
-no_key_step k e none d = let o = ordered_by e d in ap (λ t. node_at t (key k ∷ [])) o.is ∙ pair_missing k o.denotes none
+pub no_key_step : {v w : Value} {t : Tree} {tag : ℕ} (k : List ℕ) → v ≡ tagged_value tag w → 5 < tag → ((i : ℕ) (u : Value) → value_in i (members w) ≡ Some (pair_value k u) → ⊥) → Denotes v t → node_at t (key k ∷ []) ≡ None
+no_key_step {tag = tag} k e high none d = let o = map_by e high d in ap (λ t. node_at t (key k ∷ [])) o.is ∙ (node_in_order (kind_of tag) k [] o.pairs ∙ pair_missing k o.denotes none)

@@ -13,7 +13,8 @@ use Rattle.cabinet_archived.specs.Documents.Node.{node_shape, KnowsNode}
 use Rattle.cabinet_archived.specs.Documents.Denotes.{tagged_value}
 use Rattle.cabinet_archived.specs.Kind.{IsTagged, IsKindAt}
 use Rattle.cabinet_archived.specs.declared.kind.ArchivedKind.{ArchivedKind}
-use Rattle.cabinet_archived.proofs.Nodes.{tagged_at, is_ordered}
+use Rattle.cabinet_archived.proofs.Nodes.{tagged_at, is_hashed}
+use Rattle.cabinet_archives.specs.Hashed.{table_shape, knows_table}
 use Rattle.cabinet_archives.specs.Ordered.{map_shape, knows_map}
 
 module _ (bytes : List ℕ) (pos : ℕ) (there : HasValue node_shape KnowsNode bytes pos) where
@@ -32,9 +33,10 @@ module _ (bytes : List ℕ) (pos : ℕ) (there : HasValue node_shape KnowsNode b
       of_kind 4 (option (box (sized node_shape))) KnowsNode (pos + 4) e
       (tagged_at bytes pos there 4 (option (box (sized node_shape))) KnowsNode _ refl e refl (omega arith) (omega (arith, option_box_sized node_shape)) (λ names known. known))
   by_tag (suc (suc (suc (suc (suc zero))))) e = of_kind 5 (vector node_shape) KnowsNode (pos + 4) e (tagged_at bytes pos there 5 (vector node_shape) KnowsNode _ refl e refl (omega arith) (omega arith) (λ names known. known))
-  by_tag (suc (suc (suc (suc (suc (suc n)))))) e =
-      let six = is_ordered bytes pos there (λ f. omega arith, λ f. omega arith, λ f. omega arith, λ f. omega arith, λ f. omega arith, λ f. omega arith) in
-      of_kind 6 map_shape knows_map (pos + 4) six (tagged_at bytes pos there 6 map_shape knows_map _ refl six refl (omega arith) (omega arith) (λ names known. (tt, known)))
+  by_tag (suc (suc (suc (suc (suc (suc zero)))))) e = of_kind 6 map_shape knows_map (pos + 4) e (tagged_at bytes pos there 6 map_shape knows_map _ refl e refl (omega arith) (omega arith) (λ names known. (tt, known)))
+  by_tag (suc (suc (suc (suc (suc (suc (suc n))))))) e =
+      let seven = is_hashed bytes pos there (λ f. omega arith, λ f. omega arith, λ f. omega arith, λ f. omega arith, λ f. omega arith, λ f. omega arith, λ f. omega arith) in
+      of_kind 7 table_shape knows_table (pos + 4) seven (tagged_at bytes pos there 7 table_shape knows_table _ refl seven refl (omega arith) (omega arith) (λ names known. (tt, known)))
 
   -- of a node whose payload has a kind, it is the kind's
   pub tag_is : {tag : ℕ} {s : Shape} {knows : Names → Type 0} {to : ℕ} → IsTagged bytes pos tag s knows to → slice_index bytes pos ≡ tag

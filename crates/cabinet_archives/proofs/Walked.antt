@@ -1,5 +1,5 @@
 -- What a walk of a node finds, by the node's kind, and the faults that it has.
-use Rattle.std.proofs.Common.{◌≡◌, ◌∙◌, ℕ, ◌+◌, ◌≤◌, true, nat_lt, ◌==◌, List, [], ◌++◌, slice_index, MatchBool, refl, sym, ap, subst, arith, append-nil}
+use Rattle.std.proofs.Common.{◌≡◌, ◌∙◌, ℕ, zero, suc, ◌+◌, ◌<◌, ◌≤◌, true, nat_lt, ◌==◌, List, [], ◌++◌, slice_index, MatchBool, refl, sym, ap, subst, arith, append-nil}
 use Rattle.std.specs.List.{flat_map}
 use Rattle.archive_shape.specs.ShapeLayout.Bytes.{window, word_at}
 use Rattle.archive_shape.specs.ShapeLayout.Shape.{Shape}
@@ -12,7 +12,7 @@ use Rattle.archive_forms_values.specs.Parts.{HasValue, PointsTo, IsNoneAt, IsSom
 use Rattle.archive_forms_values.proofs.ShapeLayout.Windows.{word_within}
 use Rattle.archive_forms_values.proofs.Payloads.{has_some, option_by_tag, some_is_not_none}
 use Rattle.archive_forms_values.proofs.Pointed.{vec_there}
-use Rattle.archive_btree_walking.specs.BtreeLayout.Reading.{Place}
+use Rattle.archive_btree_walking.specs.BtreeLayout.Reading as reading
 use Rattle.archive_btree_walking.specs.BtreeLayout.Tree.{Tree, items}
 use Rattle.archive_btree_walking.specs.Maps.{IsMapAt}
 use Rattle.archive_btree_walking.specs.Maps.IsMapAt.{has_none, has_root}
@@ -21,12 +21,19 @@ use Rattle.cabinet_archived.specs.Documents.Order.{ascend}
 use Rattle.cabinet_archived.specs.Documents.Table.{item_keys}
 use Rattle.cabinet_archived.specs.Documents.Walk.{Stop, Walks, WalkAll}
 use Rattle.cabinet_archived.specs.Documents.Audit.{too_deep, keys_not_ascending, unless, faults}
-use Rattle.cabinet_archived.proofs.Documents.Places.{node_here, option_here, list_here, ordered_here, part_of}
-use Rattle.cabinet_archived.proofs.Documents.NodeWalks.{OptionWalk, walks_none, walks_some, NodeWalk, leaf_walks, option_walks, list_walks, ordered_walks, option_walk, list_walk, node_walk}
+use Rattle.cabinet_archived.proofs.Documents.Places.{Place, node_here, option_here, list_here, ordered_here, table_here, part_of}
+use Rattle.cabinet_archived.proofs.Documents.NodeWalks.{OptionWalk, walks_none, walks_some, NodeWalk, leaf_walks, option_walks, list_walks, ordered_walks, hashed_walks, option_walk, list_walk, node_walk}
 use Rattle.cabinet_archived.proofs.Documents.TreeWalks.{no_items, MapWalked, map_walked, empty_map_walked, text_quiet}
 
 abbrev pub Boxed : Shape
 Boxed = box (sized node_shape)
+
+-- the payload of a container, by its tag
+abbrev pub payload_place : ℕ → Place
+payload_place (suc (suc (suc (suc zero)))) = option_here
+payload_place (suc (suc (suc (suc (suc zero))))) = list_here
+payload_place (suc (suc (suc (suc (suc (suc zero)))))) = ordered_here
+payload_place tag = table_here
 
 module _ (bytes : List ℕ) where
   -- ---- nodes
@@ -47,33 +54,21 @@ module _ (bytes : List ℕ) where
         by (option_walks e is run f) = absurd (omega (arith, low, e))
         by (list_walks e is run f) = absurd (omega (arith, low, e))
         by (ordered_walks e is run f) = absurd (omega (arith, low, e))
+        by (hashed_walks e is run f) = absurd (omega (arith, low, e))
 
-    pub option_in : slice_index bytes pos ≡ 4 → Inner depth (part_of option_here (pos + 4)) walk
-    option_in tag_is = by (node_walk bytes pos h)
+    -- the walk of a container's node has the faults of its payload's
+    pub payload_in : (tag : ℕ) → slice_index bytes pos ≡ tag → 3 < tag → Inner depth (part_of (payload_place tag) (pos + 4)) walk
+    payload_in tag tag_is high = by (node_walk bytes pos h)
       where
-        by : NodeWalk bytes depth pos v walk → Inner depth (part_of option_here (pos + 4)) walk
-        by (leaf_walks tag e less is none) = absurd (omega (arith, tag_is, e, less))
-        by (option_walks {w = w} {run = run} e is walked f) = record { value = w; run = run; walked = walked; faults_are = f }
-        by (list_walks e is run f) = absurd (omega (arith, tag_is, e))
-        by (ordered_walks e is run f) = absurd (omega (arith, tag_is, e))
+        of : (other : ℕ) → slice_index bytes pos ≡ other → Inner depth (part_of (payload_place other) (pos + 4)) walk → Inner depth (part_of (payload_place tag) (pos + 4)) walk
+        of other e i = subst (λ n. Inner depth (part_of (payload_place n) (pos + 4)) walk) (sym e ∙ tag_is) i
 
-    pub list_in : slice_index bytes pos ≡ 5 → Inner depth (part_of list_here (pos + 4)) walk
-    list_in tag_is = by (node_walk bytes pos h)
-      where
-        by : NodeWalk bytes depth pos v walk → Inner depth (part_of list_here (pos + 4)) walk
-        by (leaf_walks tag e less is none) = absurd (omega (arith, tag_is, e, less))
-        by (option_walks e is run f) = absurd (omega (arith, tag_is, e))
-        by (list_walks {w = w} {run = run} e is walked f) = record { value = w; run = run; walked = walked; faults_are = f }
-        by (ordered_walks e is run f) = absurd (omega (arith, tag_is, e))
-
-    pub ordered_in : slice_index bytes pos ≡ 6 → Inner depth (part_of ordered_here (pos + 4)) walk
-    ordered_in tag_is = by (node_walk bytes pos h)
-      where
-        by : NodeWalk bytes depth pos v walk → Inner depth (part_of ordered_here (pos + 4)) walk
-        by (leaf_walks tag e less is none) = absurd (omega (arith, tag_is, e, less))
-        by (option_walks e is run f) = absurd (omega (arith, tag_is, e))
-        by (list_walks e is run f) = absurd (omega (arith, tag_is, e))
-        by (ordered_walks {w = w} {run = run} e is walked f) = record { value = w; run = run; walked = walked; faults_are = f }
+        by : NodeWalk bytes depth pos v walk → Inner depth (part_of (payload_place tag) (pos + 4)) walk
+        by (leaf_walks other e less is none) = absurd (omega (arith, high, tag_is, e, less))
+        by (option_walks {w = w} {run = run} e is walked f) = of 4 e (record { value = w; run = run; walked = walked; faults_are = f })
+        by (list_walks {w = w} {run = run} e is walked f) = of 5 e (record { value = w; run = run; walked = walked; faults_are = f })
+        by (ordered_walks {w = w} {run = run} e is walked f) = of 6 e (record { value = w; run = run; walked = walked; faults_are = f })
+        by (hashed_walks {w = w} {run = run} e is walked f) = of 7 e (record { value = w; run = run; walked = walked; faults_are = f })
 
   -- ---- options
 
@@ -147,7 +142,7 @@ module _ (bytes : List ℕ) where
 
   -- ---- ordered maps
 
-  pub map_in : {depth pos : ℕ} {t : Tree Place} {w : Value} {walk : List Stop}
+  pub map_in : {depth pos : ℕ} {t : Tree reading.Place} {w : Value} {walk : List Stop}
       → IsMapAt bytes 5 text node_shape pos t → Walks node_names bytes depth (part_of ordered_here pos) w walk → MapWalked node_names bytes text node_shape depth t w walk
   map_in {depth = depth} {t = t} {w = w} {walk = walk} (has_none word is) h =
       let m = empty_map_walked node_names bytes 5 text node_shape depth word h in

@@ -7,6 +7,7 @@ use Rattle.archive_shape.specs.ShapeLayout.Bytes.{align_up}
 use Rattle.archive_shape.specs.ShapeLayout.Shape.{Shape, size_of}
 use Rattle.archive_shape.specs.ShapeLayout.Shape.Shape.{option, box, vector}
 use Rattle.archive_shape.specs.ShapeLayout.Shape.Pointee.{sized}
+use Rattle.archive_shape.specs.ShapeLayout.Value.{Value}
 use Rattle.archive_shape.specs.ShapeLayout.Content.{Names}
 use Rattle.archive_shape.specs.ShapeLayout.Content.Part.{at}
 use Rattle.archive_shape.specs.Key.{HeldAt}
@@ -16,12 +17,12 @@ use Rattle.cabinet_archived.specs.Documents.Node.{node_shape, KnowsNode}
 use Rattle.cabinet_archived.specs.Documents.Denotes.{tagged_value}
 use Rattle.cabinet_archived.specs.Kind.{IsTagged}
 use Rattle.cabinet_text_nodes.proofs.Paths.{then_at}
-use Rattle.cabinet_archives.specs.Ordered.{map_shape, knows_map, OfMap, HasEntry, KeyLeads, KeyLeadsNowhere}
+use Rattle.cabinet_archives.specs.Keyed.{KeyLeads, KeyLeadsNowhere}
 use Rattle.cabinet_archives.specs.Sound.{HasSoundWalk, IsSoundPart}
 use Rattle.std.proofs.Math.Logic.{∥∥₁_map}
-use Rattle.cabinet_archives.specs.Way.{StepsTo, steps_inside, steps_place, steps_key, GoesTo, goes_nowhere, goes_on}
+use Rattle.cabinet_archives.specs.Way.{StepsTo, steps_inside, steps_place, GoesTo, goes_nowhere, goes_on}
 use Rattle.cabinet_archives.specs.Found.{Reaches, ReachesNone}
-use Rattle.cabinet_archives.proofs.Soundness.{option_sound, list_sound, some_sound, element_sound}
+use Rattle.cabinet_archives.proofs.Soundness.{payload_sound, some_sound, element_sound}
 use Rattle.cabinet_archives.proofs.Stepping.{goes_on_at, IsNotInside, IsNoPlace, IsNoKey, other_step, none_step, some_step, past_step, element_step, key_step, no_key_step}
 
 -- the condition on an option, changed on either side
@@ -79,8 +80,8 @@ behind_box_tag pos = refl
 
 module _ (bytes : List ℕ) (pos : ℕ) where
   -- by a step that is not the kind's own
-  pub other_none : (s : Step) (tag : ℕ) (shape : Shape) (knows : Names → Type 0) (to : ℕ) → tag < 7 → (tag ≡ 4 → IsNotInside s) → (tag ≡ 5 → IsNoPlace s) → (tag ≡ 6 → IsNoKey s) → IsTagged bytes pos tag shape knows to → ReachesNone bytes pos (s ∷ [])
-  other_none s tag shape knows to less apart beside keyless tagged = λ v t h d. let p = tagged.payload v h in other_step s p.is less apart beside keyless d
+  pub other_none : (s : Step) (tag : ℕ) (shape : Shape) (knows : Names → Type 0) (to : ℕ) → (tag ≡ 4 → IsNotInside s) → (tag ≡ 5 → IsNoPlace s) → (5 < tag → IsNoKey s) → IsTagged bytes pos tag shape knows to → ReachesNone bytes pos (s ∷ [])
+  other_none s tag shape knows to apart beside keyless tagged = λ v t h d. let p = tagged.payload v h in other_step s p.is apart beside keyless d
 
   module _ (to : ℕ) (tagged : IsTagged bytes pos 4 (option Boxed) KnowsNode to) where
     pub empty_none : (s : Step) → IsNoneAt Boxed KnowsNode bytes to → ReachesNone bytes pos (s ∷ [])
@@ -103,7 +104,7 @@ module _ (bytes : List ℕ) (pos : ℕ) where
           there = record { value = there.value; held = boxed.value there.value there.held };
           sound =
               ∥∥₁_map sound (λ walk.
-              some_sound bytes tagged.there (subst (λ n. HasSoundWalk bytes (at n (option Boxed))) (sym behind) (option_sound bytes node walk tagged)) some
+              some_sound bytes tagged.there (subst (λ n. HasSoundWalk bytes (at n (option Boxed))) (sym behind) (payload_sound bytes node walk (omega arith) tagged)) some
               (subst (λ n. PointsTo bytes n next) (e ∙ behind_box_tag to) boxed.points));
           way = one_step (steps_inside is (subst (λ n. PointsTo bytes n next) place_is boxed.points));
           stands = λ v t h d.
@@ -133,7 +134,7 @@ module _ (bytes : List ℕ) (pos : ℕ) where
           there = record { value = one.0; held = subst (λ n. HeldAt node_shape KnowsNode bytes n one.0) (sym e) one.2 };
           sound =
               subst (λ n. IsSoundPart bytes (at n node_shape)) (sym e)
-              (∥∥₁_map sound (λ walk. element_sound bytes i tagged.there (subst (λ n. HasSoundWalk bytes (at n (vector node_shape))) (sym behind) (list_sound bytes node walk tagged)) elements less));
+              (∥∥₁_map sound (λ walk. element_sound bytes i tagged.there (subst (λ n. HasSoundWalk bytes (at n (vector node_shape))) (sym behind) (payload_sound bytes node walk (omega arith) tagged)) elements less));
           way = one_step (steps_place is (subst (λ n. PointsTo bytes n first) behind elements.points) e);
           stands = λ v t h d.
               let p = tagged.payload v h in
@@ -147,26 +148,26 @@ module _ (bytes : List ℕ) (pos : ℕ) where
               };
         }
 
-  module _ (to : ℕ) (tagged : IsTagged bytes pos 6 map_shape knows_map to) where
+  module _ (to : ℕ) {tag : ℕ} {shape : Shape} {knows : Names → Type 0} (tagged : IsTagged bytes pos tag shape knows to) (high : 5 < tag) where
     -- by a key that the map has not
-    pub key_none : (s : Step) (k : List ℕ) → s ≡ key k → OfMap bytes to (λ v. KeyLeadsNowhere v k) → ReachesNone bytes pos (s ∷ [])
+    pub key_none : (s : Step) (k : List ℕ) → s ≡ key k → ((v : Value) → HeldAt shape knows bytes to v → KeyLeadsNowhere v k) → ReachesNone bytes pos (s ∷ [])
     key_none s k is nowhere = λ v t h d.
         let p = tagged.payload v h in
-        ap (λ x. node_at t (x ∷ [])) is ∙ no_key_step k p.is (nowhere p.payload p.held) d
+        ap (λ x. node_at t (x ∷ [])) is ∙ no_key_step k p.is high (nowhere p.payload p.held) d
 
     -- to the node of a key
-    pub entry_reached : (s : Step) (k : List ℕ) (next : ℕ) → s ≡ key k → to ≡ pos + 4 → OfMap bytes to (λ v. KeyLeads bytes v k next) → HasEntry bytes to k next → IsSoundPart bytes (at next node_shape)
+    pub key_reached : (s : Step) (k : List ℕ) (next : ℕ) → s ≡ key k → ((v : Value) → HeldAt shape knows bytes to v → KeyLeads bytes v k next) → StepsTo bytes pos s next → IsSoundPart bytes (at next node_shape)
         → Reaches bytes pos (s ∷ []) next
-    entry_reached s k next is behind leads entry sound =
+    key_reached s k next is leads steps sound =
         let one = leads tagged.there.value tagged.there.held in
         record {
           there = record { value = one.node; held = one.held };
           sound = sound;
-          way = one_step (steps_key is (subst (λ n. HasEntry bytes n k next) behind entry));
+          way = one_step steps;
           stands = λ v t h d.
               let p = tagged.payload v h in
               let x = leads p.payload p.held in
-              let f = key_step k x.index x.node p.is x.item x.first d in
+              let f = key_step k x.index x.node p.is high x.item x.first d in
               record {
                 tree = f.tree;
                 there = ap (λ y. node_at t (y ∷ [])) is ∙ f.there;
@@ -175,13 +176,18 @@ module _ (bytes : List ℕ) (pos : ℕ) where
         }
 
 -- a step to a key, by what the look-up of the key finds
-pub by_key : (bytes : Bor (List ℕ)) (pos to : ℕ) → IsTagged bytes.now pos 6 map_shape knows_map to → (s : Step) (k : List ℕ) → s ≡ key k → to ≡ pos + 4
+pub by_key : (bytes : Bor (List ℕ)) (pos to : ℕ) {tag : ℕ} {shape : Shape} {knows : Names → Type 0} → IsTagged bytes.now pos tag shape knows to → 5 < tag → (s : Step) (k : List ℕ) → s ≡ key k
     → (result : Option (Ref ArchivedNode))
-    → OfMap bytes.now to (λ v. MatchOption result (KeyLeadsNowhere v k) (λ node. (node.bytes ≡ bytes) × KeyLeads bytes.now v k node.pos))
-    → IfSome result (λ node. HasEntry bytes.now to k node.pos)
+    → ((v : Value) → HeldAt shape knows bytes.now to v → MatchOption result (KeyLeadsNowhere v k) (λ node. (node.bytes ≡ bytes) × KeyLeads bytes.now v k node.pos))
+    → IfSome result (λ node. StepsTo bytes.now pos s node.pos)
     → IfSome result (λ node. IsSoundPart bytes.now (at node.pos node_shape))
     → MatchOption result (ReachesNone bytes.now pos (s ∷ [])) (λ node. (node.bytes ≡ bytes) × Reaches bytes.now pos (s ∷ []) node.pos)
-by_key bytes pos to tagged s k is behind None leads entry sound = key_none bytes.now pos to tagged s k is leads
-by_key bytes pos to tagged s k is behind (Some node) leads entry sound =
+by_key bytes pos to tagged high s k is None leads steps sound = key_none bytes.now pos to tagged high s k is leads
+by_key bytes pos to tagged high s k is (Some node) leads steps sound =
     let one = leads tagged.there.value tagged.there.held in
-    (one.0, entry_reached bytes.now pos to tagged s k node.pos is behind (λ v h. (leads v h).1) entry sound)
+    (one.0, key_reached bytes.now pos to tagged high s k node.pos is (λ v h. (leads v h).1) steps sound)
+
+-- what holds of what is found
+pub found_as : {A : Type 0} (P Q : A → Type 0) (result : Option A) → ((x : A) → P x → Q x) → IfSome result P → IfSome result Q
+found_as P Q None f h = tt
+found_as P Q (Some x) f h = f x h

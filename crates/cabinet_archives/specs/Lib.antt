@@ -1,5 +1,7 @@
 pub mod Failing
 pub mod Found
+pub mod Hashed
+pub mod Keyed
 pub mod Ordered
 pub mod Putting
 pub mod Refused

@@ -1,18 +1,16 @@
--- The ordered map of nodes, and what a key leads to in it.
+-- The ordered map of nodes, and the entry of a key in it.
 use Rattle.std.specs.Prelude.{◌≡◌, ℕ, ◌<◌, List, Some, ⊤}
 use Rattle.std.specs.List.{slice_get}
 use Rattle.archive_shape.specs.ShapeLayout.Shape.{Shape}
 use Rattle.archive_shape.specs.ShapeLayout.Shape.Shape.{text, tree}
 use Rattle.archive_shape.specs.ShapeLayout.Value.{Value}
-use Rattle.archive_shape.specs.ShapeLayout.Content.{Names, members}
-use Rattle.archive_forms_values.specs.ShapeLayout.Path.{value_in}
+use Rattle.archive_shape.specs.ShapeLayout.Content.{Names}
 use Rattle.archive_shape.specs.Key.{HeldAt}
 use Rattle.archive_forms_values.specs.FormsLaws.Text.{IsText}
 use Rattle.archive_forms_values.specs.Parts.{both}
 use Rattle.archive_btree_walking.specs.BtreeLayout.Reading.{Place}
 use Rattle.archive_btree_walking.specs.BtreeLayout.Tree.{Tree, items}
 use Rattle.archive_btree_walking.specs.Maps.{IsMapAt}
-use Rattle.cabinet_archived.specs.Documents.Denotes.{pair_value}
 use Rattle.cabinet_archived.specs.Documents.Node.{node_shape, KnowsNode}
 
 abbrev pub map_shape : Shape
@@ -25,14 +23,6 @@ knows_map = both (λ _. ⊤) KnowsNode
 abbrev pub OfMap : List ℕ → ℕ → (Value → Type 0) → Type 0
 OfMap bytes pos is = (v : Value) → HeldAt map_shape knows_map bytes pos v → is v
 
--- the node of the first item of the map with this key is at `to`
-pub record KeyLeads (bytes : List ℕ) (map : Value) (key : List ℕ) (to : ℕ) : Type 0 where
-  pub index : ℕ
-  pub node : Value
-  pub item : value_in index (members map) ≡ Some (pair_value key node)
-  pub first : (i : ℕ) (other : Value) → i < index → value_in i (members map) ≡ Some (pair_value key other) → ⊥
-  pub held : HeldAt node_shape KnowsNode bytes to node
-
 -- the node of the first entry with this key in the search tree of the map at `pos` is at `to`
 pub record HasEntry (bytes : List ℕ) (pos : ℕ) (key : List ℕ) (to : ℕ) : Type 0 where
   pub search_tree : Tree Place
@@ -43,7 +33,3 @@ pub record HasEntry (bytes : List ℕ) (pos : ℕ) (key : List ℕ) (to : ℕ) :
   pub is_key : IsText bytes entry.key key
   pub first : (i : ℕ) (other : Place) → i < index → slice_get (items search_tree) i ≡ Some other → IsText bytes other.key key → ⊥
   pub node : to ≡ entry.value
-
--- no item of the map has this key
-abbrev pub KeyLeadsNowhere : Value → List ℕ → Type 0
-KeyLeadsNowhere map key = (i : ℕ) (node : Value) → value_in i (members map) ≡ Some (pair_value key node) → ⊥

@@ -4,12 +4,14 @@ use Rattle.archive_shape_writing.specs.declared.error.Error.{Error}
 use Rattle.archive_shape_writing.specs.declared.error.Error.TheVariants as error
 use Rattle.cabinet_archived.specs.Documents.Audit as audit
 use Rattle.cabinet_archives.specs.declared.opening.refusal.OpenRefusal.{OpenRefusal}
-use Rattle.cabinet_archives.specs.declared.opening.refusal.OpenRefusal.TheVariants.{Access, TooDeep, KeysNotAscending, OutOfMemory}
+use Rattle.cabinet_archives.specs.declared.opening.refusal.OpenRefusal.TheVariants.{Access, TooDeep, KeysNotAscending, WrongTag, NotFound, OutOfMemory}
 
 abbrev pub refusal_of : OpenRefusal → audit.Refusal
 refusal_of (Access e) = audit.access e
 refusal_of TooDeep = audit.unsound audit.too_deep
 refusal_of KeysNotAscending = audit.unsound audit.keys_not_ascending
+refusal_of WrongTag = audit.unsound audit.wrong_tag
+refusal_of NotFound = audit.unsound audit.not_found
 refusal_of OutOfMemory = audit.out_of_memory
 
 -- an access fails because an allocation failed, or otherwise because of the bytes

@@ -9,15 +9,17 @@ use Rattle.archive_forms_values.specs.ShapeCanonical.Limits.{PastLimits}
 use Rattle.cabinet_text_nodes.specs.TextGrammar.Tree.{Tree}
 use Rattle.cabinet_archived.specs.Documents.Node.{node_shape, node_names}
 use Rattle.cabinet_archived.specs.Documents.Denotes.{Denotes}
+use Rattle.cabinet_archived.specs.Documents.Fitted.{IsFitted}
 use Rattle.cabinet_archived.specs.Documents.Image.{Image}
 use Rattle.cabinet_archived.specs.Documents.HasLayout.{HasLayout}
 use Rattle.cabinet_archived.specs.Documents.SpellingLaws.{ArchiveRefused}
 use Rattle.cabinet_archives.specs.declared.saving.saving.SaveRefusal.{SaveRefusal}
 use Rattle.cabinet_archives.specs.declared.saving.saving.SaveRefusal.TheVariants.{Kind, Limit, Writer, OutOfMemory}
 
--- what a document's value stores exceeds a limit, which the error `e` reports
+-- what a document's value stores exceeds a limit, which the error `e` reports, where the pairs of each hashed map are in
+-- the order that first fit gives them
 abbrev pub IsPast : Tree → Error → Type 0
-IsPast t e = (v : Value) × Denotes v t × PastLimits (first_fit text_hash) node_names node_shape v e
+IsPast t e = (v : Value) × Denotes v t × IsFitted v × PastLimits (first_fit text_hash) node_names node_shape v e
 
 -- why no archive is made of a document that has a layout
 abbrev pub IsUnmadeFor : Tree → SaveRefusal → Type 0

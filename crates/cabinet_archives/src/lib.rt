@@ -8,6 +8,6 @@ mod saving;
 mod setting;
 
 pub use asking::{ask, find, head};
-pub use opening::{OpenRefusal, check};
+pub use opening::{OpenRefusal, check, check_scanned};
 pub use saving::{SaveRefusal, save, to_bytes};
 pub use setting::set;

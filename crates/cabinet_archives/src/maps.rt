@@ -1,5 +1,7 @@
 //! The maps of archived documents.
 
+mod hashed;
 mod ordered;
 
-pub(crate) use ordered::{OrderedMap, get, keys_ascend};
+pub(crate) use hashed::{HashedMap, get as get_hashed, hashed_sound};
+pub(crate) use ordered::{OrderedMap, get as get_ordered, keys_ascend};

@@ -4,5 +4,5 @@ mod audit;
 mod opening;
 mod refusal;
 
-pub use opening::check;
+pub use opening::{check, check_scanned};
 pub use refusal::OpenRefusal;

@@ -84,6 +84,16 @@ fn faults_are_written_as_lines(rt: HostRuntime) {
             1,
         ),
         (
+            Fault::Open(OpenRefusal::WrongTag),
+            b"cab: open: WrongTag\n".as_slice(),
+            1,
+        ),
+        (
+            Fault::Open(OpenRefusal::NotFound),
+            b"cab: open: NotFound\n".as_slice(),
+            1,
+        ),
+        (
             Fault::Run(run),
             b"cab: run: Write after 3 lines\n".as_slice(),
             1,
@@ -110,6 +120,16 @@ fn refusals_to_open_and_save_are_printed(rt: HostRuntime) {
         &rt,
         &OpenRefusal::KeysNotAscending,
         "the keys of an ordered map do not ascend",
+    );
+    is_printed_as(
+        &rt,
+        &OpenRefusal::WrongTag,
+        "a control of a hashed map is not the tag of its key",
+    );
+    is_printed_as(
+        &rt,
+        &OpenRefusal::NotFound,
+        "a key of a hashed map is not found at its place",
     );
     is_printed_as(&rt, &OpenRefusal::OutOfMemory, "out of memory");
     is_printed_as(&rt, &SaveRefusal::Kind, "a kind of node has no layout yet");

@@ -6,4 +6,5 @@ mod made;
 mod order;
 mod shared;
 mod spoilt;
+mod tables;
 mod trees;

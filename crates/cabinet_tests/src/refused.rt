@@ -30,7 +30,7 @@ fn lists_that_are_no_archive_are_refused(rt: HostRuntime) {
     unaligned[52] = 0xce;
     unaligned[56] = 1;
     let mut without_a_layout = TWO;
-    without_a_layout[0] = 7;
+    without_a_layout[0] = 8;
     let cases: [([u8; 72], Error); 3] = [
         (ahead, Error::InvalidSubtreePointer { size: 48 }),
         (unaligned, Error::Unaligned { align: 8 }),
@@ -79,7 +79,7 @@ fn shared_texts_that_disagree_or_reach_into_nodes_are_refused(rt: HostRuntime) {
 fn leaves_that_are_no_archive_are_refused(rt: HostRuntime) {
     let five = *b"\x01\0\0\0\0\0\0\0\x05\0\0\0\0\0\0\0\0\0\0\0\0\0\0\0";
     let mut without_a_layout = five;
-    without_a_layout[0] = 7;
+    without_a_layout[0] = 8;
     let mut out_of_line = five;
     out_of_line[0] = 2;
     out_of_line[4] = 0x81;
@@ -100,11 +100,11 @@ fn leaves_that_are_no_archive_are_refused(rt: HostRuntime) {
 
 #[test]
 fn bytes_that_are_no_archive_stay(rt: HostRuntime) {
-    let mut bytes = [7; 24];
+    let mut bytes = [8; 24];
     let refusal = Err(OpenRefusal::Access(Error::InvalidTag));
     assert!(rt; check(rt.alloc(), &bytes) == refusal);
     assert!(rt; open(rt.alloc(), &mut bytes).is_err());
-    assert!(rt; bytes == [7; 24]);
+    assert!(rt; bytes == [8; 24]);
 }
 
 /// Returns the text of the number 1 in `count` options.

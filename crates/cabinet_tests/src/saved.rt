@@ -131,7 +131,7 @@ fn shared_texts_are_read_and_not_edited(rt: HostRuntime) -> Result<(), Fail> {
 
 #[test]
 fn a_kind_without_a_layout_is_told_of(rt: HostRuntime) -> Result<(), Fail> {
-    let document = read_text(rt.alloc(), b"list 1\nhashed 0\n").map_err(|_| "no document")?;
+    let document = read_text(rt.alloc(), b"list 1\nkept 0\n").map_err(|_| "no document")?;
     let mut source = SliceSource::new(b"get\n", usize::MAX, 16384);
     let mut writer = FailingWriter::new(rt.alloc(), usize::MAX);
     let worked = work(rt.alloc(), &document, &mut source, &mut writer);

@@ -18,6 +18,7 @@ ghost use Rattle.cabinet.specs.Progress.{IsAt, StopsAt, Takes, KeepsEdits};
 use super::begun::{Begun, LONGEST_INPUT, LONGEST_LINE};
 use super::{Count, RunCause};
 use crate::opened::Opened;
+use archive_hash_probing::Scan;
 use archive_shape_writing::{Error, Writer};
 use cabinet_text_nodes::{Line, LineRefusal, SetAnswer};
 use cabinet_text_reading::read_line;
@@ -47,8 +48,8 @@ fn edits_in(outcome: SetAnswer) -> u64
 }
 
 /// Writes the answer to a question.
-fn answer_question<W: Writer>(
-    opened: &Opened<'_>,
+fn answer_question<G: Scan, W: Writer>(
+    opened: &Opened<'_, G>,
     question: &Line,
     writer: &mut W,
 ) -> Result<(), Error>
@@ -68,8 +69,8 @@ fn answer_question<W: Writer>(
 }
 
 /// Carries out what a line says, and writes the answer.
-fn carry_out<W: Writer>(
-    opened: &mut Opened<'_>,
+fn carry_out<G: Scan, W: Writer>(
+    opened: &mut Opened<'_, G>,
     said: &Option<Line>,
     edits: &mut u64,
     writer: &mut W,
@@ -98,9 +99,9 @@ fn carry_out<W: Writer>(
 }
 
 /// Reads a line, carries it out and writes the answer.
-fn answer_line<W: Writer>(
+fn answer_line<G: Scan, W: Writer>(
     alloc: Global,
-    opened: &mut Opened<'_>,
+    opened: &mut Opened<'_, G>,
     line: &[u8],
     count: &mut Count,
     writer: &mut W,
@@ -135,9 +136,9 @@ fn answer_line<W: Writer>(
 }
 
 /// Takes the rest of a line, which a newline follows, and carries out the line.
-fn end_line<W: Writer>(
+fn end_line<G: Scan, W: Writer>(
     alloc: Global,
-    opened: &mut Opened<'_>,
+    opened: &mut Opened<'_, G>,
     begun: &mut Begun,
     rest: &[u8],
     writer: &mut W,
@@ -185,9 +186,9 @@ fn newline_in(bytes: &[u8]) -> Option<usize>
 }
 
 /// Takes all of a piece of the input.
-fn feed<W: Writer>(
+fn feed<G: Scan, W: Writer>(
     alloc: Global,
-    opened: &mut Opened<'_>,
+    opened: &mut Opened<'_, G>,
     begun: &mut Begun,
     piece: &[u8],
     writer: &mut W,
@@ -217,9 +218,9 @@ fn feed<W: Writer>(
 
 /// Takes a piece of the input, up to the limit of an input. If the piece exceeds the limit, returns `InputTooLong`, or
 /// `LineTooLong` if its first byte past the limit exceeds the limit of a line too.
-pub(super) fn take_piece<W: Writer>(
+pub(super) fn take_piece<G: Scan, W: Writer>(
     alloc: Global,
-    opened: &mut Opened<'_>,
+    opened: &mut Opened<'_, G>,
     begun: &mut Begun,
     piece: &[u8],
     writer: &mut W,
@@ -252,9 +253,9 @@ pub(super) fn take_piece<W: Writer>(
 }
 
 /// Carries out the last line, if it has no newline.
-pub(super) fn end_input<W: Writer>(
+pub(super) fn end_input<G: Scan, W: Writer>(
     alloc: Global,
-    opened: &mut Opened<'_>,
+    opened: &mut Opened<'_, G>,
     begun: &mut Begun,
     writer: &mut W,
 ) -> Result<(), RunCause>

@@ -16,6 +16,7 @@ ghost use Rattle.cabinet_archives.specs.Sound.{IsSoundPart};
 use crate::asking::heads::head;
 use crate::asking::keys::{write_keys, write_keys_within};
 use crate::asking::walk::find;
+use archive_hash_probing::Scan;
 use archive_shape::Ref;
 use archive_shape_writing::{Error, Writer};
 use cabinet_archived::{ArchivedKind, ArchivedNode};
@@ -84,8 +85,8 @@ fn answer_range<W: Writer>(
 }
 
 /// Writes the line that answers a question. Reads only the nodes on the line's path and those that hold the keys that it
-/// asks for, and does not allocate.
-pub fn ask<W: Writer>(
+/// asks for, and does not allocate. The caller chooses the scan `G`, by which keys of hashed maps are looked up.
+pub fn ask<G: Scan, W: Writer>(
     root: Ref<'_, ArchivedNode>,
     line: &Line,
     writer: &mut W,
@@ -105,7 +106,7 @@ pub fn ask<W: Writer>(
         Line::Get(path) | Line::Keys(path) => path,
         Line::Range { path, .. } | Line::Set { path, .. } => path,
     };
-    let Some(node) = find(root, path) else {
+    let Some(node) = find::<G>(root, path) else {
         return answer_missing(writer);
     };
     match line {

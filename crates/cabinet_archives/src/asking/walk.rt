@@ -7,14 +7,15 @@ ghost use Rattle.cabinet_text_nodes.specs.View.{step_of, path_of};
 ghost use Rattle.cabinet_archives.specs.Found.{Reaches, ReachesNone};
 ghost use Rattle.cabinet_archives.specs.Sound.{IsSoundPart};
 
-use crate::maps::get;
+use crate::maps::{get_hashed, get_ordered};
 use archive_forms_values::{ArchivedBox, ArchivedOption, ArchivedVec};
+use archive_hash_probing::Scan;
 use archive_shape::Ref;
 use cabinet_archived::{ArchivedKind, ArchivedNode};
 use cabinet_text_nodes::Step;
 
 /// Returns the node that a step leads to from `node`, if there is one.
-fn step_down<'a>(node: Ref<'a, ArchivedNode>, step: &Step) -> Option<Ref<'a, ArchivedNode>>
+fn step_down<'a, G: Scan>(node: Ref<'a, ArchivedNode>, step: &Step) -> Option<Ref<'a, ArchivedNode>>
     requires there { HasValue node_shape KnowsNode node.bytes.now node.pos }
     requires sound { IsSoundPart node.bytes.now (at node.pos node_shape) }
     ensures { MatchOption result
@@ -27,13 +28,18 @@ fn step_down<'a>(node: Ref<'a, ArchivedNode>, step: &Step) -> Option<Ref<'a, Arc
             Some(ArchivedBox::get(content))
         }
         (ArchivedKind::List(list), Step::Place(place)) => ArchivedVec::get(list, *place as usize),
-        (ArchivedKind::Ordered(map), Step::Key(key)) => get(map, key.as_str()),
+        (ArchivedKind::Ordered(map), Step::Key(key)) => get_ordered(map, key.as_str()),
+        (ArchivedKind::Hashed(map), Step::Key(key)) => get_hashed::<G>(map, key.as_str()),
         _ => None,
     }
 }
 
 /// Returns the node that a path leads to, if it leads to one. Reads only the nodes on the path, and does not allocate.
-pub fn find<'a>(root: Ref<'a, ArchivedNode>, path: &[Step]) -> Option<Ref<'a, ArchivedNode>>
+/// The caller chooses the scan `G`, by which keys of hashed maps are looked up.
+pub fn find<'a, G: Scan>(
+    root: Ref<'a, ArchivedNode>,
+    path: &[Step],
+) -> Option<Ref<'a, ArchivedNode>>
     requires there { HasValue node_shape KnowsNode root.bytes.now root.pos }
     requires sound { IsSoundPart root.bytes.now (at root.pos node_shape) }
     ensures { MatchOption result
@@ -42,7 +48,7 @@ pub fn find<'a>(root: Ref<'a, ArchivedNode>, path: &[Step]) -> Option<Ref<'a, Ar
 {
     let mut node = root;
     for step in path {
-        node = step_down(node, step)?;
+        node = step_down::<G>(node, step)?;
     }
     Some(node)
 }

@@ -9,7 +9,8 @@ ghost use Rattle.cabinet_archived.specs.Documents.Node.{node_names, node_shape};
 ghost use Rattle.cabinet_archived.specs.Documents.Order.{ascend, is_below};
 ghost use Rattle.cabinet_archived.specs.Documents.Table.{item_keys};
 ghost use Rattle.cabinet_archived.specs.Documents.Walk.{Stop, Walks};
-ghost use Rattle.cabinet_archives.specs.Ordered.{HasEntry, KeyLeads, KeyLeadsNowhere, OfMap, knows_map, map_shape};
+ghost use Rattle.cabinet_archives.specs.Keyed.{KeyLeads, KeyLeadsNowhere};
+ghost use Rattle.cabinet_archives.specs.Ordered.{HasEntry, OfMap, knows_map, map_shape};
 ghost use Rattle.cabinet_archives.specs.Sound.{IsSoundPart};
 
 use archive_btree_maps::ArchivedBTreeMap;

@@ -5,13 +5,15 @@ ghost use Rattle.archive_shape.specs.ShapeLayout.Shape.Pointee.{sized};
 ghost use Rattle.archive_shape.specs.ShapeLayout.Content.Part.{at};
 ghost use Rattle.archive_forms_values.specs.Parts.{HasValue};
 ghost use Rattle.cabinet_archived.specs.Documents.Node.{node_shape, KnowsNode};
+ghost use Rattle.cabinet_archives.specs.Hashed.{knows_table, table_shape};
 ghost use Rattle.cabinet_archives.specs.Ordered.{knows_map, map_shape};
 ghost use Rattle.cabinet_archives.specs.Sound.{Audits};
 ghost use Rattle.cabinet_archives.specs.declared.opening.refusal.OpenRefusal.TheVariants as refusal;
 
-use crate::maps::{OrderedMap, keys_ascend};
+use crate::maps::{HashedMap, OrderedMap, hashed_sound, keys_ascend};
 use crate::opening::refusal::OpenRefusal;
 use archive_forms_values::{ArchivedBox, ArchivedOption, ArchivedVec};
+use archive_hash_probing::Scan;
 use archive_shape::Ref;
 use cabinet_archived::{ArchivedKind, ArchivedNode};
 use cabinet_text_grammar::MAX_DEPTH;
@@ -26,7 +28,10 @@ fn is_leaf(node: Ref<'_, ArchivedNode>) -> bool
         | ArchivedKind::Int(_)
         | ArchivedKind::Text(_)
         | ArchivedKind::Shared(_) => true,
-        ArchivedKind::Maybe(_) | ArchivedKind::List(_) | ArchivedKind::Ordered(_) => false,
+        ArchivedKind::Maybe(_)
+        | ArchivedKind::List(_)
+        | ArchivedKind::Ordered(_)
+        | ArchivedKind::Hashed(_) => false,
     }
 }
 
@@ -45,7 +50,7 @@ fn depth_inside(depth: usize) -> Result<usize, OpenRefusal>
 
 /// Audits an option inside `depth` containers.
 #[cycle(audits)]
-fn audit_option(
+fn audit_option<G: Scan>(
     maybe: Ref<'_, ArchivedOption<ArchivedBox<ArchivedNode>>>,
     depth: usize,
 ) -> Result<(), OpenRefusal>
@@ -54,14 +59,17 @@ fn audit_option(
 {
     let inner = depth_inside(depth)?;
     match ArchivedOption::as_ref(maybe) {
-        Some(boxed) => audit(ArchivedBox::get(boxed), inner),
+        Some(boxed) => audit::<G>(ArchivedBox::get(boxed), inner),
         None => Ok(()),
     }
 }
 
 /// Audits a list inside `depth` containers.
 #[cycle(audits)]
-fn audit_list(list: Ref<'_, ArchivedVec<ArchivedNode>>, depth: usize) -> Result<(), OpenRefusal>
+fn audit_list<G: Scan>(
+    list: Ref<'_, ArchivedVec<ArchivedNode>>,
+    depth: usize,
+) -> Result<(), OpenRefusal>
     requires { HasValue (vector node_shape) KnowsNode list.bytes.now list.pos }
     ensures { Audits list.entry.bytes.now depth (at list.entry.pos (vector node_shape)) result }
 {
@@ -70,7 +78,7 @@ fn audit_list(list: Ref<'_, ArchivedVec<ArchivedNode>>, depth: usize) -> Result<
     for index in 0..nodes.len() {
         let node = nodes.get(index).unwrap();
         if !is_leaf(node) {
-            audit(node, inner)?;
+            audit::<G>(node, inner)?;
         }
     }
     Ok(())
@@ -78,7 +86,7 @@ fn audit_list(list: Ref<'_, ArchivedVec<ArchivedNode>>, depth: usize) -> Result<
 
 /// Audits an ordered map inside `depth` containers.
 #[cycle(audits)]
-fn audit_ordered(map: Ref<'_, OrderedMap>, depth: usize) -> Result<(), OpenRefusal>
+fn audit_ordered<G: Scan>(map: Ref<'_, OrderedMap>, depth: usize) -> Result<(), OpenRefusal>
     requires { HasValue map_shape knows_map map.bytes.now map.pos }
     ensures { Audits map.entry.bytes.now depth (at map.entry.pos map_shape) result }
 {
@@ -88,7 +96,23 @@ fn audit_ordered(map: Ref<'_, OrderedMap>, depth: usize) -> Result<(), OpenRefus
     }
     for node in OrderedMap::values(map) {
         if !is_leaf(node) {
-            audit(node, inner)?;
+            audit::<G>(node, inner)?;
+        }
+    }
+    Ok(())
+}
+
+/// Audits a hashed map inside `depth` containers.
+#[cycle(audits)]
+fn audit_hashed<G: Scan>(map: Ref<'_, HashedMap>, depth: usize) -> Result<(), OpenRefusal>
+    requires { HasValue table_shape knows_table map.bytes.now map.pos }
+    ensures { Audits map.entry.bytes.now depth (at map.entry.pos table_shape) result }
+{
+    let inner = depth_inside(depth)?;
+    hashed_sound::<G>(map)?;
+    for node in HashedMap::values(map) {
+        if !is_leaf(node) {
+            audit::<G>(node, inner)?;
         }
     }
     Ok(())
@@ -97,7 +121,7 @@ fn audit_ordered(map: Ref<'_, OrderedMap>, depth: usize) -> Result<(), OpenRefus
 /// Audits a node inside `depth` containers. Does not allocate, and recurses at most as deep as 64 containers lie in one
 /// another.
 #[cycle(audits)]
-pub(crate) fn audit(node: Ref<'_, ArchivedNode>, depth: usize) -> Result<(), OpenRefusal>
+pub(crate) fn audit<G: Scan>(node: Ref<'_, ArchivedNode>, depth: usize) -> Result<(), OpenRefusal>
     requires { HasValue node_shape KnowsNode node.bytes.now node.pos }
     ensures { Audits node.entry.bytes.now depth (at node.entry.pos node_shape) result }
 {
@@ -106,8 +130,9 @@ pub(crate) fn audit(node: Ref<'_, ArchivedNode>, depth: usize) -> Result<(), Ope
         ArchivedKind::Int(_) => Ok(()),
         ArchivedKind::Text(_) => Ok(()),
         ArchivedKind::Shared(_) => Ok(()),
-        ArchivedKind::Maybe(maybe) => audit_option(maybe, depth),
-        ArchivedKind::List(list) => audit_list(list, depth),
-        ArchivedKind::Ordered(map) => audit_ordered(map, depth),
+        ArchivedKind::Maybe(maybe) => audit_option::<G>(maybe, depth),
+        ArchivedKind::List(list) => audit_list::<G>(list, depth),
+        ArchivedKind::Ordered(map) => audit_ordered::<G>(map, depth),
+        ArchivedKind::Hashed(map) => audit_hashed::<G>(map, depth),
     }
 }

@@ -14,6 +14,7 @@ use crate::opening::refusal::{OpenRefusal, refused};
 use archive_core_validation::{
     ArchiveValidator, HighValidator, SharedValidator, Validator, access_with_context,
 };
+use archive_hash_probing::{Group, Scan};
 use archive_shape::Ref;
 use archive_shape_writing::Error;
 use cabinet_archived::ArchivedNode;
@@ -38,13 +39,21 @@ fn access_root(alloc: Global, bytes: &[u8]) -> Result<Ref<'_, ArchivedNode>, Err
 
 /// Checks that bytes are the archive of a document: their root is accessed, and then audited. The memory that it
 /// allocates grows with the depth that it reaches and with the number of shared texts, and not with what the bytes
-/// state.
-pub fn check(alloc: Global, bytes: &[u8]) -> Result<(), OpenRefusal>
+/// state. The caller chooses the scan `G`, by which keys of hashed maps are looked up.
+pub fn check_scanned<G: Scan>(alloc: Global, bytes: &[u8]) -> Result<(), OpenRefusal>
     ensures accepted { OnOk result ((t : Tree) × Accepted bytes.now t) }
     ensures refused { IfErr result (λ r. IsRefusedFor bytes.now (refusal_of r)) }
 {
     match access_root(alloc, bytes) {
-        Ok(root) => audit(root, 0),
+        Ok(root) => audit::<G>(root, 0),
         Err(error) => Err(refused(error)),
     }
+}
+
+/// Checks the bytes as [`check_scanned`] does, by the widest scan.
+pub fn check(alloc: Global, bytes: &[u8]) -> Result<(), OpenRefusal>
+    ensures accepted { OnOk result ((t : Tree) × Accepted bytes.now t) }
+    ensures refused { IfErr result (λ r. IsRefusedFor bytes.now (refusal_of r)) }
+{
+    check_scanned::<Group>(alloc, bytes)
 }

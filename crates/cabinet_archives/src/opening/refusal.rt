@@ -16,6 +16,12 @@ pub enum OpenRefusal {
     /// A key of an ordered map is not above the one before it.
     #[error("the keys of an ordered map do not ascend")]
     KeysNotAscending,
+    /// The control of a key is not the tag of the key's hash.
+    #[error("a control of a hashed map is not the tag of its key")]
+    WrongTag,
+    /// A look-up of a key does not find it at its place.
+    #[error("a key of a hashed map is not found at its place")]
+    NotFound,
     /// An allocation failed.
     #[error("out of memory")]
     OutOfMemory,

@@ -46,7 +46,7 @@ pub(crate) fn has_layout(node: &Node) -> bool
         Node::Maybe(Some(inner)) => has_layout(inner),
         Node::List(nodes) => have_layout(nodes.as_slice()),
         Node::Ordered(values) => have_values_layout(values),
-        Node::Hashed(_) => false,
+        Node::Hashed(values) => have_values_layout(values),
         Node::Kept(_) => false,
     }
 }

@@ -19,7 +19,7 @@ use thiserror::Error as Described;
 /// Why a document was not saved.
 #[derive(Clone, Copy, Debug, PartialEq, Eq, Described)]
 pub enum SaveRefusal {
-    /// The document contains a hashed map or a map that keeps its order.
+    /// The document contains a map that keeps its order.
     #[error("a kind of node has no layout yet")]
     Kind,
     /// A text, a count or a position exceeds what archives can hold.

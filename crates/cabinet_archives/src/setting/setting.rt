@@ -12,13 +12,15 @@ ghost use Rattle.cabinet_archives.specs.Setting.{EditLeaves};
 use crate::asking::find;
 use crate::setting::putting::put_leaf;
 use archive_core_validation::root_position;
+use archive_hash_probing::Scan;
 use archive_shape::Ref;
 use cabinet_archived::ArchivedNode;
 use cabinet_text_nodes::{Leaf, SetAnswer, Step};
 
 /// Writes a leaf at a path of the document that the bytes are the archive of, if the node there is a leaf of the same
-/// kind and, for a text, of the same length. Reads only the nodes on the path, and does not allocate.
-pub fn set(bytes: &mut [u8], path: &[Step], leaf: &Leaf) -> SetAnswer
+/// kind and, for a text, of the same length. Reads only the nodes on the path, and does not allocate. The caller chooses
+/// the scan `G`, by which keys of hashed maps are looked up.
+pub fn set<G: Scan>(bytes: &mut [u8], path: &[Step], leaf: &Leaf) -> SetAnswer
     requires { ∥ ((t : Tree) × Accepted bytes.old t) ∥₁ }
     ensures answer { (t : Tree) → Accepted bytes.old t
         → outcome_of result ≡ answer t (line.set (path_of path.now) (leaf_of leaf.now)) }
@@ -34,7 +36,7 @@ pub fn set(bytes: &mut [u8], path: &[Step], leaf: &Leaf) -> SetAnswer
 {
     let new = leaf.as_ref();
     let root = root_position::<ArchivedNode>(bytes.len());
-    let Some(node) = find(Ref::new(bytes, root), path) else {
+    let Some(node) = find::<G>(Ref::new(bytes, root), path) else {
         return SetAnswer::Missing;
     };
     let pos = node.pos();

@@ -21,6 +21,7 @@ fn place_of(kind: ArchivedKind<'_>) -> (&'static str, usize) {
         ArchivedKind::Maybe(payload) => ("option", payload.pos()),
         ArchivedKind::List(payload) => ("list", payload.pos()),
         ArchivedKind::Ordered(payload) => ("ordered", payload.pos()),
+        ArchivedKind::Hashed(payload) => ("hashed", payload.pos()),
     }
 }
 

@@ -7,7 +7,7 @@ use cabinet_archived::ArchivedNode;
 
 #[test]
 fn tags_of_kinds_without_a_layout_are_refused(rt: HostRuntime) {
-    for tag in [7u8, 8, 9, 255] {
+    for tag in [8u8, 9, 255] {
         let mut bytes = [0u8; 24];
         bytes[0] = tag;
         assert_eq!(rt;
@@ -28,7 +28,7 @@ fn truth_value_of_two_is_refused(rt: HostRuntime) {
 #[test]
 fn element_without_a_layout_is_refused(rt: HostRuntime) {
     let bytes =
-        *b"\x07\0\0\0\0\0\0\0\0\0\0\0\0\0\0\0\0\0\0\0\0\0\0\0\x05\0\0\0\xe4\xff\xff\xff\x01\0\0\0\0\0\0\0\0\0\0\0\0\0\0\0";
+        *b"\x08\0\0\0\0\0\0\0\0\0\0\0\0\0\0\0\0\0\0\0\0\0\0\0\x05\0\0\0\xe4\xff\xff\xff\x01\0\0\0\0\0\0\0\0\0\0\0\0\0\0\0";
     assert!(rt; kind_of(rt.alloc(), &bytes) == Err(Error::InvalidTag));
 }
 

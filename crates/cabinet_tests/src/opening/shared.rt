@@ -3,6 +3,7 @@ ghost use Rattle.cabinet_text_nodes.specs.Lines.{IsQuestion};
 ghost use Rattle.cabinet_text_nodes.specs.View.{line_of};
 
 use crate::opening::check::TWO_SHARED;
+use archive_hash_probing::Group;
 use cabinet::open;
 use cabinet_archives::{check, set};
 use cabinet_text_nodes::{Asked, Leaf, Line, SetAnswer, Step};
@@ -34,7 +35,7 @@ fn asked(alloc: Global, bytes: &mut [u8], line: &Line, answers: &mut Vec<u8>) ->
 fn set_in(alloc: Global, bytes: &mut [u8], place: u64, leaf: &Leaf) -> Result<SetAnswer, Fail> {
     let path = path_to(alloc, &[place])?;
     match check(alloc, bytes) {
-        Ok(()) => Ok(set(bytes, path.as_slice(), leaf)),
+        Ok(()) => Ok(set::<Group>(bytes, path.as_slice(), leaf)),
         Err(_) => Err(Fail::from("refused")),
     }
 }

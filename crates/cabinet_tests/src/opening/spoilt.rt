@@ -1,16 +1,19 @@
-//! Tests of archives of ordered maps in which one byte was changed, each byte to each other value.
+//! Tests of archives of maps in which one byte was changed, each byte to each other value.
 ghost use Rattle.std.specs.Prelude.{◌<◌, length};
 
+use crate::saving::hashed::{A_TO_WORLD, VAT_IN_EU};
 use crate::saving::ordered::{COFFEE_AND_TEA, SIX};
 use cabinet::{OpenRefusal, open};
 use std::alloc::{AllocError, Global};
 
-/// How many archives were accepted, how many were refused because their keys do not ascend, how many because they hold
-/// no node at their root, and in how many a byte is another one after they were opened.
+/// How many archives were accepted, how many were refused because their keys do not ascend, how many because a control is
+/// not the tag of its key, how many because they hold no node at their root, and in how many a byte is another one after
+/// they were opened.
 #[derive(Clone, Copy, Debug, PartialEq, Eq)]
 struct Answers {
     accepted: u32,
     unordered: u32,
+    other_tag: u32,
     no_archive: u32,
     changed: u32,
 }
@@ -30,6 +33,7 @@ fn count_one(alloc: Global, bytes: &mut [u8], index: usize, value: u8, answers: 
         Err(OpenRefusal::KeysNotAscending) => {
             answers.unordered = answers.unordered.saturating_add(1);
         }
+        Err(OpenRefusal::WrongTag) => answers.other_tag = answers.other_tag.saturating_add(1),
         Err(OpenRefusal::Access(_)) => answers.no_archive = answers.no_archive.saturating_add(1),
         Err(_) => {}
     }
@@ -65,6 +69,7 @@ fn answers_to(alloc: Global, archive: &[u8]) -> Result<Answers, AllocError> {
     let mut answers = Answers {
         accepted: 0,
         unordered: 0,
+        other_tag: 0,
         no_archive: 0,
         changed: 0,
     };
@@ -79,13 +84,16 @@ fn answers_to(alloc: Global, archive: &[u8]) -> Result<Answers, AllocError> {
 #[test]
 fn archives_with_another_byte_are_answered_and_stay(rt: HostRuntime) -> Result<(), AllocError> {
     let rows = [
-        (COFFEE_AND_TEA.as_slice(), 45_421, 113, 5_466),
-        (&SIX, 86_338, 645, 12_977),
+        (COFFEE_AND_TEA.as_slice(), 45_421, 113, 0, 5_466),
+        (&SIX, 86_338, 645, 0, 12_977),
+        (&VAT_IN_EU, 72_180, 0, 506, 15_034),
+        (&A_TO_WORLD, 21_289, 0, 254, 9_057),
     ];
-    for (archive, accepted, unordered, no_archive) in rows {
+    for (archive, accepted, unordered, other_tag, no_archive) in rows {
         let answers = Answers {
             accepted,
             unordered,
+            other_tag,
             no_archive,
             changed: 0,
         };

@@ -11,11 +11,12 @@ use Rattle.archive_forms_values.specs.FormsLaws.Text.{HasText, IsText}
 use Rattle.archive_forms_rc.specs.Pointers.{HasCounted, IsRcStrAt}
 use Rattle.archive_forms_values.specs.Parts.{IsNoneAt, IsSomeAt, IsVecAt}
 use Rattle.archive_btree_walking.specs.Maps.{IsMapAt}
+use Rattle.archive_hash_walking.specs.Tables.{IsTableAt}
 use Rattle.cabinet_text_nodes.specs.TextGrammar.Tree as tree
-use Rattle.cabinet_archived.specs.Documents.Node.{node_shape, KnowsNode}
+use Rattle.cabinet_archived.specs.Documents.Node.{node_shape, pair_shape, KnowsNode}
 use Rattle.cabinet_archived.proofs.Shared.{counted_there}
 use Rattle.cabinet_archives.proofs.Ways.{Boxed}
-use Rattle.cabinet_archives.proofs.Payloads.{text_has, text_is, leaf_head, shared_head, none_head, some_head, list_head, ordered_head}
+use Rattle.cabinet_archives.proofs.Payloads.{text_has, text_is, leaf_head, shared_head, none_head, some_head, list_head, ordered_head, hashed_head}
 use Rattle.cabinet_archives.proofs.asking.heads.head.Goals as goal
 
 pub as_str-requires : goal.as_str-requires
@@ -81,3 +82,9 @@ returns-in-Ordered c =
     let is = c.in-Ordered.ensures in
     ordered_head c.args.node.bytes.now c.args.node.pos c.in-Ordered.map.pos c.len-in-Ordered.result is.2
     (λ t m. c.len-in-Ordered.ensures t (subst (λ (b : Bor (List ℕ)). IsMapAt b.now 5 text node_shape c.in-Ordered.map.pos t) (sym is.0) m))
+
+pub returns-in-Hashed : goal.returns-in-Hashed
+returns-in-Hashed c =
+    let is = c.in-Hashed.ensures in
+    hashed_head c.args.node.bytes.now c.args.node.pos c.in-Hashed.map.pos c.len-in-Hashed.result is.2
+    (λ b table. c.len-in-Hashed.ensures b (subst (λ (x : Bor (List ℕ)). IsTableAt x.now pair_shape c.in-Hashed.map.pos b) (sym is.0) table))

@@ -1,4 +1,4 @@
-use Rattle.std.proofs.Common.{Bor, List, ℕ, sym, subst}
+use Rattle.std.proofs.Common.{Bor, List, ℕ, sym, subst, arith}
 use Rattle.std.proofs.lemmas.Result.{err_from_is_err_and, IfOk-weaker}
 use Rattle.archive_shape.specs.Key.{HeldAt}
 use Rattle.cabinet_text_nodes.specs.Answers.{Tells}
@@ -6,7 +6,7 @@ use Rattle.cabinet_archives.specs.Ordered.{map_shape, knows_map}
 use Rattle.archive_shape.specs.ShapeLayout.Content.Part.{at}
 use Rattle.cabinet_archives.specs.Sound.{IsSoundPart}
 use Rattle.std.proofs.Math.Logic.{∥∥₁_map}
-use Rattle.cabinet_archives.proofs.Soundness.{ordered_sound}
+use Rattle.cabinet_archives.proofs.Soundness.{payload_sound}
 use Rattle.cabinet_archives.proofs.KeysAsked.{ordered_range, keyless_kind}
 use Rattle.cabinet_archives.proofs.asking.question.answer_range.Goals as goal
 
@@ -15,7 +15,7 @@ write_keys_within-requires-clause-sound g c =
     let is = c.in-Ordered.ensures in
     let map = c.in-Ordered.map in
     subst (λ (b : Bor (List ℕ)). IsSoundPart b.now (at map.pos map_shape)) (sym is.0)
-    (subst (λ n. IsSoundPart c.args.node.bytes.now (at n map_shape)) (sym is.1) (∥∥₁_map c.requires.sound (λ walk. ordered_sound c.args.node.bytes.now c.requires.there walk is.2)))
+    (subst (λ n. IsSoundPart c.args.node.bytes.now (at n map_shape)) (sym is.1) (∥∥₁_map c.requires.sound (λ walk. payload_sound c.args.node.bytes.now c.requires.there walk (omega arith) is.2)))
 
 pub returns-in_err-write_keys_within-in-Ordered-clause-written : goal.returns-in_err-write_keys_within-in-Ordered-clause-written
 returns-in_err-write_keys_within-in-Ordered-clause-written g c = λ v t h d.

@@ -6,10 +6,10 @@ use Rattle.cabinet_archives.proofs.Ways.{reaches_self, reaches_on, none_after, n
 use Rattle.cabinet_archives.proofs.asking.walk.find.Goals as goal
 
 pub loop-step-init : goal.loop-step-init
-loop-step-init c = (refl, reaches_self c.args.root.bytes.now c.args.root.pos c.requires.there c.requires.sound)
+loop-step-init g c = (refl, reaches_self c.args.root.bytes.now c.args.root.pos c.requires.there c.requires.sound)
 
 pub returns-in_err-node : goal.returns-in_err-node
-returns-in_err-node c =
+returns-in_err-node g c =
     let path = c.args.path.now in
     let i = c.loop-step.step-index in
     let step = c.step-item.result in
@@ -21,7 +21,7 @@ returns-in_err-node c =
     (none_before c.args.root.bytes.now c.args.root.pos (path_of (take i path) ++ (step_of step ∷ [])) rest (none_after c.args.root.bytes.now c.args.root.pos (step_of step ∷ []) says.1 none))
 
 pub loop-step-preserved : goal.loop-step-preserved
-loop-step-preserved c =
+loop-step-preserved g c =
     let path = c.args.path.now in
     let i = c.loop-step.step-index in
     let step = c.step-item.result in

@@ -9,4 +9,4 @@ returns-in-Ok-clause-laid c = (image_made _ c.args.document.now c.in-Ok.bytes.it
 
 pub returns-in-Err-2-clause-refused : goal.returns-in-Err-2-clause-refused
 returns-in-Err-2-clause-refused c =
-    unmade _ c.args.document.now c.in-Err.field-0 c.root-root.ensures.tree (c.has_layout.ensures.0 c.if-not-has_layout.false) c.in-Err.ensures
+    unmade _ c.args.document.now c.in-Err.field-0 c.root-root.ensures.tree c.root-root.ensures.document (c.has_layout.ensures.0 c.if-not-has_layout.false) c.in-Err.ensures

@@ -7,13 +7,13 @@ use Rattle.cabinet_archives.proofs.Reached.{root_has_value, root_is_sound, none_
 use Rattle.cabinet_archives.proofs.setting.setting.set.Goals as goal
 
 pub find-requires : goal.find-requires
-find-requires c = record {
+find-requires g c = record {
   there = value_as c.new.ensures.bytes (c.new.ensures.pos ∙ c.root_position-root.ensures) (root_has_value c.args.bytes.now c.requires);
   sound = sound_as c.new.ensures.bytes (c.new.ensures.pos ∙ c.root_position-root.ensures) (root_is_sound c.args.bytes.now c.requires);
 }
 
 pub returns-in_default : goal.returns-in_default
-returns-in_default c =
+returns-in_default g c =
     let bytes = c.args.bytes.now in
     let path = path_of c.args.path.now in
     let new = leaf_of c.args.leaf.now in
@@ -27,7 +27,7 @@ returns-in_default c =
     }
 
 pub returns : goal.returns
-returns c =
+returns g c =
     let bytes = c.args.bytes.now in
     let path = path_of c.args.path.now in
     let new = leaf_of c.args.leaf.now in

@@ -1,9 +1,9 @@
 #!/usr/bin/env bash
-# Usage: bench/ordered.sh [CAB [PROCESSOR]]. Compares the processor time of cab on two documents of a million leaves in
-# ordered maps, one map and a list of 200,000 maps of five, with that of bench/plain.rs, the same two commands in plain
-# Rust, and, where they are installed, with that of jq on the same document as JSON and of sqlite3 on a table of the
-# same keys. The table is built by an import, and each question is one statement. Archives and answers are compared.
-# Last it opens an archive of few lists and texts, which has no maps.
+# Usage: bench/maps.sh [CAB [PROCESSOR]]. Compares the processor time of cab on documents of a million leaves in maps, one
+# map and a list of 200,000 maps of five, all of them ordered or all hashed, with that of bench/plain.rs, the same two
+# commands in plain Rust. Those with ordered maps are also compared, where they are installed, with jq on the same
+# document as JSON and with sqlite3 on a table of the same keys. The table is built by an import, and each question is one
+# statement. Archives and answers are compared. Last it opens an archive of few lists and texts, which has no maps.
 # Without CAB, a program that is there for PROCESSOR, cab is proved and built. Each time is the least of five, those of
 # a comparison taken in turns. A ratio is that of cab's time to the one before it, with its goal in brackets.
 set -eu
@@ -147,7 +147,7 @@ taken_by() {
 
 # prints what was taken, but for the end of the line
 print_taken() {
-    echo -n "$document: $1: cab $(seconds "$by_cab"), plain Rust $(seconds "$by_plain")," \
+    echo -n "$kind $document: $1: cab $(seconds "$by_cab"), plain Rust $(seconds "$by_plain")," \
         "$(beside "$by_cab" "$by_plain" "$plain_goal")"
     [ "$by_jq" = 0 ] || echo -n "; jq $(seconds "$by_jq"), $(beside "$by_cab" "$by_jq" "$jq_goal")"
     [ "$by_sqlite" = 0 ] ||
@@ -163,7 +163,7 @@ less() {
 asked() {
     local cab_alone plain_alone
     lines=$work/$document.$2
-    statements=$document.$2.sql
+    [ $kind != ordered ] || statements=$document.$2.sql
     taken_by run a.cab
     print_taken "open, and $1"
     cab_alone=$(less "$by_cab" "$cab_opens")
@@ -189,13 +189,17 @@ keys() {
     sed "s/^keys [0-9]* '//; s/ '/\n/g" "$@"
 }
 
-for document in map records; do
+# compared DOCUMENT: compares the commands on a document, and on lines for it
+compared() {
+    document=$1
     ./plain build $document $document.cab > answers
 
     lines=/dev/null
-    jq_words=(-c . ../$document.json)
-    jq_goal=0.4
-    statements=$document.table
+    if [ $kind = ordered ]; then
+        jq_words=(-c . ../$document.json)
+        jq_goal=0.4
+        statements=$document.table
+    fi
     taken_by build ../$document a.cab
     print_taken build
     [ ! -e sqlite-files/a.db ] || mv sqlite-files/a.db $document.db
@@ -215,19 +219,21 @@ for document in map records; do
     cab_opens=$by_cab
     plain_opens=$by_plain
 
-    sqlite_goal=0.15
-    jq_words=(-r --slurpfile paths ../$document.paths 'getpath($paths[])' ../$document.json)
-    jq_goal=0.15
+    if [ $kind = ordered ]; then
+        sqlite_goal=0.15
+        jq_words=(-r --slurpfile paths ../$document.paths 'getpath($paths[])' ../$document.json)
+        jq_goal=0.15
+    fi
     asked '100,000 get' get
     answered jq heads
     answered sqlite heads
     jq_words=()
-    if [ $document = map ]; then
+    if [ $kind$document = orderedmap ]; then
         asked 'keys of all' keys
         answered sqlite keys
         asked '1,000 ranges of a hundred keys' range
         answered sqlite keys
-    else
+    elif [ $kind = ordered ]; then
         asked '100,000 keys of a map of five' keys
         answered sqlite keys
         asked '100,000 ranges of two keys' range
@@ -236,8 +242,16 @@ for document in map records; do
     sqlite_goal=
     asked '100,000 set int' set
 
-    memory_beside_plain "$document: build" build $document pipe
-    memory_beside_plain "$document: open" run $document.cab
+    memory_beside_plain "$kind $document: build" build $document pipe
+    memory_beside_plain "$kind $document: open" run $document.cab
+}
+
+for kind in ordered hashed; do
+    for document in map records; do
+        [ $kind = ordered ] || sed -i "s/^ordered /$kind /" $document
+        compared $document
+    done
+    rm -f ./*-files/*
 done
 
 # ---- an archive of few regions without maps

@@ -1,0 +1,110 @@
+//! Hashed maps of archived nodes: whether each key is found at its place, and the node of a key.
+ghost use Rattle.std.specs.Prelude.{◌≡◌, ℕ, ◌==◌, false, List, IfSome, MatchOption};
+ghost use Rattle.archive_shape.specs.ShapeLayout.Value.{Value};
+ghost use Rattle.archive_shape.specs.ShapeLayout.Content.Part.{at};
+ghost use Rattle.archive_forms_values.specs.FormsLaws.Text.{IsText};
+ghost use Rattle.archive_forms_values.specs.Parts.{HasValue};
+ghost use Rattle.archive_forms_values.specs.ShapeCanonical.Hash.{text_hash};
+ghost use Rattle.archive_hash_walking.specs.Tables.{Buckets, IsTableAt};
+ghost use Rattle.archive_hash_walking.specs.Places.{LooksUp};
+ghost use Rattle.cabinet_archived.specs.Documents.Audit.{hashed_faults};
+ghost use Rattle.cabinet_archived.specs.Documents.Node.{node_names, node_shape, pair_shape};
+ghost use Rattle.cabinet_archived.specs.Documents.Table.{hashed_at, table_of};
+ghost use Rattle.cabinet_archived.specs.Documents.Walk.{Stop, Walks};
+ghost use Rattle.cabinet_archives.specs.Hashed.{HasBucket, OfTable, SaysKey, knows_table, table_shape};
+ghost use Rattle.cabinet_archives.specs.Keyed.{KeyLeads, KeyLeadsNowhere};
+ghost use Rattle.cabinet_archives.specs.Sound.{IsSoundPart, Reports};
+
+use crate::opening::OpenRefusal;
+use archive_forms_values::{ArchivedString, Entry};
+use archive_hash_maps::{ArchivedHashMap, ArchivedHashTable};
+use archive_hash_probing::{FxHasher64, Scan, hash_text, tag_of};
+use archive_hash_walking::search_table;
+use archive_shape::Ref;
+use cabinet_archived::ArchivedNode;
+
+/// The table of nodes under texts.
+pub(crate) type HashedMap = ArchivedHashMap<ArchivedString, ArchivedNode, FxHasher64>;
+
+/// A key and its node.
+type Pair = Entry<ArchivedString, ArchivedNode>;
+
+/// Returns the text of a pair's key.
+fn key_of<'a>(pair: Ref<'a, Pair>) -> &'a str
+    requires { HasValue pair_shape knows_table pair.bytes.now pair.pos }
+    ensures { IsText pair.entry.bytes.now pair.entry.pos result.now }
+{
+    ArchivedString::as_str(Entry::key(pair))
+}
+
+/// Returns whether the key of the pair at a position is this one.
+fn has_key(bytes: &[u8], at: usize, key: &str) -> bool
+    requires { HasValue pair_shape knows_table bytes.now at }
+    ensures { SaysKey bytes.now key.now at result }
+{
+    key_of(Ref::new(bytes, at)) == key
+}
+
+/// Returns the position of the first pair with a key that a search for the key's hash visits.
+fn search<G: Scan>(map: Ref<'_, HashedMap>, hash: u64, key: &str) -> Option<usize>
+    requires has { HasValue table_shape knows_table map.bytes.now map.pos }
+    requires hash { hash ≡ text_hash key.now }
+    ensures answers { (b : Buckets) → IsTableAt map.entry.bytes.now pair_shape map.entry.pos b
+        → (strides : ℕ) × LooksUp (SaysKey map.entry.bytes.now key.now) pair_shape b hash result strides }
+    ensures there { IfSome result (HasValue pair_shape knows_table map.entry.bytes.now) }
+{
+    let bytes = map.bytes;
+    let accepts = |at: usize| -> bool
+        requires { HasValue pair_shape knows_table bytes.now at }
+        ensures { SaysKey bytes.entry.now key.entry.now at result }
+    { has_key(bytes, at, key) };
+    search_table::<Pair, G, _>(bytes, map.pos, hash, &accepts).0
+}
+
+/// Returns whether a pair was found, at a position.
+fn is_found_at(found: Option<usize>, pos: usize) -> bool
+    ensures { MatchOption found (result ≡ false) (λ at. result ≡ (at == pos)) }
+{
+    match found {
+        Some(at) => at == pos,
+        None => false,
+    }
+}
+
+/// Audits the table of a hashed map by ascending place: the control of a key is the tag of its hash, and a search for the
+/// key finds it at its own place.
+pub(crate) fn hashed_sound<G: Scan>(map: Ref<'_, HashedMap>) -> Result<(), OpenRefusal>
+    requires { HasValue table_shape knows_table map.bytes.now map.pos }
+    ensures { (depth : ℕ) (v : Value) (walk : List Stop)
+        → Walks node_names map.entry.bytes.now depth (at map.entry.pos table_shape) v walk
+        → Reports result (hashed_faults (table_of hashed_at map.entry.bytes.now map.entry.pos v)) }
+{
+    for (_, control, pair) in ArchivedHashTable::full_places(HashedMap::table(map)) {
+        let key = key_of(pair);
+        let hash = hash_text(key);
+        if tag_of(hash) != control {
+            return Err(OpenRefusal::WrongTag);
+        }
+        if !is_found_at(search::<G>(map, hash, key), pair.pos()) {
+            return Err(OpenRefusal::NotFound);
+        }
+    }
+    Ok(())
+}
+
+/// Returns the node of a key, if the map has the key. Reads only the controls that a search for the key's hash visits and
+/// the pairs under its tag.
+pub(crate) fn get<'a, G: Scan>(map: Ref<'a, HashedMap>, key: &str) -> Option<Ref<'a, ArchivedNode>>
+    requires has { HasValue table_shape knows_table map.bytes.now map.pos }
+    requires sound { IsSoundPart map.bytes.now (at map.pos table_shape) }
+    ensures leads { OfTable map.entry.bytes.now map.entry.pos (λ v. MatchOption result
+        (KeyLeadsNowhere v key.now)
+        (λ node. (node.bytes ≡ map.entry.bytes) × KeyLeads map.entry.bytes.now v key.now node.pos)) }
+    ensures way { IfSome result (λ node. HasBucket map.entry.bytes.now map.entry.pos key.now node.pos) }
+    ensures sound { IfSome result (λ node. IsSoundPart map.entry.bytes.now (at node.pos node_shape)) }
+{
+    match search::<G>(map, hash_text(key), key) {
+        Some(at) => Some(Entry::value(Ref::<Pair>::new(map.bytes, at))),
+        None => None,
+    }
+}
