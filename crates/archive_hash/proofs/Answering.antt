@@ -44,7 +44,7 @@ use Rattle.archive_hash_walking.specs.Places.{LooksUp}
 use Rattle.archive_hash_walking.specs.Places.LooksUp.{has_no_places, has_places}
 use Rattle.archive_hash_walking.specs.Maps.{KeySays, HasKey}
 use Rattle.archive_hash_walking.proofs.Found.{none_looked_up}
-use Rattle.archive_hash_writing.specs.Fitted.{places_of, by_place}
+use Rattle.archive_hash_writing.specs.Fitted.{capacity_of, places_of, by_place, controls_of}
 use Rattle.archive_hash_writing.proofs.SpellingFitting.{above, are_apart, by_place_moved, length-places, places_fit}
 use Rattle.archive_hash_writing.proofs.WrittenItems.{HasItem, IsFilledTable, filled_table, empty_table}
 use Rattle.archive_hash.specs.Answering.{IsWrittenMap, HasEntry, FindsFirst, AnswersKeys, first_with}
@@ -89,7 +89,7 @@ module _ {A B R P : Type 0} (k v : Shape) (knows others : Names → Type 0) (key
   Entry at e = HasEntry k v knows others keys vals bytes at e
 
   -- an item is an entry
-  entry_held : (at : ℕ) (e : A × B) → Item at e → Entry at e
+  pub entry_held : (at : ℕ) (e : A × B) → Item at e → Entry at e
   entry_held at e h =
       let parts = fields_at (field k knows ∷ field v others ∷ []) (both knows others) (λ names known. (known.0, (known.1, tt))) bytes at ((tuple2_spelling k keys v vals).value e h.0) h.1 in
       let first = parts.each in
@@ -126,38 +126,31 @@ module _ {A B R P : Type 0} (k v : Shape) (knows others : Names → Type 0) (key
       abbrev hash_of : A × B → ℕ
       hash_of e = input_hash (fed e.0)
 
-      hashes_small : (es : List (A × B)) → Tags (map hash_of es)
+      pub hashes_small : (es : List (A × B)) → Tags (map hash_of es)
       hashes_small [] = All-nil (λ h. h < 2 ^ 64)
       hashes_small (e ∷ es) = All-cons (λ h. h < 2 ^ 64) (hash_of e) (map hash_of es) (input_hash_small (fed e.0)) (hashes_small es)
 
-      module _ (most places : ℕ) (d : A × B) (es : List (A × B)) (some : 0 < length es) (pos : ℕ)
-          (t : IsFilledTable (tuple2 k v) (both knows others) bytes (tuple2_spelling k keys v vals) most places (map hash_of es) pos es) where
+      -- of entries at their first fits: `Position` is where the entry of a place lies
+      module _ (most places : ℕ) (d : A × B) (es : List (A × B)) (some : 0 < length es) (Cap : ℕ) (controls : List ℕ) (Position : ℕ → ℕ)
+          (cap : Cap ≡ capacity_of most places (map hash_of es) es) (shown : controls ≡ controls_of most places (map hash_of es) es)
+          (entry_at : (i : ℕ) → i < length es → Entry (Position (get_or (places_of most places (map hash_of es) es) i 0)) (get_or es i d)) where
         abbrev Hashes : List ℕ
         Hashes = map hash_of es
 
         abbrev Places : List ℕ
         Places = places_of most places Hashes es
 
-        abbrev Cap : ℕ
-        Cap = t.buckets.cap
-
-        abbrev Position : ℕ → ℕ
-        Position p = item_position (tuple2 k v) t.buckets.target p
-
         even : length Hashes ≡ length es
         even = length-map es hash_of
 
         some_places : 0 < Cap
-        some_places = let more = above most places Hashes es even some in let is = t.cap in omega (arith, more, is)
+        some_places = let more = above most places Hashes es even some in omega (arith, more, cap)
 
         fits : IsFirstFit Cap [] Hashes Places
-        fits = subst (λ n. IsFirstFit n [] Hashes Places) (sym t.cap) (places_fit most places Hashes es even some)
+        fits = subst (λ n. IsFirstFit n [] Hashes Places) (sym cap) (places_fit most places Hashes es even some)
 
-        controls_are : t.buckets.controls ≡ written_controls Cap Hashes Places
-        controls_are = t.controls ∙ ap (λ n. written_controls n Hashes Places) (sym t.cap)
-
-        entry_at : (i : ℕ) → i < length es → Entry (Position (get_or Places i 0)) (get_or es i d)
-        entry_at i l = entry_held (Position (get_or Places i 0)) (get_or es i d) (t.each i d l)
+        controls_are : controls ≡ written_controls Cap Hashes Places
+        controls_are = shown ∙ ap (λ n. written_controls n Hashes Places) (sym cap)
 
         same_index : (i j : ℕ) → i < length es → j < length es → get_or Places i 0 ≡ get_or Places j 0 → i ≡ j
         same_index i j l m e =
@@ -189,15 +182,15 @@ module _ {A B R P : Type 0} (k v : Shape) (knows others : Names → Type 0) (key
           own_hash i l e = get_or-map hash_of es i d 0 l ∙ ap input_hash (fed_as_key (get_or es i d).0 ∙ alike (key (get_or es i d).0) query e)
 
           module _ (hash n : ℕ) (place : Option ℕ) (is_hash : hash ≡ input_hash (query_fed query))
-              (a : IsLookup (λ p x. Says query (Position p) x) t.buckets.controls Cap hash place n) where
-            answer : IsAnswer (At true) (At false) t.buckets.controls Cap (hash_tag hash) (searched t.buckets.controls (strides hash Cap)) place n
+              (a : IsLookup (λ p x. Says query (Position p) x) controls Cap hash place n) where
+            answer : IsAnswer (At true) (At false) controls Cap (hash_tag hash) (searched controls (strides hash Cap)) place n
             answer =
-                answer_as (λ p. Says query (Position p) true) (λ p. Says query (Position p) false) (At true) (At false) t.buckets.controls Cap (hash_tag hash)
-                (searched t.buckets.controls (strides hash Cap)) place n (at_place true) (at_place false) a
+                answer_as (λ p. Says query (Position p) true) (λ p. Says query (Position p) false) (At true) (At false) controls Cap (hash_tag hash)
+                (searched controls (strides hash Cap)) place n (at_place true) (at_place false) a
 
             first_is : (j : ℕ) → j < length es → equals j ≡ true → ((i : ℕ) → i < j → equals i ≡ false) → place ≡ Some (get_or Places j 0)
             first_is j l passed before =
-                first_handed_in (At true) (At false) t.buckets.controls Cap hash Hashes Places place n j some_places (hashes_small es) fits controls_are answer
+                first_handed_in (At true) (At false) controls Cap hash Hashes Places place n j some_places (hashes_small es) fits controls_are answer
                 (λ i m y x. not_both (get_or Places i 0) i (omega (arith, m, even)) refl y x)
                 (λ i m y. own_hash i (omega (arith, m, even)) (y i (omega (arith, m, even)) refl) ∙ sym is_hash)
                 (omega (arith, l, even))
@@ -206,22 +199,22 @@ module _ {A B R P : Type 0} (k v : Shape) (knows others : Names → Type 0) (key
 
             none_is : ((i : ℕ) → i < length es → equals i ≡ false) → place ≡ None
             none_is none =
-                none_accepted (At true) (At false) t.buckets.controls Cap hash (hash_tag hash) Hashes Places place n some_places (hashes_small es) fits controls_are answer
+                none_accepted (At true) (At false) controls Cap hash (hash_tag hash) Hashes Places place n some_places (hashes_small es) fits controls_are answer
                 (λ i m y. let no = none i (omega (arith, m, even)) in let here = y i (omega (arith, m, even)) refl in absurd cc)
 
           abbrev passes : A × B → Bool
           passes e = is_eq (order (key e.0) query)
 
           -- the first entry that passes
-          record IsFirst (e : A × B) : Type 0 where
-            index : ℕ
-            within : index < length es
-            is : get_or es index d ≡ e
-            passed : equals index ≡ true
-            before : (i : ℕ) → i < index → equals i ≡ false
-            entry : Entry (Position (get_or Places index 0)) e
+          pub record IsFirst (e : A × B) : Type 0 where
+            pub index : ℕ
+            pub within : index < length es
+            pub is : get_or es index d ≡ e
+            pub passed : equals index ≡ true
+            pub before : (i : ℕ) → i < index → equals i ≡ false
+            pub entry : Entry (Position (get_or Places index 0)) e
 
-          first_entry : (e : A × B) → first_with k v knows others keys vals bytes key order query es ≡ Some e → IsFirst e
+          pub first_entry : (e : A × B) → first_with k v knows others keys vals bytes key order query es ≡ Some e → IsFirst e
           first_entry e first =
               let f = first_found passes d es e first in
               record {
@@ -233,27 +226,57 @@ module _ {A B R P : Type 0} (k v : Shape) (knows others : Names → Type 0) (key
                 entry = subst (Entry (Position (get_or Places f.0 0))) f.2 (entry_at f.0 f.1);
               }
 
+          -- the place that a look-up finds
+          pub place_found : (hash n : ℕ) (place : Option ℕ) → hash ≡ input_hash (query_fed query)
+              → IsLookup (λ p x. Says query (Position p) x) controls Cap hash place n
+              → (o : Option (A × B)) → first_with k v knows others keys vals bytes key order query es ≡ o
+              → MatchOption o (place ≡ None) (λ e. (f : IsFirst e) × (place ≡ Some (get_or Places f.index 0)))
+          place_found hash n place is_hash a None none = none_is hash n place is_hash a (none_passes passes d es none)
+          place_found hash n place is_hash a (Some e) first =
+              let f = first_entry e first in
+              (f, first_is hash n place is_hash a f.index f.within f.passed f.before)
+
+      -- ---- a table of entries
+
+      module _ (most places : ℕ) (d : A × B) (es : List (A × B)) (some : 0 < length es) (pos : ℕ)
+          (t : IsFilledTable (tuple2 k v) (both knows others) bytes (tuple2_spelling k keys v vals) most places (map hash_of es) pos es) where
+        abbrev Spot : ℕ → ℕ
+        Spot p = item_position (tuple2 k v) t.buckets.target p
+
+        held_at : (i : ℕ) → i < length es → Entry (Spot (get_or (places_of most places (map hash_of es) es) i 0)) (get_or es i d)
+        held_at i l = entry_held (Spot (get_or (places_of most places (map hash_of es) es) i 0)) (get_or es i d) (t.each i d l)
+
+        module _ (query : Q) where
           -- what a look-up finds
-          found_by : (hash n : ℕ) (found place : Option ℕ) → hash ≡ input_hash (query_fed query) → found ≡ option_map Position place
-              → IsLookup (λ p x. Says query (Position p) x) t.buckets.controls Cap hash place n
+          found_by : (hash n : ℕ) (found place : Option ℕ) → hash ≡ input_hash (query_fed query) → found ≡ option_map Spot place
+              → IsLookup (λ p x. Says query (Spot p) x) t.buckets.controls t.buckets.cap hash place n
               → (o : Option (A × B)) → first_with k v knows others keys vals bytes key order query es ≡ o
               → MatchOption o (found ≡ None) (λ e. IsSomeAnd found (λ at. Entry at e))
-          found_by hash n found place is_hash is a None none = is ∙ ap (option_map Position) (none_is hash n place is_hash a (none_passes passes d es none))
+          found_by hash n found place is_hash is a None none =
+              is ∙ ap (option_map Spot) (place_found most places d es some t.buckets.cap t.buckets.controls Spot t.cap t.controls held_at query hash n place is_hash a None none)
           found_by hash n found place is_hash is a (Some e) first =
-              let f = first_entry e first in
-              subst (λ o. IsSomeAnd o (λ at. Entry at e)) (sym (is ∙ ap (option_map Position) (first_is hash n place is_hash a f.index f.within f.passed f.before))) f.entry
+              let f = place_found most places d es some t.buckets.cap t.buckets.controls Spot t.cap t.controls held_at query hash n place is_hash a (Some e) first in
+              subst (λ o. IsSomeAnd o (λ at. Entry at e)) (sym (is ∙ ap (option_map Spot) f.1)) f.0.entry
 
           looked_up : (hash n : ℕ) (found : Option ℕ) → hashes query hash → LooksUp (Says query) (tuple2 k v) t.buckets hash found n → FindsFirst k v knows others keys vals bytes key order es query found
-          looked_up hash n found h (has_no_places none e f) = absurd (omega (arith, none, some_places))
+          looked_up hash n found h (has_no_places none e f) = absurd (let more = above most places (map hash_of es) es (length-map es hash_of) some in let is = t.cap in omega (arith, none, more, is))
           looked_up hash n found h (has_places place is a) = found_by hash n found place (one query hash h) is a (first_with k v knows others keys vals bytes key order query es) refl
 
           -- the map has the key
           has_first : (o : Option (A × B)) → first_with k v knows others keys vals bytes key order query es ≡ o → IsSome o → HasKey (hashes query) key_of order bytes k v pos query
           has_first None none h = absurd cc
           has_first (Some e) first h =
-              let f = first_entry e first in
-              let own : get_or Hashes f.index 0 ≡ input_hash (query_fed query) = own_hash f.index f.within f.passed in
+              let Hashes : List ℕ = map hash_of es in
+              let Places : List ℕ = places_of most places Hashes es in
+              let Cap : ℕ = t.buckets.cap in
+              let f = first_entry most places d es some Cap t.buckets.controls Spot t.cap t.controls held_at query e first in
+              let own : get_or Hashes f.index 0 ≡ input_hash (query_fed query) = own_hash most places d es some Cap t.buckets.controls Spot t.cap t.controls held_at query f.index f.within f.passed in
               let place = get_or Places f.index 0 in
+              let even = length-map es hash_of in
+              let more = above most places Hashes es even some in
+              let some_places : 0 < Cap = let is = t.cap in omega (arith, more, is) in
+              let fits : IsFirstFit Cap [] Hashes Places = subst (λ n. IsFirstFit n [] Hashes Places) (sym t.cap) (places_fit most places Hashes es even some) in
+              let controls_are : t.buckets.controls ≡ written_controls Cap Hashes Places = t.controls ∙ ap (λ n. written_controls n Hashes Places) (sym t.cap) in
               let low : f.index < length Hashes = let l = f.within in omega (arith, l, even) in
               record {
                 buckets = t.buckets;
@@ -265,16 +288,16 @@ module _ {A B R P : Type 0} (k v : Shape) (knows others : Names → Type 0) (key
                           (subst (λ cs. Reaches cs (get_or Hashes f.index 0) Cap place) (sym controls_are) (written_reaches Cap Hashes Places f.index some_places (hashes_small es) fits low)),
                       ap (λ cs. slice_index cs place) controls_are ∙ written_tag Cap Hashes Places f.index some_places fits low ∙ ap hash_tag hash_is,
                     );
-                equal = (key e.0, entry_key (Position place) e f.entry, sym (subst (λ x. passes x ≡ true) f.is f.passed));
+                equal = (key e.0, entry_key (Spot place) e f.entry, sym (subst (λ (x : A × B). is_eq (order (key x.0) query) ≡ true) f.is f.passed));
               }
 
         table_answers : AnswersKeys k v knows others keys vals bytes key order hashes key_of pos es
         table_answers = record {
           buckets = t.buckets;
           map = t.table;
-          walked = by_place most places Hashes es;
-          permuted = by_place_moved most places Hashes es even some;
-          walks = all_held (item_positions (tuple2 k v) t.buckets) (by_place most places Hashes es) t.all;
+          walked = by_place most places (map hash_of es) es;
+          permuted = by_place_moved most places (map hash_of es) es (length-map es hash_of) some;
+          walks = all_held (item_positions (tuple2 k v) t.buckets) (by_place most places (map hash_of es) es) t.all;
           finds = λ query hash n found h looks. looked_up query hash n found h looks;
           has = λ query some. has_first query (first_with k v knows others keys vals bytes key order query es) refl some;
         }

@@ -20,7 +20,7 @@ use Rattle.archive_forms_borrowed.specs.declared.collections.entry.EntryResolver
 use Rattle.archive_forms_borrowed.specs.Entries.{entry_spelling}
 use Rattle.archive_forms_writing.specs.Steps.{IsElement}
 use Rattle.archive_hash_maps.specs.declared.map.resolving.HashTableResolver.{HashTableResolver}
-use Rattle.archive_hash_writing.specs.Claimed.{AreHashesOf, WritesClaimed, WritesTable, written_spelling}
+use Rattle.archive_hash_writing.specs.Claimed.{AreHashesOf, WritesClaimed, WritesHashed, WritesTable, written_spelling}
 use Rattle.archive_hash.specs.Given.{WritesEntries, entry_of, pair_of, key_entry}
 use Rattle.archive_hash_writing.proofs.Seen.{hashed_seen}
 
@@ -65,6 +65,26 @@ hashes_seen view other hashes each [] (h ∷ hs) all = absurd all
 hashes_seen view other hashes each (x ∷ xs) [] all = absurd all
 hashes_seen view other hashes each (x ∷ xs) (h ∷ hs) all = (each x h all.0, hashes_seen view other hashes each xs hs all.1)
 
+-- entries are written as their keys and values, where a spelling says the same of the ones as another says of the others
+module _ {A B P W : Type 0} (load : ℕ × ℕ) (seen : List ℕ → Spelling (List (EntryAdapter A B)) P) (spelled : List ℕ → Spelling (List (A × B)) P)
+    (alike : (hs : List ℕ) (es : List (EntryAdapter A B)) → said (seen hs) es ≡ said (seen_as (map entry_of) (spelled hs)) es) (s : WriterMembers W)
+    (other : EntryAdapter A B → ℕ → Type 0) (hash : A → ℕ) (each : (e : EntryAdapter A B) (h : ℕ) → other e h → h ≡ hash e.key.now) (claimed : ℕ) (old new : W) (result : Result P Error) where
+  claimed_of : (es : List (EntryAdapter A B)) → WritesClaimed seen s other claimed es old new result → WritesClaimed spelled s (λ e h. h ≡ hash e.0) claimed (map entry_of es) old new result
+  claimed_of es (inl w) = inl (
+    length-map es entry_of ∙ w.0,
+    w.1,
+    hashes_seen entry_of other (λ e h. h ≡ hash e.0) each es w.1 w.2,
+    serializes_alike (seen w.1) (seen_as (map entry_of) (spelled w.1)) es (alike w.1 es) s old new result w.3,
+  )
+  claimed_of es (inr w) = inr (λ e. w.0 (sym (length-map es entry_of) ∙ e), subst (λ n. result ≡ Err (IteratorLengthMismatch claimed n)) (sym (length-map es entry_of)) w.1, w.2)
+
+  pub pairs_written : (came : List (EntryAdapter A B) → Type 0) (comes : List (A × B) → Type 0) → ((es : List (EntryAdapter A B)) → came es → comes (map entry_of es))
+      → WritesHashed came load seen s other claimed old new result
+      → WritesHashed comes load spelled s (λ e h. h ≡ hash e.0) claimed old new result
+  pairs_written came comes all (inl r) = inl r
+  pairs_written came comes all (inr (load_is, inl r)) = inr (load_is, inl r)
+  pairs_written came comes all (inr (load_is, inr w)) = inr (load_is, inr (map entry_of w.0, all w.0 w.1, claimed_of w.0 w.2))
+
 module _ {A B R Q W : Type 0} (load : ℕ × ℕ) (k v : Shape) (keys : Spelling A R) (vals : Spelling B Q) (s : WriterMembers W) where
   entries_said : (hs : List ℕ) (es : List (EntryAdapter A B)) → said (written_spelling load (tuple2 k v) (entry_spelling k keys v vals) hs) es ≡ said (seen_as (map entry_of) (written_spelling load (tuple2 k v) (tuple2_spelling k keys v vals) hs)) es
   entries_said hs es =
@@ -85,20 +105,9 @@ module _ {A B R Q W : Type 0} (load : ℕ × ℕ) (k v : Shape) (keys : Spelling
       ap kept (hashed_seen {Q = EntryResolver R Q} (tuple2 k v) entry_of (λ r. record { key = r.0; value = r.1 }) (λ r. (r.key, r.value)) (λ r. refl) (tuple2_spelling k keys v vals) load.0 load.1 hs es)
 
   module _ (other : EntryAdapter A B → ℕ → Type 0) (hash : A → ℕ) (each : (e : EntryAdapter A B) (h : ℕ) → other e h → h ≡ hash e.key.now) (claimed : ℕ) (old new : W) (result : Result HashTableResolver Error) where
-    claimed_of : (es : List (EntryAdapter A B)) → WritesClaimed load (tuple2 k v) (entry_spelling k keys v vals) s other claimed es old new result
-        → WritesClaimed load (tuple2 k v) (tuple2_spelling k keys v vals) s (λ e h. h ≡ hash e.0) claimed (map entry_of es) old new result
-    claimed_of es (inl w) = inl (
-      length-map es entry_of ∙ w.0,
-      w.1,
-      hashes_seen entry_of other (λ e h. h ≡ hash e.0) each es w.1 w.2,
-      serializes_alike (written_spelling load (tuple2 k v) (entry_spelling k keys v vals) w.1) (seen_as (map entry_of) (written_spelling load (tuple2 k v) (tuple2_spelling k keys v vals) w.1)) es (entries_said w.1 es) s old new result w.3,
-    )
-    claimed_of es (inr w) = inr (λ e. w.0 (sym (length-map es entry_of) ∙ e), subst (λ n. result ≡ Err (IteratorLengthMismatch claimed n)) (sym (length-map es entry_of)) w.1, w.2)
-
     -- the table of the entries is that of their keys and values
     pub entries_written : (came : List (EntryAdapter A B) → Type 0) (comes : List (A × B) → Type 0) → ((es : List (EntryAdapter A B)) → came es → comes (map entry_of es))
         → WritesTable came load (tuple2 k v) (entry_spelling k keys v vals) s other claimed old new result
         → WritesEntries comes hash load k v keys vals s claimed old new result
-    entries_written came comes all (inl r) = inl r
-    entries_written came comes all (inr (load_is, inl r)) = inr (load_is, inl r)
-    entries_written came comes all (inr (load_is, inr w)) = inr (load_is, inr (map entry_of w.0, all w.0 w.1, claimed_of w.0 w.2))
+    entries_written came comes all h =
+        pairs_written load (written_spelling load (tuple2 k v) (entry_spelling k keys v vals)) (written_spelling load (tuple2 k v) (tuple2_spelling k keys v vals)) entries_said s other hash each claimed old new result came comes all h

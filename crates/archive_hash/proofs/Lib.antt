@@ -1,7 +1,10 @@
-mod Answering
-mod Given
+pub mod Answering
+pub mod Given
 mod Inserted
-mod Items
+pub mod Items
 pub mod Resolved
 mod StdMaps
-mod Whole
+pub mod Whole
+pub use Rattle.archive_hash_maps.proofs as HashMaps
+pub use Rattle.archive_hash_maps.proofs.HashWalking as HashWalking
+pub use Rattle.archive_hash_writing.proofs as HashWriting

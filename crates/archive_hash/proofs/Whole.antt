@@ -13,7 +13,7 @@ use Rattle.archive_forms_laws.specs.Serializing.{of_data, Serializes}
 use Rattle.archive_forms_laws.specs.Taking.{GivesAs}
 use Rattle.archive_forms_writing.proofs.Laying.{stopped_before}
 use Rattle.archive_hash_maps.specs.declared.map.resolving.HashTableResolver.{HashTableResolver}
-use Rattle.archive_hash_writing.specs.Claimed.{AreHashesOf, WritesClaimed, written_spelling}
+use Rattle.archive_hash_writing.specs.Claimed.{AreHashesOf, WritesClaimed, WritesHashed, written_spelling}
 use Rattle.archive_hash.specs.Given.{TakesGiven, WritesEntries}
 use Rattle.archive_hash.specs.Owned.{entries_spelling}
 
@@ -31,13 +31,18 @@ pub takes_given : {A B F : Type 0} (takes : F → A × B → Type 0) (step : F) 
 takes_given takes step from all = record { each = λ es d. subst (All (takes step)) (drained_all deref_pair from es d) all }
 
 -- what may have come by one account came by another
+pub hashed_more : {X P W : Type 0} (came comes : List X → Type 0) (load : ℕ × ℕ) (spelled : List ℕ → Spelling (List X) P) (s : WriterMembers W) (hashes : X → ℕ → Type 0) (claimed : ℕ) (old new : W) (result : Result P Error)
+    → ((xs : List X) → came xs → comes xs) → WritesHashed came load spelled s hashes claimed old new result → WritesHashed comes load spelled s hashes claimed old new result
+hashed_more came comes load spelled s hashes claimed old new result more (inl r) = inl r
+hashed_more came comes load spelled s hashes claimed old new result more (inr (is, inl r)) = inr (is, inl r)
+hashed_more came comes load spelled s hashes claimed old new result more (inr (is, inr w)) = inr (is, inr (w.0, more w.0 w.1, w.2))
+
 pub writes_more : {A B R Q W : Type 0} (came comes : List (A × B) → Type 0) (hash : A → ℕ) (load : ℕ × ℕ) (k v : Shape) (keys : Spelling A R) (vals : Spelling B Q) (s : WriterMembers W) (claimed : ℕ) (old new : W) (result : Result HashTableResolver Error)
     → ((es : List (A × B)) → came es → comes es) → WritesEntries came hash load k v keys vals s claimed old new result → WritesEntries comes hash load k v keys vals s claimed old new result
-writes_more came comes hash load k v keys vals s claimed old new result more (inl r) = inl r
-writes_more came comes hash load k v keys vals s claimed old new result more (inr (is, inl r)) = inr (is, inl r)
-writes_more came comes hash load k v keys vals s claimed old new result more (inr (is, inr w)) = inr (is, inr (w.0, more w.0 w.1, w.2))
+writes_more came comes hash load k v keys vals s claimed old new result more h =
+    hashed_more came comes load (written_spelling load (tuple2 k v) (tuple2_spelling k keys v vals)) s (λ e n. n ≡ hash e.0) claimed old new result more h
 
-hashes_are : {A : Type 0} (hash : A → ℕ) (xs : List A) (hs : List ℕ) → AreHashesOf (λ x h. h ≡ hash x) xs hs → hs ≡ map hash xs
+pub hashes_are : {A : Type 0} (hash : A → ℕ) (xs : List A) (hs : List ℕ) → AreHashesOf (λ x h. h ≡ hash x) xs hs → hs ≡ map hash xs
 hashes_are hash [] [] all = refl
 hashes_are hash [] (h ∷ hs) all = absurd all
 hashes_are hash (x ∷ xs) [] all = absurd all
@@ -50,7 +55,7 @@ module _ {A B R Q W : Type 0} (hash : A → ℕ) (k v : Shape) (keys : Spelling 
       let Of : W → Result HashTableResolver Error → Type 0 = λ n r. Serializes w s es old n r in
       subst (Of new) (sym is) (subst (λ n. Of n (Err OutOfMemory)) (sym same) (λ st at. stopped_before (of_data s) old (w.piece es st) (w.piece_refused es st) OutOfMemory (inl refl)))
 
-  claimed_all : (xs : List (A × B)) → es ≡ xs → WritesClaimed (7, 8) (tuple2 k v) (tuple2_spelling k keys v vals) s (λ e h. h ≡ hash e.0) (length es) xs old new result → Serializes (entries_spelling hash k v keys vals) s es old new result
+  claimed_all : (xs : List (A × B)) → es ≡ xs → WritesClaimed (written_spelling (7, 8) (tuple2 k v) (tuple2_spelling k keys v vals)) s (λ e h. h ≡ hash e.0) (length es) xs old new result → Serializes (entries_spelling hash k v keys vals) s es old new result
   claimed_all xs all (inl w) =
       let Of : List ℕ → Type 0 = λ hs. Serializes (written_spelling (7, 8) (tuple2 k v) (tuple2_spelling k keys v vals) hs) s xs old new result in
       let written : Serializes (entries_spelling hash k v keys vals) s xs old new result = subst Of (hashes_are (λ e. hash e.0) xs w.1 w.2) w.3 in
@@ -64,5 +69,5 @@ module _ {A B R Q W : Type 0} (hash : A → ℕ) (k v : Shape) (keys : Spelling 
   whole_written from claimed is counted (inl r) = absurd (r.0 (omega arith, omega arith))
   whole_written from claimed is counted (inr (load, inl r)) = no_memory r.0 r.1
   whole_written from claimed is counted (inr (load, inr w)) =
-      let Of : ℕ → Type 0 = λ n. WritesClaimed (7, 8) (tuple2 k v) (tuple2_spelling k keys v vals) s (λ e h. h ≡ hash e.0) n w.0 old new result in
+      let Of : ℕ → Type 0 = λ n. WritesClaimed (written_spelling (7, 8) (tuple2 k v) (tuple2_spelling k keys v vals)) s (λ e h. h ≡ hash e.0) n w.0 old new result in
       claimed_all w.0 (sym is ∙ drained_all deref_pair from w.0 w.1) (subst Of counted w.2)

@@ -22,9 +22,9 @@ use std::marker::PhantomData;
 
 /// An iterator over entries, made of the keys and values that another iterator returns.
 #[derive(Drop)]
-pub(crate) struct Entries<'a, K, V, I> {
-    pairs: I,
-    of: PhantomData<(&'a K, &'a V)>,
+pub struct Entries<'a, K, V, I> {
+    pub pairs: I,
+    pub of: PhantomData<(&'a K, &'a V)>,
 }
 
 impl<'a, K: 'a, V: 'a, I: Iterator<Item = (&'a K, &'a V)>> Iterator for Entries<'a, K, V, I> {

@@ -51,8 +51,8 @@ impl<'a, V, A: ArchiveWith<V>> Archive for ValueWith<'a, V, A> {
 
 /// Archives entries of a borrowed key and a borrowed value: the keys by `Archive`, and the values by `values`.
 #[derive_where(Clone, Copy)]
-pub(crate) struct EntryWith<'a, A> {
-    pub(crate) values: &'a A,
+pub struct EntryWith<'a, A> {
+    pub values: &'a A,
 }
 
 impl<'a, 'b, K: Archive, V, A: ArchiveWith<V>> ArchiveWith<EntryAdapter<'b, K, V>>

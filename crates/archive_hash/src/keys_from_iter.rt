@@ -23,9 +23,9 @@ use std::marker::PhantomData;
 
 /// An iterator over the entries of a map to `()`, made of the keys that another iterator returns.
 #[derive(Drop)]
-struct KeysBesideUnits<'a, K, I> {
-    keys: I,
-    of: PhantomData<&'a K>,
+pub struct KeysBesideUnits<'a, K, I> {
+    pub keys: I,
+    pub of: PhantomData<&'a K>,
 }
 
 impl<'a, K: 'a, I: Iterator<Item = &'a K>> Iterator for KeysBesideUnits<'a, K, I> {

@@ -18,10 +18,10 @@ use std::alloc::Global;
 use std::collections::{HashMap, HashSet};
 
 /// A serializer into a growing vector.
-type Memory = Serializer<Vec<u8>, Global, ()>;
+pub(crate) type Memory = Serializer<Vec<u8>, Global, ()>;
 
 /// Creates a serializer that has written nothing.
-fn memory(alloc: Global) -> Memory
+pub(crate) fn memory(alloc: Global) -> Memory
     ensures room { ⟦<Memory as Writer>⟧.failures result < 2 ^ 64 - 1 }
     ensures state { HasState ⟦<Memory as Positional>⟧.pos ⟦<Memory as Registry>⟧.known result }
 {
@@ -228,7 +228,7 @@ fn every_scan_writes_the_same_bytes(rt: HostRuntime) {
 type Maps = OwnedHashMap<String, Numbers>;
 
 /// Returns an owned copy of a text.
-fn text(alloc: Global, from: &str) -> Result<String, Error> {
+pub(crate) fn text(alloc: Global, from: &str) -> Result<String, Error> {
     match String::from_str(alloc, from) {
         Ok(text) => Ok(text),
         Err(_) => Err(Error::OutOfMemory),

@@ -1,14 +1,13 @@
--- The results of look-ups of entries of hash maps.
+-- The results of look-ups of items by hashes.
 use denote.Ref.{Bor}
 use Rattle.std.proofs.Common.{◌≡◌, ◌∙◌, ℕ, ◌≤◌, Bool, List, Option, Some, None, refl, ap, sym}
 use Rattle.std.specs.Option.{option_map}
 use Rattle.archive_shape.specs.ShapeLayout.Shape.{Shape}
-use Rattle.archive_forms_values.specs.Tuples.{tuple2}
 use Rattle.archive_hash_walking.specs.Tables.{Buckets}
 use Rattle.archive_shape.specs.declared.references.refs.Ref.{Ref}
 use Rattle.archive_hash_probing.specs.ShapeCanonical.Strides.{sixteens}
 use Rattle.archive_hash_walking.specs.Places.{item_at, LooksUp, FindsAccepted, FindsTheOnly}
-use Rattle.archive_hash_walking.specs.Maps.{LooksUpKey}
+use Rattle.archive_hash_walking.specs.Maps.{LooksUpHash}
 use Rattle.archive_hash_walking.proofs.Lookups.{item_is}
 
 pub same_position : (o : Option ℕ) → o ≡ option_map (λ at. at) o
@@ -17,9 +16,9 @@ same_position (Some at) = refl
 
 -- a look-up of a position is a look-up of the value there
 pub looks_up_of :
-    {A : Type 0} (hashes : ℕ → Type 0) (says : ℕ → Bool → Type 0) (item : ℕ → A) (k v : Shape) (b : Buckets) (o : Option ℕ) (found : Option A)
-    → found ≡ option_map item o → LooksUpKey hashes says (λ at. at) k v b o → LooksUpKey hashes says item k v b found
-looks_up_of hashes says item k v b o found is h =
+    {A : Type 0} (hashes : ℕ → Type 0) (says : ℕ → Bool → Type 0) (item : ℕ → A) (s : Shape) (b : Buckets) (o : Option ℕ) (found : Option A)
+    → found ≡ option_map item o → LooksUpHash hashes says (λ at. at) s b o → LooksUpHash hashes says item s b found
+looks_up_of hashes says item s b o found is h =
     let a = h.answers in
     record {
       hash = h.hash;
@@ -45,10 +44,10 @@ pub pair_is :
 pair_is bytes p q key value a b c d = let e = item_is bytes p key a b in let f = item_is bytes q value c d in cc
 
 -- the result of a search of a table is a look-up of a position
-pub position_of : (hashes : ℕ → Type 0) (says : ℕ → Bool → Type 0) (k v : Shape) (b : Buckets) (hash strides : ℕ) (o : Option ℕ) → hashes hash
-    → LooksUp says (tuple2 k v) b hash o strides → FindsAccepted says (tuple2 k v) b o → FindsTheOnly says (tuple2 k v) b hash o → strides ≤ sixteens b.cap
-    → LooksUpKey hashes says (λ at. at) k v b o
-position_of hashes says k v b hash strides o is looks_up accepted only few =
+pub position_of : (hashes : ℕ → Type 0) (says : ℕ → Bool → Type 0) (s : Shape) (b : Buckets) (hash strides : ℕ) (o : Option ℕ) → hashes hash
+    → LooksUp says s b hash o strides → FindsAccepted says s b o → FindsTheOnly says s b hash o → strides ≤ sixteens b.cap
+    → LooksUpHash hashes says (λ at. at) s b o
+position_of hashes says s b hash strides o is looks_up accepted only few =
     record {
       hash = hash;
       strides = strides;
@@ -62,9 +61,9 @@ mapped_twice item g (Some at) = refl
 
 -- what is read of the result of a look-up is itself a look-up
 pub looks_up_as :
-    {A B : Type 0} (hashes : ℕ → Type 0) (says : ℕ → Bool → Type 0) (item : ℕ → A) (g : A → B) (k v : Shape) (b : Buckets) (found : Option A) (other : Option B)
-    → other ≡ option_map g found → LooksUpKey hashes says item k v b found → LooksUpKey hashes says (λ at. g (item at)) k v b other
-looks_up_as hashes says item g k v b found other is h =
+    {A B : Type 0} (hashes : ℕ → Type 0) (says : ℕ → Bool → Type 0) (item : ℕ → A) (g : A → B) (s : Shape) (b : Buckets) (found : Option A) (other : Option B)
+    → other ≡ option_map g found → LooksUpHash hashes says item s b found → LooksUpHash hashes says (λ at. g (item at)) s b other
+looks_up_as hashes says item g s b found other is h =
     let a = h.answers in
     record {
       hash = h.hash;

@@ -63,9 +63,13 @@ entry_at bytes k v at = (key_at bytes at, value_at bytes k v at)
 abbrev pub pair_at : {K V : Type 0} → Bor (List ℕ) → ℕ → ℕ → Ref K × Ref V
 pair_at bytes behind at = (item_at bytes at, item_at bytes (at + behind))
 
--- the result of a look-up of a key that has one of these hashes
-pub record LooksUpKey {A : Type 0} (hashes : ℕ → Type 0) (says : ℕ → Bool → Type 0) (item : ℕ → A) (k v : Shape) (b : Buckets) (found : Option A) : Type 0 where
+-- the result of a look-up that has one of these hashes, among the items of a table
+pub record LooksUpHash {A : Type 0} (hashes : ℕ → Type 0) (says : ℕ → Bool → Type 0) (item : ℕ → A) (s : Shape) (b : Buckets) (found : Option A) : Type 0 where
   pub hash : ℕ
   pub strides : ℕ
   pub is_hash : hashes hash
-  pub answers : Answers says item (tuple2 k v) b hash found strides
+  pub answers : Answers says item s b hash found strides
+
+-- the result of a look-up of a key that has one of these hashes, among the entries of a map
+abbrev pub LooksUpKey : {A : Type 0} → (ℕ → Type 0) → (ℕ → Bool → Type 0) → (ℕ → A) → Shape → Shape → Buckets → Option A → Type 0
+LooksUpKey hashes says item k v b found = LooksUpHash hashes says item (tuple2 k v) b found

@@ -1,5 +1,5 @@
 -- A table is read as it is written: the law of tables is that of each item.
-use Rattle.std.proofs.Common.{◌≡◌, ◌∙◌, ℕ, suc, ◌+◌, ◌<◌, ◌==◌, ◌^◌, nat_lt, Bool, true, false, Option, Some, None, List, [], ◌∷◌, ◌++◌, length, map, refl, ap, sym, subst, arith, inl, inr, add-zero, eqb-true, lt-ltb}
+use Rattle.std.proofs.Common.{◌≡◌, ◌∙◌, ℕ, suc, ◌+◌, ◌<◌, ◌≤◌, ◌==◌, ◌^◌, nat_lt, Bool, true, false, Option, Some, None, List, [], ◌∷◌, ◌++◌, length, map, refl, ap, sym, subst, arith, inl, inr, add-zero, eqb-true, lt-ltb}
 use Rattle.std.specs.List.{All}
 use Rattle.std.specs.Int.{w32, to_le_bytes}
 use Rattle.std.proofs.lemmas.List.{length-map}
@@ -51,14 +51,14 @@ pub length-own : (controls : Option ℕ) (pos len cap : ℕ) → length (link_by
 length-own None pos len cap = refl
 length-own (Some to) pos len cap = refl
 
--- the position of each of its numbers
-record OwnRead (bytes : List ℕ) (controls : Option ℕ) (pos len cap : ℕ) : Type 0 where
-  link_stands : HasBytes bytes pos (link_bytes controls pos)
-  len_is : word_at (window bytes pos 12) 4 ≡ len
-  cap_is : word_at (window bytes pos 12) 8 ≡ cap
+-- the position of each of its numbers, in own bytes that begin with the table's
+pub record OwnRead (bytes : List ℕ) (controls : Option ℕ) (pos size len cap : ℕ) : Type 0 where
+  pub link_stands : HasBytes bytes pos (link_bytes controls pos)
+  pub len_is : word_at (window bytes pos size) 4 ≡ len
+  pub cap_is : word_at (window bytes pos size) 8 ≡ cap
 
-own_read : (bytes : List ℕ) (controls : Option ℕ) (pos len cap : ℕ) → len < 2 ^ 32 → cap < 2 ^ 32 → HasBytes bytes pos (link_bytes controls pos ++ (to_le_bytes w32 len ++ to_le_bytes w32 cap)) → OwnRead bytes controls pos len cap
-own_read bytes controls pos len cap few small s =
+pub own_read : (bytes : List ℕ) (controls : Option ℕ) (pos size len cap : ℕ) → 12 ≤ size → len < 2 ^ 32 → cap < 2 ^ 32 → HasBytes bytes pos (link_bytes controls pos ++ (to_le_bytes w32 len ++ to_le_bytes w32 cap)) → OwnRead bytes controls pos size len cap
+own_read bytes controls pos size len cap room few small s =
     let link = link_bytes controls pos in
     let four : length link ≡ 4 = length-link controls pos in
     let rest = stands_right bytes pos link (to_le_bytes w32 len ++ to_le_bytes w32 cap) (pos + 4) (omega (arith, four)) s in
@@ -66,8 +66,8 @@ own_read bytes controls pos len cap few small s =
     let cap_stands = stands_right bytes (pos + 4) (to_le_bytes w32 len) (to_le_bytes w32 cap) (pos + 8) (omega arith) rest in
     record {
       link_stands = stands_left bytes pos link (to_le_bytes w32 len ++ to_le_bytes w32 cap) s;
-      len_is = word_within bytes pos 12 4 (omega arith) ∙ stands_word bytes (pos + 4) len few len_stands;
-      cap_is = word_within bytes pos 12 8 (omega arith) ∙ stands_word bytes (pos + 8) cap small cap_stands;
+      len_is = word_within bytes pos size 4 (omega (arith, room)) ∙ stands_word bytes (pos + 4) len few len_stands;
+      cap_is = word_within bytes pos size 8 (omega (arith, room)) ∙ stands_word bytes (pos + 8) cap small cap_stands;
     }
 
 module _ (names : Names) (bytes : List ℕ) (s : Shape) (pos : ℕ) where
@@ -107,7 +107,7 @@ module _ {A R : Type 0} (fit : Fit) (s : Shape) (knows : Names → Type 0) (w : 
       → CanonicalPart fit names bytes level inside (visits_of st.met) (visits_of st.met) (at pos (table s)) (group no_values) st.pos (st.pos + 0)
   unfolding made Ascends
   empty_canonical st pos names bytes level inside q =
-      let read = own_read bytes None pos 0 0 (omega arith) (omega arith) q in
+      let read = own_read bytes None pos 12 0 0 (omega arith) (omega arith) (omega arith) q in
       let one : word_at (window bytes pos 12) 0 ≡ 1 = word_within bytes pos 12 0 (omega arith) ∙ ap (word_at bytes) (add-zero pos) ∙ stands_word bytes pos 1 (omega arith) read.link_stands in
       let c = empty_content names bytes s pos read.len_is in
       record {
@@ -180,7 +180,7 @@ module _ {A R : Type 0} (fit : Fit) (s : Shape) (knows : Names → Type 0) (w : 
     table_canonical st pos names keys bytes level inside kn n filled known state over f link small p q =
         let t = controls_at s w os st in
         let v = group (values w (present os) st) in
-        let read = own_read bytes (Some t) pos len capacity (omega arith) small q in
+        let read = own_read bytes (Some t) pos 12 len capacity (omega arith) (omega arith) small q in
         let target = offset_stands bytes pos t 12 (omega arith) link read.link_stands in
         let c = filled_content names bytes s pos len capacity t read.len_is read.cap_is some room target in
         let stands = filled_stands fit s knows w os controls each st bytes f p in

@@ -89,7 +89,7 @@ module _ {A R : Type 0} (s : Shape) (knows : Names → Type 0) (bytes : List ℕ
         ]
     one_more a n (Some y) false is full tag st items rest = absurd (let t = lt-ltb (slice_index controls a) 128 tag in cc)
 
-    items_lie : (n a : ℕ) (st : State) → ((p : ℕ) → a ≤ p → p < a + n → IsTagOf (f p) (slice_index controls p))
+    pub items_lie : (n a : ℕ) (st : State) → ((p : ℕ) → a ≤ p → p < a + n → IsTagOf (f p) (slice_index controls p))
         → AreItemsAt s knows bytes (map (item_position s target) (Full a n)) (values w (There a n) st)
         → Lie a n (Full a n) (There a n)
     items_lie zero a st tags items = (λ p x from below e. absurd (omega (arith, from, below)), tt)

@@ -27,16 +27,21 @@ written_spelling load s w hashes = kept_as (λ n. record { pos = n }) (λ r. r.p
 abbrev pub RefusesLoadFactor : {Q W : Type 0} → ℕ × ℕ → W → W → Result Q Error → Type 0
 RefusesLoadFactor load old new result = (IsLoadFactor load → ⊥) × (result ≡ Err InvalidLoadFactor) × (new ≡ old)
 
--- The iterator returned these items. If their number is the claimed one, their table is written, with a hash of each;
--- otherwise the error has both numbers, and nothing is written.
-abbrev pub WritesClaimed : {A R W : Type 0} → ℕ × ℕ → Shape → Spelling A R → WriterMembers W → (A → ℕ → Type 0) → ℕ → List A → W → W → Result HashTableResolver Error → Type 0
-WritesClaimed load s w members hashes claimed xs old new result =
-    ((length xs ≡ claimed) × (hs : List ℕ) × AreHashesOf hashes xs hs × Serializes (written_spelling load s w hs) members xs old new result)
+-- The iterator returned these items. If their number is the claimed one, they are written, with a hash of each, as the
+-- spelling of these hashes has it; otherwise the error has both numbers, and nothing is written.
+abbrev pub WritesClaimed : {A Q W : Type 0} → (List ℕ → Spelling (List A) Q) → WriterMembers W → (A → ℕ → Type 0) → ℕ → List A → W → W → Result Q Error → Type 0
+WritesClaimed spelled members hashes claimed xs old new result =
+    ((length xs ≡ claimed) × (hs : List ℕ) × AreHashesOf hashes xs hs × Serializes (spelled hs) members xs old new result)
     ⊎ ((length xs ≡ claimed → ⊥) × (result ≡ Err (IteratorLengthMismatch claimed (length xs))) × (new ≡ old))
 
 -- of the items for which `comes` holds
-abbrev pub WritesTable : {A R W : Type 0} → (List A → Type 0) → ℕ × ℕ → Shape → Spelling A R → WriterMembers W → (A → ℕ → Type 0) → ℕ → W → W → Result HashTableResolver Error → Type 0
-WritesTable {A = A} comes load s w members hashes claimed old new result =
+abbrev pub WritesHashed : {A Q W : Type 0} → (List A → Type 0) → ℕ × ℕ → (List ℕ → Spelling (List A) Q) → WriterMembers W → (A → ℕ → Type 0) → ℕ → W → W → Result Q Error → Type 0
+WritesHashed {A = A} comes load spelled members hashes claimed old new result =
     RefusesLoadFactor load old new result
     ⊎ (IsLoadFactor load
-    × (RefusesMemory old new result ⊎ ((xs : List A) × comes xs × WritesClaimed load s w members hashes claimed xs old new result)))
+    × (RefusesMemory old new result ⊎ ((xs : List A) × comes xs × WritesClaimed spelled members hashes claimed xs old new result)))
+
+-- they are written as a table
+abbrev pub WritesTable : {A R W : Type 0} → (List A → Type 0) → ℕ × ℕ → Shape → Spelling A R → WriterMembers W → (A → ℕ → Type 0) → ℕ → W → W → Result HashTableResolver Error → Type 0
+WritesTable comes load s w members hashes claimed old new result =
+    WritesHashed comes load (written_spelling load s w) members hashes claimed old new result

@@ -9,7 +9,7 @@ use archive_shape::Error;
 use std::alloc::Global;
 
 /// Returns the hash of each item.
-pub(crate) fn hash_items<T, H: Fn(&T) -> u64>(
+pub fn hash_items<T, H: Fn(&T) -> u64>(
     alloc: Global,
     items: &[T],
     hash: H,

@@ -14,7 +14,9 @@ mod places;
 mod region;
 mod tables;
 
+pub use hashes::hash_items;
 pub use iterators::{
     serialize_from_iter, serialize_from_iter_scan, serialize_from_iter_scan_each,
     serialize_from_iter_scan_with_each,
 };
+pub use tables::serialize_hashed;

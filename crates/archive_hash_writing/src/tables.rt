@@ -17,7 +17,7 @@ use std::marker::PhantomData;
 
 /// Writes the table of items, of which `items[i]` has the hash `hashes[i]`: first the data of the items, which `step`
 /// writes, and then the region of the table.
-pub(crate) fn serialize_hashed<
+pub fn serialize_hashed<
     G: Scan,
     T,
     A: ArchiveWith<T>,

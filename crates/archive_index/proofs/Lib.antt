@@ -1,1 +1,12 @@
+pub mod Filled
+pub mod InOrder
 pub mod IndexChecks
+pub mod LookedUp
+pub mod Pairs
+pub mod Places
+pub mod Range
+pub mod Read
+pub mod Resolved
+pub mod Standing
+pub mod TableAndEntries
+pub mod Walk

@@ -21,5 +21,5 @@ pub returns-clause-answers : goal.returns-clause-answers
 returns-clause-answers g c b is =
     let f = c.search_table.ensures in
     position_of (KeyHashesTo {K = g.row.K.Denot} g.H.Default.is_default g.H.Hasher.write g.H.Hasher.finish g.K.Portable.shape g.K.Portable.knows g.K.ArchivedHash.hashed c.args.key.now)
-    (EqualSays g.K.Portable.shape g.K.Portable.knows g.K.ArchivedEq.equal c.args.bytes.now c.args.key.now) g.K.Portable.shape g.V.Portable.shape b c.finish-hash.result c.search_table.result.1 c.search_table.result.0
+    (EqualSays g.K.Portable.shape g.K.Portable.knows g.K.ArchivedEq.equal c.args.bytes.now c.args.key.now) (tuple2 g.K.Portable.shape g.V.Portable.shape) b c.finish-hash.result c.search_table.result.1 c.search_table.result.0
     (c.default-state.result, c.default-state.ensures, λ value held. c.finish-hash.ensures ∙ ap g.H.Hasher.finish (c.hash.ensures value held)) (f.answers b is) (f.accepted b is) (f.findable b is) (f.few b is)

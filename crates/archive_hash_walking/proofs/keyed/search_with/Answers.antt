@@ -21,5 +21,5 @@ pub returns-clause-answers : goal.returns-clause-answers
 returns-clause-answers g c b is =
     let says : ℕ → Bool → Type 0 = query_calls (goal.F-post g) c.args.accepts.now c.args.query c.args.bytes in
     let f = c.search_table.ensures in
-    position_of (HashesTo g.H.Default.is_default g.H.Hasher.write g.H.Hasher.finish (g.Q.Hash.hash_input c.args.query.now)) says g.K.Portable.shape g.V.Portable.shape b
+    position_of (HashesTo g.H.Default.is_default g.H.Hasher.write g.H.Hasher.finish (g.Q.Hash.hash_input c.args.query.now)) says (tuple2 g.K.Portable.shape g.V.Portable.shape) b
     c.hash_value-hash.result c.search_table.result.1 c.search_table.result.0 c.hash_value-hash.ensures (f.answers b is) (f.accepted b is) (f.findable b is) (f.few b is)

@@ -1,4 +1,5 @@
 use Rattle.std.proofs.Common.{Some, None, refl, subst}
+use Rattle.archive_forms_values.specs.Tuples.{tuple2}
 use Rattle.archive_hash_walking.specs.Maps.{KeySays, value_at}
 use Rattle.archive_hash_walking.proofs.LookedUp.{looks_up_as}
 use Rattle.archive_hash_maps.proofs.Same.{found_in}
@@ -15,7 +16,7 @@ returns-in-Some g c b is =
     let bytes = found_in {V = g.row.V.Denot} c.args.this.bytes k v c.in-Some.found looks.answers.position looks.answers.is in
     record {
       found = Some c.in-Some.found.pos;
-      looks_up = looks_up_as _ _ (value_at {V = g.row.V.Denot} c.args.this.bytes k v) (λ r. r.pos) k v b (Some c.in-Some.found) (Some c.in-Some.found.pos) refl looks;
+      looks_up = looks_up_as _ _ (value_at {V = g.row.V.Denot} c.args.this.bytes k v) (λ r. r.pos) (tuple2 k v) b (Some c.in-Some.found) (Some c.in-Some.found.pos) refl looks;
       says = subst (λ bs. KeySays g.V.ArchivedKey.key_of g.V.ArchivedKey.order bs.now c.args.value.now c.in-Some.found.pos c.same.result) bytes c.same.ensures;
     }
 
@@ -25,6 +26,6 @@ returns-in-None g c b is =
     let v = g.V.Portable.shape in
     record {
       found = None;
-      looks_up = looks_up_as _ _ (value_at {V = g.row.V.Denot} c.args.this.bytes k v) (λ r. r.pos) k v b None None refl (c.in-None.ensures.answers b is);
+      looks_up = looks_up_as _ _ (value_at {V = g.row.V.Denot} c.args.this.bytes k v) (λ r. r.pos) (tuple2 k v) b None None refl (c.in-None.ensures.answers b is);
       says = refl;
     }

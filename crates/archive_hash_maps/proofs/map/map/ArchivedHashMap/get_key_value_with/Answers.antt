@@ -1,4 +1,5 @@
 use Rattle.std.proofs.Common.{◌∙◌, Some, None, refl}
+use Rattle.archive_forms_values.specs.Tuples.{tuple2}
 use Rattle.archive_shape_layout.specs.Shape.Shapes.{no_shapes}
 use Rattle.archive_forms_values.specs.Parts.{HasValue}
 use Rattle.archive_forms_values.specs.Fields.{field_position}
@@ -21,7 +22,7 @@ pub returns-in-Some-clause-answers : goal.returns-in-Some-clause-answers
 returns-in-Some-clause-answers g c b is =
     let k = g.K.Portable.shape in
     let v = g.V.Portable.shape in
-    looks_up_of _ _ (entry_at {K = g.row.K.Denot} {V = g.row.V.Denot} c.args.this.bytes k v) k v b (Some c.in-Some.at) (Some (c.new.result, c.new-in-Some.result))
+    looks_up_of _ _ (entry_at {K = g.row.K.Denot} {V = g.row.V.Denot} c.args.this.bytes k v) (tuple2 k v) b (Some c.in-Some.at) (Some (c.new.result, c.new-in-Some.result))
     (pair_is c.args.this.bytes c.in-Some.at (field_position k no_shapes v c.in-Some.at) c.new.result c.new-in-Some.result c.new.ensures.bytes c.new.ensures.pos c.new-in-Some.ensures.bytes (c.new-in-Some.ensures.pos ∙ c.value_position.ensures))
     (c.in-Some.ensures.answers b is)
 
@@ -29,4 +30,4 @@ pub returns-in-None-clause-answers : goal.returns-in-None-clause-answers
 returns-in-None-clause-answers g c b is =
     let k = g.K.Portable.shape in
     let v = g.V.Portable.shape in
-    looks_up_of _ _ (entry_at {K = g.row.K.Denot} {V = g.row.V.Denot} c.args.this.bytes k v) k v b None None refl (c.in-None.ensures.answers b is)
+    looks_up_of _ _ (entry_at {K = g.row.K.Denot} {V = g.row.V.Denot} c.args.this.bytes k v) (tuple2 k v) b None None refl (c.in-None.ensures.answers b is)

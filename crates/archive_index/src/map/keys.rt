@@ -1,0 +1,99 @@
+//! Look-ups of keys in archived index maps.
+ghost use Rattle.std.specs.Prelude.{◌≡◌, ℕ, IfSome, Option};
+ghost use Rattle.std.specs.Option.{is_some};
+ghost use Rattle.archive_forms_values.specs.Parts.{HasValue};
+ghost use Rattle.archive_hash.specs.HashWalking.Maps.{IsThere, HashesTo, KeySays};
+ghost use Rattle.archive_index.specs.Maps.{IndexMap, IsMap, HasMap};
+ghost use Rattle.archive_index.specs.Lookups.{LooksUpEntry, value_of, pair_of, full_of};
+
+use crate::map::ArchivedIndexMap;
+use crate::map::search::{entry_at, search_key};
+use archive_hash::walking::{HashedKey, value_position};
+use archive_shape::{Portable, Ref};
+use std::hash::{Hash, Hasher};
+
+impl<K, V: Portable, H: Hasher + Default + Drop> ArchivedIndexMap<K, V, H> {
+    /// Returns the number of a key's entry, the key and its value, if the map has the key.
+    pub fn get_full<'a, Q: Hash>(
+        this: Ref<'a, ArchivedIndexMap<K, V, H>>,
+        query: &Q,
+    ) -> Option<(usize, Ref<'a, K>, Ref<'a, V>)>
+    where
+        K: HashedKey<Q>,
+        requires has { HasMap K.shape V.shape K.knows V.knows this }
+        ensures there { IfSome result (λ r. IsThere K.shape V.shape K.knows V.knows (r.1, r.2)) }
+        ensures answers { (m : IndexMap) → IsMap K.shape V.shape this.entry m
+            → LooksUpEntry this.entry.bytes.now K.shape V.shape m (HashesTo H.is_default H.write H.finish (Q.hash_input query.now)) (KeySays K.key_of K.order this.entry.bytes.now query.now) (full_of this.entry.bytes K.shape V.shape m) result }
+    {
+        match search_key::<Q, K, V, H>(this.bytes, this.pos, query) {
+            Some(index) => {
+                let at = entry_at::<K, V>(this.bytes, this.pos, index);
+                let value = value_position::<K, V>(this.bytes, at);
+                Some((index, Ref::new(this.bytes, at), Ref::new(this.bytes, value)))
+            }
+            None => None,
+        }
+    }
+
+    /// Returns a key and its value, if the map has the key.
+    pub fn get_key_value<'a, Q: Hash>(
+        this: Ref<'a, ArchivedIndexMap<K, V, H>>,
+        query: &Q,
+    ) -> Option<(Ref<'a, K>, Ref<'a, V>)>
+    where
+        K: HashedKey<Q>,
+        requires has { HasMap K.shape V.shape K.knows V.knows this }
+        ensures there { IfSome result (IsThere K.shape V.shape K.knows V.knows) }
+        ensures answers { (m : IndexMap) → IsMap K.shape V.shape this.entry m
+            → LooksUpEntry this.entry.bytes.now K.shape V.shape m (HashesTo H.is_default H.write H.finish (Q.hash_input query.now)) (KeySays K.key_of K.order this.entry.bytes.now query.now) (pair_of this.entry.bytes K.shape V.shape m) result }
+    {
+        match ArchivedIndexMap::get_full(this, query) {
+            Some((_, key, value)) => Some((key, value)),
+            None => None,
+        }
+    }
+
+    /// Returns the value of a key, if the map has the key.
+    pub fn get<'a, Q: Hash>(
+        this: Ref<'a, ArchivedIndexMap<K, V, H>>,
+        query: &Q,
+    ) -> Option<Ref<'a, V>>
+    where
+        K: HashedKey<Q>,
+        requires has { HasMap K.shape V.shape K.knows V.knows this }
+        ensures there { IfSome result (λ r. HasValue V.shape V.knows r.bytes.now r.pos) }
+        ensures answers { (m : IndexMap) → IsMap K.shape V.shape this.entry m
+            → LooksUpEntry this.entry.bytes.now K.shape V.shape m (HashesTo H.is_default H.write H.finish (Q.hash_input query.now)) (KeySays K.key_of K.order this.entry.bytes.now query.now) (value_of this.entry.bytes K.shape V.shape m) result }
+    {
+        match ArchivedIndexMap::get_full(this, query) {
+            Some((_, _, value)) => Some(value),
+            None => None,
+        }
+    }
+
+    /// Returns the number of a key's entry, if the map has the key.
+    pub fn get_index_of<Q: Hash>(
+        this: Ref<'_, ArchivedIndexMap<K, V, H>>,
+        query: &Q,
+    ) -> Option<usize>
+    where
+        K: HashedKey<Q>,
+        requires has { HasMap K.shape V.shape K.knows V.knows this }
+        ensures answers { (m : IndexMap) → IsMap K.shape V.shape this.entry m
+            → LooksUpEntry this.entry.bytes.now K.shape V.shape m (HashesTo H.is_default H.write H.finish (Q.hash_input query.now)) (KeySays K.key_of K.order this.entry.bytes.now query.now) (λ i. i) result }
+    {
+        search_key::<Q, K, V, H>(this.bytes, this.pos, query)
+    }
+
+    /// Returns whether the map has a key.
+    pub fn contains_key<Q: Hash>(this: Ref<'_, ArchivedIndexMap<K, V, H>>, query: &Q) -> bool
+    where
+        K: HashedKey<Q>,
+        requires has { HasMap K.shape V.shape K.knows V.knows this }
+        ensures answers { (m : IndexMap) → IsMap K.shape V.shape this.entry m
+            → (found : Option ℕ) × (result ≡ is_some found)
+            × LooksUpEntry this.entry.bytes.now K.shape V.shape m (HashesTo H.is_default H.write H.finish (Q.hash_input query.now)) (KeySays K.key_of K.order this.entry.bytes.now query.now) (λ i. i) found }
+    {
+        search_key::<Q, K, V, H>(this.bytes, this.pos, query).is_some()
+    }
+}

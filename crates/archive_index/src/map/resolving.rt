@@ -1,0 +1,57 @@
+//! Writes the own bytes of an index map, once the positions of its controls and its entries are known.
+ghost use Rattle.std.specs.Prelude.{◌≡◌, ◌+◌, ◌^◌, ◌<◌, ◌≤◌, ◌++◌, ◌⊎◌, length, MatchResult};
+ghost use Rattle.archive_shape.specs.Bytes.{overwrite};
+ghost use Rattle.archive_shape.specs.ShapeLayout.Edit.{Spares};
+ghost use Rattle.archive_forms_writing.specs.FormsLaws.Links.{link_bytes, LinkFits, LinkRefused};
+ghost use Rattle.archive_hash.specs.HashMaps.Resolving.{own_bytes, IsWithinLimits, IsRefused};
+ghost use Rattle.archive_shape.specs.ShapeLayout.Shape.Shape.{table};
+
+use crate::map::ArchivedIndexMap;
+use archive_forms_values::emplace_link;
+use archive_hash::maps::{ArchivedHashTable, HashTableResolver};
+use archive_shape::{ArchivedU32, Place, Portable};
+use archive_shape_writing::Error;
+
+/// The position of the controls of a map's table, and that of its first entry, if the map has entries.
+#[derive(Clone, Copy, Debug, PartialEq, Eq)]
+pub struct IndexMapResolver {
+    pub table: HashTableResolver,
+    pub entries: Option<usize>,
+}
+
+impl<K: Portable, V: Portable, H> ArchivedIndexMap<K, V, H> {
+    /// Writes the own bytes of the map of `len` entries: those of its table, as `ArchivedHashTable::resolve_from_len`
+    /// writes them, and the pointer to its entries.
+    ///
+    /// # Errors
+    /// The errors of `ArchivedHashTable::resolve_from_len`; then `IsizeOverflow` if the offset to the entries does not
+    /// fit. After an error no bytes other than the map's own ones have changed.
+    pub fn resolve_from_len(
+        len: usize,
+        load_factor: (usize, usize),
+        resolver: IndexMapResolver,
+        out: Place<'_, ArchivedIndexMap<K, V, H>>,
+    ) -> Result<(), Error>
+        requires room { out.start + 16 ≤ length out.out.now }
+        requires stands { out.pos + 16 < 2 ^ 64 }
+        ensures { MatchResult result
+            (λ _. IsWithinLimits len load_factor resolver.table.pos out.entry.pos × LinkFits resolver.entries (out.entry.pos + 12)
+            × (out.exit.0.now ≡ overwrite out.entry.out.now out.entry.start (own_bytes len load_factor resolver.table.pos out.entry.pos ++ link_bytes resolver.entries (out.entry.pos + 12))))
+            (λ e. (IsRefused len load_factor resolver.table.pos out.entry.pos e ⊎ LinkRefused resolver.entries (out.entry.pos + 12) e)
+            × Spares out.entry.out.now out.exit.0.now out.entry.start 16) }
+    {
+        let Place {
+            out,
+            start,
+            pos,
+            ..
+        } = out;
+        let table = Place::<ArchivedHashTable<ArchivedU32>>::within(&mut *out, start, pos);
+        match ArchivedHashTable::resolve_from_len(len, load_factor, resolver.table, table) {
+            Ok(()) => {}
+            Err(e) => return Err(e),
+        }
+        let link = Place::within(out, start + 12, pos.saturating_add(12));
+        emplace_link(resolver.entries, link)
+    }
+}

@@ -1,0 +1,106 @@
+//! Look-ups of the numbers of entries.
+ghost use Rattle.std.specs.Prelude.{◌≡◌, ℕ, ◌+◌, ◌*◌, ◌^◌, ◌<◌, ◌≤◌, length, IfSome};
+ghost use Rattle.archive_shape.specs.ShapeLayout.Bytes.{word_at};
+ghost use Rattle.archive_shape.specs.ShapeLayout.Shape.{size_of};
+ghost use Rattle.archive_forms_values.specs.Tuples.{tuple2};
+ghost use Rattle.archive_forms_values.specs.Parts.{HasValue, both};
+ghost use Rattle.archive_hash.specs.HashWalking.Maps.{HashesTo, KeySays, query_calls, key_at, entry_at};
+ghost use Rattle.archive_index.specs.Maps.{IndexMap, IsMapAt, HasMapAt, count_of, entry_position};
+ghost use Rattle.archive_index.specs.Lookups.{AnswersEntry, LooksUpEntry};
+
+use crate::map::entries::entries_at;
+use archive_forms_values::Entry;
+use archive_hash::walking::{HashedKey, number_at, search_table};
+use archive_hash_probing::{Group, hash_value};
+use archive_shape::{ArchivedU32, Portable, Ref};
+use std::hash::{Hash, Hasher};
+
+/// Returns the position of the entry whose number is the item at `at`. The entries begin at `start`.
+fn named_entry<K: Portable, V: Portable>(bytes: &[u8], start: usize, at: usize) -> usize
+    requires room { at + 4 ≤ length bytes.now }
+    requires fits { start + word_at bytes.now at * size_of (tuple2 K.shape V.shape) + size_of (tuple2 K.shape V.shape) < 2 ^ 64 }
+    ensures { result ≡ start + word_at bytes.entry.now at * size_of (tuple2 K.shape V.shape) }
+{
+    start + number_at(bytes, at) * Entry::<K, V>::SIZE
+}
+
+/// Returns the number of an entry that has the hash `hash` in the map at `pos`. `accepts` returns whether the entry at a
+/// position is the one searched for.
+pub(crate) fn search_entries<K: Portable, V: Portable, F: Fn(usize) -> bool>(
+    bytes: &[u8],
+    pos: usize,
+    hash: u64,
+    accepts: &F,
+) -> Option<usize>
+    requires has { HasMapAt K.shape V.shape K.knows V.knows bytes.now pos }
+    requires callable { (m : IndexMap) → IsMapAt bytes.now K.shape V.shape pos m → (i : ℕ) → i < count_of m → F.pre accepts.now (entry_position K.shape V.shape m i) }
+    ensures within { (m : IndexMap) → IsMapAt bytes.entry.now K.shape V.shape pos m → IfSome result (λ i. i < count_of m) }
+    ensures answers { (m : IndexMap) → IsMapAt bytes.entry.now K.shape V.shape pos m
+        → (strides : ℕ) × AnswersEntry bytes.entry.now K.shape V.shape m (F.post accepts.now) (λ i. i) hash result strides }
+{
+    let (start, _) = entries_at::<K, V>(bytes, pos);
+    let accepts_at = |at: usize| -> bool
+        requires room { at + 4 ≤ length bytes.now }
+        requires fits { start + word_at bytes.now at * size_of (tuple2 K.shape V.shape) + size_of (tuple2 K.shape V.shape) < 2 ^ 64 }
+        requires item { F.pre accepts.now (start + word_at bytes.now at * size_of (tuple2 K.shape V.shape)) }
+        ensures { F.post accepts.entry.now (start + word_at bytes.entry.now at * size_of (tuple2 K.shape V.shape)) result }
+    { accepts(named_entry::<K, V>(bytes, start, at)) };
+    match search_table::<ArchivedU32, Group, _>(bytes, pos, hash, &accepts_at).0 {
+        Some(at) => Some(number_at(bytes, at)),
+        None => None,
+    }
+}
+
+/// Returns the number of the entry of a key in the map at `pos`, if the map has the key.
+pub(crate) fn search_key<Q: Hash, K: HashedKey<Q>, V: Portable, H: Hasher + Default + Drop>(
+    bytes: &[u8],
+    pos: usize,
+    query: &Q,
+) -> Option<usize>
+    requires has { HasMapAt K.shape V.shape K.knows V.knows bytes.now pos }
+    ensures within { (m : IndexMap) → IsMapAt bytes.entry.now K.shape V.shape pos m → IfSome result (λ i. i < count_of m) }
+    ensures answers { (m : IndexMap) → IsMapAt bytes.entry.now K.shape V.shape pos m
+        → LooksUpEntry bytes.entry.now K.shape V.shape m (HashesTo H.is_default H.write H.finish (Q.hash_input query.now)) (KeySays K.key_of K.order bytes.entry.now query.now) (λ i. i) result }
+{
+    let accepts = |at: usize| -> bool
+        requires { K.is_key bytes.now at }
+        ensures { KeySays K.key_of K.order bytes.entry.now query.entry.now at result }
+    { K::same(&Ref::new(bytes, at), query) };
+    search_entries::<K, V, _>(bytes, pos, hash_value::<Q, H>(query), &accepts)
+}
+
+/// Returns the number of the entry that has the query's hash and whose key the caller's comparison accepts, in the map
+/// at `pos`.
+pub(crate) fn search_with<
+    Q: Hash,
+    K: Portable,
+    V: Portable,
+    H: Hasher + Default + Drop,
+    F: Fn(&Q, Ref<'_, K>) -> bool,
+>(bytes: &[u8], pos: usize, query: &Q, accepts: &F) -> Option<usize>
+    requires has { HasMapAt K.shape V.shape K.knows V.knows bytes.now pos }
+    requires callable { (at : ℕ) → HasValue K.shape K.knows bytes.now at → F.pre accepts.now query (key_at bytes at) }
+    ensures within { (m : IndexMap) → IsMapAt bytes.entry.now K.shape V.shape pos m → IfSome result (λ i. i < count_of m) }
+    ensures answers { (m : IndexMap) → IsMapAt bytes.entry.now K.shape V.shape pos m
+        → LooksUpEntry bytes.entry.now K.shape V.shape m (HashesTo H.is_default H.write H.finish (Q.hash_input query.now)) (query_calls F.post accepts.now query.entry bytes.entry) (λ i. i) result }
+{
+    let hash = hash_value::<Q, H>(query);
+    let accepts_at = |at: usize| -> bool
+        requires { F.pre accepts.now query (key_at bytes at) }
+        ensures { F.post accepts.entry.now query.entry (key_at bytes.entry at) result }
+    { accepts(query, Ref::new(bytes, at)) };
+    search_entries::<K, V, _>(bytes, pos, hash, &accepts_at)
+}
+
+/// Returns the position of the entry with a number.
+pub(crate) fn entry_at<K: Portable, V: Portable>(bytes: &[u8], pos: usize, index: usize) -> usize
+    requires has { HasMapAt K.shape V.shape K.knows V.knows bytes.now pos }
+    requires within { (m : IndexMap) → IsMapAt bytes.now K.shape V.shape pos m → index < count_of m }
+    ensures stands { (m : IndexMap) → IsMapAt bytes.entry.now K.shape V.shape pos m → result ≡ entry_position K.shape V.shape m index }
+    ensures there { HasValue (tuple2 K.shape V.shape) (both K.knows V.knows) bytes.entry.now result }
+{
+    let _len = bytes.len();
+    let (start, _) = entries_at::<K, V>(bytes, pos);
+    let size = Entry::<K, V>::SIZE;
+    start + index * size
+}

@@ -1,0 +1,95 @@
+//! The type of archived index sets, its layout, its check, its length and its keys.
+ghost use Rattle.std.specs.Prelude.{◌≡◌, ◌++◌, ◌↔◌, [], map, All, IsTrue};
+ghost use Rattle.std.proofs.Common.{refl, lit<, lit≤};
+ghost use Rattle.archive_shape_layout.proofs.Naming.{first_types};
+ghost use Rattle.archive_forms_values.specs.Parts.{HasValue};
+ghost use Rattle.archive_hash.specs.HashWalking.Places.{item_at};
+ghost use Rattle.archive_hash.specs.HashWalking.Maps.{key_at};
+ghost use Rattle.archive_hash.specs.HashMaps.Sets.{set_knows};
+ghost use Rattle.archive_index.specs.Maps.{IndexMap, count_of};
+ghost use Rattle.archive_index.specs.Sets.{HasSet, IsSet, key_positions, set_shape};
+
+use crate::map::{ArchivedIndexMap, Keys};
+use archive_shape::{ArchiveContext, CheckBytes, Error, NoUndef, Portable, Ref, Shape};
+use std::alloc::{AllocError, Global};
+use std::marker::PhantomData;
+
+/// An archived set that keeps the order of its keys. It has the bytes of an index map of its keys to `()`, whose places
+/// follow from the hashes of the keys by the hasher `H`.
+#[derive_where(Clone, Copy)]
+pub struct ArchivedIndexSet<K, H> {
+    pub of: PhantomData<(K, H)>,
+}
+
+impl<K, H> NoUndef for ArchivedIndexSet<K, H> {}
+
+impl<K: Portable, H> Portable for ArchivedIndexSet<K, H> {
+    ghost SIZE = { 16 };
+
+    ghost ALIGN = { 4 };
+
+    ghost shape = { set_shape K.shape };
+
+    ghost knows = { set_knows K.knows };
+
+    ghost named = { K.named ++ [] };
+
+    const SIZE: usize = 16;
+
+    const ALIGN: usize = 4;
+
+    fn shape(alloc: Global) -> Result<Shape, AllocError> {
+        ArchivedIndexMap::<K, (), H>::shape(alloc)
+    }
+
+    ghost sized = { refl };
+
+    ghost aligned = { refl };
+
+    ghost aligns = { (lit< tt, lit≤ tt) };
+
+    ghost known = { λ names has. (K.known names (first_types names K.named [] has), tt) };
+}
+
+impl<C: ArchiveContext, K: CheckBytes<C>, H> CheckBytes<C> for ArchivedIndexSet<K, H> {
+    fn check(alloc: Global, bytes: &[u8], pos: usize, context: &mut C) -> Result<(), Error> {
+        ArchivedIndexMap::<K, (), H>::check(alloc, bytes, pos, context)
+    }
+}
+
+/// Returns the set as a map of its keys to `()`.
+pub(crate) fn as_map<'a, K, H>(
+    this: Ref<'a, ArchivedIndexSet<K, H>>,
+) -> Ref<'a, ArchivedIndexMap<K, (), H>>
+    ensures { result ≡ item_at this.entry.bytes this.entry.pos }
+{
+    Ref::new(this.bytes, this.pos)
+}
+
+impl<K: Portable, H> ArchivedIndexSet<K, H> {
+    /// Returns the number of keys.
+    pub fn len(this: Ref<'_, ArchivedIndexSet<K, H>>) -> usize
+        requires { HasSet K.shape K.knows this }
+        ensures { (m : IndexMap) → IsSet K.shape this.entry m → result ≡ count_of m }
+    {
+        ArchivedIndexMap::len(as_map(this))
+    }
+
+    /// Returns whether the set has no keys.
+    pub fn is_empty(this: Ref<'_, ArchivedIndexSet<K, H>>) -> bool
+        requires { HasSet K.shape K.knows this }
+        ensures { (m : IndexMap) → IsSet K.shape this.entry m → IsTrue result ↔ (count_of m ≡ 0) }
+    {
+        ArchivedIndexMap::is_empty(as_map(this))
+    }
+
+    /// Returns the keys in order.
+    pub fn iter<'a>(this: Ref<'a, ArchivedIndexSet<K, H>>) -> Keys<'a, K, ()>
+        requires { HasSet K.shape K.knows this }
+        ensures there { All (λ r. HasValue K.shape K.knows r.bytes.now r.pos) result }
+        ensures keys { (m : IndexMap) → IsSet K.shape this.entry m
+            → result ≡ map (key_at this.entry.bytes) (key_positions K.shape m) }
+    {
+        ArchivedIndexMap::keys(as_map(this))
+    }
+}

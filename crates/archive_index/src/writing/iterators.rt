@@ -1,0 +1,85 @@
+//! Writes index maps of the entries that an iterator returns.
+ghost use Rattle.std.specs.Prelude.{◌-◌, ◌^◌, ◌<◌, List};
+ghost use Rattle.std.specs.Fn.{FnReturnsAt};
+ghost use Rattle.std.specs.Iterator.{Drains, IsFiniteIterable};
+ghost use Rattle.archive_forms_writing.specs.FormsLaws.Serializing.{HasState};
+ghost use Rattle.archive_forms_writing.specs.Steps.{IsElement, StepTakes, StepWrites};
+ghost use Rattle.archive_index.specs.Written.{WritesMap};
+
+use crate::map::IndexMapResolver;
+use crate::writing::hashed::serialize_hashed_map;
+use archive_forms_borrowed::collect_items;
+use archive_forms_writing::{Archive, ByArchive};
+use archive_hash::writing::hash_items;
+use archive_hash_probing::Scan;
+use archive_shape::{Allocator, Error, Writer};
+use std::marker::PhantomData;
+
+/// Writes the index map of the entries that an iterator returns, in this order: the table of their numbers, each at the
+/// first fit of its entry's hash, and then the entries, after their data, which `step` writes. `len` is the number of
+/// entries that the caller claims. At most `load_factor.0` of `load_factor.1` places are full. Memory is allocated for
+/// the entries that the iterator returns, and none for those that are only claimed. Keys are not compared: of equal keys
+/// each is written, and the first is found.
+///
+/// # Errors
+/// `InvalidLoadFactor` if no places or more than all may be full, and `IteratorLengthMismatch` if the iterator returns
+/// another number of entries than `len`; nothing is written in both cases. `LengthTooLarge` if the table would have 2^32
+/// places or more. `PositionTooLarge` if the table's buckets or the entries would not begin before position 2^32, or the
+/// controls would not end before position 2^64. `OutOfMemory` if an allocation fails. Also each error of `step` and of the
+/// serializer, and each error of resolving an entry's own bytes.
+pub fn serialize_from_iter_scan_each<
+    G: Scan,
+    T: Archive + Drop,
+    S: Writer + Allocator,
+    I: IntoIterator<Item = T> + Drop,
+    H: Fn(&T) -> u64,
+    F: Fn(&T, &mut S) -> Result<(T::Resolver, PhantomData<T::Archived>), Error>,
+>(
+    iter: I,
+    len: usize,
+    load_factor: (usize, usize),
+    hash: H,
+    serializer: &mut S,
+    step: F,
+) -> Result<IndexMapResolver, Error>
+    requires room { S.failures serializer.old < 2 ^ 64 - 1 }
+    requires state { HasState S.pos S.known serializer.old }
+    requires ends { IsFiniteIterable I.into_iter_gives I.IntoIter.can_next I.IntoIter.remaining iter }
+    requires takes { (it : I.IntoIter) (xs : List T) → I.into_iter_gives iter it
+        → Drains I.IntoIter.next_gives it xs → StepTakes F.Fn S.Writer step xs }
+    requires writes { StepWrites F.Fn (λ q. q.0) T.spelling S.Writer step }
+    requires hashes { (it : I.IntoIter) (xs : List T) → I.into_iter_gives iter it
+        → Drains I.IntoIter.next_gives it xs → (x : _) → IsElement xs x.now → H.pre hash x }
+    ensures { WritesMap (λ xs. (it : I.IntoIter) × I.into_iter_gives iter it
+        × Drains I.IntoIter.next_gives it xs) load_factor T.Archived.shape T.spelling S.Writer
+        (λ x h. FnReturnsAt H.Fn hash x h) len serializer.old serializer.new result }
+{
+    if load_factor.0 == 0 || load_factor.0 > load_factor.1 {
+        return Err(Error::InvalidLoadFactor);
+    }
+    let items = match collect_items(serializer.memory(), iter) {
+        Ok(items) => items,
+        Err(e) => return Err(e),
+    };
+    let actual = items.len();
+    if actual != len {
+        return Err(Error::IteratorLengthMismatch {
+            expected: len,
+            actual,
+        });
+    }
+    let items = items.as_slice();
+    let hashes = match hash_items(serializer.memory(), items, hash) {
+        Ok(hashes) => hashes,
+        Err(e) => return Err(e),
+    };
+    let hashes = hashes.as_slice();
+    serialize_hashed_map::<G, T, ByArchive, S, F>(
+        &ByArchive,
+        items,
+        hashes,
+        load_factor,
+        serializer,
+        step,
+    )
+}
