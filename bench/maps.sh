@@ -192,6 +192,7 @@ keys() {
 # compared DOCUMENT: compares the commands on a document, and on lines for it
 compared() {
     document=$1
+    statements=
     ./plain build $document $document.cab > answers
 
     lines=/dev/null
