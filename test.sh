@@ -1,6 +1,6 @@
 #!/usr/bin/env bash
 # Proves every crate and runs every test: the count of crates and of paths through crates.txt, the toolchain's merge
-# gate, and the program on files. The last line reports how many processor minutes that took.
+# gate, and the programs on files. The last line reports how many processor minutes that took.
 set -u
 cd "$(dirname "$0")" || exit 1
 log=$(mktemp)
@@ -28,10 +28,10 @@ if [ "$status" -ne 0 ] || ! [[ $(tail -n 1 "$log") =~ ^[0-9]+\ passed,\ 0\ faile
 fi
 say 'the merge gate passed'
 
-echo '== the program on files'
-# the merge gate has left the program that it proved and built
-if ! tests/program.sh "$PWD/crates/cab/out/cab"; then
-    say 'the program failed'
+echo '== the programs on files'
+# the merge gate has left the programs that it proved and built
+if ! tests/program.sh "$PWD/crates/cab/out/cab" "$PWD/crates/cab_show/out/cab_show"; then
+    say 'a program failed'
     exit 1
 fi
 say 'all passed'

@@ -1,28 +1,40 @@
 #!/usr/bin/env bash
-# Runs cab on files in a temporary folder: the program whose path is given, or else that of crates/cab. Each case
-# compares what cab prints, its faults, its status and the files that it leaves with what is written here.
+# Runs cab and cab_show on files in a temporary folder: the programs whose paths are given, or else those of crates/cab
+# and crates/cab_show. Each case compares what they print, their faults, their status and the files that they leave with
+# what is written here.
 set -u
 root=$(cd "$(dirname "$0")/.." && pwd)
 work=$(mktemp -d)
 # a file system that a case mounted, and left when the script was stopped
 trap 'umount "$work/files/full" 2> /dev/null; rm -rf "$work"' EXIT
 cab=$work/cab
+show=$work/cab_show
 
-# Without the path of a program, proves and builds cab, if that is not done yet.
-if [ $# -eq 0 ]; then
-    echo 'proving and building cab'
-    if ! (cd "$root/crates/cab" && rt run -- build "$root/examples/first/text" "$work/first.cab") < /dev/null > "$work/log" 2>&1; then
+# proved NAME WORD..: proves and builds a program, if that is not done yet, and runs it
+proved() {
+    local program=$1
+    shift
+    echo "proving and building $program"
+    if ! (cd "$root/crates/$program" && rt run -- "$@") < /dev/null > "$work/log" 2>&1; then
         cat "$work/log"
-        echo 'cab was not built'
+        echo "$program was not built"
         echo '0 passed, 1 failed'
         exit 1
     fi
+}
+
+# Without the paths of the programs, proves and builds them.
+if [ $# -eq 0 ]; then
+    proved cab build "$root/examples/first/text" "$work/first.cab"
+    proved cab_show "$work/first.cab"
 fi
 cp "${1:-$root/crates/cab/out/cab}" "$cab" && chmod +x "$cab" || exit 1
+cp "${2:-$root/crates/cab_show/out/cab_show}" "$show" && chmod +x "$show" || exit 1
 mkdir "$work/files"
 cd "$work/files" || exit 1
 
 usage='cab: usage: cab build TEXT ARCHIVE | cab run ARCHIVE\n'
+show_usage='cab_show: usage: cab_show ARCHIVE\n'
 five=010000000000000005000000000000000000000000000000
 six=010000000000000006000000000000000000000000000000
 seven=010000000000000007000000000000000000000000000000
@@ -76,16 +88,22 @@ run() {
     ended=$?
 }
 
+# runs cab_show with the given words
+show() {
+    "$show" "$@" < input > output 2> errors
+    ended=$?
+}
+
 differs() {
     wrong="$wrong; $1"
 }
 
-# prints FORMAT: what cab wrote to its standard output
+# prints FORMAT: what the program wrote to its standard output
 prints() {
     printf "$1" | cmp -s - output || differs "it printed $(head -c 200 output | tr '\n' '|')"
 }
 
-# ends STATUS FORMAT: the status that cab ended with, and what it wrote to its standard error
+# ends STATUS FORMAT: the status that the program ended with, and what it wrote to its standard error
 ends() {
     [ "$ended" = "$1" ] || differs "it ended with status $ended"
     printf "$2" | cmp -s - errors || differs "its faults were $(head -c 200 errors | tr '\n' '|')"
@@ -271,21 +289,6 @@ prints 'int 5\nok\nsome\n'
 ends 0 ''
 holds a.cab "$six$(printf "$some%.0s" {1..64})"
 finish
-
-for kind in 'kept 0' "kept 1\n'a\nint 5" "hashed 1\n'a\nkept 0" "ordered 1\n'a\nlist 1\nkept 0"; do
-    begin "a kind without a layout: $kind"
-    text "list 2\nint 5\n$kind\n"
-    run build text a.cab
-    prints ''
-    ends 1 'cab: save: Kind\n'
-    leaves text
-    archive "$five"
-    run build text a.cab
-    ends 1 'cab: save: Kind\n'
-    holds a.cab "$five"
-    leaves a.cab text
-    finish
-done
 
 begin 'a text that memory is refused for'
 yes none | head -n 4000000 | sed '1i list 4000000' > text
@@ -552,7 +555,7 @@ finish
 # empty, and one is not UTF-8; of the last, both options lead to one node
 for bytes in '' 01 "${five:2}" ff0000000000000005000000000000000000000000000000 000200000000000000000000000000000000000000000000 02000000fe6f726c64ffffff000000000000000000000000 \
     020000008100000064ffffff000000000000000000000000 \
-    080000000100000000000000000000000100000000000000 \
+    090000000100000000000000000000000100000000000000 \
     03000000fcffffff01000000000000000000000000000000 "${twice:0:96}0b${twice:98}" "${empties:0:80}01${empties:82}" "ff${twice:2}" \
     "$seven${nineteen}05000000d4ffffff02000000000000000000000000000000" \
     "$seven${nineteen}05000000ceffffff01000000000000000000000000000000" \
@@ -1480,7 +1483,7 @@ unopened "$(with "$single" 100 d4)" Access 'a table that begins before the first
 unopened "$(with "$single" 0 fe)" Access 'a key of a hashed map that is not UTF-8'
 unopened "$(with "$single" 0 8100000000000000)" Access 'a key of a hashed map of one byte out of line'
 unopened "$(with "$single" 8 09)" Access 'a value of a hashed map that is none'
-unopened "$(with "$single" 8 08)" Access 'a kept map in a hashed one'
+unopened "$(with "$single" 8 08)" Access 'a kept map without a table in a hashed one'
 unopened "$(table a "$(number 1)")00$(hashed -36 1 2)$(hashed -60 1 2)05000000ccffffff02000000000000000000000000000000" Access 'two hashed maps with one table'
 
 unopened "$(with "$single" 65 54 67 54)" WrongTag 'a control that is another tag'
@@ -1511,6 +1514,57 @@ flips 'each bit of a hashed map in an ordered one' "$under_eu" "get\nkeys\nget '
 for outcome in 'TooDeep 65' 'TooDeep 2198' 'Access 2199'; do
     nests 1 'hashed maps' "${world:0:192}" "${world:0:16}07000000d4ffffff0100000002000000$(zeros 40)${world:128:64}" "${world:192}" $outcome
 done
+
+# ---- kept maps
+
+# the kept map from z to 1 and from a to 2: the numbers of its three places, the controls from 12 on, the entries from 48
+# on, and the root from 112 on
+z_and_a=0100000000000000$(zeros 4)ff1155ff1155$(printf 'ff%.0s' {1..25})$(zeros 5)$(key z)$(number 1)$(key a)$(number 2)0800000098ffffff0200000003000000b0ffffff$(zeros 4)
+
+builds 'kept 0' 080000000100000000000000000000000100000000000000
+builds "kept 2\n'z\nint 1\n'a\nint 2" "$z_and_a"
+answers_in "$z_and_a" 'edits and questions under keys of a kept map' \
+    "get\nkeys\nget 'a\nget 'b\nget #0\nset int 3 'a\nset bool true 'z\nget 'a\nget 'z\nrange 'a 'z\nkeys 'a\n" \
+    "kept 2\nkeys 2 'z 'a\nint 2\nmissing\nmissing\nok\nrefused\nint 3\nint 1\nwrong\nwrong\n" "$(with "$z_and_a" 96 03)"
+answers_in "$(with "$z_and_a" 132 aaaaaaaa)" 'bytes of a kept map that no field has' "get 'a\nset int 3 'a\n" 'int 2\nok\n' "$(with "$z_and_a" 96 03 132 aaaaaaaa)"
+
+for count in 0 1 5 6 17 36 215; do
+    begin "a kept map of $count keys, each of which answers"
+    decimals "$count" | sed 's/^ordered/kept/' > text
+    run build text a.cab
+    ends 0 ''
+    { sed -n "s/^'/get '/p" text; echo "get 'x"; echo get; } > input
+    run run a.cab
+    { yes 'int 0' | head -n "$count"; echo missing; echo "kept $count"; } > expected
+    cmp -s output expected || differs 'other answers'
+    finish
+done
+
+asks 'questions in kept maps, in lists, options and other maps' "kept 2\n'b\nhashed 1\n'x\nkept 1\n'y\nint 1\n'a\nlist 1\nsome\nkept 0\n" \
+    "get\nkeys\nkeys 'b 'x\nget 'b 'x 'y\nget 'a #0 ?\nkeys 'a #0 ?\nkeys 'b\nget 'b 'y\n" \
+    "kept 2\nkeys 2 'b 'a\nkeys 1 'y\nint 1\nkept 0\nkeys 0\nwrong\nmissing\n"
+
+begin 'kept maps and options 64 deep'
+text "$(printf "some\\\\nkept 1\\\\n'a\\\\n%.0s" {1..32})int 5\n"
+run build text a.cab
+ends 0 ''
+lines "get$(printf " ? 'a%.0s" {1..32})\nset int 6$(printf " ? 'a%.0s" {1..32})\nget$(printf " ? 'a%.0s" {1..32})\n"
+run run a.cab
+prints 'int 5\nok\nint 6\n'
+ends 0 ''
+finish
+
+unopened "$(with "$z_and_a" 0 02)" Access 'a number that is that of no entry'
+unopened "$(with "$z_and_a" 124 02)" Access 'a kept map with as many pairs as places'
+unopened "$(with "$z_and_a" 128 b8)" Access 'entries of a kept map that reach into its node'
+unopened "$(with "$z_and_a" 48 fe)" Access 'a key of a kept map that is not UTF-8'
+unopened "$(with "$z_and_a" 56 09)" Access 'a value of a kept map that is none'
+unopened "$(with "$z_and_a" 13 12 16 12)" WrongTag 'a control of a kept map that is another tag'
+unopened "$(with "$z_and_a" 0 00)" WrongTag 'two places of a kept map that name one entry'
+unopened "$(with "$z_and_a" 0 00 4 01)" WrongTag 'two places of a kept map that name each other'"'"'s entries'
+unopened "$(with "$z_and_a" 13 55 16 55 48 61)" NotFound 'a key twice in a kept map'
+
+flips 'each bit of a kept map' "$z_and_a" "get\nkeys\nget 'a\nset int 3 'a\nget 'a\n" 771
 
 # ---- the file of an archive is replaced as a whole
 
@@ -1996,10 +2050,142 @@ ends 0 ''
 cmp -s a.cab new.cab || differs 'the archive is not edited after all'
 finish
 
+# ---- cab_show
+
+# shows TEXT: the archive of a text is shown as the text
+shows() {
+    begin "shown: ${1:0:60}"
+    text "$1\n"
+    run build text a.cab
+    cp a.cab before.cab
+    show a.cab
+    prints "$1\n"
+    ends 0 ''
+    cmp -s a.cab before.cab || differs 'a.cab was written'
+    leaves a.cab before.cab text
+    finish
+}
+
+shows 'bool true'
+shows 'int -9223372036854775808'
+shows "text '"
+shows "text 'hello\\sworld!"
+shows "shared 'hello\\sworld!"
+shows none
+shows 'some\nnone'
+shows 'list 0'
+shows "list 3\nshared 'a\nlist 2\nint 7\nint 19\nshared 'a"
+shows 'ordered 0'
+shows "ordered 6\n'\nint 1\n'a\nint 2\n'b\nint 3\n'c\nint 4\n'd\nint 5\n'e\nint 6"
+shows 'hashed 0'
+shows "hashed 6\n'\nint 1\n'a\nint 2\n'b\nint 3\n'c\nint 4\n'd\nint 5\n'e\nint 6"
+shows 'kept 0'
+shows "kept 2\n'z\nint 1\n'a\nint 2"
+shows "ordered 1\n'k\nsome\nlist 1\nhashed 1\n'l\nshared '"
+shows "list 2\nkept 2\n'b\nhashed 1\n'x\nkept 1\n'y\nshared 'c\n'a\ntext 'c\nsome\nkept 0"
+
+for container in some 'list 1' "ordered 1\\\\n'a" "hashed 1\\\\n'a" "kept 1\\\\n'a"; do
+    begin "64 containers in one another are shown with a stack of 1 MiB: $container"
+    text "$(printf "$container\\\\n%.0s" {1..64})int 5\n"
+    run build text a.cab
+    (ulimit -s 1024 && "$show" a.cab < input > output 2> errors)
+    ended=$?
+    cmp -s output text || differs 'the text is another'
+    ends 0 ''
+    finish
+done
+
+begin 'an archive that is edited and shown is built again'
+text "hashed 2\n'a\ntext 'world\n'b\nlist 2\nint 7\nint 19\n"
+run build text a.cab
+lines "set text 'WORLD 'a\nset int 20 'b #1\n"
+run run a.cab
+prints 'ok\nok\n'
+: > input
+show a.cab
+prints "hashed 2\n'a\ntext 'WORLD\n'b\nlist 2\nint 7\nint 20\n"
+ends 0 ''
+cp output text
+run build text again.cab
+cmp -s a.cab again.cab || differs 'the archive is another'
+finish
+
+# a shared text at two positions, and bytes that no field has
+for bytes in "${twice:0:24}2e2e2e2e${twice:32}" \
+    "${twice:0:32}${twice:0:32}03000000dcffffff0c00000000000000000000000000000003000000d4ffffff0c00000000000000000000000000000005000000ccffffff02000000000000000000000000000000"; do
+    begin 'an archive that is no image is shown, and built again as its image'
+    archive "$bytes"
+    show a.cab
+    prints "list 2\nshared 'hello\\sworld!\nshared 'hello\\sworld!\n"
+    ends 0 ''
+    cp output text
+    run build text again.cab
+    holds again.cab "$twice"
+    holds a.cab "$bytes"
+    finish
+done
+
+# unshown NAME HEX CAUSE: bytes that are no archive
+unshown() {
+    begin "not shown: $1"
+    archive "$2"
+    show a.cab
+    prints ''
+    ends 1 "cab: open: $3\n"
+    holds a.cab "$2"
+    leaves a.cab
+    finish
+}
+
+unshown 'no bytes' '' Access
+unshown 'a tag that is none' "${five/01/09}" Access
+unshown '65 options' "$five$(printf "$some%.0s" {1..65})" TooDeep
+
+begin 'an archive that is not there is not shown'
+show a.cab
+prints ''
+ends 1 'cab: cannot read a.cab\n'
+leaves
+finish
+
+for output in /dev/full closed; do
+    begin "the text is not printed: $output"
+    archive "$five"
+    if [ $output = closed ]; then
+        "$show" a.cab < input >&- 2> errors
+    else
+        "$show" a.cab < input > $output 2> errors
+    fi
+    ended=$?
+    ends 1 'cab: cannot write -\n'
+    holds a.cab "$five"
+    finish
+done
+
+begin 'memory is refused for a document that is shown'
+yes none | head -n 1000000 | sed '1i list 1000000' > text
+run build text a.cab
+(ulimit -v 45000 && "$show" a.cab < input > output 2> errors)
+ended=$?
+prints ''
+ends 1 'cab: open: OutOfMemory\n'
+finish
+
+for words in '' 'a.cab more' 'show a.cab'; do
+    begin "other words of cab_show: $words"
+    archive "$five"
+    show $words
+    prints ''
+    ends 2 "$show_usage"
+    finish
+done
+
 for example in "$root"/examples/*/; do
     begin "the example $(basename "$example")"
     run build "$example/text" a.cab
     ends 0 ''
+    show a.cab
+    cmp -s output "$example/text" || differs 'another text is shown'
     cp "$example/lines" input
     run run a.cab
     cmp -s output "$example/answers" || differs 'the answers are others'

@@ -107,6 +107,7 @@ pub use archive_forms::check_vec_each;
 pub use archive_forms::deserialize_array_each;
 pub use archive_forms::deserialize_box_each;
 pub use archive_forms::deserialize_boxed_slice_each;
+pub use archive_forms::deserialize_elements_each;
 pub use archive_forms::deserialize_option_each;
 pub use archive_forms::deserialize_rc_each;
 pub use archive_forms::deserialize_rc_slice_each;

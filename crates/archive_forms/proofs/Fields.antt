@@ -1,5 +1,6 @@
 -- What is read back of tuples, one field after another.
-use Rattle.std.proofs.Common.{◌≡◌, ℕ, ◌+◌, ◌≤◌, arith, zero-add, List, sym, ap, subst, ◌∙◌}
+use Rattle.std.proofs.Common.{◌≡◌, ℕ, ◌+◌, ◌≤◌, arith, zero-add, List, [], ◌∷◌, refl, sym, ap, subst, ◌∙◌}
+use Rattle.std.specs.Prelude.{⊤}
 use Rattle.archive_shape.specs.ShapeLayout.Bytes.{align_up}
 use Rattle.archive_shape.specs.ShapeLayout.Shape.{Shape, Shapes, size_of, align_of, fields_end}
 use Rattle.archive_shape.specs.ShapeLayout.Shape.Shape.{tuple}
@@ -11,10 +12,14 @@ use Rattle.archive_shape.proofs.ShapeLayout.Framed.{le_align_up, le_fields_end}
 use Rattle.archive_shape.proofs.ShapeLayout.PointerSizes.{first_multiple}
 use Rattle.archive_forms_laws.specs.ShapeCanonical.Sharing.{erased, all_erased}
 use Rattle.archive_shape.specs.Key.{HeldAt}
-use Rattle.archive_forms_values.specs.Parts.{HasValue}
-use Rattle.archive_forms_values.specs.Fields.{Field, shapes_of, field_position, BeginsWith, AreFields, AreFieldsAt, IsGroupOf}
+use Rattle.archive_forms_laws.specs.Fields.{unit_spelling}
+use Rattle.archive_forms_values.specs.Tuples.{tuple2}
+use Rattle.archive_forms_values.specs.Parts.{HasValue, both}
+use Rattle.archive_forms_values.specs.Fields.{Field, field, shapes_of, field_position, BeginsWith, AreFields, AreFieldsAt, IsGroupOf}
+use Rattle.archive_forms_values.proofs.Held.{fields_at}
 use Rattle.archive_forms.specs.Deserializing.{IsReadAt}
-use Rattle.archive_forms.specs.Reading.{reads_end, reads_field, reads_group}
+use Rattle.archive_forms.specs.Reading.{reads_as, reads_end, reads_field, reads_group, reads_key}
+use Rattle.archive_forms.proofs.Plain.{unit_read}
 
 -- ---- what fields have
 
@@ -85,3 +90,14 @@ pub tuple_read : (fs : List Field) (knows : Names → Type 0) (bytes : List ℕ)
 tuple_read fs knows bytes pos Fields there read v h =
     let g = there v h in
     (all_erased g.values, sym (ap erased g.is), read g.values g.each)
+
+-- an entry whose value has no bytes is read by its key
+pub key_read : {A : Type 0} (reads : Value → A → Type 0) (s : Shape) (knows : Names → Type 0) (bytes : List ℕ) (pos : ℕ) (x : A)
+    → IsReadAt reads s knows bytes pos x → IsReadAt (reads_key reads) (tuple2 s (tuple no_shapes)) (both knows (λ _. ⊤)) bytes pos x
+key_read reads s knows bytes pos x read =
+    let fs : List Field = field s knows ∷ field (tuple no_shapes) (λ _. ⊤) ∷ [] in
+    let behind = field_position s no_shapes (tuple no_shapes) pos in
+    tuple_read fs (both knows (λ _. ⊤)) bytes pos _ (fields_at fs (both knows (λ _. ⊤)) (λ names known. (known.0, (known.1, tt))) bytes pos)
+    (field_read reads (field s knows) bytes pos pos x _ _ refl read
+    (field_read (reads_as unit_spelling) (field (tuple no_shapes) (λ _. ⊤)) bytes behind behind (tt {0}) _ _ refl (unit_read (λ _. ⊤) bytes behind)
+    none_read))

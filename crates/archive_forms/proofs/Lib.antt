@@ -1,8 +1,8 @@
 mod Counted
 pub mod Faithful
-mod Fields
+pub mod Fields
 mod Kept
 mod Outcomes
 pub mod Plain
-mod Read
+pub mod Read
 mod ReadWeak

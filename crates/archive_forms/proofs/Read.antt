@@ -106,12 +106,13 @@ module _ {A : Type 0} (reads : Value → A → Type 0) (s : Shape) (knows : Name
   all_values to len xs v es e read =
       (all_erased es.elements, sym (ap erased es.is), all_read to xs es.elements (es.count ∙ sym e) read (λ i less. es.each i (omega (arith, less, e))))
 
-  pub vec_read :
-      (pos to len : ℕ) (r : Result (Vec A Global) Error) → IsVecAt s knows bytes pos to len
+  -- elements are those of each value of a shape at a position
+  pub elements_read :
+      (whole : Shape) (pos to len : ℕ) (r : Result (Vec A Global) Error) → ((v : Value) → HeldAt whole knows bytes pos v → AreElements s knows bytes to len v)
       → DeserializesAll reads s knows bytes to len (λ xs. xs.items) r
-      → DeserializesBy (reads_in (λ (xs : Vec A Global). xs.items) (reads_all reads)) (vector s) knows bytes pos (λ xs. xs) r
-  vec_read pos to len (Ok xs) there h = λ v held. all_values to len xs.items v (there.value v held) h.0 h.1
-  vec_read pos to len (Err e) there h = h
+      → DeserializesBy (reads_in (λ (xs : Vec A Global). xs.items) (reads_all reads)) whole knows bytes pos (λ xs. xs) r
+  elements_read whole pos to len (Ok xs) there h = λ v held. all_values to len xs.items v (there v held) h.0 h.1
+  elements_read whole pos to len (Err e) there h = h
 
   pub array_read :
       (n : ℕ) (pos : ℕ) (xs : List A) → IsArrayAt n s knows bytes pos → length xs ≡ n → AreReadFrom reads s knows bytes pos xs

@@ -5,6 +5,7 @@ use Rattle.archive_shape.specs.ShapeLayout.Value.{Value, Values}
 use Rattle.archive_shape.specs.ShapeLayout.Value.Value.{chosen, counted, group}
 use Rattle.archive_shape.specs.ShapeLayout.Value.Values.{no_values, more_values}
 use Rattle.archive_forms_laws.specs.Spelling.{Spelling}
+use Rattle.archive_forms_laws.specs.Fields.{unit_spelling}
 
 -- the values that are archived as it
 abbrev pub reads_as : {A R : Type 0} → Spelling A R → Value → A → Type 0
@@ -59,6 +60,10 @@ reads_tuple1 a v x = reads_group (reads_field a x.0 reads_end) v
 
 abbrev pub reads_tuple2 : {A B : Type 0} → (Value → A → Type 0) → (Value → B → Type 0) → Value → A × B → Type 0
 reads_tuple2 a b v x = reads_group (reads_field a x.0 (reads_field b x.1 reads_end)) v
+
+-- a key beside a value without bytes, by the key alone
+abbrev pub reads_key : {A : Type 0} → (Value → A → Type 0) → Value → A → Type 0
+reads_key keys v x = reads_tuple2 keys (reads_as unit_spelling) v (x, tt {0})
 
 abbrev pub reads_tuple3 : {A B C : Type 0} → (Value → A → Type 0) → (Value → B → Type 0) → (Value → C → Type 0) → Value → A × B × C → Type 0
 reads_tuple3 a b c v x = reads_group (reads_field a x.0 (reads_field b x.1 (reads_field c x.2 reads_end))) v

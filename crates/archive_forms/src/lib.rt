@@ -6,11 +6,11 @@ mod deserializing;
 pub use deserializing::{
     Deserialize, DeserializeUnsized, Deserializer, Keeps, ReadBack, ReadBehind, SharedPool,
     deserialize_array_each, deserialize_box_each, deserialize_boxed_slice_each,
-    deserialize_element, deserialize_option_each, deserialize_rc_each, deserialize_rc_slice_each,
-    deserialize_rc_str, deserialize_rc_weak_each, deserialize_rc_weak_slice_each,
-    deserialize_rc_weak_str, deserialize_result_each, deserialize_tuple1_each,
-    deserialize_tuple2_each, deserialize_tuple3_each, deserialize_tuple4_each,
-    deserialize_vec_each,
+    deserialize_element, deserialize_elements_each, deserialize_option_each, deserialize_rc_each,
+    deserialize_rc_slice_each, deserialize_rc_str, deserialize_rc_weak_each,
+    deserialize_rc_weak_slice_each, deserialize_rc_weak_str, deserialize_result_each,
+    deserialize_tuple1_each, deserialize_tuple2_each, deserialize_tuple3_each,
+    deserialize_tuple4_each, deserialize_vec_each,
 };
 
 pub mod collections;

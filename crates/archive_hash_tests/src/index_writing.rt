@@ -141,7 +141,7 @@ fn own_bytes_are_written_or_refused(rt: HostRuntime) {
 }
 
 /// Writes the index map of pairs, where each key and each value is written by a closure.
-fn write_pairs<K: Serialize<S> + Hash, V: Serialize<S>, S: Writer + Allocator>(
+pub(crate) fn write_pairs<K: Serialize<S> + Hash, V: Serialize<S>, S: Writer + Allocator>(
     pairs: &[(K, V)],
     serializer: &mut S,
 ) -> Result<IndexMapResolver, Error>

@@ -1,11 +1,14 @@
 //! Tests of archived hash tables: hashes and tags, the marks of scans, strides, the places that scans of every width
-//! find, the errors of checking tables and index maps, index maps and sets, and the bytes that are written.
+//! find, the errors of checking tables and index maps, index maps and sets, the bytes that are written, and what is
+//! read back.
 #![tactic(auto)]
 
 #[cfg(test)]
 mod checking;
 #[cfg(test)]
 mod index_maps;
+#[cfg(test)]
+mod index_reading;
 #[cfg(test)]
 mod index_writing;
 #[cfg(test)]

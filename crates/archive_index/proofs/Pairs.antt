@@ -11,8 +11,8 @@ use Rattle.archive_forms_borrowed.specs.declared.collections.entry.EntryResolver
 use Rattle.archive_forms_borrowed.specs.Entries.{entry_spelling}
 use Rattle.archive_hash.specs.Given.{entry_of}
 use Rattle.archive_index_spelling.proofs.Seen.{map_seen}
-use Rattle.archive_index.specs.declared.map.resolving.IndexMapResolver.{IndexMapResolver}
-use Rattle.archive_index.specs.Written.{written_map, resolver_of, positions_of}
+use Rattle.archive_index_spelling.specs.declared.resolver.IndexMapResolver.{IndexMapResolver}
+use Rattle.archive_index_spelling.specs.Resolvers.{written_map, resolver_of, positions_of}
 
 pub pairs_said : {A B R Q : Type 0} (load : ℕ × ℕ) (k v : Shape) (keys : Spelling A R) (vals : Spelling B Q) (hs : List ℕ) (es : List (EntryAdapter A B))
     → said (written_map load (tuple2 k v) (entry_spelling k keys v vals) hs) es ≡ said (seen_as (map entry_of) (written_map load (tuple2 k v) (tuple2_spelling k keys v vals) hs)) es

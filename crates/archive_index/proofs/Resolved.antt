@@ -18,8 +18,8 @@ use Rattle.archive_hash.specs.HashMaps.Resolving.{own_bytes, capacity, IsWithinL
 use Rattle.archive_hash.specs.HashMaps.Resolving.IsRefused.{has_no_load, has_many_places, is_far}
 use Rattle.archive_hash.proofs.HashWriting.SpellingTables.{length-own}
 use Rattle.archive_index_spelling.specs.Maps.{numbers}
-use Rattle.archive_index.specs.declared.map.resolving.IndexMapResolver.{IndexMapResolver}
-use Rattle.archive_index.specs.Written.{pairs_spelling}
+use Rattle.archive_index_spelling.specs.declared.resolver.IndexMapResolver.{IndexMapResolver}
+use Rattle.archive_index_spelling.specs.Resolvers.{pairs_spelling}
 
 module _ (len : ℕ) (load : ℕ × ℕ) (to entries : Option ℕ) (pos start : ℕ) (old : List ℕ) (room : start + 16 ≤ length old) where
   -- what a call that writes the map's own bytes ensures

@@ -50,6 +50,13 @@ module _ (k v : Shape) (knows others : Names → Type 0) (bytes : List ℕ) (pos
       let count : n ≡ count_of r.map = is ∙ table_count r.stands.table in
       subst (λ a. AreElements (tuple2 k v) (both knows others) bytes a n value) (sym start) (subst (λ m. AreElements (tuple2 k v) (both knows others) bytes r.map.start m value) (sym count) r.entries)
 
+  -- they end before the map
+  pub entries_before : HasValue (index_map k v) (both knows others) bytes pos → (to n : ℕ) → ((m : IndexMap) → IsMapAt bytes k v pos m → (to ≡ m.start) × (n ≡ count_of m)) → to + n * size_of (tuple2 k v) ≤ pos
+  entries_before h to n are =
+      let r = map_of h in
+      let e = are r.map r.stands in
+      subst (λ a. a + n * size_of (tuple2 k v) ≤ pos) (sym e.0) (subst (λ m. r.map.start + m * size_of (tuple2 k v) ≤ pos) (sym e.1) r.before)
+
   -- the pointer to them
   pub leads_on : HasValue (index_map k v) (both knows others) bytes pos → (word_at bytes (pos + 4) ≡ 0 → ⊥) → (to : ℕ) × PointsTo bytes (pos + 12) to
   leads_on h some = let r = map_of h in (r.map.start, r.stands.leads (λ e. some (table_count r.stands.table ∙ e)))

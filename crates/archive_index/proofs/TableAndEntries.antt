@@ -19,8 +19,8 @@ use Rattle.archive_hash.specs.HashMaps.declared.map.resolving.HashTableResolver.
 use Rattle.archive_hash.specs.HashWriting.Claimed.{AreHashesOf, written_spelling}
 use Rattle.archive_hash.proofs.HashWriting.SpellingFitting.{length-table}
 use Rattle.archive_index_spelling.specs.Maps.{numbers}
-use Rattle.archive_index.specs.declared.map.resolving.IndexMapResolver.{IndexMapResolver}
-use Rattle.archive_index.specs.Written.{written_map}
+use Rattle.archive_index_spelling.specs.declared.resolver.IndexMapResolver.{IndexMapResolver}
+use Rattle.archive_index_spelling.specs.Resolvers.{written_map}
 
 module _ {A R W : Type 0} (load : ℕ × ℕ) (sh : Shape) (w : Spelling A R) (hashes : List ℕ) (s : WriterMembers W) where
   abbrev spelled : Spelling (List A) IndexMapResolver

@@ -1,5 +1,5 @@
 //! Archived index maps and sets, which keep the order of their entries: their check, how they are read and lent for
-//! writing, and how entries are written as one.
+//! writing, how entries are written as one, and how one is read back.
 #![tactic(auto)]
 
 mod check;
@@ -8,9 +8,14 @@ pub mod map;
 pub mod set;
 mod writing;
 
+pub use archive_hash as hash;
+pub use archive_index_spelling::IndexMapResolver;
 pub use check::check_index_map_each;
-pub use map::{ArchivedIndexMap, IndexMapResolver, Iter, Keys, Values, map_is_read, one_map};
-pub use set::{ArchivedIndexSet, IndexSetResolver};
+pub use map::{
+    ArchivedIndexMap, Iter, Keys, Values, deserialize_index_map_each, map_is_read, one_map,
+    search_entries,
+};
+pub use set::{ArchivedIndexSet, IndexSetResolver, deserialize_index_set_each};
 pub use writing::{
     serialize_entries_with_each, serialize_from_iter_scan_each, serialize_map_from_iter,
     serialize_set_from_iter,

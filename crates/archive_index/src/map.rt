@@ -2,7 +2,8 @@
 
 mod calling;
 mod debug;
-mod entries;
+mod deserialize;
+pub(crate) mod entries;
 mod equal;
 mod hashing;
 mod iter;
@@ -13,7 +14,8 @@ mod resolving;
 mod seal;
 mod search;
 
+pub use deserialize::deserialize_index_map_each;
 pub use iter::{Iter, Keys, Values};
 pub use laws::{map_is_read, one_map};
 pub use map::ArchivedIndexMap;
-pub use resolving::IndexMapResolver;
+pub use search::search_entries;

@@ -12,7 +12,7 @@ use Rattle.archive_shape_layout.specs.Value.Value.{natural, string, group}
 use Rattle.archive_shape_layout.specs.Value.Values.{more_values, no_values}
 use Rattle.archive_shape_canonical.specs.Hash.{text_hash}
 use Rattle.archive_shape_canonical.specs.Strides.{places_for}
-use Rattle.archive_shape_canonical.specs.FirstFit.{capacity_for, first_fit, fitted_from, is_free, item_at, keys_in, numbers_at, present, text_key, written_controls}
+use Rattle.archive_shape_canonical.specs.FirstFit.{capacity_for, first_fit, fitted_from, is_free, item_at, keys_in, numbers_at, placed, present, text_key, written_controls}
 use Rattle.archive_shape_canonical.specs.Seen.{key_alone, keys_alone}
 use Rattle.archive_forms_values.specs.Tuples.{tuple2}
 use Rattle.archive_forms_laws.specs.Spelling.{Spelling}
@@ -45,6 +45,10 @@ present_listed f g e (p ∷ ps) = flat_map-cons f p ps ∙ ap₂ (λ xs ys. xs +
     joined : (o : Option ℕ) (ns : List ℕ) → listed o ++ ns ≡ cons_option o ns
     joined None ns = refl
     joined (Some n) ns = refl
+
+-- by ascending place
+pub numbers_placed : (cap : ℕ) (qs : List ℕ) → flat_map (numbers_at 0 qs) (range_with_len 0 cap) ≡ present (placed cap qs (range_with_len 0 (length qs)))
+numbers_placed cap qs = present_listed (numbers_at 0 qs) (item_at (range_with_len 0 (length qs)) qs) (numbers_listed 0 qs) (range_with_len 0 cap)
 
 -- each hash has a place
 length-fitted : (cap : ℕ) (taken hashes : List ℕ) → length (fitted_from cap taken hashes) ≡ length hashes
@@ -89,7 +93,7 @@ module _ {A R : Type 0} (s : Shape) (w : Spelling A R) (key : A → List ℕ) (t
         let cap = capacity_for (length (numbers xs)) 7 8 in
         let places = given (length (numbers xs)) (map hash xs) in
         let long : length places ≡ length xs = length-fitted cap [] (map hash xs) ∙ length-map xs hash in
-        present_listed (numbers_at 0 places) (item_at (range_with_len 0 (length places)) places) (numbers_listed 0 places) (range_with_len 0 cap)
+        numbers_placed cap places
         ∙ ap (λ n. present (map (item_at (range_with_len 0 n) places) (range_with_len 0 cap))) long
 
   pub texts_kept : (xs : List A) → IsKeptBy 7 8 s w (map hash xs) (first_fit text_hash) xs

@@ -58,11 +58,11 @@ use Rattle.archive_index_spelling.proofs.Places.{IsBelow, AreBelow, numbers_as_p
 -- ---- numbers
 
 -- they have no data, and meet no shared values
-numbers_met : (ns : List ℕ) (st : State) → (state_after_all number_spelling ns st).met ≡ st.met
+pub numbers_met : (ns : List ℕ) (st : State) → (state_after_all number_spelling ns st).met ≡ st.met
 numbers_met [] st = refl
 numbers_met (n ∷ ns) st = numbers_met ns (state_after number_spelling n st)
 
-numbers_pos : (ns : List ℕ) (st : State) → (state_after_all number_spelling ns st).pos ≡ st.pos
+pub numbers_pos : (ns : List ℕ) (st : State) → (state_after_all number_spelling ns st).pos ≡ st.pos
 numbers_pos [] st = refl
 numbers_pos (n ∷ ns) st = numbers_pos ns (state_after number_spelling n st) ∙ add-zero st.pos
 
@@ -75,7 +75,7 @@ numbers_suit fit keys [] = tt
 numbers_suit fit keys (n ∷ ns) = (tt, numbers_suit fit keys ns)
 
 -- a number's key is the number
-numbers_alone : (ns : List ℕ) → keys_alone (naturals ns) ≡ naturals ns
+pub numbers_alone : (ns : List ℕ) → keys_alone (naturals ns) ≡ naturals ns
 numbers_alone [] = refl
 numbers_alone (n ∷ ns) = ap (more_values (natural n)) (numbers_alone ns)
 
@@ -399,23 +399,27 @@ module _ {A R : Type 0} (fit : Fit) (k v : Shape) (knows : Names → Type 0) (w 
   map_spells_of [] even tags each = empty_spells even tags
   map_spells_of (x ∷ xs) even tags each = filled_spells x xs even tags each
 
--- so of all maps whose entries have hashes of their own
+-- where the hash of an entry follows from the entry
+pub index_spells_at : {A R : Type 0} (fit : Fit) (k v : Shape) (knows : Names → Type 0) (w : Spelling A R) (most places : ℕ) (hash : A → ℕ) (xs : List A) → All (λ h. h < 2 ^ 64) (map hash xs)
+    → EachSpells fit (tuple2 k v) knows w xs → SpellsAt fit (index_map k v) knows (index_spelling most places (tuple2 k v) w hash) xs
+index_spells_at fit k v knows w most places hash xs small each =
+    let one = map_spells_of fit k v knows w most places (map hash xs) xs (length-map xs hash) small each in
+    record {
+      sized = one.sized;
+      canonical = one.canonical;
+      consistent = one.consistent;
+      keyed = one.keyed;
+      piece_bytes = one.piece_bytes;
+      own_bytes = one.own_bytes;
+      piece_exact = one.piece_exact;
+      own_exact = one.own_exact;
+    }
+
+-- so of all maps of such entries
 pub index_spells : {A R : Type 0} (fit : Fit) (k v : Shape) (knows : Names → Type 0) (w : Spelling A R) (most places : ℕ) (hash : A → ℕ) → ((x : A) → hash x < 2 ^ 64) → Spells fit (tuple2 k v) knows w
     → Spells fit (index_map k v) knows (index_spelling most places (tuple2 k v) w hash)
-index_spells {A = A} fit k v knows w most places hash small h xs = record {
-  sized = one.sized;
-  canonical = one.canonical;
-  consistent = one.consistent;
-  keyed = one.keyed;
-  piece_bytes = one.piece_bytes;
-  own_bytes = one.own_bytes;
-  piece_exact = one.piece_exact;
-  own_exact = one.own_exact;
-}
+index_spells {A = A} fit k v knows w most places hash small h xs = index_spells_at fit k v knows w most places hash xs (hashes_small xs) (each_spells fit (tuple2 k v) knows w h xs)
   where
     hashes_small : (ys : List A) → All (λ n. n < 2 ^ 64) (map hash ys)
     hashes_small [] = All-nil (λ n. n < 2 ^ 64)
     hashes_small (y ∷ ys) = All-cons (λ n. n < 2 ^ 64) (hash y) (map hash ys) (small y) (hashes_small ys)
-
-    one : SpellsAt fit (index_map k v) knows (map_spelling most places (tuple2 k v) w (map hash xs)) xs
-    one = map_spells_of fit k v knows w most places (map hash xs) xs (length-map xs hash) (hashes_small xs) (each_spells fit (tuple2 k v) knows w h xs)

@@ -6,5 +6,7 @@
 #![tactic(auto)]
 
 mod laws;
+mod resolver;
 
 pub use laws::{maps_are_written, samples_are_spelled, texts_are_kept};
+pub use resolver::IndexMapResolver;

@@ -1,13 +1,13 @@
 -- The results of building an archive.
 use Rattle.std.specs.Prelude.{◌≡◌, ℕ, ◌<◌, ◌⊎◌, List, String, string_bytes, string_len, codes}
 use Rattle.std.specs.declared.alloc.Global.{Global}
-use Rattle.cabinet.specs.TextGrammar.Tree.{Tree}
-use Rattle.cabinet.specs.TextGrammar.Spelling.{text_of}
-use Rattle.cabinet.specs.TextGrammar.Fault.{FirstFault}
-use Rattle.cabinet.specs.Documents.Image.{Image}
-use Rattle.cabinet.specs.Archives.Saving.{HasNoImageFor}
-use Rattle.cabinet.specs.declared.fault.Fault.{Fault}
-use Rattle.cabinet.specs.declared.fault.Fault.TheVariants.{Usage, CannotRead, CannotWrite, Text, Save, Open, Run}
+use Rattle.cab_files.specs.Cabinet.TextGrammar.Tree.{Tree}
+use Rattle.cab_files.specs.Cabinet.TextGrammar.Spelling.{text_of}
+use Rattle.cab_files.specs.Cabinet.TextGrammar.Fault.{FirstFault}
+use Rattle.cab_files.specs.Cabinet.Documents.Image.{Image}
+use Rattle.cab_files.specs.Cabinet.Archives.Saving.{HasNoImageFor}
+use Rattle.cab_files.specs.Cabinet.declared.fault.Fault.{Fault}
+use Rattle.cab_files.specs.Cabinet.declared.fault.Fault.TheVariants.{Usage, CannotRead, CannotWrite, Text, Save, Open, Run}
 
 -- the bytes are an image of the document that has the text
 pub record Builds (text archive : List ℕ) : Type 0 where
@@ -15,8 +15,7 @@ pub record Builds (text archive : List ℕ) : Type 0 where
   pub text_is : text ≡ text_of document
   pub is_image : Image document archive
 
--- why there is no image: the text's first fault, a document with a kind without a layout or past the limits, or an
--- allocation that failed
+-- why there is no image: the text's first fault, a document past the limits, or an allocation that failed
 abbrev pub RefusesText : List ℕ → Fault → Type 0
 RefusesText text (Text refusal) = FirstFault text refusal.line refusal.cause
 RefusesText text (Save refusal) = (t : Tree) × (text ≡ text_of t) × HasNoImageFor t refusal

@@ -1,9 +1,10 @@
 //! `cab build`, which writes the archive of the document that a text file holds.
-ghost use Rattle.std.specs.Prelude.{◌≡◌, ◌<◌, IfOk, IfErr, string_bytes, string_len, codes};
+ghost use Rattle.std.specs.Prelude.{IfOk, IfErr};
 ghost use Rattle.cab.specs.Building.{Builds, RefusesText, EndsBuildBy};
 
 use crate::replacing;
-use cabinet::{Fault, read_text, to_bytes};
+use cab_files::cabinet::{Fault, read_text, to_bytes};
+use cab_files::standard_output;
 use std::alloc::Global;
 use std::fs;
 use std::fs::File;
@@ -22,15 +23,6 @@ pub fn archive_of(alloc: Global, text: &[u8]) -> Result<Vec<u8>, Fault>
         Ok(archive) => Ok(archive),
         Err(refusal) => Err(Fault::Save(refusal)),
     }
-}
-
-/// Returns the path `-`, which represents the standard output, in the memory of another path.
-fn standard_output(mut path: String) -> String
-    ensures { 0 < string_len path → string_bytes result ≡ codes "-" }
-{
-    path.clear();
-    let _ = path.push('-');
-    path
 }
 
 /// Saves the document that a text file holds as an archive file, and prints the number of bytes of the archive.

@@ -2,13 +2,13 @@
 ghost use Rattle.std.specs.Prelude.{◌≡◌, ◌↔◌, IsTrue};
 ghost use Rattle.std.specs.Fs.{metadata_len};
 ghost use Rattle.std.specs.IoError.{error_kind};
-ghost use Rattle.cabinet.specs.TextGrammar.Tree.{Tree};
-ghost use Rattle.cabinet.specs.Documents.Accepted.{Accepted};
+ghost use Rattle.cab_files.specs.Cabinet.TextGrammar.Tree.{Tree};
+ghost use Rattle.cab_files.specs.Cabinet.Documents.Accepted.{Accepted};
 ghost use Rattle.cab.specs.Beside.{folder_of, IsIrreplaceable};
 
 use crate::beside::Beside;
 use std::fs::{File, Metadata, OpenOptions, TryLockError};
-use std::io::{ErrorKind, Read, Write};
+use std::io::{ErrorKind, Write};
 use std::os::unix::fs::MetadataExt;
 use std::path::Path;
 use std::rt::Files;
@@ -154,18 +154,6 @@ fn is_irreplaceable(refusal: &io::Error) -> bool
         || kind == ErrorKind::ResourceBusy
         || kind == ErrorKind::InvalidFilename
         || kind == ErrorKind::Unsupported
-}
-
-/// Returns the bytes of a file, and what its metadata were before they were read.
-pub fn read<R: Files<File = File> + AllocGlobal>(
-    rt: &R,
-    path: &str,
-) -> io::Result<(Vec<u8>, Metadata)> {
-    let mut file = File::open(rt, path)?;
-    let metadata = file.metadata()?;
-    let mut bytes = Vec::new(rt.alloc());
-    file.read_to_end(&mut bytes)?;
-    Ok((bytes, metadata))
 }
 
 /// Writes an archive as the file at a path, which it replaces if one is there.

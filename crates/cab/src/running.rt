@@ -1,15 +1,14 @@
 //! `cab run`, which carries out the lines of the standard input in an archive file.
 ghost use Rattle.std.specs.Prelude.{◌≡◌, ◌-◌, ◌^◌, ◌<◌, true, IfErr, MatchResult};
-ghost use Rattle.cabinet.specs.TextGrammar.Tree.{Tree};
-ghost use Rattle.cabinet.specs.Documents.Accepted.{Accepted};
-ghost use Rattle.cabinet.specs.Editing.{EditedByLines};
+ghost use Rattle.cab_files.specs.Cabinet.TextGrammar.Tree.{Tree};
+ghost use Rattle.cab_files.specs.Cabinet.Documents.Accepted.{Accepted};
+ghost use Rattle.cab_files.specs.Cabinet.Editing.{EditedByLines};
 ghost use Rattle.cab.specs.Ending.{IsFlushed, IsFirstFault, EditsArchive, EndsRunBy};
 
 use crate::input::InputStream;
-use crate::output::OutputStream;
-use crate::replacing;
 use crate::replacing::write_back;
-use cabinet::{Count, Fault, RunCause, RunFault, check, run_in};
+use cab_files::cabinet::{Count, Fault, RunCause, RunFault, check, run_in};
+use cab_files::{OutputStream, read};
 use std::alloc::Global;
 use std::fs::{File, Metadata};
 use std::io;
@@ -124,7 +123,7 @@ where
     R::Reader: IsTerminal,
     ensures { IfErr result (EndsRunBy path) }
 {
-    match replacing::read(rt, path.as_str()) {
+    match read(rt, path.as_str()) {
         Ok((mut archive, read)) => edit_archive(rt, path, archive.as_mut_slice(), &read),
         Err(_) => Err(Fault::CannotRead(path)),
     }

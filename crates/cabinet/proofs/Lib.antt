@@ -1,3 +1,4 @@
+mod Loads
 pub mod Nested
 mod Questions
 pub mod RefusalLemmas

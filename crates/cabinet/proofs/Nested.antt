@@ -16,8 +16,8 @@ use Rattle.cabinet_archived.specs.Documents.Node.{node_names}
 use Rattle.cabinet_archived.specs.Documents.Walk.{Stop, Walks, WalkAll, is_container, depth_in, parts_of, joined}
 use Rattle.cabinet_archived.specs.Documents.Walk.Walks.{walks}
 use Rattle.cabinet_archived.specs.Documents.Walk.WalkAll.{walk_more}
-use Rattle.cabinet_archived.proofs.Documents.Places.{Place, shared_here, box_here, pair_here, tree_node, tree_child, buckets_here, absent_here, node_behind, nodes_behind, text_behind, Spot, part_of, parts_at, nodes_from, entries_from, children_from, items_from, is_behind, Passes, node_passes, box_passes, behind_passes, list_passes, text_passes, child_passes, table_passes, Pays, pays_truth, pays_number, pays_text, pays_shared, pays_option, pays_list, pays_ordered, pays_hashed, pays_absent, Follows, passes, pays, truth_is, number_is, text_is, behind_is, none_is, some_is, nodes_follow, empty_is, total_is, leaf_follows, inner_follows, no_child_is, entry_follows, no_items_is, items_follow, pair_follows, Leads, leads_nowhere, leads_absent, leads_plain, leads_claimed, leads_counted, led}
-use Rattle.cabinet_archived.proofs.Documents.Nodes.{absent_law, counts}
+use Rattle.cabinet_archived.proofs.Documents.Places.{Place, shared_here, box_here, pair_here, tree_node, tree_child, buckets_here, numbers_here, node_here, entry_number, node_behind, nodes_behind, pairs_behind, text_behind, Spot, part_of, parts_at, each_from, entries_from, children_from, tagged_from, is_behind, Passes, node_passes, box_passes, behind_passes, list_passes, text_passes, child_passes, table_passes, Pays, pays_truth, pays_number, pays_text, pays_shared, pays_option, pays_list, pays_ordered, pays_hashed, pays_kept, Follows, passes, pays, truth_is, number_is, text_is, behind_is, none_is, some_is, nodes_follow, empty_is, total_is, leaf_follows, inner_follows, no_child_is, entry_follows, no_items_is, items_follow, no_entries_is, entries_second, numbers_follow, entry_number_is, pairs_follow, pair_follows, Leads, leads_nowhere, leads_plain, leads_claimed, leads_counted, led}
+use Rattle.cabinet_archived.proofs.Documents.HeldNodes.{counts}
 use Rattle.cabinet_archived.proofs.Documents.Stops.{Each, each_front, each_flat, flat}
 
 -- ---- how many regions may lie around a place
@@ -30,6 +30,8 @@ spare box_here = 32
 spare node_behind = 32
 spare (nodes_behind len) = 32
 spare (buckets_here target len cap) = 32
+spare (numbers_here target len cap) = 32
+spare (pairs_behind len) = 32
 spare k = 33
 
 -- the number of regions around a place inside `depth` containers is as low as that
@@ -41,9 +43,9 @@ Fit level depth [] = ⊤
 Fit level depth (q ∷ qs) = Fits level depth q.place × Fit level depth qs
 
 module _ (level depth : ℕ) where
-  nodes_fit : (pos n : ℕ) → level + 32 ≤ 32 * depth + 33 → Fit level depth (nodes_from pos n)
-  nodes_fit pos zero h = tt
-  nodes_fit pos (suc n) h = (h, nodes_fit (pos + 24) n h)
+  each_fit : (k : Place) (size pos n : ℕ) → Fits level depth k → Fit level depth (each_from k size pos n)
+  each_fit k size pos zero h = tt
+  each_fit k size pos (suc n) h = (h, each_fit k size (pos + size) n h)
 
   entries_fit : (n key value : ℕ) → level + 32 ≤ 32 * depth + 33 → Fit level depth (entries_from n key value)
   entries_fit zero key value h = tt
@@ -53,13 +55,13 @@ module _ (level depth : ℕ) where
   branches_fit zero deeper link es h k = k
   branches_fit (suc n) deeper link es h k = (h, branches_fit n deeper (link + 4) es h k)
 
-items_fit : (level depth target i : ℕ) (cs : List ℕ) → level + 32 ≤ 32 * depth + 33 → Fit level depth (items_from target i cs)
-items_fit level depth target i [] h = tt
-items_fit level depth target i (c ∷ cs) h = by (nat_lt c 128) (items_fit level depth target (i + 1) cs h)
+tagged_fit : (level depth : ℕ) (k : Place) (size target i : ℕ) (cs : List ℕ) → Fits level depth k → Fit level depth (tagged_from k size target i cs)
+tagged_fit level depth k size target i [] h = tt
+tagged_fit level depth k size target i (c ∷ cs) h = by (nat_lt c 128) (tagged_fit level depth k size target (i + 1) cs h)
   where
-    by : (b : Bool) → Fit level depth (items_from target (i + 1) cs) → Fit level depth (cond b (record { place = pair_here; pos = target - (i + 1) * 32 } ∷ items_from target (i + 1) cs) (items_from target (i + 1) cs))
-    by true k = (h, k)
-    by false k = k
+    by : (b : Bool) → Fit level depth (tagged_from k size target (i + 1) cs) → Fit level depth (cond b (record { place = k; pos = target - (i + 1) * size } ∷ tagged_from k size target (i + 1) cs) (tagged_from k size target (i + 1) cs))
+    by true later = (h, later)
+    by false later = later
 
 passes_fit : {bytes : List ℕ} {k j : Place} (level depth pos : ℕ) → Passes bytes k j → Fits level depth k → Fits level (depth_in depth (part_of k pos)) j
 passes_fit level depth pos node_passes h = h
@@ -79,7 +81,7 @@ pays_fit pays_option = refl
 pays_fit pays_list = refl
 pays_fit pays_ordered = refl
 pays_fit pays_hashed = refl
-pays_fit (pays_absent z) = refl
+pays_fit pays_kept = refl
 
 -- what follows a place without its own region
 plain_fit : {bytes : List ℕ} {k : Place} {l : Label} {qs : List Spot} (level depth pos : ℕ)
@@ -92,7 +94,7 @@ plain_fit level depth pos (text_is e f) h = subst (Fit level depth) (sym f) tt
 plain_fit level depth pos (behind_is e f) h = subst (Fit level depth) (sym f) tt
 plain_fit level depth pos (none_is e f) h = subst (Fit level (depth + 1)) (sym f) tt
 plain_fit level depth pos (some_is e f) h = subst (Fit level (depth + 1)) (sym f) (omega (arith, h), tt)
-plain_fit level depth pos (nodes_follow {len = len} start e f) h = subst (Fit level depth) (sym f) (nodes_fit level depth start len (omega (arith, h)))
+plain_fit level depth pos (nodes_follow {len = len} start e f) h = subst (Fit level depth) (sym f) (each_fit level depth node_here 24 start len (omega (arith, h)))
 plain_fit level depth pos (empty_is e f) h = subst (Fit level (depth + 1)) (sym f) tt
 plain_fit level depth pos (total_is small e f) h = subst (Fit level (depth + 1)) (sym f) (omega (arith, h), tt)
 plain_fit level depth pos (leaf_follows n key value low e f) h = subst (Fit level depth) (sym f) (entries_fit level depth n key value (omega (arith, low, h)))
@@ -101,7 +103,12 @@ plain_fit level depth pos (inner_follows most deeper link key value low next e f
 plain_fit level depth pos (no_child_is e f) h = subst (Fit level depth) (sym f) tt
 plain_fit level depth pos (entry_follows e f) h = subst (Fit level depth) (sym f) (h, (h, tt))
 plain_fit level depth pos (no_items_is e f) h = subst (Fit level (depth + 1)) (sym f) tt
-plain_fit level depth pos (items_follow {target = target} controls are count e f) h = subst (Fit level depth) (sym f) (items_fit level depth target 0 controls (omega (arith, h)))
+plain_fit level depth pos (items_follow {target = target} controls are count e f) h = subst (Fit level depth) (sym f) (tagged_fit level depth pair_here 32 target 0 controls (omega (arith, h)))
+plain_fit level depth pos (no_entries_is e f) h = subst (Fit level (depth + 1)) (sym f) tt
+plain_fit level depth pos (entries_second small e f) h = subst (Fit level (depth + 1)) (sym f) (omega (arith, h), (omega (arith, h), tt))
+plain_fit level depth pos (numbers_follow {target = target} {len = len} controls are count e f) h = subst (Fit level depth) (sym f) (tagged_fit level depth (entry_number len) 4 target 0 controls (omega (arith, h)))
+plain_fit level depth pos (entry_number_is low e f) h = subst (Fit level depth) (sym f) tt
+plain_fit level depth pos (pairs_follow {len = len} start e f) h = subst (Fit level depth) (sym f) (each_fit level depth pair_here 32 start len (omega (arith, h)))
 plain_fit level depth pos (pair_follows key value e f) h = subst (Fit level depth) (sym f) (h, (h, tt))
 
 -- what follows a place in its own region, which is not at a level above a tree's highest
@@ -125,7 +132,7 @@ claimed_fit level depth pos (text_is e f) b h = absurd (cc)
 claimed_fit level depth pos (behind_is e f) b h = record { inner = subst (Fit (suc level) depth) (sym f) tt; low = omega arith }
 claimed_fit level depth pos (none_is e f) b h = absurd (cc)
 claimed_fit level depth pos (some_is e f) b h = absurd (cc)
-claimed_fit level depth pos (nodes_follow {len = len} start e f) b h = record { inner = subst (Fit (suc level) depth) (sym f) (nodes_fit (suc level) depth start len (omega (arith, h))); low = omega arith }
+claimed_fit level depth pos (nodes_follow {len = len} start e f) b h = record { inner = subst (Fit (suc level) depth) (sym f) (each_fit (suc level) depth node_here 24 start len (omega (arith, h))); low = omega arith }
 claimed_fit level depth pos (empty_is e f) b h = absurd (cc)
 claimed_fit level depth pos (total_is small e f) b h = absurd (cc)
 claimed_fit level depth pos (leaf_follows n key value low e f) b h = record {
@@ -142,9 +149,17 @@ claimed_fit level depth pos (no_child_is e f) b h = absurd (cc)
 claimed_fit level depth pos (entry_follows e f) b h = absurd (cc)
 claimed_fit level depth pos (no_items_is e f) b h = absurd (cc)
 claimed_fit level depth pos (items_follow {target = target} controls are count e f) b h = record {
-  inner = subst (Fit (suc level) depth) (sym f) (items_fit (suc level) depth target 0 controls (omega (arith, h)));
+  inner = subst (Fit (suc level) depth) (sym f) (tagged_fit (suc level) depth pair_here 32 target 0 controls (omega (arith, h)));
   low = omega arith;
 }
+claimed_fit level depth pos (no_entries_is e f) b h = absurd (cc)
+claimed_fit level depth pos (entries_second small e f) b h = absurd (cc)
+claimed_fit level depth pos (numbers_follow {target = target} {len = len} controls are count e f) b h = record {
+  inner = subst (Fit (suc level) depth) (sym f) (tagged_fit (suc level) depth (entry_number len) 4 target 0 controls (omega (arith, h)));
+  low = omega arith;
+}
+claimed_fit level depth pos (entry_number_is low e f) b h = absurd (cc)
+claimed_fit level depth pos (pairs_follow {len = len} start e f) b h = record { inner = subst (Fit (suc level) depth) (sym f) (each_fit (suc level) depth pair_here 32 start len (omega (arith, h))); low = omega arith }
 claimed_fit level depth pos (pair_follows key value e f) b h = absurd (cc)
 
 -- ---- walks
@@ -181,35 +196,26 @@ module _ (bytes : List ℕ) where
     parts_are : ps ≡ parts_at qs
     fit : Fit level (depth_in depth p) qs
 
-  plain_next : (level depth : ℕ) (k : Place) (pos : ℕ) {p : Part} {l : Label} {ps : List Part} → Leads bytes k (content_of node_names bytes (part_of k pos)) → (k ≡ absent_here → ⊥)
-      → p ≡ part_of k pos → content_of node_names bytes p ≡ plain l ps → Fits level depth k → Next level depth p ps
-  plain_next level depth k pos (leads_nowhere f) present is e h = let g = ap (content_of node_names bytes) is in absurd (cc)
-  plain_next level depth absent_here pos leads_absent present is e h = absurd (present refl)
-  plain_next level depth k pos (leads_plain {qs = qs} f fs) present is e h =
+  plain_next : (level depth : ℕ) (k : Place) (pos : ℕ) {p : Part} {l : Label} {ps : List Part} → Leads bytes k (content_of node_names bytes (part_of k pos)) → p ≡ part_of k pos → content_of node_names bytes p ≡ plain l ps → Fits level depth k → Next level depth p ps
+  plain_next level depth k pos (leads_nowhere f) is e h = let g = ap (content_of node_names bytes) is in absurd (cc)
+  plain_next level depth k pos (leads_plain {qs = qs} f fs) is e h =
       let g = ap (content_of node_names bytes) is in
       record { qs = qs; parts_are = cc; fit = subst (λ x. Fit level (depth_in depth x) qs) (sym is) (plain_fit level depth pos fs h) }
-  plain_next level depth k pos (leads_claimed f fs b) present is e h = let g = ap (content_of node_names bytes) is in absurd (cc)
-  plain_next level depth k pos (leads_counted f) present is e h = let g = ap (content_of node_names bytes) is in absurd (cc)
+  plain_next level depth k pos (leads_claimed f fs b) is e h = let g = ap (content_of node_names bytes) is in absurd (cc)
+  plain_next level depth k pos (leads_counted f) is e h = let g = ap (content_of node_names bytes) is in absurd (cc)
 
   record NextBehind (level depth : ℕ) (k : Place) (p : Part) (ps : List Part) : Type 0 where
     next : Next (suc level) depth p ps
     low : spare k ≤ 33
 
-  claimed_next : (level depth : ℕ) (k : Place) (pos : ℕ) {p : Part} {s : Span} {l : Label} {ps : List Part} → Leads bytes k (content_of node_names bytes (part_of k pos)) → (k ≡ absent_here → ⊥)
-      → p ≡ part_of k pos → content_of node_names bytes p ≡ claimed s l ps → Fits level depth k → NextBehind level depth k p ps
-  claimed_next level depth k pos (leads_nowhere f) present is e h = let g = ap (content_of node_names bytes) is in absurd (cc)
-  claimed_next level depth absent_here pos leads_absent present is e h = absurd (present refl)
-  claimed_next level depth k pos (leads_plain f fs) present is e h = let g = ap (content_of node_names bytes) is in absurd (cc)
-  claimed_next level depth k pos (leads_counted f) present is e h = let g = ap (content_of node_names bytes) is in absurd (cc)
-  claimed_next level depth k pos (leads_claimed {qs = qs} f fs b) present is e h =
+  claimed_next : (level depth : ℕ) (k : Place) (pos : ℕ) {p : Part} {s : Span} {l : Label} {ps : List Part} → Leads bytes k (content_of node_names bytes (part_of k pos)) → p ≡ part_of k pos → content_of node_names bytes p ≡ claimed s l ps → Fits level depth k → NextBehind level depth k p ps
+  claimed_next level depth k pos (leads_nowhere f) is e h = let g = ap (content_of node_names bytes) is in absurd (cc)
+  claimed_next level depth k pos (leads_plain f fs) is e h = let g = ap (content_of node_names bytes) is in absurd (cc)
+  claimed_next level depth k pos (leads_counted f) is e h = let g = ap (content_of node_names bytes) is in absurd (cc)
+  claimed_next level depth k pos (leads_claimed {qs = qs} f fs b) is e h =
       let g = ap (content_of node_names bytes) is in
       let c = claimed_fit level depth pos fs b h in
       record { next = record { qs = qs; parts_are = cc; fit = subst (λ x. Fit (suc level) (depth_in depth x) qs) (sym is) c.inner }; low = c.low }
-
-  present_there : (k : Place) (pos : ℕ) {level : ℕ} {inside : List OpenShared} {p : Part} {v : Value} {regions : List Region} {before after : List Visit}
-      → Holds node_names bytes level inside p v regions before after → p ≡ part_of k pos → k ≡ absent_here → ⊥
-  present_there k pos {level = level} {inside = inside} {v = v} {regions = regions} {before = before} {after = after} h is f =
-      absurd (absent_law bytes level inside pos v regions before after (subst (λ x. Holds node_names bytes level inside x v regions before after) (is ∙ ap (λ x. part_of x pos) f) h))
 
   region_nests : (level depth : ℕ) (k : Place) (s : Span) → depth ≤ 64 → spare k ≤ 33 → Fits level depth k → NestsBelow 2050 (region_of s level ∷ [])
   unfolding NestsBelow
@@ -241,11 +247,11 @@ module _ (bytes : List ℕ) where
         → Holds node_names bytes level inside p v regions before after → Walks node_names bytes depth p w walk → Each IsLow walk → depth ≤ 64
         → (k : Place) (pos : ℕ) → p ≡ part_of k pos → Fits level depth k → NestsBelow 2050 regions
     nests {level = level} {depth = depth} {p = p} (holds_plain e legal all m) (walks {vs = ws} {inner = runs} wall y is_walk) shallow low k pos is h =
-        let n = plain_next level depth k pos (led bytes k pos) (present_there k pos (holds_plain e legal all m) is) is e h in
+        let n = plain_next level depth k pos (led bytes k pos) is e h in
         let i = entered (content_of node_names bytes p) runs is_walk shallow low in
         all_nest all (subst (λ c. WalkAll node_names bytes (depth_in depth p) (parts_of c) ws runs) e wall) i.shallow i.low n.qs n.parts_are n.fit
     nests {level = level} {depth = depth} {p = p} (holds_claimed {within = within} {s = s} e legal all m x) (walks {vs = ws} {inner = runs} wall y is_walk) shallow low k pos is h =
-        let b = claimed_next level depth k pos (led bytes k pos) (present_there k pos (holds_claimed e legal all m x) is) is e h in
+        let b = claimed_next level depth k pos (led bytes k pos) is e h in
         let n = b.next in
         let i = entered (content_of node_names bytes p) runs is_walk shallow low in
         let inner = all_nest all (subst (λ c. WalkAll node_names bytes (depth_in depth p) (parts_of c) ws runs) e wall) i.shallow i.low n.qs n.parts_are n.fit in

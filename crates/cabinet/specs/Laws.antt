@@ -1,4 +1,4 @@
--- Laws of sessions, as statements.
+-- Laws of sessions and of loaded documents, as statements.
 use Rattle.std.specs.Prelude.{◌≡◌, ℕ, List, take, drop, Option}
 use Rattle.cabinet_text_grammar.specs.Tree.{Tree}
 use Rattle.cabinet_text_grammar.specs.Line.{Line}
@@ -33,3 +33,20 @@ ImageAfterEachLine =
 -- the bytes of an archive in which no edit was done are unchanged
 abbrev pub UneditedBytesStay : Type 0
 UneditedBytesStay = (x y : List ℕ) (t : Tree) (lines : ℕ) → Accepted x t → EditedByLines x y lines 0 → y ≡ x
+
+-- the document that loading an archive gives
+abbrev pub IsLoaded : List ℕ → Tree → Type 0
+IsLoaded bytes d = (t : Tree) → Accepted bytes t → d ≡ t
+
+-- the image of a loaded document is an archive of the same document
+abbrev pub LoadedIsSaved : Type 0
+LoadedIsSaved = (bytes image : List ℕ) (t d : Tree) → Accepted bytes t → IsLoaded bytes d → Image d image → Accepted image t
+
+-- loading that image and saving its document gives the same image once more
+abbrev pub SavedAgainIsSame : Type 0
+SavedAgainIsSame =
+    (image again : List ℕ) (d e : Tree)
+    → Image d image
+    → IsLoaded image e
+    → Image e again
+    → again ≡ image

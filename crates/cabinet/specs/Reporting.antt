@@ -28,7 +28,6 @@ cause_name cause.LineAfterEnd = codes "LineAfterEnd"
 cause_name cause.OutOfMemory = codes "OutOfMemory"
 
 abbrev pub save_refusal_name : SaveRefusal → List ℕ
-save_refusal_name save_refusal.Kind = codes "Kind"
 save_refusal_name (save_refusal.Limit e) = codes "Limit"
 save_refusal_name (save_refusal.Writer e) = codes "Writer"
 save_refusal_name save_refusal.OutOfMemory = codes "OutOfMemory"

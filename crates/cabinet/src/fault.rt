@@ -64,7 +64,6 @@ fn name_of_save_refusal(refusal: &SaveRefusal) -> &'static [u8]
     ensures { result.now ≡ save_refusal_name refusal.now }
 {
     match refusal {
-        SaveRefusal::Kind => b"Kind",
         SaveRefusal::Limit(_) => b"Limit",
         SaveRefusal::Writer(_) => b"Writer",
         SaveRefusal::OutOfMemory => b"OutOfMemory",

@@ -1,12 +1,12 @@
-//! The laws of documents in archives and of sessions. Each is a function with an empty body, whose contract is the law.
-ghost use Rattle.cabinet.specs.Laws.{AcceptedAfterEachLine, ImageAfterEachLine, UneditedBytesStay};
+//! The laws of documents in archives, of loaded documents and of sessions. Each is a function with an empty body, whose contract is the law.
+ghost use Rattle.cabinet.specs.Laws.{AcceptedAfterEachLine, ImageAfterEachLine, LoadedIsSaved, SavedAgainIsSame, UneditedBytesStay};
 
 pub use crate::refusals::accepted_is_not_refused;
 pub use cabinet_documents::{
-    absent_has_no_value, accepted_stands, audit_decides, edit_keeps_accepted, edit_keeps_image,
-    edits_in_either_order, fitting_has_layout, lacking_is_refused, leaf_put, leaves_stand,
-    node_spells, one_audit_fault, one_document, one_image, one_value, one_walk, own_bytes_apart,
-    refused_is_not_accepted, value_denotes, walk_stands, written_is_image,
+    accepted_stands, audit_decides, edit_keeps_accepted, edit_keeps_image, edits_in_either_order,
+    leaf_put, leaves_stand, node_spells, one_audit_fault, one_document, one_image, one_value,
+    one_walk, own_bytes_apart, refused_is_not_accepted, value_denotes, walk_stands,
+    written_is_image,
 };
 
 /// After each line of a session its bytes are the archive of the document after that line.
@@ -22,4 +22,14 @@ pub fn image_after_each_line()
 /// The bytes of an archive in which no edit was done are unchanged.
 pub fn unedited_bytes_stay()
     ensures { UneditedBytesStay }
+{}
+
+/// Saving the document that an archive is loaded as gives an archive of the same document.
+pub fn loaded_is_saved()
+    ensures { LoadedIsSaved }
+{}
+
+/// Loading a saved document and saving it once more gives the same bytes.
+pub fn saved_again_is_same()
+    ensures { SavedAgainIsSame }
 {}

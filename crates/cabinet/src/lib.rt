@@ -12,7 +12,7 @@ mod working;
 pub use archive_hash_probing::{Group, Group1, Group8, Group16, Scan};
 pub use cabinet_archived as archived;
 pub use cabinet_archives as archives;
-pub use cabinet_archives::{OpenRefusal, SaveRefusal, check, check_scanned, save, to_bytes};
+pub use cabinet_archives::{OpenRefusal, SaveRefusal, check, check_scanned, load, save, to_bytes};
 pub use cabinet_documents as documents;
 pub use cabinet_text_grammar::Cause;
 pub use cabinet_text_nodes::{

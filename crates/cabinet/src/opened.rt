@@ -26,8 +26,8 @@ use archive_shape::Ref;
 use archive_shape_writing::{Error, Writer};
 use cabinet_archived::ArchivedNode;
 use cabinet_archives::{OpenRefusal, check_scanned};
-use cabinet_text_nodes::{Asked, Leaf, Line, SetAnswer, Step};
-use std::alloc::Global;
+use cabinet_text_nodes::{Asked, Document, Leaf, Line, SetAnswer, Step};
+use std::alloc::{AllocError, Global};
 use std::marker::PhantomData;
 
 /// Bytes that are the archive of a document, whose hashed maps are searched by the scan `G`.
@@ -106,6 +106,13 @@ impl<'a, G: Scan> Opened<'a, G> {
         ensures counted { FailsByWriter W.Writer writer.old writer.new result }
     {
         cabinet_archives::ask::<G, W>(self.root(), line, writer)
+    }
+
+    /// Returns the document of the archive, in memory of its own. An `Err` says that an allocation failed.
+    pub fn load(&self, alloc: Global) -> Result<Document, AllocError>
+        ensures { IfOk result (λ document. (t : Tree) → Accepted self.now.bytes.now t → document ≡ t) }
+    {
+        cabinet_archives::load(alloc, self.bytes)
     }
 
     /// Writes a leaf at a path, if the node there is a leaf of the same kind and, for a text, of the same length. Reads

@@ -1,21 +1,14 @@
 -- The node by its tag: what it is checked as, and what lies in it.
-use Rattle.std.proofs.Common.{◌≡◌, ℕ, zero, suc, ◌+◌, ◌≤◌, ◌<◌, List, ◌∷◌, slice_index, Some, None, Err, Result, ◌⊎◌, inl, inr, refl, sym, subst, arith}
+use Rattle.std.proofs.Common.{◌≡◌, ℕ, zero, suc, ◌+◌, ◌≤◌, ◌<◌, List, slice_index, Some, None, Err, Result, ◌⊎◌, inl, inr, refl, sym, subst, arith}
 use Rattle.archive_shape_layout.specs.Bytes.{align_up}
 use Rattle.archive_shape_layout.specs.Shape.{Shape, align_of, size_of}
 use Rattle.archive_shape_layout.specs.Shape.Alignment.{eight}
 use Rattle.archive_shape_layout.specs.Shape.Shape.{choice}
-use Rattle.archive_shape_layout.specs.Shape.Shapes.{no_shapes}
-use Rattle.archive_shape_layout.specs.Value.{Value, Values}
-use Rattle.archive_shape_layout.specs.Content.{Names, Part, content_of, shape_content, shape_tagged, fields}
+use Rattle.archive_shape_layout.specs.Value.{Value}
+use Rattle.archive_shape_layout.specs.Content.{Names, shape_tagged}
 use Rattle.archive_shape_layout.specs.Content.Part.{at}
-use Rattle.archive_shape_layout.specs.Holds.{Region, Visit, OpenShared, Holds, HoldAll}
-use Rattle.archive_shape_layout.specs.Holds.HoldAll.{holds_more}
-use Rattle.archive_shape_layout.proofs.Unique.{by_plain}
-use Rattle.archive_shape.specs.PartFault.PartFault.{fault_plain}
-use Rattle.archive_shape.specs.PartFault.PartsFault.{fault_here}
 use Rattle.archive_shape.specs.Kept.{Kept}
 use Rattle.archive_shape.specs.Checks.{Checks}
-use Rattle.archive_shape.proofs.Inverted.{IsKnown, held_is_known}
 use Rattle.archive_shape_writing.specs.declared.error.Error.{Error}
 use Rattle.archive_shape_writing.specs.declared.error.Error.TheVariants.{InvalidTag}
 use Rattle.archive_shape.specs.Key.{HeldAt}
@@ -25,23 +18,19 @@ use Rattle.archive_forms_values.proofs.Tagged.{choice_checked, untagged_refused}
 use Rattle.archive_forms_values.specs.Parts.{HasValue, HasPayload}
 use Rattle.archive_forms_values.proofs.Named.{named_held}
 use Rattle.archive_forms_values.proofs.Payloads.{choice_has, choice_at}
-use Rattle.cabinet_documents.specs.Node.{node_shape, payloads, absent, KnowsNode}
+use Rattle.cabinet_documents.specs.Node.{node_shape, payloads, KnowsNode}
 use Rattle.cabinet_archived.specs.Kind.{IsTagged}
 
 node_sized : size_of (choice payloads) ≡ 24
 unfolding align_up
 node_sized = refl
 
-absent_sized : size_of absent ≡ 16
-unfolding align_up
-absent_sized = refl
-
--- none of the first tags with a layout
+-- none of the tags of the kinds before a kept map
 abbrev pub IsOther : ℕ → Type 0
-IsOther n = (n ≡ 0 → ⊥) × (n ≡ 1 → ⊥) × (n ≡ 2 → ⊥) × (n ≡ 3 → ⊥) × (n ≡ 4 → ⊥) × (n ≡ 5 → ⊥) × (n ≡ 6 → ⊥)
+IsOther n = (n ≡ 0 → ⊥) × (n ≡ 1 → ⊥) × (n ≡ 2 → ⊥) × (n ≡ 3 → ⊥) × (n ≡ 4 → ⊥) × (n ≡ 5 → ⊥) × (n ≡ 6 → ⊥) × (n ≡ 7 → ⊥)
 
--- such a tag is that of a hashed map, or that of an absent payload, or it names none
-others : (n : ℕ) → IsOther n → (n ≡ 7) ⊎ ((shape_tagged n payloads ≡ Some absent) ⊎ (shape_tagged n payloads ≡ None))
+-- such a tag is that of a kept map, or it names none
+others : (n : ℕ) → IsOther n → (n ≡ 8) ⊎ (shape_tagged n payloads ≡ None)
 others zero h = absurd (h.0 refl)
 others (suc zero) h = absurd (h.1 refl)
 others (suc (suc zero)) h = absurd (h.2 refl)
@@ -49,31 +38,11 @@ others (suc (suc (suc zero))) h = absurd (h.3 refl)
 others (suc (suc (suc (suc zero)))) h = absurd (h.4 refl)
 others (suc (suc (suc (suc (suc zero))))) h = absurd (h.5 refl)
 others (suc (suc (suc (suc (suc (suc zero)))))) h = absurd (h.6 refl)
-others (suc (suc (suc (suc (suc (suc (suc zero))))))) h = inl refl
-others (suc (suc (suc (suc (suc (suc (suc (suc zero)))))))) h = inr (inl refl)
-others (suc (suc (suc (suc (suc (suc (suc (suc (suc n))))))))) h = inr (inr refl)
+others (suc (suc (suc (suc (suc (suc (suc zero))))))) h = absurd (h.7 refl)
+others (suc (suc (suc (suc (suc (suc (suc (suc zero)))))))) h = inl refl
+others (suc (suc (suc (suc (suc (suc (suc (suc (suc n))))))))) h = inr refl
 
 module _ (names : Names) (bytes : List ℕ) where
-  -- ---- absent payloads
-
-  absent_refused : (pos : ℕ) (k l : Kept) → Checks names bytes (at pos absent) k (Err InvalidTag) l
-  unfolding shape_content fields
-  absent_refused pos k l inside before records other =
-      fault_plain tt refl (fault_here (untagged_refused names bytes _ no_shapes k l refl inside before records other))
-
-  first_known :
-      {level : ℕ} {inside : List OpenShared} {p : Part} {ps : List Part} {vs : Values} {regions : List Region} {before after : List Visit}
-      → HoldAll names bytes level inside (p ∷ ps) vs regions before after
-      → IsKnown (content_of names bytes p)
-  first_known (holds_more x rest is joined) = held_is_known names bytes x
-
-  absent_has_none :
-      {level : ℕ} {inside : List OpenShared} {v : Value} {regions : List Region} {before after : List Visit} (pos : ℕ)
-      → Holds names bytes level inside (at pos absent) v regions before after
-      → ⊥
-  unfolding shape_content fields
-  absent_has_none pos h = first_known (by_plain names bytes refl h).all
-
   -- ---- the check
 
   module _ (pos : ℕ) (known : KnowsNode names) (k l : Kept) where
@@ -91,14 +60,13 @@ module _ (names : Names) (bytes : List ℕ) where
     payload_checked tag s r tag_is payload some h =
         as_enum r (choice_checked names bytes pos payloads tag s (align_of s) tag_is payload (behind_tag (align_of s) some) k l r h)
 
-    -- tags without a layout are refused
-    pub other_refused : IsOther (slice_index bytes pos) → (slice_index bytes pos ≡ 7 → ⊥) → Checks names bytes (at pos node_shape) k (Err InvalidTag) l
+    -- tags of no kind are refused
+    pub other_refused : IsOther (slice_index bytes pos) → (slice_index bytes pos ≡ 8 → ⊥) → Checks names bytes (at pos node_shape) k (Err InvalidTag) l
     other_refused other no_map = by (others (slice_index bytes pos) other)
       where
-        by : (slice_index bytes pos ≡ 7) ⊎ ((shape_tagged (slice_index bytes pos) payloads ≡ Some absent) ⊎ (shape_tagged (slice_index bytes pos) payloads ≡ None)) → Checks names bytes (at pos node_shape) k (Err InvalidTag) l
+        by : (slice_index bytes pos ≡ 8) ⊎ (shape_tagged (slice_index bytes pos) payloads ≡ None) → Checks names bytes (at pos node_shape) k (Err InvalidTag) l
         by (inl e) = absurd (no_map e)
-        by (inr (inl e)) = payload_checked (slice_index bytes pos) absent (Err InvalidTag) refl e (omega arith) (absent_refused (pos + align_of absent) k l)
-        by (inr (inr e)) = as_enum (Err InvalidTag) (untagged_refused names bytes pos payloads k l e)
+        by (inr e) = as_enum (Err InvalidTag) (untagged_refused names bytes pos payloads k l e)
 
 -- ---- reading
 
@@ -118,11 +86,6 @@ module _ (bytes : List ℕ) (pos : ℕ) where
     payload_at tag s knows tag_is payload some fits known =
         choice_at payloads KnowsNode bytes pos v enum_held tag s (align_of s) knows tag_is payload (behind_tag (align_of s) some) (omega (arith, fits, node_sized)) known
 
-    absent_at : shape_tagged (slice_index bytes pos) payloads ≡ Some absent → ⊥
-    absent_at e =
-        let p = payload_at (slice_index bytes pos) absent KnowsNode refl e (omega arith) (omega (arith, absent_sized)) (λ names known. known) in
-        absent_has_none p.held.names bytes (pos + align_of absent) p.held.holds
-
   module _ (there : HasValue node_shape KnowsNode bytes pos) where
     -- where a node has some value, the payload that its tag names lies after the tag
     pub tagged_at :
@@ -140,11 +103,10 @@ module _ (bytes : List ℕ) (pos : ℕ) where
         let one = all there.value there.held in
         record { there = record { value = one.payload; held = one.held }; payload = all }
 
-    -- and a tag that is none of the first is that of a hashed map
-    pub is_hashed : IsOther (slice_index bytes pos) → slice_index bytes pos ≡ 7
-    is_hashed other = by (others (slice_index bytes pos) other)
+    -- and a tag that is none of the others is that of a kept map
+    pub is_kept : IsOther (slice_index bytes pos) → slice_index bytes pos ≡ 8
+    is_kept other = by (others (slice_index bytes pos) other)
       where
-        by : (slice_index bytes pos ≡ 7) ⊎ ((shape_tagged (slice_index bytes pos) payloads ≡ Some absent) ⊎ (shape_tagged (slice_index bytes pos) payloads ≡ None)) → slice_index bytes pos ≡ 7
+        by : (slice_index bytes pos ≡ 8) ⊎ (shape_tagged (slice_index bytes pos) payloads ≡ None) → slice_index bytes pos ≡ 8
         by (inl e) = e
-        by (inr (inl e)) = absurd (absent_at there.value there.held e)
-        by (inr (inr e)) = absurd (choice_has payloads KnowsNode bytes pos there.value (enum_held there.value there.held) e)
+        by (inr e) = absurd (choice_has payloads KnowsNode bytes pos there.value (enum_held there.value there.held) e)

@@ -1,18 +1,18 @@
 -- What is resolved of a node, by its kind.
-use Rattle.std.proofs.Common.{◌≡◌, ℕ, ℤ, Bool, true, false, suc, ◌+◌, ◌≤◌, ◌<◌, ◌^◌, set, List, [], ◌∷◌, ◌++◌, length, Option, Some, None, Ok, Err, refl, sym, ap, subst, ◌∙◌, arith, ⊎_elim, inl, inr, ◌⊎◌, Global, String, Box, Vec}
+use Rattle.std.proofs.Common.{◌≡◌, ℕ, ℤ, Bool, true, false, suc, ◌+◌, ◌≤◌, ◌<◌, ◌^◌, set, List, [], ◌∷◌, ◌++◌, length, Option, Some, None, Ok, Err, refl, sym, ap, subst, ◌∙◌, arith, ⊎_elim, inl, inr, ◌⊎◌, Global, String, Box, Vec, length-append}
 use Rattle.std.specs.Prelude.{Result, MatchResult, string_bytes}
 use Rattle.std.specs.Int.{w32, w64, to_le_bytes}
 use Rattle.std.specs.Rc.{rc_str_bytes}
 use Rattle.std.specs.declared.rc.RcStr.{RcStr}
 use Rattle.archive_shape_layout.specs.Bytes.{align_up}
 use Rattle.archive_shape_layout.specs.Shape.{Shape, size_of, align_of}
-use Rattle.archive_shape_layout.specs.Shape.Shape.{number, truth, text, option, choice, vector, table, tree as tree_shape, shared as shared_shape}
+use Rattle.archive_shape_layout.specs.Shape.Shape.{number, truth, text, option, choice, vector, table, index_map, tree as tree_shape, shared as shared_shape}
 use Rattle.archive_shape_layout.specs.Shape.Pointee.{str}
 use Rattle.archive_forms_laws.specs.ShapeCanonical.FirstFit.{first_fit}
 use Rattle.archive_shape.specs.Bytes.{HasBytes, zeros, overwrite}
 use Rattle.archive_shape.proofs.Spared.{spares_same}
 use Rattle.archive_shape_writing.specs.declared.error.Error.{Error}
-use Rattle.archive_shape_writing.specs.declared.error.Error.TheVariants.{IsizeOverflow, LengthTooLarge, InvalidTag}
+use Rattle.archive_shape_writing.specs.declared.error.Error.TheVariants.{IsizeOverflow, LengthTooLarge}
 use Rattle.archive_forms_laws.specs.State.{State}
 use Rattle.archive_forms_laws.specs.Spelling.{Spelling}
 use Rattle.archive_forms_laws.specs.Payloads.{payload_spelling}
@@ -32,9 +32,11 @@ use Rattle.archive_forms_laws.specs.Texts.{text_spelling}
 use Rattle.archive_btree_spelling.proofs.Maps.{map_spells}
 use Rattle.archive_btree_maps.specs.declared.map.resolving.BTreeMapResolver.{BTreeMapResolver}
 use Rattle.archive_hash_maps.specs.declared.map.resolving.HashTableResolver.{HashTableResolver}
-use Rattle.archive_hash_writing.proofs.SpellingTables.{length-own}
+use Rattle.archive_index.proofs.Hash.HashWriting.SpellingTables.{length-own}
+use Rattle.archive_forms_laws.proofs.Links.{length-link}
+use Rattle.archive_index.specs.IndexSpelling.declared.resolver.IndexMapResolver.{IndexMapResolver}
 use Rattle.std.specs.BTreeMap.{BTreeMap}
-use Rattle.cabinet_text_grammar.specs.Keys.{ordered, hashed}
+use Rattle.cabinet_text_grammar.specs.Keys.{ordered, hashed, kept}
 use Rattle.archive_forms_values.specs.declared.reading.resolving.BoxResolver.{BoxResolver}
 use Rattle.archive_forms_values.specs.declared.reading.resolving.VecResolver.{VecResolver}
 use Rattle.archive_forms_values.specs.declared.text.resolving.StringResolver.{StringResolver}
@@ -47,13 +49,13 @@ use Rattle.cabinet_text_grammar.specs.Tree.{Tree, depth}
 use Rattle.cabinet_documents.specs.Node.{node_shape, pair_shape, payloads, KnowsNode}
 use Rattle.cabinet_documents.specs.declared.spelling.resolver.NodeResolver.{NodeResolver}
 use Rattle.cabinet_documents.specs.declared.spelling.resolver.NodeResolver.TheVariants as resolver
-use Rattle.cabinet_documents.specs.Spelling.{truth_spelling, number_spelling, shared_string_spelling, boxed_shape, boxed_spelling, maybe_spelling, list_spelling, ordered_spelling, hashed_spelling, text_in, shared_in, maybe_in, list_in, ordered_in, hashed_in, node_of, refused, node_level, node_spelling}
+use Rattle.cabinet_documents.specs.Spelling.{truth_spelling, number_spelling, shared_string_spelling, boxed_shape, boxed_spelling, maybe_spelling, list_spelling, ordered_spelling, hashed_spelling, kept_spelling, text_in, shared_in, maybe_in, list_in, ordered_in, hashed_in, kept_in, node_of, refused, node_level, node_spelling}
 use Rattle.cabinet_documents.proofs.Levels.{node_spells_law}
 use Rattle.cabinet_archived.specs.Archived.{archived_as, tree_within, trees_within, pairs_within}
 use Rattle.cabinet_text_nodes.specs.View.{node_tree, node_trees, node_pairs}
 use Rattle.cabinet_text_nodes.specs.declared.node.Node.{Node}
 use Rattle.cabinet_text_nodes.specs.declared.node.Node.TheVariants as node
-use Rattle.cabinet_text_nodes.proofs.Views.{node_tree-bool, node_tree-int, node_tree-text, node_tree-shared, node_tree-none, node_tree-some, node_tree-list, node_tree-ordered, node_tree-hashed}
+use Rattle.cabinet_text_nodes.proofs.Views.{node_tree-bool, node_tree-int, node_tree-text, node_tree-shared, node_tree-none, node_tree-some, node_tree-list, node_tree-ordered, node_tree-hashed, node_tree-kept}
 use Rattle.archive_forms_writing.specs.Owned.{str_spelling}
 
 -- ---- payloads by themselves
@@ -114,6 +116,14 @@ map_resolved w ps len r pos start old new (Err e) is h =
     let same : len ≡ length (pairs_within ps) = is ∙ sym (length-pairs_in ps) in
     (⊎_elim (λ x. inr (subst (λ n. 2 ^ 32 ≤ n) same x.1, x.0)) (λ x. inl x.0) h.0, spares_same old new start (size_of (tree_shape 5 text node_shape)) h.1)
 
+-- the own bytes of an index map are those of its table and of a pointer
+length-both : (controls entries : Option ℕ) (pos at len cap : ℕ) → length ((link_bytes controls pos ++ (to_le_bytes w32 len ++ to_le_bytes w32 cap)) ++ link_bytes entries at) ≡ 16
+length-both controls entries pos at len cap =
+    let own = link_bytes controls pos ++ (to_le_bytes w32 len ++ to_le_bytes w32 cap) in
+    let first = length-own controls pos len cap in
+    let last = length-link entries at in
+    length-append own (link_bytes entries at) ∙ omega (arith, first, last)
+
 -- ---- payloads in nodes
 
 -- where a payload lies in a node
@@ -153,6 +163,10 @@ ordered_place = record { first = omega arith; at = refl; fits = omega arith }
 pub hashed_place : KindPlace (table pair_shape) 4
 unfolding align_up
 hashed_place = record { first = omega arith; at = refl; fits = omega arith }
+
+pub kept_place : KindPlace (index_map text node_shape) 4
+unfolding align_up
+kept_place = record { first = omega arith; at = refl; fits = omega arith }
 
 module _ (r : NodeResolver) (bytes set_bytes new final : List ℕ) (start pos from there : ℕ) (result : Result (Unit {0}) Error)
     (room : start + 24 ≤ length bytes) (blank : HasBytes bytes start (zeros 24)) (ends : new ≡ final) where
@@ -200,11 +214,11 @@ module _ (r : NodeResolver) (bytes set_bytes new final : List ℕ) (start pos fr
       → (k : StringResolver) → k ≡ text_in r
       → Resolves str_spelling text (string_bytes s) k there from set_bytes new result
       → Resolves archived_as node_shape n r pos start bytes final result
-  text_resolved n s is is_set is_from is_there k kept h =
+  text_resolved n s is is_set is_from is_there k is_in h =
       let x = string_bytes s in
       let t = tree.leaf (tree.text x) in
       as_tree n t (ap node_tree is ∙ node_tree-text s)
-      (kind_resolved 2 4 text str_spelling resolver.Text text_in text_place x t (λ q p f. (text_spells (first_fit (λ _. 0)) KnowsNode x).sized q.pos p f) is_set is_from is_there k kept h)
+      (kind_resolved 2 4 text str_spelling resolver.Text text_in text_place x t (λ q p f. (text_spells (first_fit (λ _. 0)) KnowsNode x).sized q.pos p f) is_set is_from is_there k is_in h)
 
   pub shared_resolved :
       (n : Node) (s : RcStr Global) → n ≡ node.Shared s
@@ -212,12 +226,12 @@ module _ (r : NodeResolver) (bytes set_bytes new final : List ℕ) (start pos fr
       → (k : RcResolver) → k ≡ shared_in r
       → Resolves shared_string_spelling (shared_shape false str) (rc_str_bytes s) k there from set_bytes new result
       → Resolves archived_as node_shape n r pos start bytes final result
-  shared_resolved n s is is_set is_from is_there k kept h =
+  shared_resolved n s is is_set is_from is_there k is_in h =
       let x = rc_str_bytes s in
       let t = tree.shared x in
       as_tree n t (ap node_tree is ∙ node_tree-shared s)
       (kind_resolved 3 4 (shared_shape false str) shared_string_spelling resolver.Shared shared_in shared_place x t
-      (λ q p f. (shared_text_spells (first_fit (λ _. 0)) false KnowsNode text_key x).sized q.pos p f) is_set is_from is_there k kept h)
+      (λ q p f. (shared_text_spells (first_fit (λ _. 0)) false KnowsNode text_key x).sized q.pos p f) is_set is_from is_there k is_in h)
 
   -- the own bytes of an option are the same however the node in it is archived
   maybe_alike :
@@ -235,7 +249,7 @@ module _ (r : NodeResolver) (bytes set_bytes new final : List ℕ) (start pos fr
       → (k : Option BoxResolver) → k ≡ maybe_in r
       → Resolves (maybe_spelling node_spelling) (option boxed_shape) (tree_within o) k there from set_bytes new result
       → Resolves archived_as node_shape n r pos start bytes final result
-  maybe_resolved n o is is_set is_from is_there k kept h = by o is h
+  maybe_resolved n o is is_set is_from is_there k is_in h = by o is h
     where
       size : ℕ
       size = size_of (choice payloads)
@@ -250,7 +264,7 @@ module _ (r : NodeResolver) (bytes set_bytes new final : List ℕ) (start pos fr
           let boxes = kept_spells fit boxed_shape KnowsNode (λ n. record { pos = n }) (λ r. r.pos) (λ r. refl) (box_spelling node_shape node_spelling) (box_spells fit node_shape KnowsNode node_spelling (node_spells_law fit)) in
           maybe_alike node_spelling (levels_spelling node_level refused (depth t)) offset size x (maybe_in r)
           (kind_resolved 4 4 (option boxed_shape) (maybe_spelling node_spelling) resolver.Maybe maybe_in maybe_place x t
-          (λ q p f. (option_spells fit boxed_shape KnowsNode (boxed_spelling node_spelling) boxes x).sized q p f) is_set is_from is_there k kept h)
+          (λ q p f. (option_spells fit boxed_shape KnowsNode (boxed_spelling node_spelling) boxes x).sized q p f) is_set is_from is_there k is_in h)
 
       by : (o : Option (Box Node Global)) → n ≡ node.Maybe o → Resolves (maybe_spelling node_spelling) (option boxed_shape) (tree_within o) k there from set_bytes new result → Resolves archived_as node_shape n r pos start bytes final result
       by None is h = as_tree n tree.nothing (ap node_tree is ∙ node_tree-none) (inside None tree.nothing h)
@@ -262,13 +276,13 @@ module _ (r : NodeResolver) (bytes set_bytes new final : List ℕ) (start pos fr
       → (k : VecResolver) → k ≡ list_in r
       → Resolves (list_spelling node_spelling) (vector node_shape) (trees_within v.items) k there from set_bytes new result
       → Resolves archived_as node_shape n r pos start bytes final result
-  list_resolved n v is is_set is_from is_there k kept h =
+  list_resolved n v is is_set is_from is_there k is_in h =
       let fit = first_fit (λ _. 0) in
       let t = tree.list (node_trees v.items) in
       let x = trees_within v.items in
       as_tree n t (ap node_tree is ∙ node_tree-list v)
       (kind_resolved 5 4 (vector node_shape) (list_spelling node_spelling) resolver.List list_in list_place x t
-      (λ q p f. (slice_spells fit node_shape KnowsNode node_spelling (node_spells_law fit) x).sized q.pos p f) is_set is_from is_there k kept h)
+      (λ q p f. (slice_spells fit node_shape KnowsNode node_spelling (node_spells_law fit) x).sized q.pos p f) is_set is_from is_there k is_in h)
 
   pub ordered_resolved :
       (n : Node) (b : BTreeMap (String Global) Node) → n ≡ node.Ordered b
@@ -276,13 +290,13 @@ module _ (r : NodeResolver) (bytes set_bytes new final : List ℕ) (start pos fr
       → (k : BTreeMapResolver) → k ≡ ordered_in r
       → Resolves (ordered_spelling node_spelling) (tree_shape 5 text node_shape) (pairs_within b.entries) k there from set_bytes new result
       → Resolves archived_as node_shape n r pos start bytes final result
-  ordered_resolved n b is is_set is_from is_there k kept h =
+  ordered_resolved n b is is_set is_from is_there k is_in h =
       let fit = first_fit (λ _. 0) in
       let t = tree.map ordered (node_pairs b.entries) in
       let x = pairs_within b.entries in
       as_tree n t (ap node_tree is ∙ node_tree-ordered b)
       (kind_resolved 6 4 (tree_shape 5 text node_shape) (ordered_spelling node_spelling) resolver.Ordered ordered_in ordered_place x t
-      (λ q p f. (map_spells fit 5 text node_shape KnowsNode str_spelling node_spelling (λ y. kept_spells_at fit text KnowsNode _ _ (λ z. refl) text_spelling y (text_spells fit KnowsNode y)) (node_spells_law fit) x (λ _. omega arith)).sized q.pos p f) is_set is_from is_there k kept h)
+      (λ q p f. (map_spells fit 5 text node_shape KnowsNode str_spelling node_spelling (λ y. kept_spells_at fit text KnowsNode _ _ (λ z. refl) text_spelling y (text_spells fit KnowsNode y)) (node_spells_law fit) x (λ _. omega arith)).sized q.pos p f) is_set is_from is_there k is_in h)
 
   pub hashed_resolved :
       (n : Node) (b : BTreeMap (String Global) Node) → n ≡ node.Hashed b
@@ -290,24 +304,28 @@ module _ (r : NodeResolver) (bytes set_bytes new final : List ℕ) (start pos fr
       → (k : HashTableResolver) → k ≡ hashed_in r
       → Resolves (hashed_spelling node_spelling) (table pair_shape) (pairs_within b.entries) k there from set_bytes new result
       → Resolves archived_as node_shape n r pos start bytes final result
-  hashed_resolved n b is is_set is_from is_there k kept h =
+  hashed_resolved n b is is_set is_from is_there k is_in h =
       let t = tree.map hashed (node_pairs b.entries) in
       let x = pairs_within b.entries in
       as_tree n t (ap node_tree is ∙ node_tree-hashed b)
       (kind_resolved 7 4 (table pair_shape) (hashed_spelling node_spelling) resolver.Hashed hashed_in hashed_place x t
-      (λ q p f. length-own q.pos p _ _) is_set is_from is_there k kept h)
+      (λ q p f. length-own q.pos p _ _) is_set is_from is_there k is_in h)
 
--- a node whose kind has no layout is refused
-pub own_refused_as :
-    (n : Node) (t : Tree) (r : NodeResolver) (pos start : ℕ) (bytes : List ℕ)
-    → node_tree n ≡ t
-    → node_spelling.own_refused t r pos InvalidTag
-    → Resolves archived_as node_shape n r pos start bytes bytes (Err InvalidTag)
-own_refused_as n t r pos start bytes is h =
-    (subst (λ u. node_spelling.own_refused u r pos InvalidTag) (sym is) h, spares_same bytes bytes start (size_of node_shape) refl)
+  pub kept_resolved :
+      (n : Node) (v : Vec (String Global × Node) Global) → n ≡ node.Kept v
+      → set_bytes ≡ set bytes start 8 → from ≡ start + 4 → there ≡ pos + 4
+      → (k : IndexMapResolver) → k ≡ kept_in r
+      → Resolves (kept_spelling node_spelling) (index_map text node_shape) (pairs_within v.items) k there from set_bytes new result
+      → Resolves archived_as node_shape n r pos start bytes final result
+  kept_resolved n v is is_set is_from is_there k is_in h =
+      let t = tree.map kept (node_pairs v.items) in
+      let x = pairs_within v.items in
+      as_tree n t (ap node_tree is ∙ node_tree-kept v)
+      (kind_resolved 8 4 (index_map text node_shape) (kept_spelling node_spelling) resolver.Kept kept_in kept_place x t
+      (λ q p f. length-both q.table.pos q.entries p (p + 12) _ _) is_set is_from is_there k is_in h)
 
 -- what is kept of a text was made of it
 pub text_made : (n : Node) (s : String Global) (r : NodeResolver) (k : StringResolver) → n ≡ node.Text s → k ≡ text_in r
     → (st : State) × (r ≡ archived_as.resolver n st) → (st : State) × (k ≡ str_spelling.resolver (string_bytes s) st)
-text_made n s r k is kept made =
-    (made.0, kept ∙ ap text_in (made.1 ∙ ap (λ t. node_spelling.resolver t made.0) (ap node_tree is ∙ node_tree-text s)))
+text_made n s r k is is_in made =
+    (made.0, is_in ∙ ap text_in (made.1 ∙ ap (λ t. node_spelling.resolver t made.0) (ap node_tree is ∙ node_tree-text s)))

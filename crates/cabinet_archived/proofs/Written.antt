@@ -1,5 +1,5 @@
 -- What is written of a node, by its kind.
-use Rattle.std.proofs.Common.{◌≡◌, ℕ, zero, suc, ◌+◌, ◌-◌, ◌≤◌, ◌<◌, ◌^◌, ◌⊎◌, List, [], ◌∷◌, ◌++◌, length, map, get_or, append-nil, inr, Option, Some, None, Result, Ok, Err, refl, sym, ap, ap₂, subst, ◌∙◌, arith, Global, String, Box, Vec}
+use Rattle.std.proofs.Common.{◌≡◌, ℕ, zero, suc, ◌+◌, ◌-◌, ◌≤◌, ◌<◌, ◌^◌, ◌⊎◌, List, [], ◌∷◌, ◌++◌, length, map, get_or, Option, Some, None, Result, Ok, Err, refl, sym, ap, ap₂, subst, ◌∙◌, arith, Global, String, Box, Vec}
 use Rattle.std.specs.Prelude.{string_bytes}
 use Rattle.std.specs.Int.{w32, to_le_bytes}
 use Rattle.std.specs.Rc.{rc_str_bytes}
@@ -13,7 +13,7 @@ use Rattle.archive_forms_laws.specs.ShapeCanonical.Settled.{Fit}
 use Rattle.archive_shape.specs.Bytes.{zeros}
 use Rattle.archive_shape_writing.specs.Writing.{WriterMembers}
 use Rattle.archive_shape_writing.specs.declared.error.Error.{Error}
-use Rattle.archive_shape_writing.specs.declared.error.Error.TheVariants.{IsizeOverflow, LengthTooLarge, PositionTooLarge, InvalidTag}
+use Rattle.archive_shape_writing.specs.declared.error.Error.TheVariants.{IsizeOverflow, LengthTooLarge, PositionTooLarge}
 use Rattle.archive_forms_laws.specs.State.{State, Keys}
 use Rattle.archive_forms_laws.specs.Spelling.{Spelling, state_after}
 use Rattle.archive_forms_laws.specs.Forms.{seen_as, kept_as}
@@ -36,26 +36,30 @@ use Rattle.archive_shape_layout.specs.Shape.Shape.{text}
 use Rattle.archive_btree.specs.Owned.{entries_spelling}
 use Rattle.std.specs.Hash as fed
 use Rattle.archive_forms_laws.specs.ShapeCanonical.Hash.{text_hash}
-use Rattle.archive_hash.specs.Owned as table
+use Rattle.archive_index.specs.Hash.Owned as table
 use Rattle.archive_hash_maps.specs.declared.map.resolving.HashTableResolver.{HashTableResolver}
 use Rattle.archive_hash_probing.specs.Inputs.{input_hash}
-use Rattle.archive_hash_writing.specs.Tables.{table_spelling, hashed_spelling as items_spelling}
-use Rattle.archive_hash_writing.proofs.Seen.{hashed_seen}
-use Rattle.archive_hash_writing.proofs.TextHash.{text_fed}
+use Rattle.archive_index.specs.Hash.HashWriting.Tables.{table_spelling, hashed_spelling as items_spelling}
+use Rattle.archive_index.proofs.Hash.HashWriting.Seen.{hashed_seen}
+use Rattle.archive_index.proofs.Hash.HashWriting.TextHash.{text_fed}
+use Rattle.archive_index.specs.IndexSpelling.Maps.{index_spelling, map_spelling}
+use Rattle.archive_index.specs.IndexSpelling.Resolvers.{resolver_of, positions_of, pairs_spelling as index_of}
+use Rattle.archive_index.specs.IndexSpelling.declared.resolver.IndexMapResolver.{IndexMapResolver}
+use Rattle.archive_index.proofs.IndexSpelling.Seen.{map_seen}
 use Rattle.archive_btree_spelling.specs.Maps.{btree_spelling}
 use Rattle.archive_btree_spelling.proofs.Seen.{btree_seen, seen_entry}
 use Rattle.archive_btree_maps.specs.declared.map.resolving.BTreeMapResolver.{BTreeMapResolver}
-use Rattle.cabinet_text_grammar.specs.Tree.{Tree, Pairs, depth}
+use Rattle.cabinet_text_grammar.specs.Tree.{Tree, depth}
 use Rattle.cabinet_documents.specs.Node.{node_shape, pair_shape}
 use Rattle.cabinet_documents.specs.declared.spelling.resolver.NodeResolver.{NodeResolver}
 use Rattle.cabinet_documents.specs.declared.spelling.resolver.NodeResolver.TheVariants as resolver
-use Rattle.cabinet_documents.specs.Spelling.{maybe_spelling, list_spelling, ordered_spelling, pair_spelling, hashed_spelling, trees_in, refused, node_level, node_spelling}
+use Rattle.cabinet_documents.specs.Spelling.{maybe_spelling, list_spelling, ordered_spelling, pair_spelling, hashed_spelling, kept_spelling, trees_in, node_level, node_spelling}
 use Rattle.cabinet_documents.proofs.Agreeing.{one_level_is_written_law}
 use Rattle.cabinet_archived.specs.Archived.{archived_as, tree_within, trees_within, most_within, pairs_within, most_in_pairs}
 use Rattle.cabinet_text_nodes.specs.View.{trees_of, node_tree, node_trees, node_pairs}
 use Rattle.cabinet_text_nodes.specs.declared.node.Node.{Node}
 use Rattle.cabinet_text_nodes.specs.declared.node.Node.TheVariants as node
-use Rattle.cabinet_text_nodes.proofs.Views.{node_tree-text, node_tree-shared, node_tree-none, node_tree-some, node_tree-list, node_tree-ordered, node_tree-hashed}
+use Rattle.cabinet_text_nodes.proofs.Views.{node_tree-text, node_tree-shared, node_tree-none, node_tree-some, node_tree-list, node_tree-ordered, node_tree-hashed, node_tree-kept}
 use Rattle.archive_forms_writing.specs.Owned.{str_spelling, string_spelling}
 
 -- ---- a list of values that are seen as others is archived as the list of those
@@ -223,6 +227,23 @@ table_written m ps old new result h =
     subst (λ qs. Serializes (hashed_spelling node_spelling) m qs old new result) (pairs_are ps)
     (serializes_alike table_of_pairs (seen_as (map view) (hashed_spelling node_spelling)) ps alike m old new result h)
 
+abbrev index_of_pairs : Spelling (List (String Global × Node)) IndexMapResolver
+index_of_pairs = index_of key_hash text node_shape string_spelling archived_as
+
+pub index_written :
+    {W : Type 0} (m : WriterMembers W) (ps : List (String Global × Node)) (old new : W) (result : Result IndexMapResolver Error)
+    → Serializes index_of_pairs m ps old new result
+    → Serializes (kept_spelling node_spelling) m (pairs_within ps) old new result
+index_written m ps old new result h =
+    let view = seen_entry string_bytes node_tree in
+    let xs = map view ps in
+    let own = tuple2_spelling text string_spelling node_shape archived_as in
+    let seen = ap (λ hs. said (map_spelling 7 8 pair_shape own hs) ps) (hashes_are ps)
+    ∙ map_seen pair_shape view (λ r. r) (λ r. r) (λ r. refl) (pair_spelling node_spelling) 7 8 (map (λ p. text_hash p.0) xs) ps in
+    let alike = kept_alike (index_spelling 7 8 pair_shape own (λ e. key_hash e.0)) (index_spelling 7 8 pair_shape (pair_spelling node_spelling) (λ p. text_hash p.0)) ps xs seen resolver_of positions_of in
+    subst (λ qs. Serializes (kept_spelling node_spelling) m qs old new result) (pairs_are ps)
+    (serializes_alike index_of_pairs (seen_as (map view) (kept_spelling node_spelling)) ps alike m old new result h)
+
 -- ---- each node in a list, an option or a map lies in fewer containers
 
 -- in an option
@@ -324,14 +345,10 @@ module _ {W : Type 0} (m : WriterMembers W) (n : Node) (old new : W) where
   pub hashed_refused : (b : BTreeMap (String Global) Node) (e : Error) → n ≡ node.Hashed b → Serializes (hashed_spelling node_spelling) m (pairs_within b.entries) old new (Err e) → Serializes archived_as m n old new (Err e)
   hashed_refused b e is h = as_level (tree.map hashed (node_pairs b.entries)) (Err e) (ap node_tree is ∙ node_tree-hashed b) h
 
--- a node whose kind has no layout is refused, and nothing is written of it
-module _ {W : Type 0} (m : WriterMembers W) (n : Node) (old : W) where
-  refused_stops : (t : Tree) → Serializes refused m t old old (Err InvalidTag)
-  refused_stops t = λ st at. inr (record {
-    is_cut = λ tells. record { written = []; lost = []; new_is = sym (append-nil (m.contents old)); piece_is = refl };
-    is_quiet = refl;
-    reason = inr refl;
-  })
+  pub kept_wrote : (v : Vec (String Global × Node) Global) (r : IndexMapResolver) → n ≡ node.Kept v → Serializes (kept_spelling node_spelling) m (pairs_within v.items) old new (Ok r) → Serializes archived_as m n old new (Ok (resolver.Kept r))
+  kept_wrote v r is h =
+      as_level (tree.map kept (node_pairs v.items)) (Ok (resolver.Kept r)) (ap node_tree is ∙ node_tree-kept v)
+      (λ st at. let o = h st at in (o.0, (ap (λ q. resolver.Kept q) o.1.0, o.1.1, o.1.2)))
 
-  pub kept_refused : (ps : Pairs) → node_tree n ≡ tree.map kept ps → Serializes archived_as m n old old (Err InvalidTag)
-  kept_refused ps is = as_level m n old old (tree.map kept ps) (Err InvalidTag) is (refused_stops (tree.map kept ps))
+  pub kept_refused : (v : Vec (String Global × Node) Global) (e : Error) → n ≡ node.Kept v → Serializes (kept_spelling node_spelling) m (pairs_within v.items) old new (Err e) → Serializes archived_as m n old new (Err e)
+  kept_refused v e is h = as_level (tree.map kept (node_pairs v.items)) (Err e) (ap node_tree is ∙ node_tree-kept v) h

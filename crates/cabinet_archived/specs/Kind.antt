@@ -3,7 +3,7 @@ use Rattle.std.specs.Prelude.{◌≡◌, ℕ, ◌+◌, true, false, List, ⊤}
 use Rattle.std.specs.Int.{w64}
 use Rattle.std.specs.Borrow.{Bor}
 use Rattle.archive_shape_layout.specs.Shape.{Shape}
-use Rattle.archive_shape_layout.specs.Shape.Shape.{number, truth, text, shared, option, box, vector, tree, table}
+use Rattle.archive_shape_layout.specs.Shape.Shape.{number, truth, text, shared, option, box, vector, tree, table, index_map}
 use Rattle.archive_shape_layout.specs.Shape.Pointee.{sized, str}
 use Rattle.archive_shape_layout.specs.Value.{Value}
 use Rattle.archive_shape_layout.specs.Content.{Names}
@@ -28,3 +28,4 @@ IsKindAt bytes pos (kind.Maybe r) = (r.bytes ≡ bytes) × (r.pos ≡ pos + 4) �
 IsKindAt bytes pos (kind.List r) = (r.bytes ≡ bytes) × (r.pos ≡ pos + 4) × IsTagged bytes.now pos 5 (vector node_shape) KnowsNode r.pos
 IsKindAt bytes pos (kind.Ordered r) = (r.bytes ≡ bytes) × (r.pos ≡ pos + 4) × IsTagged bytes.now pos 6 (tree 5 text node_shape) (both (λ _. ⊤) KnowsNode) r.pos
 IsKindAt bytes pos (kind.Hashed r) = (r.bytes ≡ bytes) × (r.pos ≡ pos + 4) × IsTagged bytes.now pos 7 (table pair_shape) (both (λ _. ⊤) KnowsNode) r.pos
+IsKindAt bytes pos (kind.Kept r) = (r.bytes ≡ bytes) × (r.pos ≡ pos + 4) × IsTagged bytes.now pos 8 (index_map text node_shape) (both (λ _. ⊤) KnowsNode) r.pos

@@ -2,7 +2,7 @@
 ghost use Rattle.std.specs.Prelude.{◌≡◌, ℕ, false, ◌+◌, ◌-◌, ◌^◌, ◌<◌, ◌≤◌, length};
 ghost use Rattle.archive_shape_layout.specs.Content.{Names};
 ghost use Rattle.archive_shape_layout.specs.Content.Part.{at};
-ghost use Rattle.archive_shape_layout.specs.Shape.Shape.{text, shared, option, box, vector, tree, table};
+ghost use Rattle.archive_shape_layout.specs.Shape.Shape.{text, shared, option, box, vector, tree, table, index_map};
 ghost use Rattle.archive_shape_layout.specs.Shape.Pointee.{sized, str};
 ghost use Rattle.archive_shape.specs.Kept.{IsWithin};
 ghost use Rattle.archive_shape.specs.Checks.{Checks, Moves};
@@ -16,6 +16,7 @@ use archive_forms_values::{
     check_vec_each,
 };
 use archive_hash_checking::check_table_each;
+use archive_index::check_index_map_each;
 use archive_shape::{ArchivedI64, CheckBytes, Error, SharedContext};
 use std::alloc::Global;
 
@@ -55,8 +56,7 @@ fn check_shared<C: SharedContext>(
 
 /// Checks the node at `pos`. The regions that it claims end at `room` or before.
 ///
-/// Returns `InvalidTag` for the tag of a kind without a layout and for any tag above 8, and otherwise the error of the
-/// payload's check.
+/// Returns `InvalidTag` for a tag above 8, and otherwise the error of the payload's check.
 #[cycle(node)]
 #[inline(always)]
 pub(crate) fn check_node<C: SharedContext>(
@@ -88,6 +88,7 @@ pub(crate) fn check_node<C: SharedContext>(
         tag::LIST => check_list(alloc, bytes, pos + tag::OFFSET, context, room),
         tag::ORDERED => check_ordered(alloc, bytes, pos + tag::OFFSET, context, room),
         tag::HASHED => check_hashed(alloc, bytes, pos + tag::OFFSET, context, room),
+        tag::KEPT => check_kept(alloc, bytes, pos + tag::OFFSET, context, room),
         _ => Err(Error::InvalidTag),
     }
 }
@@ -245,6 +246,39 @@ fn check_hashed<C: SharedContext>(
         → Checks names bytes.now (at pos (table pair_shape)) (C.kept context.old) result (C.kept context.new) }
 {
     check_table_each::<Entry<ArchivedString, ArchivedNode>, C, _>(
+        bytes,
+        pos,
+        context,
+        |c: &mut C, p: usize| -> Result<(), Error>
+            requires fits { p + 32 ≤ length bytes.now }
+            requires range { IsWithin (C.kept c.old) (length bytes.now) }
+            requires within { (C.kept c.old).end + 32 ≤ room }
+            ensures moves { Moves (C.kept c.old) result (C.kept c.new) }
+            ensures exact { (names : Names) → KnowsNode names
+                → Checks names bytes.entry.now (at p pair_shape) (C.kept c.old) result (C.kept c.new) }
+        { check_pair(alloc, bytes, p, c, room - 32) },
+    )
+}
+
+/// Checks the index map of nodes with texts as keys at `pos`. The regions that it claims end at `room` or before.
+#[cycle(node)]
+#[inline(never)]
+#[tactic(auto, unfolding(archive_shape_layout::specs::Bytes::align_up))]
+fn check_kept<C: SharedContext>(
+    alloc: Global,
+    bytes: &[u8],
+    pos: usize,
+    context: &mut C,
+    room: usize,
+) -> Result<(), Error>
+    requires fits { pos + 16 ≤ length bytes.now }
+    requires range { IsWithin (C.kept context.old) (length bytes.now) }
+    requires within { (C.kept context.old).end ≤ room }
+    ensures moves { Moves (C.kept context.old) result (C.kept context.new) }
+    ensures exact { (names : Names) → KnowsNode names
+        → Checks names bytes.now (at pos (index_map text node_shape)) (C.kept context.old) result (C.kept context.new) }
+{
+    check_index_map_each::<Entry<ArchivedString, ArchivedNode>, C, _>(
         bytes,
         pos,
         context,

@@ -10,6 +10,7 @@ use archive_forms_rc::{ArchivedRcStr, RcFlavor};
 use archive_forms_values::{ArchivedBox, ArchivedOption, ArchivedString, ArchivedVec};
 use archive_hash_maps::ArchivedHashMap;
 use archive_hash_probing::FxHasher64;
+use archive_index::ArchivedIndexMap;
 use archive_shape::{ArchivedI64, Ref};
 
 /// A reference to the payload of a node, by its kind.
@@ -31,6 +32,8 @@ pub enum ArchivedKind<'a> {
     Ordered(Ref<'a, ArchivedBTreeMap<ArchivedString, ArchivedNode, 5>>),
     /// A hashed map: tag 7, at byte 4.
     Hashed(Ref<'a, ArchivedHashMap<ArchivedString, ArchivedNode, FxHasher64>>),
+    /// A map that keeps the order of its pairs: tag 8, at byte 4.
+    Kept(Ref<'a, ArchivedIndexMap<ArchivedString, ArchivedNode, FxHasher64>>),
 }
 
 impl ArchivedNode {
@@ -49,7 +52,8 @@ impl ArchivedNode {
             tag::MAYBE => ArchivedKind::Maybe(Ref::new(bytes, pos + tag::OFFSET)),
             tag::LIST => ArchivedKind::List(Ref::new(bytes, pos + tag::OFFSET)),
             tag::ORDERED => ArchivedKind::Ordered(Ref::new(bytes, pos + tag::OFFSET)),
-            _ => ArchivedKind::Hashed(Ref::new(bytes, pos + tag::OFFSET)),
+            tag::HASHED => ArchivedKind::Hashed(Ref::new(bytes, pos + tag::OFFSET)),
+            _ => ArchivedKind::Kept(Ref::new(bytes, pos + tag::OFFSET)),
         }
     }
 }

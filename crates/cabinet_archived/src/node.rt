@@ -9,7 +9,7 @@ use archive_shape::{Alignment, CheckBytes, Error, Portable, Shape, SharedContext
 use std::alloc::{AllocError, Global};
 
 /// The archived form of a document's node: a tag of one byte, then the payload of the tag, at the first multiple of its
-/// alignment after the tag. Maps that keep their order have no layout yet: their tag is refused.
+/// alignment after the tag.
 #[derive(Clone, Copy)]
 pub struct ArchivedNode {}
 

@@ -1,12 +1,12 @@
 //! Writes the own bytes of nodes, each by its kind.
 ghost use Rattle.std.specs.Prelude.{◌≡◌, false, ◌+◌, ◌-◌, ◌^◌, ◌<◌, ◌≤◌, length};
 ghost use Rattle.std.specs.Rc.{rc_str_bytes};
-ghost use Rattle.archive_shape_layout.specs.Shape.Shape.{option, vector, shared, text, tree, table};
+ghost use Rattle.archive_shape_layout.specs.Shape.Shape.{option, vector, shared, text, tree, table, index_map};
 ghost use Rattle.archive_shape_layout.specs.Shape.Pointee.{str};
 ghost use Rattle.archive_shape.specs.Bytes.{HasBytes, zeros};
 ghost use Rattle.archive_forms_laws.specs.Serializing.{CanResolve, Resolves};
 ghost use Rattle.cabinet_documents.specs.Node.{node_shape, pair_shape};
-ghost use Rattle.cabinet_documents.specs.Spelling.{boxed_shape, node_spelling, shared_string_spelling, maybe_spelling, list_spelling, ordered_spelling, hashed_spelling, text_in, shared_in, maybe_in, list_in, ordered_in, hashed_in};
+ghost use Rattle.cabinet_documents.specs.Spelling.{boxed_shape, node_spelling, shared_string_spelling, maybe_spelling, list_spelling, ordered_spelling, hashed_spelling, kept_spelling, text_in, shared_in, maybe_in, list_in, ordered_in, hashed_in, kept_in};
 ghost use Rattle.cabinet_archived.specs.Archived.{archived_as, tree_within, trees_within, pairs_within};
 
 use crate::{ArchivedNode, tag};
@@ -17,9 +17,10 @@ use archive_forms_values::{
     VecResolver,
 };
 use archive_forms_writing::Archive;
-use archive_hash::LOAD_FACTOR;
 use archive_hash_maps::{ArchivedHashMap, HashMapResolver, HashTableResolver};
 use archive_hash_probing::FxHasher64;
+use archive_index::hash::LOAD_FACTOR;
+use archive_index::{ArchivedIndexMap, IndexMapResolver};
 use archive_shape::{Error, Place};
 use cabinet_documents::NodeResolver;
 use cabinet_text_nodes::Node;
@@ -83,6 +84,19 @@ fn hashed_kept(resolver: NodeResolver) -> HashTableResolver
     match resolver {
         NodeResolver::Hashed(kept) => kept,
         _ => HashTableResolver { pos: None },
+    }
+}
+
+/// Returns the positions of the controls and of the entries of a kept map, if the map has pairs.
+fn index_kept(resolver: NodeResolver) -> IndexMapResolver
+    ensures { result ≡ kept_in resolver }
+{
+    match resolver {
+        NodeResolver::Kept(kept) => kept,
+        _ => IndexMapResolver {
+            table: HashTableResolver { pos: None },
+            entries: None,
+        },
     }
 }
 
@@ -206,7 +220,33 @@ fn resolve_hashed(
     )
 }
 
-/// Writes a node's own bytes. A kind without a layout is an `InvalidTag` error.
+/// Writes the own bytes of a map that keeps its order.
+fn resolve_kept(
+    pairs: &Vec<(String, Node)>,
+    resolver: IndexMapResolver,
+    out: Place<'_, ArchivedIndexMap<ArchivedString, ArchivedNode, FxHasher64>>,
+) -> Result<(), Error>
+    requires room { out.start + 16 ≤ length out.out.now }
+    requires stands { out.pos + 16 < 2 ^ 64 }
+    ensures { Resolves (kept_spelling node_spelling) (index_map text node_shape) (pairs_within pairs.now.items)
+        resolver out.entry.pos out.entry.start out.entry.out.now out.exit.0.now result }
+{
+    let Place {
+        out,
+        start,
+        pos,
+        ..
+    } = out;
+    let place = Place::within(out, start, pos);
+    ArchivedIndexMap::<ArchivedString, ArchivedNode, FxHasher64>::resolve_from_len(
+        pairs.len(),
+        LOAD_FACTOR,
+        resolver,
+        place,
+    )
+}
+
+/// Writes a node's own bytes.
 pub(crate) fn resolve_node(
     node: &Node,
     resolver: NodeResolver,
@@ -267,6 +307,10 @@ pub(crate) fn resolve_node(
             let place = Place::within(out, start + tag::OFFSET, pos + tag::OFFSET);
             return resolve_hashed(map, hashed_kept(resolver), place);
         }
-        Node::Kept(_) => return Err(Error::InvalidTag),
+        Node::Kept(pairs) => {
+            out[start] = tag::KEPT;
+            let place = Place::within(out, start + tag::OFFSET, pos + tag::OFFSET);
+            return resolve_kept(pairs, index_kept(resolver), place);
+        }
     }
 }

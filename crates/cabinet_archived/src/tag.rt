@@ -24,6 +24,9 @@ pub const ORDERED: u8 = 6;
 /// The tag of a hashed map.
 pub const HASHED: u8 = 7;
 
+/// The tag of a map that keeps the order of its pairs.
+pub const KEPT: u8 = 8;
+
 /// The offset of a truth value from the start of the node.
 pub const BOOL_OFFSET: usize = 1;
 

@@ -5,7 +5,7 @@ ghost use Rattle.archive_forms_laws.proofs.Views.{seen_spells};
 ghost use Rattle.cabinet_text_grammar.specs.Tree.{depth};
 ghost use Rattle.cabinet_documents.specs.Node.{node_shape, KnowsNode};
 ghost use Rattle.archive_forms_writing.specs.Owned.{string_spelling};
-ghost use Rattle.cabinet_documents.specs.Spelling.{node_spelling, maybe_spelling, list_spelling, ordered_spelling, hashed_spelling};
+ghost use Rattle.cabinet_documents.specs.Spelling.{node_spelling, maybe_spelling, list_spelling, ordered_spelling, hashed_spelling, kept_spelling};
 ghost use Rattle.cabinet_documents.proofs.Levels.{node_spells_law};
 ghost use Rattle.cabinet_archived.specs.Archived.{archived_as, archived_in, tree_within, trees_within, most_within, pairs_within, most_in_pairs};
 ghost use Rattle.cabinet_text_nodes.specs.View.{node_tree};
@@ -20,6 +20,7 @@ use archive_forms_writing::{
     serialize_slice_with_each,
 };
 use archive_hash_maps::HashTableResolver;
+use archive_index::IndexMapResolver;
 use archive_shape::{Error, Place};
 use cabinet_documents::NodeResolver;
 use cabinet_text_nodes::Node;
@@ -33,7 +34,7 @@ impl<'a> Archive for NodeIn<'a> {
 
     ghost spelling = { archived_in };
 
-    /// Writes the node's own bytes. A kind without a layout is an `InvalidTag` error.
+    /// Writes the node's own bytes.
     fn resolve(&self, resolver: NodeResolver, out: Place<'_, ArchivedNode>) -> Result<(), Error>
         requires { CanResolve archived_in node_shape self.now resolver out.out.now out.start out.pos }
         ensures { Resolves archived_in node_shape self.now resolver out.entry.pos out.entry.start
@@ -58,7 +59,7 @@ impl<'a> ArchiveWith<Node> for NodesIn<'a> {
 
     ghost spelling = { λ _. archived_as };
 
-    /// Writes a node's own bytes. A kind without a layout is an `InvalidTag` error.
+    /// Writes a node's own bytes.
     fn resolve_with(
         &self,
         value: &Node,
@@ -204,7 +205,7 @@ fn serialize_hashed<S: TextSharing>(
     ensures { Serializes (hashed_spelling node_spelling) S.Writer (pairs_within map.now.entries)
         serializer.old serializer.new result }
 {
-    archive_hash::serialize_entries_with_each::<String, Node, NodesIn<'_>, S, _, _>(
+    archive_index::hash::serialize_entries_with_each::<String, Node, NodesIn<'_>, S, _, _>(
         &NodesIn { wholes },
         map,
         serializer,
@@ -220,6 +221,42 @@ fn serialize_hashed<S: TextSharing>(
             ensures { SerializesBy (λ q. q.0) archived_as S.Writer item.now s.old s.new result }
         {
             let _ = &map;
+            match serialize_node(NodeIn { wholes, node: item }, s) {
+                Ok(resolver) => Ok((resolver, PhantomData)),
+                Err(e) => Err(e),
+            }
+        },
+    )
+}
+
+/// Writes the table and the entries of a map that keeps its order, the entries after the data of its pairs.
+#[cycle(serialize)]
+fn serialize_kept<S: TextSharing>(
+    wholes: &[Node],
+    pairs: &Vec<(String, Node)>,
+    serializer: &mut S,
+) -> Result<IndexMapResolver, Error>
+    requires room { S.failures serializer.old < 2 ^ 64 - 1 }
+    requires state { HasState S.pos S.known serializer.old }
+    ensures { Serializes (kept_spelling node_spelling) S.Writer (pairs_within pairs.now.items)
+        serializer.old serializer.new result }
+{
+    archive_index::serialize_entries_with_each::<String, Node, NodesIn<'_>, S, _, _>(
+        &NodesIn { wholes },
+        pairs.as_slice(),
+        serializer,
+        |key: &String, s: &mut S| -> Result<(StringResolver, PhantomData<ArchivedString>), Error>
+            requires room { S.failures s.old < 2 ^ 64 - 1 }
+            requires state { HasState S.pos S.known s.old }
+            ensures { SerializesBy (λ q. q.0) string_spelling S.Writer key.now s.old s.new result }
+        { serialize_element(key, s) },
+        |item: &Node, s: &mut S| -> Result<(NodeResolver, PhantomData<ArchivedNode>), Error>
+            requires below { depth (node_tree item.now) ≤ most_in_pairs pairs.now.items }
+            requires room { S.failures s.old < 2 ^ 64 - 1 }
+            requires state { HasState S.pos S.known s.old }
+            ensures { SerializesBy (λ q. q.0) archived_as S.Writer item.now s.old s.new result }
+        {
+            let _ = &pairs;
             match serialize_node(NodeIn { wholes, node: item }, s) {
                 Ok(resolver) => Ok((resolver, PhantomData)),
                 Err(e) => Err(e),
@@ -265,12 +302,15 @@ fn serialize_node<S: TextSharing>(
             Ok(kept) => Ok(NodeResolver::Hashed(kept)),
             Err(e) => Err(e),
         },
-        Node::Kept(_) => Err(Error::InvalidTag),
+        Node::Kept(pairs) => match serialize_kept(node.wholes, pairs, serializer) {
+            Ok(kept) => Ok(NodeResolver::Kept(kept)),
+            Err(e) => Err(e),
+        },
     }
 }
 
 impl<'a, S: TextSharing> Serialize<S> for NodeIn<'a> {
-    /// Writes the data of a node. A kind without a layout is an `InvalidTag` error.
+    /// Writes the data of a node.
     fn serialize(&self, serializer: &mut S) -> Result<NodeResolver, Error> {
         serialize_node(*self, serializer)
     }

@@ -20,7 +20,8 @@ use Rattle.cabinet_archived.specs.Documents.Node.{node_shape, node_names, KnowsN
 use Rattle.cabinet_archived.specs.Documents.Order.{ascend, is_below}
 use Rattle.cabinet_archived.specs.Documents.Table.{item_keys}
 use Rattle.cabinet_archived.specs.Documents.Walk.{Stop, Walks}
-use Rattle.cabinet_archives.specs.Ordered.{map_shape, knows_map}
+use Rattle.cabinet_archives.specs.Keyed.{knows_pairs}
+use Rattle.cabinet_archives.specs.Ordered.{map_shape}
 use Rattle.cabinet_archives.proofs.Texts.{text_at, texts_at, texts_there, walked_keys}
 use Rattle.cabinet_archives.proofs.Walked.{map_in}
 
@@ -58,7 +59,7 @@ none_left (Some k) = refl
 
 -- ---- all keys of a map
 
-module _ (bytes : Bor (List ℕ)) (pos : ℕ) (has : HasValue map_shape knows_map bytes.now pos) (left : List (Ref ArchivedString))
+module _ (bytes : Bor (List ℕ)) (pos : ℕ) (has : HasValue map_shape knows_pairs bytes.now pos) (left : List (Ref ArchivedString))
     (are : (t : Tree Place) → IsMapAt bytes.now 5 text node_shape pos t → left ≡ map (key_at bytes) (items t)) where
   tree : IsMapOf text node_shape (λ _. ⊤) KnowsNode bytes.now 5 pos has.value
   tree = tree_of_value has

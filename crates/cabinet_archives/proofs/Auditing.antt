@@ -27,9 +27,10 @@ use Rattle.cabinet_archived.specs.declared.node.ArchivedNode.{ArchivedNode}
 use Rattle.cabinet_archived.proofs.Documents.Places.{node_here, option_here, list_here, part_of}
 use Rattle.cabinet_archived.proofs.Documents.NodeWalks.{OptionWalk, walks_none, walks_some, option_walk, list_walk, element_walk, element_count}
 use Rattle.cabinet_archived.proofs.Documents.TreeWalks.{ItemsWalk, no_items, more_items}
+use Rattle.cabinet_archives.specs.Keyed.{knows_pairs}
 use Rattle.cabinet_archives.specs.declared.opening.refusal.OpenRefusal.{OpenRefusal}
 use Rattle.cabinet_archives.specs.declared.opening.refusal.OpenRefusal.TheVariants as refusal
-use Rattle.cabinet_archives.specs.Ordered.{map_shape, knows_map}
+use Rattle.cabinet_archives.specs.Ordered.{map_shape}
 use Rattle.cabinet_archives.specs.Sound.{Reports, Audits}
 use Rattle.cabinet_archives.proofs.Walked.{Boxed, Inner, leaf_faults, none_faults, some_in, vector_in, map_in}
 
@@ -86,7 +87,7 @@ module _ (bytes : List ℕ) (depth : ℕ) where
     pub deep_list : Audits bytes depth (part_of list_here pos) (Err r)
     deep_list = λ v walk h. let l = list_walk bytes pos h in own_reported r walk deep e (record { rest = flat_map (faults bytes) l.runs; faults_are = l.faults_are })
 
-    pub deep_map : HasValue map_shape knows_map bytes pos → Audits bytes depth (at pos map_shape) (Err r)
+    pub deep_map : HasValue map_shape knows_pairs bytes pos → Audits bytes depth (at pos map_shape) (Err r)
     deep_map has = λ v walk h.
         let m : IsMapOf text node_shape (λ _. ⊤) KnowsNode bytes 5 pos has.value = tree_of_value has in
         let w = map_in bytes m.map h in
@@ -271,7 +272,7 @@ module _ (bytes : Bor (List ℕ)) where
   -- ---- ordered maps
 
   module _ (depth inner : ℕ) (deeper : inner ≡ depth + 1) (low : inner ≤ 64) (pos : ℕ) where
-    module _ (has : HasValue map_shape knows_map bytes.now pos) where
+    module _ (has : HasValue map_shape knows_pairs bytes.now pos) where
       tree : IsMapOf text node_shape (λ _. ⊤) KnowsNode bytes.now 5 pos has.value
       tree = tree_of_value has
 

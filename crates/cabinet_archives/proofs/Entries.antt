@@ -20,7 +20,8 @@ use Rattle.archive_btree_walking.proofs.Roots.{tree_of_value}
 use Rattle.cabinet_archived.proofs.Documents.BtreeSpelling.ItemPlaces.{IsNth, HasItem}
 use Rattle.cabinet_archived.specs.Documents.Node.{node_shape, KnowsNode}
 use Rattle.cabinet_archived.specs.Documents.Denotes.{pair_value}
-use Rattle.cabinet_archives.specs.Ordered.{map_shape, knows_map, HasEntry}
+use Rattle.cabinet_archives.specs.Keyed.{knows_pairs}
+use Rattle.cabinet_archives.specs.Ordered.{map_shape, HasEntry}
 use Rattle.cabinet_archives.proofs.Texts.{text_is, text_there, held_text}
 
 -- what stands at a number of a list
@@ -88,7 +89,7 @@ module _ (bytes : List ℕ) where
     pub entry : HasEntry bytes pos k value_pos
     pub held : HeldAt node_shape KnowsNode bytes value_pos value
 
-  module _ (pos : ℕ) (vs : Values) (h : HeldAt map_shape knows_map bytes pos (group vs)) (k : List ℕ) (number value_pos : ℕ) (value : Value)
+  module _ (pos : ℕ) (vs : Values) (h : HeldAt map_shape knows_pairs bytes pos (group vs)) (k : List ℕ) (number value_pos : ℕ) (value : Value)
       (there : value_in number vs ≡ Some (pair_value k value))
       (first : (i : ℕ) (other : Value) → i < number → value_in i vs ≡ Some (pair_value k other) → ⊥)
       (item : (root : ℕ) (t : Tree Place) → (word_at bytes (pos + 4) ≡ 0 → ⊥) → target_from pos (word_at bytes pos) ≡ Some root → HasNode bytes 5 text node_shape 1 root t → HasItem (items t) number value_pos)

@@ -18,8 +18,10 @@ use Rattle.archive_forms_values.proofs.Pointed.{box_there, vec_there}
 use Rattle.cabinet_archived.specs.Documents.Node.{node_shape, payloads, KnowsNode}
 use Rattle.cabinet_archived.specs.Documents.Denotes.{tagged_value}
 use Rattle.cabinet_archived.proofs.Nodes.{tagged_at}
-use Rattle.cabinet_archives.specs.Hashed.{table_shape, knows_table}
-use Rattle.cabinet_archives.specs.Ordered.{map_shape, knows_map}
+use Rattle.cabinet_archives.specs.Keyed.{knows_pairs}
+use Rattle.cabinet_archives.specs.Hashed.{table_shape}
+use Rattle.cabinet_archives.specs.Kept.{index_shape}
+use Rattle.cabinet_archives.specs.Ordered.{map_shape}
 use Rattle.cabinet_archives.proofs.Ways.{Boxed}
 
 module _ (bytes : List ℕ) where
@@ -39,11 +41,14 @@ module _ (bytes : List ℕ) where
         subst (HeldAt s knows bytes (pos + align_of s)) same p.held
 
     -- of the map that a node is
-    pub map_held : (w : Value) → v ≡ tagged_value 6 w → slice_index bytes pos ≡ 6 → HeldAt map_shape knows_map bytes (pos + 4) w
-    map_held w is tag_is = payload_held 6 map_shape knows_map w is tag_is refl (omega arith) (omega arith) (λ names known. (tt, known))
+    pub map_held : (w : Value) → v ≡ tagged_value 6 w → slice_index bytes pos ≡ 6 → HeldAt map_shape knows_pairs bytes (pos + 4) w
+    map_held w is tag_is = payload_held 6 map_shape knows_pairs w is tag_is refl (omega arith) (omega arith) (λ names known. (tt, known))
 
-    pub table_held : (w : Value) → v ≡ tagged_value 7 w → slice_index bytes pos ≡ 7 → HeldAt table_shape knows_table bytes (pos + 4) w
-    table_held w is tag_is = payload_held 7 table_shape knows_table w is tag_is refl (omega arith) (omega arith) (λ names known. (tt, known))
+    pub table_held : (w : Value) → v ≡ tagged_value 7 w → slice_index bytes pos ≡ 7 → HeldAt table_shape knows_pairs bytes (pos + 4) w
+    table_held w is tag_is = payload_held 7 table_shape knows_pairs w is tag_is refl (omega arith) (omega arith) (λ names known. (tt, known))
+
+    pub index_held : (w : Value) → v ≡ tagged_value 8 w → slice_index bytes pos ≡ 8 → HeldAt index_shape knows_pairs bytes (pos + 4) w
+    index_held w is tag_is = payload_held 8 index_shape knows_pairs w is tag_is refl (omega arith) (omega arith) (λ names known. (tt, known))
 
     -- the box in an option that is some
     some_held : (w : Value) → HeldAt (option Boxed) KnowsNode bytes (pos + 4) (tagged_value 1 w) → HeldAt Boxed KnowsNode bytes (pos + 8) w

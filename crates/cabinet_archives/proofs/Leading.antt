@@ -41,8 +41,8 @@ use Rattle.cabinet_archived.proofs.Documents.TreeWalks.{ItemsWalk, no_items, mor
 use Rattle.archive_forms_values.specs.Parts.{HasValue}
 use Rattle.cabinet_archived.specs.Documents.Node.{node_shape, node_names, KnowsNode}
 use Rattle.cabinet_archived.specs.declared.node.ArchivedNode.{ArchivedNode}
-use Rattle.cabinet_archives.specs.Ordered.{map_shape, knows_map, HasEntry}
-use Rattle.cabinet_archives.specs.Keyed.{KeyLeads, KeyLeadsNowhere}
+use Rattle.cabinet_archives.specs.Ordered.{map_shape, HasEntry}
+use Rattle.cabinet_archives.specs.Keyed.{KeyLeads, KeyLeadsNowhere, knows_pairs}
 use Rattle.cabinet_archives.specs.Sound.{HasSoundWalk, IsSoundPart}
 use Rattle.cabinet_archives.proofs.Texts.{text_at, texts_at, text_is, text_there, held_text, entry_key, walked_keys}
 use Rattle.cabinet_archives.proofs.Soundness.{left_nil, right_nil}
@@ -285,7 +285,7 @@ module _ (bytes : Bor (List ℕ)) (pos : ℕ) (query : Bor (List ℕ)) where
         let order = order_at bytes.now query.now in
         answers t order m (orders (items t)) ∙ ap (option_map (value_at bytes)) (descent_finds order t (asc_of order (items t) (keys_rise sound t m)))
 
-    pub leads : (v : Value) → HeldAt map_shape knows_map bytes.now pos v → MatchOption result (KeyLeadsNowhere v query.now) (λ node. (node.bytes ≡ bytes) × KeyLeads bytes.now v query.now node.pos)
+    pub leads : (v : Value) → HeldAt map_shape knows_pairs bytes.now pos v → MatchOption result (KeyLeadsNowhere v query.now) (λ node. (node.bytes ≡ bytes) × KeyLeads bytes.now v query.now node.pos)
     leads v h =
         let m : IsMapOf text node_shape (λ _. ⊤) KnowsNode bytes.now 5 pos v = tree_of_value (record { value = v; held = h }) in
         let t = m.search_tree in
@@ -293,7 +293,7 @@ module _ (bytes : Bor (List ℕ)) (pos : ℕ) (query : Bor (List ℕ)) where
         (found_of v (find (is_it bytes.now query.now) (items t)) t m.entries refl)
 
     -- it is the node of an entry with the key
-    pub leads_by_entry : HasValue map_shape knows_map bytes.now pos → IfSome result (λ node. HasEntry bytes.now pos query.now node.pos)
+    pub leads_by_entry : HasValue map_shape knows_pairs bytes.now pos → IfSome result (λ node. HasEntry bytes.now pos query.now node.pos)
     leads_by_entry has =
         let m : IsMapOf text node_shape (λ _. ⊤) KnowsNode bytes.now 5 pos has.value = tree_of_value has in
         subst (λ r. IfSome r (λ (node : Ref ArchivedNode). HasEntry bytes.now pos query.now node.pos)) (sym (first_is m.search_tree m.map))
@@ -307,7 +307,7 @@ module _ (bytes : Bor (List ℕ)) (pos : ℕ) (query : Bor (List ℕ)) where
             record { search_tree = t; index = f.index; entry = p; map = m; among = f.among; is_key = f.is_key; first = f.first; node = refl }
 
     -- the node that is found has no fault either
-    pub leads_soundly : HasValue map_shape knows_map bytes.now pos → IfSome result (λ node. IsSoundPart bytes.now (at node.pos node_shape))
+    pub leads_soundly : HasValue map_shape knows_pairs bytes.now pos → IfSome result (λ node. IsSoundPart bytes.now (at node.pos node_shape))
     leads_soundly has =
         let m : IsMapOf text node_shape (λ _. ⊤) KnowsNode bytes.now 5 pos has.value = tree_of_value has in
         let t = m.search_tree in

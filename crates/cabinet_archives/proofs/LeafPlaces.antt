@@ -16,7 +16,7 @@ use Rattle.archive_shape.specs.ShapeLayout.Path.{Stands}
 use Rattle.archive_shape.specs.ShapeLayout.Path.Stands.{stands_here}
 use Rattle.archive_forms_values.specs.FormsLaws.Text.{LiesAt}
 use Rattle.archive_forms_values.specs.Parts.{PointsTo}
-use Rattle.cabinet_text_nodes.specs.TextGrammar.Keys.{ordered, hashed}
+use Rattle.cabinet_text_nodes.specs.TextGrammar.Keys.{ordered, hashed, kept}
 use Rattle.cabinet_text_nodes.specs.TextGrammar.Tree as document
 use Rattle.cabinet_text_nodes.specs.TextGrammar.Tree.{Leaf, Tree, leaf, IsLegal}
 use Rattle.cabinet_text_nodes.specs.TextGrammar.Path.{Step, key, place, inside, node_at}
@@ -26,20 +26,23 @@ use Rattle.cabinet_archived.specs.Documents.Order.{arranged}
 use Rattle.cabinet_archived.specs.Documents.OwnBytes.{LeadsTo, leads_here, leads_inside, leads_place, leads_key}
 use Rattle.cabinet_archived.specs.Documents.Laws.{payload_of}
 use Rattle.cabinet_archived.proofs.Documents.Nodes.{NodeValue}
-use Rattle.cabinet_archived.proofs.Documents.Known.{leaf_tag, LeafValue, Known, known_leaf, known_shared, known_none, known_some, known_list, known_ordered, known_hashed, known, known_element, known_pair}
+use Rattle.cabinet_archived.proofs.Documents.Known.{leaf_tag, LeafValue, Known, known_leaf, known_shared, known_none, known_some, known_list, known_ordered, known_hashed, known_kept, known, known_element, known_pair}
 use Rattle.cabinet_archived.proofs.Documents.ByKey.{distinct, distinct_in_order, node_in_order}
+use Rattle.cabinet_archived.proofs.Documents.IndexSteps.{index_node}
 use Rattle.cabinet_archived.proofs.Documents.TableSteps.{table_node}
 use Rattle.cabinet_archived.proofs.Documents.BtreeSpelling.PairsStand.{tree_pair_stands}
 use Rattle.cabinet_archived.proofs.Documents.Places.{node_here}
 use Rattle.cabinet_archived.proofs.Documents.Leading.{ToLeaf}
 use Rattle.cabinet_archived.proofs.Documents.Avoiding.{avoids}
 use Rattle.cabinet_archives.specs.Hashed.{table_shape}
+use Rattle.cabinet_archives.specs.Kept.{index_shape}
 use Rattle.cabinet_archives.specs.Ordered.{map_shape}
-use Rattle.cabinet_archives.specs.Way.{StepsTo, GoesTo, goes_nowhere, goes_on, steps_inside, steps_place, steps_key, steps_hashed}
+use Rattle.cabinet_archives.specs.Way.{StepsTo, GoesTo, goes_nowhere, goes_on, steps_inside, steps_place, steps_key, steps_hashed, steps_kept}
 use Rattle.cabinet_archives.proofs.Standing.{PaidAt, paid_at, tag_is, inside_at, element_at, TextAt, text_inline, text_out, text_at}
 use Rattle.cabinet_archives.proofs.Buckets.{pair_bucket}
 use Rattle.cabinet_archives.proofs.Entries.{pair_entry}
-use Rattle.cabinet_archives.proofs.Inner.{map_held, table_held, inside_held, element_held}
+use Rattle.cabinet_archives.proofs.Numbered.{pair_numbered}
+use Rattle.cabinet_archives.proofs.Inner.{map_held, table_held, index_held, inside_held, element_held}
 
 module _ (bytes : List ℕ) where
   -- the part that encodes the leaf of the node at `pos`
@@ -152,6 +155,7 @@ module _ (bytes : List ℕ) where
       ends_here (known_list e f ns ds) g = absurd (cc)
       ends_here (known_ordered e f ns ds) g = absurd (cc)
       ends_here (known_hashed e f ns ds) g = absurd (cc)
+      ends_here (known_kept e f ns ds) g = absurd (cc)
 
       in_option : (rest : List Step) → On rest l → Known bytes v t → node_at t (inside ∷ rest) ≡ Some (leaf l) → LeafFound level around before pos v (inside ∷ rest) l
       unfolding align_up
@@ -180,6 +184,7 @@ module _ (bytes : List ℕ) where
       in_option rest on (known_list e f ns ds) g = let k = subst (λ x. node_at x (inside ∷ rest) ≡ Some (leaf l)) f g in absurd (cc)
       in_option rest on (known_ordered e f ns ds) g = let k = subst (λ x. node_at x (inside ∷ rest) ≡ Some (leaf l)) f g in absurd (cc)
       in_option rest on (known_hashed e f ns ds) g = let k = subst (λ x. node_at x (inside ∷ rest) ≡ Some (leaf l)) f g in absurd (cc)
+      in_option rest on (known_kept e f ns ds) g = let k = subst (λ x. node_at x (inside ∷ rest) ≡ Some (leaf l)) f g in absurd (cc)
 
       in_list : (i : ℕ) (rest : List Step) → On rest l → Known bytes v t → node_at t (place i ∷ rest) ≡ Some (leaf l) → LeafFound level around before pos v (place i ∷ rest) l
       unfolding align_up
@@ -207,6 +212,7 @@ module _ (bytes : List ℕ) where
           }
       in_list i rest on (known_ordered e f ns ds) g = let k = subst (λ x. node_at x (place i ∷ rest) ≡ Some (leaf l)) f g in absurd (cc)
       in_list i rest on (known_hashed e f ns ds) g = let k = subst (λ x. node_at x (place i ∷ rest) ≡ Some (leaf l)) f g in absurd (cc)
+      in_list i rest on (known_kept e f ns ds) g = let k = subst (λ x. node_at x (place i ∷ rest) ≡ Some (leaf l)) f g in absurd (cc)
 
       in_map : (k : List ℕ) (rest : List Step) → On rest l → Known bytes v t → node_at t (key k ∷ rest) ≡ Some (leaf l) → LeafFound level around before pos v (key k ∷ rest) l
       unfolding align_up
@@ -224,7 +230,7 @@ module _ (bytes : List ℕ) where
           let x = pair_entry bytes (pos + 4) vs (map_held bytes pos v there (group vs) e tag) k p.number s.value_pos p.value p.there p.first s.item in
           let r = on s.value_pos s.deeper around p.value s.regions s.since s.until p.tree p.node p.denotes p.legal s.holds x.held p.found in
           mapped l 6 k p.number rest p.value e (inl refl) p.there s.value_pos (steps_key refl tag x.entry) r
-          (λ way stands. o.stands r.part r.payload (p.number ∷ (1 ∷ (r.inner ++ 0 ∷ []))) (s.stands r.part r.payload (r.inner ++ 0 ∷ []) (record { stands = stands; spares = avoids bytes s.holds stands node_here s.value_pos refl way })).stands)
+          (λ way stands. o.stands r.part r.payload (p.number ∷ (1 ∷ (r.inner ++ 0 ∷ []))) (s.stands r.part r.payload (r.inner ++ 0 ∷ []) (record { stands = stands; spares = avoids bytes stands node_here s.value_pos refl way })).stands)
       in_map k rest on (known_hashed {vs = vs} {ps = ps} e f ns ds) g =
           let all = distinct hashed [] (arranged ps) (subst IsLegal f legal).0 in
           let at_key = sym (node_in_order hashed k rest ps) ∙ subst (λ x. node_at x (key k ∷ rest) ≡ Some (leaf l)) f g in
@@ -235,6 +241,16 @@ module _ (bytes : List ℕ) where
           let x = pair_bucket bytes (pos + 4) vs (table_held bytes pos v there (group vs) e tag) k p.number s.pair_pos s.node_pos p.value p.there p.first s.is_pair s.behind_key in
           let r = on s.node_pos s.deeper around p.value s.regions s.since s.until p.tree p.node p.denotes p.legal s.holds x.held p.found in
           mapped l 7 k p.number rest p.value e (inr (inl refl)) p.there s.node_pos (steps_hashed refl tag x.bucket) r
+          (λ way stands. o.stands r.part r.payload (p.number ∷ (1 ∷ (r.inner ++ 0 ∷ []))) (s.stands r.part r.payload (r.inner ++ 0 ∷ []) stands))
+      in_map k rest on (known_kept {vs = vs} {ps = ps} e f ns ds) g =
+          let each = distinct kept [] ps (subst IsLegal f legal).0 in
+          let p = known_pair k rest (leaf l) ns ds each (subst (λ x. node_at x (key k ∷ rest) ≡ Some (leaf l)) f g) in
+          let o = paid_at bytes pos 8 (group vs) e h 4 index_shape refl refl in
+          let s = index_node bytes (pos + 4) p.number k p.value refl p.there o.holds in
+          let tag = tag_is bytes pos 8 (group vs) e h in
+          let x = pair_numbered bytes (pos + 4) vs (index_held bytes pos v there (group vs) e tag) k p.number s.pair_pos s.node_pos p.value p.there p.first s.is_pair s.behind_key in
+          let r = on s.node_pos s.deeper around p.value s.regions s.since s.until p.tree p.node p.denotes p.legal s.holds x.held p.found in
+          mapped l 8 k p.number rest p.value e (inr (inr refl)) p.there s.node_pos (steps_kept refl tag x.numbered) r
           (λ way stands. o.stands r.part r.payload (p.number ∷ (1 ∷ (r.inner ++ 0 ∷ []))) (s.stands r.part r.payload (r.inner ++ 0 ∷ []) stands))
 
   pub leaf_found : (path : List Step) (l : Leaf) → On path l

@@ -1,31 +1,51 @@
+mod Added
 mod Ascending
 mod Audited
 mod Auditing
-pub mod Kept
 mod Buckets
 mod Entries
 mod HashedAuditing
 mod HashedLeading
+mod IndexAudit
+mod IndexLookups
+mod IndexPairs
 mod Inner
+pub mod Kept
+mod KeptAuditing
+mod KeptEntries
+mod KeptLeading
 mod KeysAsked
-pub mod Layouts
+mod KeysYielded
 mod Leading
 mod LeafPlaces
+mod Loaded
+mod LoadedMaps
+mod LoadedPairs
+mod LoadedRoot
+mod LoadedTexts
+mod MapKeys
 mod NoSteps
+mod Numbered
 mod Outcomes
 mod OwnPlaces
+mod PairPositions
 mod Pairs
+mod PairsAuditing
+mod PairsLeading
 mod Paths
 mod Payloads
+mod PlacesLeft
 mod Put
 pub mod Reached
 pub mod Saves
 mod Searched
+mod SlotLookups
 mod Soundness
 mod Standing
 mod Stepping
 mod TableAudit
 mod TableLookups
+mod TablePairs
 mod Tables
 mod Tags
 mod Texts

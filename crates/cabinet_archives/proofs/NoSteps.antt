@@ -12,9 +12,11 @@ use Rattle.cabinet_archived.specs.declared.kind.ArchivedKind.TheVariants as kind
 use Rattle.cabinet_text_nodes.specs.View.{step_of}
 use Rattle.cabinet_text_nodes.specs.declared.line.Step.{Step}
 use Rattle.cabinet_text_nodes.specs.declared.line.Step.TheVariants as step
+use Rattle.cabinet_archives.specs.Keyed.{knows_pairs}
 use Rattle.cabinet_archives.specs.Found.{ReachesNone}
-use Rattle.cabinet_archives.specs.Hashed.{table_shape, knows_table}
-use Rattle.cabinet_archives.specs.Ordered.{map_shape, knows_map}
+use Rattle.cabinet_archives.specs.Hashed.{table_shape}
+use Rattle.cabinet_archives.specs.Kept.{index_shape}
+use Rattle.cabinet_archives.specs.Ordered.{map_shape}
 use Rattle.cabinet_archives.proofs.Stepping.{IsNotInside, IsNoPlace, IsNoKey}
 use Rattle.cabinet_archives.proofs.Ways.{Boxed, other_none}
 
@@ -39,12 +41,14 @@ pub no_step : (bytes : Bor (List ℕ)) (pos : ℕ) (k : ArchivedKind) (s : gramm
     → ((r : _) → k ≡ kind.List r → IsNoPlace s)
     → ((r : _) → k ≡ kind.Ordered r → IsNoKey s)
     → ((r : _) → k ≡ kind.Hashed r → IsNoKey s)
+    → ((r : _) → k ≡ kind.Kept r → IsNoKey s)
     → ReachesNone bytes.now pos (s ∷ [])
-no_step bytes pos (kind.Bool r) s is apart beside keyless tableless = other_none bytes.now pos s 0 truth (λ _. ⊤) r.pos (λ e. absurd (omega (arith, e))) (λ e. absurd (omega (arith, e))) (λ e. absurd (omega (arith, e))) is.2
-no_step bytes pos (kind.Int r) s is apart beside keyless tableless = other_none bytes.now pos s 1 (number w64 true) (λ _. ⊤) r.pos (λ e. absurd (omega (arith, e))) (λ e. absurd (omega (arith, e))) (λ e. absurd (omega (arith, e))) is.2
-no_step bytes pos (kind.Text r) s is apart beside keyless tableless = other_none bytes.now pos s 2 text (λ _. ⊤) r.pos (λ e. absurd (omega (arith, e))) (λ e. absurd (omega (arith, e))) (λ e. absurd (omega (arith, e))) is.2
-no_step bytes pos (kind.Shared r) s is apart beside keyless tableless = other_none bytes.now pos s 3 (shared false str) (λ _. ⊤) r.pos (λ e. absurd (omega (arith, e))) (λ e. absurd (omega (arith, e))) (λ e. absurd (omega (arith, e))) is.2
-no_step bytes pos (kind.Maybe r) s is apart beside keyless tableless = other_none bytes.now pos s 4 (option Boxed) KnowsNode r.pos (λ e. apart r refl) (λ e. absurd (omega (arith, e))) (λ e. absurd (omega (arith, e))) is.2
-no_step bytes pos (kind.List r) s is apart beside keyless tableless = other_none bytes.now pos s 5 (vector node_shape) KnowsNode r.pos (λ e. absurd (omega (arith, e))) (λ e. beside r refl) (λ e. absurd (omega (arith, e))) is.2
-no_step bytes pos (kind.Ordered r) s is apart beside keyless tableless = other_none bytes.now pos s 6 map_shape knows_map r.pos (λ e. absurd (omega (arith, e))) (λ e. absurd (omega (arith, e))) (λ e. keyless r refl) is.2
-no_step bytes pos (kind.Hashed r) s is apart beside keyless tableless = other_none bytes.now pos s 7 table_shape knows_table r.pos (λ e. absurd (omega (arith, e))) (λ e. absurd (omega (arith, e))) (λ e. tableless r refl) is.2
+no_step bytes pos (kind.Bool r) s is apart beside keyless tableless numberless = other_none bytes.now pos s 0 truth (λ _. ⊤) r.pos (λ e. absurd (omega (arith, e))) (λ e. absurd (omega (arith, e))) (λ e. absurd (omega (arith, e))) is.2
+no_step bytes pos (kind.Int r) s is apart beside keyless tableless numberless = other_none bytes.now pos s 1 (number w64 true) (λ _. ⊤) r.pos (λ e. absurd (omega (arith, e))) (λ e. absurd (omega (arith, e))) (λ e. absurd (omega (arith, e))) is.2
+no_step bytes pos (kind.Text r) s is apart beside keyless tableless numberless = other_none bytes.now pos s 2 text (λ _. ⊤) r.pos (λ e. absurd (omega (arith, e))) (λ e. absurd (omega (arith, e))) (λ e. absurd (omega (arith, e))) is.2
+no_step bytes pos (kind.Shared r) s is apart beside keyless tableless numberless = other_none bytes.now pos s 3 (shared false str) (λ _. ⊤) r.pos (λ e. absurd (omega (arith, e))) (λ e. absurd (omega (arith, e))) (λ e. absurd (omega (arith, e))) is.2
+no_step bytes pos (kind.Maybe r) s is apart beside keyless tableless numberless = other_none bytes.now pos s 4 (option Boxed) KnowsNode r.pos (λ e. apart r refl) (λ e. absurd (omega (arith, e))) (λ e. absurd (omega (arith, e))) is.2
+no_step bytes pos (kind.List r) s is apart beside keyless tableless numberless = other_none bytes.now pos s 5 (vector node_shape) KnowsNode r.pos (λ e. absurd (omega (arith, e))) (λ e. beside r refl) (λ e. absurd (omega (arith, e))) is.2
+no_step bytes pos (kind.Ordered r) s is apart beside keyless tableless numberless = other_none bytes.now pos s 6 map_shape knows_pairs r.pos (λ e. absurd (omega (arith, e))) (λ e. absurd (omega (arith, e))) (λ e. keyless r refl) is.2
+no_step bytes pos (kind.Hashed r) s is apart beside keyless tableless numberless = other_none bytes.now pos s 7 table_shape knows_pairs r.pos (λ e. absurd (omega (arith, e))) (λ e. absurd (omega (arith, e))) (λ e. tableless r refl) is.2
+no_step bytes pos (kind.Kept r) s is apart beside keyless tableless numberless = other_none bytes.now pos s 8 index_shape knows_pairs r.pos (λ e. absurd (omega (arith, e))) (λ e. absurd (omega (arith, e))) (λ e. numberless r refl) is.2

@@ -16,14 +16,16 @@ use Rattle.cabinet_archived.specs.Documents.Node.{node_shape, KnowsNode, own_byt
 use Rattle.cabinet_archived.specs.Documents.Accepted.{Accepted}
 use Rattle.cabinet_archived.specs.Documents.OwnBytes.{OwnBytes, IsOwn, own_truth, own_number, own_inline, own_behind}
 use Rattle.cabinet_archived.proofs.Documents.Places.{node_behind}
-use Rattle.cabinet_archived.proofs.Documents.Nodes.{none_seen, held}
+use Rattle.cabinet_archived.proofs.Documents.HeldNodes.{none_seen, held}
 use Rattle.cabinet_archived.proofs.Documents.Steps.{behind_below}
-use Rattle.cabinet_archives.specs.Way.{StepsTo, steps_inside, steps_place, steps_key, steps_hashed, GoesTo, goes_nowhere, goes_on}
+use Rattle.cabinet_archives.specs.Way.{StepsTo, steps_inside, steps_place, steps_key, steps_hashed, steps_kept, GoesTo, goes_nowhere, goes_on}
 use Rattle.cabinet_archives.specs.Hashed.{HasBucket}
+use Rattle.cabinet_archives.specs.Kept.{HasNumbered}
 use Rattle.cabinet_archives.specs.Ordered.{HasEntry}
 use Rattle.cabinet_archives.specs.Putting.{BeginsAt}
 use Rattle.cabinet_archives.proofs.Buckets.{one_bucket}
 use Rattle.cabinet_archives.proofs.Entries.{one_entry}
+use Rattle.cabinet_archives.proofs.Numbered.{one_numbered}
 use Rattle.cabinet_archives.proofs.LeafPlaces.{LiesIn, truth_lies, number_lies, inline_lies, far_lies, leaf_found}
 
 -- ---- a path leads to one position
@@ -37,21 +39,32 @@ module _ (bytes : List ℕ) where
   one_step (steps_inside e p) (steps_place f q g) = absurd (cc)
   one_step (steps_inside e p) (steps_key f t q) = absurd (cc)
   one_step (steps_inside e p) (steps_hashed f t q) = absurd (cc)
+  one_step (steps_inside e p) (steps_kept f t q) = absurd (cc)
   one_step (steps_place e p g) (steps_inside f q) = absurd (cc)
   one_step (steps_place e p g) (steps_key f t q) = absurd (cc)
   one_step (steps_place e p g) (steps_hashed f t q) = absurd (cc)
+  one_step (steps_place e p g) (steps_kept f t q) = absurd (cc)
   one_step (steps_key e t p) (steps_inside f q) = absurd (cc)
   one_step (steps_key e t p) (steps_place f q g) = absurd (cc)
   one_step {from = from} {other = other} (steps_key {k = k} e t p) (steps_key {k = l} f u q) =
       let same_key : l ≡ k = cc in
       one_entry bytes (from + 4) k p (subst (λ x. HasEntry bytes (from + 4) x other) same_key q)
   one_step (steps_key e t p) (steps_hashed f u q) = let both : ◌≡◌ {A = ℕ} 6 7 = sym t ∙ u in absurd (omega (arith, both))
+  one_step (steps_key e t p) (steps_kept f u q) = let both : ◌≡◌ {A = ℕ} 6 8 = sym t ∙ u in absurd (omega (arith, both))
   one_step (steps_hashed e t p) (steps_inside f q) = absurd (cc)
   one_step (steps_hashed e t p) (steps_place f q g) = absurd (cc)
   one_step (steps_hashed e t p) (steps_key f u q) = let both : ◌≡◌ {A = ℕ} 7 6 = sym t ∙ u in absurd (omega (arith, both))
   one_step {from = from} {other = other} (steps_hashed {k = k} e t p) (steps_hashed {k = l} f u q) =
       let same_key : l ≡ k = cc in
       one_bucket bytes (from + 4) k p (subst (λ x. HasBucket bytes (from + 4) x other) same_key q)
+  one_step (steps_hashed e t p) (steps_kept f u q) = let both : ◌≡◌ {A = ℕ} 7 8 = sym t ∙ u in absurd (omega (arith, both))
+  one_step (steps_kept e t p) (steps_inside f q) = absurd (cc)
+  one_step (steps_kept e t p) (steps_place f q g) = absurd (cc)
+  one_step (steps_kept e t p) (steps_key f u q) = let both : ◌≡◌ {A = ℕ} 8 6 = sym t ∙ u in absurd (omega (arith, both))
+  one_step (steps_kept e t p) (steps_hashed f u q) = let both : ◌≡◌ {A = ℕ} 8 7 = sym t ∙ u in absurd (omega (arith, both))
+  one_step {from = from} {other = other} (steps_kept {k = k} e t p) (steps_kept {k = l} f u q) =
+      let same_key : l ≡ k = cc in
+      one_numbered bytes (from + 4) k p (subst (λ x. HasNumbered bytes (from + 4) x other) same_key q)
   one_step {from = from} (steps_place {i = i} e p g) (steps_place {i = j} {first = first} f q h) =
       let same_place : i ≡ j = cc in
       g ∙ ap (λ n. n + i * 24) (one_target (from + 4) p q) ∙ ap (λ n. first + n * 24) same_place ∙ sym h

@@ -1,4 +1,4 @@
--- The head of an archived node, by its kind.
+-- The tree of a leaf and of a shared text, and the head of an archived node of each kind.
 use Rattle.std.proofs.Common.{◌≡◌, ℕ, ◌<◌, List, [], ◌∷◌, length, map, refl, sym, ap, ◌∙◌, arith}
 use Rattle.std.specs.Prelude.{false, ⊤}
 use Rattle.std.proofs.lemmas.List.{length-map}
@@ -24,7 +24,7 @@ use Rattle.archive_btree_walking.proofs.Roots.{tree_of_value}
 use Rattle.archive_hash_walking.specs.Tables.{Buckets, full_places, item_position, item_positions, IsTableAt}
 use Rattle.archive_hash_walking.proofs.Read.{table_is_read}
 use Rattle.cabinet_text_nodes.specs.TextGrammar.Keys.{MapKind, ordered, hashed, kept}
-use Rattle.cabinet_text_nodes.specs.TextGrammar.Tree.{Leaf, Tree, Trees, Pairs, count, pair_count}
+use Rattle.cabinet_text_nodes.specs.TextGrammar.Tree.{Leaf, Tree, leaf, shared as shared_text, Trees, Pairs, count, pair_count}
 use Rattle.cabinet_text_nodes.specs.TextGrammar.Item.{leaf_item, shared_item, none_item, some_item, list_item, map_item}
 use Rattle.cabinet_text_nodes.specs.TextGrammar.Answering.{head_of}
 use Rattle.cabinet_archived.specs.Documents.Node.{node_shape, pair_shape, KnowsNode}
@@ -36,9 +36,13 @@ use Rattle.cabinet_archived.proofs.Documents.Arranged.{arranged_count}
 use Rattle.cabinet_archived.proofs.Documents.ByKey.{in_order}
 use Rattle.cabinet_archived.proofs.Documents.Changing.{of_some, of_list}
 use Rattle.cabinet_archived.specs.Kind.{IsTagged}
+use Rattle.cabinet_archives.specs.Keyed.{knows_pairs}
 use Rattle.cabinet_archives.specs.Found.{OfDocument}
-use Rattle.cabinet_archives.specs.Hashed.{table_shape, knows_table}
-use Rattle.cabinet_archives.specs.Ordered.{map_shape, knows_map}
+use Rattle.cabinet_archives.specs.Hashed.{table_shape}
+use Rattle.cabinet_archives.specs.Kept.{OfKept, index_shape}
+use Rattle.cabinet_archives.specs.Ordered.{map_shape}
+use Rattle.cabinet_archived.specs.Index.Maps.{count_of, entry_positions}
+use Rattle.cabinet_archives.proofs.IndexPairs.{entries_of, map_of_value, positions_counted}
 use Rattle.cabinet_archives.proofs.Pairs.{pair_entry, entries_of_pairs}
 use Rattle.cabinet_archives.proofs.Ways.{Boxed}
 use Rattle.cabinet_archives.proofs.Stepping.{nothing_is, shared_is, leaf_is, kind_of, map_by}
@@ -77,22 +81,31 @@ count_in_order hashed ps = arranged_count ps
 count_in_order kept ps = refl
 
 module _ (bytes : List ℕ) (pos : ℕ) where
-  pub leaf_head : (l : Leaf) (tag : ℕ) (shape : Shape) (knows : Names → Type 0) (to : ℕ) → tag < 3 → IsTagged bytes pos tag shape knows to
-      → ((w : Value) → HeldAt shape knows bytes to w → payload_of l ≡ w)
-      → OfDocument bytes pos (λ t. leaf_item l ≡ head_of t)
-  leaf_head l tag shape knows to less tagged is = λ v t h d.
-      let p = tagged.payload v h in
-      sym (ap head_of (leaf_is l p.is less (sym (is p.payload p.held)) d))
+  -- ---- leaves and shared texts, and their heads
+
+  head_by : (u : Tree) → OfDocument bytes pos (λ t. u ≡ t) → OfDocument bytes pos (λ t. head_of u ≡ head_of t)
+  head_by u is = λ v t h d. ap head_of (is v t h d)
+
+  module _ (l : Leaf) (tag : ℕ) (shape : Shape) (knows : Names → Type 0) (to : ℕ) (less : tag < 3) (tagged : IsTagged bytes pos tag shape knows to) (is : (w : Value) → HeldAt shape knows bytes to w → payload_of l ≡ w) where
+    pub leaf_tree : OfDocument bytes pos (λ t. leaf l ≡ t)
+    leaf_tree = λ v t h d. let p = tagged.payload v h in sym (leaf_is l p.is less (sym (is p.payload p.held)) d)
+
+    pub leaf_head : OfDocument bytes pos (λ t. leaf_item l ≡ head_of t)
+    leaf_head = head_by (leaf l) leaf_tree
 
   -- the value counts the text that the pointer points to
-  counted_text : (at : ℕ) (s : List ℕ) (v w : Value) (t : Tree) → v ≡ tagged_value 3 w → Counts false at (λ u. u ≡ string s) w → Denotes v t → shared_item s ≡ head_of t
-  counted_text at s v w t e (counts f g) d = sym (ap head_of (shared_is at s (e ∙ ap (tagged_value 3) (f ∙ ap (counting at) g)) d))
+  counted_text : (at : ℕ) (s : List ℕ) (v w : Value) (t : Tree) → v ≡ tagged_value 3 w → Counts false at (λ u. u ≡ string s) w → Denotes v t → shared_text s ≡ t
+  counted_text at s v w t e (counts f g) d = sym (shared_is at s (e ∙ ap (tagged_value 3) (f ∙ ap (counting at) g)) d)
   counted_text at s v w t e (leads_back allowed is) d = absurd (cc)
 
-  pub shared_head : (to at len : ℕ) (s : List ℕ) → IsTagged bytes pos 3 (shared false str) (λ _. ⊤) to → IsRcStrAt false bytes to at len → s ≡ window bytes at len → OfDocument bytes pos (λ t. shared_item s ≡ head_of t)
-  shared_head to at len s tagged there is = λ v t h d.
-      let p = tagged.payload v h in
-      ap shared_item is ∙ counted_text at (window bytes at len) v p.payload t p.is (there.value p.payload p.held) d
+  module _ (to at len : ℕ) (s : List ℕ) (tagged : IsTagged bytes pos 3 (shared false str) (λ _. ⊤) to) (there : IsRcStrAt false bytes to at len) (is : s ≡ window bytes at len) where
+    pub shared_tree : OfDocument bytes pos (λ t. shared_text s ≡ t)
+    shared_tree = λ v t h d. let p = tagged.payload v h in ap shared_text is ∙ counted_text at (window bytes at len) v p.payload t p.is (there.value p.payload p.held) d
+
+    pub shared_head : OfDocument bytes pos (λ t. shared_item s ≡ head_of t)
+    shared_head = head_by (shared_text s) shared_tree
+
+  -- ---- heads of containers
 
   pub none_head : (to : ℕ) → IsTagged bytes pos 4 (option Boxed) KnowsNode to → IsNoneAt Boxed KnowsNode bytes to → OfDocument bytes pos (λ t. none_item ≡ head_of t)
   none_head to tagged none = λ v t h d.
@@ -120,16 +133,25 @@ module _ (bytes : List ℕ) (pos : ℕ) where
       ap (map_item (kind_of tag)) (says p.payload p.held ∙ (pairs_counted o.denotes ∙ sym (count_in_order (kind_of tag) o.pairs))) ∙ sym (ap head_of o.is)
 
   -- as the tree has items
-  pub ordered_head : (to len : ℕ) → IsTagged bytes pos 6 map_shape knows_map to → ((t : SearchTree Place) → IsMapAt bytes 5 text node_shape to t → len ≡ length (items t)) → OfDocument bytes pos (λ t. map_item ordered len ≡ head_of t)
+  pub ordered_head : (to len : ℕ) → IsTagged bytes pos 6 map_shape knows_pairs to → ((t : SearchTree Place) → IsMapAt bytes 5 text node_shape to t → len ≡ length (items t)) → OfDocument bytes pos (λ t. map_item ordered len ≡ head_of t)
   ordered_head to len tagged says = map_head to len tagged (omega arith) (λ v h.
       let m : IsMapOf text node_shape (λ _. ⊤) KnowsNode bytes 5 to v = tree_of_value (record { value = v; held = h }) in
       says m.search_tree m.map ∙ entries_counted bytes (items m.search_tree) (members v) m.entries)
 
   -- as the table has full places
-  pub hashed_head : (to len : ℕ) → IsTagged bytes pos 7 table_shape knows_table to → ((b : Buckets) → IsTableAt bytes pair_shape to b → len ≡ length (full_places b)) → OfDocument bytes pos (λ t. map_item hashed len ≡ head_of t)
+  pub hashed_head : (to len : ℕ) → IsTagged bytes pos 7 table_shape knows_pairs to → ((b : Buckets) → IsTableAt bytes pair_shape to b → len ≡ length (full_places b)) → OfDocument bytes pos (λ t. map_item hashed len ≡ head_of t)
   hashed_head to len tagged says = map_head to len tagged (omega arith) (λ v h.
-      let m = table_is_read pair_shape knows_table bytes to v h in
+      let m = table_is_read pair_shape knows_pairs bytes to v h in
       let ps = item_positions pair_shape m.buckets in
       says m.buckets m.table
       ∙ (sym (length-map (full_places m.buckets) (item_position pair_shape m.buckets.target))
       ∙ (sym (length-map ps (pair_entry bytes)) ∙ entries_counted bytes (map (pair_entry bytes) ps) (members v) (entries_of_pairs bytes ps (members v) m.items))))
+
+  -- as the index map has entries
+  pub kept_head : (to len : ℕ) → IsTagged bytes pos 8 index_shape knows_pairs to → OfKept bytes to (λ m. len ≡ count_of m) → OfDocument bytes pos (λ t. map_item kept len ≡ head_of t)
+  kept_head to len tagged says = map_head to len tagged (omega arith) (λ v h.
+      let r = map_of_value bytes to v h in
+      let ps = entry_positions text node_shape r.map in
+      says r.map r.stands
+      ∙ (sym (positions_counted bytes r.map)
+      ∙ (sym (length-map ps (pair_entry bytes)) ∙ entries_counted bytes (map (pair_entry bytes) ps) (members v) (entries_of bytes to v h))))

@@ -106,6 +106,7 @@ container_refuses bytes pos (kind.Maybe r) new is no_truth no_number no_text = p
 container_refuses bytes pos (kind.List r) new is no_truth no_number no_text = put_refused bytes.now pos new 5 is.2 (λ e. let low = low_tag new in omega (arith, e, low))
 container_refuses bytes pos (kind.Ordered r) new is no_truth no_number no_text = put_refused bytes.now pos new 6 is.2 (λ e. let low = low_tag new in omega (arith, e, low))
 container_refuses bytes pos (kind.Hashed r) new is no_truth no_number no_text = put_refused bytes.now pos new 7 is.2 (λ e. let low = low_tag new in omega (arith, e, low))
+container_refuses bytes pos (kind.Kept r) new is no_truth no_number no_text = put_refused bytes.now pos new 8 is.2 (λ e. let low = low_tag new in omega (arith, e, low))
 
 -- ---- the same bytes at the same place
 

@@ -12,10 +12,8 @@ use Rattle.archive_shape.specs.ShapeLayout.Holds.{root_position}
 use Rattle.archive_core_validation.proofs.Rooted.{root_held}
 use Rattle.cabinet_archived.specs.Documents.Node.{node_shape, node_names, KnowsNode}
 use Rattle.cabinet_archived.specs.Documents.Image.{Image}
-use Rattle.cabinet_archived.specs.Documents.HasLayout.{HasLayout}
 use Rattle.cabinet_archived.specs.Documents.Spelling.{node_value}
 use Rattle.cabinet_archived.specs.Documents.SpellingLaws.{archive_of, ArchiveFits, ArchiveRefused}
-use Rattle.cabinet_archived.proofs.Documents.Layouts.{fitting_has_layout_law}
 use Rattle.cabinet_archived.proofs.Documents.Imaged.{written_is_image_law, one_image_law}
 use Rattle.cabinet_archived.proofs.Documents.SpellingDenoted.{value_denotes_law}
 use Rattle.cabinet_archived.proofs.Documents.StoredNodes.{refused_is_past_law}
@@ -24,7 +22,7 @@ use Rattle.cabinet_text_nodes.specs.View.{node_tree}
 use Rattle.cabinet_text_nodes.specs.declared.node.Node.{Node}
 use Rattle.cabinet_archives.specs.declared.saving.saving.SaveRefusal.{SaveRefusal}
 use Rattle.cabinet_archives.specs.declared.saving.saving.SaveRefusal.TheVariants as refusal
-use Rattle.cabinet_archives.specs.Saving.{IsPast, IsUnmadeFor, HasNoImageFor, LosesImage, IsUnsavedFor}
+use Rattle.cabinet_archives.specs.Saving.{IsPast, HasNoImageFor, LosesImage, IsUnsavedFor}
 
 module _ {S : Type 0} (m : WriterMembers S) (n : Node) (old new : S) (at : IsAt m.pos m.known old initial) where
   -- what was written where nothing was before is the archive
@@ -52,22 +50,18 @@ module _ {S : Type 0} (m : WriterMembers S) (n : Node) (old new : S) (at : IsAt 
 
 -- ---- a document
 
-written_image : (s t : Tree) (bytes : List ℕ) → s ≡ t → IsDocument t → ArchiveFits s → bytes ≡ archive_of s → Image t bytes
-written_image s t bytes same document fits is =
-    subst (λ u. Image u bytes) same (written_is_image_law s bytes (subst IsDocument (sym same) document) fits is)
-
 -- what was cut from an image was cut from each
-pub cut_of : (t : Tree) (old new bytes image : List ℕ) → HasLayout t → Image t bytes → Cut old new bytes → Image t image → Cut old new image
-cut_of t old new bytes image layout made cut is_image = subst (Cut old new) (one_image_law t bytes image layout made is_image) cut
+pub cut_of : (t : Tree) (old new bytes image : List ℕ) → Image t bytes → Cut old new bytes → Image t image → Cut old new image
+cut_of t old new bytes image made cut is_image = subst (Cut old new) (one_image_law t bytes image made is_image) cut
 
 -- nothing was written
 pub nothing_cut : (old image : List ℕ) → Cut old old image
 nothing_cut old image = record { written = []; lost = image; new_is = sym (append-nil old); piece_is = refl }
 
 -- what was lost of an image was lost of each
-pub short_of : (t : Tree) (old new bytes image : List ℕ) → HasLayout t → Image t bytes → length new < length old + length bytes → Image t image → length new < length old + length image
-short_of t old new bytes image layout made short is_image =
-    subst (λ l. length new < length old + length l) (one_image_law t bytes image layout made is_image) short
+pub short_of : (t : Tree) (old new bytes image : List ℕ) → Image t bytes → length new < length old + length bytes → Image t image → length new < length old + length image
+short_of t old new bytes image made short is_image =
+    subst (λ l. length new < length old + length l) (one_image_law t bytes image made is_image) short
 
 -- an image has a node, so all of it is lost where nothing was written
 nothing_saved : {W : Type 0} (m : WriterMembers W) (t : Tree) (old : W) → LosesImage m t old old
@@ -79,23 +73,17 @@ nothing_saved m t old image is_image tells =
 
 -- why there is no image in memory is why the document was not saved
 pub unsaved : {W : Type 0} (m : WriterMembers W) (t : Tree) (old : W) (r : SaveRefusal) → HasNoImageFor t r → IsUnsavedFor m t old old r
-unsaved m t old refusal.Kind h = (h, refl)
-unsaved m t old (refusal.Limit e) h = (h.0, h.1, refl)
+unsaved m t old (refusal.Limit e) h = (h, refl)
 unsaved m t old (refusal.Writer e) h = absurd h
-unsaved m t old refusal.OutOfMemory h = (h, inl refl, refl, nothing_saved m t old)
+unsaved m t old refusal.OutOfMemory h = (inl refl, refl, nothing_saved m t old)
 
-refused_past : (t : Tree) (e : Error) → HasLayout t → IsDocument t → ArchiveRefused t e → IsPast t e
-refused_past t e layout document h =
-    let of_value = value_denotes_law t layout document in
-    (node_value t, of_value.0, of_value.1, (refused_is_past_law t (node_value t) e layout document of_value.0 of_value.1).0 h)
+-- why nothing was made of a document is why it has no image
+pub past_of : (s t : Tree) (e : Error) → s ≡ t → IsDocument t → ArchiveRefused s e → IsPast t e
+past_of s t e same document h =
+    let whole = subst IsDocument (sym same) document in
+    let of_value = value_denotes_law s whole in
+    subst (λ u. IsPast u e) same (node_value s, of_value.0, of_value.1, (refused_is_past_law s (node_value s) e whole of_value.0 of_value.1).0 h)
 
--- why nothing is made of a document that has a layout is why it has no image
-pub unmade : (s t : Tree) (r : SaveRefusal) → s ≡ t → IsDocument t → HasLayout s → IsUnmadeFor s r → HasNoImageFor t r
-unmade s t refusal.Kind same document layout h = absurd h
-unmade s t (refusal.Limit e) same document layout h = (subst HasLayout same layout, subst (λ u. IsPast u e) same (refused_past s e layout (subst IsDocument (sym same) document) h))
-unmade s t (refusal.Writer e) same document layout h = absurd h
-unmade s t refusal.OutOfMemory same document layout h = subst HasLayout same layout
-
--- what was made of a document is its image, and it has a layout
-pub image_made : (s t : Tree) (bytes : List ℕ) → s ≡ t → IsDocument t → ArchiveFits s → bytes ≡ archive_of s → Image t bytes × HasLayout t
-image_made s t bytes same document fits is = (written_image s t bytes same document fits is, subst HasLayout same (fitting_has_layout_law s _ fits.0.0))
+-- what was made of a document is its image
+pub image_made : (s t : Tree) (bytes : List ℕ) → s ≡ t → IsDocument t → ArchiveFits s → bytes ≡ archive_of s → Image t bytes
+image_made s t bytes same document fits is = subst (λ u. Image u bytes) same (written_is_image_law s bytes (subst IsDocument (sym same) document) fits is)

@@ -1,18 +1,17 @@
 -- The faults of a hashed map's table that are left, place by place.
-use Rattle.std.proofs.Common.{◌≡◌, ℕ, suc, ◌+◌, ◌*◌, ◌^◌, ◌<◌, ◌≤◌, ◌==◌, Bool, Bor, true, false, List, [], ◌∷◌, ◌++◌, map, slice_index, Option, Some, MatchOption, Result, Ok, Err, refl, sym, ap, subst, ◌∙◌, arith, eq-eqb, zero-mul}
+use Rattle.std.proofs.Common.{[], ◌≡◌, ℕ, ◌*◌, ◌^◌, ◌<◌, ◌≤◌, ◌==◌, Bool, Bor, false, true, List, ◌∷◌, ◌++◌, map, slice_index, Option, MatchOption, Result, Ok, Err, sym, ap, subst, ◌∙◌, arith, zero-mul, suc, Some, refl, eq-eqb}
 use Rattle.std.specs.List.{flat_map, slice_get}
 use Rattle.std.proofs.lemmas.Bool.{ne_eqb}
 use Rattle.archive_shape.specs.ShapeLayout.Shape.{Shape, size_of}
 use Rattle.archive_shape.specs.ShapeLayout.Content.Part.{at}
 use Rattle.archive_shape.specs.ShapeLayout.Value.{Value}
-use Rattle.archive_shape.specs.declared.references.refs.Ref.{Ref}
 use Rattle.archive_forms_values.specs.FormsLaws.Text.{IsText}
 use Rattle.archive_forms_values.specs.Parts.{HasValue}
 use Rattle.archive_hash_probing.specs.ShapeCanonical.FirstFit.{hash_tag}
 use Rattle.archive_hash_probing.specs.ShapeCanonical.Hash.{text_hash}
 use Rattle.archive_hash_walking.specs.Tables.{Buckets, full_places, IsTableAt}
 use Rattle.archive_hash_walking.specs.Tables.IsTableAt.{has_none, has_buckets}
-use Rattle.archive_hash_walking.specs.Places.{LooksUp, full_place}
+use Rattle.archive_hash_walking.specs.Places.{LooksUp}
 use Rattle.archive_hash_walking.proofs.Roots.{places_of_value}
 use Rattle.cabinet_archived.specs.Documents.Node.{node_names, pair_shape}
 use Rattle.cabinet_archived.specs.Documents.Audit as audit
@@ -20,34 +19,23 @@ use Rattle.cabinet_archived.specs.Documents.Audit.{unless, tag_faults, search_fa
 use Rattle.cabinet_archived.specs.Documents.Table.{entry_of, found, gives, hashed_at, table_of}
 use Rattle.cabinet_archived.specs.Documents.Walk.{Stop, Walks}
 use Rattle.cabinet_archives.specs.declared.opening.refusal.OpenRefusal.{OpenRefusal}
-use Rattle.cabinet_archives.specs.Hashed.{table_shape, knows_table, SaysKey}
+use Rattle.cabinet_archives.specs.Hashed.{table_shape}
+use Rattle.cabinet_archives.specs.Keyed.{SaysKey, knows_pairs}
 use Rattle.cabinet_archives.specs.Refused.{refusal_of}
 use Rattle.cabinet_archives.specs.Sound.{Reports}
 use Rattle.cabinet_archives.proofs.HashedLeading.{found_is}
-use Rattle.cabinet_archives.proofs.Pairs.{table_faults}
-use Rattle.cabinet_archives.proofs.TableLookups.{pair_at, text_of, text_slot, text_table, full_low, gives_is}
+use Rattle.cabinet_archives.proofs.PlacesLeft as places
+use Rattle.cabinet_archives.proofs.PlacesLeft.{Full, flat_read, tag_is, tag_is_wrong}
+use Rattle.cabinet_archives.proofs.TableLookups.{pair_at, text_of, text_slot, text_table, gives_is}
+use Rattle.cabinet_archives.proofs.TablePairs.{table_faults}
 use Rattle.cabinet_archives.proofs.Texts.{text_is}
-
-flat_read : {A B C : Type 0} (f : B → List C) (g : A → B) (xs : List A) → flat_map f (map g xs) ≡ flat_map (λ x. f (g x)) xs
-flat_read f g [] = refl
-flat_read f g (x ∷ xs) = ap (λ r. f (g x) ++ r) (flat_read f g xs)
-
-no_fault_if : (b : Bool) (u : audit.Unsound) → b ≡ true → unless b u ≡ []
-no_fault_if b u e = ap (λ x. unless x u) e
-
-fault_if : (b : Bool) (u : audit.Unsound) → b ≡ false → unless b u ≡ u ∷ []
-fault_if b u e = ap (λ x. unless x u) e
 
 pub room_of : (bytes : List ℕ) (s : Shape) (pos : ℕ) (b : Buckets) → IsTableAt bytes s pos b → b.cap * size_of s ≤ b.target
 room_of bytes s pos b (has_none none is) = subst (λ (x : Buckets). x.cap * size_of s ≤ x.target) (sym is) (let z = zero-mul (size_of s) in omega (arith, z))
 room_of bytes s pos b (has_buckets some leads places fewer controls within room are count) = room
 
--- what the iterator over full places gives
-abbrev pub Full : Type 0 → Type 0
-Full P = ℕ × ℕ × Ref P
-
 abbrev pub HasPair : {P : Type 0} → Full P → Type 0
-HasPair e = HasValue pair_shape knows_table e.2.bytes.now e.2.pos
+HasPair e = HasValue pair_shape knows_pairs e.2.bytes.now e.2.pos
 
 module _ (bytes : List ℕ) (b : Buckets) where
   abbrev pub place_faults : ℕ → List audit.Unsound
@@ -56,72 +44,22 @@ module _ (bytes : List ℕ) (b : Buckets) where
   all_faults : hashed_faults (text_table bytes b) ≡ flat_map place_faults (full_places b)
   all_faults = flat_read (λ s. tag_faults (text_table bytes b) s ++ search_faults (text_table bytes b) (entry_of s)) (text_slot bytes b) (full_places b)
 
-  -- ---- the faults of a place
-
-  module _ (p : ℕ) (key : List ℕ) (is_key : key ≡ text_of bytes b p) where
-    tag_is : (tag control : ℕ) → tag ≡ hash_tag (text_hash key) → control ≡ slice_index b.controls p → tag ≡ control → tag_faults (text_table bytes b) (text_slot bytes b p) ≡ []
-    tag_is tag control t c e =
-        no_fault_if (slice_index b.controls p == hash_tag (text_hash (text_of bytes b p))) audit.wrong_tag
-        (eq-eqb (slice_index b.controls p) (hash_tag (text_hash (text_of bytes b p))) (sym c ∙ (sym e ∙ (t ∙ ap (λ k. hash_tag (text_hash k)) is_key))))
-
-    tag_is_wrong : (tag control : ℕ) → tag ≡ hash_tag (text_hash key) → control ≡ slice_index b.controls p → (tag ≡ control → ⊥) → tag_faults (text_table bytes b) (text_slot bytes b p) ≡ audit.wrong_tag ∷ []
-    tag_is_wrong tag control t c not =
-        fault_if (slice_index b.controls p == hash_tag (text_hash (text_of bytes b p))) audit.wrong_tag
-        (ne_eqb (slice_index b.controls p) (hash_tag (text_hash (text_of bytes b p))) (λ e. not (t ∙ (ap (λ k. hash_tag (text_hash k)) is_key ∙ (sym e ∙ sym c)))))
-
-    -- whether the pair that is found is the place's
-    search_gives : (x : Bool) → gives (text_table bytes b) (found (text_table bytes b) key) p ≡ x → search_faults (text_table bytes b) (entry_of (text_slot bytes b p)) ≡ unless x audit.not_found
-    search_gives x e = ap (λ y. unless y audit.not_found) (ap (λ k. gives (text_table bytes b) (found (text_table bytes b) k) p) (sym is_key) ∙ e)
+  -- whether the pair that is found is the place's
+  search_gives : (p : ℕ) (key : List ℕ) → key ≡ text_of bytes b p → (x : Bool) → gives (text_table bytes b) (found (text_table bytes b) key) p ≡ x → search_faults (text_table bytes b) (entry_of (text_slot bytes b p)) ≡ unless x audit.not_found
+  search_gives p key is_key x e = ap (λ y. unless y audit.not_found) (ap (λ k. gives (text_table bytes b) (found (text_table bytes b) k) p) (sym is_key) ∙ e)
 
 -- ---- the places that are left
 
 module _ {P : Type 0} (bytes : Bor (List ℕ)) (b : Buckets) where
-  abbrev full : ℕ → Full P
-  full p = full_place bytes b.controls b.target (size_of pair_shape) p
+  -- pairs at places of the table are left, whose faults are all of its
+  abbrev pub ArePlacesLeft : List (Full P) → Type 0
+  ArePlacesLeft left = places.ArePlacesLeft bytes b (size_of pair_shape) (hashed_faults (text_table bytes.now b)) (place_faults bytes.now b) left
 
-  -- places of the table are left, whose faults are all of its
-  pub record ArePlacesLeft (left : List (Full P)) : Type 0 where
-    pub places : List ℕ
-    pub left_are : left ≡ map full places
-    pub low : (i p : ℕ) → slice_get places i ≡ Some p → p < b.cap
-    pub faults_are : hashed_faults (text_table bytes.now b) ≡ flat_map (place_faults bytes.now b) places
+  abbrev pub FirstPlaceLeft : Full P → List (Full P) → Type 0
+  FirstPlaceLeft e rest = places.FirstPlaceLeft bytes b (size_of pair_shape) (hashed_faults (text_table bytes.now b)) (place_faults bytes.now b) e rest
 
-  pub record FirstPlaceLeft (e : Full P) (rest : List (Full P)) : Type 0 where
-    pub place : ℕ
-    pub is : e ≡ full place
-    pub low : place < b.cap
-    pub others : List audit.Unsound
-    pub faults_are : hashed_faults (text_table bytes.now b) ≡ place_faults bytes.now b place ++ others
-    pub left : place_faults bytes.now b place ≡ [] → ArePlacesLeft rest
-
-  pub all_places : (left : List (Full P)) → left ≡ map full (full_places b) → ArePlacesLeft left
-  all_places left e = record {
-    places = full_places b;
-    left_are = e;
-    low = λ i p f. (full_low bytes.now b [] i p f).0;
-    faults_are = all_faults bytes.now b;
-  }
-
-  first_place : (e : Full P) (rest : List (Full P)) → ArePlacesLeft (e ∷ rest) → FirstPlaceLeft e rest
-  first_place e rest a = by a.places a.left_are a.low a.faults_are
-    where
-      by : (places : List ℕ) → e ∷ rest ≡ map full places → ((i p : ℕ) → slice_get places i ≡ Some p → p < b.cap) → hashed_faults (text_table bytes.now b) ≡ flat_map (place_faults bytes.now b) places → FirstPlaceLeft e rest
-      by [] are low faults = absurd (cc)
-      by (p ∷ ps) are low faults = record {
-        place = p;
-        is = cc;
-        low = low 0 p refl;
-        others = flat_map (place_faults bytes.now b) ps;
-        faults_are = faults;
-        left = λ none. record { places = ps; left_are = cc; low = λ i q f. low (suc i) q f; faults_are = faults ∙ ap (λ x. x ++ flat_map (place_faults bytes.now b) ps) none };
-      }
-
-  no_places_left : ArePlacesLeft [] → hashed_faults (text_table bytes.now b) ≡ []
-  no_places_left a = by a.places a.left_are a.faults_are
-    where
-      by : (places : List ℕ) → [] ≡ map full places → hashed_faults (text_table bytes.now b) ≡ flat_map (place_faults bytes.now b) places → hashed_faults (text_table bytes.now b) ≡ []
-      by [] are faults = faults
-      by (p ∷ ps) are faults = absurd (cc)
+  pub all_places : (left : List (Full P)) → left ≡ map (places.full bytes b (size_of pair_shape) (hashed_faults (text_table bytes.now b)) (place_faults bytes.now b)) (full_places b) → ArePlacesLeft left
+  all_places left e = places.all_places bytes b (size_of pair_shape) (hashed_faults (text_table bytes.now b)) (place_faults bytes.now b) left e (all_faults bytes.now b)
 
 -- ---- the loop over all places
 
@@ -133,22 +71,23 @@ module _ (bytes : Bor (List ℕ)) (pos : ℕ) where
   Told r = (depth : ℕ) (v : Value) (walk : List Stop) → Walks node_names bytes.now depth (at pos table_shape) v walk → Reports r (hashed_faults (table_of hashed_at bytes.now pos v))
 
   -- what is told of the table of the places is told of that of a walk
-  told : (r : Result (Unit {0}) OpenRefusal) → HasValue table_shape knows_table bytes.now pos → ((b : Buckets) → IsTableAt bytes.now pair_shape pos b → Reports r (hashed_faults (text_table bytes.now b))) → Told r
+  told : (r : Result (Unit {0}) OpenRefusal) → HasValue table_shape knows_pairs bytes.now pos → ((b : Buckets) → IsTableAt bytes.now pair_shape pos b → Reports r (hashed_faults (text_table bytes.now b))) → Told r
   told r has each = λ depth v walk h.
       let m = places_of_value has in
       subst (Reports r) (sym (table_faults bytes.now m.table h)) (each m.buckets m.table)
 
-  pub told_none : {P : Type 0} (left : List (Full P)) → left ≡ [] → HasValue table_shape knows_table bytes.now pos → PlacesLeft left → Told (Ok tt)
-  told_none {P = P} left none has all = told (Ok tt) has (λ b table. no_places_left {P = P} bytes b (subst (ArePlacesLeft bytes b) none (all b table)))
+  pub told_none : {P : Type 0} (left : List (Full P)) → left ≡ [] → HasValue table_shape knows_pairs bytes.now pos → PlacesLeft left → Told (Ok tt)
+  told_none {P = P} left none has all = told (Ok tt) has (λ b table.
+      places.no_places_left {P = P} bytes b (size_of pair_shape) (hashed_faults (text_table bytes.now b)) (place_faults bytes.now b) (subst (ArePlacesLeft bytes b) none (all b table)))
 
   -- ---- one place
 
-  module _ {P : Type 0} (has : HasValue table_shape knows_table bytes.now pos) (e : Full P) (all rest : List (Full P)) (all_are : all ≡ e ∷ rest) (left : PlacesLeft all) (key : List ℕ) (is_key : IsText e.2.bytes.now e.2.pos key) where
+  module _ {P : Type 0} (has : HasValue table_shape knows_pairs bytes.now pos) (e : Full P) (all rest : List (Full P)) (all_are : all ≡ e ∷ rest) (left : PlacesLeft all) (key : List ℕ) (is_key : IsText e.2.bytes.now e.2.pos key) where
     abbrev First : Buckets → Type 0
     First b = FirstPlaceLeft bytes b e rest
 
     first_of : (b : Buckets) → IsTableAt bytes.now pair_shape pos b → First b
-    first_of b table = first_place bytes b e rest (subst (ArePlacesLeft bytes b) all_are (left b table))
+    first_of b table = places.first_place bytes b (size_of pair_shape) (hashed_faults (text_table bytes.now b)) (place_faults bytes.now b) e rest (subst (ArePlacesLeft bytes b) all_are (left b table))
 
     key_of : (b : Buckets) (f : First b) → key ≡ text_of bytes.now b f.place
     key_of b f =
@@ -168,7 +107,7 @@ module _ (bytes : Bor (List ℕ)) (pos : ℕ) where
           one : (b : Buckets) → IsTableAt bytes.now pair_shape pos b → Reports (Err r) (hashed_faults (text_table bytes.now b))
           one b table =
               let f = first_of b table in
-              let wrong = tag_is_wrong bytes.now b f.place key (key_of b f) tag e.1 key_tag (control_of b f) not in
+              let wrong = tag_is_wrong (text_table bytes.now b) (text_slot bytes.now b f.place) key (key_of b f) tag e.1 key_tag (control_of b f) not in
               (audit.wrong_tag, is, ap audit.first_of f.faults_are ∙ ap (λ x. audit.first_of ((x ++ search_faults (text_table bytes.now b) (entry_of (text_slot bytes.now b f.place))) ++ f.others)) wrong)
 
       module _ (right : tag ≡ e.1) (x : Bool) (result : Option ℕ) (low : hash < 2 ^ 64)
@@ -179,8 +118,8 @@ module _ (bytes : Bor (List ℕ)) (pos : ℕ) where
           faults_here b table f =
               let is = found_is bytes.now pos key hash result is_hash low answers b table in
               let at_place = subst (λ n. MatchOption result (x ≡ false) (λ at. x ≡ (at == n))) (ap (λ (y : Full P). y.2.pos) f.is) says in
-              let g = gives_is bytes.now b key (room_of bytes.now pair_shape pos b table) f.place f.low x result is at_place in
-              ap (λ us. us ++ search_faults (text_table bytes.now b) (entry_of (text_slot bytes.now b f.place))) (tag_is bytes.now b f.place key (key_of b f) tag e.1 key_tag (control_of b f) right)
+              let g = gives_is bytes.now b key (room_of bytes.now pair_shape pos b table) f.place f.low.0 x result is at_place in
+              ap (λ us. us ++ search_faults (text_table bytes.now b) (entry_of (text_slot bytes.now b f.place))) (tag_is (text_table bytes.now b) (text_slot bytes.now b f.place) key (key_of b f) tag e.1 key_tag (control_of b f) right)
               ∙ search_gives bytes.now b f.place key (key_of b f) x g
 
           pub told_lost : x ≡ false → (r : OpenRefusal) → refusal_of r ≡ audit.unsound audit.not_found → Told (Err r)

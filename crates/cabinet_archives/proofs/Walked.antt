@@ -21,8 +21,8 @@ use Rattle.cabinet_archived.specs.Documents.Order.{ascend}
 use Rattle.cabinet_archived.specs.Documents.Table.{item_keys}
 use Rattle.cabinet_archived.specs.Documents.Walk.{Stop, Walks, WalkAll}
 use Rattle.cabinet_archived.specs.Documents.Audit.{too_deep, keys_not_ascending, unless, faults}
-use Rattle.cabinet_archived.proofs.Documents.Places.{Place, node_here, option_here, list_here, ordered_here, table_here, part_of}
-use Rattle.cabinet_archived.proofs.Documents.NodeWalks.{OptionWalk, walks_none, walks_some, NodeWalk, leaf_walks, option_walks, list_walks, ordered_walks, hashed_walks, option_walk, list_walk, node_walk}
+use Rattle.cabinet_archived.proofs.Documents.Places.{Place, node_here, option_here, list_here, ordered_here, table_here, index_here, part_of}
+use Rattle.cabinet_archived.proofs.Documents.NodeWalks.{OptionWalk, walks_none, walks_some, NodeWalk, leaf_walks, option_walks, list_walks, ordered_walks, hashed_walks, kept_walks, option_walk, list_walk, node_walk}
 use Rattle.cabinet_archived.proofs.Documents.TreeWalks.{no_items, MapWalked, map_walked, empty_map_walked, text_quiet}
 
 abbrev pub Boxed : Shape
@@ -33,7 +33,8 @@ abbrev pub payload_place : ℕ → Place
 payload_place (suc (suc (suc (suc zero)))) = option_here
 payload_place (suc (suc (suc (suc (suc zero))))) = list_here
 payload_place (suc (suc (suc (suc (suc (suc zero)))))) = ordered_here
-payload_place tag = table_here
+payload_place (suc (suc (suc (suc (suc (suc (suc zero))))))) = table_here
+payload_place tag = index_here
 
 module _ (bytes : List ℕ) where
   -- ---- nodes
@@ -55,6 +56,7 @@ module _ (bytes : List ℕ) where
         by (list_walks e is run f) = absurd (omega (arith, low, e))
         by (ordered_walks e is run f) = absurd (omega (arith, low, e))
         by (hashed_walks e is run f) = absurd (omega (arith, low, e))
+        by (kept_walks e is run f) = absurd (omega (arith, low, e))
 
     -- the walk of a container's node has the faults of its payload's
     pub payload_in : (tag : ℕ) → slice_index bytes pos ≡ tag → 3 < tag → Inner depth (part_of (payload_place tag) (pos + 4)) walk
@@ -69,6 +71,7 @@ module _ (bytes : List ℕ) where
         by (list_walks {w = w} {run = run} e is walked f) = of 5 e (record { value = w; run = run; walked = walked; faults_are = f })
         by (ordered_walks {w = w} {run = run} e is walked f) = of 6 e (record { value = w; run = run; walked = walked; faults_are = f })
         by (hashed_walks {w = w} {run = run} e is walked f) = of 7 e (record { value = w; run = run; walked = walked; faults_are = f })
+        by (kept_walks {w = w} {run = run} e is walked f) = of 8 e (record { value = w; run = run; walked = walked; faults_are = f })
 
   -- ---- options
 

@@ -30,7 +30,8 @@ use Rattle.cabinet_archived.specs.declared.node.ArchivedNode.{ArchivedNode}
 use Rattle.cabinet_text_nodes.specs.TextGrammar.Item.{key_item}
 use Rattle.cabinet_text_nodes.specs.TextGrammar.Spelling.{spelled}
 use Rattle.cabinet_text_nodes.specs.TextGrammar.Answering.{lies_within, spelled_keys}
-use Rattle.cabinet_archives.specs.Ordered.{map_shape, knows_map}
+use Rattle.cabinet_archives.specs.Keyed.{knows_pairs}
+use Rattle.cabinet_archives.specs.Ordered.{map_shape}
 use Rattle.cabinet_archives.specs.Sound.{IsSoundPart}
 use Rattle.cabinet_archives.proofs.Ascending.{text_of}
 use Rattle.cabinet_archives.proofs.Leading.{order_at, keys_rise, orders}
@@ -83,19 +84,19 @@ module _ (bytes : Bor (List ℕ)) (low high : Bor (List ℕ)) where
 module _ (bytes : Bor (List ℕ)) (pos : ℕ) where
   module _ (left : List (Ref ArchivedString)) (are : (t : Tree Place) → IsMapAt bytes.now 5 text node_shape pos t → left ≡ map (key_at bytes) (items t)) where
     -- the keys of a map, one after the other
-    pub all_pieces : (v : Value) → HeldAt map_shape knows_map bytes.now pos v → flat_map key_piece left ≡ spelled_keys (item_keys (members v))
+    pub all_pieces : (v : Value) → HeldAt map_shape knows_pairs bytes.now pos v → flat_map key_piece left ≡ spelled_keys (item_keys (members v))
     all_pieces v h =
         let m : IsMapOf text node_shape (λ _. ⊤) KnowsNode bytes.now 5 pos v = tree_of_value (record { value = v; held = h }) in
         ap (flat_map key_piece) (are m.search_tree m.map) ∙ keys_pieces bytes (items m.search_tree) ∙ sym (ap spelled_keys (held_keys node_shape bytes.now KnowsNode (items m.search_tree) (members v) m.entries))
 
   -- there are as many of them as the tree has items
-  pub keys_counted : (n : ℕ) → ((t : Tree Place) → IsMapAt bytes.now 5 text node_shape pos t → n ≡ length (items t)) → (v : Value) → HeldAt map_shape knows_map bytes.now pos v → length (item_keys (members v)) ≡ n
+  pub keys_counted : (n : ℕ) → ((t : Tree Place) → IsMapAt bytes.now 5 text node_shape pos t → n ≡ length (items t)) → (v : Value) → HeldAt map_shape knows_pairs bytes.now pos v → length (item_keys (members v)) ≡ n
   keys_counted n says v h =
       let m : IsMapOf text node_shape (λ _. ⊤) KnowsNode bytes.now 5 pos v = tree_of_value (record { value = v; held = h }) in
       ap length (held_keys node_shape bytes.now KnowsNode (items m.search_tree) (members v) m.entries) ∙ length-map (items m.search_tree) (λ (p : Place). text_at bytes.now p.key) ∙ sym (says m.search_tree m.map)
 
   -- no more of its entries lie side by side
-  pub run_counted : (n : ℕ) → ((t : Tree Place) → IsMapAt bytes.now 5 text node_shape pos t → n ≡ length (items t)) → HasValue map_shape knows_map bytes.now pos → (left : List (Ref ArchivedString × Ref ArchivedNode))
+  pub run_counted : (n : ℕ) → ((t : Tree Place) → IsMapAt bytes.now 5 text node_shape pos t → n ≡ length (items t)) → HasValue map_shape knows_pairs bytes.now pos → (left : List (Ref ArchivedString × Ref ArchivedNode))
       → ((t : Tree Place) → IsMapAt bytes.now 5 text node_shape pos t → (before : List (Ref ArchivedString × Ref ArchivedNode)) × (after : List (Ref ArchivedString × Ref ArchivedNode)) × (map (entry_at bytes) (items t) ≡ before ++ (left ++ after)))
       → length left ≤ n
   run_counted n says has left within =
@@ -108,7 +109,7 @@ module _ (bytes : Bor (List ℕ)) (pos : ℕ) where
       → OfQueries (λ query. QueryOrders (λ b at (key : Bor (List ℕ)). IsText b at key.now) (λ key q. slice_cmp nat_cmp key.now q.now) bytes.now query (order query) (items t) × Ascends (order query) (items t)) (Included low) (Excluded high)
       → left ≡ map (entry_at bytes) (items_between order (Included low) (Excluded high) (items t)))
     where
-      module _ (v : Value) (h : HeldAt map_shape knows_map bytes.now pos v) where
+      module _ (v : Value) (h : HeldAt map_shape knows_pairs bytes.now pos v) where
         m : IsMapOf text node_shape (λ _. ⊤) KnowsNode bytes.now 5 pos v
         m = tree_of_value (record { value = v; held = h })
 

@@ -1,7 +1,10 @@
 pub mod Failing
 pub mod Found
 pub mod Hashed
+pub mod Kept
 pub mod Keyed
+pub mod Keys
+pub mod Loading
 pub mod Ordered
 pub mod Putting
 pub mod Refused

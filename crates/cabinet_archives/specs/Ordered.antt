@@ -1,27 +1,16 @@
 -- The ordered map of nodes, and the entry of a key in it.
-use Rattle.std.specs.Prelude.{◌≡◌, ℕ, ◌<◌, List, Some, ⊤}
+use Rattle.std.specs.Prelude.{◌≡◌, ℕ, ◌<◌, List, Some}
 use Rattle.std.specs.List.{slice_get}
 use Rattle.archive_shape.specs.ShapeLayout.Shape.{Shape}
 use Rattle.archive_shape.specs.ShapeLayout.Shape.Shape.{text, tree}
-use Rattle.archive_shape.specs.ShapeLayout.Value.{Value}
-use Rattle.archive_shape.specs.ShapeLayout.Content.{Names}
-use Rattle.archive_shape.specs.Key.{HeldAt}
 use Rattle.archive_forms_values.specs.FormsLaws.Text.{IsText}
-use Rattle.archive_forms_values.specs.Parts.{both}
 use Rattle.archive_btree_walking.specs.BtreeLayout.Reading.{Place}
 use Rattle.archive_btree_walking.specs.BtreeLayout.Tree.{Tree, items}
 use Rattle.archive_btree_walking.specs.Maps.{IsMapAt}
-use Rattle.cabinet_archived.specs.Documents.Node.{node_shape, KnowsNode}
+use Rattle.cabinet_archived.specs.Documents.Node.{node_shape}
 
 abbrev pub map_shape : Shape
 map_shape = tree 5 text node_shape
-
-abbrev pub knows_map : Names → Type 0
-knows_map = both (λ _. ⊤) KnowsNode
-
--- `is` is true of every value of the map at `pos`
-abbrev pub OfMap : List ℕ → ℕ → (Value → Type 0) → Type 0
-OfMap bytes pos is = (v : Value) → HeldAt map_shape knows_map bytes pos v → is v
 
 -- the node of the first entry with this key in the search tree of the map at `pos` is at `to`
 pub record HasEntry (bytes : List ℕ) (pos : ℕ) (key : List ℕ) (to : ℕ) : Type 0 where

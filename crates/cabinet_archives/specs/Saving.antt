@@ -11,30 +11,19 @@ use Rattle.cabinet_archived.specs.Documents.Node.{node_shape, node_names}
 use Rattle.cabinet_archived.specs.Documents.Denotes.{Denotes}
 use Rattle.cabinet_archived.specs.Documents.Fitted.{IsFitted}
 use Rattle.cabinet_archived.specs.Documents.Image.{Image}
-use Rattle.cabinet_archived.specs.Documents.HasLayout.{HasLayout}
-use Rattle.cabinet_archived.specs.Documents.SpellingLaws.{ArchiveRefused}
 use Rattle.cabinet_archives.specs.declared.saving.saving.SaveRefusal.{SaveRefusal}
-use Rattle.cabinet_archives.specs.declared.saving.saving.SaveRefusal.TheVariants.{Kind, Limit, Writer, OutOfMemory}
+use Rattle.cabinet_archives.specs.declared.saving.saving.SaveRefusal.TheVariants.{Limit, Writer, OutOfMemory}
 
 -- what a document's value stores exceeds a limit, which the error `e` reports, where the pairs of each hashed map are in
 -- the order that first fit gives them
 abbrev pub IsPast : Tree → Error → Type 0
 IsPast t e = (v : Value) × Denotes v t × IsFitted v × PastLimits (first_fit text_hash) node_names node_shape v e
 
--- why no archive is made of a document that has a layout
-abbrev pub IsUnmadeFor : Tree → SaveRefusal → Type 0
-IsUnmadeFor t Kind = ⊥
-IsUnmadeFor t (Limit e) = ArchiveRefused t e
-IsUnmadeFor t (Writer e) = ⊥
-IsUnmadeFor t OutOfMemory = Unit {0}
-
--- why a document has no image in memory: it has a kind without a layout, something in it exceeds what archives can
--- hold, or an allocation failed
+-- why a document has no image in memory: something in it exceeds what archives can hold, or an allocation failed
 abbrev pub HasNoImageFor : Tree → SaveRefusal → Type 0
-HasNoImageFor t Kind = HasLayout t → ⊥
-HasNoImageFor t (Limit e) = HasLayout t × IsPast t e
+HasNoImageFor t (Limit e) = IsPast t e
 HasNoImageFor t (Writer e) = ⊥
-HasNoImageFor t OutOfMemory = HasLayout t
+HasNoImageFor t OutOfMemory = Unit {0}
 
 -- an image of the document was written
 pub record Saved (t : Tree) (old new : List ℕ) : Type 0 where
@@ -47,14 +36,12 @@ abbrev pub LosesImage : {W : Type 0} → WriterMembers W → Tree → (old new :
 LosesImage w t old new =
     (image : List ℕ) → Image t image → IsTrue w.OBSERVABLE → length (w.contents new) < length (w.contents old) + length image
 
--- why no image was written: the document has a kind without a layout, or something in it exceeds what archives can
--- hold, and the writer is unchanged; a write failed with the writer's last error, and its count of failures rose by
--- one; or an allocation failed, before anything was written or in a writer that counts no failures, and some of the
--- image was lost
+-- why no image was written: something in the document exceeds what archives can hold, and the writer is unchanged; a
+-- write failed with the writer's last error, and its count of failures rose by one; or an allocation failed, before
+-- anything was written or in a writer that counts no failures, and some of the image was lost
 abbrev pub IsUnsavedFor : {W : Type 0} → WriterMembers W
     → Tree → (old new : W) → SaveRefusal → Type 0
-IsUnsavedFor w t old new Kind = (HasLayout t → ⊥) × (new ≡ old)
-IsUnsavedFor w t old new (Limit e) = HasLayout t × IsPast t e × (new ≡ old)
-IsUnsavedFor w t old new (Writer e) = HasLayout t × (w.COUNTS ≡ true) × (w.failures new ≡ w.failures old + 1) × (w.last_error new ≡ e)
+IsUnsavedFor w t old new (Limit e) = IsPast t e × (new ≡ old)
+IsUnsavedFor w t old new (Writer e) = (w.COUNTS ≡ true) × (w.failures new ≡ w.failures old + 1) × (w.last_error new ≡ e)
 IsUnsavedFor w t old new OutOfMemory =
-    HasLayout t × ((new ≡ old) ⊎ (w.COUNTS ≡ false)) × (w.failures new ≡ w.failures old) × LosesImage w t old new
+    ((new ≡ old) ⊎ (w.COUNTS ≡ false)) × (w.failures new ≡ w.failures old) × LosesImage w t old new

@@ -1,13 +1,15 @@
-//! Documents in archives: saving them, opening them, questions about them, and edits in place.
+//! Documents in archives: saving, opening and loading them, questions about them, and edits in place.
 #![tactic(auto)]
 
 mod asking;
+mod loading;
 mod maps;
 mod opening;
 mod saving;
 mod setting;
 
 pub use asking::{ask, find, head};
+pub use loading::load;
 pub use opening::{OpenRefusal, check, check_scanned};
 pub use saving::{SaveRefusal, save, to_bytes};
 pub use setting::set;

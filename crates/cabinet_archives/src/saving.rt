@@ -1,6 +1,5 @@
 //! Saving documents as archives.
 
-mod layout;
 mod saving;
 
 pub use saving::{SaveRefusal, save, to_bytes};

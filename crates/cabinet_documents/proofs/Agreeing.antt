@@ -3,7 +3,7 @@ use Rattle.std.proofs.Common.{◌≡◌, ℕ, suc, ◌+◌, ◌≤◌, List, [],
 use Rattle.std.proofs.Math.Nat.{le-max_left, le-max_right}
 use Rattle.archive_forms_values.specs.ShapeLayout.Bytes.{align_up}
 use Rattle.archive_forms_values.specs.ShapeLayout.Shape.{Shape, size_of, align_of}
-use Rattle.archive_forms_values.specs.ShapeLayout.Shape.Shape.{text, option, choice, vector, tree, table}
+use Rattle.archive_forms_values.specs.ShapeLayout.Shape.Shape.{text, option, choice, vector, tree, table, index_map}
 use Rattle.archive_forms_values.specs.ShapeLayout.Value.Value.{chosen}
 use Rattle.archive_forms_values.specs.ShapeLayout.Value.Values.{no_values, more_values}
 use Rattle.archive_forms_values.specs.ShapeWriting.declared.error.Error.{Error}
@@ -19,13 +19,16 @@ use Rattle.archive_btree_spelling.specs.Maps.{btree_spelling}
 use Rattle.archive_btree_spelling.proofs.Seen.{btree_agrees}
 use Rattle.archive_hash_writing.specs.Tables.{table_spelling}
 use Rattle.archive_hash_writing.proofs.Agreeing.{one_spelling, tables_agree}
+use Rattle.archive_index_spelling.specs.Maps.{index_spelling}
+use Rattle.archive_index_spelling.specs.Resolvers.{resolver_of, positions_of}
+use Rattle.archive_index_spelling.proofs.Agreeing.{index_agrees}
 use Rattle.cabinet_text_grammar.specs.Keys.{ordered, hashed, kept}
 use Rattle.cabinet_text_grammar.specs.Tree as document
 use Rattle.cabinet_text_grammar.specs.Tree.{Tree, Trees, Pairs, leaf, shared, nothing, just, list, map, no_trees, more_trees, no_pairs, more_pairs, depth, most_depth, pairs_depth}
 use Rattle.cabinet_documents.specs.Node.{node_shape, pair_shape, payloads}
 use Rattle.cabinet_documents.specs.declared.spelling.resolver.NodeResolver.{NodeResolver}
 use Rattle.cabinet_documents.specs.declared.spelling.resolver.NodeResolver.TheVariants as resolver
-use Rattle.cabinet_documents.specs.Spelling.{boxed_shape, boxed_spelling, maybe_spelling, list_spelling, ordered_spelling, pair_spelling, hashed_spelling, trees_in, pairs_in, maybe_in, list_in, ordered_in, hashed_in, node_of, refused, node_level, node_spelling}
+use Rattle.cabinet_documents.specs.Spelling.{boxed_shape, boxed_spelling, maybe_spelling, list_spelling, ordered_spelling, pair_spelling, hashed_spelling, kept_spelling, trees_in, pairs_in, maybe_in, list_in, ordered_in, hashed_in, kept_in, node_of, refused, node_level, node_spelling}
 use Rattle.cabinet_documents.specs.SpellingLaws.{OneLevelIsWritten}
 
 module _ {A R : Type 0} (w u : Spelling A R) (x : A) (same : said w x ≡ said u x) where
@@ -189,7 +192,13 @@ level_agrees w u (map hashed ps) same =
     let all = tables_agree (pair_spelling w) (pair_spelling u) pair_shape 7 8 hash xs pairs in
     let kept = kept_agree (table_spelling 7 8 pair_shape (pair_spelling w) hash) (table_spelling 7 8 pair_shape (pair_spelling u) hash) xs all (λ o. record { pos = o }) (λ r. r.pos) in
     node_of_agrees (hashed_spelling w) (hashed_spelling u) xs kept 7 (table pair_shape) resolver.Hashed hashed_in (map hashed ps)
-level_agrees w u (map kept ps) same = refl
+level_agrees w u (map kept ps) same =
+    let xs = pairs_in ps in
+    let hash : List ℕ × Tree → ℕ = λ p. text_hash p.0 in
+    let pairs = all_pairs_agree w u xs (pairs_agree w u (suc (pairs_depth ps)) ps (omega arith) same) in
+    let all = index_agrees (pair_spelling w) (pair_spelling u) pair_shape 7 8 hash xs pairs in
+    let one = kept_agree (index_spelling 7 8 pair_shape (pair_spelling w) hash) (index_spelling 7 8 pair_shape (pair_spelling u) hash) xs all resolver_of positions_of in
+    node_of_agrees (kept_spelling w) (kept_spelling u) xs one 8 (index_map text node_shape) resolver.Kept kept_in (map kept ps)
 
 pub node_said : (t : Tree) → said (node_level node_spelling) t ≡ said node_spelling t
 node_said = self_agrees node_level refused depth level_agrees

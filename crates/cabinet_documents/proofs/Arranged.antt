@@ -1,13 +1,15 @@
 -- Legal pairs whose keys are distinct, in the order of their keys, are the pairs of a hashed map.
 use Rattle.std.proofs.Common.{◌≡◌, ◌≢◌, ℕ, suc, max, Bool, true, false, cond, List, [], ◌∷◌, IsUtf8, refl, sym, ap, ◌∙◌, arith}
 use Rattle.std.specs.Prelude.{⊤}
+use Rattle.std.specs.List.{All}
+use Rattle.std.proofs.lemmas.List.Elements.{All-nil, All-cons}
 use Rattle.std.specs.Ordering.{is_lt, is_eq, nat_cmp, ordering_reverse}
 use Rattle.std.specs.declared.cmp.Ordering.{Ordering}
 use Rattle.std.specs.declared.cmp.Ordering.TheVariants.{Less, Equal, Greater}
 use Rattle.std.specs.Cmp.Lexicographic.{slice_cmp, nat_list_cmp_total}
 use Rattle.std.proofs.lemmas.Map.Text.{is_eq-slice_cmp}
 use Rattle.std.proofs.lemmas.Slice.Eq.{bytes_eq-Decides}
-use Rattle.cabinet_text_grammar.specs.Keys.{hashed, IsBelow, IsAboveLast}
+use Rattle.cabinet_text_grammar.specs.Keys.{hashed, kept, IsBelow, IsAboveLast}
 use Rattle.cabinet_text_grammar.specs.Tree.{Tree, Pairs, no_pairs, more_pairs, IsLegal, ArePairs, pair_count, pairs_depth, depth}
 use Rattle.cabinet_documents.specs.Order.{is_below, is_same, inserted, arranged}
 use Rattle.cabinet_documents.proofs.ByKey.{Lacks, AreKeysDistinct, pair_keys}
@@ -70,6 +72,18 @@ inserted_pairs before k t (more_pairs l u ps) utf8 legal above h p = by_case (is
 pub arranged_pairs : (ps : Pairs) → AreEachLegal ps → AreKeysDistinct (pair_keys ps) → ArePairs hashed [] (arranged ps)
 arranged_pairs no_pairs legal h = tt
 arranged_pairs (more_pairs k t ps) legal h = inserted_pairs [] k t (arranged ps) legal.0 legal.1 tt (lacks_in_order k ps h.0) (arranged_pairs ps legal.2 h.1)
+
+-- ---- pairs in an order of their own
+
+-- none of those before has a key of theirs
+kept_after : (before : List (List ℕ)) (ps : Pairs) → AreEachLegal ps → AreKeysDistinct (pair_keys ps) → All (λ k. Lacks k ps) before → ArePairs kept before ps
+kept_after before no_pairs legal h free = tt
+kept_after before (more_pairs k t ps) legal h free =
+    let later = kept_after (k ∷ before) ps legal.2 h.1 (All-cons (λ l. Lacks l ps) k before h.0 (λ i l low. (free i l low).1)) in
+    ((legal.0, (λ i l low same. (free i l low).0 (sym same))), (legal.1, later))
+
+pub kept_pairs : (ps : Pairs) → AreEachLegal ps → AreKeysDistinct (pair_keys ps) → ArePairs kept [] ps
+kept_pairs ps legal h = kept_after [] ps legal h (All-nil (λ k. Lacks k ps))
 
 -- ---- they are as many, and as deep
 

@@ -4,7 +4,7 @@ use Rattle.std.proofs.lemmas.Bool.{ltb-false}
 use Rattle.archive_forms_values.specs.ShapeLayout.Value.{Value, Values}
 use Rattle.archive_forms_values.specs.ShapeLayout.Value.Value.{group, chosen}
 use Rattle.archive_forms_values.specs.ShapeLayout.Content.{Names, Part, Span, Label, Content, content_of, made}
-use Rattle.archive_forms_values.specs.ShapeLayout.Content.Label.{same, whole, tagged, woven, total}
+use Rattle.archive_forms_values.specs.ShapeLayout.Content.Label.{same, second, whole, tagged, woven, total}
 use Rattle.archive_forms_values.specs.ShapeLayout.Content.Content.{plain, claimed}
 use Rattle.archive_forms_values.specs.ShapeLayout.Holds.{Region, Visit, OpenShared, Holds, HoldAll}
 use Rattle.archive_forms_values.specs.ShapeLayout.Holds.Holds.{holds_plain, holds_claimed, holds_first, holds_later, holds_back}
@@ -20,9 +20,8 @@ use Rattle.archive_forms_values.specs.ShapeCanonical.Canonical.{IsCanonical, Are
 use Rattle.archive_forms_values.specs.ShapeCanonical.Laws.{IsOnward, AvoidsKey, AvoidsKeys, AvoidKeys}
 use Rattle.cabinet_documents.specs.Node.{node_names}
 use Rattle.cabinet_documents.specs.Denotes.{pair_value}
-use Rattle.cabinet_documents.proofs.Places.{Place, node_here, payload_here, truth_here, number_here, text_here, shared_here, option_here, box_here, ordered_here, table_here, pair_here, tree_node, tree_child, entry_here, buckets_here, absent_here, nodes_behind, text_behind, Spot, part_of, parts_at, nodes_from, entries_from, children_from, items_from, Passes, node_passes, box_passes, behind_passes, list_passes, text_passes, child_passes, table_passes, Pays, pays_truth, pays_number, pays_text, pays_shared, pays_option, pays_list, pays_ordered, pays_hashed, pays_absent, Follows, passes, pays, truth_is, number_is, text_is, behind_is, none_is, some_is, nodes_follow, empty_is, total_is, leaf_follows, inner_follows, no_child_is, entry_follows, no_items_is, items_follow, pair_follows, Leads, leads_nowhere, leads_absent, leads_plain, leads_claimed, leads_counted, led}
-use Rattle.cabinet_documents.proofs.Nodes.{absent_law}
-use Rattle.cabinet_documents.proofs.Leading.{ToLeaf, FromPair, IntoPart, Aims, IsSpot, value_is, payload_aims, only_spot, node_spot, entry_spot, item_spot, child_spot, spot_behind, same_through, total_through, whole_through, child_through, entry_through, pair_below, pair_in, item_here, behind_key}
+use Rattle.cabinet_documents.proofs.Places.{Place, node_here, payload_here, truth_here, number_here, text_here, shared_here, option_here, box_here, ordered_here, table_here, index_here, pair_here, tree_node, tree_child, entry_here, buckets_here, numbers_here, entry_number, nodes_behind, pairs_behind, text_behind, Spot, part_of, parts_at, nodes_from, pairs_from, entries_from, children_from, items_from, numbers_from, Passes, node_passes, box_passes, behind_passes, list_passes, text_passes, child_passes, table_passes, Pays, pays_truth, pays_number, pays_text, pays_shared, pays_option, pays_list, pays_ordered, pays_hashed, pays_kept, Follows, passes, pays, truth_is, number_is, text_is, behind_is, none_is, some_is, nodes_follow, empty_is, total_is, leaf_follows, inner_follows, no_child_is, entry_follows, no_items_is, items_follow, no_entries_is, entries_second, numbers_follow, entry_number_is, pairs_follow, pair_follows, Leads, leads_nowhere, leads_plain, leads_claimed, leads_counted, led}
+use Rattle.cabinet_documents.proofs.Leading.{ToLeaf, FromPair, IntoPart, Aims, IsSpot, value_is, payload_aims, only_spot, each_spot, entry_spot, tagged_spot, child_spot, spot_behind, same_through, second_through, total_through, whole_through, child_through, entry_through, pair_below, pair_in, item_here, behind_key}
 use Rattle.cabinet_documents.proofs.Steps.{place_of}
 
 -- ---- how a way goes on from each place
@@ -72,7 +71,7 @@ module _ (bytes : List ℕ) where
   payload_free p pos inner pays_list = tt
   payload_free p pos inner pays_ordered = tt
   payload_free p pos inner pays_hashed = tt
-  payload_free p pos inner (pays_absent z) = tt
+  payload_free p pos inner pays_kept = tt
 
   paid_aims : {tag : ℕ} {j : Place} (u : Value) (inner : List ℕ) → Pays tag j → Aims (place_of tag) u inner → Aims j u inner
   paid_aims u inner pays_truth a = tt
@@ -83,7 +82,7 @@ module _ (bytes : List ℕ) where
   paid_aims u inner pays_list a = a
   paid_aims u inner pays_ordered a = a
   paid_aims u inner pays_hashed a = a
-  paid_aims u inner (pays_absent z) a = tt
+  paid_aims u inner pays_kept a = a
 
   paid : {tag : ℕ} {j : Place} (p : ℕ) → Pays tag j → Goes payload_here (tagged tag) (record { place = j; pos = p } ∷ [])
   unfolding made
@@ -108,7 +107,7 @@ module _ (bytes : List ℕ) where
   in_nodes : (from len : ℕ) → Goes (nodes_behind len) whole (nodes_from from len)
   in_nodes from len pos vs v u w i inner path m there at_w t a = record {
     avoids = tt;
-    aims = λ q is. subst (λ k. Aims k u inner) (sym (node_spot i from len q is)) (item_here m there (whole_through vs i inner path t) a);
+    aims = λ q is. subst (λ k. Aims k u inner) (sym (each_spot node_here 24 i from len q is)) (item_here m there (whole_through vs i inner path t) a);
   }
 
   in_ordered : (len root : ℕ) → Goes ordered_here (total len) (record { place = tree_node 1; pos = root } ∷ [])
@@ -153,14 +152,37 @@ module _ (bytes : List ℕ) where
   in_items : (target len cap : ℕ) (controls : List ℕ) → Goes (buckets_here target len cap) whole (items_from target 0 controls)
   in_items target len cap controls pos vs v u w i inner path m there at_w t a = record {
     avoids = tt;
-    aims = λ q is. subst (λ k. Aims k u inner) (sym (item_spot i target 0 controls q is)) (pair_in m there (whole_through vs i inner path t) a);
+    aims = λ q is. subst (λ k. Aims k u inner) (sym (tagged_spot pair_here 32 i target 0 controls q is)) (pair_in m there (whole_through vs i inner path t) a);
   }
 
+  in_numbers : (target len cap : ℕ) (controls : List ℕ) → Goes (numbers_here target len cap) whole (numbers_from len target 0 controls)
+  in_numbers target len cap controls pos vs v u w i inner path m there at_w t a = record {
+    avoids = tt;
+    aims = λ q is. subst (λ k. Aims k u inner) (sym (tagged_spot (entry_number len) 4 i target 0 controls q is)) tt;
+  }
+
+  in_pairs : (from len : ℕ) → Goes (pairs_behind len) whole (pairs_from from len)
+  in_pairs from len pos vs v u w i inner path m there at_w t a = record {
+    avoids = tt;
+    aims = λ q is. subst (λ k. Aims k u inner) (sym (each_spot pair_here 32 i from len q is)) (pair_in m there (whole_through vs i inner path t) a);
+  }
+
+  second_spot : (i : ℕ) (first other q : Spot) → i ≡ 1 → IsSpot i (first ∷ (other ∷ [])) q → other ≡ q
+  second_spot zero first other q e s = absurd (omega (arith, e))
+  second_spot (suc zero) first other q e s = s
+  second_spot (suc (suc i)) first other q e s = absurd s
+
+  -- the value of a kept map is that of its entries
+  in_entries : (target len cap start : ℕ) → Goes index_here second (record { place = numbers_here target len cap; pos = target } ∷ (record { place = pairs_behind len; pos = start } ∷ []))
+  in_entries target len cap start pos vs v u w i inner path m there at_w t a =
+      let s = second_through vs v u i inner path m there t in
+      let here : Aims (pairs_behind len) u inner = subst (λ x. Aims (pairs_behind len) x inner) (sym s.1) (subst (Aims (pairs_behind len) v) (sym s.2) a) in
+      record {
+        avoids = behind_key here;
+        aims = λ q is. subst (λ (x : Spot). Aims x.place u inner) (second_spot i (record { place = numbers_here target len cap; pos = target }) (record { place = pairs_behind len; pos = start }) q s.0 is) here;
+      }
+
   -- the value of a pair is its second part
-  second_spot : (i key value : ℕ) (q : Spot) → i ≡ 1 → IsSpot i (record { place = text_here; pos = key } ∷ (record { place = node_here; pos = value } ∷ [])) q → q.place ≡ node_here
-  second_spot zero key value q e s = absurd (omega (arith, e))
-  second_spot (suc zero) key value q e s = ap (λ (x : Spot). x.place) (sym s)
-  second_spot (suc (suc i)) key value q e s = absurd s
 
   -- of an entry of a search tree, and of a pair by itself
   in_pair_of : (k : Place) (key value : ℕ) → ((v : Value) (path : List ℕ) → Aims k v path → FromPair v path)
@@ -170,14 +192,16 @@ module _ (bytes : List ℕ) where
   in_pair_of k key value from free pos vs v u w i inner path m there at_w t aimed =
       let a = from v path aimed in
       let both : i ∷ inner ≡ 1 ∷ a.more = path_is t ∙ a.is in
-      let second : i ≡ 1 = cc in
+      let number : i ≡ 1 = cc in
       let rest : inner ≡ a.more = cc in
       let of_group : v ≡ group vs = sym (value_is m) in
       let values : group vs ≡ pair_value a.key a.item = sym of_group ∙ a.there in
-      let same_item : u ≡ a.item = value_is (ap (λ o. and_then o (λ z. Some z)) (sym there) ∙ ap₂ (λ n x. value_at (n ∷ []) x) second values) in
+      let same_item : u ≡ a.item = value_is (ap (λ o. and_then o (λ z. Some z)) (sym there) ∙ ap₂ (λ n x. value_at (n ∷ []) x) number values) in
       record {
         avoids = free pos inner;
-        aims = λ q is. subst (λ x. Aims x u inner) (sym (second_spot i key value q second is)) (subst (λ x. ToLeaf x inner) (sym same_item) (subst (ToLeaf a.item) (sym rest) a.on));
+        aims = λ q is.
+            let spot = second_spot i (record { place = text_here; pos = key }) (record { place = node_here; pos = value }) q number is in
+            subst (λ (x : Spot). Aims x.place u inner) spot (subst (λ x. ToLeaf x inner) (sym same_item) (subst (ToLeaf a.item) (sym rest) a.on));
       }
 
   goes : {k : Place} {l : Label} {qs : List Spot} → Follows bytes k l qs → Goes k l qs
@@ -198,6 +222,11 @@ module _ (bytes : List ℕ) where
   goes (entry_follows {key = key} {value = value} e f) = as_given e f (in_pair_of (entry_here key) key value (λ v path a. a) (λ pos inner. tt))
   goes (no_items_is e f) = as_given e f (none_follow table_here _ (λ pos inner. tt))
   goes (items_follow {target = target} {len = len} {cap = cap} controls are count e f) = as_given e f (in_items target len cap controls)
+  goes (no_entries_is e f) = as_given e f (none_follow index_here _ (λ pos inner. tt))
+  goes (entries_second {target = target} {len = len} {cap = cap} {start = start} small e f) = as_given e f (in_entries target len cap start)
+  goes (numbers_follow {target = target} {len = len} {cap = cap} controls are count e f) = as_given e f (in_numbers target len cap controls)
+  goes (entry_number_is {limit = limit} low e f) = as_given e f (none_follow (entry_number limit) _ (λ pos inner. tt))
+  goes (pairs_follow {len = len} from e f) = as_given e f (in_pairs from len)
   goes (pair_follows key value e f) = as_given e f (in_pair_of pair_here key value (λ v path a. a) (λ pos inner. tt))
 
   -- ---- the whole way
@@ -212,17 +241,15 @@ module _ (bytes : List ℕ) where
     pub are : ps ≡ parts_at qs
     pub follow : Follows bytes k l qs
 
-  pub spots : {level : ℕ} {inside : List OpenShared} {v : Value} {regions : List Region} {before after : List Visit} {c : Content} {l : Label} {ps : List Part} (k : Place) (pos : ℕ)
-      → Holds node_names bytes level inside (part_of k pos) v regions before after → Leads bytes k c → Says c l ps → Spots k l ps
-  spots k pos h (leads_nowhere g) (says_plain e) = absurd (cc)
-  spots k pos h (leads_nowhere g) (says_claimed e) = absurd (cc)
-  spots {level = level} {inside = inside} {v = v} {regions = regions} {before = before} {after = after} absent_here pos h leads_absent e = absurd (absent_law bytes level inside pos v regions before after h)
-  spots {l = l} k pos h (leads_plain {l = m} {qs = qs} g fs) (says_plain e) = let label : m ≡ l = cc in record { qs = qs; are = cc; follow = subst (λ x. Follows bytes k x qs) label fs }
-  spots k pos h (leads_plain g fs) (says_claimed e) = absurd (cc)
-  spots k pos h (leads_claimed g fs b) (says_plain e) = absurd (cc)
-  spots {l = l} k pos h (leads_claimed {l = m} {qs = qs} g fs b) (says_claimed e) = let label : m ≡ l = cc in record { qs = qs; are = cc; follow = subst (λ x. Follows bytes k x qs) label fs }
-  spots shared_here pos h (leads_counted g) (says_plain e) = absurd (cc)
-  spots shared_here pos h (leads_counted g) (says_claimed e) = absurd (cc)
+  pub spots : {c : Content} {l : Label} {ps : List Part} (k : Place) → Leads bytes k c → Says c l ps → Spots k l ps
+  spots k (leads_nowhere g) (says_plain e) = absurd (cc)
+  spots k (leads_nowhere g) (says_claimed e) = absurd (cc)
+  spots {l = l} k (leads_plain {l = m} {qs = qs} g fs) (says_plain e) = let label : m ≡ l = cc in record { qs = qs; are = cc; follow = subst (λ x. Follows bytes k x qs) label fs }
+  spots k (leads_plain g fs) (says_claimed e) = absurd (cc)
+  spots k (leads_claimed g fs b) (says_plain e) = absurd (cc)
+  spots {l = l} k (leads_claimed {l = m} {qs = qs} g fs b) (says_claimed e) = let label : m ≡ l = cc in record { qs = qs; are = cc; follow = subst (λ x. Follows bytes k x qs) label fs }
+  spots shared_here (leads_counted g) (says_plain e) = absurd (cc)
+  spots shared_here (leads_counted g) (says_claimed e) = absurd (cc)
 
   -- a path in part i of some, at the spots given, leads to a leaf
   abbrev AimsIn : List Spot → Values → ℕ → List ℕ → Type 0
@@ -235,12 +262,10 @@ module _ (bytes : List ℕ) where
     avoids : AvoidsKey p ps inner
     aims : AimsIn qs vs i inner
 
-  further : {level : ℕ} {inside : List OpenShared} {p : Part} {v w : Value} {regions : List Region} {before after : List Visit} {path : List ℕ} {l : Label} {ps : List Part} {vs : Values} {i : ℕ} {inner : List ℕ} (k : Place) (pos : ℕ)
-      → p ≡ part_of k pos → Holds node_names bytes level inside p v regions before after → Says (content_of node_names bytes p) l ps
-      → made l vs ≡ Some v → InValue i vs inner w → through l vs i inner ≡ Some path → Aims k v path → Further p ps vs i inner
-  further {level = level} {inside = inside} {v = v} {w = w} {regions = regions} {before = before} {after = after} {path = path} {l = l} {ps = ps} {vs = vs} {i = i} {inner = inner} k pos is h says m x t a =
-      let here = subst (λ y. Holds node_names bytes level inside y v regions before after) is h in
-      let s = spots k pos here (led bytes k pos) (subst (λ y. Says (content_of node_names bytes y) l ps) is says) in
+  further : {p : Part} {v w : Value} {path : List ℕ} {l : Label} {ps : List Part} {vs : Values} {i : ℕ} {inner : List ℕ} (k : Place) (pos : ℕ)
+      → p ≡ part_of k pos → Says (content_of node_names bytes p) l ps → made l vs ≡ Some v → InValue i vs inner w → through l vs i inner ≡ Some path → Aims k v path → Further p ps vs i inner
+  further {v = v} {w = w} {path = path} {l = l} {ps = ps} {vs = vs} {i = i} {inner = inner} k pos is says m x t a =
+      let s = spots k (led bytes k pos) (subst (λ y. Says (content_of node_names bytes y) l ps) is says) in
       let g = goes s.follow pos vs v x.value w i inner path m x.there x.inner t a in
       record {
         qs = s.qs;
@@ -251,20 +276,19 @@ module _ (bytes : List ℕ) where
 
   module _ {q : Part} {w : Value} where
     mutual
-      -- a way to a leaf, from a place that holds, leads to no key
+      -- a way to a leaf leads to no key
       pub avoids :
-          {level : ℕ} {inside : List OpenShared} {p : Part} {v : Value} {regions : List Region} {before after : List Visit} {path : List ℕ}
-          → Holds node_names bytes level inside p v regions before after
+          {level : ℕ} {inside : List OpenShared} {p : Part} {v : Value} {before : List Visit} {path : List ℕ}
           → (s : Stands node_names bytes q w level inside before p v path)
           → (k : Place) (pos : ℕ) → p ≡ part_of k pos
           → Aims k v path
           → AvoidsKeys s
-      avoids h (stands_here a b c) k pos is aim = tt
-      avoids h (stands_plain e within m t) k pos is aim =
-          let f = further k pos is h (says_plain e) m (stands_in_value node_names bytes q w within) t aim in
+      avoids (stands_here a b c) k pos is aim = tt
+      avoids (stands_plain e within m t) k pos is aim =
+          let f = further k pos is (says_plain e) m (stands_in_value node_names bytes q w within) t aim in
           (f.avoids, avoids_in within f.qs f.are f.aims)
-      avoids h (stands_claimed e within m t) k pos is aim =
-          let f = further k pos is h (says_claimed e) m (stands_in_value node_names bytes q w within) t aim in
+      avoids (stands_claimed e within m t) k pos is aim =
+          let f = further k pos is (says_claimed e) m (stands_in_value node_names bytes q w within) t aim in
           (f.avoids, avoids_in within f.qs f.are f.aims)
 
       avoids_in :
@@ -275,7 +299,7 @@ module _ (bytes : List ℕ) where
           → AvoidKeys s
       avoids_in (stands_first s h hs e z) [] is aims = absurd (cc)
       avoids_in (stands_first {v = v} s h hs e z) (r ∷ qs) is aims =
-          avoids h s r.place r.pos (cc) (aims r v (subst (λ n. IsSpot n (r ∷ qs) r) (sym z) refl) (ap₂ (λ n x. value_in n x) z e))
+          avoids s r.place r.pos (cc) (aims r v (subst (λ n. IsSpot n (r ∷ qs) r) (sym z) refl) (ap₂ (λ n x. value_in n x) z e))
       avoids_in (stands_later h s e z) [] is aims = absurd (cc)
       avoids_in (stands_later h s e z) (r ∷ qs) is aims =
           avoids_in s qs (cc) (λ x u at u_is. aims x u (subst (λ n. IsSpot n (r ∷ qs) x) (sym z) at) (ap₂ (λ n y. value_in n y) z e ∙ u_is))

@@ -13,7 +13,7 @@ use Rattle.cabinet_documents.specs.Node.{node_shape, node_names}
 use Rattle.cabinet_documents.proofs.CanonicalTables.{tables_sound, tables_first}
 use Rattle.cabinet_documents.proofs.FittedWalks.{walk_fitted}
 use Rattle.cabinet_documents.proofs.Keyed.{keyed_is}
-use Rattle.cabinet_documents.proofs.Nodes.{none_seen, held}
+use Rattle.cabinet_documents.proofs.HeldNodes.{none_seen, held}
 use Rattle.cabinet_documents.proofs.Peaks.{peaked}
 use Rattle.cabinet_documents.proofs.Places.{node_behind}
 use Rattle.cabinet_documents.proofs.SettledWalks.{Settled, settled_steps}

@@ -1,34 +1,40 @@
--- The tables in the walk of a canonical archive are filled by first fit.
-use Rattle.std.proofs.Common.{◌≡◌, ℕ, zero, suc, ◌+◌, ◌≤◌, ◌==◌, nat_lt, Bool, true, false, List, [], ◌∷◌, take, length, map, Option, Some, None, refl, sym, ap, ap₂, subst, ◌∙◌, arith}
+-- The tables of maps in the walk of a canonical archive are filled by first fit.
+use Rattle.std.proofs.Common.{◌≡◌, ℕ, zero, suc, ◌+◌, ◌<◌, ◌≤◌, List, [], ◌∷◌, length, Some, refl, sym, ap, ap₂, subst, ◌∙◌, arith}
 use Rattle.std.specs.Prelude.{⊤}
-use Rattle.archive_forms_values.specs.ShapeLayout.Bytes.{window, word_at, target_from}
+use Rattle.archive_forms_values.specs.ShapeLayout.Bytes.{window, word_at}
 use Rattle.archive_forms_values.specs.ShapeLayout.Shape.{Shape}
-use Rattle.archive_forms_values.specs.ShapeLayout.Shape.Shape.{table}
+use Rattle.archive_forms_values.specs.ShapeLayout.Shape.Shape.{table, index_map}
+use Rattle.archive_forms_values.specs.ShapeLayout.Shape.Pointee.{slice}
+use Rattle.archive_forms_values.specs.Tuples.{tuple2}
 use Rattle.archive_forms_values.specs.ShapeLayout.Value.{Value, Values, count_values}
 use Rattle.archive_forms_values.specs.ShapeLayout.Value.Value.{string, group}
 use Rattle.archive_forms_values.specs.ShapeLayout.Value.Values.{no_values, more_values}
-use Rattle.archive_forms_values.specs.ShapeLayout.Content.{Part, Label, Content, content_of, made, members, item, control_count, choose, following, shape_content, table_parts}
-use Rattle.archive_forms_values.specs.ShapeLayout.Content.Part.{at, buckets}
-use Rattle.archive_forms_values.specs.ShapeLayout.Content.Label.{same, whole}
-use Rattle.archive_forms_values.specs.ShapeLayout.Content.Content.{illegal, plain, claimed, counting}
-use Rattle.archive_forms_values.specs.ShapeCanonical.FirstFit.{ascending, controls_of, first_fit, items_of, keys_in, map_capacity, placed_keys, text_key}
+use Rattle.archive_forms_values.specs.ShapeLayout.Content.{Part, Label, content_of, made, members, item, place, control_count}
+use Rattle.archive_forms_values.specs.ShapeLayout.Content.Part.{at, behind, buckets}
+use Rattle.archive_forms_values.specs.ShapeLayout.Content.Label.{same, second, whole}
+use Rattle.archive_forms_values.specs.ShapeLayout.Holds.HoldAll.{holds_none}
+use Rattle.archive_forms_values.specs.ShapeCanonical.FirstFit.{ascending, controls_of, first_fit, items_of, keys_in, map_capacity, numbers_of, placed_keys, text_key}
 use Rattle.archive_forms_values.specs.ShapeCanonical.Hash.{text_hash}
 use Rattle.archive_forms_values.specs.ShapeCanonical.Seen.{key_alone, keys_alone, by_keys}
-use Rattle.archive_forms_values.specs.ShapeCanonical.Settled.{IsSettled}
+use Rattle.archive_forms_values.specs.ShapeCanonical.Settled.{IsSettled, naturals}
 use Rattle.archive_forms_values.specs.ShapeCanonical.Settled.{IsFitted as IsTableFitted}
 use Rattle.archive_forms_values.specs.ShapeCanonical.Sharing.{erased, all_erased}
+use Rattle.archive_forms_values.proofs.Pointed.{made_whole}
 use Rattle.archive_hash_writing.proofs.SpellingFitting.{capacity_above}
+use Rattle.archive_index_spelling.proofs.Maps.{numbers_alone}
 use Rattle.cabinet_documents.specs.Fitted.{AreFirstFit}
 use Rattle.cabinet_documents.specs.Node.{node_names}
-use Rattle.cabinet_documents.specs.Table.{Table, Findable, empty_table, entry_of, full_from, hashed_slots, hashed_at, item_keys, key_of, table_of}
+use Rattle.cabinet_documents.specs.Table.{Table, Findable, empty_table, hashed_at, kept_at, item_keys, key_of, table_of}
 use Rattle.cabinet_documents.specs.Walk.{Stop}
 use Rattle.cabinet_documents.proofs.ByKey.{AreKeysDistinct}
-use Rattle.cabinet_documents.proofs.FittedTable.{filled_table, filled_is_findable}
+use Rattle.cabinet_documents.proofs.EntryNumbers.{same_naturals, index_held}
+use Rattle.cabinet_documents.proofs.FittedTable.{filled_table, filled_is_findable, kept_filled, kept_filled_is_findable}
 use Rattle.cabinet_documents.proofs.KeyOrder.{length_ascending}
 use Rattle.cabinet_documents.proofs.SettledWalks.{Settled}
 use Rattle.cabinet_documents.proofs.Stops.{Each}
-use Rattle.cabinet_documents.proofs.TableSound.{IsPlainSound, IsTableSound, TableSounds, TableCase, is_table, is_none, table_case, TableRead, reads_none, reads_buckets, table_read, no_table, led_table}
-use Rattle.cabinet_documents.proofs.Walkable.{IsKnownStop, known_step, counted_step}
+use Rattle.cabinet_documents.proofs.TableSound.{IsPlainSound, IsTableSound, TableSounds, PlainSounds, TableCase, is_table, is_index, is_none, table_case, BucketsRead, TableRead, IndexRead, reads_none, reads_buckets, table_direct, table_read, index_direct, index_read, no_table, led_table, keys_count}
+use Rattle.cabinet_documents.proofs.Tables.{hashed_table, kept_table, numbers_at, kept_read}
+use Rattle.cabinet_documents.proofs.Walkable.{IsDirect, PartsHold, parts_hold, IsKnownStop, plain_stop}
 
 -- ---- the keys that a fit is given
 
@@ -107,20 +113,27 @@ keys_fitted controls len cap w f =
           ∙ ap₂ (λ n ks. placed_keys text_hash (map_capacity n) (ascending ks)) count seen;
     }
 
+-- an index map's numbers come before its entries
+record NumbersFitted (controls : List ℕ) (cap : ℕ) (ns : List ℕ) (w : Value) : Type 0 where
+  capacity : cap ≡ room_for w
+  controls_are : controls ≡ controls_of text_hash (room_for w) (keys_there w)
+  numbers_are : ns ≡ numbers_of text_hash (room_for w) (keys_there w)
+
+numbers_fitted : (controls : List ℕ) (len cap : ℕ) (ns : List ℕ) (w : Value) → IsTableFitted (first_fit text_hash) controls len cap (more_values (by_keys (group (naturals ns))) (more_values (by_keys w) no_values)) → NumbersFitted controls cap ns w
+numbers_fitted controls len cap ns w f =
+    let items = all_erased (members (by_keys w)) in
+    let seen = members_seen w in
+    let count : count_values items ≡ length (keys_there w) = count_keys items ∙ ap length seen in
+    let numbers = ap group (sym (numbers_alone ns)) ∙ f.3 in
+    record {
+      capacity = f.1 ∙ ap map_capacity (sym f.0 ∙ sym (count_erased (members (by_keys w))) ∙ count);
+      controls_are = f.2 ∙ ap₂ (λ n ks. controls_of text_hash (map_capacity n) ks) count seen;
+      numbers_are =
+          same_naturals ns (numbers_of text_hash (map_capacity (count_values items)) (keys_in items)) (ap members numbers)
+          ∙ ap₂ (λ n ks. numbers_of text_hash (map_capacity n) ks) count seen;
+    }
+
 -- ---- a table in a walk
-
-abbrev IsDirect : Content → Type 0
-IsDirect illegal = ⊤
-IsDirect (plain l ps) = ⊤
-IsDirect (claimed s l ps) = ⊥
-IsDirect (counting cyclic t q len) = ⊥
-
-table_direct : (none fewer : Bool) (o : Option ℕ) (k : ℕ → Part) → IsDirect (choose none (plain whole []) (choose fewer (following o (λ t. plain same (k t ∷ []))) illegal))
-unfolding choose following
-table_direct true fewer o k = tt
-table_direct false false o k = tt
-table_direct false true None k = tt
-table_direct false true (Some t) k = tt
 
 one_made : (vs : Values) (w : Value) → made same vs ≡ Some w → vs ≡ more_values w no_values
 unfolding made
@@ -128,51 +141,88 @@ one_made no_values w e = absurd (cc)
 one_made (more_values v no_values) w e = let same_value : v ≡ w = cc in ap (λ x. more_values x no_values) same_value
 one_made (more_values v (more_values u vs)) w e = absurd (cc)
 
-all_made : (vs : Values) (w : Value) → made whole vs ≡ Some w → w ≡ group vs
-unfolding made
-all_made vs w e = cc
+-- it has no items, or is filled as a table
+data MapFit (kind : List ℕ → ℕ → List (List ℕ) → ℕ → Table) (Filled : Value → Table → Type 0) (bytes : List ℕ) (pos : ℕ) (w : Value) : Type 0 where
+  no_items : w ≡ group no_values → table_of kind bytes pos w ≡ empty_table → MapFit kind Filled bytes pos w
+  some_items : {t : Table} → table_of kind bytes pos w ≡ t → Filled w t → MapFit kind Filled bytes pos w
 
--- it has no items, or is filled
-data TableFit (bytes : List ℕ) (pos : ℕ) (w : Value) : Type 0 where
-  no_items : w ≡ group no_values → table_of hashed_at bytes pos w ≡ empty_table → TableFit bytes pos w
-  some_items :
-      table_of hashed_at bytes pos w ≡ filled_table (room_for w) (ascending (keys_there w)) → keys_there w ≡ placed_keys text_hash (room_for w) (ascending (keys_there w))
-      → TableFit bytes pos w
+-- of a hashed map
+record IsFilled (w : Value) (t : Table) : Type 0 where
+  is : t ≡ filled_table (room_for w) (ascending (keys_there w))
+  keys : keys_there w ≡ placed_keys text_hash (room_for w) (ascending (keys_there w))
 
-abbrev table_from : ℕ → List ℕ → List (List ℕ) → Table
-table_from cap controls ks =
-    let slots = hashed_slots (full_from 0 (take cap controls)) ks in record { capacity = cap; controls = controls; slots = slots; entries = map entry_of slots }
+-- of a kept map
+record IsKeptFilled (w : Value) (t : Table) : Type 0 where
+  is : t ≡ kept_filled (keys_there w)
+  some : 0 < length (keys_there w)
 
 module _ (bytes : List ℕ) where
   abbrev KnownStop : Stop → Type 0
   KnownStop = IsKnownStop (Settled (first_fit text_hash) bytes) node_names bytes
 
-  direct : (pos : ℕ) (s : Shape) → IsDirect (content_of node_names bytes (at pos (table s)))
-  unfolding shape_content table_parts
-  direct pos s =
-      let own = window bytes pos 12 in
-      table_direct (word_at own 4 == 0) (nat_lt (word_at own 4) (word_at own 8)) (target_from pos (word_at own 0)) (λ t. buckets t (word_at own 4) (word_at own 8) (item s))
+  abbrev TableFit : ℕ → Value → Type 0
+  TableFit pos w = MapFit hashed_at IsFilled bytes pos w
 
-  plain_fit : (pos : ℕ) (s : Shape) (w : Value) (vs : Values) {l : Label} {ps : List Part} → TableRead bytes pos l ps s → made l vs ≡ Some w → count_values vs ≡ length ps
-      → IsSettled (first_fit text_hash) bytes (at pos (table s)) ps vs → TableFit bytes pos w
-  plain_fit pos s w no_values (reads_none e f z) m n settled = no_items (all_made no_values w (subst (λ l. made l no_values ≡ Some w) e m)) (no_table bytes hashed_at pos w z)
-  plain_fit pos s w (more_values v vs) (reads_none e f z) m n settled = let none = n ∙ ap length f in absurd (omega (arith, none))
-  plain_fit pos s w vs (reads_buckets {target = target} {len = len} e f some leads) m n settled =
+  abbrev IndexFit : ℕ → Value → Type 0
+  IndexFit pos w = MapFit kept_at IsKeptFilled bytes pos w
+
+  no_parts : {ps : List Part} {vs : Values} → ps ≡ [] → PartsHold node_names bytes ps vs → vs ≡ no_values
+  no_parts {vs = vs} f h = by_parts (subst (λ x. PartsHold node_names bytes x vs) f h)
+    where
+      by_parts : PartsHold node_names bytes [] vs → vs ≡ no_values
+      by_parts (parts_hold (holds_none e g k)) = e
+
+  -- without items
+  none_fit : (kind : List ℕ → ℕ → List (List ℕ) → ℕ → Table) {Filled : Value → Table → Type 0} (pos : ℕ) (w : Value) {l : Label} {ps : List Part} {vs : Values}
+      → l ≡ whole → ps ≡ [] → word_at bytes (pos + 4) ≡ 0 → made l vs ≡ Some w → PartsHold node_names bytes ps vs → MapFit kind Filled bytes pos w
+  none_fit kind pos w {vs = vs} e f z m h =
+      no_items (subst (λ x. w ≡ group x) (no_parts f h) (made_whole vs w (subst (λ l. made l vs ≡ Some w) e m))) (no_table bytes kind pos w z)
+
+  plain_fit : (pos : ℕ) (s : Shape) (w : Value) (vs : Values) {l : Label} {ps : List Part} → TableRead bytes pos l ps s → made l vs ≡ Some w → PartsHold node_names bytes ps vs
+      → IsSettled (first_fit text_hash) bytes (at pos (table s)) ps vs → TableFit pos w
+  plain_fit pos s w vs (reads_none e f z) m h settled = none_fit hashed_at pos w e f z m h
+  plain_fit pos s w vs (reads_buckets {target = target} {len = len} e f some leads) m h settled =
       let fit = first_fit text_hash in
       let cap = word_at bytes (pos + 8) in
       let one = one_made vs w (subst (λ l. made l vs ≡ Some w) e m) in
       let there : IsSettled fit bytes (at pos (table s)) (buckets target len cap (item s) ∷ []) (more_values w no_values) =
       subst (λ x. IsSettled fit bytes (at pos (table s)) (buckets target len cap (item s) ∷ []) x) one (subst (λ x. IsSettled fit bytes (at pos (table s)) x vs) f settled) in
       let k = keys_fitted (window bytes target (control_count cap)) len cap w there in
-      some_items (led_table bytes hashed_at pos w some leads ∙ (λ i. table_from (k.capacity i) (k.controls_are i) (k.keys i))) k.keys
+      some_items (led_table bytes hashed_at pos w some leads) (record { is = (λ i. hashed_table (k.capacity i) (k.controls_are i) (k.keys i)); keys = k.keys })
 
-  table_fit : (s : Stop) (pos : ℕ) (shape : Shape) → s.part ≡ at pos (table shape) → KnownStop s → TableFit bytes pos s.value
-  table_fit s pos shape is (counted_step e) = absurd (subst IsDirect (ap (content_of node_names bytes) (sym is) ∙ e) (direct pos shape))
-  table_fit s pos shape is (known_step {c = illegal} {vs = vs} e m n k) = absurd (cc)
-  table_fit s pos shape is (known_step {c = claimed span l ps} e m n k) = absurd (subst IsDirect (ap (content_of node_names bytes) (sym is) ∙ e) (direct pos shape))
-  table_fit s pos shape is (known_step {c = counting cyclic t q len} e m n k) = absurd (subst IsDirect (ap (content_of node_names bytes) (sym is) ∙ e) (direct pos shape))
-  table_fit s pos shape is (known_step {c = plain l ps} {vs = vs} e m n k) =
-      plain_fit pos shape s.value vs (table_read bytes node_names pos shape (ap (content_of node_names bytes) (sym is) ∙ e)) m n (subst (λ p. IsSettled (first_fit text_hash) bytes p ps vs) is k)
+  index_fit : (pos : ℕ) (k s : Shape) (w : Value) (vs : Values) {l : Label} {ps : List Part} → IndexRead bytes pos l ps k s → made l vs ≡ Some w → PartsHold node_names bytes ps vs
+      → IsSettled (first_fit text_hash) bytes (at pos (index_map k s)) ps vs → IndexFit pos w
+  index_fit pos k s w vs {l = l} {ps = ps} r m h settled = by_case r.read
+    where
+      n : ℕ
+      n = word_at bytes (pos + 4)
+
+      entries : List Part
+      entries = behind r.start (slice (tuple2 k s)) n ∷ []
+
+      by_case : BucketsRead bytes pos second (place n) entries l ps → IndexFit pos w
+      by_case (reads_none e f z) = none_fit kept_at pos w e f z m h
+      by_case (reads_buckets {target = target} {len = len} e f some leads) =
+          let fit = first_fit text_hash in
+          let cap = word_at bytes (pos + 8) in
+          let p = at pos (index_map k s) in
+          let parts = buckets target len cap (place n) ∷ entries in
+          let i = index_held node_names bytes target len cap n r.start (tuple2 k s) f h (subst (λ x. made x vs ≡ Some w) e m) in
+          let there : IsSettled fit bytes p parts (more_values (group (naturals (numbers_at bytes target cap))) (more_values w no_values)) = subst (λ x. IsSettled fit bytes p parts x) i.is (subst (λ x. IsSettled fit bytes p x vs) f settled) in
+          let d = numbers_fitted (window bytes target (control_count cap)) len cap (numbers_at bytes target cap) w there in
+          let many = keys_count (members w) ∙ i.counted in
+          some_items (led_table bytes kept_at pos w some leads ∙ kept_read bytes cap (keys_there w) target)
+          (record { is = (λ j. kept_table (d.capacity j) (d.controls_are j) (d.numbers_are j) (keys_there w)); some = omega (arith, some, many) })
+
+  table_fit : (s : Stop) (pos : ℕ) (shape : Shape) → s.part ≡ at pos (table shape) → KnownStop s → TableFit pos s.value
+  table_fit s pos shape is k =
+      let d = plain_stop (Settled (first_fit text_hash) bytes) node_names bytes s (subst (λ p. IsDirect (content_of node_names bytes p)) (sym is) (table_direct bytes node_names pos shape)) k in
+      plain_fit pos shape s.value d.vs (table_read bytes node_names pos shape (ap (content_of node_names bytes) (sym is) ∙ d.says)) d.is_made d.parts (subst (λ p. IsSettled (first_fit text_hash) bytes p d.ps d.vs) is d.known)
+
+  kept_fit : (s : Stop) (pos : ℕ) (key shape : Shape) → s.part ≡ at pos (index_map key shape) → KnownStop s → IndexFit pos s.value
+  kept_fit s pos key shape is k =
+      let d = plain_stop (Settled (first_fit text_hash) bytes) node_names bytes s (subst (λ p. IsDirect (content_of node_names bytes p)) (sym is) (index_direct bytes node_names pos key shape)) k in
+      index_fit pos key shape s.value d.vs (index_read bytes node_names pos key shape (ap (content_of node_names bytes) (sym is) ∙ d.says)) d.is_made d.parts (subst (λ p. IsSettled (first_fit text_hash) bytes p d.ps d.vs) is d.known)
 
   -- ---- it is sound, and in the order of first fit
 
@@ -180,24 +230,30 @@ module _ (bytes : List ℕ) where
   room_above zero = omega arith
   room_above (suc n) = let h = capacity_above (suc n) 7 8 (omega arith) in omega (arith, h)
 
-  fit_sound : (pos : ℕ) (w : Value) → AreKeysDistinct (keys_there w) → TableFit bytes pos w → Findable (table_of hashed_at bytes pos w)
-  fit_sound pos w apart (no_items e f) =
+  map_findable : {kind : List ℕ → ℕ → List (List ℕ) → ℕ → Table} {Filled : Value → Table → Type 0} (pos : ℕ) (w : Value) → ((t : Table) → Filled w t → Findable t) → MapFit kind Filled bytes pos w → Findable (table_of kind bytes pos w)
+  map_findable pos w on (no_items e f) =
       subst Findable (sym f) (record {
         tags = λ s c. let a = c.1 in absurd (omega (arith, a));
         reached = λ x c. let a = c.1 in absurd (omega (arith, a));
         distinct = λ x y c d same. let a = c.1 in absurd (omega (arith, a));
       })
-  fit_sound pos w apart (some_items e keys) =
+  map_findable pos w on (some_items {t = t} e filled) = subst Findable (sym e) (on t filled)
+
+  hashed_findable : (w : Value) → AreKeysDistinct (keys_there w) → (t : Table) → IsFilled w t → Findable t
+  hashed_findable w apart t f =
       let few = length_ascending (keys_there w) in
       let high = room_above (length (keys_there w)) in
-      subst Findable (sym e) (filled_is_findable (room_for w) (ascending (keys_there w)) (omega (arith, few, high)) (subst AreKeysDistinct keys apart))
+      subst Findable (sym f.is) (filled_is_findable (room_for w) (ascending (keys_there w)) (omega (arith, few, high)) (subst AreKeysDistinct f.keys apart))
 
-  fit_ordered : (pos : ℕ) (w : Value) → TableFit bytes pos w → AreFirstFit (members w)
+  kept_findable : (w : Value) → AreKeysDistinct (keys_there w) → (t : Table) → IsKeptFilled w t → Findable t
+  kept_findable w apart t f = subst Findable (sym f.is) (kept_filled_is_findable (keys_there w) f.some apart)
+
+  fit_ordered : (pos : ℕ) (w : Value) → TableFit pos w → AreFirstFit (members w)
   fit_ordered pos w (no_items e f) = subst (λ x. AreFirstFit (members x)) (sym e) refl
-  fit_ordered pos w (some_items e keys) =
+  fit_ordered pos w (some_items e filled) =
       let ks = text_keys_are (members w) in
       let count : count_values (members w) ≡ length (keys_there w) = count_keys (members w) ∙ ap length ks in
-      ks ∙ keys ∙ sym (ap₂ (λ n ls. placed_keys text_hash (map_capacity n) (ascending ls)) count ks)
+      ks ∙ filled.keys ∙ sym (ap₂ (λ n ls. placed_keys text_hash (map_capacity n) (ascending ls)) count ks)
 
   pub tables_first : (walk : List Stop) → Each KnownStop walk → Each TableFirst walk
   tables_first [] k = tt
@@ -206,11 +262,13 @@ module _ (bytes : List ℕ) where
     tables_first rest k.1,
   )
 
-  pub tables_sound : (walk : List Stop) → Each (λ (s : Stop). IsPlainSound bytes s.part s.value) walk → Each KnownStop walk → Each (TableSounds bytes) walk
+  pub tables_sound : (walk : List Stop) → Each (PlainSounds bytes) walk → Each KnownStop walk → Each (TableSounds bytes) walk
   tables_sound [] h k = tt
   tables_sound (s ∷ rest) h k = (by_case (table_case s.part), tables_sound rest h.1 k.1)
     where
       by_case : TableCase s.part → IsTableSound bytes s.part s.value
       by_case (is_table pos shape e) =
-          subst (λ p. IsTableSound bytes p s.value) (sym e) (fit_sound pos s.value (subst (λ p. IsPlainSound bytes p s.value) e h.0) (table_fit s pos shape e k.0))
+          subst (λ p. IsTableSound bytes p s.value) (sym e) (map_findable pos s.value (hashed_findable s.value (subst (λ p. IsPlainSound bytes p s.value) e h.0)) (table_fit s pos shape e k.0))
+      by_case (is_index pos key shape e) =
+          subst (λ p. IsTableSound bytes p s.value) (sym e) (map_findable pos s.value (kept_findable s.value (subst (λ p. IsPlainSound bytes p s.value) e h.0)) (kept_fit s pos key shape e k.0))
       by_case (is_none t same_sound) = t bytes s.value

@@ -17,7 +17,6 @@ use Rattle.cabinet_documents.specs.Denotes.{Denotes, DenoteAll, DenotePairs, tag
 use Rattle.cabinet_documents.specs.Denotes.Denotes.{denotes_truth, denotes_number, denotes_text, denotes_shared, denotes_nothing, denotes_some, denotes_list, denotes_ordered, denotes_hashed, denotes_kept}
 use Rattle.cabinet_documents.specs.Denotes.DenoteAll.{denote_none, denote_more}
 use Rattle.cabinet_documents.specs.Denotes.DenotePairs.{denote_no_pairs, denote_pair}
-use Rattle.cabinet_documents.specs.Order.{arranged}
 use Rattle.cabinet_documents.specs.OwnBytes.{LeadsTo, leads_here, leads_inside, leads_place, leads_key}
 use Rattle.cabinet_documents.specs.Laws.{payload_of, LeafPut}
 use Rattle.cabinet_documents.proofs.ByKey.{change_here, change_past, node_here, node_past, keys_same, keys_differ, Lacks, AreDistinct, distinct, in_order, distinct_in_order, node_in_order, change_in_order}
@@ -75,44 +74,40 @@ of_list g (denotes_ordered e f k) = absurd (cc)
 of_list g (denotes_hashed e f k) = absurd (cc)
 of_list g (denotes_kept e f k) = absurd (cc)
 
-pub record IsOrdered (vs : Values) (t : Tree) : Type 0 where
-  pub pairs : Pairs
-  pub is : t ≡ map ordered pairs
-  pub denotes : DenotePairs vs pairs
+-- the tag of each kind of map, which is none of the others
+abbrev pub kind_tag : MapKind → ℕ
+kind_tag ordered = 6
+kind_tag hashed = 7
+kind_tag kept = 8
 
-pub of_ordered : {v : Value} {vs : Values} {t : Tree} → v ≡ tagged_value 6 (group vs) → Denotes v t → IsOrdered vs t
-of_ordered g (denotes_truth e f) = absurd (cc)
-of_ordered g (denotes_number e f) = absurd (cc)
-of_ordered g (denotes_text e f) = absurd (cc)
-of_ordered g (denotes_shared e f) = absurd (cc)
-of_ordered g (denotes_nothing e f) = absurd (cc)
-of_ordered g (denotes_some e f k) = absurd (cc)
-of_ordered g (denotes_list e f k) = absurd (cc)
-of_ordered {vs = vs} g (denotes_ordered {vs = ws} {ps = ps} e f k) = let same : ws ≡ vs = cc in record { pairs = ps; is = f; denotes = subst (λ y. DenotePairs y ps) same k }
-of_ordered g (denotes_hashed e f k) = absurd (cc)
-of_ordered g (denotes_kept e f k) = absurd (cc)
-
-pub record IsHashed (vs : Values) (t : Tree) : Type 0 where
-  pub pairs : Pairs
-  pub is : t ≡ map hashed (arranged pairs)
-  pub denotes : DenotePairs vs pairs
-
--- of a map of any kind, which has the pairs in the order of its kind
-pub record IsMap (tag : ℕ) (vs : Values) (t : Tree) : Type 0 where
-  pub kind : MapKind
-  pub pairs : Pairs
-  pub is : t ≡ map kind (in_order kind pairs)
-  pub denotes : DenotePairs vs pairs
-  -- the tag is that of the kind
-  pub made : (ws : Values) (ps : Pairs) → DenotePairs ws ps → Denotes (tagged_value tag (group ws)) (map kind (in_order kind ps))
-
--- the tags of maps are none of the others
 pub high_tag : (tag n : ℕ) → tag ≡ n → (n ≡ 6) ⊎ ((n ≡ 7) ⊎ (n ≡ 8)) → tag < 6 → ⊥
 high_tag tag n e (inl a) h = omega arith
 high_tag tag n e (inr (inl a)) h = omega arith
 high_tag tag n e (inr (inr a)) h = omega arith
 
-pub of_map : {v : Value} {tag : ℕ} {vs : Values} {t : Tree} → v ≡ tagged_value tag (group vs) → (tag ≡ 6) ⊎ ((tag ≡ 7) ⊎ (tag ≡ 8)) → Denotes v t → IsMap tag vs t
+pub is_high : (kind : MapKind) → (kind_tag kind ≡ 6) ⊎ ((kind_tag kind ≡ 7) ⊎ (kind_tag kind ≡ 8))
+is_high ordered = inl refl
+is_high hashed = inr (inl refl)
+is_high kept = inr (inr refl)
+
+-- a map by its kind, which has the pairs in the order of its kind
+pub record IsMap (kind : MapKind) (vs : Values) (t : Tree) : Type 0 where
+  pub pairs : Pairs
+  pub is : t ≡ map kind (in_order kind pairs)
+  pub denotes : DenotePairs vs pairs
+
+pub denotes_map : (kind : MapKind) (vs : Values) (ps : Pairs) → DenotePairs vs ps → Denotes (tagged_value (kind_tag kind) (group vs)) (map kind (in_order kind ps))
+denotes_map ordered vs ps d = denotes_ordered refl refl d
+denotes_map hashed vs ps d = denotes_hashed refl refl d
+denotes_map kept vs ps d = denotes_kept refl refl d
+
+-- by its tag
+pub record IsTaggedMap (tag : ℕ) (vs : Values) (t : Tree) : Type 0 where
+  pub kind : MapKind
+  pub tagged : kind_tag kind ≡ tag
+  pub is_map : IsMap kind vs t
+
+pub of_map : {v : Value} {tag : ℕ} {vs : Values} {t : Tree} → v ≡ tagged_value tag (group vs) → (tag ≡ 6) ⊎ ((tag ≡ 7) ⊎ (tag ≡ 8)) → Denotes v t → IsTaggedMap tag vs t
 of_map g high (denotes_truth e f) = absurd (cc)
 of_map g high (denotes_number e f) = absurd (cc)
 of_map g high (denotes_text e f) = absurd (cc)
@@ -120,31 +115,32 @@ of_map g high (denotes_shared e f) = absurd (cc)
 of_map g high (denotes_nothing e f) = absurd (cc)
 of_map g high (denotes_some e f k) = absurd (cc)
 of_map {tag = tag} g high (denotes_list e f k) = let low : 5 ≡ tag = cc in absurd (high_tag 5 tag low high (omega arith))
-of_map {tag = tag} {vs = vs} g high (denotes_ordered {vs = ws} {ps = ps} e f k) =
-    let same : ws ≡ vs = cc in
-    let is : 6 ≡ tag = cc in
-    record { kind = ordered; pairs = ps; is = f; denotes = subst (λ y. DenotePairs y ps) same k; made = λ us qs d. subst (λ n. Denotes (tagged_value n (group us)) (map ordered qs)) is (denotes_ordered refl refl d) }
-of_map {tag = tag} {vs = vs} g high (denotes_hashed {vs = ws} {ps = ps} e f k) =
-    let same : ws ≡ vs = cc in
-    let is : 7 ≡ tag = cc in
-    record { kind = hashed; pairs = ps; is = f; denotes = subst (λ y. DenotePairs y ps) same k; made = λ us qs d. subst (λ n. Denotes (tagged_value n (group us)) (map hashed (in_order hashed qs))) is (denotes_hashed refl refl d) }
-of_map {tag = tag} {vs = vs} g high (denotes_kept {vs = ws} {ps = ps} e f k) =
-    let same : ws ≡ vs = cc in
-    let is : 8 ≡ tag = cc in
-    record { kind = kept; pairs = ps; is = f; denotes = subst (λ y. DenotePairs y ps) same k; made = λ us qs d. subst (λ n. Denotes (tagged_value n (group us)) (map kept qs)) is (denotes_kept refl refl d) }
+of_map {vs = vs} g high (denotes_ordered {vs = ws} {ps = ps} e f k) = let same : ws ≡ vs = cc in record { kind = ordered; tagged = cc; is_map = record { pairs = ps; is = f; denotes = subst (λ y. DenotePairs y ps) same k } }
+of_map {vs = vs} g high (denotes_hashed {vs = ws} {ps = ps} e f k) = let same : ws ≡ vs = cc in record { kind = hashed; tagged = cc; is_map = record { pairs = ps; is = f; denotes = subst (λ y. DenotePairs y ps) same k } }
+of_map {vs = vs} g high (denotes_kept {vs = ws} {ps = ps} e f k) = let same : ws ≡ vs = cc in record { kind = kept; tagged = cc; is_map = record { pairs = ps; is = f; denotes = subst (λ y. DenotePairs y ps) same k } }
 
--- of a hashed map by itself
-pub of_hashed : {v : Value} {vs : Values} {t : Tree} → v ≡ tagged_value 7 (group vs) → Denotes v t → IsHashed vs t
-of_hashed g (denotes_truth e f) = absurd (cc)
-of_hashed g (denotes_number e f) = absurd (cc)
-of_hashed g (denotes_text e f) = absurd (cc)
-of_hashed g (denotes_shared e f) = absurd (cc)
-of_hashed g (denotes_nothing e f) = absurd (cc)
-of_hashed g (denotes_some e f k) = absurd (cc)
-of_hashed g (denotes_list e f k) = absurd (cc)
-of_hashed g (denotes_ordered e f k) = absurd (cc)
-of_hashed {vs = vs} g (denotes_hashed {vs = ws} {ps = ps} e f k) = let same : ws ≡ vs = cc in record { pairs = ps; is = f; denotes = subst (λ y. DenotePairs y ps) same k }
-of_hashed g (denotes_kept e f k) = absurd (cc)
+one_kind : (kind other : MapKind) → kind_tag kind ≡ kind_tag other → kind ≡ other
+one_kind ordered ordered e = refl
+one_kind ordered hashed e = absurd (cc)
+one_kind ordered kept e = absurd (cc)
+one_kind hashed ordered e = absurd (cc)
+one_kind hashed hashed e = refl
+one_kind hashed kept e = absurd (cc)
+one_kind kept ordered e = absurd (cc)
+one_kind kept hashed e = absurd (cc)
+one_kind kept kept e = refl
+
+of_kind : (kind : MapKind) {v : Value} {vs : Values} {t : Tree} → v ≡ tagged_value (kind_tag kind) (group vs) → Denotes v t → IsMap kind vs t
+of_kind kind {vs = vs} {t = t} g d = let m = of_map g (is_high kind) d in subst (λ k. IsMap k vs t) (one_kind m.kind kind m.tagged) m.is_map
+
+pub of_ordered : {v : Value} {vs : Values} {t : Tree} → v ≡ tagged_value 6 (group vs) → Denotes v t → IsMap ordered vs t
+of_ordered g d = of_kind ordered g d
+
+pub of_hashed : {v : Value} {vs : Values} {t : Tree} → v ≡ tagged_value 7 (group vs) → Denotes v t → IsMap hashed vs t
+of_hashed g d = of_kind hashed g d
+
+pub of_kept : {v : Value} {vs : Values} {t : Tree} → v ≡ tagged_value 8 (group vs) → Denotes v t → IsMap kept vs t
+of_kept g d = of_kind kept g d
 
 -- ---- a leaf put where one is
 
@@ -276,15 +272,18 @@ module _ (w : Value) (s : Tree) where
       let o = of_list e d in
       let r = in_list i u rest more o.denotes (subst IsLegal o.is legal).0 i_is (ap (λ x. node_at x (place i ∷ rest)) (sym o.is) ∙ ap (node_at t) (sym f) ∙ h) (λ x y z n. reaches l x y z n) in
       moved e f g o.is (record { there = r.there; put = λ new p. denotes_list refl refl (r.put new p) })
-  reaches (leads_key {u = u} {vs = vs} {i = i} {tag = tag} {k = k} {rest = rest} {more = more} e high i_is f g l) t legal d h =
+  reaches (leads_key {u = u} {vs = vs} {i = i} {k = k} {rest = rest} {more = more} e high i_is f g l) t legal d h =
       let o = of_map e high d in
-      let all = distinct o.kind [] (in_order o.kind o.pairs) (subst IsLegal o.is legal).0 in
-      let there : node_by (in_order o.kind o.pairs) k rest ≡ Some s = ap (λ x. node_at x (key k ∷ rest)) (sym o.is) ∙ ap (node_at t) (sym f) ∙ h in
-      let r = by_key i k u rest more o.denotes (distinct_in_order o.kind o.pairs all) i_is (sym (node_in_order o.kind k rest o.pairs) ∙ there) (λ x y z n. reaches l x y z n) in
-      moved e f g o.is (record {
+      let kind = o.kind in
+      let ps = o.is_map.pairs in
+      let all = distinct kind [] (in_order kind ps) (subst IsLegal o.is_map.is legal).0 in
+      let there : node_by (in_order kind ps) k rest ≡ Some s = ap (λ x. node_at x (key k ∷ rest)) (sym o.is_map.is) ∙ ap (node_at t) (sym f) ∙ h in
+      let r = by_key i k u rest more o.is_map.denotes (distinct_in_order kind ps all) i_is (sym (node_in_order kind k rest ps) ∙ there) (λ x y z n. reaches l x y z n) in
+      let of_tag = e ∙ ap (λ n. tagged_value n (group vs)) (sym o.tagged) in
+      moved of_tag f g o.is_map.is (record {
         there = r.there;
-        put = λ new p. subst (λ x. Denotes (tagged_value tag (group (layout.change_in i (λ y. put_at (1 ∷ (more ++ 0 ∷ [])) (payload_of new) y) vs))) (map o.kind x))
-            (sym (change_in_order o.kind k rest new o.pairs all)) (o.made _ _ (r.put new p));
+        put = λ new p. subst (λ x. Denotes (tagged_value (kind_tag kind) (group (layout.change_in i (λ y. put_at (1 ∷ (more ++ 0 ∷ [])) (payload_of new) y) vs))) (map kind x))
+            (sym (change_in_order kind k rest new ps all)) (denotes_map kind _ _ (r.put new p));
       })
 
 pub leaf_put_law : LeafPut

@@ -5,7 +5,7 @@ use Rattle.cabinet_documents.specs.Node.{node_shape, node_names}
 use Rattle.cabinet_documents.specs.Laws.{AuditDecides}
 use Rattle.cabinet_documents.proofs.Walkable.{walk_stands_law}
 use Rattle.cabinet_documents.proofs.Places.{node_behind}
-use Rattle.cabinet_documents.proofs.Nodes.{none_seen, held}
+use Rattle.cabinet_documents.proofs.HeldNodes.{none_seen, held}
 use Rattle.cabinet_documents.proofs.Opening.{accepted_stands_law}
 
 pub audit_decides_law : AuditDecides

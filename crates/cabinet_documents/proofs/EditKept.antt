@@ -27,9 +27,9 @@ use Rattle.cabinet_documents.specs.OwnBytes.{OwnBytes, LeadsTo, leads_here, lead
 use Rattle.cabinet_documents.specs.Laws.{payload_of, EditKeepsAccepted}
 use Rattle.cabinet_documents.proofs.Stops.{each_of}
 use Rattle.cabinet_documents.proofs.Places.{node_behind}
-use Rattle.cabinet_documents.proofs.Nodes.{none_seen, held}
+use Rattle.cabinet_documents.proofs.HeldNodes.{none_seen, held}
 use Rattle.cabinet_documents.proofs.Walkable.{walk_stands_law}
-use Rattle.cabinet_documents.proofs.TableSound.{IsTableSound, sound_tables}
+use Rattle.cabinet_documents.proofs.TableSound.{IsTableSound, MapSounds, sound_tables}
 use Rattle.cabinet_documents.proofs.HeldTables.{TablesSound, OtherTables}
 use Rattle.cabinet_documents.proofs.TableEdits.{leaf_edited, text_edited}
 use Rattle.cabinet_documents.proofs.WalkedTables.{root_matches}
@@ -38,7 +38,7 @@ use Rattle.cabinet_documents.proofs.Known.{leaf_tag, LeafValue, leaf_value}
 use Rattle.cabinet_documents.proofs.Leading.{ToLeaf}
 use Rattle.cabinet_documents.proofs.Avoiding.{avoids}
 use Rattle.cabinet_documents.proofs.OwnWritten.{own_within, IsFixed, fixed_truth, fixed_number, leaf_written, inline_written, LeafWrites, InlineWrites, FarWrites, by_own}
-use Rattle.cabinet_documents.proofs.Standing.{HasTablesWalk, MapSounds, accepted_by}
+use Rattle.cabinet_documents.proofs.Standing.{HasTablesWalk, accepted_by}
 
 -- the value at the payload's place
 leads_value : {v w : Value} {path : List Step} {inner : List ℕ} (tag : ℕ) (x : Value) → LeadsTo v path inner w → w ≡ tagged_value tag x → value_at (inner ++ 0 ∷ []) v ≡ Some x
@@ -78,7 +78,7 @@ module _ (bytes : List ℕ) (v : Value) (regions : List Region) (visits : List V
   Free stands = AvoidsKeys stands
 
   free : {part : Part} {payload : Value} (stands : StandsInRoot node_names bytes pos node_shape v path part payload) → Free stands
-  free stands = avoids bytes root.holds stands node_behind pos refl way
+  free stands = avoids bytes stands node_behind pos refl way
 
   fixed_sound : (others : List ℕ) (start : ℕ) (s : Shape) (new : Value) → IsFixed s → IsTableSound others (at start s) new
   fixed_sound others start s new (fixed_truth e) = subst (λ x. IsTableSound others (at start x) new) (sym e) tt

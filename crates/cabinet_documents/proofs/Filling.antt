@@ -1,4 +1,4 @@
--- First fit gives the pairs of a document's hashed map the places where they are written.
+-- First fit gives the pairs of a document's hashed map the places where they are written, and kept maps as many places.
 use Rattle.std.proofs.Common.{◌≡◌, ℕ, ◌<◌, List, [], ◌∷◌, map, length, refl, sym, ap, ◌∙◌, arith}
 use Rattle.std.proofs.lemmas.List.{length-map}
 use Rattle.archive_forms_values.specs.ShapeLayout.Value.{Values}
@@ -52,6 +52,9 @@ pairs_fill (x ∷ xs) vs stay is =
     }
 
 pub first_fit_fills : FillsMaps (first_fit text_hash)
-first_fit_fills ps legal =
-    pairs_fill (pairs_in ps) (by_first_fit (values_of_pairs ps)) (ap ascending (keys_listed ps) ∙ ascending_stays [] ps legal ∙ sym (keys_listed ps))
-    (ap by_first_fit (pairs_are ps) ∙ first_fit_mapped entry_value key_of (λ x. refl) (pairs_in ps))
+first_fit_fills = record {
+  hashed_maps = λ ps legal.
+      pairs_fill (pairs_in ps) (by_first_fit (values_of_pairs ps)) (ap ascending (keys_listed ps) ∙ ascending_stays [] ps legal ∙ sym (keys_listed ps))
+      (ap by_first_fit (pairs_are ps) ∙ first_fit_mapped entry_value key_of (λ x. refl) (pairs_in ps));
+  kept_maps = λ xs. refl;
+}

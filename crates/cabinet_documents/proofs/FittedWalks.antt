@@ -1,16 +1,16 @@
 -- The value of a node in a canonical archive has the pairs of its hashed maps in the order of first fit.
-use Rattle.std.proofs.Common.{◌≡◌, ℕ, zero, suc, ◌+◌, ◌==◌, Bool, true, false, cond, List, [], ◌∷◌, Some, None, refl, sym, ap, subst, ◌∙◌, arith}
+use Rattle.std.proofs.Common.{◌≡◌, ℕ, zero, suc, ◌==◌, Bool, true, false, cond, List, [], ◌∷◌, Some, None, refl, sym, ap, subst, ◌∙◌, arith}
 use Rattle.std.specs.Prelude.{⊤}
 use Rattle.archive_forms_values.specs.ShapeLayout.Value.{Value, Values, count_values}
-use Rattle.archive_forms_values.specs.ShapeLayout.Value.Value.{integer, boolean, string, group, chosen, counted}
+use Rattle.archive_forms_values.specs.ShapeLayout.Value.Value.{natural, integer, boolean, string, group, chosen, counted}
 use Rattle.archive_forms_values.specs.ShapeLayout.Value.Values.{no_values, more_values}
 use Rattle.archive_forms_values.specs.ShapeLayout.Shape.Pointee.{str}
 use Rattle.archive_forms_values.specs.ShapeLayout.Content.{Part, Label, content_of, made, members, weave, first_values, other_values}
-use Rattle.archive_forms_values.specs.ShapeLayout.Content.Label.{same, whole, tagged, woven, total}
+use Rattle.archive_forms_values.specs.ShapeLayout.Content.Label.{same, second, whole, tagged, woven, total}
 use Rattle.archive_forms_values.specs.ShapeLayout.Content.Content.{illegal, counting}
 use Rattle.cabinet_documents.specs.Denotes.{tagged_value}
 use Rattle.cabinet_documents.specs.Fitted.{IsFitted, AreFitted, ArePairsFitted, AreFirstFit}
-use Rattle.cabinet_documents.specs.Fitted.IsFitted.{leaf_is_fitted, nothing_is_fitted, some_is_fitted, list_is_fitted, ordered_is_fitted, hashed_is_fitted}
+use Rattle.cabinet_documents.specs.Fitted.IsFitted.{leaf_is_fitted, nothing_is_fitted, some_is_fitted, list_is_fitted, ordered_is_fitted, hashed_is_fitted, kept_is_fitted}
 use Rattle.cabinet_documents.specs.Fitted.AreFitted.{none_are_fitted, more_are_fitted}
 use Rattle.cabinet_documents.specs.Fitted.ArePairsFitted.{no_pairs_are_fitted, more_pairs_are_fitted}
 use Rattle.cabinet_documents.specs.Node.{node_names}
@@ -19,9 +19,8 @@ use Rattle.cabinet_documents.specs.Walk.Walks.{walks}
 use Rattle.cabinet_documents.specs.Walk.WalkAll.{walk_none, walk_more}
 use Rattle.cabinet_documents.proofs.CanonicalTables.{IsTableFirst, TableFirst}
 use Rattle.cabinet_documents.proofs.Heights.{Suited, AllSuited, suited_append, suited_split}
-use Rattle.cabinet_documents.proofs.Nodes.{NodeValue, truth_value, number_value, text_value, shared_value, none_value, some_value, list_value, ordered_value, hashed_value, NodeValues, no_nodes, more_nodes, PairValues, no_pairs, more_pairs}
-use Rattle.cabinet_documents.proofs.Peaks.{no_walk, absent_parts}
-use Rattle.cabinet_documents.proofs.Places.{Place, table_here, absent_here, text_behind, Spot, part_of, parts_at, lifts, Pays, pays_truth, pays_number, pays_text, pays_shared, pays_option, pays_list, pays_ordered, pays_hashed, pays_absent, Follows, passes, pays, truth_is, number_is, text_is, behind_is, none_is, some_is, nodes_follow, empty_is, total_is, leaf_follows, inner_follows, no_child_is, entry_follows, no_items_is, items_follow, pair_follows, Leads, leads_nowhere, leads_absent, leads_plain, leads_claimed, leads_counted, led}
+use Rattle.cabinet_documents.proofs.Nodes.{NodeValue, truth_value, number_value, text_value, shared_value, none_value, some_value, list_value, ordered_value, hashed_value, kept_value, NodeValues, no_nodes, more_nodes, PairValues, no_pairs, more_pairs}
+use Rattle.cabinet_documents.proofs.Places.{Place, table_here, text_behind, Spot, part_of, parts_at, Pays, pays_truth, pays_number, pays_text, pays_shared, pays_option, pays_list, pays_ordered, pays_hashed, pays_kept, Follows, passes, pays, truth_is, number_is, text_is, behind_is, none_is, some_is, nodes_follow, empty_is, total_is, leaf_follows, inner_follows, no_child_is, entry_follows, no_items_is, items_follow, no_entries_is, entries_second, numbers_follow, entry_number_is, pairs_follow, pair_follows, Leads, leads_nowhere, leads_plain, leads_claimed, leads_counted, led}
 use Rattle.cabinet_documents.proofs.Stops.{Each, each_front, each_flat, flat}
 
 -- ---- the values below the tag of hashed maps, which is 7
@@ -33,10 +32,6 @@ payload_items vs = no_values
 abbrev IsTagFit : ℕ → Values → Type 0
 IsTagFit (suc (suc (suc (suc (suc (suc (suc zero))))))) vs = AreFirstFit (payload_items vs)
 IsTagFit tag vs = ⊤
-
-low_tag_fit : (tag : ℕ) (vs : Values) → lifts tag ≡ 0 → IsTagFit tag vs
-low_tag_fit (suc (suc (suc (suc (suc (suc (suc zero))))))) vs z = absurd (cc)
-low_tag_fit tag vs z = tt
 
 members_suited : (v : Value) → Suited IsTagFit v → AllSuited IsTagFit (members v)
 members_suited (group vs) h = h
@@ -91,7 +86,7 @@ paid_fit v pays_option h = tt
 paid_fit v pays_list h = tt
 paid_fit v pays_ordered h = tt
 paid_fit v pays_hashed h = h
-paid_fit v (pays_absent {tag = tag} z) h = low_tag_fit tag (more_values v no_values) z
+paid_fit v pays_kept h = tt
 
 total_is_same : (v : Value) (b : Bool) (w : Value) → cond b (Some v) None ≡ Some w → w ≡ v
 total_is_same v true w m = cc
@@ -111,6 +106,16 @@ module _ (bytes : List ℕ) where
       let two : ◌≡◌ (Some u) (Some v) = sym n ∙ k in
       let is : u ≡ v = cc in
       subst (Suited IsTagFit) is h
+
+  made_second : {i j : Place} {from to : ℕ} {l : Label} {qs : List Spot} {vs : Values} {v : Value}
+      → l ≡ second → qs ≡ record { place = i; pos = from } ∷ (record { place = j; pos = to } ∷ []) → AllFit qs vs → made l vs ≡ Some v → Suited IsTagFit v
+  unfolding made
+  made_second e f (none_fit g) m = absurd (cc)
+  made_second {j = j} {to = to} {vs = vs} {v = v} e f (more_fit {v = u} g first fs) m =
+      let o = one j to (cc) fs in
+      let n : made second (more_values u (more_values o.value no_values)) ≡ Some v = subst (λ x. made second x ≡ Some v) (g ∙ ap (more_values u) o.values_are) (subst (λ x. made x vs ≡ Some v) e m) in
+      let is : o.value ≡ v = cc in
+      subst (Suited IsTagFit) is (o.fit).suited
 
   made_fit : (k : Place) {l : Label} {qs : List Spot} {vs : Values} {v : Value} → Follows bytes k l qs → AllFit qs vs → made l vs ≡ Some v → Suited IsTagFit v
   unfolding made
@@ -151,6 +156,11 @@ module _ (bytes : List ℕ) where
   made_fit k (entry_follows e f) fs m = made_whole e fs m
   made_fit k (no_items_is e f) fs m = made_whole e fs m
   made_fit k (items_follow controls are count e f) fs m = made_whole e fs m
+  made_fit k (no_entries_is e f) fs m = made_whole e fs m
+  made_fit k (entries_second small e f) fs m = made_second e f fs m
+  made_fit k (numbers_follow controls are count e f) fs m = made_whole e fs m
+  made_fit k (entry_number_is {n = n} low e f) fs m = made_leaf {u = natural n} e f fs m refl tt
+  made_fit k (pairs_follow pos e f) fs m = made_whole e fs m
   made_fit k (pair_follows key value e f) fs m = made_whole e fs m
 
   own_fit : (k : Place) (pos : ℕ) (v : Value) → IsTableFirst (part_of k pos) v → OwnFit k v
@@ -167,18 +177,16 @@ module _ (bytes : List ℕ) where
   case_fit : (k : Place) (pos : ℕ) {p : Part} {v : Value} {vs : Values}
       → p ≡ part_of k pos
       → value_of (content_of node_names bytes p) vs ≡ Some v
-      → (k ≡ absent_here → ⊥)
       → ((qs : List Spot) → parts_of (content_of node_names bytes p) ≡ parts_at qs → AllFit qs vs)
       → Leads bytes k (content_of node_names bytes (part_of k pos))
       → Suited IsTagFit v
-  case_fit k pos {v = v} {vs = vs} is m present on (leads_nowhere f) =
+  case_fit k pos {v = v} {vs = vs} is m on (leads_nowhere f) =
       let n : value_of illegal vs ≡ Some v = subst (λ x. value_of x vs ≡ Some v) (ap (content_of node_names bytes) is ∙ f) m in absurd (cc)
-  case_fit k pos is m present on leads_absent = absurd (present refl)
-  case_fit k pos {v = v} {vs = vs} is m present on (leads_plain f fs) =
+  case_fit k pos {v = v} {vs = vs} is m on (leads_plain f fs) =
       let c = ap (content_of node_names bytes) is ∙ f in made_fit k fs (on _ (ap parts_of c)) (subst (λ x. value_of x vs ≡ Some v) c m)
-  case_fit k pos {v = v} {vs = vs} is m present on (leads_claimed f fs b) =
+  case_fit k pos {v = v} {vs = vs} is m on (leads_claimed f fs b) =
       let c = ap (content_of node_names bytes) is ∙ f in made_fit k fs (on _ (ap parts_of c)) (subst (λ x. value_of x vs ≡ Some v) c m)
-  case_fit k pos {v = v} {vs = vs} is m present on (leads_counted {t = t} {len = len} f) =
+  case_fit k pos {v = v} {vs = vs} is m on (leads_counted {t = t} {len = len} f) =
       let c = ap (content_of node_names bytes) is ∙ f in
       counted_fit t len (on (record { place = text_behind len; pos = t } ∷ []) (ap parts_of c)) (subst (λ x. value_of x vs ≡ Some v) c m)
 
@@ -191,7 +199,6 @@ module _ (bytes : List ℕ) where
         record {
           own = own_fit k pos v (subst (λ x. IsTableFirst x v) is both.0);
           suited = case_fit k pos is m
-              (λ f. no_walk bytes (pos + 0) all (ap (λ x. parts_of (content_of node_names bytes x)) (is ∙ ap (λ x. part_of x pos) f) ∙ absent_parts bytes pos))
               (λ qs f. all_fit all qs f below)
               (led bytes k pos);
         }
@@ -217,6 +224,7 @@ module _ (bytes : List ℕ) where
     fitted (list_value {vs = vs} e ns small) h = let k : ⊤ × (AllSuited IsTagFit vs × ⊤) = subst (Suited IsTagFit) e h in list_is_fitted e (all_fitted ns k.1.0)
     fitted (ordered_value {vs = vs} e ps small) h = let k : ⊤ × (AllSuited IsTagFit vs × ⊤) = subst (Suited IsTagFit) e h in ordered_is_fitted e (pairs_fitted ps k.1.0)
     fitted (hashed_value {vs = vs} e ps small) h = let k : AreFirstFit vs × (AllSuited IsTagFit vs × ⊤) = subst (Suited IsTagFit) e h in hashed_is_fitted e k.0 (pairs_fitted ps k.1.0)
+    fitted (kept_value {vs = vs} e ps small) h = let k : ⊤ × (AllSuited IsTagFit vs × ⊤) = subst (Suited IsTagFit) e h in kept_is_fitted e (pairs_fitted ps k.1.0)
 
     all_fitted : {vs : Values} → NodeValues bytes vs → AllSuited IsTagFit vs → AreFitted vs
     all_fitted (no_nodes e) h = none_are_fitted e

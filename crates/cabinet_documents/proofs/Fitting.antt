@@ -45,6 +45,15 @@ fitted_hashed (ordered_is_fitted {vs = us} e h) f = absurd (cc)
 fitted_hashed {vs = vs} (hashed_is_fitted {vs = us} e g h) f = let same : us ≡ vs = cc in (subst (λ x. AreFirstFit x) same g, subst ArePairsFitted same h)
 fitted_hashed (kept_is_fitted {vs = us} e h) f = absurd (cc)
 
+pub fitted_kept : {v : Value} {vs : Values} → IsFitted v → v ≡ tagged_value 8 (group vs) → ArePairsFitted vs
+fitted_kept (leaf_is_fitted {w = u} {tag = tag} e low) f = let same : tag ≡ 8 = cc in absurd (omega (arith, same, low))
+fitted_kept (nothing_is_fitted e) f = absurd (cc)
+fitted_kept (some_is_fitted {w = u} e h) f = absurd (cc)
+fitted_kept (list_is_fitted {vs = us} e h) f = absurd (cc)
+fitted_kept (ordered_is_fitted {vs = us} e h) f = absurd (cc)
+fitted_kept (hashed_is_fitted {vs = us} e g h) f = absurd (cc)
+fitted_kept {vs = vs} (kept_is_fitted {vs = us} e h) f = let same : us ≡ vs = cc in subst ArePairsFitted same h
+
 pub fitted_more : {v : Value} {vs ws : Values} → AreFitted ws → ws ≡ more_values v vs → IsFitted v × AreFitted vs
 fitted_more (none_are_fitted e) f = absurd (cc)
 fitted_more {v = v} {vs = vs} (more_are_fitted {v = u} {vs = us} e h hs) f =

@@ -1,30 +1,34 @@
 -- That the tables in what holds are sound, and that they stay so where a part's own bytes and those that it claims stay.
-use Rattle.std.proofs.Common.{◌≡◌, ℕ, zero, suc, ◌+◌, ◌-◌, ◌*◌, Bool, true, false, List, [], ◌∷◌, ◌++◌, take, drop, slice_index, map, Some, refl, sym, ap, ap₂, subst, ◌∙◌}
+use Rattle.std.proofs.Common.{◌≡◌, ℕ, zero, suc, ◌+◌, ◌-◌, ◌*◌, Bool, true, List, [], ◌∷◌, ◌++◌, drop, slice_index, Some, refl, sym, ap, ap₂, subst, ◌∙◌, ◌⊎◌, inl, inr}
 use Rattle.std.specs.Prelude.{⊤}
 use Rattle.archive_forms_values.specs.ShapeLayout.Bytes.{window, word_at}
-use Rattle.archive_forms_values.specs.ShapeLayout.Shape.{Shape, Pointee, size_of}
-use Rattle.archive_forms_values.specs.ShapeLayout.Shape.Shape.{table}
+use Rattle.archive_forms_values.specs.ShapeLayout.Shape.{Shape, Pointee}
+use Rattle.archive_forms_values.specs.ShapeLayout.Shape.Shape.{table, index_map}
+use Rattle.archive_forms_values.specs.ShapeLayout.Shape.Pointee.{slice}
 use Rattle.archive_forms_values.specs.ShapeLayout.Value.{Value, Values}
 use Rattle.archive_forms_values.specs.ShapeLayout.Value.Value.{string, group, chosen}
 use Rattle.archive_forms_values.specs.ShapeLayout.Value.Values.{no_values, more_values}
-use Rattle.archive_forms_values.specs.ShapeLayout.Content.{Names, Part, Label, Span, content_of, made, members, item, IsLegal, control_count, item_size, words_of, link_node_size, shape_content, child_content, place_content}
+use Rattle.archive_forms_values.specs.ShapeLayout.Content.{Names, Part, Label, Span, Item, place, content_of, made, members, item, IsLegal, control_count, item_size, words_of, link_node_size, shape_content, child_content, place_content}
 use Rattle.archive_forms_values.specs.ShapeLayout.Content.Part.{at, behind, node, child, entry, buckets, place_at}
-use Rattle.archive_forms_values.specs.ShapeLayout.Content.Label.{same}
+use Rattle.archive_forms_values.specs.ShapeLayout.Content.Label.{same, second}
 use Rattle.archive_forms_values.specs.ShapeLayout.Content.Content.{plain, claimed, counting}
 use Rattle.archive_forms_values.specs.ShapeLayout.Holds.{Region, region_of, Visit, OpenShared, Holds, HoldAll}
 use Rattle.archive_forms_values.specs.ShapeLayout.Holds.Holds.{holds_plain, holds_claimed, holds_first, holds_later, holds_back}
 use Rattle.archive_forms_values.specs.ShapeLayout.Holds.HoldAll.{holds_none, holds_more}
 use Rattle.archive_forms_values.specs.ShapeLayout.Laws.{OwnAgrees, RegionsAgree}
-use Rattle.archive_forms_values.specs.ShapeLayout.Path.{change_in, put_at, through}
+use Rattle.archive_forms_values.specs.ShapeLayout.Path.{change_in, put_at, through, value_in}
 use Rattle.archive_forms_values.specs.ShapeCanonical.Seen.{seen_bytes_of, first_seen_bytes}
 use Rattle.archive_forms_values.specs.ShapeCanonical.Laws.{IsBehindKey}
-use Rattle.archive_forms_values.proofs.ShapeLayout.Edits.{not_claimed}
+use Rattle.archive_forms_values.specs.Tuples.{tuple2}
 use Rattle.archive_forms_values.proofs.ShapeLayout.Framed.{AllOwn, own_more, Settled, plain_own, claimed_own, settled, one_region, stable_plain, stable_claimed, RegionsAgree-append, frame}
 use Rattle.archive_forms_values.proofs.ShapeLayout.Paths.{path_is}
-use Rattle.archive_forms_values.proofs.ShapeLayout.Places.{Laid, header_size, at_laid, pointee_laid, behind_span, node_laid, node_high, buckets_laid}
+use Rattle.archive_forms_values.proofs.ShapeLayout.Places.{Laid, pointee_laid, behind_span, node_laid, node_high, buckets_laid}
 use Rattle.archive_forms_values.proofs.ShapeCanonical.Kept.{plain_seen, counting_seen, span_seen}
-use Rattle.cabinet_documents.specs.Table.{Table, Findable, entry_of, full_from, hashed_slots, hashed_at, table_of, item_keys, key_of}
-use Rattle.cabinet_documents.proofs.TableSound.{IsTableSound, TableCase, is_table, is_none, table_case, TableRead, reads_none, reads_buckets, table_read, no_table, led_table}
+use Rattle.cabinet_documents.specs.Table.{Table, Findable, hashed_at, kept_at, table_of, item_keys, key_of}
+use Rattle.cabinet_documents.proofs.EntryNumbers.{first_numbers, numbers_first, same_numbers}
+use Rattle.cabinet_documents.proofs.TableSound.{IsTableSound, TableCase, is_table, is_index, is_none, table_case, BucketsRead, reads_none, reads_buckets, table_direct, table_read, index_direct, index_read, no_table, led_table}
+use Rattle.cabinet_documents.proofs.Tables.{hashed_table, kept_table, numbers_at, kept_read}
+use Rattle.cabinet_documents.proofs.Walkable.{IsDirect}
 
 abbrev mutual
   -- each table in place is sound; none lies behind a counted pointer
@@ -45,13 +49,15 @@ abbrev mutual
 
 -- what claims bytes is no table
 pub claimed_sound : (names : Names) (bytes : List ℕ) (p : Part) (v : Value) {s : Span} {l : Label} {ps : List Part} → content_of names bytes p ≡ claimed s l ps → IsTableSound bytes p v
-claimed_sound names bytes p v {s = s} {l = l} {ps = ps} e = by_case (table_case p)
+claimed_sound names bytes p v e = by_case (table_case p)
   where
+    not_direct : {q : Part} → p ≡ q → IsDirect (content_of names bytes q) → IsTableSound bytes p v
+    not_direct f d = absurd (subst IsDirect (ap (content_of names bytes) (sym f) ∙ e) d)
+
     by_case : TableCase p → IsTableSound bytes p v
     by_case (is_none t same_sound) = t bytes v
-    by_case (is_table pos r f) =
-        let there : content_of names bytes (at pos (table r)) ≡ claimed s l ps = ap (content_of names bytes) (sym f) ∙ e in
-        absurd (not_claimed (subst (Laid (pos + header_size (table r)) (pos + size_of (table r)) false) there (at_laid names pos (window bytes pos (size_of (table r))) (table r))))
+    by_case (is_table pos r f) = not_direct f (table_direct bytes names pos r)
+    by_case (is_index pos k r f) = not_direct f (index_direct bytes names pos k r)
 
 module _ (names : Names) (bytes : List ℕ) where
   pub record PlainTables (level : ℕ) (inside : List OpenShared) (p : Part) (l : Label) (ps : List Part) (v : Value) (rs : List Region) (before after : List Visit) : Type 0 where
@@ -117,45 +123,85 @@ keys_behind (i ∷ (zero ∷ path)) new v h = absurd h
 keys_behind (i ∷ (suc j ∷ path)) new (group vs) h = sym (keys_stay i j path new vs)
 keys_behind (i ∷ (suc j ∷ path)) new v h = refl
 
-pub same_path : (vs : Values) (i : ℕ) (inner path : List ℕ) → through same vs i inner ≡ Some path → inner ≡ path
-same_path vs zero inner path e = path_is e
-same_path vs (suc i) inner path e = absurd (cc)
+-- ---- a step to the buckets of a table, or to the entries behind its numbers
+
+abbrev pub IsToItems : Label → Type 0
+IsToItems l = (l ≡ same) ⊎ (l ≡ second)
+
+-- keeps the path
+pub items_path : (l : Label) (vs : Values) (i : ℕ) (inner path : List ℕ) → IsToItems l → through l vs i inner ≡ Some path → inner ≡ path
+items_path l vs i inner path (inl e) t = by_index i (subst (λ x. through x vs i inner ≡ Some path) e t)
+  where
+    by_index : (j : ℕ) → through same vs j inner ≡ Some path → inner ≡ path
+    by_index zero f = path_is f
+    by_index (suc j) f = absurd (cc)
+items_path l vs i inner path (inr e) t = by_index i (subst (λ x. through x vs i inner ≡ Some path) e t)
+  where
+    by_index : (j : ℕ) → through second vs j inner ≡ Some path → inner ≡ path
+    by_index zero f = absurd (cc)
+    by_index (suc zero) f = path_is f
+    by_index (suc (suc j)) f = absurd (cc)
+
+-- and the numbers
+pub numbers_stay : (f : Value → Value) (l : Label) (us vs : Values) (i : ℕ) (inner path : List ℕ) → l ≡ second → through l vs i inner ≡ Some path → value_in 0 us ≡ value_in 0 (change_in i f us)
+numbers_stay f l us vs i inner path e t = by_index us i (subst (λ x. through x vs i inner ≡ Some path) e t)
+  where
+    by_index : (us : Values) (j : ℕ) → through second vs j inner ≡ Some path → value_in 0 us ≡ value_in 0 (change_in j f us)
+    by_index us zero g = absurd (cc)
+    by_index no_values (suc j) g = refl
+    by_index (more_values u us) (suc j) g = refl
 
 -- ---- other bytes
 
-abbrev table_from : ℕ → List (List ℕ) → List ℕ → Table
-table_from cap ks controls = let slots = hashed_slots (full_from 0 (take cap controls)) ks in record { capacity = cap; controls = controls; slots = slots; entries = map entry_of slots }
-
 module _ (bytes others : List ℕ) (names : Names) where
-  module _ (pos : ℕ) (s : Shape) (v w : Value) {l : Label} {ps : List Part} (seen : first_seen_bytes bytes ps ≡ first_seen_bytes others ps) where
-    same_table : TableRead bytes pos l ps s → TableRead others pos l ps s → ((target len cap : ℕ) → l ≡ same → ps ≡ buckets target len cap (item s) ∷ [] → item_keys (members v) ≡ item_keys (members w))
-        → table_of hashed_at bytes pos v ≡ table_of hashed_at others pos w
-    same_table (reads_none e f z) (reads_none e' f' z') keys = no_table bytes hashed_at pos v z ∙ sym (no_table others hashed_at pos w z')
-    same_table (reads_none e f z) (reads_buckets e' f' some leads) keys = absurd (cc)
-    same_table (reads_buckets e f some leads) (reads_none e' f' z') keys = absurd (cc)
-    same_table (reads_buckets {target = t} {len = n} e f some leads) (reads_buckets {target = t'} {len = n'} e' f' some' leads') keys =
-        let cap = word_at bytes (pos + 8) in
-        let places : cap ≡ word_at others (pos + 8) = cc in
-        let targets : t ≡ t' = cc in
-        let controls : window bytes t (control_count cap) ≡ window others t (control_count cap) = subst (λ x. first_seen_bytes bytes x ≡ first_seen_bytes others x) f seen in
-        led_table bytes hashed_at pos v some leads
-        ∙ ap₂ (table_from cap) (keys t n cap e f) controls
-        ∙ ap₂ (λ m x. hashed_at others m (item_keys (members w)) x) places targets
-        ∙ sym (led_table others hashed_at pos w some' leads')
+  -- tables to which the same pointer leads
+  same_table : (kind : List ℕ → ℕ → List (List ℕ) → ℕ → Table) (pos : ℕ) (v w : Value) {last : Label} {it jt : Item} {rest more : List Part} {l : Label} {ps : List Part}
+      → BucketsRead bytes pos last it rest l ps → BucketsRead others pos last jt more l ps
+      → ((target len cap : ℕ) → l ≡ last → ps ≡ buckets target len cap it ∷ rest → kind bytes cap (item_keys (members v)) target ≡ kind others cap (item_keys (members w)) target)
+      → table_of kind bytes pos v ≡ table_of kind others pos w
+  same_table kind pos v w (reads_none e f z) (reads_none e' f' z') alike = no_table bytes kind pos v z ∙ sym (no_table others kind pos w z')
+  same_table kind pos v w (reads_none e f z) (reads_buckets e' f' some leads) alike = absurd (cc)
+  same_table kind pos v w (reads_buckets e f some leads) (reads_none e' f' z') alike = absurd (cc)
+  same_table kind pos v w (reads_buckets {target = t} {len = n} e f some leads) (reads_buckets {target = t'} {len = n'} e' f' some' leads') alike =
+      let places : word_at bytes (pos + 8) ≡ word_at others (pos + 8) = cc in
+      let targets : t ≡ t' = cc in
+      led_table bytes kind pos v some leads ∙ alike t n (word_at bytes (pos + 8)) e f ∙ ap₂ (λ m x. kind others m (item_keys (members w)) x) places targets ∙ sym (led_table others kind pos w some' leads')
 
-  -- a table with the same content, the same controls and the same keys
-  pub table_still : (p : Part) (v w : Value) {l : Label} {ps : List Part} → content_of names bytes p ≡ plain l ps → content_of names others p ≡ plain l ps → first_seen_bytes bytes ps ≡ first_seen_bytes others ps
-      → ((pos : ℕ) (s : Shape) (target len cap : ℕ) → p ≡ at pos (table s) → l ≡ same → ps ≡ buckets target len cap (item s) ∷ [] → item_keys (members v) ≡ item_keys (members w))
-      → IsTableSound bytes p v → IsTableSound others p w
-  table_still p v w {l = l} {ps = ps} e f seen keys h = by_case (table_case p)
+  -- a table with the same content, the same controls, the same numbers and the same keys
+  module _ (p : Part) (v w : Value) {l : Label} {ps : List Part}
+      (e : content_of names bytes p ≡ plain l ps) (f : content_of names others p ≡ plain l ps)
+      (seen : first_seen_bytes bytes ps ≡ first_seen_bytes others ps)
+      (numbers : l ≡ second → first_numbers bytes ps ≡ first_numbers others ps)
+      (keys : (pos : ℕ) (s : Shape) (target len cap : ℕ) (it : Item) (rest : List Part) → p ≡ at pos s → IsToItems l → ps ≡ buckets target len cap it ∷ rest → item_keys (members v) ≡ item_keys (members w))
     where
-      by_case : TableCase p → IsTableSound others p w
-      by_case (is_none t same_sound) = t others w
-      by_case (is_table pos s g) =
-          let was = table_read bytes names pos s (ap (content_of names bytes) (sym g) ∙ e) in
-          let is = table_read others names pos s (ap (content_of names others) (sym g) ∙ f) in
-          let here = subst (λ x. IsTableSound bytes x v) g h in
-          subst (λ x. IsTableSound others x w) (sym g) (subst Findable (same_table pos s v w seen was is (λ target len cap a b. keys pos s target len cap g a b)) here)
+      controls : (target len cap : ℕ) (it : Item) (rest : List Part) → ps ≡ buckets target len cap it ∷ rest → window bytes target (control_count cap) ≡ window others target (control_count cap)
+      controls target len cap it rest is = subst (λ x. first_seen_bytes bytes x ≡ first_seen_bytes others x) is seen
+
+      hashed_still : (pos : ℕ) (s : Shape) → p ≡ at pos (table s) → table_of hashed_at bytes pos v ≡ table_of hashed_at others pos w
+      hashed_still pos s g =
+          same_table hashed_at pos v w (table_read bytes names pos s (ap (content_of names bytes) (sym g) ∙ e)) (table_read others names pos s (ap (content_of names others) (sym g) ∙ f))
+          (λ target len cap label is. ap₂ (hashed_table cap) (controls target len cap (item s) [] is) (keys pos (table s) target len cap (item s) [] g (inl label) is))
+
+      kept_still : (pos : ℕ) (k s : Shape) → p ≡ at pos (index_map k s) → table_of kept_at bytes pos v ≡ table_of kept_at others pos w
+      kept_still pos k s g =
+          let was = index_read bytes names pos k s (ap (content_of names bytes) (sym g) ∙ e) in
+          let is = index_read others names pos k s (ap (content_of names others) (sym g) ∙ f) in
+          let n = word_at bytes (pos + 4) in
+          let entries = behind was.start (slice (tuple2 k s)) n ∷ [] in
+          same_table kept_at pos v w was.read is.read
+          (λ target len cap label parts.
+          let ns : numbers_at bytes target cap ≡ numbers_at others target cap = subst (λ x. first_numbers bytes x ≡ first_numbers others x) parts (numbers label) in
+          let cs = controls target len cap (place n) entries parts in
+          let ks = keys pos (index_map k s) target len cap (place n) entries g (inr label) parts in
+          kept_read bytes cap (item_keys (members v)) target ∙ (λ i. kept_table cap (cs i) (ns i) (ks i)) ∙ sym (kept_read others cap (item_keys (members w)) target))
+
+      pub table_still : IsTableSound bytes p v → IsTableSound others p w
+      table_still h = by_case (table_case p)
+        where
+          by_case : TableCase p → IsTableSound others p w
+          by_case (is_none t same_sound) = t others w
+          by_case (is_table pos s g) = subst (λ x. IsTableSound others x w) (sym g) (subst Findable (hashed_still pos s g) (subst (λ x. IsTableSound bytes x v) g h))
+          by_case (is_index pos k s g) = subst (λ x. IsTableSound others x w) (sym g) (subst Findable (kept_still pos k s g) (subst (λ x. IsTableSound bytes x v) g h))
 
   not_counting : {low high : ℕ} {cyclic : Bool} {t : ℕ} {q : Pointee} {len : ℕ} → Laid low high true (counting cyclic t q len) → ⊥
   not_counting h = elim h [ ]
@@ -190,7 +236,12 @@ module _ (bytes others : List ℕ) (names : Names) where
         let parts = plain_own bytes others (subst (Settled bytes others) e (settled bytes others names p own)) in
         let alike = stable_plain bytes others names p own e in
         let d = framed_all parts regions all n.1 in
-        record { holds = holds_plain alike legal d.all m; sound = (table_still p v v e alike d.seen_bytes (λ pos s target len cap a b c. refl) n.0, d.sound); seen_bytes = plain_seen bytes others names p e }
+        let numbers = same_numbers bytes others ps vs vs (numbers_first names bytes all) (numbers_first names others d.all) refl in
+        record {
+          holds = holds_plain alike legal d.all m;
+          sound = (table_still p v v e alike d.seen_bytes (λ x. numbers) (λ pos s target len cap it rest a b c. refl) n.0, d.sound);
+          seen_bytes = plain_seen bytes others names p e;
+        }
     framed own regions (holds_claimed {level = level} {p = p} {within = within} {s = s} {l = l} {ps = ps} {vs = vs} e legal all m r) n =
         let split = RegionsAgree-append bytes others within (region_of s level ∷ []) (subst (RegionsAgree bytes others) r regions) in
         let here = one_region bytes others s level split.1 in

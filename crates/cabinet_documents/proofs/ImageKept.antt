@@ -73,7 +73,7 @@ module _ (fit : Fit) (bytes : List ℕ) (pos : ℕ) (v : Value) (regions : List 
       let field = fixed_field s fixed in
       let filled = fixed_filled others start s (plain (leaf_label new) []) fixed in
       canonical_edit_of_leaf_law fit node_names bytes others 0 pos node_shape v regions visits path start s old new l (leaf_label new) canonical stands
-      (avoids bytes canonical.root.holds stands node_behind pos refl way)
+      (avoids bytes stands node_behind pos refl way)
       written.spares
       was
       is
@@ -92,7 +92,7 @@ module _ (fit : Fit) (bytes : List ℕ) (pos : ℕ) (v : Value) (regions : List 
       let clean = clean_at fit node_names bytes 0 canonical.root.holds canonical.canonical refl stands in
       let was_filled : IsFilled bytes (at start text_shape) (plain (written s) []) = subst (IsFilled bytes (at start text_shape)) was clean.filled in
       canonical_edit_of_leaf_law fit node_names bytes others 0 pos node_shape v regions visits path start text_shape old (string t) (written s) (written t) canonical stands
-      (avoids bytes canonical.root.holds stands node_behind pos refl way)
+      (avoids bytes stands node_behind pos refl way)
       written_there.spares
       was
       is
@@ -110,7 +110,7 @@ module _ (fit : Fit) (bytes : List ℕ) (pos : ℕ) (v : Value) (regions : List 
       let others : List ℕ = overwrite bytes start t in
       subst (λ u. CanonicalArchive fit node_names others 0 pos node_shape (put_at path (string u) v) regions visits) written.stands
       (canonical_edit_of_text_law fit node_names bytes others 0 pos node_shape v regions visits path start (length t) old canonical stands
-      (avoids bytes canonical.root.holds stands node_behind pos refl way)
+      (avoids bytes stands node_behind pos refl way)
       written.spares
       (subst IsUtf8 (sym written.stands) utf8)
       (overwritten_bytes bytes t start canonical.bytes_are (text_bytes t utf8)))

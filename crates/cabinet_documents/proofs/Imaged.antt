@@ -24,7 +24,6 @@ use Rattle.cabinet_documents.specs.SpellingLaws.{WrittenIsImage, OneImage}
 use Rattle.cabinet_documents.proofs.Levels.{node_spells_law}
 use Rattle.cabinet_documents.proofs.Values.{text_keys, text_keys_differ, node_agrees, one_value_law}
 use Rattle.cabinet_documents.proofs.SpellingDenoted.{denoted}
-use Rattle.cabinet_documents.proofs.Layouts.{fitting_has_layout_law}
 
 -- ---- where regions begin
 
@@ -80,7 +79,6 @@ root_low t bytes f e =
 
 pub written_is_image_law : WrittenIsImage
 written_is_image_law t bytes document f e =
-    let layout = fitting_has_layout_law t initial f.0.0 in
     let fit = first_fit text_hash in
     let agrees = node_agrees t in
     let written = is_written fit node_shape KnowsNode node_spelling t node_names text_keys bytes (node_spells_law fit) refl (agrees.suits document.0) text_keys_differ f e in
@@ -88,7 +86,7 @@ written_is_image_law t bytes document f e =
     let v = node_spelling.value t initial in
     let root = archive.canonical.root in
     let pos = root_position (length bytes) node_shape in
-    let denotes = denoted t v layout document.0 (written.plain ∙ agrees.plain) in
+    let denotes = denoted t v document.0 (written.plain ∙ agrees.plain) in
     let tables = canonical_tables bytes v archive.regions archive.visits archive.canonical t denotes document in
     let walk = sound_walk bytes t v archive.regions archive.visits root denotes document tables in
     let low = root_low t bytes f e in
@@ -110,12 +108,12 @@ written_is_image_law t bytes document f e =
     }
 
 pub one_image_law : OneImage
-one_image_law t bytes others layout i k =
+one_image_law t bytes others i k =
     let a = i.accepted in
     let b = k.accepted in
     let first = canonical_fitted bytes a.value a.regions a.visits i.canonical in
     let second = canonical_fitted others b.value b.regions b.visits k.canonical in
-    let same : erased a.value ≡ erased b.value = one_value_law a.value t layout a.document a.denotes first ∙ sym (one_value_law b.value t layout a.document b.denotes second) in
+    let same : erased a.value ≡ erased b.value = one_value_law a.value t a.document a.denotes first ∙ sym (one_value_law b.value t a.document b.denotes second) in
     written_once_law (first_fit text_hash) node_names bytes others node_shape a.value b.value
     (record { regions = a.regions; visits = a.visits; canonical = i.canonical })
     (record { regions = b.regions; visits = b.visits; canonical = k.canonical })

@@ -6,7 +6,7 @@ use Rattle.archive_forms_values.specs.ShapeLayout.Value.{Value, Values}
 use Rattle.archive_forms_values.specs.ShapeLayout.Value.Value.{string, group, chosen, counted}
 use Rattle.archive_forms_values.specs.ShapeLayout.Value.Values.{no_values}
 use Rattle.archive_forms_values.specs.ShapeLayout.Path.{value_in}
-use Rattle.cabinet_text_grammar.specs.Keys.{ordered, hashed}
+use Rattle.cabinet_text_grammar.specs.Keys.{ordered, hashed, kept}
 use Rattle.cabinet_text_grammar.specs.Tree.{Leaf, truth, number, text, Tree, Trees, Pairs, leaf, shared, nothing, just, list, map, no_trees, IsLegal, AreLegal}
 use Rattle.cabinet_text_grammar.specs.Tree as document
 use Rattle.cabinet_text_grammar.specs.Path.{Step, node_at, node_in, node_by}
@@ -17,9 +17,9 @@ use Rattle.cabinet_documents.specs.Denotes.DenotePairs.{denote_no_pairs, denote_
 use Rattle.cabinet_documents.specs.Order.{arranged}
 use Rattle.cabinet_documents.specs.Laws.{payload_of}
 use Rattle.cabinet_documents.proofs.ByKey.{node_here, node_past, AreDistinct}
-use Rattle.cabinet_documents.proofs.Changing.{of_some, of_list, of_ordered, of_hashed}
+use Rattle.cabinet_documents.proofs.Changing.{of_some, of_list, of_ordered, of_hashed, of_kept}
 use Rattle.cabinet_documents.proofs.Denoted.{one_tree}
-use Rattle.cabinet_documents.proofs.Nodes.{NodeValue, truth_value, number_value, text_value, shared_value, none_value, some_value, list_value, ordered_value, hashed_value, NodeValues, no_nodes, more_nodes, PairValues, no_pairs, more_pairs}
+use Rattle.cabinet_documents.proofs.Nodes.{NodeValue, truth_value, number_value, text_value, shared_value, none_value, some_value, list_value, ordered_value, hashed_value, kept_value, NodeValues, no_nodes, more_nodes, PairValues, no_pairs, more_pairs}
 
 abbrev pub leaf_tag : Leaf → ℕ
 leaf_tag (truth b) = 0
@@ -37,6 +37,7 @@ pub data Known (bytes : List ℕ) (v : Value) (t : Tree) : Type 0 where
   known_list : {vs : Values} {ts : Trees} → v ≡ tagged_value 5 (group vs) → t ≡ list ts → NodeValues bytes vs → DenoteAll vs ts → Known bytes v t
   known_ordered : {vs : Values} {ps : Pairs} → v ≡ tagged_value 6 (group vs) → t ≡ map ordered ps → PairValues bytes vs → DenotePairs vs ps → Known bytes v t
   known_hashed : {vs : Values} {ps : Pairs} → v ≡ tagged_value 7 (group vs) → t ≡ map hashed (arranged ps) → PairValues bytes vs → DenotePairs vs ps → Known bytes v t
+  known_kept : {vs : Values} {ps : Pairs} → v ≡ tagged_value 8 (group vs) → t ≡ map kept ps → PairValues bytes vs → DenotePairs vs ps → Known bytes v t
 
 pub known : {bytes : List ℕ} {v : Value} {t : Tree} → NodeValue bytes v → Denotes v t → Known bytes v t
 known (truth_value {b = b} e) d = known_leaf (truth b) e (one_tree d (denotes_truth e refl))
@@ -48,6 +49,7 @@ known (some_value e n) d = let s = of_some e d in known_some e s.is n s.denotes
 known (list_value e ns small) d = let s = of_list e d in known_list e s.is ns s.denotes
 known (ordered_value e ps small) d = let s = of_ordered e d in known_ordered e s.is ps s.denotes
 known (hashed_value e ps small) d = let s = of_hashed e d in known_hashed e s.is ps s.denotes
+known (kept_value e ps small) d = let s = of_kept e d in known_kept e s.is ps s.denotes
 
 -- the value of a leaf
 pub leaf_value : {v : Value} {t : Tree} → Denotes v t → (l : Leaf) → t ≡ leaf l → LeafValue v l

@@ -5,7 +5,7 @@ use Rattle.archive_forms_values.specs.ShapeLayout.Value.{Value, Values}
 use Rattle.archive_forms_values.specs.ShapeLayout.Value.Value.{group, chosen}
 use Rattle.archive_forms_values.specs.ShapeLayout.Value.Values.{no_values, more_values}
 use Rattle.archive_forms_values.specs.ShapeLayout.Content.{Label, made, first_values, other_values}
-use Rattle.archive_forms_values.specs.ShapeLayout.Content.Label.{same, whole, woven, total}
+use Rattle.archive_forms_values.specs.ShapeLayout.Content.Label.{same, second, whole, woven, total}
 use Rattle.archive_forms_values.specs.ShapeLayout.Path.{value_in, value_at, and_then, through, child_place, entry_place, in_child, in_entry}
 use Rattle.archive_forms_values.proofs.ShapeLayout.Paths.{path_is, put_label}
 use Rattle.archive_forms_values.specs.ShapeCanonical.Laws.{IsBehindKey}
@@ -13,7 +13,7 @@ use Rattle.cabinet_text_grammar.specs.Tree.{Leaf, truth, number, text}
 use Rattle.cabinet_text_grammar.specs.Path.{Step}
 use Rattle.cabinet_documents.specs.Denotes.{tagged_value, pair_value}
 use Rattle.cabinet_documents.specs.OwnBytes.{LeadsTo, leads_here, leads_inside, leads_place, leads_key}
-use Rattle.cabinet_documents.proofs.Places.{Place, node_here, payload_here, truth_here, number_here, text_here, shared_here, option_here, box_here, list_here, ordered_here, table_here, pair_here, tree_node, tree_child, entry_here, buckets_here, absent_here, node_behind, nodes_behind, text_behind, Spot, nodes_from, entries_from, children_from, items_from}
+use Rattle.cabinet_documents.proofs.Places.{Place, node_here, payload_here, truth_here, number_here, text_here, shared_here, option_here, box_here, list_here, ordered_here, table_here, index_here, pair_here, tree_node, tree_child, entry_here, buckets_here, numbers_here, entry_number, node_behind, nodes_behind, pairs_behind, text_behind, Spot, each_from, entries_from, children_from, tagged_from}
 use Rattle.cabinet_documents.proofs.Known.{leaf_tag, LeafValue}
 use Rattle.cabinet_documents.proofs.Steps.{place_of}
 
@@ -70,14 +70,17 @@ Aims box_here v path = ToLeaf v path
 Aims list_here v path = ToItem v path
 Aims ordered_here v path = ToPair v path
 Aims table_here v path = ToPair v path
+Aims index_here v path = ToPair v path
 Aims pair_here v path = FromPair v path
 Aims (tree_node level) v path = ToPair v path
 Aims (tree_child level) v path = ToPair v path
 Aims (entry_here key) v path = FromPair v path
 Aims (buckets_here target len cap) v path = ToPair v path
-Aims absent_here v path = ⊤
+Aims (numbers_here target len cap) v path = ⊤
+Aims (entry_number limit) v path = ⊤
 Aims node_behind v path = ToLeaf v path
 Aims (nodes_behind len) v path = ToItem v path
+Aims (pairs_behind len) v path = ToPair v path
 Aims (text_behind len) v path = ⊤
 
 pub value_is : {a b : Value} → ◌≡◌ {A = Option Value} (Some a) (Some b) → a ≡ b
@@ -93,7 +96,7 @@ leaf_aims (text s) u path = tt
 map_aims : (tag : ℕ) (u : Value) (path : List ℕ) → (tag ≡ 6) ⊎ ((tag ≡ 7) ⊎ (tag ≡ 8)) → ToPair u path → Aims (place_of tag) u path
 map_aims tag u path (inl six) p = subst (λ n. Aims (place_of n) u path) (sym six) p
 map_aims tag u path (inr (inl seven)) p = subst (λ n. Aims (place_of n) u path) (sym seven) p
-map_aims tag u path (inr (inr eight)) p = subst (λ n. Aims (place_of n) u path) (sym eight) tt
+map_aims tag u path (inr (inr eight)) p = subst (λ n. Aims (place_of n) u path) (sym eight) p
 
 record SamePayload (tag n : ℕ) (u w : Value) : Type 0 where
   tags : n ≡ tag
@@ -153,22 +156,24 @@ pub only_spot : (i : ℕ) (r q : Spot) → IsSpot i (r ∷ []) q → (i ≡ 0) �
 only_spot zero r q s = (refl, s)
 only_spot (suc i) r q s = absurd s
 
-pub node_spot : (i pos n : ℕ) (q : Spot) → IsSpot i (nodes_from pos n) q → q.place ≡ node_here
-node_spot i pos zero q s = absurd s
-node_spot zero pos (suc n) q s = ap (λ (x : Spot). x.place) (sym s)
-node_spot (suc i) pos (suc n) q s = node_spot i (pos + 24) n q s
+pub each_spot : (k : Place) (size i pos n : ℕ) (q : Spot) → IsSpot i (each_from k size pos n) q → q.place ≡ k
+each_spot k size i pos zero q s = absurd s
+each_spot k size zero pos (suc n) q s = ap (λ (x : Spot). x.place) (sym s)
+each_spot k size (suc i) pos (suc n) q s = each_spot k size i (pos + size) n q s
 
 pub entry_spot : (i n key value : ℕ) (q : Spot) → IsSpot i (entries_from n key value) q → (k : ℕ) × (q.place ≡ entry_here k)
 entry_spot i zero key value q s = absurd s
 entry_spot zero (suc n) key value q s = (key, ap (λ (x : Spot). x.place) (sym s))
 entry_spot (suc i) (suc n) key value q s = entry_spot i n (key + 8) (value + 24) q s
 
-pub item_spot : (i target j : ℕ) (controls : List ℕ) (q : Spot) → IsSpot i (items_from target j controls) q → q.place ≡ pair_here
-item_spot i target j [] q s = absurd s
-item_spot i target j (c ∷ cs) q s = by_test (nat_lt c 128) i s (λ n h. item_spot n target (j + 1) cs q h)
+pub tagged_spot : (k : Place) (size i target j : ℕ) (controls : List ℕ) (q : Spot) → IsSpot i (tagged_from k size target j controls) q → q.place ≡ k
+tagged_spot k size i target j [] q s = absurd s
+tagged_spot k size i target j (c ∷ cs) q s = by_test (nat_lt c 128) i s (λ n h. tagged_spot k size n target (j + 1) cs q h)
   where
-    by_test : (b : Bool) (n : ℕ) → IsSpot n (cond b (record { place = pair_here; pos = target - (j + 1) * 32 } ∷ items_from target (j + 1) cs) (items_from target (j + 1) cs)) q
-        → ((m : ℕ) → IsSpot m (items_from target (j + 1) cs) q → q.place ≡ pair_here) → q.place ≡ pair_here
+    later : List Spot
+    later = tagged_from k size target (j + 1) cs
+
+    by_test : (b : Bool) (n : ℕ) → IsSpot n (cond b (record { place = k; pos = target - (j + 1) * size } ∷ later) later) q → ((m : ℕ) → IsSpot m later q → q.place ≡ k) → q.place ≡ k
     by_test true zero h on = ap (λ (x : Spot). x.place) (sym h)
     by_test true (suc n) h on = on n h
     by_test false n h on = on n h
@@ -192,6 +197,15 @@ same_through no_values v u i inner path m there t = absurd (cc)
 same_through (more_values x no_values) v u zero inner path m there t = (value_is (sym there ∙ m), path_is t)
 same_through (more_values x no_values) v u (suc i) inner path m there t = absurd (cc)
 same_through (more_values x (more_values y vs)) v u i inner path m there t = absurd (cc)
+
+pub second_through : (vs : Values) (v u : Value) (i : ℕ) (inner path : List ℕ) → made second vs ≡ Some v → value_in i vs ≡ Some u → through second vs i inner ≡ Some path → (i ≡ 1) × (u ≡ v) × (inner ≡ path)
+unfolding made
+second_through no_values v u i inner path m there t = absurd (cc)
+second_through (more_values x no_values) v u i inner path m there t = absurd (cc)
+second_through (more_values x (more_values y no_values)) v u zero inner path m there t = absurd (cc)
+second_through (more_values x (more_values y no_values)) v u (suc zero) inner path m there t = (refl, value_is (sym there ∙ m), path_is t)
+second_through (more_values x (more_values y no_values)) v u (suc (suc i)) inner path m there t = absurd (cc)
+second_through (more_values x (more_values y (more_values z vs))) v u i inner path m there t = absurd (cc)
 
 -- a path in a part begins with the number of an item there, and the path in the whole with another number of that item
 pub record IntoItem (l : Label) (vs : Values) (i : ℕ) (inner path : List ℕ) : Type 0 where

@@ -1,5 +1,5 @@
 -- Each leaf of an accepted document has own bytes.
-use Rattle.std.proofs.Common.{◌≡◌, ℕ, suc, List, [], ◌∷◌, ◌++◌, length, Some, refl, sym, ap, subst, ◌∙◌, ◌⊎◌, inl, inr}
+use Rattle.std.proofs.Common.{◌≡◌, ℕ, suc, List, [], ◌∷◌, ◌++◌, length, Some, refl, sym, ap, subst, ◌∙◌, ◌⊎◌}
 use Rattle.archive_forms_values.specs.ShapeLayout.Bytes.{window}
 use Rattle.archive_forms_values.specs.ShapeLayout.Shape.Pointee.{sized, str}
 use Rattle.archive_forms_values.specs.ShapeLayout.Value.{Value, Values}
@@ -13,20 +13,23 @@ use Rattle.archive_forms_values.specs.ShapeLayout.Path.{Stands, value_in}
 use Rattle.archive_forms_values.specs.ShapeLayout.Path.Stands.{stands_here}
 use Rattle.archive_forms_values.proofs.ShapeLayout.Leaves.{leaf_within_law}
 use Rattle.archive_forms_values.proofs.ArchiveShape.Pieces.{length-window}
-use Rattle.cabinet_text_grammar.specs.Keys.{ordered, hashed}
-use Rattle.cabinet_text_grammar.specs.Tree.{Leaf, truth, number, text, Tree, leaf, IsLegal}
+use Rattle.cabinet_text_grammar.specs.Keys.{MapKind, ordered, hashed, kept}
+use Rattle.cabinet_text_grammar.specs.Tree.{Leaf, truth, number, text, Tree, Pairs, leaf, map, IsLegal}
 use Rattle.cabinet_text_grammar.specs.Path.{Step, key, place, inside, node_at}
 use Rattle.cabinet_documents.specs.Node.{node_names, node_shape, own_bytes}
-use Rattle.cabinet_documents.specs.Denotes.{Denotes, tagged_value, pair_value}
+use Rattle.cabinet_documents.specs.Denotes.{Denotes, DenotePairs, tagged_value, pair_value}
 use Rattle.cabinet_documents.specs.OwnBytes.{LeadsTo, leads_here, leads_inside, leads_place, leads_key, IsOwn, own_truth, own_number, own_inline, own_behind}
 use Rattle.cabinet_documents.specs.Laws.{payload_of, OwnBytesStand, LeavesStand}
-use Rattle.cabinet_documents.specs.Order.{arranged}
-use Rattle.cabinet_documents.proofs.ByKey.{distinct, distinct_in_order, node_in_order}
+use Rattle.cabinet_documents.proofs.ByKey.{in_order, distinct, distinct_in_order, node_in_order}
+use Rattle.cabinet_documents.proofs.Changing.{kind_tag, is_high}
+use Rattle.cabinet_documents.proofs.PairSteps.{NodeOf}
+use Rattle.cabinet_documents.proofs.IndexSteps.{index_node}
 use Rattle.cabinet_documents.proofs.TableSteps.{table_node}
-use Rattle.cabinet_documents.proofs.Places.{Place, node_here, text_here, list_here, ordered_here, table_here, node_behind, text_behind, part_of, Pays, pays_truth, pays_number, pays_text, pays_shared, pays_option, pays_list, pays_ordered, pays_hashed, pays_absent}
-use Rattle.cabinet_documents.proofs.Nodes.{absent_law, NodeValue, none_seen, held}
+use Rattle.cabinet_documents.proofs.Places.{Place, node_here, text_here, list_here, node_behind, text_behind, part_of, Pays, pays_truth, pays_number, pays_text, pays_shared, pays_option, pays_list, pays_ordered, pays_hashed, pays_kept}
+use Rattle.cabinet_documents.proofs.Nodes.{NodeValue, PairValues}
+use Rattle.cabinet_documents.proofs.HeldNodes.{none_seen, held}
 use Rattle.cabinet_documents.proofs.Steps.{place_of, node_cases, behind_below, some_cases, ElementCase, element_cases, TextCase, text_inline, text_out, text_cases}
-use Rattle.cabinet_documents.proofs.Known.{leaf_tag, LeafValue, Known, known_leaf, known_shared, known_none, known_some, known_list, known_ordered, known_hashed, known, known_element, known_pair}
+use Rattle.cabinet_documents.proofs.Known.{leaf_tag, LeafValue, Known, known_leaf, known_shared, known_none, known_some, known_list, known_ordered, known_hashed, known_kept, known, known_element, known_pair}
 use Rattle.cabinet_documents.proofs.Leading.{ToLeaf}
 use Rattle.cabinet_documents.proofs.Avoiding.{avoids}
 
@@ -39,18 +42,16 @@ module _ (bytes : List ℕ) where
     pub stands : (r : Part) (u : Value) (path : List ℕ) → Stands node_names bytes r u level around before (part_of k payload_pos) w path
         → Stands node_names bytes r u level around before (part_of node_here pos) v (0 ∷ path)
 
-  place_is : (pos : ℕ) {tag level : ℕ} {j : Place} {around : List OpenShared} {v : Value} {regions : List Region} {before after : List Visit}
-      → Pays tag j → Holds node_names bytes level around (part_of j pos) v regions before after → j ≡ place_of tag
-  place_is pos pays_truth h = refl
-  place_is pos pays_number h = refl
-  place_is pos pays_text h = refl
-  place_is pos pays_shared h = refl
-  place_is pos pays_option h = refl
-  place_is pos pays_list h = refl
-  place_is pos pays_ordered h = refl
-  place_is pos pays_hashed h = refl
-  place_is pos {level = level} {around = around} {v = v} {regions = regions} {before = before} {after = after} (pays_absent z) h =
-      absurd (absent_law bytes level around pos v regions before after h)
+  place_is : {tag : ℕ} {j : Place} → Pays tag j → j ≡ place_of tag
+  place_is pays_truth = refl
+  place_is pays_number = refl
+  place_is pays_text = refl
+  place_is pays_shared = refl
+  place_is pays_option = refl
+  place_is pays_list = refl
+  place_is pays_ordered = refl
+  place_is pays_hashed = refl
+  place_is pays_kept = refl
 
   pub paid_at : (pos tag : ℕ) (w : Value) {level : ℕ} {around : List OpenShared} {v : Value} {regions : List Region} {before after : List Visit}
       → v ≡ tagged_value tag w → Holds node_names bytes level around (part_of node_here pos) v regions before after → PaidAt level around pos v w (place_of tag) before after
@@ -59,7 +60,7 @@ module _ (bytes : List ℕ) where
       let is = c.value_is in
       let tags : c.tag ≡ tag = cc in
       let values : c.payload ≡ w = cc in
-      let placed : c.place ≡ place_of tag = place_is c.payload_pos c.pays c.holds ∙ ap place_of tags in
+      let placed : c.place ≡ place_of tag = place_is c.pays ∙ ap place_of tags in
       let whole : PaidAt level around pos v c.payload c.place before after = record { payload_pos = c.payload_pos; regions = c.regions; holds = c.holds; stands = c.stands } in
       subst (λ k. PaidAt level around pos v w k before after) placed (subst (λ x. PaidAt level around pos v x c.place before after) values whole)
 
@@ -127,9 +128,14 @@ module _ (bytes : List ℕ) where
     pub stands : (r : Part) (u : Value) (inner : List ℕ) → Stands node_names bytes r u deeper around since (part_of node_here node_pos) y inner → ToLeaf y inner
         → Stands node_names bytes r u level around before (part_of k pos) w (i ∷ (1 ∷ inner))
 
-  ordered_case : (pos i : ℕ) (k : List ℕ) (y : Value) {level : ℕ} {around : List OpenShared} {vs : Values} {regions : List Region} {before after : List Visit}
-      → value_in i vs ≡ Some (pair_value k y) → Holds node_names bytes level around (part_of ordered_here pos) (group vs) regions before after → PairCase ordered_here level around before pos (group vs) i y
-  ordered_case pos i k y there h =
+  node_case : {IsPair : ℕ → Type 0} {k : Place} {level : ℕ} {around : List OpenShared} {before : List Visit} {pos i : ℕ} {w y : Value}
+      → NodeOf bytes IsPair level around before (part_of k pos) w y (λ inner. i ∷ (1 ∷ inner)) → PairCase k level around before pos w i y
+  node_case s = record { deeper = s.deeper; node_pos = s.node_pos; regions = s.regions; since = s.since; until = s.until; holds = s.holds; stands = λ r u inner x way. s.stands r u inner x }
+
+  pair_case : (kind : MapKind) (pos i : ℕ) (k : List ℕ) (y : Value) {level : ℕ} {around : List OpenShared} {vs : Values} {regions : List Region} {before after : List Visit}
+      → value_in i vs ≡ Some (pair_value k y) → Holds node_names bytes level around (part_of (place_of (kind_tag kind)) pos) (group vs) regions before after
+      → PairCase (place_of (kind_tag kind)) level around before pos (group vs) i y
+  pair_case ordered pos i k y there h =
       let s = tree_pair_stands h i (string k) y there in
       record {
         deeper = s.deeper;
@@ -138,14 +144,10 @@ module _ (bytes : List ℕ) where
         since = s.since;
         until = s.until;
         holds = s.holds;
-        stands = λ r u inner x way. (s.stands r u inner (record { stands = x; spares = avoids bytes s.holds x node_here s.value_pos refl way })).stands;
+        stands = λ r u inner x way. (s.stands r u inner (record { stands = x; spares = avoids bytes x node_here s.value_pos refl way })).stands;
       }
-
-  hashed_case : (pos i : ℕ) (k : List ℕ) (y : Value) {level : ℕ} {around : List OpenShared} {vs : Values} {regions : List Region} {before after : List Visit}
-      → value_in i vs ≡ Some (pair_value k y) → Holds node_names bytes level around (part_of table_here pos) (group vs) regions before after → PairCase table_here level around before pos (group vs) i y
-  hashed_case pos i k y there h =
-      let s = table_node bytes pos i k y refl there h in
-      record { deeper = s.deeper; node_pos = s.node_pos; regions = s.regions; since = s.since; until = s.until; holds = s.holds; stands = λ r u inner x way. s.stands r u inner x }
+  pair_case hashed pos i k y there h = node_case (table_node bytes pos i k y refl there h)
+  pair_case kept pos i k y there h = node_case (index_node bytes pos i k y refl there h)
 
   mapped : (l : Leaf) {level pos : ℕ} {around : List OpenShared} {v : Value} {vs : Values} {before after : List Visit} (tag : ℕ) (q : Place) (k : List ℕ) (i : ℕ) (rest : List Step) (u : Value)
       → v ≡ tagged_value tag (group vs) → (tag ≡ 6) ⊎ ((tag ≡ 7) ⊎ (tag ≡ 8)) → value_in i vs ≡ Some (pair_value k u)
@@ -195,6 +197,7 @@ module _ (bytes : List ℕ) where
       ends_here (known_list e f ns ds) g = absurd (cc)
       ends_here (known_ordered e f ns ds) g = absurd (cc)
       ends_here (known_hashed e f ns ds) g = absurd (cc)
+      ends_here (known_kept e f ns ds) g = absurd (cc)
 
       in_option : (rest : List Step) → On rest l → Known bytes v t → node_at t (inside ∷ rest) ≡ Some (leaf l) → LeafStands level around before pos v (inside ∷ rest) l
       in_option rest on (known_leaf m e f) g = let k = subst (λ x. node_at x (inside ∷ rest) ≡ Some (leaf l)) f g in absurd (cc)
@@ -218,6 +221,7 @@ module _ (bytes : List ℕ) where
       in_option rest on (known_list e f ns ds) g = let k = subst (λ x. node_at x (inside ∷ rest) ≡ Some (leaf l)) f g in absurd (cc)
       in_option rest on (known_ordered e f ns ds) g = let k = subst (λ x. node_at x (inside ∷ rest) ≡ Some (leaf l)) f g in absurd (cc)
       in_option rest on (known_hashed e f ns ds) g = let k = subst (λ x. node_at x (inside ∷ rest) ≡ Some (leaf l)) f g in absurd (cc)
+      in_option rest on (known_kept e f ns ds) g = let k = subst (λ x. node_at x (inside ∷ rest) ≡ Some (leaf l)) f g in absurd (cc)
 
       in_list : (i : ℕ) (rest : List Step) → On rest l → Known bytes v t → node_at t (place i ∷ rest) ≡ Some (leaf l) → LeafStands level around before pos v (place i ∷ rest) l
       in_list i rest on (known_leaf m e f) g = let k = subst (λ x. node_at x (place i ∷ rest) ≡ Some (leaf l)) f g in absurd (cc)
@@ -231,6 +235,20 @@ module _ (bytes : List ℕ) where
           listed l i rest k.value e k.there o s (on s.node_pos _ _ k.value s.regions s.since s.until k.tree k.node k.denotes k.legal s.holds k.found)
       in_list i rest on (known_ordered e f ns ds) g = let k = subst (λ x. node_at x (place i ∷ rest) ≡ Some (leaf l)) f g in absurd (cc)
       in_list i rest on (known_hashed e f ns ds) g = let k = subst (λ x. node_at x (place i ∷ rest) ≡ Some (leaf l)) f g in absurd (cc)
+      in_list i rest on (known_kept e f ns ds) g = let k = subst (λ x. node_at x (place i ∷ rest) ≡ Some (leaf l)) f g in absurd (cc)
+
+      -- of a map of any kind
+      in_pairs : (kind : MapKind) (k : List ℕ) (rest : List Step) {vs : Values} {ps : Pairs} → On rest l
+          → v ≡ tagged_value (kind_tag kind) (group vs) → t ≡ map kind (in_order kind ps) → PairValues bytes vs → DenotePairs vs ps
+          → node_at t (key k ∷ rest) ≡ Some (leaf l) → LeafStands level around before pos v (key k ∷ rest) l
+      in_pairs kind k rest {vs = vs} {ps = ps} on e f ns ds g =
+          let all = distinct kind [] (in_order kind ps) (subst IsLegal f legal).0 in
+          let there = sym (node_in_order kind k rest ps) ∙ subst (λ x. node_at x (key k ∷ rest) ≡ Some (leaf l)) f g in
+          let p = known_pair k rest (leaf l) ns ds (distinct_in_order kind ps all) there in
+          let o = paid_at pos (kind_tag kind) (group vs) e h in
+          let s = pair_case kind o.payload_pos p.number k p.value p.there o.holds in
+          mapped l (kind_tag kind) (place_of (kind_tag kind)) k p.number rest p.value e (is_high kind) p.there o s
+          (on s.node_pos s.deeper around p.value s.regions s.since s.until p.tree p.node p.denotes p.legal s.holds p.found)
 
       in_map : (k : List ℕ) (rest : List Step) → On rest l → Known bytes v t → node_at t (key k ∷ rest) ≡ Some (leaf l) → LeafStands level around before pos v (key k ∷ rest) l
       in_map k rest on (known_leaf m e f) g = let n = subst (λ x. node_at x (key k ∷ rest) ≡ Some (leaf l)) f g in absurd (cc)
@@ -238,19 +256,9 @@ module _ (bytes : List ℕ) where
       in_map k rest on (known_none e f) g = let n = subst (λ x. node_at x (key k ∷ rest) ≡ Some (leaf l)) f g in absurd (cc)
       in_map k rest on (known_some e f n d) g = let n = subst (λ x. node_at x (key k ∷ rest) ≡ Some (leaf l)) f g in absurd (cc)
       in_map k rest on (known_list e f ns ds) g = let n = subst (λ x. node_at x (key k ∷ rest) ≡ Some (leaf l)) f g in absurd (cc)
-      in_map k rest on (known_ordered {vs = vs} {ps = ps} e f ns ds) g =
-          let each = distinct ordered [] ps (subst IsLegal f legal).0 in
-          let p = known_pair k rest (leaf l) ns ds each (subst (λ x. node_at x (key k ∷ rest) ≡ Some (leaf l)) f g) in
-          let o = paid_at pos 6 (group vs) e h in
-          let s = ordered_case o.payload_pos p.number k p.value p.there o.holds in
-          mapped l 6 ordered_here k p.number rest p.value e (inl refl) p.there o s (on s.node_pos s.deeper around p.value s.regions s.since s.until p.tree p.node p.denotes p.legal s.holds p.found)
-      in_map k rest on (known_hashed {vs = vs} {ps = ps} e f ns ds) g =
-          let all = distinct hashed [] (arranged ps) (subst IsLegal f legal).0 in
-          let there = sym (node_in_order hashed k rest ps) ∙ subst (λ x. node_at x (key k ∷ rest) ≡ Some (leaf l)) f g in
-          let p = known_pair k rest (leaf l) ns ds (distinct_in_order hashed ps all) there in
-          let o = paid_at pos 7 (group vs) e h in
-          let s = hashed_case o.payload_pos p.number k p.value p.there o.holds in
-          mapped l 7 table_here k p.number rest p.value e (inr (inl refl)) p.there o s (on s.node_pos s.deeper around p.value s.regions s.since s.until p.tree p.node p.denotes p.legal s.holds p.found)
+      in_map k rest on (known_ordered e f ns ds) g = in_pairs ordered k rest on e f ns ds g
+      in_map k rest on (known_hashed e f ns ds) g = in_pairs hashed k rest on e f ns ds g
+      in_map k rest on (known_kept e f ns ds) g = in_pairs kept k rest on e f ns ds g
 
   pub leaf_stands : (path : List Step) (l : Leaf) → On path l
   leaf_stands [] l pos level around v regions before after t n d legal h g = ends_here l legal h (known n d) g

@@ -6,7 +6,7 @@ use Rattle.std.specs.Int.{w64, to_le_bytes, cast_unsigned}
 use Rattle.archive_forms_values.specs.ShapeLayout.Bytes.{align_up}
 use Rattle.archive_forms_values.specs.ShapeLayout.Shape.{Shape, align_of, size_of}
 use Rattle.archive_forms_values.specs.ShapeLayout.Shape.Alignment.{eight}
-use Rattle.archive_forms_values.specs.ShapeLayout.Shape.Shape.{number, truth, text, option, choice, vector, tree, table, shared as shared_shape}
+use Rattle.archive_forms_values.specs.ShapeLayout.Shape.Shape.{number, truth, text, option, choice, vector, tree, table, index_map, shared as shared_shape}
 use Rattle.archive_forms_values.specs.ShapeLayout.Shape.Pointee.{str}
 use Rattle.archive_forms_values.specs.ShapeLayout.Value.Value.{integer, boolean}
 use Rattle.archive_forms_values.specs.ShapeLayout.Content.{shape_tagged}
@@ -36,6 +36,9 @@ use Rattle.archive_hash_writing.specs.Tables.{table_spelling}
 use Rattle.archive_hash_writing.specs.Tables.{hashed_spelling as of_hashes}
 use Rattle.archive_hash_writing.proofs.Small.{text_hashes_small}
 use Rattle.archive_hash_writing.proofs.SpellingTables.{hashed_spells_of}
+use Rattle.archive_index_spelling.specs.Maps.{index_spelling}
+use Rattle.archive_index_spelling.specs.Resolvers.{resolver_of, positions_of}
+use Rattle.archive_index_spelling.proofs.Maps.{index_spells_at}
 use Rattle.cabinet_text_grammar.specs.Keys.{ordered, hashed, kept}
 use Rattle.cabinet_text_grammar.specs.TextKey.{text_key}
 use Rattle.cabinet_text_grammar.specs.Tree as document
@@ -43,7 +46,7 @@ use Rattle.cabinet_text_grammar.specs.Tree.{Tree, Trees, Pairs, leaf, shared, no
 use Rattle.cabinet_documents.specs.Node.{KnowsNode, node_shape, pair_shape, payloads}
 use Rattle.cabinet_documents.specs.declared.spelling.resolver.NodeResolver.{NodeResolver}
 use Rattle.cabinet_documents.specs.declared.spelling.resolver.NodeResolver.TheVariants as resolver
-use Rattle.cabinet_documents.specs.Spelling.{truth_spelling, number_spelling, shared_string_spelling, boxed_shape, boxed_spelling, maybe_spelling, list_spelling, ordered_spelling, pair_spelling, hashed_spelling, trees_in, pairs_in, text_in, shared_in, maybe_in, list_in, ordered_in, hashed_in, node_of, refused, spelling_of, node_level}
+use Rattle.cabinet_documents.specs.Spelling.{truth_spelling, number_spelling, shared_string_spelling, boxed_shape, boxed_spelling, maybe_spelling, list_spelling, ordered_spelling, pair_spelling, hashed_spelling, kept_spelling, trees_in, pairs_in, text_in, shared_in, maybe_in, list_in, ordered_in, hashed_in, kept_in, node_of, refused, spelling_of, node_level}
 use Rattle.cabinet_documents.specs.SpellingLaws.{NodeSpells}
 use Rattle.archive_forms_rc.specs.FormsWriting.Owned.{str_spelling}
 
@@ -56,18 +59,6 @@ module _ (fit : Fit) where
       let behind = payload_spelling tag (align_up 1 (align_of s)) (size_of (choice payloads)) w in
       kept_spells_at fit (choice payloads) KnowsNode make get back (seen_as (λ _. x) behind) t
       (seen_spells_at fit (choice payloads) KnowsNode (λ _. x) behind t (variant_spells_at fit payloads tag s KnowsNode w small is x one))
-
-  refused_spells : (t : Tree) → SpellsAt fit (choice payloads) KnowsNode refused t
-  refused_spells t = record {
-    sized = λ r pos f. absurd f;
-    canonical = λ st pos names keys bytes level inside k n known state over f o p q. absurd f;
-    consistent = λ st h f. absurd f;
-    keyed = λ keys st n known f. absurd f;
-    piece_bytes = λ st f. absurd f;
-    own_bytes = λ r pos f. absurd f;
-    piece_exact = λ st e f r. f;
-    own_exact = λ r pos e f k. f;
-  }
 
   text_spells_here : (s : List ℕ) → SpellsAt fit text KnowsNode str_spelling s
   text_spells_here s = kept_spells_at fit text KnowsNode _ _ (λ r. refl) text_spelling s (text_spells fit KnowsNode s)
@@ -146,7 +137,12 @@ module _ (fit : Fit) where
         node_of_spells 7 (table pair_shape) (hashed_spelling w) resolver.Hashed hashed_in (λ r. refl) (omega arith) refl xs (map hashed ps)
         (kept_spells_at fit (table pair_shape) KnowsNode _ _ (λ r. refl) (table_spelling 7 8 pair_shape (pair_spelling w) (λ p. text_hash p.0)) xs
         (as_table xs (hashed_spells_of fit pair_shape KnowsNode (pair_spelling w) 7 8 hashes xs (length-map xs (λ p. text_hash p.0)) (text_hashes_small (λ p. p.0) xs) (each_pair_below n ps less below))))
-    case_spells n (map kept ps) less below = refused_spells (map kept ps)
+    case_spells n (map kept ps) less below =
+        let xs = pairs_in ps in
+        let hash : List ℕ × Tree → ℕ = λ p. text_hash p.0 in
+        node_of_spells 8 (index_map text node_shape) (kept_spelling w) resolver.Kept kept_in (λ r. refl) (omega arith) refl xs (map kept ps)
+        (kept_spells_at fit (index_map text node_shape) KnowsNode resolver_of positions_of (λ r. refl) (index_spelling 7 8 pair_shape (pair_spelling w) hash) xs
+        (index_spells_at fit text node_shape KnowsNode (pair_spelling w) 7 8 hash xs (text_hashes_small (λ p. p.0) xs) (each_pair_below n ps less below)))
 
     level_spells : (n : ℕ) (t : Tree) → depth t ≤ n → ((y : Tree) → suc (depth y) ≤ n → SpellsAt fit node_shape KnowsNode w y)
         → SpellsAt fit node_shape KnowsNode (node_level w) t

@@ -19,11 +19,11 @@ use Rattle.archive_forms_values.proofs.Pointed.{made_same, made_whole}
 use Rattle.archive_forms_values.proofs.Tagged.{own_tag, choice_tag}
 use Rattle.archive_forms_values.proofs.Targets.{first_word}
 use Rattle.archive_forms_values.proofs.ShapeLayout.Windows.{word_within}
-use Rattle.cabinet_documents.specs.Node.{node_shape, node_names, payloads, absent}
+use Rattle.cabinet_documents.specs.Node.{node_shape, node_names, payloads}
 use Rattle.cabinet_documents.specs.Denotes.{tagged_value}
 use Rattle.cabinet_documents.specs.Walk.{Stop, Walks, WalkAll}
 use Rattle.cabinet_documents.specs.Audit.{too_deep, unless, faults}
-use Rattle.cabinet_documents.proofs.Places.{node_here, payload_here, option_here, box_here, list_here, ordered_here, table_here, node_behind, part_of}
+use Rattle.cabinet_documents.proofs.Places.{node_here, payload_here, option_here, box_here, list_here, ordered_here, table_here, index_here, node_behind, part_of}
 use Rattle.cabinet_documents.proofs.Begun.{faults-flat, Ends, begun, not_walked, no_walks, first_walk, ends, onward}
 use Rattle.cabinet_documents.proofs.TreeWalks.{QuietKeys, behind_quiet, text_quiet}
 
@@ -97,6 +97,14 @@ pub data NodeWalk (bytes : List ℕ) (depth pos : ℕ) (v : Value) (walk : List 
       → Walks node_names bytes depth (part_of table_here (pos + 4)) w run
       → faults bytes walk ≡ faults bytes run
       → NodeWalk bytes depth pos v walk
+  -- a kept map
+  kept_walks :
+      {w : Value} {run : List Stop}
+      → slice_index bytes pos ≡ 8
+      → v ≡ tagged_value 8 w
+      → Walks node_names bytes depth (part_of index_here (pos + 4)) w run
+      → faults bytes walk ≡ faults bytes run
+      → NodeWalk bytes depth pos v walk
 
 module _ (bytes : List ℕ) where
   -- ---- leaves have no faults
@@ -124,12 +132,6 @@ module _ (bytes : List ℕ) where
   shared_quiet : (depth : ℕ) → QuietKeys node_names bytes (shared false str) depth
   unfolding shape_content shared_content
   shared_quiet depth pos v walk h = shared_cases (target_from pos (word_at (window bytes pos 8) 0)) (word_at (window bytes pos 8) 4) refl h
-
-  no_absent : {depth : ℕ} (pos : ℕ) {v : Value} {walk : List Stop} → Walks node_names bytes depth (at pos absent) v walk → ⊥
-  unfolding shape_content fields align_up
-  no_absent pos h =
-      let b = begun node_names bytes (plain whole (at (pos + 0) (choice no_shapes) ∷ (at (pos + 1) (array 15 (number w8 false)) ∷ []))) refl h in
-      not_walked node_names bytes {p = at (pos + 0) (choice no_shapes)} refl (first_walk node_names bytes b.all).first
 
   -- ---- options
 
@@ -252,10 +254,6 @@ module _ (bytes : List ℕ) where
       → slice_index bytes pos ≡ tag → tag ≤ 3 → QuietKeys node_names bytes s depth → Paid depth tag (at to s) v walk → NodeWalk bytes depth pos v walk
   leaf_node tag pos to s e low quiet p = leaf_walks tag e low p.value_is (p.faults_are ∙ quiet to p.payload p.run p.next)
 
-  no_payload : (tag p pos : ℕ) {depth : ℕ} {v : Value} {walk : List Stop}
-      → content_of node_names bytes (part_of payload_here pos) ≡ plain (tagged tag) (at p absent ∷ []) → Walks node_names bytes depth (part_of payload_here pos) v walk → ⊥
-  no_payload tag p pos e h = no_absent p (onward node_names bytes (plain (tagged tag) (at p absent ∷ [])) refl (λ run. refl) e h).next
-
   payload_walk : {depth : ℕ} (tag pos : ℕ) {v : Value} {walk inner : List Stop}
       → slice_index bytes pos ≡ tag → faults bytes walk ≡ faults bytes inner → Walks node_names bytes depth (part_of payload_here pos) v inner → NodeWalk bytes depth pos v walk
   unfolding align_up
@@ -274,7 +272,8 @@ module _ (bytes : List ℕ) where
       let p = paid 6 pos (part_of ordered_here (pos + 4)) {walk = walk} (payload_content 6 pos e) around h in ordered_walks e p.value_is p.next p.faults_are
   payload_walk (suc (suc (suc (suc (suc (suc (suc zero))))))) pos {walk = walk} e around h =
       let p = paid 7 pos (part_of table_here (pos + 4)) {walk = walk} (payload_content 7 pos e) around h in hashed_walks e p.value_is p.next p.faults_are
-  payload_walk (suc (suc (suc (suc (suc (suc (suc (suc zero)))))))) pos e around h = absurd (no_payload 8 (pos + 1) pos (payload_content 8 pos e) h)
+  payload_walk (suc (suc (suc (suc (suc (suc (suc (suc zero)))))))) pos {walk = walk} e around h =
+      let p = paid 8 pos (part_of index_here (pos + 4)) {walk = walk} (payload_content 8 pos e) around h in kept_walks e p.value_is p.next p.faults_are
   payload_walk (suc (suc (suc (suc (suc (suc (suc (suc (suc n))))))))) pos e around h = absurd (not_walked node_names bytes (payload_content (suc (suc (suc (suc (suc (suc (suc (suc (suc n))))))))) pos e) h)
 
   pub node_walk : {depth : ℕ} (pos : ℕ) {v : Value} {walk : List Stop} → Walks node_names bytes depth (part_of node_here pos) v walk → NodeWalk bytes depth pos v walk

@@ -1,28 +1,21 @@
--- The value of a node, where one holds; and that no shared position lies inside itself there.
+-- The value of a node, by what its places lead to.
 use Rattle.std.proofs.Common.{◌≡◌, ℕ, ℤ, zero, suc, ◌++◌, ◌+◌, ◌-◌, ◌*◌, ◌^◌, ◌<◌, ◌==◌, cond, nat_lt, length, Bool, true, false, w64, FitsSigned, IsUtf8, List, [], ◌∷◌, Some, None, refl, sym, ap, ap₂, subst, ◌∙◌, arith, eqb-true}
-use Rattle.archive_forms_values.specs.ShapeLayout.Shape.Shape.{choice}
-use Rattle.archive_forms_values.specs.ShapeLayout.Shape.Shapes.{no_shapes}
 use Rattle.archive_forms_values.specs.ShapeLayout.Value.{Value, Values, count_values, append_values}
 use Rattle.archive_forms_values.specs.ShapeLayout.Value.Value.{integer, boolean, string, group, chosen, counted}
 use Rattle.archive_forms_values.specs.ShapeLayout.Value.Values.{no_values, more_values}
-use Rattle.archive_forms_values.specs.ShapeLayout.Content.{Part, Label, Span, content_of, made, IsLegal, fields, shape_content, members, weave, first_values, other_values}
-use Rattle.archive_forms_values.specs.ShapeLayout.Content.Part.{at, behind}
-use Rattle.archive_forms_values.specs.ShapeLayout.Content.Label.{leaf, written, same, whole, tagged, woven, total}
-use Rattle.archive_forms_values.specs.ShapeLayout.Content.Content.{illegal, plain, claimed, counting}
-use Rattle.archive_forms_values.specs.ShapeLayout.Shape.{Pointee}
-use Rattle.archive_forms_values.specs.ShapeLayout.Shape.Pointee.{str}
-use Rattle.archive_forms_values.specs.ShapeLayout.Holds.{Region, region_of, Visit, OpenShared, visited, Holds, HoldAll}
+use Rattle.archive_forms_values.specs.ShapeLayout.Content.{Part, Label, content_of, made, IsLegal, members, weave, first_values, other_values}
+use Rattle.archive_forms_values.specs.ShapeLayout.Content.Label.{leaf, written, same, second, whole, tagged, woven, total}
+use Rattle.archive_forms_values.specs.ShapeLayout.Content.Content.{illegal}
+use Rattle.archive_forms_values.specs.ShapeLayout.Holds.{Region, Visit, OpenShared, Holds}
 use Rattle.archive_forms_values.specs.ShapeLayout.Holds.Holds.{holds_plain, holds_claimed, holds_first, holds_later, holds_back}
-use Rattle.archive_forms_values.specs.ShapeLayout.Holds.HoldAll.{holds_none, holds_more}
-use Rattle.archive_forms_values.proofs.ShapeLayout.Unique.{by_plain}
 use Rattle.archive_forms_values.specs.ShapeCanonical.Canonical.{AreBytes}
 use Rattle.cabinet_documents.specs.Node.{node_names}
 use Rattle.cabinet_documents.specs.Denotes.{tagged_value, pair_value}
 use Rattle.cabinet_documents.specs.Table.{full_from}
-use Rattle.cabinet_documents.specs.Laws.{IsAcyclic, AreAcyclic, AbsentHasNoValue}
-use Rattle.cabinet_documents.proofs.Places.{Place, node_here, payload_here, truth_here, number_here, text_here, shared_here, option_here, box_here, list_here, ordered_here, table_here, pair_here, tree_node, tree_child, entry_here, buckets_here, absent_here, node_behind, nodes_behind, text_behind, Spot, part_of, parts_at, nodes_from, entries_from, children_from, items_from, Passes, node_passes, box_passes, behind_passes, list_passes, text_passes, child_passes, table_passes, Pays, pays_truth, pays_number, pays_text, pays_shared, pays_option, pays_list, pays_ordered, pays_hashed, pays_absent, Follows, passes, pays, truth_is, number_is, text_is, behind_is, none_is, some_is, nodes_follow, empty_is, total_is, leaf_follows, inner_follows, no_child_is, entry_follows, no_items_is, items_follow, pair_follows, Leads, leads_nowhere, leads_absent, leads_plain, leads_claimed, leads_counted, led}
+use Rattle.cabinet_documents.proofs.Places.{Place, node_here, payload_here, truth_here, number_here, text_here, shared_here, option_here, box_here, list_here, ordered_here, table_here, index_here, pair_here, tree_node, tree_child, entry_here, buckets_here, numbers_here, entry_number, node_behind, nodes_behind, pairs_behind, text_behind, Spot, nodes_from, pairs_from, entries_from, children_from, items_from, Passes, node_passes, box_passes, behind_passes, list_passes, text_passes, child_passes, table_passes, Pays, pays_truth, pays_number, pays_text, pays_shared, pays_option, pays_list, pays_ordered, pays_hashed, pays_kept, Follows, passes, pays, truth_is, number_is, text_is, behind_is, none_is, some_is, nodes_follow, empty_is, total_is, leaf_follows, inner_follows, no_child_is, entry_follows, no_items_is, items_follow, no_entries_is, entries_second, numbers_follow, entry_number_is, pairs_follow, pair_follows}
+use Rattle.std.specs.Prelude.{⊤}
 
--- ---- a payload without a layout has no value
+-- ---- what is not legal has no value
 
 module _ (bytes : List ℕ) where
   pub none_illegal :
@@ -34,23 +27,10 @@ module _ (bytes : List ℕ) where
   none_illegal e (holds_later f x y d g h) = cc
   none_illegal e (holds_back f x d g h) = cc
 
-  pub no_choice : (pos : ℕ) → content_of node_names bytes (at pos (choice no_shapes)) ≡ illegal
-  unfolding shape_content
-  no_choice pos = refl
-
-  none_first :
-      (pos : ℕ) {level : ℕ} {inside : List OpenShared} {ps : List Part} {vs : Values} {regions : List Region} {before after : List Visit}
-      → HoldAll node_names bytes level inside (at pos (choice no_shapes) ∷ ps) vs regions before after → ⊥
-  none_first pos (holds_more h hs e r) = none_illegal (no_choice pos) h
-
-pub absent_law : AbsentHasNoValue
-unfolding shape_content fields
-absent_law bytes level inside pos v regions before after h = none_first bytes _ (by_plain node_names bytes {l = whole} refl h).all
-
 -- ---- nodes
 
 mutual
-  -- the value of a node whose kinds have a layout
+  -- the value of a node
   pub data NodeValue (bytes : List ℕ) : Value → Type 0 where
     truth_value : {v : Value} {b : Bool} → v ≡ tagged_value 0 (boolean b) → NodeValue bytes v
     number_value : {v : Value} {n : ℤ} → v ≡ tagged_value 1 (integer n) → FitsSigned w64 n → NodeValue bytes v
@@ -61,6 +41,7 @@ mutual
     list_value : {v : Value} {vs : Values} → v ≡ tagged_value 5 (group vs) → NodeValues bytes vs → (AreBytes bytes → count_values vs < 2 ^ 64) → NodeValue bytes v
     ordered_value : {v : Value} {vs : Values} → v ≡ tagged_value 6 (group vs) → PairValues bytes vs → (AreBytes bytes → count_values vs < 2 ^ 64) → NodeValue bytes v
     hashed_value : {v : Value} {vs : Values} → v ≡ tagged_value 7 (group vs) → PairValues bytes vs → (AreBytes bytes → count_values vs < 2 ^ 64) → NodeValue bytes v
+    kept_value : {v : Value} {vs : Values} → v ≡ tagged_value 8 (group vs) → PairValues bytes vs → (AreBytes bytes → count_values vs < 2 ^ 64) → NodeValue bytes v
 
   pub data NodeValues (bytes : List ℕ) : Values → Type 0 where
     no_nodes : {vs : Values} → vs ≡ no_values → NodeValues bytes vs
@@ -113,7 +94,7 @@ pub record PairsValue (bytes : List ℕ) (v : Value) : Type 0 where
   pub is : v ≡ group vs
   pub pairs : PairValues bytes vs
 
--- what the buckets of a hashed map have: its pairs
+-- what the buckets of a hashed map have, and the entries of a kept map: its pairs
 pub record ItemsValue (bytes : List ℕ) (len : ℕ) (v : Value) : Type 0 where
   pub vs : Values
   pub is : v ≡ group vs
@@ -146,14 +127,17 @@ ValueAt bytes box_here v = NodeValue bytes v
 ValueAt bytes list_here v = ListValue bytes v
 ValueAt bytes ordered_here v = MapValue bytes v
 ValueAt bytes table_here v = MapValue bytes v
+ValueAt bytes index_here v = MapValue bytes v
 ValueAt bytes pair_here v = PairValue bytes v
 ValueAt bytes (tree_node level) v = PairsValue bytes v
 ValueAt bytes (tree_child level) v = PairsValue bytes v
 ValueAt bytes (entry_here key) v = PairValue bytes v
 ValueAt bytes (buckets_here target len cap) v = ItemsValue bytes len v
-ValueAt bytes absent_here v = ⊥
+ValueAt bytes (numbers_here target len cap) v = ⊤
+ValueAt bytes (entry_number limit) v = ⊤
 ValueAt bytes node_behind v = NodeValue bytes v
 ValueAt bytes (nodes_behind len) v = NodesValue bytes len v
+ValueAt bytes (pairs_behind len) v = ItemsValue bytes len v
 ValueAt bytes (text_behind len) v = TextValue v
 
 pub data ValuesAt (bytes : List ℕ) : List Spot → Values → Type 0 where
@@ -181,7 +165,7 @@ module _ (bytes : List ℕ) where
   one_paid pays_list e h = list_value (e ∙ ap (tagged_value 5) h.is) h.nodes h.small
   one_paid pays_ordered e h = ordered_value (e ∙ ap (tagged_value 6) h.is) h.pairs h.small
   one_paid pays_hashed e h = hashed_value (e ∙ ap (tagged_value 7) h.is) h.pairs h.small
-  one_paid (pays_absent z) e h = absurd h
+  one_paid pays_kept e h = kept_value (e ∙ ap (tagged_value 8) h.is) h.pairs h.small
 
   record Nodes (n : ℕ) (vs : Values) : Type 0 where
     nodes : NodeValues bytes vs
@@ -237,6 +221,18 @@ module _ (bytes : List ℕ) where
   items_made target i [] qs vs is (more_at e h hs) = absurd (cc)
   items_made target i (c ∷ cs) qs vs is hs =
       one_item (nat_lt c 128) (target - (i + 1) * 32) i (full_from (i + 1) cs) (items_from target (i + 1) cs) qs vs is hs (λ rs ws e ks. items_made target (i + 1) cs rs ws e ks)
+
+  -- the pairs that stand one after the other
+  pairs_made : (pos n : ℕ) (qs : List Spot) (vs : Values) → qs ≡ pairs_from pos n → ValuesAt bytes qs vs → Items n vs
+  pairs_made pos zero qs vs is (none_at e) = record { pairs = no_pairs e; counted = ap count_values e }
+  pairs_made pos zero qs vs is (more_at e h hs) = absurd (cc)
+  pairs_made pos (suc n) qs vs is (none_at e) = absurd (cc)
+  pairs_made pos (suc n) qs vs is (more_at {q = q} {qs = rest} {ws = ws} {v = v} e h hs) =
+      let first : q ≡ record { place = pair_here; pos = pos } = cc in
+      let pair : PairValue bytes v = subst (λ (x : Spot). ValueAt bytes x.place v) first h in
+      let r = pairs_made (pos + 32) n rest ws (cc) hs in
+      let c = r.counted in
+      record { pairs = more_pairs (e ∙ ap (λ x. more_values x ws) pair.is) pair.utf8 pair.node r.pairs; counted = ap count_values e ∙ omega (arith, c) }
 
   -- the pairs below the pointers to children, and then those of the entries between them
   data ChildrenPairs : Values → Type 0 where
@@ -299,6 +295,20 @@ module _ (bytes : List ℕ) where
       let none : qs ≡ [] = cc in
       let rest = no_more none hs in
       record { value = v; is = f ∙ ap (more_values v) rest; there = subst (λ (x : Spot). ValueAt bytes x.place v) same h }
+
+  record Second (j : Place) (vs : Values) : Type 0 where
+    first : Value
+    value : Value
+    is : vs ≡ more_values first (more_values value no_values)
+    there : ValueAt bytes j value
+
+  -- of two places
+  second_alone : {vs : Values} {qs : List Spot} {i j : Place} {here to : ℕ} → qs ≡ record { place = i; pos = here } ∷ (record { place = j; pos = to } ∷ []) → ValuesAt bytes qs vs → Second j vs
+  second_alone e (none_at f) = absurd (cc)
+  second_alone {j = j} {to = to} e (more_at {qs = qs} {v = v} f h hs) =
+      let rest : qs ≡ record { place = j; pos = to } ∷ [] = cc in
+      let a = alone rest hs in
+      record { first = v; value = a.value; is = f ∙ ap (more_values v) a.is; there = a.there }
 
   total_made : (v : Value) (len : ℕ) (b : Bool) (w : Value) → (count_values (members v) == len) ≡ b → cond b (Some v) None ≡ Some w → (w ≡ v) × (count_values (members v) ≡ len)
   total_made v len true w e m = (cc, eqb-true _ _ e)
@@ -369,118 +379,21 @@ module _ (bytes : List ℕ) where
       let n : made whole vs ≡ Some v = subst (λ x. made x vs ≡ Some v) e m in
       let r = items_made target 0 controls _ vs f hs in
       record { vs = vs; is = cc; pairs = r.pairs; counted = r.counted ∙ count }
+  follow {l = l} {vs = vs} {v = v} (no_entries_is e f) legal hs m =
+      let n : made whole no_values ≡ Some v = subst (λ x. made whole x ≡ Some v) (no_more f hs) (subst (λ x. made x vs ≡ Some v) e m) in
+      record { vs = no_values; is = cc; pairs = no_pairs refl; small = λ b. omega arith }
+  follow {l = l} {vs = vs} {v = v} (entries_second {len = len} small e f) legal hs m =
+      let a = second_alone f hs in
+      let n : made second (more_values a.first (more_values a.value no_values)) ≡ Some v = subst (λ x. made second x ≡ Some v) a.is (subst (λ x. made x vs ≡ Some v) e m) in
+      let is : v ≡ a.value = cc in
+      let h = a.there in
+      record { vs = h.vs; is = is ∙ h.is; pairs = h.pairs; small = λ b. subst (λ x. x < 2 ^ 64) (sym h.counted) (small b) }
+  follow (numbers_follow controls are count e f) legal hs m = tt
+  follow (entry_number_is low e f) legal hs m = tt
+  follow {l = l} {vs = vs} {v = v} (pairs_follow {len = len} pos e f) legal hs m =
+      let n : made whole vs ≡ Some v = subst (λ x. made x vs ≡ Some v) e m in
+      let r = pairs_made pos len _ vs f hs in
+      record { vs = vs; is = cc; pairs = r.pairs; counted = r.counted }
   follow {l = l} {vs = vs} {v = v} (pair_follows key value e f) legal hs m =
       let n : made whole vs ≡ Some v = subst (λ x. made x vs ≡ Some v) e m in
       pair_made f hs (cc)
-
-  -- ---- a shared text alone counts
-
-  absent_whole : (pos : ℕ) {cyclic : Bool} {t len : ℕ} {q : Pointee} → content_of node_names bytes (part_of absent_here pos) ≡ counting cyclic t q len → ⊥
-  unfolding shape_content
-  absent_whole pos g = cc
-
-  pub record Counts (k : Place) (cyclic : Bool) (q : Pointee) : Type 0 where
-    pub here : k ≡ shared_here
-    pub acyclic : cyclic ≡ false
-    pub to_text : q ≡ str
-
-  pub counts : (k : Place) (pos : ℕ) {cyclic : Bool} {t len : ℕ} {q : Pointee} → content_of node_names bytes (part_of k pos) ≡ counting cyclic t q len → Counts k cyclic q
-  counts k pos {cyclic = cyclic} {t = t} {len = len} {q = q} e = by_case k (led bytes k pos) e
-    where
-      by_case : (k : Place) → Leads bytes k (content_of node_names bytes (part_of k pos)) → content_of node_names bytes (part_of k pos) ≡ counting cyclic t q len → Counts k cyclic q
-      by_case k (leads_nowhere f) g = absurd (cc)
-      by_case absent_here leads_absent g = absurd (absent_whole pos g)
-      by_case k (leads_plain f fs) g = absurd (cc)
-      by_case k (leads_claimed f fs b) g = absurd (cc)
-      by_case shared_here (leads_counted f) g = record { here = refl; acyclic = cc; to_text = cc }
-
-  -- each text that was visited has the value of one
-  abbrev pub TextsSeen : List Visit → Type 0
-  TextsSeen visits = (t len : ℕ) (w : Value) → visited visits t ≡ Some (record { pos = t; pointee = str; len = len; value = w }) → TextValue w
-
-  pub none_seen : TextsSeen []
-  none_seen t len w e = absurd (cc)
-
-  seen_more : (t len : ℕ) (w : Value) (visits : List Visit) → TextValue w → TextsSeen visits → TextsSeen (record { pos = t; pointee = str; len = len; value = w } ∷ visits)
-  seen_more t len w visits h seen u m x = by_case (t == u)
-    where
-      by_case : (b : Bool) → cond b (Some (record { pos = t; pointee = str; len = len; value = w })) (visited visits u) ≡ Some (record { pos = u; pointee = str; len = m; value = x }) → TextValue x
-      by_case true e =
-          let same : ◌≡◌ {A = Visit} (record { pos = t; pointee = str; len = len; value = w }) (record { pos = u; pointee = str; len = m; value = x }) = cc in
-          subst TextValue (ap (λ (y : Visit). y.value) same) h
-      by_case false e = seen u m x e
-
-  pub record Held {level : ℕ} {inside : List OpenShared} {p : Part} {v : Value} {regions : List Region} {before after : List Visit} (k : Place) (h : Holds node_names bytes level inside p v regions before after) : Type 0 where
-    pub value : ValueAt bytes k v
-    pub acyclic : IsAcyclic h
-    pub seen : TextsSeen after
-
-  pub record AllHeld {level : ℕ} {inside : List OpenShared} {ps : List Part} {vs : Values} {regions : List Region} {before after : List Visit} (qs : List Spot) (hs : HoldAll node_names bytes level inside ps vs regions before after) : Type 0 where
-    pub values : ValuesAt bytes qs vs
-    pub acyclic : AreAcyclic hs
-    pub seen : TextsSeen after
-
-  module _
-      {level : ℕ} {inside : List OpenShared} {p : Part} {v : Value} {regions : List Region} {before after : List Visit} {l : Label} {ps : List Part} {vs : Values}
-    where
-      plain_held : (e : content_of node_names bytes p ≡ plain l ps) (legal : IsLegal l) (all : HoldAll node_names bytes level inside ps vs regions before after) (m : made l vs ≡ Some v)
-          (on : (qs : List Spot) → ps ≡ parts_at qs → AllHeld qs all) (k : Place) (pos : ℕ)
-          → Leads bytes k (content_of node_names bytes (part_of k pos)) → content_of node_names bytes (part_of k pos) ≡ plain l ps → p ≡ part_of k pos → Held k (holds_plain e legal all m)
-      plain_held e legal all m on k pos (leads_nowhere f) g is = absurd (cc)
-      plain_held e legal all m on absent_here pos leads_absent g is = absurd (absent_law bytes level inside pos v regions before after (subst (λ x. Holds node_names bytes level inside x v regions before after) is (holds_plain e legal all m)))
-      plain_held e legal all m on k pos (leads_plain {l = l'} {qs = qs} f fs) g is =
-          let there : ps ≡ parts_at qs = cc in
-          let label : l' ≡ l = cc in
-          let r = on qs there in
-          record { value = follow fs (subst IsLegal (sym label) legal) r.values (subst (λ x. made x vs ≡ Some v) (sym label) m); acyclic = r.acyclic; seen = r.seen }
-      plain_held e legal all m on k pos (leads_claimed f fs b) g is = absurd (cc)
-      plain_held e legal all m on k pos (leads_counted f) g is = absurd (cc)
-
-      claimed_held : {s : Span} {within : List Region} (e : content_of node_names bytes p ≡ claimed s l ps) (legal : IsLegal l) (all : HoldAll node_names bytes (suc level) inside ps vs within before after) (m : made l vs ≡ Some v)
-          (x : regions ≡ within ++ region_of s level ∷ [])
-          (on : (qs : List Spot) → ps ≡ parts_at qs → AllHeld qs all) (k : Place) (pos : ℕ)
-          → Leads bytes k (content_of node_names bytes (part_of k pos)) → content_of node_names bytes (part_of k pos) ≡ claimed s l ps → p ≡ part_of k pos → Held k (holds_claimed e legal all m x)
-      claimed_held e legal all m x on k pos (leads_nowhere f) g is = absurd (cc)
-      claimed_held e legal all m x on absent_here pos leads_absent g is = absurd (absent_law bytes level inside pos v regions before after (subst (λ y. Holds node_names bytes level inside y v regions before after) is (holds_claimed e legal all m x)))
-      claimed_held e legal all m x on k pos (leads_plain f fs) g is = absurd (cc)
-      claimed_held e legal all m x on k pos (leads_counted f) g is = absurd (cc)
-      claimed_held e legal all m x on k pos (leads_claimed {l = l'} {qs = qs} f fs b) g is =
-          let there : ps ≡ parts_at qs = cc in
-          let label : l' ≡ l = cc in
-          let r = on qs there in
-          record { value = follow fs (subst IsLegal (sym label) legal) r.values (subst (λ y. made y vs ≡ Some v) (sym label) m); acyclic = r.acyclic; seen = r.seen }
-
-  shared_is : {k : Place} {v w : Value} (t : ℕ) → k ≡ shared_here → v ≡ counted t w → TextValue w → ValueAt bytes k v
-  shared_is {v = v} t here is h = subst (λ x. ValueAt bytes x v) (sym here) (record { t = t; s = h.s; is = is ∙ ap (counted t) h.is; utf8 = h.utf8 })
-
-  mutual
-    -- at a place, where each text visited before has a value
-    pub held : {level : ℕ} {inside : List OpenShared} {p : Part} {v : Value} {regions : List Region} {before after : List Visit}
-        (h : Holds node_names bytes level inside p v regions before after) (k : Place) (pos : ℕ) → p ≡ part_of k pos → TextsSeen before → Held k h
-    held (holds_plain e legal all m) k pos is seen =
-        plain_held e legal all m (λ qs f. all_held all qs f seen) k pos (led bytes k pos) (ap (content_of node_names bytes) (sym is) ∙ e) is
-    held (holds_claimed e legal all m x) k pos is seen =
-        claimed_held e legal all m x (λ qs f. all_held all qs f seen) k pos (led bytes k pos) (ap (content_of node_names bytes) (sym is) ∙ e) is
-    held (holds_first {w = w} {between = between} {t = t} {q = q} {len = len} e a b h d g) k pos is seen =
-        let c = counts k pos (ap (content_of node_names bytes) (sym is) ∙ e) in
-        let inner = held h (text_behind len) t (ap (λ x. behind t x len) c.to_text) seen in
-        record {
-          value = shared_is t c.here d inner.value;
-          acyclic = inner.acyclic;
-          seen = subst TextsSeen (sym (g ∙ ap (λ x. record { pos = t; pointee = x; len = len; value = w } ∷ between) c.to_text)) (seen_more t len w between inner.value inner.seen);
-        }
-    held (holds_later {w = w} {before = before} {t = t} {q = q} {len = len} e a b d g h) k pos is seen =
-        let c = counts k pos (ap (content_of node_names bytes) (sym is) ∙ e) in
-        let there = seen t len w (b ∙ ap (λ x. Some (record { pos = t; pointee = x; len = len; value = w })) c.to_text) in
-        record { value = shared_is t c.here d there; acyclic = tt; seen = subst TextsSeen (sym h) seen }
-    held (holds_back e a d g h) k pos is seen = absurd (let c = (counts k pos (ap (content_of node_names bytes) (sym is) ∙ e)).acyclic in cc)
-
-    all_held : {level : ℕ} {inside : List OpenShared} {ps : List Part} {vs : Values} {regions : List Region} {before after : List Visit}
-        (hs : HoldAll node_names bytes level inside ps vs regions before after) (qs : List Spot) → ps ≡ parts_at qs → TextsSeen before → AllHeld qs hs
-    all_held (holds_none e f g) [] is seen = record { values = none_at e; acyclic = tt; seen = subst TextsSeen (sym g) seen }
-    all_held (holds_none e f g) (q ∷ qs) is seen = absurd (cc)
-    all_held (holds_more h hs e r) [] is seen = absurd (cc)
-    all_held (holds_more h hs e r) (q ∷ qs) is seen =
-        let first = held h q.place q.pos (cc) seen in
-        let others = all_held hs qs (cc) first.seen in
-        record { values = more_at e first.value others.values; acyclic = (first.acyclic, others.acyclic); seen = others.seen }

@@ -4,11 +4,11 @@ use Rattle.std.specs.Prelude.{⊤}
 use Rattle.archive_forms_values.specs.ShapeLayout.Value.{Value, Values, count_values}
 use Rattle.archive_forms_values.specs.ShapeLayout.Holds.{root_position}
 use Rattle.archive_forms_values.specs.ShapeCanonical.Canonical.{AreBytes}
-use Rattle.cabinet_text_grammar.specs.Keys.{ordered, hashed}
+use Rattle.cabinet_text_grammar.specs.Keys.{ordered, hashed, kept}
 use Rattle.cabinet_text_grammar.specs.Tree.{truth, number, text, Tree, leaf, shared, nothing, just, list, map, Trees, no_trees, more_trees, count, IsLegal, AreLegal, Pairs, no_pairs as no_pairs_of, more_pairs as more_pairs_of, pair_count, ArePairs}
-use Rattle.cabinet_documents.specs.Node.{node_shape}
+use Rattle.cabinet_documents.specs.Node.{node_shape, node_names}
 use Rattle.cabinet_documents.specs.Denotes.{Denotes, DenoteAll, DenotePairs}
-use Rattle.cabinet_documents.specs.Denotes.Denotes.{denotes_truth, denotes_number, denotes_text, denotes_shared, denotes_nothing, denotes_some, denotes_list, denotes_ordered, denotes_hashed}
+use Rattle.cabinet_documents.specs.Denotes.Denotes.{denotes_truth, denotes_number, denotes_text, denotes_shared, denotes_nothing, denotes_some, denotes_list, denotes_ordered, denotes_hashed, denotes_kept}
 use Rattle.cabinet_documents.specs.Denotes.DenoteAll.{denote_none, denote_more}
 use Rattle.cabinet_documents.specs.Denotes.DenotePairs.{denote_no_pairs, denote_pair}
 use Rattle.cabinet_documents.specs.Order.{ascend, arranged}
@@ -17,15 +17,18 @@ use Rattle.cabinet_documents.specs.Walk.{Stop, is_container}
 use Rattle.cabinet_documents.specs.Audit.{too_deep, unless, deep_faults, map_faults, faults}
 use Rattle.cabinet_documents.specs.Laws.{AcceptedStands}
 use Rattle.cabinet_documents.proofs.Places.{node_behind}
-use Rattle.cabinet_documents.proofs.Nodes.{NodeValue, truth_value, number_value, text_value, shared_value, none_value, some_value, list_value, ordered_value, hashed_value, NodeValues, no_nodes, more_nodes, PairValues, no_pairs, more_pairs, none_seen, held}
-use Rattle.cabinet_documents.proofs.Arranged.{AreEachLegal, arranged_pairs, arranged_count}
+use Rattle.cabinet_documents.proofs.Nodes.{NodeValue, truth_value, number_value, text_value, shared_value, none_value, some_value, list_value, ordered_value, hashed_value, kept_value, NodeValues, no_nodes, more_nodes, PairValues, no_pairs, more_pairs}
+use Rattle.cabinet_documents.proofs.HeldNodes.{none_seen, held}
+use Rattle.cabinet_documents.proofs.Arranged.{AreEachLegal, arranged_pairs, kept_pairs, arranged_count}
 use Rattle.cabinet_documents.proofs.ByKey.{AreKeysDistinct, pair_keys}
 use Rattle.cabinet_documents.proofs.FoundKeys.{no_left, no_right}
 use Rattle.cabinet_documents.proofs.Keyed.{AscendAfter, first_after, keys_denoted}
 use Rattle.cabinet_documents.proofs.Heights.{Keyed, AllKeyed, height_is}
 use Rattle.cabinet_documents.proofs.Stops.{peak, Each}
-use Rattle.cabinet_documents.proofs.Peaks.{IsQuiet, peaked}
-use Rattle.cabinet_documents.proofs.TableSound.{quiet_tables}
+use Rattle.cabinet_documents.proofs.Peaks.{peaked}
+use Rattle.cabinet_documents.proofs.TableSound.{quiet_maps, sound_tables}
+use Rattle.cabinet_documents.proofs.NamedEntries.{all_named}
+use Rattle.cabinet_documents.proofs.Walkable.{Nothing, known_stops}
 use Rattle.cabinet_documents.proofs.Standing.{accepted_by}
 
 -- ---- the document of a node's value
@@ -91,6 +94,15 @@ mutual
             let k : AreKeysDistinct (item_keys vs) × (AllKeyed vs × ⊤) = subst Keyed e keyed in
             (arranged_pairs r.pairs (r.legal small k.1.0) (subst AreKeysDistinct (keys_denoted r.denote) k.0), subst (λ n. n < 2 ^ 64) (sym (arranged_count r.pairs ∙ r.counted)) (few small));
       }
+  of_tree (kept_value {vs = vs} e ps few) =
+      let r = of_pairs ps in
+      record {
+        tree = map kept r.pairs;
+        denotes = denotes_kept e refl r.denote;
+        legal = λ small keyed.
+            let k : AreKeysDistinct (item_keys vs) × (AllKeyed vs × ⊤) = subst Keyed e keyed in
+            (kept_pairs r.pairs (r.legal small k.1.0) (subst AreKeysDistinct (keys_denoted r.denote) k.0), subst (λ n. n < 2 ^ 64) (sym r.counted) (few small));
+      }
 
   of_trees : {bytes : List ℕ} {vs : Values} → NodeValues bytes vs → OfTrees bytes vs
   of_trees (no_nodes e) = record { trees = no_trees; denote = denote_none e refl; legal = λ small keyed. tt; counted = sym (ap count_values e) }
@@ -137,7 +149,7 @@ shallow bytes (s ∷ rest) e =
     let others = shallow bytes rest (no_right (deep_faults s ++ map_faults bytes s.part s.value) (faults bytes rest) e) in
     omega arith
 
-quiet : (bytes : List ℕ) (walk : List Stop) → faults bytes walk ≡ [] → Each (IsQuiet bytes) walk
+quiet : (bytes : List ℕ) (walk : List Stop) → faults bytes walk ≡ [] → Each (λ (s : Stop). map_faults bytes s.part s.value ≡ []) walk
 quiet bytes [] e = tt
 quiet bytes (s ∷ rest) e =
     let here = no_left (deep_faults s ++ map_faults bytes s.part s.value) (faults bytes rest) e in
@@ -146,13 +158,15 @@ quiet bytes (s ∷ rest) e =
 pub accepted_stands_law : AcceptedStands
 accepted_stands_law bytes v regions visits walk small root walked none =
     let pos = root_position (length bytes) node_shape in
-    let n = (held bytes root.holds node_behind pos refl (none_seen bytes)).value in
-    let r = of_tree n in
+    let h = held bytes root.holds node_behind pos refl (none_seen bytes) in
+    let r = of_tree h.value in
     let p = peaked bytes walked node_behind pos refl in
-    let high = height_is n r.denotes in
+    let high = height_is h.value r.denotes in
     let low = shallow bytes walk none in
-    let none_there = quiet bytes walk none in
+    let known = known_stops node_names bytes root h.acyclic walked in
+    let sound = quiet_maps bytes walk (all_named node_names bytes Nothing walk known) (quiet bytes walk none) in
+    let legal = r.legal small (p.keyed sound).1 in
     record {
       tree = r.tree;
-      accepted = accepted_by bytes r.tree v regions visits root r.denotes (r.legal small (p.keyed none_there).1, omega (arith, p.peak_is, high, low)) (record { walk = walk; walked = walked; sound = quiet_tables bytes walk none_there });
+      accepted = accepted_by bytes r.tree v regions visits root r.denotes (legal, omega (arith, p.peak_is, high, low)) (record { walk = walk; walked = walked; sound = sound_tables bytes walk sound });
     }

@@ -1,79 +1,40 @@
 -- In the walk of a node as many containers lie in one another as its value is high, and the keys of its maps are those
 -- of maps where those of the value are.
-use Rattle.std.proofs.Common.{◌≡◌, ℕ, zero, suc, ◌+◌, ◌-◌, ◌*◌, nat_lt, max, Bool, true, false, cond, ◌==◌, List, [], ◌∷◌, ◌++◌, length, Some, None, refl, sym, ap, subst, ◌∙◌, arith, append-nil, w8}
+use Rattle.std.proofs.Common.{◌≡◌, ℕ, zero, suc, ◌+◌, ◌-◌, ◌*◌, nat_lt, max, Bool, true, false, cond, ◌==◌, List, [], ◌∷◌, ◌++◌, length, Some, None, refl, sym, ap, subst, ◌∙◌, arith, append-nil}
 use Rattle.std.specs.Prelude.{⊤}
 use Rattle.archive_forms_values.specs.ShapeLayout.Value.{Value, Values, count_values}
-use Rattle.archive_forms_values.specs.ShapeLayout.Value.Value.{integer, boolean, string, group, chosen, counted}
+use Rattle.archive_forms_values.specs.ShapeLayout.Value.Value.{natural, integer, boolean, string, group, chosen, counted}
 use Rattle.archive_forms_values.specs.ShapeLayout.Value.Values.{no_values, more_values}
-use Rattle.archive_forms_values.specs.ShapeLayout.Shape.Shape.{choice, array, number as number_shape}
-use Rattle.archive_forms_values.specs.ShapeLayout.Shape.Shapes.{no_shapes}
+use Rattle.archive_forms_values.specs.ShapeLayout.Shape.Shape.{text}
 use Rattle.archive_forms_values.specs.ShapeLayout.Shape.Pointee.{str}
-use Rattle.archive_forms_values.specs.ShapeLayout.Content.{Part, Label, content_of, made, members, weave, first_values, other_values, shape_content, fields}
-use Rattle.archive_forms_values.specs.ShapeLayout.Bytes.{align_up, word_at}
-use Rattle.archive_forms_values.specs.ShapeLayout.Content.Part.{at}
-use Rattle.archive_forms_values.specs.ShapeLayout.Content.Label.{leaf, written, same, whole, tagged, woven, total}
+use Rattle.archive_forms_values.specs.ShapeLayout.Content.{Part, Label, Item, content_of, made, members, weave, first_values, other_values}
+use Rattle.archive_forms_values.specs.ShapeLayout.Bytes.{word_at}
+use Rattle.archive_forms_values.specs.ShapeLayout.Content.Label.{same, second, whole, tagged, woven, total}
 use Rattle.archive_forms_values.specs.ShapeLayout.Content.Content.{illegal, plain, counting}
-use Rattle.cabinet_documents.specs.Node.{node_names, pair_shape}
+use Rattle.cabinet_documents.specs.Node.{node_names, node_shape, pair_shape}
 use Rattle.cabinet_documents.specs.Denotes.{tagged_value}
-use Rattle.cabinet_documents.specs.Table.{item_keys, full_from, Findable, table_of, hashed_at}
+use Rattle.cabinet_documents.specs.Table.{item_keys, full_from, Findable, table_of, hashed_at, kept_at}
 use Rattle.cabinet_documents.specs.Walk.{Stop, Walks, WalkAll, is_container, depth_in, parts_of, value_of, joined}
 use Rattle.cabinet_documents.specs.Walk.Walks.{walks}
 use Rattle.cabinet_documents.specs.Walk.WalkAll.{walk_none, walk_more}
-use Rattle.cabinet_documents.specs.Audit.{map_faults}
+use Rattle.cabinet_documents.specs.Audit.{IsMapSound}
 use Rattle.cabinet_documents.proofs.Stops.{peak, peak_append, peak_joined, Each, each_append, each_front, each_joined, each_flat, flat}
 use Rattle.cabinet_documents.proofs.Heights.{height, heights, heights_split, heights_weave, KeysSuit, Keyed, AllKeyed, AreGroups, suited_split, keyed_joined, keyed_weave, keyed_woven}
-use Rattle.cabinet_documents.proofs.Nodes.{no_choice}
-use Rattle.cabinet_documents.proofs.Places.{Place, shared_here, box_here, table_here, pair_here, tree_node, tree_child, buckets_here, absent_here, text_behind, Spot, part_of, parts_at, nodes_from, entries_from, children_from, items_from, lifts, Passes, node_passes, box_passes, behind_passes, list_passes, text_passes, child_passes, table_passes, Pays, pays_truth, pays_number, pays_text, pays_shared, pays_option, pays_list, pays_ordered, pays_hashed, pays_absent, Follows, passes, pays, truth_is, number_is, text_is, behind_is, none_is, some_is, nodes_follow, empty_is, total_is, leaf_follows, inner_follows, no_child_is, entry_follows, no_items_is, items_follow, pair_follows, is_behind, Leads, leads_nowhere, leads_absent, leads_plain, leads_claimed, leads_counted, led}
+use Rattle.cabinet_documents.proofs.Places.{Place, node_here, shared_here, box_here, pair_here, tree_node, tree_child, buckets_here, numbers_here, entry_number, pairs_behind, text_behind, Spot, part_of, parts_at, entries_from, children_from, items_from, lifts, Passes, node_passes, box_passes, behind_passes, list_passes, text_passes, child_passes, table_passes, Pays, pays_truth, pays_number, pays_text, pays_shared, pays_option, pays_list, pays_ordered, pays_hashed, pays_kept, Follows, passes, pays, truth_is, number_is, text_is, behind_is, none_is, some_is, nodes_follow, empty_is, total_is, leaf_follows, inner_follows, no_child_is, entry_follows, no_items_is, items_follow, no_entries_is, entries_second, numbers_follow, entry_number_is, pairs_follow, pair_follows, Leads, leads_nowhere, leads_plain, leads_claimed, leads_counted, led}
 use Rattle.cabinet_documents.proofs.ByKey.{AreKeysDistinct}
-use Rattle.cabinet_documents.proofs.Containers.{lift, contains, is_plain, OwnKeyed, KeyedAt, GroupedAt, FoundApart, container_is, deeper, lift_is, plain_lift, plain_own, peak_stop, own_sound, own_quiet}
-use Rattle.cabinet_documents.proofs.TableSound.{IsPlainSound, TableRead, reads_none, reads_buckets, table_read, led_table, keys_count, found_distinct}
-
--- the map at a stop is sound, or where it is a table has distinct keys; and it has no fault
-abbrev pub PlainSounds : List ℕ → Stop → Type 0
-PlainSounds bytes s = IsPlainSound bytes s.part s.value
-
-abbrev pub IsQuiet : List ℕ → Stop → Type 0
-IsQuiet bytes s = map_faults bytes s.part s.value ≡ []
+use Rattle.cabinet_documents.proofs.Containers.{lift, contains, is_plain, OwnKeyed, KeyedAt, IsFlat, GroupedAt, FoundApart, container_is, deeper, lift_is, plain_lift, plain_own, peak_stop, own_sound, own_keyed, behind_apart, AllOf, all_append, all_each, all_tagged, AllPlain, entries_plain, children_plain, IsNumber}
+use Rattle.cabinet_documents.proofs.TableSound.{IsPlainSound, PlainSounds, MapSounds, BucketsRead, TableRead, reads_none, reads_buckets, table_read, index_read, led_table, keys_count, found_distinct, numbered_distinct}
 
 pub record Peaked (bytes : List ℕ) (k : Place) (d : ℕ) (v : Value) (walk : List Stop) : Type 0 where
   pub peak_is : peak d walk ≡ d + (lift k + height v)
   pub sound : KeyedAt k v → Each (PlainSounds bytes) walk
-  pub keyed : Each (IsQuiet bytes) walk → KeyedAt k v
+  pub keyed : Each (MapSounds bytes) walk → KeyedAt k v
   pub grouped : GroupedAt bytes k v
-  pub present : k ≡ absent_here → ⊥
 
 data AllPeaked (bytes : List ℕ) (d : ℕ) : List Spot → Values → List (List Stop) → Type 0 where
   none_peaked : {vs : Values} {runs : List (List Stop)} → vs ≡ no_values → runs ≡ [] → AllPeaked bytes d [] vs runs
   more_peaked : {q : Spot} {qs : List Spot} {vs ws : Values} {v : Value} {here : List Stop} {runs later : List (List Stop)}
       → vs ≡ more_values v ws → runs ≡ here ∷ later → Peaked bytes q.place d v here → AllPeaked bytes d qs ws later → AllPeaked bytes d (q ∷ qs) vs runs
-
-abbrev AllPlain : List Spot → Type 0
-AllPlain [] = ⊤
-AllPlain (q ∷ qs) = (is_plain q.place ≡ true) × AllPlain qs
-
-plain_append : (xs ys : List Spot) → AllPlain xs → AllPlain ys → AllPlain (xs ++ ys)
-plain_append [] ys h k = k
-plain_append (x ∷ xs) ys h k = (h.0, plain_append xs ys h.1 k)
-
-nodes_plain : (pos n : ℕ) → AllPlain (nodes_from pos n)
-nodes_plain pos zero = tt
-nodes_plain pos (suc n) = (refl, nodes_plain (pos + 24) n)
-
-entries_plain : (n key value : ℕ) → AllPlain (entries_from n key value)
-entries_plain zero key value = tt
-entries_plain (suc n) key value = (refl, entries_plain n (key + 8) (value + 24))
-
-items_plain : (target i : ℕ) (controls : List ℕ) → AllPlain (items_from target i controls)
-items_plain target i [] = tt
-items_plain target i (c ∷ cs) = by_test (nat_lt c 128) (items_plain target (i + 1) cs)
-  where
-    by_test : (b : Bool) → AllPlain (items_from target (i + 1) cs) → AllPlain (cond b (record { place = pair_here; pos = target - (i + 1) * 32 } ∷ items_from target (i + 1) cs) (items_from target (i + 1) cs))
-    by_test true h = (refl, h)
-    by_test false h = h
-
-children_plain : (n level pos : ℕ) → AllPlain (children_from n level pos)
-children_plain zero level pos = tt
-children_plain (suc n) level pos = (refl, children_plain n level (pos + 4))
 
 module _ (bytes : List ℕ) where
   -- ---- parts that are no containers themselves
@@ -92,11 +53,24 @@ module _ (bytes : List ℕ) where
       let both : Keyed v × AllKeyed ws = subst AllKeyed f k in
       subst (λ x. Each (PlainSounds bytes) (flat x)) (sym g) (each_append (PlainSounds bytes) here (flat later) (p.sound (plain_own q.place v h.0, both.0)) (plain_sound ps h.1 both.1))
 
-  plain_keyed : {d : ℕ} {qs : List Spot} {vs : Values} {runs : List (List Stop)} → AllPeaked bytes d qs vs runs → Each (IsQuiet bytes) (flat runs) → AllKeyed vs
+  plain_keyed : {d : ℕ} {qs : List Spot} {vs : Values} {runs : List (List Stop)} → AllPeaked bytes d qs vs runs → Each (MapSounds bytes) (flat runs) → AllKeyed vs
   plain_keyed (none_peaked f g) h = subst AllKeyed (sym f) tt
   plain_keyed (more_peaked {ws = ws} {v = v} {here = here} {later = later} f g p ps) h =
-      let both = each_front (IsQuiet bytes) here (flat later) (subst (λ x. Each (IsQuiet bytes) (flat x)) g h) in
+      let both = each_front (MapSounds bytes) here (flat later) (subst (λ x. Each (MapSounds bytes) (flat x)) g h) in
       subst AllKeyed (sym f) ((p.keyed both.0).1, plain_keyed ps both.1)
+
+  number_flat : (k : Place) (v : Value) → IsNumber k → GroupedAt bytes k v → IsFlat v
+  number_flat (entry_number limit) v h g = g
+  number_flat k v h g = absurd h
+
+  all_flat : {d : ℕ} {qs : List Spot} {vs : Values} {runs : List (List Stop)} → AllPeaked bytes d qs vs runs → AllOf IsNumber qs → (heights vs ≡ 0) × AllKeyed vs
+  all_flat (none_peaked f g) h = (ap heights f, subst AllKeyed (sym f) tt)
+  all_flat (more_peaked {q = q} {v = v} f g p ps) h =
+      let here = number_flat q.place v h.0 p.grouped in
+      let low = here.0 in
+      let rest = all_flat ps h.1 in
+      let others = rest.0 in
+      (ap heights f ∙ omega (arith, low, others), subst AllKeyed (sym f) (here.1, rest.1))
 
   -- ---- one part
 
@@ -105,9 +79,8 @@ module _ (bytes : List ℕ) where
     values_are : vs ≡ more_values value no_values
     peak_is : peak d (flat runs) ≡ d + (lift j + height value)
     sound : KeyedAt j value → Each (PlainSounds bytes) (flat runs)
-    keyed : Each (IsQuiet bytes) (flat runs) → KeyedAt j value
+    keyed : Each (MapSounds bytes) (flat runs) → KeyedAt j value
     grouped : GroupedAt bytes j value
-    present : j ≡ absent_here → ⊥
 
   no_more : {d : ℕ} {qs : List Spot} {vs : Values} {runs : List (List Stop)} → qs ≡ [] → AllPeaked bytes d qs vs runs → (vs ≡ no_values) × (runs ≡ [])
   no_more e (none_peaked f g) = (f, g)
@@ -126,9 +99,8 @@ module _ (bytes : List ℕ) where
         values_are = f ∙ ap (more_values v) rest.0;
         peak_is = ap (peak d) runs_are ∙ there.peak_is;
         sound = λ k. subst (Each (PlainSounds bytes)) (sym runs_are) (there.sound k);
-        keyed = λ h. there.keyed (subst (Each (IsQuiet bytes)) runs_are h);
+        keyed = λ h. there.keyed (subst (Each (MapSounds bytes)) runs_are h);
         grouped = there.grouped;
-        present = there.present;
       }
 
   -- ---- what follows a place
@@ -160,18 +132,18 @@ module _ (bytes : List ℕ) where
   pay_lift pays_list = refl
   pay_lift pays_ordered = refl
   pay_lift pays_hashed = refl
-  pay_lift (pays_absent z) = z
+  pay_lift pays_kept = refl
 
-  pay_own : {tag : ℕ} {j : Place} (v : Value) → Pays tag j → (j ≡ absent_here → ⊥) → OwnKeyed j v ≡ KeysSuit tag (more_values v no_values)
-  pay_own v pays_truth h = refl
-  pay_own v pays_number h = refl
-  pay_own v pays_text h = refl
-  pay_own v pays_shared h = refl
-  pay_own v pays_option h = refl
-  pay_own v pays_list h = refl
-  pay_own v pays_ordered h = refl
-  pay_own v pays_hashed h = refl
-  pay_own v (pays_absent z) h = absurd (h refl)
+  pay_own : {tag : ℕ} {j : Place} (v : Value) → Pays tag j → OwnKeyed j v ≡ KeysSuit tag (more_values v no_values)
+  pay_own v pays_truth = refl
+  pay_own v pays_number = refl
+  pay_own v pays_text = refl
+  pay_own v pays_shared = refl
+  pay_own v pays_option = refl
+  pay_own v pays_list = refl
+  pay_own v pays_ordered = refl
+  pay_own v pays_hashed = refl
+  pay_own v pays_kept = refl
 
   all_groups : (n level pos : ℕ) (rest : List Spot) {d : ℕ} {qs : List Spot} {vs : Values} {runs : List (List Stop)} → qs ≡ children_from n level pos ++ rest → AllPeaked bytes d qs vs runs → AreGroups (first_values n vs)
   all_groups zero level pos rest e ps = tt
@@ -218,7 +190,7 @@ module _ (bytes : List ℕ) where
   record Made (k : Place) (d : ℕ) (v : Value) (runs : List (List Stop)) : Type 0 where
     peak_is : peak (d + lift k) (flat runs) ≡ d + (lift k + height v)
     sound : Keyed v → OwnKeyed k v → Each (PlainSounds bytes) (flat runs)
-    keyed : Each (IsQuiet bytes) (flat runs) → Keyed v
+    keyed : Each (MapSounds bytes) (flat runs) → Keyed v
     grouped : GroupedAt bytes k v
 
   -- by the value of one part, of none, and of several
@@ -234,28 +206,60 @@ module _ (bytes : List ℕ) where
         grouped = g;
       }
 
-  made_leaf : (k : Place) (d : ℕ) (v : Value) {runs : List (List Stop)} → runs ≡ [] → height v ≡ 0 → Keyed v → GroupedAt bytes k v → Made k d v runs
-  made_leaf k d v none h x g = record {
-    peak_is = ap (λ y. peak (d + lift k) (flat y)) none ∙ omega (arith, h);
-    sound = λ y own. subst (λ y. Each (PlainSounds bytes) (flat y)) (sym none) tt;
-    keyed = λ y. x;
-    grouped = g;
-  }
+  made_alone : (k : Place) (d : ℕ) {l x : Label} {qs : List Spot} {vs : Values} {runs : List (List Stop)} (u v : Value) → l ≡ x → qs ≡ [] → AllPeaked bytes (d + lift k) qs vs runs → made l vs ≡ Some v
+      → made x no_values ≡ Some u → IsFlat u → GroupedAt bytes k u → Made k d v runs
+  made_alone k d {l = l} {x = x} {vs = vs} {runs = runs} u v e f ps m n h g =
+      let none = no_more f ps in
+      let two : Some u ≡ Some v = sym n ∙ subst (λ y. made x y ≡ Some v) none.0 (subst (λ y. made y vs ≡ Some v) e m) in
+      let is : u ≡ v = cc in
+      let low = h.0 in
+      subst (λ y. Made k d y runs) is (record {
+        peak_is = ap (λ y. peak (d + lift k) (flat y)) none.1 ∙ omega (arith, low);
+        sound = λ y own. subst (λ y. Each (PlainSounds bytes) (flat y)) (sym none.1) tt;
+        keyed = λ y. h.1;
+        grouped = g;
+      })
 
   made_group : (k : Place) (d : ℕ) (v : Value) {qs : List Spot} {vs : Values} {runs : List (List Stop)} → AllPeaked bytes (d + lift k) qs vs runs → AllPlain qs
-      → height v ≡ heights vs → lift k ≡ 0 → (Keyed v → AllKeyed vs) → (AllKeyed vs → Keyed v) → GroupedAt bytes k v → Made k d v runs
-  made_group k d v ps low h z to from g =
+      → height v ≡ heights vs → (Keyed v → AllKeyed vs) → (AllKeyed vs → Keyed v) → GroupedAt bytes k v → Made k d v runs
+  made_group k d v ps low h to from g =
       let r = plain_peak ps low in
       record {
-        peak_is = r ∙ omega (arith, h, z);
+        peak_is = r ∙ omega (arith, h);
         sound = λ x own. plain_sound ps low (to x);
         keyed = λ x. from (plain_keyed ps x);
         grouped = g;
       }
 
+  made_all : (k : Place) (d : ℕ) (v : Value) {l : Label} {qs rs : List Spot} {vs : Values} {runs : List (List Stop)} → l ≡ whole → qs ≡ rs → AllPlain rs → AllPeaked bytes (d + lift k) qs vs runs → made l vs ≡ Some v
+      → GroupedAt bytes k (group vs) → Made k d v runs
+  unfolding made
+  made_all k d v {vs = vs} {runs = runs} e f low ps m g =
+      let n : made whole vs ≡ Some v = subst (λ x. made x vs ≡ Some v) e m in
+      let is : group vs ≡ v = cc in
+      subst (λ x. Made k d x runs) is (made_group k d (group vs) ps (subst AllPlain (sym f) low) refl (λ x. x) (λ x. x) g)
+
   total_is_same : (v : Value) (len : ℕ) (b : Bool) (w : Value) → cond b (Some v) None ≡ Some w → w ≡ v
   total_is_same v len true w m = cc
   total_is_same v len false w m = absurd (cc)
+
+  -- the second of two values, where the first is that of numbers
+  record Behind (v : Value) (vs : Values) : Type 0 where
+    first : Value
+    values_are : vs ≡ more_values first (more_values v no_values)
+    flat : IsFlat first
+
+  behind_numbers : (target len cap start : ℕ) (v : Value) {d : ℕ} {l : Label} {qs : List Spot} {vs : Values} {runs : List (List Stop)}
+      → l ≡ second → qs ≡ record { place = numbers_here target len cap; pos = target } ∷ (record { place = pairs_behind len; pos = start } ∷ []) → AllPeaked bytes d qs vs runs → made l vs ≡ Some v → Behind v vs
+  unfolding made
+  behind_numbers target len cap start v e f (none_peaked g h) m = absurd (cc)
+  behind_numbers target len cap start v e f (more_peaked {q = q} {qs = qs} {vs = vs} {ws = ws} {v = u} g h p ps) m =
+      let here : q ≡ record { place = numbers_here target len cap; pos = target } = cc in
+      let o = one (pairs_behind len) start (cc) ps in
+      let two = g ∙ ap (more_values u) o.values_are in
+      let n : made second (more_values u (more_values o.value no_values)) ≡ Some v = subst (λ x. made second x ≡ Some v) two (subst (λ x. made x vs ≡ Some v) e m) in
+      let is : o.value ≡ v = cc in
+      record { first = u; values_are = two ∙ ap (λ x. more_values u (more_values x no_values)) is; flat = subst (λ (x : Spot). GroupedAt bytes x.place u) here p.grouped }
 
   follow : (k : Place) (d : ℕ) {l : Label} {qs : List Spot} {vs : Values} {runs : List (List Stop)} {v : Value}
       → Follows bytes k l qs → AllPeaked bytes (d + lift k) qs vs runs → made l vs ≡ Some v → Made k d v runs
@@ -271,38 +275,18 @@ module _ (bytes : List ℕ) where
       let is : v ≡ tagged_value tag o.value = cc in
       let h : height v ≡ height (tagged_value tag o.value) = ap height is in
       let z = pay_lift p in
-      let own = pay_own o.value p o.present in
+      let own = pay_own o.value p in
       record {
         peak_is = o.peak_is ∙ omega (arith, h, z);
         sound = λ x y. let k : KeysSuit tag (more_values o.value no_values) × (Keyed o.value × ⊤) = subst Keyed is x in o.sound (subst (λ X. X) (sym own) k.0, k.1.0);
         keyed = λ x. let k = o.keyed x in subst Keyed (sym is) (subst (λ X. X) own k.0, (k.1, tt));
         grouped = tt;
       }
-  follow k d {l = l} {vs = vs} {v = v} (truth_is {b = b} e f) ps m =
-      let none = no_more f ps in
-      let n : made (leaf (boolean b)) no_values ≡ Some v = subst (λ x. made (leaf (boolean b)) x ≡ Some v) none.0 (subst (λ x. made x vs ≡ Some v) e m) in
-      let is : v ≡ boolean b = cc in
-      made_leaf k d v none.1 (ap height is) (subst Keyed (sym is) tt) tt
-  follow k d {l = l} {vs = vs} {v = v} (number_is {n = i} e fits f) ps m =
-      let none = no_more f ps in
-      let n : made (leaf (integer i)) no_values ≡ Some v = subst (λ x. made (leaf (integer i)) x ≡ Some v) none.0 (subst (λ x. made x vs ≡ Some v) e m) in
-      let is : v ≡ integer i = cc in
-      made_leaf k d v none.1 (ap height is) (subst Keyed (sym is) tt) tt
-  follow k d {l = l} {vs = vs} {v = v} (text_is {s = s} e f) ps m =
-      let none = no_more f ps in
-      let n : made (written s) no_values ≡ Some v = subst (λ x. made (written s) x ≡ Some v) none.0 (subst (λ x. made x vs ≡ Some v) e m) in
-      let is : v ≡ string s = cc in
-      made_leaf k d v none.1 (ap height is) (subst Keyed (sym is) tt) tt
-  follow k d {l = l} {vs = vs} {v = v} (behind_is {s = s} e f) ps m =
-      let none = no_more f ps in
-      let n : made (written s) no_values ≡ Some v = subst (λ x. made (written s) x ≡ Some v) none.0 (subst (λ x. made x vs ≡ Some v) e m) in
-      let is : v ≡ string s = cc in
-      made_leaf k d v none.1 (ap height is) (subst Keyed (sym is) tt) tt
-  follow k d {l = l} {vs = vs} {v = v} (none_is e f) ps m =
-      let none = no_more f ps in
-      let n : made (tagged 0) no_values ≡ Some v = subst (λ x. made (tagged 0) x ≡ Some v) none.0 (subst (λ x. made x vs ≡ Some v) e m) in
-      let is : v ≡ chosen 0 no_values = cc in
-      made_leaf k d v none.1 (ap height is) (subst Keyed (sym is) (tt, tt)) tt
+  follow k d {v = v} (truth_is {b = b} e f) ps m = made_alone k d (boolean b) v e f ps m refl (refl, tt) tt
+  follow k d {v = v} (number_is {n = i} e fits f) ps m = made_alone k d (integer i) v e f ps m refl (refl, tt) tt
+  follow k d {v = v} (text_is {s = s} e f) ps m = made_alone k d (string s) v e f ps m refl (refl, tt) tt
+  follow k d {v = v} (behind_is {s = s} e f) ps m = made_alone k d (string s) v e f ps m refl (refl, tt) tt
+  follow k d {v = v} (none_is e f) ps m = made_alone k d (chosen 0 no_values) v e f ps m refl (refl, (tt, tt)) tt
   follow k d {l = l} {vs = vs} {v = v} (some_is {pos = pos} e f) ps m =
       let o = one box_here pos f ps in
       let n : made (tagged 1) (more_values o.value no_values) ≡ Some v = subst (λ x. made (tagged 1) x ≡ Some v) o.values_are (subst (λ x. made x vs ≡ Some v) e m) in
@@ -314,23 +298,13 @@ module _ (bytes : List ℕ) where
         keyed = λ x. subst Keyed (sym is) (tt, ((o.keyed x).1, tt));
         grouped = tt;
       }
-  follow k d {l = l} {vs = vs} {v = v} (nodes_follow {len = len} pos e f) ps m =
-      let n : made whole vs ≡ Some v = subst (λ x. made x vs ≡ Some v) e m in
-      let is : v ≡ group vs = cc in
-      made_group k d v ps (subst AllPlain (sym f) (nodes_plain pos len)) (ap height is) refl (subst Keyed is) (λ x. subst Keyed (sym is) x) tt
-  follow k d {l = l} {vs = vs} {v = v} (empty_is e f) ps m =
-      let none = no_more f ps in
-      let n : made whole no_values ≡ Some v = subst (λ x. made whole x ≡ Some v) none.0 (subst (λ x. made x vs ≡ Some v) e m) in
-      let is : v ≡ group no_values = cc in
-      made_leaf k d v none.1 (ap height is) (subst Keyed (sym is) tt) tt
+  follow k d {v = v} (nodes_follow {len = len} pos e f) ps m = made_all k d v e f (all_each (λ x. is_plain x ≡ true) node_here refl 24 pos len) ps m tt
+  follow k d {v = v} (empty_is e f) ps m = made_alone k d (group no_values) v e f ps m refl (refl, tt) tt
   follow k d {l = l} {vs = vs} {v = v} (total_is {len = len} {root = root} small e f) ps m =
       let o = one (tree_node 1) root f ps in
       let n : made (total len) (more_values o.value no_values) ≡ Some v = subst (λ x. made (total len) x ≡ Some v) o.values_are (subst (λ x. made x vs ≡ Some v) e m) in
       made_same k (tree_node 1) d v refl o (total_is_same o.value len (count_values (members o.value) == len) v n) tt
-  follow k d {l = l} {vs = vs} {v = v} (leaf_follows len key value low e f) ps m =
-      let n : made whole vs ≡ Some v = subst (λ x. made x vs ≡ Some v) e m in
-      let is : v ≡ group vs = cc in
-      made_group k d v ps (subst AllPlain (sym f) (entries_plain len key value)) (ap height is) refl (subst Keyed is) (λ x. subst Keyed (sym is) x) (is ∙ sym (ap (λ x. group (members x)) is))
+  follow k d {v = v} (leaf_follows len key value low e f) ps m = made_all k d v e f (entries_plain len key value) ps m refl
   follow k d {l = l} {vs = vs} {v = v} (inner_follows most deep link key value low next e f) ps m =
       let c = suc most in
       let n : made (woven c) vs ≡ Some v = subst (λ x. made x vs ≡ Some v) e m in
@@ -338,35 +312,27 @@ module _ (bytes : List ℕ) where
       let groups = all_groups c deep link (entries_from most key value) f ps in
       let counted = both_counted c deep link most key value f ps in
       let one_more = counted.children ∙ ap suc (sym counted.entries) in
-      made_group k d v ps (subst AllPlain (sym f) (plain_append (children_from c deep link) (entries_from most key value) (children_plain c deep link) (entries_plain most key value)))
-      (ap height is ∙ heights_weave (first_values c vs) (other_values c vs) groups one_more ∙ sym (heights_split c vs)) refl
+      made_group k d v ps (subst AllPlain (sym f) (all_append (λ k. is_plain k ≡ true) (children_from c deep link) (entries_from most key value) (children_plain c deep link) (entries_plain most key value)))
+      (ap height is ∙ heights_weave (first_values c vs) (other_values c vs) groups one_more ∙ sym (heights_split c vs))
       (λ x. let k = keyed_woven (first_values c vs) (other_values c vs) groups one_more (subst Keyed is x) in keyed_joined c vs k.0 k.1)
       (λ x. let k = suited_split KeysSuit c vs x in subst Keyed (sym is) (keyed_weave (first_values c vs) (other_values c vs) groups one_more k.0 k.1))
       (is ∙ sym (ap (λ x. group (members x)) is))
-  follow k d {l = l} {vs = vs} {v = v} (no_child_is e f) ps m =
-      let none = no_more f ps in
-      let n : made whole no_values ≡ Some v = subst (λ x. made whole x ≡ Some v) none.0 (subst (λ x. made x vs ≡ Some v) e m) in
-      let is : v ≡ group no_values = cc in
-      made_leaf k d v none.1 (ap height is) (subst Keyed (sym is) tt) (is ∙ sym (ap (λ x. group (members x)) is))
-  follow k d {l = l} {vs = vs} {v = v} (entry_follows e f) ps m =
-      let n : made whole vs ≡ Some v = subst (λ x. made x vs ≡ Some v) e m in
-      let is : v ≡ group vs = cc in
-      made_group k d v ps (subst AllPlain (sym f) (refl, (refl, tt))) (ap height is) refl (subst Keyed is) (λ x. subst Keyed (sym is) x) tt
-  follow k d {l = l} {vs = vs} {v = v} (no_items_is e f) ps m =
-      let none = no_more f ps in
-      let n : made whole no_values ≡ Some v = subst (λ x. made whole x ≡ Some v) none.0 (subst (λ x. made x vs ≡ Some v) e m) in
-      let is : v ≡ group no_values = cc in
-      made_leaf k d v none.1 (ap height is) (subst Keyed (sym is) tt) tt
-  follow k d {l = l} {vs = vs} {v = v} (items_follow {target = target} {cap = cap} controls are count e f) ps m =
-      let n : made whole vs ≡ Some v = subst (λ x. made x vs ≡ Some v) e m in
-      let is : v ≡ group vs = cc in
-      let items = items_count target 0 controls f ps in
-      made_group k d v ps (subst AllPlain (sym f) (items_plain target 0 controls)) (ap height is) refl (subst Keyed is) (λ x. subst Keyed (sym is) x)
-      (ap (λ x. count_values (members x)) is ∙ items ∙ ap (λ cs. length (full_from 0 cs)) are)
-  follow k d {l = l} {vs = vs} {v = v} (pair_follows key value e f) ps m =
-      let n : made whole vs ≡ Some v = subst (λ x. made x vs ≡ Some v) e m in
-      let is : v ≡ group vs = cc in
-      made_group k d v ps (subst AllPlain (sym f) (refl, (refl, tt))) (ap height is) refl (subst Keyed is) (λ x. subst Keyed (sym is) x) tt
+  follow k d {v = v} (no_child_is e f) ps m = made_alone k d (group no_values) v e f ps m refl (refl, tt) refl
+  follow k d {v = v} (entry_follows e f) ps m = made_all k d v e f (refl, (refl, tt)) ps m tt
+  follow k d {v = v} (no_items_is e f) ps m = made_alone k d (group no_values) v e f ps m refl (refl, tt) tt
+  follow k d {v = v} (items_follow {target = target} {cap = cap} controls are count e f) ps m =
+      made_all k d v e f (all_tagged (λ x. is_plain x ≡ true) pair_here refl 32 target 0 controls) ps m (items_count target 0 controls f ps ∙ ap (λ cs. length (full_from 0 cs)) are)
+  follow k d {v = v} (no_entries_is e f) ps m = made_alone k d (group no_values) v e f ps m refl (refl, tt) tt
+  follow k d {vs = vs} {v = v} (entries_second {target = target} {len = len} {cap = cap} {start = start} small e f) ps m =
+      let b = behind_numbers target len cap start v e f ps m in
+      let low = b.flat.0 in
+      let high = ap heights b.values_are in
+      made_group k d v ps (subst AllPlain (sym f) (refl, (refl, tt))) (omega (arith, low, high)) (λ x. subst AllKeyed (sym b.values_are) (b.flat.1, (x, tt))) (λ x. (subst AllKeyed b.values_are x).1.0) tt
+  follow k d {v = v} (numbers_follow {target = target} {len = len} controls are count e f) ps m =
+      made_all k d v e f (all_tagged (λ x. is_plain x ≡ true) (entry_number len) refl 4 target 0 controls) ps m (all_flat ps (subst (AllOf IsNumber) (sym f) (all_tagged IsNumber (entry_number len) tt 4 target 0 controls)))
+  follow k d {v = v} (entry_number_is {n = n} low e f) ps m = made_alone k d (natural n) v e f ps m refl (refl, tt) (refl, tt)
+  follow k d {v = v} (pairs_follow {len = len} pos e f) ps m = made_all k d v e f (all_each (λ x. is_plain x ≡ true) pair_here refl 32 pos len) ps m tt
+  follow k d {v = v} (pair_follows key value e f) ps m = made_all k d v e f (refl, (refl, tt)) ps m tt
 
   -- the keys of a table that are found are distinct, since each full place has an item
   buckets_apart : (pos target len cap : ℕ) {d : ℕ} {v : Value} {run : List Stop} → Peaked bytes (buckets_here target len cap) d v run
@@ -392,43 +358,38 @@ module _ (bytes : List ℕ) where
       let there : Peaked bytes (buckets_here target len cap) d u here = subst (λ (x : Spot). Peaked bytes x.place d u here) same_spot p in
       buckets_apart pos target len cap (subst (λ x. Peaked bytes (buckets_here target len cap) d x here) is there) r h
 
+  no_keys : {d : ℕ} {l : Label} {qs : List Spot} {vs : Values} {runs : List (List Stop)} {v : Value} → l ≡ whole → qs ≡ [] → AllPeaked bytes d qs vs runs → made l vs ≡ Some v → AreKeysDistinct (item_keys (members v))
+  unfolding made
+  no_keys {vs = vs} {v = v} e f ps m =
+      let n : made whole no_values ≡ Some v = subst (λ x. made whole x ≡ Some v) (no_more f ps).0 (subst (λ x. made x vs ≡ Some v) e m) in
+      let alone : group no_values ≡ v = cc in
+      subst (λ x. AreKeysDistinct (item_keys (members x))) alone tt
+
+  -- so are those of a kept map, since each entry has its number
+  index_apart : (pos : ℕ) (v : Value) {it : Item} {rest : List Part} {l : Label} {ps : List Part} → l ≡ second → BucketsRead bytes pos second it rest l ps → Findable (table_of kept_at bytes pos v) → AreKeysDistinct (item_keys (members v))
+  index_apart pos v e (reads_none f g z) h = absurd (cc)
+  index_apart pos v e (reads_buckets f g some leads) h = numbered_distinct (item_keys (members v)) 0 (subst Findable (led_table bytes kept_at pos v some leads) h).distinct
+
   apart : (k : Place) (pos : ℕ) {d : ℕ} {l : Label} {qs : List Spot} {vs : Values} {runs : List (List Stop)} {v : Value}
       → content_of node_names bytes (part_of k pos) ≡ plain l (parts_at qs) → Follows bytes k l qs → AllPeaked bytes d qs vs runs → made l vs ≡ Some v → FoundApart bytes k pos v
-  unfolding made
-  apart k pos {l = l} {qs = qs} {vs = vs} {v = v} c (passes {pos = goal} (table_passes {target = target} {len = len} {cap = cap} small) e f) ps m is h =
+  apart k pos {qs = qs} {vs = vs} {v = v} c (passes {pos = goal} (table_passes {target = target} {len = len} {cap = places} small) e f) ps m =
       let read = table_read bytes node_names pos pair_shape (c ∙ ap (λ x. plain x (parts_at qs)) e ∙ ap (λ x. plain same (parts_at x)) f) in
-      buckets_one pos goal target len cap f ps (subst (λ x. made x vs ≡ Some v) e m) read h
-  apart k pos {l = l} {qs = qs} {vs = vs} {v = v} c (no_items_is e f) ps m is h =
-      let none = no_more f ps in
-      let n : made whole no_values ≡ Some v = subst (λ x. made whole x ≡ Some v) none.0 (subst (λ x. made x vs ≡ Some v) e m) in
-      let alone : v ≡ group no_values = cc in
-      subst (λ x. AreKeysDistinct (item_keys (members x))) (sym alone) tt
-  apart k pos c fs ps m is h = absurd (cc)
+      buckets_one pos goal target len places f ps (subst (λ x. made x vs ≡ Some v) e m) read
+  apart k pos c (no_items_is e f) ps m = λ h. no_keys e f ps m
+  apart k pos c (no_entries_is e f) ps m = λ h. no_keys e f ps m
+  apart k pos {v = v} c (entries_second small e f) ps m = index_apart pos v e (index_read bytes node_names pos text node_shape c).read
+  apart k pos c fs ps m = tt
 
   -- ---- walks
-
-  no_first : {d : ℕ} {q : Part} {v : Value} {walk : List Stop} (pos : ℕ) → Walks node_names bytes d q v walk → q ≡ at pos (choice no_shapes) → ⊥
-  no_first pos (walks {p = q} {v = v} {vs = vs} all m e) is =
-      let n : value_of illegal vs ≡ Some v = subst (λ x. value_of x vs ≡ Some v) (ap (content_of node_names bytes) is ∙ no_choice bytes pos) m in
-      cc
-
-  pub no_walk : (pos : ℕ) {d : ℕ} {ps rest : List Part} {vs : Values} {runs : List (List Stop)} → WalkAll node_names bytes d ps vs runs → ps ≡ at pos (choice no_shapes) ∷ rest → ⊥
-  no_walk pos (walk_none e f) g = absurd (cc)
-  no_walk pos (walk_more {p = q} {v = v} w ws e f) g = let is : q ≡ at pos (choice no_shapes) = cc in no_first pos w is
-
-  pub absent_parts : (pos : ℕ) → parts_of (content_of node_names bytes (part_of absent_here pos)) ≡ at (pos + 0) (choice no_shapes) ∷ (at (pos + 1) (array 15 (number_shape w8 false)) ∷ [])
-  unfolding shape_content fields align_up
-  absent_parts pos = refl
 
   peaked_by : (k : Place) (pos d : ℕ) {p : Part} {v : Value} {vs : Values} {walk : List Stop} {inner : List (List Stop)} {qs : List Spot}
       → p ≡ part_of k pos
       → walk ≡ record { depth = d; part = p; value = v } ∷ joined (content_of node_names bytes p) inner
-      → (k ≡ absent_here → ⊥)
       → FoundApart bytes k pos v
       → AllPeaked bytes (depth_in d p) qs vs inner
       → (AllPeaked bytes (d + lift k) qs vs inner → Made k d v inner)
       → Peaked bytes k d v walk
-  peaked_by k pos d {p = p} {v = v} {vs = vs} {inner = inner} {qs = qs} is e present free ps on =
+  peaked_by k pos d {p = p} {v = v} {vs = vs} {inner = inner} {qs = qs} is e free ps on =
       let c = content_of node_names bytes p in
       let container : is_container p ≡ contains k = ap is_container is ∙ container_is k pos in
       let depth_is : depth_in d p ≡ d + lift k = ap (λ b. cond b (d + 1) d) container ∙ deeper (contains k) d (lift k) (lift_is k) in
@@ -437,9 +398,8 @@ module _ (bytes : List ℕ) where
         peak_is = ap (peak d) e ∙ ap (λ x. max (cond (is_container p) (d + 1) d) x) (peak_joined d c inner) ∙ ap (λ b. max (cond b (d + 1) d) (peak d (flat inner))) container
             ∙ peak_stop (contains k) d (lift k) (flat inner) (lift_is k) ∙ m.peak_is;
         sound = λ x. subst (Each (PlainSounds bytes)) (sym e) (subst (λ y. IsPlainSound bytes y v) (sym is) (own_sound k pos bytes v x.0), each_joined (PlainSounds bytes) c inner (m.sound x.1 x.0));
-        keyed = λ x. let h = subst (Each (IsQuiet bytes)) e x in (own_quiet k pos bytes v free (ap (λ y. map_faults bytes y v) (sym is) ∙ h.0), m.keyed (each_flat (IsQuiet bytes) c inner h.1));
+        keyed = λ x. let h = subst (Each (MapSounds bytes)) e x in (own_keyed k pos bytes v free (subst (λ y. IsMapSound bytes y v) is h.0), m.keyed (each_flat (MapSounds bytes) c inner h.1));
         grouped = m.grouped;
-        present = present;
       }
 
   counted_made : (t len d : ℕ) {vs : Values} {v : Value} {runs : List (List Stop)}
@@ -460,35 +420,30 @@ module _ (bytes : List ℕ) where
       → p ≡ part_of k pos
       → walk ≡ record { depth = d; part = p; value = v } ∷ joined (content_of node_names bytes p) inner
       → value_of (content_of node_names bytes p) vs ≡ Some v
-      → (k ≡ absent_here → ⊥)
       → ((qs : List Spot) → parts_of (content_of node_names bytes p) ≡ parts_at qs → AllPeaked bytes (depth_in d p) qs vs inner)
       → Leads bytes k (content_of node_names bytes (part_of k pos))
       → Peaked bytes k d v walk
-  peaked_case k pos d {v = v} {vs = vs} is e m present on (leads_nowhere f) =
+  peaked_case k pos d {v = v} {vs = vs} is e m on (leads_nowhere f) =
       let n : value_of illegal vs ≡ Some v = subst (λ x. value_of x vs ≡ Some v) (ap (content_of node_names bytes) is ∙ f) m in
       absurd (cc)
-  peaked_case absent_here pos d is e m present on leads_absent = absurd (present refl)
-  peaked_case k pos d {v = v} {vs = vs} {inner = inner} is e m present on (leads_plain f fs) =
+  peaked_case k pos d {v = v} {vs = vs} {inner = inner} is e m on (leads_plain f fs) =
       let c = ap (content_of node_names bytes) is ∙ f in
       let made_of = subst (λ x. value_of x vs ≡ Some v) c m in
       let parts = on _ (ap parts_of c) in
-      peaked_by k pos d is e present (apart k pos f fs parts made_of) parts (λ below. follow k d fs below made_of)
-  peaked_case k pos d {p = p} {v = v} {vs = vs} {inner = inner} is e m present on (leads_claimed f fs b) =
+      peaked_by k pos d is e (apart k pos f fs parts made_of) parts (λ below. follow k d fs below made_of)
+  peaked_case k pos d {p = p} {v = v} {vs = vs} {inner = inner} is e m on (leads_claimed f fs b) =
       let c = ap (content_of node_names bytes) is ∙ f in
-      peaked_by k pos d is e present (λ t. absurd (let at_table : is_behind table_here ≡ true = subst (λ x. is_behind x ≡ true) t b in cc)) (on _ (ap parts_of c))
+      peaked_by k pos d is e (behind_apart bytes k pos v b) (on _ (ap parts_of c))
       (λ below. follow k d fs below (subst (λ x. value_of x vs ≡ Some v) c m))
-  peaked_case shared_here pos d {v = v} {vs = vs} {inner = inner} is e m present on (leads_counted {t = t} {len = len} f) =
+  peaked_case shared_here pos d {v = v} {vs = vs} {inner = inner} is e m on (leads_counted {t = t} {len = len} f) =
       let c = ap (content_of node_names bytes) is ∙ f in
-      peaked_by shared_here pos d is e present (λ t. absurd (cc)) (on (record { place = text_behind len; pos = t } ∷ []) (ap parts_of c)) (λ below. counted_made t len d below (subst (λ x. value_of x vs ≡ Some v) c m))
+      peaked_by shared_here pos d is e tt (on (record { place = text_behind len; pos = t } ∷ []) (ap parts_of c)) (λ below. counted_made t len d below (subst (λ x. value_of x vs ≡ Some v) c m))
 
   mutual
     -- the walk of a place goes as deep as its value is high, and its maps are sound where the value's are
     pub peaked : {d : ℕ} {p : Part} {v : Value} {walk : List Stop} → Walks node_names bytes d p v walk → (k : Place) (pos : ℕ) → p ≡ part_of k pos → Peaked bytes k d v walk
     peaked (walks {depth = d} all m e) k pos is =
-        peaked_case k pos d is e m
-        (λ f. no_walk (pos + 0) all (ap (λ x. parts_of (content_of node_names bytes x)) (is ∙ ap (λ x. part_of x pos) f) ∙ absent_parts pos))
-        (λ qs f. all_peaked all qs f)
-        (led bytes k pos)
+        peaked_case k pos d is e m (λ qs f. all_peaked all qs f) (led bytes k pos)
 
     all_peaked : {d : ℕ} {ps : List Part} {vs : Values} {runs : List (List Stop)} → WalkAll node_names bytes d ps vs runs → (qs : List Spot) → ps ≡ parts_at qs → AllPeaked bytes d qs vs runs
     all_peaked (walk_none e f) [] is = none_peaked e f

@@ -2,36 +2,40 @@
 use Rattle.std.proofs.Common.{◌≡◌, ℕ, ℤ, zero, suc, ◌+◌, ◌-◌, ◌*◌, ◌^◌, ◌<◌, ◌≤◌, Bool, true, false, cond, nat_lt, nat_le, ◌&&◌, ◌==◌, List, [], ◌∷◌, ◌++◌, take, drop, length, slice_index, Option, Some, None, refl, sym, ap, ap₂, ◌∙◌, arith, eqb-true, w64, FitsSigned, inl, inr}
 use Rattle.std.specs.List.{count_by}
 use Rattle.std.proofs.lemmas.List.Sums.{sum_by-cons}
-use Rattle.std.proofs.lemmas.Bool.{lt-ltb, le-ltb, leb-true}
+use Rattle.std.proofs.lemmas.Bool.{lt-ltb, le-ltb, leb-true, ltb-true}
 use Rattle.std.proofs.lemmas.Bool.Decides.{leb_tells}
 use Rattle.std.specs.Int.{from_le_bytes, cast_signed}
 use Rattle.archive_forms_values.specs.ShapeLayout.Bytes.{window, align_up, word_at, target_from}
-use Rattle.archive_forms_values.specs.ShapeLayout.Shape.{align_of}
-use Rattle.archive_forms_values.specs.ShapeLayout.Shape.Shape.{number, truth, text, option, choice, box, vector, shared, tree, table}
+use Rattle.archive_forms_values.specs.ShapeLayout.Shape.{Shape, align_of, size_of}
+use Rattle.archive_forms_values.specs.ShapeLayout.Shape.Shape.{number, truth, text, option, choice, box, vector, shared, tree, table, index_map}
 use Rattle.archive_forms_values.specs.ShapeLayout.Shape.Pointee.{sized, slice, str}
-use Rattle.archive_forms_values.specs.ShapeLayout.Value.Value.{integer, boolean}
-use Rattle.archive_forms_values.specs.ShapeLayout.Content.{Part, Label, Content, content_of, choose, option_content, shape_tagged, shape_content, pointee_content, text_content, text_length, shared_content, following, begins_inline, before_ff, elements, number_value, children, entries, keys_offset, values_offset, links_offset, node_content, child_content, node_span, words_of, item, tagged_items, table_parts, control_count, wraps, buckets_span, buckets_content, fields}
-use Rattle.archive_forms_values.specs.ShapeLayout.Content.Part.{at, behind, node, child, entry, buckets}
-use Rattle.archive_forms_values.specs.ShapeLayout.Content.Label.{leaf, written, same, whole, tagged, woven, total}
+use Rattle.archive_forms_values.specs.ShapeLayout.Value.Value.{natural, integer, boolean}
+use Rattle.archive_forms_values.specs.ShapeLayout.Content.{Part, Label, Content, content_of, choose, option_content, shape_tagged, shape_content, pointee_content, text_content, text_length, shared_content, following, begins_inline, before_ff, elements, number_value, children, entries, keys_offset, values_offset, links_offset, node_content, child_content, node_span, words_of, Item, item, place, item_size, item_part, tagged_items, table_parts, control_count, wraps, buckets_span, buckets_content, place_content, fields}
+use Rattle.archive_forms_values.specs.ShapeLayout.Content.Part.{at, behind, node, child, entry, buckets, place_at}
+use Rattle.archive_forms_values.specs.ShapeLayout.Content.Label.{leaf, written, same, second, whole, tagged, woven, total}
 use Rattle.archive_forms_values.specs.ShapeLayout.Content.Content.{illegal, plain, claimed, counting}
 use Rattle.archive_forms_values.specs.ShapeCanonical.Canonical.{AreBytes}
 use Rattle.archive_forms_values.proofs.ArchiveShape.Words.{word_bound}
 use Rattle.archive_forms_values.proofs.ShapeLayout.Windows.{word_within}
-use Rattle.cabinet_documents.specs.Node.{node_shape, pair_shape, node_names, payloads, absent}
+use Rattle.cabinet_documents.specs.Node.{node_shape, pair_shape, node_names, payloads}
 use Rattle.cabinet_documents.specs.Table.{full_from}
 
 -- ---- places
 
 pub data Place : Type 0 where
-  node_here payload_here truth_here number_here text_here shared_here option_here box_here list_here ordered_here table_here pair_here absent_here : Place
+  node_here payload_here truth_here number_here text_here shared_here option_here box_here list_here ordered_here table_here index_here pair_here : Place
   -- of a search tree: a node and a pointer to a child, each at a level, and the value of an entry whose key is at a
   -- position
   tree_node tree_child entry_here : ℕ → Place
   -- of a hashed map: the buckets below a position, with so many items in so many places
   buckets_here : ℕ → ℕ → ℕ → Place
-  -- what pointers lead to: a node, `n` nodes, or a text of `n` bytes
+  -- of a kept map: the buckets below a position, with so many numbers in so many places, and one of the numbers, which
+  -- is that of an entry below a limit
+  numbers_here : ℕ → ℕ → ℕ → Place
+  entry_number : ℕ → Place
+  -- what pointers lead to: a node, `n` nodes, `n` pairs, or a text of `n` bytes
   node_behind : Place
-  nodes_behind text_behind : ℕ → Place
+  nodes_behind pairs_behind text_behind : ℕ → Place
 
 pub record Spot : Type 0 where
   pub place : Place
@@ -49,28 +53,45 @@ part_of box_here pos = at pos (box (sized node_shape))
 part_of list_here pos = at pos (vector node_shape)
 part_of ordered_here pos = at pos (tree 5 text node_shape)
 part_of table_here pos = at pos (table pair_shape)
+part_of index_here pos = at pos (index_map text node_shape)
 part_of pair_here pos = at pos pair_shape
 part_of (tree_node level) pos = node level 5 text node_shape pos
 part_of (tree_child level) pos = child level 5 text node_shape pos
 part_of (entry_here key) pos = entry text key node_shape pos
 part_of (buckets_here target len cap) pos = buckets target len cap (item pair_shape)
-part_of absent_here pos = at pos absent
+part_of (numbers_here target len cap) pos = buckets target len cap (place len)
+part_of (entry_number limit) pos = place_at pos limit
 part_of node_behind pos = behind pos (sized node_shape) 1
 part_of (nodes_behind len) pos = behind pos (slice node_shape) len
+part_of (pairs_behind len) pos = behind pos (slice pair_shape) len
 part_of (text_behind len) pos = behind pos str len
 
 abbrev pub parts_at : List Spot → List Part
 parts_at [] = []
 parts_at (q ∷ qs) = part_of q.place q.pos ∷ parts_at qs
 
+-- elements at a place, each of a size
+abbrev pub each_from : Place → ℕ → ℕ → ℕ → List Spot
+each_from k size pos zero = []
+each_from k size pos (suc n) = record { place = k; pos = pos } ∷ each_from k size (pos + size) n
+
 abbrev pub nodes_from : ℕ → ℕ → List Spot
-nodes_from pos zero = []
-nodes_from pos (suc n) = record { place = node_here; pos = pos } ∷ nodes_from (pos + 24) n
+nodes_from = each_from node_here 24
+
+abbrev pub pairs_from : ℕ → ℕ → List Spot
+pairs_from = each_from pair_here 32
+
+each_are : (k : Place) (s : Shape) → ((pos : ℕ) → at pos s ≡ part_of k pos) → (pos n : ℕ) → elements pos n s ≡ parts_at (each_from k (size_of s) pos n)
+unfolding elements
+each_are k s is pos zero = refl
+each_are k s is pos (suc n) = ap₂ (λ p ps. p ∷ ps) (is pos) (each_are k s is (pos + size_of s) n)
 
 pub nodes_are : (pos n : ℕ) → elements pos n node_shape ≡ parts_at (nodes_from pos n)
-unfolding elements
-nodes_are pos zero = refl
-nodes_are pos (suc n) = ap (λ ps. at pos node_shape ∷ ps) (nodes_are (pos + 24) n)
+nodes_are = each_are node_here node_shape (λ pos. refl)
+
+pub pairs_are : (pos n : ℕ) → elements pos n pair_shape ≡ parts_at (pairs_from pos n)
+unfolding align_up
+pairs_are = each_are pair_here pair_shape (λ pos. refl)
 
 -- the entries of a node, and the pointers to its children
 abbrev pub entries_from : ℕ → ℕ → ℕ → List Spot
@@ -91,19 +112,34 @@ unfolding children
 children_are zero level pos = refl
 children_are (suc n) level pos = ap (λ ps. child level 5 text node_shape pos ∷ ps) (children_are n level (pos + 4))
 
--- the pairs of the places whose controls are tags, where the first control is at place i
-abbrev pub items_from : ℕ → ℕ → List ℕ → List Spot
-items_from target i [] = []
-items_from target i (c ∷ cs) = cond (nat_lt c 128) (record { place = pair_here; pos = target - (i + 1) * 32 } ∷ items_from target (i + 1) cs) (items_from target (i + 1) cs)
+-- the items of the places whose controls are tags, each of a size, where the first control is at place i
+abbrev pub tagged_from : Place → ℕ → ℕ → ℕ → List ℕ → List Spot
+tagged_from k size target i [] = []
+tagged_from k size target i (c ∷ cs) = cond (nat_lt c 128) (record { place = k; pos = target - (i + 1) * size } ∷ tagged_from k size target (i + 1) cs) (tagged_from k size target (i + 1) cs)
 
-one_more_item : (b : Bool) (pos : ℕ) (ps : List Part) (qs : List Spot) → ps ≡ parts_at qs → cond b (at pos pair_shape ∷ ps) ps ≡ parts_at (cond b (record { place = pair_here; pos = pos } ∷ qs) qs)
-one_more_item true pos ps qs e = ap (λ xs. at pos pair_shape ∷ xs) e
-one_more_item false pos ps qs e = e
+-- of a hashed map, and of a kept map with entries below a limit
+abbrev pub items_from : ℕ → ℕ → List ℕ → List Spot
+items_from = tagged_from pair_here 32
+
+abbrev pub numbers_from : ℕ → ℕ → ℕ → List ℕ → List Spot
+numbers_from limit = tagged_from (entry_number limit) 4
+
+one_more_item : (b : Bool) (k : Place) (p : Part) (pos : ℕ) (ps : List Part) (qs : List Spot) → p ≡ part_of k pos → ps ≡ parts_at qs → cond b (p ∷ ps) ps ≡ parts_at (cond b (record { place = k; pos = pos } ∷ qs) qs)
+one_more_item true k p pos ps qs is e = ap₂ (λ x xs. x ∷ xs) is e
+one_more_item false k p pos ps qs is e = e
+
+tagged_are : (k : Place) (it : Item) → ((pos : ℕ) → item_part it pos ≡ part_of k pos) → (target i : ℕ) (cs : List ℕ) → tagged_items target it i cs ≡ parts_at (tagged_from k (item_size it) target i cs)
+unfolding tagged_items
+tagged_are k it is target i [] = refl
+tagged_are k it is target i (c ∷ cs) =
+    let pos = target - (i + 1) * item_size it in one_more_item (nat_lt c 128) k (item_part it pos) pos _ _ (is pos) (tagged_are k it is target (i + 1) cs)
 
 items_are : (target i : ℕ) (cs : List ℕ) → tagged_items target (item pair_shape) i cs ≡ parts_at (items_from target i cs)
-unfolding tagged_items align_up
-items_are target i [] = refl
-items_are target i (c ∷ cs) = one_more_item (nat_lt c 128) (target - (i + 1) * 32) _ _ (items_are target (i + 1) cs)
+unfolding align_up
+items_are = tagged_are pair_here (item pair_shape) (λ pos. refl)
+
+numbers_are : (limit target i : ℕ) (cs : List ℕ) → tagged_items target (place limit) i cs ≡ parts_at (numbers_from limit target i cs)
+numbers_are limit = tagged_are (entry_number limit) (place limit) (λ pos. refl)
 
 one_more_full : (b : Bool) (i n : ℕ) (ps : List ℕ) → length ps ≡ n → length (cond b (i ∷ ps) ps) ≡ cond b 1 0 + n
 one_more_full true i n ps e = omega (arith, e)
@@ -130,12 +166,13 @@ pub data Passes (bytes : List ℕ) : Place → Place → Type 0 where
   child_passes : {level : ℕ} → Passes bytes (tree_child level) (tree_node level)
   table_passes : {target len cap : ℕ} → (AreBytes bytes → len < 2 ^ 64) → Passes bytes table_here (buckets_here target len cap)
 
--- a tag's node is a container where its payload is an option, a list, an ordered or a hashed map
+-- a tag's node is a container where its payload is an option, a list or a map
 abbrev pub lifts : ℕ → ℕ
 lifts (suc (suc (suc (suc zero)))) = 1
 lifts (suc (suc (suc (suc (suc zero))))) = 1
 lifts (suc (suc (suc (suc (suc (suc zero)))))) = 1
 lifts (suc (suc (suc (suc (suc (suc (suc zero))))))) = 1
+lifts (suc (suc (suc (suc (suc (suc (suc (suc zero)))))))) = 1
 lifts n = 0
 
 -- a tag and its payload
@@ -148,7 +185,7 @@ pub data Pays : ℕ → Place → Type 0 where
   pays_list : Pays 5 list_here
   pays_ordered : Pays 6 ordered_here
   pays_hashed : Pays 7 table_here
-  pays_absent : {tag : ℕ} → lifts tag ≡ 0 → Pays tag absent_here
+  pays_kept : Pays 8 index_here
 
 -- how the value at a place is made, of the values at others
 pub data Follows (bytes : List ℕ) : Place → Label → List Spot → Type 0 where
@@ -172,19 +209,26 @@ pub data Follows (bytes : List ℕ) : Place → Label → List Spot → Type 0 w
   no_items_is : {l : Label} {qs : List Spot} → l ≡ whole → qs ≡ [] → Follows bytes table_here l qs
   -- of the controls of all places
   items_follow : {l : Label} {qs : List Spot} {target len cap : ℕ} (controls : List ℕ) → controls ≡ take cap (window bytes target (control_count cap)) → length (full_from 0 controls) ≡ len → l ≡ whole → qs ≡ items_from target 0 controls → Follows bytes (buckets_here target len cap) l qs
+  no_entries_is : {l : Label} {qs : List Spot} → l ≡ whole → qs ≡ [] → Follows bytes index_here l qs
+  -- the numbers of entries, and then the entries
+  entries_second : {l : Label} {qs : List Spot} {target len cap start : ℕ} → (AreBytes bytes → len < 2 ^ 64) → l ≡ second → qs ≡ record { place = numbers_here target len cap; pos = target } ∷ (record { place = pairs_behind len; pos = start } ∷ []) → Follows bytes index_here l qs
+  numbers_follow : {l : Label} {qs : List Spot} {target len cap : ℕ} (controls : List ℕ) → controls ≡ take cap (window bytes target (control_count cap)) → length (full_from 0 controls) ≡ len → l ≡ whole → qs ≡ numbers_from len target 0 controls → Follows bytes (numbers_here target len cap) l qs
+  entry_number_is : {l : Label} {qs : List Spot} {limit n : ℕ} → n < limit → l ≡ leaf (natural n) → qs ≡ [] → Follows bytes (entry_number limit) l qs
+  pairs_follow : {l : Label} {qs : List Spot} {len : ℕ} (pos : ℕ) → l ≡ whole → qs ≡ pairs_from pos len → Follows bytes (pairs_behind len) l qs
   pair_follows : {l : Label} {qs : List Spot} (key value : ℕ) → l ≡ whole → qs ≡ record { place = text_here; pos = key } ∷ (record { place = node_here; pos = value } ∷ []) → Follows bytes pair_here l qs
 
 abbrev pub is_behind : Place → Bool
 is_behind node_behind = true
 is_behind (nodes_behind len) = true
+is_behind (pairs_behind len) = true
 is_behind (text_behind len) = true
 is_behind (tree_node level) = true
 is_behind (buckets_here target len cap) = true
+is_behind (numbers_here target len cap) = true
 is_behind k = false
 
 pub data Leads (bytes : List ℕ) : Place → Content → Type 0 where
   leads_nowhere : {k : Place} {c : Content} → c ≡ illegal → Leads bytes k c
-  leads_absent : {c : Content} → Leads bytes absent_here c
   leads_plain : {k : Place} {c : Content} {l : Label} {qs : List Spot} → c ≡ plain l (parts_at qs) → Follows bytes k l qs → Leads bytes k c
   leads_claimed : {k : Place} {c : Content} {l : Label} {qs : List Spot} {start size align : ℕ} → c ≡ claimed (record { start = start; size = size; align = align }) l (parts_at qs) → Follows bytes k l qs → is_behind k ≡ true → Leads bytes k c
   -- to a text that may have been visited before
@@ -209,7 +253,7 @@ module _ (bytes : List ℕ) where
   payload_led pos (suc (suc (suc (suc (suc zero))))) = leads_plain refl (pays pays_list refl refl)
   payload_led pos (suc (suc (suc (suc (suc (suc zero)))))) = leads_plain refl (pays pays_ordered refl refl)
   payload_led pos (suc (suc (suc (suc (suc (suc (suc zero))))))) = leads_plain refl (pays pays_hashed refl refl)
-  payload_led pos (suc (suc (suc (suc (suc (suc (suc (suc zero)))))))) = leads_plain refl (pays (pays_absent {tag = 8} refl) refl refl)
+  payload_led pos (suc (suc (suc (suc (suc (suc (suc (suc zero)))))))) = leads_plain refl (pays pays_kept refl refl)
   payload_led pos (suc (suc (suc (suc (suc (suc (suc (suc (suc n))))))))) = leads_nowhere refl
 
   truth_led : (n : ℕ) (b : Bool) → Leads bytes truth_here (choose b (plain (leaf (boolean (n == 1))) []) illegal)
@@ -309,6 +353,33 @@ module _ (bytes : List ℕ) where
   buckets_led target len cap true false counted e = leads_nowhere refl
   buckets_led target len cap false wrapped counted e = leads_nowhere refl
 
+  index_led : (entries o : Option ℕ) (len cap : ℕ) (none fewer : Bool) → (AreBytes bytes → len < 2 ^ 64)
+      → Leads bytes index_here
+      (choose none (plain whole []) (following entries (λ t. choose fewer (following o (λ u. plain second (buckets u len cap (place len) ∷ (behind t (slice pair_shape) len ∷ [])))) illegal)))
+  unfolding choose following
+  index_led entries o len cap true fewer small = leads_plain {qs = []} refl (no_entries_is refl refl)
+  index_led None o len cap false fewer small = leads_nowhere refl
+  index_led (Some t) o len cap false false small = leads_nowhere refl
+  index_led (Some t) None len cap false true small = leads_nowhere refl
+  index_led (Some t) (Some u) len cap false true small =
+      leads_plain {qs = record { place = numbers_here u len cap; pos = u } ∷ (record { place = pairs_behind len; pos = t } ∷ [])} refl (entries_second small refl refl)
+
+  numbers_led : (target len cap : ℕ) (room wrapped counted : Bool) → (count_by (λ c. nat_lt c 128) (take cap (window bytes target (control_count cap))) == len) ≡ counted
+      → Leads bytes (numbers_here target len cap)
+      (choose (room && (wrapped && counted)) (claimed (buckets_span target cap (place len)) whole (tagged_items target (place len) 0 (take cap (window bytes target (control_count cap))))) illegal)
+  unfolding choose
+  numbers_led target len cap true true true e =
+      let controls = take cap (window bytes target (control_count cap)) in
+      leads_claimed {qs = numbers_from len target 0 controls} (ap (claimed (buckets_span target cap (place len)) whole) (numbers_are len target 0 controls)) (numbers_follow controls refl (full_count 0 controls ∙ eqb-true _ _ e) refl refl) refl
+  numbers_led target len cap true true false e = leads_nowhere refl
+  numbers_led target len cap true false counted e = leads_nowhere refl
+  numbers_led target len cap false wrapped counted e = leads_nowhere refl
+
+  entry_number_led : (n limit : ℕ) (below : Bool) → nat_lt n limit ≡ below → Leads bytes (entry_number limit) (choose below (plain (leaf (natural n)) []) illegal)
+  unfolding choose
+  entry_number_led n limit true e = let low = ltb-true n limit e in leads_plain {qs = []} refl (entry_number_is low refl refl)
+  entry_number_led n limit false e = leads_nowhere refl
+
   length_small : (pos size : ℕ) → 8 ≤ size → AreBytes bytes → word_at (window bytes pos size) 4 < 2 ^ 64
   length_small pos size long small =
       let e = word_within bytes pos size 4 (omega (arith, long)) in
@@ -317,7 +388,7 @@ module _ (bytes : List ℕ) where
 
   -- what a place says
   pub led : (k : Place) (pos : ℕ) → Leads bytes k (content_of node_names bytes (part_of k pos))
-  unfolding shape_content pointee_content text_content shared_content number_value child_content table_parts buckets_content fields choose align_up
+  unfolding shape_content pointee_content text_content shared_content number_value child_content table_parts buckets_content place_content fields choose align_up
   led node_here pos = leads_plain {qs = record { place = payload_here; pos = pos } ∷ []} refl (passes node_passes refl refl)
   led payload_here pos = payload_led pos (slice_index (window bytes pos 24) 0)
   led truth_here pos = truth_led (slice_index (window bytes pos 1) 0) (nat_lt (slice_index (window bytes pos 1) 0) 2)
@@ -338,8 +409,15 @@ module _ (bytes : List ℕ) where
   led (buckets_here target len cap) pos =
       let controls = window bytes target (control_count cap) in
       buckets_led target len cap (nat_le (cap * 32) target) (wraps cap controls 0 controls) (count_by (λ c. nat_lt c 128) (take cap controls) == len) refl
+  led index_here pos =
+      let own = window bytes pos 16 in
+      index_led (target_from (pos + 12) (word_at own 12)) (target_from pos (word_at own 0)) (word_at own 4) (word_at own 8) (word_at own 4 == 0) (nat_lt (word_at own 4) (word_at own 8)) (length_small pos 16 (omega arith))
+  led (numbers_here target len cap) pos =
+      let controls = window bytes target (control_count cap) in
+      numbers_led target len cap (nat_le (cap * 4) target) (wraps cap controls 0 controls) (count_by (λ c. nat_lt c 128) (take cap controls) == len) refl
+  led (entry_number limit) pos = entry_number_led (word_at (window bytes pos 4) 0) limit (nat_lt (word_at (window bytes pos 4) 0) limit) refl
   led pair_here pos = leads_plain {qs = record { place = text_here; pos = pos + 0 } ∷ (record { place = node_here; pos = pos + 8 } ∷ [])} refl (pair_follows (pos + 0) (pos + 8) refl refl)
-  led absent_here pos = leads_absent
   led node_behind pos = leads_claimed {qs = record { place = node_here; pos = pos } ∷ []} refl (passes behind_passes refl refl) refl
   led (nodes_behind len) pos = leads_claimed {qs = nodes_from pos len} (ap (claimed (record { start = pos; size = len * 24; align = 8 }) whole) (nodes_are pos len)) (nodes_follow pos refl refl) refl
+  led (pairs_behind len) pos = leads_claimed {qs = pairs_from pos len} (ap (claimed (record { start = pos; size = len * 32; align = 8 }) whole) (pairs_are pos len)) (pairs_follow pos refl refl) refl
   led (text_behind len) pos = leads_claimed {qs = []} refl (behind_is refl refl) refl

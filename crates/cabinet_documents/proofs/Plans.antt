@@ -1,12 +1,12 @@
 -- The plans that values of documents have: what their own bytes lead to.
-use Rattle.std.proofs.Common.{◌≡◌, ℕ, suc, ◌+◌, ◌*◌, ◌<◌, ◌≤◌, true, false, List, [], ◌∷◌, length, Some, refl, sym, ap, ap₂, subst, ◌∙◌, arith, ⊎_elim}
+use Rattle.std.proofs.Common.{◌≡◌, ℕ, suc, ◌+◌, ◌*◌, ◌<◌, ◌≤◌, true, false, List, [], ◌∷◌, length, map as list_map, Some, refl, sym, ap, ap₂, subst, ◌∙◌, arith, ⊎_elim}
 use Rattle.std.specs.Int.{w64}
 use Rattle.std.specs.List.{AllByRecursion}
 use Rattle.std.proofs.lemmas.Bool.{cases_lt}
-use Rattle.std.proofs.lemmas.List.{nil_from_length}
+use Rattle.std.proofs.lemmas.List.{nil_from_length, length-map}
 use Rattle.archive_forms_values.specs.ShapeLayout.Bytes.{align_up}
 use Rattle.archive_forms_values.specs.ShapeLayout.Shape.{Shape, size_of, align_of}
-use Rattle.archive_forms_values.specs.ShapeLayout.Shape.Shape.{number, truth, text, option, choice, vector, tree, table, shared as shared_shape}
+use Rattle.archive_forms_values.specs.ShapeLayout.Shape.Shape.{number, truth, text, option, choice, vector, tree, table, index_map, shared as shared_shape}
 use Rattle.archive_forms_values.specs.ShapeLayout.Shape.Pointee.{str}
 use Rattle.archive_forms_values.specs.ShapeLayout.Value.{Value, Values, count_values}
 use Rattle.archive_forms_values.specs.ShapeLayout.Value.Value.{integer, boolean, string, group, chosen, counted}
@@ -16,8 +16,9 @@ use Rattle.archive_forms_values.specs.ShapeLayout.Content.Part.{at}
 use Rattle.archive_forms_values.specs.ShapeCanonical.Packed.{levels_for}
 use Rattle.archive_forms_values.specs.ShapeCanonical.Settled.{Fit}
 use Rattle.archive_forms_values.specs.ShapeCanonical.Sharing.{erased, all_erased}
-use Rattle.archive_forms_values.specs.ShapeCanonical.Plan.{Plan, flat, parts, leads, leads_to_text, counts, Target, Plans, no_plans, more_plans, whole_target, truth_is_flat, number_is_flat, HasPlan, plan_flat, plan_inline, plan_text, plan_tuple, plan_none, plan_some, plan_choice, plan_box, plan_vector, plan_shared, plan_no_tree, plan_tree, plan_no_table, plan_table, plan_named, plan_sized, plan_slice, plan_str, HavePlans, plans_none, plans_at}
+use Rattle.archive_forms_values.specs.ShapeCanonical.Plan.{Plan, flat, parts, leads, leads_to_text, counts, Target, Plans, no_plans, more_plans, whole_target, truth_is_flat, number_is_flat, HasPlan, plan_flat, plan_inline, plan_text, plan_tuple, plan_none, plan_some, plan_choice, plan_box, plan_vector, plan_shared, plan_no_tree, plan_tree, plan_no_table, plan_table, plan_no_map, plan_map, plan_named, plan_sized, plan_slice, plan_str, HavePlans, plans_none, plans_at}
 use Rattle.archive_forms_values.specs.FormsLaws.Views.{listed as listed_in}
+use Rattle.archive_forms_values.specs.FormsLaws.Sample.{number_shape}
 use Rattle.archive_btree_spelling.proofs.Parting.{EachIs}
 use Rattle.archive_btree_spelling.proofs.Planned.{pair, listed, count_same, EntryPlan, TreePlan, tree_planned, IsPlanned, tree_has_plan}
 use Rattle.archive_hash_writing.specs.Fitted.{capacity_of, places_of, table_of, controls_of}
@@ -28,11 +29,10 @@ use Rattle.cabinet_text_grammar.specs.Tree as document
 use Rattle.cabinet_text_grammar.specs.Tree.{Tree, Trees, Pairs, leaf, shared, nothing, just, list, map, no_trees, more_trees, no_pairs, more_pairs, IsLegal, AreLegal, ArePairs}
 use Rattle.cabinet_documents.specs.Node.{node_shape, node_names, pair_shape, payloads}
 use Rattle.cabinet_documents.specs.Denotes.{tagged_value, pair_value}
-use Rattle.cabinet_documents.specs.HasLayout.{HasLayout, HaveLayout, HavePairsLayout}
-use Rattle.cabinet_documents.specs.Spelling.{boxed_shape, pairs_in}
-use Rattle.cabinet_documents.proofs.FirstFit.{by_first_fit}
+use Rattle.cabinet_documents.specs.Spelling.{boxed_shape, trees_in, pairs_in}
+use Rattle.cabinet_documents.proofs.FirstFit.{by_first_fit, listed_mapped}
 use Rattle.cabinet_documents.proofs.PlacedPairs.{pair_hashes}
-use Rattle.cabinet_documents.proofs.Values.{value_of, values_of, values_of_pairs, entry_value}
+use Rattle.cabinet_documents.proofs.Values.{value_of, values_of, values_of_pairs, entry_value, pairs_are}
 use Rattle.cabinet_documents.proofs.SpellingDenoted.{tagged, simply_tagged, shared_text, grouped, paired}
 
 -- the plan of a text, inline or out of line
@@ -64,6 +64,11 @@ node_at = 0 + align_up (align_up 0 (align_of text) + size_of text) (align_of nod
 abbrev pub pair_plan : Plan → Plan → Plan
 pair_plan p q = parts (more_plans key_at p (more_plans node_at q no_plans))
 
+-- of an index map: the table of the numbers of so many pairs, and the pairs
+abbrev pub index_plan : (len cap : ℕ) → Plans → Plan
+index_plan len cap ps =
+    parts (more_plans 0 (leads (len ∷ (cap ∷ [])) (table_target number_shape cap) flat) (more_plans 12 (slice_plan pair_shape [] len ps) no_plans))
+
 -- the number of places of the table of pairs
 abbrev pub places_for : List (List ℕ × Tree) → ℕ
 places_for xs = capacity_of 7 8 (pair_hashes xs) xs
@@ -71,6 +76,16 @@ places_for xs = capacity_of 7 8 (pair_hashes xs) xs
 pub entry_values : (fit : Fit) (ps : Pairs) → values_of_pairs ps ≡ listed fit node_names 5 text node_shape entry_value (pairs_in ps)
 entry_values fit no_pairs = refl
 entry_values fit (more_pairs k t ps) = ap (more_values (pair_value k (value_of t))) (entry_values fit ps)
+
+pub values_listed : (ts : Trees) → listed_in (values_of ts) ≡ list_map value_of (trees_in ts)
+values_listed no_trees = refl
+values_listed (more_trees t ts) = ap (λ vs. value_of t ∷ vs) (values_listed ts)
+
+pub pairs_listed : (ps : Pairs) → listed_in (values_of_pairs ps) ≡ list_map entry_value (pairs_in ps)
+pairs_listed ps = ap listed_in (pairs_are ps) ∙ listed_mapped entry_value (λ p. p.0) (λ p. refl) (pairs_in ps)
+
+pub length-values : {A : Type 0} (as_value : A → Value) (xs : List A) (vs : Values) → listed_in (all_erased vs) ≡ list_map as_value xs → count_values vs ≡ length xs
+length-values as_value xs vs same = sym (count_listed vs) ∙ ap length same ∙ length-map xs as_value
 
 module _ (fit : Fit) where
   abbrev pub Planned : Shape → Value → Plan → Type 0
@@ -245,6 +260,41 @@ module _ (fit : Fit) where
   pairs_planned (x ∷ xs) vs us v p fills is same h =
       table_planned fit node_names pair_shape entry_value (table_of 7 8 (pair_hashes (x ∷ xs)) (x ∷ xs)) (controls_of 7 8 (pair_hashes (x ∷ xs)) (x ∷ xs)) (length (x ∷ xs)) (places_for (x ∷ xs)) vs fills us v p is same h
 
+  -- the plan of a kept map whose pairs have these values
+  abbrev pub KeptPlan : List (List ℕ × Tree) → Values → Plan → Type 0
+  KeptPlan [] us p = p ≡ flat
+  KeptPlan (x ∷ xs) us p = (ps : Plans) × ArePlanned pair_shape 0 us ps × (p ≡ index_plan (length (x ∷ xs)) (places_for (x ∷ xs)) ps)
+
+  -- a fit gives a kept map as many places as are written
+  abbrev pub HasPlaces : Type 0
+  HasPlaces = (xs : List (List ℕ × Tree)) → fit.capacity (length xs) ≡ places_for xs
+
+  pub kept_planned : HasPlaces → (xs : List (List ℕ × Tree)) (us : Values) (v : Value) (p : Plan) → v ≡ group us → listed_in (all_erased us) ≡ list_map entry_value xs → Planned (index_map text node_shape) v p
+      → KeptPlan xs us p
+  kept_planned places xs us v p is same (plan_flat f) = elim f [ ]
+  kept_planned places [] us v p is same plan_no_map = refl
+  kept_planned places (x ∷ xs) us v p is same plan_no_map =
+      let none : no_values ≡ us = cc in
+      let count : count_values us ≡ length (x ∷ xs) = length-values entry_value (x ∷ xs) us same in
+      let empty : count_values us ≡ 0 = ap count_values (sym none) in
+      absurd (omega (arith, count, empty))
+  kept_planned places [] us v p is same (plan_map {items = items} {n = n} some n_is cap_is h) =
+      let alike : items ≡ us = cc in
+      let count : count_values us ≡ 0 = length-values entry_value [] us same in
+      let size : n ≡ count_values us = n_is ∙ ap count_values alike in
+      absurd (omega (arith, some, size, count))
+  kept_planned places (x ∷ xs) us v p is same (plan_map {items = items} {n = n} {cap = cap} some n_is cap_is (plan_slice {n = m} {ps = ps} m_is h)) =
+      let alike : items ≡ us = cc in
+      let count : count_values us ≡ length (x ∷ xs) = length-values entry_value (x ∷ xs) us same in
+      let size : n ≡ length (x ∷ xs) = n_is ∙ ap count_values alike ∙ count in
+      let wide : m ≡ length (x ∷ xs) = m_is ∙ ap count_values alike ∙ count in
+      let room : cap ≡ places_for (x ∷ xs) = cap_is ∙ ap fit.capacity size ∙ places (x ∷ xs) in (
+        ps,
+        subst (λ z. ArePlanned pair_shape 0 z ps) alike (subst (λ k. HavePlans fit node_names (elements 0 k pair_shape) items ps) m_is h),
+        (λ i.
+            parts (more_plans 0 (leads (size i ∷ (room i ∷ [])) (table_target number_shape (room i)) flat) (more_plans 12 (slice_plan pair_shape [] (wide i) ps) no_plans))),
+      )
+
   module _ (s : Shape) where
     -- the first of some elements, and the others
     pub record FirstPlan (offset : ℕ) (v : Value) (vs : Values) (ps : Plans) : Type 0 where
@@ -310,67 +360,87 @@ module _ (fit : Fit) where
       let p = table_has_plan fit node_names pair_shape entry_value (table_of 7 8 (pair_hashes (x ∷ xs)) (x ∷ xs)) (controls_of 7 8 (pair_hashes (x ∷ xs)) (x ∷ xs)) (length (x ∷ xs)) (places_for (x ∷ xs)) vs fills us same all in
       plan_node 7 (table pair_shape) (group us) v p.0 is refl p.1
 
-  -- of each hashed map whose keys ascend
-  abbrev pub FillsMaps : Type 0
-  FillsMaps = (ps : Pairs) → ArePairs hashed [] ps → FillsPairs (pairs_in ps) (by_first_fit (values_of_pairs ps))
+  -- values side by side have plans where each has one
+  module _ {A : Type 0} (s : Shape) (as_value : A → Value) where
+    all_have_plans : (xs : List A) (vs : Values) (offset : ℕ) → listed_in (all_erased vs) ≡ list_map as_value xs → AllByRecursion (IsItemPlanned fit node_names s as_value) xs → (ps : Plans) × ArePlanned s offset vs ps
+    unfolding elements
+    all_have_plans [] no_values offset same each = (no_plans, plans_none)
+    all_have_plans [] (more_values v vs) offset same each = absurd cc
+    all_have_plans (x ∷ xs) no_values offset same each = absurd cc
+    all_have_plans (x ∷ xs) (more_values v vs) offset same each =
+        let first : erased v ≡ as_value x = cc in
+        let rest : listed_in (all_erased vs) ≡ list_map as_value xs = cc in
+        let p = each.0 v first in
+        let ps = all_have_plans xs vs (offset + size_of s) rest each.1 in
+        let count : suc (count_values vs) ≡ count_values (more_values v vs) = omega arith in
+        let all : HavePlans fit node_names (elements offset (suc (count_values vs)) s) (more_values v vs) (more_plans offset p.0 ps.0) = plans_at p.1 ps.1 in
+        (more_plans offset p.0 ps.0, subst (λ n. HavePlans fit node_names (elements offset n s) (more_values v vs) (more_plans offset p.0 ps.0)) count all)
+
+  kept_has_plan : (xs : List (List ℕ × Tree)) (us : Values) (v : Value) → v ≡ tagged_value 8 (group us) → listed_in (all_erased us) ≡ list_map entry_value xs
+      → EachIs (IsPlanned fit node_names 5 text node_shape entry_value) xs → (p : Plan) × Planned node_shape v p
+  kept_has_plan [] no_values v is same each = plan_node 8 (index_map text node_shape) (group no_values) v flat is refl plan_no_map
+  kept_has_plan [] (more_values u us) v is same each = absurd cc
+  kept_has_plan (x ∷ xs) us v is same each =
+      let n = count_values us in
+      let count : n ≡ length (x ∷ xs) = length-values entry_value (x ∷ xs) us same in
+      let some : 1 ≤ n = omega (arith, count) in
+      let ps = all_have_plans pair_shape entry_value (x ∷ xs) us 0 same (pairs_have_plan (x ∷ xs) each) in
+      plan_node 8 (index_map text node_shape) (group us) v (index_plan n (fit.capacity n) ps.0) is refl (plan_map some refl refl (plan_slice refl ps.1))
+
+  -- hashed maps whose keys ascend are filled as they are written, and kept maps have as many places
+  pub record FillsMaps : Type 0 where
+    pub hashed_maps : (ps : Pairs) → ArePairs hashed [] ps → FillsPairs (pairs_in ps) (by_first_fit (values_of_pairs ps))
+    pub kept_maps : HasPlaces
 
   module _ (fills : FillsMaps) where
     mutual
-      unfolding elements
-
-      pub has_plan : (t : Tree) (v : Value) → HasLayout t → IsLegal t → erased v ≡ value_of t → (p : Plan) × Planned node_shape v p
-      has_plan (leaf (document.truth b)) v h legal e = let x = tagged 0 (boolean b) v e in plan_node 0 truth x.inner v flat x.is refl (plan_flat truth_is_flat)
-      has_plan (leaf (document.number n)) v h legal e = let x = tagged 1 (integer n) v e in plan_node 1 (number w64 true) x.inner v flat x.is refl (plan_flat number_is_flat)
-      has_plan (leaf (document.text t)) v h legal e =
+      pub has_plan : (t : Tree) (v : Value) → IsLegal t → erased v ≡ value_of t → (p : Plan) × Planned node_shape v p
+      has_plan (leaf (document.truth b)) v legal e = let x = tagged 0 (boolean b) v e in plan_node 0 truth x.inner v flat x.is refl (plan_flat truth_is_flat)
+      has_plan (leaf (document.number n)) v legal e = let x = tagged 1 (integer n) v e in plan_node 1 (number w64 true) x.inner v flat x.is refl (plan_flat number_is_flat)
+      has_plan (leaf (document.text t)) v legal e =
           let p = text_has_plan t in
           plan_node 2 text (string t) v p.0 (simply_tagged 2 (string t) v tt e) refl p.1
-      has_plan (shared t) v h legal e =
+      has_plan (shared t) v legal e =
           let x = tagged 3 (counted 0 (string t)) v e in
           let y = shared_text t x.inner x.same in
           plan_node 3 (shared_shape false str) (counted y.pos (string t)) v (text_plan t) (x.is ∙ ap (tagged_value 3) y.is) refl (plan_shared (plan_str refl) refl)
-      has_plan nothing v h legal e = plan_node 4 (option boxed_shape) (chosen 0 no_values) v flat (simply_tagged 4 (chosen 0 no_values) v tt e) refl plan_none
-      has_plan (just t) v h legal e =
+      has_plan nothing v legal e = plan_node 4 (option boxed_shape) (chosen 0 no_values) v flat (simply_tagged 4 (chosen 0 no_values) v tt e) refl plan_none
+      has_plan (just t) v legal e =
           let x = tagged 4 (tagged_value 1 (value_of t)) v e in
           let y = tagged 1 (value_of t) x.inner x.same in
-          let p = has_plan t y.inner h legal y.same in
+          let p = has_plan t y.inner legal y.same in
           plan_node 4 (option boxed_shape) (tagged_value 1 y.inner) v (one_plan (align_up 1 (align_of boxed_shape)) (box_plan p.0)) (x.is ∙ ap (tagged_value 4) y.is) refl
           (plan_some (plans_at (plan_box (plan_sized p.1)) plans_none))
-      has_plan (list ts) v h legal e =
+      has_plan (list ts) v legal e =
           let x = tagged 5 (group (values_of ts)) v e in
           let y = grouped (values_of ts) x.inner x.same in
-          let ps = have_plans ts y.inner 0 h legal.0 y.same in
+          let ps = all_have_plans node_shape value_of (trees_in ts) y.inner 0 (ap listed_in y.same ∙ values_listed ts) (trees_have_plans ts legal.0) in
           plan_node 5 (vector node_shape) (group y.inner) v (slice_plan node_shape (count_values y.inner ∷ []) (count_values y.inner) ps.0) (x.is ∙ ap (tagged_value 5) y.is) refl (plan_vector (plan_slice refl ps.1))
-      has_plan (map ordered ps) v h legal e =
+      has_plan (map ordered ps) v legal e =
           let x = tagged 6 (group (values_of_pairs ps)) v e in
           let y = grouped (values_of_pairs ps) x.inner x.same in
-          map_has_plan (pairs_in ps) y.inner v (x.is ∙ ap (tagged_value 6) y.is) (y.same ∙ entry_values fit ps) (pairs_have_plans ordered [] ps h legal.0)
-      has_plan (map hashed ps) v h legal e =
+          map_has_plan (pairs_in ps) y.inner v (x.is ∙ ap (tagged_value 6) y.is) (y.same ∙ entry_values fit ps) (pairs_have_plans ordered [] ps legal.0)
+      has_plan (map hashed ps) v legal e =
           let vs = by_first_fit (values_of_pairs ps) in
           let x = tagged 7 (group vs) v e in
           let y = grouped vs x.inner x.same in
-          hashed_has_plan (pairs_in ps) vs y.inner v (x.is ∙ ap (tagged_value 7) y.is) y.same (fills ps legal.0) (pairs_have_plans hashed [] ps h legal.0)
-      has_plan (map kept ps) v h legal e = absurd h
+          hashed_has_plan (pairs_in ps) vs y.inner v (x.is ∙ ap (tagged_value 7) y.is) y.same (fills.hashed_maps ps legal.0) (pairs_have_plans hashed [] ps legal.0)
+      has_plan (map kept ps) v legal e =
+          let x = tagged 8 (group (values_of_pairs ps)) v e in
+          let y = grouped (values_of_pairs ps) x.inner x.same in
+          kept_has_plan (pairs_in ps) y.inner v (x.is ∙ ap (tagged_value 8) y.is) (ap listed_in y.same ∙ pairs_listed ps) (pairs_have_plans kept [] ps legal.0)
 
-      pairs_have_plans : (kind : MapKind) (keys : List (List ℕ)) (ps : Pairs) → HavePairsLayout ps → ArePairs kind keys ps → EachIs (IsPlanned fit node_names 5 text node_shape entry_value) (pairs_in ps)
-      pairs_have_plans kind keys no_pairs h legal = tt
-      pairs_have_plans kind keys (more_pairs k t ps) h legal = (
+      pairs_have_plans : (kind : MapKind) (keys : List (List ℕ)) (ps : Pairs) → ArePairs kind keys ps → EachIs (IsPlanned fit node_names 5 text node_shape entry_value) (pairs_in ps)
+      pairs_have_plans kind keys no_pairs legal = tt
+      pairs_have_plans kind keys (more_pairs k t ps) legal = (
         λ e same.
             let x = paired k (value_of t) e same in
             let p = text_has_plan k in
-            let q = has_plan t x.inner h.0 legal.1.0 x.same in
+            let q = has_plan t x.inner legal.1.0 x.same in
             record { key = string k; value = x.inner; key_plan = p.0; value_plan = q.0; is = x.is; key_planned = p.1; value_planned = q.1 },
-        pairs_have_plans kind (k ∷ keys) ps h.1 legal.1.1,
+        pairs_have_plans kind (k ∷ keys) ps legal.1.1,
       )
 
-      have_plans : (ts : Trees) (vs : Values) (offset : ℕ) → HaveLayout ts → AreLegal ts → all_erased vs ≡ values_of ts → (ps : Plans) × ArePlanned node_shape offset vs ps
-      have_plans no_trees no_values offset h legal e = (no_plans, plans_none)
-      have_plans no_trees (more_values v vs) offset h legal e = absurd cc
-      have_plans (more_trees t ts) no_values offset h legal e = absurd cc
-      have_plans (more_trees t ts) (more_values v vs) offset h legal e =
-          let first : erased v ≡ value_of t = cc in
-          let rest : all_erased vs ≡ values_of ts = cc in
-          let p = has_plan t v h.0 legal.0 first in
-          let ps = have_plans ts vs (offset + 24) h.1 legal.1 rest in
-          let count : suc (count_values vs) ≡ count_values (more_values v vs) = omega arith in
-          let all : HavePlans fit node_names (elements offset (suc (count_values vs)) node_shape) (more_values v vs) (more_plans offset p.0 ps.0) = plans_at p.1 ps.1 in
-          (more_plans offset p.0 ps.0, subst (λ n. HavePlans fit node_names (elements offset n node_shape) (more_values v vs) (more_plans offset p.0 ps.0)) count all)
+      trees_have_plans : (ts : Trees) → AreLegal ts → AllByRecursion (IsItemPlanned fit node_names node_shape value_of) (trees_in ts)
+      trees_have_plans no_trees legal = tt
+      trees_have_plans (more_trees t ts) legal = (λ v e. has_plan t v legal.0 e, trees_have_plans ts legal.1)

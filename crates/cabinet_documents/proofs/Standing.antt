@@ -7,15 +7,15 @@ use Rattle.cabinet_text_grammar.specs.Tree.{Tree, IsDocument}
 use Rattle.cabinet_documents.specs.Node.{node_shape, node_names}
 use Rattle.cabinet_documents.specs.Denotes.{Denotes}
 use Rattle.cabinet_documents.specs.Walk.{Stop, Walks, is_container}
-use Rattle.cabinet_documents.specs.Audit.{root_part, IsSound, IsMapSound}
+use Rattle.cabinet_documents.specs.Audit.{root_part, IsSound}
 use Rattle.cabinet_documents.specs.Accepted.{Accepted}
 use Rattle.cabinet_documents.proofs.Places.{node_behind}
-use Rattle.cabinet_documents.proofs.Nodes.{none_seen, held}
+use Rattle.cabinet_documents.proofs.HeldNodes.{none_seen, held}
 use Rattle.cabinet_documents.proofs.Heights.{height_is}
 use Rattle.cabinet_documents.proofs.Keyed.{keyed_is}
 use Rattle.cabinet_documents.proofs.Stops.{Each, each_contains, all_below}
 use Rattle.cabinet_documents.proofs.Peaks.{peaked}
-use Rattle.cabinet_documents.proofs.TableSound.{TableSounds, each_sound}
+use Rattle.cabinet_documents.proofs.TableSound.{TableSounds, MapSounds, each_sound}
 
 -- a walk of the root, in which nothing is unsound
 pub record HasSoundWalk (bytes : List ℕ) (v : Value) : Type 0 where
@@ -28,9 +28,6 @@ pub record HasTablesWalk (bytes : List ℕ) (v : Value) : Type 0 where
   pub walk : List Stop
   pub walked : Walks node_names bytes 0 (root_part bytes) v walk
   pub sound : Each (TableSounds bytes) walk
-
-abbrev pub MapSounds : List ℕ → Stop → Type 0
-MapSounds bytes s = IsMapSound bytes s.part s.value
 
 module _ (bytes : List ℕ) (t : Tree) (v : Value) (regions : List Region) (visits : List Visit)
     (root : HasRoot node_names bytes (root_position (length bytes) node_shape) node_shape v regions visits)

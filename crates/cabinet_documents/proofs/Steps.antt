@@ -17,7 +17,7 @@ use Rattle.archive_forms_values.specs.ShapeLayout.Path.StandsIn.{stands_first, s
 use Rattle.archive_forms_values.proofs.ShapeLayout.Unique.{by_plain, by_claimed}
 use Rattle.cabinet_documents.specs.Node.{node_names, node_shape}
 use Rattle.cabinet_documents.specs.Denotes.{tagged_value}
-use Rattle.cabinet_documents.proofs.Places.{Place, node_here, payload_here, truth_here, number_here, text_here, shared_here, option_here, box_here, list_here, ordered_here, table_here, tree_child, absent_here, node_behind, nodes_behind, text_behind, Spot, part_of, parts_at, nodes_from, nodes_are, Passes, node_passes, box_passes, behind_passes, list_passes, text_passes, child_passes, table_passes, Pays, Follows, passes, pays, truth_is, number_is, text_is, none_is, some_is, Leads, leads_nowhere, leads_plain, leads_claimed, led}
+use Rattle.cabinet_documents.proofs.Places.{Place, node_here, payload_here, truth_here, number_here, text_here, shared_here, option_here, box_here, list_here, ordered_here, table_here, index_here, tree_child, node_behind, nodes_behind, text_behind, Spot, part_of, parts_at, each_from, nodes_from, nodes_are, Passes, node_passes, box_passes, behind_passes, list_passes, text_passes, child_passes, table_passes, Pays, Follows, passes, pays, truth_is, number_is, text_is, none_is, some_is, Leads, leads_nowhere, leads_plain, leads_claimed, led}
 use Rattle.cabinet_documents.proofs.Nodes.{none_illegal, TruthValue, NumberValue, TextValue, ValueAt, ValuesAt, none_at, follow}
 
 -- some places pass on the value of what they lead to
@@ -40,7 +40,7 @@ passing text_passes = refl
 passing child_passes = refl
 passing (table_passes small) = refl
 
--- where the payload of a tag is
+-- where the payload of a tag is, the greatest of which is 8
 abbrev pub place_of : ℕ → Place
 place_of zero = truth_here
 place_of (suc zero) = number_here
@@ -50,15 +50,15 @@ place_of (suc (suc (suc (suc zero)))) = option_here
 place_of (suc (suc (suc (suc (suc zero))))) = list_here
 place_of (suc (suc (suc (suc (suc (suc zero)))))) = ordered_here
 place_of (suc (suc (suc (suc (suc (suc (suc zero))))))) = table_here
-place_of (suc (suc (suc (suc (suc (suc (suc (suc n)))))))) = absent_here
+place_of (suc (suc (suc (suc (suc (suc (suc (suc n)))))))) = index_here
 
 abbrev pub AllAt : Place → List Spot → Type 0
 AllAt k [] = ⊤
 AllAt k (q ∷ qs) = (q.place ≡ k) × AllAt k qs
 
-nodes_at : (pos n : ℕ) → AllAt node_here (nodes_from pos n)
-nodes_at pos zero = tt
-nodes_at pos (suc n) = (refl, nodes_at (pos + 24) n)
+pub each_at : (k : Place) (size pos n : ℕ) → AllAt k (each_from k size pos n)
+each_at k size pos zero = tt
+each_at k size pos (suc n) = (refl, each_at k size (pos + size) n)
 
 module _ (bytes : List ℕ) where
   -- ---- the one part of another
@@ -353,7 +353,7 @@ module _ (bytes : List ℕ) where
       let group_is = c.value_is in
       let values : vs ≡ c.vs = cc in
       let i_there : value_in i c.vs ≡ Some u = ap (value_in i) (sym values) ∙ there in
-      let k = element node_here i (nodes_from c.target c.len) u c.all (nodes_are c.target c.len) (nodes_at c.target c.len) i_there in
+      let k = element node_here i (nodes_from c.target c.len) u c.all (nodes_are c.target c.len) (each_at node_here 24 c.target c.len) i_there in
       record {
         node_pos = k.pos;
         regions = k.regions;

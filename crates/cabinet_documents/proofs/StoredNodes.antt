@@ -1,12 +1,12 @@
 -- What a document stores is past a limit exactly where writing it is refused.
-use Rattle.std.proofs.Common.{◌≡◌, ℕ, zero, suc, ◌+◌, ◌≤◌, ◌^◌, Bool, true, false, List, [], ◌∷◌, ◌++◌, map as mapped, length, Option, Some, None, refl, sym, ap, subst, ◌∙◌, arith, inl, inr, ⊎_elim}
+use Rattle.std.proofs.Common.{◌≡◌, ℕ, zero, suc, ◌+◌, ◌≤◌, ◌^◌, Bool, true, false, List, [], ◌∷◌, ◌++◌, length, Option, Some, None, refl, sym, ap, subst, ◌∙◌, arith, inl, inr, ⊎_elim}
 use Rattle.std.specs.List.{AllByRecursion}
 use Rattle.std.specs.Int.{w32, w64, to_le_bytes, cast_unsigned}
 use Rattle.std.proofs.Math.Nat.{le-max_left, le-max_right}
 use Rattle.std.proofs.lemmas.List.{length-replicate}
 use Rattle.archive_forms_values.specs.ShapeLayout.Bytes.{align_up}
 use Rattle.archive_forms_values.specs.ShapeLayout.Shape.{align_of}
-use Rattle.archive_forms_values.specs.ShapeLayout.Shape.Shape.{number, truth, text, option, vector, tree, table, shared as shared_shape}
+use Rattle.archive_forms_values.specs.ShapeLayout.Shape.Shape.{number, truth, text, option, vector, tree, table, index_map, shared as shared_shape}
 use Rattle.archive_forms_values.specs.ShapeLayout.Shape.Pointee.{str}
 use Rattle.archive_forms_values.specs.ShapeLayout.Value.{Value, count_values}
 use Rattle.archive_forms_values.specs.ShapeLayout.Value.Value.{integer, boolean, string, group, chosen, counted}
@@ -35,26 +35,29 @@ use Rattle.archive_forms_values.proofs.FormsLaws.Payloads.{length-tagged}
 use Rattle.archive_forms_values.specs.declared.reading.resolving.BoxResolver.{BoxResolver}
 use Rattle.archive_forms_rc.specs.FormsWriting.Owned.{str_spelling}
 use Rattle.archive_btree_spelling.proofs.Parting.{EachIs}
+use Rattle.archive_hash_writing.specs.Fitted.{capacity_of}
+use Rattle.archive_index_spelling.specs.Maps.{numbers}
 use Rattle.cabinet_text_grammar.specs.Keys.{MapKind, ordered, hashed, kept}
 use Rattle.cabinet_text_grammar.specs.Tree as document
 use Rattle.cabinet_text_grammar.specs.Tree.{Tree, Trees, Pairs, leaf, shared, nothing, just, list, map, no_trees, more_trees, no_pairs, more_pairs, depth, most_depth, pairs_depth, IsLegal, AreLegal, ArePairs}
 use Rattle.cabinet_documents.specs.Node.{node_shape, node_names, pair_shape}
 use Rattle.cabinet_documents.specs.Denotes.{tagged_value}
-use Rattle.cabinet_documents.specs.HasLayout.{HasLayout, HaveLayout, HavePairsLayout}
 use Rattle.cabinet_documents.specs.declared.spelling.resolver.NodeResolver.{NodeResolver}
 use Rattle.cabinet_documents.specs.declared.spelling.resolver.NodeResolver.TheVariants as resolver
-use Rattle.cabinet_documents.specs.Spelling.{truth_spelling, number_spelling, shared_string_spelling, boxed_shape, boxed_spelling, maybe_spelling, list_spelling, ordered_spelling, hashed_spelling, trees_in, pairs_in, text_in, shared_in, maybe_in, list_in, ordered_in, hashed_in, refused, spelling_of, node_level, node_spelling}
+use Rattle.cabinet_documents.specs.Spelling.{truth_spelling, number_spelling, shared_string_spelling, boxed_shape, boxed_spelling, maybe_spelling, list_spelling, ordered_spelling, hashed_spelling, kept_spelling, trees_in, pairs_in, text_in, shared_in, maybe_in, list_in, ordered_in, hashed_in, kept_in, refused, spelling_of, node_level, node_spelling}
 use Rattle.cabinet_documents.specs.SpellingLaws.{RefusedIsPast}
 use Rattle.cabinet_documents.proofs.FirstFit.{by_first_fit}
+use Rattle.cabinet_documents.proofs.PlacedPairs.{pair_hashes}
 use Rattle.cabinet_documents.proofs.Values.{value_of, values_of, values_of_pairs, node_agrees, one_value_law}
 use Rattle.cabinet_documents.proofs.SpellingDenoted.{tagged, simply_tagged, shared_text, grouped}
-use Rattle.cabinet_documents.proofs.Plans.{entry_values, places_for, FillsMaps, pairs_planned, map_planned, Planned, node_planned, truth_planned, number_planned, text_planned, shared_planned, none_planned, some_planned, box_planned, list_planned, has_plan, slice_plan}
+use Rattle.cabinet_documents.proofs.Plans.{entry_values, places_for, values_listed, pairs_listed, length-values, FillsMaps, pairs_planned, map_planned, kept_planned, Planned, node_planned, truth_planned, number_planned, text_planned, shared_planned, none_planned, some_planned, box_planned, list_planned, has_plan, slice_plan}
 use Rattle.cabinet_documents.proofs.Fields.{text_length_of, laid, past_left, past_right, past_either, flat_lies, part_lies, Reads, no_fields, text_reads, shared_reads, shared_lies}
 use Rattle.cabinet_documents.proofs.StoredPairs.{TellsEntry}
 use Rattle.cabinet_documents.proofs.StoredTables.{hashed_reads, hashed_lies}
+use Rattle.cabinet_documents.proofs.StoredIndexMaps.{kept_reads, kept_lies}
 use Rattle.cabinet_documents.proofs.Filling.{first_fit_fills}
 use Rattle.cabinet_documents.proofs.StoredTrees.{map_reads, map_lies}
-use Rattle.cabinet_documents.proofs.Storing.{as_plan, node_reads, Tells, ReadsNode, LiesNode, ReadsAll, as_part, flat_can_lie, text_can_lie, one_read, box_region, box_lies, length-values, slice_region, slice_lies, box_reads, some_reads, list_reads}
+use Rattle.cabinet_documents.proofs.Storing.{as_plan, node_reads, Tells, ReadsNode, LiesNode, ReadsAll, as_part, flat_can_lie, text_can_lie, one_read, box_region, box_lies, slice_region, slice_lies, box_reads, some_reads, list_reads}
 
 -- ---- the sizes of nodes
 
@@ -70,6 +73,12 @@ table_length : (controls : Option ℕ) (pos n cap : ℕ) → length (link_bytes 
 table_length None pos n cap = refl
 table_length (Some to) pos n cap = refl
 
+index_length : (controls entries : Option ℕ) (pos n cap : ℕ) → length ((link_bytes controls pos ++ (to_le_bytes w32 n ++ to_le_bytes w32 cap)) ++ link_bytes entries (pos + 12)) ≡ 16
+index_length None None pos n cap = refl
+index_length None (Some start) pos n cap = refl
+index_length (Some to) None pos n cap = refl
+index_length (Some to) (Some start) pos n cap = refl
+
 module _ (w : Spelling Tree NodeResolver) where
   none_length : (r : Option BoxResolver) (pos : ℕ) → length (option_own boxed_shape (boxed_spelling w) None r pos) ≡ 8
   unfolding align_up
@@ -81,40 +90,42 @@ module _ (w : Spelling Tree NodeResolver) where
   some_length t None pos = length-replicate {A = ℕ} 8 0
   some_length t (Some r) pos = length-tagged 1 4 8 (offset_bytes (pos + 4) r.pos) (omega arith) (omega arith)
 
-  node_length : (t : Tree) → HasLayout t → (r : NodeResolver) (pos : ℕ) → length ((node_level w).own t r pos) ≡ 24
+  node_length : (t : Tree) (r : NodeResolver) (pos : ℕ) → length ((node_level w).own t r pos) ≡ 24
   unfolding align_up
-  node_length (leaf (document.truth b)) layout r pos = let n = truth_length b in length-tagged 0 1 24 (truth_bytes b) (omega arith) (omega (arith, n))
-  node_length (leaf (document.number z)) layout r pos = length-tagged 1 8 24 (to_le_bytes w64 (cast_unsigned w64 z)) (omega arith) (omega arith)
-  node_length (leaf (document.text t)) layout r pos =
+  node_length (leaf (document.truth b)) r pos = let n = truth_length b in length-tagged 0 1 24 (truth_bytes b) (omega arith) (omega (arith, n))
+  node_length (leaf (document.number z)) r pos = length-tagged 1 8 24 (to_le_bytes w64 (cast_unsigned w64 z)) (omega arith) (omega arith)
+  node_length (leaf (document.text t)) r pos =
       let n = text_length_of t (text_in r).pos (pos + 4) in
       length-tagged 2 4 24 (text_own (is_short t) t (text_in r).pos (pos + 4)) (omega arith) (omega (arith, n))
-  node_length (shared t) layout r pos = length-tagged 3 4 24 (offset_bytes (pos + 4) (shared_in r).pos ++ to_le_bytes w32 (length t)) (omega arith) (omega arith)
-  node_length nothing layout r pos =
+  node_length (shared t) r pos = length-tagged 3 4 24 (offset_bytes (pos + 4) (shared_in r).pos ++ to_le_bytes w32 (length t)) (omega arith) (omega arith)
+  node_length nothing r pos =
       let n = none_length (maybe_in r) (pos + 4) in
       length-tagged 4 4 24 (option_own boxed_shape (boxed_spelling w) None (maybe_in r) (pos + 4)) (omega arith) (omega (arith, n))
-  node_length (just t) layout r pos =
+  node_length (just t) r pos =
       let n = some_length t (maybe_in r) (pos + 4) in
       length-tagged 4 4 24 (option_own boxed_shape (boxed_spelling w) (Some t) (maybe_in r) (pos + 4)) (omega arith) (omega (arith, n))
-  node_length (list ts) layout r pos =
+  node_length (list ts) r pos =
       length-tagged 5 4 24 (offset_bytes (pos + 4) (list_in r).pos ++ to_le_bytes w32 (length (trees_in ts))) (omega arith) (omega arith)
-  node_length (map ordered ps) layout r pos =
+  node_length (map ordered ps) r pos =
       let root = (ordered_in r).pos in
       let count = length (pairs_in ps) in
       let n = map_length root (pos + 4) count in
       length-tagged 6 4 24 (link_bytes root (pos + 4) ++ to_le_bytes w32 count) (omega arith) (omega (arith, n))
-  node_length (map hashed ps) layout r pos =
+  node_length (map hashed ps) r pos =
       let controls = (hashed_in r).pos in
       let count = length (pairs_in ps) in
       let places = places_for (pairs_in ps) in
       let n = table_length controls (pos + 4) count places in
       length-tagged 7 4 24 (link_bytes controls (pos + 4) ++ (to_le_bytes w32 count ++ to_le_bytes w32 places)) (omega arith) (omega (arith, n))
-  node_length (map kept ps) layout r pos = absurd layout
+  node_length (map kept ps) r pos =
+      let controls = (kept_in r).table.pos in
+      let entries = (kept_in r).entries in
+      let count = length (numbers (pairs_in ps)) in
+      let places = capacity_of 7 8 (pair_hashes (pairs_in ps)) (numbers (pairs_in ps)) in
+      let n = index_length controls entries (pos + 4) count places in
+      length-tagged 8 4 24 ((link_bytes controls (pos + 4) ++ (to_le_bytes w32 count ++ to_le_bytes w32 places)) ++ link_bytes entries (pos + 4 + 12)) (omega arith) (omega (arith, n))
 
 -- ---- one level of nodes
-
-values_listed : (ts : Trees) → listed (values_of ts) ≡ mapped value_of (trees_in ts)
-values_listed no_trees = refl
-values_listed (more_trees t ts) = ap (λ vs. value_of t ∷ vs) (values_listed ts)
 
 module _ (fit : Fit) (fills : FillsMaps fit) (w : Spelling Tree NodeResolver) where
   -- what is read of the kind of a node is read of the node
@@ -129,24 +140,24 @@ module _ (fit : Fit) (fills : FillsMaps fit) (w : Spelling Tree NodeResolver) wh
 
   -- of documents that are less deep
   abbrev EachTells : ℕ → Type 0
-  EachTells n = (y : Tree) → suc (depth y) ≤ n → HasLayout y → IsLegal y → Tells fit w y
+  EachTells n = (y : Tree) → suc (depth y) ≤ n → IsLegal y → Tells fit w y
 
-  trees_tell : (n : ℕ) → EachTells n → (ts : Trees) → suc (most_depth ts) ≤ n → HaveLayout ts → AreLegal ts → AllByRecursion (Tells fit w) (trees_in ts)
-  trees_tell n each no_trees less layout legal = tt
-  trees_tell n each (more_trees t ts) less layout legal =
+  trees_tell : (n : ℕ) → EachTells n → (ts : Trees) → suc (most_depth ts) ≤ n → AreLegal ts → AllByRecursion (Tells fit w) (trees_in ts)
+  trees_tell n each no_trees less legal = tt
+  trees_tell n each (more_trees t ts) less legal =
       let a = le-max_left (depth t) (most_depth ts) in
       let b = le-max_right (depth t) (most_depth ts) in
-      (each t (omega (arith, a)) layout.0 legal.0, trees_tell n each ts (omega (arith, b)) layout.1 legal.1)
+      (each t (omega (arith, a)) legal.0, trees_tell n each ts (omega (arith, b)) legal.1)
 
-  pairs_tell : (n : ℕ) → EachTells n → (kind : MapKind) (keys : List (List ℕ)) (ps : Pairs) → suc (pairs_depth ps) ≤ n → HavePairsLayout ps → ArePairs kind keys ps → EachIs (TellsEntry w fit) (pairs_in ps)
-  pairs_tell n each kind keys no_pairs less layout legal = tt
-  pairs_tell n each kind keys (more_pairs k t ps) less layout legal =
+  pairs_tell : (n : ℕ) → EachTells n → (kind : MapKind) (keys : List (List ℕ)) (ps : Pairs) → suc (pairs_depth ps) ≤ n → ArePairs kind keys ps → EachIs (TellsEntry w fit) (pairs_in ps)
+  pairs_tell n each kind keys no_pairs less legal = tt
+  pairs_tell n each kind keys (more_pairs k t ps) less legal =
       let a = le-max_left (depth t) (pairs_depth ps) in
       let b = le-max_right (depth t) (pairs_depth ps) in
-      (each t (omega (arith, a)) layout.0 legal.1.0, pairs_tell n each kind (k ∷ keys) ps (omega (arith, b)) layout.1 legal.1.1)
+      (each t (omega (arith, a)) legal.1.0, pairs_tell n each kind (k ∷ keys) ps (omega (arith, b)) legal.1.1)
 
-  level_reads : (n : ℕ) → EachTells n → (t : Tree) → depth t ≤ n → HasLayout t → IsLegal t → ReadsNode fit (node_level w) t
-  level_reads n each (leaf (document.truth b)) less layout legal v p same planned s seen alike begun own fs c h =
+  level_reads : (n : ℕ) → EachTells n → (t : Tree) → depth t ≤ n → IsLegal t → ReadsNode fit (node_level w) t
+  level_reads n each (leaf (document.truth b)) less legal v p same planned s seen alike begun own fs c h =
       let x = tagged 0 (boolean b) v same in
       let q = node_planned fit 0 truth x.inner v p x.is refl planned in
       let l = part_lies (align_up 1 (align_of truth)) own q.inner (laid s seen) c fs (subst (λ z. Lies z own (laid s seen) fs c) q.is h) in
@@ -154,7 +165,7 @@ module _ (fit : Fit) (fills : FillsMaps fit) (w : Spelling Tree NodeResolver) wh
       as_level (leaf (document.truth b)) s own fs c
       (node_reads 0 truth truth_spelling (λ _. resolver.Leaf) (λ _. tt) b (leaf (document.truth b)) s own l.0 fs c refl
       (no_fields truth_spelling b s seen (own + align_up 1 (align_of truth)) l.0 c alike refl refl (λ e r. r) (λ e r. r) ends) l.2)
-  level_reads n each (leaf (document.number z)) less layout legal v p same planned s seen alike begun own fs c h =
+  level_reads n each (leaf (document.number z)) less legal v p same planned s seen alike begun own fs c h =
       let shape = number w64 true in
       let x = tagged 1 (integer z) v same in
       let q = node_planned fit 1 shape x.inner v p x.is refl planned in
@@ -163,14 +174,14 @@ module _ (fit : Fit) (fills : FillsMaps fit) (w : Spelling Tree NodeResolver) wh
       as_level (leaf (document.number z)) s own fs c
       (node_reads 1 shape number_spelling (λ _. resolver.Leaf) (λ _. tt) z (leaf (document.number z)) s own l.0 fs c refl
       (no_fields number_spelling z s seen (own + align_up 1 (align_of shape)) l.0 c alike refl refl (λ e r. r) (λ e r. r) ends) l.2)
-  level_reads n each (leaf (document.text t)) less layout legal v p same planned s seen alike begun own fs c h =
+  level_reads n each (leaf (document.text t)) less legal v p same planned s seen alike begun own fs c h =
       let is = simply_tagged 2 (string t) v tt same in
       let q = node_planned fit 2 text (string t) v p is refl planned in
       let l = part_lies (align_up 1 (align_of text)) own q.inner (laid s seen) c fs (subst (λ y. Lies y own (laid s seen) fs c) q.is h) in
       as_level (leaf (document.text t)) s own fs c
       (node_reads 2 text str_spelling resolver.Text text_in t (leaf (document.text t)) s own l.0 fs c refl
       (text_reads t s seen (own + align_up 1 (align_of text)) q.inner l.0 c (text_planned fit t (string t) q.inner refl q.planned) alike l.1) l.2)
-  level_reads n each (shared t) less layout legal v p same planned s seen alike begun own fs c h =
+  level_reads n each (shared t) less legal v p same planned s seen alike begun own fs c h =
       let shape = shared_shape false str in
       let x = tagged 3 (counted 0 (string t)) v same in
       let y = shared_text t x.inner x.same in
@@ -179,7 +190,7 @@ module _ (fit : Fit) (fills : FillsMaps fit) (w : Spelling Tree NodeResolver) wh
       as_level (shared t) s own fs c
       (node_reads 3 shape shared_string_spelling resolver.Shared shared_in t (shared t) s own l.0 fs c refl
       (shared_reads t s seen alike begun (own + align_up 1 (align_of shape)) q.inner l.0 c (shared_planned fit y.pos t x.inner q.inner y.is q.planned) l.1) l.2)
-  level_reads n each nothing less layout legal v p same planned s seen alike begun own fs c h =
+  level_reads n each nothing less legal v p same planned s seen alike begun own fs c h =
       let shape = option boxed_shape in
       let is = simply_tagged 4 (chosen 0 no_values) v tt same in
       let q = node_planned fit 4 shape (chosen 0 no_values) v p is refl planned in
@@ -188,7 +199,7 @@ module _ (fit : Fit) (fills : FillsMaps fit) (w : Spelling Tree NodeResolver) wh
       as_level nothing s own fs c
       (node_reads 4 shape (maybe_spelling w) resolver.Maybe maybe_in None nothing s own l.0 fs c refl
       (no_fields (maybe_spelling w) None s seen (own + align_up 1 (align_of shape)) l.0 c alike refl refl (λ e r. r) (λ e r. r) ends) l.2)
-  level_reads n each (just t) less layout legal v p same planned s seen alike begun own fs c h =
+  level_reads n each (just t) less legal v p same planned s seen alike begun own fs c h =
       let shape = option boxed_shape in
       let x = tagged 4 (tagged_value 1 (value_of t)) v same in
       let y = tagged 1 (value_of t) x.inner x.same in
@@ -198,11 +209,11 @@ module _ (fit : Fit) (fills : FillsMaps fit) (w : Spelling Tree NodeResolver) wh
       let some = some_planned fit y.inner x.inner q.inner y.is q.planned in
       let m = part_lies (align_up 1 (align_of boxed_shape)) at some.0 (laid s seen) c l.0 (subst (λ z. Lies z at (laid s seen) l.0 c) some.2 l.1) in
       let box = box_planned fit y.inner some.0 some.1 in
-      let region = box_region fit w t (each t less layout legal) y.inner box.inner some.0 y.same box.planned box.is s seen alike begun (at + align_up 1 (align_of boxed_shape)) m.0 c m.1 in
+      let region = box_region fit w t (each t less legal) y.inner box.inner some.0 y.same box.planned box.is s seen alike begun (at + align_up 1 (align_of boxed_shape)) m.0 c m.1 in
       as_level (just t) s own fs c
       (node_reads 4 shape (maybe_spelling w) resolver.Maybe maybe_in (Some t) (just t) s own l.0 fs c refl
       (some_reads fit w t s at m.0 l.0 c (box_reads fit w t s (at + align_up 1 (align_of boxed_shape)) m.0 c region) m.2) l.2)
-  level_reads n each (list ts) less layout legal v p same planned s seen alike begun own fs c h =
+  level_reads n each (list ts) less legal v p same planned s seen alike begun own fs c h =
       let shape = vector node_shape in
       let x = tagged 5 (group (values_of ts)) v same in
       let y = grouped (values_of ts) x.inner x.same in
@@ -210,12 +221,12 @@ module _ (fit : Fit) (fills : FillsMaps fit) (w : Spelling Tree NodeResolver) wh
       let l = part_lies (align_up 1 (align_of shape)) own q.inner (laid s seen) c fs (subst (λ z. Lies z own (laid s seen) fs c) q.is h) in
       let many = list_planned fit y.inner x.inner q.inner y.is q.planned in
       let these = ap listed y.same ∙ values_listed ts in
-      let is = many.is ∙ ap (λ k. slice_plan node_shape (k ∷ []) (count_values y.inner) many.inner) (length-values fit node_shape value_of w (trees_in ts) y.inner these) in
-      let region = slice_region fit node_shape value_of w (trees_in ts) (trees_tell n each ts less layout legal.0) y.inner many.inner q.inner (length (trees_in ts) ∷ []) these many.planned is s seen alike begun (own + align_up 1 (align_of shape)) l.0 c l.1 in
+      let is = many.is ∙ ap (λ k. slice_plan node_shape (k ∷ []) (count_values y.inner) many.inner) (length-values value_of (trees_in ts) y.inner these) in
+      let region = slice_region fit node_shape value_of w (trees_in ts) (trees_tell n each ts less legal.0) y.inner many.inner q.inner (length (trees_in ts) ∷ []) these many.planned is s seen alike begun (own + align_up 1 (align_of shape)) l.0 c l.1 in
       as_level (list ts) s own fs c
       (node_reads 5 shape (list_spelling w) resolver.List list_in (trees_in ts) (list ts) s own l.0 fs c refl
       (list_reads fit w (trees_in ts) s (own + align_up 1 (align_of shape)) l.0 c region) l.2)
-  level_reads n each (map ordered ps) less layout legal v p same planned s seen alike begun own fs c h =
+  level_reads n each (map ordered ps) less legal v p same planned s seen alike begun own fs c h =
       let shape = tree 5 text node_shape in
       let xs = pairs_in ps in
       let x = tagged 6 (group (values_of_pairs ps)) v same in
@@ -225,8 +236,8 @@ module _ (fit : Fit) (fills : FillsMaps fit) (w : Spelling Tree NodeResolver) wh
       let m = map_planned fit xs y.inner x.inner q.inner y.is (y.same ∙ entry_values fit ps) q.planned in
       as_level (map ordered ps) s own fs c
       (node_reads 6 shape (ordered_spelling w) resolver.Ordered ordered_in xs (map ordered ps) s own l.0 fs c refl
-      (map_reads w fit xs q.inner m (pairs_tell n each ordered [] ps less layout legal.0) s seen alike begun (own + align_up 1 (align_of shape)) l.0 c l.1) l.2)
-  level_reads n each (map hashed ps) less layout legal v p same planned s seen alike begun own fs c h =
+      (map_reads w fit xs q.inner m (pairs_tell n each ordered [] ps less legal.0) s seen alike begun (own + align_up 1 (align_of shape)) l.0 c l.1) l.2)
+  level_reads n each (map hashed ps) less legal v p same planned s seen alike begun own fs c h =
       let shape = table pair_shape in
       let xs = pairs_in ps in
       let vs = by_first_fit (values_of_pairs ps) in
@@ -234,37 +245,48 @@ module _ (fit : Fit) (fills : FillsMaps fit) (w : Spelling Tree NodeResolver) wh
       let y = grouped vs x.inner x.same in
       let q = node_planned fit 7 shape x.inner v p x.is refl planned in
       let l = part_lies (align_up 1 (align_of shape)) own q.inner (laid s seen) c fs (subst (λ z. Lies z own (laid s seen) fs c) q.is h) in
-      let filled = fills ps legal.0 in
+      let filled = fills.hashed_maps ps legal.0 in
       let m = pairs_planned fit xs vs y.inner x.inner q.inner filled y.is y.same q.planned in
       as_level (map hashed ps) s own fs c
       (node_reads 7 shape (hashed_spelling w) resolver.Hashed hashed_in xs (map hashed ps) s own l.0 fs c refl
-      (hashed_reads w fit xs vs q.inner filled m (pairs_tell n each hashed [] ps less layout legal.0) s seen alike begun (own + align_up 1 (align_of shape)) l.0 c l.1) l.2)
-  level_reads n each (map kept ps) less layout legal v p same planned s seen alike begun own fs c h = absurd layout
+      (hashed_reads w fit xs vs q.inner filled m (pairs_tell n each hashed [] ps less legal.0) s seen alike begun (own + align_up 1 (align_of shape)) l.0 c l.1) l.2)
+  level_reads n each (map kept ps) less legal v p same planned s seen alike begun own fs c h =
+      let shape = index_map text node_shape in
+      let xs = pairs_in ps in
+      let x = tagged 8 (group (values_of_pairs ps)) v same in
+      let y = grouped (values_of_pairs ps) x.inner x.same in
+      let q = node_planned fit 8 shape x.inner v p x.is refl planned in
+      let l = part_lies (align_up 1 (align_of shape)) own q.inner (laid s seen) c fs (subst (λ z. Lies z own (laid s seen) fs c) q.is h) in
+      let these = ap listed y.same ∙ pairs_listed ps in
+      let m = kept_planned fit fills.kept_maps xs y.inner x.inner q.inner y.is these q.planned in
+      as_level (map kept ps) s own fs c
+      (node_reads 8 shape (kept_spelling w) resolver.Kept kept_in xs (map kept ps) s own l.0 fs c refl
+      (kept_reads w fit xs y.inner q.inner these m (pairs_tell n each kept [] ps less legal.0) s seen alike begun (own + align_up 1 (align_of shape)) l.0 c l.1) l.2)
 
-  level_lies : (n : ℕ) → EachTells n → (t : Tree) → depth t ≤ n → HasLayout t → IsLegal t → LiesNode fit (node_level w) t
-  level_lies n each (leaf (document.truth b)) less layout legal v p same planned s seen alike begun own =
+  level_lies : (n : ℕ) → EachTells n → (t : Tree) → depth t ≤ n → IsLegal t → LiesNode fit (node_level w) t
+  level_lies n each (leaf (document.truth b)) less legal v p same planned s seen alike begun own =
       let x = tagged 0 (boolean b) v same in
       let q = node_planned fit 0 truth x.inner v p x.is refl planned in
       as_part truth p q.inner own (laid s seen) q.is (as_plan q.inner flat _ (laid s seen) (truth_planned fit x.inner q.inner q.planned) (flat_can_lie _ (laid s seen)))
-  level_lies n each (leaf (document.number z)) less layout legal v p same planned s seen alike begun own =
+  level_lies n each (leaf (document.number z)) less legal v p same planned s seen alike begun own =
       let shape = number w64 true in
       let x = tagged 1 (integer z) v same in
       let q = node_planned fit 1 shape x.inner v p x.is refl planned in
       as_part shape p q.inner own (laid s seen) q.is (as_plan q.inner flat _ (laid s seen) (number_planned fit x.inner q.inner q.planned) (flat_can_lie _ (laid s seen)))
-  level_lies n each (leaf (document.text t)) less layout legal v p same planned s seen alike begun own =
+  level_lies n each (leaf (document.text t)) less legal v p same planned s seen alike begun own =
       let q = node_planned fit 2 text (string t) v p (simply_tagged 2 (string t) v tt same) refl planned in
       as_part text p q.inner own (laid s seen) q.is (text_can_lie t q.inner _ (laid s seen) (text_planned fit t (string t) q.inner refl q.planned))
-  level_lies n each (shared t) less layout legal v p same planned s seen alike begun own =
+  level_lies n each (shared t) less legal v p same planned s seen alike begun own =
       let shape = shared_shape false str in
       let x = tagged 3 (counted 0 (string t)) v same in
       let y = shared_text t x.inner x.same in
       let q = node_planned fit 3 shape x.inner v p x.is refl planned in
       as_part shape p q.inner own (laid s seen) q.is (shared_lies t s seen alike begun (own + align_up 1 (align_of shape)) q.inner (shared_planned fit y.pos t x.inner q.inner y.is q.planned))
-  level_lies n each nothing less layout legal v p same planned s seen alike begun own =
+  level_lies n each nothing less legal v p same planned s seen alike begun own =
       let shape = option boxed_shape in
       let q = node_planned fit 4 shape (chosen 0 no_values) v p (simply_tagged 4 (chosen 0 no_values) v tt same) refl planned in
       as_part shape p q.inner own (laid s seen) q.is (as_plan q.inner flat _ (laid s seen) (none_planned fit (chosen 0 no_values) q.inner refl q.planned) (flat_can_lie _ (laid s seen)))
-  level_lies n each (just t) less layout legal v p same planned s seen alike begun own =
+  level_lies n each (just t) less legal v p same planned s seen alike begun own =
       let shape = option boxed_shape in
       let x = tagged 4 (tagged_value 1 (value_of t)) v same in
       let y = tagged 1 (value_of t) x.inner x.same in
@@ -274,53 +296,62 @@ module _ (fit : Fit) (fills : FillsMaps fit) (w : Spelling Tree NodeResolver) wh
       let box = box_planned fit y.inner some.0 some.1 in
       as_part shape p q.inner own (laid s seen) q.is
       (as_part boxed_shape q.inner some.0 at (laid s seen) some.2
-      (box_lies fit w t (each t less layout legal) y.inner box.inner some.0 y.same box.planned box.is s seen alike begun (at + align_up 1 (align_of boxed_shape))))
-  level_lies n each (list ts) less layout legal v p same planned s seen alike begun own =
+      (box_lies fit w t (each t less legal) y.inner box.inner some.0 y.same box.planned box.is s seen alike begun (at + align_up 1 (align_of boxed_shape))))
+  level_lies n each (list ts) less legal v p same planned s seen alike begun own =
       let shape = vector node_shape in
       let x = tagged 5 (group (values_of ts)) v same in
       let y = grouped (values_of ts) x.inner x.same in
       let q = node_planned fit 5 shape x.inner v p x.is refl planned in
       let many = list_planned fit y.inner x.inner q.inner y.is q.planned in
       as_part shape p q.inner own (laid s seen) q.is
-      (slice_lies fit node_shape value_of w (trees_in ts) (trees_tell n each ts less layout legal.0) y.inner many.inner q.inner (count_values y.inner ∷ []) (ap listed y.same ∙ values_listed ts) many.planned many.is s seen alike begun (own + align_up 1 (align_of shape)))
-  level_lies n each (map ordered ps) less layout legal v p same planned s seen alike begun own =
+      (slice_lies fit node_shape value_of w (trees_in ts) (trees_tell n each ts less legal.0) y.inner many.inner q.inner (count_values y.inner ∷ []) (ap listed y.same ∙ values_listed ts) many.planned many.is s seen alike begun (own + align_up 1 (align_of shape)))
+  level_lies n each (map ordered ps) less legal v p same planned s seen alike begun own =
       let shape = tree 5 text node_shape in
       let xs = pairs_in ps in
       let x = tagged 6 (group (values_of_pairs ps)) v same in
       let y = grouped (values_of_pairs ps) x.inner x.same in
       let q = node_planned fit 6 shape x.inner v p x.is refl planned in
       let m = map_planned fit xs y.inner x.inner q.inner y.is (y.same ∙ entry_values fit ps) q.planned in
-      as_part shape p q.inner own (laid s seen) q.is (map_lies w fit xs q.inner m (pairs_tell n each ordered [] ps less layout legal.0) s seen alike begun (own + align_up 1 (align_of shape)))
-  level_lies n each (map hashed ps) less layout legal v p same planned s seen alike begun own =
+      as_part shape p q.inner own (laid s seen) q.is (map_lies w fit xs q.inner m (pairs_tell n each ordered [] ps less legal.0) s seen alike begun (own + align_up 1 (align_of shape)))
+  level_lies n each (map hashed ps) less legal v p same planned s seen alike begun own =
       let shape = table pair_shape in
       let xs = pairs_in ps in
       let vs = by_first_fit (values_of_pairs ps) in
       let x = tagged 7 (group vs) v same in
       let y = grouped vs x.inner x.same in
       let q = node_planned fit 7 shape x.inner v p x.is refl planned in
-      let filled = fills ps legal.0 in
+      let filled = fills.hashed_maps ps legal.0 in
       let m = pairs_planned fit xs vs y.inner x.inner q.inner filled y.is y.same q.planned in
       as_part shape p q.inner own (laid s seen) q.is
-      (hashed_lies w fit xs vs q.inner filled m (pairs_tell n each hashed [] ps less layout legal.0) s seen alike begun (own + align_up 1 (align_of shape)))
-  level_lies n each (map kept ps) less layout legal v p same planned s seen alike begun own = absurd layout
+      (hashed_lies w fit xs vs q.inner filled m (pairs_tell n each hashed [] ps less legal.0) s seen alike begun (own + align_up 1 (align_of shape)))
+  level_lies n each (map kept ps) less legal v p same planned s seen alike begun own =
+      let shape = index_map text node_shape in
+      let xs = pairs_in ps in
+      let x = tagged 8 (group (values_of_pairs ps)) v same in
+      let y = grouped (values_of_pairs ps) x.inner x.same in
+      let q = node_planned fit 8 shape x.inner v p x.is refl planned in
+      let these = ap listed y.same ∙ pairs_listed ps in
+      let m = kept_planned fit fills.kept_maps xs y.inner x.inner q.inner y.is these q.planned in
+      as_part shape p q.inner own (laid s seen) q.is
+      (kept_lies w fit xs y.inner q.inner these m (pairs_tell n each kept [] ps less legal.0) s seen alike begun (own + align_up 1 (align_of shape)))
 
-  level_tells : (n : ℕ) → EachTells n → (t : Tree) → depth t ≤ n → HasLayout t → IsLegal t → Tells fit (node_level w) t
-  level_tells n each t less layout legal = record {
-    sized = node_length w t layout;
-    reads = level_reads n each t less layout legal;
-    lies = level_lies n each t less layout legal;
+  level_tells : (n : ℕ) → EachTells n → (t : Tree) → depth t ≤ n → IsLegal t → Tells fit (node_level w) t
+  level_tells n each t less legal = record {
+    sized = node_length w t;
+    reads = level_reads n each t less legal;
+    lies = level_lies n each t less legal;
   }
 
 -- ---- documents
 
-levels_tell : (fit : Fit) → FillsMaps fit → (n : ℕ) (t : Tree) → depth t ≤ n → HasLayout t → IsLegal t → Tells fit (levels_spelling node_level refused (suc n)) t
-levels_tell fit fills zero t less layout legal = level_tells fit fills refused zero (λ y h. absurd (omega (arith, h))) t less layout legal
-levels_tell fit fills (suc n) t less layout legal =
-    level_tells fit fills (levels_spelling node_level refused (suc n)) (suc n) (λ y h. levels_tell fit fills n y (omega (arith, h))) t less layout legal
+levels_tell : (fit : Fit) → FillsMaps fit → (n : ℕ) (t : Tree) → depth t ≤ n → IsLegal t → Tells fit (levels_spelling node_level refused (suc n)) t
+levels_tell fit fills zero t less legal = level_tells fit fills refused zero (λ y h. absurd (omega (arith, h))) t less legal
+levels_tell fit fills (suc n) t less legal =
+    level_tells fit fills (levels_spelling node_level refused (suc n)) (suc n) (λ y h. levels_tell fit fills n y (omega (arith, h))) t less legal
 
-node_tells : (fit : Fit) → FillsMaps fit → (t : Tree) → HasLayout t → IsLegal t → Tells fit node_spelling t
-node_tells fit fills t layout legal =
-    let h = levels_tell fit fills (depth t) t (omega arith) layout legal in
+node_tells : (fit : Fit) → FillsMaps fit → (t : Tree) → IsLegal t → Tells fit node_spelling t
+node_tells fit fills t legal =
+    let h = levels_tell fit fills (depth t) t (omega arith) legal in
     record {
       sized = h.sized;
       reads = λ v p same planned s seen alike begun own fs b l.
@@ -331,9 +362,9 @@ node_tells fit fills t layout legal =
 
 -- ---- the root's region, which no pointer leads to
 
-module _ (fit : Fit) (fills : FillsMaps fit) (t : Tree) (layout : HasLayout t) (legal : IsLegal t) (v : Value) (same : erased v ≡ value_of t) (e : Error) where
+module _ (fit : Fit) (fills : FillsMaps fit) (t : Tree) (legal : IsLegal t) (v : Value) (same : erased v ≡ value_of t) (e : Error) where
   tell : Tells fit node_spelling t
-  tell = node_tells fit fills t layout legal
+  tell = node_tells fit fills t legal
 
   abbrev AtRoot : List Field → limits.State → Type 0
   AtRoot within inner = ReadsAll fit node_shape value_of node_spelling (t ∷ []) initial (region_at node_spelling node_shape (t ∷ []) initial) within inner
@@ -367,7 +398,7 @@ module _ (fit : Fit) (fills : FillsMaps fit) (t : Tree) (layout : HasLayout t) (
   pub stored_past : region_refused node_spelling node_shape (t ∷ []) initial e → PastLimits fit node_names node_shape v e
   stored_past r =
       let start = region_at node_spelling node_shape (t ∷ []) initial in
-      let plan = has_plan fit fills t v layout legal same in
+      let plan = has_plan fit fills t v legal same in
       let l = tell.lies v plan.0 same plan.1 initial [] tt refl start in
       let there = (tell.reads v plan.0 same plan.1 initial [] tt refl start l.0 l.1 l.2).there in
       record {
@@ -396,7 +427,7 @@ module _ (fit : Fit) (fills : FillsMaps fit) (t : Tree) (layout : HasLayout t) (
       (subst (λ l. IsSomePast l e) (x.fields_are ∙ ap (λ n. x.within ++ position n ∷ []) begins) past.past)
 
 pub refused_is_past_law : RefusedIsPast
-refused_is_past_law t v e layout document denotes fitted =
+refused_is_past_law t v e document denotes fitted =
     let fit = first_fit text_hash in
-    let same : erased v ≡ value_of t = one_value_law v t layout document denotes fitted ∙ (node_agrees t).plain in
-    (stored_past fit first_fit_fills t layout document.0 v same e, past_refused fit first_fit_fills t layout document.0 v same e)
+    let same : erased v ≡ value_of t = one_value_law v t document denotes fitted ∙ (node_agrees t).plain in
+    (stored_past fit first_fit_fills t document.0 v same e, past_refused fit first_fit_fills t document.0 v same e)

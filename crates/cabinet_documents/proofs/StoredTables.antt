@@ -1,32 +1,25 @@
 -- What the tables of hashed maps store, against the limits of how they are written.
-use Rattle.std.proofs.Common.{◌≡◌, ℕ, ◌+◌, ◌-◌, ◌*◌, ◌<◌, ◌≤◌, ◌^◌, List, [], ◌∷◌, ◌++◌, length, Option, Some, None, refl, sym, ap, subst, ◌∙◌, arith, ◌⊎◌, inl, inr, ⊎_elim, length-append}
+use Rattle.std.proofs.Common.{◌≡◌, ℕ, ◌+◌, ◌-◌, ◌*◌, ◌≤◌, List, [], ◌∷◌, ◌++◌, length, Option, Some, None, refl, sym, ap, subst, ◌∙◌, arith, inl, inr, ⊎_elim}
 use Rattle.std.specs.List.{AllByRecursion}
-use Rattle.std.proofs.lemmas.Bool.{cases_lt}
-use Rattle.std.proofs.lemmas.List.{length-replicate, length-map}
-use Rattle.archive_forms_values.specs.ShapeLayout.Bytes.{align_up}
-use Rattle.archive_forms_values.specs.ShapeLayout.Shape.{Shape, size_of, align_of}
+use Rattle.std.proofs.lemmas.List.{length-map}
+use Rattle.archive_forms_values.specs.ShapeLayout.Shape.{Shape, size_of}
 use Rattle.archive_forms_values.specs.ShapeLayout.Value.{Value, Values}
-use Rattle.archive_forms_values.specs.ShapeLayout.Content.{control_count}
-use Rattle.archive_forms_values.proofs.ShapeLayout.Framed.{le_align_up}
 use Rattle.archive_forms_values.specs.ShapeWriting.declared.error.Error.{Error}
-use Rattle.archive_forms_values.specs.ShapeWriting.declared.error.Error.TheVariants.{PositionTooLarge}
 use Rattle.archive_forms_values.specs.ShapeCanonical.FirstFit.{present}
 use Rattle.archive_forms_values.specs.ShapeCanonical.Hash.{text_hash}
 use Rattle.archive_forms_values.specs.ShapeCanonical.Settled.{Fit}
 use Rattle.archive_forms_values.specs.ShapeCanonical.Plan.{Plan, flat, parts, leads, Plans}
-use Rattle.archive_forms_values.specs.ShapeCanonical.Limits.{Field, IsSomePast, Shared, moved, Lies, lies_parts, lies_leads, LieAll, lie_none}
+use Rattle.archive_forms_values.specs.ShapeCanonical.Limits.{Field, IsSomePast, Shared, Lies, lies_parts, LieAll, lie_none}
 use Rattle.archive_forms_values.specs.ShapeCanonical.Limits as limits
-use Rattle.archive_forms_values.specs.ArchiveShape.Bytes.{zeros}
 use Rattle.archive_forms_values.specs.FormsLaws.State.{State}
 use Rattle.archive_forms_values.specs.FormsLaws.Spelling.{Spelling, state_after}
-use Rattle.archive_forms_values.specs.FormsLaws.Regions.{pieces, pieces_refused}
 use Rattle.archive_forms_values.proofs.FormsLaws.Regions.{state_after_all_pos}
 use Rattle.archive_btree_spelling.proofs.Parting.{EachIs}
 use Rattle.archive_hash_writing.specs.Fitted.{places_of, table_of, controls_of}
-use Rattle.archive_hash_writing.specs.Tables.{buckets, buckets_refused, state_after_items, region_from, controls_at, filled_piece, IsPlaced}
+use Rattle.archive_hash_writing.specs.Tables.{region_from}
 use Rattle.archive_hash_writing.proofs.Placed.{placed_each}
 use Rattle.archive_hash_writing.proofs.Planned.{table_target, ItemPlans}
-use Rattle.archive_hash_writing.proofs.SpellingFitting.{length-table, above}
+use Rattle.archive_hash_writing.proofs.SpellingFitting.{length-table}
 use Rattle.cabinet_text_grammar.specs.Tree.{Tree}
 use Rattle.cabinet_documents.specs.Node.{KnowsNode, node_names, pair_shape}
 use Rattle.cabinet_documents.specs.declared.spelling.resolver.NodeResolver.{NodeResolver}
@@ -34,8 +27,8 @@ use Rattle.cabinet_documents.specs.Spelling.{pair_spelling, hashed_spelling}
 use Rattle.cabinet_documents.proofs.PlacedPairs.{pair_hashes}
 use Rattle.cabinet_documents.proofs.Values.{entry_value}
 use Rattle.cabinet_documents.proofs.Plans.{places_for, FillsPairs, PairsPlan}
-use Rattle.cabinet_documents.proofs.Fields.{Alike, laid, reached, parts_lies, past_left, past_right, past_either, flat_lies, leads_lies, IsFar, Reads, no_fields}
-use Rattle.cabinet_documents.proofs.StoredRegions.{region_fields, ReadsLed, led_read}
+use Rattle.cabinet_documents.proofs.Fields.{Alike, laid, reached, parts_lies, past_left, past_right, past_either, flat_lies, Reads, no_fields}
+use Rattle.cabinet_documents.proofs.StoredBuckets.{ReadsBuckets, IsSized, filled_read, filled_lies, table_reads}
 use Rattle.cabinet_documents.proofs.Storing.{CanLie, CanAllLie, as_plan, flat_can_lie, TellsValue, no_lies, first_lies, one_more_lies}
 use Rattle.cabinet_documents.proofs.StoredPairs.{Entry, TellsEntry, pair_tells}
 
@@ -48,21 +41,16 @@ module _ (fit : Fit) {A R : Type 0} (s : Shape) (as_value : A → Value) (u : Sp
   abbrev Planned : ℕ → ℕ → List (Option A) → Plans → Type 0
   Planned target i os all = ItemPlans fit node_names s as_value target i os all
 
-  -- as `Reads`, of the buckets of places, the first of which ends at a position
-  record ReadsBuckets (os : List (Option A)) (st : State) (end : ℕ) (fs : List Field) (b : limits.State) : Type 0 where
-    alike : Alike b.met (state_after_items s u os st).met
-    there : b.pos ≡ (state_after_items s u os st).pos
-    pieces_past : (e : Error) → pieces_refused u (present os) st e → IsSomePast fs e ⊎ IsFar b.pos e
-    buckets_past : (e : Error) → buckets_refused s u os st end e → IsSomePast fs e ⊎ IsFar end e
-    refused_all : (e : Error) → IsSomePast fs e → pieces_refused u (present os) st e ⊎ buckets_refused s u os st end e
+  abbrev BucketsRead : List (Option A) → State → ℕ → List Field → limits.State → Type 0
+  BucketsRead os st end fs b = ReadsBuckets fit s u os st end fs b
 
   bucket_and_rest :
       (x : A) (os : List (Option A)) (st : State) (end : ℕ) (here there fs : List Field) (between b : limits.State)
       → size_of s ≤ end
       → Reads u x st (end - size_of s) here between
-      → ReadsBuckets os (state_after u x st) (end - size_of s) there b
+      → BucketsRead os (state_after u x st) (end - size_of s) there b
       → fs ≡ here ++ there
-      → ReadsBuckets (Some x ∷ os) st end fs b
+      → BucketsRead (Some x ∷ os) st end fs b
   bucket_and_rest x os st end here there fs between b room first rest all =
       let at_between = first.there in
       let at_end = rest.there in
@@ -88,7 +76,7 @@ module _ (fit : Fit) {A R : Type 0} (s : Shape) (as_value : A → Value) (u : Sp
       (os : List (Option A)) (all : Plans) (target i own end : ℕ) (st : State) (seen : List Shared) (fs : List Field) (b : limits.State)
       → AllByRecursion TellsItem (present os) → Planned target i os all → Alike seen st.met → st.begun ≡ []
       → end + i * size_of s ≡ own + target → own + length os * size_of s ≤ end
-      → LieAll all own (laid st seen) fs b → ReadsBuckets os st end fs b
+      → LieAll all own (laid st seen) fs b → BucketsRead os st end fs b
   buckets_read [] all target i own end st seen fs b each planned alike begun at_end room h =
       let none = no_lies own (laid st seen) b fs (subst (λ z. LieAll z own (laid st seen) fs b) planned h) in
       record {
@@ -132,94 +120,24 @@ module _ (fit : Fit) {A R : Type 0} (s : Shape) (as_value : A → Value) (u : Sp
       let there = subst (λ z. LieAll planned.others own z rest.0 rest.1) (sym (reached l.1 next first.there)) rest.2 in
       subst (λ z. CanAllLie z own (laid st seen)) (sym planned.is) (one_more_lies offset planned.plan planned.others own (laid st seen) l.1 rest.1 l.0 rest.0 l.2 there)
 
-  length-buckets : (os : List (Option A)) → AllByRecursion TellsItem (present os) → (st : State) (end : ℕ) → length (buckets s u os st end) ≡ length os * size_of s
-  length-buckets [] each st end = omega arith
-  length-buckets (None ∷ os) each st end =
-      let rest = length-buckets os each st (end - size_of s) in
-      let none : length (zeros (size_of s)) ≡ size_of s = length-replicate _ _ in
-      length-append (buckets s u os st (end - size_of s)) (zeros (size_of s)) ∙ omega (arith, rest, none)
-  length-buckets (Some x ∷ os) each st end =
-      let pos = end - size_of s in
-      let rest = length-buckets os each.1 (state_after u x st) pos in
-      let own = each.0.sized (u.resolver x st) pos in
-      length-append (buckets s u os (state_after u x st) pos) (u.own x (u.resolver x st) pos) ∙ omega (arith, rest, own)
+  each_sized : (xs : List A) → AllByRecursion TellsItem xs → AllByRecursion (IsSized fit s u) xs
+  each_sized [] each = tt
+  each_sized (x ∷ xs) each = (each.0.sized, each_sized xs each.1)
 
-  -- ---- the region of a table that has items
+  module _ (os : List (Option A)) (each : AllByRecursion TellsItem (present os)) (all : Plans) (planned : Planned (length os * size_of s) 0 os all) (st : State) (seen : List Shared) (alike : Alike seen st.met)
+      (begun : st.begun ≡ []) where
+    items_read : (start : ℕ) (within : List Field) (inner : limits.State) → Lies (parts all) start (laid st seen) within inner → BucketsRead os st (start + length os * size_of s) within inner
+    items_read start within inner h =
+        buckets_read os all (length os * size_of s) 0 start (start + length os * size_of s) st seen within inner each planned alike begun (omega arith) (omega arith)
+        (parts_lies all start (laid st seen) inner within h)
 
-  module _ (os : List (Option A)) (controls : List ℕ) (each : AllByRecursion TellsItem (present os)) where
-    abbrev Unplaced : State → Error → Type 0
-    Unplaced st e = (IsPlaced s u os controls st → ⊥) × (e ≡ PositionTooLarge)
-
-    -- as `Reads`, with numbers beside the pointer
-    record ReadsFilled (st : State) (own : ℕ) (numbers : List ℕ) (fs : List Field) (b : limits.State) : Type 0 where
-      alike : Alike b.met (state_after_items s u os st).met
-      there : b.pos ≡ st.pos + length (filled_piece s u os controls st)
-      led : ReadsLed (pieces_refused u (present os) st) (Unplaced st) (buckets_refused s u os st (controls_at s u os st)) own (controls_at s u os st) numbers fs b.pos
-
-    region_above : (st : State) → (state_after_items s u os st).pos ≤ region_from s u os st
-    region_above st = le_align_up (state_after_items s u os st).pos (align_of s)
-
-    filled_length : (st : State) → st.pos + length (filled_piece s u os controls st) ≡ controls_at s u os st + length controls
-    filled_length st =
-        let front = pieces u (present os) st in
-        let gap = zeros (region_from s u os st - (state_after_items s u os st).pos) in
-        let slots = buckets s u os st (controls_at s u os st) in
-        let behind = state_after_all_pos fit s KnowsNode u (present os) st in
-        let up = region_above st in
-        let wide = length-buckets os each st (controls_at s u os st) in
-        let filled : length gap ≡ region_from s u os st - (state_after_items s u os st).pos = length-replicate _ _ in
-        omega (arith, behind, up, wide, filled, length-append front (gap ++ (slots ++ controls)), length-append gap (slots ++ controls), length-append slots controls)
-
-    module _ (numbers : List ℕ) (all : Plans) (long : length controls ≡ control_count (length os)) (planned : Planned (length os * size_of s) 0 os all)
-        (st : State) (seen : List Shared) (alike : Alike seen st.met) (begun : st.begun ≡ []) (own : ℕ) where
-      abbrev FilledPlan : Plan
-      FilledPlan = leads numbers (table_target s (length os)) (parts all)
-
-      read_at : (start : ℕ) (within : List Field) (inner : limits.State) → Lies (parts all) start (laid st seen) within inner → ReadsBuckets os st (start + length os * size_of s) within inner
-      read_at start within inner h =
-          buckets_read os all (length os * size_of s) 0 start (start + length os * size_of s) st seen within inner each planned alike begun (omega arith) (omega arith)
-          (parts_lies all start (laid st seen) inner within h)
-
-      filled_read : (fs : List Field) (b : limits.State) → Lies FilledPlan own (laid st seen) fs b → ReadsFilled st own numbers fs b
-      filled_read fs b h =
-          let start = region_from s u os st in
-          let to = controls_at s u os st in
-          let f = leads_lies numbers (table_target s (length os)) (parts all) own (laid st seen) b fs h in
-          let there = (read_at f.start f.within f.inner f.lies).there in
-          let begins : f.start ≡ start = f.begins ∙ ap (λ n. align_up n (align_of s)) there in
-          let r = read_at start f.within f.inner (subst (λ n. Lies (parts all) n (laid st seen) f.within f.inner) begins f.lies) in
-          let ends : b ≡ moved (start + (length os * size_of s + control_count (length os))) f.inner = f.ends ∙ ap (λ n. moved (n + (length os * size_of s + control_count (length os))) f.inner) begins in
-          let behind : b.pos ≡ start + (length os * size_of s + control_count (length os)) = ap (λ (z : limits.State). z.pos) ends in
-          let at_end : b.pos ≡ to + length controls = omega (arith, behind, long) in
-          let up : f.inner.pos ≤ start = subst (λ n. n ≤ start) (sym r.there) (region_above st) in
-          record {
-            alike = subst (λ (z : limits.State). Alike z.met (state_after_items s u os st).met) (sym ends) r.alike;
-            there = at_end ∙ sym (filled_length st);
-            led = led_read (pieces_refused u (present os) st) (Unplaced st) (buckets_refused s u os st to) own start to numbers f.within fs f.inner.pos b.pos up
-                (λ e r. ⊎_elim
-                (λ low. ⊎_elim (λ short. absurd (r.0 (low, short))) (λ far. inr (omega (arith, far, at_end), r.1)) (cases_lt (to + length controls) (2 ^ 64)))
-                (λ far. inl (far, r.1))
-                (cases_lt start (2 ^ 32)))
-                (λ e far. ((λ placed. let low = placed.0 in let above = far.0 in omega (arith, low, above)), far.1))
-                (record {
-                  data_past = r.pieces_past;
-                  own_past = λ e q. ⊎_elim (λ p. inl p) (λ far. inr (omega (arith, far.0, at_end), far.1)) (r.buckets_past e q);
-                  refused_within = r.refused_all;
-                })
-                (f.fields ∙ ap (λ n. region_fields own n (n + length os * size_of s) numbers f.within) begins);
-          }
-
-      filled_lies : CanLie FilledPlan own (laid st seen)
-      filled_lies =
-          let start = region_from s u os st in
-          let h = buckets_lie os all (length os * size_of s) 0 start st seen each planned alike begun in
-          let there = (read_at start h.0 h.1 (lies_parts h.2)).there in
-          (_, _, lies_leads (lies_parts h.2) (ap (λ n. align_up n (align_of s)) (sym there)) refl refl)
+    items_lie : (start : ℕ) → CanLie (parts all) start (laid st seen)
+    items_lie start = let h = buckets_lie os all (length os * size_of s) 0 start st seen each planned alike begun in (h.0, h.1, lies_parts h.2)
 
 -- ---- hashed maps
 
 module _ (w : Spelling Tree NodeResolver) (fit : Fit) where
-  all_tell : (xs : List Entry) → EachIs (TellsEntry w fit) xs → AllByRecursion (TellsValue fit pair_shape entry_value (pair_spelling w)) xs
+  pub all_tell : (xs : List Entry) → EachIs (TellsEntry w fit) xs → AllByRecursion (TellsValue fit pair_shape entry_value (pair_spelling w)) xs
   all_tell [] each = tt
   all_tell (x ∷ xs) each = (pair_tells w fit x each.0, all_tell xs each.1)
 
@@ -236,8 +154,8 @@ module _ (w : Spelling Tree NodeResolver) (fit : Fit) where
     long : length standing ≡ places_for (x ∷ xs)
     long = length-table 7 8 (pair_hashes (x ∷ xs)) (x ∷ xs)
 
-    wide : length (x ∷ xs) < places_for (x ∷ xs)
-    wide = above 7 8 (pair_hashes (x ∷ xs)) (x ∷ xs) (length-map (x ∷ xs) (λ (y : Entry). text_hash y.0)) (omega arith)
+    even : length (pair_hashes (x ∷ xs)) ≡ length (x ∷ xs)
+    even = length-map (x ∷ xs) (λ (y : Entry). text_hash y.0)
 
     each_tells : EachIs (TellsEntry w fit) (x ∷ xs) → AllByRecursion (TellsValue fit pair_shape entry_value (pair_spelling w)) (present standing)
     each_tells each =
@@ -267,26 +185,24 @@ module _ (w : Spelling Tree NodeResolver) (fit : Fit) where
       no_fields (hashed_spelling w) [] s seen own fs b alike refl refl (λ e r. r) (λ e r. ⊎_elim (λ k. k) (λ many. let n = many.0 in absurd (omega (arith, n))) r)
       (flat_lies own (laid s seen) b fs (subst (λ z. Lies z own (laid s seen) fs b) planned h))
   hashed_reads (x ∷ xs) vs p filled planned each s seen alike begun own fs b h =
-      let there = long x xs in
-      let more = wide x xs in
       let q = at_places x xs p planned in
-      let r = filled_read fit pair_shape entry_value (pair_spelling w) (standing x xs) (written x xs) (each_tells x xs each) (lengths x xs) q.plans filled.are.wrapped.count q.items s seen alike begun own fs b
-      (subst (λ z. Lies z own (laid s seen) fs b) q.is h) in
-      record {
-        alike = r.alike;
-        there = r.there;
-        piece_past = λ e. ⊎_elim (λ many. inl (r.led.beside e (inr (inr (inl (omega (arith, many.0, there), many.1)))))) (λ k. r.led.past e k);
-        own_past = λ e. ⊎_elim (λ k. r.led.beside e (inl k)) (λ many. r.led.beside e (inr (inr (inl many))));
-        refused = λ e past. ⊎_elim
-            (λ k. inl (inr k))
-            (⊎_elim (λ k. inr (inl k)) (⊎_elim (λ many. inr (inr (omega (arith, many.0, more), many.1))) (⊎_elim (λ many. inr (inr many)) (λ none. absurd none))))
-            (r.led.refused_led e past);
-      }
+      let told = each_tells x xs each in
+      let sized = each_sized fit pair_shape entry_value (pair_spelling w) (present (standing x xs)) told in
+      let r = table_reads fit pair_shape (pair_spelling w) (pair_hashes (x ∷ xs)) x xs (even x xs) s own fs b
+      (filled_read fit pair_shape (pair_spelling w) (standing x xs) (written x xs) sized (lengths x xs) (parts q.plans) filled.are.wrapped.count s seen own
+      (items_read fit pair_shape entry_value (pair_spelling w) (standing x xs) told q.plans q.items s seen alike begun) fs b
+      (subst (λ z. Lies z own (laid s seen) fs b) q.is h)) in
+      record { alike = r.alike; there = r.there; piece_past = r.piece_past; own_past = r.own_past; refused = r.refused }
 
   pub hashed_lies : (xs : List Entry) (vs : Values) (p : Plan) → FillsPairs fit xs vs → PairsPlan fit xs p → EachIs (TellsEntry w fit) xs → (s : State) (seen : List Shared) → Alike seen s.met → s.begun ≡ []
       → (own : ℕ) → CanLie p own (laid s seen)
   hashed_lies [] vs p filled planned each s seen alike begun own = as_plan p flat own (laid s seen) planned (flat_can_lie own (laid s seen))
   hashed_lies (x ∷ xs) vs p filled planned each s seen alike begun own =
       let q = at_places x xs p planned in
+      let told = each_tells x xs each in
+      let sized = each_sized fit pair_shape entry_value (pair_spelling w) (present (standing x xs)) told in
+      let these = standing x xs in
       as_plan p (FilledPlanOf x xs q.plans) own (laid s seen) q.is
-      (filled_lies fit pair_shape entry_value (pair_spelling w) (standing x xs) (written x xs) (each_tells x xs each) (lengths x xs) q.plans filled.are.wrapped.count q.items s seen alike begun own)
+      (filled_lies fit pair_shape (pair_spelling w) these (written x xs) sized (lengths x xs) (parts q.plans) filled.are.wrapped.count s seen own
+      (items_read fit pair_shape entry_value (pair_spelling w) these told q.plans q.items s seen alike begun)
+      (items_lie fit pair_shape entry_value (pair_spelling w) these told q.plans q.items s seen alike begun (region_from pair_shape (pair_spelling w) these s)))

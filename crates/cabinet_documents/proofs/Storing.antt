@@ -1,7 +1,7 @@
 -- What values store side by side, and in the regions that pointers lead to, against the limits of how they are written.
 use Rattle.std.proofs.Common.{◌≡◌, ℕ, ◌+◌, ◌-◌, ◌*◌, ◌≤◌, ◌^◌, List, [], ◌∷◌, ◌++◌, map as mapped, length, Some, refl, sym, ap, subst, ◌∙◌, arith, ◌⊎◌, inl, inr, ⊎_elim, length-append, add-zero}
 use Rattle.std.specs.List.{AllByRecursion}
-use Rattle.std.proofs.lemmas.List.{length-replicate, length-map}
+use Rattle.std.proofs.lemmas.List.{length-replicate}
 use Rattle.archive_forms_values.specs.ShapeLayout.Bytes.{align_up}
 use Rattle.archive_forms_values.specs.ShapeLayout.Shape.{Shape, size_of, align_of}
 use Rattle.archive_forms_values.specs.ShapeLayout.Value.{Value, Values, count_values}
@@ -20,13 +20,12 @@ use Rattle.archive_forms_values.specs.FormsLaws.Spelling.{Spelling, state_after}
 use Rattle.archive_forms_values.specs.FormsLaws.Regions.{state_after_all, pieces, owns, pieces_refused, owns_refused, region_at, region_piece}
 use Rattle.archive_forms_values.specs.FormsLaws.Views.{listed}
 use Rattle.archive_forms_values.proofs.FormsLaws.Regions.{state_after_all_pos}
-use Rattle.archive_hash_writing.proofs.Planned.{count_listed}
 use Rattle.cabinet_text_grammar.specs.Tree.{Tree}
 use Rattle.cabinet_documents.specs.Node.{node_shape, KnowsNode}
 use Rattle.cabinet_documents.specs.declared.spelling.resolver.NodeResolver.{NodeResolver}
 use Rattle.cabinet_documents.specs.Spelling.{boxed_shape, boxed_spelling, maybe_spelling, list_spelling, node_of}
 use Rattle.cabinet_documents.proofs.Values.{value_of}
-use Rattle.cabinet_documents.proofs.Plans.{TextPlan, is_inline, is_far, box_plan, slice_plan, one_plan, Planned, ArePlanned, first_planned, none_are_planned}
+use Rattle.cabinet_documents.proofs.Plans.{TextPlan, is_inline, is_far, box_plan, slice_plan, one_plan, length-values, Planned, ArePlanned, first_planned, none_are_planned}
 use Rattle.cabinet_documents.proofs.Fields.{Alike, laid, reached, parts_lies, past_left, past_right, past_either, leads_lies, IsFar, Reads}
 use Rattle.cabinet_documents.proofs.StoredRegions.{region_fields, ReadsLed, led_read}
 
@@ -248,16 +247,13 @@ module _ (fit : Fit) {A R : Type 0} (shape : Shape) (as_value : A → Value) (w 
             (fields ∙ ap (λ n. region_fields own start n numbers within) (add-zero start));
       }
 
-  pub length-values : (xs : List A) (vs : Values) → listed (all_erased vs) ≡ mapped as_value xs → count_values vs ≡ length xs
-  length-values xs vs same = sym (count_listed vs) ∙ ap length same ∙ length-map xs as_value
-
   module _ (xs : List A) (tell : AllByRecursion TellsValue xs) (vs : Values) (ps : Plans) (q : Plan) (numbers : List ℕ) (same : listed (all_erased vs) ≡ mapped as_value xs)
       (planned : ArePlanned fit shape 0 vs ps) (q_is : q ≡ slice_plan shape numbers (count_values vs) ps) (s : State) (seen : List Shared) (alike : Alike seen s.met) (begun : s.begun ≡ []) (own : ℕ) where
     pub slice_region : (fs : List Field) (b : limits.State) → Lies q own (laid s seen) fs b → ReadsRegion xs s own numbers fs b
     slice_region fs b h =
         let n = length xs in
         let l = leads_lies numbers (whole_target (n * size_of shape) (align_of shape)) (parts ps) own (laid s seen) b fs
-        (subst (λ x. Lies x own (laid s seen) fs b) (q_is ∙ ap (λ k. slice_plan shape numbers k ps) (length-values xs vs same)) h) in
+        (subst (λ x. Lies x own (laid s seen) fs b) (q_is ∙ ap (λ k. slice_plan shape numbers k ps) (length-values as_value xs vs same)) h) in
         let all = parts_lies ps l.start (laid s seen) l.inner l.within l.lies in
         let there = (all_read xs vs ps 0 l.start l.start s seen l.within l.inner tell same planned alike begun (sym (add-zero l.start)) all).there in
         let start = region_at w shape xs s in

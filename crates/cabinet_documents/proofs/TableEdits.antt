@@ -3,14 +3,13 @@ use Rattle.std.proofs.Common.{◌≡◌, ℕ, suc, ◌+◌, ◌-◌, ◌*◌, �
 use Rattle.std.specs.Prelude.{IsUtf8}
 use Rattle.archive_forms_values.specs.ShapeLayout.Bytes.{window}
 use Rattle.archive_forms_values.specs.ShapeLayout.Shape.{Shape, size_of}
-use Rattle.archive_forms_values.specs.ShapeLayout.Shape.Shape.{table}
 use Rattle.archive_forms_values.specs.ShapeLayout.Shape.Pointee.{sized, str}
 use Rattle.archive_forms_values.specs.ShapeLayout.Value.{Value, Values}
 use Rattle.archive_forms_values.specs.ShapeLayout.Value.Value.{string}
 use Rattle.archive_forms_values.specs.ShapeLayout.Value.Values.{no_values, more_values}
-use Rattle.archive_forms_values.specs.ShapeLayout.Content.{Names, Part, Item, Span, Label, content_of, made, members, item, IsLegal, pointee_content, item_size, control_count}
+use Rattle.archive_forms_values.specs.ShapeLayout.Content.{Names, Part, Item, Span, Label, content_of, made, members, IsLegal, pointee_content, item_size, control_count}
 use Rattle.archive_forms_values.specs.ShapeLayout.Content.Part.{at, behind, buckets}
-use Rattle.archive_forms_values.specs.ShapeLayout.Content.Label.{same}
+use Rattle.archive_forms_values.specs.ShapeLayout.Content.Label.{second}
 use Rattle.archive_forms_values.specs.ShapeLayout.Content.Content.{plain, claimed}
 use Rattle.archive_forms_values.specs.ShapeLayout.Laws.{AgreesOn}
 use Rattle.archive_forms_values.specs.ShapeLayout.Holds.{Region, region_of, Visit, OpenShared, Holds, HoldAll, Ascends, HasRoot, end_after}
@@ -31,8 +30,9 @@ use Rattle.archive_forms_values.proofs.ShapeLayout.Stood.{stands_in_value, stand
 use Rattle.archive_forms_values.proofs.ShapeLayout.Edits.{InAny, any_here, any_later, any_fits, any_apart, all_own, claimed_all, own_agrees, regions_agree, kept_plain, kept_claimed, plain_parts, claimed_parts, own_up, narrow, one_follows, LiesIn}
 use Rattle.archive_forms_values.proofs.ShapeCanonical.Kept.{plain_seen, claimed_seen, span_seen}
 use Rattle.cabinet_documents.specs.Table.{item_keys}
+use Rattle.cabinet_documents.proofs.EntryNumbers.{numbers_first, same_numbers}
 use Rattle.cabinet_documents.proofs.TableSound.{IsTableSound}
-use Rattle.cabinet_documents.proofs.HeldTables.{TablesSound, AreTablesSound, plain_tables, claimed_tables, keys_behind, same_path, table_still, OtherTables, AllOtherTables, framed, framed_all}
+use Rattle.cabinet_documents.proofs.HeldTables.{TablesSound, AreTablesSound, plain_tables, claimed_tables, keys_behind, IsToItems, items_path, numbers_stay, table_still, OtherTables, AllOtherTables, framed, framed_all}
 
 -- a window in an item lies below the controls
 controls_alike : (bytes others : List ℕ) (w n : ℕ) (spares : Spares bytes others w n) (names : Names) (target len many : ℕ) (it : Item) {s : Span} {l : Label} {ps : List Part}
@@ -44,12 +44,11 @@ controls_alike bytes others w n spares names target len many it {ps = ps} e i =
 
 -- a path in a table leads to no key of it
 keys_avoided : (p : Part) (ps : List Part) (vs : Values) (i : ℕ) (inner path : List ℕ) (m : Label) (new u : Value) → AvoidsKey p ps inner → through m vs i inner ≡ Some path
-    → (pos : ℕ) (s : Shape) (target len cap : ℕ) → p ≡ at pos (table s) → m ≡ same → ps ≡ buckets target len cap (item s) ∷ [] → item_keys (members u) ≡ item_keys (members (put_at path new u))
-keys_avoided p ps vs i inner path m new u free t pos s target len cap is label parts =
-    let at_table = subst (λ x. AvoidsKey x ps inner) is free in
-    let behind_key : IsBehindKey inner = subst (λ x. AvoidsKey (at pos (table s)) x inner) parts at_table in
-    let way = same_path vs i inner path (subst (λ x. through x vs i inner ≡ Some path) label t) in
-    keys_behind path new u (subst IsBehindKey way behind_key)
+    → (pos : ℕ) (s : Shape) (target len cap : ℕ) (it : Item) (rest : List Part) → p ≡ at pos s → IsToItems m → ps ≡ buckets target len cap it ∷ rest → item_keys (members u) ≡ item_keys (members (put_at path new u))
+keys_avoided p ps vs i inner path m new u free t pos s target len cap it rest is label parts =
+    let at_shape = subst (λ x. AvoidsKey x ps inner) is free in
+    let behind_key : IsBehindKey inner = subst (λ x. AvoidsKey (at pos s) x inner) parts at_shape in
+    keys_behind path new u (subst IsBehindKey (items_path m vs i inner path label t) behind_key)
 
 module _
     (names : Names) (bytes others : List ℕ) (w n : ℕ) (q : Part) (old new : Value)
@@ -99,11 +98,13 @@ module _
               ⊎_elim (λ j. kept_plain bytes others w n spares names p e j) (λ b. stable_plain bytes others names p (apart b) e) d.lies in
               let made_is = ap (λ y. made m (change_in i (λ z. put_at inner new z) y)) (sym us.values) ∙ put.is_made in
               let there = d.there in
+              let numbers = λ (x : m ≡ second). same_numbers bytes others ps o.vs (change_in i (λ z. put_at inner new z) o.vs) (numbers_first names bytes o.all) (numbers_first names others there.all)
+              (numbers_stay (λ z. put_at inner new z) m o.vs vs i inner path x through_is) in
               record {
                 lies = ⊎_elim (λ j. inl (own_up names bytes w n p e j)) (λ b. inr b) d.lies;
                 there = record {
                   holds = holds_plain alike o.legal there.all made_is;
-                  sound = (table_still bytes others names p u (put_at path new u) e alike there.seen_bytes (keys_avoided p ps vs i inner path m new u free.0 through_is) o.here, there.sound);
+                  sound = (table_still bytes others names p u (put_at path new u) e alike there.seen_bytes numbers (keys_avoided p ps vs i inner path m new u free.0 through_is) o.here, there.sound);
                   seen_bytes = plain_seen bytes others names p e;
                 };
               }

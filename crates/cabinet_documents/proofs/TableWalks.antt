@@ -22,15 +22,16 @@ use Rattle.cabinet_documents.specs.Walk.{Stop, Walks, WalkAll}
 use Rattle.cabinet_documents.specs.Table.{hashed_at, table_of}
 use Rattle.cabinet_documents.specs.Audit.{too_deep, unless, faults, hashed_faults}
 use Rattle.cabinet_documents.proofs.Begun.{own_faults, begun, not_walked, no_walks, first_walk, ends, onward}
-use Rattle.cabinet_documents.proofs.TableSound.{no_table}
-use Rattle.cabinet_documents.proofs.TreeWalks.{ItemsWalk, QuietKeys, EmptyMapWalked, EntriesWalk, no_entries, more_entries, pair_walked, flat_walked}
+use Rattle.cabinet_documents.proofs.TableSound.{no_table, table_content}
+use Rattle.cabinet_documents.proofs.TreeWalks.{ItemsWalk, QuietKeys, EmptyMapWalked, EntriesWalk, PairWalked, no_entries, more_entries, pair_walked, flat_walked}
 
--- the positions of the key and of the value of the item of a place: place i is the i + 1st bucket below the target
+-- the positions of the key and of the value of the pair at a position
+abbrev pub pair_place : Shape → Shape → ℕ → Place
+pair_place k v pos = let from = align_up 0 (align_of k) in record { key = pos + from; value = pos + align_up (from + size_of k) (align_of v) }
+
+-- those of the item of a place: place i is the i + 1st bucket below the target
 abbrev pub item_place : Shape → Shape → ℕ → ℕ → Place
-item_place k v target i =
-    let pos = target - (i + 1) * size_of (tuple2 k v) in
-    let from = align_up 0 (align_of k) in
-    record { key = pos + from; value = pos + align_up (from + size_of k) (align_of v) }
+item_place k v target i = pair_place k v (target - (i + 1) * size_of (tuple2 k v))
 
 -- those of the places whose controls are tags, where the first control is at place i
 abbrev pub item_places : Shape → Shape → ℕ → ℕ → List ℕ → List Place
@@ -50,17 +51,19 @@ pub record TableWalked (names : Names) (bytes : List ℕ) (k v : Shape) (depth p
 module _ (names : Names) (bytes : List ℕ) (k v : Shape) where
   -- ---- items
 
+  pub place_walked : {depth pos : ℕ} {w : Value} {walk : List Stop} → QuietKeys names bytes k depth → Walks names bytes depth (at pos (tuple2 k v)) w walk
+      → PairWalked names bytes k v depth (pair_place k v pos).key (pair_place k v pos).value w walk
+  unfolding shape_content fields
+  place_walked {depth = depth} {pos = pos} quiet h = let p = pair_place k v pos in pair_walked names bytes k v depth (at pos (tuple2 k v)) p.key p.value refl refl refl quiet h
+
   one_walked : (depth target i : ℕ) (b : Bool) (later : List Place) (cs : List ℕ) {vs : Values} {runs : List (List Stop)} → QuietKeys names bytes k depth
       → WalkAll names bytes depth (cond b (at (target - (i + 1) * size_of (tuple2 k v)) (tuple2 k v) ∷ tagged_items target (item (tuple2 k v)) (i + 1) cs) (tagged_items target (item (tuple2 k v)) (i + 1) cs)) vs runs
       → ((ws : Values) (others : List (List Stop)) → WalkAll names bytes depth (tagged_items target (item (tuple2 k v)) (i + 1) cs) ws others → EntriesWalk names bytes k v depth later ws others)
       → EntriesWalk names bytes k v depth (cond b (item_place k v target i ∷ later) later) vs runs
-  unfolding shape_content fields
   one_walked depth target i false later cs {vs = vs} {runs = runs} quiet all on = on vs runs all
   one_walked depth target i true later cs quiet all on =
       let f = first_walk names bytes all in
-      let pos = target - (i + 1) * size_of (tuple2 k v) in
-      let p = item_place k v target i in
-      let e = pair_walked names bytes k v depth (at pos (tuple2 k v)) p.key p.value refl refl refl quiet f.first in
+      let e = place_walked quiet f.first in
       more_entries refl (f.values_are ∙ ap (λ z. more_values z f.others) e.value_is) f.runs_are e.key_walk e.value_walk e.faults_are (on f.others f.later f.rest)
 
   items_walked : (depth target i : ℕ) (controls : List ℕ) {vs : Values} {runs : List (List Stop)} → QuietKeys names bytes k depth
@@ -96,18 +99,18 @@ module _ (names : Names) (bytes : List ℕ) (k v : Shape) where
   -- ---- the map
 
   empty_content : (pos : ℕ) → word_at bytes (pos + 4) ≡ 0 → content_of names bytes (at pos (table (tuple2 k v))) ≡ plain whole []
-  unfolding shape_content
-  empty_content pos e = chosen (word_at (window bytes pos 12) 4 == 0) _ _ (eq-eqb _ 0 (word_within bytes pos 12 4 (omega arith) ∙ e))
+  empty_content pos e = table_content bytes names pos (tuple2 k v) ∙ chosen (word_at bytes (pos + 4) == 0) _ _ (eq-eqb _ 0 e)
 
   led_content : (pos target : ℕ) → (word_at bytes (pos + 4) ≡ 0 → ⊥) → target_from pos (word_at bytes pos) ≡ Some target
-      → content_of names bytes (at pos (table (tuple2 k v))) ≡ choose (nat_lt (word_at (window bytes pos 12) 4) (word_at (window bytes pos 12) 8)) (plain same (buckets target (word_at (window bytes pos 12) 4) (word_at bytes (pos + 8)) (item (tuple2 k v)) ∷ [])) illegal
-  unfolding shape_content table_parts
+      → let len = word_at bytes (pos + 4) in
+      let cap = word_at bytes (pos + 8) in
+      content_of names bytes (at pos (table (tuple2 k v))) ≡ choose (nat_lt len cap) (plain same (buckets target len cap (item (tuple2 k v)) ∷ [])) illegal
   led_content pos target away leads =
-      let own = window bytes pos 12 in
-      let fewer = nat_lt (word_at own 4) (word_at own 8) in
-      not_chosen (word_at own 4 == 0) _ _ (ne_eqb _ 0 (λ e. away (sym (word_within bytes pos 12 4 (omega arith)) ∙ e)))
-      ∙ ap (λ c. choose fewer c illegal) (followed (target_from pos (word_at own 0)) target (λ t. plain same (buckets t (word_at own 4) (word_at own 8) (item (tuple2 k v)) ∷ [])) (ap (target_from pos) (first_word bytes pos 12 (omega arith)) ∙ leads))
-      ∙ ap (λ n. choose fewer (plain same (buckets target (word_at own 4) n (item (tuple2 k v)) ∷ [])) illegal) (word_within bytes pos 12 8 (omega arith))
+      let len = word_at bytes (pos + 4) in
+      let cap = word_at bytes (pos + 8) in
+      table_content bytes names pos (tuple2 k v)
+      ∙ not_chosen (len == 0) _ _ (ne_eqb _ 0 away)
+      ∙ ap (λ c. choose (nat_lt len cap) c illegal) (followed (target_from pos (word_at bytes pos)) target (λ t. plain same (buckets t len cap (item (tuple2 k v)) ∷ [])) leads)
 
   pointed_walked : (fewer : Bool) (depth pos target len : ℕ) {w : Value} {walk : List Stop}
       → content_of names bytes (at pos (table (tuple2 k v))) ≡ choose fewer (plain same (buckets target len (word_at bytes (pos + 8)) (item (tuple2 k v)) ∷ [])) illegal
@@ -132,7 +135,8 @@ module _ (names : Names) (bytes : List ℕ) (k v : Shape) where
       → (word_at bytes (pos + 4) ≡ 0 → ⊥) → target_from pos (word_at bytes pos) ≡ Some target → QuietKeys names bytes k (depth + 1)
       → Walks names bytes depth (at pos (table (tuple2 k v))) w walk → TableWalked names bytes k v depth pos target w walk
   table_walked {depth = depth} {pos = pos} {target = target} away leads quiet h =
-      pointed_walked (nat_lt (word_at (window bytes pos 12) 4) (word_at (window bytes pos 12) 8)) depth pos target (word_at (window bytes pos 12) 4) (led_content pos target away leads) quiet h
+      let len = word_at bytes (pos + 4) in
+      pointed_walked (nat_lt len (word_at bytes (pos + 8))) depth pos target len (led_content pos target away leads) quiet h
 
   -- and without
   pub empty_table_walked : {depth pos : ℕ} {w : Value} {walk : List Stop}

@@ -1,5 +1,5 @@
 -- The value of a document, by its kinds, is the one that the spelling gives it, except for positions of shared texts.
-use Rattle.std.proofs.Common.{◌≡◌, ℕ, zero, suc, ◌≤◌, Bool, true, false, cond, List, [], ◌∷◌, length, map as list_map, Some, refl, sym, ap, ap₂, subst, ◌∙◌, arith}
+use Rattle.std.proofs.Common.{◌≡◌, ℕ, zero, suc, ◌≤◌, List, [], ◌∷◌, length, map as list_map, Some, refl, sym, ap, ap₂, subst, ◌∙◌, arith}
 use Rattle.std.proofs.Math.Nat.{le-max_left, le-max_right}
 use Rattle.archive_forms_values.specs.ShapeLayout.Shape.Pointee.{str}
 use Rattle.archive_forms_values.specs.ShapeLayout.Value.{Value, Values, count_values}
@@ -14,6 +14,8 @@ use Rattle.archive_forms_values.specs.FormsLaws.Regions.{plain_values, all_suit}
 use Rattle.archive_forms_values.specs.FormsLaws.Levels.{levels_spelling}
 use Rattle.archive_hash_writing.specs.Fitted.{capacity_of, places_of, by_place}
 use Rattle.archive_hash_writing.proofs.FirstFitted.{filled_by, all_suit_placed}
+use Rattle.archive_index_spelling.specs.Maps.{IsKeptBy}
+use Rattle.archive_index_spelling.proofs.Kept.{texts_kept}
 use Rattle.cabinet_text_grammar.specs.Keys.{MapKind, ordered, hashed, kept}
 use Rattle.cabinet_text_grammar.specs.TextKey.{text_key, text_of_key}
 use Rattle.cabinet_text_grammar.proofs.KeyLemmas.{key_has_text_law, text_has_key_law}
@@ -25,14 +27,13 @@ use Rattle.cabinet_documents.specs.Denotes.Denotes.{denotes_truth, denotes_numbe
 use Rattle.cabinet_documents.specs.Denotes.DenoteAll.{denote_none, denote_more}
 use Rattle.cabinet_documents.specs.Denotes.DenotePairs.{denote_no_pairs, denote_pair}
 use Rattle.cabinet_documents.specs.declared.spelling.resolver.NodeResolver.{NodeResolver}
-use Rattle.cabinet_documents.specs.HasLayout.{HasLayout, HaveLayout, HavePairsLayout}
 use Rattle.cabinet_documents.specs.Fitted.{IsFitted, AreFitted, ArePairsFitted}
-use Rattle.cabinet_documents.specs.Order.{is_below, inserted, arranged}
+use Rattle.cabinet_documents.specs.Order.{arranged}
 use Rattle.cabinet_documents.specs.Spelling.{trees_in, pairs_in, pair_spelling, refused, node_level, node_spelling}
 use Rattle.cabinet_documents.specs.SpellingLaws.{OneValue}
 use Rattle.cabinet_documents.proofs.ByKey.{pair_keys, AreDistinct, distinct, distinct_in_order}
 use Rattle.cabinet_documents.proofs.FirstFit.{values_in, by_first_fit, first_fit_mapped, first_fit_plain}
-use Rattle.cabinet_documents.proofs.Fitting.{fitted_some, fitted_list, fitted_ordered, fitted_hashed, fitted_more, fitted_pair}
+use Rattle.cabinet_documents.proofs.Fitting.{fitted_some, fitted_list, fitted_ordered, fitted_hashed, fitted_kept, fitted_more, fitted_pair}
 use Rattle.cabinet_documents.proofs.KeyOrder.{ascending_stays}
 use Rattle.cabinet_documents.proofs.PlacedPairs.{pairs_of, keys_listed, pair_hashes, placed_pairs, placed_arranged}
 
@@ -47,7 +48,7 @@ abbrev mutual
   value_of (list ts) = tagged_value 5 (group (values_of ts))
   value_of (map ordered ps) = tagged_value 6 (group (values_of_pairs ps))
   value_of (map hashed ps) = tagged_value 7 (group (by_first_fit (values_of_pairs ps)))
-  value_of (map kept ps) = group no_values
+  value_of (map kept ps) = tagged_value 8 (group (values_of_pairs ps))
 
   pub values_of : Trees → Values
   values_of no_trees = no_values
@@ -119,6 +120,11 @@ module _ (w : Spelling Tree NodeResolver) where
         suits = λ kind before legal. ((tt, (first.suits legal.1.0, tt)), rest.suits kind (k ∷ before) legal.1.1);
       }
 
+  -- first fit fills a kept map as it is written
+  pairs_kept : (xs : List (List ℕ × Tree)) → IsKeptBy 7 8 pair_shape (pair_spelling w) (pair_hashes xs) (first_fit text_hash) xs
+  pairs_kept xs =
+      texts_kept pair_shape (pair_spelling w) (λ x. x.0) (λ x. record { rest = more_values (w.plain x.1) no_values; is = refl }) (λ x. text_hash x.0) (λ x. refl) xs
+
   level_agrees : (n : ℕ) → ((y : Tree) → suc (depth y) ≤ n → Agrees w y) → (t : Tree) → depth t ≤ n → Agrees (node_level w) t
   level_agrees n each (leaf (document.truth b)) less = record { plain = refl; suits = λ legal. tt }
   level_agrees n each (leaf (document.number z)) less = record { plain = refl; suits = λ legal. tt }
@@ -158,7 +164,12 @@ module _ (w : Spelling Tree NodeResolver) where
           filled_by pairs (λ x. x.0) (λ x. refl) pair_shape text_hash xs (ascend legal.0),
         );
       }
-  level_agrees (suc n) each (map kept ps) less = record { plain = refl; suits = λ legal. tt }
+  level_agrees (suc n) each (map kept ps) less =
+      let all = pairs_agree n (λ y h. each y (omega (arith, h))) ps (omega (arith, less)) in
+      record {
+        plain = ap (λ vs. tagged_value 8 (group vs)) all.plain;
+        suits = λ legal. (all.suits kept [] legal.0, pairs_kept (pairs_in ps));
+      }
 
 levels_agree : (n : ℕ) (t : Tree) → depth t ≤ n → Agrees (levels_spelling node_level refused (suc n)) t
 levels_agree zero t less = level_agrees refused zero (λ y h. absurd (omega (arith, h))) t less
@@ -195,35 +206,22 @@ count_denoted : {vs : Values} {ps : Pairs} → DenotePairs vs ps → count_value
 count_denoted (denote_no_pairs e f) = ap count_values e ∙ sym (ap (λ x. length (pair_keys x)) f)
 count_denoted (denote_pair {vs = vs} e f d ds) = let rest = count_denoted ds in ap count_values e ∙ omega (arith, rest) ∙ sym (ap (λ x. length (pair_keys x)) f)
 
-have_layout_inserted : (k : List ℕ) (t : Tree) (ps : Pairs) → HavePairsLayout (inserted k t ps) → HavePairsLayout (more_pairs k t ps)
-have_layout_inserted k t no_pairs h = h
-have_layout_inserted k t (more_pairs l u ps) h = by_case (is_below l k) h (have_layout_inserted k t ps)
-  where
-    by_case : (b : Bool) → HavePairsLayout (cond b (more_pairs l u (inserted k t ps)) (more_pairs k t (more_pairs l u ps))) → (HavePairsLayout (inserted k t ps) → HavePairsLayout (more_pairs k t ps))
-        → HavePairsLayout (more_pairs k t (more_pairs l u ps))
-    by_case true g on = let r = on g.1 in (r.0, (g.0, r.1))
-    by_case false g on = g
-
-have_layout_arranged : (ps : Pairs) → HavePairsLayout (arranged ps) → HavePairsLayout ps
-have_layout_arranged no_pairs h = tt
-have_layout_arranged (more_pairs k t ps) h = let r = have_layout_inserted k t (arranged ps) h in (r.0, have_layout_arranged ps r.1)
-
 mutual
-  only : (v : Value) (t : Tree) → HasLayout t → IsLegal t → Denotes v t → IsFitted v → erased v ≡ value_of t
-  only v t h l (denotes_truth e f) i = ap erased e ∙ sym (ap value_of f)
-  only v t h l (denotes_number e f) i = ap erased e ∙ sym (ap value_of f)
-  only v t h l (denotes_text e f) i = ap erased e ∙ sym (ap value_of f)
-  only v t h l (denotes_shared e f) i = ap erased e ∙ sym (ap value_of f)
-  only v t h l (denotes_nothing e f) i = ap erased e ∙ sym (ap value_of f)
-  only v t h l (denotes_some {w = w} {u = u} e f d) i =
-      ap erased e ∙ (ap (λ x. tagged_value 4 (tagged_value 1 x)) (only w u (subst HasLayout f h) (subst IsLegal f l) d (fitted_some i e)) ∙ sym (ap value_of f))
-  only v t h l (denotes_list {vs = vs} {ts = ts} e f d) i =
+  only : (v : Value) (t : Tree) → IsLegal t → Denotes v t → IsFitted v → erased v ≡ value_of t
+  only v t l (denotes_truth e f) i = ap erased e ∙ sym (ap value_of f)
+  only v t l (denotes_number e f) i = ap erased e ∙ sym (ap value_of f)
+  only v t l (denotes_text e f) i = ap erased e ∙ sym (ap value_of f)
+  only v t l (denotes_shared e f) i = ap erased e ∙ sym (ap value_of f)
+  only v t l (denotes_nothing e f) i = ap erased e ∙ sym (ap value_of f)
+  only v t l (denotes_some {w = w} {u = u} e f d) i =
+      ap erased e ∙ (ap (λ x. tagged_value 4 (tagged_value 1 x)) (only w u (subst IsLegal f l) d (fitted_some i e)) ∙ sym (ap value_of f))
+  only v t l (denotes_list {vs = vs} {ts = ts} e f d) i =
       let legal = subst IsLegal f l in
-      ap erased e ∙ (ap (λ x. tagged_value 5 (group x)) (all_only vs ts (subst HasLayout f h) legal.0 d (fitted_list i e)) ∙ sym (ap value_of f))
-  only v t h l (denotes_ordered {vs = vs} {ps = ps} e f d) i =
+      ap erased e ∙ (ap (λ x. tagged_value 5 (group x)) (all_only vs ts legal.0 d (fitted_list i e)) ∙ sym (ap value_of f))
+  only v t l (denotes_ordered {vs = vs} {ps = ps} e f d) i =
       let legal = subst IsLegal f l in
-      ap erased e ∙ (ap (λ x. tagged_value 6 (group x)) (pairs_only vs ps (subst HasLayout f h) (distinct ordered [] ps legal.0) d (fitted_ordered i e)) ∙ sym (ap value_of f))
-  only v t h l (denotes_hashed {vs = vs} {ps = ps} e f d) i =
+      ap erased e ∙ (ap (λ x. tagged_value 6 (group x)) (pairs_only vs ps (distinct ordered [] ps legal.0) d (fitted_ordered i e)) ∙ sym (ap value_of f))
+  only v t l (denotes_hashed {vs = vs} {ps = ps} e f d) i =
       let legal = subst IsLegal f l in
       let apart = distinct_in_order hashed ps (distinct hashed [] (arranged ps) legal.0) in
       let fit = fitted_hashed i e in
@@ -231,26 +229,26 @@ mutual
       let count = count_denoted d in
       let by_fit = sym keys ∙ fit.0 ∙ ap₂ (λ n ks. placed_keys text_hash (map_capacity n) (ascending ks)) count keys in
       ap erased e
-      ∙ (ap (λ x. tagged_value 7 (group x)) (pairs_only vs ps (have_layout_arranged ps (subst HasLayout f h)) apart d fit.1 ∙ ap values_of_pairs (sym (placed_arranged ps apart by_fit)) ∙ sym (first_fit_pairs (arranged ps)))
+      ∙ (ap (λ x. tagged_value 7 (group x)) (pairs_only vs ps apart d fit.1 ∙ ap values_of_pairs (sym (placed_arranged ps apart by_fit)) ∙ sym (first_fit_pairs (arranged ps)))
       ∙ sym (ap value_of f))
-  only v t h l (denotes_kept e f d) i = absurd (subst HasLayout f h)
+  only v t l (denotes_kept {vs = vs} {ps = ps} e f d) i =
+      let legal = subst IsLegal f l in
+      ap erased e ∙ (ap (λ x. tagged_value 8 (group x)) (pairs_only vs ps (distinct kept [] ps legal.0) d (fitted_kept i e)) ∙ sym (ap value_of f))
 
-  all_only : (vs : Values) (ts : Trees) → HaveLayout ts → AreLegal ts → DenoteAll vs ts → AreFitted vs → all_erased vs ≡ values_of ts
-  all_only vs ts h l (denote_none e f) i = ap all_erased e ∙ sym (ap values_of f)
-  all_only ws us h l (denote_more {v = v} {vs = vs} {t = t} {ts = ts} e f d ds) i =
-      let both = subst HaveLayout f h in
+  all_only : (vs : Values) (ts : Trees) → AreLegal ts → DenoteAll vs ts → AreFitted vs → all_erased vs ≡ values_of ts
+  all_only vs ts l (denote_none e f) i = ap all_erased e ∙ sym (ap values_of f)
+  all_only ws us l (denote_more {v = v} {vs = vs} {t = t} {ts = ts} e f d ds) i =
       let legal = subst AreLegal f l in
       let fit = fitted_more i e in
-      ap all_erased e ∙ (ap₂ more_values (only v t both.0 legal.0 d fit.0) (all_only vs ts both.1 legal.1 ds fit.1) ∙ sym (ap values_of f))
+      ap all_erased e ∙ (ap₂ more_values (only v t legal.0 d fit.0) (all_only vs ts legal.1 ds fit.1) ∙ sym (ap values_of f))
 
-  pairs_only : (vs : Values) (ps : Pairs) → HavePairsLayout ps → AreDistinct ps → DenotePairs vs ps → ArePairsFitted vs → all_erased vs ≡ values_of_pairs ps
-  pairs_only vs ps h l (denote_no_pairs e f) i = ap all_erased e ∙ sym (ap values_of_pairs f)
-  pairs_only ws qs h l (denote_pair {k = k} {v = v} {vs = vs} {t = t} {ps = ps} e f d ds) i =
-      let both = subst HavePairsLayout f h in
+  pairs_only : (vs : Values) (ps : Pairs) → AreDistinct ps → DenotePairs vs ps → ArePairsFitted vs → all_erased vs ≡ values_of_pairs ps
+  pairs_only vs ps l (denote_no_pairs e f) i = ap all_erased e ∙ sym (ap values_of_pairs f)
+  pairs_only ws qs l (denote_pair {k = k} {v = v} {vs = vs} {t = t} {ps = ps} e f d ds) i =
       let legal = subst AreDistinct f l in
       let fit = fitted_pair i e in
       ap all_erased e
-      ∙ (ap₂ (λ (x : Value) (xs : Values). more_values (pair_value k x) xs) (only v t both.0 legal.1 d fit.0) (pairs_only vs ps both.1 legal.2 ds fit.1) ∙ sym (ap values_of_pairs f))
+      ∙ (ap₂ (λ (x : Value) (xs : Values). more_values (pair_value k x) xs) (only v t legal.1 d fit.0) (pairs_only vs ps legal.2 ds fit.1) ∙ sym (ap values_of_pairs f))
 
 pub one_value_law : OneValue
-one_value_law v t h document d fit = only v t h document.0 d fit ∙ sym (node_agrees t).plain
+one_value_law v t document d fit = only v t document.0 d fit ∙ sym (node_agrees t).plain

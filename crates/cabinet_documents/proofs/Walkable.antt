@@ -1,19 +1,21 @@
 -- What holds has a walk, of whose steps all is known that is known of the steps of what holds.
-use Rattle.std.proofs.Common.{◌≡◌, ◌∙◌, ℕ, List, [], ◌∷◌, length, Some, refl, sym, ap, subst, arith, cond, ◌==◌, true, false, Bool, eqb-true}
+use Rattle.std.proofs.Common.{◌≡◌, ℕ, List, [], ◌∷◌, Some, refl, sym, ap, subst, cond, ◌==◌, true, false, Bool, eqb-true}
 use Rattle.std.specs.Prelude.{⊤}
-use Rattle.archive_forms_values.specs.ShapeLayout.Shape.{Pointee}
-use Rattle.archive_forms_values.specs.ShapeLayout.Value.{Value, Values, count_values}
+use Rattle.archive_forms_values.specs.ShapeLayout.Shape.{Shape, Pointee}
+use Rattle.archive_forms_values.specs.ShapeLayout.Shape.Pointee.{sized}
+use Rattle.archive_forms_values.specs.ShapeLayout.Value.{Value, Values}
 use Rattle.archive_forms_values.specs.ShapeLayout.Value.Values.{no_values, more_values}
-use Rattle.archive_forms_values.specs.ShapeLayout.Content.{Names, Part, Content, content_of}
+use Rattle.archive_forms_values.specs.ShapeLayout.Content.{Names, Part, Label, Content, content_of, made}
 use Rattle.archive_forms_values.specs.ShapeLayout.Content.Part.{behind}
-use Rattle.archive_forms_values.specs.ShapeLayout.Content.Content.{plain, claimed, counting}
-use Rattle.archive_forms_values.specs.ShapeLayout.Holds.{Region, Visit, OpenShared, visited, Holds, HoldAll}
+use Rattle.archive_forms_values.specs.ShapeLayout.Content.Content.{illegal, plain, claimed, counting}
+use Rattle.archive_forms_values.specs.ShapeLayout.Holds.{Region, Visit, OpenShared, visited, Holds, HoldAll, HasRoot}
 use Rattle.archive_forms_values.specs.ShapeLayout.Holds.Holds.{holds_plain, holds_claimed, holds_first, holds_later, holds_back}
 use Rattle.archive_forms_values.specs.ShapeLayout.Holds.HoldAll.{holds_none, holds_more}
 use Rattle.cabinet_documents.specs.Walk.{Stop, Walks, WalkAll, parts_of, value_of, joined, depth_in}
 use Rattle.cabinet_documents.specs.Walk.Walks.{walks}
 use Rattle.cabinet_documents.specs.Walk.WalkAll.{walk_none, walk_more}
 use Rattle.cabinet_documents.specs.Laws.{IsAcyclic, AreAcyclic, WalkStands}
+use Rattle.cabinet_documents.proofs.Walked.{one_walk}
 use Rattle.cabinet_documents.proofs.Stops.{Each, each_append, each_joined, flat}
 
 -- what is known of a part, its content and the values of its parts
@@ -35,13 +37,41 @@ abbrev mutual
   AreKnown Known (holds_none e f g) = ⊤
   AreKnown Known (holds_more h hs e r) = IsKnown Known h × AreKnown Known hs
 
+-- a part with this content claims no bytes and is no counted pointer
+abbrev pub IsDirect : Content → Type 0
+IsDirect illegal = ⊤
+IsDirect (plain l ps) = ⊤
+IsDirect (claimed s l ps) = ⊥
+IsDirect (counting cyclic t q len) = ⊥
+
+-- parts hold, with these values
+pub data PartsHold (names : Names) (bytes : List ℕ) (ps : List Part) (vs : Values) : Type 0 where
+  parts_hold : {level : ℕ} {inside : List OpenShared} {regions : List Region} {before after : List Visit} → HoldAll names bytes level inside ps vs regions before after → PartsHold names bytes ps vs
+
 module _ (Known : Knowledge) (names : Names) (bytes : List ℕ) where
-  -- a stop that is no counted pointer has values of its parts, of which it is known
+  -- the parts of a stop that is no counted pointer hold, with values of which it is known
   pub data IsKnownStop (s : Stop) : Type 0 where
     known_step :
-        {c : Content} {vs : Values} → content_of names bytes s.part ≡ c → value_of c vs ≡ Some s.value → count_values vs ≡ length (parts_of c) → Known s.part c vs
+        {c : Content} {vs : Values} → content_of names bytes s.part ≡ c → value_of c vs ≡ Some s.value → PartsHold names bytes (parts_of c) vs → Known s.part c vs
         → IsKnownStop s
     counted_step : {cyclic : Bool} {t len : ℕ} {q : Pointee} → content_of names bytes s.part ≡ counting cyclic t q len → IsKnownStop s
+
+  -- where the part claims no bytes and is no counted pointer
+  pub record PlainStop (s : Stop) : Type 0 where
+    pub l : Label
+    pub ps : List Part
+    pub vs : Values
+    pub says : content_of names bytes s.part ≡ plain l ps
+    pub is_made : made l vs ≡ Some s.value
+    pub parts : PartsHold names bytes ps vs
+    pub known : Known s.part (plain l ps) vs
+
+  pub plain_stop : (s : Stop) → IsDirect (content_of names bytes s.part) → IsKnownStop s → PlainStop s
+  plain_stop s d (known_step {c = illegal} e m parts k) = absurd (cc)
+  plain_stop s d (known_step {c = plain l ps} {vs = vs} e m parts k) = record { l = l; ps = ps; vs = vs; says = e; is_made = m; parts = parts; known = k }
+  plain_stop s d (known_step {c = claimed x l ps} e m parts k) = absurd (subst IsDirect e d)
+  plain_stop s d (known_step {c = counting cyclic t q len} e m parts k) = absurd (subst IsDirect e d)
+  plain_stop s d (counted_step e) = absurd (subst IsDirect e d)
 
   pub record HasKnownWalk (depth : ℕ) (p : Part) (v : Value) : Type 0 where
     pub walk : List Stop
@@ -52,10 +82,6 @@ module _ (Known : Knowledge) (names : Names) (bytes : List ℕ) where
     pub walks : List (List Stop)
     pub walked : WalkAll names bytes depth ps vs walks
     pub known : Each IsKnownStop (flat walks)
-
-  count_walked : {depth : ℕ} {ps : List Part} {vs : Values} {walk : List (List Stop)} → WalkAll names bytes depth ps vs walk → count_values vs ≡ length ps
-  count_walked (walk_none e f) = ap count_values e
-  count_walked (walk_more w ws e f) = let rest = count_walked ws in ap count_values e ∙ omega (arith, rest)
 
   -- each shared value that was visited has one
   abbrev pub VisitsKnown : List Visit → Type 0
@@ -109,13 +135,13 @@ module _ (Known : Knowledge) (names : Names) (bytes : List ℕ) where
     known_walked (holds_plain {p = p} {v = v} {l = l} {ps = ps} {vs = vs} e legal all m) a k =
         let r = all_known_walked all a.1 k in
         record {
-          here = λ depth. let all = r.here (depth_in depth p) in one_step depth p v vs (plain l ps) e all m (known_step e m (count_walked all.walked) a.0);
+          here = λ depth. one_step depth p v vs (plain l ps) e (r.here (depth_in depth p)) m (known_step e m (parts_hold all) a.0);
           later = r.later;
         }
     known_walked (holds_claimed {p = p} {v = v} {s = s} {l = l} {ps = ps} {vs = vs} e legal all m x) a k =
         let r = all_known_walked all a.1 k in
         record {
-          here = λ depth. let all = r.here (depth_in depth p) in one_step depth p v vs (claimed s l ps) e all m (known_step e m (count_walked all.walked) a.0);
+          here = λ depth. one_step depth p v vs (claimed s l ps) e (r.here (depth_in depth p)) m (known_step e m (parts_hold all) a.0);
           later = r.later;
         }
     known_walked (holds_first {p = p} {v = v} {w = w} {between = between} {cyclic = cyclic} {t = t} {q = q} {len = len} e x y h d g) a k =
@@ -187,6 +213,13 @@ module _ (names : Names) (bytes : List ℕ) where
   pub all_walked : {level : ℕ} {inside : List OpenShared} {ps : List Part} {vs : Values} {regions : List Region} {before after : List Visit}
       → (h : HoldAll names bytes level inside ps vs regions before after) → AreAcyclic h → VisitsWalk before → AllKnownWalked Nothing names bytes ps vs after
   all_walked h a k = all_known_walked Nothing names bytes h (nothing_known_in h a) k
+
+-- the parts of each stop in the walk of a root hold
+pub known_stops : (names : Names) (bytes : List ℕ) {depth pos : ℕ} {s : Shape} {v : Value} {regions : List Region} {visits : List Visit} {walk : List Stop} (root : HasRoot names bytes pos s v regions visits)
+    → IsAcyclic root.holds → Walks names bytes depth (behind pos (sized s) 1) v walk → Each (IsKnownStop Nothing names bytes) walk
+known_stops names bytes {depth = depth} root a walked =
+    let w = known_walk Nothing names bytes root.holds (nothing_known root.holds a) depth in
+    subst (Each (IsKnownStop Nothing names bytes)) (one_walk names bytes w.walked walked).walk w.known
 
 pub walk_stands_law : WalkStands
 walk_stands_law names bytes depth pos s v regions visits h a =

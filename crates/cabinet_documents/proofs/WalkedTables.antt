@@ -19,7 +19,7 @@ use Rattle.cabinet_documents.specs.Laws.{IsAcyclic, AreAcyclic}
 use Rattle.cabinet_documents.proofs.Begun.{no_walks, only_walk}
 use Rattle.cabinet_documents.proofs.Stops.{Each, each_append, each_front, each_joined, each_flat, flat}
 use Rattle.cabinet_documents.proofs.Places.{Place, node_behind, Spot, part_of, parts_at, led}
-use Rattle.cabinet_documents.proofs.Nodes.{counts, none_seen, held}
+use Rattle.cabinet_documents.proofs.HeldNodes.{counts, none_seen, held}
 use Rattle.cabinet_documents.proofs.Walkable.{VisitsWalk, walked, all_walked}
 use Rattle.cabinet_documents.proofs.Walked.{all_walks}
 use Rattle.cabinet_documents.proofs.Avoiding.{says_plain, says_claimed, spots}
@@ -59,9 +59,8 @@ module _ (bytes : List ℕ) where
     matches : {level depth : ℕ} {inside : List OpenShared} {p : Part} {v : Value} {regions : List Region} {before after : List Visit} {walk : List Stop}
         (h : Holds node_names bytes level inside p v regions before after) (k : Place) (pos : ℕ) → p ≡ part_of k pos → IsAcyclic h → VisitsWalk node_names bytes before
         → Walks node_names bytes depth p v walk → Matches h walk
-    matches {depth = depth} {inside = inside} {p = p} {v = v} {regions = regions} {before = before} {after = after} (holds_plain {level = level} {l = l} {ps = ps} {vs = vs} e legal all m) k pos is a visits (walks {vs = ws} {inner = inner} all' m' w) =
-        let here = subst (λ x. Holds node_names bytes level inside x v regions before after) is (holds_plain e legal all m) in
-        let s = spots bytes k pos here (led bytes k pos) (says_plain (ap (content_of node_names bytes) (sym is) ∙ e)) in
+    matches {depth = depth} {p = p} {v = v} (holds_plain {ps = ps} {vs = vs} e legal all m) k pos is a visits (walks {vs = ws} {inner = inner} all' m' w) =
+        let s = spots bytes k (led bytes k pos) (says_plain (ap (content_of node_names bytes) (sym is) ∙ e)) in
         let below = subst (λ x. WalkAll node_names bytes (depth_in depth p) (parts_of x) ws inner) e all' in
         let r = all_walked node_names bytes all a visits in
         let same_values = (all_walks node_names bytes below (r.here (depth_in depth p)).walked).values in
@@ -70,9 +69,8 @@ module _ (bytes : List ℕ) where
           to = λ n. subst (Each (TableSounds bytes)) (sym w) (n.0, each_joined (TableSounds bytes) (content_of node_names bytes p) inner (d.to n.1));
           from = λ x. let y = subst (Each (TableSounds bytes)) w x in (y.0, d.from (each_flat (TableSounds bytes) (content_of node_names bytes p) inner y.1));
         }
-    matches {depth = depth} {inside = inside} {p = p} {v = v} {regions = regions} {before = before} {after = after} (holds_claimed {level = level} {s = span} {l = l} {ps = ps} {vs = vs} e legal all m r) k pos is a visits (walks {vs = ws} {inner = inner} all' m' w) =
-        let here = subst (λ x. Holds node_names bytes level inside x v regions before after) is (holds_claimed e legal all m r) in
-        let s = spots bytes k pos here (led bytes k pos) (says_claimed (ap (content_of node_names bytes) (sym is) ∙ e)) in
+    matches {depth = depth} {p = p} {v = v} (holds_claimed {ps = ps} {vs = vs} e legal all m r) k pos is a visits (walks {vs = ws} {inner = inner} all' m' w) =
+        let s = spots bytes k (led bytes k pos) (says_claimed (ap (content_of node_names bytes) (sym is) ∙ e)) in
         let below = subst (λ x. WalkAll node_names bytes (depth_in depth p) (parts_of x) ws inner) e all' in
         let c = all_walked node_names bytes all a visits in
         let same_values = (all_walks node_names bytes below (c.here (depth_in depth p)).walked).values in

@@ -14,7 +14,7 @@ use Rattle.archive_forms_values.specs.ShapeCanonical.Canonical.{AreBytes}
 use Rattle.archive_forms_values.specs.ArchiveShape.Bytes.{overwrite}
 use Rattle.cabinet_text_grammar.specs.Tree.{Leaf, truth, number, text, IsLeaf}
 use Rattle.cabinet_text_grammar.specs.Path.{Step}
-use Rattle.cabinet_documents.specs.Node.{node_names, node_shape, absent, own_bytes}
+use Rattle.cabinet_documents.specs.Node.{node_names, node_shape, own_bytes}
 use Rattle.cabinet_text_grammar.specs.Tree.{Tree, leaf, IsDocument}
 use Rattle.cabinet_text_grammar.specs.Path.{node_at}
 use Rattle.cabinet_text_grammar.specs.Answering.{change}
@@ -68,13 +68,6 @@ WalkStands =
     → (h : HasRoot names bytes pos s v regions visits)
     → IsAcyclic h.holds
     → HasWalk names bytes depth (behind pos (sized s) 1) v
-
--- a payload without a layout has no value
-abbrev pub AbsentHasNoValue : Type 0
-AbsentHasNoValue =
-    (bytes : List ℕ) (level : ℕ) (inside : List OpenShared) (pos : ℕ) (v : Value) (regions : List Region) (before after : List Visit)
-    → Holds node_names bytes level inside (at pos absent) v regions before after
-    → ⊥
 
 -- accepted bytes denote one document
 abbrev pub OneDocument : Type 0

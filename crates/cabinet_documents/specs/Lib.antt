@@ -3,7 +3,6 @@ pub mod Audit
 pub mod Denotes
 pub mod Done
 pub mod Fitted
-pub mod HasLayout
 pub mod Image
 pub mod Laws
 pub mod Node

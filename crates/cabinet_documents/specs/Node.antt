@@ -1,9 +1,9 @@
 -- The layout of a document's node: 24 bytes, aligned to 8; a tag byte, then the payload of the tag at its alignment.
 use Rattle.std.specs.Prelude.{◌≡◌, Some, true, false, List, [], ◌∷◌, ℕ, Bool}
-use Rattle.std.specs.Int.{w8, w64, to_le_bytes, cast_unsigned}
+use Rattle.std.specs.Int.{w64, to_le_bytes, cast_unsigned}
 use Rattle.archive_forms_values.specs.ShapeLayout.Shape.{Shape, Shapes}
 use Rattle.archive_forms_values.specs.ShapeLayout.Shape.Alignment.{eight}
-use Rattle.archive_forms_values.specs.ShapeLayout.Shape.Shape.{number, truth, text, option, choice, box, vector, shared, tree, table, named, tuple, array}
+use Rattle.archive_forms_values.specs.ShapeLayout.Shape.Shape.{number, truth, text, option, choice, box, vector, shared, tree, table, index_map, named, tuple}
 use Rattle.archive_forms_values.specs.ShapeLayout.Shape.Shapes.{no_shapes, more_shapes}
 use Rattle.archive_forms_values.specs.ShapeLayout.Shape.Pointee.{sized, str}
 use Rattle.archive_forms_values.specs.ShapeLayout.Content.{Names, shape_named}
@@ -13,14 +13,9 @@ use Rattle.cabinet_text_grammar.specs.Tree as document
 abbrev pub node_shape : Shape
 node_shape = named 0 24 eight
 
--- a pair of a hashed map: the key, then the node
+-- a pair of a hashed or a kept map: the key, then the node
 abbrev pub pair_shape : Shape
 pair_shape = tuple (more_shapes text (more_shapes node_shape no_shapes))
-
--- the payload of a kind that has no layout yet: sixteen bytes that hold no value, since no byte is the tag of an enum
--- without variants
-abbrev pub absent : Shape
-absent = tuple (more_shapes (choice no_shapes) (more_shapes (array 15 (number w8 false)) no_shapes))
 
 -- in the order of the tags, from 0: a truth value, a number, a text, a shared text, an option, a list, an ordered map,
 -- a hashed map, and a map that keeps its order; several pointers may point to one shared text, and none lies inside it
@@ -34,7 +29,7 @@ payloads =
     (more_shapes (vector node_shape)
     (more_shapes (tree 5 text node_shape)
     (more_shapes (table pair_shape)
-    (more_shapes absent no_shapes))))))))
+    (more_shapes (index_map text node_shape) no_shapes))))))))
 
 abbrev pub node_names : Names
 node_names = (0, choice payloads) ∷ []

@@ -3,7 +3,7 @@ use Rattle.std.specs.Prelude.{◌≡◌, ℕ, ℤ, Bool, true, false, List, [], 
 use Rattle.std.specs.Int.{w64, to_le_bytes, cast_unsigned}
 use Rattle.archive_forms_values.specs.ShapeLayout.Bytes.{align_up}
 use Rattle.archive_forms_values.specs.ShapeLayout.Shape.{Shape, size_of, align_of}
-use Rattle.archive_forms_values.specs.ShapeLayout.Shape.Shape.{number, truth, text, option, choice, box, vector, tree, table, shared as shared_shape}
+use Rattle.archive_forms_values.specs.ShapeLayout.Shape.Shape.{number, truth, text, option, choice, box, vector, tree, table, index_map, shared as shared_shape}
 use Rattle.archive_forms_values.specs.ShapeLayout.Shape.Pointee.{sized, str}
 use Rattle.archive_forms_values.specs.ShapeLayout.Value.{Value}
 use Rattle.archive_forms_values.specs.ShapeLayout.Value.Value.{integer, boolean, group}
@@ -27,6 +27,8 @@ use Rattle.archive_btree_spelling.specs.Maps.{btree_spelling}
 use Rattle.archive_btree_maps.specs.declared.map.resolving.BTreeMapResolver.{BTreeMapResolver}
 use Rattle.archive_hash_maps.specs.declared.map.resolving.HashTableResolver.{HashTableResolver}
 use Rattle.archive_hash_writing.specs.Tables.{table_spelling}
+use Rattle.archive_index_spelling.specs.Resolvers.{pairs_spelling}
+use Rattle.archive_index_spelling.specs.declared.resolver.IndexMapResolver.{IndexMapResolver}
 use Rattle.cabinet_text_grammar.specs.Keys.{ordered, hashed, kept}
 use Rattle.cabinet_text_grammar.specs.TextKey.{text_key}
 use Rattle.cabinet_text_grammar.specs.Tree as document
@@ -77,6 +79,11 @@ pair_spelling w = tuple2_spelling text str_spelling node_shape w
 abbrev pub hashed_spelling : Spelling Tree NodeResolver → Spelling (List (List ℕ × Tree)) HashTableResolver
 hashed_spelling w = kept_as (λ o. record { pos = o }) (λ r. r.pos) (table_spelling 7 8 pair_shape (pair_spelling w) (λ p. text_hash p.0))
 
+-- an index map of pairs: a table of the numbers of the pairs by the hashes of their keys, at most seven of eight places
+-- full, and then the pairs in their order
+abbrev pub kept_spelling : Spelling Tree NodeResolver → Spelling (List (List ℕ × Tree)) IndexMapResolver
+kept_spelling w = pairs_spelling text_hash text node_shape str_spelling w
+
 abbrev pub pairs_in : Pairs → List (List ℕ × Tree)
 pairs_in no_pairs = []
 pairs_in (more_pairs k t ps) = (k, t) ∷ pairs_in ps
@@ -107,6 +114,10 @@ abbrev pub hashed_in : NodeResolver → HashTableResolver
 hashed_in (resolver.Hashed r) = r
 hashed_in _ = record { pos = None }
 
+abbrev pub kept_in : NodeResolver → IndexMapResolver
+kept_in (resolver.Kept r) = r
+kept_in _ = record { table = record { pos = None }; entries = None }
+
 -- ---- nodes
 
 -- a payload after a tag, at its alignment in the 24 bytes of a node
@@ -114,7 +125,7 @@ abbrev pub node_of : {A R : Type 0} → ℕ → Shape → Spelling A R → (R �
 node_of tag s w make get x =
     kept_as make get (seen_as (λ _. x) (payload_spelling tag (align_up 1 (align_of s)) (size_of (choice payloads)) w))
 
--- a kind that has no layout is refused when its data is written
+-- where no level is left, nothing is archived; a document has as many levels as it is deep
 abbrev pub refused : Spelling Tree NodeResolver
 refused = record {
   value = λ t st. group no_values;
@@ -141,7 +152,7 @@ spelling_of w (just t) = node_of 4 (option boxed_shape) (maybe_spelling w) resol
 spelling_of w (list ts) = node_of 5 (vector node_shape) (list_spelling w) resolver.List list_in (trees_in ts)
 spelling_of w (map ordered ps) = node_of 6 (tree 5 text node_shape) (ordered_spelling w) resolver.Ordered ordered_in (pairs_in ps)
 spelling_of w (map hashed ps) = node_of 7 (table pair_shape) (hashed_spelling w) resolver.Hashed hashed_in (pairs_in ps)
-spelling_of w (map kept ps) = refused
+spelling_of w (map kept ps) = node_of 8 (index_map text node_shape) (kept_spelling w) resolver.Kept kept_in (pairs_in ps)
 
 -- the spelling of each document, by its case
 abbrev pub node_level : Spelling Tree NodeResolver → Spelling Tree NodeResolver

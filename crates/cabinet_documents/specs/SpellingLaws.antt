@@ -8,7 +8,6 @@ use Rattle.archive_forms_values.specs.ShapeCanonical.Settled.{Fit}
 use Rattle.archive_forms_values.specs.ShapeCanonical.Sharing.{erased}
 use Rattle.archive_forms_values.specs.ShapeWriting.Writing.{WriterMembers}
 use Rattle.archive_forms_values.specs.ShapeWriting.declared.error.Error.{Error}
-use Rattle.archive_forms_values.specs.ShapeWriting.declared.error.Error.TheVariants.{InvalidTag}
 use Rattle.archive_forms_values.specs.FormsLaws.State.{State, initial}
 use Rattle.archive_forms_values.specs.FormsLaws.Spells.{Spells}
 use Rattle.archive_forms_values.specs.FormsLaws.Serializing.{Serializes}
@@ -20,7 +19,6 @@ use Rattle.cabinet_documents.specs.Fitted.{IsFitted}
 use Rattle.cabinet_documents.specs.Image.{Image}
 use Rattle.cabinet_documents.specs.Laws.{bytes_five}
 use Rattle.cabinet_documents.specs.declared.spelling.resolver.NodeResolver.{NodeResolver}
-use Rattle.cabinet_documents.specs.HasLayout.{HasLayout}
 use Rattle.cabinet_documents.specs.Spelling.{node_level, node_spelling, node_value}
 
 abbrev pub NodeSpells : Type 0
@@ -28,11 +26,11 @@ NodeSpells = (fit : Fit) → Spells fit node_shape KnowsNode node_spelling
 
 -- the value of a document denotes it, and its hashed maps are in the order of first fit
 abbrev pub ValueDenotes : Type 0
-ValueDenotes = (t : Tree) → HasLayout t → IsDocument t → Denotes (node_value t) t × IsFitted (node_value t)
+ValueDenotes = (t : Tree) → IsDocument t → Denotes (node_value t) t × IsFitted (node_value t)
 
 -- no other value in that order denotes it, except for the positions of shared texts
 abbrev pub OneValue : Type 0
-OneValue = (v : Value) (t : Tree) → HasLayout t → IsDocument t → Denotes v t → IsFitted v → erased v ≡ node_value t
+OneValue = (v : Value) (t : Tree) → IsDocument t → Denotes v t → IsFitted v → erased v ≡ node_value t
 
 -- all bytes that writing a document produces where nothing was written before
 abbrev pub archive_of : Tree → List ℕ
@@ -42,24 +40,16 @@ archive_of t = region_piece node_spelling node_shape (t ∷ []) initial
 abbrev pub ArchiveFits : Tree → Type 0
 ArchiveFits t = region_fits node_spelling node_shape (t ∷ []) initial
 
--- a document whose writing exceeds no limit has a layout
-abbrev pub FittingHasLayout : Type 0
-FittingHasLayout = (t : Tree) (st : State) → node_spelling.piece_fits t st → HasLayout t
-
 -- writing the document exceeds a limit, which the error reports
 abbrev pub ArchiveRefused : Tree → Error → Type 0
 ArchiveRefused t e = region_refused node_spelling node_shape (t ∷ []) initial e
 
--- a document that has a layout is refused with an error exactly where what a value that denotes it stores is past the
--- limit of that error, where the value's hashed maps are in the order of first fit
+-- a document is refused with an error exactly where what a value that denotes it stores is past the limit of that
+-- error, where the value's hashed maps are in the order of first fit
 abbrev pub RefusedIsPast : Type 0
 RefusedIsPast =
     (t : Tree) (v : Value) (e : Error)
-    → HasLayout t → IsDocument t → Denotes v t → IsFitted v → ArchiveRefused t e ↔ PastLimits (first_fit text_hash) node_names node_shape v e
-
--- a document without a layout is refused with `InvalidTag`
-abbrev pub LackingIsRefused : Type 0
-LackingIsRefused = (t : Tree) (st : State) → (HasLayout t → ⊥) → node_spelling.piece_refused t st InvalidTag
+    → IsDocument t → Denotes v t → IsFitted v → ArchiveRefused t e ↔ PastLimits (first_fit text_hash) node_names node_shape v e
 
 -- a call that writes the data of a node by one level, with the nodes in it by `node_spelling`, writes it by
 -- `node_spelling`
@@ -73,9 +63,9 @@ OneLevelIsWritten W =
 abbrev pub WrittenIsImage : Type 0
 WrittenIsImage = (t : Tree) (bytes : List ℕ) → IsDocument t → ArchiveFits t → bytes ≡ archive_of t → Image t bytes
 
--- there is one image of a document that has a layout
+-- there is one image of a document
 abbrev pub OneImage : Type 0
-OneImage = (t : Tree) (bytes others : List ℕ) → HasLayout t → Image t bytes → Image t others → bytes ≡ others
+OneImage = (t : Tree) (bytes others : List ℕ) → Image t bytes → Image t others → bytes ≡ others
 
 -- ---- examples
 

@@ -1,5 +1,5 @@
 //! Laws of the archives of documents, as functions without a body that proofs can cite.
-ghost use Rattle.cabinet_documents.specs.Laws.{AuditDecides, EditsInEitherOrder, OwnBytesApart, AcceptedStands, EditKeepsAccepted, EditKeepsImage, LeavesStand, AbsentHasNoValue, OneWalk, FiveIsAccepted, LeafPut, WalkStands, OneDocument, OneAuditFault, RefusedIsNotAccepted};
+ghost use Rattle.cabinet_documents.specs.Laws.{AuditDecides, EditsInEitherOrder, OwnBytesApart, AcceptedStands, EditKeepsAccepted, EditKeepsImage, LeavesStand, OneWalk, FiveIsAccepted, LeafPut, WalkStands, OneDocument, OneAuditFault, RefusedIsNotAccepted};
 
 /// A part has at most one value and one walk.
 pub fn one_walk()
@@ -34,11 +34,6 @@ pub fn leaf_put()
 /// Twenty-four bytes are the archive of the number five.
 pub fn five_is_accepted()
     ensures { FiveIsAccepted }
-{}
-
-/// A payload of a kind without a layout has no value.
-pub fn absent_has_no_value()
-    ensures { AbsentHasNoValue }
 {}
 
 /// Each leaf of an accepted document has own bytes in the archive.

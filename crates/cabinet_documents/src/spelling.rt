@@ -4,8 +4,7 @@ mod laws;
 mod resolver;
 
 pub use laws::{
-    fitting_has_layout, lacking_is_refused, node_spells, one_image, one_level_is_written,
-    one_value, refused_is_past, samples_are_images, samples_are_spelled, value_denotes,
-    written_is_image,
+    node_spells, one_image, one_level_is_written, one_value, refused_is_past, samples_are_images,
+    samples_are_spelled, value_denotes, written_is_image,
 };
 pub use resolver::NodeResolver;

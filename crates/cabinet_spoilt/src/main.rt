@@ -27,6 +27,10 @@ const MAPS: &[u8] =
 const HASHED: &[u8] =
     b"a\xff\xff\xff\xff\xff\xff\xff\x02\0\0\0world\xff\xff\xff\0\0\0\0\0\0\0\0\0\0\0\0\0\0\0\0\0\0\0\0\0\0\0\0\0\0\0\0\0\0\0\0\0\0\0\0\0\0\0\0\0\0\0\0\xffU\xffU\xff\xff\xff\xff\xff\xff\xff\xff\xff\xff\xff\xff\xff\xff\xff\xff\xff\xff\xff\xff\xff\xff\xff\xff\xff\xff\xff\0\x07\0\0\0\xdc\xff\xff\xff\x01\0\0\0\x02\0\0\0\0\0\0\0\0\0\0\0";
 
+/// `kept 2 / 'z / int 1 / 'a / int 2`.
+const KEPT: &[u8] =
+    b"\x01\0\0\0\0\0\0\0\0\0\0\0\xff\x11U\xff\x11U\xff\xff\xff\xff\xff\xff\xff\xff\xff\xff\xff\xff\xff\xff\xff\xff\xff\xff\xff\xff\xff\xff\xff\xff\xff\0\0\0\0\0z\xff\xff\xff\xff\xff\xff\xff\x01\0\0\0\0\0\0\0\x01\0\0\0\0\0\0\0\0\0\0\0\0\0\0\0a\xff\xff\xff\xff\xff\xff\xff\x01\0\0\0\0\0\0\0\x02\0\0\0\0\0\0\0\0\0\0\0\0\0\0\0\x08\0\0\0\x98\xff\xff\xff\x02\0\0\0\x03\0\0\0\xb0\xff\xff\xff\0\0\0\0";
+
 fn main(rt: HostRuntime) -> ExitCode {
     for (name, archive) in [
         ("option", OPTION),
@@ -34,6 +38,7 @@ fn main(rt: HostRuntime) -> ExitCode {
         ("list", LIST),
         ("maps", MAPS),
         ("hashed", HASHED),
+        ("kept", KEPT),
     ] {
         let left = count_left(rt.alloc(), archive);
         if println!(&rt; "{name}: {left} left as they were").is_err() {

@@ -11,6 +11,7 @@ mod line;
 mod node;
 mod refusal;
 mod repeated;
+mod shared_texts;
 
 pub use answer::{Asked, SetAnswer};
 pub use document::Document;
@@ -19,3 +20,4 @@ pub use leaf::{Leaf, LeafRef, fits};
 pub use line::{Line, LineRefusal, Step};
 pub use node::{Kind, Node};
 pub use refusal::DocumentRefusal;
+pub use shared_texts::SharedTexts;

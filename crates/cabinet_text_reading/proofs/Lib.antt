@@ -4,7 +4,6 @@ pub mod Found
 pub mod Heads
 pub mod LineLemmas
 pub mod Paths
-pub mod SharedTexts
 pub mod Stacks
 pub mod Taken
 pub mod Wrong

@@ -3,7 +3,6 @@ pub mod Kept
 pub mod Lines
 pub mod Parts
 pub mod Reading
-pub mod Shared
 pub mod Told
 pub mod View
 pub use Rattle.cabinet_text_grammar.specs as TextGrammar

@@ -1,18 +1,19 @@
 //! Reads heads of nodes from their lines.
 ghost use Rattle.std.specs.Prelude.{◌≡◌, ◌≢◌, ℕ, ◌≤◌, ◌++◌, List, true, codes, IsUtf8, IfOk, IfErr, MatchOption, string_bytes};
 ghost use Rattle.std.specs.Fmt.{decimal};
+ghost use Rattle.std.specs.Rc.{rc_str_bytes};
 ghost use Rattle.cabinet_text_grammar.specs.Item.{none_item, some_item};
 ghost use Rattle.cabinet_text_grammar.specs.Due.{a_head, Admits};
 ghost use Rattle.cabinet_text_grammar.specs.Spelling.{escaped, spelled};
 ghost use Rattle.cabinet_text_grammar.specs.Fault.{HasCount, IsFirstCause};
 ghost use Rattle.cabinet_text_nodes.specs.View.{item_of};
-ghost use Rattle.cabinet_text_reading.specs.Heads.{IsContainer, count_word, RefusesText};
+ghost use Rattle.cabinet_text_reading.specs.Heads.{IsContainer, count_word, RefusesShared, RefusesText};
 
-use crate::shared::SharedTexts;
 use cabinet_text_bytes::{after_prefix, read_count, read_number, read_truth, try_unescape};
 use cabinet_text_grammar::{Cause, MAX_DEPTH};
-use cabinet_text_nodes::{Head, Leaf};
+use cabinet_text_nodes::{Head, Leaf, SharedTexts};
 use std::alloc::Global;
+use std::rc::RcStr;
 
 /// The containers whose heads have a count.
 #[derive(Clone, Copy)]
@@ -25,7 +26,7 @@ enum Counted {
 
 /// Reads the text that an argument is the escaped form of. `BadEscape` if there is none; `OutOfMemory` if an allocation
 /// fails.
-pub(crate) fn read_escaped(alloc: Global, argument: &[u8]) -> Result<String, Cause>
+fn read_escaped(alloc: Global, argument: &[u8]) -> Result<String, Cause>
     requires { IsUtf8 argument.now }
     ensures text { IfOk result (λ text. argument.now ≡ escaped (string_bytes text)) }
     ensures fault { IfErr result (RefusesText argument.now) }
@@ -33,6 +34,23 @@ pub(crate) fn read_escaped(alloc: Global, argument: &[u8]) -> Result<String, Cau
     match try_unescape(alloc, argument) {
         Ok(Some(text)) => Ok(text),
         Ok(None) => Err(Cause::BadEscape),
+        Err(_) => Err(Cause::OutOfMemory),
+    }
+}
+
+/// Reads the shared text that an argument is the escaped form of. If the text was met before, the result shares its
+/// memory. `BadEscape` if there is none; `OutOfMemory` if an allocation fails.
+fn read_shared(alloc: Global, argument: &[u8], texts: &mut SharedTexts) -> Result<RcStr, Cause>
+    requires { IsUtf8 argument.now }
+    ensures text { IfOk result (λ text. argument.now ≡ escaped (rc_str_bytes text)) }
+    ensures fault { IfErr result (RefusesShared argument.now) }
+{
+    let text = match read_escaped(alloc, argument) {
+        Ok(text) => text,
+        Err(cause) => return Err(cause),
+    };
+    match texts.share(alloc, text.as_str()) {
+        Ok(shared) => Ok(shared),
         Err(_) => Err(Cause::OutOfMemory),
     }
 }
@@ -114,11 +132,11 @@ fn read_option(line: &[u8]) -> Option<Head>
 }
 
 /// Reads a line as a head inside `depth` containers.
-pub(crate) fn read_head<'a>(
+pub(crate) fn read_head(
     alloc: Global,
-    line: &'a str,
+    line: &str,
     depth: usize,
-    texts: &mut SharedTexts<'a>,
+    texts: &mut SharedTexts,
 ) -> Result<Head, Cause>
     ensures head { IfOk result (λ head. Admits (a_head depth) (item_of head)) }
     ensures line { IfOk result (λ head. line.now ≡ spelled (item_of head)) }
@@ -131,7 +149,7 @@ pub(crate) fn read_head<'a>(
         return Ok(Head::Leaf(Leaf::Text(text)));
     }
     if let Some(argument) = after_prefix(bytes, b"shared '".as_slice()) {
-        return match texts.read(alloc, argument) {
+        return match read_shared(alloc, argument, texts) {
             Ok(text) => Ok(Head::Shared(text)),
             Err(cause) => Err(cause),
         };

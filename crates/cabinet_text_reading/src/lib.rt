@@ -11,7 +11,6 @@ pub use stack::{
 
 mod head;
 mod line;
-mod shared;
 mod text;
 
 pub use text::{TextRefusal, read_text};

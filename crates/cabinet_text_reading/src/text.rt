@@ -13,10 +13,9 @@ ghost use Rattle.cabinet_text_grammar.specs.Steps.{TakesLine};
 
 use crate::head::read_head;
 use crate::line::{Lines, read_key_argument};
-use crate::shared::SharedTexts;
 use crate::stack::{Due, Frame, Next, OpenMap, take_head, take_key};
 use cabinet_text_grammar::Cause;
-use cabinet_text_nodes::{Document, Node};
+use cabinet_text_nodes::{Document, Node, SharedTexts};
 use std::alloc::Global;
 use thiserror::Error;
 
@@ -31,8 +30,8 @@ pub struct TextRefusal {
 /// Takes in the line of a node's head.
 fn take_head_line<'a>(
     alloc: Global,
-    line: &'a str,
-    texts: &mut SharedTexts<'a>,
+    line: &str,
+    texts: &mut SharedTexts,
     stack: &mut Vec<Frame<'a>>,
 ) -> Result<Next<'a>, Cause>
     requires { AreOpen (stack_of stack.old.items) }
@@ -69,7 +68,7 @@ fn take_line<'a>(
     alloc: Global,
     line: &'a str,
     due: Due<'a>,
-    texts: &mut SharedTexts<'a>,
+    texts: &mut SharedTexts,
     stack: &mut Vec<Frame<'a>>,
 ) -> Result<Next<'a>, Cause>
     requires { AreOpen (open_at due stack.old.items) }

@@ -12,8 +12,8 @@ use archive_shape::Error;
 use std::alloc::Global;
 use std::marker::PhantomData;
 
-/// Reads elements back, each by the step.
-pub(crate) fn deserialize_elements_each<
+/// Reads the elements of a slice back, each by the step. Memory is allocated as elements are read.
+pub fn deserialize_elements_each<
     T: Archive + Drop,
     A: ReadBack<T>,
     D: Deserializer,

@@ -8,16 +8,10 @@ ghost use Rattle.archive_shape.specs.ShapeLayout.Shape.Shape.{table};
 
 use crate::map::ArchivedIndexMap;
 use archive_forms_values::emplace_link;
-use archive_hash::maps::{ArchivedHashTable, HashTableResolver};
+use archive_hash::maps::ArchivedHashTable;
+use archive_index_spelling::IndexMapResolver;
 use archive_shape::{ArchivedU32, Place, Portable};
 use archive_shape_writing::Error;
-
-/// The position of the controls of a map's table, and that of its first entry, if the map has entries.
-#[derive(Clone, Copy, Debug, PartialEq, Eq)]
-pub struct IndexMapResolver {
-    pub table: HashTableResolver,
-    pub entries: Option<usize>,
-}
 
 impl<K: Portable, V: Portable, H> ArchivedIndexMap<K, V, H> {
     /// Writes the own bytes of the map of `len` entries: those of its table, as `ArchivedHashTable::resolve_from_len`

@@ -11,7 +11,7 @@ ghost use Rattle.archive_index.specs.Lookups.{AnswersEntry, LooksUpEntry};
 use crate::map::entries::entries_at;
 use archive_forms_values::Entry;
 use archive_hash::walking::{HashedKey, number_at, search_table};
-use archive_hash_probing::{Group, hash_value};
+use archive_hash_probing::{Group, Scan, hash_value};
 use archive_shape::{ArchivedU32, Portable, Ref};
 use std::hash::{Hash, Hasher};
 
@@ -25,8 +25,8 @@ fn named_entry<K: Portable, V: Portable>(bytes: &[u8], start: usize, at: usize) 
 }
 
 /// Returns the number of an entry that has the hash `hash` in the map at `pos`. `accepts` returns whether the entry at a
-/// position is the one searched for.
-pub(crate) fn search_entries<K: Portable, V: Portable, F: Fn(usize) -> bool>(
+/// position is the one searched for. The caller chooses the scan `G`, by which the table is searched.
+pub fn search_entries<K: Portable, V: Portable, G: Scan, F: Fn(usize) -> bool>(
     bytes: &[u8],
     pos: usize,
     hash: u64,
@@ -45,7 +45,7 @@ pub(crate) fn search_entries<K: Portable, V: Portable, F: Fn(usize) -> bool>(
         requires item { F.pre accepts.now (start + word_at bytes.now at * size_of (tuple2 K.shape V.shape)) }
         ensures { F.post accepts.entry.now (start + word_at bytes.entry.now at * size_of (tuple2 K.shape V.shape)) result }
     { accepts(named_entry::<K, V>(bytes, start, at)) };
-    match search_table::<ArchivedU32, Group, _>(bytes, pos, hash, &accepts_at).0 {
+    match search_table::<ArchivedU32, G, _>(bytes, pos, hash, &accepts_at).0 {
         Some(at) => Some(number_at(bytes, at)),
         None => None,
     }
@@ -66,7 +66,7 @@ pub(crate) fn search_key<Q: Hash, K: HashedKey<Q>, V: Portable, H: Hasher + Defa
         requires { K.is_key bytes.now at }
         ensures { KeySays K.key_of K.order bytes.entry.now query.entry.now at result }
     { K::same(&Ref::new(bytes, at), query) };
-    search_entries::<K, V, _>(bytes, pos, hash_value::<Q, H>(query), &accepts)
+    search_entries::<K, V, Group, _>(bytes, pos, hash_value::<Q, H>(query), &accepts)
 }
 
 /// Returns the number of the entry that has the query's hash and whose key the caller's comparison accepts, in the map
@@ -89,7 +89,7 @@ pub(crate) fn search_with<
         requires { F.pre accepts.now query (key_at bytes at) }
         ensures { F.post accepts.entry.now query.entry (key_at bytes.entry at) result }
     { accepts(query, Ref::new(bytes, at)) };
-    search_entries::<K, V, _>(bytes, pos, hash, &accepts_at)
+    search_entries::<K, V, Group, _>(bytes, pos, hash, &accepts_at)
 }
 
 /// Returns the position of the entry with a number.

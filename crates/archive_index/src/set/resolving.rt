@@ -5,8 +5,9 @@ ghost use Rattle.archive_shape.specs.ShapeLayout.Edit.{Spares};
 ghost use Rattle.archive_forms_writing.specs.FormsLaws.Links.{link_bytes, LinkFits, LinkRefused};
 ghost use Rattle.archive_hash.specs.HashMaps.Resolving.{own_bytes, IsWithinLimits, IsRefused};
 
-use crate::map::{ArchivedIndexMap, IndexMapResolver};
+use crate::map::ArchivedIndexMap;
 use crate::set::ArchivedIndexSet;
+use archive_index_spelling::IndexMapResolver;
 use archive_shape::{Place, Portable};
 use archive_shape_writing::Error;
 

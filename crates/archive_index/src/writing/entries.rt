@@ -4,9 +4,8 @@ ghost use Rattle.archive_forms_writing.specs.FormsLaws.Fields.{tuple2_spelling};
 ghost use Rattle.archive_forms_writing.specs.FormsLaws.Serializing.{HasState, Serializes, SerializesBy};
 ghost use Rattle.archive_forms_writing.specs.Steps.{StepTakes, StepWrites};
 ghost use Rattle.archive_hash_probing.specs.Inputs.{input_hash};
-ghost use Rattle.archive_index.specs.Written.{pairs_spelling};
+ghost use Rattle.archive_index_spelling.specs.Resolvers.{pairs_spelling};
 
-use crate::map::IndexMapResolver;
 use crate::writing::hashed::serialize_hashed_map;
 use crate::writing::pair_with::PairWith;
 use archive_forms_borrowed::{EntryParts, EntryStep};
@@ -15,6 +14,7 @@ use archive_forms_writing::{Archive, ArchiveWith};
 use archive_hash::LOAD_FACTOR;
 use archive_hash::writing::hash_items;
 use archive_hash_probing::{Group, hash_key};
+use archive_index_spelling::IndexMapResolver;
 use archive_shape::{Allocator, Error, Writer};
 use std::hash::Hash;
 use std::marker::PhantomData;

@@ -4,14 +4,14 @@ ghost use Rattle.archive_forms_writing.specs.FormsLaws.Sample.{number_spelling};
 ghost use Rattle.archive_forms_writing.specs.FormsLaws.Serializing.{HasState, Serializes, SerializesBy};
 ghost use Rattle.archive_forms_writing.specs.Steps.{StepTakes, StepWrites};
 ghost use Rattle.archive_hash_probing.specs.Loads.{IsLoadFactor};
-ghost use Rattle.archive_index.specs.Written.{written_map};
+ghost use Rattle.archive_index_spelling.specs.Resolvers.{written_map};
 
-use crate::map::IndexMapResolver;
 use crate::writing::numbers::numbers_below;
 use archive_forms_writing::{ArchiveWith, ByArchive, serialize_element, serialize_slice_with_each};
 use archive_hash::maps::HashTableResolver;
 use archive_hash::writing::serialize_hashed;
 use archive_hash_probing::{Scan, capacity_for_len};
+use archive_index_spelling::IndexMapResolver;
 use archive_shape::{Allocator, ArchivedU32, Error, Writer};
 use std::marker::PhantomData;
 

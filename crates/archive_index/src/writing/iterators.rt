@@ -6,12 +6,12 @@ ghost use Rattle.archive_forms_writing.specs.FormsLaws.Serializing.{HasState};
 ghost use Rattle.archive_forms_writing.specs.Steps.{IsElement, StepTakes, StepWrites};
 ghost use Rattle.archive_index.specs.Written.{WritesMap};
 
-use crate::map::IndexMapResolver;
 use crate::writing::hashed::serialize_hashed_map;
 use archive_forms_borrowed::collect_items;
 use archive_forms_writing::{Archive, ByArchive};
 use archive_hash::writing::hash_items;
 use archive_hash_probing::Scan;
+use archive_index_spelling::IndexMapResolver;
 use archive_shape::{Allocator, Error, Writer};
 use std::marker::PhantomData;
 

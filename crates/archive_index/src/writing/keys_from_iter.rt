@@ -10,13 +10,13 @@ ghost use Rattle.archive_hash_probing.specs.Inputs.{input_hash};
 ghost use Rattle.archive_index.specs.Sets.{unit_shape};
 ghost use Rattle.archive_index.specs.Written.{WritesPairs};
 
-use crate::map::IndexMapResolver;
 use crate::writing::iterators::serialize_from_iter_scan_each;
 use archive_forms_borrowed::{EntryAdapter, EntryResolver};
 use archive_forms_values::Entry;
 use archive_forms_writing::{Serialize, serialize_element};
 use archive_hash::KeysBesideUnits;
 use archive_hash_probing::{Group, hash_key};
+use archive_index_spelling::IndexMapResolver;
 use archive_shape::{Allocator, Error, Writer};
 use std::hash::Hash;
 use std::marker::PhantomData;

@@ -6,7 +6,7 @@ ghost use Rattle.cabinet_archived.specs.Documents.Node.{node_shape, KnowsNode};
 ghost use Rattle.cabinet_text_nodes.specs.View.{lent_item};
 ghost use Rattle.cabinet_archives.specs.Found.{OfDocument};
 
-use crate::maps::{HashedMap, OrderedMap};
+use crate::maps::{HashedMap, KeptMap, OrderedMap};
 use archive_forms_rc::ArchivedRcStr;
 use archive_forms_values::{ArchivedOption, ArchivedString, ArchivedVec, native_of};
 use archive_shape::Ref;
@@ -33,5 +33,6 @@ pub fn head<'a>(node: Ref<'a, ArchivedNode>) -> HeadRef<'a>
         ArchivedKind::List(list) => HeadRef::List(ArchivedVec::len(list) as u64),
         ArchivedKind::Ordered(map) => HeadRef::Ordered(OrderedMap::len(map) as u64),
         ArchivedKind::Hashed(map) => HeadRef::Hashed(HashedMap::len(map) as u64),
+        ArchivedKind::Kept(map) => HeadRef::Kept(KeptMap::len(map) as u64),
     }
 }

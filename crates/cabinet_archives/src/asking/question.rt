@@ -14,7 +14,7 @@ ghost use Rattle.cabinet_archives.specs.Found.{OfDocument};
 ghost use Rattle.cabinet_archives.specs.Sound.{IsSoundPart};
 
 use crate::asking::heads::head;
-use crate::asking::keys::{write_keys, write_keys_within};
+use crate::asking::keys::{write_kept_keys, write_keys_within, write_ordered_keys};
 use crate::asking::walk::find;
 use archive_hash_probing::Scan;
 use archive_shape::Ref;
@@ -50,7 +50,11 @@ fn answer_keys<W: Writer>(node: Ref<'_, ArchivedNode>, writer: &mut W) -> Result
 {
     match ArchivedNode::kind(node) {
         ArchivedKind::Ordered(map) => {
-            write_keys(map, writer)?;
+            write_ordered_keys(map, writer)?;
+            Ok(Asked::Answered)
+        }
+        ArchivedKind::Kept(map) => {
+            write_kept_keys(map, writer)?;
             Ok(Asked::Answered)
         }
         _ => answer_wrong(writer),

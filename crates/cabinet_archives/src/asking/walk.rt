@@ -7,7 +7,7 @@ ghost use Rattle.cabinet_text_nodes.specs.View.{step_of, path_of};
 ghost use Rattle.cabinet_archives.specs.Found.{Reaches, ReachesNone};
 ghost use Rattle.cabinet_archives.specs.Sound.{IsSoundPart};
 
-use crate::maps::{get_hashed, get_ordered};
+use crate::maps::{get_hashed, get_kept, get_ordered};
 use archive_forms_values::{ArchivedBox, ArchivedOption, ArchivedVec};
 use archive_hash_probing::Scan;
 use archive_shape::Ref;
@@ -30,6 +30,7 @@ fn step_down<'a, G: Scan>(node: Ref<'a, ArchivedNode>, step: &Step) -> Option<Re
         (ArchivedKind::List(list), Step::Place(place)) => ArchivedVec::get(list, *place as usize),
         (ArchivedKind::Ordered(map), Step::Key(key)) => get_ordered(map, key.as_str()),
         (ArchivedKind::Hashed(map), Step::Key(key)) => get_hashed::<G>(map, key.as_str()),
+        (ArchivedKind::Kept(map), Step::Key(key)) => get_kept::<G>(map, key.as_str()),
         _ => None,
     }
 }

@@ -11,10 +11,11 @@ ghost use Rattle.cabinet_archived.specs.Documents.Audit.{hashed_faults};
 ghost use Rattle.cabinet_archived.specs.Documents.Node.{node_names, node_shape, pair_shape};
 ghost use Rattle.cabinet_archived.specs.Documents.Table.{hashed_at, table_of};
 ghost use Rattle.cabinet_archived.specs.Documents.Walk.{Stop, Walks};
-ghost use Rattle.cabinet_archives.specs.Hashed.{HasBucket, OfTable, SaysKey, knows_table, table_shape};
-ghost use Rattle.cabinet_archives.specs.Keyed.{KeyLeads, KeyLeadsNowhere};
+ghost use Rattle.cabinet_archives.specs.Hashed.{HasBucket, table_shape};
+ghost use Rattle.cabinet_archives.specs.Keyed.{KeyLeads, KeyLeadsNowhere, OfMap, SaysKey, knows_pairs};
 ghost use Rattle.cabinet_archives.specs.Sound.{IsSoundPart, Reports};
 
+use crate::maps::pairs::{Pair, has_key, is_found_at, key_of};
 use crate::opening::OpenRefusal;
 use archive_forms_values::{ArchivedString, Entry};
 use archive_hash_maps::{ArchivedHashMap, ArchivedHashTable};
@@ -26,55 +27,26 @@ use cabinet_archived::ArchivedNode;
 /// The table of nodes under texts.
 pub(crate) type HashedMap = ArchivedHashMap<ArchivedString, ArchivedNode, FxHasher64>;
 
-/// A key and its node.
-type Pair = Entry<ArchivedString, ArchivedNode>;
-
-/// Returns the text of a pair's key.
-fn key_of<'a>(pair: Ref<'a, Pair>) -> &'a str
-    requires { HasValue pair_shape knows_table pair.bytes.now pair.pos }
-    ensures { IsText pair.entry.bytes.now pair.entry.pos result.now }
-{
-    ArchivedString::as_str(Entry::key(pair))
-}
-
-/// Returns whether the key of the pair at a position is this one.
-fn has_key(bytes: &[u8], at: usize, key: &str) -> bool
-    requires { HasValue pair_shape knows_table bytes.now at }
-    ensures { SaysKey bytes.now key.now at result }
-{
-    key_of(Ref::new(bytes, at)) == key
-}
-
 /// Returns the position of the first pair with a key that a search for the key's hash visits.
 fn search<G: Scan>(map: Ref<'_, HashedMap>, hash: u64, key: &str) -> Option<usize>
-    requires has { HasValue table_shape knows_table map.bytes.now map.pos }
+    requires has { HasValue table_shape knows_pairs map.bytes.now map.pos }
     requires hash { hash ≡ text_hash key.now }
     ensures answers { (b : Buckets) → IsTableAt map.entry.bytes.now pair_shape map.entry.pos b
         → (strides : ℕ) × LooksUp (SaysKey map.entry.bytes.now key.now) pair_shape b hash result strides }
-    ensures there { IfSome result (HasValue pair_shape knows_table map.entry.bytes.now) }
+    ensures there { IfSome result (HasValue pair_shape knows_pairs map.entry.bytes.now) }
 {
     let bytes = map.bytes;
     let accepts = |at: usize| -> bool
-        requires { HasValue pair_shape knows_table bytes.now at }
+        requires { HasValue pair_shape knows_pairs bytes.now at }
         ensures { SaysKey bytes.entry.now key.entry.now at result }
     { has_key(bytes, at, key) };
     search_table::<Pair, G, _>(bytes, map.pos, hash, &accepts).0
 }
 
-/// Returns whether a pair was found, at a position.
-fn is_found_at(found: Option<usize>, pos: usize) -> bool
-    ensures { MatchOption found (result ≡ false) (λ at. result ≡ (at == pos)) }
-{
-    match found {
-        Some(at) => at == pos,
-        None => false,
-    }
-}
-
 /// Audits the table of a hashed map by ascending place: the control of a key is the tag of its hash, and a search for the
 /// key finds it at its own place.
 pub(crate) fn hashed_sound<G: Scan>(map: Ref<'_, HashedMap>) -> Result<(), OpenRefusal>
-    requires { HasValue table_shape knows_table map.bytes.now map.pos }
+    requires { HasValue table_shape knows_pairs map.bytes.now map.pos }
     ensures { (depth : ℕ) (v : Value) (walk : List Stop)
         → Walks node_names map.entry.bytes.now depth (at map.entry.pos table_shape) v walk
         → Reports result (hashed_faults (table_of hashed_at map.entry.bytes.now map.entry.pos v)) }
@@ -95,9 +67,9 @@ pub(crate) fn hashed_sound<G: Scan>(map: Ref<'_, HashedMap>) -> Result<(), OpenR
 /// Returns the node of a key, if the map has the key. Reads only the controls that a search for the key's hash visits and
 /// the pairs under its tag.
 pub(crate) fn get<'a, G: Scan>(map: Ref<'a, HashedMap>, key: &str) -> Option<Ref<'a, ArchivedNode>>
-    requires has { HasValue table_shape knows_table map.bytes.now map.pos }
+    requires has { HasValue table_shape knows_pairs map.bytes.now map.pos }
     requires sound { IsSoundPart map.bytes.now (at map.pos table_shape) }
-    ensures leads { OfTable map.entry.bytes.now map.entry.pos (λ v. MatchOption result
+    ensures leads { OfMap table_shape map.entry.bytes.now map.entry.pos (λ v. MatchOption result
         (KeyLeadsNowhere v key.now)
         (λ node. (node.bytes ≡ map.entry.bytes) × KeyLeads map.entry.bytes.now v key.now node.pos)) }
     ensures way { IfSome result (λ node. HasBucket map.entry.bytes.now map.entry.pos key.now node.pos) }

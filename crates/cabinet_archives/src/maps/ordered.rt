@@ -9,8 +9,8 @@ ghost use Rattle.cabinet_archived.specs.Documents.Node.{node_names, node_shape};
 ghost use Rattle.cabinet_archived.specs.Documents.Order.{ascend, is_below};
 ghost use Rattle.cabinet_archived.specs.Documents.Table.{item_keys};
 ghost use Rattle.cabinet_archived.specs.Documents.Walk.{Stop, Walks};
-ghost use Rattle.cabinet_archives.specs.Keyed.{KeyLeads, KeyLeadsNowhere};
-ghost use Rattle.cabinet_archives.specs.Ordered.{HasEntry, OfMap, knows_map, map_shape};
+ghost use Rattle.cabinet_archives.specs.Keyed.{KeyLeads, KeyLeadsNowhere, OfMap, knows_pairs};
+ghost use Rattle.cabinet_archives.specs.Ordered.{HasEntry, map_shape};
 ghost use Rattle.cabinet_archives.specs.Sound.{IsSoundPart};
 
 use archive_btree_maps::ArchivedBTreeMap;
@@ -33,7 +33,7 @@ fn is_above(key: &str, last: Option<&str>) -> bool
 
 /// Returns whether the keys of an ordered map ascend in the order of their bytes.
 pub(crate) fn keys_ascend(map: Ref<'_, OrderedMap>) -> bool
-    requires { HasValue map_shape knows_map map.bytes.now map.pos }
+    requires { HasValue map_shape knows_pairs map.bytes.now map.pos }
     ensures { (depth : ℕ) (v : Value) (walk : List Stop)
         → Walks node_names map.entry.bytes.now depth (at map.entry.pos map_shape) v walk
         → result ≡ ascend (item_keys (members v)) }
@@ -51,9 +51,9 @@ pub(crate) fn keys_ascend(map: Ref<'_, OrderedMap>) -> bool
 
 /// Returns the node of a key, if the map has the key. Reads only the tree's nodes on the way to the key.
 pub(crate) fn get<'a>(map: Ref<'a, OrderedMap>, key: &str) -> Option<Ref<'a, ArchivedNode>>
-    requires has { HasValue map_shape knows_map map.bytes.now map.pos }
+    requires has { HasValue map_shape knows_pairs map.bytes.now map.pos }
     requires sound { IsSoundPart map.bytes.now (at map.pos map_shape) }
-    ensures leads { OfMap map.entry.bytes.now map.entry.pos (λ v. MatchOption result
+    ensures leads { OfMap map_shape map.entry.bytes.now map.entry.pos (λ v. MatchOption result
         (KeyLeadsNowhere v key.now)
         (λ node. (node.bytes ≡ map.entry.bytes) × KeyLeads map.entry.bytes.now v key.now node.pos)) }
     ensures way { IfSome result (λ node. HasEntry map.entry.bytes.now map.entry.pos key.now node.pos) }

@@ -5,12 +5,14 @@ ghost use Rattle.archive_shape.specs.ShapeLayout.Shape.Pointee.{sized};
 ghost use Rattle.archive_shape.specs.ShapeLayout.Content.Part.{at};
 ghost use Rattle.archive_forms_values.specs.Parts.{HasValue};
 ghost use Rattle.cabinet_archived.specs.Documents.Node.{node_shape, KnowsNode};
-ghost use Rattle.cabinet_archives.specs.Hashed.{knows_table, table_shape};
-ghost use Rattle.cabinet_archives.specs.Ordered.{knows_map, map_shape};
+ghost use Rattle.cabinet_archives.specs.Keyed.{knows_pairs};
+ghost use Rattle.cabinet_archives.specs.Hashed.{table_shape};
+ghost use Rattle.cabinet_archives.specs.Kept.{index_shape};
+ghost use Rattle.cabinet_archives.specs.Ordered.{map_shape};
 ghost use Rattle.cabinet_archives.specs.Sound.{Audits};
 ghost use Rattle.cabinet_archives.specs.declared.opening.refusal.OpenRefusal.TheVariants as refusal;
 
-use crate::maps::{HashedMap, OrderedMap, hashed_sound, keys_ascend};
+use crate::maps::{HashedMap, KeptMap, OrderedMap, hashed_sound, kept_sound, keys_ascend};
 use crate::opening::refusal::OpenRefusal;
 use archive_forms_values::{ArchivedBox, ArchivedOption, ArchivedVec};
 use archive_hash_probing::Scan;
@@ -31,7 +33,8 @@ fn is_leaf(node: Ref<'_, ArchivedNode>) -> bool
         ArchivedKind::Maybe(_)
         | ArchivedKind::List(_)
         | ArchivedKind::Ordered(_)
-        | ArchivedKind::Hashed(_) => false,
+        | ArchivedKind::Hashed(_)
+        | ArchivedKind::Kept(_) => false,
     }
 }
 
@@ -87,7 +90,7 @@ fn audit_list<G: Scan>(
 /// Audits an ordered map inside `depth` containers.
 #[cycle(audits)]
 fn audit_ordered<G: Scan>(map: Ref<'_, OrderedMap>, depth: usize) -> Result<(), OpenRefusal>
-    requires { HasValue map_shape knows_map map.bytes.now map.pos }
+    requires { HasValue map_shape knows_pairs map.bytes.now map.pos }
     ensures { Audits map.entry.bytes.now depth (at map.entry.pos map_shape) result }
 {
     let inner = depth_inside(depth)?;
@@ -105,12 +108,28 @@ fn audit_ordered<G: Scan>(map: Ref<'_, OrderedMap>, depth: usize) -> Result<(), 
 /// Audits a hashed map inside `depth` containers.
 #[cycle(audits)]
 fn audit_hashed<G: Scan>(map: Ref<'_, HashedMap>, depth: usize) -> Result<(), OpenRefusal>
-    requires { HasValue table_shape knows_table map.bytes.now map.pos }
+    requires { HasValue table_shape knows_pairs map.bytes.now map.pos }
     ensures { Audits map.entry.bytes.now depth (at map.entry.pos table_shape) result }
 {
     let inner = depth_inside(depth)?;
     hashed_sound::<G>(map)?;
     for node in HashedMap::values(map) {
+        if !is_leaf(node) {
+            audit::<G>(node, inner)?;
+        }
+    }
+    Ok(())
+}
+
+/// Audits a kept map inside `depth` containers.
+#[cycle(audits)]
+fn audit_kept<G: Scan>(map: Ref<'_, KeptMap>, depth: usize) -> Result<(), OpenRefusal>
+    requires { HasValue index_shape knows_pairs map.bytes.now map.pos }
+    ensures { Audits map.entry.bytes.now depth (at map.entry.pos index_shape) result }
+{
+    let inner = depth_inside(depth)?;
+    kept_sound::<G>(map)?;
+    for node in KeptMap::values(map) {
         if !is_leaf(node) {
             audit::<G>(node, inner)?;
         }
@@ -134,5 +153,6 @@ pub(crate) fn audit<G: Scan>(node: Ref<'_, ArchivedNode>, depth: usize) -> Resul
         ArchivedKind::List(list) => audit_list::<G>(list, depth),
         ArchivedKind::Ordered(map) => audit_ordered::<G>(map, depth),
         ArchivedKind::Hashed(map) => audit_hashed::<G>(map, depth),
+        ArchivedKind::Kept(map) => audit_kept::<G>(map, depth),
     }
 }

@@ -16,11 +16,11 @@ pub enum OpenRefusal {
     /// A key of an ordered map is not above the one before it.
     #[error("the keys of an ordered map do not ascend")]
     KeysNotAscending,
-    /// The control of a key is not the tag of the key's hash.
-    #[error("a control of a hashed map is not the tag of its key")]
+    /// In a hashed or kept map the control of a key is not the tag of the key's hash.
+    #[error("a control of a map is not the tag of its key")]
     WrongTag,
-    /// A look-up of a key does not find it at its place.
-    #[error("a key of a hashed map is not found at its place")]
+    /// A look-up of a key of a hashed or kept map does not find it at its place, or under its number.
+    #[error("a key of a map is not found at its place")]
     NotFound,
     /// An allocation failed.
     #[error("out of memory")]

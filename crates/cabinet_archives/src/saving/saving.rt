@@ -1,27 +1,20 @@
 //! Saving a document as an archive, in memory and to a writer.
-ghost use Rattle.std.specs.Prelude.{◌≡◌, ◌-◌, ◌^◌, ◌<◌, ℕ, List, IsTrue, IfOk, IfErr, OnOk, OnErr, MatchResult};
+ghost use Rattle.std.specs.Prelude.{◌≡◌, ◌-◌, ◌^◌, ◌<◌, ℕ, List, IsTrue, IfOk, IfErr, OnOk, OnErr};
 ghost use Rattle.archive_shape_writing.specs.Writing.{Cut};
 ghost use Rattle.cabinet_archived.specs.Documents.Image.{Image};
-ghost use Rattle.cabinet_archived.specs.Documents.HasLayout.{HasLayout};
-ghost use Rattle.cabinet_archived.specs.Documents.SpellingLaws.{archive_of, ArchiveFits};
-ghost use Rattle.cabinet_text_nodes.specs.View.{node_tree};
-ghost use Rattle.cabinet_archives.specs.Saving.{HasNoImageFor, IsUnmadeFor, Saved, IsUnsavedFor};
+ghost use Rattle.cabinet_archives.specs.Saving.{HasNoImageFor, Saved, IsUnsavedFor};
 
-use crate::saving::layout::has_layout;
 use archive_core_serializing::Serializer;
 use archive_forms_writing::serialize_using;
 use archive_shape_writing::{Error, Writer};
 use cabinet_archived::{NodeIn, TextShare};
-use cabinet_text_nodes::{Document, Node};
+use cabinet_text_nodes::Document;
 use std::alloc::Global;
 use thiserror::Error as Described;
 
 /// Why a document was not saved.
 #[derive(Clone, Copy, Debug, PartialEq, Eq, Described)]
 pub enum SaveRefusal {
-    /// The document contains a map that keeps its order.
-    #[error("a kind of node has no layout yet")]
-    Kind,
     /// A text, a count or a position exceeds what archives can hold.
     #[error("the document is past the limits of archives: {0}")]
     Limit(Error),
@@ -33,16 +26,15 @@ pub enum SaveRefusal {
     OutOfMemory,
 }
 
-/// Returns the archive whose root is the node, made in memory.
-fn archive_in_memory(alloc: Global, root: &Node) -> Result<Vec<u8>, SaveRefusal>
-    ensures { MatchResult result
-        (λ bytes. ArchiveFits (node_tree root.now) × (bytes.items ≡ archive_of (node_tree root.now)))
-        (IsUnmadeFor (node_tree root.now)) }
+/// Returns the image of a document, made in memory.
+pub fn to_bytes(alloc: Global, document: &Document) -> Result<Vec<u8>, SaveRefusal>
+    ensures image { IfOk result (λ image. Image document.now image.items) }
+    ensures refused { IfErr result (HasNoImageFor document.now) }
 {
     let mut serializer = Serializer::new(Vec::new(alloc), alloc, TextShare::new(alloc));
     let root = NodeIn {
         wholes: &[],
-        node: root,
+        node: document.root(),
     };
     match serialize_using::<NodeIn<'_>, Serializer<Vec<u8>, Global, TextShare>>(
         &root,
@@ -53,20 +45,6 @@ fn archive_in_memory(alloc: Global, root: &Node) -> Result<Vec<u8>, SaveRefusal>
             Error::OutOfMemory => Err(SaveRefusal::OutOfMemory),
             _ => Err(SaveRefusal::Limit(e)),
         },
-    }
-}
-
-/// Returns the image of a document, made in memory.
-pub fn to_bytes(alloc: Global, document: &Document) -> Result<Vec<u8>, SaveRefusal>
-    ensures image { IfOk result (λ image. Image document.now image.items) }
-    ensures laid { OnOk result (HasLayout document.now) }
-    ensures refused { IfErr result (HasNoImageFor document.now) }
-{
-    let root = document.root();
-    match archive_in_memory(alloc, root) {
-        Ok(bytes) => Ok(bytes),
-        Err(_) if !has_layout(root) => Err(SaveRefusal::Kind),
-        Err(refusal) => Err(refusal),
     }
 }
 
@@ -81,7 +59,6 @@ pub fn save<W: Writer>(
     requires room { W.failures writer.old < 2 ^ 64 - 1 }
     ensures saved { OnOk result (IsTrue W.OBSERVABLE
         → Saved document.now (W.contents writer.old) (W.contents writer.new)) }
-    ensures laid { OnOk result (HasLayout document.now) }
     ensures quiet { OnOk result (W.failures writer.new ≡ W.failures writer.old) }
     ensures refused { IfErr result (IsUnsavedFor W.Writer document.now writer.old writer.new) }
     // The bytes that the writer took are a prefix of the image.

@@ -1,5 +1,5 @@
 //! Laws of the spelling of documents, as functions without a body that proofs can cite.
-ghost use Rattle.cabinet_documents.specs.SpellingLaws.{FittingHasLayout, LackingIsRefused, NodeSpells, OneImage, OneLevelIsWritten, OneValue, RefusedIsPast, SamplesAreImages, SamplesAreSpelled, ValueDenotes, WrittenIsImage};
+ghost use Rattle.cabinet_documents.specs.SpellingLaws.{NodeSpells, OneImage, OneLevelIsWritten, OneValue, RefusedIsPast, SamplesAreImages, SamplesAreSpelled, ValueDenotes, WrittenIsImage};
 
 /// The bytes that are written for a document are those that the layout reads, and are canonical.
 pub fn node_spells()
@@ -12,25 +12,14 @@ pub fn value_denotes()
     ensures { ValueDenotes }
 {}
 
-/// No other value in that order denotes a document that has a layout, except for the positions of
-/// shared texts.
+/// No other value in that order denotes a document, except for the positions of shared texts.
 pub fn one_value()
     ensures { OneValue }
 {}
 
-/// Only a document that has a layout is written within the limits.
-pub fn fitting_has_layout()
-    ensures { FittingHasLayout }
-{}
-
-/// A document that has a layout is refused exactly where what it stores is past a limit.
+/// A document is refused exactly where what it stores is past a limit.
 pub fn refused_is_past()
     ensures { RefusedIsPast }
-{}
-
-/// A document without a layout is refused when its data is written.
-pub fn lacking_is_refused()
-    ensures { LackingIsRefused }
 {}
 
 /// Writing one level of a node, with the nodes in it written as nodes, writes the node.
@@ -43,7 +32,7 @@ pub fn written_is_image()
     ensures { WrittenIsImage }
 {}
 
-/// A document that has a layout has at most one image.
+/// A document has at most one image.
 pub fn one_image()
     ensures { OneImage }
 {}

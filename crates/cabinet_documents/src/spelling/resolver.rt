@@ -3,6 +3,7 @@ use archive_btree_maps::BTreeMapResolver;
 use archive_forms_rc::RcResolver;
 use archive_forms_values::{BoxResolver, StringResolver, VecResolver};
 use archive_hash_maps::HashTableResolver;
+use archive_index_spelling::IndexMapResolver;
 
 /// The position of the data that a node points to, by its kind; it is known once the data is written.
 #[derive(Clone, Copy, Debug, PartialEq, Eq)]
@@ -21,4 +22,6 @@ pub enum NodeResolver {
     Ordered(BTreeMapResolver),
     /// A hashed map, whose data is its table.
     Hashed(HashTableResolver),
+    /// A map that keeps its order, whose data is a table of numbers and its entries.
+    Kept(IndexMapResolver),
 }

@@ -1,7 +1,7 @@
 use Rattle.std.proofs.Common.{arith, refl}
 use Rattle.std.specs.Prelude.{true, false}
 use Rattle.std.specs.Int.{w64}
-use Rattle.archive_shape_layout.specs.Shape.Shape.{number, truth, text, shared, option, box, vector, tree, table}
+use Rattle.archive_shape_layout.specs.Shape.Shape.{number, truth, text, shared, option, box, vector, tree, table, index_map}
 use Rattle.archive_shape_layout.specs.Shape.Pointee.{sized, str}
 use Rattle.archive_forms_values.proofs.FormsLaws.Levels.{option_box_sized}
 use Rattle.cabinet_documents.specs.Node.{node_shape, pair_shape}
@@ -44,13 +44,23 @@ pub check_node-returns-in-7-clause-exact : goal.check_node-returns-in-7-clause-e
 check_node-returns-in-7-clause-exact g t c = λ names known.
     payload_checked names c.args.bytes.now c.args.pos known _ _ 7 (table pair_shape) _ c.in-7.is refl (omega arith) (c.check_hashed.ensures.exact names known)
 
+pub check_node-returns-in-8-clause-exact : goal.check_node-returns-in-8-clause-exact
+check_node-returns-in-8-clause-exact g t c = λ names known.
+    payload_checked names c.args.bytes.now c.args.pos known _ _ 8 (index_map text node_shape) _ c.in-8.is refl (omega arith) (c.check_kept.ensures.exact names known)
+
 pub check_node-returns-in_default-clause-exact : goal.check_node-returns-in_default-clause-exact
 check_node-returns-in_default-clause-exact g t c = λ names known.
     let other = c.in_default in
-    other_refused names c.args.bytes.now c.args.pos known _ (g.C.ArchiveContext.kept c.args.context.now) (λ e. omega arith, λ e. omega arith, λ e. omega arith, λ e. omega arith, λ e. omega arith, λ e. omega arith, λ e. omega arith) (λ e. omega arith)
+    other_refused names c.args.bytes.now c.args.pos known _ (g.C.ArchiveContext.kept c.args.context.now) (λ e. omega arith, λ e. omega arith, λ e. omega arith, λ e. omega arith, λ e. omega arith, λ e. omega arith, λ e. omega arith, λ e. omega arith) (λ e. omega arith)
 
 pub check_hashed-returns-clause-exact : goal.check_hashed-returns-clause-exact
 check_hashed-returns-clause-exact g t c = λ names known. c.check_table_each.ensures.exact names (tt, known)
+
+pub check_kept-returns-clause-exact : goal.check_kept-returns-clause-exact
+check_kept-returns-clause-exact g t c = λ names known. c.check_index_map_each.ensures.exact names text node_shape (tt, known) refl
+
+pub check_kept-check_index_map_each-requires-clause-checks : goal.check_kept-check_index_map_each-requires-clause-checks
+check_kept-check_index_map_each-requires-clause-checks g t c = λ old new pos result within fits h. (h.0, λ names known. h.1 names known.1)
 
 pub check_pair-returns-clause-exact : goal.check_pair-returns-clause-exact
 check_pair-returns-clause-exact g t c = λ names known. c.check_tuple2_each.ensures.exact names tt known

@@ -34,6 +34,12 @@ decreases-check_hashed g l = 8 * l.room + 6
 abbrev pub decreases-check_hashed-check_table_each : goal.decreases-check_hashed-check_table_each
 decreases-check_hashed-check_table_each g l = 8 * l.room + 5
 
+abbrev pub decreases-check_kept : goal.decreases-check_kept
+decreases-check_kept g l = 8 * l.room + 6
+
+abbrev pub decreases-check_kept-check_index_map_each : goal.decreases-check_kept-check_index_map_each
+decreases-check_kept-check_index_map_each g l = 8 * l.room + 5
+
 abbrev pub decreases-check_pair : goal.decreases-check_pair
 decreases-check_pair g l = 8 * l.room + 9
 

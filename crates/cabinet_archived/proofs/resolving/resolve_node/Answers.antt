@@ -1,4 +1,4 @@
-use Rattle.std.proofs.Common.{rules, arith, ap, refl, ◌∙◌, true}
+use Rattle.std.proofs.Common.{rules, arith, refl, true}
 use Rattle.std.specs.Int.{w64}
 use Rattle.archive_shape_layout.specs.Shape.Shape.{number, truth, text}
 use Rattle.archive_forms_laws.specs.State.{initial}
@@ -6,9 +6,7 @@ use Rattle.archive_forms_writing.proofs.Joining.{payload_place}
 use Rattle.archive_forms_writing.proofs.Results.{payload_can}
 use Rattle.archive_forms_writing.specs.Owned.{string_spelling as archived_text}
 use Rattle.cabinet_documents.specs.Spelling.{truth_spelling, number_spelling}
-use Rattle.cabinet_text_nodes.specs.View.{node_tree}
-use Rattle.cabinet_text_nodes.proofs.Views.{node_tree-kept}
-use Rattle.cabinet_archived.proofs.Resolved.{truth_place, number_place, text_place, truth_resolved, number_resolved, text_resolved, shared_resolved, maybe_resolved, list_resolved, ordered_resolved, hashed_resolved, text_made, own_refused_as}
+use Rattle.cabinet_archived.proofs.Resolved.{truth_place, number_place, text_place, truth_resolved, number_resolved, text_resolved, shared_resolved, maybe_resolved, list_resolved, ordered_resolved, hashed_resolved, kept_resolved, text_made}
 use Rattle.cabinet_archived.proofs.resolving.resolve_node.Goals as goal
 
 pub resolve-requires : goal.resolve-requires
@@ -73,4 +71,6 @@ returns-in-Hashed c =
     c.requires.room c.requires.blank (search rules) c.args.node.now c.in-Hashed.map c.in-Hashed.is c.within-place-in-Hashed.ensures.bytes c.within-place-in-Hashed.ensures.start c.within-place-in-Hashed.ensures.pos c.hashed_kept.result c.hashed_kept.ensures c.resolve_hashed.ensures
 
 pub returns-in-Kept : goal.returns-in-Kept
-returns-in-Kept c = own_refused_as c.args.node.now _ c.args.resolver c.args.out.pos c.args.out.start c.args.out.out.now (ap node_tree c.in-Kept.is ∙ node_tree-kept c.in-Kept.field-0) refl
+returns-in-Kept c =
+    kept_resolved c.args.resolver c.args.out.out.now c.within-place-in-Kept.result.out.now c.resolve_kept.new.out.0 _ c.args.out.start c.args.out.pos c.within-place-in-Kept.result.start c.within-place-in-Kept.result.pos c.resolve_kept.result
+    c.requires.room c.requires.blank (search rules) c.args.node.now c.in-Kept.pairs c.in-Kept.is c.within-place-in-Kept.ensures.bytes c.within-place-in-Kept.ensures.start c.within-place-in-Kept.ensures.pos c.index_kept.result c.index_kept.ensures c.resolve_kept.ensures

@@ -1,13 +1,11 @@
-use Rattle.std.proofs.Common.{rules, Ok, Err, ap, subst, ◌∙◌}
+use Rattle.std.proofs.Common.{rules, Ok, Err, map, sym, subst}
 use Rattle.archive_shape_writing.specs.Writing.{WriterMembers}
 use Rattle.archive_forms_laws.specs.Serializing.{Serializes}
 use Rattle.archive_forms_laws.specs.Pointers.{slice_spelling}
 use Rattle.archive_forms_writing.specs.Steps.{IsElement}
 use Rattle.cabinet_documents.specs.Node.{node_shape}
 use Rattle.cabinet_archived.specs.Archived.{archived_as}
-use Rattle.cabinet_text_nodes.specs.View.{node_tree, node_pairs}
-use Rattle.cabinet_text_nodes.proofs.Views.{node_tree-kept}
-use Rattle.cabinet_archived.proofs.Written.{list_written, list_stopped, pairs_written, table_written, element_below, pair_below, only_element, text_wrote, shared_wrote, shared_refused, maybe_wrote, maybe_refused, list_wrote, list_refused, ordered_wrote, ordered_refused, hashed_wrote, hashed_refused, kept_refused}
+use Rattle.cabinet_archived.proofs.Written.{list_written, list_stopped, pairs_written, table_written, element_below, pair_below, only_element, text_wrote, shared_wrote, shared_refused, maybe_wrote, maybe_refused, list_wrote, list_refused, ordered_wrote, ordered_refused, hashed_wrote, hashed_refused, index_written, kept_wrote, kept_refused}
 use Rattle.cabinet_archived.proofs.writing.+serialize.Goals as goal
 
 pub serialize_list-serialize_slice_with_each-written-requires-clause-takes : goal.serialize_list-serialize_slice_with_each-written-requires-clause-takes
@@ -103,7 +101,20 @@ serialize_node-returns-in-Err-serialize_hashed g t c =
     let m : WriterMembers g.row.S.Denot = record { known = g.S.Registry.known; pos = g.S.Positional.pos; OBSERVABLE = g.S.Writer.OBSERVABLE; COUNTS = g.S.Writer.COUNTS; contents = g.S.Writer.contents; failures = g.S.Writer.failures; last_error = g.S.Writer.last_error } in
     hashed_refused m c.args.node.node.now c.args.serializer.now c.serialize_hashed.new.serializer c.in-Hashed.map c.in-Err-serialize_hashed.e c.in-Hashed.is c.in-Err-serialize_hashed.ensures
 
-pub serialize_node-returns-in-Kept : goal.serialize_node-returns-in-Kept
-serialize_node-returns-in-Kept g t c =
+pub serialize_kept-serialize_entries_with_each-requires-clause-takes_value : goal.serialize_kept-serialize_entries_with_each-requires-clause-takes_value
+serialize_kept-serialize_entries_with_each-requires-clause-takes_value g t c = λ x s element room state.
+    let below = pair_below c.args.pairs.now.items x.now (subst (λ ps. IsElement (map (λ e. e.1) ps) x.now) c.as_slice.ensures.value element) in
+    search (rules, below)
+
+pub serialize_kept-returns : goal.serialize_kept-returns
+serialize_kept-returns g t c = index_written _ c.args.pairs.now.items _ _ _ (rw (sym c.as_slice.ensures.value) c.serialize_entries_with_each.ensures)
+
+pub serialize_node-returns-in-Ok-serialize_kept : goal.serialize_node-returns-in-Ok-serialize_kept
+serialize_node-returns-in-Ok-serialize_kept g t c =
     let m : WriterMembers g.row.S.Denot = record { known = g.S.Registry.known; pos = g.S.Positional.pos; OBSERVABLE = g.S.Writer.OBSERVABLE; COUNTS = g.S.Writer.COUNTS; contents = g.S.Writer.contents; failures = g.S.Writer.failures; last_error = g.S.Writer.last_error } in
-    kept_refused m c.args.node.node.now c.args.serializer.now (node_pairs c.in-Kept.field-0.items) (ap node_tree c.in-Kept.is ∙ node_tree-kept c.in-Kept.field-0)
+    kept_wrote m c.args.node.node.now c.args.serializer.now c.serialize_kept.new.serializer c.in-Kept.pairs c.in-Ok-serialize_kept.kept c.in-Kept.is c.in-Ok-serialize_kept.ensures
+
+pub serialize_node-returns-in-Err-serialize_kept : goal.serialize_node-returns-in-Err-serialize_kept
+serialize_node-returns-in-Err-serialize_kept g t c =
+    let m : WriterMembers g.row.S.Denot = record { known = g.S.Registry.known; pos = g.S.Positional.pos; OBSERVABLE = g.S.Writer.OBSERVABLE; COUNTS = g.S.Writer.COUNTS; contents = g.S.Writer.contents; failures = g.S.Writer.failures; last_error = g.S.Writer.last_error } in
+    kept_refused m c.args.node.node.now c.args.serializer.now c.serialize_kept.new.serializer c.in-Kept.pairs c.in-Err-serialize_kept.e c.in-Kept.is c.in-Err-serialize_kept.ensures

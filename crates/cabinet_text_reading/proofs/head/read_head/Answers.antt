@@ -21,8 +21,8 @@ returns-in_err-text-clause-fault c =
 pub returns-in-Some-clause-head : goal.returns-in-Some-clause-head
 returns-in-Some-clause-head c = IsUtf8-string_bytes c.in_ok-text.text
 
-pub read-requires : goal.read-requires
-read-requires c =
+pub read_shared-requires : goal.read_shared-requires
+read_shared-requires c =
     after_word_utf8 (codes "shared '") _ _ refl (after_word _ _ _ (codes "shared '") _ c.as_bytes-bytes.ensures.value c.as_slice-2.ensures c.in-Some-after_prefix.ensures) c.utf8.line
 
 pub returns-in-Ok-clause-head : goal.returns-in-Ok-clause-head

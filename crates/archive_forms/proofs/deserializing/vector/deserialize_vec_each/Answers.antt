@@ -1,7 +1,8 @@
 use Rattle.std.proofs.Common.{arith, List, ℕ, ap, sym, subst}
+use Rattle.archive_shape.specs.ShapeLayout.Shape.Shape.{vector}
 use Rattle.archive_forms_values.specs.Parts.{HasElements}
 use Rattle.archive_forms.specs.Deserializing.{DeserializesAll}
-use Rattle.archive_forms.proofs.Read.{vec_has, vec_read}
+use Rattle.archive_forms.proofs.Read.{vec_has, elements_read}
 use Rattle.archive_forms.proofs.deserializing.vector.deserialize_vec_each.Goals as goal
 
 pub deserialize_elements_each-requires-clause-there : goal.deserialize_elements_each-requires-clause-there
@@ -19,4 +20,4 @@ pub returns-clause-value : goal.returns-clause-value
 returns-clause-value g c =
     let same = ap (λ bytes. bytes.now) c.as_slice.ensures.bytes in
     let P : List ℕ → Type 0 = λ bytes. DeserializesAll g.A.ReadBack.reads g.A.Portable.shape g.A.Portable.knows bytes c.as_slice.result.pos c.as_slice.result.len (λ all. all.items) c.deserialize_elements_each.result in
-    vec_read g.A.ReadBack.reads g.A.Portable.shape g.A.Portable.knows c.args.this.bytes.now c.args.this.pos _ _ _ c.as_slice.ensures.elements (subst P same c.deserialize_elements_each.ensures.values)
+    elements_read g.A.ReadBack.reads g.A.Portable.shape g.A.Portable.knows c.args.this.bytes.now (vector g.A.Portable.shape) c.args.this.pos _ _ _ c.as_slice.ensures.elements.value (subst P same c.deserialize_elements_each.ensures.values)

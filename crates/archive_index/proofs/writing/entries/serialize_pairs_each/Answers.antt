@@ -6,7 +6,7 @@ use Rattle.archive_forms_writing.specs.FormsLaws.Serializing.{Serializes, of_dat
 use Rattle.archive_forms_writing.proofs.Laying.{stopped_before}
 use Rattle.archive_hash_probing.specs.Inputs.{input_hash}
 use Rattle.archive_hash.proofs.HashWriting.Hashed.{hashes_even}
-use Rattle.archive_index.specs.Written.{pairs_spelling, written_map}
+use Rattle.archive_index_spelling.specs.Resolvers.{pairs_spelling, written_map}
 use Rattle.archive_index.proofs.TableAndEntries.{hashes_computed}
 use Rattle.archive_index.proofs.writing.entries.serialize_pairs_each.Goals as goal
 

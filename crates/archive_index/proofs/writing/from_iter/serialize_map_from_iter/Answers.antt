@@ -4,7 +4,7 @@ use Rattle.archive_forms_values.specs.Tuples.{tuple2}
 use Rattle.archive_forms_writing.specs.FormsLaws.Fields.{tuple2_spelling}
 use Rattle.archive_hash_probing.specs.Inputs.{input_hash}
 use Rattle.archive_hash.proofs.Whole.{hashed_more}
-use Rattle.archive_index.specs.Written.{written_map}
+use Rattle.archive_index_spelling.specs.Resolvers.{written_map}
 use Rattle.archive_index.proofs.writing.from_iter.serialize_map_from_iter.Goals as goal
 
 pub returns : goal.returns

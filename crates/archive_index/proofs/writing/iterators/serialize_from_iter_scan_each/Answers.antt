@@ -6,7 +6,7 @@ use Rattle.archive_forms_writing.specs.Steps.{IsElement, StepTakes}
 use Rattle.archive_hash_probing.specs.Loads.{IsLoadFactor}
 use Rattle.archive_hash.specs.HashWriting.Claimed.{AreHashesOf}
 use Rattle.archive_hash.proofs.HashWriting.Hashed.{hashes_even}
-use Rattle.archive_index.specs.Written.{written_map}
+use Rattle.archive_index_spelling.specs.Resolvers.{written_map}
 use Rattle.archive_index.proofs.writing.iterators.serialize_from_iter_scan_each.Goals as goal
 
 pub returns-in-Err : goal.returns-in-Err

@@ -10,7 +10,7 @@ use Rattle.archive_forms_writing.specs.FormsLaws.Fields.{tuple2_spelling}
 use Rattle.archive_forms_borrowed.specs.Entries.{entry_spelling}
 use Rattle.archive_hash_probing.specs.Inputs.{input_hash}
 use Rattle.archive_hash.proofs.Given.{keys_came, pairs_written}
-use Rattle.archive_index.specs.Written.{written_map}
+use Rattle.archive_index_spelling.specs.Resolvers.{written_map}
 use Rattle.archive_index.proofs.Pairs.{pairs_said}
 use Rattle.archive_index.proofs.writing.keys_from_iter.serialize_given_keys.Goals as goal
 

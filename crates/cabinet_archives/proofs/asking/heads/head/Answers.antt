@@ -14,9 +14,10 @@ use Rattle.archive_btree_walking.specs.Maps.{IsMapAt}
 use Rattle.archive_hash_walking.specs.Tables.{IsTableAt}
 use Rattle.cabinet_text_nodes.specs.TextGrammar.Tree as tree
 use Rattle.cabinet_archived.specs.Documents.Node.{node_shape, pair_shape, KnowsNode}
+use Rattle.cabinet_archived.specs.Index.Maps.{IsMapAt as IsIndexAt}
 use Rattle.cabinet_archived.proofs.Shared.{counted_there}
 use Rattle.cabinet_archives.proofs.Ways.{Boxed}
-use Rattle.cabinet_archives.proofs.Payloads.{text_has, text_is, leaf_head, shared_head, none_head, some_head, list_head, ordered_head, hashed_head}
+use Rattle.cabinet_archives.proofs.Payloads.{text_has, text_is, leaf_head, shared_head, none_head, some_head, list_head, ordered_head, hashed_head, kept_head}
 use Rattle.cabinet_archives.proofs.asking.heads.head.Goals as goal
 
 pub as_str-requires : goal.as_str-requires
@@ -88,3 +89,9 @@ returns-in-Hashed c =
     let is = c.in-Hashed.ensures in
     hashed_head c.args.node.bytes.now c.args.node.pos c.in-Hashed.map.pos c.len-in-Hashed.result is.2
     (λ b table. c.len-in-Hashed.ensures b (subst (λ (x : Bor (List ℕ)). IsTableAt x.now pair_shape c.in-Hashed.map.pos b) (sym is.0) table))
+
+pub returns-in-Kept : goal.returns-in-Kept
+returns-in-Kept c =
+    let is = c.in-Kept.ensures in
+    kept_head c.args.node.bytes.now c.args.node.pos c.in-Kept.map.pos c.len-in-Kept.result is.2
+    (λ m stands. c.len-in-Kept.ensures m (subst (λ (x : Bor (List ℕ)). IsIndexAt x.now text node_shape c.in-Kept.map.pos m) (sym is.0) stands))

@@ -5,17 +5,18 @@ use Rattle.archive_forms_values.specs.Parts.{HasValue, IsNoneAt, IsSomeAt, IsBox
 use Rattle.cabinet_archived.specs.Documents.Node.{node_shape, KnowsNode}
 use Rattle.cabinet_text_nodes.specs.TextGrammar.Path.{key as key_step}
 use Rattle.cabinet_text_nodes.specs.View.{step_of}
-use Rattle.cabinet_archives.specs.Hashed.{table_shape, OfTable, HasBucket}
-use Rattle.cabinet_archives.specs.Ordered.{map_shape, OfMap, HasEntry}
-use Rattle.cabinet_archives.specs.Way.{StepsTo, steps_key, steps_hashed}
-use Rattle.cabinet_archives.specs.Keyed.{KeyLeads, KeyLeadsNowhere}
+use Rattle.cabinet_archives.specs.Hashed.{table_shape, HasBucket}
+use Rattle.cabinet_archives.specs.Kept.{index_shape, HasNumbered}
+use Rattle.cabinet_archives.specs.Ordered.{map_shape, HasEntry}
+use Rattle.cabinet_archives.specs.Way.{StepsTo, steps_key, steps_hashed, steps_kept}
+use Rattle.cabinet_archives.specs.Keyed.{KeyLeads, KeyLeadsNowhere, OfMap}
 use Rattle.cabinet_archives.specs.Sound.{IsSoundPart}
 use Rattle.cabinet_archives.proofs.Ways.{Boxed, matched, empty_none, content_there, content_reached, past_none, element_reached, by_key, found_as}
 use Rattle.cabinet_archives.proofs.Tags.{tag_is}
 use Rattle.std.proofs.Math.Logic.{∥∥₁_map}
 use Rattle.cabinet_archives.proofs.Soundness.{payload_sound}
 use Rattle.cabinet_archives.proofs.NoSteps.{not_inside, no_place, no_key, no_step}
-use Rattle.cabinet_archives.proofs.asking.walk.step_down.Goals.{in_default-via-in-Maybe+in_default, in_default-via-in-List+in_default, in_default-via-in-Ordered+in_default, in_default-via-in-Hashed+in_default, in_default-via-in_default}
+use Rattle.cabinet_archives.proofs.asking.walk.step_down.Goals.{in_default-via-in-Maybe+in_default, in_default-via-in-List+in_default, in_default-via-in-Ordered+in_default, in_default-via-in-Hashed+in_default, in_default-via-in-Kept+in_default, in_default-via-in_default}
 use Rattle.cabinet_archives.proofs.asking.walk.step_down.Goals as goal
 
 pub returns-in_err-content-in-Maybe-Inside : goal.returns-in_err-content-in-Maybe-Inside
@@ -72,7 +73,7 @@ returns-in-Ordered-Key g c =
     let step_is = ap step_of c.in-Ordered-Key.is-1 ∙ ap key_step (sym c.as_str.ensures.value) in
     let got = c.get-in-Ordered-Key.ensures in
     by_key bytes pos map.pos is.2 (omega arith) (step_of c.args.step.now) key step_is c.get-in-Ordered-Key.result
-    (subst (λ (b : Bor (List ℕ)). OfMap b.now map.pos (λ v. MatchOption c.get-in-Ordered-Key.result (KeyLeadsNowhere v key) (λ node. (node.bytes ≡ b) × KeyLeads b.now v key node.pos))) is.0 got.leads)
+    (subst (λ (b : Bor (List ℕ)). OfMap map_shape b.now map.pos (λ v. MatchOption c.get-in-Ordered-Key.result (KeyLeadsNowhere v key) (λ node. (node.bytes ≡ b) × KeyLeads b.now v key node.pos))) is.0 got.leads)
     (found_as (λ node. HasEntry bytes.now map.pos key node.pos) (λ node. StepsTo bytes.now pos (step_of c.args.step.now) node.pos) c.get-in-Ordered-Key.result
     (λ node entry. steps_key step_is (tag_is bytes.now pos c.requires.there is.2) (subst (λ n. HasEntry bytes.now n key node.pos) is.1 entry))
     (subst (λ (b : Bor (List ℕ)). IfSome c.get-in-Ordered-Key.result (λ node. HasEntry b.now map.pos key node.pos)) is.0 got.way))
@@ -95,24 +96,49 @@ returns-in-Hashed-Key g c =
     let step_is = ap step_of c.in-Hashed-Key.is-1 ∙ ap key_step (sym c.as_str-in-Hashed-Key.ensures.value) in
     let got = c.get-in-Hashed-Key.ensures in
     by_key bytes pos map.pos is.2 (omega arith) (step_of c.args.step.now) key step_is c.get-in-Hashed-Key.result
-    (subst (λ (b : Bor (List ℕ)). OfTable b.now map.pos (λ v. MatchOption c.get-in-Hashed-Key.result (KeyLeadsNowhere v key) (λ node. (node.bytes ≡ b) × KeyLeads b.now v key node.pos))) is.0 got.leads)
+    (subst (λ (b : Bor (List ℕ)). OfMap table_shape b.now map.pos (λ v. MatchOption c.get-in-Hashed-Key.result (KeyLeadsNowhere v key) (λ node. (node.bytes ≡ b) × KeyLeads b.now v key node.pos))) is.0 got.leads)
     (found_as (λ node. HasBucket bytes.now map.pos key node.pos) (λ node. StepsTo bytes.now pos (step_of c.args.step.now) node.pos) c.get-in-Hashed-Key.result
     (λ node bucket. steps_hashed step_is (tag_is bytes.now pos c.requires.there is.2) (subst (λ n. HasBucket bytes.now n key node.pos) is.1 bucket))
     (subst (λ (b : Bor (List ℕ)). IfSome c.get-in-Hashed-Key.result (λ node. HasBucket b.now map.pos key node.pos)) is.0 got.way))
     (subst (λ (b : Bor (List ℕ)). IfSome c.get-in-Hashed-Key.result (λ node. IsSoundPart b.now (at node.pos node_shape))) is.0 got.sound)
+
+pub get-requires-in-Kept-Key-clause-sound : goal.get-requires-in-Kept-Key-clause-sound
+get-requires-in-Kept-Key-clause-sound g c =
+    let is = c.in-Kept-Key.ensures in
+    let map = c.in-Kept-Key.map in
+    subst (λ (b : Bor (List ℕ)). IsSoundPart b.now (at map.pos index_shape)) (sym is.0)
+    (subst (λ n. IsSoundPart c.args.node.bytes.now (at n index_shape)) (sym is.1) (∥∥₁_map c.requires.sound (λ walk. payload_sound c.args.node.bytes.now c.requires.there walk (omega arith) is.2)))
+
+pub returns-in-Kept-Key : goal.returns-in-Kept-Key
+returns-in-Kept-Key g c =
+    let is = c.in-Kept-Key.ensures in
+    let bytes = c.args.node.bytes in
+    let pos = c.args.node.pos in
+    let map = c.in-Kept-Key.map in
+    let key = c.as_str-in-Kept-Key.result.now in
+    let step_is = ap step_of c.in-Kept-Key.is-1 ∙ ap key_step (sym c.as_str-in-Kept-Key.ensures.value) in
+    let got = c.get-in-Kept-Key.ensures in
+    by_key bytes pos map.pos is.2 (omega arith) (step_of c.args.step.now) key step_is c.get-in-Kept-Key.result
+    (subst (λ (b : Bor (List ℕ)). OfMap index_shape b.now map.pos (λ v. MatchOption c.get-in-Kept-Key.result (KeyLeadsNowhere v key) (λ node. (node.bytes ≡ b) × KeyLeads b.now v key node.pos))) is.0 got.leads)
+    (found_as (λ node. HasNumbered bytes.now map.pos key node.pos) (λ node. StepsTo bytes.now pos (step_of c.args.step.now) node.pos) c.get-in-Kept-Key.result
+    (λ node numbered. steps_kept step_is (tag_is bytes.now pos c.requires.there is.2) (subst (λ n. HasNumbered bytes.now n key node.pos) is.1 numbered))
+    (subst (λ (b : Bor (List ℕ)). IfSome c.get-in-Kept-Key.result (λ node. HasNumbered b.now map.pos key node.pos)) is.0 got.way))
+    (subst (λ (b : Bor (List ℕ)). IfSome c.get-in-Kept-Key.result (λ node. IsSoundPart b.now (at node.pos node_shape))) is.0 got.sound)
 
 pub returns-in_default : goal.returns-in_default
 returns-in_default g c =
     let none = no_step c.args.node.bytes c.args.node.pos c.kind.result (step_of c.args.step.now) c.kind.ensures in
     elim c.in_default.branch [
       | in_default-via-in-Maybe+in_default w ↦
-          none (λ r e. not_inside c.args.step.now w.in_default.not-Inside-1) (λ r e. let is = w.in_default.is-0 in absurd (cc)) (λ r e. let is = w.in_default.is-0 in absurd (cc)) (λ r e. let is = w.in_default.is-0 in absurd (cc))
+          none (λ r e. not_inside c.args.step.now w.in_default.not-Inside-1) (λ r e. let is = w.in_default.is-0 in absurd (cc)) (λ r e. let is = w.in_default.is-0 in absurd (cc)) (λ r e. let is = w.in_default.is-0 in absurd (cc)) (λ r e. let is = w.in_default.is-0 in absurd (cc))
       | in_default-via-in-List+in_default w ↦
-          none (λ r e. let is = w.in_default.is-0 in absurd (cc)) (λ r e. no_place c.args.step.now w.in_default.not-Place-1) (λ r e. let is = w.in_default.is-0 in absurd (cc)) (λ r e. let is = w.in_default.is-0 in absurd (cc))
+          none (λ r e. let is = w.in_default.is-0 in absurd (cc)) (λ r e. no_place c.args.step.now w.in_default.not-Place-1) (λ r e. let is = w.in_default.is-0 in absurd (cc)) (λ r e. let is = w.in_default.is-0 in absurd (cc)) (λ r e. let is = w.in_default.is-0 in absurd (cc))
       | in_default-via-in-Ordered+in_default w ↦
-          none (λ r e. let is = w.in_default.is-0 in absurd (cc)) (λ r e. let is = w.in_default.is-0 in absurd (cc)) (λ r e. no_key c.args.step.now w.in_default.not-Key-1) (λ r e. let is = w.in_default.is-0 in absurd (cc))
+          none (λ r e. let is = w.in_default.is-0 in absurd (cc)) (λ r e. let is = w.in_default.is-0 in absurd (cc)) (λ r e. no_key c.args.step.now w.in_default.not-Key-1) (λ r e. let is = w.in_default.is-0 in absurd (cc)) (λ r e. let is = w.in_default.is-0 in absurd (cc))
       | in_default-via-in-Hashed+in_default w ↦
-          none (λ r e. let is = w.in_default.is-0 in absurd (cc)) (λ r e. let is = w.in_default.is-0 in absurd (cc)) (λ r e. let is = w.in_default.is-0 in absurd (cc)) (λ r e. no_key c.args.step.now w.in_default.not-Key-1)
+          none (λ r e. let is = w.in_default.is-0 in absurd (cc)) (λ r e. let is = w.in_default.is-0 in absurd (cc)) (λ r e. let is = w.in_default.is-0 in absurd (cc)) (λ r e. no_key c.args.step.now w.in_default.not-Key-1) (λ r e. let is = w.in_default.is-0 in absurd (cc))
+      | in_default-via-in-Kept+in_default w ↦
+          none (λ r e. let is = w.in_default.is-0 in absurd (cc)) (λ r e. let is = w.in_default.is-0 in absurd (cc)) (λ r e. let is = w.in_default.is-0 in absurd (cc)) (λ r e. let is = w.in_default.is-0 in absurd (cc)) (λ r e. no_key c.args.step.now w.in_default.not-Key-1)
       | in_default-via-in_default w ↦
-          none (λ r e. absurd (w.in_default.not-Maybe-0 r e)) (λ r e. absurd (w.in_default.not-List-0 r e)) (λ r e. absurd (w.in_default.not-Ordered-0 r e)) (λ r e. absurd (w.in_default.not-Hashed-0 r e))
+          none (λ r e. absurd (w.in_default.not-Maybe-0 r e)) (λ r e. absurd (w.in_default.not-List-0 r e)) (λ r e. absurd (w.in_default.not-Ordered-0 r e)) (λ r e. absurd (w.in_default.not-Hashed-0 r e)) (λ r e. absurd (w.in_default.not-Kept-0 r e))
     ]

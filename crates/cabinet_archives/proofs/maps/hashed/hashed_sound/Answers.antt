@@ -3,14 +3,15 @@ use Rattle.std.specs.Prelude.{All}
 use Rattle.std.proofs.lemmas.List.Elements.{All-head, All-tail}
 use Rattle.archive_hash_walking.specs.Tables.{IsTableAt}
 use Rattle.cabinet_archived.specs.Documents.Node.{pair_shape}
+use Rattle.cabinet_archives.specs.Keyed.{knows_pairs}
 use Rattle.cabinet_archives.specs.declared.opening.refusal.OpenRefusal.TheVariants as refusal
-use Rattle.cabinet_archives.specs.Hashed.{knows_table, table_shape}
+use Rattle.cabinet_archives.specs.Hashed.{table_shape}
 use Rattle.cabinet_archives.proofs.Auditing.{value_as}
 use Rattle.cabinet_archives.proofs.TableAudit.{HasPair, ArePlacesLeft, all_places, told_none, told_wrong, told_lost, rest_left}
 use Rattle.cabinet_archives.proofs.maps.hashed.hashed_sound.Goals as goal
 
 pub full_places-control-items-requires : goal.full_places-control-items-requires
-full_places-control-items-requires g c = value_as table_shape knows_table (sym c.table.ensures.bytes) (sym c.table.ensures.pos) c.requires
+full_places-control-items-requires g c = value_as table_shape knows_pairs (sym c.table.ensures.bytes) (sym c.table.ensures.pos) c.requires
 
 pub loop-control-init : goal.loop-control-init
 loop-control-init g c =

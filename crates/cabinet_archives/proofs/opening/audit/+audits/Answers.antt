@@ -8,11 +8,13 @@ use Rattle.archive_forms_values.proofs.Inside.{some_says}
 use Rattle.cabinet_archived.specs.Documents.Node.{node_shape, KnowsNode}
 use Rattle.archive_shape.specs.ShapeLayout.Content.Part.{at}
 use Rattle.cabinet_archives.specs.Hashed.{table_shape}
+use Rattle.cabinet_archives.specs.Kept.{index_shape}
 use Rattle.cabinet_archives.specs.Ordered.{map_shape}
 use Rattle.cabinet_archives.proofs.Tags.{tag_is}
 use Rattle.cabinet_archives.proofs.Walked.{Boxed, leaf_faults, payload_in}
 use Rattle.cabinet_archives.proofs.Auditing.{audited_in, audits_as, deep_option, deep_list, deep_map, none_audited, some_audited, boxed_there, behind_tag, value_as, element_there, elements_of, leaf_audited, AreSoundBefore, refused_at, sound_on, sound_all, list_audited, IsNodeOf, IsLeft, all_there, all_left, descending, left_on, left_refused, left_none}
 use Rattle.cabinet_archives.proofs.HashedAuditing.{deep_table, unsound, all_nodes, all_left as table_left}
+use Rattle.cabinet_archives.proofs.KeptAuditing.{deep_index, unsound as unsound_kept, all_nodes as kept_nodes, all_left as kept_left}
 use Rattle.cabinet_archives.proofs.opening.audit.+audits.Goals as goal
 use Rattle.cabinet_archives.proofs.opening.audit.+audits.Goals.{audit_list-then-not-is_leaf+in_ok-audit, audit_list-else-not-is_leaf}
 
@@ -57,6 +59,13 @@ audit-returns-in-Hashed g t c =
     let is = c.in-Hashed.ensures in
     audited_in node.bytes.now c.args.depth c.audit_hashed.result (λ v walk h. payload_in node.bytes.now h 7 (tag_is node.bytes.now node.pos c.requires is.2) (omega arith))
     (audits_as c.args.depth table_shape c.audit_hashed.result is.0 is.1 c.audit_hashed.ensures)
+
+pub audit-returns-in-Kept : goal.audit-returns-in-Kept
+audit-returns-in-Kept g t c =
+    let node = c.args.node in
+    let is = c.in-Kept.ensures in
+    audited_in node.bytes.now c.args.depth c.audit_kept.result (λ v walk h. payload_in node.bytes.now h 8 (tag_is node.bytes.now node.pos c.requires is.2) (omega arith))
+    (audits_as c.args.depth index_shape c.audit_kept.result is.0 is.1 c.audit_kept.ensures)
 
 -- ---- options
 
@@ -298,3 +307,76 @@ audit_hashed-loop-node-preserved g t c =
 pub audit_hashed-returns : goal.audit_hashed-returns
 audit_hashed-returns g t c =
     left_none c.args.map.bytes c.args.depth c.in_ok-inner.inner (at c.args.map.pos table_shape) c.in-None.ensures.steps.0 c.loop-node.invariant.left
+
+-- ---- kept maps
+
+pub audit_kept-returns-in_err-inner : goal.audit_kept-returns-in_err-inner
+audit_kept-returns-in_err-inner g t c =
+    let p = err_from_is_err_and c.from_residual.result c.from_residual.ensures.1 in
+    let says = c.in_err-inner.ensures in
+    rw (p.1, p.2) (deep_index c.args.map.bytes c.args.depth c.args.map.pos c.requires _ says.0 says.1)
+
+pub audit_kept-returns-in_err-kept_sound : goal.audit_kept-returns-in_err-kept_sound
+audit_kept-returns-in_err-kept_sound g t c =
+    let p = err_from_is_err_and c.from_residual-in_err-kept_sound.result c.from_residual-in_err-kept_sound.ensures.1 in
+    let says = c.in_ok-inner.ensures in
+    rw (p.1, p.2) (unsound_kept c.args.map.bytes c.args.depth c.args.map.pos c.requires c.in_ok-inner.inner says.0 says.1 c.in_err-kept_sound.field-0.0 c.in_err-kept_sound.ensures)
+
+pub audit_kept-loop-node-init : goal.audit_kept-loop-node-init
+audit_kept-loop-node-init g t c =
+    let says = c.in_ok-inner.ensures in
+    let map = c.args.map in
+    let gives = c.into_iter-node-iterator.ensures.into_iter_gives in
+    record {
+      there = subst (All (IsNodeOf map.bytes)) (sym gives) (kept_nodes map.bytes c.args.depth map.pos c.requires _ c.values-node-items.ensures.values);
+      left =
+          subst (IsLeft map.bytes c.args.depth c.in_ok-inner.inner (at map.pos index_shape)) (sym gives)
+          (kept_left map.bytes c.args.depth map.pos c.requires c.in_ok-inner.inner says.0 says.1 _ c.in_ok-kept_sound.ensures c.values-node-items.ensures.values);
+    }
+
+pub audit_kept-is_leaf-requires : goal.audit_kept-is_leaf-requires
+audit_kept-is_leaf-requires g t c = (All-head (IsNodeOf c.args.map.bytes) _ _ (subst (All (IsNodeOf c.args.map.bytes)) c.in-Some.ensures.steps c.loop-node.invariant.there)).1
+
+pub audit_kept-audit-requires : goal.audit_kept-audit-requires
+audit_kept-audit-requires g t c κs within =
+    let inner = c.in_ok-inner.ensures in
+    let there = (All-head (IsNodeOf c.args.map.bytes) _ _ (subst (All (IsNodeOf c.args.map.bytes)) c.in-Some.ensures.steps c.loop-node.invariant.there)).1 in
+    let less : 2 * (64 - c.in_ok-inner.inner) + 1 < t = omega (arith, inner.0, inner.1) in
+    search rules
+
+pub audit_kept-returns-in_err-audit : goal.audit_kept-returns-in_err-audit
+audit_kept-returns-in_err-audit g t c =
+    let map = c.args.map in
+    let node = All-head (IsNodeOf map.bytes) _ _ (subst (All (IsNodeOf map.bytes)) c.in-Some.ensures.steps c.loop-node.invariant.there) in
+    let p = err_from_is_err_and c.from_residual-in_err-audit.result c.from_residual-in_err-audit.ensures.1 in
+    rw (p.1, p.2)
+    (left_refused map.bytes c.args.depth c.in_ok-inner.inner (at map.pos index_shape) c.in-Some.ensures.steps c.loop-node.invariant.left c.in_err-audit.field-0.0
+    (audits_as c.in_ok-inner.inner node_shape (Err c.in_err-audit.field-0.0) node.0 refl c.in_err-audit.ensures))
+
+pub audit_kept-loop-node-preserved-in-Continue-branch-3 : goal.audit_kept-loop-node-preserved-in-Continue-branch-3
+audit_kept-loop-node-preserved-in-Continue-branch-3 g t c =
+    let map = c.args.map in
+    let all = subst (All (IsNodeOf map.bytes)) c.in-Some.ensures.steps c.loop-node.invariant.there in
+    let node = All-head (IsNodeOf map.bytes) _ _ all in
+    record {
+      there = All-tail (IsNodeOf map.bytes) _ _ all;
+      left =
+          left_on map.bytes c.args.depth c.in_ok-inner.inner (at map.pos index_shape) c.in-Some.ensures.steps c.loop-node.invariant.left
+          (audits_as c.in_ok-inner.inner node_shape (Ok tt) node.0 refl c.in_ok-audit.ensures);
+    }
+
+pub audit_kept-loop-node-preserved : goal.audit_kept-loop-node-preserved
+audit_kept-loop-node-preserved g t c =
+    let map = c.args.map in
+    let all = subst (All (IsNodeOf map.bytes)) c.in-Some.ensures.steps c.loop-node.invariant.there in
+    let node = All-head (IsNodeOf map.bytes) _ _ all in
+    record {
+      there = All-tail (IsNodeOf map.bytes) _ _ all;
+      left =
+          left_on map.bytes c.args.depth c.in_ok-inner.inner (at map.pos index_shape) c.in-Some.ensures.steps c.loop-node.invariant.left
+          (audits_as c.in_ok-inner.inner node_shape (Ok tt) node.0 refl (leaf_audited c.in-Some.node.bytes.now c.in_ok-inner.inner c.in-Some.node.pos (c.is_leaf.ensures.0 c.if-not-is_leaf.false)));
+    }
+
+pub audit_kept-returns : goal.audit_kept-returns
+audit_kept-returns g t c =
+    left_none c.args.map.bytes c.args.depth c.in_ok-inner.inner (at c.args.map.pos index_shape) c.in-None.ensures.steps.0 c.loop-node.invariant.left

@@ -2,6 +2,7 @@ use Rattle.std.proofs.Common.{◌+◌, ◌*◌, ◌-◌}
 use Rattle.std.specs.Prelude.{All}
 use Rattle.archive_shape.specs.ShapeLayout.Content.Part.{at}
 use Rattle.cabinet_archives.specs.Hashed.{table_shape}
+use Rattle.cabinet_archives.specs.Kept.{index_shape}
 use Rattle.cabinet_archives.specs.Ordered.{map_shape}
 use Rattle.cabinet_archives.proofs.Auditing.{AreSoundBefore, IsLeft, IsNodeOf}
 use Rattle.cabinet_archives.proofs.opening.audit.+audits.Given as goal
@@ -17,6 +18,9 @@ decreases-audit_ordered g l = 2 * (64 - l.depth)
 
 abbrev pub decreases-audit_hashed : goal.decreases-audit_hashed
 decreases-audit_hashed g l = 2 * (64 - l.depth)
+
+abbrev pub decreases-audit_kept : goal.decreases-audit_kept
+decreases-audit_kept g l = 2 * (64 - l.depth)
 
 abbrev pub decreases-audit : goal.decreases-audit
 decreases-audit g l = 2 * (64 - l.depth) + 1
@@ -37,4 +41,11 @@ abbrev pub invariant-audit_hashed-loop-node : goal.invariant-audit_hashed-loop-n
 invariant-audit_hashed-loop-node g l = record {
   there : All (IsNodeOf l.fn.map.bytes) l.node-iterator;
   left : IsLeft l.fn.map.bytes l.fn.depth l.inner (at l.fn.map.pos table_shape) l.node-iterator;
+}
+
+-- nodes are left, and the map has their faults and no others
+abbrev pub invariant-audit_kept-loop-node : goal.invariant-audit_kept-loop-node
+invariant-audit_kept-loop-node g l = record {
+  there : All (IsNodeOf l.fn.map.bytes) l.node-iterator;
+  left : IsLeft l.fn.map.bytes l.fn.depth l.inner (at l.fn.map.pos index_shape) l.node-iterator;
 }

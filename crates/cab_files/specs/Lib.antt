@@ -1,0 +1,1 @@
+pub use Rattle.cabinet.specs as Cabinet

@@ -1,0 +1,56 @@
+-- The tree of the root of accepted bytes.
+use Rattle.std.proofs.Common.{◌≡◌, ℕ, Bor, List, [], ◌∷◌, true, false, refl, ap, subst, sym, arith}
+use Rattle.std.proofs.Math.Bool.{Bool-set}
+use Rattle.std.proofs.Math.Logic.{∥∥₁_elim, ∥∥₁_map}
+use Rattle.archive_shape.specs.ShapeLayout.Value.{Value}
+use Rattle.archive_shape.proofs.ShapeLayout.Found.{root_is_found}
+use Rattle.archive_forms_values.specs.ShapeCanonical.Canonical.{AreBytes}
+use Rattle.cabinet_text_nodes.specs.TextGrammar.Tree.{Tree, IsDocument}
+use Rattle.cabinet_archived.specs.Documents.Accepted.{Accepted}
+use Rattle.cabinet_archived.specs.Documents.Audit.{Unsound, faults, first_of}
+use Rattle.cabinet_archived.specs.Documents.Laws.{AuditDecided, IsAccepted}
+use Rattle.cabinet_archived.specs.Documents.Node.{node_shape, node_names, KnowsNode}
+use Rattle.cabinet_archived.proofs.Documents.Deciding.{audit_decides_law}
+use Rattle.cabinet_archived.proofs.Documents.Sound.{refused_law}
+use Rattle.cabinet_archives.specs.Found.{OfDocument}
+use Rattle.cabinet_archives.specs.Loading.{HasTree}
+use Rattle.cabinet_archives.proofs.Reached.{root_of, root_there}
+
+module _ (bytes : List ℕ) where
+  module _ (known : ∥ ((t : Tree) × Accepted bytes t) ∥₁) {v : Value} (decided : AuditDecided bytes v) where
+    -- the audit finds no fault
+    quiet : (us : List Unsound) → faults bytes decided.walk ≡ us → faults bytes decided.walk ≡ []
+    quiet [] e = e
+    quiet (u ∷ us) e =
+        let never : true ≡ false = ∥∥₁_elim known (Bool-set true false) (λ x. absurd (refused_law bytes u x.0 (decided.refused u (ap first_of e)) x.1)) in
+        absurd (cc)
+
+  -- bytes that are known to be accepted, but not as which document, are found to be
+  found_accepted : AreBytes bytes → ∥ ((t : Tree) × Accepted bytes t) ∥₁ → IsAccepted bytes
+  found_accepted small known =
+      let r = root_is_found node_names bytes (root_of bytes) node_shape (∥∥₁_map known (λ x. record { value = x.1.value; regions = x.1.regions; visits = x.1.visits; root = x.1.root })) in
+      let decided = audit_decides_law bytes r.value r.regions r.visits small r.root in
+      decided.accepted (quiet known decided (faults bytes decided.walk) refl)
+
+  pub root_tree : AreBytes bytes → ∥ ((t : Tree) × Accepted bytes t) ∥₁ → HasTree (λ v. v) node_shape KnowsNode bytes (root_of bytes) 0
+  root_tree small known =
+      let a = found_accepted small known in
+      let document = a.accepted.document in
+      record { value = a.accepted.value; held = root_there bytes a.accepted; tree = a.tree; denotes = a.accepted.denotes; legal = document.0; low = omega (arith, document.1) }
+
+  -- what is loaded of the root is a document, and the one that the bytes are accepted as
+  module _ (n : Tree) (is : OfDocument bytes (root_of bytes) (λ t. n ≡ t)) where
+    pub loaded_document : HasTree (λ v. v) node_shape KnowsNode bytes (root_of bytes) 0 → IsDocument n
+    loaded_document has = let low = has.low in subst IsDocument (sym (is has.value has.tree has.held has.denotes)) (has.legal, omega (arith, low))
+
+    pub loaded_accepted : (t : Tree) → Accepted bytes t → n ≡ t
+    loaded_accepted t a = is a.value t (root_there bytes a) a.denotes
+
+-- ---- the same bytes, the same position
+
+pub tree_as : {x y : Bor (List ℕ)} {pos to outer : ℕ} → x ≡ y → pos ≡ to → HasTree (λ v. v) node_shape KnowsNode y.now to outer → HasTree (λ v. v) node_shape KnowsNode x.now pos outer
+tree_as {y = y} {pos = pos} {outer = outer} e f h =
+    subst (λ (b : Bor (List ℕ)). HasTree (λ v. v) node_shape KnowsNode b.now pos outer) (sym e) (subst (λ n. HasTree (λ v. v) node_shape KnowsNode y.now n outer) (sym f) h)
+
+pub loaded_as : (n : Tree) {x y : Bor (List ℕ)} {pos to : ℕ} → x ≡ y → pos ≡ to → OfDocument x.now pos (λ t. n ≡ t) → OfDocument y.now to (λ t. n ≡ t)
+loaded_as n {y = y} {pos = pos} e f of = subst (λ p. OfDocument y.now p (λ t. n ≡ t)) f (subst (λ (b : Bor (List ℕ)). OfDocument b.now pos (λ t. n ≡ t)) e of)

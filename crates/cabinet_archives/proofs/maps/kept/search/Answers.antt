@@ -1,0 +1,14 @@
+use Rattle.std.specs.Prelude.{⊤}
+use Rattle.archive_shape.specs.ShapeLayout.Shape.Shape.{text}
+use Rattle.cabinet_archived.specs.Documents.Node.{node_shape, KnowsNode}
+use Rattle.cabinet_archived.proofs.Index.Standing.{entry_there}
+use Rattle.cabinet_archives.proofs.maps.kept.search.Goals as goal
+
+pub search_entries-requires-clause-callable : goal.search_entries-requires-clause-callable
+search_entries-requires-clause-callable g c m stands i less = entry_there text node_shape (λ _. ⊤) KnowsNode c.args.map.bytes.now c.args.map.pos c.requires.has m stands i less
+
+pub returns-clause-within : goal.returns-clause-within
+returns-clause-within g c = c.search_entries.ensures.within
+
+pub returns-clause-answers : goal.returns-clause-answers
+returns-clause-answers g c m stands = c.search_entries.ensures.answers m stands
