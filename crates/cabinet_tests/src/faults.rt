@@ -64,11 +64,6 @@ fn faults_are_written_as_lines(rt: HostRuntime) {
             1,
         ),
         (
-            Fault::Save(SaveRefusal::Kind),
-            b"cab: save: Kind\n".as_slice(),
-            1,
-        ),
-        (
             Fault::Open(OpenRefusal::Access(Error::InvalidTag)),
             b"cab: open: Access\n".as_slice(),
             1,
@@ -124,15 +119,14 @@ fn refusals_to_open_and_save_are_printed(rt: HostRuntime) {
     is_printed_as(
         &rt,
         &OpenRefusal::WrongTag,
-        "a control of a hashed map is not the tag of its key",
+        "a control of a map is not the tag of its key",
     );
     is_printed_as(
         &rt,
         &OpenRefusal::NotFound,
-        "a key of a hashed map is not found at its place",
+        "a key of a map is not found at its place",
     );
     is_printed_as(&rt, &OpenRefusal::OutOfMemory, "out of memory");
-    is_printed_as(&rt, &SaveRefusal::Kind, "a kind of node has no layout yet");
     is_printed_as(
         &rt,
         &SaveRefusal::Limit(Error::IsizeOverflow),

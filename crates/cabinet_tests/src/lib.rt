@@ -2,8 +2,6 @@
 #![tactic(auto)]
 
 #[cfg(test)]
-mod archived;
-#[cfg(test)]
 mod doubles;
 #[cfg(test)]
 mod edited;
@@ -11,6 +9,8 @@ mod edited;
 mod faults;
 #[cfg(test)]
 mod limits;
+#[cfg(test)]
+mod loading;
 #[cfg(test)]
 mod opening;
 #[cfg(test)]
@@ -21,3 +21,5 @@ mod saved;
 mod saving;
 #[cfg(test)]
 mod sessions;
+#[cfg(test)]
+mod sizes;

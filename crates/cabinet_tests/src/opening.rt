@@ -1,10 +1,14 @@
-//! Tests of opening bytes as the archives of documents, and of questions and edits where texts are shared or lie in maps.
+//! Tests of opening bytes as the archives of documents, and of questions and edits in maps.
 
 mod check;
+mod kept;
 mod keyed;
 mod made;
 mod order;
-mod shared;
 mod spoilt;
 mod tables;
 mod trees;
+
+pub use check::TWO_SHARED;
+pub use keyed::{FIVE_ABOVE_NONE, loose};
+pub use tables::sparse;

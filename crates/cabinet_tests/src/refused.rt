@@ -7,6 +7,13 @@ use cabinet::{OpenRefusal, check, open};
 use std::alloc::{AllocError, Global};
 use std::test::Fail;
 
+/// The archive of `int 5`.
+const FIVE: [u8; 24] = *b"\x01\0\0\0\0\0\0\0\x05\0\0\0\0\0\0\0\0\0\0\0\0\0\0\0";
+
+/// A shared text of twelve bytes, and its node.
+const SHARED: [u8; 40] =
+    *b"hello world!....\x03\0\0\0\xec\xff\xff\xff\x0c\0\0\0\0\0\0\0\0\0\0\0\0\0\0\0";
+
 /// The archive of a list of `int 7` and `int 19`.
 const TWO: [u8; 72] =
     *b"\x01\0\0\0\0\0\0\0\x07\0\0\0\0\0\0\0\0\0\0\0\0\0\0\0\x01\0\0\0\0\0\0\0\x13\0\0\0\0\0\0\0\0\0\0\0\0\0\0\0\x05\0\0\0\xcc\xff\xff\xff\x02\0\0\0\0\0\0\0\0\0\0\0\0\0\0\0";
@@ -22,89 +29,135 @@ const TWO_SHARED: [u8; 88] =
 /// An option of the node directly before it.
 const SOME: [u8; 24] = *b"\x04\0\0\0\x01\0\0\0\xe0\xff\xff\xff\0\0\0\0\0\0\0\0\0\0\0\0";
 
-#[test]
-fn lists_that_are_no_archive_are_refused(rt: HostRuntime) {
-    let mut ahead = TWO;
-    ahead[52] = 0xd4;
-    let mut unaligned = TWO;
-    unaligned[52] = 0xce;
-    unaligned[56] = 1;
-    let mut without_a_layout = TWO;
-    without_a_layout[0] = 8;
-    let cases: [([u8; 72], Error); 3] = [
-        (ahead, Error::InvalidSubtreePointer { size: 48 }),
-        (unaligned, Error::Unaligned { align: 8 }),
-        (without_a_layout, Error::InvalidTag),
-    ];
-    assert!(rt; check(rt.alloc(), &TWO) == Ok(()));
-    for (bytes, refusal) in cases {
-        assert!(rt; check(rt.alloc(), &bytes) == Err(OpenRefusal::Access(refusal)));
+/// Returns bytes with other values at some positions.
+fn changed(alloc: Global, bytes: &[u8], changes: &[(usize, u8)]) -> Result<Vec<u8>, AllocError> {
+    let mut changed = Vec::new(alloc);
+    changed.extend_from_slice(bytes)?;
+    for (index, value) in changes {
+        if let Some(byte) = changed.get_mut(*index) {
+            *byte = *value;
+        }
     }
+    Ok(changed)
 }
 
 #[test]
-fn an_option_that_leads_to_the_node_of_another_is_refused(rt: HostRuntime) {
-    assert!(rt; check(rt.alloc(), &TWO_OPTIONS) == Ok(()));
-    let mut shared = TWO_OPTIONS;
-    shared[80] = 0xb0;
-    assert!(rt;
-        check(rt.alloc(), &shared)
-            == Err(OpenRefusal::Access(Error::InvalidSubtreePointer { size: 24 }))
-    );
+fn archives_and_their_like_are_accepted(rt: HostRuntime) -> Result<(), Fail> {
+    let rows: [(&[u8], &[(usize, u8)]); 7] = [
+        (&FIVE, &[]),
+        (&TWO, &[]),
+        (&TWO_OPTIONS, &[]),
+        (&SHARED, &[]),
+        (&TWO_SHARED, &[]),
+        // both texts are empty; the second text begins where the first ends
+        (&TWO_SHARED, &[(24, 0), (48, 0)]),
+        (&TWO_SHARED, &[(24, 5), (44, 0xd9), (48, 7)]),
+    ];
+    for (archive, changes) in rows {
+        let bytes = changed(rt.alloc(), archive, changes)?;
+        assert_eq!(rt; check(rt.alloc(), &bytes), Ok(()), "{changes:?}");
+    }
+    Ok(())
 }
 
 #[test]
-fn shared_texts_that_disagree_or_reach_into_nodes_are_refused(rt: HostRuntime) {
-    let mut shorter = TWO_SHARED;
-    shorter[48] = 11;
-    let mut empty = TWO_SHARED;
-    empty[24] = 0;
-    let mut no_text = TWO_SHARED;
-    no_text[3] = 0xff;
-    let mut into_nodes = TWO_SHARED;
-    into_nodes[24] = 17;
-    let cases: [([u8; 88], Error); 4] = [
-        (shorter, Error::MetadataMismatch),
-        (empty, Error::MetadataMismatch),
-        (no_text, Error::InvalidUtf8),
-        (into_nodes, Error::InvalidSubtreePointer { size: 17 }),
+fn bytes_that_are_no_archive_are_refused_by_their_first_fault(rt: HostRuntime) -> Result<(), Fail> {
+    let behind = Error::InvalidSubtreePointer { size: 48 };
+    let rows: [(&[u8], &[(usize, u8)], Error); 28] = [
+        (&[], &[], Error::InvalidSubtreePointer { size: 24 }),
+        (&FIVE[..23], &[], Error::InvalidSubtreePointer { size: 24 }),
+        (&FIVE, &[(0, 9)], Error::InvalidTag),
+        (&FIVE, &[(0, 10)], Error::InvalidTag),
+        (&FIVE, &[(0, 255)], Error::InvalidTag),
+        (&FIVE, &[(0, 0), (1, 2)], Error::InvalidTag),
+        (&FIVE, &[(0, 2), (4, 0x81)], Error::CheckStringRepr),
+        (&FIVE, &[(0, 2), (4, 0xfe)], Error::InvalidUtf8),
+        // a list that begins in its own node, and one that begins before the bytes
+        (
+            &FIVE,
+            &[(0, 5), (4, 0xfc), (5, 255), (6, 255), (7, 255), (8, 1)],
+            Error::InvalidSubtreePointer { size: 24 },
+        ),
+        (
+            &FIVE,
+            &[(0, 5), (4, 0xe4), (5, 255), (6, 255), (7, 255), (8, 2)],
+            behind,
+        ),
+        (&TWO, &[(52, 0xd4)], behind),
+        (&TWO, &[(52, 0xce), (56, 1)], Error::Unaligned { align: 8 }),
+        (&TWO, &[(0, 9)], Error::InvalidTag),
+        (&TWO, &[(24, 9)], Error::InvalidTag),
+        // both options lead to one node
+        (
+            &TWO_OPTIONS,
+            &[(80, 0xb0)],
+            Error::InvalidSubtreePointer { size: 24 },
+        ),
+        (&SHARED, &[(11, 0xff)], Error::InvalidUtf8),
+        // a text that reaches into its node, one that begins in it, and one that begins before the bytes
+        (
+            &SHARED,
+            &[(24, 17)],
+            Error::InvalidSubtreePointer { size: 17 },
+        ),
+        (
+            &SHARED,
+            &[(20, 0xfc), (24, 1)],
+            Error::InvalidSubtreePointer { size: 1 },
+        ),
+        (
+            &SHARED,
+            &[(20, 0xeb)],
+            Error::InvalidSubtreePointer { size: 12 },
+        ),
+        (&TWO_SHARED, &[(24, 11)], Error::MetadataMismatch),
+        (&TWO_SHARED, &[(48, 11)], Error::MetadataMismatch),
+        (&TWO_SHARED, &[(24, 0)], Error::MetadataMismatch),
+        (&TWO_SHARED, &[(48, 0)], Error::MetadataMismatch),
+        (&TWO_SHARED, &[(0, 0xff)], Error::InvalidUtf8),
+        (&TWO_SHARED, &[(3, 0xff)], Error::InvalidUtf8),
+        (
+            &TWO_SHARED,
+            &[(24, 17)],
+            Error::InvalidSubtreePointer { size: 17 },
+        ),
+        // the last eleven bytes of the text once more, and the shared bytes as a text of its own
+        (
+            &TWO_SHARED,
+            &[(44, 0xd5), (48, 11)],
+            Error::InvalidSubtreePointer { size: 11 },
+        ),
+        (
+            &TWO_SHARED,
+            &[
+                (40, 2),
+                (44, 0x8c),
+                (45, 0),
+                (46, 0),
+                (47, 0),
+                (48, 0xd4),
+                (49, 255),
+                (50, 255),
+                (51, 255),
+            ],
+            Error::InvalidSubtreePointer { size: 12 },
+        ),
     ];
-    assert!(rt; check(rt.alloc(), &TWO_SHARED) == Ok(()));
-    for (bytes, refusal) in cases {
-        assert!(rt; check(rt.alloc(), &bytes) == Err(OpenRefusal::Access(refusal)));
+    for (archive, changes, fault) in rows {
+        let bytes = changed(rt.alloc(), archive, changes)?;
+        let refusal = Err(OpenRefusal::Access(fault));
+        assert_eq!(rt; check(rt.alloc(), &bytes), refusal, "{changes:?}");
     }
-}
-
-#[test]
-fn leaves_that_are_no_archive_are_refused(rt: HostRuntime) {
-    let five = *b"\x01\0\0\0\0\0\0\0\x05\0\0\0\0\0\0\0\0\0\0\0\0\0\0\0";
-    let mut without_a_layout = five;
-    without_a_layout[0] = 8;
-    let mut out_of_line = five;
-    out_of_line[0] = 2;
-    out_of_line[4] = 0x81;
-    let mut no_text = five;
-    no_text[0] = 2;
-    no_text[4] = 0xfe;
-    let cases: [(&[u8], Error); 5] = [
-        (&[], Error::InvalidSubtreePointer { size: 24 }),
-        (&five[..23], Error::InvalidSubtreePointer { size: 24 }),
-        (&without_a_layout, Error::InvalidTag),
-        (&out_of_line, Error::CheckStringRepr),
-        (&no_text, Error::InvalidUtf8),
-    ];
-    for (bytes, refusal) in cases {
-        assert!(rt; check(rt.alloc(), bytes) == Err(OpenRefusal::Access(refusal)));
-    }
+    Ok(())
 }
 
 #[test]
 fn bytes_that_are_no_archive_stay(rt: HostRuntime) {
-    let mut bytes = [8; 24];
+    let mut bytes = [9; 24];
     let refusal = Err(OpenRefusal::Access(Error::InvalidTag));
     assert!(rt; check(rt.alloc(), &bytes) == refusal);
     assert!(rt; open(rt.alloc(), &mut bytes).is_err());
-    assert!(rt; bytes == [8; 24]);
+    assert!(rt; bytes == [9; 24]);
 }
 
 /// Returns the text of the number 1 in `count` options.

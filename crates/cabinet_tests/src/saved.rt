@@ -37,6 +37,31 @@ fn documents_are_written_as_their_images(rt: HostRuntime) -> Result<(), Fail> {
             b"\0\0\0\0\0\0\0\0\x03\0\0\0\xf4\xff\xff\xff\0\0\0\0\0\0\0\0\0\0\0\0\0\0\0\0\x03\0\0\0\xdc\xff\xff\xff\0\0\0\0\0\0\0\0\0\0\0\0\0\0\0\0\x05\0\0\0\xcc\xff\xff\xff\x02\0\0\0\0\0\0\0\0\0\0\0\0\0\0\0",
         ),
         (
+            b"bool true\n",
+            b"\x00\x01\0\0\0\0\0\0\0\0\0\0\0\0\0\0\0\0\0\0\0\0\0\0",
+        ),
+        (
+            b"none\n",
+            b"\x04\0\0\0\0\0\0\0\0\0\0\0\0\0\0\0\0\0\0\0\0\0\0\0",
+        ),
+        (
+            b"some\nint 5\n",
+            b"\x01\0\0\0\0\0\0\0\x05\0\0\0\0\0\0\0\0\0\0\0\0\0\0\0\x04\0\0\0\x01\0\0\0\xe0\xff\xff\xff\0\0\0\0\0\0\0\0\0\0\0\0",
+        ),
+        (
+            b"list 2\nint 7\nint 19\n",
+            b"\x01\0\0\0\0\0\0\0\x07\0\0\0\0\0\0\0\0\0\0\0\0\0\0\0\x01\0\0\0\0\0\0\0\x13\0\0\0\0\0\0\0\0\0\0\0\0\0\0\0\x05\0\0\0\xcc\xff\xff\xff\x02\0\0\0\0\0\0\0\0\0\0\0\0\0\0\0",
+        ),
+        (
+            b"list 2\nshared 'a\nshared 'a\n",
+            b"a\0\0\0\0\0\0\0\x03\0\0\0\xf4\xff\xff\xff\x01\0\0\0\0\0\0\0\0\0\0\0\0\0\0\0\x03\0\0\0\xdc\xff\xff\xff\x01\0\0\0\0\0\0\0\0\0\0\0\0\0\0\0\x05\0\0\0\xcc\xff\xff\xff\x02\0\0\0\0\0\0\0\0\0\0\0\0\0\0\0",
+        ),
+        // an empty shared text is one zero byte
+        (
+            b"list 3\nshared '\nshared 'b\nshared '\n",
+            b"\0b\0\0\0\0\0\0\x03\0\0\0\xf4\xff\xff\xff\0\0\0\0\0\0\0\0\0\0\0\0\0\0\0\0\x03\0\0\0\xdd\xff\xff\xff\x01\0\0\0\0\0\0\0\0\0\0\0\0\0\0\0\x03\0\0\0\xc4\xff\xff\xff\0\0\0\0\0\0\0\0\0\0\0\0\0\0\0\0\x05\0\0\0\xb4\xff\xff\xff\x03\0\0\0\0\0\0\0\0\0\0\0\0\0\0\0",
+        ),
+        (
             b"list 1\nlist 0\n",
             b"\x05\0\0\0\xfc\xff\xff\xff\0\0\0\0\0\0\0\0\0\0\0\0\0\0\0\0\x05\0\0\0\xe4\xff\xff\xff\x01\0\0\0\0\0\0\0\0\0\0\0\0\0\0\0",
         ),
@@ -126,16 +151,5 @@ fn shared_texts_are_read_and_not_edited(rt: HostRuntime) -> Result<(), Fail> {
         b"list 3\nshared 'hello\\sworld!\nsome\nshared 'hello\\sworld!\nint 6\n",
     )?;
     assert!(rt; worked.bytes.as_slice() == edited.as_slice());
-    Ok(())
-}
-
-#[test]
-fn a_kind_without_a_layout_is_told_of(rt: HostRuntime) -> Result<(), Fail> {
-    let document = read_text(rt.alloc(), b"list 1\nkept 0\n").map_err(|_| "no document")?;
-    let mut source = SliceSource::new(b"get\n", usize::MAX, 16384);
-    let mut writer = FailingWriter::new(rt.alloc(), usize::MAX);
-    let worked = work(rt.alloc(), &document, &mut source, &mut writer);
-    assert!(rt; worked.err() == Some(SaveRefusal::Kind));
-    assert!(rt; writer.bytes().is_empty());
     Ok(())
 }

@@ -1,6 +1,6 @@
 //! Tests of saving documents.
 
 pub mod hashed;
+pub mod kept;
 pub mod ordered;
-mod saved;
 mod unsaved;

@@ -1,4 +1,4 @@
-//! Tests of the crates of documents as text.
+//! Tests of the crates of documents as text, of what cabinet_text_session cannot show.
 #![tactic(auto)]
 
 #[cfg(test)]
@@ -7,5 +7,3 @@ mod lines;
 mod nodes;
 #[cfg(test)]
 mod reading;
-#[cfg(test)]
-mod writing;

@@ -1,6 +1,5 @@
 //! Tests of which bytes are opened, in archives made by hand with each node directly after the nodes that it leads to.
-use archive_shape_writing::Error;
-use cabinet_archives::{OpenRefusal, check};
+use cabinet::{OpenRefusal, check};
 use std::alloc::{AllocError, Global};
 
 const FIVE: [u8; 24] = *b"\x01\0\0\0\0\0\0\0\x05\0\0\0\0\0\0\0\0\0\0\0\0\0\0\0";
@@ -72,26 +71,6 @@ fn shared_text_is_no_container(rt: HostRuntime) -> Result<(), AllocError> {
 }
 
 #[test]
-fn nodes_that_share_a_text_agree(rt: HostRuntime) {
-    let alloc = rt.alloc();
-    let mut shorter = TWO_SHARED;
-    shorter[48] = 11;
-    let mut empty = TWO_SHARED;
-    empty[24] = 0;
-    let mut no_text = TWO_SHARED;
-    no_text[0] = 0xff;
-    let cases = [
-        (TWO_SHARED, Ok(())),
-        (shorter, Err(OpenRefusal::Access(Error::MetadataMismatch))),
-        (empty, Err(OpenRefusal::Access(Error::MetadataMismatch))),
-        (no_text, Err(OpenRefusal::Access(Error::InvalidUtf8))),
-    ];
-    for (bytes, answer) in cases {
-        assert!(rt; check(alloc, &bytes) == answer);
-    }
-}
-
-#[test]
 fn each_element_of_a_list_is_audited(rt: HostRuntime) -> Result<(), AllocError> {
     let alloc = rt.alloc();
     for (count, answer) in [(61, Ok(())), (62, Err(OpenRefusal::TooDeep))] {
@@ -102,13 +81,4 @@ fn each_element_of_a_list_is_audited(rt: HostRuntime) -> Result<(), AllocError> 
         assert!(rt; check(alloc, &bytes) == answer);
     }
     Ok(())
-}
-
-#[test]
-fn bytes_without_a_node_are_refused_by_their_first_fault(rt: HostRuntime) {
-    let alloc = rt.alloc();
-    let no_kind = *b"\x09\0\0\0\0\0\0\0\0\0\0\0\0\0\0\0\0\0\0\0\0\0\0\0";
-    let short = Error::InvalidSubtreePointer { size: 24 };
-    assert!(rt; check(alloc, b"") == Err(OpenRefusal::Access(short)));
-    assert!(rt; check(alloc, &no_kind) == Err(OpenRefusal::Access(Error::InvalidTag)));
 }

@@ -1,7 +1,7 @@
 //! Tests of questions and edits under the keys of ordered maps.
 use crate::saved::archive_of;
-use crate::saving::ordered::{COFFEE_AND_TEA, decimal, decimals};
-use cabinet::{Asked, Leaf, Line, SetAnswer, Step, open, read_line, to_bytes};
+use crate::saving::ordered::COFFEE_AND_TEA;
+use cabinet::{Asked, Leaf, SetAnswer, Step, open, read_line};
 use std::alloc::{AllocError, Global};
 use std::test::Fail;
 
@@ -72,11 +72,18 @@ fn a_leaf_under_a_key_is_set_in_its_own_bytes(rt: HostRuntime) -> Result<(), Fai
     Ok(())
 }
 
-#[test]
-fn bytes_of_no_field_stay_where_a_leaf_is_set(rt: HostRuntime) -> Result<(), Fail> {
+/// Returns the archive of the map from coffee to 300 and from tea to 250, with other bytes where no field is, and more of
+/// them after it.
+pub fn loose() -> [u8; 207] {
     let mut bytes = [0xbb; 207];
     bytes[..200].copy_from_slice(&COFFEE_AND_TEA);
     bytes[188..200].copy_from_slice(&[0xaa; 12]);
+    bytes
+}
+
+#[test]
+fn bytes_of_no_field_stay_where_a_leaf_is_set(rt: HostRuntime) -> Result<(), Fail> {
+    let mut bytes = loose();
     let mut wanted = bytes;
     wanted[80] = 0x13;
     wanted[81] = 0x01;
@@ -102,43 +109,5 @@ fn a_map_with_a_leaf_set_is_saved_as_its_document(rt: HostRuntime) -> Result<(),
     let wanted =
         b"ordered 2\n'a\nlist 2\nbool true\ntext 'NINE\\sBYTES\n'b\nsome\nordered 1\n'c\nint -6\n";
     assert!(rt; bytes.as_slice() == archive_of(alloc, wanted)?.as_slice());
-    Ok(())
-}
-
-/// Asks for each of `count` decimal texts in the map of these, and writes the answers.
-fn ask_for_each(alloc: Global, count: i64, answers: &mut Vec<u8>) -> Result<(), Fail> {
-    let mut bytes = to_bytes(alloc, &decimals(alloc, count)?)?;
-    let opened = open(alloc, bytes.as_mut_slice()).map_err(|_| "refused")?;
-    for number in 0..count {
-        let mut path = Vec::new(alloc);
-        path.push(Step::Key(decimal(alloc, number)?))?;
-        opened.ask(&Line::Get(path), answers)?;
-    }
-    Ok(())
-}
-
-/// Returns the heads of the numbers below `count`.
-fn heads(alloc: Global, count: i64) -> Result<Vec<u8>, Fail> {
-    let mut heads = Vec::new(alloc);
-    for number in 0..count {
-        heads.extend_from_slice(b"int ")?;
-        heads.extend_from_slice(decimal(alloc, number)?.as_bytes())?;
-        heads.push(b'\n')?;
-    }
-    Ok(heads)
-}
-
-#[test]
-fn each_key_answers_in_maps_of_each_size(rt: HostRuntime) -> Result<(), Fail> {
-    for count in 0..=40 {
-        let mut answers = Vec::new(rt.alloc());
-        ask_for_each(rt.alloc(), count, &mut answers)?;
-        assert!(rt; answers.as_slice() == heads(rt.alloc(), count)?.as_slice());
-    }
-    for count in [112, 215] {
-        let mut answers = Vec::new(rt.alloc());
-        ask_for_each(rt.alloc(), count, &mut answers)?;
-        assert!(rt; answers.as_slice() == heads(rt.alloc(), count)?.as_slice());
-    }
     Ok(())
 }

@@ -4,7 +4,7 @@ use crate::opening::made::{
     Container, EMPTY_MAP, FIVE, Made, NOTHING, push_inner, push_inside, push_leaf, push_map,
     push_node, push_options, push_tower,
 };
-use cabinet_archives::{OpenRefusal, check};
+use cabinet::{OpenRefusal, check};
 use std::alloc::{AllocError, Global};
 use std::process::Abort;
 

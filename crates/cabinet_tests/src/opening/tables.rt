@@ -15,7 +15,7 @@ const A_TWICE: [u8; 152] =
     *b"a\xff\xff\xff\xff\xff\xff\xff\x01\0\0\0\0\0\0\0\x01\0\0\0\0\0\0\0\0\0\0\0\0\0\0\0\0\0\0\0\0\0\0\0\0\0\0\0\0\0\0\0\0\0\0\0\0\0\0\0\0\0\0\0\0\0\0\0a\xff\xff\xff\xff\xff\xff\xff\x01\0\0\0\0\0\0\0\x02\0\0\0\0\0\0\0\0\0\0\0\0\0\0\0U\xffUU\xffU\xff\xff\xff\xff\xff\xff\xff\xff\xff\xff\xff\xff\xff\xff\xff\xff\xff\xff\xff\xff\xff\xff\xff\xff\xff\0\x07\0\0\0\xdc\xff\xff\xff\x02\0\0\0\x03\0\0\0\0\0\0\0\0\0\0\0";
 
 /// Opens an archive by each scan.
-fn opened_by_each(alloc: Global, bytes: &[u8]) -> [Result<(), OpenRefusal>; 3] {
+pub fn opened_by_each(alloc: Global, bytes: &[u8]) -> [Result<(), OpenRefusal>; 3] {
     [
         check_scanned::<Group1>(alloc, bytes),
         check_scanned::<Group8>(alloc, bytes),
@@ -61,7 +61,7 @@ fn a_table_is_refused_by_its_first_fault(rt: HostRuntime) {
 }
 
 /// Returns a table of 32 places of which this one has the key a with 1, and these controls its tag.
-fn sparse(alloc: Global, place: usize, controls: &[usize]) -> Result<Vec<u8>, AllocError> {
+pub fn sparse(alloc: Global, place: usize, controls: &[usize]) -> Result<Vec<u8>, AllocError> {
     let mut bytes = Vec::from_slice(alloc, &[0; 1024])?;
     bytes.extend_from_slice(&[0xff; 47])?;
     bytes.push(0)?;
@@ -111,7 +111,7 @@ fn answered<G: Scan>(
 }
 
 /// The same by each scan, if all agree.
-fn answered_by_each(
+pub fn answered_by_each(
     alloc: Global,
     archive: &[u8],
     lines: &[u8],

@@ -3,7 +3,7 @@ use crate::opening::keyed::FIVE_ABOVE_NONE;
 use crate::opening::made::{FIVE, Made, number, push_inner, push_leaf, push_node, push_values};
 use crate::saving::ordered::{COFFEE_AND_TEA, SIX};
 use archive_shape_writing::Error;
-use cabinet_archives::{OpenRefusal, check};
+use cabinet::{OpenRefusal, check};
 use std::alloc::{AllocError, Global};
 
 /// Returns the map from a to f to the numbers from 1 to 6, with a leaf of the first entry.

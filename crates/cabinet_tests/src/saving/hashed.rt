@@ -1,10 +1,6 @@
 //! Tests of documents with hashed maps, which are saved byte by byte.
 use crate::saved::archive_of;
-use crate::saving::ordered::decimal;
-use cabinet_archives::{check, to_bytes};
-use cabinet_text_nodes::{Document, Node};
-use std::alloc::Global;
-use std::collections::BTreeMap;
+use cabinet::check;
 use std::test::Fail;
 
 /// The archive of the map from a to world: the buckets of places 1 and 0, the controls from 64 on, and the root from 96 on.
@@ -33,38 +29,6 @@ fn hashed_maps_are_written_as_their_images(rt: HostRuntime) -> Result<(), Fail> 
         let bytes = archive_of(rt.alloc(), text)?;
         assert!(rt; bytes.as_slice() == image);
         assert!(rt; check(rt.alloc(), &bytes) == Ok(()));
-    }
-    Ok(())
-}
-
-/// Returns the number of bytes of the archive of a hashed map from the decimal texts of the numbers below `count`, if it is
-/// accepted.
-fn size_of(alloc: Global, count: i64) -> Result<usize, Fail> {
-    let mut map = BTreeMap::new(alloc);
-    for number in 0..count {
-        map.insert(decimal(alloc, number)?, Node::Int(number))?;
-    }
-    let bytes = to_bytes(alloc, &Document::new(Node::Hashed(map))?)?;
-    check(alloc, &bytes)?;
-    Ok(bytes.len())
-}
-
-#[test]
-fn sizes_are_those_of_tables(rt: HostRuntime) -> Result<(), Fail> {
-    // Beside the root of 24 bytes, a place has 32 bytes and a control; controls are filled up to sixteens, and 15 more.
-    let sizes = [
-        (0, 24),
-        (1, 120),
-        (5, 248),
-        (6, 280),
-        (17, 680),
-        (35, 1368),
-        (36, 1400),
-        (112, 4264),
-        (215, 8136),
-    ];
-    for (count, size) in sizes {
-        assert_eq!(rt; size_of(rt.alloc(), count)?, size);
     }
     Ok(())
 }

@@ -1,9 +1,5 @@
 //! Tests of documents with ordered maps, which are saved byte by byte.
-use cabinet_archives::{check, to_bytes};
-use cabinet_text_nodes::{Document, Node};
-use cabinet_text_reading::read_text;
-use std::alloc::Global;
-use std::collections::BTreeMap;
+use cabinet::{check, read_text, to_bytes};
 use std::test::Fail;
 
 /// The archive of the map from coffee to 300 and from tea to 250: a leaf from 0 on, and the root from 176 on.
@@ -46,48 +42,6 @@ fn ordered_maps_are_written_as_their_images(rt: HostRuntime) -> Result<(), Fail>
         let bytes = to_bytes(rt.alloc(), &document).map_err(|_| "not saved")?;
         assert!(rt; bytes.as_slice() == image);
         assert!(rt; check(rt.alloc(), &bytes) == Ok(()));
-    }
-    Ok(())
-}
-
-/// Returns the text of a number in decimal.
-pub fn decimal(alloc: Global, number: i64) -> Result<String, Fail> {
-    Ok(format!(in alloc; "{number}")?)
-}
-
-/// Returns the map from the decimal texts of the numbers below `count` to those numbers.
-pub fn decimals(alloc: Global, count: i64) -> Result<Document, Fail> {
-    let mut map = BTreeMap::new(alloc);
-    for number in 0..count {
-        map.insert(decimal(alloc, number)?, Node::Int(number))?;
-    }
-    Ok(Document::new(Node::Ordered(map))?)
-}
-
-/// Returns the number of bytes of the archive of a map from the decimal texts of the numbers below `count`, if it is
-/// accepted.
-fn size_of(alloc: Global, count: i64) -> Result<usize, Fail> {
-    let bytes = to_bytes(alloc, &decimals(alloc, count)?)?;
-    check(alloc, &bytes)?;
-    Ok(bytes.len())
-}
-
-#[test]
-fn sizes_are_those_of_packed_trees(rt: HostRuntime) -> Result<(), Fail> {
-    // Beside the root of 24 bytes, a leaf has 176 bytes and an inner node 192.
-    let sizes = [
-        (0, 24),
-        (1, 200),
-        (5, 200),
-        (6, 392),
-        (17, 744),
-        (35, 1272),
-        (36, 1464),
-        (112, 4136),
-        (215, 7704),
-    ];
-    for (count, size) in sizes {
-        assert!(rt; size_of(rt.alloc(), count)? == size);
     }
     Ok(())
 }
