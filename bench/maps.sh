@@ -1,14 +1,22 @@
 #!/usr/bin/env bash
-# Usage: bench/maps.sh [CAB [PROCESSOR]]. Compares the processor time of cab on documents of a million leaves in maps, one
-# map and a list of 200,000 maps of five, all of them ordered or all hashed, with that of bench/plain.rs, the same two
-# commands in plain Rust. Those with ordered maps are also compared, where they are installed, with jq on the same
-# document as JSON and with sqlite3 on a table of the same keys. The table is built by an import, and each question is one
-# statement. Archives and answers are compared. Last it opens an archive of few lists and texts, which has no maps.
-# Without CAB, a program that is there for PROCESSOR, cab is proved and built. Each time is the least of five, those of
-# a comparison taken in turns. A ratio is that of cab's time to the one before it, with its goal in brackets.
+# Usage: bench/maps.sh [CAB CAB_SHOW [PROCESSOR]]. Compares the processor time of cab and cab_show on documents of a
+# million leaves in maps, one map and a list of 200,000 maps of five, all of them ordered, all hashed or all kept, with
+# that of bench/plain.rs, the same commands in plain Rust. Where they are installed, cab_show is also compared with jq on
+# the same document as JSON, and cab, on ordered maps, with jq and with sqlite3 on a table of the same keys. The table is
+# built by an import, and each question is one statement. Archives, answers and texts are compared. Last it opens an
+# archive of few lists and texts, which has no maps. Without CAB and CAB_SHOW, programs that are there for PROCESSOR, they
+# are proved and built. Each time is the least of five, those of a comparison taken in turns. A ratio is that of the time
+# of cab or cab_show to the one before it, with its goal in brackets.
 set -eu
 source "$(dirname "$0")/programs.sh"
-find_cab "$@"
+find_cab ${1:+"$1"} ${3:+"$3"}
+show=$root/crates/cab_show/out/cab_show
+if [ $# -gt 1 ]; then
+    show=$(realpath "$2")
+elif ! (cd "$root/crates/cab_show" && rt run -- "$work/first.cab") < /dev/null > "$work/log" 2>&1; then
+    cat "$work/log"
+    exit 1
+fi
 cd "$work"
 mkfifo pipe
 compile_plain plain
@@ -189,6 +197,22 @@ keys() {
     sed "s/^keys [0-9]* '//; s/ '/\n/g" "$@"
 }
 
+# compares what it takes to print the text of the document that the archive holds
+shown() {
+    by_cab=0 by_plain=0 by_jq=0 by_sqlite=0
+    for _ in 1 2 3 4 5; do
+        by_cab=$(least $by_cab "$(spent /dev/null "$show" $document.cab)")
+        same answers $document
+        by_plain=$(least $by_plain "$(spent /dev/null ./plain show $document.cab)")
+        same answers $document
+        [ ! "$has_jq" ] || by_jq=$(least $by_jq "$(spent /dev/null jq . $document.json)")
+    done
+    jq_goal=0.3
+    print_taken 'load, and print'
+    jq_goal=
+    echo
+}
+
 # compared DOCUMENT: compares the commands on a document, and on lines for it
 compared() {
     document=$1
@@ -219,6 +243,7 @@ compared() {
     echo
     cab_opens=$by_cab
     plain_opens=$by_plain
+    shown
 
     if [ $kind = ordered ]; then
         sqlite_goal=0.15
@@ -229,7 +254,9 @@ compared() {
     answered jq heads
     answered sqlite heads
     jq_words=()
-    if [ $kind$document = orderedmap ]; then
+    if [ $kind$document = keptmap ]; then
+        asked 'keys of all' keys
+    elif [ $kind$document = orderedmap ]; then
         asked 'keys of all' keys
         answered sqlite keys
         asked '1,000 ranges of a hundred keys' range
@@ -247,9 +274,9 @@ compared() {
     memory_beside_plain "$kind $document: open" run $document.cab
 }
 
-for kind in ordered hashed; do
+for kind in ordered hashed kept; do
     for document in map records; do
-        [ $kind = ordered ] || sed -i "s/^ordered /$kind /" $document
+        sed -i "s/^\(ordered\|hashed\) /$kind /" $document
         compared $document
     done
     rm -f ./*-files/*

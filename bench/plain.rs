@@ -1,17 +1,22 @@
-//! The two commands of cab in plain, safe Rust, with which bench/run.sh and bench/maps.sh compare cab. Archives and
-//! answers are those of cab, and the same texts, archives, lines and inputs are refused; the wording of a refusal
-//! differs. As in cab a text is read into a document, for which nothing is reserved by a count, and then that is
+//! The two commands of cab, and cab_show, in plain, safe Rust, with which bench/run.sh and bench/maps.sh compare them.
+//! Archives, answers and texts are theirs, and the same texts, archives, lines and inputs are refused; the wording of a
+//! refusal differs. As in cab a text is read into a document, for which nothing is reserved by a count, and then that is
 //! archived.
 
 mod plain_archive;
+mod plain_index;
+mod plain_load;
 mod plain_probing;
 mod plain_table;
 mod plain_tree;
 
 use plain_archive::{Archive, View, archive_of};
+use plain_index::entries;
+use plain_load::write_node;
+use plain_table::key_at;
 use plain_tree::Walk;
 use std::borrow::Cow;
-use std::collections::BTreeMap;
+use std::collections::{BTreeMap, HashSet};
 use std::env;
 use std::error::Error;
 use std::fs::{self, OpenOptions};
@@ -43,6 +48,7 @@ enum Node<'a> {
     List(Vec<Node<'a>>),
     Ordered(Pairs<'a>),
     Hashed(Pairs<'a>),
+    Kept(Vec<Pair<'a>>),
 }
 
 type Pair<'a> = (Cow<'a, str>, Node<'a>);
@@ -138,6 +144,9 @@ impl<'a> Lines<'a> {
             ("hashed", count) if depth < MOST => self
                 .next_pairs(read_number(count)?, depth + 1)
                 .map(Node::Hashed),
+            ("kept", count) if depth < MOST => {
+                self.next_kept(read_number(count)?, depth + 1).map(Node::Kept)
+            }
             ("shared", argument) => read_quoted(argument).map(Node::Shared),
             (kind, argument) => read_leaf(kind, argument).map(Node::Leaf),
         }
@@ -158,6 +167,21 @@ impl<'a> Lines<'a> {
             return None;
         }
         Some((key, self.next_node(depth)?))
+    }
+
+    /// Reads pairs, whose keys must be distinct: their escaped forms are where they are.
+    fn next_kept(&mut self, count: u64, depth: usize) -> Option<Vec<Pair<'a>>> {
+        let mut pairs = Vec::new();
+        let mut met = HashSet::new();
+        for _ in 0..count {
+            let line = self.next()?;
+            let key = read_quoted(line)?;
+            if !met.insert(line) {
+                return None;
+            }
+            pairs.push((key, self.next_node(depth)?));
+        }
+        Some(pairs)
     }
 
     fn next_pairs(&mut self, count: u64, depth: usize) -> Option<Pairs<'a>> {
@@ -252,6 +276,7 @@ fn write_head(bytes: &[u8], there: View, out: &mut impl Write) -> io::Result<()>
         View::List { count, .. } => writeln!(out, "list {count}"),
         View::Ordered { count, .. } => writeln!(out, "ordered {count}"),
         View::Hashed { count, .. } => writeln!(out, "hashed {count}"),
+        View::Kept { count, .. } => writeln!(out, "kept {count}"),
     }
 }
 
@@ -299,7 +324,11 @@ fn carry_out(archive: &mut Archive, line: &Line, out: &mut impl Write) -> io::Re
         },
         Line::Keys(path) => match archive.find(path) {
             Some((_, View::Ordered { root, count })) => {
-                write_keys(count, Walk::all(&archive.bytes, root), out)
+                write_keys(count, Walk::all(&archive.bytes, root).map(|(key, _)| key), out)
+            }
+            Some((_, View::Kept { index, count })) => {
+                let keys = entries(index, count).flat_map(|at| key_at(&archive.bytes, at));
+                write_keys(count, keys, out)
             }
             Some(_) => out.write_all(b"wrong\n"),
             None => out.write_all(b"missing\n"),
@@ -307,6 +336,7 @@ fn carry_out(archive: &mut Archive, line: &Line, out: &mut impl Write) -> io::Re
         Line::Range([low, high], path) => match archive.find(path) {
             Some((_, View::Ordered { root, .. })) => {
                 let keys: Vec<_> = Walk::from(&archive.bytes, root, low.as_bytes())
+                    .map(|(key, _)| key)
                     .take_while(|key| *key < high.as_bytes())
                     .collect();
                 write_keys(keys.len(), keys.into_iter(), out)
@@ -374,12 +404,22 @@ fn run(path: &str) -> Result<(), Refusal> {
     outcome
 }
 
+/// Writes the text of the document that an archive is of, which is read whole first.
+fn show(path: &str) -> Result<(), Refusal> {
+    let archive = Archive::open(fs::read(path)?).ok_or("the bytes are no archive")?;
+    let document = archive.load().ok_or("the bytes are no archive")?;
+    let mut out = BufWriter::with_capacity(65536, io::stdout().lock());
+    write_node(&document, &mut out)?;
+    Ok(out.flush()?)
+}
+
 fn main() -> Result<(), Refusal> {
     let words: Vec<String> = env::args().skip(1).collect();
     let words: Vec<&str> = words.iter().map(String::as_str).collect();
     match words.as_slice() {
         ["build", text, archive] => build(text, archive),
         ["run", archive] => run(archive),
-        _ => Err("plain build TEXT ARCHIVE | plain run ARCHIVE".into()),
+        ["show", archive] => show(archive),
+        _ => Err("plain build TEXT ARCHIVE | plain run ARCHIVE | plain show ARCHIVE".into()),
     }
 }

@@ -1,5 +1,6 @@
 //! Archives of documents in plain Rust: written, checked, read and edited in place.
 
+use crate::plain_index::{Index, find_in_index};
 use crate::plain_probing::capacity;
 use crate::plain_table::{Table, find_in_table};
 use crate::plain_tree::find_key;
@@ -19,10 +20,23 @@ const LONGEST_TEXT: usize = (1 << 30) - 1;
 
 // ---- archives that are written
 
+/// The position of what a node leads to, and for a kept map also that of its entries.
+#[derive(Clone, Copy, Default)]
+pub struct Target {
+    to: u32,
+    entries: u32,
+}
+
+impl From<u32> for Target {
+    fn from(to: u32) -> Target {
+        Target { to, entries: 0 }
+    }
+}
+
 pub struct ArchiveWriter<'a> {
     pub bytes: Vec<u8>,
-    /// For each node that is still to be written, the position of what it leads to.
-    targets: Vec<u32>,
+    /// For each node that is still to be written, what it leads to.
+    targets: Vec<Target>,
     /// The position of each shared text.
     shared: HashMap<&'a str, u32>,
 }
@@ -54,16 +68,20 @@ impl<'a> ArchiveWriter<'a> {
 
     /// Writes what a node leads to, and returns its position.
     #[inline(always)]
-    pub fn put_data(&mut self, node: &'a Node) -> Result<u32, Refusal> {
-        match node {
-            Node::Leaf(Leaf::Text(text)) => self.put_text(text),
-            Node::Shared(text) => self.put_shared(text),
-            Node::Maybe(Some(inside)) => self.put_nodes(slice::from_ref(inside)),
-            Node::List(elements) => self.put_nodes(elements),
-            Node::Ordered(pairs) if !pairs.is_empty() => self.put_tree(pairs),
-            Node::Hashed(pairs) if !pairs.is_empty() => self.put_table(pairs),
-            _ => Ok(0),
-        }
+    pub fn put_data(&mut self, node: &'a Node) -> Result<Target, Refusal> {
+        Ok(match node {
+            Node::Leaf(Leaf::Text(text)) => self.put_text(text)?.into(),
+            Node::Shared(text) => self.put_shared(text)?.into(),
+            Node::Maybe(Some(inside)) => self.put_nodes(slice::from_ref(inside))?.into(),
+            Node::List(elements) => self.put_nodes(elements)?.into(),
+            Node::Ordered(pairs) if !pairs.is_empty() => self.put_tree(pairs)?.into(),
+            Node::Hashed(pairs) if !pairs.is_empty() => self.put_table(pairs)?.into(),
+            Node::Kept(pairs) if !pairs.is_empty() => {
+                let (to, entries) = self.put_index(pairs)?;
+                Target { to, entries }
+            }
+            _ => Target::default(),
+        })
     }
 
     /// Writes a shared text at its first use, with a zero byte after an empty one, and returns its position.
@@ -121,7 +139,11 @@ pub fn text_bytes(text: &str, target: u32, pos: usize) -> Result<[u8; TEXT], Ref
 
 /// Returns the own bytes of a node at a position.
 #[inline(always)]
-pub fn own_bytes(node: &Node, target: u32, pos: usize) -> Result<[u8; NODE], Refusal> {
+pub fn own_bytes(node: &Node, target: Target, pos: usize) -> Result<[u8; NODE], Refusal> {
+    let Target {
+        to: target,
+        entries,
+    } = target;
     let mut own = [0; NODE];
     match node {
         Node::Leaf(Leaf::Bool(value)) => own[1] = u8::from(*value),
@@ -166,6 +188,17 @@ pub fn own_bytes(node: &Node, target: u32, pos: usize) -> Result<[u8; NODE], Ref
             own[8..12].copy_from_slice(&u32::try_from(pairs.len())?.to_le_bytes());
             own[12..16].copy_from_slice(&u32::try_from(capacity(pairs.len()))?.to_le_bytes());
         }
+        Node::Kept(pairs) => {
+            own[0] = 8;
+            let (controls, first) = match pairs.is_empty() {
+                true => (NOTHING, NOTHING),
+                false => (offset(target, pos + 4)?, offset(entries, pos + 16)?),
+            };
+            own[4..8].copy_from_slice(&controls);
+            own[8..12].copy_from_slice(&u32::try_from(pairs.len())?.to_le_bytes());
+            own[12..16].copy_from_slice(&u32::try_from(capacity(pairs.len()))?.to_le_bytes());
+            own[16..20].copy_from_slice(&first);
+        }
     }
     Ok(own)
 }
@@ -193,6 +226,7 @@ pub enum View {
     List { first: usize, count: usize },
     Ordered { root: Option<usize>, count: usize },
     Hashed { table: Option<Table>, count: usize },
+    Kept { index: Option<Index>, count: usize },
 }
 
 /// Returns the bytes at a place in others.
@@ -261,11 +295,23 @@ fn view(own: &[u8; NODE], pos: usize) -> Option<View> {
             };
             View::Hashed { table, count }
         }
+        (8, _) => {
+            let count = word_in(own, 8) as usize;
+            let index = match count {
+                0 => None,
+                _ => Some(Index {
+                    controls: target(pos + 4, word_in(own, 4))?,
+                    places: word_in(own, 12) as usize,
+                    entries: target(pos + 16, word_in(own, 16))?,
+                }),
+            };
+            View::Kept { index, count }
+        }
         _ => return None,
     })
 }
 
-fn view_at(bytes: &[u8], pos: usize) -> Option<View> {
+pub fn view_at(bytes: &[u8], pos: usize) -> Option<View> {
     view(bytes.get(pos..)?.first_chunk()?, pos)
 }
 
@@ -302,7 +348,8 @@ impl Check<'_> {
             _ if depth == MOST => None,
             View::Maybe(None)
             | View::Ordered { root: None, .. }
-            | View::Hashed { table: None, .. } => Some(()),
+            | View::Hashed { table: None, .. }
+            | View::Kept { index: None, .. } => Some(()),
             View::Maybe(Some(inside)) => self.nodes(inside, 1, end, depth + 1),
             View::List { first, count } => self.nodes(first, count, end, depth + 1),
             View::Ordered {
@@ -313,6 +360,10 @@ impl Check<'_> {
                 table: Some(table),
                 count,
             } => self.table(table, count, end, depth + 1),
+            View::Kept {
+                index: Some(index),
+                count,
+            } => self.index(index, count, end, depth + 1),
         }
     }
 
@@ -350,7 +401,7 @@ impl Check<'_> {
 pub struct Archive {
     pub bytes: Vec<u8>,
     pub is_edited: bool,
-    root: usize,
+    pub root: usize,
 }
 
 impl Archive {
@@ -385,6 +436,9 @@ impl Archive {
                 }
                 (View::Hashed { table, .. }, Step::Key(key)) => {
                     find_in_table(&self.bytes, table, key)?
+                }
+                (View::Kept { index, .. }, Step::Key(key)) => {
+                    find_in_index(&self.bytes, index, key)?
                 }
                 _ => return None,
             };

@@ -1,7 +1,7 @@
 //! Hashed maps of archived documents in plain Rust: hash tables in first fit, written, checked and searched.
 
 use crate::plain_archive::{
-    ALIGN, ArchiveWriter, Check, NODE, TEXT, own_bytes, part, text_bytes, view_text,
+    ALIGN, ArchiveWriter, Check, NODE, TEXT, Target, own_bytes, part, text_bytes, view_text,
 };
 use crate::plain_probing::{
     EMPTY, Strides, capacity, control_count, hash_of, scan, tag_of, take_place, wrapped,
@@ -35,7 +35,7 @@ impl<'a> ArchiveWriter<'a> {
         let mut there = vec![None; places];
         for (key, node) in pairs {
             let place = take_place(&mut controls, places, hash_of(key));
-            there[place.ok_or("the table has no place")?] = Some((key, node, 0, 0));
+            there[place.ok_or("the table has no place")?] = Some((key, node, 0, Target::default()));
         }
         for (key, node, of_key, of_node) in there.iter_mut().flatten() {
             *of_key = self.put_text(key)?;
@@ -98,7 +98,8 @@ impl Check<'_> {
     }
 }
 
-fn key_at(bytes: &[u8], at: usize) -> Option<&[u8]> {
+/// Returns the key of the pair at a position.
+pub fn key_at(bytes: &[u8], at: usize) -> Option<&[u8]> {
     bytes.get(view_text(part(&bytes[at..], 0), at)?)
 }
 
@@ -128,4 +129,13 @@ pub fn find_in_table(bytes: &[u8], table: Option<Table>, query: &str) -> Option<
     let table = table?;
     let place = find_place(bytes, table, hash_of(query), query.as_bytes())?;
     Some(table.pair(place) + TEXT)
+}
+
+/// Returns the positions of the pairs, by ascending place.
+pub fn positions(bytes: &[u8], table: Option<Table>) -> impl Iterator<Item = usize> {
+    table.into_iter().flat_map(move |table| {
+        (0..table.places)
+            .filter(move |place| bytes[table.controls + place] < 128)
+            .map(move |place| table.pair(place))
+    })
 }

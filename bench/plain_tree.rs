@@ -1,7 +1,7 @@
 //! Ordered maps of archived documents in plain Rust: packed search trees, written, checked, searched and walked.
 
 use crate::plain_archive::{
-    ALIGN, ArchiveWriter, Check, NODE, NOTHING, TEXT, offset, own_bytes, part, target, text_bytes,
+    ALIGN, ArchiveWriter, Check, NODE, NOTHING, TEXT, Target, offset, own_bytes, part, target, text_bytes,
     view_text, word_in,
 };
 use crate::{Node, Pairs, Refusal};
@@ -40,7 +40,7 @@ impl<'a> ArchiveWriter<'a> {
         entries: &[Entry<'a>],
         children: &[Option<u32>],
     ) -> Result<u32, Refusal> {
-        let mut targets = [(0, 0); MOST];
+        let mut targets = [(0, Target::default()); MOST];
         for (targets, (key, value)) in targets.iter_mut().zip(entries) {
             *targets = (self.put_text(key)?, self.put_data(value)?);
         }
@@ -260,7 +260,8 @@ pub fn find_key(bytes: &[u8], root: Option<usize>, query: &[u8]) -> Option<usize
     }
 }
 
-/// A walk over the keys of a tree: the nodes from the root down to one, each with the index of its next entry.
+/// A walk over the entries of a tree, each a key and the position of its value: the nodes from the root down to one, each
+/// with the index of its next entry.
 pub struct Walk<'a> {
     bytes: &'a [u8],
     stack: [(usize, usize); MOST_LEVELS],
@@ -289,14 +290,14 @@ impl<'a> Walk<'a> {
         }
     }
 
-    /// Returns a walk over all keys.
+    /// Returns a walk over all entries.
     pub fn all(bytes: &'a [u8], root: Option<usize>) -> Self {
         let mut walk = Walk::new(bytes);
         walk.descend(root.map(|root| TreeNode::at(bytes, root)));
         walk
     }
 
-    /// Returns a walk over the keys that are not below another.
+    /// Returns a walk over the entries whose keys are not below another.
     pub fn from(bytes: &'a [u8], root: Option<usize>, low: &[u8]) -> Self {
         let mut walk = Walk::new(bytes);
         let mut at = root.map(|root| TreeNode::at(bytes, root));
@@ -311,9 +312,9 @@ impl<'a> Walk<'a> {
 }
 
 impl<'a> Iterator for Walk<'a> {
-    type Item = &'a [u8];
+    type Item = (&'a [u8], usize);
 
-    fn next(&mut self) -> Option<&'a [u8]> {
+    fn next(&mut self) -> Option<(&'a [u8], usize)> {
         while let Some((pos, next)) = self.stack[..self.depth].last_mut() {
             let (node, i) = (TreeNode::at(self.bytes, *pos), *next);
             if i == count(node.own) {
@@ -322,7 +323,7 @@ impl<'a> Iterator for Walk<'a> {
             }
             *next += 1;
             self.descend(node.child(i + 1));
-            return Some(node.key(i));
+            return Some((node.key(i), node.pos + value_place(i)));
         }
         None
     }
