@@ -3,9 +3,7 @@ mod arrays;
 mod boxed_slices;
 mod boxes;
 mod layouts;
-mod options;
 mod results;
-mod slices;
 mod tuples;
 mod vectors;
 

@@ -1,6 +1,5 @@
 //! Tests of values that are read back.
 mod texts;
-mod unsized_values;
 mod values;
 
 use crate::narrow_context::NarrowContext;

@@ -5,7 +5,3 @@ pub mod list;
 #[cfg(test)]
 mod reading_back;
 pub mod tree;
-#[cfg(test)]
-mod trees;
-#[cfg(test)]
-mod writing;

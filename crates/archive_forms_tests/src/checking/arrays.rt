@@ -1,7 +1,7 @@
 //! Tests of the check of arrays.
 use super::check_alone;
-use archive_forms_values::{ArchivedOption, ArchivedTuple2};
-use archive_shape::{ArchivedU16, Error, Portable};
+use archive_forms_values::ArchivedOption;
+use archive_shape::Error;
 
 #[test]
 fn arrays_refuse_the_first_bad_element(rt: HostRuntime) {
@@ -16,28 +16,5 @@ fn arrays_refuse_the_first_bad_element(rt: HostRuntime) {
             result,
             "{bytes:?}"
         );
-    }
-}
-
-#[test]
-fn array_without_elements_is_accepted(rt: HostRuntime) {
-    assert!(rt; check_alone::<[bool; 0]>(rt.alloc(), b"\x02", 1, 0) == Ok(()));
-}
-
-#[test]
-fn arrays_have_the_size_of_their_elements(rt: HostRuntime) {
-    let rows = [
-        (<[ArchivedU16; 3]>::SIZE, <[ArchivedU16; 3]>::ALIGN, 6, 2),
-        (
-            <[ArchivedTuple2<ArchivedU16, u8>; 2]>::SIZE,
-            <[ArchivedTuple2<ArchivedU16, u8>; 2]>::ALIGN,
-            8,
-            2,
-        ),
-        (<[ArchivedU16; 0]>::SIZE, <[ArchivedU16; 0]>::ALIGN, 0, 2),
-    ];
-    for (size, align, wanted_size, wanted_align) in rows {
-        assert!(rt; size == wanted_size);
-        assert!(rt; align == wanted_align);
     }
 }

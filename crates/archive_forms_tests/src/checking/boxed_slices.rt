@@ -1,38 +1,7 @@
 //! Tests of the check of boxes of slices and of texts.
 use super::check_alone;
 use archive_forms_values::{ArchivedBoxedSlice, ArchivedBoxedStr};
-use archive_shape::{ArchivedU16, Error};
-
-#[test]
-fn boxes_of_two_numbers(rt: HostRuntime) {
-    let two = *b"\x01\0\x02\0\xfc\xff\xff\xff\x02\0\0\0";
-    let rows = [
-        (two, 1, Ok(())),
-        (two, 0, Err(Error::ExceededMaximumSubtreeDepth)),
-        (
-            *b"\x01\0\x02\0\xfd\xff\xff\xff\x02\0\0\0",
-            1,
-            Err(Error::Unaligned { align: 2 }),
-        ),
-        (
-            *b"\x01\0\x02\0\xfc\xff\xff\xff\x07\0\0\0",
-            1,
-            Err(Error::InvalidSubtreePointer { size: 14 }),
-        ),
-        (
-            *b"\x01\0\x02\0\xfb\xff\xff\xff\x02\0\0\0",
-            1,
-            Err(Error::InvalidSubtreePointer { size: 4 }),
-        ),
-    ];
-    for (bytes, most, result) in rows {
-        assert_eq!(rt;
-            check_alone::<ArchivedBoxedSlice<ArchivedU16>>(rt.alloc(), &bytes, 4, most),
-            result,
-            "{bytes:?}"
-        );
-    }
-}
+use archive_shape::Error;
 
 #[test]
 fn boxes_of_truth_values(rt: HostRuntime) {
@@ -65,27 +34,28 @@ fn boxes_of_texts(rt: HostRuntime) {
             Err(Error::InvalidUtf8),
         ),
         (*b"...hell\xc3\xfb\xff\xff\xff\x04\0\0\0", 1, Ok(())),
+        (
+            *b"...hello\xfb\xff\xff\xff\x0e\0\0\0",
+            1,
+            Err(Error::InvalidSubtreePointer { size: 14 }),
+        ),
+        (
+            *b"...hello\xf7\xff\xff\xff\x05\0\0\0",
+            1,
+            Err(Error::InvalidSubtreePointer { size: 5 }),
+        ),
+        (
+            *b"...hello\xfb\xff\xff\xff\xff\xff\xff\xff",
+            1,
+            Err(Error::InvalidSubtreePointer {
+                size: 4_294_967_295,
+            }),
+        ),
     ];
     for (bytes, most, result) in rows {
         assert_eq!(rt;
             check_alone::<ArchivedBoxedStr>(rt.alloc(), &bytes, 8, most),
             result,
-            "{bytes:?}"
-        );
-    }
-}
-
-#[test]
-fn boxes_of_texts_out_of_range(rt: HostRuntime) {
-    let rows = [
-        (*b"...hello\xfb\xff\xff\xff\x0e\0\0\0", 14),
-        (*b"...hello\xf7\xff\xff\xff\x05\0\0\0", 5),
-        (*b"...hello\xfb\xff\xff\xff\xff\xff\xff\xff", 4_294_967_295),
-    ];
-    for (bytes, size) in rows {
-        assert_eq!(rt;
-            check_alone::<ArchivedBoxedStr>(rt.alloc(), &bytes, 8, 1),
-            Err(Error::InvalidSubtreePointer { size }),
             "{bytes:?}"
         );
     }

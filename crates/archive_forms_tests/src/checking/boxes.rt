@@ -1,8 +1,7 @@
 //! Tests of the check of boxes.
 use super::check_alone;
-use crate::narrow_context::NarrowContext;
-use archive_forms_values::{ArchivedBox, ArchivedOption};
-use archive_shape::{ArchiveContext, ArchivedI32, CheckBytes, Error};
+use archive_forms_values::ArchivedBox;
+use archive_shape::{ArchivedI32, Error};
 
 #[test]
 fn boxes_of_a_number(rt: HostRuntime) {
@@ -69,25 +68,4 @@ fn boxes_in_boxes(rt: HostRuntime) {
             "{bytes:?}"
         );
     }
-}
-
-#[test]
-fn fault_of_a_boxed_value(rt: HostRuntime) {
-    let bytes = b"\x02\x09\0\0\xfc\xff\xff\xff";
-    assert!(rt;
-        check_alone::<ArchivedBox<ArchivedOption<u8>>>(rt.alloc(), bytes, 4, 1)
-            == Err(Error::InvalidTag)
-    );
-}
-
-#[test]
-fn checked_value_is_not_claimed_again(rt: HostRuntime) {
-    let alloc = rt.alloc();
-    let bytes = b"\x07\0\0\0\xfc\xff\xff\xff";
-    let mut context = NarrowContext::new(alloc, bytes.len(), 1);
-    assert!(rt; ArchivedBox::<ArchivedI32>::check(alloc, bytes, 4, &mut context) == Ok(()));
-    assert!(rt; context.check_subtree_ptr(4, 4, 4) == Ok(()));
-    assert!(rt;
-        context.check_subtree_ptr(3, 1, 1) == Err(Error::InvalidSubtreePointer { size: 1 })
-    );
 }

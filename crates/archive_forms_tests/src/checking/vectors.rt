@@ -35,25 +35,6 @@ fn vectors_of_two_numbers(rt: HostRuntime) {
 }
 
 #[test]
-fn vectors_of_truth_values(rt: HostRuntime) {
-    let rows = [
-        (*b"\x01\0\x01\0\xfc\xff\xff\xff\x03\0\0\0", Ok(())),
-        (
-            *b"\x01\0\x02\0\xfc\xff\xff\xff\x03\0\0\0",
-            Err(Error::InvalidTag),
-        ),
-        (*b"\x02\0\0\0\xfc\xff\xff\xff\0\0\0\0", Ok(())),
-    ];
-    for (bytes, result) in rows {
-        assert_eq!(rt;
-            check_alone::<ArchivedVec<bool>>(rt.alloc(), &bytes, 4, 1),
-            result,
-            "{bytes:?}"
-        );
-    }
-}
-
-#[test]
 fn sizes_of_long_vectors(rt: HostRuntime) {
     let rows = [
         (
@@ -71,27 +52,6 @@ fn sizes_of_long_vectors(rt: HostRuntime) {
         assert_eq!(rt;
             check_alone::<ArchivedVec<ArchivedU128>>(rt.alloc(), &bytes, 0, 1),
             Err(error),
-            "{bytes:?}"
-        );
-    }
-}
-
-#[test]
-fn vectors_in_vectors(rt: HostRuntime) {
-    let rows = [
-        (
-            *b"\x01\0\0\0\xfc\xff\xff\xff\x02\0\0\0\xf8\xff\xff\xff\x01\0\0\0",
-            Ok(()),
-        ),
-        (
-            *b"\x02\0\0\0\xfc\xff\xff\xff\x02\0\0\0\xf8\xff\xff\xff\x01\0\0\0",
-            Err(Error::InvalidTag),
-        ),
-    ];
-    for (bytes, result) in rows {
-        assert_eq!(rt;
-            check_alone::<ArchivedVec<ArchivedVec<bool>>>(rt.alloc(), &bytes, 12, 2),
-            result,
             "{bytes:?}"
         );
     }

@@ -15,23 +15,3 @@ fn value_of_a_result_stands_at_the_greater_alignment(rt: HostRuntime) -> Result<
     assert!(rt; position(items.next()) == Some(4));
     Ok(())
 }
-
-#[test]
-fn error_of_a_result_is_no_value(rt: HostRuntime) -> Result<(), Fail> {
-    let bytes = b"\x01\0\0\0\x05\0\0\0";
-    let err = checked::<ArchivedResult<u8, ArchivedU32>>(rt.alloc(), bytes, 0)?;
-    assert!(rt; ArchivedResult::is_err(err));
-    assert!(rt; position(ArchivedResult::ok(err)) == None);
-    assert!(rt; ArchivedResult::unwrap_or_else(err, |e| Ref::new(e.bytes(), 0)).pos() == 0);
-    Ok(())
-}
-
-#[test]
-#[tactic(auto, using(archive_forms_values::proofs::Payloads::has_ok))]
-fn value_of_a_result_is_unwrapped(rt: HostRuntime) -> Result<(), Fail> {
-    let result = checked::<ArchivedResult<u8, u8>>(rt.alloc(), b"\0\x05", 0)?;
-    if ArchivedResult::is_ok(result) {
-        assert!(rt; ArchivedResult::unwrap(result).pos() == 1);
-    }
-    Ok(())
-}

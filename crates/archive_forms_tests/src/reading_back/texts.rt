@@ -4,14 +4,6 @@ use archive_forms_values::{ArchivedOption, ArchivedString};
 use std::test::Fail;
 
 #[test]
-fn text_inline_is_read_back(rt: HostRuntime) -> Result<(), Fail> {
-    let bytes = b"\0\0\0\0world\xff\xff\xff";
-    let text = read_back::<String, ArchivedString>(rt.alloc(), bytes, 4, 0)?;
-    assert!(rt; text.as_str() == "world");
-    Ok(())
-}
-
-#[test]
 fn text_out_of_line_is_read_back(rt: HostRuntime) -> Result<(), Fail> {
     let bytes = b"123456789\0\0\0\x89\0\0\0\xf4\xff\xff\xff";
     let text = read_back::<String, ArchivedString>(rt.alloc(), bytes, 12, 1)?;

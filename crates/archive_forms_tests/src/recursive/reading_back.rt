@@ -15,13 +15,6 @@ fn list_of_lists_is_read_back(rt: HostRuntime) -> Result<(), Fail> {
 }
 
 #[test]
-fn list_that_ends_is_read_back(rt: HostRuntime) -> Result<(), Fail> {
-    let list = read_back::<List, ArchivedList>(rt.alloc(), &[0; 8], 0, 0)?;
-    assert!(rt; list.next.is_none());
-    Ok(())
-}
-
-#[test]
 fn tree_of_three_levels_is_read_back(rt: HostRuntime) -> Result<(), Fail> {
     let alloc = rt.alloc();
     let bytes =

@@ -3,7 +3,7 @@ ghost use Rattle.std.specs.Prelude.{◌+◌, ◌≤◌, length};
 
 use crate::narrow_context::NarrowContext;
 use archive_forms_values::ArchivedString;
-use archive_shape::{ArchiveContext, CheckBytes, Error};
+use archive_shape::{CheckBytes, Error};
 use std::alloc::Global;
 
 /// Checks the text at `pos` in a new context of the whole buffer, in which at most `most` pushes nest.
@@ -22,18 +22,33 @@ fn twelve_bytes_and(offset: u8) -> [u8; 20] {
 }
 
 #[test]
-fn texts_inline(rt: HostRuntime) {
+fn texts_by_their_own_bytes(rt: HostRuntime) {
     let alloc = rt.alloc();
     let rows = [
-        (*b"world\xff\xff\xff", Ok(())),
-        ([0xff; 8], Ok(())),
-        (*b"12345678", Ok(())),
-        (*b"\xfeorld\xff\xff\xff", Err(Error::InvalidUtf8)),
-        (*b"worl\xc3\xff\xff\xff", Err(Error::InvalidUtf8)),
-        (*b"\xc0\x80orld\xff\xff", Err(Error::InvalidUtf8)),
+        (*b"world\xff\xff\xff", 0, Ok(())),
+        ([0xff; 8], 0, Ok(())),
+        (*b"12345678", 0, Ok(())),
+        (*b"\xfeorld\xff\xff\xff", 0, Err(Error::InvalidUtf8)),
+        (*b"worl\xc3\xff\xff\xff", 0, Err(Error::InvalidUtf8)),
+        (*b"\xc0\x80orld\xff\xff", 0, Err(Error::InvalidUtf8)),
+        (
+            *b"\x81\0\0\0\xf8\xff\xff\xff",
+            1,
+            Err(Error::CheckStringRepr),
+        ),
+        (
+            *b"\x80\x01\0\0\xff\xff\xff\xff",
+            1,
+            Err(Error::InvalidSubtreePointer { size: 64 }),
+        ),
+        (
+            *b"\xbf\xff\xff\xff\0\0\0\0",
+            1,
+            Err(Error::InvalidSubtreePointer { size: 0x3fff_ffff }),
+        ),
     ];
-    for (own, result) in rows {
-        assert_eq!(rt; check_alone(alloc, &own, 0, 0), result, "{own:?}");
+    for (own, most, result) in rows {
+        assert_eq!(rt; check_alone(alloc, &own, 0, most), result, "{own:?}");
     }
     assert!(rt; check_alone(alloc, b".\xc3\xa9\xff\xff\xff\xff\xff\xff", 1, 0) == Ok(()));
 }
@@ -54,45 +69,9 @@ fn texts_out_of_line(rt: HostRuntime) {
         check_alone(alloc, b"hello\xff world\x8c\0\0\0\xf4\xff\xff\xff", 12, 1)
             == Err(Error::InvalidUtf8)
     );
-}
-
-#[test]
-fn faults_of_own_bytes(rt: HostRuntime) {
-    let alloc = rt.alloc();
-    let rows = [
-        (*b"\x81\0\0\0\xf8\xff\xff\xff", Error::CheckStringRepr),
-        (
-            *b"\x80\x01\0\0\xff\xff\xff\xff",
-            Error::InvalidSubtreePointer { size: 64 },
-        ),
-        (
-            *b"\xbf\xff\xff\xff\0\0\0\0",
-            Error::InvalidSubtreePointer { size: 0x3fff_ffff },
-        ),
-    ];
-    for (own, error) in rows {
-        assert_eq!(rt; check_alone(alloc, &own, 0, 1), Err(error), "{own:?}");
-    }
-}
-
-#[test]
-fn shortest_text_out_of_line(rt: HostRuntime) {
-    let alloc = rt.alloc();
     assert!(rt;
         check_alone(alloc, b"12345678\x88\0\0\0\xf8\xff\xff\xff", 8, 1)
             == Err(Error::CheckStringRepr)
     );
     assert!(rt; check_alone(alloc, b"123456789...\x89\0\0\0\xf4\xff\xff\xff", 12, 1) == Ok(()));
-}
-
-#[test]
-fn checked_text_is_not_claimed_again(rt: HostRuntime) {
-    let alloc = rt.alloc();
-    let bytes = twelve_bytes_and(0xf4);
-    let mut context = NarrowContext::new(alloc, bytes.len(), 1);
-    assert!(rt; ArchivedString::check(alloc, &bytes, 12, &mut context) == Ok(()));
-    assert!(rt; context.check_subtree_ptr(12, 8, 4) == Ok(()));
-    assert!(rt;
-        context.check_subtree_ptr(11, 1, 1) == Err(Error::InvalidSubtreePointer { size: 1 })
-    );
 }

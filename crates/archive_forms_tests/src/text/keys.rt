@@ -29,14 +29,6 @@ fn keys_inline(rt: HostRuntime) -> Result<(), Fail> {
 }
 
 #[test]
-fn empty_key(rt: HostRuntime) -> Result<(), Fail> {
-    let empty = checked(rt.alloc(), &[0xff; 8], 0)?;
-    assert!(rt; compared(&empty, "") == (true, Ordering::Equal));
-    assert!(rt; compared(&empty, "a") == (false, Ordering::Less));
-    Ok(())
-}
-
-#[test]
 fn keys_out_of_line(rt: HostRuntime) -> Result<(), Fail> {
     let bytes = b"hello world!........\x8c\0\0\0\xec\xff\xff\xff";
     let hello = checked(rt.alloc(), bytes, 20)?;

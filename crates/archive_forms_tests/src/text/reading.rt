@@ -1,7 +1,6 @@
 //! Tests of the reading of texts.
 use super::checked::checked;
 use archive_forms_values::{ArchivedString, ArchivedStringRepr};
-use archive_shape::{NoUndef, Portable, Shape};
 use std::test::Fail;
 
 #[test]
@@ -56,32 +55,6 @@ fn offsets_of_texts(rt: HostRuntime) {
 }
 
 #[test]
-fn text_inline_is_read(rt: HostRuntime) -> Result<(), Fail> {
-    let world = checked(rt.alloc(), b"world\xff\xff\xff", 0)?;
-    assert!(rt; ArchivedString::as_str(world) == "world");
-    assert!(rt; ArchivedString::as_bytes(world) == "world".as_bytes());
-    assert!(rt; ArchivedString::len(world) == 5);
-    assert!(rt; !ArchivedString::is_empty(world));
-    Ok(())
-}
-
-#[test]
-fn full_text_inline_is_read(rt: HostRuntime) -> Result<(), Fail> {
-    let full = checked(rt.alloc(), b"..12345678", 2)?;
-    assert!(rt; ArchivedString::as_str(full) == "12345678");
-    assert!(rt; ArchivedString::len(full) == 8);
-    Ok(())
-}
-
-#[test]
-fn empty_text_is_read(rt: HostRuntime) -> Result<(), Fail> {
-    let empty = checked(rt.alloc(), &[0xff; 8], 0)?;
-    assert!(rt; ArchivedString::as_str(empty) == "");
-    assert!(rt; ArchivedString::is_empty(empty));
-    Ok(())
-}
-
-#[test]
 fn text_out_of_line_is_read(rt: HostRuntime) -> Result<(), Fail> {
     let bytes = b"hello world!........\x8c\0\0\0\xec\xff\xff\xff";
     let hello = checked(rt.alloc(), bytes, 20)?;
@@ -89,24 +62,7 @@ fn text_out_of_line_is_read(rt: HostRuntime) -> Result<(), Fail> {
     assert!(rt; ArchivedString::as_bytes(hello) == "hello world!".as_bytes());
     assert!(rt; ArchivedString::len(hello) == 12);
     assert!(rt; !ArchivedString::is_empty(hello));
-    Ok(())
-}
-
-#[test]
-fn text_after_its_own_bytes_is_read(rt: HostRuntime) -> Result<(), Fail> {
     let ahead = checked(rt.alloc(), b"\x89\0\0\0\x08\0\0\0123456789", 0)?;
     assert!(rt; ArchivedString::as_str(ahead) == "123456789");
-    Ok(())
-}
-
-fn size_without_undef<T: NoUndef + Portable>() -> usize {
-    T::SIZE
-}
-
-#[test]
-fn layout_of_texts(rt: HostRuntime) -> Result<(), Fail> {
-    assert!(rt; size_without_undef::<ArchivedString>() == 8);
-    assert!(rt; ArchivedString::ALIGN == 4);
-    assert!(rt; matches!(ArchivedString::shape(rt.alloc())?, Shape::Text));
     Ok(())
 }

@@ -76,18 +76,12 @@ fn a_slice_is_resolved_as_a_vector(rt: HostRuntime) {
 }
 
 #[test]
-fn entries_with_padding(rt: HostRuntime) -> Result<(), Fail> {
+fn entries_of_numbers_and_of_a_text(rt: HostRuntime) -> Result<(), Fail> {
     let alloc = rt.alloc();
     let entry = EntryAdapter::new(&7u8, &258u32);
     assert!(rt; is_archived_as(alloc, &entry, b"\x07\0\0\0\x02\x01\0\0"));
     let entry = EntryAdapter::new(&258u32, &7u8);
     assert!(rt; is_archived_as(alloc, &entry, b"\x02\x01\0\0\x07\0\0\0"));
-    Ok(())
-}
-
-#[test]
-fn entry_of_a_text_out_of_line_and_a_number(rt: HostRuntime) -> Result<(), Fail> {
-    let alloc = rt.alloc();
     let key = String::from_str(alloc, "123456789")?;
     let entry = EntryAdapter::new(&key, &5u16);
     assert!(rt;

@@ -1,40 +1,29 @@
 //! Tests of numbers, truth values, chars and the unit type that are archived.
 use super::is_archived_as;
 use std::marker::PhantomData;
-use std::num::{NonZeroI16, NonZeroI64, NonZeroU8, NonZeroU32, NonZeroU128};
+use std::num::{NonZeroI64, NonZeroU8, NonZeroU128};
 
 #[test]
-fn signed_numbers(rt: HostRuntime) {
+fn numbers_chars_truth_values_and_units(rt: HostRuntime) {
     let alloc = rt.alloc();
-    assert!(rt; is_archived_as(alloc, &-2i8, b"\xfe"));
     assert!(rt; is_archived_as(alloc, &-2i16, b"\xfe\xff"));
-    assert!(rt; is_archived_as(alloc, &-2i32, b"\xfe\xff\xff\xff"));
-    assert!(rt; is_archived_as(alloc, &-2i64, b"\xfe\xff\xff\xff\xff\xff\xff\xff"));
     let wide = b"\xfe\xff\xff\xff\xff\xff\xff\xff\xff\xff\xff\xff\xff\xff\xff\xff";
     assert!(rt; is_archived_as(alloc, &-2i128, wide));
+    assert!(rt; is_archived_as(alloc, &'\u{1f600}', b"\0\xf6\x01\0"));
+    assert!(rt; is_archived_as(alloc, &true, b"\x01"));
+    assert!(rt; is_archived_as(alloc, &(), b""));
+    let mark: PhantomData<u32> = PhantomData;
+    assert!(rt; is_archived_as(alloc, &mark, b""));
 }
 
 #[test]
 fn numbers_without_0(rt: HostRuntime) {
     let alloc = rt.alloc();
     assert!(rt; is_archived_as(alloc, &NonZeroU8::new(3), b"\x01\x03"));
-    assert!(rt; is_archived_as(alloc, &NonZeroI16::new(-2), b"\x01\0\xfe\xff"));
-    assert!(rt; is_archived_as(alloc, &NonZeroU32::new(0), b"\0\0\0\0\0\0\0\0"));
     let tagged = b"\x01\0\0\0\0\0\0\0\x02\x01\0\0\0\0\0\0";
     assert!(rt; is_archived_as(alloc, &NonZeroI64::new(258), tagged));
     let zeros = [0; 32];
     assert!(rt; is_archived_as(alloc, &NonZeroU128::new(0), &zeros));
-}
-
-#[test]
-fn chars_truth_values_and_units(rt: HostRuntime) {
-    let alloc = rt.alloc();
-    assert!(rt; is_archived_as(alloc, &'\u{1f600}', b"\0\xf6\x01\0"));
-    assert!(rt; is_archived_as(alloc, &true, b"\x01"));
-    assert!(rt; is_archived_as(alloc, &false, b"\0"));
-    assert!(rt; is_archived_as(alloc, &(), b""));
-    let mark: PhantomData<u32> = PhantomData;
-    assert!(rt; is_archived_as(alloc, &mark, b""));
 }
 
 #[test]

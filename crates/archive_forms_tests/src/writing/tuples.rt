@@ -3,7 +3,7 @@ use super::is_archived_as;
 use std::test::Fail;
 
 #[test]
-fn a_tuple_of_four_with_padding_between_and_behind(rt: HostRuntime) {
+fn tuples_with_and_without_padding(rt: HostRuntime) {
     let four = (1u8, 0x0504_0302u32, 0x0706u16, 8u8);
     assert!(rt;
         is_archived_as(
@@ -12,10 +12,6 @@ fn a_tuple_of_four_with_padding_between_and_behind(rt: HostRuntime) {
             b"\x01\0\0\0\x02\x03\x04\x05\x06\x07\x08\0"
         )
     );
-}
-
-#[test]
-fn a_tuple_of_three_and_one_of_one(rt: HostRuntime) {
     let three = (1u8, true, 0x0302i16);
     assert!(rt; is_archived_as(rt.alloc(), &three, b"\x01\x01\x02\x03"));
     let one = (5u16,);

@@ -1,4 +1,4 @@
-//! Tests of boxes of borrowed values, slices and texts.
+//! Tests of boxes of borrowed values and slices.
 ghost use Rattle.std.specs.Prelude.{◌≡◌, ◌≤◌};
 ghost use Rattle.archive_shape_layout.specs.Shape.{size_of};
 ghost use Rattle.archive_shape_layout.specs.Shape.Shape.{box};
@@ -48,11 +48,4 @@ fn a_box_of_a_slice(rt: HostRuntime) {
         )
     );
     assert!(rt; own == *b"\xf8\xff\xff\xff\x03\0\0\0");
-}
-
-#[test]
-fn a_box_of_a_text(rt: HostRuntime) {
-    let mut own = [0u8; 8];
-    assert!(rt; is_boxed_behind(rt.alloc(), &"hello", b"hello", &mut own[..]));
-    assert!(rt; own == *b"\xf8\xff\xff\xff\x05\0\0\0");
 }
