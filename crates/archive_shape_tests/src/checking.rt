@@ -1,4 +1,4 @@
 //! Tests of checks.
 mod contexts;
 mod leaves;
-mod list_context;
+mod range_context;

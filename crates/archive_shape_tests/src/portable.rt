@@ -1,7 +1,6 @@
 //! Tests of archived numbers, chars and bools, and of the layouts of their types.
 mod chars;
 mod layouts;
-mod native;
 mod numbers;
 mod one_byte;
 mod without_0;

@@ -1,9 +1,7 @@
 //! Tests of pointers to sized types.
 #![tactic(auto, unfolding(archive_shape_layout::specs::Bytes::align_up))]
 
-use archive_shape::{
-    ArchivedI32, ArchivedI64, ArchivedU16, ArchivedU64, Place, Portable, Ref, RelPtr,
-};
+use archive_shape::{ArchivedI32, ArchivedI64, ArchivedU64, Place, Ref, RelPtr};
 use archive_shape_writing::Error;
 use std::test::Fail;
 
@@ -28,7 +26,7 @@ fn pointers_fit_up_to_both_ends(rt: HostRuntime) -> Result<(), Fail> {
 }
 
 #[test]
-fn pointers_are_written_forwards_and_backwards(rt: HostRuntime) -> Result<(), Fail> {
+fn pointers_lead_forwards_and_backwards(rt: HostRuntime) -> Result<(), Fail> {
     type Pointer = RelPtr<ArchivedI64, ArchivedI32>;
     let mut bytes = [9u8; 20];
     for pos in [0, 16] {
@@ -41,17 +39,7 @@ fn pointers_are_written_forwards_and_backwards(rt: HostRuntime) -> Result<(), Fa
                 8, 0, 0, 0, 9, 9, 9, 9, 9, 9, 9, 9, 9, 9, 9, 9, 0xf8, 0xff, 0xff, 0xff
             ]
     );
-    Ok(())
-}
-
-#[test]
-fn pointers_lead_forwards_and_backwards(rt: HostRuntime) -> Result<(), Fail> {
-    type Pointer = RelPtr<ArchivedI64, ArchivedI32>;
-    let bytes = [
-        8, 0, 0, 0, 9, 9, 9, 9, 9, 9, 9, 9, 9, 9, 9, 9, 0xf8, 0xff, 0xff, 0xff,
-    ];
     let forwards: Ref<'_, Pointer> = Ref::new(&bytes, 0);
-    assert!(rt; RelPtr::offset(forwards) == 8);
     assert!(rt; RelPtr::target(forwards) == Some(8));
     let backwards: Ref<'_, Pointer> = Ref::new(&bytes, 16);
     assert!(rt; RelPtr::base(backwards) == 16);
@@ -75,34 +63,5 @@ fn offsets_from_2_to_the_63rd_on_are_less_2_to_the_64th(rt: HostRuntime) -> Resu
     let pointer: Ref<'_, Pointer> = Ref::new(&bytes, 8);
     assert!(rt; RelPtr::offset(pointer) == -3);
     assert!(rt; RelPtr::target(pointer) == Some(5));
-    Ok(())
-}
-
-#[test]
-fn targets_before_the_start_are_none(rt: HostRuntime) -> Result<(), Fail> {
-    type Pointer = RelPtr<ArchivedI64, i8>;
-    let bytes = [0u8, 0, 0, 0, 0, 0, 0, 0, 0xfd];
-    let within: Ref<'_, Pointer> = Ref::new(&bytes, 8);
-    assert!(rt; RelPtr::target(within) == Some(5));
-    let astray: Ref<'_, Pointer> = Ref::new(&[0xff], 0);
-    assert!(rt; RelPtr::target(astray) == None);
-    Ok(())
-}
-
-#[test]
-fn invalid_pointers_have_an_offset_of_1(rt: HostRuntime) -> Result<(), Fail> {
-    type Pointer = RelPtr<bool, u8>;
-    let mut bytes = [9u8; 3];
-    assert!(rt; Pointer::try_emplace_invalid(Place::within(&mut bytes, 1, 1)) == Ok(()));
-    assert!(rt; bytes == [9, 1, 9]);
-    assert!(rt; RelPtr::is_invalid(Ref::<Pointer>::new(&bytes, 1)));
-    assert!(rt; !RelPtr::is_invalid(Ref::<Pointer>::new(&bytes, 2)));
-    Ok(())
-}
-
-#[test]
-fn pointers_are_as_large_as_their_offsets(rt: HostRuntime) -> Result<(), Fail> {
-    assert_eq!(rt; <RelPtr<ArchivedI64, ArchivedU16> as Portable>::SIZE, 2);
-    assert_eq!(rt; <RelPtr<ArchivedI64, ArchivedU16> as Portable>::ALIGN, 2);
     Ok(())
 }

@@ -10,12 +10,7 @@ fn chars_by_their_codes(rt: HostRuntime) -> Result<(), Fail> {
     let wave = [0x4b, 0xf4, 1, 0];
     assert!(rt; ArchivedChar::accepts(&wave));
     assert!(rt; ArchivedChar::read(&wave) == '\u{1f44b}');
-    Ok(())
-}
-
-// The codes from d800 to dfff, and those from 110000 on, are not codes of chars.
-#[test]
-fn bytes_of_chars(rt: HostRuntime) -> Result<(), Fail> {
+    // The codes from d800 to dfff, and those from 110000 on, are not codes of chars.
     let rows = [
         ([0xff, 0xd7, 0, 0], true),
         ([0, 0xd8, 0, 0], false),

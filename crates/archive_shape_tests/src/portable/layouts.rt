@@ -4,7 +4,7 @@ use archive_shape::{
 };
 use std::alloc::{AllocError, Global};
 use std::marker::PhantomData;
-use std::num::{NonZeroI8, NonZeroU8, NonZeroU128};
+use std::num::NonZeroU128;
 use std::test::Fail;
 
 fn has_layout<T: Portable + NoUndef>(
@@ -26,25 +26,9 @@ fn nonzero(width: Width, signed: bool) -> Shape {
 }
 
 #[test]
-fn layouts_of_one_byte(rt: HostRuntime) -> Result<(), Fail> {
+fn layouts_of_at_most_one_byte(rt: HostRuntime) -> Result<(), Fail> {
     let alloc = rt.alloc();
-    assert!(rt; has_layout::<u8>(alloc, 1, 1, &number(Width::Bits8, false))?);
-    assert!(rt; has_layout::<i8>(alloc, 1, 1, &number(Width::Bits8, true))?);
     assert!(rt; has_layout::<bool>(alloc, 1, 1, &Shape::Truth)?);
-    Ok(())
-}
-
-#[test]
-fn layouts_of_one_byte_without_0(rt: HostRuntime) -> Result<(), Fail> {
-    let alloc = rt.alloc();
-    assert!(rt; has_layout::<NonZeroU8>(alloc, 1, 1, &nonzero(Width::Bits8, false))?);
-    assert!(rt; has_layout::<NonZeroI8>(alloc, 1, 1, &nonzero(Width::Bits8, true))?);
-    Ok(())
-}
-
-#[test]
-fn layouts_without_bytes(rt: HostRuntime) -> Result<(), Fail> {
-    let alloc = rt.alloc();
     assert!(rt; has_layout::<()>(alloc, 0, 1, &Shape::Tuple(Shapes::Empty))?);
     assert!(rt; has_layout::<PhantomData<u64>>(alloc, 0, 1, &Shape::Tuple(Shapes::Empty))?);
     Ok(())

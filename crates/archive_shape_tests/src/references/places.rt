@@ -57,27 +57,3 @@ fn elements_are_written_up_to_both_ends(rt: HostRuntime) -> Result<(), Fail> {
     assert!(rt; bytes == [1, 2, 0, 0, 5, 6]);
     Ok(())
 }
-
-#[test]
-fn wide_elements_stand_side_by_side(rt: HostRuntime) -> Result<(), Fail> {
-    let mut bytes = [9u8; 16];
-    let numbers = Place::<[ArchivedI64; 2]>::new(&mut bytes, 32);
-    let number = numbers.index(1);
-    assert!(rt; number.pos() == 40);
-    number.write(3);
-    assert!(rt; bytes[8] == 3);
-    Ok(())
-}
-
-#[test]
-fn fields_are_written_up_to_the_last_position(rt: HostRuntime) -> Result<(), Fail> {
-    let mut bytes = [1, 2, 0, 0, 5, 6];
-    let place = Place::<(u8, u8)>::within(&mut bytes, 3, usize::MAX - 2).field::<u8>(2);
-    assert!(rt; place.pos() == usize::MAX);
-    place.write(9);
-    Place::<(u8, u8)>::within(&mut bytes, 2, 34)
-        .field::<u8>(0)
-        .write(8);
-    assert!(rt; bytes == [1, 2, 8, 0, 5, 9]);
-    Ok(())
-}

@@ -7,17 +7,11 @@ use archive_shape_layout::{Shape, same_shape};
 use std::test::Fail;
 
 #[test]
-fn pointees_have_sizes_and_alignments(rt: HostRuntime) -> Result<(), Fail> {
+fn pointees_have_layouts_and_numbers_of_elements(rt: HostRuntime) -> Result<(), Fail> {
     assert!(rt; ArchivedI64::layout_raw(7) == Some((8, 8)));
     assert!(rt; Slice::<ArchivedU32>::layout_raw(3) == Some((12, 4)));
-    assert!(rt; Slice::<ArchivedU32>::layout_raw(0) == Some((0, 4)));
     assert!(rt; Slice::<ArchivedU32>::layout_raw(0x4000_0000_0000_0000) == None);
     assert!(rt; Str::layout_raw(5) == Some((5, 1)));
-    Ok(())
-}
-
-#[test]
-fn metadata_gives_the_number_of_elements(rt: HostRuntime) -> Result<(), Fail> {
     let bytes = [9, 0x2c, 1, 0, 0];
     let length = Ref::<ArchivedUsize>::new(&bytes, 1);
     assert!(rt; Slice::<bool>::pointer_metadata(&length) == 300);

@@ -28,19 +28,15 @@ fn pool<P: Pooling<u32>>(
 #[test]
 fn a_shared_value_is_written_once(rt: HostRuntime) -> Result<(), Fail> {
     let mut sharing = Slots::<usize>::new();
-    assert!(rt; sharing.start_sharing(1) == Ok(SharingState::Started));
-    assert!(rt; sharing.start_sharing(1) == Ok(SharingState::Pending));
-    assert!(rt; sharing.finish_sharing(1, 8) == Ok(()));
-    assert!(rt; sharing.start_sharing(1) == Ok(SharingState::Finished(8)));
-    assert!(rt; sharing.finish_sharing(2, 8) == Err(Error::NotStarted));
-    assert!(rt; sharing.finish_sharing(1, 8) == Err(Error::AlreadyFinished));
     let states = [
         SharingState::Started,
         SharingState::Pending,
-        SharingState::Finished(16),
+        SharingState::Finished(8),
     ];
-    assert!(rt; share(&mut &mut sharing, 2, 16) == Ok(states));
-    assert!(rt; sharing.start_sharing(2) == Ok(SharingState::Finished(16)));
+    assert!(rt; share(&mut &mut sharing, 1, 8) == Ok(states));
+    assert!(rt; sharing.start_sharing(1) == Ok(SharingState::Finished(8)));
+    assert!(rt; sharing.finish_sharing(2, 8) == Err(Error::NotStarted));
+    assert!(rt; sharing.finish_sharing(1, 8) == Err(Error::AlreadyFinished));
     assert!(rt; sharing.start_sharing(4) == Err(Error::OutOfMemory));
     Ok(())
 }
@@ -48,19 +44,15 @@ fn a_shared_value_is_written_once(rt: HostRuntime) -> Result<(), Fail> {
 #[test]
 fn a_shared_value_is_read_once(rt: HostRuntime) -> Result<(), Fail> {
     let mut pooling = Slots::<u32>::new();
-    assert!(rt; pooling.start_pooling(1) == Ok(PoolingState::Started));
-    assert!(rt; pooling.start_pooling(1) == Ok(PoolingState::Pending));
-    assert!(rt; pooling.finish_pooling(1, 300) == Ok(()));
-    assert!(rt; pooling.start_pooling(1) == Ok(PoolingState::Finished(300)));
-    assert!(rt; pooling.finish_pooling(2, 300) == Err(Error::NotStarted));
-    assert!(rt; pooling.finish_pooling(1, 300) == Err(Error::AlreadyFinished));
     let states = [
         PoolingState::Started,
         PoolingState::Pending,
-        PoolingState::Finished(7),
+        PoolingState::Finished(300),
     ];
-    assert!(rt; pool(&mut &mut pooling, 2, 7) == Ok(states));
-    assert!(rt; pooling.start_pooling(2) == Ok(PoolingState::Finished(7)));
+    assert!(rt; pool(&mut &mut pooling, 1, 300) == Ok(states));
+    assert!(rt; pooling.start_pooling(1) == Ok(PoolingState::Finished(300)));
+    assert!(rt; pooling.finish_pooling(2, 300) == Err(Error::NotStarted));
+    assert!(rt; pooling.finish_pooling(1, 300) == Err(Error::AlreadyFinished));
     assert!(rt; pooling.start_pooling(4) == Err(Error::OutOfMemory));
     Ok(())
 }

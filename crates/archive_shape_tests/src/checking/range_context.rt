@@ -1,0 +1,76 @@
+//! A context of checks, for tests, that keeps no shared positions.
+ghost use Rattle.std.specs.Prelude.{◌≡◌, None};
+
+use archive_shape::{ArchiveContext, Error, PushedRange};
+use std::alloc::Global;
+
+/// A range of which regions are claimed, with the pushes that are open.
+#[derive(Drop)]
+pub struct RangeContext {
+    start: usize,
+    end: usize,
+    most: usize,
+    pushes: Vec<PushedRange>,
+}
+
+impl RangeContext {
+    /// Creates a context of `len` bytes, in which at most `most` pushes nest.
+    pub fn new(alloc: Global, len: usize, most: usize) -> Self
+        ensures start { result.start ≡ 0 }
+        ensures end { result.end ≡ len }
+    {
+        RangeContext {
+            start: 0,
+            end: len,
+            most,
+            pushes: Vec::new(alloc),
+        }
+    }
+}
+
+impl ArchiveContext for RangeContext {
+    ghost kept = { λ c. record {
+      start = c.start;
+      end = c.end;
+      most = c.most;
+      pushes = c.pushes.items;
+      seen = λ _. None;
+    } };
+
+    fn check_subtree_ptr(&self, pos: usize, size: usize, align: usize) -> Result<(), Error> {
+        if pos < self.start || self.end < pos || self.end - pos < size {
+            return Err(Error::InvalidSubtreePointer { size });
+        }
+        if pos % align != 0 {
+            return Err(Error::Unaligned { align });
+        }
+        Ok(())
+    }
+
+    fn push_subtree_range(&mut self, pos: usize, end: usize) -> Result<PushedRange, Error> {
+        if self.most <= self.pushes.len() {
+            return Err(Error::ExceededMaximumSubtreeDepth);
+        }
+        let range = PushedRange {
+            pos,
+            end,
+            outer: self.end,
+        };
+        self.pushes.push(range)?;
+        self.end = pos;
+        Ok(range)
+    }
+
+    fn pop_subtree_range(&mut self, range: PushedRange) -> Result<(), Error> {
+        let Some(last) = self.pushes.last() else {
+            return Err(Error::RangePoppedTooManyTimes);
+        };
+        if *last != range {
+            return Err(Error::RangePoppedOutOfOrder);
+        }
+        self.pushes.pop();
+        self.start = range.end;
+        self.end = range.outer;
+        Ok(())
+    }
+}
