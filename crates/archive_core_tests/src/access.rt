@@ -10,13 +10,13 @@ use archive_forms_values::{ArchivedBox, ArchivedBoxedSlice, ArchivedOption, Arch
 use archive_shape::{ArchivedU32, CheckBytes, Error, Ref};
 use std::alloc::Global;
 
-pub(crate) type MaybeBytes = ArchivedOption<ArchivedBoxedSlice<u8>>;
+type MaybeBytes = ArchivedOption<ArchivedBoxedSlice<u8>>;
 
 type TwoSlices = [ArchivedBoxedSlice<u8>; 2];
 
 type Link<T> = ArchivedOption<ArchivedBox<T>>;
 
-pub(crate) fn validator(alloc: Global, bytes: &[u8], max_depth: usize) -> HighValidator
+fn validator(alloc: Global, bytes: &[u8], max_depth: usize) -> HighValidator
     ensures start { result.archive.start ≡ 0 }
     ensures end { result.archive.end ≡ length bytes.now }
 {
@@ -56,81 +56,28 @@ fn root_lies_at_the_end_rounded_down(rt: HostRuntime) {
 }
 
 #[test]
-fn bytes_in_an_option_are_accepted(rt: HostRuntime) {
+fn bytes_that_are_lent_stay_as_they_were(rt: HostRuntime) {
     let bytes = *b"Hello world\0\x01\0\0\0\xf0\xff\xff\xff\x0b\0\0\0";
-    assert!(rt; position_of(access::<MaybeBytes>(rt.alloc(), &bytes)) == Ok(12));
-    assert!(rt; position_of(access_pos::<MaybeBytes>(rt.alloc(), &bytes, 12)) == Ok(12));
-}
-
-#[test]
-fn bytes_in_an_option_are_accepted_in_a_context(rt: HostRuntime) {
-    let bytes = *b"Hello world\0\x01\0\0\0\xf0\xff\xff\xff\x0b\0\0\0";
-    let mut one = validator(rt.alloc(), &bytes, usize::MAX);
-    let mut two = validator(rt.alloc(), &bytes, usize::MAX);
-    let mut three = validator(rt.alloc(), &bytes, usize::MAX);
-    assert!(rt;
-        check_pos_with_context::<MaybeBytes, HighValidator>(rt.alloc(), &bytes, 12, &mut one)
-            == Ok(())
-    );
-    assert!(rt;
-        position_of(access_pos_with_context::<MaybeBytes, HighValidator>(
-            rt.alloc(),
-            &bytes,
-            12,
-            &mut two
-        )) == Ok(12)
-    );
-    assert!(rt;
-        position_of(access_with_context::<MaybeBytes, HighValidator>(
-            rt.alloc(),
-            &bytes,
-            &mut three
-        )) == Ok(12)
-    );
-}
-
-#[test]
-fn bytes_in_an_option_are_accepted_to_be_edited(rt: HostRuntime) {
-    let bytes = *b"Hello world\0\x01\0\0\0\xf0\xff\xff\xff\x0b\0\0\0";
-    let mut lent = bytes;
-    match access_mut::<MaybeBytes>(rt.alloc(), &mut lent) {
-        Ok(root) => assert!(rt; root.pos() == 12),
-        Err(_refusal) => assert!(rt; false),
+    let spoilt = *b"Hello world\0\x02\0\0\0\xf0\xff\xff\xff\x0b\0\0\0";
+    let rows = [
+        (bytes, 12, Ok(12)),
+        (spoilt, 13, Err(Error::InvalidSubtreePointer { size: 12 })),
+    ];
+    for (given, pos, result) in rows {
+        let mut lent = given;
+        let found = match access_pos_mut::<MaybeBytes>(rt.alloc(), &mut lent, pos) {
+            Ok(root) => Ok(root.pos()),
+            Err(refusal) => Err(refusal),
+        };
+        assert_eq!(rt; found, result, "{pos}");
+        assert!(rt; lent == given);
     }
-    assert!(rt; lent == bytes);
-}
-
-#[test]
-fn bytes_in_an_option_at_a_position_are_accepted_to_be_edited(rt: HostRuntime) {
-    let bytes = *b"Hello world\0\x01\0\0\0\xf0\xff\xff\xff\x0b\0\0\0";
-    let mut lent = bytes;
-    match access_pos_mut::<MaybeBytes>(rt.alloc(), &mut lent, 12) {
-        Ok(root) => assert!(rt; root.pos() == 12),
-        Err(_refusal) => assert!(rt; false),
-    }
-    assert!(rt; lent == bytes);
-}
-
-#[test]
-fn refused_bytes_stay_as_they_were(rt: HostRuntime) {
-    let bytes = *b"Hello world\0\x02\0\0\0\xf0\xff\xff\xff\x0b\0\0\0";
-    let mut lent = bytes;
+    let mut lent = spoilt;
     match access_mut::<MaybeBytes>(rt.alloc(), &mut lent) {
         Ok(_root) => assert!(rt; false),
         Err(refusal) => assert!(rt; refusal == Error::InvalidTag),
     }
-    assert!(rt; lent == bytes);
-}
-
-#[test]
-fn refused_bytes_at_a_position_stay_as_they_were(rt: HostRuntime) {
-    let bytes = *b"Hello world\0\x02\0\0\0\xf0\xff\xff\xff\x0b\0\0\0";
-    let mut lent = bytes;
-    match access_pos_mut::<MaybeBytes>(rt.alloc(), &mut lent, 13) {
-        Ok(_root) => assert!(rt; false),
-        Err(refusal) => assert!(rt; refusal == (Error::InvalidSubtreePointer { size: 12 })),
-    }
-    assert!(rt; lent == bytes);
+    assert!(rt; lent == spoilt);
 }
 
 #[test]
@@ -152,8 +99,8 @@ fn position_is_checked_and_not_the_root(rt: HostRuntime) {
 }
 
 #[test]
-fn two_slices_are_refused(rt: HostRuntime) {
-    let rows = [
+fn regions_that_overlap_or_lead_on_are_refused(rt: HostRuntime) {
+    let slices = [
         (
             *b"Hello world\0\xf4\xff\xff\xff\x05\0\0\0\xf2\xff\xff\xff\x05\0\0\0",
             Ok(12),
@@ -167,18 +114,11 @@ fn two_slices_are_refused(rt: HostRuntime) {
             Err(Error::InvalidSubtreePointer { size: 11 }),
         ),
     ];
-    for (bytes, result) in rows {
-        assert_eq!(rt;
-            root_of::<TwoSlices>(rt.alloc(), &bytes),
-            result,
-            "{bytes:?}"
-        );
+    for (bytes, result) in slices {
+        let found = root_of::<TwoSlices>(rt.alloc(), &bytes);
+        assert_eq!(rt; found, result, "{bytes:?}");
     }
-}
-
-#[test]
-fn boxes_that_lead_on_are_refused(rt: HostRuntime) {
-    let rows = [
+    let boxes = [
         (
             *b"\x01\0\0\0\x04\0\0\0\x01\0\0\0\xf4\xff\xff\xff",
             Err(Error::InvalidSubtreePointer { size: 8 }),
@@ -186,18 +126,22 @@ fn boxes_that_lead_on_are_refused(rt: HostRuntime) {
         (*b"\0\0\0\0\0\0\0\0\x01\0\0\0\xf4\xff\xff\xff", Ok(8)),
         (*b"\x01\0\0\0\x04\0\0\0\0\0\0\0\xf4\xff\xff\xff", Ok(8)),
     ];
-    for (bytes, result) in rows {
-        assert_eq!(rt;
-            root_of::<Link<Link<Link<u8>>>>(rt.alloc(), &bytes),
-            result,
-            "{bytes:?}"
-        );
+    for (bytes, result) in boxes {
+        let found = root_of::<Link<Link<Link<u8>>>>(rt.alloc(), &bytes);
+        assert_eq!(rt; found, result, "{bytes:?}");
     }
 }
 
 #[test]
-fn empty_buffers_have_no_root(rt: HostRuntime) {
+fn short_buffers_have_no_root(rt: HostRuntime) {
     let rows = [
+        (
+            root_of::<MaybeBytes>(
+                rt.alloc(),
+                b"Hello world\0\x01\0\0\0\xf0\xff\xff\xff\x0b\0\0",
+            ),
+            Err(Error::InvalidTag),
+        ),
         (
             root_of::<u8>(rt.alloc(), &[]),
             Err(Error::InvalidSubtreePointer { size: 1 }),
@@ -269,6 +213,17 @@ fn depth_is_limited_by_the_validator(rt: HostRuntime) {
             position_of(access_with_context::<MaybeBytes, HighValidator>(
                 rt.alloc(),
                 &bytes,
+                &mut context
+            )),
+            result,
+            "{max_depth}"
+        );
+        let mut context = validator(rt.alloc(), &bytes, max_depth);
+        assert_eq!(rt;
+            position_of(access_pos_with_context::<MaybeBytes, HighValidator>(
+                rt.alloc(),
+                &bytes,
+                12,
                 &mut context
             )),
             result,

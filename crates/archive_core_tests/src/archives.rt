@@ -6,7 +6,6 @@ ghost use Rattle.archive_forms_values.specs.ShapeCanonical.Settled.{Fit};
 ghost use Rattle.archive_forms_values.specs.FormsLaws.State.{Keys};
 
 mod own_struct;
-mod read_back;
 mod written;
 
 use archive_core::laws::{fault_refuses, read_back_is_written, written_is_accepted};

@@ -9,8 +9,6 @@ mod archives;
 #[cfg(test)]
 mod rc;
 #[cfg(test)]
-mod regions;
-#[cfg(test)]
 mod serializing;
 #[cfg(test)]
 mod shared;

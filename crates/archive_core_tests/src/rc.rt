@@ -9,5 +9,5 @@ mod pooled;
 mod read_back;
 mod read_once;
 mod tower;
-mod values;
+pub(crate) mod values;
 mod weak;

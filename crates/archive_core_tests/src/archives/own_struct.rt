@@ -49,14 +49,6 @@ fn a_struct_is_written_behind_what_its_fields_lead_to(rt: HostRuntime) -> Result
 }
 
 #[test]
-fn a_struct_is_read_back(rt: HostRuntime) -> Result<(), Fail> {
-    let alloc = rt.alloc();
-    assert!(rt; is_player(&from_bytes::<Player>(alloc, &PLAYER)?, 42));
-    assert!(rt; is_player(&accessed_and_read::<Player>(alloc, &PLAYER)?, 42));
-    Ok(())
-}
-
-#[test]
 fn a_field_is_edited_where_it_lies(rt: HostRuntime) -> Result<(), Fail> {
     let alloc = rt.alloc();
     let mut bytes = PLAYER;
@@ -65,7 +57,7 @@ fn a_field_is_edited_where_it_lies(rt: HostRuntime) -> Result<(), Fail> {
     let mut wanted = PLAYER;
     wanted[28] = 43;
     assert!(rt; bytes == wanted);
-    assert!(rt; is_player(&from_bytes::<Player>(alloc, &bytes)?, 43));
+    assert!(rt; is_player(&accessed_and_read::<Player>(alloc, &bytes)?, 43));
     Ok(())
 }
 

@@ -41,6 +41,19 @@ fn compared<T: ArchivedOrd + ArchivedHash>(
     }
 }
 
+/// Returns the order of the value at the root of the first bytes relative to that of the second.
+fn roots_compared<T: CheckBytes<HighValidator> + ArchivedOrd + ArchivedHash>(
+    alloc: Global,
+    this: &[u8],
+    other: &[u8],
+) -> Result<Option<Ordering>, Error>
+    requires { T.knows [] }
+{
+    let this = root::<T>(alloc, this)?;
+    let other = root::<T>(alloc, other)?;
+    Ok(compared(&this, &other))
+}
+
 fn hash_of<T: ArchivedHash>(this: &Ref<'_, T>) -> u64
     requires { HasValue T.shape T.knows this.now.bytes.now this.now.pos }
 {
@@ -58,38 +71,26 @@ fn printed<T: ArchivedDebug>(alloc: Global, this: &Ref<'_, T>) -> Result<String,
 }
 
 #[test]
-fn pointers_are_compared_as_their_values(rt: HostRuntime) -> Result<(), Fail> {
-    let alloc = rt.alloc();
-    let low = root::<ArchivedRc<u8, RcFlavor>>(alloc, b"\x05...\xfc\xff\xff\xff")?;
-    let high = root::<ArchivedRc<u8, RcFlavor>>(alloc, b"....\x05...\xfc\xff\xff\xff")?;
-    let more = root::<ArchivedRc<u8, RcFlavor>>(alloc, b"\x06...\xfc\xff\xff\xff")?;
-    assert!(rt; compared(&low, &high) == Some(Ordering::Equal));
-    assert!(rt; compared(&high, &more) == Some(Ordering::Less));
-    Ok(())
-}
-
-#[test]
-fn slices_are_compared_as_their_elements(rt: HostRuntime) -> Result<(), Fail> {
+fn pointers_are_compared_as_what_they_lead_to(rt: HostRuntime) {
+    type Number = ArchivedRc<u8, RcFlavor>;
     type Bytes = ArchivedRcSlice<u8, RcFlavor>;
-    let alloc = rt.alloc();
-    let low = root::<Bytes>(alloc, b"\x01\x02..\xfc\xff\xff\xff\x02\0\0\0")?;
-    let high = root::<Bytes>(alloc, b"....\x01\x02..\xfc\xff\xff\xff\x02\0\0\0")?;
-    let short = root::<Bytes>(alloc, b"\x01...\xfc\xff\xff\xff\x01\0\0\0")?;
-    assert!(rt; compared(&low, &high) == Some(Ordering::Equal));
-    assert!(rt; compared(&low, &short) == Some(Ordering::Greater));
-    Ok(())
-}
-
-#[test]
-fn texts_are_compared_as_texts(rt: HostRuntime) -> Result<(), Fail> {
     type Text = ArchivedRcStr<RcFlavor>;
     let alloc = rt.alloc();
-    let low = root::<Text>(alloc, b"ab..\xfc\xff\xff\xff\x02\0\0\0")?;
-    let high = root::<Text>(alloc, b"....ab..\xfc\xff\xff\xff\x02\0\0\0")?;
-    let more = root::<Text>(alloc, b"ac..\xfc\xff\xff\xff\x02\0\0\0")?;
-    assert!(rt; compared(&low, &high) == Some(Ordering::Equal));
-    assert!(rt; compared(&high, &more) == Some(Ordering::Less));
-    Ok(())
+    let low = b"\x05...\xfc\xff\xff\xff";
+    let high = b"....\x05...\xfc\xff\xff\xff";
+    let more = b"\x06...\xfc\xff\xff\xff";
+    assert!(rt; roots_compared::<Number>(alloc, low, high) == Ok(Some(Ordering::Equal)));
+    assert!(rt; roots_compared::<Number>(alloc, high, more) == Ok(Some(Ordering::Less)));
+    let low = b"\x01\x02..\xfc\xff\xff\xff\x02\0\0\0";
+    let high = b"....\x01\x02..\xfc\xff\xff\xff\x02\0\0\0";
+    let short = b"\x01...\xfc\xff\xff\xff\x01\0\0\0";
+    assert!(rt; roots_compared::<Bytes>(alloc, low, high) == Ok(Some(Ordering::Equal)));
+    assert!(rt; roots_compared::<Bytes>(alloc, low, short) == Ok(Some(Ordering::Greater)));
+    let low = b"ab..\xfc\xff\xff\xff\x02\0\0\0";
+    let high = b"....ab..\xfc\xff\xff\xff\x02\0\0\0";
+    let more = b"ac..\xfc\xff\xff\xff\x02\0\0\0";
+    assert!(rt; roots_compared::<Text>(alloc, low, high) == Ok(Some(Ordering::Equal)));
+    assert!(rt; roots_compared::<Text>(alloc, high, more) == Ok(Some(Ordering::Less)));
 }
 
 #[test]

@@ -17,13 +17,9 @@ impl Flavor for AnyWay {
 const LOOP: [u8; 8] = *b"\0\0\0\0\xfc\xff\xff\xff";
 
 #[test]
-fn a_value_inside_itself_is_accepted_where_cycles_are_allowed(rt: HostRuntime) {
+fn a_value_inside_itself_is_accepted_only_where_cycles_are_allowed(rt: HostRuntime) {
     let root = access::<ArchivedRc<ArchivedLoop<AnyWay>, AnyWay>>(rt.alloc(), &LOOP);
     assert!(rt; root.is_ok());
-}
-
-#[test]
-fn a_value_inside_itself_is_refused_where_cycles_are_forbidden(rt: HostRuntime) {
     let root = access::<ArchivedRc<ArchivedLoop<RcFlavor>, RcFlavor>>(rt.alloc(), &LOOP);
     assert!(rt; root.err() == Some(Error::CyclicSharedPointer));
 }

@@ -7,20 +7,9 @@ use std::alloc::Global;
 use std::rc::{Rc, RcSlice, RcStr};
 use std::test::Fail;
 
-#[test]
-fn pointers_to_one_number_share_it(rt: HostRuntime) -> Result<(), Fail> {
-    let list = fives(rt.alloc(), &[7, 7, 8])?;
-    let read = archived_and_read(rt.alloc(), &list)??;
-    assert!(rt; read.len() == 3);
-    assert!(rt; Rc::ptr_eq(&read[0].value, &read[1].value));
-    assert!(rt; !Rc::ptr_eq(&read[0].value, &read[2].value));
-    assert!(rt; Rc::strong_count(&read[0].value) == 2);
-    Ok(())
-}
-
-/// Returns two pointers to a list, under one key.
+/// Returns two pointers to a list of three numbers, under one key; the first two numbers are under one key too.
 fn lists(alloc: Global) -> Result<[Shared<Rc<Vec<Shared<Rc<u32>>>>>; 2], Error> {
-    let Ok(first) = Rc::new(alloc, fives(alloc, &[1, 1])?) else {
+    let Ok(first) = Rc::new(alloc, fives(alloc, &[1, 1, 8])?) else {
         return Err(Error::OutOfMemory);
     };
     let value = first.clone()?;
@@ -37,9 +26,11 @@ fn lists(alloc: Global) -> Result<[Shared<Rc<Vec<Shared<Rc<u32>>>>>; 2], Error> 
 fn values_in_shared_values_are_shared(rt: HostRuntime) -> Result<(), Fail> {
     let [first, second] = archived_and_read(rt.alloc(), &lists(rt.alloc())?)??;
     assert!(rt; Rc::ptr_eq(&first.value, &second.value));
-    assert!(rt; first.value.len() == 2);
-    assert!(rt; second.value.len() == 2);
+    assert!(rt; first.value.len() == 3);
+    assert!(rt; second.value.len() == 3);
     assert!(rt; Rc::ptr_eq(&first.value[0].value, &second.value[1].value));
+    assert!(rt; !Rc::ptr_eq(&first.value[0].value, &second.value[2].value));
+    assert!(rt; Rc::strong_count(&first.value[0].value) == 2);
     Ok(())
 }
 
@@ -56,6 +47,8 @@ fn elements_and_texts_are_shared(rt: HostRuntime) -> Result<(), Fail> {
     let (numbers, texts) = archived_and_read(alloc, &pairs)??;
     assert!(rt; RcSlice::ptr_eq(&numbers[0].value, &numbers[1].value));
     assert!(rt; RcStr::ptr_eq(&texts[0].value, &texts[1].value));
+    assert!(rt; numbers[1].value.as_slice() == &[6, 7][..]);
+    assert!(rt; texts[1].value.as_str() == "hello world!");
     Ok(())
 }
 

@@ -1,9 +1,6 @@
 //! Tests of weak pointers: how they are archived with counted pointers of their keys, and read back.
 use crate::rc::values::{number, numbers, text};
-use archive_core::{
-    ArchivedRcWeak, ArchivedRcWeakSlice, ArchivedRcWeakStr, Error, RcResolver, RcWeakResolver,
-    Serializer, Share, Shared, SharedWeak, from_bytes, to_bytes,
-};
+use archive_core::{Error, Shared, SharedWeak, from_bytes, to_bytes};
 use std::alloc::Global;
 use std::rc::{Rc, RcSlice, RcStr};
 
@@ -28,28 +25,30 @@ fn led(weak: &SharedWeak<Rc<u32>>) -> Option<(usize, u32)> {
 }
 
 #[test]
-fn the_value_of_one_key_stands_once(rt: HostRuntime) -> Result<(), Error> {
+fn the_value_of_one_key_stands_once_and_those_of_two_apart(rt: HostRuntime) -> Result<(), Error> {
     let alloc = rt.alloc();
-    let pair = (weak(alloc, 3, 7)?, number(alloc, 3, 7)?);
-    let bytes = to_bytes(alloc, &pair)?;
-    let expected: &[u8] = b"\x07\0\0\0\x01\0\0\0\xf8\xff\xff\xff\xf4\xff\xff\xff";
-    assert!(rt; &*bytes == expected);
-    let (first, second) = from_bytes::<Pair>(alloc, &bytes)?;
-    assert!(rt; led(&first) == Some((0, 7)));
-    assert!(rt; (second.key, *second.value) == (0, 7));
-    Ok(())
-}
-
-#[test]
-fn the_values_of_two_keys_stand_apart(rt: HostRuntime) -> Result<(), Error> {
-    let alloc = rt.alloc();
-    let pair = (weak(alloc, 3, 7)?, number(alloc, 4, 9)?);
-    let bytes = to_bytes(alloc, &pair)?;
-    let expected: &[u8] = b"\x07\0\0\0\x09\0\0\0\x01\0\0\0\xf4\xff\xff\xff\xf4\xff\xff\xff";
-    assert!(rt; &*bytes == expected);
-    let (first, second) = from_bytes::<Pair>(alloc, &bytes)?;
-    assert!(rt; led(&first) == Some((0, 7)));
-    assert!(rt; (second.key, *second.value) == (4, 9));
+    let rows: [(usize, u32, usize, &[u8]); 2] = [
+        (
+            3,
+            7,
+            0,
+            b"\x07\0\0\0\x01\0\0\0\xf8\xff\xff\xff\xf4\xff\xff\xff",
+        ),
+        (
+            4,
+            9,
+            4,
+            b"\x07\0\0\0\x09\0\0\0\x01\0\0\0\xf4\xff\xff\xff\xf4\xff\xff\xff",
+        ),
+    ];
+    for (key, value, position, expected) in rows {
+        let pair = (weak(alloc, 3, 7)?, number(alloc, key, value)?);
+        let bytes = to_bytes(alloc, &pair)?;
+        assert!(rt; &*bytes == expected);
+        let (first, second) = from_bytes::<Pair>(alloc, &bytes)?;
+        assert!(rt; led(&first) == Some((0, 7)));
+        assert!(rt; (second.key, *second.value) == (position, value));
+    }
     Ok(())
 }
 
@@ -89,59 +88,5 @@ fn weak_pointers_to_elements_and_texts_are_archived_and_read(rt: HostRuntime) ->
     assert!(rt; matches!(&letters.shared, Some(led) if led.key == 8 && &*led.value == "ab"));
     let nothing: Unsized = (SharedWeak { shared: None }, SharedWeak { shared: None });
     assert!(rt; &*to_bytes(alloc, &nothing)? == &[0; 24][..]);
-    Ok(())
-}
-
-/// Returns the resolver of a weak pointer to a number or to nothing, and what was written for it.
-fn number_written(
-    alloc: Global,
-    value: &Option<Shared<Rc<u32>>>,
-) -> Result<(RcWeakResolver, Vec<u8>), Error> {
-    let sharing = Share::new(alloc);
-    let mut serializer = Serializer::new(Vec::new(alloc), alloc, sharing);
-    match ArchivedRcWeak::serialize_from_ref(value, &mut serializer) {
-        Ok(resolver) => Ok((resolver, serializer.into_writer())),
-        Err(e) => Err(e),
-    }
-}
-
-/// Returns the resolver of a weak pointer to numbers or to nothing, and what was written for it.
-fn numbers_written(
-    alloc: Global,
-    value: &Option<Shared<RcSlice<u32>>>,
-) -> Result<(RcWeakResolver, Vec<u8>), Error> {
-    let sharing = Share::new(alloc);
-    let mut serializer = Serializer::new(Vec::new(alloc), alloc, sharing);
-    match ArchivedRcWeakSlice::serialize_from_ref(value, &mut serializer) {
-        Ok(resolver) => Ok((resolver, serializer.into_writer())),
-        Err(e) => Err(e),
-    }
-}
-
-/// Returns the resolver of a weak pointer to a text or to nothing, and what was written for it.
-fn text_written(
-    alloc: Global,
-    value: &Option<Shared<RcStr>>,
-) -> Result<(RcWeakResolver, Vec<u8>), Error> {
-    let sharing = Share::new(alloc);
-    let mut serializer = Serializer::new(Vec::new(alloc), alloc, sharing);
-    match ArchivedRcWeakStr::serialize_from_ref(value, &mut serializer) {
-        Ok(resolver) => Ok((resolver, serializer.into_writer())),
-        Err(e) => Err(e),
-    }
-}
-
-#[test]
-fn resolvers_keep_where_weak_pointers_lead(rt: HostRuntime) -> Result<(), Error> {
-    let alloc = rt.alloc();
-    let led = RcWeakResolver::Some(RcResolver::from_pos(0));
-    let (kept, bytes) = number_written(alloc, &Some(number(alloc, 3, 7)?))?;
-    assert!(rt; kept == led && bytes.as_slice() == b"\x07\0\0\0".as_slice());
-    let (kept, bytes) = numbers_written(alloc, &Some(numbers(alloc, 4, &[6, 8])?))?;
-    assert!(rt; kept == led && bytes.as_slice() == b"\x06\0\0\0\x08\0\0\0".as_slice());
-    let (kept, bytes) = text_written(alloc, &Some(text(alloc, 5, "ab")?))?;
-    assert!(rt; kept == led && bytes.as_slice() == b"ab".as_slice());
-    let (kept, bytes) = text_written(alloc, &None)?;
-    assert!(rt; kept == RcWeakResolver::None && bytes.is_empty());
     Ok(())
 }

@@ -14,49 +14,15 @@ fn pool_of_one_position<T: ExactClone>(alloc: Global, value: T) -> Result<Pool<T
 }
 
 #[test]
-fn position_is_begun_once_and_ends_once(rt: HostRuntime) {
-    let mut pool = Pool::new(rt.alloc());
-    assert!(rt; pool.start_pooling(1) == Ok(PoolingState::Started));
-    assert!(rt; pool.start_pooling(1) == Ok(PoolingState::Pending));
-    assert!(rt; pool.finish_pooling(1, 8usize) == Ok(()));
-    assert!(rt; pool.start_pooling(1) == Ok(PoolingState::Finished(8)));
-    assert!(rt; pool.start_pooling(2) == Ok(PoolingState::Started));
-}
-
-#[test]
-fn position_that_has_not_begun_does_not_end(rt: HostRuntime) -> Result<(), Fail> {
-    let mut pool = pool_of_one_position(rt.alloc(), 8usize)?;
-    assert!(rt; pool.finish_pooling(2, 8) == Err(Error::NotStarted));
-    Ok(())
-}
-
-#[test]
-fn position_that_has_ended_does_not_end_again(rt: HostRuntime) -> Result<(), Fail> {
-    let mut pool = pool_of_one_position(rt.alloc(), 8usize)?;
-    assert!(rt; pool.finish_pooling(1, 9) == Err(Error::AlreadyFinished));
-    Ok(())
-}
-
-#[test]
-fn pool_of_a_capacity_has_no_position(rt: HostRuntime) -> Result<(), Fail> {
+fn position_is_begun_once_and_ends_once(rt: HostRuntime) -> Result<(), Fail> {
     let mut pool: Pool<usize> = Pool::with_capacity(rt.alloc(), 8)?;
     assert!(rt; pool.start_pooling(1) == Ok(PoolingState::Started));
-    Ok(())
-}
-
-#[test]
-fn cleared_pool_has_no_position(rt: HostRuntime) -> Result<(), Fail> {
-    let mut pool = pool_of_one_position(rt.alloc(), 8usize)?;
-    pool.clear();
-    assert!(rt; pool.start_pooling(1) == Ok(PoolingState::Started));
-    Ok(())
-}
-
-#[test]
-fn pool_of_references_tells_the_same_one(rt: HostRuntime) -> Result<(), Fail> {
-    let number = 7u64;
-    let mut pool = pool_of_one_position(rt.alloc(), &number)?;
-    assert!(rt; pool.start_pooling(1) == Ok(PoolingState::Finished(&number)));
+    assert!(rt; pool.start_pooling(1) == Ok(PoolingState::Pending));
+    assert!(rt; pool.finish_pooling(1, 8) == Ok(()));
+    assert!(rt; pool.start_pooling(1) == Ok(PoolingState::Finished(8)));
+    assert!(rt; pool.finish_pooling(1, 9) == Err(Error::AlreadyFinished));
+    assert!(rt; pool.finish_pooling(2, 8) == Err(Error::NotStarted));
+    assert!(rt; pool.start_pooling(2) == Ok(PoolingState::Started));
     Ok(())
 }
 

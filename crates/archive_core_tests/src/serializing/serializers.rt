@@ -26,17 +26,6 @@ fn text_out_of_line_stands_behind_its_bytes(rt: HostRuntime) -> Result<(), Fail>
     Ok(())
 }
 
-#[test]
-fn parts_are_given_back(rt: HostRuntime) -> Result<(), Fail> {
-    let alloc = rt.alloc();
-    let mut serializer = Serializer::new(Vec::new(alloc), alloc, 5u8);
-    serializer.writer.write(b"ab")?;
-    let (writer, _, sharing) = serializer.into_raw_parts();
-    assert!(rt; writer.as_slice() == b"ab".as_slice());
-    assert!(rt; sharing == 5);
-    Ok(())
-}
-
 /// Appends a copy of bytes, in memory of the serializer, and returns the position after them.
 fn write_copy<S: Writer + Allocator>(serializer: &mut S, bytes: &[u8]) -> Result<usize, Error>
     requires { S.failures serializer.old < 2 ^ 64 - 1 }
@@ -47,11 +36,12 @@ fn write_copy<S: Writer + Allocator>(serializer: &mut S, bytes: &[u8]) -> Result
 }
 
 #[test]
-fn serializer_writes_as_its_writer(rt: HostRuntime) -> Result<(), Fail> {
+fn serializer_writes_as_its_writer_and_gives_it_back(rt: HostRuntime) -> Result<(), Fail> {
     let alloc = rt.alloc();
     let mut serializer = Serializer::new(Vec::new(alloc), alloc, ());
     assert!(rt; write_copy(&mut serializer, b"ab") == Ok(2));
     assert!(rt; write_copy(&mut serializer, b"cde") == Ok(5));
-    assert!(rt; serializer.writer.as_slice() == b"abcde".as_slice());
+    let (writer, _, _) = serializer.into_raw_parts();
+    assert!(rt; writer.as_slice() == b"abcde".as_slice());
     Ok(())
 }

@@ -55,36 +55,11 @@ fn meet_again(
 }
 
 #[test]
-fn visits_of_positions(rt: HostRuntime) {
-    let mut visits = SharedValidator::new(rt.alloc());
-    for pos in [16, 8, 0, usize::MAX, 12] {
-        assert_eq!(rt; visit(&mut visits, pos), Ok(VISITED), "{pos}");
-    }
-}
-
-#[test]
-fn many_positions_in_one_another(rt: HostRuntime) -> Result<(), Error> {
-    let mut visits = SharedValidator::new(rt.alloc());
-    for i in 0..200usize {
-        let state = visits.start_shared(i * 7919 % 1000, i, Pointee::Text)?;
-        assert_eq!(rt; state, ValidationState::Started, "{i}");
-    }
-    for i in 0..200usize {
-        let pos = i * 7919 % 1000;
-        let state = visits.start_shared(pos, i, Pointee::Text)?;
-        assert_eq!(rt; state, ValidationState::Pending, "{i}");
-        visits.finish_shared(pos)?;
-        let state = visits.start_shared(pos, i, Pointee::Text)?;
-        assert_eq!(rt; state, ValidationState::Finished, "{i}");
-    }
-    Ok(())
-}
-
-#[test]
 fn position_of_another_shape_or_length(rt: HostRuntime) -> Result<(), Fail> {
     let alloc = rt.alloc();
     for ends in [false, true] {
         assert!(rt; meet_again(alloc, ends, 3, Pointee::Text) == Err(Error::TypeMismatch));
+        assert!(rt; meet_again(alloc, ends, 4, Pointee::Text) == Err(Error::TypeMismatch));
         let others = [
             sized(alloc, Shape::Truth)?,
             slice(alloc, Shape::Character)?,
@@ -116,28 +91,6 @@ fn position_of_another_shape_or_length(rt: HostRuntime) -> Result<(), Fail> {
 }
 
 #[test]
-fn shape_is_told_before_length(rt: HostRuntime) {
-    assert!(rt; meet_again(rt.alloc(), false, 4, Pointee::Text) == Err(Error::TypeMismatch));
-}
-
-#[test]
-fn finish_of_an_unmet_position(rt: HostRuntime) -> Result<(), Fail> {
-    let mut visits = SharedValidator::new(rt.alloc());
-    visits.start_shared(8, 3, Pointee::Text)?;
-    assert!(rt; visits.finish_shared(16) == Err(Error::NotStarted));
-    Ok(())
-}
-
-#[test]
-fn finish_again(rt: HostRuntime) -> Result<(), Fail> {
-    let mut visits = SharedValidator::new(rt.alloc());
-    visits.start_shared(8, 3, Pointee::Text)?;
-    assert!(rt; visits.finish_shared(8) == Ok(()));
-    assert!(rt; visits.finish_shared(8) == Err(Error::AlreadyFinished));
-    Ok(())
-}
-
-#[test]
 fn capacities(rt: HostRuntime) -> Result<(), Fail> {
     for capacity in [0, 1, 100, usize::MAX] {
         let mut visits = SharedValidator::with_capacity(rt.alloc(), capacity)?;
@@ -161,6 +114,7 @@ fn validator_with_shared_positions(rt: HostRuntime) -> Result<(), Fail> {
     assert!(rt; check(&mut validator, 4) == Ok(VISITED));
     assert!(rt; validator.check_subtree_ptr(4, 4, 4) == Ok(()));
     validator.pop_subtree_range(range)?;
+    assert!(rt; validator.pop_subtree_range(range) == Err(Error::RangePoppedTooManyTimes));
     assert!(rt; validator.finish_shared(4) == Err(Error::AlreadyFinished));
     Ok(())
 }

@@ -13,5 +13,5 @@ write-requires g c =
     let size : size_of player_shape ≡ 24 = refl in
     rw (c.level_seal.ensures.bytes, c.level_seal.ensures.pos, root.bytes, root.position) (omega (arith, within, size))
 
-pub from_bytes-requires : goal.from_bytes-requires
-from_bytes-requires g c = record { named = ([], (tt, tt, tt)) }
+pub accessed_and_read-requires : goal.accessed_and_read-requires
+accessed_and_read-requires g c = ([], (tt, tt, tt))

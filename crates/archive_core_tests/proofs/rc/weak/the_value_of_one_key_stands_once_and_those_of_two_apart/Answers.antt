@@ -1,5 +1,5 @@
 use Rattle.std.proofs.Common.{[]}
-use Rattle.archive_core_tests.proofs.rc.read_back.elements_and_texts_are_read_back.Goals as goal
+use Rattle.archive_core_tests.proofs.rc.weak.the_value_of_one_key_stands_once_and_those_of_two_apart.Goals as goal
 
 pub from_bytes-requires : goal.from_bytes-requires
 from_bytes-requires g c = record { named = ([], (tt, tt)) }
