@@ -93,16 +93,16 @@ pub(crate) const EMPTY_LEAF: [u32; 31] = [
 pub(crate) type Texts = ArchivedBTreeMap<ArchivedString, ArchivedU32, 5>;
 
 /// The first word of the text bar: its three bytes, and a byte of ones.
-pub(crate) const BAR: u32 = 0xff72_6162;
+const BAR: u32 = 0xff72_6162;
 
 /// The first word of the text bat.
-pub(crate) const BAT: u32 = 0xff74_6162;
+const BAT: u32 = 0xff74_6162;
 
 /// The first word of the text baz.
-pub(crate) const BAZ: u32 = 0xff7a_6162;
+const BAZ: u32 = 0xff7a_6162;
 
 /// The first word of the text foo.
-pub(crate) const FOO: u32 = 0xff6f_6f66;
+const FOO: u32 = 0xff6f_6f66;
 
 /// The words of the map from bar, bat, baz and foo to 20, 80, 40 and 10: a leaf, and the map, whose root is 68 bytes
 /// before it.

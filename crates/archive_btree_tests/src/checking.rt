@@ -1,67 +1,37 @@
 //! Tests of the search trees that are refused, and of the errors.
 
-use crate::archives::{EMPTY, EMPTY_LEAF, Numbers, ONE_PAIR, SIX_PAIRS, bytes_of};
+use crate::archives::{ONE_PAIR, bytes_of};
 use archive_btree_maps::{ArchivedBTreeMap, InvalidLength};
 use archive_core_validation::{ArchiveValidator, access};
 use archive_shape::{ArchivedNonZeroU32, ArchivedU32, Error, Ref};
 use std::alloc::Global;
-use std::test::Fail;
 
-/// Checks a map of numbers.
+/// Checks a map of numbers without 0 to numbers.
 fn accepts(alloc: Global, words: &[u32]) -> Result<(), Error> {
     let bytes = bytes_of(alloc, words)?;
-    access::<Numbers>(alloc, bytes.as_slice())?;
+    access::<ArchivedBTreeMap<ArchivedNonZeroU32, ArchivedU32, 5>>(alloc, bytes.as_slice())?;
     Ok(())
 }
 
 #[test]
-fn search_trees_are_accepted(rt: HostRuntime) {
-    assert!(rt; accepts(rt.alloc(), &EMPTY) == Ok(()));
-    assert!(rt; accepts(rt.alloc(), &ONE_PAIR) == Ok(()));
-    assert!(rt; accepts(rt.alloc(), &SIX_PAIRS) == Ok(()));
-    assert!(rt; accepts(rt.alloc(), &EMPTY_LEAF) == Ok(()));
-}
-
-#[test]
-fn leaf_of_too_many_entries_is_refused(rt: HostRuntime) {
-    let mut words = ONE_PAIR;
-    words[11] = 6;
-    assert!(rt; accepts(rt.alloc(), &words) == Err(Error::NodeLength { len: 6, maximum: 5 }));
-}
-
-#[test]
-fn node_of_another_kind_is_refused(rt: HostRuntime) {
-    let mut words = ONE_PAIR;
-    words[0] = 2;
-    assert!(rt; accepts(rt.alloc(), &words) == Err(Error::InvalidTag));
-}
-
-#[test]
-fn another_number_of_entries_is_refused(rt: HostRuntime) -> Result<(), Fail> {
-    let mut words = ONE_PAIR;
-    words[1] = 0;
-    words[11] = 0;
-    let bytes = bytes_of(rt.alloc(), &words)?;
-    let refusal = access::<ArchivedBTreeMap<ArchivedNonZeroU32, ArchivedU32, 5>>(
-        rt.alloc(),
-        bytes.as_slice(),
-    ).err();
-    assert!(rt; refusal == Some(Error::EntriesLengthMismatch { entries: 0, len: 1 }));
-    Ok(())
-}
-
-#[test]
-fn entries_are_checked(rt: HostRuntime) -> Result<(), Fail> {
-    let mut words = ONE_PAIR;
-    words[1] = 0;
-    let bytes = bytes_of(rt.alloc(), &words)?;
-    assert!(rt;
-        access::<ArchivedBTreeMap<ArchivedNonZeroU32, ArchivedU32, 5>>(
-            rt.alloc(),
-            bytes.as_slice()
-        ).is_err()
-    );
-    Ok(())
+fn spoilt_search_trees_are_refused(rt: HostRuntime) {
+    let rows = [
+        (0, 7, 6, Error::NodeLength { len: 6, maximum: 5 }),
+        (2, 7, 1, Error::InvalidTag),
+        (0, 0, 0, Error::EntriesLengthMismatch { entries: 0, len: 1 }),
+        (0, 0, 1, Error::InvalidTag),
+    ];
+    for (kind, key, len, refusal) in rows {
+        let mut words = ONE_PAIR;
+        words[0] = kind;
+        words[1] = key;
+        words[11] = len;
+        assert_eq!(rt;
+            accepts(rt.alloc(), &words),
+            Err(refusal),
+            "{kind} {key} {len}"
+        );
+    }
 }
 
 /// Verifies the map at the end of words, of numbers without 0 to numbers.

@@ -10,8 +10,6 @@ mod comparing;
 #[cfg(test)]
 mod composed;
 #[cfg(test)]
-mod levels;
-#[cfg(test)]
 mod printing;
 #[cfg(test)]
 mod ranges;

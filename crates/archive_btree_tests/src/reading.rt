@@ -25,26 +25,27 @@ fn found(alloc: Global, words: &[u32], key: u32) -> Result<(Option<u32>, usize),
 
 #[test]
 fn keys_lead_to_their_values(rt: HostRuntime) {
-    assert!(rt; found(rt.alloc(), &EMPTY, 7) == Ok((None, 0)));
-    assert!(rt; found(rt.alloc(), &ONE_PAIR, 7) == Ok((Some(11), 1)));
-    assert!(rt; found(rt.alloc(), &ONE_PAIR, 8) == Ok((None, 1)));
+    let (one, six, leaf) = (
+        ONE_PAIR.as_slice(),
+        SIX_PAIRS.as_slice(),
+        EMPTY_LEAF.as_slice(),
+    );
     let rows = [
-        (0, None, 2),
-        (1, Some(11), 2),
-        (2, Some(12), 1),
-        (3, Some(13), 2),
-        (6, Some(16), 5),
-        (7, None, 5),
+        (EMPTY.as_slice(), 7, None, 0),
+        (one, 7, Some(11), 1),
+        (one, 8, None, 1),
+        (six, 0, None, 2),
+        (six, 1, Some(11), 2),
+        (six, 2, Some(12), 1),
+        (six, 3, Some(13), 2),
+        (six, 6, Some(16), 5),
+        (six, 7, None, 5),
+        (leaf, 3, Some(13), 3),
+        (leaf, 9, None, 5),
     ];
-    for (key, value, count) in rows {
-        assert_eq!(rt;
-            found(rt.alloc(), &SIX_PAIRS, key),
-            Ok((value, count)),
-            "{key}"
-        );
+    for (words, key, value, count) in rows {
+        assert_eq!(rt; found(rt.alloc(), words, key), Ok((value, count)), "{key}");
     }
-    assert!(rt; found(rt.alloc(), &EMPTY_LEAF, 3) == Ok((Some(13), 3)));
-    assert!(rt; found(rt.alloc(), &EMPTY_LEAF, 9) == Ok((None, 5)));
 }
 
 /// Returns the word of the value that a key leads to, by each call that looks a key up, and whether the map has the
@@ -63,18 +64,6 @@ fn looked_up(alloc: Global, words: &[u32], key: u32) -> Result<([Option<usize>; 
     Ok((found, ArchivedBTreeMap::contains_key(root, &key)))
 }
 
-#[test]
-fn look_ups_agree(rt: HostRuntime) {
-    for (key, at) in [(1, 24), (2, 72), (6, 88)] {
-        assert_eq!(rt;
-            looked_up(rt.alloc(), &SIX_PAIRS, key),
-            Ok(([Some(at), Some(at), Some(at)], true)),
-            "{key}"
-        );
-    }
-    assert!(rt; looked_up(rt.alloc(), &SIX_PAIRS, 7) == Ok(([None, None, None], false)));
-}
-
 /// Returns the value that `index` returns for a key that `get` has found.
 fn indexed(alloc: Global, words: &[u32], key: u32) -> Result<Option<u32>, Error> {
     let bytes = bytes_of(alloc, words)?;
@@ -89,43 +78,37 @@ fn indexed(alloc: Global, words: &[u32], key: u32) -> Result<Option<u32>, Error>
 }
 
 #[test]
-fn keys_that_are_found_can_be_indexed(rt: HostRuntime) {
-    assert!(rt; indexed(rt.alloc(), &SIX_PAIRS, 6) == Ok(Some(16)));
+fn look_ups_agree(rt: HostRuntime) {
+    for (key, at, value) in [(1, 24, 11), (2, 72, 12), (6, 88, 16)] {
+        assert_eq!(rt;
+            looked_up(rt.alloc(), &SIX_PAIRS, key),
+            Ok(([Some(at), Some(at), Some(at)], true)),
+            "{key}"
+        );
+        assert_eq!(rt;
+            indexed(rt.alloc(), &SIX_PAIRS, key),
+            Ok(Some(value)),
+            "{key}"
+        );
+    }
+    assert!(rt; looked_up(rt.alloc(), &SIX_PAIRS, 7) == Ok(([None, None, None], false)));
     assert!(rt; indexed(rt.alloc(), &SIX_PAIRS, 7) == Ok(None));
     assert!(rt; indexed(rt.alloc(), &EMPTY_LEAF, 3) == Ok(Some(13)));
 }
 
-/// Returns the positions of the keys and of the values, in order.
-fn walked(alloc: Global, words: &[u32]) -> Result<Vec<(usize, usize)>, Error> {
+/// Returns the number of entries that a walk has before it, and the positions of the keys and of the values, in order.
+fn walked(alloc: Global, words: &[u32]) -> Result<(usize, Vec<(usize, usize)>), Error> {
     let bytes = bytes_of(alloc, words)?;
     let root = root_of::<Numbers>(alloc, bytes.as_slice())?;
+    let entries = ArchivedBTreeMap::iter(root);
+    let len = entries.len();
     let mut places = Vec::new(alloc);
-    for (key, value) in ArchivedBTreeMap::iter(root) {
+    for (key, value) in entries {
         if places.push((key.pos(), value.pos())).is_err() {
             return Err(Error::OutOfMemory);
         }
     }
-    Ok(places)
-}
-
-#[test]
-fn no_entries_and_one_are_walked(rt: HostRuntime) -> Result<(), Fail> {
-    assert!(rt; walked(rt.alloc(), &EMPTY)?.is_empty());
-    assert!(rt; walked(rt.alloc(), &ONE_PAIR)?.as_slice() == [(4, 24)].as_slice());
-    Ok(())
-}
-
-#[test]
-fn entries_are_walked_in_order(rt: HostRuntime) -> Result<(), Fail> {
-    assert!(rt;
-        walked(rt.alloc(), &SIX_PAIRS)?.as_slice()
-            == [(4, 24), (52, 72), (56, 76), (60, 80), (64, 84), (68, 88)].as_slice()
-    );
-    assert!(rt;
-        walked(rt.alloc(), &EMPTY_LEAF)?.as_slice()
-            == [(52, 72), (56, 76), (60, 80), (64, 84), (68, 88)].as_slice()
-    );
-    Ok(())
+    Ok((len, places))
 }
 
 /// Returns where a visit breaks that ends at a value's position, and the number of entries that it visits.
@@ -148,23 +131,21 @@ fn visited(alloc: Global, words: &[u32], last: usize) -> Result<(Option<usize>, 
 }
 
 #[test]
-fn visit_ends_at_the_first_break(rt: HostRuntime) {
+fn entries_are_walked_and_visited_in_order(rt: HostRuntime) -> Result<(), Fail> {
+    let six = [(4, 24), (52, 72), (56, 76), (60, 80), (64, 84), (68, 88)];
+    let rows = [
+        (EMPTY.as_slice(), [].as_slice()),
+        (ONE_PAIR.as_slice(), [(4, 24)].as_slice()),
+        (SIX_PAIRS.as_slice(), six.as_slice()),
+        (EMPTY_LEAF.as_slice(), &six[1..]),
+    ];
+    for (words, places) in rows {
+        let (len, met) = walked(rt.alloc(), words)?;
+        assert!(rt; len == places.len());
+        assert!(rt; met.as_slice() == places);
+    }
     assert!(rt; visited(rt.alloc(), &SIX_PAIRS, 76) == Ok((Some(76), 3)));
     assert!(rt; visited(rt.alloc(), &SIX_PAIRS, 0) == Ok((None, 6)));
     assert!(rt; visited(rt.alloc(), &EMPTY_LEAF, 0) == Ok((None, 5)));
-}
-
-#[test]
-fn len_is_the_number_of_entries(rt: HostRuntime) -> Result<(), Fail> {
-    for (words, len) in [(&SIX_PAIRS, 6), (&EMPTY_LEAF, 5)] {
-        let bytes = bytes_of(rt.alloc(), words)?;
-        match root_of::<Numbers>(rt.alloc(), bytes.as_slice()) {
-            Ok(root) => {
-                assert!(rt; ArchivedBTreeMap::len(root) == len);
-                assert!(rt; ArchivedBTreeMap::iter(root).len() == len);
-            }
-            Err(_) => assert!(rt; false),
-        }
-    }
     Ok(())
 }

@@ -1,66 +1,18 @@
 //! Tests of writing to archived maps through seals.
-ghost use Rattle.std.specs.Prelude.{◌≡◌, ℕ, ◌+◌, ◌≤◌, List, length};
+ghost use Rattle.std.specs.Prelude.{◌≡◌, List, length};
 ghost use Rattle.archive_shape.specs.ShapeLayout.Shape.Shape.{tree};
 ghost use Rattle.archive_btree_walking.specs.BtreeLayout.Reading.{Place};
 ghost use Rattle.archive_forms_values.specs.Parts.{HasValue, both};
 ghost use Rattle.archive_btree_walking.specs.Walks.{BegunMap, IsWritten};
 ghost use Rattle.archive_btree_walking.specs.Cursors.{HasRange};
-ghost use Rattle.archive_shape.specs.Bytes.{overwrite};
 
-use crate::archives::{bytes_of, root_of};
+use crate::archives::{FOUR_TEXTS, Texts, bytes_of, root_of};
 use archive_btree_maps::{ArchivedBTreeMap, RangeSeal};
-use archive_forms_values::{ArchivedString, native_of};
+use archive_forms_values::ArchivedString;
 use archive_shape::{ArchivedKey, ArchivedU32, Error, OwnSeal, Portable, Ref, Seal};
 use std::alloc::{AllocError, Global};
 use std::ops::{Bound, ControlFlow, RangeBounds};
 use std::test::Fail;
-
-/// A map of texts to numbers with at most five entries in a node. A leaf has 17 words: its kind, five keys of two
-/// words, five values and its length.
-type Texts = ArchivedBTreeMap<ArchivedString, ArchivedU32, 5>;
-
-/// The words of the map from bar to 20, bat to 80, baz to 40 and foo to 10: a leaf, and the map, whose root is 68 bytes
-/// before it.
-const FOUR: [u32; 19] = [
-    0,
-    0xff72_6162,
-    0xffff_ffff,
-    0xff74_6162,
-    0xffff_ffff,
-    0xff7a_6162,
-    0xffff_ffff,
-    0xff6f_6f66,
-    0xffff_ffff,
-    0,
-    0,
-    20,
-    80,
-    40,
-    10,
-    0,
-    4,
-    0xffff_ffbc,
-    4,
-];
-
-/// Returns the value of a key.
-fn value_of(alloc: Global, bytes: &[u8], key: &str) -> Result<Option<u32>, Error> {
-    let root = root_of::<Texts>(alloc, bytes)?;
-    match ArchivedBTreeMap::get(root, &key) {
-        Some(value) => Ok(Some(native_of(value))),
-        None => Ok(None),
-    }
-}
-
-/// Returns the values of bar, bat, baz and foo.
-fn values_of(alloc: Global, bytes: &[u8]) -> Result<[Option<u32>; 4], Error> {
-    Ok([
-        value_of(alloc, bytes, "bar")?,
-        value_of(alloc, bytes, "bat")?,
-        value_of(alloc, bytes, "baz")?,
-        value_of(alloc, bytes, "foo")?,
-    ])
-}
 
 /// Adds 10 to each value in order, up to the first that becomes `last`, and returns that.
 fn add_to_each(alloc: Global, bytes: &mut Vec<u8>, last: u32) -> Result<Option<u32>, Error> {
@@ -83,27 +35,6 @@ fn add_to_each(alloc: Global, bytes: &mut Vec<u8>, last: u32) -> Result<Option<u
     Ok(ArchivedBTreeMap::visit_seal(map, &mut visit))
 }
 
-/// Returns the result of such a visit, and the values that it leaves.
-fn added(
-    alloc: Global,
-    words: &[u32],
-    last: u32,
-) -> Result<(Option<u32>, [Option<u32>; 4]), Error> {
-    let mut bytes = bytes_of(alloc, words)?;
-    let broken = add_to_each(alloc, &mut bytes, last)?;
-    Ok((broken, values_of(alloc, bytes.as_slice())?))
-}
-
-#[test]
-fn visits_write_each_value_in_order_up_to_the_first_break(rt: HostRuntime) {
-    assert!(rt;
-        added(rt.alloc(), &FOUR, 0) == Ok((None, [Some(30), Some(90), Some(50), Some(20)]))
-    );
-    assert!(rt;
-        added(rt.alloc(), &FOUR, 90) == Ok((Some(90), [Some(30), Some(90), Some(40), Some(10)]))
-    );
-}
-
 /// Writes a number over the value of a key, if the map has the key.
 fn set_value(alloc: Global, bytes: &mut Vec<u8>, key: &str, number: u32) -> Result<(), Error> {
     let pos = root_of::<Texts>(alloc, bytes.as_slice())?.pos();
@@ -114,46 +45,48 @@ fn set_value(alloc: Global, bytes: &mut Vec<u8>, key: &str, number: u32) -> Resu
     Ok(())
 }
 
-/// Returns the values after a visit that adds 10 to each, and then writes through the seals of foo and bat.
-fn set_after_visit(alloc: Global, words: &[u32]) -> Result<[Option<u32>; 4], Error> {
-    let mut bytes = bytes_of(alloc, words)?;
-    add_to_each(alloc, &mut bytes, 0)?;
-    set_value(alloc, &mut bytes, "foo", 123)?;
-    set_value(alloc, &mut bytes, "bat", 456)?;
-    values_of(alloc, bytes.as_slice())
+/// Writes a number over the value of a key through the seal that comes with the key, if the map has the key.
+fn set_beside_key(alloc: Global, bytes: &mut Vec<u8>, key: &str, number: u32) -> Result<(), Error> {
+    let pos = root_of::<Texts>(alloc, bytes.as_slice())?.pos();
+    let map = Seal::<Texts>::new(bytes.as_mut_slice(), pos);
+    if let Some((_key, value)) = ArchivedBTreeMap::get_key_value_seal(map, &key) {
+        value.write(number);
+    }
+    Ok(())
+}
+
+/// Returns the result of a visit that adds 10 to each value up to `last`, and whether the bytes are those words once 123
+/// and 456 are written over the values of two keys.
+fn edited(
+    alloc: Global,
+    last: u32,
+    keys: (&str, &str),
+    expected: &[u32],
+) -> Result<(Option<u32>, bool), Error> {
+    let mut bytes = bytes_of(alloc, &FOUR_TEXTS)?;
+    let broken = add_to_each(alloc, &mut bytes, last)?;
+    set_value(alloc, &mut bytes, keys.0, 123)?;
+    set_beside_key(alloc, &mut bytes, keys.1, 456)?;
+    let same = bytes.as_slice() == bytes_of(alloc, expected)?.as_slice();
+    Ok((broken, same))
 }
 
 #[test]
-fn seals_write_the_values_of_their_keys_after_a_visit(rt: HostRuntime) {
-    assert!(rt;
-        set_after_visit(rt.alloc(), &FOUR) == Ok([Some(30), Some(456), Some(50), Some(123)])
-    );
-}
-
-/// Fills own bytes with a byte.
-fn fill_at(bytes: &mut [u8], at: usize, size: usize, byte: u8)
-    requires { at + size ≤ length bytes.old }
-    ensures { (own : List ℕ) × (length own ≡ size) × (bytes.new ≡ overwrite bytes.old at own) }
-{
-    bytes[at..at + size].fill(byte);
-}
-
-/// Fills the own bytes of each value with a byte, and appends its position and the number of values left after it to
-/// `met`.
-fn fill_values<K: Portable, V: Portable, const E: usize>(
-    map: Seal<'_, ArchivedBTreeMap<K, V, E>>,
-    byte: u8,
-    met: &mut Vec<(usize, usize)>,
-) -> Result<(), AllocError>
-    requires { HasValue (tree E K.shape V.shape) (both K.knows V.knows) map.bytes.now map.pos }
-{
-    let size = V::SIZE;
-    let mut values = ArchivedBTreeMap::values_seal(map);
-    while let Some(at) = values.advance() {
-        fill_at(values.entries.bytes, at, size, byte);
-        met.push((at, values.len()))?;
+fn visits_and_seals_of_keys_write_the_values_alone(rt: HostRuntime) {
+    let rows = [
+        (0, ("qux", "qux"), None, [30, 90, 50, 20]),
+        (90, ("qux", "qux"), Some(90), [30, 90, 40, 10]),
+        (0, ("foo", "bat"), None, [30, 456, 50, 123]),
+        (0, ("qux", "baz"), None, [30, 90, 456, 20]),
+    ];
+    for (last, keys, broken, values) in rows {
+        let mut expected = FOUR_TEXTS;
+        expected[11] = values[0];
+        expected[12] = values[1];
+        expected[13] = values[2];
+        expected[14] = values[3];
+        assert!(rt; edited(rt.alloc(), last, keys, &expected) == Ok((broken, true)));
     }
-    Ok(())
 }
 
 /// Fills the own bytes of each value with a byte, in calls that the values are lent to, and appends its position and the
@@ -173,31 +106,6 @@ fn visit_values<K: Portable, V: Portable, const E: usize>(
     while let Some(at) = values.visit_next(&mut fill) {
         met.push((at, values.len()))?;
     }
-    Ok(())
-}
-
-/// Returns what `fill_values` appends for a map, and the values after each is filled with a byte.
-fn filled(
-    alloc: Global,
-    words: &[u32],
-    byte: u8,
-) -> Result<(Vec<(usize, usize)>, [Option<u32>; 4]), Error> {
-    let mut bytes = bytes_of(alloc, words)?;
-    let pos = root_of::<Texts>(alloc, bytes.as_slice())?.pos();
-    let mut met = Vec::new(alloc);
-    fill_values(
-        Seal::<Texts>::new(bytes.as_mut_slice(), pos),
-        byte,
-        &mut met,
-    )?;
-    Ok((met, values_of(alloc, bytes.as_slice())?))
-}
-
-#[test]
-fn cursors_pass_each_value_while_the_values_are_written(rt: HostRuntime) -> Result<(), Fail> {
-    let (met, values) = filled(rt.alloc(), &FOUR, 7)?;
-    assert!(rt; met.as_slice() == [(44, 3), (48, 2), (52, 1), (56, 0)].as_slice());
-    assert!(rt; values == [Some(0x0707_0707); 4]);
     Ok(())
 }
 
@@ -222,9 +130,9 @@ fn visited(
 
 #[test]
 fn calls_that_values_are_lent_to_write_each_value(rt: HostRuntime) -> Result<(), Fail> {
-    let mut expected = FOUR;
+    let mut expected = FOUR_TEXTS;
     expected[11..15].fill(0x0707_0707);
-    let (met, same) = visited(rt.alloc(), &FOUR, 7, &expected)?;
+    let (met, same) = visited(rt.alloc(), &FOUR_TEXTS, 7, &expected)?;
     assert!(rt; met.as_slice() == [(44, 3), (48, 2), (52, 1), (56, 0)].as_slice());
     assert!(rt; same);
     Ok(())
@@ -274,41 +182,23 @@ fn between<'q, R: RangeBounds<&'q str>>(
 
 #[test]
 fn cursors_pass_the_values_of_a_range(rt: HostRuntime) -> Result<(), Fail> {
-    assert!(rt; between(rt.alloc(), &FOUR, "bat"..="baz")?.as_slice() == [48, 52].as_slice());
-    assert!(rt; between(rt.alloc(), &FOUR, "bat".."baz")?.as_slice() == [48].as_slice());
-    assert!(rt;
-        between(
-            rt.alloc(),
-            &FOUR,
-            (Bound::Excluded("baz"), Bound::Unbounded)
-        )?
-        .as_slice()
-            == [56].as_slice()
-    );
-    Ok(())
-}
-
-#[test]
-fn cursor_has_nothing_left_where_the_bounds_are_reversed(rt: HostRuntime) -> Result<(), Fail> {
-    assert!(rt; between(rt.alloc(), &FOUR, "c".."b")?.is_empty());
-    Ok(())
-}
-
-/// Returns the values of bar, bat, baz and foo after a number is written over that of a key.
-fn set(alloc: Global, words: &[u32], key: &str, number: u32) -> Result<[Option<u32>; 4], Error> {
-    let mut bytes = bytes_of(alloc, words)?;
-    let pos = root_of::<Texts>(alloc, bytes.as_slice())?.pos();
-    let map = Seal::<Texts>::new(bytes.as_mut_slice(), pos);
-    if let Some((_key, value)) = ArchivedBTreeMap::get_key_value_seal(map, &key) {
-        value.write(number);
+    let rows = [
+        (
+            Bound::Included("bat"),
+            Bound::Included("baz"),
+            [48, 52].as_slice(),
+        ),
+        (
+            Bound::Included("bat"),
+            Bound::Excluded("baz"),
+            [48].as_slice(),
+        ),
+        (Bound::Excluded("baz"), Bound::Unbounded, [56].as_slice()),
+        (Bound::Included("c"), Bound::Excluded("b"), [].as_slice()),
+    ];
+    for (start, end, positions) in rows {
+        let met = between(rt.alloc(), &FOUR_TEXTS, (start, end))?;
+        assert!(rt; met.as_slice() == positions);
     }
-    values_of(alloc, bytes.as_slice())
-}
-
-#[test]
-fn keys_lead_to_seals_of_their_own_values(rt: HostRuntime) {
-    assert!(rt;
-        set(rt.alloc(), &FOUR, "baz", 456) == Ok([Some(20), Some(80), Some(456), Some(10)])
-    );
-    assert!(rt; set(rt.alloc(), &FOUR, "qux", 456) == Ok([Some(20), Some(80), Some(40), Some(10)]));
+    Ok(())
 }

@@ -9,7 +9,6 @@ use std::alloc::Global;
 use std::collections::BTreeSet;
 use std::hash::{DefaultHasher, Hasher};
 use std::ops::ControlFlow;
-use std::test::Fail;
 
 /// A set of numbers with at most five keys in a node. A leaf has seven words: its kind, five keys and its length; an
 /// inner node has six pointers in place of the length.
@@ -46,77 +45,44 @@ pub(crate) const SIX: [u32; 21] = [
     6,
 ];
 
-/// Returns the keys in order, each with the number of keys left after it.
-fn walked(alloc: Global, words: &[u32]) -> Result<Vec<(Option<u32>, usize)>, Error> {
+/// Returns the number of keys, whether there are none, the key that is equal to a number, and whether the set has it.
+fn found(
+    alloc: Global,
+    words: &[u32],
+    key: u32,
+) -> Result<(usize, bool, Option<u32>, bool), Error> {
     let bytes = bytes_of(alloc, words)?;
     let root = root_of::<Numbers>(alloc, bytes.as_slice())?;
-    let mut keys = ArchivedBTreeSet::iter(root);
-    let mut met = Vec::new(alloc);
-    while let Some(key) = keys.next() {
-        let word = words.get(key.pos() / 4).copied();
-        if met.push((word, keys.len())).is_err() {
-            return Err(Error::OutOfMemory);
-        }
-    }
-    Ok(met)
-}
-
-#[test]
-fn keys_are_walked_in_order(rt: HostRuntime) -> Result<(), Fail> {
-    assert!(rt; walked(rt.alloc(), &NONE)?.is_empty());
-    assert!(rt;
-        walked(rt.alloc(), &FOUR)?.as_slice()
-            == [(Some(10), 3), (Some(20), 2), (Some(40), 1), (Some(80), 0)].as_slice()
-    );
-    assert!(rt; walked(rt.alloc(), &SIX)?.len() == 6);
-    Ok(())
-}
-
-/// Returns the number of keys, and whether there are none.
-fn counted(alloc: Global, words: &[u32]) -> Result<(usize, bool), Error> {
-    let bytes = bytes_of(alloc, words)?;
-    let root = root_of::<Numbers>(alloc, bytes.as_slice())?;
-    Ok((
-        ArchivedBTreeSet::len(root),
-        ArchivedBTreeSet::is_empty(root),
-    ))
-}
-
-#[test]
-fn len_is_the_number_of_keys(rt: HostRuntime) {
-    assert!(rt; counted(rt.alloc(), &NONE) == Ok((0, true)));
-    assert!(rt; counted(rt.alloc(), &FOUR) == Ok((4, false)));
-    assert!(rt; counted(rt.alloc(), &SIX) == Ok((6, false)));
-}
-
-/// Returns the key that is equal to a number, and whether the set has it.
-fn found(alloc: Global, words: &[u32], key: u32) -> Result<(Option<u32>, bool), Error> {
-    let bytes = bytes_of(alloc, words)?;
-    let root = root_of::<Numbers>(alloc, bytes.as_slice())?;
+    let len = ArchivedBTreeSet::len(root);
+    let empty = ArchivedBTreeSet::is_empty(root);
     let has = ArchivedBTreeSet::contains_key(root, &key);
     match ArchivedBTreeSet::get(root, &key) {
-        Some(found) => Ok((Some(native_of(found)), has)),
-        None => Ok((None, has)),
+        Some(found) => Ok((len, empty, Some(native_of(found)), has)),
+        None => Ok((len, empty, None, has)),
     }
 }
 
 #[test]
 fn keys_are_found(rt: HostRuntime) {
-    assert!(rt; found(rt.alloc(), &NONE, 10) == Ok((None, false)));
+    assert!(rt; found(rt.alloc(), &NONE, 10) == Ok((0, true, None, false)));
     for key in [10, 20, 40, 80] {
         assert_eq!(rt;
             found(rt.alloc(), &FOUR, key),
-            Ok((Some(key), true)),
+            Ok((4, false, Some(key), true)),
             "{key}"
         );
     }
     for key in [9, 30, 81] {
-        assert_eq!(rt; found(rt.alloc(), &FOUR, key), Ok((None, false)), "{key}");
+        assert_eq!(rt;
+            found(rt.alloc(), &FOUR, key),
+            Ok((4, false, None, false)),
+            "{key}"
+        );
     }
     for key in [1, 2, 6] {
         assert_eq!(rt;
             found(rt.alloc(), &SIX, key),
-            Ok((Some(key), true)),
+            Ok((6, false, Some(key), true)),
             "{key}"
         );
     }
@@ -159,16 +125,6 @@ fn equals(alloc: Global, words: &[u32], keys: &[u32]) -> Result<bool, Error> {
     Ok(eq_btree_set(&root, &other))
 }
 
-#[test]
-fn sets_of_the_same_keys_are_equal(rt: HostRuntime) {
-    assert!(rt; equals(rt.alloc(), &NONE, &[]) == Ok(true));
-    assert!(rt; equals(rt.alloc(), &FOUR, &[80, 40, 20, 10]) == Ok(true));
-    assert!(rt; equals(rt.alloc(), &FOUR, &[10, 20, 40]) == Ok(false));
-    assert!(rt; equals(rt.alloc(), &FOUR, &[10, 20, 40, 81]) == Ok(false));
-    assert!(rt; equals(rt.alloc(), &FOUR, &[11, 20, 40, 80]) == Ok(false));
-    assert!(rt; equals(rt.alloc(), &FOUR, &[10, 20, 40, 80, 81]) == Ok(false));
-}
-
 /// Returns whether two archived sets are equal, and whether they are hashed alike.
 fn compared(alloc: Global, words: &[u32], others: &[u32]) -> Result<(bool, bool), Error> {
     let bytes = bytes_of(alloc, words)?;
@@ -186,7 +142,19 @@ fn compared(alloc: Global, words: &[u32], others: &[u32]) -> Result<(bool, bool)
 }
 
 #[test]
-fn equal_sets_are_hashed_alike(rt: HostRuntime) {
+fn sets_of_the_same_keys_are_equal_and_hashed_alike(rt: HostRuntime) {
+    assert!(rt; equals(rt.alloc(), &NONE, &[]) == Ok(true));
+    assert!(rt; equals(rt.alloc(), &SIX, &[1, 2, 3, 4, 5, 6]) == Ok(true));
+    let rows = [
+        ([80, 40, 20, 10].as_slice(), true),
+        ([10, 20, 40].as_slice(), false),
+        ([10, 20, 40, 81].as_slice(), false),
+        ([11, 20, 40, 80].as_slice(), false),
+        ([10, 20, 40, 80, 81].as_slice(), false),
+    ];
+    for (keys, same) in rows {
+        assert!(rt; equals(rt.alloc(), &FOUR, keys) == Ok(same));
+    }
     let mut unused = FOUR;
     unused[5] = 7;
     assert!(rt; compared(rt.alloc(), &FOUR, &unused) == Ok((true, true)));

@@ -5,13 +5,11 @@ ghost use Rattle.archive_forms_values.specs.FormsLaws.Serializing.{HasState, Ser
 use crate::archives::{EMPTY, ONE_PAIR, SIX_PAIRS, bytes_of, root_of};
 use crate::sets::{FOUR, NONE, SIX};
 use archive_btree::{
-    ArchivedBTreeMap, ArchivedBTreeSet, BTreeMapResolver, BTreeSetResolver, EntryParts,
-    OwnedBTreeMap, OwnedBTreeSet, serialize_from_ordered_iter, serialize_map_each,
-    serialize_set_from_ordered_iter,
+    ArchivedBTreeSet, BTreeMapResolver, BTreeSetResolver, EntryParts, OwnedBTreeMap, OwnedBTreeSet,
+    serialize_from_ordered_iter, serialize_map_each, serialize_set_from_ordered_iter,
 };
 use archive_core_serializing::Serializer;
 use archive_forms::Deserialize;
-use archive_forms_values::ArchivedString;
 use archive_forms_writing::{Serialize, serialize_element, serialize_using};
 use archive_shape::{Allocator, ArchivedU32, Error, Positional, Registry, Writer};
 use std::alloc::Global;
@@ -61,43 +59,6 @@ fn maps_are_written_as_packed_trees(rt: HostRuntime) {
     assert!(rt; is_map_of(alloc, &[(7, 11)], &ONE_PAIR) == Ok(true));
     let pairs = [(1, 11), (2, 12), (3, 13), (4, 14), (5, 15), (6, 16)];
     assert!(rt; is_map_of(alloc, &pairs, &SIX_PAIRS) == Ok(true));
-}
-
-/// Returns the map from foo to 10, bar to 20, baz to 40 and bat to 80.
-fn four(alloc: Global) -> Result<OwnedBTreeMap<String, u32, 5>, Error> {
-    let mut map = BTreeMap::new(alloc);
-    for (key, value) in [("foo", 10), ("bar", 20), ("baz", 40), ("bat", 80)] {
-        let Ok(key) = String::from_str(alloc, key) else {
-            return Err(Error::OutOfMemory);
-        };
-        if map.insert(key, value).is_err() {
-            return Err(Error::OutOfMemory);
-        }
-    }
-    Ok(OwnedBTreeMap { map })
-}
-
-/// Checks whether a map of texts is read back from its archive as it was.
-fn is_read_back(alloc: Global, owned: &OwnedBTreeMap<String, u32, 5>) -> Result<bool, Error> {
-    let bytes = archive_of(alloc, owned)?;
-    let root = root_of::<ArchivedBTreeMap<ArchivedString, ArchivedU32, 5>>(
-        alloc,
-        bytes.as_slice(),
-    )?;
-    let read: OwnedBTreeMap<String, u32, 5> = ArchivedBTreeMap::deserialize(
-        &root,
-        alloc,
-        &mut ((), ()),
-    )?;
-    Ok(read.map == owned.map)
-}
-
-#[test]
-fn texts_are_read_back(rt: HostRuntime) -> Result<(), Fail> {
-    let map = four(rt.alloc())?;
-    assert!(rt; map.map.len() == 4);
-    assert!(rt; is_read_back(rt.alloc(), &map) == Ok(true));
-    Ok(())
 }
 
 /// Writes the entries of a map, of which `claimed` are claimed to come.
@@ -186,14 +147,6 @@ fn is_set_of(alloc: Global, keys: &[u32], words: &[u32]) -> Result<bool, Error> 
     Ok(bytes == bytes_of(alloc, words)?)
 }
 
-#[test]
-fn sets_are_written_without_bytes_for_values(rt: HostRuntime) {
-    let alloc = rt.alloc();
-    assert!(rt; is_set_of(alloc, &[], &NONE) == Ok(true));
-    assert!(rt; is_set_of(alloc, &[80, 10, 40, 20], &FOUR) == Ok(true));
-    assert!(rt; is_set_of(alloc, &[1, 2, 3, 4, 5, 6], &SIX) == Ok(true));
-}
-
 /// Returns the set that is read back of words.
 fn read_back(alloc: Global, words: &[u32]) -> Result<OwnedBTreeSet<u32, 5>, Error> {
     let bytes = bytes_of(alloc, words)?;
@@ -202,8 +155,11 @@ fn read_back(alloc: Global, words: &[u32]) -> Result<OwnedBTreeSet<u32, 5>, Erro
 }
 
 #[test]
-fn sets_are_read_back(rt: HostRuntime) -> Result<(), Fail> {
+fn sets_are_written_without_bytes_for_values_and_read_back(rt: HostRuntime) -> Result<(), Fail> {
     let alloc = rt.alloc();
+    assert!(rt; is_set_of(alloc, &[], &NONE) == Ok(true));
+    assert!(rt; is_set_of(alloc, &[80, 10, 40, 20], &FOUR) == Ok(true));
+    assert!(rt; is_set_of(alloc, &[1, 2, 3, 4, 5, 6], &SIX) == Ok(true));
     let six = set_of(alloc, &[1, 2, 3, 4, 5, 6])?;
     assert!(rt; read_back(alloc, &SIX)?.set == six.set);
     assert!(rt; read_back(alloc, &NONE)?.set.is_empty());
