@@ -26,83 +26,41 @@ fn accepts<T: CheckBytes<ArchiveValidator>>(alloc: Global, bytes: &[u8; 52]) -> 
     )
 }
 
-#[test]
-fn tables_are_accepted(rt: HostRuntime) {
-    assert!(rt; accepts::<ArchivedU32>(rt.alloc(), &ONE_OF_TWO) == Ok(()));
-    let mut empty = [0; 52];
-    empty[48] = 9;
-    assert!(rt; accepts::<ArchivedU32>(rt.alloc(), &empty) == Ok(()));
-}
-
-#[test]
-fn own_bytes_are_read(rt: HostRuntime) {
-    assert!(rt;
-        check_head::<ArchivedU32>(&ONE_OF_TWO, 40)
-            == Ok(Some(TableHead {
-                len: 1,
-                capacity: 2,
-                controls: 8
-            }))
-    );
-}
-
-#[test]
-fn as_many_items_as_places_are_refused(rt: HostRuntime) {
+/// Returns the table's bytes with other values at some positions.
+fn changed(changes: &[(usize, u8)]) -> [u8; 52] {
     let mut bytes = ONE_OF_TWO;
-    bytes[44] = 2;
-    assert!(rt;
-        accepts::<ArchivedU32>(rt.alloc(), &bytes) == Err(Error::TableLength { len: 2, cap: 2 })
-    );
+    for (index, value) in changes {
+        if let Some(byte) = bytes.get_mut(*index) {
+            *byte = *value;
+        }
+    }
+    bytes
 }
 
 #[test]
-fn controls_before_the_bytes_are_refused(rt: HostRuntime) {
-    let mut bytes = ONE_OF_TWO;
-    bytes[40] = 0xd7;
-    assert!(rt;
-        accepts::<ArchivedU32>(rt.alloc(), &bytes) == Err(Error::InvalidSubtreePointer { size: 39 })
-    );
-}
-
-#[test]
-fn buckets_before_the_bytes_are_refused(rt: HostRuntime) {
-    let mut bytes = ONE_OF_TWO;
-    bytes[40] = 0xdc;
-    assert!(rt;
-        accepts::<ArchivedU32>(rt.alloc(), &bytes) == Err(Error::InvalidSubtreePointer { size: 39 })
-    );
-}
-
-#[test]
-fn control_that_does_not_repeat_is_refused(rt: HostRuntime) {
-    let mut bytes = ONE_OF_TWO;
-    bytes[11] = 0x54;
-    assert!(rt;
-        accepts::<ArchivedU32>(rt.alloc(), &bytes) == Err(Error::UnwrappedControlByte { index: 3 })
-    );
-}
-
-#[test]
-fn tag_behind_the_repeated_controls_is_refused(rt: HostRuntime) {
-    let mut bytes = ONE_OF_TWO;
-    bytes[38] = 0x55;
-    assert!(rt;
-        accepts::<ArchivedU32>(rt.alloc(), &bytes) == Err(Error::UnwrappedControlByte { index: 30 })
-    );
-}
-
-#[test]
-fn another_number_of_items_is_refused(rt: HostRuntime) {
-    let mut bytes = ONE_OF_TWO;
-    bytes[8] = 0;
-    bytes[10] = 0;
-    assert!(rt;
-        accepts::<ArchivedU32>(rt.alloc(), &bytes)
-            == Err(Error::WrongNumberOfElements {
+fn spoilt_tables_are_refused(rt: HostRuntime) {
+    let rows: [(&[(usize, u8)], Error); 6] = [
+        // as many items as places
+        (&[(44, 2)], Error::TableLength { len: 2, cap: 2 }),
+        // controls and buckets that begin before the bytes
+        (&[(40, 0xd7)], Error::InvalidSubtreePointer { size: 39 }),
+        (&[(40, 0xdc)], Error::InvalidSubtreePointer { size: 39 }),
+        // a control that does not repeat, and a tag behind the repeated controls
+        (&[(11, 0x54)], Error::UnwrappedControlByte { index: 3 }),
+        (&[(38, 0x55)], Error::UnwrappedControlByte { index: 30 }),
+        // another number of items
+        (
+            &[(8, 0), (10, 0)],
+            Error::WrongNumberOfElements {
                 expected: 1,
-                actual: 2
-            })
-    );
+                actual: 2,
+            },
+        ),
+    ];
+    for (changes, error) in rows {
+        let bytes = changed(changes);
+        assert!(rt; accepts::<ArchivedU32>(rt.alloc(), &bytes) == Err(error));
+    }
 }
 
 /// Returns whether the buckets and controls of a table of one entry are accepted, or the error.
@@ -112,19 +70,15 @@ fn accepts_numbers(alloc: Global, bytes: &[u8; 52]) -> Result<(), Error> {
 }
 
 #[test]
-fn numbers_of_entries_are_checked(rt: HostRuntime) {
+fn tables_are_accepted_and_numbers_of_no_entry_refused(rt: HostRuntime) {
     let mut bytes = ONE_OF_TWO;
+    assert!(rt; accepts::<ArchivedU32>(rt.alloc(), &bytes) == Ok(()));
     assert!(rt; accepts_numbers(rt.alloc(), &bytes) == Err(Error::InvalidPlace));
     bytes[0] = 0;
     assert!(rt; accepts_numbers(rt.alloc(), &bytes) == Ok(()));
-}
-
-#[test]
-fn items_are_checked(rt: HostRuntime) {
-    let mut bytes = ONE_OF_TWO;
-    assert!(rt; accepts::<ArchivedNonZeroU32>(rt.alloc(), &bytes) == Ok(()));
-    bytes[0] = 0;
-    assert!(rt; accepts::<ArchivedNonZeroU32>(rt.alloc(), &bytes) == Err(Error::InvalidTag));
+    let mut empty = [0; 52];
+    empty[48] = 9;
+    assert!(rt; accepts::<ArchivedU32>(rt.alloc(), &empty) == Ok(()));
 }
 
 #[test]
@@ -133,6 +87,14 @@ fn controls_are_as_many_as_sixteens_of_places_and_fifteen_more(rt: HostRuntime) 
     assert!(rt; control_count(2) == 31);
     assert!(rt; control_count(16) == 31);
     assert!(rt; control_count(17) == 47);
+    assert!(rt;
+        check_head::<ArchivedU32>(&ONE_OF_TWO, 40)
+            == Ok(Some(TableHead {
+                len: 1,
+                capacity: 2,
+                controls: 8
+            }))
+    );
     let controls = controls_at(&ONE_OF_TWO, 8, 2);
     assert!(rt; controls[1] == 0x55);
     assert!(rt; controls.len() == 31);

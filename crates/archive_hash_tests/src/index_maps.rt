@@ -1,16 +1,12 @@
 //! Tests of archived index maps and sets: their entries in order, look-ups, writes through seals, comparing and printing.
-ghost use Rattle.std.specs.Prelude.{[]};
-
+use crate::maps::printed;
 use crate::reading::root_of;
-use archive_core_validation::HighValidator;
-use archive_forms_comparing::{ArchivedDebug, ArchivedEq, ArchivedHash};
-use archive_forms_values::{ArchivedString, native_of};
-use archive_hash_maps::ArchivedHashTable;
+use archive_forms_comparing::{ArchivedEq, ArchivedHash};
+use archive_forms_values::ArchivedString;
 use archive_hash_probing::FxHasher64;
 use archive_index::{ArchivedIndexMap, ArchivedIndexSet};
-use archive_shape::{ArchivedU32, CheckBytes, Error, Ref, Seal};
+use archive_shape::{ArchivedU32, Error, Seal};
 use std::alloc::Global;
-use std::fmt::Formatter;
 use std::hash::Hasher;
 use std::test::Fail;
 
@@ -53,25 +49,6 @@ pub(crate) const TWO_KEYS: [u8; 76] = [
 /// A map or a set without entries.
 pub(crate) const NOTHING: [u8; 16] = [1, 0, 0, 0, 0, 0, 0, 0, 0, 0, 0, 0, 1, 0, 0, 0];
 
-/// Returns the positions of the key and the value of each entry that an iterator returns, and the number of entries
-/// left after it.
-fn walked(alloc: Global) -> Result<Vec<(usize, usize, usize)>, Error> {
-    let root = root_of::<Numbers>(alloc, &TWO)?;
-    let mut entries = ArchivedIndexMap::iter(root);
-    let mut walked = Vec::new(alloc);
-    while let Some((key, value)) = entries.next() {
-        walked.push((key.pos(), value.pos(), entries.len()))?;
-    }
-    Ok(walked)
-}
-
-#[test]
-fn entries_are_walked_in_order(rt: HostRuntime) -> Result<(), Fail> {
-    let walked = walked(rt.alloc())?;
-    assert!(rt; walked.as_slice() == [(44, 52, 1), (56, 64, 0)].as_slice());
-    Ok(())
-}
-
 /// Returns the positions of the keys and those of the values, from iterators over them alone.
 fn parted(alloc: Global, bytes: &[u8]) -> Result<(Vec<usize>, Vec<usize>), Error> {
     let root = root_of::<Numbers>(alloc, bytes)?;
@@ -87,118 +64,13 @@ fn parted(alloc: Global, bytes: &[u8]) -> Result<(Vec<usize>, Vec<usize>), Error
 }
 
 #[test]
-fn keys_and_values_are_walked_alone(rt: HostRuntime) -> Result<(), Fail> {
+fn keys_and_values_are_walked_in_order(rt: HostRuntime) -> Result<(), Fail> {
     let (keys, values) = parted(rt.alloc(), &TWO)?;
     assert!(rt; keys.as_slice() == [44, 56].as_slice());
     assert!(rt; values.as_slice() == [52, 64].as_slice());
     let (keys, values) = parted(rt.alloc(), &NOTHING)?;
     assert!(rt; (keys.len(), values.len()) == (0, 0));
     Ok(())
-}
-
-/// Returns the number of entries of a map, whether it is empty, and the number of items of its table.
-fn counted(alloc: Global, bytes: &[u8]) -> Result<(usize, bool, usize), Error> {
-    let root = root_of::<Numbers>(alloc, bytes)?;
-    Ok((
-        ArchivedIndexMap::len(root),
-        ArchivedIndexMap::is_empty(root),
-        ArchivedHashTable::len(ArchivedIndexMap::table(root)),
-    ))
-}
-
-#[test]
-fn entries_are_counted(rt: HostRuntime) {
-    assert!(rt; counted(rt.alloc(), &TWO) == Ok((2, false, 2)));
-    assert!(rt; counted(rt.alloc(), &NOTHING) == Ok((0, true, 0)));
-}
-
-/// Returns the number of a key's entry and the positions of the key and the value, as each look-up returns them.
-fn looked_up(
-    alloc: Global,
-    text: &str,
-) -> Result<Option<(usize, usize, usize, usize, u32, usize)>, Error> {
-    let root = root_of::<Numbers>(alloc, &TWO)?;
-    let full = ArchivedIndexMap::get_full(root, &text);
-    let pair = ArchivedIndexMap::get_key_value(root, &text);
-    let value = ArchivedIndexMap::get(root, &text);
-    let index = ArchivedIndexMap::get_index_of(root, &text);
-    match (full, pair, value, index) {
-        (Some((number, key, _)), Some((other, at)), Some(value), Some(index)) => Ok(Some((
-            number,
-            key.pos(),
-            other.pos(),
-            at.pos(),
-            native_of(value),
-            index,
-        ))),
-        _ => Ok(None),
-    }
-}
-
-#[test]
-fn keys_lead_to_their_entries(rt: HostRuntime) {
-    assert!(rt; looked_up(rt.alloc(), "z") == Ok(Some((0, 44, 44, 52, 1, 0))));
-    assert!(rt; looked_up(rt.alloc(), "a") == Ok(Some((1, 56, 56, 64, 2, 1))));
-    assert!(rt; looked_up(rt.alloc(), "b") == Ok(None));
-}
-
-/// Returns whether a map has each of two keys.
-fn has_keys(alloc: Global, bytes: &[u8], one: &str, other: &str) -> Result<(bool, bool), Error> {
-    let root = root_of::<Numbers>(alloc, bytes)?;
-    Ok((
-        ArchivedIndexMap::contains_key(root, &one),
-        ArchivedIndexMap::contains_key(root, &other),
-    ))
-}
-
-#[test]
-fn keys_are_there_or_not(rt: HostRuntime) {
-    assert!(rt; has_keys(rt.alloc(), &TWO, "a", "b") == Ok((true, false)));
-    assert!(rt; has_keys(rt.alloc(), &NOTHING, "a", "z") == Ok((false, false)));
-}
-
-/// Returns the number and the positions of the entry whose key lies at `at`, as look-ups by the caller's comparison
-/// return them for the hash of a text.
-fn compared(
-    alloc: Global,
-    text: &str,
-    at: usize,
-) -> Result<Option<(usize, usize, usize, usize)>, Error> {
-    let root = root_of::<Numbers>(alloc, &TWO)?;
-    let is_there = |_text: &&str, key: Ref<'_, ArchivedString>| key.pos() == at;
-    let full = ArchivedIndexMap::get_full_with(root, &text, &is_there);
-    let pair = ArchivedIndexMap::get_key_value_with(root, &text, &is_there);
-    let value = ArchivedIndexMap::get_with(root, &text, &is_there);
-    let index = ArchivedIndexMap::get_index_of_with(root, &text, &is_there);
-    match (full, pair, value, index) {
-        (Some((number, _, _)), Some((key, _)), Some(value), Some(index)) => {
-            Ok(Some((number, key.pos(), value.pos(), index)))
-        }
-        _ => Ok(None),
-    }
-}
-
-#[test]
-fn comparisons_of_the_caller_find_keys_under_the_hash(rt: HostRuntime) {
-    assert!(rt; compared(rt.alloc(), "a", 56) == Ok(Some((1, 56, 64, 1))));
-    assert!(rt; compared(rt.alloc(), "a", 44) == Ok(None));
-    assert!(rt; compared(rt.alloc(), "b", 56) == Ok(None));
-}
-
-/// Returns the positions of the key and the value of the entry with a number.
-fn numbered(alloc: Global, index: usize) -> Result<Option<(usize, usize)>, Error> {
-    let root = root_of::<Numbers>(alloc, &TWO)?;
-    match ArchivedIndexMap::get_index(root, index) {
-        Some((key, value)) => Ok(Some((key.pos(), value.pos()))),
-        None => Ok(None),
-    }
-}
-
-#[test]
-fn entries_have_numbers(rt: HostRuntime) {
-    assert!(rt; numbered(rt.alloc(), 0) == Ok(Some((44, 52))));
-    assert!(rt; numbered(rt.alloc(), 1) == Ok(Some((56, 64))));
-    assert!(rt; numbered(rt.alloc(), 2) == Ok(None));
 }
 
 /// Returns the number and the position of the key that each seal lends for a text, and the lowest byte of the value of
@@ -244,76 +116,11 @@ fn values_are_written_over(rt: HostRuntime) {
     assert!(rt; lent(rt.alloc(), "b", 9) == Ok((None, None, [2, 2, 2])));
 }
 
-/// Returns the same of the entry whose key lies at `at`, from the seals that take the caller's comparison.
-fn lent_with(
-    alloc: Global,
-    text: &str,
-    at: usize,
-    number: u32,
-) -> Result<(Option<(usize, usize)>, Option<usize>, [u8; 3]), Error> {
-    let pos = root_of::<Numbers>(alloc, &TWO)?.pos();
-    let is_there = |_text: &&str, key: Ref<'_, ArchivedString>| key.pos() == at;
-    let mut first = TWO;
-    let seal = Seal::<Numbers>::new(&mut first, pos);
-    let full = match ArchivedIndexMap::get_full_seal_with(seal, &text, &is_there) {
-        Some((index, key, value)) => {
-            let found = (index, key.pos());
-            value.write(number);
-            Some(found)
-        }
-        None => None,
-    };
-    let mut second = TWO;
-    let seal = Seal::<Numbers>::new(&mut second, pos);
-    let pair = match ArchivedIndexMap::get_key_value_seal_with(seal, &text, &is_there) {
-        Some((key, value)) => {
-            let found = key.pos();
-            value.write(number);
-            Some(found)
-        }
-        None => None,
-    };
-    let mut third = TWO;
-    let seal = Seal::<Numbers>::new(&mut third, pos);
-    match ArchivedIndexMap::get_seal_with(seal, &text, &is_there) {
-        Some(value) => value.write(number),
-        None => {}
-    }
-    Ok((full, pair, [first[64], second[64], third[64]]))
-}
-
-#[test]
-fn values_of_accepted_keys_are_written_over(rt: HostRuntime) {
-    assert!(rt; lent_with(rt.alloc(), "a", 56, 9) == Ok((Some((1, 56)), Some(56), [9, 9, 9])));
-    assert!(rt; lent_with(rt.alloc(), "a", 44, 9) == Ok((None, None, [2, 2, 2])));
-}
-
 /// Returns whether two archives of maps are equal.
 fn equal_to(alloc: Global, bytes: &[u8], others: &[u8]) -> Result<bool, Error> {
     let this = root_of::<Numbers>(alloc, bytes)?;
     let other = root_of::<Numbers>(alloc, others)?;
     Ok(ArchivedEq::eq(&this, &other))
-}
-
-#[test]
-fn maps_of_equal_entries_in_the_same_order_are_equal(rt: HostRuntime) {
-    assert!(rt; equal_to(rt.alloc(), &TWO, &TWO) == Ok(true));
-    assert!(rt; equal_to(rt.alloc(), &TWO, &EXCHANGED) == Ok(false));
-    assert!(rt; equal_to(rt.alloc(), &TWO, &NOTHING) == Ok(false));
-    assert!(rt; equal_to(rt.alloc(), &NOTHING, &NOTHING) == Ok(true));
-}
-
-/// Returns whether two archives of sets are equal.
-fn equal_sets(alloc: Global, bytes: &[u8], others: &[u8]) -> Result<bool, Error> {
-    let this = root_of::<Keys>(alloc, bytes)?;
-    let other = root_of::<Keys>(alloc, others)?;
-    Ok(ArchivedEq::eq(&this, &other))
-}
-
-#[test]
-fn sets_of_equal_keys_in_the_same_order_are_equal(rt: HostRuntime) {
-    assert!(rt; equal_sets(rt.alloc(), &TWO_KEYS, &TWO_KEYS) == Ok(true));
-    assert!(rt; equal_sets(rt.alloc(), &TWO_KEYS, &NOTHING) == Ok(false));
 }
 
 /// Returns the hash of a map.
@@ -325,25 +132,14 @@ fn hashed(alloc: Global, bytes: &[u8]) -> Result<u64, Error> {
 }
 
 #[test]
-fn maps_are_hashed_by_their_entries_in_order(rt: HostRuntime) {
+fn maps_of_equal_entries_in_the_same_order_are_equal_and_hash_alike(rt: HostRuntime) {
     let alloc = rt.alloc();
+    assert!(rt; equal_to(alloc, &TWO, &TWO) == Ok(true));
+    assert!(rt; equal_to(alloc, &TWO, &EXCHANGED) == Ok(false));
+    assert!(rt; equal_to(alloc, &TWO, &NOTHING) == Ok(false));
+    assert!(rt; equal_to(alloc, &NOTHING, &NOTHING) == Ok(true));
     assert!(rt; hashed(alloc, &TWO) == hashed(alloc, &TWO));
     assert!(rt; hashed(alloc, &TWO) != hashed(alloc, &EXCHANGED));
-}
-
-/// Returns the debug text of a map or a set.
-fn printed<T: ArchivedDebug + CheckBytes<HighValidator>>(
-    alloc: Global,
-    bytes: &[u8],
-) -> Result<String, Error>
-    requires { T.knows [] }
-{
-    let root = root_of::<T>(alloc, bytes)?;
-    let mut f = Formatter::new(String::new(alloc));
-    match T::fmt(&root, &mut f) {
-        Ok(()) => Ok(f.into_inner()),
-        Err(_) => Err(Error::OutOfMemory),
-    }
 }
 
 #[test]
@@ -351,30 +147,6 @@ fn maps_and_sets_are_printed_as_those_of_std(rt: HostRuntime) -> Result<(), Fail
     assert!(rt; printed::<Numbers>(rt.alloc(), &TWO)?.as_str() == "{\"z\": 1, \"a\": 2}");
     assert!(rt; printed::<Keys>(rt.alloc(), &TWO_KEYS)?.as_str() == "{\"z\", \"a\"}");
     assert!(rt; printed::<Numbers>(rt.alloc(), &NOTHING)?.as_str() == "{}");
-    Ok(())
-}
-
-/// Returns the number of keys of a set, whether it is empty, and the positions of its keys.
-fn listed(alloc: Global, bytes: &[u8]) -> Result<(usize, bool, Vec<usize>), Error> {
-    let root = root_of::<Keys>(alloc, bytes)?;
-    let mut keys = Vec::new(alloc);
-    for key in ArchivedIndexSet::iter(root) {
-        keys.push(key.pos())?;
-    }
-    Ok((
-        ArchivedIndexSet::len(root),
-        ArchivedIndexSet::is_empty(root),
-        keys,
-    ))
-}
-
-#[test]
-fn keys_of_sets_are_walked_in_order(rt: HostRuntime) -> Result<(), Fail> {
-    let (len, is_empty, keys) = listed(rt.alloc(), &TWO_KEYS)?;
-    assert!(rt; (len, is_empty) == (2, false));
-    assert!(rt; keys.as_slice() == [44, 52].as_slice());
-    let (len, is_empty, keys) = listed(rt.alloc(), &NOTHING)?;
-    assert!(rt; (len, is_empty, keys.len()) == (0, true, 0));
     Ok(())
 }
 
@@ -395,13 +167,6 @@ fn key_of(
     }
 }
 
-#[test]
-fn keys_of_sets_are_found(rt: HostRuntime) {
-    assert!(rt; key_of(rt.alloc(), "z") == Ok((Some((0, 44, 44, 0)), true)));
-    assert!(rt; key_of(rt.alloc(), "a") == Ok((Some((1, 52, 52, 1)), true)));
-    assert!(rt; key_of(rt.alloc(), "b") == Ok((None, false)));
-}
-
 /// Returns the position of the key with a number.
 fn numbered_key(alloc: Global, index: usize) -> Result<Option<usize>, Error> {
     let root = root_of::<Keys>(alloc, &TWO_KEYS)?;
@@ -412,7 +177,10 @@ fn numbered_key(alloc: Global, index: usize) -> Result<Option<usize>, Error> {
 }
 
 #[test]
-fn keys_of_sets_have_numbers(rt: HostRuntime) {
+fn keys_of_sets_are_found_and_have_numbers(rt: HostRuntime) {
+    assert!(rt; key_of(rt.alloc(), "z") == Ok((Some((0, 44, 44, 0)), true)));
+    assert!(rt; key_of(rt.alloc(), "a") == Ok((Some((1, 52, 52, 1)), true)));
+    assert!(rt; key_of(rt.alloc(), "b") == Ok((None, false)));
     assert!(rt; numbered_key(rt.alloc(), 1) == Ok(Some(52)));
     assert!(rt; numbered_key(rt.alloc(), 2) == Ok(None));
 }

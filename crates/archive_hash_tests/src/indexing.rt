@@ -27,39 +27,33 @@ fn accepts(alloc: Global, bytes: &[u8; 64]) -> Result<(), Error> {
     )
 }
 
+/// Returns the map's bytes with another value at a position.
+fn changed(index: usize, value: u8) -> [u8; 64] {
+    let mut bytes = ONE_PAIR;
+    if let Some(byte) = bytes.get_mut(index) {
+        *byte = value;
+    }
+    bytes
+}
+
 #[test]
-fn index_maps_are_accepted(rt: HostRuntime) {
+fn index_maps_are_accepted_and_spoilt_ones_refused(rt: HostRuntime) {
     assert!(rt; accepts(rt.alloc(), &ONE_PAIR) == Ok(()));
     let mut empty = [0; 64];
     empty[56] = 9;
     empty[60] = 9;
     assert!(rt; accepts(rt.alloc(), &empty) == Ok(()));
-}
-
-#[test]
-fn number_of_no_entry_is_refused(rt: HostRuntime) {
-    let mut bytes = ONE_PAIR;
-    bytes[4] = 1;
-    assert!(rt; accepts(rt.alloc(), &bytes) == Err(Error::InvalidPlace));
-}
-
-#[test]
-fn entries_before_the_bytes_are_refused(rt: HostRuntime) {
-    let mut bytes = ONE_PAIR;
-    bytes[60] = 0xc3;
-    assert!(rt; accepts(rt.alloc(), &bytes) == Err(Error::InvalidSubtreePointer { size: 8 }));
-}
-
-#[test]
-fn entries_in_the_table_are_refused(rt: HostRuntime) {
-    let mut bytes = ONE_PAIR;
-    bytes[60] = 0xe4;
-    assert!(rt; accepts(rt.alloc(), &bytes) == Err(Error::InvalidSubtreePointer { size: 8 }));
-}
-
-#[test]
-fn entries_are_checked(rt: HostRuntime) {
-    let mut bytes = ONE_PAIR;
-    bytes[44] = 0;
-    assert!(rt; accepts(rt.alloc(), &bytes) == Err(Error::InvalidTag));
+    let rows: [(usize, u8, Error); 4] = [
+        // the number of no entry
+        (4, 1, Error::InvalidPlace),
+        // entries that begin before the bytes, and entries in the table
+        (60, 0xc3, Error::InvalidSubtreePointer { size: 8 }),
+        (60, 0xe4, Error::InvalidSubtreePointer { size: 8 }),
+        // an entry whose value is no number of its type
+        (44, 0, Error::InvalidTag),
+    ];
+    for (index, value, error) in rows {
+        let bytes = changed(index, value);
+        assert!(rt; accepts(rt.alloc(), &bytes) == Err(error));
+    }
 }

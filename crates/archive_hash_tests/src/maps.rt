@@ -1,17 +1,15 @@
-//! Tests of iterating over archived hash maps, of writing to them through seals, and of archived hash sets.
+//! Tests of iterating over, writing to, comparing and printing archived hash maps, and of printing archived hash sets.
 ghost use Rattle.std.specs.Prelude.{[]};
 
 use crate::reading::root_of;
 use archive_core_validation::HighValidator;
 use archive_forms_comparing::ArchivedDebug;
 use archive_forms_values::ArchivedString;
-use archive_hash_maps::{
-    ArchivedHashMap, ArchivedHashSet, ArchivedHashTable, eq_hash_map, eq_hash_set,
-};
+use archive_hash_maps::{ArchivedHashMap, ArchivedHashSet, ArchivedHashTable, eq_hash_map};
 use archive_hash_probing::FxHasher64;
 use archive_shape::{ArchivedU32, CheckBytes, Error, Ref, Seal};
 use std::alloc::Global;
-use std::collections::{HashMap, HashSet};
+use std::collections::HashMap;
 use std::fmt::Formatter;
 use std::test::Fail;
 
@@ -45,25 +43,6 @@ const THREE_KEYS: [u8; 76] = [
 /// A map or a set without entries.
 pub(crate) const NOTHING: [u8; 12] = [1, 0, 0, 0, 0, 0, 0, 0, 0, 0, 0, 0];
 
-/// Returns the positions of the key and the value of each entry that an iterator returns, and the number of entries
-/// left after it.
-fn walked(alloc: Global) -> Result<Vec<(usize, usize, usize)>, Error> {
-    let root = root_of::<Texts>(alloc, &THREE)?;
-    let mut entries = ArchivedHashMap::iter(root);
-    let mut walked = Vec::new(alloc);
-    while let Some((key, value)) = entries.next() {
-        walked.push((key.pos(), value.pos(), entries.len()))?;
-    }
-    Ok(walked)
-}
-
-#[test]
-fn entries_are_walked_by_ascending_place(rt: HostRuntime) -> Result<(), Fail> {
-    let walked = walked(rt.alloc())?;
-    assert!(rt; walked.as_slice() == [(48, 56, 2), (16, 24, 1), (0, 8, 0)].as_slice());
-    Ok(())
-}
-
 /// Returns the positions of the keys and those of the values, from iterators over them alone.
 fn parted(alloc: Global) -> Result<(Vec<usize>, Vec<usize>), Error> {
     let root = root_of::<Texts>(alloc, &THREE)?;
@@ -79,7 +58,7 @@ fn parted(alloc: Global) -> Result<(Vec<usize>, Vec<usize>), Error> {
 }
 
 #[test]
-fn keys_and_values_are_walked_alone(rt: HostRuntime) -> Result<(), Fail> {
+fn keys_and_values_are_walked_by_ascending_place(rt: HostRuntime) -> Result<(), Fail> {
     let (keys, values) = parted(rt.alloc())?;
     assert!(rt; keys.as_slice() == [48, 16, 0].as_slice());
     assert!(rt; values.as_slice() == [56, 24, 8].as_slice());
@@ -153,56 +132,6 @@ fn items_of_hashes_are_written_over(rt: HostRuntime) {
     assert!(rt; item_written(rt.alloc(), 0, 9) == Ok(crate::reading::ONE_OF_TWO));
 }
 
-/// Returns the positions of the key and the value that the map from `a` to 1 lends, and the number in the bytes after
-/// another was written over the value.
-fn lent(alloc: Global, key: &str, number: u32) -> Result<(Option<(usize, usize)>, u8), Error> {
-    let mut bytes = crate::reading::A_TO_ONE;
-    let pos = root_of::<crate::reading::Numbers>(alloc, &bytes)?.pos();
-    let seal = Seal::<crate::reading::Numbers>::new(&mut bytes, pos);
-    let lent = match ArchivedHashMap::get_key_value_seal(seal, &key) {
-        Some((key, value)) => {
-            let positions = (key.pos(), value.pos());
-            value.write(number);
-            Some(positions)
-        }
-        None => None,
-    };
-    Ok((lent, bytes[8]))
-}
-
-#[test]
-fn keys_are_lent_beside_their_values(rt: HostRuntime) {
-    assert!(rt; lent(rt.alloc(), "a", 9) == Ok((Some((0, 8)), 9)));
-    assert!(rt; lent(rt.alloc(), "b", 9) == Ok((None, 1)));
-}
-
-/// Returns the number in the bytes of the map from `a` to 1 after another was written, through each of the two seals,
-/// over the value of the key that the caller's comparison accepts for the hash of a text.
-fn accepted(alloc: Global, text: &str, at: usize, number: u32) -> Result<(u8, u8), Error> {
-    let mut bytes = crate::reading::A_TO_ONE;
-    let mut others = crate::reading::A_TO_ONE;
-    let pos = root_of::<crate::reading::Numbers>(alloc, &bytes)?.pos();
-    let is_there = |_text: &&str, key: Ref<'_, ArchivedString>| key.pos() == at;
-    let seal = Seal::<crate::reading::Numbers>::new(&mut bytes, pos);
-    match ArchivedHashMap::get_seal_with(seal, &text, &is_there) {
-        Some(value) => value.write(number),
-        None => {}
-    }
-    let seal = Seal::<crate::reading::Numbers>::new(&mut others, pos);
-    match ArchivedHashMap::get_key_value_seal_with(seal, &text, &is_there) {
-        Some((_, value)) => value.write(number),
-        None => {}
-    }
-    Ok((bytes[8], others[8]))
-}
-
-#[test]
-fn values_of_accepted_keys_are_written_over(rt: HostRuntime) {
-    assert!(rt; accepted(rt.alloc(), "a", 0, 9) == Ok((9, 9)));
-    assert!(rt; accepted(rt.alloc(), "a", 1, 9) == Ok((1, 1)));
-    assert!(rt; accepted(rt.alloc(), "b", 0, 9) == Ok((1, 1)));
-}
-
 /// Returns whether the map is equal to a map of std with these pairs.
 fn equals(alloc: Global, pairs: &[(&'static str, &'static str)]) -> Result<bool, Error> {
     let root = root_of::<Texts>(alloc, &THREE)?;
@@ -242,84 +171,8 @@ fn archived_maps_of_equal_entries_are_equal(rt: HostRuntime) {
     assert!(rt; equal_to(rt.alloc(), &NOTHING, &NOTHING) == Ok(true));
 }
 
-/// Returns whether the set is equal to a set of std with these keys.
-fn equals_keys(alloc: Global, keys: &[&'static str]) -> Result<bool, Error> {
-    let root = root_of::<Keys>(alloc, &THREE_KEYS)?;
-    let mut other = HashSet::new(alloc);
-    for key in keys {
-        if other.insert(*key).is_err() {
-            return Err(Error::OutOfMemory);
-        }
-    }
-    Ok(eq_hash_set(&root, &other))
-}
-
-#[test]
-fn sets_of_the_same_keys_are_equal(rt: HostRuntime) {
-    assert!(rt; equals_keys(rt.alloc(), &["hello", "foo", "baz"]) == Ok(true));
-    assert!(rt; equals_keys(rt.alloc(), &["hello", "foo", "bar"]) == Ok(false));
-    assert!(rt; equals_keys(rt.alloc(), &["hello", "foo"]) == Ok(false));
-}
-
-/// Returns whether two archives of sets are equal.
-fn equal_sets(alloc: Global, bytes: &[u8], others: &[u8]) -> Result<bool, Error> {
-    let this = root_of::<Keys>(alloc, bytes)?;
-    let other = root_of::<Keys>(alloc, others)?;
-    Ok(ArchivedHashSet::equals(this, other))
-}
-
-#[test]
-fn archived_sets_of_equal_keys_are_equal(rt: HostRuntime) {
-    let mut changed = THREE_KEYS;
-    changed[8..13].copy_from_slice(b"HELLO");
-    assert!(rt; equal_sets(rt.alloc(), &THREE_KEYS, &THREE_KEYS) == Ok(true));
-    assert!(rt; equal_sets(rt.alloc(), &THREE_KEYS, &changed) == Ok(false));
-    assert!(rt; equal_sets(rt.alloc(), &THREE_KEYS, &NOTHING) == Ok(false));
-}
-
-/// Returns the position of a key of the set, and whether the set has it.
-fn key_of(alloc: Global, text: &str) -> Result<(Option<usize>, bool), Error> {
-    let root = root_of::<Keys>(alloc, &THREE_KEYS)?;
-    let is_there = ArchivedHashSet::contains(root, &text);
-    match ArchivedHashSet::get(root, &text) {
-        Some(key) => Ok((Some(key.pos()), is_there)),
-        None => Ok((None, is_there)),
-    }
-}
-
-#[test]
-fn keys_of_sets_are_found(rt: HostRuntime) {
-    assert!(rt; key_of(rt.alloc(), "hello") == Ok((Some(8), true)));
-    assert!(rt; key_of(rt.alloc(), "foo") == Ok((Some(0), true)));
-    assert!(rt; key_of(rt.alloc(), "world") == Ok((None, false)));
-}
-
-/// Returns the number of keys of a set, whether it is empty, and the positions of its keys.
-fn listed(alloc: Global, bytes: &[u8]) -> Result<(usize, bool, Vec<usize>), Error> {
-    let root = root_of::<Keys>(alloc, bytes)?;
-    let mut keys = Vec::new(alloc);
-    for key in ArchivedHashSet::iter(root) {
-        keys.push(key.pos())?;
-    }
-    Ok((
-        ArchivedHashSet::len(root),
-        ArchivedHashSet::is_empty(root),
-        keys,
-    ))
-}
-
-#[test]
-fn keys_of_sets_are_walked_by_ascending_place(rt: HostRuntime) -> Result<(), Fail> {
-    let (len, is_empty, keys) = listed(rt.alloc(), &THREE_KEYS)?;
-    assert!(rt; (len, is_empty) == (3, false));
-    assert!(rt; keys.as_slice() == [24, 8, 0].as_slice());
-    let (len, is_empty, keys) = listed(rt.alloc(), &NOTHING)?;
-    assert!(rt; (len, is_empty, keys.len()) == (0, true, 0));
-    Ok(())
-}
-
 /// Returns the debug text of a map or a set.
-fn printed<T: ArchivedDebug + CheckBytes<HighValidator>>(
+pub(crate) fn printed<T: ArchivedDebug + CheckBytes<HighValidator>>(
     alloc: Global,
     bytes: &[u8],
 ) -> Result<String, Error>

@@ -16,19 +16,20 @@ fn strides_go_on_by_more_each_time(rt: HostRuntime) {
 }
 
 #[test]
-fn a_table_has_more_places_than_items(rt: HostRuntime) {
-    assert!(rt; capacity_for_len(0, (7, 8)) == Ok(0));
-    assert!(rt; capacity_for_len(1, (7, 8)) == Ok(2));
-    assert!(rt; capacity_for_len(15, (7, 8)) == Ok(17));
-    assert!(rt; capacity_for_len(215, (7, 8)) == Ok(245));
-    assert!(rt; capacity_for_len(215, (8, 8)) == Ok(216));
-}
-
-#[test]
-fn load_factors_that_leave_no_places_are_refused(rt: HostRuntime) {
-    assert!(rt; capacity_for_len(1, (0, 8)) == Err(Error::InvalidLoadFactor));
-    assert!(rt; capacity_for_len(1, (9, 8)) == Err(Error::InvalidLoadFactor));
-    assert!(rt; capacity_for_len(3, (1, 4_294_967_296)) == Err(Error::LengthTooLarge));
+fn a_table_has_more_places_than_items_or_its_load_factor_is_refused(rt: HostRuntime) {
+    let rows: [(usize, (usize, usize), Result<usize, Error>); 8] = [
+        (0, (7, 8), Ok(0)),
+        (1, (7, 8), Ok(2)),
+        (15, (7, 8), Ok(17)),
+        (215, (7, 8), Ok(245)),
+        (215, (8, 8), Ok(216)),
+        (1, (0, 8), Err(Error::InvalidLoadFactor)),
+        (1, (9, 8), Err(Error::InvalidLoadFactor)),
+        (3, (1, 4_294_967_296), Err(Error::LengthTooLarge)),
+    ];
+    for (len, load_factor, capacity) in rows {
+        assert!(rt; capacity_for_len(len, load_factor) == capacity);
+    }
 }
 
 /// The hashes of the texts `0` to `14`.

@@ -1,4 +1,4 @@
-//! Tests of reading archived hash tables and maps.
+//! Tests of reading archived hash tables.
 ghost use Rattle.std.specs.Prelude.{◌≡◌, [], IfOk};
 ghost use Rattle.archive_forms_values.specs.Parts.{HasValue};
 
@@ -8,7 +8,6 @@ use archive_hash_maps::{ArchivedHashMap, ArchivedHashTable};
 use archive_hash_probing::{FxHasher64, Group1, Group8, Group16, Scan};
 use archive_shape::{ArchivedU32, CheckBytes, Error, Ref, Steps};
 use std::alloc::Global;
-use std::test::Fail;
 
 /// A table of the number 7 in the second of two places: the bucket of each place, the second place's first; sixteen
 /// controls for the places and fifteen more; a byte of padding; and the table, whose controls begin 32 bytes before it.
@@ -65,59 +64,5 @@ fn items_are_found_at_every_width(rt: HostRuntime) {
     assert!(rt; counted::<Group16>(rt.alloc(), 0) == Ok((None, steps)));
 }
 
-/// Returns the full places with their tags and their items' positions, and the positions of the items alone.
-fn walked(alloc: Global) -> Result<(Vec<(usize, u8, usize)>, Vec<usize>), Error> {
-    let root = root_of::<ArchivedHashTable<ArchivedU32>>(alloc, &ONE_OF_TWO)?;
-    let mut places = Vec::new(alloc);
-    for (place, tag, item) in ArchivedHashTable::full_places(root) {
-        places.push((place, tag, item.pos()))?;
-    }
-    let mut positions = Vec::new(alloc);
-    for position in ArchivedHashTable::raw_iter(root) {
-        positions.push(position)?;
-    }
-    Ok((places, positions))
-}
-
-#[test]
-fn full_places_are_walked(rt: HostRuntime) -> Result<(), Fail> {
-    let (places, positions) = walked(rt.alloc())?;
-    assert!(rt; places.as_slice() == [(1, 0x55, 0)].as_slice());
-    assert!(rt; positions.as_slice() == [0].as_slice());
-    Ok(())
-}
-
 /// An archived map from texts to numbers.
 pub(crate) type Numbers = ArchivedHashMap<ArchivedString, ArchivedU32, FxHasher64>;
-
-/// Returns the number that is a text's value, and whether the map has the text.
-fn found(alloc: Global, text: &str) -> Result<(Option<u32>, bool), Error> {
-    let root = root_of::<Numbers>(alloc, &A_TO_ONE)?;
-    let is_there = ArchivedHashMap::contains_key(root, &text);
-    match ArchivedHashMap::get(root, &text) {
-        Some(number) => Ok((Some(native_of(number)), is_there)),
-        None => Ok((None, is_there)),
-    }
-}
-
-#[test]
-fn keys_of_maps_are_found(rt: HostRuntime) {
-    assert!(rt; found(rt.alloc(), "a") == Ok((Some(1), true)));
-    assert!(rt; found(rt.alloc(), "b") == Ok((None, false)));
-    assert!(rt; found(rt.alloc(), "") == Ok((None, false)));
-}
-
-/// Returns the number of entries of a map, whether it is empty, and its number of places.
-fn sizes(alloc: Global) -> Result<(usize, bool, usize), Error> {
-    let root = root_of::<Numbers>(alloc, &A_TO_ONE)?;
-    Ok((
-        ArchivedHashMap::len(root),
-        ArchivedHashMap::is_empty(root),
-        ArchivedHashMap::capacity(root),
-    ))
-}
-
-#[test]
-fn map_tells_its_sizes(rt: HostRuntime) {
-    assert!(rt; sizes(rt.alloc()) == Ok((1, false, 2)));
-}

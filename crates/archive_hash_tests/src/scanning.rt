@@ -1,6 +1,6 @@
 //! Tests of the hashes of texts, and of the marks of scans.
 use archive_hash_probing::{
-    Bitmask, FxHasher64, Group, Group1, Group8, Group16, MAX_GROUP_WIDTH, Scan, WIDTH, hash_text,
+    Bitmask, FxHasher64, Group, Group1, Group8, MAX_GROUP_WIDTH, Scan, WIDTH, hash_text,
     hash_value, tag_of,
 };
 
@@ -21,35 +21,21 @@ fn eight_controls_may_be_marked_falsely_above_a_match(rt: HostRuntime) {
     let group = Group8::read(&CONTROLS, 0);
     assert!(rt; group.match_byte(0x55).bits == 0b11);
     assert!(rt; group.match_empty().bits == 0b1111_1100);
-    assert!(rt; group.match_full().bits == 0b11);
-}
-
-#[test]
-fn one_control_is_marked_exactly(rt: HostRuntime) {
-    assert!(rt; Group1::read(&CONTROLS, 0).match_byte(0x55).bits == 1);
-    assert!(rt; Group1::read(&CONTROLS, 1).match_byte(0x55) == Bitmask::EMPTY);
-}
-
-#[test]
-fn sixteen_controls_are_marked_exactly(rt: HostRuntime) {
-    let group = Group16::read(&CONTROLS, 0);
-    assert!(rt; group.match_byte(0x55).bits == 1);
-    assert!(rt; group.match_empty().bits == 0xfffc);
-    assert!(rt; group.match_full().bits == 0b11);
-}
-
-#[test]
-fn the_widest_scan_is_in_use(rt: HostRuntime) {
-    assert!(rt; WIDTH == 16);
-    assert!(rt; MAX_GROUP_WIDTH == 16);
-    assert!(rt; Group::read(&CONTROLS, 0).match_empty().bits == 0xfffc);
-}
-
-#[test]
-fn a_mask_gives_its_lanes(rt: HostRuntime) {
-    let mut lanes = Group8::read(&CONTROLS, 0).match_full();
+    let mut lanes = group.match_full();
+    assert!(rt; lanes.bits == 0b11);
     assert!(rt; lanes.any_bit_set());
     assert!(rt; lanes.next() == Some(0));
     assert!(rt; lanes.next() == Some(1));
     assert!(rt; lanes.next() == None);
+}
+
+#[test]
+fn one_control_and_the_widest_scan_are_marked_exactly(rt: HostRuntime) {
+    assert!(rt; Group1::read(&CONTROLS, 0).match_byte(0x55).bits == 1);
+    assert!(rt; Group1::read(&CONTROLS, 1).match_byte(0x55) == Bitmask::EMPTY);
+    assert!(rt; (WIDTH, MAX_GROUP_WIDTH) == (16, 16));
+    let group = Group::read(&CONTROLS, 0);
+    assert!(rt; group.match_byte(0x55).bits == 1);
+    assert!(rt; group.match_empty().bits == 0xfffc);
+    assert!(rt; group.match_full().bits == 0b11);
 }

@@ -1,64 +1,20 @@
-//! Tests of cursors that write over the items of tables and the values of maps, and of the own bytes of tables.
-ghost use Rattle.std.specs.Prelude.{◌≡◌, ℕ, ◌+◌, ◌≤◌, List, length};
+//! Tests of cursors that write over the values of maps, and of the own bytes of tables.
 ghost use Rattle.archive_shape_layout.specs.Shape.Shape.{table};
-ghost use Rattle.archive_shape.specs.Bytes.{overwrite};
 ghost use Rattle.archive_forms_values.specs.Tuples.{tuple2};
 ghost use Rattle.archive_forms_values.specs.Parts.{HasValue, both};
 
 use crate::maps::{Keys, NOTHING, THREE, Texts};
-use crate::reading::{A_TO_ONE, Numbers, ONE_OF_TWO, root_of};
+use crate::reading::{A_TO_ONE, Numbers, root_of};
 use archive_hash_maps::{
     ArchivedHashMap, ArchivedHashSet, ArchivedHashTable, HashMapResolver, HashSetResolver,
     HashTableResolver,
 };
-use archive_shape::{ArchivedU32, Error, OwnSeal, Place, Portable, Ref, Seal};
+use archive_shape::{ArchivedU32, Error, OwnSeal, Place, Portable, Seal};
 use std::alloc::{AllocError, Global};
 use std::test::Fail;
 
 /// An archived table of numbers.
 type Table = ArchivedHashTable<ArchivedU32>;
-
-/// Fills the own bytes at a position with a byte.
-fn fill_at(bytes: &mut [u8], at: usize, size: usize, byte: u8)
-    requires { at + size ≤ length bytes.old }
-    ensures { (own : List ℕ) × (length own ≡ size) × (bytes.new ≡ overwrite bytes.old at own) }
-{
-    bytes[at..at + size].fill(byte);
-}
-
-/// Fills the own bytes of each value with a byte, and records its position and the number of values left after it.
-fn fill_values<K: Portable, V: Portable, H>(
-    map: Seal<'_, ArchivedHashMap<K, V, H>>,
-    byte: u8,
-    met: &mut Vec<(usize, usize)>,
-) -> Result<(), AllocError>
-    requires { HasValue (table (tuple2 K.shape V.shape)) (both K.knows V.knows) map.bytes.now map.pos }
-{
-    let size = V::SIZE;
-    let mut values = ArchivedHashMap::values_seal(map);
-    while let Some(at) = values.advance() {
-        fill_at(values.entries.bytes, at, size, byte);
-        met.push((at, values.len()))?;
-    }
-    Ok(())
-}
-
-/// Fills the own bytes of each item with a byte, and records its position and the number of items left after it.
-fn fill_items<T: Portable>(
-    seal: Seal<'_, ArchivedHashTable<T>>,
-    byte: u8,
-    met: &mut Vec<(usize, usize)>,
-) -> Result<(), AllocError>
-    requires { HasValue (table T.shape) T.knows seal.bytes.now seal.pos }
-{
-    let size = T::SIZE;
-    let mut items = ArchivedHashTable::raw_iter_seal(seal);
-    while let Some(at) = items.advance() {
-        fill_at(items.bytes, at, size, byte);
-        met.push((at, items.len()))?;
-    }
-    Ok(())
-}
 
 /// Fills the own bytes of each value with a byte, in calls that the values are lent to, and records its position and the
 /// number of values left after it.
@@ -80,35 +36,6 @@ fn visit_values<K: Portable, V: Portable, H>(
     Ok(())
 }
 
-/// Fills each value of the map in these bytes, and returns what was recorded.
-fn filled_values(alloc: Global, bytes: &mut [u8], byte: u8) -> Result<Vec<(usize, usize)>, Error> {
-    let pos = root_of::<Texts>(alloc, bytes)?.pos();
-    let mut met = Vec::new(alloc);
-    fill_values(Seal::<Texts>::new(bytes, pos), byte, &mut met)?;
-    Ok(met)
-}
-
-/// Fills each item of the table in these bytes, and returns what was recorded.
-fn filled_items(alloc: Global, bytes: &mut [u8], byte: u8) -> Result<Vec<(usize, usize)>, Error> {
-    let pos = root_of::<Table>(alloc, bytes)?.pos();
-    let mut met = Vec::new(alloc);
-    fill_items(Seal::<Table>::new(bytes, pos), byte, &mut met)?;
-    Ok(met)
-}
-
-#[test]
-fn cursors_pass_each_value_while_the_values_are_written(rt: HostRuntime) -> Result<(), Fail> {
-    let mut bytes = THREE;
-    let met = filled_values(rt.alloc(), &mut bytes, 7)?;
-    assert!(rt; met.as_slice() == [(56, 2), (24, 1), (8, 0)].as_slice());
-    let mut expected = THREE;
-    expected[8..16].fill(7);
-    expected[24..32].fill(7);
-    expected[56..64].fill(7);
-    assert!(rt; bytes == expected);
-    Ok(())
-}
-
 /// Fills each value in calls that the values are lent to, and returns what was recorded.
 fn visited_values(alloc: Global, bytes: &mut [u8], byte: u8) -> Result<Vec<(usize, usize)>, Error> {
     let pos = root_of::<Texts>(alloc, bytes)?.pos();
@@ -127,26 +54,9 @@ fn calls_that_values_are_lent_to_write_each_value(rt: HostRuntime) -> Result<(),
     expected[24..32].fill(7);
     expected[56..64].fill(7);
     assert!(rt; bytes == expected);
-    Ok(())
-}
-
-#[test]
-fn cursors_pass_each_item_while_the_items_are_written(rt: HostRuntime) -> Result<(), Fail> {
-    let mut bytes = ONE_OF_TWO;
-    let met = filled_items(rt.alloc(), &mut bytes, 9)?;
-    assert!(rt; met.as_slice() == [(0, 0)].as_slice());
-    let mut expected = ONE_OF_TWO;
-    expected[..4].fill(9);
-    assert!(rt; bytes == expected);
-    Ok(())
-}
-
-#[test]
-fn cursors_over_nothing_pass_nothing(rt: HostRuntime) -> Result<(), Fail> {
-    let mut bytes = NOTHING;
-    assert!(rt; filled_values(rt.alloc(), &mut bytes, 7)?.is_empty());
-    assert!(rt; filled_items(rt.alloc(), &mut bytes, 7)?.is_empty());
-    assert!(rt; bytes == NOTHING);
+    let mut nothing = NOTHING;
+    assert!(rt; visited_values(rt.alloc(), &mut nothing, 7)?.is_empty());
+    assert!(rt; nothing == NOTHING);
     Ok(())
 }
 
@@ -198,15 +108,6 @@ fn table_bytes(
 /// The own bytes of a table of one item, as they are in the archive of one item.
 const ONE: [u8; 12] = [0xe0, 0xff, 0xff, 0xff, 1, 0, 0, 0, 2, 0, 0, 0];
 
-#[test]
-fn own_bytes_tell_the_controls_the_items_and_the_places(rt: HostRuntime) {
-    assert!(rt; table_bytes(0, (7, 8), None) == Ok(NOTHING));
-    assert!(rt; table_bytes(1, (7, 8), Some(8)) == Ok(ONE));
-    assert!(rt; table_bytes(1, (0, 8), Some(8)) == Err(Error::InvalidLoadFactor));
-    assert!(rt; table_bytes(0xffff_ffff, (7, 8), Some(8)) == Err(Error::LengthTooLarge));
-    assert!(rt; table_bytes(1, (7, 8), Some(0xffff_ffff)) == Err(Error::IsizeOverflow));
-}
-
 /// Returns the twelve own bytes of a map and of a set of `len` entries at position 40.
 fn map_and_set_bytes(len: usize, to: Option<usize>) -> Result<([u8; 12], [u8; 12]), Error> {
     let mut map = [0; 12];
@@ -220,7 +121,12 @@ fn map_and_set_bytes(len: usize, to: Option<usize>) -> Result<([u8; 12], [u8; 12
 }
 
 #[test]
-fn maps_and_sets_have_the_own_bytes_of_tables(rt: HostRuntime) {
+fn own_bytes_tell_the_controls_the_items_and_the_places(rt: HostRuntime) {
+    assert!(rt; table_bytes(0, (7, 8), None) == Ok(NOTHING));
+    assert!(rt; table_bytes(1, (7, 8), Some(8)) == Ok(ONE));
+    assert!(rt; table_bytes(1, (0, 8), Some(8)) == Err(Error::InvalidLoadFactor));
+    assert!(rt; table_bytes(0xffff_ffff, (7, 8), Some(8)) == Err(Error::LengthTooLarge));
+    assert!(rt; table_bytes(1, (7, 8), Some(0xffff_ffff)) == Err(Error::IsizeOverflow));
     assert!(rt; map_and_set_bytes(1, Some(8)) == Ok((ONE, ONE)));
     assert!(rt; map_and_set_bytes(0, None) == Ok((NOTHING, NOTHING)));
 }

@@ -126,20 +126,6 @@ fn keys_that_are_found_can_be_indexed(rt: HostRuntime) {
     assert!(rt; indexed(rt.alloc(), 17, "17") == Ok(None));
 }
 
-#[test]
-fn maps_of_many_sizes_are_read_back(rt: HostRuntime) {
-    for count in [0, 1, 5, 6, 17, 35, 36, 112, 215, 2_000] {
-        assert_eq!(rt; is_read_back(rt.alloc(), count), Ok(true), "{count}");
-    }
-}
-
-#[test]
-fn every_key_that_was_written_leads_to_its_value(rt: HostRuntime) {
-    for count in [0, 1, 5, 6, 17, 35, 36, 112, 215, 2_000] {
-        assert_eq!(rt; leads_to_all(rt.alloc(), count), Ok(true), "{count}");
-    }
-}
-
 /// Writes the table of a map's entries, where the caller claims `claimed` entries, with the given load factor.
 fn write_claimed<S: Writer + Allocator>(
     claimed: usize,
@@ -168,27 +154,6 @@ fn claiming(
     }
     let mut serializer = memory(alloc);
     write_claimed(claimed, &OwnedHashMap { map }, load_factor, &mut serializer)
-}
-
-#[test]
-fn load_factors_that_leave_no_places_are_refused_of_maps(rt: HostRuntime) {
-    let alloc = rt.alloc();
-    for load_factor in [(0, 8), (9, 8)] {
-        assert!(rt; claiming(alloc, 3, 3, load_factor) == Err(Error::InvalidLoadFactor));
-    }
-    assert!(rt; claiming(alloc, 3, 3, (8, 8)) == Ok(HashTableResolver::from_pos(Some(32))));
-}
-
-#[test]
-fn wrong_claims_are_refused_with_both_numbers(rt: HostRuntime) {
-    let alloc = rt.alloc();
-    for (expected, actual) in [(3, 2), (0, 1), (1, 3)] {
-        assert_eq!(rt;
-            claiming(alloc, expected, actual as u32, (7, 8)),
-            Err(Error::IteratorLengthMismatch { expected, actual }),
-            "{expected} for {actual}"
-        );
-    }
 }
 
 /// Returns the bytes of the table of the numbers below `count` in their order, as a scan writes it.
@@ -287,8 +252,10 @@ fn is_set_read_back(alloc: Global, count: u32) -> Result<bool, Error> {
 }
 
 #[test]
-fn sets_of_many_sizes_are_read_back(rt: HostRuntime) {
-    for count in [0, 1, 5, 6, 17, 36, 215] {
+fn maps_and_sets_of_many_sizes_are_read_back(rt: HostRuntime) {
+    for count in [0, 1, 5, 6, 17, 35, 36, 112, 215, 2_000] {
+        assert_eq!(rt; is_read_back(rt.alloc(), count), Ok(true), "{count}");
+        assert_eq!(rt; leads_to_all(rt.alloc(), count), Ok(true), "{count}");
         assert_eq!(rt; is_set_read_back(rt.alloc(), count), Ok(true), "{count}");
     }
 }
@@ -311,8 +278,19 @@ fn claiming_keys(alloc: Global, claimed: usize, count: u32) -> Result<HashTableR
 }
 
 #[test]
-fn keys_are_written_where_as_many_come_as_are_claimed(rt: HostRuntime) {
+fn wrong_claims_and_load_factors_are_refused(rt: HostRuntime) {
     let alloc = rt.alloc();
+    for load_factor in [(0, 8), (9, 8)] {
+        assert!(rt; claiming(alloc, 3, 3, load_factor) == Err(Error::InvalidLoadFactor));
+    }
+    assert!(rt; claiming(alloc, 3, 3, (8, 8)) == Ok(HashTableResolver::from_pos(Some(32))));
+    for (expected, actual) in [(3, 2), (0, 1), (1, 3)] {
+        assert_eq!(rt;
+            claiming(alloc, expected, actual as u32, (7, 8)),
+            Err(Error::IteratorLengthMismatch { expected, actual }),
+            "{expected} for {actual}"
+        );
+    }
     assert!(rt; claiming_keys(alloc, 3, 3) == Ok(HashTableResolver::from_pos(Some(16))));
     assert!(rt;
         claiming_keys(alloc, 2, 3)
