@@ -1,15 +1,12 @@
 //! Tests of archived index maps and sets: their entries in order, look-ups, writes through seals, comparing and printing.
-ghost use Rattle.std.specs.Prelude.{[]};
-
+use crate::maps::printed;
 use crate::reading::root_of;
-use archive_core_validation::HighValidator;
-use archive_forms_comparing::{ArchivedDebug, ArchivedEq, ArchivedHash};
-use archive_forms_values::{ArchivedString, native_of};
+use archive_forms_comparing::{ArchivedEq, ArchivedHash};
+use archive_forms_values::ArchivedString;
 use archive_hash_probing::FxHasher64;
 use archive_index::{ArchivedIndexMap, ArchivedIndexSet};
-use archive_shape::{ArchivedU32, CheckBytes, Error, Seal};
+use archive_shape::{ArchivedU32, Error, Seal};
 use std::alloc::Global;
-use std::fmt::Formatter;
 use std::hash::Hasher;
 use std::test::Fail;
 
@@ -74,36 +71,6 @@ fn keys_and_values_are_walked_in_order(rt: HostRuntime) -> Result<(), Fail> {
     let (keys, values) = parted(rt.alloc(), &NOTHING)?;
     assert!(rt; (keys.len(), values.len()) == (0, 0));
     Ok(())
-}
-
-/// Returns the number of a key's entry and the positions of the key and the value, as each look-up returns them.
-fn looked_up(
-    alloc: Global,
-    text: &str,
-) -> Result<Option<(usize, usize, usize, usize, u32, usize)>, Error> {
-    let root = root_of::<Numbers>(alloc, &TWO)?;
-    let full = ArchivedIndexMap::get_full(root, &text);
-    let pair = ArchivedIndexMap::get_key_value(root, &text);
-    let value = ArchivedIndexMap::get(root, &text);
-    let index = ArchivedIndexMap::get_index_of(root, &text);
-    match (full, pair, value, index) {
-        (Some((number, key, _)), Some((other, at)), Some(value), Some(index)) => Ok(Some((
-            number,
-            key.pos(),
-            other.pos(),
-            at.pos(),
-            native_of(value),
-            index,
-        ))),
-        _ => Ok(None),
-    }
-}
-
-#[test]
-fn keys_lead_to_their_entries(rt: HostRuntime) {
-    assert!(rt; looked_up(rt.alloc(), "z") == Ok(Some((0, 44, 44, 52, 1, 0))));
-    assert!(rt; looked_up(rt.alloc(), "a") == Ok(Some((1, 56, 56, 64, 2, 1))));
-    assert!(rt; looked_up(rt.alloc(), "b") == Ok(None));
 }
 
 /// Returns the number and the position of the key that each seal lends for a text, and the lowest byte of the value of
@@ -173,21 +140,6 @@ fn maps_of_equal_entries_in_the_same_order_are_equal_and_hash_alike(rt: HostRunt
     assert!(rt; equal_to(alloc, &NOTHING, &NOTHING) == Ok(true));
     assert!(rt; hashed(alloc, &TWO) == hashed(alloc, &TWO));
     assert!(rt; hashed(alloc, &TWO) != hashed(alloc, &EXCHANGED));
-}
-
-/// Returns the debug text of a map or a set.
-fn printed<T: ArchivedDebug + CheckBytes<HighValidator>>(
-    alloc: Global,
-    bytes: &[u8],
-) -> Result<String, Error>
-    requires { T.knows [] }
-{
-    let root = root_of::<T>(alloc, bytes)?;
-    let mut f = Formatter::new(String::new(alloc));
-    match T::fmt(&root, &mut f) {
-        Ok(()) => Ok(f.into_inner()),
-        Err(_) => Err(Error::OutOfMemory),
-    }
 }
 
 #[test]

@@ -1,4 +1,4 @@
-//! Tests of iterating over archived hash maps, of writing to them through seals, and of archived hash sets.
+//! Tests of iterating over, writing to, comparing and printing archived hash maps, and of printing archived hash sets.
 ghost use Rattle.std.specs.Prelude.{[]};
 
 use crate::reading::root_of;
@@ -172,7 +172,7 @@ fn archived_maps_of_equal_entries_are_equal(rt: HostRuntime) {
 }
 
 /// Returns the debug text of a map or a set.
-fn printed<T: ArchivedDebug + CheckBytes<HighValidator>>(
+pub(crate) fn printed<T: ArchivedDebug + CheckBytes<HighValidator>>(
     alloc: Global,
     bytes: &[u8],
 ) -> Result<String, Error>

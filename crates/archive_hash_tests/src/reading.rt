@@ -8,7 +8,6 @@ use archive_hash_maps::{ArchivedHashMap, ArchivedHashTable};
 use archive_hash_probing::{FxHasher64, Group1, Group8, Group16, Scan};
 use archive_shape::{ArchivedU32, CheckBytes, Error, Ref, Steps};
 use std::alloc::Global;
-use std::test::Fail;
 
 /// A table of the number 7 in the second of two places: the bucket of each place, the second place's first; sixteen
 /// controls for the places and fifteen more; a byte of padding; and the table, whose controls begin 32 bytes before it.
@@ -63,23 +62,6 @@ fn items_are_found_at_every_width(rt: HostRuntime) {
     assert!(rt; counted::<Group8>(rt.alloc(), HASH_OF_A) == found);
     assert!(rt; counted::<Group16>(rt.alloc(), HASH_OF_A) == found);
     assert!(rt; counted::<Group16>(rt.alloc(), 0) == Ok((None, steps)));
-}
-
-/// Returns the full places with their tags and their items' positions.
-fn walked(alloc: Global) -> Result<Vec<(usize, u8, usize)>, Error> {
-    let root = root_of::<ArchivedHashTable<ArchivedU32>>(alloc, &ONE_OF_TWO)?;
-    let mut places = Vec::new(alloc);
-    for (place, tag, item) in ArchivedHashTable::full_places(root) {
-        places.push((place, tag, item.pos()))?;
-    }
-    Ok(places)
-}
-
-#[test]
-fn full_places_are_walked(rt: HostRuntime) -> Result<(), Fail> {
-    let places = walked(rt.alloc())?;
-    assert!(rt; places.as_slice() == [(1, 0x55, 0)].as_slice());
-    Ok(())
 }
 
 /// An archived map from texts to numbers.
