@@ -23,21 +23,9 @@ fn is_printed_as(rt: &(impl Abort + AllocGlobal), value: &impl Display, text: &s
 }
 
 #[test]
-fn faults_with_a_path_are_written_as_lines(rt: HostRuntime) -> Result<(), Fail> {
-    let path = String::from_str(rt.alloc(), "a b.txt")?;
-    has_line(
-        &rt,
-        &Fault::CannotRead(path),
-        b"cab: cannot read a b.txt\n",
-        1,
-    );
-    let path = String::from_str(rt.alloc(), "-")?;
-    has_line(&rt, &Fault::CannotWrite(path), b"cab: cannot write -\n", 1);
-    Ok(())
-}
-
-#[test]
-fn faults_are_written_as_lines(rt: HostRuntime) {
+fn faults_are_written_as_lines(rt: HostRuntime) -> Result<(), Fail> {
+    let input = String::from_str(rt.alloc(), "a b.txt")?;
+    let output = String::from_str(rt.alloc(), "-")?;
     let text = TextRefusal {
         line: 12,
         cause: Cause::BadNumber,
@@ -52,6 +40,16 @@ fn faults_are_written_as_lines(rt: HostRuntime) {
             Fault::Usage,
             b"cab: usage: cab build TEXT ARCHIVE | cab run ARCHIVE\n".as_slice(),
             2,
+        ),
+        (
+            Fault::CannotRead(input),
+            b"cab: cannot read a b.txt\n".as_slice(),
+            1,
+        ),
+        (
+            Fault::CannotWrite(output),
+            b"cab: cannot write -\n".as_slice(),
+            1,
         ),
         (
             Fault::Text(text),
@@ -97,51 +95,51 @@ fn faults_are_written_as_lines(rt: HostRuntime) {
     for (fault, line, status) in faults {
         has_line(&rt, &fault, line, status);
     }
+    Ok(())
 }
 
 #[test]
-fn refusals_to_open_and_save_are_printed(rt: HostRuntime) {
-    is_printed_as(
-        &rt,
-        &OpenRefusal::Access(Error::InvalidTag),
-        "the bytes are not an archive: a tag that is not legal",
-    );
-    is_printed_as(
-        &rt,
-        &OpenRefusal::TooDeep,
-        "more than 64 containers lie in one another",
-    );
-    is_printed_as(
-        &rt,
-        &OpenRefusal::KeysNotAscending,
-        "the keys of an ordered map do not ascend",
-    );
-    is_printed_as(
-        &rt,
-        &OpenRefusal::WrongTag,
-        "a control of a map is not the tag of its key",
-    );
-    is_printed_as(
-        &rt,
-        &OpenRefusal::NotFound,
-        "a key of a map is not found at its place",
-    );
-    is_printed_as(&rt, &OpenRefusal::OutOfMemory, "out of memory");
-    is_printed_as(
-        &rt,
-        &SaveRefusal::Limit(Error::IsizeOverflow),
-        "the document is past the limits of archives: the offset does not fit",
-    );
-    is_printed_as(
-        &rt,
-        &SaveRefusal::Writer(Error::WriterFailed),
-        "the writer failed: the writer failed",
-    );
-    is_printed_as(&rt, &SaveRefusal::OutOfMemory, "out of memory");
-}
-
-#[test]
-fn faults_of_a_run_are_printed(rt: HostRuntime) {
+fn refusals_and_faults_of_runs_are_printed(rt: HostRuntime) {
+    let refusals = [
+        (
+            OpenRefusal::Access(Error::InvalidTag),
+            "the bytes are not an archive: a tag that is not legal",
+        ),
+        (
+            OpenRefusal::TooDeep,
+            "more than 64 containers lie in one another",
+        ),
+        (
+            OpenRefusal::KeysNotAscending,
+            "the keys of an ordered map do not ascend",
+        ),
+        (
+            OpenRefusal::WrongTag,
+            "a control of a map is not the tag of its key",
+        ),
+        (
+            OpenRefusal::NotFound,
+            "a key of a map is not found at its place",
+        ),
+        (OpenRefusal::OutOfMemory, "out of memory"),
+    ];
+    for (refusal, text) in refusals {
+        is_printed_as(&rt, &refusal, text);
+    }
+    let refusals = [
+        (
+            SaveRefusal::Limit(Error::IsizeOverflow),
+            "the document is past the limits of archives: the offset does not fit",
+        ),
+        (
+            SaveRefusal::Writer(Error::WriterFailed),
+            "the writer failed: the writer failed",
+        ),
+        (SaveRefusal::OutOfMemory, "out of memory"),
+    ];
+    for (refusal, text) in refusals {
+        is_printed_as(&rt, &refusal, text);
+    }
     let causes = [
         (
             RunCause::Read,

@@ -4,8 +4,6 @@
 #[cfg(test)]
 mod doubles;
 #[cfg(test)]
-mod edited;
-#[cfg(test)]
 mod faults;
 #[cfg(test)]
 mod limits;

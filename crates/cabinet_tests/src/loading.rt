@@ -1,7 +1,7 @@
 //! Tests of documents that are loaded from archives.
 use crate::opening::{FIVE_ABOVE_NONE, TWO_SHARED, loose, sparse};
 use crate::saved::archive_of;
-use crate::saving::kept::Z_AND_A;
+use crate::saving::Z_AND_A;
 use cabinet::archives::to_bytes;
 use cabinet::{Document, Leaf, Node, SetAnswer, Step, open, write_text};
 use std::alloc::Global;

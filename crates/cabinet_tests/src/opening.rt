@@ -1,7 +1,6 @@
 //! Tests of opening bytes as the archives of documents, and of questions and edits in maps.
 
 mod check;
-mod kept;
 mod keyed;
 mod made;
 mod order;

@@ -1,7 +1,10 @@
-//! Tests of documents that are saved, refused and worked in.
+//! Tests of documents that are saved byte by byte, refused and worked in.
 use crate::doubles::{FailingWriter, SliceSource};
-use archive_shape_writing::{Error, Positional};
-use cabinet::{SaveRefusal, check, read_text, save, work};
+use crate::saving::{A_TO_WORLD, COFFEE_AND_TEA, SIX, VAT_IN_EU, Z_AND_A};
+use crate::sessions::five;
+use archive_core_serializing::Buffer;
+use archive_shape_writing::Error;
+use cabinet::{Document, Line, Node, SaveRefusal, check, open, read_text, save, work};
 use std::alloc::Global;
 use std::test::Fail;
 
@@ -53,6 +56,10 @@ fn documents_are_written_as_their_images(rt: HostRuntime) -> Result<(), Fail> {
             b"\x01\0\0\0\0\0\0\0\x07\0\0\0\0\0\0\0\0\0\0\0\0\0\0\0\x01\0\0\0\0\0\0\0\x13\0\0\0\0\0\0\0\0\0\0\0\0\0\0\0\x05\0\0\0\xcc\xff\xff\xff\x02\0\0\0\0\0\0\0\0\0\0\0\0\0\0\0",
         ),
         (
+            b"list 2\nint 7\nint 20\n",
+            b"\x01\0\0\0\0\0\0\0\x07\0\0\0\0\0\0\0\0\0\0\0\0\0\0\0\x01\0\0\0\0\0\0\0\x14\0\0\0\0\0\0\0\0\0\0\0\0\0\0\0\x05\0\0\0\xcc\xff\xff\xff\x02\0\0\0\0\0\0\0\0\0\0\0\0\0\0\0",
+        ),
+        (
             b"list 2\nshared 'a\nshared 'a\n",
             b"a\0\0\0\0\0\0\0\x03\0\0\0\xf4\xff\xff\xff\x01\0\0\0\0\0\0\0\0\0\0\0\0\0\0\0\x03\0\0\0\xdc\xff\xff\xff\x01\0\0\0\0\0\0\0\0\0\0\0\0\0\0\0\x05\0\0\0\xcc\xff\xff\xff\x02\0\0\0\0\0\0\0\0\0\0\0\0\0\0\0",
         ),
@@ -65,6 +72,42 @@ fn documents_are_written_as_their_images(rt: HostRuntime) -> Result<(), Fail> {
             b"list 1\nlist 0\n",
             b"\x05\0\0\0\xfc\xff\xff\xff\0\0\0\0\0\0\0\0\0\0\0\0\0\0\0\0\x05\0\0\0\xe4\xff\xff\xff\x01\0\0\0\0\0\0\0\0\0\0\0\0\0\0\0",
         ),
+        (
+            b"ordered 0\n",
+            b"\x06\0\0\0\x01\0\0\0\0\0\0\0\0\0\0\0\0\0\0\0\0\0\0\0",
+        ),
+        (
+            b"ordered 2\n'coffee\nint 300\n'tea\nint 250\n",
+            &COFFEE_AND_TEA,
+        ),
+        (
+            b"ordered 6\n'a\nint 1\n'b\nint 2\n'c\nint 3\n'd\nint 4\n'e\nint 5\n'f\nint 6\n",
+            &SIX,
+        ),
+        // The bytes of the key, then those of the value, and then the leaf.
+        (
+            b"ordered 1\n'hello\\sworld!\ntext 'HELLO\\sWORLD!\n",
+            b"hello world!HELLO WORLD!\0\0\0\0\x8c\0\0\0\xe4\xff\xff\xff\0\0\0\0\0\0\0\0\0\0\0\0\0\0\0\0\0\0\0\0\0\0\0\0\0\0\0\0\0\0\0\0\0\0\0\0\x02\0\0\0\x8c\0\0\0\xc0\xff\xff\xff\0\0\0\0\0\0\0\0\0\0\0\0\0\0\0\0\0\0\0\0\0\0\0\0\0\0\0\0\0\0\0\0\0\0\0\0\0\0\0\0\0\0\0\0\0\0\0\0\0\0\0\0\0\0\0\0\0\0\0\0\0\0\0\0\0\0\0\0\0\0\0\0\0\0\0\0\0\0\0\0\0\0\0\0\0\0\0\0\0\0\0\0\0\0\0\0\0\0\0\0\0\0\0\0\0\0\0\0\x01\0\0\0\0\0\0\0\x06\0\0\0L\xff\xff\xff\x01\0\0\0\0\0\0\0\0\0\0\0\0\0\0\0",
+        ),
+        // The leaf of the inner map is the data of the outer one's value.
+        (
+            b"ordered 1\n'a\nordered 1\n'b\nint 1\n",
+            b"\0\0\0\0b\xff\xff\xff\xff\xff\xff\xff\0\0\0\0\0\0\0\0\0\0\0\0\0\0\0\0\0\0\0\0\0\0\0\0\0\0\0\0\0\0\0\0\0\0\0\0\x01\0\0\0\0\0\0\0\x01\0\0\0\0\0\0\0\0\0\0\0\0\0\0\0\0\0\0\0\0\0\0\0\0\0\0\0\0\0\0\0\0\0\0\0\0\0\0\0\0\0\0\0\0\0\0\0\0\0\0\0\0\0\0\0\0\0\0\0\0\0\0\0\0\0\0\0\0\0\0\0\0\0\0\0\0\0\0\0\0\0\0\0\0\0\0\0\0\0\0\0\0\0\0\0\0\0\0\0\0\0\0\0\0\0\0\0\0\0\0\0\x01\0\0\0\0\0\0\0\0\0\0\0a\xff\xff\xff\xff\xff\xff\xff\0\0\0\0\0\0\0\0\0\0\0\0\0\0\0\0\0\0\0\0\0\0\0\0\0\0\0\0\0\0\0\0\0\0\0\0\x06\0\0\0\x1c\xff\xff\xff\x01\0\0\0\0\0\0\0\0\0\0\0\0\0\0\0\0\0\0\0\0\0\0\0\0\0\0\0\0\0\0\0\0\0\0\0\0\0\0\0\0\0\0\0\0\0\0\0\0\0\0\0\0\0\0\0\0\0\0\0\0\0\0\0\0\0\0\0\0\0\0\0\0\0\0\0\0\0\0\0\0\0\0\0\0\0\0\0\0\0\0\0\0\0\0\0\0\0\0\0\0\0\0\0\0\0\0\0\0\0\0\0\x01\0\0\0\0\0\0\0\x06\0\0\0L\xff\xff\xff\x01\0\0\0\0\0\0\0\0\0\0\0\0\0\0\0",
+        ),
+        (
+            b"hashed 0\n",
+            b"\x07\0\0\0\x01\0\0\0\0\0\0\0\0\0\0\0\0\0\0\0\0\0\0\0",
+        ),
+        (b"hashed 1\n'a\ntext 'world\n", &A_TO_WORLD),
+        (
+            b"ordered 1\n'eu\nhashed 1\n'vat\nlist 2\nint 7\nint 19\n",
+            &VAT_IN_EU,
+        ),
+        (
+            b"kept 0\n",
+            b"\x08\0\0\0\x01\0\0\0\0\0\0\0\0\0\0\0\x01\0\0\0\0\0\0\0",
+        ),
+        (b"kept 2\n'z\nint 1\n'a\nint 2\n", &Z_AND_A),
     ];
     for (text, image) in cases {
         let bytes = archive_of(rt.alloc(), text)?;
@@ -75,81 +118,69 @@ fn documents_are_written_as_their_images(rt: HostRuntime) -> Result<(), Fail> {
 }
 
 #[test]
-fn elements_are_asked_and_set_at_their_places(rt: HostRuntime) -> Result<(), Fail> {
-    let document = read_text(rt.alloc(), b"list 2\nint 7\nint 19\n").map_err(|_| "no document")?;
-    let input: &[u8] = b"get\nget #1\nset int 20 #1\nget #1\nget #2\nset bool true #0\nget #0 #0\n";
-    let mut source = SliceSource::new(input, usize::MAX, 16384);
-    let mut writer = FailingWriter::new(rt.alloc(), usize::MAX);
-    let worked = work(rt.alloc(), &document, &mut source, &mut writer).map_err(|_| "not saved")?;
-    assert!(rt; worked.outcome.is_ok());
-    let output: &[u8] = b"list 2\nint 19\nok\nint 20\nmissing\nrefused\nmissing\n";
-    assert!(rt; writer.bytes() == output);
-    let wanted: [u8; 72] = [
-        1, 0, 0, 0, 0, 0, 0, 0, 7, 0, 0, 0, 0, 0, 0, 0, 0, 0, 0, 0, 0, 0, 0, 0, 1, 0, 0, 0, 0, 0,
-        0, 0, 20, 0, 0, 0, 0, 0, 0, 0, 0, 0, 0, 0, 0, 0, 0, 0, 5, 0, 0, 0, 0xcc, 0xff, 0xff, 0xff,
-        2, 0, 0, 0, 0, 0, 0, 0, 0, 0, 0, 0, 0, 0, 0, 0,
-    ];
-    assert!(rt; worked.bytes.as_slice() == wanted.as_slice());
-    Ok(())
-}
-
-#[test]
 fn a_writer_that_fails_is_told_of(rt: HostRuntime) -> Result<(), Fail> {
-    let document = read_text(rt.alloc(), b"int 5\n").map_err(|_| "no document")?;
+    let document = Document::new(Node::Int(5))?;
     let mut writer = FailingWriter::new(rt.alloc(), 0);
-    assert!(rt; writer.pos() == 0);
     let refusal = save(rt.alloc(), &document, &mut writer);
     assert!(rt; refusal == Err(SaveRefusal::Writer(Error::WriterFailed)));
+    let mut room = [0u8; 23];
+    let mut writer = Buffer::new(&mut room);
+    let refusal = save(rt.alloc(), &document, &mut writer).err();
+    assert!(rt; refusal == Some(SaveRefusal::Writer(Error::BufferOverflow)));
+    let mut bytes = five();
+    let opened = open(rt.alloc(), &mut bytes).map_err(|_| "refused")?;
+    let mut writer = FailingWriter::new(rt.alloc(), 0);
+    let asked = opened.ask(&Line::Get(Vec::new(rt.alloc())), &mut writer);
+    assert!(rt; asked == Err(Error::WriterFailed));
     Ok(())
 }
 
 #[test]
-fn a_saved_document_is_worked_in(rt: HostRuntime) -> Result<(), Fail> {
-    let document = read_text(rt.alloc(), b"int 5\n").map_err(|_| "no document")?;
-    let mut source = SliceSource::new(b"get\nset int 6\nget\n", usize::MAX, 7);
-    let mut writer = FailingWriter::new(rt.alloc(), usize::MAX);
-    let worked = work(rt.alloc(), &document, &mut source, &mut writer).map_err(|_| "not saved")?;
-    assert!(rt; worked.outcome.is_ok());
-    assert!(rt; writer.bytes() == b"int 5\nok\nint 6\n".as_slice());
-    let edited = archive_of(rt.alloc(), b"int 6\n")?;
-    assert!(rt; worked.bytes.as_slice() == edited.as_slice());
-    Ok(())
-}
-
-#[test]
-fn nodes_in_options_and_lists_are_worked_in(rt: HostRuntime) -> Result<(), Fail> {
-    let text = b"list 2\nsome\nint 5\ntext 'hello\\sworld!\n";
-    let document = read_text(rt.alloc(), text).map_err(|_| "no document")?;
-    let input: &[u8] =
-        b"get #0\nget #0 ?\nset int 6 #0 ?\nset text 'HELLO\\sWORLD! #1\nget #1\nget #1 ?\nset int 7 #0\nkeys\n";
-    let mut source = SliceSource::new(input, usize::MAX, 16384);
-    let mut writer = FailingWriter::new(rt.alloc(), usize::MAX);
-    let worked = work(rt.alloc(), &document, &mut source, &mut writer).map_err(|_| "not saved")?;
-    assert!(rt; worked.outcome.is_ok());
-    let output: &[u8] = b"some\nint 5\nok\nok\ntext 'HELLO\\sWORLD!\nmissing\nrefused\nwrong\n";
-    assert!(rt; writer.bytes() == output);
-    let edited = archive_of(rt.alloc(), b"list 2\nsome\nint 6\ntext 'HELLO\\sWORLD!\n")?;
-    assert!(rt; worked.bytes.as_slice() == edited.as_slice());
-    Ok(())
-}
-
-#[test]
-fn shared_texts_are_read_and_not_edited(rt: HostRuntime) -> Result<(), Fail> {
-    let text = b"list 3\nshared 'hello\\sworld!\nsome\nshared 'hello\\sworld!\nint 5\n";
-    let document = read_text(rt.alloc(), text).map_err(|_| "no document")?;
-    let input: &[u8] =
-        b"get #0\nget #1 ?\nset text 'HELLO\\sWORLD! #0\nset int 6 #2\nget #0\nget #0 #0\nkeys #0\n";
-    let mut source = SliceSource::new(input, usize::MAX, 16384);
-    let mut writer = FailingWriter::new(rt.alloc(), usize::MAX);
-    let worked = work(rt.alloc(), &document, &mut source, &mut writer).map_err(|_| "not saved")?;
-    assert!(rt; worked.outcome.is_ok());
-    let output: &[u8] =
-        b"shared 'hello\\sworld!\nshared 'hello\\sworld!\nrefused\nok\nshared 'hello\\sworld!\nmissing\nwrong\n";
-    assert!(rt; writer.bytes() == output);
-    let edited = archive_of(
-        rt.alloc(),
-        b"list 3\nshared 'hello\\sworld!\nsome\nshared 'hello\\sworld!\nint 6\n",
-    )?;
-    assert!(rt; worked.bytes.as_slice() == edited.as_slice());
+fn questions_and_edits_in_a_saved_document_are_answered(rt: HostRuntime) -> Result<(), Fail> {
+    // the document, the lines, their answers, and the document after them
+    let rows: [(&[u8], &[u8], &[u8], &[u8]); 5] = [
+        (
+            b"int 5\n",
+            b"get\nset int 6\nget\n",
+            b"int 5\nok\nint 6\n",
+            b"int 6\n",
+        ),
+        (
+            b"list 2\nint 7\nint 19\n",
+            b"get\nget #1\nset int 20 #1\nget #1\nget #2\nset bool true #0\nget #0 #0\n",
+            b"list 2\nint 19\nok\nint 20\nmissing\nrefused\nmissing\n",
+            b"list 2\nint 7\nint 20\n",
+        ),
+        (
+            b"list 2\nsome\nint 5\ntext 'hello\\sworld!\n",
+            b"get #0\nget #0 ?\nset int 6 #0 ?\nset text 'HELLO\\sWORLD! #1\nget #1\nget #1 ?\nset int 7 #0\nkeys\n",
+            b"some\nint 5\nok\nok\ntext 'HELLO\\sWORLD!\nmissing\nrefused\nwrong\n",
+            b"list 2\nsome\nint 6\ntext 'HELLO\\sWORLD!\n",
+        ),
+        (
+            b"list 3\nshared 'hello\\sworld!\nsome\nshared 'hello\\sworld!\nint 5\n",
+            b"get #0\nget #1 ?\nset text 'HELLO\\sWORLD! #0\nset int 6 #2\nget #0\nget #0 #0\nkeys #0\n",
+            b"shared 'hello\\sworld!\nshared 'hello\\sworld!\nrefused\nok\nshared 'hello\\sworld!\nmissing\nwrong\n",
+            b"list 3\nshared 'hello\\sworld!\nsome\nshared 'hello\\sworld!\nint 6\n",
+        ),
+        (
+            b"ordered 2\n'a\nlist 2\nbool true\ntext 'nine\\sbytes\n'b\nsome\nordered 1\n'c\nint 5\n",
+            b"set text 'NINE\\sBYTES 'a #1\nset int -6 'b ? 'c\n",
+            b"ok\nok\n",
+            b"ordered 2\n'a\nlist 2\nbool true\ntext 'NINE\\sBYTES\n'b\nsome\nordered 1\n'c\nint -6\n",
+        ),
+    ];
+    for (text, lines, answers, edited) in rows {
+        let document = read_text(rt.alloc(), text).map_err(|_| "no document")?;
+        let mut source = SliceSource::new(lines, usize::MAX, 7);
+        let mut writer = FailingWriter::new(rt.alloc(), usize::MAX);
+        let worked = work(rt.alloc(), &document, &mut source, &mut writer).map_err(
+            |_| "not saved",
+        )?;
+        assert!(rt; worked.outcome.is_ok());
+        assert!(rt; writer.bytes() == answers);
+        let wanted = archive_of(rt.alloc(), edited)?;
+        assert!(rt; worked.bytes.as_slice() == wanted.as_slice());
+    }
     Ok(())
 }

@@ -72,41 +72,28 @@ fn lines_are_answered(rt: HostRuntime) {
 }
 
 #[test]
-fn a_vector_takes_the_answers(rt: HostRuntime) {
-    let mut bytes = five();
-    let mut source = SliceSource::new(b"get\nset int 6\nget", usize::MAX, 3);
-    let mut answers = Vec::new(rt.alloc());
-    match open(rt.alloc(), &mut bytes) {
-        Ok(mut opened) => {
-            let came = run(rt.alloc(), &mut opened, &mut source, &mut answers);
-            assert!(rt; came == Ok(Count { lines: 3, edits: 1 }));
-        }
-        Err(_) => panic!(rt; "the archive was refused"),
+fn a_failed_write_or_read_ends_the_run(rt: HostRuntime) {
+    // the lines, the reads and writes before one fails, the edits, and the number after them
+    let rows: [(&[u8], usize, usize, RunCause, u64, u8); 2] = [
+        (
+            b"set int 6\nset int 7\nget\n",
+            usize::MAX,
+            1,
+            RunCause::Write,
+            2,
+            7,
+        ),
+        (b"set int 6\nset i", 1, usize::MAX, RunCause::Read, 1, 6),
+    ];
+    for (input, reads, writes, cause, edits, left) in rows {
+        let mut bytes = five();
+        let mut writer = FailingWriter::new(rt.alloc(), writes);
+        let source = SliceSource::new(input, reads, 16384);
+        let came = run_in(rt.alloc(), &mut bytes, source, &mut writer);
+        assert!(rt; came == faulted(cause, edits, edits));
+        assert!(rt; writer.bytes() == b"ok\n".as_slice());
+        assert!(rt; bytes[8] == left);
     }
-    assert!(rt; answers.as_slice() == b"int 5\nok\nint 6\n".as_slice());
-    assert!(rt; bytes[8] == 6);
-}
-
-#[test]
-fn a_failed_write_ends_the_run(rt: HostRuntime) {
-    let mut bytes = five();
-    let mut writer = FailingWriter::new(rt.alloc(), 1);
-    let source = SliceSource::new(b"set int 6\nset int 7\nget\n", usize::MAX, 16384);
-    let came = run_in(rt.alloc(), &mut bytes, source, &mut writer);
-    assert!(rt; came == faulted(RunCause::Write, 2, 2));
-    assert!(rt; writer.bytes() == b"ok\n".as_slice());
-    assert!(rt; bytes[8] == 7);
-}
-
-#[test]
-fn a_failed_read_ends_the_run(rt: HostRuntime) {
-    let mut bytes = five();
-    let mut writer = FailingWriter::new(rt.alloc(), usize::MAX);
-    let source = SliceSource::new(b"set int 6\nset i", 1, 16384);
-    let came = run_in(rt.alloc(), &mut bytes, source, &mut writer);
-    assert!(rt; came == faulted(RunCause::Read, 1, 1));
-    assert!(rt; writer.bytes() == b"ok\n".as_slice());
-    assert!(rt; bytes[8] == 6);
 }
 
 // Memory is allocated for the line begun, for a line's text and by the writer. An allocation may fail where a test runs

@@ -1,8 +1,6 @@
 //! Tests of questions and edits under the keys of ordered maps.
-use crate::saved::archive_of;
-use crate::saving::ordered::COFFEE_AND_TEA;
+use crate::saving::COFFEE_AND_TEA;
 use cabinet::{Asked, Leaf, SetAnswer, Step, open, read_line};
-use std::alloc::{AllocError, Global};
 use std::test::Fail;
 
 /// A map from a to e to the numbers from 1 to 5, as saving never writes it: a leaf without entries from 0 on, an inner
@@ -52,22 +50,18 @@ fn keys_of_a_tree_with_an_empty_leaf_are_answered(rt: HostRuntime) -> Result<(),
     Ok(())
 }
 
-/// Returns the path of one key.
-fn key(alloc: Global, text: &str) -> Result<Step, AllocError> {
-    Ok(Step::Key(String::from_str(alloc, text)?))
-}
-
 #[test]
 fn a_leaf_under_a_key_is_set_in_its_own_bytes(rt: HostRuntime) -> Result<(), Fail> {
     let mut bytes = FIVE_ABOVE_NONE;
     let mut wanted = bytes;
     wanted[280] = 9;
     let mut opened = open(rt.alloc(), &mut bytes).map_err(|_| "refused")?;
-    let path = [key(rt.alloc(), "c")?];
+    let path = [Step::Key(String::from_str(rt.alloc(), "c")?)];
     assert!(rt; opened.set(&path, &Leaf::Int(9)) == SetAnswer::Done);
     assert!(rt; opened.set(&path, &Leaf::Bool(true)) == SetAnswer::Refused);
     assert!(rt; opened.set(&[], &Leaf::Int(9)) == SetAnswer::Refused);
-    assert!(rt; opened.set(&[key(rt.alloc(), "f")?], &Leaf::Int(9)) == SetAnswer::Missing);
+    let other = [Step::Key(String::from_str(rt.alloc(), "f")?)];
+    assert!(rt; opened.set(&other, &Leaf::Int(9)) == SetAnswer::Missing);
     assert!(rt; bytes == wanted);
     Ok(())
 }
@@ -79,35 +73,4 @@ pub fn loose() -> [u8; 207] {
     bytes[..200].copy_from_slice(&COFFEE_AND_TEA);
     bytes[188..200].copy_from_slice(&[0xaa; 12]);
     bytes
-}
-
-#[test]
-fn bytes_of_no_field_stay_where_a_leaf_is_set(rt: HostRuntime) -> Result<(), Fail> {
-    let mut bytes = loose();
-    let mut wanted = bytes;
-    wanted[80] = 0x13;
-    wanted[81] = 0x01;
-    let mut opened = open(rt.alloc(), &mut bytes).map_err(|_| "refused")?;
-    let path = [key(rt.alloc(), "tea")?];
-    assert!(rt; opened.set(&path, &Leaf::Int(275)) == SetAnswer::Done);
-    assert!(rt; bytes == wanted);
-    Ok(())
-}
-
-#[test]
-fn a_map_with_a_leaf_set_is_saved_as_its_document(rt: HostRuntime) -> Result<(), Fail> {
-    let alloc = rt.alloc();
-    let text =
-        b"ordered 2\n'a\nlist 2\nbool true\ntext 'nine\\sbytes\n'b\nsome\nordered 1\n'c\nint 5\n";
-    let mut bytes = archive_of(alloc, text)?;
-    let mut opened = open(alloc, bytes.as_mut_slice()).map_err(|_| "refused")?;
-    let in_list = [key(alloc, "a")?, Step::Place(1)];
-    let leaf = Leaf::Text(String::from_str(alloc, "NINE BYTES")?);
-    assert!(rt; opened.set(&in_list, &leaf) == SetAnswer::Done);
-    let in_map = [key(alloc, "b")?, Step::Inside, key(alloc, "c")?];
-    assert!(rt; opened.set(&in_map, &Leaf::Int(-6)) == SetAnswer::Done);
-    let wanted =
-        b"ordered 2\n'a\nlist 2\nbool true\ntext 'NINE\\sBYTES\n'b\nsome\nordered 1\n'c\nint -6\n";
-    assert!(rt; bytes.as_slice() == archive_of(alloc, wanted)?.as_slice());
-    Ok(())
 }

@@ -25,13 +25,6 @@ pub enum Container {
 /// The number 5.
 pub const FIVE: Made = Made::Plain(*b"\x01\0\0\0\0\0\0\0\x05\0\0\0\0\0\0\0\0\0\0\0\0\0\0\0");
 
-/// Returns a number of one byte.
-pub fn number(value: u8) -> Made {
-    let mut node = *b"\x01\0\0\0\0\0\0\0\0\0\0\0\0\0\0\0\0\0\0\0\0\0\0\0";
-    node[8] = value;
-    Made::Plain(node)
-}
-
 /// An option without a node.
 pub const NOTHING: Made = Made::Plain(*b"\x04\0\0\0\0\0\0\0\0\0\0\0\0\0\0\0\0\0\0\0\0\0\0\0");
 
@@ -124,11 +117,7 @@ pub fn push_inner(
 }
 
 /// Writes what a container of one node leads to, and returns the container.
-pub fn push_inside(
-    bytes: &mut Vec<u8>,
-    container: Container,
-    node: Made,
-) -> Result<Made, AllocError> {
+fn push_inside(bytes: &mut Vec<u8>, container: Container, node: Made) -> Result<Made, AllocError> {
     let start = bytes.len();
     match container {
         Container::Some => {

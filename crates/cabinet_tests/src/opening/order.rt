@@ -1,12 +1,11 @@
 //! Tests of the order of keys in ordered maps, and of how deep such maps lie in other containers, in archives made by
 //! hand.
 use crate::opening::made::{
-    Container, EMPTY_MAP, FIVE, Made, NOTHING, push_inner, push_inside, push_leaf, push_map,
-    push_node, push_options, push_tower,
+    Container, EMPTY_MAP, FIVE, Made, NOTHING, push_inner, push_leaf, push_map, push_node,
+    push_options, push_tower,
 };
 use cabinet::{OpenRefusal, check};
 use std::alloc::{AllocError, Global};
-use std::process::Abort;
 
 /// Returns the map with one leaf before the first and one after the last entry of the root of its tree.
 fn three_nodes(
@@ -82,63 +81,10 @@ fn keys_of_each_child_lie_between_the_keys_around_it(rt: HostRuntime) -> Result<
     for (place, key, others) in rows {
         let bytes = child_at(rt.alloc(), place, key)?;
         assert!(rt; check(rt.alloc(), &bytes) == Ok(()));
-        are_refused_at(&rt, place, others)?;
-    }
-    Ok(())
-}
-
-/// Checks that the keys of `child_at` do not ascend with any of these keys.
-fn are_refused_at(
-    rt: &(impl Abort + AllocGlobal),
-    place: usize,
-    keys: &[u8],
-) -> Result<(), AllocError> {
-    for key in keys {
-        let bytes = child_at(rt.alloc(), place, *key)?;
-        assert!(rt; check(rt.alloc(), &bytes) == Err(OpenRefusal::KeysNotAscending));
-    }
-    Ok(())
-}
-
-/// Returns a map inside containers, the innermost of them first.
-fn map_inside(
-    alloc: Global,
-    keys: &[u8; 2],
-    containers: &[Container],
-) -> Result<Vec<u8>, AllocError> {
-    let mut bytes = Vec::new(alloc);
-    let map = push_map(&mut bytes, keys)?;
-    let root = push_tower(&mut bytes, containers, map)?;
-    push_node(&mut bytes, root)?;
-    Ok(bytes)
-}
-
-#[test]
-fn keys_ascend_in_a_map_inside_other_containers(rt: HostRuntime) -> Result<(), AllocError> {
-    let alloc = rt.alloc();
-    let rows = [
-        [].as_slice(),
-        &[Container::Map],
-        &[Container::List],
-        &[Container::Some],
-        &[
-            Container::Map,
-            Container::List,
-            Container::Some,
-            Container::Map,
-        ],
-        &[
-            Container::Some,
-            Container::Map,
-            Container::Map,
-            Container::List,
-        ],
-    ];
-    let unordered = Err(OpenRefusal::KeysNotAscending);
-    for containers in rows {
-        assert!(rt; check(alloc, &map_inside(alloc, b"ab", containers)?) == Ok(()));
-        assert!(rt; check(alloc, &map_inside(alloc, b"aa", containers)?) == unordered);
-        assert!(rt; check(alloc, &map_inside(alloc, b"ba", containers)?) == unordered);
+        for other in others {
+            let bytes = child_at(rt.alloc(), place, *other)?;
+            assert!(rt; check(rt.alloc(), &bytes) == Err(OpenRefusal::KeysNotAscending));
+        }
     }
     Ok(())
 }
@@ -188,30 +134,51 @@ fn push_second(
     }
 }
 
-/// Returns a container of two maps.
-fn two_maps(
+/// Writes what a node leads to, and returns the node: a map with two keys, or without keys 64 options in one another.
+fn push_part(bytes: &mut Vec<u8>, keys: Option<&[u8; 2]>) -> Result<Made, AllocError> {
+    match keys {
+        Some(keys) => push_map(bytes, keys),
+        None => push_options(bytes, 64, FIVE),
+    }
+}
+
+/// Returns a container of two such nodes.
+fn two_parts(
     alloc: Global,
     pair: Pair,
-    first: &[u8; 2],
-    second: &[u8; 2],
+    first: Option<&[u8; 2]>,
+    second: Option<&[u8; 2]>,
 ) -> Result<Vec<u8>, AllocError> {
     let mut bytes = Vec::new(alloc);
-    let first = push_map(&mut bytes, first)?;
+    let first = push_part(&mut bytes, first)?;
     let leaf = push_first(&mut bytes, pair, first)?;
-    let second = push_map(&mut bytes, second)?;
+    let second = push_part(&mut bytes, second)?;
     let root = push_second(&mut bytes, pair, leaf, [first, second])?;
     push_node(&mut bytes, root)?;
     Ok(bytes)
 }
 
 #[test]
-fn keys_ascend_afresh_in_each_map(rt: HostRuntime) -> Result<(), AllocError> {
-    let alloc = rt.alloc();
+fn keys_ascend_afresh_in_each_map_and_the_first_fault_is_told(
+    rt: HostRuntime,
+) -> Result<(), AllocError> {
+    let deep = Err(OpenRefusal::TooDeep);
     let unordered = Err(OpenRefusal::KeysNotAscending);
-    for pair in [Pair::List, Pair::Leaf, Pair::Inner] {
-        assert!(rt; check(alloc, &two_maps(alloc, pair, b"yz", b"12")?) == Ok(()));
-        assert!(rt; check(alloc, &two_maps(alloc, pair, b"yz", b"yz")?) == Ok(()));
-        assert!(rt; check(alloc, &two_maps(alloc, pair, b"yz", b"21")?) == unordered);
+    let rows = [
+        (Some(b"yz"), Some(b"12"), Ok(())),
+        (Some(b"yz"), Some(b"yz"), Ok(())),
+        (Some(b"yz"), Some(b"21"), unordered),
+        // a container and 64 options are too deep, in each of its nodes
+        (None, Some(b"ab"), deep),
+        (Some(b"ab"), None, deep),
+        (None, Some(b"ba"), deep),
+        (Some(b"ba"), None, unordered),
+    ];
+    for (first, second, answer) in rows {
+        for pair in [Pair::List, Pair::Leaf, Pair::Inner] {
+            let bytes = two_parts(rt.alloc(), pair, first, second)?;
+            assert!(rt; check(rt.alloc(), &bytes) == answer);
+        }
     }
     Ok(())
 }
@@ -250,39 +217,6 @@ fn a_node_is_audited_before_the_nodes_in_it(rt: HostRuntime) -> Result<(), Alloc
     for (around, keys, below, answer) in rows {
         let bytes = map_between(rt.alloc(), around, keys, below)?;
         assert!(rt; check(rt.alloc(), &bytes) == answer);
-    }
-    Ok(())
-}
-
-/// Writes what a node with a fault leads to, and returns the node: 64 options in one another, or a map whose keys do not
-/// ascend.
-fn push_faulty(bytes: &mut Vec<u8>, is_deep: bool) -> Result<Made, AllocError> {
-    if is_deep {
-        push_options(bytes, 64, FIVE)
-    } else {
-        push_map(bytes, b"ba")
-    }
-}
-
-/// Returns a container of two nodes with a fault each.
-fn two_faults(alloc: Global, pair: Pair, is_deep_first: bool) -> Result<Vec<u8>, AllocError> {
-    let mut bytes = Vec::new(alloc);
-    let first = push_faulty(&mut bytes, is_deep_first)?;
-    let leaf = push_first(&mut bytes, pair, first)?;
-    let second = push_faulty(&mut bytes, !is_deep_first)?;
-    let root = push_second(&mut bytes, pair, leaf, [first, second])?;
-    push_node(&mut bytes, root)?;
-    Ok(bytes)
-}
-
-#[test]
-fn the_first_fault_in_the_order_of_nodes_is_told(rt: HostRuntime) -> Result<(), AllocError> {
-    let alloc = rt.alloc();
-    for pair in [Pair::List, Pair::Leaf, Pair::Inner] {
-        let deep_first = two_faults(alloc, pair, true)?;
-        assert!(rt; check(alloc, &deep_first) == Err(OpenRefusal::TooDeep));
-        let unordered_first = two_faults(alloc, pair, false)?;
-        assert!(rt; check(alloc, &unordered_first) == Err(OpenRefusal::KeysNotAscending));
     }
     Ok(())
 }

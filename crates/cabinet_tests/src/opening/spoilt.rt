@@ -1,8 +1,7 @@
 //! Tests of archives of maps in which one byte was changed, each byte to each other value.
 ghost use Rattle.std.specs.Prelude.{◌<◌, length};
 
-use crate::saving::hashed::{A_TO_WORLD, VAT_IN_EU};
-use crate::saving::ordered::{COFFEE_AND_TEA, SIX};
+use crate::saving::{A_TO_WORLD, COFFEE_AND_TEA, SIX, VAT_IN_EU};
 use cabinet::{OpenRefusal, open};
 use std::alloc::{AllocError, Global};
 
