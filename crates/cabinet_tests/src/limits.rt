@@ -15,27 +15,30 @@ fn long_line(alloc: Global, first: &[u8], len: usize) -> Result<Vec<u8>, AllocEr
 }
 
 #[test]
-fn the_longest_line_is_carried_out_and_a_longer_one_is_not(rt: HostRuntime) -> Result<(), Fail> {
-    let mut longest = long_line(rt.alloc(), b"", 1_048_576)?;
-    longest.push(b'\n')?;
-    let longer = long_line(rt.alloc(), b"get\n", 1_048_577)?;
-    let rows = [
-        (longest.as_slice(), counted(1, 0), b"bad\n".as_slice()),
-        (
-            longer.as_slice(),
-            faulted(RunCause::LineTooLong, 1, 0),
-            b"int 5\n",
-        ),
-    ];
-    for (input, outcome, answers) in rows {
-        for most in [1, 16384, 2_000_000] {
-            let mut bytes = five();
-            let mut writer = FailingWriter::new(rt.alloc(), usize::MAX);
-            let source = SliceSource::new(input, usize::MAX, most);
-            let came = run_in(rt.alloc(), &mut bytes, source, &mut writer);
-            assert!(rt; came == outcome);
-            assert!(rt; writer.bytes() == answers);
-        }
+fn a_line_is_too_long(rt: HostRuntime) -> Result<(), Fail> {
+    let input = long_line(rt.alloc(), b"get\n", 1_048_577)?;
+    for most in [1, 16384, 2_000_000] {
+        let mut bytes = five();
+        let mut writer = FailingWriter::new(rt.alloc(), usize::MAX);
+        let source = SliceSource::new(input.as_slice(), usize::MAX, most);
+        let came = run_in(rt.alloc(), &mut bytes, source, &mut writer);
+        assert!(rt; came == faulted(RunCause::LineTooLong, 1, 0));
+        assert!(rt; writer.bytes() == b"int 5\n".as_slice());
+    }
+    Ok(())
+}
+
+#[test]
+fn the_longest_line_is_carried_out(rt: HostRuntime) -> Result<(), Fail> {
+    let mut input = long_line(rt.alloc(), b"", 1_048_576)?;
+    input.push(b'\n')?;
+    for most in [1, 16384, 2_000_000] {
+        let mut bytes = five();
+        let mut writer = FailingWriter::new(rt.alloc(), usize::MAX);
+        let source = SliceSource::new(input.as_slice(), usize::MAX, most);
+        let came = run_in(rt.alloc(), &mut bytes, source, &mut writer);
+        assert!(rt; came == counted(1, 0));
+        assert!(rt; writer.bytes() == b"bad\n".as_slice());
     }
     Ok(())
 }
